@@ -1,0 +1,28 @@
+//! The program `atspi`: the top call over the command line, standard input and standard output.
+#![tactic(auto)]
+
+mod input;
+mod play;
+mod run;
+mod standard;
+#[cfg(test)]
+mod tests;
+
+use standard::{StandardInput, StandardOutput};
+use std::env;
+use std::process::ExitCode;
+
+fn main(rt: HostRuntime) -> ExitCode {
+    let mut words = Vec::new(rt.alloc());
+    // words that are no text are none of a command
+    if let Ok(args) = env::args(&rt) {
+        for word in args.skip(1) {
+            if words.push(word).is_err() {
+                return ExitCode::from(5);
+            }
+        }
+    }
+    let mut source = StandardInput::new(rt.stdin());
+    let mut sink = StandardOutput::new(rt.stdout());
+    ExitCode::from(run::run(rt.alloc(), &words, &mut source, &mut sink))
+}

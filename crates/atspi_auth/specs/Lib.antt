@@ -1,0 +1,5 @@
+pub mod Lines
+pub mod Replies
+pub mod Requests
+pub mod Said
+pub mod Talk

@@ -1,0 +1,24 @@
+-- The lemmas of the laws.
+pub mod Counts
+pub mod Relabel
+pub mod Found
+pub mod Path
+pub mod Labels
+pub mod RowRules
+pub mod Kept
+pub mod Seats
+pub mod Interfaces
+pub mod Seen
+pub mod Load
+pub mod Once
+pub mod NewsKept
+pub mod Deep
+pub mod Lookup
+pub mod ShapeOf
+pub mod EditLemmas
+pub mod EditsApply
+pub mod Parts
+pub mod RootAlone
+pub mod Begins
+pub mod Maps
+pub mod MapsGrow

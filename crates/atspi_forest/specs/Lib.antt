@@ -1,0 +1,15 @@
+pub mod Forest
+pub mod ForestCode
+pub mod States
+pub mod Row
+pub mod RowRules
+pub mod Tree
+pub mod Edits
+pub mod RowCode
+pub mod Path
+pub mod View
+pub mod News
+pub mod Announce
+pub mod Map
+pub mod Laws
+pub mod Examples

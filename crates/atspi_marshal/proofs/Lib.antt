@@ -1,0 +1,17 @@
+pub mod Places
+pub mod SignatureFaults
+pub mod Entries
+pub mod Sound
+pub mod Complete
+pub mod Loops
+pub mod Levels
+pub mod Answers
+pub mod TextFaults
+pub mod There
+pub mod Least
+pub mod Decoded
+pub mod Fronts
+pub mod ByteArrays
+pub mod WritingSteps
+pub mod WritingLists
+pub mod WritingContainers

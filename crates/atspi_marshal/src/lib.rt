@@ -1,0 +1,20 @@
+//! Values and their bytes, both ways, in both byte orders.
+#![tactic(auto)]
+
+mod containers;
+mod decoding;
+mod input;
+mod laws;
+mod plain;
+#[cfg(test)]
+mod tests;
+mod text;
+mod writing;
+
+pub use containers::{fields_of, value};
+pub use decoding::decode;
+pub use input::{Bound, Marshalled, bad, byte_at, slice, u32_at};
+pub use laws::{is_read_again, no_front_of_another};
+pub use plain::{padding, room};
+pub use text::{long, short, signature_at};
+pub use writing::{WriteFault, encode};

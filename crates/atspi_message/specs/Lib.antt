@@ -1,0 +1,10 @@
+pub mod Bytes
+pub mod Codes
+pub mod Envelope
+pub mod Faults
+pub mod Front
+pub mod Rules
+pub mod Reading
+pub mod FieldsView
+pub mod Parsing
+pub mod Laws

@@ -1,0 +1,17 @@
+//! Whole messages of the wire.
+#![tactic(auto)]
+
+mod code;
+mod fields;
+mod front;
+mod laws;
+mod message;
+mod name;
+mod parsing;
+
+pub use front::total;
+pub use laws::{has_one_reading, is_read_again, no_front_of_another};
+pub use message::Message;
+
+#[cfg(test)]
+mod tests;

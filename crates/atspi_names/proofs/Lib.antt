@@ -1,0 +1,6 @@
+pub mod QueueLemmas
+pub mod Maps
+pub mod ListsLemmas
+pub mod BookLemmas
+pub mod OwnersLemmas
+pub mod UniqueLemmas

@@ -1,0 +1,5 @@
+pub mod Book
+pub mod Owners
+pub mod Queue
+pub mod Standings
+pub mod Tree

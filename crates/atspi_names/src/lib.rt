@@ -1,0 +1,17 @@
+//! Who owns the names of a bus, and who waits for them.
+#![tactic(auto)]
+
+mod book;
+mod change;
+mod lists;
+mod name_list;
+mod names;
+mod queue;
+mod standings;
+#[cfg(test)]
+mod tests;
+mod unique;
+
+pub use change::OwnerChange;
+pub use name_list::NameList;
+pub use names::{Names, NamesFault};

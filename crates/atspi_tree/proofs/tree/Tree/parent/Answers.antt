@@ -1,0 +1,10 @@
+use Rattle.atspi_tree.proofs.Trees.{holding, has_cell, read}
+use Rattle.atspi_tree.proofs.tree.Tree.parent.Goals as goal
+
+pub index-requires : goal.index-requires
+index-requires c = has_cell _ _ c.args.node c.args.self.now (holding _ _ c.args.self.now c.self.invariant c.self.view_is) c.requires
+
+pub returns : goal.returns
+returns c =
+    let h = holding _ _ c.args.self.now c.self.invariant c.self.view_is in
+    (read _ _ c.args.node c.args.self.now h c.requires c.index.result.now c.index.ensures).parent

@@ -1,0 +1,3 @@
+pub mod TreeShape
+pub mod Table
+pub mod Calls

@@ -1,0 +1,234 @@
+//! Edits with their steps and refusals, the rows after them, and the limits, as the table of edits has them.
+
+ghost use Rattle.atspi_forest.specs.Edits.{IsEdit};
+ghost use Rattle.atspi_tree.specs.Calls.{IsEditSoFar};
+
+use super::*;
+use atspi_base::{Text, Texts};
+use atspi_forest::{Edit, EditFault, Seed, Step};
+use std::alloc::Global;
+use std::process::Abort;
+use std::test::Fail;
+
+/// An insert of a push button.
+fn insert(alloc: Global, parent: u32, index: u32, name: Text) -> Edit
+    ensures so_far { IsEditSoFar result }
+    ensures lawful { IsEdit result }
+{
+    Edit::Insert {
+        parent,
+        index,
+        seed: Seed {
+            role: 43,
+            name,
+            text: None,
+            editable: false,
+            columns: None,
+            select: false,
+            actions: Texts::new(alloc),
+        },
+    }
+}
+
+/// An edit of a name.
+fn name(node: u32, text: Text) -> Edit
+    ensures so_far { IsEditSoFar result }
+    ensures lawful { IsEdit result }
+{
+    Edit::Name { node, text }
+}
+
+/// Does the steps of an edit, and answers how many there were.
+fn edit(tree: &mut Tree, edit: &Edit) -> Result<usize, TreeFault>
+    requires so_far { IsEditSoFar edit.now }
+    requires lawful { IsEdit edit.now }
+{
+    let steps = tree.steps_of(edit)?;
+    for step in steps.as_slice() {
+        tree.apply(step)?;
+    }
+    Ok(steps.len())
+}
+
+/// A name of so many bytes.
+fn letters(alloc: Global, count: usize) -> Result<Text, Fail> {
+    let bytes = vec![in alloc; b'a'; count]?;
+    if bytes.len() > 1024 {
+        return Err(Fail::new("too many letters"));
+    }
+    Ok(Text::read(alloc, &bytes)?)
+}
+
+/// Why an edit is refused, if it is.
+fn told(tree: &Tree, edit: &Edit) -> Result<Option<EditFault>, Fail>
+    requires so_far { IsEditSoFar edit.now }
+    requires lawful { IsEdit edit.now }
+{
+    match tree.steps_of(edit) {
+        Ok(_) => Ok(None),
+        Err(TreeFault::Refused(fault)) => Ok(Some(fault)),
+        Err(TreeFault::NoMemory) => Err(Fail::new("out of memory")),
+    }
+}
+
+/// The root alone.
+fn demo(alloc: Global) -> Result<Tree, Fail> {
+    let name = letters(alloc, 4)?;
+    if name.as_str().len() > 511 {
+        return Err(Fail::new("a long name"));
+    }
+    Ok(Tree::new(alloc, name)?)
+}
+
+/// A tree with the nodes 2 and 1 below the root, and 3 below 2.
+fn small_tree(alloc: Global) -> Result<Tree, Fail> {
+    let mut tree = demo(alloc)?;
+    for (parent, index) in [(0, 0), (0, 0), (2, 0)] {
+        edit(&mut tree, &insert(alloc, parent, index, letters(alloc, 1)?))?;
+    }
+    Ok(tree)
+}
+
+/// Inserts by their parent, index and count of bytes in the name, each with the reason to refuse it.
+fn check_inserts(
+    rt: &impl Abort,
+    alloc: Global,
+    tree: &Tree,
+    table: &[(u32, u32, usize, Option<EditFault>)],
+) -> Result<(), Fail> {
+    for &(parent, index, count, want) in table {
+        let edit = insert(alloc, parent, index, letters(alloc, count)?);
+        assert!(rt; told(tree, &edit)? == want, "insert {parent} {index}");
+    }
+    Ok(())
+}
+
+#[test]
+fn refusals_in_their_order(rt: HostRuntime) -> Result<(), Fail> {
+    let alloc = rt.alloc();
+    let tree = small_tree(alloc)?;
+    let table = [
+        (4, 9, 512, Some(EditFault::NoNode)),
+        (0, 3, 512, Some(EditFault::BadIndex)),
+        (1, 1, 1, Some(EditFault::BadIndex)),
+        (0, 2, 512, Some(EditFault::TextFull)),
+        (0, 2, 511, None),
+        (3, 0, 0, None),
+    ];
+    check_inserts(&rt, alloc, &tree, &table)?;
+    for (node, count, want) in [
+        (4, 512, Some(EditFault::NoNode)),
+        (3, 512, Some(EditFault::TextFull)),
+        (3, 511, None),
+    ] {
+        let edit = name(node, letters(alloc, count)?);
+        assert!(rt; told(&tree, &edit)? == want, "name {node}");
+    }
+    Ok(())
+}
+
+/// The one step of an edit as numbers and a text: what it adds to which parent and index, or what it names.
+fn only_step(steps: &[Step]) -> Option<(u32, Option<(u32, u32)>, &str)> {
+    match steps {
+        [
+            Step::Add {
+                node,
+                parent,
+                index,
+                seed,
+            },
+        ] => Some((*node, Some((*parent, *index)), seed.name.as_str())),
+        [Step::SetName { node, text }] => Some((*node, None, text.as_str())),
+        _ => None,
+    }
+}
+
+/// What a step is to be: a node, for an addition its parent and index, and a name.
+type Want<'a> = Option<(u32, Option<(u32, u32)>, &'a str)>;
+
+/// Whether an edit has this step alone, or none.
+fn makes(tree: &Tree, edit: &Edit, want: Want) -> Result<bool, Fail>
+    requires so_far { IsEditSoFar edit.now }
+    requires lawful { IsEdit edit.now }
+{
+    let steps = tree.steps_of(edit)?;
+    Ok(only_step(steps.as_slice()) == want && steps.len() == usize::from(want.is_some()))
+}
+
+/// The same for a name of so many bytes.
+fn name_makes(alloc: Global, tree: &Tree, count: usize, want: Want) -> Result<bool, Fail> {
+    let edit = name(2, letters(alloc, count)?);
+    makes(tree, &edit, want)
+}
+
+#[test]
+fn steps_of_an_insert_and_a_name(rt: HostRuntime) -> Result<(), Fail> {
+    let alloc = rt.alloc();
+    let tree = small_tree(alloc)?;
+    let edit = insert(alloc, 0, 1, letters(alloc, 2)?);
+    assert!(rt; makes(&tree, &edit, Some((4, Some((0, 1)), "aa")))?);
+    assert!(rt; name_makes(alloc, &tree, 2, Some((2, None, "aa")))?);
+    assert!(rt;
+        name_makes(alloc, &tree, 1, None)?,
+        "the name that the node has"
+    );
+    Ok(())
+}
+
+/// A node's parent, role, name and children.
+type Row<'a> = (Option<u32>, u32, &'a str, &'a [u32]);
+
+/// A node's row, where the node is there and has what every node begins with.
+fn row(tree: &Tree, node: u32) -> Option<Row<'_>> {
+    if !tree.has(node) {
+        return None;
+    }
+    let begun = tree.states(node) == 0x4300_0100 && tree.faces(node) == 0;
+    if !begun || !tree.description(node).as_str().is_empty() {
+        return None;
+    }
+    let name = tree.name(node).as_str();
+    Some((
+        tree.parent(node),
+        tree.role(node),
+        name,
+        tree.children(node),
+    ))
+}
+
+#[test]
+fn rows_after_edits(rt: HostRuntime) -> Result<(), Fail> {
+    let alloc = rt.alloc();
+    let mut tree = small_tree(alloc)?;
+    let before = tree.copy()?;
+    let done = edit(&mut tree, &name(2, letters(alloc, 3)?))?;
+    assert_eq!(rt; (done, tree.made(), tree.len()), (1, 3, 4));
+    let none: &[u32] = &[];
+    for (node, want) in [
+        (0, Some((None, 75, "aaaa", [2, 1].as_slice()))),
+        (1, Some((Some(0), 43, "a", none))),
+        (2, Some((Some(0), 43, "aaa", [3].as_slice()))),
+        (3, Some((Some(2), 43, "a", none))),
+        (4, None),
+    ] {
+        assert_eq!(rt; row(&tree, node), want, "node {node}");
+    }
+    assert_eq!(rt; row(&before, 2), Some((Some(0), 43, "a", [3].as_slice())));
+    Ok(())
+}
+
+#[test]
+fn a_tree_has_room_for_8192_nodes(rt: HostRuntime) -> Result<(), Fail> {
+    let alloc = rt.alloc();
+    let mut tree = demo(alloc)?;
+    for _ in 0..8191 {
+        edit(&mut tree, &insert(alloc, 0, 0, letters(alloc, 1)?))?;
+    }
+    assert_eq!(rt; tree.len(), 8192);
+    let table = [
+        (8192, 0, 1, Some(EditFault::NoNode)),
+        (0, 8192, 1, Some(EditFault::BadIndex)),
+        (8191, 0, 512, Some(EditFault::Full)),
+    ];
+    check_inserts(&rt, alloc, &tree, &table)
+}

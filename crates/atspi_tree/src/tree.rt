@@ -1,0 +1,315 @@
+//! The tree itself: a table of cells, and the calls that read and change it.
+
+ghost use Rattle.std.specs.Prelude.{◌≡◌, ◌&&◌, ℕ, Some, None, true, IfOk, OnOk, OnErr, [], bytes_eq};
+ghost use Rattle.std.specs.Option.{option_map};
+ghost use Rattle.atspi_forest.specs.Edits.{IsEdit, first_fault, is_full, refusals};
+ghost use Rattle.atspi_forest.specs.declared.contents.FaceData.TheVariants.{Deeds};
+ghost use Rattle.atspi_forest.specs.declared.edit.Edit.TheVariants.{Insert, Name};
+ghost use Rattle.atspi_forest.specs.declared.step.Step.TheVariants.{Add, SetName};
+ghost use Rattle.atspi_forest.specs.Forest.{has, count as count_nodes};
+ghost use Rattle.atspi_forest.specs.Row.{Each, IsName};
+ghost use Rattle.atspi_forest.specs.RowRules.{shapes};
+ghost use Rattle.atspi_forest.specs.Tree.{AllApply, is_shape};
+ghost use Rattle.atspi_forest.specs.View.{kinds_number};
+ghost use Rattle.atspi_tree.specs.Calls.{GivesSteps, IsEditSoFar, IsStepSoFar, edit_steps};
+ghost use Rattle.atspi_tree.specs.TreeShape.{IsLawful, StepApplies, after_step, children_of, parent_of, root_alone, row_of};
+
+use crate::cell::{Cell, bits, first_kinds};
+use crate::edits::{copy_seed, is_bad_place, is_long_name, is_too_long, one_step};
+use crate::fault::TreeFault;
+use crate::table::{insert_child, put_cell, set_name};
+use atspi_base::{NoMemory, Text};
+use atspi_forest::{Edit, EditFault, Kinds, Seed, Step, StepList};
+use std::alloc::Global;
+use std::collections::BTreeMap;
+use std::marker::Model;
+
+/// An application's tree, without the contents of its nodes. Contracts see the rows in their places and the count of nodes
+/// that were ever added; every tree keeps the limits and rules of a tree.
+#[derive(Drop)]
+pub struct Tree {
+    alloc: Global,
+    cells: BTreeMap<u32, Cell>,
+    /// The newest node's number.
+    added: u32,
+}
+
+impl Model for Tree {
+    ghost use Rattle.atspi_tree.specs.TreeShape.{TreeShape, tree_code};
+    ghost use Rattle.atspi_tree.specs.Table.{HoldsTree, rows_in};
+
+    ghost Value = { TreeShape };
+
+    ghost coded = { tree_code };
+
+    ghost view = { λ t. record { rows = rows_in t.cells.entries; added = t.added } };
+
+    ghost invariant = { λ t. HoldsTree t.cells.entries t.added };
+}
+
+impl Tree {
+    /// The root alone, with the application's name.
+    pub fn new(alloc: Global, name: Text) -> Result<Tree, NoMemory>
+        requires { IsName name }
+        ensures { IfOk result (λ t. t ≡ root_alone name) }
+    {
+        let kinds = Kinds {
+            text: false,
+            editable: false,
+            selection: false,
+            table: false,
+            action: false,
+        };
+        let root = Cell::new(alloc, None, name, 75, kinds)?;
+        let mut cells = BTreeMap::new(alloc);
+        put_cell(&mut cells, 0, root)?;
+        Ok(Tree {
+            alloc,
+            cells,
+            added: 0,
+        })
+    }
+
+    /// Whether a node is in the tree.
+    pub fn has(&self, node: u32) -> bool
+        ensures { result ≡ has (is_shape node) self.now.rows }
+    {
+        self.cells.contains_key(&node)
+    }
+
+    /// How many nodes were ever added, the root not counted. The newest node has this number.
+    pub fn made(&self) -> u32
+        ensures { result ≡ self.now.added }
+    {
+        self.added
+    }
+
+    /// How many nodes the tree has.
+    pub fn len(&self) -> u32
+        ensures count { result ≡ count_nodes (λ row. true) self.now.rows }
+        ensures lawful { IsLawful self.now }
+    {
+        self.cells.len() as u32
+    }
+
+    /// The steps of an edit, or the first reason to refuse it. An edit to what is there already has no step. Memory is
+    /// wanted only for an edit that is not refused.
+    pub fn steps_of(&self, edit: &Edit) -> Result<StepList, TreeFault>
+        requires so_far { IsEditSoFar edit.now }
+        requires lawful { IsEdit edit.now }
+        ensures exact { GivesSteps result (edit_steps self.now edit.now) }
+        ensures so_far { IfOk result (Each IsStepSoFar) }
+        ensures applies { IfOk result (AllApply shapes self.now.rows self.now.added) }
+    {
+        match edit {
+            Edit::Insert {
+                parent,
+                index,
+                seed,
+            } => self.insert_steps(*parent, *index, seed),
+            Edit::Name { node, text } => self.name_steps(*node, text),
+            _ => unreachable!(),
+        }
+    }
+
+    /// Does a step. After want of memory the tree is as before.
+    pub fn apply(&mut self, step: &Step) -> Result<(), NoMemory>
+        requires so_far { IsStepSoFar step.now }
+        requires applies { StepApplies self.old step.now }
+        ensures ok { OnOk result (self.new ≡ after_step self.old step.now) }
+        ensures err { OnErr result (self.new ≡ self.old) }
+    {
+        match step {
+            Step::Add {
+                node,
+                parent,
+                index,
+                seed,
+            } => self.add(*node, *parent, *index, seed),
+            Step::SetName { node, text } => self.rename(*node, text),
+            _ => unreachable!(),
+        }
+    }
+
+    /// An equal tree.
+    pub fn copy(&self) -> Result<Tree, NoMemory>
+        ensures { IfOk result (λ t. t ≡ self.now) }
+    {
+        Ok(Tree {
+            alloc: self.alloc,
+            cells: self.cells.clone()?,
+            added: self.added,
+        })
+    }
+
+    /// A node's name.
+    pub fn name(&self, node: u32) -> &Text
+        requires { has (is_shape node) self.now.rows ≡ true }
+        ensures { option_map (λ row. row.name) (row_of node self.now) ≡ Some result.now }
+    {
+        &self.cells[&node].name
+    }
+
+    /// A node's description.
+    pub fn description(&self, node: u32) -> &Text
+        requires { has (is_shape node) self.now.rows ≡ true }
+        ensures { option_map (λ row. row.description) (row_of node self.now) ≡ Some result.now }
+    {
+        &self.cells[&node].description
+    }
+
+    /// A node's role.
+    pub fn role(&self, node: u32) -> u32
+        requires { has (is_shape node) self.now.rows ≡ true }
+        ensures { option_map (λ row. row.role) (row_of node self.now) ≡ Some result }
+    {
+        self.cells[&node].role
+    }
+
+    /// A node's states, each by its bit.
+    pub fn states(&self, node: u32) -> u64
+        requires { has (is_shape node) self.now.rows ≡ true }
+        ensures { option_map (λ row. row.states) (row_of node self.now) ≡ Some result }
+    {
+        self.cells[&node].states
+    }
+
+    /// A node's optional interfaces: bit 0 Text, 1 EditableText, 2 Selection, 3 Table, 4 Action.
+    pub fn faces(&self, node: u32) -> u8
+        requires { has (is_shape node) self.now.rows ≡ true }
+        ensures { option_map (λ row. kinds_number row.kinds) (row_of node self.now) ≡ Some result }
+    {
+        bits(self.cells[&node].kinds)
+    }
+
+    /// A node's parent. None for the root.
+    pub fn parent(&self, node: u32) -> Option<u32>
+        requires { has (is_shape node) self.now.rows ≡ true }
+        ensures { parent_of node self.now ≡ Some result }
+    {
+        self.cells[&node].parent
+    }
+
+    /// The numbers of a node's children, in order.
+    pub fn children(&self, node: u32) -> &[u32]
+        requires { has (is_shape node) self.now.rows ≡ true }
+        ensures { result.now ≡ children_of node self.now }
+    {
+        &self.cells[&node].children
+    }
+
+    /// Whether the tree has all the nodes that a tree may have, or all numbers were taken.
+    fn is_full(&self) -> bool
+        ensures { result ≡ is_full self.now.rows self.now.added }
+    {
+        self.cells.len() >= 8192 || self.added == u32::MAX
+    }
+
+    /// The first reason to refuse an insert.
+    fn insert_fault(&self, parent: u32, index: u32, seed: &Seed) -> Option<EditFault>
+        ensures { result ≡ first_fault (refusals self.now.rows self.now.added (Deeds []) (Insert parent index seed.now)) }
+    {
+        let Some(cell) = self.cells.get(&parent) else {
+            return Some(EditFault::NoNode);
+        };
+        if is_bad_place(cell.children.len(), index, seed) {
+            return Some(EditFault::BadIndex);
+        }
+        if self.is_full() {
+            return Some(EditFault::Full);
+        }
+        if is_too_long(seed) {
+            return Some(EditFault::TextFull);
+        }
+        None
+    }
+
+    fn insert_steps(&self, parent: u32, index: u32, seed: &Seed) -> Result<StepList, TreeFault>
+        requires { IsEdit (Insert parent index seed.now) }
+        ensures exact { GivesSteps result (edit_steps self.now (Insert parent index seed.now)) }
+        ensures so_far { IfOk result (Each IsStepSoFar) }
+        ensures applies { IfOk result (AllApply shapes self.now.rows self.now.added) }
+    {
+        if let Some(fault) = self.insert_fault(parent, index, seed) {
+            return Err(TreeFault::Refused(fault));
+        }
+        let step = Step::Add {
+            node: self.added + 1,
+            parent,
+            index,
+            seed: copy_seed(self.alloc, seed)?,
+        };
+        Ok(one_step(self.alloc, step)?)
+    }
+
+    /// The first reason to refuse a name.
+    fn name_fault(&self, node: u32, text: &Text) -> Option<EditFault>
+        ensures { result ≡ first_fault (refusals self.now.rows self.now.added (Deeds []) (Name node text.now)) }
+    {
+        if !self.has(node) {
+            return Some(EditFault::NoNode);
+        }
+        if is_long_name(text) {
+            return Some(EditFault::TextFull);
+        }
+        None
+    }
+
+    /// Whether a node is there and has this name.
+    fn has_name(&self, node: u32, text: &Text) -> bool
+        ensures { result ≡ has (λ row. is_shape node row && bytes_eq row.name text.now) self.now.rows }
+    {
+        match self.cells.get(&node) {
+            Some(cell) => cell.name.is(text),
+            None => false,
+        }
+    }
+
+    fn name_steps(&self, node: u32, text: &Text) -> Result<StepList, TreeFault>
+        ensures exact { GivesSteps result (edit_steps self.now (Name node text.now)) }
+        ensures so_far { IfOk result (Each IsStepSoFar) }
+        ensures applies { IfOk result (AllApply shapes self.now.rows self.now.added) }
+    {
+        if let Some(fault) = self.name_fault(node, text) {
+            return Err(TreeFault::Refused(fault));
+        }
+        if self.has_name(node, text) {
+            return Ok(StepList::new(self.alloc));
+        }
+        let step = Step::SetName {
+            node,
+            text: text.copy(self.alloc)?,
+        };
+        Ok(one_step(self.alloc, step)?)
+    }
+
+    fn add(&mut self, node: u32, parent: u32, index: u32, seed: &Seed) -> Result<(), NoMemory>
+        requires { StepApplies self.old (Add node parent index seed.now) }
+        ensures ok { OnOk result (self.new ≡ after_step self.old (Add node parent index seed.now)) }
+        ensures err { OnErr result (self.new ≡ self.old) }
+    {
+        let name = seed.name.copy(self.alloc)?;
+        let cell = Cell::new(self.alloc, Some(parent), name, seed.role, first_kinds(seed))?;
+        put_cell(&mut self.cells, node, cell)?;
+        match insert_child(&mut self.cells, parent, index as usize, node) {
+            Ok(()) => {
+                self.added = node;
+                Ok(())
+            }
+            Err(e) => {
+                self.cells.remove(&node);
+                Err(e)
+            }
+        }
+    }
+
+    fn rename(&mut self, node: u32, text: &Text) -> Result<(), NoMemory>
+        requires { StepApplies self.old (SetName node text.now) }
+        ensures ok { OnOk result (self.new ≡ after_step self.old (SetName node text.now)) }
+        ensures err { OnErr result (self.new ≡ self.old) }
+    {
+        let name = text.copy(self.alloc)?;
+        set_name(&mut self.cells, node, name);
+        Ok(())
+    }
+}

@@ -1,0 +1,11 @@
+pub mod DataLemmas
+pub mod ElementLemmas
+pub mod KindLemmas
+pub mod NameLemmas
+pub mod SignatureSteps
+pub mod SignatureFronts
+pub mod SignatureWalks
+pub mod SignatureLaws
+pub mod ReadingLemmas
+pub mod SpellingLemmas
+pub mod SignatureAnswers

@@ -1,0 +1,13 @@
+use Rattle.std.proofs.Common.{◌++◌, arith, ◌∙◌, ap}
+use Rattle.atspi_types.specs.Kinds.{kinds_of}
+use Rattle.atspi_types.specs.Signatures.{signature_bytes}
+use Rattle.atspi_types.proofs.SpellingLemmas.{bytes_more, kinds_all}
+use Rattle.atspi_types.proofs.ty.+write.Goals as goal
+
+pub Tys::write-loop-ty-preserved : goal.Tys::write-loop-ty-preserved
+Tys::write-loop-ty-preserved t c =
+    bytes_more c.deref-ty-items.result.now c.loop-ty.ty-index c.ty-item.result c.args.out.now c.loop-ty.out c.write.new.out (omega arith) c.ty-item.is c.loop-ty.invariant c.in_ok-write.ensures.ok
+
+pub Tys::write-returns-clause-ok : goal.Tys::write-returns-clause-ok
+Tys::write-returns-clause-ok t c =
+    c.loop-ty.invariant ∙ ap (λ ks. c.args.out.now ++ signature_bytes (kinds_of ks)) (kinds_all c.args.self.now c.deref-ty-items.result.now c.loop-ty.ty-index c.deref-ty-items.ensures.value (omega arith))

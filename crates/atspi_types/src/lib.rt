@@ -1,0 +1,21 @@
+//! Types, values, names and signatures of the wire.
+#![tactic(auto)]
+
+mod borrowed;
+mod fault;
+mod names;
+mod parser;
+mod signature;
+mod token;
+mod ty;
+mod value;
+
+pub use borrowed::{Run, ValueRef};
+pub use fault::{Fault, Order, ReadFault};
+pub use names::{BusName, Interface, Member, NameFault, Path};
+pub use signature::Signature;
+pub use ty::{Ty, Tys};
+pub use value::{Pairs, Value, Values};
+
+#[cfg(test)]
+mod tests;

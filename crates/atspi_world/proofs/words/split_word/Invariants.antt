@@ -1,0 +1,6 @@
+use Rattle.std.proofs.Common.{take, drop}
+use Rattle.atspi_world.proofs.WordLemmas.{NoneBefore}
+use Rattle.atspi_world.proofs.words.split_word.Given as goal
+
+abbrev pub invariant-loop-i : goal.invariant-loop-i
+invariant-loop-i l = NoneBefore l.bytes l.i

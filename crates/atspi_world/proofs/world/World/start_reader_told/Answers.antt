@@ -1,0 +1,13 @@
+use Rattle.std.proofs.Common.{◌<◌, ◌≤◌, length, arith, rules}
+use Rattle.atspi_world.proofs.WorldLemmas.{keeps_reader_told, sent_few}
+use Rattle.atspi_world.proofs.world.World.start_reader_told.Goals as goal
+
+pub post-requires-clause-fits : goal.post-requires-clause-fits
+post-requires-clause-fits c =
+    let small : length c.self.inside.trace.items < 9223372036854775808 = search rules in
+    omega (arith, small, sent_few c.self.inside.trace.items c.self.invariant)
+
+pub invariant_of-self-2 : goal.invariant_of-self-2
+invariant_of-self-2 c =
+    rw (c.post.ensures.events, c.post.ensures.link, c.post.ensures.count, c.push_reserved.ensures.items, c.in_ok-make_room.ensures.same_trace, c.in_ok-make_room.ensures.same_waiting, c.requires.same)
+    (keeps_reader_told c.self.inside.trace.items c.args.self.now c.args.told c.self.view_is c.requires.items c.requires.no_reader c.self.invariant)

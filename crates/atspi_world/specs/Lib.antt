@@ -1,0 +1,11 @@
+pub mod Lines
+pub mod Quoted
+pub mod Line
+pub mod Reading
+pub mod Brief
+pub mod Trace
+pub mod Lawful
+pub mod WorldParts
+pub mod Acts
+pub mod Walk
+pub mod IsLine
