@@ -1,3 +1,5 @@
+pub mod Digits
 pub mod Outside
+pub mod Quoted
 pub mod ReadsText
 pub mod Text

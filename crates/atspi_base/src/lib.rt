@@ -3,17 +3,21 @@
 #![tactic(auto)]
 
 mod bytes;
+mod digits;
 mod lists;
 mod memory;
 mod outside;
+mod quoted;
 mod steps;
 #[cfg(test)]
 mod tests;
 mod text;
 
 pub use bytes::Bytes;
+pub use digits::{hex_digit_of, put_decimal, put_hex, put_signed};
 pub use lists::{Marks, Nums, Texts};
 pub use memory::{MemSink, MemSource};
 pub use outside::{Failed, NoMemory, Sink, Source, write_all};
+pub use quoted::{is_control_byte, put_in_quotes, put_quoted};
 pub use steps::Steps;
 pub use text::{Text, TextFault};

@@ -111,3 +111,92 @@ fn the_fakes_of_the_outside_fail_where_told(rt: HostRuntime) -> Result<(), Fail>
     assert_eq!(rt; steps.count(), 2);
     Ok(())
 }
+
+#[test]
+fn the_fakes_of_the_outside_move_so_many_bytes_at_the_most(rt: HostRuntime) -> Result<(), Fail> {
+    let bytes = b"abc".to_vec(rt.alloc())?;
+    let mut source = MemSource::in_pieces(bytes, 2, Vec::new(rt.alloc()));
+    let mut piece = [0u8; 3];
+    assert_eq!(rt; source.read(&mut piece), Ok(2));
+    assert_eq!(rt; piece.as_slice(), b"ab\0".as_slice());
+    assert_eq!(rt; source.read(&mut piece), Ok(1));
+    assert_eq!(rt; piece.as_slice(), b"cb\0".as_slice());
+    assert_eq!(rt; source.read(&mut piece), Ok(0));
+
+    let mut sink = MemSink::in_pieces(rt.alloc(), 1, [3].to_vec(rt.alloc())?);
+    assert_eq!(rt; write_all(&mut sink, b"four"), Err(Failed));
+    assert_eq!(rt; sink.bytes(), b"fou".as_slice());
+    Ok(())
+}
+
+/// Bytes in quotes.
+fn in_quotes(rt: &HostRuntime, bytes: &[u8]) -> Vec<u8> {
+    let mut out = Bytes::new(rt.alloc());
+    let _ = put_in_quotes(bytes, &mut out);
+    out.into_vec()
+}
+
+#[test]
+fn bytes_are_quoted(rt: HostRuntime) {
+    let table: [(&[u8], &[u8]); 12] = [
+        (b"", b"\"\""),
+        (b"plain", b"\"plain\""),
+        (b"\"", b"\"\\\"\""),
+        (b"\\", b"\"\\\\\""),
+        (b"a\"b\\c", b"\"a\\\"b\\\\c\""),
+        (b"\x01", b"\"\\x01\""),
+        (b"\x1f \x20", b"\"\\x1f  \""),
+        (b"\x7f", b"\"\\x7f\""),
+        (b"\x80\xff", b"\"\x80\xff\""),
+        (b"tab\there\n", b"\"tab\\x09here\\x0a\""),
+        (b"caf\xc3\xa9", b"\"caf\xc3\xa9\""),
+        (b"\"\"", b"\"\\\"\\\"\""),
+    ];
+    for (bytes, due) in table {
+        let quoted = in_quotes(&rt, bytes);
+        assert_eq!(rt; quoted.as_slice(), due, "{bytes:?} in quotes");
+    }
+}
+
+/// A number in hex, in decimal, and with its sign.
+fn digits_of(rt: &HostRuntime, unsigned: u64, signed: i64) -> Vec<u8> {
+    let mut out = Bytes::new(rt.alloc());
+    let _ = put_hex(unsigned, &mut out);
+    let _ = out.push(b' ');
+    let _ = put_decimal(unsigned, &mut out);
+    let _ = out.push(b' ');
+    let _ = put_signed(signed, &mut out);
+    out.into_vec()
+}
+
+#[test]
+fn numbers_are_written_as_digits(rt: HostRuntime) -> Result<(), Fail> {
+    let table: [(u64, i64, &[u8]); 5] = [
+        (0, 0, b"0000000000000000 0 0"),
+        (43981, -1, b"000000000000abcd 43981 -1"),
+        (10, 127, b"000000000000000a 10 127"),
+        (
+            u64::MAX,
+            i64::MIN,
+            b"ffffffffffffffff 18446744073709551615 -9223372036854775808",
+        ),
+        (
+            4607182418800017408,
+            i64::MAX,
+            b"3ff0000000000000 4607182418800017408 9223372036854775807",
+        ),
+    ];
+    for (unsigned, signed, due) in table {
+        let digits = digits_of(&rt, unsigned, signed);
+        assert_eq!(rt; digits.as_slice(), due, "{unsigned} and {signed}");
+    }
+    let text = Text::read(rt.alloc(), b"say \"\xc3\xa9\"")
+        .ok()
+        .ok_or("memory")?;
+    let mut out = Bytes::new(rt.alloc());
+    put_quoted(&text, &mut out).ok().ok_or("memory")?;
+    assert_eq!(rt; out.as_slice(), b"\"say \\\"\xc3\xa9\\\"\"".as_slice());
+    assert_eq!(rt; (hex_digit_of(9), hex_digit_of(10)), (b'9', b'a'));
+    assert_eq!(rt; (is_control_byte(31), is_control_byte(32)), (true, false));
+    Ok(())
+}
