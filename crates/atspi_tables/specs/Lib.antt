@@ -1,2 +1,3 @@
 pub mod Roles
 pub mod States
+pub mod Names
