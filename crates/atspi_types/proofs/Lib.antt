@@ -9,3 +9,4 @@ pub mod SignatureLaws
 pub mod ReadingLemmas
 pub mod SpellingLemmas
 pub mod SignatureAnswers
+pub mod TypeLemmas

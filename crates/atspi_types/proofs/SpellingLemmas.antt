@@ -26,7 +26,7 @@ bytes_more items i ty before out after lt is e f =
     f ∙ ap (λ w. w ++ type_bytes (kind_of ty)) e ∙ append_assoc before (signature_bytes (kinds_of (map kind_of (take i items)))) (type_bytes (kind_of ty))
     ∙ ap (λ w. before ++ w) (sym (bytes-push (map kind_of (take i items)) (kind_of ty)) ∙ ap (λ ks. signature_bytes (kinds_of ks)) (sym (kinds_more items i ty lt is)))
 
-extent_push : (e f g : Extent) (ks : List Kind) (k : Kind) → IsExtent e (kinds_of ks) → IsExtentOf f k → g.bytes ≡ min (e.bytes + f.bytes) 256 → g.arrays ≡ max e.arrays f.arrays → g.structs ≡ max e.structs f.structs → IsExtent g (kinds_of (ks ++ k ∷ []))
+pub extent_push : (e f g : Extent) (ks : List Kind) (k : Kind) → IsExtent e (kinds_of ks) → IsExtentOf f k → g.bytes ≡ min (e.bytes + f.bytes) 256 → g.arrays ≡ max e.arrays f.arrays → g.structs ≡ max e.structs f.structs → IsExtent g (kinds_of (ks ++ k ∷ []))
 extent_push e f g ks k a b bytes arrays structs = record {
   bytes = rw (bytes-push ks k, length-append (signature_bytes (kinds_of ks)) (type_bytes k)) (omega (arith, bytes, a.bytes, b.bytes));
   arrays = rw (arrays-push ks k) (omega (arith, arrays, a.arrays, b.arrays));

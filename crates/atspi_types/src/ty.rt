@@ -7,6 +7,7 @@ ghost use Rattle.atspi_types.specs.KindView.{kind_of, kinds_in};
 mod spelling;
 
 use atspi_base::NoMemory;
+pub(crate) use spelling::Extent;
 use std::alloc::Global;
 
 /// The type of a value (D-Bus Specification, "Type System"). A struct has at least one field, and a key is basic: such a

@@ -6,6 +6,7 @@ ghost use Rattle.atspi_types.specs.Borrowed.{ref_data, run_data};
 
 mod plain;
 mod pushing;
+mod types;
 
 use crate::borrowed::{Run, ValueRef};
 use crate::names::Path;

@@ -20,7 +20,7 @@ pub struct Extent {
 
 impl Extent {
     /// No types.
-    fn nothing() -> Extent
+    pub fn nothing() -> Extent
         ensures bytes { result.bytes ≡ 0 }
         ensures arrays { result.arrays ≡ 0 }
         ensures structs { result.structs ≡ 0 }
@@ -33,7 +33,7 @@ impl Extent {
     }
 
     /// These types and others behind them.
-    fn and(self, other: Extent) -> Extent
+    pub fn and(self, other: Extent) -> Extent
         ensures bytes { result.bytes ≡ min (self.bytes + other.bytes) 256 }
         ensures arrays { result.arrays ≡ max self.arrays other.arrays }
         ensures structs { result.structs ≡ max self.structs other.structs }
@@ -46,7 +46,7 @@ impl Extent {
     }
 
     /// These types in a container of so many bytes more, which is an array or a struct or neither.
-    fn within(self, bytes: u32, arrays: u32, structs: u32) -> Extent
+    pub fn within(self, bytes: u32, arrays: u32, structs: u32) -> Extent
         ensures bytes { result.bytes ≡ min (self.bytes + bytes) 256 }
         ensures arrays { result.arrays ≡ min (self.arrays + arrays) 33 }
         ensures structs { result.structs ≡ min (self.structs + structs) 33 }
@@ -59,7 +59,7 @@ impl Extent {
     }
 
     /// Whether types that reach so far keep within the limits.
-    fn fits(self) -> bool
+    pub fn fits(self) -> bool
         ensures { IsTrue result ↔ ((self.bytes ≤ 255) × (self.arrays ≤ 32) × (self.structs ≤ 32)) }
     {
         self.bytes <= 255 && self.arrays <= 32 && self.structs <= 32
@@ -69,7 +69,7 @@ impl Extent {
 impl Ty {
     /// How far the type reaches.
     #[cycle(extent)]
-    fn extent(&self) -> Extent
+    pub(crate) fn extent(&self) -> Extent
         ensures { IsExtentOf result (kind_of self.now) }
     {
         match self {
