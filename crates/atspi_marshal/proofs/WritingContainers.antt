@@ -18,7 +18,7 @@ use Rattle.atspi_marshal.proofs.Entries.{structs_of, entry_spellings-structs, en
 use Rattle.atspi_marshal.proofs.WritingSteps.{array_front, length_padding, Writes-behind, Writes-refused}
 
 -- bytes written over others that stand behind a front
-set_over : (old p z s n : List ℕ) (i : ℕ) → i ≡ length old + length p → length z ≡ 4 → take i (old ++ (p ++ (z ++ s))) ++ (n ++ drop (i + 4) (old ++ (p ++ (z ++ s)))) ≡ old ++ (p ++ (n ++ s))
+pub set_over : (old p z s n : List ℕ) (i : ℕ) → i ≡ length old + length p → length z ≡ 4 → take i (old ++ (p ++ (z ++ s))) ++ (n ++ drop (i + 4) (old ++ (p ++ (z ++ s)))) ≡ old ++ (p ++ (n ++ s))
 set_over old p z s n i is four =
     let len : length (old ++ p) ≡ i = omega (arith, length-append old p) in
     let longer : length ((old ++ p) ++ z) ≡ i + 4 = omega (arith, length-append (old ++ p) z) in

@@ -17,4 +17,7 @@ pub use input::{Bound, Marshalled, bad, byte_at, slice, u32_at};
 pub use laws::{is_read_again, no_front_of_another};
 pub use plain::{padding, room};
 pub use text::{long, short, signature_at};
-pub use writing::{WriteFault, encode};
+pub use writing::{
+    WriteFault, append_u32, begin_array, encode, end_array, put_counted, put_padded, put_padding,
+    put_types, put_u32, put_values, set_u32,
+};

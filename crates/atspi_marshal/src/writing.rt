@@ -15,10 +15,11 @@ mod plain;
 use atspi_base::{Bytes, Text};
 use atspi_types::{Order, Pairs, Path, Run, Signature, Ty, Value, ValueRef, Values};
 pub use fault::WriteFault;
-use plain::{
-    begin_array, end_array, length_place, put_bytes, put_counted, put_padded, put_padding,
-    put_signature, put_type, put_u16, put_u32, put_u64,
+pub use plain::{
+    append_u32, begin_array, end_array, put_counted, put_padded, put_padding, put_types, put_u32,
+    set_u32,
 };
+use plain::{length_place, put_bytes, put_signature, put_type, put_u16, put_u64};
 
 /// The levels of containers in one another, at most.
 const LEVELS: u8 = 64;
@@ -214,9 +215,10 @@ fn put_elements(
     }
 }
 
-/// Values one behind the other.
+/// Appends values one behind the other, which have so many levels of containers at most, and gives the place behind them. `Big`
+/// as `encode` says of a value. After a refusal a front of them was appended.
 #[cycle(put)]
-fn put_values(
+pub fn put_values(
     order: Order,
     levels: u8,
     at: usize,

@@ -2,6 +2,8 @@
 
 ghost use Rattle.std.specs.Prelude.{◌≡◌, ℕ, slice_index, ◌<◌, ◌≤◌, ◌+◌, ◌++◌, ◌^◌, length, take, drop, OnOk, OnErr, IfErr};
 ghost use Rattle.std.specs.Int.{w8, w16, w32, w64};
+ghost use Rattle.atspi_types.specs.Data.{items_of, types_of};
+ghost use Rattle.atspi_types.specs.DataView.{all_data};
 ghost use Rattle.atspi_types.specs.KindView.{kind_of};
 ghost use Rattle.atspi_types.specs.SignatureView.{signature_kinds};
 ghost use Rattle.atspi_types.specs.Signatures.{signature_bytes, FitsSignature, IsSignature};
@@ -11,7 +13,7 @@ ghost use Rattle.atspi_marshal.specs.Writing.{Writes, Pads};
 
 use super::fault::WriteFault;
 use atspi_base::{Bytes, NoMemory};
-use atspi_types::{Order, Signature, Ty};
+use atspi_types::{Order, Signature, Ty, Values};
 
 /// The bytes of a message, at most.
 const MESSAGE: usize = 134_217_728;
@@ -19,7 +21,8 @@ const MESSAGE: usize = 134_217_728;
 /// The bytes of an array's elements, at most.
 const ARRAY: usize = 67_108_864;
 
-/// Zero bytes up to a multiple of `align`, where so many bytes behind them are within a message.
+/// Appends zero bytes from a place up to a multiple of `align`, and gives the place behind them. `Big` where `len` bytes behind
+/// them pass the 134,217,728 bytes of a message.
 pub fn put_padding(
     align: usize,
     at: usize,
@@ -41,7 +44,7 @@ pub fn put_padding(
     Ok(place)
 }
 
-/// Bytes at a multiple of `align`.
+/// Appends bytes at a multiple of `align`, and gives the place behind them. `Big` where they end behind 134,217,728.
 pub fn put_padded(
     align: usize,
     at: usize,
@@ -80,7 +83,7 @@ pub fn put_u16(order: Order, at: usize, number: u16, out: &mut Bytes) -> Result<
     }
 }
 
-/// A number of 32 bits at its place.
+/// Appends a number of 32 bits at its place, and gives the place behind it. `Big` where it ends behind 134,217,728.
 pub fn put_u32(order: Order, at: usize, number: u32, out: &mut Bytes) -> Result<usize, WriteFault>
     requires { at ≤ 134217728 }
     ensures writes { Writes (number < 2 ^ 32) (padding 4 at ++ number_bytes order w32 number) at out.old out.new result }
@@ -104,8 +107,8 @@ pub fn put_u64(order: Order, at: usize, number: u64, out: &mut Bytes) -> Result<
     }
 }
 
-/// The bytes of a number of 32 bits.
-fn put_length(order: Order, number: u32, out: &mut Bytes) -> Result<(), NoMemory>
+/// Appends the bytes of a number of 32 bits, wherever that is.
+pub fn append_u32(order: Order, number: u32, out: &mut Bytes) -> Result<(), NoMemory>
     ensures ok { OnOk result (out.new ≡ out.old ++ number_bytes order w32 number) }
     ensures err { OnErr result (out.new ≡ out.old) }
 {
@@ -115,8 +118,8 @@ fn put_length(order: Order, number: u32, out: &mut Bytes) -> Result<(), NoMemory
     }
 }
 
-/// The bytes of a number of 32 bits, written over those from an index on.
-fn set_length(order: Order, index: usize, number: u32, out: &mut Bytes)
+/// Writes the bytes of a number of 32 bits over those from an index on.
+pub fn set_u32(order: Order, index: usize, number: u32, out: &mut Bytes)
     requires { index + 4 ≤ length out.old }
     ensures { out.new ≡ take index out.old ++ (number_bytes order w32 number ++ drop (index + 4) out.old) }
 {
@@ -126,7 +129,8 @@ fn set_length(order: Order, index: usize, number: u32, out: &mut Bytes)
     }
 }
 
-/// Bytes behind their count of 32 bits, and before a zero byte: a text or a path.
+/// Appends bytes behind their count of 32 bits, and before a zero byte, as a text or a path is spelled (D-Bus Specification,
+/// "Marshaling"), and gives the place behind them. `Big` where they end behind 134,217,728.
 pub fn put_counted(
     order: Order,
     at: usize,
@@ -138,7 +142,7 @@ pub fn put_counted(
     ensures front { take (length out.old) out.new ≡ out.old }
 {
     let place = put_padding(4, at, bytes.len() + 5, out)?;
-    put_length(order, bytes.len() as u32, out)?;
+    append_u32(order, bytes.len() as u32, out)?;
     out.extend(bytes)?;
     out.push(0)?;
     Ok(place + 5 + bytes.len())
@@ -189,7 +193,24 @@ pub fn put_type(at: usize, ty: &Ty, out: &mut Bytes) -> Result<usize, WriteFault
     end_short(at, index, out)
 }
 
-/// The front of an array whose elements stand at multiples of `align`, with a length of zero. The place behind it.
+/// Appends the types of values as a signature, and gives the place behind it. `Big` where the types pass the limits of a
+/// signature, or it ends behind 134,217,728.
+pub fn put_types(at: usize, values: &Values, out: &mut Bytes) -> Result<usize, WriteFault>
+    requires { at ≤ 134217728 }
+    ensures writes { let ks = types_of (items_of (all_data values.now)) in Writes (FitsSignature ks) (counted_short (signature_bytes ks)) at out.old out.new result }
+    ensures front { take (length out.old) out.new ≡ out.old }
+{
+    if !values.fits_signature() {
+        return Err(WriteFault::Big);
+    }
+    let index = out.len();
+    out.push(0)?;
+    values.write_types(out)?;
+    end_short(at, index, out)
+}
+
+/// Appends the front of an array whose elements stand at multiples of `align`, with a length of zero, and gives the place of
+/// the first element. `Big` where that is behind 134,217,728.
 pub fn begin_array(align: usize, at: usize, out: &mut Bytes) -> Result<usize, WriteFault>
     requires align { (0 < align) × (align ≤ 8) }
     requires place { at ≤ 134217728 }
@@ -208,7 +229,8 @@ pub fn length_place(at: usize) -> usize
     at + (4 - at % 4) % 4
 }
 
-/// Sets the length of an array, which stands at an index. The bytes of its elements are that many.
+/// Sets the length of an array, which stands at an index, to the bytes that its elements have. `Big` where they are more than
+/// 67,108,864; nothing is set then.
 pub fn end_array(order: Order, index: usize, len: usize, out: &mut Bytes) -> Result<(), WriteFault>
     requires { index + 4 ≤ length out.old }
     ensures ok { OnOk result (out.new ≡ take index out.old ++ (number_bytes order w32 len ++ drop (index + 4) out.old)) }
@@ -219,6 +241,6 @@ pub fn end_array(order: Order, index: usize, len: usize, out: &mut Bytes) -> Res
     if len > ARRAY {
         return Err(WriteFault::Big);
     }
-    set_length(order, index, len as u32, out);
+    set_u32(order, index, len as u32, out);
     Ok(())
 }

@@ -10,4 +10,4 @@ returns-in_err-place-clause-writes c =
     rw (p.1, p.2) (Pads-refused (Unit {0}) (counted c.args.order c.args.at c.args.bytes.now) 4 c.args.at (length c.args.bytes.now + 5) c.args.at c.args.out.now c.put_padding.new.out c.args.out.now c.put_padding.new.out c.in_err-place.field-0.0 (counted_room c.args.order c.args.at c.args.bytes.now) c.in_err-place.ensures.pads)
 
 pub returns-clause-writes : goal.returns-clause-writes
-returns-clause-writes c = counted_written c.args.order c.args.at c.in_ok-place.place c.args.bytes.now c.args.out.now c.put_padding.new.out c.put_length.new.out c.extend.new.self c.push.new.self c.in_ok-place.ensures.pads c.in_ok-put_length.ensures.ok c.in_ok-extend.ensures.ok c.in_ok-push.ensures.ok
+returns-clause-writes c = counted_written c.args.order c.args.at c.in_ok-place.place c.args.bytes.now c.args.out.now c.put_padding.new.out c.append_u32.new.out c.extend.new.self c.push.new.self c.in_ok-place.ensures.pads c.in_ok-append_u32.ensures.ok c.in_ok-extend.ensures.ok c.in_ok-push.ensures.ok
