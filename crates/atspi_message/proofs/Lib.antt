@@ -22,3 +22,8 @@ pub mod ParsingLaws
 pub mod Loops
 pub mod Rising
 pub mod OneReading
+pub mod FieldWriting
+pub mod BodyTypes
+pub mod FieldsWriting
+pub mod MessageWriting
+pub mod PlainBodies

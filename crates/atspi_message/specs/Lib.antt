@@ -8,3 +8,4 @@ pub mod Reading
 pub mod FieldsView
 pub mod Parsing
 pub mod Laws
+pub mod Writing

@@ -1,7 +1,7 @@
 //! The fields of a header that have a meaning.
 
 ghost use Rattle.std.specs.Prelude.{◌≡◌};
-ghost use Rattle.atspi_message.specs.Codes.{code_of, letter_of};
+ghost use Rattle.atspi_message.specs.Codes.{code_of, letter_of, number_of};
 
 /// A known field of a header (D-Bus Specification, "Header Fields").
 #[derive(Clone, Copy, Debug, PartialEq, Eq)]
@@ -44,5 +44,22 @@ pub fn letter_of(code: Code) -> u8
         Code::Interface | Code::Member | Code::Error | Code::Destination | Code::Sender => b's',
         Code::Reply | Code::Descriptors => b'u',
         Code::Signature => b'g',
+    }
+}
+
+/// The code of a field.
+pub fn number_of(code: Code) -> u8
+    ensures { result ≡ number_of code }
+{
+    match code {
+        Code::Path => 1,
+        Code::Interface => 2,
+        Code::Member => 3,
+        Code::Error => 4,
+        Code::Reply => 5,
+        Code::Destination => 6,
+        Code::Sender => 7,
+        Code::Signature => 8,
+        Code::Descriptors => 9,
     }
 }

@@ -1,6 +1,7 @@
 //! The first 16 bytes of a message.
 
 ghost use Rattle.std.specs.Prelude.{◌≡◌, IfOk, IfErr};
+ghost use Rattle.atspi_message.specs.Bytes.{order_byte};
 ghost use Rattle.atspi_message.specs.Front.{order_by, length_in, front_in, IsSoundFront, WrongFront, IsFirst};
 
 use atspi_marshal::{Marshalled, u32_at};
@@ -14,6 +15,16 @@ pub fn order_of(first: u8) -> Order
         Order::Big
     } else {
         Order::Little
+    }
+}
+
+/// The byte that tells the order of the others.
+pub fn order_byte(order: Order) -> u8
+    ensures { result ≡ order_byte order }
+{
+    match order {
+        Order::Little => b'l',
+        Order::Big => b'B',
     }
 }
 

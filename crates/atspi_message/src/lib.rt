@@ -8,7 +8,9 @@ mod laws;
 mod message;
 mod name;
 mod parsing;
+mod writing;
 
+pub use atspi_marshal::WriteFault;
 pub use front::total;
 pub use laws::{has_one_reading, is_read_again, no_front_of_another};
 pub use message::Message;

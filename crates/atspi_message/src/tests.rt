@@ -1,3 +1,9 @@
+ghost use Rattle.std.specs.Prelude.{IfSome};
+ghost use Rattle.atspi_message.specs.Envelope.{envelope_of};
+ghost use Rattle.atspi_message.specs.Rules.{MeetsRules};
+
+mod writing;
+
 use super::*;
 use atspi_types::ReadFault;
 use std::test::*;
@@ -56,7 +62,7 @@ fn changed(rt: &HostRuntime, bytes: &[u8], len: usize, changes: &[(usize, u8)]) 
 
 #[test]
 fn the_first_fault_of_a_call_is_told(rt: HostRuntime) {
-    let table: [(&[(usize, u8)], (u32, u32)); 32] = [
+    let table: [(&[(usize, u8)], (u32, u32)); 38] = [
         (&[], (0, 0)),
         (&[(2, 255)], (0, 0)),
         (&[(1, 4)], (0, 0)),
@@ -88,6 +94,12 @@ fn the_first_fault_of_a_call_is_told(rt: HostRuntime) {
         (&[(16, 10)], (125, 34)),
         (&[(1, 2)], (125, 34)),
         (&[(1, 3)], (125, 34)),
+        (&[(1, 4), (16, 10)], (125, 34)),
+        (&[(1, 4), (48, 10)], (125, 34)),
+        (&[(1, 4), (80, 10)], (125, 34)),
+        (&[(50, b'o')], (49, 29)),
+        (&[(82, b'g')], (81, 29)),
+        (&[(98, b'o')], (97, 29)),
         (&[(127, 1)], (127, 10)),
     ];
     for (changes, due) in table {
@@ -98,19 +110,20 @@ fn the_first_fault_of_a_call_is_told(rt: HostRuntime) {
 
 #[test]
 fn the_first_fault_of_a_return_and_of_a_body_is_told(rt: HostRuntime) {
-    let returns: [(&[(usize, u8)], (u32, u32)); 6] = [
+    let returns: [(&[(usize, u8)], (u32, u32)); 7] = [
         (&[], (0, 0)),
         (&[(20, 0)], (20, 32)),
         (&[(16, 9)], (20, 33)),
         (&[(16, 9), (20, 0)], (24, 34)),
         (&[(18, b'i')], (17, 29)),
         (&[(1, 1)], (24, 34)),
+        (&[(1, 3)], (24, 34)),
     ];
     for (changes, due) in returns {
         let bytes = changed(&rt, &RETURN, 24, changes);
         assert_eq!(rt; told(&rt, &bytes), due, "the return changed by {changes:?}");
     }
-    let bodies: [(usize, &[(usize, u8)], (u32, u32)); 8] = [
+    let bodies: [(usize, &[(usize, u8)], (u32, u32)); 9] = [
         (32, &[], (0, 0)),
         (33, &[(4, 9)], (32, 21)),
         (31, &[(4, 7)], (28, 19)),
@@ -119,6 +132,7 @@ fn the_first_fault_of_a_return_and_of_a_body_is_told(rt: HostRuntime) {
         (32, &[(12, 6), (20, 0), (21, 0), (22, 0)], (24, 35)),
         (32, &[(26, 1)], (26, 10)),
         (32, &[(21, b'(')], (23, 6)),
+        (32, &[(18, b's')], (17, 29)),
     ];
     for (len, changes, due) in bodies {
         let bytes = changed(&rt, &BODY, len, changes);
@@ -132,7 +146,9 @@ fn the_first_fault_of_a_return_and_of_a_body_is_told(rt: HostRuntime) {
 }
 
 /// The fields of a message that the test reads.
-fn parsed(rt: &HostRuntime, bytes: &[u8]) -> Option<Message> {
+fn parsed(rt: &HostRuntime, bytes: &[u8]) -> Option<Message>
+    ensures { IfSome result (λ message. MeetsRules (envelope_of message)) }
+{
     let first = bytes.first_chunk::<16>()?;
     let length = total(first).ok()?;
     if length as usize != bytes.len() {

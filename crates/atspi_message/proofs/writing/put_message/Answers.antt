@@ -1,0 +1,26 @@
+use Rattle.std.proofs.Common.{◌≡◌, ◌+◌, ◌-◌, ◌++◌, length, ap, arith}
+use Rattle.std.proofs.lemmas.List.{length-append}
+use Rattle.std.proofs.lemmas.Result.{err_from_is_err_and}
+use Rattle.atspi_message.specs.Envelope.{envelope_of}
+use Rattle.atspi_message.specs.Writing.{start_bytes, fields_bytes}
+use Rattle.atspi_message.proofs.MessageWriting.{Parts, body_refused, message_written, message_fits}
+use Rattle.atspi_message.proofs.writing.put_message.Goals as goal
+
+pub returns-in_err-next-clause-big : goal.returns-in_err-next-clause-big
+returns-in_err-next-clause-big c =
+    let p = err_from_is_err_and c.from_residual-in_err-next.result c.from_residual-in_err-next.ensures.1 in
+    rw (p.1, p.2) (body_refused (envelope_of c.args.message.now) c.args.out.now c.put_header.new.out c.put_padding.new.out c.put_values.new.out c.in_ok-end.end c.in_ok-place.place c.in_err-next.field-0.0 c.in_ok-end.ensures.writes c.in_ok-place.ensures.pads c.in_err-next.ensures.writes)
+
+pub returns-clause-ok : goal.returns-clause-ok
+returns-clause-ok c =
+    let e = envelope_of c.args.message.now in
+    let header = start_bytes e ++ fields_bytes e in
+    let parts : Parts e c.args.out.now c.put_header.new.out c.put_padding.new.out c.put_values.new.out c.in_ok-end.end c.in_ok-place.place c.in_ok-next.next = record { header = c.in_ok-end.ensures.writes; padded = c.in_ok-place.ensures.pads; body = c.in_ok-next.ensures.writes } in
+    let at : c.len.result - c.in_ok-end.end + 4 ≡ length c.args.out.now + 4 = omega (arith, c.len.ensures, ap length c.in_ok-end.ensures.writes.appended, length-append c.args.out.now header, c.in_ok-end.ensures.writes.place) in
+    message_written e c.args.out.now c.put_header.new.out c.put_padding.new.out c.put_values.new.out c.set_u32.new.out c.in_ok-end.end c.in_ok-place.place c.in_ok-next.next (c.len.result - c.in_ok-end.end + 4) parts at c.set_u32.ensures
+
+pub returns-clause-fits : goal.returns-clause-fits
+returns-clause-fits c =
+    let e = envelope_of c.args.message.now in
+    let parts : Parts e c.args.out.now c.put_header.new.out c.put_padding.new.out c.put_values.new.out c.in_ok-end.end c.in_ok-place.place c.in_ok-next.next = record { header = c.in_ok-end.ensures.writes; padded = c.in_ok-place.ensures.pads; body = c.in_ok-next.ensures.writes } in
+    message_fits e c.args.out.now c.put_header.new.out c.put_padding.new.out c.put_values.new.out c.in_ok-end.end c.in_ok-place.place c.in_ok-next.next parts c.in_ok-end.ensures.widths
