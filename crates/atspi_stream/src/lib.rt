@@ -1,0 +1,10 @@
+//! Streams of messages, in pieces of any length.
+#![tactic(auto)]
+
+mod feeder;
+mod laws;
+#[cfg(test)]
+mod tests;
+
+pub use feeder::{Feeder, Got};
+pub use laws::{a_fault_stays, any_cut, has_one_answer};

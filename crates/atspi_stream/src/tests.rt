@@ -1,0 +1,116 @@
+use super::*;
+use std::alloc::Global;
+use std::test::*;
+
+/// The call of Hello, 128 bytes.
+const HELLO: [u8; 128] = *b"l\x01\0\x01\0\0\0\0\x01\0\0\0\x6d\0\0\0\
+\x01\x01o\0\x15\0\0\0/org/freedesktop/DBus\0\0\0\
+\x02\x01s\0\x14\0\0\0org.freedesktop.DBus\0\0\0\0\
+\x03\x01s\0\x05\0\0\0Hello\0\0\0\
+\x06\x01s\0\x14\0\0\0org.freedesktop.DBus\0\0\0\0";
+
+/// A return of serial 2 that replies to serial 1.
+const RETURN: [u8; 24] = *b"l\x02\x01\x01\0\0\0\0\x02\0\0\0\x08\0\0\0\x05\x01u\0\x01\0\0\0";
+
+/// The same with its numbers in the other order, and serial 3.
+const BIG: [u8; 24] = *b"B\x02\x01\x01\0\0\0\0\0\0\0\x03\0\0\0\x08\x05\x01u\0\0\0\0\x01";
+
+/// A return of serial 2 that replies to serial 0.
+const BAD: [u8; 24] = *b"l\x02\x01\x01\0\0\0\0\x02\0\0\0\x08\0\0\0\x05\x01u\0\0\0\0\0";
+
+/// What a feeder gives next: (1, serial) for a message, (0, 0) for none yet, (place, reason) for a fault, (9, 9) for want of
+/// memory.
+fn next_of(feeder: &mut Feeder) -> (u32, u32) {
+    match feeder.next() {
+        Ok(Got::Message(message)) => (1, message.serial),
+        Ok(Got::NotYet) => (0, 0),
+        Ok(Got::Bad(fault)) => (fault.place, fault.reason as u32),
+        Err(_) => (9, 9),
+    }
+}
+
+/// What comes behind each of two pieces, and how many bytes are held at the end.
+fn in_two(alloc: Global, bytes: &[u8], cut: usize) -> ((u32, u32), (u32, u32), usize) {
+    let mut feeder = Feeder::new(alloc);
+    let cut = cut.min(bytes.len());
+    let (front, back) = bytes.split_at(cut);
+    let _ = feeder.feed(front);
+    let first = next_of(&mut feeder);
+    let _ = feeder.feed(back);
+    let second = next_of(&mut feeder);
+    (first, second, feeder.len())
+}
+
+/// How many messages come until something else does.
+fn count_messages(feeder: &mut Feeder) -> u32 {
+    for count in 0..u32::MAX {
+        let Ok(Got::Message(_)) = feeder.next() else {
+            return count;
+        };
+    }
+    u32::MAX
+}
+
+/// Some bytes, many times.
+fn repeated(alloc: Global, bytes: &[u8], count: u32) -> Vec<u8> {
+    let mut all = Vec::new(alloc);
+    for _ in 0..count {
+        let _ = all.extend_from_slice(bytes);
+    }
+    all
+}
+
+/// How many messages come of a stream that is fed byte by byte, and how many bytes are held at the end.
+fn byte_by_byte(alloc: Global, bytes: &[u8]) -> (u64, usize) {
+    let mut feeder = Feeder::new(alloc);
+    let mut messages = 0u64;
+    for byte in bytes {
+        let _ = feeder.feed(&[*byte]);
+        messages = messages.saturating_add(count_messages(&mut feeder) as u64);
+    }
+    (messages, feeder.len())
+}
+
+#[test]
+fn a_message_comes_with_its_last_byte(rt: HostRuntime) {
+    for cut in 0..=128 {
+        let due = if cut < 128 {
+            ((0, 0), (1, 1), 0)
+        } else {
+            ((1, 1), (0, 0), 0)
+        };
+        assert_eq!(rt; in_two(rt.alloc(), &HELLO, cut), due, "cut at {cut}");
+    }
+    assert_eq!(rt; byte_by_byte(rt.alloc(), &HELLO), (1, 0));
+    assert_eq!(rt; byte_by_byte(rt.alloc(), &HELLO[..127]), (0, 127));
+    assert_eq!(rt; in_two(rt.alloc(), &BIG, 8), ((0, 0), (1, 3), 0));
+}
+
+#[test]
+fn nothing_comes_behind_a_fault(rt: HostRuntime) {
+    let mut feeder = Feeder::new(rt.alloc());
+    for piece in [&RETURN, &BAD, &RETURN] {
+        assert!(rt; feeder.feed(piece).is_ok());
+    }
+    for due in [(1, 2), (20, 32), (20, 32)] {
+        assert_eq!(rt; next_of(&mut feeder), due);
+    }
+    assert!(rt; feeder.feed(&BIG).is_ok());
+    assert_eq!(rt; (next_of(&mut feeder), feeder.len()), ((20, 32), 72));
+    // a fault of the first 16 bytes is told as soon as these are there
+    let mut early = HELLO;
+    early[8] = 0;
+    assert_eq!(rt; in_two(rt.alloc(), &early, 16), ((8, 26), (8, 26), 128));
+    assert_eq!(rt; in_two(rt.alloc(), &early, 15), ((0, 0), (8, 26), 128));
+}
+
+#[test]
+fn a_long_stream_is_linear_work(rt: HostRuntime) {
+    let million = repeated(rt.alloc(), &RETURN, 1_000_000);
+    assert_eq!(rt; million.len(), 24_000_000);
+    let mut feeder = Feeder::new(rt.alloc());
+    assert!(rt; feeder.feed(&million).is_ok());
+    assert_eq!(rt; (count_messages(&mut feeder), feeder.len()), (1_000_000, 0));
+    let some = repeated(rt.alloc(), &HELLO, 10_000);
+    assert_eq!(rt; byte_by_byte(rt.alloc(), &some), (10_000, 0));
+}
