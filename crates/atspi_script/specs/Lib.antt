@@ -1,0 +1,3 @@
+pub mod MessageText
+pub mod Spaced
+pub mod ValueText
