@@ -1,0 +1,10 @@
+pub mod Conditions
+pub mod Grammar
+pub mod Items
+pub mod Keys
+pub mod Matching
+pub mod Parsing
+pub mod Printed
+pub mod RuleFaults
+pub mod RuleIndex
+pub mod Values

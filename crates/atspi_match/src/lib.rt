@@ -1,0 +1,24 @@
+//! The match rules of a bus: which messages a rule asks for, and who receives a message.
+#![tactic(auto)]
+
+mod condition;
+mod fault;
+mod item;
+mod key;
+mod matching;
+mod printing;
+mod reading;
+mod rule;
+mod rule_index;
+mod runs;
+mod value;
+mod value_of_key;
+
+pub use condition::{Condition, MessageType};
+pub use fault::{RuleFault, RuleRead};
+pub use printing::is_read_again;
+pub use rule::Rule;
+pub use rule_index::{RuleAdd, RuleIndex};
+
+#[cfg(test)]
+mod tests;
