@@ -1,0 +1,4 @@
+pub mod Causes
+pub mod Check
+pub mod Taking
+pub mod Laws

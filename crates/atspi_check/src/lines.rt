@@ -1,0 +1,129 @@
+//! The lines of `check`, in one buffer that is written in whole blocks.
+
+ghost use Rattle.std.specs.Prelude.{◌≡◌, ◌++◌, [], OnOk, OnErr};
+ghost use Rattle.std.specs.Io.KnownBytes.{Appends};
+ghost use Rattle.atspi_base.specs.Outside.{AppendsPart};
+ghost use Rattle.atspi_message.specs.Envelope.{envelope_of};
+ghost use Rattle.atspi_check.specs.Check.{fault_line, message_line};
+ghost use Rattle.atspi_check.specs.Taking.{BlamesLines, Puts, halt_status};
+
+use atspi_base::{Bytes, NoMemory, Sink, put_decimal, write_all};
+use atspi_message::Message;
+use atspi_script::message_text;
+
+/// So many bytes wait before they are written.
+const BLOCK: usize = 65_536;
+
+/// Why lines were not all written.
+#[derive(Clone, Copy, Debug, PartialEq, Eq)]
+pub enum Halt {
+    /// The sink failed.
+    Write,
+    /// There is no memory left.
+    NoMemory,
+}
+
+impl Halt {
+    /// The status that it ends a run with.
+    pub fn status(self) -> u8
+        ensures { result ≡ halt_status self }
+    {
+        match self {
+            Halt::Write => 4,
+            Halt::NoMemory => 5,
+        }
+    }
+}
+
+/// Appends the line of a message.
+fn put_message(start: u64, message: &Message, out: &mut Bytes) -> Result<(), NoMemory>
+    ensures { OnOk result (out.new ≡ out.old ++ message_line start (envelope_of message.now)) }
+{
+    put_decimal(start, out)?;
+    out.extend(b" ")?;
+    message_text(message, out)?;
+    out.extend(b"\n")
+}
+
+/// Appends the line of a fault.
+fn put_fault(start: u64, place: u64, reason: u8, out: &mut Bytes) -> Result<(), NoMemory>
+    ensures { OnOk result (out.new ≡ out.old ++ fault_line start place reason) }
+{
+    out.extend(b"fault ")?;
+    put_decimal(start, out)?;
+    out.extend(b" ")?;
+    put_decimal(place, out)?;
+    out.extend(b" ")?;
+    put_decimal(reason as u64, out)?;
+    out.extend(b"\n")
+}
+
+/// Appends the line of a message, and writes what waits once it is a block.
+fn tell_message<K: Sink>(
+    start: u64,
+    message: &Message,
+    out: &mut Bytes,
+    sink: &mut K,
+) -> Result<(), Halt>
+    ensures ok { OnOk result (Puts out.old out.new (K.written sink.old) (K.written sink.new) (message_line start (envelope_of message.now))) }
+    ensures err { OnErr result (AppendsPart (K.written sink.old) (K.written sink.new) (out.old ++ message_line start (envelope_of message.now))) }
+    ensures cause { BlamesLines result (K.faults sink.old) (K.faults sink.new) }
+{
+    let Ok(()) = put_message(start, message, out) else {
+        return Err(Halt::NoMemory);
+    };
+    if out.len() < BLOCK {
+        return Ok(());
+    }
+    let Ok(()) = write_all(sink, out.as_slice()) else {
+        return Err(Halt::Write);
+    };
+    out.truncate(0);
+    Ok(())
+}
+
+/// The same, of a message that is then let go.
+pub fn tell<K: Sink>(
+    start: u64,
+    message: Message,
+    out: &mut Bytes,
+    sink: &mut K,
+) -> Result<(), Halt>
+    ensures ok { OnOk result (Puts out.old out.new (K.written sink.old) (K.written sink.new) (message_line start (envelope_of message))) }
+    ensures err { OnErr result (AppendsPart (K.written sink.old) (K.written sink.new) (out.old ++ message_line start (envelope_of message))) }
+    ensures cause { BlamesLines result (K.faults sink.old) (K.faults sink.new) }
+{
+    let told = tell_message(start, &message, out, sink);
+    drop(message);
+    told
+}
+
+/// Writes all that waits.
+pub fn write_rest<K: Sink>(out: &Bytes, sink: &mut K) -> Result<(), Halt>
+    ensures ok { OnOk result (Appends (K.written sink.old) (K.written sink.new) out.now) }
+    ensures err { OnErr result (AppendsPart (K.written sink.old) (K.written sink.new) out.now) }
+    ensures cause { BlamesLines result (K.faults sink.old) (K.faults sink.new) }
+{
+    match write_all(sink, out.as_slice()) {
+        Ok(()) => Ok(()),
+        Err(_) => Err(Halt::Write),
+    }
+}
+
+/// Writes all that waits, and behind it the line of a fault.
+pub fn tell_fault<K: Sink>(
+    start: u64,
+    place: u64,
+    reason: u8,
+    out: &mut Bytes,
+    sink: &mut K,
+) -> Result<(), Halt>
+    ensures ok { OnOk result (Appends (K.written sink.old) (K.written sink.new) (out.old ++ fault_line start place reason)) }
+    ensures err { OnErr result (AppendsPart (K.written sink.old) (K.written sink.new) (out.old ++ fault_line start place reason)) }
+    ensures cause { BlamesLines result (K.faults sink.old) (K.faults sink.new) }
+{
+    let Ok(()) = put_fault(start, place, reason, out) else {
+        return Err(Halt::NoMemory);
+    };
+    write_rest(out, sink)
+}
