@@ -11,7 +11,7 @@ use Rattle.atspi_world.specs.declared.line.LineFault.{LineFault}
 use Rattle.atspi_world.specs.declared.line.LineFault.TheVariants.{Form, NoMemory}
 use Rattle.atspi_world.specs.IsLine.{IsLine}
 use Rattle.atspi_world.specs.Line.{IsNumber, SpelledAs, SpellsInsert, SpellsName}
-use Rattle.atspi_world.specs.Quoted.{quoted}
+use Rattle.atspi_base.specs.Quoted.{quoted}
 use Rattle.atspi_world.specs.Reading.{IsPlace, ReadsForm, ReadsOf, ReadsQuoted, is_app, is_edit, is_insert, is_name, is_plain}
 use Rattle.atspi_world.proofs.WordLemmas.{count_cut, place_rest}
 

@@ -2,6 +2,8 @@ pub mod LineLemmas
 pub mod QuoteLemmas
 pub mod WordLemmas
 pub mod FormLemmas
+pub mod ReadingLemmas
+pub mod OneTrace
 pub mod TraceLemmas
 pub mod WorldLemmas
 pub mod SegmentLemmas

@@ -7,7 +7,7 @@ use Rattle.std.specs.List.{flat_map}
 use Rattle.atspi_base.specs.ReadsText.{text_in}
 use Rattle.atspi_base.specs.declared.text.TextFault.{TextFault}
 use Rattle.atspi_base.proofs.TextLemmas.{whole}
-use Rattle.atspi_world.specs.Quoted.{hex_digit, is_marked, is_control, escaped, in_quotes, quoted}
+use Rattle.atspi_base.specs.Quoted.{hex_digit, is_marked, is_control, escaped, in_quotes, quoted}
 use Rattle.atspi_world.specs.Line.{IsName}
 
 -- an escaped byte, by what it is

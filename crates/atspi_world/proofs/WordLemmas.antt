@@ -76,6 +76,14 @@ one_cut (a ∷ u) (b ∷ v) x y p q e =
     let r = one_cut u v x y p.1 q.1 t in
     (ap (λ w. a ∷ w) r.0 ∙ ap (λ c. c ∷ v) h, r.1)
 
+-- a number begins with a digit
+first_digit : (ds : List ℕ) → all_ascii_digits ds ≡ true → 0 < length ds → is_ascii_digit (get_or ds 0 0) ≡ true
+first_digit [] h some = absurd (omega arith)
+first_digit (b ∷ bs) h some = and_left (is_ascii_digit b) (all_ascii_digits bs) h
+
+pub digits_begin : (n : ℕ) → IsNumber n → is_ascii_digit (get_or (decimal n) 0 0) ≡ true
+digits_begin n small = first_digit (decimal n) (digits_decimal own n (omega arith)) (decimal_nonempty n (omega arith))
+
 -- no byte below i is a space
 abbrev pub NoneBefore : List ℕ → ℕ → Type 0
 NoneBefore bytes i = (k : ℕ) → k < i → get_or bytes k 0 ≢ 32

@@ -1,12 +1,13 @@
 -- The brief text of a trace.
-use Rattle.std.specs.Prelude.{ℕ, zero, suc, ◌+◌, ◌/◌, ◌%◌, ◌==◌, List, [], ◌∷◌, ◌++◌, length, Option, None, Some, codes, slice_get, unwrap_or, if◌then◌else◌}
+use Rattle.std.specs.Prelude.{ℕ, ◌==◌, List, [], ◌∷◌, ◌++◌, length, Option, None, Some, codes, slice_get, unwrap_or, if◌then◌else◌}
 use Rattle.std.specs.Fmt.{decimal}
 use Rattle.std.specs.List.{flat_map}
 use Rattle.atspi_tables.specs.Roles.{role_words}
 use Rattle.atspi_world.specs.declared.event.Event.{Event}
 use Rattle.atspi_world.specs.declared.event.Event.TheVariants.{Show, Busy}
 use Rattle.atspi_world.specs.declared.event.ShownRow.{ShownRow}
-use Rattle.atspi_world.specs.Quoted.{hex_digit, quoted}
+use Rattle.atspi_base.specs.Digits.{hex_digits}
+use Rattle.atspi_base.specs.Quoted.{quoted}
 
 -- the root by its name, another node by its number
 abbrev pub node_text : ℕ → List ℕ
@@ -20,11 +21,6 @@ seat_text (Some parent) index = codes " " ++ node_text parent ++ codes " " ++ de
 -- a role by its word, a number above 116 as it is
 abbrev pub role_text : ℕ → List ℕ
 role_text role = unwrap_or (slice_get role_words role) (decimal role)
-
--- the last digits of a number in hex, so many
-unfoldable pub hex_digits : ℕ → ℕ → List ℕ
-hex_digits zero n = []
-hex_digits (suc k) n = hex_digits k (n / 16) ++ hex_digit (n % 16) ∷ []
 
 -- `| NODE PARENT INDEX ROLE STATES NAME DESCRIPTION KINDS TEXT CARET COLUMNS`, of a node without contents
 abbrev pub row_text : ShownRow → List ℕ

@@ -1,5 +1,4 @@
 pub mod Lines
-pub mod Quoted
 pub mod Line
 pub mod Reading
 pub mod Brief
@@ -9,3 +8,4 @@ pub mod WorldParts
 pub mod Acts
 pub mod Walk
 pub mod IsLine
+pub mod Laws

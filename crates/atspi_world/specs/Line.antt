@@ -12,7 +12,7 @@ use Rattle.atspi_world.specs.declared.line.Line.{Line}
 use Rattle.atspi_world.specs.declared.line.Line.TheVariants.{Blank, App, Reader, Edit as Edits, Turns, Show}
 use Rattle.atspi_world.specs.declared.line.LineFault.{LineFault}
 use Rattle.atspi_world.specs.declared.line.LineFault.TheVariants.{Form, NoMemory}
-use Rattle.atspi_world.specs.Quoted.{quoted}
+use Rattle.atspi_base.specs.Quoted.{quoted}
 
 -- a number of a script
 abbrev pub IsNumber : ℕ → Type 0

@@ -4,7 +4,7 @@ use Rattle.std.specs.declared.alloc.Global.{Global}
 use Rattle.atspi_base.specs.declared.text.Text.{Text}
 use Rattle.atspi_world.specs.declared.line.LineFault.{LineFault}
 use Rattle.atspi_world.specs.declared.line.LineFault.TheVariants.{Form, NoMemory}
-use Rattle.atspi_world.specs.Quoted.{escaped, in_quotes, quoted}
+use Rattle.atspi_base.specs.Quoted.{escaped, in_quotes, quoted}
 use Rattle.std.specs.Fmt.{decimal}
 use Rattle.atspi_forest.specs.declared.step.Seed.{Seed}
 use Rattle.atspi_forest.specs.declared.edit.Edit.{Edit}

@@ -3,6 +3,7 @@
 #![tactic(auto)]
 
 mod event;
+mod laws;
 mod line;
 mod lines;
 mod message;
@@ -13,6 +14,7 @@ mod words;
 mod world;
 
 pub use event::{Event, Message, Party, Shown, ShownRow};
+pub use laws::{lines_have_one_reading, lines_have_one_trace};
 pub use line::{LINE_LIMIT, Line, LineFault, NAME_LIMIT, parse_line};
 pub use lines::next_line;
 pub use text::event_text;

@@ -1,20 +1,12 @@
-//! Quoted texts: how a text is written in a script and in a trace.
+//! Quoted texts, as scripts have them, read.
 
-ghost use Rattle.std.specs.Prelude.{◌≡◌, ℕ, ◌+◌, ◌<◌, ◌≤◌, List, ◌∷◌, [], ◌++◌, drop, length, OnOk, OnErr, IfOk, IfSome, MatchOption};
-ghost use Rattle.atspi_world.specs.Quoted.{escaped, hex_digit, in_quotes, is_control, quoted};
+ghost use Rattle.std.specs.Prelude.{◌≡◌, ℕ, ◌<◌, List, ◌∷◌, [], ◌++◌, MatchOption};
+ghost use Rattle.atspi_base.specs.Quoted.{escaped, hex_digit};
 ghost use Rattle.atspi_world.specs.Reading.{ReadsQuoted, ReadsBytes, StartsEscaped};
 
 use crate::line::{LineFault, NAME_LIMIT};
-use atspi_base::{Bytes, NoMemory, Text, TextFault};
+use atspi_base::{Text, TextFault, is_control_byte};
 use std::alloc::Global;
-
-/// The digit of a number below 16.
-pub fn hex_digit_of(n: u8) -> u8
-    requires { n < 16 }
-    ensures { result ≡ hex_digit n }
-{
-    if n < 10 { b'0' + n } else { b'a' + (n - 10) }
-}
 
 /// The number that a lower-case digit stands for.
 fn hex_value(digit: u8) -> Option<u8>
@@ -25,42 +17,6 @@ fn hex_value(digit: u8) -> Option<u8>
         b'a'..=b'f' => Some(digit - b'a' + 10),
         _ => None,
     }
-}
-
-/// Whether a byte is written in hex: a control character.
-fn is_control_byte(byte: u8) -> bool
-    ensures { result ≡ is_control byte }
-{
-    byte < 32 || byte == 127
-}
-
-/// Appends a byte as it stands between quotes.
-fn put_byte(byte: u8, out: &mut Bytes) -> Result<(), NoMemory>
-    ensures { OnOk result (out.new ≡ out.old ++ escaped byte) }
-{
-    if byte == b'"' || byte == b'\\' {
-        return out.extend(&[b'\\', byte]);
-    }
-    if is_control_byte(byte) {
-        return out.extend(&[
-            b'\\',
-            b'x',
-            hex_digit_of(byte / 16),
-            hex_digit_of(byte % 16),
-        ]);
-    }
-    out.push(byte)
-}
-
-/// Appends a text in quotes.
-pub fn put_quoted(text: &Text, out: &mut Bytes) -> Result<(), NoMemory>
-    ensures { OnOk result (out.new ≡ out.old ++ quoted text.now) }
-{
-    out.push(b'"')?;
-    for byte in text.as_str().as_bytes() {
-        put_byte(*byte, out)?;
-    }
-    out.push(b'"')
 }
 
 /// The byte that stands at the front of what is between quotes, and how many bytes it is written with.

@@ -2,11 +2,10 @@
 
 ghost use Rattle.std.specs.Prelude.{◌≡◌, ◌++◌, OnOk, length};
 ghost use Rattle.std.specs.Fmt.{decimal};
-ghost use Rattle.atspi_world.specs.Brief.{event_text as text_of_event, hex_digits, node_text, role_text, row_text, seat_text, shown_text};
+ghost use Rattle.atspi_world.specs.Brief.{event_text as text_of_event, node_text, role_text, row_text, seat_text, shown_text};
 
 use crate::event::{Event, Shown, ShownRow};
-use crate::quoted::{hex_digit_of, put_quoted};
-use atspi_base::{Bytes, NoMemory};
+use atspi_base::{Bytes, NoMemory, put_hex, put_quoted};
 use atspi_tables::role_word;
 use std::alloc::Global;
 
@@ -68,7 +67,7 @@ fn put_row(alloc: Global, row: &ShownRow, out: &mut Bytes) -> Result<(), NoMemor
     out.extend(b" ")?;
     put_role(alloc, row.role, out)?;
     out.extend(b" ")?;
-    put_states(row.states, out)?;
+    put_hex(row.states, out)?;
     out.extend(b" ")?;
     put_quoted(&row.name, out)?;
     out.extend(b" ")?;
@@ -109,17 +108,4 @@ fn put_role(alloc: Global, role: u32, out: &mut Bytes) -> Result<(), NoMemory>
         Some(word) => out.extend(word.as_bytes()),
         None => put_number(alloc, role as u64, out),
     }
-}
-
-/// Appends states as 16 digits.
-fn put_states(states: u64, out: &mut Bytes) -> Result<(), NoMemory>
-    ensures { OnOk result (out.new ≡ out.old ++ hex_digits 16 states) }
-{
-    let mut digits = [0u8; 16];
-    let mut rest = states;
-    for i in (0..16usize).rev() {
-        digits[i] = hex_digit_of((rest % 16) as u8);
-        rest /= 16;
-    }
-    out.extend(&digits)
 }

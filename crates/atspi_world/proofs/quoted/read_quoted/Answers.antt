@@ -4,7 +4,7 @@ use Rattle.atspi_base.specs.Text.{HasNoZero}
 use Rattle.atspi_base.specs.ReadsText.{text_in}
 use Rattle.atspi_base.specs.declared.text.TextFault.{TextFault}
 use Rattle.atspi_world.specs.Line.{IsName}
-use Rattle.atspi_world.specs.Quoted.{in_quotes, quoted}
+use Rattle.atspi_base.specs.Quoted.{in_quotes, quoted}
 use Rattle.atspi_world.proofs.QuoteLemmas.{same_quoted, name_is_text}
 use Rattle.atspi_world.proofs.quoted.read_quoted.Goals as goal
 

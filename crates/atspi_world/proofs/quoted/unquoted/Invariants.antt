@@ -1,6 +1,6 @@
 use Rattle.std.proofs.Common.{◌≡◌, ◌≤◌, ◌-◌, ◌++◌, drop, length}
 use Rattle.std.specs.List.{flat_map}
-use Rattle.atspi_world.specs.Quoted.{escaped}
+use Rattle.atspi_base.specs.Quoted.{escaped}
 use Rattle.atspi_world.proofs.quoted.unquoted.Given as goal
 
 abbrev pub invariant-loop-at : goal.invariant-loop-at
