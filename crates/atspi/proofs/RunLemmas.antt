@@ -6,7 +6,7 @@ use Rattle.atspi_world.specs.Lines.{lines_read, lines_of, whole_lines}
 use Rattle.atspi.specs.Input.{HasRead, is_whole}
 use Rattle.atspi.specs.declared.input.End.{End}
 use Rattle.atspi.specs.declared.input.End.TheVariants.{Whole, TooLong, Failed}
-use Rattle.atspi.specs.Run.{OfAll, OfReading, OfFront, OfLimit}
+use Rattle.atspi.specs.Run.{IsReplay, IsCheck, OfAll, OfReading, OfFront, OfLimit}
 
 pub of_limit : (left left' : Option (List ℕ)) (text : List ℕ) (P : List (List ℕ) → Type 0) → HasRead TooLong left left' text → P (whole_lines text) → OfLimit 16777216 left P
 of_limit None left' text P h p = tt
@@ -25,10 +25,10 @@ of_all limit (Some input) (Some rest) text P h l p =
     let e : input ≡ text = h.0 ∙ ap (λ r. text ++ r) h.1 ∙ append-nil text in
     (omega (arith, l, ap length e), subst (λ t. P (lines_of t)) (sym e) p)
 
-pub of_front : (left left' : Option (List ℕ)) (text : List ℕ) (P : List (List ℕ) → Type 0) → Consumes left left' text → P (whole_lines text) → OfFront left P
+pub of_front : (left left' : Option (List ℕ)) (text : List ℕ) (P : List (List ℕ) → Type 0) → Consumes left left' text → P (whole_lines text) → OfFront left left' P
 of_front None left' text P h p = tt
 of_front (Some input) None text P h p = absurd h
-of_front (Some input) (Some rest) text P h p = (text, rest, h, p)
+of_front (Some input) (Some rest) text P h p = (text, h, p)
 
 pub of_reading : (end : End) (left left' : Option (List ℕ)) (text : List ℕ) (P : List (List ℕ) → Type 0) → HasRead end left left' text → P (lines_read (is_whole end) text) → OfReading left P
 of_reading end None left' text P h p = tt
@@ -41,3 +41,7 @@ of_reading TooLong (Some input) (Some rest) text P h p =
     (false, text, record { rest = h.1.0 ++ rest; front = h.1.2 ∙ append_assoc text h.1.0 rest; whole = λ e. cc }, p)
 of_reading Failed (Some input) None text P h p = absurd h
 of_reading Failed (Some input) (Some rest) text P h p = (false, text, record { rest = rest; front = h; whole = λ e. cc }, p)
+
+-- no words are those of both commands
+pub not_both : (words : List (List ℕ)) → IsReplay words → IsCheck words → ⊥
+not_both words r c = let both = sym r ∙ c in absurd cc

@@ -1,3 +1,4 @@
 pub mod Input
 pub mod Play
 pub mod Run
+pub mod Laws

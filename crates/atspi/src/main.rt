@@ -1,7 +1,10 @@
 //! The program `atspi`: the top call over the command line, standard input and standard output.
 #![tactic(auto)]
 
+#[cfg(test)]
+mod edge_tests;
 mod input;
+mod laws;
 mod play;
 mod run;
 mod standard;

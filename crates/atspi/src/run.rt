@@ -4,37 +4,56 @@ ghost use Rattle.std.specs.Prelude.{◌≡◌, ◌⊎◌, ◌↔◌, IsTrue, map
 ghost use Rattle.std.specs.Io.KnownBytes.{Appends};
 ghost use Rattle.atspi_base.specs.Outside.{AppendsPart};
 ghost use Rattle.atspi.specs.Play.{Played, PlayedPart, PlayedRefused};
-ghost use Rattle.atspi.specs.Run.{Causes, IsCommand, IsReplayStatus, OfAll, OfFront, OfLimit, OfReading, usage};
+ghost use Rattle.atspi_check.specs.Check.{CheckedAll, CheckedFault, CheckedTaken, CheckedLimit, CheckedSome, IsCheckStatus, Writes, WritesPart};
+ghost use Rattle.atspi_check.specs.Causes.{Causes};
+ghost use Rattle.atspi.specs.Run.{IsCheck, IsCommand, IsReplay, IsReplayStatus, OfAll, OfFront, OfLimit, OfReading, usage};
 
 use crate::input::{End, LIMIT, read_all};
 use crate::play::{Stop, play_lines};
 use atspi_base::{Sink, Source, write_all};
+use atspi_check::{CHECK_LIMIT, check};
 use std::alloc::Global;
 
 /// Does what the words say, and answers the status. `replay --brief` reads a script and writes the brief text of its trace;
-/// all other words give status 2 and a line on how the program is used.
+/// `check` reads a stream of messages and writes a line for each, and one for the first fault; all other words give status 2
+/// and a line on how the program is used.
 ///
-/// Status 0: the input was read to its end, and all its lines were done. 1: a line is refused, and those before it were
-/// done. 2: the words name no command. 3: the source failed, behind whole lines that were done. 4: the sink failed. 5: no
-/// memory is left. 8: the input is longer than the limit, and the whole lines inside it were done.
+/// Status 0: the input was read to its end, and all its lines or messages were done. 1: a line is refused, and those before
+/// it were done. 2: the words name no command. 3: the source failed, behind whole lines or messages that were done. 4: the
+/// sink failed. 5: no memory is left. 6: a message of the input is malformed, or the input ends inside one. 8: the input is
+/// longer than the limit, and the whole lines or messages inside it were done.
+#[tactic(auto, using(crate::proofs::RunLemmas::not_both))]
 pub fn run<S: Source, K: Sink>(alloc: Global, words: &[String], source: &mut S, sink: &mut K) -> u8
     ensures words { result ≡ 2 → IsCommand (map string_bytes words.now) → ⊥ }
-    ensures command { IsCommand (map string_bytes words.now) → IsReplayStatus result }
+    ensures replay_status { IsReplay (map string_bytes words.now) → IsReplayStatus result }
+    ensures check_status { IsCheck (map string_bytes words.now) → IsCheckStatus result }
     ensures other { (IsCommand (map string_bytes words.now) → ⊥) → (result ≡ 2) ⊎ (result ≡ 4) }
     ensures usage { result ≡ 2 → Appends (K.written sink.old) (K.written sink.new) usage }
 
-    ensures done { result ≡ 0 → OfAll LIMIT (S.left source.old) (λ lines. Played lines (K.written sink.old) (K.written sink.new)) }
-    ensures refused { result ≡ 1 → OfReading (S.left source.old) (λ lines. PlayedRefused lines (K.written sink.old) (K.written sink.new)) }
-    ensures read { result ≡ 3 → OfFront (S.left source.old) (λ lines. Played lines (K.written sink.old) (K.written sink.new)) }
-    ensures write { result ≡ 4 → IsCommand (map string_bytes words.now) → OfReading (S.left source.old) (λ lines. PlayedPart lines (K.written sink.old) (K.written sink.new)) }
+    ensures done { IsReplay (map string_bytes words.now) → result ≡ 0 → OfAll LIMIT (S.left source.old) (λ lines. Played lines (K.written sink.old) (K.written sink.new)) }
+    ensures refused { IsReplay (map string_bytes words.now) → result ≡ 1 → OfReading (S.left source.old) (λ lines. PlayedRefused lines (K.written sink.old) (K.written sink.new)) }
+    ensures read { IsReplay (map string_bytes words.now) → result ≡ 3 → OfFront (S.left source.old) (S.left source.new) (λ lines. Played lines (K.written sink.old) (K.written sink.new)) }
+    ensures write { IsReplay (map string_bytes words.now) → result ≡ 4 → OfReading (S.left source.old) (λ lines. PlayedPart lines (K.written sink.old) (K.written sink.new)) }
     ensures write_usage { result ≡ 4 → (IsCommand (map string_bytes words.now) → ⊥) → AppendsPart (K.written sink.old) (K.written sink.new) usage }
-    ensures memory { result ≡ 5 → OfReading (S.left source.old) (λ lines. PlayedPart lines (K.written sink.old) (K.written sink.new)) }
-    ensures limit { result ≡ 8 → OfLimit LIMIT (S.left source.old) (λ lines. Played lines (K.written sink.old) (K.written sink.new)) }
+    ensures memory { IsReplay (map string_bytes words.now) → result ≡ 5 → OfReading (S.left source.old) (λ lines. PlayedPart lines (K.written sink.old) (K.written sink.new)) }
+    ensures limit { IsReplay (map string_bytes words.now) → result ≡ 8 → OfLimit LIMIT (S.left source.old) (λ lines. Played lines (K.written sink.old) (K.written sink.new)) }
+
+    // `check`: the lines of all messages; of those before the first fault, and the fault; of those that were read whole; of
+    // those inside the limit; and a front of such lines.
+    ensures checked { IsCheck (map string_bytes words.now) → result ≡ 0 → Writes (S.left source.old) (K.written sink.old) (K.written sink.new) (CheckedAll CHECK_LIMIT) }
+    ensures check_fault { IsCheck (map string_bytes words.now) → result ≡ 6 → Writes (S.left source.old) (K.written sink.old) (K.written sink.new) (CheckedFault CHECK_LIMIT) }
+    ensures check_read { IsCheck (map string_bytes words.now) → result ≡ 3 → Writes (S.left source.old) (K.written sink.old) (K.written sink.new) (CheckedTaken (S.left source.new)) }
+    ensures check_limit { IsCheck (map string_bytes words.now) → result ≡ 8 → Writes (S.left source.old) (K.written sink.old) (K.written sink.new) (CheckedLimit CHECK_LIMIT) }
+    ensures check_write { IsCheck (map string_bytes words.now) → result ≡ 4 → WritesPart (S.left source.old) (K.written sink.old) (K.written sink.new) (CheckedSome CHECK_LIMIT) }
+    ensures check_memory { IsCheck (map string_bytes words.now) → result ≡ 5 → WritesPart (S.left source.old) (K.written sink.old) (K.written sink.new) (CheckedSome CHECK_LIMIT) }
 
     ensures causes { Causes result (S.faults source.old) (S.faults source.new) (K.faults sink.old) (K.faults sink.new) }
 {
     if is_replay(words) {
         return replay(alloc, source, sink);
+    }
+    if is_check(words) {
+        return check(alloc, source, sink);
     }
     match write_all(
         sink,
@@ -47,10 +66,20 @@ pub fn run<S: Source, K: Sink>(alloc: Global, words: &[String], source: &mut S, 
 
 /// Whether the words are `replay --brief`.
 fn is_replay(words: &[String]) -> bool
-    ensures { IsTrue result ↔ IsCommand (map string_bytes words.now) }
+    ensures { IsTrue result ↔ IsReplay (map string_bytes words.now) }
 {
     match words {
         [first, second] => first.as_str() == "replay" && second.as_str() == "--brief",
+        _ => false,
+    }
+}
+
+/// Whether the word is `check`.
+fn is_check(words: &[String]) -> bool
+    ensures { IsTrue result ↔ IsCheck (map string_bytes words.now) }
+{
+    match words {
+        [word] => word.as_str() == "check",
         _ => false,
     }
 }
@@ -60,7 +89,7 @@ fn replay<S: Source, K: Sink>(alloc: Global, source: &mut S, sink: &mut K) -> u8
     ensures status { IsReplayStatus result }
     ensures done { result ≡ 0 → OfAll LIMIT (S.left source.old) (λ lines. Played lines (K.written sink.old) (K.written sink.new)) }
     ensures refused { result ≡ 1 → OfReading (S.left source.old) (λ lines. PlayedRefused lines (K.written sink.old) (K.written sink.new)) }
-    ensures read { result ≡ 3 → OfFront (S.left source.old) (λ lines. Played lines (K.written sink.old) (K.written sink.new)) }
+    ensures read { result ≡ 3 → OfFront (S.left source.old) (S.left source.new) (λ lines. Played lines (K.written sink.old) (K.written sink.new)) }
     ensures write { result ≡ 4 → OfReading (S.left source.old) (λ lines. PlayedPart lines (K.written sink.old) (K.written sink.new)) }
     ensures memory { result ≡ 5 → OfReading (S.left source.old) (λ lines. PlayedPart lines (K.written sink.old) (K.written sink.new)) }
     ensures limit { result ≡ 8 → OfLimit LIMIT (S.left source.old) (λ lines. Played lines (K.written sink.old) (K.written sink.new)) }

@@ -13,8 +13,10 @@ pub struct StandardInput {
 }
 
 impl StandardInput {
-    /// No fault yet.
-    pub fn new(stdin: Stdin) -> StandardInput {
+    /// No call has failed yet.
+    pub fn new(stdin: Stdin) -> StandardInput
+        ensures { ⟦<StandardInput as Source>⟧.faults result ≡ 0 }
+    {
         StandardInput { stdin, faults: 0 }
     }
 }
@@ -43,8 +45,10 @@ pub struct StandardOutput {
 }
 
 impl StandardOutput {
-    /// No fault yet.
-    pub fn new(stdout: Stdout) -> StandardOutput {
+    /// No call has failed yet.
+    pub fn new(stdout: Stdout) -> StandardOutput
+        ensures { ⟦<StandardOutput as Sink>⟧.faults result ≡ 0 }
+    {
         StandardOutput { stdout, faults: 0 }
     }
 }

@@ -159,7 +159,7 @@ fn scripts_are_replayed_as_worked_out_by_hand(rt: HostRuntime) -> Result<(), Fai
 
 #[test]
 fn other_words_are_told_how_the_program_is_used(rt: HostRuntime) -> Result<(), Fail> {
-    for other in ["replay", "--brief", "replay --brief", "check"] {
+    for other in ["replay", "--brief", "replay --brief", "checks"] {
         let mut words = Vec::new(rt.alloc());
         words.push(String::from_str(rt.alloc(), other)?)?;
         let mut source = MemSource::new(Vec::new(rt.alloc()), Vec::new(rt.alloc()));
