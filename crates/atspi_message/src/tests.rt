@@ -62,7 +62,7 @@ fn changed(rt: &HostRuntime, bytes: &[u8], len: usize, changes: &[(usize, u8)]) 
 
 #[test]
 fn the_first_fault_of_a_call_is_told(rt: HostRuntime) {
-    let table: [(&[(usize, u8)], (u32, u32)); 38] = [
+    let table: [(&[(usize, u8)], (u32, u32)); 42] = [
         (&[], (0, 0)),
         (&[(2, 255)], (0, 0)),
         (&[(1, 4)], (0, 0)),
@@ -100,6 +100,10 @@ fn the_first_fault_of_a_call_is_told(rt: HostRuntime) {
         (&[(50, b'o')], (49, 29)),
         (&[(82, b'g')], (81, 29)),
         (&[(98, b'o')], (97, 29)),
+        (&[(96, 7), (98, b'o')], (97, 29)),
+        (&[(96, 4), (98, b'o')], (97, 29)),
+        (&[(96, 9)], (97, 29)),
+        (&[(1, 3), (48, 4)], (125, 34)),
         (&[(127, 1)], (127, 10)),
     ];
     for (changes, due) in table {
