@@ -35,6 +35,10 @@ pub fn put_decimal(n: u64, out: &mut Bytes) -> Result<(), NoMemory>
     ensures ok { OnOk result (out.new ≡ out.old ++ decimal n) }
     ensures err { OnErr result (out.new ≡ out.old) }
 {
+    // most numbers of a message are of one digit: they need no buffer
+    if n < 10 {
+        return out.push(b'0' + n as u8);
+    }
     out.extend(Buffer::new().format(n).as_bytes())
 }
 
@@ -43,6 +47,9 @@ pub fn put_signed(n: i64, out: &mut Bytes) -> Result<(), NoMemory>
     ensures ok { OnOk result (out.new ≡ out.old ++ signed_decimal n) }
     ensures err { OnErr result (out.new ≡ out.old) }
 {
+    if 0 <= n {
+        return put_decimal(n as u64, out);
+    }
     let mut buffer = Buffer::new();
     out.extend(buffer.format(n).as_bytes())
 }
