@@ -9,7 +9,7 @@ ghost use Rattle.atspi_types.specs.OpenView.{token_view, context_of};
 
 use crate::fault::{Fault, ReadFault};
 use crate::token::{Token, read_token};
-use crate::ty::{Ty, Tys};
+use crate::ty::{EntryType, Ty, Tys};
 use atspi_base::NoMemory;
 use std::alloc::Global;
 
@@ -182,7 +182,7 @@ impl Open {
     {
         match self {
             Open::Struct(outer, fields) => {
-                Box::into_inner(outer).with_type(alloc, Ty::Struct(fields))
+                Box::into_inner(outer).with_type(alloc, Ty::Struct(Box::new(alloc, fields)?))
             }
             other @ (Open::Top(_)
             | Open::Array(_)
@@ -213,7 +213,7 @@ impl Open {
     {
         match self {
             Open::Both(outer, key, value) => {
-                let entries = Ty::Dict(Box::new(alloc, key)?, Box::new(alloc, value)?);
+                let entries = Ty::Dict(Box::new(alloc, EntryType { key, value })?);
                 Box::into_inner(outer).with_type(alloc, entries)
             }
             other @ (Open::Top(_)
