@@ -89,7 +89,7 @@ fn struct_fields(ty: &Ty) -> Option<&[Ty]>
         | Ty::Sig
         | Ty::Array(_)
         | Ty::Variant
-        | Ty::Dict(_, _) => None,
+        | Ty::Dict(_) => None,
     }
 }
 
@@ -159,7 +159,7 @@ fn single(
         Ty::Array(element) => array(alloc, input, levels, element, bound, at),
         Ty::Struct(_) => Err(bad(at, 20)),
         Ty::Variant => variant(alloc, input, levels, bound, at),
-        Ty::Dict(key, value) => dictionary(alloc, input, levels, key, value, bound, at),
+        Ty::Dict(entry) => dictionary(alloc, input, levels, &entry.key, &entry.value, bound, at),
     }
 }
 

@@ -66,7 +66,7 @@ fn array_type(alloc: Global) -> Result<Ty>
     fields.push(Ty::U32)?;
     fields.push(Ty::U64)?;
     fields.push(Ty::U32)?;
-    Ok(Ty::Array(Box::new(alloc, Ty::Struct(fields))?))
+    Ok(Ty::Array(Box::new(alloc, Ty::Struct(Box::new(alloc, fields)?))?))
 }
 
 /// Decodes an array, drops the value and prints how many items it had.

@@ -4,6 +4,7 @@ use Rattle.atspi_types.specs.Kinds.{number, boolean, text, path, signature, arra
 use Rattle.atspi_types.specs.KindView.{kind_of, kinds_in}
 use Rattle.atspi_types.specs.declared.ty.Ty.{Ty, the_lemmas}
 use Rattle.atspi_types.specs.declared.ty.Ty.TheVariants.{Byte, Bool, I16, U16, I32, U32, I64, U64, Double, Text, Path, Sig, Array, Struct, Variant, Dict}
+use Rattle.atspi_types.specs.declared.ty.EntryType.{EntryType}
 use Rattle.atspi_types.specs.declared.ty.Tys.{Tys, the_lemmas as list_lemmas}
 
 pub kind_of-Byte : kind_of Byte ≡ number byte
@@ -48,11 +49,11 @@ kind_of-Variant = search (rules, the_lemmas)
 pub kind_of-Array : (element : Box Ty Global) → kind_of (Array element) ≡ array (kind_of element.value)
 kind_of-Array element = search (rules, the_lemmas)
 
-pub kind_of-Struct : (types : Tys) → kind_of (Struct types) ≡ structure (kinds_of (kinds_in types))
+pub kind_of-Struct : (types : Box Tys Global) → kind_of (Struct types) ≡ structure (kinds_of (kinds_in types.value))
 kind_of-Struct types = search (rules, the_lemmas)
 
-pub kind_of-Dict : (key value : Box Ty Global) → kind_of (Dict key value) ≡ dictionary (kind_of key.value) (kind_of value.value)
-kind_of-Dict key value = search (rules, the_lemmas)
+pub kind_of-Dict : (entry : Box EntryType Global) → kind_of (Dict entry) ≡ dictionary (kind_of entry.value.key) (kind_of entry.value.value)
+kind_of-Dict entry = search (rules, the_lemmas)
 
 -- a list of types
 pub kinds_in-map : (types : Tys) → kinds_in types ≡ map kind_of types.items.items

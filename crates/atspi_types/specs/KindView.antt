@@ -2,11 +2,11 @@
 use Rattle.std.specs.Prelude.{List}
 use Rattle.atspi_types.specs.Kinds.{Kind, number, boolean, text, path, signature, array, structure, variant, dictionary, kinds_of, byte, i16, u16, i32, u32, i64, u64, double}
 use Rattle.atspi_types.specs.declared.ty.Ty.{Ty, fold-Ty}
-use Rattle.atspi_types.specs.declared.ty.Ty.TheOpen.{Ty-F, Tys-F}
+use Rattle.atspi_types.specs.declared.ty.Ty.TheOpen.{Ty-F, Tys-F, EntryType-F}
 use Rattle.atspi_types.specs.declared.ty.Tys.{Tys, fold-Tys}
 
--- one level of a type, and of a list of types
-abbrev pub kind_step : Ty-F Kind (List Kind) → Kind
+-- one level of a type, of the types of an entry, and of a list of types
+abbrev pub kind_step : Ty-F Kind (Kind × Kind) (List Kind) → Kind
 kind_step Ty-F.Byte = number byte
 kind_step Ty-F.Bool = boolean
 kind_step Ty-F.I16 = number i16
@@ -20,17 +20,20 @@ kind_step Ty-F.Text = text
 kind_step Ty-F.Path = path
 kind_step Ty-F.Sig = signature
 kind_step (Ty-F.Array t) = array t.value
-kind_step (Ty-F.Struct ks) = structure (kinds_of ks)
+kind_step (Ty-F.Struct ks) = structure (kinds_of ks.value)
 kind_step Ty-F.Variant = variant
-kind_step (Ty-F.Dict k v) = dictionary k.value v.value
+kind_step (Ty-F.Dict e) = dictionary e.value.0 e.value.1
 
-abbrev pub kinds_step : Tys-F Kind (List Kind) → List Kind
+abbrev pub entry_step : EntryType-F Kind (Kind × Kind) (List Kind) → Kind × Kind
+entry_step e = (e.key, e.value)
+
+abbrev pub kinds_step : Tys-F Kind (Kind × Kind) (List Kind) → List Kind
 kinds_step ts = ts.items.items
 
 -- the type
 abbrev pub kind_of : Ty → Kind
-kind_of = fold-Ty Kind (List Kind) kind_step kinds_step
+kind_of = fold-Ty Kind (Kind × Kind) (List Kind) kind_step entry_step kinds_step
 
 -- the types of a list
 abbrev pub kinds_in : Tys → List Kind
-kinds_in = fold-Tys Kind (List Kind) kind_step kinds_step
+kinds_in = fold-Tys Kind (Kind × Kind) (List Kind) kind_step entry_step kinds_step

@@ -14,7 +14,7 @@ pub use borrowed::{Run, ValueRef};
 pub use fault::{Fault, Order, ReadFault};
 pub use names::{BusName, Interface, Member, NameFault, Path};
 pub use signature::Signature;
-pub use ty::{Ty, Tys};
+pub use ty::{EntryType, Ty, Tys};
 pub use value::{Pairs, Value, Values};
 
 #[cfg(test)]

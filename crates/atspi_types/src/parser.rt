@@ -1,6 +1,6 @@
 //! The state of reading a signature: the containers that stand open, of which the limits allow 64.
 
-ghost use Rattle.std.specs.Prelude.{◌≡◌, ◌≤◌, ◌<◌, [], IfOk, map, length, None};
+ghost use Rattle.std.specs.Prelude.{◌≡◌, ◌≤◌, ◌<◌, [], IfOk, map, length, drop, None};
 ghost use Rattle.atspi_types.specs.KindView.{kind_of, kinds_in};
 ghost use Rattle.atspi_types.specs.SignatureFaults.{BeginsSignature, MayCome, arrays_open, structs_open, at_top};
 ghost use Rattle.atspi_types.specs.SignatureReading as reading;
@@ -9,7 +9,7 @@ ghost use Rattle.atspi_types.specs.OpenView.{token_view, context_of};
 
 use crate::fault::{Fault, ReadFault};
 use crate::token::{Token, read_token};
-use crate::ty::{Ty, Tys};
+use crate::ty::{EntryType, Ty, Tys};
 use atspi_base::NoMemory;
 use std::alloc::Global;
 
@@ -182,7 +182,7 @@ impl Open {
     {
         match self {
             Open::Struct(outer, fields) => {
-                Box::into_inner(outer).with_type(alloc, Ty::Struct(fields))
+                Box::into_inner(outer).with_type(alloc, Ty::Struct(Box::new(alloc, fields)?))
             }
             other @ (Open::Top(_)
             | Open::Array(_)
@@ -213,7 +213,7 @@ impl Open {
     {
         match self {
             Open::Both(outer, key, value) => {
-                let entries = Ty::Dict(Box::new(alloc, key)?, Box::new(alloc, value)?);
+                let entries = Ty::Dict(Box::new(alloc, EntryType { key, value })?);
                 Box::into_inner(outer).with_type(alloc, entries)
             }
             other @ (Open::Top(_)
@@ -260,13 +260,31 @@ fn step(alloc: Global, before: Open, place: u32, byte: u8) -> Result<Open, ReadF
     Ok(before.with_token(alloc, token)?)
 }
 
+/// The types that the bytes begin with, up to the first byte that is no type of one byte.
+fn front(alloc: Global, bytes: &[u8]) -> Result<Tys, NoMemory>
+    ensures begins { IfOk result (λ types. BeginsSignature (at_top (kinds_in types))) }
+    // The bytes behind them lead on to where all of the bytes do.
+    ensures rest { IfOk result (λ types. reading.walk (at_top (kinds_in types)) (length (kinds_in types)) (drop (length (kinds_in types)) bytes.now) ≡ reading.walk (at_top []) 0 bytes.now) }
+{
+    let mut types = Tys::with_capacity(alloc, bytes.len())?;
+    for byte in bytes {
+        let Token::Code(ty) = read_token(*byte) else {
+            break;
+        };
+        types.push(ty)?;
+    }
+    Ok(types)
+}
+
 /// What stands open behind the bytes, or the first fault.
 fn walk(alloc: Global, bytes: &[u8]) -> Result<Open, ReadFault>
     requires { length bytes.now < 256 }
     ensures { Gives context_of result (reading.walk (at_top []) 0 bytes.now) }
 {
-    let mut open = Open::Top(Tys::new(alloc));
-    for i in 0..bytes.len() {
+    let types = front(alloc, bytes)?;
+    let start = types.len();
+    let mut open = Open::Top(types);
+    for i in start..bytes.len() {
         open = step(alloc, open, i as u32, bytes[i])?;
     }
     Ok(open)

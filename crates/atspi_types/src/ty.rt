@@ -28,10 +28,18 @@ pub enum Ty {
     Path,
     Sig,
     Array(Box<Ty>),
-    Struct(Tys),
+    Struct(Box<Tys>),
     Variant,
     /// An array of entries, from a key to a value.
-    Dict(Box<Ty>, Box<Ty>),
+    Dict(Box<EntryType>),
+}
+
+/// The types of an entry's key and value.
+#[derive(Drop)]
+#[cycle(types)]
+pub struct EntryType {
+    pub key: Ty,
+    pub value: Ty,
 }
 
 /// A list of types.
@@ -49,6 +57,15 @@ impl Tys {
         Tys {
             items: Vec::new(alloc),
         }
+    }
+
+    /// No type yet, with room for so many.
+    pub(crate) fn with_capacity(alloc: Global, count: usize) -> Result<Tys, NoMemory>
+        ensures { IfOk result (λ types. kinds_in types ≡ []) }
+    {
+        Ok(Tys {
+            items: Vec::with_capacity(alloc, count)?,
+        })
     }
 
     /// How many types there are.
@@ -94,6 +111,20 @@ impl Tys {
     }
 }
 
+impl EntryType {
+    /// Equal types.
+    #[cycle(copy)]
+    pub fn copy(&self, alloc: Global) -> Result<EntryType, NoMemory>
+        ensures key { IfOk result (λ entry. kind_of entry.key ≡ kind_of self.now.key) }
+        ensures value { IfOk result (λ entry. kind_of entry.value ≡ kind_of self.now.value) }
+    {
+        Ok(EntryType {
+            key: self.key.copy(alloc)?,
+            value: self.value.copy(alloc)?,
+        })
+    }
+}
+
 impl Ty {
     /// An equal type.
     #[cycle(copy)]
@@ -114,12 +145,9 @@ impl Ty {
             Ty::Path => Ok(Ty::Path),
             Ty::Sig => Ok(Ty::Sig),
             Ty::Array(element) => Ok(Ty::Array(Box::new(alloc, element.copy(alloc)?)?)),
-            Ty::Struct(types) => Ok(Ty::Struct(types.copy(alloc)?)),
+            Ty::Struct(types) => Ok(Ty::Struct(Box::new(alloc, types.copy(alloc)?)?)),
             Ty::Variant => Ok(Ty::Variant),
-            Ty::Dict(key, value) => Ok(Ty::Dict(
-                Box::new(alloc, key.copy(alloc)?)?,
-                Box::new(alloc, value.copy(alloc)?)?,
-            )),
+            Ty::Dict(entry) => Ok(Ty::Dict(Box::new(alloc, entry.copy(alloc)?)?)),
         }
     }
 
@@ -128,7 +156,7 @@ impl Ty {
         ensures { result ≡ is_basic (kind_of self.now) }
     {
         match self {
-            Ty::Array(_) | Ty::Struct(_) | Ty::Variant | Ty::Dict(_, _) => false,
+            Ty::Array(_) | Ty::Struct(_) | Ty::Variant | Ty::Dict(_) => false,
             _ => true,
         }
     }
@@ -140,7 +168,7 @@ impl Ty {
         match self {
             Ty::Byte | Ty::Sig | Ty::Variant => 1,
             Ty::I16 | Ty::U16 => 2,
-            Ty::Bool | Ty::I32 | Ty::U32 | Ty::Text | Ty::Path | Ty::Array(_) | Ty::Dict(_, _) => 4,
+            Ty::Bool | Ty::I32 | Ty::U32 | Ty::Text | Ty::Path | Ty::Array(_) | Ty::Dict(_) => 4,
             Ty::I64 | Ty::U64 | Ty::Double | Ty::Struct(_) => 8,
         }
     }

@@ -75,7 +75,7 @@ impl Ty {
         match self {
             Ty::Array(element) => element.extent().within(1, 1, 0),
             Ty::Struct(fields) => fields.extent().within(2, 0, 1),
-            Ty::Dict(key, value) => key.extent().and(value.extent()).within(3, 1, 0),
+            Ty::Dict(entry) => entry.key.extent().and(entry.value.extent()).within(3, 1, 0),
             Ty::Byte
             | Ty::Bool
             | Ty::I16
@@ -128,10 +128,10 @@ impl Ty {
                 fields.write(out)?;
                 out.push(b')')
             }
-            Ty::Dict(key, value) => {
+            Ty::Dict(entry) => {
                 out.extend(b"a{")?;
-                key.write(out)?;
-                value.write(out)?;
+                entry.key.write(out)?;
+                entry.value.write(out)?;
                 out.push(b'}')
             }
         }

@@ -76,7 +76,7 @@ single-returns-in-Array-clause-read t c = rw (c.in-Array.is, kind_of-Array, ← 
 
 pub single-returns-in-Dict-clause-read : goal.single-returns-in-Dict-clause-read
 unfolding single_at
-single-returns-in-Dict-clause-read t c = rw (c.in-Dict.is, kind_of-Dict, ← c.deref-in-Dict.ensures, ← c.deref-in-Dict-2.ensures) c.dictionary.ensures.read
+single-returns-in-Dict-clause-read t c = rw (c.in-Dict.is, kind_of-Dict) (rw (c.deref-in-Dict.ensures, c.deref-in-Dict-2.ensures) at c.dictionary.ensures.read)
 
 pub single-returns-in-Struct-clause-read : goal.single-returns-in-Struct-clause-read
 unfolding single_at

@@ -8,7 +8,7 @@ use Rattle.atspi_types.proofs.parser.walk.Goals as goal
 
 pub returns-in_err-open : goal.returns-in_err-open
 returns-in_err-open c =
-    let p = err_from_is_err_and c.from_residual.result c.from_residual.ensures.1 in
+    let p = err_from_is_err_and c.from_residual-in_err-open.result c.from_residual-in_err-open.ensures.1 in
     rw (p.1, p.2) (handed_on context_of context_of c.in_err-open.field-0.0 (step_at (context_of c.loop-i.open) c.loop-i.i (get_or c.args.bytes.now c.loop-i.i 0)) (walk (at_top []) 0 c.args.bytes.now)
     (λ f e. sym c.loop-i.invariant.1 ∙ walk-err (context_of c.loop-i.open) c.args.bytes.now c.loop-i.i f (omega arith) e) c.in_err-open.ensures.step)
 
