@@ -1,6 +1,9 @@
 pub mod DataLemmas
 pub mod ElementLemmas
 pub mod KindLemmas
+pub mod KindSize
+pub mod LawfulLemmas
+pub mod SameLemmas
 pub mod NameLemmas
 pub mod SignatureSteps
 pub mod SignatureFronts
@@ -10,3 +13,4 @@ pub mod ReadingLemmas
 pub mod SpellingLemmas
 pub mod SignatureAnswers
 pub mod TypeLemmas
+pub mod Verdicts

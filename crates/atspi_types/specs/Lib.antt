@@ -7,6 +7,7 @@ pub mod KindView
 pub mod Kinds
 pub mod Names
 pub mod OpenView
+pub mod Shapes
 pub mod SignatureFaults
 pub mod SignatureReading
 pub mod SignatureView
