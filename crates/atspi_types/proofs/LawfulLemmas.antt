@@ -1,8 +1,8 @@
 -- Lists of lawful types, one type more.
-use Rattle.std.proofs.Common.{◌≡◌, ◌↔◌, IsTrue, ℕ, zero, suc, ◌+◌, ◌<◌, List, [], ◌∷◌, ◌++◌, length, take, get_or, map, Bool, true, false, subst, sym, ap, arith}
+use Rattle.std.proofs.Common.{◌≡◌, ◌↔◌, IsTrue, ℕ, zero, suc, ◌+◌, ◌<◌, List, [], ◌∷◌, ◌++◌, length, take, get_or, map, Bool, false, subst, sym, ap, arith}
 use Rattle.std.specs.Prelude.{◌==◌}
 use Rattle.atspi_types.specs.Kinds.{Kind, kinds_of, structure, IsLawful, AreLawful}
-use Rattle.atspi_types.specs.KindView.{kind_of, kinds_in}
+use Rattle.atspi_types.specs.KindView.{kind_of}
 use Rattle.atspi_types.specs.declared.ty.Ty.{Ty}
 use Rattle.atspi_types.proofs.KindSize.{kind_size, kind_sizes}
 use Rattle.atspi_types.proofs.SpellingLemmas.{kinds_more}

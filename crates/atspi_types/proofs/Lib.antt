@@ -1,4 +1,5 @@
 pub mod DataLemmas
+pub mod DataSize
 pub mod ElementLemmas
 pub mod KindLemmas
 pub mod KindSize
@@ -13,4 +14,5 @@ pub mod ReadingLemmas
 pub mod SpellingLemmas
 pub mod SignatureAnswers
 pub mod TypeLemmas
+pub mod TypedLemmas
 pub mod Verdicts

@@ -1,6 +1,6 @@
 -- When types are the same, by one level of each.
-use Rattle.std.proofs.Common.{◌≡◌, ◌↔◌, IsTrue, ℕ, zero, suc, ◌+◌, ◌<◌, List, [], ◌∷◌, ◌++◌, length, take, get_or, map, Bool, true, false, refl, subst, sym, ap, ◌∙◌, arith, length-append}
-use Rattle.atspi_types.specs.Kinds.{Kind, Kinds, kinds_of, types_in, number, boolean, text, path, signature, array, structure, variant, dictionary}
+use Rattle.std.proofs.Common.{◌≡◌, ◌↔◌, IsTrue, ℕ, zero, suc, ◌<◌, List, [], ◌∷◌, ◌++◌, length, get_or, map, Bool, refl, sym, ap, ◌∙◌, arith, length-append}
+use Rattle.atspi_types.specs.Kinds.{Kind, kinds_of, types_in, number, boolean, text, path, signature, array, structure, variant, dictionary}
 use Rattle.atspi_types.specs.Signatures.{type_bytes, signature_bytes}
 use Rattle.atspi_types.specs.Shapes.{IsShapeOf}
 use Rattle.atspi_types.specs.declared.ty.shape.Shape.{Shape}
@@ -8,9 +8,8 @@ use Rattle.atspi_types.specs.declared.ty.shape.Shape.TheVariants.{Code, Array, S
 use Rattle.atspi_types.specs.KindView.{kind_of, kinds_in}
 use Rattle.atspi_types.specs.declared.ty.Ty.{Ty}
 use Rattle.atspi_types.proofs.DataLemmas.{types_in-kinds_of}
-use Rattle.atspi_types.proofs.SpellingLemmas.{kinds_more}
 
-kinds_of-once : (ks ls : List Kind) → kinds_of ks ≡ kinds_of ls → ks ≡ ls
+pub kinds_of-once : (ks ls : List Kind) → kinds_of ks ≡ kinds_of ls → ks ≡ ls
 kinds_of-once ks ls e = sym (types_in-kinds_of ks) ∙ ap types_in e ∙ types_in-kinds_of ls
 
 -- structs are the same where their fields are
