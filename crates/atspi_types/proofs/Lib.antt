@@ -15,4 +15,5 @@ pub mod SpellingLemmas
 pub mod SignatureAnswers
 pub mod TypeLemmas
 pub mod TypedLemmas
+pub mod TypedTests
 pub mod Verdicts

@@ -1,7 +1,7 @@
 -- What it means that a test says no.
 use Rattle.std.proofs.Common.{◌≡◌, ◌↔◌, IsTrue, true, false}
 
-apart : false ≡ true → ⊥
+pub apart : false ≡ true → ⊥
 apart e = cc
 
 pub no_if : (P : Type 0) → (P → ⊥) → (IsTrue false ↔ P)

@@ -12,3 +12,4 @@ pub mod SignatureFaults
 pub mod SignatureReading
 pub mod SignatureView
 pub mod Signatures
+pub mod WellTyped
