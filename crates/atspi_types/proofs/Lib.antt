@@ -1,6 +1,10 @@
 pub mod DataLemmas
+pub mod DataSize
 pub mod ElementLemmas
 pub mod KindLemmas
+pub mod KindSize
+pub mod LawfulLemmas
+pub mod SameLemmas
 pub mod NameLemmas
 pub mod SignatureSteps
 pub mod SignatureFronts
@@ -10,3 +14,6 @@ pub mod ReadingLemmas
 pub mod SpellingLemmas
 pub mod SignatureAnswers
 pub mod TypeLemmas
+pub mod TypedLemmas
+pub mod TypedTests
+pub mod Verdicts

@@ -39,7 +39,7 @@ types_all [] = refl
 types_all (d ∷ ds) = ap (λ (ks : Kinds). kind (type_of d) ks) (types_all ds)
 
 -- the types of the first values, and one more
-types_more : (ds : List Data) (i : ℕ) (d : Data) → slice_get ds i ≡ Some d → map type_of (take (i + 1) ds) ≡ map type_of (take i ds) ++ type_of d ∷ []
+pub types_more : (ds : List Data) (i : ℕ) (d : Data) → slice_get ds i ≡ Some d → map type_of (take (i + 1) ds) ≡ map type_of (take i ds) ++ type_of d ∷ []
 types_more ds i d e =
     ap (map type_of) (take_more ds i d (slice_get_within ds i d e)) ∙ (map-append type_of (take i ds) (get_or ds i d ∷ []) ∙ ap (λ (x : Data). map type_of (take i ds) ++ type_of x ∷ []) (get_or_from_slice_get ds i d d e))
 

@@ -7,7 +7,9 @@ pub mod KindView
 pub mod Kinds
 pub mod Names
 pub mod OpenView
+pub mod Shapes
 pub mod SignatureFaults
 pub mod SignatureReading
 pub mod SignatureView
 pub mod Signatures
+pub mod WellTyped

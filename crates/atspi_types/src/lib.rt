@@ -3,6 +3,7 @@
 
 mod borrowed;
 mod fault;
+mod laws;
 mod names;
 mod parser;
 mod signature;
@@ -12,6 +13,7 @@ mod value;
 
 pub use borrowed::{Run, ValueRef};
 pub use fault::{Fault, Order, ReadFault};
+pub use laws::tests_decide;
 pub use names::{BusName, Interface, Member, NameFault, Path};
 pub use signature::Signature;
 pub use ty::{EntryType, Ty, Tys};

@@ -4,9 +4,13 @@ ghost use Rattle.std.specs.Prelude.{◌≡◌, [], ◌∷◌, ◌++◌, IfOk, On
 ghost use Rattle.atspi_types.specs.Kinds.{alignment, is_basic};
 ghost use Rattle.atspi_types.specs.KindView.{kind_of, kinds_in};
 
+mod lawful;
+mod same;
+mod shape;
 mod spelling;
 
 use atspi_base::NoMemory;
+pub(crate) use shape::Shape;
 pub(crate) use spelling::Extent;
 use std::alloc::Global;
 

@@ -4,9 +4,11 @@ ghost use Rattle.std.specs.Prelude.{◌≡◌, [], ◌∷◌, ◌++◌, IfOk, On
 ghost use Rattle.atspi_types.specs.DataView.{data_of, kept_data, all_data, all_pairs, pair_of};
 ghost use Rattle.atspi_types.specs.Borrowed.{ref_data, run_data};
 
+mod of_type;
 mod plain;
 mod pushing;
 mod types;
+mod well_typed;
 
 use crate::borrowed::{Run, ValueRef};
 use crate::names::Path;
