@@ -1,3 +1,5 @@
+mod typed;
+
 use super::*;
 use atspi_base::{Bytes, Text};
 use std::test::*;
@@ -191,11 +193,19 @@ fn names_are_read_by_their_rule(rt: HostRuntime) -> Result<(), Fail> {
     for (bytes, due) in table {
         assert_eq!(rt; reads(&rt, bytes), due, "reading {bytes:?}");
     }
-    let lengths: [(&[(&[u8], u32)], (bool, bool, bool, bool)); 6] = [
+    let lengths: [(&[(&[u8], u32)], (bool, bool, bool, bool)); 8] = [
         (&[(b"/a", 200)], (true, false, false, false)),
         (&[(b"a.", 127), (b"b", 1)], (false, true, true, false)),
         (&[(b"a.", 127), (b"b", 2)], (false, false, false, false)),
         (&[(b":1.", 85)], (false, false, false, false)),
+        (
+            &[(b":", 1), (b"1.", 126), (b"22", 1)],
+            (false, true, false, false),
+        ),
+        (
+            &[(b":", 1), (b"1.", 126), (b"222", 1)],
+            (false, false, false, false),
+        ),
         (&[(b"a", 255)], (false, false, false, true)),
         (&[(b"a", 256)], (false, false, false, false)),
     ];

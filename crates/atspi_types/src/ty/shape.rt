@@ -36,7 +36,7 @@ impl Ty {
             Ty::Variant => Shape::Code(b'v'),
             Ty::Array(element) => Shape::Array(element),
             Ty::Struct(fields) => Shape::Struct(fields),
-            Ty::Dict(key, value) => Shape::Dict(key, value),
+            Ty::Dict(entry) => Shape::Dict(&entry.key, &entry.value),
         }
     }
 }
