@@ -15,3 +15,5 @@ pub mod ByteArrays
 pub mod WritingSteps
 pub mod WritingLists
 pub mod WritingContainers
+pub mod Typing
+pub mod PlainBodies

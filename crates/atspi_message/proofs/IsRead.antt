@@ -26,7 +26,7 @@ use Rattle.atspi_message.proofs.Walk.{GoodFound}
 use Rattle.atspi_message.proofs.Rest.{IsWhole, end_valid, body_lawful, body_signature}
 use Rattle.atspi_message.proofs.Sound.{names_read, replies_read, required_read, RestRead, MessageRead, message_read}
 use Rattle.atspi_message.proofs.Placed.{fields_bytes, fields_end, four, Layout, layout_from}
-use Rattle.atspi_message.proofs.Typing.{fields_typed}
+use Rattle.atspi_marshal.proofs.Typing.{fields_typed}
 
 -- the fields
 

@@ -12,7 +12,6 @@ pub mod Body
 pub mod Rest
 pub mod Whole
 pub mod Placed
-pub mod Typing
 pub mod Sound
 pub mod IsRead
 pub mod IsSpelled
@@ -26,4 +25,3 @@ pub mod FieldWriting
 pub mod BodyTypes
 pub mod FieldsWriting
 pub mod MessageWriting
-pub mod PlainBodies

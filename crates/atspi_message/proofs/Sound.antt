@@ -31,7 +31,7 @@ use Rattle.atspi_message.proofs.Body.{Stand, one_at, body_read}
 use Rattle.atspi_message.proofs.Rest.{IsWhole, fields_valid, end_valid, body_lawful, types_found}
 use Rattle.atspi_message.proofs.Whole.{none_good}
 use Rattle.atspi_message.proofs.Placed.{fields_bytes, fields_end, four, Layout, layout_from}
-use Rattle.atspi_message.proofs.Typing.{fields_typed}
+use Rattle.atspi_marshal.proofs.Typing.{fields_typed}
 
 -- names are good
 

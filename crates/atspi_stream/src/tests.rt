@@ -114,3 +114,33 @@ fn a_long_stream_is_linear_work(rt: HostRuntime) {
     let some = repeated(rt.alloc(), &HELLO, 10_000);
     assert_eq!(rt; byte_by_byte(rt.alloc(), &some), (10_000, 0));
 }
+
+/// A message of a type without a meaning, as far as the first of its two arrays of bytes: 32 bytes of header, and a length of
+/// 67,108,844. With both arrays it has 134,217,728 bytes, as many as a message may have.
+const LONGEST: [u8; 36] = *b"l\x05\0\x01\xe0\xff\xff\x07\x05\0\0\0\x0a\0\0\0\
+\x08\x01g\0\x04ayay\0\0\0\0\0\0\0\xec\xff\xff\x03";
+
+#[test]
+fn the_longest_message_is_given(rt: HostRuntime) -> Result<(), Fail> {
+    let array = vec![in rt.alloc(); 7u8; 67_108_844]?;
+    let pieces: [&[u8]; 4] = [&LONGEST, &array, &LONGEST[32..], &array];
+    let mut feeder = Feeder::new(rt.alloc());
+    for piece in pieces {
+        assert_eq!(rt; next_of(&mut feeder), (0, 0));
+        feeder.feed(piece)?;
+    }
+    assert_eq!(rt; feeder.len(), 134_217_728);
+    match feeder.next()? {
+        Got::Message(message) => {
+            assert_eq!(rt; (message.serial, message.body.len()), (5, 2));
+        }
+        _ => assert!(rt; false, "no message"),
+    }
+    assert_eq!(rt; (next_of(&mut feeder), feeder.len()), ((0, 0), 0));
+    // a body that is one byte longer passes the limit
+    let mut longer = LONGEST;
+    longer[4] = 0xe1;
+    feeder.feed(&longer)?;
+    assert_eq!(rt; (next_of(&mut feeder), feeder.len()), ((4, 25), 36));
+    Ok(())
+}

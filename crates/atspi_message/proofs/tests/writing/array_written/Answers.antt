@@ -1,4 +1,4 @@
-use Rattle.atspi_message.proofs.PlainBodies.{array_typed}
+use Rattle.atspi_marshal.proofs.PlainBodies.{array_typed}
 use Rattle.atspi_message.proofs.tests.writing.array_written.Goals as goal
 
 pub one_written-requires : goal.one_written-requires

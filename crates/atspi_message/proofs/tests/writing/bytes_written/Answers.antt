@@ -1,5 +1,5 @@
 use Rattle.atspi_types.specs.DataView.{all_data}
-use Rattle.atspi_message.proofs.PlainBodies.{plain_typed}
+use Rattle.atspi_marshal.proofs.PlainBodies.{plain_typed}
 use Rattle.atspi_message.proofs.tests.writing.bytes_written.Goals as goal
 
 pub written-requires : goal.written-requires
