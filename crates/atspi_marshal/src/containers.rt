@@ -497,10 +497,9 @@ fn variant_body(
     ensures within { IfOk result (λ x. (place ≤ x.1) × (x.1 ≤ bound.end)) }
 {
     match signature_at(alloc, input, place) {
-        Ok(signature) => match signature.types() {
-            [] => Err(bad(place, 16)),
-            [ty] => inner(alloc, input, levels, ty, bound, place),
-            [_, _, ..] => Err(bad(place, 16)),
+        Ok(signature) => match signature.single() {
+            Some(ty) => inner(alloc, input, levels, ty, bound, place),
+            None => Err(bad(place, 16)),
         },
         Err(ReadFault::Bad(fault)) => {
             if levels == 0 {
@@ -519,13 +518,13 @@ fn inner(
     alloc: Global,
     input: &Marshalled,
     levels: u8,
-    ty: &Ty,
+    ty: Ty,
     bound: Bound,
     place: usize,
 ) -> Result<(Value, usize), ReadFault>
     requires at { place + 2 + byte_in (input_of input.now) place ≤ bound.end }
     requires end { (bound.end ≤ length input.now.bytes.now) × (length input.now.bytes.now < 4294967288) }
-    ensures read { Gives (λ x. (data_of x.0, x.1)) result (inner_at (levels == 0) (read (input_of input.now) (levels - 1)) (input_of input.now) bound place (kind_of ty.now)) }
+    ensures read { Gives (λ x. (data_of x.0, x.1)) result (inner_at (levels == 0) (read (input_of input.now) (levels - 1)) (input_of input.now) bound place (kind_of ty)) }
     ensures within { IfOk result (λ x. (place ≤ x.1) × (x.1 ≤ bound.end)) }
 {
     let len = byte_at(input, place) as usize;
@@ -535,6 +534,6 @@ fn inner(
     if byte_at(input, place + 1 + len) != 0 {
         return Err(bad(place + 1 + len, 12));
     }
-    let (item, end) = value(alloc, input, levels - 1, ty, bound, place + 2 + len)?;
-    Ok((Value::Variant(ty.copy(alloc)?, Box::new(alloc, item)?), end))
+    let (item, end) = value(alloc, input, levels - 1, &ty, bound, place + 2 + len)?;
+    Ok((Value::Variant(ty, Box::new(alloc, item)?), end))
 }

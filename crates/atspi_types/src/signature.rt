@@ -1,6 +1,6 @@
 //! Signatures: lists of types within the limits of the wire.
 
-ghost use Rattle.std.specs.Prelude.{◌≡◌, ◌++◌, ◌↔◌, List, ℕ, IfOk, IfSome, IsSome, IsTrue, OnOk, OnErr, Ok, map};
+ghost use Rattle.std.specs.Prelude.{◌≡◌, [], ◌∷◌, ◌++◌, ◌↔◌, List, ℕ, IfOk, IfSome, IsSome, IsTrue, OnOk, OnErr, Ok, length, map};
 ghost use Rattle.atspi_types.specs.Kinds.{Kinds, kinds_of, AreLawful};
 ghost use Rattle.atspi_types.specs.KindView.{kind_of, kinds_in};
 ghost use Rattle.atspi_types.specs.Signatures.{signature_bytes, is_signature, IsSignature, FitsSignature};
@@ -64,6 +64,14 @@ impl Signature {
         ensures within { IsSignature (signature_kinds self.now) }
     {
         self.types.as_slice()
+    }
+
+    /// The type, where it is one alone.
+    pub fn single(self) -> Option<Ty>
+        ensures is { IsSome result ↔ (length (signature_types self) ≡ 1) }
+        ensures ty { IfSome result (λ ty. signature_types self ≡ kind_of ty ∷ []) }
+    {
+        self.types.single()
     }
 
     /// Appends the spelling. After want of memory the bytes are as before.

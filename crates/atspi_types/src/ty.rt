@@ -1,6 +1,6 @@
 //! Types of values.
 
-ghost use Rattle.std.specs.Prelude.{◌≡◌, [], ◌∷◌, ◌++◌, IfOk, OnOk, OnErr, map, length, ◌==◌};
+ghost use Rattle.std.specs.Prelude.{◌≡◌, ◌↔◌, [], ◌∷◌, ◌++◌, IfOk, IfSome, IsSome, OnOk, OnErr, map, length, ◌==◌};
 ghost use Rattle.atspi_types.specs.Kinds.{alignment, is_basic};
 ghost use Rattle.atspi_types.specs.KindView.{kind_of, kinds_in};
 
@@ -100,6 +100,15 @@ impl Tys {
     {
         self.items.push(ty)?;
         Ok(())
+    }
+
+    /// The type, where it is one alone.
+    pub(crate) fn single(self) -> Option<Ty>
+        ensures is { IsSome result ↔ (length (kinds_in self) ≡ 1) }
+        ensures ty { IfSome result (λ ty. kinds_in self ≡ kind_of ty ∷ []) }
+    {
+        let mut items = self.items;
+        if items.len() == 1 { items.pop() } else { None }
     }
 
     /// An equal list.

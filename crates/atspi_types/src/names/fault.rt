@@ -31,8 +31,7 @@ pub fn ascii_text(alloc: Global, bytes: &[u8]) -> Result<String, AllocError>
     requires { IsAscii bytes.now }
     ensures { IfOk result (λ text. string_bytes text ≡ bytes.now) }
 {
-    let Ok(text) = std::str::from_utf8(bytes) else {
-        unreachable!()
-    };
+    // SAFETY: ASCII is UTF-8, so the bytes need not be looked at once more.
+    let text = unsafe { std::str::from_utf8_unchecked(bytes) };
     String::from_str(alloc, text)
 }

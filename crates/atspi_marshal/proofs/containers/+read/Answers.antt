@@ -8,11 +8,13 @@ use Rattle.atspi_marshal.specs.Faults.{entry_kind}
 use Rattle.atspi_marshal.specs.Reading.{input_of, read, elements_at, single_at, level, struct_of, structs_in, deep_at}
 use Rattle.std.specs.Prelude.{◌==◌}
 use Rattle.std.proofs.Common.{◌-◌, ◌+◌, ◌%◌, ℕ, Ok, Result, length, map}
+use Rattle.std.proofs.lemmas.Bool.{false≢true}
 use Rattle.std.proofs.lemmas.List.{length-map}
-use Rattle.atspi_types.specs.Kinds.{Kind, Kinds}
+use Rattle.atspi_types.specs.Kinds.{Kind}
+use Rattle.atspi_types.specs.SignatureView.{signature_types}
 use Rattle.atspi_types.specs.declared.fault.Fault.{Fault}
 use Rattle.atspi_types.proofs.DataLemmas.{data_of-Dict}
-use Rattle.atspi_marshal.proofs.Answers.{empty_deep, not_one, dictionary_made, made_at, named_at}
+use Rattle.atspi_marshal.proofs.Answers.{empty_deep, not_one, dictionary_made, made_at}
 use Rattle.atspi_marshal.proofs.ByteArrays.{bytes_given}
 use Rattle.atspi_marshal.proofs.Levels.{read_is, types_in-kinds_of, level_single}
 use Rattle.atspi_marshal.proofs.Loops.{goes_on, structs_in-append}
@@ -132,12 +134,12 @@ dictionary_body-returns-clause-read t c =
     dictionary_made (read i c.args.levels) i key value c.args.place c.u32_at-len.result c.in_ok-start.start (all_pairs c.in_ok-pairs.pairs) c.u32_at-len.ensures c.in_ok-start.ensures.place c.in_ok-pairs.ensures.read
     ∙ ap (λ (d : Data). made_at d (c.args.place + 4 + (8 - (c.args.place + 4) % 8) % 8 + c.u32_at-len.result)) same
 
-pub variant_body-returns-in-Ok-clause-read : goal.variant_body-returns-in-Ok-clause-read
-variant_body-returns-in-Ok-clause-read t c =
+pub variant_body-returns-in-None-clause-read : goal.variant_body-returns-in-None-clause-read
+variant_body-returns-in-None-clause-read t c =
     let i = input_of c.args.input.now in
-    let types = map kind_of c.types.result.now in
-    let many : length types ≡ 1 → ⊥ = λ one. omega (arith, simp length-map at one, c.in-len2-up.len_at_least) in
-    rw c.bad-in-len2-up.ensures (not_one (c.args.levels == 0) (read i (c.args.levels - 1)) i c.args.bound c.args.place types many (c.in-Ok.ensures.read ∙ ap (λ (ks : List Kind). named_at ks) (sym c.types.ensures.types)))
+    let types = signature_types c.in-Ok.signature in
+    let many : length types ≡ 1 → ⊥ = λ one. false≢true (c.in-None.ensures.is.1 one) in
+    rw c.bad.ensures (not_one (c.args.levels == 0) (read i (c.args.levels - 1)) i c.args.bound c.args.place types many c.in-Ok.ensures.read)
 
 pub items_of-returns-then-is_byte : goal.items_of-returns-then-is_byte
 items_of-returns-then-is_byte t c =
