@@ -61,15 +61,12 @@ const LINES: [(&str, Option<Seen<'static>>); 14] = [
 #[test]
 fn each_form_of_a_line_is_read(rt: HostRuntime) -> Result<(), Fail> {
     for (spelled, want) in LINES {
-        match parse_line(rt.alloc(), spelled.as_bytes()) {
-            Ok(line) => assert!(rt; want.is_some() && seen(&line) == want, "line {spelled}"),
-            Err(fault) => {
-                assert!(rt;
-                    want.is_none() && fault == LineFault::Form,
-                    "line {spelled}"
-                );
-            }
-        }
+        let answer = match parse_line(rt.alloc(), spelled.as_bytes()) {
+            Ok(line) => seen(&line) == want && want.is_some(),
+            Err(LineFault::Form) => want.is_none(),
+            Err(LineFault::NoMemory) => return Err(Fail::new("out of memory")),
+        };
+        assert!(rt; answer, "line {spelled}");
     }
     Ok(())
 }
