@@ -13,14 +13,22 @@ mod tests;
 
 use standard::{StandardInput, StandardOutput};
 use std::env;
+use std::io::ErrorKind;
 use std::process::ExitCode;
 
 fn main(rt: HostRuntime) -> ExitCode {
     let mut words = Vec::new(rt.alloc());
-    // words that are no text are none of a command
-    if let Ok(args) = env::args(&rt) {
-        for word in args.skip(1) {
-            if words.push(word).is_err() {
+    match env::args(&rt) {
+        Ok(args) => {
+            for word in args.skip(1) {
+                if words.push(word).is_err() {
+                    return ExitCode::from(5);
+                }
+            }
+        }
+        Err(error) => {
+            // words that are no text are none of a command
+            if error.kind() == ErrorKind::OutOfMemory {
                 return ExitCode::from(5);
             }
         }

@@ -1,3 +1,5 @@
+//! Scripts as worked out by hand, and words that are no command.
+
 use crate::run::run;
 use atspi_base::{MemSink, MemSource};
 use std::alloc::Global;

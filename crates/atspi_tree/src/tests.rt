@@ -1,5 +1,6 @@
 //! Edits with their steps and refusals, the rows after them, and the limits, as the table of edits has them.
 
+ghost use Rattle.std.specs.Prelude.{IfOk};
 ghost use Rattle.atspi_forest.specs.Edits.{IsEdit};
 ghost use Rattle.atspi_tree.specs.Calls.{IsEditSoFar};
 
@@ -214,6 +215,61 @@ fn rows_after_edits(rt: HostRuntime) -> Result<(), Fail> {
         assert_eq!(rt; row(&tree, node), want, "node {node}");
     }
     assert_eq!(rt; row(&before, 2), Some((Some(0), 43, "a", [3].as_slice())));
+    Ok(())
+}
+
+/// An insert of a node that has all that a node can have.
+fn rich_insert(alloc: Global) -> Result<Edit, Fail>
+    ensures so_far { IfOk result IsEditSoFar }
+    ensures lawful { IfOk result IsEdit }
+{
+    let mut actions = Texts::new(alloc);
+    actions.push(letters(alloc, 5)?)?;
+    Ok(Edit::Insert {
+        parent: 0,
+        index: 0,
+        seed: Seed {
+            role: 62,
+            name: letters(alloc, 2)?,
+            text: Some(letters(alloc, 3)?),
+            editable: true,
+            columns: Some(1024),
+            select: true,
+            actions,
+        },
+    })
+}
+
+/// Whether a seed is that of the insert.
+fn is_rich(seed: &Seed) -> bool {
+    let has_text = match &seed.text {
+        Some(text) => text.as_str() == "aaa",
+        None => false,
+    };
+    let has_action = match seed.actions.as_slice() {
+        [action] => action.as_str() == "aaaaa",
+        _ => false,
+    };
+    let has_flags = seed.editable && seed.select && seed.columns == Some(1024);
+    has_text && has_action && has_flags && seed.role == 62 && seed.name.as_str() == "aa"
+}
+
+/// Whether the steps are the addition of node 1 with that seed.
+fn adds_rich(steps: &[Step]) -> bool {
+    match steps {
+        [Step::Add { node, seed, .. }] => *node == 1 && is_rich(seed),
+        _ => false,
+    }
+}
+
+#[test]
+fn a_node_begins_with_all_that_its_seed_says(rt: HostRuntime) -> Result<(), Fail> {
+    let alloc = rt.alloc();
+    let mut tree = demo(alloc)?;
+    let wish = rich_insert(alloc)?;
+    assert!(rt; adds_rich(tree.steps_of(&wish)?.as_slice()));
+    edit(&mut tree, &wish)?;
+    assert!(rt; tree.has(1) && tree.faces(1) == 31 && tree.role(1) == 62);
     Ok(())
 }
 

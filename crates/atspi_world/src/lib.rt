@@ -19,3 +19,6 @@ pub use line::{LINE_LIMIT, Line, LineFault, NAME_LIMIT, parse_line};
 pub use lines::next_line;
 pub use text::event_text;
 pub use world::{ActFault, Refusal, World};
+
+#[cfg(test)]
+mod tests;
