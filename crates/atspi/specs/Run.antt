@@ -7,17 +7,38 @@ use Rattle.atspi_world.specs.Lines.{lines_read, lines_of, whole_lines}
 abbrev pub IsReplay : List (List ℕ) → Type 0
 IsReplay words = words ≡ codes "replay" ∷ codes "--brief" ∷ []
 
--- the word is `check`
+-- the words are one word alone
+abbrev pub IsAlone : List (List ℕ) → List ℕ → Type 0
+IsAlone words word = words ≡ word ∷ []
+
+-- the word is `check`, `--help` or `--version`
 abbrev pub IsCheck : List (List ℕ) → Type 0
-IsCheck words = words ≡ codes "check" ∷ []
+IsCheck words = IsAlone words (codes "check")
+
+abbrev pub IsHelp : List (List ℕ) → Type 0
+IsHelp words = IsAlone words (codes "--help")
+
+abbrev pub IsVersion : List (List ℕ) → Type 0
+IsVersion words = IsAlone words (codes "--version")
 
 -- the words are those of a command
 abbrev pub IsCommand : List (List ℕ) → Type 0
-IsCommand words = IsReplay words ⊎ IsCheck words
+IsCommand words = IsReplay words ⊎ (IsCheck words ⊎ (IsHelp words ⊎ IsVersion words))
 
 -- what is written where they are not
 abbrev pub usage : List ℕ
 usage = codes "usage: atspi replay, check, make, bus, registry, app or read" ++ 10 ∷ []
+
+-- what is written for `--help` and for `--version`
+abbrev pub help : List ℕ
+help =
+    codes "atspi replay --brief  a script on standard input: what each reader shows" ++ 10
+    ∷ (codes "atspi check           D-Bus messages on standard input: a line for each, or the first fault" ++ 10
+    ∷ (codes "atspi --help          this text" ++ 10
+    ∷ (codes "atspi --version       the version" ++ 10 ∷ [])))
+
+abbrev pub version : List ℕ
+version = codes "atspi 0.1.0" ++ 10 ∷ []
 
 -- the text is what was read of the input: all of it, or its front
 pub record WasRead (ended : Bool) (input text : List ℕ) : Type 0 where

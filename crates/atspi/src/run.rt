@@ -1,22 +1,34 @@
 //! The top call: what the words of a command line do, and with which status they end.
 
-ghost use Rattle.std.specs.Prelude.{◌≡◌, ◌⊎◌, ◌↔◌, IsTrue, map, string_bytes};
+ghost use Rattle.std.specs.Prelude.{◌≡◌, ◌⊎◌, ◌↔◌, IsTrue, MatchResult, map, string_bytes};
 ghost use Rattle.std.specs.Io.KnownBytes.{Appends};
 ghost use Rattle.atspi_base.specs.Outside.{AppendsPart};
 ghost use Rattle.atspi.specs.Play.{Played, PlayedPart, PlayedRefused};
 ghost use Rattle.atspi_check.specs.Check.{CheckedAll, CheckedFault, CheckedTaken, CheckedLimit, CheckedSome, IsCheckStatus, Writes, WritesPart};
 ghost use Rattle.atspi_check.specs.Causes.{Causes};
-ghost use Rattle.atspi.specs.Run.{IsCheck, IsCommand, IsReplay, IsReplayStatus, OfAll, OfFront, OfLimit, OfReading, usage};
+ghost use Rattle.atspi.specs.Run.{IsAlone, IsCheck, IsCommand, IsHelp, IsReplay, IsReplayStatus, IsVersion, OfAll, OfFront, OfLimit, OfReading, help, usage, version};
 
 use crate::input::{End, LIMIT, read_all};
 use crate::play::{Stop, play_lines};
-use atspi_base::{Sink, Source, write_all};
+use atspi_base::{Failed, Sink, Source, write_all};
 use atspi_check::{CHECK_LIMIT, check};
 use std::alloc::Global;
 
+/// The line that is written for words that name no command.
+const USAGE: &[u8] = b"usage: atspi replay, check, make, bus, registry, app or read\n";
+
+/// What `--help` writes: the commands that stand.
+const HELP: &[u8] = b"atspi replay --brief  a script on standard input: what each reader shows\n\
+atspi check           D-Bus messages on standard input: a line for each, or the first fault\n\
+atspi --help          this text\n\
+atspi --version       the version\n";
+
+/// What `--version` writes.
+const VERSION: &[u8] = b"atspi 0.1.0\n";
+
 /// Does what the words say, and answers the status. `replay --brief` reads a script and writes the brief text of its trace;
-/// `check` reads a stream of messages and writes a line for each, and one for the first fault; all other words give status 2
-/// and a line on how the program is used.
+/// `check` reads a stream of messages and writes a line for each, and one for the first fault; `--help` and `--version` write
+/// a text; all other words give status 2 and a line on how the program is used.
 ///
 /// Status 0: the input was read to its end, and all its lines or messages were done. 1: a line is refused, and those before
 /// it were done. 2: the words name no command. 3: the source failed, behind whole lines or messages that were done. 4: the
@@ -29,6 +41,11 @@ pub fn run<S: Source, K: Sink>(alloc: Global, words: &[String], source: &mut S, 
     ensures check_status { IsCheck (map string_bytes words.now) → IsCheckStatus result }
     ensures other { (IsCommand (map string_bytes words.now) → ⊥) → (result ≡ 2) ⊎ (result ≡ 4) }
     ensures usage { result ≡ 2 → Appends (K.written sink.old) (K.written sink.new) usage }
+    ensures told_status { IsHelp (map string_bytes words.now) ⊎ IsVersion (map string_bytes words.now) → (result ≡ 0) ⊎ (result ≡ 4) }
+    ensures help { IsHelp (map string_bytes words.now) → result ≡ 0 → Appends (K.written sink.old) (K.written sink.new) help }
+    ensures version { IsVersion (map string_bytes words.now) → result ≡ 0 → Appends (K.written sink.old) (K.written sink.new) version }
+    ensures write_help { IsHelp (map string_bytes words.now) → result ≡ 4 → AppendsPart (K.written sink.old) (K.written sink.new) help }
+    ensures write_version { IsVersion (map string_bytes words.now) → result ≡ 4 → AppendsPart (K.written sink.old) (K.written sink.new) version }
 
     ensures done { IsReplay (map string_bytes words.now) → result ≡ 0 → OfAll LIMIT (S.left source.old) (λ lines. Played lines (K.written sink.old) (K.written sink.new)) }
     ensures refused { IsReplay (map string_bytes words.now) → result ≡ 1 → OfReading (S.left source.old) (λ lines. PlayedRefused lines (K.written sink.old) (K.written sink.new)) }
@@ -52,14 +69,24 @@ pub fn run<S: Source, K: Sink>(alloc: Global, words: &[String], source: &mut S, 
     if is_replay(words) {
         return replay(alloc, source, sink);
     }
-    if is_check(words) {
+    if is_alone(words, "check") {
         return check(alloc, source, sink);
     }
-    match write_all(
-        sink,
-        b"usage: atspi replay, check, make, bus, registry, app or read\n",
-    ) {
-        Ok(()) => 2,
+    if is_alone(words, "--help") {
+        return status_of(0, write_all(sink, HELP));
+    }
+    if is_alone(words, "--version") {
+        return status_of(0, write_all(sink, VERSION));
+    }
+    status_of(2, write_all(sink, USAGE))
+}
+
+/// The status that is due where a text was written, else 4.
+fn status_of(due: u8, written: Result<(), Failed>) -> u8
+    ensures { MatchResult written (λ _. result ≡ due) (λ _. result ≡ 4) }
+{
+    match written {
+        Ok(()) => due,
         Err(_) => 4,
     }
 }
@@ -74,12 +101,12 @@ fn is_replay(words: &[String]) -> bool
     }
 }
 
-/// Whether the word is `check`.
-fn is_check(words: &[String]) -> bool
-    ensures { IsTrue result ↔ IsCheck (map string_bytes words.now) }
+/// Whether the words are this one alone.
+fn is_alone(words: &[String], word: &str) -> bool
+    ensures { IsTrue result ↔ IsAlone (map string_bytes words.now) word.now }
 {
     match words {
-        [word] => word.as_str() == "check",
+        [only] => only.as_str() == word,
         _ => false,
     }
 }

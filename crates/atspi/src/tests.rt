@@ -159,22 +159,63 @@ fn scripts_are_replayed_as_worked_out_by_hand(rt: HostRuntime) -> Result<(), Fai
     Ok(())
 }
 
+/// Runs the program on one word and no input, and asserts the status and the text that are due.
+fn assert_told(
+    rt: &impl Abort,
+    alloc: Global,
+    word: &str,
+    status: u8,
+    text: &[u8],
+) -> Result<(), Fail> {
+    let mut words = Vec::new(alloc);
+    words.push(String::from_str(alloc, word)?)?;
+    let mut source = MemSource::new(Vec::new(alloc), Vec::new(alloc));
+    let mut sink = MemSink::new(alloc, Vec::new(alloc));
+    assert_eq!(rt;
+        run(alloc, &words, &mut source, &mut sink),
+        status,
+        "word: {word}"
+    );
+    assert_eq!(rt; sink.bytes(), text, "word: {word}");
+    Ok(())
+}
+
 #[test]
-fn other_words_are_told_how_the_program_is_used(rt: HostRuntime) -> Result<(), Fail> {
-    for other in ["replay", "--brief", "replay --brief", "checks"] {
-        let mut words = Vec::new(rt.alloc());
-        words.push(String::from_str(rt.alloc(), other)?)?;
-        let mut source = MemSource::new(Vec::new(rt.alloc()), Vec::new(rt.alloc()));
-        let mut sink = MemSink::new(rt.alloc(), Vec::new(rt.alloc()));
-        assert_eq!(rt;
-            run(rt.alloc(), &words, &mut source, &mut sink),
+fn one_word_is_told_its_text(rt: HostRuntime) -> Result<(), Fail> {
+    let table: [(&str, u8, &[u8]); 7] = [
+        (
+            "replay",
             2,
-            "words: {other}"
-        );
-        assert_eq!(rt;
-            sink.bytes(),
-            b"usage: atspi replay, check, make, bus, registry, app or read\n".as_slice()
-        );
+            b"usage: atspi replay, check, make, bus, registry, app or read\n",
+        ),
+        (
+            "--brief",
+            2,
+            b"usage: atspi replay, check, make, bus, registry, app or read\n",
+        ),
+        (
+            "replay --brief",
+            2,
+            b"usage: atspi replay, check, make, bus, registry, app or read\n",
+        ),
+        (
+            "checks",
+            2,
+            b"usage: atspi replay, check, make, bus, registry, app or read\n",
+        ),
+        ("check", 0, b""),
+        ("--version", 0, b"atspi 0.1.0\n"),
+        (
+            "--help",
+            0,
+            b"atspi replay --brief  a script on standard input: what each reader shows\n\
+atspi check           D-Bus messages on standard input: a line for each, or the first fault\n\
+atspi --help          this text\n\
+atspi --version       the version\n",
+        ),
+    ];
+    for (word, status, text) in table {
+        assert_told(&rt, rt.alloc(), word, status, text)?;
     }
     Ok(())
 }
