@@ -40,9 +40,9 @@ fn put_message(start: u64, message: &Message, out: &mut Bytes) -> Result<(), NoM
     ensures { OnOk result (out.new ≡ out.old ++ message_line start (envelope_of message.now)) }
 {
     put_decimal(start, out)?;
-    out.extend(b" ")?;
+    out.push(b' ')?;
     message_text(message, out)?;
-    out.extend(b"\n")
+    out.push(b'\n')
 }
 
 /// Appends the line of a fault.
@@ -51,11 +51,11 @@ fn put_fault(start: u64, place: u64, reason: u8, out: &mut Bytes) -> Result<(), 
 {
     out.extend(b"fault ")?;
     put_decimal(start, out)?;
-    out.extend(b" ")?;
+    out.push(b' ')?;
     put_decimal(place, out)?;
-    out.extend(b" ")?;
+    out.push(b' ')?;
     put_decimal(reason as u64, out)?;
-    out.extend(b"\n")
+    out.push(b'\n')
 }
 
 /// Appends the line of a message, and writes what waits once it is a block.

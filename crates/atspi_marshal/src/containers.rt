@@ -130,6 +130,7 @@ pub fn value(
 
 /// A value of a type that is no struct.
 #[cycle(read)]
+#[inline(always)]
 fn single(
     alloc: Global,
     input: &Marshalled,
