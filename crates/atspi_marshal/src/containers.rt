@@ -10,6 +10,7 @@ ghost use Rattle.atspi_marshal.specs.Input.{number_in, byte_in, slice_in, aligne
 ghost use Rattle.atspi_marshal.specs.Faults.{entry_kind};
 ghost use Rattle.atspi_marshal.specs.Reading.{input_of, Gives, Fails, dictionary_body_at, read, single_at, array_place, array_body_at, array_at, dictionary_at, structure_at, variant_body_at, inner_at, elements_at, fields_at, short_at, deep_at, first_of, is_byte, is_structure, struct_of, structs_in};
 
+use crate::codes::plain_type;
 use crate::input::{Bound, Marshalled, bad, byte_at, slice, u32_at};
 use crate::plain::{
     boolean_value, byte_value, double_value, i16_value, i32_value, i64_value, padding, room,
@@ -497,6 +498,9 @@ fn variant_body(
     ensures read { Gives (λ x. (data_of x.0, x.1)) result (variant_body_at (levels == 0) (read (input_of input.now) (levels - 1)) (input_of input.now) bound place) }
     ensures within { IfOk result (λ x. (place ≤ x.1) × (x.1 ≤ bound.end)) }
 {
+    if let Some(ty) = plain_type(input, place) {
+        return inner(alloc, input, levels, ty, bound, place);
+    }
     match signature_at(alloc, input, place) {
         Ok(signature) => match signature.single() {
             Some(ty) => inner(alloc, input, levels, ty, bound, place),

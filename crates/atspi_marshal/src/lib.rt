@@ -1,6 +1,7 @@
 //! Values and their bytes, both ways, in both byte orders.
 #![tactic(auto)]
 
+mod codes;
 mod containers;
 mod decoding;
 mod input;
