@@ -15,13 +15,30 @@ pub fn put_header(message: &Message, out: &mut Bytes) -> Result<(), NoMemory>
     ensures ok { OnOk result (out.new ≡ out.old ++ spaced (header_words (envelope_of message.now))) }
     ensures front { take (length out.old) out.new ≡ out.old }
 {
-    put_type(message.kind, out)?;
-    put_order(message.order, out)?;
+    put_front(message.kind, message.order, out)?;
     put_decimal(message.flags as u64, out)?;
     out.push(b' ')?;
     put_decimal(message.serial as u64, out)?;
     put_fields(message, out)?;
     Ok(())
+}
+
+/// Appends the word of a message's type and the letter of its byte order, each with a space behind it. Those that most
+/// messages have are appended in one piece.
+fn put_front(kind: u8, order: Order, out: &mut Bytes) -> Result<(), NoMemory>
+    ensures ok { OnOk result (out.new ≡ out.old ++ (type_word kind ++ 32 ∷ order_letter order ∷ 32 ∷ [])) }
+    ensures front { take (length out.old) out.new ≡ out.old }
+{
+    match (kind, order) {
+        (1, Order::Little) => out.extend(b"call l "),
+        (2, Order::Little) => out.extend(b"return l "),
+        (3, Order::Little) => out.extend(b"error l "),
+        (4, Order::Little) => out.extend(b"signal l "),
+        _ => {
+            put_type(kind, out)?;
+            put_order(order, out)
+        }
+    }
 }
 
 /// Appends the word of a message's type.
