@@ -19,10 +19,11 @@ def text(value):
 
 def array(elements, alignment):
     """An array at a multiple of 8 whose elements stand at multiples of the alignment."""
-    items = b""
+    items = bytearray()
     for element in elements:
-        items = padded(items, alignment) + element
-    return padded(struct.pack("<I", len(items)), alignment) + items
+        items += b"\0" * (-len(items) % alignment)
+        items += element
+    return padded(struct.pack("<I", len(items)), alignment) + bytes(items)
 
 
 def message(signature, body):
