@@ -20,9 +20,21 @@ ReadsText (Ok t) bytes = text_in bytes ≡ Ok t
 ReadsText (Err NoMemory) bytes = Unit {0}
 ReadsText (Err e) bytes = text_in bytes ≡ Err e
 
+-- the same of a text where it lies: memory is never wanted
+abbrev pub ReadsStr : {S : Type 0} → Result S TextFault → List ℕ → Type 0
+ReadsStr (Ok t) bytes = text_in bytes ≡ Ok (chars bytes)
+ReadsStr (Err NoMemory) bytes = ⊥
+ReadsStr (Err e) bytes = text_in bytes ≡ Err e
+
 -- the place of a fault is one of the bytes
 abbrev pub PlaceBelow : Result Text TextFault → ℕ → Type 0
 PlaceBelow (Ok t) n = Unit {0}
 PlaceBelow (Err (Zero i)) n = i < n
 PlaceBelow (Err (Utf8 i)) n = i < n
 PlaceBelow (Err NoMemory) n = Unit {0}
+
+abbrev pub StrPlaceBelow : {S : Type 0} → Result S TextFault → ℕ → Type 0
+StrPlaceBelow (Ok t) n = Unit {0}
+StrPlaceBelow (Err (Zero i)) n = i < n
+StrPlaceBelow (Err (Utf8 i)) n = i < n
+StrPlaceBelow (Err NoMemory) n = ⊥

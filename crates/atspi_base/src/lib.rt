@@ -20,4 +20,4 @@ pub use memory::{MemSink, MemSource};
 pub use outside::{Failed, NoMemory, Sink, Source, write_all};
 pub use quoted::{is_control_byte, put_in_quotes, put_quoted};
 pub use steps::Steps;
-pub use text::{Text, TextFault};
+pub use text::{Text, TextFault, read_str};

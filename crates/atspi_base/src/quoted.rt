@@ -1,6 +1,6 @@
 //! Quoted texts: how a text is written in scripts, in traces and in the texts of messages.
 
-ghost use Rattle.std.specs.Prelude.{◌≡◌, ◌≤◌, ◌<◌, [], ◌∷◌, ◌++◌, length, take, slice_index, OnOk};
+ghost use Rattle.std.specs.Prelude.{◌≡◌, ◌≤◌, ◌<◌, [], ◌∷◌, ◌++◌, length, take, slice_index, OnOk, OnErr};
 ghost use Rattle.std.specs.List.{flat_map};
 ghost use Rattle.atspi_base.specs.Quoted.{escaped, in_quotes, is_control, is_marked, quoted};
 
@@ -54,7 +54,7 @@ fn plain_front(bytes: &[u8]) -> usize
 }
 
 /// Appends bytes in quotes. After want of memory a front of that was appended.
-pub fn put_in_quotes(bytes: &[u8], out: &mut Bytes) -> Result<(), NoMemory>
+fn write_in_quotes(bytes: &[u8], out: &mut Bytes) -> Result<(), NoMemory>
     ensures ok { OnOk result (out.new ≡ out.old ++ in_quotes bytes.now) }
     ensures front { take (length out.old) out.new ≡ out.old }
 {
@@ -72,10 +72,23 @@ pub fn put_in_quotes(bytes: &[u8], out: &mut Bytes) -> Result<(), NoMemory>
     out.push(b'"')
 }
 
-/// Appends a text in quotes. After want of memory a front of that was appended.
+/// Appends bytes in quotes. After want of memory nothing was appended.
+pub fn put_in_quotes(bytes: &[u8], out: &mut Bytes) -> Result<(), NoMemory>
+    ensures ok { OnOk result (out.new ≡ out.old ++ in_quotes bytes.now) }
+    ensures err { OnErr result (out.new ≡ out.old) }
+{
+    let before = out.len();
+    let written = write_in_quotes(bytes, out);
+    if written.is_err() {
+        out.truncate(before);
+    }
+    written
+}
+
+/// Appends a text in quotes. After want of memory nothing was appended.
 pub fn put_quoted(text: &Text, out: &mut Bytes) -> Result<(), NoMemory>
     ensures ok { OnOk result (out.new ≡ out.old ++ quoted text.now) }
-    ensures front { take (length out.old) out.new ≡ out.old }
+    ensures err { OnErr result (out.new ≡ out.old) }
 {
     put_in_quotes(text.as_str().as_bytes(), out)
 }

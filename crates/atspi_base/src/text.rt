@@ -2,7 +2,7 @@
 
 ghost use Rattle.std.specs.Prelude.{◌≡◌, ◌<◌, ◌^◌, ◌↔◌, ℕ, List, length, IfOk, IsTrue, chars, string_bytes, encode_utf8_all};
 ghost use Rattle.atspi_base.specs.Text.{HasNoZero, bytes_before_zero};
-ghost use Rattle.atspi_base.specs.ReadsText.{ReadsText, PlaceBelow};
+ghost use Rattle.atspi_base.specs.ReadsText.{ReadsText, PlaceBelow, ReadsStr, StrPlaceBelow};
 ghost use Rattle.atspi_base.specs.declared.text.TextFault.TheVariants.{NoMemory};
 
 use std::alloc::{AllocError, Global};
@@ -40,6 +40,33 @@ fn before_zero(bytes: &[u8]) -> usize
     bytes.len()
 }
 
+/// The text that the bytes spell in UTF-8, where they lie. Refused at the first bad byte: `Zero` where it is a zero byte,
+/// `Utf8` where it begins a sequence that is not UTF-8; never for want of memory.
+#[tactic(auto, unfolding(crate::specs::ReadsText::text_in))]
+pub fn read_str(bytes: &[u8]) -> Result<&str, TextFault>
+    requires { length bytes.now < 2 ^ 32 }
+    ensures text { ReadsStr result bytes.now }
+    ensures lies { IfOk result (λ text. text.now ≡ bytes.now) }
+    ensures place { StrPlaceBelow result (length bytes.now) }
+{
+    let before = before_zero(bytes);
+    match std::str::from_utf8(bytes) {
+        Ok(text) => {
+            if before < bytes.len() {
+                return Err(TextFault::Zero(before as u32));
+            }
+            Ok(text)
+        }
+        Err(e) => {
+            let valid = e.valid_up_to();
+            if before < valid {
+                return Err(TextFault::Zero(before as u32));
+            }
+            Err(TextFault::Utf8(valid as u32))
+        }
+    }
+}
+
 /// How many characters the text has.
 fn count_chars(text: &str) -> usize
     ensures { result ≡ length (chars text.now) }
@@ -67,30 +94,26 @@ impl Model for Text {
 impl Text {
     /// The text that the bytes spell in UTF-8. Refused at the first bad byte: `Zero` where it is a zero byte, `Utf8` where
     /// it begins a sequence that is not UTF-8.
-    #[tactic(auto, unfolding(crate::specs::ReadsText::text_in))]
     pub fn read(alloc: Global, bytes: &[u8]) -> Result<Text, TextFault>
         requires { length bytes.now < 2 ^ 32 }
         ensures text { ReadsText result bytes.now }
         ensures place { PlaceBelow result (length bytes.now) }
     {
-        let before = before_zero(bytes);
-        match std::str::from_utf8(bytes) {
-            Ok(text) => {
-                if before < bytes.len() {
-                    return Err(TextFault::Zero(before as u32));
-                }
-                Ok(Text {
-                    string: String::from_str(alloc, text)?,
-                })
-            }
-            Err(e) => {
-                let valid = e.valid_up_to();
-                if before < valid {
-                    return Err(TextFault::Zero(before as u32));
-                }
-                Err(TextFault::Utf8(valid as u32))
-            }
-        }
+        let text = read_str(bytes)?;
+        Ok(Text {
+            string: String::from_str(alloc, text)?,
+        })
+    }
+
+    /// The text of a `str` without a zero byte, which is not looked at once more.
+    pub fn of(alloc: Global, text: &str) -> Result<Text, crate::NoMemory>
+        requires no_zero { HasNoZero text.now }
+        requires counted { length text.now < 2 ^ 32 }
+        ensures { IfOk result (λ t. t ≡ chars text.now) }
+    {
+        Ok(Text {
+            string: String::from_str(alloc, text)?,
+        })
     }
 
     /// The text as a `str`.

@@ -3,7 +3,7 @@ use Rattle.std.proofs.lemmas.List.{take_rest}
 use Rattle.std.specs.List.{flat_map}
 use Rattle.atspi_base.specs.Quoted.{escaped}
 use Rattle.atspi_base.proofs.QuotedLemmas.{run_written, byte_written}
-use Rattle.atspi_base.proofs.quoted.put_in_quotes.Goals as goal
+use Rattle.atspi_base.proofs.quoted.write_in_quotes.Goals as goal
 
 pub loop-at-preserved-then-at-bytes : goal.loop-at-preserved-then-at-bytes
 loop-at-preserved-then-at-bytes c =

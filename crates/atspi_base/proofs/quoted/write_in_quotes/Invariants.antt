@@ -1,7 +1,7 @@
 use Rattle.std.proofs.Common.{◌≡◌, ◌-◌, ◌≤◌, [], ◌∷◌, ◌++◌, take, length}
 use Rattle.std.specs.List.{flat_map}
 use Rattle.atspi_base.specs.Quoted.{escaped}
-use Rattle.atspi_base.proofs.quoted.put_in_quotes.Given as goal
+use Rattle.atspi_base.proofs.quoted.write_in_quotes.Given as goal
 
 abbrev pub invariant-loop-at : goal.invariant-loop-at
 invariant-loop-at l =
