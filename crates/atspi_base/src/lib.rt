@@ -9,8 +9,6 @@ mod memory;
 mod outside;
 mod quoted;
 mod steps;
-#[cfg(test)]
-mod tests;
 mod text;
 
 pub use bytes::Bytes;

@@ -1,4 +1,10 @@
-use super::*;
+//! Texts, lists, digits, quotes, and the fakes of the outside.
+
+use atspi_base::{
+    Bytes, Failed, Marks, MemSink, MemSource, Nums, Source, Steps, Text, TextFault, Texts,
+    hex_digit_of, is_control_byte, put_decimal, put_hex, put_in_quotes, put_quoted, put_signed,
+    write_all,
+};
 use std::test::*;
 
 /// What reading bytes as a text answers, in a form that a table can hold.

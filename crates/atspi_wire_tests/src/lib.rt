@@ -1,0 +1,5 @@
+//! Tests of the wire, through public calls alone: texts and lists, types, values, messages, streams, and messages as texts.
+#![tactic(auto)]
+
+#[cfg(test)]
+mod base;
