@@ -18,6 +18,3 @@ pub use names::{BusName, Interface, Member, NameFault, Path};
 pub use signature::Signature;
 pub use ty::{EntryType, Ty, Tys};
 pub use value::{Pairs, Value, Values};
-
-#[cfg(test)]
-mod tests;

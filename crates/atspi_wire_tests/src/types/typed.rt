@@ -1,6 +1,7 @@
 //! Types that are lawful or not, and values that are well typed or not.
 
 use super::*;
+use atspi_types::{EntryType, tests_decide};
 
 // The helpers leave out what finds no memory; then a row fails.
 

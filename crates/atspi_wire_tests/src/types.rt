@@ -1,7 +1,12 @@
+//! Signatures, names, and lists of values.
+
 mod typed;
 
-use super::*;
-use atspi_base::{Bytes, Text};
+use atspi_base::Bytes;
+use atspi_types::{
+    BusName, Interface, Member, Pairs, Path, ReadFault, Run, Signature, Ty, Tys, Value, ValueRef,
+    Values,
+};
 use std::test::*;
 
 /// What reading a signature tells: (0, the number of types), or the reason and the place.
