@@ -7,8 +7,6 @@ mod decoding;
 mod input;
 mod laws;
 mod plain;
-#[cfg(test)]
-mod tests;
 mod text;
 mod writing;
 

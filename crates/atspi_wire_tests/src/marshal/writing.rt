@@ -8,6 +8,10 @@ ghost use Rattle.atspi_types.specs.DataView.{data_of};
 
 use super::*;
 use atspi_base::NoMemory;
+use atspi_marshal::{
+    WriteFault, append_u32, begin_array, end_array, put_counted, put_padded, put_padding,
+    put_types, put_u32, put_values, set_u32,
+};
 use atspi_types::Values;
 use std::alloc::Global;
 

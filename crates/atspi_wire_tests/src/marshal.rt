@@ -17,8 +17,8 @@ mod places;
 mod signatures;
 mod writing;
 
-use super::*;
 use atspi_base::Bytes;
+use atspi_marshal::{decode, encode, is_read_again, no_front_of_another};
 use atspi_types::{Order, ReadFault, Signature, Ty, Value};
 use std::test::*;
 
