@@ -14,6 +14,3 @@ pub use atspi_marshal::WriteFault;
 pub use front::total;
 pub use laws::{has_one_reading, is_read_again, no_front_of_another};
 pub use message::Message;
-
-#[cfg(test)]
-mod tests;

@@ -6,4 +6,6 @@ mod base;
 #[cfg(test)]
 mod marshal;
 #[cfg(test)]
+mod message;
+#[cfg(test)]
 mod types;

@@ -1,10 +1,12 @@
+//! Whole messages: which bytes are one, and the first fault of those that are none.
+
 ghost use Rattle.std.specs.Prelude.{IfSome};
 ghost use Rattle.atspi_message.specs.Envelope.{envelope_of};
 ghost use Rattle.atspi_message.specs.Rules.{MeetsRules};
 
 mod writing;
 
-use super::*;
+use atspi_message::{Message, total};
 use atspi_types::ReadFault;
 use std::test::*;
 

@@ -8,8 +8,8 @@ ghost use Rattle.atspi_message.specs.Envelope.{envelope_of};
 ghost use Rattle.atspi_message.specs.Rules.{MeetsRules};
 
 use super::{BIG, BODY, HELLO, RETURN, parsed};
-use crate::{Message, WriteFault};
 use atspi_base::{Bytes, NoMemory};
+use atspi_message::{Message, WriteFault};
 use atspi_types::{BusName, Interface, Member, Order, Path, Ty, Value, Values};
 use std::alloc::Global;
 use std::test::*;
