@@ -3,8 +3,6 @@
 
 mod feeder;
 mod laws;
-#[cfg(test)]
-mod tests;
 
 pub use feeder::{Feeder, Got};
 pub use laws::{a_fault_stays, any_cut, has_one_answer};

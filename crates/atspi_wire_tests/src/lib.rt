@@ -8,4 +8,6 @@ mod marshal;
 #[cfg(test)]
 mod message;
 #[cfg(test)]
+mod stream;
+#[cfg(test)]
 mod types;

@@ -1,4 +1,6 @@
-use super::*;
+//! Streams of messages, in pieces.
+
+use atspi_stream::{Feeder, Got};
 use std::alloc::Global;
 use std::test::*;
 
