@@ -3,8 +3,6 @@
 
 mod header;
 mod message;
-#[cfg(test)]
-mod tests;
 mod values;
 
 pub use message::message_text;

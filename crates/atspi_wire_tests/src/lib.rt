@@ -8,6 +8,8 @@ mod marshal;
 #[cfg(test)]
 mod message;
 #[cfg(test)]
+mod script;
+#[cfg(test)]
 mod stream;
 #[cfg(test)]
 mod types;

@@ -1,6 +1,8 @@
-use super::*;
+//! Messages as texts.
+
 use atspi_base::Bytes;
 use atspi_message::{Message, total};
+use atspi_script::message_text;
 use std::alloc::Global;
 use std::test::*;
 
