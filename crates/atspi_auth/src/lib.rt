@@ -12,8 +12,6 @@ mod said;
 mod server;
 mod stage;
 mod talk;
-#[cfg(test)]
-mod tests;
 
 pub use client::Client;
 pub use fault::AuthFault;

@@ -1,6 +1,6 @@
 //! Openings of well-known clients, the states one by one, and the limits; each conversation in any two pieces.
 
-use crate::{AuthFault, AuthLine, Client, Server};
+use atspi_auth::{AuthFault, AuthLine, Client, Server};
 use std::alloc::{AllocError, Global};
 use std::process::Abort;
 use std::test::Fail;
@@ -134,8 +134,8 @@ fn compare<E: End>(rt: &impl Abort, end: &mut E, heard: &Heard, talk: &Talk, cut
 
 #[test]
 fn a_server_hears_each_conversation_in_any_two_pieces(rt: HostRuntime) -> Result<(), Fail> {
-    use crate::AuthFault::{Early, NoZero};
-    use crate::AuthLine::{Data, Error, Granted, Rejected};
+    use atspi_auth::AuthFault::{Early, NoZero};
+    use atspi_auth::AuthLine::{Data, Error, Granted, Rejected};
     let talks = [
         // libdbus
         begins(
@@ -209,8 +209,8 @@ fn a_server_hears_each_conversation_in_any_two_pieces(rt: HostRuntime) -> Result
 
 #[test]
 fn a_client_accepts_data_and_a_number_alone(rt: HostRuntime) -> Result<(), Fail> {
-    use crate::AuthFault::Rejected;
-    use crate::AuthLine::{Begin, Data, Hail};
+    use atspi_auth::AuthFault::Rejected;
+    use atspi_auth::AuthLine::{Begin, Data, Hail};
     let talks = [
         begins(
             b"DATA\r\nOK 61747370693200000000000000000001\r\nl\x02",

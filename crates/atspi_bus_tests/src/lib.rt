@@ -1,0 +1,5 @@
+//! Tests of the bus, through public calls alone: authentication, names and their owners, and match rules.
+#![tactic(auto)]
+
+#[cfg(test)]
+mod auth;
