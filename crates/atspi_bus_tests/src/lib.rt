@@ -3,3 +3,5 @@
 
 #[cfg(test)]
 mod auth;
+#[cfg(test)]
+mod names;

@@ -8,8 +8,6 @@ mod name_list;
 mod names;
 mod queue;
 mod standings;
-#[cfg(test)]
-mod tests;
 mod unique;
 
 pub use change::OwnerChange;

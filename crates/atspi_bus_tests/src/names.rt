@@ -1,9 +1,11 @@
+//! Who owns a name and who waits for it, after each call.
+
 ghost use Rattle.std.specs.Prelude.{◌≡◌, ◌≢◌, ◌≤◌, ◌<◌, ◌^◌, ℕ, false, None, IfOk};
 ghost use Rattle.std.specs.FinMap as finmap;
 ghost use Rattle.atspi_types.specs.Names.{is_unique_name};
 ghost use Rattle.atspi_names.specs.Owners as owners;
 
-use super::*;
+use atspi_names::{NameList, Names, OwnerChange};
 use atspi_types::BusName;
 use std::alloc::Global;
 use std::process::Abort;

@@ -2,7 +2,7 @@ use Rattle.std.proofs.Common.{◌≡◌, ◌≢◌, ℕ, refl, ap, ◌∙◌, li
 use Rattle.std.specs.FinMap as finmap
 use Rattle.atspi_names.specs.Owners.{Owners}
 use Rattle.atspi_names.proofs.OwnersLemmas.{none_after_remove}
-use Rattle.atspi_names.proofs.tests.unique_names_count_on.Goals as goal
+use Rattle.atspi_bus_tests.proofs.names.unique_names_count_on.Goals as goal
 
 apart : (n : ℕ) → n ≡ 5 → n ≢ 7
 apart n e f = absurd (omega arith)

@@ -3,7 +3,7 @@ use Rattle.std.specs.Prelude.{Result, Ok, Err, OnOk, OnErr, None}
 use Rattle.std.specs.FinMap as finmap
 use Rattle.atspi_names.specs.Owners.{Owners, after_hello, unique_name}
 use Rattle.atspi_names.proofs.OwnersLemmas.{none_after_insert}
-use Rattle.atspi_names.proofs.tests.greet.Goals as goal
+use Rattle.atspi_bus_tests.proofs.names.greet.Goals as goal
 
 -- whatever a hello answers, no other connection has a unique name by it
 none_greeted : {T E : Type 0} (r : Result T E) (old new : Owners) (conn c : ℕ) → OnOk r (new ≡ after_hello old conn) → OnErr r (new ≡ old)
