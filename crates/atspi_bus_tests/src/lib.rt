@@ -5,3 +5,7 @@
 mod auth;
 #[cfg(test)]
 mod names;
+#[cfg(test)]
+mod rule_texts;
+#[cfg(test)]
+mod rules;

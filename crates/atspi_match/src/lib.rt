@@ -19,6 +19,3 @@ pub use fault::{RuleFault, RuleRead};
 pub use printing::is_read_again;
 pub use rule::Rule;
 pub use rule_index::{RuleAdd, RuleIndex};
-
-#[cfg(test)]
-mod tests;

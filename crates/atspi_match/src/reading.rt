@@ -89,6 +89,3 @@ impl Rule {
         read_rule(alloc, bytes)
     }
 }
-
-#[cfg(test)]
-mod tests;

@@ -1,7 +1,7 @@
 //! The rules that well-known clients write, the faults one by one, and printing.
 
-use crate::{Condition, MessageType, Rule, RuleRead};
 use atspi_base::Bytes;
+use atspi_match::{Condition, MessageType, Rule, RuleRead};
 use std::test::*;
 
 /// What reading tells: (0, the number of conditions), or the reason and the place.

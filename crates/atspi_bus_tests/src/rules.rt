@@ -1,9 +1,11 @@
+//! Which messages a rule matches, and who receives them.
+
 ghost use Rattle.std.specs.Prelude.{◌≡◌, ◌≢◌, false};
 ghost use Rattle.atspi_types.specs.Names.{is_unique_name};
 ghost use Rattle.atspi_names.specs.Owners as owners;
 
-use super::*;
 use atspi_base::{Nums, Steps, Text};
+use atspi_match::{Rule, RuleAdd, RuleIndex};
 use atspi_message::Message;
 use atspi_names::Names;
 use atspi_types::{BusName, Interface, Member, Order, Path, Value, Values};
