@@ -9,6 +9,3 @@ mod states;
 pub use laws::{names_tell_roles, names_tell_states};
 pub use roles::{role_name, role_of_word, role_word};
 pub use states::{state_name, state_of_name};
-
-#[cfg(test)]
-mod tests;

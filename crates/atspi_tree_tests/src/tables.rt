@@ -1,5 +1,6 @@
 //! The tables at their ends and at some names, as AT-SPI2 numbers them.
-use super::*;
+
+use atspi_tables::{role_name, role_of_word, role_word, state_name, state_of_name};
 
 #[test]
 fn names_of_roles(rt: HostRuntime) {

@@ -1,0 +1,5 @@
+//! Tests of trees and of what edits them, through public calls alone: tables, forests, trees, and the world of a script.
+#![tactic(auto)]
+
+#[cfg(test)]
+mod tables;
