@@ -15,6 +15,3 @@ pub use edit::{Edit, EditFault};
 pub use news::{Item, Items, News, Reference};
 pub use step::{Seed, Step, StepList};
 pub use view::{NumPart, Part, Row};
-
-#[cfg(test)]
-mod tests;

@@ -2,4 +2,6 @@
 #![tactic(auto)]
 
 #[cfg(test)]
+mod forest;
+#[cfg(test)]
 mod tables;

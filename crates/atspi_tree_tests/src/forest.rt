@@ -1,5 +1,7 @@
-use super::*;
+//! Lists of steps and of items, and the words of refusals.
+
 use atspi_base::{Text, Texts};
+use atspi_forest::{EditFault, Item, Items, Reference, Step, StepList};
 use atspi_types::Path;
 use std::test::*;
 
