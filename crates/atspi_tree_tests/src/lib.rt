@@ -5,3 +5,5 @@
 mod forest;
 #[cfg(test)]
 mod tables;
+#[cfg(test)]
+mod tree;

@@ -4,9 +4,9 @@ ghost use Rattle.std.specs.Prelude.{IfOk};
 ghost use Rattle.atspi_forest.specs.Edits.{IsEdit};
 ghost use Rattle.atspi_tree.specs.Calls.{IsEditSoFar};
 
-use super::*;
 use atspi_base::{Text, Texts};
 use atspi_forest::{Edit, EditFault, Seed, Step};
+use atspi_tree::{Tree, TreeFault};
 use std::alloc::Global;
 use std::process::Abort;
 use std::test::Fail;
