@@ -7,3 +7,5 @@ mod forest;
 mod tables;
 #[cfg(test)]
 mod tree;
+#[cfg(test)]
+mod world;

@@ -17,8 +17,6 @@ pub use event::{Event, Message, Party, Shown, ShownRow};
 pub use laws::{lines_have_one_reading, lines_have_one_trace};
 pub use line::{LINE_LIMIT, Line, LineFault, NAME_LIMIT, parse_line};
 pub use lines::next_line;
+pub use message::copy_step;
 pub use text::event_text;
 pub use world::{ActFault, Refusal, World};
-
-#[cfg(test)]
-mod tests;
