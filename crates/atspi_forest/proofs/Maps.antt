@@ -1,13 +1,14 @@
 -- A tree is a finite map, in which each node but the root stands once in exactly one list of children and is reached.
 use Rattle.std.proofs.Common.{◌≡◌, ℕ, zero, suc, ◌+◌, ◌≤◌, ◌==◌, Bool, true, false, cond, Option, Some, None, List, [], ◌∷◌, refl, sym, ap, ◌∙◌, subst, arith}
-use Rattle.std.specs.Prelude.{map, IsSome}
+use Rattle.std.specs.Prelude.{map, ◌++◌, length, IsSome}
 use Rattle.std.proofs.lemmas.Bool.{eqb-true, eq-eqb, ne_eqb}
-use Rattle.atspi_forest.specs.Forest.{Forest, nil, tree, count, has, find, tops, children_at, relabel, graft, grow, EachLabel, EachNode}
+use Rattle.atspi_forest.specs.Forest.{Forest, nil, tree, count, has, find, labels, tops, children_at, relabel, graft, grow, EachLabel, EachNode}
 use Rattle.atspi_forest.specs.RowRules.{RowRules}
-use Rattle.atspi_forest.specs.Tree.{is_number, IsRooted, IsTree}
+use Rattle.atspi_forest.specs.Tree.{is_number, HasTargets, IsRooted, IsTree}
 use Rattle.atspi_forest.specs.Map.{times, Reached, Root, Child, IsTreeMap, row_in, child_numbers}
 use Rattle.atspi_forest.proofs.Relabel.{relabel-relabel}
-use Rattle.atspi_forest.proofs.Found.{has-count, not_there, find-has, find-passes}
+use Rattle.atspi_forest.proofs.Found.{count-has, has-count, not_there, find-has, find-passes}
+use Rattle.atspi_forest.proofs.Labels.{each_weaker}
 use Rattle.atspi_forest.proofs.Load.{EachNode-weaker}
 use Rattle.atspi_forest.proofs.Lookup.{each-find}
 
@@ -116,6 +117,25 @@ module _ {A : Type 0} (rules : RowRules A) where
   times-tops m nil = refl
   times-tops m (tree a c r) = omega (arith, times-tops m r)
 
+  -- a list of all numbers of a forest has each as often as it stands there, and no more numbers than there are nodes
+  times-joined : (m : ℕ) (xs ys : List A)
+      → times m (map rules.number (xs ++ ys)) ≡ times m (map rules.number xs) + times m (map rules.number ys)
+  times-joined m [] ys = omega arith
+  times-joined m (x ∷ xs) ys = omega (arith, times-joined m xs ys)
+
+  times-labels : (m : ℕ) (f : Forest A) → times m (map rules.number (labels f)) ≡ count (is_number rules m) f
+  times-labels m nil = refl
+  times-labels m (tree a c r) = omega (arith, times-joined m (labels c) (labels r), times-labels m c, times-labels m r)
+
+  length-joined : (xs ys : List A)
+      → length (map rules.number (xs ++ ys)) ≡ length (map rules.number xs) + length (map rules.number ys)
+  length-joined [] ys = omega arith
+  length-joined (x ∷ xs) ys = omega (arith, length-joined xs ys)
+
+  length-labels : (f : Forest A) → length (map rules.number (labels f)) ≡ count (λ row. true) f
+  length-labels nil = refl
+  length-labels (tree a c r) = omega (arith, length-joined (labels c) (labels r), length-labels c, length-labels r)
+
   -- all that stands in a forest is reached, where its top is
   all_reached : (children : ℕ → List ℕ) (f : Forest A)
       → EachNode (λ a c. children (rules.number a) ≡ map rules.number (tops c)) f
@@ -180,7 +200,7 @@ module _ {A : Type 0} (rules : RowRules A) where
           λ q ne. (let j = two_below (is_number rules m) (is_number rules p) (is_number rules q) (λ x u v. ne (sym (eqb-true (rules.number x) q v) ∙ eqb-true (rules.number x) p u)) f in let e = children-times m q in omega arith),
         )
 
-    pub tree_is_map : IsTreeMap (row_in rules f) (child_numbers rules f) added
+    pub tree_is_map : IsTreeMap rules (row_in rules f) (child_numbers rules f) added
     tree_is_map = record {
       root = is_there 0 root_counted;
       root_below_none = λ p. (let a = count-split (is_number rules 0) f in let b = top_of 0 in let o = t.once 0 in
@@ -189,6 +209,12 @@ module _ {A : Type 0} (rules : RowRules A) where
       reached = λ m h. reached_at m (find-has (is_number rules m) f (is_counted m h));
       children_there = λ p m l. (is_there p (parent_counted p m l), is_there m (let e = children-times m p in let i = one_below (is_number rules m) (is_number rules p) f in let a = count-split (is_number rules m) f in omega arith));
       numbered = λ m l. none_at m (find (is_number rules m) f) refl (t.numbered m l);
+      own_number = λ m a e. eqb-true (rules.number a) m (find-passes (is_number rules m) f a e).0;
+      few = (map rules.number (labels f), (let l = length-labels f in let k = t.few in omega arith), λ m h. (let l = times-labels m f in let k = is_counted m h in omega arith));
+      few_ever = t.few_ever;
+      lawful = λ m a e. each-find rules.IsLawful (is_number rules m) f a t.lawful e;
+      targets = λ m a e. each_weaker (λ k. has (is_number rules k) f ≡ true) (λ k. IsSome (row_in rules f k)) (λ k h. is_there k (count-has (is_number rules k) f h)) (rules.targets a)
+          (each-find (λ x. HasTargets rules f (rules.targets x)) (is_number rules m) f a t.targets e);
     }
       where
         none_at : (m : ℕ) (o : Option A) → find (is_number rules m) f ≡ o → count (is_number rules m) f ≡ 0

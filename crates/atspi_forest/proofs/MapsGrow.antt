@@ -1,14 +1,16 @@
 -- A finite map that is a tree grows to one.
 use Rattle.std.proofs.Common.{◌≡◌, ℕ, zero, suc, ◌+◌, ◌<◌, ◌≤◌, ◌==◌, Bool, true, false, cond, Option, Some, None, List, [], ◌∷◌, refl, sym, ap, ◌∙◌, subst, arith}
-use Rattle.std.specs.Prelude.{map, IsSome, nat_lt}
+use Rattle.std.specs.Prelude.{map, length, IsSome, nat_lt}
 use Rattle.std.specs.Option.{option_map}
 use Rattle.std.proofs.lemmas.Bool.{eqb-true, eqb-false, eq-eqb, ne_eqb, lt-ltb, ltb-true, ltb-false}
 use Rattle.atspi_forest.specs.Forest.{Forest, nil, tree, count, has, find, first_of, tops, children_at, relabel, grow, EachLabel}
 use Rattle.atspi_forest.specs.RowRules.{RowRules}
-use Rattle.atspi_forest.specs.Tree.{is_number, IsRooted}
+use Rattle.atspi_forest.specs.Tree.{is_number, HasTargets, IsTree}
+use Rattle.atspi_forest.specs.declared.limits.TheConstants.{NODE_LIMIT}
 use Rattle.atspi_forest.specs.Map.{times, Reached, Root, Child, IsTreeMap, row_in, child_numbers}
 use Rattle.atspi_forest.specs.Laws.{IsComplete}
 use Rattle.atspi_forest.proofs.Found.{count-has, has-count, find-has, find-passes, each_counted, EachLabel-weaker}
+use Rattle.atspi_forest.proofs.Labels.{each_relabel, each_weaker}
 use Rattle.atspi_forest.proofs.Once.{many, count-grow}
 use Rattle.atspi_forest.proofs.Deep.{depth_le, complete}
 use Rattle.atspi_forest.proofs.Maps.{at_top, count-split, children-none}
@@ -60,6 +62,44 @@ count-all k (tree a c r) e =
     let u : cond {A = ℕ} (nat_lt a k) 1 0 ≡ 1 = ap (λ b. cond {A = ℕ} b 1 0) (lt-ltb a k e.0) in
     omega (arith, count-all k c e.1, count-all k r e.2)
 
+-- where each number stands once and in a list, there are no more nodes than the list has numbers
+abbrev in_list : List ℕ → ℕ → Bool
+in_list [] x = false
+in_list (y ∷ ys) x = cond (y == x) true (in_list ys x)
+
+in_list-times : (ys : List ℕ) (x : ℕ) → 1 ≤ times x ys → in_list ys x ≡ true
+in_list-times [] x l = absurd (omega arith)
+in_list-times (y ∷ ys) x l = at (y == x) l (in_list-times ys x)
+  where
+    at : (b : Bool) → 1 ≤ cond b 1 0 + times x ys → (1 ≤ times x ys → in_list ys x ≡ true)
+        → cond b true (in_list ys x) ≡ true
+    at true l h = refl
+    at false l h = h (omega arith)
+
+count-listed : (ys : List ℕ) (f : Forest ℕ) → ((m : ℕ) → count (eq m) f ≤ 1) → count (in_list ys) f ≤ length ys
+count-listed [] f once = let z = none_counted f in omega arith
+count-listed (y ∷ ys) f once = let s = one_more f in let o = once y in let l = count-listed ys f once in omega arith
+  where
+    one_more : (g : Forest ℕ) → count (in_list (y ∷ ys)) g ≤ count (eq y) g + count (in_list ys) g
+    one_more nil = omega arith
+    one_more (tree a c r) = at (y == a) refl (a == y) refl (in_list ys a) (one_more c) (one_more r)
+      where
+        at : (b : Bool) → (y == a) ≡ b → (d : Bool) → (a == y) ≡ d → (e : Bool)
+            → count (in_list (y ∷ ys)) c ≤ count (eq y) c + count (in_list ys) c
+            → count (in_list (y ∷ ys)) r ≤ count (eq y) r + count (in_list ys) r
+            → cond (cond b true e) 1 0 + (count (in_list (y ∷ ys)) c + count (in_list (y ∷ ys)) r) ≤ cond d 1 0 + (count (eq y) c + count (eq y) r) + (cond e 1 0 + (count (in_list ys) c + count (in_list ys) r))
+        at true p true q e hc hr = omega arith
+        at true p false q e hc hr = absurd (eqb-false a y q (sym (eqb-true y a p)))
+        at false p true q e hc hr = omega arith
+        at false p false q e hc hr = omega arith
+
+all_listed : (ys : List ℕ) (f : Forest ℕ) → EachLabel (λ a. in_list ys a ≡ true) f
+    → count (λ x. true) f ≡ count (in_list ys) f
+all_listed ys nil e = refl
+all_listed ys (tree a c r) e =
+    let u : cond {A = ℕ} (in_list ys a) 1 0 ≡ 1 = ap (λ b. cond {A = ℕ} b 1 0) e.0 in
+    omega (arith, all_listed ys c e.1, all_listed ys r e.2)
+
 -- functions of relabelled forests, where the tests agree on the labels that are there
 find-on : {A B : Type 0} (h : A → B) (q : B → Bool) (p : A → Bool) (f : Forest A) → EachLabel (λ a. q (h a) ≡ p a) f
     → find q (relabel h f) ≡ option_map h (find p f)
@@ -101,7 +141,7 @@ top-times : (m : ℕ) (f : Forest ℕ) → times m (tops f) ≡ at_top (eq m) f
 top-times m nil = refl
 top-times m (tree a c r) = omega (arith, top-times m r)
 
-module _ {A : Type 0} (rules : RowRules A) (row : ℕ → Option A) (children : ℕ → List ℕ) (added : ℕ) (t : IsTreeMap row children added) (own_number : (n : ℕ) (a : A) → row n ≡ Some a → rules.number a ≡ n) where
+module _ {A : Type 0} (rules : RowRules A) (row : ℕ → Option A) (children : ℕ → List ℕ) (added : ℕ) (t : IsTreeMap rules row children added) where
   abbrev G : ℕ → Forest ℕ
   G n = grow n children (0 ∷ [])
 
@@ -175,9 +215,6 @@ module _ {A : Type 0} (rules : RowRules A) (row : ℕ → Option A) (children : 
       at true e = absurd (no_some (row a) (t.numbered a (ltb-true added a e)) s)
       at false e = let l = ltb-false added a e in omega arith
 
-  F : Forest ℕ
-  F = G (suc (suc added))
-
   F_complete : IsComplete children (G (suc (suc added)))
   F_complete =
       complete children (suc added) (0 ∷ [])
@@ -233,7 +270,7 @@ module _ {A : Type 0} (rules : RowRules A) (row : ℕ → Option A) (children : 
   -- a row has the number of its node
   numbers_agree : (m : ℕ) → EachLabel (λ a. is_number rules m (h a) ≡ eq m a) (G (suc (suc added)))
   numbers_agree m =
-      EachLabel-weaker (λ a. IsSome (row a)) (λ a. is_number rules m (h a) ≡ eq m a) (λ a s. ap (λ k. k == m) (own_number a (h a) (h_is a s)))
+      EachLabel-weaker (λ a. IsSome (row a)) (λ a. is_number rules m (h a) ≡ eq m a) (λ a s. ap (λ k. k == m) (t.own_number a (h a) (h_is a s)))
       (G (suc (suc added))) (nodes_there (suc (suc added)))
 
   same_row : (n : ℕ) → option_map h (find (eq n) (G (suc (suc added)))) ≡ row n
@@ -284,7 +321,7 @@ module _ {A : Type 0} (rules : RowRules A) (row : ℕ → Option A) (children : 
   numbers_of_rows : (xs : List ℕ) → ((m : ℕ) → 1 ≤ times m xs → IsSome (row m)) → map rules.number (map h xs) ≡ xs
   numbers_of_rows [] w = refl
   numbers_of_rows (x ∷ xs) w =
-      rw (own_number x (h x) (h_is x (w x (first (x == x) (eq-eqb x x refl)))), numbers_of_rows xs (λ m l. w m (omega arith))) refl
+      rw (t.own_number x (h x) (h_is x (w x (first (x == x) (eq-eqb x x refl)))), numbers_of_rows xs (λ m l. w m (omega arith))) refl
     where
       first : (b : Bool) → b ≡ true → 1 ≤ cond b 1 0 + times x xs
       first true e = omega arith
@@ -303,11 +340,46 @@ module _ {A : Type 0} (rules : RowRules A) (row : ℕ → Option A) (children : 
           ap (map rules.number) (tops-relabel h (children_at (eq n) (G (suc (suc added)))) ∙ ap (map h) q)
           ∙ numbers_of_rows (children n) (λ m l. (t.children_there n m l).1)
 
-  pub map_is_tree : (f : Forest A) × IsRooted rules f × ((n : ℕ) → count (is_number rules n) f ≤ 1) × ((n : ℕ) → row_in rules f n ≡ row n) × ((n : ℕ) → child_numbers rules f n ≡ children n)
+  -- the tree
+  pub F : Forest A
+  F = relabel h (G (suc (suc added)))
+
+  F_has : (m : ℕ) → IsSome (row m) → has (is_number rules m) F ≡ true
+  unfolding F
+  F_has m s =
+      has-on h (is_number rules m) (eq m) (G (suc (suc added))) (numbers_agree m)
+      ∙ has-count (eq m) (G (suc (suc added))) (all_there m (t.reached m s))
+
+  F_few : (numbers : List ℕ) × (length numbers ≤ NODE_LIMIT) × ((m : ℕ) → IsSome (row m) → 1 ≤ times m numbers)
+      → count (λ row. true) F ≤ NODE_LIMIT
+  unfolding F
+  F_few (numbers, short, each) =
+      let c = count-on h (λ row. true) (λ x. true) (G (suc (suc added))) (EachLabel-weaker (λ a. IsSome (row a)) (λ a. true ≡ true) (λ a s. refl) (G (suc (suc added))) (nodes_there (suc (suc added)))) in
+      let e = all_listed numbers (G (suc (suc added))) (EachLabel-weaker (λ a. IsSome (row a)) (λ a. in_list numbers a ≡ true) (λ a s. in_list-times numbers a (each a s)) (G (suc (suc added))) (nodes_there (suc (suc added)))) in
+      let l = count-listed numbers (G (suc (suc added))) (once (suc (suc added))) in
+      omega arith
+
+  F_is_tree : IsTree rules F added
+  unfolding F
+  F_is_tree = record {
+    rooted = (h 0, relabel h (grow (suc added) children (children 0)), t.own_number 0 (h 0) (h_is 0 t.root), refl);
+    once = λ n. (let e = count-on h (is_number rules n) (eq n) (G (suc (suc added))) (numbers_agree n) in let o = once (suc (suc added)) n in omega arith);
+    numbered = λ n l. count-on h (is_number rules n) (eq n) (G (suc (suc added))) (numbers_agree n) ∙ absent (suc (suc added)) n (t.numbered n l);
+    few = F_few t.few;
+    few_ever = t.few_ever;
+    lawful = each_relabel rules.IsLawful h (G (suc (suc added)))
+        (EachLabel-weaker (λ a. IsSome (row a)) (λ a. rules.IsLawful (h a)) (λ a s. t.lawful a (h a) (h_is a s)) (G (suc (suc added))) (nodes_there (suc (suc added))));
+    targets = each_relabel (λ x. HasTargets rules F (rules.targets x)) h (G (suc (suc added)))
+        (EachLabel-weaker (λ a. IsSome (row a)) (λ a. HasTargets rules F (rules.targets (h a)))
+        (λ a s. each_weaker (λ m. IsSome (row m)) (λ m. has (is_number rules m) F ≡ true) F_has (rules.targets (h a)) (t.targets a (h a) (h_is a s)))
+        (G (suc (suc added))) (nodes_there (suc (suc added))));
+  }
+
+  pub map_is_tree : (f : Forest A) × IsTree rules f added × ((n : ℕ) → row_in rules f n ≡ row n) × ((n : ℕ) → child_numbers rules f n ≡ children n)
+  unfolding F
   map_is_tree = (
-    relabel h (G (suc (suc added))),
-    (h 0, relabel h (grow (suc added) children (children 0)), own_number 0 (h 0) (h_is 0 t.root), refl),
-    (λ n. let e = count-on h (is_number rules n) (eq n) (G (suc (suc added))) (numbers_agree n) in let o = once (suc (suc added)) n in omega arith),
+    F,
+    F_is_tree,
     (λ n. find-on h (is_number rules n) (eq n) (G (suc (suc added))) (numbers_agree n) ∙ same_row n),
     (λ n. ap (λ g. map rules.number (tops g)) (children-on h (is_number rules n) (eq n) (G (suc (suc added))) (numbers_agree n)) ∙ same_children n),
   )

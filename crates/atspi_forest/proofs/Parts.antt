@@ -1,13 +1,13 @@
 -- The answer to a reader's call for a part makes the view of a reader who was told that part.
 use Rattle.std.proofs.Common.{◌≡◌, ℕ, Bool, true, false, cond, Option, Some, List, [], refl, sym, ap, ◌∙◌, subst}
-use Rattle.std.specs.Prelude.{pos, bytes_eq}
+use Rattle.std.specs.Prelude.{pos, negsuc, bytes_eq}
 use Rattle.std.proofs.lemmas.Bool.{eqb-true}
 use Rattle.atspi_forest.specs.declared.view.Part.TheVariants.{Known}
 use Rattle.atspi_forest.specs.declared.view.NumPart.TheVariants.{Known as KnownNumber}
 use Rattle.atspi_forest.specs.declared.view.Row.{Row}
 use Rattle.atspi_forest.specs.declared.news.News.{News}
 use Rattle.atspi_forest.specs.declared.news.News.TheVariants.{Removed, ChildAdded, ChildRemoved, Name, Description, Role, State, Inserted, Deleted, Caret, TextIs, CaretIs, ColumnsIs, Nothing, Item as NewItem}
-use Rattle.atspi_forest.specs.Forest.{Forest, change, find}
+use Rattle.atspi_forest.specs.Forest.{Forest, nil, tree, change, find}
 use Rattle.atspi_forest.specs.Row.{TreeRow}
 use Rattle.atspi_forest.specs.RowRules.{rows}
 use Rattle.atspi_forest.specs.Tree.{is_node, IsTree}
@@ -26,6 +26,15 @@ text_told false x = refl
 number_told : (b : Bool) (x : ℕ) → told_number x (number_part b (Some x)) ≡ KnownNumber x
 number_told true x = refl
 number_told false x = refl
+
+-- a change that leaves each row as it is
+change_idle : (q : Row → Bool) (k : Row → Row) → ((row : Row) → k row ≡ row) → (v : Forest Row) → change q k v ≡ v
+change_idle q k e nil = refl
+change_idle q k e (tree a c r) = rw (at (q a), change_idle q k e c, change_idle q k e r) refl
+  where
+    at : (b : Bool) → cond b (k a) a ≡ a
+    at true = e a
+    at false = refl
 
 -- a news that changes the row of one path, and what is told of that path alone
 module _ (told told' : List ℕ → Told) (f : Forest TreeRow) (k : ℕ) (t : IsTree rows f k) (n : ℕ) (row : TreeRow) (e : find (is_node n) f ≡ Some row) (h : Row → Row) where
@@ -58,13 +67,15 @@ part_seen bus told f k (TextIs p x) t (n, row, text, ep, e, et, ex) =
   where
     at_row : row.shape.node ≡ n
     at_row = eqb-true row.shape.node n (find-passes (is_node n) f row e).0
-part_seen bus told f k (CaretIs p at) t (n, row, text, ep, e, et, ex) =
+part_seen bus told f k (CaretIs p (negsuc m)) t h = change_idle (is_path p) (λ row. row) (λ row. refl) (view told f)
+part_seen bus told f k (CaretIs p (pos at)) t (n, row, text, ep, e, et, ex) =
     rw (ep, ex) (learns told (told_after told (CaretIs (path_of n) (pos text.caret))) f k t n row e (λ r. record r { caret = told_number text.caret r.caret })
     (rw (at_row, et, same_path n, number_told (told (path_of n)).caret text.caret) refl) (passed_over told n (λ w. record w { caret = true })))
   where
     at_row : row.shape.node ≡ n
     at_row = eqb-true row.shape.node n (find-passes (is_node n) f row e).0
-part_seen bus told f k (ColumnsIs p m) t (n, row, c, ep, e, et, ex) =
+part_seen bus told f k (ColumnsIs p (negsuc m)) t h = change_idle (is_path p) (λ row. row) (λ row. refl) (view told f)
+part_seen bus told f k (ColumnsIs p (pos m)) t (n, row, c, ep, e, et, ex) =
     rw (ep, ex) (learns told (told_after told (ColumnsIs (path_of n) (pos c))) f k t n row e (λ r. record r { columns = told_number c r.columns })
     (rw (at_row, et, same_path n, number_told (told (path_of n)).columns c) refl) (passed_over told n (λ w. record w { columns = true })))
   where

@@ -1,5 +1,6 @@
 -- Edits: when one is refused and why, and else which steps it makes.
 use Rattle.std.specs.Prelude.{ℕ, zero, suc, ◌+◌, ◌-◌, ◌≡◌, ◌≤◌, ◌<◌, ◌==◌, nat_lt, nat_le, Bool, true, false, cond, not, ◌&&◌, ◌||◌, List, [], ◌∷◌, ◌++◌, map, filter, length, take, drop, Option, Some, None, is_some, Result, Ok, Err, codes, bytes_eq, encode_utf8_all}
+use Rattle.atspi_forest.specs.declared.limits.TheConstants.{NODE_LIMIT, ADDED_LIMIT, NAME_LIMIT, TEXT_LIMIT, MARK_LIMIT, COLUMN_LIMIT, ACTION_LIMIT, RELATION_KINDS, STATE_COUNT}
 use Rattle.atspi_forest.specs.declared.contents.Kinds.{Kinds}
 use Rattle.atspi_forest.specs.declared.contents.FaceData.{FaceData}
 use Rattle.atspi_forest.specs.declared.contents.FaceData.TheVariants.{Chars, Deeds}
@@ -37,27 +38,27 @@ lacks_kind kind f n = not (has (λ row. is_shape n row && kind row.kinds) f)
 abbrev pub children_of : Forest ShapeRow → ℕ → Forest ShapeRow
 children_of f n = children_at (is_shape n) f
 
--- a name or description above 511 bytes
+-- a name or description that is too long
 abbrev pub is_long_name : List ℕ → Bool
-is_long_name text = nat_lt 511 (length (encode_utf8_all text))
+is_long_name text = nat_lt NAME_LIMIT (length (encode_utf8_all text))
 
--- a text above 1,048,576 characters
+-- a text of so many characters is too long
 abbrev pub is_long_text : ℕ → Bool
-is_long_text characters = nat_lt 1048576 characters
+is_long_text characters = nat_lt TEXT_LIMIT characters
 
 -- how many characters a new node has
 abbrev pub text_length : Option (List ℕ) → ℕ
 text_length None = 0
 text_length (Some x) = length x
 
--- a count of columns outside 1 to 1,024
+-- a count of columns that no table has
 abbrev pub bad_columns : Option ℕ → Bool
 bad_columns None = false
-bad_columns (Some n) = (n == 0) || nat_lt 1024 n
+bad_columns (Some n) = (n == 0) || nat_lt COLUMN_LIMIT n
 
--- the tree holds 8,192 nodes, or no number is left
+-- the tree holds all the nodes that it may, or no number is left
 abbrev pub is_full : Forest ShapeRow → ℕ → Bool
-is_full f added = nat_le 8192 (count (λ row. true) f) || nat_le 4294967295 added
+is_full f added = nat_le NODE_LIMIT (count (λ row. true) f) || nat_le ADDED_LIMIT added
 
 -- the reasons to refuse an edit, in the order in which they are looked for, each with the test of its rule
 abbrev pub refusals : Forest ShapeRow → ℕ → FaceData → Edit → List (Bool × EditFault)
@@ -99,7 +100,7 @@ refusals f added known (Mark n from to) =
     let text = known_text known in
     (lacks_node f n, NoNode)
     ∷ (lacks_kind (λ k. k.text) f n, NoFace)
-    ∷ (nat_le to from || nat_lt (length text.characters) to || nat_le 16 (length text.selections), BadOffset) ∷ []
+    ∷ (nat_le to from || nat_lt (length text.characters) to || nat_le MARK_LIMIT (length text.selections), BadOffset) ∷ []
 refusals f added known (Unmark n) = (lacks_node f n, NoNode) ∷ (lacks_kind (λ k. k.text) f n, NoFace) ∷ []
 refusals f added known (Select n i) =
     (lacks_node f n, NoNode)
@@ -114,9 +115,9 @@ refusals f added known (Press n i) =
     ∷ (lacks_kind (λ k. k.action) f n, NoFace)
     ∷ (nat_le (length (known_actions known)) i, BadIndex) ∷ []
 refusals f added known (Relate n kind m) =
-    (lacks_node f n || lacks_node f m, NoNode) ∷ ((kind == 0) || nat_lt 18 kind, BadIndex) ∷ []
+    (lacks_node f n || lacks_node f m, NoNode) ∷ ((kind == 0) || nat_lt RELATION_KINDS kind, BadIndex) ∷ []
 refusals f added known (Unrelate n kind m) =
-    (lacks_node f n || lacks_node f m, NoNode) ∷ ((kind == 0) || nat_lt 18 kind, BadIndex) ∷ []
+    (lacks_node f n || lacks_node f m, NoNode) ∷ ((kind == 0) || nat_lt RELATION_KINDS kind, BadIndex) ∷ []
 
 -- the first reason whose rule holds
 abbrev pub first_fault : List (Bool × EditFault) → Option EditFault
@@ -281,9 +282,9 @@ contents_read f _ = Deeds []
 abbrev pub steps_of_tree : Forest TreeRow → ℕ → Edit → Result (List Step) EditFault
 steps_of_tree f added edit = steps_of (shape_of f) added (contents_read f edit) edit
 
--- an edit that can be asked for: a state has a bit below 44, a new node at most 8 actions, and it can be edited only
--- where it has a text
+-- an edit that can be asked for: a state is one of those that there are, a new node has no more actions than it may, and
+-- it can be edited only where it has a text
 abbrev pub IsEdit : Edit → Type 0
-IsEdit (State n state on) = state < 44
-IsEdit (Insert p i seed) = (length seed.actions ≤ 8) × (seed.editable ≡ true → is_some seed.text ≡ true)
+IsEdit (State n state on) = state < STATE_COUNT
+IsEdit (Insert p i seed) = (length seed.actions ≤ ACTION_LIMIT) × (seed.editable ≡ true → is_some seed.text ≡ true)
 IsEdit _ = Unit {0}

@@ -1,5 +1,5 @@
 -- The laws of trees, views and news.
-use Rattle.std.specs.Prelude.{ℕ, ◌≡◌, ◌≤◌, pos, false, List, Some, Ok}
+use Rattle.std.specs.Prelude.{ℕ, ◌≡◌, ◌≤◌, pos, negsuc, false, List, Some, Ok}
 use Rattle.atspi_forest.specs.declared.view.Row.{Row}
 use Rattle.atspi_forest.specs.declared.step.Seed.{Seed}
 use Rattle.atspi_forest.specs.declared.step.Step.{Step}
@@ -83,17 +83,19 @@ StepsAreSeen =
     (bus : List ℕ) (told : List ℕ → Told) (f : Forest TreeRow) (added : ℕ) (step : Step)
     → IsTree rows f added → Applies rows f added step → UntoldOfNew told step → IsSeen bus told f step
 
--- the answer to a reader's call for a part says what the tree has
+-- the answer to a reader's call for a part says what the tree has; a caret or count below zero says nothing
 abbrev pub IsPartOf : Forest TreeRow → News → Type 0
 IsPartOf f (TextIs p x) =
     (n : ℕ) × (row : TreeRow) × (t : TextContents) × (p ≡ path_of n) × (find (is_node n) f ≡ Some row)
     × (row.contents.text ≡ Some t) × (x ≡ t.characters)
-IsPartOf f (CaretIs p at) =
+IsPartOf f (CaretIs p (negsuc _)) = Unit {0}
+IsPartOf f (CaretIs p (pos at)) =
     (n : ℕ) × (row : TreeRow) × (t : TextContents) × (p ≡ path_of n) × (find (is_node n) f ≡ Some row)
-    × (row.contents.text ≡ Some t) × (at ≡ pos t.caret)
-IsPartOf f (ColumnsIs p m) =
+    × (row.contents.text ≡ Some t) × (at ≡ t.caret)
+IsPartOf f (ColumnsIs p (negsuc _)) = Unit {0}
+IsPartOf f (ColumnsIs p (pos m)) =
     (n : ℕ) × (row : TreeRow) × (k : ℕ) × (p ≡ path_of n) × (find (is_node n) f ≡ Some row)
-    × (row.contents.columns ≡ Some k) × (m ≡ pos k)
+    × (row.contents.columns ≡ Some k) × (m ≡ k)
 IsPartOf f news = ⊥
 
 -- and makes the view of a reader who was told that part too

@@ -12,4 +12,3 @@ pub mod News
 pub mod Announce
 pub mod Map
 pub mod Laws
-pub mod Examples

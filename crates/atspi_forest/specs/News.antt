@@ -163,11 +163,11 @@ effect root bus v (CaretIs p at) = change (is_path p) (λ row. record row { care
 effect root bus v (ColumnsIs p n) = change (is_path p) (λ row. record row { columns = with_count n told_number row.columns }) v
 effect root bus v Nothing = v
 
--- which parts a reader was told after a news
+-- which parts a reader was told after a news; a caret or count below zero tells nothing
 abbrev pub told_after : (List ℕ → Told) → News → List ℕ → Told
 told_after told (TextIs p x) path = cond (bytes_eq path p) (record (told path) { text = true }) (told path)
-told_after told (CaretIs p at) path = cond (bytes_eq path p) (record (told path) { caret = true }) (told path)
-told_after told (ColumnsIs p n) path = cond (bytes_eq path p) (record (told path) { columns = true }) (told path)
+told_after told (CaretIs p (pos at)) path = cond (bytes_eq path p) (record (told path) { caret = true }) (told path)
+told_after told (ColumnsIs p (pos n)) path = cond (bytes_eq path p) (record (told path) { columns = true }) (told path)
 told_after told news path = told path
 
 -- a news that asks for the whole list again: the addition of a child that is not known

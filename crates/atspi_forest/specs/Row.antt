@@ -1,6 +1,7 @@
 -- The row of a node in the application's tree: its shape, which the tree keeps, and its contents, which the interface
 -- objects keep.
 use Rattle.std.specs.Prelude.{ℕ, ◌+◌, ◌≡◌, ◌≤◌, ◌<◌, ◌==◌, nat_le, ℤ, pos, negsuc, Bool, true, cond, not, List, [], ◌∷◌, ◌++◌, map, filter, length, take, drop, Option, Some, None, is_some, encode_utf8_all}
+use Rattle.atspi_forest.specs.declared.limits.TheConstants.{NAME_LIMIT, TEXT_LIMIT, MARK_LIMIT, COLUMN_LIMIT, ACTION_LIMIT}
 use Rattle.atspi_forest.specs.declared.contents.Kinds.{Kinds}
 
 -- all of a row but its contents; a relation is a pair of its kind and one target, in the order of the targets
@@ -81,9 +82,9 @@ with_targets kind targets relations = filter (λ r. not (r.0 == kind)) relations
 abbrev pub without_targets : (ℕ → Bool) → List (ℕ × ℕ) → List (ℕ × ℕ)
 without_targets gone relations = filter (λ r. not (gone r.1)) relations
 
--- a name or description has at most 511 bytes
+-- a name or description has so many bytes at most
 abbrev pub IsName : List ℕ → Type 0
-IsName text = length (encode_utf8_all text) ≤ 511
+IsName text = length (encode_utf8_all text) ≤ NAME_LIMIT
 
 -- the limits of a shape, and a text that can be edited is a text
 pub record IsShape (row : ShapeRow) : Type 0 where
@@ -93,14 +94,14 @@ pub record IsShape (row : ShapeRow) : Type 0 where
 
 -- the limits of a text, its caret and its selections
 pub record IsText (text : TextContents) : Type 0 where
-  pub short : length text.characters ≤ 1048576
+  pub short : length text.characters ≤ TEXT_LIMIT
   pub caret : text.caret ≤ length text.characters
-  pub few : length text.selections ≤ 16
+  pub few : length text.selections ≤ MARK_LIMIT
   pub selections : Each (λ (s : ℕ × ℕ). (s.0 < s.1) × (s.1 ≤ length text.characters)) text.selections
 
--- a table has from 1 to 1,024 columns
+-- a table has one column at least, and so many at most
 abbrev pub IsColumns : ℕ → Type 0
-IsColumns n = (1 ≤ n) × (n ≤ 1024)
+IsColumns n = (1 ≤ n) × (n ≤ COLUMN_LIMIT)
 
 -- there are contents of just the kinds that the shape names, within their limits
 pub record IsContents (kinds : Kinds) (contents : Contents) : Type 0 where
@@ -109,4 +110,4 @@ pub record IsContents (kinds : Kinds) (contents : Contents) : Type 0 where
   pub table : kinds.table ≡ is_some contents.columns
   pub lawful_columns : HoldsIfThere IsColumns contents.columns
   pub action : kinds.action ≡ not (length contents.actions == 0)
-  pub few_actions : length contents.actions ≤ 8
+  pub few_actions : length contents.actions ≤ ACTION_LIMIT

@@ -1,6 +1,7 @@
 -- What trees ask of a row. The rules of steps and trees are written once, over these, and serve both the whole rows of
 -- the application and the shapes that its tree keeps.
 use Rattle.std.specs.Prelude.{ℕ, ◌+◌, ◌≡◌, ◌≤◌, ◌<◌, ◌==◌, pos, Bool, true, not, List, [], map, length, take, drop, Option, Some, None, is_some}
+use Rattle.atspi_forest.specs.declared.limits.TheConstants.{RELATION_KINDS, STATE_COUNT}
 use Rattle.atspi_forest.specs.declared.contents.Kinds.{Kinds}
 use Rattle.atspi_forest.specs.declared.step.Seed.{Seed}
 use Rattle.atspi_forest.specs.declared.step.Step.{Step}
@@ -57,10 +58,10 @@ forgetting_shape gone row = record row { relations = without_targets gone row.re
 abbrev pub shape_targets : ShapeRow → List ℕ
 shape_targets row = map (λ r. r.1) row.relations
 
--- a state has a bit below 44, a relation a kind from 1 to 18, and what changes a text needs one
+-- a state is one of those that there are, so is the kind of a relation, and what changes a text needs one
 abbrev pub ShapeAllows : Step → ShapeRow → Type 0
-ShapeAllows (SetState _ state on) row = state < 44
-ShapeAllows (Relate _ kind targets) row = (1 ≤ kind) × (kind ≤ 18)
+ShapeAllows (SetState _ state on) row = state < STATE_COUNT
+ShapeAllows (Relate _ kind targets) row = (1 ≤ kind) × (kind ≤ RELATION_KINDS)
 ShapeAllows (Insert _ at text) row = row.kinds.text ≡ true
 ShapeAllows (Delete _ at text) row = row.kinds.text ≡ true
 ShapeAllows (Caret _ at) row = row.kinds.text ≡ true

@@ -1,5 +1,6 @@
 -- An application's tree: what it is, when a step applies to it, and what it is after the step.
 use Rattle.std.specs.Prelude.{ℕ, suc, ◌≡◌, ◌≢◌, ◌≤◌, ◌<◌, ◌==◌, Bool, true, false, List, [], ◌∷◌, Option, Some, None}
+use Rattle.atspi_forest.specs.declared.limits.TheConstants.{NODE_LIMIT, ADDED_LIMIT}
 use Rattle.atspi_forest.specs.declared.step.Seed.{Seed}
 use Rattle.atspi_forest.specs.declared.step.Step.{Step}
 use Rattle.atspi_forest.specs.declared.step.Step.TheVariants.{Add, Remove, Move, SetName, SetDescription, SetRole, SetState, Insert, Delete, Caret, TextSelect, Relate}
@@ -71,8 +72,8 @@ pub record IsTree {A : Type 0} (rules : RowRules A) (f : Forest A) (added : ℕ)
   pub rooted : IsRooted rules f
   pub once : (n : ℕ) → count (is_number rules n) f ≤ 1
   pub numbered : (n : ℕ) → added < n → count (is_number rules n) f ≡ 0
-  pub few : count (λ row. true) f ≤ 8192
-  pub few_ever : added ≤ 4294967295
+  pub few : count (λ row. true) f ≤ NODE_LIMIT
+  pub few_ever : added ≤ ADDED_LIMIT
   pub lawful : EachLabel rules.IsLawful f
   pub targets : EachLabel (λ row. HasTargets rules f (rules.targets row)) f
 
@@ -81,8 +82,8 @@ pub record Adds {A : Type 0} (rules : RowRules A) (f : Forest A) (added n p i : 
   pub next : n ≡ suc added
   pub parent : has (is_number rules p) f ≡ true
   pub index : i ≤ width (children_at (is_number rules p) f)
-  pub room : count (λ row. true) f < 8192
-  pub room_ever : added < 4294967295
+  pub room : count (λ row. true) f < NODE_LIMIT
+  pub room_ever : added < ADDED_LIMIT
   pub lawful : rules.IsLawful (rules.first n seed)
 
 -- any node but the root can be removed

@@ -4,14 +4,18 @@
 
 mod contents;
 mod edit;
-pub mod examples;
 pub mod laws;
+mod limits;
 mod news;
 mod step;
 mod view;
 
 pub use contents::{FaceData, FaceKind, Kinds};
 pub use edit::{Edit, EditFault};
+pub use limits::{
+    ACTION_LIMIT, ADDED_LIMIT, COLUMN_LIMIT, MARK_LIMIT, NAME_LIMIT, NODE_LIMIT, RELATION_KINDS,
+    STATE_COUNT, TEXT_LIMIT,
+};
 pub use news::{Item, Items, News, Reference};
 pub use step::{Seed, Step, StepList};
 pub use view::{NumPart, Part, Row};
