@@ -1,16 +1,9 @@
 //! The program `atspi`: the top call over the command line, standard input and standard output.
 #![tactic(auto)]
 
-#[cfg(test)]
-mod edge_tests;
-mod input;
-mod laws;
-mod play;
-mod run;
 mod standard;
-#[cfg(test)]
-mod tests;
 
+use atspi_run::run;
 use standard::{StandardInput, StandardOutput};
 use std::env;
 use std::io::ErrorKind;
@@ -35,5 +28,5 @@ fn main(rt: HostRuntime) -> ExitCode {
     }
     let mut source = StandardInput::new(rt.stdin());
     let mut sink = StandardOutput::new(rt.stdout());
-    ExitCode::from(run::run(rt.alloc(), &words, &mut source, &mut sink))
+    ExitCode::from(run(rt.alloc(), &words, &mut source, &mut sink))
 }

@@ -4,8 +4,6 @@
 mod checking;
 mod laws;
 mod lines;
-#[cfg(test)]
-mod tests;
 
 pub use checking::{CHECK_LIMIT, check};
 pub use laws::inputs_have_one_end;

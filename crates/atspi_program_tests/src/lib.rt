@@ -1,0 +1,9 @@
+//! Tests of the program over the public calls `run` and `check` alone.
+#![tactic(auto)]
+
+#[cfg(test)]
+mod edge_tests;
+#[cfg(test)]
+mod script_tests;
+#[cfg(test)]
+mod stream_tests;

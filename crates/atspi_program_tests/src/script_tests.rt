@@ -1,0 +1,221 @@
+//! Scripts as worked out by hand, and words that are no command.
+
+use atspi_base::{MemSink, MemSource};
+use atspi_run::run;
+use std::alloc::Global;
+use std::process::Abort;
+use std::test::*;
+
+/// A case: the words, the script, the numbers of the reads and of the writes that fail (none: 99), and what is due.
+struct Case {
+    name: &'static str,
+    script: &'static str,
+    failing_read: u64,
+    failing_write: u64,
+    status: u8,
+    output: &'static str,
+}
+
+/// The worked rows of this stage, and scripts that are refused or broken off.
+const CASES: [Case; 14] = [
+    Case {
+        name: "a button is inserted and renamed",
+        script: "app \"Demo\"\nreader\nturns 1000\nedit a0 insert 0 0 push-button \"OK\"\nedit a0 name 1 \"Save\"\nshow r0 a0\nturns 1000\nshow r0 a0\n",
+        failing_read: 99,
+        failing_write: 99,
+        status: 0,
+        output: "show r0 a0 1\n| root - -1 application 0000000043000100 \"Demo\" \"\" - - - -\nshow r0 a0 2\n| root - -1 application 0000000043000100 \"Demo\" \"\" - - - -\n| 1 root 0 push-button 0000000043000100 \"Save\" \"\" - - - -\n",
+    },
+    Case {
+        name: "busy, and a cache that follows message by message",
+        script: "app \"Demo\"\nreader\nshow r0 a0\nedit a0 insert 0 0 push-button \"OK\"\nturns 1\nshow r0 a0\nturns 1\nshow r0 a0\n",
+        failing_read: 99,
+        failing_write: 99,
+        status: 0,
+        output: "show r0 a0 none\nbusy 1\nshow r0 a0 1\n| root - -1 application 0000000043000100 \"Demo\" \"\" - - - -\nshow r0 a0 2\n| root - -1 application 0000000043000100 \"Demo\" \"\" - - - -\n| 1 root 0 push-button 0000000043000100 \"OK\" \"\" - - - -\n",
+    },
+    Case {
+        name: "a word that is none",
+        script: "frob\n",
+        failing_read: 99,
+        failing_write: 99,
+        status: 1,
+        output: "refused 1 Later\n",
+    },
+    Case {
+        name: "a node that is not there",
+        script: "app \"Demo\"\nedit a0 name 7 \"x\"\n",
+        failing_read: 99,
+        failing_write: 99,
+        status: 1,
+        output: "refused 2 NoNode\n",
+    },
+    Case {
+        name: "an index past the children",
+        script: "app \"Demo\"\nedit a0 insert 0 2 label \"x\"\n",
+        failing_read: 99,
+        failing_write: 99,
+        status: 1,
+        output: "refused 2 BadIndex\n",
+    },
+    Case {
+        name: "an end that is started again",
+        script: "# two readers\n\nreader\nreader\n",
+        failing_read: 99,
+        failing_write: 99,
+        status: 1,
+        output: "refused 4 Later\n",
+    },
+    Case {
+        name: "an end that is not started",
+        script: "app \"Demo\"\nshow r0 a0\n",
+        failing_read: 99,
+        failing_write: 99,
+        status: 1,
+        output: "refused 2 Later\n",
+    },
+    Case {
+        name: "every escape of a quoted text",
+        script: "app \"\\\"\\\\\\x01\\x1f\\x7f\u{e9}\"\nreader\nturns 1\nshow r0 a0",
+        failing_read: 99,
+        failing_write: 99,
+        status: 0,
+        output: "show r0 a0 1\n| root - -1 application 0000000043000100 \"\\\"\\\\\\x01\\x1f\\x7f\u{e9}\" \"\" - - - -\n",
+    },
+    Case {
+        name: "an escape that is none",
+        script: "app \"\\x41\"\n",
+        failing_read: 99,
+        failing_write: 99,
+        status: 1,
+        output: "refused 1 Later\n",
+    },
+    Case {
+        name: "a number with a leading zero",
+        script: "turns 01\n",
+        failing_read: 99,
+        failing_write: 99,
+        status: 1,
+        output: "refused 1 Later\n",
+    },
+    Case {
+        name: "a role by its number, siblings at an index",
+        script: "app \"D\"\nreader\nturns 1\nedit a0 insert 0 0 200 \"b\"\nedit a0 insert 0 0 29 \"a\"\nturns 9\nshow r0 a0\n",
+        failing_read: 99,
+        failing_write: 99,
+        status: 0,
+        output: "show r0 a0 3\n| root - -1 application 0000000043000100 \"D\" \"\" - - - -\n| 2 root 0 label 0000000043000100 \"a\" \"\" - - - -\n| 1 root 1 200 0000000043000100 \"b\" \"\" - - - -\n",
+    },
+    Case {
+        name: "an empty input",
+        script: "",
+        failing_read: 99,
+        failing_write: 99,
+        status: 0,
+        output: "",
+    },
+    Case {
+        name: "the first read fails",
+        script: "app \"Demo\"\nshow",
+        failing_read: 0,
+        failing_write: 99,
+        status: 3,
+        output: "",
+    },
+    Case {
+        name: "the second write fails",
+        script: "app \"Demo\"\nreader\nshow r0 a0\nshow r0 a0\nshow r0 a0\n",
+        failing_read: 99,
+        failing_write: 1,
+        status: 4,
+        output: "show r0 a0 none\n",
+    },
+];
+
+/// Runs a case, and asserts what is due.
+fn assert_case(rt: &impl Abort, alloc: Global, case: &Case) -> Result<(), Fail> {
+    let mut words = Vec::new(alloc);
+    words.push(String::from_str(alloc, "replay")?)?;
+    words.push(String::from_str(alloc, "--brief")?)?;
+    let script = case.script.as_bytes().to_vec(alloc)?;
+    let mut source = MemSource::new(script, [case.failing_read].to_vec(alloc)?);
+    let mut sink = MemSink::new(alloc, [case.failing_write].to_vec(alloc)?);
+    let status = run(alloc, &words, &mut source, &mut sink);
+    assert_eq!(rt; status, case.status, "status of: {}", case.name);
+    assert_eq!(rt;
+        sink.bytes(),
+        case.output.as_bytes(),
+        "output of: {}",
+        case.name
+    );
+    Ok(())
+}
+
+#[test]
+fn scripts_are_replayed_as_worked_out_by_hand(rt: HostRuntime) -> Result<(), Fail> {
+    for case in &CASES {
+        assert_case(&rt, rt.alloc(), case)?;
+    }
+    Ok(())
+}
+
+/// Runs the program on one word and no input, and asserts the status and the text that are due.
+fn assert_told(
+    rt: &impl Abort,
+    alloc: Global,
+    word: &str,
+    status: u8,
+    text: &[u8],
+) -> Result<(), Fail> {
+    let mut words = Vec::new(alloc);
+    words.push(String::from_str(alloc, word)?)?;
+    let mut source = MemSource::new(Vec::new(alloc), Vec::new(alloc));
+    let mut sink = MemSink::new(alloc, Vec::new(alloc));
+    assert_eq!(rt;
+        run(alloc, &words, &mut source, &mut sink),
+        status,
+        "word: {word}"
+    );
+    assert_eq!(rt; sink.bytes(), text, "word: {word}");
+    Ok(())
+}
+
+#[test]
+fn one_word_is_told_its_text(rt: HostRuntime) -> Result<(), Fail> {
+    let table: [(&str, u8, &[u8]); 7] = [
+        (
+            "replay",
+            2,
+            b"usage: atspi replay, check, make, bus, registry, app or read\n",
+        ),
+        (
+            "--brief",
+            2,
+            b"usage: atspi replay, check, make, bus, registry, app or read\n",
+        ),
+        (
+            "replay --brief",
+            2,
+            b"usage: atspi replay, check, make, bus, registry, app or read\n",
+        ),
+        (
+            "checks",
+            2,
+            b"usage: atspi replay, check, make, bus, registry, app or read\n",
+        ),
+        ("check", 0, b""),
+        ("--version", 0, b"atspi 0.1.0\n"),
+        (
+            "--help",
+            0,
+            b"atspi replay --brief  a script on standard input: what each reader shows\n\
+atspi check           D-Bus messages on standard input: a line for each, or the first fault\n\
+atspi --help          this text\n\
+atspi --version       the version\n",
+        ),
+    ];
+    for (word, status, text) in table {
+        assert_told(&rt, rt.alloc(), word, status, text)?;
+    }
+    Ok(())
+}
