@@ -1,0 +1,3 @@
+pub mod FirstType
+pub mod Parts
+pub mod Spelled

@@ -1,0 +1,9 @@
+//! Types that are read from the codes that spell them, without memory.
+#![tactic(auto)]
+
+mod first;
+mod shape;
+mod types;
+
+pub use shape::Shape;
+pub use types::{EntryRef, TyRef, TysRef};

@@ -1,0 +1,156 @@
+//! One type, and several, as the codes that spell them.
+
+ghost use Rattle.std.specs.Prelude.{◌≡◌, IsTrue, length};
+ghost use Rattle.atspi_codes.specs.Codes.{kinds_at, spells};
+
+use crate::first::first_len;
+
+/// One lawful type within the limits of a signature (D-Bus Specification, "Type System"), as the codes that spell it.
+#[derive(Clone, Copy)]
+pub struct TyRef<'a> {
+    codes: &'a [u8],
+    ghost one: { length (kinds_at codes.now) ≡ 1 },
+}
+
+/// Several lawful types within the limits of a signature, or none, as the codes that spell them. It is its own iterator.
+#[derive(Clone, Copy)]
+pub struct TysRef<'a> {
+    codes: &'a [u8],
+    ghost all: { IsTrue (spells codes.now) },
+}
+
+/// The types of a dictionary's entries.
+#[derive(Clone, Copy)]
+pub struct EntryRef<'a> {
+    pub key: TyRef<'a>,
+    pub value: TyRef<'a>,
+}
+
+impl<'a> TysRef<'a> {
+    ghost use Rattle.std.specs.Prelude.{◌↔◌, [], ◌∷◌, ◌==◌, IfSome, IsSome, length};
+    ghost use Rattle.atspi_types.specs.Kinds.{kinds_of};
+    ghost use Rattle.atspi_types.specs.Signatures.{signature_bytes, IsSignature};
+    ghost use Rattle.atspi_codes.specs.TyRefs.{ref_kind, refs_kinds, TypeComes};
+
+    /// The next type. Behind it stand the others; where there is none, none comes later.
+    pub fn next(&mut self) -> Option<TyRef<'a>>
+        ensures { TypeComes result (refs_kinds self.old) (refs_kinds self.new) }
+    {
+        if self.codes.is_empty() {
+            return None;
+        }
+        let codes = self.codes;
+        let len = first_len(codes);
+        self.codes = &codes[len..];
+        Some(TyRef {
+            codes: &codes[..len],
+        })
+    }
+
+    /// Whether there is no type.
+    pub fn is_empty(self) -> bool
+        ensures { IsTrue result ↔ (refs_kinds self.entry ≡ []) }
+    {
+        self.codes.is_empty()
+    }
+
+    /// The type, where it is one alone.
+    pub fn single(self) -> Option<TyRef<'a>>
+        ensures is { IsSome result ↔ (length (refs_kinds self.entry) ≡ 1) }
+        ensures ty { IfSome result (λ t. refs_kinds self.entry ≡ ref_kind t ∷ []) }
+    {
+        let codes = self.codes;
+        if codes.is_empty() {
+            return None;
+        }
+        if first_len(codes) != codes.len() {
+            return None;
+        }
+        Some(TyRef { codes })
+    }
+
+    /// The codes that spell the types.
+    pub fn codes(self) -> &'a [u8]
+        ensures spelled { result.now ≡ signature_bytes (kinds_of (refs_kinds self.entry)) }
+        ensures within { IsSignature (kinds_of (refs_kinds self.entry)) }
+    {
+        self.codes
+    }
+}
+
+impl<'a> TyRef<'a> {
+    ghost use Rattle.std.specs.Prelude.{◌↔◌, IfSome, IsSome};
+    ghost use Rattle.atspi_types.specs.Kinds.{no_kinds, kind, array, structure, dictionary, kinds_of};
+    ghost use Rattle.atspi_types.specs.Signatures.{type_bytes, IsSignature};
+    ghost use Rattle.atspi_codes.specs.Codes.{head_code, leaf_of, is_array, is_structure, is_dictionary};
+    ghost use Rattle.atspi_codes.specs.TyRefs.{ref_kind, refs_kinds};
+
+    /// The code that the type begins with.
+    pub fn code(self) -> u8
+        ensures head { result ≡ head_code (ref_kind self.entry) }
+        // All types but arrays, dictionaries and structs are told by it alone.
+        ensures leaf { (result ≡ 97 → ⊥) → (result ≡ 40 → ⊥) → ref_kind self.entry ≡ leaf_of result }
+    {
+        self.codes[0]
+    }
+
+    /// The codes that spell the type.
+    pub fn codes(self) -> &'a [u8]
+        ensures spelled { result.now ≡ type_bytes (ref_kind self.entry) }
+        ensures within { IsSignature (kind (ref_kind self.entry) no_kinds) }
+    {
+        self.codes
+    }
+
+    /// The type of the elements, exactly where it is an array and no dictionary.
+    pub fn element(self) -> Option<TyRef<'a>>
+        ensures is { IsSome result ↔ IsTrue (is_array (ref_kind self.entry)) }
+        ensures element { IfSome result (λ t. ref_kind self.entry ≡ array (ref_kind t)) }
+    {
+        let codes = self.codes;
+        if codes[0] != b'a' {
+            return None;
+        }
+        if codes[1] == b'{' {
+            return None;
+        }
+        Some(TyRef { codes: &codes[1..] })
+    }
+
+    /// The types of the fields, exactly where it is a struct.
+    pub fn fields(self) -> Option<TysRef<'a>>
+        ensures is { IsSome result ↔ IsTrue (is_structure (ref_kind self.entry)) }
+        ensures fields { IfSome result (λ ts. ref_kind self.entry ≡ structure (kinds_of (refs_kinds ts))) }
+    {
+        let codes = self.codes;
+        if codes[0] != b'(' {
+            return None;
+        }
+        Some(TysRef {
+            codes: &codes[1..codes.len() - 1],
+        })
+    }
+
+    /// The types of the key and the value, exactly where it is a dictionary.
+    pub fn entry(self) -> Option<EntryRef<'a>>
+        ensures is { IsSome result ↔ IsTrue (is_dictionary (ref_kind self.entry)) }
+        ensures entry { IfSome result (λ e. ref_kind self.entry ≡ dictionary (ref_kind e.key) (ref_kind e.value)) }
+    {
+        let codes = self.codes;
+        if codes[0] != b'a' {
+            return None;
+        }
+        if codes[1] != b'{' {
+            return None;
+        }
+        Some(EntryRef {
+            // A key is basic, so its type has one code.
+            key: TyRef {
+                codes: &codes[2..3],
+            },
+            value: TyRef {
+                codes: &codes[3..codes.len() - 1],
+            },
+        })
+    }
+}
