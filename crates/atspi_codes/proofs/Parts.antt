@@ -3,11 +3,11 @@ use Rattle.std.proofs.Common.{◌≡◌, ℕ, ◌+◌, ◌-◌, ◌≤◌, ◌<�
 use Rattle.std.specs.Prelude.{◌==◌, ◌↔◌}
 use Rattle.std.proofs.lemmas.Bool.{eqb-true, eq-eqb, false≢true}
 use Rattle.std.proofs.lemmas.List.{take_at, take_all, length-drop}
-use Rattle.atspi_types.specs.Kinds.{Num, byte, i16, u16, i32, u32, i64, u64, double, Kind, number, boolean, text, path, signature, array, structure, variant, dictionary, no_kinds, kind, kinds_of, types_in, IsBasic}
+use Rattle.atspi_types.specs.Kinds.{Num, byte, i16, u16, i32, u32, i64, u64, double, Kind, number, boolean, text, path, signature, array, structure, variant, dictionary, no_kinds, kind, kinds_of, types_in, IsBasic, is_basic, alignment}
 use Rattle.atspi_types.specs.Signatures.{number_code, type_bytes, signature_bytes, IsSignature}
 use Rattle.atspi_types.proofs.DataLemmas.{kinds_of-types_in}
 use Rattle.atspi_codes.proofs.Spelled.{Spelled, one_is, one_again, all_again, of_types, of_array, of_struct, of_entry, has_codes, Next, next_is, none_spelled, all_is}
-use Rattle.atspi_codes.specs.Codes.{kinds_at, spells, kind_at, head_code, leaf_of, is_array, is_structure, is_dictionary, first_end}
+use Rattle.atspi_codes.specs.Codes.{kinds_at, spells, kind_at, head_code, leaf_of, code_is_basic, code_alignment, is_array, is_structure, is_dictionary, first_end}
 
 -- two tests of one answer
 pub same_answer : (a b : Bool) → a ≡ b → (a ≡ true) ↔ (b ≡ true)
@@ -313,3 +313,48 @@ alone_only codes h lt e =
     let t = next_is codes h lt in
     let none = no_codes (drop (first_end 0 codes) codes) t.all (omega (arith, e, ap length t.kinds)) in
     omega (arith, length-drop (first_end 0 codes) codes, none, t.end)
+
+-- what the first code tells
+pub basic_by_code : (k : Kind) → code_is_basic (head_code k) ≡ is_basic k
+basic_by_code (number byte) = refl
+basic_by_code (number i16) = refl
+basic_by_code (number u16) = refl
+basic_by_code (number i32) = refl
+basic_by_code (number u32) = refl
+basic_by_code (number i64) = refl
+basic_by_code (number u64) = refl
+basic_by_code (number double) = refl
+basic_by_code boolean = refl
+basic_by_code text = refl
+basic_by_code path = refl
+basic_by_code signature = refl
+basic_by_code (array k) = refl
+basic_by_code (structure ks) = refl
+basic_by_code variant = refl
+basic_by_code (dictionary k v) = refl
+
+pub alignment_by_code : (k : Kind) → code_alignment (head_code k) ≡ alignment k
+alignment_by_code (number byte) = refl
+alignment_by_code (number i16) = refl
+alignment_by_code (number u16) = refl
+alignment_by_code (number i32) = refl
+alignment_by_code (number u32) = refl
+alignment_by_code (number i64) = refl
+alignment_by_code (number u64) = refl
+alignment_by_code (number double) = refl
+alignment_by_code boolean = refl
+alignment_by_code text = refl
+alignment_by_code path = refl
+alignment_by_code signature = refl
+alignment_by_code (array k) = refl
+alignment_by_code (structure ks) = refl
+alignment_by_code variant = refl
+alignment_by_code (dictionary k v) = refl
+
+-- types are the same exactly where their codes are
+pub same_codes : (codes others : List ℕ) → length (kinds_at codes) ≡ 1 → length (kinds_at others) ≡ 1 → (codes ≡ others) ↔ (kind_at codes ≡ kind_at others)
+same_codes codes others h g = (λ e. ap kind_at e, λ e. (one_is codes h).bytes ∙ (ap type_bytes e ∙ sym (one_is others g).bytes))
+
+-- no codes spell no types
+pub nothing_spelled : (spells [] ≡ true) × (kinds_at [] ≡ [])
+nothing_spelled = all_again [] [] (record { bytes = refl; within = record { lawful = tt; fits = record { short = omega arith; arrays = omega arith; structs = omega arith } } })

@@ -70,6 +70,15 @@ leaf_of b =
     else if b == 120 then number i64 else if b == 116 then number u64 else if b == 100 then number double else if b == 98 then boolean else if b == 115 then text
     else if b == 111 then path else if b == 103 then signature else variant
 
+-- what such a code tells of every type that begins with it
+abbrev pub code_is_basic : ℕ → Bool
+code_is_basic b = if b == 97 then false else if b == 40 then false else if b == 118 then false else true
+
+abbrev pub code_alignment : ℕ → ℕ
+code_alignment b =
+    if b == 121 then 1 else if b == 103 then 1 else if b == 118 then 1 else if b == 110 then 2 else if b == 113 then 2
+    else if b == 120 then 8 else if b == 116 then 8 else if b == 100 then 8 else if b == 40 then 8 else 4
+
 -- how many codes the first type has, where so many brackets are open
 abbrev pub opens : ℕ → Bool
 opens b = b == 40 || b == 123

@@ -1,3 +1,4 @@
 pub mod Codes
+pub mod Marks
 pub mod Shapes
 pub mod TyRefs

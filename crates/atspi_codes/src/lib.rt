@@ -1,7 +1,10 @@
 //! Types that are read from the codes that spell them, without memory.
 #![tactic(auto)]
 
+mod code;
 mod first;
+mod marks;
+mod parsing;
 mod shape;
 mod types;
 

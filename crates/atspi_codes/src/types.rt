@@ -2,8 +2,11 @@
 
 ghost use Rattle.std.specs.Prelude.{◌≡◌, IsTrue, length};
 ghost use Rattle.atspi_codes.specs.Codes.{kinds_at, spells};
+ghost use Rattle.atspi_codes.specs.Codes as definitions;
 
 use crate::first::first_len;
+use crate::parsing::check;
+use atspi_types::Fault;
 
 /// One lawful type within the limits of a signature (D-Bus Specification, "Type System"), as the codes that spell it.
 #[derive(Clone, Copy)]
@@ -27,10 +30,40 @@ pub struct EntryRef<'a> {
 }
 
 impl<'a> TysRef<'a> {
-    ghost use Rattle.std.specs.Prelude.{◌↔◌, [], ◌∷◌, ◌==◌, IfSome, IsSome, length};
-    ghost use Rattle.atspi_types.specs.Kinds.{kinds_of};
+    ghost use Rattle.std.specs.Prelude.{IfOk, IfErr, IsOkAnd, ◌↔◌, [], ◌∷◌, ◌==◌, IfSome, IsSome, length};
+    ghost use Rattle.atspi_types.specs.Kinds.{Kinds, kinds_of};
     ghost use Rattle.atspi_types.specs.Signatures.{signature_bytes, IsSignature};
-    ghost use Rattle.atspi_codes.specs.TyRefs.{ref_kind, refs_kinds, TypeComes};
+    ghost use Rattle.atspi_types.specs.SignatureFaults.{IsFirstSignatureFault};
+    ghost use Rattle.atspi_types.specs.SignatureReading.{signature_in};
+    ghost use Rattle.atspi_codes.specs.TyRefs.{ref_kind, refs_kinds, TypeComes, refs_read};
+
+    /// The types that the bytes spell (D-Bus Specification, "Type System"). Refused with the first fault, of the reasons 1 to 9.
+    pub fn parse(bytes: &'a [u8]) -> Result<TysRef<'a>, Fault>
+        // What is read is spelled so.
+        ensures found { IfOk result (λ types. bytes.now ≡ signature_bytes (kinds_of (refs_kinds types))) }
+        ensures within { IfOk result (λ types. IsSignature (kinds_of (refs_kinds types))) }
+        // What is spelled so is read.
+        ensures only { (ks : Kinds) → IsSignature ks → bytes.now ≡ signature_bytes ks → IsOkAnd result (λ types. kinds_of (refs_kinds types) ≡ ks) }
+        // Of all that is wrong the least is told.
+        ensures first { IfErr result (λ fault. IsFirstSignatureFault bytes.now fault.place fault.reason) }
+        ensures exact { refs_read result ≡ signature_in bytes.now }
+    {
+        TysRef::read(bytes)
+    }
+
+    fn read(bytes: &'a [u8]) -> Result<TysRef<'a>, Fault>
+        ensures { refs_read result ≡ signature_in bytes.now }
+    {
+        check(bytes)?;
+        Ok(TysRef { codes: bytes })
+    }
+
+    /// No types.
+    pub fn none() -> TysRef<'a>
+        ensures { refs_kinds result ≡ [] }
+    {
+        TysRef { codes: &[] }
+    }
 
     /// The next type. Behind it stand the others; where there is none, none comes later.
     pub fn next(&mut self) -> Option<TyRef<'a>>
@@ -82,8 +115,19 @@ impl<'a> TyRef<'a> {
     ghost use Rattle.std.specs.Prelude.{◌↔◌, IfSome, IsSome};
     ghost use Rattle.atspi_types.specs.Kinds.{no_kinds, kind, array, structure, dictionary, kinds_of};
     ghost use Rattle.atspi_types.specs.Signatures.{type_bytes, IsSignature};
+    ghost use Rattle.atspi_types.specs.Kinds.{alignment, is_basic};
+    ghost use Rattle.atspi_types.specs.SignatureReading.{signature_in};
     ghost use Rattle.atspi_codes.specs.Codes.{head_code, leaf_of, is_array, is_structure, is_dictionary};
-    ghost use Rattle.atspi_codes.specs.TyRefs.{ref_kind, refs_kinds};
+    ghost use Rattle.atspi_codes.specs.TyRefs.{ref_kind, refs_kinds, ReadsOne};
+
+    /// The one type that the bytes spell; `None` where they spell none or several. Refused with the first fault, of the
+    /// reasons 1 to 9.
+    pub fn parse(bytes: &'a [u8]) -> Result<Option<TyRef<'a>>, Fault>
+        ensures { ReadsOne result (signature_in bytes.now) }
+    {
+        let types = TysRef::parse(bytes)?;
+        Ok(types.single())
+    }
 
     /// The code that the type begins with.
     pub fn code(self) -> u8
@@ -92,6 +136,27 @@ impl<'a> TyRef<'a> {
         ensures leaf { (result ≡ 97 → ⊥) → (result ≡ 40 → ⊥) → ref_kind self.entry ≡ leaf_of result }
     {
         self.codes[0]
+    }
+
+    /// Whether the type is basic, that is, no container.
+    pub fn is_basic(self) -> bool
+        ensures { result ≡ is_basic (ref_kind self.entry) }
+    {
+        code_is_basic(self.codes[0])
+    }
+
+    /// The place of a value of the type is a multiple of this many bytes.
+    pub fn alignment(self) -> usize
+        ensures { result ≡ alignment (ref_kind self.entry) }
+    {
+        code_alignment(self.codes[0])
+    }
+
+    /// Whether the two are the same type.
+    pub fn is(self, other: TyRef<'_>) -> bool
+        ensures { IsTrue result ↔ (ref_kind self.entry ≡ ref_kind other.entry) }
+    {
+        self.codes == other.codes
     }
 
     /// The codes that spell the type.
@@ -152,5 +217,30 @@ impl<'a> TyRef<'a> {
                 codes: &codes[3..codes.len() - 1],
             },
         })
+    }
+}
+
+/// Whether a type that begins with the code is basic.
+fn code_is_basic(code: u8) -> bool
+    ensures { result ≡ definitions.code_is_basic code }
+{
+    code != b'a' && code != b'(' && code != b'v'
+}
+
+/// The alignment of a type that begins with the code.
+fn code_alignment(code: u8) -> usize
+    ensures { result ≡ definitions.code_alignment code }
+{
+    match code {
+        b'y' => 1,
+        b'g' => 1,
+        b'v' => 1,
+        b'n' => 2,
+        b'q' => 2,
+        b'x' => 8,
+        b't' => 8,
+        b'd' => 8,
+        b'(' => 8,
+        _ => 4,
     }
 }
