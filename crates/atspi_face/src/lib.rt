@@ -1,0 +1,12 @@
+//! An object that keeps the contents of one kind for the nodes of an application: texts, column counts or names of
+//! actions. The application stands on this trait alone.
+#![tactic(auto)]
+
+mod boxed;
+mod change;
+pub mod examples;
+mod face;
+
+pub use atspi_forest::{FaceData, FaceKind};
+pub use change::Change;
+pub use face::Face;
