@@ -1,0 +1,5 @@
+pub mod Kept
+pub mod Places
+pub mod Columns
+pub mod Actions
+pub mod Plain

@@ -1,0 +1,15 @@
+//! The objects that keep texts, column counts and names of actions for the nodes of an application.
+#![tactic(auto)]
+
+mod actions;
+mod columns;
+mod contents;
+mod kept;
+mod plain;
+mod run;
+
+pub use actions::{Actions, Deeds};
+pub use columns::{Columns, Grid};
+pub use contents::Contents;
+pub use kept::Kept;
+pub use plain::{PlainChars, PlainText};

@@ -1,0 +1,97 @@
+//! Texts that are kept in one piece.
+
+ghost use Rattle.std.specs.Prelude.{◌≡◌, ◌≤◌, ◌<◌, length, IfOk, OnErr};
+
+use crate::contents::Contents;
+use crate::kept::Kept;
+use crate::run::Run;
+use atspi_base::{Marks, NoMemory, Text};
+use atspi_face::{Change, FaceData, FaceKind};
+use std::alloc::Global;
+
+/// The text of a node in one piece, with its caret and its text selections.
+#[derive(Drop)]
+pub struct PlainChars {
+    text: Run,
+    caret: u32,
+    marks: Marks,
+    ghost inside: { caret ≤ length text },
+    ghost counted: { length text < 4294967296 },
+}
+
+/// A face of texts, each kept in one piece.
+pub type PlainText = Kept<PlainChars>;
+
+impl Contents for PlainChars {
+    ghost use Rattle.atspi_forest.specs.declared.contents.FaceKind.TheVariants.{Chars as chars_kind};
+    ghost use Rattle.atspi_faces.specs.Plain.{plain_data, plain_sound};
+
+    ghost of_kind = { chars_kind };
+
+    ghost as_data = { plain_data };
+
+    ghost sound = { plain_sound };
+
+    fn kind() -> FaceKind {
+        FaceKind::Chars
+    }
+
+    fn copy_of(alloc: Global, what: &FaceData) -> Result<PlainChars, NoMemory> {
+        match what {
+            FaceData::Chars { text, caret, marks } => {
+                let text = Run::copy_of(alloc, text)?;
+                let marks = marks.copy(alloc)?;
+                Ok(PlainChars {
+                    text,
+                    caret: *caret,
+                    marks,
+                })
+            }
+            FaceData::Grid(_) => unreachable!(),
+            FaceData::Deeds(_) => unreachable!(),
+        }
+    }
+
+    fn count(&self) -> u32 {
+        self.text.count()
+    }
+
+    fn caret(&self) -> u32 {
+        self.caret
+    }
+
+    fn part(&self, alloc: Global, from: u32, to: u32) -> Result<Text, NoMemory> {
+        self.text.part(alloc, from, to)
+    }
+
+    fn marks(&self, alloc: Global) -> Result<Marks, NoMemory> {
+        self.marks.copy(alloc)
+    }
+
+    fn change(&mut self, alloc: Global, what: &Change) -> Result<(), NoMemory> {
+        match what {
+            Change::Insert { at, text } => {
+                self.text.insert(*at, text)?;
+                self.marks = Marks::new(alloc);
+            }
+            Change::Delete { at, len } => {
+                self.text.delete(*at, *len);
+                self.marks = Marks::new(alloc);
+            }
+            Change::Caret(to) => self.caret = *to,
+            Change::Marks(marks) => self.marks = copy_marks(alloc, marks)?,
+        }
+        Ok(())
+    }
+}
+
+/// An equal list, which takes no memory where it is empty.
+fn copy_marks(alloc: Global, marks: &Marks) -> Result<Marks, NoMemory>
+    ensures ok { IfOk result (λ copy. copy ≡ marks.now) }
+    ensures cause { OnErr result (0 < length marks.now) }
+{
+    if marks.len() == 0 {
+        return Ok(Marks::new(alloc));
+    }
+    marks.copy(alloc)
+}
