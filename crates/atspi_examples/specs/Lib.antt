@@ -1,0 +1,5 @@
+pub mod Numbers
+pub mod Room
+pub mod Edited
+pub mod Maps
+pub mod Seen

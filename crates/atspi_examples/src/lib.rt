@@ -1,0 +1,17 @@
+//! Worked cases of the forest's definitions: what they say of small trees, lists of items and news, beside the value that
+//! is wanted, worked out by hand from the table of edits and the rules for readers. Each case is a clause of a function
+//! without a body. So a definition that says otherwise is refused here, though every law holds of it.
+#![tactic(auto)]
+
+pub mod announcements;
+pub mod edits;
+pub mod forests;
+pub mod lawful;
+pub mod loads;
+pub mod maps;
+pub mod news;
+pub mod refusals;
+pub mod rows;
+pub mod sequences;
+pub mod states;
+pub mod steps;
