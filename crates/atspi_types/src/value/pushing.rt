@@ -1,6 +1,6 @@
 //! Appending to a list of values, and making one of numbers without copying them.
 
-ghost use Rattle.std.specs.Prelude.{◌≡◌, [], ◌∷◌, ◌++◌, OnOk, OnErr, map};
+ghost use Rattle.std.specs.Prelude.{◌≡◌, [], ◌∷◌, ◌++◌, IfOk, OnOk, OnErr, map};
 ghost use Rattle.std.specs.Int.{w16, w32, w64, cast_unsigned};
 ghost use Rattle.atspi_types.specs.Kinds.{byte, i16 as short, u16 as unsigned_short, i32 as word, u32 as unsigned_word, i64 as long, u64 as unsigned_long, double};
 ghost use Rattle.atspi_types.specs.Data.{number_data, boolean_data};
@@ -42,48 +42,30 @@ impl Values {
         ensures ok { OnOk result (all_data self.new ≡ all_data self.old ++ data_of value ∷ []) }
         ensures err { OnErr result (all_data self.new ≡ all_data self.old) }
     {
+        if let Kept::Values(values) = &mut self.kept {
+            values.push(value)?;
+            return Ok(());
+        }
+        let values = self.spread()?;
+        self.replace(values, value)
+    }
+
+    /// The numbers or booleans as values. It is not asked of a list that is kept as values.
+    fn spread(&self) -> Result<Vec<Value>, NoMemory>
+        ensures { IfOk result (λ values. map data_of values.items ≡ all_data self.now) }
+    {
         let alloc = self.kept.allocator();
-        match &mut self.kept {
-            Kept::Values(values) => {
-                values.push(value)?;
-                Ok(())
-            }
-            Kept::Bytes(items) => {
-                let values = values_of(alloc, items)?;
-                self.replace(values, value)
-            }
-            Kept::Bools(items) => {
-                let values = values_of(alloc, items)?;
-                self.replace(values, value)
-            }
-            Kept::I16s(items) => {
-                let values = values_of(alloc, items)?;
-                self.replace(values, value)
-            }
-            Kept::U16s(items) => {
-                let values = values_of(alloc, items)?;
-                self.replace(values, value)
-            }
-            Kept::I32s(items) => {
-                let values = values_of(alloc, items)?;
-                self.replace(values, value)
-            }
-            Kept::U32s(items) => {
-                let values = values_of(alloc, items)?;
-                self.replace(values, value)
-            }
-            Kept::I64s(items) => {
-                let values = values_of(alloc, items)?;
-                self.replace(values, value)
-            }
-            Kept::U64s(items) => {
-                let values = values_of(alloc, items)?;
-                self.replace(values, value)
-            }
-            Kept::Doubles(items) => {
-                let values = doubles_of(alloc, items)?;
-                self.replace(values, value)
-            }
+        match &self.kept {
+            Kept::Bytes(items) => values_of(alloc, items),
+            Kept::Bools(items) => values_of(alloc, items),
+            Kept::I16s(items) => values_of(alloc, items),
+            Kept::U16s(items) => values_of(alloc, items),
+            Kept::I32s(items) => values_of(alloc, items),
+            Kept::U32s(items) => values_of(alloc, items),
+            Kept::I64s(items) => values_of(alloc, items),
+            Kept::U64s(items) => values_of(alloc, items),
+            Kept::Doubles(items) => doubles_of(alloc, items),
+            Kept::Values(_) => Err(NoMemory),
         }
     }
 
