@@ -289,6 +289,14 @@ no_fault_of_signature ks place reason h (refused q s c judged r) = by (cases_lt 
     by (inl lt) = passed (signature_bytes ks) (length (signature_bytes ks)) (at_top (types_in ks)) (omega arith) whole place reason c lt judged r
     by (inr le) = at_end (omega (arith, le, judged.within))
 
+-- bytes are a signature or have a first fault, as reading them tells
+pub signature_or_first_fault : (bytes : List ℕ) → ((ks : Kinds) × IsSignature ks × (bytes ≡ signature_bytes ks)) ⊎ ((place : ℕ) × (reason : ℕ) × IsFirstSignatureFault bytes place reason)
+signature_or_first_fault bytes = by (signature_in bytes) refl
+  where
+    by : (r : Result (List Kind) Fault) → signature_in bytes ≡ r → ((ks : Kinds) × IsSignature ks × (bytes ≡ signature_bytes ks)) ⊎ ((place : ℕ) × (reason : ℕ) × IsFirstSignatureFault bytes place reason)
+    by (Ok ks) e = let t = signature_in-read bytes ks e in inl (kinds_of ks, t.is, t.spelled)
+    by (Err f) e = inr (f.place, f.reason, signature_in-told bytes f e)
+
 -- the tests of what a signature is say the same
 mutual
   pub lawful_from : (k : Kind) → is_lawful k ≡ true → IsLawful k

@@ -13,8 +13,10 @@ mod value;
 
 pub use borrowed::{Run, ValueRef};
 pub use fault::{Fault, Order, ReadFault};
-pub use laws::tests_decide;
-pub use names::{BusName, Interface, Member, NameFault, Path};
+pub use laws::{signature_or_fault, tests_decide};
+pub use names::{
+    BusName, Interface, Member, NameFault, Path, is_bus_name, is_interface, is_member, is_path,
+};
 pub use signature::Signature;
 pub use ty::{EntryType, Ty, Tys};
 pub use value::{Pairs, Value, Values};

@@ -1,4 +1,4 @@
-//! The four kinds of name: owned texts, each of its rule.
+//! The four kinds of name: owned texts, each of its rule, and the tests of the rules.
 
 mod bus_name;
 mod elements;
@@ -7,8 +7,8 @@ mod interface;
 mod member;
 mod path;
 
-pub use bus_name::BusName;
+pub use bus_name::{BusName, is_bus_name};
 pub use fault::NameFault;
-pub use interface::Interface;
-pub use member::Member;
-pub use path::Path;
+pub use interface::{Interface, is_interface};
+pub use member::{Member, is_member};
+pub use path::{Path, is_path};

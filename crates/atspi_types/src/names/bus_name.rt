@@ -53,6 +53,14 @@ fn has_elements(bytes: &[u8]) -> bool
     }
 }
 
+/// Whether the bytes are a bus name, unique or well-known (D-Bus Specification, "Valid Names"). It needs no memory.
+pub fn is_bus_name(bytes: &[u8]) -> bool
+    ensures rule { IsTrue result ↔ IsBusName bytes.now }
+    ensures tested { result ≡ is_bus_name bytes.now }
+{
+    is_rule(bytes)
+}
+
 impl BusName {
     /// The name that the bytes are. Refused as `Form` exactly where they are outside the rule.
     pub fn read(alloc: Global, bytes: &[u8]) -> Result<BusName, NameFault>

@@ -39,6 +39,14 @@ fn is_rule(bytes: &[u8]) -> bool
     are_two_or_more(Form::Interface, b'.', bytes) && bytes.len() <= 255
 }
 
+/// Whether the bytes are the name of an interface or of an error (D-Bus Specification, "Valid Names"). It needs no memory.
+pub fn is_interface(bytes: &[u8]) -> bool
+    ensures rule { IsTrue result ↔ IsInterface bytes.now }
+    ensures tested { result ≡ is_interface bytes.now }
+{
+    is_rule(bytes)
+}
+
 impl Interface {
     /// The name that the bytes are. Refused as `Form` exactly where they are outside the rule.
     pub fn read(alloc: Global, bytes: &[u8]) -> Result<Interface, NameFault>

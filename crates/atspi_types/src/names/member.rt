@@ -38,6 +38,14 @@ fn is_rule(bytes: &[u8]) -> bool
     is_element(Form::Interface, bytes) && bytes.len() <= 255
 }
 
+/// Whether the bytes are the name of a method or a signal (D-Bus Specification, "Valid Names"). It needs no memory.
+pub fn is_member(bytes: &[u8]) -> bool
+    ensures rule { IsTrue result ↔ IsMember bytes.now }
+    ensures tested { result ≡ is_member bytes.now }
+{
+    is_rule(bytes)
+}
+
 impl Member {
     /// The name that the bytes are. Refused as `Form` exactly where they are outside the rule.
     pub fn read(alloc: Global, bytes: &[u8]) -> Result<Member, NameFault>

@@ -43,6 +43,14 @@ fn is_rule(bytes: &[u8]) -> bool
     }
 }
 
+/// Whether the bytes are a path (D-Bus Specification, "Valid Object Paths"). It needs no memory.
+pub fn is_path(bytes: &[u8]) -> bool
+    ensures rule { IsTrue result ↔ IsPath bytes.now }
+    ensures tested { result ≡ is_path bytes.now }
+{
+    is_rule(bytes)
+}
+
 impl Path {
     /// The path that the bytes are. Refused as `Form` exactly where they are outside the rule.
     pub fn read(alloc: Global, bytes: &[u8]) -> Result<Path, NameFault>
