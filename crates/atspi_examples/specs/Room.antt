@@ -9,7 +9,7 @@ use Rattle.atspi_forest.specs.declared.edit.EditFault.{EditFault}
 use Rattle.atspi_forest.specs.declared.news.Reference.{Reference}
 use Rattle.atspi_forest.specs.declared.news.Item.{Item}
 use Rattle.atspi_forest.specs.Forest.{Forest, nil, tree, find, seats}
-use Rattle.atspi_forest.specs.Row.{TextContents, Contents, TreeRow}
+use Rattle.atspi_forest.specs.Row.{TextContents, TreeRow}
 use Rattle.atspi_forest.specs.RowRules.{rows}
 use Rattle.atspi_forest.specs.Tree.{is_node, shape_of, after}
 use Rattle.atspi_forest.specs.View.{Told}

@@ -1,6 +1,6 @@
-use Rattle.std.proofs.Common.{◌≡◌, ◌∷◌, [], refl, arith}
+use Rattle.std.proofs.Common.{refl, arith}
 use Rattle.std.proofs.lemmas.Grind.{common_steps}
-use Rattle.atspi_examples.specs.Room.{button, entry}
+use Rattle.atspi_examples.specs.Room.{button}
 use Rattle.atspi_examples.proofs.lawful.changes.Goals as goal
 
 pub returns-clause-name : goal.returns-clause-name
