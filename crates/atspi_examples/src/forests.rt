@@ -1,6 +1,6 @@
 //! The operations on forests, on numbers.
 
-ghost use Rattle.std.specs.Prelude.{◌≡◌, ◌+◌, ◌∷◌, [], ℕ, nat_lt, true, false};
+ghost use Rattle.std.specs.Prelude.{◌≡◌, ◌+◌, ◌∷◌, [], nat_lt, true, false};
 ghost use Rattle.atspi_forest.specs.Forest.{nil, tree, labels, count, has, width, join, put_in, take_out, pick, relabel, change, place, find, tops, children_at, grow, EachLabel, EachNode};
 ghost use Rattle.atspi_examples.specs.Numbers.{is, leaf, sample, pair, spread, children};
 

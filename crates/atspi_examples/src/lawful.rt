@@ -1,6 +1,6 @@
 //! When a forest is a tree, and when a step applies to one. Each condition has a case that fails by it alone.
 
-ghost use Rattle.std.specs.Prelude.{◌≡◌, ◌≤◌, ◌<◌, ◌∷◌, [], ℕ, List, length, encode_utf8_all, true, false};
+ghost use Rattle.std.specs.Prelude.{◌≡◌, ◌≤◌, ◌<◌, ◌∷◌, [], ℕ, List, length, encode_utf8_all, true};
 ghost use Rattle.atspi_forest.specs.Forest.{Forest, nil, tree, count, EachLabel};
 ghost use Rattle.atspi_forest.specs.Row.{TreeRow};
 ghost use Rattle.atspi_forest.specs.RowRules.{rows, shapes};

@@ -4,7 +4,7 @@ ghost use Rattle.std.specs.Prelude.{◌≡◌, ◌≢◌, ◌≤◌, ◌<◌, �
 ghost use Rattle.atspi_forest.specs.Row.{TreeRow, Each};
 ghost use Rattle.atspi_forest.specs.RowRules.{rows};
 ghost use Rattle.atspi_forest.specs.Map.{times, Reached, IsTreeMap, row_in, child_numbers};
-ghost use Rattle.atspi_examples.specs.Room.{bare, room, with_text};
+ghost use Rattle.atspi_examples.specs.Room.{bare, room};
 ghost use Rattle.atspi_examples.specs.Maps.{two_nodes, two_with, crowd, children_of};
 
 /// The map of the room.

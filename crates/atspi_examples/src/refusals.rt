@@ -1,12 +1,12 @@
 //! Why an edit of the room is refused. Where an edit breaks several rules, the first of its list is told.
 
-ghost use Rattle.std.specs.Prelude.{◌≡◌, ◌∷◌, [], ℕ, List, length, codes, true, false, encode_utf8_all};
+ghost use Rattle.std.specs.Prelude.{◌≡◌, ◌∷◌, [], ℕ, List, length, true, false, encode_utf8_all};
 ghost use Rattle.atspi_forest.specs.Forest.{Forest, count};
 ghost use Rattle.atspi_forest.specs.Row.{ShapeRow};
-ghost use Rattle.atspi_forest.specs.Edits.{is_full, steps_of};
+ghost use Rattle.atspi_forest.specs.Edits.{is_full};
 ghost use Rattle.atspi_examples.specs.Room.{answer, answer_at, nowhere, plain, with_columns, with_text, sign_with};
 
-use atspi_forest::{Edit, EditFault, FaceData, Step};
+use atspi_forest::{Edit, EditFault, Step};
 
 /// A node that is not there is told before all else.
 pub fn no_node()

@@ -1,11 +1,9 @@
 //! Rows: texts, relations, limits, and the row of a new node.
 
-ghost use Rattle.std.specs.Prelude.{◌≡◌, ◌==◌, ◌∷◌, [], ℕ, List, pos, negsuc, length, encode_utf8_all, true, false};
+ghost use Rattle.std.specs.Prelude.{◌≡◌, ◌==◌, ◌∷◌, [], ℕ, List, pos, negsuc, length, encode_utf8_all, true};
 ghost use Rattle.atspi_forest.specs.Row.{insert_there, delete_there, targets_of, with_targets, without_targets, IsName, IsText, IsColumns, IsShape, IsContents, Each, Holds, HoldsIfThere};
 ghost use Rattle.atspi_forest.specs.RowRules.{first_kinds, rows, shapes, first_shape, first_contents};
 ghost use Rattle.atspi_examples.specs.Room.{bare, no_kinds, hello, hello_there, marks, plain, full_seed, with_text, with_columns};
-
-use atspi_forest::Kinds;
 
 /// A place that is outside a text, and a range that is so in part, change nothing.
 pub fn texts()

@@ -1,11 +1,10 @@
 //! What each step makes of the room, and when it applies.
 
-ghost use Rattle.std.specs.Prelude.{◌≡◌, ◌≢◌, ◌∷◌, [], ℕ, List, length, encode_utf8_all, true, false};
-ghost use Rattle.atspi_forest.specs.Forest.{Forest, nil, tree, count};
-ghost use Rattle.atspi_forest.specs.Row.{TreeRow};
+ghost use Rattle.std.specs.Prelude.{◌≡◌, ◌∷◌, [], true, false};
+ghost use Rattle.atspi_forest.specs.Forest.{nil, tree};
 ghost use Rattle.atspi_forest.specs.RowRules.{rows};
-ghost use Rattle.atspi_forest.specs.Tree.{is_number, is_node, is_shape, shape_of, node_of, in_subtree, after, added_after, seat_of, IsRooted, HasTargets, IsTree, Adds, Removes, Moves, Changes, Applies, AllApply, root_seed, first_tree};
-ghost use Rattle.atspi_examples.specs.Room.{bare, root, button, entry, entry_with, hello, hello_there, room, nodes, row_after, plain, full_seed, with_text};
+ghost use Rattle.atspi_forest.specs.Tree.{is_node, is_shape, shape_of, node_of, in_subtree, after, added_after, seat_of, IsRooted, HasTargets, first_tree};
+ghost use Rattle.atspi_examples.specs.Room.{bare, root, button, entry, entry_with, hello, hello_there, room, nodes, row_after, full_seed};
 
 use atspi_forest::Step;
 
