@@ -1,0 +1,240 @@
+//! Texts, paths and signatures that are passed.
+
+ghost use Rattle.std.specs.Prelude.{◌≡◌, ◌<◌, ◌≤◌, ◌+◌, ◌^◌, length, take, drop, IfOk, IfErr};
+ghost use Rattle.std.specs.Int.{w32};
+ghost use Rattle.std.specs.List.{list_all};
+ghost use Rattle.atspi_base.specs.ReadsText.{ReadsStr, StrPlaceBelow};
+ghost use Rattle.atspi_types.specs.Names.{is_path};
+ghost use Rattle.atspi_types.specs.Elements as elements;
+ghost use Rattle.atspi_types.specs.declared.names.elements.Form.TheVariants.{Path};
+ghost use Rattle.atspi_types.specs.SignatureReading.{signature_in};
+ghost use Rattle.atspi_codes.specs.TyRefs.{refs_read, ReadsOne};
+ghost use Rattle.atspi_marshal.specs.Faults.{short_in};
+ghost use Rattle.atspi_marshal.specs.Input.{number_in, byte_in};
+ghost use Rattle.atspi_marshal.specs.Reading.{input_of, long_place, short_place, long_at, short_at, text_body_at, path_body_at, signature_body_at};
+ghost use Rattle.atspi_cursor.specs.Bounds.{ReachTo};
+ghost use Rattle.atspi_cursor.specs.Passing.{after, is_plain};
+
+use crate::plain::{fault, room};
+use atspi_base::{TextFault, read_str};
+use atspi_codes::{TyRef, TysRef};
+use atspi_marshal::{Bound, Marshalled, byte_at, u32_at};
+use atspi_types::Fault;
+
+/// Whether each byte is a character of its own, and none is 0.
+fn are_plain(bytes: &[u8]) -> bool
+    ensures { result ≡ list_all is_plain bytes.now }
+{
+    bytes.iter().all(|byte| 0 < *byte && *byte < 128)
+}
+
+/// Whether the bytes are a text.
+fn read_text(bytes: &[u8]) -> Result<(), TextFault>
+    requires { length bytes.now < 2 ^ 32 }
+    ensures text { ReadsStr result bytes.now }
+    ensures place { StrPlaceBelow result (length bytes.now) }
+{
+    if are_plain(bytes) {
+        return Ok(());
+    }
+    match read_str(bytes) {
+        Ok(_) => Ok(()),
+        Err(refused) => Err(refused),
+    }
+}
+
+/// Whether a byte may come next in a path, inside an element or before the first byte of one.
+#[inline(always)]
+fn may_come(inside: bool, byte: u8) -> bool
+    ensures { result ≡ elements.may_come Path 47 inside byte }
+{
+    if byte == b'/' {
+        inside
+    } else {
+        byte.is_ascii_alphanumeric() || byte == b'_'
+    }
+}
+
+/// Whether the bytes are elements with a slash between any two.
+fn are_elements(bytes: &[u8]) -> bool
+    ensures { result ≡ elements.are_elements Path 47 bytes.now }
+{
+    let mut inside = false;
+    for byte in bytes {
+        if !may_come(inside, *byte) {
+            return false;
+        }
+        inside = *byte != b'/';
+    }
+    inside
+}
+
+/// Whether the bytes are a path.
+#[tactic(auto, unfolding(atspi_types::specs::Names::is_path))]
+fn is_path(bytes: &[u8]) -> bool
+    ensures { result ≡ is_path bytes.now }
+{
+    match bytes {
+        [] => false,
+        [first, rest @ ..] => *first == b'/' && (rest.is_empty() || are_elements(rest)),
+    }
+}
+
+/// So many bytes at a place.
+#[inline(always)]
+pub fn slice<'a>(bytes: &'a [u8], at: usize, len: usize) -> &'a [u8]
+    requires { (at + len ≤ length bytes.now) × (length bytes.now < 4294967288) }
+    ensures { result.now ≡ take len (drop at bytes.now) }
+{
+    &bytes[at..at + len]
+}
+
+/// The place of a length of 32 bits whose bytes, and the zero byte behind them, are inside the bound.
+#[tactic(auto, unfolding(atspi_marshal::specs::Reading::long_place))]
+pub fn long(input: &Marshalled, bound: Bound, at: usize) -> Result<usize, Fault>
+    requires at { at ≤ bound.end }
+    requires end { ReachTo input.now bound.end }
+    ensures place { result ≡ long_place (input_of input.now) bound at }
+    ensures within { IfOk result (λ p. (at ≤ p) × (p + 5 + number_in (input_of input.now) w32 p ≤ bound.end)) }
+{
+    let place = room(input, 4, 4, bound, at)?;
+    let len = u32_at(input, place) as usize;
+    if bound.end < place + 5 + len {
+        return Err(fault(place, bound.reason));
+    }
+    Ok(place)
+}
+
+/// The same of a length of 8 bits.
+#[tactic(auto, unfolding(atspi_marshal::specs::Reading::short_place))]
+pub fn short(input: &Marshalled, bound: Bound, at: usize) -> Result<usize, Fault>
+    requires at { at ≤ bound.end }
+    requires end { ReachTo input.now bound.end }
+    ensures place { result ≡ short_place (input_of input.now) bound at }
+    ensures within { IfOk result (λ p. (at ≤ p) × (p + 2 + byte_in (input_of input.now) p ≤ bound.end)) }
+{
+    let place = room(input, 1, 1, bound, at)?;
+    let len = byte_at(input, place) as usize;
+    if bound.end < place + 2 + len {
+        return Err(fault(place, bound.reason));
+    }
+    Ok(place)
+}
+
+/// The place behind the text whose length stands at a place.
+#[tactic(auto, unfolding(atspi_marshal::specs::Reading::text_body_at))]
+fn text_body(input: &Marshalled, place: usize) -> Result<usize, Fault>
+    requires { ReachTo input.now (place + 5 + number_in (input_of input.now) w32 place) }
+    ensures place { result ≡ after (text_body_at (input_of input.now) place) }
+    ensures within { IfOk result (λ p. p ≡ place + 5 + number_in (input_of input.now) w32 place) }
+{
+    let len = u32_at(input, place) as usize;
+    let start = place + 4;
+    let end = start + len;
+    match read_text(slice(input.bytes, start, len)) {
+        Ok(()) => {
+            if byte_at(input, end) != 0 {
+                return Err(fault(end, 12));
+            }
+            Ok(end + 1)
+        }
+        Err(TextFault::Zero(zero)) => Err(fault(start + zero as usize, 13)),
+        Err(TextFault::Utf8(first)) => Err(fault(start + first as usize, 14)),
+        Err(TextFault::NoMemory) => Err(fault(place, 0)),
+    }
+}
+
+/// The place behind a text.
+#[tactic(auto, unfolding(atspi_marshal::specs::Reading::long_at))]
+pub fn pass_text(input: &Marshalled, bound: Bound, at: usize) -> Result<usize, Fault>
+    requires at { at ≤ bound.end }
+    requires end { ReachTo input.now bound.end }
+    ensures place { result ≡ after (long_at (text_body_at (input_of input.now)) (input_of input.now) bound at) }
+    ensures within { IfOk result (λ p. (at < p) × (p ≤ bound.end)) }
+{
+    let place = long(input, bound, at)?;
+    text_body(input, place)
+}
+
+/// The place behind the path whose length stands at a place.
+#[tactic(auto, unfolding(atspi_marshal::specs::Reading::path_body_at))]
+fn path_body(input: &Marshalled, place: usize) -> Result<usize, Fault>
+    requires { ReachTo input.now (place + 5 + number_in (input_of input.now) w32 place) }
+    ensures place { result ≡ after (path_body_at (input_of input.now) place) }
+    ensures within { IfOk result (λ p. p ≡ place + 5 + number_in (input_of input.now) w32 place) }
+{
+    let len = u32_at(input, place) as usize;
+    let start = place + 4;
+    let end = start + len;
+    if !is_path(slice(input.bytes, start, len)) {
+        return Err(fault(place, 15));
+    }
+    if byte_at(input, end) != 0 {
+        return Err(fault(end, 12));
+    }
+    Ok(end + 1)
+}
+
+/// The place behind a path.
+#[tactic(auto, unfolding(atspi_marshal::specs::Reading::long_at))]
+pub fn pass_path(input: &Marshalled, bound: Bound, at: usize) -> Result<usize, Fault>
+    requires at { at ≤ bound.end }
+    requires end { ReachTo input.now bound.end }
+    ensures place { result ≡ after (long_at (path_body_at (input_of input.now)) (input_of input.now) bound at) }
+    ensures within { IfOk result (λ p. (at < p) × (p ≤ bound.end)) }
+{
+    let place = long(input, bound, at)?;
+    path_body(input, place)
+}
+
+/// The types of the signature whose length stands at a place. The place of a fault counts from its first byte.
+fn types_at<'a>(input: &Marshalled<'a>, place: usize) -> Result<TysRef<'a>, Fault>
+    requires { ReachTo input.now (place + 2 + byte_in (input_of input.now) place) }
+    ensures read { refs_read result ≡ signature_in (short_in (input_of input.now) place) }
+    ensures place { IfErr result (λ wrong. wrong.place ≤ byte_in (input_of input.now) place) }
+{
+    let len = byte_at(input, place) as usize;
+    TysRef::parse(slice(input.bytes, place + 1, len))
+}
+
+/// The same of a signature of one type.
+pub fn type_at<'a>(input: &Marshalled<'a>, place: usize) -> Result<Option<TyRef<'a>>, Fault>
+    requires { ReachTo input.now (place + 2 + byte_in (input_of input.now) place) }
+    ensures read { ReadsOne result (signature_in (short_in (input_of input.now) place)) }
+    ensures place { IfErr result (λ wrong. wrong.place ≤ byte_in (input_of input.now) place) }
+{
+    let len = byte_at(input, place) as usize;
+    TyRef::parse(slice(input.bytes, place + 1, len))
+}
+
+/// The place behind the signature whose length stands at a place.
+#[tactic(auto, unfolding(atspi_marshal::specs::Reading::signature_body_at))]
+fn signature_body(input: &Marshalled, place: usize) -> Result<usize, Fault>
+    requires { ReachTo input.now (place + 2 + byte_in (input_of input.now) place) }
+    ensures place { result ≡ after (signature_body_at (input_of input.now) place) }
+    ensures within { IfOk result (λ p. p ≡ place + 2 + byte_in (input_of input.now) place) }
+{
+    let start = place + 1;
+    let end = start + byte_at(input, place) as usize;
+    match types_at(input, place) {
+        Ok(_) => {
+            if byte_at(input, end) != 0 {
+                return Err(fault(end, 12));
+            }
+            Ok(end + 1)
+        }
+        Err(wrong) => Err(fault(start + wrong.place as usize, wrong.reason)),
+    }
+}
+
+/// The place behind a signature.
+#[tactic(auto, unfolding(atspi_marshal::specs::Reading::short_at))]
+pub fn pass_signature(input: &Marshalled, bound: Bound, at: usize) -> Result<usize, Fault>
+    requires at { at ≤ bound.end }
+    requires end { ReachTo input.now bound.end }
+    ensures place { result ≡ after (short_at (signature_body_at (input_of input.now)) (input_of input.now) bound at) }
+    ensures within { IfOk result (λ p. (at < p) × (p ≤ bound.end)) }
+{
+    let place = short(input, bound, at)?;
+    signature_body(input, place)
+}
