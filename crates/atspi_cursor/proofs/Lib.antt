@@ -1,3 +1,5 @@
 pub mod Passes
 pub mod Runs
 pub mod Texts
+pub mod Knows
+pub mod Opens

@@ -1,2 +1,4 @@
 pub mod Bounds
+pub mod Items
+pub mod Known
 pub mod Passing

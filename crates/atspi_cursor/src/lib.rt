@@ -1,8 +1,12 @@
 //! Values that are read where they lie: bytes are passed once, which keeps nothing, and are read in place from then on.
 #![tactic(auto)]
 
+mod cursor;
+mod jumping;
 mod passing;
 mod plain;
 mod text;
 
+pub use cursor::{Elements, Fields, Item};
+pub use jumping::jump;
 pub use passing::{fields, pass};

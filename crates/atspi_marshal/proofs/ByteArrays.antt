@@ -29,7 +29,7 @@ first_byte Little (b ∷ bytes) = refl
 first_byte Big [] = refl
 first_byte Big (b ∷ bytes) = refl
 
-byte_number : (i : Input) (at : ℕ) → number_in i w8 at ≡ byte_in i at
+pub byte_number : (i : Input) (at : ℕ) → number_in i w8 at ≡ byte_in i at
 byte_number i at = first_byte i.order (drop at i.bytes) ∙ (get_or-drop at i.bytes 0 0 ∙ ap (λ (m : ℕ). get_or i.bytes m 0) (omega arith))
 
 one_byte : (i : Input) (b : Bound) (at : ℕ) → at + 1 ≤ b.end → number_at i byte b at ≡ Ok (number_data byte (byte_in i at), at + 1)

@@ -1,0 +1,237 @@
+-- Arrays, structs and texts that were read, opened.
+use Rattle.std.proofs.Common.{◌≡◌, ℕ, zero, suc, ◌+◌, ◌-◌, ◌≤◌, Bool, true, false, cond, List, Result, Ok, Err, IsUtf8, chars, refl, sym, ap, subst, ◌∙◌, arith}
+use Rattle.std.specs.Prelude.{◌==◌, ◌&&◌, nat_lt}
+use Rattle.std.specs.Int.{w32, byte_len}
+use Rattle.std.proofs.lemmas.Str.{chars-encodes}
+use Rattle.atspi_base.specs.ReadsText.{text_in}
+use Rattle.atspi_base.proofs.TextLemmas.{text_is}
+use Rattle.atspi_base.specs.declared.text.TextFault.{TextFault}
+use Rattle.atspi_base.specs.declared.text.TextFault.TheVariants.{Zero, Utf8, NoMemory}
+use Rattle.atspi_types.specs.Kinds.{Num, width, number_alignment, Kind, number, boolean, text, path, array, structure, kinds_of, alignment}
+use Rattle.atspi_types.specs.Names.{is_path}
+use Rattle.atspi_types.specs.Data.{Data, number_data, boolean_data, text_data, path_data, array_data, structure_data, items_of}
+use Rattle.atspi_types.specs.declared.fault.Fault.{Fault}
+use Rattle.atspi_marshal.specs.declared.input.Bound.{Bound}
+use Rattle.atspi_marshal.specs.Input.{Input, number_in, byte_in, aligned}
+use Rattle.atspi_marshal.specs.Faults.{inside, long_in}
+use Rattle.atspi_marshal.specs.Reading.{◌>>=◌, bad, Reader, padding_at, room_at, number_at, boolean_at, text_with, text_body_at, path_body_at, long_place, long_at, elements_at, as_array, array_place, array_body_at, array_at, unless_deep, fields_at, as_structure, structure_at, single_at, first_in, deep_at, level, read}
+use Rattle.atspi_marshal.proofs.Levels.{read_is, types_in-kinds_of}
+use Rattle.atspi_codes.specs.Codes.{leaf_of}
+use Rattle.atspi_cursor.specs.Known.{is_read, read_data, read_list, read_fields}
+use Rattle.atspi_cursor.proofs.Knows.{padding_place, room_place, long_is, array_is}
+
+bind_value : {A B : Type 0} (r : Result A Fault) (f : A → Result B Fault) → is_read (r >>= f) ≡ true → (x : A) × (r ≡ Ok x) × ((r >>= f) ≡ f x)
+bind_value (Ok x) f h = (x, refl, refl)
+bind_value (Err e) f h = absurd cc
+
+not_deep : (n : ℕ) → (n == 0) ≡ false → 1 ≤ n
+not_deep zero e = absurd cc
+not_deep (suc n) e = omega arith
+
+-- an array
+abbrev pub ends_at : ℕ → Bound
+ends_at end = record { end = end; reason = 18 }
+
+pub record OpenedArray (i : Input) (n : ℕ) (k j : Kind) (b : Bound) (at m start : ℕ) : Type 0 where
+  pub some : 1 ≤ n
+  pub within : start + m ≤ b.end
+  pub known : is_read (elements_at (read i (n - 1) j (ends_at (start + m))) (start + m) m start) ≡ true
+  pub data_is : read_data (read i n k b at) ≡ array_data j (items_of (read_list (elements_at (read i (n - 1) j (ends_at (start + m))) (start + m) m start)))
+
+as_array_known : (k : Kind) (end : ℕ) (r : Result (List Data) Fault) → is_read (r >>= as_array k end) ≡ true → (is_read r ≡ true) × (read_data (r >>= as_array k end) ≡ array_data k (items_of (read_list r)))
+as_array_known k end (Ok ds) h = (refl, refl)
+as_array_known k end (Err f) h = absurd cc
+
+deep_value : (deep : Bool) (body : ℕ → Result (Data × ℕ) Fault) (p : ℕ) → is_read (unless_deep deep body p) ≡ true → (deep ≡ false) × (unless_deep deep body p ≡ body p)
+deep_value true body p h = absurd cc
+deep_value false body p h = (refl, refl)
+
+body_opened : (below : Reader) (i : Input) (j : Kind) (p : ℕ) → is_read (array_body_at below i j p) ≡ true
+    → (is_read (elements_at (below j (inside j p (number_in i w32 p))) (inside j p (number_in i w32 p)).end (number_in i w32 p) (aligned (alignment j) (p + 4))) ≡ true)
+    × (read_data (array_body_at below i j p) ≡ array_data j (items_of (read_list (elements_at (below j (inside j p (number_in i w32 p))) (inside j p (number_in i w32 p)).end (number_in i w32 p) (aligned (alignment j) (p + 4))))))
+unfolding array_body_at
+body_opened below i j p h =
+    let n = number_in i w32 p in
+    let end = (inside j p n).end in
+    let a = bind_value (padding_at i (alignment j) (inside j p n) (p + 4)) (λ s. elements_at (below j (inside j p n)) end n s >>= as_array j end) h in
+    let t = padding_place i (alignment j) (inside j p n) (p + 4) a.0 a.1 in
+    let o = as_array_known j end (elements_at (below j (inside j p n)) end n a.0) (rw (← a.2) h) in (
+      subst (λ (s : ℕ). is_read (elements_at (below j (inside j p n)) end n s) ≡ true) t.0 o.0,
+      subst (λ (s : ℕ). read_data (array_body_at below i j p) ≡ array_data j (items_of (read_list (elements_at (below j (inside j p n)) end n s)))) t.0 (ap read_data a.2 ∙ o.1),
+    )
+
+array_here : (i : Input) (n : ℕ) (j : Kind) (b : Bound) (at : ℕ) → is_read (read i n (array j) b at) ≡ true
+    → OpenedArray i n (array j) j b at (number_in i w32 (aligned 4 at)) (aligned (alignment j) (aligned 4 at + 4))
+unfolding level single_at array_at
+array_here i n j b at h =
+    let below = read i (n - 1) in
+    let same : read i n (array j) b at ≡ array_at (n == 0) below i j b at = rw read_is refl in
+    let a = bind_value (array_place i (alignment j) b at) (unless_deep (n == 0) (array_body_at below i j)) (rw (← same) h) in
+    let t = array_is i (alignment j) b at a.0 a.1 in
+    let d = deep_value (n == 0) (array_body_at below i j) a.0 (rw (← a.2, ← same) h) in
+    let known : is_read (array_body_at below i j a.0) ≡ true = rw (← d.1, ← a.2, ← same) h in
+    let o = body_opened below i j (aligned 4 at) (subst (λ (q : ℕ). is_read (array_body_at below i j q) ≡ true) t.0 known) in
+    record {
+      some = not_deep n d.0;
+      within = subst (λ (q : ℕ). aligned (alignment j) (q + 4) + number_in i w32 q ≤ b.end) t.0 t.1;
+      known = o.0;
+      data_is = ap read_data (same ∙ (a.2 ∙ (d.1 ∙ ap (array_body_at below i j) t.0))) ∙ o.1;
+    }
+
+pub array_opened : (i : Input) (n : ℕ) (k j : Kind) (b : Bound) (at p m start : ℕ) → k ≡ array j → p ≡ aligned 4 at → m ≡ number_in i w32 p → start ≡ aligned (alignment j) (p + 4) → is_read (read i n k b at) ≡ true
+    → OpenedArray i n k j b at m start
+array_opened i n k j b at p m start e f g s h = rw (s, g, f, e) (array_here i n j b at (rw (← e) h))
+
+-- a struct
+pub record OpenedStruct (i : Input) (n : ℕ) (k : Kind) (ks : List Kind) (b : Bound) (at start : ℕ) : Type 0 where
+  pub some : 1 ≤ n
+  pub within : start ≤ b.end
+  pub known : is_read (fields_at (λ j q. read i (n - 1) j b q) ks start) ≡ true
+  pub data_is : read_data (read i n k b at) ≡ structure_data (items_of (read_fields (fields_at (λ j q. read i (n - 1) j b q) ks start)))
+
+as_structure_known : (r : Result (List Data × ℕ) Fault) → is_read (r >>= as_structure) ≡ true → (is_read r ≡ true) × (read_data (r >>= as_structure) ≡ structure_data (items_of (read_fields r)))
+as_structure_known (Ok x) h = (refl, refl)
+as_structure_known (Err f) h = absurd cc
+
+never_read : (p : ℕ) (r : Result (Data × ℕ) Fault) → is_read (deep_at p r) ≡ true → ⊥
+never_read p (Ok x) h = cc
+never_read p (Err f) h = by (nat_lt f.reason 20 && f.place == p) h
+  where
+    by : (t : Bool) → is_read {X = Data × ℕ} (cond t (Err f) (bad p 20)) ≡ true → ⊥
+    by true h = cc
+    by false h = cc
+
+pub struct_opened : (i : Input) (n : ℕ) (k : Kind) (ks : List Kind) (b : Bound) (at start : ℕ) → k ≡ structure (kinds_of ks) → start ≡ aligned 8 at → is_read (read i n k b at) ≡ true → OpenedStruct i n k ks b at start
+unfolding level structure_at
+struct_opened i n k ks b at start e f h =
+    let below = read i (n - 1) in
+    let same : read i n k b at ≡ structure_at (n == 0) below i ks b at = rw (e, read_is, types_in-kinds_of) refl in
+    let a = bind_value (padding_at i 8 b at) (λ p. cond (n == 0) (deep_at p (single_at true below i (first_in ks) b p)) (fields_at (λ j q. below j b q) ks p >>= as_structure)) (rw (← same) h) in
+    let t = padding_place i 8 b at a.0 a.1 in
+    let d = by (n == 0) a.0 (rw (← a.2, ← same) h) in
+    let here : a.0 ≡ start = t.0 ∙ sym f in
+    let o = as_structure_known (fields_at (λ j q. below j b q) ks a.0) (rw (← d.1, ← a.2, ← same) h) in
+    record {
+      some = not_deep n d.0;
+      within = omega (arith, here, t.1);
+      known = subst (λ (q : ℕ). is_read (fields_at (λ j q. below j b q) ks q) ≡ true) here o.0;
+      data_is = subst (λ (q : ℕ). read_data (read i n k b at) ≡ structure_data (items_of (read_fields (fields_at (λ j q. below j b q) ks q)))) here (ap read_data (same ∙ (a.2 ∙ d.1)) ∙ o.1);
+    }
+  where
+    by : (deep : Bool) (p : ℕ) → is_read (cond deep (deep_at p (single_at true (read i (n - 1)) i (first_in ks) b p)) (fields_at (λ j q. read i (n - 1) j b q) ks p >>= as_structure)) ≡ true
+        → (deep ≡ false) × (cond deep (deep_at p (single_at true (read i (n - 1)) i (first_in ks) b p)) (fields_at (λ j q. read i (n - 1) j b q) ks p >>= as_structure) ≡ (fields_at (λ j q. read i (n - 1) j b q) ks p >>= as_structure))
+    by true p h = absurd (never_read p (single_at true (read i (n - 1)) i (first_in ks) b p) h)
+    by false p h = (refl, refl)
+
+-- a text
+pub record OpenedText (i : Input) (n : ℕ) (k : Kind) (b : Bound) (at p m : ℕ) : Type 0 where
+  pub within : p + 5 + m ≤ b.end
+  pub utf8 : IsUtf8 (long_in i p)
+  pub data_is : read_data (read i n k b at) ≡ text_data (chars (long_in i p))
+
+text_with_value : (i : Input) (p n : ℕ) (bytes : List ℕ) (r : Result (List ℕ) TextFault) → text_in bytes ≡ r → is_read (text_with i p n r) ≡ true → IsUtf8 bytes × (read_data (text_with i p n r) ≡ text_data (chars bytes))
+text_with_value i p n bytes (Ok cs) e h =
+    let t = text_is bytes cs e in
+    ((cs, (t.1, t.0)), by (byte_in i (p + 4 + n) == 0) h ∙ ap text_data (sym (chars-encodes cs t.1) ∙ ap chars t.0))
+  where
+    by : (z : Bool) → is_read {X = Data × ℕ} (cond z (Ok (text_data cs, p + 4 + n + 1)) (bad (p + 4 + n) 12)) ≡ true → read_data (cond z (Ok (text_data cs, p + 4 + n + 1)) (bad (p + 4 + n) 12)) ≡ text_data cs
+    by true h = refl
+    by false h = absurd cc
+text_with_value i p n bytes (Err (Zero z)) e h = absurd cc
+text_with_value i p n bytes (Err (Utf8 z)) e h = absurd cc
+text_with_value i p n bytes (Err NoMemory) e h = absurd cc
+
+pub text_opened : (i : Input) (n : ℕ) (k : Kind) (b : Bound) (at p m : ℕ) → k ≡ text → p ≡ aligned 4 at → m ≡ number_in i w32 p → is_read (read i n k b at) ≡ true → OpenedText i n k b at p m
+unfolding level single_at long_at text_body_at
+text_opened i n k b at p m e f g h =
+    let same : read i n k b at ≡ long_at (text_body_at i) i b at = rw (e, read_is) refl in
+    let a = bind_value (long_place i b at) (text_body_at i) (rw (← same) h) in
+    let t = long_is i b at a.0 a.1 in
+    let here : a.0 ≡ p = t.0 ∙ sym f in
+    let o = text_with_value i a.0 (number_in i w32 a.0) (long_in i a.0) (text_in (long_in i a.0)) refl (rw (← a.2, ← same) h) in
+    record {
+      within = rw g (subst (λ (q : ℕ). q + 5 + number_in i w32 q ≤ b.end) here t.1);
+      utf8 = subst (λ (q : ℕ). IsUtf8 (long_in i q)) here o.0;
+      data_is = subst (λ (q : ℕ). read_data (read i n k b at) ≡ text_data (chars (long_in i q))) here (ap read_data (same ∙ a.2) ∙ o.1);
+    }
+
+-- a path
+pub record OpenedPath (i : Input) (n : ℕ) (k : Kind) (b : Bound) (at p m : ℕ) : Type 0 where
+  pub within : p + 5 + m ≤ b.end
+  pub path_is : is_path (long_in i p) ≡ true
+  pub data_is : read_data (read i n k b at) ≡ path_data (long_in i p)
+
+path_value : (i : Input) (p : ℕ) → is_read (path_body_at i p) ≡ true → (is_path (long_in i p) ≡ true) × (read_data (path_body_at i p) ≡ path_data (long_in i p))
+unfolding path_body_at
+path_value i p h = by (is_path (long_in i p)) (byte_in i (p + 4 + number_in i w32 p) == 0) h
+  where
+    by : (t z : Bool) → is_read {X = Data × ℕ} (cond t (cond z (Ok (path_data (long_in i p), p + 4 + number_in i w32 p + 1)) (bad (p + 4 + number_in i w32 p) 12)) (bad p 15)) ≡ true
+        → (t ≡ true) × (read_data (cond t (cond z (Ok (path_data (long_in i p), p + 4 + number_in i w32 p + 1)) (bad (p + 4 + number_in i w32 p) 12)) (bad p 15)) ≡ path_data (long_in i p))
+    by true true h = (refl, refl)
+    by true false h = absurd cc
+    by false z h = absurd cc
+
+pub path_opened : (i : Input) (n : ℕ) (k : Kind) (b : Bound) (at p m : ℕ) → k ≡ path → p ≡ aligned 4 at → m ≡ number_in i w32 p → is_read (read i n k b at) ≡ true → OpenedPath i n k b at p m
+unfolding level single_at long_at
+path_opened i n k b at p m e f g h =
+    let same : read i n k b at ≡ long_at (path_body_at i) i b at = rw (e, read_is) refl in
+    let a = bind_value (long_place i b at) (path_body_at i) (rw (← same) h) in
+    let t = long_is i b at a.0 a.1 in
+    let here : a.0 ≡ p = t.0 ∙ sym f in
+    let o = path_value i a.0 (rw (← a.2, ← same) h) in
+    record {
+      within = rw g (subst (λ (q : ℕ). q + 5 + number_in i w32 q ≤ b.end) here t.1);
+      path_is = subst (λ (q : ℕ). is_path (long_in i q) ≡ true) here o.0;
+      data_is = subst (λ (q : ℕ). read_data (read i n k b at) ≡ path_data (long_in i q)) here (ap read_data (same ∙ a.2) ∙ o.1);
+    }
+
+-- a number
+pub record OpenedNumber (i : Input) (levels : ℕ) (k : Kind) (n : Num) (b : Bound) (at p : ℕ) : Type 0 where
+  pub within : p + byte_len (width n) ≤ b.end
+  pub data_is : read_data (read i levels k b at) ≡ number_data n (number_in i (width n) p)
+
+pub number_opened : (i : Input) (levels : ℕ) (k : Kind) (n : Num) (b : Bound) (at p : ℕ) → k ≡ number n → p ≡ aligned (number_alignment n) at → is_read (read i levels k b at) ≡ true → OpenedNumber i levels k n b at p
+unfolding level single_at number_at
+number_opened i levels k n b at p e f h =
+    let same : read i levels k b at ≡ number_at i n b at = rw (e, read_is) refl in
+    let a = bind_value (room_at i (number_alignment n) (byte_len (width n)) b at) (λ q. Ok (number_data n (number_in i (width n) q), q + byte_len (width n))) (rw (← same) h) in
+    let t = room_place i (number_alignment n) (byte_len (width n)) b at a.0 a.1 in
+    let here : a.0 ≡ p = t.0 ∙ sym f in
+    record {
+      within = omega (arith, here, t.1);
+      data_is = subst (λ (q : ℕ). read_data (read i levels k b at) ≡ number_data n (number_in i (width n) q)) here (ap read_data (same ∙ a.2));
+    }
+
+-- a boolean
+pub record OpenedBoolean (i : Input) (levels : ℕ) (k : Kind) (b : Bound) (at p : ℕ) : Type 0 where
+  pub within : p + 4 ≤ b.end
+  pub data_is : read_data (read i levels k b at) ≡ boolean_data (number_in i w32 p == 1)
+
+boolean_value : (i : Input) (p : ℕ) → is_read {X = Data × ℕ} (cond (nat_lt 1 (number_in i w32 p)) (bad p 11) (Ok (boolean_data (number_in i w32 p == 1), p + 4))) ≡ true
+    → read_data (cond (nat_lt 1 (number_in i w32 p)) (bad p 11) (Ok (boolean_data (number_in i w32 p == 1), p + 4))) ≡ boolean_data (number_in i w32 p == 1)
+boolean_value i p h = by (nat_lt 1 (number_in i w32 p)) h
+  where
+    by : (t : Bool) → is_read {X = Data × ℕ} (cond t (bad p 11) (Ok (boolean_data (number_in i w32 p == 1), p + 4))) ≡ true → read_data (cond t (bad p 11) (Ok (boolean_data (number_in i w32 p == 1), p + 4))) ≡ boolean_data (number_in i w32 p == 1)
+    by true h = absurd cc
+    by false h = refl
+
+pub boolean_opened : (i : Input) (levels : ℕ) (k : Kind) (b : Bound) (at p : ℕ) → k ≡ boolean → p ≡ aligned 4 at → is_read (read i levels k b at) ≡ true → OpenedBoolean i levels k b at p
+unfolding level single_at boolean_at
+boolean_opened i levels k b at p e f h =
+    let same : read i levels k b at ≡ boolean_at i b at = rw (e, read_is) refl in
+    let a = bind_value (room_at i 4 4 b at) (λ q. cond (nat_lt 1 (number_in i w32 q)) (bad q 11) (Ok (boolean_data (number_in i w32 q == 1), q + 4))) (rw (← same) h) in
+    let t = room_place i 4 4 b at a.0 a.1 in
+    let here : a.0 ≡ p = t.0 ∙ sym f in
+    let v = boolean_value i a.0 (rw (← a.2, ← same) h) in
+    record {
+      within = omega (arith, here, t.1);
+      data_is = subst (λ (q : ℕ). read_data (read i levels k b at) ≡ boolean_data (number_in i w32 q == 1)) here (ap read_data (same ∙ a.2) ∙ v);
+    }
+
+-- the characters of a text that was read
+pub text_chars : (bytes cs : List ℕ) → text_in bytes ≡ Ok cs → cs ≡ chars bytes
+text_chars bytes cs e = let t = text_is bytes cs e in sym (chars-encodes cs t.1) ∙ ap chars t.0
+
+-- a type of one code is told by it
+pub leaf_kind : (k : Kind) (b m : ℕ) → b ≡ m → (m ≡ 97 → ⊥) → (m ≡ 40 → ⊥) → ((b ≡ 97 → ⊥) → (b ≡ 40 → ⊥) → k ≡ leaf_of b) → k ≡ leaf_of m
+leaf_kind k b m e a s h = subst (λ (n : ℕ). k ≡ leaf_of n) e (h (λ q. a (sym e ∙ q)) (λ q. s (sym e ∙ q)))

@@ -1,0 +1,359 @@
+//! Values that were passed, read where they lie, one after the other.
+
+ghost use Rattle.std.specs.Prelude.{◌≡◌, ◌<◌, ◌≤◌, length, IsTrue};
+ghost use Rattle.atspi_codes.specs.TyRefs.{ref_kind, refs_kinds};
+ghost use Rattle.atspi_marshal.specs.Reading.{input_of, read, elements_at};
+ghost use Rattle.atspi_cursor.specs.Known.{is_read};
+ghost use Rattle.atspi_cursor.specs.Passing.{read_all};
+
+use crate::jumping::jump;
+use crate::passing::fields;
+use crate::plain::align_up;
+use crate::text::slice;
+use atspi_codes::{TyRef, TysRef};
+use atspi_marshal::{Bound, Marshalled, byte_at, u16_at, u32_at, u64_at};
+use atspi_types::{Fault, Order};
+
+/// A value that lies at a place.
+#[derive(Clone, Copy)]
+pub struct Item<'a> {
+    input: Marshalled<'a>,
+    ty: TyRef<'a>,
+    levels: u8,
+    bound: Bound,
+    at: usize,
+    ghost within: { (at ≤ bound.end) × (bound.end ≤ length input.bytes.now) × (length input.bytes.now < 4294967288) },
+    ghost known: { IsTrue (is_read (read (input_of input) levels (ref_kind ty) bound at)) },
+}
+
+/// The elements of an array that are left.
+#[derive(Clone, Copy)]
+pub struct Elements<'a> {
+    input: Marshalled<'a>,
+    ty: TyRef<'a>,
+    levels: u8,
+    inside: Bound,
+    left: usize,
+    at: usize,
+    ghost within: { (at ≤ inside.end) × (inside.end ≤ length input.bytes.now) × (length input.bytes.now < 4294967288) },
+    ghost known: { IsTrue (is_read (elements_at (read (input_of input) levels (ref_kind ty) inside) inside.end left at)) },
+}
+
+/// The values of a body, or the fields of a struct, that are left.
+#[derive(Clone, Copy)]
+pub struct Fields<'a> {
+    input: Marshalled<'a>,
+    types: TysRef<'a>,
+    levels: u8,
+    bound: Bound,
+    at: usize,
+    ghost within: { (at ≤ bound.end) × (bound.end ≤ length input.bytes.now) × (length input.bytes.now < 4294967288) },
+    ghost known: { IsTrue (is_read (read_all (input_of input) levels (refs_kinds types) bound at)) },
+}
+
+impl<'a> Fields<'a> {
+    ghost use Rattle.std.specs.Prelude.{◌∷◌, IfSome};
+    ghost use Rattle.atspi_marshal.specs.Input.{whole, to_end};
+    ghost use Rattle.atspi_cursor.specs.Items.{item_kind, fields_data, fields_kinds, fields_read, Comes};
+
+    /// The values of the types that stand one behind the other from a place on, and the place behind them; or the first
+    /// fault. They are passed once, which keeps nothing (D-Bus Specification, "Marshaling").
+    pub fn read(
+        order: Order,
+        bytes: &'a [u8],
+        at: usize,
+        types: TysRef<'a>,
+    ) -> Result<(Fields<'a>, usize), Fault>
+        requires { (at ≤ length bytes.now) × (length bytes.now ≤ 134217728) }
+        ensures { fields_read result ≡ read_all (whole order bytes.now) 64 (refs_kinds types.entry) (to_end bytes.now) at }
+    {
+        let input = Marshalled { order, bytes };
+        let bound = Bound {
+            end: bytes.len(),
+            reason: 19,
+        };
+        let end = fields(&input, 64, types, bound, at)?;
+        Ok((
+            Fields {
+                input,
+                types,
+                levels: 64,
+                bound,
+                at,
+            },
+            end,
+        ))
+    }
+
+    /// The next value. Behind it stand the others; where there is none, none comes later.
+    pub fn next(&mut self) -> Option<Item<'a>>
+        ensures comes { Comes result (fields_data self.old) (fields_data self.new) }
+        ensures types { IfSome result (λ x. fields_kinds self.old ≡ item_kind x ∷ fields_kinds self.new) }
+        ensures levels { IfSome result (λ x. (x.levels ≡ self.old.levels) × (self.new.levels ≡ self.old.levels)) }
+    {
+        let mut types = self.types;
+        match types.next() {
+            None => None,
+            Some(ty) => {
+                let item = Item {
+                    input: self.input,
+                    ty,
+                    levels: self.levels,
+                    bound: self.bound,
+                    at: self.at,
+                };
+                let next = jump(&self.input, self.levels, ty, self.bound, self.at);
+                self.types = types;
+                self.at = next;
+                Some(item)
+            }
+        }
+    }
+
+    /// The types of the values that are left.
+    pub fn types(self) -> TysRef<'a>
+        ensures { refs_kinds result ≡ fields_kinds self.entry }
+    {
+        self.types
+    }
+}
+
+impl<'a> Elements<'a> {
+    ghost use Rattle.std.specs.Prelude.{IfSome};
+    ghost use Rattle.atspi_cursor.specs.Items.{item_kind, elements_data, elements_kind, Comes};
+
+    /// The next element. Behind it stand the others; where there is none, none comes later.
+    pub fn next(&mut self) -> Option<Item<'a>>
+        ensures comes { Comes result (elements_data self.old) (elements_data self.new) }
+        ensures types { IfSome result (λ x. (item_kind x ≡ elements_kind self.old) × (elements_kind self.new ≡ elements_kind self.old)) }
+        ensures levels { IfSome result (λ x. (x.levels ≡ self.old.levels) × (self.new.levels ≡ self.old.levels) × (self.new.left < self.old.left)) }
+    {
+        if self.left == 0 || self.at == self.inside.end {
+            return None;
+        }
+        let item = Item {
+            input: self.input,
+            ty: self.ty,
+            levels: self.levels,
+            bound: self.inside,
+            at: self.at,
+        };
+        let next = jump(&self.input, self.levels, self.ty, self.inside, self.at);
+        self.left -= 1;
+        self.at = next;
+        Some(item)
+    }
+
+    /// The type of the elements.
+    pub fn ty(self) -> TyRef<'a>
+        ensures { ref_kind result ≡ elements_kind self.entry }
+    {
+        self.ty
+    }
+}
+
+impl<'a> Item<'a> {
+    ghost use Rattle.std.specs.Prelude.{◌↔◌, IfSome, IsSome, chars};
+    ghost use Rattle.std.specs.Int.{w16, w32, w64, cast_unsigned};
+    ghost use Rattle.atspi_types.specs.Kinds.{byte, i16, u16, i32, u32, i64, u64, double, number, boolean, text, path};
+    ghost use Rattle.atspi_types.specs.Data.{array_data, structure_data, number_data, boolean_data, text_data, path_data, items_of};
+    ghost use Rattle.atspi_codes.specs.Codes.{is_array, is_structure};
+    ghost use Rattle.atspi_cursor.specs.Items.{item_data, item_kind, elements_data, elements_kind, fields_data, fields_kinds};
+
+    /// The type of the value.
+    pub fn ty(self) -> TyRef<'a>
+        ensures { ref_kind result ≡ item_kind self.entry }
+    {
+        self.ty
+    }
+
+    /// The elements, exactly where it is an array and no dictionary.
+    pub fn elements(self) -> Option<Elements<'a>>
+        ensures is { IsSome result ↔ IsTrue (is_array (item_kind self.entry)) }
+        ensures elements { IfSome result (λ es. item_data self.entry ≡ array_data (elements_kind es) (items_of (elements_data es))) }
+        ensures levels { IfSome result (λ es. es.levels < self.entry.levels) }
+    {
+        match self.ty.element() {
+            None => None,
+            Some(element) => {
+                let place = align_up(4, self.at);
+                let len = u32_at(&self.input, place) as usize;
+                let start = align_up(element.alignment(), place + 4);
+                Some(Elements {
+                    input: self.input,
+                    ty: element,
+                    levels: self.levels - 1,
+                    inside: Bound {
+                        end: start + len,
+                        reason: 18,
+                    },
+                    left: len,
+                    at: start,
+                })
+            }
+        }
+    }
+
+    /// The fields, exactly where it is a struct.
+    pub fn fields(self) -> Option<Fields<'a>>
+        ensures is { IsSome result ↔ IsTrue (is_structure (item_kind self.entry)) }
+        ensures fields { IfSome result (λ fs. item_data self.entry ≡ structure_data (items_of (fields_data fs))) }
+        ensures levels { IfSome result (λ fs. fs.levels < self.entry.levels) }
+    {
+        match self.ty.fields() {
+            None => None,
+            Some(types) => Some(Fields {
+                input: self.input,
+                types,
+                levels: self.levels - 1,
+                bound: self.bound,
+                at: align_up(8, self.at),
+            }),
+        }
+    }
+
+    /// The text, exactly where it is one.
+    pub fn text(self) -> Option<&'a str>
+        ensures is { IsSome result ↔ (item_kind self.entry ≡ text) }
+        ensures text { IfSome result (λ s. item_data self.entry ≡ text_data (chars s.now)) }
+    {
+        let code = self.ty.code();
+        if code != b's' {
+            return None;
+        }
+        let place = align_up(4, self.at);
+        let len = u32_at(&self.input, place) as usize;
+        Some(unsafe { std::str::from_utf8_unchecked(slice(self.input.bytes, place + 4, len)) })
+    }
+
+    /// The path, exactly where it is one.
+    pub fn path(self) -> Option<&'a str>
+        ensures is { IsSome result ↔ (item_kind self.entry ≡ path) }
+        ensures path { IfSome result (λ s. item_data self.entry ≡ path_data s.now) }
+    {
+        let code = self.ty.code();
+        if code != b'o' {
+            return None;
+        }
+        let place = align_up(4, self.at);
+        let len = u32_at(&self.input, place) as usize;
+        Some(unsafe { std::str::from_utf8_unchecked(slice(self.input.bytes, place + 4, len)) })
+    }
+
+    /// The boolean, exactly where it is one.
+    pub fn bool(self) -> Option<bool>
+        ensures is { IsSome result ↔ (item_kind self.entry ≡ boolean) }
+        ensures value { IfSome result (λ b. item_data self.entry ≡ boolean_data b) }
+    {
+        let code = self.ty.code();
+        if code != b'b' {
+            return None;
+        }
+        let place = align_up(4, self.at);
+        Some(u32_at(&self.input, place) == 1)
+    }
+
+    /// The byte, exactly where it is one.
+    pub fn u8(self) -> Option<u8>
+        ensures is { IsSome result ↔ (item_kind self.entry ≡ number byte) }
+        ensures value { IfSome result (λ n. item_data self.entry ≡ number_data byte n) }
+    {
+        let code = self.ty.code();
+        if code != b'y' {
+            return None;
+        }
+        let place = align_up(1, self.at);
+        Some(byte_at(&self.input, place))
+    }
+
+    /// The signed number of 16 bits, exactly where it is one.
+    pub fn i16(self) -> Option<i16>
+        ensures is { IsSome result ↔ (item_kind self.entry ≡ number i16) }
+        ensures value { IfSome result (λ n. item_data self.entry ≡ number_data i16 (cast_unsigned w16 n)) }
+    {
+        let code = self.ty.code();
+        if code != b'n' {
+            return None;
+        }
+        let place = align_up(2, self.at);
+        Some(u16_at(&self.input, place).cast_signed())
+    }
+
+    /// The number of 16 bits, exactly where it is one.
+    pub fn u16(self) -> Option<u16>
+        ensures is { IsSome result ↔ (item_kind self.entry ≡ number u16) }
+        ensures value { IfSome result (λ n. item_data self.entry ≡ number_data u16 n) }
+    {
+        let code = self.ty.code();
+        if code != b'q' {
+            return None;
+        }
+        let place = align_up(2, self.at);
+        Some(u16_at(&self.input, place))
+    }
+
+    /// The signed number of 32 bits, exactly where it is one.
+    pub fn i32(self) -> Option<i32>
+        ensures is { IsSome result ↔ (item_kind self.entry ≡ number i32) }
+        ensures value { IfSome result (λ n. item_data self.entry ≡ number_data i32 (cast_unsigned w32 n)) }
+    {
+        let code = self.ty.code();
+        if code != b'i' {
+            return None;
+        }
+        let place = align_up(4, self.at);
+        Some(u32_at(&self.input, place).cast_signed())
+    }
+
+    /// The number of 32 bits, exactly where it is one.
+    pub fn u32(self) -> Option<u32>
+        ensures is { IsSome result ↔ (item_kind self.entry ≡ number u32) }
+        ensures value { IfSome result (λ n. item_data self.entry ≡ number_data u32 n) }
+    {
+        let code = self.ty.code();
+        if code != b'u' {
+            return None;
+        }
+        let place = align_up(4, self.at);
+        Some(u32_at(&self.input, place))
+    }
+
+    /// The signed number of 64 bits, exactly where it is one.
+    pub fn i64(self) -> Option<i64>
+        ensures is { IsSome result ↔ (item_kind self.entry ≡ number i64) }
+        ensures value { IfSome result (λ n. item_data self.entry ≡ number_data i64 (cast_unsigned w64 n)) }
+    {
+        let code = self.ty.code();
+        if code != b'x' {
+            return None;
+        }
+        let place = align_up(8, self.at);
+        Some(u64_at(&self.input, place).cast_signed())
+    }
+
+    /// The number of 64 bits, exactly where it is one.
+    pub fn u64(self) -> Option<u64>
+        ensures is { IsSome result ↔ (item_kind self.entry ≡ number u64) }
+        ensures value { IfSome result (λ n. item_data self.entry ≡ number_data u64 n) }
+    {
+        let code = self.ty.code();
+        if code != b't' {
+            return None;
+        }
+        let place = align_up(8, self.at);
+        Some(u64_at(&self.input, place))
+    }
+
+    /// The double, as its bits, exactly where it is one.
+    pub fn double(self) -> Option<u64>
+        ensures is { IsSome result ↔ (item_kind self.entry ≡ number double) }
+        ensures value { IfSome result (λ n. item_data self.entry ≡ number_data double n) }
+    {
+        let code = self.ty.code();
+        if code != b'd' {
+            return None;
+        }
+        let place = align_up(8, self.at);
+        Some(u64_at(&self.input, place))
+    }
+}
