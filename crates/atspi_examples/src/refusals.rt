@@ -3,10 +3,10 @@
 ghost use Rattle.std.specs.Prelude.{◌≡◌, ◌∷◌, [], ℕ, List, length, true, false, encode_utf8_all};
 ghost use Rattle.atspi_forest.specs.Forest.{Forest, count};
 ghost use Rattle.atspi_forest.specs.Row.{ShapeRow};
-ghost use Rattle.atspi_forest.specs.Edits.{is_full};
-ghost use Rattle.atspi_examples.specs.Room.{answer, answer_at, nowhere, plain, with_columns, with_text, sign_with};
+ghost use Rattle.atspi_forest.specs.Edits.{known_text, known_actions, is_full, text_contents, action_contents, contents_read, IsEdit};
+ghost use Rattle.atspi_examples.specs.Room.{answer, answer_at, nowhere, plain, with_columns, with_text, sign_with, room, button, pressed_button, hello};
 
-use atspi_forest::{Edit, EditFault, Step};
+use atspi_forest::{Edit, EditFault, FaceData, Step};
 
 /// A node that is not there is told before all else.
 pub fn no_node()
@@ -114,4 +114,26 @@ pub fn lengths()
     ensures last_put { (x : List ℕ) → length x ≡ 1048571 → answer (Edit.Put 2 5 x) ≡ Ok (Step.Insert 2 5 x ∷ []) }
     ensures typed { (x : List ℕ) → length x ≡ 1048572 → answer (Edit.Keys 2 x) ≡ Err EditFault.TextFull }
     ensures typed_at_sign { (x : List ℕ) → length x ≡ 1048574 → answer (Edit.Keys 10 x) ≡ Err EditFault.NoFace }
+{}
+
+/// What can be asked for: a state that there is; a new node with eight actions at most, and a text if one is to be edited.
+pub fn askable()
+    ensures state { IsEdit (Edit.State 3 43 true) }
+    ensures no_state { IsEdit (Edit.State 3 44 true) → ⊥ }
+    ensures actions { IsEdit (Edit.Insert 0 0 (record (with_text hello) { editable = true; actions = hello ∷ hello ∷ hello ∷ hello ∷ hello ∷ hello ∷ hello ∷ hello ∷ [] })) }
+    ensures many_actions { IsEdit (Edit.Insert 0 0 (record (plain 0 []) { actions = hello ∷ hello ∷ hello ∷ hello ∷ hello ∷ hello ∷ hello ∷ hello ∷ hello ∷ [] })) → ⊥ }
+    ensures no_text { IsEdit (Edit.Insert 0 0 (record (plain 0 []) { editable = true })) → ⊥ }
+    ensures any { IsEdit (Edit.Caret 99 99) }
+{}
+
+/// What an edit reads of contents of another kind, or of none.
+pub fn other_contents()
+    ensures text { known_text (FaceData.Grid 2) ≡ record { characters = []; caret = 0; selections = [] } }
+    ensures actions { known_actions (FaceData.Grid 2) ≡ [] }
+    ensures text_of_none { text_contents None ≡ FaceData.Deeds [] }
+    ensures text_of_button { text_contents (Some button) ≡ FaceData.Deeds [] }
+    ensures actions_of_none { action_contents None ≡ FaceData.Deeds [] }
+    ensures read_none { contents_read room (Edit.Select 1 0) ≡ FaceData.Deeds [] }
+    ensures read_actions { contents_read room (Edit.Press 9 0) ≡ FaceData.Deeds pressed_button.contents.actions }
+    ensures read_text { contents_read room (Edit.Unmark 2) ≡ FaceData.Chars hello 3 ((1, 2) ∷ []) }
 {}

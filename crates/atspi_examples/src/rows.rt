@@ -14,6 +14,8 @@ pub fn texts()
     ensures insert_negative { insert_there (negsuc 0) (8 ∷ []) (1 ∷ 2 ∷ []) ≡ 1 ∷ 2 ∷ [] }
     ensures delete { delete_there (pos 1) (pos 1) (1 ∷ 2 ∷ 3 ∷ []) ≡ 1 ∷ 3 ∷ [] }
     ensures delete_all { delete_there (pos 0) (pos 3) (1 ∷ 2 ∷ 3 ∷ []) ≡ [] }
+    ensures delete_last { delete_there (pos 2) (pos 1) (1 ∷ 2 ∷ 3 ∷ []) ≡ 1 ∷ 2 ∷ [] }
+    ensures delete_beyond { delete_there (pos 0) (pos 4) (1 ∷ 2 ∷ 3 ∷ []) ≡ 1 ∷ 2 ∷ 3 ∷ [] }
     ensures delete_none { delete_there (pos 3) (pos 0) (1 ∷ 2 ∷ 3 ∷ []) ≡ 1 ∷ 2 ∷ 3 ∷ [] }
     ensures delete_partly { delete_there (pos 2) (pos 2) (1 ∷ 2 ∷ 3 ∷ []) ≡ 1 ∷ 2 ∷ 3 ∷ [] }
     ensures delete_negative { delete_there (negsuc 0) (pos 1) (1 ∷ 2 ∷ 3 ∷ []) ≡ 1 ∷ 2 ∷ 3 ∷ [] }
