@@ -1,0 +1,4 @@
+pub mod WalkLemmas
+pub mod LinkLemmas
+pub mod LinkMoves
+pub mod LinkSpecs
