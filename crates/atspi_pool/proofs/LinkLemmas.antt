@@ -34,11 +34,11 @@ IsApart-moved l c unused e h same count apart = record {
   counted = omega (arith, apart.counted, sum_by-set (λ (e : Entry). length e.blocks) l.chains c e no_entry h, count);
 }
 
-chance_le : (b : Bool) → cond b 1 0 ≤ 1
+pub chance_le : (b : Bool) → cond b 1 0 ≤ 1
 chance_le true = omega arith
 chance_le false = omega arith
 
-below_of_chance : (x m : ℕ) → 1 ≤ cond (ltb x m) 1 0 → x < m
+pub below_of_chance : (x m : ℕ) → 1 ≤ cond (ltb x m) 1 0 → x < m
 below_of_chance x m h = grind (arith, nat_tests)
 
 pub free_is_made : (next : List ℕ) (f u : ℕ) (runs : List Run) → IsLinked next f u runs → (x : ℕ) → 1 ≤ times x (walk next f u) → x < length next

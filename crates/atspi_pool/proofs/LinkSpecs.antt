@@ -1,6 +1,6 @@
 -- The moves of blocks as contracts see them.
 use Rattle.std.proofs.Common.{◌≡◌, ◌≢◌, ℕ, suc, zero, ◌+◌, ◌-◌, ◌<◌, ◌≤◌, List, [], ◌∷◌, ◌++◌, length, get_or, set, take, drop, map, refl, sym, ap, ◌∙◌, subst, arith, zero-add, add-one}
-use Rattle.std.proofs.lemmas.List.{length-map, get_or_read}
+use Rattle.std.proofs.lemmas.List.{length-map, get_or_read, set-get_or, take_all, drop_all}
 use Rattle.std.proofs.lemmas.List.Sums.{get_or-le-sum_by}
 use Rattle.atspi_pool.specs.declared.run.Run.{Run}
 use Rattle.atspi_pool.specs.declared.run.Marks.{Marks}
@@ -156,3 +156,15 @@ module _ (next : List ℕ) (f u : ℕ) (runs : List Run) (h : IsLinked next f u 
 
   pub apart_is : IsApart l
   apart_is = subst IsApart is h.apart
+
+-- a chain that stays as it is
+pub same_entry : (l : Linked) (c : ℕ) → with_blocks l l.unused c (entry_at l c).blocks ≡ l
+same_entry l c = ap (λ es. record { made = l.made; unused = l.unused; chains = es }) (set-get_or l.chains c no_entry)
+
+pub none_given : (l : Linked) (c k : ℕ) → k ≡ 0 → l ≡ front_given l c k
+none_given l c k none = sym (ap (front_given l c) none ∙ same_entry l c)
+
+pub all_kept : (l : Linked) (c k : ℕ) → k ≡ length (entry_at l c).blocks → l ≡ front_kept l c k
+all_kept l c k all =
+    sym (ap (λ bs. with_blocks l (bs ++ l.unused) c (take k (entry_at l c).blocks)) (drop_all k (entry_at l c).blocks (omega arith))
+      ∙ ap (with_blocks l l.unused c) (take_all k (entry_at l c).blocks (omega arith)) ∙ same_entry l c)

@@ -1,2 +1,4 @@
 pub mod Links
 pub mod Walk
+pub mod Chains
+pub mod Store

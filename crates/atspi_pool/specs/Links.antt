@@ -1,5 +1,5 @@
 -- Every block is free or in exactly one chain: the blocks of a pool by their numbers.
-use Rattle.std.specs.Prelude.{◌≡◌, ℕ, ◌+◌, false, nat_lt, ◌==◌, if◌then◌else◌, List, [], ◌∷◌, ◌++◌, set, length, take, drop, slice_index_or, slice_index, count_by, sum_by}
+use Rattle.std.specs.Prelude.{◌≡◌, ℕ, ◌+◌, ◌-◌, false, nat_lt, ◌==◌, if◌then◌else◌, List, [], ◌∷◌, ◌++◌, set, length, take, drop, slice_index_or, slice_index, count_by, sum_by}
 use Rattle.atspi_pool.specs.declared.run.Marks.{Marks}
 
 -- a chain: what stands beside its blocks, and their numbers in order
@@ -37,6 +37,10 @@ pub record IsApart (l : Linked) : Type 0 where
 -- the first of a list of numbers
 abbrev pub first_of : List ℕ → ℕ
 first_of xs = slice_index xs 0
+
+-- the last of a list of numbers
+abbrev pub last_of : List ℕ → ℕ
+last_of xs = slice_index xs (length xs - 1)
 
 -- the same with these blocks in a chain, and these free
 abbrev pub with_blocks : Linked → List ℕ → ℕ → List ℕ → Linked

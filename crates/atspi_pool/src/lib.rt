@@ -4,3 +4,4 @@
 
 mod links;
 mod run;
+mod store;

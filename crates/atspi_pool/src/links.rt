@@ -1,7 +1,8 @@
 //! Lists of block numbers, linked inside one table: one of free blocks, and one for each chain.
 
-ghost use Rattle.std.specs.Prelude.{◌≡◌, ◌+◌, ◌<◌, ◌≤◌, ℕ, [], ◌∷◌, ◌++◌, length, slice_index, OnOk, OnErr};
-ghost use Rattle.atspi_pool.specs.Links.{entry_at, first_of, taken, front_given, front_kept, marked, IsApart};
+ghost use Rattle.std.specs.Prelude.{◌≡◌, ◌+◌, ◌<◌, ◌≤◌, ℕ, [], ◌∷◌, ◌++◌, length, slice_index, true, false, OnOk, OnErr};
+ghost use Rattle.std.specs.Bool.{MatchBool};
+ghost use Rattle.atspi_pool.specs.Links.{entry_at, first_of, last_of, taken, front_given, front_kept, marked, with_blocks, IsApart};
 ghost use Rattle.atspi_pool.specs.Walk.{walk};
 
 use crate::run::{Marks, Run};
@@ -51,7 +52,8 @@ impl Links {
 
     /// How many blocks are free.
     pub fn free(&self) -> usize
-        ensures { result ≡ length self.now.unused }
+        ensures free { result ≡ length self.now.unused }
+        ensures apart { IsApart self.now }
     {
         self.free
     }
@@ -59,7 +61,8 @@ impl Links {
     /// What stands in a chain beside its blocks.
     pub fn marks(&self, chain: usize) -> Marks
         requires { chain < length self.now.chains }
-        ensures { result ≡ (entry_at self.now chain).marks }
+        ensures marks { result ≡ (entry_at self.now chain).marks }
+        ensures apart { IsApart self.now }
     {
         self.runs[chain].marks
     }
@@ -94,6 +97,7 @@ impl Links {
         ensures ok { OnOk result
             (self.new ≡ record self.old { made = self.old.made + 1; unused = self.old.made ∷ self.old.unused }) }
         ensures err { OnErr result (self.new ≡ self.old) }
+        ensures apart { IsApart self.old }
     {
         let block = self.next.len();
         self.next.push(self.first_free)?;
@@ -160,6 +164,32 @@ impl Links {
         };
     }
 
+    /// The last block of a chain, behind which the first free block is linked before where the last one is full.
+    pub fn tail(&mut self, chain: usize, is_full: bool) -> usize
+        requires chain { chain < length self.old.chains }
+        requires free { is_full ≡ true → 0 < length self.old.unused }
+        requires nonempty { is_full ≡ false → 0 < length (entry_at self.old chain).blocks }
+        ensures links { MatchBool is_full (self.new ≡ taken self.old chain) (self.new ≡ self.old) }
+        ensures block { result ≡ last_of (entry_at self.new chain).blocks }
+        ensures apart { IsApart self.new }
+    {
+        if is_full {
+            self.take(chain);
+            return self.last(chain);
+        }
+        self.last(chain)
+    }
+
+    /// The last block of a chain.
+    fn last(&self, chain: usize) -> usize
+        requires chain { chain < length self.now.chains }
+        requires nonempty { 0 < length (entry_at self.now chain).blocks }
+        ensures block { result ≡ last_of (entry_at self.now chain).blocks }
+        ensures apart { IsApart self.now }
+    {
+        self.runs[chain].last
+    }
+
     /// The block at a place of a chain: the last one at once, any other by a walk from the first on.
     pub fn at(&self, chain: usize, place: usize) -> usize
         requires chain { chain < length self.now.chains }
@@ -174,12 +204,34 @@ impl Links {
         walk_on(&self.next, run.first, place)
     }
 
-    /// Gives the first blocks of a chain back.
+    /// Gives the first blocks of a chain back. This costs a walk over them, and nothing where they are all.
     pub fn give_front(&mut self, chain: usize, count: usize)
+        requires chain { chain < length self.old.chains }
+        requires in_chain { count ≤ length (entry_at self.old chain).blocks }
+        ensures links { self.new ≡ front_given self.old chain count }
+        ensures apart { IsApart self.old }
+    {
+        let _ = &self.next;
+        if 0 < count {
+            self.give_some(chain, count);
+        }
+    }
+
+    /// Gives all blocks of a chain back.
+    pub fn give_all(&mut self, chain: usize)
+        requires { chain < length self.old.chains }
+        ensures { self.new ≡ with_blocks self.old ((entry_at self.old chain).blocks ++ self.old.unused) chain [] }
+    {
+        let count = self.runs[chain].count;
+        self.give_front(chain, count);
+    }
+
+    fn give_some(&mut self, chain: usize, count: usize)
         requires chain { chain < length self.old.chains }
         requires some { 0 < count }
         requires in_chain { count ≤ length (entry_at self.old chain).blocks }
-        ensures { self.new ≡ front_given self.old chain count }
+        ensures links { self.new ≡ front_given self.old chain count }
+        ensures apart { IsApart self.old }
     {
         let last = self.at(chain, count - 1);
         let run = self.runs[chain];
@@ -195,12 +247,26 @@ impl Links {
         };
     }
 
-    /// Keeps the first blocks of a chain, and gives the others back.
+    /// Keeps the first blocks of a chain, at least one, and gives the others back. This costs a walk over those that
+    /// are kept, and nothing where they are all.
     pub fn keep_front(&mut self, chain: usize, count: usize)
         requires chain { chain < length self.old.chains }
         requires some { 0 < count }
+        requires in_chain { count ≤ length (entry_at self.old chain).blocks }
+        ensures links { self.new ≡ front_kept self.old chain count }
+        ensures apart { IsApart self.old }
+    {
+        if count < self.runs[chain].count {
+            self.keep_some(chain, count);
+        }
+    }
+
+    fn keep_some(&mut self, chain: usize, count: usize)
+        requires chain { chain < length self.old.chains }
+        requires some { 0 < count }
         requires in_chain { count < length (entry_at self.old chain).blocks }
-        ensures { self.new ≡ front_kept self.old chain count }
+        ensures links { self.new ≡ front_kept self.old chain count }
+        ensures apart { IsApart self.old }
     {
         let last = self.at(chain, count - 1);
         let run = self.runs[chain];

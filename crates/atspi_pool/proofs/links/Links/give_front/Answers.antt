@@ -1,26 +1,10 @@
-use Rattle.std.proofs.Common.{◌≡◌, ◌<◌, ◌≤◌, ◌+◌, ◌-◌, ℕ, suc, length, get_or, sym, ap, ◌∙◌, subst, arith, add-one, cond, is_ok}
+use Rattle.std.proofs.Common.{◌≡◌, ◌<◌, ◌≤◌, ℕ, length, sym, ap, ◌∙◌, arith}
 use Rattle.atspi_pool.specs.Links.{entry_at}
 use Rattle.atspi_pool.proofs.LinkSpecs as specs
 use Rattle.atspi_pool.proofs.links.Links.give_front.Goals as goal
 
-pub index-behind-requires : goal.index-behind-requires
-index-behind-requires c =
-    let lt : c.args.count - 1 < length (entry_at c.args.self.now c.args.chain).blocks = omega arith in
-    omega (arith, specs.found_in c.self.inside.next.items c.self.inside.first_free c.self.inside.free c.self.inside.runs.items c.self.invariant c.args.self.now c.self.view_is c.args.chain c.requires.chain c.index-run.result.now c.index-run.ensures (c.args.count - 1) c.at-last.result lt c.at-last.ensures.block)
+pub returns-else-count-gt0-clause-links : goal.returns-else-count-gt0-clause-links
+returns-else-count-gt0-clause-links c = specs.none_given c.args.self.now c.args.chain c.args.count (omega arith)
 
-pub index_mut-requires : goal.index_mut-requires
-index_mut-requires c =
-    let lt : c.args.count - 1 < length (entry_at c.args.self.now c.args.chain).blocks = omega arith in
-    omega (arith, specs.found_in c.self.inside.next.items c.self.inside.first_free c.self.inside.free c.self.inside.runs.items c.self.invariant c.args.self.now c.self.view_is c.args.chain c.requires.chain c.index-run.result.now c.index-run.ensures (c.args.count - 1) c.at-last.result lt c.at-last.ensures.block)
-
-pub overflow_add-self : goal.overflow_add-self
-overflow_add-self c = omega (arith, c.requires.in_chain, specs.count_is c.self.inside.next.items c.self.inside.first_free c.self.inside.free c.self.inside.runs.items c.self.invariant c.args.self.now c.self.view_is c.args.chain c.requires.chain c.index-run.result.now c.index-run.ensures, specs.room c.self.inside.next.items c.self.inside.first_free c.self.inside.free c.self.inside.runs.items c.self.invariant c.args.self.now c.self.view_is c.args.chain c.requires.chain c.index-run.result.now c.index-run.ensures)
-
-pub overflow_sub-run : goal.overflow_sub-run
-overflow_sub-run c = omega (arith, c.requires.in_chain, specs.count_is c.self.inside.next.items c.self.inside.first_free c.self.inside.free c.self.inside.runs.items c.self.invariant c.args.self.now c.self.view_is c.args.chain c.requires.chain c.index-run.result.now c.index-run.ensures)
-
-pub invariant_of-self : goal.invariant_of-self
-invariant_of-self c = (specs.given c.self.inside.next.items c.self.inside.first_free c.self.inside.free c.self.inside.runs.items c.self.invariant c.args.self.now c.self.view_is c.args.chain c.requires.chain c.index-run.result.now c.index-run.ensures c.args.count c.at-last.result c.index-behind.result.now c.at-last.ensures.block c.index-behind.ensures c.requires.some c.requires.in_chain).linked
-
-pub returns : goal.returns
-returns c = (specs.given c.self.inside.next.items c.self.inside.first_free c.self.inside.free c.self.inside.runs.items c.self.invariant c.args.self.now c.self.view_is c.args.chain c.requires.chain c.index-run.result.now c.index-run.ensures c.args.count c.at-last.result c.index-behind.result.now c.at-last.ensures.block c.index-behind.ensures c.requires.some c.requires.in_chain).view
+pub returns-else-count-gt0-clause-apart : goal.returns-else-count-gt0-clause-apart
+returns-else-count-gt0-clause-apart c = specs.apart_is c.self.inside.next.items c.self.inside.first_free c.self.inside.free c.self.inside.runs.items c.self.invariant c.args.self.now c.self.view_is

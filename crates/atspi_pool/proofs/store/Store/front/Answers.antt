@@ -1,0 +1,25 @@
+use Rattle.std.proofs.Common.{◌≡◌, ◌≢◌, ◌<◌, ◌≤◌, ◌+◌, ◌-◌, ◌*◌, ◌/◌, ◌%◌, ◌++◌, ℕ, List, [], Some, None, length, take, drop, eqb, max, refl, sym, ap, ◌∙◌, subst, arith}
+use Rattle.std.specs.Prelude.{IsSome}
+use Rattle.atspi_pool.specs.declared.run.Marks.{Marks}
+use Rattle.atspi_pool.specs.Links.{entry_at, Linked}
+use Rattle.atspi_pool.specs.Store.{with_chain, with_pushed, held, chain_at, all_blocks, Store}
+use Rattle.atspi_pool.proofs.StoreLemmas as lemmas
+use Rattle.atspi_pool.proofs.PushLemmas as pushes
+use Rattle.atspi_pool.proofs.store.Store.front.Goals as goal
+
+pub overflow_mul-start : goal.overflow_mul-start
+overflow_mul-start c = omega (arith, (lemmas.front_fits c.self.inside.bytes.items c.self.inside.links c.self.invariant c.marks-marks.ensures.apart c.args.self.now c.self.view_is c.args.chain c.requires c.marks-marks.result c.marks-marks.ensures.marks c.first-start.result c.if-marks-eq0.false c.first-start.ensures.first).0)
+
+pub overflow_add-end : goal.overflow_add-end
+overflow_add-end c = omega (arith, c.min.ensures, (lemmas.front_fits c.self.inside.bytes.items c.self.inside.links c.self.invariant c.marks-marks.ensures.apart c.args.self.now c.self.view_is c.args.chain c.requires c.marks-marks.result c.marks-marks.ensures.marks c.first-start.result c.if-marks-eq0.false c.first-start.ensures.first).0)
+
+pub overflow_add-result : goal.overflow_add-result
+overflow_add-result c = omega (arith, lemmas.front_fits c.self.inside.bytes.items c.self.inside.links c.self.invariant c.marks-marks.ensures.apart c.args.self.now c.self.view_is c.args.chain c.requires c.marks-marks.result c.marks-marks.ensures.marks c.first-start.result c.if-marks-eq0.false c.first-start.ensures.first)
+
+pub slice_bounds-result-end-2 : goal.slice_bounds-result-end-2
+slice_bounds-result-end-2 c = omega (arith, c.min.ensures, c.deref.ensures.len, lemmas.front_fits c.self.inside.bytes.items c.self.inside.links c.self.invariant c.marks-marks.ensures.apart c.args.self.now c.self.view_is c.args.chain c.requires c.marks-marks.result c.marks-marks.ensures.marks c.first-start.result c.if-marks-eq0.false c.first-start.ensures.first)
+
+pub returns : goal.returns
+returns c =
+    lemmas.front_seen c.self.inside.bytes.items c.self.inside.links c.self.invariant c.marks-marks.ensures.apart c.args.self.now c.self.view_is c.args.chain c.requires c.marks-marks.result c.marks-marks.ensures.marks c.first-start.result c.min.result c.if-marks-eq0.false c.first-start.ensures.first c.min.ensures
+    c.deref.result.now c.deref.ensures.value
