@@ -37,18 +37,18 @@ pub contents-take : (bytes : List ℕ) (made k : ℕ) (xs : List ℕ) → length
     → contents bytes (take k xs) ≡ take (256 * k) (contents bytes xs)
 contents-take bytes made k xs room all le =
     let whole : contents bytes xs ≡ contents bytes (take k xs) ++ contents bytes (drop k xs) =
-      ap (contents bytes) (sym (take-append-drop k xs)) ∙ contents-append bytes (take k xs) (drop k xs) in
+    ap (contents bytes) (sym (take-append-drop k xs)) ∙ contents-append bytes (take k xs) (drop k xs) in
     let size : length (contents bytes (take k xs)) ≡ 256 * k =
-      length-contents bytes made (take k xs) room (AllMade-take made k xs all) ∙ ap (λ n. 256 * n) (length-take-le k xs le) in
+    length-contents bytes made (take k xs) room (AllMade-take made k xs all) ∙ ap (λ n. 256 * n) (length-take-le k xs le) in
     sym (ap (take (256 * k)) whole ∙ take_at (contents bytes (take k xs)) (contents bytes (drop k xs)) (256 * k) size)
 
 pub contents-drop : (bytes : List ℕ) (made k : ℕ) (xs : List ℕ) → length bytes ≡ 256 * made → AllMade made xs → k ≤ length xs
     → contents bytes (drop k xs) ≡ drop (256 * k) (contents bytes xs)
 contents-drop bytes made k xs room all le =
     let whole : contents bytes xs ≡ contents bytes (take k xs) ++ contents bytes (drop k xs) =
-      ap (contents bytes) (sym (take-append-drop k xs)) ∙ contents-append bytes (take k xs) (drop k xs) in
+    ap (contents bytes) (sym (take-append-drop k xs)) ∙ contents-append bytes (take k xs) (drop k xs) in
     let size : length (contents bytes (take k xs)) ≡ 256 * k =
-      length-contents bytes made (take k xs) room (AllMade-take made k xs all) ∙ ap (λ n. 256 * n) (length-take-le k xs le) in
+    length-contents bytes made (take k xs) room (AllMade-take made k xs all) ∙ ap (λ n. 256 * n) (length-take-le k xs le) in
     sym (ap (drop (256 * k)) whole ∙ drop_at (contents bytes (take k xs)) (contents bytes (drop k xs)) (256 * k) size)
 
 pub contents-more : (bytes more : List ℕ) (made : ℕ) (xs : List ℕ) → length bytes ≡ 256 * made → AllMade made xs
@@ -59,7 +59,7 @@ contents-more bytes more made (x ∷ xs) room all =
     let within : 256 * x ≤ length bytes = omega arith in
     let enough : 256 ≤ length (drop (256 * x) bytes) = omega (arith, length-drop (256 * x) bytes) in
     let same : block_bytes (bytes ++ more) x ≡ block_bytes bytes x =
-      ap (take 256) (drop-append-le (256 * x) bytes more within) ∙ take-append-le 256 (drop (256 * x) bytes) more enough in
+    ap (take 256) (drop-append-le (256 * x) bytes more within) ∙ take-append-le 256 (drop (256 * x) bytes) more enough in
     ap (λ w. w ++ contents (bytes ++ more) xs) same
     ∙ ap (λ w. block_bytes bytes x ++ w) (contents-more bytes more made xs room (AllMade-rest made x xs all))
 
@@ -97,8 +97,8 @@ drop-written_above : (bytes : List ℕ) (at n : ℕ) (piece : List ℕ) → at +
 drop-written_above bytes at n piece fits le =
     let e : n ≡ (at + length piece) + (n - (at + length piece)) = omega arith in
     let front : drop (at + length piece) (written bytes at piece) ≡ drop (at + length piece) bytes =
-      ap (drop (at + length piece)) (sym (append_assoc (take at bytes) piece (drop (at + length piece) bytes)))
-      ∙ drop_at (take at bytes ++ piece) (drop (at + length piece) bytes) (at + length piece) (omega (arith, length-append (take at bytes) piece, length-take at bytes)) in
+    ap (drop (at + length piece)) (sym (append_assoc (take at bytes) piece (drop (at + length piece) bytes)))
+    ∙ drop_at (take at bytes ++ piece) (drop (at + length piece) bytes) (at + length piece) (omega (arith, length-append (take at bytes) piece, length-take at bytes)) in
     ap (λ m. drop m (written bytes at piece)) e ∙ sym (drop-drop (n - (at + length piece)) (at + length piece) (written bytes at piece))
     ∙ ap (drop (n - (at + length piece))) front ∙ drop-drop (n - (at + length piece)) (at + length piece) bytes ∙ ap (λ m. drop m bytes) (sym e)
 
@@ -152,10 +152,10 @@ module _ (bytes : List ℕ) (b o : ℕ) (piece : List ℕ) (fits : 256 * b + o +
       ≡ take (256 * length xs + o) (contents bytes (xs ++ b ∷ [])) ++ piece
   pushed_contents xs none size =
       let front : contents (written bytes (256 * b + o) piece) (xs ++ b ∷ []) ≡ contents bytes xs ++ block_bytes (written bytes (256 * b + o) piece) b =
-        contents-append (written bytes (256 * b + o) piece) xs (b ∷ []) ∙ ap (λ w. w ++ contents (written bytes (256 * b + o) piece) (b ∷ [])) (contents-written xs none)
-        ∙ ap (λ w. contents bytes xs ++ w) (append-nil (block_bytes (written bytes (256 * b + o) piece) b)) in
+      contents-append (written bytes (256 * b + o) piece) xs (b ∷ []) ∙ ap (λ w. w ++ contents (written bytes (256 * b + o) piece) (b ∷ [])) (contents-written xs none)
+      ∙ ap (λ w. contents bytes xs ++ w) (append-nil (block_bytes (written bytes (256 * b + o) piece) b)) in
       let before : contents bytes (xs ++ b ∷ []) ≡ contents bytes xs ++ block_bytes bytes b =
-        contents-append bytes xs (b ∷ []) ∙ ap (λ w. contents bytes xs ++ w) (append-nil (block_bytes bytes b)) in
+      contents-append bytes xs (b ∷ []) ∙ ap (λ w. contents bytes xs ++ w) (append-nil (block_bytes bytes b)) in
       let m : 256 * length xs + o + length piece ≡ length (contents bytes xs) + (o + length piece) = omega arith in
       let k : 256 * length xs + o ≡ length (contents bytes xs) + o = omega arith in
       ap (λ w. take (256 * length xs + o + length piece) w) front

@@ -5,3 +5,4 @@ pub mod LinkSpecs
 pub mod BlockLemmas
 pub mod StoreLemmas
 pub mod PushLemmas
+pub mod PoolLemmas

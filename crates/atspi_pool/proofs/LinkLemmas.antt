@@ -29,8 +29,8 @@ pub IsApart-moved : (l : Linked) (c : ℕ) (unused : List ℕ) (e : Entry) → c
     → IsApart l → IsApart (with_entry (record l { unused = unused }) c e)
 IsApart-moved l c unused e h same count apart = record {
   once = λ x. let before = apart.once x in let moved = sum_by-set (λ (e : Entry). times x e.blocks) l.chains c e no_entry h in let s = same x in
-    let total : times x unused + sum_by (λ (e : Entry). times x e.blocks) (set l.chains c e) ≡ times x l.unused + sum_by (λ (e : Entry). times x e.blocks) l.chains = omega (arith, moved, s) in
-    total ∙ before;
+      let total : times x unused + sum_by (λ (e : Entry). times x e.blocks) (set l.chains c e) ≡ times x l.unused + sum_by (λ (e : Entry). times x e.blocks) l.chains = omega (arith, moved, s) in
+      total ∙ before;
   counted = omega (arith, apart.counted, sum_by-set (λ (e : Entry). length e.blocks) l.chains c e no_entry h, count);
 }
 
@@ -95,7 +95,7 @@ map_but_one next t v (r ∷ rs) zero run h =
     ap (λ xs. entry_of (set next t v) run ∷ xs) (map_same next t v rs (λ q l. h (suc q) (omega arith) (λ e. absurd (omega arith))))
 map_but_one next t v (r ∷ rs) (suc c) run h =
     let e : entry_of (set next t v) r ≡ entry_of next r =
-      ap (λ w. record { marks = r.marks; blocks = w }) (walk-set next t v r.first r.count (h 0 (omega arith) (λ e. absurd (omega arith)))) in
+    ap (λ w. record { marks = r.marks; blocks = w }) (walk-set next t v r.first r.count (h 0 (omega arith) (λ e. absurd (omega arith)))) in
     let es = map_but_one next t v rs c run (λ q l ne. h (suc q) (omega arith) (λ e. ne (omega arith))) in
     ap (λ x. x ∷ map (entry_of (set next t v)) (set rs c run)) e
     ∙ ap (λ xs. entry_of next r ∷ xs) es
@@ -121,7 +121,7 @@ module _ (next : List ℕ) (f u : ℕ) (runs : List Run) (h : IsLinked next f u 
   pub relisted : walk next f' u' ≡ unused → entry_of next run' ≡ e → EndsRight next run' → IsChanged next f u runs next f' u' (set runs c run') c unused e
   relisted walks entry right =
       let view : linked_of next f' u' (set runs c run') ≡ with_entry (record (linked_of next f u runs) { unused = unused }) c e =
-        same_linked refl walks (map-set (entry_of next) runs c run' ∙ ap (set (map (entry_of next) runs) c) entry) in
+      same_linked refl walks (map-set (entry_of next) runs c run' ∙ ap (set (map (entry_of next) runs) c) entry) in
       record {
         view = view;
         linked = record {
@@ -139,9 +139,9 @@ module _ (next : List ℕ) (f u : ℕ) (runs : List Run) (h : IsLinked next f u 
       → IsChanged next f u runs (set next t v) f' u' (set runs c run') c unused e
   relinked t v here walks entry right =
       let others : (q : ℕ) → q < length runs → q ≢ c → times t (walk next (get_or runs q no_run).first (get_or runs q no_run).count) ≡ 0 =
-        λ q hq ne. not_elsewhere next f u runs h c within t q here hq ne in
+      λ q hq ne. not_elsewhere next f u runs h c within t q here hq ne in
       let view : linked_of (set next t v) f' u' (set runs c run') ≡ with_entry (record (linked_of next f u runs) { unused = unused }) c e =
-        same_linked (length-set next t v) walks (map_but_one next t v runs c run' others ∙ ap (set (map (entry_of next) runs) c) entry) in
+      same_linked (length-set next t v) walks (map_but_one next t v runs c run' others ∙ ap (set (map (entry_of next) runs) c) entry) in
       record {
         view = view;
         linked = record {

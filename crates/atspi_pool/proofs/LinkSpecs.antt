@@ -42,7 +42,7 @@ module _ (next : List ℕ) (f u : ℕ) (runs : List Run) (h : IsLinked next f u 
     room =
         let le = get_or-le-sum_by (λ (e : Entry). length e.blocks) (map (entry_of next) runs) c no_entry (subst (λ n. c < n) (sym (length-map runs (entry_of next))) in_runs) in
         let here : length (get_or (map (entry_of next) runs) c no_entry).blocks ≡ run.count =
-          ap (λ (e : Entry). length e.blocks) (get_or-map (entry_of next) runs c no_run ∙ ap (entry_of next) at) ∙ length-walk next run.first run.count in
+        ap (λ (e : Entry). length e.blocks) (get_or-map (entry_of next) runs c no_run ∙ ap (entry_of next) at) ∙ length-walk next run.first run.count in
         omega (arith, le, here, h.apart.counted, length-walk next f u)
 
     pub block_in : (k : ℕ) → k < run.count → jump next run.first k < length next
@@ -86,9 +86,9 @@ module _ (next : List ℕ) (f u : ℕ) (runs : List Run) (h : IsLinked next f u 
         let link : get_or next f 0 ≡ behind = sym (get_or_read next f behind (first_free_in free) read_free 0) in
         subst (λ (r : Run). IsNow next behind (u - 1) (set runs c (record { first = f; last = f; count = 1; marks = r.marks })) (taken l c)) at
         (subst (λ b. IsNow next b (u - 1) (set runs c (record { first = f; last = f; count = 1; marks = (get_or runs c no_run).marks })) (taken l c)) link
-          (told _ _ _ _ _ _ (taken l c)
-            (seen_blocks (λ v. taken v c) (λ v e. with_entry (record v { unused = drop 1 v.unused }) c (record { marks = e.marks; blocks = e.blocks ++ get_or v.unused 0 0 ∷ [] })) (λ v. refl))
-            (moves.first_taken next f u runs h c in_runs there none)))
+        (told _ _ _ _ _ _ (taken l c)
+        (seen_blocks (λ v. taken v c) (λ v e. with_entry (record v { unused = drop 1 v.unused }) c (record { marks = e.marks; blocks = e.blocks ++ get_or v.unused 0 0 ∷ [] })) (λ v. refl))
+        (moves.first_taken next f u runs h c in_runs there none)))
 
     pub next_taken : (behind : ℕ) → behind ≡ get_or next f behind → 0 < length l.unused → 0 < length (entry_at l c).blocks
         → IsNow (set next run.last f) behind (u - 1) (set runs c (record { first = run.first; last = f; count = run.count + 1; marks = run.marks })) (taken l c)
@@ -98,9 +98,9 @@ module _ (next : List ℕ) (f u : ℕ) (runs : List Run) (h : IsLinked next f u 
         let link : get_or next f 0 ≡ behind = sym (get_or_read next f behind (first_free_in free) read_free 0) in
         subst (λ (r : Run). IsNow (set next r.last f) behind (u - 1) (set runs c (record { first = r.first; last = f; count = r.count + 1; marks = r.marks })) (taken l c)) at
         (subst (λ b. IsNow (set next (get_or runs c no_run).last f) b (u - 1) (set runs c (record { first = (get_or runs c no_run).first; last = f; count = (get_or runs c no_run).count + 1; marks = (get_or runs c no_run).marks })) (taken l c)) link
-          (told _ _ _ _ _ _ (taken l c)
-            (seen_blocks (λ v. taken v c) (λ v e. with_entry (record v { unused = drop 1 v.unused }) c (record { marks = e.marks; blocks = e.blocks ++ get_or v.unused 0 0 ∷ [] })) (λ v. refl))
-            (moves.next_taken next f u runs h c in_runs there pos)))
+        (told _ _ _ _ _ _ (taken l c)
+        (seen_blocks (λ v. taken v c) (λ v e. with_entry (record v { unused = drop 1 v.unused }) c (record { marks = e.marks; blocks = e.blocks ++ get_or v.unused 0 0 ∷ [] })) (λ v. refl))
+        (moves.next_taken next f u runs h c in_runs there pos)))
 
     pub given : (k last behind : ℕ) → last ≡ get_or (entry_at l c).blocks (k - 1) 0 → behind ≡ get_or next last behind → 0 < k → k ≤ length (entry_at l c).blocks
         → IsNow (set next last f) run.first (u + k) (set runs c (record { first = behind; last = run.last; count = run.count - k; marks = run.marks })) (front_given l c k)
@@ -113,10 +113,10 @@ module _ (next : List ℕ) (f u : ℕ) (runs : List Run) (h : IsLinked next f u 
         let place' : jump next (get_or runs c no_run).first (k - 1) ≡ last = ap (λ (r : Run). jump next r.first (k - 1)) at ∙ place in
         subst (λ (r : Run). IsNow (set next last f) r.first (u + k) (set runs c (record { first = behind; last = r.last; count = r.count - k; marks = r.marks })) (front_given l c k)) at
         (subst (λ b. IsNow (set next last f) (get_or runs c no_run).first (u + k) (set runs c (record { first = b; last = (get_or runs c no_run).last; count = (get_or runs c no_run).count - k; marks = (get_or runs c no_run).marks })) (front_given l c k)) link
-          (subst (λ t. IsNow (set next t f) (get_or runs c no_run).first (u + k) (set runs c (record { first = get_or next t 0; last = (get_or runs c no_run).last; count = (get_or runs c no_run).count - k; marks = (get_or runs c no_run).marks })) (front_given l c k)) place'
-            (told _ _ _ _ _ _ (front_given l c k)
-              (seen_blocks (λ v. front_given v c k) (λ v e. with_entry (record v { unused = take k e.blocks ++ v.unused }) c (record { marks = e.marks; blocks = drop k e.blocks })) (λ v. refl))
-              (moves.front_given next f u runs h c in_runs k some fits'))))
+        (subst (λ t. IsNow (set next t f) (get_or runs c no_run).first (u + k) (set runs c (record { first = get_or next t 0; last = (get_or runs c no_run).last; count = (get_or runs c no_run).count - k; marks = (get_or runs c no_run).marks })) (front_given l c k)) place'
+        (told _ _ _ _ _ _ (front_given l c k)
+        (seen_blocks (λ v. front_given v c k) (λ v e. with_entry (record v { unused = take k e.blocks ++ v.unused }) c (record { marks = e.marks; blocks = drop k e.blocks })) (λ v. refl))
+        (moves.front_given next f u runs h c in_runs k some fits'))))
 
     pub kept : (k last behind : ℕ) → last ≡ get_or (entry_at l c).blocks (k - 1) 0 → behind ≡ get_or next last behind → 0 < k → k < length (entry_at l c).blocks
         → IsNow (set next run.last f) behind (u + (run.count - k)) (set runs c (record { first = run.first; last = last; count = k; marks = run.marks })) (front_kept l c k)
@@ -129,27 +129,27 @@ module _ (next : List ℕ) (f u : ℕ) (runs : List Run) (h : IsLinked next f u 
         let place' : jump next (get_or runs c no_run).first (k - 1) ≡ last = ap (λ (r : Run). jump next r.first (k - 1)) at ∙ place in
         subst (λ (r : Run). IsNow (set next r.last f) behind (u + (r.count - k)) (set runs c (record { first = r.first; last = last; count = k; marks = r.marks })) (front_kept l c k)) at
         (subst (λ b. IsNow (set next (get_or runs c no_run).last f) b (u + ((get_or runs c no_run).count - k)) (set runs c (record { first = (get_or runs c no_run).first; last = last; count = k; marks = (get_or runs c no_run).marks })) (front_kept l c k)) link
-          (subst (λ t. IsNow (set next (get_or runs c no_run).last f) (get_or next t 0) (u + ((get_or runs c no_run).count - k)) (set runs c (record { first = (get_or runs c no_run).first; last = t; count = k; marks = (get_or runs c no_run).marks })) (front_kept l c k)) place'
-            (told _ _ _ _ _ _ (front_kept l c k)
-              (seen_blocks (λ v. front_kept v c k) (λ v e. with_entry (record v { unused = drop k e.blocks ++ v.unused }) c (record { marks = e.marks; blocks = take k e.blocks })) (λ v. refl))
-              (moves.front_kept next f u runs h c in_runs k some fits'))))
+        (subst (λ t. IsNow (set next (get_or runs c no_run).last f) (get_or next t 0) (u + ((get_or runs c no_run).count - k)) (set runs c (record { first = (get_or runs c no_run).first; last = t; count = k; marks = (get_or runs c no_run).marks })) (front_kept l c k)) place'
+        (told _ _ _ _ _ _ (front_kept l c k)
+        (seen_blocks (λ v. front_kept v c k) (λ v e. with_entry (record v { unused = drop k e.blocks ++ v.unused }) c (record { marks = e.marks; blocks = take k e.blocks })) (λ v. refl))
+        (moves.front_kept next f u runs h c in_runs k some fits'))))
 
     pub marks_set : (marks : Marks) → IsNow next f u (set runs c (record { first = run.first; last = run.last; count = run.count; marks = marks })) (marked l c marks)
     marks_set marks =
         subst (λ (r : Run). IsNow next f u (set runs c (record { first = r.first; last = r.last; count = r.count; marks = marks })) (marked l c marks)) at
         (told _ _ _ _ _ _ (marked l c marks)
-          (seen_blocks (λ v. marked v c marks) (λ v e. with_entry v c (record { marks = marks; blocks = e.blocks })) (λ v. refl))
-          (relisted next f u runs h c in_runs f u _ (walk next f u) (record { marks = marks; blocks = walk next (get_or runs c no_run).first (get_or runs c no_run).count })
-            (λ x. refl) (omega (arith, length-walk next f u, length-walk next (get_or runs c no_run).first (get_or runs c no_run).count))
-            refl refl (h.ends c in_runs)))
+        (seen_blocks (λ v. marked v c marks) (λ v e. with_entry v c (record { marks = marks; blocks = e.blocks })) (λ v. refl))
+        (relisted next f u runs h c in_runs f u _ (walk next f u) (record { marks = marks; blocks = walk next (get_or runs c no_run).first (get_or runs c no_run).count })
+        (λ x. refl) (omega (arith, length-walk next f u, length-walk next (get_or runs c no_run).first (get_or runs c no_run).count))
+        refl refl (h.ends c in_runs)))
 
   pub added : (next' : List ℕ) (block : ℕ) → next' ≡ next ++ f ∷ [] → block ≡ length next
       → IsNow next' block (u + 1) runs (record l { made = l.made + 1; unused = l.made ∷ l.unused })
   added next' block more new =
       subst (λ (v : Linked). IsNow next' block (u + 1) runs (record v { made = v.made + 1; unused = v.made ∷ v.unused })) is
       (subst (λ b. IsNow next' b (u + 1) runs (record (linked_of next f u runs) { made = length next + 1; unused = length next ∷ walk next f u })) (sym new)
-        (subst (λ ls. IsNow ls (length next) (u + 1) runs (record (linked_of next f u runs) { made = length next + 1; unused = length next ∷ walk next f u })) (sym more)
-          (record { view = moves.added_view next f u runs h; linked = moves.added_linked next f u runs h })))
+      (subst (λ ls. IsNow ls (length next) (u + 1) runs (record (linked_of next f u runs) { made = length next + 1; unused = length next ∷ walk next f u })) (sym more)
+      (record { view = moves.added_view next f u runs h; linked = moves.added_linked next f u runs h })))
 
   pub made_is : u ≤ length next
   made_is = omega (arith, h.apart.counted, length-walk next f u)
@@ -167,4 +167,4 @@ none_given l c k none = sym (ap (front_given l c) none ∙ same_entry l c)
 pub all_kept : (l : Linked) (c k : ℕ) → k ≡ length (entry_at l c).blocks → l ≡ front_kept l c k
 all_kept l c k all =
     sym (ap (λ bs. with_blocks l (bs ++ l.unused) c (take k (entry_at l c).blocks)) (drop_all k (entry_at l c).blocks (omega arith))
-      ∙ ap (with_blocks l l.unused c) (take_all k (entry_at l c).blocks (omega arith)) ∙ same_entry l c)
+    ∙ ap (with_blocks l l.unused c) (take_all k (entry_at l c).blocks (omega arith)) ∙ same_entry l c)

@@ -50,9 +50,17 @@ module _ (bytes : List ℕ) (l : Linked) (h : IsStore bytes l) (apart : IsApart 
       → eqb (((entry_at l c).marks.popped + (entry_at l c).marks.len) % 256) 0 ≡ true → 0 < length l.unused
   free_wanted piece some fits full =
       let o = zero_of_test (((entry_at l c).marks.popped + (entry_at l c).marks.len) % 256) full in
-      omega (arith, fits, free_seen bytes l h apart sv is, sum_by-set blocks_in sv.chains c (Some (pushed (held (chain_at sv c)) piece)) None within,
-        blocks_is bytes l h apart sv is c within, (h.fit c).count, len_is bytes l h apart sv is c within, popped_is bytes l h apart sv is c within,
-        length-append (held (chain_at sv c)).bytes piece)
+      omega (
+        arith,
+        fits,
+        free_seen bytes l h apart sv is,
+        sum_by-set blocks_in sv.chains c (Some (pushed (held (chain_at sv c)) piece)) None within,
+        blocks_is bytes l h apart sv is c within,
+        (h.fit c).count,
+        len_is bytes l h apart sv is c within,
+        popped_is bytes l h apart sv is c within,
+        length-append (held (chain_at sv c)).bytes piece,
+      )
 
   pub tail_found : (l1 : Linked) (o block : ℕ) (full : Bool) → o ≡ ((entry_at l c).marks.popped + (entry_at l c).marks.len) % 256 → eqb o 0 ≡ full
       → MatchBool full (l1 ≡ taken l c) (l1 ≡ l) → block ≡ last_of (entry_at l1 c).blocks
@@ -60,29 +68,35 @@ module _ (bytes : List ℕ) (l : Linked) (h : IsStore bytes l) (apart : IsApart 
   tail_found l1 o block true is_o test links last =
       let zero_o = zero_of_test o test in
       let e : get_or (set l.chains c (record { marks = (entry_at l c).marks; blocks = (entry_at l c).blocks ++ first_of l.unused ∷ [] })) c no_entry
-        ≡ record { marks = (entry_at l c).marks; blocks = (entry_at l c).blocks ++ first_of l.unused ∷ [] } = get_or-set_same l.chains c _ no_entry there in
+      ≡ record { marks = (entry_at l c).marks; blocks = (entry_at l c).blocks ++ first_of l.unused ∷ [] } = get_or-set_same l.chains c _ no_entry there in
       let at_end : length (entry_at l c).blocks ≡ length ((entry_at l c).blocks ++ first_of l.unused ∷ []) - 1 = omega (arith, length_push (entry_at l c).blocks (first_of l.unused)) in
       let b : block ≡ first_of l.unused =
-        last ∙ ap (λ v. last_of (entry_at v c).blocks) links ∙ ap (λ (e : Entry). last_of e.blocks) e
-        ∙ get_or_push (entry_at l c).blocks (first_of l.unused) 0 (length ((entry_at l c).blocks ++ first_of l.unused ∷ []) - 1) at_end in
-      ((entry_at l c).blocks, drop 1 l.unused, record {
-        link = links ∙ ap (λ x. with_blocks l (drop 1 l.unused) c ((entry_at l c).blocks ++ x ∷ [])) (sym b);
-        place = omega (arith, (h.fit c).count);
-        same =
-          ap (take ((entry_at l c).marks.popped + (entry_at l c).marks.len)) (contents-append bytes (entry_at l c).blocks (block ∷ []))
-          ∙ take-append-le ((entry_at l c).marks.popped + (entry_at l c).marks.len) (contents bytes (entry_at l c).blocks) (contents bytes (block ∷ [])) (in_blocks bytes l h apart c there);
-      })
+      last ∙ ap (λ v. last_of (entry_at v c).blocks) links ∙ ap (λ (e : Entry). last_of e.blocks) e
+      ∙ get_or_push (entry_at l c).blocks (first_of l.unused) 0 (length ((entry_at l c).blocks ++ first_of l.unused ∷ []) - 1) at_end in (
+        (entry_at l c).blocks,
+        drop 1 l.unused,
+        record {
+          link = links ∙ ap (λ x. with_blocks l (drop 1 l.unused) c ((entry_at l c).blocks ++ x ∷ [])) (sym b);
+          place = omega (arith, (h.fit c).count);
+          same =
+              ap (take ((entry_at l c).marks.popped + (entry_at l c).marks.len)) (contents-append bytes (entry_at l c).blocks (block ∷ []))
+              ∙ take-append-le ((entry_at l c).marks.popped + (entry_at l c).marks.len) (contents bytes (entry_at l c).blocks) (contents bytes (block ∷ [])) (in_blocks bytes l h apart c there);
+        },
+      )
   tail_found l1 o block false is_o test links last =
       let some_o = some_of_test o test in
       let pos : 0 < length (entry_at l c).blocks = omega (arith, (h.fit c).count) in
       let b : block ≡ last_of (entry_at l c).blocks = last ∙ ap (λ v. last_of (entry_at v c).blocks) links in
       let split : (entry_at l c).blocks ≡ take (length (entry_at l c).blocks - 1) (entry_at l c).blocks ++ block ∷ [] =
-        last_split (entry_at l c).blocks pos ∙ ap (λ x. take (length (entry_at l c).blocks - 1) (entry_at l c).blocks ++ x ∷ []) (sym b) in
-      (take (length (entry_at l c).blocks - 1) (entry_at l c).blocks, l.unused, record {
-        link = links ∙ sym (same_entry l c) ∙ ap (with_blocks l l.unused c) split;
-        place = omega (arith, (h.fit c).count, length-take (length (entry_at l c).blocks - 1) (entry_at l c).blocks);
-        same = ap (λ bs. take ((entry_at l c).marks.popped + (entry_at l c).marks.len) (contents bytes bs)) (sym split);
-      })
+      last_split (entry_at l c).blocks pos ∙ ap (λ x. take (length (entry_at l c).blocks - 1) (entry_at l c).blocks ++ x ∷ []) (sym b) in (
+        take (length (entry_at l c).blocks - 1) (entry_at l c).blocks,
+        l.unused,
+        record {
+          link = links ∙ sym (same_entry l c) ∙ ap (with_blocks l l.unused c) split;
+          place = omega (arith, (h.fit c).count, length-take (length (entry_at l c).blocks - 1) (entry_at l c).blocks);
+          same = ap (λ bs. take ((entry_at l c).marks.popped + (entry_at l c).marks.len) (contents bytes bs)) (sym split);
+        },
+      )
 
   module _ (l1 : Linked) (apart1 : IsApart l1) (o block : ℕ) (init unused : List ℕ) (t : IsTail bytes l c o l1 block init unused)
       (piece : List ℕ) (some : 0 < length piece) (inside : o + length piece ≤ 256) where
@@ -130,13 +144,13 @@ module _ (bytes : List ℕ) (l : Linked) (h : IsStore bytes l) (apart : IsApart 
         let init_made : AllMade l.made init = λ x here. all_here x (omega (arith, counts x)) in
         let size = length-contents bytes l.made init h.room init_made in
         let long : (entry_at l c).marks.popped ≤ length (take ((entry_at l c).marks.popped + (entry_at l c).marks.len) (contents bytes (entry_at l c).blocks)) =
-          omega (arith, length-take ((entry_at l c).marks.popped + (entry_at l c).marks.len) (contents bytes (entry_at l c).blocks), in_blocks bytes l h apart c there) in
+        omega (arith, length-take ((entry_at l c).marks.popped + (entry_at l c).marks.len) (contents bytes (entry_at l c).blocks), in_blocks bytes l h apart c there) in
         ap (drop (entry_at l c).marks.popped)
-          (ap (λ m. take m (contents now (init ++ block ∷ []))) u
-            ∙ ap (λ d. take (256 * length init + o + length piece) (contents d (init ++ block ∷ []))) is_now
-            ∙ pushed_contents bytes block o piece fits inside init none_before size
-            ∙ ap (λ m. take m (contents bytes (init ++ block ∷ [])) ++ piece) t.place
-            ∙ ap (λ w. w ++ piece) t.same)
+        (ap (λ m. take m (contents now (init ++ block ∷ []))) u
+        ∙ ap (λ d. take (256 * length init + o + length piece) (contents d (init ++ block ∷ []))) is_now
+        ∙ pushed_contents bytes block o piece fits inside init none_before size
+        ∙ ap (λ m. take m (contents bytes (init ++ block ∷ [])) ++ piece) t.place
+        ∙ ap (λ w. w ++ piece) t.same)
         ∙ drop-append-le (entry_at l c).marks.popped (take ((entry_at l c).marks.popped + (entry_at l c).marks.len) (contents bytes (entry_at l c).blocks)) piece long
 
     module _ (now : List ℕ) (is_now : now ≡ written bytes (256 * block + o) piece) (l2 : Linked)
@@ -146,48 +160,54 @@ module _ (bytes : List ℕ) (l : Linked) (h : IsStore bytes l) (apart : IsApart 
         unused = unused;
         chains = set l.chains c (record {
           marks = record { is_used = true; popped = (entry_at l c).marks.popped; len = (entry_at l c).marks.len + length piece };
-          blocks = init ++ block ∷ [] }) }
+          blocks = init ++ block ∷ [];
+        });
+      }
       linked2 =
           let m : Marks = record { is_used = true; popped = (entry_at l c).marks.popped; len = (entry_at l c).marks.len + length piece } in
           is_l2
           ∙ ap (λ (e : Entry). with_entry l1 c (record {
             marks = record { is_used = true; popped = (entry_at l c).marks.popped; len = (entry_at l c).marks.len + length piece };
-            blocks = e.blocks })) entry1
+            blocks = e.blocks;
+          })) entry1
           ∙ ap (λ v. with_entry v c (record {
             marks = record { is_used = true; popped = (entry_at l c).marks.popped; len = (entry_at l c).marks.len + length piece };
-            blocks = init ++ block ∷ [] })) t.link
+            blocks = init ++ block ∷ [];
+          })) t.link
           ∙ ap (λ es. record { made = l.made; unused = unused; chains = es }) (set-set l.chains c _ _)
 
       pub seen : IsSome (chain_at sv c) → store_of now l2 ≡ with_pushed sv c piece
       seen used =
           let others : (q : ℕ) → q < length l.chains → q ≢ c → chain_in now (get_or l.chains q no_entry) ≡ chain_in bytes (get_or l.chains q no_entry) =
-            λ q lt ne. ap (λ w. cond (entry_at l q).marks.is_used (Some (record {
-              popped = (entry_at l q).marks.popped;
-              bytes = drop (entry_at l q).marks.popped (take ((entry_at l q).marks.popped + (entry_at l q).marks.len) w) })) None)
-              (ap (λ d. contents d (entry_at l q).blocks) is_now ∙ contents-written bytes block o piece fits inside (entry_at l q).blocks (not_elsewhere q lt ne)) in
+          λ q lt ne. ap (λ w. cond (entry_at l q).marks.is_used (Some (record {
+            popped = (entry_at l q).marks.popped;
+            bytes = drop (entry_at l q).marks.popped (take ((entry_at l q).marks.popped + (entry_at l q).marks.len) w);
+          })) None)
+          (ap (λ d. contents d (entry_at l q).blocks) is_now ∙ contents-written bytes block o piece fits inside (entry_at l q).blocks (not_elsewhere q lt ne)) in
           ap (store_of now) linked2
           ∙ ap (λ cs. record { made = l.made; chains = cs })
-            (map_but_one (chain_in now) (chain_in bytes) l.chains c _ others
-              ∙ ap (λ w. set (map (chain_in bytes) l.chains) c (Some (record { popped = (entry_at l c).marks.popped; bytes = w }))) (new_bytes now is_now)
-              ∙ ap (λ ch. set (map (chain_in bytes) l.chains) c (Some (pushed ch piece))) (sym (held_is bytes l h apart sv is c within used)))
+          (map_but_one (chain_in now) (chain_in bytes) l.chains c _ others
+          ∙ ap (λ w. set (map (chain_in bytes) l.chains) c (Some (record { popped = (entry_at l c).marks.popped; bytes = w }))) (new_bytes now is_now)
+          ∙ ap (λ ch. set (map (chain_in bytes) l.chains) c (Some (pushed ch piece))) (sym (held_is bytes l h apart sv is c within used)))
           ∙ ap (λ (s : Store). with_chain s c (Some (pushed (held (chain_at sv c)) piece))) is
 
       pub stored : (entry_at l c).marks.len + length piece < 2 ^ 32 → IsStore now l2
       stored small = record {
         room = ap length is_now ∙ length-written bytes (256 * block + o) piece fits ∙ h.room ∙ ap (λ (v : Linked). 256 * v.made) (sym linked2);
         fit = λ q. subst (λ (v : Linked). IsFit (get_or v.chains q no_entry)) (sym linked2)
-          (elim (cases_eq q c) [
-            | inl e ↦ subst (λ i. IsFit (get_or (set l.chains c (record {
+            (elim (cases_eq q c) [
+              | inl e ↦ subst (λ i. IsFit (get_or (set l.chains c (record {
                 marks = record { is_used = true; popped = (entry_at l c).marks.popped; len = (entry_at l c).marks.len + length piece };
-                blocks = init ++ block ∷ [] })) i no_entry)) (sym e) (subst IsFit (sym (get_or-set_same l.chains c _ no_entry there)) (record {
+                blocks = init ++ block ∷ [];
+              })) i no_entry)) (sym e) (subst IsFit (sym (get_or-set_same l.chains c _ no_entry there)) (record {
                 count = omega (arith, length_push init block, t.place);
                 front = (h.fit c).front;
                 small = small;
                 empty = λ none. absurd (omega arith);
                 unused = λ un. absurd (not_true un);
               }))
-            | inr ne ↦ subst IsFit (sym (get_or-set_other l.chains c q _ no_entry ne)) (h.fit q)
-          ]);
+              | inr ne ↦ subst IsFit (sym (get_or-set_other l.chains c q _ no_entry ne)) (h.fit q)
+            ]);
       }
         where
           not_true : true ≡ false → ⊥
@@ -200,10 +220,11 @@ pub block_added : (bytes : List ℕ) (l : Linked) → IsStore bytes l → IsApar
 block_added bytes l h apart sv is more now is_now l2 is_l2 =
     ap (store_of now) is_l2
     ∙ ap (λ cs. record { made = l.made + 1; chains = cs }) (all_same (chain_in now) (chain_in bytes) l.chains (λ q lt.
-        ap (λ w. cond (entry_at l q).marks.is_used (Some (record {
-              popped = (entry_at l q).marks.popped;
-              bytes = drop (entry_at l q).marks.popped (take ((entry_at l q).marks.popped + (entry_at l q).marks.len) w) })) None)
-          (ap (λ d. contents d (entry_at l q).blocks) is_now ∙ contents-more bytes more l.made (entry_at l q).blocks h.room (all_made l apart q lt))))
+    ap (λ w. cond (entry_at l q).marks.is_used (Some (record {
+      popped = (entry_at l q).marks.popped;
+      bytes = drop (entry_at l q).marks.popped (take ((entry_at l q).marks.popped + (entry_at l q).marks.len) w);
+    })) None)
+    (ap (λ d. contents d (entry_at l q).blocks) is_now ∙ contents-more bytes more l.made (entry_at l q).blocks h.room (all_made l apart q lt))))
     ∙ ap (λ (s : Store). record s { made = s.made + 1 }) is
 
 -- pieces, one behind the other
@@ -248,15 +269,24 @@ module _ (bytes : List ℕ) (l : Linked) (h : IsStore bytes l) (apart : IsApart 
   pub room_is : room_in (held (chain_at sv c)) ≡ 256 - (m.popped + m.len) % 256
   room_is =
       sym (ap (λ (m : Marks). 256 - (m.popped + m.len) % 256) m_is
-        ∙ ap (λ p. 256 - (p + (entry_at l c).marks.len) % 256) (popped_is bytes l h apart sv is c within)
-        ∙ ap (λ n. 256 - ((held (chain_at sv c)).popped + n) % 256) (len_is bytes l h apart sv is c within))
+      ∙ ap (λ p. 256 - (p + (entry_at l c).marks.len) % 256) (popped_is bytes l h apart sv is c within)
+      ∙ ap (λ n. 256 - ((held (chain_at sv c)).popped + n) % 256) (len_is bytes l h apart sv is c within))
 
   pub missing_is : (piece : List ℕ) (wanted filled free missing : ℕ) → wanted ≡ blocks_for (m.popped + m.len + length piece) → filled ≡ blocks_for (m.popped + m.len)
       → free ≡ length l.unused → missing ≡ wanted - filled - free
       → sv.made + missing ≡ max sv.made (all_blocks (with_pushed sv c piece).chains)
   missing_is piece wanted filled free missing is_wanted is_filled is_free is_missing =
-      omega (arith, free_seen bytes l h apart sv is, all_pushed sv c within piece, blocks_is bytes l h apart sv is c within, (h.fit c).count,
-        len_is bytes l h apart sv is c within, popped_is bytes l h apart sv is c within, ap (λ (m : Marks). m.popped) m_is, ap (λ (m : Marks). m.len) m_is)
+      omega (
+        arith,
+        free_seen bytes l h apart sv is,
+        all_pushed sv c within piece,
+        blocks_is bytes l h apart sv is c within,
+        (h.fit c).count,
+        len_is bytes l h apart sv is c within,
+        popped_is bytes l h apart sv is c within,
+        ap (λ (m : Marks). m.popped) m_is,
+        ap (λ (m : Marks). m.len) m_is,
+      )
 
   module _ (l1 : Linked) (apart1 : IsApart l1) (block : ℕ) (links : MatchBool (eqb ((m.popped + m.len) % 256) 0) (l1 ≡ taken l c) (l1 ≡ l))
       (last : block ≡ last_of (entry_at l1 c).blocks) (piece : List ℕ) (some : 0 < length piece) (room : length piece ≤ room_in (held (chain_at sv c))) where
@@ -284,3 +314,14 @@ module _ (bytes : List ℕ) (l : Linked) (h : IsStore bytes l) (apart : IsApart 
     written_seen now is_now l2 is_l2 used =
         seen bytes l h apart sv is c within l1 apart1 ((m.popped + m.len) % 256) block found.0 found.1 found.2 piece some inside now is_now l2
         (is_l2 ∙ ap (λ (m : Marks). marked l1 c (record { is_used = true; popped = m.popped; len = m.len + length piece })) m_is) used
+
+-- a chain and what is left to append to it
+module _ (was now : Store) (c : ℕ) (in_was : c < length was.chains) (in_now : c < length now.chains) (bytes rest : List ℕ) (same : with_pushed now c rest ≡ with_pushed was c bytes) where
+  pub lengths_left : length (held (chain_at now c)).bytes + length rest ≡ length (held (chain_at was c)).bytes + length bytes
+  lengths_left = sym (all_bytes now c in_now rest) ∙ ap (λ s. length (held (chain_at s c)).bytes) same ∙ all_bytes was c in_was bytes
+
+  pub made_left : now.made ≡ was.made
+  made_left = ap (λ (s : Store). s.made) same
+
+  pub blocks_left : all_blocks (with_pushed now c rest).chains ≡ all_blocks (with_pushed was c bytes).chains
+  blocks_left = ap (λ (s : Store). all_blocks s.chains) same

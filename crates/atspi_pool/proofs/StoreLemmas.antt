@@ -1,16 +1,16 @@
 -- Chains in their blocks, and what each change leaves.
-use Rattle.std.proofs.Common.{◌≡◌, ◌≢◌, ℕ, suc, zero, ◌+◌, ◌-◌, ◌*◌, ◌/◌, ◌%◌, ◌^◌, ◌<◌, ◌≤◌, min, List, [], ◌∷◌, ◌++◌, Bool, true, false, cond, eqb, Option, Some, None, length, get_or, set, take, drop, map, refl, sym, ap, ◌∙◌, subst, arith, zero-add, inl, inr}
+use Rattle.std.proofs.Common.{◌≡◌, ◌≢◌, ℕ, suc, zero, ◌+◌, ◌-◌, ◌*◌, ◌/◌, ◌%◌, ◌^◌, ◌<◌, ◌≤◌, min, List, [], ◌∷◌, ◌++◌, Bool, true, false, cond, eqb, Option, Some, None, length, get_or, set, take, drop, map, refl, sym, ap, ◌∙◌, subst, arith, inl, inr}
 use Rattle.std.specs.Prelude.{IsSome}
 use Rattle.std.specs.Bool.{MatchBool}
 use Rattle.std.specs.List.{sum_by, between}
-use Rattle.std.proofs.lemmas.List.{length-append, length-take, length-map, length-set, length_push, map-set, set-set, get_or-set_same, get_or-set_other, drop-append-le, take-append-le, take_all, take-take, drop-take, drop-drop, drop_more, get_or_push, length-take-le}
+use Rattle.std.proofs.lemmas.List.{length-append, length-take, length-map, length-set, length_push, map-set, set-set, get_or-set_same, get_or-set_other, drop-append-le, take-append-le, take_all, take-take, drop-take, drop-drop, drop_more, get_or_past}
 use Rattle.std.proofs.lemmas.List.Sums.{sum_by-cons, sum_by-set, get_or-le-sum_by}
 use Rattle.std.proofs.lemmas.Bool.Decides.{nat_tests}
 use Rattle.std.proofs.lemmas.Bool.{cases_eq, cases_lt}
 use Rattle.atspi_pool.specs.declared.run.Marks.{Marks}
 use Rattle.atspi_pool.specs.Links.{times, last_of, first_of, Entry, Linked, IsApart, no_entry, entry_at, with_entry, with_blocks, front_given, front_kept, marked}
 use Rattle.atspi_pool.specs.Chains.{Chain, empty_chain, blocks_for, blocks_of, front_of, room_in, pushed, popped_by, cut_by}
-use Rattle.atspi_pool.specs.Store.{Store, block_bytes, blocks_in, all_blocks, held, chain_at, with_chain, with_pushed, contents, chain_in, store_of, written, IsFit, IsStore}
+use Rattle.atspi_pool.specs.Store.{Store, block_bytes, blocks_in, all_blocks, held, chain_at, HasFront, with_chain, with_pushed, contents, chain_in, store_of, written, IsFit, IsStore}
 use Rattle.atspi_pool.proofs.WalkLemmas.{times-append, times_here}
 use Rattle.atspi_pool.proofs.LinkLemmas.{get_or-map, two_le-sum_by, below_of_chance, chance_le}
 use Rattle.atspi_pool.proofs.BlockLemmas.{AllMade, length-contents, contents-append, contents-take, contents-drop, length_part, popped_part, cut_part, length-block, length-written, contents-written, pushed_contents, last_split, AllMade-take}
@@ -107,7 +107,7 @@ module _ (bytes : List ℕ) (l : Linked) (sv : Store) (is : store_of bytes l ≡
     changed unused bs m l1 l2 first second target same =
         let old : Entry = record { marks = (entry_at l c).marks; blocks = bs } in
         let there : (get_or (set l.chains c (record { marks = (entry_at l c).marks; blocks = bs })) c no_entry) ≡ record { marks = (entry_at l c).marks; blocks = bs } =
-          get_or-set_same l.chains c _ no_entry in_links in
+        get_or-set_same l.chains c _ no_entry in_links in
         ap (store_of bytes) (second ∙ ap (λ v. marked v c m) first)
         ∙ ap (λ (e : Entry). store_of bytes (with_entry (with_blocks l unused c bs) c (record { marks = m; blocks = e.blocks }))) there
         ∙ ap (λ es. store_of bytes (record { made = l.made; unused = unused; chains = es })) (set-set l.chains c (record { marks = (entry_at l c).marks; blocks = bs }) (record { marks = m; blocks = bs }))
@@ -134,17 +134,20 @@ module _ (bytes : List ℕ) (l : Linked) (h : IsStore bytes l) (apart : IsApart 
 
     pub held_is : IsSome (chain_at sv c) → held (chain_at sv c) ≡ record {
       popped = (entry_at l c).marks.popped;
-      bytes = drop (entry_at l c).marks.popped (take ((entry_at l c).marks.popped + (entry_at l c).marks.len) (contents bytes (entry_at l c).blocks)) }
+      bytes = drop (entry_at l c).marks.popped (take ((entry_at l c).marks.popped + (entry_at l c).marks.len) (contents bytes (entry_at l c).blocks));
+    }
     held_is used =
         let b = used_of_some (entry_at l c).marks.is_used _ (subst IsSome (chain_is bytes l sv is c within) used) in
         ap held ((chain_is bytes l sv is c within) ∙ ap (λ b. cond b (Some (record {
           popped = (entry_at l c).marks.popped;
-          bytes = drop (entry_at l c).marks.popped (take ((entry_at l c).marks.popped + (entry_at l c).marks.len) (contents bytes (entry_at l c).blocks)) })) None) b)
+          bytes = drop (entry_at l c).marks.popped (take ((entry_at l c).marks.popped + (entry_at l c).marks.len) (contents bytes (entry_at l c).blocks));
+        })) None) b)
 
     pub popped_chain : (n : ℕ) → IsSome (chain_at sv c) → n ≤ (entry_at l c).marks.len → (entry_at l c).marks.len ≢ n
         → chain_in bytes (record {
-            marks = record { is_used = true; popped = ((entry_at l c).marks.popped + n) % 256; len = (entry_at l c).marks.len - n };
-            blocks = drop (((entry_at l c).marks.popped + n) / 256) (entry_at l c).blocks })
+          marks = record { is_used = true; popped = ((entry_at l c).marks.popped + n) % 256; len = (entry_at l c).marks.len - n };
+          blocks = drop (((entry_at l c).marks.popped + n) / 256) (entry_at l c).blocks;
+        })
         ≡ Some (popped_by (held (chain_at sv c)) n)
     popped_chain n used le ne =
         let p : ℕ = (entry_at l c).marks.popped in
@@ -154,18 +157,19 @@ module _ (bytes : List ℕ) (l : Linked) (h : IsStore bytes l) (apart : IsApart 
         let fits : ((entry_at l c).marks.popped + n) / 256 ≤ length (entry_at l c).blocks = omega (arith, (h.fit c).count) in
         let kept = contents-drop bytes l.made (((entry_at l c).marks.popped + n) / 256) (entry_at l c).blocks h.room (all_made l apart c (in_links bytes l sv is c within)) fits in
         let test : eqb (length (drop (entry_at l c).marks.popped (take ((entry_at l c).marks.popped + (entry_at l c).marks.len) (contents bytes (entry_at l c).blocks)))) n ≡ false =
-          ap (λ m. eqb m n) (part_size bytes l h apart c (in_links bytes l sv is c within)) ∙ other_test (entry_at l c).marks.len n ne in
+        ap (λ m. eqb m n) (part_size bytes l h apart c (in_links bytes l sv is c within)) ∙ other_test (entry_at l c).marks.len n ne in
         let g : Chain → Option Chain = λ ch. Some (popped_by ch n) in
         ap (λ w. Some (record { popped = ((entry_at l c).marks.popped + n) % 256; bytes = w }))
-          (ap (λ w. drop (((entry_at l c).marks.popped + n) % 256) (take (((entry_at l c).marks.popped + n) % 256 + ((entry_at l c).marks.len - n)) w)) kept
-            ∙ popped_part (contents bytes (entry_at l c).blocks) (entry_at l c).marks.popped (entry_at l c).marks.len n (((entry_at l c).marks.popped + n) / 256) (((entry_at l c).marks.popped + n) % 256) split le)
+        (ap (λ w. drop (((entry_at l c).marks.popped + n) % 256) (take (((entry_at l c).marks.popped + n) % 256 + ((entry_at l c).marks.len - n)) w)) kept
+        ∙ popped_part (contents bytes (entry_at l c).blocks) (entry_at l c).marks.popped (entry_at l c).marks.len n (((entry_at l c).marks.popped + n) / 256) (((entry_at l c).marks.popped + n) % 256) split le)
         ∙ sym (ap (λ ch. Some (popped_by ch n)) (held_is used)
-          ∙ ap (λ b. Some (cond b empty_chain (record { popped = ((entry_at l c).marks.popped + n) % 256; bytes = drop n (drop (entry_at l c).marks.popped (take ((entry_at l c).marks.popped + (entry_at l c).marks.len) (contents bytes (entry_at l c).blocks))) }))) test)
+        ∙ ap (λ b. Some (cond b empty_chain (record { popped = ((entry_at l c).marks.popped + n) % 256; bytes = drop n (drop (entry_at l c).marks.popped (take ((entry_at l c).marks.popped + (entry_at l c).marks.len) (contents bytes (entry_at l c).blocks))) }))) test)
 
     pub cut_chain : (n : ℕ) → IsSome (chain_at sv c) → n ≤ (entry_at l c).marks.len → (entry_at l c).marks.len ≢ n
         → chain_in bytes (record {
-            marks = record { is_used = true; popped = (entry_at l c).marks.popped; len = (entry_at l c).marks.len - n };
-            blocks = take (blocks_for ((entry_at l c).marks.popped + ((entry_at l c).marks.len - n))) (entry_at l c).blocks })
+          marks = record { is_used = true; popped = (entry_at l c).marks.popped; len = (entry_at l c).marks.len - n };
+          blocks = take (blocks_for ((entry_at l c).marks.popped + ((entry_at l c).marks.len - n))) (entry_at l c).blocks;
+        })
         ≡ Some (cut_by (held (chain_at sv c)) n)
     cut_chain n used le ne =
         let k : ℕ = blocks_for ((entry_at l c).marks.popped + ((entry_at l c).marks.len - n)) in
@@ -174,13 +178,13 @@ module _ (bytes : List ℕ) (l : Linked) (h : IsStore bytes l) (apart : IsApart 
         let kept = contents-take bytes l.made (blocks_for ((entry_at l c).marks.popped + ((entry_at l c).marks.len - n))) (entry_at l c).blocks h.room (all_made l apart c (in_links bytes l sv is c within)) fits in
         let part : List ℕ = drop (entry_at l c).marks.popped (take ((entry_at l c).marks.popped + (entry_at l c).marks.len) (contents bytes (entry_at l c).blocks)) in
         let test : eqb (length (drop (entry_at l c).marks.popped (take ((entry_at l c).marks.popped + (entry_at l c).marks.len) (contents bytes (entry_at l c).blocks)))) n ≡ false =
-          ap (λ m. eqb m n) (part_size bytes l h apart c (in_links bytes l sv is c within)) ∙ other_test (entry_at l c).marks.len n ne in
+        ap (λ m. eqb m n) (part_size bytes l h apart c (in_links bytes l sv is c within)) ∙ other_test (entry_at l c).marks.len n ne in
         ap (λ w. Some (record { popped = (entry_at l c).marks.popped; bytes = w }))
-          (ap (λ w. drop (entry_at l c).marks.popped (take ((entry_at l c).marks.popped + ((entry_at l c).marks.len - n)) w)) kept
-            ∙ cut_part (contents bytes (entry_at l c).blocks) (entry_at l c).marks.popped (entry_at l c).marks.len n (blocks_for ((entry_at l c).marks.popped + ((entry_at l c).marks.len - n))) within_kept
-            ∙ ap (λ m. take (m - n) (drop (entry_at l c).marks.popped (take ((entry_at l c).marks.popped + (entry_at l c).marks.len) (contents bytes (entry_at l c).blocks)))) (sym (part_size bytes l h apart c (in_links bytes l sv is c within))))
+        (ap (λ w. drop (entry_at l c).marks.popped (take ((entry_at l c).marks.popped + ((entry_at l c).marks.len - n)) w)) kept
+        ∙ cut_part (contents bytes (entry_at l c).blocks) (entry_at l c).marks.popped (entry_at l c).marks.len n (blocks_for ((entry_at l c).marks.popped + ((entry_at l c).marks.len - n))) within_kept
+        ∙ ap (λ m. take (m - n) (drop (entry_at l c).marks.popped (take ((entry_at l c).marks.popped + (entry_at l c).marks.len) (contents bytes (entry_at l c).blocks)))) (sym (part_size bytes l h apart c (in_links bytes l sv is c within))))
         ∙ sym (ap (λ ch. Some (cut_by ch n)) (held_is used)
-          ∙ ap (λ b. Some (cond b empty_chain (record { popped = (entry_at l c).marks.popped; bytes = take (length (drop (entry_at l c).marks.popped (take ((entry_at l c).marks.popped + (entry_at l c).marks.len) (contents bytes (entry_at l c).blocks))) - n) (drop (entry_at l c).marks.popped (take ((entry_at l c).marks.popped + (entry_at l c).marks.len) (contents bytes (entry_at l c).blocks))) }))) test)
+        ∙ ap (λ b. Some (cond b empty_chain (record { popped = (entry_at l c).marks.popped; bytes = take (length (drop (entry_at l c).marks.popped (take ((entry_at l c).marks.popped + (entry_at l c).marks.len) (contents bytes (entry_at l c).blocks))) - n) (drop (entry_at l c).marks.popped (take ((entry_at l c).marks.popped + (entry_at l c).marks.len) (contents bytes (entry_at l c).blocks))) }))) test)
 
     same_test : (a b : ℕ) → a ≡ b → eqb a b ≡ true
     same_test a b e = grind (arith, nat_tests)
@@ -203,8 +207,8 @@ module _ (bytes : List ℕ) (l : Linked) (h : IsStore bytes l) (apart : IsApart 
         let front : (entry_at l c).marks.popped < 256 = (h.fit c).front in
         let pos : 0 < length (entry_at l c).blocks = omega (arith, (h.fit c).count) in
         let whole : contents bytes (entry_at l c).blocks ≡ block_bytes bytes b ++ contents bytes (drop 1 (entry_at l c).blocks) =
-          ap (contents bytes) (drop_more (entry_at l c).blocks 0 0 pos)
-          ∙ ap (λ x. block_bytes bytes x ++ contents bytes (drop 1 (entry_at l c).blocks)) (sym first) in
+        ap (contents bytes) (drop_more (entry_at l c).blocks 0 0 pos)
+        ∙ ap (λ x. block_bytes bytes x ++ contents bytes (drop 1 (entry_at l c).blocks)) (sym first) in
         let made : b < l.made = subst (λ x. x < l.made) (sym first) (first_made pos) in
         let le : n ≤ length (block_bytes bytes b) = omega (arith, length-block bytes b l.made h.room made) in
         let small : n ≤ 256 = omega arith in
@@ -216,8 +220,8 @@ module _ (bytes : List ℕ) (l : Linked) (h : IsStore bytes l) (apart : IsApart 
         ∙ sym (drop-take (entry_at l c).marks.popped (n - (entry_at l c).marks.popped) (drop (256 * b) bytes))
         ∙ ap (λ m. drop (entry_at l c).marks.popped (take m (drop (256 * b) bytes))) sum
         ∙ ap (drop (entry_at l c).marks.popped) (sym (take-take n 256 (drop (256 * b) bytes) small)
-          ∙ sym (take-append-le n (block_bytes bytes b) (contents bytes (drop 1 (entry_at l c).blocks)) le) ∙ ap (take n) (sym whole)
-          ∙ sym (take_least (contents bytes (entry_at l c).blocks) 256 ((entry_at l c).marks.popped + (entry_at l c).marks.len) n least))
+        ∙ sym (take-append-le n (block_bytes bytes b) (contents bytes (drop 1 (entry_at l c).blocks)) le) ∙ ap (take n) (sym whole)
+        ∙ sym (take_least (contents bytes (entry_at l c).blocks) 256 ((entry_at l c).marks.popped + (entry_at l c).marks.len) n least))
         ∙ ap (λ m. drop (entry_at l c).marks.popped (take m (take ((entry_at l c).marks.popped + (entry_at l c).marks.len) (contents bytes (entry_at l c).blocks)))) (sym sum256)
         ∙ drop-take (entry_at l c).marks.popped (256 - (entry_at l c).marks.popped) (take ((entry_at l c).marks.popped + (entry_at l c).marks.len) (contents bytes (entry_at l c).blocks))
         ∙ ap front_of (sym (held_is used))
@@ -261,5 +265,22 @@ module _ (bytes : List ℕ) (l : Linked) (h : IsStore bytes l) (apart : IsApart 
     pub front_fits : (m : Marks) → m ≡ (entry_at l c).marks → (b : ℕ) → (m.len ≡ 0 → ⊥) → b ≡ first_of (entry_at l c).blocks → (256 * b + 256 ≤ length bytes) × (m.popped < 256)
     front_fits m e b some first =
         let pos : 0 < length (entry_at l c).blocks =
-          let ne = λ (z : (entry_at l c).marks.len ≡ 0). some (ap (λ (m : Marks). m.len) e ∙ z) in omega (arith, (h.fit c).count) in
+        let ne = λ (z : (entry_at l c).marks.len ≡ 0). some (ap (λ (m : Marks). m.len) e ∙ z) in omega (arith, (h.fit c).count) in
         (omega (arith, h.room, first, first_made pos), omega (arith, (h.fit c).front, ap (λ (m : Marks). m.popped) e))
+
+    pub front_some : 0 < length (held (chain_at sv c)).bytes → 0 < length (front_of (held (chain_at sv c)))
+    front_some some =
+        omega (arith, length-take (256 - (held (chain_at sv c)).popped) (held (chain_at sv c)).bytes, popped_is, (h.fit c).front)
+
+front_by : (b : Bool) (p len : ℕ) (part : List ℕ) → p < 256 → (len ≡ 0 → p ≡ 0) → length part ≡ len → HasFront (cond b (Some (record { popped = p; bytes = part })) None)
+front_by true p len part front empty long = (front, λ none. empty (sym long ∙ none))
+front_by false p len part front empty long = tt
+
+-- every chain has its front
+pub fronts : (bytes : List ℕ) (l : Linked) → IsStore bytes l → IsApart l → (sv : Store) → store_of bytes l ≡ sv → (q : ℕ) → HasFront (chain_at sv q)
+fronts bytes l h apart sv is q =
+    subst (λ s. HasFront (chain_at s q)) is (subst HasFront (sym (get_or-map (chain_in bytes) l.chains q no_entry))
+    (elim (cases_lt q (length l.chains)) [
+      | inl lt ↦ front_by (entry_at l q).marks.is_used (entry_at l q).marks.popped (entry_at l q).marks.len _ (h.fit q).front (h.fit q).empty (part_size bytes l h apart q lt)
+      | inr ge ↦ subst (λ e. HasFront (chain_in bytes e)) (sym (get_or_past l.chains q no_entry ge)) tt
+    ]))

@@ -104,13 +104,13 @@ walk_joined next b n g m within front other =
     let t : ℕ = jump next b n in
     let now : List ℕ = set next (jump next b n) g in
     let lone : (ls : List ℕ) → walk ls b (suc n) ≡ walk ls b n ++ jump ls b n ∷ [] =
-      λ ls. let e : suc n ≡ n + 1 = omega arith in ap (walk ls b) e ∙ walk_add ls b n 1 in
+    λ ls. let e : suc n ≡ n + 1 = omega arith in ap (walk ls b) e ∙ walk_add ls b n 1 in
     let place = jump-set next t g b n front in
     let left : walk now b (suc n) ≡ walk next b (suc n) =
-      lone now ∙ ap (λ w. w ++ jump now b n ∷ []) (walk-set next t g b n front)
-      ∙ ap (λ j. walk next b n ++ j ∷ []) place ∙ sym (lone next) in
+    lone now ∙ ap (λ w. w ++ jump now b n ∷ []) (walk-set next t g b n front)
+    ∙ ap (λ j. walk next b n ++ j ∷ []) place ∙ sym (lone next) in
     let right : jump now b (suc n) ≡ g =
-      jump_more now b n ∙ ap (λ j. get_or now j 0) place ∙ get_or-set_same next t g 0 within in
+    jump_more now b n ∙ ap (λ j. get_or now j 0) place ∙ get_or-set_same next t g 0 within in
     walk_add now b (suc n) m ∙ ap (λ w. w ++ walk now (jump now b (suc n)) m) left
     ∙ ap (λ w. walk next b (suc n) ++ w) (ap (λ j. walk now j m) right ∙ walk-set next t g g m other)
 

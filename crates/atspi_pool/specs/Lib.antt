@@ -2,3 +2,4 @@ pub mod Links
 pub mod Walk
 pub mod Chains
 pub mod Store
+pub mod Pool

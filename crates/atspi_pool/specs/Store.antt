@@ -47,11 +47,17 @@ abbrev pub chain_in : List ℕ → Entry → Option Chain
 chain_in bytes e =
     if e.marks.is_used then Some (record {
       popped = e.marks.popped;
-      bytes = drop e.marks.popped (take (e.marks.popped + e.marks.len) (contents bytes e.blocks)) })
+      bytes = drop e.marks.popped (take (e.marks.popped + e.marks.len) (contents bytes e.blocks));
+    })
     else None
 
 abbrev pub store_of : List ℕ → Linked → Store
 store_of bytes l = record { made = l.made; chains = map (chain_in bytes) l.chains }
+
+-- the front of a chain: of its first block fewer bytes were popped than it has, and of an empty chain none
+abbrev pub HasFront : Option Chain → Type 0
+HasFront None = Unit {0}
+HasFront (Some chain) = (chain.popped < 256) × (length chain.bytes ≡ 0 → chain.popped ≡ 0)
 
 -- a piece written over bytes, from a place on
 abbrev pub written : List ℕ → ℕ → List ℕ → List ℕ

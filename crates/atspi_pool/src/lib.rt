@@ -2,6 +2,11 @@
 //! other.
 #![tactic(auto)]
 
+mod laws;
 mod links;
+mod pool;
 mod run;
 mod store;
+
+pub use laws::{blocks_are_few, made_is_bound};
+pub use pool::Pool;

@@ -50,6 +50,13 @@ impl Links {
         self.next.len()
     }
 
+    /// How many chains there are.
+    pub fn chains(&self) -> usize
+        ensures { result ≡ length self.now.chains }
+    {
+        self.runs.len()
+    }
+
     /// How many blocks are free.
     pub fn free(&self) -> usize
         ensures free { result ≡ length self.now.unused }

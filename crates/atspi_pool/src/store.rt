@@ -2,7 +2,7 @@
 
 ghost use Rattle.std.specs.Prelude.{◌≡◌, ◌+◌, ◌-◌, ◌<◌, ◌≤◌, ◌^◌, ℕ, [], ◌∷◌, ◌++◌, length, min, max, true, None, Some, IsSome, OnOk, OnErr};
 ghost use Rattle.atspi_pool.specs.Chains.{empty_chain, blocks_of, front_of, room_in, popped_by, cut_by};
-ghost use Rattle.atspi_pool.specs.Store.{chain_at, held, with_chain, with_pushed, all_blocks, written};
+ghost use Rattle.atspi_pool.specs.Store.{chain_at, held, with_chain, with_pushed, all_blocks, written, HasFront};
 
 use crate::links::Links;
 use crate::run::Marks;
@@ -62,9 +62,17 @@ impl Store {
         self.links.made()
     }
 
+    /// How many chains there are, in use or not.
+    pub fn chains(&self) -> usize
+        ensures { result ≡ length self.now.chains }
+    {
+        self.links.chains()
+    }
+
     /// How many blocks are free.
     pub fn free(&self) -> usize
-        ensures { result + all_blocks self.now.chains ≡ self.now.made }
+        ensures free { result + all_blocks self.now.chains ≡ self.now.made }
+        ensures fronts { (q : ℕ) → HasFront (chain_at self.now q) }
     {
         self.links.free()
     }
@@ -81,7 +89,8 @@ impl Store {
     /// The bytes of the first block of a chain.
     pub fn front(&self, chain: usize) -> &[u8]
         requires { chain < length self.now.chains }
-        ensures { result.now ≡ front_of (held (chain_at self.now chain)) }
+        ensures bytes { result.now ≡ front_of (held (chain_at self.now chain)) }
+        ensures some { 0 < length (held (chain_at self.now chain)).bytes → 0 < length result.now }
     {
         let marks = self.links.marks(chain);
         if marks.len == 0 {
@@ -163,7 +172,8 @@ impl Store {
             return self.clear(chain);
         }
         let len = marks.len - n;
-        self.links.keep_front(chain, (marks.popped + len).div_ceil(BLOCK));
+        self.links
+            .keep_front(chain, (marks.popped + len).div_ceil(BLOCK));
         self.links.set_marks(
             chain,
             Marks {
@@ -219,6 +229,7 @@ impl Store {
         ensures chains { self.new.chains ≡ self.old.chains }
         ensures rises { self.old.made ≤ self.new.made }
         ensures bound { self.new.made ≤ max self.old.made (all_blocks (with_pushed self.old chain bytes.now).chains) }
+        ensures fronts { (q : ℕ) → HasFront (chain_at self.old q) }
     {
         let marks = self.links.marks(chain);
         let filled = marks.popped + marks.len;
@@ -252,10 +263,12 @@ impl Store {
         requires used { IsSome (chain_at self.old chain) }
         requires small { length (held (chain_at self.old chain)).bytes + length bytes.now < 2 ^ 32 }
         ensures ok { OnOk result (self.new ≡ record (with_pushed self.old chain bytes.now) {
-            made = max self.old.made (all_blocks (with_pushed self.old chain bytes.now).chains) }) }
+          made = max self.old.made (all_blocks (with_pushed self.old chain bytes.now).chains);
+        }) }
         ensures err { OnErr result (self.new.chains ≡ self.old.chains) }
         ensures rises { self.old.made ≤ self.new.made }
         ensures bound { self.new.made ≤ max self.old.made (all_blocks (with_pushed self.old chain bytes.now).chains) }
+        ensures fronts { (q : ℕ) → HasFront (chain_at self.old q) }
     {
         self.make(chain, bytes)?;
         self.extend(chain, bytes);

@@ -7,7 +7,7 @@ pub offset_bounds-next-block : goal.offset_bounds-next-block
 offset_bounds-next-block c =
     let lt : c.loop.counter < c.args.count = c.loop-test.true in
     let within : c.loop.block < length c.args.next.now =
-      subst (λ j. j < length c.args.next.now) (get_or-walk c.args.next.now c.args.from c.loop.counter c.args.count lt ∙ sym c.loop.invariant) (c.requires c.loop.counter lt) in
+    subst (λ j. j < length c.args.next.now) (get_or-walk c.args.next.now c.args.from c.loop.counter c.args.count lt ∙ sym c.loop.invariant) (c.requires c.loop.counter lt) in
     omega arith
 
 pub bounds-next-block : goal.bounds-next-block

@@ -14,6 +14,6 @@ returns c =
     let less : length (entry_at c.args.self.now c.args.chain).blocks ≤ c.index.result.now.count = omega arith in
     c.give_front.ensures.links
     ∙ ap (λ bs. with_blocks c.args.self.now (bs ++ c.args.self.now.unused) c.args.chain (drop c.index.result.now.count (entry_at c.args.self.now c.args.chain).blocks))
-      (take_all c.index.result.now.count (entry_at c.args.self.now c.args.chain).blocks less)
+    (take_all c.index.result.now.count (entry_at c.args.self.now c.args.chain).blocks less)
     ∙ ap (with_blocks c.args.self.now ((entry_at c.args.self.now c.args.chain).blocks ++ c.args.self.now.unused) c.args.chain)
-      (drop_all c.index.result.now.count (entry_at c.args.self.now c.args.chain).blocks less)
+    (drop_all c.index.result.now.count (entry_at c.args.self.now c.args.chain).blocks less)

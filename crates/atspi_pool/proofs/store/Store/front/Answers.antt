@@ -2,6 +2,7 @@ use Rattle.std.proofs.Common.{◌≡◌, ◌≢◌, ◌<◌, ◌≤◌, ◌+◌,
 use Rattle.std.specs.Prelude.{IsSome}
 use Rattle.atspi_pool.specs.declared.run.Marks.{Marks}
 use Rattle.atspi_pool.specs.Links.{entry_at, Linked}
+use Rattle.atspi_pool.specs.Chains.{front_of}
 use Rattle.atspi_pool.specs.Store.{with_chain, with_pushed, held, chain_at, all_blocks, Store}
 use Rattle.atspi_pool.proofs.StoreLemmas as lemmas
 use Rattle.atspi_pool.proofs.PushLemmas as pushes
@@ -21,5 +22,11 @@ slice_bounds-result-end-2 c = omega (arith, c.min.ensures, c.deref.ensures.len, 
 
 pub returns : goal.returns
 returns c =
+    let same : take (256 * c.first-start.result + c.min.result - (256 * c.first-start.result + c.marks-marks.result.popped))
+    (drop (256 * c.first-start.result + c.marks-marks.result.popped) c.deref.result.now) ≡ front_of (held (chain_at c.args.self.now c.args.chain)) =
     lemmas.front_seen c.self.inside.bytes.items c.self.inside.links c.self.invariant c.marks-marks.ensures.apart c.args.self.now c.self.view_is c.args.chain c.requires c.marks-marks.result c.marks-marks.ensures.marks c.first-start.result c.min.result c.if-marks-eq0.false c.first-start.ensures.first c.min.ensures
-    c.deref.result.now c.deref.ensures.value
+    c.deref.result.now c.deref.ensures.value in
+    record {
+      bytes = same;
+      some = λ pos. subst (λ w. 0 < length w) (sym same) (lemmas.front_some c.self.inside.bytes.items c.self.inside.links c.self.invariant c.marks-marks.ensures.apart c.args.self.now c.self.view_is c.args.chain c.requires pos);
+    }

@@ -13,7 +13,7 @@ returns-then-marks-n c =
     let all : (entry_at c.self.inside.links c.args.chain).marks.len ≡ c.args.n = sym (ap (λ (m : Marks). m.len) c.marks-marks.ensures.marks) ∙ c.if-marks-n.true in
     c.clear.ensures
     ∙ ap (λ ch. with_chain c.args.self.now c.args.chain (Some ch))
-      (lemmas.none_left c.self.inside.bytes.items c.self.inside.links c.self.invariant c.marks-marks.ensures.apart c.args.self.now c.self.view_is c.args.chain c.requires.chain c.args.n all (λ (ch : Chain). record { popped = (ch.popped + c.args.n) % 256; bytes = drop c.args.n ch.bytes }))
+    (lemmas.none_left c.self.inside.bytes.items c.self.inside.links c.self.invariant c.marks-marks.ensures.apart c.args.self.now c.self.view_is c.args.chain c.requires.chain c.args.n all (λ (ch : Chain). record { popped = (ch.popped + c.args.n) % 256; bytes = drop c.args.n ch.bytes }))
 
 pub returns : goal.returns
 returns c = lemmas.pop_seen c.self.inside.bytes.items c.self.inside.links c.self.invariant c.marks-marks.ensures.apart c.args.self.now c.self.view_is c.args.chain c.requires.chain c.marks-marks.result c.marks-marks.ensures.marks c.args.n c.requires.used c.requires.bytes c.if-marks-n.false
