@@ -3,3 +3,4 @@ pub mod Walk
 pub mod Chains
 pub mod Store
 pub mod Pool
+pub mod Examples

@@ -2,6 +2,7 @@
 //! other.
 #![tactic(auto)]
 
+pub mod examples;
 mod laws;
 mod links;
 mod pool;
