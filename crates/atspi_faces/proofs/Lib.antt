@@ -1,2 +1,4 @@
 pub mod PlaceLemmas
 pub mod NodeLemmas
+pub mod BufferLemmas
+pub mod GapLemmas

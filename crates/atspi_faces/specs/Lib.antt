@@ -3,3 +3,5 @@ pub mod Places
 pub mod Columns
 pub mod Actions
 pub mod Plain
+pub mod Gap
+pub mod Gapped

@@ -2,14 +2,19 @@
 #![tactic(auto)]
 
 mod actions;
+mod buffer;
 mod columns;
 mod contents;
+mod gap;
+mod gapped;
 mod kept;
 mod plain;
 mod run;
+mod selections;
 
 pub use actions::{Actions, Deeds};
 pub use columns::{Columns, Grid};
 pub use contents::Contents;
+pub use gapped::{GapChars, GapText};
 pub use kept::Kept;
 pub use plain::{PlainChars, PlainText};

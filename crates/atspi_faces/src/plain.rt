@@ -1,10 +1,11 @@
 //! Texts that are kept in one piece.
 
-ghost use Rattle.std.specs.Prelude.{◌≡◌, ◌≤◌, ◌<◌, length, IfOk, OnErr};
+ghost use Rattle.std.specs.Prelude.{◌≤◌, ◌<◌, length};
 
 use crate::contents::Contents;
 use crate::kept::Kept;
 use crate::run::Run;
+use crate::selections::copy_marks;
 use atspi_base::{Marks, NoMemory, Text};
 use atspi_face::{Change, FaceData, FaceKind};
 use std::alloc::Global;
@@ -83,15 +84,4 @@ impl Contents for PlainChars {
         }
         Ok(())
     }
-}
-
-/// An equal list, which takes no memory where it is empty.
-fn copy_marks(alloc: Global, marks: &Marks) -> Result<Marks, NoMemory>
-    ensures ok { IfOk result (λ copy. copy ≡ marks.now) }
-    ensures cause { OnErr result (0 < length marks.now) }
-{
-    if marks.len() == 0 {
-        return Ok(Marks::new(alloc));
-    }
-    marks.copy(alloc)
 }

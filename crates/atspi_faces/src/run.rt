@@ -26,7 +26,7 @@ impl Model for Run {
 }
 
 /// At which byte the character at a place begins. A text of one byte a character needs no look.
-fn byte_of(text: &str, count: u32, at: u32) -> usize
+pub fn byte_of(text: &str, count: u32, at: u32) -> usize
     requires counted { count ≡ length (chars text.now) }
     requires within { at ≤ count }
     ensures { CutAt text.now at result }

@@ -1,0 +1,19 @@
+-- A text in two parts with a gap between them.
+use Rattle.std.specs.Prelude.{◌≡◌, ℕ, ◌+◌, ◌<◌, List, ◌++◌, length, chars, IsUtf8}
+use Rattle.atspi_base.specs.Text.{HasNoZero}
+
+-- the characters of both parts
+abbrev pub text_of : List ℕ × List ℕ → List ℕ
+text_of parts = chars parts.0 ++ chars parts.1
+
+-- a part is bytes of so many characters, none of them U+0000
+pub record IsPart (bytes : List ℕ) (told : ℕ) : Type 0 where
+  pub utf8 : IsUtf8 bytes
+  pub no_zero : HasNoZero bytes
+  pub counted : told ≡ length (chars bytes)
+
+-- so are both, and a u32 counts the bytes of both
+pub record IsGapped (parts : List ℕ × List ℕ) (before behind : ℕ) : Type 0 where
+  pub front : IsPart parts.0 before
+  pub back : IsPart parts.1 behind
+  pub fits : length parts.0 + length parts.1 < 4294967296
