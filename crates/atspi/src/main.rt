@@ -1,10 +1,13 @@
 //! The program `atspi`: the top call over the command line, standard input and standard output.
 #![tactic(auto)]
 
-mod standard;
+mod input;
+mod output;
+mod retry;
 
 use atspi_run::run;
-use standard::{StandardInput, StandardOutput};
+use input::StandardInput;
+use output::StandardOutput;
 use std::env;
 use std::io::ErrorKind;
 use std::process::ExitCode;
@@ -26,7 +29,7 @@ fn main(rt: HostRuntime) -> ExitCode {
             }
         }
     }
-    let mut source = StandardInput::new(rt.stdin());
-    let mut sink = StandardOutput::new(rt.stdout());
+    let mut source = StandardInput::new(rt.stdin(), &rt);
+    let mut sink = StandardOutput::new(rt.stdout(), &rt);
     ExitCode::from(run(rt.alloc(), &words, &mut source, &mut sink))
 }

@@ -11,8 +11,8 @@ use Rattle.atspi_types.specs.declared.fault.Fault.{Fault}
 use Rattle.atspi_stream.specs.Stream.{AwaitsMore, few, HasFault, AreMessages, bytes_of, IsParted}
 use Rattle.atspi_stream.proofs.StreamLaws.{message_states, fault_stays}
 use Rattle.atspi_stream.proofs.NextLaws.{history_more, takes_piece}
-use Rattle.atspi_check.specs.Check.{message_line, check_lines, fault_line, faulty_lines, IsFrontText, IsCheckStatus, CheckedAll, CheckedFault, CheckedFront, CheckedTaken, CheckedLimit, CheckedSome, Writes, WritesPart}
-use Rattle.atspi_check.specs.Taking.{Puts, Took, TookPart, TakesIn, Told, ToldPart, EndsIn, Ends, whole_end, read_end, write_end, memory_end, fault_end, limit_end, halt_status}
+use Rattle.atspi_check.specs.Check.{message_line, check_lines, fault_line, faulty_lines, IsFrontText, IsCheckStatus, Checked, CheckedAll, CheckedFault, CheckedFront, CheckedTaken, CheckedLimit, CheckedSome, Writes, WritesPart}
+use Rattle.atspi_check.specs.Taking.{Puts, Shown, Took, TookPart, TakesIn, Told, ToldPart, EndsIn, Ends, whole_end, read_end, write_end, memory_end, fault_end, limit_end, halt_status}
 use Rattle.atspi_check.specs.declared.lines.Halt.{Halt}
 use Rattle.atspi_check.specs.declared.lines.Halt.TheVariants as halts
 use Rattle.atspi_check.specs.declared.checking.End.TheVariants.{Whole, TooLong, Failed}
@@ -57,12 +57,7 @@ puts_both x y z u v w s t p q = (
   appends_both u v w p.0 q.0 p.2 q.2,
 )
 
--- all that waits was written, and what follows
-pub puts_all : (waits : List ℕ) (u v w : Option (List ℕ)) (text line : List ℕ) → Puts [] waits u v text → Appends v w (waits ++ line) → Appends u w (text ++ line)
-puts_all waits u v w text line p a =
-    let is : p.0 ++ (waits ++ line) ≡ text ++ line = sym (append_assoc p.0 waits line) ∙ ap (λ (bs : List ℕ). bs ++ line) p.1 in
-    subst (λ (bs : List ℕ). Appends u w bs) is (appends_both u v w p.0 (waits ++ line) p.2 a)
-
+-- and a part of what follows
 pub puts_part : (x waits : List ℕ) (u v w : Option (List ℕ)) (text line : List ℕ) → Puts x waits u v text → AppendsPart v w (waits ++ line) → AppendsPart u w (x ++ (text ++ line))
 puts_part x waits u v w text line p a =
     let is : p.0 ++ (waits ++ line) ≡ x ++ (text ++ line) = sym (append_assoc p.0 waits line) ∙ ap (λ (bs : List ℕ). bs ++ line) p.1 ∙ append_assoc x text line in
@@ -156,85 +151,91 @@ part_all None left' u w bytes text P p end c a = tt
 part_all (Some input) None u w bytes text P p end c a = absurd p
 part_all (Some input) (Some rest) u w bytes text P p end c a = (text, c input (p ∙ ap (λ (r : List ℕ). bytes ++ r) end ∙ append-nil bytes), a)
 
--- the answer of the last write decides
-decided : {T : Type 0} (due status : ℕ) (r : Result T Halt) (left left' u w : Option (List ℕ)) (A B : Type 0) → MatchResult r (λ _. status ≡ due) (λ halt. status ≡ halt_status halt) → OnOk r A → OnErr r B
-    → (status ≡ due → A → Ends status left left' u w) → (B → WritesPart left u w (CheckedSome 1073741824)) → Ends status left left' u w
-decided due status (Ok x) left left' u w A B is ok err f g = f is ok
-decided due status (Err halts.Write) left left' u w A B is ok err f g = write_end is (g err)
-decided due status (Err halts.NoMemory) left left' u w A B is ok err f g = memory_end is (g err)
-
 all_put : (waits : List ℕ) (u v w : Option (List ℕ)) (text : List ℕ) → Puts [] waits u v text → Appends v w waits → Appends u w text
 all_put waits u v w text p a = subst (λ (bs : List ℕ). Appends u w bs) p.1 (appends_both u v w p.0 waits p.2 a)
 
 part_put : (waits : List ℕ) (u v w : Option (List ℕ)) (text : List ℕ) → Puts [] waits u v text → AppendsPart v w waits → AppendsPart u w text
 part_put waits u v w text p a = subst (λ (bs : List ℕ). AppendsPart u w bs) p.1 (appends_part u v w p.0 waits p.2 a)
 
+-- all of it is a part
+all_part : (u v : Option (List ℕ)) (text : List ℕ) → Appends u v text → AppendsPart u v text
+all_part u v text a = (text, [], append-nil text, a)
+
+-- lines that were put, and written then
+pub told_shown : (fault : Option Fault) (start : ℕ) (old new waited waits : List ℕ) (u v w : Option (List ℕ)) → waited ≡ [] → Told fault start old new waited waits u v → Appends v w waits → Shown fault start old new u w
+told_shown fault start old new waited waits u v w none t a = record {
+  messages = t.messages;
+  parted = t.parted;
+  end = t.end;
+  written = all_put waits u v w (check_lines start t.messages) (subst (λ (bs : List ℕ). Puts bs waits u v (check_lines start t.messages)) none t.puts) a;
+}
+
+-- lines that were put, of which a part was written then
+pub told_part : (fault : Option Fault) (start : ℕ) (old new waited waits : List ℕ) (u v w : Option (List ℕ)) → waited ≡ [] → Told fault start old new waited waits u v → AppendsPart v w waits → ToldPart start old [] u w
+told_part fault start old new waited waits u v w none t a = record {
+  messages = t.messages;
+  rest = new;
+  parted = t.parted;
+  part = part_put waits u v w (check_lines start t.messages) (subst (λ (bs : List ℕ). Puts bs waits u v (check_lines start t.messages)) none t.puts) a;
+}
+
 -- each way to end
 
--- fewer lines than there are
-some_lines : (left left' : Option (List ℕ)) (held waits : List ℕ) (fed : ℕ) (u v w : Option (List ℕ)) (t : Took left left' held fed waits u v) → AppendsPart v w waits → WritesPart left u w (CheckedSome 1073741824)
-some_lines left left' held waits fed u v w t a =
-    part_by left left' u w (t.read ++ t.more) (check_lines 0 t.messages) (CheckedSome 1073741824) t.consumed
-    (λ input rest e. inl (text_front input t.read (t.more ++ rest) held t.messages (e ∙ append_assoc t.read t.more rest) t.parted))
-    (part_put waits u v w (check_lines 0 t.messages) t.puts a)
-
-pub ends_whole : {T : Type 0} (status : ℕ) (r : Result T Halt) (left left' : Option (List ℕ)) (held waits : List ℕ) (fed : ℕ) (u v w : Option (List ℕ)) → TakesIn Whole left left' held fed waits u v → length held ≡ 0
-    → MatchResult r (λ _. status ≡ 0) (λ halt. status ≡ halt_status halt) → OnOk r (Appends v w waits) → OnErr r (AppendsPart v w waits) → Ends status left left' u w
-ends_whole status r left left' held waits fed u v w x none is ok err =
+pub ends_whole : (left left' : Option (List ℕ)) (held : List ℕ) (fed : ℕ) (u w : Option (List ℕ)) → TakesIn Whole left left' held fed u w → length held ≡ 0 → Ends 0 left left' u w
+ends_whole left left' held fed u w x none =
     let t = x.0 in
-    decided 0 status r left left' u w (Appends v w waits) (AppendsPart v w waits) is ok err
-    (λ due a. whole_end due (writes_all left left' u w t.read (check_lines 0 t.messages) (CheckedAll 1073741824) (no_more left left' t.read t.more t.consumed x.1) x.3
-    (λ input e. text_all 1073741824 input t.read held t.messages e (omega (arith, t.counted, t.within)) t.parted none) (all_put waits u v w (check_lines 0 t.messages) t.puts a)))
-    (λ b. some_lines left left' held waits fed u v w t b)
+    whole_end refl x.3 (writes_all left left' u w t.read (check_lines 0 t.messages) (CheckedAll 1073741824) (no_more left left' t.read t.more t.consumed x.1) x.3
+    (λ input e. text_all 1073741824 input t.read held t.messages e (omega (arith, t.counted, t.within)) t.parted none) t.written)
 
-pub ends_failed : {T : Type 0} (status : ℕ) (r : Result T Halt) (left left' : Option (List ℕ)) (held waits : List ℕ) (fed : ℕ) (u v w : Option (List ℕ)) → TakesIn Failed left left' held fed waits u v
-    → MatchResult r (λ _. status ≡ 3) (λ halt. status ≡ halt_status halt) → OnOk r (Appends v w waits) → OnErr r (AppendsPart v w waits) → Ends status left left' u w
-ends_failed status r left left' held waits fed u v w x is ok err =
+pub ends_failed : (left left' : Option (List ℕ)) (held : List ℕ) (fed : ℕ) (u w : Option (List ℕ)) → TakesIn Failed left left' held fed u w → Ends 3 left left' u w
+ends_failed left left' held fed u w x =
     let t = x.0 in
-    decided 3 status r left left' u w (Appends v w waits) (AppendsPart v w waits) is ok err
-    (λ due a. read_end due (writes_taken left left' u w t.read (check_lines 0 t.messages) (no_more left left' t.read t.more t.consumed x.1)
-    (record { messages = t.messages; rest = held; parted = t.parted; awaits = x.2; are = refl }) (all_put waits u v w (check_lines 0 t.messages) t.puts a)))
-    (λ b. some_lines left left' held waits fed u v w t b)
+    read_end refl (writes_taken left left' u w t.read (check_lines 0 t.messages) (no_more left left' t.read t.more t.consumed x.1)
+    (record { messages = t.messages; rest = held; parted = t.parted; awaits = x.2; are = refl }) t.written)
 
-pub ends_limit : {T : Type 0} (status : ℕ) (r : Result T Halt) (left left' : Option (List ℕ)) (held waits : List ℕ) (fed : ℕ) (u v w : Option (List ℕ)) → TakesIn TooLong left left' held fed waits u v
-    → MatchResult r (λ _. status ≡ 8) (λ halt. status ≡ halt_status halt) → OnOk r (Appends v w waits) → OnErr r (AppendsPart v w waits) → Ends status left left' u w
-ends_limit status r left left' held waits fed u v w x is ok err =
+pub ends_limit : (left left' : Option (List ℕ)) (held : List ℕ) (fed : ℕ) (u w : Option (List ℕ)) → TakesIn TooLong left left' held fed u w → Ends 8 left left' u w
+ends_limit left left' held fed u w x =
     let t = x.0 in
-    decided 8 status r left left' u w (Appends v w waits) (AppendsPart v w waits) is ok err
-    (λ due a. limit_end due (writes_by left left' u w (t.read ++ t.more) (check_lines 0 t.messages) (CheckedLimit 1073741824) t.consumed
-    (λ input rest e. text_limit 1073741824 input t.read t.more rest held t.messages e x.1 (t.counted ∙ x.2) t.parted x.3) (all_put waits u v w (check_lines 0 t.messages) t.puts a)))
-    (λ b. some_lines left left' held waits fed u v w t b)
+    limit_end refl (writes_by left left' u w (t.read ++ t.more) (check_lines 0 t.messages) (CheckedLimit 1073741824) t.consumed
+    (λ input rest e. text_limit 1073741824 input t.read t.more rest held t.messages e x.1 (t.counted ∙ x.2) t.parted x.3) t.written)
 
 -- where the messages end
-pub starts_at : (left left' : Option (List ℕ)) (held waits : List ℕ) (fed : ℕ) (u v : Option (List ℕ)) (t : Took left left' held fed waits u v) → fed - length held ≡ length (bytes_of t.messages)
-starts_at left left' held waits fed u v t = omega (arith, t.counted, ap length t.parted.parted, length-append (bytes_of t.messages) held)
+pub starts_at : (left left' : Option (List ℕ)) (held : List ℕ) (fed : ℕ) (u v : Option (List ℕ)) (t : Took left left' held fed u v) → fed - length held ≡ length (bytes_of t.messages)
+starts_at left left' held fed u v t = omega (arith, t.counted, ap length t.parted.parted, length-append (bytes_of t.messages) held)
 
-pub ends_cut : {T : Type 0} (status start : ℕ) (r : Result T Halt) (left left' : Option (List ℕ)) (held waits : List ℕ) (fed : ℕ) (u v w : Option (List ℕ)) → TakesIn Whole left left' held fed waits u v → (length held ≡ 0 → ⊥) → start ≡ fed - length held
-    → MatchResult r (λ _. status ≡ 6) (λ halt. status ≡ halt_status halt) → OnOk r (Appends v w (waits ++ fault_line start (length held) 36)) → OnErr r (AppendsPart v w (waits ++ fault_line start (length held) 36)) → Ends status left left' u w
-ends_cut status start r left left' held waits fed u v w x some at is ok err =
+-- the answer of the fault's line decides
+decided : {T : Type 0} (status : ℕ) (r : Result T Halt) (left left' u w : Option (List ℕ)) (A B : Type 0) → MatchResult r (λ _. status ≡ 6) (λ halt. status ≡ halt_status halt) → OnOk r A → OnErr r B
+    → (A → Writes left u w (CheckedFault 1073741824)) → (B → WritesPart left u w (CheckedSome 1073741824)) → Ends status left left' u w
+decided status (Ok x) left left' u w A B is ok err f g = fault_end is (f ok)
+decided status (Err halts.Write) left left' u w A B is ok err f g = write_end is (g err)
+decided status (Err halts.NoMemory) left left' u w A B is ok err f g = memory_end is (g err)
+
+pub ends_cut : {T : Type 0} (status start count : ℕ) (r : Result T Halt) (left left' : Option (List ℕ)) (held : List ℕ) (fed : ℕ) (u v w : Option (List ℕ)) → TakesIn Whole left left' held fed u v → (length held ≡ 0 → ⊥) → start ≡ fed - length held → count ≡ length held
+    → MatchResult r (λ _. status ≡ 6) (λ halt. status ≡ halt_status halt) → OnOk r (Appends v w (fault_line start count 36)) → OnErr r (AppendsPart v w (fault_line start count 36)) → Ends status left left' u w
+ends_cut status start count r left left' held fed u v w x some at many is ok err =
     let t = x.0 in
-    let line = fault_line start (length held) 36 in
+    let line = fault_line start count 36 in
     let lines = check_lines 0 t.messages in
-    let begin : start ≡ length (bytes_of t.messages) = at ∙ starts_at left left' held waits fed u v t in
-    let text : lines ++ line ≡ faulty_lines t.messages (length held) 36 = ap (λ (n : ℕ). lines ++ fault_line n (length held) 36) begin in
+    let begin : start ≡ length (bytes_of t.messages) = at ∙ starts_at left left' held fed u v t in
+    let text : lines ++ line ≡ faulty_lines t.messages (length held) 36 = ap (λ (n : ℕ). lines ++ fault_line n count 36) begin ∙ ap (λ (n : ℕ). faulty_lines t.messages n 36) many in
     let c : (input : List ℕ) → input ≡ t.read → CheckedFault 1073741824 input (lines ++ line) = λ input e. subst (λ (bs : List ℕ). CheckedFault 1073741824 input bs) (sym text)
     (text_cut 1073741824 input t.read held t.messages e (omega (arith, t.counted, t.within)) t.parted some x.2) in
-    decided 6 status r left left' u w (Appends v w (waits ++ line)) (AppendsPart v w (waits ++ line)) is ok err
-    (λ due a. fault_end due (writes_all left left' u w t.read (lines ++ line) (CheckedFault 1073741824) (no_more left left' t.read t.more t.consumed x.1) x.3 c (puts_all waits u v w lines line t.puts a)))
-    (λ b. part_all left left' u w t.read (lines ++ line) (CheckedSome 1073741824) (no_more left left' t.read t.more t.consumed x.1) x.3 (λ input e. inr (c input e)) (puts_part [] waits u v w lines line t.puts b))
+    decided status r left left' u w (Appends v w line) (AppendsPart v w line) is ok err
+    (λ a. writes_all left left' u w t.read (lines ++ line) (CheckedFault 1073741824) (no_more left left' t.read t.more t.consumed x.1) x.3 c (appends_both u v w lines line t.written a))
+    (λ b. part_all left left' u w t.read (lines ++ line) (CheckedSome 1073741824) (no_more left left' t.read t.more t.consumed x.1) x.3 (λ input e. inr (c input e)) (appends_part u v w lines line t.written b))
 
-pub ends_fault : {T : Type 0} (status start place reason : ℕ) (r : Result T Halt) (left left' : Option (List ℕ)) (held waits : List ℕ) (fed : ℕ) (u v w : Option (List ℕ)) → Took left left' held fed waits u v → HasFault held place reason → start ≡ fed - length held
-    → MatchResult r (λ _. status ≡ 6) (λ halt. status ≡ halt_status halt) → OnOk r (Appends v w (waits ++ fault_line start place reason)) → OnErr r (AppendsPart v w (waits ++ fault_line start place reason)) → Ends status left left' u w
-ends_fault status start place reason r left left' held waits fed u v w t f at is ok err =
+pub ends_fault : {T : Type 0} (status start place reason : ℕ) (r : Result T Halt) (left left' : Option (List ℕ)) (held : List ℕ) (fed : ℕ) (u v w : Option (List ℕ)) → Took left left' held fed u v → HasFault held place reason → start ≡ fed - length held
+    → MatchResult r (λ _. status ≡ 6) (λ halt. status ≡ halt_status halt) → OnOk r (Appends v w (fault_line start place reason)) → OnErr r (AppendsPart v w (fault_line start place reason)) → Ends status left left' u w
+ends_fault status start place reason r left left' held fed u v w t f at is ok err =
     let line = fault_line start place reason in
     let lines = check_lines 0 t.messages in
-    let begin : start ≡ length (bytes_of t.messages) = at ∙ starts_at left left' held waits fed u v t in
+    let begin : start ≡ length (bytes_of t.messages) = at ∙ starts_at left left' held fed u v t in
     let text : lines ++ line ≡ faulty_lines t.messages place reason = ap (λ (n : ℕ). lines ++ fault_line n place reason) begin in
     let c : (input rest : List ℕ) → input ≡ (t.read ++ t.more) ++ rest → CheckedFault 1073741824 input (lines ++ line) = λ input rest e. subst (λ (bs : List ℕ). CheckedFault 1073741824 input bs) (sym text)
     (text_fault 1073741824 input t.read t.more rest held t.messages place reason e (omega (arith, t.counted, t.within)) t.parted f) in
-    decided 6 status r left left' u w (Appends v w (waits ++ line)) (AppendsPart v w (waits ++ line)) is ok err
-    (λ due a. fault_end due (writes_by left left' u w (t.read ++ t.more) (lines ++ line) (CheckedFault 1073741824) t.consumed c (puts_all waits u v w lines line t.puts a)))
-    (λ b. part_by left left' u w (t.read ++ t.more) (lines ++ line) (CheckedSome 1073741824) t.consumed (λ input rest e. inr (c input rest e)) (puts_part [] waits u v w lines line t.puts b))
+    decided status r left left' u w (Appends v w line) (AppendsPart v w line) is ok err
+    (λ a. writes_by left left' u w (t.read ++ t.more) (lines ++ line) (CheckedFault 1073741824) t.consumed c (appends_both u v w lines line t.written a))
+    (λ b. part_by left left' u w (t.read ++ t.more) (lines ++ line) (CheckedSome 1073741824) t.consumed (λ input rest e. inr (c input rest e)) (appends_part u v w lines line t.written b))
 
 -- lines that could not all be put
 halted : (left left' u w : Option (List ℕ)) → TookPart left left' u w → WritesPart left u w (CheckedSome 1073741824)
@@ -248,61 +249,81 @@ ends_halted halts.NoMemory status left left' u w is t = memory_end is (halted le
 
 -- what a status says
 
-pub ends_status : (status : ℕ) (left left' u w : Option (List ℕ)) → Ends status left left' u w → IsCheckStatus status
-ends_status status left left' u w (whole_end is x) = inl is
+ends_status : (status : ℕ) (left left' u w : Option (List ℕ)) → Ends status left left' u w → IsCheckStatus status
+ends_status status left left' u w (whole_end is end x) = inl is
 ends_status status left left' u w (read_end is x) = inr (inl is)
 ends_status status left left' u w (write_end is x) = inr (inr (inl is))
 ends_status status left left' u w (memory_end is x) = inr (inr (inr (inl is)))
 ends_status status left left' u w (fault_end is x) = inr (inr (inr (inr (inl is))))
 ends_status status left left' u w (limit_end is x) = inr (inr (inr (inr (inr is))))
 
-pub on_0 : (status : ℕ) (left left' u w : Option (List ℕ)) → Ends status left left' u w → status ≡ 0 → Writes left u w (CheckedAll 1073741824)
-on_0 status left left' u w (whole_end is x) e = x
+on_0 : (status : ℕ) (left left' u w : Option (List ℕ)) → Ends status left left' u w → status ≡ 0 → Writes left u w (CheckedAll 1073741824)
+on_0 status left left' u w (whole_end is end x) e = x
 on_0 status left left' u w (read_end is x) e = absurd (omega (arith, is, e))
 on_0 status left left' u w (write_end is x) e = absurd (omega (arith, is, e))
 on_0 status left left' u w (memory_end is x) e = absurd (omega (arith, is, e))
 on_0 status left left' u w (fault_end is x) e = absurd (omega (arith, is, e))
 on_0 status left left' u w (limit_end is x) e = absurd (omega (arith, is, e))
 
-pub on_3 : (status : ℕ) (left left' u w : Option (List ℕ)) → Ends status left left' u w → status ≡ 3 → Writes left u w (CheckedTaken left')
-on_3 status left left' u w (whole_end is x) e = absurd (omega (arith, is, e))
+on_3 : (status : ℕ) (left left' u w : Option (List ℕ)) → Ends status left left' u w → status ≡ 3 → Writes left u w (CheckedTaken left')
+on_3 status left left' u w (whole_end is end x) e = absurd (omega (arith, is, e))
 on_3 status left left' u w (read_end is x) e = x
 on_3 status left left' u w (write_end is x) e = absurd (omega (arith, is, e))
 on_3 status left left' u w (memory_end is x) e = absurd (omega (arith, is, e))
 on_3 status left left' u w (fault_end is x) e = absurd (omega (arith, is, e))
 on_3 status left left' u w (limit_end is x) e = absurd (omega (arith, is, e))
 
-pub on_4 : (status : ℕ) (left left' u w : Option (List ℕ)) → Ends status left left' u w → status ≡ 4 → WritesPart left u w (CheckedSome 1073741824)
-on_4 status left left' u w (whole_end is x) e = absurd (omega (arith, is, e))
+on_4 : (status : ℕ) (left left' u w : Option (List ℕ)) → Ends status left left' u w → status ≡ 4 → WritesPart left u w (CheckedSome 1073741824)
+on_4 status left left' u w (whole_end is end x) e = absurd (omega (arith, is, e))
 on_4 status left left' u w (read_end is x) e = absurd (omega (arith, is, e))
 on_4 status left left' u w (write_end is x) e = x
 on_4 status left left' u w (memory_end is x) e = absurd (omega (arith, is, e))
 on_4 status left left' u w (fault_end is x) e = absurd (omega (arith, is, e))
 on_4 status left left' u w (limit_end is x) e = absurd (omega (arith, is, e))
 
-pub on_5 : (status : ℕ) (left left' u w : Option (List ℕ)) → Ends status left left' u w → status ≡ 5 → WritesPart left u w (CheckedSome 1073741824)
-on_5 status left left' u w (whole_end is x) e = absurd (omega (arith, is, e))
+on_5 : (status : ℕ) (left left' u w : Option (List ℕ)) → Ends status left left' u w → status ≡ 5 → WritesPart left u w (CheckedSome 1073741824)
+on_5 status left left' u w (whole_end is end x) e = absurd (omega (arith, is, e))
 on_5 status left left' u w (read_end is x) e = absurd (omega (arith, is, e))
 on_5 status left left' u w (write_end is x) e = absurd (omega (arith, is, e))
 on_5 status left left' u w (memory_end is x) e = x
 on_5 status left left' u w (fault_end is x) e = absurd (omega (arith, is, e))
 on_5 status left left' u w (limit_end is x) e = absurd (omega (arith, is, e))
 
-pub on_6 : (status : ℕ) (left left' u w : Option (List ℕ)) → Ends status left left' u w → status ≡ 6 → Writes left u w (CheckedFault 1073741824)
-on_6 status left left' u w (whole_end is x) e = absurd (omega (arith, is, e))
+on_6 : (status : ℕ) (left left' u w : Option (List ℕ)) → Ends status left left' u w → status ≡ 6 → Writes left u w (CheckedFault 1073741824)
+on_6 status left left' u w (whole_end is end x) e = absurd (omega (arith, is, e))
 on_6 status left left' u w (read_end is x) e = absurd (omega (arith, is, e))
 on_6 status left left' u w (write_end is x) e = absurd (omega (arith, is, e))
 on_6 status left left' u w (memory_end is x) e = absurd (omega (arith, is, e))
 on_6 status left left' u w (fault_end is x) e = x
 on_6 status left left' u w (limit_end is x) e = absurd (omega (arith, is, e))
 
-pub on_8 : (status : ℕ) (left left' u w : Option (List ℕ)) → Ends status left left' u w → status ≡ 8 → Writes left u w (CheckedLimit 1073741824)
-on_8 status left left' u w (whole_end is x) e = absurd (omega (arith, is, e))
+on_8 : (status : ℕ) (left left' u w : Option (List ℕ)) → Ends status left left' u w → status ≡ 8 → Writes left u w (CheckedLimit 1073741824)
+on_8 status left left' u w (whole_end is end x) e = absurd (omega (arith, is, e))
 on_8 status left left' u w (read_end is x) e = absurd (omega (arith, is, e))
 on_8 status left left' u w (write_end is x) e = absurd (omega (arith, is, e))
 on_8 status left left' u w (memory_end is x) e = absurd (omega (arith, is, e))
 on_8 status left left' u w (fault_end is x) e = absurd (omega (arith, is, e))
 on_8 status left left' u w (limit_end is x) e = x
+
+at_end_on_0 : (status : ℕ) (left left' u w : Option (List ℕ)) → Ends status left left' u w → status ≡ 0 → IsAtEnd left'
+at_end_on_0 status left left' u w (whole_end is end x) e = end
+at_end_on_0 status left left' u w (read_end is x) e = absurd (omega (arith, is, e))
+at_end_on_0 status left left' u w (write_end is x) e = absurd (omega (arith, is, e))
+at_end_on_0 status left left' u w (memory_end is x) e = absurd (omega (arith, is, e))
+at_end_on_0 status left left' u w (fault_end is x) e = absurd (omega (arith, is, e))
+at_end_on_0 status left left' u w (limit_end is x) e = absurd (omega (arith, is, e))
+
+pub ends_checked : (status : ℕ) (left left' u w : Option (List ℕ)) → Ends status left left' u w → Checked 1073741824 status left left' u w
+ends_checked status left left' u w e = record {
+  known = ends_status status left left' u w e;
+  ended = at_end_on_0 status left left' u w e;
+  checked = on_0 status left left' u w e;
+  fault = on_6 status left left' u w e;
+  read = on_3 status left left' u w e;
+  past = on_8 status left left' u w e;
+  write = on_4 status left left' u w e;
+  memory = on_5 status left left' u w e;
+}
 
 -- telling the whole messages that are held
 
@@ -362,8 +383,8 @@ shorter e bytes old new is front = let s = message_states e bytes is in omega (a
 
 -- taking in pieces
 
-pub record Taking (left left' : Option (List ℕ)) (held : List ℕ) (fed : ℕ) (waits : List ℕ) (w w' : Option (List ℕ)) : Type 0 where
-  pub took : Took left left' held fed waits w w'
+pub record Taking (left left' : Option (List ℕ)) (held : List ℕ) (fed : ℕ) (w w' : Option (List ℕ)) : Type 0 where
+  pub took : Took left left' held fed w w'
   pub none : took.more ≡ []
   pub awaits : AwaitsMore held
 
@@ -371,8 +392,8 @@ consumes_none : (o : Option (List ℕ)) → Consumes o o []
 consumes_none None = tt
 consumes_none (Some bytes) = refl
 
-pub taking_none : (left : Option (List ℕ)) (held waits : List ℕ) (w : Option (List ℕ)) → held ≡ [] → waits ≡ [] → Taking left left held 0 waits w w
-taking_none left held waits w h e = record {
+pub taking_none : (left : Option (List ℕ)) (held : List ℕ) (w : Option (List ℕ)) → held ≡ [] → Taking left left held 0 w w
+taking_none left held w h = record {
   took = record {
     read = [];
     more = [];
@@ -381,7 +402,7 @@ taking_none left held waits w h e = record {
     parted = record { are = tt; parted = sym h };
     counted = refl;
     within = omega arith;
-    puts = ([], e, nothing w);
+    written = nothing w;
   };
   none = refl;
   awaits = few (omega (arith, ap length h));
@@ -393,16 +414,16 @@ keeps_consumed (Some a) None c bytes p k = absurd p
 keeps_consumed (Some a) (Some b) None bytes p k = absurd k
 keeps_consumed (Some a) (Some b) (Some c) bytes p k = p ∙ ap (λ (bs : List ℕ). bytes ++ bs) (sym k)
 
-pub took_failed : (left left' left'' : Option (List ℕ)) (held : List ℕ) (fed : ℕ) (waits : List ℕ) (w w' : Option (List ℕ)) → Taking left left' held fed waits w w' → Keeps left' left'' → TakesIn Failed left left'' held fed waits w w'
-took_failed left left' left'' held fed waits w w' t k =
-    (record { read = t.took.read; more = t.took.more; messages = t.took.messages; consumed = keeps_consumed left left' left'' (t.took.read ++ t.took.more) t.took.consumed k; parted = t.took.parted; counted = t.took.counted; within = t.took.within; puts = t.took.puts }, t.none, t.awaits)
+pub took_failed : (left left' left'' : Option (List ℕ)) (held : List ℕ) (fed : ℕ) (w w' : Option (List ℕ)) → Taking left left' held fed w w' → Keeps left' left'' → TakesIn Failed left left'' held fed w w'
+took_failed left left' left'' held fed w w' t k =
+    (record { read = t.took.read; more = t.took.more; messages = t.took.messages; consumed = keeps_consumed left left' left'' (t.took.read ++ t.took.more) t.took.consumed k; parted = t.took.parted; counted = t.took.counted; within = t.took.within; written = t.took.written }, t.none, t.awaits)
 
 more_consumed : (left left' left'' : Option (List ℕ)) (read more bytes : List ℕ) → Consumes left left' (read ++ more) → more ≡ [] → Consumes left' left'' bytes → Consumes left left'' (read ++ bytes)
 more_consumed left left' left'' read more bytes p none q =
     subst (λ (bs : List ℕ). Consumes left left'' (bs ++ bytes)) (ap (λ (bs : List ℕ). read ++ bs) none ∙ append-nil read) (consumes_both left left' left'' (read ++ more) bytes p q)
 
-pub took_whole : (left left' left'' : Option (List ℕ)) (held : List ℕ) (fed : ℕ) (waits piece : List ℕ) (n : ℕ) (w w' : Option (List ℕ)) → Taking left left' held fed waits w w' → n ≡ 0 → Consumes left' left'' (take n piece) → IsAtEnd left'' → TakesIn Whole left left'' held fed waits w w'
-took_whole left left' left'' held fed waits piece n w w' t none c end = (
+pub took_whole : (left left' left'' : Option (List ℕ)) (held : List ℕ) (fed : ℕ) (piece : List ℕ) (n : ℕ) (w w' : Option (List ℕ)) → Taking left left' held fed w w' → n ≡ 0 → Consumes left' left'' (take n piece) → IsAtEnd left'' → TakesIn Whole left left'' held fed w w'
+took_whole left left' left'' held fed piece n w w' t none c end = (
   record {
     read = t.took.read;
     more = [];
@@ -411,7 +432,7 @@ took_whole left left' left'' held fed waits piece n w w' t none c end = (
     parted = t.took.parted;
     counted = t.took.counted;
     within = t.took.within;
-    puts = t.took.puts;
+    written = t.took.written;
   },
   refl,
   t.awaits,
@@ -425,24 +446,24 @@ cut read piece n taken l =
     ∙ ap (λ (bs : List ℕ). read ++ bs) (ap (λ (bs : List ℕ). bs ++ drop taken (take n piece)) (sym (take-take taken n piece l)) ∙ take-append-drop taken (take n piece))
 
 -- what a piece was taken of
-pub record Piece (left left' left'' : Option (List ℕ)) (held now : List ℕ) (fed taken n : ℕ) (piece waits : List ℕ) (w w' : Option (List ℕ)) : Type 0 where
-  pub taking : Taking left left' held fed waits w w'
+pub record Piece (left left' left'' : Option (List ℕ)) (held now : List ℕ) (fed taken n : ℕ) (piece : List ℕ) (w w' : Option (List ℕ)) : Type 0 where
+  pub taking : Taking left left' held fed w w'
   pub consumed : Consumes left' left'' (take n piece)
   pub short : taken ≤ n
   pub long : n ≤ length piece
   pub room : taken ≤ 1073741824 - fed
   pub fed_ : now ≡ held ++ take taken piece
 
-abbrev read_of : {left left' left'' : Option (List ℕ)} {held now : List ℕ} {fed taken n : ℕ} {piece waits : List ℕ} {w w' : Option (List ℕ)} → Piece left left' left'' held now fed taken n piece waits w w' → List ℕ
+abbrev read_of : {left left' left'' : Option (List ℕ)} {held now : List ℕ} {fed taken n : ℕ} {piece : List ℕ} {w w' : Option (List ℕ)} → Piece left left' left'' held now fed taken n piece w w' → List ℕ
 read_of {taken = taken} {piece = piece} x = x.taking.took.read ++ take taken piece
 
 piece_begins : (fed taken : ℕ) (read held now part : List ℕ) (ms : List (Envelope × List ℕ)) → length read ≡ fed → read ≡ bytes_of ms ++ held → now ≡ held ++ part → length part ≡ taken → fed + taken - length now ≡ 0 + length (bytes_of ms)
 piece_begins fed taken read held now part ms counted parted fed_ long =
     omega (arith, counted, ap length parted, length-append (bytes_of ms) held, ap length fed_, length-append held part, long)
 
-pub took_more : (fault : Option Fault) (left left' left'' : Option (List ℕ)) (held now new : List ℕ) (fed taken n : ℕ) (piece waits waits' : List ℕ) (w w' w'' : Option (List ℕ)) → Piece left left' left'' held now fed taken n piece waits w w'
-    → Told fault (fed + taken - length now) now new waits waits' w' w'' → (t : Took left left'' new (fed + taken) waits' w w'') × (t.more ≡ drop taken (take n piece))
-took_more fault left left' left'' held now new fed taken n piece waits waits' w w' w'' x told =
+pub took_more : (fault : Option Fault) (left left' left'' : Option (List ℕ)) (held now new : List ℕ) (fed taken n : ℕ) (piece : List ℕ) (w w' w'' : Option (List ℕ)) → Piece left left' left'' held now fed taken n piece w w'
+    → Shown fault (fed + taken - length now) now new w' w'' → (t : Took left left'' new (fed + taken) w w'') × (t.more ≡ drop taken (take n piece))
+took_more fault left left' left'' held now new fed taken n piece w w' w'' x told =
     let k = x.taking.took in
     let part = take taken piece in
     let long : length part ≡ taken = length-take-le taken piece (omega (arith, x.short, x.long)) in
@@ -459,14 +480,14 @@ took_more fault left left' left'' held now new fed taken n piece waits waits' w 
         parted = parted_both (k.read ++ part) now new k.messages told.messages behind told.parted;
         counted = omega (arith, length-append k.read part, long, k.counted);
         within = omega (arith, x.room, k.within);
-        puts = subst (λ (bs : List ℕ). Puts [] waits' w w'' bs) lines (puts_both [] waits waits' w w' w'' (check_lines 0 k.messages) (check_lines (fed + taken - length now) told.messages) k.puts told.puts);
+        written = subst (λ (bs : List ℕ). Appends w w'' bs) lines (appends_both w w' w'' (check_lines 0 k.messages) (check_lines (fed + taken - length now) told.messages) k.written told.written);
       },
       refl,
     )
 
-pub took_part : (left left' left'' : Option (List ℕ)) (held now : List ℕ) (fed taken n : ℕ) (piece waits : List ℕ) (w w' w'' : Option (List ℕ)) → Piece left left' left'' held now fed taken n piece waits w w'
-    → ToldPart (fed + taken - length now) now waits w' w'' → TookPart left left'' w w''
-took_part left left' left'' held now fed taken n piece waits w w' w'' x told =
+pub took_part : (left left' left'' : Option (List ℕ)) (held now : List ℕ) (fed taken n : ℕ) (piece : List ℕ) (w w' w'' : Option (List ℕ)) → Piece left left' left'' held now fed taken n piece w w'
+    → ToldPart (fed + taken - length now) now [] w' w'' → TookPart left left'' w w''
+took_part left left' left'' held now fed taken n piece w w' w'' x told =
     let k = x.taking.took in
     let part = take taken piece in
     let long : length part ≡ taken = length-take-le taken piece (omega (arith, x.short, x.long)) in
@@ -482,19 +503,19 @@ took_part left left' left'' held now fed taken n piece waits w w' w'' x told =
       rest = told.rest;
       consumed = subst (λ (bs : List ℕ). Consumes left left'' bs) (sym (cut k.read piece n taken x.short)) (more_consumed left left' left'' k.read k.more (take n piece) k.consumed x.taking.none x.consumed);
       parted = parted_both (k.read ++ part) now told.rest k.messages told.messages behind told.parted;
-      part = subst (λ (bs : List ℕ). AppendsPart w w'' bs) lines (puts_part [] waits w w' w'' (check_lines 0 k.messages) (check_lines (fed + taken - length now) told.messages) k.puts told.part);
+      part = subst (λ (bs : List ℕ). AppendsPart w w'' bs) lines (appends_part w w' w'' (check_lines 0 k.messages) (check_lines (fed + taken - length now) told.messages) k.written told.part);
     }
 
 -- a piece that found no memory
-pub took_nothing : (left left' left'' : Option (List ℕ)) (held : List ℕ) (fed : ℕ) (waits bytes : List ℕ) (w w' : Option (List ℕ)) → Taking left left' held fed waits w w' → Consumes left' left'' bytes → TookPart left left'' w w'
-took_nothing left left' left'' held fed waits bytes w w' t c = record {
+pub took_nothing : (left left' left'' : Option (List ℕ)) (held : List ℕ) (fed : ℕ) (bytes : List ℕ) (w w' : Option (List ℕ)) → Taking left left' held fed w w' → Consumes left' left'' bytes → TookPart left left'' w w'
+took_nothing left left' left'' held fed bytes w w' t c = record {
   read = t.took.read;
   more = bytes;
   messages = t.took.messages;
   rest = held;
   consumed = more_consumed left left' left'' t.took.read t.took.more bytes t.took.consumed t.none c;
   parted = t.took.parted;
-  part = puts_some [] waits w w' (check_lines 0 t.took.messages) t.took.puts;
+  part = all_part w w' (check_lines 0 t.took.messages) t.took.written;
 }
 
 pub no_rest : (piece : List ℕ) (n taken : ℕ) → taken ≡ n → n ≤ length piece → drop taken (take n piece) ≡ []
@@ -503,13 +524,6 @@ no_rest piece n taken e l = drop_all taken (take n piece) (omega (arith, length-
 pub some_rest : (piece : List ℕ) (n taken : ℕ) → taken < n → n ≤ length piece → 0 < length (drop taken (take n piece))
 some_rest piece n taken e l = omega (arith, length-drop taken (take n piece), length-take-le n piece l, e)
 
-pub a_piece : (left left' left'' : Option (List ℕ)) (held now : List ℕ) (fed taken n : ℕ) (piece waits : List ℕ) (w w' : Option (List ℕ)) → Taking left left' held fed waits w w' → Consumes left' left'' (take n piece) → taken ≡ min n (1073741824 - fed) → n ≤ length piece → now ≡ held ++ take taken piece
-    → Piece left left' left'' held now fed taken n piece waits w w'
-a_piece left left' left'' held now fed taken n piece waits w w' t c m l f = record { taking = t; consumed = c; short = omega (arith, m); long = l; room = omega (arith, m); fed_ = f }
-
-pub ends_cut_at : {T : Type 0} (status start count : ℕ) (r : Result T Halt) (left left' : Option (List ℕ)) (held waits : List ℕ) (fed : ℕ) (u v w : Option (List ℕ)) → TakesIn Whole left left' held fed waits u v → (length held ≡ 0 → ⊥) → start ≡ fed - length held → count ≡ length held
-    → MatchResult r (λ _. status ≡ 6) (λ halt. status ≡ halt_status halt) → OnOk r (Appends v w (waits ++ fault_line start count 36)) → OnErr r (AppendsPart v w (waits ++ fault_line start count 36)) → Ends status left left' u w
-ends_cut_at status start count r left left' held waits fed u v w x some at e is ok err =
-    ends_cut status start r left left' held waits fed u v w x some at is
-    (subst (λ (n : ℕ). OnOk r (Appends v w (waits ++ fault_line start n 36))) e ok)
-    (subst (λ (n : ℕ). OnErr r (AppendsPart v w (waits ++ fault_line start n 36))) e err)
+pub a_piece : (left left' left'' : Option (List ℕ)) (held now : List ℕ) (fed taken n : ℕ) (piece : List ℕ) (w w' : Option (List ℕ)) → Taking left left' held fed w w' → Consumes left' left'' (take n piece) → taken ≡ min n (1073741824 - fed) → n ≤ length piece → now ≡ held ++ take taken piece
+    → Piece left left' left'' held now fed taken n piece w w'
+a_piece left left' left'' held now fed taken n piece w w' t c m l f = record { taking = t; consumed = c; short = omega (arith, m); long = l; room = omega (arith, m); fed_ = f }

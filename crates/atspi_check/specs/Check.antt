@@ -1,7 +1,7 @@
 -- What `check` writes of an input: a line for each of its messages, and behind them a line for a fault.
 use Rattle.std.specs.Prelude.{◌≡◌, ◌≢◌, ◌⊎◌, ◌<◌, ◌≤◌, ◌+◌, ℕ, List, [], ◌∷◌, ◌++◌, length, take, Option, Some, IfSome, codes}
 use Rattle.std.specs.Fmt.{decimal}
-use Rattle.std.specs.Io.KnownBytes.{Appends, Consumes}
+use Rattle.std.specs.Io.KnownBytes.{Appends, Consumes, IsAtEnd}
 use Rattle.atspi_base.specs.Outside.{AppendsPart}
 use Rattle.atspi_message.specs.Envelope.{Envelope}
 use Rattle.atspi_stream.specs.Stream.{AwaitsMore, HasFault, IsParted, bytes_of}
@@ -92,3 +92,16 @@ WritesPart left old new IsText = IfSome left (λ input. (text : List ℕ) × IsT
 -- the statuses of `check`
 abbrev pub IsCheckStatus : ℕ → Type 0
 IsCheckStatus status = (status ≡ 0) ⊎ ((status ≡ 3) ⊎ ((status ≡ 4) ⊎ ((status ≡ 5) ⊎ ((status ≡ 6) ⊎ (status ≡ 8)))))
+
+-- What `check` does, by its status. The source had `left` and has `left'` now, and `w` was written before and `w'` is now.
+-- 0: the source was read to its end, and the lines of all its messages were written. 6: those before the first fault, and the
+-- fault. 3: those in what was taken of the source. 8: those inside the limit. 4 and 5: a front of such a text.
+pub record Checked (limit status : ℕ) (left left' w w' : Option (List ℕ)) : Type 0 where
+  pub known : IsCheckStatus status
+  pub ended : status ≡ 0 → IsAtEnd left'
+  pub checked : status ≡ 0 → Writes left w w' (CheckedAll limit)
+  pub fault : status ≡ 6 → Writes left w w' (CheckedFault limit)
+  pub read : status ≡ 3 → Writes left w w' (CheckedTaken left')
+  pub past : status ≡ 8 → Writes left w w' (CheckedLimit limit)
+  pub write : status ≡ 4 → WritesPart left w w' (CheckedSome limit)
+  pub memory : status ≡ 5 → WritesPart left w w' (CheckedSome limit)

@@ -41,8 +41,15 @@ pub record ToldPart (start : ℕ) (old waited : List ℕ) (w w' : Option (List �
   pub parted : IsParted old messages rest
   pub part : AppendsPart w w' (waited ++ check_lines start messages)
 
--- What was taken of a source, and the lines of its whole messages. What is past the limit is not fed.
-pub record Took (left left' : Option (List ℕ)) (held : List ℕ) (fed : ℕ) (waits : List ℕ) (w w' : Option (List ℕ)) : Type 0 where
+-- the whole messages that were held were written as lines, and nothing waits
+pub record Shown (fault : Option Fault) (start : ℕ) (old new : List ℕ) (w w' : Option (List ℕ)) : Type 0 where
+  pub messages : List (Envelope × List ℕ)
+  pub parted : IsParted old messages new
+  pub end : EndsIn fault new
+  pub written : Appends w w' (check_lines start messages)
+
+-- What was taken of a source, of whose whole messages the lines were written. What is past the limit is not fed.
+pub record Took (left left' : Option (List ℕ)) (held : List ℕ) (fed : ℕ) (w w' : Option (List ℕ)) : Type 0 where
   pub read : List ℕ
   pub more : List ℕ
   pub messages : List (Envelope × List ℕ)
@@ -50,7 +57,7 @@ pub record Took (left left' : Option (List ℕ)) (held : List ℕ) (fed : ℕ) (
   pub parted : IsParted read messages held
   pub counted : length read ≡ fed
   pub within : fed ≤ 1073741824
-  pub puts : Puts [] waits w w' (check_lines 0 messages)
+  pub written : Appends w w' (check_lines 0 messages)
 
 -- what was taken where the lines could not all be put
 pub record TookPart (left left' : Option (List ℕ)) (w w' : Option (List ℕ)) : Type 0 where
@@ -63,12 +70,12 @@ pub record TookPart (left left' : Option (List ℕ)) (w w' : Option (List ℕ)) 
   pub part : AppendsPart w w' (check_lines 0 messages)
 
 -- how taking ended
-abbrev pub TakesIn : End → Option (List ℕ) → Option (List ℕ) → List ℕ → ℕ → List ℕ → Option (List ℕ) → Option (List ℕ) → Type 0
-TakesIn Whole left left' held fed waits w w' = (t : Took left left' held fed waits w w') × (t.more ≡ []) × AwaitsMore held × IsAtEnd left'
-TakesIn TooLong left left' held fed waits w w' = (t : Took left left' held fed waits w w') × (0 < length t.more) × (fed ≡ 1073741824) × AwaitsMore held
-TakesIn Failed left left' held fed waits w w' = (t : Took left left' held fed waits w w') × (t.more ≡ []) × AwaitsMore held
-TakesIn (Malformed f) left left' held fed waits w w' = Took left left' held fed waits w w' × HasFault held f.place f.reason
-TakesIn (Halted halt) left left' held fed waits w w' = TookPart left left' w w'
+abbrev pub TakesIn : End → Option (List ℕ) → Option (List ℕ) → List ℕ → ℕ → Option (List ℕ) → Option (List ℕ) → Type 0
+TakesIn Whole left left' held fed w w' = (t : Took left left' held fed w w') × (t.more ≡ []) × AwaitsMore held × IsAtEnd left'
+TakesIn TooLong left left' held fed w w' = (t : Took left left' held fed w w') × (0 < length t.more) × (fed ≡ 1073741824) × AwaitsMore held
+TakesIn Failed left left' held fed w w' = (t : Took left left' held fed w w') × (t.more ≡ []) × AwaitsMore held
+TakesIn (Malformed f) left left' held fed w w' = Took left left' held fed w w' × HasFault held f.place f.reason
+TakesIn (Halted halt) left left' held fed w w' = TookPart left left' w w'
 
 -- the count of the source rose where it failed, and else is the same
 abbrev pub BlamesSource : ℕ → ℕ → End → Type 0
@@ -82,7 +89,7 @@ BlamesSink before after _ = after ≡ before
 
 -- the status says what was written of the input
 pub data Ends (status : ℕ) (left left' w w' : Option (List ℕ)) : Type 0 where
-  whole_end : status ≡ 0 → Writes left w w' (CheckedAll 1073741824) → Ends status left left' w w'
+  whole_end : status ≡ 0 → IsAtEnd left' → Writes left w w' (CheckedAll 1073741824) → Ends status left left' w w'
   read_end : status ≡ 3 → Writes left w w' (CheckedTaken left') → Ends status left left' w w'
   write_end : status ≡ 4 → WritesPart left w w' (CheckedSome 1073741824) → Ends status left left' w w'
   memory_end : status ≡ 5 → WritesPart left w w' (CheckedSome 1073741824) → Ends status left left' w w'

@@ -1,4 +1,4 @@
-//! The lines of `check`, in one buffer that is written in whole blocks.
+//! The lines of `check`: those of one read wait in a buffer, and are written in whole blocks.
 
 ghost use Rattle.std.specs.Prelude.{◌≡◌, ◌++◌, [], OnOk, OnErr};
 ghost use Rattle.std.specs.Io.KnownBytes.{Appends};
@@ -10,6 +10,7 @@ ghost use Rattle.atspi_check.specs.Taking.{BlamesLines, Puts, halt_status};
 use atspi_base::{Bytes, NoMemory, Sink, put_decimal, write_all};
 use atspi_message::Message;
 use atspi_script::message_text;
+use std::alloc::Global;
 
 /// So many bytes wait before they are written.
 const BLOCK: usize = 65_536;
@@ -75,11 +76,7 @@ fn tell_message<K: Sink>(
     if out.len() < BLOCK {
         return Ok(());
     }
-    let Ok(()) = write_all(sink, out.as_slice()) else {
-        return Err(Halt::Write);
-    };
-    out.truncate(0);
-    Ok(())
+    write_waiting(out, sink)
 }
 
 /// The same, of a message that is then let go.
@@ -99,31 +96,34 @@ pub fn tell<K: Sink>(
 }
 
 /// Writes all that waits.
-pub fn write_rest<K: Sink>(out: &Bytes, sink: &mut K) -> Result<(), Halt>
-    ensures ok { OnOk result (Appends (K.written sink.old) (K.written sink.new) out.now) }
-    ensures err { OnErr result (AppendsPart (K.written sink.old) (K.written sink.new) out.now) }
+pub fn write_waiting<K: Sink>(out: &mut Bytes, sink: &mut K) -> Result<(), Halt>
+    ensures ok { OnOk result (Appends (K.written sink.old) (K.written sink.new) out.old) }
+    ensures none_waits { OnOk result (out.new ≡ []) }
+    ensures err { OnErr result (AppendsPart (K.written sink.old) (K.written sink.new) out.old) }
     ensures cause { BlamesLines result (K.faults sink.old) (K.faults sink.new) }
 {
-    match write_all(sink, out.as_slice()) {
-        Ok(()) => Ok(()),
-        Err(_) => Err(Halt::Write),
-    }
+    let Ok(()) = write_all(sink, out.as_slice()) else {
+        return Err(Halt::Write);
+    };
+    out.truncate(0);
+    Ok(())
 }
 
-/// Writes all that waits, and behind it the line of a fault.
+/// Writes the line of a fault.
 pub fn tell_fault<K: Sink>(
+    alloc: Global,
     start: u64,
     place: u64,
     reason: u8,
-    out: &mut Bytes,
     sink: &mut K,
 ) -> Result<(), Halt>
-    ensures ok { OnOk result (Appends (K.written sink.old) (K.written sink.new) (out.old ++ fault_line start place reason)) }
-    ensures err { OnErr result (AppendsPart (K.written sink.old) (K.written sink.new) (out.old ++ fault_line start place reason)) }
+    ensures ok { OnOk result (Appends (K.written sink.old) (K.written sink.new) (fault_line start place reason)) }
+    ensures err { OnErr result (AppendsPart (K.written sink.old) (K.written sink.new) (fault_line start place reason)) }
     ensures cause { BlamesLines result (K.faults sink.old) (K.faults sink.new) }
 {
-    let Ok(()) = put_fault(start, place, reason, out) else {
+    let mut line = Bytes::new(alloc);
+    let Ok(()) = put_fault(start, place, reason, &mut line) else {
         return Err(Halt::NoMemory);
     };
-    write_rest(out, sink)
+    write_waiting(&mut line, sink)
 }

@@ -159,63 +159,156 @@ fn scripts_are_replayed_as_worked_out_by_hand(rt: HostRuntime) -> Result<(), Fai
     Ok(())
 }
 
-/// Runs the program on one word and no input, and asserts the status and the text that are due.
-fn assert_told(
-    rt: &impl Abort,
-    alloc: Global,
-    word: &str,
+/// Words without an input, and what is due.
+struct Told {
+    words: &'static [&'static str],
     status: u8,
-    text: &[u8],
-) -> Result<(), Fail> {
+    text: &'static [u8],
+}
+
+/// The line for words that name no command.
+const USAGE: &[u8] = b"usage: atspi replay, check, make, bus, registry, app or read\n";
+
+/// The words that are told a text, and words that are none's.
+const TOLD: [Told; 15] = [
+    Told {
+        words: &["replay"],
+        status: 2,
+        text: USAGE,
+    },
+    Told {
+        words: &["--brief"],
+        status: 2,
+        text: USAGE,
+    },
+    Told {
+        words: &["replay --brief"],
+        status: 2,
+        text: USAGE,
+    },
+    Told {
+        words: &["checks"],
+        status: 2,
+        text: USAGE,
+    },
+    Told {
+        words: &[],
+        status: 2,
+        text: USAGE,
+    },
+    Told {
+        words: &["--help", "check"],
+        status: 2,
+        text: USAGE,
+    },
+    Told {
+        words: &["check", "--version"],
+        status: 2,
+        text: USAGE,
+    },
+    Told {
+        words: &["make", "--help"],
+        status: 2,
+        text: USAGE,
+    },
+    Told {
+        words: &["check --help"],
+        status: 2,
+        text: USAGE,
+    },
+    Told {
+        words: &["check", "--help", "--help"],
+        status: 2,
+        text: USAGE,
+    },
+    Told {
+        words: &["check"],
+        status: 0,
+        text: b"",
+    },
+    Told {
+        words: &["--version"],
+        status: 0,
+        text: b"atspi 0.1.0\n",
+    },
+    Told {
+        words: &["--help"],
+        status: 0,
+        text: b"atspi replay --brief  a script on standard input: what each reader shows\n\
+atspi replay --help   the lines of a script, and the statuses of replay\n\
+atspi check           D-Bus messages on standard input: a line for each, or the first fault\n\
+atspi check --help    the lines that check writes, and its statuses\n\
+atspi --help          this text\n\
+atspi --version       the version\n",
+    },
+    Told {
+        words: &["replay", "--help"],
+        status: 0,
+        text: b"atspi replay --brief\n\
+Does the lines of the script on standard input, and writes what the reader shows.\n\
+\n\
+app NAME                             the application a0 starts\n\
+reader                               the reader r0 starts\n\
+edit a0 insert NODE PLACE ROLE NAME  a new node below NODE, before its child PLACE\n\
+edit a0 name NODE NAME               NODE gets the name NAME\n\
+turns COUNT                          up to COUNT messages are taken; busy N: so many still wait\n\
+show r0 a0                           writes what the reader holds of the application\n\
+# TEXT                               nothing; so does an empty line\n\
+\n\
+NAME stands in double quotes; in it a quote and a backslash are written behind a backslash, and a\n\
+control character as x and two hexadecimal digits behind one. ROLE is a word, as push-button, or a\n\
+number. A script has at most 16777216 bytes, and a line 65536.\n\
+\n\
+Status 0: all lines of the script were done. 1: a line is refused, which `refused LINE WHY` tells.\n\
+3: reading failed, behind whole lines that were done. 4: writing failed. 5: no memory is left.\n\
+8: the script is longer than its limit, and the whole lines inside it were done.\n",
+    },
+    Told {
+        words: &["check", "--help"],
+        status: 0,
+        text: b"atspi check\n\
+Reads D-Bus messages on standard input, and writes a line for each before it reads on.\n\
+\n\
+START TEXT                  a message, with START bytes of input before it\n\
+fault START PLACE REASON    the first fault: REASON at PLACE of the message at START\n\
+\n\
+The input has at most 1073741824 bytes.\n\
+\n\
+Status 0: the input was read to its end, and is whole messages. 3: reading failed, behind whole\n\
+messages that were told. 4: writing failed. 5: no memory is left. 6: a message is malformed, or the\n\
+input ends inside one (reason 36). 8: the input is longer than its limit.\n",
+    },
+];
+
+/// Runs the program on words and no input, and asserts the status and the text that are due.
+fn assert_told(rt: &impl Abort, alloc: Global, told: &Told) -> Result<(), Fail> {
     let mut words = Vec::new(alloc);
-    words.push(String::from_str(alloc, word)?)?;
+    for word in told.words {
+        words.push(String::from_str(alloc, word)?)?;
+    }
     let mut source = MemSource::new(Vec::new(alloc), Vec::new(alloc));
     let mut sink = MemSink::new(alloc, Vec::new(alloc));
-    assert_eq!(rt;
-        run(alloc, &words, &mut source, &mut sink),
-        status,
-        "word: {word}"
-    );
-    assert_eq!(rt; sink.bytes(), text, "word: {word}");
+    assert_eq!(rt; run(alloc, &words, &mut source, &mut sink), told.status);
+    assert_eq!(rt; sink.bytes(), told.text);
     Ok(())
 }
 
 #[test]
-fn one_word_is_told_its_text(rt: HostRuntime) -> Result<(), Fail> {
-    let table: [(&str, u8, &[u8]); 7] = [
-        (
-            "replay",
-            2,
-            b"usage: atspi replay, check, make, bus, registry, app or read\n",
-        ),
-        (
-            "--brief",
-            2,
-            b"usage: atspi replay, check, make, bus, registry, app or read\n",
-        ),
-        (
-            "replay --brief",
-            2,
-            b"usage: atspi replay, check, make, bus, registry, app or read\n",
-        ),
-        (
-            "checks",
-            2,
-            b"usage: atspi replay, check, make, bus, registry, app or read\n",
-        ),
-        ("check", 0, b""),
-        ("--version", 0, b"atspi 0.1.0\n"),
-        (
-            "--help",
-            0,
-            b"atspi replay --brief  a script on standard input: what each reader shows\n\
-atspi check           D-Bus messages on standard input: a line for each, or the first fault\n\
-atspi --help          this text\n\
-atspi --version       the version\n",
-        ),
-    ];
-    for (word, status, text) in table {
-        assert_told(&rt, rt.alloc(), word, status, text)?;
+fn words_are_told_their_text(rt: HostRuntime) -> Result<(), Fail> {
+    for told in &TOLD {
+        assert_told(&rt, rt.alloc(), told)?;
     }
+    Ok(())
+}
+
+#[test]
+fn a_text_that_cannot_be_written_gives_status_4(rt: HostRuntime) -> Result<(), Fail> {
+    let mut words = Vec::new(rt.alloc());
+    words.push(String::from_str(rt.alloc(), "check")?)?;
+    words.push(String::from_str(rt.alloc(), "--help")?)?;
+    let mut source = MemSource::new(Vec::new(rt.alloc()), Vec::new(rt.alloc()));
+    let mut sink = MemSink::in_pieces(rt.alloc(), 5, [1u64].to_vec(rt.alloc())?);
+    assert_eq!(rt; run(rt.alloc(), &words, &mut source, &mut sink), 4);
+    assert_eq!(rt; sink.bytes(), b"atspi".as_slice());
     Ok(())
 }

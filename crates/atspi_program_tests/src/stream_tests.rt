@@ -1,4 +1,8 @@
-use atspi_base::{MemSink, MemSource};
+//! Streams of messages as worked out by hand, and the lines that are written of them.
+
+ghost use Rattle.std.specs.Prelude.{ℕ, List, Option, None};
+
+use atspi_base::{Failed, MemSink, MemSource, Source};
 use atspi_check::check;
 use std::alloc::Global;
 use std::test::*;
@@ -175,18 +179,40 @@ fn streams_are_checked_as_worked_out_by_hand(rt: HostRuntime) -> Result<(), Fail
     Ok(())
 }
 
-#[test]
-fn lines_are_written_in_blocks(rt: HostRuntime) -> Result<(), Fail> {
-    let mut input = Vec::new(rt.alloc());
-    for _ in 0..1000 {
-        input.extend_from_slice(HELLO)?;
+/// A message so many times.
+fn repeated(alloc: Global, message: &[u8], count: usize) -> Result<Vec<u8>, Fail> {
+    let mut input = Vec::new(alloc);
+    for _ in 0..count {
+        input.extend_from_slice(message)?;
     }
+    Ok(input)
+}
+
+#[test]
+fn what_a_read_gave_is_written_at_once(rt: HostRuntime) -> Result<(), Fail> {
+    let input = repeated(rt.alloc(), HELLO, 1000)?;
     let (status, output) = checked(rt.alloc(), &input, 99, 99)?;
     // lines of 115 bytes, each behind a blank and its start: 0, 128, .. 127872
     assert_eq!(rt; (status, output.len()), (0, 121_129));
+    // the first read gives 512 messages, up to the one that starts at 65408
+    let (status, front) = checked(rt.alloc(), &input, 99, 1)?;
+    assert_eq!(rt; (status, front.len()), (4, 61_863));
+    assert!(rt; output.as_slice().starts_with(&front));
+    Ok(())
+}
+
+/// A return of 24 bytes; its line has 22 and its start.
+const RETURN: &[u8] = b"l\x02\x01\x01\0\0\0\0\x02\0\0\0\x08\0\0\0\x05\x01u\0\x01\0\0\0";
+
+#[test]
+fn lines_are_written_in_blocks(rt: HostRuntime) -> Result<(), Fail> {
+    // one read of 65,520 bytes, whose lines are longer than a block
+    let input = repeated(rt.alloc(), RETURN, 2730)?;
+    let (status, output) = checked(rt.alloc(), &input, 99, 99)?;
+    assert_eq!(rt; (status, output.len()), (0, 73_245));
     let (status, front) = checked(rt.alloc(), &input, 99, 1)?;
     assert_eq!(rt; status, 4);
-    assert!(rt; 65_536 <= front.len() && front.len() < 65_536 + 120);
+    assert!(rt; 65_536 <= front.len() && front.len() < 65_536 + 27);
     assert!(rt; output.as_slice().starts_with(&front));
     Ok(())
 }
@@ -443,5 +469,46 @@ fn sixty_five_containers_are_one_too_many(rt: HostRuntime) -> Result<(), Fail> {
         (status, output.as_slice()),
         (6, b"fault 0 216 20\n".as_slice())
     );
+    Ok(())
+}
+
+/// A source that gives one call of Hello in a read, as often as is said, and counts its reads.
+#[derive(Drop)]
+struct Live {
+    messages: u64,
+    reads: u64,
+}
+
+impl Source for Live {
+    ghost left = { λ _. None };
+
+    ghost faults = { λ _. 0 };
+
+    fn read(&mut self, into: &mut [u8]) -> Result<usize, Failed> {
+        self.reads = self.reads.saturating_add(1);
+        if self.messages == 0 || into.len() < HELLO.len() {
+            return Ok(0);
+        }
+        self.messages -= 1;
+        let (front, _) = into.split_at_mut(HELLO.len());
+        front.copy_from_slice(HELLO);
+        Ok(HELLO.len())
+    }
+}
+
+#[test]
+fn a_line_is_written_before_the_next_read(rt: HostRuntime) -> Result<(), Fail> {
+    for failing_write in 0..4u64 {
+        let mut source = Live {
+            messages: 9,
+            reads: 0,
+        };
+        let mut sink = MemSink::new(rt.alloc(), [failing_write].to_vec(rt.alloc())?);
+        assert_eq!(rt; check(rt.alloc(), &mut source, &mut sink), 4);
+        // each read was told before the next: the write that fails is the last read's own
+        assert_eq!(rt; source.reads, failing_write + 1);
+        let lines = sink.bytes().iter().filter(|&&byte| byte == b'\n').count();
+        assert_eq!(rt; lines as u64, failing_write);
+    }
     Ok(())
 }

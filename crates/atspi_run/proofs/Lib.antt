@@ -1,3 +1,4 @@
 pub mod LawLemmas
 pub mod OneText
 pub mod RunLemmas
+pub mod WordLemmas

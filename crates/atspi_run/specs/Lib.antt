@@ -1,4 +1,5 @@
 pub mod Input
 pub mod Play
+pub mod Words
 pub mod Run
 pub mod Laws

@@ -1,44 +1,8 @@
--- What a run does, by its status.
-use Rattle.std.specs.Prelude.{◌≡◌, ◌⊎◌, ℕ, ◌<◌, ◌≤◌, List, [], ◌∷◌, ◌++◌, length, take, Bool, Option, Some, IfSome, codes, true}
-use Rattle.std.specs.Io.KnownBytes.{Consumes}
+-- What `replay` does, by its status.
+use Rattle.std.specs.Prelude.{◌≡◌, ◌⊎◌, ℕ, ◌<◌, ◌≤◌, List, ◌++◌, length, take, Bool, Option, Some, IfSome, true}
+use Rattle.std.specs.Io.KnownBytes.{Consumes, IsAtEnd}
 use Rattle.atspi_world.specs.Lines.{lines_read, lines_of, whole_lines}
-
--- the words are `replay --brief`
-abbrev pub IsReplay : List (List ℕ) → Type 0
-IsReplay words = words ≡ codes "replay" ∷ codes "--brief" ∷ []
-
--- the words are one word alone
-abbrev pub IsAlone : List (List ℕ) → List ℕ → Type 0
-IsAlone words word = words ≡ word ∷ []
-
--- the word is `check`, `--help` or `--version`
-abbrev pub IsCheck : List (List ℕ) → Type 0
-IsCheck words = IsAlone words (codes "check")
-
-abbrev pub IsHelp : List (List ℕ) → Type 0
-IsHelp words = IsAlone words (codes "--help")
-
-abbrev pub IsVersion : List (List ℕ) → Type 0
-IsVersion words = IsAlone words (codes "--version")
-
--- the words are those of a command
-abbrev pub IsCommand : List (List ℕ) → Type 0
-IsCommand words = IsReplay words ⊎ (IsCheck words ⊎ (IsHelp words ⊎ IsVersion words))
-
--- what is written where they are not
-abbrev pub usage : List ℕ
-usage = codes "usage: atspi replay, check, make, bus, registry, app or read" ++ 10 ∷ []
-
--- what is written for `--help` and for `--version`
-abbrev pub help : List ℕ
-help =
-    codes "atspi replay --brief  a script on standard input: what each reader shows" ++ 10
-    ∷ (codes "atspi check           D-Bus messages on standard input: a line for each, or the first fault" ++ 10
-    ∷ (codes "atspi --help          this text" ++ 10
-    ∷ (codes "atspi --version       the version" ++ 10 ∷ [])))
-
-abbrev pub version : List ℕ
-version = codes "atspi 0.1.0" ++ 10 ∷ []
+use Rattle.atspi_run.specs.Play.{Played, PlayedPart, PlayedRefused}
 
 -- the text is what was read of the input: all of it, or its front
 pub record WasRead (ended : Bool) (input text : List ℕ) : Type 0 where
@@ -65,3 +29,17 @@ OfLimit limit left P = IfSome left (λ input. (limit < length input) × P (whole
 -- the statuses of `replay`
 abbrev pub IsReplayStatus : ℕ → Type 0
 IsReplayStatus status = (status ≡ 0) ⊎ ((status ≡ 1) ⊎ ((status ≡ 3) ⊎ ((status ≡ 4) ⊎ ((status ≡ 5) ⊎ (status ≡ 8)))))
+
+-- What `replay` does, by its status. The source had `left` and has `left'` now, and `w` was written before and `w'` is now.
+-- 0: the source was read to its end, and all its lines were done. 1: a line of what was read is refused, and those before it
+-- were done. 3: the whole lines of what was taken of the source were done. 8: those inside the limit. 4 and 5: a front of what
+-- some lines write was written.
+pub record Replayed (limit status : ℕ) (left left' w w' : Option (List ℕ)) : Type 0 where
+  pub known : IsReplayStatus status
+  pub ended : status ≡ 0 → IsAtEnd left'
+  pub done : status ≡ 0 → OfAll limit left (λ lines. Played lines w w')
+  pub refused : status ≡ 1 → OfReading left (λ lines. PlayedRefused lines w w')
+  pub read : status ≡ 3 → OfFront left left' (λ lines. Played lines w w')
+  pub past : status ≡ 8 → OfLimit limit left (λ lines. Played lines w w')
+  pub write : status ≡ 4 → OfReading left (λ lines. PlayedPart lines w w')
+  pub memory : status ≡ 5 → OfReading left (λ lines. PlayedPart lines w w')

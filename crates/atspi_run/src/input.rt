@@ -7,7 +7,7 @@ use atspi_base::{NoMemory, Source};
 use std::alloc::{AllocError, Global};
 
 /// The longest script, in bytes.
-pub const LIMIT: usize = 16_777_216;
+pub const SCRIPT_LIMIT: usize = 16_777_216;
 
 /// How the reading of an input ended.
 #[derive(Clone, Copy, Debug, PartialEq, Eq)]
@@ -41,7 +41,7 @@ pub fn read_all<S: Source>(
 ) -> Result<End, NoMemory>
     requires { text.old.items ≡ [] }
     ensures read { IfOk result (λ end. HasRead end (S.left source.old) (S.left source.new) text.new.items) }
-    ensures limit { IfOk result (λ _. length text.new.items ≤ LIMIT) }
+    ensures limit { IfOk result (λ _. length text.new.items ≤ SCRIPT_LIMIT) }
     ensures faults { S.faults source.old ≤ S.faults source.new }
     ensures cause { Blames result (S.faults source.old) (S.faults source.new) }
 {
@@ -53,7 +53,7 @@ pub fn read_all<S: Source>(
         if n == 0 {
             return Ok(End::Whole);
         }
-        let room = LIMIT - text.len();
+        let room = SCRIPT_LIMIT - text.len();
         if n > room {
             text.extend_from_slice(&chunk[..room])?;
             return Ok(End::TooLong);

@@ -5,7 +5,8 @@ mod commands;
 mod input;
 mod laws;
 mod play;
+mod words;
 
 pub use commands::run;
-pub use input::LIMIT as SCRIPT_LIMIT;
+pub use input::SCRIPT_LIMIT;
 pub use laws::lines_write_one_text;

@@ -1,7 +1,7 @@
 use Rattle.std.proofs.Common.{◌≡◌, ◌≤◌, ◌<◌, ℕ, Bool, true, List, [], ◌∷◌, length, get_or, map, refl, sym, ap, ◌∙◌, arith, string_bytes, String, Global, MatchBool, IsTrue, false, ◌≢◌}
 use Rattle.std.proofs.lemmas.Bool.{false≢true}
 use Rattle.std.specs.Cmp.Lexicographic.{told_text}
-use Rattle.atspi_run.proofs.commands.is_alone.Goals as goal
+use Rattle.atspi_run.proofs.words.is_alone.Goals as goal
 
 only_one : (ws : List (String Global)) (w : String Global) → 1 ≤ length ws → length ws < 2 → w ≡ get_or ws 0 w → map string_bytes ws ≡ string_bytes w ∷ []
 only_one [] w a b e = absurd (omega arith)
