@@ -8,6 +8,7 @@ use Rattle.atspi_stream.specs.Stream.{AwaitsMore, HasFault, IsParted}
 use Rattle.atspi_check.specs.Check.{check_lines, CheckedAll, CheckedFault, CheckedTaken, CheckedLimit, CheckedSome, Writes, WritesPart}
 use Rattle.atspi_check.specs.declared.lines.Halt.{Halt}
 use Rattle.atspi_check.specs.declared.lines.Halt.TheVariants as halts
+use Rattle.atspi_check.specs.declared.checking.TheConstants.{CHECK_LIMIT}
 use Rattle.atspi_check.specs.declared.checking.End.{End}
 use Rattle.atspi_check.specs.declared.checking.End.TheVariants.{Whole, TooLong, Failed, Malformed, Halted}
 
@@ -56,7 +57,7 @@ pub record Took (left left' : Option (List ℕ)) (held : List ℕ) (fed : ℕ) (
   pub consumed : Consumes left left' (read ++ more)
   pub parted : IsParted read messages held
   pub counted : length read ≡ fed
-  pub within : fed ≤ 1073741824
+  pub within : fed ≤ CHECK_LIMIT
   pub written : Appends w w' (check_lines 0 messages)
 
 -- what was taken where the lines could not all be put
@@ -72,7 +73,7 @@ pub record TookPart (left left' : Option (List ℕ)) (w w' : Option (List ℕ)) 
 -- how taking ended
 abbrev pub TakesIn : End → Option (List ℕ) → Option (List ℕ) → List ℕ → ℕ → Option (List ℕ) → Option (List ℕ) → Type 0
 TakesIn Whole left left' held fed w w' = (t : Took left left' held fed w w') × (t.more ≡ []) × AwaitsMore held × IsAtEnd left'
-TakesIn TooLong left left' held fed w w' = (t : Took left left' held fed w w') × (0 < length t.more) × (fed ≡ 1073741824) × AwaitsMore held
+TakesIn TooLong left left' held fed w w' = (t : Took left left' held fed w w') × (0 < length t.more) × (fed ≡ CHECK_LIMIT) × AwaitsMore held
 TakesIn Failed left left' held fed w w' = (t : Took left left' held fed w w') × (t.more ≡ []) × AwaitsMore held
 TakesIn (Malformed f) left left' held fed w w' = Took left left' held fed w w' × HasFault held f.place f.reason
 TakesIn (Halted halt) left left' held fed w w' = TookPart left left' w w'
@@ -89,12 +90,12 @@ BlamesSink before after _ = after ≡ before
 
 -- the status says what was written of the input
 pub data Ends (status : ℕ) (left left' w w' : Option (List ℕ)) : Type 0 where
-  whole_end : status ≡ 0 → IsAtEnd left' → Writes left w w' (CheckedAll 1073741824) → Ends status left left' w w'
+  whole_end : status ≡ 0 → IsAtEnd left' → Writes left w w' (CheckedAll CHECK_LIMIT) → Ends status left left' w w'
   read_end : status ≡ 3 → Writes left w w' (CheckedTaken left') → Ends status left left' w w'
-  write_end : status ≡ 4 → WritesPart left w w' (CheckedSome 1073741824) → Ends status left left' w w'
-  memory_end : status ≡ 5 → WritesPart left w w' (CheckedSome 1073741824) → Ends status left left' w w'
-  fault_end : status ≡ 6 → Writes left w w' (CheckedFault 1073741824) → Ends status left left' w w'
-  limit_end : status ≡ 8 → Writes left w w' (CheckedLimit 1073741824) → Ends status left left' w w'
+  write_end : status ≡ 4 → WritesPart left w w' (CheckedSome CHECK_LIMIT) → Ends status left left' w w'
+  memory_end : status ≡ 5 → WritesPart left w w' (CheckedSome CHECK_LIMIT) → Ends status left left' w w'
+  fault_end : status ≡ 6 → Writes left w w' (CheckedFault CHECK_LIMIT) → Ends status left left' w w'
+  limit_end : status ≡ 8 → Writes left w w' (CheckedLimit CHECK_LIMIT) → Ends status left left' w w'
 
 -- the status of lines that could not all be put
 abbrev pub halt_status : Halt → ℕ

@@ -1,9 +1,10 @@
 -- What words ask for, and what is written then.
-use Rattle.std.proofs.Common.{◌≡◌, ℕ, List, [], ◌∷◌, refl, sym, ◌∙◌, inl, inr, Option, Result, Ok, Err, subst, arith}
+use Rattle.std.proofs.Common.{Bool, true, false, IsTrue, ◌≡◌, ℕ, List, [], ◌∷◌, refl, sym, ◌∙◌, inl, inr, Option, Result, Ok, Err, subst, arith}
+use Rattle.std.proofs.lemmas.Bool.{false≢true}
 use Rattle.std.specs.Prelude.{codes, OnOk, OnErr, MatchResult}
 use Rattle.std.specs.Io.KnownBytes.{Appends}
 use Rattle.atspi_base.specs.Outside.{AppendsPart}
-use Rattle.atspi_run.specs.Words.{Asks, IsCheck, IsReplay, IsTold, Tells, replay_help}
+use Rattle.atspi_run.specs.Words.{Asks, IsCheck, IsCommand, IsReplay, IsTold, Tells, replay_help}
 
 -- the words `replay --help` ask for one text
 pub asks_replay_help : (words : List (List ℕ)) (text : List ℕ) → words ≡ codes "replay" ∷ codes "--help" ∷ [] → Asks words text → text ≡ replay_help
@@ -39,5 +40,12 @@ told_or_4 status text w w' (inl (due, a)) is = absurd (omega (arith, due, is))
 told_or_4 status text w w' (inr (due, a)) is = absurd (omega (arith, due, is))
 
 -- words that ask for a text are not told how the program is used
-pub told_is_not_2 : (status : ℕ) (words : List (List ℕ)) (w w' : Option (List ℕ)) → ((text : List ℕ) → Asks words text → Tells 0 text status w w') → status ≡ 2 → IsTold words → ⊥
+told_is_not_2 : (status : ℕ) (words : List (List ℕ)) (w w' : Option (List ℕ)) → ((text : List ℕ) → Asks words text → Tells 0 text status w w') → status ≡ 2 → IsTold words → ⊥
 told_is_not_2 status words w w' tell is told = told_or_4 status told.0 w w' (tell told.0 told.1) is
+
+-- status 2 comes for the words of no command
+pub no_command : (replays checks : Bool) (status : ℕ) (words : List (List ℕ)) (w w' : Option (List ℕ)) → replays ≡ false → (IsReplay words → IsTrue replays) → checks ≡ false → (IsCheck words → IsTrue checks)
+    → ((text : List ℕ) → Asks words text → Tells 0 text status w w') → status ≡ 2 → IsCommand words → ⊥
+no_command replays checks status words w w' no_replay r no_check c tell is (inl replay) = absurd (false≢true (sym no_replay ∙ r replay))
+no_command replays checks status words w w' no_replay r no_check c tell is (inr (inl check)) = absurd (false≢true (sym no_check ∙ c check))
+no_command replays checks status words w w' no_replay r no_check c tell is (inr (inr told)) = told_is_not_2 status words w w' tell is told

@@ -3,6 +3,7 @@ use Rattle.std.specs.Prelude.{◌≡◌, ℕ, ◌<◌, List, ◌++◌, length, B
 use Rattle.std.specs.Io.KnownBytes.{Consumes, IsAtEnd}
 use Rattle.atspi_base.specs.Outside.{Rose}
 use Rattle.atspi_base.specs.declared.outside.NoMemory.{NoMemory}
+use Rattle.atspi_run.specs.declared.input.TheConstants.{SCRIPT_LIMIT}
 use Rattle.atspi_run.specs.declared.input.End.{End}
 use Rattle.atspi_run.specs.declared.input.End.TheVariants.{Whole, TooLong, Failed}
 
@@ -10,7 +11,7 @@ use Rattle.atspi_run.specs.declared.input.End.TheVariants.{Whole, TooLong, Faile
 abbrev pub HasRead : End → Option (List ℕ) → Option (List ℕ) → List ℕ → Type 0
 HasRead Whole old new text = Consumes old new text × IsAtEnd new
 HasRead TooLong old new text =
-    (length text ≡ 16777216) × ((more : List ℕ) × (0 < length more) × Consumes old new (text ++ more))
+    (length text ≡ SCRIPT_LIMIT) × ((more : List ℕ) × (0 < length more) × Consumes old new (text ++ more))
 HasRead Failed old new text = Consumes old new text
 
 -- the count rose where the source failed, and else is the same

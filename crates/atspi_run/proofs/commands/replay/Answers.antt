@@ -18,8 +18,8 @@ returns-in-TooLong-clause-replayed g c =
     replayed_long (g.S.Source.left c.args.source.now) (g.S.Source.left c.read_all.new.source) (g.K.Sink.written c.args.sink.now) (g.K.Sink.written c.play_lines.new.sink) c.read_all.new.text.items
     (rw c.in-TooLong.is at c.in-Ok.ensures.read) (rw (whole, c.deref.ensures.value) at c.in-Ok-play_lines.ensures.ok)
 
-pub returns-in-Failed-clause-replayed : goal.returns-in-Failed-clause-replayed
-returns-in-Failed-clause-replayed g c =
+pub returns-in-Ok-play_lines-clause-replayed : goal.returns-in-Ok-play_lines-clause-replayed
+returns-in-Ok-play_lines-clause-replayed g c =
     let whole = c.is_whole.ensures ∙ ap is_whole c.in-Failed.is in
     replayed_failed (g.S.Source.left c.args.source.now) (g.S.Source.left c.read_all.new.source) (g.K.Sink.written c.args.sink.now) (g.K.Sink.written c.play_lines.new.sink) c.read_all.new.text.items
     (rw c.in-Failed.is at c.in-Ok.ensures.read) (rw (whole, c.deref.ensures.value) at c.in-Ok-play_lines.ensures.ok)
@@ -33,8 +33,3 @@ pub returns-in-Err-Write-clause-replayed : goal.returns-in-Err-Write-clause-repl
 returns-in-Err-Write-clause-replayed g c =
     replayed_write c.in-Ok.end (g.S.Source.left c.args.source.now) (g.S.Source.left c.read_all.new.source) (g.K.Sink.written c.args.sink.now) (g.K.Sink.written c.play_lines.new.sink) c.read_all.new.text.items
     c.in-Ok.ensures.read (rw (c.is_whole.ensures, c.deref.ensures.value) at c.in-Err-Write.ensures.err)
-
-pub returns-in-Err-NoMemory-clause-replayed : goal.returns-in-Err-NoMemory-clause-replayed
-returns-in-Err-NoMemory-clause-replayed g c =
-    replayed_memory c.in-Ok.end (g.S.Source.left c.args.source.now) (g.S.Source.left c.read_all.new.source) (g.K.Sink.written c.args.sink.now) (g.K.Sink.written c.play_lines.new.sink) c.read_all.new.text.items
-    c.in-Ok.ensures.read (rw (c.is_whole.ensures, c.deref.ensures.value) at c.in-Err-NoMemory.ensures.err)
