@@ -28,7 +28,7 @@ numbers-join : (f g : Forest ShapeRow) → numbers (join f g) ≡ numbers f ++ n
 numbers-join nil g = refl
 numbers-join (tree a c r) g = ap (λ l. a.node ∷ l) (numbers-join r g)
 
-numbers-put_at : (i : ℕ) (g f : Forest ShapeRow) → numbers (put_at i g f) ≡ take i (numbers f) ++ (numbers g ++ drop i (numbers f))
+pub numbers-put_at : (i : ℕ) (g f : Forest ShapeRow) → numbers (put_at i g f) ≡ take i (numbers f) ++ (numbers g ++ drop i (numbers f))
 numbers-put_at zero g nil = sym (append-nil (numbers g))
 numbers-put_at (suc i) g nil = sym (append-nil (numbers g))
 numbers-put_at zero g (tree a c r) = numbers-join g (tree a c r)
@@ -38,11 +38,11 @@ pub numbers-put_in : (q : ShapeRow → Bool) (i : ℕ) (g f : Forest ShapeRow) �
 numbers-put_in q i g nil = refl
 numbers-put_in q i g (tree a c r) = ap (λ l. a.node ∷ l) (numbers-put_in q i g r)
 
-holds-join : (look : ℕ → Option Kept) (up : Option ℕ) (f g : Forest ShapeRow) → HoldsBelow look up f → HoldsBelow look up g → HoldsBelow look up (join f g)
+pub holds-join : (look : ℕ → Option Kept) (up : Option ℕ) (f g : Forest ShapeRow) → HoldsBelow look up f → HoldsBelow look up g → HoldsBelow look up (join f g)
 holds-join look up nil g h k = k
 holds-join look up (tree a c r) g h k = (h.0, h.1, holds-join look up r g h.2 k)
 
-holds-put_at : (look : ℕ → Option Kept) (up : Option ℕ) (i : ℕ) (g f : Forest ShapeRow) → HoldsBelow look up g → HoldsBelow look up f → HoldsBelow look up (put_at i g f)
+pub holds-put_at : (look : ℕ → Option Kept) (up : Option ℕ) (i : ℕ) (g f : Forest ShapeRow) → HoldsBelow look up g → HoldsBelow look up f → HoldsBelow look up (put_at i g f)
 holds-put_at look up zero g nil k h = k
 holds-put_at look up (suc i) g nil k h = k
 holds-put_at look up zero g (tree a c r) k h = holds-join look up g (tree a c r) k h

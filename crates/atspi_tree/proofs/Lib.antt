@@ -1,4 +1,6 @@
 pub mod Held
+pub mod Moved
 pub mod Keys
 pub mod Trees
 pub mod Refusals
+pub mod Rehung

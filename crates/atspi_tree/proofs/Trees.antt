@@ -9,17 +9,19 @@ use Rattle.std.proofs.lemmas.Bool.Decides.{nat_tests}
 use Rattle.std.proofs.lemmas.Bool.{eqb-true, eq-eqb, ne_eqb}
 use Rattle.atspi_forest.specs.declared.contents.Kinds.{Kinds}
 use Rattle.atspi_forest.specs.declared.step.Seed.{Seed}
-use Rattle.atspi_forest.specs.declared.step.Step.TheVariants.{Add, SetName}
-use Rattle.atspi_forest.specs.Forest.{Forest, nil, tree, count, has, width, children_at, relabel, grow}
+use Rattle.atspi_forest.specs.declared.step.Step.{Step}
+use Rattle.atspi_forest.specs.declared.step.Step.TheVariants.{Add, SetState}
+use Rattle.atspi_forest.specs.Forest.{Forest, nil, tree, count, has, width, children_at, relabel, change, grow}
 use Rattle.atspi_forest.specs.Row.{ShapeRow, Holds, IsName}
 use Rattle.atspi_forest.specs.RowRules.{shapes, first_shape, first_kinds}
-use Rattle.atspi_forest.specs.Tree.{IsTree, is_shape, after, Changes, root_seed, Adds as AddApplies}
+use Rattle.atspi_forest.specs.Tree.{IsTree, is_shape, node_of, after, Changes, root_seed, Adds as AddApplies}
 use Rattle.atspi_forest.proofs.Counts.{count-put_in}
 use Rattle.atspi_forest.proofs.Relabel.{count-relabel}
-use Rattle.atspi_forest.proofs.Found.{count-has, has-count, find-passes}
+use Rattle.atspi_forest.proofs.Found.{count-has, has-count, find-has, find-passes}
+use Rattle.atspi_forest.proofs.Lookup.{each-find}
 use Rattle.atspi_tree.specs.declared.cell.Cell.{Cell}
 use Rattle.atspi_tree.specs.TreeShape.{TreeShape, numbers, row_of, parent_of, children_of, root_alone}
-use Rattle.atspi_tree.specs.Table.{Kept, kept, look_in, IsHeld, HoldsTree, rows_in, row_by, children_by, new_row, with_child, with_name, SameCell, IsNewCell, ChangesAt}
+use Rattle.atspi_tree.specs.Table.{Kept, kept, look_in, IsHeld, HoldsTree, rows_in, row_by, children_by, new_row, with_child, with_row, SameCell, IsNewCell, ChangesAt}
 use Rattle.atspi_tree.proofs.Keys.{is_same}
 use Rattle.atspi_tree.proofs.Held.{grown, found, holds-add, holds-change, holds-same}
 
@@ -109,7 +111,7 @@ same_table es es' f h w l = record {
   size = h.size ∙ sym l;
 }
 
-width-numbers : (f : Forest ShapeRow) → length (numbers f) ≡ width f
+pub width-numbers : (f : Forest ShapeRow) → length (numbers f) ≡ width f
 width-numbers nil = refl
 width-numbers (tree a c r) = ap suc (width-numbers r)
 
@@ -194,35 +196,31 @@ table_back es es1 es2 es3 f x new r h none w1 size1 w2 size2 is_r gone size3 =
     lengths None e l = cc
     lengths (Some c) e l = omega arith
 
--- after a name was written
-pub table_rename : (es es1 : List (ℕ × Cell)) (k n : ℕ) (name : List ℕ) (t : TreeShape) → Holding es k t → Changes shapes t.rows (SetName n name)
-    → ((y : Kept) → look_in es n ≡ Some y → ChangesAt es es1 n (with_name name y)) → length es1 ≡ length es
-    → IsHeld es1 (after shapes t.rows (SetName n name))
-table_rename es es1 k n name t h m w size =
-    let there = has-count (is_shape n) t.rows (find-passes (is_shape n) t.rows m.row m.there).1 in
-    let y = found (look_in es) n None 0 t.rows h.held.nodes there in
+-- after a row was written
+pub table_change : (es es1 : List (ℕ × Cell)) (k n : ℕ) (h : ShapeRow → ShapeRow) (t : TreeShape) → Holding es k t → has (is_shape n) t.rows ≡ true → ((a : ShapeRow) → (h a).node ≡ a.node)
+    → ((y : Kept) → look_in es n ≡ Some y → ChangesAt es es1 n (with_row h y)) → length es1 ≡ length es
+    → IsHeld es1 (change (is_shape n) h t.rows)
+table_change es es1 k n h t held there s w size =
+    let y = found (look_in es) n None 0 t.rows held.held.nodes there in
     let others = (w (record { row = y.row; children = children_of n t; parent = y.parent }) y.is_kept).others in
     record {
-      nodes = holds-change (look_in es) (look_in es1) n renamed (λ a. refl) (λ z e. (w z e).here) others None t.rows h.held.nodes;
+      nodes = holds-change (look_in es) (look_in es1) n h s (λ z e. (w z e).here) others None t.rows held.held.nodes;
       only = λ j z. (let zero : count (is_shape j) t.rows ≡ 0 = sym (counts j) ∙ z in
-          others j (ne_eqb j n (λ e. let a = count-has (is_shape n) t.rows there in let b : count (is_shape n) t.rows ≡ 0 = subst (λ m. count (is_shape m) t.rows ≡ 0) e zero in omega arith)) ∙ h.held.only j zero);
-      size = all ∙ (h.held.size ∙ sym size);
+          others j (ne_eqb j n (λ e. let a = count-has (is_shape n) t.rows there in let b : count (is_shape n) t.rows ≡ 0 = subst (λ m. count (is_shape m) t.rows ≡ 0) e zero in omega arith)) ∙ held.held.only j zero);
+      size = all ∙ (held.held.size ∙ sym size);
     }
   where
-    renamed : ShapeRow → ShapeRow
-    renamed row = record row { name = name }
-
     at : ShapeRow → ShapeRow
-    at row = cond (is_shape n row) (renamed row) row
+    at row = cond (is_shape n row) (h row) row
 
-    node_at : (row : ShapeRow) (b : Bool) → (cond b (renamed row) row).node ≡ row.node
-    node_at row true = refl
+    node_at : (row : ShapeRow) (b : Bool) → (cond b (h row) row).node ≡ row.node
+    node_at row true = s row
     node_at row false = refl
 
-    counts : (j : ℕ) → count (is_shape j) (after shapes t.rows (SetName n name)) ≡ count (is_shape j) t.rows
+    counts : (j : ℕ) → count (is_shape j) (change (is_shape n) h t.rows) ≡ count (is_shape j) t.rows
     counts j = count-relabel at (is_shape j) (is_shape j) (λ row. ap (λ m. m == j) (node_at row (is_shape n row))) t.rows
 
-    all : count (λ row. true) (after shapes t.rows (SetName n name)) ≡ count (λ row. true) t.rows
+    all : count (λ row. true) (change (is_shape n) h t.rows) ≡ count (λ row. true) t.rows
     all = count-relabel at (λ row. true) (λ row. true) (λ row. refl) t.rows
 
 -- a table of cells that say the same
@@ -285,3 +283,32 @@ child_count es k n t h e cell l =
 -- whether a node is there, by what is found under its number
 pub there_is : (es : List (ℕ × Cell)) (k n : ℕ) (t : TreeShape) → Holding es k t → (o : Option Cell) → o ≡ lookup (λ k. is_eq (nat_cmp n k)) es → has (is_shape n) t.rows ≡ is_some o
 there_is es k n t h o e = sym (knows es t.rows n h.held) ∙ sym (is_some-map (kept n) _) ∙ ap is_some (sym e)
+
+-- a step about its own node finds it there
+pub step_there : (step : Step) (t : TreeShape) → Changes shapes t.rows step → has (is_shape (node_of step)) t.rows ≡ true
+step_there step t m = has-count (is_shape (node_of step)) t.rows (find-passes (is_shape (node_of step)) t.rows m.row m.there).1
+
+-- a state of a node that is there can be set
+pub state_applies : (n s : ℕ) (on : Bool) (t : TreeShape) → IsTree shapes t.rows t.added → has (is_shape n) t.rows ≡ true → s < 44 → Changes shapes t.rows (SetState n s on)
+state_applies n s on t lawful there small =
+    let row = find-has (is_shape n) t.rows (count-has (is_shape n) t.rows there) in
+    let limits = each-find (λ (row : ShapeRow). shapes.IsLawful row) (is_shape n) t.rows row.0 lawful.lawful row.1 in
+    record {
+      row = row.0;
+      there = row.1;
+      allowed = small;
+      lawful = record { name = limits.name; description = limits.description; editable = limits.editable };
+      targets = tt;
+    }
+
+-- a step that changes no shape
+pub text_step : (t : TreeShape) (n : ℕ) → record { rows = change (is_shape n) (λ row. row) t.rows; added = t.added } ≡ t
+text_step t n = ap (λ (f : Forest ShapeRow). shape f t.added) (same t.rows)
+  where
+    same : (f : Forest ShapeRow) → change (is_shape n) (λ row. row) f ≡ f
+    same nil = refl
+    same (tree a c r) = rw (same c, same r) (ap (λ x. tree x c r) (at (a.node == n)))
+      where
+        at : (b : Bool) → cond b a a ≡ a
+        at true = refl
+        at false = refl

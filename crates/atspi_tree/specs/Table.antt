@@ -1,5 +1,5 @@
 -- What a table of cells says of each number, and the tree that it holds.
-use Rattle.std.specs.Prelude.{ℕ, ◌≡◌, ◌==◌, true, false, List, [], ◌∷◌, Option, None, Some, length, insert}
+use Rattle.std.specs.Prelude.{ℕ, ◌≡◌, ◌==◌, Bool, true, false, not, filter, List, [], ◌∷◌, Option, None, Some, length, insert}
 use Rattle.std.specs.Option.{option_map}
 use Rattle.std.specs.Ordering.{nat_cmp, is_eq}
 use Rattle.std.specs.Map.{lookup}
@@ -110,11 +110,40 @@ SameCell a b = (n : ℕ) → kept n b ≡ kept n a
 abbrev pub with_child : ℕ → ℕ → Kept → Kept
 with_child i n k = record k { children = insert k.children i n }
 
--- another name
-abbrev pub with_name : List ℕ → Kept → Kept
-with_name name k = record k { row = record k.row { name = name } }
+-- all numbers of a list but one
+abbrev pub all_but : ℕ → List ℕ → List ℕ
+all_but n ns = filter (λ m. not (m == n)) ns
+
+-- without a child
+abbrev pub without_child : ℕ → Kept → Kept
+without_child n k = record k { children = all_but n k.children }
+
+-- a child at another index among the others
+abbrev pub moved_child : ℕ → ℕ → Kept → Kept
+moved_child i n k = record k { children = insert (all_but n k.children) i n }
+
+-- another parent
+abbrev pub with_parent : ℕ → Kept → Kept
+with_parent p k = record k { parent = Some p }
+
+-- another row
+abbrev pub with_row : (ShapeRow → ShapeRow) → Kept → Kept
+with_row h k = record k { row = h k.row }
 
 -- a table says this of a number, and of each other number what it said before
 pub record ChangesAt (old new : List (ℕ × Cell)) (n : ℕ) (k : Kept) : Type 0 where
   pub here : look_in new n ≡ Some k
   pub others : (m : ℕ) → (m == n) ≡ false → look_in new m ≡ look_in old m
+
+-- lists of children without a number in one, and with it in another, at this index
+pub record Relists (old new : List (ℕ × Cell)) (from to i n : ℕ) : Type 0 where
+  pub left : (k : Kept) → (from == to) ≡ false → look_in old from ≡ Some k → look_in new from ≡ Some (without_child n k)
+  pub joined : (k : Kept) → look_in old to ≡ Some k → look_in new to ≡ Some (moved_child i n k)
+  pub others : (m : ℕ) → (m == from) ≡ false → (m == to) ≡ false → look_in new m ≡ look_in old m
+
+-- a table without a node among the children of one, and with it among those of another, at this index
+pub record Rehangs (old new : List (ℕ × Cell)) (from to i n : ℕ) : Type 0 where
+  pub moved : (k : Kept) → look_in old n ≡ Some k → look_in new n ≡ Some (with_parent to k)
+  pub left : (k : Kept) → (from == to) ≡ false → look_in old from ≡ Some k → look_in new from ≡ Some (without_child n k)
+  pub joined : (k : Kept) → look_in old to ≡ Some k → look_in new to ≡ Some (moved_child i n k)
+  pub others : (m : ℕ) → (m == n) ≡ false → (m == from) ≡ false → (m == to) ≡ false → look_in new m ≡ look_in old m

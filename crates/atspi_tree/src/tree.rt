@@ -1,23 +1,25 @@
 //! The tree itself: a table of cells, and the calls that read and change it.
 
-ghost use Rattle.std.specs.Prelude.{◌≡◌, ◌&&◌, ℕ, Some, None, true, IfOk, OnOk, OnErr, [], bytes_eq};
+ghost use Rattle.std.specs.Prelude.{◌≡◌, ◌<◌, ◌&&◌, ℕ, Some, None, true, IfOk, OnOk, OnErr, [], bytes_eq};
 ghost use Rattle.std.specs.Option.{option_map};
 ghost use Rattle.atspi_forest.specs.Edits.{IsEdit, first_fault, is_full, refusals};
 ghost use Rattle.atspi_forest.specs.declared.contents.FaceData.TheVariants.{Deeds};
 ghost use Rattle.atspi_forest.specs.declared.edit.Edit.TheVariants.{Insert, Name};
-ghost use Rattle.atspi_forest.specs.declared.step.Step.TheVariants.{Add, SetName};
+ghost use Rattle.atspi_forest.specs.declared.step.Step.TheVariants.{Add, Move, SetDescription, SetName, SetRole, SetState};
 ghost use Rattle.atspi_forest.specs.Forest.{has, count as count_nodes};
 ghost use Rattle.atspi_forest.specs.Row.{Each, IsName};
 ghost use Rattle.atspi_forest.specs.RowRules.{shapes};
 ghost use Rattle.atspi_forest.specs.Tree.{AllApply, is_shape};
 ghost use Rattle.atspi_forest.specs.View.{kinds_number};
-ghost use Rattle.atspi_tree.specs.Calls.{GivesSteps, IsEditSoFar, IsStepSoFar, edit_steps};
+ghost use Rattle.atspi_tree.specs.Calls.{GivesSteps, IsEditSoFar, IsStepDone, IsStepSoFar, edit_steps};
 ghost use Rattle.atspi_tree.specs.TreeShape.{IsLawful, StepApplies, after_step, children_of, parent_of, root_alone, row_of};
 
 use crate::cell::{Cell, bits, first_kinds};
 use crate::edits::{copy_seed, is_bad_place, is_long_name, is_too_long, one_step};
 use crate::fault::TreeFault;
-use crate::table::{insert_child, put_cell, set_name};
+use crate::table::{
+    insert_child, put_cell, rehang, set_description, set_name, set_role, set_states,
+};
 use atspi_base::{NoMemory, Text};
 use atspi_forest::{Edit, EditFault, Kinds, Seed, Step, StepList};
 use std::alloc::Global;
@@ -72,7 +74,8 @@ impl Tree {
 
     /// Whether a node is in the tree.
     pub fn has(&self, node: u32) -> bool
-        ensures { result ≡ has (is_shape node) self.now.rows }
+        ensures lawful { IsLawful self.now }
+        ensures answer { result ≡ has (is_shape node) self.now.rows }
     {
         self.cells.contains_key(&node)
     }
@@ -112,9 +115,10 @@ impl Tree {
         }
     }
 
-    /// Does a step. After want of memory the tree is as before.
+    /// Does a step. After want of memory the tree is as before. The steps that change what interface objects keep change
+    /// nothing here.
     pub fn apply(&mut self, step: &Step) -> Result<(), NoMemory>
-        requires so_far { IsStepSoFar step.now }
+        requires done { IsStepDone step.now }
         requires applies { StepApplies self.old step.now }
         ensures ok { OnOk result (self.new ≡ after_step self.old step.now) }
         ensures err { OnErr result (self.new ≡ self.old) }
@@ -126,8 +130,27 @@ impl Tree {
                 index,
                 seed,
             } => self.add(*node, *parent, *index, seed),
+            Step::Move {
+                node,
+                parent,
+                index,
+            } => self.shift(*node, *parent, *index),
             Step::SetName { node, text } => self.rename(*node, text),
-            _ => unreachable!(),
+            Step::SetDescription { node, text } => self.describe(*node, text),
+            Step::SetRole { node, role } => {
+                self.set_role(*node, *role);
+                Ok(())
+            }
+            Step::SetState { node, state, on } => {
+                self.set_state(*node, *state, *on);
+                Ok(())
+            }
+            Step::Insert { .. } => Ok(()),
+            Step::Delete { .. } => Ok(()),
+            Step::Caret { .. } => Ok(()),
+            Step::TextSelect { .. } => Ok(()),
+            Step::Remove { .. } => unreachable!(),
+            Step::Relate { .. } => unreachable!(),
         }
     }
 
@@ -172,6 +195,22 @@ impl Tree {
         ensures { option_map (λ row. row.states) (row_of node self.now) ≡ Some result }
     {
         self.cells[&node].states
+    }
+
+    /// A node's optional interfaces.
+    pub fn kinds(&self, node: u32) -> Kinds
+        requires { has (is_shape node) self.now.rows ≡ true }
+        ensures { option_map (λ row. row.kinds) (row_of node self.now) ≡ Some result }
+    {
+        self.cells[&node].kinds
+    }
+
+    /// A node's relations: the kind and one target of each, in the order of the targets.
+    pub fn relations(&self, node: u32) -> &[(u32, u32)]
+        requires { has (is_shape node) self.now.rows ≡ true }
+        ensures { option_map (λ row. row.relations) (row_of node self.now) ≡ Some result.now }
+    {
+        &self.cells[&node].relations
     }
 
     /// A node's optional interfaces: bit 0 Text, 1 EditableText, 2 Selection, 3 Table, 4 Action.
@@ -301,6 +340,47 @@ impl Tree {
                 Err(e)
             }
         }
+    }
+
+    /// A node goes below another.
+    fn shift(&mut self, node: u32, parent: u32, index: u32) -> Result<(), NoMemory>
+        requires { StepApplies self.old (Move node parent index) }
+        ensures ok { OnOk result (self.new ≡ after_step self.old (Move node parent index)) }
+        ensures err { OnErr result (self.new ≡ self.old) }
+    {
+        match self.parent(node) {
+            Some(old) => {
+                rehang(&mut self.cells, old, parent, index as usize, node)?;
+                Ok(())
+            }
+            None => unreachable!(),
+        }
+    }
+
+    fn describe(&mut self, node: u32, text: &Text) -> Result<(), NoMemory>
+        requires { StepApplies self.old (SetDescription node text.now) }
+        ensures ok { OnOk result (self.new ≡ after_step self.old (SetDescription node text.now)) }
+        ensures err { OnErr result (self.new ≡ self.old) }
+    {
+        let description = text.copy(self.alloc)?;
+        set_description(&mut self.cells, node, description);
+        Ok(())
+    }
+
+    fn set_role(&mut self, node: u32, role: u32)
+        requires { StepApplies self.old (SetRole node role) }
+        ensures { self.new ≡ after_step self.old (SetRole node role) }
+    {
+        set_role(&mut self.cells, node, role);
+    }
+
+    /// Sets a state of a node that is there, or clears it. Takes no memory.
+    pub fn set_state(&mut self, node: u32, state: u8, on: bool)
+        requires there { has (is_shape node) self.old.rows ≡ true }
+        requires known { state < 44 }
+        ensures { self.new ≡ after_step self.old (SetState node state on) }
+    {
+        set_states(&mut self.cells, node, state, on);
     }
 
     fn rename(&mut self, node: u32, text: &Text) -> Result<(), NoMemory>

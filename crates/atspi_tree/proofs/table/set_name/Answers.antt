@@ -1,6 +1,8 @@
 use Rattle.std.proofs.Common.{Some, ap, ◌∙◌}
 use Rattle.std.specs.Option.{option_map}
-use Rattle.atspi_tree.specs.Table.{kept, with_name}
+use Rattle.atspi_forest.specs.declared.step.Step.TheVariants.{SetName}
+use Rattle.atspi_forest.specs.RowRules.{changed_shape}
+use Rattle.atspi_tree.specs.Table.{kept, with_row}
 use Rattle.atspi_tree.proofs.Keys.{is_other, kept_is, is_there}
 use Rattle.atspi_tree.proofs.table.set_name.Goals as goal
 
@@ -10,6 +12,6 @@ returns-in-Some-clause-put c k h =
     record {
       here =
           ap (option_map (kept c.args.node)) written.1
-          ∙ ap (λ k. Some (with_name c.args.name k)) (kept_is _ c.args.node c.in-Some.cell.now k c.in-Some.ensures.value h);
+          ∙ ap (λ k. Some (with_row (changed_shape (SetName c.args.node c.args.name)) k)) (kept_is _ c.args.node c.in-Some.cell.now k c.in-Some.ensures.value h);
       others = λ m e. ap (option_map (kept m)) (written.2 m (is_other c.args.node m e));
     }

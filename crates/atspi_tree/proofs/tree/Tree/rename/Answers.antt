@@ -1,11 +1,11 @@
-use Rattle.std.proofs.Common.{ℕ, List, ap, sym, subst, ◌∙◌}
+use Rattle.std.proofs.Common.{ℕ, List, refl, ap, sym, subst, ◌∙◌}
 use Rattle.atspi_forest.specs.declared.step.Step.TheVariants.{SetName}
-use Rattle.atspi_forest.specs.RowRules.{shapes}
+use Rattle.atspi_forest.specs.RowRules.{shapes, changed_shape}
 use Rattle.atspi_forest.specs.Tree.{IsTree, after}
 use Rattle.atspi_forest.proofs.RowRules.{shapes_sound}
 use Rattle.atspi_forest.proofs.Kept.{changed_is_tree}
-use Rattle.atspi_tree.specs.Table.{ChangesAt, with_name}
-use Rattle.atspi_tree.proofs.Trees.{holding, seen, shape, table_rename}
+use Rattle.atspi_tree.specs.Table.{ChangesAt, with_row}
+use Rattle.atspi_tree.proofs.Trees.{holding, seen, shape, step_there, table_change}
 use Rattle.atspi_tree.proofs.tree.Tree.rename.Goals as goal
 
 pub invariant_of-self : goal.invariant_of-self
@@ -13,8 +13,8 @@ invariant_of-self c =
     let h = holding _ _ c.args.self.now c.self.invariant c.self.view_is in
     record {
       rows = after shapes c.args.self.now.rows (SetName c.args.node c.args.text.now);
-      held = table_rename _ _ _ c.args.node c.args.text.now c.args.self.now h c.requires
-          (λ y e. subst (λ (x : List ℕ). ChangesAt c.self.inside.cells.entries c.set_name.new.cells.entries c.args.node (with_name x y)) c.in_ok-name.ensures (c.set_name.ensures.put y e)) c.set_name.ensures.size;
+      held = table_change _ _ _ c.args.node (changed_shape (SetName c.args.node c.args.text.now)) c.args.self.now h (step_there (SetName c.args.node c.args.text.now) c.args.self.now c.requires) (λ a. refl)
+          (λ y e. subst (λ (x : List ℕ). ChangesAt c.self.inside.cells.entries c.set_name.new.cells.entries c.args.node (with_row (changed_shape (SetName c.args.node x)) y)) c.in_ok-name.ensures (c.set_name.ensures.put y e)) c.set_name.ensures.size;
       lawful = subst (IsTree shapes (after shapes c.args.self.now.rows (SetName c.args.node c.args.text.now))) (sym h.added)
           (changed_is_tree shapes shapes_sound c.args.self.now.rows c.args.self.now.added (SetName c.args.node c.args.text.now) h.lawful c.requires);
     }

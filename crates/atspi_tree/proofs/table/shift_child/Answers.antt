@@ -1,0 +1,32 @@
+use Rattle.std.proofs.Common.{◌≡◌, ◌≤◌, ℕ, true, List, length, Option, None, Some, ap, sym, subst, ◌∙◌}
+use Rattle.std.specs.Option.{option_map}
+use Rattle.atspi_forest.specs.Edits.{is_among}
+use Rattle.atspi_forest.specs.Row.{Holds}
+use Rattle.atspi_tree.specs.declared.cell.Cell.{Cell}
+use Rattle.atspi_tree.specs.Table.{Kept, kept, moved_child, all_but, without_child}
+use Rattle.atspi_tree.proofs.Keys.{is_other, kept_is, is_there}
+use Rattle.atspi_tree.proofs.Moved.{with_list}
+use Rattle.atspi_tree.proofs.table.shift_child.Goals as goal
+
+-- what is asked of the row that is looked up, at the cell that is found
+at_cell : (o : Option Cell) (cell : Cell) (p i n : ℕ) → Some cell ≡ o
+    → Holds (λ (k : Kept). (is_among n k.children ≡ true) × (i ≤ length (without_child n k).children)) (option_map (kept p) o)
+    → (is_among n cell.children.items ≡ true) × (i ≤ length (all_but n cell.children.items))
+at_cell o cell p i n e h =
+    subst (λ (o : Option Cell). Holds (λ (k : Kept). (is_among n k.children ≡ true) × (i ≤ length (without_child n k).children)) (option_map (kept p) o)) (sym e) h
+
+pub shift-requires : goal.shift-requires
+shift-requires c =
+    let h = at_cell _ c.in-Some.cell.now c.args.parent c.args.index c.args.node c.in-Some.ensures.value c.requires.in_range in
+    record { there = h.0; in_range = h.1 }
+
+pub returns-in-Some-clause-put : goal.returns-in-Some-clause-put
+returns-in-Some-clause-put c k h =
+    let written = (c.get_mut.follows.holds _).3 (is_there _ _ c.in-Some.ensures.value) in
+    record {
+      here =
+          ap (option_map (kept c.args.parent)) written.1
+          ∙ ap (λ (l : List ℕ). Some (with_list l (kept c.args.parent c.in-Some.cell.now))) c.shift.ensures
+          ∙ ap (λ k. Some (moved_child c.args.index c.args.node k)) (kept_is _ c.args.parent c.in-Some.cell.now k c.in-Some.ensures.value h);
+      others = λ m e. ap (option_map (kept m)) (written.2 m (is_other c.args.parent m e));
+    }
