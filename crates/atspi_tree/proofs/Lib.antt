@@ -4,3 +4,4 @@ pub mod Keys
 pub mod Trees
 pub mod Refusals
 pub mod Rehung
+pub mod Pruned

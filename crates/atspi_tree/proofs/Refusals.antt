@@ -6,6 +6,7 @@ use Rattle.std.proofs.lemmas.Bool.Decides.{nat_tests}
 use Rattle.std.proofs.lemmas.Slice.Eq.{bytes_eq-Decides}
 use Rattle.atspi_forest.specs.declared.contents.FaceData.TheVariants.{Deeds}
 use Rattle.atspi_forest.specs.declared.step.Seed.{Seed}
+use Rattle.atspi_forest.specs.declared.step.Step.{Step}
 use Rattle.atspi_forest.specs.declared.step.Step.TheVariants.{Add, SetName}
 use Rattle.atspi_forest.specs.declared.edit.Edit.TheVariants.{Insert, Name}
 use Rattle.atspi_forest.specs.declared.edit.EditFault.{EditFault}
@@ -18,6 +19,7 @@ use Rattle.atspi_forest.specs.Edits.{first_fault, refusals, is_full, is_long_nam
 use Rattle.atspi_forest.proofs.Found.{count-has, find-none, find-passes, find-has}
 use Rattle.atspi_forest.proofs.Lookup.{each-find, has-weaker}
 use Rattle.atspi_tree.specs.declared.cell.Cell.{Cell}
+use Rattle.atspi_tree.specs.Calls.{IsStepDone, IsStepSoFar}
 use Rattle.atspi_tree.specs.TreeShape.{TreeShape}
 use Rattle.atspi_tree.proofs.Trees.{Holding}
 
@@ -110,3 +112,9 @@ full_of_few es k t h r e l =
   where
     last : (k : ℕ) → k ≤ 4294967295 → nat_eq k 4294967295 ≡ nat_le 4294967295 k
     last k small = grind (arith, nat_tests)
+
+-- an addition and a name are steps that a tree does
+pub done_so_far : (step : Step) → IsStepSoFar step → IsStepDone step
+done_so_far (Add n p i seed) h = tt
+done_so_far (SetName n x) h = tt
+done_so_far _ h = absurd h

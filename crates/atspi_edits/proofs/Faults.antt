@@ -1,0 +1,37 @@
+-- The first reason of several, and tests of the row of a node.
+use Rattle.std.proofs.Common.{◌≡◌, ℕ, Bool, true, false, cond, not, Option, Some, None, List, [], ◌∷◌, refl, sym, ap, ◌∙◌, subst}
+use Rattle.std.specs.Prelude.{◌&&◌}
+use Rattle.std.specs.Option.{option_map}
+use Rattle.atspi_forest.specs.declared.edit.EditFault.{EditFault}
+use Rattle.atspi_forest.specs.Forest.{has, find}
+use Rattle.atspi_forest.specs.Row.{ShapeRow}
+use Rattle.atspi_forest.specs.Tree.{is_shape}
+use Rattle.atspi_forest.specs.Edits.{first_fault}
+use Rattle.atspi_forest.proofs.Found.{count-has, find-has}
+use Rattle.atspi_forest.proofs.Lookup.{test_found}
+use Rattle.atspi_tree.specs.TreeShape.{TreeShape, IsLawful, row_of}
+
+-- of two reasons and more, one of the two
+pub one_of_two : (a b : Bool) (e f x : EditFault) (rest : List (Bool × EditFault)) → first_fault ((a, e) ∷ (b, f) ∷ []) ≡ Some x
+    → first_fault ((a, e) ∷ (b, f) ∷ rest) ≡ Some x
+one_of_two true b e f x rest h = h
+one_of_two false true e f x rest h = h
+one_of_two false false e f x rest h = cc
+
+-- and none of the two
+pub none_of_two : (a b : Bool) (e f : EditFault) (rest : List (Bool × EditFault)) → first_fault ((a, e) ∷ (b, f) ∷ []) ≡ None
+    → first_fault ((a, e) ∷ (b, f) ∷ rest) ≡ first_fault rest
+none_of_two true b e f rest h = cc
+none_of_two false true e f rest h = cc
+none_of_two false false e f rest h = refl
+
+-- a test of what was read of a node that is there
+pub asked : {V : Type 0} (t : TreeShape) (n : ℕ) (g : ShapeRow → V) (v : V) (q : V → Bool) → IsLawful t → has (is_shape n) t.rows ≡ true
+    → option_map g (row_of n t) ≡ Some v → has (λ row. is_shape n row && q (g row)) t.rows ≡ q v
+asked {V = V} t n g v q lawful there e =
+    let row = find-has (is_shape n) t.rows (count-has (is_shape n) t.rows there) in
+    let z : Some (g row.0) ≡ Some v = sym (ap (option_map g) row.1) ∙ e in
+    test_found (is_shape n) (λ row. q (g row)) t.rows row.0 (lawful.once n) there row.1 ∙ ap q (same (g row.0) v z)
+  where
+    same : (x y : V) → Some x ≡ Some y → x ≡ y
+    same x y e = cc

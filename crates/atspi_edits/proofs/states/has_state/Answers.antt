@@ -1,0 +1,15 @@
+use Rattle.std.proofs.Common.{ℕ, List, ◌==◌, sym, ◌∙◌}
+use Rattle.std.specs.Prelude.{bytes_eq}
+use Rattle.atspi_forest.specs.Row.{ShapeRow}
+use Rattle.atspi_forest.specs.States.{has_state}
+use Rattle.atspi_forest.specs.Tree.{is_shape}
+use Rattle.atspi_tree.proofs.Refusals.{none_too, same_test}
+use Rattle.atspi_edits.proofs.Faults.{asked}
+use Rattle.atspi_edits.proofs.states.has_state.Goals as goal
+
+pub returns-then-has : goal.returns-then-has
+returns-then-has c =
+    c.is_set.ensures ∙ sym (asked c.args.tree.now c.args.node (λ (row : ShapeRow). row.states) _ (λ x. has_state c.args.state x) c.has.ensures.lawful (sym c.has.ensures.answer ∙ c.if-has.true) c.states.ensures)
+
+pub returns-else-has : goal.returns-else-has
+returns-else-has c = sym (none_too (is_shape c.args.node) (λ (row : ShapeRow). has_state c.args.state row.states) c.args.tree.now.rows (sym c.has.ensures.answer ∙ c.if-has.false))

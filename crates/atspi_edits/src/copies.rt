@@ -1,0 +1,105 @@
+//! Copies of steps.
+
+ghost use Rattle.std.specs.Prelude.{◌≡◌, IfOk};
+
+use atspi_base::{NoMemory, Text};
+use atspi_forest::{Seed, Step};
+use std::alloc::Global;
+
+/// An equal step.
+pub fn copy_step(alloc: Global, step: &Step) -> Result<Step, NoMemory>
+    ensures { IfOk result (λ s. s ≡ step.now) }
+{
+    Ok(match step {
+        Step::Add {
+            node,
+            parent,
+            index,
+            seed,
+        } => Step::Add {
+            node: *node,
+            parent: *parent,
+            index: *index,
+            seed: copy_seed(alloc, seed)?,
+        },
+        Step::Remove { node } => Step::Remove { node: *node },
+        Step::Move {
+            node,
+            parent,
+            index,
+        } => Step::Move {
+            node: *node,
+            parent: *parent,
+            index: *index,
+        },
+        Step::SetName { node, text } => Step::SetName {
+            node: *node,
+            text: text.copy(alloc)?,
+        },
+        Step::SetDescription { node, text } => Step::SetDescription {
+            node: *node,
+            text: text.copy(alloc)?,
+        },
+        Step::SetRole { node, role } => Step::SetRole {
+            node: *node,
+            role: *role,
+        },
+        Step::SetState { node, state, on } => Step::SetState {
+            node: *node,
+            state: *state,
+            on: *on,
+        },
+        Step::Insert { node, at, text } => Step::Insert {
+            node: *node,
+            at: *at,
+            text: text.copy(alloc)?,
+        },
+        Step::Delete { node, at, text } => Step::Delete {
+            node: *node,
+            at: *at,
+            text: text.copy(alloc)?,
+        },
+        Step::Caret { node, at } => Step::Caret {
+            node: *node,
+            at: *at,
+        },
+        Step::TextSelect { node, marks } => Step::TextSelect {
+            node: *node,
+            marks: marks.copy(alloc)?,
+        },
+        Step::Relate {
+            node,
+            kind,
+            targets,
+        } => Step::Relate {
+            node: *node,
+            kind: *kind,
+            targets: targets.copy(alloc)?,
+        },
+    })
+}
+
+/// An equal seed.
+pub fn copy_seed(alloc: Global, seed: &Seed) -> Result<Seed, NoMemory>
+    ensures { IfOk result (λ s. s ≡ seed.now) }
+{
+    Ok(Seed {
+        role: seed.role,
+        name: seed.name.copy(alloc)?,
+        text: copy_text(alloc, &seed.text)?,
+        editable: seed.editable,
+        columns: seed.columns,
+        select: seed.select,
+        actions: seed.actions.copy(alloc)?,
+    })
+}
+
+/// An equal text, where there is one.
+fn copy_text(alloc: Global, text: &Option<Text>) -> Result<Option<Text>, NoMemory>
+    ensures { IfOk result (λ t. t ≡ text.now) }
+{
+    match text {
+        None => Ok(None),
+        Some(text) => Ok(Some(text.copy(alloc)?)),
+    }
+}

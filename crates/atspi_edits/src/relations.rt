@@ -1,0 +1,151 @@
+//! The steps of edits of a node's relations.
+
+ghost use Rattle.std.specs.Prelude.{◌≡◌, ◌==◌, ◌||◌, ◌++◌, ◌∷◌, [], nat_lt, not, true, filter, IfOk};
+ghost use Rattle.atspi_forest.specs.Edits.{first_fault, is_among, lacks_node, node_targets};
+ghost use Rattle.atspi_forest.specs.Forest.{find, has};
+ghost use Rattle.atspi_forest.specs.Row.{targets_of};
+ghost use Rattle.atspi_forest.specs.Tree.{is_shape};
+ghost use Rattle.atspi_forest.specs.declared.contents.FaceData.{FaceData};
+ghost use Rattle.atspi_forest.specs.declared.edit.Edit.TheVariants.{Relate, Unrelate};
+ghost use Rattle.atspi_forest.specs.declared.step.Step.TheVariants.{Relate as RelateStep};
+ghost use Rattle.atspi_forest.specs.declared.edit.EditFault.TheVariants.{BadIndex, NoNode};
+ghost use Rattle.atspi_edits.specs.Answers.{GivesSteps, edit_steps};
+
+use crate::fault::EditRefused;
+use crate::parts::one_step;
+use atspi_base::{NoMemory, Nums};
+use atspi_forest::{EditFault, Step, StepList};
+use atspi_tree::Tree;
+use std::alloc::Global;
+
+/// The reason to refuse a relation of a kind with a target.
+fn relation_fault(tree: &Tree, node: u32, kind: u32, target: u32) -> Option<EditFault>
+    ensures { result ≡ first_fault ((lacks_node tree.now.rows node || lacks_node tree.now.rows target, NoNode) ∷ ((kind == 0) || nat_lt 18 kind, BadIndex) ∷ []) }
+{
+    if !tree.has(node) || !tree.has(target) {
+        return Some(EditFault::NoNode);
+    }
+    if kind == 0 || kind > 18 {
+        return Some(EditFault::BadIndex);
+    }
+    None
+}
+
+/// The targets of one kind among relations.
+fn of_kind(alloc: Global, relations: &[(u32, u32)], kind: u32) -> Result<Vec<u32>, NoMemory>
+    ensures { IfOk result (λ v. v.items ≡ targets_of kind relations.now) }
+{
+    let targets = relations
+        .iter()
+        .filter(|r| r.0 == kind)
+        .map(|r| r.1)
+        .collect(alloc)?;
+    Ok(targets)
+}
+
+/// The targets of a node's relation.
+fn targets(alloc: Global, tree: &Tree, node: u32, kind: u32) -> Result<Vec<u32>, NoMemory>
+    requires { has (is_shape node) tree.now.rows ≡ true }
+    ensures { IfOk result (λ v. v.items ≡ node_targets kind (find (is_shape node) tree.now.rows)) }
+{
+    of_kind(alloc, tree.relations(node), kind)
+}
+
+/// Whether a number is in a list.
+fn is_among(numbers: &[u32], number: u32) -> bool
+    ensures { result ≡ is_among number numbers.now }
+{
+    for n in numbers {
+        if *n == number {
+            return true;
+        }
+    }
+    false
+}
+
+/// The steps of one more target.
+pub(crate) fn relate(
+    alloc: Global,
+    tree: &Tree,
+    node: u32,
+    kind: u32,
+    target: u32,
+) -> Result<StepList, EditRefused>
+    ensures { (known : FaceData) → GivesSteps result (edit_steps tree.now known (Relate node kind target)) }
+{
+    if let Some(fault) = relation_fault(tree, node, kind, target) {
+        return Err(EditRefused::Refused(fault));
+    }
+    let targets = targets(alloc, tree, node, kind)?;
+    if is_among(&targets, target) {
+        return Ok(StepList::new(alloc));
+    }
+    Ok(more(alloc, node, kind, targets, target)?)
+}
+
+/// The step of one more target.
+fn more(
+    alloc: Global,
+    node: u32,
+    kind: u32,
+    targets: Vec<u32>,
+    target: u32,
+) -> Result<StepList, NoMemory>
+    ensures { IfOk result (λ steps. steps ≡ RelateStep node kind (targets.items ++ target ∷ []) ∷ []) }
+{
+    let mut targets = Nums::from_vec(targets);
+    targets.push(target)?;
+    one_step(
+        alloc,
+        Step::Relate {
+            node,
+            kind,
+            targets,
+        },
+    )
+}
+
+/// The steps of one target less.
+pub(crate) fn unrelate(
+    alloc: Global,
+    tree: &Tree,
+    node: u32,
+    kind: u32,
+    target: u32,
+) -> Result<StepList, EditRefused>
+    ensures { (known : FaceData) → GivesSteps result (edit_steps tree.now known (Unrelate node kind target)) }
+{
+    if let Some(fault) = relation_fault(tree, node, kind, target) {
+        return Err(EditRefused::Refused(fault));
+    }
+    let targets = targets(alloc, tree, node, kind)?;
+    if !is_among(&targets, target) {
+        return Ok(StepList::new(alloc));
+    }
+    Ok(less(alloc, node, kind, &targets, target)?)
+}
+
+/// The step of one target less.
+fn less(
+    alloc: Global,
+    node: u32,
+    kind: u32,
+    targets: &[u32],
+    target: u32,
+) -> Result<StepList, NoMemory>
+    ensures { IfOk result (λ steps. steps ≡ RelateStep node kind (filter (λ t. not (t == target)) targets.now) ∷ []) }
+{
+    let left = targets
+        .iter()
+        .copied()
+        .filter(|t| *t != target)
+        .collect(alloc)?;
+    one_step(
+        alloc,
+        Step::Relate {
+            node,
+            kind,
+            targets: Nums::from_vec(left),
+        },
+    )
+}

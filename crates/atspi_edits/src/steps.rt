@@ -1,0 +1,59 @@
+//! The steps of an edit.
+
+ghost use Rattle.atspi_forest.specs.Edits.{IsEdit};
+ghost use Rattle.atspi_edits.specs.Answers.{GivesSteps, IsEditDone, IsKnown, edit_steps};
+
+use crate::fault::EditRefused;
+use crate::inserts::insert;
+use crate::named::{describe, name, remove, role};
+use crate::relations::{relate, unrelate};
+use crate::states::state;
+use crate::texts::{caret, keys, mark, put, unmark};
+use atspi_forest::{Edit, FaceData, StepList};
+use atspi_tree::Tree;
+use std::alloc::Global;
+
+/// The steps of an edit, or the first reason to refuse it. Of the contents of the edit's node those are handed in that the
+/// edit reads: the text for the edits of a text, the actions for `Press`, and no actions where it reads none or the node
+/// has none. An edit to what is there already has no step. Memory is wanted only for an edit that is not refused.
+pub fn steps_of(
+    alloc: Global,
+    tree: &Tree,
+    edit: &Edit,
+    known: &FaceData,
+) -> Result<StepList, EditRefused>
+    requires done { IsEditDone edit.now }
+    requires lawful { IsEdit edit.now }
+    requires known { IsKnown known.now }
+    ensures { GivesSteps result (edit_steps tree.now known.now edit.now) }
+{
+    match edit {
+        Edit::Insert {
+            parent,
+            index,
+            seed,
+        } => insert(alloc, tree, *parent, *index, seed),
+        Edit::Remove { node } => remove(alloc, tree, *node),
+        Edit::Name { node, text } => name(alloc, tree, *node, text),
+        Edit::Describe { node, text } => describe(alloc, tree, *node, text),
+        Edit::Role { node, role: to } => role(alloc, tree, *node, *to),
+        Edit::State {
+            node,
+            state: which,
+            on,
+        } => state(alloc, tree, *node, *which, *on),
+        Edit::Put { node, at, text } => put(alloc, tree, *node, *at, text, known),
+        Edit::Keys { node, text } => keys(alloc, tree, *node, text, known),
+        Edit::Caret { node, at } => caret(alloc, tree, *node, *at, known),
+        Edit::Mark { node, from, to } => mark(alloc, tree, *node, *from, *to, known),
+        Edit::Unmark { node } => unmark(alloc, tree, *node, known),
+        Edit::Relate { node, kind, target } => relate(alloc, tree, *node, *kind, *target),
+        Edit::Unrelate { node, kind, target } => unrelate(alloc, tree, *node, *kind, *target),
+        Edit::Move { .. } => unreachable!(),
+        Edit::Focus { .. } => unreachable!(),
+        Edit::Cut { .. } => unreachable!(),
+        Edit::Select { .. } => unreachable!(),
+        Edit::Deselect { .. } => unreachable!(),
+        Edit::Press { .. } => unreachable!(),
+    }
+}
