@@ -135,7 +135,7 @@ signature_with_known : (i : Input) (p : ℕ) (r : Result (List Kind) Fault) → 
 signature_with_known i p (Ok ks) h = ended_known i (p + 1 + byte_in i p) (signature_data (kinds_of ks)) h ∙ ap placed (omega arith)
 signature_with_known i p (Err f) h = absurd cc
 
-short_is : (i : Input) (b : Bound) (at p : ℕ) → short_place i b at ≡ Ok p → (p ≡ at) × (p + 2 + byte_in i p ≤ b.end)
+pub short_is : (i : Input) (b : Bound) (at p : ℕ) → short_place i b at ≡ Ok p → (p ≡ at) × (p + 2 + byte_in i p ≤ b.end)
 unfolding short_place
 short_is i b at p e =
     let a = bind_ok (room_at i 1 1 b at) (λ q. cond (ltb b.end (q + 2 + byte_in i q)) (bad q b.reason) (Ok q)) p e in

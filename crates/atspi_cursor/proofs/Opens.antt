@@ -1,5 +1,5 @@
 -- Arrays, structs and texts that were read, opened.
-use Rattle.std.proofs.Common.{◌≡◌, ℕ, zero, suc, ◌+◌, ◌-◌, ◌≤◌, Bool, true, false, cond, List, Result, Ok, Err, IsUtf8, chars, refl, sym, ap, subst, ◌∙◌, arith}
+use Rattle.std.proofs.Common.{◌≡◌, ℕ, zero, suc, ◌+◌, ◌-◌, ◌≤◌, Bool, true, false, cond, List, [], ◌∷◌, length, map, Result, Ok, Err, IsUtf8, chars, refl, sym, ap, subst, ◌∙◌, arith}
 use Rattle.std.specs.Prelude.{◌==◌, ◌&&◌, nat_lt}
 use Rattle.std.specs.Int.{w32, byte_len}
 use Rattle.std.proofs.lemmas.Str.{chars-encodes}
@@ -7,18 +7,21 @@ use Rattle.atspi_base.specs.ReadsText.{text_in}
 use Rattle.atspi_base.proofs.TextLemmas.{text_is}
 use Rattle.atspi_base.specs.declared.text.TextFault.{TextFault}
 use Rattle.atspi_base.specs.declared.text.TextFault.TheVariants.{Zero, Utf8, NoMemory}
-use Rattle.atspi_types.specs.Kinds.{Num, width, number_alignment, Kind, number, boolean, text, path, array, structure, kinds_of, alignment}
+use Rattle.atspi_types.specs.Kinds.{Num, width, number_alignment, Kind, number, boolean, text, path, signature, array, structure, variant, byte, kinds_of, alignment}
 use Rattle.atspi_types.specs.Names.{is_path}
-use Rattle.atspi_types.specs.Data.{Data, number_data, boolean_data, text_data, path_data, array_data, structure_data, items_of}
+use Rattle.atspi_types.specs.SignatureReading.{signature_in}
+use Rattle.atspi_types.specs.Data.{Data, number_data, boolean_data, text_data, path_data, array_data, structure_data, variant_data, signature_data, items_of}
 use Rattle.atspi_types.specs.declared.fault.Fault.{Fault}
 use Rattle.atspi_marshal.specs.declared.input.Bound.{Bound}
-use Rattle.atspi_marshal.specs.Input.{Input, number_in, byte_in, aligned}
-use Rattle.atspi_marshal.specs.Faults.{inside, long_in}
-use Rattle.atspi_marshal.specs.Reading.{◌>>=◌, bad, Reader, padding_at, room_at, number_at, boolean_at, text_with, text_body_at, path_body_at, long_place, long_at, elements_at, as_array, array_place, array_body_at, array_at, unless_deep, fields_at, as_structure, structure_at, single_at, first_in, deep_at, level, read}
+use Rattle.atspi_marshal.specs.Input.{Input, number_in, byte_in, slice_in, aligned}
+use Rattle.atspi_marshal.specs.Faults.{inside, long_in, short_in}
+use Rattle.atspi_marshal.specs.Reading.{◌>>=◌, bad, Reader, padding_at, room_at, number_at, boolean_at, text_with, text_body_at, path_body_at, long_place, long_at, elements_at, as_array, array_place, array_body_at, array_at, unless_deep, fields_at, as_structure, structure_at, single_at, first_in, deep_at, short_place, short_at, signature_with, signature_body_at, inner_at, as_variant, variant_with, variant_body_at, level, read}
+use Rattle.atspi_marshal.proofs.ByteArrays.{bytes_elements, read_byte}
+use Rattle.atspi_marshal.proofs.Places.{aligned-one}
 use Rattle.atspi_marshal.proofs.Levels.{read_is, types_in-kinds_of}
 use Rattle.atspi_codes.specs.Codes.{leaf_of}
 use Rattle.atspi_cursor.specs.Known.{is_read, read_data, read_list, read_fields}
-use Rattle.atspi_cursor.proofs.Knows.{padding_place, room_place, long_is, array_is}
+use Rattle.atspi_cursor.proofs.Knows.{padding_place, room_place, long_is, short_is, array_is}
 
 bind_value : {A B : Type 0} (r : Result A Fault) (f : A → Result B Fault) → is_read (r >>= f) ≡ true → (x : A) × (r ≡ Ok x) × ((r >>= f) ≡ f x)
 bind_value (Ok x) f h = (x, refl, refl)
@@ -235,3 +238,165 @@ text_chars bytes cs e = let t = text_is bytes cs e in sym (chars-encodes cs t.1)
 -- a type of one code is told by it
 pub leaf_kind : (k : Kind) (b m : ℕ) → b ≡ m → (m ≡ 97 → ⊥) → (m ≡ 40 → ⊥) → ((b ≡ 97 → ⊥) → (b ≡ 40 → ⊥) → k ≡ leaf_of b) → k ≡ leaf_of m
 leaf_kind k b m e a s h = subst (λ (n : ℕ). k ≡ leaf_of n) e (h (λ q. a (sym e ∙ q)) (λ q. s (sym e ∙ q)))
+
+abbrev ok_types : List Kind → Result (List Kind) Fault
+ok_types ks = Ok ks
+
+-- a variant: its signature is that of one type, and its value stands behind it
+pub record OpenedVariant (i : Input) (n : ℕ) (k j : Kind) (b : Bound) (at : ℕ) : Type 0 where
+  pub some : 1 ≤ n
+  pub within : at + 2 + byte_in i at ≤ b.end
+  pub known : is_read (read i (n - 1) j b (at + 2 + byte_in i at)) ≡ true
+  pub data_is : read_data (read i n k b at) ≡ variant_data j (read_data (read i (n - 1) j b (at + 2 + byte_in i at)))
+
+-- and which type that is
+pub record VariantType (i : Input) (n : ℕ) (k : Kind) (b : Bound) (at : ℕ) : Type 0 where
+  pub inner : Kind
+  pub spelled : signature_in (short_in i at) ≡ Ok (inner ∷ [])
+  pub opened : OpenedVariant i n k inner b at
+
+record InnerValue (deep : Bool) (below : Reader) (i : Input) (b : Bound) (p : ℕ) (k : Kind) : Type 0 where
+  pub shallow : deep ≡ false
+  pub known : is_read (below k b (p + 2 + byte_in i p)) ≡ true
+  pub data_is : read_data (inner_at deep below i b p k) ≡ variant_data k (read_data (below k b (p + 2 + byte_in i p)))
+
+variant_value : (k : Kind) (r : Result (Data × ℕ) Fault) → is_read (r >>= as_variant k) ≡ true → (is_read r ≡ true) × (read_data (r >>= as_variant k) ≡ variant_data k (read_data r))
+variant_value k (Ok x) h = (refl, refl)
+variant_value k (Err f) h = absurd cc
+
+inner_value : (deep : Bool) (below : Reader) (i : Input) (b : Bound) (p : ℕ) (k : Kind) → is_read (inner_at deep below i b p k) ≡ true → InnerValue deep below i b p k
+unfolding inner_at
+inner_value true below i b p k h = absurd cc
+inner_value false below i b p k h = by (byte_in i (p + 1 + byte_in i p) == 0) refl h
+  where
+    by : (z : Bool) → (byte_in i (p + 1 + byte_in i p) == 0) ≡ z → is_read (cond z (below k b (p + 2 + byte_in i p) >>= as_variant k) (bad (p + 1 + byte_in i p) 12)) ≡ true → InnerValue false below i b p k
+    by true e h =
+        let v = variant_value k (below k b (p + 2 + byte_in i p)) h in
+        record { shallow = refl; known = v.0; data_is = rw e v.1 }
+    by false e h = absurd cc
+
+record OneTyped (deep : Bool) (below : Reader) (i : Input) (b : Bound) (p : ℕ) (r : Result (List Kind) Fault) : Type 0 where
+  pub inner : Kind
+  pub spelled : r ≡ Ok (inner ∷ [])
+  pub value : InnerValue deep below i b p inner
+  pub same : variant_with deep below i b p r ≡ inner_at deep below i b p inner
+
+one_typed : (deep : Bool) (below : Reader) (i : Input) (b : Bound) (p : ℕ) (r : Result (List Kind) Fault) → is_read (variant_with deep below i b p r) ≡ true → OneTyped deep below i b p r
+one_typed deep below i b p (Ok []) h = absurd cc
+one_typed deep below i b p (Ok (k ∷ [])) h = record { inner = k; spelled = refl; value = inner_value deep below i b p k h; same = refl }
+one_typed deep below i b p (Ok (k ∷ j ∷ ks)) h = absurd cc
+one_typed true below i b p (Err f) h = absurd cc
+one_typed false below i b p (Err f) h = absurd cc
+
+variant_here : (i : Input) (n : ℕ) (b : Bound) (at : ℕ) → is_read (read i n variant b at) ≡ true → VariantType i n variant b at
+unfolding level single_at short_at variant_body_at
+variant_here i n b at h =
+    let below = read i (n - 1) in
+    let same : read i n variant b at ≡ short_at (variant_body_at (n == 0) below i b) i b at = rw read_is refl in
+    let a = bind_value (short_place i b at) (variant_body_at (n == 0) below i b) (rw (← same) h) in
+    let t = short_is i b at a.0 a.1 in
+    let here : is_read (variant_body_at (n == 0) below i b at) ≡ true = subst (λ (q : ℕ). is_read (variant_body_at (n == 0) below i b q) ≡ true) t.0 (rw (← a.2, ← same) h) in
+    let o = one_typed (n == 0) below i b at (signature_in (short_in i at)) here in
+    let read_here : read i n variant b at ≡ inner_at (n == 0) below i b at o.inner = same ∙ (a.2 ∙ (ap (variant_body_at (n == 0) below i b) t.0 ∙ o.same)) in
+    record {
+      inner = o.inner;
+      spelled = o.spelled;
+      opened = record {
+        some = not_deep n o.value.shallow;
+        within = subst (λ (q : ℕ). q + 2 + byte_in i q ≤ b.end) t.0 t.1;
+        known = o.value.known;
+        data_is = ap read_data read_here ∙ o.value.data_is;
+      };
+    }
+
+pub variant_type : (i : Input) (n : ℕ) (k : Kind) (b : Bound) (at : ℕ) → k ≡ variant → is_read (read i n k b at) ≡ true → VariantType i n k b at
+variant_type i n k b at e h = subst (λ (l : Kind). VariantType i n l b at) (sym e) (variant_here i n b at (rw (← e) h))
+
+pub variant_opened : (i : Input) (n : ℕ) (k j : Kind) (b : Bound) (at : ℕ) → k ≡ variant → signature_in (short_in i at) ≡ Ok (j ∷ []) → is_read (read i n k b at) ≡ true → OpenedVariant i n k j b at
+variant_opened i n k j b at e s h =
+    let t = variant_type i n k b at e h in
+    let is : t.inner ≡ j = only (sym t.spelled ∙ s) in
+    subst (λ (l : Kind). OpenedVariant i n k l b at) is t.opened
+  where
+    only : {x y : Kind} → ok_types (x ∷ []) ≡ ok_types (y ∷ []) → x ≡ y
+    only q = cc
+
+-- the type of a variant that was read is one
+pub never_several : (i : Input) (n : ℕ) (k : Kind) (b : Bound) (at : ℕ) (ks : List Kind) → k ≡ variant → is_read (read i n k b at) ≡ true → signature_in (short_in i at) ≡ Ok ks → (length ks ≡ 1 → ⊥) → ⊥
+never_several i n k b at ks e h s many =
+    let t = variant_type i n k b at e h in
+    let is : ks ≡ t.inner ∷ [] = only (sym s ∙ t.spelled) in
+    many (ap length is)
+  where
+    only : {x y : List Kind} → ok_types x ≡ ok_types y → x ≡ y
+    only q = cc
+
+pub never_refused : (i : Input) (n : ℕ) (k : Kind) (b : Bound) (at : ℕ) (f : Fault) → k ≡ variant → is_read (read i n k b at) ≡ true → signature_in (short_in i at) ≡ Err f → ⊥
+never_refused i n k b at f e h s =
+    let t = variant_type i n k b at e h in
+    let q : ok_types (t.inner ∷ []) ≡ Err f = sym t.spelled ∙ s in
+    absurd cc
+
+-- a signature
+pub record OpenedSignature (i : Input) (n : ℕ) (k : Kind) (b : Bound) (at : ℕ) : Type 0 where
+  pub within : at + 2 + byte_in i at ≤ b.end
+  pub kinds : List Kind
+  pub spelled : signature_in (short_in i at) ≡ Ok kinds
+  pub data_is : read_data (read i n k b at) ≡ signature_data (kinds_of kinds)
+
+record SpelledTypes (i : Input) (p : ℕ) (r : Result (List Kind) Fault) : Type 0 where
+  pub kinds : List Kind
+  pub spelled : r ≡ Ok kinds
+  pub data_is : read_data (signature_with i p r) ≡ signature_data (kinds_of kinds)
+
+spelled_types : (i : Input) (p : ℕ) (r : Result (List Kind) Fault) → is_read (signature_with i p r) ≡ true → SpelledTypes i p r
+spelled_types i p (Err f) h = absurd cc
+spelled_types i p (Ok ks) h = record { kinds = ks; spelled = refl; data_is = by (byte_in i (p + 1 + byte_in i p) == 0) h }
+  where
+    by : (z : Bool) → is_read {X = Data × ℕ} (cond z (Ok (signature_data (kinds_of ks), p + 1 + byte_in i p + 1)) (bad (p + 1 + byte_in i p) 12)) ≡ true
+        → read_data (cond z (Ok (signature_data (kinds_of ks), p + 1 + byte_in i p + 1)) (bad (p + 1 + byte_in i p) 12)) ≡ signature_data (kinds_of ks)
+    by true h = refl
+    by false h = absurd cc
+
+signature_here : (i : Input) (n : ℕ) (b : Bound) (at : ℕ) → is_read (read i n signature b at) ≡ true → OpenedSignature i n signature b at
+unfolding level single_at short_at signature_body_at
+signature_here i n b at h =
+    let same : read i n signature b at ≡ short_at (signature_body_at i) i b at = rw read_is refl in
+    let a = bind_value (short_place i b at) (signature_body_at i) (rw (← same) h) in
+    let t = short_is i b at a.0 a.1 in
+    let here : is_read (signature_body_at i at) ≡ true = subst (λ (q : ℕ). is_read (signature_body_at i q) ≡ true) t.0 (rw (← a.2, ← same) h) in
+    let o = spelled_types i at (signature_in (short_in i at)) here in
+    record {
+      within = subst (λ (q : ℕ). q + 2 + byte_in i q ≤ b.end) t.0 t.1;
+      kinds = o.kinds;
+      spelled = o.spelled;
+      data_is = ap read_data (same ∙ (a.2 ∙ ap (signature_body_at i) t.0)) ∙ o.data_is;
+    }
+
+pub signature_opened : (i : Input) (n : ℕ) (k : Kind) (b : Bound) (at : ℕ) → k ≡ signature → is_read (read i n k b at) ≡ true → OpenedSignature i n k b at
+signature_opened i n k b at e h = subst (λ (l : Kind). OpenedSignature i n l b at) (sym e) (signature_here i n b at (rw (← e) h))
+
+pub signature_types : (i : Input) (n : ℕ) (k : Kind) (b : Bound) (at : ℕ) (ks : List Kind) → k ≡ signature → is_read (read i n k b at) ≡ true → signature_in (short_in i at) ≡ Ok ks → read_data (read i n k b at) ≡ signature_data (kinds_of ks)
+signature_types i n k b at ks e h s =
+    let o = signature_opened i n k b at e h in
+    let is : o.kinds ≡ ks = only (sym o.spelled ∙ s) in
+    o.data_is ∙ ap (λ (js : List Kind). signature_data (kinds_of js)) is
+  where
+    only : {x y : List Kind} → ok_types x ≡ ok_types y → x ≡ y
+    only q = cc
+
+pub signature_never_refused : (i : Input) (n : ℕ) (k : Kind) (b : Bound) (at : ℕ) (f : Fault) → k ≡ signature → is_read (read i n k b at) ≡ true → signature_in (short_in i at) ≡ Err f → ⊥
+signature_never_refused i n k b at f e h s =
+    let o = signature_opened i n k b at e h in
+    let q : ok_types o.kinds ≡ Err f = sym o.spelled ∙ s in
+    absurd cc
+
+-- an array of bytes is a slice
+pub bytes_opened : (i : Input) (n : ℕ) (k : Kind) (b : Bound) (at p m : ℕ) → k ≡ array (number byte) → p ≡ aligned 4 at → m ≡ number_in i w32 p → b.end ≤ length i.bytes → is_read (read i n k b at) ≡ true
+    → (p + 4 + m ≤ b.end) × (read_data (read i n k b at) ≡ array_data (number byte) (items_of (map (number_data byte) (slice_in i (p + 4) m))))
+bytes_opened i n k b at p m e f g long h =
+    let start = p + 4 in
+    let o = array_opened i n k (number byte) b at p m start e f g (sym (aligned-one start)) h in
+    let all = bytes_elements i (ends_at (start + m)) (read i (n - 1) (number byte) (ends_at (start + m))) (read_byte i (n - 1) (ends_at (start + m))) m start (omega arith) (omega (arith, o.within, long)) (omega arith) in
+    let len : start + m - start ≡ m = omega arith in
+    (o.within, o.data_is ∙ (ap (λ (r : Result (List Data) Fault). array_data (number byte) (items_of (read_list r))) all ∙ ap (λ (l : ℕ). array_data (number byte) (items_of (map (number_data byte) (slice_in i start l)))) len))

@@ -1,6 +1,7 @@
 //! Values that were passed, read where they lie, one after the other.
 
-ghost use Rattle.std.specs.Prelude.{◌≡◌, ◌<◌, ◌≤◌, length, IsTrue};
+ghost use Rattle.std.specs.Prelude.{◌≡◌, ◌<◌, ◌≤◌, ◌↔◌, length, IsTrue};
+ghost use Rattle.atspi_types.specs.Kinds.{array, number, byte};
 ghost use Rattle.atspi_codes.specs.TyRefs.{ref_kind, refs_kinds};
 ghost use Rattle.atspi_marshal.specs.Reading.{input_of, read, elements_at};
 ghost use Rattle.atspi_cursor.specs.Known.{is_read};
@@ -9,7 +10,7 @@ ghost use Rattle.atspi_cursor.specs.Passing.{read_all};
 use crate::jumping::jump;
 use crate::passing::fields;
 use crate::plain::align_up;
-use crate::text::slice;
+use crate::text::{slice, type_at, types_at};
 use atspi_codes::{TyRef, TysRef};
 use atspi_marshal::{Bound, Marshalled, byte_at, u16_at, u32_at, u64_at};
 use atspi_types::{Fault, Order};
@@ -49,6 +50,16 @@ pub struct Fields<'a> {
     at: usize,
     ghost within: { (at ≤ bound.end) × (bound.end ≤ length input.bytes.now) × (length input.bytes.now < 4294967288) },
     ghost known: { IsTrue (is_read (read_all (input_of input) levels (refs_kinds types) bound at)) },
+}
+
+/// Whether it is the type of arrays of bytes.
+fn is_bytes(ty: TyRef) -> bool
+    ensures { IsTrue result ↔ (ref_kind ty.entry ≡ array (number byte)) }
+{
+    match ty.element() {
+        Some(element) => element.code() == b'y',
+        None => false,
+    }
 }
 
 impl<'a> Fields<'a> {
@@ -153,10 +164,10 @@ impl<'a> Elements<'a> {
 }
 
 impl<'a> Item<'a> {
-    ghost use Rattle.std.specs.Prelude.{◌↔◌, IfSome, IsSome, chars};
+    ghost use Rattle.std.specs.Prelude.{◌↔◌, IfSome, IsSome, chars, map};
     ghost use Rattle.std.specs.Int.{w16, w32, w64, cast_unsigned};
-    ghost use Rattle.atspi_types.specs.Kinds.{byte, i16, u16, i32, u32, i64, u64, double, number, boolean, text, path};
-    ghost use Rattle.atspi_types.specs.Data.{array_data, structure_data, number_data, boolean_data, text_data, path_data, items_of};
+    ghost use Rattle.atspi_types.specs.Kinds.{byte, i16, u16, i32, u32, i64, u64, double, number, boolean, text, path, signature, array, variant, kinds_of};
+    ghost use Rattle.atspi_types.specs.Data.{variant_data, signature_data, array_data, structure_data, number_data, boolean_data, text_data, path_data, items_of};
     ghost use Rattle.atspi_codes.specs.Codes.{is_array, is_structure};
     ghost use Rattle.atspi_cursor.specs.Items.{item_data, item_kind, elements_data, elements_kind, fields_data, fields_kinds};
 
@@ -355,5 +366,59 @@ impl<'a> Item<'a> {
         }
         let place = align_up(8, self.at);
         Some(u64_at(&self.input, place))
+    }
+
+    /// The value in the variant, exactly where it is one.
+    pub fn variant(self) -> Option<Item<'a>>
+        ensures is { IsSome result ↔ (item_kind self.entry ≡ variant) }
+        ensures value { IfSome result (λ x. item_data self.entry ≡ variant_data (item_kind x) (item_data x)) }
+        ensures levels { IfSome result (λ x. x.levels < self.entry.levels) }
+    {
+        let code = self.ty.code();
+        if code != b'v' {
+            return None;
+        }
+        match type_at(&self.input, self.at) {
+            Ok(Some(ty)) => {
+                let len = byte_at(&self.input, self.at) as usize;
+                Some(Item {
+                    input: self.input,
+                    ty,
+                    levels: self.levels - 1,
+                    bound: self.bound,
+                    at: self.at + 2 + len,
+                })
+            }
+            Ok(None) => None,
+            Err(_refused) => None,
+        }
+    }
+
+    /// The types of the signature, exactly where it is one.
+    pub fn signature(self) -> Option<TysRef<'a>>
+        ensures is { IsSome result ↔ (item_kind self.entry ≡ signature) }
+        ensures types { IfSome result (λ ts. item_data self.entry ≡ signature_data (kinds_of (refs_kinds ts))) }
+    {
+        let code = self.ty.code();
+        if code != b'g' {
+            return None;
+        }
+        match types_at(&self.input, self.at) {
+            Ok(types) => Some(types),
+            Err(_refused) => None,
+        }
+    }
+
+    /// The bytes, exactly where it is an array of bytes.
+    pub fn bytes(self) -> Option<&'a [u8]>
+        ensures is { IsSome result ↔ (item_kind self.entry ≡ array (number byte)) }
+        ensures bytes { IfSome result (λ s. item_data self.entry ≡ array_data (number byte) (items_of (map (number_data byte) s.now))) }
+    {
+        if is_bytes(self.ty) {
+            let place = align_up(4, self.at);
+            let len = u32_at(&self.input, place) as usize;
+            return Some(slice(self.input.bytes, place + 4, len));
+        }
+        None
     }
 }

@@ -188,7 +188,7 @@ pub fn pass_path(input: &Marshalled, bound: Bound, at: usize) -> Result<usize, F
 }
 
 /// The types of the signature whose length stands at a place. The place of a fault counts from its first byte.
-fn types_at<'a>(input: &Marshalled<'a>, place: usize) -> Result<TysRef<'a>, Fault>
+pub fn types_at<'a>(input: &Marshalled<'a>, place: usize) -> Result<TysRef<'a>, Fault>
     requires { ReachTo input.now (place + 2 + byte_in (input_of input.now) place) }
     ensures read { refs_read result ≡ signature_in (short_in (input_of input.now) place) }
     ensures place { IfErr result (λ wrong. wrong.place ≤ byte_in (input_of input.now) place) }

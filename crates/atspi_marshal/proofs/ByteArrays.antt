@@ -43,10 +43,10 @@ next_slice (b ∷ bytes) (suc at) m lt =
     let e : suc at + 1 ≡ suc (at + 1) = omega arith in
     rw e (next_slice bytes at m (omega arith))
 
-abbrev IsByteReader : Input → Bound → (ℕ → Result (Data × ℕ) Fault) → Type 0
+abbrev pub IsByteReader : Input → Bound → (ℕ → Result (Data × ℕ) Fault) → Type 0
 IsByteReader i b one = (at : ℕ) → one at ≡ number_at i byte b at
 
-bytes_elements : (i : Input) (b : Bound) (one : ℕ → Result (Data × ℕ) Fault) → IsByteReader i b one → (fuel at : ℕ) → at ≤ b.end → b.end ≤ length i.bytes → b.end ≤ at + fuel
+pub bytes_elements : (i : Input) (b : Bound) (one : ℕ → Result (Data × ℕ) Fault) → IsByteReader i b one → (fuel at : ℕ) → at ≤ b.end → b.end ≤ length i.bytes → b.end ≤ at + fuel
     → elements_at one b.end fuel at ≡ Ok (map (number_data byte) (slice_in i at (b.end - at)))
 bytes_elements i b one is zero at low long high =
     let none : b.end - at ≡ 0 = omega arith in
@@ -80,7 +80,7 @@ is_number (structure ks) e = absurd cc
 is_number variant e = absurd cc
 is_number (dictionary k v) e = absurd cc
 
-read_byte : (i : Input) (levels : ℕ) (b : Bound) (at : ℕ) → read i levels (number byte) b at ≡ number_at i byte b at
+pub read_byte : (i : Input) (levels : ℕ) (b : Bound) (at : ℕ) → read i levels (number byte) b at ≡ number_at i byte b at
 unfolding level single_at
 read_byte i levels b at = read_is i levels (number byte) b at
 

@@ -12,9 +12,7 @@ mod writing;
 
 pub use containers::{fields_of, value};
 pub use decoding::decode;
-pub use input::{
-    Bound, Marshalled, bad, byte_at, i16_at, i32_at, i64_at, slice, u16_at, u32_at, u64_at,
-};
+pub use input::{Bound, Marshalled, bad, byte_at, slice, u16_at, u32_at, u64_at};
 pub use laws::{is_read_again, no_front_of_another};
 pub use plain::{padding, room};
 pub use text::{long, short, signature_at};
