@@ -17,3 +17,4 @@ pub mod TypeLemmas
 pub mod TypedLemmas
 pub mod TypedTests
 pub mod Verdicts
+pub mod WalkLemmas

@@ -12,4 +12,5 @@ pub mod SignatureFaults
 pub mod SignatureReading
 pub mod SignatureView
 pub mod Signatures
+pub mod Walks
 pub mod WellTyped

@@ -1,6 +1,7 @@
 //! The four kinds of name: owned texts, each of its rule, and the tests of the rules.
 
 mod bus_name;
+mod classes;
 mod elements;
 mod fault;
 mod interface;

@@ -47,9 +47,9 @@ fn has_elements(bytes: &[u8]) -> bool
         return false;
     }
     if bytes[0] == b':' {
-        are_two_or_more(Form::Unique, b'.', &bytes[1..])
+        are_two_or_more(Form::Unique, &bytes[1..])
     } else {
-        are_two_or_more(Form::WellKnown, b'.', bytes)
+        are_two_or_more(Form::WellKnown, bytes)
     }
 }
 

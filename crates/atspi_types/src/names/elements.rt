@@ -2,8 +2,11 @@
 
 ghost use Rattle.std.specs.Prelude.{◌≡◌};
 ghost use Rattle.std.specs.List.{list_all};
-ghost use Rattle.atspi_types.specs.Elements.{may_begin, may_follow, may_come};
+ghost use Rattle.atspi_types.specs.Elements.{may_begin, may_follow};
+ghost use Rattle.atspi_types.specs.Walks.{separator_of};
 ghost use Rattle.atspi_types.specs.Elements as elements;
+
+use super::classes::class_of;
 
 /// Which bytes the elements of a kind of name have.
 #[derive(Clone, Copy, Debug, PartialEq, Eq)]
@@ -19,6 +22,16 @@ pub enum Form {
 }
 
 impl Form {
+    /// What stands between elements.
+    fn separator(self) -> u8
+        ensures { result ≡ separator_of self }
+    {
+        match self {
+            Form::Path => b'/',
+            Form::Interface | Form::WellKnown | Form::Unique => b'.',
+        }
+    }
+
     /// Whether the byte may stand in an element, behind its first byte.
     fn lets_follow(self, byte: u8) -> bool
         ensures { result ≡ may_follow self byte }
@@ -38,19 +51,6 @@ impl Form {
             Form::Interface | Form::WellKnown => self.lets_follow(byte) && !byte.is_ascii_digit(),
         }
     }
-
-    /// Whether the byte may come next, inside an element or before the first byte of one.
-    fn lets_come(self, separator: u8, inside: bool, byte: u8) -> bool
-        ensures { result ≡ may_come self separator inside byte }
-    {
-        if byte == separator {
-            inside
-        } else if inside {
-            self.lets_follow(byte)
-        } else {
-            self.lets_begin(byte)
-        }
-    }
 }
 
 /// Whether the byte is a letter, a digit or `_`.
@@ -60,26 +60,24 @@ fn is_plain(byte: u8) -> bool
     byte.is_ascii_alphanumeric() || byte == b'_'
 }
 
-/// Whether the bytes are elements of the form with a separator between any two.
-pub fn are_elements(form: Form, separator: u8, bytes: &[u8]) -> bool
-    ensures { result ≡ elements.are_elements form separator bytes.now }
+/// Whether the bytes are elements of the form with its separator between any two.
+pub fn are_elements(form: Form, bytes: &[u8]) -> bool
+    ensures { result ≡ elements.are_elements form (separator_of form) bytes.now }
 {
-    let mut inside = false;
+    let next = form.next_states();
+    let mut state = 0u8;
     for byte in bytes {
-        if !form.lets_come(separator, inside, *byte) {
-            return false;
-        }
-        inside = *byte != separator;
+        state = next[(state + class_of(*byte)) as usize];
     }
-    inside
+    state == 8
 }
 
 /// Whether the bytes are two or more elements of the form with a separator between any two.
 #[tactic(auto, using(crate::proofs::ElementLemmas::many_parts), unfolding(crate::specs::Elements::are_two_or_more))]
-pub fn are_two_or_more(form: Form, separator: u8, bytes: &[u8]) -> bool
-    ensures { result ≡ elements.are_two_or_more form separator bytes.now }
+pub fn are_two_or_more(form: Form, bytes: &[u8]) -> bool
+    ensures { result ≡ elements.are_two_or_more form (separator_of form) bytes.now }
 {
-    are_elements(form, separator, bytes) && bytes.contains(&separator)
+    are_elements(form, bytes) && bytes.contains(&form.separator())
 }
 
 /// Whether each byte may stand behind the first one of an element.

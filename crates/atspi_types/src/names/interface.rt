@@ -36,7 +36,7 @@ impl Model for Interface {
 fn is_rule(bytes: &[u8]) -> bool
     ensures { result ≡ is_interface bytes.now }
 {
-    are_two_or_more(Form::Interface, b'.', bytes) && bytes.len() <= 255
+    are_two_or_more(Form::Interface, bytes) && bytes.len() <= 255
 }
 
 /// Whether the bytes are the name of an interface or of an error (D-Bus Specification, "Valid Names"). It needs no memory.

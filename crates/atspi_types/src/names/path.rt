@@ -38,7 +38,7 @@ fn is_rule(bytes: &[u8]) -> bool
     match bytes {
         [] => false,
         [first, rest @ ..] => {
-            *first == b'/' && (rest.is_empty() || are_elements(Form::Path, b'/', rest))
+            *first == b'/' && (rest.is_empty() || are_elements(Form::Path, rest))
         }
     }
 }
