@@ -38,7 +38,7 @@ pub fn of_nodes()
         ≡ News.Item (record { object = own bus 1; application = own bus 0; parent = own bus 7; index = pos 1; children = pos 3; interfaces = codes "org.a11y.atspi.Accessible" ∷ codes "org.a11y.atspi.Selection" ∷ []; name = []; role = 0; description = []; states = 0 }) }
     ensures moved_button { announcement bus room (Step.Move 3 0 0)
         ≡ News.Item (record { object = own bus 3; application = own bus 0; parent = own bus 0; index = pos 0; children = pos 0; interfaces = codes "org.a11y.atspi.Accessible" ∷ codes "org.a11y.atspi.Action" ∷ []; name = codes "b"; role = 43; description = codes "d"; states = 4112 }) }
-    ensures removed { announcement bus room (Step.Remove 4) ≡ News.ChildRemoved (path_of 1) (pos 1) (path_of 4) }
+    ensures removed { announcement bus room (Step.Remove 5) ≡ News.ChildRemoved (path_of 1) (pos 2) (path_of 5) }
     ensures none_removed { announcement bus room (Step.Remove 99) ≡ News.Nothing }
     ensures none_moved { announcement bus room (Step.Move 99 1 0) ≡ News.Nothing }
 {}
@@ -61,7 +61,7 @@ pub fn of_changes()
 pub fn echoed()
     ensures add { echoes bus room (Step.Add 13 7 1 full_seed) ≡ News.ChildAdded (path_of 13) ∷ [] }
     ensures removed { echoes bus room (Step.Remove 1) ≡ News.Removed (path_of 1) ∷ News.Removed (path_of 6) ∷ News.Removed (path_of 4) ∷ News.Removed (path_of 5) ∷ [] }
-    ensures moved { echoes bus room (Step.Move 4 7 0) ≡ News.ChildRemoved (path_of 1) (pos 1) (path_of 4) ∷ News.Nothing ∷ News.ChildAdded (path_of 4) ∷ [] }
+    ensures moved { echoes bus room (Step.Move 5 7 0) ≡ News.ChildRemoved (path_of 1) (pos 2) (path_of 5) ∷ News.Nothing ∷ News.ChildAdded (path_of 5) ∷ [] }
     ensures others { echoes bus room (Step.SetRole 3 7) ≡ [] }
 {}
 
