@@ -1,5 +1,5 @@
 -- What words ask for, and what is written then.
-use Rattle.std.proofs.Common.{Bool, true, false, IsTrue, ◌≡◌, ℕ, List, [], ◌∷◌, refl, sym, ◌∙◌, inl, inr, Option, Result, Ok, Err, subst, arith}
+use Rattle.std.proofs.Common.{Bool, false, IsTrue, ◌≡◌, ℕ, List, [], ◌∷◌, sym, ◌∙◌, inl, inr, Option, Result, Ok, Err, subst, arith}
 use Rattle.std.proofs.lemmas.Bool.{false≢true}
 use Rattle.std.specs.Prelude.{codes, OnOk, OnErr, MatchResult}
 use Rattle.std.specs.Io.KnownBytes.{Appends}

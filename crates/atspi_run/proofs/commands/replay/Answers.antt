@@ -1,6 +1,6 @@
 use Rattle.std.proofs.Common.{ap, ◌∙◌}
 use Rattle.atspi_run.specs.Input.{is_whole}
-use Rattle.atspi_run.proofs.RunLemmas.{replayed_failed, replayed_long, replayed_memory, replayed_nothing, replayed_refused, replayed_whole, replayed_write}
+use Rattle.atspi_run.proofs.RunLemmas.{replayed_failed, replayed_long, replayed_nothing, replayed_refused, replayed_whole, replayed_write}
 use Rattle.atspi_run.proofs.commands.replay.Goals as goal
 
 pub returns-in_default-clause-replayed : goal.returns-in_default-clause-replayed

@@ -1,4 +1,4 @@
-use Rattle.std.proofs.Common.{ap, ◌∙◌, subst, ℕ}
+use Rattle.std.proofs.Common.{subst, ℕ}
 use Rattle.atspi_run.specs.Words.{Tells}
 use Rattle.atspi_run.proofs.WordLemmas.{tells}
 use Rattle.atspi_run.proofs.words.tell.Goals as goal
