@@ -81,3 +81,50 @@ forgotten_twice g1 g2 g s (r ∷ rs) = rw s (at (g1 r.1) (g2 r.1) refl (forgotte
     at true d e i = i
     at false true e i = rw e i
     at false false e i = rw e (ap (λ x. r ∷ x) i)
+
+-- a number that is in one of two forests, by their counts
+either : (m : ℕ) (x y z : Forest ShapeRow) → count (is_shape m) x + count (is_shape m) y ≡ count (is_shape m) z → has (is_shape m) z ≡ (has (is_shape m) y || has (is_shape m) x)
+either m x y z e = at (has (is_shape m) y) (has (is_shape m) x) (has (is_shape m) z) refl refl refl
+  where
+    at : (b d g : Bool) → has (is_shape m) y ≡ b → has (is_shape m) x ≡ d → has (is_shape m) z ≡ g → g ≡ (b || d)
+    at true d true hy hx hz = refl
+    at true d false hy hx hz = let k = count-has (is_shape m) y hy in let l = has-count (is_shape m) z (omega arith) in cc
+    at false true true hy hx hz = refl
+    at false true false hy hx hz = let k = count-has (is_shape m) x hx in let l = has-count (is_shape m) z (omega arith) in cc
+    at false false false hy hx hz = refl
+    at false false true hy hx hz = none (count (is_shape m) x) refl (count (is_shape m) y) refl (count-has (is_shape m) z hz)
+      where
+        none : (i : ℕ) → count (is_shape m) x ≡ i → (j : ℕ) → count (is_shape m) y ≡ j → 1 ≤ count (is_shape m) z → true ≡ false
+        none (suc i) ei j ej l = let k = has-count (is_shape m) x (omega arith) in cc
+        none zero ei (suc j) ej l = let k = has-count (is_shape m) y (omega arith) in cc
+        none zero ei zero ej l = absurd (omega arith)
+
+-- a removal of a node below n, and then of n, is the removal of n
+pub removed_below : (f : Forest ShapeRow) (n l : ℕ) → (l == n) ≡ false → count (is_shape l) (pick (is_shape n) f) ≡ count (is_shape l) f
+    → after shapes (after shapes f (Remove l)) (Remove n) ≡ after shapes f (Remove n)
+removed_below f n l ne h =
+    ap (λ g. relabel second g) (relabel-take_out first (is_shape n) (is_shape n) (λ a. refl) (take_out (is_shape l) f))
+    ∙ ap (λ g. relabel second (relabel first g)) (outs n l ne f h)
+    ∙ relabel-relabel first second (take_out (is_shape n) f)
+    ∙ relabel-same (λ a. second (first a)) (forgetting_shape (in_subtree shapes n f)) both (take_out (is_shape n) f)
+  where
+    first : ShapeRow → ShapeRow
+    first = forgetting_shape (in_subtree shapes l f)
+
+    second : ShapeRow → ShapeRow
+    second = forgetting_shape (in_subtree shapes n (relabel (forgetting_shape (in_subtree shapes l f)) (take_out (is_shape l) f)))
+
+    still : (m : ℕ) → in_subtree shapes n (relabel (forgetting_shape (in_subtree shapes l f)) (take_out (is_shape l) f)) m ≡ has (is_shape m) (pick (is_shape n) (take_out (is_shape l) f))
+    still m =
+        ap (λ g. has (is_shape m) g) (relabel-pick (forgetting_shape (in_subtree shapes l f)) (is_shape n) (is_shape n) (λ a. refl) (take_out (is_shape l) f))
+        ∙ has-relabel (forgetting_shape (in_subtree shapes l f)) (is_shape m) (is_shape m) (λ a. refl) (pick (is_shape n) (take_out (is_shape l) f))
+
+    gone : (m : ℕ) → in_subtree shapes n f m ≡ (in_subtree shapes l f m || in_subtree shapes n (relabel (forgetting_shape (in_subtree shapes l f)) (take_out (is_shape l) f)) m)
+    gone m =
+        either m (pick (is_shape n) (take_out (is_shape l) f)) (pick (is_shape l) f) (pick (is_shape n) f) (counts n l ne m f h)
+        ∙ ap (λ b. in_subtree shapes l f m || b) (sym (still m))
+
+    both : (a : ShapeRow) → second (first a) ≡ forgetting_shape (in_subtree shapes n f) a
+    both a =
+        ap (λ (rs : List (ℕ × ℕ)). record a { relations = rs })
+        (forgotten_twice (in_subtree shapes l f) (in_subtree shapes n (relabel (forgetting_shape (in_subtree shapes l f)) (take_out (is_shape l) f))) (in_subtree shapes n f) gone a.relations)

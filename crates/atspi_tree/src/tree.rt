@@ -102,6 +102,7 @@ impl Tree {
         requires lawful { IsEdit edit.now }
         ensures exact { GivesSteps result (edit_steps self.now edit.now) }
         ensures so_far { IfOk result (Each IsStepSoFar) }
+        ensures done { IfOk result (Each IsStepDone) }
         ensures applies { IfOk result (AllApply shapes self.now.rows self.now.added) }
     {
         match edit {
@@ -267,6 +268,7 @@ impl Tree {
         requires { IsEdit (Insert parent index seed.now) }
         ensures exact { GivesSteps result (edit_steps self.now (Insert parent index seed.now)) }
         ensures so_far { IfOk result (Each IsStepSoFar) }
+        ensures done { IfOk result (Each IsStepDone) }
         ensures applies { IfOk result (AllApply shapes self.now.rows self.now.added) }
     {
         if let Some(fault) = self.insert_fault(parent, index, seed) {
@@ -307,6 +309,7 @@ impl Tree {
     fn name_steps(&self, node: u32, text: &Text) -> Result<StepList, TreeFault>
         ensures exact { GivesSteps result (edit_steps self.now (Name node text.now)) }
         ensures so_far { IfOk result (Each IsStepSoFar) }
+        ensures done { IfOk result (Each IsStepDone) }
         ensures applies { IfOk result (AllApply shapes self.now.rows self.now.added) }
     {
         if let Some(fault) = self.name_fault(node, text) {
