@@ -5,7 +5,7 @@ use Rattle.atspi_forest.specs.Row.{IsText}
 use Rattle.atspi_forest.specs.declared.contents.FaceData.{FaceData}
 use Rattle.atspi_forest.specs.declared.contents.FaceData.TheVariants.{Chars}
 use Rattle.atspi_forest.specs.declared.edit.Edit.{Edit}
-use Rattle.atspi_forest.specs.declared.edit.Edit.TheVariants.{Move, Focus, Cut, Select, Deselect, Press}
+use Rattle.atspi_forest.specs.declared.edit.Edit.TheVariants.{Move, Focus, Cut, Select, Press}
 use Rattle.atspi_forest.specs.declared.edit.EditFault.{EditFault}
 use Rattle.atspi_forest.specs.declared.step.Step.{Step}
 use Rattle.atspi_forest.specs.declared.step.StepList.{StepList}
@@ -34,6 +34,5 @@ IsEditDone (Move n p i) = ⊥
 IsEditDone (Focus n) = ⊥
 IsEditDone (Cut n from to) = ⊥
 IsEditDone (Select n i) = ⊥
-IsEditDone (Deselect n i) = ⊥
 IsEditDone (Press n i) = ⊥
 IsEditDone _ = Unit {0}

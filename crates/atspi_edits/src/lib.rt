@@ -1,6 +1,7 @@
 //! Edits: which steps an edit of an application's tree makes, or the first reason to refuse it.
 #![tactic(auto)]
 
+mod children;
 mod copies;
 mod fault;
 mod inserts;

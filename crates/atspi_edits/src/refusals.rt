@@ -62,7 +62,7 @@ pub(crate) fn name_fault(tree: &Tree, node: u32, text: &Text) -> Option<EditFaul
 }
 
 /// Whether a node that is there has an interface.
-fn has_face(tree: &Tree, node: u32, face: Face) -> bool
+pub(crate) fn has_face(tree: &Tree, node: u32, face: Face) -> bool
     requires there { has (is_shape node) tree.now.rows ≡ true }
     requires lawful { IsLawful tree.now }
     ensures { lacks_kind (kind_of face) tree.now.rows node ≡ not result }

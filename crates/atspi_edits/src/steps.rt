@@ -3,6 +3,7 @@
 ghost use Rattle.atspi_forest.specs.Edits.{IsEdit};
 ghost use Rattle.atspi_edits.specs.Answers.{GivesSteps, IsEditDone, IsKnown, edit_steps};
 
+use crate::children::deselect;
 use crate::fault::EditRefused;
 use crate::inserts::insert;
 use crate::named::{describe, name, remove, role};
@@ -53,7 +54,7 @@ pub fn steps_of(
         Edit::Focus { .. } => unreachable!(),
         Edit::Cut { .. } => unreachable!(),
         Edit::Select { .. } => unreachable!(),
-        Edit::Deselect { .. } => unreachable!(),
+        Edit::Deselect { node, index } => deselect(alloc, tree, *node, *index),
         Edit::Press { .. } => unreachable!(),
     }
 }

@@ -101,7 +101,11 @@ fn removals_roles_and_states(rt: HostRuntime) -> Result<(), Fail> {
     ] {
         assert!(rt; answer(alloc, &tree, &Edit::Remove { node }, &none)? == due);
     }
-    for (node, role, due) in [(9, 61, Err(EditFault::NoNode)), (1, 61, Ok(0)), (1, 43, Ok(1))] {
+    for (node, role, due) in [
+        (9, 61, Err(EditFault::NoNode)),
+        (1, 61, Ok(0)),
+        (1, 43, Ok(1)),
+    ] {
         assert!(rt; answer(alloc, &tree, &Edit::Role { node, role }, &none)? == due);
     }
     let off = Edit::State {

@@ -46,9 +46,9 @@ module _ (n l : ℕ) (ne : (l == n) ≡ false) where
       at : (b : Bool) → (a.node == n) ≡ b → (d : Bool) → (a.node == l) ≡ d
           → count (is_shape l) (cond b (tree a c (pick (is_shape n) r)) (join (pick (is_shape n) c) (pick (is_shape n) r))) ≡ cond d 1 0 + (count (is_shape l) c + count (is_shape l) r)
           → (count (is_shape l) (pick (is_shape n) c) ≡ count (is_shape l) c
-            → count (is_shape m) (pick (is_shape n) (take_out (is_shape l) c)) + count (is_shape m) (pick (is_shape l) c) ≡ count (is_shape m) (pick (is_shape n) c))
+          → count (is_shape m) (pick (is_shape n) (take_out (is_shape l) c)) + count (is_shape m) (pick (is_shape l) c) ≡ count (is_shape m) (pick (is_shape n) c))
           → (count (is_shape l) (pick (is_shape n) r) ≡ count (is_shape l) r
-            → count (is_shape m) (pick (is_shape n) (take_out (is_shape l) r)) + count (is_shape m) (pick (is_shape l) r) ≡ count (is_shape m) (pick (is_shape n) r))
+          → count (is_shape m) (pick (is_shape n) (take_out (is_shape l) r)) + count (is_shape m) (pick (is_shape l) r) ≡ count (is_shape m) (pick (is_shape n) r))
           → count (is_shape m) (pick (is_shape n) (cond d (take_out (is_shape l) r) (tree a (take_out (is_shape l) c) (take_out (is_shape l) r))))
           + count (is_shape m) (cond d (tree a c (pick (is_shape l) r)) (join (pick (is_shape l) c) (pick (is_shape l) r)))
           ≡ count (is_shape m) (cond b (tree a c (pick (is_shape n) r)) (join (pick (is_shape n) c) (pick (is_shape n) r)))
