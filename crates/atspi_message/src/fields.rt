@@ -1,6 +1,6 @@
 //! The fields of a header.
 
-ghost use Rattle.std.specs.Prelude.{◌≡◌, ◌<◌, ◌≤◌, ◌+◌, length, IfOk};
+ghost use Rattle.std.specs.Prelude.{◌≡◌, ◌<◌, ◌≤◌, ◌+◌, length, None, IfOk};
 ghost use Rattle.std.specs.Int.{w32};
 ghost use Rattle.atspi_types.specs.Kinds.{u32};
 ghost use Rattle.atspi_types.specs.Data.{number_data};
@@ -8,13 +8,13 @@ ghost use Rattle.atspi_types.specs.SignatureReading.{signature_in};
 ghost use Rattle.atspi_marshal.specs.Input.{byte_in};
 ghost use Rattle.atspi_marshal.specs.Faults.{short_in};
 ghost use Rattle.atspi_marshal.specs.Reading.{input_of, Gives, Fails, short_at, signature_body_at};
-ghost use Rattle.atspi_message.specs.Reading.{none_found, slot, is_there, set_at, typed_body_at, typed_at, other_type, reply_at, descriptors_at, known_at, field_at, all_fields_at, has_required};
+ghost use Rattle.atspi_message.specs.Reading.{Found, none_found, slot, is_there, set_at, typed_body_at, typed_at, other_type, reply_at, descriptors_at, known_at, coded_at, field_at, all_fields_at, has_required};
 ghost use Rattle.atspi_message.specs.FieldsView.{found_of, signature_value};
 
 use crate::code::{Code, code_of, letter_of};
 use crate::name::{bus_name, interface, member, path};
 use atspi_marshal::{Bound, Marshalled, bad, byte_at, room, short, signature_at, u32_at, value};
-use atspi_types::{BusName, Interface, Member, Path, ReadFault, Signature, Ty};
+use atspi_types::{BusName, Interface, Member, Path, ReadFault, Signature, Ty, Value};
 use std::alloc::Global;
 
 /// The known fields of a header, as far as they were read.
@@ -153,6 +153,28 @@ fn typed(
 {
     let place = short(input, bound, at)?;
     typed_body(alloc, input, code, place)
+}
+
+/// The place behind a value that was read. The value is let go here and nowhere else, since that takes long to prove.
+fn end_of(read: (Value, usize)) -> usize
+    ensures { result ≡ read.1 }
+{
+    read.1
+}
+
+/// The place behind the field without a meaning whose code stands at a place.
+fn unknown(
+    alloc: Global,
+    input: &Marshalled,
+    bound: Bound,
+    place: usize,
+) -> Result<usize, ReadFault>
+    requires at { place + 1 ≤ bound.end }
+    requires end { (bound.end ≤ length input.now.bytes.now) × (length input.now.bytes.now < 4294967288) }
+    ensures read { (found : Found) → Gives (λ next. (found, next)) result (coded_at (input_of input.now) bound found place None) }
+    ensures within { IfOk result (λ next. (place < next) × (next ≤ bound.end)) }
+{
+    Ok(end_of(value(alloc, input, 62, &Ty::Variant, bound, place + 1)?))
 }
 
 impl Fields {
@@ -309,10 +331,7 @@ impl Fields {
         }
         match code_of(byte) {
             Some(code) => self.known(alloc, input, bound, place, code),
-            None => {
-                let (_, next) = value(alloc, input, 62, &Ty::Variant, bound, place + 1)?;
-                Ok(next)
-            }
+            None => unknown(alloc, input, bound, place),
         }
     }
 

@@ -1,4 +1,5 @@
 use Rattle.std.proofs.Common.{◌≡◌, ◌+◌, ◌-◌, ◌++◌, length, ap, arith}
+use Rattle.std.proofs.lemmas.Grind.{common_steps}
 use Rattle.std.proofs.lemmas.List.{length-append}
 use Rattle.std.proofs.lemmas.Result.{err_from_is_err_and}
 use Rattle.atspi_message.specs.Envelope.{envelope_of}
@@ -24,3 +25,84 @@ returns-clause-fits c =
     let e = envelope_of c.args.message.now in
     let parts : Parts e c.args.out.now c.put_header.new.out c.put_padding.new.out c.put_values.new.out c.in_ok-end.end c.in_ok-place.place c.in_ok-next.next = record { header = c.in_ok-end.ensures.writes; padded = c.in_ok-place.ensures.pads; body = c.in_ok-next.ensures.writes } in
     message_fits e c.args.out.now c.put_header.new.out c.put_padding.new.out c.put_values.new.out c.in_ok-end.end c.in_ok-place.place c.in_ok-next.next parts c.in_ok-end.ensures.widths
+
+pub put_header-requires : goal.put_header-requires
+put_header-requires c = grind (arith, common_steps)
+
+pub returns-in_err-end-clause-ok : goal.returns-in_err-end-clause-ok
+returns-in_err-end-clause-ok c = grind (arith, common_steps)
+
+pub returns-in_err-end-clause-fits : goal.returns-in_err-end-clause-fits
+returns-in_err-end-clause-fits c = grind (arith, common_steps)
+
+pub returns-in_err-end-clause-named : goal.returns-in_err-end-clause-named
+returns-in_err-end-clause-named c = grind (arith, common_steps)
+
+pub returns-in_err-end-clause-big : goal.returns-in_err-end-clause-big
+returns-in_err-end-clause-big c = grind (arith, common_steps)
+
+pub returns-in_err-end-clause-front : goal.returns-in_err-end-clause-front
+returns-in_err-end-clause-front c = grind (arith, common_steps)
+
+pub overflow_sub-index : goal.overflow_sub-index
+overflow_sub-index c = grind (arith, common_steps)
+
+pub overflow_add-index : goal.overflow_add-index
+overflow_add-index c = grind (arith, common_steps)
+
+pub put_padding-requires-clause-align : goal.put_padding-requires-clause-align
+put_padding-requires-clause-align c = grind (arith, common_steps)
+
+pub put_padding-requires-clause-place : goal.put_padding-requires-clause-place
+put_padding-requires-clause-place c = grind (arith, common_steps)
+
+pub returns-in_err-place-clause-ok : goal.returns-in_err-place-clause-ok
+returns-in_err-place-clause-ok c = grind (arith, common_steps)
+
+pub returns-in_err-place-clause-fits : goal.returns-in_err-place-clause-fits
+returns-in_err-place-clause-fits c = grind (arith, common_steps)
+
+pub returns-in_err-place-clause-named : goal.returns-in_err-place-clause-named
+returns-in_err-place-clause-named c = grind (arith, common_steps)
+
+pub returns-in_err-place-clause-big : goal.returns-in_err-place-clause-big
+returns-in_err-place-clause-big c = grind (arith, common_steps)
+
+pub returns-in_err-place-clause-front : goal.returns-in_err-place-clause-front
+returns-in_err-place-clause-front c = grind (arith, common_steps)
+
+pub put_values-requires-clause-place : goal.put_values-requires-clause-place
+put_values-requires-clause-place c = grind (arith, common_steps)
+
+pub put_values-requires-clause-typed : goal.put_values-requires-clause-typed
+put_values-requires-clause-typed c = grind (arith, common_steps)
+
+pub returns-in_err-next-clause-ok : goal.returns-in_err-next-clause-ok
+returns-in_err-next-clause-ok c = grind (arith, common_steps)
+
+pub returns-in_err-next-clause-fits : goal.returns-in_err-next-clause-fits
+returns-in_err-next-clause-fits c = grind (arith, common_steps)
+
+pub returns-in_err-next-clause-named : goal.returns-in_err-next-clause-named
+returns-in_err-next-clause-named c = grind (arith, common_steps)
+
+pub returns-in_err-next-clause-front : goal.returns-in_err-next-clause-front
+returns-in_err-next-clause-front c = grind (arith, common_steps)
+
+pub overflow_sub-next : goal.overflow_sub-next
+overflow_sub-next c = grind (arith, common_steps)
+
+pub overflow_cast-next : goal.overflow_cast-next
+overflow_cast-next c = grind (arith, common_steps)
+
+pub set_u32-requires : goal.set_u32-requires
+set_u32-requires c = grind (arith, common_steps)
+
+pub returns-clause-named : goal.returns-clause-named
+returns-clause-named c = grind (arith, common_steps)
+
+pub returns-clause-big : goal.returns-clause-big
+returns-clause-big c = grind (arith, common_steps)
+
+pub returns-clause-front : goal.returns-clause-front
+returns-clause-front c = grind (arith, common_steps)
