@@ -9,11 +9,13 @@ pub fn counts()
     ensures labels { labels sample ≡ 1 ∷ 2 ∷ 3 ∷ 4 ∷ 5 ∷ 6 ∷ [] }
     ensures spread { spread sample ≡ (0, 0, 1) ∷ (1, 0, 2) ∷ (1, 1, 3) ∷ (3, 0, 4) ∷ (0, 1, 5) ∷ (5, 0, 6) ∷ [] }
     ensures count { count (λ x. nat_lt x 4) sample ≡ 3 }
+    ensures count_behind { count (λ x. nat_lt 3 x) sample ≡ 3 }
     ensures count_none { count (is 7) sample ≡ 0 }
     ensures has { has (is 4) sample ≡ true }
     ensures has_beside { has (is 6) sample ≡ true }
     ensures has_none { has (is 7) sample ≡ false }
     ensures width { width sample ≡ 2 }
+    ensures width_leaves { width pair ≡ 2 }
     ensures width_none { width (children_at (is 2) sample) ≡ 0 }
     ensures tops { tops sample ≡ 1 ∷ 5 ∷ [] }
     ensures join { spread (join (leaf 9) sample) ≡ (0, 0, 9) ∷ (0, 1, 1) ∷ (1, 0, 2) ∷ (1, 1, 3) ∷ (3, 0, 4) ∷ (0, 2, 5) ∷ (5, 0, 6) ∷ [] }

@@ -3,7 +3,7 @@
 
 ghost use Rattle.std.specs.Prelude.{◌≡◌, ◌∷◌, [], pos, negsuc, codes, true, false};
 ghost use Rattle.atspi_forest.specs.Forest.{nil, tree};
-ghost use Rattle.atspi_forest.specs.News.{effect, seat_in, marks_reload, kinds_of};
+ghost use Rattle.atspi_forest.specs.News.{effect, is_seat_at, seat_in, marks_reload, kinds_of};
 ghost use Rattle.atspi_forest.specs.Announce.{Idle};
 ghost use Rattle.atspi_examples.specs.Room.{no_kinds};
 ghost use Rattle.atspi_examples.specs.Seen.{bus, other_bus, path, row, known_row, unknown_row, with_rows, seen, seen_1, seen_2, hear, object, item, renewed_by_item, places, at_root, below, told_by, told_nothing};
@@ -93,6 +93,7 @@ pub fn seats()
     ensures second { seat_in (path 2) seen ≡ Some (Some (path 0), 1) }
     ensures below { seat_in (path 3) seen ≡ Some (Some (path 1), 0) }
     ensures none { seat_in (path 8) seen ≡ None }
+    ensures at_none { is_seat_at (path 0) (pos 0) None ≡ false }
 {}
 
 /// The addition of an unknown child asks for the whole list, and nothing else does.

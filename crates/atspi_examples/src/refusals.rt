@@ -3,7 +3,7 @@
 ghost use Rattle.std.specs.Prelude.{◌≡◌, ◌∷◌, [], ℕ, List, length, true, false, encode_utf8_all};
 ghost use Rattle.atspi_forest.specs.Forest.{Forest, count};
 ghost use Rattle.atspi_forest.specs.Row.{ShapeRow};
-ghost use Rattle.atspi_forest.specs.Edits.{known_text, known_actions, is_full, text_contents, action_contents, contents_read, IsEdit};
+ghost use Rattle.atspi_forest.specs.Edits.{known_text, known_actions, text_length, is_full, text_contents, action_contents, contents_read, IsEdit};
 ghost use Rattle.atspi_examples.specs.Room.{answer, answer_at, nowhere, plain, with_columns, with_text, sign_with, room, button, pressed_button, hello};
 
 use atspi_forest::{Edit, EditFault, FaceData, Step};
@@ -11,6 +11,7 @@ use atspi_forest::{Edit, EditFault, FaceData, Step};
 /// A node that is not there is told before all else.
 pub fn no_node()
     ensures insert { nowhere (Edit.Insert 0 9 (with_columns 0)) ≡ Err EditFault.NoNode }
+    ensures insert_parent { answer (Edit.Insert 99 0 (plain 0 [])) ≡ Err EditFault.NoNode }
     ensures remove { nowhere (Edit.Remove 0) ≡ Err EditFault.NoNode }
     ensures moved { answer (Edit.Move 99 1 9) ≡ Err EditFault.NoNode }
     ensures moved_root { answer (Edit.Move 0 99 9) ≡ Err EditFault.NoNode }
@@ -129,6 +130,7 @@ pub fn askable()
 /// What an edit reads of contents of another kind, or of none.
 pub fn other_contents()
     ensures text { known_text (FaceData.Grid 2) ≡ record { characters = []; caret = 0; selections = [] } }
+    ensures no_text { text_length None ≡ 0 }
     ensures actions { known_actions (FaceData.Grid 2) ≡ [] }
     ensures text_of_none { text_contents None ≡ FaceData.Deeds [] }
     ensures text_of_button { text_contents (Some button) ≡ FaceData.Deeds [] }

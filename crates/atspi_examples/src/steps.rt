@@ -27,6 +27,7 @@ pub fn remove()
 pub fn moves()
     ensures places { nodes (after rows room (Step.Move 1 7 1)) ≡ (None, 0, 0) ∷ (Some 0, 0, 2) ∷ (Some 0, 1, 3) ∷ (Some 0, 2, 7) ∷ (Some 7, 0, 8) ∷ (Some 7, 1, 1) ∷ (Some 1, 0, 6) ∷ (Some 1, 1, 4) ∷ (Some 1, 2, 5) ∷ (Some 7, 2, 9) ∷ (Some 0, 3, 10) ∷ [] }
     ensures among_siblings { nodes (after rows room (Step.Move 6 1 2)) ≡ (None, 0, 0) ∷ (Some 0, 0, 1) ∷ (Some 1, 0, 4) ∷ (Some 1, 1, 5) ∷ (Some 1, 2, 6) ∷ (Some 0, 1, 2) ∷ (Some 0, 2, 3) ∷ (Some 0, 3, 7) ∷ (Some 7, 0, 8) ∷ (Some 7, 1, 9) ∷ (Some 0, 4, 10) ∷ [] }
+    ensures first { nodes (after rows room (Step.Move 4 7 0)) ≡ (None, 0, 0) ∷ (Some 0, 0, 1) ∷ (Some 1, 0, 6) ∷ (Some 1, 1, 5) ∷ (Some 0, 1, 2) ∷ (Some 0, 2, 3) ∷ (Some 0, 3, 7) ∷ (Some 7, 0, 4) ∷ (Some 7, 1, 8) ∷ (Some 7, 2, 9) ∷ (Some 0, 4, 10) ∷ [] }
     ensures row { row_after (Step.Move 1 7 1) 4 ≡ Some (bare 4 4096) }
     ensures targets { row_after (Step.Move 1 7 1) 2 ≡ Some entry }
 {}
