@@ -15,7 +15,8 @@ pub struct TyRef<'a> {
     ghost one: { length (kinds_at codes.now) ≡ 1 },
 }
 
-/// Several lawful types within the limits of a signature, or none, as the codes that spell them. It is its own iterator.
+/// Several lawful types within the limits of a signature, or none, as the codes that spell them: `next` hands out the first and
+/// keeps the others.
 #[derive(Clone, Copy)]
 pub struct TysRef<'a> {
     codes: &'a [u8],
