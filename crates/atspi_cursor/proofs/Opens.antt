@@ -1,27 +1,30 @@
 -- Arrays, structs and texts that were read, opened.
-use Rattle.std.proofs.Common.{◌≡◌, ℕ, zero, suc, ◌+◌, ◌-◌, ◌≤◌, Bool, true, false, cond, List, [], ◌∷◌, length, map, Result, Ok, Err, IsUtf8, chars, refl, sym, ap, subst, ◌∙◌, arith}
+use Rattle.std.proofs.Common.{◌≡◌, ℕ, zero, suc, ◌+◌, ◌-◌, ◌≤◌, ◌<◌, Bool, true, false, cond, List, [], ◌∷◌, length, map, Result, Ok, Err, IsUtf8, chars, refl, sym, ap, subst, ◌∙◌, arith}
 use Rattle.std.specs.Prelude.{◌==◌, ◌&&◌, nat_lt}
 use Rattle.std.specs.Int.{w32, byte_len}
+use Rattle.std.proofs.lemmas.Bool.{lt-ltb}
 use Rattle.std.proofs.lemmas.Str.{chars-encodes}
+use Rattle.atspi_cursor.proofs.Passes.{pair_passes}
+use Rattle.atspi_cursor.specs.Passing.{after}
 use Rattle.atspi_base.specs.ReadsText.{text_in}
 use Rattle.atspi_base.proofs.TextLemmas.{text_is}
 use Rattle.atspi_base.specs.declared.text.TextFault.{TextFault}
 use Rattle.atspi_base.specs.declared.text.TextFault.TheVariants.{Zero, Utf8, NoMemory}
-use Rattle.atspi_types.specs.Kinds.{Num, width, number_alignment, Kind, number, boolean, text, path, signature, array, structure, variant, byte, kinds_of, alignment}
+use Rattle.atspi_types.specs.Kinds.{Num, width, number_alignment, Kind, number, boolean, text, path, signature, array, structure, variant, dictionary, byte, kinds_of, alignment}
 use Rattle.atspi_types.specs.Names.{is_path}
 use Rattle.atspi_types.specs.SignatureReading.{signature_in}
-use Rattle.atspi_types.specs.Data.{Data, number_data, boolean_data, text_data, path_data, array_data, structure_data, variant_data, signature_data, items_of}
+use Rattle.atspi_types.specs.Data.{Data, number_data, boolean_data, text_data, path_data, array_data, structure_data, variant_data, signature_data, dictionary_data, items_of}
 use Rattle.atspi_types.specs.declared.fault.Fault.{Fault}
 use Rattle.atspi_marshal.specs.declared.input.Bound.{Bound}
 use Rattle.atspi_marshal.specs.Input.{Input, number_in, byte_in, slice_in, aligned}
-use Rattle.atspi_marshal.specs.Faults.{inside, long_in, short_in}
-use Rattle.atspi_marshal.specs.Reading.{◌>>=◌, bad, Reader, padding_at, room_at, number_at, boolean_at, text_with, text_body_at, path_body_at, long_place, long_at, elements_at, as_array, array_place, array_body_at, array_at, unless_deep, fields_at, as_structure, structure_at, single_at, first_in, deep_at, short_place, short_at, signature_with, signature_body_at, inner_at, as_variant, variant_with, variant_body_at, level, read}
+use Rattle.atspi_marshal.specs.Faults.{entry_kind, inside, long_in, short_in}
+use Rattle.atspi_marshal.specs.Reading.{◌>>=◌, bad, Reader, padding_at, room_at, number_at, boolean_at, text_with, text_body_at, path_body_at, long_place, long_at, put_first, elements_at, fields_first, struct_of, as_array, as_dictionary, entries_in, dictionary_body_at, dictionary_at, array_place, array_body_at, array_at, unless_deep, fields_at, as_structure, structure_at, single_at, first_in, deep_at, short_place, short_at, signature_with, signature_body_at, inner_at, as_variant, variant_with, variant_body_at, level, read}
 use Rattle.atspi_marshal.proofs.ByteArrays.{bytes_elements, read_byte}
 use Rattle.atspi_marshal.proofs.Places.{aligned-one}
 use Rattle.atspi_marshal.proofs.Levels.{read_is, types_in-kinds_of}
 use Rattle.atspi_codes.specs.Codes.{leaf_of}
 use Rattle.atspi_cursor.specs.Known.{is_read, read_data, read_list, read_fields}
-use Rattle.atspi_cursor.proofs.Knows.{padding_place, room_place, long_is, short_is, array_is}
+use Rattle.atspi_cursor.proofs.Knows.{entered, padding_place, room_place, long_is, short_is, array_is}
 
 bind_value : {A B : Type 0} (r : Result A Fault) (f : A → Result B Fault) → is_read (r >>= f) ≡ true → (x : A) × (r ≡ Ok x) × ((r >>= f) ≡ f x)
 bind_value (Ok x) f h = (x, refl, refl)
@@ -400,3 +403,150 @@ bytes_opened i n k b at p m e f g long h =
     let all = bytes_elements i (ends_at (start + m)) (read i (n - 1) (number byte) (ends_at (start + m))) (read_byte i (n - 1) (ends_at (start + m))) m start (omega arith) (omega (arith, o.within, long)) (omega arith) in
     let len : start + m - start ≡ m = omega arith in
     (o.within, o.data_is ∙ (ap (λ (r : Result (List Data) Fault). array_data (number byte) (items_of (read_list r))) all ∙ ap (λ (l : ℕ). array_data (number byte) (items_of (map (number_data byte) (slice_in i start l)))) len))
+
+-- the first of some elements, and those behind it
+pub element_known : (one : ℕ → Result (Data × ℕ) Fault) (end left at : ℕ) → (left ≡ 0 → ⊥) → at < end → is_read (elements_at one end left at) ≡ true → is_read (one at) ≡ true
+element_known one end zero at some lt h = absurd (some refl)
+element_known one end (suc left) at some lt h = by (one at) (rw (lt-ltb at end lt) at h)
+  where
+    by : (r : Result (Data × ℕ) Fault) → is_read (r >>= λ x. elements_at one end left x.1 >>= put_first x.0) ≡ true → is_read r ≡ true
+    by (Ok x) h = refl
+    by (Err f) h = absurd cc
+
+pub record Come (one : ℕ → Result (Data × ℕ) Fault) (end left at next : ℕ) : Type 0 where
+  pub known : is_read (elements_at one end (left - 1) next) ≡ true
+  pub data_is : read_list (elements_at one end left at) ≡ read_data (one at) ∷ read_list (elements_at one end (left - 1) next)
+
+put_known : (d : Data) (r : Result (List Data) Fault) → is_read (r >>= put_first d) ≡ true → (is_read r ≡ true) × (read_list (r >>= put_first d) ≡ d ∷ read_list r)
+put_known d (Ok ds) h = (refl, refl)
+put_known d (Err f) h = absurd cc
+
+pub elements_come : (one : ℕ → Result (Data × ℕ) Fault) (end left at next : ℕ) → (left ≡ 0 → ⊥) → at < end → is_read (elements_at one end left at) ≡ true → after (one at) ≡ Ok next → Come one end left at next
+elements_come one end zero at next some lt h e = absurd (some refl)
+elements_come one end (suc left) at next some lt h e =
+    let less : suc left - 1 ≡ left = omega arith in
+    let t = by (one at) (rw (lt-ltb at end lt) at h) e in
+    record { known = rw less t.0; data_is = rw (less, lt-ltb at end lt) t.1 }
+  where
+    by : (r : Result (Data × ℕ) Fault) → is_read (r >>= λ x. elements_at one end left x.1 >>= put_first x.0) ≡ true → after r ≡ Ok next
+        → (is_read (elements_at one end left next) ≡ true) × (read_list (r >>= λ x. elements_at one end left x.1 >>= put_first x.0) ≡ read_data r ∷ read_list (elements_at one end left next))
+    by (Err f) h e = absurd cc
+    by (Ok x) h e =
+        let is : x.1 ≡ next = cc in
+        let t = put_known x.0 (elements_at one end left x.1) h in (
+          subst (λ (q : ℕ). is_read (elements_at one end left q) ≡ true) is t.0,
+          subst (λ (q : ℕ). read_list (elements_at one end left x.1 >>= put_first x.0) ≡ x.0 ∷ read_list (elements_at one end left q)) is t.1,
+        )
+
+-- an entry: a key, and a value behind it
+pub record OpenedKey (i : Input) (n : ℕ) (k v : Kind) (b : Bound) (p : ℕ) : Type 0 where
+  pub some : 1 ≤ n
+  pub within : p ≤ b.end
+  pub known : is_read (read i (n - 1) k b p) ≡ true
+
+first_known : (one : Kind → ℕ → Result (Data × ℕ) Fault) (k : Kind) (ks : List Kind) (p : ℕ) → is_read (fields_at one (k ∷ ks) p) ≡ true → is_read (one k p) ≡ true
+first_known one k ks p h = by (one k p) h
+  where
+    by : (r : Result (Data × ℕ) Fault) → is_read (r >>= λ x. fields_at one ks x.1 >>= fields_first x.0) ≡ true → is_read r ≡ true
+    by (Ok x) h = refl
+    by (Err f) h = absurd cc
+
+pub key_opened : (i : Input) (n : ℕ) (k v : Kind) (b : Bound) (at p : ℕ) → p ≡ aligned 8 at → is_read (read i n (entry_kind k v) b at) ≡ true → OpenedKey i n k v b p
+key_opened i n k v b at p e h =
+    let o = struct_opened i n (entry_kind k v) (k ∷ v ∷ []) b at p refl e h in
+    record { some = o.some; within = o.within; known = first_known (λ j q. read i (n - 1) j b q) k (v ∷ []) p o.known }
+
+pub record OpenedPair (i : Input) (n : ℕ) (k v : Kind) (b : Bound) (at p q : ℕ) : Type 0 where
+  pub known : is_read (read i (n - 1) v b q) ≡ true
+  pub place : after (read i n (entry_kind k v) b at) ≡ after (read i (n - 1) v b q)
+  pub data_is : read_data (read i n (entry_kind k v) b at) ≡ struct_of (read_data (read i (n - 1) k b p)) (read_data (read i (n - 1) v b q))
+
+last_known : (d : Data) (r : Result (Data × ℕ) Fault) → is_read ((r >>= λ y. fields_first y.0 ([], y.1)) >>= fields_first d) ≡ true
+    → (is_read r ≡ true) × (read_fields ((r >>= λ y. fields_first y.0 ([], y.1)) >>= fields_first d) ≡ d ∷ read_data r ∷ [])
+last_known d (Ok y) h = (refl, refl)
+last_known d (Err f) h = absurd cc
+
+pair_known : (one : Kind → ℕ → Result (Data × ℕ) Fault) (k v : Kind) (p q : ℕ) → is_read (fields_at one (k ∷ v ∷ []) p) ≡ true → after (one k p) ≡ Ok q
+    → (is_read (one v q) ≡ true) × (read_fields (fields_at one (k ∷ v ∷ []) p) ≡ read_data (one k p) ∷ read_data (one v q) ∷ [])
+pair_known one k v p q h e = by (one k p) h e
+  where
+    by : (r : Result (Data × ℕ) Fault) → is_read (r >>= λ x. (one v x.1 >>= λ y. fields_first y.0 ([], y.1)) >>= fields_first x.0) ≡ true → after r ≡ Ok q
+        → (is_read (one v q) ≡ true) × (read_fields (r >>= λ x. (one v x.1 >>= λ y. fields_first y.0 ([], y.1)) >>= fields_first x.0) ≡ read_data r ∷ read_data (one v q) ∷ [])
+    by (Err f) h e = absurd cc
+    by (Ok x) h e =
+        let is : x.1 ≡ q = cc in
+        let t = last_known x.0 (one v x.1) h in (
+          subst (λ (s : ℕ). is_read (one v s) ≡ true) is t.0,
+          subst (λ (s : ℕ). read_fields ((one v x.1 >>= λ y. fields_first y.0 ([], y.1)) >>= fields_first x.0) ≡ x.0 ∷ read_data (one v s) ∷ []) is t.1,
+        )
+
+pub pair_opened : (i : Input) (n : ℕ) (k v : Kind) (b : Bound) (at p q : ℕ) → p ≡ aligned 8 at → is_read (read i n (entry_kind k v) b at) ≡ true → after (read i (n - 1) k b p) ≡ Ok q → OpenedPair i n k v b at p q
+pair_opened i n k v b at p q e h first =
+    let one = λ (j : Kind) (s : ℕ). read i (n - 1) j b s in
+    let o = struct_opened i n (entry_kind k v) (k ∷ v ∷ []) b at p refl e h in
+    let t = pair_known one k v p q o.known first in
+    let g = entered i n (entry_kind k v) (k ∷ v ∷ []) b at p refl e (known_after (read i n (entry_kind k v) b at) h) in
+    record {
+      known = t.0;
+      place = g.place ∙ pair_passes one k v p q first;
+      data_is = o.data_is ∙ ap (λ (ds : List Data). structure_data (items_of ds)) t.1;
+    }
+  where
+    known_after : (r : Result (Data × ℕ) Fault) → is_read r ≡ true → is_read (after r) ≡ true
+    known_after (Ok x) h = refl
+    known_after (Err f) h = absurd cc
+
+-- a dictionary is an array of entries
+dictionary_value : (k v : Kind) (end : ℕ) (r : Result (List Data) Fault) → is_read ((r >>= as_array (entry_kind k v) end) >>= as_dictionary k v) ≡ true
+    → (is_read r ≡ true) × (read_data ((r >>= as_array (entry_kind k v) end) >>= as_dictionary k v) ≡ dictionary_data k v (entries_in (items_of (read_list r))))
+dictionary_value k v end (Ok ds) h = (refl, refl)
+dictionary_value k v end (Err f) h = absurd cc
+
+entries_opened : (below : Reader) (i : Input) (k v : Kind) (p : ℕ) → is_read (dictionary_body_at below i k v p) ≡ true
+    → (is_read (elements_at (below (entry_kind k v) (inside (entry_kind k v) p (number_in i w32 p))) (inside (entry_kind k v) p (number_in i w32 p)).end (number_in i w32 p) (aligned 8 (p + 4))) ≡ true)
+    × (read_data (dictionary_body_at below i k v p) ≡ dictionary_data k v (entries_in (items_of (read_list (elements_at (below (entry_kind k v) (inside (entry_kind k v) p (number_in i w32 p))) (inside (entry_kind k v) p (number_in i w32 p)).end (number_in i w32 p) (aligned 8 (p + 4)))))))
+unfolding array_body_at
+entries_opened below i k v p h =
+    let j = entry_kind k v in
+    let n = number_in i w32 p in
+    let end = (inside j p n).end in
+    by j n end (padding_at i 8 (inside j p n) (p + 4)) refl h
+  where
+    by : (j : Kind) (n end : ℕ) (r : Result ℕ Fault) → padding_at i 8 (inside (entry_kind k v) p (number_in i w32 p)) (p + 4) ≡ r
+        → is_read ((r >>= λ s. elements_at (below (entry_kind k v) (inside (entry_kind k v) p (number_in i w32 p))) (inside (entry_kind k v) p (number_in i w32 p)).end (number_in i w32 p) s >>= as_array (entry_kind k v) (inside (entry_kind k v) p (number_in i w32 p)).end) >>= as_dictionary k v) ≡ true
+        → (is_read (elements_at (below (entry_kind k v) (inside (entry_kind k v) p (number_in i w32 p))) (inside (entry_kind k v) p (number_in i w32 p)).end (number_in i w32 p) (aligned 8 (p + 4))) ≡ true)
+        × (read_data ((r >>= λ s. elements_at (below (entry_kind k v) (inside (entry_kind k v) p (number_in i w32 p))) (inside (entry_kind k v) p (number_in i w32 p)).end (number_in i w32 p) s >>= as_array (entry_kind k v) (inside (entry_kind k v) p (number_in i w32 p)).end) >>= as_dictionary k v)
+        ≡ dictionary_data k v (entries_in (items_of (read_list (elements_at (below (entry_kind k v) (inside (entry_kind k v) p (number_in i w32 p))) (inside (entry_kind k v) p (number_in i w32 p)).end (number_in i w32 p) (aligned 8 (p + 4)))))))
+    by j n end (Err f) e h = absurd cc
+    by j n end (Ok s) e h =
+        let t = padding_place i 8 (inside (entry_kind k v) p (number_in i w32 p)) (p + 4) s e in
+        let o = dictionary_value k v (inside (entry_kind k v) p (number_in i w32 p)).end (elements_at (below (entry_kind k v) (inside (entry_kind k v) p (number_in i w32 p))) (inside (entry_kind k v) p (number_in i w32 p)).end (number_in i w32 p) s) h in
+        (subst (λ (q : ℕ). is_read (elements_at (below (entry_kind k v) (inside (entry_kind k v) p (number_in i w32 p))) (inside (entry_kind k v) p (number_in i w32 p)).end (number_in i w32 p) q) ≡ true) t.0 o.0, o.1 ∙ ap (λ (q : ℕ). dictionary_data k v (entries_in (items_of (read_list (elements_at (below (entry_kind k v) (inside (entry_kind k v) p (number_in i w32 p))) (inside (entry_kind k v) p (number_in i w32 p)).end (number_in i w32 p) q))))) t.0)
+
+pub record OpenedDictionary (i : Input) (n : ℕ) (d k v : Kind) (b : Bound) (at m start : ℕ) : Type 0 where
+  pub some : 1 ≤ n
+  pub within : start + m ≤ b.end
+  pub known : is_read (elements_at (read i (n - 1) (entry_kind k v) (ends_at (start + m))) (start + m) m start) ≡ true
+  pub data_is : read_data (read i n d b at) ≡ dictionary_data k v (entries_in (items_of (read_list (elements_at (read i (n - 1) (entry_kind k v) (ends_at (start + m))) (start + m) m start))))
+
+dictionary_here : (i : Input) (n : ℕ) (k v : Kind) (b : Bound) (at : ℕ) → is_read (read i n (dictionary k v) b at) ≡ true
+    → OpenedDictionary i n (dictionary k v) k v b at (number_in i w32 (aligned 4 at)) (aligned 8 (aligned 4 at + 4))
+unfolding level single_at dictionary_at
+dictionary_here i n k v b at h =
+    let below = read i (n - 1) in
+    let same : read i n (dictionary k v) b at ≡ dictionary_at (n == 0) below i k v b at = rw read_is refl in
+    let a = bind_value (array_place i 8 b at) (unless_deep (n == 0) (dictionary_body_at below i k v)) (rw (← same) h) in
+    let t = array_is i 8 b at a.0 a.1 in
+    let d = deep_value (n == 0) (dictionary_body_at below i k v) a.0 (rw (← a.2, ← same) h) in
+    let known : is_read (dictionary_body_at below i k v a.0) ≡ true = rw (← d.1, ← a.2, ← same) h in
+    let o = entries_opened below i k v (aligned 4 at) (subst (λ (q : ℕ). is_read (dictionary_body_at below i k v q) ≡ true) t.0 known) in
+    record {
+      some = not_deep n d.0;
+      within = subst (λ (q : ℕ). aligned 8 (q + 4) + number_in i w32 q ≤ b.end) t.0 t.1;
+      known = o.0;
+      data_is = ap read_data (same ∙ (a.2 ∙ (d.1 ∙ ap (dictionary_body_at below i k v) t.0))) ∙ o.1;
+    }
+
+pub dictionary_opened : (i : Input) (n : ℕ) (d k v : Kind) (b : Bound) (at p m start : ℕ) → d ≡ dictionary k v → p ≡ aligned 4 at → m ≡ number_in i w32 p → start ≡ aligned 8 (p + 4) → is_read (read i n d b at) ≡ true
+    → OpenedDictionary i n d k v b at m start
+dictionary_opened i n d k v b at p m start e f g s h = rw (s, g, f, e) (dictionary_here i n k v b at (rw (← e) h))

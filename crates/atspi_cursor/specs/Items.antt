@@ -4,12 +4,15 @@ use Rattle.atspi_types.specs.Kinds.{Kind}
 use Rattle.atspi_types.specs.Data.{Data}
 use Rattle.atspi_types.specs.declared.fault.Fault.{Fault}
 use Rattle.atspi_codes.specs.TyRefs.{ref_kind, refs_kinds}
-use Rattle.atspi_marshal.specs.Reading.{input_of, read, elements_at}
+use Rattle.atspi_marshal.specs.Faults.{entry_kind}
+use Rattle.atspi_marshal.specs.Reading.{input_of, read, elements_at, struct_of}
 use Rattle.atspi_cursor.specs.Known.{read_data, read_list, read_fields}
 use Rattle.atspi_cursor.specs.Passing.{read_all}
 use Rattle.atspi_cursor.specs.declared.cursor.Item.{Item}
 use Rattle.atspi_cursor.specs.declared.cursor.Elements.{Elements}
 use Rattle.atspi_cursor.specs.declared.cursor.Fields.{Fields}
+use Rattle.atspi_cursor.specs.declared.cursor.Entries.{Entries}
+use Rattle.atspi_cursor.specs.declared.cursor.Entry.{Entry}
 
 -- the value, and its type
 abbrev pub item_data : Item → Data
@@ -41,3 +44,18 @@ Comes None old new = (old ≡ []) × (new ≡ [])
 abbrev pub fields_read : Result (Fields × ℕ) Fault → Result (List Data × ℕ) Fault
 fields_read (Ok x) = Ok (fields_data x.0, x.1)
 fields_read (Err f) = Err f
+
+-- the entries that are left, as structs of a key and a value, and the types of those
+abbrev pub entries_data : Entries → List Data
+entries_data e = read_list (elements_at (read (input_of e.input) e.levels (entry_kind (ref_kind e.key) (ref_kind e.value)) e.inside) e.inside.end e.left e.at)
+
+abbrev pub key_kind : Entries → Kind
+key_kind e = ref_kind e.key
+
+abbrev pub value_kind : Entries → Kind
+value_kind e = ref_kind e.value
+
+-- the first of the entries, and those behind it
+abbrev pub EntryComes : Option Entry → List Data → List Data → Type 0
+EntryComes (Some e) old new = old ≡ struct_of (item_data e.key) (item_data e.value) ∷ new
+EntryComes None old new = (old ≡ []) × (new ≡ [])

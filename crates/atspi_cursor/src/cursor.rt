@@ -4,6 +4,7 @@ ghost use Rattle.std.specs.Prelude.{◌≡◌, ◌<◌, ◌≤◌, ◌↔◌, le
 ghost use Rattle.atspi_types.specs.Kinds.{array, number, byte};
 ghost use Rattle.atspi_codes.specs.TyRefs.{ref_kind, refs_kinds};
 ghost use Rattle.atspi_marshal.specs.Reading.{input_of, read, elements_at};
+ghost use Rattle.atspi_marshal.specs.Faults.{entry_kind};
 ghost use Rattle.atspi_cursor.specs.Known.{is_read};
 ghost use Rattle.atspi_cursor.specs.Passing.{read_all};
 
@@ -38,6 +39,27 @@ pub struct Elements<'a> {
     at: usize,
     ghost within: { (at ≤ inside.end) × (inside.end ≤ length input.bytes.now) × (length input.bytes.now < 4294967288) },
     ghost known: { IsTrue (is_read (elements_at (read (input_of input) levels (ref_kind ty) inside) inside.end left at)) },
+}
+
+/// The entries of a dictionary that are left.
+#[derive(Clone, Copy)]
+pub struct Entries<'a> {
+    input: Marshalled<'a>,
+    key: TyRef<'a>,
+    value: TyRef<'a>,
+    levels: u8,
+    inside: Bound,
+    left: usize,
+    at: usize,
+    ghost within: { (at ≤ inside.end) × (inside.end ≤ length input.bytes.now) × (length input.bytes.now < 4294967288) },
+    ghost known: { IsTrue (is_read (elements_at (read (input_of input) levels (entry_kind (ref_kind key) (ref_kind value)) inside) inside.end left at)) },
+}
+
+/// An entry of a dictionary.
+#[derive(Clone, Copy)]
+pub struct Entry<'a> {
+    pub key: Item<'a>,
+    pub value: Item<'a>,
 }
 
 /// The values of a body, or the fields of a struct, that are left.
@@ -163,13 +185,57 @@ impl<'a> Elements<'a> {
     }
 }
 
+impl<'a> Entries<'a> {
+    ghost use Rattle.std.specs.Prelude.{IfSome};
+    ghost use Rattle.atspi_cursor.specs.Items.{item_kind, entries_data, key_kind, value_kind, EntryComes};
+
+    /// The next entry. Behind it stand the others; where there is none, none comes later.
+    pub fn next(&mut self) -> Option<Entry<'a>>
+        ensures comes { EntryComes result (entries_data self.old) (entries_data self.new) }
+        ensures types { IfSome result (λ e. (item_kind e.key ≡ key_kind self.old) × (item_kind e.value ≡ value_kind self.old) × (key_kind self.new ≡ key_kind self.old) × (value_kind self.new ≡ value_kind self.old)) }
+        ensures levels { IfSome result (λ e. (e.key.levels < self.old.levels) × (e.value.levels < self.old.levels) × (self.new.levels ≡ self.old.levels) × (self.new.left < self.old.left)) }
+    {
+        let left = self.left;
+        if left == 0 {
+            return None;
+        }
+        let at = self.at;
+        let inside = self.inside;
+        if at == inside.end {
+            return None;
+        }
+        let place = align_up(8, at);
+        let levels = self.levels - 1;
+        let key = Item {
+            input: self.input,
+            ty: self.key,
+            levels,
+            bound: inside,
+            at: place,
+        };
+        let between = jump(&self.input, levels, self.key, inside, place);
+        let value = Item {
+            input: self.input,
+            ty: self.value,
+            levels,
+            bound: inside,
+            at: between,
+        };
+        let next = jump(&self.input, levels, self.value, inside, between);
+        self.left = left - 1;
+        self.at = next;
+        Some(Entry { key, value })
+    }
+}
+
 impl<'a> Item<'a> {
     ghost use Rattle.std.specs.Prelude.{◌↔◌, IfSome, IsSome, chars, map};
     ghost use Rattle.std.specs.Int.{w16, w32, w64, cast_unsigned};
     ghost use Rattle.atspi_types.specs.Kinds.{byte, i16, u16, i32, u32, i64, u64, double, number, boolean, text, path, signature, array, variant, kinds_of};
-    ghost use Rattle.atspi_types.specs.Data.{variant_data, signature_data, array_data, structure_data, number_data, boolean_data, text_data, path_data, items_of};
-    ghost use Rattle.atspi_codes.specs.Codes.{is_array, is_structure};
-    ghost use Rattle.atspi_cursor.specs.Items.{item_data, item_kind, elements_data, elements_kind, fields_data, fields_kinds};
+    ghost use Rattle.atspi_types.specs.Data.{variant_data, signature_data, dictionary_data, array_data, structure_data, number_data, boolean_data, text_data, path_data, items_of};
+    ghost use Rattle.atspi_codes.specs.Codes.{is_array, is_structure, is_dictionary};
+    ghost use Rattle.atspi_marshal.specs.Reading.{entries_in};
+    ghost use Rattle.atspi_cursor.specs.Items.{item_data, item_kind, elements_data, elements_kind, entries_data, key_kind, value_kind, fields_data};
 
     /// The type of the value.
     pub fn ty(self) -> TyRef<'a>
@@ -193,6 +259,34 @@ impl<'a> Item<'a> {
                 Some(Elements {
                     input: self.input,
                     ty: element,
+                    levels: self.levels - 1,
+                    inside: Bound {
+                        end: start + len,
+                        reason: 18,
+                    },
+                    left: len,
+                    at: start,
+                })
+            }
+        }
+    }
+
+    /// The entries, exactly where it is a dictionary.
+    pub fn entries(self) -> Option<Entries<'a>>
+        ensures is { IsSome result ↔ IsTrue (is_dictionary (item_kind self.entry)) }
+        ensures entries { IfSome result (λ es. item_data self.entry ≡ dictionary_data (key_kind es) (value_kind es) (entries_in (items_of (entries_data es)))) }
+        ensures levels { IfSome result (λ es. es.levels < self.entry.levels) }
+    {
+        match self.ty.entry() {
+            None => None,
+            Some(entry) => {
+                let place = align_up(4, self.at);
+                let len = u32_at(&self.input, place) as usize;
+                let start = align_up(8, place + 4);
+                Some(Entries {
+                    input: self.input,
+                    key: entry.key,
+                    value: entry.value,
                     levels: self.levels - 1,
                     inside: Bound {
                         end: start + len,

@@ -7,6 +7,6 @@ mod passing;
 mod plain;
 mod text;
 
-pub use cursor::{Elements, Fields, Item};
+pub use cursor::{Elements, Entries, Entry, Fields, Item};
 pub use jumping::jump;
 pub use passing::{fields, pass};
