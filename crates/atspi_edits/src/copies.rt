@@ -1,9 +1,9 @@
-//! Copies of steps.
+//! Copies of steps and items.
 
 ghost use Rattle.std.specs.Prelude.{◌≡◌, IfOk};
 
 use atspi_base::{NoMemory, Text};
-use atspi_forest::{Seed, Step};
+use atspi_forest::{Item, Reference, Seed, Step};
 use std::alloc::Global;
 
 /// An equal step.
@@ -102,4 +102,35 @@ fn copy_text(alloc: Global, text: &Option<Text>) -> Result<Option<Text>, NoMemor
         None => Ok(None),
         Some(text) => Ok(Some(text.copy(alloc)?)),
     }
+}
+
+/// An equal reference.
+fn copy_reference(alloc: Global, reference: &Reference) -> Result<Reference, NoMemory>
+    ensures { IfOk result (λ r. r ≡ reference.now) }
+{
+    Ok(Reference {
+        bus: reference.bus.copy(alloc)?,
+        path: reference.path.copy(alloc)?,
+    })
+}
+
+/// An equal item.
+pub fn copy_item(alloc: Global, item: &Item) -> Result<Item, NoMemory>
+    ensures { IfOk result (λ i. i ≡ item.now) }
+{
+    let object = copy_reference(alloc, &item.object)?;
+    let application = copy_reference(alloc, &item.application)?;
+    let parent = copy_reference(alloc, &item.parent)?;
+    Ok(Item {
+        object,
+        application,
+        parent,
+        index: item.index,
+        children: item.children,
+        interfaces: item.interfaces.copy(alloc)?,
+        name: item.name.copy(alloc)?,
+        role: item.role,
+        description: item.description.copy(alloc)?,
+        states: item.states,
+    })
 }

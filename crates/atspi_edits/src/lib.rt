@@ -13,6 +13,6 @@ mod states;
 mod steps;
 mod texts;
 
-pub use copies::{copy_seed, copy_step};
+pub use copies::{copy_item, copy_seed, copy_step};
 pub use fault::EditRefused;
 pub use steps::steps_of;
