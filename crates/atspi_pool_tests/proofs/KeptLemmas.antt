@@ -17,8 +17,8 @@ kept_none a = record { used = λ q is. is; count = refl }
 
 pub all_pushed : (old new : Store) (numbers : List ℕ) (n : ℕ) → ((q : ℕ) → IsSome (chain_at old q) → IsSome (chain_at new q)) → IsSome (chain_at new n) → AllUsed old numbers → AllUsed new (numbers ++ n ∷ [])
 all_pushed old new numbers n keeps here used = λ k lt. elim (cases_lt k (length numbers)) [
-    | inl l ↦ subst (λ i. IsSome (chain_at new i)) (sym (get_or_append_left numbers (n ∷ []) 0 k l)) (keeps (get_or numbers k 0) (used k l))
-    | inr g ↦
-        let e : length numbers ≡ k = omega (arith, length_push numbers n) in
-        subst (λ i. IsSome (chain_at new i)) (sym (get_or_push numbers n 0 k e)) here
-  ]
+  | inl l ↦ subst (λ i. IsSome (chain_at new i)) (sym (get_or_append_left numbers (n ∷ []) 0 k l)) (keeps (get_or numbers k 0) (used k l))
+  | inr g ↦
+      let e : length numbers ≡ k = omega (arith, length_push numbers n) in
+      subst (λ i. IsSome (chain_at new i)) (sym (get_or_push numbers n 0 k e)) here
+]
