@@ -31,7 +31,7 @@ pub fn push(rt: &impl Abort, pool: &mut Pool, chain: u32, bytes: &[u8])
     pool.push(chain, bytes).expect(rt, "memory");
 }
 
-/// Drops the first bytes, at most as many as the front has.
+/// Drops the first bytes, at most as many as the chain has.
 pub fn pop(rt: &impl Abort, pool: &mut Pool, chain: u32, n: u32)
     requires { IsSome (chain_at pool.old chain) }
     ensures { KeepsChains pool.old pool.new }
@@ -40,7 +40,7 @@ pub fn pop(rt: &impl Abort, pool: &mut Pool, chain: u32, n: u32)
     pool.pop(chain, n);
 }
 
-/// Drops the last bytes.
+/// Drops the last bytes, at most as many as the chain has.
 pub fn cut_back(rt: &impl Abort, pool: &mut Pool, chain: u32, n: u32)
     requires { IsSome (chain_at pool.old chain) }
     ensures { KeepsChains pool.old pool.new }

@@ -67,6 +67,7 @@ fn numbers_come_again(rt: HostRuntime) {
     let mut pool = Pool::new(rt.alloc());
     let first = open(&rt, &mut pool);
     let second = open(&rt, &mut pool);
+    assert!(rt; first != second);
     push(&rt, &mut pool, first, &[1; 600]);
     push(&rt, &mut pool, second, &[2; 3]);
     pool.drop_chain(first);

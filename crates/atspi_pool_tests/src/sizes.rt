@@ -38,6 +38,27 @@ fn most_blocks(pool: &Pool, numbers: &[u32]) -> u64
     most
 }
 
+/// Every chain grows.
+fn grow(rt: &impl Abort, pool: &mut Pool, numbers: &[u32])
+    requires { AllUsed pool.old numbers.now }
+    ensures { KeepsChains pool.old pool.new }
+{
+    for number in numbers {
+        push(rt, pool, *number, &[3; 700]);
+    }
+}
+
+/// Every chain loses all its bytes.
+fn empty(rt: &impl Abort, pool: &mut Pool, numbers: &[u32])
+    requires { AllUsed pool.old numbers.now }
+    ensures { KeepsChains pool.old pool.new }
+{
+    for number in numbers {
+        let n = pool.len(*number);
+        pop(rt, pool, *number, n);
+    }
+}
+
 /// In each round every chain grows, and every second one shrinks at its front, every third one at its end.
 fn grow_and_shrink(rt: &impl Abort, pool: &mut Pool, numbers: &[u32], round: u32)
     requires { AllUsed pool.old numbers.now }
@@ -65,18 +86,13 @@ fn a_thousand_chains(rt: HostRuntime) {
     let numbers = opened(&rt, rt.alloc(), &mut pool, 1000);
     let mut greatest = 0u64;
     for round in 0..20 {
-        for number in &numbers {
-            push(&rt, &mut pool, *number, &[3; 700]);
-        }
+        grow(&rt, &mut pool, &numbers);
         greatest = greatest.max(most_blocks(&pool, &numbers));
         grow_and_shrink(&rt, &mut pool, &numbers, round);
         greatest = greatest.max(most_blocks(&pool, &numbers));
         assert!(rt; pool.made() <= greatest, "{} of {greatest}", pool.made());
     }
-    for number in &numbers {
-        let n = pool.len(*number);
-        pop(&rt, &mut pool, *number, n);
-    }
+    empty(&rt, &mut pool, &numbers);
     assert_eq!(rt; pool.free(), pool.made());
 }
 

@@ -2,4 +2,4 @@ use Rattle.atspi_pool_tests.specs.Kept.{KeepsChains}
 use Rattle.atspi_pool_tests.proofs.sizes.grow_and_shrink.Given as goal
 
 abbrev pub invariant-loop-i : goal.invariant-loop-i
-invariant-loop-i l = KeepsChains l.fn.pool l.pool
+invariant-loop-i g l = KeepsChains l.fn.pool l.pool

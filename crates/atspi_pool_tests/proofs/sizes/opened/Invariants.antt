@@ -9,4 +9,4 @@ pub record AreOpened (pool : Store) (numbers : List ℕ) (count : ℕ) : Type 0 
   pub counted : in_use pool.chains ≡ count
 
 abbrev pub invariant-loop : goal.invariant-loop
-invariant-loop l = AreOpened l.pool l.numbers.items l.counter
+invariant-loop g l = AreOpened l.pool l.numbers.items l.counter

@@ -2,5 +2,5 @@ use Rattle.std.specs.Prelude.{IsSome}
 use Rattle.atspi_pool.specs.Store.{chain_at}
 use Rattle.atspi_pool_tests.proofs.sizes.sixteen_mebibytes.Given as goal
 
-abbrev pub invariant-loop-2 : goal.invariant-loop-2
-invariant-loop-2 l = IsSome (chain_at l.pool l.chain)
+abbrev pub invariant-loop : goal.invariant-loop
+invariant-loop g l = IsSome (chain_at l.pool l.chain)
