@@ -1,0 +1,4 @@
+pub mod PlainLemmas
+pub mod LineLemmas
+pub mod LookedLemmas
+pub mod DueLemmas

@@ -1,0 +1,4 @@
+pub mod Words
+pub mod Speech
+pub mod Looked
+pub mod Laws
