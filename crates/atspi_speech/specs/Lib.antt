@@ -2,3 +2,4 @@ pub mod Words
 pub mod Speech
 pub mod Looked
 pub mod Laws
+pub mod Cases

@@ -2,6 +2,7 @@
 #![tactic(auto)]
 
 mod added;
+pub mod examples;
 mod focus;
 pub mod laws;
 mod line;
