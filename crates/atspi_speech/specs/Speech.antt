@@ -79,10 +79,14 @@ lines_between v w _ = []
 abbrev pub lines : List ℕ → List ℕ → Forest Row → News → List (List ℕ)
 lines root bus v news = lines_between v (effect root bus v news) news
 
--- the line of an application that is gone: its root's name, and that it is closed
+-- the line of an application that is gone: its root's name, an empty one where there is no root, and that it is closed
+abbrev pub closing_of : Option (List ℕ) → List (List ℕ)
+closing_of None = codes ", closed" ∷ []
+closing_of (Some name) = (name ++ codes ", closed") ∷ []
+
 abbrev pub closing_lines : Forest Row → List (List ℕ)
-closing_lines nil = []
-closing_lines (tree row children rest) = (row.name ++ codes ", closed") ∷ []
+closing_lines nil = closing_of None
+closing_lines (tree row children rest) = closing_of (Some row.name)
 
 -- the row of a node in a tree
 abbrev pub node_at : ℕ → Forest TreeRow → Option Subject
@@ -103,5 +107,5 @@ says f step = says_after (after rows f step) step
 
 -- the line of an application with this tree that is gone
 abbrev pub closing_says : Forest TreeRow → List (List ℕ)
-closing_says nil = []
-closing_says (tree row children rest) = (row.shape.name ++ codes ", closed") ∷ []
+closing_says nil = closing_of None
+closing_says (tree row children rest) = closing_of (Some row.shape.name)

@@ -103,5 +103,5 @@ pub fn items()
 /// An application that is gone.
 pub fn closing()
     ensures closed { closing_lines window ≡ codes "Demo, closed" ∷ [] }
-    ensures no_root { closing_lines nil ≡ [] }
+    ensures no_root { closing_lines nil ≡ codes ", closed" ∷ [] }
 {}

@@ -2,10 +2,10 @@
 
 ghost use Rattle.std.specs.Prelude.{◌≡◌, [], ◌∷◌, ◌++◌, OnOk, OnErr, IfOk};
 ghost use Rattle.std.specs.Option.{option_copied};
-ghost use Rattle.atspi_forest.specs.Forest.{Forest, tree};
+ghost use Rattle.atspi_forest.specs.Forest.{Forest};
 ghost use Rattle.atspi_forest.specs.declared.view.Row.{Row};
 ghost use Rattle.atspi_speech.specs.Looked.{AreLookedUp};
-ghost use Rattle.atspi_speech.specs.Speech.{closing_lines, lines};
+ghost use Rattle.atspi_speech.specs.Speech.{closing_of, lines};
 
 use crate::added::item_came;
 use crate::focus::{renamed, state_changed, text_changed};
@@ -63,12 +63,15 @@ pub fn lines(
     }
 }
 
-/// The line that is spoken when an application that was held is gone, from its root's row. A view without a root has none.
-pub fn closing_line(alloc: Global, root: &Row) -> Result<Text, NoMemory>
-    ensures { (children rest : Forest Row) → IfOk result (λ line. closing_lines (tree root.now children rest) ≡ line ∷ []) }
+/// The line that is spoken when an application that was held is gone, from its root's name; a view without a root counts as
+/// one whose root has an empty name.
+pub fn closing_line(alloc: Global, name: Option<&Text>) -> Result<Text, NoMemory>
+    ensures { IfOk result (λ line. closing_of (option_copied name.entry) ≡ line ∷ []) }
 {
     let mut line = Line::new(alloc);
-    line.push(&root.name)?;
+    if let Some(name) = name {
+        line.push(name)?;
+    }
     line.push_word(", closed")?;
     line.into_text(alloc)
 }
