@@ -1,3 +1,4 @@
+pub mod AskedLemmas
 pub mod PlaceLemmas
 pub mod NodeLemmas
 pub mod BufferLemmas

@@ -48,8 +48,8 @@ impl Contents for Columns {
         0
     }
 
-    fn part(&self, _alloc: Global, _from: u32, _to: u32) -> Result<Text, NoMemory> {
-        unreachable!()
+    fn part(&self, alloc: Global, _from: u32, _to: u32) -> Result<Text, NoMemory> {
+        Text::of(alloc, "")
     }
 
     fn marks(&self, alloc: Global) -> Result<Marks, NoMemory> {
@@ -57,6 +57,6 @@ impl Contents for Columns {
     }
 
     fn change(&mut self, _alloc: Global, _what: &Change) -> Result<(), NoMemory> {
-        unreachable!()
+        Ok(())
     }
 }

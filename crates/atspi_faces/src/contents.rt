@@ -3,7 +3,8 @@
 ghost use Rattle.std.specs.Prelude.{◌≡◌, ◌≤◌, OnOk, OnErr, IfOk};
 ghost use Rattle.atspi_forest.specs.declared.contents.FaceKind.{FaceKind};
 ghost use Rattle.atspi_forest.specs.declared.contents.FaceData.{FaceData};
-ghost use Rattle.atspi_face.specs.Contents.{kind_of, caret_of, count_of, marks_of, part_of, IsPart, IsChange, changed, TakesMemory, IsContents};
+ghost use Rattle.atspi_faces.specs.Asked.{MayAsk, MayChange};
+ghost use Rattle.atspi_face.specs.Contents.{kind_of, caret_of, count_of, marks_of, part_of, changed, TakesMemory, IsContents};
 
 use atspi_base::{Marks, NoMemory, Text};
 use atspi_face::{Change, FaceData, FaceKind};
@@ -35,18 +36,19 @@ pub trait Contents: Drop {
     fn caret(&self) -> u32
         ensures { result ≡ caret_of (as_data self.now) };
 
-    /// The characters from one place up to another, or the name of an action. `Err` comes for want of memory.
+    /// The characters from one place up to another, or the name of an action; of columns nothing. `Err` comes for want of
+    /// memory.
     fn part(&self, alloc: Global, from: u32, to: u32) -> Result<Text, NoMemory>
-        requires { IsPart (as_data self.now) from to }
+        requires { MayAsk (as_data self.now) from to }
         ensures { IfOk result (λ text. text ≡ part_of (as_data self.now) from to) };
 
     /// The text selections of a text, else none. `Err` comes for want of memory.
     fn marks(&self, alloc: Global) -> Result<Marks, NoMemory>
         ensures { IfOk result (λ marks. marks ≡ marks_of (as_data self.now)) };
 
-    /// Changes a text. `Err` comes for want of memory and leaves it as it was.
+    /// Changes a text; other contents stay. `Err` comes for want of memory and leaves it as it was.
     fn change(&mut self, alloc: Global, what: &Change) -> Result<(), NoMemory>
-        requires { IsChange (as_data self.old) what.now }
+        requires { MayChange (as_data self.old) what.now }
         ensures ok { OnOk result (as_data self.new ≡ changed (as_data self.old) what.now) }
         ensures err { OnErr result (as_data self.new ≡ as_data self.old) }
         ensures cause { OnErr result (TakesMemory what.now) };

@@ -95,6 +95,7 @@ impl<C: Contents> Face for Kept<C> {
         contents.caret()
     }
 
+    #[tactic(auto, using(crate::proofs::AskedLemmas::may_ask))]
     fn part(&self, node: u32, from: u32, to: u32) -> Result<Text, NoMemory> {
         let contents = self.find(node).unwrap();
         contents.part(self.alloc, from, to)

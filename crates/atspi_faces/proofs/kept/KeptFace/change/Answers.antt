@@ -5,6 +5,7 @@ use Rattle.std.specs.Option.{option_map, option_map_or}
 use Rattle.std.specs.FinMap.{insert}
 use Rattle.atspi_face.specs.Contents.{IsChange, changed}
 use Rattle.atspi_faces.specs.Kept.{nodes_of}
+use Rattle.atspi_faces.proofs.AskedLemmas.{may_change}
 use Rattle.atspi_faces.proofs.NodeLemmas.{get_nodes, put_nodes, insert_same, some_at}
 use Rattle.atspi_faces.proofs.kept.KeptFace.change.Goals as goal
 
@@ -12,7 +13,7 @@ pub change-requires : goal.change-requires
 change-requires g c =
     let view = g.C.Contents.as_data in
     let here = get_nodes view c.args.self.now.nodes.entries c.args.node ∙ ap (option_map view) (sym c.in-Some.ensures.value) in
-    MatchOption-at_some ⊥ (λ old. IsChange old c.args.what.now) _ here c.requires
+    may_change _ c.args.what.now (MatchOption-at_some ⊥ (λ old. IsChange old c.args.what.now) _ here c.requires)
 
 pub unreachable-requires : goal.unreachable-requires
 unreachable-requires g c =
