@@ -1,5 +1,5 @@
 -- The bytes of blocks, and what a write into one leaves.
-use Rattle.std.proofs.Common.{◌≡◌, ◌≢◌, ℕ, suc, zero, ◌+◌, ◌-◌, ◌*◌, ◌<◌, ◌≤◌, List, [], ◌∷◌, ◌++◌, cond, eqb, length, get_or, take, drop, refl, sym, ap, ◌∙◌, subst, arith, zero-add, inl, inr, eq-eqb}
+use Rattle.std.proofs.Common.{◌≡◌, ◌≢◌, ℕ, suc, ◌+◌, ◌-◌, ◌*◌, ◌<◌, ◌≤◌, List, [], ◌∷◌, ◌++◌, cond, length, take, drop, refl, sym, ap, ◌∙◌, arith, zero-add, inl, inr, eq-eqb}
 use Rattle.std.proofs.lemmas.List.{length-append, length-take, length-drop, take_at, drop_at, take-append-drop, take-append-le, drop-append-le, drop-drop, drop-take, take-take, append_assoc, append-nil, take_all, take_more, length-take-le}
 use Rattle.std.proofs.lemmas.Bool.{cases_lt}
 use Rattle.atspi_pool.specs.Links.{times, last_of}

@@ -1,14 +1,14 @@
 -- Blocks that move from one list to another.
-use Rattle.std.proofs.Common.{◌≡◌, ◌≢◌, ℕ, suc, zero, ◌+◌, ◌-◌, ◌<◌, ◌≤◌, List, [], ◌∷◌, ◌++◌, Bool, true, false, cond, eqb, ltb, length, get_or, set, take, drop, map, refl, sym, ap, ◌∙◌, subst, arith, inl, inr, zero-add, add-one}
+use Rattle.std.proofs.Common.{◌≡◌, ◌≢◌, ℕ, suc, zero, ◌+◌, ◌-◌, ◌<◌, ◌≤◌, List, [], ◌∷◌, Bool, true, false, cond, ltb, length, get_or, set, map, refl, sym, ap, ◌∙◌, subst, arith, inl, inr}
 use Rattle.std.proofs.lemmas.Bool.{cases_eq}
 use Rattle.std.proofs.lemmas.Bool.Decides.{nat_tests}
-use Rattle.std.proofs.lemmas.List.{get_or-set_same, get_or-set_other, length-set, length-map, map-set, get_or-drop, length-append, length-take, length-drop, length_push}
-use Rattle.std.proofs.lemmas.List.Sums.{sum_by-cons, sum_by-append, sum_by-set, sum_by-take-drop, get_or-le-sum_by}
+use Rattle.std.proofs.lemmas.List.{get_or-set_same, get_or-set_other, length-set, length-map, map-set}
+use Rattle.std.proofs.lemmas.List.Sums.{sum_by-set, get_or-le-sum_by}
 use Rattle.std.specs.List.{sum_by}
 use Rattle.atspi_pool.specs.declared.run.Run.{Run}
 use Rattle.atspi_pool.specs.Links.{times, Linked, Entry, IsApart, no_entry, entry_at, with_entry}
 use Rattle.atspi_pool.specs.Walk.{walk, entry_of, linked_of, no_run, EndsRight, IsLinked}
-use Rattle.atspi_pool.proofs.WalkLemmas.{jump, jump_more, jump_add, get_or-walk, length-walk, times-append, times-cons, times-jump, times-take, times-drop, none_before, none_after, none_behind, walk-set, walk_joined, take-walk, drop-walk}
+use Rattle.atspi_pool.proofs.WalkLemmas.{length-walk, walk-set}
 
 pub get_or-map : {X Y : Type 0} (f : X → Y) (xs : List X) (q : ℕ) (d : X) → get_or (map f xs) q (f d) ≡ f (get_or xs q d)
 get_or-map f [] q d = refl

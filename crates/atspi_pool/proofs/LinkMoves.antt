@@ -1,12 +1,12 @@
 -- What each move of blocks leaves.
-use Rattle.std.proofs.Common.{◌≡◌, ◌≢◌, ℕ, suc, zero, ◌+◌, ◌-◌, ◌<◌, ◌≤◌, List, [], ◌∷◌, ◌++◌, cond, eqb, ltb, length, get_or, set, take, drop, map, refl, sym, ap, ◌∙◌, subst, arith, zero-add, add-one}
+use Rattle.std.proofs.Common.{◌≡◌, ℕ, suc, ◌+◌, ◌-◌, ◌<◌, ◌≤◌, List, [], ◌∷◌, ◌++◌, cond, eqb, ltb, length, get_or, set, take, drop, map, refl, sym, ap, ◌∙◌, subst, arith}
 use Rattle.std.proofs.lemmas.List.{get_or-drop, length-map, length-append, length-drop, length_push, get_or_push, length-take-le}
 use Rattle.std.proofs.lemmas.List.Sums.{sum_by-take-drop, get_or-le-sum_by}
 use Rattle.std.proofs.lemmas.Bool.Decides.{nat_tests}
 use Rattle.atspi_pool.specs.declared.run.Run.{Run}
-use Rattle.atspi_pool.specs.Links.{times, Linked, Entry, IsApart, no_entry}
-use Rattle.atspi_pool.specs.Walk.{walk, entry_of, linked_of, no_run, EndsRight, IsLinked}
-use Rattle.atspi_pool.proofs.WalkLemmas.{jump, jump_more, jump_add, get_or-walk, length-walk, times-append, times-cons, times-jump, times-take, times-drop, none_before, none_after, none_behind, walk-set, walk_joined, walk-push, take-walk, drop-walk}
+use Rattle.atspi_pool.specs.Links.{times, Entry, IsApart, no_entry}
+use Rattle.atspi_pool.specs.Walk.{walk, entry_of, linked_of, no_run, IsLinked}
+use Rattle.atspi_pool.proofs.WalkLemmas.{jump, jump_more, jump_add, get_or-walk, length-walk, times-append, times-cons, times-jump, times-take, times-drop, none_before, none_after, walk-set, walk_joined, walk-push, take-walk, drop-walk}
 use Rattle.atspi_pool.proofs.LinkLemmas.{IsChanged, get_or-map, same_linked, relisted, relinked, once, is_made}
 
 times-split : (x k : ℕ) (xs : List ℕ) → times x (take k xs) + times x (drop k xs) ≡ times x xs

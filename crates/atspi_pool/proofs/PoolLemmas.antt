@@ -1,15 +1,14 @@
 -- Numbers of chains, and how many blocks there are at most.
-use Rattle.std.proofs.Common.{◌≡◌, ◌≢◌, ℕ, suc, zero, ◌+◌, ◌-◌, ◌/◌, ◌<◌, ◌≤◌, List, [], ◌∷◌, ◌++◌, Bool, true, false, cond, eqb, ltb, max, ◌&&◌, not, Option, Some, None, is_some, length, get_or, set, refl, sym, ap, ◌∙◌, subst, arith, inl, inr}
+use Rattle.std.proofs.Common.{◌≡◌, ◌≢◌, ℕ, suc, ◌+◌, ◌/◌, ◌<◌, ◌≤◌, List, [], ◌∷◌, ◌++◌, Bool, true, false, cond, eqb, ltb, max, ◌&&◌, Option, Some, None, is_some, length, get_or, refl, sym, ap, ◌∙◌, subst, arith, inl, inr}
 use Rattle.std.specs.Prelude.{IsSome, is_none}
-use Rattle.std.specs.List.{sum_by}
 use Rattle.std.proofs.lemmas.List.{length-append, length_push, length-set, get_or-set_same, get_or-set_other, get_or_past, get_or_append_left, get_or_push}
-use Rattle.std.proofs.lemmas.List.Sums.{sum_by-cons, sum_by-set, sum_by_push, get_or-le-sum_by}
+use Rattle.std.proofs.lemmas.List.Sums.{sum_by-cons, sum_by-set}
 use Rattle.std.proofs.lemmas.Bool.Decides.{nat_tests}
 use Rattle.std.proofs.lemmas.Bool.{cases_eq, cases_lt}
-use Rattle.atspi_pool.specs.Chains.{Chain, empty_chain, blocks_of, pushed}
+use Rattle.atspi_pool.specs.Chains.{Chain, blocks_of, pushed}
 use Rattle.atspi_pool.specs.Links.{times}
 use Rattle.atspi_pool.specs.Store.{Store, blocks_in, all_blocks, held, chain_at, with_chain, with_pushed, HasFront}
-use Rattle.atspi_pool.specs.Pool.{no_pool, in_use, SetsChain, IsNumbered, most_for, most_in, most_of, IsCall, AreCalls, made_after, greatest, MadeIsBound, BlocksAreFew}
+use Rattle.atspi_pool.specs.Pool.{no_pool, in_use, SetsChain, IsNumbered, most_in, most_of, AreCalls, made_after, greatest, MadeIsBound, BlocksAreFew}
 use Rattle.atspi_pool.proofs.WalkLemmas.{times-cons, times-append, times_here}
 
 some_if : (b : Bool) (n : ℕ) → eqb n 0 ≡ b → (blocks : ℕ) → (n ≡ 0 → blocks ≡ 0) → (0 < n → blocks ≤ n / 256 + 2) → blocks ≤ cond b 0 (n / 256 + 2)

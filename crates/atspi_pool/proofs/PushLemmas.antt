@@ -1,20 +1,20 @@
 -- A piece that is written into the last block of a chain.
-use Rattle.std.proofs.Common.{◌≡◌, ◌≢◌, ℕ, suc, zero, ◌+◌, ◌-◌, ◌*◌, ◌/◌, ◌%◌, ◌^◌, ◌<◌, ◌≤◌, List, [], ◌∷◌, ◌++◌, Bool, true, false, cond, eqb, ltb, max, Option, Some, None, length, get_or, set, take, drop, map, refl, sym, ap, ◌∙◌, subst, arith, inl, inr, eqb-true}
+use Rattle.std.proofs.Common.{◌≡◌, ◌≢◌, ℕ, suc, zero, ◌+◌, ◌-◌, ◌*◌, ◌%◌, ◌^◌, ◌<◌, ◌≤◌, List, [], ◌∷◌, ◌++◌, Bool, true, false, cond, eqb, ltb, max, Option, Some, None, length, get_or, set, take, drop, map, refl, sym, ap, ◌∙◌, subst, arith, inl, inr}
 use Rattle.std.specs.Prelude.{IsSome}
 use Rattle.std.specs.Bool.{MatchBool}
-use Rattle.std.proofs.lemmas.List.{length-append, length-take, length-map, length-set, length_push, set-set, get_or-set_same, get_or-set_other, append_assoc, append-nil, set-get_or, drop-append-le, take-append-le, get_or_push, length-take-le}
+use Rattle.std.proofs.lemmas.List.{length-append, length-take, length-set, length_push, set-set, get_or-set_same, get_or-set_other, append_assoc, append-nil, set-get_or, drop-append-le, take-append-le, get_or_push}
 use Rattle.std.proofs.lemmas.List.Sums.{sum_by-set, get_or-le-sum_by}
 use Rattle.std.proofs.lemmas.Bool.Decides.{nat_tests}
 use Rattle.std.proofs.lemmas.Bool.{cases_eq}
 use Rattle.atspi_pool.specs.declared.run.Marks.{Marks}
 use Rattle.atspi_pool.specs.Links.{times, last_of, first_of, Entry, Linked, IsApart, no_entry, entry_at, with_entry, with_blocks, marked, taken}
-use Rattle.atspi_pool.specs.Chains.{Chain, blocks_for, blocks_of, room_in, pushed}
+use Rattle.atspi_pool.specs.Chains.{Chain, blocks_for, room_in, pushed}
 use Rattle.atspi_pool.specs.Store.{Store, blocks_in, all_blocks, held, chain_at, with_chain, with_pushed, contents, chain_in, store_of, written, IsFit, IsStore}
 use Rattle.atspi_pool.proofs.WalkLemmas.{times-append, times_here}
 use Rattle.atspi_pool.proofs.LinkLemmas.{two_le-sum_by, chance_le}
 use Rattle.atspi_pool.proofs.LinkSpecs.{same_entry}
-use Rattle.atspi_pool.proofs.BlockLemmas.{contents-more, contents-append, length-written, contents-written, pushed_contents, length-contents, last_split, AllMade, AllMade-take}
-use Rattle.atspi_pool.proofs.StoreLemmas.{all_made, chains_are, in_links, free_seen, len_is, popped_is, blocks_is, held_is, in_blocks}
+use Rattle.atspi_pool.proofs.BlockLemmas.{contents-more, contents-append, length-written, contents-written, pushed_contents, length-contents, last_split, AllMade}
+use Rattle.atspi_pool.proofs.StoreLemmas.{all_made, in_links, free_seen, len_is, popped_is, blocks_is, held_is, in_blocks}
 
 zero_of_test : (o : ℕ) → eqb o 0 ≡ true → o ≡ 0
 zero_of_test o e = grind (arith, nat_tests)

@@ -1,19 +1,18 @@
 -- Chains in their blocks, and what each change leaves.
-use Rattle.std.proofs.Common.{◌≡◌, ◌≢◌, ℕ, suc, zero, ◌+◌, ◌-◌, ◌*◌, ◌/◌, ◌%◌, ◌^◌, ◌<◌, ◌≤◌, min, List, [], ◌∷◌, ◌++◌, Bool, true, false, cond, eqb, Option, Some, None, length, get_or, set, take, drop, map, refl, sym, ap, ◌∙◌, subst, arith, inl, inr}
+use Rattle.std.proofs.Common.{◌≡◌, ◌≢◌, ℕ, suc, ◌+◌, ◌-◌, ◌*◌, ◌/◌, ◌%◌, ◌<◌, ◌≤◌, min, List, [], ◌∷◌, ◌++◌, Bool, true, false, cond, eqb, Option, Some, None, length, get_or, set, take, drop, map, refl, sym, ap, ◌∙◌, subst, arith, inl, inr}
 use Rattle.std.specs.Prelude.{IsSome}
-use Rattle.std.specs.Bool.{MatchBool}
-use Rattle.std.specs.List.{sum_by, between}
-use Rattle.std.proofs.lemmas.List.{length-append, length-take, length-map, length-set, length_push, map-set, set-set, get_or-set_same, get_or-set_other, drop-append-le, take-append-le, take_all, take-take, drop-take, drop-drop, drop_more, get_or_past}
-use Rattle.std.proofs.lemmas.List.Sums.{sum_by-cons, sum_by-set, get_or-le-sum_by}
+use Rattle.std.specs.List.{sum_by}
+use Rattle.std.proofs.lemmas.List.{length-take, length-map, map-set, set-set, get_or-set_same, take-append-le, take_all, take-take, drop-take, drop-drop, drop_more, get_or_past}
+use Rattle.std.proofs.lemmas.List.Sums.{sum_by-cons, get_or-le-sum_by}
 use Rattle.std.proofs.lemmas.Bool.Decides.{nat_tests}
-use Rattle.std.proofs.lemmas.Bool.{cases_eq, cases_lt}
+use Rattle.std.proofs.lemmas.Bool.{cases_lt}
 use Rattle.atspi_pool.specs.declared.run.Marks.{Marks}
-use Rattle.atspi_pool.specs.Links.{times, last_of, first_of, Entry, Linked, IsApart, no_entry, entry_at, with_entry, with_blocks, front_given, front_kept, marked}
-use Rattle.atspi_pool.specs.Chains.{Chain, empty_chain, blocks_for, blocks_of, front_of, room_in, pushed, popped_by, cut_by}
-use Rattle.atspi_pool.specs.Store.{Store, block_bytes, blocks_in, all_blocks, held, chain_at, HasFront, with_chain, with_pushed, contents, chain_in, store_of, written, IsFit, IsStore}
-use Rattle.atspi_pool.proofs.WalkLemmas.{times-append, times_here}
-use Rattle.atspi_pool.proofs.LinkLemmas.{get_or-map, two_le-sum_by, below_of_chance, chance_le}
-use Rattle.atspi_pool.proofs.BlockLemmas.{AllMade, length-contents, contents-append, contents-take, contents-drop, length_part, popped_part, cut_part, length-block, length-written, contents-written, pushed_contents, last_split, AllMade-take}
+use Rattle.atspi_pool.specs.Links.{times, first_of, Entry, Linked, IsApart, no_entry, entry_at, with_entry, with_blocks, front_given, front_kept, marked}
+use Rattle.atspi_pool.specs.Chains.{Chain, empty_chain, blocks_for, front_of, popped_by, cut_by}
+use Rattle.atspi_pool.specs.Store.{Store, block_bytes, blocks_in, all_blocks, held, chain_at, HasFront, with_chain, contents, chain_in, store_of, IsStore}
+use Rattle.atspi_pool.proofs.WalkLemmas.{times_here}
+use Rattle.atspi_pool.proofs.LinkLemmas.{get_or-map, below_of_chance}
+use Rattle.atspi_pool.proofs.BlockLemmas.{AllMade, length-contents, contents-take, contents-drop, length_part, popped_part, cut_part, length-block}
 
 pub all_made : (l : Linked) → IsApart l → (c : ℕ) → c < length l.chains → AllMade l.made (entry_at l c).blocks
 all_made l apart c within x here =

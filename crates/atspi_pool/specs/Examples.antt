@@ -1,8 +1,8 @@
 -- Values worked out by hand, one for each case.
-use Rattle.std.specs.Prelude.{◌≡◌, ℕ, List, [], ◌∷◌, Option, Some, None}
+use Rattle.std.specs.Prelude.{◌≡◌, [], ◌∷◌, replicate, Some, None}
 use Rattle.atspi_pool.specs.Chains.{Chain, empty_chain, blocks_for, blocks_of, front_of, room_in, pushed, popped_by, cut_by}
-use Rattle.atspi_pool.specs.Store.{Store, blocks_in, all_blocks, held, chain_at, with_chain, with_pushed}
-use Rattle.atspi_pool.specs.Pool.{no_pool, in_use, after_push, most_for, most_in, most_of, made_after, greatest}
+use Rattle.atspi_pool.specs.Store.{Store, blocks_in, all_blocks, held, chain_at, with_chain, HasFront}
+use Rattle.atspi_pool.specs.Pool.{no_pool, in_use, SetsChain, after_push, most_for, most_in, most_of, HasFewBlocks, IsCall, AreCalls, made_after, greatest}
 
 -- three bytes behind 254 popped ones: two in the first block, one in the next
 abbrev pub three : Chain
@@ -11,6 +11,14 @@ three = record { popped = 254; bytes = 7 ∷ 8 ∷ 9 ∷ [] }
 -- one chain of three bytes, with number 1
 abbrev pub one_chain : Store
 one_chain = record { made = 2; chains = None ∷ Some three ∷ [] }
+
+-- one chain of a byte, with number 0, in a block that is full
+abbrev pub full_chain : Store
+full_chain = record { made = 1; chains = Some (record { popped = 255; bytes = 7 ∷ [] }) ∷ [] }
+
+-- the same with 256 bytes more, in a block more
+abbrev pub filled_chain : Store
+filled_chain = record { made = 2; chains = Some (record { popped = 255; bytes = 7 ∷ replicate 256 5 }) ∷ [] }
 
 pub record BlocksAreCounted : Type 0 where
   pub none : blocks_for 0 ≡ 0
@@ -44,6 +52,32 @@ pub record PoolsChange : Type 0 where
   pub makes_none : (after_push one_chain 1 (1 ∷ [])).made ≡ 2
   pub makes_one : (after_push (record { made = 1; chains = Some (record { popped = 255; bytes = 7 ∷ [] }) ∷ [] }) 0 (1 ∷ [])).made ≡ 2
   pub appends : (after_push one_chain 1 (1 ∷ [])).chains ≡ None ∷ Some (record { popped = 254; bytes = 7 ∷ 8 ∷ 9 ∷ 1 ∷ [] }) ∷ []
+
+pub record FrontsAreTold : Type 0 where
+  pub some : HasFront (Some three)
+  pub empty : HasFront (Some empty_chain)
+  pub unused : HasFront None
+  pub whole_block : HasFront (Some (record { popped = 256; bytes = 7 ∷ [] })) → ⊥
+  pub popped_empty : HasFront (Some (record { popped = 1; bytes = [] })) → ⊥
+
+pub record ChainsAreSet : Type 0 where
+  pub dropped : SetsChain one_chain (record { made = 2; chains = None ∷ None ∷ [] }) 1 None
+  pub opened : SetsChain one_chain (record { made = 2; chains = Some empty_chain ∷ Some three ∷ [] }) 0 (Some empty_chain)
+  pub not_named : SetsChain one_chain one_chain 1 None → ⊥
+  pub other : SetsChain one_chain (record { made = 2; chains = Some empty_chain ∷ None ∷ [] }) 1 None → ⊥
+  pub made : SetsChain one_chain (record { made = 3; chains = None ∷ None ∷ [] }) 1 None → ⊥
+
+pub record CallsAreTold : Type 0 where
+  pub push : IsCall full_chain filled_chain 3
+  pub out_of_memory : IsCall full_chain full_chain 3
+  pub too_many : IsCall full_chain (record { made = 4; chains = filled_chain.chains }) 3 → ⊥
+  pub drop : IsCall full_chain (record { made = 1; chains = None ∷ [] }) 0
+  pub drop_makes_none : IsCall full_chain (record { made = 2; chains = None ∷ [] }) 0 → ⊥
+  pub none : AreCalls full_chain []
+  pub two : AreCalls full_chain ((3, filled_chain) ∷ (0, record { made = 2; chains = None ∷ [] }) ∷ [])
+  pub second : AreCalls full_chain ((3, filled_chain) ∷ (0, record { made = 3; chains = None ∷ [] }) ∷ []) → ⊥
+  pub few : HasFewBlocks one_chain
+  pub not_few : HasFewBlocks (record { made = 1; chains = Some (record { popped = 1; bytes = [] }) ∷ [] }) → ⊥
 
 pub record BoundsAreCounted : Type 0 where
   pub none : most_for 0 ≡ 0

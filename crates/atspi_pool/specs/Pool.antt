@@ -1,8 +1,8 @@
 -- A pool as its callers see it.
-use Rattle.std.specs.Prelude.{◌≡◌, ◌≢◌, ℕ, ◌+◌, ◌/◌, ◌<◌, ◌≤◌, ◌⊎◌, ◌∷◌, ◌==◌, nat_lt, if◌then◌else◌, Bool, true, false, ◌&&◌, is_none, is_some, List, [], length, count_by, sum_by, max, slice_index_or, Option, Some, None}
-use Rattle.atspi_pool.specs.Chains.{Chain, blocks_of, pushed}
+use Rattle.std.specs.Prelude.{◌≡◌, ◌≢◌, ℕ, ◌+◌, ◌/◌, ◌<◌, ◌≤◌, ◌⊎◌, ◌∷◌, ◌==◌, nat_lt, if◌then◌else◌, ◌&&◌, is_none, is_some, List, [], length, count_by, sum_by, max, Option, Some, None}
+use Rattle.atspi_pool.specs.Chains.{Chain, blocks_of}
 use Rattle.atspi_pool.specs.Links.{times}
-use Rattle.atspi_pool.specs.Store.{Store, chain_at, held, with_chain, with_pushed, blocks_in, all_blocks}
+use Rattle.atspi_pool.specs.Store.{Store, chain_at, with_pushed, blocks_in, all_blocks}
 
 -- no block and no chain
 abbrev pub no_pool : Store

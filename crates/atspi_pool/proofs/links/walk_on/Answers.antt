@@ -1,6 +1,5 @@
 use Rattle.std.proofs.Common.{◌≡◌, ◌<◌, ◌+◌, length, sym, ap, ◌∙◌, subst, arith, add-one, slice_index}
 use Rattle.atspi_pool.proofs.WalkLemmas.{jump, jump_more, get_or-walk}
-use Rattle.atspi_pool.proofs.LinkLemmas.{IsApart-moved}
 use Rattle.atspi_pool.proofs.links.walk_on.Goals as goal
 
 pub offset_bounds-next-block : goal.offset_bounds-next-block

@@ -1,4 +1,4 @@
-use Rattle.std.proofs.Common.{◌≡◌, ◌<◌, ◌+◌, ◌-◌, ℕ, length, get_or, sym, ap, ◌∙◌, subst, arith}
+use Rattle.std.proofs.Common.{◌≡◌, ◌<◌, ◌+◌, ◌-◌, length, get_or, sym, ap, ◌∙◌, subst, arith}
 use Rattle.atspi_pool.specs.Walk.{walk}
 use Rattle.atspi_pool.proofs.WalkLemmas.{jump, get_or-walk}
 use Rattle.atspi_pool.proofs.LinkSpecs as specs

@@ -1,5 +1,4 @@
-use Rattle.std.proofs.Common.{◌≡◌, ◌<◌, ◌≤◌, ℕ, length, sym, ap, ◌∙◌, arith}
-use Rattle.atspi_pool.specs.Links.{entry_at}
+use Rattle.std.proofs.Common.{arith}
 use Rattle.atspi_pool.proofs.LinkSpecs as specs
 use Rattle.atspi_pool.proofs.links.Links.give_front.Goals as goal
 

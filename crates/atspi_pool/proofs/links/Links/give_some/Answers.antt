@@ -1,4 +1,4 @@
-use Rattle.std.proofs.Common.{◌≡◌, ◌<◌, ◌≤◌, ◌+◌, ◌-◌, ℕ, suc, length, get_or, sym, ap, ◌∙◌, subst, arith, add-one, cond, is_ok}
+use Rattle.std.proofs.Common.{◌<◌, ◌-◌, length, arith}
 use Rattle.atspi_pool.specs.Links.{entry_at}
 use Rattle.atspi_pool.proofs.LinkSpecs as specs
 use Rattle.atspi_pool.proofs.links.Links.give_some.Goals as goal

@@ -1,4 +1,4 @@
-use Rattle.std.proofs.Common.{◌≡◌, ◌<◌, ◌≤◌, ℕ, length, sym, ap, ◌∙◌, arith}
+use Rattle.std.proofs.Common.{◌≡◌, length, arith}
 use Rattle.atspi_pool.specs.Links.{entry_at}
 use Rattle.atspi_pool.proofs.LinkSpecs as specs
 use Rattle.atspi_pool.proofs.links.Links.keep_front.Goals as goal

@@ -1,4 +1,4 @@
-use Rattle.std.proofs.Common.{◌≡◌, ◌<◌, ◌≤◌, ◌+◌, ◌-◌, ℕ, suc, length, get_or, sym, ap, ◌∙◌, subst, arith}
+use Rattle.std.proofs.Common.{◌≡◌, ◌<◌, ◌-◌, length, sym, ap, ◌∙◌, arith}
 use Rattle.atspi_pool.specs.Links.{entry_at}
 use Rattle.atspi_pool.proofs.WalkLemmas.{jump}
 use Rattle.atspi_pool.proofs.LinkSpecs as specs

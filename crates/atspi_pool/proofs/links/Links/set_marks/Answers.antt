@@ -1,5 +1,3 @@
-use Rattle.std.proofs.Common.{◌≡◌, ◌<◌, ◌≤◌, ◌+◌, ◌-◌, ℕ, suc, length, get_or, sym, ap, ◌∙◌, subst, arith, add-one, cond, is_ok}
-use Rattle.atspi_pool.proofs.WalkLemmas.{jump, get_or-walk, length-walk}
 use Rattle.atspi_pool.proofs.LinkSpecs as specs
 use Rattle.atspi_pool.proofs.links.Links.set_marks.Goals as goal
 

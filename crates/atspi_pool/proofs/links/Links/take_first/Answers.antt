@@ -1,5 +1,4 @@
-use Rattle.std.proofs.Common.{◌≡◌, ◌<◌, ◌≤◌, ◌+◌, ◌-◌, ℕ, suc, length, get_or, sym, ap, ◌∙◌, subst, arith, add-one, cond, is_ok}
-use Rattle.atspi_pool.proofs.WalkLemmas.{jump, get_or-walk, length-walk}
+use Rattle.std.proofs.Common.{arith}
 use Rattle.atspi_pool.proofs.LinkSpecs as specs
 use Rattle.atspi_pool.proofs.links.Links.take_first.Goals as goal
 

@@ -1,6 +1,5 @@
-use Rattle.std.proofs.Common.{◌≡◌, ◌<◌, ◌≤◌, ◌+◌, ◌++◌, ◌∷◌, [], ℕ, Option, Some, cond, is_some, length, sym, ap, ◌∙◌, subst, arith, vec_capacity}
+use Rattle.std.proofs.Common.{◌≡◌, ◌+◌, ℕ, Option, Some, cond, is_some, sym, ap, subst, arith, vec_capacity}
 use Rattle.atspi_pool.specs.Chains.{Chain, empty_chain}
-use Rattle.atspi_pool.specs.Store.{with_pushed}
 use Rattle.atspi_pool.specs.Pool.{IsNumbered, in_use}
 use Rattle.atspi_pool.proofs.PoolLemmas as lemmas
 use Rattle.atspi_pool.proofs.pool.Pool.new_chain.Goals as goal

@@ -1,5 +1,4 @@
-use Rattle.std.proofs.Common.{◌≡◌, ◌<◌, ◌≤◌, ◌++◌, ◌∷◌, [], Some, length, sym, ap, ◌∙◌, subst, arith, max}
-use Rattle.atspi_pool.specs.Chains.{empty_chain}
+use Rattle.std.proofs.Common.{◌≤◌, sym, subst, arith, max}
 use Rattle.atspi_pool.specs.Store.{with_pushed, chain_at}
 use Rattle.std.specs.Prelude.{IsSome}
 use Rattle.atspi_pool.specs.Pool.{most_of}

@@ -1,7 +1,4 @@
-use Rattle.std.proofs.Common.{◌≡◌, ◌≢◌, ◌<◌, ◌≤◌, ◌+◌, ◌-◌, ◌/◌, ◌++◌, ℕ, [], Some, None, length, take, drop, refl, sym, ap, ◌∙◌, subst, arith}
-use Rattle.atspi_pool.specs.declared.run.Marks.{Marks}
-use Rattle.atspi_pool.specs.Links.{entry_at, Linked, front_given, front_kept, marked}
-use Rattle.atspi_pool.specs.Chains.{empty_chain, Chain, blocks_for, popped_by, cut_by}
+use Rattle.std.proofs.Common.{[], None, refl}
 use Rattle.atspi_pool.proofs.StoreLemmas as lemmas
 use Rattle.atspi_pool.proofs.store.Store.close.Goals as goal
 

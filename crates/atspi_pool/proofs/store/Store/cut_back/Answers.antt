@@ -1,11 +1,9 @@
-use Rattle.std.proofs.Common.{◌≡◌, ◌≢◌, ◌<◌, ◌≤◌, ◌+◌, ◌-◌, ◌*◌, ◌/◌, ◌%◌, ◌++◌, ℕ, List, [], Some, None, length, take, drop, refl, sym, ap, ◌∙◌, subst, arith}
-use Rattle.std.specs.Prelude.{IsSome}
+use Rattle.std.proofs.Common.{◌≡◌, ◌-◌, Some, length, take, sym, ap, ◌∙◌, arith}
 use Rattle.atspi_pool.specs.declared.run.Marks.{Marks}
-use Rattle.atspi_pool.specs.Links.{entry_at, Linked, front_given, front_kept, marked}
-use Rattle.atspi_pool.specs.Chains.{empty_chain, Chain, blocks_for, popped_by, cut_by}
-use Rattle.atspi_pool.specs.Store.{with_chain, with_pushed, held, chain_at, chain_in, all_blocks, Store}
+use Rattle.atspi_pool.specs.Links.{entry_at}
+use Rattle.atspi_pool.specs.Chains.{Chain}
+use Rattle.atspi_pool.specs.Store.{with_chain}
 use Rattle.atspi_pool.proofs.StoreLemmas as lemmas
-use Rattle.atspi_pool.proofs.PushLemmas as pushes
 use Rattle.atspi_pool.proofs.store.Store.cut_back.Goals as goal
 
 pub returns-then-marks-n : goal.returns-then-marks-n

@@ -1,11 +1,7 @@
-use Rattle.std.proofs.Common.{◌≡◌, ◌≢◌, ◌<◌, ◌≤◌, ◌+◌, ◌-◌, ◌*◌, ◌/◌, ◌%◌, ◌++◌, ℕ, List, [], Some, None, length, take, drop, eqb, max, refl, sym, ap, ◌∙◌, subst, arith}
-use Rattle.std.specs.Prelude.{IsSome}
-use Rattle.atspi_pool.specs.declared.run.Marks.{Marks}
-use Rattle.atspi_pool.specs.Links.{entry_at, Linked}
+use Rattle.std.proofs.Common.{◌≡◌, ◌<◌, ◌+◌, ◌-◌, ◌*◌, length, take, drop, sym, subst, arith}
 use Rattle.atspi_pool.specs.Chains.{front_of}
-use Rattle.atspi_pool.specs.Store.{with_chain, with_pushed, held, chain_at, all_blocks, Store}
+use Rattle.atspi_pool.specs.Store.{held, chain_at}
 use Rattle.atspi_pool.proofs.StoreLemmas as lemmas
-use Rattle.atspi_pool.proofs.PushLemmas as pushes
 use Rattle.atspi_pool.proofs.store.Store.front.Goals as goal
 
 pub overflow_mul-start : goal.overflow_mul-start

@@ -1,6 +1,4 @@
-use Rattle.std.proofs.Common.{◌≡◌, ◌≢◌, ◌<◌, ◌≤◌, ◌+◌, ◌-◌, ◌++◌, ℕ, [], Some, None, length, take, drop, refl, sym, ap, ◌∙◌, subst, arith}
-use Rattle.atspi_pool.specs.Links.{entry_at, Linked}
-use Rattle.atspi_pool.specs.Chains.{empty_chain, Chain, popped_by, cut_by}
+use Rattle.std.proofs.Common.{ap, ◌∙◌}
 use Rattle.atspi_pool.proofs.StoreLemmas as lemmas
 use Rattle.atspi_pool.proofs.store.Store.len.Goals as goal
 

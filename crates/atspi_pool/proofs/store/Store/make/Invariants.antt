@@ -1,5 +1,4 @@
-use Rattle.std.proofs.Common.{◌≡◌, ◌+◌, ℕ, List, Option, max}
-use Rattle.atspi_pool.specs.Chains.{Chain}
+use Rattle.std.proofs.Common.{◌≡◌, ◌+◌, ℕ, List, max}
 use Rattle.atspi_pool.specs.Store.{Store, all_blocks, with_pushed}
 use Rattle.atspi_pool.proofs.store.Store.make.Given as goal
 

@@ -1,10 +1,8 @@
-use Rattle.std.proofs.Common.{◌≡◌, ◌≢◌, ◌<◌, ◌≤◌, ◌+◌, ◌-◌, ◌*◌, ◌/◌, ◌%◌, ◌++◌, ℕ, [], Some, None, length, take, drop, refl, sym, ap, ◌∙◌, subst, arith}
+use Rattle.std.proofs.Common.{◌+◌, ◌-◌, ◌%◌, ap, ◌∙◌}
 use Rattle.atspi_pool.specs.declared.run.Marks.{Marks}
-use Rattle.atspi_pool.specs.Links.{entry_at, Linked, front_given, front_kept, marked}
-use Rattle.atspi_pool.specs.Chains.{empty_chain, Chain, blocks_for, popped_by, cut_by}
-use Rattle.atspi_pool.specs.Store.{with_chain, held, chain_at, chain_in, Store}
+use Rattle.atspi_pool.specs.Links.{entry_at}
+use Rattle.atspi_pool.specs.Store.{held, chain_at}
 use Rattle.atspi_pool.proofs.StoreLemmas as lemmas
-use Rattle.atspi_pool.proofs.PushLemmas as pushes
 use Rattle.atspi_pool.proofs.store.Store.room.Goals as goal
 
 pub returns-clause-in_block : goal.returns-clause-in_block
