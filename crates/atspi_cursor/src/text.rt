@@ -4,9 +4,6 @@ ghost use Rattle.std.specs.Prelude.{◌≡◌, ◌<◌, ◌≤◌, ◌+◌, ◌^
 ghost use Rattle.std.specs.Int.{w32};
 ghost use Rattle.std.specs.List.{list_all};
 ghost use Rattle.atspi_base.specs.ReadsText.{ReadsStr, StrPlaceBelow};
-ghost use Rattle.atspi_types.specs.Names.{is_path};
-ghost use Rattle.atspi_types.specs.Elements as elements;
-ghost use Rattle.atspi_types.specs.declared.names.elements.Form.TheVariants.{Path};
 ghost use Rattle.atspi_types.specs.SignatureReading.{signature_in};
 ghost use Rattle.atspi_codes.specs.TyRefs.{refs_read, ReadsOne};
 ghost use Rattle.atspi_marshal.specs.Faults.{short_in};
@@ -19,7 +16,7 @@ use crate::plain::{fault, room};
 use atspi_base::{TextFault, read_str};
 use atspi_codes::{TyRef, TysRef};
 use atspi_marshal::{Bound, Marshalled, byte_at, u32_at};
-use atspi_types::Fault;
+use atspi_types::{Fault, is_path};
 
 /// Whether each byte is a character of its own, and none is 0.
 fn are_plain(bytes: &[u8]) -> bool
@@ -40,43 +37,6 @@ fn read_text(bytes: &[u8]) -> Result<(), TextFault>
     match read_str(bytes) {
         Ok(_) => Ok(()),
         Err(refused) => Err(refused),
-    }
-}
-
-/// Whether a byte may come next in a path, inside an element or before the first byte of one.
-#[inline(always)]
-fn may_come(inside: bool, byte: u8) -> bool
-    ensures { result ≡ elements.may_come Path 47 inside byte }
-{
-    if byte == b'/' {
-        inside
-    } else {
-        byte.is_ascii_alphanumeric() || byte == b'_'
-    }
-}
-
-/// Whether the bytes are elements with a slash between any two.
-fn are_elements(bytes: &[u8]) -> bool
-    ensures { result ≡ elements.are_elements Path 47 bytes.now }
-{
-    let mut inside = false;
-    for byte in bytes {
-        if !may_come(inside, *byte) {
-            return false;
-        }
-        inside = *byte != b'/';
-    }
-    inside
-}
-
-/// Whether the bytes are a path.
-#[tactic(auto, unfolding(atspi_types::specs::Names::is_path))]
-fn is_path(bytes: &[u8]) -> bool
-    ensures { result ≡ is_path bytes.now }
-{
-    match bytes {
-        [] => false,
-        [first, rest @ ..] => *first == b'/' && (rest.is_empty() || are_elements(rest)),
     }
 }
 
