@@ -3,3 +3,4 @@ pub mod Runs
 pub mod Texts
 pub mod Knows
 pub mod Opens
+pub mod Owns

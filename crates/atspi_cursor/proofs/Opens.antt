@@ -7,6 +7,7 @@ use Rattle.std.proofs.lemmas.Str.{chars-encodes}
 use Rattle.atspi_cursor.proofs.Passes.{pair_passes}
 use Rattle.atspi_cursor.specs.Passing.{after}
 use Rattle.atspi_base.specs.ReadsText.{text_in}
+use Rattle.atspi_base.specs.Text.{HasNoZero}
 use Rattle.atspi_base.proofs.TextLemmas.{text_is}
 use Rattle.atspi_base.specs.declared.text.TextFault.{TextFault}
 use Rattle.atspi_base.specs.declared.text.TextFault.TheVariants.{Zero, Utf8, NoMemory}
@@ -133,12 +134,13 @@ struct_opened i n k ks b at start e f h =
 pub record OpenedText (i : Input) (n : ℕ) (k : Kind) (b : Bound) (at p m : ℕ) : Type 0 where
   pub within : p + 5 + m ≤ b.end
   pub utf8 : IsUtf8 (long_in i p)
+  pub no_zero : HasNoZero (long_in i p)
   pub data_is : read_data (read i n k b at) ≡ text_data (chars (long_in i p))
 
-text_with_value : (i : Input) (p n : ℕ) (bytes : List ℕ) (r : Result (List ℕ) TextFault) → text_in bytes ≡ r → is_read (text_with i p n r) ≡ true → IsUtf8 bytes × (read_data (text_with i p n r) ≡ text_data (chars bytes))
+text_with_value : (i : Input) (p n : ℕ) (bytes : List ℕ) (r : Result (List ℕ) TextFault) → text_in bytes ≡ r → is_read (text_with i p n r) ≡ true → IsUtf8 bytes × HasNoZero bytes × (read_data (text_with i p n r) ≡ text_data (chars bytes))
 text_with_value i p n bytes (Ok cs) e h =
     let t = text_is bytes cs e in
-    ((cs, (t.1, t.0)), by (byte_in i (p + 4 + n) == 0) h ∙ ap text_data (sym (chars-encodes cs t.1) ∙ ap chars t.0))
+    ((cs, (t.1, t.0)), t.2, by (byte_in i (p + 4 + n) == 0) h ∙ ap text_data (sym (chars-encodes cs t.1) ∙ ap chars t.0))
   where
     by : (z : Bool) → is_read {X = Data × ℕ} (cond z (Ok (text_data cs, p + 4 + n + 1)) (bad (p + 4 + n) 12)) ≡ true → read_data (cond z (Ok (text_data cs, p + 4 + n + 1)) (bad (p + 4 + n) 12)) ≡ text_data cs
     by true h = refl
@@ -158,7 +160,8 @@ text_opened i n k b at p m e f g h =
     record {
       within = rw g (subst (λ (q : ℕ). q + 5 + number_in i w32 q ≤ b.end) here t.1);
       utf8 = subst (λ (q : ℕ). IsUtf8 (long_in i q)) here o.0;
-      data_is = subst (λ (q : ℕ). read_data (read i n k b at) ≡ text_data (chars (long_in i q))) here (ap read_data (same ∙ a.2) ∙ o.1);
+      no_zero = subst (λ (q : ℕ). HasNoZero (long_in i q)) here o.1;
+      data_is = subst (λ (q : ℕ). read_data (read i n k b at) ≡ text_data (chars (long_in i q))) here (ap read_data (same ∙ a.2) ∙ o.2);
     }
 
 -- a path

@@ -33,3 +33,15 @@ is_variant (array k) = false
 is_variant (structure ks) = false
 is_variant variant = true
 is_variant (dictionary k v) = false
+
+-- a number or a boolean
+abbrev pub is_simple : Kind → Bool
+is_simple (number n) = true
+is_simple boolean = true
+is_simple text = false
+is_simple path = false
+is_simple signature = false
+is_simple (array k) = false
+is_simple (structure ks) = false
+is_simple variant = false
+is_simple (dictionary k v) = false

@@ -226,10 +226,26 @@ impl<'a> Entries<'a> {
         self.at = next;
         Some(Entry { key, value })
     }
+
+    /// The type of the keys.
+    pub fn key_type(self) -> TyRef<'a>
+        ensures { ref_kind result ≡ key_kind self.entry }
+    {
+        self.key
+    }
+
+    /// The type of the values.
+    pub fn value_type(self) -> TyRef<'a>
+        ensures { ref_kind result ≡ value_kind self.entry }
+    {
+        self.value
+    }
 }
 
 impl<'a> Item<'a> {
-    ghost use Rattle.std.specs.Prelude.{◌↔◌, IfSome, IsSome, chars, map};
+    ghost use Rattle.std.specs.Prelude.{◌↔◌, ◌^◌, IfSome, IsSome, chars, map};
+    ghost use Rattle.atspi_base.specs.Text.{HasNoZero};
+    ghost use Rattle.atspi_types.specs.Names.{IsPath};
     ghost use Rattle.std.specs.Int.{w16, w32, w64, cast_unsigned};
     ghost use Rattle.atspi_types.specs.Kinds.{byte, i16, u16, i32, u32, i64, u64, double, number, boolean, text, path, signature, array, variant, kinds_of};
     ghost use Rattle.atspi_types.specs.Data.{variant_data, signature_data, dictionary_data, array_data, structure_data, number_data, boolean_data, text_data, path_data, items_of};
@@ -321,6 +337,8 @@ impl<'a> Item<'a> {
     pub fn text(self) -> Option<&'a str>
         ensures is { IsSome result ↔ (item_kind self.entry ≡ text) }
         ensures text { IfSome result (λ s. item_data self.entry ≡ text_data (chars s.now)) }
+        ensures no_zero { IfSome result (λ s. HasNoZero s.now) }
+        ensures counted { IfSome result (λ s. length s.now < 2 ^ 32) }
     {
         let code = self.ty.code();
         if code != b's' {
@@ -335,6 +353,7 @@ impl<'a> Item<'a> {
     pub fn path(self) -> Option<&'a str>
         ensures is { IsSome result ↔ (item_kind self.entry ≡ path) }
         ensures path { IfSome result (λ s. item_data self.entry ≡ path_data s.now) }
+        ensures rule { IfSome result (λ s. IsPath s.now) }
     {
         let code = self.ty.code();
         if code != b'o' {

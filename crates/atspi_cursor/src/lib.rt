@@ -3,6 +3,7 @@
 
 mod cursor;
 mod jumping;
+mod owned;
 mod passing;
 mod plain;
 mod text;

@@ -45,3 +45,10 @@ returns-clause-is c =
 
 pub returns-then-code-ne111-clause-is : goal.returns-then-code-ne111-clause-is
 returns-then-code-ne111-clause-is c = (λ s. absurd (false≢true s), λ e. absurd (c.if-code-ne111.true (c.code-code.ensures.head ∙ ap head_code e)))
+
+pub returns-clause-rule : goal.returns-clause-rule
+returns-clause-rule c =
+    let x = c.args.self in
+    let kind : ref_kind x.ty ≡ path = leaf_kind (ref_kind x.ty) c.code-code.result 111 (omega (arith, c.if-code-ne111.false)) (λ e. absurd (omega (arith, e))) (λ e. absurd (omega (arith, e))) c.code-code.ensures.leaf in
+    let o = path_opened (input_of x.input) x.levels (ref_kind x.ty) x.bound x.at c.align_up-place.result c.u32_at-len.result kind c.align_up-place.ensures c.u32_at-len.ensures x.known in
+    rw (c.from_utf8_unchecked.ensures, c.slice.ensures, c.u32_at-len.ensures) (IsPath-from_test _ o.path_is)
