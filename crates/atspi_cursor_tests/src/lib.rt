@@ -2,6 +2,8 @@
 #![tactic(auto)]
 
 #[cfg(test)]
+mod owning;
+#[cfg(test)]
 mod passing;
 #[cfg(test)]
 mod walking;

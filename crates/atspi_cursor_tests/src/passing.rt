@@ -129,7 +129,7 @@ fn variants_stand_in_one_another_up_to_the_limit(rt: HostRuntime) {
 }
 
 /// Bytes from a seed, small ones mostly, so that lengths are within bounds often.
-fn seeded(rt: &HostRuntime, seed: u32) -> Vec<u8> {
+pub fn seeded(rt: &HostRuntime, seed: u32) -> Vec<u8> {
     let mut bytes = Vec::new(rt.alloc());
     let mut state = seed;
     for _ in 0..40 {

@@ -1,7 +1,7 @@
 //! Values that are read where they lie, told by hand.
 
 use atspi_codes::TysRef;
-use atspi_cursor::{Fields, Item};
+use atspi_cursor::{Entries, Entry, Fields, Item};
 use atspi_types::Order;
 use std::test::*;
 
@@ -110,5 +110,61 @@ fn variants_signatures_and_bytes_lie_in_place(rt: HostRuntime) -> Result<(), Fai
     assert_eq!(rt; bytes.bytes(), Some(b"abc".as_slice()));
     assert_eq!(rt; bytes.text(), None);
     assert!(rt; fields.next().is_none());
+    Ok(())
+}
+
+/// The next entry.
+fn next_entry<'a>(entries: &mut Entries<'a>) -> Result<Entry<'a>, Fail> {
+    match entries.next() {
+        Some(entry) => Ok(entry),
+        None => Err("no entry".into()),
+    }
+}
+
+#[test]
+fn dictionaries_are_walked_entry_by_entry(rt: HostRuntime) -> Result<(), Fail> {
+    // Entries at 8 and 16, whose values are at 12 and 20, and a byte at 24.
+    let mut fields = body(
+        b"a{yu}y",
+        b"\x10\0\0\0\0\0\0\0\x01\0\0\0\x09\0\0\0\x02\0\0\0\x0a\0\0\0\x07",
+    )?;
+    let item = next(&mut fields)?;
+    assert!(rt; item.elements().is_none());
+    let Some(mut entries) = item.entries() else {
+        return Err("no dictionary".into());
+    };
+    assert_eq!(rt; entries.key_type().codes(), b"y".as_slice());
+    assert_eq!(rt; entries.value_type().codes(), b"u".as_slice());
+    let entry = next_entry(&mut entries)?;
+    assert_eq!(rt; entry.key.u8(), Some(1));
+    assert_eq!(rt; entry.value.u32(), Some(9));
+    let entry = next_entry(&mut entries)?;
+    assert_eq!(rt; entry.key.u8(), Some(2));
+    assert_eq!(rt; entry.value.u32(), Some(10));
+    assert!(rt; entries.next().is_none());
+    assert!(rt; entries.next().is_none());
+    let last = next(&mut fields)?;
+    assert_eq!(rt; last.u8(), Some(7));
+    assert!(rt; last.entries().is_none());
+    Ok(())
+}
+
+#[test]
+fn entries_hold_texts_and_variants(rt: HostRuntime) -> Result<(), Fail> {
+    // The text of the key is at 12, the signature of the variant at 14 and its value at 20.
+    let mut fields = body(
+        b"a{sv}",
+        b"\x10\0\0\0\0\0\0\0\x01\0\0\0a\0\x01u\0\0\0\0\x05\0\0\0",
+    )?;
+    let Some(mut entries) = next(&mut fields)?.entries() else {
+        return Err("no dictionary".into());
+    };
+    let entry = next_entry(&mut entries)?;
+    assert_eq!(rt; entry.key.text(), Some("a"));
+    let Some(inner) = entry.value.variant() else {
+        return Err("no variant".into());
+    };
+    assert_eq!(rt; inner.u32(), Some(5));
+    assert!(rt; entries.next().is_none());
     Ok(())
 }
