@@ -6,6 +6,7 @@ use Rattle.std.proofs.Math.Dec.{eqb-suc-zero}
 use Rattle.std.proofs.lemmas.Bool.{lt-ltb, le-ltb, ltb-true, ltb-false}
 use Rattle.atspi_types.specs.Kinds.{Num, byte, i16, u16, i32, u32, i64, u64, double, width, number_alignment, Kind, number, boolean, text, path, signature, array, structure, variant, dictionary, alignment}
 use Rattle.atspi_types.specs.declared.fault.Fault.{Fault}
+use Rattle.atspi_codes.specs.Codes.{head_code, leaf_of}
 use Rattle.atspi_marshal.specs.declared.input.Bound.{Bound}
 use Rattle.atspi_marshal.specs.Input.{Input, aligned}
 use Rattle.atspi_marshal.specs.Reading.{bad, room_at, number_at, elements_at, single_at, level, read}
@@ -123,3 +124,39 @@ numbers_pass i levels (array k) b len start at size e some s end r = absurd (som
 numbers_pass i levels (structure ks) b len start at size e some s end r = absurd (some e)
 numbers_pass i levels variant b len start at size e some s end r = absurd (some e)
 numbers_pass i levels (dictionary k v) b len start at size e some s end r = absurd (some e)
+
+-- one number, by its size
+pub fixed_read : (i : Input) (levels : ℕ) (k : Kind) (b : Bound) (at size : ℕ) → size ≡ number_len k → (size ≡ 0 → ⊥) → fixed_at i size b at ≡ after (read i levels k b at)
+fixed_read i levels (number n) b at size e some =
+    let is : size ≡ number_alignment n = e ∙ sym (same_width n) in
+    rw is (sym (ap after (number_read i levels n b at) ∙ number_fixed i n b at (same_width n)))
+fixed_read i levels boolean b at size e some = absurd (some e)
+fixed_read i levels text b at size e some = absurd (some e)
+fixed_read i levels path b at size e some = absurd (some e)
+fixed_read i levels signature b at size e some = absurd (some e)
+fixed_read i levels (array k) b at size e some = absurd (some e)
+fixed_read i levels (structure ks) b at size e some = absurd (some e)
+fixed_read i levels variant b at size e some = absurd (some e)
+fixed_read i levels (dictionary k v) b at size e some = absurd (some e)
+
+-- the code that a type begins with tells whether it is a number, and of how many bytes
+pub code_size : (k : Kind) (b : ℕ) → b ≡ head_code k → number_len (leaf_of b) ≡ number_len k
+code_size k b e = ap (λ (c : ℕ). number_len (leaf_of c)) e ∙ by k
+  where
+    by : (k : Kind) → number_len (leaf_of (head_code k)) ≡ number_len k
+    by (number byte) = refl
+    by (number i16) = refl
+    by (number u16) = refl
+    by (number i32) = refl
+    by (number u32) = refl
+    by (number i64) = refl
+    by (number u64) = refl
+    by (number double) = refl
+    by boolean = refl
+    by text = refl
+    by path = refl
+    by signature = refl
+    by (array k) = refl
+    by (structure ks) = refl
+    by variant = refl
+    by (dictionary k v) = refl

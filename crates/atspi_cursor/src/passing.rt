@@ -3,6 +3,7 @@
 ghost use Rattle.std.specs.Prelude.{◌≡◌, ◌<◌, ◌≤◌, ◌+◌, ◌-◌, ◌==◌, true, [], ◌∷◌, IfOk, Err};
 ghost use Rattle.std.specs.Int.{w32};
 ghost use Rattle.atspi_types.specs.Kinds.{alignment};
+ghost use Rattle.atspi_codes.specs.Codes.{leaf_of};
 ghost use Rattle.atspi_codes.specs.TyRefs.{ref_kind, refs_kinds};
 ghost use Rattle.atspi_codes.specs.Shapes.{shape_kind};
 ghost use Rattle.atspi_marshal.specs.Input.{number_in, byte_in, aligned};
@@ -11,34 +12,28 @@ ghost use Rattle.atspi_marshal.specs.Reading.{input_of, read, single_at, array_p
 ghost use Rattle.atspi_cursor.specs.Bounds.{ReachTo};
 ghost use Rattle.atspi_cursor.specs.Passing.{after, up_to, read_all, numbers_at, number_len};
 
-use crate::plain::{fault, padding, pass_boolean, pass_fixed, room};
+use crate::plain::{fault, padding, pass_boolean, pass_fixed, pass_number, room};
 use crate::text::{pass_path, pass_signature, pass_text, short, type_at};
 use atspi_codes::{Shape, TyRef, TysRef};
 use atspi_marshal::{Bound, Marshalled, byte_at, u32_at};
 use atspi_types::Fault;
 
-/// How many bytes a number of the type has, and 0 of what is no number.
+/// How many bytes a number has whose type is this code, and 0 of what is no number.
 #[inline(always)]
-fn number_len(shape: Shape) -> usize
-    ensures { result ≡ number_len (shape_kind shape.entry) }
+fn number_size(code: u8) -> usize
+    ensures size { result ≡ number_len (leaf_of code) }
+    ensures within { result ≤ 8 }
 {
-    match shape {
-        Shape::Byte => 1,
-        Shape::I16 => 2,
-        Shape::U16 => 2,
-        Shape::I32 => 4,
-        Shape::U32 => 4,
-        Shape::I64 => 8,
-        Shape::U64 => 8,
-        Shape::Double => 8,
-        Shape::Bool => 0,
-        Shape::Text => 0,
-        Shape::Path => 0,
-        Shape::Sig => 0,
-        Shape::Variant => 0,
-        Shape::Array(_) => 0,
-        Shape::Struct(_) => 0,
-        Shape::Dict(_, _) => 0,
+    match code {
+        b'y' => 1,
+        b'n' => 2,
+        b'q' => 2,
+        b'i' => 4,
+        b'u' => 4,
+        b'x' => 8,
+        b't' => 8,
+        b'd' => 8,
+        _ => 0,
     }
 }
 
@@ -93,6 +88,7 @@ fn first_item<'a>(ty: TyRef<'a>) -> TyRef<'a>
 
 /// The place behind a value of the type that has so many levels of containers at most.
 #[cycle(pass)]
+#[inline(always)]
 pub fn pass(
     input: &Marshalled,
     levels: u8,
@@ -100,6 +96,22 @@ pub fn pass(
     bound: Bound,
     at: usize,
 ) -> Result<usize, Fault>
+    requires at { at ≤ bound.end }
+    requires end { ReachTo input.now bound.end }
+    ensures place { result ≡ after (read (input_of input.now) levels (ref_kind ty.entry) bound at) }
+    ensures within { IfOk result (λ p. (at ≤ p) × (p ≤ bound.end)) }
+{
+    let code = ty.code();
+    let size = number_size(code);
+    if size != 0 {
+        return pass_number(input, size, bound, at);
+    }
+    other(input, levels, ty, bound, at)
+}
+
+/// The same of any type, a number too.
+#[cycle(pass)]
+fn other(input: &Marshalled, levels: u8, ty: TyRef, bound: Bound, at: usize) -> Result<usize, Fault>
     requires at { at ≤ bound.end }
     requires end { ReachTo input.now bound.end }
     ensures place { result ≡ after (read (input_of input.now) levels (ref_kind ty.entry) bound at) }
@@ -184,7 +196,8 @@ fn array_body(input: &Marshalled, levels: u8, element: TyRef, place: usize) -> R
         reason: 18,
     };
     let start = padding(input, align, inside, unpadded)?;
-    let size = number_len(element.shape());
+    let code = element.code();
+    let size = number_size(code);
     if size != 0 {
         return numbers(size, len, inside.end);
     }

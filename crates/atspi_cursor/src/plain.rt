@@ -125,6 +125,23 @@ pub fn pass_fixed(input: &Marshalled, len: usize, bound: Bound, at: usize) -> Re
     Ok(place + len)
 }
 
+/// The place behind a number of `size` bytes. Each size has an arm of its own, so that the machine divides by a constant.
+#[inline(always)]
+pub fn pass_number(input: &Marshalled, size: usize, bound: Bound, at: usize) -> Result<usize, Fault>
+    requires size { (0 < size) × (size ≤ 8) }
+    requires at { at ≤ bound.end }
+    requires end { ReachTo input.now bound.end }
+    ensures place { result ≡ fixed_at (input_of input.now) size bound at }
+    ensures within { IfOk result (λ p. (at < p) × (p ≤ bound.end)) }
+{
+    match size {
+        4 => pass_fixed(input, 4, bound, at),
+        8 => pass_fixed(input, 8, bound, at),
+        1 => pass_fixed(input, 1, bound, at),
+        _ => pass_fixed(input, size, bound, at),
+    }
+}
+
 /// The place behind a boolean.
 #[tactic(auto, unfolding(atspi_marshal::specs::Reading::boolean_at))]
 pub fn pass_boolean(input: &Marshalled, bound: Bound, at: usize) -> Result<usize, Fault>

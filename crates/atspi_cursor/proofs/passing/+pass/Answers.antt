@@ -7,7 +7,7 @@ use Rattle.atspi_marshal.specs.Reading.{input_of, read, elements_at, single_at, 
 use Rattle.atspi_marshal.proofs.Levels.{read_is, types_in-kinds_of, level_single}
 use Rattle.atspi_cursor.specs.Passing.{up_to, number_len}
 use Rattle.atspi_cursor.proofs.Passes.{number_fixed, passes_on, array_passes, dictionary_passes, structure_passes, pair_passes, not_structure, empty_deep}
-use Rattle.atspi_cursor.proofs.Runs.{numbers_pass}
+use Rattle.atspi_cursor.proofs.Runs.{numbers_pass, fixed_read, code_size}
 use Rattle.atspi_cursor.proofs.passing.+pass.Goals as goal
 
 pub single-returns-in-Byte-clause-place : goal.single-returns-in-Byte-clause-place
@@ -74,12 +74,18 @@ pub single-returns-in-Struct-clause-place : goal.single-returns-in-Struct-clause
 unfolding single_at
 single-returns-in-Struct-clause-place t c = rw (c.in-Struct.is, c.fault.ensures) refl
 
-pub pass-returns-in-Some-clause-place : goal.pass-returns-in-Some-clause-place
-unfolding level
-pass-returns-in-Some-clause-place t c = rw (c.in-Some.ensures.fields, read_is, types_in-kinds_of) c.structure.ensures.place
+pub pass-returns-then-size-ne0-clause-place : goal.pass-returns-then-size-ne0-clause-place
+pass-returns-then-size-ne0-clause-place t c =
+    let k = ref_kind c.args.ty in
+    let size = c.number_size-size.ensures.size ∙ code_size k c.code-code.result c.code-code.ensures.head in
+    c.pass_number.ensures.place ∙ fixed_read (input_of c.args.input.now) c.args.levels k c.args.bound c.args.at c.number_size-size.result size c.if-size-ne0.true
 
-pub pass-returns-in-None-clause-place : goal.pass-returns-in-None-clause-place
-pass-returns-in-None-clause-place t c =
+pub other-returns-in-Some-clause-place : goal.other-returns-in-Some-clause-place
+unfolding level
+other-returns-in-Some-clause-place t c = rw (c.in-Some.ensures.fields, read_is, types_in-kinds_of) c.structure.ensures.place
+
+pub other-returns-in-None-clause-place : goal.other-returns-in-None-clause-place
+other-returns-in-None-clause-place t c =
     let i = input_of c.args.input.now in
     let b = c.args.bound in
     rw (read_is, level_single (c.args.levels == 0) (read i (c.args.levels - 1)) i (ref_kind c.args.ty) b c.args.at (not_structure (ref_kind c.args.ty) c.in-None.ensures.is.1), ← c.shape.ensures) c.single.ensures.place
@@ -144,5 +150,5 @@ array_body-returns-then-size-ne0-clause-place t c =
     let here = rw c.alignment-align.ensures at c.numbers.ensures in
     let stands = rw c.alignment-align.ensures at c.in_ok-start.ensures.within.0 in
     rw (array_passes below i k c.args.place n c.in_ok-start.start c.u32_at-len.ensures padded) (
-    here ∙ numbers_pass i c.args.levels k (inside k c.args.place n) n c.in_ok-start.start (c.args.place + 4) c.number_len-size.result (c.number_len-size.ensures ∙ ap number_len c.shape.ensures) c.if-size-ne0.true stands (omega (arith, stands)) refl
+    here ∙ numbers_pass i c.args.levels k (inside k c.args.place n) n c.in_ok-start.start (c.args.place + 4) c.number_size-size.result (c.number_size-size.ensures.size ∙ code_size k c.code-code.result c.code-code.ensures.head) c.if-size-ne0.true stands (omega (arith, stands)) refl
     )

@@ -6,7 +6,10 @@ use Rattle.atspi_cursor.specs.Passing.{after, up_to, read_all}
 use Rattle.atspi_cursor.proofs.passing.+pass.Given as goal
 
 abbrev pub decreases-pass : goal.decreases-pass
-decreases-pass a = 16 * a.levels + 9
+decreases-pass a = 16 * a.levels + 10
+
+abbrev pub decreases-other : goal.decreases-other
+decreases-other a = 16 * a.levels + 9
 
 abbrev pub decreases-structure : goal.decreases-structure
 decreases-structure a = 16 * a.levels + 8
