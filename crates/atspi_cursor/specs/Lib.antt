@@ -1,4 +1,5 @@
 pub mod Bounds
+pub mod Examples
 pub mod Items
 pub mod Known
 pub mod Passing

@@ -2,6 +2,7 @@
 #![tactic(auto)]
 
 mod cursor;
+pub mod examples;
 mod jumping;
 mod owned;
 mod passing;

@@ -1,0 +1,23 @@
+//! Values of the definitions, worked out by hand: none of these functions does anything.
+
+ghost use Rattle.atspi_cursor.specs.Examples.{BytesArePlain, NumbersAreSized, NumbersFill, TypesAreTold};
+
+/// Which bytes are characters of their own.
+pub fn bytes_are_plain()
+    ensures { BytesArePlain }
+{}
+
+/// How many bytes numbers take.
+pub fn numbers_are_sized()
+    ensures { NumbersAreSized }
+{}
+
+/// Where numbers one after the other end.
+pub fn numbers_fill()
+    ensures { NumbersFill }
+{}
+
+/// What types are.
+pub fn types_are_told()
+    ensures { TypesAreTold }
+{}
