@@ -12,3 +12,5 @@ mod text;
 pub use cursor::{Elements, Entries, Entry, Fields, Item};
 pub use jumping::jump;
 pub use passing::{fields, pass};
+pub use plain::{fault, padding, room};
+pub use text::{long, short, slice, types_at};

@@ -1,0 +1,4 @@
+pub mod Names
+pub mod HeaderFields
+pub mod BodyValues
+pub mod ParsingLaws

@@ -1,0 +1,53 @@
+-- Names of a header: they are text, and each is of its rule.
+use Rattle.std.proofs.Common.{◌≡◌, ℕ, List, Option, Some, None, Bool, true, refl, subst}
+use Rattle.std.specs.Prelude.{◌&&◌, IfSome}
+use Rattle.std.specs.Borrow.{Bor}
+use Rattle.std.specs.Str.{IsUtf8}
+use Rattle.std.proofs.lemmas.Str.{IsUtf8-from_ascii}
+use Rattle.atspi_types.specs.Names.{is_path, is_interface, is_member, is_bus_name, IsPath, IsInterface, IsMember, IsBusName}
+use Rattle.atspi_types.proofs.NameLemmas.{IsPath-from_test, IsInterface-from_test, IsMember-from_test, IsBusName-from_test, IsAscii-IsPath, IsAscii-IsInterface, IsAscii-IsMember, IsAscii-IsBusName, is_path-from_IsPath, is_interface-from_IsInterface, is_member-from_IsMember, is_bus_name-from_IsBusName}
+use Rattle.atspi_marshal.specs.declared.input.Bound.{Bound}
+use Rattle.atspi_marshal.specs.Input.{Input}
+use Rattle.atspi_message.specs.Envelope.{Envelope}
+use Rattle.atspi_message.specs.Rules.{HasNames}
+use Rattle.atspi_message.specs.Reading.{is_name, name_at, value_at}
+use Rattle.atspi_header.specs.declared.code.NameCode.{NameCode}
+use Rattle.atspi_header.specs.declared.code.NameCode.TheVariants.{Path, Interface, Member, Error, Destination, Sender}
+use Rattle.atspi_header.specs.Codes.{name_code}
+use Rattle.atspi_header.specs.Names.{fits, are_named}
+use Rattle.atspi_header.specs.View.{bytes_of}
+
+-- a name of any rule is ASCII
+pub name_is_text : (c : NameCode) (bytes : List ℕ) → is_name (name_code c) bytes ≡ true → IsUtf8 bytes
+name_is_text Path bytes e = IsUtf8-from_ascii bytes (IsAscii-IsPath bytes (IsPath-from_test bytes e))
+name_is_text Interface bytes e = IsUtf8-from_ascii bytes (IsAscii-IsInterface bytes (IsInterface-from_test bytes e))
+name_is_text Member bytes e = IsUtf8-from_ascii bytes (IsAscii-IsMember bytes (IsMember-from_test bytes e))
+name_is_text Error bytes e = IsUtf8-from_ascii bytes (IsAscii-IsInterface bytes (IsInterface-from_test bytes e))
+name_is_text Destination bytes e = IsUtf8-from_ascii bytes (IsAscii-IsBusName bytes (IsBusName-from_test bytes e))
+name_is_text Sender bytes e = IsUtf8-from_ascii bytes (IsAscii-IsBusName bytes (IsBusName-from_test bytes e))
+
+-- the value of such a field is the name
+pub value_is_name : (c : NameCode) (i : Input) (b : Bound) (at : ℕ) → value_at i b (name_code c) at ≡ name_at (name_code c) i b at
+value_is_name Path i b at = refl
+value_is_name Interface i b at = refl
+value_is_name Member i b at = refl
+value_is_name Error i b at = refl
+value_is_name Destination i b at = refl
+value_is_name Sender i b at = refl
+
+-- a name that is there is of the rule
+fits_from : (rule : List ℕ → Bool) (P : List ℕ → Type 0) → ((bytes : List ℕ) → P bytes → rule bytes ≡ true) → (o : Option (Bor (List ℕ))) (bytes : Option (List ℕ)) → bytes ≡ bytes_of o → IfSome bytes P → fits rule o ≡ true
+fits_from rule P test (Some name) (Some bytes) e h = let same : bytes ≡ name.now = cc in test name.now (let Q : List ℕ → Type 0 = P in subst Q same h)
+fits_from rule P test (Some name) None e h = absurd cc
+fits_from rule P test None bytes e h = refl
+
+all_six : (a b c d e f : Bool) → a ≡ true → b ≡ true → c ≡ true → d ≡ true → e ≡ true → f ≡ true → (a && (b && (c && (d && (e && f))))) ≡ true
+all_six a b c d e f p q r s t u = rw (p, q, r, s, t, u) refl
+
+-- the names of a message are named
+pub named_from : (p i m e d s : Option (Bor (List ℕ))) (envelope : Envelope) → HasNames envelope → envelope.path ≡ bytes_of p → envelope.interface ≡ bytes_of i → envelope.member ≡ bytes_of m → envelope.error ≡ bytes_of e
+    → envelope.destination ≡ bytes_of d → envelope.sender ≡ bytes_of s → are_named p i m e d s ≡ true
+named_from p i m e d s envelope names a b c f g h =
+    all_six _ _ _ _ _ _ (fits_from is_path IsPath is_path-from_IsPath p envelope.path a names.path) (fits_from is_interface IsInterface is_interface-from_IsInterface i envelope.interface b names.interface)
+    (fits_from is_member IsMember is_member-from_IsMember m envelope.member c names.member) (fits_from is_interface IsInterface is_interface-from_IsInterface e envelope.error f names.error)
+    (fits_from is_bus_name IsBusName is_bus_name-from_IsBusName d envelope.destination g names.destination) (fits_from is_bus_name IsBusName is_bus_name-from_IsBusName s envelope.sender h names.sender)

@@ -1,0 +1,27 @@
+-- The known fields of a header: six are names.
+use Rattle.std.specs.Prelude.{Option, Some, None}
+use Rattle.atspi_message.specs.declared.code.Code.{Code}
+use Rattle.atspi_message.specs.declared.code.Code.TheVariants as codes
+use Rattle.atspi_header.specs.declared.code.NameCode.{NameCode}
+use Rattle.atspi_header.specs.declared.code.NameCode.TheVariants.{Path, Interface, Member, Error, Destination, Sender}
+use Rattle.atspi_header.specs.declared.code.Code.{Code as Known}
+use Rattle.atspi_header.specs.declared.code.Code.TheVariants.{Name, Reply, Signature, Descriptors}
+
+abbrev pub name_code : NameCode → Code
+name_code Path = codes.Path
+name_code Interface = codes.Interface
+name_code Member = codes.Member
+name_code Error = codes.Error
+name_code Destination = codes.Destination
+name_code Sender = codes.Sender
+
+abbrev pub field_code : Known → Code
+field_code (Name n) = name_code n
+field_code Reply = codes.Reply
+field_code Signature = codes.Signature
+field_code Descriptors = codes.Descriptors
+
+-- a known field, or none
+abbrev pub known_code : Option Known → Option Code
+known_code (Some c) = Some (field_code c)
+known_code None = None
