@@ -1,12 +1,16 @@
 -- The first reason of several, and tests of the row of a node.
-use Rattle.std.proofs.Common.{◌≡◌, ℕ, Bool, true, false, cond, not, Option, Some, None, List, [], ◌∷◌, refl, sym, ap, ◌∙◌, subst}
-use Rattle.std.specs.Prelude.{◌&&◌}
+use Rattle.std.proofs.Common.{◌≡◌, ℕ, Bool, true, false, Some, None, List, [], ◌∷◌, refl, sym, ap, ◌∙◌, arith}
+use Rattle.std.specs.Prelude.{◌&&◌, ◌||◌, ◌<◌, nat_le}
+use Rattle.std.proofs.lemmas.Bool.{leb-true}
 use Rattle.std.specs.Option.{option_map}
 use Rattle.atspi_forest.specs.declared.edit.EditFault.{EditFault}
-use Rattle.atspi_forest.specs.Forest.{has, find}
+use Rattle.atspi_forest.specs.Forest.{has}
 use Rattle.atspi_forest.specs.Row.{ShapeRow}
 use Rattle.atspi_forest.specs.Tree.{is_shape}
-use Rattle.atspi_forest.specs.Edits.{first_fault}
+use Rattle.atspi_forest.specs.Edits.{first_fault, lacks_node, refusals}
+use Rattle.atspi_forest.specs.declared.contents.FaceData.TheVariants.{Deeds}
+use Rattle.atspi_forest.specs.declared.edit.Edit.TheVariants.{Move}
+use Rattle.atspi_forest.proofs.EditLemmas.{false_of_not, none_of}
 use Rattle.atspi_forest.proofs.Found.{count-has, find-has}
 use Rattle.atspi_forest.proofs.Lookup.{test_found}
 use Rattle.atspi_tree.specs.TreeShape.{TreeShape, IsLawful, row_of}
@@ -35,3 +39,23 @@ asked {V = V} t n g v q lawful there e =
   where
     same : (x y : V) → Some x ≡ Some y → x ≡ y
     same x y e = cc
+
+-- a test of an index that is not behind all
+pub within : (count index : ℕ) → index < count → nat_le count index ≡ false
+within count index l = at (nat_le count index) refl
+  where
+    at : (b : Bool) → nat_le count index ≡ b → nat_le count index ≡ false
+    at true e = let k = leb-true count index e in absurd (omega arith)
+    at false e = e
+
+-- both nodes of a move that is not refused are there
+pub both_there : (t : TreeShape) (n p i : ℕ) → first_fault (refusals t.rows t.added (Deeds []) (Move n p i)) ≡ None
+    → (has (is_shape n) t.rows ≡ true) × (has (is_shape p) t.rows ≡ true)
+both_there t n p i e =
+    let one = none_of (lacks_node t.rows n || lacks_node t.rows p) _ _ e in
+    let both = neither (lacks_node t.rows n) (lacks_node t.rows p) one.0 in
+    (false_of_not (has (is_shape n) t.rows) both.0, false_of_not (has (is_shape p) t.rows) both.1)
+  where
+    neither : (a b : Bool) → a || b ≡ false → (a ≡ false) × (b ≡ false)
+    neither true b e = cc
+    neither false b e = (refl, e)

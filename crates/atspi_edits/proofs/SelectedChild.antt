@@ -1,21 +1,25 @@
 -- The children of a node, each found under its number.
-use Rattle.std.proofs.Common.{◌≡◌, ℕ, zero, suc, ◌+◌, ◌<◌, ◌≤◌, ◌==◌, Bool, true, false, cond, Option, Some, None, Ok, List, [], ◌∷◌, length, drop, get_or, map, refl, sym, ap, ◌∙◌, subst, arith}
-use Rattle.std.proofs.lemmas.Bool.{eqb-true, eq-eqb}
-use Rattle.atspi_forest.specs.Forest.{Forest, nil, tree, count, has, find, first_of, tops, width, children_at, EachLabel}
+use Rattle.std.proofs.Common.{◌≡◌, ℕ, zero, suc, ◌<◌, ◌≤◌, ◌==◌, Bool, true, false, cond, Some, Ok, List, [], ◌∷◌, ◌++◌, length, take, drop, get_or, map, refl, sym, ap, ◌∙◌, arith}
+use Rattle.std.specs.Prelude.{filter}
+use Rattle.std.proofs.lemmas.Bool.{eq-eqb}
+use Rattle.std.proofs.lemmas.List.{map-append, take-map, drop-map}
+use Rattle.atspi_forest.specs.Forest.{Forest, nil, tree, count, find, first_of, tops, width, EachLabel}
 use Rattle.atspi_forest.specs.Row.{ShapeRow, Each}
 use Rattle.atspi_forest.specs.States.{has_state}
 use Rattle.atspi_forest.specs.Tree.{is_shape}
-use Rattle.atspi_forest.specs.Edits.{children_of, node_has_state, selecting, switch, switched, steps_unless, made_steps}
+use Rattle.atspi_forest.specs.Edits.{children_of, node_has_state, others, selecting, switch, switched, steps_unless, made_steps, unselecting as unselecting_rows}
 use Rattle.atspi_forest.specs.declared.step.Step.{Step}
-use Rattle.atspi_forest.proofs.Found.{each_counted, count-has, has-count, find-passes, not_there, EachLabel-weaker}
+use Rattle.atspi_forest.specs.declared.step.Step.TheVariants.{SetState}
+use Rattle.atspi_forest.proofs.Found.{each_counted, has-count, find-passes, not_there, EachLabel-weaker}
 use Rattle.atspi_forest.proofs.Labels.{each_both}
-use Rattle.atspi_forest.proofs.Lookup.{each_children_at, each_tops, test_found}
+use Rattle.atspi_forest.proofs.Lookup.{each_append, each_children_at, each_drop, each_take, each_tops, test_found}
 use Rattle.atspi_forest.specs.declared.contents.FaceData.TheVariants.{Deeds}
-use Rattle.atspi_forest.specs.declared.edit.Edit.TheVariants.{Deselect}
+use Rattle.atspi_forest.specs.declared.edit.Edit.TheVariants.{Deselect, Select}
 use Rattle.atspi_tree.specs.TreeShape.{TreeShape, IsLawful, numbers}
 use Rattle.atspi_tree.proofs.Held.{no_row}
 use Rattle.atspi_edits.specs.Answers.{edit_steps}
 use Rattle.atspi_edits.specs.Selection.{IsChild}
+use Rattle.atspi_edits.specs.Switches.{unselecting}
 
 -- where each number stands once, each row is the one found under its number
 each_found : (f : Forest ShapeRow) → ((m : ℕ) → count (is_shape m) f ≤ 1) → EachLabel (λ b. find (is_shape b.node) f ≡ Some b) f
@@ -68,3 +72,43 @@ pub deselects : (t : TreeShape) (n i child : ℕ) → IsChild t n i child → ed
 deselects t n i child h =
     ap (λ fault. steps_unless fault (made_steps t.rows t.added (Deeds []) (Deselect n i))) h.allowed
     ∙ ap Ok (selected_at t n i child false h.lawful h.in_range h.stands)
+
+-- nodes that are found, selected no more, by their numbers
+unselecting-rows : (f : Forest ShapeRow) → ((m : ℕ) → count (is_shape m) f ≤ 1) → (xs : List ShapeRow) → Each (λ (b : ShapeRow). find (is_shape b.node) f ≡ Some b) xs
+    → unselecting_rows xs ≡ unselecting f (map (λ (row : ShapeRow). row.node) xs)
+unselecting-rows f once [] h = refl
+unselecting-rows f once (x ∷ xs) h =
+    let there = has-count (is_shape x.node) f (find-passes (is_shape x.node) f x h.0).1 in
+    let same = test_found (is_shape x.node) (λ (row : ShapeRow). has_state 23 row.states) f x (once x.node) there h.0 in
+    at (has_state 23 x.states) (node_has_state f x.node 23) (sym same) (unselecting-rows f once xs h.1)
+  where
+    at : (b d : Bool) → b ≡ d → unselecting_rows xs ≡ unselecting f (map (λ (row : ShapeRow). row.node) xs)
+        → map (λ (row : ShapeRow). SetState row.node 23 false) (cond b (x ∷ filter (λ row. has_state 23 row.states) xs) (filter (λ row. has_state 23 row.states) xs))
+        ≡ map (λ m. SetState m 23 false) (cond d (x.node ∷ filter (λ m. node_has_state f m 23) (map (λ (row : ShapeRow). row.node) xs)) (filter (λ m. node_has_state f m 23) (map (λ (row : ShapeRow). row.node) xs)))
+    at true true e i = ap (λ (l : List Step). SetState x.node 23 false ∷ l) i
+    at false false e i = i
+    at true false e i = cc
+    at false true e i = cc
+
+others-map : (i : ℕ) (xs : List ShapeRow) → others i (map (λ (row : ShapeRow). row.node) xs) ≡ map (λ (row : ShapeRow). row.node) (others i xs)
+others-map i xs =
+    ap (λ (l : List ℕ). l ++ drop (suc i) (map (λ (row : ShapeRow). row.node) xs)) (take-map (λ (row : ShapeRow). row.node) i xs)
+    ∙ ap (λ (l : List ℕ). map (λ (row : ShapeRow). row.node) (take i xs) ++ l) (drop-map (λ (row : ShapeRow). row.node) (suc i) xs)
+    ∙ sym (map-append (λ (row : ShapeRow). row.node) (take i xs) (drop (suc i) xs))
+
+-- a child that may be selected: the steps of that edit
+pub selects : (t : TreeShape) (n i child : ℕ) → IsChild t n i child
+    → edit_steps t (Deeds []) (Select n i) ≡ Ok (cond (node_has_state t.rows n 18) [] (unselecting t.rows (others i (numbers (children_of t.rows n)))) ++ switched t.rows child 23 true)
+selects t n i child h =
+    ap (λ fault. steps_unless fault (made_steps t.rows t.added (Deeds []) (Select n i))) h.allowed
+    ∙ ap (λ (l : List Step). Ok (cond (node_has_state t.rows n 18) [] l ++ selecting true (drop i (tops (children_of t.rows n))))) rows
+    ∙ ap (λ (l : List Step). Ok (cond (node_has_state t.rows n 18) [] (unselecting t.rows (others i (numbers (children_of t.rows n)))) ++ l)) (selected_at t n i child true h.lawful h.in_range h.stands)
+  where
+    found : Each (λ (b : ShapeRow). find (is_shape b.node) t.rows ≡ Some b) (tops (children_of t.rows n))
+    found = each_tops _ (children_of t.rows n) (each_children_at _ (is_shape n) t.rows (each_found t.rows h.lawful.once))
+
+    rows : unselecting_rows (others i (tops (children_of t.rows n))) ≡ unselecting t.rows (others i (numbers (children_of t.rows n)))
+    rows =
+        unselecting-rows t.rows h.lawful.once (others i (tops (children_of t.rows n)))
+        (each_append _ (take i (tops (children_of t.rows n))) (drop (suc i) (tops (children_of t.rows n))) (each_take _ i (tops (children_of t.rows n)) found) (each_drop _ (suc i) (tops (children_of t.rows n)) found))
+        ∙ ap (unselecting t.rows) (sym (others-map i (tops (children_of t.rows n))))

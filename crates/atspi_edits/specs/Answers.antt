@@ -1,11 +1,10 @@
 -- What asking a tree for the steps of an edit answers.
-use Rattle.std.specs.Prelude.{ℕ, ◌≡◌, ◌≤◌, List, length, Result, Ok, Err, IsOk}
+use Rattle.std.specs.Prelude.{◌≡◌, List, Result, Ok, Err, IsOk}
 use Rattle.atspi_forest.specs.Edits.{steps_of}
 use Rattle.atspi_forest.specs.Row.{IsText}
 use Rattle.atspi_forest.specs.declared.contents.FaceData.{FaceData}
 use Rattle.atspi_forest.specs.declared.contents.FaceData.TheVariants.{Chars}
 use Rattle.atspi_forest.specs.declared.edit.Edit.{Edit}
-use Rattle.atspi_forest.specs.declared.edit.Edit.TheVariants.{Move, Focus, Cut, Select, Press}
 use Rattle.atspi_forest.specs.declared.edit.EditFault.{EditFault}
 use Rattle.atspi_forest.specs.declared.step.Step.{Step}
 use Rattle.atspi_forest.specs.declared.step.StepList.{StepList}
@@ -27,12 +26,3 @@ abbrev pub GivesSteps : Result StepList EditRefused → Result (List Step) EditF
 GivesSteps (Ok steps) meant = meant ≡ Ok steps
 GivesSteps (Err (Refused fault)) meant = meant ≡ Err fault
 GivesSteps (Err NoMemory) meant = IsOk meant
-
--- the edits of which the steps are told: all but a move, the focus, a cut, a selection and an action
-abbrev pub IsEditDone : Edit → Type 0
-IsEditDone (Move n p i) = ⊥
-IsEditDone (Focus n) = ⊥
-IsEditDone (Cut n from to) = ⊥
-IsEditDone (Select n i) = ⊥
-IsEditDone (Press n i) = ⊥
-IsEditDone _ = Unit {0}

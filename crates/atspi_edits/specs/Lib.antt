@@ -1,3 +1,7 @@
 pub mod Face
 pub mod Answers
 pub mod Selection
+pub mod Switches
+pub mod Deeds
+pub mod Places
+pub mod Cuts

@@ -1,10 +1,14 @@
 //! Edits: which steps an edit of an application's tree makes, or the first reason to refuse it.
 #![tactic(auto)]
 
+mod actions;
 mod children;
 mod copies;
+mod cuts;
 mod fault;
+mod focus;
 mod inserts;
+mod moves;
 mod named;
 mod parts;
 mod refusals;

@@ -1,11 +1,15 @@
 //! The steps of an edit.
 
 ghost use Rattle.atspi_forest.specs.Edits.{IsEdit};
-ghost use Rattle.atspi_edits.specs.Answers.{GivesSteps, IsEditDone, IsKnown, edit_steps};
+ghost use Rattle.atspi_edits.specs.Answers.{GivesSteps, IsKnown, edit_steps};
 
-use crate::children::deselect;
+use crate::actions::press;
+use crate::children::{deselect, select};
+use crate::cuts::cut;
 use crate::fault::EditRefused;
+use crate::focus::focus;
 use crate::inserts::insert;
+use crate::moves::shift;
 use crate::named::{describe, name, remove, role};
 use crate::relations::{relate, unrelate};
 use crate::states::state;
@@ -23,7 +27,6 @@ pub fn steps_of(
     edit: &Edit,
     known: &FaceData,
 ) -> Result<StepList, EditRefused>
-    requires done { IsEditDone edit.now }
     requires lawful { IsEdit edit.now }
     requires known { IsKnown known.now }
     ensures { GivesSteps result (edit_steps tree.now known.now edit.now) }
@@ -50,11 +53,15 @@ pub fn steps_of(
         Edit::Unmark { node } => unmark(alloc, tree, *node, known),
         Edit::Relate { node, kind, target } => relate(alloc, tree, *node, *kind, *target),
         Edit::Unrelate { node, kind, target } => unrelate(alloc, tree, *node, *kind, *target),
-        Edit::Move { .. } => unreachable!(),
-        Edit::Focus { .. } => unreachable!(),
-        Edit::Cut { .. } => unreachable!(),
-        Edit::Select { .. } => unreachable!(),
+        Edit::Move {
+            node,
+            parent,
+            index,
+        } => shift(alloc, tree, *node, *parent, *index),
+        Edit::Focus { node } => focus(alloc, tree, *node),
+        Edit::Cut { node, from, to } => cut(alloc, tree, *node, *from, *to, known),
+        Edit::Select { node, index } => select(alloc, tree, *node, *index),
         Edit::Deselect { node, index } => deselect(alloc, tree, *node, *index),
-        Edit::Press { .. } => unreachable!(),
+        Edit::Press { node, index } => press(alloc, tree, *node, *index, known),
     }
 }

@@ -1,4 +1,4 @@
-use Rattle.std.proofs.Common.{ℕ, List, length, ap, sym, ◌∙◌, arith}
+use Rattle.std.proofs.Common.{ℕ, List, length, ap, arith}
 use Rattle.atspi_forest.specs.Forest.{children_at}
 use Rattle.atspi_forest.specs.Tree.{is_shape}
 use Rattle.atspi_tree.proofs.Trees.{width-numbers}

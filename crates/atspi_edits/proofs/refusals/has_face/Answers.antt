@@ -1,4 +1,4 @@
-use Rattle.std.proofs.Common.{◌≡◌, not, sym, ap, ◌∙◌}
+use Rattle.std.proofs.Common.{not, ap, ◌∙◌}
 use Rattle.atspi_forest.specs.Edits.{lacks_kind}
 use Rattle.atspi_forest.specs.Row.{ShapeRow}
 use Rattle.atspi_edits.specs.declared.refusals.Face.TheVariants.{Text, Editable, Selection, Action}

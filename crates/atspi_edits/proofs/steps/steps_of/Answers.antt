@@ -23,3 +23,9 @@ returns-in-Relate c = subst (λ (edit : Edit). GivesSteps c.relate.result (edit_
 
 pub returns-in-Unrelate : goal.returns-in-Unrelate
 returns-in-Unrelate c = subst (λ (edit : Edit). GivesSteps c.unrelate.result (edit_steps c.args.tree.now c.args.known.now edit)) (sym c.in-Unrelate.is) (c.unrelate.ensures c.args.known.now)
+
+pub returns-in-Move : goal.returns-in-Move
+returns-in-Move c = subst (λ (edit : Edit). GivesSteps c.shift.result (edit_steps c.args.tree.now c.args.known.now edit)) (sym c.in-Move.is) (c.shift.ensures c.args.known.now)
+
+pub returns-in-Focus : goal.returns-in-Focus
+returns-in-Focus c = subst (λ (edit : Edit). GivesSteps c.focus.result (edit_steps c.args.tree.now c.args.known.now edit)) (sym c.in-Focus.is) (c.focus.ensures c.args.known.now)
