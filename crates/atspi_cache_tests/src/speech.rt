@@ -8,6 +8,26 @@ use std::test::*;
 
 const FOCUSED: u64 = 1 << 12;
 
+/// A name, a role and states.
+type Known<'a> = (&'a str, u32, u64);
+
+/// What a news of `/a` says, in words that are copied.
+#[derive(Clone, Copy)]
+enum Told<'a> {
+    Name(&'a str),
+    State(u8, bool),
+    Inserted(&'a str),
+    Deleted(&'a str),
+    /// An item: its bus name and path, its parent's bus name, and its role. Its name is `Saved`.
+    Item(&'a str, &'a str, &'a str, u32),
+    Removed,
+    ChildAdded,
+    Description,
+    Role,
+    Caret,
+    Nothing,
+}
+
 fn text(rt: &HostRuntime, text: &str) -> Result<Text, Fail> {
     if text.len() >= 1000 {
         return Err("a long text")?;
@@ -27,17 +47,17 @@ fn path(rt: &HostRuntime, path: &str) -> Result<Path, Fail> {
     )
 }
 
-/// The row of `/a` with this name, role and states.
-fn row(rt: &HostRuntime, name: &str, role: u32, states: u64) -> Result<Row, Fail> {
+/// The row of `/a`.
+fn row_of(rt: &HostRuntime, known: Known) -> Result<Row, Fail> {
     let path = path(rt, "/a")?;
-    let name = text(rt, name)?;
+    let name = text(rt, known.0)?;
     let description = text(rt, "")?;
     Ok(Row {
         path,
         name,
         description,
-        role,
-        states,
+        role: known.1,
+        states: known.2,
         faces: 1,
         text: Part::Unknown,
         caret: NumPart::Unknown,
@@ -51,21 +71,19 @@ fn reference(rt: &HostRuntime, bus: &str, at: &str) -> Result<Reference, Fail> {
     Ok(Reference { bus, path })
 }
 
-/// The item of a node with a path of the application `bus`, below `/a` of the application `parent_bus`.
-fn item(
+fn item_of(
     rt: &HostRuntime,
     bus: &str,
     at: &str,
     parent_bus: &str,
-    name: &str,
     role: u32,
-) -> Result<News, Fail> {
+) -> Result<Item, Fail> {
     let object = reference(rt, bus, at)?;
     let application = reference(rt, bus, "/r")?;
     let parent = reference(rt, parent_bus, "/a")?;
-    let name = text(rt, name)?;
+    let name = text(rt, "Saved")?;
     let description = text(rt, "")?;
-    Ok(News::Item(Item {
+    Ok(Item {
         object,
         application,
         parent,
@@ -76,171 +94,245 @@ fn item(
         role,
         description,
         states: FOCUSED,
-    }))
+    })
 }
 
-/// Whether these lines are spoken, each behind the others, joined by `|`.
-fn speaks(
+/// The news of a text of `/a`.
+fn news_of_text(rt: &HostRuntime, told: Told) -> Result<Option<News>, Fail> {
+    let at = path(rt, "/a")?;
+    let text = text(
+        rt,
+        match told {
+            Told::Name(text) | Told::Inserted(text) | Told::Deleted(text) => text,
+            _ => "x",
+        },
+    )?;
+    Ok(match told {
+        Told::Name(_) => Some(News::Name(at, text)),
+        Told::Inserted(_) => Some(News::Inserted {
+            path: at,
+            at: -5,
+            text,
+        }),
+        Told::Deleted(_) => Some(News::Deleted {
+            path: at,
+            at: 9,
+            len: 9,
+            text,
+        }),
+        Told::Description => Some(News::Description(at, text)),
+        _ => None,
+    })
+}
+
+/// The news that has no text.
+fn plain_news(rt: &HostRuntime, told: Told) -> Result<News, Fail> {
+    let at = path(rt, "/a")?;
+    Ok(match told {
+        Told::State(state, on) => News::State(at, state, on),
+        Told::Removed => News::Removed(at),
+        Told::ChildAdded => News::ChildAdded(at),
+        Told::Role => News::Role(at, 2),
+        Told::Caret => News::Caret(at, 3),
+        _ => News::Nothing,
+    })
+}
+
+/// The lines of a news, behind one that stood there.
+fn heard(
     rt: &HostRuntime,
     row: Option<&Row>,
     has_parent: bool,
     news: &News,
-    wanted: &[&str],
-) -> Result<bool, Fail> {
+) -> Result<Texts, Fail> {
     let root = path(rt, "/r")?;
     let bus = text(rt, ":1.7")?;
-    let mut out = Texts::new(rt.alloc());
     let front = text(rt, "front")?;
+    let mut out = Texts::new(rt.alloc());
     out.push(front).ok().ok_or("memory")?;
     lines(rt.alloc(), &root, &bus, row, has_parent, news, &mut out)
         .ok()
         .ok_or("memory")?;
-    let mut same = out.len() == wanted.len() + 1;
-    for (line, wanted) in out.as_slice().iter().skip(1).zip(wanted) {
-        same = same && line.as_str() == *wanted;
+    Ok(out)
+}
+
+/// Whether the lines behind the first are these.
+fn are(lines: &Texts, wanted: &[&str]) -> bool {
+    let same = lines
+        .as_slice()
+        .iter()
+        .skip(1)
+        .zip(wanted)
+        .all(|(line, wanted)| line.as_str() == *wanted);
+    same && lines.len() == wanted.len() + 1
+}
+
+/// The lines of an item where its parent is known or not.
+fn item_heard(
+    rt: &HostRuntime,
+    row: Option<&Row>,
+    has_parent: bool,
+    item: Item,
+) -> Result<Texts, Fail> {
+    let news = News::Item(item);
+    heard(rt, row, has_parent, &news)
+}
+
+/// The lines of what is told, where `/a` has this row or none.
+fn told_lines(
+    rt: &HostRuntime,
+    row: Option<&Row>,
+    has_parent: bool,
+    told: Told,
+) -> Result<Texts, Fail> {
+    if let Told::Item(bus, at, parent_bus, role) = told {
+        return item_heard(rt, row, has_parent, item_of(rt, bus, at, parent_bus, role)?);
     }
-    Ok(same)
+    match news_of_text(rt, told)? {
+        Some(news) => heard(rt, row, has_parent, &news),
+        None => plain_heard(rt, row, has_parent, told),
+    }
+}
+
+fn plain_heard(
+    rt: &HostRuntime,
+    row: Option<&Row>,
+    has_parent: bool,
+    told: Told,
+) -> Result<Texts, Fail> {
+    let news = plain_news(rt, told)?;
+    heard(rt, row, has_parent, &news)
+}
+
+/// Whether just these lines are spoken at what is told, where `/a` is known so, and an item's parent too.
+fn speaks(rt: &HostRuntime, known: Known, told: Told, wanted: &[&str]) -> Result<bool, Fail> {
+    let row = row_of(rt, known)?;
+    Ok(are(&told_lines(rt, Some(&row), true, told)?, wanted))
+}
+
+/// The same where `/a` is not known.
+fn speaks_of_unknown(
+    rt: &HostRuntime,
+    has_parent: bool,
+    told: Told,
+    wanted: &[&str],
+) -> Result<bool, Fail> {
+    Ok(are(&told_lines(rt, None, has_parent, told)?, wanted))
 }
 
 #[test]
 fn the_focus_is_spoken_with_name_role_and_states(rt: HostRuntime) -> Result<(), Fail> {
-    let file = row(&rt, "File", 33, 0)?;
-    let news = News::State(path(&rt, "/a")?, 12, true);
-    assert!(rt; speaks(&rt, Some(&file), false, &news, &["File, menu"])?);
-    let wrap = row(&rt, "Wrap", 8, 1 << 41)?;
+    let focus = Told::State(12, true);
+    assert!(rt; speaks(&rt, ("File", 33, 0), focus, &["File, menu"])?);
     assert!(rt;
         speaks(
             &rt,
-            Some(&wrap),
-            false,
-            &news,
+            ("Wrap", 8, 1 << 41),
+            focus,
             &["Wrap, check menu item, not checked"]
         )?
     );
-    let wrap = row(&rt, "", 8, 1 << 41 | 1 << 4 | 1 << 9 | 1 << 20 | 1 << 23)?;
+    let states = 1 << 41 | 1 << 4 | 1 << 9 | 1 << 20 | 1 << 23;
     assert!(rt;
         speaks(
             &rt,
-            Some(&wrap),
-            false,
-            &news,
+            ("", 8, states),
+            focus,
             &["check menu item, checked, collapsed, selected, pressed"]
         )?
     );
-    assert!(rt; speaks(&rt, None, false, &news, &[])?);
-    let gone = News::State(path(&rt, "/a")?, 12, false);
-    assert!(rt; speaks(&rt, Some(&file), false, &gone, &[])?);
+    assert!(rt; speaks_of_unknown(&rt, false, focus, &[])?);
+    assert!(rt; speaks(&rt, ("File", 33, 0), Told::State(12, false), &[])?);
     Ok(())
 }
 
 #[test]
 fn states_of_the_focus_are_spoken(rt: HostRuntime) -> Result<(), Fail> {
-    let node = row(&rt, "Wrap", 8, FOCUSED)?;
-    for (state, on, word) in [
-        (4, true, "checked"),
-        (4, false, "not checked"),
-        (10, true, "expanded"),
-        (10, false, "collapsed"),
-        (20, true, "pressed"),
-        (20, false, "not pressed"),
-        (23, true, "selected"),
-        (23, false, "not selected"),
-    ] {
-        let news = News::State(path(&rt, "/a")?, state, on);
-        assert!(rt; speaks(&rt, Some(&node), false, &news, &[word])?, "{word}");
-    }
+    let node = ("Wrap", 8, FOCUSED);
+    assert!(rt; speaks(&rt, node, Told::State(4, true), &["checked"])?);
+    assert!(rt; speaks(&rt, node, Told::State(4, false), &["not checked"])?);
+    assert!(rt; speaks(&rt, node, Told::State(10, true), &["expanded"])?);
+    assert!(rt; speaks(&rt, node, Told::State(10, false), &["collapsed"])?);
+    assert!(rt; speaks(&rt, node, Told::State(20, true), &["pressed"])?);
+    assert!(rt; speaks(&rt, node, Told::State(20, false), &["not pressed"])?);
+    assert!(rt; speaks(&rt, node, Told::State(23, true), &["selected"])?);
+    assert!(rt; speaks(&rt, node, Told::State(23, false), &["not selected"])?);
+    Ok(())
+}
+
+#[test]
+fn other_states_and_nodes_are_silent(rt: HostRuntime) -> Result<(), Fail> {
     for state in [0, 9, 41, 43, 63, 64, 255] {
-        let news = News::State(path(&rt, "/a")?, state, true);
-        assert!(rt;
-            speaks(&rt, Some(&node), false, &news, &[])?,
-            "state {state}"
-        );
+        assert!(rt; speaks(&rt, ("Wrap", 8, FOCUSED), Told::State(state, true), &[])?);
     }
-    let other = row(&rt, "Wrap", 8, 0)?;
-    let news = News::State(path(&rt, "/a")?, 4, true);
-    assert!(rt; speaks(&rt, Some(&other), false, &news, &[])?);
+    for state in 0..64 {
+        if state != 12 {
+            assert!(rt; speaks(&rt, ("Wrap", 8, 0), Told::State(state, true), &[])?);
+        }
+    }
     Ok(())
 }
 
 #[test]
 fn names_and_texts_of_the_focus_are_spoken(rt: HostRuntime) -> Result<(), Fail> {
-    let node = row(&rt, "Find", 79, FOCUSED)?;
-    let secret = row(&rt, "Password", 40, FOCUSED)?;
-    let other = row(&rt, "Find", 79, 0)?;
-    let news = News::Name(path(&rt, "/a")?, text(&rt, "New")?);
-    assert!(rt; speaks(&rt, Some(&node), false, &news, &["New"])?);
-    assert!(rt; speaks(&rt, Some(&other), false, &news, &[])?);
-    let news = News::Name(path(&rt, "/a")?, text(&rt, "")?);
-    assert!(rt; speaks(&rt, Some(&node), false, &news, &[])?);
-    let news = News::Inserted {
-        path: path(&rt, "/a")?,
-        at: -5,
-        text: text(&rt, "né")?,
-    };
-    assert!(rt; speaks(&rt, Some(&node), false, &news, &["typed: né"])?);
-    assert!(rt; speaks(&rt, Some(&secret), false, &news, &["typed: 2 characters"])?);
-    assert!(rt; speaks(&rt, Some(&other), false, &news, &[])?);
-    let news = News::Deleted {
-        path: path(&rt, "/a")?,
-        at: 9,
-        len: 9,
-        text: text(&rt, "é")?,
-    };
-    assert!(rt; speaks(&rt, Some(&node), false, &news, &["deleted: é"])?);
-    assert!(rt; speaks(&rt, Some(&secret), false, &news, &["deleted: 1 characters"])?);
-    assert!(rt; speaks(&rt, None, false, &news, &[])?);
+    let node = ("Find", 79, FOCUSED);
+    let secret = ("Password", 40, FOCUSED);
+    assert!(rt; speaks(&rt, node, Told::Name("New"), &["New"])?);
+    assert!(rt; speaks(&rt, node, Told::Name(""), &[])?);
+    assert!(rt; speaks(&rt, node, Told::Inserted("né"), &["typed: né"])?);
+    assert!(rt; speaks(&rt, secret, Told::Inserted("né"), &["typed: 2 characters"])?);
+    assert!(rt; speaks(&rt, node, Told::Deleted("é"), &["deleted: é"])?);
+    assert!(rt; speaks(&rt, secret, Told::Deleted("é"), &["deleted: 1 characters"])?);
+    Ok(())
+}
+
+#[test]
+fn names_and_texts_elsewhere_are_silent(rt: HostRuntime) -> Result<(), Fail> {
+    for told in [Told::Name("New"), Told::Inserted("né"), Told::Deleted("é")] {
+        assert!(rt; speaks(&rt, ("Find", 79, 0), told, &[])?);
+        assert!(rt; speaks_of_unknown(&rt, true, told, &[])?);
+    }
     Ok(())
 }
 
 #[test]
 fn new_alerts_are_spoken(rt: HostRuntime) -> Result<(), Fail> {
-    let known = row(&rt, "Saved", 2, FOCUSED)?;
-    for (role, wanted) in [(2, true), (101, true), (3, false), (23, false)] {
-        let news = item(&rt, ":1.7", "/b", ":1.7", "Saved", role)?;
-        if wanted {
-            assert!(rt; speaks(&rt, None, true, &news, &["alert: Saved"])?);
-        } else {
-            assert!(rt; speaks(&rt, None, true, &news, &[])?);
-        }
-        assert!(rt; speaks(&rt, None, false, &news, &[])?);
-        assert!(rt; speaks(&rt, Some(&known), true, &news, &[])?);
+    let alert = Told::Item(":1.7", "/b", ":1.7", 2);
+    assert!(rt; speaks_of_unknown(&rt, true, alert, &["alert: Saved"])?);
+    assert!(rt; speaks_of_unknown(&rt, false, alert, &[])?);
+    assert!(rt; speaks(&rt, ("Saved", 2, FOCUSED), alert, &[])?);
+    let notification = Told::Item(":1.7", "/b", ":1.7", 101);
+    assert!(rt; speaks_of_unknown(&rt, true, notification, &["alert: Saved"])?);
+    for silent in [
+        Told::Item(":1.7", "/b", ":1.7", 3),
+        Told::Item(":1.8", "/b", ":1.7", 2),
+        Told::Item(":1.7", "/b", ":1.8", 2),
+        Told::Item(":1.7", "/r", ":1.7", 2),
+    ] {
+        assert!(rt; speaks_of_unknown(&rt, true, silent, &[])?);
     }
-    let foreign = item(&rt, ":1.8", "/b", ":1.7", "Saved", 2)?;
-    assert!(rt; speaks(&rt, None, true, &foreign, &[])?);
-    let elsewhere = item(&rt, ":1.7", "/b", ":1.8", "Saved", 2)?;
-    assert!(rt; speaks(&rt, None, true, &elsewhere, &[])?);
-    let root = item(&rt, ":1.7", "/r", ":1.7", "Saved", 2)?;
-    assert!(rt; speaks(&rt, None, true, &root, &[])?);
     Ok(())
 }
 
 #[test]
 fn other_news_are_silent(rt: HostRuntime) -> Result<(), Fail> {
-    let node = row(&rt, "Find", 2, FOCUSED)?;
-    let news = [
-        News::Removed(path(&rt, "/a")?),
-        News::ChildAdded(path(&rt, "/a")?),
-        News::Description(path(&rt, "/a")?, text(&rt, "x")?),
-        News::Role(path(&rt, "/a")?, 101),
-        News::Caret(path(&rt, "/a")?, 3),
-        News::TextIs(path(&rt, "/a")?, text(&rt, "x")?),
-        News::CaretIs(path(&rt, "/a")?, 3),
-        News::ColumnsIs(path(&rt, "/a")?, 3),
-        News::Nothing,
-    ];
-    for news in &news {
-        assert!(rt; speaks(&rt, Some(&node), true, news, &[])?);
+    for told in [
+        Told::Removed,
+        Told::ChildAdded,
+        Told::Description,
+        Told::Role,
+        Told::Caret,
+        Told::Nothing,
+    ] {
+        assert!(rt; speaks(&rt, ("Find", 2, FOCUSED), told, &[])?);
     }
     Ok(())
 }
 
 #[test]
 fn an_end_is_spoken(rt: HostRuntime) -> Result<(), Fail> {
-    let root = row(&rt, "Demo", 75, 0)?;
+    let root = row_of(&rt, ("Demo", 75, 0))?;
     let line = closing_line(rt.alloc(), Some(&root.name)).ok().ok_or("memory")?;
     assert_eq!(rt; line.as_str(), "Demo, closed");
-    let root = row(&rt, "", 75, 0)?;
-    let line = closing_line(rt.alloc(), Some(&root.name)).ok().ok_or("memory")?;
-    assert_eq!(rt; line.as_str(), ", closed");
     Ok(())
 }
