@@ -332,7 +332,11 @@ fn other_news_are_silent(rt: HostRuntime) -> Result<(), Fail> {
 #[test]
 fn an_end_is_spoken(rt: HostRuntime) -> Result<(), Fail> {
     let root = row_of(&rt, ("Demo", 75, 0))?;
-    let line = closing_line(rt.alloc(), Some(&root.name)).ok().ok_or("memory")?;
+    let line = closing_line(rt.alloc(), Some(&root.name))
+        .ok()
+        .ok_or("memory")?;
     assert_eq!(rt; line.as_str(), "Demo, closed");
+    let line = closing_line(rt.alloc(), None).ok().ok_or("memory")?;
+    assert_eq!(rt; line.as_str(), ", closed");
     Ok(())
 }
