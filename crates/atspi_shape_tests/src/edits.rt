@@ -2,18 +2,19 @@
 
 ghost use Rattle.std.specs.Prelude.{IfOk};
 ghost use Rattle.atspi_forest.specs.Edits.{IsEdit};
-ghost use Rattle.atspi_edits.specs.Answers.{IsEditDone, IsKnown};
+ghost use Rattle.atspi_tree.specs.Calls.{IsEditSoFar};
+ghost use Rattle.atspi_edits.specs.Answers.{IsKnown};
 
 use atspi_base::{Marks, Text, Texts};
 use atspi_edits::{EditRefused, steps_of};
 use atspi_forest::{Edit, EditFault, FaceData, Seed};
-use atspi_tree::Tree;
+use atspi_tree::{Tree, TreeFault};
 use std::alloc::Global;
 use std::process::Abort;
 use std::test::Fail;
 
 /// A text of so many letters.
-fn letters(alloc: Global, count: usize) -> Result<Text, Fail> {
+pub(crate) fn letters(alloc: Global, count: usize) -> Result<Text, Fail> {
     let bytes = vec![in alloc; b'a'; count]?;
     if bytes.len() > 1024 {
         return Err(Fail::new("too many letters"));
@@ -21,14 +22,31 @@ fn letters(alloc: Global, count: usize) -> Result<Text, Fail> {
     Ok(Text::read(alloc, &bytes)?)
 }
 
-/// The root, and below it node 1, whose text can be edited.
-fn editor(alloc: Global) -> Result<Tree, Fail> {
+/// Does the steps of an edit.
+pub(crate) fn edit(tree: &mut Tree, edit: &Edit) -> Result<(), TreeFault>
+    requires so_far { IsEditSoFar edit.now }
+    requires lawful { IsEdit edit.now }
+{
+    let steps = tree.steps_of(edit)?;
+    for step in steps.as_slice() {
+        tree.apply(step)?;
+    }
+    Ok(())
+}
+
+/// The root alone.
+pub(crate) fn alone(alloc: Global) -> Result<Tree, Fail> {
     let name = letters(alloc, 4)?;
     if name.as_str().len() > 511 {
         return Err(Fail::new("a long name"));
     }
-    let mut tree = Tree::new(alloc, name)?;
-    let edit = Edit::Insert {
+    Ok(Tree::new(alloc, name)?)
+}
+
+/// The root, and below it node 1, whose text can be edited.
+fn editor(alloc: Global) -> Result<Tree, Fail> {
+    let mut tree = alone(alloc)?;
+    let insert = Edit::Insert {
         parent: 0,
         index: 0,
         seed: Seed {
@@ -41,15 +59,12 @@ fn editor(alloc: Global) -> Result<Tree, Fail> {
             actions: Texts::new(alloc),
         },
     };
-    let steps = tree.steps_of(&edit)?;
-    for step in steps.as_slice() {
-        tree.apply(step)?;
-    }
+    edit(&mut tree, &insert)?;
     Ok(tree)
 }
 
 /// No actions.
-fn nothing(alloc: Global) -> FaceData
+pub(crate) fn nothing(alloc: Global) -> FaceData
     ensures { IsKnown result }
 {
     FaceData::Deeds(Texts::new(alloc))
@@ -71,13 +86,12 @@ fn text(alloc: Global, caret: u32) -> Result<FaceData, Fail>
 }
 
 /// How many steps an edit makes, or why it is refused.
-fn answer(
+pub(crate) fn answer(
     alloc: Global,
     tree: &Tree,
     edit: &Edit,
     known: &FaceData,
 ) -> Result<Result<usize, EditFault>, Fail>
-    requires done { IsEditDone edit.now }
     requires lawful { IsEdit edit.now }
     requires known { IsKnown known.now }
 {
@@ -193,6 +207,27 @@ fn carets_and_selections(rt: HostRuntime) -> Result<(), Fail> {
     }
     assert!(rt; answer(alloc, &tree, &Edit::Unmark { node: 0 }, &known)? == Err(EditFault::NoFace));
     assert!(rt; answer(alloc, &tree, &Edit::Unmark { node: 1 }, &known)? == Ok(0));
+    Ok(())
+}
+
+/// Cuts out of a text of three letters, with the caret behind the second.
+#[test]
+fn cuts(rt: HostRuntime) -> Result<(), Fail> {
+    let alloc = rt.alloc();
+    let tree = editor(alloc)?;
+    let known = text(alloc, 2)?;
+    for (node, from, to, due) in [
+        (9, 0, 1, Err(EditFault::NoNode)),
+        (0, 0, 1, Err(EditFault::NoFace)),
+        (1, 2, 1, Err(EditFault::BadOffset)),
+        (1, 0, 4, Err(EditFault::BadOffset)),
+        (1, 1, 1, Ok(0)),
+        (1, 2, 3, Ok(1)),
+        (1, 0, 1, Ok(2)),
+        (1, 1, 3, Ok(2)),
+    ] {
+        assert!(rt; answer(alloc, &tree, &Edit::Cut { node, from, to }, &known)? == due);
+    }
     Ok(())
 }
 
