@@ -1,0 +1,8 @@
+//! Tests of the tree of an application and of the steps of edits, over public calls. What is due was worked out by hand
+//! from the table of edits.
+#![tactic(auto)]
+
+#[cfg(test)]
+mod edits;
+#[cfg(test)]
+mod nodes;
