@@ -1,0 +1,7 @@
+//! Tests of match rules, through public calls alone: their texts, what they match, and the index over them.
+#![tactic(auto)]
+
+#[cfg(test)]
+mod rule_texts;
+#[cfg(test)]
+mod rules;

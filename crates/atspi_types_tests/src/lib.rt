@@ -1,0 +1,7 @@
+//! Tests of texts, lists, signatures, types and values, through public calls alone.
+#![tactic(auto)]
+
+#[cfg(test)]
+mod base;
+#[cfg(test)]
+mod types;
