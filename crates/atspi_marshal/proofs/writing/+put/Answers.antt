@@ -1,4 +1,5 @@
 use Rattle.std.proofs.Common.{◌≡◌, ℕ, ◌+◌, ◌<◌, ◌≤◌, ◌-◌, length, ap, arith, rules}
+use Rattle.std.proofs.lemmas.Grind.{common_steps}
 use Rattle.std.proofs.lemmas.List.{length-append}
 use Rattle.atspi_marshal.specs.Spelling.{padding, spellings}
 use Rattle.std.proofs.lemmas.Result.{err_from_is_err_and}
@@ -147,3 +148,330 @@ pub put_pairs-returns-clause-writes : goal.put_pairs-returns-clause-writes
 put_pairs-returns-clause-writes t c =
     let ps = all_pairs c.args.pairs.now in
     values_done c.args.order c.args.levels c.args.at c.loop-pair.next (structs_in ps) c.loop-pair.pair-index c.args.out.now c.loop-pair.out (omega (arith, length_structs c.as_slice-pair-items.result.now ps c.as_slice-pair-items.ensures)) c.loop-pair.invariant.0
+
+pub put-slice_bounds-put_padded-end : goal.put-slice_bounds-put_padded-end
+put-slice_bounds-put_padded-end t c = grind (arith, common_steps)
+
+pub put-put_padded-requires-clause-align : goal.put-put_padded-requires-clause-align
+put-put_padded-requires-clause-align t c = grind (arith, common_steps)
+
+pub put-put_padded-requires-clause-place : goal.put-put_padded-requires-clause-place
+put-put_padded-requires-clause-place t c = grind (arith, common_steps)
+
+pub put-put_u32-requires : goal.put-put_u32-requires
+put-put_u32-requires t c = grind (arith, common_steps)
+
+pub put-put_u16-requires : goal.put-put_u16-requires
+put-put_u16-requires t c = grind (arith, common_steps)
+
+pub put-put_u16-requires-in-U16 : goal.put-put_u16-requires-in-U16
+put-put_u16-requires-in-U16 t c = grind (arith, common_steps)
+
+pub put-put_u32-requires-in-I32 : goal.put-put_u32-requires-in-I32
+put-put_u32-requires-in-I32 t c = grind (arith, common_steps)
+
+pub put-put_u32-requires-in-U32 : goal.put-put_u32-requires-in-U32
+put-put_u32-requires-in-U32 t c = grind (arith, common_steps)
+
+pub put-put_u64-requires : goal.put-put_u64-requires
+put-put_u64-requires t c = grind (arith, common_steps)
+
+pub put-put_u64-requires-in-U64 : goal.put-put_u64-requires-in-U64
+put-put_u64-requires-in-U64 t c = grind (arith, common_steps)
+
+pub put-put_u64-requires-in-Double : goal.put-put_u64-requires-in-Double
+put-put_u64-requires-in-Double t c = grind (arith, common_steps)
+
+pub put-put_text-requires : goal.put-put_text-requires
+put-put_text-requires t c = grind (arith, common_steps)
+
+pub put-put_path-requires : goal.put-put_path-requires
+put-put_path-requires t c = grind (arith, common_steps)
+
+pub put-put_signature-requires : goal.put-put_signature-requires
+put-put_signature-requires t c = grind (arith, common_steps)
+
+pub put-put_array-requires : goal.put-put_array-requires
+put-put_array-requires t c = grind (arith, common_steps)
+
+pub put-put_struct-requires : goal.put-put_struct-requires
+put-put_struct-requires t c = grind (arith, common_steps)
+
+pub put-put_dictionary-requires : goal.put-put_dictionary-requires
+put-put_dictionary-requires t c = grind (arith, common_steps)
+
+pub put-put_variant-requires : goal.put-put_variant-requires
+put-put_variant-requires t c = grind (arith, common_steps)
+
+pub put-returns-in-Byte-clause-writes : goal.put-returns-in-Byte-clause-writes
+put-returns-in-Byte-clause-writes t c = grind (arith, common_steps)
+
+pub put-returns-in-Byte-clause-front : goal.put-returns-in-Byte-clause-front
+put-returns-in-Byte-clause-front t c = grind (arith, common_steps)
+
+pub put-returns-in-Bool-clause-writes : goal.put-returns-in-Bool-clause-writes
+put-returns-in-Bool-clause-writes t c = grind (arith, common_steps)
+
+pub put-returns-in-Bool-clause-front : goal.put-returns-in-Bool-clause-front
+put-returns-in-Bool-clause-front t c = grind (arith, common_steps)
+
+pub put-returns-in-I16-clause-writes : goal.put-returns-in-I16-clause-writes
+put-returns-in-I16-clause-writes t c = grind (arith, common_steps)
+
+pub put-returns-in-I16-clause-front : goal.put-returns-in-I16-clause-front
+put-returns-in-I16-clause-front t c = grind (arith, common_steps)
+
+pub put-returns-in-U16-clause-writes : goal.put-returns-in-U16-clause-writes
+put-returns-in-U16-clause-writes t c = grind (arith, common_steps)
+
+pub put-returns-in-U16-clause-front : goal.put-returns-in-U16-clause-front
+put-returns-in-U16-clause-front t c = grind (arith, common_steps)
+
+pub put-returns-in-I32-clause-writes : goal.put-returns-in-I32-clause-writes
+put-returns-in-I32-clause-writes t c = grind (arith, common_steps)
+
+pub put-returns-in-I32-clause-front : goal.put-returns-in-I32-clause-front
+put-returns-in-I32-clause-front t c = grind (arith, common_steps)
+
+pub put-returns-in-U32-clause-writes : goal.put-returns-in-U32-clause-writes
+put-returns-in-U32-clause-writes t c = grind (arith, common_steps)
+
+pub put-returns-in-U32-clause-front : goal.put-returns-in-U32-clause-front
+put-returns-in-U32-clause-front t c = grind (arith, common_steps)
+
+pub put-returns-in-I64-clause-front : goal.put-returns-in-I64-clause-front
+put-returns-in-I64-clause-front t c = grind (arith, common_steps)
+
+pub put-returns-in-U64-clause-writes : goal.put-returns-in-U64-clause-writes
+put-returns-in-U64-clause-writes t c = grind (arith, common_steps)
+
+pub put-returns-in-U64-clause-front : goal.put-returns-in-U64-clause-front
+put-returns-in-U64-clause-front t c = grind (arith, common_steps)
+
+pub put-returns-in-Double-clause-writes : goal.put-returns-in-Double-clause-writes
+put-returns-in-Double-clause-writes t c = grind (arith, common_steps)
+
+pub put-returns-in-Double-clause-front : goal.put-returns-in-Double-clause-front
+put-returns-in-Double-clause-front t c = grind (arith, common_steps)
+
+pub put-returns-in-Text-clause-writes : goal.put-returns-in-Text-clause-writes
+put-returns-in-Text-clause-writes t c = grind (arith, common_steps)
+
+pub put-returns-in-Text-clause-front : goal.put-returns-in-Text-clause-front
+put-returns-in-Text-clause-front t c = grind (arith, common_steps)
+
+pub put-returns-in-Path-clause-writes : goal.put-returns-in-Path-clause-writes
+put-returns-in-Path-clause-writes t c = grind (arith, common_steps)
+
+pub put-returns-in-Path-clause-front : goal.put-returns-in-Path-clause-front
+put-returns-in-Path-clause-front t c = grind (arith, common_steps)
+
+pub put-returns-in-Sig-clause-writes : goal.put-returns-in-Sig-clause-writes
+put-returns-in-Sig-clause-writes t c = grind (arith, common_steps)
+
+pub put-returns-in-Sig-clause-front : goal.put-returns-in-Sig-clause-front
+put-returns-in-Sig-clause-front t c = grind (arith, common_steps)
+
+pub put-returns-in-Array-clause-writes : goal.put-returns-in-Array-clause-writes
+put-returns-in-Array-clause-writes t c = grind (arith, common_steps)
+
+pub put-returns-in-Array-clause-front : goal.put-returns-in-Array-clause-front
+put-returns-in-Array-clause-front t c = grind (arith, common_steps)
+
+pub put-returns-in-Struct-clause-writes : goal.put-returns-in-Struct-clause-writes
+put-returns-in-Struct-clause-writes t c = grind (arith, common_steps)
+
+pub put-returns-in-Struct-clause-front : goal.put-returns-in-Struct-clause-front
+put-returns-in-Struct-clause-front t c = grind (arith, common_steps)
+
+pub put-returns-in-Dict-clause-writes : goal.put-returns-in-Dict-clause-writes
+put-returns-in-Dict-clause-writes t c = grind (arith, common_steps)
+
+pub put-returns-in-Dict-clause-front : goal.put-returns-in-Dict-clause-front
+put-returns-in-Dict-clause-front t c = grind (arith, common_steps)
+
+pub put-returns-in-Variant-clause-writes : goal.put-returns-in-Variant-clause-writes
+put-returns-in-Variant-clause-writes t c = grind (arith, common_steps)
+
+pub put-returns-in-Variant-clause-front : goal.put-returns-in-Variant-clause-front
+put-returns-in-Variant-clause-front t c = grind (arith, common_steps)
+
+pub put_array-returns-in_err-inner-clause-writes : goal.put_array-returns-in_err-inner-clause-writes
+put_array-returns-in_err-inner-clause-writes t c = grind (arith, common_steps)
+
+pub put_array-returns-in_err-inner-clause-front : goal.put_array-returns-in_err-inner-clause-front
+put_array-returns-in_err-inner-clause-front t c = grind (arith, common_steps)
+
+pub put_array-begin_array-requires-clause-align : goal.put_array-begin_array-requires-clause-align
+put_array-begin_array-requires-clause-align t c = grind (arith, common_steps)
+
+pub put_array-begin_array-requires-clause-place : goal.put_array-begin_array-requires-clause-place
+put_array-begin_array-requires-clause-place t c = grind (arith, common_steps)
+
+pub put_array-returns-in_err-first-clause-writes : goal.put_array-returns-in_err-first-clause-writes
+put_array-returns-in_err-first-clause-writes t c = grind (arith, common_steps)
+
+pub put_array-returns-in_err-first-clause-front : goal.put_array-returns-in_err-first-clause-front
+put_array-returns-in_err-first-clause-front t c = grind (arith, common_steps)
+
+pub put_array-length_place-requires : goal.put_array-length_place-requires
+put_array-length_place-requires t c = grind (arith, common_steps)
+
+pub put_array-overflow_sub-index : goal.put_array-overflow_sub-index
+put_array-overflow_sub-index t c = grind (arith, common_steps)
+
+pub put_array-overflow_sub-index-2 : goal.put_array-overflow_sub-index-2
+put_array-overflow_sub-index-2 t c = grind (arith, common_steps)
+
+pub put_array-returns-in_err-next-clause-front : goal.put_array-returns-in_err-next-clause-front
+put_array-returns-in_err-next-clause-front t c = grind (arith, common_steps)
+
+pub put_array-overflow_sub-next : goal.put_array-overflow_sub-next
+put_array-overflow_sub-next t c = grind (arith, common_steps)
+
+pub put_array-returns-in_err-end_array-clause-front : goal.put_array-returns-in_err-end_array-clause-front
+put_array-returns-in_err-end_array-clause-front t c = grind (arith, common_steps)
+
+pub put_array-returns-clause-front : goal.put_array-returns-clause-front
+put_array-returns-clause-front t c = grind (arith, common_steps)
+
+pub put_dictionary-returns-in_err-inner-clause-writes : goal.put_dictionary-returns-in_err-inner-clause-writes
+put_dictionary-returns-in_err-inner-clause-writes t c = grind (arith, common_steps)
+
+pub put_dictionary-returns-in_err-inner-clause-front : goal.put_dictionary-returns-in_err-inner-clause-front
+put_dictionary-returns-in_err-inner-clause-front t c = grind (arith, common_steps)
+
+pub put_dictionary-begin_array-requires-clause-align : goal.put_dictionary-begin_array-requires-clause-align
+put_dictionary-begin_array-requires-clause-align t c = grind (arith, common_steps)
+
+pub put_dictionary-begin_array-requires-clause-place : goal.put_dictionary-begin_array-requires-clause-place
+put_dictionary-begin_array-requires-clause-place t c = grind (arith, common_steps)
+
+pub put_dictionary-returns-in_err-first-clause-writes : goal.put_dictionary-returns-in_err-first-clause-writes
+put_dictionary-returns-in_err-first-clause-writes t c = grind (arith, common_steps)
+
+pub put_dictionary-returns-in_err-first-clause-front : goal.put_dictionary-returns-in_err-first-clause-front
+put_dictionary-returns-in_err-first-clause-front t c = grind (arith, common_steps)
+
+pub put_dictionary-length_place-requires : goal.put_dictionary-length_place-requires
+put_dictionary-length_place-requires t c = grind (arith, common_steps)
+
+pub put_dictionary-overflow_sub-index : goal.put_dictionary-overflow_sub-index
+put_dictionary-overflow_sub-index t c = grind (arith, common_steps)
+
+pub put_dictionary-overflow_sub-index-2 : goal.put_dictionary-overflow_sub-index-2
+put_dictionary-overflow_sub-index-2 t c = grind (arith, common_steps)
+
+pub put_dictionary-returns-in_err-next-clause-front : goal.put_dictionary-returns-in_err-next-clause-front
+put_dictionary-returns-in_err-next-clause-front t c = grind (arith, common_steps)
+
+pub put_dictionary-overflow_sub-next : goal.put_dictionary-overflow_sub-next
+put_dictionary-overflow_sub-next t c = grind (arith, common_steps)
+
+pub put_dictionary-returns-in_err-end_array-clause-front : goal.put_dictionary-returns-in_err-end_array-clause-front
+put_dictionary-returns-in_err-end_array-clause-front t c = grind (arith, common_steps)
+
+pub put_dictionary-returns-clause-front : goal.put_dictionary-returns-clause-front
+put_dictionary-returns-clause-front t c = grind (arith, common_steps)
+
+pub put_elements-put_bytes-requires : goal.put_elements-put_bytes-requires
+put_elements-put_bytes-requires t c = grind (arith, common_steps)
+
+pub put_elements-put_values-requires : goal.put_elements-put_values-requires
+put_elements-put_values-requires t c = grind (arith, common_steps)
+
+pub put_elements-returns-in-Bytes-clause-front : goal.put_elements-returns-in-Bytes-clause-front
+put_elements-returns-in-Bytes-clause-front t c = grind (arith, common_steps)
+
+pub put_elements-returns-in_default : goal.put_elements-returns-in_default
+put_elements-returns-in_default t c = grind (arith, common_steps)
+
+pub put_entry-returns-in_err-inner-clause-writes : goal.put_entry-returns-in_err-inner-clause-writes
+put_entry-returns-in_err-inner-clause-writes t c = grind (arith, common_steps)
+
+pub put_entry-returns-in_err-inner-clause-front : goal.put_entry-returns-in_err-inner-clause-front
+put_entry-returns-in_err-inner-clause-front t c = grind (arith, common_steps)
+
+pub put_entry-put_padding-requires-clause-align : goal.put_entry-put_padding-requires-clause-align
+put_entry-put_padding-requires-clause-align t c = grind (arith, common_steps)
+
+pub put_entry-put_padding-requires-clause-place : goal.put_entry-put_padding-requires-clause-place
+put_entry-put_padding-requires-clause-place t c = grind (arith, common_steps)
+
+pub put_entry-returns-in_err-first-clause-writes : goal.put_entry-returns-in_err-first-clause-writes
+put_entry-returns-in_err-first-clause-writes t c = grind (arith, common_steps)
+
+pub put_entry-returns-in_err-first-clause-front : goal.put_entry-returns-in_err-first-clause-front
+put_entry-returns-in_err-first-clause-front t c = grind (arith, common_steps)
+
+pub put_entry-put-requires : goal.put_entry-put-requires
+put_entry-put-requires t c = grind (arith, common_steps)
+
+pub put_entry-returns-in_err-middle-clause-front : goal.put_entry-returns-in_err-middle-clause-front
+put_entry-returns-in_err-middle-clause-front t c = grind (arith, common_steps)
+
+pub put_entry-put-requires-2 : goal.put_entry-put-requires-2
+put_entry-put-requires-2 t c = grind (arith, common_steps)
+
+pub put_entry-returns-clause-front : goal.put_entry-returns-clause-front
+put_entry-returns-clause-front t c = grind (arith, common_steps)
+
+pub put_pairs-offset_bounds-pair-items-pair-index : goal.put_pairs-offset_bounds-pair-items-pair-index
+put_pairs-offset_bounds-pair-items-pair-index t c = grind (arith, common_steps)
+
+pub put_pairs-loop-pair-smaller : goal.put_pairs-loop-pair-smaller
+put_pairs-loop-pair-smaller t c = grind (arith, common_steps)
+
+pub put_pairs-returns-clause-front : goal.put_pairs-returns-clause-front
+put_pairs-returns-clause-front t c = grind (arith, common_steps)
+
+pub put_struct-returns-in_err-inner-clause-writes : goal.put_struct-returns-in_err-inner-clause-writes
+put_struct-returns-in_err-inner-clause-writes t c = grind (arith, common_steps)
+
+pub put_struct-returns-in_err-inner-clause-front : goal.put_struct-returns-in_err-inner-clause-front
+put_struct-returns-in_err-inner-clause-front t c = grind (arith, common_steps)
+
+pub put_struct-put_padding-requires-clause-align : goal.put_struct-put_padding-requires-clause-align
+put_struct-put_padding-requires-clause-align t c = grind (arith, common_steps)
+
+pub put_struct-put_padding-requires-clause-place : goal.put_struct-put_padding-requires-clause-place
+put_struct-put_padding-requires-clause-place t c = grind (arith, common_steps)
+
+pub put_struct-returns-in_err-first-clause-writes : goal.put_struct-returns-in_err-first-clause-writes
+put_struct-returns-in_err-first-clause-writes t c = grind (arith, common_steps)
+
+pub put_struct-returns-in_err-first-clause-front : goal.put_struct-returns-in_err-first-clause-front
+put_struct-returns-in_err-first-clause-front t c = grind (arith, common_steps)
+
+pub put_struct-returns-clause-front : goal.put_struct-returns-clause-front
+put_struct-returns-clause-front t c = grind (arith, common_steps)
+
+pub put_values-at-requires : goal.put_values-at-requires
+put_values-at-requires t c = grind (arith, common_steps)
+
+pub put_values-loop-i-smaller : goal.put_values-loop-i-smaller
+put_values-loop-i-smaller t c = grind (arith, common_steps)
+
+pub put_values-returns-clause-front : goal.put_values-returns-clause-front
+put_values-returns-clause-front t c = grind (arith, common_steps)
+
+pub put_variant-returns-in_err-inner-clause-writes : goal.put_variant-returns-in_err-inner-clause-writes
+put_variant-returns-in_err-inner-clause-writes t c = grind (arith, common_steps)
+
+pub put_variant-returns-in_err-inner-clause-front : goal.put_variant-returns-in_err-inner-clause-front
+put_variant-returns-in_err-inner-clause-front t c = grind (arith, common_steps)
+
+pub put_variant-put_type-requires : goal.put_variant-put_type-requires
+put_variant-put_type-requires t c = grind (arith, common_steps)
+
+pub put_variant-returns-in_err-first-clause-writes : goal.put_variant-returns-in_err-first-clause-writes
+put_variant-returns-in_err-first-clause-writes t c = grind (arith, common_steps)
+
+pub put_variant-returns-in_err-first-clause-front : goal.put_variant-returns-in_err-first-clause-front
+put_variant-returns-in_err-first-clause-front t c = grind (arith, common_steps)
+
+pub put_variant-put-requires : goal.put_variant-put-requires
+put_variant-put-requires t c = grind (arith, common_steps)
+
+pub put_variant-returns-clause-front : goal.put_variant-returns-clause-front
+put_variant-returns-clause-front t c = grind (arith, common_steps)
