@@ -84,7 +84,7 @@ one_value_or_fault o bytes k at h lawful low = by (decoded o bytes k at) refl
 pub asked_for : (e : Envelope) (bytes : List ℕ) → IsMessage e bytes → IsAskedFor bytes
 asked_for e bytes m =
     let f = front_is bytes e m.fields m.meets m.fits m.spelled in
-    record { sound = sound_to bytes f.sound; length = same_length bytes ∙ sym f.whole.whole }
+    record { sound = sound_to bytes f.sound; length = same_length bytes ∙ f.whole.whole }
 
 pub read_back : (e : Envelope) → MeetsRules e → HasNames e → FitsWire e (rising_fields e) → IsBytes (written e) → IsReadBack e (written e)
 read_back e meets named fits h =

@@ -1,5 +1,5 @@
 -- What the bus answers to a call of its own members (D-Bus Specification, "Message Bus Messages"), a line for each.
-use Rattle.std.specs.Prelude.{◌==◌, ◌&&◌, not, ℕ, Bool, true, false, List, [], ◌∷◌, ◌++◌, map, Option, None, Some, codes, bytes_eq, encode_utf8_all, if◌then◌else◌}
+use Rattle.std.specs.Prelude.{◌==◌, ◌&&◌, not, ℕ, Bool, true, false, List, [], ◌∷◌, ◌++◌, map, Option, None, Some, codes, bytes_eq, if◌then◌else◌}
 use Rattle.std.specs.List.{list_any}
 use Rattle.atspi_types.specs.Kinds.{text, u32}
 use Rattle.atspi_types.specs.Data.{Data, number_data, boolean_data, text_data, array_data, items_of}
@@ -11,7 +11,7 @@ use Rattle.atspi_match.specs.declared.condition.Condition.{Condition}
 use Rattle.atspi_match.specs.RuleIndex.{is_pair, rules_of, without_first}
 use Rattle.atspi_routing.specs.declared.member.BusMember.{BusMember}
 use Rattle.atspi_routing.specs.declared.member.BusMember.TheVariants.{Hello, RequestName, ReleaseName, NameHasOwner, GetNameOwner, ListNames, ListQueuedOwners, AddMatch, RemoveMatch, GetId, Ping}
-use Rattle.atspi_routing.specs.BusState.{BusState, text_or_empty, unique_of, name_or_empty}
+use Rattle.atspi_routing.specs.BusState.{BusState, name_or_empty}
 use Rattle.atspi_routing.specs.OwnMessages.{told_of_change}
 
 -- a call returns values, or fails with an error of this name
@@ -30,9 +30,9 @@ pub record Answer : Type 0 where
 abbrev pub only : BusState → Reply → Answer
 only s reply = record { owners = s.owners; rules = s.rules; told = []; reply = reply }
 
--- the bytes of the first argument, a text, and the number that is the second
+-- the characters of the first argument, a text, which of a name are its bytes; and the number that is the second
 abbrev pub first_text : List Data → List ℕ
-first_text (text_data cs ∷ ds) = encode_utf8_all cs
+first_text (text_data cs ∷ ds) = cs
 first_text ds = []
 
 abbrev pub second_number : List Data → ℕ

@@ -6,3 +6,4 @@ pub mod Routing
 pub mod Steps
 pub mod Queues
 pub mod Room
+pub mod Laws

@@ -9,6 +9,8 @@ use Rattle.atspi_match.specs.declared.condition.Condition.{Condition}
 use Rattle.atspi_match.specs.declared.condition.Condition.TheVariants.{Kind, Member}
 use Rattle.atspi_match.specs.declared.condition.MessageType.TheVariants.{Signal}
 use Rattle.atspi_routing.specs.BusState.{OpenCall, BusState}
+use Rattle.atspi_routing.specs.declared.closing.Why.{Why}
+use Rattle.atspi_routing.specs.Queues.{Waiting, Bus, empty_bus, joins}
 
 abbrev pub zero_ : List ℕ
 zero_ = codes ":1.0"
@@ -19,14 +21,20 @@ one_ = codes ":1.1"
 abbrev pub two_ : List ℕ
 two_ = codes ":1.2"
 
+abbrev pub unique_names : List (ℕ × List ℕ)
+unique_names = (0, zero_) ∷ ((1, one_) ∷ ((2, two_) ∷ []))
+
 -- connection 1 owns a.b, for which 2 waits, and c.d
+abbrev pub name_lists : List (List ℕ × List (ℕ × ℕ))
+name_lists =
+    (zero_, (0, 0) ∷ []) ∷ ((one_, (1, 0) ∷ []) ∷ ((two_, (2, 0) ∷ [])
+    ∷ ((codes "a.b", (1, 1) ∷ ((2, 0) ∷ [])) ∷ ((codes "c.d", (1, 0) ∷ []) ∷ []))))
+
 abbrev pub owners : Owners
 owners = record {
   given = 3;
-  unique = finmap.from_entries ((0, zero_) ∷ ((1, one_) ∷ ((2, two_) ∷ [])));
-  lists = finmap.from_entries (
-    (zero_, (0, 0) ∷ []) ∷ ((one_, (1, 0) ∷ []) ∷ ((two_, (2, 0) ∷ [])
-    ∷ ((codes "a.b", (1, 1) ∷ ((2, 0) ∷ [])) ∷ ((codes "c.d", (1, 0) ∷ []) ∷ [])))));
+  unique = finmap.from_sorted unique_names;
+  lists = finmap.from_sorted name_lists;
 }
 
 abbrev waits : ℕ → ℕ → ℕ → OpenCall
@@ -83,3 +91,11 @@ hello = bus_call (codes "Hello") []
 -- a text as the one argument
 abbrev pub one_text : List ℕ → List Data
 one_text text = text_data text ∷ []
+
+-- a byte waits for connection 1
+abbrev pub one_waits : Waiting
+one_waits = record { queues = finmap.insert finmap.empty 1 (7 ∷ []); due = [] }
+
+-- a bus whose two connections have not said Hello: a byte waits for the first and three for the second, and these are to be closed
+abbrev pub due_bus : List (ℕ × Why) → Bus
+due_bus due = record (joins (joins (empty_bus 9) 0) 1) { waiting = record { queues = finmap.insert (finmap.insert finmap.empty 0 (8 ∷ [])) 1 (7 ∷ (7 ∷ (7 ∷ []))); due = due } }

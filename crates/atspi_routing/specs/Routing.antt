@@ -1,7 +1,6 @@
 -- Where a message goes (D-Bus Specification, "Message Bus Message Routing" and "Match Rules").
-use Rattle.std.specs.Prelude.{◌==◌, ◌&&◌, ◌||◌, not, nat_le, ℕ, Bool, true, false, List, [], ◌∷◌, ◌++◌, length, take, drop, filter, Option, None, Some, bytes_eq, bit_and, encode_utf8_all, if◌then◌else◌}
+use Rattle.std.specs.Prelude.{◌==◌, ◌&&◌, ◌||◌, not, ℕ, Bool, true, false, List, [], ◌∷◌, ◌++◌, length, take, filter, Option, None, Some, bytes_eq, bit_and, encode_utf8_all, if◌then◌else◌}
 use Rattle.std.specs.List.{list_any, list_all}
-use Rattle.std.specs.FinMap as finmap
 use Rattle.atspi_types.specs.Names.{is_unique_name}
 use Rattle.atspi_message.specs.Envelope.{Envelope}
 use Rattle.atspi_names.specs.Queue.{owner_in}

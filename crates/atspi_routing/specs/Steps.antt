@@ -1,7 +1,6 @@
 -- What a bus does with a message, and when a connection leaves, apart from the room in its queues (D-Bus Specification, "Message Bus
 -- Message Routing" and "Message Bus Messages").
-use Rattle.std.specs.Prelude.{◌==◌, ◌&&◌, ◌||◌, not, ℕ, ◌+◌, Bool, true, false, List, [], ◌∷◌, ◌++◌, map, filter, flat_map, length, Option, None, Some, codes, bytes_eq, if◌then◌else◌, Result, Ok, Err}
-use Rattle.std.specs.FinMap as finmap
+use Rattle.std.specs.Prelude.{◌==◌, ◌&&◌, not, ℕ, ◌+◌, Bool, true, false, List, [], ◌∷◌, ◌++◌, map, filter, flat_map, length, Option, None, Some, codes, bytes_eq, if◌then◌else◌, Result, Ok, Err}
 use Rattle.atspi_types.specs.Data.{text_data}
 use Rattle.atspi_message.specs.Envelope.{Envelope}
 use Rattle.atspi_names.specs.Owners.{Owners, list_of, own_name, after_hello, after_gone, owned_by}

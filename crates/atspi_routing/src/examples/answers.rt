@@ -15,11 +15,11 @@ use crate::BusMember;
 /// A first Hello is returned before its name is told; a second one fails.
 pub fn hellos()
     ensures first { (bus_takes room 3 hello None).moves
-        ≡ says (record (return_to (Some (codes ":1.3")) 5 (one_text (codes ":1.3"))) { serial = 10 }) ∷ (delivers 3 (record (return_to (Some (codes ":1.3")) 5 (one_text (codes ":1.3"))) { serial = 10 })
-        ∷ (says (record (signal (codes "NameAcquired") (Some (codes ":1.3")) (one_text (codes ":1.3"))) { serial = 11 }) ∷ (delivers 3 (record (signal (codes "NameAcquired") (Some (codes ":1.3")) (one_text (codes ":1.3"))) { serial = 11 })
-        ∷ (says (record (owner_changed (codes ":1.3") [] (codes ":1.3")) { serial = 12 }) ∷ (delivers 0 (record (owner_changed (codes ":1.3") [] (codes ":1.3")) { serial = 12 }) ∷ []))))) }
+        ≡ says (record (return_to (Some (unique_name 3)) 5 (one_text (unique_name 3))) { serial = 10 }) ∷ (delivers 3 (record (return_to (Some (unique_name 3)) 5 (one_text (unique_name 3))) { serial = 10 })
+        ∷ (says (record (signal (codes "NameAcquired") (Some (unique_name 3)) (one_text (unique_name 3))) { serial = 11 }) ∷ (delivers 3 (record (signal (codes "NameAcquired") (Some (unique_name 3)) (one_text (unique_name 3))) { serial = 11 })
+        ∷ (says (record (owner_changed (unique_name 3) [] (unique_name 3)) { serial = 12 }) ∷ (delivers 0 (record (owner_changed (unique_name 3) [] (unique_name 3)) { serial = 12 }) ∷ []))))) }
     ensures next { (bus_takes room 3 hello None).state.next ≡ 13 }
-    ensures named { finmap.get (bus_takes room 3 hello None).state.owners.unique 3 ≡ Some (codes ":1.3") }
+    ensures named { finmap.get (bus_takes room 3 hello None).state.owners.unique 3 ≡ Some (unique_name 3) }
     ensures unexpecting { (bus_takes room 3 (record hello { flags = 1 }) None).state.next ≡ 12 }
     ensures second { answers BusMember.Hello room 0 [] None ≡ record { owners = owners; rules = room.rules; told = []; reply = fails (codes "Failed") } }
 {}
