@@ -5,3 +5,4 @@ pub mod Trees
 pub mod Refusals
 pub mod Rehung
 pub mod Pruned
+pub mod Related

@@ -1,3 +1,4 @@
 pub mod TreeShape
 pub mod Table
+pub mod Relations
 pub mod Calls

@@ -7,6 +7,7 @@ ghost use Rattle.atspi_forest.specs.declared.step.Step.TheVariants.{SetDescripti
 ghost use Rattle.std.specs.Prelude.{◌<◌, ◌==◌, true, false};
 ghost use Rattle.atspi_forest.specs.Edits.{is_among};
 ghost use Rattle.atspi_tree.specs.Table.{ChangesAt, Kept, Rehangs, Relists, all_but, kept, look_in, moved_child, with_child, with_parent, with_row, without_child};
+ghost use Rattle.atspi_tree.specs.Relations.{with_relations};
 
 use crate::cell::Cell;
 use crate::states::{drop_child, shift, with_state};
@@ -78,6 +79,16 @@ pub(crate) fn set_role(cells: &mut BTreeMap<u32, Cell>, node: u32, role: u32)
 {
     if let Some(cell) = cells.get_mut(&node) {
         cell.role = role;
+    }
+}
+
+/// Gives a node other relations.
+pub(crate) fn set_relations(cells: &mut BTreeMap<u32, Cell>, node: u32, relations: Vec<(u32, u32)>)
+    ensures put { (k : Kept) → look_in cells.old.entries node ≡ Some k → ChangesAt cells.old.entries cells.new.entries node (with_row (with_relations relations.items) k) }
+    ensures size { length cells.new.entries ≡ length cells.old.entries }
+{
+    if let Some(cell) = cells.get_mut(&node) {
+        cell.relations = relations;
     }
 }
 

@@ -5,7 +5,7 @@ ghost use Rattle.std.specs.Option.{option_map};
 ghost use Rattle.atspi_forest.specs.Edits.{IsEdit, first_fault, is_full, refusals};
 ghost use Rattle.atspi_forest.specs.declared.contents.FaceData.TheVariants.{Deeds};
 ghost use Rattle.atspi_forest.specs.declared.edit.Edit.TheVariants.{Insert, Name};
-ghost use Rattle.atspi_forest.specs.declared.step.Step.TheVariants.{Add, Move, SetDescription, SetName, SetRole, SetState};
+ghost use Rattle.atspi_forest.specs.declared.step.Step.TheVariants.{Add, Move, Relate, SetDescription, SetName, SetRole, SetState};
 ghost use Rattle.atspi_forest.specs.Forest.{has, count as count_nodes};
 ghost use Rattle.atspi_forest.specs.Row.{Each, IsName};
 ghost use Rattle.atspi_forest.specs.RowRules.{shapes};
@@ -17,10 +17,11 @@ ghost use Rattle.atspi_tree.specs.TreeShape.{IsLawful, StepApplies, after_step, 
 use crate::cell::{Cell, bits, first_kinds};
 use crate::edits::{copy_seed, is_bad_place, is_long_name, is_too_long, one_step};
 use crate::fault::TreeFault;
+use crate::relations::with_targets;
 use crate::table::{
-    insert_child, put_cell, rehang, set_description, set_name, set_role, set_states,
+    insert_child, put_cell, rehang, set_description, set_name, set_relations, set_role, set_states,
 };
-use atspi_base::{NoMemory, Text};
+use atspi_base::{NoMemory, Nums, Text};
 use atspi_forest::{Edit, EditFault, Kinds, Seed, Step, StepList};
 use std::alloc::Global;
 use std::collections::BTreeMap;
@@ -150,8 +151,12 @@ impl Tree {
             Step::Delete { .. } => Ok(()),
             Step::Caret { .. } => Ok(()),
             Step::TextSelect { .. } => Ok(()),
+            Step::Relate {
+                node,
+                kind,
+                targets,
+            } => self.relate(*node, *kind, targets),
             Step::Remove { .. } => unreachable!(),
-            Step::Relate { .. } => unreachable!(),
         }
     }
 
@@ -367,6 +372,17 @@ impl Tree {
     {
         let description = text.copy(self.alloc)?;
         set_description(&mut self.cells, node, description);
+        Ok(())
+    }
+
+    /// These are the targets of a node's relation of a kind.
+    fn relate(&mut self, node: u32, kind: u32, targets: &Nums) -> Result<(), NoMemory>
+        requires { StepApplies self.old (Relate node kind targets.now) }
+        ensures ok { OnOk result (self.new ≡ after_step self.old (Relate node kind targets.now)) }
+        ensures err { OnErr result (self.new ≡ self.old) }
+    {
+        let relations = with_targets(self.alloc, self.relations(node), kind, targets.as_slice())?;
+        set_relations(&mut self.cells, node, relations);
         Ok(())
     }
 
