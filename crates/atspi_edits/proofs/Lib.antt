@@ -2,5 +2,4 @@ pub mod Faults
 pub mod SelectedChild
 pub mod Switched
 pub mod Deeds
-pub mod Seated
 pub mod TextParts

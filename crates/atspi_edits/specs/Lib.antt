@@ -3,5 +3,4 @@ pub mod Answers
 pub mod Selection
 pub mod Switches
 pub mod Deeds
-pub mod Places
 pub mod Cuts

@@ -11,7 +11,7 @@ ghost use Rattle.atspi_forest.specs.declared.edit.Edit.TheVariants.{Move};
 ghost use Rattle.atspi_tree.specs.Table.{all_but};
 ghost use Rattle.atspi_tree.specs.TreeShape.{IsLawful};
 ghost use Rattle.atspi_edits.specs.Answers.{GivesSteps, edit_steps};
-ghost use Rattle.atspi_edits.specs.Places.{index_in};
+ghost use Rattle.atspi_tree.specs.Places.{index_in};
 
 use crate::fault::EditRefused;
 use crate::parts::one_step;

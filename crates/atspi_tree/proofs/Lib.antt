@@ -6,3 +6,9 @@ pub mod Refusals
 pub mod Rehung
 pub mod Pruned
 pub mod Related
+pub mod Seated
+pub mod Noted
+pub mod Notes
+pub mod Leaf
+pub mod Popped
+pub mod Descent

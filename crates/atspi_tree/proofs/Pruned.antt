@@ -1,6 +1,6 @@
 -- Taking out a node that is below another first changes nothing of taking out that other.
-use Rattle.std.proofs.Common.{◌≡◌, ℕ, zero, suc, ◌+◌, ◌≤◌, ◌==◌, Bool, true, false, cond, not, List, [], ◌∷◌, refl, sym, ap, ◌∙◌, subst, arith}
-use Rattle.std.specs.Prelude.{◌||◌, filter}
+use Rattle.std.proofs.Common.{◌≡◌, ℕ, zero, suc, ◌+◌, ◌≤◌, ◌==◌, Bool, true, false, cond, not, List, [], ◌∷◌, refl, sym, ap, ◌∙◌, arith}
+use Rattle.std.specs.Prelude.{◌||◌}
 use Rattle.std.proofs.lemmas.Bool.{eqb-true, eq-eqb, ne_eqb}
 use Rattle.atspi_forest.specs.declared.step.Step.TheVariants.{Remove}
 use Rattle.atspi_forest.specs.Forest.{Forest, nil, tree, count, has, take_out, pick, join, relabel}
@@ -37,7 +37,7 @@ module _ (n l : ℕ) (ne : (l == n) ≡ false) where
           let y = count-parts (is_shape l) (is_shape n) c in let z = count-parts (is_shape l) (is_shape n) r in
           rw (e, ic (omega arith), ir (omega arith)) refl
 
-  counts : (m : ℕ) (f : Forest ShapeRow) → count (is_shape l) (pick (is_shape n) f) ≡ count (is_shape l) f
+  pub counts : (m : ℕ) (f : Forest ShapeRow) → count (is_shape l) (pick (is_shape n) f) ≡ count (is_shape l) f
       → count (is_shape m) (pick (is_shape n) (take_out (is_shape l) f)) + count (is_shape m) (pick (is_shape l) f) ≡ count (is_shape m) (pick (is_shape n) f)
   counts m nil h = refl
   counts m (tree a c r) h =

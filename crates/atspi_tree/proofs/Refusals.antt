@@ -1,25 +1,22 @@
 -- When an insert or a name is refused, and that its steps apply where it is not.
-use Rattle.std.proofs.Common.{◌≡◌, ℕ, suc, ◌+◌, ◌<◌, ◌≤◌, Bool, true, false, cond, not, Option, Some, None, List, [], ◌∷◌, length, refl, sym, ap, ◌∙◌, subst, arith}
+use Rattle.std.proofs.Common.{◌≡◌, ℕ, ◌<◌, ◌≤◌, Bool, true, false, not, Option, Some, None, List, [], ◌∷◌, length, refl, sym, ◌∙◌, arith}
 use Rattle.std.specs.Prelude.{◌||◌, ◌&&◌, ◌↔◌, nat_eq, IsTrue, nat_lt, nat_le, encode_utf8_all, bytes_eq}
 use Rattle.std.proofs.lemmas.Bool.{leb-true, le-leb, lt-ltb}
 use Rattle.std.proofs.lemmas.Bool.Decides.{nat_tests}
 use Rattle.std.proofs.lemmas.Slice.Eq.{bytes_eq-Decides}
 use Rattle.atspi_forest.specs.declared.contents.FaceData.TheVariants.{Deeds}
-use Rattle.atspi_forest.specs.declared.step.Seed.{Seed}
-use Rattle.atspi_forest.specs.declared.step.Step.{Step}
-use Rattle.atspi_forest.specs.declared.step.Step.TheVariants.{Add, SetName}
-use Rattle.atspi_forest.specs.declared.edit.Edit.TheVariants.{Insert, Name}
+use Rattle.atspi_forest.specs.declared.step.Step.TheVariants.{SetName}
+use Rattle.atspi_forest.specs.declared.edit.Edit.TheVariants.{Name}
 use Rattle.atspi_forest.specs.declared.edit.EditFault.{EditFault}
 use Rattle.atspi_forest.specs.declared.edit.EditFault.TheVariants.{NoNode, BadIndex, Full, TextFull}
-use Rattle.atspi_forest.specs.Forest.{Forest, nil, tree, count, has, find, first_of, width, children_at, EachLabel}
+use Rattle.atspi_forest.specs.Forest.{Forest, has}
 use Rattle.atspi_forest.specs.Row.{ShapeRow}
 use Rattle.atspi_forest.specs.RowRules.{shapes}
 use Rattle.atspi_forest.specs.Tree.{IsTree, is_shape, AllApply}
-use Rattle.atspi_forest.specs.Edits.{first_fault, refusals, is_full, is_long_name, is_long_text, text_length, bad_columns, IsEdit}
-use Rattle.atspi_forest.proofs.Found.{count-has, find-none, find-passes, find-has}
+use Rattle.atspi_forest.specs.Edits.{first_fault, refusals, is_full, is_long_name}
+use Rattle.atspi_forest.proofs.Found.{count-has, find-has}
 use Rattle.atspi_forest.proofs.Lookup.{each-find, has-weaker}
 use Rattle.atspi_tree.specs.declared.cell.Cell.{Cell}
-use Rattle.atspi_tree.specs.Calls.{IsStepDone, IsStepSoFar}
 use Rattle.atspi_tree.specs.TreeShape.{TreeShape}
 use Rattle.atspi_tree.proofs.Trees.{Holding}
 
@@ -112,9 +109,3 @@ full_of_few es k t h r e l =
   where
     last : (k : ℕ) → k ≤ 4294967295 → nat_eq k 4294967295 ≡ nat_le 4294967295 k
     last k small = grind (arith, nat_tests)
-
--- an addition and a name are steps that a tree does
-pub done_so_far : (step : Step) → IsStepSoFar step → IsStepDone step
-done_so_far (Add n p i seed) h = tt
-done_so_far (SetName n x) h = tt
-done_so_far _ h = absurd h

@@ -1,14 +1,14 @@
 -- The writes of a move, and the tree that the table holds after them.
-use Rattle.std.proofs.Common.{◌≡◌, ℕ, zero, suc, ◌+◌, ◌≤◌, ◌==◌, Bool, true, false, cond, Option, Some, None, List, [], ◌∷◌, length, refl, sym, ap, ◌∙◌, subst, arith}
+use Rattle.std.proofs.Common.{◌≡◌, ℕ, ◌≤◌, ◌==◌, Bool, true, false, cond, Option, Some, None, List, [], ◌∷◌, length, refl, sym, ap, ◌∙◌, subst, arith}
 use Rattle.std.specs.Prelude.{insert}
 use Rattle.std.specs.Option.{option_map}
 use Rattle.std.proofs.lemmas.Bool.{eqb-true, eq-eqb, ne_eqb}
 use Rattle.atspi_forest.specs.declared.step.Step.TheVariants.{Move}
 use Rattle.atspi_forest.specs.Edits.{is_among}
-use Rattle.atspi_forest.specs.Forest.{Forest, nil, tree, count, has, width, take_out, pick, put_in, children_at}
+use Rattle.atspi_forest.specs.Forest.{count, has, take_out, pick, children_at}
 use Rattle.atspi_forest.specs.Row.{ShapeRow, Holds}
 use Rattle.atspi_forest.specs.RowRules.{shapes}
-use Rattle.atspi_forest.specs.Tree.{IsTree, is_shape, after, Moves}
+use Rattle.atspi_forest.specs.Tree.{is_shape, after, Moves}
 use Rattle.atspi_forest.proofs.Counts.{count-parts}
 use Rattle.atspi_forest.proofs.Found.{count-has, has-count}
 use Rattle.atspi_forest.proofs.Kept.{count-move}

@@ -1,5 +1,5 @@
 -- The relations that are read of a node.
-use Rattle.std.proofs.Common.{◌≡◌, ℕ, true, List, Option, Some, sym, ap, ◌∙◌}
+use Rattle.std.proofs.Common.{◌≡◌, ℕ, true, List, Some, sym, ap, ◌∙◌}
 use Rattle.std.specs.Option.{option_map}
 use Rattle.atspi_forest.specs.Forest.{has}
 use Rattle.atspi_forest.specs.Row.{ShapeRow}

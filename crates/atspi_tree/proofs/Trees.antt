@@ -6,13 +6,13 @@ use Rattle.std.specs.Option.{option_map}
 use Rattle.std.specs.Ordering.{nat_cmp, is_eq}
 use Rattle.std.specs.Map.{lookup}
 use Rattle.std.proofs.lemmas.Bool.Decides.{nat_tests}
-use Rattle.std.proofs.lemmas.Bool.{eqb-true, eq-eqb, ne_eqb}
+use Rattle.std.proofs.lemmas.Bool.{eq-eqb, ne_eqb}
 use Rattle.atspi_forest.specs.declared.contents.Kinds.{Kinds}
 use Rattle.atspi_forest.specs.declared.step.Seed.{Seed}
 use Rattle.atspi_forest.specs.declared.step.Step.{Step}
 use Rattle.atspi_forest.specs.declared.step.Step.TheVariants.{Add, SetState}
 use Rattle.atspi_forest.specs.Forest.{Forest, nil, tree, count, has, width, children_at, relabel, change, grow}
-use Rattle.atspi_forest.specs.Row.{ShapeRow, Holds, IsName}
+use Rattle.atspi_forest.specs.Row.{ShapeRow, Holds}
 use Rattle.atspi_forest.specs.RowRules.{shapes, first_shape, first_kinds}
 use Rattle.atspi_forest.specs.Tree.{IsTree, is_shape, node_of, after, Changes, root_seed, Adds as AddApplies}
 use Rattle.atspi_forest.proofs.Counts.{count-put_in}
@@ -20,6 +20,7 @@ use Rattle.atspi_forest.proofs.Relabel.{count-relabel}
 use Rattle.atspi_forest.proofs.Found.{count-has, has-count, find-has, find-passes}
 use Rattle.atspi_forest.proofs.Lookup.{each-find}
 use Rattle.atspi_tree.specs.declared.cell.Cell.{Cell}
+use Rattle.atspi_tree.specs.Namers.{Namers, Covers}
 use Rattle.atspi_tree.specs.TreeShape.{TreeShape, numbers, row_of, parent_of, children_of, root_alone}
 use Rattle.atspi_tree.specs.Table.{Kept, kept, look_in, IsHeld, HoldsTree, rows_in, row_by, children_by, new_row, with_child, with_row, SameCell, IsNewCell, ChangesAt}
 use Rattle.atspi_tree.proofs.Keys.{is_same}
@@ -40,7 +41,7 @@ pub record Holding (es : List (ℕ × Cell)) (k : ℕ) (t : TreeShape) : Type 0 
   pub lawful : IsTree shapes t.rows t.added
   pub added : k ≡ t.added
 
-pub holding : (es : List (ℕ × Cell)) (k : ℕ) (t : TreeShape) → HoldsTree es k → record { rows = rows_in es; added = k } ≡ t → Holding es k t
+pub holding : (es : List (ℕ × Cell)) (k : ℕ) (t : TreeShape) → {namers : Namers} → HoldsTree es namers k → record { rows = rows_in es; added = k } ≡ t → Holding es k t
 holding es k t h e =
     let same_rows : h.rows ≡ t.rows = sym (rows_are es k h.rows h.held h.lawful) ∙ ap (λ (t : TreeShape). t.rows) e in
     let same_added : k ≡ t.added = ap (λ (t : TreeShape). t.added) e in
@@ -50,11 +51,16 @@ holding es k t h e =
       added = same_added;
     }
 
+-- no node that names another is left out of the tree that contracts see
+pub covering : (es : List (ℕ × Cell)) (k : ℕ) (t : TreeShape) → {namers : Namers} → HoldsTree es namers k → record { rows = rows_in es; added = k } ≡ t → Covers namers t.rows
+covering es k t {namers} h e =
+    subst (Covers namers) (sym (rows_are es k h.rows h.held h.lawful) ∙ ap (λ (t : TreeShape). t.rows) e) h.covered
+
 -- what contracts see of a table that holds a tree
 abbrev pub shape : Forest ShapeRow → ℕ → TreeShape
 shape f k = record { rows = f; added = k }
 
-pub seen : (es : List (ℕ × Cell)) (k : ℕ) (h : HoldsTree es k) → shape (rows_in es) k ≡ shape h.rows k
+pub seen : (es : List (ℕ × Cell)) (k : ℕ) {namers : Namers} (h : HoldsTree es namers k) → shape (rows_in es) k ≡ shape h.rows k
 seen es k h = ap (λ (f : Forest ShapeRow). shape f k) (rows_are es k h.rows h.held h.lawful)
 
 -- a node that is not there
@@ -258,7 +264,7 @@ table_new es es1 name none w size = record {
     only_at n false e c = w.others n (ne_eqb n 0 (λ k. let y = eq-eqb 0 n (sym k) in cc)) ∙ ap (λ (l : List (ℕ × Cell)). look_in l n) none
 
 -- the value of a table that holds a tree
-pub view_of : (es : List (ℕ × Cell)) (k : ℕ) {t : TreeShape} (h : HoldsTree es k) → shape (rows_in es) k ≡ t → shape h.rows k ≡ t
+pub view_of : (es : List (ℕ × Cell)) (k : ℕ) {t : TreeShape} {namers : Namers} (h : HoldsTree es namers k) → shape (rows_in es) k ≡ t → shape h.rows k ≡ t
 view_of es k h e = sym (seen es k h) ∙ e
 
 -- the cell that an addition makes

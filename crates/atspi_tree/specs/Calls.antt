@@ -6,7 +6,7 @@ use Rattle.atspi_forest.specs.declared.edit.Edit.{Edit}
 use Rattle.atspi_forest.specs.declared.edit.Edit.TheVariants.{Insert, Name}
 use Rattle.atspi_forest.specs.declared.edit.EditFault.{EditFault}
 use Rattle.atspi_forest.specs.declared.step.Step.{Step}
-use Rattle.atspi_forest.specs.declared.step.Step.TheVariants.{Add, SetName, Remove}
+use Rattle.atspi_forest.specs.declared.step.Step.TheVariants.{Add, SetName}
 use Rattle.atspi_forest.specs.declared.step.StepList.{StepList}
 use Rattle.atspi_tree.specs.TreeShape.{TreeShape}
 use Rattle.atspi_tree.specs.declared.fault.TreeFault.{TreeFault}
@@ -22,11 +22,6 @@ abbrev pub IsStepSoFar : Step → Type 0
 IsStepSoFar (Add n p i seed) = Unit {0}
 IsStepSoFar (SetName n x) = Unit {0}
 IsStepSoFar _ = ⊥
-
--- the steps that a tree does: all but a removal
-abbrev pub IsStepDone : Step → Type 0
-IsStepDone (Remove n) = ⊥
-IsStepDone _ = Unit {0}
 
 -- the steps of an edit that reads no contents, or why it is refused
 abbrev pub edit_steps : TreeShape → Edit → Result (List Step) EditFault

@@ -1,4 +1,6 @@
 pub mod TreeShape
+pub mod Places
+pub mod Namers
 pub mod Table
 pub mod Relations
 pub mod Calls

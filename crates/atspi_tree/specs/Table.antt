@@ -1,5 +1,5 @@
 -- What a table of cells says of each number, and the tree that it holds.
-use Rattle.std.specs.Prelude.{ℕ, ◌≡◌, ◌==◌, Bool, true, false, not, filter, List, [], ◌∷◌, Option, None, Some, length, insert}
+use Rattle.std.specs.Prelude.{ℕ, ◌≡◌, ◌==◌, true, false, not, filter, List, [], ◌∷◌, Option, None, Some, length, insert}
 use Rattle.std.specs.Option.{option_map}
 use Rattle.std.specs.Ordering.{nat_cmp, is_eq}
 use Rattle.std.specs.Map.{lookup}
@@ -7,8 +7,9 @@ use Rattle.atspi_forest.specs.declared.contents.Kinds.{Kinds}
 use Rattle.atspi_forest.specs.States.{first_states}
 use Rattle.atspi_forest.specs.Forest.{Forest, nil, tree, count, grow, relabel}
 use Rattle.atspi_forest.specs.Row.{ShapeRow}
-use Rattle.atspi_forest.specs.RowRules.{shapes}
+use Rattle.atspi_forest.specs.RowRules.{shapes, forgetting_shape}
 use Rattle.atspi_forest.specs.Tree.{IsTree, is_shape}
+use Rattle.atspi_tree.specs.Namers.{Namers, Covers}
 use Rattle.atspi_tree.specs.TreeShape.{numbers}
 use Rattle.atspi_tree.specs.declared.cell.Cell.{Cell}
 
@@ -52,11 +53,12 @@ pub record IsHeld (entries : List (ℕ × Cell)) (f : Forest ShapeRow) : Type 0 
   pub only : (n : ℕ) → count (is_shape n) f ≡ 0 → look_in entries n ≡ None
   pub size : count (λ row. true) f ≡ length entries
 
--- a table holds a tree to which so many nodes were ever added
-pub record HoldsTree (entries : List (ℕ × Cell)) (added : ℕ) : Type 0 where
+-- a table holds a tree to which so many nodes were ever added, and beside it no node that names another is left out
+pub record HoldsTree (entries : List (ℕ × Cell)) (namers : Namers) (added : ℕ) : Type 0 where
   pub rows : Forest ShapeRow
   pub held : IsHeld entries rows
   pub lawful : IsTree shapes rows added
+  pub covered : Covers namers rows
 
 -- the row and the children of a number; no one asks for those of a number that a table lacks
 abbrev pub row_or : ℕ → Option Kept → ShapeRow
@@ -147,3 +149,21 @@ pub record Rehangs (old new : List (ℕ × Cell)) (from to i n : ℕ) : Type 0 w
   pub left : (k : Kept) → (from == to) ≡ false → look_in old from ≡ Some k → look_in new from ≡ Some (without_child n k)
   pub joined : (k : Kept) → look_in old to ≡ Some k → look_in new to ≡ Some (moved_child i n k)
   pub others : (m : ℕ) → (m == n) ≡ false → (m == from) ≡ false → (m == to) ≡ false → look_in new m ≡ look_in old m
+
+-- a table without a node, and without it among the children of its parent
+pub record Prunes (old new : List (ℕ × Cell)) (parent n : ℕ) : Type 0 where
+  pub gone : look_in new n ≡ None
+  pub left : (k : Kept) → look_in old parent ≡ Some k → look_in new parent ≡ Some (without_child n k)
+  pub others : (m : ℕ) → (m == n) ≡ false → (m == parent) ≡ false → look_in new m ≡ look_in old m
+
+-- without a target among the relations
+abbrev pub forgets_target : ℕ → Kept → Kept
+forgets_target target k = with_row (forgetting_shape (λ t. t == target)) k
+
+-- no relation has this target
+abbrev pub IsClean : ℕ → Option Kept → Type 0
+IsClean target o = option_map (forgets_target target) o ≡ o
+
+-- a table in which no relation has a target, and all else is as before
+abbrev pub Forgets : List (ℕ × Cell) → List (ℕ × Cell) → ℕ → Type 0
+Forgets old new target = (m : ℕ) → look_in new m ≡ option_map (forgets_target target) (look_in old m)

@@ -4,6 +4,7 @@
 mod cell;
 mod edits;
 mod fault;
+mod namers;
 mod relations;
 mod states;
 mod table;

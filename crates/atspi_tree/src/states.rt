@@ -2,6 +2,7 @@
 
 ghost use Rattle.std.specs.Prelude.{◌≡◌, ◌<◌, ◌≤◌, length, insert, true, vec_len, vec_capacity};
 ghost use Rattle.atspi_forest.specs.Edits.{is_among};
+ghost use Rattle.atspi_forest.specs.Map.{times};
 ghost use Rattle.atspi_forest.specs.States.{with_state};
 ghost use Rattle.atspi_tree.specs.Table.{all_but};
 
@@ -25,6 +26,19 @@ pub(crate) fn drop_child(children: &mut Vec<u32>, node: u32)
     ensures capacity { vec_capacity children.new ≡ vec_capacity children.old }
 {
     children.retain(|child| *child != node);
+}
+
+/// Takes out a number that stands there once at most. The last one is taken without a search.
+pub(crate) fn unlist(children: &mut Vec<u32>, node: u32)
+    requires { times node children.old.items ≤ 1 }
+    ensures { children.new.items ≡ all_but node children.old.items }
+{
+    match children.last() {
+        Some(last) if *last == node => {
+            children.pop();
+        }
+        _ => drop_child(children, node),
+    }
 }
 
 /// Takes out a number and puts it at an index among the others.

@@ -6,13 +6,20 @@ ghost use Rattle.atspi_forest.specs.RowRules.{changed_shape};
 ghost use Rattle.atspi_forest.specs.declared.step.Step.TheVariants.{SetDescription, SetName, SetRole, SetState};
 ghost use Rattle.std.specs.Prelude.{◌<◌, ◌==◌, true, false};
 ghost use Rattle.atspi_forest.specs.Edits.{is_among};
-ghost use Rattle.atspi_tree.specs.Table.{ChangesAt, Kept, Rehangs, Relists, all_but, kept, look_in, moved_child, with_child, with_parent, with_row, without_child};
+ghost use Rattle.std.specs.Option.{option_map};
+ghost use Rattle.std.specs.Ordering.{nat_cmp};
+ghost use Rattle.std.specs.BTreeSet.{contains};
+ghost use Rattle.atspi_forest.specs.Map.{times};
+ghost use Rattle.atspi_tree.specs.Table.{ChangesAt, Forgets, IsClean, Kept, Prunes, Rehangs, Relists, all_but, forgets_target, kept, look_in, moved_child, with_child, with_parent, with_row, without_child};
+ghost use Rattle.atspi_tree.specs.Namers.{has_namer};
 ghost use Rattle.atspi_tree.specs.Relations.{with_relations};
 
 use crate::cell::Cell;
-use crate::states::{drop_child, shift, with_state};
+use crate::relations::drop_target;
+use crate::states::{drop_child, shift, unlist, with_state};
 use atspi_base::{NoMemory, Text};
-use std::collections::BTreeMap;
+use std::collections::{BTreeMap, BTreeSet};
+use std::mem::replace;
 
 /// Puts a cell under a number that has none.
 pub(crate) fn put_cell(
@@ -82,13 +89,18 @@ pub(crate) fn set_role(cells: &mut BTreeMap<u32, Cell>, node: u32, role: u32)
     }
 }
 
-/// Gives a node other relations.
-pub(crate) fn set_relations(cells: &mut BTreeMap<u32, Cell>, node: u32, relations: Vec<(u32, u32)>)
+/// Gives a node other relations, and hands out those that it had.
+pub(crate) fn set_relations(
+    cells: &mut BTreeMap<u32, Cell>,
+    node: u32,
+    relations: Vec<(u32, u32)>,
+) -> Vec<(u32, u32)>
     ensures put { (k : Kept) → look_in cells.old.entries node ≡ Some k → ChangesAt cells.old.entries cells.new.entries node (with_row (with_relations relations.items) k) }
     ensures size { length cells.new.entries ≡ length cells.old.entries }
 {
-    if let Some(cell) = cells.get_mut(&node) {
-        cell.relations = relations;
+    match cells.get_mut(&node) {
+        Some(cell) => replace(&mut cell.relations, relations),
+        None => relations,
     }
 }
 
@@ -181,4 +193,68 @@ pub(crate) fn rehang(
     relist(cells, old, new, index, node)?;
     set_parent(cells, node, new);
     Ok(())
+}
+
+/// Takes a number out of the children of a node, which lists it once at most.
+fn unlist_child(cells: &mut BTreeMap<u32, Cell>, parent: u32, node: u32)
+    requires { Holds (λ k. times node k.children ≤ 1) (look_in cells.old.entries parent) }
+    ensures put { (k : Kept) → look_in cells.old.entries parent ≡ Some k → ChangesAt cells.old.entries cells.new.entries parent (without_child node k) }
+    ensures size { length cells.new.entries ≡ length cells.old.entries }
+{
+    if let Some(cell) = cells.get_mut(&parent) {
+        unlist(&mut cell.children, node);
+    }
+}
+
+/// Takes a node out of the table and of the children of its parent. Hands out the relations that it had.
+pub(crate) fn prune(cells: &mut BTreeMap<u32, Cell>, parent: u32, node: u32) -> Vec<(u32, u32)>
+    requires once { Holds (λ k. times node k.children ≤ 1) (look_in cells.old.entries parent) }
+    requires apart { (parent == node) ≡ false }
+    requires there { Holds (λ k. Unit {0}) (look_in cells.old.entries node) }
+    ensures put { Prunes cells.old.entries cells.new.entries parent node }
+    ensures size { length cells.new.entries + 1 ≡ length cells.old.entries }
+{
+    unlist_child(cells, parent, node);
+    match cells.remove(&node) {
+        Some(cell) => cell.relations,
+        None => unreachable!(),
+    }
+}
+
+/// Takes a number out of the targets of a node's relations, where the node is there.
+fn forget_target(cells: &mut BTreeMap<u32, Cell>, node: u32, target: u32)
+    ensures here { look_in cells.new.entries node ≡ option_map (forgets_target target) (look_in cells.old.entries node) }
+    ensures others { (m : ℕ) → (m == node) ≡ false → look_in cells.new.entries m ≡ look_in cells.old.entries m }
+    ensures size { length cells.new.entries ≡ length cells.old.entries }
+{
+    if let Some(cell) = cells.get_mut(&node) {
+        drop_target(&mut cell.relations, target);
+    }
+}
+
+/// Takes a number out of the targets of all relations. Looks at those of the nodes that may name it, of which there are
+/// some.
+fn forget_targets(cells: &mut BTreeMap<u32, Cell>, namers: &BTreeSet<u32>, target: u32)
+    requires { (m : ℕ) → contains nat_cmp namers.now m ≡ false → IsClean target (look_in cells.old.entries m) }
+    ensures put { Forgets cells.old.entries cells.new.entries target }
+    ensures size { length cells.new.entries ≡ length cells.old.entries }
+{
+    for node in namers {
+        forget_target(cells, *node, target);
+    }
+}
+
+/// The same where there may be no such node.
+pub(crate) fn forget_named(
+    cells: &mut BTreeMap<u32, Cell>,
+    namers: &Option<BTreeSet<u32>>,
+    target: u32,
+)
+    requires { (m : ℕ) → has_namer namers.now m ≡ false → IsClean target (look_in cells.old.entries m) }
+    ensures put { Forgets cells.old.entries cells.new.entries target }
+    ensures size { length cells.new.entries ≡ length cells.old.entries }
+{
+    if let Some(nodes) = namers {
+        forget_targets(cells, nodes, target);
+    }
 }

@@ -1,25 +1,27 @@
 //! The tree itself: a table of cells, and the calls that read and change it.
 
-ghost use Rattle.std.specs.Prelude.{◌≡◌, ◌<◌, ◌&&◌, ℕ, Some, None, true, IfOk, OnOk, OnErr, [], bytes_eq};
+ghost use Rattle.std.specs.Prelude.{◌≡◌, ◌≢◌, ◌<◌, ◌&&◌, ℕ, Some, None, true, IfOk, OnOk, OnErr, [], bytes_eq};
 ghost use Rattle.std.specs.Option.{option_map};
 ghost use Rattle.atspi_forest.specs.Edits.{IsEdit, first_fault, is_full, refusals};
 ghost use Rattle.atspi_forest.specs.declared.contents.FaceData.TheVariants.{Deeds};
 ghost use Rattle.atspi_forest.specs.declared.edit.Edit.TheVariants.{Insert, Name};
-ghost use Rattle.atspi_forest.specs.declared.step.Step.TheVariants.{Add, Move, Relate, SetDescription, SetName, SetRole, SetState};
+ghost use Rattle.atspi_forest.specs.declared.step.Step.TheVariants.{Add, Move, Relate, Remove, SetDescription, SetName, SetRole, SetState};
 ghost use Rattle.atspi_forest.specs.Forest.{has, count as count_nodes};
 ghost use Rattle.atspi_forest.specs.Row.{Each, IsName};
 ghost use Rattle.atspi_forest.specs.RowRules.{shapes};
-ghost use Rattle.atspi_forest.specs.Tree.{AllApply, is_shape};
+ghost use Rattle.atspi_forest.specs.Tree.{AllApply, in_subtree, is_shape};
 ghost use Rattle.atspi_forest.specs.View.{kinds_number};
-ghost use Rattle.atspi_tree.specs.Calls.{GivesSteps, IsEditSoFar, IsStepDone, IsStepSoFar, edit_steps};
+ghost use Rattle.atspi_tree.specs.Calls.{GivesSteps, IsEditSoFar, IsStepSoFar, edit_steps};
 ghost use Rattle.atspi_tree.specs.TreeShape.{IsLawful, StepApplies, after_step, children_of, parent_of, root_alone, row_of};
 
 use crate::cell::{Cell, bits, first_kinds};
 use crate::edits::{copy_seed, is_bad_place, is_long_name, is_too_long, one_step};
 use crate::fault::TreeFault;
-use crate::relations::with_targets;
+use crate::namers::Namers;
+use crate::relations::{target_set, with_targets};
 use crate::table::{
-    insert_child, put_cell, rehang, set_description, set_name, set_relations, set_role, set_states,
+    forget_named, insert_child, prune, put_cell, rehang, set_description, set_name, set_relations,
+    set_role, set_states,
 };
 use atspi_base::{NoMemory, Nums, Text};
 use atspi_forest::{Edit, EditFault, Kinds, Seed, Step, StepList};
@@ -33,6 +35,7 @@ use std::marker::Model;
 pub struct Tree {
     alloc: Global,
     cells: BTreeMap<u32, Cell>,
+    namers: Namers,
     /// The newest node's number.
     added: u32,
 }
@@ -47,7 +50,7 @@ impl Model for Tree {
 
     ghost view = { λ t. record { rows = rows_in t.cells.entries; added = t.added } };
 
-    ghost invariant = { λ t. HoldsTree t.cells.entries t.added };
+    ghost invariant = { λ t. HoldsTree t.cells.entries t.namers.sets t.added };
 }
 
 impl Tree {
@@ -69,6 +72,7 @@ impl Tree {
         Ok(Tree {
             alloc,
             cells,
+            namers: Namers::new(alloc),
             added: 0,
         })
     }
@@ -103,7 +107,6 @@ impl Tree {
         requires lawful { IsEdit edit.now }
         ensures exact { GivesSteps result (edit_steps self.now edit.now) }
         ensures so_far { IfOk result (Each IsStepSoFar) }
-        ensures done { IfOk result (Each IsStepDone) }
         ensures applies { IfOk result (AllApply shapes self.now.rows self.now.added) }
     {
         match edit {
@@ -120,8 +123,7 @@ impl Tree {
     /// Does a step. After want of memory the tree is as before. The steps that change what interface objects keep change
     /// nothing here.
     pub fn apply(&mut self, step: &Step) -> Result<(), NoMemory>
-        requires done { IsStepDone step.now }
-        requires applies { StepApplies self.old step.now }
+        requires { StepApplies self.old step.now }
         ensures ok { OnOk result (self.new ≡ after_step self.old step.now) }
         ensures err { OnErr result (self.new ≡ self.old) }
     {
@@ -156,7 +158,10 @@ impl Tree {
                 kind,
                 targets,
             } => self.relate(*node, *kind, targets),
-            Step::Remove { .. } => unreachable!(),
+            Step::Remove { node } => {
+                self.take_out(*node);
+                Ok(())
+            }
         }
     }
 
@@ -167,6 +172,7 @@ impl Tree {
         Ok(Tree {
             alloc: self.alloc,
             cells: self.cells.clone()?,
+            namers: self.namers.copy()?,
             added: self.added,
         })
     }
@@ -273,7 +279,6 @@ impl Tree {
         requires { IsEdit (Insert parent index seed.now) }
         ensures exact { GivesSteps result (edit_steps self.now (Insert parent index seed.now)) }
         ensures so_far { IfOk result (Each IsStepSoFar) }
-        ensures done { IfOk result (Each IsStepDone) }
         ensures applies { IfOk result (AllApply shapes self.now.rows self.now.added) }
     {
         if let Some(fault) = self.insert_fault(parent, index, seed) {
@@ -314,7 +319,6 @@ impl Tree {
     fn name_steps(&self, node: u32, text: &Text) -> Result<StepList, TreeFault>
         ensures exact { GivesSteps result (edit_steps self.now (Name node text.now)) }
         ensures so_far { IfOk result (Each IsStepSoFar) }
-        ensures done { IfOk result (Each IsStepDone) }
         ensures applies { IfOk result (AllApply shapes self.now.rows self.now.added) }
     {
         if let Some(fault) = self.name_fault(node, text) {
@@ -375,6 +379,53 @@ impl Tree {
         Ok(())
     }
 
+    /// The last of the last children of a node, or the node itself where it has none.
+    fn last_leaf(&self, node: u32) -> u32
+        requires { has (is_shape node) self.now.rows ≡ true }
+        ensures there { has (is_shape result) self.now.rows ≡ true }
+        ensures inside { (top : ℕ) → in_subtree shapes top self.now.rows node ≡ true → in_subtree shapes top self.now.rows result ≡ true }
+        ensures leaf { children_of result self.now ≡ [] }
+        ensures lawful { IsLawful self.now }
+    {
+        let mut at = node;
+        while let Some(child) = self.cells[&at].children.last() {
+            at = *child;
+        }
+        at
+    }
+
+    /// Takes out a node without children, and answers its parent. Looks at the nodes that may name it, and at no others.
+    fn take_leaf(&mut self, node: u32) -> u32
+        requires applies { StepApplies self.old (Remove node) }
+        requires leaf { children_of node self.old ≡ [] }
+        ensures parent { parent_of node self.old ≡ Some (Some result) }
+        ensures taken { self.new ≡ after_step self.old (Remove node) }
+    {
+        let Some(parent) = self.parent(node) else {
+            unreachable!()
+        };
+        let relations = prune(&mut self.cells, parent, node);
+        self.namers.forget_each(&relations, node);
+        let namers = self.namers.take(node);
+        forget_named(&mut self.cells, &namers, node);
+        parent
+    }
+
+    /// Takes out a node that is there and is not the root, with all that is below it. Takes no memory. The cost is that of
+    /// the nodes taken out, and of the relations that name them; where the node is not the last child of its parent, it is
+    /// also looked for among the children.
+    pub fn take_out(&mut self, node: u32)
+        requires { StepApplies self.old (Remove node) }
+        ensures { self.new ≡ after_step self.old (Remove node) }
+    {
+        let mut leaf = self.last_leaf(node);
+        while leaf != node {
+            let parent = self.take_leaf(leaf);
+            leaf = self.last_leaf(parent);
+        }
+        self.take_leaf(node);
+    }
+
     /// These are the targets of a node's relation of a kind.
     fn relate(&mut self, node: u32, kind: u32, targets: &Nums) -> Result<(), NoMemory>
         requires { StepApplies self.old (Relate node kind targets.now) }
@@ -382,7 +433,10 @@ impl Tree {
         ensures err { OnErr result (self.new ≡ self.old) }
     {
         let relations = with_targets(self.alloc, self.relations(node), kind, targets.as_slice())?;
-        set_relations(&mut self.cells, node, relations);
+        let named = target_set(self.alloc, &relations)?;
+        self.namers.note_each(self.alloc, targets.as_slice(), node)?;
+        let lost = set_relations(&mut self.cells, node, relations);
+        self.namers.forget_lost(&lost, &named, node);
         Ok(())
     }
 

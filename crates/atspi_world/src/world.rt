@@ -489,7 +489,6 @@ fn post(
 }
 
 /// A step is done to the tree, where there is one.
-#[tactic(auto, using(atspi_tree::proofs::Refusals::done_so_far))]
 fn apply_to(tree: &mut Option<Tree>, step: &Step) -> Result<(), NoMemory>
     requires so_far { IsStepSoFar step.now }
     requires applies { IfSome tree.old (λ t. StepApplies t step.now) }
@@ -503,7 +502,6 @@ fn apply_to(tree: &mut Option<Tree>, step: &Step) -> Result<(), NoMemory>
 }
 
 /// A step that is announced is done to what is held.
-#[tactic(auto, using(atspi_tree::proofs::Refusals::done_so_far))]
 fn follow(held: &mut Option<Tree>, message: Option<&Message>) -> Result<(), NoMemory>
     requires { CanFollow held.old (option_copied message) }
     ensures ok { OnOk result (held.new ≡ followed held.old (option_copied message.entry)) }

@@ -1,5 +1,5 @@
 use Rattle.std.proofs.Common.{◌≡◌, ◌+◌, drop}
-use Rattle.atspi_edits.specs.Places.{index_in}
+use Rattle.atspi_tree.specs.Places.{index_in}
 use Rattle.atspi_edits.proofs.moves.index_of.Given as goal
 
 abbrev pub invariant-loop-i : goal.invariant-loop-i

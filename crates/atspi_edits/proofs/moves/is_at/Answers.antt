@@ -1,6 +1,6 @@
 use Rattle.std.proofs.Common.{ℕ, ◌==◌, Some, ap, ◌∙◌}
-use Rattle.atspi_edits.specs.Places.{index_in}
-use Rattle.atspi_edits.proofs.Seated.{seat_is}
+use Rattle.atspi_tree.specs.Places.{index_in}
+use Rattle.atspi_tree.proofs.Seated.{seat_is}
 use Rattle.atspi_edits.proofs.moves.is_at.Goals as goal
 
 pub returns : goal.returns

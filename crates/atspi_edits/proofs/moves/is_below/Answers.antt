@@ -2,7 +2,7 @@ use Rattle.std.proofs.Common.{ap, sym, ◌∙◌}
 use Rattle.std.proofs.lemmas.Bool.{ne_eqb}
 use Rattle.atspi_forest.specs.RowRules.{shapes}
 use Rattle.atspi_forest.specs.Tree.{in_subtree}
-use Rattle.atspi_edits.proofs.Seated.{at_root, has_parent, own_subtree}
+use Rattle.atspi_tree.proofs.Seated.{at_root, has_parent, own_subtree}
 use Rattle.atspi_edits.proofs.moves.is_below.Goals as goal
 
 pub loop-at-preserved : goal.loop-at-preserved

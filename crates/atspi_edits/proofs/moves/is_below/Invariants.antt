@@ -2,7 +2,7 @@ use Rattle.std.proofs.Common.{◌≡◌, true}
 use Rattle.atspi_forest.specs.Forest.{has}
 use Rattle.atspi_forest.specs.RowRules.{shapes}
 use Rattle.atspi_forest.specs.Tree.{in_subtree, is_shape}
-use Rattle.atspi_edits.proofs.Seated.{depth_of}
+use Rattle.atspi_tree.proofs.Seated.{depth_of}
 use Rattle.atspi_edits.proofs.moves.is_below.Given as goal
 
 abbrev pub invariant-loop-at : goal.invariant-loop-at

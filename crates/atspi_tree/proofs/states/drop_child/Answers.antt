@@ -1,4 +1,4 @@
-use Rattle.std.proofs.Common.{◌≡◌, ◌==◌, not, rules, length, ap, ◌∙◌, arith}
+use Rattle.std.proofs.Common.{◌≡◌, ◌==◌, not, rules, length, ap, arith}
 use Rattle.std.proofs.lemmas.Fn.{filter_same}
 use Rattle.atspi_tree.specs.Table.{all_but}
 use Rattle.atspi_tree.proofs.states.drop_child.Goals as goal

@@ -1,4 +1,4 @@
-use Rattle.std.proofs.Common.{◌≡◌, length, arith}
+use Rattle.std.proofs.Common.{arith}
 use Rattle.atspi_tree.proofs.Moved.{fewer}
 use Rattle.atspi_tree.proofs.states.shift.Goals as goal
 

@@ -5,7 +5,8 @@ use Rattle.atspi_forest.specs.Tree.{IsTree, after}
 use Rattle.atspi_forest.proofs.RowRules.{shapes_sound}
 use Rattle.atspi_forest.proofs.Kept.{added_is_tree}
 use Rattle.atspi_tree.specs.Table.{ChangesAt}
-use Rattle.atspi_tree.proofs.Trees.{holding, seen, view_of, shape, is_new, in_range, new_cell, table_add, table_back}
+use Rattle.atspi_tree.proofs.Trees.{covering, holding, seen, view_of, shape, is_new, in_range, new_cell, table_add, table_back}
+use Rattle.atspi_tree.proofs.Noted.{covers_add}
 use Rattle.atspi_tree.proofs.tree.Tree.add.Goals as goal
 
 pub put_cell-requires : goal.put_cell-requires
@@ -28,6 +29,7 @@ invariant_of-self-in-Ok c =
           c.in_ok-put_cell.ensures.size c.in-Ok.ensures.put c.in-Ok.ensures.size;
       lawful = subst (IsTree shapes (after shapes c.args.self.now.rows (Add c.args.node c.args.parent c.args.index c.args.seed.now))) (sym c.requires.next)
           (added_is_tree shapes shapes_sound c.args.self.now.rows c.args.self.now.added c.args.node c.args.parent c.args.index c.args.seed.now h.lawful c.requires);
+      covered = covers_add c.self.inside.namers.sets c.args.parent c.args.index c.args.node c.args.seed.now c.args.self.now.rows (covering _ _ c.args.self.now c.self.invariant c.self.view_is);
     }
 
 pub returns-in-Ok-clause-ok : goal.returns-in-Ok-clause-ok
@@ -46,6 +48,7 @@ invariant_of-self-in-Err c =
           c.in_ok-put_cell.ensures.put c.in_ok-put_cell.ensures.size c.in-Err.ensures.err c.in-Err.ensures.size
           c.remove.ensures.value c.remove.ensures.updates.0 c.remove.ensures.len;
       lawful = c.self.invariant.lawful;
+      covered = c.self.invariant.covered;
     }
 
 pub returns-in-Err-clause-err : goal.returns-in-Err-clause-err

@@ -1,4 +1,4 @@
-use Rattle.std.proofs.Common.{◌≡◌, sym, ap, subst, ◌∙◌}
+use Rattle.std.proofs.Common.{sym, ap, subst, ◌∙◌}
 use Rattle.atspi_forest.specs.RowRules.{shapes}
 use Rattle.atspi_forest.specs.Tree.{Changes}
 use Rattle.atspi_forest.specs.declared.step.Step.TheVariants.{SetState}
@@ -8,7 +8,7 @@ use Rattle.atspi_tree.proofs.tree.Tree.apply.Goals as goal
 
 pub set_state-requires : goal.set_state-requires
 set_state-requires c =
-    let m : Changes shapes c.args.self.now.rows (SetState c.in-SetState.node c.in-SetState.state c.in-SetState.on) = subst (StepApplies c.args.self.now) c.in-SetState.is c.requires.applies in
+    let m : Changes shapes c.args.self.now.rows (SetState c.in-SetState.node c.in-SetState.state c.in-SetState.on) = subst (StepApplies c.args.self.now) c.in-SetState.is c.requires in
     record { there = step_there (SetState c.in-SetState.node c.in-SetState.state c.in-SetState.on) c.args.self.now m; known = m.allowed }
 
 pub returns-in-Insert-clause-ok : goal.returns-in-Insert-clause-ok

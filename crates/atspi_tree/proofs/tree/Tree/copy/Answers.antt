@@ -1,5 +1,6 @@
 use Rattle.std.proofs.Common.{◌∙◌}
 use Rattle.atspi_tree.proofs.Trees.{seen, table_copy, view_of}
+use Rattle.atspi_tree.proofs.Noted.{same_covers}
 use Rattle.atspi_tree.proofs.tree.Tree.copy.Goals as goal
 
 pub invariant_of-result : goal.invariant_of-result
@@ -7,6 +8,7 @@ invariant_of-result c = record {
   rows = c.self.invariant.rows;
   held = table_copy _ _ c.self.invariant.rows c.self.invariant.held c.in_ok-clone.ensures.cases;
   lawful = c.self.invariant.lawful;
+  covered = same_covers c.self.inside.namers.sets c.in_ok-copy.field-0.sets c.in_ok-copy.ensures c.self.invariant.rows c.self.invariant.covered;
 }
 
 pub returns : goal.returns

@@ -14,6 +14,7 @@ invariant_of-result c = record {
   rows = (root_alone c.args.name).rows;
   held = table_new _ _ c.args.name c.new-cells.ensures.empty (subst (ChangesAt _ _ 0) (c.in_ok-root.ensures 0) c.in_ok-put_cell.ensures.put) c.in_ok-put_cell.ensures.size;
   lawful = shapes_begin c.args.name c.requires;
+  covered = (tt, tt, tt);
 }
 
 pub returns : goal.returns

@@ -1,12 +1,13 @@
-use Rattle.std.proofs.Common.{◌≡◌, Some, ap, sym, subst, ◌∙◌}
+use Rattle.std.proofs.Common.{ap, sym, subst, ◌∙◌}
 use Rattle.std.proofs.lemmas.Result.{err_from_is_err_and}
 use Rattle.atspi_forest.specs.declared.step.Step.TheVariants.{Move}
 use Rattle.atspi_forest.specs.RowRules.{shapes}
 use Rattle.atspi_forest.specs.Tree.{IsTree, after}
 use Rattle.atspi_forest.proofs.RowRules.{shapes_sound}
 use Rattle.atspi_forest.proofs.Kept.{moved_is_tree}
-use Rattle.atspi_tree.proofs.Trees.{holding, seen, shape, same_table, view_of}
+use Rattle.atspi_tree.proofs.Trees.{covering, holding, seen, shape, same_table, view_of}
 use Rattle.atspi_tree.proofs.Rehung.{row_of_parent, not_root, movable, table_move}
+use Rattle.atspi_tree.proofs.Noted.{covers_move}
 use Rattle.atspi_tree.proofs.tree.Tree.shift.Goals as goal
 
 pub parent-requires : goal.parent-requires
@@ -29,6 +30,7 @@ invariant_of-self c = record {
   rows = c.self.invariant.rows;
   held = same_table _ _ c.self.invariant.rows c.self.invariant.held c.in_err-rehang-in-Some.ensures.err c.in_err-rehang-in-Some.ensures.size;
   lawful = c.self.invariant.lawful;
+  covered = c.self.invariant.covered;
 }
 
 pub returns-in_err-rehang-in-Some-clause-err : goal.returns-in_err-rehang-in-Some-clause-err
@@ -46,6 +48,7 @@ invariant_of-self-in-Some c =
       held = table_move _ _ c.args.node c.args.parent c.args.index c.in-Some.old c.args.self.now h c.requires r.kept r.there r.parent _ c.in_ok-rehang-in-Some.ensures.put c.in_ok-rehang-in-Some.ensures.size;
       lawful = subst (IsTree shapes (after shapes c.args.self.now.rows (Move c.args.node c.args.parent c.args.index))) (sym h.added)
           (moved_is_tree shapes shapes_sound c.args.self.now.rows c.args.self.now.added c.args.node c.args.parent c.args.index h.lawful c.requires);
+      covered = covers_move c.self.inside.namers.sets c.args.node c.args.parent c.args.index c.args.self.now.rows (covering _ _ c.args.self.now c.self.invariant c.self.view_is);
     }
 
 pub returns-clause-ok : goal.returns-clause-ok

@@ -13,7 +13,7 @@ use Rattle.atspi_forest.proofs.Found.{count-has, has-count, not_there}
 use Rattle.atspi_forest.proofs.Seats.{count-take_out}
 use Rattle.atspi_tree.specs.TreeShape.{TreeShape, IsLawful, numbers, parent_of}
 use Rattle.atspi_tree.proofs.Held.{no_place}
-use Rattle.atspi_edits.specs.Places.{index_in}
+use Rattle.atspi_tree.specs.Places.{index_in}
 
 -- how many nodes are above a node
 abbrev pub depth_of : ℕ → Forest ShapeRow → ℕ
