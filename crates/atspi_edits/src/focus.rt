@@ -25,13 +25,18 @@ fn push_unfocus(steps: &mut StepList, tree: &Tree, node: u32, other: u32) -> Res
     push_switch(steps, tree, other, 12, false)
 }
 
-/// Appends the steps that take the focus from each node but one, by rising number. Each number that was ever taken is
-/// looked up.
+/// Appends the steps that take the focus from each node but one, by rising number. Each node that there is is looked up, and
+/// no number that is free.
 fn push_others(steps: &mut StepList, tree: &Tree, node: u32) -> Result<(), NoMemory>
     ensures { OnOk result (steps.new ≡ steps.old ++ unfocusing tree.now.rows node (numbers_to tree.now.added)) }
 {
-    for other in 0..u64::from(tree.made()) + 1 {
-        push_unfocus(steps, tree, node, other as u32)?;
+    let mut from = 0u32;
+    while let Some(other) = tree.next_node(from) {
+        push_unfocus(steps, tree, node, other)?;
+        match other.checked_add(1) {
+            Some(next) => from = next,
+            None => return Ok(()),
+        }
     }
     Ok(())
 }

@@ -1,6 +1,7 @@
 pub mod Held
 pub mod Moved
 pub mod Keys
+pub mod Ranges
 pub mod Trees
 pub mod Refusals
 pub mod Rehung

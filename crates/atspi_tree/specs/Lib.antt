@@ -1,4 +1,5 @@
 pub mod TreeShape
+pub mod NextNode
 pub mod Places
 pub mod Namers
 pub mod Table

@@ -12,6 +12,7 @@ ghost use Rattle.atspi_forest.specs.RowRules.{shapes};
 ghost use Rattle.atspi_forest.specs.Tree.{AllApply, in_subtree, is_shape};
 ghost use Rattle.atspi_forest.specs.View.{kinds_number};
 ghost use Rattle.atspi_tree.specs.Calls.{GivesSteps, IsEditSoFar, IsStepSoFar, edit_steps};
+ghost use Rattle.atspi_tree.specs.NextNode.{IsNextNode};
 ghost use Rattle.atspi_tree.specs.TreeShape.{IsLawful, StepApplies, after_step, children_of, parent_of, root_alone, row_of};
 
 use crate::cell::{Cell, bits, first_kinds};
@@ -83,6 +84,17 @@ impl Tree {
         ensures answer { result ≡ has (is_shape node) self.now.rows }
     {
         self.cells.contains_key(&node)
+    }
+
+    /// The node with the least number from this one on. Costs a look-up, whatever numbers are free.
+    pub fn next_node(&self, from: u32) -> Option<u32>
+        ensures next { IsNextNode self.now from result }
+        ensures lawful { IsLawful self.now }
+    {
+        match self.cells.range(from..).next() {
+            Some((node, _)) => Some(*node),
+            None => None,
+        }
     }
 
     /// How many nodes were ever added, the root not counted. The newest node has this number.
