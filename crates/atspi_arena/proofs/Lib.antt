@@ -1,0 +1,10 @@
+pub mod Held
+pub mod Walk
+pub mod Seen
+pub mod Inserted
+pub mod Removed
+pub mod Moved
+pub mod Changed
+pub mod Rooted
+pub mod Outside
+pub mod Sits
