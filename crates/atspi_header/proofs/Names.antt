@@ -1,5 +1,5 @@
 -- Names of a header: they are text, and each is of its rule.
-use Rattle.std.proofs.Common.{◌≡◌, ℕ, List, Option, Some, None, Bool, true, refl, subst}
+use Rattle.std.proofs.Common.{◌≡◌, ℕ, List, Option, Some, None, Bool, true, false, refl, subst}
 use Rattle.std.specs.Prelude.{◌&&◌, IfSome}
 use Rattle.std.specs.Borrow.{Bor}
 use Rattle.std.specs.Str.{IsUtf8}
@@ -51,3 +51,25 @@ named_from p i m e d s envelope names a b c f g h =
     all_six _ _ _ _ _ _ (fits_from is_path IsPath is_path-from_IsPath p envelope.path a names.path) (fits_from is_interface IsInterface is_interface-from_IsInterface i envelope.interface b names.interface)
     (fits_from is_member IsMember is_member-from_IsMember m envelope.member c names.member) (fits_from is_interface IsInterface is_interface-from_IsInterface e envelope.error f names.error)
     (fits_from is_bus_name IsBusName is_bus_name-from_IsBusName d envelope.destination g names.destination) (fits_from is_bus_name IsBusName is_bus_name-from_IsBusName s envelope.sender h names.sender)
+
+-- each name of several is of its rule
+and_parts : (a b : Bool) → (a && b) ≡ true → (a ≡ true) × (b ≡ true)
+and_parts true b h = (refl, h)
+and_parts false b h = absurd cc
+
+pub record EachNamed (p i m e d s : Option (Bor (List ℕ))) : Type 0 where
+  pub path : fits is_path p ≡ true
+  pub interface : fits is_interface i ≡ true
+  pub member : fits is_member m ≡ true
+  pub error : fits is_interface e ≡ true
+  pub destination : fits is_bus_name d ≡ true
+  pub sender : fits is_bus_name s ≡ true
+
+pub each_named : (p i m e d s : Option (Bor (List ℕ))) → are_named p i m e d s ≡ true → EachNamed p i m e d s
+each_named p i m e d s h =
+    let h1 = and_parts (fits is_path p) _ h in
+    let h2 = and_parts (fits is_interface i) _ h1.1 in
+    let h3 = and_parts (fits is_member m) _ h2.1 in
+    let h4 = and_parts (fits is_interface e) _ h3.1 in
+    let h5 = and_parts (fits is_bus_name d) (fits is_bus_name s) h4.1 in
+    record { path = h1.0; interface = h2.0; member = h3.0; error = h4.0; destination = h5.0; sender = h5.1 }

@@ -5,6 +5,7 @@ mod code;
 mod header;
 mod message;
 mod name;
+mod owned;
 mod parsing;
 
 pub use message::MessageRef;

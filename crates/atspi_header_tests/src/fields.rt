@@ -59,3 +59,25 @@ fn the_values_of_a_body_are_walked(rt: HostRuntime) -> Result<(), Fail> {
     assert!(rt; none.next().is_none());
     Ok(())
 }
+
+#[test]
+fn a_message_is_owned_with_its_fields_and_values(rt: HostRuntime) -> Result<(), Fail> {
+    let hello = parsed(&HELLO).ok_or("hello")?;
+    let owned = hello.owned(rt.alloc()).ok().ok_or("memory")?;
+    assert_eq!(rt; (owned.kind, owned.flags, owned.serial), (1, 0, 1));
+    assert_eq!(rt; owned.path.ok_or("path")?.as_str(), "/org/freedesktop/DBus");
+    assert_eq!(rt;
+        owned.interface.ok_or("interface")?.as_str(),
+        "org.freedesktop.DBus"
+    );
+    assert_eq!(rt; owned.member.ok_or("member")?.as_str(), "Hello");
+    assert_eq!(rt;
+        owned.destination.ok_or("destination")?.as_str(),
+        "org.freedesktop.DBus"
+    );
+    assert_eq!(rt; owned.body.len(), 0);
+    let body = parsed(&BODY).ok_or("body")?;
+    let values = body.owned(rt.alloc()).ok().ok_or("memory")?.body;
+    assert_eq!(rt; values.len(), 2);
+    Ok(())
+}
