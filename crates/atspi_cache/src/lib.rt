@@ -1,4 +1,4 @@
-//! What a reader keeps of the applications that it holds: a view of each.
+//! What a reader keeps of the applications that it holds. Here: what each news makes of the rows of one.
 #![tactic(auto)]
 
 mod edits;
