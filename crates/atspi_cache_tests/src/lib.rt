@@ -1,8 +1,5 @@
-//! Tests of what a reader keeps and what it speaks, through public calls alone. What is due was worked out by hand from the
-//! rules of views and of speech.
+//! Tests of what a reader speaks, through public calls alone. What is due was worked out by hand from the rules of speech.
 #![tactic(auto)]
 
-#[cfg(test)]
-mod rows;
 #[cfg(test)]
 mod speech;

@@ -28,7 +28,7 @@ enum Told<'a> {
     Nothing,
 }
 
-pub(crate) fn text(rt: &HostRuntime, text: &str) -> Result<Text, Fail> {
+fn text(rt: &HostRuntime, text: &str) -> Result<Text, Fail> {
     if text.len() >= 1000 {
         return Err("a long text")?;
     }
@@ -39,7 +39,7 @@ pub(crate) fn text(rt: &HostRuntime, text: &str) -> Result<Text, Fail> {
     )
 }
 
-pub(crate) fn path(rt: &HostRuntime, path: &str) -> Result<Path, Fail> {
+fn path(rt: &HostRuntime, path: &str) -> Result<Path, Fail> {
     Ok(
         Path::read(rt.alloc(), path.as_bytes())
             .ok()
@@ -65,7 +65,7 @@ fn row_of(rt: &HostRuntime, known: Known) -> Result<Row, Fail> {
     })
 }
 
-pub(crate) fn reference(rt: &HostRuntime, bus: &str, at: &str) -> Result<Reference, Fail> {
+fn reference(rt: &HostRuntime, bus: &str, at: &str) -> Result<Reference, Fail> {
     let bus = text(rt, bus)?;
     let path = path(rt, at)?;
     Ok(Reference { bus, path })
