@@ -1,0 +1,11 @@
+pub mod Lacks
+pub mod NameLacks
+pub mod TextLacks
+pub mod Led
+pub mod StepOnce
+pub mod NodeLemmas
+pub mod RowOnce
+pub mod EventOnce
+pub mod LineLacks
+pub mod TraceOnce
+pub mod Written

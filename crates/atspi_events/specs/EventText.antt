@@ -1,0 +1,32 @@
+-- The text of an event: its line and those of the rows that it shows.
+use Rattle.std.specs.Prelude.{ℕ, List, [], ◌∷◌, ◌++◌, map, Some}
+use Rattle.std.specs.List.{flat_map}
+use Rattle.atspi_message.specs.Envelope.{envelope_of}
+use Rattle.atspi_script.specs.MessageText.{message_text}
+use Rattle.atspi_events.specs.declared.event.Event.{Event}
+use Rattle.atspi_events.specs.declared.event.Event.TheVariants.{Sent, Show}
+use Rattle.atspi_events.specs.Written.{words_text}
+use Rattle.atspi_events.specs.EventForms.{event_form}
+use Rattle.atspi_events.specs.Rows.{row_line}
+
+-- a line ends with a line feed
+abbrev pub ended : List ℕ → List ℕ
+ended line = line ++ 10 ∷ []
+
+-- the text of a message that was sent, as its sender wrote it
+abbrev pub message_part : Event → List ℕ
+message_part (Sent who message) = 32 ∷ message_text (envelope_of message)
+message_part _ = []
+
+-- the line that tells the event
+abbrev pub event_line : Event → List ℕ
+event_line event = words_text (event_form event) ++ message_part event
+
+-- the lines of the rows that it shows, in preorder
+abbrev pub row_lines : Event → List (List ℕ)
+row_lines (Show reader app (Some rows)) = map row_line rows
+row_lines _ = []
+
+-- the event's text
+abbrev pub event_text : Event → List ℕ
+event_text event = ended (event_line event) ++ flat_map ended (row_lines event)
