@@ -47,14 +47,13 @@ fn tell_whole<K: Sink>(
     'messages: loop {
         let start = fed - feeder.len();
         match feeder.next() {
-            Ok(Got::Message(message)) => {
-                if let Err(halt) = tell(start as u64, message, out, sink) {
+            Got::Message(message) => {
+                if let Err(halt) = tell(start as u64, &message, out, sink) {
                     return Err(halt);
                 }
             }
-            Ok(Got::NotYet) => return Ok(None),
-            Ok(Got::Bad(fault)) => return Ok(Some(fault)),
-            Err(_) => return Err(Halt::NoMemory),
+            Got::NotYet => return Ok(None),
+            Got::Bad(fault) => return Ok(Some(fault)),
         }
     }
 }

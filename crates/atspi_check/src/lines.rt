@@ -3,12 +3,12 @@
 ghost use Rattle.std.specs.Prelude.{◌≡◌, ◌++◌, [], OnOk, OnErr};
 ghost use Rattle.std.specs.Io.KnownBytes.{Appends};
 ghost use Rattle.atspi_base.specs.Outside.{AppendsPart};
-ghost use Rattle.atspi_message.specs.Envelope.{envelope_of};
+ghost use Rattle.atspi_header.specs.View.{envelope_at};
 ghost use Rattle.atspi_check.specs.Check.{fault_line, message_line};
 ghost use Rattle.atspi_check.specs.Taking.{BlamesLines, Puts, halt_status};
 
 use atspi_base::{Bytes, NoMemory, Sink, put_decimal, write_all};
-use atspi_message::Message;
+use atspi_header::MessageRef;
 use atspi_script::message_text;
 use std::alloc::Global;
 
@@ -37,8 +37,8 @@ impl Halt {
 }
 
 /// Appends the line of a message.
-fn put_message(start: u64, message: &Message, out: &mut Bytes) -> Result<(), NoMemory>
-    ensures { OnOk result (out.new ≡ out.old ++ message_line start (envelope_of message.now)) }
+fn put_message(start: u64, message: &MessageRef, out: &mut Bytes) -> Result<(), NoMemory>
+    ensures { OnOk result (out.new ≡ out.old ++ message_line start (envelope_at message.now)) }
 {
     put_decimal(start, out)?;
     out.push(b' ')?;
@@ -60,14 +60,14 @@ fn put_fault(start: u64, place: u64, reason: u8, out: &mut Bytes) -> Result<(), 
 }
 
 /// Appends the line of a message, and writes what waits once it is a block.
-fn tell_message<K: Sink>(
+pub fn tell<K: Sink>(
     start: u64,
-    message: &Message,
+    message: &MessageRef,
     out: &mut Bytes,
     sink: &mut K,
 ) -> Result<(), Halt>
-    ensures ok { OnOk result (Puts out.old out.new (K.written sink.old) (K.written sink.new) (message_line start (envelope_of message.now))) }
-    ensures err { OnErr result (AppendsPart (K.written sink.old) (K.written sink.new) (out.old ++ message_line start (envelope_of message.now))) }
+    ensures ok { OnOk result (Puts out.old out.new (K.written sink.old) (K.written sink.new) (message_line start (envelope_at message.now))) }
+    ensures err { OnErr result (AppendsPart (K.written sink.old) (K.written sink.new) (out.old ++ message_line start (envelope_at message.now))) }
     ensures cause { BlamesLines result (K.faults sink.old) (K.faults sink.new) }
 {
     let Ok(()) = put_message(start, message, out) else {
@@ -77,22 +77,6 @@ fn tell_message<K: Sink>(
         return Ok(());
     }
     write_waiting(out, sink)
-}
-
-/// The same, of a message that is then let go.
-pub fn tell<K: Sink>(
-    start: u64,
-    message: Message,
-    out: &mut Bytes,
-    sink: &mut K,
-) -> Result<(), Halt>
-    ensures ok { OnOk result (Puts out.old out.new (K.written sink.old) (K.written sink.new) (message_line start (envelope_of message))) }
-    ensures err { OnErr result (AppendsPart (K.written sink.old) (K.written sink.new) (out.old ++ message_line start (envelope_of message))) }
-    ensures cause { BlamesLines result (K.faults sink.old) (K.faults sink.new) }
-{
-    let told = tell_message(start, &message, out, sink);
-    drop(message);
-    told
 }
 
 /// Writes all that waits.

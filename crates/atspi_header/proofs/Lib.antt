@@ -2,3 +2,4 @@ pub mod Names
 pub mod HeaderFields
 pub mod BodyValues
 pub mod ParsingLaws
+pub mod ReadTypes

@@ -1,4 +1,3 @@
 pub mod MessageLemmas
 pub mod Sizes
 pub mod TextLemmas
-pub mod TypeLemmas

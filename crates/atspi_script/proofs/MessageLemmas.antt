@@ -1,5 +1,5 @@
 -- The words of a message, written one behind the other.
-use Rattle.std.proofs.Common.{◌≡◌, ℕ, ◌<◌, List, [], ◌∷◌, ◌++◌, length, codes, sym, ap, ◌∙◌, append_assoc, arith}
+use Rattle.std.proofs.Common.{◌≡◌, ℕ, ◌<◌, List, [], ◌∷◌, ◌++◌, length, codes, Option, Some, None, refl, sym, ap, ◌∙◌, append_assoc, arith}
 use Rattle.std.proofs.lemmas.List.{append-nil}
 use Rattle.std.proofs.lemmas.Grind.{flat_map-append}
 use Rattle.std.specs.List.{flat_map}
@@ -7,7 +7,7 @@ use Rattle.atspi_types.specs.Signatures.{signature_bytes}
 use Rattle.atspi_types.specs.Data.{Data, items_of, types_of}
 use Rattle.atspi_script.specs.Spaced.{behind_space, spaced}
 use Rattle.atspi_script.specs.ValueText.{value_texts}
-use Rattle.atspi_script.specs.MessageText.{body_words}
+use Rattle.atspi_script.specs.MessageText.{body_words, field_words, labelled}
 
 -- words behind others
 pub more_words : (words more : List (List ℕ)) (out middle new : List ℕ) → middle ≡ out ++ flat_map behind_space words → new ≡ middle ++ flat_map behind_space more → new ≡ out ++ flat_map behind_space (words ++ more)
@@ -55,3 +55,15 @@ body_written (x ∷ ds) out a b c d new h p q r s t =
     ∙ regroup out (codes " signature=") types (codes " [") texts (93 ∷ []) []
     ∙ ap (λ w. out ++ (codes " signature=" ++ (types ++ (codes " [" ++ w)))) (sym (append-nil (texts ++ 93 ∷ [])))
     ∙ ap (λ w. out ++ w) grouped
+
+-- a name behind its label is the words of the field, behind a space
+pub field_written : (name : List ℕ) (value : Option (List ℕ)) → labelled (32 ∷ (name ++ 61 ∷ [])) value ≡ flat_map behind_space (field_words name value)
+field_written name None = refl
+field_written name (Some value) = append_assoc (32 ∷ name) (61 ∷ []) value ∙ sym (append-nil (32 ∷ (name ++ 61 ∷ value)))
+
+pub field_behind : (name : List ℕ) (value : Option (List ℕ)) (old new : List ℕ) → new ≡ old ++ labelled (32 ∷ (name ++ 61 ∷ [])) value → new ≡ old ++ flat_map behind_space (field_words name value)
+field_behind name value old new e = e ∙ ap (λ w. old ++ w) (field_written name value)
+
+-- a body without values is written as nothing
+pub no_body : (ds : List Data) (out : List ℕ) → ds ≡ [] → out ≡ out ++ flat_map behind_space (body_words (items_of ds))
+no_body ds out none = sym (append-nil out) ∙ sym (ap (λ (es : List Data). out ++ flat_map behind_space (body_words (items_of es))) none)

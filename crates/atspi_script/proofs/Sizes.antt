@@ -1,7 +1,7 @@
 -- How large values are: what writing them goes down.
-use Rattle.std.proofs.Common.{◌≡◌, ℕ, zero, suc, ◌+◌, ◌<◌, List, [], ◌∷◌, Some, ap, arith}
-use Rattle.std.specs.List.{slice_get}
-use Rattle.atspi_types.specs.Data.{Data, number_data, boolean_data, text_data, path_data, signature_data, array_data, structure_data, dictionary_data, variant_data, Items, no_items, item, items_of, Entries, no_entries, entry, entries_of}
+use Rattle.std.proofs.Common.{◌≡◌, ℕ, ◌+◌, List, ◌∷◌, sym, ap}
+use Rattle.atspi_types.specs.Data.{Data, number_data, boolean_data, text_data, path_data, signature_data, array_data, structure_data, dictionary_data, variant_data, Items, no_items, item, items_of, Entries, no_entries, entry}
+use Rattle.atspi_marshal.specs.Reading.{struct_of, entries_in}
 
 abbrev mutual
   pub size : Data → ℕ
@@ -23,14 +23,10 @@ abbrev mutual
   entry_sizes no_entries = 0
   entry_sizes (entry key value es) = size key + size value + 2 + entry_sizes es
 
--- a value is smaller than a list that it is in
-pub value_below : (ds : List Data) (i : ℕ) (d : Data) → slice_get ds i ≡ Some d → size d < sizes (items_of ds)
-value_below [] i d e = absurd cc
-value_below (x ∷ ds) zero d e = let same : x ≡ d = cc in omega (arith, ap size same)
-value_below (x ∷ ds) (suc i) d e = omega (arith, value_below ds i d e)
+-- the first of several values, and those behind it
+pub sizes_come : (old new : List Data) (d : Data) → old ≡ d ∷ new → size d + 1 + sizes (items_of new) ≡ sizes (items_of old)
+sizes_come old new d e = sym (ap (λ (ds : List Data). sizes (items_of ds)) e)
 
--- and so is an entry
-pub entry_below : (es : List (Data × Data)) (i : ℕ) (e : Data × Data) → slice_get es i ≡ Some e → size e.0 + size e.1 + 1 < entry_sizes (entries_of es)
-entry_below [] i e h = absurd cc
-entry_below (x ∷ es) zero e h = let same : x ≡ e = cc in omega (arith, ap (λ (p : Data × Data). size p.0) same, ap (λ (p : Data × Data). size p.1) same)
-entry_below (x ∷ es) (suc i) e h = omega (arith, entry_below es i e h)
+-- and of several entries
+pub entry_sizes_come : (old new : List Data) (key value : Data) → old ≡ struct_of key value ∷ new → size key + size value + 2 + entry_sizes (entries_in (items_of new)) ≡ entry_sizes (entries_in (items_of old))
+entry_sizes_come old new key value e = sym (ap (λ (ds : List Data). entry_sizes (entries_in (items_of ds))) e)

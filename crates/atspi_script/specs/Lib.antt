@@ -1,3 +1,4 @@
 pub mod MessageText
 pub mod Spaced
 pub mod ValueText
+pub mod Views

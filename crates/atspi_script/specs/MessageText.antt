@@ -28,6 +28,11 @@ abbrev pub field_words : List ℕ → Option (List ℕ) → List (List ℕ)
 field_words name None = []
 field_words name (Some value) = (name ++ 61 ∷ value) ∷ []
 
+-- a label and the value behind it, or nothing
+abbrev pub labelled : List ℕ → Option (List ℕ) → List ℕ
+labelled label None = []
+labelled label (Some value) = label ++ value
+
 -- the serial that a message replies to
 abbrev pub reply_text : Option ℕ → Option (List ℕ)
 reply_text None = None

@@ -2,17 +2,17 @@
 
 ghost use Rattle.std.specs.Prelude.{◌≡◌, [], ◌∷◌, ◌++◌, OnOk, codes, length, take};
 ghost use Rattle.std.specs.List.{flat_map};
-ghost use Rattle.atspi_message.specs.Envelope.{envelope_of};
-ghost use Rattle.atspi_script.specs.MessageText.{field_words, fields_words, header_words, order_letter, reply_text, type_word};
+ghost use Rattle.atspi_header.specs.View.{bytes_of, envelope_at};
+ghost use Rattle.atspi_script.specs.MessageText.{field_words, fields_words, header_words, labelled, order_letter, reply_text, type_word};
 ghost use Rattle.atspi_script.specs.Spaced.{behind_space, spaced};
 
 use atspi_base::{Bytes, NoMemory, put_decimal};
-use atspi_message::Message;
-use atspi_types::{BusName, Interface, Member, Order, Path};
+use atspi_header::MessageRef;
+use atspi_types::Order;
 
 /// Appends the text of a message as far as its body.
-pub fn put_header(message: &Message, out: &mut Bytes) -> Result<(), NoMemory>
-    ensures ok { OnOk result (out.new ≡ out.old ++ spaced (header_words (envelope_of message.now))) }
+pub fn put_header(message: &MessageRef, out: &mut Bytes) -> Result<(), NoMemory>
+    ensures ok { OnOk result (out.new ≡ out.old ++ spaced (header_words (envelope_at message.now))) }
     ensures front { take (length out.old) out.new ≡ out.old }
 {
     put_front(message.kind, message.order, out)?;
@@ -70,69 +70,33 @@ fn put_order(order: Order, out: &mut Bytes) -> Result<(), NoMemory>
 }
 
 /// Appends the fields that are there, each behind a space.
-fn put_fields(message: &Message, out: &mut Bytes) -> Result<(), NoMemory>
-    ensures ok { OnOk result (out.new ≡ out.old ++ flat_map behind_space (fields_words (envelope_of message.now))) }
+fn put_fields(message: &MessageRef, out: &mut Bytes) -> Result<(), NoMemory>
+    ensures ok { OnOk result (out.new ≡ out.old ++ flat_map behind_space (fields_words (envelope_at message.now))) }
     ensures front { take (length out.old) out.new ≡ out.old }
 {
-    put_path(&message.path, out)?;
-    put_interface(&message.interface, out)?;
-    put_member(&message.member, out)?;
-    put_error(&message.error, out)?;
+    put_name(b" path=", message.path, out)?;
+    put_name(b" interface=", message.interface, out)?;
+    put_name(b" member=", message.member, out)?;
+    put_name(b" error=", message.error, out)?;
     put_reply(message.reply, out)?;
-    put_destination(&message.destination, out)?;
-    put_sender(&message.sender, out)?;
+    put_name(b" destination=", message.destination, out)?;
+    put_name(b" sender=", message.sender, out)?;
     Ok(())
 }
 
-/// Appends the name of a field and its value.
-fn put_field(name: &[u8], value: &str, out: &mut Bytes) -> Result<(), NoMemory>
-    ensures ok { OnOk result (out.new ≡ out.old ++ (name.now ++ value.now)) }
+/// Appends a label and the name behind it, where there is one.
+fn put_name(label: &[u8], name: Option<&str>, out: &mut Bytes) -> Result<(), NoMemory>
+    ensures ok { OnOk result (out.new ≡ out.old ++ labelled label.now (bytes_of name.entry)) }
     ensures front { take (length out.old) out.new ≡ out.old }
 {
-    out.extend(name)?;
-    out.extend(value.as_bytes())
+    let Some(name) = name else {
+        return Ok(());
+    };
+    out.extend(label)?;
+    out.extend(name.as_bytes())
 }
 
-fn put_path(path: &Option<Path>, out: &mut Bytes) -> Result<(), NoMemory>
-    ensures ok { OnOk result (out.new ≡ out.old ++ flat_map behind_space (field_words (codes "path") path.now)) }
-    ensures front { take (length out.old) out.new ≡ out.old }
-{
-    match path {
-        Some(path) => put_field(b" path=", path.as_str(), out),
-        None => Ok(()),
-    }
-}
-
-fn put_interface(interface: &Option<Interface>, out: &mut Bytes) -> Result<(), NoMemory>
-    ensures ok { OnOk result (out.new ≡ out.old ++ flat_map behind_space (field_words (codes "interface") interface.now)) }
-    ensures front { take (length out.old) out.new ≡ out.old }
-{
-    match interface {
-        Some(interface) => put_field(b" interface=", interface.as_str(), out),
-        None => Ok(()),
-    }
-}
-
-fn put_member(member: &Option<Member>, out: &mut Bytes) -> Result<(), NoMemory>
-    ensures ok { OnOk result (out.new ≡ out.old ++ flat_map behind_space (field_words (codes "member") member.now)) }
-    ensures front { take (length out.old) out.new ≡ out.old }
-{
-    match member {
-        Some(member) => put_field(b" member=", member.as_str(), out),
-        None => Ok(()),
-    }
-}
-
-fn put_error(error: &Option<Interface>, out: &mut Bytes) -> Result<(), NoMemory>
-    ensures ok { OnOk result (out.new ≡ out.old ++ flat_map behind_space (field_words (codes "error") error.now)) }
-    ensures front { take (length out.old) out.new ≡ out.old }
-{
-    match error {
-        Some(error) => put_field(b" error=", error.as_str(), out),
-        None => Ok(()),
-    }
-}
-
+/// Appends the serial that a message replies to, where there is one.
 fn put_reply(reply: Option<u32>, out: &mut Bytes) -> Result<(), NoMemory>
     ensures ok { OnOk result (out.new ≡ out.old ++ flat_map behind_space (field_words (codes "reply") (reply_text reply))) }
     ensures front { take (length out.old) out.new ≡ out.old }
@@ -142,26 +106,6 @@ fn put_reply(reply: Option<u32>, out: &mut Bytes) -> Result<(), NoMemory>
             out.extend(b" reply=")?;
             put_decimal(serial as u64, out)
         }
-        None => Ok(()),
-    }
-}
-
-fn put_destination(destination: &Option<BusName>, out: &mut Bytes) -> Result<(), NoMemory>
-    ensures ok { OnOk result (out.new ≡ out.old ++ flat_map behind_space (field_words (codes "destination") destination.now)) }
-    ensures front { take (length out.old) out.new ≡ out.old }
-{
-    match destination {
-        Some(destination) => put_field(b" destination=", destination.as_str(), out),
-        None => Ok(()),
-    }
-}
-
-fn put_sender(sender: &Option<BusName>, out: &mut Bytes) -> Result<(), NoMemory>
-    ensures ok { OnOk result (out.new ≡ out.old ++ flat_map behind_space (field_words (codes "sender") sender.now)) }
-    ensures front { take (length out.old) out.new ≡ out.old }
-{
-    match sender {
-        Some(sender) => put_field(b" sender=", sender.as_str(), out),
         None => Ok(()),
     }
 }

@@ -4,5 +4,6 @@
 mod header;
 mod message;
 mod values;
+mod view;
 
 pub use message::message_text;

@@ -1,43 +1,45 @@
-//! Values as text.
+//! Values as text, written where they lie.
 
-ghost use Rattle.std.specs.Prelude.{◌≡◌, [], ◌∷◌, ◌++◌, OnOk, length, take};
-ghost use Rattle.atspi_types.specs.KindView.{kind_of};
-ghost use Rattle.atspi_types.specs.Data.{items_of, entries_of, dictionary_data, variant_data};
-ghost use Rattle.atspi_types.specs.DataView.{data_of, all_data, all_pairs};
-ghost use Rattle.atspi_types.specs.Borrowed.{ref_data};
-ghost use Rattle.atspi_types.specs.SignatureView.{signature_kinds};
+ghost use Rattle.std.specs.Prelude.{◌≡◌, [], ◌∷◌, ◌++◌, OnOk, chars, length, take};
+ghost use Rattle.atspi_types.specs.Kinds.{kinds_of};
+ghost use Rattle.atspi_types.specs.Data.{items_of, variant_data};
 ghost use Rattle.atspi_types.specs.Signatures.{signature_bytes};
-ghost use Rattle.atspi_base.specs.Quoted.{in_quotes};
+ghost use Rattle.atspi_base.specs.Quoted.{in_quotes, quoted};
 ghost use Rattle.atspi_base.specs.Digits.{hex_digits};
-ghost use Rattle.atspi_script.specs.Spaced.{gap, in_brackets, spaced};
+ghost use Rattle.atspi_codes.specs.TyRefs.{refs_kinds};
+ghost use Rattle.atspi_marshal.specs.Reading.{entries_in};
+ghost use Rattle.atspi_cursor.specs.Items.{item_data, item_kind, elements_data, entries_data, fields_data};
+ghost use Rattle.atspi_script.specs.Spaced.{in_brackets, spaced};
 ghost use Rattle.atspi_script.specs.ValueText.{boolean_text, entry_texts, in_braces, value_text, value_texts};
 
-use atspi_base::{Bytes, NoMemory, put_decimal, put_hex, put_in_quotes, put_quoted, put_signed};
-use atspi_types::{Pairs, Signature, Ty, Value, ValueRef, Values};
+use crate::view::{View, view_of};
+use atspi_base::{Bytes, NoMemory, put_decimal, put_hex, put_in_quotes, put_signed};
+use atspi_codes::TysRef;
+use atspi_cursor::{Elements, Entries, Entry, Fields, Item};
 
 /// Appends the text of a value. After want of memory a front of it was appended.
 #[cycle(put)]
-fn put(value: ValueRef<'_>, out: &mut Bytes) -> Result<(), NoMemory>
-    ensures ok { OnOk result (out.new ≡ out.old ++ value_text (ref_data value.entry)) }
+fn put(item: Item<'_>, out: &mut Bytes) -> Result<(), NoMemory>
+    ensures ok { OnOk result (out.new ≡ out.old ++ value_text (item_data item.entry)) }
     ensures front { take (length out.old) out.new ≡ out.old }
 {
-    match value {
-        ValueRef::Byte(n) => put_decimal(n as u64, out),
-        ValueRef::Bool(b) => put_bool(b, out),
-        ValueRef::I16(n) => put_signed(n as i64, out),
-        ValueRef::U16(n) => put_decimal(n as u64, out),
-        ValueRef::I32(n) => put_signed(n as i64, out),
-        ValueRef::U32(n) => put_decimal(n as u64, out),
-        ValueRef::I64(n) => put_signed(n, out),
-        ValueRef::U64(n) => put_decimal(n, out),
-        ValueRef::Double(bits) => put_double(bits, out),
-        ValueRef::Text(text) => put_quoted(text, out),
-        ValueRef::Path(path) => put_in_quotes(path.as_str().as_bytes(), out),
-        ValueRef::Sig(signature) => put_signature(signature, out),
-        ValueRef::Array(_, values) => put_bracketed(b'[', values, b']', out),
-        ValueRef::Struct(fields) => put_bracketed(b'(', fields, b')', out),
-        ValueRef::Dict(_, _, pairs) => put_dictionary(pairs, out),
-        ValueRef::Variant(ty, value) => put_variant(ty, value, out),
+    match view_of(item) {
+        View::Byte(n) => put_decimal(n as u64, out),
+        View::Bool(b) => put_bool(b, out),
+        View::I16(n) => put_signed(n as i64, out),
+        View::U16(n) => put_decimal(n as u64, out),
+        View::I32(n) => put_signed(n as i64, out),
+        View::U32(n) => put_decimal(n as u64, out),
+        View::I64(n) => put_signed(n, out),
+        View::U64(n) => put_decimal(n, out),
+        View::Double(bits) => put_double(bits, out),
+        View::Text(text) => put_text(text, out),
+        View::Path(path) => put_in_quotes(path.as_bytes(), out),
+        View::Types(types) => put_types(types, out),
+        View::Array(elements) => put_array(elements, out),
+        View::Struct(fields) => put_struct(fields, out),
+        View::Dictionary(entries) => put_dictionary(entries, out),
+        View::Variant(inner) => put_variant(inner, out),
     }
 }
 
@@ -62,100 +64,131 @@ fn put_double(bits: u64, out: &mut Bytes) -> Result<(), NoMemory>
     put_hex(bits, out)
 }
 
-/// Appends a signature in quotes.
-fn put_signature(signature: &Signature, out: &mut Bytes) -> Result<(), NoMemory>
-    ensures ok { OnOk result (out.new ≡ out.old ++ in_quotes (signature_bytes (signature_kinds signature.now))) }
+/// Appends a text in quotes.
+fn put_text(text: &str, out: &mut Bytes) -> Result<(), NoMemory>
+    ensures ok { OnOk result (out.new ≡ out.old ++ quoted (chars text.now)) }
     ensures front { take (length out.old) out.new ≡ out.old }
 {
-    out.push(b'"')?;
-    signature.write(out)?;
-    out.push(b'"')?;
+    put_in_quotes(text.as_bytes(), out)
+}
+
+/// Appends the codes of types in quotes.
+fn put_types(types: TysRef<'_>, out: &mut Bytes) -> Result<(), NoMemory>
+    ensures ok { OnOk result (out.new ≡ out.old ++ in_quotes (signature_bytes (kinds_of (refs_kinds types.entry)))) }
+    ensures front { take (length out.old) out.new ≡ out.old }
+{
+    put_in_quotes(types.codes(), out)
+}
+
+/// Appends the text of an array.
+#[cycle(put)]
+fn put_array(elements: Elements<'_>, out: &mut Bytes) -> Result<(), NoMemory>
+    ensures ok { OnOk result (out.new ≡ out.old ++ in_brackets 91 (value_texts (items_of (elements_data elements.entry))) 93) }
+    ensures front { take (length out.old) out.new ≡ out.old }
+{
+    out.push(b'[')?;
+    put_elements(elements, out)?;
+    out.push(b']')
+}
+
+/// Appends the texts of elements, with a space between any two.
+#[cycle(put)]
+fn put_elements(elements: Elements<'_>, out: &mut Bytes) -> Result<(), NoMemory>
+    ensures ok { OnOk result (out.new ≡ out.old ++ spaced (value_texts (items_of (elements_data elements.entry)))) }
+    ensures front { take (length out.old) out.new ≡ out.old }
+{
+    let mut rest = elements;
+    let Some(first) = rest.next() else {
+        return Ok(());
+    };
+    put(first, out)?;
+    while let Some(item) = rest.next() {
+        out.push(b' ')?;
+        put(item, out)?;
+    }
     Ok(())
 }
 
-/// Appends a space, unless nothing stands before.
-fn put_gap(before: usize, out: &mut Bytes) -> Result<(), NoMemory>
-    ensures ok { OnOk result (out.new ≡ out.old ++ gap before) }
-    ensures front { take (length out.old) out.new ≡ out.old }
-{
-    if before == 0 {
-        return Ok(());
-    }
-    out.push(b' ')
-}
-
-/// Appends the texts of values between brackets.
+/// Appends the text of a struct.
 #[cycle(put)]
-fn put_bracketed(opening: u8, values: &Values, closing: u8, out: &mut Bytes) -> Result<(), NoMemory>
-    ensures ok { OnOk result (out.new ≡ out.old ++ in_brackets opening (value_texts (items_of (all_data values.now))) closing) }
+fn put_struct(fields: Fields<'_>, out: &mut Bytes) -> Result<(), NoMemory>
+    ensures ok { OnOk result (out.new ≡ out.old ++ in_brackets 40 (value_texts (items_of (fields_data fields.entry))) 41) }
     ensures front { take (length out.old) out.new ≡ out.old }
 {
-    out.push(opening)?;
-    put_values(values, out)?;
-    out.push(closing)
+    out.push(b'(')?;
+    put_fields(fields, out)?;
+    out.push(b')')
 }
 
 /// Appends the texts of values, with a space between any two. After want of memory a front of them was appended.
 #[cycle(put)]
-pub fn put_values(values: &Values, out: &mut Bytes) -> Result<(), NoMemory>
-    ensures ok { OnOk result (out.new ≡ out.old ++ spaced (value_texts (items_of (all_data values.now)))) }
+pub fn put_fields(fields: Fields<'_>, out: &mut Bytes) -> Result<(), NoMemory>
+    ensures ok { OnOk result (out.new ≡ out.old ++ spaced (value_texts (items_of (fields_data fields.entry)))) }
     ensures front { take (length out.old) out.new ≡ out.old }
 {
-    for i in 0..values.len() {
-        put_gap(i, out)?;
-        put(values.at(i), out)?;
+    let mut rest = fields;
+    let Some(first) = rest.next() else {
+        return Ok(());
+    };
+    put(first, out)?;
+    while let Some(item) = rest.next() {
+        out.push(b' ')?;
+        put(item, out)?;
     }
     Ok(())
 }
 
 /// Appends the text of a dictionary.
 #[cycle(put)]
-fn put_dictionary(pairs: &Pairs, out: &mut Bytes) -> Result<(), NoMemory>
-    ensures ok { OnOk result (out.new ≡ out.old ++ in_brackets 91 (entry_texts (entries_of (all_pairs pairs.now))) 93) }
+fn put_dictionary(entries: Entries<'_>, out: &mut Bytes) -> Result<(), NoMemory>
+    ensures ok { OnOk result (out.new ≡ out.old ++ in_brackets 91 (entry_texts (entries_in (items_of (entries_data entries.entry)))) 93) }
     ensures front { take (length out.old) out.new ≡ out.old }
 {
     out.push(b'[')?;
-    put_pairs(pairs, out)?;
+    put_entries(entries, out)?;
     out.push(b']')
 }
 
 /// Appends the texts of entries, with a space between any two.
 #[cycle(put)]
-fn put_pairs(pairs: &Pairs, out: &mut Bytes) -> Result<(), NoMemory>
-    ensures ok { OnOk result (out.new ≡ out.old ++ spaced (entry_texts (entries_of (all_pairs pairs.now)))) }
+fn put_entries(entries: Entries<'_>, out: &mut Bytes) -> Result<(), NoMemory>
+    ensures ok { OnOk result (out.new ≡ out.old ++ spaced (entry_texts (entries_in (items_of (entries_data entries.entry))))) }
     ensures front { take (length out.old) out.new ≡ out.old }
 {
-    let items = pairs.as_slice();
-    for i in 0..items.len() {
-        put_gap(i, out)?;
-        let pair = &items[i];
-        put_entry(&pair.0, &pair.1, out)?;
+    let mut rest = entries;
+    let Some(first) = rest.next() else {
+        return Ok(());
+    };
+    put_entry(first, out)?;
+    while let Some(entry) = rest.next() {
+        out.push(b' ')?;
+        put_entry(entry, out)?;
     }
     Ok(())
 }
 
 /// Appends the text of an entry.
 #[cycle(put)]
-fn put_entry(key: &Value, value: &Value, out: &mut Bytes) -> Result<(), NoMemory>
-    ensures ok { OnOk result (out.new ≡ out.old ++ in_braces (value_text (data_of key.now)) (value_text (data_of value.now))) }
+fn put_entry(entry: Entry<'_>, out: &mut Bytes) -> Result<(), NoMemory>
+    ensures ok { OnOk result (out.new ≡ out.old ++ in_braces (value_text (item_data entry.entry.key)) (value_text (item_data entry.entry.value))) }
     ensures front { take (length out.old) out.new ≡ out.old }
 {
     out.push(b'{')?;
-    put(key.borrowed(), out)?;
+    put(entry.key, out)?;
     out.push(b' ')?;
-    put(value.borrowed(), out)?;
+    put(entry.value, out)?;
     out.push(b'}')
 }
 
-/// Appends the text of a variant.
+/// Appends the text of a variant, by the value in it.
 #[cycle(put)]
-fn put_variant(ty: &Ty, value: &Value, out: &mut Bytes) -> Result<(), NoMemory>
-    ensures ok { OnOk result (out.new ≡ out.old ++ value_text (variant_data (kind_of ty.now) (data_of value.now))) }
+fn put_variant(inner: Item<'_>, out: &mut Bytes) -> Result<(), NoMemory>
+    ensures ok { OnOk result (out.new ≡ out.old ++ value_text (variant_data (item_kind inner.entry) (item_data inner.entry))) }
     ensures front { take (length out.old) out.new ≡ out.old }
 {
     out.push(b'<')?;
-    ty.write(out)?;
+    out.extend(inner.ty().codes())?;
     out.push(b' ')?;
-    put(value.borrowed(), out)?;
+    put(inner, out)?;
     out.push(b'>')
 }

@@ -1,72 +1,63 @@
 -- The clauses of giving the next message, from what looking at the bytes gives.
-use Rattle.std.proofs.Common.{◌≡◌, ℕ, List, [], ◌∷◌, ◌++◌, take, drop, Result, Ok, Err, refl, sym, ap, ◌∙◌, append_assoc}
+use Rattle.std.proofs.Common.{◌≡◌, ℕ, List, [], ◌∷◌, ◌++◌, take, drop, refl, sym, ap, ◌∙◌, append_assoc}
 use Rattle.std.proofs.lemmas.List.{take-append-drop}
-use Rattle.atspi_base.specs.declared.outside.NoMemory.{NoMemory}
 use Rattle.atspi_marshal.proofs.Places.{IsBytes}
-use Rattle.atspi_message.specs.Envelope.{Envelope, envelope_of}
+use Rattle.atspi_message.specs.Envelope.{Envelope}
 use Rattle.atspi_message.specs.Bytes.{IsMessage}
-use Rattle.atspi_message.specs.declared.message.Message.{Message as Whole}
+use Rattle.atspi_header.specs.View.{envelope_at}
+use Rattle.atspi_header.specs.declared.message.MessageRef.{MessageRef}
 use Rattle.atspi_stream.specs.declared.feeder.Got.{Got}
 use Rattle.atspi_stream.specs.declared.feeder.Got.TheVariants.{Message, NotYet, Bad}
-use Rattle.atspi_stream.specs.Stream.{AwaitsMore, HasFault, BeginsWithMessage, AreMessages, bytes_of, IsParted, TakesPiece, GivesMessage, IsMessageOrNoMemory, WaitsRightly, TellsFault, IsFaultOrNoMemory, KeepsHeld, HandsOut}
+use Rattle.atspi_stream.specs.Stream.{AwaitsMore, HasFault, BeginsWithMessage, AreMessages, bytes_of, IsParted, TakesPiece, GivesMessage, IsMessageGiven, WaitsRightly, TellsFault, IsFaultTold, KeepsHeld, HandsOut, Leaves}
 use Rattle.atspi_stream.specs.Seen.{Sees}
 use Rattle.atspi_stream.proofs.StreamLaws.{one_answer}
 
 -- what is held after so many bytes of a message were given out
-abbrev pub left_after : Result (Got × ℕ) NoMemory → List ℕ → List ℕ
-left_after (Ok (g, n)) held = drop n held
-left_after (Err none) held = held
+abbrev pub left_after : Got × ℕ → List ℕ → List ℕ
+left_after r held = drop r.1 held
 
-abbrev pub got : Result (Got × ℕ) NoMemory → Result Got NoMemory
-got (Ok (g, n)) = Ok g
-got (Err none) = Err none
+abbrev pub got : Got × ℕ → Got
+got r = r.0
 
-abbrev first : (m : Whole) (n : ℕ) (held : List ℕ) → IsMessage (envelope_of m) (take n held) → BeginsWithMessage held
-first m n held is = record { envelope = envelope_of m; bytes = take n held; rest = drop n held; is = is; front = sym (take-append-drop n held) }
+abbrev first : (m : MessageRef) (n : ℕ) (held : List ℕ) → IsMessage (envelope_at m) (take n held) → BeginsWithMessage held
+first m n held is = record { envelope = envelope_at m; bytes = take n held; rest = drop n held; is = is; front = sym (take-append-drop n held) }
 
-pub gives : (r : Result (Got × ℕ) NoMemory) (held : List ℕ) → Sees r held → GivesMessage (got r) held (left_after r held)
-gives (Ok (Message m, n)) held s = (take n held, s.1, sym (take-append-drop n held))
-gives (Ok (NotYet, n)) held s = tt
-gives (Ok (Bad f, n)) held s = tt
-gives (Err none) held s = tt
+pub gives : (r : Got × ℕ) (held : List ℕ) → Sees r held → GivesMessage (got r) held (left_after r held)
+gives (Message m, n) held s = (take n held, s.1, sym (take-append-drop n held))
+gives (NotYet, n) held s = tt
+gives (Bad f, n) held s = tt
 
-pub only : (r : Result (Got × ℕ) NoMemory) (held : List ℕ) → IsBytes held → Sees r held → (e : Envelope) (bytes rest : List ℕ) → IsMessage e bytes → held ≡ bytes ++ rest → IsMessageOrNoMemory (got r) e
-only (Ok (Message m, n)) held h s e bytes rest is front =
+pub only : (r : Got × ℕ) (held : List ℕ) → IsBytes held → Sees r held → (e : Envelope) (bytes rest : List ℕ) → IsMessage e bytes → held ≡ bytes ++ rest → IsMessageGiven (got r) e
+only (Message m, n) held h s e bytes rest is front =
     ((one_answer held h).one_message (first m n held s.1) (record { envelope = e; bytes = bytes; rest = rest; is = is; front = front })).0
-only (Ok (NotYet, n)) held h s e bytes rest is front = (one_answer held h).waits_without_message s.1 (record { envelope = e; bytes = bytes; rest = rest; is = is; front = front })
-only (Ok (Bad f, n)) held h s e bytes rest is front =
+only (NotYet, n) held h s e bytes rest is front = (one_answer held h).waits_without_message s.1 (record { envelope = e; bytes = bytes; rest = rest; is = is; front = front })
+only (Bad f, n) held h s e bytes rest is front =
     (one_answer held h).message_without_fault (record { envelope = e; bytes = bytes; rest = rest; is = is; front = front }) (record { place = f.place; reason = f.reason; is = s.1 })
-only (Err none) held h s e bytes rest is front = tt
 
-pub not_yet : (r : Result (Got × ℕ) NoMemory) (held : List ℕ) → Sees r held → WaitsRightly (got r) held
-not_yet (Ok (Message m, n)) held s = tt
-not_yet (Ok (NotYet, n)) held s = s.1
-not_yet (Ok (Bad f, n)) held s = tt
-not_yet (Err none) held s = tt
+pub not_yet : (r : Got × ℕ) (held : List ℕ) → Sees r held → WaitsRightly (got r) held
+not_yet (Message m, n) held s = tt
+not_yet (NotYet, n) held s = s.1
+not_yet (Bad f, n) held s = tt
 
-pub waits : (r : Result (Got × ℕ) NoMemory) (held : List ℕ) → IsBytes held → Sees r held → AwaitsMore held → got r ≡ Ok NotYet
-waits (Ok (Message m, n)) held h s w = absurd ((one_answer held h).waits_without_message w (first m n held s.1))
-waits (Ok (NotYet, n)) held h s w = refl
-waits (Ok (Bad f, n)) held h s w = absurd ((one_answer held h).waits_without_fault w (record { place = f.place; reason = f.reason; is = s.1 }))
-waits (Err none) held h s w = absurd (s w)
+pub waits : (r : Got × ℕ) (held : List ℕ) → IsBytes held → Sees r held → AwaitsMore held → got r ≡ NotYet
+waits (Message m, n) held h s w = absurd ((one_answer held h).waits_without_message w (first m n held s.1))
+waits (NotYet, n) held h s w = refl
+waits (Bad f, n) held h s w = absurd ((one_answer held h).waits_without_fault w (record { place = f.place; reason = f.reason; is = s.1 }))
 
-pub bad : (r : Result (Got × ℕ) NoMemory) (held : List ℕ) → Sees r held → TellsFault (got r) held
-bad (Ok (Message m, n)) held s = tt
-bad (Ok (NotYet, n)) held s = tt
-bad (Ok (Bad f, n)) held s = s.1
-bad (Err none) held s = tt
+pub bad : (r : Got × ℕ) (held : List ℕ) → Sees r held → TellsFault (got r) held
+bad (Message m, n) held s = tt
+bad (NotYet, n) held s = tt
+bad (Bad f, n) held s = s.1
 
-pub told : (r : Result (Got × ℕ) NoMemory) (held : List ℕ) → IsBytes held → Sees r held → (place reason : ℕ) → HasFault held place reason → IsFaultOrNoMemory (got r) place reason
-told (Ok (Message m, n)) held h s place reason f = (one_answer held h).message_without_fault (first m n held s.1) (record { place = place; reason = reason; is = f })
-told (Ok (NotYet, n)) held h s place reason f = (one_answer held h).waits_without_fault s.1 (record { place = place; reason = reason; is = f })
-told (Ok (Bad g, n)) held h s place reason f = (one_answer held h).one_fault g.place g.reason place reason s.1 f
-told (Err none) held h s place reason f = tt
+pub told : (r : Got × ℕ) (held : List ℕ) → IsBytes held → Sees r held → (place reason : ℕ) → HasFault held place reason → IsFaultTold (got r) place reason
+told (Message m, n) held h s place reason f = (one_answer held h).message_without_fault (first m n held s.1) (record { place = place; reason = reason; is = f })
+told (NotYet, n) held h s place reason f = (one_answer held h).waits_without_fault s.1 (record { place = place; reason = reason; is = f })
+told (Bad g, n) held h s place reason f = (one_answer held h).one_fault g.place g.reason place reason s.1 f
 
-pub kept : (r : Result (Got × ℕ) NoMemory) (held : List ℕ) → Sees r held → KeepsHeld (got r) held (left_after r held)
-kept (Ok (Message m, n)) held s = tt
-kept (Ok (NotYet, n)) held s = ap (λ (k : ℕ). drop k held) s.0
-kept (Ok (Bad f, n)) held s = ap (λ (k : ℕ). drop k held) s.0
-kept (Err none) held s = refl
+pub kept : (r : Got × ℕ) (held : List ℕ) → Sees r held → KeepsHeld (got r) held (left_after r held)
+kept (Message m, n) held s = tt
+kept (NotYet, n) held s = ap (λ (k : ℕ). drop k held) s.0
+kept (Bad f, n) held s = ap (λ (k : ℕ). drop k held) s.0
 
 -- a message more, or a piece more
 
@@ -85,14 +76,17 @@ history_more fed given e bytes old new h is front = record {
   parted = h.parted ∙ ap (λ (bs : List ℕ). bytes_of given ++ bs) front ∙ sym (bytes_of_more given e bytes new);
 }
 
-pub history : (r : Result (Got × ℕ) NoMemory) (held : List ℕ) → Sees r held → HandsOut (got r) held (left_after r held)
-history (Ok (Message m, n)) held s = λ fed given h. (take n held, history_more fed given (envelope_of m) (take n held) held (drop n held) h s.1 (sym (take-append-drop n held)))
-history (Ok (NotYet, n)) held s = tt
-history (Ok (Bad f, n)) held s = tt
-history (Err none) held s = tt
+pub history : (r : Got × ℕ) (held : List ℕ) → Sees r held → HandsOut (got r) held (left_after r held)
+history (Message m, n) held s = λ fed given h. (take n held, history_more fed given (envelope_at m) (take n held) held (drop n held) h s.1 (sym (take-append-drop n held)))
+history (NotYet, n) held s = tt
+history (Bad f, n) held s = tt
 
 pub takes_piece : (old piece new : List ℕ) → new ≡ old ++ piece → TakesPiece old piece new
 takes_piece old piece new is fed given h = record {
   are = h.are;
   parted = ap (λ (bs : List ℕ). bs ++ piece) h.parted ∙ append_assoc (bytes_of given) old piece ∙ ap (λ (bs : List ℕ). bytes_of given ++ bs) (sym is);
 }
+
+-- what is held behind the answer
+pub leaves : (r : Got × ℕ) (held : List ℕ) → Sees r held → Leaves (got r) held (left_after r held)
+leaves r held s = record { message = gives r held s; kept = kept r held s; history = history r held s }

@@ -1,10 +1,10 @@
 -- What bytes of a stream are: whole messages, and behind them a rest that awaits more or has a fault.
-use Rattle.std.specs.Prelude.{◌≡◌, ◌<◌, ◌≤◌, ℕ, List, [], ◌∷◌, ◌++◌, length, take, Result, Ok, Err}
-use Rattle.atspi_base.specs.declared.outside.NoMemory.{NoMemory}
-use Rattle.atspi_message.specs.Envelope.{Envelope, envelope_of}
+use Rattle.std.specs.Prelude.{◌≡◌, ◌<◌, ◌≤◌, ℕ, List, [], ◌∷◌, ◌++◌, length, take}
+use Rattle.atspi_message.specs.Envelope.{Envelope}
 use Rattle.atspi_message.specs.Bytes.{IsMessage}
 use Rattle.atspi_message.specs.Front.{length_in, WrongFront, IsFirst, IsSoundFront}
 use Rattle.atspi_message.specs.Faults.{FirstFault}
+use Rattle.atspi_header.specs.View.{envelope_at}
 use Rattle.atspi_stream.specs.declared.feeder.Got.{Got}
 use Rattle.atspi_stream.specs.declared.feeder.Got.TheVariants.{Message, NotYet, Bad}
 
@@ -55,41 +55,46 @@ abbrev pub TakesPiece : List ℕ → List ℕ → List ℕ → Type 0
 TakesPiece old piece new = (fed : List ℕ) (given : List (Envelope × List ℕ)) → IsParted fed given old → IsParted (fed ++ piece) given new
 
 -- a message that is given stood with its bytes at the front, and these are gone
-abbrev pub GivesMessage : Result Got NoMemory → List ℕ → List ℕ → Type 0
-GivesMessage (Ok (Message m)) old new = (bytes : List ℕ) × IsMessage (envelope_of m) bytes × (old ≡ bytes ++ new)
+abbrev pub GivesMessage : Got → List ℕ → List ℕ → Type 0
+GivesMessage (Message m) old new = (bytes : List ℕ) × IsMessage (envelope_at m) bytes × (old ≡ bytes ++ new)
 GivesMessage _ old new = Unit {0}
 
--- the answer is this message, or want of memory
-abbrev pub IsMessageOrNoMemory : Result Got NoMemory → Envelope → Type 0
-IsMessageOrNoMemory (Ok (Message m)) e = envelope_of m ≡ e
-IsMessageOrNoMemory (Ok NotYet) e = ⊥
-IsMessageOrNoMemory (Ok (Bad f)) e = ⊥
-IsMessageOrNoMemory (Err none) e = Unit {0}
+-- the answer is this message
+abbrev pub IsMessageGiven : Got → Envelope → Type 0
+IsMessageGiven (Message m) e = envelope_at m ≡ e
+IsMessageGiven NotYet e = ⊥
+IsMessageGiven (Bad f) e = ⊥
 
 -- "not yet" comes only where more bytes are awaited
-abbrev pub WaitsRightly : Result Got NoMemory → List ℕ → Type 0
-WaitsRightly (Ok NotYet) held = AwaitsMore held
+abbrev pub WaitsRightly : Got → List ℕ → Type 0
+WaitsRightly NotYet held = AwaitsMore held
 WaitsRightly _ held = Unit {0}
 
 -- a fault that is told is the first
-abbrev pub TellsFault : Result Got NoMemory → List ℕ → Type 0
-TellsFault (Ok (Bad f)) held = HasFault held f.place f.reason
+abbrev pub TellsFault : Got → List ℕ → Type 0
+TellsFault (Bad f) held = HasFault held f.place f.reason
 TellsFault _ held = Unit {0}
 
--- the answer is this fault, or want of memory
-abbrev pub IsFaultOrNoMemory : Result Got NoMemory → ℕ → ℕ → Type 0
-IsFaultOrNoMemory (Ok (Message m)) place reason = ⊥
-IsFaultOrNoMemory (Ok NotYet) place reason = ⊥
-IsFaultOrNoMemory (Ok (Bad f)) place reason = (f.place ≡ place) × (f.reason ≡ reason)
-IsFaultOrNoMemory (Err none) place reason = Unit {0}
+-- the answer is this fault
+abbrev pub IsFaultTold : Got → ℕ → ℕ → Type 0
+IsFaultTold (Message m) place reason = ⊥
+IsFaultTold NotYet place reason = ⊥
+IsFaultTold (Bad f) place reason = (f.place ≡ place) × (f.reason ≡ reason)
 
 -- unless a message was given all bytes are held as before
-abbrev pub KeepsHeld : Result Got NoMemory → List ℕ → List ℕ → Type 0
-KeepsHeld (Ok (Message m)) old new = Unit {0}
+abbrev pub KeepsHeld : Got → List ℕ → List ℕ → Type 0
+KeepsHeld (Message m) old new = Unit {0}
 KeepsHeld _ old new = new ≡ old
 
 -- whatever was fed and given before, with these bytes held: the message that is given stands behind those given
-abbrev pub HandsOut : Result Got NoMemory → List ℕ → List ℕ → Type 0
-HandsOut (Ok (Message m)) old new = (fed : List ℕ) (given : List (Envelope × List ℕ)) → IsParted fed given old
-    → (bytes : List ℕ) × IsParted fed (given ++ (envelope_of m, bytes) ∷ []) new
+abbrev pub HandsOut : Got → List ℕ → List ℕ → Type 0
+HandsOut (Message m) old new = (fed : List ℕ) (given : List (Envelope × List ℕ)) → IsParted fed given old
+    → (bytes : List ℕ) × IsParted fed (given ++ (envelope_at m, bytes) ∷ []) new
 HandsOut _ old new = Unit {0}
+
+-- What is held behind an answer.
+pub record Leaves (result : Got) (old new : List ℕ) : Type 0 where
+  pub message : GivesMessage result old new
+  pub kept : KeepsHeld result old new
+  -- all bytes fed are those of the messages given, and behind them those that are held
+  pub history : HandsOut result old new

@@ -1,23 +1,27 @@
 //! Pieces of a stream of bytes to whole messages.
 
-ghost use Rattle.std.specs.Prelude.{◌≡◌, ◌≤◌, ◌+◌, ◌++◌, ℕ, List, [], length, take, drop, OnOk, OnErr, Ok};
+ghost use Rattle.std.specs.Prelude.{◌≡◌, ◌++◌, ℕ, List, [], length, OnOk, OnErr};
+ghost use Rattle.std.specs.Borrow.{sem};
+ghost use Rattle.std.specs.Io.BufRead.{Rests};
 ghost use Rattle.atspi_message.specs.Envelope.{Envelope};
 ghost use Rattle.atspi_message.specs.Bytes.{IsMessage};
 ghost use Rattle.atspi_stream.specs.Laws.{AreBytes};
 ghost use Rattle.atspi_stream.specs.Seen.{Sees};
-ghost use Rattle.atspi_stream.specs.Stream.{AwaitsMore, HasFault, TakesPiece, GivesMessage, IsMessageOrNoMemory, WaitsRightly, TellsFault, IsFaultOrNoMemory, KeepsHeld, HandsOut};
+ghost use Rattle.atspi_stream.specs.Stream.{AwaitsMore, HasFault, TakesPiece, IsMessageGiven, WaitsRightly, TellsFault, IsFaultTold, Leaves};
+ghost use Rattle.atspi_stream.specs.contracts.feeder.Feeder.{the_row};
 
 use atspi_base::NoMemory;
-use atspi_message::{Message, total};
-use atspi_types::{Fault, ReadFault};
+use atspi_header::MessageRef;
+use atspi_message::total;
+use atspi_types::Fault;
 use std::alloc::Global;
 use std::marker::Model;
 
 /// What a stream has next.
-#[derive(Drop)]
-pub enum Got {
-    /// A whole message.
-    Message(Message),
+#[derive(Clone, Copy)]
+pub enum Got<'a> {
+    /// A whole message, read where it lies.
+    Message(MessageRef<'a>),
     /// The next message is not whole yet.
     NotYet,
     /// The next message is malformed; its fault's place counts from its first byte. Nothing behind it is read.
@@ -46,24 +50,23 @@ impl Model for Feeder {
 }
 
 /// What begins the bytes, and how many of them a message takes.
-fn look(alloc: Global, held: &[u8]) -> Result<(Got, usize), NoMemory>
+fn look(held: &[u8]) -> (Got<'_>, usize)
     ensures seen { Sees result held.now }
     ensures bytes { AreBytes held.now }
 {
     let Some(first) = held.first_chunk::<16>() else {
-        return Ok((Got::NotYet, 0));
+        return (Got::NotYet, 0);
     };
     let length = match total(first) {
         Ok(length) => length as usize,
-        Err(fault) => return Ok((Got::Bad(fault), 0)),
+        Err(fault) => return (Got::Bad(fault), 0),
     };
     if held.len() < length {
-        return Ok((Got::NotYet, 0));
+        return (Got::NotYet, 0);
     }
-    match Message::parse(alloc, &held[..length]) {
-        Ok(message) => Ok((Got::Message(message), length)),
-        Err(ReadFault::Bad(fault)) => Ok((Got::Bad(fault), 0)),
-        Err(ReadFault::NoMemory) => Err(NoMemory),
+    match MessageRef::parse(&held[..length]) {
+        Ok(message) => (Got::Message(message), length),
+        Err(fault) => (Got::Bad(fault), 0),
     }
 }
 
@@ -110,23 +113,21 @@ impl Feeder {
         Ok(())
     }
 
-    /// The next message, once it is whole. `Bad` tells its first fault (reasons 2 to 35, its place counted from the message's
-    /// first byte), as soon as the bytes show it, and the same ever after. After `NoMemory` the feeder is as before.
-    pub fn next(&mut self) -> Result<Got, NoMemory>
-        // What is given is a message that stood at the front, and its bytes are gone.
-        ensures message { GivesMessage result self.old self.new }
-        // A message at the front is given, unless memory runs out.
-        ensures only { (e : Envelope) (bytes rest : List ℕ) → IsMessage e bytes → self.old ≡ bytes ++ rest → IsMessageOrNoMemory result e }
+    /// The next message, once it is whole: it lies in the bytes that are held, and is looked at until the next call. `Bad`
+    /// tells its first fault (reasons 2 to 35, its place counted from the message's first byte), as soon as the bytes show it,
+    /// and the same ever after. No memory is taken.
+    pub fn next(&mut self) -> Got<'_>
+        // A message at the front is given.
+        ensures only { (e : Envelope) (bytes rest : List ℕ) → IsMessage e bytes → self.old ≡ bytes ++ rest → IsMessageGiven result e }
         ensures not_yet { WaitsRightly result self.old }
-        ensures waits { AwaitsMore self.old → result ≡ Ok Got.NotYet }
+        ensures waits { AwaitsMore self.old → result ≡ Got.NotYet }
         ensures bad { TellsFault result self.old }
-        ensures told { (place reason : ℕ) → HasFault self.old place reason → IsFaultOrNoMemory result place reason }
-        ensures kept { KeepsHeld result self.old self.new }
-        // All bytes fed are those of the messages given, and behind them those that are held.
-        ensures history { HandsOut result self.old self.new }
+        ensures told { (place reason : ℕ) → HasFault self.old place reason → IsFaultTold result place reason }
+        // What is held once what was given is looked at no more: the message and its bytes are gone, and nothing else is.
+        ensures* left { sem 𝓛 (Rests the_row self.entry (λ new. Leaves result self.old new)) }
     {
-        let (got, length) = look(self.alloc, &self.bytes[self.start..])?;
+        let (got, length) = look(&self.bytes[self.start..]);
         self.start += length;
-        Ok(got)
+        got
     }
 }

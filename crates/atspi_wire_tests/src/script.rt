@@ -1,7 +1,8 @@
 //! Messages as texts.
 
 use atspi_base::Bytes;
-use atspi_message::{Message, total};
+use atspi_header::MessageRef;
+use atspi_message::total;
 use atspi_script::message_text;
 use std::alloc::Global;
 use std::test::*;
@@ -60,7 +61,7 @@ fn text_of(alloc: Global, bytes: &[u8]) -> Vec<u8> {
     if len as usize != bytes.len() {
         return out.into_vec();
     }
-    if let Ok(message) = Message::parse(alloc, bytes) {
+    if let Ok(message) = MessageRef::parse(bytes) {
         let _ = message_text(&message, &mut out);
     }
     out.into_vec()

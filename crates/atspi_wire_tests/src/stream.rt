@@ -20,14 +20,12 @@ const BIG: [u8; 24] = *b"B\x02\x01\x01\0\0\0\0\0\0\0\x03\0\0\0\x08\x05\x01u\0\0\
 /// A return of serial 2 that replies to serial 0.
 const BAD: [u8; 24] = *b"l\x02\x01\x01\0\0\0\0\x02\0\0\0\x08\0\0\0\x05\x01u\0\0\0\0\0";
 
-/// What a feeder gives next: (1, serial) for a message, (0, 0) for none yet, (place, reason) for a fault, (9, 9) for want of
-/// memory.
+/// What a feeder gives next: (1, serial) for a message, (0, 0) for none yet, (place, reason) for a fault.
 fn next_of(feeder: &mut Feeder) -> (u32, u32) {
     match feeder.next() {
-        Ok(Got::Message(message)) => (1, message.serial),
-        Ok(Got::NotYet) => (0, 0),
-        Ok(Got::Bad(fault)) => (fault.place, fault.reason as u32),
-        Err(_) => (9, 9),
+        Got::Message(message) => (1, message.serial),
+        Got::NotYet => (0, 0),
+        Got::Bad(fault) => (fault.place, fault.reason as u32),
     }
 }
 
@@ -46,7 +44,7 @@ fn in_two(alloc: Global, bytes: &[u8], cut: usize) -> ((u32, u32), (u32, u32), u
 /// How many messages come until something else does.
 fn count_messages(feeder: &mut Feeder) -> u32 {
     for count in 0..u32::MAX {
-        let Ok(Got::Message(_)) = feeder.next() else {
+        let Got::Message(_) = feeder.next() else {
             return count;
         };
     }
@@ -132,9 +130,15 @@ fn the_longest_message_is_given(rt: HostRuntime) -> Result<(), Fail> {
         feeder.feed(piece)?;
     }
     assert_eq!(rt; feeder.len(), 134_217_728);
-    match feeder.next()? {
+    match feeder.next() {
         Got::Message(message) => {
-            assert_eq!(rt; (message.serial, message.body.len()), (5, 2));
+            assert_eq!(rt; message.serial, 5);
+            let mut body = message.body;
+            for _ in 0..2 {
+                let array = body.next().ok_or("an array")?;
+                assert_eq!(rt; array.bytes().ok_or("bytes")?.len(), 67_108_844);
+            }
+            assert!(rt; body.next().is_none());
         }
         _ => assert!(rt; false, "no message"),
     }

@@ -1,36 +1,57 @@
-use Rattle.std.proofs.Common.{◌≡◌, ◌+◌, ◌++◌, map, take}
-use Rattle.atspi_types.specs.Data.{items_of, entries_of}
-use Rattle.atspi_types.specs.DataView.{data_of, all_data, all_pairs}
-use Rattle.atspi_types.specs.Borrowed.{ref_data}
-use Rattle.atspi_script.specs.Spaced.{spaced}
-use Rattle.atspi_script.specs.ValueText.{value_text}
+use Rattle.std.proofs.Common.{◌≡◌, ◌+◌, ◌≤◌, length, take}
+use Rattle.atspi_types.specs.Data.{items_of}
+use Rattle.atspi_marshal.specs.Reading.{entries_in}
+use Rattle.atspi_cursor.specs.Items.{item_data, elements_data, entries_data, fields_data}
 use Rattle.atspi_script.proofs.Sizes.{size, sizes, entry_sizes}
-use Rattle.atspi_script.proofs.TextLemmas.{pair_text}
+use Rattle.atspi_script.proofs.TextLemmas.{Written, words_of, entry_words}
 use Rattle.atspi_script.proofs.values.+put.Given as goal
 
 abbrev pub decreases-put : goal.decreases-put
-decreases-put l = size (ref_data l.value)
+decreases-put l = size (item_data l.item)
 
-abbrev pub decreases-put_bracketed : goal.decreases-put_bracketed
-decreases-put_bracketed l = sizes (items_of (all_data l.values.now)) + 1
+abbrev pub decreases-put_array : goal.decreases-put_array
+decreases-put_array l = sizes (items_of (elements_data l.elements)) + 1
 
-abbrev pub decreases-put_values : goal.decreases-put_values
-decreases-put_values l = sizes (items_of (all_data l.values.now))
+abbrev pub decreases-put_elements : goal.decreases-put_elements
+decreases-put_elements l = sizes (items_of (elements_data l.elements))
+
+abbrev pub decreases-put_struct : goal.decreases-put_struct
+decreases-put_struct l = sizes (items_of (fields_data l.fields)) + 1
+
+abbrev pub decreases-put_fields : goal.decreases-put_fields
+decreases-put_fields l = sizes (items_of (fields_data l.fields))
 
 abbrev pub decreases-put_dictionary : goal.decreases-put_dictionary
-decreases-put_dictionary l = entry_sizes (entries_of (all_pairs l.pairs.now)) + 1
+decreases-put_dictionary l = entry_sizes (entries_in (items_of (entries_data l.entries))) + 1
 
-abbrev pub decreases-put_pairs : goal.decreases-put_pairs
-decreases-put_pairs l = entry_sizes (entries_of (all_pairs l.pairs.now))
+abbrev pub decreases-put_entries : goal.decreases-put_entries
+decreases-put_entries l = entry_sizes (entries_in (items_of (entries_data l.entries)))
 
 abbrev pub decreases-put_entry : goal.decreases-put_entry
-decreases-put_entry l = size (data_of l.key.now) + size (data_of l.value.now) + 1
+decreases-put_entry l = size (item_data l.entry.key) + size (item_data l.entry.value) + 1
 
 abbrev pub decreases-put_variant : goal.decreases-put_variant
-decreases-put_variant l = size (data_of l.value.now) + 1
+decreases-put_variant l = size (item_data l.inner) + 1
 
-abbrev pub invariant-put_values-loop-i : goal.invariant-put_values-loop-i
-invariant-put_values-loop-i l = l.out ≡ l.fn.out ++ spaced (take l.i (map value_text (all_data l.values)))
+-- what was written and what is left are all, and what is left is no larger than all
 
-abbrev pub invariant-put_pairs-loop-i : goal.invariant-put_pairs-loop-i
-invariant-put_pairs-loop-i l = l.out ≡ l.fn.out ++ spaced (take l.i (map pair_text (all_pairs l.pairs)))
+abbrev pub invariant-put_elements-loop-item : goal.invariant-put_elements-loop-item
+invariant-put_elements-loop-item l =
+    (take (length l.fn.out) l.out ≡ l.fn.out) × Written l.out (words_of (elements_data l.rest)) l.fn.out (words_of (elements_data l.elements)) × (sizes (items_of (elements_data l.rest)) ≤ sizes (items_of (elements_data l.elements)))
+
+abbrev pub decreases-put_elements-loop-item : goal.decreases-put_elements-loop-item
+decreases-put_elements-loop-item l = sizes (items_of (elements_data l.rest))
+
+abbrev pub invariant-put_fields-loop-item : goal.invariant-put_fields-loop-item
+invariant-put_fields-loop-item l =
+    (take (length l.fn.out) l.out ≡ l.fn.out) × Written l.out (words_of (fields_data l.rest)) l.fn.out (words_of (fields_data l.fields)) × (sizes (items_of (fields_data l.rest)) ≤ sizes (items_of (fields_data l.fields)))
+
+abbrev pub decreases-put_fields-loop-item : goal.decreases-put_fields-loop-item
+decreases-put_fields-loop-item l = sizes (items_of (fields_data l.rest))
+
+abbrev pub invariant-put_entries-loop-entry : goal.invariant-put_entries-loop-entry
+invariant-put_entries-loop-entry l =
+    (take (length l.fn.out) l.out ≡ l.fn.out) × Written l.out (entry_words (entries_data l.rest)) l.fn.out (entry_words (entries_data l.entries)) × (entry_sizes (entries_in (items_of (entries_data l.rest))) ≤ entry_sizes (entries_in (items_of (entries_data l.entries))))
+
+abbrev pub decreases-put_entries-loop-entry : goal.decreases-put_entries-loop-entry
+decreases-put_entries-loop-entry l = entry_sizes (entries_in (items_of (entries_data l.rest)))
