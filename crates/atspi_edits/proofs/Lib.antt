@@ -3,3 +3,4 @@ pub mod SelectedChild
 pub mod Switched
 pub mod Deeds
 pub mod TextParts
+pub mod Filled

@@ -5,6 +5,7 @@ use Rattle.atspi_forest.specs.Row.{IsText}
 use Rattle.atspi_forest.specs.declared.contents.FaceData.{FaceData}
 use Rattle.atspi_forest.specs.declared.contents.FaceData.TheVariants.{Chars}
 use Rattle.atspi_forest.specs.declared.edit.Edit.{Edit}
+use Rattle.atspi_forest.specs.declared.edit.Edit.TheVariants.{Put, Keys, Cut, Caret, Mark, Unmark, Press}
 use Rattle.atspi_forest.specs.declared.edit.EditFault.{EditFault}
 use Rattle.atspi_forest.specs.declared.step.Step.{Step}
 use Rattle.atspi_forest.specs.declared.step.StepList.{StepList}
@@ -26,3 +27,14 @@ abbrev pub GivesSteps : Result StepList EditRefused → Result (List Step) EditF
 GivesSteps (Ok steps) meant = meant ≡ Ok steps
 GivesSteps (Err (Refused fault)) meant = meant ≡ Err fault
 GivesSteps (Err NoMemory) meant = IsOk meant
+
+-- an edit that reads no contents of its node
+abbrev pub ReadsNone : Edit → Type 0
+ReadsNone (Put n at x) = ⊥
+ReadsNone (Keys n x) = ⊥
+ReadsNone (Cut n from to) = ⊥
+ReadsNone (Caret n at) = ⊥
+ReadsNone (Mark n from to) = ⊥
+ReadsNone (Unmark n) = ⊥
+ReadsNone (Press n i) = ⊥
+ReadsNone _ = Unit {0}
