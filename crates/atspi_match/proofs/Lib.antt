@@ -1,3 +1,4 @@
+pub mod Arguments
 pub mod AgainLemmas
 pub mod FaultLemmas
 pub mod IndexLemmas

@@ -1,23 +1,23 @@
 //! Whether a message meets a rule.
 
-ghost use Rattle.std.specs.Prelude.{◌≡◌, ◌↔◌, IsTrue, IsSomeAnd, option_copied, slice_get};
+ghost use Rattle.std.specs.Prelude.{◌≡◌, ◌↔◌, IsTrue, IsSomeAnd, Some, option_copied, slice_get};
 ghost use Rattle.std.specs.Option.{option_map};
-ghost use Rattle.atspi_types.specs.Borrowed.{ref_data};
-ghost use Rattle.atspi_types.specs.DataView.{all_data};
-ghost use Rattle.atspi_message.specs.Envelope.{envelope_of};
+ghost use Rattle.atspi_cursor.specs.Items.{item_data, fields_data};
+ghost use Rattle.atspi_header.specs.View.{bytes_of, envelope_at};
 ghost use Rattle.atspi_match.specs.Matching as matching;
 ghost use Rattle.atspi_match.specs.Matching.{Matches, Holds, GoesBy, Owns, BeginsWith, EndsInSlash, IsWithin, IsPathWithin, IsSameBranch};
 
 use crate::{Condition, Rule};
-use atspi_message::Message;
+use atspi_cursor::Item;
+use atspi_header::MessageRef;
 use atspi_names::Names;
-use atspi_types::{BusName, ValueRef};
+use atspi_types::BusName;
 
 impl Rule {
     /// Whether the message meets each condition of the rule (D-Bus Specification, "Match Rules"). The owners of well-known
     /// names are those of the call.
-    pub fn matches(&self, m: &Message, names: &Names) -> bool
-        ensures { IsTrue result ↔ Matches self.now (envelope_of m.now) names.now }
+    pub fn matches(&self, m: &MessageRef, names: &Names) -> bool
+        ensures { IsTrue result ↔ Matches self.now (envelope_at m.now) names.now }
     {
         self.conditions()
             .iter()
@@ -26,29 +26,20 @@ impl Rule {
 }
 
 /// Whether the condition holds of the message.
-fn holds(condition: &Condition, m: &Message, names: &Names) -> bool
-    ensures { IsTrue result ↔ Holds (envelope_of m.now) names.now condition.now }
+fn holds(condition: &Condition, m: &MessageRef, names: &Names) -> bool
+    ensures { IsTrue result ↔ Holds (envelope_at m.now) names.now condition.now }
 {
     match condition {
         Condition::Kind(kind) => m.kind == kind.number(),
-        Condition::Sender(name) => goes_by(names, name, &m.sender),
-        Condition::Interface(name) => match &m.interface {
-            Some(interface) => interface.is(name),
+        Condition::Sender(name) => goes_by(names, name, m.sender),
+        Condition::Interface(name) => is_named(m.interface, name.as_str()),
+        Condition::Member(name) => is_named(m.member, name.as_str()),
+        Condition::Path(path) => is_named(m.path, path.as_str()),
+        Condition::PathNamespace(namespace) => match m.path {
+            Some(path) => is_path_within(namespace.as_str().as_bytes(), path.as_bytes()),
             None => false,
         },
-        Condition::Member(name) => match &m.member {
-            Some(member) => member.is(name),
-            None => false,
-        },
-        Condition::Path(asked) => match &m.path {
-            Some(path) => path.is(asked),
-            None => false,
-        },
-        Condition::PathNamespace(namespace) => match &m.path {
-            Some(path) => is_path_within(namespace.as_str().as_bytes(), path.as_str().as_bytes()),
-            None => false,
-        },
-        Condition::Destination(name) => goes_by(names, name, &m.destination),
+        Condition::Destination(name) => goes_by(names, name, m.destination),
         Condition::Arg { index, text } => match text_argument(m, *index) {
             Some(argument) => argument == text.as_str().as_bytes(),
             None => false,
@@ -65,25 +56,35 @@ fn holds(condition: &Condition, m: &Message, names: &Names) -> bool
     }
 }
 
-/// Whether a sender or a destination goes by the name: literally, or as its owner.
-fn goes_by(names: &Names, name: &BusName, field: &Option<BusName>) -> bool
-    ensures { IsTrue result ↔ IsSomeAnd field.now (GoesBy names.now name.now) }
+/// Whether a field is there and has the name.
+fn is_named(field: Option<&str>, name: &str) -> bool
+    ensures { IsTrue result ↔ (bytes_of field.entry ≡ Some name.now) }
 {
     match field {
-        Some(field) => field.is(name) || (!name.is_unique() && owns(names, name, field)),
+        Some(field) => field == name,
+        None => false,
+    }
+}
+
+/// Whether a sender or a destination goes by the name: literally, or as its owner.
+fn goes_by(names: &Names, name: &BusName, field: Option<&str>) -> bool
+    ensures { IsTrue result ↔ IsSomeAnd (bytes_of field.entry) (GoesBy names.now name.now) }
+{
+    match field {
+        Some(field) => { field == name.as_str() || (!name.is_unique() && owns(names, name, field)) }
         None => false,
     }
 }
 
 /// Whether the connection that owns the name has the unique name.
-fn owns(names: &Names, name: &BusName, unique: &BusName) -> bool
+fn owns(names: &Names, name: &BusName, unique: &str) -> bool
     ensures { IsTrue result ↔ Owns names.now name.now unique.now }
 {
     let Some(conn) = names.owner(name) else {
         return false;
     };
     match names.unique_name(conn) {
-        Some(owner) => owner.is(unique),
+        Some(owner) => owner.as_str() == unique,
         None => false,
     }
 }
@@ -127,35 +128,33 @@ fn begins_with(text: &[u8], front: &[u8]) -> bool
     text.starts_with(front)
 }
 
-/// The argument of this number, counted from 0.
-fn argument(m: &Message, index: u8) -> Option<ValueRef<'_>>
-    ensures { option_map ref_data result ≡ slice_get (all_data m.now.body) index }
+/// The argument of this number, counted from 0, where it lies.
+fn argument<'a>(m: &MessageRef<'a>, index: u8) -> Option<Item<'a>>
+    ensures { option_map item_data result ≡ slice_get (fields_data m.now.body) index }
 {
-    let i = index as usize;
-    if i < m.body.len() {
-        Some(m.body.at(i))
-    } else {
-        None
+    let mut rest = m.body;
+    for _ in 0..index {
+        rest.next()?;
     }
+    rest.next()
 }
 
 /// The bytes of the text that is the argument of this number.
-fn text_argument(m: &Message, index: u8) -> Option<&[u8]>
-    ensures { option_copied result ≡ matching.text_argument (envelope_of m.now) index }
+fn text_argument<'a>(m: &MessageRef<'a>, index: u8) -> Option<&'a [u8]>
+    ensures { option_copied result ≡ matching.text_argument (envelope_at m.now) index }
 {
-    match argument(m, index) {
-        Some(ValueRef::Text(text)) => Some(text.as_str().as_bytes()),
-        _ => None,
-    }
+    let text = argument(m, index)?.text()?;
+    Some(text.as_bytes())
 }
 
 /// The bytes of the text or path that is the argument of this number.
-fn text_or_path_argument(m: &Message, index: u8) -> Option<&[u8]>
-    ensures { option_copied result ≡ matching.text_or_path_argument (envelope_of m.now) index }
+fn text_or_path_argument<'a>(m: &MessageRef<'a>, index: u8) -> Option<&'a [u8]>
+    ensures { option_copied result ≡ matching.text_or_path_argument (envelope_at m.now) index }
 {
-    match argument(m, index) {
-        Some(ValueRef::Text(text)) => Some(text.as_str().as_bytes()),
-        Some(ValueRef::Path(path)) => Some(path.as_str().as_bytes()),
-        _ => None,
+    let item = argument(m, index)?;
+    if let Some(text) = item.text() {
+        return Some(text.as_bytes());
     }
+    let path = item.path()?;
+    Some(path.as_bytes())
 }

@@ -1,13 +1,13 @@
 //! The rules of the connections, and who receives a message.
 
 ghost use Rattle.std.specs.Prelude.{◌≡◌, ◌↔◌, ◌+◌, ◌≤◌, ℕ, [], ◌∷◌, ◌++◌, length, Contains, IsTrue, IfOk, OnOk, OnErr, IfErr, IsErrAnd, MatchBool, MatchOption, List};
-ghost use Rattle.atspi_message.specs.Envelope.{envelope_of};
+ghost use Rattle.atspi_header.specs.View.{envelope_at};
 ghost use Rattle.atspi_match.specs.RuleIndex as index;
 ghost use Rattle.atspi_match.specs.RuleIndex.{without_rules, without_first, GoesOut, IsFirstAt, IsNowhere, Receives, AreReceivers};
 
 use crate::Rule;
 use atspi_base::{NoMemory, Nums, Steps};
-use atspi_message::Message;
+use atspi_header::MessageRef;
 use atspi_names::Names;
 use std::alloc::Global;
 use std::marker::Model;
@@ -103,13 +103,13 @@ impl RuleIndex {
     /// for each rule. After want of memory the list is as before.
     pub fn receivers(
         &self,
-        m: &Message,
+        m: &MessageRef,
         names: &Names,
         out: &mut Nums,
         steps: &mut Steps,
     ) -> Result<(), NoMemory>
         ensures ok { OnOk result ((receivers : List ℕ) × (out.new ≡ out.old ++ receivers)
-            × AreReceivers self.now (envelope_of m.now) names.now receivers) }
+            × AreReceivers self.now (envelope_at m.now) names.now receivers) }
         ensures err { OnErr result (out.new ≡ out.old) }
         ensures steps { (steps.old ≤ steps.new) × (steps.new ≤ steps.old + length self.now) }
     {
@@ -152,11 +152,11 @@ fn count_step(steps: &mut Steps)
 fn receiving(
     alloc: Global,
     pairs: &[(u32, Rule)],
-    m: &Message,
+    m: &MessageRef,
     names: &Names,
     steps: &mut Steps,
 ) -> Result<Vec<u32>, NoMemory>
-    ensures found { IfOk result (λ found. (conn : ℕ) → Contains found.items conn ↔ Receives pairs.now (envelope_of m.now) names.now conn) }
+    ensures found { IfOk result (λ found. (conn : ℕ) → Contains found.items conn ↔ Receives pairs.now (envelope_at m.now) names.now conn) }
     ensures steps { (steps.old ≤ steps.new) × (steps.new ≤ steps.old + length pairs.now) }
 {
     let mut found = Vec::new(alloc);

@@ -1,12 +1,15 @@
 //! Which messages a rule matches, and who receives them.
 
 ghost use Rattle.std.specs.Prelude.{◌≡◌, ◌≢◌, false};
+ghost use Rattle.atspi_types.specs.Data.{items_of, AreWellTyped};
+ghost use Rattle.atspi_types.specs.DataView.{all_data};
 ghost use Rattle.atspi_types.specs.Names.{is_unique_name};
 ghost use Rattle.atspi_names.specs.Owners as owners;
 
-use atspi_base::{Nums, Steps, Text};
+use atspi_base::{Bytes, Nums, Steps, Text};
+use atspi_header::MessageRef;
 use atspi_match::{Rule, RuleAdd, RuleIndex};
-use atspi_message::Message;
+use atspi_message::{Message, total};
 use atspi_names::Names;
 use atspi_types::{BusName, Interface, Member, Order, Path, Value, Values};
 use std::alloc::Global;
@@ -55,11 +58,23 @@ fn two_connections(rt: &impl Abort, alloc: Global) -> Names {
     names
 }
 
-/// A signal of `:1.0` to `:1.1` at a path, with a body.
-fn signal(rt: &impl Abort, alloc: Global, path: &str, body: Values) -> Message {
+/// The bytes of a signal of a connection to `:1.1` at a path, with a body.
+fn signal_of(
+    rt: &impl Abort,
+    alloc: Global,
+    sender: Option<&str>,
+    path: &str,
+    body: Values,
+) -> Vec<u8>
+    requires { AreWellTyped (items_of (all_data body)) }
+{
     let interface = Interface::read(alloc, b"org.example.Events").expect(rt, "an interface");
     let member = Member::read(alloc, b"Changed").expect(rt, "a member");
-    Message {
+    let sender = match sender {
+        Some(name) => Some(bus_name(rt, alloc, name)),
+        None => None,
+    };
+    let message = Message {
         order: Order::Little,
         kind: 4,
         flags: 0,
@@ -70,13 +85,33 @@ fn signal(rt: &impl Abort, alloc: Global, path: &str, body: Values) -> Message {
         error: None,
         reply: None,
         destination: Some(bus_name(rt, alloc, ":1.1")),
-        sender: Some(bus_name(rt, alloc, ":1.0")),
+        sender,
         body,
-    }
+    };
+    let mut out = Bytes::new(alloc);
+    message.write(&mut out).expect(rt, "a message");
+    out.into_vec()
+}
+
+/// The bytes of a signal of `:1.0`.
+fn signal(rt: &impl Abort, alloc: Global, path: &str, body: Values) -> Vec<u8>
+    requires { AreWellTyped (items_of (all_data body)) }
+{
+    signal_of(rt, alloc, Some(":1.0"), path, body)
+}
+
+/// The message that the bytes are, where it lies.
+fn lent<'a>(rt: &impl Abort, bytes: &'a [u8]) -> MessageRef<'a> {
+    let first = bytes.first_chunk::<16>().expect(rt, "16 bytes");
+    let length = total(first).expect(rt, "a length");
+    assert!(rt; length as usize == bytes.len());
+    MessageRef::parse(bytes).expect(rt, "a message")
 }
 
 /// The body of one text.
-fn one_text(rt: &impl Abort, alloc: Global, value: &str) -> Values {
+fn one_text(rt: &impl Abort, alloc: Global, value: &str) -> Values
+    ensures { AreWellTyped (items_of (all_data result)) }
+{
     let mut body = Values::new(alloc);
     body.push(Value::Text(text(rt, alloc, value)))
         .expect(rt, "memory");
@@ -93,7 +128,8 @@ fn a_type_matches_its_number(rt: HostRuntime) {
         ("type='signal'", 4),
     ];
     let names = Names::new(rt.alloc());
-    let mut message = signal(&rt, rt.alloc(), "/", Values::new(rt.alloc()));
+    let bytes = signal(&rt, rt.alloc(), "/", Values::new(rt.alloc()));
+    let mut message = lent(&rt, &bytes);
     for (kind, number) in types {
         let rule = rule(&rt, rt.alloc(), kind);
         for k in 0..6_u8 {
@@ -110,7 +146,8 @@ fn a_type_matches_its_number(rt: HostRuntime) {
 #[test]
 fn a_field_matches_by_its_name(rt: HostRuntime) {
     let names = two_connections(&rt, rt.alloc());
-    let message = signal(&rt, rt.alloc(), "/com/example/foo", Values::new(rt.alloc()));
+    let bytes = signal(&rt, rt.alloc(), "/com/example/foo", Values::new(rt.alloc()));
+    let message = lent(&rt, &bytes);
     let table = [
         ("sender=':1.0'", true),
         ("sender=':1.1'", false),
@@ -160,7 +197,8 @@ fn a_namespace_matches_what_lies_in_it(rt: HostRuntime) {
     let names = Names::new(rt.alloc());
     for (space, path, due) in table {
         let rule = rule(&rt, rt.alloc(), space);
-        let message = signal(&rt, rt.alloc(), path, Values::new(rt.alloc()));
+        let bytes = signal(&rt, rt.alloc(), path, Values::new(rt.alloc()));
+        let message = lent(&rt, &bytes);
         assert_eq!(rt; rule.matches(&message, &names), due, "{path} in {space}");
     }
 }
@@ -184,7 +222,8 @@ fn an_argument_matches_as_a_path_from_either_side(rt: HostRuntime) {
     let names = Names::new(rt.alloc());
     for (value, argument, due) in table {
         let rule = rule(&rt, rt.alloc(), value);
-        let message = signal(&rt, rt.alloc(), "/", one_text(&rt, rt.alloc(), argument));
+        let bytes = signal(&rt, rt.alloc(), "/", one_text(&rt, rt.alloc(), argument));
+        let message = lent(&rt, &bytes);
         assert_eq!(rt;
             rule.matches(&message, &names),
             due,
@@ -229,7 +268,8 @@ fn an_argument_matches_as_a_name_in_its_namespace(rt: HostRuntime) {
     let names = Names::new(rt.alloc());
     for (value, argument, due) in table {
         let rule = rule(&rt, rt.alloc(), value);
-        let message = signal(&rt, rt.alloc(), "/", one_text(&rt, rt.alloc(), argument));
+        let bytes = signal(&rt, rt.alloc(), "/", one_text(&rt, rt.alloc(), argument));
+        let message = lent(&rt, &bytes);
         assert_eq!(rt;
             rule.matches(&message, &names),
             due,
@@ -239,7 +279,9 @@ fn an_argument_matches_as_a_name_in_its_namespace(rt: HostRuntime) {
 }
 
 /// A body of a text, a path, a number and an empty text.
-fn mixed(rt: &impl Abort, alloc: Global) -> Values {
+fn mixed(rt: &impl Abort, alloc: Global) -> Values
+    ensures { AreWellTyped (items_of (all_data result)) }
+{
     let mut body = one_text(rt, alloc, "caf\u{e9}");
     let path = Path::read(alloc, b"/a/b").expect(rt, "a path");
     body.push(Value::Path(path)).expect(rt, "memory");
@@ -268,7 +310,8 @@ fn an_argument_matches_as_the_text_that_it_is(rt: HostRuntime) {
         ("arg4path='/'", false),
     ];
     let names = Names::new(rt.alloc());
-    let message = signal(&rt, rt.alloc(), "/", mixed(&rt, rt.alloc()));
+    let bytes = signal(&rt, rt.alloc(), "/", mixed(&rt, rt.alloc()));
+    let message = lent(&rt, &bytes);
     for (value, due) in table {
         let rule = rule(&rt, rt.alloc(), value);
         assert_eq!(rt; rule.matches(&message, &names), due, "{value}");
@@ -279,17 +322,20 @@ fn an_argument_matches_as_the_text_that_it_is(rt: HostRuntime) {
 fn a_name_stands_for_whoever_owns_it_now(rt: HostRuntime) {
     let mut names = two_connections(&rt, rt.alloc());
     let rule = rule(&rt, rt.alloc(), "sender='org.example.Backend'");
-    let mut message = signal(&rt, rt.alloc(), "/", Values::new(rt.alloc()));
-    assert!(rt; rule.matches(&message, &names));
+    let none = Values::new(rt.alloc());
+    let first = signal_of(&rt, rt.alloc(), Some(":1.0"), "/", none);
+    let none = Values::new(rt.alloc());
+    let second = signal_of(&rt, rt.alloc(), Some(":1.1"), "/", none);
+    assert!(rt; rule.matches(&lent(&rt, &first), &names));
     let name = known(&rt, rt.alloc(), "org.example.Backend");
     names.request(1, &name, 2).expect(&rt, "request");
-    assert!(rt; !rule.matches(&message, &names));
-    message.sender = Some(bus_name(&rt, rt.alloc(), ":1.1"));
-    assert!(rt; rule.matches(&message, &names));
+    assert!(rt; !rule.matches(&lent(&rt, &first), &names));
+    assert!(rt; rule.matches(&lent(&rt, &second), &names));
     names.gone(1);
-    assert!(rt; !rule.matches(&message, &names));
-    message.sender = None;
-    assert!(rt; !rule.matches(&message, &names));
+    assert!(rt; !rule.matches(&lent(&rt, &second), &names));
+    let none = Values::new(rt.alloc());
+    let unsigned = signal_of(&rt, rt.alloc(), None, "/", none);
+    assert!(rt; !rule.matches(&lent(&rt, &unsigned), &names));
 }
 
 /// The rule that asks for nothing.
@@ -331,7 +377,8 @@ fn received(rt: &impl Abort, alloc: Global, index: &RuleIndex, path: &str) -> (N
     out.push(99).expect(rt, "memory");
     let mut steps = Steps::new();
     let names = Names::new(alloc);
-    let message = signal(rt, alloc, path, Values::new(alloc));
+    let bytes = signal(rt, alloc, path, Values::new(alloc));
+    let message = lent(rt, &bytes);
     index
         .receivers(&message, &names, &mut out, &mut steps)
         .expect(rt, "receivers");

@@ -14,24 +14,6 @@ returns-in-Some c = grind (arith, common_steps)
 pub returns-in-None : goal.returns-in-None
 returns-in-None c = grind (arith, common_steps)
 
-pub returns-in-Some-member : goal.returns-in-Some-member
-returns-in-Some-member c = grind (arith, common_steps)
-
-pub returns-in-None-member : goal.returns-in-None-member
-returns-in-None-member c = grind (arith, common_steps)
-
-pub returns-in-Some-path : goal.returns-in-Some-path
-returns-in-Some-path c = grind (arith, common_steps)
-
-pub returns-in-None-path : goal.returns-in-None-path
-returns-in-None-path c = grind (arith, common_steps)
-
-pub returns-in-Some-path-2 : goal.returns-in-Some-path-2
-returns-in-Some-path-2 c = grind (arith, common_steps)
-
-pub returns-in-None-path-2 : goal.returns-in-None-path-2
-returns-in-None-path-2 c = grind (arith, common_steps)
-
 pub returns-in-Destination : goal.returns-in-Destination
 returns-in-Destination c = grind (arith, common_steps)
 
@@ -52,3 +34,12 @@ returns-in-None-text_argument-2 c = grind (arith, common_steps)
 
 pub returns-in-Eavesdrop : goal.returns-in-Eavesdrop
 returns-in-Eavesdrop c = grind (arith, common_steps)
+
+pub returns-in-Interface : goal.returns-in-Interface
+returns-in-Interface c = grind (arith, common_steps)
+
+pub returns-in-Member : goal.returns-in-Member
+returns-in-Member c = grind (arith, common_steps)
+
+pub returns-in-Path : goal.returns-in-Path
+returns-in-Path c = grind (arith, common_steps)
