@@ -16,7 +16,7 @@ use atspi_base::{Bytes, NoMemory, Text, put_decimal};
 use atspi_forest::Step;
 use atspi_lines::Party;
 use atspi_message::Message;
-use atspi_script::message_text;
+use atspi_owned_text::message_text;
 use atspi_types::BusName;
 
 /// Appends that an end was started, and the name of an application's root.

@@ -1,0 +1,4 @@
+pub mod MessageLemmas
+pub mod Sizes
+pub mod TextLemmas
+pub mod TypeLemmas
