@@ -282,7 +282,9 @@ fn an_argument_matches_as_a_name_in_its_namespace(rt: HostRuntime) {
 fn mixed(rt: &impl Abort, alloc: Global) -> Values
     ensures { AreWellTyped (items_of (all_data result)) }
 {
-    let mut body = one_text(rt, alloc, "caf\u{e9}");
+    let mut body = Values::new(alloc);
+    body.push(Value::Text(text(rt, alloc, "caf\u{e9}")))
+        .expect(rt, "memory");
     let path = Path::read(alloc, b"/a/b").expect(rt, "a path");
     body.push(Value::Path(path)).expect(rt, "memory");
     body.push(Value::U32(7)).expect(rt, "memory");
