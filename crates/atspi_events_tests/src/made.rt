@@ -7,8 +7,11 @@ use atspi_types::{BusName, Path};
 use std::alloc::Global;
 use std::test::*;
 
-/// A text.
+/// A text, no longer than a line.
 pub(crate) fn text(rt: &HostRuntime, characters: &str) -> Result<Text, Fail> {
+    if characters.len() > 65_536 {
+        return Err(Fail::new("a text that is longer than a line"));
+    }
     Ok(
         Text::read(rt.alloc(), characters.as_bytes())
             .ok()
