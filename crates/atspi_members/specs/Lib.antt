@@ -1,0 +1,6 @@
+pub mod Interfaces
+pub mod Table
+pub mod Objects
+pub mod Arguments
+pub mod Asked
+pub mod Cases
