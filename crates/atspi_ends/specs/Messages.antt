@@ -1,6 +1,6 @@
 -- The messages that ends send (D-Bus Specification, "Message Protocol"): little-endian, without a sender, which the bus puts in, and with
 -- the flag that no reply is expected in all that are no calls. A message gets its number when it is queued.
-use Rattle.std.specs.Prelude.{◌==◌, ◌&&◌, ℕ, ◌+◌, Bool, List, [], ◌∷◌, ◌++◌, length, Option, None, Some, codes, bit_and, if◌then◌else◌}
+use Rattle.std.specs.Prelude.{◌==◌, ◌&&◌, ℕ, ◌+◌, Bool, List, [], ◌∷◌, ◌++◌, length, None, Some, codes, bit_and, if◌then◌else◌}
 use Rattle.atspi_types.specs.Data.{Data, text_data}
 use Rattle.atspi_types.specs.declared.fault.Order.TheVariants.{Little}
 use Rattle.atspi_message.specs.Envelope.{Envelope}
