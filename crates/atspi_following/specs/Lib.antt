@@ -1,0 +1,7 @@
+pub mod ReaderState
+pub mod Calls
+pub mod Wishes
+pub mod Known
+pub mod Replied
+pub mod Takes
+pub mod Cases
