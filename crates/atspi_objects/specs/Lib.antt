@@ -1,0 +1,10 @@
+pub mod Application
+pub mod Values
+pub mod Places
+pub mod Children
+pub mod Texts
+pub mod Tables
+pub mod Properties
+pub mod Changes
+pub mod Answers
+pub mod Cases
