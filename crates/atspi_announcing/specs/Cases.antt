@@ -1,0 +1,78 @@
+-- The steps, signals and items of the worked cases.
+use Rattle.std.specs.Prelude.{ℕ, ℤ, pos, negsuc, false, List, [], ◌∷◌, map, Option, None, Some, codes}
+use Rattle.atspi_types.specs.Kinds.{number, u32}
+use Rattle.atspi_types.specs.Data.{Data, number_data, text_data, array_data, structure_data, items_of}
+use Rattle.atspi_forest.specs.declared.step.Seed.{Seed}
+use Rattle.atspi_forest.specs.declared.step.Step.{Step}
+use Rattle.atspi_forest.specs.declared.news.News.{News}
+use Rattle.atspi_ends.specs.Places.{reference}
+use Rattle.atspi_ends.specs.Messages.{signal_of}
+use Rattle.atspi_members.specs.Arguments.{int}
+use Rattle.atspi_objects.specs.Values.{texts_data, words_data}
+use Rattle.atspi_objects.specs.Cases.{app, to}
+use Rattle.atspi_announcing.specs.Signals.{Signal, event_body, caret_moved}
+use Rattle.atspi_announcing.specs.Announced.{announced}
+use Rattle.atspi_announcing.specs.NewsOf.{news_of}
+
+-- the application's name
+abbrev pub bus : List ℕ
+bus = codes ":1.1"
+
+-- the signals of a step of its tree
+abbrev pub signals : Step → List Signal
+signals step = announced bus app.tree step
+
+-- the event and the minor word of each, and its member
+abbrev pub events : Step → List (List ℕ × List ℕ × List ℕ)
+events step = map (λ (s : Signal). (s.event, s.minor, member s.message.member)) (signals step)
+  where
+    member : Option (List ℕ) → List ℕ
+    member None = []
+    member (Some name) = name
+
+-- the path of each, and its body
+abbrev pub bodies : Step → List (Option (List ℕ) × List Data)
+bodies step = map (λ (s : Signal). (s.message.path, s.message.body)) (signals step)
+
+-- the first of them
+abbrev pub first : Step → Signal
+first step = at (signals step)
+  where
+    at : List Signal → Signal
+    at [] = caret_moved 0 0
+    at (s ∷ ss) = s
+
+-- a label that is to be added
+abbrev pub new : Seed
+new = record { role = 29; name = codes "N"; text = None; editable = false; columns = None; select = false; actions = [] }
+
+-- the item of the button below a parent
+abbrev pub button_item : Data → ℕ → Data
+button_item parent index =
+    structure_data (items_of (
+    to 12 ∷ to 0 ∷ parent ∷ int (pos index) ∷ int (pos 0)
+    ∷ texts_data (codes "org.a11y.atspi.Accessible" ∷ codes "org.a11y.atspi.Action" ∷ [])
+    ∷ text_data [] ∷ number_data u32 117 ∷ text_data [] ∷ words_data 16 ∷ []
+    ))
+
+-- the news in an event at a path
+abbrev pub event : List ℕ → List ℕ → ℤ → ℤ → Data → News
+event member minor first second value =
+    news_of bus (signal_of (codes "/p") (codes "org.a11y.atspi.Event.Object") member (event_body minor first second value))
+
+-- the same of an event with another body
+abbrev pub short_event : List Data → News
+short_event body = news_of bus (signal_of (codes "/p") (codes "org.a11y.atspi.Event.Object") (codes "TextCaretMoved") body)
+
+-- the news in a signal about the whole tree
+abbrev pub cache_signal : List ℕ → List Data → News
+cache_signal member body = news_of bus (signal_of (codes "/p") (codes "org.a11y.atspi.Cache") member body)
+
+-- an item whose states are these words
+abbrev pub item_with : List Data → Data
+item_with words =
+    structure_data (items_of (
+    to 3 ∷ to 0 ∷ reference (codes ":1.9") (codes "/q") ∷ int (negsuc 4) ∷ int (pos 7)
+    ∷ texts_data (codes "a.b" ∷ codes "c.d" ∷ []) ∷ text_data (codes "n") ∷ number_data u32 9 ∷ text_data (codes "d")
+    ∷ array_data (number u32) (items_of words) ∷ []
+    ))
