@@ -20,7 +20,8 @@ use Rattle.atspi_forest.proofs.Kept.{count-move}
 use Rattle.atspi_ends.specs.Places.{reference}
 use Rattle.atspi_announcing.specs.Signals.{Signal, child_changed, added, removed, property_changed}
 use Rattle.atspi_announcing.specs.Announced.{left, announced}
-use Rattle.atspi_announcing.specs.NewsOf.{news_of}
+use Rattle.atspi_news.specs.NewsOf.{news_of}
+use Rattle.atspi_news.specs.CacheSignals.{added as news_added}
 use Rattle.atspi_announcing.specs.Laws.{told, SignalsTellSteps}
 use Rattle.atspi_announcing.proofs.Bounds.{everyone, width-count, count-children, text-place, caret-place}
 use Rattle.atspi_announcing.proofs.Seated.{IsBelow, seat_below, seat_small}
@@ -42,7 +43,7 @@ module _ (bus : List ℕ) (serial : ℕ) where
 
   node_added : (p i children : ℕ) (row : TreeRow) → i ≤ 2147483647 → children ≤ 2147483647
       → read (added (item_of bus (own bus p) (pos i) children row)) ≡ NewItem (item_of bus (own bus p) (pos i) children row)
-  node_added p i children row li lc = ap NewItem (item_back bus p i children row li lc)
+  node_added p i children row li lc = ap news_added (item_back bus p i children row li lc)
 
   nodes_removed : (ns : List TreeRow)
       → map read (map (λ (row : TreeRow). removed bus row.shape.node) ns) ≡ map (λ (row : TreeRow). Removed (path_of row.shape.node)) ns
@@ -142,8 +143,8 @@ module _ (bus : List ℕ) (serial : ℕ) where
 
   tells_SetState : (f : Forest TreeRow) (n s : ℕ) (on : Bool) → s < 44
       → map read (announced bus f (SetState n s on)) ≡ told bus f (SetState n s on)
-  tells_SetState f n s true l = rw (state_back s l) refl
-  tells_SetState f n s false l = rw (state_back s l) refl
+  tells_SetState f n s true l = ap (λ (news : News). news ∷ []) (state_back (path_of n) true s l)
+  tells_SetState f n s false l = ap (λ (news : News). news ∷ []) (state_back (path_of n) false s l)
 
 pub signals_tell_steps : SignalsTellSteps
 signals_tell_steps bus serial f k (Add n p i seed) t a = tells_Add bus serial f k n p i seed t a

@@ -1,18 +1,14 @@
 -- The steps, signals and items of the worked cases.
-use Rattle.std.specs.Prelude.{ℕ, ℤ, pos, negsuc, false, List, [], ◌∷◌, map, Option, None, Some, codes}
-use Rattle.atspi_types.specs.Kinds.{number, u32}
-use Rattle.atspi_types.specs.Data.{Data, number_data, text_data, array_data, structure_data, items_of}
+use Rattle.std.specs.Prelude.{ℕ, pos, false, List, [], ◌∷◌, map, Option, None, Some, codes}
+use Rattle.atspi_types.specs.Kinds.{u32}
+use Rattle.atspi_types.specs.Data.{Data, number_data, text_data, structure_data, items_of}
 use Rattle.atspi_forest.specs.declared.step.Seed.{Seed}
 use Rattle.atspi_forest.specs.declared.step.Step.{Step}
-use Rattle.atspi_forest.specs.declared.news.News.{News}
-use Rattle.atspi_ends.specs.Places.{reference}
-use Rattle.atspi_ends.specs.Messages.{signal_of}
 use Rattle.atspi_members.specs.Arguments.{int}
 use Rattle.atspi_objects.specs.Values.{texts_data, words_data}
 use Rattle.atspi_objects.specs.Cases.{app, to}
-use Rattle.atspi_announcing.specs.Signals.{Signal, event_body, caret_moved}
+use Rattle.atspi_announcing.specs.Signals.{Signal, caret_moved}
 use Rattle.atspi_announcing.specs.Announced.{announced}
-use Rattle.atspi_announcing.specs.NewsOf.{news_of}
 
 -- the application's name
 abbrev pub bus : List ℕ
@@ -53,26 +49,4 @@ button_item parent index =
     to 12 ∷ to 0 ∷ parent ∷ int (pos index) ∷ int (pos 0)
     ∷ texts_data (codes "org.a11y.atspi.Accessible" ∷ codes "org.a11y.atspi.Action" ∷ [])
     ∷ text_data [] ∷ number_data u32 117 ∷ text_data [] ∷ words_data 16 ∷ []
-    ))
-
--- the news in an event at a path
-abbrev pub event : List ℕ → List ℕ → ℤ → ℤ → Data → News
-event member minor first second value =
-    news_of bus (signal_of (codes "/p") (codes "org.a11y.atspi.Event.Object") member (event_body minor first second value))
-
--- the same of an event with another body
-abbrev pub short_event : List Data → News
-short_event body = news_of bus (signal_of (codes "/p") (codes "org.a11y.atspi.Event.Object") (codes "TextCaretMoved") body)
-
--- the news in a signal about the whole tree
-abbrev pub cache_signal : List ℕ → List Data → News
-cache_signal member body = news_of bus (signal_of (codes "/p") (codes "org.a11y.atspi.Cache") member body)
-
--- an item whose states are these words
-abbrev pub item_with : List Data → Data
-item_with words =
-    structure_data (items_of (
-    to 3 ∷ to 0 ∷ reference (codes ":1.9") (codes "/q") ∷ int (negsuc 4) ∷ int (pos 7)
-    ∷ texts_data (codes "a.b" ∷ codes "c.d" ∷ []) ∷ text_data (codes "n") ∷ number_data u32 9 ∷ text_data (codes "d")
-    ∷ array_data (number u32) (items_of words) ∷ []
     ))

@@ -10,7 +10,7 @@ use Rattle.atspi_forest.specs.Tree.{IsTree, Applies}
 use Rattle.atspi_forest.specs.Announce.{announcement, echoes}
 use Rattle.atspi_announcing.specs.Signals.{Signal}
 use Rattle.atspi_announcing.specs.Announced.{announced}
-use Rattle.atspi_announcing.specs.NewsOf.{news_of}
+use Rattle.atspi_news.specs.NewsOf.{news_of}
 
 -- what a step tells: its announcement and its echoes, and of selections in texts and relations nothing
 abbrev pub told : List ℕ → Forest TreeRow → Step → List News

@@ -10,6 +10,7 @@ use Rattle.atspi_ends.specs.Places.{reference, cache_path}
 use Rattle.atspi_ends.specs.Messages.{signal_of}
 use Rattle.atspi_members.specs.Interfaces.{cache}
 use Rattle.atspi_members.specs.Arguments.{int}
+use Rattle.atspi_news.specs.NewsOf.{event_interface}
 use Rattle.atspi_objects.specs.Values.{in_variant, item_data}
 
 -- a signal, with the name and the minor word of the event by which patterns cover it
@@ -17,9 +18,6 @@ pub record Signal : Type 0 where
   pub event : List ℕ
   pub minor : List ℕ
   pub message : Envelope
-
-abbrev pub event_interface : List ℕ
-event_interface = codes "org.a11y.atspi.Event.Object"
 
 -- an event at a node: its minor word, two details, a value, and no more
 abbrev pub event_body : List ℕ → ℤ → ℤ → Data → List Data

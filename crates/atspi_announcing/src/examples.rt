@@ -2,4 +2,3 @@
 //! readers. Each case is a clause of a function without a body. So a definition that says otherwise is refused here.
 
 pub mod announced;
-pub mod news;

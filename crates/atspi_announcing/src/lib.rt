@@ -1,5 +1,5 @@
-//! The messages that tell of the steps of a tree, and what a reader reads in them: definitions with worked cases, and the law that the one
-//! is the other's inverse.
+//! The messages that tell of the steps of a tree: definitions with worked cases, and the law that what a reader reads in them is what the
+//! step tells.
 #![tactic(auto)]
 
 pub mod examples;
