@@ -1,3 +1,4 @@
+pub mod DataCode
 pub mod Places
 pub mod Messages
 pub mod Covering

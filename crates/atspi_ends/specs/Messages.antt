@@ -1,9 +1,11 @@
 -- The messages that ends send (D-Bus Specification, "Message Protocol"): little-endian, without a sender, which the bus puts in, and with
 -- the flag that no reply is expected in all that are no calls. A message gets its number when it is queued.
-use Rattle.std.specs.Prelude.{◌==◌, ◌&&◌, ℕ, ◌+◌, Bool, List, [], ◌∷◌, ◌++◌, length, None, Some, codes, bit_and, if◌then◌else◌}
+use Rattle.std.specs.Prelude.{refl, ◌==◌, ◌&&◌, ℕ, ◌+◌, Bool, List, [], ◌∷◌, ◌++◌, length, None, Some, codes, bit_and, if◌then◌else◌}
 use Rattle.atspi_types.specs.Data.{Data, text_data}
 use Rattle.atspi_types.specs.declared.fault.Order.TheVariants.{Little}
 use Rattle.atspi_message.specs.Envelope.{Envelope}
+use Rattle.std.specs.Coded.{Coded, code_by, coded_ℕ, coded_list, coded×}
+use Rattle.atspi_ends.specs.DataCode.{envelope_code}
 use Rattle.atspi_ends.specs.declared.error.CallError.{CallError}
 use Rattle.atspi_ends.specs.declared.error.CallError.TheVariants.{UnknownObject, UnknownInterface, UnknownMethod, InvalidArgs, UnknownProperty, PropertyReadOnly}
 
@@ -87,3 +89,7 @@ pub record Queue : Type 0 where
 -- the queue behind which more messages stand, with their numbers
 abbrev pub posted : Queue → List Envelope → Queue
 posted q es = record { next = q.next + length es; out = q.out ++ numbered q.next es }
+
+-- a queue is told from another by its two parts
+abbrev pub queue_code : Coded Queue
+queue_code = code_by (ℕ × List Envelope) (coded× coded_ℕ (coded_list envelope_code)) (λ q. (q.next, q.out)) (λ p. record { next = p.0; out = p.1 }) (λ _. refl)
