@@ -1,0 +1,5 @@
+-- The lemmas of the laws.
+pub mod Queued
+pub mod Quiet
+pub mod Answered
+pub mod Rising

@@ -1,0 +1,13 @@
+//! Laws of applications, over the definitions that the contracts of the application, the world and the theory of traces cite.
+
+ghost use Rattle.atspi_exporting.specs.Laws.{EachCallIsAnswered, NumbersRise};
+
+/// Every call that expects a reply gets exactly one return or error, to its sender and with its serial; nothing else is one.
+pub fn each_call_is_answered()
+    ensures { EachCallIsAnswered }
+{}
+
+/// The numbers of an application's messages rise by one.
+pub fn numbers_rise()
+    ensures { NumbersRise }
+{}
