@@ -16,7 +16,7 @@ use Rattle.atspi_arena.specs.declared.change.Change.{Change}
 use Rattle.atspi_arena.specs.declared.change.Change.TheVariants.{Renewed, Name, Description, Role, State, Text, TextIs, Caret, CaretIs, ColumnsIs}
 use Rattle.atspi_arena.specs.declared.cell.Cell.{Cell}
 use Rattle.atspi_arena.specs.declared.paths.Paths.{Paths}
-use Rattle.atspi_arena.proofs.Seen.{rows, seen, Becomes, becomes}
+use Rattle.atspi_arena.proofs.Shown.{rows, seen, Becomes, becomes}
 use Rattle.atspi_arena.proofs.Inserted.{Alike, one_test, key_once}
 
 -- no change touches the path

@@ -20,7 +20,7 @@ use Rattle.atspi_arena.specs.Arena.{is_at, is_row, IsIndexed, IsArena, rows_of}
 use Rattle.atspi_arena.specs.declared.cell.Cell.{Cell}
 use Rattle.atspi_arena.specs.declared.paths.Paths.{Paths}
 use Rattle.atspi_arena.proofs.Held.{holds-put, holds-same, keys-put_in}
-use Rattle.atspi_arena.proofs.Seen.{rows, seen, entry, find_row, Becomes, becomes}
+use Rattle.atspi_arena.proofs.Shown.{rows, seen, entry, find_row, Becomes, becomes}
 
 -- two tests that pass at one node, and at most once each, are one test
 module _ (path : List ℕ) (k : ℕ) where

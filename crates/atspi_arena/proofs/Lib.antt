@@ -1,6 +1,6 @@
 pub mod Held
 pub mod Walk
-pub mod Seen
+pub mod Shown
 pub mod Inserted
 pub mod Removed
 pub mod Moved
@@ -8,3 +8,4 @@ pub mod Changed
 pub mod Rooted
 pub mod Outside
 pub mod Sits
+pub mod Stepped

@@ -17,7 +17,7 @@ use Rattle.atspi_arena.specs.Arena.{is_at, is_row, IsIndexed, IsArena, rows_of}
 use Rattle.atspi_arena.specs.declared.cell.Cell.{Cell}
 use Rattle.atspi_arena.specs.declared.paths.Paths.{Paths}
 use Rattle.atspi_arena.proofs.Held.{holds-take_out, holds-put, holds-same, self, keys-put_in, keys-take_out}
-use Rattle.atspi_arena.proofs.Seen.{rows, seen, Becomes, becomes}
+use Rattle.atspi_arena.proofs.Shown.{rows, seen, Becomes, becomes}
 use Rattle.atspi_arena.proofs.Inserted.{Alike, alike, row_le, put_in-alike, key_once, one_test, key_there}
 use Rattle.atspi_arena.proofs.Removed.{Takes, stays, take_out-alike, top_less, at_top, there_is}
 

@@ -15,7 +15,7 @@ use Rattle.atspi_arena.specs.Table.{IsSubtree, is_among, times}
 use Rattle.atspi_arena.specs.Arena.{is_at, is_row, IsArena, rows_of}
 use Rattle.atspi_arena.specs.declared.cell.Cell.{Cell}
 use Rattle.atspi_arena.specs.declared.paths.Paths.{Paths}
-use Rattle.atspi_arena.proofs.Seen.{rows, seen}
+use Rattle.atspi_arena.proofs.Shown.{rows, seen}
 use Rattle.atspi_arena.proofs.Inserted.{row_le, one_test, not_known}
 use Rattle.atspi_arena.proofs.Removed.{take_out-alike, among-times}
 

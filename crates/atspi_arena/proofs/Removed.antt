@@ -17,7 +17,7 @@ use Rattle.atspi_arena.specs.declared.cell.Cell.{Cell}
 use Rattle.atspi_arena.specs.declared.paths.Paths.{Paths}
 use Rattle.atspi_arena.proofs.Held.{holds-take_out, keys-take_out, filter_none, child_parent, top_parent}
 use Rattle.atspi_arena.proofs.Walk.{HoldsAny, holds_any, any_pick}
-use Rattle.atspi_arena.proofs.Seen.{rows, seen, Becomes, becomes}
+use Rattle.atspi_arena.proofs.Shown.{rows, seen, Becomes, becomes}
 use Rattle.atspi_arena.proofs.Inserted.{row_le, key_once, one_test}
 
 pub take_out-alike : (p q : Node Row → Bool) (f : Forest (Node Row)) → EachLabel (λ a. p a ≡ q a) f → take_out p f ≡ take_out q f

@@ -12,7 +12,7 @@ use Rattle.atspi_arena.specs.Table.{look_in}
 use Rattle.atspi_arena.specs.Arena.{is_row, IsIndexed, IsArena, rows_of}
 use Rattle.atspi_arena.specs.declared.cell.Cell.{Cell}
 use Rattle.atspi_arena.specs.declared.paths.Paths.{Paths}
-use Rattle.atspi_arena.proofs.Seen.{rows, seen, Becomes, becomes}
+use Rattle.atspi_arena.proofs.Shown.{rows, seen, Becomes, becomes}
 use Rattle.atspi_arena.proofs.Inserted.{node_of}
 
 no_forest : (f : Forest (Node Row)) → rows f ≡ nil → f ≡ nil

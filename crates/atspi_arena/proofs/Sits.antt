@@ -13,7 +13,7 @@ use Rattle.atspi_arena.specs.Table.{look_in, parent_in, is_this, is_child_at, si
 use Rattle.atspi_arena.specs.Arena.{IsArena, rows_of}
 use Rattle.atspi_arena.specs.declared.cell.Cell.{Cell}
 use Rattle.atspi_arena.specs.declared.paths.Paths.{Paths}
-use Rattle.atspi_arena.proofs.Seen.{rows, seen}
+use Rattle.atspi_arena.proofs.Shown.{rows, seen}
 use Rattle.atspi_arena.proofs.Inserted.{Alike, one_test, key_once, not_known}
 
 -- what a place calls a parent
@@ -32,7 +32,7 @@ here (x ∷ xs) zero key e =
     let z : cond {A = ℕ} (x == key) 1 0 ≡ 1 = ap (λ b. cond {A = ℕ} b 1 0) (eq-eqb x key same) in omega arith
 here (x ∷ xs) (suc i) key e = let z = here xs i key e in omega arith
 
-one_place : (xs : List ℕ) (i j key : ℕ) → slice_get xs i ≡ Some key → slice_get xs j ≡ Some key → times key xs ≤ 1 → i ≡ j
+pub one_place : (xs : List ℕ) (i j key : ℕ) → slice_get xs i ≡ Some key → slice_get xs j ≡ Some key → times key xs ≤ 1 → i ≡ j
 one_place [] i j key e f l = cc
 one_place (x ∷ xs) zero zero key e f l = refl
 one_place (x ∷ xs) zero (suc j) key e f l =
@@ -45,7 +45,7 @@ one_place (x ∷ xs) (suc i) zero key e f l =
     let y = here xs i key e in absurd (omega arith)
 one_place (x ∷ xs) (suc i) (suc j) key e f l = ap suc (one_place xs i j key e f (omega arith))
 
-times_keys : (key : ℕ) (f : Forest (Node Row)) → times key (keys f) ≤ count (is_key key) f
+pub times_keys : (key : ℕ) (f : Forest (Node Row)) → times key (keys f) ≤ count (is_key key) f
 times_keys key nil = omega arith
 times_keys key (tree a c r) = let z = times_keys key r in omega arith
 

@@ -6,12 +6,14 @@ ghost use Rattle.std.specs.HashMap.{get_by_text};
 ghost use Rattle.atspi_forest.specs.Forest.{change, find, has, nil, pick, put_in, take_out, tree};
 ghost use Rattle.atspi_forest.specs.News.{is_path, is_seat_at, seat_in, spot};
 ghost use Rattle.atspi_arena.specs.Change.{changed};
+ghost use Rattle.atspi_arena.specs.Sights.{sights};
 ghost use Rattle.atspi_arena.specs.Table.{is_among};
 ghost use Rattle.atspi_forest.specs.Laws.{EachPathOnce};
 
 use crate::cell::{Cell, change_row, relink, subtree};
 use crate::change::Change;
 use crate::paths::{Paths, insert_below, parent_of, put_root, remove_subtree, sits};
+use crate::rows::{Rows, rows_from};
 use atspi_base::NoMemory;
 use atspi_forest::Row;
 use atspi_types::Path;
@@ -148,6 +150,13 @@ impl Arena {
             Some(key) => sits(&self.cells, parent, place, key),
             None => false,
         }
+    }
+
+    /// The rows in preorder. Takes no memory.
+    pub fn rows(&self) -> Rows
+        ensures { result ≡ sights self.now }
+    {
+        rows_from(&self.cells, &self.paths)
     }
 
     /// Whether a row is there that is neither that of the path nor below it. `Err` comes for want of memory.

@@ -6,6 +6,8 @@ mod arena;
 mod cell;
 mod change;
 mod paths;
+mod rows;
 
 pub use arena::{Arena, spot};
 pub use change::Change;
+pub use rows::{Rows, Seen};

@@ -2,7 +2,7 @@ use Rattle.std.proofs.Common.{sym, ◌∙◌}
 use Rattle.atspi_forest.specs.Forest.{change}
 use Rattle.atspi_forest.specs.News.{is_path}
 use Rattle.atspi_arena.specs.Change.{changed}
-use Rattle.atspi_arena.proofs.Seen.{Becomes}
+use Rattle.atspi_arena.proofs.Shown.{Becomes}
 use Rattle.atspi_arena.proofs.Inserted.{not_known}
 use Rattle.atspi_arena.proofs.Changed.{changed_arena, change-none}
 use Rattle.atspi_arena.proofs.arena.Arena.change.Goals as goal

@@ -2,7 +2,7 @@ use Rattle.std.proofs.Common.{Some, None, ap, sym, ◌∙◌}
 use Rattle.std.specs.Option.{option_map}
 use Rattle.atspi_arena.specs.Arena.{row_in}
 use Rattle.atspi_arena.specs.Table.{kept}
-use Rattle.atspi_arena.proofs.Seen.{find_row, paths_once}
+use Rattle.atspi_arena.proofs.Shown.{find_row, paths_once}
 use Rattle.atspi_arena.proofs.arena.Arena.find.Goals as goal
 
 pub returns-in-Some-get-clause-found : goal.returns-in-Some-get-clause-found

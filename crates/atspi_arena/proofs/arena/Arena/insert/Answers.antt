@@ -5,7 +5,7 @@ use Rattle.atspi_base.specs.declared.NoMemory.{NoMemory}
 use Rattle.atspi_forest.specs.Forest.{nil, tree, put_in}
 use Rattle.atspi_forest.specs.News.{is_path}
 use Rattle.atspi_forest.proofs.Seats.{put_in-none}
-use Rattle.atspi_arena.proofs.Seen.{Becomes}
+use Rattle.atspi_arena.proofs.Shown.{Becomes}
 use Rattle.atspi_arena.proofs.Inserted.{inserted, refused, not_known, key_there, on_ok, on_err, by_result, ok_is, err_is}
 use Rattle.atspi_arena.proofs.arena.Arena.insert.Goals as goal
 

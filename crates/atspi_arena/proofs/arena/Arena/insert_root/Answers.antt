@@ -3,7 +3,7 @@ use Rattle.std.specs.declared.result.Result.{Result}
 use Rattle.std.specs.declared.result.Result.TheVariants.{Ok, Err}
 use Rattle.atspi_base.specs.declared.NoMemory.{NoMemory}
 use Rattle.atspi_forest.specs.Forest.{nil, tree}
-use Rattle.atspi_arena.proofs.Seen.{Becomes}
+use Rattle.atspi_arena.proofs.Shown.{Becomes}
 use Rattle.atspi_arena.proofs.Inserted.{refused, on_ok, on_err, by_result, ok_is, err_is}
 use Rattle.atspi_arena.proofs.Rooted.{rooted}
 use Rattle.atspi_arena.proofs.arena.Arena.insert_root.Goals as goal

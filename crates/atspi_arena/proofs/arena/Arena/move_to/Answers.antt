@@ -6,7 +6,7 @@ use Rattle.atspi_base.specs.declared.NoMemory.{NoMemory}
 use Rattle.atspi_forest.specs.Forest.{put_in, pick, take_out}
 use Rattle.atspi_forest.specs.News.{is_path}
 use Rattle.atspi_arena.specs.Table.{look_in, parent_in}
-use Rattle.atspi_arena.proofs.Seen.{Becomes}
+use Rattle.atspi_arena.proofs.Shown.{Becomes}
 use Rattle.atspi_arena.proofs.Inserted.{refused, key_there, not_there, on_ok, on_err, by_result, ok_is, err_is}
 use Rattle.atspi_arena.proofs.Removed.{there_is}
 use Rattle.atspi_arena.proofs.Moved.{moved_arena, has_left, no_parent, apart, own_parent}

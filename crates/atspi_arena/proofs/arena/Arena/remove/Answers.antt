@@ -3,7 +3,7 @@ use Rattle.atspi_forest.specs.Forest.{take_out}
 use Rattle.atspi_forest.specs.News.{is_path}
 use Rattle.atspi_forest.proofs.Found.{take_out-none}
 use Rattle.atspi_arena.specs.Table.{look_in, parent_in}
-use Rattle.atspi_arena.proofs.Seen.{Becomes}
+use Rattle.atspi_arena.proofs.Shown.{Becomes}
 use Rattle.atspi_arena.proofs.Inserted.{not_known, key_there, key_once}
 use Rattle.atspi_arena.proofs.Removed.{removed, there_is}
 use Rattle.atspi_arena.proofs.arena.Arena.remove.Goals as goal
