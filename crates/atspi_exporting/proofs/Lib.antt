@@ -3,3 +3,6 @@ pub mod Queued
 pub mod Quiet
 pub mod Answered
 pub mod Rising
+pub mod Signed
+pub mod Applying
+pub mod Staying

@@ -1,10 +1,23 @@
 -- What holds of an application at any time.
-use Rattle.std.specs.Prelude.{◌≡◌, ◌==◌, ◌||◌, ℕ, zero, suc, ◌+◌, List, [], ◌∷◌, ◌++◌, Option, None, Some, Result, Ok, Err, if◌then◌else◌}
+use Rattle.std.specs.Prelude.{◌≡◌, ◌==◌, ◌||◌, ℕ, zero, suc, ◌+◌, List, [], ◌∷◌, ◌++◌, Option, None, Some, Result, Ok, Err, codes, if◌then◌else◌}
+use Rattle.atspi_types.specs.Data.{Data, type_of}
+use Rattle.atspi_types.specs.Signatures.{type_bytes}
 use Rattle.atspi_forest.specs.declared.edit.Edit.{Edit}
 use Rattle.atspi_forest.specs.declared.edit.EditFault.{EditFault}
+use Rattle.atspi_forest.specs.Row.{TreeRow, Each, IsName}
+use Rattle.atspi_forest.specs.RowRules.{rows}
+use Rattle.atspi_forest.specs.Tree.{IsTree, AllApply}
+use Rattle.atspi_forest.specs.Edits.{IsEdit}
 use Rattle.atspi_message.specs.Envelope.{Envelope}
-use Rattle.atspi_ends.specs.Messages.{expects_reply}
-use Rattle.atspi_exporting.specs.Exporter.{Happening, steps, sends, hears, deaf, Exporter}
+use Rattle.atspi_ends.specs.Messages.{Reply, returns, fails, expects_reply}
+use Rattle.atspi_members.specs.declared.member.ObjectMember.TheVariants.{GetItems}
+use Rattle.atspi_members.specs.declared.property.ObjectProperty.{ObjectProperty}
+use Rattle.atspi_members.specs.Table.{MemberLine, PropertyLine, property_lines, accessible_lines, application_lines, text_lines, editable_text_lines, selection_lines, table_lines, action_lines}
+use Rattle.atspi_members.specs.Asked.{calls, gets, gets_all, signature_of}
+use Rattle.atspi_objects.specs.Application.{Application}
+use Rattle.atspi_objects.specs.Properties.{property_data}
+use Rattle.atspi_objects.specs.Answers.{called, node_answers, tree_answers, answer}
+use Rattle.atspi_exporting.specs.Exporter.{Happening, steps, sends, hears, deaf, Exporter, begins}
 use Rattle.atspi_exporting.specs.Taking.{app_takes, app_edits}
 
 -- the returns and errors among what happens, and the numbers of all messages
@@ -57,3 +70,41 @@ CountsIfDone s (Err fault) = Unit {0}
 pub record NumbersRise : Type 0 where
   pub taken : (s : Exporter) (e : Envelope) → Counts s (app_takes s e)
   pub edited : (s : Exporter) (edit : Edit) → CountsIfDone s (app_edits s edit)
+
+-- The steps of an answer apply, each to the tree after those before it.
+abbrev pub AnswersApply : Type 0
+AnswersApply =
+    (a : Application) (path : List ℕ) (interface member : Option (List ℕ)) (body : List Data) → IsTree rows a.tree a.added
+    → AllApply rows a.tree a.added (answer a path interface member body).steps
+
+-- it has a tree
+abbrev pub HasTree : Exporter → Type 0
+HasTree s = IsTree rows s.tree s.added
+
+abbrev pub HasTreeIfDone : Result Exporter EditFault → Type 0
+HasTreeIfDone (Ok s) = HasTree s
+HasTreeIfDone (Err fault) = Unit {0}
+
+-- A tree stays a tree, whatever message comes, and at every edit that can be asked for.
+pub record TreesStay : Type 0 where
+  pub begins : (name : List ℕ) → IsName name → HasTree (begins name)
+  pub taken : (s : Exporter) (e : Envelope) → HasTree s → HasTree (app_takes s e)
+  pub edited : (s : Exporter) (edit : Edit) → HasTree s → IsEdit edit → HasTreeIfDone (app_edits s edit)
+
+-- a reply has these values' signature, if it has values
+abbrev pub HasSignature : List ℕ → Reply → Type 0
+HasSignature signature (returns values) = signature_of values ≡ signature
+HasSignature signature (fails word) = ⊥
+
+-- the members that a node has
+abbrev pub node_lines : List MemberLine
+node_lines =
+    accessible_lines ++ application_lines ++ text_lines ++ editable_text_lines ++ selection_lines ++ table_lines ++ action_lines
+
+-- Each member of a node is answered with values of the signature that the table names, and each property has its type there.
+pub record SignaturesAreKept : Type 0 where
+  pub members : Each (λ (l : MemberLine). (a : Application) (row : TreeRow) (body : List Data) → HasSignature l.gives (called a row l.member body).reply) node_lines
+  pub properties : Each (λ (l : PropertyLine). (a : Application) (row : TreeRow) → type_bytes (type_of (property_data a row l.property)) ≡ l.type) property_lines
+  pub got : (a : Application) (row : TreeRow) (property : ObjectProperty) → HasSignature (codes "v") (node_answers a row (gets property)).reply
+  pub got_all : (a : Application) (row : TreeRow) (lines : List PropertyLine) → HasSignature (codes "a{sv}") (node_answers a row (gets_all lines)).reply
+  pub items : (a : Application) (body : List Data) → HasSignature (codes "a((so)(so)(so)iiassusau)") (tree_answers a (calls GetItems body)).reply

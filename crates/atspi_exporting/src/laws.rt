@@ -1,6 +1,6 @@
 //! Laws of applications, over the definitions that the contracts of the application, the world and the theory of traces cite.
 
-ghost use Rattle.atspi_exporting.specs.Laws.{EachCallIsAnswered, NumbersRise};
+ghost use Rattle.atspi_exporting.specs.Laws.{AnswersApply, EachCallIsAnswered, NumbersRise, SignaturesAreKept, TreesStay};
 
 /// Every call that expects a reply gets exactly one return or error, to its sender and with its serial; nothing else is one.
 pub fn each_call_is_answered()
@@ -10,4 +10,15 @@ pub fn each_call_is_answered()
 /// The numbers of an application's messages rise by one.
 pub fn numbers_rise()
     ensures { NumbersRise }
+{}
+
+/// The steps of a call apply to the tree, and so a tree stays a tree whatever comes.
+pub fn trees_stay()
+    ensures steps { AnswersApply }
+    ensures trees { TreesStay }
+{}
+
+/// Each member is answered with values of the signature that the table names.
+pub fn signatures_are_kept()
+    ensures { SignaturesAreKept }
 {}
