@@ -1,0 +1,4 @@
+pub mod Keys
+pub mod Due
+pub mod Chains
+pub mod Within

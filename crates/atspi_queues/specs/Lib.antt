@@ -1,0 +1,5 @@
+pub mod Once
+pub mod DueList
+pub mod Change
+pub mod QueueMap
+pub mod Held
