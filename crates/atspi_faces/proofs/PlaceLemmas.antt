@@ -1,6 +1,6 @@
 -- Characters in their bytes: where a text may be cut, and what the cuts are.
 use Rattle.std.proofs.Common.{◌≡◌, ℕ, zero, suc, ◌+◌, ◌-◌, ◌<◌, ◌≤◌, List, [], ◌∷◌, ◌++◌, length, take, drop, Bool, true, false, ◌&&◌, Option, Some, None, MatchOption, Result, Ok, Err, OnOk, OnErr, chars, IsUtf8, encode_utf8_all, encode_utf8, refl, sym, ap, subst, ◌∙◌, arith, add-one, length-append}
-use Rattle.std.proofs.lemmas.List.{take-append-drop, take_at, drop_at, append_assoc, append_cancel_left, append-nil, nil_from_length, length-take-le, length-drop, drop-drop}
+use Rattle.std.proofs.lemmas.List.{take-append-drop, take_at, drop_at, append_assoc, append_cancel_left, append-nil, take_all, nil_from_length, length-take-le, length-drop, drop-drop}
 use Rattle.std.proofs.lemmas.Str.{chars-encodes, encodes-append, encodes-chars, scalars-chars, length-le-encodes, chars-append, cons_from_encodes, IsCharBoundary-from_take, IsUtf8-append, IsUtf8-nil, chars-nil}
 use Rattle.std.proofs.Math.Seq.{take-add}
 use Rattle.std.specs.Str.{all_scalars, IsCharBoundary}
@@ -66,6 +66,9 @@ cut_ascii bs n u same le =
     let ft : length (take n cs) ≡ n = length-take-le n cs le in
     let bd : length (drop n cs) ≡ length cs - n = length-drop n cs in
     cut_behind bs n n u (omega (arith, ap length (parts bs n u), length-append front back))
+
+pub cut_end : (bs : List ℕ) (n : ℕ) → IsUtf8 bs → n ≡ length (chars bs) → CutAt bs n (length bs)
+cut_end bs n u e = cut_behind bs n (length bs) u (ap length (sym (encodes-chars bs u)) ∙ ap (λ l. length (encode_utf8_all l)) (sym (take_all n (chars bs) (omega (arith, e)))))
 
 -- the walk over characters: what it has passed, and what is left
 pub record Walked (bs : List ℕ) (n : ℕ) (rest : List ℕ) : Type 0 where
@@ -244,6 +247,10 @@ done (Err e) p q never = absurd (never q)
 pub done_unless : {T E P : Type 0} (r : Result T E) (b : Bool) → OnOk r P → b ≡ is_err r → b ≡ false → P
 done_unless (Ok x) b p e f = p
 done_unless (Err x) b p e f = absurd cc
+
+pub undone : {T E P : Type 0} (r : Result T E) (b : Bool) → OnErr r P → b ≡ is_err r → b ≡ true → P
+undone (Ok x) b p e f = absurd cc
+undone (Err x) b p e f = p
 
 pub len_is : {Z : Type 0} (s : String Z) → string_len s ≡ length (string_bytes s)
 len_is s = (string_vec s).ok.0

@@ -4,5 +4,7 @@ pub mod Places
 pub mod Columns
 pub mod Actions
 pub mod Plain
+pub mod Sides
+pub mod Run
 pub mod Gap
 pub mod Gapped

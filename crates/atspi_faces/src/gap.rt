@@ -3,10 +3,11 @@
 ghost use Rattle.std.specs.Prelude.{◌≡◌, ◌+◌, ◌-◌, ◌≤◌, ◌<◌, ◌++◌, length, take, drop, chars, OnOk, OnErr, IfOk, IsUtf8};
 ghost use Rattle.atspi_base.specs.Text.{HasNoZero};
 ghost use Rattle.atspi_faces.specs.Places.{CutAt};
-ghost use Rattle.atspi_faces.specs.Gap.{text_of, IsGapped, IsPart};
+ghost use Rattle.atspi_faces.specs.Gap.{text_of, IsPart, AreKept};
 
 use crate::buffer::Buffer;
-use crate::run::byte_of;
+use crate::side::{Place, Side, move_gap};
+use crate::walk::byte_of;
 use atspi_base::{NoMemory, Text, TextFault};
 use std::alloc::Global;
 use std::marker::Model;
@@ -17,19 +18,19 @@ use std::str::from_utf8_unchecked;
 #[derive(Drop)]
 pub struct Gap {
     buffer: Buffer,
-    before: u32,
-    behind: u32,
+    front: Side,
+    back: Side,
 }
 
 impl Model for Gap {
     ghost use Rattle.std.specs.Prelude.{ℕ, List};
-    ghost use Rattle.atspi_faces.specs.Gap.{text_of, IsGapped};
+    ghost use Rattle.atspi_faces.specs.Gap.{text_of, AreKept};
 
     ghost Value = { List ℕ };
 
     ghost view = { λ g. text_of g.buffer };
 
-    ghost invariant = { λ g. IsGapped g.buffer g.before g.behind };
+    ghost invariant = { λ g. AreKept g.buffer g.front g.back };
 }
 
 /// Bytes that are known to be UTF-8, as a text.
@@ -42,20 +43,25 @@ fn as_text(bytes: &[u8]) -> &str
 }
 
 /// Moves the gap to the character at a place.
-fn go_to(buffer: &mut Buffer, before: u32, behind: u32, at: u32)
-    requires gapped { IsGapped buffer.old before behind }
-    requires within { at ≤ before + behind }
-    ensures gapped { IsGapped buffer.new at (before + behind - at) }
+fn go_to(buffer: &mut Buffer, front: &mut Side, back: &mut Side, at: u32)
+    requires kept { AreKept buffer.old front.old back.old }
+    requires within { at ≤ front.old.end.chars + back.old.end.chars }
+    ensures kept { AreKept buffer.new front.new back.new }
+    ensures at { front.new.end.chars ≡ at }
     ensures front { chars buffer.new.0 ≡ take at (text_of buffer.old) }
     ensures back { chars buffer.new.1 ≡ drop at (text_of buffer.old) }
     ensures bytes { length buffer.new.0 + length buffer.new.1 ≡ length buffer.old.0 + length buffer.old.1 }
 {
-    if at <= before {
-        let place = byte_of(as_text(buffer.front()), before, at);
-        buffer.move_left(place);
+    let gap = front.end;
+    if at <= gap.chars {
+        let bytes = front.byte_of(as_text(buffer.front()), at);
+        move_gap(front, back, Place { chars: at, bytes });
+        buffer.move_left(bytes);
     } else {
-        let place = byte_of(as_text(buffer.back()), behind, at - before);
-        buffer.move_right(place);
+        let len = back.byte_behind(as_text(buffer.back()), at - gap.chars);
+        let bytes = gap.bytes + len;
+        move_gap(front, back, Place { chars: at, bytes });
+        buffer.move_right(len);
     }
 }
 
@@ -65,12 +71,16 @@ impl Gap {
         ensures ok { IfOk result (λ gap. gap ≡ text.now) }
         ensures counted { IfOk result (λ gap. length gap < 4294967296) }
     {
-        let before = text.count();
-        let buffer = Buffer::copy_of(alloc, text.as_str().as_bytes())?;
+        let chars = text.count();
+        let text = text.as_str();
+        let buffer = Buffer::copy_of(alloc, text.as_bytes())?;
+        let bytes = text.len();
+        let mut front = Side::new(alloc);
+        front.grow(text, Place { chars, bytes });
         Ok(Gap {
             buffer,
-            before,
-            behind: 0,
+            front,
+            back: Side::new(alloc),
         })
     }
 
@@ -78,7 +88,7 @@ impl Gap {
     pub fn count(&self) -> u32
         ensures { result ≡ length self.now }
     {
-        self.before + self.behind
+        self.front.end.chars + self.back.end.chars
     }
 
     /// The characters from one place up to another. `Err` comes for want of memory.
@@ -87,17 +97,19 @@ impl Gap {
         requires within { to ≤ length self.now }
         ensures { IfOk result (λ text. text ≡ take (to - from) (drop from self.now)) }
     {
-        let front = piece(
-            self.buffer.front(),
-            self.before,
-            from.min(self.before),
-            to.min(self.before),
-        );
+        let before = self.front.end.chars;
+        let (front, back) = (self.buffer.front(), self.buffer.back());
+        let at = from.min(before);
+        let start = self.front.byte_of(as_text(front), at);
+        let front = piece(front, before, at, start, to.min(before));
+        let at = from.saturating_sub(before);
+        let start = self.back.byte_behind(as_text(back), at);
         let back = piece(
-            self.buffer.back(),
-            self.behind,
-            from.saturating_sub(self.before),
-            to.saturating_sub(self.before),
+            back,
+            self.back.end.chars,
+            at,
+            start,
+            to.saturating_sub(before),
         );
         let mut bytes = Vec::with_capacity(alloc, front.len() + back.len())?;
         bytes.extend_from_slice(front)?;
@@ -124,11 +136,12 @@ impl Gap {
             return Err(NoMemory);
         }
         let count = more.count();
-        go_to(&mut self.buffer, self.before, self.behind, at);
-        self.behind = self.before + self.behind - at;
-        self.before = at;
+        go_to(&mut self.buffer, &mut self.front, &mut self.back, at);
         self.buffer.put(alloc, text.as_bytes())?;
-        self.before += count;
+        let front = as_text(self.buffer.front());
+        let bytes = front.len();
+        let chars = at + count;
+        self.front.grow(front, Place { chars, bytes });
         Ok(())
     }
 
@@ -137,18 +150,18 @@ impl Gap {
         requires { at + len ≤ length self.old }
         ensures { self.new ≡ take at self.old ++ drop (at + len) self.old }
     {
-        go_to(&mut self.buffer, self.before, self.behind, at);
-        self.behind = self.before + self.behind - at;
-        self.before = at;
-        let place = byte_of(as_text(self.buffer.back()), self.behind, len);
-        self.buffer.cut(place);
-        self.behind -= len;
+        go_to(&mut self.buffer, &mut self.front, &mut self.back, at);
+        let bytes = self.back.byte_behind(as_text(self.buffer.back()), len);
+        let left = self.back.end.without(Place { chars: len, bytes });
+        self.back.shorten(left);
+        self.buffer.cut(bytes);
     }
 }
 
-/// The bytes of the characters from one place up to another.
-fn piece(bytes: &[u8], count: u32, from: u32, to: u32) -> &[u8]
+/// The bytes of the characters from one place, whose byte is known, up to another.
+fn piece(bytes: &[u8], count: u32, from: u32, start: usize, to: u32) -> &[u8]
     requires part { IsPart bytes.now count }
+    requires start { CutAt bytes.now from start }
     requires ordered { from ≤ to }
     requires within { to ≤ count }
     ensures utf8 { IsUtf8 result.now }
@@ -156,7 +169,6 @@ fn piece(bytes: &[u8], count: u32, from: u32, to: u32) -> &[u8]
     ensures chars { chars result.now ≡ take (to - from) (drop from (chars bytes.now)) }
     ensures len { length result.now ≤ length bytes.now }
 {
-    let start = byte_of(as_text(bytes), count, from);
     let rest = &bytes[start..];
     let len = byte_of(as_text(rest), count - from, to - from);
     &rest[..len]

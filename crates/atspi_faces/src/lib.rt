@@ -11,6 +11,8 @@ mod kept;
 mod plain;
 mod run;
 mod selections;
+mod side;
+mod walk;
 
 pub use actions::{Actions, Deeds};
 pub use columns::{Columns, Grid};

@@ -1,8 +1,9 @@
 //! A run of characters that can be edited: bytes in memory, characters in contracts.
 
 ghost use Rattle.std.specs.Prelude.{◌≡◌, ◌+◌, ◌-◌, ◌≤◌, ◌<◌, ◌++◌, length, take, drop, chars, OnOk, OnErr, IfOk};
-ghost use Rattle.atspi_faces.specs.Places.{CutAt};
 
+use crate::side::{Place, Side, byte_in, move_gap};
+use crate::walk::byte_of;
 use atspi_base::{NoMemory, Text, TextFault};
 use std::alloc::Global;
 use std::marker::Model;
@@ -11,42 +12,19 @@ use std::marker::Model;
 #[derive(Drop)]
 pub struct Run {
     string: String,
-    count: u32,
+    front: Side,
+    back: Side,
 }
 
 impl Model for Run {
     ghost use Rattle.std.specs.Prelude.{ℕ, List, chars, string_bytes};
-    ghost use Rattle.atspi_faces.specs.Places.{IsCounted};
+    ghost use Rattle.atspi_faces.specs.Run.{IsRun};
 
     ghost Value = { List ℕ };
 
     ghost view = { λ r. chars (string_bytes r.string) };
 
-    ghost invariant = { λ r. IsCounted (string_bytes r.string) r.count };
-}
-
-/// At which byte the character at a place begins. A text of one byte a character needs no look.
-pub fn byte_of(text: &str, count: u32, at: u32) -> usize
-    requires counted { count ≡ length (chars text.now) }
-    requires within { at ≤ count }
-    ensures { CutAt text.now at result }
-{
-    if text.len() == count as usize {
-        return at as usize;
-    }
-    skip(text, at)
-}
-
-/// How many bytes the first characters take.
-fn skip(text: &str, n: u32) -> usize
-    requires { n ≤ length (chars text.now) }
-    ensures { CutAt text.now n result }
-{
-    let mut rest = text.chars();
-    for _i in 0..n {
-        let _ = rest.next();
-    }
-    text.len() - rest.as_str().len()
+    ghost invariant = { λ r. IsRun (string_bytes r.string) r.front r.back };
 }
 
 impl Run {
@@ -55,10 +33,16 @@ impl Run {
         ensures ok { IfOk result (λ run. run ≡ text.now) }
         ensures counted { IfOk result (λ run. length run < 4294967296) }
     {
-        let count = text.count();
+        let chars = text.count();
+        let text = text.as_str();
+        let string = String::from_str(alloc, text)?;
+        let bytes = text.len();
+        let mut front = Side::new(alloc);
+        front.grow(text, Place { chars, bytes });
         Ok(Run {
-            string: String::from_str(alloc, text.as_str())?,
-            count,
+            string,
+            front,
+            back: Side::new(alloc),
         })
     }
 
@@ -66,7 +50,7 @@ impl Run {
     pub fn count(&self) -> u32
         ensures { result ≡ length self.now }
     {
-        self.count
+        self.front.end.chars + self.back.end.chars
     }
 
     /// The characters from one place up to another. `Err` comes for want of memory.
@@ -75,9 +59,9 @@ impl Run {
         requires within { to ≤ length self.now }
         ensures { IfOk result (λ text. text ≡ take (to - from) (drop from self.now)) }
     {
-        let start = byte_of(&self.string, self.count, from);
+        let start = byte_in(&self.string, &self.front, &self.back, from);
         let rest = &self.string[start..];
-        let len = byte_of(rest, self.count - from, to - from);
+        let len = byte_of(rest, self.count() - from, to - from);
         match Text::read(alloc, &rest.as_bytes()[..len]) {
             Ok(text) => Ok(text),
             Err(TextFault::NoMemory) => Err(NoMemory),
@@ -98,12 +82,19 @@ impl Run {
         if u32::MAX as usize - self.string.len() < text.len() {
             return Err(NoMemory);
         }
-        let place = byte_of(&self.string, self.count, at);
-        let count = more.count();
-        if self.string.insert_str(place, text).is_err() {
+        let start = byte_in(&self.string, &self.front, &self.back, at);
+        let chars = at + more.count();
+        let bytes = start + text.len();
+        if self.string.insert_str(start, text).is_err() {
             return Err(NoMemory);
         }
-        self.count += count;
+        let gap = Place {
+            chars: at,
+            bytes: start,
+        };
+        move_gap(&mut self.front, &mut self.back, gap);
+        self.front
+            .grow(&self.string[..bytes], Place { chars, bytes });
         Ok(())
     }
 
@@ -112,9 +103,15 @@ impl Run {
         requires { at + len ≤ length self.old }
         ensures { self.new ≡ take at self.old ++ drop (at + len) self.old }
     {
-        let start = byte_of(&self.string, self.count, at);
-        let bytes = byte_of(&self.string[start..], self.count - at, len);
+        let start = byte_in(&self.string, &self.front, &self.back, at);
+        let gap = Place {
+            chars: at,
+            bytes: start,
+        };
+        move_gap(&mut self.front, &mut self.back, gap);
+        let bytes = self.back.byte_behind(&self.string[start..], len);
+        let left = self.back.end.without(Place { chars: len, bytes });
+        self.back.shorten(left);
         let _ = self.string.replace_range(start..start + bytes, "");
-        self.count -= len;
     }
 }

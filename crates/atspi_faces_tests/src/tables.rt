@@ -36,6 +36,16 @@ pub enum Call<'a> {
     /// The next node from one on.
     Next(u32, Option<u32>),
     Close(u32),
+    /// Opens a node with so many characters, columns or actions, whichever the face keeps.
+    Alike(u32, u32),
+    /// As Alike, refused because the node is here.
+    AlikeAgain(u32, u32),
+    /// The face keeps contents of that kind.
+    Kind(FaceKind),
+    /// Opens the node with actions, whose names stand between spaces.
+    Actions(&'a str),
+    /// There is no such part.
+    NoPart(u32, u32),
 }
 
 /// A text of at most 8 MiB.
@@ -77,6 +87,11 @@ fn step(rt: &impl Abort, alloc: Global, face: &mut Box<dyn Face>, call: Call) ->
         Call::Selections(len, last) => expect_selections(rt, face, len, last),
         Call::Next(from, wanted) => expect_next(rt, face, from, wanted),
         Call::Close(node) => close(face, node),
+        Call::Alike(node, n) => alike(rt, alloc, face, node, n, true),
+        Call::AlikeAgain(node, n) => alike(rt, alloc, face, node, n, false),
+        Call::Kind(wanted) => expect_kind(rt, face, wanted),
+        Call::Actions(names) => actions(rt, alloc, face, names),
+        Call::NoPart(from, to) => expect_no_part(rt, face, from, to),
     }
 }
 
@@ -232,35 +247,71 @@ pub fn longest(
     )
 }
 
-/// Opens a node with contents of another kind than texts.
-pub fn put_kept(rt: &impl Abort, face: &mut Box<dyn Face>, node: u32, what: FaceData) {
+/// Opens a node with contents of the face's kind, where that is wanted to be done.
+fn alike(
+    rt: &impl Abort,
+    alloc: Global,
+    face: &mut Box<dyn Face>,
+    node: u32,
+    n: u32,
+    wanted: bool,
+) -> Result<(), Fail> {
+    let what = contents(alloc, face.kind(), n)?;
     let done = put(face, node, what).is_ok();
-    assert!(rt; done);
+    assert_eq!(rt; done, wanted);
+    Ok(())
 }
 
-/// A face of column counts.
-pub fn columns(rt: &impl Abort, face: &mut Box<dyn Face>) {
-    assert!(rt; matches!(face.kind(), FaceKind::Grid));
-    put_kept(rt, face, 0, FaceData::Grid(3));
-    put_kept(rt, face, 4_294_967_295, FaceData::Grid(1024));
-    assert_eq!(rt; face.count(0), 3);
-    assert_eq!(rt; face.count(1), 0);
-    assert_eq!(rt; face.next_node(1), Some(4_294_967_295));
-    face.drop_node(0);
-    assert_eq!(rt; face.count(0), 0);
+/// Contents of a kind: so many characters of two bytes, columns, or actions.
+fn contents(alloc: Global, kind: FaceKind, n: u32) -> Result<FaceData, Fail> {
+    match kind {
+        FaceKind::Chars => chars(alloc, n),
+        FaceKind::Grid => Ok(FaceData::Grid(n)),
+        FaceKind::Deeds => deeds(alloc, n),
+    }
 }
 
-/// A face of actions.
-pub fn actions(rt: &impl Abort, alloc: Global, face: &mut Box<dyn Face>) -> Result<(), Fail> {
-    assert!(rt; matches!(face.kind(), FaceKind::Deeds));
+fn chars(alloc: Global, n: u32) -> Result<FaceData, Fail> {
+    let mut bytes = Vec::new(alloc);
+    for _ in 0..n {
+        bytes.extend_from_slice("ß".as_bytes())?;
+    }
+    let text = text(alloc, &bytes)?;
+    let marks = Marks::new(alloc);
+    let caret = 0;
+    Ok(FaceData::Chars { text, caret, marks })
+}
+
+fn deeds(alloc: Global, n: u32) -> Result<FaceData, Fail> {
     let mut names = Texts::new(alloc);
-    names.push(text(alloc, "click".as_bytes())?)?;
-    names.push(text(alloc, "drücken".as_bytes())?)?;
-    put_kept(rt, face, NODE, FaceData::Deeds(names));
-    expect_count(rt, face, 2)?;
-    expect_part(rt, face, 1, 0, "drücken")?;
-    expect_part(rt, face, 0, 0, "click")?;
-    let none = part(face, NODE, 2, 3)?.is_none();
+    for _ in 0..n {
+        names.push(text(alloc, "click".as_bytes())?)?;
+    }
+    Ok(FaceData::Deeds(names))
+}
+
+fn expect_kind(rt: &impl Abort, face: &Box<dyn Face>, wanted: FaceKind) -> Result<(), Fail> {
+    assert_eq!(rt; face.kind(), wanted);
+    Ok(())
+}
+
+fn actions(
+    rt: &impl Abort,
+    alloc: Global,
+    face: &mut Box<dyn Face>,
+    names: &str,
+) -> Result<(), Fail> {
+    let mut list = Texts::new(alloc);
+    for name in names.split(' ') {
+        list.push(text(alloc, name.as_bytes())?)?;
+    }
+    let done = put(face, NODE, FaceData::Deeds(list)).is_ok();
+    assert!(rt; done);
+    Ok(())
+}
+
+fn expect_no_part(rt: &impl Abort, face: &Box<dyn Face>, from: u32, to: u32) -> Result<(), Fail> {
+    let none = part(face, NODE, from, to)?.is_none();
     assert!(rt; none);
     Ok(())
 }

@@ -1,6 +1,0 @@
-use Rattle.std.proofs.Common.{◌∙◌, arith}
-use Rattle.atspi_faces.proofs.PlaceLemmas.{cut_ascii}
-use Rattle.atspi_faces.proofs.run.byte_of.Goals as goal
-
-pub returns-then-text-count : goal.returns-then-text-count
-returns-then-text-count c = cut_ascii _ _ c.utf8.text (c.if-text-count.true ∙ c.requires.counted) (omega arith)
