@@ -1,7 +1,7 @@
--- Contents that the worked examples speak of.
+-- Contents and nodes that the worked examples speak of.
 use Rattle.std.specs.Prelude.{ℕ, List, [], ◌∷◌, codes}
 use Rattle.std.specs.Ordering.{nat_cmp}
-use Rattle.std.specs.FinMap.{from_entries}
+use Rattle.std.specs.FinMap.{from_sorted}
 use Rattle.atspi_forest.specs.declared.contents.FaceData.{FaceData}
 use Rattle.atspi_forest.specs.declared.contents.FaceData.TheVariants.{Chars, Grid, Deeds}
 use Rattle.atspi_face.specs.Nodes.{Nodes}
@@ -10,8 +10,19 @@ use Rattle.atspi_face.specs.Nodes.{Nodes}
 abbrev pub hello : FaceData
 hello = Chars (104 ∷ 233 ∷ 108 ∷ 108 ∷ 111 ∷ []) 2 ((1, 3) ∷ [])
 
+-- ab with the caret at its end
+abbrev pub short : FaceData
+short = Chars (97 ∷ 98 ∷ []) 2 []
+
 abbrev pub columns : FaceData
 columns = Grid 3
 
 abbrev pub actions : FaceData
 actions = Deeds (codes "click" ∷ codes "press" ∷ [])
+
+-- nodes 3 and 7 have texts, and no other node has
+abbrev pub texts : List (ℕ × FaceData)
+texts = (3, hello) ∷ (7, short) ∷ []
+
+abbrev pub two : Nodes
+two = from_sorted texts

@@ -1,5 +1,5 @@
 -- Characters in their bytes.
-use Rattle.std.specs.Prelude.{◌≡◌, ℕ, ◌+◌, ◌≤◌, List, length, take, drop, chars, IsUtf8}
+use Rattle.std.specs.Prelude.{◌≡◌, ℕ, ◌≤◌, List, length, take, drop, chars, IsUtf8}
 use Rattle.atspi_base.specs.Text.{IsTextBytes}
 
 -- the bytes are those of a text with so many characters

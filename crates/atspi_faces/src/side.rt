@@ -11,7 +11,7 @@ use std::alloc::Global;
 const STEP: u32 = 256;
 
 /// A place in a text, from one of its ends on: so many characters, which take so many bytes.
-#[derive(Clone, Copy, Drop)]
+#[derive(Clone, Copy)]
 pub struct Place {
     pub chars: u32,
     pub bytes: usize,
@@ -72,7 +72,7 @@ impl Side {
         self.end = left;
     }
 
-    /// Leaves so much of the side, and gives the rest to the other side of the gap.
+    /// Leaves so much of the side, and gives the rest to the other side of the gap. The place where the gap was is noted where none is near.
     fn give(&mut self, other: &mut Side, left: Place)
         requires chars_fit { self.old.end.chars + other.old.end.chars < 2 ^ 32 }
         requires bytes_fit { self.old.end.bytes + other.old.end.bytes < 2 ^ 32 }
@@ -97,6 +97,7 @@ impl Side {
         ensures place { (cs : List ℕ) → IsSide cs self.now → IsPlace cs result }
     {
         let n = self.places.partition_point(|place| place.chars <= at);
+        // that places rise is known of a side of a text alone, so the place that was found is looked at
         if n == 0 || at < self.places[n - 1].chars {
             return Place::START;
         }
