@@ -1,2 +1,5 @@
 pub mod Plain
 pub mod Effects
+pub mod ViewLemmas
+pub mod LoadLemmas
+pub mod NameLemmas

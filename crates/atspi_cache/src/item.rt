@@ -1,14 +1,15 @@
 //! What an item says of a row.
 
-ghost use Rattle.std.specs.Prelude.{◌≡◌, ◌∷◌, ℕ, List, bytes_eq, codes, true};
+ghost use Rattle.std.specs.Prelude.{◌≡◌, ◌∷◌, ℕ, List, bytes_eq, codes, true, IfOk};
 ghost use Rattle.atspi_forest.specs.News.{fresh, kinds_of, offers, unknown_number_if, unknown_text_if};
 ghost use Rattle.atspi_forest.specs.View.{kinds_number};
 ghost use Rattle.atspi_cache.specs.Plain.{is_plain};
 
 use atspi_arena::Change;
-use atspi_base::{Text, Texts};
+use atspi_base::{NoMemory, Text, Texts};
 use atspi_forest::{Item, Kinds, NumPart, Part, Row};
 use atspi_types::Path;
+use std::alloc::Global;
 
 /// Whether a text has just these characters of ASCII.
 fn is_word(text: &Text, word: &str) -> bool
@@ -133,4 +134,25 @@ pub(crate) fn fresh(item: Item) -> (Path, i32, Row)
             columns: unknown_number_if(kinds.table),
         },
     )
+}
+
+/// The row of a node that was not known.
+pub(crate) fn row_of(alloc: Global, item: &Item) -> Result<Row, NoMemory>
+    ensures { IfOk result (λ row. row ≡ fresh item.now) }
+{
+    let kinds = kinds_of(item.interfaces.as_slice());
+    let path = item.object.path.copy(alloc)?;
+    let name = item.name.copy(alloc)?;
+    let description = item.description.copy(alloc)?;
+    Ok(Row {
+        path,
+        name,
+        description,
+        role: item.role,
+        states: item.states,
+        faces: bits(kinds),
+        text: unknown_text_if(kinds.text),
+        caret: unknown_number_if(kinds.text),
+        columns: unknown_number_if(kinds.table),
+    })
 }

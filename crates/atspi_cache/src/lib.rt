@@ -1,8 +1,15 @@
-//! What a reader keeps of the applications that it holds. Here: what each news makes of the rows of one.
+//! What a reader keeps of the applications that it holds: the rows of each, as loads and news made them.
 #![tactic(auto)]
 
+mod cache;
 mod edits;
 mod item;
+pub mod laws;
+mod load;
 mod news;
+mod spoken;
 
+pub use atspi_arena::{Rows, Seen};
+pub use cache::Cache;
 pub use news::{fold, marks_reload};
+pub use spoken::{closing, lines};

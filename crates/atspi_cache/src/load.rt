@@ -1,0 +1,42 @@
+//! The rows of a list of items.
+
+ghost use Rattle.std.specs.Prelude.{◌≡◌, false, None, OnOk, OnErr, IfOk};
+ghost use Rattle.atspi_forest.specs.Forest.{has, nil, put_in, tree};
+ghost use Rattle.atspi_forest.specs.News.{fresh, is_path, load};
+
+use crate::item::row_of;
+use atspi_arena::Arena;
+use atspi_base::{NoMemory, Text};
+use atspi_forest::Item;
+use atspi_load::reached_items;
+use atspi_types::Path;
+use std::alloc::Global;
+
+/// Puts the row of an item behind the other children of its parent.
+fn put_last(alloc: Global, rows: &mut Arena, item: &Item) -> Result<(), NoMemory>
+    requires is_new { has (is_path item.now.object.path) rows.old ≡ false }
+    ensures ok { OnOk result (rows.new ≡ put_in (is_path item.now.parent.path) None (tree (fresh item.now) nil nil) rows.old) }
+{
+    rows.insert(&item.parent.path, None, row_of(alloc, item)?)
+}
+
+/// The rows of a list of items. Work is n log n.
+pub(crate) fn load(
+    alloc: Global,
+    root: &Path,
+    bus: &Text,
+    items: &[Item],
+) -> Result<Arena, NoMemory>
+    ensures { IfOk result (λ rows. rows ≡ load root.now bus.now items.now) }
+{
+    let reached = reached_items(alloc, root, bus, items)?;
+    let mut rows = Arena::new(alloc);
+    let Some((first, others)) = reached.split_first() else {
+        return Ok(rows);
+    };
+    rows.insert_root(row_of(alloc, *first)?)?;
+    for item in others {
+        put_last(alloc, &mut rows, *item)?;
+    }
+    Ok(rows)
+}
