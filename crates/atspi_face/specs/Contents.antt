@@ -1,5 +1,5 @@
 -- The contents of one node, and what a change makes of them.
-use Rattle.std.specs.Prelude.{◌≡◌, ℕ, ◌+◌, ◌-◌, ◌≤◌, ◌<◌, List, [], ◌∷◌, ◌++◌, length, take, drop, slice_index_or}
+use Rattle.std.specs.Prelude.{◌≡◌, ℕ, ◌+◌, ◌-◌, ◌≤◌, ◌<◌, List, [], ◌++◌, length, take, drop, slice_index_or}
 use Rattle.atspi_forest.specs.declared.contents.FaceKind.{FaceKind}
 use Rattle.atspi_forest.specs.declared.contents.FaceKind.TheVariants.{Chars as chars_kind, Grid as grid_kind, Deeds as deeds_kind}
 use Rattle.atspi_forest.specs.declared.contents.FaceData.{FaceData}

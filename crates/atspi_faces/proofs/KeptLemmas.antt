@@ -1,12 +1,12 @@
 -- The two sides of a gap after it was moved, and after characters were put in before it or taken out behind it.
-use Rattle.std.proofs.Common.{◌≡◌, ℕ, ◌+◌, ◌-◌, ◌<◌, ◌≤◌, List, [], ◌++◌, length, take, drop, reverse, chars, IsUtf8, refl, sym, ap, subst, ◌∙◌, arith, length-append}
+use Rattle.std.proofs.Common.{◌≡◌, ℕ, ◌+◌, ◌-◌, ◌<◌, ◌≤◌, List, [], ◌++◌, length, take, drop, reverse, chars, IsUtf8, sym, ap, subst, ◌∙◌, arith, length-append}
 use Rattle.std.specs.List.{replace_range}
-use Rattle.std.proofs.lemmas.List.{append_assoc, take_at, drop_at, drop-drop, length-take-le, length-drop}
+use Rattle.std.proofs.lemmas.List.{append_assoc, take_at, drop_at, drop-drop, length-take-le}
 use Rattle.std.proofs.lemmas.Str.{chars-append, IsUtf8-append, chars-nil}
 use Rattle.atspi_faces.specs.declared.side.Place.{Place}
 use Rattle.atspi_faces.specs.declared.side.Side.{Side}
 use Rattle.atspi_faces.specs.Places.{CutAt, IsCounted}
-use Rattle.atspi_faces.specs.Sides.{size, IsPlace, AreNoted, IsSide, AreSides}
+use Rattle.atspi_faces.specs.Sides.{IsPlace, AreNoted, IsSide, AreSides}
 use Rattle.atspi_faces.specs.Gap.{text_of, IsGapped, AreKept}
 use Rattle.atspi_faces.specs.Run.{IsRun}
 use Rattle.atspi_faces.proofs.PlaceLemmas.{inserted, removed, removed_counted, count_fits}

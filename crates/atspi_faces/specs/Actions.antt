@@ -1,5 +1,5 @@
 -- Names of actions as contents.
-use Rattle.std.specs.Prelude.{◌≤◌, refl}
+use Rattle.std.specs.Prelude.{refl}
 use Rattle.std.proofs.Common.{arith}
 use Rattle.atspi_forest.specs.declared.contents.FaceData.{FaceData}
 use Rattle.atspi_forest.specs.declared.contents.FaceData.TheVariants.{Deeds}

@@ -1,5 +1,5 @@
 -- A count of columns as contents.
-use Rattle.std.specs.Prelude.{◌≤◌, refl}
+use Rattle.std.specs.Prelude.{refl}
 use Rattle.std.proofs.Common.{arith}
 use Rattle.atspi_forest.specs.declared.contents.FaceData.{FaceData}
 use Rattle.atspi_forest.specs.declared.contents.FaceData.TheVariants.{Grid}

@@ -1,6 +1,7 @@
 //! Types characters into a long text, so that the time of a change can be measured (bench/faces.sh): `LENGTH TYPED` types
 //! TYPED characters into a text of LENGTH, at one place, at the end and at random places, of characters of one byte and of
-//! two, for each face of texts. Standard error has how long a change took.
+//! two, for each face of texts, and then reads as many parts of one character at random places. Standard error has how long a
+//! change and such a part took.
 #![tactic(auto)]
 
 ghost use Rattle.std.specs.Prelude.{◌<◌, ◌≤◌};
@@ -8,11 +9,11 @@ ghost use Rattle.std.specs.Prelude.{◌<◌, ◌≤◌};
 use anyhow::{Result, anyhow, bail, ensure};
 use atspi_base::{Marks, Text};
 use atspi_face::{Change, Face, FaceData};
-use atspi_face_guarded::{change, put};
+use atspi_face_guarded::{change, part, put};
 use atspi_faces::{GapText, PlainText};
 use std::alloc::Global;
 use std::env;
-use std::time::Instant;
+use std::time::{Duration, Instant};
 
 /// How many characters the text has, and how many are typed.
 #[derive(Clone, Copy)]
@@ -65,6 +66,9 @@ fn run(rt: &HostRuntime, size: Size) -> Result<()>
             let mut gap = GapText::new(rt.alloc());
             let gap_time = measure(rt, &mut gap, unit, places, size)?;
             eprintln!(rt; "{unit} {name}: plain {plain_time} ns, gap {gap_time} ns a change")?;
+            let plain_time = read(rt, &plain, size)?;
+            let gap_time = read(rt, &gap, size)?;
+            eprintln!(rt; "{unit} after it: plain {plain_time} ns, gap {gap_time} ns a part")?;
         }
     }
     Ok(())
@@ -119,9 +123,7 @@ fn measure<F: Face>(
     let mut seed = 42u64;
     let start = Instant::now(rt)?;
     for typed in 0..size.typed {
-        seed = seed
-            .wrapping_mul(6364136223846793005)
-            .wrapping_add(1442695040888963407);
+        seed = after(seed);
         let text = text_of(alloc, unit, 1)?;
         let what = Change::Insert {
             at: place(places, size, seed, typed),
@@ -130,10 +132,38 @@ fn measure<F: Face>(
         let made = change(face, 1, &what)?;
         ensure!(made, "a change was not made");
     }
-    let time = start.elapsed(rt)?;
+    Ok(each(start.elapsed(rt)?, size.typed))
+}
+
+/// How many nanoseconds a part of one character at a random place takes.
+fn read<F: Face>(rt: &HostRuntime, face: &F, size: Size) -> Result<u64>
+    requires length { 0 < size.length }
+    requires most { size.length ≤ 1000000 }
+    requires typed { 0 < size.typed }
+{
+    let mut seed = 1u64;
+    let start = Instant::now(rt)?;
+    for _ in 0..size.typed {
+        seed = after(seed);
+        let at = (seed >> 33) as u32 % size.length;
+        ensure!(part(face, 1, at, at + 1)?.is_some(), "no such part");
+    }
+    Ok(each(start.elapsed(rt)?, size.typed))
+}
+
+/// The next number of the generator.
+fn after(seed: u64) -> u64 {
+    seed.wrapping_mul(6364136223846793005)
+        .wrapping_add(1442695040888963407)
+}
+
+/// A time in nanoseconds, shared out.
+fn each(time: Duration, count: u32) -> u64
+    requires { 0 < count }
+{
     let nanos = time
         .as_secs()
         .saturating_mul(1_000_000_000)
         .saturating_add(u64::from(time.subsec_nanos()));
-    Ok(nanos / u64::from(size.typed))
+    nanos / u64::from(count)
 }

@@ -1,4 +1,4 @@
-use Rattle.std.proofs.Common.{◌≡◌, ℕ, Bool, true, false, Option, None, IsSome, refl, subst, sym, arith}
+use Rattle.std.proofs.Common.{◌≡◌, ℕ, true, false, None, IsSome, refl, subst, sym, arith}
 use Rattle.std.specs.FinMap.{get}
 use Rattle.atspi_face.specs.Examples.{two}
 use Rattle.atspi_face.proofs.Known.{get_two, elsewhere}

@@ -1,4 +1,4 @@
-use Rattle.std.proofs.Common.{reverse, subst, sym}
+use Rattle.std.proofs.Common.{reverse, subst}
 use Rattle.std.proofs.lemmas.List.{reverse-reverse}
 use Rattle.atspi_faces.specs.Sides.{AreSides}
 use Rattle.atspi_faces.proofs.SideLemmas.{mirrored, totals, turned}

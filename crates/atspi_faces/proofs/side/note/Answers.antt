@@ -1,4 +1,4 @@
-use Rattle.std.proofs.Common.{◌≡◌, ◌+◌, length, chars, arith}
+use Rattle.std.proofs.Common.{◌+◌, chars, arith}
 use Rattle.std.specs.Result.{is_ok}
 use Rattle.atspi_faces.specs.Sides.{IsPlace}
 use Rattle.atspi_faces.specs.declared.side.Place.{Place}

@@ -1,4 +1,4 @@
-use Rattle.std.proofs.Common.{ℕ, List, ◌≤◌, reverse, vec_len}
+use Rattle.std.proofs.Common.{ℕ, List, reverse, vec_len}
 use Rattle.atspi_faces.specs.Sides.{AreNoted}
 use Rattle.atspi_faces.proofs.side.shed.Given as goal
 

@@ -1,5 +1,4 @@
-use Rattle.std.proofs.Common.{ℕ, ◌-◌, reverse, arith}
-use Rattle.atspi_faces.specs.Sides.{AreSpread}
+use Rattle.std.proofs.Common.{◌-◌, reverse, arith}
 use Rattle.atspi_faces.proofs.SideLemmas.{mirrored, noted_wider, put_noted}
 use Rattle.atspi_faces.proofs.side.spill.Goals as goal
 

@@ -1,4 +1,4 @@
-use Rattle.std.proofs.Common.{◌++◌, drop, ap, ◌∙◌, arith}
+use Rattle.std.proofs.Common.{◌++◌, drop, ap, ◌∙◌}
 use Rattle.atspi_faces.proofs.BufferLemmas.{moved_left, at_most}
 use Rattle.atspi_faces.proofs.buffer.Buffer.move_left.Goals as goal
 

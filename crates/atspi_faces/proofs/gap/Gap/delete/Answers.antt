@@ -3,7 +3,6 @@ use Rattle.std.proofs.lemmas.List.{length-drop}
 use Rattle.atspi_faces.specs.declared.side.Place.{Place}
 use Rattle.atspi_faces.specs.Gap.{text_of}
 use Rattle.atspi_faces.proofs.PlaceLemmas.{cut_same}
-use Rattle.atspi_faces.proofs.GapLemmas.{gapped_count}
 use Rattle.atspi_faces.proofs.KeptLemmas.{kept_cut}
 use Rattle.atspi_faces.proofs.gap.Gap.delete.Goals as goal
 

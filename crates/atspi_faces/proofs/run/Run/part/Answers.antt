@@ -1,4 +1,4 @@
-use Rattle.std.proofs.Common.{◌≡◌, ℕ, List, Ok, ◌+◌, ◌-◌, take, drop, chars, string_bytes, sym, ap, ◌∙◌}
+use Rattle.std.proofs.Common.{◌+◌, ◌-◌, take, drop, string_bytes, sym, ap, ◌∙◌}
 use Rattle.atspi_base.specs.ReadsText.{text_in}
 use Rattle.atspi_faces.proofs.PlaceLemmas.{boundary, cut_same, part_reads, not_zero, not_utf8, reads_so}
 use Rattle.atspi_faces.proofs.run.Run.part.Goals as goal
