@@ -1,0 +1,3 @@
+-- The lemmas of the laws.
+pub mod Faces
+pub mod Followed
