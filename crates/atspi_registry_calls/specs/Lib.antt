@@ -1,0 +1,3 @@
+pub mod Object
+pub mod Arguments
+pub mod Ask

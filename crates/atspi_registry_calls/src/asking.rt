@@ -1,0 +1,114 @@
+//! What a call asks of the registry, or the error that it gets.
+
+ghost use Rattle.std.specs.Prelude.{◌≡◌, ℕ, List, bytes_eq, chars};
+ghost use Rattle.atspi_header.specs.View.{envelope_at};
+ghost use Rattle.atspi_registering.specs.RegistryState.{RegistryState};
+ghost use Rattle.atspi_registering.specs.Answers.{object_at};
+ghost use Rattle.atspi_registering.specs.Steps.{answer_to};
+ghost use Rattle.atspi_members.specs.Asked as asked;
+ghost use Rattle.atspi_registry_calls.specs.Object.{object_of};
+ghost use Rattle.atspi_registry_calls.specs.Ask.{ask_answer, IsProperty, AreProperties, refusal_of};
+
+use crate::arguments::{first_reference, first_signed, first_text, second_text};
+use crate::ask::Ask;
+use crate::member::member_of;
+use crate::object::{ACCESSIBLE, RegistryObject, object_at};
+use atspi_ends::CallError;
+use atspi_header::MessageRef;
+use atspi_members::ObjectMember;
+
+/// Whether a text is the word.
+fn is_word(text: &str, word: &str) -> bool
+    ensures { result ≡ bytes_eq text.now word.now }
+{
+    text == word
+}
+
+/// The property of an object, by the names of its interface and of itself.
+fn property(object: RegistryObject, interface: &str, name: &str) -> Result<Ask<'static>, CallError>
+    ensures { IsProperty result (asked.property_of (object_of object) (chars interface.now) (chars name.now)) }
+{
+    if !object.has(interface) {
+        return Err(CallError::UnknownInterface);
+    }
+    if !is_word(interface, ACCESSIBLE) {
+        return Err(CallError::UnknownProperty);
+    }
+    if is_word(name, "Name") {
+        return Ok(Ask::Name);
+    }
+    if is_word(name, "ChildCount") {
+        return Ok(Ask::ChildCount);
+    }
+    Err(CallError::UnknownProperty)
+}
+
+/// All properties of an interface of an object.
+fn properties(object: RegistryObject, interface: &str) -> Result<Ask<'static>, CallError>
+    ensures { AreProperties result (asked.properties_of (object_of object) (chars interface.now)) }
+{
+    if !object.has(interface) {
+        return Err(CallError::UnknownInterface);
+    }
+    if is_word(interface, ACCESSIBLE) {
+        return Ok(Ask::AllProperties);
+    }
+    Ok(Ask::NoProperties)
+}
+
+/// Why a property cannot be set: it is none, or it can only be read.
+fn refusal(property: Result<Ask, CallError>) -> CallError
+    ensures { result ≡ refusal_of property.entry }
+{
+    match property {
+        Ok(_) => CallError::PropertyReadOnly,
+        Err(error) => error,
+    }
+}
+
+/// What a call of a member asks.
+fn of_member<'a>(
+    object: RegistryObject,
+    member: ObjectMember,
+    m: &MessageRef<'a>,
+) -> Result<Ask<'a>, CallError>
+    ensures { (s : RegistryState) (own caller : List ℕ) → answer_to s own caller (asked.asked_by (object_of object) (envelope_at m.now).body member) ≡ ask_answer result s own caller }
+{
+    match member {
+        ObjectMember::RegisterEvent => Ok(Ask::Register(first_text(m.body))),
+        ObjectMember::DeregisterEvent => Ok(Ask::Deregister(first_text(m.body))),
+        ObjectMember::GetRegisteredEvents => Ok(Ask::Registered),
+        ObjectMember::Embed => match first_reference(m.body) {
+            Some((name, path)) => Ok(Ask::Embed(name, path)),
+            None => Ok(Ask::Embed("", "")),
+        },
+        ObjectMember::Unembed => match first_reference(m.body) {
+            Some((name, path)) => Ok(Ask::Unembed(name, path)),
+            None => Ok(Ask::Unembed("", "")),
+        },
+        ObjectMember::GetChildren => Ok(Ask::Children),
+        ObjectMember::GetChildAtIndex => Ok(Ask::ChildAt(first_signed(m.body))),
+        ObjectMember::GetRole => Ok(Ask::Role),
+        ObjectMember::GetRoleName => Ok(Ask::RoleName),
+        ObjectMember::Get => property(object, first_text(m.body), second_text(m.body)),
+        ObjectMember::GetAll => properties(object, first_text(m.body)),
+        ObjectMember::Set => Err(refusal(property(
+            object,
+            first_text(m.body),
+            second_text(m.body),
+        ))),
+        ObjectMember::Ping => Ok(Ask::Ping),
+        _ => Err(CallError::UnknownMethod),
+    }
+}
+
+/// What a call asks of the registry's objects, or the error that it gets (AT-SPI2's registry and socket interfaces).
+pub fn asked<'a>(m: &MessageRef<'a>) -> Result<Ask<'a>, CallError>
+    ensures { (s : RegistryState) (own caller : List ℕ) → answer_to s own caller (asked.asked (object_at (envelope_at m.now).path) (envelope_at m.now).interface (envelope_at m.now).member (envelope_at m.now).body) ≡ ask_answer result s own caller }
+{
+    let Some(object) = object_at(m.path) else {
+        return Err(CallError::UnknownObject);
+    };
+    let member = member_of(object, m)?;
+    of_member(object, member, m)
+}
