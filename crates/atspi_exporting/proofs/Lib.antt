@@ -6,3 +6,4 @@ pub mod Rising
 pub mod Signed
 pub mod Applying
 pub mod Staying
+pub mod Typed

@@ -1,9 +1,11 @@
 -- What holds of an application at any time.
 use Rattle.std.specs.Prelude.{◌≡◌, ◌==◌, ◌||◌, ℕ, zero, suc, ◌+◌, List, [], ◌∷◌, ◌++◌, Option, None, Some, Result, Ok, Err, codes, if◌then◌else◌}
-use Rattle.atspi_types.specs.Data.{Data, type_of}
+use Rattle.atspi_types.specs.Data.{Data, type_of, items_of, AreWellTyped}
 use Rattle.atspi_types.specs.Signatures.{type_bytes}
 use Rattle.atspi_forest.specs.declared.edit.Edit.{Edit}
 use Rattle.atspi_forest.specs.declared.edit.EditFault.{EditFault}
+use Rattle.atspi_forest.specs.declared.step.Step.{Step}
+use Rattle.atspi_forest.specs.Forest.{Forest}
 use Rattle.atspi_forest.specs.Row.{TreeRow, Each, IsName}
 use Rattle.atspi_forest.specs.RowRules.{rows}
 use Rattle.atspi_forest.specs.Tree.{IsTree, AllApply}
@@ -17,6 +19,8 @@ use Rattle.atspi_members.specs.Asked.{calls, gets, gets_all, signature_of}
 use Rattle.atspi_objects.specs.Application.{Application}
 use Rattle.atspi_objects.specs.Properties.{property_data}
 use Rattle.atspi_objects.specs.Answers.{called, node_answers, tree_answers, answer}
+use Rattle.atspi_announcing.specs.Signals.{Signal}
+use Rattle.atspi_announcing.specs.Announced.{announced}
 use Rattle.atspi_exporting.specs.Exporter.{Happening, steps, sends, hears, deaf, Exporter, begins}
 use Rattle.atspi_exporting.specs.Taking.{app_takes, app_edits}
 
@@ -108,3 +112,16 @@ pub record SignaturesAreKept : Type 0 where
   pub got : (a : Application) (row : TreeRow) (property : ObjectProperty) → HasSignature (codes "v") (node_answers a row (gets property)).reply
   pub got_all : (a : Application) (row : TreeRow) (lines : List PropertyLine) → HasSignature (codes "a{sv}") (node_answers a row (gets_all lines)).reply
   pub items : (a : Application) (body : List Data) → HasSignature (codes "a((so)(so)(so)iiassusau)") (tree_answers a (calls GetItems body)).reply
+
+-- the values of a reply, and of a signal, are well typed
+abbrev pub IsTypedReply : Reply → Type 0
+IsTypedReply (returns values) = AreWellTyped (items_of values)
+IsTypedReply (fails word) = Unit {0}
+
+abbrev pub IsTypedSignal : Signal → Type 0
+IsTypedSignal s = AreWellTyped (items_of s.message.body)
+
+-- Whatever is asked, and whatever the step, what an application says is well typed.
+pub record WordsAreTyped : Type 0 where
+  pub answers : (a : Application) (path : List ℕ) (interface member : Option (List ℕ)) (body : List Data) → IsTypedReply (answer a path interface member body).reply
+  pub signals : (bus : List ℕ) (f : Forest TreeRow) (step : Step) → Each IsTypedSignal (announced bus f step)

@@ -1,6 +1,6 @@
 //! Laws of applications, over the definitions that the contracts of the application, the world and the theory of traces cite.
 
-ghost use Rattle.atspi_exporting.specs.Laws.{AnswersApply, EachCallIsAnswered, NumbersRise, SignaturesAreKept, TreesStay};
+ghost use Rattle.atspi_exporting.specs.Laws.{AnswersApply, EachCallIsAnswered, NumbersRise, SignaturesAreKept, TreesStay, WordsAreTyped};
 
 /// Every call that expects a reply gets exactly one return or error, to its sender and with its serial; nothing else is one.
 pub fn each_call_is_answered()
@@ -21,4 +21,9 @@ pub fn trees_stay()
 /// Each member is answered with values of the signature that the table names.
 pub fn signatures_are_kept()
     ensures { SignaturesAreKept }
+{}
+
+/// What an application says is well typed, whatever it is asked.
+pub fn words_are_typed()
+    ensures { WordsAreTyped }
 {}
