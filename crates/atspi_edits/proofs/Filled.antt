@@ -1,12 +1,14 @@
 -- A tree of shapes is the shape of a whole tree; so the steps of an edit that reads no contents apply to a tree of shapes,
 -- one after another.
 use Rattle.std.proofs.Common.{◌≡◌, ◌==◌, ◌≤◌, ℕ, Bool, true, false, cond, not, Option, Some, None, List, [], ◌∷◌, length, refl, sym, ap, ◌∙◌, subst, arith}
-use Rattle.std.specs.Prelude.{Result, Ok, is_some}
+use Rattle.std.specs.Prelude.{Result, Ok, Err, IfOk, is_some}
 use Rattle.atspi_forest.specs.declared.contents.FaceData.TheVariants.{Deeds}
 use Rattle.atspi_forest.specs.declared.contents.Kinds.{Kinds}
 use Rattle.atspi_forest.specs.declared.edit.Edit.{Edit}
 use Rattle.atspi_forest.specs.declared.edit.Edit.TheVariants.{Insert, Remove, Move, Name, Describe, Role, State, Focus, Put, Keys, Cut, Caret, Mark, Unmark, Select, Deselect, Press, Relate, Unrelate}
+use Rattle.atspi_forest.specs.declared.contents.FaceData.{FaceData}
 use Rattle.atspi_forest.specs.declared.step.Step.{Step}
+use Rattle.atspi_forest.specs.declared.step.StepList.{StepList}
 use Rattle.atspi_forest.specs.Edits.{IsEdit, contents_read, steps_of}
 use Rattle.atspi_forest.specs.Forest.{Forest, nil, tree, count, has, relabel, EachLabel}
 use Rattle.atspi_forest.specs.Row.{ShapeRow, TextContents, Contents, TreeRow, HoldsIfThere, IsShape, IsText, IsColumns, IsContents}
@@ -18,7 +20,8 @@ use Rattle.atspi_forest.proofs.Labels.{each_relabel, each_weaker}
 use Rattle.atspi_forest.proofs.Relabel.{count-relabel, has-relabel, relabel-relabel}
 use Rattle.atspi_forest.proofs.ShapeOf.{shape_after, shape_applies}
 use Rattle.atspi_tree.specs.TreeShape.{TreeShape, IsLawful}
-use Rattle.atspi_edits.specs.Answers.{ReadsNone, edit_steps}
+use Rattle.atspi_edits.specs.declared.fault.EditRefused.{EditRefused}
+use Rattle.atspi_edits.specs.Answers.{GivesSteps, ReadsNone, edit_steps}
 
 some_text : Bool → Option TextContents
 some_text true = Some (record { characters = []; caret = 0; selections = [] })
@@ -122,3 +125,31 @@ shape_steps_apply t edit steps lawful w plain h =
     subst (λ g. AllApply shapes g t.added steps) back
     (all_shapes f t.added steps (steps_apply f t.added edit steps (filled_tree t.rows t.added lawful) w
     (ap (λ g. steps_of g t.added (contents_read f edit) edit) back ∙ (ap (λ known. steps_of t.rows t.added known edit) (reads_none f edit plain) ∙ h))))
+
+-- the steps of such an edit are the same, whatever is known
+plain_steps : (t : TreeShape) (known : FaceData) (edit : Edit) → ReadsNone edit → edit_steps t known edit ≡ edit_steps t (Deeds []) edit
+plain_steps t known (Insert p i seed) h = refl
+plain_steps t known (Remove n) h = refl
+plain_steps t known (Move n p i) h = refl
+plain_steps t known (Name n x) h = refl
+plain_steps t known (Describe n x) h = refl
+plain_steps t known (Role n x) h = refl
+plain_steps t known (State n s on) h = refl
+plain_steps t known (Focus n) h = refl
+plain_steps t known (Select n i) h = refl
+plain_steps t known (Deselect n i) h = refl
+plain_steps t known (Relate n kind m) h = refl
+plain_steps t known (Unrelate n kind m) h = refl
+plain_steps t known (Put n at x) h = absurd h
+plain_steps t known (Keys n x) h = absurd h
+plain_steps t known (Cut n from to) h = absurd h
+plain_steps t known (Caret n at) h = absurd h
+plain_steps t known (Mark n from to) h = absurd h
+plain_steps t known (Unmark n) h = absurd h
+plain_steps t known (Press n i) h = absurd h
+
+-- so the steps that are told apply
+pub told_apply : (t : TreeShape) (known : FaceData) (edit : Edit) (result : Result StepList EditRefused) → IsLawful t → IsEdit edit → GivesSteps result (edit_steps t known edit)
+    → ReadsNone edit → IfOk result (AllApply shapes t.rows t.added)
+told_apply t known edit (Ok steps) lawful w gives plain = shape_steps_apply t edit steps lawful w plain (sym (plain_steps t known edit plain) ∙ gives)
+told_apply t known edit (Err fault) lawful w gives plain = tt

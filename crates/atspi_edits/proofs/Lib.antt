@@ -4,3 +4,4 @@ pub mod Switched
 pub mod Deeds
 pub mod TextParts
 pub mod Filled
+pub mod Tests

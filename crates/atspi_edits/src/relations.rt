@@ -1,10 +1,7 @@
 //! The steps of edits of a node's relations.
 
-ghost use Rattle.std.specs.Prelude.{◌≡◌, ◌==◌, ◌||◌, ◌++◌, ◌∷◌, [], nat_lt, not, true, filter, IfOk};
-ghost use Rattle.atspi_forest.specs.Edits.{first_fault, is_among, lacks_node, node_targets};
-ghost use Rattle.atspi_forest.specs.Forest.{find, has};
-ghost use Rattle.atspi_forest.specs.Row.{targets_of};
-ghost use Rattle.atspi_forest.specs.Tree.{is_shape};
+ghost use Rattle.std.specs.Prelude.{◌≡◌, ◌==◌, ◌||◌, ◌++◌, ◌∷◌, [], nat_lt, not, filter, IfOk};
+ghost use Rattle.atspi_forest.specs.Edits.{first_fault, is_among, lacks_node};
 ghost use Rattle.atspi_forest.specs.declared.contents.FaceData.{FaceData};
 ghost use Rattle.atspi_forest.specs.declared.edit.Edit.TheVariants.{Relate, Unrelate};
 ghost use Rattle.atspi_forest.specs.declared.step.Step.TheVariants.{Relate as RelateStep};
@@ -29,26 +26,6 @@ fn relation_fault(tree: &Tree, node: u32, kind: u32, target: u32) -> Option<Edit
         return Some(EditFault::BadIndex);
     }
     None
-}
-
-/// The targets of one kind among relations.
-fn of_kind(alloc: Global, relations: &[(u32, u32)], kind: u32) -> Result<Vec<u32>, NoMemory>
-    ensures { IfOk result (λ v. v.items ≡ targets_of kind relations.now) }
-{
-    let targets = relations
-        .iter()
-        .filter(|r| r.0 == kind)
-        .map(|r| r.1)
-        .collect(alloc)?;
-    Ok(targets)
-}
-
-/// The targets of a node's relation.
-fn targets(alloc: Global, tree: &Tree, node: u32, kind: u32) -> Result<Vec<u32>, NoMemory>
-    requires { has (is_shape node) tree.now.rows ≡ true }
-    ensures { IfOk result (λ v. v.items ≡ node_targets kind (find (is_shape node) tree.now.rows)) }
-{
-    of_kind(alloc, tree.relations(node), kind)
 }
 
 /// Whether a number is in a list.
@@ -76,8 +53,8 @@ pub(crate) fn relate(
     if let Some(fault) = relation_fault(tree, node, kind, target) {
         return Err(EditRefused::Refused(fault));
     }
-    let targets = targets(alloc, tree, node, kind)?;
-    if is_among(&targets, target) {
+    let targets = tree.targets(node, kind);
+    if is_among(targets, target) {
         return Ok(StepList::new(alloc));
     }
     Ok(more(alloc, node, kind, targets, target)?)
@@ -88,12 +65,12 @@ fn more(
     alloc: Global,
     node: u32,
     kind: u32,
-    targets: Vec<u32>,
+    targets: &[u32],
     target: u32,
 ) -> Result<StepList, NoMemory>
-    ensures { IfOk result (λ steps. steps ≡ RelateStep node kind (targets.items ++ target ∷ []) ∷ []) }
+    ensures { IfOk result (λ steps. steps ≡ RelateStep node kind (targets.now ++ target ∷ []) ∷ []) }
 {
-    let mut targets = Nums::from_vec(targets);
+    let mut targets = Nums::from_vec(targets.to_vec(alloc)?);
     targets.push(target)?;
     one_step(
         alloc,
@@ -118,11 +95,11 @@ pub(crate) fn unrelate(
     if let Some(fault) = relation_fault(tree, node, kind, target) {
         return Err(EditRefused::Refused(fault));
     }
-    let targets = targets(alloc, tree, node, kind)?;
-    if !is_among(&targets, target) {
+    let targets = tree.targets(node, kind);
+    if !is_among(targets, target) {
         return Ok(StepList::new(alloc));
     }
-    Ok(less(alloc, node, kind, &targets, target)?)
+    Ok(less(alloc, node, kind, targets, target)?)
 }
 
 /// The step of one target less.

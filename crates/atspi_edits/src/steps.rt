@@ -1,7 +1,10 @@
 //! The steps of an edit.
 
+ghost use Rattle.std.specs.Prelude.{IfOk};
 ghost use Rattle.atspi_forest.specs.Edits.{IsEdit};
-ghost use Rattle.atspi_edits.specs.Answers.{GivesSteps, IsKnown, edit_steps};
+ghost use Rattle.atspi_forest.specs.RowRules.{shapes};
+ghost use Rattle.atspi_forest.specs.Tree.{AllApply};
+ghost use Rattle.atspi_edits.specs.Answers.{GivesSteps, IsKnown, ReadsNone, edit_steps};
 
 use crate::actions::press;
 use crate::children::{deselect, select};
@@ -20,8 +23,25 @@ use std::alloc::Global;
 
 /// The steps of an edit, or the first reason to refuse it. Of the contents of the edit's node those are handed in that the
 /// edit reads: the text for the edits of a text, the actions for `Press`, and no actions where it reads none or the node
-/// has none. An edit to what is there already has no step. Memory is wanted only for an edit that is not refused.
+/// has none. An edit to what is there already has no step. Memory is wanted only for an edit that is not refused. The steps of
+/// an edit that reads no contents can be done one after another.
 pub fn steps_of(
+    alloc: Global,
+    tree: &Tree,
+    edit: &Edit,
+    known: &FaceData,
+) -> Result<StepList, EditRefused>
+    requires lawful { IsEdit edit.now }
+    requires known { IsKnown known.now }
+    ensures exact { GivesSteps result (edit_steps tree.now known.now edit.now) }
+    ensures apply { ReadsNone edit.now → IfOk result (AllApply shapes tree.now.rows tree.now.added) }
+{
+    tree.is_lawful();
+    steps_by_kind(alloc, tree, edit, known)
+}
+
+/// The same, by the kind of the edit.
+fn steps_by_kind(
     alloc: Global,
     tree: &Tree,
     edit: &Edit,

@@ -1,14 +1,13 @@
 //! How many steps an edit makes, or the first reason to refuse it.
 
-ghost use Rattle.std.specs.Prelude.{IfOk, IsTrue};
+ghost use Rattle.std.specs.Prelude.{IfOk};
 ghost use Rattle.atspi_forest.specs.Edits.{IsEdit};
-ghost use Rattle.atspi_tree.specs.Calls.{IsEditSoFar};
-ghost use Rattle.atspi_edits.specs.Answers.{IsKnown};
+ghost use Rattle.atspi_edits.specs.Answers.{IsKnown, ReadsNone};
 
 use atspi_base::{Marks, Text, Texts};
 use atspi_edits::{EditRefused, steps_of};
 use atspi_forest::{Edit, EditFault, FaceData, Seed};
-use atspi_tree::{Tree, TreeFault};
+use atspi_tree::Tree;
 use std::alloc::Global;
 use std::process::Abort;
 use std::test::Fail;
@@ -16,22 +15,27 @@ use std::test::Fail;
 /// A text of so many letters.
 pub(crate) fn letters(alloc: Global, count: usize) -> Result<Text, Fail> {
     let bytes = vec![in alloc; b'a'; count]?;
-    if bytes.len() > 1024 {
+    if bytes.len() > 1_048_577 {
         return Err(Fail::new("too many letters"));
     }
     Ok(Text::read(alloc, &bytes)?)
 }
 
-/// Does the steps of an edit.
-pub(crate) fn edit(tree: &mut Tree, edit: &Edit) -> Result<(), TreeFault>
-    requires so_far { IsEditSoFar edit.now }
+/// Does the steps of an edit that reads no contents. Answers whether the edit was taken.
+pub(crate) fn take(alloc: Global, tree: &mut Tree, edit: &Edit) -> Result<bool, Fail>
     requires lawful { IsEdit edit.now }
+    requires plain { ReadsNone edit.now }
 {
-    let steps = tree.steps_of(edit)?;
+    let none = nothing(alloc);
+    let steps = match steps_of(alloc, tree, edit, &none) {
+        Ok(steps) => steps,
+        Err(EditRefused::Refused(_)) => return Ok(false),
+        Err(EditRefused::NoMemory) => return Err(Fail::new("out of memory")),
+    };
     for step in steps.as_slice() {
         tree.apply(step)?;
     }
-    Ok(())
+    Ok(true)
 }
 
 /// The root alone.
@@ -59,7 +63,7 @@ fn editor(alloc: Global) -> Result<Tree, Fail> {
             actions: Texts::new(alloc),
         },
     };
-    edit(&mut tree, &insert)?;
+    take(alloc, &mut tree, &insert)?;
     Ok(tree)
 }
 
@@ -70,12 +74,12 @@ pub(crate) fn nothing(alloc: Global) -> FaceData
     FaceData::Deeds(Texts::new(alloc))
 }
 
-/// A text of three letters with its caret, and nothing selected.
-fn text(alloc: Global, caret: u32) -> Result<FaceData, Fail>
+/// A text of so many letters with its caret, and nothing selected.
+fn text(alloc: Global, count: usize, caret: u32) -> Result<FaceData, Fail>
     ensures { IfOk result IsKnown }
 {
-    let text = letters(alloc, 3)?;
-    if text.count() > 1024 || caret > text.count() {
+    let text = letters(alloc, count)?;
+    if text.count() > 1_048_576 || caret > text.count() {
         return Err(Fail::new("no such caret"));
     }
     Ok(FaceData::Chars {
@@ -85,17 +89,19 @@ fn text(alloc: Global, caret: u32) -> Result<FaceData, Fail>
     })
 }
 
-/// Whether contents keep the limits of a node: a short text with its caret inside and nothing selected, or no text.
-fn is_known(known: &FaceData) -> bool
-    ensures { IsTrue result → IsKnown known.now }
+/// A text of three letters, with as many selections as a text may have.
+fn crowded(alloc: Global) -> Result<FaceData, Fail>
+    ensures { IfOk result IsKnown }
 {
-    match known {
-        FaceData::Chars { text, caret, marks } => text.count() <= 1024
-            && *caret <= text.count()
-            && marks.len() == 0,
-        FaceData::Grid(_) => true,
-        FaceData::Deeds(_) => true,
+    let text = letters(alloc, 3)?;
+    if text.count() != 3 {
+        return Err(Fail::new("not three letters"));
     }
+    Ok(FaceData::Chars {
+        text,
+        caret: 0,
+        marks: Marks::from_vec(vec![in alloc; (0, 1); 16]?),
+    })
 }
 
 /// How many steps an edit makes, or why it is refused.
@@ -105,11 +111,9 @@ pub(crate) fn answer(
     edit: &Edit,
     known: &FaceData,
 ) -> Result<Result<usize, EditFault>, Fail>
-    requires { IsEdit edit.now }
+    requires lawful { IsEdit edit.now }
+    requires known { IsKnown known.now }
 {
-    if !is_known(known) {
-        return Err(Fail::new("contents that no node has"));
-    }
     match steps_of(alloc, tree, edit, known) {
         Ok(steps) => Ok(Ok(steps.len())),
         Err(EditRefused::Refused(fault)) => Ok(Err(fault)),
@@ -178,10 +182,10 @@ fn names_and_descriptions(rt: HostRuntime) -> Result<(), Fail> {
 fn texts_put_and_typed(rt: HostRuntime) -> Result<(), Fail> {
     let alloc = rt.alloc();
     let tree = editor(alloc)?;
-    let known = text(alloc, 2)?;
+    let known = text(alloc, 3, 2)?;
     for (node, at, count, put, typed) in [
         (9, 0, 1, Err(EditFault::NoNode), Err(EditFault::NoNode)),
-        (0, 0, 1, Err(EditFault::NoFace), Err(EditFault::NoFace)),
+        (0, 4, 1, Err(EditFault::NoFace), Err(EditFault::NoFace)),
         (1, 4, 1, Err(EditFault::BadOffset), Ok(2)),
         (1, 3, 1, Ok(1), Ok(2)),
         (1, 2, 1, Ok(1), Ok(2)),
@@ -201,10 +205,10 @@ fn texts_put_and_typed(rt: HostRuntime) -> Result<(), Fail> {
 fn carets_and_selections(rt: HostRuntime) -> Result<(), Fail> {
     let alloc = rt.alloc();
     let tree = editor(alloc)?;
-    let known = text(alloc, 2)?;
+    let known = text(alloc, 3, 2)?;
     for (node, at, due) in [
         (9, 0, Err(EditFault::NoNode)),
-        (0, 0, Err(EditFault::NoFace)),
+        (0, 4, Err(EditFault::NoFace)),
         (1, 4, Err(EditFault::BadOffset)),
         (1, 3, Ok(1)),
         (1, 2, Ok(0)),
@@ -213,15 +217,65 @@ fn carets_and_selections(rt: HostRuntime) -> Result<(), Fail> {
     }
     for (node, from, to, due) in [
         (9, 0, 1, Err(EditFault::NoNode)),
-        (0, 0, 1, Err(EditFault::NoFace)),
+        (0, 1, 1, Err(EditFault::NoFace)),
         (1, 1, 1, Err(EditFault::BadOffset)),
         (1, 2, 4, Err(EditFault::BadOffset)),
         (1, 0, 3, Ok(1)),
     ] {
         assert!(rt; answer(alloc, &tree, &Edit::Mark { node, from, to }, &known)? == due);
     }
+    assert!(rt; answer(alloc, &tree, &Edit::Unmark { node: 9 }, &known)? == Err(EditFault::NoNode));
     assert!(rt; answer(alloc, &tree, &Edit::Unmark { node: 0 }, &known)? == Err(EditFault::NoFace));
     assert!(rt; answer(alloc, &tree, &Edit::Unmark { node: 1 }, &known)? == Ok(0));
+    Ok(())
+}
+
+/// A text that has all its selections takes no other one, and loses all at once.
+#[test]
+fn all_selections(rt: HostRuntime) -> Result<(), Fail> {
+    let alloc = rt.alloc();
+    let tree = editor(alloc)?;
+    let known = crowded(alloc)?;
+    let more = Edit::Mark {
+        node: 1,
+        from: 0,
+        to: 1,
+    };
+    assert!(rt; answer(alloc, &tree, &more, &known)? == Err(EditFault::BadOffset));
+    assert!(rt; answer(alloc, &tree, &Edit::Unmark { node: 1 }, &known)? == Ok(1));
+    Ok(())
+}
+
+/// Letters put into a text that has room for one: a bad place is told before a text that would be too long.
+#[test]
+fn texts_that_are_full(rt: HostRuntime) -> Result<(), Fail> {
+    let alloc = rt.alloc();
+    let tree = editor(alloc)?;
+    let known = text(alloc, 1_048_575, 0)?;
+    for (node, at, count, put, typed) in [
+        (9, 0, 2, Err(EditFault::NoNode), Err(EditFault::NoNode)),
+        (0, 0, 2, Err(EditFault::NoFace), Err(EditFault::NoFace)),
+        (
+            1,
+            1_048_576,
+            2,
+            Err(EditFault::BadOffset),
+            Err(EditFault::TextFull),
+        ),
+        (
+            1,
+            1_048_575,
+            2,
+            Err(EditFault::TextFull),
+            Err(EditFault::TextFull),
+        ),
+        (1, 1_048_575, 1, Ok(1), Ok(2)),
+    ] {
+        let text = letters(alloc, count)?;
+        assert!(rt; answer(alloc, &tree, &Edit::Put { node, at, text }, &known)? == put);
+        let text = letters(alloc, count)?;
+        assert!(rt; answer(alloc, &tree, &Edit::Keys { node, text }, &known)? == typed);
+    }
     Ok(())
 }
 
@@ -230,10 +284,10 @@ fn carets_and_selections(rt: HostRuntime) -> Result<(), Fail> {
 fn cuts(rt: HostRuntime) -> Result<(), Fail> {
     let alloc = rt.alloc();
     let tree = editor(alloc)?;
-    let known = text(alloc, 2)?;
+    let known = text(alloc, 3, 2)?;
     for (node, from, to, due) in [
         (9, 0, 1, Err(EditFault::NoNode)),
-        (0, 0, 1, Err(EditFault::NoFace)),
+        (0, 2, 1, Err(EditFault::NoFace)),
         (1, 2, 1, Err(EditFault::BadOffset)),
         (1, 0, 4, Err(EditFault::BadOffset)),
         (1, 1, 1, Ok(0)),
@@ -262,12 +316,8 @@ fn relations(rt: HostRuntime) -> Result<(), Fail> {
     ] {
         let edit = Edit::Relate { node, kind, target };
         assert!(rt; answer(alloc, &tree, &edit, &none)? == due);
+        let edit = Edit::Unrelate { node, kind, target };
+        assert!(rt; answer(alloc, &tree, &edit, &none)? == due.map(|_| 0));
     }
-    let edit = Edit::Unrelate {
-        node: 1,
-        kind: 1,
-        target: 0,
-    };
-    assert!(rt; answer(alloc, &tree, &edit, &none)? == Ok(0));
     Ok(())
 }

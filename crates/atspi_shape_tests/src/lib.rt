@@ -3,6 +3,12 @@
 #![tactic(auto)]
 
 #[cfg(test)]
+mod changes;
+#[cfg(test)]
 mod edits;
 #[cfg(test)]
 mod nodes;
+#[cfg(test)]
+mod plain;
+#[cfg(test)]
+mod walks;

@@ -2,10 +2,9 @@
 
 ghost use Rattle.std.specs.Prelude.{IfOk};
 ghost use Rattle.atspi_forest.specs.Edits.{IsEdit};
-ghost use Rattle.atspi_tree.specs.Calls.{IsEditSoFar};
-ghost use Rattle.atspi_edits.specs.Answers.{IsKnown};
+ghost use Rattle.atspi_edits.specs.Answers.{IsKnown, ReadsNone};
 
-use crate::edits::{alone, answer, edit, letters, nothing};
+use crate::edits::{alone, answer, letters, nothing, take};
 use atspi_base::{Text, Texts};
 use atspi_forest::{Edit, EditFault, FaceData, Seed};
 use atspi_tree::Tree;
@@ -14,8 +13,8 @@ use std::test::Fail;
 
 /// A new node called by one letter, whose children can be selected or not, and with an action or none.
 fn insert(alloc: Global, parent: u32, index: u32, rich: bool) -> Result<Edit, Fail>
-    ensures so_far { IfOk result IsEditSoFar }
     ensures lawful { IfOk result IsEdit }
+    ensures plain { IfOk result ReadsNone }
 {
     let mut actions = Texts::new(alloc);
     if rich {
@@ -44,7 +43,7 @@ fn family(alloc: Global) -> Result<Tree, Fail> {
     let mut tree = alone(alloc)?;
     for (parent, index) in [(0, 0), (0, 1), (1, 0), (1, 1)] {
         let more = insert(alloc, parent, index, tree.made() == 0)?;
-        edit(&mut tree, &more)?;
+        take(alloc, &mut tree, &more)?;
     }
     Ok(tree)
 }
@@ -65,6 +64,7 @@ fn moves(rt: HostRuntime) -> Result<(), Fail> {
     for (node, parent, index, due) in [
         (9, 0, 9, Err(EditFault::NoNode)),
         (1, 9, 9, Err(EditFault::NoNode)),
+        (0, 9, 9, Err(EditFault::NoNode)),
         (0, 1, 9, Err(EditFault::IsRoot)),
         (1, 0, 2, Err(EditFault::BadIndex)),
         (1, 3, 1, Err(EditFault::BadIndex)),

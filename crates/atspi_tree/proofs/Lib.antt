@@ -3,13 +3,14 @@ pub mod Moved
 pub mod Keys
 pub mod Ranges
 pub mod Trees
-pub mod Refusals
 pub mod Rehung
 pub mod Pruned
 pub mod Related
+pub mod Together
 pub mod Seated
 pub mod Noted
 pub mod Notes
 pub mod Leaf
 pub mod Popped
 pub mod Descent
+pub mod Walks

@@ -1,8 +1,9 @@
 -- The relations that are read of a node.
-use Rattle.std.proofs.Common.{◌≡◌, ℕ, true, List, Some, sym, ap, ◌∙◌}
+use Rattle.std.proofs.Common.{◌≡◌, ℕ, true, List, Option, None, Some, sym, ap, ◌∙◌}
 use Rattle.std.specs.Option.{option_map}
 use Rattle.atspi_forest.specs.Forest.{has}
-use Rattle.atspi_forest.specs.Row.{ShapeRow}
+use Rattle.atspi_forest.specs.Edits.{node_targets}
+use Rattle.atspi_forest.specs.Row.{ShapeRow, targets_of}
 use Rattle.atspi_forest.specs.Tree.{is_shape}
 use Rattle.atspi_tree.specs.declared.cell.Cell.{Cell}
 use Rattle.atspi_tree.specs.TreeShape.{TreeShape, row_of}
@@ -17,3 +18,8 @@ related es k n t h there y e rs told =
   where
     same : (x z : List (ℕ × ℕ)) → Some x ≡ Some z → x ≡ z
     same x z e = cc
+
+-- the targets of a kind are read of the relations that a row has
+pub kind_of_row : (kind : ℕ) (o : Option ShapeRow) (rs : List (ℕ × ℕ)) → option_map (λ (row : ShapeRow). row.relations) o ≡ Some rs → targets_of kind rs ≡ node_targets kind o
+kind_of_row kind None rs e = absurd cc
+kind_of_row kind (Some row) rs e = let same : row.relations ≡ rs = cc in ap (targets_of kind) (sym same)

@@ -4,4 +4,4 @@ pub mod Places
 pub mod Namers
 pub mod Table
 pub mod Relations
-pub mod Calls
+pub mod Seats

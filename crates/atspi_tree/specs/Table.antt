@@ -29,7 +29,7 @@ kept n cell = record {
     role = cell.role;
     states = cell.states;
     kinds = cell.kinds;
-    relations = cell.relations.items;
+    relations = cell.relations;
   };
   children = cell.children.items;
   parent = cell.parent;

@@ -5,6 +5,7 @@ ghost use Rattle.atspi_forest.specs.RowRules.{first_kinds};
 ghost use Rattle.atspi_forest.specs.View.{kinds_number};
 ghost use Rattle.atspi_tree.specs.Table.{IsNewCell, SameCell};
 
+use crate::relations::Relations;
 use atspi_base::{NoMemory, Text};
 use atspi_forest::{Kinds, Seed};
 use std::alloc::{AllocError, Global};
@@ -21,8 +22,7 @@ pub(crate) struct Cell {
     /// Each state by its bit.
     pub(crate) states: u64,
     pub(crate) kinds: Kinds,
-    /// The kind and one target of each relation.
-    pub(crate) relations: Vec<(u32, u32)>,
+    pub(crate) relations: Relations,
 }
 
 /// The states of a new node: enabled (8), sensitive (24), showing (25) and visible (30).
@@ -58,7 +58,7 @@ impl Cell {
             role,
             states: FIRST_STATES,
             kinds,
-            relations: Vec::new(alloc),
+            relations: Relations::new(alloc),
         })
     }
 
@@ -75,7 +75,7 @@ impl Cell {
             role: self.role,
             states: self.states,
             kinds: self.kinds,
-            relations: self.relations.to_vec(alloc)?,
+            relations: self.relations.copy(alloc)?,
         })
     }
 }

@@ -1,14 +1,14 @@
-//! The tree of an application: what is there of each node but its contents, which edits are refused, and what steps do.
+//! The tree of an application: what is there of each node but its contents, and what steps do.
 #![tactic(auto)]
 
 mod cell;
-mod edits;
-mod fault;
+mod levels;
 mod namers;
 mod relations;
+mod seats;
 mod states;
 mod table;
 mod tree;
 
-pub use fault::TreeFault;
+pub use seats::{Seat, Seats};
 pub use tree::Tree;

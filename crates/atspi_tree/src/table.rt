@@ -15,7 +15,7 @@ ghost use Rattle.atspi_tree.specs.Namers.{has_namer};
 ghost use Rattle.atspi_tree.specs.Relations.{with_relations};
 
 use crate::cell::Cell;
-use crate::relations::drop_target;
+use crate::relations::Relations;
 use crate::states::{drop_child, shift, unlist, with_state};
 use atspi_base::{NoMemory, Text};
 use std::collections::{BTreeMap, BTreeSet};
@@ -93,9 +93,9 @@ pub(crate) fn set_role(cells: &mut BTreeMap<u32, Cell>, node: u32, role: u32)
 pub(crate) fn set_relations(
     cells: &mut BTreeMap<u32, Cell>,
     node: u32,
-    relations: Vec<(u32, u32)>,
-) -> Vec<(u32, u32)>
-    ensures put { (k : Kept) → look_in cells.old.entries node ≡ Some k → ChangesAt cells.old.entries cells.new.entries node (with_row (with_relations relations.items) k) }
+    relations: Relations,
+) -> Relations
+    ensures put { (k : Kept) → look_in cells.old.entries node ≡ Some k → ChangesAt cells.old.entries cells.new.entries node (with_row (with_relations relations) k) }
     ensures size { length cells.new.entries ≡ length cells.old.entries }
 {
     match cells.get_mut(&node) {
@@ -207,7 +207,7 @@ fn unlist_child(cells: &mut BTreeMap<u32, Cell>, parent: u32, node: u32)
 }
 
 /// Takes a node out of the table and of the children of its parent. Hands out the relations that it had.
-pub(crate) fn prune(cells: &mut BTreeMap<u32, Cell>, parent: u32, node: u32) -> Vec<(u32, u32)>
+pub(crate) fn prune(cells: &mut BTreeMap<u32, Cell>, parent: u32, node: u32) -> Relations
     requires once { Holds (λ k. times node k.children ≤ 1) (look_in cells.old.entries parent) }
     requires apart { (parent == node) ≡ false }
     requires there { Holds (λ k. Unit {0}) (look_in cells.old.entries node) }
@@ -228,7 +228,7 @@ fn forget_target(cells: &mut BTreeMap<u32, Cell>, node: u32, target: u32)
     ensures size { length cells.new.entries ≡ length cells.old.entries }
 {
     if let Some(cell) = cells.get_mut(&node) {
-        drop_target(&mut cell.relations, target);
+        cell.relations.drop_target(target);
     }
 }
 

@@ -1,31 +1,26 @@
 //! The tree itself: a table of cells, and the calls that read and change it.
 
-ghost use Rattle.std.specs.Prelude.{◌≡◌, ◌≢◌, ◌<◌, ◌&&◌, ℕ, Some, None, true, IfOk, OnOk, OnErr, [], bytes_eq};
+ghost use Rattle.std.specs.Prelude.{◌≡◌, ◌<◌, ℕ, Some, None, true, IfOk, OnOk, OnErr, []};
 ghost use Rattle.std.specs.Option.{option_map};
-ghost use Rattle.atspi_forest.specs.Edits.{IsEdit, first_fault, is_full, refusals};
-ghost use Rattle.atspi_forest.specs.declared.contents.FaceData.TheVariants.{Deeds};
-ghost use Rattle.atspi_forest.specs.declared.edit.Edit.TheVariants.{Insert, Name};
+ghost use Rattle.atspi_forest.specs.Edits.{node_targets};
 ghost use Rattle.atspi_forest.specs.declared.step.Step.TheVariants.{Add, Move, Relate, Remove, SetDescription, SetName, SetRole, SetState};
 ghost use Rattle.atspi_forest.specs.Forest.{has, count as count_nodes};
-ghost use Rattle.atspi_forest.specs.Row.{Each, IsName};
+ghost use Rattle.atspi_forest.specs.Row.{IsName};
 ghost use Rattle.atspi_forest.specs.RowRules.{shapes};
-ghost use Rattle.atspi_forest.specs.Tree.{AllApply, in_subtree, is_shape};
+ghost use Rattle.atspi_forest.specs.Tree.{in_subtree, is_shape};
 ghost use Rattle.atspi_forest.specs.View.{kinds_number};
-ghost use Rattle.atspi_tree.specs.Calls.{GivesSteps, IsEditSoFar, IsStepSoFar, edit_steps};
 ghost use Rattle.atspi_tree.specs.NextNode.{IsNextNode};
 ghost use Rattle.atspi_tree.specs.TreeShape.{IsLawful, StepApplies, after_step, children_of, parent_of, root_alone, row_of};
 
 use crate::cell::{Cell, bits, first_kinds};
-use crate::edits::{copy_seed, is_bad_place, is_long_name, is_too_long, one_step};
-use crate::fault::TreeFault;
 use crate::namers::Namers;
-use crate::relations::{target_set, with_targets};
+use crate::relations::{Relations, target_set};
 use crate::table::{
     forget_named, insert_child, prune, put_cell, rehang, set_description, set_name, set_relations,
     set_role, set_states,
 };
 use atspi_base::{NoMemory, Nums, Text};
-use atspi_forest::{Edit, EditFault, Kinds, Seed, Step, StepList};
+use atspi_forest::{Kinds, Seed, Step};
 use std::alloc::Global;
 use std::collections::BTreeMap;
 use std::marker::Model;
@@ -97,6 +92,13 @@ impl Tree {
         }
     }
 
+    /// The rules of a tree are kept. A law: this does nothing.
+    pub fn is_lawful(&self)
+        ensures { IsLawful self.now }
+    {
+        let _ = &self.alloc;
+    }
+
     /// How many nodes were ever added, the root not counted. The newest node has this number.
     pub fn made(&self) -> u32
         ensures { result ≡ self.now.added }
@@ -110,26 +112,6 @@ impl Tree {
         ensures lawful { IsLawful self.now }
     {
         self.cells.len() as u32
-    }
-
-    /// The steps of an edit, or the first reason to refuse it. An edit to what is there already has no step. Memory is
-    /// wanted only for an edit that is not refused.
-    pub fn steps_of(&self, edit: &Edit) -> Result<StepList, TreeFault>
-        requires so_far { IsEditSoFar edit.now }
-        requires lawful { IsEdit edit.now }
-        ensures exact { GivesSteps result (edit_steps self.now edit.now) }
-        ensures so_far { IfOk result (Each IsStepSoFar) }
-        ensures applies { IfOk result (AllApply shapes self.now.rows self.now.added) }
-    {
-        match edit {
-            Edit::Insert {
-                parent,
-                index,
-                seed,
-            } => self.insert_steps(*parent, *index, seed),
-            Edit::Name { node, text } => self.name_steps(*node, text),
-            _ => unreachable!(),
-        }
     }
 
     /// Does a step. After want of memory the tree is as before. The steps that change what interface objects keep change
@@ -229,12 +211,27 @@ impl Tree {
         self.cells[&node].kinds
     }
 
+    fn relations_of(&self, node: u32) -> &Relations
+        requires { has (is_shape node) self.now.rows ≡ true }
+        ensures { option_map (λ row. row.relations) (row_of node self.now) ≡ Some result.now }
+    {
+        &self.cells[&node].relations
+    }
+
     /// A node's relations: the kind and one target of each, in the order of the targets.
     pub fn relations(&self, node: u32) -> &[(u32, u32)]
         requires { has (is_shape node) self.now.rows ≡ true }
         ensures { option_map (λ row. row.relations) (row_of node self.now) ≡ Some result.now }
     {
-        &self.cells[&node].relations
+        self.relations_of(node).pairs()
+    }
+
+    /// The targets of a node's relation of a kind, in their order. None where it has no such relation.
+    pub fn targets(&self, node: u32, kind: u32) -> &[u32]
+        requires { has (is_shape node) self.now.rows ≡ true }
+        ensures { result.now ≡ node_targets kind (row_of node self.now) }
+    {
+        self.relations_of(node).of_kind(kind)
     }
 
     /// A node's optional interfaces: bit 0 Text, 1 EditableText, 2 Selection, 3 Table, 4 Action.
@@ -259,91 +256,6 @@ impl Tree {
         ensures { result.now ≡ children_of node self.now }
     {
         &self.cells[&node].children
-    }
-
-    /// Whether the tree has all the nodes that a tree may have, or all numbers were taken.
-    fn is_full(&self) -> bool
-        ensures { result ≡ is_full self.now.rows self.now.added }
-    {
-        self.cells.len() >= 8192 || self.added == u32::MAX
-    }
-
-    /// The first reason to refuse an insert.
-    fn insert_fault(&self, parent: u32, index: u32, seed: &Seed) -> Option<EditFault>
-        ensures { result ≡ first_fault (refusals self.now.rows self.now.added (Deeds []) (Insert parent index seed.now)) }
-    {
-        let Some(cell) = self.cells.get(&parent) else {
-            return Some(EditFault::NoNode);
-        };
-        if is_bad_place(cell.children.len(), index, seed) {
-            return Some(EditFault::BadIndex);
-        }
-        if self.is_full() {
-            return Some(EditFault::Full);
-        }
-        if is_too_long(seed) {
-            return Some(EditFault::TextFull);
-        }
-        None
-    }
-
-    fn insert_steps(&self, parent: u32, index: u32, seed: &Seed) -> Result<StepList, TreeFault>
-        requires { IsEdit (Insert parent index seed.now) }
-        ensures exact { GivesSteps result (edit_steps self.now (Insert parent index seed.now)) }
-        ensures so_far { IfOk result (Each IsStepSoFar) }
-        ensures applies { IfOk result (AllApply shapes self.now.rows self.now.added) }
-    {
-        if let Some(fault) = self.insert_fault(parent, index, seed) {
-            return Err(TreeFault::Refused(fault));
-        }
-        let step = Step::Add {
-            node: self.added + 1,
-            parent,
-            index,
-            seed: copy_seed(self.alloc, seed)?,
-        };
-        Ok(one_step(self.alloc, step)?)
-    }
-
-    /// The first reason to refuse a name.
-    fn name_fault(&self, node: u32, text: &Text) -> Option<EditFault>
-        ensures { result ≡ first_fault (refusals self.now.rows self.now.added (Deeds []) (Name node text.now)) }
-    {
-        if !self.has(node) {
-            return Some(EditFault::NoNode);
-        }
-        if is_long_name(text) {
-            return Some(EditFault::TextFull);
-        }
-        None
-    }
-
-    /// Whether a node is there and has this name.
-    fn has_name(&self, node: u32, text: &Text) -> bool
-        ensures { result ≡ has (λ row. is_shape node row && bytes_eq row.name text.now) self.now.rows }
-    {
-        match self.cells.get(&node) {
-            Some(cell) => cell.name.is(text),
-            None => false,
-        }
-    }
-
-    fn name_steps(&self, node: u32, text: &Text) -> Result<StepList, TreeFault>
-        ensures exact { GivesSteps result (edit_steps self.now (Name node text.now)) }
-        ensures so_far { IfOk result (Each IsStepSoFar) }
-        ensures applies { IfOk result (AllApply shapes self.now.rows self.now.added) }
-    {
-        if let Some(fault) = self.name_fault(node, text) {
-            return Err(TreeFault::Refused(fault));
-        }
-        if self.has_name(node, text) {
-            return Ok(StepList::new(self.alloc));
-        }
-        let step = Step::SetName {
-            node,
-            text: text.copy(self.alloc)?,
-        };
-        Ok(one_step(self.alloc, step)?)
     }
 
     fn add(&mut self, node: u32, parent: u32, index: u32, seed: &Seed) -> Result<(), NoMemory>
@@ -417,7 +329,7 @@ impl Tree {
             unreachable!()
         };
         let relations = prune(&mut self.cells, parent, node);
-        self.namers.forget_each(&relations, node);
+        self.namers.forget_each(relations.pairs(), node);
         let namers = self.namers.take(node);
         forget_named(&mut self.cells, &namers, node);
         parent
@@ -444,11 +356,12 @@ impl Tree {
         ensures ok { OnOk result (self.new ≡ after_step self.old (Relate node kind targets.now)) }
         ensures err { OnErr result (self.new ≡ self.old) }
     {
-        let relations = with_targets(self.alloc, self.relations(node), kind, targets.as_slice())?;
-        let named = target_set(self.alloc, &relations)?;
+        let old = self.relations_of(node);
+        let relations = old.with_targets(self.alloc, kind, targets.as_slice())?;
+        let named = target_set(self.alloc, relations.pairs())?;
         self.namers.note_each(self.alloc, targets.as_slice(), node)?;
         let lost = set_relations(&mut self.cells, node, relations);
-        self.namers.forget_lost(&lost, &named, node);
+        self.namers.forget_lost(lost.pairs(), &named, node);
         Ok(())
     }
 

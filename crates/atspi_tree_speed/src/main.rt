@@ -1,9 +1,9 @@
 //! Does edits of a known number on a tree of a known size, so that the speed of an edit can be counted (bench/tree.sh):
-//! `N EDITS` makes a tree of N nodes and does EDITS drawn edits to it; while it has fewer nodes, one in two puts one in.
+//! `N EDITS WALKS` makes a tree of N nodes and does EDITS drawn edits to it; while it has fewer nodes, one in two puts one in. Then
+//! WALKS walks go over its nodes.
 #![tactic(auto)]
 
-ghost use Rattle.std.specs.Prelude.{◌≡◌, [], IfOk};
-ghost use Rattle.atspi_forest.specs.declared.contents.FaceData.TheVariants.{Deeds};
+ghost use Rattle.std.specs.Prelude.{IfOk};
 ghost use Rattle.atspi_forest.specs.Edits.{IsEdit};
 ghost use Rattle.atspi_edits.specs.Answers.{IsKnown, ReadsNone};
 
@@ -21,25 +21,26 @@ fn main(rt: HostRuntime) -> Result<()> {
     for word in env::args(&rt)?.skip(1) {
         words.push(word)?;
     }
-    let [nodes, edits] = words.as_slice() else {
-        bail!("two numbers are wanted: nodes and edits");
+    let [nodes, edits, walks] = words.as_slice() else {
+        bail!("three numbers are wanted: nodes, edits and walks");
     };
     let nodes = nodes.parse::<u32>()?;
     let edits = edits.parse::<u32>()?;
+    let walks = walks.parse::<u32>()?;
     let mut state = 7u64;
     let mut tree = grown(rt.alloc(), &mut state, nodes)?;
     let start = Instant::now(&rt)?;
     let taken = work(rt.alloc(), &mut state, &mut tree, nodes, edits)?;
     let time = start.elapsed(&rt)?.as_nanos() / u128::from(edits.max(1));
     eprintln!(rt; "{nodes} nodes: {time} ns an edit")?;
-    println!(rt; "{taken} edits")?;
+    let given = walk(&tree, walks);
+    println!(rt; "{taken} edits, {given} places")?;
     Ok(())
 }
 
 /// No contents.
 fn nothing(alloc: Global) -> FaceData
-    ensures value { result ≡ Deeds [] }
-    ensures known { IsKnown result }
+    ensures { IsKnown result }
 {
     FaceData::Deeds(Texts::new(alloc))
 }
@@ -50,7 +51,6 @@ fn take(alloc: Global, tree: &mut Tree, edit: &Edit) -> Result<bool>
     requires plain { ReadsNone edit.now }
 {
     let none = nothing(alloc);
-    ensure!(tree.has(0), "no root");
     let steps = match steps_of(alloc, tree, edit, &none) {
         Ok(steps) => steps,
         Err(EditRefused::Refused(_)) => return Ok(false),
@@ -169,4 +169,15 @@ fn work(alloc: Global, state: &mut u64, tree: &mut Tree, nodes: u32, edits: u32)
         }
     }
     Ok(taken)
+}
+
+/// The walks; how many places they gave.
+fn walk(tree: &Tree, walks: u32) -> u64 {
+    let mut given = 0u64;
+    for _ in 0..walks {
+        for _seat in tree.seats() {
+            given = given.saturating_add(1);
+        }
+    }
+    given
 }

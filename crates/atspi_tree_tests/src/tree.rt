@@ -2,19 +2,22 @@
 
 ghost use Rattle.std.specs.Prelude.{IfOk};
 ghost use Rattle.atspi_forest.specs.Edits.{IsEdit};
-ghost use Rattle.atspi_tree.specs.Calls.{IsEditSoFar};
+ghost use Rattle.atspi_forest.specs.RowRules.{shapes};
+ghost use Rattle.atspi_forest.specs.Tree.{AllApply};
+ghost use Rattle.atspi_edits.specs.Answers.{ReadsNone};
 
 use atspi_base::{Text, Texts};
-use atspi_forest::{Edit, EditFault, Seed, Step};
-use atspi_tree::{Tree, TreeFault};
+use atspi_edits::{EditRefused, steps_of};
+use atspi_forest::{Edit, EditFault, FaceData, Seed, Step, StepList};
+use atspi_tree::Tree;
 use std::alloc::Global;
 use std::process::Abort;
 use std::test::Fail;
 
 /// An insert of a push button.
 fn insert(alloc: Global, parent: u32, index: u32, name: Text) -> Edit
-    ensures so_far { IsEditSoFar result }
     ensures lawful { IsEdit result }
+    ensures plain { ReadsNone result }
 {
     Edit::Insert {
         parent,
@@ -33,18 +36,27 @@ fn insert(alloc: Global, parent: u32, index: u32, name: Text) -> Edit
 
 /// An edit of a name.
 fn name(node: u32, text: Text) -> Edit
-    ensures so_far { IsEditSoFar result }
     ensures lawful { IsEdit result }
+    ensures plain { ReadsNone result }
 {
     Edit::Name { node, text }
 }
 
-/// Does the steps of an edit, and answers how many there were.
-fn edit(tree: &mut Tree, edit: &Edit) -> Result<usize, TreeFault>
-    requires so_far { IsEditSoFar edit.now }
+/// The steps of an edit that reads no contents.
+fn asked(alloc: Global, tree: &Tree, edit: &Edit) -> Result<StepList, EditRefused>
     requires lawful { IsEdit edit.now }
+    requires plain { ReadsNone edit.now }
+    ensures { IfOk result (AllApply shapes tree.now.rows tree.now.added) }
 {
-    let steps = tree.steps_of(edit)?;
+    steps_of(alloc, tree, edit, &FaceData::Deeds(Texts::new(alloc)))
+}
+
+/// Does the steps of an edit, and answers how many there were.
+fn edit(alloc: Global, tree: &mut Tree, edit: &Edit) -> Result<usize, EditRefused>
+    requires lawful { IsEdit edit.now }
+    requires plain { ReadsNone edit.now }
+{
+    let steps = asked(alloc, tree, edit)?;
     for step in steps.as_slice() {
         tree.apply(step)?;
     }
@@ -61,14 +73,14 @@ fn letters(alloc: Global, count: usize) -> Result<Text, Fail> {
 }
 
 /// Why an edit is refused, if it is.
-fn told(tree: &Tree, edit: &Edit) -> Result<Option<EditFault>, Fail>
-    requires so_far { IsEditSoFar edit.now }
+fn told(alloc: Global, tree: &Tree, edit: &Edit) -> Result<Option<EditFault>, Fail>
     requires lawful { IsEdit edit.now }
+    requires plain { ReadsNone edit.now }
 {
-    match tree.steps_of(edit) {
+    match asked(alloc, tree, edit) {
         Ok(_) => Ok(None),
-        Err(TreeFault::Refused(fault)) => Ok(Some(fault)),
-        Err(TreeFault::NoMemory) => Err(Fail::new("out of memory")),
+        Err(EditRefused::Refused(fault)) => Ok(Some(fault)),
+        Err(EditRefused::NoMemory) => Err(Fail::new("out of memory")),
     }
 }
 
@@ -85,7 +97,11 @@ fn demo(alloc: Global) -> Result<Tree, Fail> {
 fn small_tree(alloc: Global) -> Result<Tree, Fail> {
     let mut tree = demo(alloc)?;
     for (parent, index) in [(0, 0), (0, 0), (2, 0)] {
-        edit(&mut tree, &insert(alloc, parent, index, letters(alloc, 1)?))?;
+        edit(
+            alloc,
+            &mut tree,
+            &insert(alloc, parent, index, letters(alloc, 1)?),
+        )?;
     }
     Ok(tree)
 }
@@ -99,7 +115,10 @@ fn check_inserts(
 ) -> Result<(), Fail> {
     for &(parent, index, count, want) in table {
         let edit = insert(alloc, parent, index, letters(alloc, count)?);
-        assert!(rt; told(tree, &edit)? == want, "insert {parent} {index}");
+        assert!(rt;
+            told(alloc, tree, &edit)? == want,
+            "insert {parent} {index}"
+        );
     }
     Ok(())
 }
@@ -123,7 +142,7 @@ fn refusals_in_their_order(rt: HostRuntime) -> Result<(), Fail> {
         (3, 511, None),
     ] {
         let edit = name(node, letters(alloc, count)?);
-        assert!(rt; told(&tree, &edit)? == want, "name {node}");
+        assert!(rt; told(alloc, &tree, &edit)? == want, "name {node}");
     }
     Ok(())
 }
@@ -148,18 +167,18 @@ fn only_step(steps: &[Step]) -> Option<(u32, Option<(u32, u32)>, &str)> {
 type Want<'a> = Option<(u32, Option<(u32, u32)>, &'a str)>;
 
 /// Whether an edit has this step alone, or none.
-fn makes(tree: &Tree, edit: &Edit, want: Want) -> Result<bool, Fail>
-    requires so_far { IsEditSoFar edit.now }
+fn makes(alloc: Global, tree: &Tree, edit: &Edit, want: Want) -> Result<bool, Fail>
     requires lawful { IsEdit edit.now }
+    requires plain { ReadsNone edit.now }
 {
-    let steps = tree.steps_of(edit)?;
+    let steps = asked(alloc, tree, edit)?;
     Ok(only_step(steps.as_slice()) == want && steps.len() == usize::from(want.is_some()))
 }
 
 /// The same for a name of so many bytes.
 fn name_makes(alloc: Global, tree: &Tree, count: usize, want: Want) -> Result<bool, Fail> {
     let edit = name(2, letters(alloc, count)?);
-    makes(tree, &edit, want)
+    makes(alloc, tree, &edit, want)
 }
 
 #[test]
@@ -167,7 +186,7 @@ fn steps_of_an_insert_and_a_name(rt: HostRuntime) -> Result<(), Fail> {
     let alloc = rt.alloc();
     let tree = small_tree(alloc)?;
     let edit = insert(alloc, 0, 1, letters(alloc, 2)?);
-    assert!(rt; makes(&tree, &edit, Some((4, Some((0, 1)), "aa")))?);
+    assert!(rt; makes(alloc, &tree, &edit, Some((4, Some((0, 1)), "aa")))?);
     assert!(rt; name_makes(alloc, &tree, 2, Some((2, None, "aa")))?);
     assert!(rt;
         name_makes(alloc, &tree, 1, None)?,
@@ -202,7 +221,7 @@ fn rows_after_edits(rt: HostRuntime) -> Result<(), Fail> {
     let alloc = rt.alloc();
     let mut tree = small_tree(alloc)?;
     let before = tree.copy()?;
-    let done = edit(&mut tree, &name(2, letters(alloc, 3)?))?;
+    let done = edit(alloc, &mut tree, &name(2, letters(alloc, 3)?))?;
     assert_eq!(rt; (done, tree.made(), tree.len()), (1, 3, 4));
     let none: &[u32] = &[];
     for (node, want) in [
@@ -220,8 +239,8 @@ fn rows_after_edits(rt: HostRuntime) -> Result<(), Fail> {
 
 /// An insert of a node that has all that a node can have.
 fn rich_insert(alloc: Global) -> Result<Edit, Fail>
-    ensures so_far { IfOk result IsEditSoFar }
     ensures lawful { IfOk result IsEdit }
+    ensures plain { IfOk result ReadsNone }
 {
     let mut actions = Texts::new(alloc);
     actions.push(letters(alloc, 5)?)?;
@@ -267,8 +286,8 @@ fn a_node_begins_with_all_that_its_seed_says(rt: HostRuntime) -> Result<(), Fail
     let alloc = rt.alloc();
     let mut tree = demo(alloc)?;
     let wish = rich_insert(alloc)?;
-    assert!(rt; adds_rich(tree.steps_of(&wish)?.as_slice()));
-    edit(&mut tree, &wish)?;
+    assert!(rt; adds_rich(asked(alloc, &tree, &wish)?.as_slice()));
+    edit(alloc, &mut tree, &wish)?;
     assert!(rt; tree.has(1) && tree.faces(1) == 31 && tree.role(1) == 62);
     Ok(())
 }
@@ -278,7 +297,7 @@ fn a_tree_has_room_for_8192_nodes(rt: HostRuntime) -> Result<(), Fail> {
     let alloc = rt.alloc();
     let mut tree = demo(alloc)?;
     for _ in 0..8191 {
-        edit(&mut tree, &insert(alloc, 0, 0, letters(alloc, 1)?))?;
+        edit(alloc, &mut tree, &insert(alloc, 0, 0, letters(alloc, 1)?))?;
     }
     assert_eq!(rt; tree.len(), 8192);
     let table = [

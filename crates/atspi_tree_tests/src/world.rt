@@ -1,8 +1,9 @@
 //! Lines as scripts spell them, what doing them answers and adds, and a copy of each step. What is due was worked out by hand.
 
 use atspi_base::{Bytes, Marks, Nums, Text, Texts};
+use atspi_edits::copy_step;
 use atspi_forest::{Edit, Seed, Step};
-use atspi_world::{ActFault, Line, LineFault, Refusal, World, copy_step, event_text, parse_line};
+use atspi_world::{ActFault, Line, LineFault, Refusal, World, event_text, parse_line};
 use std::alloc::Global;
 use std::process::Abort;
 use std::test::*;

@@ -1,9 +1,8 @@
 -- Lines that are not spelled.
-use Rattle.std.proofs.Common.{◌≡◌, ℕ, Bool, true, false, List, [], ◌∷◌, ◌++◌, length, drop, Result, Ok, Err, refl, sym, ap, subst, ◌∙◌, arith}
+use Rattle.std.proofs.Common.{◌≡◌, ℕ, true, List, ◌∷◌, ◌++◌, length, drop, Err, sym, ap, ◌∙◌, arith}
 use Rattle.std.proofs.lemmas.Bool.{false≢true}
 use Rattle.std.specs.Fmt.{decimal}
 use Rattle.atspi_forest.specs.declared.step.Seed.{Seed}
-use Rattle.atspi_forest.specs.declared.edit.Edit.{Edit}
 use Rattle.atspi_forest.specs.declared.edit.Edit.TheVariants.{Insert, Name}
 use Rattle.atspi_world.specs.declared.line.Line.{Line}
 use Rattle.atspi_world.specs.declared.line.Line.TheVariants.{App, Blank, Reader, Show, Turns, Edit as Edits}
@@ -12,7 +11,7 @@ use Rattle.atspi_world.specs.declared.line.LineFault.TheVariants.{Form, NoMemory
 use Rattle.atspi_world.specs.IsLine.{IsLine}
 use Rattle.atspi_world.specs.Line.{IsNumber, SpelledAs, SpellsInsert, SpellsName}
 use Rattle.atspi_base.specs.Quoted.{quoted}
-use Rattle.atspi_world.specs.Reading.{IsPlace, ReadsForm, ReadsOf, ReadsQuoted, is_app, is_edit, is_insert, is_name, is_plain}
+use Rattle.atspi_world.specs.Reading.{IsPlace, ReadsOf, ReadsQuoted, is_insert, is_name}
 use Rattle.atspi_world.proofs.WordLemmas.{count_cut, place_rest}
 
 name_of : (line : Line) (bytes : List ℕ) → is_name line ≡ true → SpelledAs line bytes → (n : ℕ) × (t : List ℕ) × SpellsName n t bytes
@@ -61,7 +60,7 @@ pub spelled_line : (line : Line) (bytes : List ℕ) → SpelledAs line bytes →
 spelled_line Blank bytes f = tt
 spelled_line (App name) bytes f = f.0.short
 spelled_line Reader bytes f = tt
-spelled_line (Edits app (Insert p i seed)) bytes f = (tt, (omega (arith, ap length f.1.plain.actions), λ e. absurd (false≢true (sym f.1.plain.editable ∙ e))))
+spelled_line (Edits app (Insert p i seed)) bytes f = ((omega (arith, ap length f.1.plain.actions), λ e. absurd (false≢true (sym f.1.plain.editable ∙ e))), tt)
 spelled_line (Edits app (Name n x)) bytes f = (tt, tt)
 spelled_line (Edits app _) bytes f = absurd f.1
 spelled_line (Turns n) bytes f = tt

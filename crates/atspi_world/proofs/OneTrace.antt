@@ -1,6 +1,7 @@
 -- Lines have one lawful trace, or one first line that is refused.
 use Rattle.std.proofs.Common.{◌≡◌, ℕ, List, [], ◌∷◌, ◌++◌, Option, None, Some, Result, Ok, refl, sym, ap, subst, ◌∙◌, append_assoc, append-nil, inl, inr}
-use Rattle.atspi_tree.specs.Calls.{edit_steps}
+use Rattle.atspi_forest.specs.declared.contents.FaceData.TheVariants.{Deeds}
+use Rattle.atspi_edits.specs.Answers.{edit_steps}
 use Rattle.atspi_world.specs.declared.event.Event.{Event}
 use Rattle.atspi_world.specs.declared.line.Line.{Line}
 use Rattle.atspi_world.specs.declared.line.Line.TheVariants.{App, Blank, Reader, Show, Turns, Edit as Edits}
@@ -23,7 +24,7 @@ adds_once before (App name) xs ys p q = p ∙ sym q
 adds_once before Reader xs ys p q = p ∙ sym q
 adds_once before (Edits app edit) xs ys p q =
     let tree = same_some (live_tree before) p.0 q.0 p.2 q.2 in
-    let steps = same_ok (λ t. edit_steps t edit) p.0 q.0 p.1 q.1 tree p.3 q.3 in
+    let steps = same_ok (λ t. edit_steps t (Deeds []) edit) p.0 q.0 p.1 q.1 tree p.3 q.3 in
     p.4 ∙ ap (stepping (is_joined before) (sent_count before)) steps ∙ sym q.4
 adds_once before (Turns n) xs ys p q = p ∙ sym q
 adds_once before (Show reader app) xs ys p q = p ∙ sym q

@@ -1,13 +1,12 @@
 -- Bytes between quotes can be read in one way.
-use Rattle.std.proofs.Common.{◌≡◌, ℕ, ◌+◌, ◌*◌, ◌/◌, ◌%◌, ◌<◌, ◌≤◌, Bool, true, false, cond, List, [], ◌∷◌, ◌++◌, length, Ok, Err, refl, sym, ap, subst, ◌∙◌, arith, append_assoc, chars, encode_utf8_all, IsUtf8, inl, inr, ◌⊎◌}
-use Rattle.std.proofs.lemmas.List.{append_cancel_left, append_cancel_right}
+use Rattle.std.proofs.Common.{◌≡◌, ℕ, ◌/◌, ◌%◌, ◌<◌, Bool, true, false, cond, List, [], ◌∷◌, ◌++◌, length, Ok, refl, sym, ap, subst, ◌∙◌, arith, append_assoc, chars, encode_utf8_all}
+use Rattle.std.proofs.lemmas.List.{append_cancel_right}
 use Rattle.std.proofs.lemmas.Bool.{false≢true}
 use Rattle.std.proofs.lemmas.Bool.Decides.{nat_tests}
 use Rattle.std.specs.List.{flat_map}
 use Rattle.atspi_base.specs.ReadsText.{text_in}
-use Rattle.atspi_base.specs.declared.text.TextFault.{TextFault}
 use Rattle.atspi_base.proofs.TextLemmas.{whole}
-use Rattle.atspi_base.specs.Quoted.{hex_digit, is_marked, is_control, escaped, in_quotes, quoted}
+use Rattle.atspi_base.specs.Quoted.{hex_digit, is_marked, is_control, escaped, in_quotes}
 use Rattle.atspi_world.specs.Line.{IsName}
 
 -- an escaped byte, by what it is

@@ -1,11 +1,11 @@
 -- Bytes spell at most one line.
-use Rattle.std.proofs.Common.{◌≡◌, ℕ, zero, suc, ◌+◌, ◌<◌, ◌≤◌, ◌^◌, Bool, true, false, cond, eqb, List, [], ◌∷◌, ◌++◌, length, get_or, drop, Option, None, Some, refl, sym, ap, subst, ◌∙◌, arith, inl, inr, ◌⊎◌, chars, encode_utf8_all}
+use Rattle.std.proofs.Common.{◌≡◌, ℕ, true, false, List, [], ◌∷◌, ◌++◌, get_or, drop, None, Some, refl, sym, ap, subst, ◌∙◌, arith, inl, inr, chars, encode_utf8_all}
 use Rattle.std.proofs.lemmas.Bool.{false≢true}
-use Rattle.std.proofs.lemmas.Fmt.{decimal_digit, first_decimal, decimal_injective, decimal_nonempty}
+use Rattle.std.proofs.lemmas.Fmt.{decimal_injective}
 use Rattle.std.proofs.lemmas.Str.{chars-encodes}
 use Rattle.std.specs.Char.{is_ascii_digit}
 use Rattle.std.specs.Fmt.{decimal}
-use Rattle.std.specs.Prelude.{slice_get, codes}
+use Rattle.std.specs.Prelude.{slice_get}
 use Rattle.atspi_forest.specs.declared.step.Seed.{Seed}
 use Rattle.atspi_forest.specs.declared.edit.Edit.{Edit}
 use Rattle.atspi_forest.specs.declared.edit.Edit.TheVariants.{Insert, Name}
@@ -16,7 +16,6 @@ use Rattle.atspi_world.specs.declared.line.Line.TheVariants.{App, Blank, Reader,
 use Rattle.atspi_world.specs.Laws.{LinesHaveOneReading}
 use Rattle.atspi_world.specs.Line.{IsName, IsNumber, IsPlain, SpelledAs, SpellsEdit, SpellsInsert, SpellsName, SpellsRole}
 use Rattle.atspi_base.specs.Quoted.{quoted}
-use Rattle.atspi_world.specs.Reading.{HasNoSpace}
 use Rattle.atspi_world.proofs.QuoteLemmas.{same_quoted}
 use Rattle.atspi_world.proofs.WordLemmas.{one_cut, decimal_no_space, role_no_space, digits_begin}
 

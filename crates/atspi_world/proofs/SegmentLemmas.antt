@@ -1,37 +1,25 @@
 -- What each line adds is its segment.
-use Rattle.std.proofs.Common.{◌≡◌, ℕ, zero, suc, ◌+◌, ◌-◌, ◌*◌, ◌<◌, ◌≤◌, Bool, true, false, cond, ◌&&◌, ◌||◌, List, [], ◌∷◌, ◌++◌, length, drop, take, get_or, min, Option, None, Some, is_some, Result, Ok, Err, refl, sym, ap, subst, ◌∙◌, arith, rules, add-one, append_assoc, append-nil, length-append}
+use Rattle.std.proofs.Common.{◌≡◌, ℕ, zero, suc, ◌+◌, ◌<◌, ◌≤◌, Bool, true, false, cond, ◌&&◌, ◌||◌, List, [], ◌∷◌, ◌++◌, length, drop, take, get_or, min, Option, None, Some, is_some, refl, sym, ap, subst, ◌∙◌, arith, add-one, append_assoc, append-nil}
 use Rattle.std.proofs.lemmas.Bool.{false≢true}
-use Rattle.std.proofs.lemmas.Bool.Decides.{nat_tests, leb_tells}
+use Rattle.std.proofs.lemmas.Bool.Decides.{nat_tests}
 use Rattle.std.proofs.lemmas.List.{take_more, drop_more, take_all}
-use Rattle.std.specs.Prelude.{fold, count_by, nat_lt}
-use Rattle.std.specs.List.{flat_map, list_any}
+use Rattle.std.specs.Prelude.{nat_lt}
 use Rattle.std.specs.Option.{option_map}
 use Rattle.atspi_forest.specs.RowRules.{shapes}
-use Rattle.atspi_forest.specs.Row.{ShapeRow}
-use Rattle.atspi_forest.specs.Forest.{Forest, has}
-use Rattle.atspi_forest.specs.Edits.{IsEdit, first_fault, refusals, made_steps, steps_unless, unless}
 use Rattle.atspi_forest.specs.Tree.{AllApply}
-use Rattle.atspi_forest.specs.declared.contents.FaceData.TheVariants.{Deeds}
 use Rattle.atspi_forest.specs.declared.edit.Edit.{Edit}
-use Rattle.atspi_forest.specs.declared.edit.Edit.TheVariants.{Insert, Name}
-use Rattle.atspi_forest.specs.declared.edit.EditFault.{EditFault}
 use Rattle.atspi_forest.specs.declared.step.Step.{Step}
-use Rattle.atspi_forest.specs.declared.step.Step.TheVariants.{Add, SetName}
-use Rattle.atspi_tree.specs.Calls.{IsEditSoFar, IsStepSoFar, edit_steps}
 use Rattle.atspi_tree.specs.TreeShape.{TreeShape, after_step, root_alone, StepApplies}
 use Rattle.atspi_world.specs.declared.event.Event.{Event}
 use Rattle.atspi_world.specs.declared.event.Event.TheVariants.{Start, Sent, Got, Show, Busy, Step as Stepped}
-use Rattle.atspi_world.specs.declared.event.Message.{Message}
 use Rattle.atspi_world.specs.declared.event.Message.TheVariants.{Items, Announced}
-use Rattle.atspi_world.specs.declared.event.Party.{Party}
 use Rattle.atspi_world.specs.declared.event.Party.TheVariants.{App, Reader}
 use Rattle.atspi_world.specs.declared.event.ShownRow.{ShownRow}
-use Rattle.atspi_world.specs.declared.line.Line.{Line}
 use Rattle.atspi_world.specs.declared.line.Line.TheVariants.{Turns, App as AppLine, Reader as ReaderLine, Edit as EditLine, Show as ShowLine}
 use Rattle.atspi_world.specs.Acts.{CanStep, IsStepsOf}
-use Rattle.atspi_world.specs.Lawful.{Segment, starting, items_sent, stepping, taking, turning, refusal}
-use Rattle.atspi_world.specs.Trace.{tree_after, live_tree, is_reader_start, has_reader, is_joined, message_in, messages, sent_count, is_got, got_count, waiting_count, held, rows_of}
-use Rattle.atspi_world.proofs.TraceLemmas.{live_tree-append, has_reader-append, messages-append, sent_count-append, got_count-append}
+use Rattle.atspi_world.specs.Lawful.{Segment, starting, items_sent, stepping, taking, refusal}
+use Rattle.atspi_world.specs.Trace.{tree_after, live_tree, is_reader_start, has_reader, is_joined, sent_count, got_count, waiting_count, held, rows_of}
+use Rattle.atspi_world.proofs.TraceLemmas.{live_tree-append, has_reader-append, sent_count-append, got_count-append}
 use Rattle.atspi_world.proofs.WorldLemmas.{reader_after}
 
 pub none_of : {X : Type 0} (o : Option X) → is_some o ≡ false → o ≡ None
@@ -197,35 +185,6 @@ stepping_end start now app edit steps i s l w = (
   record { accepted = s.accepted; adds = (s.tree, steps, s.live, s.are, refl) },
   w.trace ∙ ap (λ t. start ++ stepping (is_joined start) (sent_count start) t) (take_all i steps l),
 )
-
--- the steps of the edits so far
-unless_ok : (f : Option EditFault) (made steps : List Step) → steps_unless f made ≡ Ok steps → made ≡ steps
-unless_ok None made steps e = cc
-unless_ok (Some f) made steps e = absurd cc
-
-pub AllFar : List Step → Type 0
-AllFar [] = Unit {0}
-AllFar (s ∷ ss) = IsStepSoFar s × AllFar ss
-
-pub far_at : (steps : List Step) (i : ℕ) (s : Step) → AllFar steps → i < length steps → s ≡ get_or steps i s → IsStepSoFar s
-unfolding AllFar
-far_at [] i s h l e = absurd (omega arith)
-far_at (x ∷ xs) zero s h l e = subst IsStepSoFar (sym e) h.0
-far_at (x ∷ xs) (suc i) s h l e = far_at xs i s h.1 (omega arith) e
-
-renamed : (b : Bool) (n : ℕ) (x : List ℕ) → AllFar (unless b (SetName n x))
-unfolding AllFar
-renamed true n x = tt
-renamed false n x = (tt, tt)
-
-pub far_steps : (t : TreeShape) (edit : Edit) (steps : List Step) → IsEditSoFar edit → edit_steps t edit ≡ Ok steps → AllFar steps
-unfolding AllFar
-far_steps t (Insert p i seed) steps far e =
-    subst AllFar (unless_ok (first_fault (refusals t.rows t.added (Deeds []) (Insert p i seed))) (made_steps t.rows t.added (Deeds []) (Insert p i seed)) steps e) (tt, tt)
-far_steps t (Name n x) steps far e =
-    subst AllFar (unless_ok (first_fault (refusals t.rows t.added (Deeds []) (Name n x))) (made_steps t.rows t.added (Deeds []) (Name n x)) steps e)
-    (renamed _ n x)
-far_steps t _ steps far e = absurd far
 
 -- turns, one after another
 pub record Turning (start now : List Event) (done : ℕ) : Type 0 where

@@ -1,24 +1,18 @@
 -- What is read off a trace that has grown.
-use Rattle.std.proofs.Common.{◌≡◌, ◌≢◌, ℕ, zero, suc, ◌+◌, ◌-◌, ◌*◌, ◌<◌, ◌≤◌, Bool, true, false, cond, ◌&&◌, ◌||◌, not, ◌==◌, List, [], ◌∷◌, ◌++◌, length, drop, take, get_or, Option, None, Some, is_some, map, refl, sym, ap, subst, ◌∙◌, arith, rules, add-one, append_assoc, append-nil, length-append, inl, inr, ◌⊎◌}
+use Rattle.std.proofs.Common.{◌≡◌, ℕ, zero, suc, ◌+◌, ◌<◌, ◌≤◌, Bool, true, false, cond, ◌&&◌, ◌||◌, ◌==◌, List, [], ◌∷◌, ◌++◌, length, None, Some, is_some, refl, sym, ap, subst, ◌∙◌, arith, add-one, append-nil, length-append, inl, inr, ◌⊎◌}
 use Rattle.std.proofs.lemmas.Bool.{false≢true}
 use Rattle.std.proofs.lemmas.Bool.Decides.{eqb_tells, nat_tests}
 use Rattle.std.proofs.lemmas.List.Folds.{list_any-append}
 use Rattle.std.proofs.lemmas.List.Sums.{fold-append, sum_by-append}
-use Rattle.std.proofs.lemmas.Grind.{flat_map-append, common_steps}
+use Rattle.std.proofs.lemmas.Grind.{flat_map-append}
 use Rattle.std.specs.Prelude.{fold, count_by, slice_get}
 use Rattle.std.specs.List.{flat_map, list_any}
-use Rattle.std.specs.Option.{option_map}
-use Rattle.atspi_forest.specs.declared.step.Step.{Step}
-use Rattle.atspi_tree.specs.TreeShape.{TreeShape, after_step, root_alone, StepApplies}
-use Rattle.atspi_tree.specs.Calls.{IsStepSoFar}
 use Rattle.atspi_world.specs.declared.event.Event.{Event}
-use Rattle.atspi_world.specs.declared.event.Event.TheVariants.{Start, Sent, Got, Show, Busy, Step as Stepped}
+use Rattle.atspi_world.specs.declared.event.Event.TheVariants.{Sent}
 use Rattle.atspi_world.specs.declared.event.Message.{Message}
-use Rattle.atspi_world.specs.declared.event.Message.TheVariants.{Items, Announced}
 use Rattle.atspi_world.specs.declared.event.Party.{Party}
-use Rattle.atspi_world.specs.declared.event.Party.TheVariants.{App, Reader}
-use Rattle.atspi_world.specs.Trace.{tree_after, live_tree, is_sent_as, before_sent, as_of, is_reader_start, has_reader, is_joined, message_in, messages, sent_count, is_got, got_count, waiting_count, held_at, held}
-use Rattle.atspi_world.specs.WorldParts.{Tells, IsTold, IsHistory, IsNote}
+use Rattle.atspi_world.specs.Trace.{tree_after, live_tree, is_sent_as, before_sent, as_of, is_reader_start, has_reader, is_joined, message_in, messages, sent_count, is_got, got_count, held_at}
+use Rattle.atspi_world.specs.WorldParts.{Tells, IsTold, IsHistory}
 
 pub live_tree-append : (xs ys : List Event) → live_tree (xs ++ ys) ≡ fold tree_after (live_tree xs) ys
 unfolding live_tree

@@ -1,13 +1,10 @@
 -- A walk over a tree meets each node once.
-use Rattle.std.proofs.Common.{◌≡◌, ℕ, zero, suc, ◌+◌, ◌-◌, ◌*◌, ◌<◌, ◌≤◌, Bool, true, false, cond, ◌==◌, List, [], ◌∷◌, ◌++◌, length, map, reverse, Option, None, Some, refl, sym, ap, subst, ◌∙◌, arith, rules, append_assoc, append-nil}
-use Rattle.std.proofs.lemmas.Bool.{false≢true}
+use Rattle.std.proofs.Common.{◌≡◌, ℕ, suc, ◌+◌, ◌≤◌, Bool, true, false, cond, ◌==◌, List, [], ◌∷◌, ◌++◌, length, map, reverse, Option, None, Some, refl, sym, ap, subst, ◌∙◌, arith, append_assoc, append-nil}
 use Rattle.std.proofs.lemmas.Bool.Decides.{nat_tests}
 use Rattle.std.proofs.lemmas.List.{map-append, reverse-append, same_from_push}
-use Rattle.std.specs.Option.{option_map}
-use Rattle.atspi_forest.specs.Forest.{Forest, nil, tree, count, has, width, find, first_of, tops, children_at, seats, EachNode}
+use Rattle.atspi_forest.specs.Forest.{Forest, nil, tree, count, has, find, first_of, children_at, seats, EachNode}
 use Rattle.atspi_forest.specs.Row.{ShapeRow}
-use Rattle.atspi_forest.specs.RowRules.{shapes}
-use Rattle.atspi_forest.specs.Tree.{IsTree, is_shape}
+use Rattle.atspi_forest.specs.Tree.{is_shape}
 use Rattle.atspi_forest.proofs.Found.{count-has, not_there, find-passes}
 use Rattle.atspi_tree.specs.TreeShape.{TreeShape, IsLawful, numbers, row_of, children_of}
 use Rattle.atspi_world.specs.declared.event.ShownRow.{ShownRow}

@@ -1,18 +1,16 @@
 -- The parts of a world as its trace grows.
-use Rattle.std.proofs.Common.{◌≡◌, ℕ, zero, suc, ◌+◌, ◌-◌, ◌*◌, ◌<◌, ◌≤◌, Bool, true, false, cond, ◌&&◌, ◌||◌, List, [], ◌∷◌, ◌++◌, length, drop, take, Option, None, Some, IsSome, IfSome, Bor, get_or, is_some, option_to_list, refl, sym, ap, subst, ◌∙◌, arith, rules, add-one, append_assoc, append-nil, length-append, length-drop}
+use Rattle.std.proofs.Common.{◌≡◌, ℕ, zero, suc, ◌+◌, ◌<◌, ◌≤◌, Bool, true, false, ◌&&◌, ◌||◌, List, [], ◌∷◌, ◌++◌, length, drop, Option, None, Some, IsSome, IfSome, Bor, get_or, is_some, option_to_list, refl, sym, ap, subst, ◌∙◌, arith, append_assoc, length-append, length-drop}
 use Rattle.std.proofs.lemmas.Bool.{false≢true}
 use Rattle.std.proofs.lemmas.List.{drop-append-le, drop-drop}
-use Rattle.std.specs.Prelude.{fold, count_by, slice_get}
+use Rattle.std.specs.Prelude.{count_by, slice_get}
 use Rattle.std.specs.List.{flat_map, list_any}
 use Rattle.std.specs.Option.{option_copied, option_map}
 use Rattle.atspi_forest.specs.declared.step.Step.{Step}
 use Rattle.atspi_tree.specs.TreeShape.{TreeShape, after_step, root_alone, StepApplies}
-use Rattle.atspi_tree.specs.Calls.{IsStepSoFar}
 use Rattle.atspi_world.specs.declared.event.Event.{Event}
 use Rattle.atspi_world.specs.declared.event.Event.TheVariants.{Start, Sent, Got, Show, Busy, Step as Stepped}
 use Rattle.atspi_world.specs.declared.event.Message.{Message}
 use Rattle.atspi_world.specs.declared.event.Message.TheVariants.{Items, Announced}
-use Rattle.atspi_world.specs.declared.event.Party.{Party}
 use Rattle.atspi_world.specs.declared.event.Party.TheVariants.{App, Reader}
 use Rattle.atspi_world.specs.Trace.{tree_after, live_tree, is_sent_as, as_of, is_reader_start, has_reader, is_joined, message_in, messages, sent_count, is_got, got_count, waiting_count, held_at, held}
 use Rattle.atspi_world.specs.WorldParts.{Tells, IsTold, IsHistory, IsNote, IsWorld, followed, loaded, CanFollow}
@@ -106,12 +104,12 @@ next_tells {cache = cache} {got = got} xs m rest w e =
 follows_told : (c : Option TreeShape) (m : Message) (a : Option TreeShape) → Tells c m a → CanFollow c (Some m)
 follows_told None m a t = tt
 follows_told (Some b) (Items tree) a t = tt
-follows_told (Some b) (Announced step) a t = (t.0, t.1)
+follows_told (Some b) (Announced step) a t = t.0
 
 heard : (c : Option TreeShape) (m : Message) (a : Option TreeShape) → Tells c m a → loaded (followed c (Some m)) (Some m) ≡ a
 heard c (Items tree) a t = sym t
 heard None (Announced step) a t = absurd t
-heard (Some b) (Announced step) a t = sym t.2
+heard (Some b) (Announced step) a t = sym t.1
 
 pub can_follow_next : {tree : Option TreeShape} {reading : Bool} {cache : Option TreeShape} {waiting : List Message} {sent got : ℕ} (xs : List Event) (m : Message) (rest : List Message)
     → IsWorld tree reading cache waiting sent got xs → waiting ≡ m ∷ rest → CanFollow cache (Some m)
@@ -237,12 +235,12 @@ pub stepped_alone : {t : TreeShape} {cache : Option TreeShape} {waiting : List M
 stepped_alone xs s w = alone xs (Stepped 0 s) (record { message = refl; serial = λ n. refl; got = refl }) refl refl w
 
 -- a step and its announcement
-pub stepped_told : {t : TreeShape} {cache : Option TreeShape} {waiting : List Message} {sent got : ℕ} (xs : List Event) (s : Step) → IsStepSoFar s → StepApplies t s
+pub stepped_told : {t : TreeShape} {cache : Option TreeShape} {waiting : List Message} {sent got : ℕ} (xs : List Event) (s : Step) → StepApplies t s
     → IsWorld (Some t) true cache waiting sent got xs
     → IsWorld (Some (after_step t s)) true cache (waiting ++ Announced s ∷ []) (sent + 1) got ((xs ++ Stepped 0 s ∷ []) ++ Sent (App 0) (sent + 1) (Announced s) ∷ [])
-stepped_told {t = t} xs s far applies w =
+stepped_told {t = t} xs s applies w =
     let before = (told_of xs w.history).joined (joined_before xs w) in
-    let tells : Tells (held_at xs (sent_count xs)) (Announced s) (Some (after_step t s)) = rw (before.1, w.live) (far, applies, refl) in
+    let tells : Tells (held_at xs (sent_count xs)) (Announced s) (Some (after_step t s)) = rw (before.1, w.live) (applies, refl) in
     told xs (Stepped 0 s) (Announced s) (record { message = refl; serial = λ n. refl; got = refl }) refl tells w
 
 -- the application starts, before a reader and behind one
@@ -278,16 +276,16 @@ keeps_step_alone {reading = reading} {cache = cache} {waiting = waiting} {sent =
     (subst (λ b. IsWorld (Some (after_step t s)) b cache waiting sent got (xs ++ Stepped 0 s ∷ [])) is_r (stepped_alone xs s at))
 
 pub keeps_step_told : {tree : Option TreeShape} {reading : Bool} {cache : Option TreeShape} {waiting : List Message} {sent got : ℕ} (xs now : List Event) (s : Step)
-    → xs ≡ now → (t : TreeShape) → live_tree now ≡ Some t → has_reader now ≡ true → IsStepSoFar s → StepApplies t s
+    → xs ≡ now → (t : TreeShape) → live_tree now ≡ Some t → has_reader now ≡ true → StepApplies t s
     → IsWorld tree reading cache waiting sent got xs
     → IsWorld (option_map (λ t. after_step t s) tree) reading cache (waiting ++ Announced s ∷ []) (sent + 1) got ((xs ++ Stepped 0 s ∷ []) ++ Sent (App 0) (sent + 1) (Announced s) ∷ [])
-keeps_step_told {reading = reading} {cache = cache} {waiting = waiting} {sent = sent} {got = got} xs now s e t live has far applies w =
+keeps_step_told {reading = reading} {cache = cache} {waiting = waiting} {sent = sent} {got = got} xs now s e t live has applies w =
     let is_t = sym (ap live_tree e ∙ live) ∙ w.live in
     let is_r = sym (ap has_reader e ∙ has) ∙ w.has in
     let at : IsWorld (Some t) true cache waiting sent got xs = rw (is_t, is_r) w in
     subst (λ a. IsWorld (option_map (λ t. after_step t s) a) reading cache (waiting ++ Announced s ∷ []) (sent + 1) got ((xs ++ Stepped 0 s ∷ []) ++ Sent (App 0) (sent + 1) (Announced s) ∷ [])) is_t
     (subst (λ b. IsWorld (Some (after_step t s)) b cache (waiting ++ Announced s ∷ []) (sent + 1) got ((xs ++ Stepped 0 s ∷ []) ++ Sent (App 0) (sent + 1) (Announced s) ∷ [])) is_r
-    (stepped_told xs s far applies at))
+    (stepped_told xs s applies at))
 
 pub keeps_app_alone : {tree : Option TreeShape} {reading : Bool} {cache : Option TreeShape} {waiting : List Message} {sent got : ℕ} (xs now : List Event) (name : List ℕ)
     → xs ≡ now → live_tree now ≡ None → has_reader now ≡ false

@@ -1,15 +1,16 @@
 -- What doing a line answers.
-use Rattle.std.specs.Prelude.{◌≡◌, ℕ, List, ◌++◌, Option, None, Some, Result, Ok, Err}
+use Rattle.std.specs.Prelude.{◌≡◌, ℕ, List, [], ◌++◌, None, Some, Result, Ok, Err}
 use Rattle.atspi_world.specs.declared.event.Event.{Event}
 use Rattle.atspi_world.specs.declared.line.Line.{Line}
 use Rattle.atspi_world.specs.declared.world.ActFault.{ActFault}
 use Rattle.atspi_world.specs.declared.world.ActFault.TheVariants.{Refused, NoMemory}
 use Rattle.atspi_forest.specs.RowRules.{shapes}
 use Rattle.atspi_forest.specs.Tree.{AllApply}
+use Rattle.atspi_forest.specs.declared.contents.FaceData.TheVariants.{Deeds}
 use Rattle.atspi_forest.specs.declared.edit.Edit.{Edit}
 use Rattle.atspi_forest.specs.declared.step.Step.{Step}
 use Rattle.atspi_forest.specs.declared.step.StepList.{StepList}
-use Rattle.atspi_tree.specs.Calls.{edit_steps}
+use Rattle.atspi_edits.specs.Answers.{edit_steps}
 use Rattle.atspi_tree.specs.TreeShape.{TreeShape, StepApplies}
 use Rattle.atspi_world.specs.declared.line.Line.TheVariants.{Edit as EditLine}
 use Rattle.atspi_world.specs.Lawful.{Segment, refusal}
@@ -31,7 +32,7 @@ pub record IsStepsOf (trace : List Event) (app : ℕ) (edit : Edit) (steps : Lis
   pub tree : TreeShape
   pub live : live_tree trace ≡ Some tree
   pub accepted : refusal trace (EditLine app edit) ≡ None
-  pub are : edit_steps tree edit ≡ Ok steps
+  pub are : edit_steps tree (Deeds []) edit ≡ Ok steps
   pub apply : AllApply shapes tree.rows tree.added steps
 
 -- what asking for the steps of an edit answers

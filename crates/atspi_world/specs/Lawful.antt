@@ -1,19 +1,18 @@
 -- Lawful traces: one segment for each line of a script.
-use Rattle.std.specs.Prelude.{◌≡◌, ◌⊎◌, ℕ, zero, suc, ◌+◌, ◌==◌, nat_lt, min, Bool, true, false, ◌&&◌, ◌||◌, List, [], ◌∷◌, ◌++◌, Option, None, Some, is_some, Result, Ok, Err, if◌then◌else◌}
+use Rattle.std.specs.Prelude.{◌≡◌, ◌⊎◌, ℕ, zero, suc, ◌+◌, ◌==◌, nat_lt, min, Bool, true, false, ◌&&◌, List, [], ◌∷◌, ◌++◌, Option, None, Some, is_some, Result, Ok, Err, if◌then◌else◌}
 use Rattle.std.specs.Option.{option_map}
 use Rattle.atspi_forest.specs.Edits.{is_full}
+use Rattle.atspi_forest.specs.declared.contents.FaceData.TheVariants.{Deeds}
 use Rattle.atspi_forest.specs.declared.edit.Edit.{Edit}
 use Rattle.atspi_forest.specs.declared.edit.Edit.TheVariants.{Insert}
 use Rattle.atspi_forest.specs.declared.edit.EditFault.{EditFault}
 use Rattle.atspi_forest.specs.declared.edit.EditFault.TheVariants.{NoNode, BadIndex}
 use Rattle.atspi_forest.specs.declared.step.Step.{Step}
-use Rattle.atspi_tree.specs.Calls.{edit_steps}
+use Rattle.atspi_edits.specs.Answers.{edit_steps}
 use Rattle.atspi_tree.specs.TreeShape.{TreeShape}
 use Rattle.atspi_world.specs.declared.event.Event.{Event}
 use Rattle.atspi_world.specs.declared.event.Event.TheVariants.{Start, Sent, Got, Show, Busy, Step as Stepped}
-use Rattle.atspi_world.specs.declared.event.Message.{Message}
 use Rattle.atspi_world.specs.declared.event.Message.TheVariants.{Items, Announced}
-use Rattle.atspi_world.specs.declared.event.Party.{Party}
 use Rattle.atspi_world.specs.declared.event.Party.TheVariants.{App, Reader}
 use Rattle.atspi_world.specs.declared.line.Line.{Line}
 use Rattle.atspi_world.specs.declared.line.Line.TheVariants.{Blank, Turns, App as AppLine, Reader as ReaderLine, Edit as EditLine, Show as ShowLine}
@@ -37,11 +36,12 @@ abbrev pub refusal_of : Result (List Step) EditFault → Option Refusal
 refusal_of (Ok steps) = None
 refusal_of (Err fault) = Some (named_refusal fault)
 
--- why an edit is refused: there is no tree, it inserts into one that takes no further node, or the tree refuses it
+-- why an edit that reads no contents is refused: there is no tree, it inserts into one that takes no further node, or the tree
+-- refuses it
 abbrev pub edit_refusal : Option TreeShape → Edit → Option Refusal
 edit_refusal None edit = Some Later
 edit_refusal (Some tree) edit =
-    if is_insert_edit edit && is_full tree.rows tree.added then Some Later else refusal_of (edit_steps tree edit)
+    if is_insert_edit edit && is_full tree.rows tree.added then Some Later else refusal_of (edit_steps tree (Deeds []) edit)
 
 -- why a line is refused behind a trace, if it is: it starts an end again, names one that is not started or inserts into a
 -- full tree; or its edit is refused
@@ -84,7 +84,7 @@ Adds before Blank added = added ≡ []
 Adds before (AppLine name) added = added ≡ starting before (Start (App 0) (Some name))
 Adds before ReaderLine added = added ≡ starting before (Start (Reader 0) None)
 Adds before (EditLine app edit) added =
-    (tree : TreeShape) × (steps : List Step) × (live_tree before ≡ Some tree) × (edit_steps tree edit ≡ Ok steps)
+    (tree : TreeShape) × (steps : List Step) × (live_tree before ≡ Some tree) × (edit_steps tree (Deeds []) edit ≡ Ok steps)
     × (added ≡ stepping (is_joined before) (sent_count before) steps)
 Adds before (Turns n) added = added ≡ turning n (waiting_count before) (got_count before)
 Adds before (ShowLine reader app) added = added ≡ Show reader app (option_map rows_of (held before)) ∷ []

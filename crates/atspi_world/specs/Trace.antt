@@ -1,15 +1,13 @@
 -- What a trace says: each fact is read off the events that stand in it. There is one application, 0, and one reader, 0.
-use Rattle.std.specs.Prelude.{ℕ, zero, suc, ◌+◌, ◌-◌, ◌==◌, Bool, true, false, ◌&&◌, List, [], ◌∷◌, ◌++◌, length, Option, None, Some, is_some, fold, map, count_by, if◌then◌else◌}
+use Rattle.std.specs.Prelude.{ℕ, zero, suc, ◌-◌, ◌==◌, Bool, true, false, ◌&&◌, List, [], ◌∷◌, length, Option, None, Some, is_some, fold, map, count_by, if◌then◌else◌}
 use Rattle.std.specs.List.{flat_map, list_any}
 use Rattle.std.specs.Option.{option_map}
 use Rattle.atspi_forest.specs.Forest.{seats}
 use Rattle.atspi_forest.specs.Row.{ShapeRow}
-use Rattle.atspi_forest.specs.declared.step.Step.{Step}
 use Rattle.atspi_tree.specs.TreeShape.{TreeShape, after_step, root_alone}
 use Rattle.atspi_world.specs.declared.event.Event.{Event}
 use Rattle.atspi_world.specs.declared.event.Event.TheVariants.{Start, Sent, Got, Step as Stepped}
 use Rattle.atspi_world.specs.declared.event.Message.{Message}
-use Rattle.atspi_world.specs.declared.event.Party.{Party}
 use Rattle.atspi_world.specs.declared.event.Party.TheVariants.{App, Reader}
 use Rattle.atspi_world.specs.declared.event.ShownRow.{ShownRow}
 

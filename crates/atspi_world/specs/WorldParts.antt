@@ -1,6 +1,5 @@
 -- The parts of a world are read off its trace.
-use Rattle.std.specs.Prelude.{◌≡◌, ℕ, suc, ◌+◌, ◌≤◌, ◌<◌, Bool, true, false, List, drop, Option, None, Some, slice_get}
-use Rattle.atspi_tree.specs.Calls.{IsStepSoFar}
+use Rattle.std.specs.Prelude.{◌≡◌, ℕ, ◌+◌, ◌≤◌, ◌<◌, Bool, true, false, List, drop, Option, None, Some, slice_get}
 use Rattle.atspi_tree.specs.TreeShape.{TreeShape, StepApplies, after_step}
 use Rattle.std.specs.List.{list_any}
 use Rattle.atspi_world.specs.declared.event.Event.{Event}
@@ -13,7 +12,7 @@ use Rattle.atspi_world.specs.Trace.{live_tree, as_of, has_reader, is_joined, is_
 abbrev pub Tells : Option TreeShape → Message → Option TreeShape → Type 0
 Tells before (Items tree) after = after ≡ Some tree
 Tells None (Announced step) after = ⊥
-Tells (Some tree) (Announced step) after = IsStepSoFar step × StepApplies tree step × (after ≡ Some (after_step tree step))
+Tells (Some tree) (Announced step) after = StepApplies tree step × (after ≡ Some (after_step tree step))
 
 -- each message of a trace tells the tree as of its serial, and the last one the live tree
 pub record IsTold (trace : List Event) : Type 0 where
@@ -56,5 +55,5 @@ loaded held message = held
 
 -- an announced step applies to what is held
 abbrev pub CanFollow : Option TreeShape → Option Message → Type 0
-CanFollow (Some tree) (Some (Announced step)) = IsStepSoFar step × StepApplies tree step
+CanFollow (Some tree) (Some (Announced step)) = StepApplies tree step
 CanFollow held message = Unit {0}

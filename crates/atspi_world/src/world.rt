@@ -3,9 +3,9 @@
 ghost use Rattle.std.specs.Prelude.{◌≡◌, ◌+◌, ◌<◌, ◌≤◌, ◌^◌, ◌==◌, ◌&&◌, nat_lt, [], ◌∷◌, ◌++◌, OnOk, OnErr, IfOk, IfSome, is_some, Some, None, true, false, vec_len, vec_capacity};
 ghost use Rattle.std.specs.Option.{option_copied, option_map};
 ghost use Rattle.std.specs.VecDeque.{deque_len, deque_capacity};
+ghost use Rattle.atspi_edits.specs.Answers.{ReadsNone};
 ghost use Rattle.atspi_forest.specs.Edits.{IsEdit, is_full as is_full_tree};
 ghost use Rattle.atspi_forest.specs.Row.{IsName};
-ghost use Rattle.atspi_tree.specs.Calls.{IsEditSoFar, IsStepSoFar};
 ghost use Rattle.atspi_tree.specs.TreeShape.{StepApplies, after_step, root_alone};
 ghost use Rattle.atspi_world.specs.Acts.{ActsOn, GivesStepsOf, CanStep};
 ghost use Rattle.atspi_world.specs.IsLine.{IsLine};
@@ -19,11 +19,11 @@ ghost use Rattle.atspi_world.specs.declared.line.Line.TheVariants.{App as AppLin
 
 use crate::event::{Event, Message, Party, Shown};
 use crate::line::Line;
-use crate::message::copy_step;
 use crate::show::shown_rows;
-use atspi_base::{NoMemory, Text};
-use atspi_forest::{Edit, EditFault, Step, StepList};
-use atspi_tree::{Tree, TreeFault};
+use atspi_base::{NoMemory, Text, Texts};
+use atspi_edits::{EditRefused, copy_step, steps_of};
+use atspi_forest::{Edit, EditFault, FaceData, Step, StepList};
+use atspi_tree::Tree;
 use std::alloc::{AllocError, AllocFailed, Global};
 use std::collections::VecDeque;
 use std::marker::Model;
@@ -285,8 +285,8 @@ impl World {
 
     /// The application's tree is edited, and a reader that is there is told each step.
     fn edit(&mut self, app: u32, edit: &Edit) -> Result<(), ActFault>
-        requires so_far { IsEditSoFar edit.now }
         requires lawful { IsEdit edit.now }
+        requires plain { ReadsNone edit.now }
         ensures { ActsOn result self.old self.new (EditLine app edit.now) }
     {
         let steps = self.steps_of(app, edit)?;
@@ -298,8 +298,8 @@ impl World {
 
     /// The steps of an edit, or why the line is refused.
     fn steps_of(&self, app: u32, edit: &Edit) -> Result<StepList, ActFault>
-        requires so_far { IsEditSoFar edit.now }
         requires lawful { IsEdit edit.now }
+        requires plain { ReadsNone edit.now }
         ensures { GivesStepsOf result self.now app edit.now }
     {
         let Some(tree) = &self.tree else {
@@ -308,16 +308,16 @@ impl World {
         if app != 0 || (is_insert(edit) && is_full(tree)) {
             return Err(ActFault::Refused(Refusal::Later));
         }
-        match tree.steps_of(edit) {
+        let known = FaceData::Deeds(Texts::new(self.alloc));
+        match steps_of(self.alloc, tree, edit, &known) {
             Ok(steps) => Ok(steps),
-            Err(TreeFault::NoMemory) => Err(ActFault::NoMemory),
-            Err(TreeFault::Refused(fault)) => Err(ActFault::Refused(refusal_of(fault))),
+            Err(EditRefused::NoMemory) => Err(ActFault::NoMemory),
+            Err(EditRefused::Refused(fault)) => Err(ActFault::Refused(refusal_of(fault))),
         }
     }
 
     /// One step is done, and told to a reader that is there.
     fn step(&mut self, step: &Step) -> Result<(), NoMemory>
-        requires so_far { IsStepSoFar step.now }
         requires applies { CanStep self.old step.now }
         ensures { OnOk result (self.new ≡ self.old ++ stepping (is_joined self.old) (sent_count self.old) (step.now ∷ [])) }
     {
@@ -333,7 +333,6 @@ impl World {
 
     /// One step is done while there is no reader.
     fn step_alone(&mut self, step: &Step, done: Step) -> Result<(), NoMemory>
-        requires so_far { IsStepSoFar step.now }
         requires applies { CanStep self.old step.now }
         requires no_reader { has_reader self.old ≡ false }
         requires same { done ≡ step.now }
@@ -353,7 +352,6 @@ impl World {
         told: Step,
         message: Step,
     ) -> Result<(), NoMemory>
-        requires so_far { IsStepSoFar step.now }
         requires applies { CanStep self.old step.now }
         requires reader { has_reader self.old ≡ true }
         requires same { done ≡ step.now }
@@ -490,7 +488,6 @@ fn post(
 
 /// A step is done to the tree, where there is one.
 fn apply_to(tree: &mut Option<Tree>, step: &Step) -> Result<(), NoMemory>
-    requires so_far { IsStepSoFar step.now }
     requires applies { IfSome tree.old (λ t. StepApplies t step.now) }
     ensures ok { OnOk result (tree.new ≡ option_map (λ t. after_step t step.now) tree.old) }
     ensures err { OnErr result (tree.new ≡ tree.old) }

@@ -2,7 +2,7 @@ use Rattle.std.proofs.Common.{sym, ◌∙◌}
 use Rattle.std.specs.Prelude.{bytes_eq}
 use Rattle.atspi_forest.specs.Row.{ShapeRow}
 use Rattle.atspi_forest.specs.Tree.{is_shape}
-use Rattle.atspi_tree.proofs.Refusals.{none_too, same_test}
+use Rattle.atspi_edits.proofs.Tests.{none_too, same_test}
 use Rattle.atspi_edits.proofs.Faults.{asked}
 use Rattle.atspi_edits.proofs.named.has_description.Goals as goal
 

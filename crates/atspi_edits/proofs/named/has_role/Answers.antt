@@ -1,7 +1,7 @@
 use Rattle.std.proofs.Common.{◌==◌, sym, ◌∙◌}
 use Rattle.atspi_forest.specs.Row.{ShapeRow}
 use Rattle.atspi_forest.specs.Tree.{is_shape}
-use Rattle.atspi_tree.proofs.Refusals.{none_too}
+use Rattle.atspi_edits.proofs.Tests.{none_too}
 use Rattle.atspi_edits.proofs.Faults.{asked}
 use Rattle.atspi_edits.proofs.named.has_role.Goals as goal
 

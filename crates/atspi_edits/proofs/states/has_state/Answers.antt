@@ -2,7 +2,7 @@ use Rattle.std.proofs.Common.{sym, ◌∙◌}
 use Rattle.atspi_forest.specs.Row.{ShapeRow}
 use Rattle.atspi_forest.specs.States.{has_state}
 use Rattle.atspi_forest.specs.Tree.{is_shape}
-use Rattle.atspi_tree.proofs.Refusals.{none_too}
+use Rattle.atspi_edits.proofs.Tests.{none_too}
 use Rattle.atspi_edits.proofs.Faults.{asked}
 use Rattle.atspi_edits.proofs.states.has_state.Goals as goal
 

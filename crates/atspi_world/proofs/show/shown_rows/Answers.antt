@@ -1,4 +1,4 @@
-use Rattle.std.proofs.Common.{◌≡◌, [], ◌≤◌, length, sym, ◌∙◌, ap, subst, arith, rules}
+use Rattle.std.proofs.Common.{◌∙◌, arith, rules}
 use Rattle.std.proofs.lemmas.List.{nil_from_length}
 use Rattle.atspi_world.proofs.WalkLemmas.{walking_start, walking_next, walking_more, next_there, next_few, walked, walked_all}
 use Rattle.atspi_world.proofs.show.shown_rows.Goals as goal

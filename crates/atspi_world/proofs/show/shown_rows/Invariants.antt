@@ -1,4 +1,3 @@
-use Rattle.atspi_tree.specs.TreeShape.{IsLawful}
 use Rattle.atspi_world.proofs.WalkLemmas.{Walking}
 use Rattle.atspi_world.proofs.show.shown_rows.Given as goal
 

@@ -1,4 +1,4 @@
-use Rattle.std.proofs.Common.{◌≡◌, ◌++◌, take, length}
+use Rattle.std.proofs.Common.{◌≡◌, ◌++◌, take}
 use Rattle.std.specs.List.{flat_map}
 use Rattle.atspi_world.specs.Brief.{row_text}
 use Rattle.atspi_world.proofs.text.put_shown.Given as goal

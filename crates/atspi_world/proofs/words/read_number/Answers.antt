@@ -1,4 +1,4 @@
-use Rattle.std.proofs.Common.{◌≡◌, rules, sym, subst}
+use Rattle.std.proofs.Common.{rules, sym, subst}
 use Rattle.atspi_world.proofs.WordLemmas.{untidy, parsed, decimal_utf8, ReadsNumber}
 use Rattle.atspi_world.specs.Reading.{IsTidy}
 use Rattle.atspi_world.proofs.words.read_number.Goals as goal

@@ -1,4 +1,4 @@
-use Rattle.std.proofs.Common.{sym, ◌∙◌}
+use Rattle.std.proofs.Common.{sym}
 use Rattle.atspi_world.proofs.WordLemmas.{no_role_spelled}
 use Rattle.atspi_world.proofs.words.read_role.Goals as goal
 

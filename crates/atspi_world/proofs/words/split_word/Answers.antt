@@ -1,4 +1,4 @@
-use Rattle.std.proofs.Common.{◌∙◌, ap, add-one, arith, ◌++◌, ◌∷◌, sym, take}
+use Rattle.std.proofs.Common.{add-one, arith}
 use Rattle.std.proofs.lemmas.List.{take_rest}
 use Rattle.atspi_world.proofs.WordLemmas.{no_space_before, cut_at, no_cut}
 use Rattle.atspi_world.proofs.words.split_word.Goals as goal

@@ -1,4 +1,3 @@
-use Rattle.std.proofs.Common.{take, drop}
 use Rattle.atspi_world.proofs.WordLemmas.{NoneBefore}
 use Rattle.atspi_world.proofs.words.split_word.Given as goal
 

@@ -15,8 +15,8 @@ use Rattle.atspi_tree.proofs.Trees.{covering, holding, seen, shape, step_there, 
 use Rattle.atspi_tree.proofs.Related.{related}
 use Rattle.atspi_tree.proofs.tree.Tree.relate.Goals as goal
 
-pub relations-requires : goal.relations-requires
-relations-requires c = step_there (Relate c.args.node c.args.kind c.args.targets.now) c.args.self.now c.requires
+pub relations_of-old-requires : goal.relations_of-old-requires
+relations_of-old-requires c = step_there (Relate c.args.node c.args.kind c.args.targets.now) c.args.self.now c.requires
 
 pub invariant_of-self : goal.invariant_of-self
 invariant_of-self c = record {
@@ -31,19 +31,19 @@ invariant_of-self-2 c =
     let step = Relate c.args.node c.args.kind c.args.targets.now in
     let h = holding _ _ c.args.self.now c.self.invariant c.self.view_is in
     let there = step_there step c.args.self.now c.requires in
-    let new = c.in_ok-relations.ensures ∙ ap (λ (ts : List ℕ). with_targets c.args.kind ts c.relations.result.now) c.as_slice.ensures in
+    let new = c.in_ok-relations.ensures ∙ ap (λ (ts : List ℕ). with_targets c.args.kind ts c.relations_of-old.result.now) c.as_slice.ensures in
     record {
       rows = after shapes c.args.self.now.rows step;
       held = table_change _ _ _ c.args.node (changed_shape step) c.args.self.now h there (λ a. refl)
           (λ y e. subst (λ (rs : List (ℕ × ℕ)). ChangesAt c.self.inside.cells.entries c.set_relations-lost.new.cells.entries c.args.node (with_row (with_relations rs) y))
-          (new ∙ ap (with_targets c.args.kind c.args.targets.now) (related _ _ c.args.node c.args.self.now h there y e c.relations.result.now c.relations.ensures))
+          (new ∙ ap (with_targets c.args.kind c.args.targets.now) (related _ _ c.args.node c.args.self.now h there y e c.relations_of-old.result.now c.relations_of-old.ensures))
           (c.set_relations-lost.ensures.put y e)) c.set_relations-lost.ensures.size;
       lawful = subst (IsTree shapes (after shapes c.args.self.now.rows step)) (sym h.added)
           (changed_is_tree shapes shapes_sound c.args.self.now.rows c.args.self.now.added step h.lawful c.requires);
-      covered = covers_relate c.self.inside.namers.sets c.note_each.new.self.sets c.forget_lost.new.self.sets c.in_ok-named.named c.args.self.now c.args.node c.args.kind c.args.targets.now c.relations.result.now
-          h.lawful c.relations.ensures c.note_each.ensures.kept
+      covered = covers_relate c.self.inside.namers.sets c.note_each.new.self.sets c.forget_lost.new.self.sets c.in_ok-named.named c.args.self.now c.args.node c.args.kind c.args.targets.now c.relations_of-old.result.now
+          h.lawful c.relations_of-old.ensures c.note_each.ensures.kept
           (subst (Each (λ t. notes c.note_each.new.self.sets t c.args.node ≡ true)) c.as_slice-2.ensures c.in_ok-note_each.ensures.noted)
-          (subst (λ (rs : List (ℕ × ℕ)). Each (λ t. contains nat_cmp c.in_ok-named.named t ≡ true) (map (λ r. r.1) rs)) (c.deref.ensures.value ∙ new) c.in_ok-named.ensures)
+          (subst (λ (rs : List (ℕ × ℕ)). Each (λ t. contains nat_cmp c.in_ok-named.named t ≡ true) (map (λ r. r.1) rs)) (c.pairs.ensures ∙ new) c.in_ok-named.ensures)
           c.forget_lost.ensures.others c.forget_lost.ensures.named (covering _ _ c.args.self.now c.self.invariant c.self.view_is);
     }
 

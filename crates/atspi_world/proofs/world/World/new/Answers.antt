@@ -1,4 +1,4 @@
-use Rattle.std.proofs.Common.{◌≡◌, ℕ, List, [], refl, subst, sym, false, None}
+use Rattle.std.proofs.Common.{◌≡◌, List, [], refl, subst, sym, false, None}
 use Rattle.atspi_world.specs.declared.event.Event.{Event}
 use Rattle.atspi_world.specs.declared.event.Message.{Message}
 use Rattle.atspi_world.specs.Trace.{live_tree, has_reader, messages, got_count, held_at, held}

@@ -1,4 +1,4 @@
-use Rattle.std.proofs.Common.{◌≡◌, sym, ◌∙◌, None, true, false, is_some}
+use Rattle.std.proofs.Common.{◌≡◌, sym, ◌∙◌, true, false}
 use Rattle.atspi_world.specs.Trace.{live_tree, has_reader}
 use Rattle.atspi_world.proofs.SegmentLemmas.{none_of, app_segment_alone, app_segment_told}
 use Rattle.atspi_world.proofs.world.World.start_app.Goals as goal

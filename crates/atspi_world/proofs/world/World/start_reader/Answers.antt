@@ -1,4 +1,4 @@
-use Rattle.std.proofs.Common.{◌≡◌, sym, ◌∙◌, None, true, false, is_some}
+use Rattle.std.proofs.Common.{◌≡◌, sym, ◌∙◌, false}
 use Rattle.atspi_world.specs.Trace.{live_tree, has_reader}
 use Rattle.atspi_world.proofs.SegmentLemmas.{both_of, no_both, reader_segment_alone, reader_segment_told}
 use Rattle.atspi_world.proofs.world.World.start_reader.Goals as goal

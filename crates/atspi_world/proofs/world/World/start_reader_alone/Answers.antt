@@ -1,4 +1,3 @@
-use Rattle.std.proofs.Common.{◌<◌, ◌≤◌, length, arith, rules}
 use Rattle.atspi_world.proofs.WorldLemmas.{keeps_reader_alone}
 use Rattle.atspi_world.proofs.world.World.start_reader_alone.Goals as goal
 

@@ -1,4 +1,4 @@
-use Rattle.std.proofs.Common.{◌<◌, ◌≤◌, length, arith, rules}
+use Rattle.std.proofs.Common.{◌<◌, length, arith, rules}
 use Rattle.atspi_world.proofs.WorldLemmas.{keeps_reader_told, sent_few}
 use Rattle.atspi_world.proofs.world.World.start_reader_told.Goals as goal
 

@@ -1,7 +1,5 @@
-use Rattle.std.proofs.Common.{◌≡◌, ◌<◌, sym, subst, length, rules, arith, Some, IsSome, ap, ◌∙◌}
-use Rattle.std.specs.Option.{option_copied}
+use Rattle.std.proofs.Common.{◌<◌, sym, subst, rules}
 use Rattle.atspi_world.specs.Trace.{waiting_count}
-use Rattle.atspi_world.specs.WorldParts.{CanFollow, IsWorld, followed, loaded}
 use Rattle.atspi_world.proofs.WorldLemmas.{can_follow_next, took_next, some_waits, waits_some, front_is, popped_is}
 use Rattle.atspi_world.proofs.world.World.take.Goals as goal
 

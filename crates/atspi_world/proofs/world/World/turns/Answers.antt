@@ -1,6 +1,6 @@
-use Rattle.std.proofs.Common.{◌≡◌, ◌<◌, sym, ◌∙◌, ap, subst, arith, rules}
+use Rattle.std.proofs.Common.{◌<◌, arith, rules}
 use Rattle.atspi_world.specs.Trace.{waiting_count}
-use Rattle.atspi_world.proofs.SegmentLemmas.{Turning, turning_next}
+use Rattle.atspi_world.proofs.SegmentLemmas.{turning_next}
 use Rattle.atspi_world.proofs.world.World.turns.Goals as goal
 
 pub loop-done-preserved : goal.loop-done-preserved
