@@ -66,7 +66,7 @@ fn edit(alloc: Global, tree: &mut Tree, edit: &Edit) -> Result<usize, EditRefuse
 /// A name of so many bytes.
 fn letters(alloc: Global, count: usize) -> Result<Text, Fail> {
     let bytes = vec![in alloc; b'a'; count]?;
-    if bytes.len() > 1024 {
+    if bytes.len() > 1_048_577 {
         return Err(Fail::new("too many letters"));
     }
     Ok(Text::read(alloc, &bytes)?)
@@ -143,6 +143,44 @@ fn refusals_in_their_order(rt: HostRuntime) -> Result<(), Fail> {
     ] {
         let edit = name(node, letters(alloc, count)?);
         assert!(rt; told(alloc, &tree, &edit)? == want, "name {node}");
+    }
+    Ok(())
+}
+
+/// An insert of a node with a text of so many letters, and so many columns.
+fn limited_insert(alloc: Global, count: usize, columns: u32) -> Result<Edit, Fail>
+    ensures lawful { IfOk result IsEdit }
+    ensures plain { IfOk result ReadsNone }
+{
+    Ok(Edit::Insert {
+        parent: 0,
+        index: 0,
+        seed: Seed {
+            role: 55,
+            name: letters(alloc, 1)?,
+            text: Some(letters(alloc, count)?),
+            editable: true,
+            columns: Some(columns),
+            select: false,
+            actions: Texts::new(alloc),
+        },
+    })
+}
+
+/// Texts and columns of a new node at their limits; columns are looked at before the text.
+#[test]
+fn limits_of_a_new_node(rt: HostRuntime) -> Result<(), Fail> {
+    let alloc = rt.alloc();
+    let tree = demo(alloc)?;
+    for (count, columns, want) in [
+        (1_048_576, 1, None),
+        (0, 1_024, None),
+        (1_048_577, 1_024, Some(EditFault::TextFull)),
+        (1_048_577, 1_025, Some(EditFault::BadIndex)),
+        (0, 0, Some(EditFault::BadIndex)),
+    ] {
+        let edit = limited_insert(alloc, count, columns)?;
+        assert!(rt; told(alloc, &tree, &edit)? == want, "{count} {columns}");
     }
     Ok(())
 }
