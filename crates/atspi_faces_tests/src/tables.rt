@@ -90,7 +90,7 @@ fn step(rt: &impl Abort, alloc: Global, face: &mut Box<dyn Face>, call: Call) ->
         Call::Alike(node, n) => alike(rt, alloc, face, node, n, true),
         Call::AlikeAgain(node, n) => alike(rt, alloc, face, node, n, false),
         Call::Kind(wanted) => expect_kind(rt, face, wanted),
-        Call::Actions(names) => actions(rt, alloc, face, names),
+        Call::Actions(names) => actions(alloc, face, names),
         Call::NoPart(from, to) => expect_no_part(rt, face, from, to),
     }
 }
@@ -258,6 +258,9 @@ fn alike(
 ) -> Result<(), Fail> {
     let what = contents(alloc, face.kind(), n)?;
     let done = put(face, node, what).is_ok();
+    if wanted && !done {
+        return Err(Fail::from(NoMemory));
+    }
     assert_eq!(rt; done, wanted);
     Ok(())
 }
@@ -295,19 +298,15 @@ fn expect_kind(rt: &impl Abort, face: &Box<dyn Face>, wanted: FaceKind) -> Resul
     Ok(())
 }
 
-fn actions(
-    rt: &impl Abort,
-    alloc: Global,
-    face: &mut Box<dyn Face>,
-    names: &str,
-) -> Result<(), Fail> {
+fn actions(alloc: Global, face: &mut Box<dyn Face>, names: &str) -> Result<(), Fail> {
     let mut list = Texts::new(alloc);
     for name in names.split(' ') {
         list.push(text(alloc, name.as_bytes())?)?;
     }
-    let done = put(face, NODE, FaceData::Deeds(list)).is_ok();
-    assert!(rt; done);
-    Ok(())
+    match put(face, NODE, FaceData::Deeds(list)) {
+        Ok(()) => Ok(()),
+        Err(_) => Err(Fail::from(NoMemory)),
+    }
 }
 
 fn expect_no_part(rt: &impl Abort, face: &Box<dyn Face>, from: u32, to: u32) -> Result<(), Fail> {
