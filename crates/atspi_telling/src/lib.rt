@@ -1,0 +1,16 @@
+//! The signals of an application as messages that it owns: paths of nodes, values, and the events at a node.
+#![tactic(auto)]
+
+mod bodies;
+mod changes;
+mod children;
+mod paths;
+mod values;
+
+pub use changes::{
+    caret_moved, description_changed, name_changed, role_changed, state_changed, text_deleted,
+    text_inserted,
+};
+pub use children::{child_added, child_removed, node_removed, parent_changed};
+pub use paths::node_path;
+pub use values::{reference, reference_type};
