@@ -11,7 +11,7 @@ ghost use Rattle.atspi_message.specs.Envelope.{envelope_of};
 ghost use Rattle.atspi_ends.specs.Messages as messages;
 ghost use Rattle.atspi_members.specs.Arguments.{int};
 ghost use Rattle.atspi_objects.specs.Values.{in_variant};
-ghost use Rattle.atspi_announcing.specs.Signals.{event_interface};
+ghost use Rattle.atspi_news.specs.NewsOf.{event_interface};
 
 use crate::paths::node_path;
 use atspi_base::{NoMemory, Text};
