@@ -1,16 +1,16 @@
 -- The steps of a walk in preorder: down to the first child, on to the next sibling, up to the parent.
-use Rattle.std.proofs.Common.{◌≡◌, ℕ, zero, suc, ◌+◌, ◌<◌, ◌≤◌, ◌==◌, ◌≢◌, Bool, true, false, cond, Option, Some, None, List, [], ◌∷◌, ◌++◌, length, drop, get_or, map, refl, sym, ap, ◌∙◌, subst, arith, append_assoc}
-use Rattle.std.specs.Prelude.{slice_get, nat_lt}
+use Rattle.std.proofs.Common.{◌≡◌, ℕ, zero, suc, ◌+◌, ◌<◌, ◌≤◌, ◌==◌, Bool, true, false, cond, Option, Some, None, List, [], ◌∷◌, ◌++◌, length, drop, map, refl, sym, ap, ◌∙◌, subst, arith, append_assoc}
+use Rattle.std.specs.Prelude.{◌-◌, slice_get, nat_le}
 use Rattle.std.specs.Option.{option_map, option_to_list}
 use Rattle.std.proofs.lemmas.List.{append-nil, map-append}
-use Rattle.std.proofs.lemmas.Bool.{eq-eqb, ltb-false, ltb-true}
+use Rattle.std.proofs.lemmas.Bool.{eq-eqb, eqb-false, eqb-true, le-leb}
 use Rattle.slab.specs.Slab.{Slab, get}
 use Rattle.atspi_forest.specs.declared.view.Row.{Row}
 use Rattle.atspi_forest.specs.Forest.{Forest, nil, tree, count, relabel, grow, seats}
 use Rattle.atspi_arena.specs.Keys.{HoldsBelow, Kept, Node, is_key, keys}
 use Rattle.atspi_arena.specs.Arena.{IsArena, children_or, row_or, rows_of}
 use Rattle.atspi_arena.specs.Sights.{Sight, sight, sights}
-use Rattle.atspi_arena.specs.Table.{kept, look_in, parent_in, times}
+use Rattle.atspi_arena.specs.Table.{is_this, kept, look_in, parent_in, times}
 use Rattle.atspi_arena.specs.Walk.{AreLater, At, EndsAt, Frame, IsAtIndex, IsNext, IsWalk, IsWay, NoneTwice, Seat, Stands, all_seats, behind, child_at, depth, first_place, from_key, from_place, key_seats, kids, left_of, path_in, path_under, seated, sight_of, sights_left, up_of}
 use Rattle.atspi_arena.specs.declared.cell.Cell.{Cell}
 use Rattle.atspi_arena.specs.declared.paths.Paths.{Paths}
@@ -370,24 +370,61 @@ read_there s most p cell rest a e =
     ∙ ap (λ i. sight (path_under look cell.parent, i, row_or (look a.last.node.key))) a.ends.1
     ∙ ap (λ r. sight (path_under look cell.parent, p.index, r)) row
 
-got : (xs : List ℕ) (i k : ℕ) → slice_get xs i ≡ Some k → (i < length xs) × (get_or xs i 0 ≡ k)
-got [] i k e = cc
-got (x ∷ xs) zero k e = (omega arith, cc)
-got (x ∷ xs) (suc i) k e = let g = got xs i k e in (omega arith, g.1)
+-- no key stands nearer to an index than so many places
+abbrev pub NoneNear : List ℕ → ℕ → ℕ → ℕ → Type 0
+NoneNear xs key near places = (j : ℕ) → slice_get xs j ≡ Some key → near < j + places → j < near + places → ⊥
 
-have : (xs : List ℕ) (i k : ℕ) → i < length xs → get_or xs i 0 ≡ k → slice_get xs i ≡ Some k
-have [] i k l e = absurd (omega arith)
-have (x ∷ xs) zero k l e = ap Some e
-have (x ∷ xs) (suc i) k l e = have xs i k (omega arith) e
+this_is : (k : ℕ) (o : Option ℕ) → is_this k o ≡ true → o ≡ Some k
+this_is k None e = cc
+this_is k (Some x) e = ap Some (eqb-true x k e)
 
--- a search for a key that is there ends at one
-pub search_ends : (xs : List ℕ) (r k : ℕ) → ((j : ℕ) → j < r → get_or xs j 0 ≢ k) → (r < length xs → get_or xs r 0 ≡ k)
-    → (i : ℕ) → slice_get xs i ≡ Some k → slice_get xs r ≡ Some k
-search_ends xs r k before found i e = let g = got xs i k e in at (nat_lt i r) refl g.0 g.1
+is_this-self : (k : ℕ) (o : Option ℕ) → o ≡ Some k → is_this k o ≡ true
+is_this-self k o e = ap (is_this k) e ∙ eq-eqb k k refl
+
+-- a key that is found at an index is there
+pub found_at : (xs : List ℕ) (i key : ℕ) → is_this key (slice_get xs i) ≡ true → slice_get xs i ≡ Some key
+found_at xs i key e = this_is key (slice_get xs i) e
+
+pub found_before : (xs : List ℕ) (near places key : ℕ) → cond (nat_le places near) (is_this key (slice_get xs (near - places))) false ≡ true
+    → slice_get xs (near - places) ≡ Some key
+found_before xs near places key e = at (nat_le places near) e
   where
-    at : (b : Bool) → nat_lt i r ≡ b → i < length xs → get_or xs i 0 ≡ k → slice_get xs r ≡ Some k
-    at true f l h = absurd (before i (ltb-true i r f) h)
-    at false f l h = let m = ltb-false i r f in let n : r < length xs = omega arith in have xs r k n (found n)
+    at : (b : Bool) → cond b (is_this key (slice_get xs (near - places))) false ≡ true → slice_get xs (near - places) ≡ Some key
+    at true e = this_is key (slice_get xs (near - places)) e
+    at false e = cc
+
+-- one place farther on
+pub none_nearer : (xs : List ℕ) (near places key : ℕ) → NoneNear xs key near places → is_this key (slice_get xs (near + places)) ≡ false
+    → cond (nat_le places near) (is_this key (slice_get xs (near - places))) false ≡ false → NoneNear xs key near (places + 1)
+none_nearer xs near places key none behind before j e l m = at (j == near + places) refl (j + places == near) refl
+  where
+    at : (a : Bool) → (j == near + places) ≡ a → (b : Bool) → (j + places == near) ≡ b → ⊥
+    at true f b g =
+        let z = is_this-self key (slice_get xs (near + places)) (ap (slice_get xs) (sym (eqb-true j (near + places) f)) ∙ e) in cc
+    at false f true g =
+        let same : j + places ≡ near = eqb-true (j + places) near g in
+        let le : places ≤ near = omega arith in
+        let is : near - places ≡ j = omega arith in
+        let z = is_this-self key (slice_get xs (near - places)) (ap (slice_get xs) is ∙ e) in
+        let y : is_this key (slice_get xs (near - places)) ≡ false = ap (λ b. cond b (is_this key (slice_get xs (near - places))) false) (sym (le-leb places near le)) ∙ before in
+        cc
+    at false f false g =
+        let p = eqb-false j (near + places) f in
+        let q = eqb-false (j + places) near g in
+        none j e (omega arith) (omega arith)
+
+got : (xs : List ℕ) (i k : ℕ) → slice_get xs i ≡ Some k → i < length xs
+got [] i k e = cc
+got (x ∷ xs) zero k e = omega arith
+got (x ∷ xs) (suc i) k e = let g = got xs i k e in omega arith
+
+-- a key that stands nowhere near is not there
+pub none_there : (xs : List ℕ) (near key : ℕ) → (0 < length xs → near < length xs) → NoneNear xs key near (length xs) → (i : ℕ) → slice_get xs i ≡ Some key → ⊥
+none_there xs near key in_range none i e =
+    let l = got xs i key e in
+    let p : 0 < length xs = omega arith in
+    let m = in_range p in
+    none i e (omega arith) (omega arith)
 
 pub nothing_at : (i k : ℕ) → slice_get [] i ≡ Some k → ⊥
 nothing_at i k e = absurd cc

@@ -1,6 +1,6 @@
 //! The cells, and the writes to the slab of them.
 
-ghost use Rattle.std.specs.Prelude.{◌≡◌, ◌≢◌, ◌==◌, ℕ, Option, cond, not, Some, None, IsSome, OnOk, OnErr, IfOk, IsOk};
+ghost use Rattle.std.specs.Prelude.{◌≡◌, ◌≢◌, ◌==◌, ℕ, Option, cond, length, not, Some, None, IsSome, OnOk, OnErr, IfOk, IsOk};
 ghost use Rattle.slab.specs.Slab.{slab_len};
 ghost use Rattle.atspi_forest.specs.declared.view.Row.{Row};
 ghost use Rattle.atspi_forest.specs.Forest.{Forest, count};
@@ -21,6 +21,8 @@ pub(crate) struct Cell {
     /// None for the root.
     pub(crate) parent: Option<usize>,
     pub(crate) children: Vec<usize>,
+    /// Where it was put among its siblings: a guess, since each that came or went before it since then moved it by one.
+    pub(crate) seat: usize,
 }
 
 /// Puts a key among the children of another, at an index or at the end.
@@ -62,6 +64,16 @@ fn place_of(index: Option<usize>, len: usize) -> usize
     }
 }
 
+/// Where a child that is put at an index of a row, or at its end, will stand.
+pub(crate) fn seat_for(cells: &Slab<Cell>, parent: usize, index: Option<usize>) -> usize
+    ensures { (k : Kept Row) → look_in cells.now parent ≡ Some k → result ≡ place_of index (length k.children) }
+{
+    match cells.get(parent) {
+        Some(cell) => place_of(index, cell.children.len()),
+        None => 0,
+    }
+}
+
 /// Makes room for one more child.
 fn make_room(cells: &mut Slab<Cell>, parent: usize) -> Result<(), NoMemory>
     requires is_there { IsSome (look_in cells.old parent) }
@@ -93,8 +105,8 @@ pub(crate) fn unlink(cells: &mut Slab<Cell>, parent: usize, key: usize)
     }
 }
 
-/// Gives a cell another parent.
-pub(crate) fn set_parent(cells: &mut Slab<Cell>, key: usize, parent: usize)
+/// Gives a cell another parent, and the place there.
+pub(crate) fn set_parent(cells: &mut Slab<Cell>, key: usize, parent: usize, seat: usize)
     ensures none { look_in cells.old key ≡ None → look_in cells.new key ≡ None }
     ensures put { (k : Kept Row) → look_in cells.old key ≡ Some k → look_in cells.new key ≡ Some (record k { parent = Some parent }) }
     ensures room { (n : ℕ) → RoomAt cells.old n → RoomAt cells.new n }
@@ -102,6 +114,7 @@ pub(crate) fn set_parent(cells: &mut Slab<Cell>, key: usize, parent: usize)
 {
     if let Some(cell) = cells.get_mut(key) {
         cell.parent = Some(parent);
+        cell.seat = seat;
     }
 }
 
@@ -150,10 +163,11 @@ pub(crate) fn relink(
 {
     make_room(cells, to)?;
     unlink(cells, from, key);
+    let seat = seat_for(cells, to, at);
     match link(cells, to, at, key) {
         Ok(()) => {}
         Err(_) => unreachable!(),
     }
-    set_parent(cells, key, to);
+    set_parent(cells, key, to, seat);
     Ok(())
 }

@@ -8,7 +8,7 @@ ghost use Rattle.atspi_forest.specs.declared.view.Row.{Row};
 ghost use Rattle.atspi_arena.specs.Keys.{Kept};
 ghost use Rattle.atspi_arena.specs.Table.{has_path, is_among, is_this, look_in, parent_in, path_among, root_after, sits, with_child, without_child};
 
-use crate::cell::{Cell, link, unlink};
+use crate::cell::{Cell, link, seat_for, unlink};
 use atspi_base::NoMemory;
 use atspi_forest::Row;
 use atspi_types::Path;
@@ -46,11 +46,13 @@ pub(crate) fn insert_below(
     cells.reserve(1)?;
     paths.index.reserve(1)?;
     let key = cells.vacant_key();
+    let seat = seat_for(cells, parent, at);
     link(cells, parent, at, key)?;
     cells.insert_reserved(Cell {
         row,
         parent: Some(parent),
         children: Vec::new(alloc),
+        seat,
     });
     match paths.index.insert(own, key) {
         Ok(_) => Ok(()),
@@ -137,6 +139,7 @@ pub(crate) fn put_root(
         row,
         parent: None,
         children: Vec::new(alloc),
+        seat: 0,
     });
     match paths.index.insert(own, key) {
         Ok(_) => {

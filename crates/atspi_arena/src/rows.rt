@@ -1,9 +1,9 @@
 //! A walk over the rows in preorder, without memory.
 
-ghost use Rattle.std.specs.Prelude.{◌≡◌, ◌≢◌, ◌<◌, ℕ, pos, suc, min, length, List, Some, slice_get, slice_index};
+ghost use Rattle.std.specs.Prelude.{◌≡◌, ◌-◌, ◌<◌, ℕ, pos, suc, min, length, List, Some, cond, false, nat_le, slice_get};
 ghost use Rattle.std.specs.Iterator.{YieldsFirstBy, item_count};
 ghost use Rattle.std.specs.Option.{option_copied};
-ghost use Rattle.atspi_arena.specs.Table.{look_in, parent_in};
+ghost use Rattle.atspi_arena.specs.Table.{is_this, look_in, parent_in};
 ghost use Rattle.atspi_arena.specs.Arena.{IsArena, rows_of};
 ghost use Rattle.atspi_arena.specs.Sights.{sight, sights};
 ghost use Rattle.atspi_arena.specs.Walk.{At, EndsAt, Frame, IsAtIndex, IsNext, IsWay, Seat, behind, child_at, first_place, kids, left_of, path_under, seen_sight};
@@ -97,25 +97,63 @@ fn next_child(cells: &Slab<Cell>, parent: usize, index: usize) -> Option<Place>
     }
 }
 
-/// The first index of a key among some, or how many there are.
-fn index_in(children: &[usize], key: usize) -> usize
-    ensures before { (k : ℕ) → k < result → slice_index children.now k ≢ key }
-    ensures found { result < length children.now → slice_index children.now result ≡ key }
+/// A guess that is an index, where there is one.
+fn within(guess: usize, len: usize) -> usize
+    ensures { 0 < len → result < len }
 {
-    for (i, child) in children.iter().enumerate() {
-        if *child == key {
-            return i;
-        }
-    }
-    children.len()
+    if guess < len { guess } else { 0 }
 }
 
-/// The index of a key among the children of another, if it is there.
-fn index_below(cells: &Slab<Cell>, parent: usize, key: usize) -> usize
+/// Whether a key stands at an index.
+fn is_at(children: &[usize], index: usize, key: usize) -> bool
+    ensures { result ≡ is_this key (slice_get children.now index) }
+{
+    match children.get(index) {
+        Some(child) => *child == key,
+        None => false,
+    }
+}
+
+/// Whether a key stands so many places before an index.
+fn is_before(children: &[usize], index: usize, places: usize, key: usize) -> bool
+    ensures { result ≡ cond (nat_le places index) (is_this key (slice_get children.now (index - places))) false }
+{
+    if places > index {
+        return false;
+    }
+    is_at(children, index - places, key)
+}
+
+/// The index of a key among some, if it is there: the nearest to a guess.
+fn index_in(children: &[usize], guess: usize, key: usize) -> usize
+    ensures { (i : ℕ) → slice_get children.now i ≡ Some key → slice_get children.now result ≡ Some key }
+{
+    let near = within(guess, children.len());
+    for places in 0..children.len() {
+        if is_at(children, near + places, key) {
+            return near + places;
+        }
+        if is_before(children, near, places, key) {
+            return near - places;
+        }
+    }
+    0
+}
+
+/// The index of a key among the children of another, if it is there, searched for from a guess on.
+fn index_below(cells: &Slab<Cell>, parent: usize, guess: usize, key: usize) -> usize
     ensures { (i : ℕ) → slice_get (kids (look_in cells.now) parent) i ≡ Some key → slice_get (kids (look_in cells.now) parent) result ≡ Some key }
 {
     match cells.get(parent) {
-        Some(cell) => index_in(&cell.children, key),
+        Some(cell) => index_in(&cell.children, guess, key),
+        None => 0,
+    }
+}
+
+/// Where a row was put among its siblings.
+fn seat_of(cells: &Slab<Cell>, key: usize) -> usize {
+    match cells.get(key) {
+        Some(cell) => cell.seat,
         None => 0,
     }
 }
@@ -125,7 +163,7 @@ fn index_of(cells: &Slab<Cell>, key: usize) -> usize
     ensures { (i : ℕ) → IsAtIndex (look_in cells.now) (parent_in (look_in cells.now key)) i key → IsAtIndex (look_in cells.now) (parent_in (look_in cells.now key)) result key }
 {
     match parent_of(cells, key) {
-        Some(parent) => index_below(cells, parent, key),
+        Some(parent) => index_below(cells, parent, seat_of(cells, key), key),
         None => 0,
     }
 }

@@ -1,5 +1,5 @@
-use Rattle.std.proofs.Common.{◌≡◌, ℕ, ◌<◌, get_or}
+use Rattle.atspi_arena.proofs.Stepped.{NoneNear}
 use Rattle.atspi_arena.proofs.rows.index_in.Given as goal
 
-abbrev pub invariant-loop-i : goal.invariant-loop-i
-invariant-loop-i l = (k : ℕ) → k < l.i → get_or l.children k 0 ≡ l.key → ⊥
+abbrev pub invariant-loop-places : goal.invariant-loop-places
+invariant-loop-places l = NoneNear l.children l.key l.near l.places
