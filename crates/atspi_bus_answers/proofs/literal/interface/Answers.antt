@@ -1,0 +1,8 @@
+use Rattle.std.proofs.Common.{ap, ◌∙◌}
+use Rattle.atspi_types.specs.Names.{is_interface}
+use Rattle.atspi_bus_answers.proofs.NameTexts.{never_refused}
+use Rattle.atspi_bus_answers.proofs.literal.interface.Goals as goal
+
+pub unreachable-requires : goal.unreachable-requires
+unreachable-requires c =
+    never_refused is_interface c.in-Err-Form.field-0 c.as_bytes.result.now (ap is_interface c.as_bytes.ensures.value ∙ c.requires) c.in-Err-Form.ensures.tested c.in-Err-Form.field-0-is

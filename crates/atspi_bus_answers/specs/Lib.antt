@@ -1,0 +1,4 @@
+pub mod Errors
+pub mod Lines
+pub mod Answered
+pub mod Members

@@ -1,0 +1,83 @@
+//! RequestName and ReleaseName.
+
+ghost use Rattle.std.specs.Prelude.{◌≡◌, ℕ, List, IfOk, OnErr, chars};
+ghost use Rattle.atspi_match.specs.declared.condition.Condition.{Condition};
+ghost use Rattle.atspi_bus_answers.specs.Answered.{with_parts, IsAnswer};
+ghost use Rattle.atspi_bus_answers.specs.Members.{IsAskedName, requested_answer, released_answer};
+
+use crate::BusError;
+use crate::answering::Reply;
+use crate::change::{release_change, request_change, tell_change};
+use crate::literal::is_own;
+use crate::values::one;
+use atspi_base::NoMemory;
+use atspi_message::Message;
+use atspi_names::Names;
+use atspi_types::{BusName, NameFault, Value};
+use std::alloc::Global;
+
+/// The name that the text is, where connections may ask for it.
+fn asked_name(alloc: Global, text: &str) -> Result<Option<BusName>, NoMemory>
+    ensures { IfOk result (λ name. IsAskedName name (chars text.now)) }
+{
+    match BusName::read(alloc, text.as_bytes()) {
+        Ok(name) => {
+            if name.is_unique() {
+                return Ok(None);
+            }
+            if is_own(name.as_str()) {
+                return Ok(None);
+            }
+            Ok(Some(name))
+        }
+        Err(NameFault::Form) => Ok(None),
+        Err(NameFault::NoMemory) => Err(NoMemory),
+    }
+}
+
+/// RequestName: what it changes is told before the name is asked for, so that after want of memory the names are as before.
+pub fn request_name(
+    alloc: Global,
+    names: &mut Names,
+    conn: u32,
+    text: &str,
+    flags: u32,
+    told: &mut Vec<Message>,
+) -> Result<Reply, NoMemory>
+    ensures ok { IfOk result (λ reply. (rules : List (ℕ × List Condition)) →
+        IsAnswer (requested_answer (with_parts names.old rules) conn (chars text.now) flags) names.new rules told.old.items told.new.items reply) }
+    ensures err { OnErr result (names.new ≡ names.old) }
+{
+    let Some(name) = asked_name(alloc, text)? else {
+        return Ok(Reply::Fails(BusError::InvalidArgs));
+    };
+    let change = request_change(names.queue(&name), conn, flags);
+    let values = one(alloc, Value::U32(change.answer))?;
+    tell_change(alloc, names, &name, change, told)?;
+    if names.request(conn, &name, flags).is_err() {
+        return Err(NoMemory);
+    }
+    Ok(Reply::Returns(values))
+}
+
+/// ReleaseName.
+pub fn release_name(
+    alloc: Global,
+    names: &mut Names,
+    conn: u32,
+    text: &str,
+    told: &mut Vec<Message>,
+) -> Result<Reply, NoMemory>
+    ensures ok { IfOk result (λ reply. (rules : List (ℕ × List Condition)) →
+        IsAnswer (released_answer (with_parts names.old rules) conn (chars text.now)) names.new rules told.old.items told.new.items reply) }
+    ensures err { OnErr result (names.new ≡ names.old) }
+{
+    let Some(name) = asked_name(alloc, text)? else {
+        return Ok(Reply::Fails(BusError::InvalidArgs));
+    };
+    let change = release_change(names.queue(&name), conn);
+    let values = one(alloc, Value::U32(change.answer))?;
+    tell_change(alloc, names, &name, change, told)?;
+    names.release(conn, &name);
+    Ok(Reply::Returns(values))
+}

@@ -1,0 +1,156 @@
+//! The messages of the bus's own, before they have their numbers.
+
+ghost use Rattle.std.specs.Prelude.{◌≡◌, [], ◌∷◌, true, codes, IfOk, option_copied};
+ghost use Rattle.atspi_types.specs.Data.{text_data};
+ghost use Rattle.atspi_types.specs.DataView.{all_data};
+ghost use Rattle.atspi_types.specs.Names.{is_member};
+ghost use Rattle.atspi_message.specs.Envelope.{envelope_of};
+ghost use Rattle.atspi_routing.specs.BusState.{text_or_empty};
+ghost use Rattle.atspi_routing.specs.OwnMessages as own;
+ghost use Rattle.atspi_bus_answers.specs.Errors.{error_text};
+
+use crate::BusError;
+use crate::literal::{bus_name, interface, member, path};
+use crate::values::{name_value, one, owner_value};
+use atspi_base::{NoMemory, Text};
+use atspi_message::Message;
+use atspi_types::{BusName, Order, Value, Values};
+use std::alloc::Global;
+
+/// The name of the bus itself, which is also that of its interface.
+const OWN_NAME: &str = "org.freedesktop.DBus";
+
+/// The path of the bus's own signals.
+const OWN_PATH: &str = "/org/freedesktop/DBus";
+
+/// A copy of the name, if there is one.
+fn copied(alloc: Global, name: Option<&BusName>) -> Result<Option<BusName>, NoMemory>
+    ensures { IfOk result (λ copy. copy ≡ option_copied name.entry) }
+{
+    match name {
+        Some(name) => Ok(Some(name.copy(alloc)?)),
+        None => Ok(None),
+    }
+}
+
+/// A signal, to one connection or to all that ask for it.
+fn signal(
+    alloc: Global,
+    name: &str,
+    to: Option<&BusName>,
+    body: Values,
+) -> Result<Message, NoMemory>
+    requires { is_member name.now ≡ true }
+    ensures { IfOk result (λ m. envelope_of m ≡ own.signal name.now (option_copied to.entry) (all_data body)) }
+{
+    Ok(Message {
+        order: Order::Little,
+        kind: 4,
+        flags: 1,
+        serial: 0,
+        path: Some(path(alloc, OWN_PATH)?),
+        interface: Some(interface(alloc, OWN_NAME)?),
+        member: Some(member(alloc, name)?),
+        error: None,
+        reply: None,
+        destination: copied(alloc, to)?,
+        sender: Some(bus_name(alloc, OWN_NAME)?),
+        body,
+    })
+}
+
+/// What a caller's call with this serial returns.
+pub fn return_to(
+    alloc: Global,
+    caller: Option<&BusName>,
+    serial: u32,
+    body: Values,
+) -> Result<Message, NoMemory>
+    ensures { IfOk result (λ m. envelope_of m ≡ own.return_to (option_copied caller.entry) serial (all_data body)) }
+{
+    Ok(Message {
+        order: Order::Little,
+        kind: 2,
+        flags: 1,
+        serial: 0,
+        path: None,
+        interface: None,
+        member: None,
+        error: None,
+        reply: Some(serial),
+        destination: copied(alloc, caller)?,
+        sender: Some(bus_name(alloc, OWN_NAME)?),
+        body,
+    })
+}
+
+/// The body of an error: its text.
+fn error_body(alloc: Global, error: BusError) -> Result<Values, NoMemory>
+    ensures { IfOk result (λ body. all_data body ≡ text_data (error_text error) ∷ []) }
+{
+    let text = Text::of(alloc, error.text())?;
+    one(alloc, Value::Text(text))
+}
+
+/// The error that a caller's call with this serial gets.
+pub fn error_to(
+    alloc: Global,
+    caller: Option<&BusName>,
+    serial: u32,
+    error: BusError,
+) -> Result<Message, NoMemory>
+    ensures { IfOk result (λ m. envelope_of m ≡ own.error_to (option_copied caller.entry) serial (error_text error)) }
+{
+    Ok(Message {
+        order: Order::Little,
+        kind: 3,
+        flags: 1,
+        serial: 0,
+        path: None,
+        interface: None,
+        member: None,
+        error: Some(interface(alloc, error.name())?),
+        reply: Some(serial),
+        destination: copied(alloc, caller)?,
+        sender: Some(bus_name(alloc, OWN_NAME)?),
+        body: error_body(alloc, error)?,
+    })
+}
+
+/// A connection is told that it does not own the name any more.
+pub fn name_lost(alloc: Global, to: Option<&BusName>, name: &BusName) -> Result<Message, NoMemory>
+    ensures { IfOk result (λ m. envelope_of m ≡
+        own.signal (codes "NameLost") (option_copied to.entry) (text_data name.now ∷ [])) }
+{
+    let body = one(alloc, name_value(alloc, name)?)?;
+    signal(alloc, "NameLost", to, body)
+}
+
+/// A connection is told that it owns the name.
+pub fn name_acquired(
+    alloc: Global,
+    to: Option<&BusName>,
+    name: &BusName,
+) -> Result<Message, NoMemory>
+    ensures { IfOk result (λ m. envelope_of m ≡
+        own.signal (codes "NameAcquired") (option_copied to.entry) (text_data name.now ∷ [])) }
+{
+    let body = one(alloc, name_value(alloc, name)?)?;
+    signal(alloc, "NameAcquired", to, body)
+}
+
+/// All that ask for it are told that the name has another owner, or none.
+pub fn owner_changed(
+    alloc: Global,
+    name: &BusName,
+    before: Option<&BusName>,
+    after: Option<&BusName>,
+) -> Result<Message, NoMemory>
+    ensures { IfOk result (λ m. envelope_of m ≡
+        own.owner_changed name.now (text_or_empty (option_copied before.entry)) (text_or_empty (option_copied after.entry))) }
+{
+    let mut body = one(alloc, name_value(alloc, name)?)?;
+    body.push(owner_value(alloc, before)?)?;
+    body.push(owner_value(alloc, after)?)?;
+    signal(alloc, "NameOwnerChanged", None, body)
+}
