@@ -1,0 +1,5 @@
+//! Tests of the queues of a bus over their public calls.
+#![tactic(auto)]
+
+#[cfg(test)]
+mod quotas;
