@@ -185,3 +185,8 @@ one_parting bytes (m ∷ ms) (n ∷ ns) rest more h a p none b q none' =
 
     both : (m n : Envelope × List ℕ) (ms ns : List (Envelope × List ℕ)) → m.0 ≡ n.0 → m.1 ≡ n.1 → ms ≡ ns → (m ∷ ms) ≡ (n ∷ ns)
     both m n ms ns e f g = let one : pair m.0 m.1 ≡ pair n.0 n.1 = rw (e, f) refl in ap (λ (x : Envelope × List ℕ). x ∷ ms) one ∙ ap (λ (xs : List (Envelope × List ℕ)). n ∷ xs) g
+
+-- where the first 16 bytes have a fault no more are awaited
+pub front_not_awaited : (held : List ℕ) (place reason : ℕ) → 16 ≤ length held → IsFirst (WrongFront (take 16 held)) place reason → AwaitsMore held → ⊥
+front_not_awaited held place reason long is (few short) = omega (arith, long, short)
+front_not_awaited held place reason long is (unfinished long' sound short) = none_in_front (take 16 held) place reason sound is.there

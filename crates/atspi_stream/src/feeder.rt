@@ -1,13 +1,13 @@
 //! Pieces of a stream of bytes to whole messages.
 
-ghost use Rattle.std.specs.Prelude.{◌≡◌, ◌++◌, ℕ, List, [], length, OnOk, OnErr};
+ghost use Rattle.std.specs.Prelude.{◌≡◌, ◌<◌, ◌≤◌, ◌+◌, ◌++◌, ◌↔◌, ℕ, List, [], length, OnOk, OnErr};
 ghost use Rattle.std.specs.Borrow.{sem};
 ghost use Rattle.std.specs.Io.BufRead.{Rests};
 ghost use Rattle.atspi_message.specs.Envelope.{Envelope};
 ghost use Rattle.atspi_message.specs.Bytes.{IsMessage};
 ghost use Rattle.atspi_stream.specs.Laws.{AreBytes};
 ghost use Rattle.atspi_stream.specs.Seen.{Sees};
-ghost use Rattle.atspi_stream.specs.Stream.{AwaitsMore, HasFault, TakesPiece, IsMessageGiven, WaitsRightly, TellsFault, IsFaultTold, Leaves};
+ghost use Rattle.atspi_stream.specs.Stream.{stated, AwaitsMore, HasFault, TakesPiece, IsMessageGiven, WaitsRightly, TellsFault, IsFaultTold, Leaves};
 ghost use Rattle.atspi_stream.specs.contracts.feeder.Feeder.{the_row};
 
 use atspi_base::NoMemory;
@@ -70,6 +70,21 @@ fn look(held: &[u8]) -> (Got<'_>, usize)
     }
 }
 
+/// How many bytes a message that begins with these lacks.
+fn lacking(held: &[u8]) -> usize
+    ensures awaits { (0 < result) ↔ AwaitsMore held.now }
+    ensures front { length held.now < 16 → length held.now + result ≡ 16 }
+    ensures rest { 16 ≤ length held.now → 0 < result → length held.now + result ≡ stated held.now }
+{
+    let Some(first) = held.first_chunk::<16>() else {
+        return 16 - held.len();
+    };
+    match total(first) {
+        Ok(length) => (length as usize).saturating_sub(held.len()),
+        Err(_) => 0,
+    }
+}
+
 impl Feeder {
     /// Nothing is held yet.
     pub fn new(alloc: Global) -> Feeder
@@ -87,6 +102,16 @@ impl Feeder {
         ensures { result ≡ length self.now }
     {
         self.bytes.len() - self.start
+    }
+
+    /// How many bytes the next message awaits: those that its first 16 lack, and once these are there, those that it lacks in whole.
+    /// 0 exactly where it is whole or malformed in its first 16 bytes. No memory is taken.
+    pub fn missing(&self) -> usize
+        ensures awaits { (0 < result) ↔ AwaitsMore self.now }
+        ensures front { length self.now < 16 → length self.now + result ≡ 16 }
+        ensures rest { 16 ≤ length self.now → 0 < result → length self.now + result ≡ stated self.now }
+    {
+        lacking(&self.bytes[self.start..])
     }
 
     /// Moves the bytes that are held to the front, where those given out are as many or more.

@@ -41,6 +41,13 @@ fn in_two(alloc: Global, bytes: &[u8], cut: usize) -> ((u32, u32), (u32, u32), u
     (first, second, feeder.len())
 }
 
+/// How many bytes are missing behind a piece.
+fn missing_behind(alloc: Global, piece: &[u8]) -> usize {
+    let mut feeder = Feeder::new(alloc);
+    let _ = feeder.feed(piece);
+    feeder.missing()
+}
+
 /// How many messages come until something else does.
 fn count_messages(feeder: &mut Feeder) -> u32 {
     for count in 0..u32::MAX {
@@ -84,6 +91,22 @@ fn a_message_comes_with_its_last_byte(rt: HostRuntime) {
     assert_eq!(rt; byte_by_byte(rt.alloc(), &HELLO), (1, 0));
     assert_eq!(rt; byte_by_byte(rt.alloc(), &HELLO[..127]), (0, 127));
     assert_eq!(rt; in_two(rt.alloc(), &BIG, 8), ((0, 0), (1, 3), 0));
+}
+
+#[test]
+fn what_is_missing_is_told(rt: HostRuntime) {
+    for (there, due) in [(0, 16), (15, 1), (16, 112), (127, 1), (128, 0)] {
+        assert_eq!(rt;
+            missing_behind(rt.alloc(), &HELLO[..there]),
+            due,
+            "behind {there}"
+        );
+    }
+    assert_eq!(rt; missing_behind(rt.alloc(), &BIG[..16]), 8);
+    // of bytes that are at fault in their first 16 none is awaited
+    let mut early = HELLO;
+    early[8] = 0;
+    assert_eq!(rt; missing_behind(rt.alloc(), &early[..16]), 0);
 }
 
 #[test]
