@@ -1,3 +1,4 @@
+pub mod Copies
 pub mod QueueLemmas
 pub mod Maps
 pub mod ListsLemmas

@@ -28,6 +28,10 @@ abbrev pub SetsNote : Standings → Standings → ℕ → List ℕ → Bool → 
 SetsNote old new conn name b =
     (c : ℕ) (q : List ℕ) → notes new c q ≡ (if is_pair conn name c q then b else notes old c q)
 
+-- two sets have the same names
+abbrev pub SameNames : BTreeSet (List ℕ) → BTreeSet (List ℕ) → Type 0
+SameNames old new = (q : List ℕ) → set.contains (slice_cmp nat_cmp) new q ≡ set.contains (slice_cmp nat_cmp) old q
+
 -- nothing is noted anew or forgotten
 abbrev pub SameNotes : Standings → Standings → Type 0
 SameNotes old new = (c : ℕ) (q : List ℕ) → notes new c q ≡ notes old c q

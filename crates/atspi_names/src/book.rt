@@ -54,6 +54,16 @@ impl Book {
         }
     }
 
+    /// An equal book.
+    pub fn copy(&self, alloc: Global) -> Result<Book, NoMemory>
+        ensures { IfOk result (λ copy. copy ≡ self.now) }
+    {
+        Ok(Book {
+            lists: self.lists.copy(alloc)?,
+            standings: self.standings.copy(alloc)?,
+        })
+    }
+
     /// The list of a name, empty where nobody has it.
     pub fn get(&self, name: &BusName) -> &[(u32, u32)]
         ensures list { result.now ≡ list_of self.now name.now }

@@ -46,6 +46,18 @@ impl Lists {
         }
     }
 
+    /// Equal lists. They are copied from the last to the first, so that each is put before those that stand already.
+    pub fn copy(&self, alloc: Global) -> Result<Lists, NoMemory>
+        ensures { IfOk result (λ copy. copy ≡ self.now) }
+    {
+        let mut map = BTreeMap::new(alloc);
+        let mut rest = self.map.iter();
+        while let Some((name, queue)) = rest.next_back() {
+            put(&mut map, name.copy(alloc)?, queue.copy(alloc)?)?;
+        }
+        Ok(Lists { map })
+    }
+
     /// The list of a name, empty where nobody has it.
     pub fn get(&self, name: &BusName) -> &[(u32, u32)]
         ensures { result.now ≡ list_of self.now name.now }

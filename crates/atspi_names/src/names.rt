@@ -8,6 +8,7 @@ ghost use Rattle.atspi_names.specs.Owners as owners;
 ghost use Rattle.atspi_types.specs.Names.{is_unique_name};
 ghost use Rattle.atspi_names.specs.Queue.{request_change, release_change, owner_in, IsRequestAnswer};
 ghost use Rattle.atspi_names.specs.Owners.{list_of, unique_name, listed, owned_by, nobody, after_hello, after_request, after_release, after_gone};
+ghost use Rattle.atspi_names.specs.Tree.{as_unique};
 ghost use Rattle.atspi_names.specs.declared.names.NamesFault.TheVariants as faults;
 
 use crate::book::Book;
@@ -89,6 +90,18 @@ impl Names {
             unique: BTreeMap::new(alloc),
             book: Book::new(alloc),
         }
+    }
+
+    /// The same names with the same owners. It fails only for want of memory.
+    pub fn copy(&self) -> Result<Names, NoMemory>
+        ensures { IfOk result (λ copy. copy ≡ self.now) }
+    {
+        Ok(Names {
+            alloc: self.alloc,
+            given: self.given,
+            unique: copy_unique(self.alloc, &self.unique)?,
+            book: self.book.copy(self.alloc)?,
+        })
     }
 
     /// Gives the connection, which has no unique name, the next one: `:1.n`, n counting from 0. None is given twice.
@@ -192,6 +205,29 @@ impl Names {
         self.book.append_owned(self.alloc, conn, &mut names)?;
         Ok(names)
     }
+}
+
+/// The same unique names, copied from the last to the first.
+fn copy_unique(
+    alloc: Global,
+    unique: &BTreeMap<u32, BusName>,
+) -> Result<BTreeMap<u32, BusName>, NoMemory>
+    ensures { IfOk result (λ copy. as_unique copy ≡ as_unique unique.now) }
+{
+    let mut copy = BTreeMap::new(alloc);
+    let mut rest = unique.iter();
+    while let Some((conn, name)) = rest.next_back() {
+        put_unique(&mut copy, *conn, name.copy(alloc)?)?;
+    }
+    Ok(copy)
+}
+
+/// Puts the unique name of a connection into the map.
+fn put_unique(unique: &mut BTreeMap<u32, BusName>, conn: u32, name: BusName) -> Result<(), NoMemory>
+    ensures { OnOk result (as_unique unique.new ≡ finmap.insert (as_unique unique.old) conn name) }
+{
+    unique.insert(conn, name)?;
+    Ok(())
 }
 
 /// Appends the unique names by rising connection number.

@@ -42,6 +42,15 @@ impl Queue {
         }
     }
 
+    /// An equal list.
+    pub fn copy(&self, alloc: Global) -> Result<Queue, NoMemory>
+        ensures { IfOk result (λ copy. copy ≡ self.now) }
+    {
+        Ok(Queue {
+            entries: self.entries.to_vec(alloc)?,
+        })
+    }
+
     /// The connections with their flags, the owner first.
     pub fn as_slice(&self) -> &[(u32, u32)]
         ensures { result.now ≡ self.now }

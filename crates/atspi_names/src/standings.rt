@@ -4,7 +4,7 @@ ghost use Rattle.std.specs.Prelude.{◌≡◌, ℕ, List, true, false, not, Some
 ghost use Rattle.std.specs.Option.{option_copied};
 ghost use Rattle.std.specs.Ordering.{nat_cmp};
 ghost use Rattle.std.specs.BTreeMap.{Updates, IsUnchanged};
-ghost use Rattle.atspi_names.specs.Standings.{notes, has_name, SetsNote, SameNotes, ForgetsConnection};
+ghost use Rattle.atspi_names.specs.Standings.{notes, has_name, SetsNote, SameNotes, SameNames, ForgetsConnection};
 
 use atspi_base::NoMemory;
 use atspi_types::BusName;
@@ -25,6 +25,18 @@ impl Standings {
         Standings {
             sets: BTreeMap::new(alloc),
         }
+    }
+
+    /// The same connections stand in the same lists.
+    pub fn copy(&self, alloc: Global) -> Result<Standings, NoMemory>
+        ensures { IfOk result (λ copy. SameNotes self.now.sets copy.sets) }
+    {
+        let mut sets = BTreeMap::new(alloc);
+        let mut rest = self.sets.iter();
+        while let Some((conn, names)) = rest.next_back() {
+            put(&mut sets, *conn, copy_set(alloc, names)?)?;
+        }
+        Ok(Standings { sets })
     }
 
     /// The names of the connection.
@@ -88,6 +100,17 @@ impl Standings {
     {
         self.sets.remove(&conn)
     }
+}
+
+/// The same names.
+fn copy_set(alloc: Global, names: &BTreeSet<BusName>) -> Result<BTreeSet<BusName>, NoMemory>
+    ensures { IfOk result (SameNames names.now) }
+{
+    let mut copy = BTreeSet::new(alloc);
+    for name in names {
+        copy.insert(name.copy(alloc)?)?;
+    }
+    Ok(copy)
 }
 
 /// Puts the first names of a connection. After want of memory there are none.
