@@ -1,14 +1,15 @@
 //! The conditions that a match rule is made of.
 
-ghost use Rattle.std.specs.Prelude.{◌≡◌};
+ghost use Rattle.std.specs.Prelude.{◌≡◌, IfOk};
 ghost use Rattle.std.specs.Cmp.{partial_equiv_from_equiv};
 ghost use Rattle.std.proofs.lemmas.Cmp.{and_equiv, on_equiv, nat_eq_equiv, nat_list_eq_equiv};
 ghost use Rattle.atspi_match.specs.Conditions.{rank, type_text, value_text};
 ghost use Rattle.atspi_match.specs.Matching.{type_number};
 ghost use Rattle.atspi_match.specs.Conditions.{same_condition};
 
-use atspi_base::Text;
+use atspi_base::{NoMemory, Text};
 use atspi_types::{BusName, Interface, Member, Path};
+use std::alloc::Global;
 
 /// The type of message that a condition asks for.
 #[derive(Clone, Copy, Debug, PartialEq, Eq)]
@@ -90,6 +91,31 @@ impl Condition {
             Condition::Arg0Namespace(_) => 135,
             Condition::Eavesdrop(_) => 136,
         }
+    }
+
+    /// An equal condition.
+    pub fn copy(&self, alloc: Global) -> Result<Condition, NoMemory>
+        ensures { IfOk result (λ condition. condition ≡ self.now) }
+    {
+        Ok(match self {
+            Condition::Kind(kind) => Condition::Kind(*kind),
+            Condition::Sender(name) => Condition::Sender(name.copy(alloc)?),
+            Condition::Interface(name) => Condition::Interface(name.copy(alloc)?),
+            Condition::Member(name) => Condition::Member(name.copy(alloc)?),
+            Condition::Path(path) => Condition::Path(path.copy(alloc)?),
+            Condition::PathNamespace(path) => Condition::PathNamespace(path.copy(alloc)?),
+            Condition::Destination(name) => Condition::Destination(name.copy(alloc)?),
+            Condition::Arg { index, text } => Condition::Arg {
+                index: *index,
+                text: text.copy(alloc)?,
+            },
+            Condition::ArgPath { index, text } => Condition::ArgPath {
+                index: *index,
+                text: text.copy(alloc)?,
+            },
+            Condition::Arg0Namespace(text) => Condition::Arg0Namespace(text.copy(alloc)?),
+            Condition::Eavesdrop(on) => Condition::Eavesdrop(*on),
+        })
     }
 
     /// The bytes of the value.

@@ -1,9 +1,11 @@
 //! Match rules: lists of conditions, each key at most once.
 
-ghost use Rattle.std.specs.Prelude.{◌≡◌, ◌↔◌, IsTrue};
+ghost use Rattle.std.specs.Prelude.{◌≡◌, ◌↔◌, IsTrue, IfOk};
 ghost use Rattle.atspi_match.specs.Conditions.{same_rule};
 
 use crate::Condition;
+use atspi_base::NoMemory;
+use std::alloc::Global;
 use std::marker::Model;
 
 /// A match rule: the conditions that a message has to meet (D-Bus Specification, "Match Rules"), in the order of their keys.
@@ -35,6 +37,15 @@ impl Rule {
         Rule { conditions }
     }
 
+    /// An equal rule.
+    pub fn copy(&self, alloc: Global) -> Result<Rule, NoMemory>
+        ensures { IfOk result (λ rule. rule ≡ self.now) }
+    {
+        Ok(Rule {
+            conditions: copy_conditions(alloc, &self.conditions)?,
+        })
+    }
+
     /// The conditions, in the order of their keys.
     pub fn conditions(&self) -> &[Condition]
         ensures conditions { result.now ≡ self.now }
@@ -50,4 +61,15 @@ impl Rule {
     {
         self.conditions == other.conditions
     }
+}
+
+/// Equal conditions.
+fn copy_conditions(alloc: Global, conditions: &[Condition]) -> Result<Vec<Condition>, NoMemory>
+    ensures { IfOk result (λ copy. copy.items ≡ conditions.now) }
+{
+    let mut copy = Vec::with_capacity(alloc, conditions.len())?;
+    for condition in conditions {
+        copy.push(condition.copy(alloc)?)?;
+    }
+    Ok(copy)
 }

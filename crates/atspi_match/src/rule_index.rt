@@ -59,6 +59,16 @@ impl RuleIndex {
         }
     }
 
+    /// The same rules of the same connections. It fails only for want of memory.
+    pub fn copy(&self) -> Result<RuleIndex, NoMemory>
+        ensures { IfOk result (λ copy. copy ≡ self.now) }
+    {
+        Ok(RuleIndex {
+            alloc: self.alloc,
+            pairs: copy_pairs(self.alloc, &self.pairs)?,
+        })
+    }
+
     /// Adds a rule of the connection, which may have an equal one already: AddMatch. `Limit` exactly where the connection
     /// has 512 rules. A rule that is not added is handed back, and all is as before.
     pub fn add(&mut self, conn: u32, rule: Rule) -> Result<(), (Rule, RuleAdd)>
@@ -118,6 +128,17 @@ impl RuleIndex {
         found.dedup();
         append(self.alloc, out, &found)
     }
+}
+
+/// The same connections with equal rules.
+fn copy_pairs(alloc: Global, pairs: &[(u32, Rule)]) -> Result<Vec<(u32, Rule)>, NoMemory>
+    ensures { IfOk result (λ copy. copy.items ≡ pairs.now) }
+{
+    let mut copy = Vec::with_capacity(alloc, pairs.len())?;
+    for pair in pairs {
+        copy.push((pair.0, pair.1.copy(alloc)?))?;
+    }
+    Ok(copy)
 }
 
 /// How many rules the connection has.
