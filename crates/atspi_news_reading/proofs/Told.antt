@@ -1,0 +1,140 @@
+-- The news that tables of names tell, by what was read.
+use Rattle.std.proofs.Common.{◌≡◌, ℕ, zero, suc, ◌+◌, ℤ, pos, negsuc, Bool, true, false, not, cond, List, [], ◌∷◌, Option, Some, None, Result, length, refl, sym, ap, ◌∙◌, subst, arith}
+use Rattle.std.specs.Prelude.{bytes_eq, nat_lt, codes, position, IfOk, IsTrue}
+use Rattle.std.specs.Option.{option_map}
+use Rattle.std.specs.List.{position_or_len}
+use Rattle.std.proofs.lemmas.Bool.Decides.{nat_tests}
+use Rattle.atspi_types.specs.Kinds.{Kind, number, text, array, variant, byte, i16, u16, i32, u32, i64, u64, double}
+use Rattle.atspi_types.specs.Data.{Data, number_data, boolean_data, text_data, path_data, signature_data, array_data, structure_data, dictionary_data, variant_data, type_of}
+use Rattle.atspi_tables.specs.States.{state_names}
+use Rattle.atspi_forest.specs.declared.news.Reference.{Reference}
+use Rattle.atspi_forest.specs.declared.news.News.{News}
+use Rattle.atspi_forest.specs.declared.news.News.TheVariants.{State, Role, Nothing}
+use Rattle.atspi_news.specs.Arguments.{Event, reference_in, signed}
+use Rattle.atspi_news.specs.Events.{named_in, own_child, with_text, role_news, role_at_least_0, state_lines, state_changed, is_on}
+use Rattle.atspi_news_reading.specs.Seen.{own_reference, text_seen, role_seen, state_number, if_not_negative}
+
+-- what was told is what is to be told
+pub same_value : {X E : Type 0} (r : Result X E) (x y : X) → x ≡ y → IfOk r (λ n. n ≡ x) → IfOk r (λ n. n ≡ y)
+same_value {X} r x y e h = subst (λ (z : X). IfOk r (λ n. n ≡ z)) e h
+
+-- a value of this type is of no other
+pub differs : (d : Data) (k other : Kind) → type_of d ≡ k → (k ≡ other → ⊥) → type_of d ≡ other → ⊥
+differs d k other typed unlike t = unlike (sym typed ∙ t)
+
+pub differs_by : (test : Kind → Bool) (d : Data) (k : Kind) → type_of d ≡ k → (IsTrue (test k) → ⊥) → IsTrue (test (type_of d)) → ⊥
+differs_by test d k typed unlike t = unlike (sym (ap test typed) ∙ t)
+
+-- a child of the application's own, or none
+pub no_child : (bus : List ℕ) (r : Option Reference) (news : List ℕ → News) → None ≡ own_reference bus r → Nothing ≡ own_child bus r news
+no_child bus None news e = refl
+no_child bus (Some child) news e = by (bytes_eq child.bus bus) e
+  where
+    by : (b : Bool) → None ≡ cond b (Some child) None → Nothing ≡ cond b (news child.path) Nothing
+    by true e = absurd cc
+    by false e = refl
+
+pub own_told : (bus : List ℕ) (r : Option Reference) (news : List ℕ → News) (x : Reference) → Some x ≡ own_reference bus r → news x.path ≡ own_child bus r news
+own_told bus None news x e = absurd cc
+own_told bus (Some child) news x e = by (bytes_eq child.bus bus) e
+  where
+    by : (b : Bool) → Some x ≡ cond b (Some child) None → news x.path ≡ cond b (news child.path) Nothing
+    by true e = let same : x ≡ child = cc in ap (λ (r : Reference). news r.path) same
+    by false e = absurd cc
+
+-- a text, or none
+pub no_text_told : (d : Data) (news : List ℕ → News) → None ≡ text_seen d → Nothing ≡ with_text d news
+no_text_told (text_data cs) news e = absurd cc
+no_text_told _ news e = refl
+
+pub text_told : (d : Data) (news : List ℕ → News) (t : List ℕ) → Some t ≡ text_seen d → news t ≡ with_text d news
+text_told (text_data cs) news t e = let same : t ≡ cs = cc in ap news same
+text_told _ news t e = absurd cc
+
+pub no_text_seen : (d : Data) → (type_of d ≡ text → ⊥) → None ≡ text_seen d
+no_text_seen (text_data cs) other = absurd (other refl)
+no_text_seen _ other = refl
+
+-- a role, or none
+pub no_role : (d : Data) (path : List ℕ) → None ≡ role_seen d → Nothing ≡ role_news d path
+no_role (number_data u32 role) path e = absurd cc
+no_role (number_data i32 role) path e = by (signed role) e
+  where
+    by : (z : ℤ) → None ≡ if_not_negative z → Nothing ≡ role_at_least_0 z path
+    by (pos n) e = absurd cc
+    by (negsuc n) e = refl
+no_role _ path e = refl
+
+pub role_told : (d : Data) (path : List ℕ) (n : ℕ) → Some n ≡ role_seen d → Role path n ≡ role_news d path
+role_told (number_data u32 role) path n e = let same : n ≡ role = cc in ap (Role path) same
+role_told (number_data i32 role) path n e = by (signed role) e
+  where
+    by : (z : ℤ) → Some n ≡ if_not_negative z → Role path n ≡ role_at_least_0 z path
+    by (pos m) e = let same : n ≡ m = cc in ap (Role path) same
+    by (negsuc m) e = absurd cc
+role_told _ path n e = absurd cc
+
+pub no_role_seen : (d : Data) → (type_of d ≡ number u32 → ⊥) → (type_of d ≡ number i32 → ⊥) → None ≡ role_seen d
+no_role_seen (number_data u32 role) one two = absurd (one refl)
+no_role_seen (number_data i32 role) one two = absurd (two refl)
+no_role_seen _ one two = refl
+
+-- the states from a bit on, by the place of the name
+abbrev state_from : ℕ → Option ℕ → List ℕ → Bool → News
+state_from bit None path on = Nothing
+state_from bit (Some k) path on = State path (bit + k) on
+
+next_less : (k len : ℕ) → nat_lt (1 + k) (suc len) ≡ nat_lt k len
+next_less k len = grind (arith, nat_tests)
+
+module _ (path : List ℕ) (on : Bool) where
+  shift : (bit k len : ℕ) → state_from (1 + bit) (cond (nat_lt k len) (Some k) None) path on ≡ state_from bit (cond (nat_lt (1 + k) (suc len)) (Some (1 + k)) None) path on
+  shift bit k len = by (nat_lt k len) ∙ sym (ap (λ (b : Bool). state_from bit (cond b (Some (1 + k)) None) path on) (next_less k len))
+    where
+      by : (b : Bool) → state_from (1 + bit) (cond b (Some k) None) path on ≡ state_from bit (cond b (Some (1 + k)) None) path on
+      by true = let e : (1 + bit) + k ≡ bit + (1 + k) = omega arith in ap (λ (n : ℕ). State path n on) e
+      by false = refl
+
+  abbrev is_it : List ℕ → List ℕ → Bool
+  is_it name word = bytes_eq word name
+
+  lines_tell : (bit : ℕ) (words : List (List ℕ)) (name : List ℕ) → named_in (state_lines bit words path on) name ≡ state_from bit (position (is_it name) words) path on
+  lines_tell bit [] name = refl
+  lines_tell bit (word ∷ words) name = by (bytes_eq word name) (lines_tell (1 + bit) words name)
+    where
+      by : (b : Bool) → named_in (state_lines (1 + bit) words path on) name ≡ state_from (1 + bit) (position (is_it name) words) path on
+          → cond b (State path bit on) (named_in (state_lines (1 + bit) words path on) name)
+          ≡ state_from bit (cond (nat_lt (cond (not b) (1 + position_or_len (is_it name) words) 0) (suc (length words))) (Some (cond (not b) (1 + position_or_len (is_it name) words) 0)) None) path on
+      by true rest = let first : nat_lt 0 (suc (length words)) ≡ true = grind (arith, nat_tests) in let e : bit ≡ bit + 0 = omega arith in
+          ap (λ (n : ℕ). State path n on) e ∙ sym (ap (λ (c : Bool). state_from bit (cond c (Some 0) None) path on) first)
+      by false rest = rest ∙ shift bit (position_or_len (is_it name) words) (length words)
+
+  states_tell : (name : List ℕ) → named_in ((codes "default", State path 39 on) ∷ state_lines 0 state_names path on) name ≡ state_from 0 (state_number name) path on
+  states_tell name = by (bytes_eq (codes "default") name)
+    where
+      by : (b : Bool) → cond b (State path 39 on) (named_in (state_lines 0 state_names path on) name) ≡ state_from 0 (cond b (Some 39) (position (is_it name) state_names)) path on
+      by true = refl
+      by false = lines_tell 0 state_names name
+
+  pub no_state : (name : List ℕ) → None ≡ state_number name → Nothing ≡ named_in ((codes "default", State path 39 on) ∷ state_lines 0 state_names path on) name
+  no_state name e = sym (states_tell name ∙ sym (ap (λ (o : Option ℕ). state_from 0 o path on) e))
+
+  pub state_told : (name : List ℕ) (k : ℕ) → Some k ≡ state_number name → State path k on ≡ named_in ((codes "default", State path 39 on) ∷ state_lines 0 state_names path on) name
+  state_told name k e = (let z : k ≡ 0 + k = omega arith in ap (λ (n : ℕ). State path n on) z) ∙ sym (states_tell name ∙ sym (ap (λ (o : Option ℕ). state_from 0 o path on) e))
+
+-- a reference of the application's own, or another's, or none
+pub own_same : (bus : List ℕ) (r : Option Reference) (x : Reference) → Some x ≡ r → bytes_eq x.bus bus ≡ true → Some x ≡ own_reference bus r
+own_same bus r x e is = sym (sym (ap (own_reference bus) e) ∙ ap (λ (b : Bool). cond b (Some x) None) is)
+
+pub own_other : (bus : List ℕ) (r : Option Reference) (x : Reference) → Some x ≡ r → bytes_eq x.bus bus ≡ false → None ≡ own_reference bus r
+own_other bus r x e is = sym (sym (ap (own_reference bus) e) ∙ ap (λ (b : Bool). cond b (Some x) None) is)
+
+pub own_none : (bus : List ℕ) (r : Option Reference) → None ≡ r → None ≡ own_reference bus r
+own_none bus r e = ap (own_reference bus) e
+
+-- the line of a table with the name, or those behind it
+pub picked : (b : Bool) (x y : News) → b ≡ true → x ≡ cond b x y
+picked b x y e = sym (ap (λ (c : Bool). cond c x y) e)
+
+pub passed : (b : Bool) (x y z : News) → b ≡ false → z ≡ y → z ≡ cond b x y
+passed b x y z e h = h ∙ sym (ap (λ (c : Bool). cond c x y) e)

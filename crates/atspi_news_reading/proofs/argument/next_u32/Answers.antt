@@ -1,0 +1,12 @@
+use Rattle.std.proofs.Common.{◌≡◌, ◌∙◌, sym, ap}
+use Rattle.atspi_marshal.specs.Reading.{input_of}
+use Rattle.atspi_cursor.specs.Items.{item_data, item_kind, elements_data, elements_kind, fields_data}
+use Rattle.atspi_header.proofs.ReadTypes.{item_type}
+use Rattle.atspi_news_reading.proofs.Came.{unsigned_came}
+use Rattle.atspi_news_reading.proofs.argument.next_u32.Goals as goal
+
+pub returns : goal.returns
+returns c =
+    let x = c.in_ok-next.field-0 in
+    unsigned_came c.u32.result (item_data x) (item_kind x) (fields_data c.args.fields.now) (fields_data c.next.new.self) c.in_ok-next.ensures.comes
+    (item_type (input_of x.input) x.levels (item_kind x) x.bound x.at x.known) c.u32.ensures.is c.u32.ensures.value

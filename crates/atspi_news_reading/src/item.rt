@@ -1,0 +1,131 @@
+//! The items of a tree, and the news in the signals of an application's cache.
+
+ghost use Rattle.std.specs.Prelude.{◌≡◌, chars, map, IfOk};
+ghost use Rattle.std.specs.Option.{option_map};
+ghost use Rattle.atspi_cursor.specs.Items.{item_data, fields_data, elements_data};
+ghost use Rattle.atspi_news.specs.Arguments.{text_in, number_in};
+ghost use Rattle.atspi_news.specs.CacheSignals.{item_of, item_in, states_in, cache_news};
+ghost use Rattle.atspi_news_reading.specs.Items.{item_seen, word_seen, FrontComes};
+
+use crate::argument::{
+    next_i32, next_numbers, next_reference, next_text, next_texts, next_u32, owned_path,
+};
+use crate::borrowed::{ItemFront, ItemRef};
+use atspi_base::{NoMemory, Text, Texts};
+use atspi_cursor::{Elements, Fields, Item};
+use atspi_forest::News;
+use std::alloc::Global;
+
+/// The first five fields of an item, if they are that.
+fn item_front<'a>(fields: &mut Fields<'a>) -> Option<ItemFront<'a>>
+    ensures { FrontComes result (fields_data fields.old) (fields_data fields.new) }
+{
+    let object = next_reference(fields)?;
+    let application = next_reference(fields)?;
+    let parent = next_reference(fields)?;
+    let index = next_i32(fields)?;
+    let children = next_i32(fields)?;
+    Some(ItemFront {
+        object,
+        application,
+        parent,
+        index,
+        children,
+    })
+}
+
+/// The ten fields of an item, if they are that.
+fn item_fields<'a>(fields: Fields<'a>) -> Option<ItemRef<'a>>
+    ensures { option_map item_seen result ≡ item_of (fields_data fields.entry) }
+{
+    let mut rest = fields;
+    let front = item_front(&mut rest)?;
+    let interfaces = next_texts(&mut rest)?;
+    let name = next_text(&mut rest)?;
+    let role = next_u32(&mut rest)?;
+    let description = next_text(&mut rest)?;
+    let states = next_numbers(&mut rest)?;
+    match rest.next() {
+        None => Some(ItemRef {
+            front,
+            interfaces,
+            name,
+            role,
+            description,
+            states,
+        }),
+        Some(_more) => None,
+    }
+}
+
+/// The texts in a list of them, owned.
+fn owned_texts(alloc: Global, elements: Elements) -> Result<Texts, NoMemory>
+    ensures { IfOk result (λ texts. texts ≡ map text_in (elements_data elements.entry)) }
+{
+    let mut texts = Texts::new(alloc);
+    let mut rest = elements;
+    while let Some(element) = rest.next() {
+        texts.push(text_or_empty(alloc, element)?)?;
+    }
+    Ok(texts)
+}
+
+/// The text that a value is, or an empty one.
+fn text_or_empty(alloc: Global, value: Item) -> Result<Text, NoMemory>
+    ensures { IfOk result (λ text. text ≡ text_in (item_data value.entry)) }
+{
+    match value.text() {
+        Some(text) => Text::of(alloc, text),
+        None => Text::of(alloc, ""),
+    }
+}
+
+/// The states in words of 32, the low one first.
+fn states(words: Elements) -> u64
+    ensures { result ≡ states_in (map number_in (elements_data words.entry)) }
+{
+    let mut rest = words;
+    let low = word(rest.next());
+    let high = word(rest.next());
+    u64::from(low) + u64::from(high) * 0x1_0000_0000
+}
+
+/// A word, or 0 where there is none.
+fn word(value: Option<Item>) -> u32
+    ensures { result ≡ word_seen (option_map item_data value.entry) }
+{
+    let Some(value) = value else {
+        return 0;
+    };
+    match value.u32() {
+        Some(number) => number,
+        None => 0,
+    }
+}
+
+impl<'a> ItemRef<'a> {
+    /// The item, owned.
+    pub(crate) fn owned(self, alloc: Global) -> Result<atspi_forest::Item, NoMemory>
+        ensures { IfOk result (λ item. item ≡ item_seen self.entry) }
+    {
+        Ok(atspi_forest::Item {
+            object: self.front.object.owned(alloc)?,
+            application: self.front.application.owned(alloc)?,
+            parent: self.front.parent.owned(alloc)?,
+            index: self.front.index,
+            children: self.front.children,
+            interfaces: owned_texts(alloc, self.interfaces)?,
+            name: Text::of(alloc, self.name)?,
+            role: self.role,
+            description: Text::of(alloc, self.description)?,
+            states: states(self.states),
+        })
+    }
+}
+
+/// The item that a value is, if it is one.
+pub(crate) fn item<'a>(value: Item<'a>) -> Option<ItemRef<'a>>
+    ensures { option_map item_seen result ≡ item_in (item_data value.entry) }
+{
+    item_fields(value.fields()?)
+}

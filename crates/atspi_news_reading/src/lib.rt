@@ -1,0 +1,13 @@
+//! News read where they lie in a message, by the definitions of `atspi_news`: without values, and with memory for what is kept alone.
+#![tactic(auto)]
+
+mod argument;
+mod borrowed;
+mod event;
+mod item;
+mod news;
+mod reply;
+mod words;
+
+pub use news::news_of;
+pub use reply::{items_told, part_told};
