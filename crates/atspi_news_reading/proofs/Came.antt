@@ -1,17 +1,15 @@
 -- What came of the next value of a body, by its type.
-use Rattle.std.proofs.Common.{◌≡◌, ◌↔◌, ℕ, ℤ, List, [], ◌∷◌, map, Option, Some, None, IsSome, IfSome, IsTrue, FitsSigned, refl, sym, ap, ◌∙◌, chars, arith}
+use Rattle.std.proofs.Common.{◌≡◌, ◌↔◌, ℕ, ℤ, List, ◌∷◌, map, Option, Some, None, IsSome, IfSome, IsTrue, sym, ap, ◌∙◌, chars, arith}
 use Rattle.std.specs.Option.{option_map}
 use Rattle.std.specs.Borrow.{Bor}
 use Rattle.std.specs.Prelude.{option_and_then}
-use Rattle.std.specs.Int.{w32, cast_unsigned}
-use Rattle.std.proofs.lemmas.Int.{to_z-of_z}
-use Rattle.atspi_types.specs.Kinds.{Kind, number, text, path, variant, array, structure, i32, u32}
-use Rattle.atspi_types.specs.Data.{Data, number_data, text_data, path_data, array_data, structure_data, variant_data, items_of, values_in, type_of}
+use Rattle.atspi_types.specs.Kinds.{Kind, number, text, path, variant, i32, u32}
+use Rattle.atspi_types.specs.Data.{Data, number_data, text_data, path_data, array_data, structure_data, variant_data, items_of, type_of}
 use Rattle.atspi_types.proofs.DataLemmas.{values_in-items_of}
 use Rattle.atspi_types.specs.Names.{IsPath, is_path}
 use Rattle.atspi_types.proofs.NameLemmas.{is_path-from_IsPath}
 use Rattle.atspi_codes.specs.Codes.{is_array, is_structure, leaf_of}
-use Rattle.atspi_cursor.specs.Items.{item_data, item_kind, elements_data, elements_kind, fields_data}
+use Rattle.atspi_cursor.specs.Items.{item_data, item_kind, elements_data}
 use Rattle.atspi_cursor.specs.declared.cursor.Item.{Item}
 use Rattle.atspi_cursor.specs.declared.cursor.Elements.{Elements}
 use Rattle.atspi_forest.specs.declared.news.Reference.{Reference}
@@ -19,7 +17,7 @@ use Rattle.atspi_news.specs.Arguments.{then_text, then_path, then_signed, then_u
 use Rattle.atspi_news_reading.specs.declared.borrowed.ReferenceRef.{ReferenceRef}
 use Rattle.atspi_news_reading.specs.Seen.{together, reference_seen, TextComes, PathComes, SignedComes, UnsignedComes, VariantComes, TextsCome, NumbersCome, ReferenceComes}
 use Rattle.atspi_news_reading.proofs.Given.{no_text, no_path, no_signed, no_unsigned, no_variant, no_texts, no_numbers, no_reference}
-use Rattle.atspi_news_reading.proofs.Steps.{of_pair, text_via, path_via, signed_via, unsigned_via, variant_via, texts_via, numbers_via, reference_via}
+use Rattle.atspi_news_reading.proofs.Steps.{of_pair, text_via, path_via, signed_via, unsigned_via, texts_via, numbers_via, reference_via}
 
 pub text_came : (o : Option (Bor (List ℕ))) (d : Data) (k : Kind) (old new : List Data) → old ≡ d ∷ new → type_of d ≡ k → (IsSome o ↔ (k ≡ text)) → IfSome o (λ s. d ≡ text_data (chars s.now)) → TextComes o old new
 text_came (Some s) d k old new e typed is same = ap (then_text together) (e ∙ ap (λ (x : Data). x ∷ new) same)
@@ -93,10 +91,6 @@ read_signed made (Some t) old new comes = signed_via made old ∙ ap (option_and
 pub read_unsigned : {A : Type 0} (made : ℕ → List Data → Option A) (o : Option ℕ) (old new : List Data) → UnsignedComes o old new → then_unsigned made old ≡ option_and_then (λ (n : ℕ). made n new) o
 read_unsigned made None old new comes = unsigned_via made old ∙ ap (option_and_then (of_pair made)) comes
 read_unsigned made (Some t) old new comes = unsigned_via made old ∙ ap (option_and_then (of_pair made)) comes
-
-pub read_variant : {A : Type 0} (made : Data → List Data → Option A) (o : Option Item) (old new : List Data) → VariantComes o old new → then_variant made old ≡ option_and_then (λ (x : Item). made (item_data x) new) o
-read_variant made None old new comes = variant_via made old ∙ ap (option_and_then (of_pair made)) comes
-read_variant made (Some t) old new comes = variant_via made old ∙ ap (option_and_then (of_pair made)) comes
 
 pub read_texts : {A : Type 0} (made : List (List ℕ) → List Data → Option A) (o : Option Elements) (old new : List Data) → TextsCome o old new → then_texts made old ≡ option_and_then (λ (es : Elements). made (map text_in (elements_data es)) new) o
 read_texts made None old new comes = texts_via made old ∙ ap (option_and_then (of_pair made)) comes

@@ -8,14 +8,14 @@ use Rattle.atspi_cursor.specs.Items.{elements_data}
 use Rattle.atspi_cursor.specs.declared.cursor.Elements.{Elements}
 use Rattle.atspi_forest.specs.declared.news.Reference.{Reference}
 use Rattle.atspi_forest.specs.declared.news.Item.{Item}
-use Rattle.atspi_news.specs.Arguments.{then_reference, then_signed, then_unsigned, then_text, then_texts, then_numbers, then_end, text_in, number_in}
+use Rattle.atspi_news.specs.Arguments.{then_reference, then_signed, then_unsigned, then_text, then_numbers, then_end, text_in, number_in}
 use Rattle.atspi_news.specs.CacheSignals.{item_of, states_in}
 use Rattle.atspi_news_reading.specs.declared.borrowed.ReferenceRef.{ReferenceRef}
 use Rattle.atspi_news_reading.specs.declared.borrowed.ItemFront.{ItemFront}
 use Rattle.atspi_news_reading.specs.declared.borrowed.ItemRef.{ItemRef}
-use Rattle.atspi_news_reading.specs.Seen.{reference_seen, TextComes, SignedComes, UnsignedComes, TextsCome, NumbersCome, ReferenceComes}
+use Rattle.atspi_news_reading.specs.Seen.{reference_seen, TextComes, UnsignedComes, TextsCome, NumbersCome, ReferenceComes}
 use Rattle.atspi_news_reading.specs.Items.{item_seen, behind_front, with_front, FrontComes}
-use Rattle.atspi_news_reading.proofs.Came.{read_text, read_signed, read_unsigned, read_texts, read_numbers, read_reference}
+use Rattle.atspi_news_reading.proofs.Came.{read_text, read_unsigned, read_texts, read_numbers, read_reference}
 
 abbrev pub behind_4 : Reference → Reference → Reference → ℤ → List Data → Option Item
 behind_4 o a p i = then_signed (λ c. behind_front o a p i c)

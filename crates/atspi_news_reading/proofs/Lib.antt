@@ -5,4 +5,3 @@ pub mod ItemSteps
 pub mod Same
 pub mod Told
 pub mod Lists
-pub mod Messages

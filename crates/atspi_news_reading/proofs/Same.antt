@@ -1,5 +1,5 @@
 -- Words of ASCII are the same as bytes and as characters.
-use Rattle.std.proofs.Common.{◌≡◌, ℕ, zero, suc, ◌<◌, ◌+◌, Bool, true, false, ◌&&◌, not, cond, List, [], ◌∷◌, ◌++◌, Option, Some, None, length, take, drop, refl, sym, ap, ◌∙◌, chars, IsUtf8, arith}
+use Rattle.std.proofs.Common.{◌≡◌, ℕ, zero, suc, ◌+◌, Bool, true, false, not, cond, List, [], ◌∷◌, ◌++◌, Some, None, length, take, drop, refl, sym, ap, ◌∙◌, chars, IsUtf8, arith}
 use Rattle.std.specs.Prelude.{bytes_eq, encode_utf8_all, nat_lt, codes, position}
 use Rattle.std.specs.Bool.{Decides}
 use Rattle.std.specs.Str.{IsAscii}
@@ -79,6 +79,3 @@ same_state text u = ap (λ (k : ℕ). cond (nat_lt k (length state_names)) (Some
 
 pub other_state : (text : List ℕ) → IsUtf8 text → bytes_eq (codes "default") (chars text) ≡ false → position (λ n. bytes_eq n text) state_names ≡ state_number (chars text)
 other_state text u other = same_state text u ∙ sym (ap (λ (b : Bool). cond b (Some 39) (position (λ n. bytes_eq n (chars text)) state_names)) other)
-
-pub default_state : (text : List ℕ) → bytes_eq (codes "default") (chars text) ≡ true → Some 39 ≡ state_number (chars text)
-default_state text is = sym (ap (λ (b : Bool). cond b (Some 39) (position (λ n. bytes_eq n (chars text)) state_names)) is)

@@ -1,10 +1,10 @@
 -- Reading one value after the other: what is made of the next one is made of what came.
-use Rattle.std.proofs.Common.{◌≡◌, ℕ, ℤ, List, [], ◌∷◌, Option, Some, None, refl, sym, ap, ◌∙◌}
+use Rattle.std.proofs.Common.{◌≡◌, ℕ, ℤ, List, [], ◌∷◌, Option, Some, None, refl}
 use Rattle.std.specs.Prelude.{option_and_then}
-use Rattle.atspi_types.specs.Kinds.{Kind, Kinds, number, boolean, text, path, signature, array, structure, variant, dictionary, byte, i16, u16, i32, u32, i64, u64, double}
-use Rattle.atspi_types.specs.Data.{Data, Items, number_data, boolean_data, text_data, path_data, signature_data, array_data, structure_data, dictionary_data, variant_data, type_of}
+use Rattle.atspi_types.specs.Kinds.{number, boolean, text, path, signature, array, structure, variant, dictionary, byte, i16, u16, i32, u32, i64, u64, double}
+use Rattle.atspi_types.specs.Data.{Data, number_data, boolean_data, text_data, path_data, signature_data, array_data, structure_data, dictionary_data, variant_data}
 use Rattle.atspi_forest.specs.declared.news.Reference.{Reference}
-use Rattle.atspi_news.specs.Arguments.{then_text, then_path, then_signed, then_unsigned, then_variant, then_texts, then_numbers, then_reference, reference_in}
+use Rattle.atspi_news.specs.Arguments.{then_text, then_path, then_signed, then_unsigned, then_texts, then_numbers, then_reference, reference_in}
 use Rattle.atspi_news_reading.specs.Seen.{together}
 
 -- what is made of a pair
@@ -72,18 +72,6 @@ unsigned_via made (array_data k es ∷ ds) = refl
 unsigned_via made (structure_data es ∷ ds) = refl
 unsigned_via made (dictionary_data k v es ∷ ds) = refl
 unsigned_via made (variant_data k d ∷ ds) = refl
-
-pub variant_via : {A : Type 0} (made : Data → List Data → Option A) (old : List Data) → then_variant made old ≡ option_and_then (of_pair made) (then_variant together old)
-variant_via made [] = refl
-variant_via made (number_data n x ∷ ds) = refl
-variant_via made (boolean_data b ∷ ds) = refl
-variant_via made (text_data cs ∷ ds) = refl
-variant_via made (path_data bs ∷ ds) = refl
-variant_via made (signature_data ks ∷ ds) = refl
-variant_via made (array_data k es ∷ ds) = refl
-variant_via made (structure_data es ∷ ds) = refl
-variant_via made (dictionary_data k v es ∷ ds) = refl
-variant_via made (variant_data k d ∷ ds) = refl
 
 pub texts_via : {A : Type 0} (made : List (List ℕ) → List Data → Option A) (old : List Data) → then_texts made old ≡ option_and_then (of_pair made) (then_texts together old)
 texts_via made [] = refl

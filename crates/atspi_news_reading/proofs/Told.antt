@@ -1,18 +1,15 @@
 -- The news that tables of names tell, by what was read.
-use Rattle.std.proofs.Common.{◌≡◌, ℕ, zero, suc, ◌+◌, ℤ, pos, negsuc, Bool, true, false, not, cond, List, [], ◌∷◌, Option, Some, None, Result, length, refl, sym, ap, ◌∙◌, subst, arith}
+use Rattle.std.proofs.Common.{◌≡◌, ℕ, suc, ◌+◌, Bool, true, false, not, cond, List, [], ◌∷◌, Option, Some, None, Result, length, refl, sym, ap, ◌∙◌, subst, arith}
 use Rattle.std.specs.Prelude.{bytes_eq, nat_lt, codes, position, IfOk, IsTrue}
-use Rattle.std.specs.Option.{option_map}
 use Rattle.std.specs.List.{position_or_len}
 use Rattle.std.proofs.lemmas.Bool.Decides.{nat_tests}
-use Rattle.atspi_types.specs.Kinds.{Kind, number, text, array, variant, byte, i16, u16, i32, u32, i64, u64, double}
-use Rattle.atspi_types.specs.Data.{Data, number_data, boolean_data, text_data, path_data, signature_data, array_data, structure_data, dictionary_data, variant_data, type_of}
+use Rattle.atspi_types.specs.Kinds.{Kind, number, text, i32, u32}
+use Rattle.atspi_types.specs.Data.{Data, number_data, text_data, type_of}
 use Rattle.atspi_tables.specs.States.{state_names}
-use Rattle.atspi_forest.specs.declared.news.Reference.{Reference}
 use Rattle.atspi_forest.specs.declared.news.News.{News}
-use Rattle.atspi_forest.specs.declared.news.News.TheVariants.{State, Role, Nothing}
-use Rattle.atspi_news.specs.Arguments.{Event, reference_in, signed}
-use Rattle.atspi_news.specs.Events.{named_in, own_child, with_text, role_news, role_at_least_0, state_lines, state_changed, is_on}
-use Rattle.atspi_news_reading.specs.Seen.{own_reference, text_seen, role_seen, state_number, if_not_negative}
+use Rattle.atspi_forest.specs.declared.news.News.TheVariants.{State, Nothing}
+use Rattle.atspi_news.specs.Events.{named_in, state_lines}
+use Rattle.atspi_news_reading.specs.Seen.{text_seen, role_seen, state_number}
 
 -- what was told is what is to be told
 pub same_value : {X E : Type 0} (r : Result X E) (x y : X) → x ≡ y → IfOk r (λ n. n ≡ x) → IfOk r (λ n. n ≡ y)
@@ -25,54 +22,10 @@ differs d k other typed unlike t = unlike (sym typed ∙ t)
 pub differs_by : (test : Kind → Bool) (d : Data) (k : Kind) → type_of d ≡ k → (IsTrue (test k) → ⊥) → IsTrue (test (type_of d)) → ⊥
 differs_by test d k typed unlike t = unlike (sym (ap test typed) ∙ t)
 
--- a child of the application's own, or none
-pub no_child : (bus : List ℕ) (r : Option Reference) (news : List ℕ → News) → None ≡ own_reference bus r → Nothing ≡ own_child bus r news
-no_child bus None news e = refl
-no_child bus (Some child) news e = by (bytes_eq child.bus bus) e
-  where
-    by : (b : Bool) → None ≡ cond b (Some child) None → Nothing ≡ cond b (news child.path) Nothing
-    by true e = absurd cc
-    by false e = refl
-
-pub own_told : (bus : List ℕ) (r : Option Reference) (news : List ℕ → News) (x : Reference) → Some x ≡ own_reference bus r → news x.path ≡ own_child bus r news
-own_told bus None news x e = absurd cc
-own_told bus (Some child) news x e = by (bytes_eq child.bus bus) e
-  where
-    by : (b : Bool) → Some x ≡ cond b (Some child) None → news x.path ≡ cond b (news child.path) Nothing
-    by true e = let same : x ≡ child = cc in ap (λ (r : Reference). news r.path) same
-    by false e = absurd cc
-
--- a text, or none
-pub no_text_told : (d : Data) (news : List ℕ → News) → None ≡ text_seen d → Nothing ≡ with_text d news
-no_text_told (text_data cs) news e = absurd cc
-no_text_told _ news e = refl
-
-pub text_told : (d : Data) (news : List ℕ → News) (t : List ℕ) → Some t ≡ text_seen d → news t ≡ with_text d news
-text_told (text_data cs) news t e = let same : t ≡ cs = cc in ap news same
-text_told _ news t e = absurd cc
-
+-- values that are no text, or no role
 pub no_text_seen : (d : Data) → (type_of d ≡ text → ⊥) → None ≡ text_seen d
 no_text_seen (text_data cs) other = absurd (other refl)
 no_text_seen _ other = refl
-
--- a role, or none
-pub no_role : (d : Data) (path : List ℕ) → None ≡ role_seen d → Nothing ≡ role_news d path
-no_role (number_data u32 role) path e = absurd cc
-no_role (number_data i32 role) path e = by (signed role) e
-  where
-    by : (z : ℤ) → None ≡ if_not_negative z → Nothing ≡ role_at_least_0 z path
-    by (pos n) e = absurd cc
-    by (negsuc n) e = refl
-no_role _ path e = refl
-
-pub role_told : (d : Data) (path : List ℕ) (n : ℕ) → Some n ≡ role_seen d → Role path n ≡ role_news d path
-role_told (number_data u32 role) path n e = let same : n ≡ role = cc in ap (Role path) same
-role_told (number_data i32 role) path n e = by (signed role) e
-  where
-    by : (z : ℤ) → Some n ≡ if_not_negative z → Role path n ≡ role_at_least_0 z path
-    by (pos m) e = let same : n ≡ m = cc in ap (Role path) same
-    by (negsuc m) e = absurd cc
-role_told _ path n e = absurd cc
 
 pub no_role_seen : (d : Data) → (type_of d ≡ number u32 → ⊥) → (type_of d ≡ number i32 → ⊥) → None ≡ role_seen d
 no_role_seen (number_data u32 role) one two = absurd (one refl)
@@ -121,16 +74,6 @@ module _ (path : List ℕ) (on : Bool) where
 
   pub state_told : (name : List ℕ) (k : ℕ) → Some k ≡ state_number name → State path k on ≡ named_in ((codes "default", State path 39 on) ∷ state_lines 0 state_names path on) name
   state_told name k e = (let z : k ≡ 0 + k = omega arith in ap (λ (n : ℕ). State path n on) z) ∙ sym (states_tell name ∙ sym (ap (λ (o : Option ℕ). state_from 0 o path on) e))
-
--- a reference of the application's own, or another's, or none
-pub own_same : (bus : List ℕ) (r : Option Reference) (x : Reference) → Some x ≡ r → bytes_eq x.bus bus ≡ true → Some x ≡ own_reference bus r
-own_same bus r x e is = sym (sym (ap (own_reference bus) e) ∙ ap (λ (b : Bool). cond b (Some x) None) is)
-
-pub own_other : (bus : List ℕ) (r : Option Reference) (x : Reference) → Some x ≡ r → bytes_eq x.bus bus ≡ false → None ≡ own_reference bus r
-own_other bus r x e is = sym (sym (ap (own_reference bus) e) ∙ ap (λ (b : Bool). cond b (Some x) None) is)
-
-pub own_none : (bus : List ℕ) (r : Option Reference) → None ≡ r → None ≡ own_reference bus r
-own_none bus r e = ap (own_reference bus) e
 
 -- the line of a table with the name, or those behind it
 pub picked : (b : Bool) (x y : News) → b ≡ true → x ≡ cond b x y

@@ -1,4 +1,4 @@
-use Rattle.std.proofs.Common.{◌≡◌, ◌∙◌, ◌∷◌, sym, ap}
+use Rattle.std.proofs.Common.{◌∙◌, ◌∷◌, ap}
 use Rattle.atspi_types.specs.Data.{Data}
 use Rattle.atspi_news.specs.Arguments.{then_signed}
 use Rattle.atspi_news_reading.specs.Seen.{together}

@@ -1,4 +1,3 @@
-use Rattle.std.proofs.Common.{◌≡◌, ◌∙◌, sym, ap}
 use Rattle.atspi_marshal.specs.Reading.{input_of}
 use Rattle.atspi_cursor.specs.Items.{item_data, item_kind, elements_data, elements_kind, fields_data}
 use Rattle.atspi_codes.specs.TyRefs.{ref_kind}

@@ -1,6 +1,5 @@
-use Rattle.std.proofs.Common.{◌≡◌, ◌∙◌, sym, ap}
 use Rattle.atspi_marshal.specs.Reading.{input_of}
-use Rattle.atspi_cursor.specs.Items.{item_data, item_kind, elements_data, elements_kind, fields_data}
+use Rattle.atspi_cursor.specs.Items.{item_data, item_kind, fields_data}
 use Rattle.atspi_header.proofs.ReadTypes.{item_type}
 use Rattle.atspi_news_reading.proofs.Came.{path_came, path_rule}
 use Rattle.atspi_news_reading.proofs.argument.next_path.Goals as goal

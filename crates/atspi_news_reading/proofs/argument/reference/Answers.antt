@@ -1,4 +1,4 @@
-use Rattle.std.proofs.Common.{◌≡◌, ◌∙◌, Some, None, chars, sym, ap}
+use Rattle.std.proofs.Common.{◌∙◌, Some, chars, sym, ap}
 use Rattle.atspi_marshal.specs.Reading.{input_of}
 use Rattle.atspi_cursor.specs.Items.{item_data, item_kind, fields_data}
 use Rattle.atspi_header.proofs.ReadTypes.{item_type}

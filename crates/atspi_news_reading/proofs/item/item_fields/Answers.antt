@@ -1,9 +1,8 @@
-use Rattle.std.proofs.Common.{◌≡◌, ◌∙◌, Some, None, chars, map, sym, ap}
+use Rattle.std.proofs.Common.{◌∙◌, None, chars, map, sym}
 use Rattle.atspi_cursor.specs.Items.{fields_data, elements_data}
-use Rattle.atspi_news.specs.Arguments.{text_in, number_in, then_end}
+use Rattle.atspi_news.specs.Arguments.{text_in}
 use Rattle.atspi_news.specs.CacheSignals.{item_of}
-use Rattle.atspi_news_reading.specs.Items.{item_seen}
-use Rattle.atspi_news_reading.proofs.Came.{read_text, read_unsigned, read_numbers}
+use Rattle.atspi_news_reading.proofs.Came.{read_text, read_unsigned}
 use Rattle.atspi_news_reading.proofs.ItemSteps.{behind_8, behind_9, through_6, through_7, through_8, through_9, ends_10, more_10, no_numbers_10, gone}
 use Rattle.atspi_news_reading.proofs.item.item_fields.Goals as goal
 

@@ -1,4 +1,4 @@
-use Rattle.std.proofs.Common.{◌≡◌, ◌∙◌, Some, None, arith}
+use Rattle.std.proofs.Common.{◌∙◌, Some, None, arith}
 use Rattle.std.specs.Int.{w32}
 use Rattle.std.proofs.lemmas.Int.{to_z-of_z}
 use Rattle.atspi_cursor.specs.Items.{fields_data}
