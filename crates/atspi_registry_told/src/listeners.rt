@@ -1,0 +1,57 @@
+//! News of listeners.
+
+ghost use Rattle.std.specs.Prelude.{◌≡◌, [], ◌∷◌, codes, IfOk};
+ghost use Rattle.atspi_types.specs.Data.{text_data};
+ghost use Rattle.atspi_types.specs.DataView.{data_of, all_data};
+ghost use Rattle.atspi_message.specs.Envelope.{envelope_of};
+ghost use Rattle.atspi_ends.specs.Messages as messages;
+ghost use Rattle.atspi_ends.specs.Places.{registry, registry_path};
+ghost use Rattle.atspi_registering.specs.Told as told;
+
+use crate::values::name_value;
+use atspi_base::{NoMemory, Text};
+use atspi_ends::{interface, member, path, signal_of};
+use atspi_message::Message;
+use atspi_types::{BusName, Member, Value, Values};
+use std::alloc::Global;
+
+/// The pair as the body of a message.
+pub(crate) fn pair_body(alloc: Global, name: &BusName, pattern: &Text) -> Result<Values, NoMemory>
+    ensures { IfOk result (λ body. all_data body ≡ text_data name.now ∷ text_data pattern.now ∷ []) }
+{
+    let mut body = Values::new(alloc);
+    body.push(name_value(alloc, name)?)?;
+    body.push(Value::Text(pattern.copy(alloc)?))?;
+    Ok(body)
+}
+
+/// A signal of the registry's object.
+#[tactic(auto, unfolding(atspi_types::specs::Names::is_path, atspi_types::specs::Names::is_interface, atspi_types::specs::Elements::are_two_or_more, atspi_types::specs::Elements::are_elements, atspi_types::specs::Elements::parts_of))]
+fn signal(alloc: Global, member: Member, body: Values) -> Result<Message, NoMemory>
+    ensures { IfOk result (λ message. envelope_of message ≡ messages.signal_of registry_path registry member (all_data body)) }
+{
+    Ok(signal_of(
+        path(alloc, "/org/a11y/atspi/registry")?,
+        interface(alloc, "org.a11y.atspi.Registry")?,
+        member,
+        body,
+    ))
+}
+
+/// A listener has a pattern more.
+#[tactic(auto, unfolding(atspi_types::specs::Names::is_member))]
+pub fn registered(alloc: Global, name: &BusName, pattern: &Text) -> Result<Message, NoMemory>
+    ensures { IfOk result (λ message. envelope_of message ≡ told.registered (name.now, pattern.now)) }
+{
+    let body = pair_body(alloc, name, pattern)?;
+    signal(alloc, member(alloc, "EventListenerRegistered")?, body)
+}
+
+/// A listener has a pattern less.
+#[tactic(auto, unfolding(atspi_types::specs::Names::is_member))]
+pub fn deregistered(alloc: Global, name: &BusName, pattern: &Text) -> Result<Message, NoMemory>
+    ensures { IfOk result (λ message. envelope_of message ≡ told.deregistered (name.now, pattern.now)) }
+{
+    let body = pair_body(alloc, name, pattern)?;
+    signal(alloc, member(alloc, "EventListenerDeregistered")?, body)
+}
