@@ -1,5 +1,5 @@
 -- What a call of a member asks.
-use Rattle.std.proofs.Common.{◌≡◌, ℕ, List, [], ◌∷◌, Option, None, Some, refl, sym, ap, ◌∙◌, chars}
+use Rattle.std.proofs.Common.{◌≡◌, ℕ, List, [], ◌∷◌, Option, None, Some, refl, sym, ap, ◌∙◌, chars, codes}
 use Rattle.std.proofs.lemmas.Str.{chars-nil}
 use Rattle.std.specs.Prelude.{unwrap_or, Result, Ok, Err}
 use Rattle.atspi_types.specs.Data.{Data, text_data, path_data, structure_data, no_items, item}
@@ -10,7 +10,7 @@ use Rattle.atspi_members.specs.Objects.{Object}
 use Rattle.atspi_members.specs.Table.{PropertyLine}
 use Rattle.atspi_members.specs.Asked.{and_then, gets, gets_all, set_to, asked_by}
 use Rattle.atspi_registering.specs.RegistryState.{RegistryState}
-use Rattle.atspi_registering.specs.Answers.{only, reference_in, if_own, adopts, releases}
+use Rattle.atspi_registering.specs.Answers.{Answer, only, reference_in, if_own, adopts, releases}
 use Rattle.atspi_registering.specs.Steps.{answer_to}
 use Rattle.atspi_registry_calls.specs.declared.ask.Ask.{Ask}
 use Rattle.atspi_registry_calls.specs.declared.ask.Ask.TheVariants.{Name, ChildCount, AllProperties, NoProperties}
@@ -49,16 +49,21 @@ not_set (Ok ChildCount) (Err e) value p s own caller = absurd p
 not_set (Err error) found value p s own caller = ap (λ f. answer_to s own caller (and_then (set_to value) f)) p
 not_set (Ok _) found value p s own caller = absurd p
 
+-- nothing is of the name that is empty
+nobody : (s : RegistryState) (caller : List ℕ) (a : Answer) → (caller ≡ [] → ⊥) → if_own s caller ([], []) a ≡ only s (fails (codes "InvalidArgs"))
+nobody s [] a h = absurd (h refl)
+nobody s (b ∷ bs) a h = refl
+
 -- Embed and Unembed of what is no reference, and Unembed of one
 module _ (o : Object) (body : List Data) (s : RegistryState) (own caller : List ℕ) where
-  none : reference_of body ≡ None → reference_in body ≡ (chars [], [])
-  none e = reference_is body ∙ ap (λ r. unwrap_or r ([], [])) e ∙ ap (λ (cs : List ℕ). (cs, [])) (sym chars-nil)
+  none : reference_of body ≡ None → reference_in body ≡ ([], [])
+  none e = reference_is body ∙ ap (λ r. unwrap_or r ([], [])) e
 
-  pub embeds_nothing : reference_of body ≡ None → answer_to s own caller (asked_by o body members.Embed) ≡ if_own s caller (chars [], []) (adopts s (caller, []))
-  embeds_nothing e = ap (λ (r : List ℕ × List ℕ). if_own s caller r (adopts s (caller, r.1))) (none e)
+  pub embeds_nothing : reference_of body ≡ None → (caller ≡ [] → ⊥) → answer_to s own caller (asked_by o body members.Embed) ≡ only s (fails (codes "InvalidArgs"))
+  embeds_nothing e h = ap (λ (r : List ℕ × List ℕ). if_own s caller r (adopts s (caller, r.1))) (none e) ∙ nobody s caller (adopts s (caller, [])) h
 
-  pub releases_nothing : reference_of body ≡ None → answer_to s own caller (asked_by o body members.Unembed) ≡ if_own s caller (chars [], []) (releases s caller)
-  releases_nothing e = ap (λ (r : List ℕ × List ℕ). if_own s caller r (releases s caller)) (none e)
+  pub releases_nothing : reference_of body ≡ None → (caller ≡ [] → ⊥) → answer_to s own caller (asked_by o body members.Unembed) ≡ only s (fails (codes "InvalidArgs"))
+  releases_nothing e h = ap (λ (r : List ℕ × List ℕ). if_own s caller r (releases s caller)) (none e) ∙ nobody s caller (releases s caller) h
 
   pub releases_one : (r : List ℕ × List ℕ) → reference_of body ≡ Some r → answer_to s own caller (asked_by o body members.Unembed) ≡ if_own s caller r (releases s caller)
   releases_one r e = ap (λ (q : List ℕ × List ℕ). if_own s caller q (releases s caller)) (reference_is body ∙ ap (λ q. unwrap_or q ([], [])) e)

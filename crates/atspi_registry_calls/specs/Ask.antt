@@ -1,5 +1,7 @@
 -- What is asked of the registry, as parts of the message's bytes, and what it does then.
-use Rattle.std.specs.Prelude.{◌≡◌, ℕ, false, List, [], ◌∷◌, chars, codes, IsOkAnd, Result, Ok, Err}
+use Rattle.std.specs.Prelude.{◌≡◌, ◌<◌, ◌^◌, length, ℕ, false, List, [], ◌∷◌, chars, codes, IsOkAnd, Result, Ok, Err}
+use Rattle.atspi_base.specs.Text.{HasNoZero}
+use Rattle.atspi_types.specs.Names.{IsPath}
 use Rattle.atspi_types.specs.Kinds.{u32, text, variant}
 use Rattle.atspi_types.specs.Data.{number_data, text_data, dictionary_data, no_entries}
 use Rattle.atspi_ends.specs.Places.{references}
@@ -35,6 +37,13 @@ answers_ask Ping s own caller = only s (returns [])
 abbrev pub ask_answer : Result Ask CallError → RegistryState → List ℕ → List ℕ → Answer
 ask_answer (Ok ask) s own caller = answers_ask ask s own caller
 ask_answer (Err error) s own caller = only s (fails (error_word error))
+
+-- what is lent from the message's bytes: a text of the wire, a path
+abbrev pub IsLent : Ask → Type 0
+IsLent (Register pattern) = HasNoZero pattern.now × (length pattern.now < 2 ^ 32)
+IsLent (Deregister pattern) = HasNoZero pattern.now × (length pattern.now < 2 ^ 32)
+IsLent (Embed name path) = IsPath path.now
+IsLent _ = Unit {0}
 
 -- a property that is asked for is one of the root's, or the error tells that it is none
 abbrev pub IsProperty : Result Ask CallError → Result PropertyLine (List ℕ) → Type 0

@@ -1,6 +1,8 @@
 //! The arguments of a call, read where they lie.
 
-ghost use Rattle.std.specs.Prelude.{◌≡◌, Some, chars};
+ghost use Rattle.std.specs.Prelude.{◌≡◌, ◌<◌, ◌^◌, Some, IfSome, chars, length};
+ghost use Rattle.atspi_base.specs.Text.{HasNoZero};
+ghost use Rattle.atspi_types.specs.Names.{IsPath};
 ghost use Rattle.atspi_cursor.specs.Items.{item_data, fields_data};
 ghost use Rattle.atspi_members.specs.Arguments.{characters_in, signed_in, text_at, signed_at};
 ghost use Rattle.atspi_registry_calls.specs.Arguments.{reference_of, lent_references};
@@ -9,7 +11,9 @@ use atspi_cursor::{Fields, Item};
 
 /// The text, and an empty one for another value.
 fn text_of<'a>(item: Item<'a>) -> &'a str
-    ensures { chars result.now ≡ characters_in (Some (item_data item.entry)) }
+    ensures text { chars result.now ≡ characters_in (Some (item_data item.entry)) }
+    ensures no_zero { HasNoZero result.now }
+    ensures counted { length result.now < 2 ^ 32 }
 {
     if let Some(text) = item.text() {
         return text;
@@ -29,7 +33,9 @@ fn signed_of(item: Item) -> i32
 
 /// The first argument where it is a text, and an empty one else.
 pub fn first_text<'a>(args: Fields<'a>) -> &'a str
-    ensures { chars result.now ≡ text_at 0 (fields_data args.entry) }
+    ensures text { chars result.now ≡ text_at 0 (fields_data args.entry) }
+    ensures no_zero { HasNoZero result.now }
+    ensures counted { length result.now < 2 ^ 32 }
 {
     let mut rest = args;
     match rest.next() {
@@ -62,7 +68,8 @@ pub fn first_signed(args: Fields) -> i32
 
 /// The first argument where it is a reference: its bus name and its path.
 pub fn first_reference<'a>(args: Fields<'a>) -> Option<(&'a str, &'a str)>
-    ensures { lent_references result ≡ reference_of (fields_data args.entry) }
+    ensures reference { lent_references result ≡ reference_of (fields_data args.entry) }
+    ensures path { IfSome result (λ r. IsPath r.1.now) }
 {
     let mut rest = args;
     let mut fields = rest.next()?.fields()?;

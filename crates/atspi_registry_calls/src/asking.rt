@@ -1,13 +1,13 @@
 //! What a call asks of the registry, or the error that it gets.
 
-ghost use Rattle.std.specs.Prelude.{◌≡◌, ℕ, List, bytes_eq, chars};
+ghost use Rattle.std.specs.Prelude.{◌≡◌, ◌≢◌, ℕ, List, [], bytes_eq, chars, IfOk};
 ghost use Rattle.atspi_header.specs.View.{envelope_at};
 ghost use Rattle.atspi_registering.specs.RegistryState.{RegistryState};
 ghost use Rattle.atspi_registering.specs.Answers.{object_at};
 ghost use Rattle.atspi_registering.specs.Steps.{answer_to};
 ghost use Rattle.atspi_members.specs.Asked as asked;
 ghost use Rattle.atspi_registry_calls.specs.Object.{object_of};
-ghost use Rattle.atspi_registry_calls.specs.Ask.{ask_answer, IsProperty, AreProperties, refusal_of};
+ghost use Rattle.atspi_registry_calls.specs.Ask.{ask_answer, IsLent, IsProperty, AreProperties, refusal_of};
 
 use crate::arguments::{first_reference, first_signed, first_text, second_text};
 use crate::ask::Ask;
@@ -26,7 +26,8 @@ fn is_word(text: &str, word: &str) -> bool
 
 /// The property of an object, by the names of its interface and of itself.
 fn property(object: RegistryObject, interface: &str, name: &str) -> Result<Ask<'static>, CallError>
-    ensures { IsProperty result (asked.property_of (object_of object) (chars interface.now) (chars name.now)) }
+    ensures lent { IfOk result IsLent }
+    ensures property { IsProperty result (asked.property_of (object_of object) (chars interface.now) (chars name.now)) }
 {
     if !object.has(interface) {
         return Err(CallError::UnknownInterface);
@@ -45,7 +46,8 @@ fn property(object: RegistryObject, interface: &str, name: &str) -> Result<Ask<'
 
 /// All properties of an interface of an object.
 fn properties(object: RegistryObject, interface: &str) -> Result<Ask<'static>, CallError>
-    ensures { AreProperties result (asked.properties_of (object_of object) (chars interface.now)) }
+    ensures lent { IfOk result IsLent }
+    ensures properties { AreProperties result (asked.properties_of (object_of object) (chars interface.now)) }
 {
     if !object.has(interface) {
         return Err(CallError::UnknownInterface);
@@ -72,7 +74,8 @@ fn of_member<'a>(
     member: ObjectMember,
     m: &MessageRef<'a>,
 ) -> Result<Ask<'a>, CallError>
-    ensures { (s : RegistryState) (own caller : List ℕ) → answer_to s own caller (asked.asked_by (object_of object) (envelope_at m.now).body member) ≡ ask_answer result s own caller }
+    ensures asked { (s : RegistryState) (own caller : List ℕ) → caller ≢ [] → answer_to s own caller (asked.asked_by (object_of object) (envelope_at m.now).body member) ≡ ask_answer result s own caller }
+    ensures lent { IfOk result IsLent }
 {
     match member {
         ObjectMember::RegisterEvent => Ok(Ask::Register(first_text(m.body))),
@@ -80,11 +83,11 @@ fn of_member<'a>(
         ObjectMember::GetRegisteredEvents => Ok(Ask::Registered),
         ObjectMember::Embed => match first_reference(m.body) {
             Some((name, path)) => Ok(Ask::Embed(name, path)),
-            None => Ok(Ask::Embed("", "")),
+            None => Err(CallError::InvalidArgs),
         },
         ObjectMember::Unembed => match first_reference(m.body) {
             Some((name, path)) => Ok(Ask::Unembed(name, path)),
-            None => Ok(Ask::Unembed("", "")),
+            None => Err(CallError::InvalidArgs),
         },
         ObjectMember::GetChildren => Ok(Ask::Children),
         ObjectMember::GetChildAtIndex => Ok(Ask::ChildAt(first_signed(m.body))),
@@ -104,7 +107,8 @@ fn of_member<'a>(
 
 /// What a call asks of the registry's objects, or the error that it gets (AT-SPI2's registry and socket interfaces).
 pub fn asked<'a>(m: &MessageRef<'a>) -> Result<Ask<'a>, CallError>
-    ensures { (s : RegistryState) (own caller : List ℕ) → answer_to s own caller (asked.asked (object_at (envelope_at m.now).path) (envelope_at m.now).interface (envelope_at m.now).member (envelope_at m.now).body) ≡ ask_answer result s own caller }
+    ensures asked { (s : RegistryState) (own caller : List ℕ) → caller ≢ [] → answer_to s own caller (asked.asked (object_at (envelope_at m.now).path) (envelope_at m.now).interface (envelope_at m.now).member (envelope_at m.now).body) ≡ ask_answer result s own caller }
+    ensures lent { IfOk result IsLent }
 {
     let Some(object) = object_at(m.path) else {
         return Err(CallError::UnknownObject);

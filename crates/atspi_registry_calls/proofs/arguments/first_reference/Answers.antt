@@ -10,15 +10,15 @@ use Rattle.atspi_registry_calls.specs.Arguments.{lent_references}
 use Rattle.atspi_registry_calls.proofs.Reading.{wrong_fields, wrong_name, wrong_path}
 use Rattle.atspi_registry_calls.proofs.arguments.first_reference.Goals as goal
 
-pub returns-in_err-fields : goal.returns-in_err-fields
-returns-in_err-fields c =
+pub returns-in_err-fields-clause-reference : goal.returns-in_err-fields-clause-reference
+returns-in_err-fields-clause-reference c =
     let x = c.in_ok-next.field-0 in
     let kind : type_of (item_data x) ≡ item_kind x = item_type (input_of x.input) x.levels (item_kind x) x.bound x.at x.known in
     let other : IsTrue (is_structure (type_of (item_data x))) → ⊥ = λ h. (let clash = c.in_err-fields.ensures.is.1 (subst (λ (k : Kind). IsTrue (is_structure k)) kind h) in absurd cc) in
     ap lent_references c.from_residual-in_err-fields.ensures ∙ sym (wrong_fields (fields_data c.args.args) (fields_data c.next.new.self) (item_data x) c.in_ok-next.ensures.comes other)
 
-pub returns-in_err-name : goal.returns-in_err-name
-returns-in_err-name c =
+pub returns-in_err-name-clause-reference : goal.returns-in_err-name-clause-reference
+returns-in_err-name-clause-reference c =
     let x = c.in_ok-next.field-0 in
     let y = c.in_ok-next-2.field-0 in
     let kind : type_of (item_data y) ≡ item_kind y = item_type (input_of y.input) y.levels (item_kind y) y.bound y.at y.known in
@@ -26,8 +26,8 @@ returns-in_err-name c =
     ap lent_references c.from_residual-in_err-name.ensures
     ∙ sym (wrong_name (fields_data c.args.args) (fields_data c.next.new.self) (fields_data c.in_ok-fields.fields) (fields_data c.next-2.new.self) (item_data x) (item_data y) c.in_ok-next.ensures.comes c.in_ok-fields.ensures.fields c.in_ok-next-2.ensures.comes other)
 
-pub returns-in_err-path : goal.returns-in_err-path
-returns-in_err-path c =
+pub returns-in_err-path-clause-reference : goal.returns-in_err-path-clause-reference
+returns-in_err-path-clause-reference c =
     let x = c.in_ok-next.field-0 in
     let y = c.in_ok-next-2.field-0 in
     let z = c.in_ok-next-3.field-0 in

@@ -5,9 +5,9 @@ use Rattle.atspi_members.specs.Arguments.{characters_in}
 use Rattle.atspi_registry_calls.proofs.Reading.{first_is, no_first}
 use Rattle.atspi_registry_calls.proofs.arguments.first_text.Goals as goal
 
-pub returns-in-Some : goal.returns-in-Some
-returns-in-Some c =
-    c.text_of.ensures ∙ sym (ap characters_in (first_is (fields_data c.args.args) (fields_data c.next.new.self) (item_data c.in-Some.first) c.in-Some.ensures.comes))
+pub returns-in-Some-clause-text : goal.returns-in-Some-clause-text
+returns-in-Some-clause-text c =
+    c.text_of.ensures.text ∙ sym (ap characters_in (first_is (fields_data c.args.args) (fields_data c.next.new.self) (item_data c.in-Some.first) c.in-Some.ensures.comes))
 
-pub returns-in-None : goal.returns-in-None
-returns-in-None c = chars-nil ∙ sym (ap characters_in (no_first (fields_data c.args.args) 0 c.in-None.ensures.comes.0))
+pub returns-in-None-clause-text : goal.returns-in-None-clause-text
+returns-in-None-clause-text c = chars-nil ∙ sym (ap characters_in (no_first (fields_data c.args.args) 0 c.in-None.ensures.comes.0))

@@ -7,7 +7,7 @@ use Rattle.atspi_registry_calls.proofs.arguments.second_text.Goals as goal
 
 pub returns-in-Some : goal.returns-in-Some
 returns-in-Some c =
-    c.first_text.ensures ∙ sym (ap characters_in (second_is (fields_data c.args.args) (fields_data c.next.new.self) (item_data c.in-Some.field-0) c.in-Some.ensures.comes))
+    c.first_text.ensures.text ∙ sym (ap characters_in (second_is (fields_data c.args.args) (fields_data c.next.new.self) (item_data c.in-Some.field-0) c.in-Some.ensures.comes))
 
 pub returns-in-None : goal.returns-in-None
 returns-in-None c = chars-nil ∙ sym (ap characters_in (no_first (fields_data c.args.args) 1 c.in-None.ensures.comes.0))

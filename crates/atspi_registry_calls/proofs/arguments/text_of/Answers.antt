@@ -7,8 +7,8 @@ use Rattle.atspi_header.proofs.ReadTypes.{item_type}
 use Rattle.atspi_registry_calls.proofs.Reading.{not_text}
 use Rattle.atspi_registry_calls.proofs.arguments.text_of.Goals as goal
 
-pub returns : goal.returns
-returns c =
+pub returns-clause-text : goal.returns-clause-text
+returns-clause-text c =
     let x = c.args.item in
     let kind : type_of (item_data x) ≡ item_kind x = item_type (input_of x.input) x.levels (item_kind x) x.bound x.at x.known in
     let other : type_of (item_data x) ≡ text → ⊥ = λ h. (let clash = c.in_default.ensures.is.1 (sym kind ∙ h) in absurd cc) in

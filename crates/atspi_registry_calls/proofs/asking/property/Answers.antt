@@ -4,26 +4,26 @@ use Rattle.atspi_members.specs.Interfaces as names
 use Rattle.atspi_registry_calls.proofs.Properties.{unknown_one, none_one, the_name, the_count, another}
 use Rattle.atspi_registry_calls.proofs.asking.property.Goals as goal
 
-pub returns-then-not-has : goal.returns-then-not-has
-returns-then-not-has c = unknown_one c.args.object c.args.interface.now c.args.name.now c.utf8.interface c.utf8.name (sym c.has.ensures ∙ c.if-not-has.true)
+pub returns-then-not-has-clause-property : goal.returns-then-not-has-clause-property
+returns-then-not-has-clause-property c = unknown_one c.args.object c.args.interface.now c.args.name.now c.utf8.interface c.utf8.name (sym c.has.ensures ∙ c.if-not-has.true)
 
-pub returns-then-not-is_word : goal.returns-then-not-is_word
-returns-then-not-is_word c =
+pub returns-then-not-is_word-clause-property : goal.returns-then-not-is_word-clause-property
+returns-then-not-is_word-clause-property c =
     none_one c.args.object c.args.interface.now c.args.name.now c.utf8.interface c.utf8.name (sym c.has.ensures ∙ c.if-not-has.false) (sym c.is_word.ensures ∙ c.if-not-is_word.true)
 
-pub returns-then-is_word : goal.returns-then-is_word
-returns-then-is_word c =
+pub returns-then-is_word-clause-property : goal.returns-then-is_word-clause-property
+returns-then-is_word-clause-property c =
     the_name c.args.object c.args.interface.now c.args.name.now c.utf8.interface c.utf8.name (sym c.has.ensures ∙ c.if-not-has.false)
     ((bytes_eq-Decides c.args.interface.now names.accessible).0 (sym c.is_word.ensures ∙ c.if-not-is_word.false)) (sym c.is_word-2.ensures ∙ c.if-is_word.true)
 
-pub returns-then-is_word-2 : goal.returns-then-is_word-2
-returns-then-is_word-2 c =
+pub returns-then-is_word-2-clause-property : goal.returns-then-is_word-2-clause-property
+returns-then-is_word-2-clause-property c =
     the_count c.args.object c.args.interface.now c.args.name.now c.utf8.interface c.utf8.name (sym c.has.ensures ∙ c.if-not-has.false)
     ((bytes_eq-Decides c.args.interface.now names.accessible).0 (sym c.is_word.ensures ∙ c.if-not-is_word.false)) (sym c.is_word-2.ensures ∙ c.if-is_word.false)
     (sym c.is_word-3.ensures ∙ c.if-is_word-2.true)
 
-pub returns : goal.returns
-returns c =
+pub returns-clause-property : goal.returns-clause-property
+returns-clause-property c =
     another c.args.object c.args.interface.now c.args.name.now c.utf8.interface c.utf8.name (sym c.has.ensures ∙ c.if-not-has.false)
     ((bytes_eq-Decides c.args.interface.now names.accessible).0 (sym c.is_word.ensures ∙ c.if-not-is_word.false)) (sym c.is_word-2.ensures ∙ c.if-is_word.false)
     (sym c.is_word-3.ensures ∙ c.if-is_word-2.false)
