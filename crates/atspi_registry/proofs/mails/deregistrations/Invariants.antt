@@ -1,0 +1,7 @@
+use Rattle.std.proofs.Common.{◌≡◌, take, map}
+use Rattle.atspi_registering.specs.RegistryState.{pairs_of}
+use Rattle.atspi_registering.specs.Told.{deregistered}
+use Rattle.atspi_registry.proofs.mails.deregistrations.Given as goal
+
+abbrev pub invariant-loop-pair : goal.invariant-loop-pair
+invariant-loop-pair l = l.mail ≡ map deregistered (pairs_of (take l.pair-index l.pairs) l.name)

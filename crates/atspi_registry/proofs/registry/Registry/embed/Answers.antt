@@ -1,0 +1,21 @@
+use Rattle.std.proofs.Common.{sym, ap, ◌∙◌, chars, List, ℕ}
+use Rattle.atspi_header.specs.View.{envelope_at}
+use Rattle.atspi_registering.specs.Answers.{adopts, releases}
+use Rattle.atspi_registering.specs.Steps.{answered}
+use Rattle.atspi_registry.proofs.Does.{same_step}
+use Rattle.atspi_registry.proofs.Takes.{own_root, another_root}
+use Rattle.atspi_registry.proofs.registry.Registry.embed.Goals as goal
+
+pub returns-then-not-is_same : goal.returns-then-not-is_same
+returns-then-not-is_same c =
+    let s = c.args.self.now.state in
+    same_step _ _ _ _ _
+    (ap (answered s c.args.sender.now (envelope_at c.args.m.now)) (sym (another_root s c.args.sender.now c.args.name.now c.args.place.now (adopts s (c.args.sender.now, c.args.place.now)) c.utf8.name (sym c.is_same.ensures ∙ c.if-not-is_same.true))))
+    c.refuse.ensures
+
+pub returns : goal.returns
+returns c =
+    let s = c.args.self.now.state in
+    same_step _ _ _ _ _
+    (ap (answered s c.args.sender.now (envelope_at c.args.m.now)) (sym (own_root s c.args.sender.now c.args.name.now c.args.place.now (adopts s (c.args.sender.now, c.args.place.now)) c.utf8.name (sym c.is_same.ensures ∙ c.if-not-is_same.false))))
+    c.adopt.ensures
