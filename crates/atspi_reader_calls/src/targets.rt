@@ -1,0 +1,88 @@
+//! Whom a reader calls: the bus, the registry, and the objects of applications.
+
+ghost use Rattle.std.specs.Prelude.{◌≡◌, true, codes, IfOk};
+ghost use Rattle.atspi_types.specs.DataView.{all_data};
+ghost use Rattle.atspi_types.specs.Names.{is_interface, is_member};
+ghost use Rattle.atspi_message.specs.Envelope.{envelope_of};
+ghost use Rattle.atspi_ends.specs.Messages as messages;
+ghost use Rattle.atspi_ends.specs.Places.{bus, bus_path, registry, registry_path, root_path, cache_path};
+ghost use Rattle.atspi_members.specs.Interfaces as interfaces;
+
+use atspi_base::NoMemory;
+use atspi_ends::{bus_name, call_to, interface, member, path};
+use atspi_message::Message;
+use atspi_types::{BusName, Path, Values};
+use std::alloc::Global;
+
+/// A call of a member of the bus.
+#[tactic(auto, unfolding(atspi_types::specs::Names::is_bus_name, atspi_types::specs::Names::is_path, atspi_types::specs::Names::is_interface, atspi_types::specs::Elements::are_two_or_more, atspi_types::specs::Elements::are_elements, atspi_types::specs::Elements::parts_of))]
+pub(crate) fn bus_call(alloc: Global, name: &str, body: Values) -> Result<Message, NoMemory>
+    requires { is_member name.now ≡ true }
+    ensures { IfOk result (λ message. envelope_of message ≡ messages.call_to bus bus_path bus name.now (all_data body)) }
+{
+    Ok(call_to(
+        bus_name(alloc, "org.freedesktop.DBus")?,
+        path(alloc, "/org/freedesktop/DBus")?,
+        interface(alloc, "org.freedesktop.DBus")?,
+        member(alloc, name)?,
+        body,
+    ))
+}
+
+/// RegisterEvent of the registry.
+#[tactic(auto, unfolding(atspi_types::specs::Names::is_bus_name, atspi_types::specs::Names::is_path, atspi_types::specs::Names::is_interface, atspi_types::specs::Names::is_member, atspi_types::specs::Elements::are_two_or_more, atspi_types::specs::Elements::are_elements, atspi_types::specs::Elements::parts_of))]
+pub(crate) fn register_call(alloc: Global, body: Values) -> Result<Message, NoMemory>
+    ensures { IfOk result (λ message. envelope_of message ≡ messages.call_to registry registry_path interfaces.registry (codes "RegisterEvent") (all_data body)) }
+{
+    Ok(call_to(
+        bus_name(alloc, "org.a11y.atspi.Registry")?,
+        path(alloc, "/org/a11y/atspi/registry")?,
+        interface(alloc, "org.a11y.atspi.Registry")?,
+        member(alloc, "RegisterEvent")?,
+        body,
+    ))
+}
+
+/// GetChildren of the registry's root.
+#[tactic(auto, unfolding(atspi_types::specs::Names::is_bus_name, atspi_types::specs::Names::is_path, atspi_types::specs::Names::is_interface, atspi_types::specs::Names::is_member, atspi_types::specs::Elements::are_two_or_more, atspi_types::specs::Elements::are_elements, atspi_types::specs::Elements::parts_of))]
+pub(crate) fn children_call(alloc: Global, body: Values) -> Result<Message, NoMemory>
+    ensures { IfOk result (λ message. envelope_of message ≡ messages.call_to registry root_path interfaces.accessible (codes "GetChildren") (all_data body)) }
+{
+    Ok(call_to(
+        bus_name(alloc, "org.a11y.atspi.Registry")?,
+        path(alloc, "/org/a11y/atspi/accessible/root")?,
+        interface(alloc, "org.a11y.atspi.Accessible")?,
+        member(alloc, "GetChildren")?,
+        body,
+    ))
+}
+
+/// The object that tells a whole application.
+#[tactic(auto, unfolding(atspi_types::specs::Names::is_path, atspi_types::specs::Elements::are_elements, atspi_types::specs::Elements::parts_of))]
+pub(crate) fn cache_object(alloc: Global) -> Result<Path, NoMemory>
+    ensures { IfOk result (λ path. path ≡ cache_path) }
+{
+    path(alloc, "/org/a11y/atspi/cache")
+}
+
+/// A call of a member of an application's object.
+pub(crate) fn object_call(
+    alloc: Global,
+    name: &BusName,
+    object: Path,
+    of: &str,
+    asked: &str,
+    body: Values,
+) -> Result<Message, NoMemory>
+    requires interface { is_interface of.now ≡ true }
+    requires member { is_member asked.now ≡ true }
+    ensures { IfOk result (λ message. envelope_of message ≡ messages.call_to name.now object of.now asked.now (all_data body)) }
+{
+    Ok(call_to(
+        name.copy(alloc)?,
+        object,
+        interface(alloc, of)?,
+        member(alloc, asked)?,
+        body,
+    ))
+}
