@@ -1,0 +1,14 @@
+pub mod Same
+pub mod Cached
+pub mod Uniqueness
+pub mod Firsts
+pub mod Parts
+pub mod Rows
+pub mod Fewer
+pub mod Adding
+pub mod News
+pub mod Plans
+pub mod Tells
+pub mod Told
+pub mod Names
+pub mod Found

@@ -1,0 +1,6 @@
+use Rattle.std.proofs.Common.{◌≡◌, false, take}
+use Rattle.atspi_forest.specs.News.{offers}
+use Rattle.atspi_reader_known.proofs.fresh.offers.Given as goal
+
+abbrev pub invariant-loop-interface : goal.invariant-loop-interface
+invariant-loop-interface l = offers l.word (take l.interface-index l.interfaces) ≡ false
