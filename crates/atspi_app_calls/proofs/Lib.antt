@@ -1,0 +1,4 @@
+pub mod PathLemmas
+pub mod Names
+pub mod Members
+pub mod PropertyLemmas

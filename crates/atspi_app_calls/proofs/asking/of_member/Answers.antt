@@ -1,0 +1,15 @@
+use Rattle.std.proofs.Common.{subst, chars}
+use Rattle.atspi_cursor.specs.Items.{fields_data}
+use Rattle.atspi_members.specs.Arguments.{text_at}
+use Rattle.atspi_members.specs.Asked.{property_of}
+use Rattle.atspi_app_calls.specs.Object.{object_of}
+use Rattle.atspi_app_calls.specs.Ask.{IsFound}
+use Rattle.atspi_app_calls.proofs.asking.of_member.Goals as goal
+
+pub returns-in-Get : goal.returns-in-Get
+returns-in-Get c =
+    let o = object_of c.args.object in
+    let body = fields_data c.args.m.now.body in
+    let first = subst (λ x. IsFound c.property.result (property_of o x (chars c.second_text.result.now))) c.first_text.ensures c.property.ensures in
+    let found = subst (λ x. IsFound c.property.result (property_of o (text_at 0 body) x)) c.second_text.ensures first in
+    rw c.in-Get.is (c.getting.ensures (property_of o (text_at 0 body) (text_at 1 body)) body found)

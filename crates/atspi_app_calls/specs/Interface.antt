@@ -1,0 +1,34 @@
+-- The interfaces that an application's objects have, with their names, and their lines of the tables.
+use Rattle.std.specs.Prelude.{◌≡◌, ◌≢◌, ℕ, List, filter, bytes_eq, Option, None, Some}
+use Rattle.atspi_members.specs.Interfaces as names
+use Rattle.atspi_members.specs.Table.{MemberLine, PropertyLine, member_lines, property_lines}
+use Rattle.atspi_app_calls.specs.declared.interface.AppInterface.{AppInterface}
+use Rattle.atspi_app_calls.specs.declared.interface.AppInterface.TheVariants as interfaces
+
+abbrev pub interface_name : AppInterface → List ℕ
+interface_name interfaces.Accessible = names.accessible
+interface_name interfaces.Application = names.application
+interface_name interfaces.Cache = names.cache
+interface_name interfaces.Text = names.text
+interface_name interfaces.EditableText = names.editable_text
+interface_name interfaces.Selection = names.selection
+interface_name interfaces.Table = names.table
+interface_name interfaces.Action = names.action
+interface_name interfaces.Properties = names.properties
+interface_name interfaces.Peer = names.peer
+
+-- the interface with this name, or there is none
+abbrev pub NamesInterface : List ℕ → Option AppInterface → Type 0
+NamesInterface name None = (i : AppInterface) → name ≢ interface_name i
+NamesInterface name (Some i) = name ≡ interface_name i
+
+-- the lines of the interface with a name
+abbrev pub of_interface : List ℕ → List MemberLine → List MemberLine
+of_interface name ls = filter (λ (l : MemberLine). bytes_eq name l.interface) ls
+
+-- an interface's lines of the table of members, and of that of properties
+abbrev pub lines_in : AppInterface → List MemberLine
+lines_in i = of_interface (interface_name i) member_lines
+
+abbrev pub properties_in : AppInterface → List PropertyLine
+properties_in i = filter (λ (l : PropertyLine). bytes_eq (interface_name i) l.interface) property_lines

@@ -1,0 +1,4 @@
+pub mod Interface
+pub mod Object
+pub mod Lines
+pub mod Ask
