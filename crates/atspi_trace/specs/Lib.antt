@@ -1,0 +1,10 @@
+pub mod Entry
+pub mod Rules
+pub mod World
+pub mod Ends
+pub mod Carrying
+pub mod Hearing
+pub mod Causes
+pub mod Work
+pub mod Due
+pub mod Laws

@@ -1,0 +1,18 @@
+use Rattle.std.proofs.Common.{inl, inr, refl}
+use lib.Utf8.{encode}
+use Rattle.std.specs.Prelude.{codes, [], None, Some}
+use Rattle.atspi_lines.specs.declared.line.Party.TheVariants as party
+use Rattle.atspi_trace.specs.Entry.{got, spoke, showed, quiet}
+use Rattle.atspi_trace_examples.proofs.Refusing.{refuses, refuses_all}
+use Rattle.atspi_trace_examples.specs.Cases.{untold, unasked, telling, announcement_first, echo_first, is_added, speaking, is_spoken_as, ending, ended, shows_none, waiting, idle, is_quiet, race, is_got_as}
+use Rattle.atspi_trace_examples.proofs.refused.of_applications.Goals as goal
+
+pub returns-clause-unasked : goal.returns-clause-unasked
+unfolding encode
+returns-clause-unasked c (inl d) = refuses_all untold unasked refl d
+returns-clause-unasked c (inr own) = own
+
+pub returns-clause-echo_first : goal.returns-clause-echo_first
+unfolding encode
+returns-clause-echo_first c (inl d) = refuses is_added telling announcement_first echo_first refl refl refl d
+returns-clause-echo_first c (inr own) = own

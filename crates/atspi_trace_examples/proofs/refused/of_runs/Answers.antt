@@ -1,0 +1,15 @@
+use Rattle.std.proofs.Common.{inl, inr, refl}
+use Rattle.std.specs.Prelude.{codes, [], None, Some}
+use Rattle.atspi_lines.specs.declared.line.Party.TheVariants as party
+use Rattle.atspi_trace.specs.Entry.{got, spoke, showed, quiet}
+use Rattle.atspi_trace_examples.proofs.Refusing.{refuses, refuses_all}
+use Rattle.atspi_trace_examples.specs.Cases.{untold, unasked, telling, announcement_first, echo_first, is_added, speaking, is_spoken_as, ending, ended, shows_none, waiting, idle, is_quiet, race, is_got_as}
+use Rattle.atspi_trace_examples.proofs.refused.of_runs.Goals as goal
+
+pub returns-clause-early : goal.returns-clause-early
+returns-clause-early c (inl d) = refuses (is_got_as 7) waiting (got (party.Reader 0) (party.App 0) 7) quiet refl refl refl d
+returns-clause-early c (inr own) = own
+
+pub returns-clause-unsettled : goal.returns-clause-unsettled
+returns-clause-unsettled c (inl d) = d.truly.1.1.0.1.0
+returns-clause-unsettled c (inr own) = own

@@ -1,0 +1,3 @@
+pub mod Words
+pub mod NineLaws
+pub mod Laws
