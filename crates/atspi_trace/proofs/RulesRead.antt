@@ -57,8 +57,13 @@ event_is : IsRule event_rule
 event_is = record { rising = ((lit< tt, tt), (tt, tt)); each = (tt, (events, tt)); one_path = refl }
 
 pub rules_read : RulesAreRead
-rules_read =
-    (printed_again registry_rule registry_is (lit≤ tt),
-    (printed_again owner_rule owner_is (lit≤ tt),
-    (printed_again cache_rule cache_is (lit≤ tt),
-    (printed_again event_rule event_is (lit≤ tt), tt))))
+rules_read = (
+  printed_again registry_rule registry_is (lit≤ tt),
+  (
+    printed_again owner_rule owner_is (lit≤ tt),
+    (
+      printed_again cache_rule cache_is (lit≤ tt),
+      (printed_again event_rule event_is (lit≤ tt), tt),
+    ),
+  ),
+)

@@ -34,7 +34,7 @@ use Rattle.atspi_announcing.specs.Announced.{announced}
 use Rattle.atspi_exporting.specs.Exporter.{Exporter, over, begins as begins_app}
 use Rattle.atspi_following.specs.declared.question.Question.TheVariants.{GetItems}
 use Rattle.atspi_following.specs.Calls.{asking}
-use Rattle.atspi_trace.specs.Entry.{Entry, started, changed, sent, got, heard, spoke, showed, gone, quiet}
+use Rattle.atspi_trace.specs.Entry.{Entry, started, changed, sent, got, spoke, showed, gone, quiet}
 use Rattle.atspi_trace.specs.Rules.{owner_rule, cache_rule, event_rule}
 use Rattle.atspi_trace.specs.World.{stopped, away, Fate, waits, returned, Asked, Hearer, Role, the_registry, an_application, a_reader, Said, Letter, End, World, first_bus, first_registry, newcomer}
 use Rattle.atspi_trace.specs.Ends.{plain}

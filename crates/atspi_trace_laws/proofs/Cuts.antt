@@ -1,5 +1,5 @@
 -- Links do not see cuts.
-use Rattle.std.proofs.Common.{◌≡◌, ℕ, zero, suc, ◌+◌, ◌-◌, ◌<◌, ◌≤◌, Bool, true, false, T, not, is_some, List, [], ◌∷◌, length, Option, None, Some, refl, sym, ap, ap₂, ◌∙◌, subst, arith}
+use Rattle.std.proofs.Common.{◌≡◌, ℕ, zero, suc, ◌+◌, ◌-◌, ◌<◌, Bool, true, false, T, not, is_some, List, [], ◌∷◌, length, None, Some, refl, sym, ap, ap₂, ◌∙◌, subst, arith}
 use Rattle.std.specs.Prelude.{unwrap_or, nat_le, if◌then◌else◌}
 use Rattle.std.proofs.lemmas.Bool.{leb-true, leb-false}
 use Rattle.atspi_lines.specs.declared.line.Party.TheVariants.{Bus as The_bus}
@@ -7,11 +7,11 @@ use Rattle.atspi_message.specs.Bytes.{written}
 use Rattle.atspi_routing.specs.Steps.{bus_takes}
 use Rattle.atspi_trace.specs.Rules.{rule_in}
 use Rattle.atspi_trace.specs.Entry.{got}
-use Rattle.atspi_trace.specs.World.{Standing, here, Said, End, World}
+use Rattle.atspi_trace.specs.World.{here, Said, End, World}
 use Rattle.atspi_trace.specs.Ends.{end_at, with_end, taken_up}
 use Rattle.atspi_trace.specs.Carrying.{letter_of, stepped, with_name, settled}
-use Rattle.atspi_trace.specs.Causes.{routes, Done, does, missing, on_end, routed, bus_did}
-use Rattle.atspi_trace.specs.Work.{Work, moving_up, Next, cause, rests, moved_up, next_up, of_end, next_of}
+use Rattle.atspi_trace.specs.Causes.{routes, Done, does, on_end, routed, bus_did}
+use Rattle.atspi_trace.specs.Work.{moving_up, Next, cause, rests, moved_up, next_up, of_end, next_of}
 use Rattle.atspi_trace_laws.specs.Laws.{SameNext, UpLinksSeeNoCuts}
 
 no_none : {A : Type 0} (x : A) → None ≡ Some x → ⊥

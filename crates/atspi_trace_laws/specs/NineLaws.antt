@@ -21,7 +21,7 @@ use Rattle.atspi_following.specs.declared.question.Question.TheVariants.{Registe
 use Rattle.atspi_following.specs.ReaderState.{start_calls}
 use Rattle.atspi_following.specs.Known.{told_end}
 use Rattle.atspi_following.specs.Wishes.{unknown_parts}
-use Rattle.atspi_trace.specs.Entry.{Entry, changed, sent, got, heard, spoke, showed, exited, gone, dropped, quiet}
+use Rattle.atspi_trace.specs.Entry.{Entry, changed, sent, got, spoke, showed, exited, gone, dropped, quiet}
 use Rattle.atspi_trace.specs.Ends.{same_party}
 use Rattle.atspi_trace.specs.Hearing.{patterns_in, question_in}
 use Rattle.atspi_trace.specs.Causes.{told_in, shown_rows}

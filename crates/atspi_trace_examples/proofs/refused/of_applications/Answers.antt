@@ -1,10 +1,7 @@
 use Rattle.std.proofs.Common.{inl, inr, refl}
 use lib.Utf8.{encode}
-use Rattle.std.specs.Prelude.{codes, [], None, Some}
-use Rattle.atspi_lines.specs.declared.line.Party.TheVariants as party
-use Rattle.atspi_trace.specs.Entry.{got, spoke, showed, quiet}
 use Rattle.atspi_trace_examples.proofs.Refusing.{refuses, refuses_all}
-use Rattle.atspi_trace_examples.specs.Cases.{untold, unasked, telling, announcement_first, echo_first, is_added, speaking, is_spoken_as, ending, ended, shows_none, waiting, idle, is_quiet, race, is_got_as}
+use Rattle.atspi_trace_examples.specs.Cases.{untold, unasked, telling, announcement_first, echo_first, is_added}
 use Rattle.atspi_trace_examples.proofs.refused.of_applications.Goals as goal
 
 pub returns-clause-unasked : goal.returns-clause-unasked
