@@ -1,0 +1,2 @@
+-- What is queued behind what waits already.
+pub mod Waiting

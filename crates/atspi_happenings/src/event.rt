@@ -1,0 +1,19 @@
+//! One thing that happens.
+
+use atspi_base::Text;
+use atspi_forest::Step;
+use atspi_message::Message;
+use atspi_types::BusName;
+
+/// What happens at an application: in its order it is told so.
+#[derive(Drop)]
+pub enum AppEvent {
+    /// A step of its tree.
+    Step(Step),
+    /// A message that it sends.
+    Send(Message),
+    /// A listener's pattern counts from now on.
+    Hears(BusName, Text),
+    /// It no longer counts.
+    Deaf(BusName, Text),
+}

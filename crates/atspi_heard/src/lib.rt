@@ -1,0 +1,10 @@
+//! The listeners' patterns that an application has heard of.
+#![tactic(auto)]
+
+mod exchange;
+mod heard;
+pub mod laws;
+mod set;
+
+pub use exchange::{Exchange, exchanged};
+pub use heard::Heard;

@@ -1,0 +1,3 @@
+-- Bus names as characters, and values that are no pair.
+pub mod Names
+pub mod Values
