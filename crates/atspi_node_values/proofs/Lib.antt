@@ -1,0 +1,3 @@
+pub mod RoleNames
+pub mod Indexes
+pub mod RelationLemmas
