@@ -1,0 +1,2 @@
+pub mod KnownView
+pub mod Lent
