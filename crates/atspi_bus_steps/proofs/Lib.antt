@@ -1,0 +1,11 @@
+pub mod Asking
+pub mod Said
+pub mod Settling
+pub mod Sayables
+pub mod Replies
+pub mod Calls
+pub mod Partings
+pub mod Sounds
+pub mod Greetings
+pub mod Taken
+pub mod Ends

@@ -1,0 +1,15 @@
+use Rattle.std.proofs.Common.{ap, ◌∙◌}
+use Rattle.atspi_message.specs.Envelope.{envelope_of}
+use Rattle.atspi_routing.specs.Routing as routing
+use Rattle.atspi_bus_steps.specs.Inner.{inner_of, state_of, parts}
+use Rattle.atspi_bus_steps.proofs.Asking.{receivers-parts}
+use Rattle.atspi_bus_steps.proofs.Said.{handed-is}
+use Rattle.atspi_bus_steps.proofs.inner.Inner.hand.Goals as goal
+
+pub returns-clause-ok : goal.returns-clause-ok
+returns-clause-ok c =
+    let self = c.args.self.now in
+    let e = envelope_of c.args.message.now in
+    handed-is (inner_of self) c.hand_out.new.queues e c.as_slice-bytes.result.now c.deref-2.result.now c.in_ok-hand_out.ensures
+    (c.as_slice-bytes.ensures ∙ c.in_ok-bytes.ensures.bytes)
+    (c.deref-2.ensures.value ∙ c.in_ok-receivers.ensures ∙ ap (λ j. routing.receivers (parts j self.names self.rules) e) c.deref.ensures.value ∙ receivers-parts (state_of self) e)

@@ -1,0 +1,108 @@
+//! A new bus, a copy of one, and who has joined it.
+
+ghost use Rattle.std.specs.Prelude.{◌≡◌, ◌≤◌, ◌↔◌, ◌++◌, ℕ, List, map, length, drop, option_to_list, IfOk, OnOk, OnErr};
+ghost use Rattle.atspi_message.specs.Envelope.{envelope_of};
+ghost use Rattle.atspi_routing.specs.Laws.{IsWithinQuota};
+ghost use Rattle.atspi_routing.specs.Queues.{empty_bus, joins, queue_of};
+ghost use Rattle.atspi_queues.specs.Change.{with_queue};
+ghost use Rattle.atspi_bus_steps.specs.Inner.{inner_of, state_of};
+
+use crate::inner::Inner;
+use atspi_base::NoMemory;
+use atspi_match::RuleIndex;
+use atspi_message::Message;
+use atspi_names::Names;
+use atspi_queues::Queues;
+use atspi_routing::Closing;
+use std::alloc::Global;
+use std::collections::VecDeque;
+
+impl Inner {
+    /// A bus with this quota, to which nobody has joined.
+    pub fn new(alloc: Global, quota: u32) -> Inner
+        ensures bus { inner_of result ≡ empty_bus quota }
+    {
+        Inner {
+            alloc,
+            joined: Vec::new(alloc),
+            names: Names::new(alloc),
+            rules: RuleIndex::new(alloc),
+            calls: Vec::new(alloc),
+            next: 1,
+            queues: Queues::new(alloc, quota),
+            own: VecDeque::new(alloc),
+            closings: VecDeque::new(alloc),
+        }
+    }
+
+    /// A connection joins. After want of memory all is as before.
+    pub fn join(&mut self, conn: u32) -> Result<(), NoMemory>
+        ensures ok { OnOk result (inner_of self.new ≡ joins (inner_of self.old) conn) }
+        ensures err { OnErr result (inner_of self.new ≡ inner_of self.old) }
+    {
+        self.joined.push(conn)?;
+        if self.queues.open_queue(conn).is_err() {
+            let _ = self.joined.pop();
+            return Err(NoMemory);
+        }
+        Ok(())
+    }
+}
+
+impl Inner {
+    /// The oldest closing that was not asked for yet.
+    pub fn closed(&mut self) -> Option<Closing>
+        ensures bus { inner_of self.old ≡ record (inner_of self.new) { closings = option_to_list result ++ (inner_of self.new).closings } }
+        ensures state { state_of self.new ≡ state_of self.old }
+    {
+        self.closings.pop_front()
+    }
+
+    /// The oldest message of the bus's own that was not asked for yet.
+    pub fn own(&mut self) -> Option<Message>
+        ensures bus { inner_of self.old ≡ record (inner_of self.new) { own = map envelope_of (option_to_list result) ++ (inner_of self.new).own } }
+        ensures state { state_of self.new ≡ state_of self.old }
+    {
+        self.own.pop_front()
+    }
+
+    /// How many bytes wait for a connection: at most the quota.
+    pub fn waiting(&self, conn: u32) -> u32
+        ensures len { result ≡ length (queue_of (inner_of self.now).waiting.queues conn) }
+        ensures within { IsWithinQuota (inner_of self.now) }
+    {
+        self.queues.waiting(conn)
+    }
+
+    /// The next piece of the bytes that wait for a connection, empty exactly where none wait.
+    pub fn front(&self, conn: u32) -> &[u8]
+        ensures begins { (rest : List ℕ) × (queue_of (inner_of self.now).waiting.queues conn ≡ result.now ++ rest) }
+        ensures empty { (length result.now ≡ 0) ↔ (length (queue_of (inner_of self.now).waiting.queues conn) ≡ 0) }
+    {
+        self.queues.front(conn)
+    }
+
+    /// Drops the first bytes that wait for a connection.
+    pub fn pop(&mut self, conn: u32, n: u32)
+        requires { n ≤ length (queue_of (inner_of self.old).waiting.queues conn) }
+        ensures { inner_of self.new ≡ record (inner_of self.old) {
+          waiting = record (inner_of self.old).waiting {
+            queues = with_queue (inner_of self.old).waiting.queues conn (drop n (queue_of (inner_of self.old).waiting.queues conn));
+          };
+        } }
+    {
+        self.queues.pop(conn, n);
+    }
+}
+
+/// Equal messages.
+fn copy_own(alloc: Global, own: &VecDeque<Message>) -> Result<VecDeque<Message>, NoMemory>
+    ensures { IfOk result (λ copy. map envelope_of copy.items ≡ map envelope_of own.now.items) }
+{
+    let mut copy = VecDeque::new(alloc);
+    for i in 0..own.len() {
+        let message = own[i].copy(alloc)?;
+        copy.push_back(message)?;
+    }
+    Ok(copy)
+}

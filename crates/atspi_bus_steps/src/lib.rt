@@ -1,0 +1,20 @@
+//! The steps of a bus: what it does with a message, and when a connection leaves, each as its definition says. A step is done on a bus
+//! that may be dropped after a fault.
+#![tactic(auto)]
+
+mod calling;
+mod fault;
+mod handing;
+mod inner;
+mod keeping;
+mod leaving;
+mod open_call;
+mod passing;
+mod receiving;
+mod saying;
+mod standing;
+mod taking;
+
+pub use fault::BusFault;
+pub use inner::Inner;
+pub use open_call::OpenCall;
