@@ -17,7 +17,7 @@ use atspi_types::{NameFault, Path};
 use std::alloc::Global;
 
 /// The next argument, where it is a text.
-pub(crate) fn next_text<'a>(fields: &mut Fields<'a>) -> Option<&'a str>
+pub fn next_text<'a>(fields: &mut Fields<'a>) -> Option<&'a str>
     ensures comes { TextComes result (fields_data fields.old) (fields_data fields.new) }
     ensures no_zero { IfSome result (λ s. HasNoZero s.now) }
     ensures counted { IfSome result (λ s. length s.now < 2 ^ 32) }
@@ -56,7 +56,7 @@ pub(crate) fn next_variant<'a>(fields: &mut Fields<'a>) -> Option<Item<'a>>
 }
 
 /// The next argument, where it is a list of texts.
-pub(crate) fn next_texts<'a>(fields: &mut Fields<'a>) -> Option<Elements<'a>>
+pub fn next_texts<'a>(fields: &mut Fields<'a>) -> Option<Elements<'a>>
     ensures comes { TextsCome result (fields_data fields.old) (fields_data fields.new) }
 {
     let elements = fields.next()?.elements()?;
@@ -86,7 +86,7 @@ pub(crate) fn next_reference<'a>(fields: &mut Fields<'a>) -> Option<ReferenceRef
 
 impl<'a> ReferenceRef<'a> {
     /// The reference, owned.
-    pub(crate) fn owned(self, alloc: Global) -> Result<Reference, NoMemory>
+    pub fn owned(self, alloc: Global) -> Result<Reference, NoMemory>
         ensures { IfOk result (λ reference. reference ≡ reference_seen self.entry) }
     {
         Ok(Reference {
@@ -109,7 +109,7 @@ pub(crate) fn owned_path(alloc: Global, path: &str) -> Result<Path, NoMemory>
 }
 
 /// The reference that a value is, if it is one.
-pub(crate) fn reference<'a>(value: Item<'a>) -> Option<ReferenceRef<'a>>
+pub fn reference<'a>(value: Item<'a>) -> Option<ReferenceRef<'a>>
     ensures { option_map reference_seen result ≡ reference_in (item_data value.entry) }
 {
     let mut fields = value.fields()?;
@@ -122,7 +122,7 @@ pub(crate) fn reference<'a>(value: Item<'a>) -> Option<ReferenceRef<'a>>
 }
 
 /// The one argument of a body.
-pub(crate) fn only<'a>(body: Fields<'a>) -> Option<Item<'a>>
+pub fn only<'a>(body: Fields<'a>) -> Option<Item<'a>>
     ensures { option_map item_data result ≡ only_of (fields_data body.entry) }
 {
     let mut rest = body;

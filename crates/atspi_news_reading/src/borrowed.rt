@@ -8,7 +8,7 @@ use atspi_cursor::Elements;
 
 /// A reference to an object, where it lies.
 #[derive(Clone, Copy)]
-pub(crate) struct ReferenceRef<'a> {
+pub struct ReferenceRef<'a> {
     pub bus: &'a str,
     pub path: &'a str,
     ghost no_zero: { HasNoZero bus.now },

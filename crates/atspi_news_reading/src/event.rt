@@ -21,7 +21,7 @@ use std::alloc::Global;
 
 /// The arguments of an event, where they lie.
 #[derive(Clone, Copy)]
-pub(crate) struct EventRef<'a> {
+pub struct EventRef<'a> {
     pub minor: &'a str,
     pub detail1: i32,
     pub detail2: i32,
@@ -29,7 +29,7 @@ pub(crate) struct EventRef<'a> {
 }
 
 /// The arguments of an event, if the body has them.
-pub(crate) fn event<'a>(body: Fields<'a>) -> Option<EventRef<'a>>
+pub fn event<'a>(body: Fields<'a>) -> Option<EventRef<'a>>
     ensures { option_map event_seen result ≡ event_in (fields_data body.entry) }
 {
     let mut rest = body;

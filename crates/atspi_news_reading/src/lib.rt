@@ -9,5 +9,9 @@ mod news;
 mod reply;
 mod words;
 
+pub use argument::{next_text, only, reference};
+pub use borrowed::ReferenceRef;
+pub use event::{EventRef, event as event_in};
 pub use news::news_of;
 pub use reply::{items_told, part_told};
+pub use words::is_word;

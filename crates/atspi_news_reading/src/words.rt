@@ -6,7 +6,7 @@ ghost use Rattle.std.specs.Char.{is_ascii};
 ghost use Rattle.atspi_news.specs.Events.{is_front};
 
 /// Whether a text is the word.
-pub(crate) fn is_word(text: &str, word: &str) -> bool
+pub fn is_word(text: &str, word: &str) -> bool
     requires { list_all is_ascii word.now ≡ true }
     ensures { result ≡ bytes_eq word.now (chars text.now) }
 {

@@ -1,0 +1,20 @@
+use Rattle.std.proofs.Common.{◌∙◌, sym, ap}
+use Rattle.std.proofs.lemmas.Result.{IfOk-weaker}
+use Rattle.atspi_codes.specs.Codes.{is_array}
+use Rattle.atspi_marshal.specs.Reading.{input_of}
+use Rattle.atspi_cursor.specs.Items.{item_data, item_kind, elements_data, elements_kind}
+use Rattle.atspi_header.proofs.ReadTypes.{item_type}
+use Rattle.atspi_following.specs.Known.{references_among}
+use Rattle.atspi_news_reading.proofs.Told.{differs_by}
+use Rattle.atspi_news_reading.proofs.Lists.{not_elements, elements_in}
+use Rattle.atspi_reader_told.proofs.children.references_in.Goals as goal
+
+pub returns-in-Some : goal.returns-in-Some
+returns-in-Some c =
+    let es = c.in-Some.elements in
+    IfOk-weaker c.references_of.result _ _ (λ v same. same ∙ ap references_among (sym (elements_in (item_data c.args.value) (elements_kind es) (elements_data es) c.in-Some.ensures.elements))) c.references_of.ensures
+
+pub returns-in-None : goal.returns-in-None
+returns-in-None c =
+    let x = c.args.value in
+    c.new.ensures.items ∙ ap references_among (not_elements (item_data x) (differs_by is_array (item_data x) (item_kind x) (item_type (input_of x.input) x.levels (item_kind x) x.bound x.at x.known) (λ t. let clash = c.in-None.ensures.is.1 t in absurd cc)))
