@@ -42,6 +42,17 @@ fn first_space(bytes: &[u8]) -> Option<usize> {
     bytes.iter().position(|b| *b == b' ')
 }
 
+/// The place of the last space.
+fn last_space(bytes: &[u8]) -> Option<usize> {
+    let mut last = None;
+    for (i, b) in bytes.iter().enumerate() {
+        if *b == b' ' {
+            last = Some(i);
+        }
+    }
+    last
+}
+
 /// Lines that are none, since one word or number is out of its form, with `|` between any two.
 const WRONG: &str = "\
 readers|\
@@ -156,6 +167,30 @@ fn each_form_is_refused_with_a_word_too_many(rt: HostRuntime) -> Result<(), Fail
             fault(&rt, line.as_slice()),
             Some(LineFault::Form),
             "a space and {spelled}"
+        );
+    }
+    Ok(())
+}
+
+#[test]
+fn each_form_is_refused_without_its_last_word(rt: HostRuntime) -> Result<(), Fail> {
+    for row in FORMS.split('\n') {
+        let (spelled, said) = row.split_once(" => ").ok_or("a row")?;
+        // a list of which no child can be selected is a form too
+        if said == "Blank" || said.ends_with("Select") {
+            continue;
+        }
+        let bytes = spelled.as_bytes();
+        let Some(at) = last_space(bytes) else {
+            continue;
+        };
+        let Some(front) = bytes.get(..at) else {
+            continue;
+        };
+        assert_eq!(rt;
+            fault(&rt, front),
+            Some(LineFault::Form),
+            "{spelled} without its last word"
         );
     }
     Ok(())
