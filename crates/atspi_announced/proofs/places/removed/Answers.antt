@@ -1,0 +1,17 @@
+use Rattle.std.proofs.Common.{map}
+use Rattle.atspi_forest.specs.Forest.{labels, pick}
+use Rattle.atspi_forest.specs.Row.{ShapeRow}
+use Rattle.atspi_forest.specs.RowRules.{shapes}
+use Rattle.atspi_forest.specs.Tree.{is_shape, seat_of}
+use Rattle.atspi_announcing.specs.Signals.{removed}
+use Rattle.atspi_announcing.specs.Announced.{left}
+use Rattle.atspi_announced.proofs.Asked.{asked_two}
+use Rattle.atspi_announced.proofs.places.removed.Goals as goal
+
+pub returns : goal.returns
+returns c =
+    let t = c.args.tree.now in
+    let n = c.args.node in
+    let bus = c.args.bus.now in
+    asked_two c.args.heard.now (left bus n (seat_of shapes n t.rows)) (map (λ (row : ShapeRow). removed bus row.node) (labels (pick (is_shape n) t.rows))) c.args.mail.now _ _
+    c.in_ok-left.ensures c.in_ok-gone.ensures

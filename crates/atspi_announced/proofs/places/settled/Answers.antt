@@ -1,0 +1,13 @@
+use Rattle.std.proofs.Common.{[], ◌∷◌}
+use Rattle.std.specs.Prelude.{codes}
+use Rattle.atspi_forest.specs.Path.{path_of}
+use Rattle.atspi_ends.specs.Places.{reference}
+use Rattle.atspi_announcing.specs.Signals.{property_changed, child_changed}
+use Rattle.atspi_announced.proofs.Asked.{asked_two}
+use Rattle.atspi_announced.proofs.places.settled.Goals as goal
+
+pub returns : goal.returns
+returns c =
+    asked_two c.args.heard.now (property_changed c.args.node (codes "accessible-parent") (reference c.args.bus.now (path_of c.args.parent)) ∷ [])
+    (child_changed c.args.bus.now c.args.parent (codes "add") c.args.index c.args.node ∷ []) c.args.mail.now _ _
+    c.in_ok-reparented.ensures c.in_ok-arrived.ensures
