@@ -1,9 +1,8 @@
 -- Steps that are done as one, one after another.
-use Rattle.std.proofs.Common.{◌≡◌, ℕ, suc, ◌+◌, ◌<◌, ◌≤◌, List, [], ◌∷◌, length, drop, get_or, refl, sym, ap, ◌∙◌, subst, ◌⊎◌, inl, inr, add-one, drop-cons}
+use Rattle.std.proofs.Common.{◌≡◌, ℕ, suc, ◌+◌, ◌<◌, List, [], ◌∷◌, length, drop, get_or, refl, sym, ap, ◌∙◌, subst, ◌⊎◌, inl, inr, add-one, drop-cons}
 use Rattle.std.specs.Prelude.{Result, Ok, Err, OnErr}
 use Rattle.atspi_forest.specs.declared.step.Step.{Step}
-use Rattle.atspi_forest.specs.Forest.{Forest}
-use Rattle.atspi_forest.specs.Row.{TreeRow, Each}
+use Rattle.atspi_forest.specs.Row.{Each}
 use Rattle.atspi_forest.specs.RowRules.{rows}
 use Rattle.atspi_forest.specs.Tree.{after, added_after, Applies, AllApply, after_all}
 use Rattle.atspi_exported.specs.Parts.{Parts, whole_of}

@@ -1,23 +1,22 @@
 -- A step of a text that applies to the whole tree can be done by the face, and leaves the shape as it is.
-use Rattle.std.proofs.Common.{◌≡◌, ℕ, ◌+◌, ◌-◌, ◌<◌, ◌≤◌, Bool, true, false, cond, Option, Some, None, List, [], ◌∷◌, ◌++◌, refl, sym, ap, ◌∙◌, subst, arith}
+use Rattle.std.proofs.Common.{◌≡◌, ℕ, ◌+◌, ◌≤◌, Bool, true, false, cond, Option, Some, None, List, refl, sym, ap, ◌∙◌, subst, arith}
 use Rattle.std.specs.Prelude.{length, take, drop, MatchOption, Result, Ok, Err, OnOk}
 use Rattle.std.specs.FinMap.{get}
-use Rattle.std.proofs.lemmas.Bool.{le-leb}
 use Rattle.atspi_forest.specs.declared.contents.FaceData.{FaceData}
 use Rattle.atspi_forest.specs.declared.contents.FaceData.TheVariants.{Chars, Grid, Deeds}
 use Rattle.atspi_forest.specs.declared.step.Step.{Step}
 use Rattle.atspi_forest.specs.declared.step.Step.TheVariants.{Add, Remove, Move, SetName, SetDescription, SetRole, SetState, Insert, Delete, Caret, TextSelect, Relate}
-use Rattle.atspi_forest.specs.Forest.{Forest, nil, tree, relabel, change, find}
-use Rattle.atspi_forest.specs.Row.{ShapeRow, TextContents, TreeRow, Holds, HoldsIfThere, on_some, IsText}
+use Rattle.atspi_forest.specs.Forest.{Forest, nil, tree, change}
+use Rattle.atspi_forest.specs.Row.{ShapeRow, TextContents, Holds, HoldsIfThere, on_some, IsText}
 use Rattle.atspi_forest.specs.RowRules.{rows, shapes, after_delete}
-use Rattle.atspi_forest.specs.Tree.{is_node, is_shape, Applies, IsTree}
+use Rattle.atspi_forest.specs.Tree.{is_shape, Applies}
 use Rattle.atspi_forest.proofs.EditLemmas.{length-delete}
 use Rattle.atspi_face.specs.declared.change.Change.TheVariants as changes
 use Rattle.atspi_face.specs.Contents.{IsChange}
-use Rattle.atspi_face.specs.Nodes.{Nodes, CanChange}
+use Rattle.atspi_face.specs.Nodes.{Nodes}
 use Rattle.atspi_tree.specs.TreeShape.{TreeShape, after_step}
 use Rattle.atspi_whole.specs.Whole.{Faces, as_text, whole}
-use Rattle.atspi_exported.specs.Parts.{Parts, parts, faces_of, whole_of}
+use Rattle.atspi_exported.specs.Parts.{Parts, parts, faces_of}
 use Rattle.atspi_exported.proofs.Known.{row_text}
 use Rattle.atspi_exported.specs.Doing.{after_parts, IsOfText, IsOfShape, CanDo, text_after}
 

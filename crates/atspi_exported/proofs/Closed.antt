@@ -1,12 +1,11 @@
 -- The nodes that go with one: itself, and those below it at their places.
-use Rattle.std.proofs.Common.{◌≡◌, ℕ, zero, suc, ◌+◌, ◌≤◌, List, [], ◌∷◌, ◌++◌, Option, Some, None, refl, sym, ap, ◌∙◌, subst, true, arith}
+use Rattle.std.proofs.Common.{◌≡◌, ℕ, suc, List, [], ◌∷◌, ◌++◌, Option, Some, refl, sym, ap, ◌∙◌, true, arith}
 use Rattle.std.specs.Prelude.{map}
 use Rattle.std.proofs.lemmas.Bool.{eqb-true}
 use Rattle.std.proofs.lemmas.List.{map-append, append-nil}
-use Rattle.atspi_forest.specs.Forest.{Forest, nil, tree, labels, count, has, pick, seats, children_at}
+use Rattle.atspi_forest.specs.Forest.{Forest, nil, tree, labels, has, pick, seats, children_at}
 use Rattle.atspi_forest.specs.Row.{ShapeRow}
-use Rattle.atspi_forest.specs.RowRules.{shapes}
-use Rattle.atspi_forest.specs.Tree.{is_shape, IsTree}
+use Rattle.atspi_forest.specs.Tree.{is_shape}
 use Rattle.atspi_forest.proofs.Found.{count-has}
 use Rattle.atspi_tree.specs.Seats.{seat_at, seats_below}
 use Rattle.atspi_tree.specs.TreeShape.{TreeShape, IsLawful}

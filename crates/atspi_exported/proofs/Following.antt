@@ -1,24 +1,23 @@
 -- The parts after a step are what is exported after it.
-use Rattle.std.proofs.Common.{◌≡◌, ℕ, ◌+◌, ◌<◌, ◌≤◌, Option, None, Some, List, [], ◌∷◌, refl, sym, ap, ◌∙◌, subst, arith, Bool, true, false}
-use Rattle.std.specs.FinMap.{get, empty, get-empty, remove}
+use Rattle.std.proofs.Common.{◌≡◌, ℕ, ◌<◌, None, List, [], sym, ap, ◌∙◌, subst, arith, Bool, true}
+use Rattle.std.specs.FinMap.{get, get-empty, remove}
 use Rattle.std.specs.Prelude.{Result, Ok, Err, OnOk, OnErr}
 use Rattle.std.specs.Ordering.{nat_cmp}
 use Rattle.atspi_forest.specs.declared.step.Seed.{Seed}
 use Rattle.atspi_forest.specs.declared.step.Step.{Step}
 use Rattle.atspi_forest.specs.declared.step.Step.TheVariants.{Add, Remove, Move, SetName, SetDescription, SetRole, SetState, Insert, Delete, Caret, TextSelect, Relate}
-use Rattle.atspi_forest.specs.Forest.{Forest, nil, tree, count, has, find}
-use Rattle.atspi_forest.specs.Row.{ShapeRow, TreeRow, Contents, IsName}
+use Rattle.atspi_forest.specs.Forest.{Forest, nil, tree, count, has}
+use Rattle.atspi_forest.specs.Row.{TreeRow, Contents, IsName}
 use Rattle.atspi_forest.specs.RowRules.{rows, shapes, first_shape}
-use Rattle.atspi_forest.specs.Tree.{is_node, is_shape, shape_of, after, added_after, IsTree, Applies, Changes, first_tree, root_seed}
+use Rattle.atspi_forest.specs.Tree.{is_shape, after, added_after, IsTree, Applies, Changes, first_tree, root_seed}
 use Rattle.atspi_forest.proofs.Begins.{rows_begin}
-use Rattle.atspi_forest.proofs.Found.{not_there, count-has, has-count, find-passes}
+use Rattle.atspi_forest.proofs.Found.{not_there, has-count, find-passes}
 use Rattle.atspi_forest.proofs.Kept.{after_is_tree}
-use Rattle.atspi_forest.proofs.Relabel.{count-relabel, has-relabel}
 use Rattle.atspi_forest.proofs.RowRules.{rows_sound}
 use Rattle.atspi_forest.proofs.ShapeOf.{shape_applies, shape-count}
 use Rattle.atspi_face.specs.Nodes.{Nodes}
-use Rattle.atspi_tree.specs.TreeShape.{TreeShape, StepApplies, after_step, root_alone}
-use Rattle.atspi_whole.specs.Whole.{Faces, as_text, as_columns, as_actions, contents_of, filled, whole, KnowsNo, KnowOnly, with_text, with_columns, with_actions}
+use Rattle.atspi_tree.specs.TreeShape.{TreeShape, StepApplies, root_alone}
+use Rattle.atspi_whole.specs.Whole.{Faces, as_text, as_columns, as_actions, contents_of, KnowsNo, with_text, with_columns, with_actions}
 use Rattle.atspi_whole.proofs.Followed.{shape_is_kept, steps_are_followed}
 use Rattle.atspi_exported.specs.Parts.{Parts, Kinds, AreKinds, IsExported, IsEmpty, AreEmpty, AreSmall, parts, faces_of, whole_of}
 use Rattle.atspi_exported.specs.Doing.{after_parts, IsAdd}

@@ -1,5 +1,5 @@
 -- What an edit reads is what the faces keep.
-use Rattle.std.proofs.Common.{◌≡◌, ℕ, suc, ◌≤◌, arith, Bool, true, false, not, Option, Some, None, List, [], ◌∷◌, refl, sym, ap, ◌∙◌, subst, true≢false}
+use Rattle.std.proofs.Common.{◌≡◌, ℕ, suc, arith, Bool, true, false, not, Option, Some, None, List, [], ◌∷◌, refl, sym, ap, ◌∙◌, subst, true≢false}
 use Rattle.std.specs.Prelude.{◌==◌, length, MatchOption, is_some, Result, Ok, Err, IfOk}
 use Rattle.atspi_forest.specs.declared.contents.Kinds.{Kinds}
 use Rattle.std.specs.Option.{option_map}
@@ -9,18 +9,17 @@ use Rattle.atspi_forest.specs.declared.contents.FaceKind.TheVariants.{Chars as c
 use Rattle.atspi_forest.specs.declared.contents.FaceData.{FaceData}
 use Rattle.atspi_forest.specs.declared.contents.FaceData.TheVariants.{Chars, Grid, Deeds}
 use Rattle.atspi_forest.specs.Edits.{text_contents, action_contents}
-use Rattle.atspi_forest.specs.Forest.{Forest, has, find, relabel}
+use Rattle.atspi_forest.specs.Forest.{Forest, has, find}
 use Rattle.atspi_forest.specs.Row.{ShapeRow, TextContents, Contents, TreeRow, HoldsIfThere, IsText, IsContents}
 use Rattle.atspi_forest.specs.RowRules.{rows}
 use Rattle.atspi_forest.specs.Tree.{is_node, is_shape, IsTree}
-use Rattle.atspi_forest.proofs.Found.{find-passes, find-none, find-has, count-has, has-count}
+use Rattle.atspi_forest.proofs.Found.{find-passes, has-count}
 use Rattle.atspi_forest.proofs.Lookup.{find-relabel}
 use Rattle.atspi_forest.proofs.EditLemmas.{lawful_row}
 use Rattle.atspi_forest.proofs.Relabel.{Same}
 use Rattle.atspi_face.specs.Contents.{kind_of}
-use Rattle.atspi_face.specs.Nodes.{Nodes, HasText}
-use Rattle.atspi_tree.specs.TreeShape.{TreeShape, row_of}
-use Rattle.atspi_whole.specs.Whole.{Faces, as_text, as_columns, as_actions, contents_of, filled, whole}
+use Rattle.atspi_face.specs.Nodes.{HasText}
+use Rattle.atspi_whole.specs.Whole.{Faces, as_text, as_actions, contents_of, filled, whole}
 use Rattle.atspi_edits.specs.Answers.{IsKnown}
 use Rattle.atspi_exported.specs.Asking.{HasNames}
 

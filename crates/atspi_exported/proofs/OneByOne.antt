@@ -1,18 +1,17 @@
 -- The steps of an edit are done as one.
-use Rattle.std.proofs.Common.{◌≡◌, ℕ, suc, ◌+◌, ◌-◌, ◌==◌, Bool, true, false, cond, not, ◌&&◌, Option, Some, None, List, [], ◌∷◌, ◌++◌, refl, sym, ap, ◌∙◌, subst}
-use Rattle.std.specs.Prelude.{Result, Ok, Err, filter, map, take, drop, length, nat_lt, nat_le, bytes_eq, codes}
+use Rattle.std.proofs.Common.{◌≡◌, ℕ, ◌+◌, ◌-◌, ◌==◌, Bool, true, false, cond, not, ◌&&◌, Option, Some, None, List, [], ◌∷◌, ◌++◌, subst}
+use Rattle.std.specs.Prelude.{Ok, filter, map, take, drop, length, nat_lt, nat_le, bytes_eq, codes}
 use Rattle.atspi_forest.specs.declared.contents.FaceData.{FaceData}
 use Rattle.atspi_forest.specs.declared.edit.Edit.{Edit}
 use Rattle.atspi_forest.specs.declared.edit.Edit.TheVariants as edits
 use Rattle.atspi_forest.specs.declared.edit.EditFault.{EditFault}
 use Rattle.atspi_forest.specs.declared.step.Step.{Step}
 use Rattle.atspi_forest.specs.declared.step.Step.TheVariants.{Add, Remove, Move, SetName, SetDescription, SetRole, SetState, Insert, Delete, Caret, TextSelect, Relate}
-use Rattle.atspi_forest.specs.Forest.{Forest, find, tops}
+use Rattle.atspi_forest.specs.Forest.{Forest, tops}
 use Rattle.atspi_forest.specs.States.{has_state, checked, expanded, focused, multiselectable, pressed, selected}
-use Rattle.atspi_forest.specs.Row.{ShapeRow, TextContents, TreeRow, Each}
-use Rattle.atspi_forest.specs.RowRules.{shapes}
-use Rattle.atspi_forest.specs.Tree.{is_shape, seat_of, shape_of}
-use Rattle.atspi_forest.specs.Edits.{known_text, known_actions, children_of, refusals, first_fault, node_has_state, switch, switched, numbers_to, focusing, putting, typing, cutting, unselecting, selecting, others, flipping, acting, pressing, unless, made_steps, steps_unless, contents_read, steps_of_tree}
+use Rattle.atspi_forest.specs.Row.{ShapeRow, TreeRow, Each}
+use Rattle.atspi_forest.specs.Tree.{shape_of}
+use Rattle.atspi_forest.specs.Edits.{known_text, known_actions, children_of, refusals, first_fault, node_has_state, switch, switched, numbers_to, focusing, unselecting, selecting, others, flipping, pressing, unless, made_steps, steps_unless, contents_read, steps_of_tree}
 use Rattle.atspi_exported.specs.Doing.{TakesMemory, AreOne}
 
 -- a step that sets a state, and steps that do

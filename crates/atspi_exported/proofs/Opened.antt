@@ -1,8 +1,6 @@
 -- A new node that goes again leaves a face as it was.
-use Rattle.std.proofs.Common.{◌≡◌, ℕ, Option, None, Some, List, [], ◌∷◌, refl, sym, ap, ◌∙◌, subst, ◌⊎◌, inl, inr}
-use Rattle.std.specs.FinMap.{get, insert, remove}
-use Rattle.atspi_forest.specs.declared.contents.FaceData.{FaceData}
-use Rattle.atspi_forest.specs.declared.contents.FaceData.TheVariants.{Chars, Grid, Deeds}
+use Rattle.std.proofs.Common.{◌≡◌, ℕ, Option, None, List, sym, ap, ◌∙◌, subst, inl, inr}
+use Rattle.std.specs.FinMap.{get, remove}
 use Rattle.atspi_face.specs.Nodes.{Nodes}
 use Rattle.atspi_whole.specs.Whole.{with_text, with_columns, with_actions}
 use Rattle.atspi_whole.proofs.Faces.{text_elsewhere, columns_elsewhere, actions_elsewhere}

@@ -1,6 +1,6 @@
 -- What is read of one node, put together, is what the face keeps of it.
-use Rattle.std.proofs.Common.{◌≡◌, ℕ, ◌+◌, ◌-◌, ◌<◌, ◌≤◌, Bool, true, false, Option, Some, None, List, [], ◌∷◌, ◌++◌, refl, sym, ap, ◌∙◌, subst, arith, get_or}
-use Rattle.std.specs.Prelude.{length, take, drop, IsSome, MatchOption}
+use Rattle.std.proofs.Common.{◌≡◌, ℕ, ◌+◌, ◌-◌, ◌<◌, ◌≤◌, Option, Some, None, List, [], ◌∷◌, ◌++◌, refl, sym, ap, ◌∙◌, arith, get_or}
+use Rattle.std.specs.Prelude.{length, take, IsSome, MatchOption}
 use Rattle.std.specs.Option.{option_map_or}
 use Rattle.std.specs.FinMap.{get}
 use Rattle.std.proofs.lemmas.Bool.{false≢true}
@@ -9,7 +9,7 @@ use Rattle.atspi_forest.specs.declared.contents.FaceKind.{FaceKind}
 use Rattle.atspi_forest.specs.declared.contents.FaceKind.TheVariants.{Chars as chars_kind, Grid as grid_kind, Deeds as deeds_kind}
 use Rattle.atspi_forest.specs.declared.contents.FaceData.{FaceData}
 use Rattle.atspi_forest.specs.declared.contents.FaceData.TheVariants.{Chars, Grid, Deeds}
-use Rattle.atspi_face.specs.Contents.{kind_of, caret_of, count_of, marks_of, part_of, IsPart, IsContents}
+use Rattle.atspi_face.specs.Contents.{kind_of, caret_of, count_of, marks_of, part_of, IsPart}
 use Rattle.atspi_face.specs.Nodes.{Nodes, AreContents, HasText, HasPart, count_at, caret_at, marks_at, part_at}
 use Rattle.atspi_whole.specs.Whole.{as_actions}
 use Rattle.atspi_exported.specs.Asking.{HasNames}

@@ -1,5 +1,5 @@
 -- The steps of an edit of the whole tree.
-use Rattle.std.proofs.Common.{◌≡◌, ℕ, refl, sym, ap, ◌∙◌, subst}
+use Rattle.std.proofs.Common.{◌≡◌, sym, ap, ◌∙◌}
 use Rattle.std.specs.Prelude.{List, Result, Ok, Err, IfOk}
 use Rattle.atspi_forest.specs.declared.contents.FaceData.{FaceData}
 use Rattle.atspi_forest.specs.declared.edit.Edit.{Edit}
@@ -8,7 +8,7 @@ use Rattle.atspi_forest.specs.declared.step.Step.{Step}
 use Rattle.atspi_forest.specs.declared.step.StepList.{StepList}
 use Rattle.atspi_forest.specs.Edits.{steps_of, contents_read, steps_of_tree, IsEdit}
 use Rattle.atspi_forest.specs.RowRules.{rows}
-use Rattle.atspi_forest.specs.Tree.{shape_of, IsTree, AllApply}
+use Rattle.atspi_forest.specs.Tree.{IsTree, AllApply}
 use Rattle.atspi_forest.proofs.EditsApply.{steps_apply}
 use Rattle.atspi_edits.specs.Answers.{GivesSteps, edit_steps}
 use Rattle.atspi_edits.specs.declared.fault.EditRefused.{EditRefused}

@@ -1,5 +1,5 @@
 -- What an application exports, by its parts: the shape that the tree keeps, and what three faces keep of its nodes.
-use Rattle.std.specs.Prelude.{◌≡◌, ℕ, ◌<◌, List, None}
+use Rattle.std.specs.Prelude.{◌≡◌, ℕ, ◌<◌, None}
 use Rattle.std.specs.FinMap.{empty, get}
 use Rattle.atspi_forest.specs.declared.contents.FaceKind.{FaceKind}
 use Rattle.atspi_forest.specs.declared.contents.FaceKind.TheVariants.{Chars, Grid, Deeds}

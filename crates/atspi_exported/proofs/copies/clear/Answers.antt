@@ -1,4 +1,4 @@
-use Rattle.std.proofs.Common.{◌≡◌, ◌+◌, refl, sym, ap, ◌∙◌, subst, arith}
+use Rattle.std.proofs.Common.{◌+◌, refl, sym, ◌∙◌, subst, arith}
 use Rattle.atspi_exported.specs.Parts.{AreSmall}
 use Rattle.atspi_exported.proofs.Copied.{IsClear, clear_next, clear_end, small_less}
 use Rattle.atspi_exported.proofs.copies.clear.Goals as goal

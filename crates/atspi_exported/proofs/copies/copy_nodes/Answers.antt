@@ -1,5 +1,5 @@
-use Rattle.std.proofs.Common.{◌≡◌, ◌+◌, refl, sym, ◌∙◌, arith}
-use Rattle.atspi_exported.proofs.Copied.{copied_start, copied_next, copied_end, copied_small, small_same}
+use Rattle.std.proofs.Common.{◌+◌, refl, ◌∙◌, arith}
+use Rattle.atspi_exported.proofs.Copied.{copied_start, copied_next, copied_end, small_same}
 use Rattle.atspi_exported.proofs.copies.copy_nodes.Goals as goal
 
 pub loop-node-init : goal.loop-node-init

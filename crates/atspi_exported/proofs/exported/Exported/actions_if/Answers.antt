@@ -1,5 +1,5 @@
-use Rattle.atspi_exported.specs.Parts.{kinds_of, parts, faces_of}
-use Rattle.std.proofs.Common.{sym, ap, ◌∙◌}
+use Rattle.atspi_exported.specs.Parts.{faces_of}
+use Rattle.std.proofs.Common.{ap, ◌∙◌}
 use Rattle.atspi_forest.specs.declared.contents.Kinds.{Kinds}
 use Rattle.atspi_exported.proofs.Known.{kinds_found, if_ok, names_are_there, names_are_read, names_not_read}
 use Rattle.atspi_exported.proofs.exported.Exported.actions_if.Goals as goal

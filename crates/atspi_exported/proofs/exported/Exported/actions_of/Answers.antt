@@ -1,4 +1,4 @@
-use Rattle.atspi_exported.specs.Parts.{kinds_of, parts, faces_of}
+use Rattle.atspi_exported.specs.Parts.{faces_of}
 use Rattle.std.proofs.Common.{sym, ◌∙◌}
 use Rattle.atspi_exported.proofs.Known.{no_actions_there}
 use Rattle.atspi_exported.proofs.exported.Exported.actions_of.Goals as goal

@@ -1,5 +1,4 @@
 use Rattle.atspi_exported.specs.Parts.{kinds_of, parts, faces_of}
-use Rattle.std.proofs.Common.{sym, ap, ◌∙◌}
 use Rattle.atspi_exported.proofs.Following.{applies_to_shape, new_is_unknown, add_undone}
 use Rattle.atspi_exported.proofs.exported.Exported.add.Goals as goal
 

@@ -1,5 +1,4 @@
 use Rattle.atspi_exported.specs.Parts.{kinds_of, parts, faces_of}
-use Rattle.std.proofs.Common.{sym, ap, ◌∙◌}
 use Rattle.atspi_exported.proofs.Following.{exported_by, whole_by, added_by_step}
 use Rattle.atspi_exported.proofs.exported.Exported.apply.Goals as goal
 

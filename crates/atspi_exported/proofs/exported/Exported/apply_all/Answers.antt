@@ -1,4 +1,4 @@
-use Rattle.std.proofs.Common.{drop, sym, subst, arith}
+use Rattle.std.proofs.Common.{sym, subst, arith}
 use Rattle.std.proofs.lemmas.List.{drop_all}
 use Rattle.atspi_exported.specs.Parts.{parts, faces_of}
 use Rattle.atspi_exported.proofs.AllDone.{IsDoing, drop_here, doing_starts, doing_applies, doing_goes_on, doing_fails, doing_ends, on_err_any}
@@ -27,7 +27,7 @@ loop-step-preserved g c = record {
 pub returns-in_err-apply-clause-err : goal.returns-in_err-apply-clause-err
 returns-in_err-apply-clause-err g c =
     on_err_any c.from_residual.result (
-      doing_fails (parts c.args.self.now.tree (faces_of ((goal.Face-dyn g (c.args.self.now.kit.chars.vtable, c.args.self.now.kit.chars.value)).nodes c.args.self.now.kit.chars.value) ((goal.Face-dyn g (c.args.self.now.kit.grid.vtable, c.args.self.now.kit.grid.value)).nodes c.args.self.now.kit.grid.value) ((goal.Face-dyn g (c.args.self.now.kit.deeds.vtable, c.args.self.now.kit.deeds.value)).nodes c.args.self.now.kit.deeds.value))) (parts c.loop-step.self.tree (faces_of ((goal.Face-dyn g (c.loop-step.self.kit.chars.vtable, c.loop-step.self.kit.chars.value)).nodes c.loop-step.self.kit.chars.value) ((goal.Face-dyn g (c.loop-step.self.kit.grid.vtable, c.loop-step.self.kit.grid.value)).nodes c.loop-step.self.kit.grid.value) ((goal.Face-dyn g (c.loop-step.self.kit.deeds.vtable, c.loop-step.self.kit.deeds.value)).nodes c.loop-step.self.kit.deeds.value))) (parts c.apply.new.self.tree (faces_of ((goal.Face-dyn g (c.apply.new.self.kit.chars.vtable, c.apply.new.self.kit.chars.value)).nodes c.apply.new.self.kit.chars.value) ((goal.Face-dyn g (c.apply.new.self.kit.grid.vtable, c.apply.new.self.kit.grid.value)).nodes c.apply.new.self.kit.grid.value) ((goal.Face-dyn g (c.apply.new.self.kit.deeds.vtable, c.apply.new.self.kit.deeds.value)).nodes c.apply.new.self.kit.deeds.value))) _ _ c.args.steps.now c.step-item.result
+    doing_fails (parts c.args.self.now.tree (faces_of ((goal.Face-dyn g (c.args.self.now.kit.chars.vtable, c.args.self.now.kit.chars.value)).nodes c.args.self.now.kit.chars.value) ((goal.Face-dyn g (c.args.self.now.kit.grid.vtable, c.args.self.now.kit.grid.value)).nodes c.args.self.now.kit.grid.value) ((goal.Face-dyn g (c.args.self.now.kit.deeds.vtable, c.args.self.now.kit.deeds.value)).nodes c.args.self.now.kit.deeds.value))) (parts c.loop-step.self.tree (faces_of ((goal.Face-dyn g (c.loop-step.self.kit.chars.vtable, c.loop-step.self.kit.chars.value)).nodes c.loop-step.self.kit.chars.value) ((goal.Face-dyn g (c.loop-step.self.kit.grid.vtable, c.loop-step.self.kit.grid.value)).nodes c.loop-step.self.kit.grid.value) ((goal.Face-dyn g (c.loop-step.self.kit.deeds.vtable, c.loop-step.self.kit.deeds.value)).nodes c.loop-step.self.kit.deeds.value))) (parts c.apply.new.self.tree (faces_of ((goal.Face-dyn g (c.apply.new.self.kit.chars.vtable, c.apply.new.self.kit.chars.value)).nodes c.apply.new.self.kit.chars.value) ((goal.Face-dyn g (c.apply.new.self.kit.grid.vtable, c.apply.new.self.kit.grid.value)).nodes c.apply.new.self.kit.grid.value) ((goal.Face-dyn g (c.apply.new.self.kit.deeds.vtable, c.apply.new.self.kit.deeds.value)).nodes c.apply.new.self.kit.deeds.value))) _ _ c.args.steps.now c.step-item.result
     (drop_here c.as_slice-list.result.now c.loop-step.step-index c.step-item.result (omega arith) c.step-item.is) c.loop-step.invariant.doing
     c.in_err-apply.ensures.err c.in_err-apply.ensures.cause
     )

@@ -1,4 +1,4 @@
-use Rattle.atspi_exported.specs.Parts.{kinds_of, parts, faces_of}
+use Rattle.atspi_exported.specs.Parts.{parts, faces_of}
 use Rattle.atspi_exported.proofs.Changing.{can_do, text_done}
 use Rattle.atspi_exported.proofs.exported.Exported.change.Goals as goal
 

@@ -1,4 +1,4 @@
-use Rattle.std.proofs.Common.{◌≡◌, ap, ◌∙◌}
+use Rattle.std.proofs.Common.{ap, ◌∙◌}
 use Rattle.atspi_tree.specs.TreeShape.{root_alone}
 use Rattle.atspi_exported.proofs.Following.{root_whole, root_exported}
 use Rattle.atspi_exported.proofs.exported.Exported.new.Goals as goal

@@ -1,4 +1,4 @@
-use Rattle.atspi_exported.specs.Parts.{kinds_of, parts, faces_of}
+use Rattle.atspi_exported.specs.Parts.{parts, faces_of}
 use Rattle.atspi_forest.specs.declared.step.Step.TheVariants.{Remove}
 use Rattle.atspi_exported.proofs.Following.{applies_to_shape, removed_there}
 use Rattle.atspi_exported.proofs.exported.Exported.remove.Goals as goal

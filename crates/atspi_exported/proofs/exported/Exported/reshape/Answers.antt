@@ -1,4 +1,4 @@
-use Rattle.atspi_exported.specs.Parts.{kinds_of, parts, faces_of}
+use Rattle.atspi_exported.specs.Parts.{parts, faces_of}
 use Rattle.atspi_exported.proofs.Following.{applies_to_shape, state_there}
 use Rattle.atspi_exported.proofs.exported.Exported.reshape.Goals as goal
 

@@ -1,5 +1,5 @@
-use Rattle.atspi_exported.specs.Parts.{kinds_of, parts, faces_of}
-use Rattle.std.proofs.Common.{sym, ap, ◌∙◌}
+use Rattle.atspi_exported.specs.Parts.{faces_of}
+use Rattle.std.proofs.Common.{ap, ◌∙◌}
 use Rattle.atspi_forest.specs.declared.contents.Kinds.{Kinds}
 use Rattle.atspi_exported.proofs.Known.{kinds_found, if_ok, text_is_there, text_is_read, text_not_read}
 use Rattle.atspi_exported.proofs.exported.Exported.text_if.Goals as goal
