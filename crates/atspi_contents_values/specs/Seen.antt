@@ -1,0 +1,24 @@
+-- What an application answers from, as its tree and three faces keep it.
+use Rattle.std.specs.Prelude.{◌≡◌, ℕ, ℤ, List}
+use Rattle.atspi_forest.specs.declared.contents.FaceKind.{FaceKind}
+use Rattle.atspi_forest.specs.declared.contents.FaceKind.TheVariants.{Chars, Grid, Deeds}
+use Rattle.atspi_forest.specs.declared.contents.Kinds.{Kinds}
+use Rattle.atspi_forest.specs.Row.{IsContents}
+use Rattle.atspi_tree.specs.TreeShape.{TreeShape}
+use Rattle.atspi_face.specs.Nodes.{Nodes}
+use Rattle.atspi_whole.specs.Whole.{Faces, whole, contents_of}
+use Rattle.atspi_objects.specs.Application.{Application}
+
+abbrev pub faces_of : Nodes → Nodes → Nodes → Faces
+faces_of texts columns actions = record { chars = texts; grid = columns; deeds = actions }
+
+abbrev pub seen : TreeShape → Faces → List ℕ → ℤ → Application
+seen t faces name id = record { tree = whole t.rows faces; added = t.added; name = name; id = id }
+
+-- the faces are of their kinds, and what they keep of a node is within its limits
+pub record KeepsContents (texts columns actions : FaceKind) (faces : Faces) (n : ℕ) : Type 0 where
+  pub of_texts : texts ≡ Chars
+  pub of_columns : columns ≡ Grid
+  pub of_actions : actions ≡ Deeds
+  pub kinds : Kinds
+  pub lawful : IsContents kinds (contents_of faces n)
