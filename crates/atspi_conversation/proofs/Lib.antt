@@ -1,0 +1,4 @@
+pub mod SentLemmas
+pub mod MovedLemmas
+pub mod LineLemmas
+pub mod TalkLemmas

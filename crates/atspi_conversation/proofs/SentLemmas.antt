@@ -1,0 +1,107 @@
+-- What ends hand out and take, step behind step.
+use Rattle.std.proofs.Common.{◌≡◌, ℕ, List, [], ◌∷◌, ◌++◌, refl, sym, ap, subst, ◌∙◌, inl, inr, append_assoc, append-nil}
+use Rattle.atspi_message.specs.Envelope.{Envelope}
+use Rattle.atspi_message.specs.Bytes.{IsMessage, written}
+use Rattle.atspi_stream.specs.Stream.{IsParted, AreMessages}
+use Rattle.atspi_stream.specs.Stream as stream
+use Rattle.atspi_stream.proofs.NextLaws.{history_more}
+use Rattle.atspi_conversation.specs.Sent.{Fits, IsSent, AreSent, AllMeet}
+use Rattle.atspi_conversation.specs.Speech.{envelopes}
+use Rattle.atspi_conversation.specs.Talking.{Takes, HandsOut, MaySpeak, Says, Attends}
+
+-- the bytes of messages behind those of others
+pub sent_more : (es fs : List Envelope) (bs cs : List ℕ) → AreSent es bs → AreSent fs cs → AreSent (es ++ fs) (bs ++ cs)
+sent_more [] fs bs cs p q = subst (λ (w : List ℕ). AreSent fs w) (ap (λ (w : List ℕ). w ++ cs) (sym p)) q
+sent_more (e ∷ es) fs bs cs p q = (
+  p.0,
+  p.1 ++ cs,
+  p.2,
+  sent_more es fs p.1 cs p.3 q,
+  ap (λ (w : List ℕ). w ++ cs) p.4 ∙ append_assoc p.0 p.1 cs,
+)
+
+-- one message put behind some bytes
+pub one_sent : (e : Envelope) (old new : List ℕ) → IsSent e old new → (front : List ℕ) × AreSent (e ∷ []) front × (new ≡ old ++ front)
+one_sent e old new s = elim s [
+  | inl p ↦ (written e, (written e, [], inl (p.0, refl), refl, sym (append-nil (written e))), p.1)
+  | inr p ↦ ([], ([], [], inr (p.0, refl), refl, refl), p.1 ∙ sym (append-nil old))
+]
+
+pub says_none : {E : Type 0} (Stands : E → List Envelope → List Envelope → Type 0) (end : E) (unsent : List ℕ) → Says Stands end end unsent unsent
+says_none Stands end unsent = record {
+  messages = [];
+  sent = [];
+  spelled = refl;
+  behind = sym (append-nil unsent);
+  handed = λ took said s. subst (λ (w : List Envelope). Stands end took w) (sym (append-nil said)) s;
+}
+
+pub says_more : {E : Type 0} (Stands : E → List Envelope → List Envelope → Type 0) (old mid new : E) (u v w : List ℕ) (e : Envelope) → Says Stands old mid u v → HandsOut Stands mid new e → IsSent e v w → Says Stands old new u w
+says_more Stands old mid new u v w e s h p =
+    let one = one_sent e v w p in
+    record {
+      messages = s.messages ++ e ∷ [];
+      sent = s.sent ++ one.0;
+      spelled = sent_more s.messages (e ∷ []) s.sent one.0 s.spelled one.1;
+      behind = one.2 ∙ ap (λ (x : List ℕ). x ++ one.0) s.behind ∙ append_assoc u s.sent one.0;
+      handed = λ took said q. subst (λ (x : List Envelope). Stands new took x) (append_assoc said s.messages (e ∷ [])) (h took (said ++ s.messages) (s.handed took said q));
+    }
+
+pub may_hand_out : {E : Type 0} (Stands : E → List Envelope → List Envelope → Type 0) (old new : E) (e : Envelope) → MaySpeak Stands old → HandsOut Stands old new e → MaySpeak Stands new
+may_hand_out Stands old new e m h = record { took = m.took; said = m.said ++ e ∷ []; stands = h m.took m.said m.stands; meet = m.meet }
+
+pub may_say : {E : Type 0} (Stands : E → List Envelope → List Envelope → Type 0) (old new : E) (u v : List ℕ) → MaySpeak Stands old → Says Stands old new u v → MaySpeak Stands new
+may_say Stands old new u v m s = record { took = m.took; said = m.said ++ s.messages; stands = s.handed m.took m.said m.stands; meet = m.meet }
+
+-- messages of a stream meet the rules
+pub all_meet : (ms : List (Envelope × List ℕ)) → AreMessages ms → AllMeet (envelopes ms)
+all_meet [] a = tt
+all_meet (m ∷ ms) a = (a.0.meets, all_meet ms a.1)
+
+pub meet_both : (es fs : List Envelope) → AllMeet es → AllMeet fs → AllMeet (es ++ fs)
+meet_both [] fs a b = b
+meet_both (e ∷ es) fs a b = (a.0, meet_both es fs a.1 b)
+
+pub may_attend : {E : Type 0} (Stands : E → List Envelope → List Envelope → Type 0) (held held' : List ℕ) (old new : E) → MaySpeak Stands old → Attends Stands held held' old new → MaySpeak Stands new
+may_attend Stands held held' old new m a = record {
+  took = m.took ++ envelopes a.messages;
+  said = m.said;
+  stands = a.took m.took m.said m.stands;
+  meet = meet_both m.took (envelopes a.messages) m.meet (all_meet a.messages a.parted.are);
+}
+
+pub envelopes_both : (ms ns : List (Envelope × List ℕ)) → envelopes (ms ++ ns) ≡ envelopes ms ++ envelopes ns
+envelopes_both [] ns = refl
+envelopes_both (m ∷ ms) ns = ap (λ (w : List Envelope). m.0 ∷ w) (envelopes_both ms ns)
+
+pub attends_none : {E : Type 0} (Stands : E → List Envelope → List Envelope → Type 0) (held : List ℕ) (end : E) → Attends Stands held held end end
+attends_none Stands held end = record {
+  messages = [];
+  parted = record { are = tt; parted = refl };
+  took = λ took said s. subst (λ (w : List Envelope). Stands end w said) (sym (append-nil took)) s;
+}
+
+-- one message more
+pub attends_more : {E : Type 0} (Stands : E → List Envelope → List Envelope → Type 0) (held mid new : List ℕ) (old end end' : E) (e : Envelope) (bytes : List ℕ) → Attends Stands held mid old end → IsMessage e bytes → mid ≡ bytes ++ new → Takes Stands end end' e → Attends Stands held new old end'
+attends_more Stands held mid new old end end' e bytes a is split t = record {
+  messages = a.messages ++ (e, bytes) ∷ [];
+  parted = history_more held a.messages e bytes mid new a.parted is split;
+  took = λ took said s. subst (λ (w : List Envelope). Stands end' w said)
+      (append_assoc took (envelopes a.messages) (e ∷ []) ∙ ap (λ (w : List Envelope). took ++ w) (sym (envelopes_both a.messages ((e, bytes) ∷ []))))
+      (t (took ++ envelopes a.messages) said (a.took took said s));
+}
+
+-- what is held was messages, and what came behind it
+are_both : (ms ns : List (Envelope × List ℕ)) → AreMessages ms → AreMessages ns → AreMessages (ms ++ ns)
+are_both [] ns a b = b
+are_both (m ∷ ms) ns a b = (a.0, are_both ms ns a.1 b)
+
+bytes_both : (ms ns : List (Envelope × List ℕ)) → stream.bytes_of (ms ++ ns) ≡ stream.bytes_of ms ++ stream.bytes_of ns
+bytes_both [] ns = refl
+bytes_both (m ∷ ms) ns = ap (λ (bs : List ℕ). m.1 ++ bs) (bytes_both ms ns) ∙ sym (append_assoc m.1 (stream.bytes_of ms) (stream.bytes_of ns))
+
+pub parted_both : (read held new : List ℕ) (ms ns : List (Envelope × List ℕ)) → IsParted read ms held → IsParted held ns new → IsParted read (ms ++ ns) new
+parted_both read held new ms ns a b = record {
+  are = are_both ms ns a.are b.are;
+  parted = a.parted ∙ ap (λ (bs : List ℕ). stream.bytes_of ms ++ bs) b.parted ∙ sym (append_assoc (stream.bytes_of ms) (stream.bytes_of ns) new) ∙ ap (λ (bs : List ℕ). bs ++ new) (sym (bytes_both ms ns));
+}

@@ -1,0 +1,4 @@
+pub mod Sent
+pub mod Moved
+pub mod Speech
+pub mod Talking

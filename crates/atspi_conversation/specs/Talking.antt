@@ -1,0 +1,144 @@
+-- A conversation that goes on: what was heard and said so far, and what its steps do.
+use Rattle.std.specs.Prelude.{◌≡◌, ◌⊎◌, ◌≤◌, ℕ, ◌-◌, Bool, true, false, List, [], ◌∷◌, ◌++◌, length, Option, None, Some, MatchOption, ⊤}
+use Rattle.atspi_auth.specs.Talk.{Standing, Stands, behind, client_start, fault_in, told}
+use Rattle.atspi_auth.specs.declared.said.AuthLine.{AuthLine}
+use Rattle.atspi_auth.specs.declared.stage.Stage.TheVariants.{Over}
+use Rattle.atspi_types.specs.declared.fault.Fault.{Fault}
+use Rattle.atspi_message.specs.Envelope.{Envelope}
+use Rattle.atspi_message.specs.Rules.{MeetsRules}
+use Rattle.atspi_message.specs.Bytes.{IsMessage}
+use Rattle.atspi_stream.specs.Stream.{AwaitsMore, HasFault, IsParted}
+use Rattle.atspi_host.specs.declared.call.Did.{Did}
+use Rattle.atspi_host.specs.declared.call.Call.{Call}
+use Rattle.atspi_conversation.specs.Sent.{AreSent, AllMeet, IsSent}
+use Rattle.atspi_base.specs.Outside.{Rose}
+use Rattle.atspi_conversation.specs.Moved.{Tells, Gives, AllGoOn}
+use Rattle.atspi_conversation.specs.Speech.{envelopes, line_bytes, Speaks, Ends, IsMalformed, IsRefused, IsSpentBy}
+use Rattle.atspi_conversation.specs.declared.conversation.Conversation.{Conversation}
+use Rattle.atspi_conversation.specs.declared.ending.Ending.{Ending}
+use Rattle.atspi_conversation.specs.declared.ending.Ending.TheVariants as endings
+
+-- whatever an end did before, it took one more message
+abbrev pub Takes : {E : Type 0} → (E → List Envelope → List Envelope → Type 0) → E → E → Envelope → Type 0
+Takes Stands old new e = (took said : List Envelope) → Stands old took said → Stands new (took ++ e ∷ []) said
+
+-- or it handed out one more
+abbrev pub HandsOut : {E : Type 0} → (E → List Envelope → List Envelope → Type 0) → E → E → Envelope → Type 0
+HandsOut Stands old new e = (took said : List Envelope) → Stands old took said → Stands new took (said ++ e ∷ [])
+
+-- what it hands out meets the rules of messages, where those that it took did
+abbrev pub MaySend : {E : Type 0} → (E → List Envelope → List Envelope → Type 0) → E → Envelope → Type 0
+MaySend Stands end e = (took said : List Envelope) → Stands end took said → AllMeet took → MeetsRules e
+
+-- an end that took only messages that meet the rules
+pub record MaySpeak {E : Type 0} (Stands : E → List Envelope → List Envelope → Type 0) (end : E) : Type 0 where
+  pub took : List Envelope
+  pub said : List Envelope
+  pub stands : Stands end took said
+  pub meet : AllMeet took
+
+-- it handed out one more message, which was put behind some bytes; or it has none
+abbrev pub SaysOne : {E : Type 0} → (E → List Envelope → List Envelope → Type 0) → Bool → E → E → List ℕ → List ℕ → Type 0
+SaysOne Stands true old new unsent unsent' = (e : Envelope) × HandsOut Stands old new e × IsSent e unsent unsent'
+SaysOne Stands false old new unsent unsent' = (new ≡ old) × (unsent' ≡ unsent)
+
+-- it handed out some messages, which were put behind some bytes
+pub record Says {E : Type 0} (Stands : E → List Envelope → List Envelope → Type 0) (old new : E) (unsent unsent' : List ℕ) : Type 0 where
+  pub messages : List Envelope
+  pub sent : List ℕ
+  pub spelled : AreSent messages sent
+  pub behind : unsent' ≡ unsent ++ sent
+  pub handed : (took said : List Envelope) → Stands old took said → Stands new took (said ++ messages)
+
+-- what is held behind whole messages awaits more, or has a fault
+abbrev pub EndsIn : Option Fault → List ℕ → Type 0
+EndsIn fault held = MatchOption fault (AwaitsMore held) (λ f. HasFault held f.place f.reason)
+
+-- the end took the whole messages that were held
+pub record Attends {E : Type 0} (Stands : E → List Envelope → List Envelope → Type 0) (held held' : List ℕ) (old new : E) : Type 0 where
+  pub messages : List (Envelope × List ℕ)
+  pub parted : IsParted held messages held'
+  pub took : (took said : List Envelope) → Stands old took said → Stands new (took ++ envelopes messages) said
+
+-- all that were whole, and behind them more is awaited or there is a fault
+pub record AttendsAll {E : Type 0} (Stands : E → List Envelope → List Envelope → Type 0) (fault : Option Fault) (held held' : List ℕ) (old new : E) : Type 0 where
+  pub attends : Attends Stands held held' old new
+  pub ends : EndsIn fault held'
+
+-- those before one that would take its own past the last number
+pub record AttendsToSpent {E : Type 0} (Stands : E → List Envelope → List Envelope → Type 0) (IsSpent : E → Envelope → Type 0) (held : List ℕ) (old : E) : Type 0 where
+  pub message : Envelope
+  pub bytes : List ℕ
+  pub rest : List ℕ
+  pub is : IsMessage message bytes
+  pub end : E
+  pub attends : Attends Stands held (bytes ++ rest) old end
+  pub spent : IsSpent end message
+
+-- What was heard and said so far, where these bytes were taken and those given: the lines and the messages that were said, and those
+-- that the end took. The end says nothing before the lines are over.
+pub record Converses {E : Type 0} (Stands' : E → List Envelope → List Envelope → Type 0) (t g : List ℕ) (c : Conversation) (end : E) : Type 0 where
+  pub lines : List AuthLine
+  pub messages : List (Envelope × List ℕ)
+  pub said : List Envelope
+  pub sent : List ℕ
+  pub client_stands : Stands client_start t lines c.client
+  pub parted : IsParted (behind client_start t) messages c.feeder
+  pub heard : c.heard ≡ length (behind client_start t)
+  pub end_stands : Stands' end (envelopes messages) said
+  pub spelled : AreSent said sent
+  pub all : g ++ c.unsent ≡ line_bytes lines ++ sent
+  pub order : (said ≡ []) ⊎ ((c.client.stage ≡ Over) × (c.client.unsent ≡ []))
+
+-- and nothing of it is at fault, with all whole messages taken
+pub record IsAtEase {E : Type 0} (Stands' : E → List Envelope → List Envelope → Type 0) (t g : List ℕ) (c : Conversation) (end : E) : Type 0 where
+  pub converses : Converses Stands' t g c end
+  pub authenticated : fault_in c.client.stage ≡ None
+  pub awaits : AwaitsMore c.feeder
+
+-- between two rounds: where the host tells its calls, they moved these bytes
+pub record Going {E : Type 0} (Stands' : E → List Envelope → List Envelope → Type 0) (k : ℕ) (calls : Option (List Call)) (rounds : ℕ) (c : Conversation) (end : E) : Type 0 where
+  pub t : List ℕ
+  pub g : List ℕ
+  pub dids : List Did
+  pub tells : Tells k calls t g dids
+  pub go_on : AllGoOn dids
+  pub counted : length dids ≡ rounds
+  pub at_ease : IsAtEase Stands' t g c end
+
+-- why what was taken ends the run
+abbrev pub BreaksOff : {E : Type 0} → (E → List Envelope → List Envelope → Type 0) → (E → Envelope → Type 0) → Ending → List ℕ → Type 0
+BreaksOff Stands IsSpent endings.NotAuthenticated t = IsRefused t
+BreaksOff Stands IsSpent (endings.Malformed start fault) t = IsMalformed t start fault.place fault.reason
+BreaksOff Stands IsSpent endings.Spent t = IsSpentBy Stands IsSpent t
+BreaksOff Stands IsSpent endings.NoMemory t = ⊤
+BreaksOff Stands IsSpent endings.RoundsDone t = ⊥
+BreaksOff Stands IsSpent endings.PeerEnded t = ⊥
+BreaksOff Stands IsSpent endings.HostFailed t = ⊥
+
+-- why a piece could not be heard
+abbrev pub HearsNot : Ending → Standing → List ℕ → Type 0
+HearsNot endings.NotAuthenticated client piece = fault_in (told client piece).stage ≡ None → ⊥
+HearsNot endings.NoMemory client piece = ⊤
+HearsNot ending client piece = ⊥
+
+-- why the end could not be told all that is held: a message is at fault, behind so many bytes, or the end's own messages are spent
+abbrev pub TellsNot : {E : Type 0} → (E → List Envelope → List Envelope → Type 0) → (E → Envelope → Type 0) → Ending → Conversation → E → Type 0
+TellsNot Stands IsSpent (endings.Malformed start fault) c end =
+    (held : List ℕ) × (end' : _) × AttendsAll Stands (Some fault) c.feeder held end end' × (start ≡ c.heard - length held)
+TellsNot Stands IsSpent endings.Spent c end = AttendsToSpent Stands IsSpent c.feeder end
+TellsNot Stands IsSpent endings.NoMemory c end = ⊤
+TellsNot Stands IsSpent ending c end = ⊥
+
+-- some of the bytes that waited were given, and no others
+abbrev pub GivesPart : ℕ → Option (List Call) → Option (List Call) → List ℕ → List ℕ → Type 0
+GivesPart k old new unsent unsent' = (part : List ℕ) × Gives k old new part × (part ++ unsent' ≡ unsent)
+
+-- a run that ended: what was said, and why it ended
+abbrev pub IsEnded : {E : Type 0} → (E → List Envelope → List Envelope → Type 0) → (E → Envelope → Type 0) → ℕ → Ending → ℕ → Option (List Call) → Type 0
+IsEnded Stands IsSpent k ending rounds calls = Speaks Stands k calls × Ends Stands IsSpent k ending rounds calls
+
+-- the count of failed reads and writes rose where one failed, and else is the same
+abbrev pub Blames : Ending → ℕ → ℕ → Type 0
+Blames endings.HostFailed before after = (before ≤ after) × Rose before after
+Blames ending before after = after ≡ before

@@ -1,0 +1,28 @@
+//! What an end is told: the messages of its stream.
+
+ghost use Rattle.std.specs.Prelude.{◌≡◌, IfOk, IsErrOf, length};
+ghost use Rattle.atspi_ends.specs.declared.fault.EndFault.{EndFault};
+ghost use Rattle.atspi_conversation.specs.Talking.{AttendsAll, AttendsToSpent};
+
+use crate::BusEnd;
+use atspi_ends::EndFault;
+use atspi_stream::{Feeder, Got};
+use atspi_types::Fault;
+
+/// The end takes each whole message that is held. Answers the fault behind them, if there is one.
+pub(crate) fn attend<E: BusEnd>(feeder: &mut Feeder, end: &mut E) -> Result<Option<Fault>, EndFault>
+    ensures ok { IfOk result (λ fault. AttendsAll E.Stands fault feeder.old feeder.new end.old end.new) }
+    ensures spent { IsErrOf result EndFault.Spent → AttendsToSpent E.Stands E.IsSpent feeder.old end.old }
+{
+    'messages: loop {
+        match feeder.next() {
+            Got::Message(message) => {
+                if let Err(fault) = end.take(&message) {
+                    return Err(fault);
+                }
+            }
+            Got::NotYet => return Ok(None),
+            Got::Bad(fault) => return Ok(Some(fault)),
+        }
+    }
+}

@@ -1,0 +1,15 @@
+//! The live side of a link: authentication, then an end that takes messages and hands out its own, over any host.
+#![tactic(auto)]
+
+mod attending;
+mod bus_end;
+mod conversation;
+mod ending;
+mod hearing;
+mod rounds;
+mod speaking;
+mod unsent;
+
+pub use bus_end::BusEnd;
+pub use ending::Ending;
+pub use rounds::converse;
