@@ -2,3 +2,4 @@ pub mod SentLemmas
 pub mod MovedLemmas
 pub mod LineLemmas
 pub mod TalkLemmas
+pub mod StepLemmas

@@ -1,13 +1,16 @@
 -- What ends hand out and take, step behind step.
-use Rattle.std.proofs.Common.{◌≡◌, ℕ, List, [], ◌∷◌, ◌++◌, refl, sym, ap, subst, ◌∙◌, inl, inr, append_assoc, append-nil}
+use Rattle.std.proofs.Common.{◌≡◌, ℕ, ◌<◌, Option, List, [], ◌∷◌, ◌++◌, length, refl, sym, ap, subst, ◌∙◌, inl, inr, append_assoc, append-nil, arith}
+use Rattle.std.proofs.lemmas.List.{length-append}
 use Rattle.atspi_message.specs.Envelope.{Envelope}
 use Rattle.atspi_message.specs.Bytes.{IsMessage, written}
 use Rattle.atspi_stream.specs.Stream.{IsParted, AreMessages}
 use Rattle.atspi_stream.specs.Stream as stream
 use Rattle.atspi_stream.proofs.NextLaws.{history_more}
+use Rattle.atspi_stream.proofs.StreamLaws.{message_states}
 use Rattle.atspi_conversation.specs.Sent.{Fits, IsSent, AreSent, AllMeet}
 use Rattle.atspi_conversation.specs.Speech.{envelopes}
-use Rattle.atspi_conversation.specs.Talking.{Takes, HandsOut, MaySpeak, Says, Attends}
+use Rattle.atspi_types.specs.declared.fault.Fault.{Fault}
+use Rattle.atspi_conversation.specs.Talking.{Takes, HandsOut, MaySpeak, Says, Attends, AttendsAll, AttendsToSpent, EndsIn}
 
 -- the bytes of messages behind those of others
 pub sent_more : (es fs : List Envelope) (bs cs : List ℕ) → AreSent es bs → AreSent fs cs → AreSent (es ++ fs) (bs ++ cs)
@@ -105,3 +108,28 @@ parted_both read held new ms ns a b = record {
   are = are_both ms ns a.are b.are;
   parted = a.parted ∙ ap (λ (bs : List ℕ). stream.bytes_of ms ++ bs) b.parted ∙ sym (append_assoc (stream.bytes_of ms) (stream.bytes_of ns) new) ∙ ap (λ (bs : List ℕ). bs ++ new) (sym (bytes_both ms ns));
 }
+
+-- all that were whole, where nothing else was given
+pub attends_all : {E : Type 0} (Stands : E → List Envelope → List Envelope → Type 0) (fault : Option Fault) (held mid new : List ℕ) (old end : E) → Attends Stands held mid old end → new ≡ mid → EndsIn fault mid → AttendsAll Stands fault held new old end
+attends_all Stands fault held mid new old end a same e = record {
+  attends = subst (λ (w : List ℕ). Attends Stands held w old end) (sym same) a;
+  ends = subst (λ (w : List ℕ). EndsIn fault w) (sym same) e;
+}
+
+pub attends_to_spent : {E : Type 0} (Stands : E → List Envelope → List Envelope → Type 0) (IsSpent : E → Envelope → Type 0) (held mid new : List ℕ) (old end : E) (e : Envelope) (bytes : List ℕ)
+    → Attends Stands held mid old end → IsMessage e bytes → mid ≡ bytes ++ new → IsSpent end e → AttendsToSpent Stands IsSpent held old
+attends_to_spent Stands IsSpent held mid new old end e bytes a is split s = record {
+  message = e;
+  bytes = bytes;
+  rest = new;
+  is = is;
+  end = end;
+  attends = subst (λ (w : List ℕ). Attends Stands held w old end) split a;
+  spent = s;
+}
+
+-- a message takes bytes
+pub shorter : (e : Envelope) (bytes old new : List ℕ) → IsMessage e bytes → old ≡ bytes ++ new → length new < length old
+shorter e bytes old new is split =
+    let states = message_states e bytes is in
+    omega (arith, states.long, ap (λ (w : List ℕ). length w) split, length-append bytes new)

@@ -5,7 +5,7 @@ use Rattle.atspi_auth.specs.Talk.{Heard, Standing, Stands, after, behind, client
 use Rattle.atspi_auth.specs.declared.said.AuthLine.{AuthLine}
 use Rattle.atspi_auth.specs.declared.stage.Stage.{Stage}
 use Rattle.atspi_auth.specs.declared.stage.Stage.TheVariants.{Over}
-use Rattle.atspi_auth.proofs.LawLemmas.{client_stands, over_stays}
+use Rattle.atspi_auth.proofs.LawLemmas.{client_stands}
 use Rattle.atspi_auth.proofs.WholeLemmas.{after-append, behind-append, continues}
 use Rattle.atspi_types.specs.declared.fault.Fault.{Fault}
 use Rattle.atspi_message.specs.Envelope.{Envelope}
@@ -17,7 +17,7 @@ use Rattle.atspi_conversation.specs.Speech.{IsSpeech, IsInOrder, IsMalformed, Is
 use Rattle.atspi_conversation.specs.Talking.{Converses, IsAtEase, Attends, AttendsAll, AttendsToSpent, Says}
 use Rattle.atspi_conversation.specs.declared.conversation.Conversation.{Conversation}
 use Rattle.atspi_conversation.proofs.SentLemmas.{sent_more, envelopes_both, parted_both}
-use Rattle.atspi_conversation.proofs.LineLemmas.{line_bytes_both, none_behind, over_no_line}
+use Rattle.atspi_conversation.proofs.LineLemmas.{line_bytes_both, none_behind, over_goes_on}
 
 -- a client that heard these bytes: its stage, and the lines that it said and has to say
 pub stage_after : (t : List ℕ) (lines : List AuthLine) (now : Standing) → Stands client_start t lines now → now.stage ≡ (after client_start t).stage
@@ -25,9 +25,6 @@ stage_after t lines now s = ap (λ (n : Standing). n.stage) s
 
 lines_after : (t : List ℕ) (lines : List AuthLine) (now : Standing) → Stands client_start t lines now → lines ++ now.unsent ≡ lines_for t
 lines_after t lines now s = ap (λ (n : Standing). n.unsent) s
-
-line_after : (t : List ℕ) (lines : List AuthLine) (now : Standing) → Stands client_start t lines now → now.line ≡ (after client_start t).line
-line_after t lines now s = ap (λ (n : Standing). n.line) s
 
 -- a client by its parts
 abbrev standing : Stage → List ℕ → List AuthLine → Standing
@@ -52,33 +49,33 @@ with_lines g unsent sent ls ms all e l n =
 pub speech_of : {E : Type 0} (Stands' : E → List Envelope → List Envelope → Type 0) (t g : List ℕ) (c : Conversation) (end : E) → Converses Stands' t g c end → IsSpeech Stands' t g
 speech_of Stands' t g c end v = elim v.order [
   | inl e ↦
-    record {
-      messages = v.messages;
-      rest = c.feeder;
-      parted = v.parted;
-      end = end;
-      said = v.said;
-      stands = v.end_stands;
-      sent = v.sent;
-      spelled = v.spelled;
-      over = inl e;
-      more = c.unsent ++ line_bytes c.client.unsent;
-      front = with_lines g c.unsent v.sent v.lines c.client.unsent (lines_for t) v.all (lines_after t v.lines c.client v.client_stands) (none_sent v.said v.sent e v.spelled);
-    }
+      record {
+        messages = v.messages;
+        rest = c.feeder;
+        parted = v.parted;
+        end = end;
+        said = v.said;
+        stands = v.end_stands;
+        sent = v.sent;
+        spelled = v.spelled;
+        over = inl e;
+        more = c.unsent ++ line_bytes c.client.unsent;
+        front = with_lines g c.unsent v.sent v.lines c.client.unsent (lines_for t) v.all (lines_after t v.lines c.client v.client_stands) (none_sent v.said v.sent e v.spelled);
+      }
   | inr e ↦
-    record {
-      messages = v.messages;
-      rest = c.feeder;
-      parted = v.parted;
-      end = end;
-      said = v.said;
-      stands = v.end_stands;
-      sent = v.sent;
-      spelled = v.spelled;
-      over = inr (sym (stage_after t v.lines c.client v.client_stands) ∙ e.0);
-      more = c.unsent;
-      front = v.all ∙ ap (λ (w : List AuthLine). line_bytes w ++ v.sent) (sym (append-nil v.lines) ∙ ap (λ (w : List AuthLine). v.lines ++ w) (sym e.1) ∙ lines_after t v.lines c.client v.client_stands);
-    }
+      record {
+        messages = v.messages;
+        rest = c.feeder;
+        parted = v.parted;
+        end = end;
+        said = v.said;
+        stands = v.end_stands;
+        sent = v.sent;
+        spelled = v.spelled;
+        over = inr (sym (stage_after t v.lines c.client v.client_stands) ∙ e.0);
+        more = c.unsent;
+        front = v.all ∙ ap (λ (w : List AuthLine). line_bytes w ++ v.sent) (sym (append-nil v.lines) ∙ ap (λ (w : List AuthLine). v.lines ++ w) (sym e.1) ∙ lines_after t v.lines c.client v.client_stands);
+      }
 ]
 
 -- the lines for more bytes
@@ -101,34 +98,34 @@ speech_more Stands' t piece g s =
     let parted : IsParted (behind client_start (t ++ piece)) s.messages rest = parted_more t piece (behind now piece) s.rest rest s.messages refl refl s.parted in
     elim s.over [
       | inl e ↦
-        record {
-          messages = s.messages;
-          rest = rest;
-          parted = parted;
-          end = s.end;
-          said = s.said;
-          stands = s.stands;
-          sent = s.sent;
-          spelled = s.spelled;
-          over = inl e;
-          more = s.more ++ line_bytes (told now piece).said;
-          front = with_lines g s.more s.sent (lines_for t) (told now piece).said (lines_for (t ++ piece)) s.front (lines_more t piece) (none_sent s.said s.sent e s.spelled);
-        }
+          record {
+            messages = s.messages;
+            rest = rest;
+            parted = parted;
+            end = s.end;
+            said = s.said;
+            stands = s.stands;
+            sent = s.sent;
+            spelled = s.spelled;
+            over = inl e;
+            more = s.more ++ line_bytes (told now piece).said;
+            front = with_lines g s.more s.sent (lines_for t) (told now piece).said (lines_for (t ++ piece)) s.front (lines_more t piece) (none_sent s.said s.sent e s.spelled);
+          }
       | inr e ↦
-        let stays = over_stays now piece e (over_no_line client_start t e) in
-        record {
-          messages = s.messages;
-          rest = rest;
-          parted = parted;
-          end = s.end;
-          said = s.said;
-          stands = s.stands;
-          sent = s.sent;
-          spelled = s.spelled;
-          over = inr (sym (stage_more t piece) ∙ stays.0);
-          more = s.more;
-          front = s.front ∙ ap (λ (w : List AuthLine). line_bytes w ++ s.sent) (sym (append-nil (lines_for t)) ∙ ap (λ (w : List AuthLine). lines_for t ++ w) (sym stays.1) ∙ lines_more t piece);
-        }
+          let stays = over_goes_on now piece e in
+          record {
+            messages = s.messages;
+            rest = rest;
+            parted = parted;
+            end = s.end;
+            said = s.said;
+            stands = s.stands;
+            sent = s.sent;
+            spelled = s.spelled;
+            over = inr (sym (stage_more t piece) ∙ stays.0);
+            more = s.more;
+            front = s.front ∙ ap (λ (w : List AuthLine). line_bytes w ++ s.sent) (sym (append-nil (lines_for t)) ∙ ap (λ (w : List AuthLine). lines_for t ++ w) (sym stays.1) ∙ lines_more t piece);
+          }
     ]
 
 -- what a client that stands for these bytes hears in a piece
@@ -157,12 +154,11 @@ heard_on Stands' t g piece c c' end v client feeder heard unsent =
       order = elim v.order [
         | inl e ↦ inl e
         | inr e ↦
-          let line : c.client.line ≡ [] = line_after t v.lines c.client v.client_stands ∙ over_no_line client_start t (sym (stage_after t v.lines c.client v.client_stands) ∙ e.0) in
-          let stays = over_stays c.client piece e.0 line in
-          inr (
-            ap (λ (n : Standing). n.stage) client ∙ stays.0,
-            ap (λ (n : Standing). n.unsent) client ∙ ap (λ (w : List AuthLine). c.client.unsent ++ w) stays.1 ∙ append-nil c.client.unsent ∙ e.1,
-          )
+            let stays = over_goes_on c.client piece e.0 in
+            inr (
+              ap (λ (n : Standing). n.stage) client ∙ stays.0,
+              ap (λ (n : Standing). n.unsent) client ∙ ap (λ (w : List AuthLine). c.client.unsent ++ w) stays.1 ∙ append-nil c.client.unsent ∙ e.1,
+            )
       ];
     }
 
@@ -207,8 +203,8 @@ lines_said Stands' t g c c' end v unsent none stage line feeder heard =
       all = ap (λ (w : List ℕ). g ++ w) unsent ∙ elim v.order [
         | inl e ↦ with_lines g c.unsent v.sent v.lines c.client.unsent lines v.all refl (none_sent v.said v.sent e v.spelled)
         | inr e ↦
-          ap (λ (w : List AuthLine). g ++ (c.unsent ++ line_bytes w)) e.1 ∙ ap (λ (w : List ℕ). g ++ w) (append-nil c.unsent) ∙ v.all
-          ∙ ap (λ (w : List AuthLine). line_bytes w ++ v.sent) (sym (append-nil v.lines) ∙ ap (λ (w : List AuthLine). v.lines ++ w) (sym e.1))
+            ap (λ (w : List AuthLine). g ++ (c.unsent ++ line_bytes w)) e.1 ∙ ap (λ (w : List ℕ). g ++ w) (append-nil c.unsent) ∙ v.all
+            ∙ ap (λ (w : List AuthLine). line_bytes w ++ v.sent) (sym (append-nil v.lines) ∙ ap (λ (w : List AuthLine). v.lines ++ w) (sym e.1))
       ];
       order = elim v.order [
         | inl e ↦ inl e

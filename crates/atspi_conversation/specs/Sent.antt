@@ -17,7 +17,7 @@ abbrev pub AreSent : List Envelope → List ℕ → Type 0
 AreSent [] bytes = bytes ≡ []
 AreSent (e ∷ es) bytes = (front : List ℕ) × (more : List ℕ) × IsSent e [] front × AreSent es more × (bytes ≡ front ++ more)
 
--- each of the messages meets the rules of its type
+-- each of the messages meets the rules of messages
 abbrev pub AllMeet : List Envelope → Type 0
 AllMeet [] = Unit {0}
 AllMeet (e ∷ es) = MeetsRules e × AllMeet es

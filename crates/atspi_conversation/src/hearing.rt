@@ -66,8 +66,9 @@ impl Conversation {
         ensures heard { self.new.heard ≡ self.old.heard }
     {
         'lines: while let Some(line) = self.client.out() {
-            if self.unsent.push(line.bytes()).is_err() {
-                return Err(NoMemory);
+            match self.unsent.push(line.bytes()) {
+                Ok(()) => {}
+                Err(fault) => return Err(fault),
             }
         }
         Ok(())
@@ -96,8 +97,8 @@ impl Conversation {
         ensures may { OnOk result (MaySpeak E.Stands end.new) }
         ensures heard { OnOk result (self.new.heard ≡ self.old.heard) }
     {
-        if self.say_lines().is_err() {
-            return Err(NoMemory);
+        if let Err(fault) = self.say_lines() {
+            return Err(fault);
         }
         if !self.client.ready() {
             return Ok(());

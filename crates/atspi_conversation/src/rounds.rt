@@ -93,9 +93,9 @@ fn round<H: Host, E: BusEnd>(
     if let Err(ending) = take_in(host, link, piece, conversation, end) {
         return Err(ending);
     }
-    if conversation.utter(end).is_err() {
+    let Ok(()) = conversation.utter(end) else {
         return Err(Ending::NoMemory);
-    }
+    };
     match give(host, link, &mut conversation.unsent) {
         Ok(()) => Ok(()),
         Err(Failed) => Err(Ending::HostFailed),
@@ -121,6 +121,7 @@ pub fn converse<H: Host, E: BusEnd>(
     requires begins { E.Stands end.old [] [] }
     ensures speech { Speaks E.Stands link (H.calls host.new) }
     ensures ends { Ends E.Stands E.IsSpent link result rounds (H.calls host.new) }
+    ensures links { H.links host.new ≡ H.links host.old }
     ensures cause { Blames result (H.link_faults host.old) (H.link_faults host.new) }
     ensures other { H.faults host.new ≡ H.faults host.old }
 {

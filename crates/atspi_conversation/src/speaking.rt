@@ -32,8 +32,11 @@ pub(crate) fn say<E: BusEnd>(end: &mut E, unsent: &mut Unsent) -> Result<(), NoM
 {
     'messages: while unsent.len() < ENOUGH {
         match say_one(end, unsent) {
-            Ok(true) => {}
-            Ok(false) => return Ok(()),
+            Ok(more) => {
+                if !more {
+                    return Ok(());
+                }
+            }
             Err(fault) => return Err(fault),
         }
     }

@@ -1,0 +1,19 @@
+use Rattle.std.proofs.Common.{◌≡◌, ◌-◌, ◌*◌, ◌≤◌, length}
+use Rattle.atspi_conversation.specs.Talking.{Going, MaySpeak}
+use Rattle.atspi_conversation.proofs.rounds.converse.Given as goal
+
+abbrev pub invariant-rounds : goal.invariant-rounds
+invariant-rounds g l =
+    record {
+      going : Going g.E.BusEnd.Stands l.link (g.H.Host.calls l.host) l.done l.conversation l.end;
+      may : MaySpeak g.E.BusEnd.Stands l.end;
+      few : l.conversation.heard ≤ 4096 * l.done;
+      within : l.done ≤ l.rounds;
+      piece : length l.piece ≡ 4096;
+      links : g.H.Host.links l.host ≡ g.H.Host.links l.fn.host;
+      steady : g.H.Host.link_faults l.host ≡ g.H.Host.link_faults l.fn.host;
+      other : g.H.Host.faults l.host ≡ g.H.Host.faults l.fn.host;
+    }
+
+abbrev pub decreases-rounds : goal.decreases-rounds
+decreases-rounds g l = l.rounds - l.done

@@ -1,0 +1,78 @@
+-- A registry that takes messages and hands out its own stands where the definitions say, and what it hands out meets the rules.
+use Rattle.std.proofs.Common.{◌≡◌, ◌≢◌, ℕ, ◌<◌, List, [], ◌∷◌, ◌++◌, length, fold, Option, None, Some, refl, sym, ap, subst, ◌∙◌, append_assoc, arith}
+use Rattle.std.specs.Prelude.{IfSome, IfNone, MatchOption}
+use Rattle.atspi_message.specs.declared.message.Message.{Message}
+use Rattle.atspi_message.specs.Envelope.{Envelope, envelope_of}
+use Rattle.atspi_message.specs.Rules.{MeetsRules}
+use Rattle.atspi_registering.specs.RegistryState.{RegistryState}
+use Rattle.atspi_registering.specs.Steps.{Registry, registry_takes, takes}
+use Rattle.atspi_registry_laws.specs.Sends as sends
+use Rattle.atspi_registry_laws.specs.Sends.{AreNumbered, started}
+use Rattle.atspi_registry_laws.proofs.Sending.{all_meet}
+use Rattle.atspi_conversation.specs.Sent.{AllMeet}
+use Rattle.atspi_conversation.specs.Talking.{Takes, HandsOut, MaySend}
+use Rattle.atspi_live_registry.specs.Standing.{IsAfter}
+use Rattle.atspi_live_registry.specs.declared.live_registry.LiveRegistry.{LiveRegistry}
+
+-- a registry by its parts
+abbrev registry_of : RegistryState → List Envelope → Registry
+registry_of s out = record { state = s; out = out }
+
+abbrev Stands' : LiveRegistry → List Envelope → List Envelope → Type 0
+Stands' l took said = IsAfter l.registry took said
+
+fold-one : (r : Registry) (es : List Envelope) (e : Envelope) → fold takes r (es ++ e ∷ []) ≡ takes (fold takes r es) e
+fold-one r [] e = refl
+fold-one r (x ∷ xs) e = fold-one (takes r x) xs e
+
+-- one message more was taken
+pub took_one : (old new : LiveRegistry) (e : Envelope) → new.registry ≡ takes old.registry e → Takes Stands' old new e
+took_one old new e is took said stands =
+    let step = registry_takes old.registry.state e in
+    ap (λ (r : Registry). registry_of r.state (said ++ r.out)) is
+    ∙ ap (λ (w : List Envelope). registry_of step.state w) (sym (append_assoc said old.registry.out step.sent))
+    ∙ ap (λ (r : Registry). takes r e) stands
+    ∙ sym (fold-one started took e)
+
+handed_one : (old new : LiveRegistry) (e : Envelope) → old.registry.out ≡ e ∷ new.registry.out → new.registry.state ≡ old.registry.state → HandsOut Stands' old new e
+handed_one old new e out state took said stands =
+    ap (λ (s : RegistryState). registry_of s ((said ++ e ∷ []) ++ new.registry.out)) state
+    ∙ ap (λ (w : List Envelope). registry_of old.registry.state w) (append_assoc said (e ∷ []) new.registry.out ∙ ap (λ (w : List Envelope). said ++ w) (sym out))
+    ∙ stands
+
+numbered_of : (es : List Envelope) → AllMeet es → AreNumbered es
+numbered_of [] m = tt
+numbered_of (e ∷ es) m = (m.0.numbered, numbered_of es m.1)
+
+meets_at : (said : List Envelope) (e : Envelope) (rest : List Envelope) → sends.AllMeet (said ++ e ∷ rest) → MeetsRules e
+meets_at [] e rest m = m.0
+meets_at (x ∷ said) e rest m = meets_at said e rest m.1
+
+may_send : (old new : LiveRegistry) (e : Envelope) → old.registry.out ≡ e ∷ new.registry.out → MaySend Stands' old e
+may_send old new e out took said stands meet =
+    let all : (fold takes started took).out ≡ said ++ e ∷ new.registry.out = sym (ap (λ (r : Registry). r.out) stands) ∙ ap (λ (w : List Envelope). said ++ w) out in
+    meets_at said e new.registry.out (subst (λ (w : List Envelope). sends.AllMeet w) all (all_meet took (numbered_of took meet)))
+
+-- what handing out the oldest message answers
+pub next_hands_out : (r : Option Message) (old new : LiveRegistry) → MatchOption r (old.registry.out ≡ []) (λ m. old.registry.out ≡ envelope_of m ∷ new.registry.out)
+    → MatchOption r (new.registry ≡ old.registry) (λ m. new.registry.state ≡ old.registry.state) → IfSome r (λ m. HandsOut Stands' old new (envelope_of m))
+next_hands_out None old new front state = tt
+next_hands_out (Some m) old new front state = handed_one old new (envelope_of m) front state
+
+pub next_may_send : (r : Option Message) (old new : LiveRegistry) → MatchOption r (old.registry.out ≡ []) (λ m. old.registry.out ≡ envelope_of m ∷ new.registry.out)
+    → IfSome r (λ m. MaySend Stands' old (envelope_of m))
+next_may_send None old new front = tt
+next_may_send (Some m) old new front = may_send old new (envelope_of m) front
+
+pub next_fewer : (r : Option Message) (old new : LiveRegistry) → MatchOption r (old.registry.out ≡ []) (λ m. old.registry.out ≡ envelope_of m ∷ new.registry.out)
+    → IfSome r (λ m. length new.registry.out < length old.registry.out)
+next_fewer None old new front = tt
+next_fewer (Some m) old new front = omega (arith, ap (λ (w : List Envelope). length w) front)
+
+pub next_none : (r : Option Message) (old new : LiveRegistry) → MatchOption r (new.registry ≡ old.registry) (λ m. new.registry.state ≡ old.registry.state)
+    → IfNone r (new ≡ old)
+next_none None old new state = ap live state
+  where
+    live : Registry → LiveRegistry
+    live r = record { registry = r }
+next_none (Some m) old new state = tt

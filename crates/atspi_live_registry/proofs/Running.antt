@@ -1,0 +1,140 @@
+-- How a run of the live registry ends, put together.
+use Rattle.std.proofs.Common.{◌≡◌, ℕ, ◌≤◌, List, [], ◌∷◌, ◌++◌, Option, None, Some, refl, sym, ap, subst, ◌∙◌, inl, inr, arith}
+use Rattle.std.specs.Prelude.{◌≢◌, ◌⊎◌}
+use Rattle.atspi_base.specs.Outside.{Rose}
+use Rattle.atspi_message.specs.Envelope.{Envelope}
+use Rattle.atspi_registering.specs.Steps.{Registry}
+use Rattle.atspi_host.specs.declared.call.Did.{Did}
+use Rattle.atspi_host.specs.declared.call.Did.TheVariants.{Done, NotYet, End, Failed}
+use Rattle.atspi_host.specs.declared.call.Call.{Call}
+use Rattle.atspi_host.specs.declared.call.Call.TheVariants.{Connect}
+use Rattle.atspi_host.specs.Calls.{Adds, Counts, IsOpen, Opens, taken, given}
+use Rattle.atspi_conversation.specs.Moved.{Tells, reads}
+use Rattle.atspi_conversation.specs.Speech.{IsSpeech, IsSpentBy, Speaks, Ends, EndsBy}
+use Rattle.atspi_conversation.specs.Talking.{Blames}
+use Rattle.atspi_conversation.specs.declared.ending.Ending.{Ending}
+use Rattle.atspi_conversation.specs.declared.ending.Ending.TheVariants as endings
+use Rattle.atspi_live_registry.specs.Standing.{IsAfter, IsSpent}
+use Rattle.atspi_live_registry.specs.Runs.{AllSpeak, Begins, Causes, EndsOn, Reports, RunEnds, SinkBlamed}
+use Rattle.atspi_live_registry.specs.declared.live_registry.LiveRegistry.{LiveRegistry}
+use Rattle.atspi_live_registry.proofs.Registering.{Stands'}
+
+abbrev IsSpent' : LiveRegistry → Envelope → Type 0
+IsSpent' l e = IsSpent l.registry e
+
+-- the same of the registry itself
+speech : (t g : List ℕ) → IsSpeech Stands' t g → IsSpeech IsAfter t g
+speech t g s = record {
+  messages = s.messages;
+  rest = s.rest;
+  parted = s.parted;
+  end = s.end.registry;
+  said = s.said;
+  stands = s.stands;
+  sent = s.sent;
+  spelled = s.spelled;
+  over = s.over;
+  more = s.more;
+  front = s.front;
+}
+
+speaks : (k : ℕ) (calls : Option (List Call)) → Speaks Stands' k calls → Speaks IsAfter k calls
+speaks k None s = tt
+speaks k (Some cs) s = speech (taken k cs) (given k cs) s
+
+spent : (t : List ℕ) → IsSpentBy Stands' IsSpent' t → IsSpentBy IsAfter IsSpent t
+spent t s = record {
+  messages = s.messages;
+  message = s.message;
+  bytes = s.bytes;
+  rest = s.rest;
+  parted = s.parted;
+  is = s.is;
+  end = s.end.registry;
+  said = s.said;
+  stands = s.stands;
+  spent = s.spent;
+}
+
+ends_by : (k rounds : ℕ) (ending : Ending) (cs : List Call) → EndsBy Stands' IsSpent' k ending rounds cs → EndsBy IsAfter IsSpent k ending rounds cs
+ends_by k rounds endings.RoundsDone cs e = e
+ends_by k rounds endings.PeerEnded cs e = e
+ends_by k rounds endings.HostFailed cs e = e
+ends_by k rounds endings.NotAuthenticated cs e = e
+ends_by k rounds (endings.Malformed start fault) cs e = e
+ends_by k rounds endings.Spent cs e = (spent (taken k cs) e.0, e.1)
+ends_by k rounds endings.NoMemory cs e = tt
+
+ends_on : (k rounds : ℕ) (ending : Ending) (calls : Option (List Call)) → Ends Stands' IsSpent' k ending rounds calls → Ends IsAfter IsSpent k ending rounds calls
+ends_on k rounds ending None e = tt
+ends_on k rounds ending (Some cs) e = ends_by k rounds ending cs e
+
+-- where no link is open
+pub none_speak : (ks : List ℕ) (calls : Option (List Call)) → ks ≡ [] → AllSpeak ks calls
+none_speak ks calls e = subst (λ (w : List ℕ). AllSpeak w calls) (sym e) tt
+
+pub none_ends : (ks : List ℕ) (status rounds : ℕ) (calls : Option (List Call)) (w : Option (List ℕ)) → ks ≡ [] → (status ≡ 7) ⊎ (status ≡ 5) → RunEnds ks status rounds calls w w
+none_ends ks status rounds calls w e s = subst (λ (x : List ℕ). RunEnds x status rounds calls w w) (sym e) (s, refl)
+
+-- where one link is
+pub one_speaks : (ks : List ℕ) (k : ℕ) (calls : Option (List Call)) → ks ≡ k ∷ [] → Speaks Stands' k calls → AllSpeak ks calls
+one_speaks ks k calls e s = subst (λ (w : List ℕ). AllSpeak w calls) (sym e) (speaks k calls s, tt)
+
+pub one_ends : (ks : List ℕ) (k status rounds : ℕ) (ending : Ending) (calls : Option (List Call)) (w w' : Option (List ℕ)) → ks ≡ k ∷ []
+    → Ends Stands' IsSpent' k ending rounds calls → Reports ending status w w' → RunEnds ks status rounds calls w w'
+one_ends ks k status rounds ending calls w w' e s r =
+    subst (λ (x : List ℕ). RunEnds x status rounds calls w w') (sym e) (record { ending = ending; ends = ends_on k rounds ending calls s; reports = r }, refl)
+
+-- the link that a connect gives is the one that is open, and nothing passed on it
+pub connected : (old new : List ℕ) (k : ℕ) → old ≡ [] → Opens old new (Done k) → new ≡ k ∷ []
+connected old new k e o = o.0 ∙ ap (λ (w : List ℕ). w ++ k ∷ []) e
+
+pub is_open : (ks : List ℕ) (k : ℕ) → ks ≡ k ∷ [] → IsOpen k ks
+is_open ks k e = subst (λ (w : List ℕ). IsOpen k w) (sym e) (inl refl)
+
+pub fresh : (old new : Option (List Call)) (k : ℕ) (path : List ℕ) → Begins old → Adds old new (Connect path (Done k)) → Tells k new [] [] []
+fresh old None k path b a = tt
+fresh None (Some ds) k path b a = absurd a
+fresh (Some cs) (Some ds) k path b a =
+    subst (λ (w : List Call). (taken k w ≡ []) × (given k w ≡ []) × (reads k w ≡ [])) (sym (a ∙ ap (λ (w : List Call). w ++ Connect path (Done k) ∷ []) b)) (refl, refl, refl)
+
+-- a connect that gives no link has failed
+pub connect_failed : (did : Did) (old new : List ℕ) (before after : ℕ) → ((k : ℕ) → did ≡ Done k → ⊥) → did ≢ NotYet → Opens old new did → Counts before after did → Rose before after × (new ≡ old)
+connect_failed (Done k) old new before after d n o c = absurd (d k refl)
+connect_failed NotYet old new before after d n o c = absurd (n refl)
+connect_failed End old new before after d n o c = absurd o
+connect_failed Failed old new before after d n o c = (c.1, o)
+
+pub connect_done : (k before after : ℕ) → Counts before after (Done k) → after ≡ before
+connect_done k before after c = c
+
+-- the counts, by the ending
+pub causes : (ending : Ending) (status faults faults' links links' sink sink' : ℕ) (w w' : Option (List ℕ)) → faults' ≡ faults → Blames ending links links' → Reports ending status w w' → SinkBlamed status sink sink'
+    → Causes status faults faults' links links' sink sink'
+causes ending status faults faults' links links' sink sink' w w' f b r s = record {
+  host = λ e. inr (rose ending b r e);
+  no_host = same ending b r;
+  sink = s.0;
+  no_sink = s.1;
+}
+  where
+    rose : (ending : Ending) → Blames ending links links' → Reports ending status w w' → status ≡ 7 → Rose links links'
+    rose endings.PeerEnded b r e = absurd (omega (arith, r.0, e))
+    rose endings.NoMemory b r e = absurd (omega (arith, r.0, e))
+    rose (endings.Malformed start fault) b r e = elim r [
+      | inl x ↦ absurd (omega (arith, x.0, e))
+      | inr x ↦ elim x.0 [ inl y ↦ absurd (omega (arith, y, e)) | inr y ↦ absurd (omega (arith, y, e)) ]
+    ]
+    rose endings.HostFailed b r e = b.1
+    rose endings.RoundsDone b r e = absurd (omega (arith, r.0, e))
+    rose endings.NotAuthenticated b r e = absurd (omega (arith, r.0, e))
+    rose endings.Spent b r e = absurd (omega (arith, r.0, e))
+
+    same : (ending : Ending) → Blames ending links links' → Reports ending status w w' → (status ≡ 7) ⊎ ((faults' ≡ faults) × (links' ≡ links))
+    same endings.PeerEnded b r = inr (f, b)
+    same endings.NoMemory b r = inr (f, b)
+    same (endings.Malformed start fault) b r = inr (f, b)
+    same endings.HostFailed b r = inl r.0
+    same endings.RoundsDone b r = inr (f, b)
+    same endings.NotAuthenticated b r = inr (f, b)
+    same endings.Spent b r = inr (f, b)

@@ -1,0 +1,14 @@
+-- What a registry did from its start on.
+use Rattle.std.specs.Prelude.{◌≡◌, ◌<◌, ℕ, List, ◌++◌, fold}
+use Rattle.atspi_message.specs.Envelope.{Envelope}
+use Rattle.atspi_registering.specs.Steps.{Registry, registry_takes, takes}
+use Rattle.atspi_registry_laws.specs.Sends.{started}
+
+-- from its start on it took these messages and handed out those: with the messages that it still has queued they are all that it sends
+-- for those that it took
+abbrev pub IsAfter : Registry → List Envelope → List Envelope → Type 0
+IsAfter r took said = record { state = r.state; out = said ++ r.out } ≡ fold takes started took
+
+-- the messages that it sends for one more would pass number 4,294,967,295
+abbrev pub IsSpent : Registry → Envelope → Type 0
+IsSpent r e = 4294967296 < (registry_takes r.state e).state.next

@@ -1,0 +1,8 @@
+//! The registry on a Unix socket.
+#![tactic(auto)]
+
+mod live_registry;
+mod reporting;
+mod run;
+
+pub use run::registry;

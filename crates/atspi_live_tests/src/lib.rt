@@ -1,0 +1,5 @@
+//! Tests of the live ends over a host in memory, through public calls alone.
+#![tactic(auto)]
+
+#[cfg(test)]
+mod registry;

@@ -1,0 +1,12 @@
+//! Laws of the registry. Each is the contract of a function that does nothing.
+
+ghost use Rattle.std.specs.Prelude.{ℕ, List, fold};
+ghost use Rattle.atspi_message.specs.Envelope.{Envelope};
+ghost use Rattle.atspi_registering.specs.Steps.{takes};
+ghost use Rattle.atspi_registry_laws.specs.Sends.{AllMeet, AreNumbered, started};
+
+/// Each message that the registry sends, from its start on and whatever it takes, meets the rules of messages (D-Bus Specification,
+/// "Message Types"), if only the messages that it takes have a serial that is not 0.
+pub fn what_it_sends()
+    ensures { (taken : List Envelope) → AreNumbered taken → AllMeet (fold takes started taken).out }
+{}
