@@ -7,7 +7,7 @@ use Rattle.atspi_stream.specs.Stream.{IsParted, AreMessages}
 use Rattle.atspi_stream.specs.Stream as stream
 use Rattle.atspi_stream.proofs.NextLaws.{history_more}
 use Rattle.atspi_stream.proofs.StreamLaws.{message_states}
-use Rattle.atspi_conversation.specs.Sent.{Fits, IsSent, AreSent, AllMeet}
+use Rattle.atspi_conversation.specs.Sent.{IsSent, AreSent, AllMeet}
 use Rattle.atspi_conversation.specs.Speech.{envelopes}
 use Rattle.atspi_types.specs.declared.fault.Fault.{Fault}
 use Rattle.atspi_conversation.specs.Talking.{Takes, HandsOut, MaySpeak, Says, Attends, AttendsAll, AttendsToSpent, EndsIn}

@@ -1,6 +1,6 @@
 -- What a step of a run does, put together from what it calls.
-use Rattle.std.proofs.Common.{◌≡◌, ℕ, ◌+◌, ◌-◌, ◌*◌, ◌≤◌, List, [], ◌∷◌, ◌++◌, length, Option, None, Some, refl, sym, ap, subst, ◌∙◌, append-nil, arith}
-use Rattle.std.specs.Prelude.{Result, Ok, Err, OnOk, IfErr}
+use Rattle.std.proofs.Common.{◌≡◌, ℕ, ◌+◌, List, [], ◌∷◌, ◌++◌, length, Option, None, Some, refl, sym, ap, subst, ◌∙◌, append-nil}
+use Rattle.std.specs.Prelude.{Result, Ok, Err, OnOk, IfErr, MatchResult}
 use Rattle.std.proofs.lemmas.List.{length-append}
 use Rattle.atspi_auth.specs.Talk.{Standing, after, behind, client_start, fault_in, told}
 use Rattle.atspi_auth.specs.declared.stage.Stage.{Stage}
@@ -8,13 +8,13 @@ use Rattle.atspi_auth.specs.declared.stage.Stage.TheVariants.{Over}
 use Rattle.atspi_message.specs.Envelope.{Envelope}
 use Rattle.atspi_stream.specs.Stream.{AwaitsMore}
 use Rattle.atspi_host.specs.declared.call.Did.{Did}
-use Rattle.atspi_host.specs.declared.call.Did.TheVariants.{Done, NotYet, End, Failed}
+use Rattle.atspi_host.specs.declared.call.Did.TheVariants.{NotYet, End, Failed}
 use Rattle.atspi_host.specs.declared.call.Call.{Call}
 use Rattle.atspi_host.specs.declared.call.Call.TheVariants.{Read}
 use Rattle.atspi_host.specs.Calls.{Adds, taken, given}
-use Rattle.atspi_conversation.specs.Moved.{reads, GoesOn, AllGoOn, Tells, Gives}
-use Rattle.atspi_conversation.specs.Speech.{Ends, EndsBy, IsInOrder, IsMalformed, IsRefused, IsSpeech, IsSpentBy, Speaks, line_bytes}
-use Rattle.atspi_conversation.specs.Talking.{AttendsAll, BreaksOff, Converses, GivesPart, Going, HearsNot, IsAtEase, IsEnded, MaySpeak, Says, TellsNot}
+use Rattle.atspi_conversation.specs.Moved.{reads, GoesOn, AllGoOn, Tells}
+use Rattle.atspi_conversation.specs.Speech.{EndsBy, IsInOrder, IsMalformed, IsRefused, IsSpeech, IsSpentBy, Speaks, line_bytes}
+use Rattle.atspi_conversation.specs.Talking.{AttendsAll, Blames, BreaksOff, Converses, GivesPart, Going, HearsNot, IsAtEase, IsEnded, IsOwn, MaySpeak, Says, TellsNot}
 use Rattle.atspi_conversation.specs.declared.conversation.Conversation.{Conversation}
 use Rattle.atspi_conversation.specs.declared.ending.Ending.{Ending}
 use Rattle.atspi_conversation.specs.declared.ending.Ending.TheVariants as endings
@@ -229,6 +229,39 @@ all_done Stands IsSpent k n rounds calls c end e w = by calls w.tells
       speech_at Stands k (Some cs) w.t w.g w.dids tells (speech_of Stands w.t w.g c end w.at_ease.converses),
       (
         subst (λ (x : List ℕ). IsInOrder x) (sym tells.0) (in_order Stands w.t w.g c end w.at_ease),
-        (subst AllGoOn (sym tells.2) w.go_on, ap (λ (x : List Did). length x) tells.2 ∙ w.counted ∙ e),
+        subst AllGoOn (sym tells.2) w.go_on,
+        ap (λ (x : List Did). length x) tells.2 ∙ w.counted ∙ e,
       ),
     )
+
+-- endings for which the host is not to blame
+pub hears_own : (ending : Ending) (client : Standing) (piece : List ℕ) → HearsNot ending client piece → IsOwn ending
+hears_own endings.NotAuthenticated client piece h = tt
+hears_own endings.NoMemory client piece h = tt
+hears_own endings.RoundsDone client piece h = tt
+hears_own endings.PeerEnded client piece h = tt
+hears_own endings.HostFailed client piece h = h
+hears_own (endings.Malformed start fault) client piece h = tt
+hears_own endings.Spent client piece h = tt
+
+pub tells_own : {E : Type 0} (Stands : E → List Envelope → List Envelope → Type 0) (IsSpent : E → Envelope → Type 0) (ending : Ending) (c : Conversation) (end : E) → TellsNot Stands IsSpent ending c end → IsOwn ending
+tells_own Stands IsSpent endings.NotAuthenticated c end h = tt
+tells_own Stands IsSpent endings.NoMemory c end h = tt
+tells_own Stands IsSpent endings.RoundsDone c end h = tt
+tells_own Stands IsSpent endings.PeerEnded c end h = tt
+tells_own Stands IsSpent endings.HostFailed c end h = h
+tells_own Stands IsSpent (endings.Malformed start fault) c end h = tt
+tells_own Stands IsSpent endings.Spent c end h = tt
+
+own_blames : (ending : Ending) (before after : ℕ) → IsOwn ending → after ≡ before → Blames ending before after
+own_blames endings.NotAuthenticated before after h e = e
+own_blames endings.NoMemory before after h e = e
+own_blames endings.RoundsDone before after h e = e
+own_blames endings.PeerEnded before after h e = e
+own_blames endings.HostFailed before after h e = absurd h
+own_blames (endings.Malformed start fault) before after h e = e
+own_blames endings.Spent before after h e = e
+
+pub cause_of : {T : Type 0} (r : Result T Ending) (before after : ℕ) → IfErr r IsOwn → after ≡ before → MatchResult r (λ _. after ≡ before) (λ ending. Blames ending before after)
+cause_of (Ok x) before after h e = e
+cause_of (Err x) before after h e = own_blames x before after h e

@@ -1,5 +1,5 @@
 -- A conversation that goes on keeps what is known of it, and what was given in it is a front of what is said for what was taken.
-use Rattle.std.proofs.Common.{◌≡◌, ℕ, ◌+◌, ◌-◌, ◌<◌, ◌≤◌, List, [], ◌∷◌, ◌++◌, length, Option, None, Some, refl, sym, ap, subst, ◌∙◌, inl, inr, append_assoc, append-nil, arith, lit<}
+use Rattle.std.proofs.Common.{◌≡◌, ℕ, ◌+◌, ◌-◌, List, [], ◌++◌, length, None, Some, refl, sym, ap, subst, ◌∙◌, inl, inr, append_assoc, append-nil, arith, lit<}
 use Rattle.std.proofs.lemmas.List.{length-append}
 use Rattle.atspi_auth.specs.Talk.{Heard, Standing, Stands, after, behind, client_start, fault_in, told}
 use Rattle.atspi_auth.specs.declared.said.AuthLine.{AuthLine}
@@ -12,7 +12,7 @@ use Rattle.atspi_message.specs.Envelope.{Envelope}
 use Rattle.atspi_stream.specs.Stream.{AwaitsMore, few, HasFault, IsParted}
 use Rattle.atspi_stream.specs.Stream as stream
 use Rattle.atspi_stream.proofs.NextLaws.{takes_piece}
-use Rattle.atspi_conversation.specs.Sent.{AreSent, AllMeet}
+use Rattle.atspi_conversation.specs.Sent.{AreSent}
 use Rattle.atspi_conversation.specs.Speech.{IsSpeech, IsInOrder, IsMalformed, IsRefused, IsSpentBy, envelopes, line_bytes, lines_for}
 use Rattle.atspi_conversation.specs.Talking.{Converses, IsAtEase, Attends, AttendsAll, AttendsToSpent, Says}
 use Rattle.atspi_conversation.specs.declared.conversation.Conversation.{Conversation}
@@ -297,8 +297,8 @@ spent Stands' IsSpent t g c end v a = record {
 -- the lines of authentication are at fault
 pub refused : {E : Type 0} (Stands' : E → List Envelope → List Envelope → Type 0) (t g piece : List ℕ) (c : Conversation) (end : E) → Converses Stands' t g c end
     → (fault_in (told c.client piece).stage ≡ None → ⊥) → IsRefused (t ++ piece)
-refused Stands' t g piece c end v no e =
-    no (ap (λ (h : Heard). fault_in h.stage) (told_same t piece v.lines c.client v.client_stands) ∙ ap (λ (s : Stage). fault_in s) (stage_more t piece) ∙ e)
+refused Stands' t g piece c end v faulty e =
+    faulty (ap (λ (h : Heard). fault_in h.stage) (told_same t piece v.lines c.client v.client_stands) ∙ ap (λ (s : Stage). fault_in s) (stage_more t piece) ∙ e)
 
 -- at the beginning
 pub begins : {E : Type 0} (Stands' : E → List Envelope → List Envelope → Type 0) (c : Conversation) (end : E) → c.client ≡ client_start → c.feeder ≡ [] → c.unsent ≡ [] → c.heard ≡ 0 → Stands' end [] []

@@ -142,3 +142,8 @@ IsEnded Stands IsSpent k ending rounds calls = Speaks Stands k calls × Ends Sta
 abbrev pub Blames : Ending → ℕ → ℕ → Type 0
 Blames endings.HostFailed before after = (before ≤ after) × Rose before after
 Blames ending before after = after ≡ before
+
+-- an ending for which no call of the host is to blame
+abbrev pub IsOwn : Ending → Type 0
+IsOwn endings.HostFailed = ⊥
+IsOwn ending = ⊤

@@ -3,7 +3,7 @@
 ghost use Rattle.std.specs.Prelude.{◌≡◌, ◌<◌, ◌≤◌, ◌+◌, ◌^◌, ◌++◌, ℕ, List, [], None, length, IfErr, OnOk};
 ghost use Rattle.atspi_auth.specs.Talk.{after, behind, fault_in, told};
 ghost use Rattle.atspi_conversation.specs.Speech.{line_bytes};
-ghost use Rattle.atspi_conversation.specs.Talking.{AttendsAll, BreaksOff, Converses, HearsNot, IsAtEase, MaySpeak, TellsNot};
+ghost use Rattle.atspi_conversation.specs.Talking.{AttendsAll, BreaksOff, Converses, HearsNot, IsAtEase, IsOwn, MaySpeak, TellsNot};
 
 use crate::attending::attend;
 use crate::conversation::Conversation;
@@ -83,6 +83,7 @@ impl Conversation {
         ensures few { OnOk result (self.new.heard ≤ self.old.heard + length piece.now) }
         ensures err { IfErr result (λ ending. (t g : List ℕ) → Converses E.Stands t g self.old end.old
             → BreaksOff E.Stands E.IsSpent ending (t ++ piece.now)) }
+        ensures own { IfErr result IsOwn }
     {
         if let Err(ending) = self.hear(piece) {
             return Err(ending);

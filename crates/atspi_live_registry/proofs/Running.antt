@@ -1,7 +1,7 @@
 -- How a run of the live registry ends, put together.
-use Rattle.std.proofs.Common.{◌≡◌, ℕ, ◌≤◌, List, [], ◌∷◌, ◌++◌, Option, None, Some, refl, sym, ap, subst, ◌∙◌, inl, inr, arith}
+use Rattle.std.proofs.Common.{◌≡◌, ℕ, ◌≤◌, List, [], ◌∷◌, ◌++◌, Option, None, Some, refl, sym, ap, subst, ◌∙◌, inl, inr, append-nil, arith}
 use Rattle.std.specs.Prelude.{◌≢◌, ◌⊎◌}
-use Rattle.atspi_base.specs.Outside.{Rose}
+use Rattle.atspi_base.specs.Outside.{AppendsPart, Rose}
 use Rattle.atspi_message.specs.Envelope.{Envelope}
 use Rattle.atspi_registering.specs.Steps.{Registry}
 use Rattle.atspi_host.specs.declared.call.Did.{Did}
@@ -138,3 +138,8 @@ causes ending status faults faults' links links' sink sink' w w' f b r s = recor
     same endings.RoundsDone b r = inr (f, b)
     same endings.NotAuthenticated b r = inr (f, b)
     same endings.Spent b r = inr (f, b)
+
+-- nothing was written of a line
+pub none_written : (w : Option (List ℕ)) (line : List ℕ) → AppendsPart w w line
+none_written None line = ([], line, refl, tt)
+none_written (Some w) line = ([], line, refl, sym (append-nil w))

@@ -1,11 +1,11 @@
 -- What the registry sends meets the rules of messages.
-use Rattle.std.proofs.Common.{◌≡◌, ◌≢◌, ℕ, ℤ, pos, negsuc, ◌+◌, Bool, true, false, ◌==◌, cond, List, [], ◌∷◌, ◌++◌, map, fold, length, Option, None, Some, refl, sym, ap, subst, ◌∙◌, append-nil, arith}
-use Rattle.std.specs.Prelude.{remove, slice_get, codes, bytes_eq, encode_utf8_all, Result, Ok, Err}
+use Rattle.std.proofs.Common.{◌≡◌, ◌≢◌, ℕ, ℤ, pos, negsuc, ◌+◌, Bool, true, false, ◌==◌, cond, List, [], ◌∷◌, ◌++◌, map, fold, length, Option, None, Some, refl, arith}
+use Rattle.std.specs.Prelude.{slice_get, codes, bytes_eq, encode_utf8_all, Result, Ok, Err}
 use Rattle.std.specs.List.{list_any}
-use Rattle.atspi_types.specs.Kinds.{text, variant, kind, no_kinds, structure, u32, i32, number}
-use Rattle.atspi_types.specs.Data.{Data, number_data, text_data, variant_data, structure_data, dictionary_data, item, no_items, items_of, entries_of, type_of, AreWellTyped, IsWellTyped, AllHaveType, AllHaveTypes}
+use Rattle.atspi_types.specs.Kinds.{text, variant, kind, no_kinds, structure, u32}
+use Rattle.atspi_types.specs.Data.{Data, number_data, text_data, structure_data, items_of, entries_of, type_of, AreWellTyped, IsWellTyped, AllHaveType, AllHaveTypes}
 use Rattle.atspi_message.specs.Envelope.{Envelope}
-use Rattle.atspi_message.specs.Rules.{MeetsRules, HasRequired}
+use Rattle.atspi_message.specs.Rules.{MeetsRules}
 use Rattle.atspi_ends.specs.Places.{reference, reference_kind, references, registry_root}
 use Rattle.atspi_ends.specs.Messages.{Reply, returns, fails, call_to, signal_of, return_to, error_to, reply_to, expects_reply, replies, numbered}
 use Rattle.atspi_members.specs.Asked.{Asked, asked, calls, gets, gets_all, sets}
@@ -16,9 +16,9 @@ use Rattle.atspi_members.specs.declared.member.ObjectMember.TheVariants as membe
 use Rattle.atspi_members.specs.declared.property.ObjectProperty.{ObjectProperty}
 use Rattle.atspi_members.specs.declared.property.ObjectProperty.TheVariants as property_names
 use Rattle.atspi_registering.specs.RegistryState.{RegistryState, is_of, has_pair, without_pair, pairs_of, pairs_without, child_place}
-use Rattle.atspi_registering.specs.Told.{hello_call, request_call, match_call, registered, deregistered, id_call, children_changed, is_asked_for, child_added, child_removed, count}
+use Rattle.atspi_registering.specs.Told.{registered, deregistered, children_changed, is_asked_for}
 use Rattle.atspi_registering.specs.Answers.{Answer, only, registers, deregisters, reference_in, new_child, adopts, news_of_removal_at, news_of_removal, releases, if_own, pairs_data, child_or_nobody, child_at, property_data, as_variant, all_properties, answers_member, answers, object_at}
-use Rattle.atspi_registering.specs.Steps.{Registry, RegistryStep, speaks, answer_to, answered, called, called_by, named, hears, forgets, takes_as, registry_takes, queued, takes, name_told, name_gone}
+use Rattle.atspi_registering.specs.Steps.{Registry, RegistryStep, speaks, answer_to, answered, called_by, named, hears, takes_as, registry_takes, takes, name_told, name_gone}
 use Rattle.atspi_registry_laws.specs.Sends.{AllMeet, AreNumbered, started}
 
 -- with any serial but 0 the message meets the rules

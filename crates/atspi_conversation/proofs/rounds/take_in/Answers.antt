@@ -1,6 +1,6 @@
 use Rattle.std.proofs.Common.{take}
 use Rattle.atspi_host.specs.declared.call.Did.TheVariants.{Done}
-use Rattle.atspi_conversation.proofs.StepLemmas.{if_err, on_ok, peer_ended, read_failed, took, took_last, took_nothing}
+use Rattle.atspi_conversation.proofs.StepLemmas.{cause_of, if_err, on_ok, peer_ended, read_failed, took, took_last, took_nothing}
 use Rattle.atspi_conversation.proofs.rounds.take_in.Goals as goal
 
 pub returns-in-Done-clause-ok : goal.returns-in-Done-clause-ok
@@ -28,3 +28,6 @@ returns-in-End-clause-err g c n rounds w =
 pub returns-in-Failed-clause-err : goal.returns-in-Failed-clause-err
 returns-in-Failed-clause-err g c n rounds w =
     read_failed g.E.BusEnd.Stands g.E.BusEnd.IsSpent c.args.link n rounds (g.H.Host.calls c.args.host.now) (g.H.Host.calls c.read.new.self) c.args.conversation.now c.args.end.now c.in-Failed.ensures.calls w
+
+pub returns-in-Done-clause-cause : goal.returns-in-Done-clause-cause
+returns-in-Done-clause-cause g c = cause_of c.heed.result (g.H.Host.link_faults c.args.host.now) (g.H.Host.link_faults c.read.new.self) c.heed.ensures.own c.in-Done.ensures.cause

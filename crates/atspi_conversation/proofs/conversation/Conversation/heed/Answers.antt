@@ -1,5 +1,5 @@
 use Rattle.atspi_conversation.proofs.SentLemmas.{may_attend}
-use Rattle.atspi_conversation.proofs.StepLemmas.{hear_breaks, heeded, if_err, on_ok, tell_breaks}
+use Rattle.atspi_conversation.proofs.StepLemmas.{hear_breaks, hears_own, heeded, if_err, on_ok, tell_breaks, tells_own}
 use Rattle.atspi_conversation.proofs.TalkLemmas.{heard_on}
 use Rattle.atspi_conversation.proofs.conversation.Conversation.heed.Goals as goal
 
@@ -25,3 +25,9 @@ returns-clause-err g c =
     (λ ending b t h v. tell_breaks g.E.BusEnd.Stands g.E.BusEnd.IsSpent _ h c.hear.new.self c.args.end.now ending
     (heard_on g.E.BusEnd.Stands t h c.args.piece.now c.args.self.now c.hear.new.self c.args.end.now v c.in_default.ensures.client c.in_default.ensures.feeder c.in_default.ensures.heard c.in_default.ensures.unsent) b)
     c.tell.ensures.err
+
+pub returns-in-Err-clause-own : goal.returns-in-Err-clause-own
+returns-in-Err-clause-own g c = hears_own c.in-Err.ending c.args.self.now.client c.args.piece.now c.in-Err.ensures.err
+
+pub returns-clause-own : goal.returns-clause-own
+returns-clause-own g c = if_err c.tell.result _ _ (λ ending b. tells_own g.E.BusEnd.Stands g.E.BusEnd.IsSpent ending c.hear.new.self c.args.end.now b) c.tell.ensures.err

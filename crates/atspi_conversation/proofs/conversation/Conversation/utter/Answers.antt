@@ -1,5 +1,4 @@
 use Rattle.std.proofs.Common.{refl}
-use Rattle.atspi_conversation.proofs.SentLemmas.{may_say}
 use Rattle.atspi_conversation.proofs.StepLemmas.{lines_uttered, on_ok, uttered}
 use Rattle.atspi_conversation.proofs.conversation.Conversation.utter.Goals as goal
 

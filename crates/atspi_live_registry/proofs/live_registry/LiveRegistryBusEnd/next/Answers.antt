@@ -1,0 +1,14 @@
+use Rattle.atspi_live_registry.proofs.Registering.{next_fewer, next_hands_out, next_may_send, next_none}
+use Rattle.atspi_live_registry.proofs.live_registry.LiveRegistryBusEnd.next.Goals as goal
+
+pub returns-clause-some : goal.returns-clause-some
+returns-clause-some c = next_hands_out c.next.result c.args.self.now (record { registry = c.next.new.self }) c.next.ensures.front c.next.ensures.empty
+
+pub returns-clause-meets : goal.returns-clause-meets
+returns-clause-meets c = next_may_send c.next.result c.args.self.now (record { registry = c.next.new.self }) c.next.ensures.front
+
+pub returns-clause-fewer : goal.returns-clause-fewer
+returns-clause-fewer c = next_fewer c.next.result c.args.self.now (record { registry = c.next.new.self }) c.next.ensures.front
+
+pub returns-clause-none : goal.returns-clause-none
+returns-clause-none c = next_none c.next.result c.args.self.now (record { registry = c.next.new.self }) c.next.ensures.empty

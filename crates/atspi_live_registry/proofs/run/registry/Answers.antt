@@ -1,0 +1,61 @@
+use Rattle.std.proofs.Common.{◌≡◌, ℕ, List, [], ◌∷◌, refl, sym, subst, ◌∙◌, inl, inr, arith}
+use Rattle.atspi_conversation.specs.Talking.{Blames}
+use Rattle.atspi_live_registry.proofs.Running.{causes, connect_failed, connected, fresh, is_open, none_ends, none_speak, one_ends, one_speaks}
+use Rattle.atspi_live_registry.proofs.run.registry.Goals as goal
+
+pub returns-in_default-clause-speech : goal.returns-in_default-clause-speech
+returns-in_default-clause-speech g c = none_speak (g.H.Host.links c.args.host.now) (g.H.Host.calls c.args.host.now) c.requires.links
+
+pub returns-in_default-clause-ends : goal.returns-in_default-clause-ends
+returns-in_default-clause-ends g c = none_ends (g.H.Host.links c.args.host.now) 5 c.args.rounds (g.H.Host.calls c.args.host.now) (g.K.Sink.written c.args.sink.now) c.requires.links (inr refl)
+
+pub returns-in_default-clause-causes : goal.returns-in_default-clause-causes
+returns-in_default-clause-causes g c = record { host = λ e. absurd (omega (arith, e)); no_host = inr (refl, refl); sink = λ e. absurd (omega (arith, e)); no_sink = inr refl }
+
+pub returns-in_default-connect-clause-speech : goal.returns-in_default-connect-clause-speech
+returns-in_default-connect-clause-speech g c =
+    let f = connect_failed c.connect.result (g.H.Host.links c.args.host.now) (g.H.Host.links c.connect.new.self) (g.H.Host.faults c.args.host.now) (g.H.Host.faults c.connect.new.self)
+    c.in_default-connect.not-Done c.connect.ensures.ready c.connect.ensures.links c.connect.ensures.cause
+    in
+    none_speak (g.H.Host.links c.connect.new.self) (g.H.Host.calls c.connect.new.self) (f.1 ∙ c.requires.links)
+
+pub returns-in_default-connect-clause-ends : goal.returns-in_default-connect-clause-ends
+returns-in_default-connect-clause-ends g c =
+    let f = connect_failed c.connect.result (g.H.Host.links c.args.host.now) (g.H.Host.links c.connect.new.self) (g.H.Host.faults c.args.host.now) (g.H.Host.faults c.connect.new.self)
+    c.in_default-connect.not-Done c.connect.ensures.ready c.connect.ensures.links c.connect.ensures.cause
+    in
+    none_ends (g.H.Host.links c.connect.new.self) 7 c.args.rounds (g.H.Host.calls c.connect.new.self) (g.K.Sink.written c.args.sink.now) (f.1 ∙ c.requires.links) (inl refl)
+
+pub returns-in_default-connect-clause-causes : goal.returns-in_default-connect-clause-causes
+returns-in_default-connect-clause-causes g c =
+    let f = connect_failed c.connect.result (g.H.Host.links c.args.host.now) (g.H.Host.links c.connect.new.self) (g.H.Host.faults c.args.host.now) (g.H.Host.faults c.connect.new.self)
+    c.in_default-connect.not-Done c.connect.ensures.ready c.connect.ensures.links c.connect.ensures.cause
+    in
+    record { host = λ e. inl f.0; no_host = inl refl; sink = λ e. absurd (omega (arith, e)); no_sink = inr refl }
+
+pub converse-requires : goal.converse-requires
+converse-requires g c = record {
+  «open» = is_open (g.H.Host.links c.connect.new.self) c.in-Done.link (connected (g.H.Host.links c.args.host.now) (g.H.Host.links c.connect.new.self) c.in-Done.link c.requires.links c.in-Done.ensures.links);
+  fresh = fresh (g.H.Host.calls c.args.host.now) (g.H.Host.calls c.connect.new.self) c.in-Done.link c.args.path.now c.requires.calls c.in-Done.ensures.calls;
+  begins = c.in-Ok.ensures;
+}
+
+pub returns-clause-speech : goal.returns-clause-speech
+returns-clause-speech g c =
+    one_speaks (g.H.Host.links c.converse.new.host) c.in-Done.link (g.H.Host.calls c.converse.new.host)
+    (c.converse.ensures.links ∙ connected (g.H.Host.links c.args.host.now) (g.H.Host.links c.connect.new.self) c.in-Done.link c.requires.links c.in-Done.ensures.links)
+    c.converse.ensures.speech
+
+pub returns-clause-ends : goal.returns-clause-ends
+returns-clause-ends g c =
+    one_ends (g.H.Host.links c.converse.new.host) c.in-Done.link c.report.result c.args.rounds c.converse.result (g.H.Host.calls c.converse.new.host) (g.K.Sink.written c.args.sink.now) (g.K.Sink.written c.report.new.sink)
+    (c.converse.ensures.links ∙ connected (g.H.Host.links c.args.host.now) (g.H.Host.links c.connect.new.self) c.in-Done.link c.requires.links c.in-Done.ensures.links)
+    c.converse.ensures.ends c.report.ensures.reports
+
+pub returns-clause-causes : goal.returns-clause-causes
+returns-clause-causes g c =
+    causes c.converse.result c.report.result (g.H.Host.faults c.args.host.now) (g.H.Host.faults c.converse.new.host) (g.H.Host.link_faults c.args.host.now) (g.H.Host.link_faults c.converse.new.host)
+    (g.K.Sink.faults c.args.sink.now) (g.K.Sink.faults c.report.new.sink) (g.K.Sink.written c.args.sink.now) (g.K.Sink.written c.report.new.sink)
+    (c.converse.ensures.other ∙ c.in-Done.ensures.cause)
+    (subst (λ (n : ℕ). Blames c.converse.result n (g.H.Host.link_faults c.converse.new.host)) c.connect.ensures.other c.converse.ensures.cause)
+    c.report.ensures.reports c.report.ensures.cause
