@@ -18,7 +18,7 @@ use Rattle.atspi_live_registry.specs.declared.live_registry.LiveRegistry.{LiveRe
 abbrev registry_of : RegistryState → List Envelope → Registry
 registry_of s out = record { state = s; out = out }
 
-abbrev Stands' : LiveRegistry → List Envelope → List Envelope → Type 0
+abbrev pub Stands' : LiveRegistry → List Envelope → List Envelope → Type 0
 Stands' l took said = IsAfter l.registry took said
 
 fold-one : (r : Registry) (es : List Envelope) (e : Envelope) → fold takes r (es ++ e ∷ []) ≡ takes (fold takes r es) e

@@ -112,9 +112,9 @@ connect_done k before after c = c
 pub causes : (ending : Ending) (status faults faults' links links' sink sink' : ℕ) (w w' : Option (List ℕ)) → faults' ≡ faults → Blames ending links links' → Reports ending status w w' → SinkBlamed status sink sink'
     → Causes status faults faults' links links' sink sink'
 causes ending status faults faults' links links' sink sink' w w' f b r s = record {
-  host = λ e. inr (rose ending b r e);
+  by_host = λ e. inr (rose ending b r e);
   no_host = same ending b r;
-  sink = s.0;
+  by_sink = s.0;
   no_sink = s.1;
 }
   where

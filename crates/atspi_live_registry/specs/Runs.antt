@@ -52,9 +52,9 @@ RunEnds (k ∷ ks) status rounds calls w w' = EndsOn k status rounds calls w w' 
 
 -- which counts changed, by the status: 7 where one of the host's did, 4 where the sink's did
 pub record Causes (status faults faults' link_faults link_faults' sink sink' : ℕ) : Type 0 where
-  pub host : status ≡ 7 → Rose faults faults' ⊎ Rose link_faults link_faults'
+  pub by_host : status ≡ 7 → Rose faults faults' ⊎ Rose link_faults link_faults'
   pub no_host : (status ≡ 7) ⊎ ((faults' ≡ faults) × (link_faults' ≡ link_faults))
-  pub sink : status ≡ 4 → Rose sink sink'
+  pub by_sink : status ≡ 4 → Rose sink sink'
   pub no_sink : (status ≡ 4) ⊎ (sink' ≡ sink)
 
 -- the count of the sink rose where it failed, and else is the same

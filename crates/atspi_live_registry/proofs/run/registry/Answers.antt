@@ -10,7 +10,7 @@ pub returns-in_default-clause-ends : goal.returns-in_default-clause-ends
 returns-in_default-clause-ends g c = none_ends (g.H.Host.links c.args.host.now) 5 c.args.rounds (g.H.Host.calls c.args.host.now) (g.K.Sink.written c.args.sink.now) c.requires.links (inr refl)
 
 pub returns-in_default-clause-causes : goal.returns-in_default-clause-causes
-returns-in_default-clause-causes g c = record { host = λ e. absurd (omega (arith, e)); no_host = inr (refl, refl); sink = λ e. absurd (omega (arith, e)); no_sink = inr refl }
+returns-in_default-clause-causes g c = record { by_host = λ e. absurd (omega (arith, e)); no_host = inr (refl, refl); by_sink = λ e. absurd (omega (arith, e)); no_sink = inr refl }
 
 pub returns-in_default-connect-clause-speech : goal.returns-in_default-connect-clause-speech
 returns-in_default-connect-clause-speech g c =
@@ -31,10 +31,10 @@ returns-in_default-connect-clause-causes g c =
     let f = connect_failed c.connect.result (g.H.Host.links c.args.host.now) (g.H.Host.links c.connect.new.self) (g.H.Host.faults c.args.host.now) (g.H.Host.faults c.connect.new.self)
     c.in_default-connect.not-Done c.connect.ensures.ready c.connect.ensures.links c.connect.ensures.cause
     in
-    record { host = λ e. inl f.0; no_host = inl refl; sink = λ e. absurd (omega (arith, e)); no_sink = inr refl }
+    record { by_host = λ e. inl f.0; no_host = inl refl; by_sink = λ e. absurd (omega (arith, e)); no_sink = inr refl }
 
-pub converse-requires : goal.converse-requires
-converse-requires g c = record {
+pub converse-ending-requires : goal.converse-ending-requires
+converse-ending-requires g c = record {
   «open» = is_open (g.H.Host.links c.connect.new.self) c.in-Done.link (connected (g.H.Host.links c.args.host.now) (g.H.Host.links c.connect.new.self) c.in-Done.link c.requires.links c.in-Done.ensures.links);
   fresh = fresh (g.H.Host.calls c.args.host.now) (g.H.Host.calls c.connect.new.self) c.in-Done.link c.args.path.now c.requires.calls c.in-Done.ensures.calls;
   begins = c.in-Ok.ensures;
@@ -42,20 +42,20 @@ converse-requires g c = record {
 
 pub returns-clause-speech : goal.returns-clause-speech
 returns-clause-speech g c =
-    one_speaks (g.H.Host.links c.converse.new.host) c.in-Done.link (g.H.Host.calls c.converse.new.host)
-    (c.converse.ensures.links ∙ connected (g.H.Host.links c.args.host.now) (g.H.Host.links c.connect.new.self) c.in-Done.link c.requires.links c.in-Done.ensures.links)
-    c.converse.ensures.speech
+    one_speaks (g.H.Host.links c.converse-ending.new.host) c.in-Done.link (g.H.Host.calls c.converse-ending.new.host)
+    (c.converse-ending.ensures.links ∙ connected (g.H.Host.links c.args.host.now) (g.H.Host.links c.connect.new.self) c.in-Done.link c.requires.links c.in-Done.ensures.links)
+    c.converse-ending.ensures.speech
 
 pub returns-clause-ends : goal.returns-clause-ends
 returns-clause-ends g c =
-    one_ends (g.H.Host.links c.converse.new.host) c.in-Done.link c.report.result c.args.rounds c.converse.result (g.H.Host.calls c.converse.new.host) (g.K.Sink.written c.args.sink.now) (g.K.Sink.written c.report.new.sink)
-    (c.converse.ensures.links ∙ connected (g.H.Host.links c.args.host.now) (g.H.Host.links c.connect.new.self) c.in-Done.link c.requires.links c.in-Done.ensures.links)
-    c.converse.ensures.ends c.report.ensures.reports
+    one_ends (g.H.Host.links c.converse-ending.new.host) c.in-Done.link c.report.result c.args.rounds c.converse-ending.result (g.H.Host.calls c.converse-ending.new.host) (g.K.Sink.written c.args.sink.now) (g.K.Sink.written c.report.new.sink)
+    (c.converse-ending.ensures.links ∙ connected (g.H.Host.links c.args.host.now) (g.H.Host.links c.connect.new.self) c.in-Done.link c.requires.links c.in-Done.ensures.links)
+    c.converse-ending.ensures.ends c.report.ensures.reports
 
 pub returns-clause-causes : goal.returns-clause-causes
 returns-clause-causes g c =
-    causes c.converse.result c.report.result (g.H.Host.faults c.args.host.now) (g.H.Host.faults c.converse.new.host) (g.H.Host.link_faults c.args.host.now) (g.H.Host.link_faults c.converse.new.host)
+    causes c.converse-ending.result c.report.result (g.H.Host.faults c.args.host.now) (g.H.Host.faults c.converse-ending.new.host) (g.H.Host.link_faults c.args.host.now) (g.H.Host.link_faults c.converse-ending.new.host)
     (g.K.Sink.faults c.args.sink.now) (g.K.Sink.faults c.report.new.sink) (g.K.Sink.written c.args.sink.now) (g.K.Sink.written c.report.new.sink)
-    (c.converse.ensures.other ∙ c.in-Done.ensures.cause)
-    (subst (λ (n : ℕ). Blames c.converse.result n (g.H.Host.link_faults c.converse.new.host)) c.connect.ensures.other c.converse.ensures.cause)
+    (c.converse-ending.ensures.other ∙ c.in-Done.ensures.cause)
+    (subst (λ (n : ℕ). Blames c.converse-ending.result n (g.H.Host.link_faults c.converse-ending.new.host)) c.connect.ensures.other c.converse-ending.ensures.cause)
     c.report.ensures.reports c.report.ensures.cause
