@@ -1,5 +1,5 @@
 -- A registry that takes messages and hands out its own stands where the definitions say, and what it hands out meets the rules.
-use Rattle.std.proofs.Common.{◌≡◌, ◌≢◌, ℕ, ◌<◌, List, [], ◌∷◌, ◌++◌, length, fold, Option, None, Some, refl, sym, ap, subst, ◌∙◌, append_assoc, arith}
+use Rattle.std.proofs.Common.{◌≡◌, ◌<◌, List, [], ◌∷◌, ◌++◌, length, fold, Option, None, Some, refl, sym, ap, subst, ◌∙◌, append_assoc, arith}
 use Rattle.std.specs.Prelude.{IfSome, IfNone, MatchOption}
 use Rattle.atspi_message.specs.declared.message.Message.{Message}
 use Rattle.atspi_message.specs.Envelope.{Envelope, envelope_of}

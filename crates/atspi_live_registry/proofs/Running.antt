@@ -1,9 +1,8 @@
 -- How a run of the live registry ends, put together.
-use Rattle.std.proofs.Common.{◌≡◌, ℕ, ◌≤◌, List, [], ◌∷◌, ◌++◌, Option, None, Some, refl, sym, ap, subst, ◌∙◌, inl, inr, append-nil, arith}
+use Rattle.std.proofs.Common.{◌≡◌, ℕ, List, [], ◌∷◌, ◌++◌, Option, None, Some, refl, sym, ap, subst, ◌∙◌, inl, inr, append-nil, arith}
 use Rattle.std.specs.Prelude.{◌≢◌, ◌⊎◌}
 use Rattle.atspi_base.specs.Outside.{AppendsPart, Rose}
 use Rattle.atspi_message.specs.Envelope.{Envelope}
-use Rattle.atspi_registering.specs.Steps.{Registry}
 use Rattle.atspi_host.specs.declared.call.Did.{Did}
 use Rattle.atspi_host.specs.declared.call.Did.TheVariants.{Done, NotYet, End, Failed}
 use Rattle.atspi_host.specs.declared.call.Call.{Call}
@@ -15,7 +14,7 @@ use Rattle.atspi_conversation.specs.Talking.{Blames}
 use Rattle.atspi_conversation.specs.declared.ending.Ending.{Ending}
 use Rattle.atspi_conversation.specs.declared.ending.Ending.TheVariants as endings
 use Rattle.atspi_live_registry.specs.Standing.{IsAfter, IsSpent}
-use Rattle.atspi_live_registry.specs.Runs.{AllSpeak, Begins, Causes, EndsOn, Reports, RunEnds, SinkBlamed}
+use Rattle.atspi_live_registry.specs.Runs.{AllSpeak, Begins, Causes, Reports, RunEnds, SinkBlamed}
 use Rattle.atspi_live_registry.specs.declared.live_registry.LiveRegistry.{LiveRegistry}
 use Rattle.atspi_live_registry.proofs.Registering.{Stands'}
 

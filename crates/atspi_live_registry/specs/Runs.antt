@@ -1,9 +1,7 @@
 -- What a run of the live registry does, and how it ends.
-use Rattle.std.specs.Prelude.{◌≡◌, ◌⊎◌, ◌≤◌, ℕ, List, [], ◌∷◌, Option, None, Some, ⊤}
+use Rattle.std.specs.Prelude.{◌≡◌, ◌⊎◌, ℕ, List, [], ◌∷◌, Option, None, Some, ⊤}
 use Rattle.std.specs.Io.KnownBytes.{Appends}
 use Rattle.atspi_base.specs.Outside.{AppendsPart, Rose}
-use Rattle.atspi_message.specs.Envelope.{Envelope}
-use Rattle.atspi_registering.specs.Steps.{Registry}
 use Rattle.atspi_host.specs.declared.call.Call.{Call}
 use Rattle.atspi_check.specs.Check.{fault_line}
 use Rattle.atspi_conversation.specs.Speech.{Speaks, Ends}

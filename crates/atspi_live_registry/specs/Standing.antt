@@ -1,5 +1,5 @@
 -- What a registry did from its start on.
-use Rattle.std.specs.Prelude.{◌≡◌, ◌<◌, ℕ, List, ◌++◌, fold}
+use Rattle.std.specs.Prelude.{◌≡◌, ◌<◌, List, ◌++◌, fold}
 use Rattle.atspi_message.specs.Envelope.{Envelope}
 use Rattle.atspi_registering.specs.Steps.{Registry, registry_takes, takes}
 use Rattle.atspi_registry_laws.specs.Sends.{started}

@@ -1,4 +1,4 @@
-use Rattle.std.proofs.Common.{◌≡◌, ℕ, List, [], ◌∷◌, refl, sym, subst, ◌∙◌, inl, inr, arith}
+use Rattle.std.proofs.Common.{ℕ, refl, subst, ◌∙◌, inl, inr, arith}
 use Rattle.atspi_conversation.specs.Talking.{Blames}
 use Rattle.atspi_live_registry.proofs.Running.{causes, connect_failed, connected, fresh, is_open, none_ends, none_speak, one_ends, one_speaks}
 use Rattle.atspi_live_registry.proofs.run.registry.Goals as goal
