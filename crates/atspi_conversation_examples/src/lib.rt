@@ -1,0 +1,7 @@
+//! Worked cases of the definitions of conversations, with the values worked out by hand. Each case is a clause of a function without a
+//! body. So a definition that says otherwise is refused here.
+#![tactic(auto)]
+
+mod cases;
+
+pub use cases::{answers_of_reads, bytes_of_lines, is_over, lines, sent};
