@@ -1,12 +1,15 @@
 //! A new bus, a copy of one, and who has joined it.
 
-ghost use Rattle.std.specs.Prelude.{◌≡◌, ◌≤◌, ◌↔◌, ◌++◌, ℕ, List, map, length, drop, option_to_list, IfOk, OnOk, OnErr};
+ghost use Rattle.std.specs.Prelude.{◌≡◌, ◌<◌, ◌≤◌, ◌↔◌, ◌++◌, ℕ, List, All, map, length, drop, option_copied, option_to_list, IfOk, IsErrOf, IsTrue, OnOk, OnErr};
 ghost use Rattle.atspi_message.specs.Envelope.{envelope_of};
+ghost use Rattle.atspi_routing.specs.BusState.{unique_of};
 ghost use Rattle.atspi_routing.specs.Laws.{IsWithinQuota};
 ghost use Rattle.atspi_routing.specs.Queues.{empty_bus, joins, queue_of};
 ghost use Rattle.atspi_queues.specs.Change.{with_queue};
 ghost use Rattle.atspi_bus_steps.specs.Inner.{inner_of, state_of};
+ghost use Rattle.atspi_bus_steps.specs.Sound.{IsSound};
 
+use crate::BusFault;
 use crate::inner::Inner;
 use atspi_base::NoMemory;
 use atspi_match::RuleIndex;
@@ -14,6 +17,7 @@ use atspi_message::Message;
 use atspi_names::Names;
 use atspi_queues::Queues;
 use atspi_routing::Closing;
+use atspi_types::BusName;
 use std::alloc::Global;
 use std::collections::VecDeque;
 
@@ -50,6 +54,30 @@ impl Inner {
 }
 
 impl Inner {
+    /// A connection joins whose number is above those of all that have joined. Full where it is not; after a fault all is as before.
+    pub fn join_behind(&mut self, conn: u32) -> Result<(), BusFault>
+        requires sound { IsSound (state_of self.old) }
+        ensures ok { OnOk result (inner_of self.new ≡ joins (inner_of self.old) conn) }
+        ensures sound { OnOk result (IsSound (state_of self.new)) }
+        ensures full { IsErrOf result BusFault.Full → All (λ c. c < conn) (state_of self.old).joined → ⊥ }
+        ensures err { OnErr result (inner_of self.new ≡ inner_of self.old) }
+    {
+        if !is_above(&self.joined, conn) {
+            return Err(BusFault::Full);
+        }
+        match self.join(conn) {
+            Ok(()) => Ok(()),
+            Err(_) => Err(BusFault::NoMemory),
+        }
+    }
+
+    /// The unique name of a connection, once the bus gave it.
+    pub fn unique_name(&self, conn: u32) -> Option<&BusName>
+        ensures { option_copied result ≡ unique_of (state_of self.now).owners conn }
+    {
+        self.names.unique_name(conn)
+    }
+
     /// The oldest closing that was not asked for yet.
     pub fn closed(&mut self) -> Option<Closing>
         ensures bus { inner_of self.old ≡ record (inner_of self.new) { closings = option_to_list result ++ (inner_of self.new).closings } }
@@ -93,6 +121,13 @@ impl Inner {
     {
         self.queues.pop(conn, n);
     }
+}
+
+/// Whether a number is above all of these.
+fn is_above(joined: &[u32], conn: u32) -> bool
+    ensures { IsTrue result ↔ All (λ c. c < conn) joined.now }
+{
+    joined.iter().all(|c| *c < conn)
 }
 
 /// Equal messages.

@@ -1,0 +1,47 @@
+//! The beginning, and joining.
+
+ghost use Rattle.std.specs.Prelude.{◌≡◌, [], OnOk, OnErr, IfOk};
+ghost use Rattle.atspi_bus_steps.specs.Inner.{inner_of, state_of};
+ghost use Rattle.atspi_bus_steps.specs.Sound.{IsSound};
+ghost use Rattle.atspi_routing.specs.Queues.{empty_bus};
+
+use crate::carrier::Carrier;
+use crate::fault::CarryFault;
+use atspi_bus_steps::Inner;
+use atspi_lines::Party;
+use atspi_posts::Post;
+use atspi_stream::Feeder;
+use std::alloc::Global;
+
+impl Carrier {
+    /// A bus with this quota, to which nobody has joined; nothing was told.
+    pub fn new(alloc: Global, quota: u32) -> Carrier
+        ensures sound { IsSound (state_of result.bus) }
+        ensures bus { inner_of result.bus ≡ empty_bus quota }
+        ensures posts { result.posts.items ≡ [] }
+        ensures trace { result.trace.items ≡ [] }
+    {
+        Carrier {
+            alloc,
+            bus: Inner::new(alloc, quota),
+            posts: Vec::new(alloc),
+            at_end: Vec::new(alloc),
+            trace: Vec::new(alloc),
+        }
+    }
+
+    /// A party joins the bus; its connection's number is its place. Spent where no number is left.
+    pub fn join(&mut self, who: Party) -> Result<u32, CarryFault>
+        requires sound { IsSound (state_of self.old.bus) }
+        ensures sound { OnOk result (IsSound (state_of self.new.bus)) }
+        ensures trace { self.new.trace ≡ self.old.trace }
+    {
+        let Ok(conn) = u32::try_from(self.posts.len()) else {
+            return Err(CarryFault::Spent);
+        };
+        self.posts.push(Post::new(self.alloc, who))?;
+        self.at_end.push(Feeder::new(self.alloc))?;
+        self.bus.join_behind(conn)?;
+        Ok(conn)
+    }
+}

@@ -1,0 +1,19 @@
+//! The bus of a world, the links of its ends, and the trace: what is carried between ends, and what is told of it.
+#![tactic(auto)]
+
+mod carrier;
+mod closing;
+mod down;
+mod fault;
+mod joining;
+mod moving;
+mod places;
+mod sending;
+mod up;
+mod waiting;
+
+pub use carrier::Carrier;
+pub use fault::CarryFault;
+pub use places::{conn_of, named_app, party_named};
+pub use sending::{note, send};
+pub use waiting::Turn;

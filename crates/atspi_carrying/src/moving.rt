@@ -1,0 +1,21 @@
+//! Moving the bytes of a link.
+
+ghost use Rattle.std.specs.Prelude.{◌≡◌, ◌<◌, ◌≤◌, ◌++◌, length, take, IfOk, OnErr};
+ghost use Rattle.atspi_stream.specs.Stream.{AwaitsMore};
+
+use atspi_base::NoMemory;
+use atspi_stream::Feeder;
+
+/// Moves the first bytes of those that wait to a feeder: at most so many, and at most those that its next message awaits. Answers how many; they are
+/// still to be taken away. After want of memory all is as before.
+pub fn carry(waiting: &[u8], feeder: &mut Feeder, most: usize) -> Result<usize, NoMemory>
+    ensures most { IfOk result (λ count. count ≤ most) }
+    ensures there { IfOk result (λ count. count ≤ length waiting.now) }
+    ensures moved { IfOk result (λ count. feeder.new ≡ feeder.old ++ take count waiting.now) }
+    ensures some { 0 < most → 0 < length waiting.now → AwaitsMore feeder.old → IfOk result (λ count. 0 < count) }
+    ensures err { OnErr result (feeder.new ≡ feeder.old) }
+{
+    let count = most.min(waiting.len()).min(feeder.missing());
+    feeder.feed(&waiting[..count])?;
+    Ok(count)
+}

@@ -1,0 +1,34 @@
+//! What is told, and what an end sends.
+
+ghost use Rattle.std.specs.Prelude.{◌≡◌, [], ◌∷◌, ◌++◌, OnOk, OnErr};
+ghost use Rattle.atspi_message.specs.Envelope.{envelope_of};
+ghost use Rattle.atspi_message.specs.Bytes.{written};
+
+use crate::fault::CarryFault;
+use atspi_events::Event;
+use atspi_lines::Party;
+use atspi_message::Message;
+use atspi_posts::Post;
+
+/// An event is told behind the others. After want of memory the trace is as before.
+pub fn note(trace: &mut Vec<Event>, event: Event) -> Result<(), CarryFault>
+    ensures told { OnOk result (trace.new.items ≡ trace.old.items ++ event ∷ []) }
+    ensures err { OnErr result (trace.new.items ≡ trace.old.items) }
+{
+    trace.push(event)?;
+    Ok(())
+}
+
+/// A message of a party is sent: its bytes stand behind those on its link, and that is told.
+pub fn send(
+    post: &mut Post,
+    who: Party,
+    message: Message,
+    trace: &mut Vec<Event>,
+) -> Result<(), CarryFault>
+    ensures up { OnOk result (post.new ≡ record post.old { up = post.old.up ++ written (envelope_of message) }) }
+    ensures told { OnOk result (trace.new.items ≡ trace.old.items ++ Event.Sent who message ∷ []) }
+{
+    post.up.send(&message)?;
+    note(trace, Event::Sent { who, message })
+}

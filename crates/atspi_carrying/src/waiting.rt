@@ -1,0 +1,79 @@
+//! What waits.
+
+use crate::carrier::Carrier;
+use atspi_posts::{Post, Standing};
+
+/// The first thing that waits, with the number of its connection.
+#[derive(Clone, Copy, Debug, PartialEq, Eq)]
+pub enum Turn {
+    /// A message on an up link.
+    Route(u32),
+    /// An end that stopped.
+    Part(u32),
+    /// A message, or a part of one, on a down link.
+    Get(u32),
+}
+
+/// Whether something waits on an up link: a message, or that the end stopped.
+fn up_turn(post: &Post, conn: u32) -> Option<Turn> {
+    match post.standing {
+        Standing::Here => {
+            if post.up.is_empty() {
+                None
+            } else {
+                Some(Turn::Route(conn))
+            }
+        }
+        Standing::Stopped => Some(Turn::Part(conn)),
+        Standing::Away => None,
+    }
+}
+
+/// The first up link on which something waits, in order of joining.
+fn first_up(posts: &[Post]) -> Option<Turn> {
+    let mut conn: u32 = 0;
+    for post in posts {
+        if let Some(turn) = up_turn(post, conn) {
+            return Some(turn);
+        }
+        conn = conn.saturating_add(1);
+    }
+    None
+}
+
+impl Carrier {
+    /// Whether bytes wait for an end that is there.
+    fn waits_below(&self, post: &Post, conn: u32) -> bool {
+        if post.standing != Standing::Here {
+            return false;
+        }
+        if self.bus.waiting(conn) > 0 {
+            return true;
+        }
+        match self.at_end.get(conn as usize) {
+            Some(feeder) => feeder.len() > 0,
+            None => false,
+        }
+    }
+
+    /// The first down link on which something waits, in order of joining.
+    fn first_down(&self) -> Option<Turn> {
+        let mut conn: u32 = 0;
+        for post in &self.posts {
+            if self.waits_below(post, conn) {
+                return Some(Turn::Get(conn));
+            }
+            conn = conn.saturating_add(1);
+        }
+        None
+    }
+
+    /// The first thing that waits: the first up link on which something does, in order of joining, and else the first down link of an end that is
+    /// there.
+    pub fn next_turn(&self) -> Option<Turn> {
+        match first_up(&self.posts) {
+            Some(turn) => Some(turn),
+            None => self.first_down(),
+        }
+    }
+}
