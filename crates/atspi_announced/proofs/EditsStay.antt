@@ -6,13 +6,13 @@ use Rattle.atspi_forest.specs.declared.edit.Edit.{Edit}
 use Rattle.atspi_forest.specs.declared.edit.Edit.TheVariants.{Remove as RemoveEdit, Move as MoveEdit, Insert as InsertEdit, Caret as CaretEdit, Relate as RelateEdit, Name, Describe, Role, State, Focus, Put, Keys, Cut, Mark, Unmark, Select, Deselect, Press, Unrelate}
 use Rattle.atspi_forest.specs.declared.edit.EditFault.{EditFault}
 use Rattle.atspi_forest.specs.declared.step.Step.{Step}
-use Rattle.atspi_forest.specs.declared.step.Step.TheVariants.{Remove, Move, SetName, SetDescription, SetRole, SetState, Insert, Delete, Caret, TextSelect}
-use Rattle.atspi_forest.specs.Edits.{steps_of_tree, steps_unless, first_fault, refusals, made_steps, contents_read, switch, switched, children_of, node_has_state, numbers_to, focusing, unselecting, selecting, acting, pressing, flipping, unless, others, known_text, known_actions}
-use Rattle.atspi_forest.specs.Forest.{Forest, tops}
+use Rattle.atspi_forest.specs.declared.step.Step.TheVariants.{Remove, Move, SetName, SetDescription, SetRole, SetState, Insert, Delete, Caret, TextSelect, Relate}
+use Rattle.atspi_forest.specs.Edits.{steps_of_tree, steps_unless, first_fault, refusals, made_steps, contents_read, switch, switched, children_of, node_has_state, numbers_to, focusing, unselecting, selecting, acting, pressing, flipping, unless, others, known_text, known_actions, node_targets, is_among}
+use Rattle.atspi_forest.specs.Forest.{Forest, tops, find}
 use Rattle.atspi_forest.specs.States.{has_state, checked, expanded, focused, multiselectable, pressed, selected}
 use Rattle.atspi_forest.specs.Row.{ShapeRow, TreeRow, Each}
 use Rattle.atspi_forest.specs.RowRules.{rows}
-use Rattle.atspi_forest.specs.Tree.{shape_of, IsTree, AllApply}
+use Rattle.atspi_forest.specs.Tree.{shape_of, IsTree, AllApply, is_shape}
 use Rattle.atspi_forest.proofs.EditsApply.{steps_apply}
 use Rattle.atspi_forest.proofs.Lookup.{each_append}
 use Rattle.atspi_announced.specs.Asked.{CanBeTold, takes_node}
@@ -22,10 +22,10 @@ use Rattle.atspi_announced.proofs.Staying.{staying_is_told_at_once, staying_can_
 abbrev Stays : Step → Type 0
 Stays step = takes_node step ≡ false
 
-together : (xs ys : List Step) → StayInPlace xs → StayInPlace ys → StayInPlace (xs ++ ys)
+pub together : (xs ys : List Step) → StayInPlace xs → StayInPlace ys → StayInPlace (xs ++ ys)
 together xs ys a b = each_append Stays xs ys a b
 
-each_made : {A : Type 0} (make : A → Step) (xs : List A) → ((x : A) → Stays (make x)) → StayInPlace (map make xs)
+pub each_made : {A : Type 0} (make : A → Step) (xs : List A) → ((x : A) → Stays (make x)) → StayInPlace (map make xs)
 each_made make [] s = tt
 each_made make (x ∷ xs) s = (s x, each_made make xs s)
 
@@ -84,6 +84,46 @@ unless_stays : (b : Bool) (step : Step) → Stays step → StayInPlace (unless b
 unless_stays true step s = tt
 unless_stays false step s = (s, tt)
 
+-- an edit that takes a node from its place
+abbrev pub takes_by : Edit → Bool
+takes_by (RemoveEdit n) = true
+takes_by (MoveEdit n p i) = true
+takes_by edit = false
+
+made_stay : (f : Forest ShapeRow) (k : ℕ) (known : FaceData) (edit : Edit) → takes_by edit ≡ false → StayInPlace (made_steps f k known edit)
+made_stay f k known (RemoveEdit n) e = absurd cc
+made_stay f k known (MoveEdit n p i) e = absurd cc
+made_stay f k known (InsertEdit p i seed) e = (refl, tt)
+made_stay f k known (Name n x) e = unless_stays _ (SetName n x) refl
+made_stay f k known (Describe n x) e = unless_stays _ (SetDescription n x) refl
+made_stay f k known (Role n role) e = unless_stays _ (SetRole n role) refl
+made_stay f k known (State n state on) e = switch_stays n state on (node_has_state f n state)
+made_stay f k known (Focus n) e = focus_stays f k n
+made_stay f k known (Put n at x) e =
+    let caret = (known_text known).caret in
+    put_stays n at x (caret + length x) (length x == 0) (nat_lt at caret)
+made_stay f k known (Keys n x) e =
+    let caret = (known_text known).caret in
+    type_stays n caret x (caret + length x) (length x == 0)
+made_stay f k known (Cut n from to) e =
+    let text = known_text known in
+    cut_stays n from (cond (nat_le text.caret to) from (text.caret - (to - from))) (take (to - from) (drop from text.characters)) (from == to) (nat_lt from text.caret)
+made_stay f k known (CaretEdit n at) e = unless_stays _ (Caret n at) refl
+made_stay f k known (Mark n from to) e = (refl, tt)
+made_stay f k known (Unmark n) e = unless_stays _ (TextSelect n []) refl
+made_stay f k known (Select n i) e =
+    let children = tops (children_of f n) in
+    let many = node_has_state f n multiselectable in
+    together (cond many [] (unselecting (others i children))) (selecting true (drop i children)) (unselect_stays many (others i children)) (select_stays true (drop i children))
+made_stay f k known (Deselect n i) e = select_stays false (drop i (tops (children_of f n)))
+made_stay f k known (Press n i) e = press_stays f k n (drop i (known_actions known))
+made_stay f k known (RelateEdit n kind m) e =
+    let targets = node_targets kind (find (is_shape n) f) in
+    unless_stays (is_among m targets) (Relate n kind (targets ++ m ∷ [])) refl
+made_stay f k known (Unrelate n kind m) e =
+    let targets = node_targets kind (find (is_shape n) f) in
+    unless_stays (not (is_among m targets)) (Relate n kind (filter (λ t. not (t == m)) targets)) refl
+
 -- one step at most, or none that takes a node from its place
 data Simple (list : List Step) : Type 0 where
   staying : StayInPlace list → Simple list
@@ -94,38 +134,35 @@ unless_simple true step = staying tt
 unless_simple false step = alone step refl
 
 made_simple : (f : Forest ShapeRow) (k : ℕ) (known : FaceData) (edit : Edit) → Simple (made_steps f k known edit)
-made_simple f k known (InsertEdit p i seed) = staying (refl, tt)
 made_simple f k known (RemoveEdit n) = alone (Remove n) refl
 made_simple f k known (MoveEdit n p i) = unless_simple _ (Move n p i)
-made_simple f k known (Name n x) = unless_simple _ (SetName n x)
-made_simple f k known (Describe n x) = unless_simple _ (SetDescription n x)
-made_simple f k known (Role n role) = unless_simple _ (SetRole n role)
-made_simple f k known (State n state on) = staying (switch_stays n state on (node_has_state f n state))
-made_simple f k known (Focus n) = staying (focus_stays f k n)
-made_simple f k known (Put n at x) =
-    let caret = (known_text known).caret in
-    staying (put_stays n at x (caret + length x) (length x == 0) (nat_lt at caret))
-made_simple f k known (Keys n x) =
-    let caret = (known_text known).caret in
-    staying (type_stays n caret x (caret + length x) (length x == 0))
-made_simple f k known (Cut n from to) =
-    let text = known_text known in
-    staying (cut_stays n from (cond (nat_le text.caret to) from (text.caret - (to - from))) (take (to - from) (drop from text.characters)) (from == to) (nat_lt from text.caret))
-made_simple f k known (CaretEdit n at) = unless_simple _ (Caret n at)
-made_simple f k known (Mark n from to) = staying (refl, tt)
-made_simple f k known (Unmark n) = unless_simple _ (TextSelect n [])
-made_simple f k known (Select n i) =
-    let children = tops (children_of f n) in
-    let many = node_has_state f n multiselectable in
-    staying (together (cond many [] (unselecting (others i children))) (selecting true (drop i children)) (unselect_stays many (others i children)) (select_stays true (drop i children)))
-made_simple f k known (Deselect n i) = staying (select_stays false (drop i (tops (children_of f n))))
-made_simple f k known (Press n i) = staying (press_stays f k n (drop i (known_actions known)))
-made_simple f k known (RelateEdit n kind m) = unless_simple _ _
-made_simple f k known (Unrelate n kind m) = unless_simple _ _
+made_simple f k known (InsertEdit p i seed) = staying (made_stay f k known (InsertEdit p i seed) refl)
+made_simple f k known (Name n x) = staying (made_stay f k known (Name n x) refl)
+made_simple f k known (Describe n x) = staying (made_stay f k known (Describe n x) refl)
+made_simple f k known (Role n role) = staying (made_stay f k known (Role n role) refl)
+made_simple f k known (State n state on) = staying (made_stay f k known (State n state on) refl)
+made_simple f k known (Focus n) = staying (made_stay f k known (Focus n) refl)
+made_simple f k known (Put n at x) = staying (made_stay f k known (Put n at x) refl)
+made_simple f k known (Keys n x) = staying (made_stay f k known (Keys n x) refl)
+made_simple f k known (Cut n from to) = staying (made_stay f k known (Cut n from to) refl)
+made_simple f k known (CaretEdit n at) = staying (made_stay f k known (CaretEdit n at) refl)
+made_simple f k known (Mark n from to) = staying (made_stay f k known (Mark n from to) refl)
+made_simple f k known (Unmark n) = staying (made_stay f k known (Unmark n) refl)
+made_simple f k known (Select n i) = staying (made_stay f k known (Select n i) refl)
+made_simple f k known (Deselect n i) = staying (made_stay f k known (Deselect n i) refl)
+made_simple f k known (Press n i) = staying (made_stay f k known (Press n i) refl)
+made_simple f k known (RelateEdit n kind m) = staying (made_stay f k known (RelateEdit n kind m) refl)
+made_simple f k known (Unrelate n kind m) = staying (made_stay f k known (Unrelate n kind m) refl)
 
 made : (o : Option EditFault) (xs ys : List Step) → steps_unless o xs ≡ Ok ys → xs ≡ ys
 made None xs ys h = cc
 made (Some fault) xs ys h = absurd cc
+
+pub edit_stays : (f : Forest TreeRow) (k : ℕ) (edit : Edit) (list : List Step) → takes_by edit ≡ false → steps_of_tree f k edit ≡ Ok list → StayInPlace list
+edit_stays f k edit list o e =
+    let s = shape_of f in
+    let known = contents_read f edit in
+    subst StayInPlace (made (first_fault (refusals s k known edit)) (made_steps s k known edit) list e) (made_stay s k known edit o)
 
 edit_simple : (f : Forest TreeRow) (k : ℕ) (edit : Edit) (list : List Step) → steps_of_tree f k edit ≡ Ok list → Simple list
 edit_simple f k edit list e =

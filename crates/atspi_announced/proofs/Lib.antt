@@ -4,3 +4,4 @@ pub mod Placed
 pub mod Told
 pub mod Staying
 pub mod EditsStay
+pub mod CallsStay

@@ -1,5 +1,6 @@
 -- What is told of the steps of an edit can be told before the first of them is done.
-use Rattle.std.specs.Prelude.{◌≡◌, ℕ, false, List, [], ◌∷◌, ◌++◌, map, Ok}
+use Rattle.std.specs.Prelude.{◌≡◌, ℕ, false, List, [], ◌∷◌, ◌++◌, map, Option, Ok}
+use Rattle.atspi_types.specs.Data.{Data}
 use Rattle.atspi_forest.specs.declared.edit.Edit.{Edit}
 use Rattle.atspi_forest.specs.declared.step.Step.{Step}
 use Rattle.atspi_forest.specs.declared.step.Step.TheVariants.{SetState, Insert, Delete}
@@ -8,6 +9,8 @@ use Rattle.atspi_forest.specs.Forest.{Forest}
 use Rattle.atspi_forest.specs.Row.{TreeRow, Each}
 use Rattle.atspi_forest.specs.RowRules.{rows}
 use Rattle.atspi_forest.specs.Tree.{IsTree, Applies, AllApply, shape_of}
+use Rattle.atspi_objects.specs.Application.{Application}
+use Rattle.atspi_objects.specs.Answers.{answer}
 use Rattle.atspi_announcing.specs.Announced.{announced}
 use Rattle.atspi_exporting.specs.Exporter.{Happening, steps, sends}
 use Rattle.atspi_exporting.specs.Telling.{step_told, steps_told}
@@ -74,3 +77,8 @@ abbrev pub EditsCanBeTold : Type 0
 EditsCanBeTold =
     (f : Forest TreeRow) (added : ℕ) (edit : Edit) (list : List Step) → IsTree rows f added → IsEdit edit
     → steps_of_tree f added edit ≡ Ok list → Each (CanBeTold (shape_with f added)) list
+
+-- no step of a call takes a node from its place
+abbrev pub CallsStayInPlace : Type 0
+CallsStayInPlace =
+    (a : Application) (path : List ℕ) (interface member : Option (List ℕ)) (body : List Data) → StayInPlace (answer a path interface member body).steps

@@ -1,6 +1,6 @@
 //! What is told of several steps can be told before the first is done: so all messages can be made before the tree changes.
 
-ghost use Rattle.atspi_announced.specs.Laws.{AppliedCanBeTold, EditsAreToldAtOnce, EditsCanBeTold, SendsMessages, StatesAreToldAtOnce, StayingCanBeTold, StayingIsToldAtOnce, TextsAreToldAtOnce};
+ghost use Rattle.atspi_announced.specs.Laws.{AppliedCanBeTold, CallsStayInPlace, EditsAreToldAtOnce, EditsCanBeTold, SendsMessages, StatesAreToldAtOnce, StayingCanBeTold, StayingIsToldAtOnce, TextsAreToldAtOnce};
 
 /// What an application queues of a step is the step, and behind it the messages that `announced` makes.
 pub fn messages_are_sent()
@@ -25,4 +25,9 @@ pub fn staying_is_told_at_once()
 pub fn edits_are_told_at_once()
     ensures same { EditsAreToldAtOnce }
     ensures can { EditsCanBeTold }
+{}
+
+/// No call takes a node from its place: so the steps of a call are told of the tree before it.
+pub fn calls_stay_in_place()
+    ensures { CallsStayInPlace }
 {}
