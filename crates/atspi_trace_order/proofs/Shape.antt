@@ -68,7 +68,7 @@ more p (x ∷ xs) n = by (p x) (more p xs n)
     by true h = omega (arith, h)
     by false h = h
 
-new : (p : End → Bool) (xs : List End) (n : End) → p n ≡ true → length (filter p xs) < length (filter p (xs ++ n ∷ []))
+pub new : (p : End → Bool) (xs : List End) (n : End) → p n ≡ true → length (filter p xs) < length (filter p (xs ++ n ∷ []))
 new p [] n h = by (p n) h
   where
     by : (t : Bool) → t ≡ true → 0 < length (cond t (n ∷ []) [])

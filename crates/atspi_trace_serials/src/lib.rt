@@ -1,0 +1,4 @@
+//! The numbers of messages along lawful traces.
+#![tactic(auto)]
+
+pub mod laws;
