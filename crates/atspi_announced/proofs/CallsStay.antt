@@ -1,5 +1,5 @@
 -- No call takes a node from its place.
-use Rattle.std.proofs.Common.{◌≡◌, ℕ, Bool, true, false, cond, not, List, [], ◌∷◌, ◌++◌, map, filter, length, take, drop, suc, Option, Some, None, refl, subst}
+use Rattle.std.proofs.Common.{◌≡◌, ℕ, Bool, true, false, not, List, [], ◌∷◌, ◌++◌, map, filter, length, take, drop, suc, Option, Some, None, refl, subst}
 use Rattle.std.specs.Prelude.{ℤ, pos, negsuc, nat_lt, nat_le, bytes_eq, slice_get, ◌==◌, ◌&&◌, if◌then◌else◌, Result, Ok, Err}
 use Rattle.atspi_types.specs.Data.{Data}
 use Rattle.atspi_forest.specs.declared.edit.Edit.{Edit}
