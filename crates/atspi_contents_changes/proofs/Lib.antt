@@ -1,0 +1,4 @@
+pub mod EditLemmas
+pub mod Exchanged
+pub mod Changed
+pub mod Known
