@@ -60,10 +60,10 @@ module _ (w v : World) (ys : List Entry) (s : Shape w) (conn n : ℕ) (e f : End
       by k x (inr g) = inr ((λ at. g.0 (s.one k conn g.1 e g.2 there (sym g.3.whose ∙ at ∙ sym is))), g.1, g.2, g.3)
 
 -- an application
-numbers_of : (s t : Exporter) (c : Counts s t) → s.out ≡ [] → numbers_among t.out ≡ rising c.count s.next
+pub numbers_of : (s t : Exporter) (c : Counts s t) → s.out ≡ [] → numbers_among t.out ≡ rising c.count s.next
 numbers_of s t c h = c.numbers ∙ ap (λ hs. numbers_among hs ++ rising c.count s.next) h
 
-counted : (s t : Exporter) (edit : Edit) → app_edits s edit ≡ Ok t → Counts s t
+pub counted : (s t : Exporter) (edit : Edit) → app_edits s edit ≡ Ok t → Counts s t
 counted s t edit h = subst (CountsIfDone s) h (numbers_rise.edited s edit)
 
 pub edit_speaks : (w : World) (d : Done) (s : Shape w) (b : AppEdits w d) → b.before.out ≡ [] → Speaks w d.world d.entries (App b.app) b.before.next

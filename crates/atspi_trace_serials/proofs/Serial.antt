@@ -65,11 +65,11 @@ rises_law who n early (sent other e ∷ ys) h r = (
 rises_law who n early (entry ∷ ys) h r =
     (tt, rises_law who n (early ++ entry ∷ []) ys (h ∙ ap (λ l. suc (sent_before who + length l)) (sym (messages_more early (entry ∷ []) who ∙ append-nil (messages early who)))) r)
 
-abbrev head_of : ℕ → List ℕ → ℕ
+abbrev pub head_of : ℕ → List ℕ → ℕ
 head_of d [] = d
 head_of d (x ∷ xs) = x
 
-abbrev tail_of : List ℕ → List ℕ
+abbrev pub tail_of : List ℕ → List ℕ
 tail_of [] = []
 tail_of (x ∷ xs) = xs
 

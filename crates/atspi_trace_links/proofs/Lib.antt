@@ -1,0 +1,4 @@
+pub mod Ups
+pub mod Lifting
+pub mod LawLinks
+pub mod TakenInOrder

@@ -1,0 +1,4 @@
+//! What the bus takes of each end, along lawful traces.
+#![tactic(auto)]
+
+pub mod laws;
