@@ -1,4 +1,3 @@
-use Rattle.std.proofs.Common.{rules, ◌≡◌, ℕ}
 use Rattle.atspi_host.proofs.memory.take.Goals as goal
 
 pub returns-in-Some-clause-cause : goal.returns-in-Some-clause-cause

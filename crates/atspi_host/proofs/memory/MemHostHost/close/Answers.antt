@@ -1,4 +1,4 @@
-use Rattle.std.proofs.Common.{rules, ◌≡◌, ℕ, ◌==◌, not, Bool, List, refl, ◌∙◌, ap}
+use Rattle.std.proofs.Common.{rules, ◌==◌, not, ◌∙◌}
 use Rattle.std.proofs.lemmas.Fn.{filter_same}
 use Rattle.atspi_host.proofs.MemoryLemmas.{without_filter}
 use Rattle.atspi_host.proofs.memory.MemHostHost.close.Goals as goal

@@ -1,7 +1,6 @@
-use Rattle.std.proofs.Common.{rules, ◌≡◌, ◌≤◌, ℕ, arith, sym, subst}
+use Rattle.std.proofs.Common.{rules, ◌≡◌, arith, sym, subst}
 use Rattle.std.specs.Option.{option_map}
 use Rattle.atspi_host.specs.Numbers.{ToldBelow}
-use Rattle.atspi_host.specs.declared.call.Call.{Call}
 use Rattle.atspi_host.proofs.MemoryLemmas.{open_below, told_more}
 use Rattle.atspi_host.proofs.memory.MemHostHost.write.Goals as goal
 

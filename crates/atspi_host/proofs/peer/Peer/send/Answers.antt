@@ -1,4 +1,4 @@
-use Rattle.std.proofs.Common.{rules, ◌≡◌, ℕ, length}
+use Rattle.std.proofs.Common.{length}
 use Rattle.atspi_host.proofs.peer.Peer.send.Goals as goal
 
 pub returns-in_default-clause-moves : goal.returns-in_default-clause-moves

@@ -1,0 +1,27 @@
+-- The numbers of links that are open.
+use Rattle.std.proofs.Common.{◌≡◌, ◌≢◌, ℕ, ◌<◌, ◌==◌, Bool, true, false, not, List, [], ◌∷◌, ◌++◌, map, refl, sym, ap, subst, ◌∙◌, inl, inr, suc, length, arith}
+use Rattle.std.specs.List.{All}
+use Rattle.std.proofs.lemmas.List.{map-append}
+use Rattle.atspi_host.specs.declared.call.Did.TheVariants.{Done}
+use Rattle.atspi_host.specs.Calls.{IsNew, Opens, without}
+use Rattle.std.specs.List.{filter}
+use Rattle.std.proofs.lemmas.Bool.Decides.{eqb_tells}
+use Rattle.atspi_live.specs.Numbers.{numbers}
+use Rattle.atspi_live.specs.declared.open_link.Open.{Open}
+
+below_new : (os : List Open) (n : ℕ) → All (λ o. o.number < n) os → IsNew n (map (λ o. o.number) os)
+below_new [] n p = tt
+below_new (o ∷ os) n p = (differs, below_new os n (λ k d h. p (suc k) d (omega arith)))
+  where
+    below : o.number < n
+    below = p 0 o (omega arith)
+
+    differs : o.number ≢ n
+    differs e = omega (arith, below)
+
+pub pushed_opens : (os : List Open) (o : Open) → All (λ p. p.number < o.number) os → Opens (map (λ o. o.number) os) (map (λ o. o.number) (os ++ o ∷ [])) (Done o.number)
+pushed_opens os o p = (map-append (λ o. o.number) os (o ∷ []), below_new os o.number p)
+
+pub without_filter : (os : List Open) (k : ℕ) → numbers (filter (λ o. not (o.number == k)) os) ≡ without k (numbers os)
+without_filter [] k = refl
+without_filter (o ∷ os) k = elim (eqb_tells o.number k) [ inl e ↦ rw e.0 (without_filter os k) | inr e ↦ rw e.0 (ap (λ w. o.number ∷ w) (without_filter os k)) ]

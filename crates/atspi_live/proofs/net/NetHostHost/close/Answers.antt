@@ -1,0 +1,11 @@
+use Rattle.std.proofs.Common.{rules, ◌≡◌, ℕ, ◌==◌, not, Bool, List, refl, ◌∙◌, ap}
+use Rattle.std.proofs.lemmas.Fn.{filter_same}
+use Rattle.atspi_host.specs.Calls.{without}
+use Rattle.atspi_live.specs.Numbers.{numbers}
+use Rattle.atspi_live.proofs.LinkLemmas.{without_filter}
+use Rattle.atspi_live.proofs.net.NetHostHost.close.Goals as goal
+
+pub returns-clause-links : goal.returns-clause-links
+returns-clause-links g c =
+    ap numbers (filter_same _ (λ o. not (o.number == c.args.link)) _ (λ x b f k. search rules) c.args.self.now.links.items c.retain.new.self.items c.retain.ensures.filtered)
+    ∙ without_filter c.args.self.now.links.items c.args.link

@@ -1,0 +1,65 @@
+//! The ends of the bus on Unix sockets: `registry PATH ROUNDS`.
+#![tactic(auto)]
+
+mod net;
+mod open_link;
+mod output;
+mod retry;
+
+use atspi_base::Text;
+use atspi_live_registry::registry;
+use net::NetHost;
+use output::StandardOutput;
+use std::env;
+use std::io::Print;
+use std::process::ExitCode;
+
+/// This count of rounds means: for as long as it runs. Then the host rests where nothing is ready.
+const FOR_GOOD: u32 = 1_000_000_000;
+
+/// The count of rounds that a word spells, from 1 on and without zeros in front.
+fn rounds_in(word: &str) -> Option<u32> {
+    if word.starts_with('0') || word.starts_with('+') {
+        return None;
+    }
+    match word.parse::<u32>() {
+        Ok(rounds) if rounds <= FOR_GOOD => Some(rounds),
+        _ => None,
+    }
+}
+
+/// The words are not understood.
+fn usage(rt: &impl Print) -> ExitCode {
+    let _ = rt.println("usage: atspi_live registry PATH ROUNDS");
+    ExitCode::from(2)
+}
+
+fn main(rt: HostRuntime) -> ExitCode {
+    let mut words = Vec::new(rt.alloc());
+    let Ok(args) = env::args(&rt) else {
+        return usage(&rt);
+    };
+    for word in args.skip(1) {
+        if words.push(word).is_err() {
+            return ExitCode::from(5);
+        }
+    }
+    let [command, path, rounds] = words.as_slice() else {
+        return usage(&rt);
+    };
+    let Some(rounds) = rounds_in(rounds.as_str()) else {
+        return usage(&rt);
+    };
+    let bytes = path.as_str().as_bytes();
+    if command.as_str() != "registry" || bytes.is_empty() || bytes.len() > 107 {
+        return usage(&rt);
+    }
+    let Ok(path) = Text::read(rt.alloc(), bytes) else {
+        return usage(&rt);
+    };
+    let Ok(mut host) = NetHost::new(rt.alloc(), &rt, rounds == FOR_GOOD) else {
+        return ExitCode::from(5);
+    };
+    let mut sink = StandardOutput::new(rt.stdout(), &rt);
+    ExitCode::from(registry(rt.alloc(), &path, rounds, &mut sink, &mut host))
+}
