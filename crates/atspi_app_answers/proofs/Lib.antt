@@ -1,0 +1,12 @@
+pub mod Seen
+pub mod SelectedLemmas
+pub mod Telling
+pub mod RelationLemmas
+pub mod PlaceLemmas
+pub mod MemberLemmas
+pub mod PropertyKinds
+pub mod Listing
+pub mod Answering
+pub mod CountLemmas
+pub mod Senders
+pub mod Decimals

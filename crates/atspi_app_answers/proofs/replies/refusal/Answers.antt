@@ -1,0 +1,10 @@
+use Rattle.std.proofs.Common.{◌≡◌, true, sym, ap, ◌∙◌}
+use Rattle.atspi_types.specs.Names.{is_bus_name}
+use Rattle.atspi_header.specs.Names.{fits}
+use Rattle.atspi_app_answers.proofs.Senders.{sender_named}
+use Rattle.atspi_app_answers.proofs.replies.refusal.Goals as goal
+
+pub return_error-requires : goal.return_error-requires
+return_error-requires c =
+    ap (fits is_bus_name) (sym c.in-Some.is)
+    ∙ sender_named c.args.call.now.path c.args.call.now.interface c.args.call.now.member c.args.call.now.error c.args.call.now.destination c.args.call.now.sender c.args.call.now.named

@@ -1,0 +1,15 @@
+-- What holds of the counts of a node.
+use Rattle.atspi_forest.specs.declared.contents.FaceKind.TheVariants.{Chars, Grid, Deeds}
+use Rattle.atspi_forest.specs.Row.{ShapeRow}
+use Rattle.atspi_face.specs.Nodes.{AreContents}
+use Rattle.atspi_whole.specs.Whole.{Faces, filled}
+use Rattle.atspi_app_answers.specs.Counted.{AreCounts, counts_at}
+
+-- each face has contents of its kind alone
+pub record AreFaces (faces : Faces) : Type 0 where
+  pub chars : AreContents Chars faces.chars
+  pub grid : AreContents Grid faces.grid
+  pub deeds : AreContents Deeds faces.deeds
+
+abbrev pub FacesTellCounts : Type 0
+FacesTellCounts = (faces : Faces) (s : ShapeRow) → AreFaces faces → AreCounts (counts_at faces s.node) (filled faces s)

@@ -1,0 +1,9 @@
+pub mod Seen
+pub mod Place
+pub mod Counted
+pub mod Selected
+pub mod Laws
+pub mod Faults
+pub mod Told
+pub mod Asking
+pub mod Replies
