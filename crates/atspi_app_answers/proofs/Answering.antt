@@ -1,5 +1,5 @@
 -- What a node tells is what the object tells.
-use Rattle.std.proofs.Common.{◌≡◌, ℕ, ℤ, Bool, true, false, List, [], ◌∷◌, Option, Some, None, refl, sym, ap, subst, ◌∙◌}
+use Rattle.std.proofs.Common.{◌≡◌, ℕ, ℤ, true, List, [], Option, Some, sym, ap, subst, ◌∙◌}
 use Rattle.std.specs.Prelude.{Result, Ok, Err, IfOk, IfSome, MatchResult}
 use Rattle.std.specs.Option.{option_map}
 use Rattle.atspi_types.specs.Data.{Data}
@@ -11,9 +11,8 @@ use Rattle.atspi_ends.specs.Messages.{returns}
 use Rattle.atspi_tree.specs.TreeShape.{TreeShape, row_of}
 use Rattle.atspi_whole.specs.Whole.{Faces, filled}
 use Rattle.atspi_objects.specs.Places.{Place, node}
-use Rattle.atspi_objects.specs.Values.{in_variant}
-use Rattle.atspi_objects.specs.Properties.{property_data, properties_data}
-use Rattle.atspi_objects.specs.Answers.{Answer, node_answers, tree_answers, place_answers, tells_all, refuses}
+use Rattle.atspi_objects.specs.Answers.{Answer, node_answers, place_answers, tells_all, refuses}
+use Rattle.atspi_members.specs.Arguments.{int, signed_in}
 use Rattle.atspi_members.specs.declared.member.ObjectMember.{ObjectMember}
 use Rattle.atspi_members.specs.declared.property.ObjectProperty.{ObjectProperty}
 use Rattle.atspi_base.specs.declared.outside.NoMemory.{NoMemory}
@@ -24,14 +23,14 @@ use Rattle.atspi_app_calls.specs.declared.ask.Ask.{Ask}
 use Rattle.atspi_app_calls.specs.declared.ask.Ask.TheVariants as asks
 use Rattle.atspi_app_calls.specs.Ask.{asked_of}
 use Rattle.atspi_app_answers.specs.declared.counts.Counts.{Counts}
-use Rattle.atspi_app_answers.specs.declared.place.AppPlace.TheVariants.{Tree, Node}
+use Rattle.atspi_app_answers.specs.declared.place.AppPlace.TheVariants.{Node}
 use Rattle.atspi_app_answers.specs.Seen.{seen}
 use Rattle.atspi_app_answers.specs.Place.{place_of}
-use Rattle.atspi_app_answers.specs.Counted.{HasCountFor, HasCountsFor, HasCountsAsked, HasCountsAt}
+use Rattle.atspi_app_answers.specs.Counted.{HasCountsAsked}
 use Rattle.atspi_app_answers.specs.declared.fault.AnswerFault.{AnswerFault}
 use Rattle.atspi_app_answers.specs.declared.fault.AnswerFault.TheVariants as faults
 use Rattle.atspi_app_answers.specs.Faults.{or_fault}
-use Rattle.atspi_app_answers.specs.Told.{TellsAll, Refuses, ReturnsProperty, ReturnsProperties, TreeReturns, Returns, Fails, id_after}
+use Rattle.atspi_app_answers.specs.Told.{TellsAll, Refuses, ReturnsProperty, ReturnsProperties, Returns, Fails, id_after}
 
 -- the row of a node that is there
 pub row_there : (t : TreeShape) (n : ℕ) → has (is_shape n) t.rows ≡ true → (s : ShapeRow) × (row_of n t ≡ Some s)
@@ -59,6 +58,10 @@ module _ (t : TreeShape) (name : List ℕ) (id : ℤ) (counts : Counts) (n : ℕ
       let x = row_there t n there in
       ap (λ o. place_answers (seen t faces name id) (place_if faces o) (Ok (asked_of body ask))) x.1 ∙ h faces x.0 x.1
 
+-- what Set is answered, whatever values stand for none
+abbrev set_answer : ℤ → List Data → Answer
+set_answer m values = record { reply = returns values; steps = []; id = signed_in (Some (int m)) }
+
 -- want of memory is no claim
 pub with_fault : {X : Type 0} (r : Result X NoMemory) (q : Result X AnswerFault) (P : X → Type 0) (Q : AnswerFault → Type 0) → q ≡ or_fault r → IfOk r P → Q faults.NoMemory → MatchResult q P Q
 with_fault {X = X} (Ok x) q P Q e h k = subst (λ (z : Result X AnswerFault). MatchResult z P Q) (sym e) h
@@ -71,7 +74,7 @@ module _ (t : TreeShape) (name : List ℕ) (id : ℤ) (counts : Counts) (n : ℕ
   pub call_fails : (member : ObjectMember) (fault : AnswerFault) → Refuses t name n member body fault → Fails t name id (Node n) body (asks.Call member) fault
   call_fails member (faults.Refused error) h =
       node_fails t name id counts n body (asks.Call member) there (λ faces. refuses (seen t faces name id) (error_word error)) (λ faces s is. h faces id s is)
-  call_fails member faults.NoMemory h = tt
+  call_fails _ faults.NoMemory _ = tt
 
   pub get_returns : (property : ObjectProperty) (values : List Data) → ReturnsProperty t name id counts n property values → Returns t name id counts (Node n) body (asks.Get property) values
   get_returns property values h =
@@ -81,3 +84,6 @@ module _ (t : TreeShape) (name : List ℕ) (id : ℤ) (counts : Counts) (n : ℕ
       → Returns t name id counts (Node n) body (asks.GetAll interface) values
   all_returns interface values h =
       node_returns t name id counts n body (asks.GetAll interface) there values (λ faces s is k. ap (tells_all (seen t faces name id)) (h faces s is k))
+
+  pub set_returns : (m : ℤ) (values : List Data) → values ≡ [] → Returns t name id counts (Node n) body (asks.SetId m) values
+  set_returns m values e = node_returns t name id counts n body (asks.SetId m) there values (λ faces s is _. ap (set_answer m) (sym e))

@@ -1,19 +1,18 @@
 -- The counts that faces tell of a node are those of its row.
-use Rattle.std.proofs.Common.{◌≡◌, ℕ, ℤ, List, [], Option, Some, None, length, refl, sym, ap, ◌∙◌}
+use Rattle.std.proofs.Common.{◌≡◌, ℕ, Option, Some, None, length, refl}
 use Rattle.std.specs.FinMap.{get}
 use Rattle.std.specs.Option.{option_map_or}
 use Rattle.atspi_forest.specs.declared.contents.FaceData.{FaceData}
 use Rattle.atspi_forest.specs.declared.contents.FaceData.TheVariants.{Chars, Grid, Deeds}
 use Rattle.atspi_forest.specs.declared.contents.FaceKind.{FaceKind}
 use Rattle.atspi_forest.specs.declared.contents.FaceKind.TheVariants as kinds
-use Rattle.atspi_forest.specs.Row.{ShapeRow, TreeRow}
-use Rattle.atspi_face.specs.Contents.{kind_of, count_of, caret_of, IsContents}
-use Rattle.atspi_face.specs.Nodes.{Nodes, AreContents, count_at, caret_at}
-use Rattle.atspi_whole.specs.Whole.{Faces, filled, as_text, as_columns, as_actions}
+use Rattle.atspi_forest.specs.Row.{ShapeRow}
+use Rattle.atspi_face.specs.Contents.{kind_of, count_of, caret_of}
+use Rattle.atspi_face.specs.Nodes.{Nodes, AreContents}
+use Rattle.atspi_whole.specs.Whole.{Faces, filled}
 use Rattle.atspi_objects.specs.Texts.{text_of}
 use Rattle.atspi_objects.specs.Tables.{columns_of}
-use Rattle.atspi_app_answers.specs.Laws.{AreFaces, FacesTellCounts}
-use Rattle.atspi_app_answers.specs.Counted.{AreCounts, counts_at}
+use Rattle.atspi_app_answers.specs.Laws.{FacesTellCounts}
 
 -- contents of each kind
 characters_in : (faces : Faces) (s : ShapeRow) (o : Option FaceData) → get faces.chars s.node ≡ o → ((d : FaceData) → o ≡ Some d → kind_of d ≡ kinds.Chars)

@@ -1,5 +1,5 @@
 -- Properties listed one after the other.
-use Rattle.std.proofs.Common.{◌≡◌, ℕ, ℤ, List, [], ◌∷◌, ◌++◌, Some, map, refl, sym, ap, ◌∙◌}
+use Rattle.std.proofs.Common.{◌≡◌, List, [], ◌∷◌, ◌++◌, sym, ap, ◌∙◌}
 use Rattle.atspi_types.specs.Kinds.{Kind}
 use Rattle.atspi_types.specs.Data.{Data, variant_data, type_of}
 use Rattle.atspi_objects.specs.Values.{in_variant}

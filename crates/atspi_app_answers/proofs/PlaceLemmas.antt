@@ -1,14 +1,14 @@
 -- Which object has a path.
-use Rattle.std.proofs.Common.{◌≡◌, ◌≢◌, ℕ, ◌<◌, ◌≤◌, ◌^◌, ◌==◌, Bool, true, false, cond, List, ℤ, Option, None, Some, refl, sym, ap, ◌∙◌, arith}
+use Rattle.std.proofs.Common.{◌≡◌, ◌≢◌, ℕ, ◌<◌, ◌≤◌, ◌^◌, ◌==◌, Bool, true, false, List, ℤ, Option, None, Some, refl, sym, ap, ◌∙◌, arith}
 use Rattle.std.specs.Prelude.{[], bytes_eq, nat_lt, option_and_then, unwrap_or, Result, Ok, Err}
 use Rattle.std.specs.Option.{option_map}
 use Rattle.std.proofs.lemmas.Bool.{eqb-true, eqb-false, eq-eqb, ltb-true, ltb-false}
 use Rattle.std.proofs.lemmas.Slice.Eq.{bytes_eq-Decides}
-use Rattle.atspi_forest.specs.Forest.{Forest, nil, tree, count, has, find, first_of, EachLabel}
+use Rattle.atspi_forest.specs.Forest.{Forest, nil, tree, count, has, find, EachLabel}
 use Rattle.atspi_forest.specs.Path.{path_of}
 use Rattle.atspi_forest.specs.Row.{ShapeRow, TreeRow}
 use Rattle.atspi_forest.specs.Tree.{is_shape}
-use Rattle.atspi_forest.proofs.Found.{each_counted, EachLabel-weaker, find-none, find-has, count-has}
+use Rattle.atspi_forest.proofs.Found.{each_counted, EachLabel-weaker}
 use Rattle.atspi_forest.proofs.Lookup.{find-relabel}
 use Rattle.atspi_forest.proofs.Path.{path_of_apart}
 use Rattle.atspi_ends.specs.Places.{cache_path}
@@ -22,7 +22,7 @@ use Rattle.atspi_ends.specs.declared.error.CallError.{CallError}
 use Rattle.atspi_ends.specs.declared.error.CallError.TheVariants.{UnknownObject}
 use Rattle.atspi_members.specs.Objects.{Object, object_with}
 use Rattle.atspi_members.specs.Asked.{asked}
-use Rattle.atspi_objects.specs.Places.{Place, node, whole_tree, node_at, place_at, offered, offered_if_there}
+use Rattle.atspi_objects.specs.Places.{Place, node, node_at, place_at, offered, offered_if_there}
 use Rattle.atspi_objects.specs.Answers.{place_answers}
 use Rattle.atspi_app_calls.specs.declared.ask.Ask.{Ask}
 use Rattle.atspi_app_calls.specs.declared.object.AppObject.TheVariants as AppObjects

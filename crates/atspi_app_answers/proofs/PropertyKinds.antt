@@ -1,16 +1,12 @@
 -- The type of each property.
-use Rattle.std.proofs.Common.{◌≡◌, ℕ, Option, Some, None, refl, sym, ap, ◌∙◌}
-use Rattle.atspi_types.specs.Kinds.{Kind, number, i32, text}
+use Rattle.std.proofs.Common.{◌≡◌, ℕ, Option, Some, None, refl}
 use Rattle.atspi_types.specs.Data.{type_of}
 use Rattle.atspi_forest.specs.Row.{TreeRow}
 use Rattle.atspi_forest.specs.RowRules.{rows}
 use Rattle.atspi_forest.specs.Tree.{seat_of}
 use Rattle.atspi_ends.specs.Places.{reference_kind}
-use Rattle.atspi_members.specs.declared.property.ObjectProperty.{ObjectProperty}
-use Rattle.atspi_members.specs.declared.property.ObjectProperty.TheVariants as properties
 use Rattle.atspi_objects.specs.Application.{Application}
 use Rattle.atspi_objects.specs.Children.{parent_data}
-use Rattle.atspi_objects.specs.Properties.{property_data}
 
 pub parent_type : (a : Application) (row : TreeRow) → type_of (parent_data a row) ≡ reference_kind
 parent_type a row = by (seat_of rows row.shape.node a.tree) refl

@@ -1,5 +1,5 @@
 -- The relations of a node.
-use Rattle.std.proofs.Common.{◌≡◌, arith, ℕ, suc, ℤ, Bool, true, false, cond, List, [], ◌∷◌, Option, Some, None, map, length, refl, sym, ap, ◌∙◌}
+use Rattle.std.proofs.Common.{◌≡◌, arith, ℕ, suc, ℤ, Bool, true, false, cond, List, [], ◌∷◌, Some, map, length, refl, sym, ap, ◌∙◌}
 use Rattle.std.specs.Prelude.{filter, not, ◌==◌, ◌||◌}
 use Rattle.std.specs.List.{list_any}
 use Rattle.std.proofs.lemmas.Bool.Decides.{nat_tests}

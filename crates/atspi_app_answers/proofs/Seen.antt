@@ -1,10 +1,9 @@
 -- What is read in the tree alone is what the whole tree says.
-use Rattle.std.proofs.Common.{◌≡◌, ℕ, suc, ℤ, Bool, true, false, List, [], ◌∷◌, Option, Some, None, map, length, refl, sym, ap, ◌∙◌}
-use Rattle.std.specs.Prelude.{pos, negsuc, slice_get, filter, not, ◌==◌}
-use Rattle.std.specs.List.{list_any}
+use Rattle.std.proofs.Common.{◌≡◌, ℕ, suc, ℤ, List, [], ◌∷◌, Option, Some, None, map, length, refl, sym, ap, ◌∙◌}
+use Rattle.std.specs.Prelude.{pos, negsuc, slice_get}
 use Rattle.std.specs.Option.{option_map}
 use Rattle.std.proofs.lemmas.Option.{slice_get-map}
-use Rattle.atspi_types.specs.Data.{Data, array_data, items_of}
+use Rattle.atspi_types.specs.Data.{array_data, items_of}
 use Rattle.atspi_forest.specs.Forest.{Forest, nil, tree, tops, children_at, relabel}
 use Rattle.atspi_forest.specs.Row.{ShapeRow, TreeRow}
 use Rattle.atspi_forest.specs.RowRules.{rows, shapes}

@@ -1,6 +1,6 @@
 -- The sender of a message that was read is a bus name; and what is sent back to it.
-use Rattle.std.proofs.Common.{◌≡◌, ℕ, Bool, true, List, Option, None, Some, refl, sym, ap}
-use Rattle.std.specs.Prelude.{IsTrue, ◌&&◌}
+use Rattle.std.proofs.Common.{◌≡◌, ℕ, true, List, Option, Some, refl}
+use Rattle.std.specs.Prelude.{IsTrue}
 use Rattle.std.specs.Borrow.{Bor}
 use Rattle.std.proofs.lemmas.Bool.{and_parts}
 use Rattle.atspi_types.specs.Names.{is_path, is_interface, is_member, is_bus_name}

@@ -1,21 +1,21 @@
 -- What members tell of a node, by what is read in the tree.
-use Rattle.std.proofs.Common.{◌≡◌, ℕ, ℤ, Bool, true, false, List, [], ◌∷◌, Option, Some, None, map, length, refl, sym, ap, ◌∙◌}
-use Rattle.std.specs.Prelude.{pos, codes, decimal, filter, ◌==◌, ◌/◌}
+use Rattle.std.proofs.Common.{◌≡◌, ℕ, ℤ, Bool, List, [], Some, length, sym, ap, ◌∙◌}
+use Rattle.std.specs.Prelude.{codes, decimal, filter, ◌==◌, ◌/◌}
 use Rattle.std.specs.Option.{option_map}
 use Rattle.std.proofs.lemmas.Bool.{eqb-true}
 use Rattle.atspi_types.specs.Kinds.{text, u32}
 use Rattle.atspi_types.specs.Data.{Data, number_data, text_data, dictionary_data, entries_of}
 use Rattle.atspi_forest.specs.declared.contents.Kinds.{Kinds}
-use Rattle.atspi_forest.specs.Row.{ShapeRow, TreeRow}
+use Rattle.atspi_forest.specs.Row.{ShapeRow}
 use Rattle.atspi_forest.specs.RowRules.{shapes}
 use Rattle.atspi_forest.specs.Tree.{is_shape, seat_of}
 use Rattle.atspi_forest.specs.Announce.{interfaces_of}
 use Rattle.atspi_forest.proofs.Found.{find-passes}
-use Rattle.atspi_members.specs.declared.member.ObjectMember.TheVariants.{GetChildAtIndex, GetChildren, GetIndexInParent, GetRelationSet, GetRole, GetRoleName, GetLocalizedRoleName, GetState, GetAttributes, GetApplication, GetInterfaces}
+use Rattle.atspi_members.specs.declared.member.ObjectMember.TheVariants.{GetChildAtIndex, GetChildren, GetIndexInParent, GetRole, GetRoleName, GetLocalizedRoleName, GetState, GetAttributes, GetApplication, GetInterfaces}
 use Rattle.atspi_members.specs.declared.property.ObjectProperty.TheVariants.{Name, Description, Parent, ChildCount, Locale, AccessibleId, ToolkitName, Version, AtspiVersion, Id, CharacterCount, CaretOffset, NSelectedChildren, NRows, NColumns, NActions}
 use Rattle.atspi_members.specs.Arguments.{int, signed_at}
 use Rattle.atspi_tree.specs.TreeShape.{TreeShape, IsLawful, row_of, children_of}
-use Rattle.atspi_whole.specs.Whole.{Faces, filled}
+use Rattle.atspi_whole.specs.Whole.{filled}
 use Rattle.atspi_objects.specs.Values.{count_data, role_name, words_data, texts_data}
 use Rattle.atspi_objects.specs.Children as children
 use Rattle.atspi_objects.specs.Answers.{tells}
@@ -24,7 +24,7 @@ use Rattle.atspi_app_answers.specs.Seen.{seen}
 use Rattle.atspi_app_answers.specs.Selected.{is_selected_in}
 use Rattle.atspi_node_values.specs.Numbers.{numbered_or_null, numbered_references, index_of, parent_of}
 use Rattle.atspi_app_answers.specs.Told.{Tells, IsProperty}
-use Rattle.atspi_app_answers.proofs.Seen.{children_seen, references_seen, child_seen, index_seen, parent_seen, count_seen}
+use Rattle.atspi_app_answers.proofs.Seen.{references_seen, child_seen, index_seen, parent_seen, count_seen}
 use Rattle.atspi_app_answers.proofs.SelectedLemmas.{selected_seen}
 
 pub found_number : (t : TreeShape) (n : ℕ) (s : ShapeRow) → row_of n t ≡ Some s → s.node ≡ n

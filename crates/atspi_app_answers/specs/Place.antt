@@ -1,5 +1,5 @@
 -- Which object of an application has a path, by its tree.
-use Rattle.std.specs.Prelude.{◌≡◌, ℕ, true, Option, Some}
+use Rattle.std.specs.Prelude.{◌≡◌, true, Option, Some}
 use Rattle.std.specs.Option.{option_map}
 use Rattle.atspi_forest.specs.Row.{ShapeRow}
 use Rattle.atspi_forest.specs.Forest.{has}

@@ -1,5 +1,5 @@
 -- Which nodes of a tree are selected, by their numbers.
-use Rattle.std.specs.Prelude.{ℕ, Bool, false, Option}
+use Rattle.std.specs.Prelude.{ℕ, Bool, false}
 use Rattle.std.specs.Option.{option_map_or}
 use Rattle.atspi_forest.specs.Row.{ShapeRow}
 use Rattle.atspi_forest.specs.States.{has_state, selected}

@@ -12,6 +12,7 @@ use Rattle.atspi_members.specs.Table.{PropertyLine}
 use Rattle.atspi_objects.specs.Values.{in_variant}
 use Rattle.atspi_objects.specs.Properties.{property_data, properties_data}
 use Rattle.atspi_objects.specs.Answers.{called, tells, tells_all, refuses, tree_answers, place_answers}
+use Rattle.atspi_members.specs.Arguments.{int, signed_in}
 use Rattle.atspi_members.specs.Asked.{calls}
 use Rattle.atspi_objects.specs.Application.{Application}
 use Rattle.atspi_app_calls.specs.declared.ask.Ask.{Ask}
@@ -39,7 +40,7 @@ TellsAll t name n member body values =
 abbrev pub Refuses : TreeShape → List ℕ → ℕ → ObjectMember → List Data → AnswerFault → Type 0
 Refuses t name n member body (faults.Refused error) =
     (faces : Faces) (id : ℤ) (s : ShapeRow) → row_of n t ≡ Some s → called (seen t faces name id) (filled faces s) member body ≡ refuses (seen t faces name id) (error_word error)
-Refuses t name n member body faults.NoMemory = Unit {0}
+Refuses _ _ _ _ _ faults.NoMemory = Unit {0}
 
 -- a property of the node, where the count that it tells is right
 abbrev pub IsProperty : TreeShape → List ℕ → ℤ → Counts → ℕ → ObjectProperty → Data → Type 0
@@ -134,9 +135,9 @@ abbrev pub TreeReturns : TreeShape → List ℕ → ObjectMember → List Data �
 TreeReturns t name member values =
     (faces : Faces) (id : ℤ) (body : List Data) → tree_answers (seen t faces name id) (calls member body) ≡ tells_all (seen t faces name id) values
 
--- the application's number after a call
+-- the application's number after a call: that of the value that is set
 abbrev pub id_after : ℤ → Ask → ℤ
-id_after id (asks.SetId n) = n
+id_after id (asks.SetId n) = signed_in (Some (int n))
 id_after id ask = id
 
 -- what is asked of a node looks into no contents, and changes none
@@ -153,4 +154,4 @@ Returns t name id counts place body ask values =
 abbrev pub Fails : TreeShape → List ℕ → ℤ → AppPlace → List Data → Ask → AnswerFault → Type 0
 Fails t name id place body ask (faults.Refused error) =
     (faces : Faces) → place_answers (seen t faces name id) (place_of t faces place) (Ok (asked_of body ask)) ≡ refuses (seen t faces name id) (error_word error)
-Fails t name id place body ask faults.NoMemory = Unit {0}
+Fails _ _ _ _ _ _ faults.NoMemory = Unit {0}

@@ -1,4 +1,4 @@
-use Rattle.std.proofs.Common.{sym, ap, ◌∙◌, rules, w32, SFits}
+use Rattle.std.proofs.Common.{ap, ◌∙◌, rules, w32, SFits}
 use Rattle.std.proofs.lemmas.Int.{to_z-of_z}
 use Rattle.atspi_types.specs.DataView.{data_of}
 use Rattle.atspi_cursor.specs.Items.{fields_data}

@@ -1,4 +1,3 @@
-use Rattle.std.proofs.Common.{sym, ap, ◌∙◌}
 use Rattle.std.proofs.lemmas.Result.{IfOk-weaker}
 use Rattle.atspi_types.specs.DataView.{data_of}
 use Rattle.atspi_cursor.specs.Items.{fields_data}

@@ -6,7 +6,7 @@ use Rattle.atspi_cursor.specs.Items.{fields_data}
 use Rattle.atspi_app_calls.specs.declared.ask.Ask.{Ask}
 use Rattle.atspi_app_answers.specs.declared.place.AppPlace.TheVariants.{Node}
 use Rattle.atspi_app_answers.specs.Told.{Returns, Fails}
-use Rattle.atspi_app_answers.proofs.Answering.{with_fault, call_returns, call_fails, get_returns, all_returns}
+use Rattle.atspi_app_answers.proofs.Answering.{with_fault, call_returns, call_fails, get_returns, all_returns, set_returns}
 use Rattle.atspi_app_answers.proofs.answers.node_values.Goals as goal
 
 pub returns-in-Call : goal.returns-in-Call
@@ -41,3 +41,10 @@ returns-in-GetAll c =
     (with_fault c.properties_values.result c.or_fault-in-GetAll.result _ _ c.or_fault-in-GetAll.ensures
     (IfOk-weaker c.properties_values.result _ _ (λ v h. all_returns c.args.tree.now c.args.bus.now c.args.id.now c.args.counts c.args.node (fields_data c.args.args) c.requires.there c.in-GetAll.interface (all_data v) h) c.properties_values.ensures)
     tt)
+
+pub returns-in-SetId : goal.returns-in-SetId
+returns-in-SetId c =
+    subst
+    (λ (a : Ask). Returns c.args.tree.now c.args.bus.now c.args.id.now c.args.counts (Node c.args.node) (fields_data c.args.args) a (all_data c.new.result))
+    (sym c.in-SetId.is)
+    (set_returns c.args.tree.now c.args.bus.now c.args.id.now c.args.counts c.args.node (fields_data c.args.args) c.requires.there c.in-SetId.field-0 (all_data c.new.result) c.new.ensures)

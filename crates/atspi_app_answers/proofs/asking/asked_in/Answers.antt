@@ -1,5 +1,5 @@
-use Rattle.std.proofs.Common.{◌≡◌, ℕ, List, [], Option, Some, None, sym, ap, subst, ◌∙◌}
-use Rattle.std.specs.Prelude.{unwrap_or, Ok, Err}
+use Rattle.std.proofs.Common.{ℕ, List, [], Option, subst}
+use Rattle.std.specs.Prelude.{unwrap_or}
 use Rattle.atspi_header.specs.View.{bytes_of, envelope_at}
 use Rattle.atspi_app_calls.specs.Object.{object_of}
 use Rattle.atspi_app_answers.specs.declared.place.AppPlace.{AppPlace}

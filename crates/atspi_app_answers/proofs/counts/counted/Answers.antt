@@ -1,4 +1,4 @@
-use Rattle.std.proofs.Common.{◌≡◌, ℤ, w32, sym, ap, ◌∙◌, rules, SFits}
+use Rattle.std.proofs.Common.{ℤ, w32, ap, ◌∙◌, rules, SFits}
 use Rattle.std.specs.Int.{cast_unsigned, cast_signed}
 use Rattle.std.proofs.lemmas.Int.{of_z-to_z, to_z-of_z}
 use Rattle.atspi_types.specs.Kinds.{i32}

@@ -1,4 +1,4 @@
-use Rattle.atspi_app_answers.proofs.Listing.{one_put, more_put}
+use Rattle.atspi_app_answers.proofs.Listing.{one_put}
 use Rattle.atspi_app_answers.proofs.lists.of_selection.Goals as goal
 
 pub returns : goal.returns

@@ -1,6 +1,3 @@
-use Rattle.std.proofs.Common.{◌≡◌, List, [], ◌∷◌, ◌++◌, sym, ap, ◌∙◌}
-use Rattle.atspi_types.specs.Data.{Data, text_data}
-use Rattle.atspi_types.specs.DataView.{data_of, all_pairs}
 use Rattle.atspi_app_answers.proofs.Listing.{entry_put}
 use Rattle.atspi_app_answers.proofs.lists.put.Goals as goal
 

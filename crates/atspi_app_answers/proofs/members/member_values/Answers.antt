@@ -1,7 +1,6 @@
-use Rattle.std.proofs.Common.{◌≡◌, List, [], ◌∷◌, refl, sym, ap, subst, ◌∙◌}
+use Rattle.std.proofs.Common.{sym, ap, subst, ◌∙◌}
 use Rattle.std.proofs.lemmas.Result.{IfOk-weaker}
 use Rattle.std.specs.Prelude.{MatchResult}
-use Rattle.atspi_types.specs.Data.{Data}
 use Rattle.atspi_members.specs.declared.member.ObjectMember.{ObjectMember}
 use Rattle.atspi_app_answers.specs.Told.{TellsAll, Refuses}
 use Rattle.atspi_types.specs.DataView.{all_data}

@@ -1,4 +1,3 @@
-use Rattle.std.proofs.Common.{sym, ap, ◌∙◌}
 use Rattle.atspi_types.specs.DataView.{data_of}
 use Rattle.atspi_app_answers.proofs.Telling.{is_action_count}
 use Rattle.atspi_app_answers.proofs.properties.action_count_of.Goals as goal

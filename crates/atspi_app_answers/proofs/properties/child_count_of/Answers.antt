@@ -1,5 +1,3 @@
-use Rattle.std.proofs.Common.{sym, ap, ◌∙◌}
-use Rattle.std.proofs.lemmas.Result.{IfOk-weaker}
 use Rattle.atspi_types.specs.DataView.{data_of}
 use Rattle.atspi_app_answers.proofs.Telling.{is_child_count}
 use Rattle.atspi_app_answers.proofs.properties.child_count_of.Goals as goal

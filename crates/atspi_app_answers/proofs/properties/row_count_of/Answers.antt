@@ -1,4 +1,4 @@
-use Rattle.std.proofs.Common.{sym, ap, ◌∙◌}
+use Rattle.std.proofs.Common.{ap, ◌∙◌}
 use Rattle.std.specs.Prelude.{◌/◌}
 use Rattle.atspi_types.specs.DataView.{data_of}
 use Rattle.atspi_app_answers.proofs.Telling.{is_row_count}

@@ -1,4 +1,4 @@
-use Rattle.std.proofs.Common.{◌≡◌, true, sym, ap, ◌∙◌}
+use Rattle.std.proofs.Common.{sym, ap, ◌∙◌}
 use Rattle.atspi_types.specs.Names.{is_bus_name}
 use Rattle.atspi_header.specs.Names.{fits}
 use Rattle.atspi_app_answers.proofs.Senders.{sender_named}

@@ -1,4 +1,4 @@
-use Rattle.std.proofs.Common.{◌≡◌, ◌≤◌, ℕ, true, List, length, subst, sym, ap}
+use Rattle.std.proofs.Common.{◌≡◌, ◌≤◌, ℕ, true, List, length, subst, sym}
 use Rattle.std.specs.Prelude.{All}
 use Rattle.atspi_forest.specs.Forest.{has}
 use Rattle.atspi_forest.specs.Tree.{is_shape}

@@ -1,7 +1,4 @@
-use Rattle.std.proofs.Common.{◌≡◌, sym, ap, ◌∙◌}
 use Rattle.std.proofs.lemmas.Result.{IfOk-weaker}
-use Rattle.atspi_types.specs.Kinds.{Kind}
-use Rattle.atspi_types.specs.Data.{Data, variant_data, type_of}
 use Rattle.atspi_types.specs.DataView.{data_of}
 use Rattle.atspi_types.specs.KindView.{kind_of}
 use Rattle.atspi_whole.specs.Whole.{filled}
