@@ -1,0 +1,4 @@
+pub mod Faults
+pub mod MayAct
+pub mod Shown
+pub mod Stage

@@ -1,0 +1,21 @@
+-- What holds of a world at any time.
+use Rattle.std.specs.Prelude.{List, All, Result, Ok, Err}
+use Rattle.atspi_routing.specs.BusState.{BusState}
+use Rattle.atspi_bus_steps.specs.Sound.{IsSound}
+use Rattle.atspi_stage.specs.declared.fault.ActFault.{ActFault}
+use Rattle.atspi_stage.specs.declared.fault.ActFault.TheVariants.{Refused}
+
+-- what holds of each application, each reader, each kit that is left and each spare, and of the bus
+pub record IsStage {A R K S : Type 0} (is_app : A → Type 0) (is_follower : R → Type 0) (is_kit : K → Type 0) (is_spare : S → Type 0)
+    (apps : List A) (readers : List R) (kits : List K) (spares : List S) (bus : BusState) : Type 0 where
+  pub apps_are : All is_app apps
+  pub readers_are : All is_follower readers
+  pub kits_are : All is_kit kits
+  pub spares_are : All is_spare spares
+  pub sound : IsSound bus
+
+-- it holds behind a line that was done, and behind one that was refused
+abbrev pub UnlessHalted : {A : Type 0} → Result A ActFault → Type 0 → Type 0
+UnlessHalted (Ok done) holds = holds
+UnlessHalted (Err (Refused why)) holds = holds
+UnlessHalted (Err fault) holds = Unit {0}

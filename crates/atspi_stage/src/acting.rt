@@ -1,0 +1,148 @@
+//! Doing the lines of a script.
+
+ghost use Rattle.std.specs.Prelude.{◌≡◌, OnOk};
+ghost use Rattle.atspi_forest.specs.Edits.{IsEdit};
+ghost use Rattle.atspi_reader_calls.specs.Deeds.{MayBeAsked};
+ghost use Rattle.atspi_bus_steps.specs.Inner.{state_of};
+ghost use Rattle.atspi_stage.specs.MayAct.{HasName, MayAct};
+ghost use Rattle.atspi_stage.specs.Stage.{IsStage, UnlessHalted};
+
+use crate::fault::ActFault;
+use crate::stage::Stage;
+use atspi_carrying::{CarryFault, conn_of};
+use atspi_forest::Edit;
+use atspi_lines::{Deed, Line, Party};
+use atspi_posts::Standing;
+use atspi_stage_ends::{Application, Follower};
+
+impl<A: Application, R: Follower> Stage<A, R> {
+    /// An application is asked for an edit.
+    fn ask_edit(&mut self, app: u32, edit: &Edit) -> Result<(), ActFault>
+        requires edit { IsEdit edit.now }
+        requires stage { IsStage A.is_app R.is_follower A.is_kit A.is_spare self.old.cast.apps.items self.old.cast.readers.items self.old.kits.items self.old.spares.items (state_of self.old.carrier.bus) }
+        ensures stage { IsStage A.is_app R.is_follower A.is_kit A.is_spare self.new.cast.apps.items self.new.cast.readers.items self.new.kits.items self.new.spares.items (state_of self.new.carrier.bus) }
+    {
+        match conn_of(&self.carrier.posts, Party::App(app)) {
+            Some(conn) => self.edit(conn, app, edit),
+            None => Ok(()),
+        }
+    }
+
+    /// A reader is asked for a call.
+    fn ask_call(&mut self, reader: u32, app: u32, node: u32, deed: &Deed) -> Result<(), ActFault>
+        requires deed { MayBeAsked deed.now }
+        requires stage { IsStage A.is_app R.is_follower A.is_kit A.is_spare self.old.cast.apps.items self.old.cast.readers.items self.old.kits.items self.old.spares.items (state_of self.old.carrier.bus) }
+        ensures stage { IsStage A.is_app R.is_follower A.is_kit A.is_spare self.new.cast.apps.items self.new.cast.readers.items self.new.kits.items self.new.spares.items (state_of self.new.carrier.bus) }
+    {
+        let Some(conn) = conn_of(&self.carrier.posts, Party::Reader(reader)) else {
+            return Ok(());
+        };
+        let Some(callee) = conn_of(&self.carrier.posts, Party::App(app)) else {
+            return Ok(());
+        };
+        self.call(conn, reader, callee, node, deed)
+    }
+
+    /// A party stops.
+    fn exit_of(&mut self, who: Party) -> Result<(), CarryFault>
+        requires stage { IsStage A.is_app R.is_follower A.is_kit A.is_spare self.old.cast.apps.items self.old.cast.readers.items self.old.kits.items self.old.spares.items (state_of self.old.carrier.bus) }
+        ensures stage { IsStage A.is_app R.is_follower A.is_kit A.is_spare self.new.cast.apps.items self.new.cast.readers.items self.new.kits.items self.new.spares.items (state_of self.new.carrier.bus) }
+    {
+        match conn_of(&self.carrier.posts, who) {
+            Some(conn) => self.exit(conn, who),
+            None => Ok(()),
+        }
+    }
+
+    /// A reader shows what it holds of an application.
+    fn show_of(&mut self, reader: u32, app: u32) -> Result<(), CarryFault>
+        requires stage { IsStage A.is_app R.is_follower A.is_kit A.is_spare self.old.cast.apps.items self.old.cast.readers.items self.old.kits.items self.old.spares.items (state_of self.old.carrier.bus) }
+        ensures stage { IsStage A.is_app R.is_follower A.is_kit A.is_spare self.new.cast.apps.items self.new.cast.readers.items self.new.kits.items self.new.spares.items (state_of self.new.carrier.bus) }
+    {
+        match conn_of(&self.carrier.posts, Party::App(app)) {
+            Some(conn) => self.show(reader, app, conn),
+            None => Ok(()),
+        }
+    }
+
+    /// Moves at most so many bytes of a link to the bus; any move also an end that stopped.
+    fn move_up(&mut self, conn: u32, count: u32) -> Result<(), CarryFault>
+        requires stage { IsStage A.is_app R.is_follower A.is_kit A.is_spare self.old.cast.apps.items self.old.cast.readers.items self.old.kits.items self.old.spares.items (state_of self.old.carrier.bus) }
+        ensures stage { OnOk result (IsStage A.is_app R.is_follower A.is_kit A.is_spare self.new.cast.apps.items self.new.cast.readers.items self.new.kits.items self.new.spares.items (state_of self.new.carrier.bus)) }
+    {
+        let place = conn as usize;
+        if place >= self.carrier.posts.len() {
+            return Ok(());
+        }
+        match self.carrier.posts[place].standing {
+            Standing::Here => self.carrier.move_up(conn, count),
+            Standing::Stopped => {
+                if count == 0 {
+                    return Ok(());
+                }
+                self.carrier.part(conn)
+            }
+            Standing::Away => Ok(()),
+        }
+    }
+
+    /// Moves at most so many bytes of a party's link, to the bus or from it.
+    fn move_bytes(&mut self, who: Party, up: bool, count: u32) -> Result<(), CarryFault>
+        requires stage { IsStage A.is_app R.is_follower A.is_kit A.is_spare self.old.cast.apps.items self.old.cast.readers.items self.old.kits.items self.old.spares.items (state_of self.old.carrier.bus) }
+        ensures stage { OnOk result (IsStage A.is_app R.is_follower A.is_kit A.is_spare self.new.cast.apps.items self.new.cast.readers.items self.new.kits.items self.new.spares.items (state_of self.new.carrier.bus)) }
+    {
+        let Some(conn) = conn_of(&self.carrier.posts, who) else {
+            return Ok(());
+        };
+        if up {
+            return self.move_up(conn, count);
+        }
+        self.move_down(conn, count)
+    }
+
+    /// Does a line that is not refused, and asks for no edit and no call.
+    fn do_line(&mut self, line: &Line) -> Result<(), CarryFault>
+        requires name { HasName line.now }
+        requires stage { IsStage A.is_app R.is_follower A.is_kit A.is_spare self.old.cast.apps.items self.old.cast.readers.items self.old.kits.items self.old.spares.items (state_of self.old.carrier.bus) }
+        ensures stage { OnOk result (IsStage A.is_app R.is_follower A.is_kit A.is_spare self.new.cast.apps.items self.new.cast.readers.items self.new.kits.items self.new.spares.items (state_of self.new.carrier.bus)) }
+    {
+        match line {
+            Line::Quota(quota) => self.renew(*quota),
+            Line::App(name) => self.start_app(name),
+            Line::Reader => self.start_reader(),
+            Line::Swap(app) => self.swap(*app),
+            Line::Exit(app) => self.exit_of(Party::App(*app)),
+            Line::Leave(reader) => self.exit_of(Party::Reader(*reader)),
+            Line::Bytes { party, up, count } => self.move_bytes(*party, *up, *count),
+            Line::Turns(count) => self.make_turns(*count),
+            Line::Drain => self.drain(),
+            Line::Show { reader, app } => self.show_of(*reader, *app),
+            Line::Blank | Line::Edit { .. } | Line::Call { .. } => Ok(()),
+        }
+    }
+
+    /// Does a line. Refused for the first reason that holds, and then nothing of it is done; Spent where a message of an end, or of the bus, would
+    /// pass serial 4,294,967,295; RegistryLost where the registry was dropped. Behind any but a refusal the world is not used again.
+    pub fn act(&mut self, line: &Line) -> Result<(), ActFault>
+        requires may { MayAct line.now }
+        requires stage { IsStage A.is_app R.is_follower A.is_kit A.is_spare self.old.cast.apps.items self.old.cast.readers.items self.old.kits.items self.old.spares.items (state_of self.old.carrier.bus) }
+        ensures stage { UnlessHalted result (IsStage A.is_app R.is_follower A.is_kit A.is_spare self.new.cast.apps.items self.new.cast.readers.items self.new.kits.items self.new.spares.items (state_of self.new.carrier.bus)) }
+    {
+        if let Some(why) = self.refusal(line) {
+            return Err(ActFault::Refused(why));
+        }
+        match line {
+            Line::Edit { app, edit } => self.ask_edit(*app, edit),
+            Line::Call {
+                reader,
+                app,
+                node,
+                deed,
+            } => self.ask_call(*reader, *app, *node, deed),
+            _ => match self.do_line(line) {
+                Ok(()) => Ok(()),
+                Err(halt) => Err(ActFault::from(halt)),
+            },
+        }
+    }
+}

@@ -1,0 +1,75 @@
+//! The ends of a world.
+
+ghost use Rattle.std.specs.Prelude.{All};
+
+use atspi_ends::EndFault;
+use atspi_header::MessageRef;
+use atspi_lines::Party;
+use atspi_registry::Registry;
+use atspi_stage_ends::{Application, Follower};
+use std::alloc::Global;
+
+/// The ends of a world: the registry, and the applications and readers in order of starting.
+#[derive(Drop)]
+pub struct Cast<A: Application, R: Follower> {
+    pub(crate) registry: Registry,
+    pub(crate) apps: Vec<A>,
+    pub(crate) readers: Vec<R>,
+}
+
+/// An application takes a message.
+fn take_app<A: Application>(
+    alloc: Global,
+    apps: &mut [A],
+    number: u32,
+    message: &MessageRef<'_>,
+) -> Result<(), EndFault>
+    requires { All A.is_app apps.old }
+    ensures { All A.is_app apps.new }
+{
+    let place = number as usize;
+    if place >= apps.len() {
+        return Ok(());
+    }
+    let app = &mut apps[place];
+    app.take(alloc, message)
+}
+
+/// A reader takes a message.
+fn take_reader<R: Follower>(
+    readers: &mut [R],
+    number: u32,
+    message: &MessageRef<'_>,
+) -> Result<(), EndFault>
+    requires { All R.is_follower readers.old }
+    ensures { All R.is_follower readers.new }
+{
+    let place = number as usize;
+    if place >= readers.len() {
+        return Ok(());
+    }
+    let reader = &mut readers[place];
+    reader.take(message)
+}
+
+impl<A: Application, R: Follower> Cast<A, R> {
+    /// An end takes a message.
+    pub(crate) fn take(
+        &mut self,
+        alloc: Global,
+        who: Party,
+        message: &MessageRef<'_>,
+    ) -> Result<(), EndFault>
+        requires apps { All A.is_app self.old.apps.items }
+        requires readers { All R.is_follower self.old.readers.items }
+        ensures apps { All A.is_app self.new.apps.items }
+        ensures readers { All R.is_follower self.new.readers.items }
+    {
+        match who {
+            Party::Bus => Ok(()),
+            Party::Registry => self.registry.take(message),
+            Party::App(number) => take_app(alloc, &mut self.apps, number, message),
+            Party::Reader(number) => take_reader(&mut self.readers, number, message),
+        }
+    }
+}

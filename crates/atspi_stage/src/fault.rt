@@ -1,0 +1,84 @@
+//! Why a line is not done.
+
+ghost use Rattle.std.specs.Prelude.{◌≡◌};
+ghost use Rattle.atspi_stage.specs.Faults.{of_carry, of_app, of_call};
+
+use atspi_carrying::CarryFault;
+use atspi_forest::EditFault;
+use atspi_stage_ends::{AppFault, CallFault};
+use thiserror::Error;
+
+/// Why a line of a script is refused, in the order in which it is looked for.
+#[derive(Clone, Copy, Debug, PartialEq, Eq, Error)]
+pub enum Refusal {
+    #[error("a party was not started")]
+    NoParty,
+    #[error("a party stopped")]
+    Dead,
+    #[error("16 applications were started")]
+    NoKit,
+    #[error("4 readers were started")]
+    NoReader,
+    #[error("all spare faces are used")]
+    NoSpare,
+    #[error("an end was started before")]
+    Late,
+    #[error("the application is not held")]
+    NotHeld,
+    #[error("the edit is refused: {0}")]
+    Edit(EditFault),
+}
+
+/// Why a line is not done. Behind any but a refusal the world is not used again.
+#[derive(Clone, Copy, Debug, PartialEq, Eq, Error)]
+pub enum ActFault {
+    #[error("the line is refused: {0}")]
+    Refused(Refusal),
+    /// A message of an end, or of the bus, would pass serial 4,294,967,295.
+    #[error("no number is left for a message")]
+    Spent,
+    #[error("the registry was dropped")]
+    RegistryLost,
+    /// A message breaks a rule, or passes the limits of the wire. No end sends such a one.
+    #[error("a message breaks a rule, or passes the limits of the wire")]
+    Unsendable,
+    #[error("out of memory")]
+    NoMemory,
+}
+
+impl From<CarryFault> for ActFault {
+    ghost from_gives = { λ f e. e ≡ of_carry f };
+
+    fn from(fault: CarryFault) -> ActFault {
+        match fault {
+            CarryFault::Spent => ActFault::Spent,
+            CarryFault::RegistryLost => ActFault::RegistryLost,
+            CarryFault::Unsendable => ActFault::Unsendable,
+            CarryFault::NoMemory => ActFault::NoMemory,
+        }
+    }
+}
+
+impl From<AppFault> for ActFault {
+    ghost from_gives = { λ f e. e ≡ of_app f };
+
+    fn from(fault: AppFault) -> ActFault {
+        match fault {
+            AppFault::Refused(why) => ActFault::Refused(Refusal::Edit(why)),
+            AppFault::Spent => ActFault::Spent,
+            AppFault::NoMemory => ActFault::NoMemory,
+        }
+    }
+}
+
+impl From<CallFault> for ActFault {
+    ghost from_gives = { λ f e. e ≡ of_call f };
+
+    fn from(fault: CallFault) -> ActFault {
+        match fault {
+            CallFault::NotHeld => ActFault::Refused(Refusal::NotHeld),
+            CallFault::Spent => ActFault::Spent,
+            CallFault::NoMemory => ActFault::NoMemory,
+        }
+    }
+}

@@ -1,0 +1,214 @@
+//! An end takes what comes down its link.
+
+ghost use Rattle.std.specs.Prelude.{◌≡◌, All, OnOk};
+ghost use Rattle.atspi_bus_steps.specs.Inner.{state_of};
+ghost use Rattle.atspi_stage.specs.Stage.{IsStage};
+
+use crate::cast::Cast;
+use crate::stage::Stage;
+use crate::telling::{tell_app, tell_reader, tell_registry};
+use atspi_carrying::{CarryFault, note, party_named};
+use atspi_events::Event;
+use atspi_header::MessageRef;
+use atspi_lines::Party;
+use atspi_posts::{Post, Standing};
+use atspi_stage_ends::{Application, Follower};
+use atspi_stream::{Feeder, Got};
+use std::alloc::Global;
+
+/// An end takes a message, and that is told.
+fn hand<A: Application, R: Follower>(
+    alloc: Global,
+    message: &MessageRef<'_>,
+    posts: &[Post],
+    taker: Party,
+    cast: &mut Cast<A, R>,
+    trace: &mut Vec<Event>,
+) -> Result<(), CarryFault>
+    requires apps { All A.is_app cast.old.apps.items }
+    requires readers { All R.is_follower cast.old.readers.items }
+    ensures apps { All A.is_app cast.new.apps.items }
+    ensures readers { All R.is_follower cast.new.readers.items }
+{
+    note(
+        trace,
+        Event::Got {
+            taker,
+            sender: party_named(posts, message.sender),
+            serial: message.serial,
+        },
+    )?;
+    cast.take(alloc, taker, message)?;
+    Ok(())
+}
+
+/// An end takes the message that is whole, if one is; answers whether.
+fn take_whole<A: Application, R: Follower>(
+    alloc: Global,
+    feeder: &mut Feeder,
+    posts: &[Post],
+    taker: Party,
+    cast: &mut Cast<A, R>,
+    trace: &mut Vec<Event>,
+) -> Result<bool, CarryFault>
+    requires apps { All A.is_app cast.old.apps.items }
+    requires readers { All R.is_follower cast.old.readers.items }
+    ensures apps { All A.is_app cast.new.apps.items }
+    ensures readers { All R.is_follower cast.new.readers.items }
+{
+    match feeder.next() {
+        Got::Message(message) => match hand(alloc, &message, posts, taker, cast, trace) {
+            Ok(()) => Ok(true),
+            Err(fault) => Err(fault),
+        },
+        Got::NotYet => Ok(false),
+        Got::Bad(_) => Ok(false),
+    }
+}
+
+/// What the registry did is told.
+fn tell_first(
+    registry: &mut atspi_registry::Registry,
+    posts: &mut [Post],
+    trace: &mut Vec<Event>,
+) -> Result<(), CarryFault> {
+    if posts.len() == 0 {
+        return Ok(());
+    }
+    tell_registry(registry, &mut posts[0], trace)
+}
+
+/// What an application did is told.
+pub(crate) fn tell_app_at<A: Application>(
+    apps: &mut [A],
+    number: u32,
+    posts: &mut [Post],
+    conn: u32,
+    trace: &mut Vec<Event>,
+) -> Result<(), CarryFault>
+    requires apps { All A.is_app apps.old }
+    ensures apps { All A.is_app apps.new }
+{
+    let place = number as usize;
+    let at = conn as usize;
+    if place >= apps.len() {
+        return Ok(());
+    }
+    if at >= posts.len() {
+        return Ok(());
+    }
+    tell_app(&mut apps[place], number, &mut posts[at], trace)
+}
+
+/// What a reader did is told.
+pub(crate) fn tell_reader_at<R: Follower>(
+    readers: &mut [R],
+    number: u32,
+    posts: &mut [Post],
+    conn: u32,
+    trace: &mut Vec<Event>,
+) -> Result<(), CarryFault>
+    requires readers { All R.is_follower readers.old }
+    ensures readers { All R.is_follower readers.new }
+{
+    let place = number as usize;
+    if place >= readers.len() {
+        return Ok(());
+    }
+    tell_reader(&mut readers[place], number, posts, conn, trace)
+}
+
+impl<A: Application, R: Follower> Cast<A, R> {
+    /// What an end did is told.
+    pub(crate) fn tell(
+        &mut self,
+        who: Party,
+        posts: &mut [Post],
+        conn: u32,
+        trace: &mut Vec<Event>,
+    ) -> Result<(), CarryFault>
+        requires apps { All A.is_app self.old.apps.items }
+        requires readers { All R.is_follower self.old.readers.items }
+        ensures apps { All A.is_app self.new.apps.items }
+        ensures readers { All R.is_follower self.new.readers.items }
+    {
+        match who {
+            Party::Bus => Ok(()),
+            Party::Registry => tell_first(&mut self.registry, posts, trace),
+            Party::App(number) => tell_app_at(&mut self.apps, number, posts, conn, trace),
+            Party::Reader(number) => {
+                tell_reader_at(&mut self.readers, number, posts, conn, trace)
+            }
+        }
+    }
+}
+
+impl<A: Application, R: Follower> Stage<A, R> {
+    /// An end takes the message that is whole at it, if one is; answers whether.
+    pub(crate) fn get(&mut self, conn: u32) -> Result<bool, CarryFault>
+        requires stage { IsStage A.is_app R.is_follower A.is_kit A.is_spare self.old.cast.apps.items self.old.cast.readers.items self.old.kits.items self.old.spares.items (state_of self.old.carrier.bus) }
+        ensures stage { IsStage A.is_app R.is_follower A.is_kit A.is_spare self.new.cast.apps.items self.new.cast.readers.items self.new.kits.items self.new.spares.items (state_of self.new.carrier.bus) }
+    {
+        let place = conn as usize;
+        if place >= self.carrier.posts.len() {
+            return Ok(false);
+        }
+        if place >= self.carrier.at_end.len() {
+            return Ok(false);
+        }
+        let taker = self.carrier.posts[place].who;
+        let took = take_whole(
+            self.carrier.alloc,
+            &mut self.carrier.at_end[place],
+            &self.carrier.posts,
+            taker,
+            &mut self.cast,
+            &mut self.carrier.trace,
+        )?;
+        self.cast.tell(
+            taker,
+            &mut self.carrier.posts,
+            conn,
+            &mut self.carrier.trace,
+        )?;
+        Ok(took)
+    }
+
+    /// Whether the end of a connection is there.
+    fn is_here(&self, conn: u32) -> bool {
+        match self.carrier.posts.get(conn as usize) {
+            Some(post) => post.standing == Standing::Here,
+            None => false,
+        }
+    }
+
+    /// Moves at most so many bytes of a down link; the end takes what they complete.
+    pub(crate) fn move_down(&mut self, conn: u32, most: u32) -> Result<(), CarryFault>
+        requires stage { IsStage A.is_app R.is_follower A.is_kit A.is_spare self.old.cast.apps.items self.old.cast.readers.items self.old.kits.items self.old.spares.items (state_of self.old.carrier.bus) }
+        ensures stage { OnOk result (IsStage A.is_app R.is_follower A.is_kit A.is_spare self.new.cast.apps.items self.new.cast.readers.items self.new.kits.items self.new.spares.items (state_of self.new.carrier.bus)) }
+    {
+        if !self.is_here(conn) {
+            return Ok(());
+        }
+        let mut left = most as usize;
+        // each message has a byte that was not moved yet
+        for _message in 0..most {
+            let moved = self.carrier.fill(conn, left)?;
+            left -= moved;
+            if !self.get(conn)? {
+                return Ok(());
+            }
+        }
+        Ok(())
+    }
+
+    /// An end takes the first message of its down link.
+    pub(crate) fn take_next(&mut self, conn: u32) -> Result<(), CarryFault>
+        requires stage { IsStage A.is_app R.is_follower A.is_kit A.is_spare self.old.cast.apps.items self.old.cast.readers.items self.old.kits.items self.old.spares.items (state_of self.old.carrier.bus) }
+        ensures stage { OnOk result (IsStage A.is_app R.is_follower A.is_kit A.is_spare self.new.cast.apps.items self.new.cast.readers.items self.new.kits.items self.new.spares.items (state_of self.new.carrier.bus)) }
+    {
+        self.carrier.fill(conn, usize::MAX)?;
+        self.get(conn)?;
+        Ok(())
+    }
+}

@@ -1,0 +1,35 @@
+//! The world: its ends, what lies between them, and what is left for further ends.
+
+use crate::cast::Cast;
+use atspi_carrying::Carrier;
+use atspi_events::Event;
+use atspi_stage_ends::{Application, Follower};
+
+/// A world over applications and readers of these types.
+#[derive(Drop)]
+pub struct Stage<A: Application, R: Follower> {
+    pub(crate) carrier: Carrier,
+    pub(crate) cast: Cast<A, R>,
+    /// The next is the last.
+    pub(crate) kits: Vec<A::Kit>,
+    /// The next is the last.
+    pub(crate) spares: Vec<A::Spare>,
+}
+
+impl<A: Application, R: Follower> Stage<A, R> {
+    /// All that happened, the oldest first.
+    pub fn trace(&self) -> &[Event] {
+        &self.carrier.trace
+    }
+
+    /// The reader with this number, counted from 0 in order of starting, as it is, or as it was when it stopped. None exactly where none of that
+    /// number was started. Takes no memory.
+    pub fn reader(&self, reader: u32) -> Option<&R> {
+        self.cast.readers.get(reader as usize)
+    }
+
+    /// The application with this number, in the same way.
+    pub fn app(&self, app: u32) -> Option<&A> {
+        self.cast.apps.get(app as usize)
+    }
+}

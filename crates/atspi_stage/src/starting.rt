@@ -1,0 +1,142 @@
+//! The beginning of a world, and the starts of ends.
+
+ghost use Rattle.std.specs.Prelude.{◌<◌, length, All, IfOk, OnOk};
+ghost use Rattle.atspi_forest.specs.Row.{IsName};
+ghost use Rattle.atspi_bus_steps.specs.Inner.{state_of};
+ghost use Rattle.atspi_stage.specs.Stage.{IsStage};
+
+use crate::cast::Cast;
+use crate::getting::{tell_app_at, tell_reader_at};
+use crate::stage::Stage;
+use atspi_base::Text;
+use atspi_carrying::{Carrier, CarryFault, note};
+use atspi_events::Event;
+use atspi_lines::{Party, QUOTA_MOST};
+use atspi_registry::Registry;
+use atspi_stage_ends::{Application, Follower};
+use std::alloc::Global;
+
+/// How many turns the registry's start takes at most.
+const START_TURNS: u32 = 64;
+
+impl<A: Application, R: Follower> Stage<A, R> {
+    /// A world over these kits and spare faces, the last of which come first. Its bus and its registry are started. Its one refusal is want of memory.
+    pub fn new(
+        alloc: Global,
+        kits: Vec<A::Kit>,
+        spares: Vec<A::Spare>,
+    ) -> Result<Stage<A, R>, CarryFault>
+        requires kits { All A.is_kit kits.items }
+        requires spares { All A.is_spare spares.items }
+        ensures stage { IfOk result (λ stage. IsStage A.is_app R.is_follower A.is_kit A.is_spare stage.cast.apps.items stage.cast.readers.items stage.kits.items stage.spares.items (state_of stage.carrier.bus)) }
+    {
+        let mut stage = Stage {
+            carrier: Carrier::new(alloc, QUOTA_MOST),
+            cast: Cast {
+                registry: Registry::new(alloc)?,
+                apps: Vec::new(alloc),
+                readers: Vec::new(alloc),
+            },
+            kits,
+            spares,
+        };
+        stage.begin()?;
+        Ok(stage)
+    }
+
+    /// The registry joins the bus and starts, and nothing of that is told.
+    fn begin(&mut self) -> Result<(), CarryFault>
+        requires stage { IsStage A.is_app R.is_follower A.is_kit A.is_spare self.old.cast.apps.items self.old.cast.readers.items self.old.kits.items self.old.spares.items (state_of self.old.carrier.bus) }
+        ensures stage { OnOk result (IsStage A.is_app R.is_follower A.is_kit A.is_spare self.new.cast.apps.items self.new.cast.readers.items self.new.kits.items self.new.spares.items (state_of self.new.carrier.bus)) }
+    {
+        let conn = self.carrier.join(Party::Registry)?;
+        self.cast.registry.start()?;
+        self.cast.tell(
+            Party::Registry,
+            &mut self.carrier.posts,
+            conn,
+            &mut self.carrier.trace,
+        )?;
+        self.turns(START_TURNS)?;
+        self.carrier.trace.clear();
+        Ok(())
+    }
+
+    /// The bus and the registry are made anew with this quota.
+    pub(crate) fn renew(&mut self, quota: u32) -> Result<(), CarryFault>
+        requires stage { IsStage A.is_app R.is_follower A.is_kit A.is_spare self.old.cast.apps.items self.old.cast.readers.items self.old.kits.items self.old.spares.items (state_of self.old.carrier.bus) }
+        ensures stage { OnOk result (IsStage A.is_app R.is_follower A.is_kit A.is_spare self.new.cast.apps.items self.new.cast.readers.items self.new.kits.items self.new.spares.items (state_of self.new.carrier.bus)) }
+    {
+        let alloc = self.carrier.alloc;
+        let fresh = Carrier::new(alloc, quota);
+        let before = std::mem::replace(&mut self.carrier, fresh);
+        self.cast.registry = Registry::new(alloc)?;
+        self.begin()?;
+        self.carrier.trace = before.trace;
+        Ok(())
+    }
+
+    /// An application starts, with the name of its root, where a kit is left.
+    pub(crate) fn start_app(&mut self, name: &Text) -> Result<(), CarryFault>
+        requires name { IsName name.now }
+        requires stage { IsStage A.is_app R.is_follower A.is_kit A.is_spare self.old.cast.apps.items self.old.cast.readers.items self.old.kits.items self.old.spares.items (state_of self.old.carrier.bus) }
+        ensures stage { OnOk result (IsStage A.is_app R.is_follower A.is_kit A.is_spare self.new.cast.apps.items self.new.cast.readers.items self.new.kits.items self.new.spares.items (state_of self.new.carrier.bus)) }
+    {
+        match self.kits.pop() {
+            Some(kit) => self.add_app(name, kit),
+            None => Ok(()),
+        }
+    }
+
+    /// An application starts over a kit.
+    fn add_app(&mut self, name: &Text, kit: A::Kit) -> Result<(), CarryFault>
+        requires stage { IsStage A.is_app R.is_follower A.is_kit A.is_spare self.old.cast.apps.items self.old.cast.readers.items self.old.kits.items self.old.spares.items (state_of self.old.carrier.bus) }
+        requires name { IsName name.now }
+        requires kit { A.is_kit kit }
+        ensures stage { OnOk result (IsStage A.is_app R.is_follower A.is_kit A.is_spare self.new.cast.apps.items self.new.cast.readers.items self.new.kits.items self.new.spares.items (state_of self.new.carrier.bus)) }
+    {
+        let alloc = self.carrier.alloc;
+        let number = u32::try_from(self.cast.apps.len()).unwrap_or(u32::MAX);
+        let who = Party::App(number);
+        let told = name.copy(alloc)?;
+        note(
+            &mut self.carrier.trace,
+            Event::Start {
+                who,
+                name: Some(told),
+            },
+        )?;
+        let mut app = A::new(alloc, name.copy(alloc)?, kit)?;
+        app.start(alloc)?;
+        self.cast.apps.push(app)?;
+        let conn = self.carrier.join(who)?;
+        tell_app_at(
+            &mut self.cast.apps,
+            number,
+            &mut self.carrier.posts,
+            conn,
+            &mut self.carrier.trace,
+        )
+    }
+
+    /// A reader starts.
+    pub(crate) fn start_reader(&mut self) -> Result<(), CarryFault>
+        requires stage { IsStage A.is_app R.is_follower A.is_kit A.is_spare self.old.cast.apps.items self.old.cast.readers.items self.old.kits.items self.old.spares.items (state_of self.old.carrier.bus) }
+        ensures stage { OnOk result (IsStage A.is_app R.is_follower A.is_kit A.is_spare self.new.cast.apps.items self.new.cast.readers.items self.new.kits.items self.new.spares.items (state_of self.new.carrier.bus)) }
+    {
+        let number = u32::try_from(self.cast.readers.len()).unwrap_or(u32::MAX);
+        let who = Party::Reader(number);
+        note(&mut self.carrier.trace, Event::Start { who, name: None })?;
+        let mut reader = R::new(self.carrier.alloc)?;
+        reader.start()?;
+        self.cast.readers.push(reader)?;
+        let conn = self.carrier.join(who)?;
+        tell_reader_at(
+            &mut self.cast.readers,
+            number,
+            &mut self.carrier.posts,
+            conn,
+            &mut self.carrier.trace,
+        )
+    }
+}

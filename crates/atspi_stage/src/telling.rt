@@ -1,0 +1,125 @@
+//! What ends did, put on their links and into the trace.
+
+ghost use Rattle.std.specs.Prelude.{◌≡◌, ◌++◌, [], map, OnOk, OnErr, All};
+
+use atspi_carrying::{CarryFault, named_app, note, send};
+use atspi_events::Event;
+use atspi_following::ReaderEvent;
+use atspi_happenings::AppEvent;
+use atspi_lines::Party;
+use atspi_message::Message;
+use atspi_posts::Post;
+use atspi_registry::Registry;
+use atspi_stage_ends::{Application, Follower};
+
+/// What the registry queued is sent.
+pub(crate) fn tell_registry(
+    registry: &mut Registry,
+    post: &mut Post,
+    trace: &mut Vec<Event>,
+) -> Result<(), CarryFault> {
+    while let Some(message) = registry.next() {
+        send(post, Party::Registry, message, trace)?;
+    }
+    Ok(())
+}
+
+/// One thing that an application did.
+fn tell_event(
+    event: AppEvent,
+    app: u32,
+    post: &mut Post,
+    trace: &mut Vec<Event>,
+) -> Result<(), CarryFault> {
+    match event {
+        AppEvent::Send(message) => send(post, Party::App(app), message, trace),
+        AppEvent::Step(step) => note(trace, Event::Step { app, step }),
+        AppEvent::Hears(listener, pattern) => note(
+            trace,
+            Event::Hears {
+                app,
+                listener,
+                pattern,
+            },
+        ),
+        AppEvent::Deaf(listener, pattern) => note(
+            trace,
+            Event::Deaf {
+                app,
+                listener,
+                pattern,
+            },
+        ),
+    }
+}
+
+/// What an application queued is told, and its messages are sent.
+pub(crate) fn tell_app<A: Application>(
+    app: &mut A,
+    number: u32,
+    post: &mut Post,
+    trace: &mut Vec<Event>,
+) -> Result<(), CarryFault>
+    requires app { A.is_app app.old }
+    ensures app { A.is_app app.new }
+{
+    while let Some(event) = app.next() {
+        tell_event(event, number, post, trace)?;
+    }
+    Ok(())
+}
+
+/// A message of a connection's end is sent, if it is there.
+fn send_at(
+    posts: &mut [Post],
+    conn: u32,
+    who: Party,
+    message: Message,
+    trace: &mut Vec<Event>,
+) -> Result<(), CarryFault> {
+    let place = conn as usize;
+    if place >= posts.len() {
+        return Ok(());
+    }
+    send(&mut posts[place], who, message, trace)
+}
+
+/// One thing that a reader did.
+fn tell_deed(
+    event: ReaderEvent,
+    reader: u32,
+    posts: &mut [Post],
+    conn: u32,
+    trace: &mut Vec<Event>,
+) -> Result<(), CarryFault> {
+    match event {
+        ReaderEvent::Send(message) => {
+            send_at(posts, conn, Party::Reader(reader), message, trace)
+        }
+        ReaderEvent::Say(name, text) => match named_app(posts, name.as_str()) {
+            Some(app) => note(trace, Event::Say { reader, app, text }),
+            None => Ok(()),
+        },
+        ReaderEvent::Gone(name) => match named_app(posts, name.as_str()) {
+            Some(app) => note(trace, Event::Gone { reader, app }),
+            None => Ok(()),
+        },
+    }
+}
+
+/// What a reader queued is told, and its messages are sent.
+pub(crate) fn tell_reader<R: Follower>(
+    reader: &mut R,
+    number: u32,
+    posts: &mut [Post],
+    conn: u32,
+    trace: &mut Vec<Event>,
+) -> Result<(), CarryFault>
+    requires is { R.is_follower reader.old }
+    ensures is { R.is_follower reader.new }
+{
+    while let Some(event) = reader.next() {
+        tell_deed(event, number, posts, conn, trace)?;
+    }
+    Ok(())
+}
