@@ -1,4 +1,5 @@
 //! The numbers of messages along lawful traces.
 #![tactic(auto)]
 
+pub mod examples;
 pub mod laws;
