@@ -1,47 +1,32 @@
 -- The bus takes the messages of each end in the order in which they were sent.
-use Rattle.std.proofs.Common.{◌≡◌, ◌⊎◌, inl, inr, ℕ, zero, suc, ◌+◌, ◌<◌, ◌≤◌, Bool, true, false, List, [], ◌∷◌, ◌++◌, length, map, None, Some, refl, sym, ap, ◌∙◌, subst, arith, is_some, length-append}
-use Rattle.std.specs.Prelude.{Option, nat_lt, if◌then◌else◌}
+use Rattle.std.proofs.Common.{◌≡◌, ◌⊎◌, inl, inr, ℕ, suc, ◌+◌, Bool, true, false, List, [], ◌∷◌, ◌++◌, length, map, Some, refl, sym, ap, ◌∙◌, subst, arith, is_some, length-append}
 use Rattle.std.specs.List.{AllByRecursion}
-use Rattle.std.proofs.lemmas.Bool.{ltb-false}
-use Rattle.std.proofs.lemmas.List.{append-nil}
-use Rattle.atspi_lines.specs.declared.line.Line.{Line}
 use Rattle.atspi_lines.specs.declared.line.Party.{Party}
 use Rattle.atspi_lines.specs.declared.line.Party.TheVariants.{Bus as The_bus, Registry, App, Reader}
 use Rattle.atspi_message.specs.Envelope.{Envelope}
 use Rattle.atspi_routing.specs.declared.closing.Closing.{Closing}
-use Rattle.atspi_exporting.specs.Exporter.{Happening, steps, sends, hears, deaf, begins as begins_app}
-use Rattle.atspi_exporting.specs.Starting.{starts}
-use Rattle.atspi_following.specs.declared.question.Question.{Question}
-use Rattle.atspi_trace.specs.Entry.{Entry, started, changed, sent, got, heard, unheard, spoke, showed, exited, gone, dropped, busy, quiet}
-use Rattle.atspi_trace.specs.World.{Role, Said, Letter, End, World, first_registry, first_world}
-use Rattle.atspi_trace.specs.Ends.{is_here, same_party, number_of, party_at, end_at, with_end, rest_of, taken_up}
+use Rattle.atspi_exporting.specs.Exporter.{Happening, steps, sends, hears, deaf}
+use Rattle.atspi_trace.specs.Entry.{Entry, sent, got, dropped}
+use Rattle.atspi_trace.specs.World.{Role, End, World}
+use Rattle.atspi_trace.specs.Ends.{is_here, same_party, party_at, end_at, with_end, rest_of, taken_up}
 use Rattle.atspi_trace.specs.Carrying as carrying
 use Rattle.atspi_trace.specs.Carrying.{bus_entries}
-use Rattle.atspi_trace.specs.Hearing.{heard_entries}
-use Rattle.atspi_trace.specs.Causes.{Done, only, at_end, did, app_starts, reader_starts, bus_did}
-use Rattle.atspi_trace.specs.Due.{asks_at, begins, Goes}
-use Rattle.atspi_trace_laws.specs.Words.{messages, message, with_serial}
-use Rattle.atspi_trace_laws.specs.NineLaws.{Everywhere, sent_before, is_got_by_bus, count_got_by_bus}
-use Rattle.atspi_trace_order.specs.Scripts.{CanAllStand}
-use Rattle.atspi_trace_order.proofs.Parties.{no_none, same_some, same-party, party-same, false_true, all_append}
+use Rattle.atspi_trace.specs.Causes.{Done, did}
+use Rattle.atspi_trace_laws.specs.Words.{messages, message}
+use Rattle.atspi_trace_laws.specs.NineLaws.{sent_before, is_got_by_bus, count_got_by_bus}
+use Rattle.atspi_trace_order.proofs.Parties.{same_some, same-party, party-same}
 use Rattle.atspi_trace_order.proofs.BusWords.{all_any, bus_all}
-use Rattle.atspi_trace_order.proofs.Allowed.{MovedUp, MovedDown, Asks}
-use Rattle.atspi_trace_order.proofs.Frame.{Over, with_cases, over_same, joined_cases}
+use Rattle.atspi_trace_order.proofs.Frame.{Over, with_cases, joined_cases}
 use Rattle.atspi_trace_order.proofs.Shape.{RoleFits, Shape}
-use Rattle.atspi_trace_order.proofs.Effects.{BusTakes, Effect, resets, app_joins, reader_joins, app_edited, app_took, reader_called, swapped, exited_, showed_, told_busy, told_quiet, bus_took, bus_ended, registry_took, reader_took}
-use Rattle.atspi_trace_order.proofs.Shaped.{new_app, new_reader, app_joined, bus_takes_over}
-use Rattle.atspi_trace_order.proofs.Along.{Keeps, kept}
-use Rattle.atspi_trace_order.proofs.Growing.{Grows, Shaped, And, grown}
-use Rattle.atspi_trace_order.proofs.Each.{Each, everywhere, each_more, each_of, all_map}
-use Rattle.atspi_trace_order.proofs.Acts.{Act, heard_act}
-use Rattle.atspi_trace_order.proofs.Steps.{TreeIs, Trees}
-use Rattle.atspi_trace_order.proofs.LawSteps.{Below, Stepped}
+use Rattle.atspi_trace_order.proofs.Effects.{BusTakes}
+use Rattle.atspi_trace_order.proofs.Shaped.{bus_takes_over}
+use Rattle.atspi_trace_order.proofs.Each.{Each, each_more, each_of}
+use Rattle.atspi_trace_order.proofs.Acts.{Act}
 use Rattle.atspi_trace_serials.proofs.Speaking.{next_of}
-use Rattle.atspi_trace_serials.proofs.Numbers.{AreNext, IsFresh, Numbered, known_not_fresh, fresh_over}
-use Rattle.atspi_trace_serials.proofs.LawNumbers.{numbers_keep}
+use Rattle.atspi_trace_serials.proofs.Numbers.{IsFresh, Numbered, known_not_fresh, fresh_over}
 use Rattle.atspi_trace_links.specs.Laws.{IsTakenInOrder}
-use Rattle.atspi_trace_links.proofs.Ups.{Ups, ups_append, Grew, UpMore, up_more, was_sent}
-use Rattle.atspi_trace_links.proofs.Lifting.{edit_lifts, take_lifts, registry_lifts, call_lifts, reader_lifts, stopping_lifts, ended_lifts, takes_lifts, asked_lifts, moved_lifts}
+use Rattle.atspi_trace_links.proofs.Ups.{Ups, ups_append, Grew, UpMore, was_sent}
+use Rattle.atspi_trace_links.proofs.Lifting.{takes_lifts}
 
 -- entries in which the bus takes nothing
 abbrev pub NotTaken : Entry → Type 0

@@ -1,36 +1,32 @@
 -- What each cause puts on up links.
-use Rattle.std.proofs.Common.{◌≡◌, ◌⊎◌, inl, inr, ℕ, zero, suc, ◌+◌, ◌<◌, ◌≤◌, Bool, true, false, List, [], ◌∷◌, ◌++◌, length, map, None, Some, refl, sym, ap, ◌∙◌, subst, arith}
-use Rattle.std.specs.Prelude.{Option, Result, Ok, Err}
-use Rattle.std.specs.List.{AllByRecursion}
-use Rattle.atspi_forest.specs.declared.edit.Edit.{Edit}
+use Rattle.std.proofs.Common.{◌≡◌, ◌⊎◌, inl, inr, ℕ, suc, ◌+◌, List, [], ◌∷◌, ◌++◌, length, map, None, refl, sym, ap, ◌∙◌, subst, arith}
 use Rattle.atspi_lines.specs.declared.line.Party.{Party}
-use Rattle.atspi_lines.specs.declared.line.Party.TheVariants.{Bus as The_bus, Registry, App, Reader}
 use Rattle.atspi_message.specs.Envelope.{Envelope}
 use Rattle.atspi_ends.specs.Messages.{numbered}
 use Rattle.atspi_registering.specs.Steps.{registry_takes}
 use Rattle.atspi_routing.specs.Queues.{Bus}
 use Rattle.atspi_routing.specs.Steps.{bus_takes}
 use Rattle.atspi_exporting.specs.Exporter.{Exporter}
-use Rattle.atspi_exporting.specs.Taking.{app_edits, app_takes}
-use Rattle.atspi_exporting.specs.Laws.{numbers_among, rising, Counts}
+use Rattle.atspi_exporting.specs.Taking.{app_takes}
+use Rattle.atspi_exporting.specs.Laws.{Counts}
 use Rattle.atspi_exporting.proofs.Rising.{numbers_rise}
 use Rattle.atspi_following.specs.Calls.{user_call}
 use Rattle.atspi_following.specs.declared.question.Question.{Question}
 use Rattle.atspi_trace.specs.Rules.{rule_in}
-use Rattle.atspi_trace.specs.World.{Role, the_registry, an_application, a_reader, Letter, Said, Hearer, End, World}
-use Rattle.atspi_trace.specs.Ends.{is_here, end_at, with_end, plain, put_up, put_down, taken_up, taken_down, stops, leaves}
+use Rattle.atspi_trace.specs.World.{an_application, a_reader, Letter, Said, Hearer, End, World}
+use Rattle.atspi_trace.specs.Ends.{is_here, with_end, plain, put_down, taken_up, taken_down, stops, leaves}
 use Rattle.atspi_trace.specs.Hearing.{hears_letter}
-use Rattle.atspi_trace.specs.Carrying.{Carried, own_letter, letter_of, stepped, settled, named, with_name, takes, takes_end}
+use Rattle.atspi_trace.specs.Carrying.{Carried, own_letter, letter_of, stepped, named, with_name, takes}
 use Rattle.atspi_trace.specs.Causes.{Done, at_end, has_done, reader_sends, registry_did, saids, asks}
 use Rattle.atspi_trace.specs.Due.{asks_as, asks_at}
-use Rattle.atspi_trace_order.proofs.Parties.{same_some, false_true}
+use Rattle.atspi_trace_order.proofs.Parties.{false_true}
 use Rattle.atspi_trace_order.proofs.Allowed.{MovedUp, MovedDown, Asks}
-use Rattle.atspi_trace_order.proofs.Frame.{Over, IsOrder, over_same, over_both, over_with, over_at, stepped_over, settled_over, ends_over}
-use Rattle.atspi_trace_order.proofs.Effects.{received, AppEdits, AppTakes, ReaderCalls, Stopping, BusTakes, BusEnds, RegistryTakes, ReaderTakes}
+use Rattle.atspi_trace_order.proofs.Frame.{Over, over_both, over_with, over_at, stepped_over, settled_over, ends_over}
+use Rattle.atspi_trace_order.proofs.Effects.{received, AppEdits, AppTakes, ReaderCalls, Stopping, BusEnds, RegistryTakes, ReaderTakes}
 use Rattle.atspi_trace_order.proofs.Shaped.{received_at}
 use Rattle.atspi_trace_serials.proofs.Speaking.{next_of, IsNumbered, registry_numbered}
 use Rattle.atspi_trace_serials.proofs.Causing.{numbers_of, counted}
-use Rattle.atspi_trace_links.proofs.Ups.{Ups, saids_rise, plains_rise, Grew, UpMore, up_more, up_alike}
+use Rattle.atspi_trace_links.proofs.Ups.{Ups, saids_rise, plains_rise, UpMore, up_more, up_alike}
 
 put_alike : (letter : Letter) (e : End) → UpMore e (put_down letter e)
 put_alike letter e = up_alike e (put_down letter e) refl (λ h. h) refl refl

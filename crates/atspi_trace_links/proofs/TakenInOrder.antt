@@ -1,29 +1,23 @@
 -- The law of what the bus takes, along a lawful trace.
-use Rattle.std.proofs.Common.{◌≡◌, ◌⊎◌, inl, inr, ℕ, zero, suc, ◌+◌, ◌≤◌, Bool, true, false, List, [], ◌∷◌, ◌++◌, length, map, None, Some, refl, sym, ap, ◌∙◌, subst, arith}
-use Rattle.std.specs.Prelude.{Option, nat_lt}
+use Rattle.std.proofs.Common.{◌≡◌, ◌⊎◌, inl, inr, ℕ, zero, suc, ◌+◌, ◌≤◌, false, List, [], ◌∷◌, ◌++◌, length, Some, refl, sym, ap, ◌∙◌, subst, arith}
+use Rattle.std.specs.Prelude.{nat_lt}
 use Rattle.std.specs.List.{AllByRecursion}
 use Rattle.std.proofs.lemmas.Bool.{ltb-false}
 use Rattle.std.proofs.lemmas.List.{append-nil}
 use Rattle.atspi_lines.specs.declared.line.Line.{Line}
-use Rattle.atspi_lines.specs.declared.line.Party.{Party}
-use Rattle.atspi_lines.specs.declared.line.Party.TheVariants.{Bus as The_bus, Registry, App, Reader}
-use Rattle.atspi_message.specs.Envelope.{Envelope}
+use Rattle.atspi_lines.specs.declared.line.Party.TheVariants.{Bus as The_bus, Reader}
 use Rattle.atspi_registering.specs.Steps.{registry_takes}
-use Rattle.atspi_exporting.specs.Exporter.{begins as begins_app}
-use Rattle.atspi_exporting.specs.Starting.{starts}
 use Rattle.atspi_exporting.specs.Taking.{app_takes}
-use Rattle.atspi_following.specs.declared.question.Question.{Question}
 use Rattle.atspi_trace.specs.Entry.{Entry, sent, got}
 use Rattle.atspi_trace.specs.World.{End, World, first_registry, first_world}
-use Rattle.atspi_trace.specs.Ends.{is_here, number_of, end_at, app_count, reader_count}
+use Rattle.atspi_trace.specs.Ends.{number_of, end_at, app_count, reader_count}
 use Rattle.atspi_trace.specs.Carrying as carrying
 use Rattle.atspi_trace.specs.Hearing.{heard_entries}
-use Rattle.atspi_trace.specs.Causes.{Done, only, at_end, did, app_starts, reader_starts}
+use Rattle.atspi_trace.specs.Causes.{Done, only, at_end, app_starts, reader_starts}
 use Rattle.atspi_trace.specs.Due.{asks_at, begins, Goes}
 use Rattle.atspi_trace_laws.specs.NineLaws.{Everywhere, sent_before}
 use Rattle.atspi_trace_order.specs.Scripts.{CanAllStand}
 use Rattle.atspi_trace_order.proofs.Parties.{no_none, same_some}
-use Rattle.atspi_trace_order.proofs.Allowed.{MovedUp, MovedDown, Asks}
 use Rattle.atspi_trace_order.proofs.Frame.{Over, over_same}
 use Rattle.atspi_trace_order.proofs.Shape.{Shape}
 use Rattle.atspi_trace_order.proofs.Effects.{received, Effect, resets, app_joins, reader_joins, app_edited, app_took, reader_called, swapped, exited_, showed_, told_busy, told_quiet, bus_took, bus_ended, registry_took, reader_took}
@@ -32,10 +26,9 @@ use Rattle.atspi_trace_order.proofs.Along.{Keeps, kept}
 use Rattle.atspi_trace_order.proofs.Growing.{Grows, Shaped, And, grown}
 use Rattle.atspi_trace_order.proofs.Each.{Each, everywhere, all_map}
 use Rattle.atspi_trace_order.proofs.Acts.{Act, heard_act}
-use Rattle.atspi_trace_order.proofs.Steps.{TreeIs, Trees}
+use Rattle.atspi_trace_order.proofs.Steps.{Trees}
 use Rattle.atspi_trace_order.proofs.LawSteps.{Below, Stepped}
-use Rattle.atspi_trace_serials.proofs.Speaking.{next_of}
-use Rattle.atspi_trace_serials.proofs.Numbers.{IsFresh, Numbered, Speaks, Hushed}
+use Rattle.atspi_trace_serials.proofs.Numbers.{Numbered}
 use Rattle.atspi_trace_serials.proofs.Causing.{edit_speaks, take_speaks, registry_speaks, call_speaks}
 use Rattle.atspi_trace_serials.proofs.Hushing.{same_hushed, bus_ended_hushed, stopping_hushed, reader_hushed, app_speaks, reader_speaks, own_speaks, moved_hushed}
 use Rattle.atspi_trace_serials.proofs.LawNumbers.{numbers_keep}

@@ -1,8 +1,8 @@
 -- Up links: the messages on one have serials that rise by one up to the sender's next.
-use Rattle.std.proofs.Common.{◌≡◌, ◌⊎◌, inl, inr, ℕ, zero, suc, ◌+◌, ◌<◌, ◌≤◌, Bool, true, false, List, [], ◌∷◌, ◌++◌, length, map, None, Some, refl, sym, ap, ◌∙◌, subst, arith, length-append, is_some}
+use Rattle.std.proofs.Common.{◌≡◌, ℕ, zero, suc, ◌+◌, ◌<◌, ◌≤◌, Bool, true, false, List, [], ◌∷◌, ◌++◌, length, map, None, Some, refl, sym, ap, ◌∙◌, subst, arith, length-append, is_some}
 use Rattle.std.specs.Prelude.{Option, ◌==◌, if◌then◌else◌}
 use Rattle.std.specs.List.{cons_option}
-use Rattle.std.proofs.lemmas.Bool.{eqb-true, eq-eqb, ne_eqb}
+use Rattle.std.proofs.lemmas.Bool.{eq-eqb}
 use Rattle.std.proofs.lemmas.List.{append-nil, append_assoc}
 use Rattle.atspi_forest.specs.declared.step.Step.{Step}
 use Rattle.atspi_forest.specs.Forest.{Forest}
@@ -21,9 +21,9 @@ use Rattle.atspi_trace.specs.Entry.{Entry, sent}
 use Rattle.atspi_trace.specs.World.{Said, End}
 use Rattle.atspi_trace.specs.Ends.{is_here, same_party, plain}
 use Rattle.atspi_trace.specs.Causes.{saids, announced_if}
-use Rattle.atspi_trace_laws.specs.Words.{sent_by, messages, with_serial}
+use Rattle.atspi_trace_laws.specs.Words.{messages, with_serial}
 use Rattle.atspi_trace_laws.specs.NineLaws.{sent_before}
-use Rattle.atspi_trace_order.proofs.Parties.{same-party, party-same, false_true}
+use Rattle.atspi_trace_order.proofs.Parties.{same-party, false_true}
 use Rattle.atspi_trace_order.proofs.Frame.{IsOrder}
 use Rattle.atspi_trace_order.proofs.Each.{Each}
 use Rattle.atspi_trace_serials.specs.Laws.{HasNextNumber}

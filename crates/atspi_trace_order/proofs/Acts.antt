@@ -1,12 +1,10 @@
 -- Whose entries a cause writes: the bus's, those of an end that is here, and those of one that joins; and who is dropped is gone.
-use Rattle.std.proofs.Common.{◌≡◌, ◌⊎◌, inl, inr, ℕ, zero, suc, Bool, true, false, List, [], ◌∷◌, ◌++◌, length, map, None, Some, refl, sym, ap, ◌∙◌, subst}
-use Rattle.std.specs.Prelude.{Option, filter, not, if◌then◌else◌}
+use Rattle.std.proofs.Common.{◌≡◌, ◌⊎◌, inl, inr, ℕ, List, [], ◌∷◌, ◌++◌, length, map, None, Some, refl, sym, ap, ◌∙◌, subst}
+use Rattle.std.specs.Prelude.{Option}
 use Rattle.std.specs.List.{AllByRecursion}
 use Rattle.atspi_lines.specs.declared.line.Party.{Party}
 use Rattle.atspi_lines.specs.declared.line.Party.TheVariants.{Bus as The_bus, Registry, App, Reader}
 use Rattle.atspi_message.specs.Envelope.{Envelope}
-use Rattle.atspi_routing.specs.declared.closing.Why.{Why}
-use Rattle.atspi_routing.specs.declared.closing.Why.TheVariants.{NotHello, Quota}
 use Rattle.atspi_routing.specs.declared.closing.Closing.{Closing}
 use Rattle.atspi_exporting.specs.Exporter.{Happening, steps, sends, hears, deaf, begins}
 use Rattle.atspi_exporting.specs.Starting.{starts}
@@ -14,7 +12,7 @@ use Rattle.atspi_exporting.specs.Taking.{app_takes}
 use Rattle.atspi_registering.specs.Steps.{registry_takes}
 use Rattle.atspi_trace.specs.Entry.{Entry, started, changed, sent, got, spoke, exited, dropped}
 use Rattle.atspi_trace.specs.World.{here, Hearer, Letter, End, World, an_application, newcomer}
-use Rattle.atspi_trace.specs.Ends.{same_party, number_of, whose, party_at, end_at, app_count, reader_count, put_up, taken_down}
+use Rattle.atspi_trace.specs.Ends.{number_of, whose, party_at, end_at, app_count, put_up, taken_down}
 use Rattle.atspi_trace.specs.Hearing.{holding_of, app_ended, lines_if_held, last_lines, ended_entries, heard_entries}
 use Rattle.atspi_trace.specs.Carrying as carrying
 use Rattle.atspi_trace.specs.Carrying.{sent_by_bus, is_upto, dropped_if, bus_entries}

@@ -1,6 +1,6 @@
 -- What is known where a cause is done, and of a world after bytes that complete no message.
-use Rattle.std.proofs.Common.{◌≡◌, ◌⊎◌, ℕ, zero, suc, Bool, true, false, List, [], ◌∷◌, length, None, Some, refl}
-use Rattle.std.specs.Prelude.{Option, nat_lt, ◌<◌}
+use Rattle.std.proofs.Common.{◌≡◌, ◌⊎◌, ℕ, true, false, List, ◌∷◌, length, None, Some}
+use Rattle.std.specs.Prelude.{nat_lt}
 use Rattle.atspi_forest.specs.Edits.{is_long_name, IsEdit}
 use Rattle.atspi_lines.specs.declared.line.Party.TheVariants.{Registry, App, Reader}
 use Rattle.atspi_message.specs.Envelope.{Envelope}
@@ -10,7 +10,7 @@ use Rattle.std.specs.List.{list_all}
 use Rattle.atspi_trace.specs.World.{here, stopped, Said, Letter, Hearer, a_reader, End, World}
 use Rattle.atspi_trace.specs.Ends.{same_party, end_at}
 use Rattle.atspi_trace.specs.Hearing.{is_answered, may_ask, question_in}
-use Rattle.atspi_trace.specs.Causes.{Cause, renews, starts_app, starts_reader, edits, calls, swaps_face, exits, shows, tells_busy, tells_quiet, routes, unjoins, gets, missing}
+use Rattle.atspi_trace.specs.Causes.{Cause, renews, starts_app, starts_reader, edits, calls, swaps_face, exits, shows, tells_busy, tells_quiet, routes, unjoins, gets}
 use Rattle.atspi_trace.specs.Work.{Work, resting, doing, moving_up, moving_down, turning, draining, edit_refusal, next_turn, Next, cause, rests, moved_up, moved_down}
 
 -- an end that is here

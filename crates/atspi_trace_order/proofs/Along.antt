@@ -1,8 +1,7 @@
 -- The induction along a lawful trace: what holds at the beginning, and is kept by each cause, by bytes that complete no message, by what is
 -- passed and by each own call of a reader, holds of the world behind each front of it, together with what is written and owed.
-use Rattle.std.proofs.Common.{◌≡◌, ◌⊎◌, inl, inr, ℕ, zero, suc, Bool, true, false, List, [], ◌∷◌, ◌++◌, None, Some, refl, sym, ap, ◌∙◌, subst}
+use Rattle.std.proofs.Common.{◌≡◌, inl, inr, ℕ, zero, suc, Bool, true, false, List, [], ◌∷◌, ◌++◌, None, Some, refl, sym, ap, ◌∙◌, subst}
 use Rattle.std.specs.Prelude.{Option, if◌then◌else◌}
-use Rattle.std.specs.List.{AllByRecursion}
 use Rattle.std.proofs.lemmas.List.{append-nil, append_assoc}
 use Rattle.atspi_lines.specs.declared.limits.TheConstants.{QUOTA_MOST}
 use Rattle.atspi_lines.specs.declared.line.Line.{Line}
@@ -11,13 +10,12 @@ use Rattle.atspi_message.specs.Envelope.{Envelope}
 use Rattle.atspi_following.specs.declared.question.Question.{Question}
 use Rattle.atspi_trace.specs.Entry.{Entry, started, changed, sent, got, heard, unheard, spoke, showed, exited, gone, dropped, busy, quiet}
 use Rattle.atspi_trace.specs.World.{World, first_world}
-use Rattle.atspi_trace.specs.Hearing.{question_in}
-use Rattle.atspi_trace.specs.Causes.{Cause, Done, does, at_end}
-use Rattle.atspi_trace.specs.Work.{Refusal, refused, Work, resting, work_of, Next, cause, rests, next_of}
-use Rattle.atspi_trace.specs.Due.{Progress, freed, rested, wrote, done, went, progress, bound, Scene, begins, scene_of, line_done, line_worked, unless_refused, from_lines, is_lost, onward, at_work_owing, at_work, first_entry, due, rest_entries, without_first, writes, asks_at, asks_freely, own_or_due, chosen, happens_owing, happens, after_all, IsOwnCall, IsDue, Stands, Goes, Lawful}
-use Rattle.atspi_trace_order.specs.Scripts.{CanStand, CanAllStand}
+use Rattle.atspi_trace.specs.Causes.{Cause, does, at_end}
+use Rattle.atspi_trace.specs.Work.{Refusal, refused, Work, work_of, Next, cause, rests, next_of}
+use Rattle.atspi_trace.specs.Due.{Progress, freed, rested, wrote, done, went, progress, bound, Scene, begins, scene_of, line_done, line_worked, unless_refused, from_lines, is_lost, onward, at_work_owing, at_work, first_entry, due, rest_entries, writes, asks_at, asks_freely, own_or_due, chosen, happens_owing, happens, after_all, IsOwnCall, Stands, Goes, Lawful}
+use Rattle.atspi_trace_order.specs.Scripts.{CanAllStand}
 use Rattle.atspi_trace_order.proofs.Parties.{no_none, same_some}
-use Rattle.atspi_trace_order.proofs.Allowed.{IsHere, Allowed, Moves, Asks, IsBare, IsWork, bare-work, NextFine}
+use Rattle.atspi_trace_order.proofs.Allowed.{Allowed, Moves, Asks, IsBare, IsWork, bare-work, NextFine}
 use Rattle.atspi_trace_order.proofs.Next.{line_fine, next_fine}
 use Rattle.atspi_trace_order.proofs.Plain.{NotOwn, FirstPlain, does_plain}
 

@@ -1,5 +1,5 @@
 -- Whom the bus closed is gone, and what it told nobody asks for twice.
-use Rattle.std.proofs.Common.{◌≡◌, ◌⊎◌, inl, inr, ℕ, zero, suc, Bool, true, false, List, [], ◌∷◌, ◌++◌, None, Some, refl, sym, ap, ◌∙◌, subst}
+use Rattle.std.proofs.Common.{◌≡◌, ◌⊎◌, inl, inr, ℕ, zero, suc, false, List, [], ◌∷◌, None, Some, refl, sym, ap, subst}
 use Rattle.std.specs.Prelude.{Option, ◌-◌, length}
 use Rattle.std.specs.List.{AllByRecursion}
 use Rattle.atspi_lines.specs.declared.line.Party.{Party}
@@ -12,7 +12,7 @@ use Rattle.atspi_trace.specs.Rules.{rule_in}
 use Rattle.atspi_trace.specs.World.{Said, End, World}
 use Rattle.atspi_trace.specs.Ends.{is_here, whose, party_at, end_at, with_end, leaves, taken_up}
 use Rattle.atspi_trace.specs.Carrying.{Carried, own_letter, letter_of, stepped, left, one_closed, settled, with_name, takes, takes_end}
-use Rattle.atspi_trace_order.proofs.Parties.{no_none, all_append}
+use Rattle.atspi_trace_order.proofs.Parties.{all_append}
 use Rattle.atspi_trace_order.proofs.Frame.{Over, with_cases, stepped_over, left_over}
 use Rattle.atspi_trace_order.proofs.Shape.{Lasts, lasting, put_lasts, leaves_lasts}
 use Rattle.atspi_trace_order.proofs.Gone.{IsGone}

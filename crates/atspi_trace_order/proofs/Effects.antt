@@ -1,6 +1,6 @@
 -- What a cause that is allowed does, in the few forms that there are.
-use Rattle.std.proofs.Common.{◌≡◌, ◌⊎◌, inl, inr, ℕ, zero, suc, ◌<◌, ◌≤◌, Bool, true, false, T, not, List, [], ◌∷◌, ◌++◌, length, None, Some, refl, sym, ap, ◌∙◌, subst, arith}
-use Rattle.std.specs.Prelude.{Option, nat_lt, Result, Ok, Err, is_some}
+use Rattle.std.proofs.Common.{◌≡◌, ℕ, suc, false, List, [], ◌∷◌, length, None, Some, refl, sym, ap, ◌∙◌, subst}
+use Rattle.std.specs.Prelude.{nat_lt, Result, Ok, Err}
 use Rattle.atspi_forest.specs.declared.edit.Edit.{Edit}
 use Rattle.atspi_forest.specs.declared.edit.EditFault.{EditFault}
 use Rattle.atspi_forest.specs.Edits.{is_long_name, IsEdit}
@@ -10,14 +10,13 @@ use Rattle.atspi_lines.specs.declared.line.Party.TheVariants.{Bus as The_bus, Re
 use Rattle.atspi_registering.specs.RegistryState.{RegistryState}
 use Rattle.atspi_exporting.specs.Exporter.{Exporter}
 use Rattle.atspi_exporting.specs.Taking.{app_edits, app_takes}
-use Rattle.atspi_trace.specs.Entry.{Entry, got, exited, busy, quiet}
-use Rattle.atspi_trace.specs.World.{stopped, Hearer, Role, the_registry, an_application, a_reader, Said, Letter, End, World, first_registry, first_world}
-use Rattle.atspi_trace.specs.Ends.{is_here, same_party, party_at, number_of, end_at, with_end, taken_down, stops}
+use Rattle.atspi_trace.specs.Entry.{got, exited, busy, quiet}
+use Rattle.atspi_trace.specs.World.{stopped, Hearer, Role, the_registry, an_application, a_reader, Said, Letter, End, World, first_world}
+use Rattle.atspi_trace.specs.Ends.{same_party, party_at, number_of, end_at, with_end, taken_down, stops}
 use Rattle.atspi_trace.specs.Causes.{Cause, renews, starts_app, starts_reader, edits, calls, swaps_face, exits, shows, tells_busy, tells_quiet, routes, unjoins, gets, Done, only, at_end, app_did, app_starts, edited_to, edited, reader_starts, called, shown, routed, ended, without_bytes, missing, took, taken, on_end, does}
-use Rattle.atspi_trace.specs.Work.{refused, of_edit, if_refused, edit_refusal, next_turn}
-use Rattle.atspi_trace_order.proofs.Parties.{no_none, same_some, false_true}
+use Rattle.atspi_trace.specs.Work.{of_edit, if_refused, edit_refusal, next_turn}
+use Rattle.atspi_trace_order.proofs.Parties.{no_none}
 use Rattle.atspi_trace_order.proofs.Allowed.{IsHere, Allowed}
-use Rattle.atspi_trace_order.proofs.Frame.{at_below}
 use Rattle.atspi_trace_order.proofs.Shape.{RoleFits, Shape}
 
 -- a message went from a down link

@@ -1,31 +1,28 @@
 -- Behind an end's exit, and behind the news that it was dropped, stands nothing of it.
-use Rattle.std.proofs.Common.{◌≡◌, ◌⊎◌, inl, inr, ℕ, Bool, true, false, List, [], ◌∷◌, ◌++◌, None, Some, refl, sym, ap, ◌∙◌, subst}
-use Rattle.std.specs.Prelude.{Option}
+use Rattle.std.proofs.Common.{◌≡◌, ◌⊎◌, inl, inr, Bool, true, false, List, [], ◌∷◌, ◌++◌, refl, sym, ap, ◌∙◌, subst}
 use Rattle.std.specs.List.{AllByRecursion}
 use Rattle.atspi_lines.specs.declared.line.Line.{Line}
 use Rattle.atspi_lines.specs.declared.line.Party.{Party}
-use Rattle.atspi_lines.specs.declared.line.Party.TheVariants.{Bus as The_bus, Registry, App, Reader}
-use Rattle.atspi_message.specs.Envelope.{Envelope}
-use Rattle.atspi_following.specs.declared.question.Question.{Question}
+use Rattle.atspi_lines.specs.declared.line.Party.TheVariants.{Bus as The_bus, App, Reader}
 use Rattle.atspi_trace.specs.Entry.{Entry, changed, sent, got, exited, dropped}
-use Rattle.atspi_trace.specs.World.{Role, here, End, World, first_world}
+use Rattle.atspi_trace.specs.World.{Role, End, World}
 use Rattle.atspi_trace.specs.Ends.{is_here, same_party, whose, party_at, end_at, stops}
 use Rattle.atspi_trace.specs.Causes.{Done, at_end}
 use Rattle.atspi_trace.specs.Due.{asks_at, begins, Goes}
 use Rattle.atspi_trace_laws.specs.NineLaws.{Everywhere, IsNotOf, IsLast}
 use Rattle.atspi_trace_order.specs.Scripts.{CanAllStand}
 use Rattle.atspi_trace_order.specs.Laws.{IsOut}
-use Rattle.atspi_trace_order.proofs.Parties.{no_none, same_some, false_true, same-party, all_append, all_front}
-use Rattle.atspi_trace_order.proofs.Allowed.{IsHere, MovedUp, MovedDown, Asks}
+use Rattle.atspi_trace_order.proofs.Parties.{same_some, false_true, same-party, all_append, all_front}
+use Rattle.atspi_trace_order.proofs.Allowed.{MovedUp, MovedDown}
 use Rattle.atspi_trace_order.proofs.Frame.{at_changed}
-use Rattle.atspi_trace_order.proofs.Shape.{RoleFits, Shape, IsNew, not_new}
-use Rattle.atspi_trace_order.proofs.Effects.{Stopping, Effect}
+use Rattle.atspi_trace_order.proofs.Shape.{RoleFits, Shape, not_new}
+use Rattle.atspi_trace_order.proofs.Effects.{Stopping}
 use Rattle.atspi_trace_order.proofs.Shaped.{up_moved_over, down_moved_over, asked_over}
-use Rattle.atspi_trace_order.proofs.Along.{Keeps, Kept, kept}
-use Rattle.atspi_trace_order.proofs.Growing.{Grows, Shaped, Nothing, And, shaped_keeps, grown}
+use Rattle.atspi_trace_order.proofs.Along.{Keeps, kept}
+use Rattle.atspi_trace_order.proofs.Growing.{Grows, Shaped, Nothing, And, grown}
 use Rattle.atspi_trace_order.proofs.Each.{Each, everywhere, each_more, each_map, each_of, all_map}
 use Rattle.atspi_trace_order.proofs.Gone.{IsGone, gone_over, gone_kept}
-use Rattle.atspi_trace_order.proofs.Closed.{IsTold, IsDropped}
+use Rattle.atspi_trace_order.proofs.Closed.{IsDropped}
 use Rattle.atspi_trace_order.proofs.Told.{Tells, told_keeps}
 use Rattle.atspi_trace_order.proofs.Acts.{Act, OfBus, IsActive, Actor, Written, acted, told, stopped_, acts}
 

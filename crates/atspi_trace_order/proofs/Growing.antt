@@ -1,16 +1,15 @@
 -- What is kept along a lawful trace, layer by layer: each may stand on the shape of the world and on what was kept before it.
-use Rattle.std.proofs.Common.{◌≡◌, ◌⊎◌, inl, inr, ℕ, List, [], ◌∷◌, ◌++◌, None, Some, refl, sym, ap, ◌∙◌, subst}
+use Rattle.std.proofs.Common.{◌⊎◌, inl, inr, ℕ, List, [], ◌∷◌, ◌++◌, None, sym, subst}
 use Rattle.std.specs.Prelude.{Option}
 use Rattle.atspi_lines.specs.declared.limits.TheConstants.{QUOTA_MOST}
-use Rattle.atspi_lines.specs.declared.line.Line.{Line}
 use Rattle.atspi_lines.specs.declared.line.Party.TheVariants.{Reader}
 use Rattle.atspi_message.specs.Envelope.{Envelope}
 use Rattle.atspi_following.specs.declared.question.Question.{Question}
 use Rattle.atspi_trace.specs.Entry.{Entry, sent}
 use Rattle.atspi_trace.specs.World.{World, first_world}
-use Rattle.atspi_trace.specs.Causes.{Cause, Done, does, at_end}
+use Rattle.atspi_trace.specs.Causes.{Done, does, at_end}
 use Rattle.atspi_trace.specs.Due.{asks_at}
-use Rattle.atspi_trace_order.proofs.Allowed.{Allowed, MovedUp, MovedDown, Moves, Asks}
+use Rattle.atspi_trace_order.proofs.Allowed.{MovedUp, MovedDown, Moves, Asks}
 use Rattle.atspi_trace_order.proofs.Along.{Keeps}
 use Rattle.atspi_trace_order.proofs.Shape.{Shape}
 use Rattle.atspi_trace_order.proofs.Effects.{Effect, effect}

@@ -1,7 +1,7 @@
 -- The law of steps holds of each front of a lawful trace.
-use Rattle.std.proofs.Common.{◌≡◌, ◌⊎◌, inl, inr, ℕ, zero, suc, ◌<◌, ◌≤◌, ◌+◌, Bool, true, false, List, [], ◌∷◌, ◌++◌, length, map, None, Some, refl, sym, ap, ◌∙◌, subst, arith, cond}
-use Rattle.std.specs.Prelude.{Option, ◌==◌, nat_lt}
-use Rattle.std.specs.List.{AllByRecursion, fold}
+use Rattle.std.proofs.Common.{◌≡◌, ◌⊎◌, inl, inr, ℕ, zero, suc, ◌<◌, ◌≤◌, ◌+◌, true, false, List, [], ◌∷◌, ◌++◌, length, Some, refl, sym, ap, ◌∙◌, subst, arith, cond}
+use Rattle.std.specs.Prelude.{nat_lt}
+use Rattle.std.specs.List.{AllByRecursion}
 use Rattle.std.proofs.lemmas.Bool.{ne_eqb, eq-eqb, ltb-false}
 use Rattle.atspi_forest.specs.declared.limits.TheConstants.{NAME_LIMIT}
 use Rattle.atspi_forest.specs.Row.{IsName}
@@ -10,32 +10,29 @@ use Rattle.atspi_forest.specs.Tree.{first_tree}
 use Rattle.atspi_forest.specs.Edits.{is_long_name}
 use Rattle.std.specs.Prelude.{encode_utf8_all}
 use Rattle.atspi_lines.specs.declared.line.Line.{Line}
-use Rattle.atspi_lines.specs.declared.line.Party.TheVariants.{Bus as The_bus, Registry, App, Reader}
+use Rattle.atspi_lines.specs.declared.line.Party.TheVariants.{App, Reader}
 use Rattle.atspi_message.specs.Envelope.{Envelope}
 use Rattle.atspi_exporting.specs.Exporter.{Exporter, begins as begins_app}
 use Rattle.atspi_exporting.specs.Starting.{starts}
-use Rattle.atspi_exporting.specs.Laws.{HasTree}
 use Rattle.atspi_exporting.proofs.Staying.{trees_stay}
 use Rattle.atspi_following.specs.declared.question.Question.{Question}
 use Rattle.atspi_trace.specs.Entry.{Entry, started, changed, sent}
-use Rattle.atspi_trace.specs.World.{Role, an_application, a_reader, Hearer, End, World, first_registry, first_world}
-use Rattle.atspi_trace.specs.Ends.{is_app, number_of, end_at, with_end, app_count}
-use Rattle.atspi_trace.specs.Causes.{Done, only, at_end, app_starts, reader_starts, reader_sends, asks}
+use Rattle.atspi_trace.specs.World.{a_reader, Hearer, End, World, first_registry, first_world}
+use Rattle.atspi_trace.specs.Ends.{is_app, number_of, end_at, app_count}
+use Rattle.atspi_trace.specs.Causes.{Done, only, at_end, app_starts, reader_starts, asks}
 use Rattle.atspi_trace.specs.Due.{asks_as, asks_at, begins, Goes}
-use Rattle.atspi_trace_laws.specs.Words.{tree_after, live_tree, count_after, added, is_live}
-use Rattle.atspi_trace_laws.specs.NineLaws.{Everywhere, StepIsOne, LawOfSteps}
+use Rattle.atspi_trace_laws.specs.Words.{live_tree, added, is_live}
+use Rattle.atspi_trace_laws.specs.NineLaws.{StepIsOne, LawOfSteps}
 use Rattle.atspi_trace_order.specs.Scripts.{CanAllStand}
 use Rattle.atspi_trace_order.proofs.Parties.{no_none, same_some, false_true}
 use Rattle.atspi_trace_order.proofs.Allowed.{MovedUp, MovedDown, Asks}
 use Rattle.atspi_trace_order.proofs.Frame.{Over, over_with, over_at, joined_cases}
 use Rattle.atspi_trace_order.proofs.Shape.{Lasts, Shape, counts, more}
-use Rattle.atspi_trace_order.proofs.Effects.{Effect}
 use Rattle.atspi_trace_order.proofs.Shaped.{new_app, new_reader, app_joined}
-use Rattle.atspi_trace_order.proofs.Along.{Keeps, Kept, kept}
+use Rattle.atspi_trace_order.proofs.Along.{Keeps, kept}
 use Rattle.atspi_trace_order.proofs.Growing.{Grows, Shaped, Nothing, And, grown}
-use Rattle.atspi_trace_order.proofs.Each.{Each, everywhere, each_more, each_map, each_of, all_map}
+use Rattle.atspi_trace_order.proofs.Each.{Each, everywhere, each_more, each_of, all_map}
 use Rattle.atspi_trace_order.proofs.Told.{Tells}
-use Rattle.atspi_trace_order.proofs.Acts.{IsActive}
 use Rattle.atspi_trace_order.proofs.Exits.{Exited}
 use Rattle.atspi_trace_order.proofs.Lives.{Started, starts_keep, here_lives}
 use Rattle.atspi_trace_order.proofs.Trees.{tree_more, count_more, NotOn, counts_same, NoStep, no_step_on, no_step_law}

@@ -1,20 +1,17 @@
 -- Who is here is live in the trace.
 use Rattle.std.proofs.Common.{◌≡◌, ◌⊎◌, inl, inr, ℕ, zero, suc, Bool, true, false, List, [], ◌∷◌, ◌++◌, None, Some, refl, sym, ap, ◌∙◌, subst}
-use Rattle.std.specs.Prelude.{Option, ◌||◌, ◌&&◌, not, nat_lt, length}
+use Rattle.std.specs.Prelude.{Option, ◌||◌, ◌&&◌, not, length}
 use Rattle.std.specs.List.{AllByRecursion, list_any}
-use Rattle.atspi_lines.specs.declared.limits.TheConstants.{QUOTA_MOST}
 use Rattle.atspi_lines.specs.declared.line.Party.{Party}
-use Rattle.atspi_lines.specs.declared.line.Party.TheVariants.{Bus as The_bus, Registry, App, Reader}
-use Rattle.atspi_message.specs.Envelope.{Envelope}
-use Rattle.atspi_following.specs.declared.question.Question.{Question}
+use Rattle.atspi_lines.specs.declared.line.Party.TheVariants.{Bus as The_bus, Registry, Reader}
 use Rattle.atspi_trace.specs.Entry.{Entry, started, sent, exited, dropped}
 use Rattle.atspi_trace.specs.World.{Role, first_registry, first_world, End, World}
-use Rattle.atspi_trace.specs.Ends.{same_party, end_at, app_count, reader_count}
-use Rattle.atspi_trace.specs.Causes.{Done, at_end, app_starts, reader_starts}
+use Rattle.atspi_trace.specs.Ends.{same_party, end_at}
+use Rattle.atspi_trace.specs.Causes.{Done, at_end}
 use Rattle.atspi_trace.specs.Due.{asks_at}
 use Rattle.atspi_trace_laws.specs.Words.{starts_it, stops_it, is_live}
 use Rattle.atspi_trace_order.proofs.Parties.{no_none, same_some, same-party, party-same}
-use Rattle.atspi_trace_order.proofs.Allowed.{MovedUp, MovedDown, Asks}
+use Rattle.atspi_trace_order.proofs.Allowed.{MovedUp, MovedDown}
 use Rattle.atspi_trace_order.proofs.Frame.{Over, over_same, joined_cases}
 use Rattle.atspi_trace_order.proofs.Shape.{RoleFits, Lasts, lasting, Shape}
 use Rattle.atspi_trace_order.proofs.Effects.{Effect, resets, app_joins, reader_joins, app_edited, app_took, reader_called, swapped, exited_, showed_, told_busy, told_quiet, bus_took, bus_ended, registry_took, reader_took}
@@ -22,7 +19,7 @@ use Rattle.atspi_trace_order.proofs.Shaped.{new_app, new_reader, app_joined, bus
 use Rattle.atspi_trace_order.proofs.Along.{Keeps}
 use Rattle.atspi_trace_order.proofs.Growing.{Grows, Shaped, Nothing, And, grown}
 use Rattle.atspi_trace_order.proofs.Gone.{IsGone}
-use Rattle.atspi_trace_order.proofs.Closed.{IsTold, IsDropped}
+use Rattle.atspi_trace_order.proofs.Closed.{IsDropped}
 use Rattle.atspi_trace_order.proofs.Told.{Tells}
 use Rattle.atspi_trace_order.proofs.Acts.{IsActive}
 use Rattle.atspi_trace_order.proofs.Exits.{Out, Exited, not_active, exits_keep}

@@ -11,13 +11,13 @@ use Rattle.atspi_lines.specs.declared.line.Line.{Line}
 use Rattle.atspi_lines.specs.declared.line.Line.TheVariants.{Blank, Quota, App as App_line, Reader as Reader_line, Edit as Edit_line, Call, Swap, Exit, Leave, Bytes, Turns, Drain, Show}
 use Rattle.atspi_lines.specs.declared.line.Party.{Party}
 use Rattle.atspi_lines.specs.declared.line.Party.TheVariants.{Registry, App, Reader}
-use Rattle.atspi_trace.specs.World.{Standing, here, stopped, away, Said, Letter, Role, End, World}
+use Rattle.atspi_trace.specs.World.{Standing, here, stopped, away, Said, Letter, End, World}
 use Rattle.atspi_trace.specs.Ends.{is_here, same_party, conn_of, end_of, end_at, end_if, app_count}
 use Rattle.atspi_trace.specs.Causes.{Cause, edits, calls, swaps_face, exits, shows, routes, unjoins, gets, missing}
-use Rattle.atspi_trace.specs.Work.{Refusal, no_party, dead, late, no_kit, no_spare, spare_count, of_edit, refusal_if, if_started, if_here, no_more, edit_refusal, call_refusal, refused, Work, resting, doing, moving_up, moving_down, turning, draining, with_conn, moving, name_of, work_of, up_turn, down_turn, first_up, first_down, next_turn, Next, cause, rests, moved_up, moved_down, next_up, next_down, of_end, next_of_turns, next_of_drain, next_of}
+use Rattle.atspi_trace.specs.Work.{Refusal, no_party, dead, late, no_kit, no_spare, spare_count, of_edit, refusal_if, if_started, if_here, no_more, edit_refusal, call_refusal, refused, Work, resting, doing, moving_up, moving_down, turning, draining, with_conn, moving, name_of, work_of, up_turn, down_turn, first_up, first_down, next_turn, cause, rests, moved_up, moved_down, next_up, next_down, of_end, next_of_turns, next_of_drain, next_of}
 use Rattle.atspi_trace_order.specs.Scripts.{CanStand}
 use Rattle.atspi_trace_order.proofs.Parties.{no_none, same_some, same-party, found}
-use Rattle.atspi_trace_order.proofs.Allowed.{IsHere, Allowed, MovedUp, MovedDown, Moves, IsBare, IsWork, NextFine}
+use Rattle.atspi_trace_order.proofs.Allowed.{Allowed, IsWork, NextFine}
 
 -- no refusal of a list of two
 neither : {A : Type 0} (o p : Option A) → first_of o p ≡ None → (o ≡ None) × (p ≡ None)

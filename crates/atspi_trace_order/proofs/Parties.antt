@@ -1,6 +1,6 @@
 -- Parties and ends: what a search by party finds, and small facts that every proof here uses.
-use Rattle.std.proofs.Common.{◌≡◌, ℕ, zero, suc, Bool, true, false, T, not, List, [], ◌∷◌, ◌++◌, None, Some, refl, sym, ap, ◌∙◌, subst, is_some}
-use Rattle.std.specs.Prelude.{Option, position, slice_get, unwrap_or, get_or}
+use Rattle.std.proofs.Common.{◌≡◌, ℕ, Bool, true, false, T, not, List, [], ◌∷◌, ◌++◌, None, Some, refl, ap, subst, is_some}
+use Rattle.std.specs.Prelude.{position, slice_get, unwrap_or, get_or}
 use Rattle.std.specs.List.{AllByRecursion}
 use Rattle.std.proofs.lemmas.Bool.{eqb-true, eq-eqb}
 use Rattle.std.proofs.lemmas.List.Quantifiers.{position-Some}

@@ -1,7 +1,7 @@
 -- What a cause writes first is no reader's own call.
 use lib.Utf8.{encode}
-use Rattle.std.proofs.Common.{◌≡◌, ℕ, Bool, true, false, List, [], ◌∷◌, ◌++◌, map, None, Some, refl, ap, ◌∙◌}
-use Rattle.std.specs.Prelude.{Option, Result, Ok, Err, filter, not, if◌then◌else◌}
+use Rattle.std.proofs.Common.{◌≡◌, ℕ, List, [], ◌∷◌, map, None, Some, refl}
+use Rattle.std.specs.Prelude.{Option, Result, Ok, Err}
 use Rattle.std.specs.List.{AllByRecursion}
 use Rattle.atspi_forest.specs.declared.edit.Edit.{Edit}
 use Rattle.atspi_forest.specs.declared.edit.EditFault.{EditFault}
@@ -10,15 +10,13 @@ use Rattle.atspi_lines.specs.declared.deed.Deed.TheVariants.{SetCaret, InsertTex
 use Rattle.atspi_lines.specs.declared.line.Party.{Party}
 use Rattle.atspi_lines.specs.declared.line.Party.TheVariants.{Bus as The_bus, Registry, App, Reader}
 use Rattle.atspi_message.specs.Envelope.{Envelope}
-use Rattle.atspi_routing.specs.declared.closing.Why.{Why}
-use Rattle.atspi_routing.specs.declared.closing.Why.TheVariants.{NotHello, Quota}
 use Rattle.atspi_routing.specs.declared.closing.Closing.{Closing}
 use Rattle.atspi_exporting.specs.Exporter.{Happening, steps, sends, hears, deaf, Exporter}
 use Rattle.atspi_exporting.specs.Taking.{app_edits}
 use Rattle.atspi_following.specs.Calls.{user_call}
 use Rattle.atspi_trace.specs.Entry.{Entry, sent, dropped}
 use Rattle.atspi_trace.specs.World.{Said, Letter, Role, the_registry, an_application, a_reader, End, World}
-use Rattle.atspi_trace.specs.Ends.{number_of, same_party, party_at, end_at, with_end, taken_down}
+use Rattle.atspi_trace.specs.Ends.{number_of, party_at, end_at, with_end, taken_down}
 use Rattle.atspi_trace.specs.Hearing.{question_in}
 use Rattle.atspi_trace.specs.Carrying as carrying
 use Rattle.atspi_trace.specs.Carrying.{sent_by_bus, is_upto, dropped_if, bus_entries}

@@ -1,13 +1,12 @@
 -- The shape of a world: each end is in its party's role, no party has two ends, and they are numbered in the order of joining.
-use Rattle.std.proofs.Common.{◌≡◌, ◌⊎◌, inl, inr, ℕ, zero, suc, ◌<◌, ◌≤◌, Bool, true, false, List, [], ◌∷◌, ◌++◌, length, None, Some, refl, sym, ap, ◌∙◌, subst, arith, cond, length-append}
-use Rattle.std.specs.Prelude.{Option, filter}
+use Rattle.std.proofs.Common.{◌≡◌, ◌⊎◌, inl, inr, ℕ, suc, ◌<◌, ◌≤◌, Bool, true, false, List, [], ◌∷◌, ◌++◌, length, Some, refl, sym, ap, ◌∙◌, subst, arith, cond, length-append}
+use Rattle.std.specs.Prelude.{filter}
 use Rattle.atspi_lines.specs.declared.line.Party.{Party}
 use Rattle.atspi_lines.specs.declared.line.Party.TheVariants.{Bus as The_bus, Registry, App, Reader}
 use Rattle.atspi_trace.specs.World.{Role, the_registry, an_application, a_reader, Letter, End, World, first_world}
-use Rattle.atspi_trace.specs.Ends.{is_here, same_party, number_of, party_at, whose, end_at, with_end, is_app, is_reader, app_count, reader_count, put_down, taken_up, leaves}
-use Rattle.atspi_trace.specs.Carrying.{named}
-use Rattle.atspi_trace_order.proofs.Parties.{no_none, same_some, false_true}
-use Rattle.atspi_trace_order.proofs.Frame.{Over, IsOrder, joined_cases, at_below}
+use Rattle.atspi_trace.specs.Ends.{is_here, number_of, end_at, is_app, is_reader, app_count, reader_count, put_down, leaves}
+use Rattle.atspi_trace_order.proofs.Parties.{same_some, false_true}
+use Rattle.atspi_trace_order.proofs.Frame.{Over, IsOrder, joined_cases}
 
 abbrev pub RoleFits : Party → Role → Type 0
 RoleFits Registry (the_registry s) = Unit {0}

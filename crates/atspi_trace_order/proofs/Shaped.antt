@@ -1,33 +1,27 @@
 -- The shape of a world is kept along a lawful trace.
-use Rattle.std.proofs.Common.{◌≡◌, ◌⊎◌, inl, inr, ℕ, zero, suc, ◌<◌, ◌≤◌, ◌+◌, Bool, true, false, List, [], ◌∷◌, ◌++◌, length, None, Some, refl, sym, ap, ◌∙◌, subst, arith}
-use Rattle.std.specs.Prelude.{Option, nat_lt}
-use Rattle.std.proofs.lemmas.Bool.{ltb-false}
+use Rattle.std.proofs.Common.{◌≡◌, ◌⊎◌, inl, inr, ℕ, zero, suc, ◌≤◌, ◌+◌, List, [], ◌∷◌, ◌++◌, length, Some, refl, sym, ap, ◌∙◌, subst, arith}
 use Rattle.atspi_lines.specs.declared.limits.TheConstants.{QUOTA_MOST}
-use Rattle.atspi_lines.specs.declared.line.Party.{Party}
-use Rattle.atspi_lines.specs.declared.line.Party.TheVariants.{Bus as The_bus, Registry, App, Reader}
+use Rattle.atspi_lines.specs.declared.line.Party.TheVariants.{Registry, App, Reader}
 use Rattle.atspi_message.specs.Envelope.{Envelope}
 use Rattle.atspi_registering.specs.Steps.{registry_takes}
 use Rattle.atspi_exporting.specs.Exporter.{Exporter, begins}
 use Rattle.atspi_exporting.specs.Starting.{starts}
 use Rattle.atspi_exporting.specs.Taking.{app_takes}
-use Rattle.atspi_routing.specs.Queues as queues
 use Rattle.atspi_routing.specs.Queues.{Bus}
 use Rattle.atspi_following.specs.declared.question.Question.{Question}
 use Rattle.atspi_following.specs.declared.question.Question.TheVariants.{Hello}
 use Rattle.atspi_following.specs.Calls.{asking, user_call}
-use Rattle.atspi_trace.specs.Entry.{Entry, sent}
-use Rattle.atspi_trace.specs.World.{Standing, here, stopped, Hearer, Role, the_registry, an_application, a_reader, Said, Letter, End, World, newcomer, first_registry, first_world}
-use Rattle.atspi_trace.specs.Ends.{is_here, same_party, end_at, with_end, app_count, reader_count, plain, put_up, put_down, taken_up, taken_down, stops, leaves}
+use Rattle.atspi_trace.specs.World.{stopped, Hearer, the_registry, an_application, a_reader, Said, Letter, End, World, newcomer, first_registry, first_world}
+use Rattle.atspi_trace.specs.Ends.{is_here, same_party, end_at, with_end, app_count, reader_count, plain, put_up, taken_up, taken_down, stops}
 use Rattle.atspi_trace.specs.Hearing.{hears_letter}
-use Rattle.atspi_trace.specs.Carrying as carrying
 use Rattle.atspi_trace.specs.Carrying.{own_letter, letter_of, named}
-use Rattle.atspi_trace.specs.Causes.{Cause, Done, does, at_end, joins, has_done, app_starts, reader_sends, first_hearer, asks, reader_starts, registry_did}
+use Rattle.atspi_trace.specs.Causes.{Done, at_end, has_done, app_starts, reader_sends, first_hearer, asks, reader_starts, registry_did}
 use Rattle.atspi_trace.specs.Due.{asks_as, asks_at}
-use Rattle.atspi_trace_order.proofs.Parties.{no_none, same_some, false_true, party-same}
-use Rattle.atspi_trace_order.proofs.Allowed.{IsHere, Allowed, MovedUp, MovedDown, Moves, Asks}
-use Rattle.atspi_trace_order.proofs.Frame.{Over, IsOrder, over_at, over_with, over_same, over_both, at_changed, at_below, takes_over, ends_over}
-use Rattle.atspi_trace_order.proofs.Shape.{RoleFits, Lasts, lasting, put_lasts, leaves_lasts, Shape, shape_lasts, IsNew, shape_joined}
-use Rattle.atspi_trace_order.proofs.Effects.{received, AppEdits, AppTakes, ReaderCalls, Stopping, Showing, Swapping, BusTakes, BusEnds, RegistryTakes, ReaderTakes, Effect, resets, app_joins, reader_joins, app_edited, app_took, reader_called, swapped, exited_, showed_, told_busy, told_quiet, bus_took, bus_ended, registry_took, reader_took}
+use Rattle.atspi_trace_order.proofs.Parties.{no_none, same_some, false_true}
+use Rattle.atspi_trace_order.proofs.Allowed.{MovedUp, MovedDown, Asks}
+use Rattle.atspi_trace_order.proofs.Frame.{Over, over_at, over_with, over_same, over_both, at_changed, takes_over, ends_over}
+use Rattle.atspi_trace_order.proofs.Shape.{RoleFits, Lasts, lasting, put_lasts, leaves_lasts, Shape, shape_lasts, shape_joined}
+use Rattle.atspi_trace_order.proofs.Effects.{received, AppEdits, AppTakes, ReaderCalls, Stopping, BusTakes, BusEnds, RegistryTakes, ReaderTakes, Effect, resets, app_joins, reader_joins, app_edited, app_took, reader_called, swapped, exited_, showed_, told_busy, told_quiet, bus_took, bus_ended, registry_took, reader_took}
 
 -- how many ends there are
 pub one_end : (w : World) → Shape w → 1 ≤ length w.ends

@@ -1,46 +1,34 @@
 -- The law of steps along a lawful trace.
-use Rattle.std.proofs.Common.{◌≡◌, ◌⊎◌, inl, inr, ℕ, zero, suc, ◌<◌, ◌≤◌, ◌+◌, Bool, true, false, List, [], ◌∷◌, ◌++◌, length, map, None, Some, refl, sym, ap, ◌∙◌, subst, arith}
-use Rattle.std.specs.Prelude.{Option, ◌==◌, nat_lt, Result, Ok, Err}
-use Rattle.std.specs.List.{AllByRecursion, fold, list_any}
-use Rattle.std.proofs.lemmas.Bool.{ne_eqb, ltb-false}
+use Rattle.std.proofs.Common.{◌≡◌, ◌⊎◌, inl, inr, ℕ, suc, ◌+◌, Bool, true, false, List, [], ◌∷◌, length, map, Some, refl, sym, ap, ◌∙◌, subst}
+use Rattle.std.specs.Prelude.{nat_lt, Ok}
+use Rattle.std.specs.List.{AllByRecursion}
 use Rattle.atspi_forest.specs.declared.edit.Edit.{Edit}
-use Rattle.atspi_forest.specs.declared.edit.EditFault.{EditFault}
-use Rattle.atspi_forest.specs.declared.limits.TheConstants.{NAME_LIMIT}
-use Rattle.atspi_forest.specs.Row.{IsName}
 use Rattle.atspi_forest.specs.Edits.{is_long_name, IsEdit}
-use Rattle.atspi_lines.specs.declared.line.Line.{Line}
 use Rattle.atspi_lines.specs.declared.line.Party.{Party}
-use Rattle.atspi_lines.specs.declared.line.Party.TheVariants.{Bus as The_bus, Registry, App, Reader}
+use Rattle.atspi_lines.specs.declared.line.Party.TheVariants.{App}
 use Rattle.atspi_message.specs.Envelope.{Envelope}
 use Rattle.atspi_registering.specs.RegistryState.{RegistryState}
 use Rattle.atspi_registering.specs.Steps.{registry_takes}
-use Rattle.atspi_exporting.specs.Exporter.{Exporter, begins as begins_app}
-use Rattle.atspi_exporting.specs.Starting.{starts}
+use Rattle.atspi_exporting.specs.Exporter.{Exporter}
 use Rattle.atspi_exporting.specs.Taking.{app_edits, app_takes}
 use Rattle.atspi_exporting.specs.Laws.{HasTree, HasTreeIfDone}
 use Rattle.atspi_exporting.proofs.Staying.{trees_stay}
 use Rattle.atspi_routing.specs.Queues.{Bus}
 use Rattle.atspi_following.specs.Calls.{user_call}
-use Rattle.atspi_following.specs.declared.question.Question.{Question}
-use Rattle.atspi_trace.specs.Entry.{Entry, started, changed, sent, got, exited}
-use Rattle.atspi_trace.specs.World.{Role, here, the_registry, an_application, a_reader, Letter, Said, Hearer, End, World, first_registry, first_world}
-use Rattle.atspi_trace.specs.Ends.{number_of, party_at, end_at, with_end, app_count, put_up, put_down, taken_up, taken_down, stops, leaves}
+use Rattle.atspi_trace.specs.Entry.{Entry, started, changed, got}
+use Rattle.atspi_trace.specs.World.{Role, the_registry, an_application, a_reader, Letter, Hearer, End, World, first_world}
+use Rattle.atspi_trace.specs.Ends.{number_of, end_at, with_end, put_down, taken_up, taken_down, stops, leaves}
 use Rattle.atspi_trace.specs.Hearing.{hears_letter, heard_entries}
 use Rattle.atspi_trace.specs.Carrying as carrying
 use Rattle.atspi_trace.specs.Carrying.{own_letter, letter_of, named}
-use Rattle.atspi_trace.specs.Causes.{Done, only, at_end, did, has_done, app_did, app_starts, reader_starts, reader_sends, registry_did, asks}
-use Rattle.atspi_trace.specs.Due.{asks_as, asks_at, begins, Goes}
-use Rattle.atspi_trace_laws.specs.Words.{live_tree, added, is_live, stops_it}
-use Rattle.atspi_trace_laws.specs.NineLaws.{Everywhere, StepIsOne, LawOfSteps}
-use Rattle.atspi_trace_order.specs.Scripts.{CanAllStand}
-use Rattle.atspi_trace_order.proofs.Parties.{no_none, same_some, false_true}
-use Rattle.atspi_trace_order.proofs.Allowed.{IsHere, MovedUp, MovedDown, Asks}
-use Rattle.atspi_trace_order.proofs.Frame.{Over, IsOrder, over_same, over_both, over_with, over_at, with_cases, joined_cases, at_changed, takes_over, ends_over}
-use Rattle.atspi_trace_order.proofs.Shape.{Lasts, lasting, Shape}
+use Rattle.atspi_trace.specs.Causes.{Done, only, did, has_done, app_starts, reader_starts, reader_sends, registry_did}
+use Rattle.atspi_trace_order.proofs.Parties.{same_some, false_true}
+use Rattle.atspi_trace_order.proofs.Frame.{Over, over_same, over_both, over_with, with_cases, takes_over, ends_over}
+use Rattle.atspi_trace_order.proofs.Shape.{Lasts, lasting}
 use Rattle.atspi_trace_order.proofs.Each.{all_map}
-use Rattle.atspi_trace_order.proofs.Effects.{received, AppEdits, AppTakes, ReaderCalls, Stopping, Showing, Swapping, BusTakes, BusEnds, RegistryTakes, ReaderTakes, Effect, resets, app_joins, reader_joins, app_edited, app_took, reader_called, swapped, exited_, showed_, told_busy, told_quiet, bus_took, bus_ended, registry_took, reader_took}
+use Rattle.atspi_trace_order.proofs.Effects.{received, AppEdits, AppTakes, ReaderCalls, Stopping, BusTakes, BusEnds, RegistryTakes, ReaderTakes, Effect, resets, app_joins, reader_joins, app_edited, app_took, reader_called, swapped, exited_, showed_, told_busy, told_quiet, bus_took, bus_ended, registry_took, reader_took}
 use Rattle.atspi_trace_order.proofs.Shaped.{received_at, bus_takes_over, bus_ends_over, edits_over, app_takes_over, calls_over, stopping_over, registry_over, reader_over}
-use Rattle.atspi_trace_order.proofs.Doings.{Did, edit_did}
+use Rattle.atspi_trace_order.proofs.Doings.{edit_did}
 use Rattle.atspi_trace_order.proofs.Takings.{takes_did}
 use Rattle.atspi_trace_order.proofs.Acts.{Act, heard_act, number_at}
 use Rattle.atspi_trace_order.proofs.Trees.{NoStep}

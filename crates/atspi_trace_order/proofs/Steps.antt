@@ -1,35 +1,20 @@
 -- Each step of a lawful trace applies to its application's tree, which is the fold of its steps.
-use Rattle.std.proofs.Common.{◌≡◌, ◌⊎◌, inl, inr, ℕ, zero, suc, ◌<◌, ◌≤◌, Bool, true, false, List, [], ◌∷◌, ◌++◌, length, map, None, Some, refl, sym, ap, ◌∙◌, subst, arith}
-use Rattle.std.specs.Prelude.{Option, ◌==◌, filter, not, nat_lt, if◌then◌else◌}
+use Rattle.std.proofs.Common.{◌≡◌, ◌⊎◌, inl, inr, ℕ, ◌≤◌, true, false, List, [], ◌∷◌, ◌++◌, map, Some, refl, sym, ap, ◌∙◌, subst}
 use Rattle.std.specs.List.{AllByRecursion, fold, list_any}
-use Rattle.std.proofs.lemmas.Bool.{ne_eqb, ltb-false}
-use Rattle.std.proofs.lemmas.List.{append-nil, append_assoc}
-use Rattle.atspi_forest.specs.declared.limits.TheConstants.{NAME_LIMIT}
-use Rattle.atspi_forest.specs.Row.{IsName}
-use Rattle.atspi_forest.specs.RowRules.{rows}
-use Rattle.atspi_forest.specs.Tree.{IsTree, first_tree}
-use Rattle.atspi_forest.specs.Edits.{is_long_name}
-use Rattle.atspi_forest.proofs.Begins.{rows_begin}
-use Rattle.atspi_lines.specs.declared.line.Line.{Line}
+use Rattle.std.proofs.lemmas.Bool.{ne_eqb}
 use Rattle.atspi_lines.specs.declared.line.Party.{Party}
-use Rattle.atspi_lines.specs.declared.line.Party.TheVariants.{Bus as The_bus, Registry, App, Reader}
+use Rattle.atspi_lines.specs.declared.line.Party.TheVariants.{App}
 use Rattle.atspi_message.specs.Envelope.{Envelope}
-use Rattle.atspi_routing.specs.declared.closing.Why.{Why}
-use Rattle.atspi_routing.specs.declared.closing.Why.TheVariants.{NotHello, Quota}
 use Rattle.atspi_routing.specs.declared.closing.Closing.{Closing}
-use Rattle.atspi_exporting.specs.Exporter.{Exporter, begins as begins_app}
-use Rattle.atspi_exporting.specs.Starting.{starts}
-use Rattle.atspi_exporting.specs.Taking.{app_takes}
-use Rattle.atspi_exporting.specs.Laws.{HasTree, HasTreeIfDone}
-use Rattle.atspi_exporting.proofs.Staying.{trees_stay}
-use Rattle.atspi_trace.specs.Entry.{Entry, started, changed, sent, got, dropped}
-use Rattle.atspi_trace.specs.World.{Role, here, the_registry, an_application, a_reader, End, World, first_registry, first_world}
-use Rattle.atspi_trace.specs.Ends.{same_party, number_of, party_at, end_at, with_end, app_count}
-use Rattle.atspi_trace.specs.Carrying.{sent_by_bus, is_upto, dropped_if, bus_entries}
-use Rattle.atspi_trace.specs.Causes.{Done, at_end, did, has_done, app_did}
-use Rattle.atspi_trace.specs.Due.{asks_at, begins, Goes}
+use Rattle.atspi_exporting.specs.Exporter.{Exporter}
+use Rattle.atspi_exporting.specs.Laws.{HasTree}
+use Rattle.atspi_trace.specs.Entry.{Entry, sent, dropped}
+use Rattle.atspi_trace.specs.World.{Role, here, an_application, End, World}
+use Rattle.atspi_trace.specs.Ends.{number_of, party_at, end_at, app_count}
+use Rattle.atspi_trace.specs.Carrying.{bus_entries}
+use Rattle.atspi_trace.specs.Causes.{Done, did}
 use Rattle.atspi_trace_laws.specs.Words.{tree_after, live_tree, count_after, added, is_live}
-use Rattle.atspi_trace_laws.specs.NineLaws.{Everywhere, StepIsOne, LawOfSteps}
+use Rattle.atspi_trace_laws.specs.NineLaws.{StepIsOne}
 use Rattle.atspi_trace_order.proofs.Parties.{all_append}
 use Rattle.atspi_trace_order.proofs.BusWords.{all_any, bus_all}
 use Rattle.atspi_trace_order.proofs.Frame.{Over, IsOrder}

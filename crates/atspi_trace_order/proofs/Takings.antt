@@ -1,10 +1,8 @@
 -- What an application does at a message.
-use Rattle.std.proofs.Common.{◌≡◌, ℕ, Bool, true, false, Option, Some, None, List, [], ◌∷◌, ◌++◌, map, refl, sym, ap, ◌∙◌, subst}
+use Rattle.std.proofs.Common.{◌≡◌, ℕ, Bool, true, false, Option, Some, None, List, [], ◌∷◌, ◌++◌, map, refl, sym, ◌∙◌}
 use Rattle.std.specs.Prelude.{◌==◌, not, filter, codes, if◌then◌else◌}
 use Rattle.atspi_types.specs.Data.{Data}
 use Rattle.atspi_forest.specs.declared.step.Step.{Step}
-use Rattle.atspi_forest.specs.Forest.{Forest}
-use Rattle.atspi_forest.specs.Row.{TreeRow}
 use Rattle.atspi_forest.specs.RowRules.{rows}
 use Rattle.atspi_forest.specs.Tree.{after_all}
 use Rattle.atspi_message.specs.Envelope.{Envelope}
@@ -15,10 +13,10 @@ use Rattle.atspi_exporting.specs.Exporter.{StartCall, hello, add_match, get_regi
 use Rattle.atspi_exporting.specs.Hearing.{exchanged, firsts, is_heard, is_pair, pairs_in, heard_after, Change, unchanged, one_more, one_less, with_pair, pair_in}
 use Rattle.atspi_exporting.specs.Telling.{steps_told}
 use Rattle.atspi_exporting.specs.Starting.{awaited, goes_on, asks, greeted, listened, ends_start, start_call, name_or_empty, unique_name_in}
-use Rattle.atspi_exporting.specs.Taking.{added_by, app_takes, takes_other, takes_call, takes_signal, called, call_happens, answer_to}
+use Rattle.atspi_exporting.specs.Taking.{added_by, app_takes, takes_other, takes_call, takes_signal, called, answer_to}
 use Rattle.atspi_exporting.specs.Laws.{HasTree}
 use Rattle.atspi_exporting.proofs.Staying.{answers_apply}
-use Rattle.atspi_trace_order.proofs.Doings.{AllDone, tree_by, count_by, IsStill, still_append, still_sends, still_deaf, still_hears, still_done, still_tree, still_count, done_append, tree_append, count_append, done_numbered, tree_numbered, count_numbered, told_done, told_tree, told_count, Did, nothing_done, still_did, both_did}
+use Rattle.atspi_trace_order.proofs.Doings.{tree_by, count_by, IsStill, still_append, still_sends, still_deaf, still_hears, still_done, still_tree, still_count, done_append, tree_append, count_append, done_numbered, tree_numbered, count_numbered, told_done, told_tree, told_count, Did, nothing_done, still_did, both_did}
 
 asks_did : (s : Exporter) (call : StartCall) → Did s (asks s call)
 asks_did s call = still_did s (asks s call) (sends (start_call (name_or_empty s.name) call) ∷ []) refl refl refl tt

@@ -1,7 +1,7 @@
 -- Behind each cause the bus has nothing that is yet to be asked for.
-use Rattle.std.proofs.Common.{◌≡◌, ◌⊎◌, inl, inr, ℕ, List, [], ◌∷◌, ◌++◌, refl, sym, ap, ◌∙◌, subst}
+use Rattle.std.proofs.Common.{◌≡◌, ◌⊎◌, inl, inr, List, refl, sym, ◌∙◌, subst}
 use Rattle.atspi_trace.specs.Entry.{Entry}
-use Rattle.atspi_trace.specs.World.{World, first_world}
+use Rattle.atspi_trace.specs.World.{World}
 use Rattle.atspi_trace.specs.Causes.{Done}
 use Rattle.atspi_trace_order.proofs.Allowed.{MovedUp, MovedDown}
 use Rattle.atspi_trace_order.proofs.Effects.{Effect, resets, app_joins, reader_joins, app_edited, app_took, reader_called, swapped, exited_, showed_, told_busy, told_quiet, bus_took, bus_ended, registry_took, reader_took}

@@ -1,17 +1,16 @@
 -- The tree that entries tell: how each changes it, and what the steps of an application make of it.
-use Rattle.std.proofs.Common.{◌≡◌, ◌⊎◌, inl, inr, ℕ, Bool, true, false, List, [], ◌∷◌, ◌++◌, map, None, Some, refl, sym, ap, ◌∙◌, subst, cond}
-use Rattle.std.specs.Prelude.{Option, ◌==◌, ◌||◌, ◌&&◌, not}
+use Rattle.std.proofs.Common.{◌≡◌, ℕ, Bool, true, false, List, [], ◌∷◌, ◌++◌, map, Some, refl, sym, ap, ◌∙◌, subst, cond}
+use Rattle.std.specs.Prelude.{◌==◌, ◌||◌, ◌&&◌, not}
 use Rattle.std.specs.List.{AllByRecursion, fold, list_any}
-use Rattle.std.proofs.lemmas.Bool.{eqb-true, eq-eqb, ne_eqb}
-use Rattle.atspi_forest.specs.declared.step.Step.{Step}
+use Rattle.std.proofs.lemmas.Bool.{eq-eqb}
 use Rattle.atspi_forest.specs.Forest.{Forest, nil}
 use Rattle.atspi_forest.specs.Row.{TreeRow}
 use Rattle.atspi_forest.specs.RowRules.{rows}
 use Rattle.atspi_forest.specs.Tree.{first_tree, after, added_after, Applies}
 use Rattle.atspi_lines.specs.declared.line.Party.{Party}
-use Rattle.atspi_lines.specs.declared.line.Party.TheVariants.{Bus as The_bus, Registry, App, Reader}
+use Rattle.atspi_lines.specs.declared.line.Party.TheVariants.{Registry, App}
 use Rattle.atspi_exporting.specs.Exporter.{Happening, steps, sends, hears, deaf}
-use Rattle.atspi_trace.specs.Entry.{Entry, started, changed, exited, dropped}
+use Rattle.atspi_trace.specs.Entry.{Entry, started, changed}
 use Rattle.atspi_trace.specs.Ends.{same_party}
 use Rattle.atspi_trace.specs.Causes.{did}
 use Rattle.atspi_trace_laws.specs.Words.{tree_after, live_tree, count_after, added, starts_it, stops_it, is_live}

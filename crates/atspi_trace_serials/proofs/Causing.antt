@@ -1,39 +1,29 @@
 -- Each cause lets one party speak, or none but the bus.
-use Rattle.std.proofs.Common.{◌≡◌, ◌⊎◌, inl, inr, ℕ, zero, suc, ◌+◌, ◌<◌, ◌≤◌, Bool, true, false, List, [], ◌∷◌, ◌++◌, length, map, None, Some, refl, sym, ap, ◌∙◌, subst, arith}
-use Rattle.std.specs.Prelude.{Option, Result, Ok, Err}
-use Rattle.std.specs.List.{AllByRecursion}
+use Rattle.std.proofs.Common.{◌≡◌, ◌⊎◌, inl, inr, ℕ, suc, ◌+◌, List, [], ◌∷◌, ◌++◌, map, Some, refl, sym, ap, ◌∙◌, subst, arith}
+use Rattle.std.specs.Prelude.{Ok}
 use Rattle.atspi_forest.specs.declared.edit.Edit.{Edit}
 use Rattle.atspi_lines.specs.declared.line.Party.{Party}
-use Rattle.atspi_lines.specs.declared.line.Party.TheVariants.{Bus as The_bus, Registry, App, Reader}
+use Rattle.atspi_lines.specs.declared.line.Party.TheVariants.{App}
 use Rattle.atspi_message.specs.Envelope.{Envelope}
 use Rattle.atspi_ends.specs.Messages.{numbered}
 use Rattle.atspi_registering.specs.Steps.{registry_takes}
-use Rattle.atspi_routing.specs.Queues.{Bus}
-use Rattle.atspi_routing.specs.declared.closing.Closing.{Closing}
-use Rattle.atspi_exporting.specs.Exporter.{Exporter, begins as begins_app}
-use Rattle.atspi_exporting.specs.Starting.{starts}
+use Rattle.atspi_exporting.specs.Exporter.{Exporter}
 use Rattle.atspi_exporting.specs.Taking.{app_edits, app_takes}
 use Rattle.atspi_exporting.specs.Laws.{numbers_among, rising, Counts, CountsIfDone}
 use Rattle.atspi_exporting.proofs.Rising.{numbers_rise}
 use Rattle.atspi_following.specs.Calls.{user_call}
-use Rattle.atspi_trace.specs.Entry.{Entry, started, sent, got, dropped}
-use Rattle.atspi_trace.specs.World.{Role, the_registry, an_application, a_reader, Letter, Said, Hearer, End, World}
-use Rattle.atspi_trace.specs.Ends.{number_of, whose, party_at, end_at, with_end, app_count, reader_count, put_down, taken_up, taken_down, stops, leaves}
-use Rattle.atspi_trace.specs.Hearing.{hears_letter, heard_entries}
-use Rattle.atspi_trace.specs.Carrying as carrying
-use Rattle.atspi_trace.specs.Carrying.{own_letter, letter_of, named, bus_entries}
-use Rattle.atspi_trace.specs.Causes.{Done, at_end, did, has_done, app_did, reader_sends, registry_did}
-use Rattle.atspi_trace_order.proofs.Parties.{same_some}
-use Rattle.atspi_trace_order.proofs.BusWords.{all_any, bus_all}
-use Rattle.atspi_trace_order.proofs.Frame.{Over, IsOrder, over_same, over_both, over_with, over_at, at_changed, takes_over, ends_over}
-use Rattle.atspi_trace_order.proofs.Shape.{Lasts, lasting, Shape}
-use Rattle.atspi_trace_order.proofs.Effects.{received, AppEdits, AppTakes, ReaderCalls, Stopping, Showing, Swapping, BusTakes, BusEnds, RegistryTakes, ReaderTakes}
-use Rattle.atspi_trace_order.proofs.Shaped.{received_at, bus_takes_over, bus_ends_over, edits_over, app_takes_over, calls_over, stopping_over, registry_over, reader_over}
-use Rattle.atspi_trace_order.proofs.Each.{all_map}
-use Rattle.atspi_trace_order.proofs.Acts.{Act, heard_act, number_at}
+use Rattle.atspi_trace.specs.Entry.{Entry, sent, got}
+use Rattle.atspi_trace.specs.World.{Letter, Hearer, End, World}
+use Rattle.atspi_trace.specs.Ends.{whose, end_at, taken_down}
+use Rattle.atspi_trace.specs.Causes.{Done, did, has_done, reader_sends, registry_did}
+use Rattle.atspi_trace_order.proofs.Frame.{Over, over_same, over_with}
+use Rattle.atspi_trace_order.proofs.Shape.{Lasts, Shape}
+use Rattle.atspi_trace_order.proofs.Effects.{received, AppEdits, AppTakes, ReaderCalls, RegistryTakes}
+use Rattle.atspi_trace_order.proofs.Shaped.{received_at, edits_over, app_takes_over, calls_over, registry_over}
+use Rattle.atspi_trace_order.proofs.Acts.{number_at}
 use Rattle.atspi_trace_serials.proofs.Serial.{Rises, sent_count, did_rises, numbered_rises}
 use Rattle.atspi_trace_serials.proofs.Speaking.{next_of, SameNext, same_next, changed_next, IsNumbered, registry_numbered}
-use Rattle.atspi_trace_serials.proofs.Numbers.{IsFresh, BusOnly, known_not_fresh, fresh_over, Speaks, Hushed}
+use Rattle.atspi_trace_serials.proofs.Numbers.{known_not_fresh, fresh_over, Speaks}
 
 -- a world's ends behind a message that went from a down link
 down_next : (e : End) → SameNext e (taken_down e)

@@ -1,26 +1,21 @@
 -- Causes in which no end speaks, and those by which one joins.
-use Rattle.std.proofs.Common.{◌≡◌, ◌⊎◌, inl, inr, ℕ, zero, suc, ◌+◌, ◌<◌, ◌≤◌, Bool, true, false, List, [], ◌∷◌, ◌++◌, length, map, None, Some, refl, sym, ap, ◌∙◌, subst, arith}
-use Rattle.std.specs.Prelude.{Option, filter}
+use Rattle.std.proofs.Common.{◌≡◌, ◌⊎◌, inl, inr, ℕ, suc, ◌+◌, ◌<◌, ◌≤◌, List, [], ◌∷◌, ◌++◌, length, Some, refl, sym, ap, ◌∙◌, subst, arith}
 use Rattle.std.specs.List.{AllByRecursion}
 use Rattle.atspi_lines.specs.declared.line.Party.{Party}
 use Rattle.atspi_lines.specs.declared.line.Party.TheVariants.{Bus as The_bus, Registry, App, Reader}
 use Rattle.atspi_message.specs.Envelope.{Envelope}
 use Rattle.atspi_routing.specs.Queues.{Bus}
 use Rattle.atspi_routing.specs.declared.closing.Closing.{Closing}
-use Rattle.atspi_exporting.specs.Exporter.{Exporter, begins as begins_app}
-use Rattle.atspi_exporting.specs.Starting.{starts}
+use Rattle.atspi_exporting.specs.Exporter.{begins as begins_app}
 use Rattle.atspi_following.specs.declared.question.Question.{Question}
-use Rattle.atspi_following.specs.declared.question.Question.TheVariants.{Hello}
-use Rattle.atspi_following.specs.Calls.{asking}
-use Rattle.atspi_trace.specs.Entry.{Entry, started, sent, got, dropped}
-use Rattle.atspi_trace.specs.World.{Role, an_application, a_reader, Letter, Said, Hearer, End, World, newcomer}
-use Rattle.atspi_trace.specs.Ends.{same_party, number_of, whose, party_at, is_app, is_reader, end_at, with_end, app_count, reader_count, put_up, put_down, taken_up, taken_down, stops, leaves}
+use Rattle.atspi_trace.specs.Entry.{Entry, sent, dropped}
+use Rattle.atspi_trace.specs.World.{an_application, a_reader, Letter, Hearer, End, World, newcomer}
+use Rattle.atspi_trace.specs.Ends.{number_of, whose, party_at, is_app, is_reader, end_at, app_count, reader_count, put_up, put_down, taken_up, taken_down, stops, leaves}
 use Rattle.atspi_trace.specs.Hearing.{hears_letter, heard_entries}
 use Rattle.atspi_trace.specs.Carrying as carrying
 use Rattle.atspi_trace.specs.Carrying.{own_letter, letter_of, named, bus_entries}
-use Rattle.atspi_trace.specs.Causes.{Done, at_end, app_starts, reader_starts, reader_sends, asks, first_hearer}
+use Rattle.atspi_trace.specs.Causes.{Done, at_end, app_starts, reader_starts}
 use Rattle.atspi_trace.specs.Due.{asks_as, asks_at}
-use Rattle.atspi_trace_order.proofs.Parties.{same_some, false_true}
 use Rattle.atspi_trace_order.proofs.BusWords.{all_any, bus_all}
 use Rattle.atspi_trace_order.proofs.Allowed.{MovedUp, MovedDown, Asks}
 use Rattle.atspi_trace_order.proofs.Frame.{Over, over_same, over_both, over_with, over_at, joined_cases, takes_over, ends_over}

@@ -1,14 +1,11 @@
 -- The numbers of messages along a lawful trace.
-use Rattle.std.proofs.Common.{◌≡◌, ◌⊎◌, inl, inr, ℕ, zero, suc, ◌+◌, ◌≤◌, Bool, true, false, List, [], ◌∷◌, ◌++◌, length, None, Some, refl, sym, ap, ◌∙◌, subst, arith}
-use Rattle.std.specs.Prelude.{Option, nat_lt}
-use Rattle.std.specs.List.{AllByRecursion}
+use Rattle.std.proofs.Common.{◌≡◌, ◌⊎◌, inl, inr, ℕ, zero, suc, ◌+◌, ◌≤◌, false, List, [], ◌∷◌, ◌++◌, length, Some, refl, sym, ap, ◌∙◌, subst, arith}
+use Rattle.std.specs.Prelude.{nat_lt}
 use Rattle.std.proofs.lemmas.Bool.{ltb-false}
 use Rattle.std.proofs.lemmas.List.{append-nil}
 use Rattle.atspi_lines.specs.declared.line.Line.{Line}
 use Rattle.atspi_lines.specs.declared.line.Party.{Party}
 use Rattle.atspi_lines.specs.declared.line.Party.TheVariants.{Bus as The_bus, Registry, App, Reader}
-use Rattle.atspi_message.specs.Envelope.{Envelope}
-use Rattle.atspi_following.specs.declared.question.Question.{Question}
 use Rattle.atspi_trace.specs.Entry.{Entry, sent}
 use Rattle.atspi_trace.specs.World.{Role, the_registry, an_application, a_reader, World, End, first_registry, first_world}
 use Rattle.atspi_trace.specs.Ends.{end_at, app_count, reader_count}
@@ -18,17 +15,16 @@ use Rattle.atspi_trace_laws.specs.Words.{messages}
 use Rattle.atspi_trace_laws.specs.NineLaws.{Everywhere, sent_before}
 use Rattle.atspi_trace_order.specs.Scripts.{CanAllStand}
 use Rattle.atspi_trace_order.proofs.Parties.{no_none, same_some}
-use Rattle.atspi_trace_order.proofs.Allowed.{MovedUp, MovedDown, Asks}
 use Rattle.atspi_trace_order.proofs.Shape.{Shape}
-use Rattle.atspi_trace_order.proofs.Effects.{AppEdits, AppTakes, Effect, resets, app_joins, reader_joins, app_edited, app_took, reader_called, swapped, exited_, showed_, told_busy, told_quiet, bus_took, bus_ended, registry_took, reader_took}
+use Rattle.atspi_trace_order.proofs.Effects.{Effect, resets, app_joins, reader_joins, app_edited, app_took, reader_called, swapped, exited_, showed_, told_busy, told_quiet, bus_took, bus_ended, registry_took, reader_took}
 use Rattle.atspi_trace_order.proofs.Along.{Keeps, kept}
 use Rattle.atspi_trace_order.proofs.Growing.{Grows, Shaped, And, grown}
 use Rattle.atspi_trace_order.proofs.Each.{Each, everywhere}
-use Rattle.atspi_trace_order.proofs.Steps.{TreeIs, Trees}
+use Rattle.atspi_trace_order.proofs.Steps.{Trees}
 use Rattle.atspi_trace_order.proofs.LawSteps.{Below, Stepped, steps_keep}
 use Rattle.atspi_trace_serials.specs.Laws.{HasNextNumber}
 use Rattle.atspi_trace_serials.proofs.Speaking.{next_of}
-use Rattle.atspi_trace_serials.proofs.Numbers.{AreNext, IsFresh, Unsent, Numbered, Speaks, Hushed, spoken, hushed}
+use Rattle.atspi_trace_serials.proofs.Numbers.{AreNext, IsFresh, Unsent, Numbered, spoken, hushed}
 use Rattle.atspi_trace_serials.proofs.Causing.{edit_speaks, take_speaks, registry_speaks, call_speaks}
 use Rattle.atspi_trace_serials.proofs.Hushing.{same_hushed, bus_took_hushed, bus_ended_hushed, stopping_hushed, reader_hushed, app_speaks, reader_speaks, own_speaks, moved_hushed}
 

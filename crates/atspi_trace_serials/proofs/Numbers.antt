@@ -1,6 +1,6 @@
 -- What the numbers of messages tell of a world, and how a cause keeps it.
-use Rattle.std.proofs.Common.{◌≡◌, ◌⊎◌, inl, inr, ℕ, zero, suc, ◌+◌, ◌<◌, ◌≤◌, Bool, true, false, List, [], ◌∷◌, ◌++◌, length, map, None, Some, refl, sym, ap, ◌∙◌, subst, arith, length-append}
-use Rattle.std.specs.Prelude.{Option, if◌then◌else◌}
+use Rattle.std.proofs.Common.{◌≡◌, ◌⊎◌, inl, inr, ℕ, suc, ◌+◌, ◌<◌, ◌≤◌, Bool, true, false, List, [], ◌∷◌, ◌++◌, length, None, Some, refl, sym, ap, ◌∙◌, subst, arith, length-append}
+use Rattle.std.specs.Prelude.{if◌then◌else◌}
 use Rattle.std.specs.List.{AllByRecursion, cons_option}
 use Rattle.std.proofs.lemmas.List.{append-nil}
 use Rattle.atspi_lines.specs.declared.line.Party.{Party}
@@ -8,8 +8,7 @@ use Rattle.atspi_lines.specs.declared.line.Party.TheVariants.{Bus as The_bus, Re
 use Rattle.atspi_trace.specs.Entry.{Entry, sent}
 use Rattle.atspi_trace.specs.World.{Role, End, World}
 use Rattle.atspi_trace.specs.Ends.{same_party, is_app, is_reader, app_count, reader_count, end_at}
-use Rattle.atspi_trace.specs.Causes.{Done}
-use Rattle.atspi_trace_laws.specs.Words.{sent_by, messages}
+use Rattle.atspi_trace_laws.specs.Words.{messages}
 use Rattle.atspi_trace_laws.specs.NineLaws.{sent_before, HasNextSerial}
 use Rattle.atspi_trace_order.proofs.Parties.{same-party, false_true}
 use Rattle.atspi_trace_order.proofs.Frame.{Over}

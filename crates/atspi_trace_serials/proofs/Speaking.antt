@@ -1,14 +1,12 @@
 -- Who speaks in a cause, and the number of its next message.
-use Rattle.std.proofs.Common.{◌≡◌, ◌⊎◌, inl, inr, ℕ, zero, suc, ◌+◌, Bool, true, false, List, [], ◌∷◌, ◌++◌, length, map, None, Some, refl, sym, ap, ◌∙◌, subst, arith}
-use Rattle.std.specs.Prelude.{Option, ◌==◌, if◌then◌else◌, Result, Ok, Err}
-use Rattle.atspi_forest.specs.declared.edit.Edit.{Edit}
-use Rattle.atspi_lines.specs.declared.line.Party.{Party}
+use Rattle.std.proofs.Common.{◌≡◌, ◌⊎◌, inl, inr, ℕ, ◌+◌, Bool, true, false, List, [], length, None, Some, refl, sym, ap, ◌∙◌, subst}
+use Rattle.std.specs.Prelude.{Option, ◌==◌, if◌then◌else◌}
 use Rattle.atspi_message.specs.Envelope.{Envelope}
-use Rattle.atspi_ends.specs.Messages.{numbered, replies}
+use Rattle.atspi_ends.specs.Messages.{numbered}
 use Rattle.atspi_registering.specs.RegistryState.{RegistryState}
 use Rattle.atspi_registering.specs.Steps.{RegistryStep, speaks, named, called_by, hears, name_told, name_gone, takes_as, registry_takes}
-use Rattle.atspi_trace.specs.World.{Role, the_registry, an_application, a_reader, Letter, End}
-use Rattle.atspi_trace.specs.Ends.{end_at, with_end, put_down, taken_up, taken_down, leaves, stops}
+use Rattle.atspi_trace.specs.World.{Role, the_registry, an_application, a_reader, End}
+use Rattle.atspi_trace.specs.Ends.{end_at, with_end}
 use Rattle.atspi_trace_order.proofs.Parties.{same_some}
 use Rattle.atspi_trace_order.proofs.Frame.{Over, IsOrder, with_cases}
 

@@ -1,4 +1,4 @@
-use Rattle.std.proofs.Common.{◌≡◌, refl, ℕ, arith}
+use Rattle.std.proofs.Common.{◌≡◌, refl, arith}
 use Rattle.atspi_trace_order.proofs.Parties.{false_true}
 use Rattle.atspi_trace_links.proofs.examples.taken_in_order.Goals as goal
 

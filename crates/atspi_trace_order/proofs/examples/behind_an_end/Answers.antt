@@ -1,5 +1,4 @@
-use Rattle.std.proofs.Common.{◌≡◌, inl, true, false, refl, sym, ap}
-use Rattle.atspi_lines.specs.declared.line.Party.{Party}
+use Rattle.std.proofs.Common.{◌≡◌, refl, sym, ap}
 use Rattle.atspi_lines.specs.declared.line.Party.TheVariants.{Bus as The_bus, App}
 use Rattle.atspi_trace.specs.Ends.{same_party}
 use Rattle.atspi_trace_order.proofs.Parties.{false_true}

@@ -1,4 +1,4 @@
-use Rattle.std.proofs.Common.{ℕ, ◌<◌, arith}
+use Rattle.std.proofs.Common.{◌<◌, arith}
 use Rattle.atspi_trace_order.proofs.examples.lines_that_stand.Goals as goal
 
 pub returns-clause-drains : goal.returns-clause-drains

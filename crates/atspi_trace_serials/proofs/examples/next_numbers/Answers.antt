@@ -1,4 +1,4 @@
-use Rattle.std.proofs.Common.{◌≡◌, refl, ℕ, arith}
+use Rattle.std.proofs.Common.{◌≡◌, refl, arith}
 use Rattle.atspi_trace_serials.proofs.examples.next_numbers.Goals as goal
 
 pub returns-clause-first : goal.returns-clause-first

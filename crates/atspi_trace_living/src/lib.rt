@@ -1,0 +1,4 @@
+//! Who sends and takes along lawful traces.
+#![tactic(auto)]
+
+pub mod laws;
