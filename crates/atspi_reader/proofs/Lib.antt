@@ -1,0 +1,13 @@
+pub mod Changed
+pub mod Adopted
+pub mod Goes
+pub mod Ways
+pub mod Done
+pub mod Kept
+pub mod News
+pub mod Replies
+pub mod Parts
+pub mod Spelled
+pub mod Fronts
+pub mod Events
+pub mod Rest

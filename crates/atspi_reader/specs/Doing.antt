@@ -1,0 +1,14 @@
+-- What a reader does, as the definitions see it.
+use Rattle.std.specs.Prelude.{List, map}
+use Rattle.atspi_message.specs.Envelope.{envelope_of}
+use Rattle.atspi_following.specs.declared.event.ReaderEvent.{ReaderEvent}
+use Rattle.atspi_following.specs.declared.event.ReaderEvent.TheVariants.{Send, Say, Gone}
+use Rattle.atspi_following.specs.ReaderState.{Done, sends, speaks, tells_end}
+
+abbrev pub done_of : ReaderEvent → Done
+done_of (Send message) = sends (envelope_of message)
+done_of (Say name line) = speaks name line
+done_of (Gone name) = tells_end name
+
+abbrev pub all_done : List ReaderEvent → List Done
+all_done = map done_of
