@@ -1,2 +1,3 @@
 pub mod Happened
 pub mod View
+pub mod Room

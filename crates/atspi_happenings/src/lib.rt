@@ -5,6 +5,7 @@ mod event;
 mod happenings;
 mod kept;
 mod queue;
+mod room;
 
 pub use event::AppEvent;
 pub use happenings::Happenings;

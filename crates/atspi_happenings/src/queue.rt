@@ -20,7 +20,7 @@ fn is_message(event: &AppEvent) -> bool
 }
 
 /// How many of some happenings are messages.
-fn count_messages(events: &VecDeque<AppEvent>) -> u64
+pub(crate) fn count_messages(events: &VecDeque<AppEvent>) -> u64
     ensures { result ≡ sent_by events.now.items }
 {
     let mut count = 0;

@@ -4,6 +4,7 @@
 mod calls;
 mod known;
 mod name;
+mod room;
 mod starting;
 mod waiting;
 
