@@ -1,0 +1,12 @@
+//! An application that exports a tree: what it answers, what it hears and what it announces. Its contents lie in boxes.
+#![tactic(auto)]
+
+mod app;
+mod doing;
+mod fault;
+mod telling;
+
+pub use app::App;
+pub use atspi_exported::{Boxes, Exported, Exports, Kit};
+pub use atspi_happenings::AppEvent;
+pub use fault::AppFault;

@@ -1,0 +1,101 @@
+//! What is told of steps, made before they are done.
+
+ghost use Rattle.std.specs.Prelude.{◌≡◌, ◌++◌, IfOk, OnOk, map};
+ghost use Rattle.atspi_forest.specs.Forest.{Forest};
+ghost use Rattle.atspi_forest.specs.Row.{Each, TreeRow};
+ghost use Rattle.atspi_forest.specs.Tree.{shape_of};
+ghost use Rattle.atspi_announced.specs.Asked.{CanBeTold};
+ghost use Rattle.atspi_announced.specs.Laws.{told_of_one};
+ghost use Rattle.atspi_exporting.specs.Exporter.{sends};
+ghost use Rattle.atspi_exporting.specs.Starting.{name_or_empty};
+ghost use Rattle.atspi_exporting.specs.Telling.{step_told};
+ghost use Rattle.atspi_happenings.specs.View.{happened};
+ghost use Rattle.atspi_app.specs.Seen.{AreUnnumbered};
+
+use atspi_announced::announced;
+use atspi_base::{NoMemory, Text};
+use atspi_edits::copy_step;
+use atspi_ends::{Mail, Outbox};
+use atspi_forest::{Step, StepList};
+use atspi_happenings::Happenings;
+use atspi_starting::Known;
+use atspi_tree::Tree;
+use std::alloc::Global;
+
+/// The messages of a mail, which have no numbers yet, come behind what is told. A mail is emptied by a queue, which numbers them for
+/// itself.
+fn push_all(alloc: Global, mail: &mut Mail, told: &mut Happenings) -> Result<(), NoMemory>
+    requires { AreUnnumbered mail.old }
+    ensures { OnOk result (happened told.new ≡ happened told.old ++ map sends mail.old) }
+{
+    let mut queue = Outbox::new(alloc);
+    let Ok(()) = queue.post(mail) else {
+        return Err(NoMemory);
+    };
+    while let Some(numbered) = queue.next() {
+        let mut message = numbered;
+        message.serial = 0;
+        told.push_message(message)?;
+    }
+    Ok(())
+}
+
+/// A step, and its signals that some listener asks for.
+fn push_told(
+    alloc: Global,
+    known: &Known,
+    bus: &Text,
+    tree: &Tree,
+    step: &Step,
+    told: &mut Happenings,
+) -> Result<(), NoMemory>
+    requires { CanBeTold tree.now step.now }
+    ensures { OnOk result ((f : Forest TreeRow) → shape_of f ≡ tree.now.rows → happened told.new ≡ happened told.old ++ step_told known.now.heard bus.now f step.now) }
+{
+    let copy = copy_step(alloc, step)?;
+    told.push_step(copy)?;
+    let mut mail = announced(alloc, known.heard(), bus, tree, step)?;
+    push_all(alloc, &mut mail, told)
+}
+
+/// The name of an application, empty before it has one.
+fn own_name(alloc: Global, known: &Known) -> Result<Text, NoMemory>
+    ensures { IfOk result (λ name. name ≡ name_or_empty known.now.name) }
+{
+    match known.name() {
+        Some(name) => name.copy(alloc),
+        None => Text::of(alloc, ""),
+    }
+}
+
+/// Steps and their signals, each told of one tree.
+fn each_told(
+    alloc: Global,
+    known: &Known,
+    bus: &Text,
+    tree: &Tree,
+    steps: &[Step],
+) -> Result<Happenings, NoMemory>
+    requires { Each (CanBeTold tree.now) steps.now }
+    ensures { IfOk result (λ told. (f : Forest TreeRow) → shape_of f ≡ tree.now.rows → happened told ≡ told_of_one known.now.heard bus.now f steps.now) }
+{
+    let mut told = Happenings::new(alloc);
+    for step in steps {
+        push_told(alloc, known, bus, tree, step, &mut told)?;
+    }
+    Ok(told)
+}
+
+/// What is told of steps before they are done.
+pub(crate) fn told(
+    alloc: Global,
+    known: &Known,
+    tree: &Tree,
+    steps: &StepList,
+) -> Result<Happenings, NoMemory>
+    requires { Each (CanBeTold tree.now) steps.now }
+    ensures { IfOk result (λ told. (f : Forest TreeRow) → shape_of f ≡ tree.now.rows → happened told ≡ told_of_one known.now.heard (name_or_empty known.now.name) f steps.now) }
+{
+    let bus = own_name(alloc, known)?;
+    each_told(alloc, known, &bus, tree, steps.as_slice())
+}
