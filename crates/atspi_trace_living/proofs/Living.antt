@@ -1,39 +1,36 @@
 -- Who acts is live, along a lawful trace.
-use Rattle.std.proofs.Common.{◌≡◌, ◌⊎◌, inl, inr, ℕ, zero, suc, Bool, true, false, List, [], ◌∷◌, ◌++◌, length, map, None, Some, refl, sym, ap, ◌∙◌, subst}
+use Rattle.std.proofs.Common.{◌≡◌, ◌⊎◌, inl, inr, ℕ, Bool, true, false, List, [], ◌∷◌, ◌++◌, length, map, None, Some, refl, sym, ap, ◌∙◌, subst}
 use Rattle.std.specs.Prelude.{Option, ◌||◌, ◌&&◌, not}
 use Rattle.std.specs.List.{AllByRecursion, list_any}
-use Rattle.std.proofs.lemmas.List.{append-nil, append_assoc}
 use Rattle.atspi_lines.specs.declared.line.Line.{Line}
 use Rattle.atspi_lines.specs.declared.line.Party.{Party}
 use Rattle.atspi_lines.specs.declared.line.Party.TheVariants.{Bus as The_bus, Registry, App, Reader}
 use Rattle.atspi_message.specs.Envelope.{Envelope}
 use Rattle.atspi_registering.specs.Steps.{registry_takes}
 use Rattle.atspi_exporting.specs.Exporter.{begins as begins_app}
-use Rattle.atspi_exporting.specs.Starting.{starts}
 use Rattle.atspi_exporting.specs.Taking.{app_takes}
 use Rattle.atspi_routing.specs.declared.closing.Closing.{Closing}
 use Rattle.atspi_following.specs.Calls.{user_call}
-use Rattle.atspi_following.specs.declared.question.Question.{Question}
-use Rattle.atspi_trace.specs.Entry.{Entry, started, changed, sent, got, exited, dropped}
-use Rattle.atspi_trace.specs.World.{Role, here, an_application, End, World, newcomer}
-use Rattle.atspi_trace.specs.Ends.{same_party, number_of, whose, party_at, end_at, app_count, reader_count, put_up, taken_down}
+use Rattle.atspi_trace.specs.Entry.{Entry, started, sent, got, exited, dropped}
+use Rattle.atspi_trace.specs.World.{an_application, End, World, newcomer}
+use Rattle.atspi_trace.specs.Ends.{same_party, number_of, whose, party_at, app_count, reader_count, put_up, taken_down}
 use Rattle.atspi_trace.specs.Carrying as carrying
 use Rattle.atspi_trace.specs.Carrying.{bus_entries}
 use Rattle.atspi_trace.specs.Hearing.{heard_entries}
-use Rattle.atspi_trace.specs.Causes.{Done, at_end, did, app_starts, reader_starts, bus_did}
-use Rattle.atspi_trace.specs.Due.{asks_at, begins, Goes}
+use Rattle.atspi_trace.specs.Causes.{Done, did}
+use Rattle.atspi_trace.specs.Due.{begins, Goes}
 use Rattle.atspi_trace_laws.specs.Words.{starts_it, stops_it, is_live}
 use Rattle.atspi_trace_laws.specs.NineLaws.{Everywhere}
 use Rattle.atspi_trace_order.specs.Scripts.{CanAllStand}
 use Rattle.atspi_trace_order.proofs.Parties.{same-party, party-same, false_true}
 use Rattle.atspi_trace_order.proofs.BusWords.{all_any, bus_all}
-use Rattle.atspi_trace_order.proofs.Allowed.{IsHere, MovedUp, MovedDown, Asks}
+use Rattle.atspi_trace_order.proofs.Allowed.{IsHere}
 use Rattle.atspi_trace_order.proofs.Shape.{Shape, IsNew, not_new}
 use Rattle.atspi_trace_order.proofs.Effects.{received, Effect, resets, app_joins, reader_joins, app_edited, app_took, reader_called, swapped, exited_, showed_, told_busy, told_quiet, bus_took, bus_ended, registry_took, reader_took}
 use Rattle.atspi_trace_order.proofs.Shaped.{received_at}
 use Rattle.atspi_trace_order.proofs.Along.{Keeps, kept}
 use Rattle.atspi_trace_order.proofs.Growing.{Grows, Shaped, Nothing, And, grown}
-use Rattle.atspi_trace_order.proofs.Each.{Each, everywhere, each_more, each_of, all_map}
+use Rattle.atspi_trace_order.proofs.Each.{Each, everywhere, each_more, each_of}
 use Rattle.atspi_trace_order.proofs.Gone.{IsGone}
 use Rattle.atspi_trace_order.proofs.Closed.{IsDropped}
 use Rattle.atspi_trace_order.proofs.Told.{Tells}
