@@ -1,10 +1,13 @@
 //! Doing the lines of a script.
 
-ghost use Rattle.std.specs.Prelude.{◌≡◌, OnOk};
+ghost use Rattle.std.specs.Prelude.{◌≡◌, Some, length, OnOk};
 ghost use Rattle.atspi_forest.specs.Edits.{IsEdit};
 ghost use Rattle.atspi_reader_calls.specs.Deeds.{MayBeAsked};
 ghost use Rattle.atspi_bus_steps.specs.Inner.{state_of};
+ghost use Rattle.atspi_trace.specs.World.{World};
+ghost use Rattle.atspi_trace.specs.Work as work;
 ghost use Rattle.atspi_stage.specs.MayAct.{HasName, MayAct};
+ghost use Rattle.atspi_stage.specs.Refusals.{first_refusal, IsOf, IsRefusedFor};
 ghost use Rattle.atspi_stage.specs.Stage.{IsStage, UnlessHalted};
 
 use crate::fault::ActFault;
@@ -121,16 +124,13 @@ impl<A: Application, R: Follower> Stage<A, R> {
         }
     }
 
-    /// Does a line. Refused for the first reason that holds, and then nothing of it is done; Spent where a message of an end, or of the bus, would
-    /// pass serial 4,294,967,295; RegistryLost where the registry was dropped. Behind any but a refusal the world is not used again.
-    pub fn act(&mut self, line: &Line) -> Result<(), ActFault>
+    /// Does a line that is not refused, or only by the edit or the call that it asks for.
+    fn carry_out(&mut self, line: &Line) -> Result<(), ActFault>
         requires may { MayAct line.now }
+        requires name { HasName line.now }
         requires stage { IsStage A.is_app R.is_follower A.is_kit A.is_spare self.old.cast.apps.items self.old.cast.readers.items self.old.kits.items self.old.spares.items (state_of self.old.carrier.bus) }
         ensures stage { UnlessHalted result (IsStage A.is_app R.is_follower A.is_kit A.is_spare self.new.cast.apps.items self.new.cast.readers.items self.new.kits.items self.new.spares.items (state_of self.new.carrier.bus)) }
     {
-        if let Some(why) = self.refusal(line) {
-            return Err(ActFault::Refused(why));
-        }
         match line {
             Line::Edit { app, edit } => self.ask_edit(*app, edit),
             Line::Call {
@@ -143,6 +143,23 @@ impl<A: Application, R: Follower> Stage<A, R> {
                 Ok(()) => Ok(()),
                 Err(halt) => Err(ActFault::from(halt)),
             },
+        }
+    }
+
+    /// Does a line. Refused for the first reason that holds, and then nothing of it is done; Spent where a message of an end, or of the bus, would
+    /// pass serial 4,294,967,295; RegistryLost where the registry was dropped. Behind any but a refusal the world is not used again.
+    pub fn act(&mut self, line: &Line) -> Result<(), ActFault>
+        requires may { MayAct line.now }
+        requires stage { IsStage A.is_app R.is_follower A.is_kit A.is_spare self.old.cast.apps.items self.old.cast.readers.items self.old.kits.items self.old.spares.items (state_of self.old.carrier.bus) }
+        ensures stage { UnlessHalted result (IsStage A.is_app R.is_follower A.is_kit A.is_spare self.new.cast.apps.items self.new.cast.readers.items self.new.kits.items self.new.spares.items (state_of self.new.carrier.bus)) }
+        ensures refused { (w : World) (why : work.Refusal) → IsOf w self.old.carrier.posts.items (length self.old.cast.apps.items) (length self.old.cast.readers.items) (length self.old.spares.items)
+            → first_refusal w line.now ≡ Some why → IsRefusedFor result why }
+        ensures nothing { (w : World) (why : work.Refusal) → IsOf w self.old.carrier.posts.items (length self.old.cast.apps.items) (length self.old.cast.readers.items) (length self.old.spares.items)
+            → first_refusal w line.now ≡ Some why → self.new ≡ self.old }
+    {
+        match self.refusal(line) {
+            Some(why) => Err(ActFault::Refused(why)),
+            None => self.carry_out(line),
         }
     }
 }

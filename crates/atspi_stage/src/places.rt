@@ -1,7 +1,9 @@
 //! Connections by their parties.
 
 ghost use Rattle.std.specs.Prelude.{◌≡◌};
+ghost use Rattle.std.specs.Option.{option_copied};
 ghost use Rattle.atspi_trace.specs.Ends.{same_party};
+ghost use Rattle.atspi_stage.specs.Places as places;
 
 use atspi_lines::Party;
 use atspi_posts::Post;
@@ -25,11 +27,8 @@ fn is_party(who: Party, other: Party) -> bool
 }
 
 /// The connection of a party, none where the party was not started.
-pub(crate) fn post_of(posts: &[Post], who: Party) -> Option<&Post> {
-    for post in posts {
-        if is_party(post.who, who) {
-            return Some(post);
-        }
-    }
-    None
+pub(crate) fn post_of(posts: &[Post], who: Party) -> Option<&Post>
+    ensures { option_copied result ≡ places.post_of who posts.now }
+{
+    posts.iter().find(|post| is_party(post.who, who))
 }

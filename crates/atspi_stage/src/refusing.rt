@@ -1,8 +1,17 @@
 //! Why a line is refused before any of it is done.
 
-ghost use Rattle.std.specs.Prelude.{◌≡◌, None};
+ghost use Rattle.std.specs.Prelude.{◌≡◌, ◌+◌, ℕ, List, None, length, nat_le, nat_lt};
+ghost use Rattle.std.specs.Option.{option_map};
 ghost use Rattle.atspi_forest.specs.Row.{IsName};
+ghost use Rattle.atspi_forest.specs.Edits.{is_long_name};
+ghost use Rattle.atspi_forest.specs.Forest.{first_of};
+ghost use Rattle.atspi_forest.specs.declared.edit.EditFault.TheVariants as faults;
+ghost use Rattle.atspi_trace.specs.World.{End, World};
+ghost use Rattle.atspi_trace.specs.Ends.{end_of};
+ghost use Rattle.atspi_trace.specs.Work as work;
+ghost use Rattle.atspi_trace.specs.Work.{if_here, if_started, no_more};
 ghost use Rattle.atspi_stage.specs.MayAct.{HasName};
+ghost use Rattle.atspi_stage.specs.Refusals.{first_refusal, refusal_of, HaveSeats, IsOf};
 
 use crate::fault::Refusal;
 use crate::places::post_of;
@@ -14,7 +23,9 @@ use atspi_posts::{Post, Standing};
 use atspi_stage_ends::{Application, Follower};
 
 /// Refused where a party was not started.
-fn unless_started(posts: &[Post], who: Party) -> Option<Refusal> {
+fn unless_started(posts: &[Post], who: Party) -> Option<Refusal>
+    ensures { (ends : List End) → HaveSeats ends posts.now → option_map refusal_of result ≡ if_started (end_of ends who) no_more }
+{
     match post_of(posts, who) {
         Some(_) => None,
         None => Some(Refusal::NoParty),
@@ -22,29 +33,43 @@ fn unless_started(posts: &[Post], who: Party) -> Option<Refusal> {
 }
 
 /// Refused where a party was not started, or stopped.
-fn unless_here(posts: &[Post], who: Party) -> Option<Refusal> {
+fn unless_here(posts: &[Post], who: Party) -> Option<Refusal>
+    ensures { (ends : List End) → HaveSeats ends posts.now → option_map refusal_of result ≡ if_started (end_of ends who) (λ e. if_here e no_more) }
+{
     match post_of(posts, who) {
-        Some(post) => {
-            if post.standing == Standing::Here {
-                None
-            } else {
-                Some(Refusal::Dead)
-            }
-        }
+        Some(post) => match post.standing {
+            Standing::Here => None,
+            Standing::Stopped => Some(Refusal::Dead),
+            Standing::Away => Some(Refusal::Dead),
+        },
         None => Some(Refusal::NoParty),
     }
 }
 
 /// Refused where the first is, and else where the second is.
-fn either(first: Option<Refusal>, second: Option<Refusal>) -> Option<Refusal> {
+fn either(first: Option<Refusal>, second: Option<Refusal>) -> Option<Refusal>
+    ensures { option_map refusal_of result ≡ first_of (option_map refusal_of first) (option_map refusal_of second) }
+{
     match first {
         Some(why) => Some(why),
         None => second,
     }
 }
 
+/// Refused where an end was started.
+fn unless_fresh(posts: &[Post]) -> Option<Refusal>
+    ensures { (ends : List End) → HaveSeats ends posts.now → option_map refusal_of result ≡ work.refusal_if (nat_lt 1 (length ends)) work.late }
+{
+    if posts.len() > 1 {
+        Some(Refusal::Late)
+    } else {
+        None
+    }
+}
+
 /// Refused where all kits are used, or the name is too long.
 fn unless_room(apps: usize, name: &Text) -> Option<Refusal>
+    ensures exact { option_map refusal_of result ≡ first_of (work.refusal_if (nat_le 16 apps) work.no_kit) (work.refusal_if (is_long_name name.now) (work.of_edit faults.TextFull)) }
     ensures name { result ≡ None → IsName name.now }
 {
     if apps >= APP_COUNT as usize {
@@ -56,25 +81,41 @@ fn unless_room(apps: usize, name: &Text) -> Option<Refusal>
     None
 }
 
-/// A refusal where a test passes.
-fn refusal_if(test: bool, why: Refusal) -> Option<Refusal> {
-    if test { Some(why) } else { None }
+/// Refused where all readers were started.
+fn unless_reader(readers: usize) -> Option<Refusal>
+    ensures { option_map refusal_of result ≡ work.refusal_if (nat_le 4 readers) work.no_reader }
+{
+    if readers >= READER_COUNT as usize {
+        Some(Refusal::NoReader)
+    } else {
+        None
+    }
+}
+
+/// Refused where no spare face is left.
+fn unless_spare(spares: usize) -> Option<Refusal>
+    ensures { (swaps : ℕ) → swaps + spares ≡ 16 → option_map refusal_of result ≡ work.refusal_if (nat_le 16 swaps) work.no_spare }
+{
+    if spares == 0 {
+        Some(Refusal::NoSpare)
+    } else {
+        None
+    }
 }
 
 impl<A: Application, R: Follower> Stage<A, R> {
     /// Why a line is refused, none where it is not, or only by the edit or the call that it asks for.
     pub(crate) fn refusal(&self, line: &Line) -> Option<Refusal>
         ensures name { result ≡ None → HasName line.now }
+        ensures exact { (w : World) → IsOf w self.now.carrier.posts.items (length self.now.cast.apps.items) (length self.now.cast.readers.items) (length self.now.spares.items)
+            → option_map refusal_of result ≡ first_refusal w line.now }
     {
         let posts = self.carrier.posts.as_slice();
         match line {
             Line::Blank => None,
-            Line::Quota(_) => refusal_if(posts.len() > 1, Refusal::Late),
+            Line::Quota(_) => unless_fresh(posts),
             Line::App(name) => unless_room(self.cast.apps.len(), name),
-            Line::Reader => refusal_if(
-                self.cast.readers.len() >= READER_COUNT as usize,
-                Refusal::NoReader,
-            ),
+            Line::Reader => unless_reader(self.cast.readers.len()),
             Line::Edit { app, .. } => unless_here(posts, Party::App(*app)),
             Line::Call { reader, app, .. } => either(
                 either(
@@ -85,7 +126,7 @@ impl<A: Application, R: Follower> Stage<A, R> {
             ),
             Line::Swap(app) => either(
                 unless_here(posts, Party::App(*app)),
-                refusal_if(self.spares.is_empty(), Refusal::NoSpare),
+                unless_spare(self.spares.len()),
             ),
             Line::Exit(app) => unless_here(posts, Party::App(*app)),
             Line::Leave(reader) => unless_here(posts, Party::Reader(*reader)),
