@@ -26,8 +26,8 @@ use Rattle.atspi_trace_order.proofs.Along.{Keeps, kept}
 use Rattle.atspi_trace_order.proofs.Growing.{Grows, Shaped, And, grown}
 use Rattle.atspi_trace_order.proofs.Each.{Each, everywhere, all_map}
 use Rattle.atspi_trace_order.proofs.Acts.{Act, heard_act}
-use Rattle.atspi_trace_order.proofs.Steps.{Trees}
-use Rattle.atspi_trace_order.proofs.LawSteps.{Below, Stepped}
+use Rattle.atspi_trace_steps.proofs.Steps.{Trees}
+use Rattle.atspi_trace_steps.proofs.LawSteps.{Below, Stepped}
 use Rattle.atspi_trace_serials.proofs.Numbers.{Numbered}
 use Rattle.atspi_trace_serials.proofs.Causing.{edit_speaks, take_speaks, registry_speaks, call_speaks}
 use Rattle.atspi_trace_serials.proofs.Hushing.{same_hushed, bus_ended_hushed, stopping_hushed, reader_hushed, app_speaks, reader_speaks, own_speaks, moved_hushed}

@@ -37,7 +37,7 @@ use Rattle.atspi_trace_order.proofs.Told.{Tells}
 use Rattle.atspi_trace_order.proofs.Acts.{Act, IsActive, did_act, sent_act, heard_act, last_at, number_at}
 use Rattle.atspi_trace_order.proofs.Exits.{Out, Exited}
 use Rattle.atspi_trace_order.proofs.Lives.{any_here, HasStarted, Started, starts_keep, here_lives}
-use Rattle.atspi_trace_order.proofs.Trees.{live_more}
+use Rattle.atspi_trace_steps.proofs.Trees.{live_more}
 use Rattle.atspi_trace_living.specs.Laws.{ActsAlive}
 
 -- the bus, or an end that is here

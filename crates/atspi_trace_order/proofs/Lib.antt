@@ -15,10 +15,4 @@ pub mod Closed
 pub mod Told
 pub mod Acts
 pub mod Exits
-pub mod Doings
-pub mod Takings
 pub mod Lives
-pub mod Trees
-pub mod Steps
-pub mod Stepping
-pub mod LawSteps

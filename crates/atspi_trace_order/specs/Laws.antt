@@ -5,7 +5,7 @@ use Rattle.std.specs.List.{AllByRecursion}
 use Rattle.atspi_lines.specs.declared.line.Party.TheVariants.{Bus as The_bus}
 use Rattle.atspi_trace.specs.Entry.{Entry, exited, dropped}
 use Rattle.atspi_trace.specs.Due.{Begun}
-use Rattle.atspi_trace_laws.specs.NineLaws.{Everywhere, IsNotOf, IsLast, LawOfSteps}
+use Rattle.atspi_trace_laws.specs.NineLaws.{Everywhere, IsNotOf, IsLast}
 use Rattle.atspi_trace_order.specs.Scripts.{CanAllStand}
 
 -- it holds of each front of a lawful trace, one that is broken off too
@@ -24,7 +24,3 @@ IsOut before entry behind = Unit {0}
 
 abbrev pub NobodyReturns : Type 0
 NobodyReturns = OfEachTrace (Everywhere IsOut)
-
--- each step is one of a live application and applies to its tree, which is the fold of its steps
-abbrev pub StepsApply : Type 0
-StepsApply = OfEachTrace LawOfSteps

@@ -1,6 +1,6 @@
 //! Laws of lawful traces, of each front of one too.
 
-ghost use Rattle.atspi_trace_order.specs.Laws.{NothingFollowsAnExit, NobodyReturns, StepsApply};
+ghost use Rattle.atspi_trace_order.specs.Laws.{NothingFollowsAnExit, NobodyReturns};
 
 /// Behind an end's exit stands nothing of it.
 pub fn nothing_follows_an_exit()
@@ -10,9 +10,4 @@ pub fn nothing_follows_an_exit()
 /// Behind an end's exit, and behind the news that it was dropped, stands nothing of it.
 pub fn nobody_returns()
     ensures { NobodyReturns }
-{}
-
-/// Each step is one of a live application, and applies to the tree that its start and its steps before make.
-pub fn steps_apply()
-    ensures { StepsApply }
 {}

@@ -20,8 +20,8 @@ use Rattle.atspi_trace_order.proofs.Effects.{Effect, resets, app_joins, reader_j
 use Rattle.atspi_trace_order.proofs.Along.{Keeps, kept}
 use Rattle.atspi_trace_order.proofs.Growing.{Grows, Shaped, And, grown}
 use Rattle.atspi_trace_order.proofs.Each.{Each, everywhere}
-use Rattle.atspi_trace_order.proofs.Steps.{Trees}
-use Rattle.atspi_trace_order.proofs.LawSteps.{Below, Stepped, steps_keep}
+use Rattle.atspi_trace_steps.proofs.Steps.{Trees}
+use Rattle.atspi_trace_steps.proofs.LawSteps.{Below, Stepped, steps_keep}
 use Rattle.atspi_trace_serials.specs.Laws.{HasNextNumber}
 use Rattle.atspi_trace_serials.proofs.Speaking.{next_of}
 use Rattle.atspi_trace_serials.proofs.Numbers.{AreNext, IsFresh, Unsent, Numbered, spoken, hushed}

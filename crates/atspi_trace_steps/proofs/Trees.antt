@@ -16,7 +16,7 @@ use Rattle.atspi_trace.specs.Causes.{did}
 use Rattle.atspi_trace_laws.specs.Words.{tree_after, live_tree, count_after, added, starts_it, stops_it, is_live}
 use Rattle.atspi_trace_laws.specs.NineLaws.{StepIsOne}
 use Rattle.atspi_trace_order.proofs.Each.{Each}
-use Rattle.atspi_trace_order.proofs.Doings.{AllDone, tree_by, count_by}
+use Rattle.atspi_trace_steps.proofs.Doings.{AllDone, tree_by, count_by}
 
 pub fold_append : {A B : Type 0} (f : B → A → B) (b : B) (xs ys : List A) → fold f b (xs ++ ys) ≡ fold f (fold f b xs) ys
 fold_append f b [] ys = refl

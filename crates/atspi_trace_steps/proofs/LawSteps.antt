@@ -35,9 +35,9 @@ use Rattle.atspi_trace_order.proofs.Each.{Each, everywhere, each_more, each_of, 
 use Rattle.atspi_trace_order.proofs.Told.{Tells}
 use Rattle.atspi_trace_order.proofs.Exits.{Exited}
 use Rattle.atspi_trace_order.proofs.Lives.{Started, starts_keep, here_lives}
-use Rattle.atspi_trace_order.proofs.Trees.{tree_more, count_more, NotOn, counts_same, NoStep, no_step_on, no_step_law}
-use Rattle.atspi_trace_order.proofs.Steps.{TreeIs, SameApp, same_app, Trees, Unborn, tree_alone, still_trees, ActsApp, acted_trees, acted_law, other_on, same_app_of}
-use Rattle.atspi_trace_order.proofs.Stepping.{Still, OfApps, still_, acts_, app_new, reader_new, anew_, of_apps, no_reader, down_moved_same, up_moved_same, reader_same}
+use Rattle.atspi_trace_steps.proofs.Trees.{tree_more, count_more, NotOn, counts_same, NoStep, no_step_on, no_step_law}
+use Rattle.atspi_trace_steps.proofs.Steps.{TreeIs, SameApp, same_app, Trees, Unborn, tree_alone, still_trees, ActsApp, acted_trees, acted_law, other_on, same_app_of}
+use Rattle.atspi_trace_steps.proofs.Stepping.{Still, OfApps, still_, acts_, app_new, reader_new, anew_, of_apps, no_reader, down_moved_same, up_moved_same, reader_same}
 
 -- the law so far, the trees, and that nobody stepped who did not join
 abbrev pub Stepped : List Entry → World → Type 0

@@ -28,11 +28,11 @@ use Rattle.atspi_trace_order.proofs.Shape.{Lasts, lasting}
 use Rattle.atspi_trace_order.proofs.Each.{all_map}
 use Rattle.atspi_trace_order.proofs.Effects.{received, AppEdits, AppTakes, ReaderCalls, Stopping, BusTakes, BusEnds, RegistryTakes, ReaderTakes, Effect, resets, app_joins, reader_joins, app_edited, app_took, reader_called, swapped, exited_, showed_, told_busy, told_quiet, bus_took, bus_ended, registry_took, reader_took}
 use Rattle.atspi_trace_order.proofs.Shaped.{received_at, bus_takes_over, bus_ends_over, edits_over, app_takes_over, calls_over, stopping_over, registry_over, reader_over}
-use Rattle.atspi_trace_order.proofs.Doings.{edit_did}
-use Rattle.atspi_trace_order.proofs.Takings.{takes_did}
+use Rattle.atspi_trace_steps.proofs.Doings.{edit_did}
+use Rattle.atspi_trace_steps.proofs.Takings.{takes_did}
 use Rattle.atspi_trace_order.proofs.Acts.{Act, heard_act, number_at}
-use Rattle.atspi_trace_order.proofs.Trees.{NoStep}
-use Rattle.atspi_trace_order.proofs.Steps.{TreeIs, SameApp, same_app, bus_still, sent_still, Trees, ActsApp}
+use Rattle.atspi_trace_steps.proofs.Trees.{NoStep}
+use Rattle.atspi_trace_steps.proofs.Steps.{TreeIs, SameApp, same_app, bus_still, sent_still, Trees, ActsApp}
 
 -- changes of an end that leave applications as they are
 put_same : (letter : Letter) (e : End) → SameApp e (put_down letter e)

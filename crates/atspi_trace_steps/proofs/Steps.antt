@@ -21,8 +21,8 @@ use Rattle.atspi_trace_order.proofs.Frame.{Over, IsOrder}
 use Rattle.atspi_trace_laws.specs.Words.{stops_it}
 use Rattle.atspi_trace_order.proofs.Shape.{Shape}
 use Rattle.atspi_trace_order.proofs.Each.{Each, each_more, each_of, all_map}
-use Rattle.atspi_trace_order.proofs.Doings.{AllDone, tree_by, count_by, Did}
-use Rattle.atspi_trace_order.proofs.Trees.{fold_append, tree_more, count_more, NotOn, trees_same, counts_same, NoStep, no_step_on, no_step_law, did_other, did_tree, did_count, live_more, steps_law}
+use Rattle.atspi_trace_steps.proofs.Doings.{AllDone, tree_by, count_by, Did}
+use Rattle.atspi_trace_steps.proofs.Trees.{fold_append, tree_more, count_more, NotOn, trees_same, counts_same, NoStep, no_step_on, no_step_law, did_other, did_tree, did_count, live_more, steps_law}
 
 -- the state of an application is what the trace tells of it
 pub record TreeIs (es : List Entry) (app : ℕ) (s : Exporter) : Type 0 where

@@ -16,7 +16,7 @@ use Rattle.atspi_exporting.specs.Starting.{awaited, goes_on, asks, greeted, list
 use Rattle.atspi_exporting.specs.Taking.{added_by, app_takes, takes_other, takes_call, takes_signal, called, answer_to}
 use Rattle.atspi_exporting.specs.Laws.{HasTree}
 use Rattle.atspi_exporting.proofs.Staying.{answers_apply}
-use Rattle.atspi_trace_order.proofs.Doings.{tree_by, count_by, IsStill, still_append, still_sends, still_deaf, still_hears, still_done, still_tree, still_count, done_append, tree_append, count_append, done_numbered, tree_numbered, count_numbered, told_done, told_tree, told_count, Did, nothing_done, still_did, both_did}
+use Rattle.atspi_trace_steps.proofs.Doings.{tree_by, count_by, IsStill, still_append, still_sends, still_deaf, still_hears, still_done, still_tree, still_count, done_append, tree_append, count_append, done_numbered, tree_numbered, count_numbered, told_done, told_tree, told_count, Did, nothing_done, still_did, both_did}
 
 asks_did : (s : Exporter) (call : StartCall) → Did s (asks s call)
 asks_did s call = still_did s (asks s call) (sends (start_call (name_or_empty s.name) call) ∷ []) refl refl refl tt

@@ -1,0 +1,4 @@
+//! The law of steps along lawful traces.
+#![tactic(auto)]
+
+pub mod laws;
