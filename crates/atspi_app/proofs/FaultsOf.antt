@@ -1,6 +1,6 @@
 -- Which fault of a part is which of the application.
 use Rattle.std.proofs.Common.{◌≡◌, refl, sym, ap, ◌∙◌, subst}
-use Rattle.std.specs.Prelude.{List, Result, Ok, Err}
+use Rattle.std.specs.Prelude.{List, Result, Err}
 use Rattle.atspi_forest.specs.declared.step.Step.{Step}
 use Rattle.atspi_exported.specs.Asking.{AnswersSteps}
 use Rattle.atspi_forest.specs.declared.edit.EditFault.{EditFault}

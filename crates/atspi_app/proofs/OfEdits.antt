@@ -1,5 +1,5 @@
 -- What is told of the steps of an edit.
-use Rattle.std.proofs.Common.{◌≡◌, ℕ, sym, ap, ◌∙◌, subst, true, false}
+use Rattle.std.proofs.Common.{◌≡◌, sym, ap, ◌∙◌, subst, true}
 use Rattle.std.specs.Prelude.{ℤ, List, Result, Ok, Err, OnOk}
 use Rattle.atspi_forest.specs.declared.edit.Edit.{Edit}
 use Rattle.atspi_forest.specs.declared.step.Step.{Step}
@@ -20,7 +20,7 @@ use Rattle.atspi_exported.specs.Parts.{Parts, whole_of}
 use Rattle.atspi_announced.specs.Asked.{CanBeTold}
 use Rattle.atspi_announced.specs.Laws.{told_of_one}
 use Rattle.atspi_announced.proofs.EditsStay.{edits_are_told_at_once, edits_can_be_told}
-use Rattle.atspi_app.specs.Seen.{seen, with_tree, IsSpentAfter}
+use Rattle.atspi_app.specs.Seen.{seen, IsSpentAfter}
 
 same_shape : (p : Parts) → ◌≡◌ {A = TreeShape} (record { rows = shape_of (whole_of p); added = p.tree.added }) p.tree
 same_shape p = ap (λ (f : Forest ShapeRow). record { rows = f; added = p.tree.added }) (shape_is_kept p.tree.rows p.faces)

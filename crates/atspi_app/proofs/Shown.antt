@@ -1,24 +1,20 @@
 -- An application as it is seen, after its calls.
-use Rattle.std.proofs.Common.{◌≡◌, ℕ, ◌+◌, List, [], ◌∷◌, ◌++◌, Option, None, Some, true, refl, sym, ap, ◌∙◌, subst}
-use Rattle.std.specs.Prelude.{ℤ, negsuc, Result, Ok, Err}
+use Rattle.std.proofs.Common.{◌≡◌, ℕ, List, [], ◌∷◌, None, refl, ap, ◌∙◌}
+use Rattle.std.specs.Prelude.{ℤ, negsuc, Err}
 use Rattle.atspi_forest.specs.declared.edit.Edit.{Edit}
 use Rattle.atspi_forest.specs.declared.edit.EditFault.{EditFault}
 use Rattle.atspi_forest.specs.declared.step.Step.{Step}
 use Rattle.atspi_forest.specs.Edits.{steps_of_tree}
-use Rattle.atspi_forest.specs.Forest.{Forest}
-use Rattle.atspi_forest.specs.Row.{TreeRow}
 use Rattle.atspi_forest.specs.RowRules.{rows}
 use Rattle.atspi_forest.specs.Tree.{first_tree, added_after, after_all}
-use Rattle.atspi_exporting.specs.Exporter.{Exporter, Phase, new, begins, Happening, queues}
-use Rattle.atspi_exporting.specs.Starting.{name_or_empty}
-use Rattle.atspi_exporting.specs.Taking.{added_by, stepped, app_edits, is_spent}
-use Rattle.atspi_exporting.specs.Telling.{steps_told}
+use Rattle.atspi_exporting.specs.Exporter.{Exporter, new, begins, Happening, queues}
+use Rattle.atspi_exporting.specs.Taking.{added_by, stepped, app_edits}
 use Rattle.atspi_happenings.specs.View.{next_of, out_of}
 use Rattle.atspi_starting.specs.declared.known.Known.{Known}
 use Rattle.atspi_starting.specs.KnownView.{known_in, phase_of}
 use Rattle.atspi_exported.specs.Parts.{Parts, whole_of}
 use Rattle.atspi_exported.specs.Doing.{added_all}
-use Rattle.atspi_app.specs.Seen.{seen, with_tree, IsSpentAfter}
+use Rattle.atspi_app.specs.Seen.{seen, with_tree}
 
 -- the root alone
 pub seen_begins : (p : Parts) (id : ℤ) (k : Known) (name : List ℕ) → whole_of p ≡ first_tree rows name → p.tree.added ≡ 0 → id ≡ negsuc 0
@@ -38,30 +34,10 @@ seen_steps p q id k l steps hs tree added known =
     known (with_tree q id)
     ∙ (λ i. queues (known_in k (record (with_tree p id) { tree = tree i; added = (added ∙ added_same p.tree.added steps) i })) hs)
 
-edits_by : (s : Exporter) (edit : Edit) (steps : List Step) (t : Exporter) → steps_of_tree s.tree s.added edit ≡ Ok steps
-    → t ≡ queues (stepped s steps) (steps_told s.heard (name_or_empty s.name) s.tree steps) → app_edits s edit ≡ Ok t
-edits_by s edit steps t is e = rw is (ap Ok (sym e))
-
--- an edit that is done
-pub edit_done : (p q : Parts) (id : ℤ) (k l : Known) (edit : Edit) (steps : List Step) (hs : List Happening)
-    → steps_of_tree (whole_of p) p.tree.added edit ≡ Ok steps → hs ≡ steps_told k.heard (name_or_empty k.name) (whole_of p) steps
-    → whole_of q ≡ after_all rows (whole_of p) steps → q.tree.added ≡ added_all p.tree.added steps
-    → ((s : Exporter) → known_in l s ≡ queues (known_in k s) hs) → app_edits (seen p id k) edit ≡ Ok (seen q id l)
-edit_done p q id k l edit steps hs is told tree added known =
-    edits_by (seen p id k) edit steps (seen q id l) is
-    (seen_steps p q id k l steps hs tree added known ∙ ap (queues (stepped (seen p id k) steps)) told)
-
 -- an edit that is refused
 pub edit_refused : (p : Parts) (id : ℤ) (k : Known) (edit : Edit) (fault : EditFault) → steps_of_tree (whole_of p) p.tree.added edit ≡ Err fault
     → app_edits (seen p id k) edit ≡ Err fault
 edit_refused p id k edit fault is = rw is refl
-
--- an edit for whose messages no number is left
-pub edit_spent : (p : Parts) (id : ℤ) (k : Known) (edit : Edit) (steps : List Step) (hs : List Happening)
-    → steps_of_tree (whole_of p) p.tree.added edit ≡ Ok steps → hs ≡ steps_told k.heard (name_or_empty k.name) (whole_of p) steps
-    → ((s : Exporter) → is_spent (queues (known_in k s) hs) ≡ true) → IsSpentAfter (app_edits (seen p id k) edit)
-edit_spent p id k edit steps hs is told spent =
-    rw is (subst (λ l. is_spent (queues (stepped (seen p id k) steps) l) ≡ true) told (spent (record (with_tree p id) { tree = after_all rows (whole_of p) steps; added = added_by p.tree.added steps })))
 
 -- the same parts, and what is known is seen alike
 pub seen_same : (p q : Parts) (id : ℤ) (k l : Known) → q ≡ p → ((s : Exporter) → known_in l s ≡ known_in k s) → seen q id l ≡ seen p id k

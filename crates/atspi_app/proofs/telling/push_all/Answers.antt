@@ -1,5 +1,5 @@
 use Rattle.std.proofs.Common.{refl}
-use Rattle.atspi_app.proofs.Unnumbered.{pushing_starts, pushing_goes_on, pushing_ends}
+use Rattle.atspi_app.proofs.Unnumbered.{pushing_starts, pushing_goes_on}
 use Rattle.atspi_app.proofs.telling.push_all.Goals as goal
 
 pub loop-numbered-init : goal.loop-numbered-init
