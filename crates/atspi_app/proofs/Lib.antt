@@ -4,3 +4,4 @@ pub mod FaultsOf
 pub mod Unnumbered
 pub mod Told
 pub mod OfEdits
+pub mod OfCalls

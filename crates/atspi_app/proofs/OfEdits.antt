@@ -22,7 +22,7 @@ use Rattle.atspi_announced.specs.Laws.{told_of_one}
 use Rattle.atspi_announced.proofs.EditsStay.{edits_are_told_at_once, edits_can_be_told}
 use Rattle.atspi_app.specs.Seen.{seen, IsSpentAfter}
 
-same_shape : (p : Parts) → ◌≡◌ {A = TreeShape} (record { rows = shape_of (whole_of p); added = p.tree.added }) p.tree
+pub same_shape : (p : Parts) → ◌≡◌ {A = TreeShape} (record { rows = shape_of (whole_of p); added = p.tree.added }) p.tree
 same_shape p = ap (λ (f : Forest ShapeRow). record { rows = f; added = p.tree.added }) (shape_is_kept p.tree.rows p.faces)
 
 -- each step can be told of the tree before the first

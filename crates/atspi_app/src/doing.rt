@@ -8,7 +8,7 @@ ghost use Rattle.atspi_exporting.specs.Exporter.{queues};
 ghost use Rattle.atspi_exporting.specs.Taking.{is_spent, stepped};
 ghost use Rattle.atspi_happenings.specs.Room.{HasRoom};
 ghost use Rattle.atspi_happenings.specs.View.{happened};
-ghost use Rattle.atspi_exported.specs.Doing.{AreOne};
+ghost use Rattle.atspi_exported.specs.Doing.{CanBeDone};
 ghost use Rattle.atspi_exported.specs.Parts.{IsExported};
 ghost use Rattle.atspi_app.specs.Seen.{seen};
 
@@ -26,7 +26,7 @@ impl App {
         steps: &StepList,
         told: &mut Happenings,
     ) -> Result<(), AppFault>
-        requires one { AreOne steps.now }
+        requires done { CanBeDone steps.now }
         requires exported { IsExported (⟦<Exported as Exports>⟧.kinds self.old.exported) (⟦<Exported as Exports>⟧.parts self.old.exported) }
         requires apply { AllApply rows (seen (⟦<Exported as Exports>⟧.parts self.old.exported) self.old.id self.old.known).tree (seen (⟦<Exported as Exports>⟧.parts self.old.exported) self.old.id self.old.known).added steps.now }
         ensures exported { IsExported (⟦<Exported as Exports>⟧.kinds self.new.exported) (⟦<Exported as Exports>⟧.parts self.new.exported) }
@@ -48,7 +48,7 @@ impl App {
     /// Does steps, and queues what was told of them before, for which room was made.
     fn do_in_room(&mut self, steps: &StepList, told: &mut Happenings) -> Result<(), NoMemory>
         requires room { HasRoom self.old.known.queue told.old }
-        requires one { AreOne steps.now }
+        requires done { CanBeDone steps.now }
         requires exported { IsExported (⟦<Exported as Exports>⟧.kinds self.old.exported) (⟦<Exported as Exports>⟧.parts self.old.exported) }
         requires apply { AllApply rows (seen (⟦<Exported as Exports>⟧.parts self.old.exported) self.old.id self.old.known).tree (seen (⟦<Exported as Exports>⟧.parts self.old.exported) self.old.id self.old.known).added steps.now }
         ensures exported { IsExported (⟦<Exported as Exports>⟧.kinds self.new.exported) (⟦<Exported as Exports>⟧.parts self.new.exported) }
@@ -56,7 +56,7 @@ impl App {
         ensures numbered { OnOk result (is_spent (seen (⟦<Exported as Exports>⟧.parts self.new.exported) self.new.id self.new.known) ≡ false) }
         ensures err { OnErr result (seen (⟦<Exported as Exports>⟧.parts self.new.exported) self.new.id self.new.known ≡ seen (⟦<Exported as Exports>⟧.parts self.old.exported) self.old.id self.old.known) }
     {
-        match self.exported.apply_all(steps) {
+        match self.exported.apply_call(steps) {
             Ok(()) => {
                 self.known.post_in_room(told);
                 self.known.is_numbered();

@@ -4,6 +4,7 @@
 mod app;
 mod doing;
 mod fault;
+mod taking;
 mod telling;
 
 pub use app::App;

@@ -10,16 +10,22 @@ ghost use Rattle.atspi_exporting.specs.Exporter.{sends};
 ghost use Rattle.atspi_exporting.specs.Starting.{name_or_empty};
 ghost use Rattle.atspi_exporting.specs.Telling.{step_told};
 ghost use Rattle.atspi_happenings.specs.View.{happened};
+ghost use Rattle.atspi_header.specs.View.{envelope_at};
+ghost use Rattle.atspi_app_answers.specs.Replies.{sent_back};
+ghost use Rattle.atspi_app_called.specs.Called.{reply_of};
 ghost use Rattle.atspi_app.specs.Seen.{AreUnnumbered};
 
 use atspi_announced::announced;
+use atspi_app_called::sent_back;
 use atspi_base::{NoMemory, Text};
 use atspi_edits::copy_step;
-use atspi_ends::{Mail, Outbox};
+use atspi_ends::{CallError, Mail, Outbox};
 use atspi_forest::{Step, StepList};
 use atspi_happenings::Happenings;
+use atspi_header::MessageRef;
 use atspi_starting::Known;
 use atspi_tree::Tree;
+use atspi_types::Values;
 use std::alloc::Global;
 
 /// The messages of a mail, which have no numbers yet, come behind what is told. A mail is emptied by a queue, which numbers them for
@@ -59,7 +65,7 @@ fn push_told(
 }
 
 /// The name of an application, empty before it has one.
-fn own_name(alloc: Global, known: &Known) -> Result<Text, NoMemory>
+pub(crate) fn own_name(alloc: Global, known: &Known) -> Result<Text, NoMemory>
     ensures { IfOk result (λ name. name ≡ name_or_empty known.now.name) }
 {
     match known.name() {
@@ -98,4 +104,22 @@ pub(crate) fn told(
 {
     let bus = own_name(alloc, known)?;
     each_told(alloc, known, &bus, tree, steps.as_slice())
+}
+
+/// What is told of a call before its steps are done: the steps with their signals, and behind them the reply.
+pub(crate) fn told_of_call(
+    alloc: Global,
+    known: &Known,
+    tree: &Tree,
+    call: &MessageRef,
+    steps: &StepList,
+    reply: Result<Values, CallError>,
+) -> Result<Happenings, NoMemory>
+    requires { Each (CanBeTold tree.now) steps.now }
+    ensures { IfOk result (λ told. (f : Forest TreeRow) → shape_of f ≡ tree.now.rows → happened told ≡ told_of_one known.now.heard (name_or_empty known.now.name) f steps.now ++ map sends (sent_back (envelope_at call.now) (reply_of reply))) }
+{
+    let mut told = told(alloc, known, tree, steps)?;
+    let mut mail = sent_back(alloc, call, reply)?;
+    push_all(alloc, &mut mail, &mut told)?;
+    Ok(told)
 }

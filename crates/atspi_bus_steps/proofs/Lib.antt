@@ -9,3 +9,4 @@ pub mod Sounds
 pub mod Greetings
 pub mod Taken
 pub mod Ends
+pub mod InPlace

@@ -1,6 +1,6 @@
 //! A new bus, a copy of one, and who has joined it.
 
-ghost use Rattle.std.specs.Prelude.{◌≡◌, ◌<◌, ◌≤◌, ◌↔◌, ◌++◌, ℕ, List, All, map, length, drop, option_copied, option_to_list, IfOk, IsErrOf, IsTrue, OnOk, OnErr};
+ghost use Rattle.std.specs.Prelude.{◌≡◌, ◌<◌, ◌≤◌, ◌↔◌, ◌++◌, ℕ, List, [], All, map, length, drop, option_copied, option_to_list, IfNone, IfOk, IsErrOf, IsTrue, OnOk, OnErr};
 ghost use Rattle.atspi_message.specs.Envelope.{envelope_of};
 ghost use Rattle.atspi_routing.specs.BusState.{unique_of};
 ghost use Rattle.atspi_routing.specs.Laws.{IsWithinQuota};
@@ -39,6 +39,24 @@ impl Inner {
         }
     }
 
+    /// An equal bus. It fails only for want of memory.
+    pub fn copy(&self) -> Result<Inner, NoMemory>
+        ensures { IfOk result (λ copy. inner_of copy ≡ inner_of self.now) }
+    {
+        let alloc = self.alloc;
+        Ok(Inner {
+            alloc,
+            joined: self.joined.to_vec(alloc)?,
+            names: self.names.copy()?,
+            rules: self.rules.copy()?,
+            calls: self.calls.to_vec(alloc)?,
+            next: self.next,
+            queues: self.queues.copy(alloc)?,
+            own: copy_own(alloc, &self.own)?,
+            closings: self.closings.clone()?,
+        })
+    }
+
     /// A connection joins. After want of memory all is as before.
     pub fn join(&mut self, conn: u32) -> Result<(), NoMemory>
         ensures ok { OnOk result (inner_of self.new ≡ joins (inner_of self.old) conn) }
@@ -71,6 +89,13 @@ impl Inner {
         }
     }
 
+    /// How many connections there are: so many closings at most follow a message.
+    pub fn joined_count(&self) -> usize
+        ensures { result ≡ length (state_of self.now).joined }
+    {
+        self.joined.len()
+    }
+
     /// The unique name of a connection, once the bus gave it.
     pub fn unique_name(&self, conn: u32) -> Option<&BusName>
         ensures { option_copied result ≡ unique_of (state_of self.now).owners conn }
@@ -81,6 +106,8 @@ impl Inner {
     /// The oldest closing that was not asked for yet.
     pub fn closed(&mut self) -> Option<Closing>
         ensures bus { inner_of self.old ≡ record (inner_of self.new) { closings = option_to_list result ++ (inner_of self.new).closings } }
+        ensures none { result ≡ None → (inner_of self.new).closings ≡ [] }
+        ensures empty { IfNone result ((inner_of self.old).closings ≡ []) }
         ensures state { state_of self.new ≡ state_of self.old }
     {
         self.closings.pop_front()
@@ -89,6 +116,8 @@ impl Inner {
     /// The oldest message of the bus's own that was not asked for yet.
     pub fn own(&mut self) -> Option<Message>
         ensures bus { inner_of self.old ≡ record (inner_of self.new) { own = map envelope_of (option_to_list result) ++ (inner_of self.new).own } }
+        ensures none { result ≡ None → (inner_of self.new).own ≡ [] }
+        ensures empty { IfNone result ((inner_of self.old).own ≡ []) }
         ensures state { state_of self.new ≡ state_of self.old }
     {
         self.own.pop_front()
@@ -100,6 +129,13 @@ impl Inner {
         ensures within { IsWithinQuota (inner_of self.now) }
     {
         self.queues.waiting(conn)
+    }
+
+    /// A law: each queue is at most the quota.
+    pub fn stays_within(&self)
+        ensures { IsWithinQuota (inner_of self.now) }
+    {
+        self.queues.stay_within();
     }
 
     /// The next piece of the bytes that wait for a connection, empty exactly where none wait.

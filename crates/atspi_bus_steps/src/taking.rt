@@ -1,6 +1,6 @@
 //! A bus takes a message of a connection.
 
-ghost use Rattle.std.specs.Prelude.{◌≡◌, ◌<◌, List, Option, Some, OnOk, IsErrOf};
+ghost use Rattle.std.specs.Prelude.{◌≡◌, ◌<◌, List, Option, Some, IfOk, OnOk, OnErr, IsErrOf, MatchBool};
 ghost use Rattle.atspi_message.specs.Rules.{MeetsRules};
 ghost use Rattle.atspi_header.specs.View.{bytes_of, envelope_at};
 ghost use Rattle.atspi_match.specs.declared.condition.Condition.{Condition};
@@ -72,6 +72,26 @@ fn is_for_bus(m: &MessageRef) -> bool
     }
 }
 
+/// A message with its sender.
+fn with_sender<'a>(m: &MessageRef<'a>, name: &'a BusName) -> MessageRef<'a>
+    ensures { envelope_at result ≡ record (envelope_at m.now) { sender = Some name.now } }
+{
+    MessageRef {
+        order: m.order,
+        kind: m.kind,
+        flags: m.flags,
+        serial: m.serial,
+        path: m.path,
+        interface: m.interface,
+        member: m.member,
+        error: m.error,
+        reply: m.reply,
+        destination: m.destination,
+        sender: Some(name.as_str()),
+        body: m.body,
+    }
+}
+
 impl Inner {
     /// A message of a connection that has its name, with its sender.
     fn take_named(&mut self, conn: u32, m: &MessageRef) -> Result<(), BusFault>
@@ -104,25 +124,11 @@ impl Inner {
         ensures spent { IsErrOf result BusFault.Spent → (rule : Option (List Condition)) × IsRuleNamed (envelope_at m.now) rule
             × (4294967296 < (steps.takes_from_named (state_of self.old) conn (record (envelope_at m.now) { sender = Some name.now }) rule).state.next) }
     {
-        let sent = MessageRef {
-            order: m.order,
-            kind: m.kind,
-            flags: m.flags,
-            serial: m.serial,
-            path: m.path,
-            interface: m.interface,
-            member: m.member,
-            error: m.error,
-            reply: m.reply,
-            destination: m.destination,
-            sender: Some(name.as_str()),
-            body: m.body,
-        };
-        self.take_named(conn, &sent)
+        self.take_named(conn, &with_sender(m, name))
     }
 
-    /// What a bus does with a message, apart from the closings that it brings.
-    fn step(&mut self, conn: u32, m: &MessageRef) -> Result<(), BusFault>
+    /// What a bus does with a message, apart from the closings that it brings, which `settle` makes. After a fault it is a bus of which nothing is known.
+    pub fn step(&mut self, conn: u32, m: &MessageRef) -> Result<(), BusFault>
         requires sound { IsSound (state_of self.old) }
         requires meets { MeetsRules (envelope_at m.now) }
         ensures ok { OnOk result ((rule : Option (List Condition)) × IsRuleTaken (state_of self.old) conn (envelope_at m.now) rule
@@ -143,6 +149,50 @@ impl Inner {
                     Ok(self.queues.doom(conn, Why::NotHello)?)
                 }
             }
+        }
+    }
+
+    /// A message of a connection with this unique name that is not for the bus is passed on in place, where it goes to no name without an owner
+    /// and each receiver has room for it. It answers whether that is so. Where it is not, and after a fault, all is as before.
+    fn pass_from(&mut self, conn: u32, name: &BusName, m: &MessageRef) -> Result<bool, BusFault>
+        requires sound { IsSound (state_of self.old) }
+        requires meets { MeetsRules (envelope_at m.now) }
+        ensures ok { IfOk result (λ went. MatchBool went
+            (inner_of self.new ≡ stepped (inner_of self.old) (steps.passes_on (state_of self.old) conn (record (envelope_at m.now) { sender = Some name.now })))
+            (inner_of self.new ≡ inner_of self.old)) }
+        ensures sound { IsSound (state_of self.new) }
+        ensures due { (inner_of self.new).waiting.due ≡ (inner_of self.old).waiting.due }
+        ensures spent { IsErrOf result BusFault.Spent → ⊥ }
+        ensures err { OnErr result (inner_of self.new ≡ inner_of self.old) }
+    {
+        self.pass_in_place(conn, &with_sender(m, name))
+    }
+
+    /// The bus takes a message of a connection in place: one that is passed on, while nobody is to be closed and each receiver has room for
+    /// it. It answers whether that is so. Where it is not, and after a fault, all is as before.
+    pub fn take_in_place(&mut self, conn: u32, m: &MessageRef) -> Result<bool, BusFault>
+        requires sound { IsSound (state_of self.old) }
+        requires meets { MeetsRules (envelope_at m.now) }
+        ensures ok { IfOk result (λ went. MatchBool went
+            ((rule : Option (List Condition)) × IsRuleTaken (state_of self.old) conn (envelope_at m.now) rule
+            × (inner_of self.new ≡ queues.takes (inner_of self.old) conn (envelope_at m.now) rule))
+            (inner_of self.new ≡ inner_of self.old)) }
+        ensures sound { IsSound (state_of self.new) }
+        ensures spent { IsErrOf result BusFault.Spent → ⊥ }
+        ensures err { OnErr result (inner_of self.new ≡ inner_of self.old) }
+    {
+        if self.queues.first_due().is_some() {
+            return Ok(false);
+        }
+        if is_for_bus(m) {
+            return Ok(false);
+        }
+        match self.names.unique_name(conn) {
+            Some(name) => {
+                let name = name.copy(self.alloc)?;
+                self.pass_from(conn, &name, m)
+            }
+            None => Ok(false),
         }
     }
 

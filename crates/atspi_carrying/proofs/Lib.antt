@@ -1,1 +1,9 @@
 pub mod Buses
+pub mod Changes
+pub mod Leaving
+pub mod OwnSerials
+pub mod OwnTold
+pub mod RuleLemmas
+pub mod Telling
+pub mod Ties
+pub mod Views

@@ -1,8 +1,17 @@
 //! Connections that leave, and what the bus tells of it.
 
-ghost use Rattle.std.specs.Prelude.{◌≡◌, ◌≤◌, ◌++◌, map, filter, OnOk, OnErr, IfOk};
+ghost use Rattle.std.specs.Prelude.{◌≡◌, ◌++◌, [], map, None, OnOk, IfOk};
+ghost use Rattle.atspi_lines.specs.declared.line.Party.TheVariants as parties;
 ghost use Rattle.atspi_bus_steps.specs.Inner.{inner_of, state_of};
 ghost use Rattle.atspi_bus_steps.specs.Sound.{IsSound};
+ghost use Rattle.atspi_trace.specs.Entry.{entries_of};
+ghost use Rattle.atspi_trace.specs.World.{End, World};
+ghost use Rattle.atspi_trace.specs.Ends.{end_at, same_party};
+ghost use Rattle.atspi_trace.specs.Carrying.{all_told, dropped_if, sent_by_bus};
+ghost use Rattle.atspi_trace.specs.Causes.{does, exits, unjoins};
+ghost use Rattle.atspi_carrying.specs.Carried.{IsCarried, IsDone};
+ghost use Rattle.atspi_carrying.specs.Changes.{changed_at};
+ghost use Rattle.atspi_carrying.specs.Told.{ahead, all_emptied, all_gone, behind_upto, bus_told, emptied, front_upto, gone, party_in, whose};
 
 use crate::carrier::Carrier;
 use crate::fault::CarryFault;
@@ -14,21 +23,6 @@ use atspi_message::Message;
 use atspi_posts::Post;
 use atspi_routing::{Closing, Why};
 use atspi_stream::Feeder;
-use std::alloc::Global;
-
-/// A connection leaves: what waits on its links is lost. Answers who it is.
-fn leave_at(alloc: Global, posts: &mut [Post], at_end: &mut [Feeder], conn: u32) -> Party {
-    let place = conn as usize;
-    if place < at_end.len() {
-        at_end[place] = Feeder::new(alloc);
-    }
-    if place < posts.len() {
-        let post = &mut posts[place];
-        post.leave();
-        return post.who;
-    }
-    Party::Bus
-}
 
 /// The bus's own messages up to a serial, the first of which is given, are told; answers the next behind them.
 fn tell_own(
@@ -37,8 +31,11 @@ fn tell_own(
     first: Option<Message>,
     last: u32,
 ) -> Result<Option<Message>, CarryFault>
-    ensures state { state_of bus.new ≡ state_of bus.old }
-    ensures closings { (inner_of bus.new).closings ≡ (inner_of bus.old).closings }
+    requires { first ≡ None → (inner_of bus.old).own ≡ [] }
+    ensures bus { inner_of bus.new ≡ record (inner_of bus.old) { own = (inner_of bus.new).own } }
+    ensures told { IfOk result (λ next. entries_of trace.new.items ≡ entries_of trace.old.items ++ sent_by_bus (front_upto last (ahead first (inner_of bus.old)))) }
+    ensures next { IfOk result (λ next. ahead next (inner_of bus.new) ≡ behind_upto last (ahead first (inner_of bus.old))) }
+    ensures none { IfOk result (λ next. next ≡ None → (inner_of bus.new).own ≡ []) }
 {
     let mut own = first;
     while let Some(message) = own {
@@ -57,37 +54,153 @@ fn tell_own(
     Ok(None)
 }
 
-/// That an end was dropped at its quota is told. RegistryLost where that was the registry.
-fn tell_dropped(trace: &mut Vec<Event>, who: Party, why: Why) -> Result<(), CarryFault> {
-    if let Why::Quota { queued, len } = why {
-        note(trace, Event::Dropped { who, queued, len })?;
-    }
-    if who == Party::Registry {
-        return Err(CarryFault::RegistryLost);
+/// All of the bus's own messages, the first of which is given, are told.
+fn tell_rest(
+    bus: &mut Inner,
+    trace: &mut Vec<Event>,
+    first: Option<Message>,
+) -> Result<(), CarryFault>
+    requires { first ≡ None → (inner_of bus.old).own ≡ [] }
+    ensures bus { inner_of bus.new ≡ record (inner_of bus.old) { own = (inner_of bus.new).own } }
+    ensures told { OnOk result (entries_of trace.new.items ≡ entries_of trace.old.items ++ sent_by_bus (ahead first (inner_of bus.old))) }
+    ensures none { OnOk result ((inner_of bus.new).own ≡ []) }
+{
+    let mut own = first;
+    while let Some(message) = own {
+        note(
+            trace,
+            Event::Sent {
+                who: Party::Bus,
+                message,
+            },
+        )?;
+        own = bus.own();
     }
     Ok(())
 }
 
+/// That an end was dropped at its quota is told.
+fn tell_dropped(trace: &mut Vec<Event>, who: Party, why: Why) -> Result<(), CarryFault>
+    ensures told { OnOk result (entries_of trace.new.items ≡ entries_of trace.old.items ++ dropped_if who why) }
+{
+    match why {
+        Why::Quota { queued, len } => note(trace, Event::Dropped { who, queued, len }),
+        Why::NotHello => Ok(()),
+    }
+}
+
+/// Whether a party is the registry.
+fn is_registry(who: Party) -> bool
+    ensures { result ≡ same_party who parties.Registry }
+{
+    match who {
+        Party::Registry => true,
+        Party::Bus | Party::App(_) | Party::Reader(_) => false,
+    }
+}
+
 impl Carrier {
-    /// A connection was closed by the bus.
-    fn close(&mut self, closing: Closing) -> Result<(), CarryFault>
+    /// What was given of a message to the end of a connection is lost.
+    #[tactic(auto, using(crate::proofs::Leaving::emptied_set, crate::proofs::Leaving::emptied_past))]
+    fn empty(&mut self, conn: u32)
+        ensures given { self.new.at_end.items ≡ changed_at conn emptied self.old.at_end.items }
         ensures bus { self.new.bus ≡ self.old.bus }
+        ensures posts { self.new.posts.items ≡ self.old.posts.items }
+        ensures trace { self.new.trace.items ≡ self.old.trace.items }
     {
-        let who = leave_at(self.alloc, &mut self.posts, &mut self.at_end, closing.conn);
-        tell_dropped(&mut self.trace, who, closing.why)
+        let place = conn as usize;
+        if place >= self.at_end.len() {
+            return;
+        }
+        self.at_end[place] = Feeder::new(self.alloc);
+    }
+
+    /// What waits on the link of a connection to the bus is lost. Answers who it is.
+    #[tactic(auto, using(crate::proofs::Leaving::gone_set, crate::proofs::Leaving::gone_past, crate::proofs::Leaving::who_is, crate::proofs::Leaving::who_past))]
+    fn clear(&mut self, conn: u32) -> Party
+        ensures posts { self.new.posts.items ≡ changed_at conn gone self.old.posts.items }
+        ensures bus { self.new.bus ≡ self.old.bus }
+        ensures given { self.new.at_end.items ≡ self.old.at_end.items }
+        ensures trace { self.new.trace.items ≡ self.old.trace.items }
+        ensures who { result ≡ party_in (map whose self.old.posts.items) conn }
+    {
+        let place = conn as usize;
+        if place >= self.posts.len() {
+            return Party::Bus;
+        }
+        let post = &mut self.posts[place];
+        let who = post.who;
+        post.leave();
+        who
+    }
+
+    /// What waits on the links of a connection is lost. Answers who it is.
+    fn leave(&mut self, conn: u32) -> Party
+        ensures given { self.new.at_end.items ≡ changed_at conn emptied self.old.at_end.items }
+        ensures posts { self.new.posts.items ≡ changed_at conn gone self.old.posts.items }
+        ensures bus { self.new.bus ≡ self.old.bus }
+        ensures trace { self.new.trace.items ≡ self.old.trace.items }
+        ensures who { result ≡ party_in (map whose self.old.posts.items) conn }
+    {
+        self.empty(conn);
+        self.clear(conn)
+    }
+
+    /// A connection was closed by the bus, and where it was dropped that is told; answers who it is.
+    fn close(&mut self, closing: Closing) -> Result<Party, CarryFault>
+        ensures bus { self.new.bus ≡ self.old.bus }
+        ensures posts { IfOk result (λ who. self.new.posts.items ≡ changed_at closing.conn gone self.old.posts.items) }
+        ensures given { IfOk result (λ who. self.new.at_end.items ≡ changed_at closing.conn emptied self.old.at_end.items) }
+        ensures told { IfOk result (λ who. entries_of self.new.trace.items ≡ entries_of self.old.trace.items ++ dropped_if (party_in (map whose self.old.posts.items) closing.conn) closing.why) }
+        ensures who { IfOk result (λ who. who ≡ party_in (map whose self.old.posts.items) closing.conn) }
+    {
+        let who = self.leave(closing.conn);
+        match tell_dropped(&mut self.trace, who, closing.why) {
+            Ok(()) => Ok(who),
+            Err(fault) => Err(fault),
+        }
     }
 
     /// The bus's own messages are told, and behind those before it each closing. RegistryLost where the registry was closed.
     pub(crate) fn tell_bus(&mut self) -> Result<(), CarryFault>
         requires sound { IsSound (state_of self.old.bus) }
         ensures sound { IsSound (state_of self.new.bus) }
+        ensures bus { OnOk result (inner_of self.new.bus ≡ all_told (inner_of self.old.bus)) }
+        ensures posts { OnOk result (self.new.posts.items ≡ all_gone (inner_of self.old.bus).closings self.old.posts.items) }
+        ensures given { OnOk result (self.new.at_end.items ≡ all_emptied (inner_of self.old.bus).closings self.old.at_end.items) }
+        ensures told { OnOk result (entries_of self.new.trace.items ≡ entries_of self.old.trace.items ++ bus_told (map whose self.old.posts.items) (inner_of self.old.bus).own (inner_of self.old.bus).closings) }
     {
         let mut own = self.bus.own();
         while let Some(closing) = self.bus.closed() {
-            own = tell_own(&mut self.bus, &mut self.trace, own, closing.after)?;
-            self.close(closing)?;
+            own = match tell_own(&mut self.bus, &mut self.trace, own, closing.after) {
+                Ok(next) => next,
+                Err(fault) => return Err(fault),
+            };
+            let who = match self.close(closing) {
+                Ok(who) => who,
+                Err(fault) => return Err(fault),
+            };
+            if is_registry(who) {
+                return Err(CarryFault::RegistryLost);
+            }
         }
-        tell_own(&mut self.bus, &mut self.trace, own, u32::MAX)?;
+        tell_rest(&mut self.bus, &mut self.trace, own)
+    }
+
+    /// The end of a connection stops: what waits on its link to the bus is lost.
+    pub fn exit(&mut self, conn: u32) -> Result<(), CarryFault>
+        ensures bus { self.new.bus ≡ self.old.bus }
+        ensures does { OnOk result ((w : World) (e : End) → IsCarried w (inner_of self.old.bus) self.old.posts.items → end_at w.ends conn ≡ Some e
+            → IsDone (does w (exits conn)) (inner_of self.new.bus) self.new.posts.items self.old.trace.items self.new.trace.items) }
+    {
+        let place = conn as usize;
+        if place >= self.posts.len() {
+            return Ok(());
+        }
+        let post = &mut self.posts[place];
+        let who = post.who;
+        post.stop();
+        note(&mut self.trace, Event::Exit { who })?;
         Ok(())
     }
 
@@ -95,9 +208,12 @@ impl Carrier {
     pub fn part(&mut self, conn: u32) -> Result<(), CarryFault>
         requires sound { IsSound (state_of self.old.bus) }
         ensures sound { OnOk result (IsSound (state_of self.new.bus)) }
+        ensures does { OnOk result ((w : World) → IsCarried w (inner_of self.old.bus) self.old.posts.items
+            → IsDone (does w (unjoins conn)) (inner_of self.new.bus) self.new.posts.items self.old.trace.items self.new.trace.items) }
     {
-        leave_at(self.alloc, &mut self.posts, &mut self.at_end, conn);
+        self.leave(conn);
         self.bus.part_with(conn)?;
-        self.tell_bus()
+        self.tell_bus()?;
+        Ok(())
     }
 }

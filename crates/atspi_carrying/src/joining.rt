@@ -1,9 +1,12 @@
 //! The beginning, and joining.
 
-ghost use Rattle.std.specs.Prelude.{◌≡◌, [], OnOk, OnErr, IfOk};
+ghost use Rattle.std.specs.Prelude.{◌≡◌, [], length, OnOk, OnErr, IfOk};
 ghost use Rattle.atspi_bus_steps.specs.Inner.{inner_of, state_of};
 ghost use Rattle.atspi_bus_steps.specs.Sound.{IsSound};
 ghost use Rattle.atspi_routing.specs.Queues.{empty_bus};
+ghost use Rattle.atspi_trace.specs.World.{Role, World};
+ghost use Rattle.atspi_trace.specs.Causes.{joins};
+ghost use Rattle.atspi_carrying.specs.Carried.{IsCarried};
 
 use crate::carrier::Carrier;
 use crate::fault::CarryFault;
@@ -35,6 +38,9 @@ impl Carrier {
         requires sound { IsSound (state_of self.old.bus) }
         ensures sound { OnOk result (IsSound (state_of self.new.bus)) }
         ensures trace { self.new.trace ≡ self.old.trace }
+        ensures place { IfOk result (λ conn. conn ≡ length self.old.posts.items) }
+        ensures joins { IfOk result (λ conn. (w : World) (role : Role) → IsCarried w (inner_of self.old.bus) self.old.posts.items
+            → IsCarried (joins w who role []) (inner_of self.new.bus) self.new.posts.items) }
     {
         let Ok(conn) = u32::try_from(self.posts.len()) else {
             return Err(CarryFault::Spent);

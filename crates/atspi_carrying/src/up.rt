@@ -1,10 +1,17 @@
 //! The bus takes what comes up a link.
 
-ghost use Rattle.std.specs.Prelude.{◌≡◌, ◌≤◌, IfOk, OnOk, OnErr};
+ghost use Rattle.std.specs.Prelude.{◌≡◌, ◌≤◌, ◌∷◌, List, length, IfOk, IfSome, OnOk, OnErr};
 ghost use Rattle.atspi_message.specs.Rules.{MeetsRules};
 ghost use Rattle.atspi_header.specs.View.{envelope_at};
-ghost use Rattle.atspi_bus_steps.specs.Inner.{state_of};
+ghost use Rattle.atspi_forest.specs.Forest.{first_of};
+ghost use Rattle.atspi_routing.specs.BusState.{unique_of};
+ghost use Rattle.atspi_bus_steps.specs.Inner.{inner_of, state_of};
 ghost use Rattle.atspi_bus_steps.specs.Sound.{IsSound};
+ghost use Rattle.atspi_trace.specs.World.{End, Said, World};
+ghost use Rattle.atspi_trace.specs.Ends.{end_at};
+ghost use Rattle.atspi_trace.specs.Causes.{does, routes};
+ghost use Rattle.atspi_carrying.specs.Carried.{IsCarried, IsDone};
+ghost use Rattle.atspi_carrying.specs.Routed.{IsTaken, RoutesFront, TakesFront};
 
 use crate::carrier::Carrier;
 use crate::fault::CarryFault;
@@ -15,29 +22,29 @@ use atspi_lines::Party;
 use atspi_posts::{Link, Post, Standing, Whole, first_message};
 use std::alloc::Global;
 
-/// The bus takes the first message of a link; answers how many bytes it had, none where there is no message.
-fn route_first(
+/// The bus takes the first message of a link, apart from the closings that this brings; answers how many bytes it had, none where there is no message.
+fn take_front(
     bus: &mut Inner,
-    link: &mut Link,
+    link: &Link,
     conn: u32,
     sender: Party,
     trace: &mut Vec<Event>,
-) -> Result<(), CarryFault>
+) -> Result<Option<usize>, CarryFault>
     requires sound { IsSound (state_of bus.old) }
-    ensures sound { OnOk result (IsSound (state_of bus.new)) }
+    ensures sound { IfOk result (λ len. IsSound (state_of bus.new)) }
+    ensures within { IfOk result (λ len. IfSome len (λ n. n ≤ length link.now)) }
+    ensures takes { IfOk result (λ len. TakesFront link.now (inner_of bus.old) (inner_of bus.new) conn sender trace.old.items trace.new.items len) }
 {
-    let len = match first_message(link.as_slice()) {
-        None => return Ok(()),
-        Some(first) => {
-            take(bus, conn, sender, first, trace)?;
-            first.len
-        }
-    };
-    link.pop(len);
-    Ok(())
+    match first_message(link.as_slice()) {
+        None => Ok(None),
+        Some(first) => match take(bus, conn, sender, first, trace) {
+            Ok(()) => Ok(Some(first.len)),
+            Err(fault) => Err(fault),
+        },
+    }
 }
 
-/// The bus takes a message, and that is told.
+/// The bus takes a message, apart from the closings that this brings, and that is told.
 fn take(
     bus: &mut Inner,
     conn: u32,
@@ -48,6 +55,7 @@ fn take(
     requires sound { IsSound (state_of bus.old) }
     requires meets { MeetsRules (envelope_at first.message) }
     ensures sound { OnOk result (IsSound (state_of bus.new)) }
+    ensures taken { OnOk result (IsTaken (envelope_at first.entry.message) (inner_of bus.old) (inner_of bus.new) conn sender trace.old.items trace.new.items) }
 {
     note(
         trace,
@@ -57,12 +65,16 @@ fn take(
             serial: first.message.serial,
         },
     )?;
-    bus.take(conn, &first.message)?;
-    Ok(())
+    match bus.step(conn, &first.message) {
+        Ok(()) => Ok(()),
+        Err(fault) => Err(CarryFault::from(fault)),
+    }
 }
 
 /// The unique name of a connection is kept once the bus gave it.
-fn keep_name(alloc: Global, bus: &Inner, post: &mut Post, conn: u32) -> Result<(), CarryFault> {
+fn keep_name(alloc: Global, bus: &Inner, post: &mut Post, conn: u32) -> Result<(), CarryFault>
+    ensures { OnOk result (post.new ≡ record post.old { name = first_of post.old.name (unique_of (state_of bus.now).owners conn) }) }
+{
     if post.name.is_some() {
         return Ok(());
     }
@@ -70,6 +82,30 @@ fn keep_name(alloc: Global, bus: &Inner, post: &mut Post, conn: u32) -> Result<(
         post.name = Some(name.copy(alloc)?);
     }
     Ok(())
+}
+
+/// The bus takes the first message of a connection's link, apart from the closings that this brings, and keeps the name that it gave. Nothing where
+/// there is no message.
+fn route_front(
+    alloc: Global,
+    bus: &mut Inner,
+    post: &mut Post,
+    conn: u32,
+    trace: &mut Vec<Event>,
+) -> Result<(), CarryFault>
+    requires sound { IsSound (state_of bus.old) }
+    ensures sound { OnOk result (IsSound (state_of bus.new)) }
+    ensures routes { OnOk result (RoutesFront (inner_of bus.old) (inner_of bus.new) conn post.old post.new trace.old.items trace.new.items) }
+{
+    match take_front(bus, &post.up, conn, post.who, trace) {
+        Ok(Some(len)) => {
+            post.up.pop(len);
+            post.begun = 0;
+            keep_name(alloc, bus, post, conn)
+        }
+        Ok(None) => Ok(()),
+        Err(fault) => Err(fault),
+    }
 }
 
 /// How many bytes the first message of a link lacks at the bus. None where no message waits.
@@ -85,16 +121,20 @@ impl Carrier {
     pub fn route(&mut self, conn: u32) -> Result<(), CarryFault>
         requires sound { IsSound (state_of self.old.bus) }
         ensures sound { OnOk result (IsSound (state_of self.new.bus)) }
+        ensures does { OnOk result ((w : World) (e : End) (said : Said) (rest : List Said) → IsCarried w (inner_of self.old.bus) self.old.posts.items
+            → end_at w.ends conn ≡ Some e → e.up ≡ said ∷ rest
+            → IsDone (does w (routes conn)) (inner_of self.new.bus) self.new.posts.items self.old.trace.items self.new.trace.items) }
     {
         let place = conn as usize;
         if place >= self.posts.len() {
             return Ok(());
         }
+        let rounds = self.bus.joined_count();
         let post = &mut self.posts[place];
-        post.begun = 0;
-        route_first(&mut self.bus, &mut post.up, conn, post.who, &mut self.trace)?;
-        keep_name(self.alloc, &self.bus, post, conn)?;
-        self.tell_bus()
+        route_front(self.alloc, &mut self.bus, post, conn, &mut self.trace)?;
+        self.bus.settle(rounds)?;
+        self.tell_bus()?;
+        Ok(())
     }
 
     /// At most so many bytes of an up link are moved, and those complete its first message, which the bus takes, or they do not. Answers how many more

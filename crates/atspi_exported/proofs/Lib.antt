@@ -9,3 +9,5 @@ pub mod Known
 pub mod OneByOne
 pub mod AllDone
 pub mod Steps
+pub mod EitherOrder
+pub mod Exchanged

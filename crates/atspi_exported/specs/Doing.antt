@@ -1,5 +1,5 @@
 -- Steps as they are done: which part they are about, which want memory, and which lists are done as one.
-use Rattle.std.specs.Prelude.{◌≡◌, ℕ, List, [], ◌∷◌, length}
+use Rattle.std.specs.Prelude.{◌≡◌, ◌⊎◌, ℕ, List, [], ◌∷◌, length}
 use Rattle.atspi_forest.specs.declared.step.Seed.{Seed}
 use Rattle.atspi_forest.specs.declared.step.Step.{Step}
 use Rattle.atspi_forest.specs.declared.step.Step.TheVariants.{Add, Remove, Move, SetName, SetDescription, SetRole, SetState, Insert, Delete, Caret, TextSelect, Relate}
@@ -14,6 +14,11 @@ use Rattle.atspi_exported.specs.Parts.{Parts}
 -- the parts after a step
 abbrev pub after_parts : Parts → Step → Parts
 after_parts p step = record { tree = after_step p.tree step; faces = faces_after p.tree.rows step p.faces }
+
+-- the same after some steps
+abbrev pub after_all_parts : Parts → List Step → Parts
+after_all_parts p [] = p
+after_all_parts p (step ∷ more) = after_all_parts (after_parts p step) more
 
 -- how many nodes were ever added, after some steps
 abbrev pub added_all : ℕ → List Step → ℕ
@@ -70,3 +75,13 @@ TakesMemory step = Unit {0}
 abbrev pub AreOne : List Step → Type 0
 AreOne [] = Unit {0}
 AreOne (step ∷ more) = Each (λ s. TakesMemory s → ⊥) more
+
+-- A text goes into the place of another: one is taken out and the other put in where it stood, behind a caret or not.
+abbrev pub AreExchange : List Step → Type 0
+AreExchange (Delete n at gone ∷ Insert m to text ∷ []) = (m ≡ n) × (to ≡ at)
+AreExchange (Caret k c ∷ Delete n at gone ∷ Insert m to text ∷ []) = (k ≡ n) × (m ≡ n) × (to ≡ at)
+AreExchange steps = ⊥
+
+-- Steps that one call does as a whole.
+abbrev pub CanBeDone : List Step → Type 0
+CanBeDone steps = AreOne steps ⊎ AreExchange steps

@@ -6,6 +6,7 @@ mod asking;
 mod closing;
 mod copies;
 mod doing;
+mod exchanging;
 mod exported;
 mod exports;
 mod kit;

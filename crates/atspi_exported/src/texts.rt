@@ -63,6 +63,55 @@ fn select<F: Face>(alloc: Global, chars: &mut F, node: u32, marks: &Marks) -> Re
     chars.change(node, &Change::Marks(marks))
 }
 
+/// A text goes into the place of another: it is put in behind it, and only then the other is taken out, which takes no memory. After want
+/// of memory the face is as before.
+pub(crate) fn exchange<F: Face>(
+    alloc: Global,
+    chars: &mut F,
+    node: u32,
+    at: u32,
+    gone: &Text,
+    text: &Text,
+) -> Result<(), NoMemory>
+    requires { CanChange (F.nodes chars.old) node (changes.Delete at (length gone.now)) }
+    ensures ok { OnOk result (F.nodes chars.new ≡ changed_at (changed_at (F.nodes chars.old) node (changes.Delete at (length gone.now))) node (changes.Insert at text.now)) }
+    ensures err { OnErr result (F.nodes chars.new ≡ F.nodes chars.old) }
+    ensures kind { F.of_kind chars.new ≡ F.of_kind chars.old }
+{
+    let _ = chars.kind();
+    insert(alloc, chars, node, at + gone.count(), text)?;
+    delete(chars, node, at, gone);
+    Ok(())
+}
+
+/// The same behind a caret, which goes back after want of memory.
+pub(crate) fn exchange_behind<F: Face>(
+    alloc: Global,
+    chars: &mut F,
+    node: u32,
+    caret: u32,
+    at: u32,
+    gone: &Text,
+    text: &Text,
+) -> Result<(), NoMemory>
+    requires caret { CanChange (F.nodes chars.old) node (changes.Caret caret) }
+    requires gone { CanChange (changed_at (F.nodes chars.old) node (changes.Caret caret)) node (changes.Delete at (length gone.now)) }
+    ensures ok { OnOk result (F.nodes chars.new ≡ changed_at (changed_at (changed_at (F.nodes chars.old) node (changes.Caret caret)) node (changes.Delete at (length gone.now))) node (changes.Insert at text.now)) }
+    ensures err { OnErr result (F.nodes chars.new ≡ F.nodes chars.old) }
+    ensures kind { F.of_kind chars.new ≡ F.of_kind chars.old }
+{
+    let _ = chars.kind();
+    let before = chars.caret(node);
+    set_caret(chars, node, caret);
+    match exchange(alloc, chars, node, at, gone, text) {
+        Ok(()) => Ok(()),
+        Err(none) => {
+            set_caret(chars, node, before);
+            Err(none)
+        }
+    }
+}
+
 /// Does a step of a text. After want of memory the face is as before.
 pub(crate) fn change_text<F: Face>(
     alloc: Global,

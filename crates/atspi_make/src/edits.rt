@@ -1,12 +1,12 @@
 //! The edits that `make` makes.
 
-ghost use Rattle.std.specs.Prelude.{◌≡◌, ◌<◌, ◌^◌, true, Contains, length, IfOk};
+ghost use Rattle.std.specs.Prelude.{◌≡◌, ◌<◌, true, length, IfOk};
 ghost use Rattle.atspi_forest.specs.Edits.{IsEdit};
 ghost use Rattle.atspi_forest.specs.Forest.{has};
 ghost use Rattle.atspi_forest.specs.Tree.{is_shape};
 
 use crate::draws::Draws;
-use crate::nodes::{NODE_LIMIT, is_below, nodes_of};
+use crate::nodes::{LiveNodes, NODE_LIMIT, is_below};
 use atspi_base::{Bytes, NoMemory, Text, Texts, put_decimal};
 use atspi_forest::{Edit, Seed};
 use atspi_tree::Tree;
@@ -68,13 +68,12 @@ fn insert(
     })
 }
 
-/// One of these nodes is drawn.
+/// One of these nodes is drawn. A tree has no more of them than the limit.
 fn pick(nodes: &[u32], draws: &mut Draws) -> u32
-    requires some { 0 < length nodes.now }
-    requires few { length nodes.now < 2 ^ 32 }
-    ensures { Contains nodes.now result }
+    requires { 0 < length nodes.now }
 {
-    nodes[draws.draw(nodes.len() as u32) as usize]
+    let count = nodes.len().min(NODE_LIMIT) as u32;
+    nodes[draws.draw(count) as usize]
 }
 
 /// A node moves below another that is drawn, or gets a name where that one is not outside of it.
@@ -86,8 +85,7 @@ fn shift(
     number: u32,
     draws: &mut Draws,
 ) -> Result<Edit, NoMemory>
-    requires some { 0 < length nodes.now }
-    requires few { length nodes.now < 2 ^ 32 }
+    requires { 0 < length nodes.now }
     ensures { IfOk result (λ edit. IsEdit edit) }
 {
     let parent = pick(nodes, draws);
@@ -116,26 +114,25 @@ fn turn(tree: &Tree, node: u32, draws: &mut Draws) -> Edit
     }
 }
 
-/// The edit with this number, counted from 1, of a script that is made: a script's edit, drawn from the tree that it changes.
-pub fn next_edit(
+/// The edit of a node that is there, by what was drawn first.
+fn edit_of(
     alloc: Global,
     tree: &Tree,
+    nodes: &[u32],
+    kind: u32,
+    node: u32,
     number: u32,
     draws: &mut Draws,
 ) -> Result<Edit, NoMemory>
+    requires some { 0 < length nodes.now }
+    requires there { has (is_shape node) tree.now.rows ≡ true }
     ensures { IfOk result (λ edit. IsEdit edit) }
 {
-    let kind = draws.draw(8);
-    let nodes = nodes_of(alloc, tree)?;
-    if nodes.is_empty() {
-        return rename(alloc, 0, number);
-    }
-    let node = pick(&nodes, draws);
     if kind <= 3 && nodes.len() < NODE_LIMIT {
         return insert(alloc, tree, node, number, draws);
     }
     if kind == 5 && node != 0 {
-        return shift(alloc, tree, &nodes, node, number, draws);
+        return shift(alloc, tree, nodes, node, number, draws);
     }
     if kind == 6 {
         return Ok(Edit::Focus { node });
@@ -144,4 +141,26 @@ pub fn next_edit(
         return Ok(turn(tree, node, draws));
     }
     rename(alloc, node, number)
+}
+
+/// The edit with this number, counted from 1, of a script that is made: a script's edit, drawn from the tree that it changes and its nodes.
+pub fn next_edit(
+    alloc: Global,
+    tree: &Tree,
+    live: &LiveNodes,
+    number: u32,
+    draws: &mut Draws,
+) -> Result<Edit, NoMemory>
+    ensures { IfOk result (λ edit. IsEdit edit) }
+{
+    let nodes = live.as_slice();
+    let kind = draws.draw(8);
+    if nodes.is_empty() {
+        return rename(alloc, 0, number);
+    }
+    let node = pick(nodes, draws);
+    if !tree.has(node) {
+        return rename(alloc, node, number);
+    }
+    edit_of(alloc, tree, nodes, kind, node, number, draws)
 }

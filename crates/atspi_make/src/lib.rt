@@ -4,7 +4,9 @@
 mod draws;
 mod edits;
 mod nodes;
+mod source;
 
 pub use draws::Draws;
 pub use edits::next_edit;
-pub use nodes::NODE_LIMIT;
+pub use nodes::{LiveNodes, NODE_LIMIT};
+pub use source::HasTree;

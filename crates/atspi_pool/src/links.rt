@@ -1,6 +1,6 @@
 //! Lists of block numbers, linked inside one table: one of free blocks, and one for each chain.
 
-ghost use Rattle.std.specs.Prelude.{◌≡◌, ◌+◌, ◌<◌, ◌≤◌, ℕ, [], ◌∷◌, ◌++◌, length, slice_index, true, false, OnOk, OnErr};
+ghost use Rattle.std.specs.Prelude.{◌≡◌, ◌+◌, ◌<◌, ◌≤◌, ℕ, [], ◌∷◌, ◌++◌, length, slice_index, true, false, IfOk, OnOk, OnErr};
 ghost use Rattle.std.specs.Bool.{MatchBool};
 ghost use Rattle.atspi_pool.specs.Links.{entry_at, first_of, last_of, taken, front_given, front_kept, marked, with_blocks, IsApart};
 ghost use Rattle.atspi_pool.specs.Walk.{walk};
@@ -41,6 +41,18 @@ impl Links {
             free: 0,
             runs: Vec::new(alloc),
         }
+    }
+
+    /// The same links.
+    pub fn copy(&self, alloc: Global) -> Result<Links, NoMemory>
+        ensures { IfOk result (λ copy. copy ≡ self.now) }
+    {
+        Ok(Links {
+            next: self.next.to_vec(alloc)?,
+            first_free: self.first_free,
+            free: self.free,
+            runs: self.runs.to_vec(alloc)?,
+        })
     }
 
     /// How many blocks were made.

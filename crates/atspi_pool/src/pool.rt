@@ -1,6 +1,6 @@
 //! A pool of blocks for queues of bytes.
 
-ghost use Rattle.std.specs.Prelude.{◌≡◌, ◌≢◌, ◌+◌, ◌-◌, ◌<◌, ◌≤◌, ◌^◌, ◌↔◌, ℕ, [], ◌∷◌, ◌++◌, length, max, None, Some, IsSome, IfOk, OnOk, OnErr};
+ghost use Rattle.std.specs.Prelude.{vec_capacity, ◌≡◌, ◌≢◌, ◌+◌, ◌-◌, ◌<◌, ◌≤◌, ◌^◌, ◌↔◌, ℕ, [], ◌∷◌, ◌++◌, length, max, None, Some, IsSome, IfOk, OnOk, OnErr};
 ghost use Rattle.atspi_pool.specs.Chains.{empty_chain, front_of, pushed, popped_by, cut_by};
 ghost use Rattle.atspi_pool.specs.Store.{chain_at, held, with_chain, with_pushed, all_blocks};
 ghost use Rattle.atspi_pool.specs.Pool.{after_push, in_use, no_pool, SetsChain, HasFewBlocks, most_of};
@@ -38,6 +38,15 @@ impl Pool {
             store: Store::new(alloc),
             unused: Vec::new(alloc),
         }
+    }
+
+    /// An equal pool: the same chains with the same numbers, in as many blocks.
+    pub fn copy(&self, alloc: Global) -> Result<Pool, NoMemory>
+        ensures { IfOk result (λ copy. copy ≡ self.now) }
+    {
+        let store = self.store.copy(alloc)?;
+        let unused = copy_unused(alloc, &self.unused, store.chains())?;
+        Ok(Pool { store, unused })
     }
 
     /// An empty chain with a number that is not in use. After want of memory all is as before.
@@ -133,4 +142,14 @@ impl Pool {
     {
         self.store.free() as u64
     }
+}
+
+/// The same numbers, with room for `room` of them.
+fn copy_unused(alloc: Global, unused: &[u32], room: usize) -> Result<Vec<u32>, NoMemory>
+    ensures items { IfOk result (λ copy. copy.items ≡ unused.now) }
+    ensures room { IfOk result (λ copy. room ≤ vec_capacity copy) }
+{
+    let mut copy = Vec::with_capacity(alloc, room)?;
+    copy.extend_from_slice(unused)?;
+    Ok(copy)
 }

@@ -1,6 +1,6 @@
 //! Chains of bytes in blocks of 256 bytes, by their numbers.
 
-ghost use Rattle.std.specs.Prelude.{◌≡◌, ◌+◌, ◌-◌, ◌<◌, ◌≤◌, ◌^◌, ℕ, [], ◌∷◌, ◌++◌, length, min, max, true, None, Some, IsSome, OnOk, OnErr};
+ghost use Rattle.std.specs.Prelude.{◌≡◌, ◌+◌, ◌-◌, ◌<◌, ◌≤◌, ◌^◌, ℕ, [], ◌∷◌, ◌++◌, length, min, max, true, None, Some, IsSome, IfOk, OnOk, OnErr};
 ghost use Rattle.atspi_pool.specs.Chains.{empty_chain, blocks_of, front_of, room_in, popped_by, cut_by};
 ghost use Rattle.atspi_pool.specs.Store.{chain_at, held, with_chain, with_pushed, all_blocks, written, HasFront};
 
@@ -53,6 +53,16 @@ impl Store {
             links: Links::new(alloc),
             bytes: Vec::new(alloc),
         }
+    }
+
+    /// Equal chains.
+    pub fn copy(&self, alloc: Global) -> Result<Store, NoMemory>
+        ensures { IfOk result (λ copy. copy ≡ self.now) }
+    {
+        Ok(Store {
+            links: self.links.copy(alloc)?,
+            bytes: self.bytes.to_vec(alloc)?,
+        })
     }
 
     /// How many blocks were made.

@@ -54,13 +54,13 @@ no_chain pool chains conn none = by (chain_of chains conn) (sym (get-queues pool
     by (Some chain) e = absurd cc
 
 -- what one write to a map leaves at each key
-at_key : {X : Type 0} (queues : FinMap nat_cmp X) (conn : ℕ) (x : X) → finmap.get (finmap.insert queues conn x) conn ≡ Some x
+pub at_key : {X : Type 0} (queues : FinMap nat_cmp X) (conn : ℕ) (x : X) → finmap.get (finmap.insert queues conn x) conn ≡ Some x
 at_key queues conn x = get-insert nat_cmp_total queues conn x conn ∙ ap (λ b. cond b (Some x) (finmap.get queues conn)) (ties conn)
 
-at_other : {X : Type 0} (queues : FinMap nat_cmp X) (conn : ℕ) (x : X) (q : ℕ) → q ≢ conn → finmap.get (finmap.insert queues conn x) q ≡ finmap.get queues q
+pub at_other : {X : Type 0} (queues : FinMap nat_cmp X) (conn : ℕ) (x : X) (q : ℕ) → q ≢ conn → finmap.get (finmap.insert queues conn x) q ≡ finmap.get queues q
 at_other queues conn x q ne = get-insert nat_cmp_total queues conn x q ∙ ap (λ b. cond b (Some x) (finmap.get queues q)) (ties_not q conn ne)
 
-gone_key : {X : Type 0} (queues : FinMap nat_cmp X) (conn : ℕ) → finmap.get (finmap.remove queues conn) conn ≡ None
+pub gone_key : {X : Type 0} (queues : FinMap nat_cmp X) (conn : ℕ) → finmap.get (finmap.remove queues conn) conn ≡ None
 gone_key queues conn = get-remove nat_cmp_total queues conn conn ∙ ap (λ b. cond b None (finmap.get queues conn)) (ties conn)
 
 gone_other : {X : Type 0} (queues : FinMap nat_cmp X) (conn q : ℕ) → q ≢ conn → finmap.get (finmap.remove queues conn) q ≡ finmap.get queues q
@@ -70,7 +70,7 @@ same_queues : (m n : FinMap nat_cmp (List ℕ)) → ((q : ℕ) → finmap.get m 
 same_queues m n h = same_map nat_cmp_total nat_cmp-IsAntisymmetric m n h
 
 -- two maps that agree at a key and at all others
-by_keys : (m n : FinMap nat_cmp (List ℕ)) (conn : ℕ) → finmap.get m conn ≡ finmap.get n conn → ((q : ℕ) → q ≢ conn → finmap.get m q ≡ finmap.get n q) → m ≡ n
+pub by_keys : (m n : FinMap nat_cmp (List ℕ)) (conn : ℕ) → finmap.get m conn ≡ finmap.get n conn → ((q : ℕ) → q ≢ conn → finmap.get m q ≡ finmap.get n q) → m ≡ n
 by_keys m n conn here others = same_queues m n (λ q. elim (cases_eq q conn) [
   | inl is ↦ subst (λ (k : ℕ). finmap.get m k ≡ finmap.get n k) (sym is) here
   | inr ne ↦ others q ne

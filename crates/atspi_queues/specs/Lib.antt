@@ -3,3 +3,4 @@ pub mod DueList
 pub mod Change
 pub mod QueueMap
 pub mod Held
+pub mod Each

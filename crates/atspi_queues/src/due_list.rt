@@ -1,6 +1,6 @@
 //! The connections that are to be closed, in the order of the causes.
 
-ghost use Rattle.std.specs.Prelude.{◌≡◌, ◌==◌, not, ℕ, List, false, [], ◌∷◌, ◌++◌, filter, MatchOption, OnOk, OnErr};
+ghost use Rattle.std.specs.Prelude.{◌≡◌, ◌==◌, not, ℕ, List, false, [], ◌∷◌, ◌++◌, filter, MatchOption, IfOk, OnOk, OnErr};
 ghost use Rattle.atspi_routing.specs.Queues.{is_due};
 ghost use Rattle.atspi_queues.specs.Once.{AreOnce};
 ghost use Rattle.atspi_routing.specs.declared.closing.Why.{Why};
@@ -44,6 +44,16 @@ impl DueList {
             list: VecDeque::new(alloc),
             conns: BTreeSet::new(alloc),
         }
+    }
+
+    /// An equal list.
+    pub fn copy(&self) -> Result<DueList, NoMemory>
+        ensures { IfOk result (λ copy. copy ≡ self.now) }
+    {
+        Ok(DueList {
+            list: self.list.clone()?,
+            conns: self.conns.clone()?,
+        })
     }
 
     /// Whether a connection is to be closed.

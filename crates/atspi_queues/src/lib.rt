@@ -2,6 +2,7 @@
 #![tactic(auto)]
 
 mod due_list;
+mod each;
 mod queue_map;
 mod queues;
 

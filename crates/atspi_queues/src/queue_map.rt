@@ -1,6 +1,6 @@
 //! The queue of each connection: a chain of one pool.
 
-ghost use Rattle.std.specs.Prelude.{◌≡◌, ◌+◌, ◌-◌, ◌<◌, ◌≤◌, ◌^◌, ◌↔◌, ℕ, List, [], ◌++◌, length, take, drop, None, IsSome, OnOk, OnErr};
+ghost use Rattle.std.specs.Prelude.{◌≡◌, ◌+◌, ◌-◌, ◌<◌, ◌≤◌, ◌^◌, ◌↔◌, ℕ, List, [], ◌++◌, length, take, drop, None, IsSome, IsTrue, IfOk, OnOk, OnErr};
 ghost use Rattle.std.specs.FinMap as finmap;
 ghost use Rattle.atspi_routing.specs.Queues.{queue_of};
 ghost use Rattle.atspi_queues.specs.Change.{with_queue};
@@ -44,6 +44,23 @@ impl QueueMap {
             pool: Pool::new(alloc),
             chains: BTreeMap::new(alloc),
         }
+    }
+
+    /// Equal queues.
+    pub fn copy(&self, alloc: Global) -> Result<QueueMap, NoMemory>
+        ensures { IfOk result (λ copy. copy ≡ self.now) }
+    {
+        Ok(QueueMap {
+            pool: self.pool.copy(alloc)?,
+            chains: self.chains.clone()?,
+        })
+    }
+
+    /// Whether a connection has a queue.
+    pub fn has(&self, conn: u32) -> bool
+        ensures { IsTrue result ↔ IsSome (finmap.get self.now conn) }
+    {
+        self.chains.contains_key(&conn)
     }
 
     /// How many bytes wait for a connection.

@@ -1,11 +1,12 @@
 //! The queues of a bus with their quota, and who is to be closed.
 
-ghost use Rattle.std.specs.Prelude.{◌≡◌, ◌<◌, ◌≤◌, ◌^◌, ◌↔◌, ◌-◌, ℕ, List, [], ◌∷◌, ◌++◌, length, drop, take, MatchOption, OnOk, OnErr};
+ghost use Rattle.std.specs.Prelude.{◌≡◌, ◌<◌, ◌≤◌, ◌^◌, ◌↔◌, ◌-◌, ℕ, List, [], ◌∷◌, ◌++◌, length, drop, take, MatchOption, IsTrue, IfOk, OnOk, OnErr};
 ghost use Rattle.std.specs.FinMap as finmap;
 ghost use Rattle.atspi_routing.specs.declared.closing.Why.{Why};
 ghost use Rattle.atspi_routing.specs.Queues.{queue_of, doomed, queued, without_queue};
 ghost use Rattle.atspi_routing.specs.Laws.{AreWithin};
 ghost use Rattle.atspi_queues.specs.Change.{with_queue};
+ghost use Rattle.atspi_queues.specs.Each.{HasRoom};
 ghost use Rattle.atspi_queues.specs.Held.{no_queues};
 
 use crate::due_list::DueList;
@@ -49,6 +50,17 @@ impl Queues {
         }
     }
 
+    /// Equal queues, with the same connections to be closed.
+    pub fn copy(&self, alloc: Global) -> Result<Queues, NoMemory>
+        ensures { IfOk result (λ copy. copy ≡ self.now) }
+    {
+        Ok(Queues {
+            quota: self.quota,
+            queues: self.queues.copy(alloc)?,
+            due: self.due.copy()?,
+        })
+    }
+
     /// Gives a connection an empty queue. After want of memory all is as before.
     pub fn open_queue(&mut self, conn: u32) -> Result<(), NoMemory>
         ensures ok { OnOk result (self.new ≡ record self.old {
@@ -86,6 +98,19 @@ impl Queues {
         self.queues.push(conn, bytes)
     }
 
+    /// Whether a connection has a queue with room for so many bytes more, while nobody is to be closed.
+    pub fn has_room(&self, conn: u32, len: u32) -> bool
+        ensures { IsTrue result ↔ HasRoom self.now conn len }
+    {
+        if self.due.first().is_some() {
+            return false;
+        }
+        if !self.queues.has(conn) {
+            return false;
+        }
+        u64::from(self.queues.len(conn)) + u64::from(len) <= u64::from(self.quota)
+    }
+
     /// A connection is to be closed, if it is not already. After want of memory all is as before.
     pub fn doom(&mut self, conn: u32, why: Why) -> Result<(), NoMemory>
         ensures ok { OnOk result (self.new ≡ record self.old { waiting = doomed self.old.waiting conn why }) }
@@ -111,6 +136,13 @@ impl Queues {
         ensures within { AreWithin self.now.quota self.now.waiting.queues }
     {
         self.queues.len(conn)
+    }
+
+    /// A law: each queue is at most the quota.
+    pub fn stay_within(&self)
+        ensures { AreWithin self.now.quota self.now.waiting.queues }
+    {
+        let _ = &self.quota;
     }
 
     /// The next piece of the bytes that wait for a connection, empty exactly where none wait.

@@ -80,7 +80,8 @@ fn make_each(alloc: Global, apps: &mut Apps, told: Vec<Reference>) -> Result<(),
     Ok(())
 }
 
-/// Applications become known, of each reference in order. After want of memory all is as before. It looks at all that are known for each.
+/// Applications become known, of each reference in order. After want of memory all is as before. Work is n log n of those
+/// that are told and known.
 pub(crate) fn make_known(
     alloc: Global,
     apps: &mut Apps,

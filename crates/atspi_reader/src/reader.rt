@@ -113,7 +113,6 @@ impl Reader {
     /// A user's call of a node of an application that is held is queued. NotHeld exactly where `view` is none; Spent exactly where it is held and the
     /// call's number would pass 4,294,967,295; after a fault all is as before.
     pub fn call(&mut self, app: &BusName, node: u32, what: &Deed) -> Result<(), CallFault>
-        requires is { IsReader self.old }
         requires reader { IsReader self.old }
         requires asked { MayBeAsked what.now }
         ensures ok { OnOk result (reader_of self.new ≡ reader_calls (reader_of self.old) app.now node what.now) }
@@ -158,9 +157,10 @@ impl Reader {
         }
     }
 
-    /// What it did first of all that was not handed out yet.
+    /// What it did first of all that was not handed out yet, none exactly where all was.
     pub fn next(&mut self) -> Option<ReaderEvent>
         ensures front { MatchOption result (reader_of self.new ≡ reader_of self.old) (λ event. reader_of self.old ≡ record (reader_of self.new) { out = done_of event ∷ (reader_of self.new).out }) }
+        ensures all { result ≡ None → (reader_of self.old).out ≡ [] }
         ensures stays { IsReader self.old → IsReader self.new }
     {
         self.out.pop_front()

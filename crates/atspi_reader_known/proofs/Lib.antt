@@ -12,3 +12,6 @@ pub mod Tells
 pub mod Told
 pub mod Names
 pub mod Found
+pub mod Placed
+pub mod Refusals
+pub mod Settled

@@ -11,15 +11,15 @@ use Rattle.atspi_following.specs.Replied.{changed}
 use Rattle.atspi_following.specs.Takes.{found_in}
 use Rattle.atspi_reader_known.specs.Unique.{AreUnique}
 
-or_right : (a b : Bool) → (a || b) ≡ false → b ≡ false
+pub or_right : (a b : Bool) → (a || b) ≡ false → b ≡ false
 or_right true b e = absurd cc
 or_right false b e = e
 
-or_left : (a b : Bool) → (a || b) ≡ false → a ≡ false
+pub or_left : (a b : Bool) → (a || b) ≡ false → a ≡ false
 or_left true b e = absurd cc
 or_left false b e = refl
 
-or_none : (a b : Bool) → a ≡ false → b ≡ false → (a || b) ≡ false
+pub or_none : (a b : Bool) → a ≡ false → b ≡ false → (a || b) ≡ false
 or_none a b p q = rw (p, q) refl
 
 module _ {X : Type 0} (p : X → Bool) where
@@ -55,7 +55,7 @@ unique_take zero (a ∷ apps) u = tt
 unique_take (suc n) [] u = tt
 unique_take (suc n) (a ∷ apps) u = (none_take (is_named a.name) n apps u.0, unique_take n apps u.1)
 
-other_way : (a b : List ℕ) → bytes_eq a b ≡ false → bytes_eq b a ≡ false
+pub other_way : (a b : List ℕ) → bytes_eq a b ≡ false → bytes_eq b a ≡ false
 other_way a b e = by (bytes_eq b a) refl
   where
     by : (t : Bool) → bytes_eq b a ≡ t → t ≡ false
@@ -117,7 +117,7 @@ all_fail p d [] h = refl
 all_fail p d (x ∷ xs) h = or_none (p x) (list_any p xs) (h 0 (omega arith)) (all_fail p d xs (λ k l. h (suc k) (omega (arith, l))))
 
 -- where the first of a name stands, that one changes
-first_at : (name : List ℕ) (apps now : List Followed) (i : ℕ) (d : Followed) → apps ≡ now → position (is_named name) now ≡ Some i
+pub first_at : (name : List ℕ) (apps now : List Followed) (i : ℕ) (d : Followed) → apps ≡ now → position (is_named name) now ≡ Some i
     → (i < length apps) × (is_named name (get_or apps i d) ≡ true) × ((k : ℕ) → k < i → is_named name (get_or apps k d) ≡ false)
 first_at name apps now i d same pos = position-Some (is_named name) apps i d (ap (position (is_named name)) same ∙ pos)
 

@@ -3,3 +3,6 @@ pub mod Kept
 pub mod Wanted
 pub mod Unique
 pub mod Planned
+pub mod Places
+pub mod Refusals
+pub mod Settled

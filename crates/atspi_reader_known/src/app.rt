@@ -1,18 +1,19 @@
 //! An application that a reader knows.
 
-ghost use Rattle.std.specs.Prelude.{◌≡◌, [], ◌++◌, ◌||◌, false, bytes_eq, IfOk, OnOk, OnErr, None, Some};
+ghost use Rattle.std.specs.Prelude.{◌≡◌, ℕ, List, [], ◌++◌, true, ◌||◌, false, bytes_eq, IfOk, OnOk, OnErr, None, Some, map};
 ghost use Rattle.std.specs.Option.{option_map};
-ghost use Rattle.atspi_arena.specs.Sights.{sights};
+ghost use Rattle.atspi_arena.specs.Sights.{Sight, sights};
 ghost use Rattle.atspi_forest.specs.Forest.{Forest, find, has};
 ghost use Rattle.atspi_forest.specs.News.{is_path, load};
 ghost use Rattle.atspi_forest.specs.declared.news.News.TheVariants.{ChildAdded, Item as NewItem};
 ghost use Rattle.atspi_speech.specs.Looked.{adds};
 ghost use Rattle.atspi_forest.specs.declared.view.Row.{Row};
-ghost use Rattle.atspi_following.specs.ReaderState.{is_named};
+ghost use Rattle.atspi_following.specs.ReaderState.{Followed, is_named};
 ghost use Rattle.atspi_following.specs.Wishes.{wishes_of};
 ghost use Rattle.atspi_following.specs.Replied as replied;
 ghost use Rattle.atspi_following.specs.Takes as takes;
-ghost use Rattle.atspi_reader_known.specs.Kept.{kept, lines_in, closing_in};
+ghost use Rattle.atspi_reader_known.specs.Kept.{kept, rows_of, lines_in, closing_in};
+ghost use Rattle.atspi_reader_known.specs.Wanted as wanted;
 ghost use Rattle.atspi_reader_known.specs.Wanted.{first, lent, part_question, refusing, wish_at};
 
 use crate::fresh::fresh_part;
@@ -32,15 +33,18 @@ const HERE: u32 = 0;
 
 /// An application that a reader knows: its bus name and the path of its root, its view where it is held, whether all of it is to be asked for
 /// again, the serial of the last message taken from it, and the parts that it would not tell. Each has a cache of its own, so that nothing
-/// that is done to one touches another.
+/// that is done to one touches another. Beside that it keeps whether it was seen that nothing is wanted of it, so that its rows are not walked again for
+/// what others are asked.
 #[derive(Drop)]
 pub struct App {
+    alloc: Global,
     name: BusName,
     root: Path,
     cache: Cache,
     reload: bool,
     last: u32,
     refused: Refused,
+    settled: bool,
 }
 
 impl Model for App {
@@ -48,6 +52,7 @@ impl Model for App {
     ghost use Rattle.atspi_following.specs.ReaderState.{Followed};
     ghost use Rattle.atspi_reader_known.specs.FollowedCode.{followed_code};
     ghost use Rattle.atspi_reader_known.specs.Kept.{kept, rows_of, IsKept};
+    ghost use Rattle.atspi_reader_known.specs.Settled.{IsSoSettled};
 
     ghost Value = { Followed };
 
@@ -55,7 +60,7 @@ impl Model for App {
 
     ghost view = { λ a. record { name = a.name; root = a.root; view = rows_of (kept a.cache); reload = a.reload; last = a.last; refused = a.refused } };
 
-    ghost invariant = { λ a. IsKept a.name a.root (kept a.cache) };
+    ghost invariant = { λ a. IsKept a.name a.root (kept a.cache) × IsSoSettled a.settled (record { name = a.name; root = a.root; view = rows_of (kept a.cache); reload = a.reload; last = a.last; refused = a.refused }) };
 }
 
 /// Whether a text has the characters of a bus name.
@@ -89,18 +94,55 @@ fn is_same_path(one: &Path, other: &Path) -> bool
     one.is(other)
 }
 
+/// Whether no row has an unknown part that was not refused.
+fn has_no_wanted(alloc: Global, rows: Rows, refused: &Refused) -> bool
+    ensures { result ≡ true → wanted.first_wanted refused.now (map (λ (s : Sight). s.row) rows.entry) ≡ None }
+{
+    match first_wanted(rows, refused, &Refused::new(alloc)) {
+        Some(_) => false,
+        None => true,
+    }
+}
+
+/// Whether nothing is wanted of an application with this view. It walks over the rows up to the first that has an unknown part.
+fn wants_nothing(alloc: Global, cache: &Cache, reload: bool, refused: &Refused) -> bool
+    ensures { result ≡ true → (name root : List ℕ) (last : ℕ) → wishes_of (record { name = name; root = root; view = rows_of (kept cache.now); reload = reload; last = last; refused = refused.now }) ≡ [] }
+{
+    if reload {
+        return false;
+    }
+    match cache.rows(HERE) {
+        Some(rows) => has_no_wanted(alloc, rows, refused),
+        None => false,
+    }
+}
+
+/// Whether nothing was wanted, and nothing is after a news, whatever the view is.
+fn adds_no_wish(settled: bool, news: &News) -> bool
+    ensures was { result ≡ true → settled ≡ true }
+    ensures no_wish { result ≡ true → (app : Followed) (view : Forest Row) → wish_at app view news.now ≡ None }
+{
+    match news {
+        News::Item(_) => false,
+        News::ChildAdded(_) => false,
+        _ => settled,
+    }
+}
+
 impl App {
     /// An application of which nothing was asked yet.
     pub fn new(alloc: Global, name: BusName, root: Path) -> App
         ensures { result ≡ record { name = name; root = root; view = None; reload = false; last = 0; refused = [] } }
     {
         App {
+            alloc,
             name,
             root,
             cache: Cache::new(alloc),
             reload: false,
             last: 0,
             refused: Refused::new(alloc),
+            settled: false,
         }
     }
 
@@ -157,13 +199,17 @@ impl App {
         let name = self.name.copy(alloc)?;
         let root = self.root.copy(alloc)?;
         let cache = told(alloc, &self.name, &self.root, items)?;
+        let refused = Refused::new(alloc);
+        let settled = wants_nothing(alloc, &cache, false, &refused);
         Ok(App {
+            alloc,
             name,
             root,
             cache,
             reload: false,
             last: self.last,
-            refused: Refused::new(alloc),
+            refused,
+            settled,
         })
     }
 
@@ -175,8 +221,10 @@ impl App {
         if !self.cache.is_held(HERE) {
             return Ok(());
         }
+        let stays = adds_no_wish(self.settled, &news);
         let marks = self.cache.fold(HERE, news)?;
         self.reload = is_either(self.reload, marks);
+        self.settled = stays;
         Ok(())
     }
 
@@ -189,6 +237,7 @@ impl App {
             return Ok(());
         }
         self.cache.fold(HERE, news)?;
+        self.settled = wants_nothing(self.alloc, &self.cache, self.reload, &self.refused);
         Ok(())
     }
 
@@ -197,7 +246,9 @@ impl App {
         ensures ok { OnOk result (self.new ≡ replied.refused_part path part self.old) }
         ensures err { OnErr result (self.new ≡ self.old) }
     {
-        self.refused.push(path, part)
+        self.refused.push(path, part)?;
+        self.settled = wants_nothing(self.alloc, &self.cache, self.reload, &self.refused);
+        Ok(())
     }
 
     /// Appends the lines that are spoken at a news, given before it is taken. After want of memory `out` is as before.
@@ -220,6 +271,16 @@ impl App {
             return Ok(());
         }
         out.push(closing(&self.cache, HERE)?)
+    }
+
+    /// What is wanted of it first. It walks over no row where nothing is wanted and that was seen.
+    pub(crate) fn wish_now(&self, alloc: Global) -> Result<Option<Question>, NoMemory>
+        ensures { IfOk result (λ wish. wish ≡ first (wishes_of self.now)) }
+    {
+        if self.settled {
+            return Ok(None);
+        }
+        self.wish(alloc, &Refused::new(alloc))
     }
 
     /// What is wanted of it first, if these parts too were refused. It walks over the rows up to the first that has an unknown part.

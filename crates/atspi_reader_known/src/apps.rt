@@ -1,6 +1,6 @@
 //! The applications that a reader knows.
 
-ghost use Rattle.std.specs.Prelude.{◌≡◌, ◌<◌, [], ◌∷◌, ◌++◌, false, not, filter, length, take, map, flat_map, IfOk, OnOk, OnErr};
+ghost use Rattle.std.specs.Prelude.{◌≡◌, ◌-◌, ◌<◌, [], ◌∷◌, ◌++◌, false, not, filter, length, take, map, flat_map, IfOk, OnOk, OnErr};
 ghost use Rattle.std.specs.List.{list_any, position};
 ghost use Rattle.std.specs.Option.{option_copied};
 ghost use Rattle.atspi_following.specs.ReaderState.{is_named};
@@ -8,12 +8,13 @@ ghost use Rattle.atspi_following.specs.Wishes.{wishes};
 ghost use Rattle.atspi_following.specs.Replied as replied;
 ghost use Rattle.atspi_following.specs.Replied.{changed};
 ghost use Rattle.atspi_following.specs.Takes as takes;
+ghost use Rattle.atspi_reader_known.specs.Places.{AreFound};
 ghost use Rattle.atspi_reader_known.specs.Wanted.{first};
 ghost use Rattle.atspi_reader_known.specs.Planned.{one_planned, first_planned};
 
 use crate::app::App;
+use crate::places::Places;
 use crate::plan::Plan;
-use crate::refused::Refused;
 use atspi_base::NoMemory;
 use atspi_following::Question;
 use atspi_forest::News;
@@ -23,10 +24,12 @@ use std::alloc::Global;
 use std::marker::Model;
 use std::mem;
 
-/// The applications that a reader knows, in the order in which they became known. No two have one name. A call looks at each at most once.
+/// The applications that a reader knows, in the order in which they became known. No two have one name. Which one has a name is looked up, in log n
+/// steps; to forget one takes a walk over all, and so does what is wanted first.
 #[derive(Drop)]
 pub struct Apps {
     items: Vec<App>,
+    places: Places,
 }
 
 impl Model for Apps {
@@ -35,7 +38,7 @@ impl Model for Apps {
     ghost use Rattle.atspi_forest.specs.contracts.view.Row as view_row;
     ghost use Rattle.atspi_following.specs.ReaderState.{Followed};
     ghost use Rattle.atspi_reader_known.specs.FollowedCode.{followed_code};
-    ghost use Rattle.atspi_reader_known.specs.Unique.{AreUnique};
+    ghost use Rattle.atspi_reader_known.specs.Places.{AreFound};
 
     ghost Value = { List Followed };
 
@@ -43,7 +46,7 @@ impl Model for Apps {
 
     ghost view = { λ a. a.items.items };
 
-    ghost invariant = { λ a. AreUnique a.items.items };
+    ghost invariant = { λ a. AreFound a.places a.items.items };
 }
 
 /// What is wanted of an application first, if the plan for the one with this name is done.
@@ -56,11 +59,11 @@ fn planned_wish(
     ensures { IfOk result (λ wish. wish ≡ first (wishes (one_planned plan.entry name.now app.now))) }
 {
     if !app.is(name) {
-        return app.wish(alloc, &Refused::new(alloc));
+        return app.wish_now(alloc);
     }
     match plan {
         Plan::Settle(more) => app.wish(alloc, more),
-        Plan::Put(other) => other.wish(alloc, &Refused::new(alloc)),
+        Plan::Put(other) => other.wish_now(alloc),
         Plan::Forget => Ok(None),
     }
 }
@@ -82,6 +85,26 @@ fn first_planned(
     Ok(None)
 }
 
+/// The last application is forgotten.
+fn cut_one(items: &mut Vec<App>, places: &mut Places)
+    ensures items { items.new.items ≡ take (length items.old.items - 1) items.old.items }
+    ensures found { AreFound places.old items.old.items → AreFound places.new items.new.items }
+{
+    if let Some(app) = items.pop() {
+        places.remove(app.name().as_str());
+    }
+}
+
+/// Only the first so many applications stay known.
+fn cut(items: &mut Vec<App>, places: &mut Places, count: usize)
+    ensures items { items.new.items ≡ take count items.old.items }
+    ensures found { AreFound places.old items.old.items → AreFound places.new items.new.items }
+{
+    while items.len() > count {
+        cut_one(items, places);
+    }
+}
+
 impl Apps {
     /// None is known.
     pub fn new(alloc: Global) -> Apps
@@ -89,6 +112,7 @@ impl Apps {
     {
         Apps {
             items: Vec::new(alloc),
+            places: Places::new(alloc),
         }
     }
 
@@ -103,7 +127,7 @@ impl Apps {
     fn place(&self, name: &str) -> Option<usize>
         ensures { result ≡ position (is_named name.now) self.now }
     {
-        self.items.iter().position(|app| app.is(name))
+        self.places.find(name)
     }
 
     /// The application with this name.
@@ -120,7 +144,7 @@ impl Apps {
     pub fn has(&self, name: &str) -> bool
         ensures { result ≡ list_any (is_named name.now) self.now }
     {
-        self.items.iter().any(|app| app.is(name))
+        self.place(name).is_some()
     }
 
     /// An application becomes known. After want of memory all is as before.
@@ -129,22 +153,30 @@ impl Apps {
         ensures ok { OnOk result (self.new ≡ self.old ++ app ∷ []) }
         ensures err { OnErr result (self.new ≡ self.old) }
     {
-        self.items.push(app)?;
-        Ok(())
+        self.items.reserve(1)?;
+        self.places.put(app.name().as_str(), self.items.len())?;
+        match self.items.push(app) {
+            Ok(()) => Ok(()),
+            Err(_) => unreachable!(),
+        }
     }
 
     /// Only the first so many stay known.
     pub fn truncate(&mut self, count: usize)
         ensures { self.new ≡ take count self.old }
     {
-        self.items.truncate(count);
+        cut(&mut self.items, &mut self.places, count);
     }
 
     /// The application with this name is forgotten.
     pub fn forget(&mut self, name: &str)
         ensures { self.new ≡ filter (λ app. not (is_named name.now app)) self.old }
     {
-        self.items.retain(|app| !app.is(name));
+        if let Some(place) = self.place(name) {
+            self.items.retain(|app| !app.is(name));
+            self.places.remove(name);
+            self.places.move_up(place);
+        }
     }
 
     /// The serial of a message of the application with this name is noted.

@@ -5,6 +5,7 @@ mod app;
 mod apps;
 mod fresh;
 pub mod laws;
+mod places;
 mod plan;
 mod refused;
 mod unknown;

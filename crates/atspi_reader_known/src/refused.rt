@@ -1,18 +1,33 @@
 //! The parts that an application would not tell.
 
-ghost use Rattle.std.specs.Prelude.{◌≡◌, [], ◌∷◌, ◌++◌, ◌&&◌, bytes_eq, OnOk, OnErr};
+ghost use Rattle.std.specs.Prelude.{◌≡◌, ℕ, List, [], ◌∷◌, ◌++◌, true, cond, bytes_eq, OnOk, OnErr};
+ghost use Rattle.std.specs.BTreeSet.{contains_text};
+ghost use Rattle.atspi_news.specs.declared.part.PartName.{PartName};
 ghost use Rattle.atspi_following.specs.Wishes as wishes;
+ghost use Rattle.atspi_reader_known.specs.Refusals.{AreSame, Puts, has_part};
 
 use atspi_base::NoMemory;
 use atspi_news::PartName;
 use atspi_types::Path;
 use std::alloc::Global;
+use std::collections::BTreeSet;
 use std::marker::Model;
 
-/// Parts of rows that an application would not tell, each with the path of its row, in the order in which they were asked for.
+/// Parts of rows that an application would not tell, each with the path of its row, in the order in which they were asked for. Whether one is there is
+/// looked up, in log n steps.
 #[derive(Drop)]
 pub struct Refused {
+    alloc: Global,
     items: Vec<(Path, PartName)>,
+    parts: Parts,
+}
+
+/// The paths of the rows of which each part was refused.
+#[derive(Drop)]
+pub(crate) struct Parts {
+    texts: BTreeSet<String>,
+    carets: BTreeSet<String>,
+    columns: BTreeSet<String>,
 }
 
 impl Model for Refused {
@@ -25,32 +40,56 @@ impl Model for Refused {
     ghost coded = { refused_code };
 
     ghost view = { λ r. r.items.items };
+
+    ghost use Rattle.atspi_reader_known.specs.Refusals.{AreSame};
+
+    ghost invariant = { λ r. AreSame r.parts r.items.items };
 }
 
-/// Whether the two parts are the same.
-fn is_same_part(one: PartName, other: PartName) -> bool
-    ensures { result ≡ wishes.same_part one other }
+/// Puts a path into a set. After want of memory the set is as before.
+fn put(alloc: Global, set: &mut BTreeSet<String>, path: &Path) -> Result<(), NoMemory>
+    ensures ok { OnOk result ((q : List ℕ) → contains_text set.new q ≡ cond (bytes_eq path.now q) true (contains_text set.old q)) }
+    ensures err { OnErr result ((q : List ℕ) → contains_text set.new q ≡ contains_text set.old q) }
 {
-    match (one, other) {
-        (PartName::Text, PartName::Text) => true,
-        (PartName::Caret, PartName::Caret) => true,
-        (PartName::Columns, PartName::Columns) => true,
-        _ => false,
+    let path = String::from_str(alloc, path.as_str())?;
+    set.insert(path)?;
+    Ok(())
+}
+
+impl Parts {
+    /// No path.
+    fn new(alloc: Global) -> Parts
+        ensures { AreSame result [] }
+    {
+        Parts {
+            texts: BTreeSet::new(alloc),
+            carets: BTreeSet::new(alloc),
+            columns: BTreeSet::new(alloc),
+        }
     }
-}
 
-/// Whether the two paths are the same, as a test that computes.
-fn is_same_path(one: &Path, other: &Path) -> bool
-    ensures { result ≡ bytes_eq one.now other.now }
-{
-    one.is(other)
-}
+    /// Whether the part of the row with this path was refused.
+    fn has(&self, path: &Path, part: PartName) -> bool
+        ensures { result ≡ has_part self.now path.now part }
+    {
+        match part {
+            PartName::Text => self.texts.contains(path.as_str()),
+            PartName::Caret => self.carets.contains(path.as_str()),
+            PartName::Columns => self.columns.contains(path.as_str()),
+        }
+    }
 
-/// Whether it is this part of the row with this path.
-fn is_part(refused: &(Path, PartName), path: &Path, part: PartName) -> bool
-    ensures { result ≡ (bytes_eq refused.now.0 path.now && wishes.same_part refused.now.1 part) }
-{
-    is_same_path(&refused.0, path) && is_same_part(refused.1, part)
+    /// The part of the row with this path was refused. After want of memory all is as before.
+    fn put(&mut self, alloc: Global, path: &Path, part: PartName) -> Result<(), NoMemory>
+        ensures ok { OnOk result (Puts self.old self.new path.now part) }
+        ensures err { OnErr result ((q : List ℕ) (p : PartName) → has_part self.new q p ≡ has_part self.old q p) }
+    {
+        match part {
+            PartName::Text => put(alloc, &mut self.texts, path),
+            PartName::Caret => put(alloc, &mut self.carets, path),
+            PartName::Columns => put(alloc, &mut self.columns, path),
+        }
+    }
 }
 
 impl Refused {
@@ -59,17 +98,17 @@ impl Refused {
         ensures { result ≡ [] }
     {
         Refused {
+            alloc,
             items: Vec::new(alloc),
+            parts: Parts::new(alloc),
         }
     }
 
-    /// Whether the part of the row with this path is among them. It looks at each.
+    /// Whether the part of the row with this path is among them.
     pub fn has(&self, path: &Path, part: PartName) -> bool
         ensures { result ≡ wishes.is_refused self.now path.now part }
     {
-        self.items
-            .iter()
-            .any(|refused| is_part(refused, path, part))
+        self.parts.has(path, part)
     }
 
     /// Appends a part. After want of memory all is as before.
@@ -77,7 +116,11 @@ impl Refused {
         ensures ok { OnOk result (self.new ≡ self.old ++ (path, part) ∷ []) }
         ensures err { OnErr result (self.new ≡ self.old) }
     {
-        self.items.push((path, part))?;
-        Ok(())
+        self.items.reserve(1)?;
+        self.parts.put(self.alloc, &path, part)?;
+        match self.items.push((path, part)) {
+            Ok(()) => Ok(()),
+            Err(_) => unreachable!(),
+        }
     }
 }

@@ -13,6 +13,7 @@ use Rattle.atspi_events.specs.declared.shown.ShownRow.{ShownRow}
 use Rattle.atspi_announcing.specs.Signals.{Signal}
 use Rattle.atspi_announcing.specs.Announced.{announced}
 use Rattle.atspi_exporting.specs.Starting.{name_or_empty}
+use Rattle.atspi_exporting.specs.Hearing.{is_covered}
 use Rattle.atspi_exporting.specs.Telling.{asked_for}
 use Rattle.atspi_ends.specs.Messages.{numbered}
 use Rattle.atspi_speech.specs.Speech.{says_after, closing_says}
@@ -25,7 +26,7 @@ use Rattle.atspi_trace.specs.Entry.{Entry, changed, sent, got, spoke, showed, ex
 use Rattle.atspi_trace.specs.Ends.{same_party}
 use Rattle.atspi_trace.specs.Hearing.{patterns_in, question_in}
 use Rattle.atspi_trace.specs.Causes.{told_in, shown_rows}
-use Rattle.atspi_trace_laws.specs.Words.{live_tree, added, messages, message, as_of, heard_pairs, name_in, own_call, is_answered, is_returned, Kept, held, is_live}
+use Rattle.atspi_trace_laws.specs.Words.{live_tree, added, messages, message, before_sent, as_of, heard_pairs, name_in, own_call, is_answered, is_returned, Kept, held, is_live}
 
 -- it holds of each entry, with those before it and those behind it
 abbrev pub Everywhere : (List Entry → Entry → List Entry → Type 0) → List Entry → Type 0
@@ -152,15 +153,21 @@ ShowsTree before entry behind = Unit {0}
 abbrev pub LawOfShownRows : List Entry → Type 0
 LawOfShownRows trace = Everywhere ShowsTree trace
 
--- SPOKEN LINES. Behind a message of an application that it held before stand, where that announces a step, the lines of the step, read from
--- the tree as of the message.
+-- SPOKEN LINES. Behind a message of an application that it held before stand, where that is the announcement of a step, the lines of the step,
+-- read from the tree as of the message.
+
+-- the announcement of a step is the first of its signals; some heard pattern covers it
+abbrev pub IsAskedFor : List (List ℕ × List ℕ) → List Signal → Type 0
+IsAskedFor pairs [] = ⊥
+IsAskedFor pairs (signal ∷ echoes) = is_covered pairs signal.event signal.minor ≡ true
+
+-- A message is the announcement of a step where it was sent directly behind the step and the step's announcement was asked for: what stands there
+-- is then the announcement, by the law of applications. An echo of a step whose announcement nobody asked for announces nothing.
 pub record Announces (before : List Entry) (app serial : ℕ) (step : Step) : Type 0 where
   pub early : List Entry
-  pub behind : List Entry
-  pub e : Envelope
-  pub has_serial : e.serial ≡ serial
-  pub stands : before ≡ early ++ changed app step ∷ sent (App app) e ∷ behind
-  pub is_signal : e.kind ≡ 4
+  pub is_sent : is_some (message before (App app) serial) ≡ true
+  pub stands : before_sent (App app) serial before ≡ early ++ changed app step ∷ []
+  pub asked : IsAskedFor (heard_pairs early app) (announced (name_or_empty (name_in early (App app))) (live_tree early app) step)
 
 abbrev pub IsSpoken : List Entry → Entry → List Entry → Type 0
 IsSpoken before (got (Reader reader) (App app) serial) behind =

@@ -124,13 +124,18 @@ kept_with serial (Some (GetPart name path part)) kept = option_map (λ (k : Kept
 kept_with serial question kept = option_map (λ (k : Kept). record k { last = serial }) kept
 
 abbrev pub kept_after : List Entry → ℕ → ℕ → Option Kept → Entry → Option Kept
-kept_after trace reader app kept (got (Reader r) (App a) serial) =
-    if r == reader && a == app then kept_with serial (answers_question trace reader (message trace (App app) serial)) kept else kept
-kept_after trace reader app kept (gone r a) = if r == reader && a == app then None else kept
-kept_after trace reader app kept entry = kept
+kept_after before reader app kept (got (Reader r) (App a) serial) =
+    if r == reader && a == app then kept_with serial (answers_question before reader (message before (App app) serial)) kept else kept
+kept_after before reader app kept (gone r a) = if r == reader && a == app then None else kept
+kept_after before reader app kept entry = kept
+
+-- each entry is read with those before it: a return answers a call that was sent before it came
+abbrev pub held_on : List Entry → ℕ → ℕ → Option Kept → List Entry → Option Kept
+held_on before reader app kept [] = kept
+held_on before reader app kept (entry ∷ entries) = held_on (before ++ entry ∷ []) reader app (kept_after before reader app kept entry) entries
 
 abbrev pub held : List Entry → ℕ → ℕ → Option Kept
-held trace reader app = fold (kept_after trace reader app) None trace
+held trace reader app = held_on [] reader app None trace
 
 -- a party was started, and neither stopped nor was dropped
 abbrev pub starts_it : Party → Entry → Bool

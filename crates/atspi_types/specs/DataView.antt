@@ -1,9 +1,10 @@
 -- How contracts see a value, and lists of values and of pairs.
-use Rattle.std.specs.Prelude.{List, map}
+use Rattle.std.specs.Prelude.{List}
 use Rattle.std.specs.Int.{w16, w32, w64, cast_unsigned}
 use Rattle.atspi_types.specs.Kinds.{byte, i16, u16, i32, u32, i64, u64, double}
 use Rattle.atspi_types.specs.KindView.{kind_of}
 use Rattle.atspi_types.specs.SignatureView.{signature_kinds}
+use Rattle.atspi_types.specs.PlainsView.{plains_data}
 use Rattle.atspi_types.specs.Data.{Data, number_data, boolean_data, text_data, path_data, signature_data, array_data, structure_data, dictionary_data, variant_data, items_of, entries_of}
 use Rattle.atspi_types.specs.declared.value.Value.{Value, fold-Value}
 use Rattle.atspi_types.specs.declared.value.Kept.TheOpen.{Value-F, Values-F, Kept-F, Pairs-F}
@@ -31,15 +32,7 @@ data_step (Value-F.Dict k v es) = dictionary_data (kind_of k) (kind_of v) (entri
 data_step (Value-F.Variant t v) = variant_data (kind_of t) v.value
 
 abbrev pub kept_step : Kept-F (List Data) Data (List (Data × Data)) (List Data) → List Data
-kept_step (Kept-F.Bytes ns) = map (number_data byte) ns.items
-kept_step (Kept-F.Bools bs) = map boolean_data bs.items
-kept_step (Kept-F.I16s zs) = map (λ z. number_data i16 (cast_unsigned w16 z)) zs.items
-kept_step (Kept-F.U16s ns) = map (number_data u16) ns.items
-kept_step (Kept-F.I32s zs) = map (λ z. number_data i32 (cast_unsigned w32 z)) zs.items
-kept_step (Kept-F.U32s ns) = map (number_data u32) ns.items
-kept_step (Kept-F.I64s zs) = map (λ z. number_data i64 (cast_unsigned w64 z)) zs.items
-kept_step (Kept-F.U64s ns) = map (number_data u64) ns.items
-kept_step (Kept-F.Doubles ns) = map (number_data double) ns.items
+kept_step (Kept-F.Plain ps) = plains_data ps
 kept_step (Kept-F.Values vs) = vs.items
 
 abbrev pub all_step : Values-F (List Data) Data (List (Data × Data)) (List Data) → List Data

@@ -1,5 +1,6 @@
 pub mod Borrowed
 pub mod Data
+pub mod PlainsView
 pub mod DataView
 pub mod Elements
 pub mod Extents

@@ -6,10 +6,12 @@ ghost use Rattle.atspi_types.specs.Borrowed.{ref_data, run_data};
 
 mod of_type;
 mod plain;
+mod plains;
 mod pushing;
 mod types;
 mod well_typed;
 
+use self::plains::Plains;
 use crate::borrowed::{Run, ValueRef};
 use crate::names::Path;
 use crate::signature::Signature;
@@ -51,15 +53,7 @@ pub struct Values {
 #[derive(Drop)]
 #[cycle(values)]
 enum Kept {
-    Bytes(Vec<u8>),
-    Bools(Vec<bool>),
-    I16s(Vec<i16>),
-    U16s(Vec<u16>),
-    I32s(Vec<i32>),
-    U32s(Vec<u32>),
-    I64s(Vec<i64>),
-    U64s(Vec<u64>),
-    Doubles(Vec<u64>),
+    Plain(Plains),
     Values(Vec<Value>),
 }
 
@@ -85,15 +79,7 @@ impl Values {
         ensures { result ≡ length (all_data self.now) }
     {
         match &self.kept {
-            Kept::Bytes(items) => items.len(),
-            Kept::Bools(items) => items.len(),
-            Kept::I16s(items) => items.len(),
-            Kept::U16s(items) => items.len(),
-            Kept::I32s(items) => items.len(),
-            Kept::U32s(items) => items.len(),
-            Kept::I64s(items) => items.len(),
-            Kept::U64s(items) => items.len(),
-            Kept::Doubles(items) => items.len(),
+            Kept::Plain(plains) => plains.len(),
             Kept::Values(items) => items.len(),
         }
     }
@@ -103,15 +89,7 @@ impl Values {
         ensures { run_data result ≡ all_data self.now }
     {
         match &self.kept {
-            Kept::Bytes(items) => Run::Bytes(items),
-            Kept::Bools(items) => Run::Bools(items),
-            Kept::I16s(items) => Run::I16s(items),
-            Kept::U16s(items) => Run::U16s(items),
-            Kept::I32s(items) => Run::I32s(items),
-            Kept::U32s(items) => Run::U32s(items),
-            Kept::I64s(items) => Run::I64s(items),
-            Kept::U64s(items) => Run::U64s(items),
-            Kept::Doubles(items) => Run::Doubles(items),
+            Kept::Plain(plains) => plains.run(),
             Kept::Values(items) => Run::Values(items),
         }
     }
@@ -141,15 +119,7 @@ impl Kept {
         ensures { IfOk result (λ kept. kept_data kept ≡ kept_data self.now) }
     {
         match self {
-            Kept::Bytes(items) => Ok(Kept::Bytes(items.to_vec(alloc)?)),
-            Kept::Bools(items) => Ok(Kept::Bools(items.to_vec(alloc)?)),
-            Kept::I16s(items) => Ok(Kept::I16s(items.to_vec(alloc)?)),
-            Kept::U16s(items) => Ok(Kept::U16s(items.to_vec(alloc)?)),
-            Kept::I32s(items) => Ok(Kept::I32s(items.to_vec(alloc)?)),
-            Kept::U32s(items) => Ok(Kept::U32s(items.to_vec(alloc)?)),
-            Kept::I64s(items) => Ok(Kept::I64s(items.to_vec(alloc)?)),
-            Kept::U64s(items) => Ok(Kept::U64s(items.to_vec(alloc)?)),
-            Kept::Doubles(items) => Ok(Kept::Doubles(items.to_vec(alloc)?)),
+            Kept::Plain(plains) => Ok(Kept::Plain(plains.copy(alloc)?)),
             Kept::Values(values) => {
                 let mut copies = Vec::with_capacity(alloc, values.len())?;
                 for value in values {

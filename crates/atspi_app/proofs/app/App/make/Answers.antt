@@ -1,4 +1,4 @@
-use Rattle.std.proofs.Common.{sym, ap, ◌∙◌, subst}
+use Rattle.std.proofs.Common.{sym, ap, ◌∙◌, subst, inl}
 use Rattle.atspi_forest.specs.Row.{Each}
 use Rattle.atspi_tree.specs.TreeShape.{TreeShape}
 use Rattle.atspi_announced.specs.Asked.{CanBeTold}
@@ -10,6 +10,9 @@ use Rattle.atspi_app.proofs.app.App.make.Goals as goal
 
 pub told-requires : goal.told-requires
 told-requires g c = subst (λ (t : TreeShape). Each (CanBeTold t) c.args.steps.now) (sym c.tree.ensures) (can_all_be_told (parts c.args.self.now.exported.tree (faces_of ((goal.Face-dyn g (c.args.self.now.exported.kit.chars.vtable, c.args.self.now.exported.kit.chars.value)).nodes c.args.self.now.exported.kit.chars.value) ((goal.Face-dyn g (c.args.self.now.exported.kit.grid.vtable, c.args.self.now.exported.kit.grid.value)).nodes c.args.self.now.exported.kit.grid.value) ((goal.Face-dyn g (c.args.self.now.exported.kit.deeds.vtable, c.args.self.now.exported.kit.deeds.value)).nodes c.args.self.now.exported.kit.deeds.value))) c.args.edit.now c.args.steps.now c.requires.exported.lawful c.requires.lawful c.requires.steps)
+
+pub do_steps-requires-clause-done : goal.do_steps-requires-clause-done
+do_steps-requires-clause-done g c = inl c.requires.one
 
 pub do_steps-requires-clause-apply : goal.do_steps-requires-clause-apply
 do_steps-requires-clause-apply g c = edit_applies (parts c.args.self.now.exported.tree (faces_of ((goal.Face-dyn g (c.args.self.now.exported.kit.chars.vtable, c.args.self.now.exported.kit.chars.value)).nodes c.args.self.now.exported.kit.chars.value) ((goal.Face-dyn g (c.args.self.now.exported.kit.grid.vtable, c.args.self.now.exported.kit.grid.value)).nodes c.args.self.now.exported.kit.grid.value) ((goal.Face-dyn g (c.args.self.now.exported.kit.deeds.vtable, c.args.self.now.exported.kit.deeds.value)).nodes c.args.self.now.exported.kit.deeds.value))) c.args.edit.now c.args.steps.now c.requires.exported.lawful c.requires.lawful c.requires.steps

@@ -1,12 +1,22 @@
-use Rattle.std.proofs.Common.{refl, sym, subst}
-use Rattle.atspi_types.specs.Names.{IsBusName}
-use Rattle.atspi_types.proofs.NameLemmas.{is_bus_name-from_IsBusName}
-use Rattle.atspi_header.proofs.Names.{each_named}
+use Rattle.std.proofs.Common.{◌≡◌, ◌<◌, List, Option, subst}
+use Rattle.std.specs.Prelude.{OnOk, IsErrOf}
+use Rattle.atspi_message.specs.Envelope.{Envelope}
+use Rattle.atspi_match.specs.declared.condition.Condition.{Condition}
+use Rattle.atspi_routing.specs.Steps.{takes_from_named}
+use Rattle.atspi_routing.specs.Queues.{stepped}
+use Rattle.atspi_bus_steps.specs.Inner.{inner_of, state_of}
+use Rattle.atspi_bus_steps.specs.Spoken.{IsRuleNamed}
+use Rattle.atspi_bus_steps.specs.declared.fault.BusFault.TheVariants.{Spent}
 use Rattle.atspi_bus_steps.proofs.inner.Inner.take_from.Goals as goal
 
-pub invariant_of-sent : goal.invariant_of-sent
-invariant_of-sent c =
-    let m = c.args.m.now in
-    let n = each_named m.path m.interface m.member m.error m.destination m.sender m.named in
-    let name = is_bus_name-from_IsBusName c.as_str.result.now (subst IsBusName (sym c.as_str.ensures.bytes) c.as_str.ensures.rule) in
-    record { named = rw (n.path, n.interface, n.member, n.error, n.destination, name) refl }
+pub returns-clause-ok : goal.returns-clause-ok
+returns-clause-ok c =
+    subst (λ (x : Envelope). OnOk c.take_named.result ((rule : Option (List Condition)) × IsRuleNamed x rule
+    × (inner_of c.take_named.new.self ≡ stepped (inner_of c.args.self.now) (takes_from_named (state_of c.args.self.now) c.args.conn x rule))))
+    c.with_sender.ensures c.take_named.ensures.ok
+
+pub returns-clause-spent : goal.returns-clause-spent
+returns-clause-spent c =
+    subst (λ (x : Envelope). IsErrOf c.take_named.result Spent → (rule : Option (List Condition)) × IsRuleNamed x rule
+    × (4294967296 < (takes_from_named (state_of c.args.self.now) c.args.conn x rule).state.next))
+    c.with_sender.ensures c.take_named.ensures.spent

@@ -2,19 +2,20 @@ use Rattle.std.proofs.Common.{ap, sym, set, refl, ◌∙◌}
 use Rattle.std.proofs.lemmas.Result.{on_ok_weaker}
 use Rattle.atspi_following.specs.Replied.{refused_part}
 use Rattle.atspi_reader_known.proofs.Names.{either_name}
-use Rattle.atspi_reader_known.proofs.Uniqueness.{nobody_changes, set_changed, set_unique}
+use Rattle.atspi_reader_known.proofs.Placed.{found_set}
+use Rattle.atspi_reader_known.proofs.Uniqueness.{nobody_changes, set_changed}
 use Rattle.atspi_reader_known.proofs.apps.Apps.refuse.Goals as goal
 
 pub invariant_of-self : goal.invariant_of-self
 invariant_of-self c =
-    set_unique c.args.name.now c.self.inside.items.items c.args.self.now c.in-Some.place c.index_mut.result.now c.refuse.new.self c.self.view_is (sym c.place.ensures ∙ c.in-Some.is) c.index_mut.ensures.value
+    found_set c.self.inside.places c.args.name.now c.self.inside.items.items c.args.self.now c.in-Some.place c.index_mut.result.now c.refuse.new.self c.self.view_is (sym c.place.ensures ∙ c.in-Some.is) c.index_mut.ensures.value
     (either_name (refused_part c.args.path c.args.part) (λ a. refl) c.refuse.result c.refuse.new.self c.index_mut.result.now c.refuse.ensures.ok c.refuse.ensures.err) c.self.invariant
 
 pub returns-in-Some-clause-ok : goal.returns-in-Some-clause-ok
 returns-in-Some-clause-ok c =
     on_ok_weaker c.refuse.result
     (λ same. ap (set c.self.inside.items.items c.in-Some.place) same
-    ∙ set_changed (refused_part c.args.path c.args.part) c.args.name.now c.self.inside.items.items c.args.self.now c.in-Some.place c.index_mut.result.now c.self.view_is (sym c.place.ensures ∙ c.in-Some.is) c.index_mut.ensures.value c.self.invariant)
+    ∙ set_changed (refused_part c.args.path c.args.part) c.args.name.now c.self.inside.items.items c.args.self.now c.in-Some.place c.index_mut.result.now c.self.view_is (sym c.place.ensures ∙ c.in-Some.is) c.index_mut.ensures.value c.self.invariant.0)
     c.refuse.ensures.ok
 
 pub returns-in-None-clause-ok : goal.returns-in-None-clause-ok

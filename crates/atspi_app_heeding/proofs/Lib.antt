@@ -1,0 +1,2 @@
+-- Lemmas on messages that are answered, and on those that are not.
+pub mod Heeded

@@ -1,0 +1,18 @@
+use Rattle.std.proofs.Common.{◌<◌, ℕ, sym, ap, subst}
+use Rattle.std.specs.List.{All}
+use Rattle.atspi_routing.specs.Queues.{Bus}
+use Rattle.atspi_bus_steps.specs.Inner.{inner_of}
+use Rattle.atspi_bus.proofs.Joined.{in_both, always_ok, left-joined_below}
+use Rattle.atspi_bus.proofs.bus.Bus.leave.Goals as goal
+
+pub invariant_of-self : goal.invariant_of-self
+invariant_of-self c = record {
+  limit = c.args.self.now.limit;
+  below = in_both c.leave_whole-left.result c.leave_whole-left.ensures.ok c.leave_whole-left.ensures.err
+      (λ is. left-joined_below (inner_of c.args.self.now.inner) (inner_of c.leave_whole-left.new.inner) c.args.conn c.args.self.now.given c.args.self.now.below is)
+      (λ is. subst (λ (b : Bus). All (λ (x : ℕ). x < c.args.self.now.given) b.state.joined) (sym is) c.args.self.now.below);
+  sound = c.leave_whole-left.ensures.sound;
+}
+
+pub returns-clause-serial : goal.returns-clause-serial
+returns-clause-serial c = always_ok c.leave_whole-left.result c.leave_whole-left.ensures.sound.ready.last

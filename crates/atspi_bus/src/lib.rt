@@ -1,0 +1,8 @@
+//! The bus: who has joined, who owns which name, the match rules, the open calls, what waits for each connection, and the closings.
+#![tactic(auto)]
+
+mod bus;
+mod whole;
+
+pub use atspi_bus_steps::BusFault;
+pub use bus::Bus;

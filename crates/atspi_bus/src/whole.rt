@@ -1,0 +1,75 @@
+//! Steps that are done whole or not at all: after a fault a bus is as it was before.
+
+ghost use Rattle.std.specs.Prelude.{◌≡◌, ◌<◌, List, Option, IsErrOf, OnOk, OnErr};
+ghost use Rattle.atspi_message.specs.Rules.{MeetsRules};
+ghost use Rattle.atspi_header.specs.View.{envelope_at};
+ghost use Rattle.atspi_match.specs.declared.condition.Condition.{Condition};
+ghost use Rattle.atspi_routing.specs.Queues.{takes, leaves};
+ghost use Rattle.atspi_bus_steps.specs.Inner.{inner_of, state_of};
+ghost use Rattle.atspi_bus_steps.specs.Sound.{IsSound};
+ghost use Rattle.atspi_bus_steps.specs.Spoken.{IsRuleTaken};
+
+use atspi_bus_steps::{BusFault, Inner};
+use atspi_header::MessageRef;
+
+/// A bus takes a message on a copy of itself, which takes its place at the end.
+fn take_on_copy(inner: &mut Inner, conn: u32, m: &MessageRef) -> Result<(), BusFault>
+    requires sound { IsSound (state_of inner.old) }
+    requires meets { MeetsRules (envelope_at m.now) }
+    ensures ok { OnOk result ((rule : Option (List Condition)) × IsRuleTaken (state_of inner.old) conn (envelope_at m.now) rule
+        × (inner_of inner.new ≡ takes (inner_of inner.old) conn (envelope_at m.now) rule)) }
+    ensures sound { IsSound (state_of inner.new) }
+    ensures spent { IsErrOf result BusFault.Spent → (rule : Option (List Condition)) × IsRuleTaken (state_of inner.old) conn (envelope_at m.now) rule
+        × (4294967296 < (takes (inner_of inner.old) conn (envelope_at m.now) rule).state.next) }
+    ensures err { OnErr result (inner_of inner.new ≡ inner_of inner.old) }
+{
+    let mut after = inner.copy()?;
+    match after.take(conn, m) {
+        Ok(()) => {
+            *inner = after;
+            Ok(())
+        }
+        Err(fault) => Err(fault),
+    }
+}
+
+/// A bus takes a message: in place where it can, and on a copy of itself where it cannot.
+pub fn take_whole(inner: &mut Inner, conn: u32, m: &MessageRef) -> Result<(), BusFault>
+    requires sound { IsSound (state_of inner.old) }
+    requires meets { MeetsRules (envelope_at m.now) }
+    ensures ok { OnOk result ((rule : Option (List Condition)) × IsRuleTaken (state_of inner.old) conn (envelope_at m.now) rule
+        × (inner_of inner.new ≡ takes (inner_of inner.old) conn (envelope_at m.now) rule)) }
+    ensures sound { IsSound (state_of inner.new) }
+    ensures spent { IsErrOf result BusFault.Spent → (rule : Option (List Condition)) × IsRuleTaken (state_of inner.old) conn (envelope_at m.now) rule
+        × (4294967296 < (takes (inner_of inner.old) conn (envelope_at m.now) rule).state.next) }
+    ensures err { OnErr result (inner_of inner.new ≡ inner_of inner.old) }
+{
+    match inner.take_in_place(conn, m) {
+        Ok(went) => {
+            if went {
+                Ok(())
+            } else {
+                take_on_copy(inner, conn, m)
+            }
+        }
+        Err(fault) => Err(fault),
+    }
+}
+
+/// A connection leaves a copy of a bus, which takes its place at the end.
+pub fn leave_whole(inner: &mut Inner, conn: u32) -> Result<(), BusFault>
+    requires sound { IsSound (state_of inner.old) }
+    ensures ok { OnOk result (inner_of inner.new ≡ leaves (inner_of inner.old) conn) }
+    ensures sound { IsSound (state_of inner.new) }
+    ensures spent { IsErrOf result BusFault.Spent → 4294967296 < (leaves (inner_of inner.old) conn).state.next }
+    ensures err { OnErr result (inner_of inner.new ≡ inner_of inner.old) }
+{
+    let mut after = inner.copy()?;
+    match after.part_with(conn) {
+        Ok(()) => {
+            *inner = after;
+            Ok(())
+        }
+        Err(fault) => Err(fault),
+    }
+}

@@ -1,0 +1,14 @@
+use Rattle.std.proofs.Common.{map, ap, ◌∙◌}
+use Rattle.atspi_header.specs.View.{envelope_at}
+use Rattle.atspi_routing.specs.Steps.{calls_after_all}
+use Rattle.atspi_bus_steps.specs.Inner.{inner_of, call_of}
+use Rattle.atspi_bus_steps.proofs.Ends.{forwarded-is}
+use Rattle.atspi_bus_steps.proofs.inner.Inner.forward_in_place.Goals as goal
+
+pub returns-clause-ok : goal.returns-clause-ok
+returns-clause-ok c =
+    let e = envelope_at c.args.m.now in
+    let h = rw c.if-not-went.false at c.in_ok-went.ensures.ok in
+    forwarded-is (inner_of c.args.self.now) c.args.conn c.push_each.new.self e c.as_slice.result.now c.args.receivers.now (map call_of c.note_all.new.calls.items)
+    h.1 (c.as_slice.ensures ∙ c.in_ok-bytes.ensures.bytes) c.requires.receivers
+    (c.note_all.ensures ∙ ap (λ k. calls_after_all (map call_of k) c.args.conn e c.args.receivers.now) c.reserve.ensures.items)

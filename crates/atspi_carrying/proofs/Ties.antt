@@ -1,0 +1,206 @@
+-- What the bus does to itself and to the connections it does to the world.
+use Rattle.std.proofs.Common.{◌≡◌, ℕ, ◌+◌, ◌<◌, ◌≤◌, List, [], ◌∷◌, ◌++◌, length, map, set, get_or, None, Some, refl, sym, ap, ◌∙◌, subst, append_assoc, append-nil, zero, suc}
+use Rattle.std.specs.Prelude.{slice_get, position, cond, not, nat_lt}
+use Rattle.std.specs.Option.{option_map}
+use Rattle.std.specs.List.{AllByRecursion, position_or_len}
+use Rattle.std.proofs.lemmas.List.{map-append, length-map, length-set}
+use Rattle.std.proofs.lemmas.Option.{same_Some, slice_get_within, get_or_from_slice_get}
+use Rattle.atspi_forest.specs.Forest.{first_of}
+use Rattle.atspi_lines.specs.declared.line.Party.{Party}
+use Rattle.atspi_lines.specs.declared.line.Party.TheVariants.{Bus as The_bus}
+use Rattle.atspi_routing.specs.BusState.{unique_of}
+use Rattle.atspi_routing.specs.Steps.{BusStep, bus_takes}
+use Rattle.atspi_routing.specs.Queues as queues
+use Rattle.atspi_routing.specs.Queues.{Bus}
+use Rattle.atspi_events.specs.declared.event.Event.{Event}
+use Rattle.atspi_events.specs.declared.event.Event.TheVariants.{Got, Exit}
+use Rattle.atspi_posts.specs.declared.post.Post.{Post}
+use Rattle.atspi_posts.specs.declared.post.Standing.TheVariants.{Stopped}
+use Rattle.atspi_trace.specs.Entry.{Entry, entry_of, entries_of, got, exited}
+use Rattle.atspi_trace.specs.Rules.{rule_in}
+use Rattle.atspi_trace.specs.World.{Role, Said, End, World, newcomer}
+use Rattle.atspi_trace.specs.Ends as trace_ends
+use Rattle.atspi_trace.specs.Ends.{same_party, conn_of, end_at, party_at, with_end, rest_of, put_up, taken_up, leaves, stops}
+use Rattle.atspi_trace.specs.Carrying.{Carried, letter_of, stepped, left, settled, named, with_name, takes, takes_end, bus_entries, all_told}
+use Rattle.atspi_trace.specs.Causes.{does, joins, on_end, routed, routes, unjoins, exits, bus_did}
+use Rattle.atspi_trace.proofs.Following.{links_follow}
+use Rattle.atspi_carrying.specs.Changes.{changed_at}
+use Rattle.atspi_carrying.specs.Told.{gone, all_gone, whose, bus_told}
+use Rattle.atspi_carrying.specs.Routed.{IsTaken, RoutesFront, taken_off}
+use Rattle.atspi_carrying.specs.Carried.{bytes_up, post_of, IsSendable, AreSendable, IsCarried, IsDone}
+use Rattle.atspi_carrying.proofs.Changes.{changed-set, length-changed, map-changed, map-changed_known, get-map}
+use Rattle.atspi_carrying.proofs.OwnSerials.{IsTelling, takes_tells, leaves_tells}
+use Rattle.atspi_carrying.proofs.OwnTold.{who_of, told_is}
+use Rattle.atspi_carrying.proofs.RuleLemmas.{same_taken}
+use Rattle.atspi_carrying.proofs.Views.{with-changed, stepped_view, left_view, gone_whose, length-gone, Settles, settles, all_with, stepped_all, left_all, settled_all, put_sendable, left_sendable, named_sendable, taken_sendable}
+
+whose_posts : (ends : List End) → map whose (map post_of ends) ≡ map who_of ends
+whose_posts [] = refl
+whose_posts (e ∷ es) = ap (λ l. e.who ∷ l) (whose_posts es)
+
+-- the same of a fact of each end, at one
+pub all_at : (P : End → Type 0) (ends : List End) (conn : ℕ) (e : End) → AllByRecursion P ends → end_at ends conn ≡ Some e → P e
+all_at P [] zero e a h = absurd cc
+all_at P [] (suc conn) e a h = absurd cc
+all_at P (x ∷ xs) zero e a h = subst P (same_Some x e h) a.0
+all_at P (x ∷ xs) (suc conn) e a h = all_at P xs conn e a.1 h
+
+-- the connection of an end
+pub post_at : (w : World) (b : Bus) (posts : List Post) (conn : ℕ) (e : End) → IsCarried w b posts → end_at w.ends conn ≡ Some e → slice_get posts conn ≡ Some (post_of e)
+post_at w b posts conn e is at = ap (λ l. slice_get l conn) is.posts_are ∙ get-map post_of w.ends conn ∙ ap (option_map post_of) at
+
+pub post_below : (w : World) (b : Bus) (posts : List Post) (conn : ℕ) (e : End) → IsCarried w b posts → end_at w.ends conn ≡ Some e → conn < length posts
+post_below w b posts conn e is at = slice_get_within posts conn (post_of e) (post_at w b posts conn e is at)
+
+pub post_is : (w : World) (b : Bus) (posts : List Post) (conn : ℕ) (e : End) (p : Post) → IsCarried w b posts → end_at w.ends conn ≡ Some e → p ≡ get_or posts conn p → p ≡ post_of e
+post_is w b posts conn e p is at h = h ∙ get_or_from_slice_get posts conn (post_of e) p (post_at w b posts conn e is at)
+
+-- what a bus has done, the closings that follow, and the telling of both
+module _ (w : World) (front : List Entry) (n : ℕ) (a : Carried) (b1 b2 : Bus) (posts1 posts2 : List Post) (old mid new : List Event) where
+  pub closings_done : length posts1 ≤ 4294967296 → a.bus.closings ≡ [] → AllByRecursion AreSendable a.ends → posts1 ≡ map post_of a.ends → (m : ℕ) → IsTelling m (settled n a).bus → b1 ≡ (settled n a).bus
+      → b2 ≡ all_told b1 → posts2 ≡ all_gone b1.closings posts1 → entries_of mid ≡ entries_of old ++ front
+      → entries_of new ≡ entries_of mid ++ bus_told (map whose posts1) b1.own b1.closings
+      → IsDone (bus_did w front (settled n a)) b2 posts2 old new
+  closings_done few none sendable view m tells is told gone_are before behind =
+      let c : Carried = settled n a in
+      let s : Settles a c = settles n a in
+      let closed : c.bus.closings ≡ s.closed = s.told ∙ ap (λ l. l ++ s.closed) none in
+      let parties : map whose posts1 ≡ map who_of c.ends = ap (map whose) view ∙ sym (gone_whose s.closed (map post_of a.ends)) ∙ ap (map whose) (sym s.view) ∙ whose_posts c.ends in
+      let same : bus_told (map whose posts1) b1.own b1.closings ≡ bus_entries c.ends c.bus.own c.bus.closings =
+      ap (λ (b : Bus). bus_told (map whose posts1) b.own b.closings) is ∙ sym (told_is c.ends (map whose posts1) parties c.bus.closings m c.bus.own tells.own) in
+      record {
+        tied = record {
+          bus_is = told ∙ ap all_told is;
+          own_told = refl;
+          closings_told = refl;
+          posts_are = gone_are ∙ ap (λ (b : Bus). all_gone b.closings posts1) is ∙ ap (λ l. all_gone l posts1) closed ∙ ap (all_gone s.closed) view ∙ sym s.view;
+          few = subst (λ n. n ≤ 4294967296) (sym (ap length gone_are ∙ length-gone b1.closings posts1)) few;
+          sendable = settled_all AreSendable put_sendable left_sendable n a sendable;
+        };
+        wrote = behind ∙ ap (λ l. l ++ bus_told (map whose posts1) b1.own b1.closings) before ∙ append_assoc (entries_of old) front (bus_told (map whose posts1) b1.own b1.closings)
+            ∙ ap (λ l. entries_of old ++ (front ++ l)) same;
+      }
+
+-- the bus takes the end of an end
+pub parted_done : (w : World) (conn : ℕ) (b b1 b2 : Bus) (posts posts1 posts2 : List Post) (old new : List Event) → IsCarried w b posts → posts1 ≡ changed_at conn gone posts → b1 ≡ queues.leaves b conn
+    → b2 ≡ all_told b1 → posts2 ≡ all_gone b1.closings posts1 → entries_of new ≡ entries_of old ++ bus_told (map whose posts1) b1.own b1.closings
+    → IsDone (does w (unjoins conn)) b2 posts2 old new
+parted_done w conn b b1 b2 posts posts1 posts2 old new is left_is leaves_is told gone_are wrote =
+    let c : Carried = record { bus = w.bus; ends = w.ends } in
+    let same : b1 ≡ (takes_end c conn).bus = leaves_is ∙ ap (λ x. queues.leaves x conn) is.bus_is ∙ sym (links_follow.ended c conn) in
+    closings_done w [] (length w.bus.state.joined) (left c conn) b1 b2 posts1 posts2 old old new (subst (λ n. n ≤ 4294967296) (sym (ap length left_is ∙ length-changed gone posts conn)) is.few) is.closings_told (left_all AreSendable put_sendable left_sendable c conn is.sendable)
+    (left_is ∙ ap (changed_at conn gone) is.posts_are ∙ sym (left_view c conn))
+    w.bus.state.next (subst (IsTelling w.bus.state.next) (sym (links_follow.ended c conn)) (leaves_tells w.bus conn is.own_told)) same told gone_are (sym (append-nil (entries_of old))) wrote
+
+-- a connection with the name that the bus has for it
+abbrev named_post : Bus → ℕ → Post → Post
+named_post b conn p = record p { name = first_of p.name (unique_of b.state.owners conn) }
+
+-- the bus takes the first message of an up link
+module _ (w : World) (conn : ℕ) (e : End) (said : Said) (rest : List Said) (b b0 b1 b2 : Bus) (posts posts1 posts2 : List Post) (p q : Post) (old mid new : List Event) where
+  abbrev taken_off_link : Carried
+  taken_off_link = record { bus = w.bus; ends = with_end conn taken_up w.ends }
+
+  abbrev step : BusStep
+  step = bus_takes w.bus.state conn said.message (rule_in said.message)
+
+  abbrev handed : Carried
+  handed = stepped (letter_of e.who said) taken_off_link step
+
+  does-routes : end_at w.ends conn ≡ Some e → e.up ≡ said ∷ rest
+      → does w (routes conn) ≡ bus_did w (got The_bus e.who said.message.serial ∷ []) (settled (length w.bus.state.joined) (with_name conn handed))
+  does-routes at up = ap (λ o. on_end w o (λ x. routed w conn x.who x.up)) at ∙ ap (routed w conn e.who) up
+
+  same_bus : IsCarried w b posts → IsSendable said.message → IsTaken said.message b b0 conn p.who old mid → b0 ≡ handed.bus
+  same_bus is sends taken =
+      let t : IsTaken said.message w.bus b0 conn p.who old mid = subst (λ x. IsTaken said.message x b0 conn p.who old mid) is.bus_is taken in
+      t.bus ∙ ap (queues.stepped w.bus) (same_taken w.bus.state conn said.message t.rule (rule_in said.message) t.reads (λ name h. sends.reads))
+
+  same_posts : IsCarried w b posts → end_at w.ends conn ≡ Some e → e.up ≡ said ∷ rest → p ≡ post_of e → q ≡ taken_off b0 conn (bytes_up rest) p → b0 ≡ handed.bus → posts1 ≡ set posts conn q
+      → posts1 ≡ map post_of (with_name conn handed).ends
+  same_posts is at up p_is q_is bus set_is =
+      let off : q ≡ named_post handed.bus conn (post_of (taken_up e)) =
+      q_is ∙ ap (λ x. taken_off x conn (bytes_up rest) p) bus ∙ ap (taken_off handed.bus conn (bytes_up rest)) p_is
+      ∙ ap (λ l. taken_off handed.bus conn (bytes_up (rest_of l)) (post_of e)) (sym up) in
+      let link : map post_of handed.ends ≡ set (map post_of w.ends) conn (post_of (taken_up e)) =
+      stepped_view (letter_of e.who said) taken_off_link step ∙ ap (map post_of) (with-changed taken_up w.ends conn) ∙ map-changed_known post_of taken_up w.ends conn e at in
+      set_is ∙ ap (λ l. set l conn q) is.posts_are ∙ ap (set (map post_of w.ends) conn) off
+      ∙ sym (changed-set (named_post handed.bus conn) (map post_of w.ends) conn (post_of (taken_up e)))
+      ∙ ap (changed_at conn (named_post handed.bus conn)) (sym link)
+      ∙ sym (map-changed post_of (named handed.bus conn) (named_post handed.bus conn) (λ x. refl) handed.ends conn)
+      ∙ ap (map post_of) (sym (with-changed (named handed.bus conn) handed.ends conn))
+
+  pub routed_done : IsCarried w b posts → end_at w.ends conn ≡ Some e → e.up ≡ said ∷ rest → p ≡ post_of e → RoutesFront b b0 conn p q old mid → posts1 ≡ set posts conn q
+      → b1 ≡ queues.settled (length b.state.joined) b0 → b2 ≡ all_told b1 → posts2 ≡ all_gone b1.closings posts1
+      → entries_of new ≡ entries_of mid ++ bus_told (map whose posts1) b1.own b1.closings
+      → IsDone (does w (routes conn)) b2 posts2 old new
+  routed_done is at up p_is routes_ set_is settled_is told gone_are wrote =
+      let c : Carried = record { bus = w.bus; ends = w.ends } in
+      let sends : IsSendable said.message = first_of_all (subst (AllByRecursion (λ (s : Said). IsSendable s.message)) up (all_at AreSendable w.ends conn e is.sendable at)) in
+      let r = routes_ said.message (bytes_up rest) sends.is (ap (λ (x : Post). x.up) p_is ∙ ap bytes_up up) in
+      let bus : b0 ≡ handed.bus = same_bus is sends r.taken in
+      let follows = links_follow.taken c conn e.who said in
+      let same : b1 ≡ (takes c conn e.who said).bus =
+      settled_is ∙ ap (λ (x : Bus). queues.settled (length x.state.joined) b0) is.bus_is ∙ ap (queues.settled (length w.bus.state.joined)) bus ∙ sym follows in
+      let who : p.who ≡ e.who = ap whose p_is in
+      let before : entries_of mid ≡ entries_of old ++ got The_bus e.who said.message.serial ∷ [] =
+      ap entries_of r.taken.told ∙ map-append entry_of old (Got The_bus p.who said.message.serial ∷ []) ∙ ap (λ x. entries_of old ++ got The_bus x said.message.serial ∷ []) who in
+      subst (λ d. IsDone d b2 posts2 old new) (sym (does-routes at up))
+      (closings_done w (got The_bus e.who said.message.serial ∷ []) (length w.bus.state.joined) (with_name conn handed) b1 b2 posts1 posts2 old mid new (subst (λ n. n ≤ 4294967296) (sym (ap length set_is ∙ length-set posts conn q)) is.few) is.closings_told
+      (all_with AreSendable (named handed.bus conn) (named_sendable handed.bus conn) conn handed.ends
+      (stepped_all AreSendable put_sendable left_sendable (letter_of e.who said) taken_off_link step (all_with AreSendable taken_up taken_sendable conn w.ends is.sendable)))
+      (same_posts is at up p_is r.post bus set_is) w.bus.state.next
+      (subst (IsTelling w.bus.state.next) (sym follows) (takes_tells w.bus conn said.message (rule_in said.message) is.own_told)) same told gone_are before wrote)
+    where
+      first_of_all : AllByRecursion (λ (s : Said). IsSendable s.message) (said ∷ rest) → IsSendable said.message
+      first_of_all a = a.0
+
+-- an end stops
+stop_sendable : (e : End) → AreSendable e → AreSendable (stops e)
+stop_sendable e h = tt
+
+pub exited_done : (w : World) (conn : ℕ) (e : End) (b b' : Bus) (posts posts' : List Post) (p q : Post) (old new : List Event) → IsCarried w b posts → end_at w.ends conn ≡ Some e → b' ≡ b → p ≡ post_of e
+    → q ≡ record p { standing = Stopped; up = []; begun = 0 } → posts' ≡ set posts conn q → new ≡ old ++ Exit p.who ∷ [] → IsDone (does w (exits conn)) b' posts' old new
+exited_done w conn e b b' posts posts' p q old new is at same p_is q_is set_is wrote =
+    let who : p.who ≡ party_at w.ends conn = ap whose p_is ∙ ap trace_ends.whose (sym at) in
+    record {
+      tied = record {
+        bus_is = same ∙ is.bus_is;
+        own_told = is.own_told;
+        closings_told = is.closings_told;
+        posts_are = set_is ∙ ap (λ l. set l conn q) is.posts_are ∙ ap (set (map post_of w.ends) conn) (q_is ∙ ap (λ (x : Post). record x { standing = Stopped; up = []; begun = 0 }) p_is)
+            ∙ sym (map-changed_known post_of stops w.ends conn e at) ∙ ap (map post_of) (sym (with-changed stops w.ends conn));
+        few = subst (λ n. n ≤ 4294967296) (sym (ap length set_is ∙ length-set posts conn q)) is.few;
+        sendable = all_with AreSendable stops stop_sendable conn w.ends is.sendable;
+      };
+      wrote = ap entries_of wrote ∙ map-append entry_of old (Exit p.who ∷ []) ∙ ap (λ x. entries_of old ++ exited x ∷ []) who;
+    }
+
+-- an end joins, and sent nothing yet
+pub joined : (w : World) (who : Party) (role : Role) (b b' : Bus) (posts posts' : List Post) (p : Post) → length posts' ≤ 4294967296 → IsCarried w b posts → b' ≡ queues.joins b (length posts) → posts' ≡ posts ++ p ∷ []
+    → p ≡ post_of (newcomer who role) → IsCarried (joins w who role []) b' posts'
+joined w who role b b' posts posts' p few is bus more p_is =
+    let many : length posts ≡ length w.ends = ap length is.posts_are ∙ length-map w.ends post_of in
+    record {
+      bus_is = bus ∙ ap (queues.joins b) many ∙ ap (λ x. queues.joins x (length w.ends)) is.bus_is;
+      own_told = is.own_told;
+      closings_told = is.closings_told;
+      posts_are = more ∙ ap (λ x. posts ++ x ∷ []) p_is ∙ ap (λ l. l ++ post_of (newcomer who role) ∷ []) is.posts_are ∙ sym (map-append post_of w.ends (put_up [] (newcomer who role) ∷ []));
+      few = few;
+      sendable = all_more w.ends (put_up [] (newcomer who role)) is.sendable tt;
+    }
+  where
+    all_more : (es : List End) (e : End) → AllByRecursion AreSendable es → AreSendable e → AllByRecursion AreSendable (es ++ e ∷ [])
+    all_more [] e a h = (h, tt)
+    all_more (x ∷ xs) e a h = (a.0, all_more xs e a.1 h)
+
+-- the connection of a party
+place_map : (who : Party) (es : List End) → position_or_len (λ (p : Post). same_party p.who who) (map post_of es) ≡ position_or_len (λ (e : End). same_party e.who who) es
+place_map who [] = refl
+place_map who (e ∷ es) = ap (λ n. cond (not (same_party e.who who)) (1 + n) 0) (place_map who es)
+
+pub conn_is : (w : World) (b : Bus) (posts : List Post) (who : Party) → IsCarried w b posts → position (λ (p : Post). same_party p.who who) posts ≡ conn_of w.ends who
+conn_is w b posts who is =
+    ap (position (λ (p : Post). same_party p.who who)) is.posts_are
+    ∙ ap (λ n. cond (nat_lt n (length (map post_of w.ends))) (Some n) None) (place_map who w.ends)
+    ∙ ap (λ k. cond (nat_lt (position_or_len (λ (e : End). same_party e.who who) w.ends) k) (Some (position_or_len (λ (e : End). same_party e.who who) w.ends)) None) (length-map w.ends post_of)

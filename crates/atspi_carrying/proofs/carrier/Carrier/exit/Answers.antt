@@ -1,0 +1,10 @@
+use Rattle.std.proofs.Common.{set, refl}
+use Rattle.atspi_bus_steps.specs.Inner.{inner_of}
+use Rattle.atspi_carrying.proofs.Ties.{post_is, exited_done}
+use Rattle.atspi_carrying.proofs.carrier.Carrier.exit.Goals as goal
+
+pub returns-clause-does : goal.returns-clause-does
+returns-clause-does c = λ w e is at.
+    let s = c.args.self.now in
+    exited_done w c.args.conn e (inner_of s.bus) (inner_of s.bus) s.posts.items (set s.posts.items c.args.conn c.stop.new.self) c.index_mut-post.result.now c.stop.new.self s.trace.items c.note.new.trace.items is at refl
+    (post_is w (inner_of s.bus) s.posts.items c.args.conn e c.index_mut-post.result.now is at c.index_mut-post.ensures.value) c.stop.ensures refl c.in_ok-note.ensures.told

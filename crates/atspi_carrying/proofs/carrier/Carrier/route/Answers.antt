@@ -1,0 +1,15 @@
+use Rattle.std.proofs.Common.{set, refl, ap, ◌∙◌}
+use Rattle.atspi_routing.specs.Queues as queues
+use Rattle.atspi_bus_steps.specs.Inner.{inner_of}
+use Rattle.atspi_carrying.proofs.Ties.{post_is, routed_done}
+use Rattle.atspi_carrying.proofs.carrier.Carrier.route.Goals as goal
+
+pub returns-clause-does : goal.returns-clause-does
+returns-clause-does c = λ w e said rest is at up.
+    let s = c.args.self.now in
+    let told = c.in_ok-tell_bus.ensures in
+    let b0 = inner_of c.route_front.new.bus in
+    routed_done w c.args.conn e said rest (inner_of s.bus) b0 (inner_of c.settle.new.self) (inner_of c.tell_bus.new.self.bus) s.posts.items (set s.posts.items c.args.conn c.route_front.new.post)
+    c.tell_bus.new.self.posts.items c.index_mut-post.result.now c.route_front.new.post s.trace.items c.route_front.new.trace.items c.tell_bus.new.self.trace.items is at up
+    (post_is w (inner_of s.bus) s.posts.items c.args.conn e c.index_mut-post.result.now is at c.index_mut-post.ensures.value) c.in_ok-route_front.ensures.routes refl
+    (c.in_ok-settle.ensures.ok ∙ ap (λ n. queues.settled n b0) c.joined_count-rounds.ensures) told.bus told.posts told.told

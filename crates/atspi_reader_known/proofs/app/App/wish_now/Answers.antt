@@ -1,0 +1,18 @@
+use Rattle.std.proofs.Common.{List, ℕ, ap, sym, ◌∙◌}
+use Rattle.std.proofs.lemmas.Result.{IfOk-weaker}
+use Rattle.atspi_news.specs.declared.part.PartName.{PartName}
+use Rattle.atspi_following.specs.ReaderState.{Followed}
+use Rattle.atspi_following.specs.Wishes.{wishes_of}
+use Rattle.atspi_reader_known.specs.Wanted.{first, refusing}
+use Rattle.atspi_reader_known.proofs.Plans.{refusing_none}
+use Rattle.atspi_reader_known.proofs.app.App.wish_now.Goals as goal
+
+pub returns-then-self : goal.returns-then-self
+returns-then-self c = sym (ap (λ (a : Followed). first (wishes_of a)) (sym c.self.view_is) ∙ ap first (c.self.invariant.1 c.if-self.true))
+
+pub returns : goal.returns
+returns c =
+    let now = c.args.self.now in
+    IfOk-weaker c.wish-2.result _ _
+    (λ w same. same ∙ ap (λ (r : List (List ℕ × PartName)). first (wishes_of (refusing r now))) c.new.ensures ∙ ap (λ (a : Followed). first (wishes_of a)) (refusing_none now))
+    c.wish-2.ensures

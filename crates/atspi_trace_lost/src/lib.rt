@@ -1,0 +1,5 @@
+//! The registry's drop, along lawful traces.
+#![tactic(auto)]
+
+pub mod examples;
+pub mod laws;

@@ -1,0 +1,4 @@
+pub mod Doing
+pub mod Counting
+pub mod Writing
+pub mod LawOwn

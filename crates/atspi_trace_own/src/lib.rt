@@ -1,0 +1,5 @@
+//! The bus's own messages, along lawful traces.
+#![tactic(auto)]
+
+pub mod examples;
+pub mod laws;

@@ -1,0 +1,4 @@
+pub mod Found
+pub mod Said
+pub mod Handing
+pub mod LawTaken

@@ -1,0 +1,4 @@
+pub mod Rising
+pub mod Doing
+pub mod Turning
+pub mod LawTurns

@@ -1,0 +1,5 @@
+//! In which order ends take, along lawful traces.
+#![tactic(auto)]
+
+pub mod examples;
+pub mod laws;

@@ -1,0 +1,4 @@
+//! What the announcements of a lawful trace tell.
+#![tactic(auto)]
+
+pub mod laws;
