@@ -1,0 +1,5 @@
+use Rattle.atspi_lawful.proofs.delivered.LawLinks.{serials_rise}
+use Rattle.atspi_lawful.proofs.delivered.laws.serials_rise.Goals as goal
+
+pub returns : goal.returns
+returns c = serials_rise

@@ -1,0 +1,5 @@
+use Rattle.atspi_lawful.proofs.order.Exits.{nobody_returns}
+use Rattle.atspi_lawful.proofs.order.laws.nobody_returns.Goals as goal
+
+pub returns : goal.returns
+returns c = nobody_returns

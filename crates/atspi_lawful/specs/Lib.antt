@@ -1,0 +1,14 @@
+pub mod order
+pub mod steps
+pub mod serials
+pub mod links
+pub mod living
+pub mod lost
+pub mod heard
+pub mod own
+pub mod taken
+pub mod delivered
+pub mod turns
+pub mod held
+pub mod views
+pub mod folds

@@ -1,0 +1,3 @@
+//! What a reader makes of an application's messages, along lawful traces.
+
+pub mod laws;

@@ -1,0 +1,4 @@
+//! What applications announce, along lawful traces.
+
+pub mod examples;
+pub mod laws;

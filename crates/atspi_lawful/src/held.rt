@@ -1,0 +1,4 @@
+//! What readers hold, show and speak, along lawful traces.
+
+pub mod examples;
+pub mod laws;

@@ -1,0 +1,4 @@
+//! What the bus takes of each end, along lawful traces.
+
+pub mod examples;
+pub mod laws;

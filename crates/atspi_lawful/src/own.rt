@@ -1,0 +1,4 @@
+//! The bus's own messages, along lawful traces.
+
+pub mod examples;
+pub mod laws;

@@ -1,0 +1,4 @@
+//! The numbers of messages along lawful traces.
+
+pub mod examples;
+pub mod laws;

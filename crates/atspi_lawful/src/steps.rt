@@ -1,0 +1,3 @@
+//! The law of steps along lawful traces.
+
+pub mod laws;

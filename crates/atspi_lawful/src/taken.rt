@@ -1,0 +1,4 @@
+//! What ends take of each other, along lawful traces.
+
+pub mod examples;
+pub mod laws;

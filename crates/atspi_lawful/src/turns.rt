@@ -1,0 +1,4 @@
+//! In which order ends take, along lawful traces.
+
+pub mod examples;
+pub mod laws;

@@ -1,0 +1,3 @@
+//! What the announcements of a lawful trace tell.
+
+pub mod laws;

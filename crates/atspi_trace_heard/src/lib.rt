@@ -1,5 +1,0 @@
-//! What applications announce, along lawful traces.
-#![tactic(auto)]
-
-pub mod examples;
-pub mod laws;

@@ -1,5 +1,0 @@
-use Rattle.atspi_trace_links.proofs.TakenInOrder.{bus_takes_in_order}
-use Rattle.atspi_trace_links.proofs.laws.bus_takes_in_order.Goals as goal
-
-pub returns : goal.returns
-returns c = bus_takes_in_order

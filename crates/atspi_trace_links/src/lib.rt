@@ -1,5 +1,0 @@
-//! What the bus takes of each end, along lawful traces.
-#![tactic(auto)]
-
-pub mod examples;
-pub mod laws;

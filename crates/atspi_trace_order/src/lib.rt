@@ -1,5 +1,0 @@
-//! What lawful traces meet: laws on the order of entries, each proved of every lawful trace by induction along it.
-#![tactic(auto)]
-
-pub mod examples;
-pub mod laws;

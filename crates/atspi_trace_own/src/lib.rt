@@ -1,5 +1,0 @@
-//! The bus's own messages, along lawful traces.
-#![tactic(auto)]
-
-pub mod examples;
-pub mod laws;

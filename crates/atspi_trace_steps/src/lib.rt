@@ -1,4 +1,0 @@
-//! The law of steps along lawful traces.
-#![tactic(auto)]
-
-pub mod laws;
