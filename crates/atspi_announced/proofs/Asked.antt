@@ -2,9 +2,9 @@
 use Rattle.std.proofs.Common.{◌≡◌, ℕ, Bool, true, false, cond, List, [], ◌∷◌, ◌++◌, map, refl, sym, ap, ◌∙◌, append_assoc}
 use Rattle.std.proofs.lemmas.List.{append-nil}
 use Rattle.atspi_message.specs.Envelope.{Envelope}
-use Rattle.atspi_announcing.specs.Signals.{Signal}
-use Rattle.atspi_exporting.specs.Hearing.{is_covered}
-use Rattle.atspi_exporting.specs.Telling.{asked_for}
+use Rattle.atspi_protocol.specs.announcing.Signals.{Signal}
+use Rattle.atspi_protocol.specs.exporting.Hearing.{is_covered}
+use Rattle.atspi_protocol.specs.exporting.Telling.{asked_for}
 use Rattle.atspi_announced.specs.Asked.{messages_asked}
 
 abbrev pub Pairs : Type 0

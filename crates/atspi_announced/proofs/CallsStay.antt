@@ -12,17 +12,17 @@ use Rattle.atspi_forest.specs.Row.{TreeRow}
 use Rattle.atspi_forest.specs.RowRules.{rows}
 use Rattle.atspi_forest.specs.States.{has_state, multiselectable, selected}
 use Rattle.atspi_forest.specs.Tree.{after_all}
-use Rattle.atspi_ends.specs.Places.{cache_path}
-use Rattle.atspi_members.specs.declared.member.ObjectMember.{ObjectMember}
-use Rattle.atspi_members.specs.declared.member.ObjectMember.TheVariants as members
-use Rattle.atspi_members.specs.Arguments.{text_at, signed_at}
-use Rattle.atspi_members.specs.Asked.{Asked, calls, gets, gets_all, sets, asked}
-use Rattle.atspi_objects.specs.Application.{Application}
-use Rattle.atspi_objects.specs.Children.{at, children_of, selected_children, is_selected}
-use Rattle.atspi_objects.specs.Places.{node, whole_tree, node_at, offered_if_there}
-use Rattle.atspi_objects.specs.Texts.{text_of}
-use Rattle.atspi_objects.specs.Changes.{edited, edited_at, edited_between, text_exchanged, selection_removed, selection_set, selected_child_off, all_selected, none_selected}
-use Rattle.atspi_objects.specs.Answers.{changes, called, node_answers, tree_answers, place_answers, answer}
+use Rattle.atspi_protocol.specs.ends.Places.{cache_path}
+use Rattle.atspi_protocol.specs.declared.members.member.ObjectMember.{ObjectMember}
+use Rattle.atspi_protocol.specs.declared.members.member.ObjectMember.TheVariants as members
+use Rattle.atspi_protocol.specs.members.Arguments.{text_at, signed_at}
+use Rattle.atspi_protocol.specs.members.Asked.{Asked, calls, gets, gets_all, sets, asked}
+use Rattle.atspi_protocol.specs.objects.Application.{Application}
+use Rattle.atspi_protocol.specs.objects.Children.{at, children_of, selected_children, is_selected}
+use Rattle.atspi_protocol.specs.objects.Places.{node, whole_tree, node_at, offered_if_there}
+use Rattle.atspi_protocol.specs.objects.Texts.{text_of}
+use Rattle.atspi_protocol.specs.objects.Changes.{edited, edited_at, edited_between, text_exchanged, selection_removed, selection_set, selected_child_off, all_selected, none_selected}
+use Rattle.atspi_protocol.specs.objects.Answers.{changes, called, node_answers, tree_answers, place_answers, answer}
 use Rattle.atspi_announced.specs.Laws.{StayInPlace, CallsStayInPlace}
 use Rattle.atspi_announced.proofs.EditsStay.{takes_by, edit_stays, each_made, together}
 

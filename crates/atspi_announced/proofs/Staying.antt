@@ -12,11 +12,11 @@ use Rattle.atspi_forest.proofs.Kept.{after_is_tree}
 use Rattle.atspi_forest.proofs.Lookup.{each-find}
 use Rattle.atspi_forest.proofs.RowRules.{rows_sound}
 use Rattle.atspi_forest.proofs.ShapeOf.{shape_applies}
-use Rattle.atspi_announcing.specs.Signals.{Signal}
-use Rattle.atspi_announcing.specs.Announced.{announced}
-use Rattle.atspi_announcing.proofs.Bounds.{width-count, count-children, text-place, caret-place}
-use Rattle.atspi_exporting.specs.Exporter.{steps, sends}
-use Rattle.atspi_exporting.specs.Telling.{step_told, asked_for}
+use Rattle.atspi_protocol.specs.announcing.Signals.{Signal}
+use Rattle.atspi_protocol.specs.announcing.Announced.{announced}
+use Rattle.atspi_protocol.proofs.OfAnnouncing.Bounds.{width-count, count-children, text-place, caret-place}
+use Rattle.atspi_protocol.specs.exporting.Exporter.{steps, sends}
+use Rattle.atspi_protocol.specs.exporting.Telling.{step_told, asked_for}
 use Rattle.atspi_tree.specs.TreeShape.{TreeShape}
 use Rattle.atspi_announced.specs.Asked.{CanBeTold, takes_node}
 use Rattle.atspi_announced.specs.Laws.{shape_with, told_of_one, StayInPlace, SetsState, SendsMessages, AppliedCanBeTold, StayingIsToldAtOnce, StayingCanBeTold, StatesAreToldAtOnce, TextsAreToldAtOnce}

@@ -18,11 +18,11 @@ use Rattle.atspi_forest.proofs.Counts.{count-parts}
 use Rattle.atspi_forest.proofs.Found.{count-has, find-has}
 use Rattle.atspi_forest.proofs.Lookup.{find-relabel}
 use Rattle.atspi_forest.proofs.ShapeOf.{shape, same_shape, shape-children, shape-pick, shape-seat, shape-width, shape_after}
-use Rattle.atspi_ends.specs.Places.{reference}
-use Rattle.atspi_announcing.specs.Signals.{Signal, child_changed, property_changed, added, removed}
-use Rattle.atspi_announcing.specs.Announced.{announced, left, told_node}
-use Rattle.atspi_announcing.proofs.Bounds.{everyone, width-count, count-children}
-use Rattle.atspi_exporting.specs.Hearing.{is_covered}
+use Rattle.atspi_protocol.specs.ends.Places.{reference}
+use Rattle.atspi_protocol.specs.announcing.Signals.{Signal, child_changed, property_changed, added, removed}
+use Rattle.atspi_protocol.specs.announcing.Announced.{announced, left, told_node}
+use Rattle.atspi_protocol.proofs.OfAnnouncing.Bounds.{everyone, width-count, count-children}
+use Rattle.atspi_protocol.specs.exporting.Hearing.{is_covered}
 use Rattle.atspi_tree.specs.Places.{index_in}
 use Rattle.atspi_tree.specs.Seats.{seats_below}
 use Rattle.atspi_tree.specs.TreeShape.{TreeShape, IsLawful, children_of, parent_of, row_of}

@@ -8,8 +8,8 @@ use Rattle.atspi_forest.specs.Row.{TreeRow}
 use Rattle.atspi_forest.specs.RowRules.{shapes}
 use Rattle.atspi_forest.specs.Tree.{is_shape, Moves}
 use Rattle.atspi_message.specs.Envelope.{Envelope}
-use Rattle.atspi_announcing.specs.Signals.{Signal}
-use Rattle.atspi_exporting.specs.Telling.{asked_for}
+use Rattle.atspi_protocol.specs.announcing.Signals.{Signal}
+use Rattle.atspi_protocol.specs.exporting.Telling.{asked_for}
 use Rattle.atspi_tree.specs.TreeShape.{TreeShape}
 use Rattle.atspi_items.specs.Bare.{bare}
 

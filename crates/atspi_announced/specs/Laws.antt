@@ -9,11 +9,11 @@ use Rattle.atspi_forest.specs.Forest.{Forest}
 use Rattle.atspi_forest.specs.Row.{TreeRow, Each}
 use Rattle.atspi_forest.specs.RowRules.{rows}
 use Rattle.atspi_forest.specs.Tree.{IsTree, Applies, AllApply, shape_of}
-use Rattle.atspi_objects.specs.Application.{Application}
-use Rattle.atspi_objects.specs.Answers.{answer}
-use Rattle.atspi_announcing.specs.Announced.{announced}
-use Rattle.atspi_exporting.specs.Exporter.{Happening, steps, sends}
-use Rattle.atspi_exporting.specs.Telling.{step_told, steps_told}
+use Rattle.atspi_protocol.specs.objects.Application.{Application}
+use Rattle.atspi_protocol.specs.objects.Answers.{answer}
+use Rattle.atspi_protocol.specs.announcing.Announced.{announced}
+use Rattle.atspi_protocol.specs.exporting.Exporter.{Happening, steps, sends}
+use Rattle.atspi_protocol.specs.exporting.Telling.{step_told, steps_told}
 use Rattle.atspi_tree.specs.TreeShape.{TreeShape}
 use Rattle.atspi_announced.specs.Asked.{messages_asked, CanBeTold, takes_node}
 

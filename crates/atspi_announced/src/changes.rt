@@ -3,13 +3,13 @@
 ghost use Rattle.std.specs.Prelude.{◌≡◌, ◌≤◌, ◌<◌, ◌∷◌, ◌++◌, [], codes, length, OnOk};
 ghost use Rattle.atspi_types.specs.Kinds.{u32};
 ghost use Rattle.atspi_types.specs.Data.{text_data, number_data};
-ghost use Rattle.atspi_announcing.specs.Signals as signals;
+ghost use Rattle.atspi_protocol.specs.announcing.Signals as signals;
 ghost use Rattle.atspi_announced.specs.Asked.{messages_asked};
 
 use crate::state::name_of;
+use atspi_app_known::heard::Heard;
 use atspi_base::{NoMemory, Text};
-use atspi_ends::Mail;
-use atspi_heard::Heard;
+use atspi_protocol::ends::Mail;
 use atspi_telling::{
     caret_moved, description_changed, name_changed, role_changed, state_changed, text_deleted,
     text_inserted,

@@ -1,7 +1,7 @@
 //! The names of states.
 
 ghost use Rattle.std.specs.Prelude.{◌≡◌};
-ghost use Rattle.atspi_announcing.specs.Signals as signals;
+ghost use Rattle.atspi_protocol.specs.announcing.Signals as signals;
 
 use atspi_tables::state_name;
 

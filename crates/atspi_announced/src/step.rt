@@ -4,15 +4,15 @@ ghost use Rattle.std.specs.Prelude.{◌≡◌, IfOk, OnOk, ◌++◌};
 ghost use Rattle.atspi_forest.specs.Forest.{Forest};
 ghost use Rattle.atspi_forest.specs.Row.{TreeRow};
 ghost use Rattle.atspi_forest.specs.Tree.{shape_of};
-ghost use Rattle.atspi_announcing.specs.Announced as announcements;
+ghost use Rattle.atspi_protocol.specs.announcing.Announced as announcements;
 ghost use Rattle.atspi_announced.specs.Asked.{CanBeTold, messages_asked, without_contents};
 
 use crate::changes::{caret, deleted, description, inserted, name, role, state};
 use crate::places::{added, moved, removed};
+use atspi_app_known::heard::Heard;
 use atspi_base::{NoMemory, Text};
-use atspi_ends::Mail;
 use atspi_forest::Step;
-use atspi_heard::Heard;
+use atspi_protocol::ends::Mail;
 use atspi_tree::Tree;
 use std::alloc::Global;
 

@@ -6,8 +6,8 @@ use Rattle.atspi_exported.specs.Asking.{AnswersSteps}
 use Rattle.atspi_forest.specs.declared.edit.EditFault.{EditFault}
 use Rattle.atspi_edits.specs.declared.fault.EditRefused.{EditRefused}
 use Rattle.atspi_edits.specs.declared.fault.EditRefused.TheVariants as edits
-use Rattle.atspi_ends.specs.declared.fault.EndFault.{EndFault}
-use Rattle.atspi_ends.specs.declared.fault.EndFault.TheVariants as ends
+use Rattle.atspi_protocol.specs.declared.ends.fault.EndFault.{EndFault}
+use Rattle.atspi_protocol.specs.declared.ends.fault.EndFault.TheVariants as ends
 use Rattle.atspi_app.specs.declared.fault.AppFault.{AppFault}
 use Rattle.atspi_app.specs.declared.fault.AppFault.TheVariants as faults
 use Rattle.atspi_app.specs.Faults.{of_end, of_edit}

@@ -9,19 +9,19 @@ use Rattle.atspi_forest.specs.Row.{TreeRow, Each}
 use Rattle.atspi_forest.specs.RowRules.{rows}
 use Rattle.atspi_forest.specs.Tree.{shape_of, IsTree, AllApply}
 use Rattle.atspi_message.specs.Envelope.{Envelope}
-use Rattle.atspi_ends.specs.declared.error.CallError.{CallError}
-use Rattle.atspi_ends.specs.Messages.{Reply, replies, reply_to, expects_reply, returns, fails}
-use Rattle.atspi_objects.specs.Answers.{Answer, answer}
+use Rattle.atspi_protocol.specs.declared.ends.error.CallError.{CallError}
+use Rattle.atspi_protocol.specs.ends.Messages.{Reply, replies, reply_to, expects_reply, returns, fails}
+use Rattle.atspi_protocol.specs.objects.Answers.{Answer, answer}
 use Rattle.atspi_tree.specs.TreeShape.{TreeShape}
 use Rattle.atspi_face.specs.Nodes.{Nodes}
-use Rattle.atspi_whole.specs.Whole.{Faces, whole}
-use Rattle.atspi_whole.proofs.Followed.{shape_is_kept}
-use Rattle.atspi_exporting.specs.Exporter.{Exporter, Happening, sends, named, queues}
-use Rattle.atspi_exporting.specs.Starting.{name_or_empty}
-use Rattle.atspi_exporting.specs.Taking.{answer_to, app_takes, stepped, is_spent}
-use Rattle.atspi_exporting.specs.Telling.{steps_told}
-use Rattle.atspi_exporting.proofs.Staying.{answers_apply}
-use Rattle.atspi_starting.specs.declared.known.Known.{Known}
+use Rattle.atspi_protocol.specs.whole.Whole.{Faces, whole}
+use Rattle.atspi_protocol.proofs.OfWhole.Followed.{shape_is_kept}
+use Rattle.atspi_protocol.specs.exporting.Exporter.{Exporter, Happening, sends, named, queues}
+use Rattle.atspi_protocol.specs.exporting.Starting.{name_or_empty}
+use Rattle.atspi_protocol.specs.exporting.Taking.{answer_to, app_takes, stepped, is_spent}
+use Rattle.atspi_protocol.specs.exporting.Telling.{steps_told}
+use Rattle.atspi_protocol.proofs.OfExporting.Staying.{answers_apply}
+use Rattle.atspi_app_known.specs.declared.starting.known.Known.{Known}
 use Rattle.atspi_exported.specs.Parts.{Parts, Kinds, AreKinds, parts, faces_of, kinds_of, whole_of}
 use Rattle.atspi_announced.specs.Asked.{CanBeTold}
 use Rattle.atspi_announced.specs.Laws.{told_of_one, StayInPlace}
@@ -34,8 +34,8 @@ use Rattle.atspi_app_answers.proofs.Senders.{sent_to}
 use Rattle.atspi_app_called.specs.declared.outcome.Called.{Called}
 use Rattle.atspi_app_called.specs.Called.{answer_of, reply_of}
 use Rattle.atspi_app.specs.Seen.{seen, AreUnnumbered}
-use Rattle.atspi_app_heeding.specs.Heeding.{is_answered}
-use Rattle.atspi_app_heeding.proofs.Heeded.{IsAnswered, answered}
+use Rattle.atspi_app_known.specs.heeding.Heeding.{is_answered}
+use Rattle.atspi_app_known.proofs.OfHeeding.Heeded.{IsAnswered, answered}
 use Rattle.atspi_app.proofs.OfEdits.{same_shape}
 
 -- the reply has no number yet

@@ -10,12 +10,12 @@ use Rattle.atspi_forest.specs.RowRules.{rows}
 use Rattle.atspi_forest.specs.Tree.{shape_of, IsTree, AllApply}
 use Rattle.atspi_forest.proofs.EditsApply.{steps_apply}
 use Rattle.atspi_tree.specs.TreeShape.{TreeShape}
-use Rattle.atspi_whole.proofs.Followed.{shape_is_kept}
-use Rattle.atspi_exporting.specs.Exporter.{Exporter, Happening, queues}
-use Rattle.atspi_exporting.specs.Starting.{name_or_empty}
-use Rattle.atspi_exporting.specs.Taking.{stepped, app_edits, is_spent}
-use Rattle.atspi_exporting.specs.Telling.{steps_told}
-use Rattle.atspi_starting.specs.declared.known.Known.{Known}
+use Rattle.atspi_protocol.proofs.OfWhole.Followed.{shape_is_kept}
+use Rattle.atspi_protocol.specs.exporting.Exporter.{Exporter, Happening, queues}
+use Rattle.atspi_protocol.specs.exporting.Starting.{name_or_empty}
+use Rattle.atspi_protocol.specs.exporting.Taking.{stepped, app_edits, is_spent}
+use Rattle.atspi_protocol.specs.exporting.Telling.{steps_told}
+use Rattle.atspi_app_known.specs.declared.starting.known.Known.{Known}
 use Rattle.atspi_exported.specs.Parts.{Parts, whole_of}
 use Rattle.atspi_announced.specs.Asked.{CanBeTold}
 use Rattle.atspi_announced.specs.Laws.{told_of_one}

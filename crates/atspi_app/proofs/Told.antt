@@ -8,13 +8,13 @@ use Rattle.atspi_forest.specs.Forest.{Forest}
 use Rattle.atspi_forest.specs.Row.{ShapeRow, TreeRow, Each}
 use Rattle.atspi_forest.specs.Tree.{shape_of}
 use Rattle.atspi_message.specs.Envelope.{Envelope}
-use Rattle.atspi_announcing.specs.Announced.{announced}
-use Rattle.atspi_announcing.specs.Signals.{Signal}
-use Rattle.atspi_exporting.specs.Exporter.{Happening, steps, sends}
-use Rattle.atspi_exporting.specs.Telling.{asked_for, step_told}
+use Rattle.atspi_protocol.specs.announcing.Announced.{announced}
+use Rattle.atspi_protocol.specs.announcing.Signals.{Signal}
+use Rattle.atspi_protocol.specs.exporting.Exporter.{Happening, steps, sends}
+use Rattle.atspi_protocol.specs.exporting.Telling.{asked_for, step_told}
 use Rattle.atspi_tree.specs.TreeShape.{TreeShape}
-use Rattle.atspi_whole.specs.Whole.{Faces, whole}
-use Rattle.atspi_whole.proofs.Followed.{shape_is_kept}
+use Rattle.atspi_protocol.specs.whole.Whole.{Faces, whole}
+use Rattle.atspi_protocol.proofs.OfWhole.Followed.{shape_is_kept}
 use Rattle.atspi_announced.specs.Asked.{messages_asked, CanBeTold}
 use Rattle.atspi_announced.specs.Laws.{told_of_one}
 use Rattle.atspi_app.specs.Seen.{AreUnnumbered}

@@ -9,12 +9,12 @@ use Rattle.atspi_forest.specs.Row.{TreeRow, Each}
 use Rattle.atspi_forest.specs.RowRules.{rows}
 use Rattle.atspi_forest.specs.Tree.{is_node, after, seat_of}
 use Rattle.atspi_message.specs.Envelope.{Envelope}
-use Rattle.atspi_ends.specs.Messages.{numbered, Queue, posted}
-use Rattle.atspi_announcing.specs.Signals.{Signal, removed}
-use Rattle.atspi_announcing.specs.Announced.{told_node, left, announced}
-use Rattle.atspi_exporting.specs.Exporter.{Happening, sends}
-use Rattle.atspi_exporting.specs.Hearing.{is_covered}
-use Rattle.atspi_exporting.specs.Telling.{asked_for}
+use Rattle.atspi_protocol.specs.ends.Messages.{numbered, Queue, posted}
+use Rattle.atspi_protocol.specs.announcing.Signals.{Signal, removed}
+use Rattle.atspi_protocol.specs.announcing.Announced.{told_node, left, announced}
+use Rattle.atspi_protocol.specs.exporting.Exporter.{Happening, sends}
+use Rattle.atspi_protocol.specs.exporting.Hearing.{is_covered}
+use Rattle.atspi_protocol.specs.exporting.Telling.{asked_for}
 use Rattle.atspi_announced.specs.Asked.{messages_asked}
 use Rattle.atspi_app.specs.Seen.{AreUnnumbered}
 

@@ -4,10 +4,10 @@ use Rattle.atspi_forest.specs.Row.{Each}
 use Rattle.atspi_message.specs.Envelope.{Envelope}
 use Rattle.atspi_forest.specs.declared.edit.EditFault.{EditFault}
 use Rattle.atspi_exported.specs.Parts.{Parts, whole_of}
-use Rattle.atspi_exporting.specs.Exporter.{Exporter, begins}
-use Rattle.atspi_exporting.specs.Taking.{is_spent}
-use Rattle.atspi_starting.specs.declared.known.Known.{Known}
-use Rattle.atspi_starting.specs.KnownView.{known_in}
+use Rattle.atspi_protocol.specs.exporting.Exporter.{Exporter, begins}
+use Rattle.atspi_protocol.specs.exporting.Taking.{is_spent}
+use Rattle.atspi_app_known.specs.declared.starting.known.Known.{Known}
+use Rattle.atspi_app_known.specs.starting.KnownView.{known_in}
 
 -- the tree and the number that the registry gave
 abbrev pub with_tree : Parts → ℤ → Exporter

@@ -4,22 +4,22 @@ ghost use Rattle.std.specs.Prelude.{◌≡◌, ◌∷◌, [], false, true, IfErr
 ghost use Rattle.atspi_forest.specs.Row.{IsName};
 ghost use Rattle.atspi_forest.specs.declared.edit.EditFault.{EditFault};
 ghost use Rattle.atspi_forest.specs.Edits.{IsEdit, steps_of_tree};
-ghost use Rattle.atspi_exporting.specs.Exporter.{begins};
-ghost use Rattle.atspi_exporting.specs.Starting.{starts};
-ghost use Rattle.atspi_exporting.specs.Taking.{app_edits, is_spent};
-ghost use Rattle.atspi_happenings.specs.Happened.{happening_of};
+ghost use Rattle.atspi_protocol.specs.exporting.Exporter.{begins};
+ghost use Rattle.atspi_protocol.specs.exporting.Starting.{starts};
+ghost use Rattle.atspi_protocol.specs.exporting.Taking.{app_edits, is_spent};
+ghost use Rattle.atspi_app_known.specs.happenings.Happened.{happening_of};
 ghost use Rattle.atspi_exported.specs.Doing.{AreOne};
 ghost use Rattle.atspi_exported.specs.Parts.{AreEmpty, AreKinds, IsEmpty, IsExported, kept_by};
 ghost use Rattle.atspi_app.specs.Seen.{IsSpentAfter, seen};
 
 use crate::fault::AppFault;
 use crate::telling::told;
+use atspi_app_known::happenings::AppEvent;
+use atspi_app_known::starting::Known;
 use atspi_base::{NoMemory, Text};
 use atspi_exported::{Boxes, Exported, Exports, Kit};
 use atspi_face::Face;
 use atspi_forest::{Edit, StepList};
-use atspi_happenings::AppEvent;
-use atspi_starting::Known;
 use atspi_tree::Tree;
 use std::alloc::Global;
 

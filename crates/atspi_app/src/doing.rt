@@ -4,20 +4,20 @@ ghost use Rattle.std.specs.Prelude.{◌≡◌, false, true, IsErrOf, OnErr, OnOk
 ghost use Rattle.atspi_forest.specs.RowRules.{rows};
 ghost use Rattle.atspi_forest.specs.Tree.{AllApply};
 ghost use Rattle.atspi_forest.specs.declared.edit.EditFault.{EditFault};
-ghost use Rattle.atspi_exporting.specs.Exporter.{queues};
-ghost use Rattle.atspi_exporting.specs.Taking.{is_spent, stepped};
-ghost use Rattle.atspi_happenings.specs.Room.{HasRoom};
-ghost use Rattle.atspi_happenings.specs.View.{happened};
+ghost use Rattle.atspi_protocol.specs.exporting.Exporter.{queues};
+ghost use Rattle.atspi_protocol.specs.exporting.Taking.{is_spent, stepped};
+ghost use Rattle.atspi_app_known.specs.happenings.Room.{HasRoom};
+ghost use Rattle.atspi_app_known.specs.happenings.View.{happened};
 ghost use Rattle.atspi_exported.specs.Doing.{CanBeDone};
 ghost use Rattle.atspi_exported.specs.Parts.{IsExported};
 ghost use Rattle.atspi_app.specs.Seen.{seen};
 
 use crate::app::App;
 use crate::fault::AppFault;
+use atspi_app_known::happenings::Happenings;
 use atspi_base::NoMemory;
 use atspi_exported::{Exported, Exports};
 use atspi_forest::StepList;
-use atspi_happenings::Happenings;
 
 impl App {
     /// Does steps, and queues what was told of them before. Room for that is made first, so that after a fault all is as before.

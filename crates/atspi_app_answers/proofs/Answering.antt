@@ -7,16 +7,16 @@ use Rattle.atspi_forest.specs.Forest.{has}
 use Rattle.atspi_forest.specs.Row.{ShapeRow}
 use Rattle.atspi_forest.specs.Tree.{is_shape}
 use Rattle.atspi_forest.proofs.Found.{find-has, count-has}
-use Rattle.atspi_ends.specs.Messages.{returns}
+use Rattle.atspi_protocol.specs.ends.Messages.{returns}
 use Rattle.atspi_tree.specs.TreeShape.{TreeShape, row_of}
-use Rattle.atspi_whole.specs.Whole.{Faces, filled}
-use Rattle.atspi_objects.specs.Places.{Place, node}
-use Rattle.atspi_objects.specs.Answers.{Answer, node_answers, place_answers, tells_all, refuses}
-use Rattle.atspi_members.specs.Arguments.{int, signed_in}
-use Rattle.atspi_members.specs.declared.member.ObjectMember.{ObjectMember}
-use Rattle.atspi_members.specs.declared.property.ObjectProperty.{ObjectProperty}
+use Rattle.atspi_protocol.specs.whole.Whole.{Faces, filled}
+use Rattle.atspi_protocol.specs.objects.Places.{Place, node}
+use Rattle.atspi_protocol.specs.objects.Answers.{Answer, node_answers, place_answers, tells_all, refuses}
+use Rattle.atspi_protocol.specs.members.Arguments.{int, signed_in}
+use Rattle.atspi_protocol.specs.declared.members.member.ObjectMember.{ObjectMember}
+use Rattle.atspi_protocol.specs.declared.members.property.ObjectProperty.{ObjectProperty}
 use Rattle.atspi_base.specs.declared.outside.NoMemory.{NoMemory}
-use Rattle.atspi_ends.specs.Messages.{error_word}
+use Rattle.atspi_protocol.specs.ends.Messages.{error_word}
 use Rattle.atspi_app_calls.specs.declared.interface.AppInterface.{AppInterface}
 use Rattle.atspi_app_calls.specs.Interface.{properties_in}
 use Rattle.atspi_app_calls.specs.declared.ask.Ask.{Ask}

@@ -9,9 +9,9 @@ use Rattle.atspi_forest.specs.declared.contents.FaceKind.TheVariants as kinds
 use Rattle.atspi_forest.specs.Row.{ShapeRow}
 use Rattle.atspi_face.specs.Contents.{kind_of, count_of, caret_of}
 use Rattle.atspi_face.specs.Nodes.{Nodes, AreContents}
-use Rattle.atspi_whole.specs.Whole.{Faces, filled}
-use Rattle.atspi_objects.specs.Texts.{text_of}
-use Rattle.atspi_objects.specs.Tables.{columns_of}
+use Rattle.atspi_protocol.specs.whole.Whole.{Faces, filled}
+use Rattle.atspi_protocol.specs.objects.Texts.{text_of}
+use Rattle.atspi_protocol.specs.objects.Tables.{columns_of}
 use Rattle.atspi_app_answers.specs.Laws.{FacesTellCounts}
 
 -- contents of each kind

@@ -2,7 +2,7 @@
 use Rattle.std.proofs.Common.{◌≡◌, List, [], ◌∷◌, ◌++◌, sym, ap, ◌∙◌}
 use Rattle.atspi_types.specs.Kinds.{Kind}
 use Rattle.atspi_types.specs.Data.{Data, variant_data, type_of}
-use Rattle.atspi_objects.specs.Values.{in_variant}
+use Rattle.atspi_protocol.specs.objects.Values.{in_variant}
 
 -- a list that grew element by element
 pub one_put : {A : Type 0} (a : A) (p q : List A) → p ≡ [] → p ++ a ∷ [] ≡ q → a ∷ [] ≡ q

@@ -11,19 +11,19 @@ use Rattle.atspi_forest.specs.Tree.{is_shape}
 use Rattle.atspi_forest.proofs.Found.{each_counted, EachLabel-weaker}
 use Rattle.atspi_forest.proofs.Lookup.{find-relabel}
 use Rattle.atspi_forest.proofs.Path.{path_of_apart}
-use Rattle.atspi_ends.specs.Places.{cache_path}
+use Rattle.atspi_protocol.specs.ends.Places.{cache_path}
 use Rattle.atspi_tree.specs.TreeShape.{TreeShape, IsLawful, row_of}
 use Rattle.atspi_tree.proofs.Held.{no_row}
-use Rattle.atspi_whole.specs.Whole.{Faces, whole, filled}
+use Rattle.atspi_protocol.specs.whole.Whole.{Faces, whole, filled}
 use Rattle.atspi_forest.specs.declared.contents.Kinds.{Kinds}
 use Rattle.atspi_forest.specs.Announce.{interfaces_of}
 use Rattle.atspi_message.specs.Envelope.{Envelope}
-use Rattle.atspi_ends.specs.declared.error.CallError.{CallError}
-use Rattle.atspi_ends.specs.declared.error.CallError.TheVariants.{UnknownObject}
-use Rattle.atspi_members.specs.Objects.{Object, object_with}
-use Rattle.atspi_members.specs.Asked.{asked}
-use Rattle.atspi_objects.specs.Places.{Place, node, node_at, place_at, offered, offered_if_there}
-use Rattle.atspi_objects.specs.Answers.{place_answers}
+use Rattle.atspi_protocol.specs.declared.ends.error.CallError.{CallError}
+use Rattle.atspi_protocol.specs.declared.ends.error.CallError.TheVariants.{UnknownObject}
+use Rattle.atspi_protocol.specs.members.Objects.{Object, object_with}
+use Rattle.atspi_protocol.specs.members.Asked.{asked}
+use Rattle.atspi_protocol.specs.objects.Places.{Place, node, node_at, place_at, offered, offered_if_there}
+use Rattle.atspi_protocol.specs.objects.Answers.{place_answers}
 use Rattle.atspi_app_calls.specs.declared.ask.Ask.{Ask}
 use Rattle.atspi_app_calls.specs.declared.object.AppObject.TheVariants as AppObjects
 use Rattle.atspi_app_calls.specs.Object.{object_of}

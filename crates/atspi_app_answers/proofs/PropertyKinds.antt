@@ -4,9 +4,9 @@ use Rattle.atspi_types.specs.Data.{type_of}
 use Rattle.atspi_forest.specs.Row.{TreeRow}
 use Rattle.atspi_forest.specs.RowRules.{rows}
 use Rattle.atspi_forest.specs.Tree.{seat_of}
-use Rattle.atspi_ends.specs.Places.{reference_kind}
-use Rattle.atspi_objects.specs.Application.{Application}
-use Rattle.atspi_objects.specs.Children.{parent_data}
+use Rattle.atspi_protocol.specs.ends.Places.{reference_kind}
+use Rattle.atspi_protocol.specs.objects.Application.{Application}
+use Rattle.atspi_protocol.specs.objects.Children.{parent_data}
 
 pub parent_type : (a : Application) (row : TreeRow) → type_of (parent_data a row) ≡ reference_kind
 parent_type a row = by (seat_of rows row.shape.node a.tree) refl

@@ -10,13 +10,13 @@ use Rattle.atspi_forest.specs.RowRules.{rows, shapes}
 use Rattle.atspi_forest.specs.Tree.{is_shape, is_node, seat_of}
 use Rattle.atspi_forest.proofs.Lookup.{children-relabel}
 use Rattle.atspi_forest.proofs.Relabel.{renamed, place-relabel}
-use Rattle.atspi_ends.specs.Places.{reference_kind}
-use Rattle.atspi_members.specs.Arguments.{int}
+use Rattle.atspi_protocol.specs.ends.Places.{reference_kind}
+use Rattle.atspi_protocol.specs.members.Arguments.{int}
 use Rattle.atspi_tree.specs.TreeShape.{TreeShape, children_of}
-use Rattle.atspi_whole.specs.Whole.{Faces, filled, whole}
-use Rattle.atspi_objects.specs.Application.{Application}
-use Rattle.atspi_objects.specs.Values.{row_reference, reference_or_null, references_data}
-use Rattle.atspi_objects.specs.Children as children
+use Rattle.atspi_protocol.specs.whole.Whole.{Faces, filled, whole}
+use Rattle.atspi_protocol.specs.objects.Application.{Application}
+use Rattle.atspi_protocol.specs.objects.Values.{row_reference, reference_or_null, references_data}
+use Rattle.atspi_protocol.specs.objects.Children as children
 use Rattle.atspi_app_answers.specs.Seen.{seen}
 use Rattle.atspi_node_values.specs.Numbers.{numbered_reference, numbered_or_null, numbered_references, index_of, parent_of}
 

@@ -11,8 +11,8 @@ use Rattle.atspi_forest.specs.States.{has_state, selected}
 use Rattle.atspi_forest.specs.Tree.{is_shape}
 use Rattle.atspi_tree.specs.TreeShape.{TreeShape, IsLawful, numbers, children_of}
 use Rattle.atspi_tree.proofs.Walks.{child_there}
-use Rattle.atspi_whole.specs.Whole.{Faces, filled}
-use Rattle.atspi_objects.specs.Children as children
+use Rattle.atspi_protocol.specs.whole.Whole.{Faces, filled}
+use Rattle.atspi_protocol.specs.objects.Children as children
 use Rattle.atspi_items.proofs.Known.{Known, each_known}
 use Rattle.atspi_app_answers.specs.Seen.{seen}
 use Rattle.atspi_app_answers.specs.Selected.{is_selected_in}

@@ -6,7 +6,7 @@ use Rattle.std.proofs.lemmas.Bool.{and_parts}
 use Rattle.atspi_types.specs.Names.{is_path, is_interface, is_member, is_bus_name}
 use Rattle.atspi_header.specs.Names.{fits, are_named}
 use Rattle.atspi_message.specs.Envelope.{Envelope}
-use Rattle.atspi_ends.specs.Messages.{Reply, replies}
+use Rattle.atspi_protocol.specs.ends.Messages.{Reply, replies}
 use Rattle.atspi_app_answers.specs.Replies.{sent_back}
 
 pub sender_named : (path interface member error destination sender : Option (Bor (List ℕ))) → IsTrue (are_named path interface member error destination sender) → fits is_bus_name sender ≡ true

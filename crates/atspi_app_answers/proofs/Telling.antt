@@ -11,14 +11,14 @@ use Rattle.atspi_forest.specs.RowRules.{shapes}
 use Rattle.atspi_forest.specs.Tree.{is_shape, seat_of}
 use Rattle.atspi_forest.specs.Announce.{interfaces_of}
 use Rattle.atspi_forest.proofs.Found.{find-passes}
-use Rattle.atspi_members.specs.declared.member.ObjectMember.TheVariants.{GetChildAtIndex, GetChildren, GetIndexInParent, GetRole, GetRoleName, GetLocalizedRoleName, GetState, GetAttributes, GetApplication, GetInterfaces}
-use Rattle.atspi_members.specs.declared.property.ObjectProperty.TheVariants.{Name, Description, Parent, ChildCount, Locale, AccessibleId, ToolkitName, Version, AtspiVersion, Id, CharacterCount, CaretOffset, NSelectedChildren, NRows, NColumns, NActions}
-use Rattle.atspi_members.specs.Arguments.{int, signed_at}
+use Rattle.atspi_protocol.specs.declared.members.member.ObjectMember.TheVariants.{GetChildAtIndex, GetChildren, GetIndexInParent, GetRole, GetRoleName, GetLocalizedRoleName, GetState, GetAttributes, GetApplication, GetInterfaces}
+use Rattle.atspi_protocol.specs.declared.members.property.ObjectProperty.TheVariants.{Name, Description, Parent, ChildCount, Locale, AccessibleId, ToolkitName, Version, AtspiVersion, Id, CharacterCount, CaretOffset, NSelectedChildren, NRows, NColumns, NActions}
+use Rattle.atspi_protocol.specs.members.Arguments.{int, signed_at}
 use Rattle.atspi_tree.specs.TreeShape.{TreeShape, IsLawful, row_of, children_of}
-use Rattle.atspi_whole.specs.Whole.{filled}
-use Rattle.atspi_objects.specs.Values.{count_data, role_name, words_data, texts_data}
-use Rattle.atspi_objects.specs.Children as children
-use Rattle.atspi_objects.specs.Answers.{tells}
+use Rattle.atspi_protocol.specs.whole.Whole.{filled}
+use Rattle.atspi_protocol.specs.objects.Values.{count_data, role_name, words_data, texts_data}
+use Rattle.atspi_protocol.specs.objects.Children as children
+use Rattle.atspi_protocol.specs.objects.Answers.{tells}
 use Rattle.atspi_app_answers.specs.declared.counts.Counts.{Counts}
 use Rattle.atspi_app_answers.specs.Seen.{seen}
 use Rattle.atspi_app_answers.specs.Selected.{is_selected_in}

@@ -1,12 +1,12 @@
 -- What a call asks of an application, by its tree, whatever the contents of nodes.
 use Rattle.std.specs.Prelude.{◌≡◌, ℕ, ℤ, List, [], Result, Ok, Err, unwrap_or}
 use Rattle.atspi_message.specs.Envelope.{Envelope}
-use Rattle.atspi_ends.specs.Messages.{error_word}
-use Rattle.atspi_ends.specs.declared.error.CallError.{CallError}
+use Rattle.atspi_protocol.specs.ends.Messages.{error_word}
+use Rattle.atspi_protocol.specs.declared.ends.error.CallError.{CallError}
 use Rattle.atspi_tree.specs.TreeShape.{TreeShape}
-use Rattle.atspi_whole.specs.Whole.{Faces}
-use Rattle.atspi_objects.specs.Application.{Application}
-use Rattle.atspi_objects.specs.Answers.{Answer, answer, place_answers, refuses}
+use Rattle.atspi_protocol.specs.whole.Whole.{Faces}
+use Rattle.atspi_protocol.specs.objects.Application.{Application}
+use Rattle.atspi_protocol.specs.objects.Answers.{Answer, answer, place_answers, refuses}
 use Rattle.atspi_app_calls.specs.declared.ask.Ask.{Ask}
 use Rattle.atspi_app_calls.specs.Ask.{asked_of}
 use Rattle.atspi_app_answers.specs.declared.place.AppPlace.{AppPlace}

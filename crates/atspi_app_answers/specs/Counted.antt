@@ -2,14 +2,14 @@
 use Rattle.std.specs.Prelude.{◌≡◌, ℕ, List, length, IfSome}
 use Rattle.std.specs.List.{AllByRecursion}
 use Rattle.atspi_forest.specs.Row.{ShapeRow, TreeRow}
-use Rattle.atspi_members.specs.declared.property.ObjectProperty.{ObjectProperty}
-use Rattle.atspi_members.specs.declared.property.ObjectProperty.TheVariants.{CharacterCount, CaretOffset, NRows, NColumns, NActions}
-use Rattle.atspi_members.specs.Table.{PropertyLine}
-use Rattle.atspi_objects.specs.Texts.{text_of}
-use Rattle.atspi_objects.specs.Tables.{columns_of}
+use Rattle.atspi_protocol.specs.declared.members.property.ObjectProperty.{ObjectProperty}
+use Rattle.atspi_protocol.specs.declared.members.property.ObjectProperty.TheVariants.{CharacterCount, CaretOffset, NRows, NColumns, NActions}
+use Rattle.atspi_protocol.specs.members.Table.{PropertyLine}
+use Rattle.atspi_protocol.specs.objects.Texts.{text_of}
+use Rattle.atspi_protocol.specs.objects.Tables.{columns_of}
 use Rattle.atspi_tree.specs.TreeShape.{TreeShape, row_of}
 use Rattle.atspi_face.specs.Nodes.{count_at, caret_at}
-use Rattle.atspi_whole.specs.Whole.{Faces, filled}
+use Rattle.atspi_protocol.specs.whole.Whole.{Faces, filled}
 use Rattle.atspi_app_calls.specs.declared.ask.Ask.{Ask}
 use Rattle.atspi_app_calls.specs.declared.ask.Ask.TheVariants as asks
 use Rattle.atspi_app_calls.specs.Interface.{properties_in}

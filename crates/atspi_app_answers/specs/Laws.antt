@@ -2,7 +2,7 @@
 use Rattle.atspi_forest.specs.declared.contents.FaceKind.TheVariants.{Chars, Grid, Deeds}
 use Rattle.atspi_forest.specs.Row.{ShapeRow}
 use Rattle.atspi_face.specs.Nodes.{AreContents}
-use Rattle.atspi_whole.specs.Whole.{Faces, filled}
+use Rattle.atspi_protocol.specs.whole.Whole.{Faces, filled}
 use Rattle.atspi_app_answers.specs.Counted.{AreCounts, counts_at}
 
 -- each face has contents of its kind alone

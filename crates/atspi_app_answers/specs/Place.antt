@@ -5,8 +5,8 @@ use Rattle.atspi_forest.specs.Row.{ShapeRow}
 use Rattle.atspi_forest.specs.Forest.{has}
 use Rattle.atspi_forest.specs.Tree.{is_shape}
 use Rattle.atspi_tree.specs.TreeShape.{TreeShape, row_of}
-use Rattle.atspi_whole.specs.Whole.{Faces, filled}
-use Rattle.atspi_objects.specs.Places.{Place, node, whole_tree}
+use Rattle.atspi_protocol.specs.whole.Whole.{Faces, filled}
+use Rattle.atspi_protocol.specs.objects.Places.{Place, node, whole_tree}
 use Rattle.atspi_app_answers.specs.declared.place.AppPlace.{AppPlace}
 use Rattle.atspi_app_answers.specs.declared.place.AppPlace.TheVariants.{Tree, Node}
 

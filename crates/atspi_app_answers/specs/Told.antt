@@ -3,18 +3,18 @@ use Rattle.std.specs.Prelude.{◌≡◌, ℕ, ℤ, Bool, true, false, List, [], 
 use Rattle.atspi_types.specs.Data.{Data, text_data}
 use Rattle.atspi_forest.specs.Row.{ShapeRow, TreeRow}
 use Rattle.atspi_tree.specs.TreeShape.{TreeShape, row_of}
-use Rattle.atspi_whole.specs.Whole.{Faces, filled}
-use Rattle.atspi_ends.specs.Messages.{returns, error_word}
-use Rattle.atspi_members.specs.declared.member.ObjectMember.{ObjectMember}
-use Rattle.atspi_members.specs.declared.member.ObjectMember.TheVariants.{GetChildAtIndex, GetChildren, GetIndexInParent, GetRelationSet, GetRole, GetRoleName, GetLocalizedRoleName, GetState, GetAttributes, GetApplication, GetInterfaces, GetText, SetCaretOffset, GetCharacterAtOffset, GetNSelections, GetSelection, AddSelection, RemoveSelection, SetSelection, SetTextContents, InsertText, DeleteText, GetSelectedChild, SelectChild, DeselectChild, DeselectSelectedChild, IsChildSelected, SelectAll, ClearSelection, GetAccessibleAt, GetIndexAt, GetRowAtIndex, GetColumnAtIndex, GetSelectedRows, IsRowSelected, IsSelected, GetName, GetDescription, GetKeyBinding, GetActions, DoAction}
-use Rattle.atspi_members.specs.declared.property.ObjectProperty.{ObjectProperty}
-use Rattle.atspi_members.specs.Table.{PropertyLine}
-use Rattle.atspi_objects.specs.Values.{in_variant}
-use Rattle.atspi_objects.specs.Properties.{property_data, properties_data}
-use Rattle.atspi_objects.specs.Answers.{called, tells, tells_all, refuses, tree_answers, place_answers}
-use Rattle.atspi_members.specs.Arguments.{int, signed_in}
-use Rattle.atspi_members.specs.Asked.{calls}
-use Rattle.atspi_objects.specs.Application.{Application}
+use Rattle.atspi_protocol.specs.whole.Whole.{Faces, filled}
+use Rattle.atspi_protocol.specs.ends.Messages.{returns, error_word}
+use Rattle.atspi_protocol.specs.declared.members.member.ObjectMember.{ObjectMember}
+use Rattle.atspi_protocol.specs.declared.members.member.ObjectMember.TheVariants.{GetChildAtIndex, GetChildren, GetIndexInParent, GetRelationSet, GetRole, GetRoleName, GetLocalizedRoleName, GetState, GetAttributes, GetApplication, GetInterfaces, GetText, SetCaretOffset, GetCharacterAtOffset, GetNSelections, GetSelection, AddSelection, RemoveSelection, SetSelection, SetTextContents, InsertText, DeleteText, GetSelectedChild, SelectChild, DeselectChild, DeselectSelectedChild, IsChildSelected, SelectAll, ClearSelection, GetAccessibleAt, GetIndexAt, GetRowAtIndex, GetColumnAtIndex, GetSelectedRows, IsRowSelected, IsSelected, GetName, GetDescription, GetKeyBinding, GetActions, DoAction}
+use Rattle.atspi_protocol.specs.declared.members.property.ObjectProperty.{ObjectProperty}
+use Rattle.atspi_protocol.specs.members.Table.{PropertyLine}
+use Rattle.atspi_protocol.specs.objects.Values.{in_variant}
+use Rattle.atspi_protocol.specs.objects.Properties.{property_data, properties_data}
+use Rattle.atspi_protocol.specs.objects.Answers.{called, tells, tells_all, refuses, tree_answers, place_answers}
+use Rattle.atspi_protocol.specs.members.Arguments.{int, signed_in}
+use Rattle.atspi_protocol.specs.members.Asked.{calls}
+use Rattle.atspi_protocol.specs.objects.Application.{Application}
 use Rattle.atspi_app_calls.specs.declared.ask.Ask.{Ask}
 use Rattle.atspi_app_calls.specs.declared.ask.Ask.TheVariants as asks
 use Rattle.atspi_app_calls.specs.Ask.{asked_of}

@@ -10,11 +10,11 @@ ghost use Rattle.atspi_app_answers.specs.Told.{Tells, is_accessible};
 use atspi_base::{NoMemory, Text};
 use atspi_calls::first_signed;
 use atspi_cursor::Fields;
-use atspi_members::ObjectMember;
 use atspi_node_values::{
     child_at, index_in_parent, interface_names, no_pairs, node_reference, number,
     reference_or_null, references, relation_set, role_text, signed, words,
 };
+use atspi_protocol::members::ObjectMember;
 use atspi_tree::Tree;
 use atspi_types::Value;
 use std::alloc::Global;

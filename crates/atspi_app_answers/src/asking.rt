@@ -7,8 +7,8 @@ ghost use Rattle.atspi_app_answers.specs.Asking.{Asks};
 
 use crate::place::{AppPlace, object_of, place_at};
 use atspi_app_calls::{Ask, asked};
-use atspi_ends::CallError;
 use atspi_header::MessageRef;
+use atspi_protocol::ends::CallError;
 use atspi_tree::Tree;
 
 /// A path, an empty one where there is none.

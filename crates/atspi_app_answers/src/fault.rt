@@ -4,7 +4,7 @@ ghost use Rattle.std.specs.Prelude.{◌≡◌};
 ghost use Rattle.atspi_app_answers.specs.Faults.{or_fault};
 
 use atspi_base::NoMemory;
-use atspi_ends::CallError;
+use atspi_protocol::ends::CallError;
 use atspi_types::Values;
 use thiserror::Error;
 

@@ -2,11 +2,11 @@
 
 ghost use Rattle.std.specs.Prelude.{◌≡◌, ◌==◌, true, bytes_eq, option_and_then, IfSome};
 ghost use Rattle.std.specs.Option.{option_map};
-ghost use Rattle.atspi_ends.specs.Places.{cache_path};
+ghost use Rattle.atspi_protocol.specs.ends.Places.{cache_path};
 ghost use Rattle.atspi_forest.specs.Forest.{has};
 ghost use Rattle.atspi_forest.specs.Tree.{is_shape};
-ghost use Rattle.atspi_objects.specs.Places as places;
-ghost use Rattle.atspi_whole.specs.Whole.{Faces, whole};
+ghost use Rattle.atspi_protocol.specs.objects.Places as places;
+ghost use Rattle.atspi_protocol.specs.whole.Whole.{Faces, whole};
 ghost use Rattle.atspi_app_calls.specs.Object as objects;
 ghost use Rattle.atspi_app_answers.specs.Place.{place_of, IsThere};
 

@@ -4,13 +4,13 @@ ghost use Rattle.std.specs.Prelude.{◌≡◌, ◌++◌, true, OnOk, OnErr};
 ghost use Rattle.atspi_types.specs.Names.{is_bus_name};
 ghost use Rattle.atspi_types.specs.DataView.{all_data};
 ghost use Rattle.atspi_header.specs.View.{envelope_at};
-ghost use Rattle.atspi_ends.specs.Messages as messages;
-ghost use Rattle.atspi_ends.specs.Messages.{error_word, returns, fails, replies};
+ghost use Rattle.atspi_protocol.specs.ends.Messages as messages;
+ghost use Rattle.atspi_protocol.specs.ends.Messages.{error_word, returns, fails, replies};
 ghost use Rattle.atspi_app_answers.specs.Replies.{sent_back};
 
 use atspi_base::NoMemory;
-use atspi_ends::{CallError, Mail, bus_name, error_to, return_to};
 use atspi_header::MessageRef;
+use atspi_protocol::ends::{CallError, Mail, bus_name, error_to, return_to};
 use atspi_types::Values;
 use std::alloc::Global;
 

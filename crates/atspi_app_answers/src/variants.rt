@@ -7,14 +7,14 @@ ghost use Rattle.atspi_types.specs.KindView.{kind_of};
 ghost use Rattle.atspi_forest.specs.Forest.{has};
 ghost use Rattle.atspi_forest.specs.Row.{TreeRow};
 ghost use Rattle.atspi_forest.specs.Tree.{is_shape};
-ghost use Rattle.atspi_objects.specs.Application.{Application};
-ghost use Rattle.atspi_objects.specs.Properties.{property_data};
+ghost use Rattle.atspi_protocol.specs.objects.Application.{Application};
+ghost use Rattle.atspi_protocol.specs.objects.Properties.{property_data};
 ghost use Rattle.atspi_app_answers.specs.Told.{IsPropertyInVariant};
 
 use crate::counts::Counts;
 use crate::properties::property;
 use atspi_base::{NoMemory, Text};
-use atspi_members::ObjectProperty;
+use atspi_protocol::members::ObjectProperty;
 use atspi_telling::reference_type;
 use atspi_tree::Tree;
 use atspi_types::{Ty, Value};

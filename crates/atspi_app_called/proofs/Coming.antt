@@ -10,14 +10,14 @@ use Rattle.atspi_forest.specs.Forest.{has}
 use Rattle.atspi_forest.specs.Row.{ShapeRow}
 use Rattle.atspi_forest.specs.RowRules.{rows}
 use Rattle.atspi_forest.specs.Tree.{is_shape, IsTree}
-use Rattle.atspi_ends.specs.Messages.{Reply, returns, fails, error_word}
-use Rattle.atspi_ends.specs.declared.error.CallError.{CallError}
+use Rattle.atspi_protocol.specs.ends.Messages.{Reply, returns, fails, error_word}
+use Rattle.atspi_protocol.specs.declared.ends.error.CallError.{CallError}
 use Rattle.atspi_tree.specs.TreeShape.{TreeShape, row_of}
-use Rattle.atspi_whole.specs.Whole.{Faces, whole, filled}
-use Rattle.atspi_members.specs.declared.member.ObjectMember.{ObjectMember}
-use Rattle.atspi_objects.specs.Application.{Application}
-use Rattle.atspi_objects.specs.Places.{Place, node}
-use Rattle.atspi_objects.specs.Answers.{Answer, called, changes, place_answers}
+use Rattle.atspi_protocol.specs.whole.Whole.{Faces, whole, filled}
+use Rattle.atspi_protocol.specs.declared.members.member.ObjectMember.{ObjectMember}
+use Rattle.atspi_protocol.specs.objects.Application.{Application}
+use Rattle.atspi_protocol.specs.objects.Places.{Place, node}
+use Rattle.atspi_protocol.specs.objects.Answers.{Answer, called, changes, place_answers}
 use Rattle.atspi_app_calls.specs.declared.ask.Ask.{Ask}
 use Rattle.atspi_app_calls.specs.declared.ask.Ask.TheVariants as asks
 use Rattle.atspi_app_calls.specs.Ask.{asked_of}

@@ -19,15 +19,15 @@ use Rattle.atspi_forest.specs.Tree.{is_node, is_shape, IsTree}
 use Rattle.atspi_forest.proofs.Lookup.{each-find, find-relabel}
 use Rattle.atspi_tree.specs.TreeShape.{TreeShape, row_of}
 use Rattle.atspi_edits.specs.Answers.{IsKnown, edit_steps}
-use Rattle.atspi_whole.specs.Whole.{Faces, whole, filled}
-use Rattle.atspi_members.specs.declared.member.ObjectMember.{ObjectMember}
-use Rattle.atspi_members.specs.declared.member.ObjectMember.TheVariants as members
-use Rattle.atspi_members.specs.Arguments.{text_at, signed_at}
-use Rattle.atspi_objects.specs.Application.{Application}
-use Rattle.atspi_objects.specs.Children.{at, children_of, selected_children, is_selected}
-use Rattle.atspi_objects.specs.Texts.{text_of}
-use Rattle.atspi_objects.specs.Changes.{edited, edited_at, edited_between, text_exchanged, selection_removed, selection_set, selected_child_off, all_selected, none_selected}
-use Rattle.atspi_objects.specs.Answers.{changes, called}
+use Rattle.atspi_protocol.specs.whole.Whole.{Faces, whole, filled}
+use Rattle.atspi_protocol.specs.declared.members.member.ObjectMember.{ObjectMember}
+use Rattle.atspi_protocol.specs.declared.members.member.ObjectMember.TheVariants as members
+use Rattle.atspi_protocol.specs.members.Arguments.{text_at, signed_at}
+use Rattle.atspi_protocol.specs.objects.Application.{Application}
+use Rattle.atspi_protocol.specs.objects.Children.{at, children_of, selected_children, is_selected}
+use Rattle.atspi_protocol.specs.objects.Texts.{text_of}
+use Rattle.atspi_protocol.specs.objects.Changes.{edited, edited_at, edited_between, text_exchanged, selection_removed, selection_set, selected_child_off, all_selected, none_selected}
+use Rattle.atspi_protocol.specs.objects.Answers.{changes, called}
 use Rattle.atspi_exported.specs.Doing.{CanBeDone}
 use Rattle.atspi_exported.proofs.OneByOne.{edits_one, states_one, IsState}
 use Rattle.atspi_contents_values.specs.Seen.{seen}

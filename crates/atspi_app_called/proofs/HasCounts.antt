@@ -11,10 +11,10 @@ use Rattle.atspi_forest.specs.Row.{ShapeRow, TreeRow}
 use Rattle.atspi_face.specs.Contents.{kind_of, caret_of}
 use Rattle.atspi_face.specs.Nodes.{Nodes, AreContents, HasText, caret_at}
 use Rattle.atspi_tree.specs.TreeShape.{TreeShape, row_of}
-use Rattle.atspi_whole.specs.Whole.{Faces, filled}
-use Rattle.atspi_members.specs.declared.property.ObjectProperty.{ObjectProperty}
-use Rattle.atspi_members.specs.declared.property.ObjectProperty.TheVariants as properties
-use Rattle.atspi_members.specs.Table.{PropertyLine}
+use Rattle.atspi_protocol.specs.whole.Whole.{Faces, filled}
+use Rattle.atspi_protocol.specs.declared.members.property.ObjectProperty.{ObjectProperty}
+use Rattle.atspi_protocol.specs.declared.members.property.ObjectProperty.TheVariants as properties
+use Rattle.atspi_protocol.specs.members.Table.{PropertyLine}
 use Rattle.atspi_app_calls.specs.declared.ask.Ask.{Ask}
 use Rattle.atspi_app_calls.specs.declared.ask.Ask.TheVariants as asks
 use Rattle.atspi_app_calls.specs.Interface.{properties_in}

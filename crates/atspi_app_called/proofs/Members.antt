@@ -1,7 +1,7 @@
 -- A member of contents reads them or changes something.
 use Rattle.std.proofs.Common.{◌≡◌, true, false, refl, sym, true≢false}
-use Rattle.atspi_members.specs.declared.member.ObjectMember.{ObjectMember}
-use Rattle.atspi_members.specs.declared.member.ObjectMember.TheVariants as members
+use Rattle.atspi_protocol.specs.declared.members.member.ObjectMember.{ObjectMember}
+use Rattle.atspi_protocol.specs.declared.members.member.ObjectMember.TheVariants as members
 use Rattle.atspi_app_answers.specs.Told.{is_of_contents}
 use Rattle.atspi_contents_answers.specs.Told.{reads_contents}
 use Rattle.atspi_contents_changes.specs.Changing.{changes_contents}

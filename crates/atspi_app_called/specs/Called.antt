@@ -2,9 +2,9 @@
 use Rattle.std.specs.Prelude.{Result, Ok, Err}
 use Rattle.atspi_types.specs.DataView.{all_data}
 use Rattle.atspi_types.specs.declared.value.Values.{Values}
-use Rattle.atspi_ends.specs.Messages.{Reply, returns, fails, error_word}
-use Rattle.atspi_ends.specs.declared.error.CallError.{CallError}
-use Rattle.atspi_objects.specs.Answers.{Answer}
+use Rattle.atspi_protocol.specs.ends.Messages.{Reply, returns, fails, error_word}
+use Rattle.atspi_protocol.specs.declared.ends.error.CallError.{CallError}
+use Rattle.atspi_protocol.specs.objects.Answers.{Answer}
 use Rattle.atspi_app_called.specs.declared.outcome.Called.{Called}
 
 abbrev pub reply_of : Result Values CallError → Reply

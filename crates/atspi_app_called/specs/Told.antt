@@ -3,9 +3,9 @@ use Rattle.std.specs.Prelude.{◌≡◌, ℕ, ℤ, List, Some, Ok}
 use Rattle.atspi_types.specs.Data.{Data}
 use Rattle.atspi_forest.specs.Row.{ShapeRow}
 use Rattle.atspi_tree.specs.TreeShape.{TreeShape, row_of}
-use Rattle.atspi_whole.specs.Whole.{Faces, filled}
-use Rattle.atspi_members.specs.declared.member.ObjectMember.{ObjectMember}
-use Rattle.atspi_objects.specs.Answers.{called, place_answers}
+use Rattle.atspi_protocol.specs.whole.Whole.{Faces, filled}
+use Rattle.atspi_protocol.specs.declared.members.member.ObjectMember.{ObjectMember}
+use Rattle.atspi_protocol.specs.objects.Answers.{called, place_answers}
 use Rattle.atspi_app_calls.specs.declared.ask.Ask.{Ask}
 use Rattle.atspi_app_calls.specs.Ask.{asked_of}
 use Rattle.atspi_app_answers.specs.declared.place.AppPlace.{AppPlace}

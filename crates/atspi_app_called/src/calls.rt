@@ -2,12 +2,12 @@
 
 ghost use Rattle.std.specs.Prelude.{◌≡◌, ℕ, [], true, IfOk, IfSome, IfNone};
 ghost use Rattle.atspi_cursor.specs.Items.{fields_data};
-ghost use Rattle.atspi_ends.specs.Messages.{error_word, fails};
+ghost use Rattle.atspi_protocol.specs.ends.Messages.{error_word, fails};
 ghost use Rattle.atspi_header.specs.View.{envelope_at};
 ghost use Rattle.atspi_forest.specs.Forest.{has};
 ghost use Rattle.atspi_forest.specs.RowRules.{rows};
 ghost use Rattle.atspi_forest.specs.Tree.{IsTree, is_shape};
-ghost use Rattle.atspi_whole.specs.Whole.{Faces, whole};
+ghost use Rattle.atspi_protocol.specs.whole.Whole.{Faces, whole};
 ghost use Rattle.atspi_exported.specs.Doing.{CanBeDone};
 ghost use Rattle.atspi_exported.specs.Parts.{AreKinds, faces_of, kinds_of};
 ghost use Rattle.atspi_app_answers.specs.Asking.{answer_to};
@@ -27,11 +27,11 @@ use atspi_app_calls::Ask;
 use atspi_base::{NoMemory, Text};
 use atspi_contents_answers::reads_contents;
 use atspi_cursor::Fields;
-use atspi_ends::CallError;
 use atspi_face::Face;
 use atspi_forest::StepList;
 use atspi_header::MessageRef;
-use atspi_members::ObjectMember;
+use atspi_protocol::ends::CallError;
+use atspi_protocol::members::ObjectMember;
 use atspi_tree::Tree;
 use std::alloc::Global;
 

@@ -4,14 +4,14 @@ ghost use Rattle.std.specs.Prelude.{◌≡◌, IfOk};
 ghost use Rattle.atspi_header.specs.View.{envelope_at};
 ghost use Rattle.atspi_app_answers.specs.Replies as replies;
 ghost use Rattle.atspi_types.specs.DataView.{all_data};
-ghost use Rattle.atspi_ends.specs.Messages.{error_word, returns, fails};
+ghost use Rattle.atspi_protocol.specs.ends.Messages.{error_word, returns, fails};
 ghost use Rattle.atspi_app_called.specs.Called.{reply_of};
 
 use atspi_app_answers::{refusal, reply};
 use atspi_base::NoMemory;
-use atspi_ends::{CallError, Mail};
 use atspi_forest::StepList;
 use atspi_header::MessageRef;
+use atspi_protocol::ends::{CallError, Mail};
 use atspi_types::Values;
 use std::alloc::Global;
 

@@ -2,7 +2,7 @@
 
 ghost use Rattle.std.specs.Prelude.{◌≡◌, [], IfOk};
 ghost use Rattle.atspi_cursor.specs.Items.{fields_data};
-ghost use Rattle.atspi_whole.specs.Whole.{Faces};
+ghost use Rattle.atspi_protocol.specs.whole.Whole.{Faces};
 ghost use Rattle.atspi_app_answers.specs.Counted.{HasCountsAt};
 ghost use Rattle.atspi_app_answers.specs.Place.{IsThere};
 ghost use Rattle.atspi_app_answers.specs.Told.{IsOfShape};

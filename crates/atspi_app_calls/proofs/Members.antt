@@ -16,13 +16,13 @@ use Rattle.atspi_cursor.specs.Items.{fields_data, fields_kinds}
 use Rattle.atspi_cursor.specs.declared.cursor.Fields.{Fields}
 use Rattle.atspi_header.proofs.ReadTypes.{fields_types}
 use Rattle.atspi_forest.specs.Forest.{first_of}
-use Rattle.atspi_members.specs.declared.member.ObjectMember.{ObjectMember}
-use Rattle.atspi_members.specs.Interfaces as names
-use Rattle.atspi_members.specs.Table as table
-use Rattle.atspi_members.specs.Table.{MemberLine, member_lines, common_lines}
-use Rattle.atspi_members.specs.Objects.{is_among}
-use Rattle.atspi_members.specs.Asked as asked
-use Rattle.atspi_members.specs.Asked.{and_then, first_or, is_text, is_text_if_there, has_interface, signature_of}
+use Rattle.atspi_protocol.specs.declared.members.member.ObjectMember.{ObjectMember}
+use Rattle.atspi_protocol.specs.members.Interfaces as names
+use Rattle.atspi_protocol.specs.members.Table as table
+use Rattle.atspi_protocol.specs.members.Table.{MemberLine, member_lines, common_lines}
+use Rattle.atspi_protocol.specs.members.Objects.{is_among}
+use Rattle.atspi_protocol.specs.members.Asked as asked
+use Rattle.atspi_protocol.specs.members.Asked.{and_then, first_or, is_text, is_text_if_there, has_interface, signature_of}
 use Rattle.atspi_app_calls.specs.declared.interface.AppInterface.{AppInterface}
 use Rattle.atspi_app_calls.specs.declared.interface.AppInterface.TheVariants as interfaces
 use Rattle.atspi_app_calls.specs.declared.object.AppObject.{AppObject}

@@ -5,8 +5,8 @@ use Rattle.std.specs.List.{list_any}
 use Rattle.std.proofs.lemmas.Slice.Eq.{bytes_eq-Decides}
 use Rattle.atspi_forest.specs.declared.contents.Kinds.{Kinds}
 use Rattle.atspi_forest.specs.Announce.{named, interfaces_of}
-use Rattle.atspi_members.specs.Interfaces as names
-use Rattle.atspi_members.specs.Objects.{is_among}
+use Rattle.atspi_protocol.specs.members.Interfaces as names
+use Rattle.atspi_protocol.specs.members.Objects.{is_among}
 use Rattle.atspi_app_calls.specs.declared.interface.AppInterface.{AppInterface}
 use Rattle.atspi_app_calls.specs.declared.interface.AppInterface.TheVariants as interfaces
 use Rattle.atspi_app_calls.specs.declared.object.AppObject.{AppObject}

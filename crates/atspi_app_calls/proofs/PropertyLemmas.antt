@@ -7,15 +7,15 @@ use Rattle.std.proofs.lemmas.Slice.Eq.{bytes_eq-Decides}
 use Rattle.atspi_types.specs.Kinds.{Kind, Num, byte, i16, u16, i32, u32, i64, u64, double, number, boolean, text, path, signature, array, structure, variant, dictionary}
 use Rattle.atspi_types.specs.Signatures.{type_bytes}
 use Rattle.atspi_types.specs.Data.{Data, type_of}
-use Rattle.atspi_ends.specs.declared.error.CallError.{CallError}
-use Rattle.atspi_ends.specs.Messages.{error_word}
-use Rattle.atspi_members.specs.declared.property.ObjectProperty.{ObjectProperty}
-use Rattle.atspi_members.specs.declared.property.ObjectProperty.TheVariants as properties
-use Rattle.atspi_members.specs.Interfaces as names
-use Rattle.atspi_members.specs.Table.{PropertyLine, property_lines}
-use Rattle.atspi_members.specs.Objects.{is_among}
-use Rattle.atspi_members.specs.Arguments.{int}
-use Rattle.atspi_members.specs.Asked.{Asked, gets, gets_all, sets, and_then, first_or, properties_of, property_named, property_of, set_to}
+use Rattle.atspi_protocol.specs.declared.ends.error.CallError.{CallError}
+use Rattle.atspi_protocol.specs.ends.Messages.{error_word}
+use Rattle.atspi_protocol.specs.declared.members.property.ObjectProperty.{ObjectProperty}
+use Rattle.atspi_protocol.specs.declared.members.property.ObjectProperty.TheVariants as properties
+use Rattle.atspi_protocol.specs.members.Interfaces as names
+use Rattle.atspi_protocol.specs.members.Table.{PropertyLine, property_lines}
+use Rattle.atspi_protocol.specs.members.Objects.{is_among}
+use Rattle.atspi_protocol.specs.members.Arguments.{int}
+use Rattle.atspi_protocol.specs.members.Asked.{Asked, gets, gets_all, sets, and_then, first_or, properties_of, property_named, property_of, set_to}
 use Rattle.atspi_calls.specs.Arguments.{IsSigned, IsNoSigned}
 use Rattle.atspi_calls.proofs.Words.{IsPlain, same_word, written_word}
 use Rattle.atspi_app_calls.specs.declared.interface.AppInterface.{AppInterface}

@@ -1,13 +1,13 @@
 -- What is asked of an application's objects, as the table of members has it.
 use Rattle.std.specs.Prelude.{◌≡◌, ℕ, true, false, List, codes, IsOkAnd, Result, Ok, Err}
 use Rattle.atspi_types.specs.Data.{Data}
-use Rattle.atspi_ends.specs.declared.error.CallError.{CallError}
-use Rattle.atspi_ends.specs.Messages.{error_word}
-use Rattle.atspi_members.specs.declared.property.ObjectProperty.{ObjectProperty}
-use Rattle.atspi_members.specs.declared.property.ObjectProperty.TheVariants as properties
-use Rattle.atspi_members.specs.Table.{PropertyLine}
-use Rattle.atspi_members.specs.Arguments.{int}
-use Rattle.atspi_members.specs.Asked.{Asked, calls, gets, gets_all, sets}
+use Rattle.atspi_protocol.specs.declared.ends.error.CallError.{CallError}
+use Rattle.atspi_protocol.specs.ends.Messages.{error_word}
+use Rattle.atspi_protocol.specs.declared.members.property.ObjectProperty.{ObjectProperty}
+use Rattle.atspi_protocol.specs.declared.members.property.ObjectProperty.TheVariants as properties
+use Rattle.atspi_protocol.specs.members.Table.{PropertyLine}
+use Rattle.atspi_protocol.specs.members.Arguments.{int}
+use Rattle.atspi_protocol.specs.members.Asked.{Asked, calls, gets, gets_all, sets}
 use Rattle.atspi_app_calls.specs.declared.ask.Ask.{Ask}
 use Rattle.atspi_app_calls.specs.declared.ask.Ask.TheVariants.{Call, Get, GetAll, SetId}
 use Rattle.atspi_app_calls.specs.declared.interface.AppInterface.{AppInterface}

@@ -1,7 +1,7 @@
 -- The interfaces that an application's objects have, with their names, and their lines of the tables.
 use Rattle.std.specs.Prelude.{◌≡◌, ◌≢◌, ℕ, List, filter, bytes_eq, Option, None, Some}
-use Rattle.atspi_members.specs.Interfaces as names
-use Rattle.atspi_members.specs.Table.{MemberLine, PropertyLine, member_lines, property_lines}
+use Rattle.atspi_protocol.specs.members.Interfaces as names
+use Rattle.atspi_protocol.specs.members.Table.{MemberLine, PropertyLine, member_lines, property_lines}
 use Rattle.atspi_app_calls.specs.declared.interface.AppInterface.{AppInterface}
 use Rattle.atspi_app_calls.specs.declared.interface.AppInterface.TheVariants as interfaces
 

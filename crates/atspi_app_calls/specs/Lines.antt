@@ -1,10 +1,10 @@
 -- Lines of the table of members by name: a member, and the signature of its arguments.
 use Rattle.std.specs.Prelude.{ℕ, List, [], ◌∷◌, Option, None, Some, bytes_eq, if◌then◌else◌}
 use Rattle.std.specs.Borrow.{Bor}
-use Rattle.atspi_members.specs.declared.member.ObjectMember.{ObjectMember}
-use Rattle.atspi_members.specs.declared.property.ObjectProperty.{ObjectProperty}
-use Rattle.atspi_members.specs.Table.{MemberLine, PropertyLine}
-use Rattle.atspi_members.specs.Objects.{Object, is_among}
+use Rattle.atspi_protocol.specs.declared.members.member.ObjectMember.{ObjectMember}
+use Rattle.atspi_protocol.specs.declared.members.property.ObjectProperty.{ObjectProperty}
+use Rattle.atspi_protocol.specs.members.Table.{MemberLine, PropertyLine}
+use Rattle.atspi_protocol.specs.members.Objects.{Object, is_among}
 use Rattle.atspi_app_calls.specs.declared.interface.AppInterface.{AppInterface}
 use Rattle.atspi_app_calls.specs.declared.object.AppObject.{AppObject}
 use Rattle.atspi_app_calls.specs.Interface.{interface_name, of_interface, lines_in}

@@ -1,7 +1,7 @@
 //! What is asked.
 
 use crate::interface::AppInterface;
-use atspi_members::{ObjectMember, ObjectProperty};
+use atspi_protocol::members::{ObjectMember, ObjectProperty};
 
 /// What a call asks of an object of an application.
 #[derive(Clone, Copy, Debug, PartialEq, Eq)]

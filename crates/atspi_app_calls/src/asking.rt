@@ -4,8 +4,8 @@ ghost use Rattle.std.specs.Prelude.{◌≡◌, ℕ, List, Option, Result, Ok, So
 ghost use Rattle.atspi_types.specs.Data.{Data};
 ghost use Rattle.atspi_header.specs.View.{envelope_at};
 ghost use Rattle.atspi_calls.specs.Arguments.{IsSigned};
-ghost use Rattle.atspi_members.specs.Asked as asked;
-ghost use Rattle.atspi_members.specs.Table.{PropertyLine};
+ghost use Rattle.atspi_protocol.specs.members.Asked as asked;
+ghost use Rattle.atspi_protocol.specs.members.Table.{PropertyLine};
 ghost use Rattle.atspi_app_calls.specs.Object.{object_of};
 ghost use Rattle.atspi_app_calls.specs.Ask.{as_asked, IsLine, IsFound, AreAll};
 
@@ -15,9 +15,9 @@ use crate::member::member_of;
 use crate::object::AppObject;
 use crate::properties::property_in;
 use atspi_calls::{first_text, second_text, third_set_signed};
-use atspi_ends::CallError;
 use atspi_header::MessageRef;
-use atspi_members::{ObjectMember, ObjectProperty};
+use atspi_protocol::ends::CallError;
+use atspi_protocol::members::{ObjectMember, ObjectProperty};
 
 /// The interface of this name, where the object has it.
 fn interface_of(object: AppObject, interface: &str) -> Result<AppInterface, CallError>

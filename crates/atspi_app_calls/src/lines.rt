@@ -1,13 +1,13 @@
 //! The lines of the table of members, by interface and name.
 
 ghost use Rattle.std.specs.Prelude.{◌≡◌};
-ghost use Rattle.atspi_members.specs.Interfaces as names;
-ghost use Rattle.atspi_members.specs.Table as table;
+ghost use Rattle.atspi_protocol.specs.members.Interfaces as names;
+ghost use Rattle.atspi_protocol.specs.members.Table as table;
 ghost use Rattle.atspi_app_calls.specs.Interface.{lines_in, of_interface};
 ghost use Rattle.atspi_app_calls.specs.Lines.{line_named, lent_line};
 
 use crate::interface::AppInterface;
-use atspi_members::ObjectMember;
+use atspi_protocol::members::ObjectMember;
 
 /// A member, and the codes of the types of its arguments.
 pub(crate) type Line = (ObjectMember, &'static [u8]);

@@ -4,7 +4,7 @@ ghost use Rattle.std.specs.Prelude.{◌≡◌, None, Some, true, bytes_eq};
 ghost use Rattle.atspi_header.specs.View.{bytes_of, envelope_at};
 ghost use Rattle.atspi_calls.specs.Errors.{as_word};
 ghost use Rattle.atspi_forest.specs.Forest as forest;
-ghost use Rattle.atspi_members.specs.Asked as asked;
+ghost use Rattle.atspi_protocol.specs.members.Asked as asked;
 ghost use Rattle.atspi_app_calls.specs.declared.interface.AppInterface.TheVariants as interfaces;
 ghost use Rattle.atspi_app_calls.specs.Object.{object_of};
 ghost use Rattle.atspi_app_calls.specs.Lines.{line_named, lent_line, offered_lines, meant_line, at};
@@ -12,9 +12,9 @@ ghost use Rattle.atspi_app_calls.specs.Lines.{line_named, lent_line, offered_lin
 use crate::interface::{AppInterface, interface_named};
 use crate::lines::{Line, line_in};
 use crate::object::AppObject;
-use atspi_ends::CallError;
 use atspi_header::MessageRef;
-use atspi_members::ObjectMember;
+use atspi_protocol::ends::CallError;
+use atspi_protocol::members::ObjectMember;
 
 /// The member of an interface that the object has, of this name.
 fn offered(object: AppObject, interface: AppInterface, name: &str) -> Option<Line>

@@ -2,8 +2,8 @@
 
 ghost use Rattle.std.specs.Prelude.{◌≡◌};
 ghost use Rattle.atspi_header.specs.View.{bytes_of};
-ghost use Rattle.atspi_members.specs.Asked as asked;
-ghost use Rattle.atspi_members.specs.Objects.{is_among};
+ghost use Rattle.atspi_protocol.specs.members.Asked as asked;
+ghost use Rattle.atspi_protocol.specs.members.Objects.{is_among};
 ghost use Rattle.atspi_app_calls.specs.Interface.{interface_name};
 ghost use Rattle.atspi_app_calls.specs.Object.{object_of};
 

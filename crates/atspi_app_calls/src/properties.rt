@@ -6,7 +6,7 @@ ghost use Rattle.atspi_app_calls.specs.Interface.{properties_in};
 ghost use Rattle.atspi_app_calls.specs.Lines.{property_first};
 
 use crate::interface::AppInterface;
-use atspi_members::ObjectProperty;
+use atspi_protocol::members::ObjectProperty;
 
 /// The property of Accessible of this name.
 fn of_accessible(name: &str) -> Option<ObjectProperty>

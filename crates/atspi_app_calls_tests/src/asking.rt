@@ -2,8 +2,8 @@
 
 use crate::calls::{NODE, ROOT, asks, one_number, one_text, two_numbers, two_texts};
 use atspi_app_calls::{AppInterface, AppObject, Ask};
-use atspi_ends::CallError;
-use atspi_members::{ObjectMember, ObjectProperty};
+use atspi_protocol::ends::CallError;
+use atspi_protocol::members::{ObjectMember, ObjectProperty};
 use atspi_types::Values;
 use std::process::Abort;
 use std::test::*;

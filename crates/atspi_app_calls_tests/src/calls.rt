@@ -5,10 +5,10 @@ ghost use Rattle.atspi_types.specs.DataView.{all_data};
 
 use atspi_app_calls::{AppObject, Ask, asked};
 use atspi_base::{Bytes, Text};
-use atspi_ends::CallError;
 use atspi_forest::Kinds;
 use atspi_header::MessageRef;
 use atspi_message::{Message, total};
+use atspi_protocol::ends::CallError;
 use atspi_types::{Interface, Member, Order, Path, Value, Values};
 use std::alloc::Global;
 use std::process::Abort;

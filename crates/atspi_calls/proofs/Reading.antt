@@ -5,7 +5,7 @@ use Rattle.std.specs.Int.{w32, cast_unsigned}
 use Rattle.std.proofs.lemmas.Str.{chars-nil}
 use Rattle.atspi_types.specs.Kinds.{Kind, i32, number, text, variant}
 use Rattle.atspi_types.specs.Data.{Data, number_data, text_data, variant_data, type_of}
-use Rattle.atspi_members.specs.Arguments.{characters_in, signed_in, value_in}
+use Rattle.atspi_protocol.specs.members.Arguments.{characters_in, signed_in, value_in}
 use Rattle.atspi_calls.specs.Arguments.{IsNoSigned, IsSigned}
 
 pub not_text : (d : Data) → (type_of d ≡ text → ⊥) → chars [] ≡ characters_in (Some d)

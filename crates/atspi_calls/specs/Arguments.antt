@@ -2,7 +2,7 @@
 use Rattle.std.specs.Prelude.{◌≡◌, ◌≢◌, ℤ, Option, None, Some}
 use Rattle.atspi_types.specs.Kinds.{number, i32}
 use Rattle.atspi_types.specs.Data.{Data, type_of}
-use Rattle.atspi_members.specs.Arguments.{int}
+use Rattle.atspi_protocol.specs.members.Arguments.{int}
 
 -- there is no value, or it is no signed number
 abbrev pub IsNoSigned : Option Data → Type 0

@@ -2,7 +2,7 @@
 
 ghost use Rattle.std.specs.Prelude.{◌≡◌, Some, chars};
 ghost use Rattle.atspi_cursor.specs.Items.{item_data, fields_data};
-ghost use Rattle.atspi_members.specs.Arguments.{characters_in, signed_in, text_at, signed_at, value_at, value_in};
+ghost use Rattle.atspi_protocol.specs.members.Arguments.{characters_in, signed_in, text_at, signed_at, value_at, value_in};
 ghost use Rattle.atspi_calls.specs.Arguments.{IsSigned};
 
 use atspi_cursor::{Fields, Item};

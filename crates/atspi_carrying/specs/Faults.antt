@@ -1,8 +1,8 @@
 -- What a fault of the bus, of an end or of a link is to a carrier.
 use Rattle.atspi_bus_steps.specs.declared.fault.BusFault.{BusFault}
 use Rattle.atspi_bus_steps.specs.declared.fault.BusFault.TheVariants as bus
-use Rattle.atspi_ends.specs.declared.fault.EndFault.{EndFault}
-use Rattle.atspi_ends.specs.declared.fault.EndFault.TheVariants as ends
+use Rattle.atspi_protocol.specs.declared.ends.fault.EndFault.{EndFault}
+use Rattle.atspi_protocol.specs.declared.ends.fault.EndFault.TheVariants as ends
 use Rattle.atspi_posts.specs.declared.fault.SendFault.{SendFault}
 use Rattle.atspi_posts.specs.declared.fault.SendFault.TheVariants as sends
 use Rattle.atspi_carrying.specs.declared.fault.CarryFault.{CarryFault}

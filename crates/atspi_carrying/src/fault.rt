@@ -6,8 +6,8 @@ ghost use Rattle.atspi_carrying.specs.Faults.{of_bus, of_end, of_send};
 
 use atspi_base::NoMemory;
 use atspi_bus_steps::BusFault;
-use atspi_ends::EndFault;
 use atspi_posts::SendFault;
+use atspi_protocol::ends::EndFault;
 use std::alloc::{AllocError, AllocFailed};
 use thiserror::Error;
 

@@ -14,7 +14,7 @@ use Rattle.atspi_forest.specs.Edits.{known_text}
 use Rattle.atspi_forest.proofs.Found.{count-has, find-has}
 use Rattle.atspi_forest.proofs.Lookup.{each-find, find-relabel}
 use Rattle.atspi_tree.specs.TreeShape.{TreeShape}
-use Rattle.atspi_whole.specs.Whole.{Faces, whole, filled, contents_of, as_text, as_columns, as_actions}
+use Rattle.atspi_protocol.specs.whole.Whole.{Faces, whole, filled, contents_of, as_text, as_columns, as_actions}
 use Rattle.atspi_text_values.specs.Texts.{KeepsText}
 use Rattle.atspi_contents_values.specs.Actions.{actions_in}
 use Rattle.atspi_contents_values.specs.Numbers.{columns_in}

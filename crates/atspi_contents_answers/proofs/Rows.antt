@@ -8,11 +8,11 @@ use Rattle.atspi_forest.specs.declared.contents.FaceData.TheVariants.{Chars, Gri
 use Rattle.atspi_forest.specs.Row.{ShapeRow, TreeRow, TextContents}
 use Rattle.atspi_forest.specs.Edits.{known_text}
 use Rattle.atspi_tree.specs.TreeShape.{TreeShape}
-use Rattle.atspi_whole.specs.Whole.{Faces, filled, as_text}
-use Rattle.atspi_objects.specs.Application.{Application}
-use Rattle.atspi_objects.specs.Values.{reference_or_null}
-use Rattle.atspi_objects.specs.Children as children
-use Rattle.atspi_objects.specs.Texts.{text_of}
+use Rattle.atspi_protocol.specs.whole.Whole.{Faces, filled, as_text}
+use Rattle.atspi_protocol.specs.objects.Application.{Application}
+use Rattle.atspi_protocol.specs.objects.Values.{reference_or_null}
+use Rattle.atspi_protocol.specs.objects.Children as children
+use Rattle.atspi_protocol.specs.objects.Texts.{text_of}
 use Rattle.atspi_node_values.specs.Numbers.{numbered_or_null}
 use Rattle.atspi_text_values.specs.Texts.{text_at}
 use Rattle.atspi_contents_values.specs.Seen.{seen}

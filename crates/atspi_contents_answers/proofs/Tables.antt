@@ -7,13 +7,13 @@ use Rattle.atspi_types.specs.Data.{array_data, items_of}
 use Rattle.atspi_forest.specs.Row.{TreeRow}
 use Rattle.atspi_forest.specs.Edits.{numbers_to}
 use Rattle.atspi_forest.proofs.Lookup.{each_take, each_drop}
-use Rattle.atspi_members.specs.Arguments.{int}
+use Rattle.atspi_protocol.specs.members.Arguments.{int}
 use Rattle.atspi_tree.specs.TreeShape.{TreeShape, IsLawful, children_of}
-use Rattle.atspi_whole.specs.Whole.{Faces}
-use Rattle.atspi_objects.specs.Application.{Application}
-use Rattle.atspi_objects.specs.Values.{count_data, reference_or_null}
-use Rattle.atspi_objects.specs.Children as children
-use Rattle.atspi_objects.specs.Tables as tables
+use Rattle.atspi_protocol.specs.whole.Whole.{Faces}
+use Rattle.atspi_protocol.specs.objects.Application.{Application}
+use Rattle.atspi_protocol.specs.objects.Values.{count_data, reference_or_null}
+use Rattle.atspi_protocol.specs.objects.Children as children
+use Rattle.atspi_protocol.specs.objects.Tables as tables
 use Rattle.atspi_node_values.specs.Numbers.{numbered_or_null}
 use Rattle.atspi_contents_values.specs.Places.{place_of}
 use Rattle.atspi_contents_values.specs.Numbers.{is_selected, is_selected_there, cell_in, node_at, row_in, column_in, is_selected_row, is_selected_row_there, rows_selected}

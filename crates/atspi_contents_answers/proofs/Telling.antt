@@ -7,19 +7,19 @@ use Rattle.atspi_types.specs.Data.{Data, text_data, boolean_data, array_data, it
 use Rattle.atspi_forest.specs.declared.contents.FaceData.{FaceData}
 use Rattle.atspi_forest.specs.declared.contents.FaceData.TheVariants.{Chars, Grid, Deeds}
 use Rattle.atspi_forest.specs.Row.{ShapeRow, TextContents}
-use Rattle.atspi_members.specs.declared.member.ObjectMember.{ObjectMember}
-use Rattle.atspi_members.specs.declared.member.ObjectMember.TheVariants.{GetText, GetCharacterAtOffset, GetNSelections, GetSelection, GetSelectedChild, IsChildSelected, GetAccessibleAt, GetIndexAt, GetRowAtIndex, GetColumnAtIndex, GetSelectedRows, IsRowSelected, IsSelected, GetName, GetDescription, GetKeyBinding, GetActions}
-use Rattle.atspi_members.specs.declared.property.ObjectProperty.TheVariants.{CharacterCount, CaretOffset, NSelectedChildren, NRows, NColumns, NActions}
-use Rattle.atspi_members.specs.Arguments.{signed_at}
+use Rattle.atspi_protocol.specs.declared.members.member.ObjectMember.{ObjectMember}
+use Rattle.atspi_protocol.specs.declared.members.member.ObjectMember.TheVariants.{GetText, GetCharacterAtOffset, GetNSelections, GetSelection, GetSelectedChild, IsChildSelected, GetAccessibleAt, GetIndexAt, GetRowAtIndex, GetColumnAtIndex, GetSelectedRows, IsRowSelected, IsSelected, GetName, GetDescription, GetKeyBinding, GetActions}
+use Rattle.atspi_protocol.specs.declared.members.property.ObjectProperty.TheVariants.{CharacterCount, CaretOffset, NSelectedChildren, NRows, NColumns, NActions}
+use Rattle.atspi_protocol.specs.members.Arguments.{signed_at}
 use Rattle.atspi_tree.specs.TreeShape.{TreeShape, IsLawful, row_of, children_of}
 use Rattle.atspi_face.specs.Nodes.{Nodes}
-use Rattle.atspi_whole.specs.Whole.{Faces, filled, as_columns, as_actions}
-use Rattle.atspi_objects.specs.Application.{Application}
-use Rattle.atspi_objects.specs.Values.{count_data}
-use Rattle.atspi_objects.specs.Children as children
-use Rattle.atspi_objects.specs.Texts.{text_of, part_of, character_data, selection_data}
-use Rattle.atspi_objects.specs.Tables as tables
-use Rattle.atspi_objects.specs.Answers.{tells_all, name_data, actions_data}
+use Rattle.atspi_protocol.specs.whole.Whole.{Faces, filled, as_columns, as_actions}
+use Rattle.atspi_protocol.specs.objects.Application.{Application}
+use Rattle.atspi_protocol.specs.objects.Values.{count_data}
+use Rattle.atspi_protocol.specs.objects.Children as children
+use Rattle.atspi_protocol.specs.objects.Texts.{text_of, part_of, character_data, selection_data}
+use Rattle.atspi_protocol.specs.objects.Tables as tables
+use Rattle.atspi_protocol.specs.objects.Answers.{tells_all, name_data, actions_data}
 use Rattle.atspi_node_values.specs.Numbers.{numbered_or_null}
 use Rattle.atspi_contents_values.specs.Places.{place_of}
 use Rattle.atspi_text_values.specs.Texts.{text_at}

@@ -4,14 +4,14 @@ use Rattle.atspi_types.specs.Data.{Data}
 use Rattle.atspi_forest.specs.Row.{ShapeRow}
 use Rattle.atspi_tree.specs.TreeShape.{TreeShape, row_of}
 use Rattle.atspi_face.specs.Nodes.{Nodes}
-use Rattle.atspi_whole.specs.Whole.{Faces, filled}
-use Rattle.atspi_members.specs.declared.member.ObjectMember.{ObjectMember}
-use Rattle.atspi_members.specs.declared.member.ObjectMember.TheVariants.{GetText, GetCharacterAtOffset, GetNSelections, GetSelection, GetSelectedChild, IsChildSelected, GetAccessibleAt, GetIndexAt, GetRowAtIndex, GetColumnAtIndex, GetSelectedRows, IsRowSelected, IsSelected, GetName, GetDescription, GetKeyBinding, GetActions}
-use Rattle.atspi_members.specs.declared.property.ObjectProperty.{ObjectProperty}
-use Rattle.atspi_members.specs.declared.property.ObjectProperty.TheVariants.{CharacterCount, CaretOffset, NSelectedChildren, NRows, NColumns, NActions}
-use Rattle.atspi_objects.specs.Properties.{property_data}
-use Rattle.atspi_objects.specs.Tables.{columns_of}
-use Rattle.atspi_objects.specs.Answers.{called, tells_all}
+use Rattle.atspi_protocol.specs.whole.Whole.{Faces, filled}
+use Rattle.atspi_protocol.specs.declared.members.member.ObjectMember.{ObjectMember}
+use Rattle.atspi_protocol.specs.declared.members.member.ObjectMember.TheVariants.{GetText, GetCharacterAtOffset, GetNSelections, GetSelection, GetSelectedChild, IsChildSelected, GetAccessibleAt, GetIndexAt, GetRowAtIndex, GetColumnAtIndex, GetSelectedRows, IsRowSelected, IsSelected, GetName, GetDescription, GetKeyBinding, GetActions}
+use Rattle.atspi_protocol.specs.declared.members.property.ObjectProperty.{ObjectProperty}
+use Rattle.atspi_protocol.specs.declared.members.property.ObjectProperty.TheVariants.{CharacterCount, CaretOffset, NSelectedChildren, NRows, NColumns, NActions}
+use Rattle.atspi_protocol.specs.objects.Properties.{property_data}
+use Rattle.atspi_protocol.specs.objects.Tables.{columns_of}
+use Rattle.atspi_protocol.specs.objects.Answers.{called, tells_all}
 use Rattle.atspi_contents_values.specs.Seen.{faces_of, seen}
 
 -- of a node that is there, these values, and nothing is changed

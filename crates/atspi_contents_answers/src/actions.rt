@@ -12,8 +12,8 @@ use atspi_calls::first_signed;
 use atspi_contents_values::{action_list, action_name};
 use atspi_cursor::Fields;
 use atspi_face::{Face, FaceKind};
-use atspi_members::ObjectMember;
 use atspi_node_values::literal;
+use atspi_protocol::members::ObjectMember;
 use atspi_types::Value;
 use std::alloc::Global;
 

@@ -6,7 +6,7 @@ ghost use Rattle.atspi_forest.specs.Forest.{has};
 ghost use Rattle.atspi_forest.specs.RowRules.{rows};
 ghost use Rattle.atspi_forest.specs.Tree.{is_shape, IsTree};
 ghost use Rattle.atspi_tree.specs.TreeShape.{TreeShape};
-ghost use Rattle.atspi_whole.specs.Whole.{Faces, whole};
+ghost use Rattle.atspi_protocol.specs.whole.Whole.{Faces, whole};
 ghost use Rattle.atspi_text_values.specs.Texts.{KeepsText};
 ghost use Rattle.atspi_contents_values.specs.Seen.{KeepsContents};
 

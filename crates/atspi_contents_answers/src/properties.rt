@@ -6,8 +6,8 @@ ghost use Rattle.atspi_types.specs.DataView.{data_of};
 ghost use Rattle.atspi_forest.specs.Forest.{has};
 ghost use Rattle.atspi_forest.specs.Tree.{is_shape};
 ghost use Rattle.atspi_face.specs.Nodes.{Nodes};
-ghost use Rattle.atspi_whole.specs.Whole.{Faces};
-ghost use Rattle.atspi_objects.specs.Values.{count_data};
+ghost use Rattle.atspi_protocol.specs.whole.Whole.{Faces};
+ghost use Rattle.atspi_protocol.specs.objects.Values.{count_data};
 ghost use Rattle.atspi_contents_values.specs.Actions.{actions_in};
 ghost use Rattle.atspi_contents_values.specs.Numbers.{columns_in};
 ghost use Rattle.atspi_contents_values.specs.Seen.{faces_of, KeepsContents};
@@ -15,8 +15,8 @@ ghost use Rattle.atspi_contents_answers.specs.Told.{IsProperty, is_contents_prop
 
 use atspi_contents_values::{action_count, cells_of, column_count, row_count, selected_count};
 use atspi_face::{Face, FaceKind};
-use atspi_members::ObjectProperty;
 use atspi_node_values::count;
+use atspi_protocol::members::ObjectProperty;
 use atspi_text_values::{caret, character_count};
 use atspi_tree::Tree;
 use atspi_types::Value;

@@ -16,7 +16,7 @@ use atspi_base::{NoMemory, Text};
 use atspi_contents_values::column_count;
 use atspi_cursor::Fields;
 use atspi_face::Face;
-use atspi_members::ObjectMember;
+use atspi_protocol::members::ObjectMember;
 use atspi_tree::Tree;
 use atspi_types::Values;
 use std::alloc::Global;

@@ -6,7 +6,7 @@ ghost use Rattle.atspi_types.specs.DataView.{data_of};
 ghost use Rattle.atspi_cursor.specs.Items.{fields_data};
 ghost use Rattle.atspi_forest.specs.Forest.{has};
 ghost use Rattle.atspi_forest.specs.Tree.{is_shape};
-ghost use Rattle.atspi_objects.specs.Tables.{index_or_none};
+ghost use Rattle.atspi_protocol.specs.objects.Tables.{index_or_none};
 ghost use Rattle.atspi_contents_values.specs.Numbers.{IsFew};
 ghost use Rattle.atspi_contents_answers.specs.Told.{TellsCells, reads_table};
 
@@ -17,8 +17,8 @@ use atspi_contents_values::{
     selected_rows,
 };
 use atspi_cursor::Fields;
-use atspi_members::ObjectMember;
 use atspi_node_values::{count, reference_or_null, signed};
+use atspi_protocol::members::ObjectMember;
 use atspi_tree::Tree;
 use atspi_types::{Ty, Value};
 use std::alloc::Global;

@@ -11,7 +11,7 @@ use atspi_base::NoMemory;
 use atspi_calls::{first_signed, second_signed};
 use atspi_cursor::Fields;
 use atspi_face::Face;
-use atspi_members::ObjectMember;
+use atspi_protocol::members::ObjectMember;
 use atspi_text_values::{character, part, selection, selection_count};
 use atspi_types::{Value, Values};
 use std::alloc::Global;

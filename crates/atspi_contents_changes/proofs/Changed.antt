@@ -16,18 +16,18 @@ use Rattle.atspi_forest.specs.Row.{ShapeRow, TreeRow, TextContents, Each, IsText
 use Rattle.atspi_forest.specs.States.{has_state}
 use Rattle.atspi_forest.specs.Tree.{is_shape, is_node}
 use Rattle.atspi_forest.specs.Edits.{known_text, text_contents, action_contents, contents_read}
-use Rattle.atspi_members.specs.declared.member.ObjectMember.{ObjectMember}
-use Rattle.atspi_members.specs.declared.member.ObjectMember.TheVariants.{SetCaretOffset, AddSelection, RemoveSelection, SetSelection, SetTextContents, InsertText, DeleteText, SelectChild, DeselectChild, DeselectSelectedChild, SelectAll, ClearSelection, DoAction}
-use Rattle.atspi_members.specs.Arguments.{signed_at, text_at as text_argument}
+use Rattle.atspi_protocol.specs.declared.members.member.ObjectMember.{ObjectMember}
+use Rattle.atspi_protocol.specs.declared.members.member.ObjectMember.TheVariants.{SetCaretOffset, AddSelection, RemoveSelection, SetSelection, SetTextContents, InsertText, DeleteText, SelectChild, DeselectChild, DeselectSelectedChild, SelectAll, ClearSelection, DoAction}
+use Rattle.atspi_protocol.specs.members.Arguments.{signed_at, text_at as text_argument}
 use Rattle.atspi_tree.specs.TreeShape.{TreeShape, IsLawful, row_of, children_of}
 use Rattle.atspi_edits.specs.Answers.{IsKnown, edit_steps}
 use Rattle.atspi_face.specs.Nodes.{Nodes}
-use Rattle.atspi_whole.specs.Whole.{Faces, whole, filled}
-use Rattle.atspi_objects.specs.Application.{Application}
-use Rattle.atspi_objects.specs.Children as children
-use Rattle.atspi_objects.specs.Texts.{text_of}
-use Rattle.atspi_objects.specs.Changes.{edited, edited_at, edited_between, text_exchanged, selection_removed, selection_set, selected_child_off, all_selected, none_selected}
-use Rattle.atspi_objects.specs.Answers.{called, changes}
+use Rattle.atspi_protocol.specs.whole.Whole.{Faces, whole, filled}
+use Rattle.atspi_protocol.specs.objects.Application.{Application}
+use Rattle.atspi_protocol.specs.objects.Children as children
+use Rattle.atspi_protocol.specs.objects.Texts.{text_of}
+use Rattle.atspi_protocol.specs.objects.Changes.{edited, edited_at, edited_between, text_exchanged, selection_removed, selection_set, selected_child_off, all_selected, none_selected}
+use Rattle.atspi_protocol.specs.objects.Answers.{called, changes}
 use Rattle.atspi_contents_values.specs.Places.{place_of}
 use Rattle.atspi_text_values.specs.Texts.{text_at, text_or_none, contents_at, KeepsText}
 use Rattle.atspi_contents_values.specs.Numbers.{is_selected, node_at, selected_among}

@@ -13,10 +13,10 @@ use Rattle.atspi_forest.specs.Edits.{contents_read, steps_of, steps_of_tree}
 use Rattle.atspi_forest.proofs.Lookup.{find-relabel}
 use Rattle.atspi_tree.specs.TreeShape.{TreeShape, row_of}
 use Rattle.atspi_edits.specs.Answers.{edit_steps}
-use Rattle.atspi_whole.specs.Whole.{Faces, whole, filled}
-use Rattle.atspi_whole.proofs.Followed.{shape_is_kept}
-use Rattle.atspi_objects.specs.Application.{Application}
-use Rattle.atspi_objects.specs.Changes.{edited, edited_at, edited_between}
+use Rattle.atspi_protocol.specs.whole.Whole.{Faces, whole, filled}
+use Rattle.atspi_protocol.proofs.OfWhole.Followed.{shape_is_kept}
+use Rattle.atspi_protocol.specs.objects.Application.{Application}
+use Rattle.atspi_protocol.specs.objects.Changes.{edited, edited_at, edited_between}
 use Rattle.atspi_contents_values.specs.Places.{place_of}
 use Rattle.atspi_contents_values.specs.Seen.{seen}
 use Rattle.atspi_contents_changes.specs.Steps.{granted, at_place, at_places}

@@ -18,11 +18,11 @@ use Rattle.atspi_forest.proofs.Lookup.{find-change}
 use Rattle.atspi_forest.proofs.Relabel.{unseen-change}
 use Rattle.atspi_tree.specs.TreeShape.{TreeShape, row_of}
 use Rattle.atspi_edits.specs.Answers.{IsKnown, edit_steps}
-use Rattle.atspi_whole.specs.Whole.{Faces, whole, filled}
-use Rattle.atspi_whole.proofs.Followed.{shape_is_kept}
-use Rattle.atspi_objects.specs.Application.{Application}
-use Rattle.atspi_objects.specs.Changes.{edited, edited_twice, text_exchanged}
-use Rattle.atspi_objects.specs.Texts.{text_of}
+use Rattle.atspi_protocol.specs.whole.Whole.{Faces, whole, filled}
+use Rattle.atspi_protocol.proofs.OfWhole.Followed.{shape_is_kept}
+use Rattle.atspi_protocol.specs.objects.Application.{Application}
+use Rattle.atspi_protocol.specs.objects.Changes.{edited, edited_twice, text_exchanged}
+use Rattle.atspi_protocol.specs.objects.Texts.{text_of}
 use Rattle.atspi_contents_values.specs.Seen.{seen}
 use Rattle.atspi_contents_changes.specs.Steps.{granted, and_more, exchanged}
 use Rattle.atspi_contents_changes.proofs.EditLemmas.{steps_granted, found, edited_is}

@@ -9,12 +9,12 @@ use Rattle.atspi_forest.specs.declared.contents.FaceData.TheVariants.{Chars, Gri
 use Rattle.atspi_forest.specs.declared.step.Step.{Step}
 use Rattle.atspi_forest.specs.Row.{ShapeRow, TextContents, IsText}
 use Rattle.atspi_forest.specs.Edits.{known_text, text_contents, action_contents}
-use Rattle.atspi_members.specs.declared.member.ObjectMember.{ObjectMember}
-use Rattle.atspi_members.specs.declared.member.ObjectMember.TheVariants.{DoAction}
+use Rattle.atspi_protocol.specs.declared.members.member.ObjectMember.{ObjectMember}
+use Rattle.atspi_protocol.specs.declared.members.member.ObjectMember.TheVariants.{DoAction}
 use Rattle.atspi_tree.specs.TreeShape.{TreeShape, row_of}
 use Rattle.atspi_edits.specs.Answers.{IsKnown}
 use Rattle.atspi_face.specs.Nodes.{Nodes}
-use Rattle.atspi_whole.specs.Whole.{Faces, filled, as_text, as_actions}
+use Rattle.atspi_protocol.specs.whole.Whole.{Faces, filled, as_text, as_actions}
 use Rattle.atspi_text_values.specs.Texts.{text_at, text_or_none, contents_at}
 use Rattle.atspi_contents_values.specs.Actions.{actions_in}
 use Rattle.atspi_contents_values.specs.Seen.{faces_of}

@@ -7,10 +7,10 @@ use Rattle.atspi_forest.specs.Row.{ShapeRow}
 use Rattle.atspi_forest.specs.Edits.{text_contents, action_contents}
 use Rattle.atspi_tree.specs.TreeShape.{TreeShape, row_of}
 use Rattle.atspi_face.specs.Nodes.{Nodes}
-use Rattle.atspi_whole.specs.Whole.{Faces, filled}
-use Rattle.atspi_members.specs.declared.member.ObjectMember.{ObjectMember}
-use Rattle.atspi_members.specs.declared.member.ObjectMember.TheVariants.{SetCaretOffset, AddSelection, RemoveSelection, SetSelection, SetTextContents, InsertText, DeleteText, SelectChild, DeselectChild, DeselectSelectedChild, SelectAll, ClearSelection, DoAction}
-use Rattle.atspi_objects.specs.Answers.{called, changes}
+use Rattle.atspi_protocol.specs.whole.Whole.{Faces, filled}
+use Rattle.atspi_protocol.specs.declared.members.member.ObjectMember.{ObjectMember}
+use Rattle.atspi_protocol.specs.declared.members.member.ObjectMember.TheVariants.{SetCaretOffset, AddSelection, RemoveSelection, SetSelection, SetTextContents, InsertText, DeleteText, SelectChild, DeselectChild, DeselectSelectedChild, SelectAll, ClearSelection, DoAction}
+use Rattle.atspi_protocol.specs.objects.Answers.{called, changes}
 use Rattle.atspi_contents_values.specs.Seen.{faces_of, seen}
 
 -- of a node that is there and whose contents the faces keep, these steps, or that nothing is changed

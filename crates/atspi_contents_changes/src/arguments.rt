@@ -2,7 +2,7 @@
 
 ghost use Rattle.std.specs.Prelude.{◌≡◌, Some, IfOk};
 ghost use Rattle.atspi_cursor.specs.Items.{item_data, fields_data};
-ghost use Rattle.atspi_members.specs.Arguments.{characters_in, text_at};
+ghost use Rattle.atspi_protocol.specs.members.Arguments.{characters_in, text_at};
 ghost use Rattle.atspi_contents_values.specs.Places.{place_of};
 
 use atspi_base::{NoMemory, Text};

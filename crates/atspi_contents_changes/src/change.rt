@@ -15,7 +15,7 @@ use atspi_contents_values::known_actions;
 use atspi_cursor::Fields;
 use atspi_face::{Face, FaceKind};
 use atspi_forest::StepList;
-use atspi_members::ObjectMember;
+use atspi_protocol::members::ObjectMember;
 use atspi_text_values::known_text;
 use atspi_tree::Tree;
 use std::alloc::Global;

@@ -19,7 +19,7 @@ use atspi_calls::first_signed;
 use atspi_contents_values::{is_selected, place_of, selected_child};
 use atspi_cursor::Fields;
 use atspi_forest::{Edit, FaceData, Step, StepList};
-use atspi_members::ObjectMember;
+use atspi_protocol::members::ObjectMember;
 use atspi_tree::Tree;
 use std::alloc::Global;
 

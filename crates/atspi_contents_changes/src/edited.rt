@@ -13,7 +13,7 @@ use atspi_calls::first_signed;
 use atspi_cursor::Fields;
 use atspi_edits::{EditRefused, steps_of};
 use atspi_forest::{Edit, FaceData, StepList};
-use atspi_members::ObjectMember;
+use atspi_protocol::members::ObjectMember;
 use atspi_tree::Tree;
 use std::alloc::Global;
 

@@ -17,7 +17,7 @@ use atspi_calls::{first_signed, second_signed, third_signed};
 use atspi_contents_values::{empty, place_of};
 use atspi_cursor::Fields;
 use atspi_forest::{Edit, FaceData, StepList};
-use atspi_members::ObjectMember;
+use atspi_protocol::members::ObjectMember;
 use atspi_tree::Tree;
 use std::alloc::Global;
 

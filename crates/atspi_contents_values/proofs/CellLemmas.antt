@@ -13,7 +13,7 @@ use Rattle.atspi_forest.specs.Edits.{numbers_to}
 use Rattle.atspi_tree.specs.TreeShape.{TreeShape, IsLawful, children_of}
 use Rattle.atspi_tree.proofs.Walks.{index_small}
 use Rattle.atspi_edits.proofs.Switched.{below, all_below}
-use Rattle.atspi_objects.specs.Values.{count_data}
+use Rattle.atspi_protocol.specs.objects.Values.{count_data}
 use Rattle.atspi_contents_values.specs.Numbers.{is_selected, cell_in, row_in, column_in, is_selected_row, rows_selected}
 
 -- a node has few children

@@ -10,7 +10,7 @@ use Rattle.atspi_forest.specs.declared.contents.FaceKind.{FaceKind}
 use Rattle.atspi_forest.specs.declared.contents.FaceKind.TheVariants.{Grid as grid_kind, Deeds as deeds_kind}
 use Rattle.atspi_face.specs.Contents.{count_of, part_of, IsPart}
 use Rattle.atspi_face.specs.Nodes.{Nodes, AreContents, HasPart, count_at, part_at}
-use Rattle.atspi_objects.specs.Answers.{name_data}
+use Rattle.atspi_protocol.specs.objects.Answers.{name_data}
 use Rattle.atspi_contents_values.specs.Actions.{actions_in, name_or_empty}
 use Rattle.atspi_contents_values.specs.Numbers.{columns_in}
 

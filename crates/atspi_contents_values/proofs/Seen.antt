@@ -13,9 +13,9 @@ use Rattle.atspi_forest.specs.Tree.{is_shape, is_node}
 use Rattle.atspi_forest.proofs.Found.{find-passes}
 use Rattle.atspi_forest.proofs.Lookup.{children-relabel}
 use Rattle.atspi_tree.specs.TreeShape.{TreeShape, IsLawful, row_of, children_of}
-use Rattle.atspi_whole.specs.Whole.{Faces, filled, whole}
-use Rattle.atspi_objects.specs.Application.{Application}
-use Rattle.atspi_objects.specs.Children as children
+use Rattle.atspi_protocol.specs.whole.Whole.{Faces, filled, whole}
+use Rattle.atspi_protocol.specs.objects.Application.{Application}
+use Rattle.atspi_protocol.specs.objects.Children as children
 use Rattle.atspi_contents_values.specs.Numbers.{is_selected, is_selected_there, selected_among, node_at}
 use Rattle.atspi_contents_values.specs.Seen.{seen}
 use Rattle.atspi_contents_values.proofs.Found.{states_found}

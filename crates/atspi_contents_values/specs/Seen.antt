@@ -6,8 +6,8 @@ use Rattle.atspi_forest.specs.declared.contents.Kinds.{Kinds}
 use Rattle.atspi_forest.specs.Row.{IsContents}
 use Rattle.atspi_tree.specs.TreeShape.{TreeShape}
 use Rattle.atspi_face.specs.Nodes.{Nodes}
-use Rattle.atspi_whole.specs.Whole.{Faces, whole, contents_of}
-use Rattle.atspi_objects.specs.Application.{Application}
+use Rattle.atspi_protocol.specs.whole.Whole.{Faces, whole, contents_of}
+use Rattle.atspi_protocol.specs.objects.Application.{Application}
 
 abbrev pub faces_of : Nodes → Nodes → Nodes → Faces
 faces_of texts columns actions = record { chars = texts; grid = columns; deeds = actions }

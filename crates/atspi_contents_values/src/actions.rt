@@ -7,8 +7,8 @@ ghost use Rattle.atspi_types.specs.KindView.{kind_of};
 ghost use Rattle.atspi_types.specs.Data.{text_data, structure_data, items_of};
 ghost use Rattle.atspi_types.specs.DataView.{data_of};
 ghost use Rattle.atspi_forest.specs.declared.contents.FaceData.TheVariants as contents;
-ghost use Rattle.atspi_objects.specs.Answers.{name_data, actions_data};
-ghost use Rattle.atspi_objects.specs.Children as children;
+ghost use Rattle.atspi_protocol.specs.objects.Answers.{name_data, actions_data};
+ghost use Rattle.atspi_protocol.specs.objects.Children as children;
 ghost use Rattle.atspi_contents_values.specs.Actions.{actions_in, name_or_empty};
 
 use crate::values::empty;

@@ -5,7 +5,7 @@ ghost use Rattle.std.specs.Prelude.{◌≡◌, ◌<◌, ◌≤◌, ◌/◌, ◌*
 ghost use Rattle.atspi_types.specs.DataView.{all_data};
 ghost use Rattle.atspi_forest.specs.Forest.{has};
 ghost use Rattle.atspi_forest.specs.Tree.{is_shape};
-ghost use Rattle.atspi_objects.specs.Values as values;
+ghost use Rattle.atspi_protocol.specs.objects.Values as values;
 ghost use Rattle.atspi_tree.specs.TreeShape.{IsLawful, children_of};
 ghost use Rattle.atspi_contents_values.specs.Numbers.{IsFew, columns_in, cell_in, node_at, row_in, column_in, is_selected_row, is_selected_row_there, rows_selected};
 

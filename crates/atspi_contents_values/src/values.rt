@@ -2,7 +2,7 @@
 
 ghost use Rattle.std.specs.Prelude.{◌≡◌, ◌≤◌, [], IfOk};
 ghost use Rattle.atspi_types.specs.DataView.{data_of};
-ghost use Rattle.atspi_objects.specs.Values.{count_data};
+ghost use Rattle.atspi_protocol.specs.objects.Values.{count_data};
 ghost use Rattle.atspi_contents_values.specs.Places.{place_of};
 ghost use Rattle.atspi_contents_values.specs.Numbers.{node_at};
 

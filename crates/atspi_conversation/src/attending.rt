@@ -1,11 +1,11 @@
 //! What an end is told: the messages of its stream.
 
 ghost use Rattle.std.specs.Prelude.{◌≡◌, IfOk, IsErrOf, length};
-ghost use Rattle.atspi_ends.specs.declared.fault.EndFault.{EndFault};
+ghost use Rattle.atspi_protocol.specs.declared.ends.fault.EndFault.{EndFault};
 ghost use Rattle.atspi_conversation.specs.Talking.{AttendsAll, AttendsToSpent};
 
 use crate::BusEnd;
-use atspi_ends::EndFault;
+use atspi_protocol::ends::EndFault;
 use atspi_stream::{Feeder, Got};
 use atspi_types::Fault;
 

@@ -3,12 +3,12 @@
 ghost use Rattle.std.specs.Prelude.{◌≡◌, ◌<◌, ℕ, List, IfNone, IfSome, IsErrOf, OnOk, OnErr};
 ghost use Rattle.atspi_message.specs.Envelope.{Envelope, envelope_of};
 ghost use Rattle.atspi_header.specs.View.{envelope_at};
-ghost use Rattle.atspi_ends.specs.declared.fault.EndFault.{EndFault};
+ghost use Rattle.atspi_protocol.specs.declared.ends.fault.EndFault.{EndFault};
 ghost use Rattle.atspi_conversation.specs.Talking.{Takes, HandsOut, MaySend};
 
-use atspi_ends::EndFault;
 use atspi_header::MessageRef;
 use atspi_message::Message;
+use atspi_protocol::ends::EndFault;
 
 /// An end of the bus: it takes messages, and hands out its own.
 pub trait BusEnd {

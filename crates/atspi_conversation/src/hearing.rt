@@ -11,7 +11,7 @@ use crate::speaking::say;
 use crate::{BusEnd, Ending};
 use atspi_auth::AuthFault;
 use atspi_base::NoMemory;
-use atspi_ends::EndFault;
+use atspi_protocol::ends::EndFault;
 
 impl Conversation {
     /// Hears a piece of what the peer sends: lines of authentication, and behind them bytes of messages.

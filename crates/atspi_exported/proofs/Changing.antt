@@ -15,7 +15,7 @@ use Rattle.atspi_face.specs.declared.change.Change.TheVariants as changes
 use Rattle.atspi_face.specs.Contents.{IsChange}
 use Rattle.atspi_face.specs.Nodes.{Nodes}
 use Rattle.atspi_tree.specs.TreeShape.{TreeShape, after_step}
-use Rattle.atspi_whole.specs.Whole.{Faces, as_text, whole}
+use Rattle.atspi_protocol.specs.whole.Whole.{Faces, as_text, whole}
 use Rattle.atspi_exported.specs.Parts.{Parts, parts, faces_of}
 use Rattle.atspi_exported.proofs.Known.{row_text}
 use Rattle.atspi_exported.specs.Doing.{after_parts, IsOfText, IsOfShape, CanDo, text_after}

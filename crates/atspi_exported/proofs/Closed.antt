@@ -12,7 +12,7 @@ use Rattle.atspi_tree.specs.TreeShape.{TreeShape, IsLawful}
 use Rattle.atspi_tree.specs.declared.seats.Seat.{Seat}
 use Rattle.atspi_tree.proofs.Leaf.{picked_one}
 use Rattle.atspi_face.specs.Nodes.{Nodes}
-use Rattle.atspi_whole.specs.Whole.{without}
+use Rattle.atspi_protocol.specs.whole.Whole.{without}
 
 abbrev pub numbers_at : List Seat → List ℕ
 numbers_at seats = map (λ (s : Seat). s.node) seats

@@ -9,7 +9,7 @@ use Rattle.atspi_forest.specs.declared.contents.FaceKind.{FaceKind}
 use Rattle.atspi_forest.specs.declared.contents.FaceData.{FaceData}
 use Rattle.atspi_face.specs.Contents.{kind_of, caret_of, count_of, IsContents}
 use Rattle.atspi_face.specs.Nodes.{Nodes, AreContents, IsNext}
-use Rattle.atspi_whole.proofs.Faces.{put_there, put_elsewhere, same_key, other_key}
+use Rattle.atspi_protocol.proofs.OfWhole.Faces.{put_there, put_elsewhere, same_key, other_key}
 use Rattle.atspi_exported.specs.Parts.{AreSmall, IsEmpty}
 
 same_by : (a b : ℕ) (r : Bool) → eqb a b ≡ r → (a ≡ b) ⊎ (a ≡ b → ⊥)

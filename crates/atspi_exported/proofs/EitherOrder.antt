@@ -12,7 +12,7 @@ use Rattle.atspi_face.specs.declared.change.Change.{Change}
 use Rattle.atspi_face.specs.declared.change.Change.TheVariants as changes
 use Rattle.atspi_face.specs.Contents.{kind_of, caret_of, IsChange, IsContents, changed}
 use Rattle.atspi_face.specs.Nodes.{Nodes, AreContents, CanChange, HasText, caret_at, changed_at}
-use Rattle.atspi_whole.proofs.Faces.{put_there, put_elsewhere}
+use Rattle.atspi_protocol.proofs.OfWhole.Faces.{put_there, put_elsewhere}
 use Rattle.atspi_exported.proofs.Copied.{same_nodes, same_or_not}
 
 -- the characters after both, in either order

@@ -9,7 +9,7 @@ use Rattle.atspi_forest.specs.RowRules.{rows}
 use Rattle.atspi_forest.specs.Tree.{after, added_after, Applies, AllApply, after_all}
 use Rattle.atspi_face.specs.declared.change.Change.TheVariants as changes
 use Rattle.atspi_face.specs.Nodes.{Nodes, CanChange, changed_at}
-use Rattle.atspi_whole.specs.Whole.{Faces}
+use Rattle.atspi_protocol.specs.whole.Whole.{Faces}
 use Rattle.atspi_forest.specs.declared.contents.FaceKind.{FaceKind}
 use Rattle.atspi_exported.specs.Parts.{Parts, Kinds, IsExported, parts, faces_of, kinds_of, whole_of}
 use Rattle.atspi_exported.specs.Doing.{CanBeDone, after_parts, after_all_parts, added_all}

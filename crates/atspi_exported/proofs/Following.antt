@@ -17,8 +17,8 @@ use Rattle.atspi_forest.proofs.RowRules.{rows_sound}
 use Rattle.atspi_forest.proofs.ShapeOf.{shape_applies, shape-count}
 use Rattle.atspi_face.specs.Nodes.{Nodes}
 use Rattle.atspi_tree.specs.TreeShape.{TreeShape, StepApplies, root_alone}
-use Rattle.atspi_whole.specs.Whole.{Faces, as_text, as_columns, as_actions, contents_of, KnowsNo, with_text, with_columns, with_actions}
-use Rattle.atspi_whole.proofs.Followed.{shape_is_kept, steps_are_followed}
+use Rattle.atspi_protocol.specs.whole.Whole.{Faces, as_text, as_columns, as_actions, contents_of, KnowsNo, with_text, with_columns, with_actions}
+use Rattle.atspi_protocol.proofs.OfWhole.Followed.{shape_is_kept, steps_are_followed}
 use Rattle.atspi_exported.specs.Parts.{Parts, Kinds, AreKinds, IsExported, IsEmpty, AreEmpty, AreSmall, parts, faces_of, whole_of}
 use Rattle.atspi_exported.specs.Doing.{after_parts, IsAdd}
 use Rattle.atspi_exported.proofs.Opened.{same_faces, text_back, columns_back, actions_back}

@@ -19,7 +19,7 @@ use Rattle.atspi_forest.proofs.EditLemmas.{lawful_row}
 use Rattle.atspi_forest.proofs.Relabel.{Same}
 use Rattle.atspi_face.specs.Contents.{kind_of}
 use Rattle.atspi_face.specs.Nodes.{HasText}
-use Rattle.atspi_whole.specs.Whole.{Faces, as_text, as_actions, contents_of, filled, whole}
+use Rattle.atspi_protocol.specs.whole.Whole.{Faces, as_text, as_actions, contents_of, filled, whole}
 use Rattle.atspi_edits.specs.Answers.{IsKnown}
 use Rattle.atspi_exported.specs.Asking.{HasNames}
 

@@ -2,8 +2,8 @@
 use Rattle.std.proofs.Common.{◌≡◌, ℕ, Option, None, List, sym, ap, ◌∙◌, subst, inl, inr}
 use Rattle.std.specs.FinMap.{get, remove}
 use Rattle.atspi_face.specs.Nodes.{Nodes}
-use Rattle.atspi_whole.specs.Whole.{with_text, with_columns, with_actions}
-use Rattle.atspi_whole.proofs.Faces.{text_elsewhere, columns_elsewhere, actions_elsewhere}
+use Rattle.atspi_protocol.specs.whole.Whole.{with_text, with_columns, with_actions}
+use Rattle.atspi_protocol.proofs.OfWhole.Faces.{text_elsewhere, columns_elsewhere, actions_elsewhere}
 use Rattle.atspi_exported.specs.Parts.{faces_of}
 use Rattle.atspi_exported.proofs.Copied.{same_or_not, same_nodes, taken_there, taken_elsewhere}
 

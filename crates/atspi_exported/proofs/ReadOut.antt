@@ -11,7 +11,7 @@ use Rattle.atspi_forest.specs.declared.contents.FaceData.{FaceData}
 use Rattle.atspi_forest.specs.declared.contents.FaceData.TheVariants.{Chars, Grid, Deeds}
 use Rattle.atspi_face.specs.Contents.{kind_of, caret_of, count_of, marks_of, part_of, IsPart}
 use Rattle.atspi_face.specs.Nodes.{Nodes, AreContents, HasText, HasPart, count_at, caret_at, marks_at, part_at}
-use Rattle.atspi_whole.specs.Whole.{as_actions}
+use Rattle.atspi_protocol.specs.whole.Whole.{as_actions}
 use Rattle.atspi_exported.specs.Asking.{HasNames}
 
 -- all of a text is a part of it

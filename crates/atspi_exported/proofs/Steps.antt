@@ -13,7 +13,7 @@ use Rattle.atspi_forest.proofs.EditsApply.{steps_apply}
 use Rattle.atspi_edits.specs.Answers.{GivesSteps, edit_steps}
 use Rattle.atspi_edits.specs.declared.fault.EditRefused.{EditRefused}
 use Rattle.atspi_edits.specs.declared.fault.EditRefused.TheVariants.{Refused, NoMemory}
-use Rattle.atspi_whole.proofs.Followed.{shape_is_kept}
+use Rattle.atspi_protocol.proofs.OfWhole.Followed.{shape_is_kept}
 use Rattle.atspi_exported.specs.Asking.{AnswersSteps}
 use Rattle.atspi_exported.specs.Doing.{AreOne}
 use Rattle.atspi_exported.specs.Parts.{Parts, whole_of}

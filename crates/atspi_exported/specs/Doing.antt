@@ -8,7 +8,7 @@ use Rattle.atspi_forest.specs.Tree.{added_after}
 use Rattle.atspi_tree.specs.TreeShape.{after_step}
 use Rattle.atspi_face.specs.declared.change.Change.TheVariants as changes
 use Rattle.atspi_face.specs.Nodes.{Nodes, CanChange, changed_at}
-use Rattle.atspi_whole.specs.Whole.{faces_after}
+use Rattle.atspi_protocol.specs.whole.Whole.{faces_after}
 use Rattle.atspi_exported.specs.Parts.{Parts}
 
 -- the parts after a step

@@ -9,7 +9,7 @@ use Rattle.atspi_forest.specs.RowRules.{rows}
 use Rattle.atspi_forest.specs.Tree.{IsTree}
 use Rattle.atspi_tree.specs.TreeShape.{TreeShape}
 use Rattle.atspi_face.specs.Nodes.{Nodes}
-use Rattle.atspi_whole.specs.Whole.{Faces, whole, KnowOnly}
+use Rattle.atspi_protocol.specs.whole.Whole.{Faces, whole, KnowOnly}
 
 -- the shape, and what the faces keep
 pub record Parts : Type 0 where

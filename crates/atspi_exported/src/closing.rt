@@ -4,7 +4,7 @@ ghost use Rattle.std.specs.Prelude.{◌≡◌, true, map};
 ghost use Rattle.std.specs.FinMap as fin_map;
 ghost use Rattle.atspi_forest.specs.Forest.{has, labels, pick};
 ghost use Rattle.atspi_forest.specs.Tree.{is_shape};
-ghost use Rattle.atspi_whole.specs.Whole.{without};
+ghost use Rattle.atspi_protocol.specs.whole.Whole.{without};
 ghost use Rattle.atspi_exported.specs.Parts.{kinds_of};
 
 use atspi_face::Face;

@@ -1,7 +1,7 @@
 //! How contracts see what lies in boxes: what a struct with boxes is seen as is told by a trait, since such a struct has no model.
 
 ghost use Rattle.atspi_exported.specs.Parts.{Kinds, Parts, faces_of, kinds_of, parts};
-ghost use Rattle.atspi_whole.specs.Whole.{Faces};
+ghost use Rattle.atspi_protocol.specs.whole.Whole.{Faces};
 
 use crate::exported::Exported;
 use crate::kit::Kit;

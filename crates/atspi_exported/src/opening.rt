@@ -4,7 +4,7 @@ ghost use Rattle.std.specs.Prelude.{◌≡◌, ◌≤◌, None, OnOk, OnErr};
 ghost use Rattle.std.specs.FinMap as map;
 ghost use Rattle.atspi_forest.specs.declared.contents.FaceKind.{FaceKind};
 ghost use Rattle.atspi_face.specs.Contents.{caret_of, count_of, kind_of};
-ghost use Rattle.atspi_whole.specs.Whole.{with_actions, with_columns, with_text};
+ghost use Rattle.atspi_protocol.specs.whole.Whole.{with_actions, with_columns, with_text};
 ghost use Rattle.atspi_exported.specs.Parts.{AreKinds, faces_of, kinds_of};
 
 use crate::kit::Kit;

@@ -3,8 +3,8 @@ use Rattle.std.proofs.Common.{◌≡◌, ℕ, ◌≤◌, length, refl, arith}
 use Rattle.std.specs.Str.{chars as characters}
 use Rattle.atspi_forest.specs.Forest.{children_at}
 use Rattle.atspi_forest.specs.Tree.{is_shape}
-use Rattle.atspi_ends.specs.Places.{registry}
-use Rattle.atspi_announcing.proofs.Bounds.{width-count, count-children}
+use Rattle.atspi_protocol.specs.ends.Places.{registry}
+use Rattle.atspi_protocol.proofs.OfAnnouncing.Bounds.{width-count, count-children}
 use Rattle.atspi_tree.specs.TreeShape.{TreeShape, IsLawful, children_of}
 use Rattle.atspi_tree.proofs.Trees.{width-numbers}
 

@@ -12,7 +12,7 @@ use Rattle.atspi_forest.specs.Row.{ShapeRow, TreeRow, Each}
 use Rattle.atspi_forest.specs.Tree.{is_shape, shape_of}
 use Rattle.atspi_forest.proofs.Lookup.{each_append}
 use Rattle.atspi_forest.proofs.ShapeOf.{shape-width}
-use Rattle.atspi_objects.specs.Values.{item_data}
+use Rattle.atspi_protocol.specs.objects.Values.{item_data}
 use Rattle.atspi_tree.specs.TreeShape.{TreeShape, IsLawful, numbers, row_of, children_of}
 use Rattle.atspi_tree.specs.Seats.{seat_at, seats_in}
 use Rattle.atspi_tree.specs.declared.seats.Seat.{Seat}

@@ -5,7 +5,7 @@ use Rattle.atspi_forest.specs.declared.news.Item.{Item}
 use Rattle.atspi_forest.specs.declared.news.Reference.{Reference}
 use Rattle.atspi_forest.specs.Announce.{own, item_of}
 use Rattle.atspi_forest.specs.Row.{ShapeRow}
-use Rattle.atspi_ends.specs.Places.{registry, root_path}
+use Rattle.atspi_protocol.specs.ends.Places.{registry, root_path}
 use Rattle.atspi_tree.specs.TreeShape.{TreeShape, children_of, row_of}
 use Rattle.atspi_tree.specs.declared.seats.Seat.{Seat}
 use Rattle.atspi_items.specs.Bare.{bare}

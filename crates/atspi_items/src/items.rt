@@ -5,14 +5,14 @@ ghost use Rattle.atspi_types.specs.Kinds.{u32};
 ghost use Rattle.atspi_types.specs.Data.{text_data, number_data};
 ghost use Rattle.atspi_types.specs.DataView.{data_of, all_data};
 ghost use Rattle.atspi_message.specs.Envelope.{envelope_of};
-ghost use Rattle.atspi_members.specs.Arguments.{int};
-ghost use Rattle.atspi_objects.specs.Values as values;
-ghost use Rattle.atspi_announcing.specs.Signals as signals;
+ghost use Rattle.atspi_protocol.specs.members.Arguments.{int};
+ghost use Rattle.atspi_protocol.specs.objects.Values as values;
+ghost use Rattle.atspi_protocol.specs.announcing.Signals as signals;
 
 use atspi_base::{NoMemory, Texts};
-use atspi_ends::{interface, member, path, signal_of};
 use atspi_forest::{Item, Reference};
 use atspi_message::Message;
+use atspi_protocol::ends::{interface, member, path, signal_of};
 use atspi_types::{Ty, Value, Values};
 use std::alloc::Global;
 

@@ -13,8 +13,8 @@ ghost use Rattle.atspi_items.specs.Seated.{of_registry, parent_reference};
 
 use crate::names::interfaces;
 use atspi_base::{NoMemory, Text};
-use atspi_ends::path;
 use atspi_forest::{Item, Kinds, Reference, Seed};
+use atspi_protocol::ends::path;
 use atspi_telling::node_path;
 use atspi_tree::Tree;
 use std::alloc::Global;

@@ -12,3 +12,5 @@ pub mod turns
 pub mod held
 pub mod views
 pub mod folds
+pub mod laws
+pub mod examples

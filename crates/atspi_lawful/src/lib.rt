@@ -1,18 +1,20 @@
-//! What lawful traces meet: each law of the world over bytes, proved of every lawful trace by induction along it. A module is one law, or what several
-//! of them share.
+//! What lawful traces meet: the laws in the words of a trace, and each of them proved of every lawful trace by induction along it. A module is one law,
+//! or what several of them share.
 #![tactic(auto)]
 
-pub mod order;
-pub mod steps;
-pub mod serials;
+pub mod delivered;
+pub mod examples;
+pub mod folds;
+pub mod heard;
+pub mod held;
+pub mod laws;
 pub mod links;
 pub mod living;
 pub mod lost;
-pub mod heard;
+pub mod order;
 pub mod own;
+pub mod serials;
+pub mod steps;
 pub mod taken;
-pub mod delivered;
 pub mod turns;
-pub mod held;
 pub mod views;
-pub mod folds;

@@ -4,11 +4,11 @@ use Rattle.std.specs.Prelude.{IfSome, IfNone, MatchOption}
 use Rattle.atspi_message.specs.declared.message.Message.{Message}
 use Rattle.atspi_message.specs.Envelope.{Envelope, envelope_of}
 use Rattle.atspi_message.specs.Rules.{MeetsRules}
-use Rattle.atspi_registering.specs.RegistryState.{RegistryState}
-use Rattle.atspi_registering.specs.Steps.{Registry, registry_takes, takes}
-use Rattle.atspi_registry_laws.specs.Sends as sends
-use Rattle.atspi_registry_laws.specs.Sends.{AreNumbered, started}
-use Rattle.atspi_registry_laws.proofs.Sending.{all_meet}
+use Rattle.atspi_protocol.specs.registering.RegistryState.{RegistryState}
+use Rattle.atspi_protocol.specs.registering.Steps.{Registry, registry_takes, takes}
+use Rattle.atspi_protocol.specs.registry_laws.Sends as sends
+use Rattle.atspi_protocol.specs.registry_laws.Sends.{AreNumbered, started}
+use Rattle.atspi_protocol.proofs.OfRegistryLaws.Sending.{all_meet}
 use Rattle.atspi_conversation.specs.Sent.{AllMeet}
 use Rattle.atspi_conversation.specs.Talking.{Takes, HandsOut, MaySend}
 use Rattle.atspi_live_registry.specs.Standing.{IsAfter}

@@ -1,8 +1,8 @@
 -- What a registry did from its start on.
 use Rattle.std.specs.Prelude.{◌≡◌, ◌<◌, List, ◌++◌, fold}
 use Rattle.atspi_message.specs.Envelope.{Envelope}
-use Rattle.atspi_registering.specs.Steps.{Registry, registry_takes, takes}
-use Rattle.atspi_registry_laws.specs.Sends.{started}
+use Rattle.atspi_protocol.specs.registering.Steps.{Registry, registry_takes, takes}
+use Rattle.atspi_protocol.specs.registry_laws.Sends.{started}
 
 -- from its start on it took these messages and handed out those: with the messages that it still has queued they are all that it sends
 -- for those that it took

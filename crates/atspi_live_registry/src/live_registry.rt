@@ -6,9 +6,9 @@ ghost use Rattle.atspi_live_registry.specs.Standing.{IsAfter};
 
 use atspi_base::NoMemory;
 use atspi_conversation::BusEnd;
-use atspi_ends::EndFault;
 use atspi_header::MessageRef;
 use atspi_message::Message;
+use atspi_protocol::ends::EndFault;
 use atspi_registry::Registry;
 use std::alloc::Global;
 

@@ -13,7 +13,7 @@ use Rattle.atspi_cursor.specs.Items.{item_data, item_kind, elements_data}
 use Rattle.atspi_cursor.specs.declared.cursor.Item.{Item}
 use Rattle.atspi_cursor.specs.declared.cursor.Elements.{Elements}
 use Rattle.atspi_forest.specs.declared.news.Reference.{Reference}
-use Rattle.atspi_news.specs.Arguments.{then_text, then_path, then_signed, then_unsigned, then_variant, then_texts, then_numbers, then_reference, reference_of, reference_in, text_in, number_in}
+use Rattle.atspi_protocol.specs.news.Arguments.{then_text, then_path, then_signed, then_unsigned, then_variant, then_texts, then_numbers, then_reference, reference_of, reference_in, text_in, number_in}
 use Rattle.atspi_news_reading.specs.declared.borrowed.ReferenceRef.{ReferenceRef}
 use Rattle.atspi_news_reading.specs.Seen.{together, reference_seen, TextComes, PathComes, SignedComes, UnsignedComes, VariantComes, TextsCome, NumbersCome, ReferenceComes}
 use Rattle.atspi_news_reading.proofs.Given.{no_text, no_path, no_signed, no_unsigned, no_variant, no_texts, no_numbers, no_reference}

@@ -8,8 +8,8 @@ use Rattle.atspi_cursor.specs.Items.{elements_data}
 use Rattle.atspi_cursor.specs.declared.cursor.Elements.{Elements}
 use Rattle.atspi_forest.specs.declared.news.Reference.{Reference}
 use Rattle.atspi_forest.specs.declared.news.Item.{Item}
-use Rattle.atspi_news.specs.Arguments.{then_reference, then_signed, then_unsigned, then_text, then_numbers, then_end, text_in, number_in}
-use Rattle.atspi_news.specs.CacheSignals.{item_of, states_in}
+use Rattle.atspi_protocol.specs.news.Arguments.{then_reference, then_signed, then_unsigned, then_text, then_numbers, then_end, text_in, number_in}
+use Rattle.atspi_protocol.specs.news.CacheSignals.{item_of, states_in}
 use Rattle.atspi_news_reading.specs.declared.borrowed.ReferenceRef.{ReferenceRef}
 use Rattle.atspi_news_reading.specs.declared.borrowed.ItemFront.{ItemFront}
 use Rattle.atspi_news_reading.specs.declared.borrowed.ItemRef.{ItemRef}

@@ -12,8 +12,8 @@ use Rattle.atspi_marshal.specs.Reading.{input_of}
 use Rattle.atspi_cursor.specs.Items.{fields_data, fields_kinds}
 use Rattle.atspi_cursor.specs.declared.cursor.Fields.{Fields}
 use Rattle.atspi_header.proofs.ReadTypes.{fields_types}
-use Rattle.atspi_news.specs.Arguments.{signature_of, text_in, number_in}
-use Rattle.atspi_news.specs.CacheSignals.{item_of, item_in}
+use Rattle.atspi_protocol.specs.news.Arguments.{signature_of, text_in, number_in}
+use Rattle.atspi_protocol.specs.news.CacheSignals.{item_of, item_in}
 use Rattle.atspi_news_reading.specs.Seen.{elements_seen, count_seen}
 
 -- values of another type

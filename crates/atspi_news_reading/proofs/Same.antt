@@ -11,7 +11,7 @@ use Rattle.std.proofs.Math.Seq.{take-append_seam}
 use Rattle.std.proofs.lemmas.Slice.Eq.{bytes_eq-Decides}
 use Rattle.std.proofs.lemmas.Str.{chars-IsAscii, encodes-IsAscii, encodes-chars, chars-append, encodes-append, IsUtf8-from_ascii}
 use Rattle.atspi_tables.specs.States.{state_names}
-use Rattle.atspi_news.specs.Events.{is_front}
+use Rattle.atspi_protocol.specs.news.Events.{is_front}
 use Rattle.atspi_news_reading.specs.Seen.{state_number}
 
 ascii_at : (word : List ℕ) → list_all is_ascii word ≡ true → IsAscii word

@@ -4,7 +4,7 @@ use Rattle.std.specs.Prelude.{option_and_then}
 use Rattle.atspi_types.specs.Kinds.{number, boolean, text, path, signature, array, structure, variant, dictionary, byte, i16, u16, i32, u32, i64, u64, double}
 use Rattle.atspi_types.specs.Data.{Data, number_data, boolean_data, text_data, path_data, signature_data, array_data, structure_data, dictionary_data, variant_data}
 use Rattle.atspi_forest.specs.declared.news.Reference.{Reference}
-use Rattle.atspi_news.specs.Arguments.{then_text, then_path, then_signed, then_unsigned, then_texts, then_numbers, then_reference, reference_in}
+use Rattle.atspi_protocol.specs.news.Arguments.{then_text, then_path, then_signed, then_unsigned, then_texts, then_numbers, then_reference, reference_in}
 use Rattle.atspi_news_reading.specs.Seen.{together}
 
 -- what is made of a pair

@@ -8,7 +8,7 @@ use Rattle.atspi_types.specs.Data.{Data, number_data, text_data, type_of}
 use Rattle.atspi_tables.specs.States.{state_names}
 use Rattle.atspi_forest.specs.declared.news.News.{News}
 use Rattle.atspi_forest.specs.declared.news.News.TheVariants.{State, Nothing}
-use Rattle.atspi_news.specs.Events.{named_in, state_lines}
+use Rattle.atspi_protocol.specs.news.Events.{named_in, state_lines}
 use Rattle.atspi_news_reading.specs.Seen.{text_seen, role_seen, state_number}
 
 -- what was told is what is to be told

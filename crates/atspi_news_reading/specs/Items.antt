@@ -4,8 +4,8 @@ use Rattle.atspi_types.specs.Data.{Data}
 use Rattle.atspi_cursor.specs.Items.{elements_data}
 use Rattle.atspi_forest.specs.declared.news.Reference.{Reference}
 use Rattle.atspi_forest.specs.declared.news.Item.{Item}
-use Rattle.atspi_news.specs.Arguments.{text_in, number_in, then_text, then_texts, then_unsigned, then_numbers, then_end}
-use Rattle.atspi_news.specs.CacheSignals.{item_of, states_in}
+use Rattle.atspi_protocol.specs.news.Arguments.{text_in, number_in, then_text, then_texts, then_unsigned, then_numbers, then_end}
+use Rattle.atspi_protocol.specs.news.CacheSignals.{item_of, states_in}
 use Rattle.atspi_news_reading.specs.declared.borrowed.ItemFront.{ItemFront}
 use Rattle.atspi_news_reading.specs.declared.borrowed.ItemRef.{ItemRef}
 use Rattle.atspi_news_reading.specs.Seen.{reference_seen}

@@ -9,7 +9,7 @@ use Rattle.atspi_cursor.specs.Items.{item_data, elements_data}
 use Rattle.atspi_cursor.specs.declared.cursor.Elements.{Elements}
 use Rattle.atspi_cursor.specs.declared.cursor.Item.{Item}
 use Rattle.atspi_forest.specs.declared.news.Reference.{Reference}
-use Rattle.atspi_news.specs.Arguments.{Event, signed, text_in, number_in, then_text, then_path, then_signed, then_unsigned, then_variant, then_texts, then_numbers, then_reference}
+use Rattle.atspi_protocol.specs.news.Arguments.{Event, signed, text_in, number_in, then_text, then_path, then_signed, then_unsigned, then_variant, then_texts, then_numbers, then_reference}
 use Rattle.atspi_news_reading.specs.declared.borrowed.ReferenceRef.{ReferenceRef}
 use Rattle.atspi_news_reading.specs.declared.event.EventRef.{EventRef}
 

@@ -5,8 +5,8 @@ ghost use Rattle.std.specs.Option.{option_map};
 ghost use Rattle.atspi_base.specs.Text.{HasNoZero};
 ghost use Rattle.atspi_types.specs.Names.{is_path};
 ghost use Rattle.atspi_cursor.specs.Items.{item_data, fields_data};
-ghost use Rattle.atspi_news.specs.Arguments.{reference_in};
-ghost use Rattle.atspi_news.specs.CacheSignals.{only_of};
+ghost use Rattle.atspi_protocol.specs.news.Arguments.{reference_in};
+ghost use Rattle.atspi_protocol.specs.news.CacheSignals.{only_of};
 ghost use Rattle.atspi_news_reading.specs.Seen.{reference_seen, TextComes, PathComes, SignedComes, UnsignedComes, VariantComes, ReferenceComes, TextsCome, NumbersCome};
 
 use crate::borrowed::ReferenceRef;

@@ -5,9 +5,9 @@ ghost use Rattle.std.specs.Option.{option_map};
 ghost use Rattle.atspi_types.specs.Names.{is_path};
 ghost use Rattle.atspi_cursor.specs.Items.{item_data, fields_data};
 ghost use Rattle.atspi_forest.specs.declared.news.News.TheVariants.{ChildAdded, ChildRemoved, Name, Description, Inserted, Deleted, Caret};
-ghost use Rattle.atspi_news.specs.Arguments.{event_in, reference_in};
-ghost use Rattle.atspi_news.specs.Events as definitions;
-ghost use Rattle.atspi_news.specs.Events.{own_child, with_text};
+ghost use Rattle.atspi_protocol.specs.news.Arguments.{event_in, reference_in};
+ghost use Rattle.atspi_protocol.specs.news.Events as definitions;
+ghost use Rattle.atspi_protocol.specs.news.Events.{own_child, with_text};
 ghost use Rattle.atspi_news_reading.specs.Seen.{event_seen, reference_seen, own_reference, text_seen, role_seen, state_number};
 
 use crate::argument::{next_i32, next_text, next_variant, owned_path, reference};

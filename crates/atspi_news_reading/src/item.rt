@@ -3,8 +3,8 @@
 ghost use Rattle.std.specs.Prelude.{◌≡◌, chars, map, IfOk};
 ghost use Rattle.std.specs.Option.{option_map};
 ghost use Rattle.atspi_cursor.specs.Items.{item_data, fields_data, elements_data};
-ghost use Rattle.atspi_news.specs.Arguments.{text_in, number_in};
-ghost use Rattle.atspi_news.specs.CacheSignals.{item_of, item_in, states_in, cache_news};
+ghost use Rattle.atspi_protocol.specs.news.Arguments.{text_in, number_in};
+ghost use Rattle.atspi_protocol.specs.news.CacheSignals.{item_of, item_in, states_in, cache_news};
 ghost use Rattle.atspi_news_reading.specs.Items.{item_seen, word_seen, FrontComes};
 
 use crate::argument::{

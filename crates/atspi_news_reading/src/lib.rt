@@ -1,4 +1,4 @@
-//! News read where they lie in a message, by the definitions of `atspi_news`: without values, and with memory for what is kept alone.
+//! News read where they lie in a message, by the definitions of `atspi_protocol::news`: without values, and with memory for what is kept alone.
 #![tactic(auto)]
 
 mod argument;

@@ -6,12 +6,12 @@ ghost use Rattle.atspi_cursor.specs.Items.{item_data, fields_data};
 ghost use Rattle.atspi_header.specs.Names.{fits};
 ghost use Rattle.atspi_header.specs.View.{envelope_at, bytes_of};
 ghost use Rattle.atspi_forest.specs.declared.news.News.TheVariants.{Removed};
-ghost use Rattle.atspi_news.specs.Arguments.{event_in, reference_in};
-ghost use Rattle.atspi_news.specs.Events.{own_child};
-ghost use Rattle.atspi_news.specs.CacheSignals as cache;
-ghost use Rattle.atspi_news.specs.CacheSignals.{added, item_in};
-ghost use Rattle.atspi_news.specs.NewsOf as definitions;
-ghost use Rattle.atspi_news.specs.NewsOf.{or_empty, if_event};
+ghost use Rattle.atspi_protocol.specs.news.Arguments.{event_in, reference_in};
+ghost use Rattle.atspi_protocol.specs.news.Events.{own_child};
+ghost use Rattle.atspi_protocol.specs.news.CacheSignals as cache;
+ghost use Rattle.atspi_protocol.specs.news.CacheSignals.{added, item_in};
+ghost use Rattle.atspi_protocol.specs.news.NewsOf as definitions;
+ghost use Rattle.atspi_protocol.specs.news.NewsOf.{or_empty, if_event};
 
 use crate::argument::{only, owned_path};
 use crate::event::{child, event, event_news};

@@ -3,9 +3,9 @@
 ghost use Rattle.std.specs.Prelude.{◌≡◌, ◌∷◌, ◌++◌, [], bytes_eq, IfOk, OnOk};
 ghost use Rattle.atspi_cursor.specs.Items.{item_data, fields_data, elements_data};
 ghost use Rattle.atspi_header.specs.View.{envelope_at};
-ghost use Rattle.atspi_news.specs.Replies as definitions;
-ghost use Rattle.atspi_news.specs.Replies.{elements_of, items_among, items_signature};
-ghost use Rattle.atspi_news.specs.Arguments.{signature_of};
+ghost use Rattle.atspi_protocol.specs.news.Replies as definitions;
+ghost use Rattle.atspi_protocol.specs.news.Replies.{elements_of, items_among, items_signature};
+ghost use Rattle.atspi_protocol.specs.news.Arguments.{signature_of};
 ghost use Rattle.atspi_news_reading.specs.Seen.{count_seen, elements_seen};
 
 use crate::argument::only;
@@ -15,7 +15,7 @@ use atspi_base::NoMemory;
 use atspi_cursor::{Elements, Fields, Item};
 use atspi_forest::{Items, News};
 use atspi_header::MessageRef;
-use atspi_news::PartName;
+use atspi_protocol::news::PartName;
 use atspi_types::Path;
 use std::alloc::Global;
 

@@ -3,7 +3,7 @@
 ghost use Rattle.std.specs.Prelude.{◌≡◌, bytes_eq, chars, true};
 ghost use Rattle.std.specs.List.{list_all};
 ghost use Rattle.std.specs.Char.{is_ascii};
-ghost use Rattle.atspi_news.specs.Events.{is_front};
+ghost use Rattle.atspi_protocol.specs.news.Events.{is_front};
 
 /// Whether a text is the word.
 pub fn is_word(text: &str, word: &str) -> bool

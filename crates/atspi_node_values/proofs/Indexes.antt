@@ -11,8 +11,8 @@ use Rattle.atspi_tree.specs.Places.{index_in}
 use Rattle.atspi_tree.specs.TreeShape.{TreeShape, IsLawful, children_of, parent_of}
 use Rattle.atspi_tree.proofs.Seated.{seat_is}
 use Rattle.atspi_tree.proofs.Walks.{index_small}
-use Rattle.atspi_ends.specs.Places.{registry_root}
-use Rattle.atspi_objects.specs.Children as children
+use Rattle.atspi_protocol.specs.ends.Places.{registry_root}
+use Rattle.atspi_protocol.specs.objects.Children as children
 use Rattle.atspi_node_values.specs.Numbers as told
 use Rattle.atspi_node_values.specs.Numbers.{index_of}
 

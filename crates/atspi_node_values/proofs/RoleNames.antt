@@ -5,7 +5,7 @@ use Rattle.std.specs.List.{list_all}
 use Rattle.std.proofs.lemmas.Bool.{and_parts, ltb-true}
 use Rattle.atspi_tables.specs.Roles.{role_names}
 use Rattle.atspi_telling.specs.Plain.{are_plain}
-use Rattle.atspi_objects.specs.Values.{role_name}
+use Rattle.atspi_protocol.specs.objects.Values.{role_name}
 
 abbrev is_word : List ℕ → Bool
 is_word name = are_plain name && nat_lt (length name) 100

@@ -2,7 +2,7 @@
 use Rattle.std.specs.Prelude.{ℕ, ℤ, pos, negsuc, List, map, Option, None, Some}
 use Rattle.atspi_types.specs.Data.{Data, array_data, items_of}
 use Rattle.atspi_forest.specs.Path.{path_of}
-use Rattle.atspi_ends.specs.Places.{reference, reference_kind, null_path, registry_root}
+use Rattle.atspi_protocol.specs.ends.Places.{reference, reference_kind, null_path, registry_root}
 
 -- a node, or none
 abbrev pub numbered_reference : List ℕ → ℕ → Data

@@ -5,7 +5,7 @@ use Rattle.atspi_types.specs.Data.{Data, number_data, structure_data, array_data
 use Rattle.atspi_forest.specs.declared.limits.TheConstants.{RELATION_KINDS}
 use Rattle.atspi_forest.specs.Row.{ShapeRow}
 use Rattle.atspi_forest.specs.Edits.{node_targets, numbers_to}
-use Rattle.atspi_ends.specs.Places.{reference_kind}
+use Rattle.atspi_protocol.specs.ends.Places.{reference_kind}
 use Rattle.atspi_node_values.specs.Numbers.{numbered_references}
 
 abbrev pub relation_kind : Kind

@@ -5,14 +5,14 @@ ghost use Rattle.atspi_types.specs.DataView.{data_of};
 ghost use Rattle.atspi_forest.specs.Forest.{has};
 ghost use Rattle.atspi_forest.specs.RowRules.{shapes};
 ghost use Rattle.atspi_forest.specs.Tree.{is_shape, seat_of};
-ghost use Rattle.atspi_objects.specs.Children as children;
+ghost use Rattle.atspi_protocol.specs.objects.Children as children;
 ghost use Rattle.atspi_tree.specs.Places.{index_in};
 ghost use Rattle.atspi_tree.specs.TreeShape.{children_of};
 ghost use Rattle.atspi_node_values.specs.Numbers.{index_of, parent_of, place_of};
 
 use crate::values::{node_reference, word};
 use atspi_base::{NoMemory, Text};
-use atspi_ends::path;
+use atspi_protocol::ends::path;
 use atspi_telling::reference;
 use atspi_tree::Tree;
 use atspi_types::Value;

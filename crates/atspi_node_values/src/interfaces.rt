@@ -4,8 +4,8 @@ ghost use Rattle.std.specs.Prelude.{◌≡◌, ◌∷◌, ◌++◌, [], ◌<◌,
 ghost use Rattle.atspi_types.specs.Data.{text_data};
 ghost use Rattle.atspi_types.specs.DataView.{data_of, all_data};
 ghost use Rattle.atspi_forest.specs.Announce.{named, interfaces_of};
-ghost use Rattle.atspi_members.specs.Interfaces as interfaces;
-ghost use Rattle.atspi_objects.specs.Values as values;
+ghost use Rattle.atspi_protocol.specs.members.Interfaces as interfaces;
+ghost use Rattle.atspi_protocol.specs.objects.Values as values;
 ghost use Rattle.atspi_telling.specs.Plain.{are_plain};
 
 use crate::values::literal;

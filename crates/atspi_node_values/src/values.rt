@@ -3,14 +3,14 @@
 ghost use Rattle.std.specs.Prelude.{◌≡◌, ◌<◌, ◌≤◌, ◌^◌, [], None, Some, true, length, IfOk};
 ghost use Rattle.atspi_types.specs.Kinds.{u32, text as text_kind};
 ghost use Rattle.atspi_types.specs.Data.{text_data, number_data, dictionary_data, entries_of};
-ghost use Rattle.atspi_members.specs.Arguments.{int};
+ghost use Rattle.atspi_protocol.specs.members.Arguments.{int};
 ghost use Rattle.atspi_types.specs.DataView.{data_of};
-ghost use Rattle.atspi_objects.specs.Values as values;
+ghost use Rattle.atspi_protocol.specs.objects.Values as values;
 ghost use Rattle.atspi_telling.specs.Plain.{are_plain};
 ghost use Rattle.atspi_node_values.specs.Numbers.{numbered_or_null, numbered_references};
 
 use atspi_base::{NoMemory, Text};
-use atspi_ends::path;
+use atspi_protocol::ends::path;
 use atspi_tables::role_name;
 use atspi_telling::{node_path, reference, reference_type};
 use atspi_types::{Pairs, Ty, Value, Values};

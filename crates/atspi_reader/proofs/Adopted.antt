@@ -8,9 +8,9 @@ use Rattle.std.proofs.lemmas.List.Folds.{list_any-append, list_all-append}
 use Rattle.std.proofs.lemmas.Slice.Eq.{bytes_eq-Decides}
 use Rattle.atspi_types.specs.Names.{is_bus_name}
 use Rattle.atspi_forest.specs.declared.news.Reference.{Reference}
-use Rattle.atspi_following.specs.ReaderState.{Followed, is_named}
-use Rattle.atspi_following.specs.Known.{made_known, unasked}
-use Rattle.atspi_following.specs.Replied.{changed}
+use Rattle.atspi_protocol.specs.following.ReaderState.{Followed, is_named}
+use Rattle.atspi_protocol.specs.following.Known.{made_known, unasked}
+use Rattle.atspi_protocol.specs.following.Replied.{changed}
 use Rattle.atspi_reader_known.proofs.Uniqueness.{changed_none, unique_push, unique_filter}
 use Rattle.atspi_reader.specs.Turns.{app_in, listed, IsNewTo}
 use Rattle.atspi_reader.specs.Steps.{Fine}

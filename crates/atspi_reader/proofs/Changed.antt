@@ -4,11 +4,11 @@ use Rattle.std.specs.Prelude.{◌||◌, ◌&&◌, bytes_eq, if◌then◌else◌}
 use Rattle.std.specs.List.{list_any, list_all}
 use Rattle.std.proofs.lemmas.List.{append-nil}
 use Rattle.std.proofs.lemmas.Slice.Eq.{bytes_eq-Decides}
-use Rattle.atspi_following.specs.declared.question.Question.{Question}
-use Rattle.atspi_following.specs.ReaderState.{Followed, is_named}
-use Rattle.atspi_following.specs.Wishes.{wishes, wishes_of}
-use Rattle.atspi_following.specs.Replied.{changed}
-use Rattle.atspi_following.specs.Takes.{found_in}
+use Rattle.atspi_protocol.specs.declared.following.question.Question.{Question}
+use Rattle.atspi_protocol.specs.following.ReaderState.{Followed, is_named}
+use Rattle.atspi_protocol.specs.following.Wishes.{wishes, wishes_of}
+use Rattle.atspi_protocol.specs.following.Replied.{changed}
+use Rattle.atspi_protocol.specs.following.Takes.{found_in}
 use Rattle.atspi_reader_known.specs.Unique.{AreUnique}
 use Rattle.atspi_reader_known.proofs.Uniqueness.{changed_none}
 

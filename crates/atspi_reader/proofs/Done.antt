@@ -3,12 +3,12 @@ use Rattle.std.proofs.Common.{◌≡◌, ℕ, ◌<◌, ◌≤◌, List, [], leng
 use Rattle.std.specs.Prelude.{Result, Ok, Err}
 use Rattle.std.proofs.lemmas.List.{append-nil, take-append-le, take_all}
 use Rattle.atspi_message.specs.Envelope.{Envelope}
-use Rattle.atspi_ends.specs.declared.fault.EndFault.{EndFault}
-use Rattle.atspi_ends.specs.declared.fault.EndFault.TheVariants.{Spent, NoMemory}
-use Rattle.atspi_following.specs.declared.question.Question.{Question}
-use Rattle.atspi_following.specs.ReaderState.{Followed, Pending, Done, ReaderState}
-use Rattle.atspi_following.specs.Wishes.{wishes}
-use Rattle.atspi_following.specs.Takes.{goes_on, notes}
+use Rattle.atspi_protocol.specs.declared.ends.fault.EndFault.{EndFault}
+use Rattle.atspi_protocol.specs.declared.ends.fault.EndFault.TheVariants.{Spent, NoMemory}
+use Rattle.atspi_protocol.specs.declared.following.question.Question.{Question}
+use Rattle.atspi_protocol.specs.following.ReaderState.{Followed, Pending, Done, ReaderState}
+use Rattle.atspi_protocol.specs.following.Wishes.{wishes}
+use Rattle.atspi_protocol.specs.following.Takes.{goes_on, notes}
 use Rattle.atspi_reader_known.specs.Wanted.{first}
 use Rattle.atspi_reader.specs.declared.asks.Next.{Next}
 use Rattle.atspi_reader.specs.Asked.{chosen, next_for, sent, number_after, went_on, Queues}

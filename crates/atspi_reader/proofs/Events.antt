@@ -6,9 +6,9 @@ use Rattle.std.specs.Str.{chars, IsAscii}
 use Rattle.std.proofs.lemmas.Bool.{and_parts, ltb-true}
 use Rattle.std.proofs.lemmas.Str.{chars-IsAscii}
 use Rattle.std.proofs.lemmas.List.{map-append, append-nil}
-use Rattle.atspi_following.specs.declared.question.Question.TheVariants.{AddMatch, RegisterEvent}
-use Rattle.atspi_following.specs.declared.event.ReaderEvent.{ReaderEvent}
-use Rattle.atspi_following.specs.ReaderState.{Done}
+use Rattle.atspi_protocol.specs.declared.following.question.Question.TheVariants.{AddMatch, RegisterEvent}
+use Rattle.atspi_protocol.specs.declared.following.event.ReaderEvent.{ReaderEvent}
+use Rattle.atspi_protocol.specs.following.ReaderState.{Done}
 use Rattle.atspi_reader.specs.Doing.{done_of, all_done}
 
 pub all_pushed : (old new : List ReaderEvent) (event : ReaderEvent) → new ≡ old ++ event ∷ [] → all_done new ≡ all_done old ++ done_of event ∷ []

@@ -5,8 +5,8 @@ use Rattle.std.specs.List.{list_any, fold}
 use Rattle.std.proofs.lemmas.List.{take-append-le, take_all}
 use Rattle.atspi_types.specs.Names.{is_bus_name}
 use Rattle.atspi_forest.specs.declared.news.Reference.{Reference}
-use Rattle.atspi_following.specs.ReaderState.{Followed, is_named}
-use Rattle.atspi_following.specs.Known.{made_known, unasked}
+use Rattle.atspi_protocol.specs.following.ReaderState.{Followed, is_named}
+use Rattle.atspi_protocol.specs.following.Known.{made_known, unasked}
 use Rattle.atspi_reader.specs.Turns.{StandsInFront}
 
 pub front-append : (xs ys : List Followed) → take (length xs) (xs ++ ys) ≡ xs

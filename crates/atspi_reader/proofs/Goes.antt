@@ -4,12 +4,12 @@ use Rattle.std.proofs.lemmas.List.{append-nil}
 use Rattle.atspi_message.specs.Envelope.{Envelope}
 use Rattle.atspi_forest.specs.declared.view.Row.{Row}
 use Rattle.atspi_forest.specs.Forest.{Forest}
-use Rattle.atspi_news.specs.NewsOf.{or_empty}
-use Rattle.atspi_following.specs.declared.question.Question.{Question}
-use Rattle.atspi_following.specs.ReaderState.{Followed, Pending, Done, ReaderState}
-use Rattle.atspi_following.specs.Wishes.{wishes, wishes_of}
-use Rattle.atspi_following.specs.Replied.{changed}
-use Rattle.atspi_following.specs.Takes.{goes_on, notes, noted, asks_first}
+use Rattle.atspi_protocol.specs.news.NewsOf.{or_empty}
+use Rattle.atspi_protocol.specs.declared.following.question.Question.{Question}
+use Rattle.atspi_protocol.specs.following.ReaderState.{Followed, Pending, Done, ReaderState}
+use Rattle.atspi_protocol.specs.following.Wishes.{wishes, wishes_of}
+use Rattle.atspi_protocol.specs.following.Replied.{changed}
+use Rattle.atspi_protocol.specs.following.Takes.{goes_on, notes, noted, asks_first}
 use Rattle.atspi_reader_known.specs.Wanted.{first}
 use Rattle.atspi_reader.specs.declared.asks.Next.{Next}
 use Rattle.atspi_reader.specs.declared.asks.Next.TheVariants.{Nothing, Start, Wish}

@@ -5,17 +5,17 @@ use Rattle.atspi_message.specs.Envelope.{Envelope}
 use Rattle.atspi_forest.specs.declared.news.Item.{Item}
 use Rattle.atspi_forest.specs.declared.news.News.{News}
 use Rattle.atspi_forest.specs.declared.news.Reference.{Reference}
-use Rattle.atspi_news.specs.declared.part.PartName.{PartName}
-use Rattle.atspi_news.specs.Arguments.{signature_of}
-use Rattle.atspi_news.specs.NewsOf.{news_of, or_empty}
-use Rattle.atspi_news.specs.Replies.{elements_of, items_told, part_told}
-use Rattle.atspi_following.specs.declared.question.Question.{Question}
-use Rattle.atspi_following.specs.declared.question.Question.TheVariants.{Hello, AddMatch, RegisterEvent, GetChildren, GetItems, GetPart}
-use Rattle.atspi_following.specs.ReaderState.{Pending, ReaderState, is_named}
-use Rattle.atspi_following.specs.Known.{references_among, new_child, with_child, told_end, with_end}
-use Rattle.atspi_following.specs.Replied.{loaded, told_part, refused_part, with_items, with_part, goes_on_if, with_children, children_signature, replied, ends_call, takes_reply}
-use Rattle.atspi_following.specs.Takes.{noted, notes, folded, takes_news}
-use Rattle.atspi_following.specs.Known.{takes_child, takes_end}
+use Rattle.atspi_protocol.specs.declared.news.part.PartName.{PartName}
+use Rattle.atspi_protocol.specs.news.Arguments.{signature_of}
+use Rattle.atspi_protocol.specs.news.NewsOf.{news_of, or_empty}
+use Rattle.atspi_protocol.specs.news.Replies.{elements_of, items_told, part_told}
+use Rattle.atspi_protocol.specs.declared.following.question.Question.{Question}
+use Rattle.atspi_protocol.specs.declared.following.question.Question.TheVariants.{Hello, AddMatch, RegisterEvent, GetChildren, GetItems, GetPart}
+use Rattle.atspi_protocol.specs.following.ReaderState.{Pending, ReaderState, is_named}
+use Rattle.atspi_protocol.specs.following.Known.{references_among, new_child, with_child, told_end, with_end}
+use Rattle.atspi_protocol.specs.following.Replied.{loaded, told_part, refused_part, with_items, with_part, goes_on_if, with_children, children_signature, replied, ends_call, takes_reply}
+use Rattle.atspi_protocol.specs.following.Takes.{noted, notes, folded, takes_news}
+use Rattle.atspi_protocol.specs.following.Known.{takes_child, takes_end}
 use Rattle.atspi_reader_known.proofs.Names.{folded_name, told_name}
 use Rattle.atspi_reader.specs.Steps.{Fine}
 use Rattle.atspi_reader.specs.Turns.{rooted}

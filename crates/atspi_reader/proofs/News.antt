@@ -5,20 +5,20 @@ use Rattle.std.specs.List.{list_any}
 use Rattle.std.proofs.lemmas.List.{append-nil}
 use Rattle.std.proofs.lemmas.List.Concat.{flat_map-append}
 use Rattle.atspi_message.specs.Envelope.{Envelope}
-use Rattle.atspi_ends.specs.declared.fault.EndFault.{EndFault}
-use Rattle.atspi_ends.specs.declared.fault.EndFault.TheVariants.{Spent}
+use Rattle.atspi_protocol.specs.declared.ends.fault.EndFault.{EndFault}
+use Rattle.atspi_protocol.specs.declared.ends.fault.EndFault.TheVariants.{Spent}
 use Rattle.atspi_forest.specs.declared.view.Row.{Row}
 use Rattle.atspi_forest.specs.declared.news.News.{News}
 use Rattle.atspi_forest.specs.declared.news.Reference.{Reference}
 use Rattle.atspi_forest.specs.Forest.{Forest, first_of}
-use Rattle.atspi_news.specs.NewsOf.{news_of, or_empty}
-use Rattle.atspi_following.specs.declared.question.Question.{Question}
-use Rattle.atspi_following.specs.declared.question.Question.TheVariants.{GetItems}
-use Rattle.atspi_following.specs.ReaderState.{Followed, Pending, Done, ReaderState, is_named}
-use Rattle.atspi_following.specs.Wishes.{wishes, wishes_of}
-use Rattle.atspi_following.specs.Known.{new_child, with_child, takes_child, with_end, end_of_connection, closing_of, closings}
-use Rattle.atspi_following.specs.Replied.{changed}
-use Rattle.atspi_following.specs.Takes.{noted, notes, folded, lines_at, takes_news, goes_on}
+use Rattle.atspi_protocol.specs.news.NewsOf.{news_of, or_empty}
+use Rattle.atspi_protocol.specs.declared.following.question.Question.{Question}
+use Rattle.atspi_protocol.specs.declared.following.question.Question.TheVariants.{GetItems}
+use Rattle.atspi_protocol.specs.following.ReaderState.{Followed, Pending, Done, ReaderState, is_named}
+use Rattle.atspi_protocol.specs.following.Wishes.{wishes, wishes_of}
+use Rattle.atspi_protocol.specs.following.Known.{new_child, with_child, takes_child, with_end, end_of_connection, closing_of, closings}
+use Rattle.atspi_protocol.specs.following.Replied.{changed}
+use Rattle.atspi_protocol.specs.following.Takes.{noted, notes, folded, lines_at, takes_news, goes_on}
 use Rattle.atspi_reader_known.specs.Wanted.{first}
 use Rattle.atspi_reader_known.proofs.Uniqueness.{changed_none}
 use Rattle.atspi_reader_known.proofs.Firsts.{first-append}

@@ -2,11 +2,11 @@
 use Rattle.std.proofs.Common.{◌≡◌, ℕ, List, Option, Some, None, refl, sym}
 use Rattle.atspi_message.specs.Envelope.{Envelope}
 use Rattle.atspi_forest.specs.declared.news.News.{News}
-use Rattle.atspi_news.specs.declared.part.PartName.{PartName}
-use Rattle.atspi_news.specs.Replies.{part_told}
-use Rattle.atspi_following.specs.ReaderState.{Followed}
-use Rattle.atspi_following.specs.Wishes.{wishes}
-use Rattle.atspi_following.specs.Replied.{changed, told_part, refused_part}
+use Rattle.atspi_protocol.specs.declared.news.part.PartName.{PartName}
+use Rattle.atspi_protocol.specs.news.Replies.{part_told}
+use Rattle.atspi_protocol.specs.following.ReaderState.{Followed}
+use Rattle.atspi_protocol.specs.following.Wishes.{wishes}
+use Rattle.atspi_protocol.specs.following.Replied.{changed, told_part, refused_part}
 use Rattle.atspi_reader_known.specs.Wanted.{first}
 use Rattle.atspi_reader_known.proofs.Tells.{part_tells}
 use Rattle.atspi_reader_known.proofs.Told.{first_changed, part_settled}

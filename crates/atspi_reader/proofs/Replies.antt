@@ -4,22 +4,22 @@ use Rattle.std.specs.Prelude.{◌==◌, ◌&&◌, bytes_eq, if◌then◌else◌,
 use Rattle.std.specs.List.{list_any, fold}
 use Rattle.std.specs.Borrow.{Bor}
 use Rattle.atspi_message.specs.Envelope.{Envelope}
-use Rattle.atspi_ends.specs.declared.fault.EndFault.{EndFault}
-use Rattle.atspi_ends.specs.declared.fault.EndFault.TheVariants.{Spent}
+use Rattle.atspi_protocol.specs.declared.ends.fault.EndFault.{EndFault}
+use Rattle.atspi_protocol.specs.declared.ends.fault.EndFault.TheVariants.{Spent}
 use Rattle.atspi_forest.specs.declared.view.Row.{Row}
 use Rattle.atspi_forest.specs.Forest.{Forest}
 use Rattle.atspi_forest.specs.declared.news.Item.{Item}
 use Rattle.atspi_forest.specs.declared.news.News.{News}
-use Rattle.atspi_news.specs.declared.part.PartName.{PartName}
-use Rattle.atspi_news.specs.NewsOf.{or_empty}
-use Rattle.atspi_news.specs.Replies.{elements_of, part_in, part_told}
-use Rattle.atspi_news.specs.Arguments.{signature_of}
-use Rattle.atspi_following.specs.declared.question.Question.{Question}
-use Rattle.atspi_following.specs.ReaderState.{Followed, ReaderState, is_named}
-use Rattle.atspi_following.specs.Wishes.{wishes}
-use Rattle.atspi_following.specs.Known.{made_known, references_among}
-use Rattle.atspi_following.specs.Replied.{changed, loaded, told_part, refused_part, with_items, with_part, with_children, goes_on_if, children_signature}
-use Rattle.atspi_following.specs.Takes.{noted, goes_on, found_in}
+use Rattle.atspi_protocol.specs.declared.news.part.PartName.{PartName}
+use Rattle.atspi_protocol.specs.news.NewsOf.{or_empty}
+use Rattle.atspi_protocol.specs.news.Replies.{elements_of, part_in, part_told}
+use Rattle.atspi_protocol.specs.news.Arguments.{signature_of}
+use Rattle.atspi_protocol.specs.declared.following.question.Question.{Question}
+use Rattle.atspi_protocol.specs.following.ReaderState.{Followed, ReaderState, is_named}
+use Rattle.atspi_protocol.specs.following.Wishes.{wishes}
+use Rattle.atspi_protocol.specs.following.Known.{made_known, references_among}
+use Rattle.atspi_protocol.specs.following.Replied.{changed, loaded, told_part, refused_part, with_items, with_part, with_children, goes_on_if, children_signature}
+use Rattle.atspi_protocol.specs.following.Takes.{noted, goes_on, found_in}
 use Rattle.atspi_reader_known.specs.Unique.{AreUnique}
 use Rattle.atspi_reader_known.proofs.Uniqueness.{changed_none}
 use Rattle.atspi_reader_known.specs.declared.plan.Plan.TheVariants.{Settle, Put}

@@ -1,10 +1,10 @@
 -- What a reader asks next: the next call of the start, or else what is wanted first, where no call waits.
 use Rattle.std.specs.Prelude.{◌≡◌, ◌≤◌, ◌<◌, ℕ, ◌+◌, List, [], ◌∷◌, ◌++◌, Option, Some, None, Result, OnOk, OnErr, IfOk, IsErrOf}
-use Rattle.atspi_ends.specs.declared.fault.EndFault.{EndFault}
-use Rattle.atspi_ends.specs.declared.fault.EndFault.TheVariants.{Spent}
-use Rattle.atspi_following.specs.declared.question.Question.{Question}
-use Rattle.atspi_following.specs.ReaderState.{Done, sends, Pending, ReaderState}
-use Rattle.atspi_following.specs.Calls.{asking}
+use Rattle.atspi_protocol.specs.declared.ends.fault.EndFault.{EndFault}
+use Rattle.atspi_protocol.specs.declared.ends.fault.EndFault.TheVariants.{Spent}
+use Rattle.atspi_protocol.specs.declared.following.question.Question.{Question}
+use Rattle.atspi_protocol.specs.following.ReaderState.{Done, sends, Pending, ReaderState}
+use Rattle.atspi_protocol.specs.following.Calls.{asking}
 use Rattle.atspi_reader.specs.Turns.{did}
 use Rattle.atspi_reader.specs.declared.asks.Next.{Next}
 use Rattle.atspi_reader.specs.declared.asks.Next.TheVariants.{Nothing, Start, Wish}

@@ -1,7 +1,7 @@
 -- The calls of the start, in parts.
 use Rattle.std.specs.Prelude.{List, [], ◌∷◌, codes}
-use Rattle.atspi_following.specs.declared.question.Question.{Question}
-use Rattle.atspi_following.specs.declared.question.Question.TheVariants.{AddMatch, RegisterEvent}
+use Rattle.atspi_protocol.specs.declared.following.question.Question.{Question}
+use Rattle.atspi_protocol.specs.declared.following.question.Question.TheVariants.{AddMatch, RegisterEvent}
 
 abbrev pub rules : List Question
 rules =

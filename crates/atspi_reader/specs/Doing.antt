@@ -1,9 +1,9 @@
 -- What a reader does, as the definitions see it.
 use Rattle.std.specs.Prelude.{List, map}
 use Rattle.atspi_message.specs.Envelope.{envelope_of}
-use Rattle.atspi_following.specs.declared.event.ReaderEvent.{ReaderEvent}
-use Rattle.atspi_following.specs.declared.event.ReaderEvent.TheVariants.{Send, Say, Gone}
-use Rattle.atspi_following.specs.ReaderState.{Done, sends, speaks, tells_end}
+use Rattle.atspi_protocol.specs.declared.following.event.ReaderEvent.{ReaderEvent}
+use Rattle.atspi_protocol.specs.declared.following.event.ReaderEvent.TheVariants.{Send, Say, Gone}
+use Rattle.atspi_protocol.specs.following.ReaderState.{Done, sends, speaks, tells_end}
 
 abbrev pub done_of : ReaderEvent → Done
 done_of (Send message) = sends (envelope_of message)

@@ -3,10 +3,10 @@ use Rattle.std.specs.Prelude.{List, ◌++◌}
 use Rattle.std.specs.List.{list_any}
 use Rattle.atspi_message.specs.Envelope.{Envelope}
 use Rattle.atspi_forest.specs.declared.news.News.{News}
-use Rattle.atspi_news.specs.NewsOf.{or_empty}
-use Rattle.atspi_following.specs.ReaderState.{Followed, Done, ReaderState, is_named}
-use Rattle.atspi_following.specs.Replied.{changed}
-use Rattle.atspi_following.specs.Takes.{folded}
+use Rattle.atspi_protocol.specs.news.NewsOf.{or_empty}
+use Rattle.atspi_protocol.specs.following.ReaderState.{Followed, Done, ReaderState, is_named}
+use Rattle.atspi_protocol.specs.following.Replied.{changed}
+use Rattle.atspi_protocol.specs.following.Takes.{folded}
 use Rattle.atspi_reader.specs.declared.asks.Next.{Next}
 use Rattle.atspi_reader.specs.Turns.{did, with_apps, noted_if}
 use Rattle.atspi_reader.specs.Asked.{went_on}

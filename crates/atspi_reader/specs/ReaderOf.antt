@@ -1,6 +1,6 @@
 -- A reader, as the definitions see it.
 use Rattle.std.specs.Option.{option_map}
-use Rattle.atspi_following.specs.ReaderState.{Pending, ReaderState}
+use Rattle.atspi_protocol.specs.following.ReaderState.{Pending, ReaderState}
 use Rattle.atspi_reader.specs.Doing.{all_done}
 use Rattle.atspi_reader.specs.Steps.{IsState}
 use Rattle.atspi_reader.specs.declared.waiting.Waiting.{Waiting}

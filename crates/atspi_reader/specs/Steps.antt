@@ -1,11 +1,11 @@
 -- What a call of a reader did, and the readers that calls keep.
 use Rattle.std.specs.Prelude.{◌≡◌, ◌≤◌, ◌<◌, true, List, [], None, Result, OnOk, OnErr, IsErrOf}
 use Rattle.std.specs.List.{list_all}
-use Rattle.atspi_ends.specs.declared.fault.EndFault.{EndFault}
-use Rattle.atspi_ends.specs.declared.fault.EndFault.TheVariants.{Spent}
+use Rattle.atspi_protocol.specs.declared.ends.fault.EndFault.{EndFault}
+use Rattle.atspi_protocol.specs.declared.ends.fault.EndFault.TheVariants.{Spent}
 use Rattle.atspi_types.specs.Names.{is_bus_name}
-use Rattle.atspi_following.specs.ReaderState.{Followed, ReaderState}
-use Rattle.atspi_following.specs.Wishes.{wishes}
+use Rattle.atspi_protocol.specs.following.ReaderState.{Followed, ReaderState}
+use Rattle.atspi_protocol.specs.following.Wishes.{wishes}
 use Rattle.atspi_reader_known.specs.Unique.{AreUnique}
 
 -- no two applications have one name, and each name is a bus name

@@ -5,13 +5,13 @@ use Rattle.atspi_types.specs.Names.{is_bus_name}
 use Rattle.atspi_message.specs.Envelope.{Envelope}
 use Rattle.atspi_forest.specs.declared.news.News.{News}
 use Rattle.atspi_forest.specs.declared.news.Reference.{Reference}
-use Rattle.atspi_news.specs.Replies.{elements_of}
-use Rattle.atspi_news.specs.declared.part.PartName.{PartName}
-use Rattle.atspi_following.specs.declared.question.Question.{Question}
-use Rattle.atspi_following.specs.ReaderState.{Followed, Pending, Done, ReaderState, is_named}
-use Rattle.atspi_following.specs.Known.{unasked, made_known, references_among}
-use Rattle.atspi_following.specs.Replied.{changed, ends_call, told_part, refused_part}
-use Rattle.atspi_following.specs.Takes.{notes}
+use Rattle.atspi_protocol.specs.news.Replies.{elements_of}
+use Rattle.atspi_protocol.specs.declared.news.part.PartName.{PartName}
+use Rattle.atspi_protocol.specs.declared.following.question.Question.{Question}
+use Rattle.atspi_protocol.specs.following.ReaderState.{Followed, Pending, Done, ReaderState, is_named}
+use Rattle.atspi_protocol.specs.following.Known.{unasked, made_known, references_among}
+use Rattle.atspi_protocol.specs.following.Replied.{changed, ends_call, told_part, refused_part}
+use Rattle.atspi_protocol.specs.following.Takes.{notes}
 
 -- more was done
 abbrev pub did : ReaderState → List Done → ReaderState

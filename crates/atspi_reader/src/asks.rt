@@ -4,8 +4,8 @@ ghost use Rattle.std.specs.Prelude.{◌≡◌, ◌<◌, ◌≤◌, ◌↔◌, �
 ghost use Rattle.atspi_reader.specs.Doing.{all_done};
 ghost use Rattle.atspi_reader.specs.Asked.{sent, Asks};
 
-use atspi_ends::EndFault;
-use atspi_following::{Question, ReaderEvent};
+use atspi_protocol::ends::EndFault;
+use atspi_protocol::following::{Question, ReaderEvent};
 use atspi_reader_calls::asking;
 use std::alloc::Global;
 use std::collections::VecDeque;

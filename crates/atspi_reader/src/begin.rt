@@ -2,12 +2,12 @@
 
 ghost use Rattle.std.specs.Prelude.{◌≡◌, ◌<◌, ◌^◌, ◌++◌, ◌∷◌, [], chars, length, IfOk, OnOk};
 ghost use Rattle.atspi_base.specs.Text.{HasNoZero};
-ghost use Rattle.atspi_following.specs.declared.question.Question.TheVariants as questions;
-ghost use Rattle.atspi_following.specs.ReaderState as state;
+ghost use Rattle.atspi_protocol.specs.declared.following.question.Question.TheVariants as questions;
+ghost use Rattle.atspi_protocol.specs.following.ReaderState as state;
 ghost use Rattle.atspi_reader.specs.Begin.{rules, patterns};
 
 use atspi_base::{NoMemory, Text};
-use atspi_following::Question;
+use atspi_protocol::following::Question;
 use std::alloc::Global;
 use std::collections::VecDeque;
 

@@ -2,8 +2,8 @@
 
 ghost use Rattle.std.specs.Prelude.{◌≡◌, ◌++◌, None, Some, if◌then◌else◌, IfOk, IfSome, OnOk, OnErr};
 ghost use Rattle.std.specs.List.{fold, list_any};
-ghost use Rattle.atspi_following.specs.ReaderState.{is_named};
-ghost use Rattle.atspi_following.specs.Known.{made_known};
+ghost use Rattle.atspi_protocol.specs.following.ReaderState.{is_named};
+ghost use Rattle.atspi_protocol.specs.following.Known.{made_known};
 ghost use Rattle.atspi_reader.specs.Turns.{app_in, listed, IsNewTo, StandsInFront};
 
 use atspi_base::NoMemory;

@@ -3,15 +3,15 @@
 ghost use Rattle.std.specs.Prelude.{◌≡◌, ◌==◌, ◌||◌, bytes_eq, IfOk};
 ghost use Rattle.std.specs.Option.{option_map};
 ghost use Rattle.atspi_header.specs.View.{envelope_at};
-ghost use Rattle.atspi_ends.specs.Places as places;
-ghost use Rattle.atspi_following.specs.Replied as replied;
+ghost use Rattle.atspi_protocol.specs.ends.Places as places;
+ghost use Rattle.atspi_protocol.specs.following.Replied as replied;
 ghost use Rattle.atspi_reader.specs.Turns.{is_answer, asked_of};
 ghost use Rattle.atspi_reader.specs.ReaderOf.{pending_of};
 
 use crate::waiting::Waiting;
 use atspi_base::NoMemory;
-use atspi_following::Question;
 use atspi_header::MessageRef;
+use atspi_protocol::following::Question;
 use atspi_reader_told::sender_of;
 use atspi_types::BusName;
 use std::alloc::Global;

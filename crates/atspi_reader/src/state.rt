@@ -1,7 +1,7 @@
 //! What a reader keeps.
 
 use crate::waiting::Waiting;
-use atspi_following::{Question, ReaderEvent};
+use atspi_protocol::following::{Question, ReaderEvent};
 use atspi_reader_known::Apps;
 use atspi_types::BusName;
 use std::alloc::Global;

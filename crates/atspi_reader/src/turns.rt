@@ -2,7 +2,7 @@
 
 ghost use Rattle.std.specs.Prelude.{◌≡◌, ◌≤◌, None, OnOk, OnErr, length, take};
 ghost use Rattle.atspi_header.specs.View.{envelope_at};
-ghost use Rattle.atspi_following.specs.Takes.{notes};
+ghost use Rattle.atspi_protocol.specs.following.Takes.{notes};
 ghost use Rattle.atspi_reader.specs.Doing.{all_done};
 ghost use Rattle.atspi_reader.specs.Turns.{did, coming, noted_if};
 ghost use Rattle.atspi_reader.specs.Asked.{waits, started, went_on, Asks, Queues};
@@ -12,9 +12,9 @@ use crate::asks::{Next, ask_next, ask_wish};
 use crate::state::Reader;
 use crate::waiting::Waiting;
 use atspi_base::NoMemory;
-use atspi_ends::EndFault;
-use atspi_following::{Question, ReaderEvent};
 use atspi_header::MessageRef;
+use atspi_protocol::ends::EndFault;
+use atspi_protocol::following::{Question, ReaderEvent};
 use atspi_reader_told::sender_of;
 use std::collections::VecDeque;
 

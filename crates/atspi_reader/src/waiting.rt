@@ -1,6 +1,6 @@
 //! The call that waits.
 
-use atspi_following::Question;
+use atspi_protocol::following::Question;
 
 /// A call of the reader's own that waits for its reply.
 #[derive(Drop)]

@@ -1,14 +1,14 @@
 //! What is wanted first once a change is done.
 
 ghost use Rattle.std.specs.Prelude.{◌≡◌, ◌∷◌, [], filter, not, IfOk};
-ghost use Rattle.atspi_following.specs.ReaderState.{is_named};
-ghost use Rattle.atspi_following.specs.Wishes.{wishes};
-ghost use Rattle.atspi_following.specs.Replied.{changed, refused_part};
+ghost use Rattle.atspi_protocol.specs.following.ReaderState.{is_named};
+ghost use Rattle.atspi_protocol.specs.following.Wishes.{wishes};
+ghost use Rattle.atspi_protocol.specs.following.Replied.{changed, refused_part};
 ghost use Rattle.atspi_reader_known.specs.Wanted.{first, refusing};
 
 use atspi_base::NoMemory;
-use atspi_following::Question;
-use atspi_news::PartName;
+use atspi_protocol::following::Question;
+use atspi_protocol::news::PartName;
 use atspi_reader_known::{App, Apps, Plan, Refused};
 use atspi_types::Path;
 use std::alloc::Global;

@@ -6,11 +6,11 @@ use Rattle.atspi_message.specs.Rules.{MeetsRules, HasRequired}
 use Rattle.atspi_forest.specs.Path.{path_of}
 use Rattle.atspi_lines.specs.declared.deed.Deed.{Deed}
 use Rattle.atspi_lines.specs.declared.deed.Deed.TheVariants.{SetCaret, InsertText, DeleteText, SetText, SelectChild, DeselectChild, SelectAll, ClearSelection, DoAction}
-use Rattle.atspi_news.specs.declared.part.PartName.TheVariants.{Text, Caret, Columns}
-use Rattle.atspi_ends.specs.Messages.{call_to}
-use Rattle.atspi_following.specs.declared.question.Question.{Question}
-use Rattle.atspi_following.specs.declared.question.Question.TheVariants.{Hello, AddMatch, RegisterEvent, GetChildren, GetItems, GetPart}
-use Rattle.atspi_following.specs.Calls.{asking, user_call, deed_call}
+use Rattle.atspi_protocol.specs.declared.news.part.PartName.TheVariants.{Text, Caret, Columns}
+use Rattle.atspi_protocol.specs.ends.Messages.{call_to}
+use Rattle.atspi_protocol.specs.declared.following.question.Question.{Question}
+use Rattle.atspi_protocol.specs.declared.following.question.Question.TheVariants.{Hello, AddMatch, RegisterEvent, GetChildren, GetItems, GetPart}
+use Rattle.atspi_protocol.specs.following.Calls.{asking, user_call, deed_call}
 
 call_meets : (serial : ℕ) (destination path interface member : List ℕ) (body : List Data) → serial ≢ 0 → AreWellTyped (items_of body) → MeetsRules (record (call_to destination path interface member body) { serial = serial })
 call_meets serial destination path interface member body some typed = record {

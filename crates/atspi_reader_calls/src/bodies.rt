@@ -4,7 +4,7 @@ ghost use Rattle.std.specs.Prelude.{◌≡◌, ◌≤◌, ◌<◌, ◌^◌, ◌�
 ghost use Rattle.atspi_types.specs.Data.{text_data};
 ghost use Rattle.atspi_types.specs.DataView.{data_of, all_data};
 ghost use Rattle.atspi_telling.specs.Plain.{are_plain};
-ghost use Rattle.atspi_following.specs.Calls.{int, minus_one, property};
+ghost use Rattle.atspi_protocol.specs.following.Calls.{int, minus_one, property};
 
 use atspi_base::{NoMemory, Text};
 use atspi_types::{Value, Values};

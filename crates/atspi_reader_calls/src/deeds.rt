@@ -6,9 +6,9 @@ ghost use Rattle.atspi_types.specs.Names.{is_member};
 ghost use Rattle.atspi_message.specs.Envelope.{envelope_of};
 ghost use Rattle.atspi_message.specs.Rules.{MeetsRules};
 ghost use Rattle.atspi_lines.specs.declared.deed.Deed.TheVariants.{SetCaret, InsertText, DeleteText, SetText, SelectChild, DeselectChild, SelectAll, ClearSelection, DoAction};
-ghost use Rattle.atspi_ends.specs.Messages as messages;
-ghost use Rattle.atspi_members.specs.Interfaces as interfaces;
-ghost use Rattle.atspi_following.specs.Calls as calls;
+ghost use Rattle.atspi_protocol.specs.ends.Messages as messages;
+ghost use Rattle.atspi_protocol.specs.members.Interfaces as interfaces;
+ghost use Rattle.atspi_protocol.specs.following.Calls as calls;
 ghost use Rattle.atspi_reader_calls.specs.Deeds.{MayBeAsked};
 
 use crate::bodies::{nothing, number, one, placed, text, two};

@@ -3,15 +3,15 @@
 ghost use Rattle.std.specs.Prelude.{◌≡◌, ◌≢◌, IfOk};
 ghost use Rattle.atspi_message.specs.Envelope.{envelope_of};
 ghost use Rattle.atspi_message.specs.Rules.{MeetsRules};
-ghost use Rattle.atspi_following.specs.declared.question.Question.TheVariants.{GetItems};
-ghost use Rattle.atspi_following.specs.Calls as calls;
+ghost use Rattle.atspi_protocol.specs.declared.following.question.Question.TheVariants.{GetItems};
+ghost use Rattle.atspi_protocol.specs.following.Calls as calls;
 
 use crate::bodies::{caret_property, columns_property, nothing, text, whole};
 use crate::targets::{bus_call, cache_object, children_call, object_call, register_call};
 use atspi_base::NoMemory;
-use atspi_following::Question;
 use atspi_message::Message;
-use atspi_news::PartName;
+use atspi_protocol::following::Question;
+use atspi_protocol::news::PartName;
 use atspi_types::{BusName, Path};
 use std::alloc::Global;
 

@@ -4,13 +4,13 @@ ghost use Rattle.std.specs.Prelude.{◌≡◌, true, codes, IfOk};
 ghost use Rattle.atspi_types.specs.DataView.{all_data};
 ghost use Rattle.atspi_types.specs.Names.{is_interface, is_member};
 ghost use Rattle.atspi_message.specs.Envelope.{envelope_of};
-ghost use Rattle.atspi_ends.specs.Messages as messages;
-ghost use Rattle.atspi_ends.specs.Places.{bus, bus_path, registry, registry_path, root_path, cache_path};
-ghost use Rattle.atspi_members.specs.Interfaces as interfaces;
+ghost use Rattle.atspi_protocol.specs.ends.Messages as messages;
+ghost use Rattle.atspi_protocol.specs.ends.Places.{bus, bus_path, registry, registry_path, root_path, cache_path};
+ghost use Rattle.atspi_protocol.specs.members.Interfaces as interfaces;
 
 use atspi_base::NoMemory;
-use atspi_ends::{bus_name, call_to, interface, member, path};
 use atspi_message::Message;
+use atspi_protocol::ends::{bus_name, call_to, interface, member, path};
 use atspi_types::{BusName, Path, Values};
 use std::alloc::Global;
 

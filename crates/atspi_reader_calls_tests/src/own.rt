@@ -1,8 +1,8 @@
 //! The calls of a reader's own.
 
 use crate::shown::{bus_name, path, shown, text};
-use atspi_following::Question;
-use atspi_news::PartName;
+use atspi_protocol::following::Question;
+use atspi_protocol::news::PartName;
 use atspi_reader_calls::asking;
 use std::alloc::Global;
 use std::process::Abort;

@@ -13,10 +13,10 @@ use Rattle.atspi_forest.specs.News.{load}
 use Rattle.atspi_arena.specs.Sights.{sights}
 use Rattle.atspi_cache.specs.Cache.{View, Views, folded, loaded, reloads, told, with_view}
 use Rattle.atspi_cache.specs.Spoken as spoken
-use Rattle.atspi_news.specs.declared.part.PartName.{PartName}
-use Rattle.atspi_following.specs.ReaderState.{Followed}
-use Rattle.atspi_following.specs.Replied as replied
-use Rattle.atspi_following.specs.Takes as takes
+use Rattle.atspi_protocol.specs.declared.news.part.PartName.{PartName}
+use Rattle.atspi_protocol.specs.following.ReaderState.{Followed}
+use Rattle.atspi_protocol.specs.following.Replied as replied
+use Rattle.atspi_protocol.specs.following.Takes as takes
 use Rattle.atspi_reader_known.specs.Kept.{kept, rows_of, IsKept, lines_in, closing_in}
 
 pub kept_folded : (news : News) (views : Views) → kept (folded 0 news views) ≡ option_map (told news) (kept views)

@@ -16,9 +16,9 @@ use Rattle.atspi_forest.specs.Row.{insert_there, delete_there}
 use Rattle.atspi_forest.specs.News.{is_path, is_seat_at, seat_in, spot, effect, renewed, moved, known_text_with, known_number_to, told_text, told_number, with_count}
 use Rattle.atspi_forest.proofs.Labels.{each_put_in, each_take_out, each_pick, each_relabel}
 use Rattle.atspi_forest.proofs.Found.{EachLabel-weaker}
-use Rattle.atspi_news.specs.declared.part.PartName.{PartName}
-use Rattle.atspi_news.specs.declared.part.PartName.TheVariants.{Text as TextPart, Caret as CaretPart, Columns as ColumnsPart}
-use Rattle.atspi_following.specs.Wishes.{is_refused, text_is_unknown, number_is_unknown}
+use Rattle.atspi_protocol.specs.declared.news.part.PartName.{PartName}
+use Rattle.atspi_protocol.specs.declared.news.part.PartName.TheVariants.{Text as TextPart, Caret as CaretPart, Columns as ColumnsPart}
+use Rattle.atspi_protocol.specs.following.Wishes.{is_refused, text_is_unknown, number_is_unknown}
 use Rattle.atspi_reader_known.specs.Wanted.{first_part, part_if}
 
 pub record Fewer (new old : Row) : Type 0 where

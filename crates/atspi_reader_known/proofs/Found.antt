@@ -12,10 +12,10 @@ use Rattle.atspi_arena.specs.Sights.{Sight, sights}
 use Rattle.atspi_speech.specs.Looked.{adds}
 use Rattle.atspi_cache.specs.Cache.{View, row_in}
 use Rattle.atspi_cache.proofs.Effects.{found_has}
-use Rattle.atspi_news.specs.declared.part.PartName.{PartName}
-use Rattle.atspi_following.specs.declared.question.Question.TheVariants.{GetItems}
-use Rattle.atspi_following.specs.ReaderState.{Followed}
-use Rattle.atspi_following.specs.Wishes.{wishes_of}
+use Rattle.atspi_protocol.specs.declared.news.part.PartName.{PartName}
+use Rattle.atspi_protocol.specs.declared.following.question.Question.TheVariants.{GetItems}
+use Rattle.atspi_protocol.specs.following.ReaderState.{Followed}
+use Rattle.atspi_protocol.specs.following.Wishes.{wishes_of}
 use Rattle.atspi_reader_known.specs.Kept.{rows_of}
 use Rattle.atspi_reader_known.specs.Wanted.{first, first_part, first_wanted, wish_at}
 use Rattle.atspi_reader_known.proofs.Rows.{row_of_sight}

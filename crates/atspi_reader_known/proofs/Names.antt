@@ -4,9 +4,9 @@ use Rattle.std.specs.Prelude.{Ok, Err, OnOk, OnErr}
 use Rattle.atspi_forest.specs.declared.view.Row.{Row}
 use Rattle.atspi_forest.specs.declared.news.News.{News}
 use Rattle.atspi_forest.specs.Forest.{Forest}
-use Rattle.atspi_following.specs.ReaderState.{Followed}
-use Rattle.atspi_following.specs.Replied.{told_part}
-use Rattle.atspi_following.specs.Takes.{folded}
+use Rattle.atspi_protocol.specs.following.ReaderState.{Followed}
+use Rattle.atspi_protocol.specs.following.Replied.{told_part}
+use Rattle.atspi_protocol.specs.following.Takes.{folded}
 
 pub folded_name : (news : News) (app : Followed) → (folded news app).name ≡ app.name
 folded_name news app = by app.view refl

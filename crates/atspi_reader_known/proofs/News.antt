@@ -12,11 +12,11 @@ use Rattle.atspi_forest.proofs.Labels.{each_put_in}
 use Rattle.atspi_forest.proofs.Found.{EachLabel-weaker}
 use Rattle.atspi_cache.proofs.Effects.{found_has}
 use Rattle.atspi_speech.specs.Looked.{adds}
-use Rattle.atspi_news.specs.declared.part.PartName.{PartName}
-use Rattle.atspi_following.specs.declared.question.Question.TheVariants.{GetItems, GetPart}
-use Rattle.atspi_following.specs.ReaderState.{Followed}
-use Rattle.atspi_following.specs.Takes.{folded}
-use Rattle.atspi_following.specs.Wishes.{wishes_of}
+use Rattle.atspi_protocol.specs.declared.news.part.PartName.{PartName}
+use Rattle.atspi_protocol.specs.declared.following.question.Question.TheVariants.{GetItems, GetPart}
+use Rattle.atspi_protocol.specs.following.ReaderState.{Followed}
+use Rattle.atspi_protocol.specs.following.Takes.{folded}
+use Rattle.atspi_protocol.specs.following.Wishes.{wishes_of}
 use Rattle.atspi_reader_known.specs.Wanted.{first, first_part, first_wanted, part_question, wish_at}
 use Rattle.atspi_reader_known.proofs.Firsts.{none_mapped}
 use Rattle.atspi_reader_known.proofs.Rows.{first_held}

@@ -4,12 +4,12 @@ use Rattle.std.specs.Prelude.{◌&&◌, flat_map}
 use Rattle.std.specs.Option.{option_map}
 use Rattle.atspi_forest.specs.declared.view.Row.{Row}
 use Rattle.atspi_forest.specs.Forest.{first_of}
-use Rattle.atspi_news.specs.declared.part.PartName.{PartName}
-use Rattle.atspi_news.specs.declared.part.PartName.TheVariants.{Text, Caret, Columns}
-use Rattle.atspi_following.specs.declared.question.Question.{Question}
-use Rattle.atspi_following.specs.declared.question.Question.TheVariants.{GetPart}
-use Rattle.atspi_following.specs.ReaderState.{Followed}
-use Rattle.atspi_following.specs.Wishes.{is_refused, unknown_if, row_wishes, text_is_unknown, number_is_unknown}
+use Rattle.atspi_protocol.specs.declared.news.part.PartName.{PartName}
+use Rattle.atspi_protocol.specs.declared.news.part.PartName.TheVariants.{Text, Caret, Columns}
+use Rattle.atspi_protocol.specs.declared.following.question.Question.{Question}
+use Rattle.atspi_protocol.specs.declared.following.question.Question.TheVariants.{GetPart}
+use Rattle.atspi_protocol.specs.following.ReaderState.{Followed}
+use Rattle.atspi_protocol.specs.following.Wishes.{is_refused, unknown_if, row_wishes, text_is_unknown, number_is_unknown}
 use Rattle.atspi_reader_known.specs.Wanted.{first, first_part, first_wanted, part_if, part_question, unrefused}
 use Rattle.atspi_reader_known.proofs.Firsts.{first-append, first-map, first_of-map}
 

@@ -5,7 +5,7 @@ use Rattle.std.specs.List.{list_any, position, position_or_len}
 use Rattle.std.specs.Option.{option_map}
 use Rattle.std.proofs.lemmas.Bool.Decides.{nat_tests}
 use Rattle.std.proofs.lemmas.Slice.Eq.{bytes_eq-Decides}
-use Rattle.atspi_following.specs.ReaderState.{Followed, is_named}
+use Rattle.atspi_protocol.specs.following.ReaderState.{Followed, is_named}
 use Rattle.atspi_reader_known.specs.Unique.{AreUnique}
 use Rattle.atspi_reader_known.specs.Places.{AreFound, moved_up, place_in}
 use Rattle.atspi_reader_known.specs.declared.places.Places.{Places}

@@ -3,14 +3,14 @@ use Rattle.std.proofs.Common.{◌≡◌, ℕ, suc, ◌+◌, ◌<◌, Bool, true,
 use Rattle.std.specs.Prelude.{if◌then◌else◌}
 use Rattle.std.proofs.Math.Seq.{drop-cons}
 use Rattle.std.proofs.lemmas.List.{append-nil}
-use Rattle.atspi_news.specs.declared.part.PartName.{PartName}
+use Rattle.atspi_protocol.specs.declared.news.part.PartName.{PartName}
 use Rattle.std.specs.Prelude.{flat_map}
 use Rattle.std.proofs.lemmas.List.Concat.{flat_map-append}
 use Rattle.atspi_forest.specs.Forest.{first_of}
-use Rattle.atspi_following.specs.declared.question.Question.{Question}
-use Rattle.atspi_following.specs.ReaderState.{Followed, is_named}
-use Rattle.atspi_following.specs.Wishes.{wishes, wishes_of}
-use Rattle.atspi_following.specs.Replied.{changed}
+use Rattle.atspi_protocol.specs.declared.following.question.Question.{Question}
+use Rattle.atspi_protocol.specs.following.ReaderState.{Followed, is_named}
+use Rattle.atspi_protocol.specs.following.Wishes.{wishes, wishes_of}
+use Rattle.atspi_protocol.specs.following.Replied.{changed}
 use Rattle.atspi_reader_known.specs.declared.plan.Plan.{Plan}
 use Rattle.atspi_reader_known.specs.declared.plan.Plan.TheVariants.{Forget}
 use Rattle.atspi_reader_known.specs.Wanted.{first, refusing}

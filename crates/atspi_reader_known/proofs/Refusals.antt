@@ -3,9 +3,9 @@ use Rattle.std.proofs.Common.{◌≡◌, ℕ, Bool, true, false, cond, List, [],
 use Rattle.std.specs.Prelude.{◌&&◌, ◌||◌, bytes_eq}
 use Rattle.std.specs.BTreeSet.{contains_text}
 use Rattle.std.proofs.lemmas.List.Folds.{list_any-append}
-use Rattle.atspi_news.specs.declared.part.PartName.{PartName}
-use Rattle.atspi_news.specs.declared.part.PartName.TheVariants.{Text, Caret, Columns}
-use Rattle.atspi_following.specs.Wishes.{is_refused, same_part}
+use Rattle.atspi_protocol.specs.declared.news.part.PartName.{PartName}
+use Rattle.atspi_protocol.specs.declared.news.part.PartName.TheVariants.{Text, Caret, Columns}
+use Rattle.atspi_protocol.specs.following.Wishes.{is_refused, same_part}
 use Rattle.atspi_reader_known.specs.declared.refused.Parts.{Parts}
 use Rattle.atspi_reader_known.specs.Refusals.{AreSame, Puts, has_part}
 

@@ -5,8 +5,8 @@ use Rattle.std.proofs.lemmas.List.{map-append}
 use Rattle.atspi_forest.specs.declared.view.Row.{Row}
 use Rattle.atspi_forest.specs.Forest.{Forest, nil, tree, labels, relabel, seats}
 use Rattle.atspi_arena.specs.Sights.{Sight, sight, sights}
-use Rattle.atspi_following.specs.ReaderState.{Followed}
-use Rattle.atspi_following.specs.Wishes.{wishes_of}
+use Rattle.atspi_protocol.specs.following.ReaderState.{Followed}
+use Rattle.atspi_protocol.specs.following.Wishes.{wishes_of}
 use Rattle.atspi_reader_known.specs.Wanted.{first, first_wanted, part_question}
 use Rattle.atspi_reader_known.proofs.Parts.{first_rows}
 

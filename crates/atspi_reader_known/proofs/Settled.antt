@@ -6,11 +6,11 @@ use Rattle.atspi_forest.specs.declared.view.Row.{Row}
 use Rattle.atspi_forest.specs.declared.news.News.{News}
 use Rattle.atspi_forest.specs.Forest.{Forest, labels}
 use Rattle.atspi_cache.specs.Cache.{View}
-use Rattle.atspi_news.specs.declared.part.PartName.{PartName}
-use Rattle.atspi_following.specs.declared.question.Question.TheVariants.{GetItems}
-use Rattle.atspi_following.specs.ReaderState.{Followed}
-use Rattle.atspi_following.specs.Takes.{folded, noted}
-use Rattle.atspi_following.specs.Wishes.{wishes_of}
+use Rattle.atspi_protocol.specs.declared.news.part.PartName.{PartName}
+use Rattle.atspi_protocol.specs.declared.following.question.Question.TheVariants.{GetItems}
+use Rattle.atspi_protocol.specs.following.ReaderState.{Followed}
+use Rattle.atspi_protocol.specs.following.Takes.{folded, noted}
+use Rattle.atspi_protocol.specs.following.Wishes.{wishes_of}
 use Rattle.atspi_reader_known.specs.Wanted.{first, first_wanted, part_question, wish_at}
 use Rattle.atspi_reader_known.proofs.Cached.{app_of}
 use Rattle.atspi_reader_known.proofs.Found.{shown}

@@ -5,10 +5,10 @@ use Rattle.atspi_types.specs.Kinds.{byte, i16, u16, i32, u32, i64, u64, double}
 use Rattle.atspi_types.specs.Data.{Data, number_data, boolean_data, text_data, path_data, signature_data, array_data, structure_data, dictionary_data, variant_data}
 use Rattle.atspi_forest.specs.declared.news.News.{News}
 use Rattle.atspi_forest.specs.declared.news.News.TheVariants.{TextIs, CaretIs, ColumnsIs}
-use Rattle.atspi_news.specs.declared.part.PartName.{PartName}
-use Rattle.atspi_news.specs.declared.part.PartName.TheVariants.{Text, Caret, Columns}
-use Rattle.atspi_news.specs.Arguments.{signed}
-use Rattle.atspi_news.specs.Replies.{if_not_negative, part_in}
+use Rattle.atspi_protocol.specs.declared.news.part.PartName.{PartName}
+use Rattle.atspi_protocol.specs.declared.news.part.PartName.TheVariants.{Text, Caret, Columns}
+use Rattle.atspi_protocol.specs.news.Arguments.{signed}
+use Rattle.atspi_protocol.specs.news.Replies.{if_not_negative, part_in}
 
 abbrev pub IsPart : PartName → List ℕ → News → Type 0
 IsPart Text path news = (x : List ℕ) × (news ≡ TextIs path x)

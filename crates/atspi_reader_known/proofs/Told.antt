@@ -12,12 +12,12 @@ use Rattle.atspi_forest.specs.declared.view.NumPart.TheVariants.{Absent as NoNum
 use Rattle.atspi_forest.specs.declared.news.News.{News}
 use Rattle.atspi_forest.specs.Forest.{Forest, first_of, labels, change}
 use Rattle.atspi_forest.specs.News.{is_path, effect, told_text, told_number}
-use Rattle.atspi_news.specs.declared.part.PartName.{PartName}
-use Rattle.atspi_news.specs.declared.part.PartName.TheVariants.{Text as TextPart, Caret as CaretPart, Columns as ColumnsPart}
-use Rattle.atspi_following.specs.declared.question.Question.{Question}
-use Rattle.atspi_following.specs.ReaderState.{Followed, is_named}
-use Rattle.atspi_following.specs.Replied.{changed, refused_part, told_part}
-use Rattle.atspi_following.specs.Wishes.{is_refused, same_part, text_is_unknown, number_is_unknown, wishes, wishes_of}
+use Rattle.atspi_protocol.specs.declared.news.part.PartName.{PartName}
+use Rattle.atspi_protocol.specs.declared.news.part.PartName.TheVariants.{Text as TextPart, Caret as CaretPart, Columns as ColumnsPart}
+use Rattle.atspi_protocol.specs.declared.following.question.Question.{Question}
+use Rattle.atspi_protocol.specs.following.ReaderState.{Followed, is_named}
+use Rattle.atspi_protocol.specs.following.Replied.{changed, refused_part, told_part}
+use Rattle.atspi_protocol.specs.following.Wishes.{is_refused, same_part, text_is_unknown, number_is_unknown, wishes, wishes_of}
 use Rattle.atspi_reader_known.specs.Wanted.{first, first_part, first_wanted, part_if, part_question}
 use Rattle.atspi_reader_known.proofs.Firsts.{first-append}
 use Rattle.atspi_reader_known.proofs.Rows.{first_held, labels-relabel}

@@ -6,9 +6,9 @@ use Rattle.std.proofs.lemmas.Bool.{ltb-false}
 use Rattle.std.proofs.lemmas.List.Sums.{fails_before_first}
 use Rattle.std.proofs.lemmas.Slice.Eq.{bytes_eq-Decides}
 use Rattle.std.proofs.lemmas.List.Quantifiers.{position-Some}
-use Rattle.atspi_following.specs.ReaderState.{Followed, is_named}
-use Rattle.atspi_following.specs.Replied.{changed}
-use Rattle.atspi_following.specs.Takes.{found_in}
+use Rattle.atspi_protocol.specs.following.ReaderState.{Followed, is_named}
+use Rattle.atspi_protocol.specs.following.Replied.{changed}
+use Rattle.atspi_protocol.specs.following.Takes.{found_in}
 use Rattle.atspi_reader_known.specs.Unique.{AreUnique}
 
 pub or_right : (a b : Bool) → (a || b) ≡ false → b ≡ false

@@ -4,9 +4,9 @@ use Rattle.std.specs.Coded.{Coded, code_by, coded_ℕ, coded_bool, coded_list, c
 use Rattle.atspi_forest.specs.declared.view.Row.{Row}
 use Rattle.atspi_forest.specs.Forest.{Forest}
 use Rattle.atspi_forest.specs.ForestCode.{forest_code}
-use Rattle.atspi_news.specs.declared.part.PartName.{PartName}
-use Rattle.atspi_news.specs.declared.part.PartName.TheVariants.{Text, Caret, Columns}
-use Rattle.atspi_following.specs.ReaderState.{Followed}
+use Rattle.atspi_protocol.specs.declared.news.part.PartName.{PartName}
+use Rattle.atspi_protocol.specs.declared.news.part.PartName.TheVariants.{Text, Caret, Columns}
+use Rattle.atspi_protocol.specs.following.ReaderState.{Followed}
 
 abbrev number_of : PartName → ℕ
 number_of Text = 0

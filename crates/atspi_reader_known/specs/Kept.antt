@@ -6,7 +6,7 @@ use Rattle.atspi_forest.specs.declared.news.News.{News}
 use Rattle.atspi_forest.specs.Forest.{Forest}
 use Rattle.atspi_cache.specs.Cache.{View, Views}
 use Rattle.atspi_speech.specs.Speech.{closing_lines, lines}
-use Rattle.atspi_following.specs.ReaderState.{Followed}
+use Rattle.atspi_protocol.specs.following.ReaderState.{Followed}
 
 -- the one view in an application's own cache
 abbrev pub kept : Views → Option View

@@ -2,7 +2,7 @@
 use Rattle.std.specs.Prelude.{◌≡◌, ℕ, ◌-◌, nat_lt, List, Option, if◌then◌else◌}
 use Rattle.std.specs.List.{position}
 use Rattle.std.specs.BTreeMap.{get_by_text}
-use Rattle.atspi_following.specs.ReaderState.{Followed, is_named}
+use Rattle.atspi_protocol.specs.following.ReaderState.{Followed, is_named}
 use Rattle.atspi_reader_known.specs.Unique.{AreUnique}
 use Rattle.atspi_reader_known.specs.declared.places.Places.{Places}
 

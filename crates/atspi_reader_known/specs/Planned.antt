@@ -1,9 +1,9 @@
 -- The applications after a change that is planned, and what is wanted then.
 use Rattle.std.specs.Prelude.{ℕ, List, [], ◌∷◌, Option, None, if◌then◌else◌}
 use Rattle.atspi_forest.specs.Forest.{first_of}
-use Rattle.atspi_following.specs.declared.question.Question.{Question}
-use Rattle.atspi_following.specs.ReaderState.{Followed, is_named}
-use Rattle.atspi_following.specs.Wishes.{wishes}
+use Rattle.atspi_protocol.specs.declared.following.question.Question.{Question}
+use Rattle.atspi_protocol.specs.following.ReaderState.{Followed, is_named}
+use Rattle.atspi_protocol.specs.following.Wishes.{wishes}
 use Rattle.atspi_reader_known.specs.declared.plan.Plan.{Plan}
 use Rattle.atspi_reader_known.specs.declared.plan.Plan.TheVariants.{Settle, Put, Forget}
 use Rattle.atspi_reader_known.specs.Wanted.{first, refusing}

@@ -1,9 +1,9 @@
 -- Which parts were refused, by the paths of their rows.
 use Rattle.std.specs.Prelude.{◌≡◌, ℕ, Bool, ◌&&◌, ◌||◌, List, bytes_eq}
 use Rattle.std.specs.BTreeSet.{contains_text}
-use Rattle.atspi_news.specs.declared.part.PartName.{PartName}
-use Rattle.atspi_news.specs.declared.part.PartName.TheVariants.{Text, Caret, Columns}
-use Rattle.atspi_following.specs.Wishes.{is_refused, same_part}
+use Rattle.atspi_protocol.specs.declared.news.part.PartName.{PartName}
+use Rattle.atspi_protocol.specs.declared.news.part.PartName.TheVariants.{Text, Caret, Columns}
+use Rattle.atspi_protocol.specs.following.Wishes.{is_refused, same_part}
 use Rattle.atspi_reader_known.specs.declared.refused.Parts.{Parts}
 
 -- whether the path is among those of the part

@@ -8,12 +8,12 @@ use Rattle.atspi_forest.specs.declared.news.News.TheVariants.{ChildAdded, Item a
 use Rattle.atspi_forest.specs.Forest.{Forest, first_of, has, find}
 use Rattle.atspi_forest.specs.News.{is_path, fresh}
 use Rattle.atspi_speech.specs.Looked.{adds}
-use Rattle.atspi_news.specs.declared.part.PartName.{PartName}
-use Rattle.atspi_news.specs.declared.part.PartName.TheVariants.{Text, Caret, Columns}
-use Rattle.atspi_following.specs.declared.question.Question.{Question}
-use Rattle.atspi_following.specs.declared.question.Question.TheVariants.{GetItems, GetPart}
-use Rattle.atspi_following.specs.ReaderState.{Followed}
-use Rattle.atspi_following.specs.Wishes.{is_refused, unknown_parts, text_is_unknown, number_is_unknown}
+use Rattle.atspi_protocol.specs.declared.news.part.PartName.{PartName}
+use Rattle.atspi_protocol.specs.declared.news.part.PartName.TheVariants.{Text, Caret, Columns}
+use Rattle.atspi_protocol.specs.declared.following.question.Question.{Question}
+use Rattle.atspi_protocol.specs.declared.following.question.Question.TheVariants.{GetItems, GetPart}
+use Rattle.atspi_protocol.specs.following.ReaderState.{Followed}
+use Rattle.atspi_protocol.specs.following.Wishes.{is_refused, unknown_parts, text_is_unknown, number_is_unknown}
 
 -- the first of some
 abbrev pub first : {A : Type 0} → List A → Option A

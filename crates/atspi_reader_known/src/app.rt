@@ -8,10 +8,10 @@ ghost use Rattle.atspi_forest.specs.News.{is_path, load};
 ghost use Rattle.atspi_forest.specs.declared.news.News.TheVariants.{ChildAdded, Item as NewItem};
 ghost use Rattle.atspi_speech.specs.Looked.{adds};
 ghost use Rattle.atspi_forest.specs.declared.view.Row.{Row};
-ghost use Rattle.atspi_following.specs.ReaderState.{Followed, is_named};
-ghost use Rattle.atspi_following.specs.Wishes.{wishes_of};
-ghost use Rattle.atspi_following.specs.Replied as replied;
-ghost use Rattle.atspi_following.specs.Takes as takes;
+ghost use Rattle.atspi_protocol.specs.following.ReaderState.{Followed, is_named};
+ghost use Rattle.atspi_protocol.specs.following.Wishes.{wishes_of};
+ghost use Rattle.atspi_protocol.specs.following.Replied as replied;
+ghost use Rattle.atspi_protocol.specs.following.Takes as takes;
 ghost use Rattle.atspi_reader_known.specs.Kept.{kept, rows_of, lines_in, closing_in};
 ghost use Rattle.atspi_reader_known.specs.Wanted as wanted;
 ghost use Rattle.atspi_reader_known.specs.Wanted.{first, lent, part_question, refusing, wish_at};
@@ -21,9 +21,9 @@ use crate::refused::Refused;
 use crate::unknown::first_wanted;
 use atspi_base::{NoMemory, Text, Texts};
 use atspi_cache::{Cache, Rows, closing, lines};
-use atspi_following::Question;
 use atspi_forest::{Item, Items, News};
-use atspi_news::PartName;
+use atspi_protocol::following::Question;
+use atspi_protocol::news::PartName;
 use atspi_types::{BusName, Path};
 use std::alloc::Global;
 use std::marker::Model;
@@ -49,7 +49,7 @@ pub struct App {
 
 impl Model for App {
     ghost use Rattle.atspi_forest.specs.contracts.view.Row as view_row;
-    ghost use Rattle.atspi_following.specs.ReaderState.{Followed};
+    ghost use Rattle.atspi_protocol.specs.following.ReaderState.{Followed};
     ghost use Rattle.atspi_reader_known.specs.FollowedCode.{followed_code};
     ghost use Rattle.atspi_reader_known.specs.Kept.{kept, rows_of, IsKept};
     ghost use Rattle.atspi_reader_known.specs.Settled.{IsSoSettled};

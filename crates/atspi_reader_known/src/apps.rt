@@ -3,11 +3,11 @@
 ghost use Rattle.std.specs.Prelude.{◌≡◌, ◌-◌, ◌<◌, [], ◌∷◌, ◌++◌, false, not, filter, length, take, map, flat_map, IfOk, OnOk, OnErr};
 ghost use Rattle.std.specs.List.{list_any, position};
 ghost use Rattle.std.specs.Option.{option_copied};
-ghost use Rattle.atspi_following.specs.ReaderState.{is_named};
-ghost use Rattle.atspi_following.specs.Wishes.{wishes};
-ghost use Rattle.atspi_following.specs.Replied as replied;
-ghost use Rattle.atspi_following.specs.Replied.{changed};
-ghost use Rattle.atspi_following.specs.Takes as takes;
+ghost use Rattle.atspi_protocol.specs.following.ReaderState.{is_named};
+ghost use Rattle.atspi_protocol.specs.following.Wishes.{wishes};
+ghost use Rattle.atspi_protocol.specs.following.Replied as replied;
+ghost use Rattle.atspi_protocol.specs.following.Replied.{changed};
+ghost use Rattle.atspi_protocol.specs.following.Takes as takes;
 ghost use Rattle.atspi_reader_known.specs.Places.{AreFound};
 ghost use Rattle.atspi_reader_known.specs.Wanted.{first};
 ghost use Rattle.atspi_reader_known.specs.Planned.{one_planned, first_planned};
@@ -16,9 +16,9 @@ use crate::app::App;
 use crate::places::Places;
 use crate::plan::Plan;
 use atspi_base::NoMemory;
-use atspi_following::Question;
 use atspi_forest::News;
-use atspi_news::PartName;
+use atspi_protocol::following::Question;
+use atspi_protocol::news::PartName;
 use atspi_types::Path;
 use std::alloc::Global;
 use std::marker::Model;
@@ -36,7 +36,7 @@ impl Model for Apps {
     ghost use Rattle.std.specs.Prelude.{List};
     ghost use Rattle.std.specs.Coded.{coded_list};
     ghost use Rattle.atspi_forest.specs.contracts.view.Row as view_row;
-    ghost use Rattle.atspi_following.specs.ReaderState.{Followed};
+    ghost use Rattle.atspi_protocol.specs.following.ReaderState.{Followed};
     ghost use Rattle.atspi_reader_known.specs.FollowedCode.{followed_code};
     ghost use Rattle.atspi_reader_known.specs.Places.{AreFound};
 

@@ -8,7 +8,7 @@ ghost use Rattle.atspi_reader_known.specs.Wanted.{first_part};
 use crate::refused::Refused;
 use atspi_base::Text;
 use atspi_forest::Item;
-use atspi_news::PartName;
+use atspi_protocol::news::PartName;
 
 /// Whether a text has just these characters of ASCII.
 fn is_word(text: &Text, word: &str) -> bool

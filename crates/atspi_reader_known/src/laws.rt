@@ -4,11 +4,11 @@ ghost use Rattle.std.specs.Prelude.{◌≡◌, ℕ, List, Some, not, filter, fla
 ghost use Rattle.std.specs.Borrow.{Bor};
 ghost use Rattle.atspi_types.specs.Data.{Data};
 ghost use Rattle.atspi_forest.specs.declared.news.News.{News};
-ghost use Rattle.atspi_news.specs.declared.part.PartName.{PartName};
-ghost use Rattle.atspi_news.specs.Replies.{part_in};
-ghost use Rattle.atspi_following.specs.ReaderState.{Followed, is_named};
-ghost use Rattle.atspi_following.specs.Wishes.{wishes};
-ghost use Rattle.atspi_following.specs.Replied.{changed, refused_part, told_part};
+ghost use Rattle.atspi_protocol.specs.declared.news.part.PartName.{PartName};
+ghost use Rattle.atspi_protocol.specs.news.Replies.{part_in};
+ghost use Rattle.atspi_protocol.specs.following.ReaderState.{Followed, is_named};
+ghost use Rattle.atspi_protocol.specs.following.Wishes.{wishes};
+ghost use Rattle.atspi_protocol.specs.following.Replied.{changed, refused_part, told_part};
 ghost use Rattle.atspi_reader_known.specs.declared.plan.Plan.TheVariants.{Settle, Put, Forget};
 ghost use Rattle.atspi_reader_known.specs.Wanted.{first, refusing};
 ghost use Rattle.atspi_reader_known.specs.Planned.{one_planned};

@@ -2,12 +2,12 @@
 
 ghost use Rattle.std.specs.Prelude.{◌≡◌, ℕ, List, [], ◌∷◌, ◌++◌, true, cond, bytes_eq, OnOk, OnErr};
 ghost use Rattle.std.specs.BTreeSet.{contains_text};
-ghost use Rattle.atspi_news.specs.declared.part.PartName.{PartName};
-ghost use Rattle.atspi_following.specs.Wishes as wishes;
+ghost use Rattle.atspi_protocol.specs.declared.news.part.PartName.{PartName};
+ghost use Rattle.atspi_protocol.specs.following.Wishes as wishes;
 ghost use Rattle.atspi_reader_known.specs.Refusals.{AreSame, Puts, has_part};
 
 use atspi_base::NoMemory;
-use atspi_news::PartName;
+use atspi_protocol::news::PartName;
 use atspi_types::Path;
 use std::alloc::Global;
 use std::collections::BTreeSet;
@@ -32,7 +32,7 @@ pub(crate) struct Parts {
 
 impl Model for Refused {
     ghost use Rattle.std.specs.Prelude.{ℕ, List};
-    ghost use Rattle.atspi_news.specs.declared.part.PartName.{PartName};
+    ghost use Rattle.atspi_protocol.specs.declared.news.part.PartName.{PartName};
     ghost use Rattle.atspi_reader_known.specs.FollowedCode.{refused_code};
 
     ghost Value = { List (List ℕ × PartName) };

@@ -3,14 +3,14 @@
 ghost use Rattle.std.specs.Prelude.{◌≡◌, ◌++◌, map};
 ghost use Rattle.std.specs.Option.{option_map};
 ghost use Rattle.atspi_arena.specs.Sights.{Sight};
-ghost use Rattle.atspi_following.specs.Wishes.{is_refused, text_is_unknown, number_is_unknown};
+ghost use Rattle.atspi_protocol.specs.following.Wishes.{is_refused, text_is_unknown, number_is_unknown};
 ghost use Rattle.atspi_reader_known.specs.Wanted as wanted;
 ghost use Rattle.atspi_reader_known.specs.Wanted.{lent};
 
 use crate::refused::Refused;
 use atspi_cache::Rows;
 use atspi_forest::{NumPart, Part, Row};
-use atspi_news::PartName;
+use atspi_protocol::news::PartName;
 use atspi_types::Path;
 
 /// Whether a text is there and not known.

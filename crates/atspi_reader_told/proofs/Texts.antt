@@ -9,7 +9,7 @@ use Rattle.std.proofs.lemmas.Str.Ascii.{IsAscii-nil}
 use Rattle.atspi_types.specs.Data.{Data, text_data}
 use Rattle.atspi_types.specs.Names.{is_bus_name}
 use Rattle.atspi_types.proofs.NameLemmas.{IsAscii-IsBusName, IsBusName-from_test}
-use Rattle.atspi_following.specs.Replied.{is_unique_name_alone}
+use Rattle.atspi_protocol.specs.following.Replied.{is_unique_name_alone}
 use Rattle.atspi_reader_told.specs.Alone.{text_alone, unique_if}
 
 same_text : (a b cs : List ℕ) → IsUtf8 a → IsUtf8 b → chars a ≡ cs → bytes_eq a b ≡ bytes_eq cs (chars b)

@@ -2,7 +2,7 @@
 use Rattle.std.specs.Prelude.{ℕ, Bool, false, ◌&&◌, List, Option, Some, None}
 use Rattle.atspi_types.specs.Data.{Data}
 use Rattle.atspi_types.specs.Names.{is_bus_name, is_unique_name}
-use Rattle.atspi_news.specs.Arguments.{then_text, then_end}
+use Rattle.atspi_protocol.specs.news.Arguments.{then_text, then_end}
 
 abbrev pub text_alone : List Data → Option (List ℕ)
 text_alone = then_text (λ text. then_end text)

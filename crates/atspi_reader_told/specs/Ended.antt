@@ -1,7 +1,7 @@
 -- The end of a name, read value by value.
 use Rattle.std.specs.Prelude.{ℕ, List, [], Option, Some, None}
 use Rattle.atspi_types.specs.Data.{Data}
-use Rattle.atspi_news.specs.Arguments.{then_text}
+use Rattle.atspi_protocol.specs.news.Arguments.{then_text}
 
 -- the new owner is nobody, and nothing stands behind it
 abbrev pub ended_if : List ℕ → List ℕ → List Data → Option (List ℕ)

@@ -4,13 +4,13 @@ ghost use Rattle.std.specs.Prelude.{◌≡◌, ◌==◌, ◌&&◌, ◌++◌, ◌
 ghost use Rattle.std.specs.Option.{option_map};
 ghost use Rattle.atspi_cursor.specs.Items.{item_data, fields_data, elements_data};
 ghost use Rattle.atspi_header.specs.View.{bytes_of, envelope_at};
-ghost use Rattle.atspi_news.specs.Arguments as arguments;
-ghost use Rattle.atspi_news.specs.Arguments.{signature_of};
-ghost use Rattle.atspi_news.specs.Replies.{elements_of};
+ghost use Rattle.atspi_protocol.specs.news.Arguments as arguments;
+ghost use Rattle.atspi_protocol.specs.news.Arguments.{signature_of};
+ghost use Rattle.atspi_protocol.specs.news.Replies.{elements_of};
 ghost use Rattle.atspi_news_reading.specs.Seen.{reference_seen, elements_seen};
-ghost use Rattle.atspi_following.specs.ReaderState.{ReaderState};
-ghost use Rattle.atspi_following.specs.Known as known;
-ghost use Rattle.atspi_following.specs.Replied.{children_signature};
+ghost use Rattle.atspi_protocol.specs.following.ReaderState.{ReaderState};
+ghost use Rattle.atspi_protocol.specs.following.Known as known;
+ghost use Rattle.atspi_protocol.specs.following.Replied.{children_signature};
 
 use crate::sender::{is_word, sender_of};
 use atspi_base::NoMemory;

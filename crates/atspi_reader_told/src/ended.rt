@@ -4,7 +4,7 @@ ghost use Rattle.std.specs.Prelude.{◌≡◌, [], bytes_eq, chars};
 ghost use Rattle.std.specs.Option.{option_map};
 ghost use Rattle.atspi_cursor.specs.Items.{fields_data};
 ghost use Rattle.atspi_header.specs.View.{envelope_at};
-ghost use Rattle.atspi_following.specs.Known as known;
+ghost use Rattle.atspi_protocol.specs.following.Known as known;
 ghost use Rattle.atspi_reader_told.specs.Ended.{ended_in};
 
 use crate::sender::is_word;

@@ -6,7 +6,7 @@ ghost use Rattle.atspi_cursor.specs.Items.{fields_data};
 ghost use Rattle.atspi_header.specs.View.{envelope_at};
 ghost use Rattle.atspi_types.specs.Names as names;
 ghost use Rattle.atspi_types.specs.Names.{is_unique_name};
-ghost use Rattle.atspi_following.specs.Replied as replied;
+ghost use Rattle.atspi_protocol.specs.following.Replied as replied;
 ghost use Rattle.atspi_reader_told.specs.Alone as alone;
 
 use atspi_cursor::Fields;

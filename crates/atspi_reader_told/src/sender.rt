@@ -2,7 +2,7 @@
 
 ghost use Rattle.std.specs.Prelude.{◌≡◌, bytes_eq};
 ghost use Rattle.atspi_header.specs.View.{bytes_of, envelope_at};
-ghost use Rattle.atspi_news.specs.NewsOf.{or_empty};
+ghost use Rattle.atspi_protocol.specs.news.NewsOf.{or_empty};
 
 use atspi_header::MessageRef;
 

@@ -5,11 +5,11 @@ use Rattle.std.specs.Prelude.{if◌then◌else◌, codes, IfSome, slice_get}
 use Rattle.std.specs.List.{list_any}
 use Rattle.std.proofs.lemmas.List.Quantifiers.{position-Some}
 use Rattle.atspi_message.specs.Envelope.{Envelope}
-use Rattle.atspi_ends.specs.Places.{registry_root}
-use Rattle.atspi_ends.specs.Messages.{returns, fails, replies}
-use Rattle.atspi_registering.specs.RegistryState.{RegistryState, is_of, has_pair, without_pair, child_place}
-use Rattle.atspi_registering.specs.Told.{registered, deregistered, is_asked_for, child_removed}
-use Rattle.atspi_registering.specs.Answers.{Answer, only, registers, deregisters, new_child, adopts, children_without, news_of_removal}
+use Rattle.atspi_protocol.specs.ends.Places.{registry_root}
+use Rattle.atspi_protocol.specs.ends.Messages.{returns, fails, replies}
+use Rattle.atspi_protocol.specs.registering.RegistryState.{RegistryState, is_of, has_pair, without_pair, child_place}
+use Rattle.atspi_protocol.specs.registering.Told.{registered, deregistered, is_asked_for, child_removed}
+use Rattle.atspi_protocol.specs.registering.Answers.{Answer, only, registers, deregisters, new_child, adopts, children_without, news_of_removal}
 use Rattle.atspi_registry_calls.specs.declared.ask.Ask.{Ask}
 use Rattle.atspi_registry_calls.specs.declared.ask.Ask.TheVariants.{Register, Deregister, Registered, Embed, Unembed, Children, ChildAt, Role, RoleName, Name, ChildCount, AllProperties, NoProperties, Ping}
 use Rattle.atspi_registry_calls.specs.Ask.{answers_ask}

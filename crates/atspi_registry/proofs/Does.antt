@@ -3,12 +3,12 @@ use Rattle.std.proofs.Common.{◌≡◌, ℕ, ◌+◌, ◌<◌, ◌≤◌, List,
 use Rattle.std.proofs.lemmas.List.{append-nil}
 use Rattle.std.specs.Prelude.{Result, Ok, Err}
 use Rattle.atspi_message.specs.Envelope.{Envelope}
-use Rattle.atspi_ends.specs.declared.fault.EndFault.{EndFault}
-use Rattle.atspi_ends.specs.declared.fault.EndFault.TheVariants.{Spent}
-use Rattle.atspi_ends.specs.Messages.{Queue, posted, replies}
-use Rattle.atspi_registering.specs.RegistryState.{RegistryState}
-use Rattle.atspi_registering.specs.Answers.{Answer}
-use Rattle.atspi_registering.specs.Steps.{Registry, RegistryStep, queued, speaks, answered}
+use Rattle.atspi_protocol.specs.declared.ends.fault.EndFault.{EndFault}
+use Rattle.atspi_protocol.specs.declared.ends.fault.EndFault.TheVariants.{Spent}
+use Rattle.atspi_protocol.specs.ends.Messages.{Queue, posted, replies}
+use Rattle.atspi_protocol.specs.registering.RegistryState.{RegistryState}
+use Rattle.atspi_protocol.specs.registering.Answers.{Answer}
+use Rattle.atspi_protocol.specs.registering.Steps.{Registry, RegistryStep, queued, speaks, answered}
 use Rattle.atspi_registry.specs.Steps.{Does}
 
 abbrev Pairs : Type 0

@@ -6,7 +6,7 @@ use Rattle.std.proofs.lemmas.Str.{encodes-chars, chars-nil}
 use Rattle.atspi_types.specs.Kinds.{text}
 use Rattle.atspi_types.specs.Data.{Data, text_data, type_of}
 use Rattle.atspi_message.specs.Envelope.{Envelope}
-use Rattle.atspi_registering.specs.Steps.{name_told, name_gone}
+use Rattle.atspi_protocol.specs.registering.Steps.{name_told, name_gone}
 use Rattle.atspi_registry.specs.Heard.{lent_text, is_return, is_owner_news, begins_with_text, TextComes}
 
 -- a first value that is no text

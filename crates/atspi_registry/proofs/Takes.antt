@@ -8,12 +8,12 @@ use Rattle.atspi_types.specs.Names.{is_path, is_interface, is_member, is_bus_nam
 use Rattle.atspi_types.proofs.NameLemmas.{IsBusName-from_test}
 use Rattle.atspi_message.specs.Envelope.{Envelope}
 use Rattle.atspi_header.specs.Names.{fits, are_named}
-use Rattle.atspi_ends.specs.declared.error.CallError.{CallError}
-use Rattle.atspi_ends.specs.Messages.{fails}
-use Rattle.atspi_members.specs.Asked.{asked}
-use Rattle.atspi_registering.specs.RegistryState.{RegistryState, has_pair, is_of}
-use Rattle.atspi_registering.specs.Answers.{Answer, only, object_at, if_own}
-use Rattle.atspi_registering.specs.Steps.{RegistryStep, registry_takes, takes_as, named, name_told, name_gone, called_by, hears, answer_to, answered}
+use Rattle.atspi_protocol.specs.declared.ends.error.CallError.{CallError}
+use Rattle.atspi_protocol.specs.ends.Messages.{fails}
+use Rattle.atspi_protocol.specs.members.Asked.{asked}
+use Rattle.atspi_protocol.specs.registering.RegistryState.{RegistryState, has_pair, is_of}
+use Rattle.atspi_protocol.specs.registering.Answers.{Answer, only, object_at, if_own}
+use Rattle.atspi_protocol.specs.registering.Steps.{RegistryStep, registry_takes, takes_as, named, name_told, name_gone, called_by, hears, answer_to, answered}
 use Rattle.atspi_registry_calls.specs.declared.ask.Ask.{Ask}
 use Rattle.atspi_registry_calls.specs.Ask.{ask_answer}
 use Rattle.atspi_registry.specs.Steps.{own_name}

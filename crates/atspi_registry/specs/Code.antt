@@ -2,8 +2,8 @@
 use Rattle.std.specs.Prelude.{refl, ℕ, List, Option}
 use Rattle.std.specs.Coded.{Coded, code_by, coded_ℕ, coded_list, coded_option, coded×}
 use Rattle.atspi_message.specs.Envelope.{Envelope}
-use Rattle.atspi_ends.specs.DataCode.{envelope_code}
-use Rattle.atspi_registering.specs.Steps.{Registry}
+use Rattle.atspi_protocol.specs.ends.DataCode.{envelope_code}
+use Rattle.atspi_protocol.specs.registering.Steps.{Registry}
 
 abbrev List2 : Type 0
 List2 = List (List ℕ × List ℕ)

@@ -3,9 +3,9 @@ use Rattle.std.specs.Prelude.{◌≡◌, ◌==◌, ◌&&◌, ℕ, Bool, true, fa
 use Rattle.std.specs.Borrow.{Bor}
 use Rattle.atspi_types.specs.Data.{Data, text_data}
 use Rattle.atspi_message.specs.Envelope.{Envelope}
-use Rattle.atspi_ends.specs.Places.{bus}
-use Rattle.atspi_members.specs.Asked.{is_text}
-use Rattle.atspi_registering.specs.Steps.{is_from_bus, is_reply_to}
+use Rattle.atspi_protocol.specs.ends.Places.{bus}
+use Rattle.atspi_protocol.specs.members.Asked.{is_text}
+use Rattle.atspi_protocol.specs.registering.Steps.{is_from_bus, is_reply_to}
 
 -- a text that is lent from bytes, as its characters
 abbrev pub lent_text : Option (Bor (List ℕ)) → Option (List ℕ)

@@ -2,9 +2,9 @@
 use Rattle.std.specs.Prelude.{ℕ, List, [], ◌∷◌, codes, length}
 use Rattle.atspi_types.specs.Kinds.{i32, u32, number, text, variant}
 use Rattle.atspi_types.specs.Data.{Data, number_data, text_data, variant_data, dictionary_data, entry, no_entries}
-use Rattle.atspi_ends.specs.Places.{references}
-use Rattle.atspi_registering.specs.Told.{count}
-use Rattle.atspi_registering.specs.Answers.{pairs_data, child_at}
+use Rattle.atspi_protocol.specs.ends.Places.{references}
+use Rattle.atspi_protocol.specs.registering.Told.{count}
+use Rattle.atspi_protocol.specs.registering.Answers.{pairs_data, child_at}
 use Rattle.atspi_registry_calls.specs.declared.ask.Ask.{Ask}
 use Rattle.atspi_registry_calls.specs.declared.ask.Ask.TheVariants.{Register, Deregister, Registered, Embed, Unembed, Children, ChildAt, Role, RoleName, Name, ChildCount, AllProperties, NoProperties, Ping}
 

@@ -1,11 +1,11 @@
 -- What a call of the registry did, where it did a step of the definition, or why it did not.
 use Rattle.std.specs.Prelude.{◌≡◌, ◌<◌, ◌≤◌, ◌==◌, ℕ, Bool, List, [], ◌∷◌, Option, None, Some, codes, unwrap_or, slice_get, if◌then◌else◌, Result, OnOk, OnErr, IsErrOf}
 use Rattle.atspi_message.specs.Envelope.{Envelope}
-use Rattle.atspi_ends.specs.declared.fault.EndFault.{EndFault}
-use Rattle.atspi_ends.specs.declared.fault.EndFault.TheVariants.{Spent}
-use Rattle.atspi_registering.specs.RegistryState.{RegistryState, is_of}
-use Rattle.atspi_registering.specs.Told.{children_changed, deregistered}
-use Rattle.atspi_registering.specs.Steps.{Registry, RegistryStep, queued}
+use Rattle.atspi_protocol.specs.declared.ends.fault.EndFault.{EndFault}
+use Rattle.atspi_protocol.specs.declared.ends.fault.EndFault.TheVariants.{Spent}
+use Rattle.atspi_protocol.specs.registering.RegistryState.{RegistryState, is_of}
+use Rattle.atspi_protocol.specs.registering.Told.{children_changed, deregistered}
+use Rattle.atspi_protocol.specs.registering.Steps.{Registry, RegistryStep, queued}
 
 -- The step was done, and its messages have numbers; or they would pass the last number, or memory was wanting, and then all is as before.
 pub record Does {T : Type 0} (result : Result T EndFault) (old new : Registry) (step : RegistryStep) : Type 0 where

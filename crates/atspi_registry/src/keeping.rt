@@ -2,13 +2,13 @@
 
 ghost use Rattle.std.specs.Prelude.{◌≡◌, ◌<◌, ◌≤◌, ◌+◌, ◌++◌, [], ◌∷◌, min, bytes_eq, length, IfSome, IsErrOf, OnOk, OnErr};
 ghost use Rattle.std.specs.List.{list_any};
-ghost use Rattle.atspi_ends.specs.Messages.{posted};
-ghost use Rattle.atspi_registering.specs.RegistryState as state;
-ghost use Rattle.atspi_registering.specs.Answers.{children_without};
+ghost use Rattle.atspi_protocol.specs.ends.Messages.{posted};
+ghost use Rattle.atspi_protocol.specs.registering.RegistryState as state;
+ghost use Rattle.atspi_protocol.specs.registering.Answers.{children_without};
 
 use crate::outgoing::Outgoing;
 use atspi_base::Text;
-use atspi_ends::{EndFault, Mail};
+use atspi_protocol::ends::{EndFault, Mail};
 use atspi_registry_lists::{Children, Pairs};
 use atspi_types::{BusName, Path};
 

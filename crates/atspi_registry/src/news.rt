@@ -4,8 +4,8 @@ ghost use Rattle.std.specs.Prelude.{◌≡◌, ◌==◌, ◌<◌, ◌^◌, ◌�
 ghost use Rattle.atspi_base.specs.Text.{HasNoZero};
 ghost use Rattle.atspi_cursor.specs.Items.{fields_data};
 ghost use Rattle.atspi_header.specs.View.{bytes_of, envelope_at};
-ghost use Rattle.atspi_members.specs.Asked as asked;
-ghost use Rattle.atspi_registering.specs.Steps as steps;
+ghost use Rattle.atspi_protocol.specs.members.Asked as asked;
+ghost use Rattle.atspi_protocol.specs.registering.Steps as steps;
 ghost use Rattle.atspi_registry.specs.Heard as heard;
 ghost use Rattle.atspi_registry.specs.Heard.{lent_text, TextComes};
 

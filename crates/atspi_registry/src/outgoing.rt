@@ -2,10 +2,10 @@
 
 ghost use Rattle.std.specs.Prelude.{◌≡◌, ◌<◌, ◌≤◌, ◌+◌, [], ◌∷◌, length, IsErrOf, MatchOption, OnOk, OnErr};
 ghost use Rattle.atspi_message.specs.Envelope.{envelope_of};
-ghost use Rattle.atspi_ends.specs.Messages.{posted};
+ghost use Rattle.atspi_protocol.specs.ends.Messages.{posted};
 
-use atspi_ends::{EndFault, Mail, Outbox};
 use atspi_message::Message;
+use atspi_protocol::ends::{EndFault, Mail, Outbox};
 use std::alloc::Global;
 use std::marker::Model;
 
@@ -18,7 +18,7 @@ pub struct Outgoing {
 
 impl Model for Outgoing {
     ghost use Rattle.std.specs.Prelude.{◌≡◌, ◌≤◌, ◌+◌};
-    ghost use Rattle.atspi_ends.specs.Messages.{Queue, queue_code};
+    ghost use Rattle.atspi_protocol.specs.ends.Messages.{Queue, queue_code};
 
     ghost Value = { Queue };
 

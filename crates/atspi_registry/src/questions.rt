@@ -2,7 +2,7 @@
 
 ghost use Rattle.std.specs.Prelude.{◌≡◌, [], ◌∷◌, unwrap_or, IfOk};
 ghost use Rattle.atspi_types.specs.DataView.{all_data};
-ghost use Rattle.atspi_registering.specs.Answers.{child_at};
+ghost use Rattle.atspi_protocol.specs.registering.Answers.{child_at};
 ghost use Rattle.atspi_registry.specs.Questions.{IsQuestion, question_data};
 
 use atspi_base::{NoMemory, Text};

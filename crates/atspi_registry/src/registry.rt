@@ -6,11 +6,11 @@ ghost use Rattle.atspi_types.specs.Names.{is_bus_name, IsPath};
 ghost use Rattle.atspi_types.specs.DataView.{all_data};
 ghost use Rattle.atspi_message.specs.Envelope.{envelope_of};
 ghost use Rattle.atspi_header.specs.View.{envelope_at};
-ghost use Rattle.atspi_ends.specs.Messages.{error_word, returns, fails};
-ghost use Rattle.atspi_registering.specs.RegistryState.{begins};
-ghost use Rattle.atspi_registering.specs.Answers.{only, registers, deregisters, adopts, new_child, releases, if_own};
-ghost use Rattle.atspi_registering.specs.Steps as steps;
-ghost use Rattle.atspi_registering.specs.Steps.{starts, takes, registry_starts, registry_takes, answered, forgets};
+ghost use Rattle.atspi_protocol.specs.ends.Messages.{error_word, returns, fails};
+ghost use Rattle.atspi_protocol.specs.registering.RegistryState.{begins};
+ghost use Rattle.atspi_protocol.specs.registering.Answers.{only, registers, deregisters, adopts, new_child, releases, if_own};
+ghost use Rattle.atspi_protocol.specs.registering.Steps as steps;
+ghost use Rattle.atspi_protocol.specs.registering.Steps.{starts, takes, registry_starts, registry_takes, answered, forgets};
 ghost use Rattle.atspi_registry_calls.specs.Ask.{answers_ask, IsLent};
 ghost use Rattle.atspi_registry.specs.Questions.{IsQuestion};
 ghost use Rattle.atspi_registry.specs.Steps.{Does, own_name};
@@ -23,9 +23,9 @@ use crate::news::{is_call, name_gone, name_told};
 use crate::outgoing::Outgoing;
 use crate::questions::question_values;
 use atspi_base::{NoMemory, Text};
-use atspi_ends::{CallError, EndFault, bus_name, path};
 use atspi_header::MessageRef;
 use atspi_message::Message;
+use atspi_protocol::ends::{CallError, EndFault, bus_name, path};
 use atspi_registry_calls::{Ask, asked};
 use atspi_registry_lists::{Children, Pairs};
 use atspi_registry_told::root_body;
@@ -49,7 +49,7 @@ pub struct Registry {
 impl Model for Registry {
     ghost use Rattle.std.specs.Prelude.{◌≤◌};
     ghost use Rattle.atspi_registry.specs.Code.{registry_code};
-    ghost use Rattle.atspi_registering.specs.Steps as steps;
+    ghost use Rattle.atspi_protocol.specs.registering.Steps as steps;
 
     ghost Value = { steps.Registry };
 

@@ -3,15 +3,15 @@ use Rattle.std.proofs.Common.{◌≡◌, ℕ, List, [], ◌∷◌, Option, None,
 use Rattle.std.proofs.lemmas.Str.{chars-nil}
 use Rattle.std.specs.Prelude.{unwrap_or, Result, Ok, Err}
 use Rattle.atspi_types.specs.Data.{Data, text_data, path_data, structure_data, no_items, item}
-use Rattle.atspi_ends.specs.declared.error.CallError.{CallError}
-use Rattle.atspi_ends.specs.Messages.{error_word, fails}
-use Rattle.atspi_members.specs.declared.member.ObjectMember.TheVariants as members
-use Rattle.atspi_members.specs.Objects.{Object}
-use Rattle.atspi_members.specs.Table.{PropertyLine}
-use Rattle.atspi_members.specs.Asked.{and_then, gets, gets_all, set_to, asked_by}
-use Rattle.atspi_registering.specs.RegistryState.{RegistryState}
-use Rattle.atspi_registering.specs.Answers.{Answer, only, reference_in, if_own, adopts, releases}
-use Rattle.atspi_registering.specs.Steps.{answer_to}
+use Rattle.atspi_protocol.specs.declared.ends.error.CallError.{CallError}
+use Rattle.atspi_protocol.specs.ends.Messages.{error_word, fails}
+use Rattle.atspi_protocol.specs.declared.members.member.ObjectMember.TheVariants as members
+use Rattle.atspi_protocol.specs.members.Objects.{Object}
+use Rattle.atspi_protocol.specs.members.Table.{PropertyLine}
+use Rattle.atspi_protocol.specs.members.Asked.{and_then, gets, gets_all, set_to, asked_by}
+use Rattle.atspi_protocol.specs.registering.RegistryState.{RegistryState}
+use Rattle.atspi_protocol.specs.registering.Answers.{Answer, only, reference_in, if_own, adopts, releases}
+use Rattle.atspi_protocol.specs.registering.Steps.{answer_to}
 use Rattle.atspi_registry_calls.specs.declared.ask.Ask.{Ask}
 use Rattle.atspi_registry_calls.specs.declared.ask.Ask.TheVariants.{Name, ChildCount, AllProperties, NoProperties}
 use Rattle.atspi_registry_calls.specs.Arguments.{reference_of}

@@ -12,10 +12,10 @@ use Rattle.atspi_marshal.specs.Reading.{input_of}
 use Rattle.atspi_cursor.specs.Items.{fields_data, fields_kinds}
 use Rattle.atspi_cursor.specs.declared.cursor.Fields.{Fields}
 use Rattle.atspi_header.proofs.ReadTypes.{fields_types}
-use Rattle.atspi_members.specs.declared.member.ObjectMember.{ObjectMember}
-use Rattle.atspi_members.specs.Table.{MemberLine}
-use Rattle.atspi_members.specs.Asked as asked
-use Rattle.atspi_members.specs.Asked.{and_then, first_or, is_text, is_text_if_there, has_interface, signature_of}
+use Rattle.atspi_protocol.specs.declared.members.member.ObjectMember.{ObjectMember}
+use Rattle.atspi_protocol.specs.members.Table.{MemberLine}
+use Rattle.atspi_protocol.specs.members.Asked as asked
+use Rattle.atspi_protocol.specs.members.Asked.{and_then, first_or, is_text, is_text_if_there, has_interface, signature_of}
 use Rattle.atspi_registry_calls.specs.declared.object.RegistryObject.{RegistryObject}
 use Rattle.atspi_registry_calls.specs.declared.object.RegistryObject.TheVariants.{Listeners, Root}
 use Rattle.atspi_registry_calls.specs.Object.{object_of, interfaces_of, Line, lines_of, is_named, member_in, takes_of, takes_more, are_taken}

@@ -4,7 +4,7 @@ use Rattle.std.specs.Prelude.{codes, bytes_eq, encode_utf8_all}
 use Rattle.std.specs.Str.{chars as characters}
 use Rattle.std.proofs.lemmas.Slice.Eq.{bytes_eq-Decides}
 use Rattle.std.proofs.lemmas.Str.{encodes-chars}
-use Rattle.atspi_members.specs.Interfaces as names
+use Rattle.atspi_protocol.specs.members.Interfaces as names
 
 -- each byte of the word is a character
 pub record IsPlain (word : List ℕ) : Type 0 where

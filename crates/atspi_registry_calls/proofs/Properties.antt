@@ -1,11 +1,11 @@
 -- The properties of the registry's objects.
 use Rattle.std.proofs.Common.{◌≡◌, ℕ, Bool, true, false, cond, List, [], ◌∷◌, refl, sym, ap, ◌∙◌, subst, chars, IsUtf8}
 use Rattle.std.specs.Prelude.{codes, bytes_eq, filter, IsOkAnd, Result, Ok, Err}
-use Rattle.atspi_members.specs.declared.property.ObjectProperty.TheVariants as properties
-use Rattle.atspi_members.specs.Interfaces as names
-use Rattle.atspi_members.specs.Table.{PropertyLine}
-use Rattle.atspi_members.specs.Objects.{is_among, registry_root}
-use Rattle.atspi_members.specs.Asked.{and_then, first_or, properties_of, property_named, property_of}
+use Rattle.atspi_protocol.specs.declared.members.property.ObjectProperty.TheVariants as properties
+use Rattle.atspi_protocol.specs.members.Interfaces as names
+use Rattle.atspi_protocol.specs.members.Table.{PropertyLine}
+use Rattle.atspi_protocol.specs.members.Objects.{is_among, registry_root}
+use Rattle.atspi_protocol.specs.members.Asked.{and_then, first_or, properties_of, property_named, property_of}
 use Rattle.atspi_registry_calls.specs.declared.object.RegistryObject.{RegistryObject}
 use Rattle.atspi_registry_calls.specs.declared.object.RegistryObject.TheVariants.{Listeners, Root}
 use Rattle.atspi_registry_calls.specs.Object.{object_of, interfaces_of}

@@ -4,17 +4,17 @@ use Rattle.atspi_base.specs.Text.{HasNoZero}
 use Rattle.atspi_types.specs.Names.{IsPath}
 use Rattle.atspi_types.specs.Kinds.{u32, text, variant}
 use Rattle.atspi_types.specs.Data.{number_data, text_data, dictionary_data, no_entries}
-use Rattle.atspi_ends.specs.Places.{references}
-use Rattle.atspi_ends.specs.Messages.{returns, fails, error_word}
-use Rattle.atspi_ends.specs.declared.error.CallError.{CallError}
-use Rattle.atspi_ends.specs.declared.error.CallError.TheVariants.{PropertyReadOnly}
-use Rattle.atspi_members.specs.Table.{PropertyLine}
-use Rattle.atspi_members.specs.declared.property.ObjectProperty.TheVariants as properties
-use Rattle.atspi_registering.specs.RegistryState.{RegistryState}
-use Rattle.atspi_registering.specs.Answers.{Answer, only, registers, deregisters, pairs_data, if_own, adopts, releases, child_at, property_data, as_variant, all_properties}
+use Rattle.atspi_protocol.specs.ends.Places.{references}
+use Rattle.atspi_protocol.specs.ends.Messages.{returns, fails, error_word}
+use Rattle.atspi_protocol.specs.declared.ends.error.CallError.{CallError}
+use Rattle.atspi_protocol.specs.declared.ends.error.CallError.TheVariants.{PropertyReadOnly}
+use Rattle.atspi_protocol.specs.members.Table.{PropertyLine}
+use Rattle.atspi_protocol.specs.declared.members.property.ObjectProperty.TheVariants as properties
+use Rattle.atspi_protocol.specs.registering.RegistryState.{RegistryState}
+use Rattle.atspi_protocol.specs.registering.Answers.{Answer, only, registers, deregisters, pairs_data, if_own, adopts, releases, child_at, property_data, as_variant, all_properties}
 use Rattle.atspi_registry_calls.specs.declared.ask.Ask.{Ask}
 use Rattle.atspi_registry_calls.specs.declared.ask.Ask.TheVariants.{Register, Deregister, Registered, Embed, Unembed, Children, ChildAt, Role, RoleName, Name, ChildCount, AllProperties, NoProperties, Ping}
-use Rattle.atspi_members.specs.Objects.{registry_root}
+use Rattle.atspi_protocol.specs.members.Objects.{registry_root}
 
 -- what the registry does then
 abbrev pub answers_ask : Ask → RegistryState → List ℕ → List ℕ → Answer

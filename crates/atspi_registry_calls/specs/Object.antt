@@ -1,12 +1,12 @@
 -- The registry's two objects, with the lines of the table that are theirs written out, and looked up line by line.
 use Rattle.std.specs.Prelude.{ℕ, Bool, true, false, ◌&&◌, List, [], ◌∷◌, length, take, Option, None, Some, codes, bytes_eq, if◌then◌else◌, Result, Ok, Err}
-use Rattle.atspi_ends.specs.declared.error.CallError.{CallError}
-use Rattle.atspi_ends.specs.Messages.{error_word}
-use Rattle.atspi_members.specs.declared.member.ObjectMember.{ObjectMember}
-use Rattle.atspi_members.specs.declared.member.ObjectMember.TheVariants as members
-use Rattle.atspi_members.specs.Interfaces as names
-use Rattle.atspi_members.specs.Objects as objects
-use Rattle.atspi_members.specs.Asked.{is_text}
+use Rattle.atspi_protocol.specs.declared.ends.error.CallError.{CallError}
+use Rattle.atspi_protocol.specs.ends.Messages.{error_word}
+use Rattle.atspi_protocol.specs.declared.members.member.ObjectMember.{ObjectMember}
+use Rattle.atspi_protocol.specs.declared.members.member.ObjectMember.TheVariants as members
+use Rattle.atspi_protocol.specs.members.Interfaces as names
+use Rattle.atspi_protocol.specs.members.Objects as objects
+use Rattle.atspi_protocol.specs.members.Asked.{is_text}
 use Rattle.atspi_registry_calls.specs.declared.object.RegistryObject.{RegistryObject}
 use Rattle.atspi_registry_calls.specs.declared.object.RegistryObject.TheVariants.{Listeners, Root}
 

@@ -2,10 +2,10 @@
 
 ghost use Rattle.std.specs.Prelude.{◌≡◌, ◌≢◌, ℕ, List, [], bytes_eq, chars, IfOk};
 ghost use Rattle.atspi_header.specs.View.{envelope_at};
-ghost use Rattle.atspi_registering.specs.RegistryState.{RegistryState};
-ghost use Rattle.atspi_registering.specs.Answers.{object_at};
-ghost use Rattle.atspi_registering.specs.Steps.{answer_to};
-ghost use Rattle.atspi_members.specs.Asked as asked;
+ghost use Rattle.atspi_protocol.specs.registering.RegistryState.{RegistryState};
+ghost use Rattle.atspi_protocol.specs.registering.Answers.{object_at};
+ghost use Rattle.atspi_protocol.specs.registering.Steps.{answer_to};
+ghost use Rattle.atspi_protocol.specs.members.Asked as asked;
 ghost use Rattle.atspi_registry_calls.specs.Object.{object_of};
 ghost use Rattle.atspi_registry_calls.specs.Ask.{ask_answer, IsLent, IsProperty, AreProperties, refusal_of};
 
@@ -13,9 +13,9 @@ use crate::arguments::{first_reference, first_signed, first_text, second_text};
 use crate::ask::Ask;
 use crate::member::member_of;
 use crate::object::{ACCESSIBLE, RegistryObject, object_at};
-use atspi_ends::CallError;
 use atspi_header::MessageRef;
-use atspi_members::ObjectMember;
+use atspi_protocol::ends::CallError;
+use atspi_protocol::members::ObjectMember;
 
 /// Whether a text is the word.
 fn is_word(text: &str, word: &str) -> bool

@@ -2,15 +2,15 @@
 
 ghost use Rattle.std.specs.Prelude.{◌≡◌};
 ghost use Rattle.atspi_header.specs.View.{bytes_of, envelope_at};
-ghost use Rattle.atspi_members.specs.Asked as asked;
+ghost use Rattle.atspi_protocol.specs.members.Asked as asked;
 ghost use Rattle.atspi_registry_calls.specs.Object as objects;
 ghost use Rattle.atspi_registry_calls.specs.Object.{object_of, lines_of, as_word};
 ghost use Rattle.atspi_registry_calls.specs.declared.object.RegistryObject.TheVariants.{Listeners, Root};
 
 use crate::object::{ACCESSIBLE, PEER, PROPERTIES, REGISTRY, RegistryObject, SOCKET};
-use atspi_ends::CallError;
 use atspi_header::MessageRef;
-use atspi_members::ObjectMember;
+use atspi_protocol::ends::CallError;
+use atspi_protocol::members::ObjectMember;
 
 /// Whether a call asks for this member of this interface.
 fn is_named(interface: Option<&str>, member: Option<&str>, of: &str, name: &str) -> bool

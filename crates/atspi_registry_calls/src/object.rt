@@ -2,8 +2,8 @@
 
 ghost use Rattle.std.specs.Prelude.{◌≡◌};
 ghost use Rattle.atspi_header.specs.View.{bytes_of};
-ghost use Rattle.atspi_members.specs.Objects.{is_among};
-ghost use Rattle.atspi_registering.specs.Answers.{object_at};
+ghost use Rattle.atspi_protocol.specs.members.Objects.{is_among};
+ghost use Rattle.atspi_protocol.specs.registering.Answers.{object_at};
 ghost use Rattle.atspi_registry_calls.specs.Object.{object_or_none, interfaces_of};
 
 /// The interface of the object for listeners.

@@ -2,8 +2,8 @@
 
 ghost use Rattle.std.specs.Prelude.{◌≡◌, ◌<◌, [], ◌∷◌, ◌++◌, length, remove, slice_get, take, Some, OnOk, OnErr};
 ghost use Rattle.std.specs.Option.{option_copied};
-ghost use Rattle.atspi_registering.specs.RegistryState as state;
-ghost use Rattle.atspi_registering.specs.RegistryState.{child_place};
+ghost use Rattle.atspi_protocol.specs.registering.RegistryState as state;
+ghost use Rattle.atspi_protocol.specs.registering.RegistryState.{child_place};
 
 use atspi_base::NoMemory;
 use atspi_types::{BusName, Path};

@@ -1,12 +1,12 @@
 //! The pairs of listeners.
 
 ghost use Rattle.std.specs.Prelude.{◌≡◌, [], ◌∷◌, ◌++◌, bytes_eq, chars, take, OnOk, OnErr};
-ghost use Rattle.atspi_registering.specs.RegistryState as state;
-ghost use Rattle.atspi_registering.specs.RegistryState.{has_pair, without_pair, pairs_without};
-ghost use Rattle.atspi_registering.specs.Told.{is_asked_for};
+ghost use Rattle.atspi_protocol.specs.registering.RegistryState as state;
+ghost use Rattle.atspi_protocol.specs.registering.RegistryState.{has_pair, without_pair, pairs_without};
+ghost use Rattle.atspi_protocol.specs.registering.Told.{is_asked_for};
 
 use atspi_base::{NoMemory, Text};
-use atspi_ends::covers;
+use atspi_protocol::ends::covers;
 use atspi_types::BusName;
 use std::alloc::Global;
 use std::marker::Model;

@@ -5,15 +5,15 @@ ghost use Rattle.atspi_types.specs.KindView.{kind_of};
 ghost use Rattle.atspi_types.specs.Kinds.{u32, kind, no_kinds, structure, text};
 ghost use Rattle.atspi_types.specs.Data.{text_data, number_data};
 ghost use Rattle.atspi_types.specs.DataView.{data_of, all_data};
-ghost use Rattle.atspi_ends.specs.Places.{null_path, reference, references, registry_root};
-ghost use Rattle.atspi_registering.specs.Answers.{pairs_data, child_at, child_or_nobody};
+ghost use Rattle.atspi_protocol.specs.ends.Places.{null_path, reference, references, registry_root};
+ghost use Rattle.atspi_protocol.specs.registering.Answers.{pairs_data, child_at, child_or_nobody};
 ghost use Rattle.atspi_registry_told.specs.Values.{pair_data};
 
 use crate::listeners::pair_body;
 use crate::literal::{frame_text, registry_text};
 use crate::values::{reference_type, reference_value, text_reference};
 use atspi_base::{NoMemory, Text};
-use atspi_ends::path;
+use atspi_protocol::ends::path;
 use atspi_types::{BusName, Path, Ty, Tys, Value, Values};
 use std::alloc::Global;
 

@@ -4,14 +4,14 @@ ghost use Rattle.std.specs.Prelude.{◌≡◌, [], ◌∷◌, codes, IfOk};
 ghost use Rattle.atspi_types.specs.Data.{text_data};
 ghost use Rattle.atspi_types.specs.DataView.{data_of, all_data};
 ghost use Rattle.atspi_message.specs.Envelope.{envelope_of};
-ghost use Rattle.atspi_ends.specs.Messages as messages;
-ghost use Rattle.atspi_ends.specs.Places.{registry, registry_path};
-ghost use Rattle.atspi_registering.specs.Told as told;
+ghost use Rattle.atspi_protocol.specs.ends.Messages as messages;
+ghost use Rattle.atspi_protocol.specs.ends.Places.{registry, registry_path};
+ghost use Rattle.atspi_protocol.specs.registering.Told as told;
 
 use crate::values::name_value;
 use atspi_base::{NoMemory, Text};
-use atspi_ends::{interface, member, path, signal_of};
 use atspi_message::Message;
+use atspi_protocol::ends::{interface, member, path, signal_of};
 use atspi_types::{BusName, Member, Value, Values};
 use std::alloc::Global;
 

@@ -1,7 +1,7 @@
 //! Long texts that stand in the program.
 
 ghost use Rattle.std.specs.Prelude.{◌≡◌, codes, IfOk};
-ghost use Rattle.atspi_ends.specs.Places.{registry};
+ghost use Rattle.atspi_protocol.specs.ends.Places.{registry};
 
 use atspi_base::{NoMemory, Text};
 use std::alloc::Global;

@@ -4,7 +4,7 @@ ghost use Rattle.std.specs.Prelude.{◌≡◌, [], ◌∷◌, codes, IfOk};
 ghost use Rattle.atspi_types.specs.Kinds.{i32 as signed, number, text, variant};
 ghost use Rattle.atspi_types.specs.Data.{text_data, variant_data, dictionary_data, entry, no_entries};
 ghost use Rattle.atspi_types.specs.DataView.{data_of, all_data, all_pairs};
-ghost use Rattle.atspi_registering.specs.Told.{count};
+ghost use Rattle.atspi_protocol.specs.registering.Told.{count};
 
 use crate::answers::one;
 use crate::literal::{child_count_text, main_text, name_text};

@@ -3,12 +3,12 @@
 ghost use Rattle.std.specs.Prelude.{◌≡◌, ◌++◌, OnOk};
 ghost use Rattle.atspi_types.specs.DataView.{all_data};
 ghost use Rattle.atspi_header.specs.View.{envelope_at};
-ghost use Rattle.atspi_ends.specs.Messages as messages;
-ghost use Rattle.atspi_ends.specs.Messages.{error_word, returns, fails, replies};
+ghost use Rattle.atspi_protocol.specs.ends.Messages as messages;
+ghost use Rattle.atspi_protocol.specs.ends.Messages.{error_word, returns, fails, replies};
 
 use atspi_base::NoMemory;
-use atspi_ends::{CallError, Mail, error_to, return_to};
 use atspi_header::MessageRef;
+use atspi_protocol::ends::{CallError, Mail, error_to, return_to};
 use atspi_types::{BusName, Values};
 use std::alloc::Global;
 

@@ -5,17 +5,17 @@ ghost use Rattle.atspi_types.specs.Kinds.{i32 as signed, number, text, variant};
 ghost use Rattle.atspi_types.specs.Data.{text_data, variant_data, dictionary_data, no_entries};
 ghost use Rattle.atspi_types.specs.DataView.{data_of, all_data};
 ghost use Rattle.atspi_message.specs.Envelope.{envelope_of};
-ghost use Rattle.atspi_ends.specs.Messages as messages;
-ghost use Rattle.atspi_ends.specs.Places.{reference, reference_kind, root_path};
-ghost use Rattle.atspi_registering.specs.Told as told;
-ghost use Rattle.atspi_registering.specs.Told.{count};
+ghost use Rattle.atspi_protocol.specs.ends.Messages as messages;
+ghost use Rattle.atspi_protocol.specs.ends.Places.{reference, reference_kind, root_path};
+ghost use Rattle.atspi_protocol.specs.registering.Told as told;
+ghost use Rattle.atspi_protocol.specs.registering.Told.{count};
 
 use crate::literal::{add_text, application_text, id_text, remove_text};
 use crate::properties::count_variant;
 use crate::values::{count_value, reference_type, reference_value};
 use atspi_base::{NoMemory, Text};
-use atspi_ends::{call_to, interface, member, path, signal_of};
 use atspi_message::Message;
+use atspi_protocol::ends::{call_to, interface, member, path, signal_of};
 use atspi_types::{BusName, Pairs, Path, Ty, Value, Values};
 use std::alloc::Global;
 

@@ -4,14 +4,14 @@ ghost use Rattle.std.specs.Prelude.{◌≡◌, [], ◌∷◌, codes, IfOk};
 ghost use Rattle.atspi_types.specs.Data.{Data};
 ghost use Rattle.atspi_types.specs.DataView.{all_data};
 ghost use Rattle.atspi_message.specs.Envelope.{envelope_of};
-ghost use Rattle.atspi_ends.specs.Messages as messages;
-ghost use Rattle.atspi_ends.specs.Places.{bus, bus_path};
-ghost use Rattle.atspi_registering.specs.Told as told;
+ghost use Rattle.atspi_protocol.specs.ends.Messages as messages;
+ghost use Rattle.atspi_protocol.specs.ends.Places.{bus, bus_path};
+ghost use Rattle.atspi_protocol.specs.registering.Told as told;
 
 use crate::literal::{registry_text, rule_text};
 use atspi_base::NoMemory;
-use atspi_ends::{bus_name, call_to, interface, member, path};
 use atspi_message::Message;
+use atspi_protocol::ends::{bus_name, call_to, interface, member, path};
 use atspi_types::{Member, Value, Values};
 use std::alloc::Global;
 

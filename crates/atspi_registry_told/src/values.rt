@@ -4,8 +4,8 @@ ghost use Rattle.std.specs.Prelude.{◌≡◌, [], ◌∷◌, IfOk};
 ghost use Rattle.atspi_types.specs.KindView.{kind_of};
 ghost use Rattle.atspi_types.specs.Data.{text_data, path_data};
 ghost use Rattle.atspi_types.specs.DataView.{data_of, all_data};
-ghost use Rattle.atspi_ends.specs.Places.{reference, reference_kind};
-ghost use Rattle.atspi_registering.specs.Told.{count};
+ghost use Rattle.atspi_protocol.specs.ends.Places.{reference, reference_kind};
+ghost use Rattle.atspi_protocol.specs.registering.Told.{count};
 
 use atspi_base::{NoMemory, Text};
 use atspi_types::{BusName, Path, Ty, Tys, Value, Values};

@@ -2,9 +2,9 @@
 
 ghost use Rattle.std.specs.Prelude.{All};
 
-use atspi_ends::EndFault;
 use atspi_header::MessageRef;
 use atspi_lines::Party;
+use atspi_protocol::ends::EndFault;
 use atspi_registry::Registry;
 use atspi_stage_ends::{Application, Follower};
 use std::alloc::Global;

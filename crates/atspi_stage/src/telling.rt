@@ -2,13 +2,13 @@
 
 ghost use Rattle.std.specs.Prelude.{◌≡◌, ◌++◌, [], map, OnOk, OnErr, All};
 
+use atspi_app_known::happenings::AppEvent;
 use atspi_carrying::{CarryFault, named_app, note, send};
 use atspi_events::Event;
-use atspi_following::ReaderEvent;
-use atspi_happenings::AppEvent;
 use atspi_lines::Party;
 use atspi_message::Message;
 use atspi_posts::Post;
+use atspi_protocol::following::ReaderEvent;
 use atspi_registry::Registry;
 use atspi_stage_ends::{Application, Follower};
 

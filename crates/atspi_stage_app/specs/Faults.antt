@@ -1,8 +1,8 @@
 -- Why an application refuses, in the words of a world.
 use Rattle.atspi_app.specs.declared.fault.AppFault as app
 use Rattle.atspi_app.specs.declared.fault.AppFault.TheVariants as faults
-use Rattle.atspi_ends.specs.declared.fault.EndFault.{EndFault}
-use Rattle.atspi_ends.specs.declared.fault.EndFault.TheVariants as ends
+use Rattle.atspi_protocol.specs.declared.ends.fault.EndFault.{EndFault}
+use Rattle.atspi_protocol.specs.declared.ends.fault.EndFault.TheVariants as ends
 use Rattle.atspi_stage_ends.specs.declared.fault.AppFault.{AppFault}
 use Rattle.atspi_stage_ends.specs.declared.fault.AppFault.TheVariants.{Refused, Spent, NoMemory}
 

@@ -6,13 +6,13 @@ ghost use Rattle.atspi_app.specs.Seen.{seen};
 ghost use Rattle.atspi_stage_app.specs.Faults.{end_of_app, of_app};
 
 use atspi_app::{App, Kit};
+use atspi_app_known::happenings::AppEvent;
 use atspi_base::{NoMemory, Text};
-use atspi_ends::EndFault;
 use atspi_face::Face;
 use atspi_forest::Edit;
-use atspi_happenings::AppEvent;
 use atspi_header::MessageRef;
 use atspi_make::HasTree;
+use atspi_protocol::ends::EndFault;
 use atspi_stage_ends::{AppFault, Application};
 use atspi_tree::Tree;
 use std::alloc::Global;

@@ -5,17 +5,17 @@ ghost use Rattle.atspi_forest.specs.Row.{IsName};
 ghost use Rattle.atspi_forest.specs.Edits.{IsEdit};
 ghost use Rattle.atspi_forest.specs.declared.edit.EditFault.{EditFault};
 ghost use Rattle.atspi_header.specs.View.{envelope_at};
-ghost use Rattle.atspi_exporting.specs.Exporter.{Exporter, begins};
-ghost use Rattle.atspi_exporting.specs.Starting.{starts};
-ghost use Rattle.atspi_exporting.specs.Taking.{app_takes, app_edits, is_spent};
-ghost use Rattle.atspi_happenings.specs.Happened.{happening_of};
+ghost use Rattle.atspi_protocol.specs.exporting.Exporter.{Exporter, begins};
+ghost use Rattle.atspi_protocol.specs.exporting.Starting.{starts};
+ghost use Rattle.atspi_protocol.specs.exporting.Taking.{app_takes, app_edits, is_spent};
+ghost use Rattle.atspi_app_known.specs.happenings.Happened.{happening_of};
 
 use crate::fault::AppFault;
+use atspi_app_known::happenings::AppEvent;
 use atspi_base::{NoMemory, Text};
-use atspi_ends::EndFault;
 use atspi_forest::Edit;
-use atspi_happenings::AppEvent;
 use atspi_header::MessageRef;
+use atspi_protocol::ends::EndFault;
 use std::alloc::Global;
 
 /// An application that exports a tree. It is seen as `exporter` says, and `is_app` holds of it at any time. Its texts, columns and actions lie in

@@ -4,18 +4,18 @@ ghost use Rattle.std.specs.Prelude.{◌≡◌, ◌<◌, ◌↔◌, ◌∷◌, []
 ghost use Rattle.std.specs.Option.{option_map};
 ghost use Rattle.atspi_header.specs.View.{envelope_at};
 ghost use Rattle.atspi_arena.specs.Sights.{sights};
-ghost use Rattle.atspi_following.specs.ReaderState.{ReaderState, begins};
-ghost use Rattle.atspi_following.specs.Takes.{starts, reader_takes, reader_calls, held_view};
+ghost use Rattle.atspi_protocol.specs.following.ReaderState.{ReaderState, begins};
+ghost use Rattle.atspi_protocol.specs.following.Takes.{starts, reader_takes, reader_calls, held_view};
 ghost use Rattle.atspi_reader_calls.specs.Deeds.{MayBeAsked};
 ghost use Rattle.atspi_stage_ends.specs.Done.{done_of};
 
 use crate::fault::CallFault;
 use atspi_arena::Rows;
 use atspi_base::NoMemory;
-use atspi_ends::EndFault;
-use atspi_following::ReaderEvent;
 use atspi_header::MessageRef;
 use atspi_lines::Deed;
+use atspi_protocol::ends::EndFault;
+use atspi_protocol::following::ReaderEvent;
 use atspi_types::BusName;
 use std::alloc::Global;
 

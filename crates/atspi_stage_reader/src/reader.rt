@@ -6,10 +6,10 @@ ghost use Rattle.atspi_stage_reader.specs.Faults.{of_call};
 
 use atspi_arena::Rows;
 use atspi_base::NoMemory;
-use atspi_ends::EndFault;
-use atspi_following::ReaderEvent;
 use atspi_header::MessageRef;
 use atspi_lines::Deed;
+use atspi_protocol::ends::EndFault;
+use atspi_protocol::following::ReaderEvent;
 use atspi_reader::Reader;
 use atspi_stage_ends::{CallFault, Follower};
 use atspi_types::BusName;

@@ -8,15 +8,15 @@ ghost use Rattle.atspi_types.specs.DataView.{data_of, all_data};
 ghost use Rattle.atspi_types.specs.Names.{is_member};
 ghost use Rattle.atspi_forest.specs.Path.{path_of};
 ghost use Rattle.atspi_message.specs.Envelope.{envelope_of};
-ghost use Rattle.atspi_ends.specs.Messages as messages;
-ghost use Rattle.atspi_members.specs.Arguments.{int};
-ghost use Rattle.atspi_objects.specs.Values.{in_variant};
-ghost use Rattle.atspi_news.specs.NewsOf.{event_interface};
+ghost use Rattle.atspi_protocol.specs.ends.Messages as messages;
+ghost use Rattle.atspi_protocol.specs.members.Arguments.{int};
+ghost use Rattle.atspi_protocol.specs.objects.Values.{in_variant};
+ghost use Rattle.atspi_protocol.specs.news.NewsOf.{event_interface};
 
 use crate::paths::node_path;
 use atspi_base::{NoMemory, Text};
-use atspi_ends::{interface, member, signal_of};
 use atspi_message::Message;
+use atspi_protocol::ends::{interface, member, signal_of};
 use atspi_types::{Interface, Member, Pairs, Path, Ty, Value, Values};
 use std::alloc::Global;
 

@@ -4,7 +4,7 @@ ghost use Rattle.std.specs.Prelude.{◌≡◌, ◌≤◌, ◌<◌, IfOk, codes, 
 ghost use Rattle.atspi_types.specs.Kinds.{u32};
 ghost use Rattle.atspi_types.specs.Data.{text_data, number_data};
 ghost use Rattle.atspi_message.specs.Envelope.{envelope_of};
-ghost use Rattle.atspi_announcing.specs.Signals as signals;
+ghost use Rattle.atspi_protocol.specs.announcing.Signals as signals;
 
 use crate::bodies::{at_node, details, event, valued};
 use crate::values::{name_of, nothing, number, signed, word};

@@ -3,15 +3,15 @@
 ghost use Rattle.std.specs.Prelude.{◌≡◌, ◌≤◌, IfOk, codes};
 ghost use Rattle.atspi_message.specs.Envelope.{envelope_of};
 ghost use Rattle.atspi_forest.specs.Path.{path_of};
-ghost use Rattle.atspi_ends.specs.Places as places;
-ghost use Rattle.atspi_announcing.specs.Signals as signals;
+ghost use Rattle.atspi_protocol.specs.ends.Places as places;
+ghost use Rattle.atspi_protocol.specs.announcing.Signals as signals;
 
 use crate::bodies::{at_node, details, event, valued};
 use crate::paths::node_path;
 use crate::values::{reference, reference_type, signed, word};
 use atspi_base::{NoMemory, Text};
-use atspi_ends::{interface, member, path, signal_of};
 use atspi_message::Message;
+use atspi_protocol::ends::{interface, member, path, signal_of};
 use atspi_types::Values;
 use std::alloc::Global;
 

@@ -4,7 +4,7 @@ ghost use Rattle.std.specs.Prelude.{◌≡◌, codes, IfOk};
 ghost use Rattle.atspi_forest.specs.Path.{path_of};
 
 use atspi_base::NoMemory;
-use atspi_ends::path;
+use atspi_protocol::ends::path;
 use atspi_types::Path;
 use std::alloc::Global;
 

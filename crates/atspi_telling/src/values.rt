@@ -5,9 +5,9 @@ ghost use Rattle.atspi_types.specs.Kinds.{u32};
 ghost use Rattle.atspi_types.specs.Data.{number_data};
 ghost use Rattle.atspi_types.specs.KindView.{kind_of};
 ghost use Rattle.atspi_types.specs.DataView.{data_of};
-ghost use Rattle.atspi_ends.specs.Places as places;
-ghost use Rattle.atspi_members.specs.Arguments.{int};
-ghost use Rattle.atspi_announcing.specs.Signals as signals;
+ghost use Rattle.atspi_protocol.specs.ends.Places as places;
+ghost use Rattle.atspi_protocol.specs.members.Arguments.{int};
+ghost use Rattle.atspi_protocol.specs.announcing.Signals as signals;
 ghost use Rattle.atspi_telling.specs.Plain.{are_plain};
 
 use atspi_base::{NoMemory, Text};

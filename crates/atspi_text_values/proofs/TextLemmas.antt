@@ -12,8 +12,8 @@ use Rattle.atspi_forest.specs.Row.{TextContents, Each, IsText}
 use Rattle.atspi_forest.specs.Edits.{known_text}
 use Rattle.atspi_face.specs.Contents.{kind_of, count_of, caret_of, marks_of, part_of as face_part, IsPart}
 use Rattle.atspi_face.specs.Nodes.{Nodes, AreContents, HasText, HasPart, count_at, caret_at, marks_at, part_at}
-use Rattle.atspi_objects.specs.Texts.{part_of}
-use Rattle.atspi_objects.specs.Children as children
+use Rattle.atspi_protocol.specs.objects.Texts.{part_of}
+use Rattle.atspi_protocol.specs.objects.Children as children
 use Rattle.atspi_text_values.specs.Parts.{start_at, end_at}
 use Rattle.atspi_text_values.specs.Selections.{FitsSigned, IsSmall, AreSmall}
 use Rattle.atspi_text_values.specs.Texts.{text_at, text_or_none, contents_at, code_of}

@@ -2,10 +2,10 @@
 
 ghost use Rattle.std.specs.Prelude.{◌≡◌, ◌∷◌, [], length, IfOk};
 ghost use Rattle.atspi_types.specs.DataView.{data_of, all_data};
-ghost use Rattle.atspi_members.specs.Arguments.{int};
-ghost use Rattle.atspi_objects.specs.Texts as texts_of;
-ghost use Rattle.atspi_objects.specs.Children as children;
-ghost use Rattle.atspi_objects.specs.Values as values;
+ghost use Rattle.atspi_protocol.specs.members.Arguments.{int};
+ghost use Rattle.atspi_protocol.specs.objects.Texts as texts_of;
+ghost use Rattle.atspi_protocol.specs.objects.Children as children;
+ghost use Rattle.atspi_protocol.specs.objects.Values as values;
 ghost use Rattle.atspi_text_values.specs.Texts.{KeepsText, text_at};
 ghost use Rattle.atspi_text_values.specs.Selections.{IsSmall, AreSmall};
 

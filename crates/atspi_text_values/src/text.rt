@@ -3,9 +3,9 @@
 ghost use Rattle.std.specs.Prelude.{◌≡◌, ◌<◌, get_or, slice_get, length, IfOk};
 ghost use Rattle.atspi_types.specs.Data.{text_data};
 ghost use Rattle.atspi_types.specs.DataView.{data_of};
-ghost use Rattle.atspi_objects.specs.Texts as texts_of;
-ghost use Rattle.atspi_objects.specs.Children as children;
-ghost use Rattle.atspi_objects.specs.Values as values;
+ghost use Rattle.atspi_protocol.specs.objects.Texts as texts_of;
+ghost use Rattle.atspi_protocol.specs.objects.Children as children;
+ghost use Rattle.atspi_protocol.specs.objects.Values as values;
 ghost use Rattle.atspi_text_values.specs.Parts as parts;
 ghost use Rattle.atspi_text_values.specs.Texts.{KeepsText, text_at, code_of};
 

@@ -4,7 +4,7 @@ ghost use Rattle.std.specs.Prelude.{◌≡◌, ◌≤◌, [], None, IsSome, IfOk
 ghost use Rattle.std.specs.Bool.{OnTrue, OnFalse};
 ghost use Rattle.std.specs.FinMap.{get};
 ghost use Rattle.atspi_types.specs.DataView.{data_of};
-ghost use Rattle.atspi_objects.specs.Values.{count_data};
+ghost use Rattle.atspi_protocol.specs.objects.Values.{count_data};
 
 use atspi_base::{NoMemory, Text};
 use atspi_face::Face;

@@ -5,9 +5,9 @@ use Rattle.atspi_types.specs.Elements.{are_two_or_more, are_elements, parts_of}
 use Rattle.atspi_types.proofs.NameLemmas.{IsBusName-from_test, IsInterface-from_test, IsMember-from_test}
 use Rattle.atspi_match.specs.Conditions.{IsRule}
 use Rattle.atspi_match.proofs.AgainLemmas.{printed_again}
-use Rattle.atspi_ends.specs.Places.{bus, registry}
-use Rattle.atspi_members.specs.Interfaces.{cache}
-use Rattle.atspi_news.specs.NewsOf.{event_interface}
+use Rattle.atspi_protocol.specs.ends.Places.{bus, registry}
+use Rattle.atspi_protocol.specs.members.Interfaces.{cache}
+use Rattle.atspi_protocol.specs.news.NewsOf.{event_interface}
 use Rattle.std.specs.Prelude.{codes}
 use Rattle.atspi_trace.specs.Rules.{registry_rule, owner_rule, cache_rule, event_rule}
 use Rattle.atspi_trace.specs.Laws.{RulesAreRead}

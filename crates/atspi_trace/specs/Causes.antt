@@ -16,20 +16,20 @@ use Rattle.atspi_message.specs.Envelope.{Envelope}
 use Rattle.atspi_message.specs.Bytes.{written}
 use Rattle.atspi_routing.specs.Queues as queues
 use Rattle.atspi_routing.specs.Queues.{Bus, queue_of, popped}
-use Rattle.atspi_registering.specs.Steps.{RegistryStep, registry_takes}
-use Rattle.atspi_announcing.specs.Signals.{Signal}
-use Rattle.atspi_announcing.specs.Announced.{announced}
-use Rattle.atspi_exporting.specs.Exporter.{Happening, steps, sends, hears, deaf, Exporter, begins}
-use Rattle.atspi_exporting.specs.Hearing.{is_covered}
-use Rattle.atspi_exporting.specs.Starting.{starts, name_or_empty}
-use Rattle.atspi_exporting.specs.Taking.{app_takes, app_edits}
+use Rattle.atspi_protocol.specs.registering.Steps.{RegistryStep, registry_takes}
+use Rattle.atspi_protocol.specs.announcing.Signals.{Signal}
+use Rattle.atspi_protocol.specs.announcing.Announced.{announced}
+use Rattle.atspi_protocol.specs.exporting.Exporter.{Happening, steps, sends, hears, deaf, Exporter, begins}
+use Rattle.atspi_protocol.specs.exporting.Hearing.{is_covered}
+use Rattle.atspi_protocol.specs.exporting.Starting.{starts, name_or_empty}
+use Rattle.atspi_protocol.specs.exporting.Taking.{app_takes, app_edits}
 use Rattle.atspi_events.specs.declared.shown.ShownRow.{ShownRow}
-use Rattle.atspi_news.specs.declared.part.PartName.{PartName}
-use Rattle.atspi_news.specs.declared.part.PartName.TheVariants.{Text, Caret, Columns}
-use Rattle.atspi_following.specs.declared.question.Question.{Question}
-use Rattle.atspi_following.specs.declared.question.Question.TheVariants.{Hello}
-use Rattle.atspi_following.specs.Calls.{asking, user_call}
-use Rattle.atspi_following.specs.Wishes.{is_refused}
+use Rattle.atspi_protocol.specs.declared.news.part.PartName.{PartName}
+use Rattle.atspi_protocol.specs.declared.news.part.PartName.TheVariants.{Text, Caret, Columns}
+use Rattle.atspi_protocol.specs.declared.following.question.Question.{Question}
+use Rattle.atspi_protocol.specs.declared.following.question.Question.TheVariants.{Hello}
+use Rattle.atspi_protocol.specs.following.Calls.{asking, user_call}
+use Rattle.atspi_protocol.specs.following.Wishes.{is_refused}
 use Rattle.atspi_trace.specs.Entry.{Entry, started, changed, sent, got, heard, unheard, showed, exited, busy, quiet}
 use Rattle.atspi_trace.specs.World.{waits, Holding, Hearer, Role, the_registry, an_application, a_reader, Said, Letter, End, World, newcomer, first_world}
 use Rattle.atspi_trace.specs.Ends.{party_at, end_at, with_end, number_of, app_count, reader_count, plain, put_up, taken_down, stops}

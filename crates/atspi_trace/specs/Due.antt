@@ -8,9 +8,9 @@ use Rattle.atspi_lines.specs.declared.limits.TheConstants.{QUOTA_MOST}
 use Rattle.atspi_lines.specs.declared.line.Line.{Line}
 use Rattle.atspi_lines.specs.declared.line.Party.TheVariants.{Reader}
 use Rattle.atspi_message.specs.Envelope.{Envelope}
-use Rattle.atspi_following.specs.declared.question.Question.{Question}
-use Rattle.atspi_following.specs.Calls.{asking}
-use Rattle.atspi_following.specs.Wishes.{unknown_parts}
+use Rattle.atspi_protocol.specs.declared.following.question.Question.{Question}
+use Rattle.atspi_protocol.specs.following.Calls.{asking}
+use Rattle.atspi_protocol.specs.following.Wishes.{unknown_parts}
 use Rattle.atspi_trace.specs.Entry.{Entry, sent, quiet}
 use Rattle.atspi_trace.specs.World.{Standing, here, Holding, Hearer, Role, an_application, a_reader, End, World, first_world}
 use Rattle.atspi_trace.specs.Ends.{is_here, end_at, number_of}

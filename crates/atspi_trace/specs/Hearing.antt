@@ -10,14 +10,14 @@ use Rattle.atspi_message.specs.Envelope.{Envelope}
 use Rattle.atspi_routing.specs.Routing.{is_reply}
 use Rattle.atspi_routing.specs.Answers.{first_text}
 use Rattle.atspi_speech.specs.Speech.{says_after, closing_says}
-use Rattle.atspi_news.specs.declared.part.PartName.{PartName}
-use Rattle.atspi_news.specs.declared.part.PartName.TheVariants.{Text, Caret, Columns}
-use Rattle.atspi_news.specs.NewsOf.{or_empty}
-use Rattle.atspi_following.specs.declared.question.Question.{Question}
-use Rattle.atspi_following.specs.declared.question.Question.TheVariants.{Hello, AddMatch, RegisterEvent, GetChildren, GetItems, GetPart}
-use Rattle.atspi_following.specs.ReaderState.{start_calls}
-use Rattle.atspi_following.specs.Known.{told_end}
-use Rattle.atspi_following.specs.Replied.{is_reply_to}
+use Rattle.atspi_protocol.specs.declared.news.part.PartName.{PartName}
+use Rattle.atspi_protocol.specs.declared.news.part.PartName.TheVariants.{Text, Caret, Columns}
+use Rattle.atspi_protocol.specs.news.NewsOf.{or_empty}
+use Rattle.atspi_protocol.specs.declared.following.question.Question.{Question}
+use Rattle.atspi_protocol.specs.declared.following.question.Question.TheVariants.{Hello, AddMatch, RegisterEvent, GetChildren, GetItems, GetPart}
+use Rattle.atspi_protocol.specs.following.ReaderState.{start_calls}
+use Rattle.atspi_protocol.specs.following.Known.{told_end}
+use Rattle.atspi_protocol.specs.following.Replied.{is_reply_to}
 use Rattle.atspi_trace.specs.Entry.{Entry, spoke, gone}
 use Rattle.atspi_trace.specs.World.{Fate, waits, returned, failed, Asked, Holding, Hearer, Said, Letter, End}
 use Rattle.atspi_trace.specs.Ends.{app_named}

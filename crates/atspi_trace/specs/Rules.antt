@@ -5,9 +5,9 @@ use Rattle.atspi_match.specs.declared.condition.Condition.TheVariants.{Kind, Sen
 use Rattle.atspi_match.specs.declared.condition.MessageType.TheVariants.{Signal}
 use Rattle.atspi_match.specs.Printed.{printed}
 use Rattle.atspi_message.specs.Envelope.{Envelope}
-use Rattle.atspi_ends.specs.Places.{bus, registry}
-use Rattle.atspi_members.specs.Interfaces.{cache}
-use Rattle.atspi_news.specs.NewsOf.{event_interface}
+use Rattle.atspi_protocol.specs.ends.Places.{bus, registry}
+use Rattle.atspi_protocol.specs.members.Interfaces.{cache}
+use Rattle.atspi_protocol.specs.news.NewsOf.{event_interface}
 use Rattle.atspi_routing.specs.Answers.{first_text}
 
 -- the registry's signals, that an application asks for

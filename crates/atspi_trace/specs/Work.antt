@@ -9,9 +9,9 @@ use Rattle.atspi_lines.specs.declared.limits.TheConstants.{APP_COUNT, READER_COU
 use Rattle.atspi_lines.specs.declared.line.Line.{Line}
 use Rattle.atspi_lines.specs.declared.line.Line.TheVariants.{Blank, Quota, App as App_line, Reader as Reader_line, Edit as Edit_line, Call, Swap, Exit, Leave, Bytes, Turns, Drain, Show}
 use Rattle.atspi_lines.specs.declared.line.Party.TheVariants.{App, Reader}
-use Rattle.atspi_exporting.specs.Exporter.{Exporter}
-use Rattle.atspi_exporting.specs.Starting.{name_or_empty}
-use Rattle.atspi_exporting.specs.Taking.{app_edits}
+use Rattle.atspi_protocol.specs.exporting.Exporter.{Exporter}
+use Rattle.atspi_protocol.specs.exporting.Starting.{name_or_empty}
+use Rattle.atspi_protocol.specs.exporting.Taking.{app_edits}
 use Rattle.atspi_trace.specs.World.{Standing, here, stopped, Holding, Role, an_application, a_reader, Said, Letter, End, World}
 use Rattle.atspi_trace.specs.Ends.{is_here, conn_of, end_of, end_at, with_end, app_count, reader_count}
 use Rattle.atspi_trace.specs.Hearing.{holding_of}

@@ -8,12 +8,12 @@ use Rattle.atspi_lines.specs.declared.line.Party.{Party}
 use Rattle.atspi_lines.specs.declared.line.Party.TheVariants.{Registry}
 use Rattle.atspi_message.specs.Envelope.{Envelope}
 use Rattle.atspi_names.specs.Owners.{Owners}
-use Rattle.atspi_ends.specs.Places.{registry}
+use Rattle.atspi_protocol.specs.ends.Places.{registry}
 use Rattle.atspi_routing.specs.Queues.{Bus}
-use Rattle.atspi_registering.specs.RegistryState.{RegistryState, begins}
-use Rattle.atspi_exporting.specs.Exporter.{Exporter}
-use Rattle.atspi_news.specs.declared.part.PartName.{PartName}
-use Rattle.atspi_following.specs.declared.question.Question.{Question}
+use Rattle.atspi_protocol.specs.registering.RegistryState.{RegistryState, begins}
+use Rattle.atspi_protocol.specs.exporting.Exporter.{Exporter}
+use Rattle.atspi_protocol.specs.declared.news.part.PartName.{PartName}
+use Rattle.atspi_protocol.specs.declared.following.question.Question.{Question}
 use Rattle.atspi_trace.specs.Rules.{owner_rule}
 
 -- it is there; it stopped, and the bus was not told yet; it left the bus

@@ -2,8 +2,8 @@
 use Rattle.std.specs.Prelude.{◌≡◌, true, List, is_some}
 use Rattle.atspi_lines.specs.declared.line.Party.TheVariants.{Bus as The_bus, Registry}
 use Rattle.atspi_trace.specs.Entry.{Entry, got}
-use Rattle.atspi_trace_laws.specs.Words.{message, is_live}
-use Rattle.atspi_trace_laws.specs.NineLaws.{Everywhere, HasNextSerial, LawOfLinks}
+use Rattle.atspi_lawful.specs.laws.Words.{message, is_live}
+use Rattle.atspi_lawful.specs.laws.NineLaws.{Everywhere, HasNextSerial, LawOfLinks}
 use Rattle.atspi_lawful.specs.order.Laws.{OfEachTrace}
 
 -- what is taken of the bus was sent by it before, as long as the registry lives

@@ -10,13 +10,13 @@ use Rattle.atspi_forest.specs.News.{effect}
 use Rattle.atspi_forest.specs.Laws.{UntoldOfNew}
 use Rattle.atspi_lines.specs.declared.line.Party.TheVariants.{App}
 use Rattle.atspi_message.specs.Envelope.{Envelope}
-use Rattle.atspi_announcing.specs.Signals.{Signal}
-use Rattle.atspi_announcing.specs.Announced.{announced}
-use Rattle.atspi_news.specs.NewsOf.{news_of}
-use Rattle.atspi_exporting.specs.Hearing.{is_covered}
+use Rattle.atspi_protocol.specs.announcing.Signals.{Signal}
+use Rattle.atspi_protocol.specs.announcing.Announced.{announced}
+use Rattle.atspi_protocol.specs.news.NewsOf.{news_of}
+use Rattle.atspi_protocol.specs.exporting.Hearing.{is_covered}
 use Rattle.atspi_trace.specs.Entry.{Entry, changed, sent}
-use Rattle.atspi_trace_laws.specs.Words.{live_tree, heard_pairs}
-use Rattle.atspi_trace_laws.specs.NineLaws.{Everywhere}
+use Rattle.atspi_lawful.specs.laws.Words.{live_tree, heard_pairs}
+use Rattle.atspi_lawful.specs.laws.NineLaws.{Everywhere}
 use Rattle.atspi_lawful.specs.heard.Laws.{OfEachDone}
 
 -- a view behind the news of messages, as they come from an application of this name

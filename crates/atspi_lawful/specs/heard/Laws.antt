@@ -4,14 +4,14 @@ use Rattle.atspi_forest.specs.declared.step.Step.{Step}
 use Rattle.atspi_lines.specs.declared.line.Line.{Line}
 use Rattle.atspi_lines.specs.declared.line.Party.TheVariants.{App}
 use Rattle.atspi_message.specs.Envelope.{Envelope}
-use Rattle.atspi_ends.specs.Messages.{numbered}
-use Rattle.atspi_announcing.specs.Signals.{Signal}
-use Rattle.atspi_announcing.specs.Announced.{announced}
-use Rattle.atspi_exporting.specs.Telling.{asked_for}
+use Rattle.atspi_protocol.specs.ends.Messages.{numbered}
+use Rattle.atspi_protocol.specs.announcing.Signals.{Signal}
+use Rattle.atspi_protocol.specs.announcing.Announced.{announced}
+use Rattle.atspi_protocol.specs.exporting.Telling.{asked_for}
 use Rattle.atspi_trace.specs.Entry.{Entry, changed, sent}
 use Rattle.atspi_trace.specs.Due.{begins, after_all, Begun}
-use Rattle.atspi_trace_laws.specs.Words.{live_tree, messages, heard_pairs}
-use Rattle.atspi_trace_laws.specs.NineLaws.{Everywhere, Follow}
+use Rattle.atspi_lawful.specs.laws.Words.{live_tree, messages, heard_pairs}
+use Rattle.atspi_lawful.specs.laws.NineLaws.{Everywhere, Follow}
 use Rattle.atspi_lawful.specs.order.Scripts.{CanAllStand}
 use Rattle.atspi_lawful.specs.order.Laws.{OfEachTrace}
 

@@ -4,8 +4,8 @@ use Rattle.atspi_forest.specs.declared.step.Step.{Step}
 use Rattle.atspi_lines.specs.declared.line.Party.TheVariants.{Bus as The_bus, App, Reader}
 use Rattle.atspi_speech.specs.Speech.{says_after, closing_says}
 use Rattle.atspi_trace.specs.Entry.{Entry, got, spoke, gone}
-use Rattle.atspi_trace_laws.specs.Words.{as_of, Kept, held}
-use Rattle.atspi_trace_laws.specs.NineLaws.{Everywhere, Announces, LawOfShownRows, LawOfSpokenLines}
+use Rattle.atspi_lawful.specs.laws.Words.{as_of, Kept, held}
+use Rattle.atspi_lawful.specs.laws.NineLaws.{Everywhere, Announces, LawOfShownRows, LawOfSpokenLines}
 use Rattle.atspi_lawful.specs.order.Laws.{OfEachTrace}
 use Rattle.atspi_lawful.specs.heard.Laws.{OfEachDone}
 

@@ -2,8 +2,8 @@
 use Rattle.std.specs.Prelude.{◌≡◌, suc, ◌+◌, true, List, is_some}
 use Rattle.atspi_lines.specs.declared.line.Party.TheVariants.{Bus as The_bus}
 use Rattle.atspi_trace.specs.Entry.{Entry, got}
-use Rattle.atspi_trace_laws.specs.Words.{message}
-use Rattle.atspi_trace_laws.specs.NineLaws.{Everywhere, sent_before, count_got_by_bus}
+use Rattle.atspi_lawful.specs.laws.Words.{message}
+use Rattle.atspi_lawful.specs.laws.NineLaws.{Everywhere, sent_before, count_got_by_bus}
 use Rattle.atspi_lawful.specs.order.Laws.{OfEachTrace}
 
 -- the bus takes a message that its sender sent, and of each sender one behind the other from its first on

@@ -2,8 +2,8 @@
 use Rattle.std.specs.Prelude.{◌≡◌, true, List, []}
 use Rattle.atspi_lines.specs.declared.line.Party.TheVariants.{Registry}
 use Rattle.atspi_trace.specs.Entry.{Entry, dropped}
-use Rattle.atspi_trace_laws.specs.Words.{is_live}
-use Rattle.atspi_trace_laws.specs.NineLaws.{Everywhere}
+use Rattle.atspi_lawful.specs.laws.Words.{is_live}
+use Rattle.atspi_lawful.specs.laws.NineLaws.{Everywhere}
 use Rattle.atspi_lawful.specs.order.Laws.{OfEachTrace}
 
 -- behind the news that the registry was dropped stands nothing

@@ -5,7 +5,7 @@ use Rattle.std.specs.List.{AllByRecursion}
 use Rattle.atspi_lines.specs.declared.line.Party.TheVariants.{Bus as The_bus}
 use Rattle.atspi_trace.specs.Entry.{Entry, exited, dropped}
 use Rattle.atspi_trace.specs.Due.{Begun}
-use Rattle.atspi_trace_laws.specs.NineLaws.{Everywhere, IsNotOf, IsLast}
+use Rattle.atspi_lawful.specs.laws.NineLaws.{Everywhere, IsNotOf, IsLast}
 use Rattle.atspi_lawful.specs.order.Scripts.{CanAllStand}
 
 -- it holds of each front of a lawful trace, one that is broken off too

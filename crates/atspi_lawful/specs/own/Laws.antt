@@ -2,8 +2,8 @@
 use Rattle.std.specs.Prelude.{◌≡◌, suc, ◌+◌, true, List, length}
 use Rattle.atspi_lines.specs.declared.line.Party.TheVariants.{Bus as The_bus, Registry}
 use Rattle.atspi_trace.specs.Entry.{Entry, sent}
-use Rattle.atspi_trace_laws.specs.Words.{messages, is_live}
-use Rattle.atspi_trace_laws.specs.NineLaws.{Everywhere, sent_before}
+use Rattle.atspi_lawful.specs.laws.Words.{messages, is_live}
+use Rattle.atspi_lawful.specs.laws.NineLaws.{Everywhere, sent_before}
 use Rattle.atspi_lawful.specs.order.Laws.{OfEachTrace}
 
 -- as long as the registry lives, each message of the bus's own has the serial behind that of the one before; behind the registry's drop nothing is said

@@ -2,7 +2,7 @@
 use Rattle.std.specs.Prelude.{List}
 use Rattle.atspi_lines.specs.declared.line.Party.TheVariants.{Bus as The_bus}
 use Rattle.atspi_trace.specs.Entry.{Entry, sent}
-use Rattle.atspi_trace_laws.specs.NineLaws.{Everywhere, HasNextSerial}
+use Rattle.atspi_lawful.specs.laws.NineLaws.{Everywhere, HasNextSerial}
 use Rattle.atspi_lawful.specs.order.Laws.{OfEachTrace}
 
 -- each message of an end has its next serial; of the bus's own messages nothing is said

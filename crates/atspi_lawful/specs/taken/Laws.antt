@@ -2,8 +2,8 @@
 use Rattle.std.specs.Prelude.{◌≡◌, true, List, is_some}
 use Rattle.atspi_lines.specs.declared.line.Party.TheVariants.{Bus as The_bus}
 use Rattle.atspi_trace.specs.Entry.{Entry, got}
-use Rattle.atspi_trace_laws.specs.Words.{message}
-use Rattle.atspi_trace_laws.specs.NineLaws.{Everywhere}
+use Rattle.atspi_lawful.specs.laws.Words.{message}
+use Rattle.atspi_lawful.specs.laws.NineLaws.{Everywhere}
 use Rattle.atspi_lawful.specs.order.Laws.{OfEachTrace}
 
 -- what is taken of an end was sent by it before; of the bus's own messages nothing is said

@@ -4,7 +4,7 @@ use Rattle.std.specs.List.{AllByRecursion}
 use Rattle.atspi_lines.specs.declared.line.Party.{Party}
 use Rattle.atspi_lines.specs.declared.line.Party.TheVariants.{Bus as The_bus}
 use Rattle.atspi_trace.specs.Entry.{Entry, got}
-use Rattle.atspi_trace_laws.specs.NineLaws.{Everywhere}
+use Rattle.atspi_lawful.specs.laws.NineLaws.{Everywhere}
 use Rattle.atspi_lawful.specs.order.Laws.{OfEachTrace}
 
 -- what was taken of the same sender by the same end has a lower serial

@@ -8,13 +8,13 @@ use Rattle.atspi_forest.specs.View.{Told, view}
 use Rattle.atspi_forest.specs.News.{effect}
 use Rattle.atspi_forest.specs.Announce.{announcement, echoes, Idle}
 use Rattle.atspi_forest.specs.Laws.{UntoldOfNew}
-use Rattle.atspi_announcing.specs.Signals.{Signal}
-use Rattle.atspi_announcing.specs.Announced.{announced}
-use Rattle.atspi_announcing.specs.Laws.{told}
-use Rattle.atspi_news.specs.NewsOf.{news_of}
+use Rattle.atspi_protocol.specs.announcing.Signals.{Signal}
+use Rattle.atspi_protocol.specs.announcing.Announced.{announced}
+use Rattle.atspi_protocol.specs.announcing.Laws.{told}
+use Rattle.atspi_protocol.specs.news.NewsOf.{news_of}
 use Rattle.atspi_trace.specs.Entry.{Entry, changed}
-use Rattle.atspi_trace_laws.specs.Words.{live_tree, added}
-use Rattle.atspi_trace_laws.specs.NineLaws.{Everywhere}
+use Rattle.atspi_lawful.specs.laws.Words.{live_tree, added}
+use Rattle.atspi_lawful.specs.laws.NineLaws.{Everywhere}
 use Rattle.atspi_lawful.specs.order.Laws.{OfEachTrace}
 
 -- what a step changes is a tree

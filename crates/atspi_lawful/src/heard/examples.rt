@@ -2,7 +2,7 @@
 
 ghost use Rattle.std.specs.Prelude.{[], ◌∷◌};
 ghost use Rattle.atspi_forest.specs.declared.step.Step.TheVariants.{Caret, TextSelect};
-ghost use Rattle.atspi_announcing.specs.Signals.{caret_moved};
+ghost use Rattle.atspi_protocol.specs.announcing.Signals.{caret_moved};
 ghost use Rattle.atspi_lines.specs.declared.line.Party.TheVariants.{App};
 ghost use Rattle.atspi_trace.specs.Entry.{heard, changed, sent, quiet};
 ghost use Rattle.atspi_lawful.specs.heard.Laws.{IsToldUnder, IsOneOfThem};

@@ -2,12 +2,12 @@
 
 ghost use Rattle.std.specs.Prelude.{[], ◌∷◌, None, Some};
 ghost use Rattle.atspi_forest.specs.declared.step.Step.TheVariants.{Caret};
-ghost use Rattle.atspi_announcing.specs.Signals.{caret_moved};
-ghost use Rattle.atspi_following.specs.declared.question.Question.TheVariants.{Hello};
-ghost use Rattle.atspi_following.specs.Calls.{asking};
+ghost use Rattle.atspi_protocol.specs.announcing.Signals.{caret_moved};
+ghost use Rattle.atspi_protocol.specs.declared.following.question.Question.TheVariants.{Hello};
+ghost use Rattle.atspi_protocol.specs.following.Calls.{asking};
 ghost use Rattle.atspi_lines.specs.declared.line.Party.TheVariants.{App};
 ghost use Rattle.atspi_trace.specs.Entry.{heard, changed, sent, showed, quiet};
-ghost use Rattle.atspi_trace_laws.specs.NineLaws.{ShowsTree, Announces};
+ghost use Rattle.atspi_lawful.specs.laws.NineLaws.{ShowsTree, Announces};
 
 /// Of an application that a reader does not hold it shows nothing.
 pub fn shown_rows()

@@ -1,8 +1,8 @@
 //! Worked cases of what the bus takes.
 
 ghost use Rattle.std.specs.Prelude.{[], ◌∷◌};
-ghost use Rattle.atspi_following.specs.declared.question.Question.TheVariants.{Hello};
-ghost use Rattle.atspi_following.specs.Calls.{asking};
+ghost use Rattle.atspi_protocol.specs.declared.following.question.Question.TheVariants.{Hello};
+ghost use Rattle.atspi_protocol.specs.following.Calls.{asking};
 ghost use Rattle.atspi_lines.specs.declared.line.Party.TheVariants.{Bus, App};
 ghost use Rattle.atspi_trace.specs.Entry.{sent, got};
 ghost use Rattle.atspi_lawful.specs.links.Laws.{IsTakenInOrder};

@@ -1,8 +1,8 @@
 //! Worked cases of who is live.
 
 ghost use Rattle.std.specs.Prelude.{[], ◌∷◌, None};
-ghost use Rattle.atspi_following.specs.declared.question.Question.TheVariants.{Hello};
-ghost use Rattle.atspi_following.specs.Calls.{asking};
+ghost use Rattle.atspi_protocol.specs.declared.following.question.Question.TheVariants.{Hello};
+ghost use Rattle.atspi_protocol.specs.following.Calls.{asking};
 ghost use Rattle.atspi_lines.specs.declared.line.Party.TheVariants.{Bus, Registry, App, Reader};
 ghost use Rattle.atspi_trace.specs.Entry.{started, sent, got, exited, dropped};
 ghost use Rattle.atspi_lawful.specs.living.Laws.{ActsAlive};

@@ -1,8 +1,8 @@
 //! Worked cases of the numbers of messages.
 
 ghost use Rattle.std.specs.Prelude.{[], ◌∷◌};
-ghost use Rattle.atspi_following.specs.declared.question.Question.TheVariants.{Hello};
-ghost use Rattle.atspi_following.specs.Calls.{asking};
+ghost use Rattle.atspi_protocol.specs.declared.following.question.Question.TheVariants.{Hello};
+ghost use Rattle.atspi_protocol.specs.following.Calls.{asking};
 ghost use Rattle.atspi_lines.specs.declared.line.Party.TheVariants.{Bus, Registry, App};
 ghost use Rattle.atspi_trace.specs.Entry.{sent, quiet};
 ghost use Rattle.atspi_lawful.specs.serials.Laws.{HasNextNumber};

@@ -1,7 +1,7 @@
 use Rattle.std.proofs.Common.{sym, ap, ◌∙◌}
 use Rattle.std.specs.Prelude.{codes}
-use Rattle.atspi_announcing.specs.Signals.{state_changed}
-use Rattle.atspi_exporting.specs.Hearing.{is_covered}
+use Rattle.atspi_protocol.specs.announcing.Signals.{state_changed}
+use Rattle.atspi_protocol.specs.exporting.Hearing.{is_covered}
 use Rattle.atspi_announced.proofs.Asked.{asked_none, asked_pushed}
 use Rattle.atspi_announced.proofs.changes.state.Goals as goal
 

@@ -2,7 +2,7 @@ use Rattle.std.proofs.Common.{[], ◌∷◌}
 use Rattle.std.specs.Prelude.{pos, codes}
 use Rattle.atspi_forest.specs.Announce.{own, item_of}
 use Rattle.atspi_forest.specs.RowRules.{rows}
-use Rattle.atspi_announcing.specs.Signals.{added, child_changed}
+use Rattle.atspi_protocol.specs.announcing.Signals.{added, child_changed}
 use Rattle.atspi_announced.proofs.Asked.{asked_two}
 use Rattle.atspi_announced.proofs.places.added.Goals as goal
 

@@ -1,6 +1,6 @@
 use Rattle.std.proofs.Common.{sym, ◌∙◌}
 use Rattle.std.specs.Prelude.{codes}
-use Rattle.atspi_announcing.specs.Signals.{child_changed}
+use Rattle.atspi_protocol.specs.announcing.Signals.{child_changed}
 use Rattle.atspi_announced.proofs.Asked.{asked_none, asked_pushed}
 use Rattle.atspi_announced.proofs.places.arrived.Goals as goal
 

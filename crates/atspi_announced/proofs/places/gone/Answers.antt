@@ -2,7 +2,7 @@ use Rattle.std.proofs.Common.{sym, ◌∙◌, map}
 use Rattle.atspi_forest.specs.Forest.{labels, pick}
 use Rattle.atspi_forest.specs.Row.{ShapeRow}
 use Rattle.atspi_forest.specs.Tree.{is_shape}
-use Rattle.atspi_announcing.specs.Signals.{removed}
+use Rattle.atspi_protocol.specs.announcing.Signals.{removed}
 use Rattle.atspi_tree.specs.Seats.{seats_below}
 use Rattle.atspi_tree.specs.declared.seats.Seat.{Seat}
 use Rattle.atspi_announced.proofs.Asked.{asked_empty, asked_front, asked_nothing}

@@ -1,5 +1,5 @@
 use Rattle.std.proofs.Common.{◌≡◌, ◌++◌, map, length}
-use Rattle.atspi_announcing.specs.Signals.{removed}
+use Rattle.atspi_protocol.specs.announcing.Signals.{removed}
 use Rattle.atspi_tree.specs.Seats.{seats_below}
 use Rattle.atspi_announced.proofs.places.gone_below.Given as goal
 

@@ -2,7 +2,7 @@ use Rattle.std.proofs.Common.{◌++◌, length}
 use Rattle.std.specs.Option.{option_map}
 use Rattle.atspi_forest.specs.RowRules.{shapes}
 use Rattle.atspi_forest.specs.Tree.{seat_of}
-use Rattle.atspi_announcing.specs.Announced.{left, told_node}
+use Rattle.atspi_protocol.specs.announcing.Announced.{left, told_node}
 use Rattle.atspi_tree.specs.TreeShape.{children_of, row_of}
 use Rattle.atspi_items.specs.Bare.{bare}
 use Rattle.atspi_announced.proofs.Asked.{asked_two}

@@ -1,6 +1,6 @@
 use Rattle.std.proofs.Common.{ap, ◌∙◌}
 use Rattle.atspi_forest.specs.declared.news.Item.{Item}
-use Rattle.atspi_announcing.specs.Signals.{added}
+use Rattle.atspi_protocol.specs.announcing.Signals.{added}
 use Rattle.atspi_announced.proofs.places.new_node.Goals as goal
 
 pub returns : goal.returns

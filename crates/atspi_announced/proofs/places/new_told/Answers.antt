@@ -2,7 +2,7 @@ use Rattle.std.proofs.Common.{sym, ◌∙◌}
 use Rattle.std.specs.Prelude.{pos}
 use Rattle.atspi_forest.specs.Announce.{own, item_of}
 use Rattle.atspi_forest.specs.RowRules.{rows}
-use Rattle.atspi_announcing.specs.Signals.{added}
+use Rattle.atspi_protocol.specs.announcing.Signals.{added}
 use Rattle.atspi_announced.proofs.Asked.{asked_none, asked_pushed}
 use Rattle.atspi_announced.proofs.places.new_told.Goals as goal
 

@@ -3,8 +3,8 @@ use Rattle.atspi_forest.specs.Forest.{labels, pick}
 use Rattle.atspi_forest.specs.Row.{ShapeRow}
 use Rattle.atspi_forest.specs.RowRules.{shapes}
 use Rattle.atspi_forest.specs.Tree.{is_shape, seat_of}
-use Rattle.atspi_announcing.specs.Signals.{removed}
-use Rattle.atspi_announcing.specs.Announced.{left}
+use Rattle.atspi_protocol.specs.announcing.Signals.{removed}
+use Rattle.atspi_protocol.specs.announcing.Announced.{left}
 use Rattle.atspi_announced.proofs.Asked.{asked_two}
 use Rattle.atspi_announced.proofs.places.removed.Goals as goal
 

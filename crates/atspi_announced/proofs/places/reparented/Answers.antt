@@ -1,8 +1,8 @@
 use Rattle.std.proofs.Common.{sym, ◌∙◌}
 use Rattle.std.specs.Prelude.{codes}
 use Rattle.atspi_forest.specs.Path.{path_of}
-use Rattle.atspi_ends.specs.Places.{reference}
-use Rattle.atspi_announcing.specs.Signals.{property_changed}
+use Rattle.atspi_protocol.specs.ends.Places.{reference}
+use Rattle.atspi_protocol.specs.announcing.Signals.{property_changed}
 use Rattle.atspi_announced.proofs.Asked.{asked_none, asked_pushed}
 use Rattle.atspi_announced.proofs.places.reparented.Goals as goal
 

@@ -1,6 +1,6 @@
 use Rattle.std.proofs.Common.{◌++◌, List, ap, ◌∙◌}
 use Rattle.atspi_message.specs.Envelope.{Envelope}
-use Rattle.atspi_announcing.specs.Announced.{announced}
+use Rattle.atspi_protocol.specs.announcing.Announced.{announced}
 use Rattle.atspi_announced.specs.Asked.{messages_asked, without_contents}
 use Rattle.atspi_announced.proofs.Told.{same_announced}
 use Rattle.atspi_announced.proofs.step.announced.Goals as goal

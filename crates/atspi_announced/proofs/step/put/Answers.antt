@@ -4,8 +4,8 @@ use Rattle.std.specs.Prelude.{OnOk}
 use Rattle.atspi_forest.specs.RowRules.{shapes}
 use Rattle.atspi_forest.specs.Tree.{Moves}
 use Rattle.atspi_forest.specs.declared.step.Step.{Step}
-use Rattle.atspi_announcing.specs.Signals.{Signal}
-use Rattle.atspi_announcing.specs.Announced.{announced}
+use Rattle.atspi_protocol.specs.announcing.Signals.{Signal}
+use Rattle.atspi_protocol.specs.announcing.Announced.{announced}
 use Rattle.atspi_announced.specs.Asked.{CanBeTold, messages_asked, without_contents}
 use Rattle.atspi_announced.proofs.Told.{bare_removed, bare_moved, moved_few}
 use Rattle.atspi_announced.proofs.step.put.Goals as goal

@@ -1,5 +1,5 @@
 use Rattle.std.proofs.Common.{drop}
-use Rattle.atspi_happenings.specs.View.{happened}
+use Rattle.atspi_app_known.specs.happenings.View.{happened}
 use Rattle.atspi_app.proofs.Told.{IsTelling}
 use Rattle.atspi_app.proofs.telling.each_told.Given as goal
 

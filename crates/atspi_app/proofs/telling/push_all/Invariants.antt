@@ -1,5 +1,5 @@
 use Rattle.std.proofs.Common.{length}
-use Rattle.atspi_happenings.specs.View.{happened}
+use Rattle.atspi_app_known.specs.happenings.View.{happened}
 use Rattle.atspi_app.proofs.Unnumbered.{IsPushing}
 use Rattle.atspi_app.proofs.telling.push_all.Given as goal
 

@@ -3,7 +3,7 @@ use Rattle.std.proofs.lemmas.Result.{IfOk-weaker}
 use Rattle.std.proofs.lemmas.Int.{to_z-of_z}
 use Rattle.atspi_types.specs.DataView.{data_of}
 use Rattle.atspi_cursor.specs.Items.{fields_data}
-use Rattle.atspi_objects.specs.Children as children
+use Rattle.atspi_protocol.specs.objects.Children as children
 use Rattle.atspi_tree.specs.TreeShape.{children_of}
 use Rattle.atspi_node_values.specs.Numbers.{numbered_or_null}
 use Rattle.atspi_app_answers.proofs.Telling.{tells_child}

@@ -2,10 +2,10 @@ use Rattle.std.proofs.Common.{refl, sym, ap, subst, ◌∙◌}
 use Rattle.std.proofs.lemmas.Result.{IfOk-weaker}
 use Rattle.std.specs.Prelude.{IfOk}
 use Rattle.atspi_types.specs.DataView.{all_data}
-use Rattle.atspi_members.specs.declared.member.ObjectMember.{ObjectMember}
+use Rattle.atspi_protocol.specs.declared.members.member.ObjectMember.{ObjectMember}
 use Rattle.atspi_app_answers.specs.Told.{TreeReturns}
-use Rattle.atspi_objects.specs.Answers.{tells_all}
-use Rattle.atspi_whole.proofs.Followed.{shape_is_kept}
+use Rattle.atspi_protocol.specs.objects.Answers.{tells_all}
+use Rattle.atspi_protocol.proofs.OfWhole.Followed.{shape_is_kept}
 use Rattle.atspi_app_answers.specs.Seen.{seen}
 use Rattle.atspi_app_answers.proofs.MemberLemmas.{nothing}
 use Rattle.atspi_app_answers.proofs.answers.tree_member.Goals as goal

@@ -1,6 +1,6 @@
 use Rattle.std.proofs.Common.{sym, ap, ◌∙◌}
 use Rattle.std.proofs.lemmas.Result.{IfOk-weaker}
-use Rattle.atspi_objects.specs.Answers.{tells_all}
+use Rattle.atspi_protocol.specs.objects.Answers.{tells_all}
 use Rattle.atspi_app_answers.specs.Seen.{seen}
 use Rattle.atspi_app_answers.proofs.members.accessible_values.Goals as goal
 

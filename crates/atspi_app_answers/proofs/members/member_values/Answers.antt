@@ -1,12 +1,12 @@
 use Rattle.std.proofs.Common.{sym, ap, subst, ◌∙◌}
 use Rattle.std.proofs.lemmas.Result.{IfOk-weaker}
 use Rattle.std.specs.Prelude.{MatchResult}
-use Rattle.atspi_members.specs.declared.member.ObjectMember.{ObjectMember}
+use Rattle.atspi_protocol.specs.declared.members.member.ObjectMember.{ObjectMember}
 use Rattle.atspi_app_answers.specs.Told.{TellsAll, Refuses}
 use Rattle.atspi_types.specs.DataView.{all_data}
 use Rattle.atspi_cursor.specs.Items.{fields_data}
-use Rattle.atspi_objects.specs.Answers.{tells_all}
-use Rattle.atspi_whole.specs.Whole.{filled}
+use Rattle.atspi_protocol.specs.objects.Answers.{tells_all}
+use Rattle.atspi_protocol.specs.whole.Whole.{filled}
 use Rattle.atspi_app_answers.specs.Seen.{seen}
 use Rattle.atspi_app_answers.proofs.Answering.{with_fault}
 use Rattle.atspi_app_answers.proofs.MemberLemmas.{unknown}

@@ -1,7 +1,7 @@
 use Rattle.std.proofs.Common.{ap, ◌∙◌, rules, w32, SFits}
 use Rattle.std.proofs.lemmas.Int.{to_z-of_z}
 use Rattle.atspi_types.specs.DataView.{data_of}
-use Rattle.atspi_members.specs.Arguments.{int}
+use Rattle.atspi_protocol.specs.members.Arguments.{int}
 use Rattle.atspi_app_answers.proofs.Telling.{is_number}
 use Rattle.atspi_app_answers.proofs.properties.id_of.Goals as goal
 

@@ -1,7 +1,7 @@
 use Rattle.std.proofs.Common.{sym, subst}
 use Rattle.std.specs.Prelude.{IfOk}
 use Rattle.atspi_types.specs.DataView.{data_of}
-use Rattle.atspi_members.specs.declared.property.ObjectProperty.{ObjectProperty}
+use Rattle.atspi_protocol.specs.declared.members.property.ObjectProperty.{ObjectProperty}
 use Rattle.atspi_app_answers.specs.Told.{IsProperty}
 use Rattle.atspi_app_answers.proofs.properties.property.Goals as goal
 

@@ -1,7 +1,7 @@
 use Rattle.std.proofs.lemmas.Result.{IfOk-weaker}
 use Rattle.atspi_types.specs.DataView.{data_of}
 use Rattle.atspi_types.specs.KindView.{kind_of}
-use Rattle.atspi_whole.specs.Whole.{filled}
+use Rattle.atspi_protocol.specs.whole.Whole.{filled}
 use Rattle.atspi_app_answers.specs.Seen.{seen}
 use Rattle.atspi_app_answers.proofs.Listing.{put_in_variant}
 use Rattle.atspi_app_answers.proofs.variants.property_in_variant.Goals as goal

@@ -1,7 +1,7 @@
 use Rattle.std.proofs.Common.{sym, ap, ◌∙◌, w32, SFits, rules}
 use Rattle.std.proofs.lemmas.Int.{to_z-of_z}
 use Rattle.std.proofs.lemmas.Result.{IfOk-weaker}
-use Rattle.atspi_objects.specs.Answers.{changes}
+use Rattle.atspi_protocol.specs.objects.Answers.{changes}
 use Rattle.atspi_app_called.proofs.contents.settled.Goals as goal
 
 pub returns-in-Some : goal.returns-in-Some

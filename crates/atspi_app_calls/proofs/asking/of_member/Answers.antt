@@ -1,7 +1,7 @@
 use Rattle.std.proofs.Common.{subst, chars}
 use Rattle.atspi_cursor.specs.Items.{fields_data}
-use Rattle.atspi_members.specs.Arguments.{text_at}
-use Rattle.atspi_members.specs.Asked.{property_of}
+use Rattle.atspi_protocol.specs.members.Arguments.{text_at}
+use Rattle.atspi_protocol.specs.members.Asked.{property_of}
 use Rattle.atspi_app_calls.specs.Object.{object_of}
 use Rattle.atspi_app_calls.specs.Ask.{IsFound}
 use Rattle.atspi_app_calls.proofs.asking.of_member.Goals as goal

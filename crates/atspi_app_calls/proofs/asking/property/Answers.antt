@@ -1,5 +1,5 @@
 use Rattle.std.proofs.Common.{sym, subst, ◌∙◌, chars}
-use Rattle.atspi_members.specs.Asked.{properties_of}
+use Rattle.atspi_protocol.specs.members.Asked.{properties_of}
 use Rattle.atspi_app_calls.specs.Object.{object_of}
 use Rattle.atspi_app_calls.specs.Ask.{AreAll}
 use Rattle.atspi_app_calls.proofs.PropertyLemmas.{some_property, no_property}

@@ -1,6 +1,6 @@
 use Rattle.std.proofs.Common.{sym, ap, subst, None}
 use Rattle.atspi_cursor.specs.Items.{item_data, fields_data}
-use Rattle.atspi_members.specs.Arguments.{value_in}
+use Rattle.atspi_protocol.specs.members.Arguments.{value_in}
 use Rattle.atspi_calls.specs.Arguments.{IsSigned}
 use Rattle.atspi_calls.proofs.Reading.{second_is, no_first}
 use Rattle.atspi_calls.proofs.arguments.second_set_signed.Goals as goal

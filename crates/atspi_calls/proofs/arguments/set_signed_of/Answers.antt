@@ -4,7 +4,7 @@ use Rattle.atspi_types.specs.Data.{type_of}
 use Rattle.atspi_marshal.specs.Reading.{input_of}
 use Rattle.atspi_cursor.specs.Items.{item_data, item_kind}
 use Rattle.atspi_header.proofs.ReadTypes.{item_type}
-use Rattle.atspi_members.specs.Arguments.{value_in}
+use Rattle.atspi_protocol.specs.members.Arguments.{value_in}
 use Rattle.atspi_calls.specs.Arguments.{IsSigned}
 use Rattle.atspi_calls.proofs.Reading.{not_variant, signed_is}
 use Rattle.atspi_calls.proofs.arguments.set_signed_of.Goals as goal

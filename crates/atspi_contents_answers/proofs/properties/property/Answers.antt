@@ -1,6 +1,6 @@
 use Rattle.std.proofs.Common.{sym, subst}
 use Rattle.atspi_types.specs.DataView.{data_of}
-use Rattle.atspi_members.specs.declared.property.ObjectProperty.{ObjectProperty}
+use Rattle.atspi_protocol.specs.declared.members.property.ObjectProperty.{ObjectProperty}
 use Rattle.atspi_contents_values.specs.Seen.{faces_of}
 use Rattle.atspi_contents_answers.specs.Told.{IsProperty}
 use Rattle.atspi_contents_answers.proofs.Kept.{keeps_text, few_columns, few_actions}

@@ -1,6 +1,6 @@
 use Rattle.std.proofs.Common.{ap, ◌∙◌}
 use Rattle.std.proofs.Common.{ℕ, List, length, ◌/◌}
-use Rattle.atspi_objects.specs.Values.{count_data}
+use Rattle.atspi_protocol.specs.objects.Values.{count_data}
 use Rattle.atspi_contents_values.specs.Seen.{faces_of}
 use Rattle.atspi_tree.specs.TreeShape.{children_of}
 use Rattle.atspi_contents_answers.proofs.Telling.{is_row_count}

@@ -1,6 +1,6 @@
 use Rattle.std.proofs.Common.{ap, ◌∙◌}
 use Rattle.std.proofs.Common.{ℕ, List, length}
-use Rattle.atspi_objects.specs.Values.{count_data}
+use Rattle.atspi_protocol.specs.objects.Values.{count_data}
 use Rattle.atspi_contents_values.specs.Numbers.{selected_among}
 use Rattle.atspi_contents_answers.proofs.Telling.{is_selected_count}
 use Rattle.atspi_contents_answers.proofs.properties.selected_children.Goals as goal

@@ -1,7 +1,7 @@
 use Rattle.std.proofs.Common.{sym, subst}
 use Rattle.atspi_types.specs.DataView.{data_of}
 use Rattle.atspi_cursor.specs.Items.{fields_data}
-use Rattle.atspi_members.specs.declared.member.ObjectMember.{ObjectMember}
+use Rattle.atspi_protocol.specs.declared.members.member.ObjectMember.{ObjectMember}
 use Rattle.atspi_contents_answers.specs.Told.{TellsOne}
 use Rattle.atspi_contents_answers.proofs.selection.selection.Goals as goal
 

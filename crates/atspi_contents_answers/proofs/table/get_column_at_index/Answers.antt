@@ -1,7 +1,7 @@
 use Rattle.std.proofs.Common.{ℕ, List, length, ap, ◌∙◌, w32, SFits, rules}
 use Rattle.std.proofs.lemmas.Int.{to_z-of_z}
 use Rattle.atspi_cursor.specs.Items.{fields_data}
-use Rattle.atspi_objects.specs.Tables.{index_or_none}
+use Rattle.atspi_protocol.specs.objects.Tables.{index_or_none}
 use Rattle.atspi_contents_values.specs.Places.{place_of}
 use Rattle.atspi_contents_values.specs.Numbers.{column_in}
 use Rattle.atspi_contents_answers.proofs.Telling.{tells_column}

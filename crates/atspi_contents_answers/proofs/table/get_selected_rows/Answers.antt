@@ -6,7 +6,7 @@ use Rattle.atspi_types.specs.declared.value.Value.TheVariants as values
 use Rattle.atspi_types.proofs.DataLemmas.{data_of-Array}
 use Rattle.atspi_types.proofs.KindLemmas.{kind_of-I32}
 use Rattle.atspi_types.specs.declared.ty.Ty.TheVariants as types
-use Rattle.atspi_objects.specs.Values.{count_data}
+use Rattle.atspi_protocol.specs.objects.Values.{count_data}
 use Rattle.atspi_contents_values.specs.Numbers.{rows_selected}
 use Rattle.atspi_contents_answers.proofs.Telling.{tells_rows}
 use Rattle.atspi_contents_answers.proofs.table.get_selected_rows.Goals as goal

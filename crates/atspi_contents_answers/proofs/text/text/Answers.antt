@@ -2,7 +2,7 @@ use Rattle.std.proofs.Common.{sym, subst}
 use Rattle.std.proofs.lemmas.Result.{IfOk-weaker}
 use Rattle.atspi_types.specs.DataView.{all_data}
 use Rattle.atspi_cursor.specs.Items.{fields_data}
-use Rattle.atspi_members.specs.declared.member.ObjectMember.{ObjectMember}
+use Rattle.atspi_protocol.specs.declared.members.member.ObjectMember.{ObjectMember}
 use Rattle.atspi_contents_answers.specs.Told.{TellsText}
 use Rattle.atspi_contents_answers.proofs.text.text.Goals as goal
 

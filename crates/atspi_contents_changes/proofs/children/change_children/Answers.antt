@@ -1,7 +1,7 @@
 use Rattle.std.proofs.Common.{sym, subst}
 use Rattle.std.proofs.lemmas.Result.{IfOk-weaker}
 use Rattle.atspi_cursor.specs.Items.{fields_data}
-use Rattle.atspi_members.specs.declared.member.ObjectMember.{ObjectMember}
+use Rattle.atspi_protocol.specs.declared.members.member.ObjectMember.{ObjectMember}
 use Rattle.atspi_contents_changes.specs.Changing.{ChangesChildren}
 use Rattle.atspi_contents_changes.proofs.children.change_children.Goals as goal
 

@@ -3,7 +3,7 @@ use Rattle.std.proofs.lemmas.Int.{to_z-of_z}
 use Rattle.std.proofs.lemmas.Result.{IfOk-weaker}
 use Rattle.atspi_cursor.specs.Items.{fields_data}
 use Rattle.atspi_contents_values.specs.Places.{place_of}
-use Rattle.atspi_members.specs.Arguments.{signed_at}
+use Rattle.atspi_protocol.specs.members.Arguments.{signed_at}
 use Rattle.atspi_forest.specs.declared.edit.Edit.TheVariants.{Mark}
 use Rattle.atspi_edits.specs.Answers.{edit_steps}
 use Rattle.atspi_contents_changes.specs.Steps.{granted}

@@ -4,7 +4,7 @@ use Rattle.std.proofs.lemmas.Result.{IfOk-weaker}
 use Rattle.atspi_cursor.specs.Items.{fields_data}
 use Rattle.atspi_contents_values.specs.Places.{place_of}
 use Rattle.atspi_forest.specs.Edits.{known_text}
-use Rattle.atspi_members.specs.Arguments.{signed_at}
+use Rattle.atspi_protocol.specs.members.Arguments.{signed_at}
 use Rattle.atspi_contents_changes.proofs.Changed.{no_index, no_from, sets_selection}
 use Rattle.atspi_contents_changes.proofs.texts.set_selection.Goals as goal
 

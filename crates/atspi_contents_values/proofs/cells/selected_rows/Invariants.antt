@@ -2,7 +2,7 @@ use Rattle.std.proofs.Common.{◌≡◌, map}
 use Rattle.std.specs.Prelude.{filter}
 use Rattle.atspi_types.specs.DataView.{all_data}
 use Rattle.atspi_edits.proofs.Switched.{below}
-use Rattle.atspi_objects.specs.Values.{count_data}
+use Rattle.atspi_protocol.specs.objects.Values.{count_data}
 use Rattle.atspi_contents_values.specs.Numbers.{is_selected_row}
 use Rattle.atspi_contents_values.proofs.cells.selected_rows.Given as goal
 

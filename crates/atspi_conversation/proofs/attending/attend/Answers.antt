@@ -1,6 +1,6 @@
 use Rattle.std.proofs.Common.{◌≡◌, Err, ap}
-use Rattle.atspi_ends.specs.declared.fault.EndFault.{EndFault}
-use Rattle.atspi_ends.specs.declared.fault.EndFault.TheVariants.{Spent}
+use Rattle.atspi_protocol.specs.declared.ends.fault.EndFault.{EndFault}
+use Rattle.atspi_protocol.specs.declared.ends.fault.EndFault.TheVariants.{Spent}
 use Rattle.atspi_header.specs.View.{envelope_at}
 use Rattle.atspi_conversation.proofs.SentLemmas.{attends_more, attends_none, attends_to_spent, shorter}
 use Rattle.atspi_conversation.proofs.attending.attend.Goals as goal

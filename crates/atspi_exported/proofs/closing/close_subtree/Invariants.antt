@@ -1,7 +1,7 @@
 use Rattle.std.proofs.Common.{◌≡◌, map, length}
 use Rattle.atspi_forest.specs.Forest.{labels, pick}
 use Rattle.atspi_forest.specs.Tree.{is_shape}
-use Rattle.atspi_whole.specs.Whole.{without}
+use Rattle.atspi_protocol.specs.whole.Whole.{without}
 use Rattle.atspi_exported.specs.Parts.{kinds_of}
 use Rattle.atspi_exported.proofs.Closed.{IsClosing}
 use Rattle.atspi_exported.proofs.closing.close_subtree.Given as goal

@@ -1,6 +1,6 @@
 use Rattle.std.proofs.Common.{◌≡◌, take}
 use Rattle.std.specs.FinMap.{get}
-use Rattle.atspi_whole.specs.Whole.{as_actions}
+use Rattle.atspi_protocol.specs.whole.Whole.{as_actions}
 use Rattle.atspi_exported.proofs.reading.names_at.Given as goal
 
 abbrev pub invariant-loop-i : goal.invariant-loop-i

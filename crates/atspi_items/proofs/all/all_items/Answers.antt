@@ -4,7 +4,7 @@ use Rattle.atspi_types.specs.Data.{Data, array_data, items_of}
 use Rattle.atspi_types.specs.DataView.{all_data}
 use Rattle.atspi_types.proofs.DataLemmas.{data_of-Array}
 use Rattle.atspi_forest.specs.Announce.{items}
-use Rattle.atspi_objects.specs.Values.{item_data, item_kind}
+use Rattle.atspi_protocol.specs.objects.Values.{item_data, item_kind}
 use Rattle.atspi_items.specs.Seated.{of_registry}
 use Rattle.atspi_items.proofs.Walked.{walked}
 use Rattle.atspi_items.proofs.all.all_items.Goals as goal

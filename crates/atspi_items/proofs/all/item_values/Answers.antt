@@ -7,7 +7,7 @@ use Rattle.atspi_forest.specs.Tree.{is_shape}
 use Rattle.atspi_forest.proofs.Found.{count-has, find-has}
 use Rattle.atspi_tree.specs.Seats.{seats_in}
 use Rattle.atspi_forest.specs.Row.{Each}
-use Rattle.atspi_objects.specs.Values.{item_data}
+use Rattle.atspi_protocol.specs.objects.Values.{item_data}
 use Rattle.atspi_tree.specs.declared.seats.Seat.{Seat}
 use Rattle.atspi_items.specs.Seated.{seat_item, seats_items}
 use Rattle.atspi_items.proofs.Walked.{IsPlace, all_places, told_more}

@@ -1,7 +1,7 @@
 use Rattle.std.proofs.Common.{◌≡◌, ◌++◌, map, length}
 use Rattle.atspi_types.specs.DataView.{all_data}
 use Rattle.atspi_forest.specs.Row.{Each}
-use Rattle.atspi_objects.specs.Values.{item_data}
+use Rattle.atspi_protocol.specs.objects.Values.{item_data}
 use Rattle.atspi_tree.specs.Seats.{seats_in}
 use Rattle.atspi_items.specs.Seated.{seats_items}
 use Rattle.atspi_items.proofs.Walked.{IsPlace}

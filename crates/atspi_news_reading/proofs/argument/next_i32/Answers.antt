@@ -1,6 +1,6 @@
 use Rattle.std.proofs.Common.{◌∙◌, ◌∷◌, ap}
 use Rattle.atspi_types.specs.Data.{Data}
-use Rattle.atspi_news.specs.Arguments.{then_signed}
+use Rattle.atspi_protocol.specs.news.Arguments.{then_signed}
 use Rattle.atspi_news_reading.specs.Seen.{together}
 use Rattle.atspi_marshal.specs.Reading.{input_of}
 use Rattle.atspi_cursor.specs.Items.{item_data, item_kind, fields_data}

@@ -2,7 +2,7 @@ use Rattle.std.proofs.Common.{◌∙◌, Some, chars, sym, ap}
 use Rattle.atspi_marshal.specs.Reading.{input_of}
 use Rattle.atspi_cursor.specs.Items.{item_data, item_kind, fields_data}
 use Rattle.atspi_header.proofs.ReadTypes.{item_type}
-use Rattle.atspi_news.specs.Arguments.{then_path, then_end}
+use Rattle.atspi_protocol.specs.news.Arguments.{then_path, then_end}
 use Rattle.atspi_news_reading.specs.Seen.{reference_seen}
 use Rattle.atspi_news_reading.proofs.Came.{no_structure, in_fields, read_text, read_path}
 use Rattle.atspi_news_reading.proofs.argument.reference.Goals as goal

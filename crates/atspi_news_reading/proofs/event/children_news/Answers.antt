@@ -4,8 +4,8 @@ use Rattle.std.specs.Prelude.{bytes_eq, codes}
 use Rattle.std.proofs.lemmas.Int.{to_z-of_z}
 use Rattle.atspi_cursor.specs.Items.{item_data}
 use Rattle.atspi_forest.specs.declared.news.News.TheVariants.{ChildAdded, ChildRemoved, Nothing}
-use Rattle.atspi_news.specs.Arguments.{reference_in}
-use Rattle.atspi_news.specs.Events.{own_child}
+use Rattle.atspi_protocol.specs.news.Arguments.{reference_in}
+use Rattle.atspi_protocol.specs.news.Events.{own_child}
 use Rattle.atspi_news_reading.proofs.Told.{same_value, picked, passed}
 use Rattle.atspi_news_reading.proofs.event.children_news.Goals as goal
 

@@ -2,7 +2,7 @@ use Rattle.std.proofs.Common.{◌∙◌, ap, ℕ, List, rules, FitsSigned, chars
 use Rattle.std.specs.Int.{w32}
 use Rattle.std.proofs.lemmas.Int.{to_z-of_z}
 use Rattle.atspi_forest.specs.declared.news.News.TheVariants.{State}
-use Rattle.atspi_news.specs.Events.{is_on}
+use Rattle.atspi_protocol.specs.news.Events.{is_on}
 use Rattle.atspi_news_reading.proofs.Told.{no_state, state_told}
 use Rattle.atspi_news_reading.proofs.event.state_news.Goals as goal
 

@@ -4,7 +4,7 @@ use Rattle.std.specs.Prelude.{codes}
 use Rattle.std.proofs.lemmas.Int.{to_z-of_z}
 use Rattle.atspi_cursor.specs.Items.{item_data}
 use Rattle.atspi_forest.specs.declared.news.News.TheVariants.{Inserted, Deleted, Nothing}
-use Rattle.atspi_news.specs.Events.{is_front, with_text}
+use Rattle.atspi_protocol.specs.news.Events.{is_front, with_text}
 use Rattle.atspi_news_reading.proofs.Told.{same_value, picked, passed}
 use Rattle.atspi_news_reading.proofs.event.text_news.Goals as goal
 

@@ -1,7 +1,7 @@
 use Rattle.std.proofs.Common.{◌∙◌, None, chars, map, sym}
 use Rattle.atspi_cursor.specs.Items.{fields_data, elements_data}
-use Rattle.atspi_news.specs.Arguments.{text_in}
-use Rattle.atspi_news.specs.CacheSignals.{item_of}
+use Rattle.atspi_protocol.specs.news.Arguments.{text_in}
+use Rattle.atspi_protocol.specs.news.CacheSignals.{item_of}
 use Rattle.atspi_news_reading.proofs.Came.{read_text, read_unsigned}
 use Rattle.atspi_news_reading.proofs.ItemSteps.{behind_8, behind_9, through_6, through_7, through_8, through_9, ends_10, more_10, no_numbers_10, gone}
 use Rattle.atspi_news_reading.proofs.item.item_fields.Goals as goal

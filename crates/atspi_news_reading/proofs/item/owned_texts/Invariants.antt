@@ -1,6 +1,6 @@
 use Rattle.std.proofs.Common.{◌≡◌, ◌++◌, map}
 use Rattle.atspi_cursor.specs.Items.{elements_data}
-use Rattle.atspi_news.specs.Arguments.{text_in}
+use Rattle.atspi_protocol.specs.news.Arguments.{text_in}
 use Rattle.atspi_news_reading.proofs.item.owned_texts.Given as goal
 
 -- what was made, and what is still to come, is all

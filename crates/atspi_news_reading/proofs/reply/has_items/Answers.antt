@@ -1,6 +1,6 @@
 use Rattle.std.proofs.Common.{◌∙◌, ap, ℕ, List}
 use Rattle.std.specs.Prelude.{bytes_eq}
-use Rattle.atspi_news.specs.Replies.{items_signature}
+use Rattle.atspi_protocol.specs.news.Replies.{items_signature}
 use Rattle.atspi_news_reading.proofs.Lists.{codes_are}
 use Rattle.atspi_news_reading.proofs.reply.has_items.Goals as goal
 

@@ -1,6 +1,6 @@
 use Rattle.std.proofs.Common.{◌≡◌, ◌++◌}
 use Rattle.atspi_cursor.specs.Items.{elements_data}
-use Rattle.atspi_news.specs.Replies.{items_among}
+use Rattle.atspi_protocol.specs.news.Replies.{items_among}
 use Rattle.atspi_news_reading.proofs.reply.items_of.Given as goal
 
 -- what was made, and what is still to come, is all

@@ -1,6 +1,6 @@
 use Rattle.std.proofs.Common.{◌≡◌}
 use Rattle.std.specs.List.{fold}
-use Rattle.atspi_following.specs.Known.{made_known}
+use Rattle.atspi_protocol.specs.following.Known.{made_known}
 use Rattle.atspi_reader.specs.Turns.{StandsInFront}
 use Rattle.atspi_reader.proofs.known.make_each.Given as goal
 

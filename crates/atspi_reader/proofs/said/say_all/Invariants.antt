@@ -1,5 +1,5 @@
 use Rattle.std.proofs.Common.{◌≡◌, ◌++◌, ℕ, List, map, take}
-use Rattle.atspi_following.specs.ReaderState.{speaks}
+use Rattle.atspi_protocol.specs.following.ReaderState.{speaks}
 use Rattle.atspi_reader.specs.Doing.{all_done}
 use Rattle.atspi_reader.proofs.said.say_all.Given as goal
 

@@ -1,7 +1,7 @@
 use Rattle.std.proofs.Common.{List, ap, ◌∙◌}
 use Rattle.std.proofs.lemmas.Result.{IfOk-weaker}
-use Rattle.atspi_following.specs.ReaderState.{Followed}
-use Rattle.atspi_following.specs.Wishes.{wishes}
+use Rattle.atspi_protocol.specs.following.ReaderState.{Followed}
+use Rattle.atspi_protocol.specs.following.Wishes.{wishes}
 use Rattle.atspi_reader_known.specs.Wanted.{first}
 use Rattle.atspi_reader_known.proofs.Plans.{plan_forgets}
 use Rattle.atspi_reader.proofs.wanted.wish_without.Goals as goal

@@ -1,7 +1,7 @@
 use Rattle.std.proofs.Common.{◌≡◌, ℕ, List, subst, IfOk}
-use Rattle.atspi_news.specs.declared.part.PartName.{PartName}
-use Rattle.atspi_following.specs.Wishes.{wishes}
-use Rattle.atspi_following.specs.Replied.{changed}
+use Rattle.atspi_protocol.specs.declared.news.part.PartName.{PartName}
+use Rattle.atspi_protocol.specs.following.Wishes.{wishes}
+use Rattle.atspi_protocol.specs.following.Replied.{changed}
 use Rattle.atspi_reader_known.specs.Wanted.{first, refusing}
 use Rattle.atspi_reader.proofs.wanted.wish_without_part.Goals as goal
 

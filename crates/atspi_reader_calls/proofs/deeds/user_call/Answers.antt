@@ -1,6 +1,6 @@
 use Rattle.std.proofs.Common.{◌∙◌, ap, List, ℕ}
 use Rattle.atspi_message.specs.Envelope.{Envelope, envelope_of}
-use Rattle.atspi_following.specs.Calls.{user_call, deed_call}
+use Rattle.atspi_protocol.specs.following.Calls.{user_call, deed_call}
 use Rattle.atspi_reader_calls.proofs.Meets.{user_meets, of_made}
 use Rattle.atspi_reader_calls.proofs.deeds.user_call.Goals as goal
 

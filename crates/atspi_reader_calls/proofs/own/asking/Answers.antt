@@ -1,6 +1,6 @@
 use Rattle.std.proofs.Common.{◌∙◌, ap}
 use Rattle.atspi_message.specs.Envelope.{Envelope, envelope_of}
-use Rattle.atspi_following.specs.Calls.{asking}
+use Rattle.atspi_protocol.specs.following.Calls.{asking}
 use Rattle.atspi_reader_calls.proofs.Meets.{asking_meets, of_made}
 use Rattle.atspi_reader_calls.proofs.own.asking.Goals as goal
 

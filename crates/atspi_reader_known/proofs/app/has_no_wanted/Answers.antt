@@ -1,7 +1,7 @@
 use Rattle.std.proofs.Common.{List, ℕ, ◌++◌, map, ap, sym, ◌∙◌}
 use Rattle.std.specs.Option.{option_map}
 use Rattle.std.proofs.lemmas.List.{append-nil}
-use Rattle.atspi_news.specs.declared.part.PartName.{PartName}
+use Rattle.atspi_protocol.specs.declared.news.part.PartName.{PartName}
 use Rattle.atspi_reader_known.specs.Wanted.{first_wanted, lent}
 use Rattle.atspi_reader_known.proofs.Rows.{row_of_sight}
 use Rattle.atspi_reader_known.proofs.app.has_no_wanted.Goals as goal

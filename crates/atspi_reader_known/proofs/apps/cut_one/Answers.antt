@@ -1,7 +1,7 @@
 use Rattle.std.proofs.Common.{List, ℕ, Option, ◌++◌, None, cond, ap, subst, ◌∙◌}
 use Rattle.std.specs.Prelude.{bytes_eq}
 use Rattle.std.specs.Option.{option_to_list}
-use Rattle.atspi_following.specs.ReaderState.{Followed}
+use Rattle.atspi_protocol.specs.following.ReaderState.{Followed}
 use Rattle.atspi_reader_known.specs.Places.{AreFound, place_in}
 use Rattle.atspi_reader_known.proofs.Placed.{found_pop}
 use Rattle.atspi_reader_known.proofs.apps.cut_one.Goals as goal

@@ -1,4 +1,4 @@
-use Rattle.atspi_following.specs.Replied.{refused_part, told_part}
+use Rattle.atspi_protocol.specs.following.Replied.{refused_part, told_part}
 use Rattle.atspi_reader_known.proofs.Tells.{part_tells}
 use Rattle.atspi_reader_known.proofs.Told.{first_changed, part_settled}
 use Rattle.atspi_reader_known.proofs.laws.told_is_settled.Goals as goal

@@ -4,7 +4,7 @@ use Rattle.atspi_codes.specs.Codes.{is_array}
 use Rattle.atspi_marshal.specs.Reading.{input_of}
 use Rattle.atspi_cursor.specs.Items.{item_data, item_kind, elements_data, elements_kind}
 use Rattle.atspi_header.proofs.ReadTypes.{item_type}
-use Rattle.atspi_following.specs.Known.{references_among}
+use Rattle.atspi_protocol.specs.following.Known.{references_among}
 use Rattle.atspi_news_reading.proofs.Told.{differs_by}
 use Rattle.atspi_news_reading.proofs.Lists.{not_elements, elements_in}
 use Rattle.atspi_reader_told.proofs.children.references_in.Goals as goal

@@ -1,6 +1,6 @@
 use Rattle.std.proofs.Common.{◌≡◌, ◌++◌}
 use Rattle.atspi_cursor.specs.Items.{elements_data}
-use Rattle.atspi_following.specs.Known.{references_among}
+use Rattle.atspi_protocol.specs.following.Known.{references_among}
 use Rattle.atspi_reader_told.proofs.children.references_of.Given as goal
 
 -- what was found, and what is still to come, is all

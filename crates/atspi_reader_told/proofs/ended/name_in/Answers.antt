@@ -1,6 +1,6 @@
 use Rattle.std.proofs.Common.{◌∙◌, Some, chars, sym}
 use Rattle.atspi_cursor.specs.Items.{item_data, fields_data}
-use Rattle.atspi_news.specs.Arguments.{then_text}
+use Rattle.atspi_protocol.specs.news.Arguments.{then_text}
 use Rattle.atspi_news_reading.proofs.Came.{read_text}
 use Rattle.atspi_reader_told.specs.Ended.{ended_if}
 use Rattle.atspi_reader_told.proofs.EndedLemmas.{someone, nobody, more_behind}

@@ -1,7 +1,7 @@
 use Rattle.std.proofs.Common.{sym, ap, ◌∙◌, rules, w32, SFits}
 use Rattle.std.proofs.lemmas.Int.{to_z-of_z}
 use Rattle.atspi_cursor.specs.Items.{item_data, fields_data}
-use Rattle.atspi_members.specs.Arguments.{signed_in}
+use Rattle.atspi_protocol.specs.members.Arguments.{signed_in}
 use Rattle.atspi_registry_calls.proofs.Reading.{first_is}
 use Rattle.atspi_registry_calls.proofs.arguments.first_signed.Goals as goal
 

@@ -1,7 +1,7 @@
 use Rattle.std.proofs.Common.{sym, ap, ◌∙◌}
 use Rattle.std.proofs.lemmas.Str.{chars-nil}
 use Rattle.atspi_cursor.specs.Items.{item_data, fields_data}
-use Rattle.atspi_members.specs.Arguments.{characters_in}
+use Rattle.atspi_protocol.specs.members.Arguments.{characters_in}
 use Rattle.atspi_registry_calls.proofs.Reading.{second_is, no_first}
 use Rattle.atspi_registry_calls.proofs.arguments.second_text.Goals as goal
 

@@ -1,6 +1,6 @@
 use Rattle.std.proofs.Common.{sym, ◌∙◌}
 use Rattle.std.proofs.lemmas.Slice.Eq.{bytes_eq-Decides}
-use Rattle.atspi_members.specs.Interfaces as names
+use Rattle.atspi_protocol.specs.members.Interfaces as names
 use Rattle.atspi_registry_calls.proofs.Properties.{unknown, none_of, roots}
 use Rattle.atspi_registry_calls.proofs.asking.properties.Goals as goal
 

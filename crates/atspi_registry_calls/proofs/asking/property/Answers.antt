@@ -1,6 +1,6 @@
 use Rattle.std.proofs.Common.{sym, ◌∙◌}
 use Rattle.std.proofs.lemmas.Slice.Eq.{bytes_eq-Decides}
-use Rattle.atspi_members.specs.Interfaces as names
+use Rattle.atspi_protocol.specs.members.Interfaces as names
 use Rattle.atspi_registry_calls.proofs.Properties.{unknown_one, none_one, the_name, the_count, another}
 use Rattle.atspi_registry_calls.proofs.asking.property.Goals as goal
 

@@ -1,6 +1,6 @@
 use Rattle.std.proofs.Common.{◌≡◌, ℕ, List, take, map}
 use Rattle.atspi_types.specs.DataView.{all_data}
-use Rattle.atspi_ends.specs.Places.{reference}
+use Rattle.atspi_protocol.specs.ends.Places.{reference}
 use Rattle.atspi_registry_told.proofs.answers.child_values.Given as goal
 
 abbrev pub invariant-loop-child : goal.invariant-loop-child

@@ -1,5 +1,5 @@
 use Rattle.std.proofs.Common.{ap, ◌∙◌, arith}
-use Rattle.atspi_objects.specs.Values.{count_data}
+use Rattle.atspi_protocol.specs.objects.Values.{count_data}
 use Rattle.atspi_text_values.proofs.TextLemmas.{count_is}
 use Rattle.atspi_text_values.proofs.text.character_count.Goals as goal
 

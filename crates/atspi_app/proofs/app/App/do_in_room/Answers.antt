@@ -1,5 +1,5 @@
 use Rattle.std.proofs.Common.{refl}
-use Rattle.atspi_happenings.specs.View.{happened}
+use Rattle.atspi_app_known.specs.happenings.View.{happened}
 use Rattle.atspi_exported.specs.Parts.{parts, faces_of}
 use Rattle.atspi_app.specs.Seen.{with_tree}
 use Rattle.atspi_app.proofs.Shown.{seen_steps, seen_same}

@@ -1,7 +1,7 @@
 use Rattle.std.proofs.Common.{ap, ◌∙◌}
-use Rattle.atspi_exporting.specs.Exporter.{Exporter, queues}
-use Rattle.atspi_exporting.specs.Taking.{stepped}
-use Rattle.atspi_happenings.specs.View.{happened}
+use Rattle.atspi_protocol.specs.exporting.Exporter.{Exporter, queues}
+use Rattle.atspi_protocol.specs.exporting.Taking.{stepped}
+use Rattle.atspi_app_known.specs.happenings.View.{happened}
 use Rattle.atspi_exported.specs.Parts.{parts, faces_of}
 use Rattle.atspi_app.specs.Seen.{with_tree}
 use Rattle.atspi_app.proofs.FaultsOf.{end_is_spent}

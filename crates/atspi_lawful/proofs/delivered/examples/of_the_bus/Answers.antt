@@ -1,5 +1,5 @@
 use Rattle.std.proofs.Common.{refl}
-use Rattle.atspi_lawful.proofs.order.Parties.{false_true}
+use Rattle.atspi_lawful.proofs.OfOrder.Parties.{false_true}
 use Rattle.atspi_lawful.proofs.delivered.examples.of_the_bus.Goals as goal
 
 pub returns-clause-was_sent : goal.returns-clause-was_sent

@@ -1,4 +1,4 @@
-use Rattle.atspi_lawful.proofs.folds.LawFolds.{steps_fold}
+use Rattle.atspi_lawful.proofs.OfFolds.LawFolds.{steps_fold}
 use Rattle.atspi_lawful.proofs.folds.laws.steps_fold.Goals as goal
 
 pub returns : goal.returns

@@ -2,7 +2,7 @@ use lib.Utf8.{encode}
 use Rattle.std.proofs.Common.{[], ◌∷◌, refl}
 use Rattle.atspi_forest.specs.declared.step.Step.TheVariants.{Caret}
 use Rattle.atspi_trace.specs.Entry.{heard, changed}
-use Rattle.atspi_lawful.proofs.order.Each.{no_entries}
+use Rattle.atspi_lawful.proofs.OfOrder.Each.{no_entries}
 use Rattle.atspi_lawful.proofs.heard.examples.no_signal_alone.Goals as goal
 
 pub returns-clause-behind : goal.returns-clause-behind

@@ -1,8 +1,8 @@
 use lib.Utf8.{encode}
 use Rattle.std.proofs.Common.{[], ◌∷◌, refl}
 use Rattle.atspi_trace.specs.Entry.{heard}
-use Rattle.atspi_lawful.proofs.order.Parties.{false_true}
-use Rattle.atspi_lawful.proofs.held.Unasked.{nobody_asked}
+use Rattle.atspi_lawful.proofs.OfOrder.Parties.{false_true}
+use Rattle.atspi_lawful.proofs.OfHeld.Unasked.{nobody_asked}
 use Rattle.atspi_lawful.proofs.held.examples.announced_steps.Goals as goal
 
 pub returns-clause-announced : goal.returns-clause-announced

@@ -1,5 +1,5 @@
 use Rattle.std.proofs.Common.{[], refl, sym}
-use Rattle.atspi_lawful.proofs.order.Parties.{no_none}
+use Rattle.atspi_lawful.proofs.OfOrder.Parties.{no_none}
 use Rattle.atspi_lawful.proofs.held.examples.shown_rows.Goals as goal
 
 pub returns-clause-nothing : goal.returns-clause-nothing

@@ -1,4 +1,4 @@
-use Rattle.atspi_lawful.proofs.held.LawHeld.{lines_are_spoken}
+use Rattle.atspi_lawful.proofs.OfHeld.LawHeld.{lines_are_spoken}
 use Rattle.atspi_lawful.proofs.held.laws.lines_are_spoken.Goals as goal
 
 pub returns : goal.returns

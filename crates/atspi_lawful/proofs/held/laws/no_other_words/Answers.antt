@@ -1,4 +1,4 @@
-use Rattle.atspi_lawful.proofs.held.LawHeld.{no_other_words}
+use Rattle.atspi_lawful.proofs.OfHeld.LawHeld.{no_other_words}
 use Rattle.atspi_lawful.proofs.held.laws.no_other_words.Goals as goal
 
 pub returns : goal.returns

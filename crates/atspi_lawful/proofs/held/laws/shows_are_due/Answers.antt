@@ -1,4 +1,4 @@
-use Rattle.atspi_lawful.proofs.held.LawHeld.{shows_are_due}
+use Rattle.atspi_lawful.proofs.OfHeld.LawHeld.{shows_are_due}
 use Rattle.atspi_lawful.proofs.held.laws.shows_are_due.Goals as goal
 
 pub returns : goal.returns

@@ -1,5 +1,5 @@
 use Rattle.std.proofs.Common.{◌≡◌, refl, arith}
-use Rattle.atspi_lawful.proofs.order.Parties.{false_true}
+use Rattle.atspi_lawful.proofs.OfOrder.Parties.{false_true}
 use Rattle.atspi_lawful.proofs.links.examples.taken_in_order.Goals as goal
 
 pub returns-clause-first : goal.returns-clause-first

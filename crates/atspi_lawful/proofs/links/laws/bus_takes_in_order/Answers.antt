@@ -1,4 +1,4 @@
-use Rattle.atspi_lawful.proofs.links.TakenInOrder.{bus_takes_in_order}
+use Rattle.atspi_lawful.proofs.OfLinks.TakenInOrder.{bus_takes_in_order}
 use Rattle.atspi_lawful.proofs.links.laws.bus_takes_in_order.Goals as goal
 
 pub returns : goal.returns

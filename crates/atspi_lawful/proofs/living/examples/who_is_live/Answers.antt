@@ -1,5 +1,5 @@
 use Rattle.std.proofs.Common.{refl}
-use Rattle.atspi_lawful.proofs.order.Parties.{false_true}
+use Rattle.atspi_lawful.proofs.OfOrder.Parties.{false_true}
 use Rattle.atspi_lawful.proofs.living.examples.who_is_live.Goals as goal
 
 pub returns-clause-sends : goal.returns-clause-sends

@@ -1,4 +1,4 @@
-use Rattle.atspi_lawful.proofs.lost.Lost.{nothing_behind}
+use Rattle.atspi_lawful.proofs.OfLost.Lost.{nothing_behind}
 use Rattle.atspi_lawful.proofs.lost.laws.nothing_behind_the_registry.Goals as goal
 
 pub returns : goal.returns

@@ -1,4 +1,4 @@
-use Rattle.atspi_lawful.proofs.lost.Alive.{registry_lives}
+use Rattle.atspi_lawful.proofs.OfLost.Alive.{registry_lives}
 use Rattle.atspi_lawful.proofs.lost.laws.the_registry_lives.Goals as goal
 
 pub returns : goal.returns

@@ -1,7 +1,7 @@
 use Rattle.std.proofs.Common.{◌≡◌, refl, sym, ap}
 use Rattle.atspi_lines.specs.declared.line.Party.TheVariants.{Bus as The_bus, App}
 use Rattle.atspi_trace.specs.Ends.{same_party}
-use Rattle.atspi_lawful.proofs.order.Parties.{false_true}
+use Rattle.atspi_lawful.proofs.OfOrder.Parties.{false_true}
 use Rattle.atspi_lawful.proofs.order.examples.behind_an_end.Goals as goal
 
 not_bus : App 0 ≡ The_bus → ⊥

@@ -1,5 +1,5 @@
 use Rattle.std.proofs.Common.{◌≡◌, ℕ, refl, arith}
-use Rattle.atspi_lawful.proofs.order.Parties.{false_true}
+use Rattle.atspi_lawful.proofs.OfOrder.Parties.{false_true}
 use Rattle.atspi_lawful.proofs.own.examples.own_serials.Goals as goal
 
 apart : ◌≡◌ {A = ℕ} 8 9 → ⊥

@@ -1,4 +1,4 @@
-use Rattle.atspi_lawful.proofs.views.LawViews.{announcements_carry}
+use Rattle.atspi_lawful.proofs.OfViews.LawViews.{announcements_carry}
 use Rattle.atspi_lawful.proofs.views.laws.announcements_carry_views.Goals as goal
 
 pub returns : goal.returns

@@ -1,4 +1,4 @@
-use Rattle.atspi_lawful.proofs.views.LawViews.{trees_stand}
+use Rattle.atspi_lawful.proofs.OfViews.LawViews.{trees_stand}
 use Rattle.atspi_lawful.proofs.views.laws.trees_stand.Goals as goal
 
 pub returns : goal.returns

@@ -3,7 +3,7 @@ use Rattle.std.specs.Option.{option_map}
 use Rattle.std.proofs.lemmas.Result.{IfOk-weaker}
 use Rattle.atspi_header.specs.View.{envelope_at}
 use Rattle.atspi_news_reading.specs.Seen.{reference_seen}
-use Rattle.atspi_following.specs.Known.{made_known}
+use Rattle.atspi_protocol.specs.following.Known.{made_known}
 use Rattle.atspi_reader.specs.ReaderOf.{reader_of}
 use Rattle.atspi_reader.proofs.Rest.{child_some, child_none}
 use Rattle.atspi_reader.proofs.state.Reader.child.Goals as goal

@@ -1,8 +1,8 @@
 use Rattle.std.proofs.Common.{List, ℕ, true, not, filter, ap, refl, ◌∙◌}
 use Rattle.std.proofs.lemmas.Result.{err_from_is_err_and}
 use Rattle.atspi_header.specs.View.{envelope_at}
-use Rattle.atspi_following.specs.ReaderState.{Followed, ReaderState, is_named}
-use Rattle.atspi_following.specs.Wishes.{wishes}
+use Rattle.atspi_protocol.specs.following.ReaderState.{Followed, ReaderState, is_named}
+use Rattle.atspi_protocol.specs.following.Wishes.{wishes}
 use Rattle.atspi_reader_known.specs.Wanted.{first}
 use Rattle.atspi_reader.specs.Turns.{with_apps}
 use Rattle.atspi_reader.specs.ReaderOf.{reader_of}

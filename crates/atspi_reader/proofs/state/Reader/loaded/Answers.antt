@@ -2,9 +2,9 @@ use Rattle.std.proofs.Common.{List, ℕ, ap, sym, ◌∙◌}
 use Rattle.std.specs.Prelude.{Option}
 use Rattle.std.specs.Option.{option_copied}
 use Rattle.atspi_forest.specs.declared.news.Item.{Item}
-use Rattle.atspi_following.specs.ReaderState.{Followed}
-use Rattle.atspi_following.specs.Replied.{with_items}
-use Rattle.atspi_following.specs.Takes.{found_in}
+use Rattle.atspi_protocol.specs.following.ReaderState.{Followed}
+use Rattle.atspi_protocol.specs.following.Replied.{with_items}
+use Rattle.atspi_protocol.specs.following.Takes.{found_in}
 use Rattle.atspi_reader.specs.ReaderOf.{reader_of}
 use Rattle.atspi_reader.proofs.Changed.{found_name}
 use Rattle.atspi_reader.proofs.Replies.{put_loaded, not_loaded}

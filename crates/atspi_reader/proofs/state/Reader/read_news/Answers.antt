@@ -3,9 +3,9 @@ use Rattle.std.specs.Option.{option_copied}
 use Rattle.atspi_header.specs.View.{envelope_at}
 use Rattle.atspi_forest.specs.declared.news.News.{News}
 use Rattle.atspi_forest.specs.declared.news.News.TheVariants.{Nothing}
-use Rattle.atspi_news.specs.NewsOf.{news_of, or_empty}
-use Rattle.atspi_following.specs.ReaderState.{Done}
-use Rattle.atspi_following.specs.Takes.{found_in, lines_at}
+use Rattle.atspi_protocol.specs.news.NewsOf.{news_of, or_empty}
+use Rattle.atspi_protocol.specs.following.ReaderState.{Done}
+use Rattle.atspi_protocol.specs.following.Takes.{found_in, lines_at}
 use Rattle.atspi_reader.specs.Doing.{all_done}
 use Rattle.atspi_reader.proofs.Changed.{found_name}
 use Rattle.atspi_reader.proofs.Rest.{untold, lines_none, lines_found, news_by_name}

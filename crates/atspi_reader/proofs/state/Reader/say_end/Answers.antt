@@ -2,8 +2,8 @@ use Rattle.std.proofs.Common.{List, ◌++◌, ap, sym, ◌∙◌, chars, append_
 use Rattle.std.specs.Option.{option_copied}
 use Rattle.std.proofs.lemmas.List.{append-nil}
 use Rattle.std.proofs.lemmas.Result.{on_ok_weaker}
-use Rattle.atspi_following.specs.ReaderState.{Done}
-use Rattle.atspi_following.specs.Known.{closing_of, end_of_connection}
+use Rattle.atspi_protocol.specs.following.ReaderState.{Done}
+use Rattle.atspi_protocol.specs.following.Known.{closing_of, end_of_connection}
 use Rattle.atspi_reader.specs.Doing.{all_done}
 use Rattle.atspi_reader.proofs.Spelled.{closings_found, closings_none}
 use Rattle.atspi_reader.proofs.state.Reader.say_end.Goals as goal

@@ -1,9 +1,9 @@
 use Rattle.std.proofs.Common.{List, ℕ, ap, sym, ◌∙◌}
 use Rattle.std.specs.Option.{option_copied}
 use Rattle.std.proofs.lemmas.Result.{IfOk-weaker}
-use Rattle.atspi_following.specs.Wishes.{wishes}
-use Rattle.atspi_following.specs.Replied.{changed}
-use Rattle.atspi_following.specs.Takes.{folded}
+use Rattle.atspi_protocol.specs.following.Wishes.{wishes}
+use Rattle.atspi_protocol.specs.following.Replied.{changed}
+use Rattle.atspi_protocol.specs.following.Takes.{folded}
 use Rattle.atspi_reader_known.specs.Wanted.{first}
 use Rattle.atspi_reader.proofs.Changed.{wishes_found, wishes_only, nobody_found}
 use Rattle.atspi_reader.proofs.News.{nobody_wants}

@@ -1,9 +1,9 @@
 use Rattle.std.proofs.Common.{List, ◌++◌, None, not, filter, ap, sym, ◌∙◌, chars, subst}
 use Rattle.std.specs.Prelude.{Ok}
 use Rattle.atspi_header.specs.View.{envelope_at}
-use Rattle.atspi_following.specs.ReaderState.{Done, Followed, ReaderState, is_named}
-use Rattle.atspi_following.specs.Known.{end_of_connection, closings}
-use Rattle.atspi_following.specs.Takes.{notes}
+use Rattle.atspi_protocol.specs.following.ReaderState.{Done, Followed, ReaderState, is_named}
+use Rattle.atspi_protocol.specs.following.Known.{end_of_connection, closings}
+use Rattle.atspi_protocol.specs.following.Takes.{notes}
 use Rattle.atspi_reader.specs.Doing.{all_done}
 use Rattle.atspi_reader.specs.Asked.{Asks, went_on}
 use Rattle.atspi_reader.specs.Turns.{did, with_apps}

@@ -2,9 +2,9 @@ use Rattle.std.proofs.Common.{List, ◌++◌, filter, flat_map, ap, ◌∙◌, s
 use Rattle.std.specs.Prelude.{Ok, Err}
 use Rattle.std.proofs.lemmas.Result.{err_from_is_err_and}
 use Rattle.atspi_header.specs.View.{envelope_at}
-use Rattle.atspi_news.specs.NewsOf.{news_of, or_empty}
-use Rattle.atspi_following.specs.ReaderState.{Done, is_named}
-use Rattle.atspi_following.specs.Takes.{lines_at}
+use Rattle.atspi_protocol.specs.news.NewsOf.{news_of, or_empty}
+use Rattle.atspi_protocol.specs.following.ReaderState.{Done, is_named}
+use Rattle.atspi_protocol.specs.following.Takes.{lines_at}
 use Rattle.atspi_reader.specs.Doing.{all_done}
 use Rattle.atspi_reader.specs.Asked.{Asks}
 use Rattle.atspi_reader.specs.ReaderOf.{reader_of}

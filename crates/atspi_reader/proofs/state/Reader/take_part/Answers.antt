@@ -2,9 +2,9 @@ use Rattle.std.proofs.Common.{List, ℕ, ap, ◌∙◌}
 use Rattle.std.specs.Prelude.{Option}
 use Rattle.atspi_header.specs.View.{envelope_at}
 use Rattle.atspi_forest.specs.declared.news.News.{News}
-use Rattle.atspi_following.specs.Wishes.{wishes}
-use Rattle.atspi_following.specs.Replied.{changed, refused_part, with_part}
-use Rattle.atspi_following.specs.Takes.{goes_on}
+use Rattle.atspi_protocol.specs.following.Wishes.{wishes}
+use Rattle.atspi_protocol.specs.following.Replied.{changed, refused_part, with_part}
+use Rattle.atspi_protocol.specs.following.Takes.{goes_on}
 use Rattle.atspi_reader_known.specs.Wanted.{first}
 use Rattle.atspi_reader.specs.Turns.{free}
 use Rattle.atspi_reader.specs.ReaderOf.{reader_of}

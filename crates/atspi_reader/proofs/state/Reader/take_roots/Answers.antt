@@ -1,11 +1,11 @@
 use Rattle.std.proofs.Common.{List, ℕ, true, length, ap, ◌∙◌}
 use Rattle.std.specs.List.{fold, list_any}
 use Rattle.atspi_header.specs.View.{envelope_at}
-use Rattle.atspi_news.specs.NewsOf.{or_empty}
+use Rattle.atspi_protocol.specs.news.NewsOf.{or_empty}
 use Rattle.atspi_forest.specs.declared.news.Reference.{Reference}
-use Rattle.atspi_following.specs.ReaderState.{Followed, is_named}
-use Rattle.atspi_following.specs.Known.{made_known}
-use Rattle.atspi_following.specs.Takes.{goes_on}
+use Rattle.atspi_protocol.specs.following.ReaderState.{Followed, is_named}
+use Rattle.atspi_protocol.specs.following.Known.{made_known}
+use Rattle.atspi_protocol.specs.following.Takes.{goes_on}
 use Rattle.atspi_reader.specs.ReaderOf.{reader_of}
 use Rattle.atspi_reader.proofs.Done.{same_step}
 use Rattle.atspi_reader.proofs.Replies.{answered_in, rooted_done, rooted_failed, roots_is}

@@ -1,6 +1,6 @@
 use Rattle.std.proofs.Common.{List, sym, ap, ◌∙◌}
 use Rattle.std.proofs.lemmas.List.{take-map}
-use Rattle.atspi_following.specs.ReaderState.{Done}
+use Rattle.atspi_protocol.specs.following.ReaderState.{Done}
 use Rattle.atspi_reader.specs.Doing.{done_of, all_done}
 use Rattle.atspi_reader.specs.ReaderOf.{reader_of}
 use Rattle.atspi_reader.proofs.state.Reader.unqueue.Goals as goal

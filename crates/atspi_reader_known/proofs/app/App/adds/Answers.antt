@@ -4,7 +4,7 @@ use Rattle.atspi_forest.specs.Forest.{find, has}
 use Rattle.atspi_forest.specs.News.{is_path}
 use Rattle.atspi_speech.specs.Looked.{adds}
 use Rattle.atspi_cache.proofs.Effects.{copied_some}
-use Rattle.atspi_following.specs.ReaderState.{Followed}
+use Rattle.atspi_protocol.specs.following.ReaderState.{Followed}
 use Rattle.atspi_reader_known.specs.Kept.{kept}
 use Rattle.atspi_reader_known.proofs.Found.{adds_true}
 use Rattle.atspi_reader_known.proofs.app.App.adds.Goals as goal

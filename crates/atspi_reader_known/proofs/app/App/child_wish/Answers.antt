@@ -1,8 +1,8 @@
 use Rattle.std.proofs.Common.{Bool, List, ℕ, cond, Some, None, ap, sym, ◌∙◌}
 use Rattle.std.specs.Prelude.{is_some}
 use Rattle.atspi_cache.proofs.Effects.{copied_some}
-use Rattle.atspi_following.specs.declared.question.Question.TheVariants.{GetItems}
-use Rattle.atspi_following.specs.ReaderState.{Followed}
+use Rattle.atspi_protocol.specs.declared.following.question.Question.TheVariants.{GetItems}
+use Rattle.atspi_protocol.specs.following.ReaderState.{Followed}
 use Rattle.atspi_reader_known.specs.Kept.{kept}
 use Rattle.atspi_reader_known.proofs.Found.{row_there}
 use Rattle.atspi_reader_known.proofs.app.App.child_wish.Goals as goal

@@ -2,10 +2,10 @@ use Rattle.std.proofs.Common.{ap, sym, subst, ◌∙◌}
 use Rattle.std.specs.Prelude.{◌||◌}
 use Rattle.std.specs.Option.{option_map}
 use Rattle.atspi_cache.specs.Cache.{Views, told}
-use Rattle.atspi_following.specs.Takes.{folded}
+use Rattle.atspi_protocol.specs.following.Takes.{folded}
 use Rattle.atspi_reader_known.specs.Kept.{kept, IsKept}
 use Rattle.atspi_reader_known.proofs.Cached.{app_of, kept_folded, folded_app, still_kept}
-use Rattle.atspi_following.specs.Wishes.{wishes_of}
+use Rattle.atspi_protocol.specs.following.Wishes.{wishes_of}
 use Rattle.atspi_reader_known.proofs.Settled.{folded_settled}
 use Rattle.atspi_reader_known.proofs.app.App.fold.Goals as goal
 

@@ -1,5 +1,5 @@
 use Rattle.std.proofs.Common.{ap, sym}
-use Rattle.atspi_following.specs.ReaderState.{Followed}
+use Rattle.atspi_protocol.specs.following.ReaderState.{Followed}
 use Rattle.atspi_reader_known.specs.Kept.{kept}
 use Rattle.atspi_reader_known.proofs.Cached.{kept_named, loaded_app}
 use Rattle.atspi_reader_known.proofs.app.App.loaded.Goals as goal

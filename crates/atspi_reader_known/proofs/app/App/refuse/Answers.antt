@@ -1,6 +1,6 @@
 use Rattle.std.proofs.Common.{List, ℕ, ap, ◌∙◌}
-use Rattle.atspi_news.specs.declared.part.PartName.{PartName}
-use Rattle.atspi_following.specs.Replied.{refused_part}
+use Rattle.atspi_protocol.specs.declared.news.part.PartName.{PartName}
+use Rattle.atspi_protocol.specs.following.Replied.{refused_part}
 use Rattle.atspi_reader_known.specs.Kept.{kept}
 use Rattle.atspi_reader_known.proofs.Cached.{app_of}
 use Rattle.atspi_reader_known.proofs.app.App.refuse.Goals as goal

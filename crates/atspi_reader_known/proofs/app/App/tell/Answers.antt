@@ -1,6 +1,6 @@
 use Rattle.std.proofs.Common.{ap, sym, subst, ◌∙◌}
 use Rattle.atspi_cache.specs.Cache.{Views}
-use Rattle.atspi_following.specs.Replied.{told_part}
+use Rattle.atspi_protocol.specs.following.Replied.{told_part}
 use Rattle.atspi_reader_known.specs.Kept.{kept, IsKept}
 use Rattle.atspi_reader_known.proofs.Cached.{app_of, kept_folded, told_app, still_kept}
 use Rattle.atspi_reader_known.proofs.app.App.tell.Goals as goal

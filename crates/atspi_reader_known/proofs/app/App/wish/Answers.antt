@@ -3,8 +3,8 @@ use Rattle.std.specs.Option.{option_map}
 use Rattle.std.proofs.lemmas.Result.{IfOk-weaker}
 use Rattle.atspi_arena.specs.Sights.{Sight}
 use Rattle.atspi_forest.specs.Forest.{labels}
-use Rattle.atspi_following.specs.declared.question.Question.TheVariants.{GetItems}
-use Rattle.atspi_following.specs.ReaderState.{Followed}
+use Rattle.atspi_protocol.specs.declared.following.question.Question.TheVariants.{GetItems}
+use Rattle.atspi_protocol.specs.following.ReaderState.{Followed}
 use Rattle.atspi_reader_known.specs.Kept.{kept}
 use Rattle.atspi_reader_known.specs.Wanted.{first_wanted, part_question, refusing}
 use Rattle.atspi_reader_known.proofs.Found.{loading, shown}

@@ -1,8 +1,8 @@
 use Rattle.std.proofs.Common.{List, ℕ, ap, sym, ◌∙◌}
 use Rattle.std.proofs.lemmas.Result.{IfOk-weaker}
-use Rattle.atspi_news.specs.declared.part.PartName.{PartName}
-use Rattle.atspi_following.specs.ReaderState.{Followed}
-use Rattle.atspi_following.specs.Wishes.{wishes_of}
+use Rattle.atspi_protocol.specs.declared.news.part.PartName.{PartName}
+use Rattle.atspi_protocol.specs.following.ReaderState.{Followed}
+use Rattle.atspi_protocol.specs.following.Wishes.{wishes_of}
 use Rattle.atspi_reader_known.specs.Wanted.{first, refusing}
 use Rattle.atspi_reader_known.proofs.Plans.{refusing_none}
 use Rattle.atspi_reader_known.proofs.app.App.wish_now.Goals as goal

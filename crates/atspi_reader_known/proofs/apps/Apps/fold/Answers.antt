@@ -1,6 +1,6 @@
 use Rattle.std.proofs.Common.{ap, sym, set, ◌∙◌}
 use Rattle.std.proofs.lemmas.Result.{on_ok_weaker}
-use Rattle.atspi_following.specs.Takes.{folded}
+use Rattle.atspi_protocol.specs.following.Takes.{folded}
 use Rattle.atspi_reader_known.proofs.Names.{either_name, folded_name}
 use Rattle.atspi_reader_known.proofs.Placed.{found_set}
 use Rattle.atspi_reader_known.proofs.Uniqueness.{nobody_changes, set_changed}

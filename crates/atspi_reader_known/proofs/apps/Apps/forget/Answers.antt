@@ -1,7 +1,7 @@
 use Rattle.std.proofs.Common.{rules, not, filter, ap, sym, subst, ◌∙◌}
 use Rattle.std.specs.List.{position}
 use Rattle.std.proofs.lemmas.Fn.{filter_same}
-use Rattle.atspi_following.specs.ReaderState.{Followed, is_named}
+use Rattle.atspi_protocol.specs.following.ReaderState.{Followed, is_named}
 use Rattle.atspi_reader_known.specs.Places.{AreFound}
 use Rattle.atspi_reader_known.proofs.Placed.{found_forget, nobody_forgotten}
 use Rattle.atspi_reader_known.proofs.Uniqueness.{nobody}

@@ -1,6 +1,6 @@
 use Rattle.std.proofs.Common.{ap, sym, set, ◌∙◌}
-use Rattle.atspi_following.specs.ReaderState.{Followed}
-use Rattle.atspi_following.specs.Takes.{noted}
+use Rattle.atspi_protocol.specs.following.ReaderState.{Followed}
+use Rattle.atspi_protocol.specs.following.Takes.{noted}
 use Rattle.atspi_reader_known.proofs.Placed.{found_set}
 use Rattle.atspi_reader_known.proofs.Uniqueness.{nobody_changes, set_changed}
 use Rattle.atspi_reader_known.proofs.apps.Apps.note.Goals as goal

@@ -1,6 +1,6 @@
 use Rattle.std.proofs.Common.{ap, ◌∙◌}
 use Rattle.std.specs.List.{position}
-use Rattle.atspi_following.specs.ReaderState.{is_named}
+use Rattle.atspi_protocol.specs.following.ReaderState.{is_named}
 use Rattle.atspi_reader_known.proofs.apps.Apps.place.Goals as goal
 
 pub returns : goal.returns

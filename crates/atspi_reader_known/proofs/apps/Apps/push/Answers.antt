@@ -1,7 +1,7 @@
 use Rattle.std.proofs.Common.{◌≡◌, rules, length, List, ℕ, ◌∷◌, ◌++◌, [], Some, cond, ap, sym, subst, ◌∙◌}
 use Rattle.std.specs.Prelude.{bytes_eq}
 use Rattle.std.specs.List.{list_any}
-use Rattle.atspi_following.specs.ReaderState.{Followed, is_named}
+use Rattle.atspi_protocol.specs.following.ReaderState.{Followed, is_named}
 use Rattle.atspi_reader_known.specs.Places.{AreFound, place_in}
 use Rattle.atspi_reader_known.proofs.Placed.{found_push}
 use Rattle.atspi_reader_known.proofs.apps.Apps.push.Goals as goal

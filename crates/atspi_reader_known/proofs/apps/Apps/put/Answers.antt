@@ -1,6 +1,6 @@
 use Rattle.std.proofs.Common.{List, ℕ, ap, sym, set, subst, ◌∙◌}
 use Rattle.std.specs.List.{position}
-use Rattle.atspi_following.specs.ReaderState.{Followed, is_named}
+use Rattle.atspi_protocol.specs.following.ReaderState.{Followed, is_named}
 use Rattle.atspi_reader_known.specs.Places.{AreFound}
 use Rattle.atspi_reader_known.proofs.Placed.{found_put}
 use Rattle.atspi_reader_known.proofs.Uniqueness.{nobody_changes, set_changed}

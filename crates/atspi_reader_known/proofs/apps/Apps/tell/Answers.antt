@@ -1,6 +1,6 @@
 use Rattle.std.proofs.Common.{ap, sym, set, ◌∙◌}
 use Rattle.std.proofs.lemmas.Result.{on_ok_weaker}
-use Rattle.atspi_following.specs.Replied.{told_part}
+use Rattle.atspi_protocol.specs.following.Replied.{told_part}
 use Rattle.atspi_reader_known.proofs.Names.{either_name, told_name}
 use Rattle.atspi_reader_known.proofs.Placed.{found_set}
 use Rattle.atspi_reader_known.proofs.Uniqueness.{nobody_changes, set_changed}

@@ -1,6 +1,6 @@
 use Rattle.std.proofs.Common.{refl, subst, sym}
 use Rattle.std.proofs.lemmas.Result.{on_ok_weaker}
-use Rattle.atspi_news.specs.declared.part.PartName.{PartName}
+use Rattle.atspi_protocol.specs.declared.news.part.PartName.{PartName}
 use Rattle.atspi_reader_known.specs.declared.refused.Parts.{Parts}
 use Rattle.atspi_reader_known.specs.Refusals.{Puts}
 use Rattle.atspi_reader_known.proofs.Refusals.{puts_caret, puts_columns, puts_text}

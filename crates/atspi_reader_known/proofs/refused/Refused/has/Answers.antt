@@ -1,5 +1,5 @@
 use Rattle.std.proofs.Common.{ap, ◌∙◌}
-use Rattle.atspi_following.specs.Wishes.{is_refused}
+use Rattle.atspi_protocol.specs.following.Wishes.{is_refused}
 use Rattle.atspi_reader_known.proofs.refused.Refused.has.Goals as goal
 
 pub returns : goal.returns

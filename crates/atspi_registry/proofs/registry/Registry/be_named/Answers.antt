@@ -1,6 +1,6 @@
 use Rattle.std.proofs.Common.{sym, ap, ◌∙◌, Option, ℕ, List}
 use Rattle.atspi_header.specs.View.{envelope_at}
-use Rattle.atspi_registering.specs.Steps.{named, name_told}
+use Rattle.atspi_protocol.specs.registering.Steps.{named, name_told}
 use Rattle.atspi_registry.proofs.Does.{same_step, quiet}
 use Rattle.atspi_registry.proofs.Takes.{takes_unnamed}
 use Rattle.atspi_registry.proofs.registry.Registry.be_named.Goals as goal

@@ -1,6 +1,6 @@
 use Rattle.std.proofs.Common.{sym, ap, ◌∙◌}
 use Rattle.atspi_header.specs.View.{envelope_at}
-use Rattle.atspi_registering.specs.Steps.{hears}
+use Rattle.atspi_protocol.specs.registering.Steps.{hears}
 use Rattle.atspi_registry.proofs.Does.{same_step, quiet}
 use Rattle.atspi_registry.proofs.Takes.{takes_heard}
 use Rattle.atspi_registry.proofs.registry.Registry.hear.Goals as goal

@@ -1,6 +1,6 @@
 use Rattle.std.proofs.Common.{sym, ap}
 use Rattle.std.proofs.lemmas.Str.{encodes-chars}
-use Rattle.atspi_registering.specs.Steps.{forgets}
+use Rattle.atspi_protocol.specs.registering.Steps.{forgets}
 use Rattle.atspi_registry.proofs.Does.{same_step}
 use Rattle.atspi_registry.proofs.registry.Registry.lose.Goals as goal
 

@@ -1,5 +1,5 @@
 use Rattle.std.proofs.Common.{ap, chars, List, ℕ, [], Some}
-use Rattle.atspi_registering.specs.Steps.{Registry, named, speaks}
+use Rattle.atspi_protocol.specs.registering.Steps.{Registry, named, speaks}
 use Rattle.atspi_registry.proofs.Does.{from_parts, same_step, quiet_named, state_of}
 use Rattle.atspi_registry.proofs.registry.Registry.take_name.Goals as goal
 

@@ -1,7 +1,7 @@
 use Rattle.std.proofs.Common.{sym, ap, ◌∙◌, chars, List, ℕ}
 use Rattle.atspi_header.specs.View.{envelope_at}
-use Rattle.atspi_registering.specs.Answers.{adopts, releases}
-use Rattle.atspi_registering.specs.Steps.{answered}
+use Rattle.atspi_protocol.specs.registering.Answers.{adopts, releases}
+use Rattle.atspi_protocol.specs.registering.Steps.{answered}
 use Rattle.atspi_registry.proofs.Does.{same_step}
 use Rattle.atspi_registry.proofs.Takes.{own_root, another_root}
 use Rattle.atspi_registry.proofs.registry.Registry.unembed.Goals as goal

@@ -1,6 +1,6 @@
 use Rattle.std.proofs.Common.{rules, not, ℕ, List, ap, ◌∙◌}
 use Rattle.std.proofs.lemmas.Fn.{filter_same}
-use Rattle.atspi_registering.specs.RegistryState.{is_of, pairs_without}
+use Rattle.atspi_protocol.specs.registering.RegistryState.{is_of, pairs_without}
 use Rattle.atspi_registry_lists.proofs.pairs.Pairs.drop_name.Goals as goal
 
 pub returns : goal.returns

@@ -1,6 +1,6 @@
 use Rattle.std.proofs.Common.{rules, not, ℕ, List, ap, ◌∙◌, chars}
 use Rattle.std.proofs.lemmas.Fn.{filter_same}
-use Rattle.atspi_registering.specs.RegistryState.{is_pair, without_pair}
+use Rattle.atspi_protocol.specs.registering.RegistryState.{is_pair, without_pair}
 use Rattle.atspi_registry_lists.proofs.pairs.Pairs.remove.Goals as goal
 
 pub returns : goal.returns

@@ -1,0 +1,26 @@
+use Rattle.std.proofs.Common.{◌≡◌, sym, ap, ◌∙◌, chars}
+use Rattle.atspi_types.specs.Kinds.{text}
+use Rattle.atspi_types.specs.Data.{type_of}
+use Rattle.atspi_marshal.specs.Reading.{input_of}
+use Rattle.atspi_cursor.specs.Items.{item_data, item_kind, fields_data}
+use Rattle.atspi_header.proofs.ReadTypes.{item_type}
+use Rattle.atspi_app_known.specs.hearing.Lent.{lent_or_none}
+use Rattle.atspi_app_known.proofs.OfHearing.Values.{wrong_name, wrong_pattern}
+use Rattle.atspi_app_known.proofs.hearing.pair.first_pair.Goals as goal
+
+pub returns-in_err-name : goal.returns-in_err-name
+returns-in_err-name c =
+    let x = c.in_ok-next.field-0 in
+    let kind : type_of (item_data x) ≡ item_kind x = item_type (input_of x.input) x.levels (item_kind x) x.bound x.at x.known in
+    let other : type_of (item_data x) ≡ text → ⊥ = λ h. (let clash = c.in_err-name.ensures.is.1 (sym kind ∙ h) in absurd cc) in
+    ap lent_or_none c.from_residual-in_err-name.ensures
+    ∙ sym (wrong_name (fields_data c.args.values) (fields_data c.next.new.self) (item_data x) c.in_ok-next.ensures.comes other)
+
+pub returns-in_err-pattern : goal.returns-in_err-pattern
+returns-in_err-pattern c =
+    let x = c.in_ok-next.field-0 in
+    let y = c.in_ok-next-2.field-0 in
+    let kind : type_of (item_data y) ≡ item_kind y = item_type (input_of y.input) y.levels (item_kind y) y.bound y.at y.known in
+    let other : type_of (item_data y) ≡ text → ⊥ = λ h. (let clash = c.in_err-pattern.ensures.is.1 (sym kind ∙ h) in absurd cc) in
+    ap lent_or_none c.from_residual-in_err-pattern.ensures
+    ∙ sym (wrong_pattern (fields_data c.args.values) (fields_data c.next.new.self) (fields_data c.next-2.new.self) (item_data x) (item_data y) (chars c.in_ok-name.name.now) c.in_ok-next.ensures.comes c.in_ok-name.ensures.text c.in_ok-next-2.ensures.comes other)

@@ -1,0 +1,4 @@
+pub mod happenings
+pub mod hearing
+pub mod starting
+pub mod heeding

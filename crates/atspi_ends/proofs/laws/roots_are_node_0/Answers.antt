@@ -1,7 +1,0 @@
-use Rattle.std.proofs.Common.{refl}
-use Rattle.atspi_forest.specs.Path.{path_of}
-use Rattle.atspi_ends.proofs.laws.roots_are_node_0.Goals as goal
-
-pub returns : goal.returns
-unfolding path_of
-returns c = refl

@@ -1,5 +1,0 @@
-//! What an application that exports its tree does at its start, with a message and at an edit: definitions with worked cases, and laws.
-#![tactic(auto)]
-
-pub mod examples;
-pub mod laws;

@@ -1,6 +1,0 @@
-use Rattle.std.proofs.Common.{◌≡◌, ◌≤◌, take}
-use Rattle.atspi_happenings.specs.Happened.{sent_by}
-use Rattle.atspi_happenings.proofs.queue.count_messages.Given as goal
-
-abbrev pub invariant-loop-i : goal.invariant-loop-i
-invariant-loop-i l = record { so_far : l.count ≡ sent_by (take l.i l.events.items); few : l.count ≤ l.i }

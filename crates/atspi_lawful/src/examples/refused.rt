@@ -1,0 +1,37 @@
+//! Traces of wrong bodies, each refused at the entry where it goes wrong.
+
+ghost use Rattle.std.specs.Prelude.{◌≡◌, ◌∷◌, [], false, None, Some, codes};
+ghost use Rattle.atspi_lines.specs.declared.line.Party.TheVariants as party;
+ghost use Rattle.atspi_trace.specs.Entry.{got, spoke, showed, quiet};
+ghost use Rattle.atspi_trace.specs.Hearing.{is_registered};
+ghost use Rattle.atspi_trace.specs.World.{returned};
+ghost use Rattle.atspi_trace.specs.Due.{Stands};
+ghost use Rattle.atspi_lawful.specs.examples.Cases.{untold, unasked, telling, echo_first, speaking, ending, ended, moving, half_moved, removed, left_behind, waiting, idle, race, asked_items};
+
+/// An application tells nobody who did not ask, and its announcement stands before its echoes.
+pub fn of_applications()
+    ensures unasked { Stands untold unasked → ⊥ }
+    ensures echo_first { Stands telling echo_first → ⊥ }
+{}
+
+/// A reader speaks from the tree after the change; at the end of an application it speaks one line, and keeps no row. What moves takes along what
+/// is below it, and what is removed takes it away. Before its patterns are registered it may not ask for items.
+pub fn of_readers()
+    ensures stale { Stands speaking (spoke 0 0 (codes "OK")) → ⊥ }
+    ensures no_closing_line { Stands ending (showed 0 0 None) → ⊥ }
+    ensures rows_kept { Stands ended (showed 0 0 (Some [])) → ⊥ }
+    ensures half_moved { Stands moving (showed 0 0 (Some half_moved)) → ⊥ }
+    ensures left_behind { Stands removed (showed 0 0 (Some left_behind)) → ⊥ }
+    ensures unregistered { is_registered (asked_items returned ∷ []) ≡ false }
+{}
+
+/// Nothing is quiet while a message waits, nor where a reader has asked nothing.
+pub fn of_runs()
+    ensures early { Stands waiting quiet → ⊥ }
+    ensures unsettled { Stands idle quiet → ⊥ }
+{}
+
+/// The messages of one sender are taken in their order.
+pub fn of_the_bus()
+    ensures { Stands race (got (party.Reader 0) (party.App 0) 6) → ⊥ }
+{}

@@ -1,8 +1,0 @@
-//! The news in messages: what a reader reads in an application's signals, and in the replies to its own calls. Definitions, with worked
-//! cases.
-#![tactic(auto)]
-
-pub mod examples;
-mod part;
-
-pub use part::PartName;

@@ -1,0 +1,10 @@
+pub mod ends
+pub mod members
+pub mod news
+pub mod objects
+pub mod announcing
+pub mod exporting
+pub mod registering
+pub mod registry_laws
+pub mod following
+pub mod whole

@@ -1,6 +1,0 @@
-use Rattle.std.proofs.Common.{refl}
-use Rattle.atspi_registering.proofs.examples.children.taken_back.Goals as goal
-
-pub returns-clause-told : goal.returns-clause-told
-unfolding lib.Utf8.encode
-returns-clause-told c = refl

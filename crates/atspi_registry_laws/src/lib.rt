@@ -1,8 +1,0 @@
-//! Laws of what the registry does, whatever it takes.
-#![tactic(auto)]
-
-mod examples;
-mod laws;
-
-pub use examples::news_of_children;
-pub use laws::{what_is_asked_for, what_it_sends};

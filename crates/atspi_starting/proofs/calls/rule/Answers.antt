@@ -1,7 +1,0 @@
-use Rattle.std.proofs.Common.{◌∙◌}
-use Rattle.std.proofs.lemmas.Result.{IfOk-weaker}
-use Rattle.atspi_starting.proofs.Rule.{rule_chars}
-use Rattle.atspi_starting.proofs.calls.rule.Goals as goal
-
-pub returns : goal.returns
-returns c = IfOk-weaker c.of.result _ _ (λ t h. h ∙ rule_chars) c.of.ensures

@@ -1,5 +1,0 @@
-use Rattle.atspi_trace_laws.proofs.One.{one}
-use Rattle.atspi_trace_laws.proofs.laws.traces_are_one.Goals as goal
-
-pub returns : goal.returns
-returns c = one

@@ -1,5 +1,0 @@
-use Rattle.atspi_trace_laws.proofs.Cuts.{no_cuts}
-use Rattle.atspi_trace_laws.proofs.laws.up_links_see_no_cuts.Goals as goal
-
-pub returns : goal.returns
-returns c = no_cuts

@@ -1,4 +1,0 @@
-//! The nine laws of a lawful trace in the trace's own words, and what is proved of lawful traces.
-#![tactic(auto)]
-
-pub mod laws;
