@@ -12,5 +12,6 @@ pub mod OfTurns
 pub mod OfHeld
 pub mod OfViews
 pub mod OfFolds
+pub mod OfCaches
 pub mod OfLaws
 pub mod OfExamples

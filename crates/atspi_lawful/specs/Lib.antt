@@ -12,5 +12,6 @@ pub mod turns
 pub mod held
 pub mod views
 pub mod folds
+pub mod caches
 pub mod laws
 pub mod examples

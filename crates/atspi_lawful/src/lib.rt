@@ -2,6 +2,7 @@
 //! or what several of them share.
 #![tactic(auto)]
 
+pub mod caches;
 pub mod delivered;
 pub mod examples;
 pub mod folds;

@@ -33,7 +33,7 @@ use Rattle.atspi_lawful.proofs.OfViews.LawViews.{announcements_carry}
 use Rattle.atspi_lawful.specs.folds.Laws.{heard_from, folded, AreAllCovered, Folds, StepFolds}
 
 -- where all are covered none is left out
-all_asked : (pairs : List (List ℕ × List ℕ)) (xs : List Signal) → AreAllCovered pairs xs → asked_for pairs xs ≡ xs
+pub all_asked : (pairs : List (List ℕ × List ℕ)) (xs : List Signal) → AreAllCovered pairs xs → asked_for pairs xs ≡ xs
 all_asked pairs [] a = refl
 all_asked pairs (x ∷ xs) a = ap (λ b. if b then x ∷ asked_for pairs xs else asked_for pairs xs) a.0 ∙ ap (λ l. x ∷ l) (all_asked pairs xs a.1)
 

@@ -1,0 +1,108 @@
+-- THE LAW ABOUT CACHES: what a reader has of an application is the view of its tree as of the last message taken, where the reader misses nothing.
+use Rattle.std.specs.Prelude.{◌≡◌, ◌≤◌, ℕ, true, false, List, [], ◌∷◌, ◌++◌, Option, None, Some}
+use Rattle.std.specs.List.{AllByRecursion}
+use Rattle.atspi_forest.specs.declared.news.Item.{Item}
+use Rattle.atspi_forest.specs.declared.news.News.{News}
+use Rattle.atspi_forest.specs.declared.step.Step.{Step}
+use Rattle.atspi_forest.specs.Forest.{Forest}
+use Rattle.atspi_forest.specs.News.{effect, load}
+use Rattle.atspi_forest.specs.Path.{path_of}
+use Rattle.atspi_forest.specs.Row.{TreeRow}
+use Rattle.atspi_forest.specs.View.{nothing_told, view}
+use Rattle.atspi_lines.specs.declared.line.Line.{Line}
+use Rattle.atspi_lines.specs.declared.line.Party.TheVariants.{App, Reader}
+use Rattle.atspi_message.specs.Envelope.{Envelope}
+use Rattle.atspi_protocol.specs.announcing.Announced.{announced}
+use Rattle.atspi_protocol.specs.declared.news.part.PartName.{PartName}
+use Rattle.atspi_protocol.specs.declared.following.question.Question.{Question}
+use Rattle.atspi_protocol.specs.declared.following.question.Question.TheVariants.{GetItems, GetPart}
+use Rattle.atspi_protocol.specs.news.Replies.{items_told, part_told}
+use Rattle.atspi_protocol.specs.following.ReaderState.{Followed}
+use Rattle.atspi_trace.specs.Entry.{Entry, changed, sent, got}
+use Rattle.atspi_trace.specs.Causes.{told_in}
+use Rattle.atspi_trace.specs.Due.{begins, after_all, Begun}
+use Rattle.atspi_lawful.specs.laws.Words.{live_tree, added, message, before_sent, as_of, heard_pairs, answers_question, Kept, held}
+use Rattle.atspi_lawful.specs.laws.NineLaws.{Everywhere, Follow}
+use Rattle.atspi_lawful.specs.order.Scripts.{CanAllStand}
+use Rattle.atspi_lawful.specs.heard.Laws.{signals_under, IsAmong}
+use Rattle.atspi_lawful.specs.folds.Laws.{AreAllCovered}
+use Rattle.atspi_lawful.specs.caches.Caches.{followed}
+
+-- THE NAME. The signals of each step of the application are those of an application with this name, and it sends no others.
+abbrev pub IsSigned : List ℕ → ℕ → List Entry → Entry → List Entry → Type 0
+IsSigned name app before (changed a step) behind = a ≡ app → Follow (signals_under name before app step) behind
+IsSigned name app before (sent (App a) e) behind = a ≡ app → e.kind ≡ 4 → (among : IsAmong before app e) × (among.name ≡ name)
+IsSigned name app before entry behind = Unit {0}
+
+-- THE REPLIES. A return to a call for all items tells the view of a tree, and one to a call for a part tells that part of it, of a node that was
+-- added.
+pub record TellsItems (name : List ℕ) (tree : Forest TreeRow) (e : Envelope) : Type 0 where
+  pub items : List Item
+  pub told : items_told e ≡ Some items
+  pub loads : load (path_of 0) name items ≡ view nothing_told tree
+
+pub record TellsPart (name : List ℕ) (tree : Forest TreeRow) (count : ℕ) (path : List ℕ) (part : PartName) (e : Envelope) : Type 0 where
+  pub news : News
+  pub told : part_told part path e ≡ Some news
+  pub shows : (parts : List (List ℕ × PartName)) → effect (path_of 0) name (view (told_in parts) tree) news ≡ view (told_in (parts ++ (path, part) ∷ [])) tree
+  pub node : ℕ
+  pub is_of : path ≡ path_of node
+  pub was_added : node ≤ count
+
+abbrev pub Tells : List ℕ → Forest TreeRow → ℕ → Option Question → Envelope → Type 0
+Tells name tree count (Some (GetItems n)) e = TellsItems name tree e
+Tells name tree count (Some (GetPart n path part)) e = TellsPart name tree count path part e
+Tells name tree count question e = Unit {0}
+
+abbrev pub IsAnswered : List ℕ → ℕ → ℕ → List Entry → Entry → List Entry → Type 0
+IsAnswered name reader app before (got (Reader r) (App a) serial) behind =
+    r ≡ reader → a ≡ app → (e : Envelope) → message before (App app) serial ≡ Some e
+    → Tells name (as_of before app serial) (added (before_sent (App app) serial before) app) (answers_question before reader (Some e)) e
+IsAnswered name reader app before entry behind = Unit {0}
+
+-- NOTHING IS MISSED. Between the last message that the reader took of the application and the one that it takes now the application sent no signal, and
+-- each step of it that stands between was asked for whole.
+abbrev pub IsNoSignal : ℕ → Entry → Type 0
+IsNoSignal app (sent (App a) e) = a ≡ app → e.kind ≡ 4 → ⊥
+IsNoSignal app entry = Unit {0}
+
+pub record MissesNothing (name : List ℕ) (before : List Entry) (app last serial : ℕ) : Type 0 where
+  pub first : Envelope
+  pub between : List Entry
+  pub stands : before_sent (App app) serial before ≡ (before_sent (App app) last before ++ sent (App app) first ∷ []) ++ between
+  pub no_signal : AllByRecursion (IsNoSignal app) between
+  pub asked : (xs ys : List Entry) (step : Step) → between ≡ xs ++ changed app step ∷ ys
+      → let early = (before_sent (App app) last before ++ sent (App app) first ∷ []) ++ xs in AreAllCovered (heard_pairs early app) (announced name (live_tree early app) step)
+
+-- a load begins anew
+abbrev pub IsLoad : Option Question → Type 0
+IsLoad (Some (GetItems name)) = Unit {0}
+IsLoad question = ⊥
+
+abbrev pub MissesNone : List ℕ → ℕ → ℕ → List Entry → Entry → List Entry → Type 0
+MissesNone name reader app before (got (Reader r) (App a) serial) behind =
+    r ≡ reader → a ≡ app → (IsLoad (answers_question before reader (message before (App app) serial)) → ⊥) → (k : Kept) → held before reader app ≡ Some k → MissesNothing name before app k.last serial
+MissesNone name reader app before entry behind = Unit {0}
+
+-- such a reader and application
+pub record IsServed (trace : List Entry) (name : List ℕ) (reader app : ℕ) : Type 0 where
+  pub signed : Everywhere (IsSigned name app) trace
+  pub answered : Everywhere (IsAnswered name reader app) trace
+  pub nothing_missed : Everywhere (MissesNone name reader app) trace
+
+-- WHAT THE READER HAS: nothing of one that it does not hold; of one that it holds the view of its tree as of the last message taken, with the parts
+-- that it was told, and that message's serial.
+pub record IsViewed (es : List Entry) (app : ℕ) (k : Kept) (f : Followed) : Type 0 where
+  pub shows : f.view ≡ Some (view (told_in k.told) (as_of es app k.last))
+  pub last : f.last ≡ k.last
+
+abbrev pub CacheIs : List Entry → ℕ → Option Kept → Followed → Type 0
+CacheIs es app None f = f.view ≡ None
+CacheIs es app (Some k) f = IsViewed es app k f
+
+-- so it is behind each front of a lawful trace
+abbrev pub CachesFollow : Type 0
+CachesFollow =
+    (lines : List Line) (trace : List Entry) → CanAllStand lines → Begun lines trace → (after_all (begins lines) trace).owing ≡ []
+    → (name : List ℕ) (reader app : ℕ) → IsServed trace name reader app
+    → (front rest : List Entry) → trace ≡ front ++ rest → CacheIs front app (held front reader app) (followed name front reader app)
