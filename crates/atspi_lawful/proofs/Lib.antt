@@ -13,5 +13,6 @@ pub mod OfHeld
 pub mod OfViews
 pub mod OfFolds
 pub mod OfCaches
+pub mod OfQuiet
 pub mod OfLaws
 pub mod OfExamples

@@ -13,5 +13,6 @@ pub mod held
 pub mod views
 pub mod folds
 pub mod caches
+pub mod quiet
 pub mod laws
 pub mod examples

@@ -14,6 +14,7 @@ pub mod living;
 pub mod lost;
 pub mod order;
 pub mod own;
+pub mod quiet;
 pub mod serials;
 pub mod steps;
 pub mod taken;

@@ -129,7 +129,7 @@ module _ (Inv : List Entry → World → Option ℕ → Type 0) (k : Keeps Inv) 
           worked_fine (λ v ws. from_lines s.left v ws) es s.passed s.left p p.owing refl (λ v ws j. lines_fine s.left es v ws j h.lines)
           (progressed (bound s.world) es s.world s.free s.work state (bare-work s.world s.work h.bare)) h.lines
 
-  at_work_fine : (es : List Entry) (s : Scene) (l : List Entry) → s.owing ≡ l → Kept Inv es s → Kept Inv es (at_work_owing s l)
+  pub at_work_fine : (es : List Entry) (s : Scene) (l : List Entry) → s.owing ≡ l → Kept Inv es s → Kept Inv es (at_work_owing s l)
   at_work_fine es s [] h i = (onward_fine es s h i).0
   at_work_fine es s (e ∷ l) h i = i
 

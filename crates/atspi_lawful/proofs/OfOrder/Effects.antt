@@ -148,12 +148,12 @@ pub data Effect (w : World) (d : Done) : Type 0 where
   reader_took : ReaderTakes w d → Effect w d
 
 -- roles of parties, and parties of roles
-app_role : (role : Role) (a : ℕ) → RoleFits (App a) role → (s : Exporter) × (role ≡ an_application s)
+pub app_role : (role : Role) (a : ℕ) → RoleFits (App a) role → (s : Exporter) × (role ≡ an_application s)
 app_role (an_application s) a f = (s, refl)
 app_role (the_registry s) a f = absurd f
 app_role (a_reader h) a f = absurd f
 
-reader_role : (role : Role) (r : ℕ) → RoleFits (Reader r) role → (h : Hearer) × (role ≡ a_reader h)
+pub reader_role : (role : Role) (r : ℕ) → RoleFits (Reader r) role → (h : Hearer) × (role ≡ a_reader h)
 reader_role (a_reader h) r f = (h, refl)
 reader_role (the_registry s) r f = absurd f
 reader_role (an_application s) r f = absurd f

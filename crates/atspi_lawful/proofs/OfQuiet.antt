@@ -1,0 +1,4 @@
+pub mod Hello
+pub mod Here
+pub mod Alone
+pub mod LawQuiet

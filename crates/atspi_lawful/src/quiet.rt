@@ -1,0 +1,3 @@
+//! What holds where a lawful trace tells that nothing waits.
+
+pub mod laws;
