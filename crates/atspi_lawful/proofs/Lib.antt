@@ -14,5 +14,6 @@ pub mod OfViews
 pub mod OfFolds
 pub mod OfCaches
 pub mod OfQuiet
+pub mod OfDrops
 pub mod OfLaws
 pub mod OfExamples

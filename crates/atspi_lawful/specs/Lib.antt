@@ -14,5 +14,6 @@ pub mod views
 pub mod folds
 pub mod caches
 pub mod quiet
+pub mod drops
 pub mod laws
 pub mod examples

@@ -4,6 +4,7 @@
 
 pub mod caches;
 pub mod delivered;
+pub mod drops;
 pub mod examples;
 pub mod folds;
 pub mod heard;

@@ -1,0 +1,3 @@
+//! Who is dropped, along lawful traces.
+
+pub mod laws;
