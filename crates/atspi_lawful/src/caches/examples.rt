@@ -1,0 +1,30 @@
+//! Worked cases of what a reader has of an application.
+
+ghost use Rattle.std.specs.Prelude.{◌≡◌, [], ◌∷◌, ◌++◌, None, Some, codes};
+ghost use Rattle.atspi_trace.specs.Entry.{gone};
+ghost use Rattle.atspi_lawful.specs.caches.Caches.{followed};
+ghost use Rattle.atspi_lawful.specs.caches.Cases.{its_name, asked, told, loaded, renamed, heard_of, names_had};
+ghost use Rattle.atspi_lawful.specs.caches.Laws.{IsNoSignal};
+ghost use Rattle.atspi_trace.specs.Entry.{sent};
+ghost use Rattle.atspi_lines.specs.declared.line.Party.TheVariants.{App};
+ghost use Rattle.atspi_protocol.specs.announcing.Signals.{caret_moved};
+
+/// A reader has nothing before it took the return to its call for all items; then what the items tell; then what the messages that it took make of that,
+/// and not what was sent and not taken; and nothing behind the news that the application ended. Another reader has nothing, and one that knows the
+/// application by another name finds none of its items.
+pub fn what_is_kept()
+    ensures before { names_had its_name told 0 ≡ None }
+    ensures loaded { names_had its_name loaded 0 ≡ Some (codes "Demo" ∷ []) }
+    ensures not_taken { names_had its_name renamed 0 ≡ Some (codes "Demo" ∷ []) }
+    ensures taken { names_had its_name heard_of 0 ≡ Some (codes "Desk" ∷ []) }
+    ensures last { (followed its_name heard_of 0 0).last ≡ 6 }
+    ensures ended { names_had its_name (heard_of ++ gone 0 0 ∷ []) 0 ≡ None }
+    ensures other { names_had its_name heard_of 1 ≡ None }
+    ensures other_name { names_had (codes ":1.8") heard_of 0 ≡ Some [] }
+{}
+
+/// A signal of the application between two messages is one that is missed; one of another application is not.
+pub fn what_is_missed()
+    ensures mine { IsNoSignal 0 (sent (App 0) (caret_moved 1 2).message) → ⊥ }
+    ensures other { IsNoSignal 0 (sent (App 1) (caret_moved 1 2).message) }
+{}
