@@ -15,5 +15,6 @@ pub mod OfFolds
 pub mod OfCaches
 pub mod OfQuiet
 pub mod OfDrops
+pub mod OfReaders
 pub mod OfLaws
 pub mod OfExamples

@@ -15,5 +15,6 @@ pub mod folds
 pub mod caches
 pub mod quiet
 pub mod drops
+pub mod readers
 pub mod laws
 pub mod examples

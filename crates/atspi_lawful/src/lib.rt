@@ -16,6 +16,7 @@ pub mod lost;
 pub mod order;
 pub mod own;
 pub mod quiet;
+pub mod readers;
 pub mod serials;
 pub mod steps;
 pub mod taken;

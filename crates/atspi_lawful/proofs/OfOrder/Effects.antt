@@ -234,7 +234,7 @@ show_effect w conn app r e s h who =
       is = on_known w conn e (λ x. shown w conn app x.role) h ∙ ap (shown w conn app) f.1;
     })
 
-take_is : (w : World) (conn : ℕ) (e : End) (letter : Letter) (rest : List Letter) (role : Role) → end_at w.ends conn ≡ Some e → e.down ≡ letter ∷ rest → e.role ≡ role
+pub take_is : (w : World) (conn : ℕ) (e : End) (letter : Letter) (rest : List Letter) (role : Role) → end_at w.ends conn ≡ Some e → e.down ≡ letter ∷ rest → e.role ≡ role
     → does w (gets conn) ≡ took (received w conn e letter) conn letter e.who role
 take_is w conn e letter rest role h link f =
     on_known w conn e (λ x. taken w conn x x.down) h ∙ ap (taken w conn e) link ∙ ap (took (received w conn e letter) conn letter e.who) f

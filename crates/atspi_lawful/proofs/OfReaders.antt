@@ -1,0 +1,4 @@
+pub mod BusSaid
+pub mod TellsBus
+pub mod Fates
+pub mod LawReaders

@@ -1,0 +1,3 @@
+//! What readers call of their own accord, along lawful traces.
+
+pub mod laws;
