@@ -1,14 +1,15 @@
 -- What is known where a cause is done, and of a world after bytes that complete no message.
 use Rattle.std.proofs.Common.{◌≡◌, ◌⊎◌, ℕ, true, false, List, ◌∷◌, length, None, Some}
-use Rattle.std.specs.Prelude.{nat_lt}
+use Rattle.std.specs.Prelude.{nat_lt, nat_le}
 use Rattle.atspi_forest.specs.Edits.{is_long_name, IsEdit}
+use Rattle.atspi_lines.specs.declared.limits.TheConstants.{APP_COUNT, READER_COUNT}
 use Rattle.atspi_lines.specs.declared.line.Party.TheVariants.{Registry, App, Reader}
 use Rattle.atspi_message.specs.Envelope.{Envelope}
 use Rattle.atspi_protocol.specs.declared.following.question.Question.{Question}
 use Rattle.atspi_protocol.specs.following.Calls.{asking}
 use Rattle.std.specs.List.{list_all}
 use Rattle.atspi_trace.specs.World.{here, stopped, Said, Letter, Hearer, a_reader, End, World}
-use Rattle.atspi_trace.specs.Ends.{same_party, end_at}
+use Rattle.atspi_trace.specs.Ends.{same_party, end_at, app_count, reader_count}
 use Rattle.atspi_trace.specs.Hearing.{is_answered, may_ask, question_in}
 use Rattle.atspi_trace.specs.Causes.{Cause, renews, starts_app, starts_reader, edits, calls, swaps_face, exits, shows, tells_busy, tells_quiet, routes, unjoins, gets}
 use Rattle.atspi_trace.specs.Work.{Work, resting, doing, moving_up, moving_down, turning, draining, edit_refusal, next_turn, Next, cause, rests, moved_up, moved_down}
@@ -20,8 +21,8 @@ pub record IsHere (ends : List End) (conn : ℕ) (e : End) : Type 0 where
 
 abbrev pub Allowed : World → Cause → Type 0
 Allowed w (renews quota) = nat_lt 1 (length w.ends) ≡ false
-Allowed w (starts_app name) = is_long_name name ≡ false
-Allowed w starts_reader = Unit {0}
+Allowed w (starts_app name) = (is_long_name name ≡ false) × (nat_le APP_COUNT (app_count w.ends) ≡ false)
+Allowed w starts_reader = nat_le READER_COUNT (reader_count w.ends) ≡ false
 Allowed w (edits conn edit) = (e : End) × (a : ℕ) × IsHere w.ends conn e × (e.who ≡ App a) × (edit_refusal edit e.role ≡ None) × IsEdit edit
 Allowed w (calls conn name node deed) = (e : End) × (r : ℕ) × IsHere w.ends conn e × (e.who ≡ Reader r)
 Allowed w swaps_face = (e : End) × (a : ℕ) × (conn : ℕ) × (end_at w.ends conn ≡ Some e) × (e.who ≡ App a)

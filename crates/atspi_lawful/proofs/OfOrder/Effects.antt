@@ -285,7 +285,7 @@ take_effect w conn e letter rest (a_reader s) sh h link f =
 
 pub effect : (w : World) (c : Cause) → Shape w → Allowed w c → Effect w (does w c)
 effect w (renews quota) s a = resets quota a refl
-effect w (starts_app name) s a = app_joins name a refl
+effect w (starts_app name) s a = app_joins name a.0 refl
 effect w starts_reader s a = reader_joins refl
 effect w (edits conn edit) s a = edit_effect w conn a.1 edit a.0 s a.2 a.3 a.4 a.5
 effect w (calls conn name node deed) s a = call_effect w conn a.1 name node deed a.0 s a.2 a.3

@@ -6,15 +6,15 @@ use Rattle.atspi_forest.specs.declared.edit.EditFault.TheVariants.{TextFull}
 use Rattle.atspi_forest.specs.Forest.{first_of}
 use Rattle.atspi_forest.specs.Edits.{is_long_name, IsEdit}
 use Rattle.atspi_lines.specs.declared.deed.Deed.{Deed}
-use Rattle.atspi_lines.specs.declared.limits.TheConstants.{APP_COUNT}
+use Rattle.atspi_lines.specs.declared.limits.TheConstants.{APP_COUNT, READER_COUNT}
 use Rattle.atspi_lines.specs.declared.line.Line.{Line}
 use Rattle.atspi_lines.specs.declared.line.Line.TheVariants.{Blank, Quota, App as App_line, Reader as Reader_line, Edit as Edit_line, Call, Swap, Exit, Leave, Bytes, Turns, Drain, Show}
 use Rattle.atspi_lines.specs.declared.line.Party.{Party}
 use Rattle.atspi_lines.specs.declared.line.Party.TheVariants.{Registry, App, Reader}
 use Rattle.atspi_trace.specs.World.{Standing, here, stopped, away, Said, Letter, End, World}
-use Rattle.atspi_trace.specs.Ends.{is_here, same_party, conn_of, end_of, end_at, end_if, app_count}
+use Rattle.atspi_trace.specs.Ends.{is_here, same_party, conn_of, end_of, end_at, end_if, app_count, reader_count}
 use Rattle.atspi_trace.specs.Causes.{Cause, edits, calls, swaps_face, exits, shows, routes, unjoins, gets, missing}
-use Rattle.atspi_trace.specs.Work.{Refusal, no_party, dead, late, no_kit, no_spare, spare_count, of_edit, refusal_if, if_started, if_here, no_more, edit_refusal, call_refusal, refused, Work, resting, doing, moving_up, moving_down, turning, draining, with_conn, moving, name_of, work_of, up_turn, down_turn, first_up, first_down, next_turn, cause, rests, moved_up, moved_down, next_up, next_down, of_end, next_of_turns, next_of_drain, next_of}
+use Rattle.atspi_trace.specs.Work.{Refusal, no_party, dead, late, no_kit, no_reader, no_spare, spare_count, of_edit, refusal_if, if_started, if_here, no_more, edit_refusal, call_refusal, refused, Work, resting, doing, moving_up, moving_down, turning, draining, with_conn, moving, name_of, work_of, up_turn, down_turn, first_up, first_down, next_turn, cause, rests, moved_up, moved_down, next_up, next_down, of_end, next_of_turns, next_of_drain, next_of}
 use Rattle.atspi_lawful.specs.order.Scripts.{CanStand}
 use Rattle.atspi_lawful.proofs.OfOrder.Parties.{no_none, same_some, same-party, found}
 use Rattle.atspi_lawful.proofs.OfOrder.Allowed.{Allowed, IsWork, NextFine}
@@ -108,8 +108,10 @@ caller_here w reader app None h = by (end_of w.ends (Reader reader)) h
 pub line_fine : (w : World) (line : Line) → CanStand line → refused w line ≡ None → IsWork w (work_of w line)
 line_fine w Blank k h = tt
 line_fine w (Quota quota) k h = not_refused (nat_lt 1 (length w.ends)) late h
-line_fine w (App_line name) k h = not_refused (is_long_name name) (of_edit TextFull) (neither (refusal_if (nat_le APP_COUNT (app_count w.ends)) no_kit) (refusal_if (is_long_name name) (of_edit TextFull)) h).1
-line_fine w Reader_line k h = tt
+line_fine w (App_line name) k h =
+    let both = neither (refusal_if (nat_le APP_COUNT (app_count w.ends)) no_kit) (refusal_if (is_long_name name) (of_edit TextFull)) h in
+    (not_refused (is_long_name name) (of_edit TextFull) both.1, not_refused (nat_le APP_COUNT (app_count w.ends)) no_kit both.0)
+line_fine w Reader_line k h = not_refused (nat_le READER_COUNT (reader_count w.ends)) no_reader h
 line_fine w (Edit_line app edit) k h = edit_fine w app edit (conn_of w.ends (App app)) k refl h
 line_fine w (Call reader app node deed) k h =
     call_fine w reader (name_of (end_of w.ends (App app))) node deed (λ caller. call_refusal app caller.role) (conn_of w.ends (Reader reader)) refl

@@ -81,7 +81,7 @@ said_open s (e ∷ es) = (tt, all_append NoClose (handed s e) (flat_map (λ m. s
 abbrev pub Greets : BusState → ℕ → Envelope → Type 0
 Greets s conn e = (is_some (unique_of s.owners conn) ≡ true) ⊎ (is_hello e ≡ true)
 
-takes_hello : (s : BusState) (conn : ℕ) (e : Envelope) → unique_of s.owners conn ≡ None → is_hello e ≡ true → bus_takes s conn e (rule_in e) ≡ greets s conn e
+pub takes_hello : (s : BusState) (conn : ℕ) (e : Envelope) → unique_of s.owners conn ≡ None → is_hello e ≡ true → bus_takes s conn e (rule_in e) ≡ greets s conn e
 takes_hello s conn e none hello = rw none (ap (λ b. if b then greets s conn e else record { state = s; moves = closes conn ∷ [] }) hello)
 
 greets_open : (s : BusState) (conn : ℕ) (e : Envelope) → AllByRecursion NoClose (greets s conn e).moves
@@ -128,7 +128,7 @@ takes_fair s conn e (inr hello) = by (unique_of s.owners conn) refl
     by (Some name) some = named_fair s conn (bus_takes s conn e (rule_in e)) (ap is_some some) d
 
 -- WHO LEAVES
-equal_of_tie : (r : Ordering) → is_eq r ≡ true → r ≡ Equal
+pub equal_of_tie : (r : Ordering) → is_eq r ≡ true → r ≡ Equal
 equal_of_tie Less e = absurd (false_true e)
 equal_of_tie Equal e = refl
 equal_of_tie Greater e = absurd (false_true e)
@@ -193,7 +193,7 @@ left_other c conn k d differ h =
 abbrev pub is_of : ℕ → Closing → Bool
 is_of k c = c.conn == k
 
-any_more : (k : ℕ) (xs ys : List Closing) → list_any (is_of k) xs ≡ true → list_any (is_of k) (xs ++ ys) ≡ true
+pub any_more : (k : ℕ) (xs ys : List Closing) → list_any (is_of k) xs ≡ true → list_any (is_of k) (xs ++ ys) ≡ true
 any_more k [] ys h = absurd (false_true h)
 any_more k (x ∷ xs) ys h = by (is_of k x) (λ g. any_more k xs ys g) h
   where
@@ -201,7 +201,7 @@ any_more k (x ∷ xs) ys h = by (is_of k x) (λ g. any_more k xs ys g) h
     by true f g = refl
     by false f g = f g
 
-any_last : (k : ℕ) (xs : List Closing) (c : Closing) → is_of k c ≡ true → list_any (is_of k) (xs ++ c ∷ []) ≡ true
+pub any_last : (k : ℕ) (xs : List Closing) (c : Closing) → is_of k c ≡ true → list_any (is_of k) (xs ++ c ∷ []) ≡ true
 any_last k [] c h = ap (λ b. b || false) h
 any_last k (x ∷ xs) c h = by (is_of k x) (any_last k xs c h)
   where

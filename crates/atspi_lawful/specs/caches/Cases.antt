@@ -1,16 +1,21 @@
 -- Words for worked cases: a reader that asks an application for all items, takes the return, and then the news of another name.
-use Rattle.std.specs.Prelude.{ℕ, List, [], ◌∷◌, ◌++◌, map, Option, option_map, codes}
+use Rattle.std.specs.Prelude.{ℕ, List, [], ◌∷◌, ◌++◌, map, Option, Some, option_map, codes}
 use Rattle.atspi_types.specs.Data.{text_data}
-use Rattle.atspi_forest.specs.declared.step.Step.TheVariants.{SetName}
+use Rattle.atspi_forest.specs.declared.step.Step.TheVariants.{SetName, SetDescription}
 use Rattle.atspi_forest.specs.declared.view.Row.{Row}
 use Rattle.atspi_forest.specs.Forest.{labels}
 use Rattle.atspi_forest.specs.Path.{path_of}
+use Rattle.atspi_forest.specs.Row.{TreeRow}
 use Rattle.atspi_lines.specs.declared.line.Party.TheVariants.{App, Reader}
 use Rattle.atspi_protocol.specs.announcing.Signals.{property_changed}
-use Rattle.atspi_protocol.specs.declared.following.question.Question.TheVariants.{GetItems}
+use Rattle.atspi_protocol.specs.declared.following.question.Question.TheVariants.{RegisterEvent, GetItems}
 use Rattle.atspi_protocol.specs.following.Calls.{asking}
 use Rattle.atspi_protocol.specs.following.Cases.{returned, item, items}
-use Rattle.atspi_trace.specs.Entry.{Entry, changed, sent, got}
+use Rattle.atspi_protocol.specs.following.ReaderState.{start_calls}
+use Rattle.atspi_trace.specs.Entry.{Entry, started, changed, sent, got}
+use Rattle.atspi_trace.specs.World.{returned as returned_fate, Asked}
+use Rattle.atspi_trace.specs.Hearing.{patterns_in}
+use Rattle.atspi_lawful.specs.laws.Words.{as_of}
 use Rattle.atspi_lawful.specs.caches.Caches.{followed}
 
 -- the application's unique name
@@ -37,3 +42,17 @@ heard_of = renamed ++ got (Reader 0) (App 0) 6 ∷ []
 -- the names that a reader has of it
 abbrev pub names_had : List ℕ → List Entry → ℕ → Option (List (List ℕ))
 names_had name trace reader = option_map (λ v. map (λ (r : Row). r.name) (labels v)) (followed name trace reader 0).view
+
+-- a description that is told and taken, where the other name was not taken: what was sent between was missed
+abbrev pub missed : List Entry
+missed =
+    started (App 0) (Some (codes "Demo")) ∷ renamed ++ changed 0 (SetDescription 0 (codes "main")) ∷ sent (App 0) (record (property_changed 0 (codes "accessible-description") (text_data (codes "main"))).message { serial = 7 })
+    ∷ got (Reader 0) (App 0) 7 ∷ []
+
+-- the names in the application's tree as of a message
+abbrev pub names_then : List Entry → ℕ → List (List ℕ)
+names_then trace serial = map (λ (row : TreeRow). row.shape.name) (labels (as_of trace 0 serial))
+
+-- a reader's own calls so far: its five patterns are registered, and none of its match rules was asked for
+abbrev pub registered_alone : List Asked
+registered_alone = map (λ (pattern : List ℕ). record { serial = 1; question = RegisterEvent pattern; fate = returned_fate }) (patterns_in start_calls)

@@ -1,0 +1,13 @@
+use Rattle.std.proofs.Common.{refl}
+use Rattle.atspi_types.specs.Names.{is_bus_name}
+use Rattle.atspi_types.specs.Elements.{are_two_or_more, are_elements, parts_of}
+use lib.Utf8.{encode}
+use Rattle.atspi_lawful.proofs.caches.examples.what_may_be_asked.Goals as goal
+
+pub returns-clause-no_rules : goal.returns-clause-no_rules
+unfolding encode is_bus_name are_two_or_more are_elements parts_of
+returns-clause-no_rules c = refl
+
+pub returns-clause-any_name : goal.returns-clause-any_name
+unfolding encode is_bus_name are_two_or_more are_elements parts_of
+returns-clause-any_name c = refl
