@@ -4,4 +4,8 @@
 #[cfg(test)]
 mod base;
 #[cfg(test)]
+mod rows;
+#[cfg(test)]
+mod spelled;
+#[cfg(test)]
 mod types;

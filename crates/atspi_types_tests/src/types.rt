@@ -2,276 +2,257 @@
 
 mod typed;
 
+use crate::rows::{Asked, signature, try_pieces, try_rows};
 use atspi_base::Bytes;
-use atspi_types::{
-    BusName, Interface, Member, Pairs, Path, ReadFault, Run, Signature, Ty, Tys, Value, ValueRef,
-    Values,
-};
+use atspi_types::{BusName, Pairs, Run, Signature, Ty, Tys, Value, ValueRef, Values};
+use std::alloc::Global;
 use std::test::*;
 
-/// What reading a signature tells: (0, the number of types), or the reason and the place.
-fn told(rt: &HostRuntime, bytes: &[u8]) -> (u32, u32) {
-    match Signature::parse(rt.alloc(), bytes) {
-        Ok(signature) => (0, signature.types().len().min(999) as u32),
-        Err(ReadFault::Bad(fault)) => (fault.reason as u32, fault.place),
-        Err(ReadFault::NoMemory) => (99, 0),
-    }
-}
+/// Codes that are a signature, or none.
+const SIGNATURES: &str = "\
+\x20=> 0 0
+ybnqiuxtdsogv => 0 13
+a{sv} => 0 1
+a(ii)a{ua{sv}} => 0 2
+aa{sav}(i(as)) => 0 2
+i? => 2 1
+a{si? => 2 4
+h => 3 0
+ah => 3 1
+a{sih => 3 4
+aa => 4 2
+a) => 4 1
+a} => 4 1
+(a) => 4 2
+(a => 4 2
+a{sa} => 4 4
+() => 5 1
+a() => 5 2
+(i => 6 2
+i) => 6 1
+(i} => 6 2
+((i) => 6 4
+a{ => 6 2
+a{s) => 6 3
+a{sv => 6 4
+} => 6 0
+{sv} => 7 0
+({sv}) => 7 1
+a{{s => 7 2
+a{si{ => 7 4
+a{vs} => 8 2
+a{ais} => 8 2
+a{(i)s} => 8 2
+a{} => 8 2
+a{s} => 8 3
+a{siv} => 8 4
+a{sia => 8 4
+a{si( => 8 4";
 
-/// The pieces, each so many times, one behind another.
-fn repeated(rt: &HostRuntime, pieces: &[(&[u8], u32)]) -> Vec<u8> {
-    let mut all = Vec::new(rt.alloc());
-    for (piece, count) in pieces {
-        for _ in 0..*count {
-            let _ = all.extend_from_slice(piece);
-        }
-    }
-    all
-}
+/// The same at the limits.
+const LONG: &str = "\
+a*31 y*1 => 0 1
+a*32 y*1 => 0 1
+a*33 y*1 => 9 32
+(*31 y*1 )*31 => 0 1
+(*32 y*1 )*32 => 0 1
+(*33 y*1 )*33 => 9 32
+a(*32 y*1 )*32 => 0 1
+a{s*32 y*1 }*32 => 0 1
+a{s*33 y*1 }*33 => 9 96
+y*255 => 0 255
+y*256 => 1 255
+y*255 ?*1 => 1 255
+y*254 ?*2 => 2 254
+y*254 a*1 => 4 255";
 
 #[test]
 fn signatures_are_read_or_refused_at_the_first_fault(rt: HostRuntime) {
-    let table: [(&[u8], (u32, u32)); 38] = [
-        (b"", (0, 0)),
-        (b"ybnqiuxtdsogv", (0, 13)),
-        (b"a{sv}", (0, 1)),
-        (b"a(ii)a{ua{sv}}", (0, 2)),
-        (b"aa{sav}(i(as))", (0, 2)),
-        (b"i?", (2, 1)),
-        (b"a{si?", (2, 4)),
-        (b"h", (3, 0)),
-        (b"ah", (3, 1)),
-        (b"a{sih", (3, 4)),
-        (b"aa", (4, 2)),
-        (b"a)", (4, 1)),
-        (b"a}", (4, 1)),
-        (b"(a)", (4, 2)),
-        (b"(a", (4, 2)),
-        (b"a{sa}", (4, 4)),
-        (b"()", (5, 1)),
-        (b"a()", (5, 2)),
-        (b"(i", (6, 2)),
-        (b"i)", (6, 1)),
-        (b"(i}", (6, 2)),
-        (b"((i)", (6, 4)),
-        (b"a{", (6, 2)),
-        (b"a{s)", (6, 3)),
-        (b"a{sv", (6, 4)),
-        (b"}", (6, 0)),
-        (b"{sv}", (7, 0)),
-        (b"({sv})", (7, 1)),
-        (b"a{{s", (7, 2)),
-        (b"a{si{", (7, 4)),
-        (b"a{vs}", (8, 2)),
-        (b"a{ais}", (8, 2)),
-        (b"a{(i)s}", (8, 2)),
-        (b"a{}", (8, 2)),
-        (b"a{s}", (8, 3)),
-        (b"a{siv}", (8, 4)),
-        (b"a{sia", (8, 4)),
-        (b"a{si(", (8, 4)),
-    ];
-    for (bytes, due) in table {
-        assert_eq!(rt; told(&rt, bytes), due, "reading {bytes:?}");
+    try_rows(&rt, rt.alloc(), Asked::Signature, SIGNATURES);
+    try_pieces(&rt, rt.alloc(), Asked::Signature, LONG);
+}
+
+/// What is due of a signature of one byte.
+fn due_of(byte: u8) -> (u32, u32) {
+    match byte {
+        b'a' => (4, 1),
+        b'(' => (6, 1),
+        b')' | b'}' => (6, 0),
+        b'{' => (7, 0),
+        b'h' => (3, 0),
+        _ if b"ybnqiuxtdsogv".contains(&byte) => (0, 1),
+        _ => (2, 0),
     }
+}
+
+#[test]
+fn signatures_of_one_byte_are_read_or_refused(rt: HostRuntime) {
     for byte in 0..=255u8 {
-        let due = match byte {
-            b'y'
-            | b'b'
-            | b'n'
-            | b'q'
-            | b'i'
-            | b'u'
-            | b'x'
-            | b't'
-            | b'd'
-            | b's'
-            | b'o'
-            | b'g'
-            | b'v' => (0, 1),
-            b'a' => (4, 1),
-            b'(' => (6, 1),
-            b')' | b'}' => (6, 0),
-            b'{' => (7, 0),
-            b'h' => (3, 0),
-            _ => (2, 0),
-        };
-        assert_eq!(rt; told(&rt, &[byte]), due, "reading {byte}");
+        assert!(rt;
+            signature(rt.alloc(), &[byte]) == due_of(byte),
+            "reading {byte}"
+        );
     }
 }
 
-#[test]
-fn signatures_keep_within_the_limits(rt: HostRuntime) {
-    let table: [(&[(&[u8], u32)], (u32, u32)); 14] = [
-        (&[(b"a", 31), (b"y", 1)], (0, 1)),
-        (&[(b"a", 32), (b"y", 1)], (0, 1)),
-        (&[(b"a", 33), (b"y", 1)], (9, 32)),
-        (&[(b"(", 31), (b"y", 1), (b")", 31)], (0, 1)),
-        (&[(b"(", 32), (b"y", 1), (b")", 32)], (0, 1)),
-        (&[(b"(", 33), (b"y", 1), (b")", 33)], (9, 32)),
-        (&[(b"a(", 32), (b"y", 1), (b")", 32)], (0, 1)),
-        (&[(b"a{s", 32), (b"y", 1), (b"}", 32)], (0, 1)),
-        (&[(b"a{s", 33), (b"y", 1), (b"}", 33)], (9, 96)),
-        (&[(b"y", 255)], (0, 255)),
-        (&[(b"y", 256)], (1, 255)),
-        (&[(b"y", 255), (b"?", 1)], (1, 255)),
-        (&[(b"y", 254), (b"?", 2)], (2, 254)),
-        (&[(b"y", 254), (b"a", 1)], (4, 255)),
-    ];
-    for (pieces, due) in table {
-        assert_eq!(rt; told(&rt, &repeated(&rt, pieces)), due, "at {pieces:?}");
-    }
+/// Whether a copy of the signature of these codes is written as they are.
+fn is_written_again(alloc: Global, codes: &str) -> Option<bool> {
+    let signature = Signature::parse(alloc, codes.as_bytes()).ok()?;
+    let same = signature.copy(alloc).ok()?;
+    let mut out = Bytes::new(alloc);
+    same.write(&mut out).ok()?;
+    Some(out.as_slice() == codes.as_bytes())
 }
 
-#[test]
-fn signatures_are_written_as_they_were_read(rt: HostRuntime) -> Result<(), Fail> {
-    let table: [&[u8]; 4] = [b"", b"ybnqiuxtdsogv", b"a(ii)a{ua{sv}}", b"(ay(v))"];
-    for bytes in table {
-        let signature = Signature::parse(rt.alloc(), bytes).ok().ok_or("refused")?;
-        let same = signature.copy(rt.alloc()).ok().ok_or("memory")?;
-        let mut out = Bytes::new(rt.alloc());
-        same.write(&mut out).ok().ok_or("memory")?;
-        assert_eq!(rt; out.as_slice(), bytes);
-    }
+/// Arrays in one another, with bytes in the last.
+fn arrays(alloc: Global, levels: u32) -> Option<Ty> {
     let mut deep = Ty::Byte;
-    for _ in 0..32 {
-        deep = Ty::Array(Box::new(rt.alloc(), deep)?);
+    for _level in 0..levels {
+        deep = Ty::Array(Box::new(alloc, deep).ok()?);
     }
-    for due in [true, false] {
-        let mut types = Tys::new(rt.alloc());
-        types
-            .push(deep.copy(rt.alloc()).ok().ok_or("memory")?)
-            .ok()
-            .ok_or("memory")?;
-        assert_eq!(rt; types.fits_signature(), due);
-        deep = Ty::Array(Box::new(rt.alloc(), deep)?);
-    }
-    Ok(())
+    Some(deep)
 }
 
-/// Whether each of the kinds of name reads the bytes: path, bus name, interface, member.
-fn reads(rt: &HostRuntime, bytes: &[u8]) -> (bool, bool, bool, bool) {
-    (
-        Path::read(rt.alloc(), bytes).is_ok(),
-        BusName::read(rt.alloc(), bytes).is_ok(),
-        Interface::read(rt.alloc(), bytes).is_ok(),
-        Member::read(rt.alloc(), bytes).is_ok(),
-    )
+/// Whether so many arrays in one another fit a signature.
+fn arrays_fit(alloc: Global, levels: u32) -> Option<bool> {
+    let mut types = Tys::new(alloc);
+    types.push(arrays(alloc, levels)?).ok()?;
+    Some(types.fits_signature())
 }
 
 #[test]
-fn names_are_read_by_their_rule(rt: HostRuntime) -> Result<(), Fail> {
-    let table: [(&[u8], (bool, bool, bool, bool)); 32] = [
-        (b"", (false, false, false, false)),
-        (b"/", (true, false, false, false)),
-        (b"/a", (true, false, false, false)),
-        (b"/a/", (false, false, false, false)),
-        (b"/a/b_9/0", (true, false, false, false)),
-        (b"//", (false, false, false, false)),
-        (b"/a//b", (false, false, false, false)),
-        (b"a/b", (false, false, false, false)),
-        (b"/a-b", (false, false, false, false)),
-        (b"/a.b", (false, false, false, false)),
-        (b"/\xc3\xa9", (false, false, false, false)),
-        (b"/a\0", (false, false, false, false)),
-        (b"a", (false, false, false, true)),
-        (b"_", (false, false, false, true)),
-        (b"0a", (false, false, false, false)),
-        (b"a0", (false, false, false, true)),
-        (b"a-b", (false, false, false, false)),
-        (b"a b", (false, false, false, false)),
-        (b"a.b", (false, true, true, false)),
-        (b"_a.b0.C", (false, true, true, false)),
-        (b"a.0b", (false, false, false, false)),
-        (b"a-b.c", (false, true, false, false)),
-        (b"-a.b", (false, true, false, false)),
-        (b".a", (false, false, false, false)),
-        (b"a.", (false, false, false, false)),
-        (b"a..b", (false, false, false, false)),
-        (b":1.0", (false, true, false, false)),
-        (b":1", (false, false, false, false)),
-        (b":", (false, false, false, false)),
-        (b":1.", (false, false, false, false)),
-        (b"a:1.0", (false, false, false, false)),
-        (b"org.freedesktop.DBus", (false, true, true, false)),
-    ];
-    for (bytes, due) in table {
-        assert_eq!(rt; reads(&rt, bytes), due, "reading {bytes:?}");
+fn signatures_are_written_as_they_were_read(rt: HostRuntime) {
+    for codes in " ybnqiuxtdsogv a(ii)a{ua{sv}} (ay(v))".split(' ') {
+        assert!(rt;
+            is_written_again(rt.alloc(), codes) == Some(true),
+            "{codes}"
+        );
     }
-    let lengths: [(&[(&[u8], u32)], (bool, bool, bool, bool)); 8] = [
-        (&[(b"/a", 200)], (true, false, false, false)),
-        (&[(b"a.", 127), (b"b", 1)], (false, true, true, false)),
-        (&[(b"a.", 127), (b"b", 2)], (false, false, false, false)),
-        (&[(b":1.", 85)], (false, false, false, false)),
-        (
-            &[(b":", 1), (b"1.", 126), (b"22", 1)],
-            (false, true, false, false),
-        ),
-        (
-            &[(b":", 1), (b"1.", 126), (b"222", 1)],
-            (false, false, false, false),
-        ),
-        (&[(b"a", 255)], (false, false, false, true)),
-        (&[(b"a", 256)], (false, false, false, false)),
-    ];
-    for (pieces, due) in lengths {
-        assert_eq!(rt; reads(&rt, &repeated(&rt, pieces)), due, "at {pieces:?}");
-    }
-    let unique = BusName::read(rt.alloc(), b":1.0").ok().ok_or("refused")?;
-    let known = BusName::read(rt.alloc(), b"a.b").ok().ok_or("refused")?;
-    let same = known.copy(rt.alloc()).ok().ok_or("memory")?;
+    assert!(rt; arrays_fit(rt.alloc(), 32) == Some(true));
+    assert!(rt; arrays_fit(rt.alloc(), 33) == Some(false));
+}
+
+/// Bytes that are names, or none.
+const NAMES: &str = "\
+\x20=> ----
+/ => p---
+/a => p---
+/a/ => ----
+/a/b_9/0 => p---
+// => ----
+/a//b => ----
+a/b => ----
+/a-b => ----
+/a.b => ----
+/%c3%a9 => ----
+/a%00 => ----
+a => ---m
+_ => ---m
+0a => ----
+a0 => ---m
+a-b => ----
+a b => ----
+a.b => -bi-
+_a.b0.C => -bi-
+a.0b => ----
+a-b.c => -b--
+-a.b => -b--
+.a => ----
+a. => ----
+a..b => ----
+:1.0 => -b--
+:1 => ----
+: => ----
+:1. => ----
+a:1.0 => ----
+org.freedesktop.DBus => -bi-";
+
+/// The same at the limits.
+const LONG_NAMES: &str = "\
+/a*200 => p---
+a.*127 b*1 => -bi-
+a.*127 b*2 => ----
+:1.*85 => ----
+:*1 1.*126 22*1 => -b--
+:*1 1.*126 222*1 => ----
+a*255 => ---m
+a*256 => ----";
+
+#[test]
+fn names_are_read_by_their_rule(rt: HostRuntime) {
+    try_rows(&rt, rt.alloc(), Asked::Names, NAMES);
+    try_pieces(&rt, rt.alloc(), Asked::Names, LONG_NAMES);
+}
+
+#[test]
+fn bus_names_are_compared(rt: HostRuntime) {
+    let unique = BusName::read(rt.alloc(), b":1.0").expect(&rt, "a name");
+    let known = BusName::read(rt.alloc(), b"a.b").expect(&rt, "a name");
+    let same = known.copy(rt.alloc()).expect(&rt, "memory");
     assert!(rt; unique.is_unique());
     assert!(rt; !known.is_unique());
     assert!(rt; known.is(&same));
     assert!(rt; !known.is(&unique));
     assert!(rt; unique < known);
-    assert_eq!(rt; same.as_str(), "a.b");
-    Ok(())
+    assert!(rt; same.as_str() == "a.b");
+}
+
+/// The bytes 7, 8 and 9.
+fn three_bytes(alloc: Global) -> Option<Values> {
+    let mut values = Values::new(alloc);
+    for byte in 7..10u8 {
+        values.push(Value::Byte(byte)).ok()?;
+    }
+    Some(values)
 }
 
 #[test]
-fn values_are_kept_in_order(rt: HostRuntime) -> Result<(), Fail> {
-    let mut values = Values::new(rt.alloc());
-    for byte in [7u8, 8, 9] {
-        values.push(Value::Byte(byte)).ok().ok_or("memory")?;
-    }
+fn values_are_kept_in_order(rt: HostRuntime) {
+    let mut values = three_bytes(rt.alloc()).expect(&rt, "memory");
     assert!(rt; matches!(values.run(), Run::Bytes([7, 8, 9])));
-    values.push(Value::I32(-1)).ok().ok_or("memory")?;
-    assert_eq!(rt; values.len(), 4);
+    values.push(Value::I32(-1)).expect(&rt, "memory");
+    assert!(rt; values.len() == 4);
     assert!(rt; matches!(values.at(2), ValueRef::Byte(9)));
     assert!(rt; matches!(values.at(3), ValueRef::I32(-1)));
-    Ok(())
+}
+
+/// A copy of the doubles of the bits 1 and 2.
+fn two_doubles(alloc: Global) -> Option<Values> {
+    let bits = [1u64, 2].to_vec(alloc).ok()?;
+    Values::from_doubles(bits).copy(alloc).ok()
 }
 
 #[test]
-fn arrays_are_copied_in_their_own_size(rt: HostRuntime) -> Result<(), Fail> {
-    let doubles = Values::from_doubles([1u64, 2].to_vec(rt.alloc())?);
-    let copy = doubles.copy(rt.alloc()).ok().ok_or("memory")?;
+fn arrays_are_copied_in_their_own_size(rt: HostRuntime) {
+    let copy = two_doubles(rt.alloc()).expect(&rt, "memory");
     assert!(rt; matches!(copy.run(), Run::Doubles([1, 2])));
-    let copy = Value::Array(Ty::Double, copy)
-        .copy(rt.alloc())
-        .ok()
-        .ok_or("memory")?;
+    let array = Value::Array(Ty::Double, copy);
+    let copy = array.copy(rt.alloc()).expect(&rt, "memory");
     assert!(rt; matches!(copy.borrowed(), ValueRef::Array(Ty::Double, _)));
-    Ok(())
+}
+
+/// A dictionary from the byte 1 to the number 5.
+fn one_entry(alloc: Global) -> Option<Value> {
+    let mut pairs = Pairs::new(alloc);
+    pairs.push(Value::Byte(1), Value::U32(5)).ok()?;
+    Some(Value::Dict(Ty::Byte, Ty::U32, pairs))
+}
+
+/// Whether a value is that dictionary.
+fn is_one_entry(value: &Value) -> bool {
+    match value.borrowed() {
+        ValueRef::Dict(key, _, pairs) => {
+            key.alignment() == 1
+                && pairs.len() == 1
+                && matches!(pairs.as_slice(), [(Value::Byte(1), Value::U32(5))])
+        }
+        _ => false,
+    }
 }
 
 #[test]
-fn dictionaries_are_copied_with_their_types(rt: HostRuntime) -> Result<(), Fail> {
-    let mut pairs = Pairs::new(rt.alloc());
-    pairs
-        .push(Value::Byte(1), Value::U32(5))
-        .ok()
-        .ok_or("memory")?;
-    let copy = Value::Dict(Ty::Byte, Ty::U32, pairs)
-        .copy(rt.alloc())
-        .ok()
-        .ok_or("memory")?;
-    let ValueRef::Dict(key, _, again) = copy.borrowed() else {
-        return Err("no dictionary".into());
-    };
-    assert_eq!(rt; again.len(), 1);
-    assert_eq!(rt; key.alignment(), 1);
-    assert!(rt; matches!(again.as_slice(), [(Value::Byte(1), Value::U32(5))]));
-    Ok(())
+fn dictionaries_are_copied_with_their_types(rt: HostRuntime) {
+    let value = one_entry(rt.alloc()).expect(&rt, "memory");
+    let copy = value.copy(rt.alloc()).expect(&rt, "memory");
+    assert!(rt; is_one_entry(&copy));
 }

@@ -153,17 +153,27 @@ fn keyed_by_struct(rt: &HostRuntime) -> Value {
     )
 }
 
+/// Whether the struct or array of a row is well typed as is due.
+fn first_as_due(rt: &HostRuntime, row: usize, due: bool) -> bool {
+    struct_or_array(rt, row).is_well_typed() == due
+}
+
+/// Whether the dictionary or variant of a row is well typed as is due.
+fn second_as_due(rt: &HostRuntime, row: usize, due: bool) -> bool {
+    entry_or_variant(rt, row).is_well_typed() == due
+}
+
 #[test]
 fn values_are_well_typed_or_not(rt: HostRuntime) {
     for row in 0..10usize {
-        let value = struct_or_array(&rt, row);
-        assert_eq!(rt; value.is_well_typed(), STRUCTS_AND_ARRAYS[row], "row {row}");
+        assert!(rt;
+            first_as_due(&rt, row, STRUCTS_AND_ARRAYS[row]),
+            "row {row}"
+        );
     }
     for row in 0..8usize {
-        let value = entry_or_variant(&rt, row);
-        assert_eq!(rt;
-            value.is_well_typed(),
-            ENTRIES_AND_VARIANTS[row],
+        assert!(rt;
+            second_as_due(&rt, row, ENTRIES_AND_VARIANTS[row]),
             "row {row}"
         );
     }
