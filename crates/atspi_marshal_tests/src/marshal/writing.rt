@@ -1,6 +1,6 @@
 //! Values as they are written, and those that pass a limit.
 
-ghost use Rattle.std.specs.Prelude.{◌≡◌, ◌≤◌, IfOk};
+ghost use Rattle.std.specs.Prelude.{◌≡◌, ◌≤◌, IfOk, IfSome};
 ghost use Rattle.atspi_types.specs.Kinds.{variant, IsLawful};
 ghost use Rattle.atspi_types.specs.KindView.{kind_of};
 ghost use Rattle.atspi_types.specs.Data.{type_of, IsWellTyped};
@@ -13,31 +13,30 @@ use atspi_marshal::{
     put_types, put_u32, put_values, set_u32,
 };
 use atspi_types::Values;
-use std::alloc::Global;
 
 #[test]
-fn each_step_appends_its_bytes(rt: HostRuntime) -> Result<(), Fail> {
-    let values = Values::from_bytes([1u8, 2].to_vec(rt.alloc())?);
+fn each_step_appends_its_bytes(rt: HostRuntime) {
+    let values = Values::from_bytes([1u8, 2].to_vec(rt.alloc()).expect(&rt, "memory"));
     let mut out = Bytes::new(rt.alloc());
     // behind byte 0 of a message
-    assert_eq!(rt; put_u32(Order::Big, 1, 258, &mut out)?, 8);
-    append_u32(Order::Little, 258, &mut out)?;
-    assert_eq!(rt; put_padded(8, 12, b"\x07", &mut out)?, 17);
-    assert_eq!(rt; put_padding(2, 17, 0, &mut out)?, 18);
-    assert_eq!(rt; put_counted(Order::Little, 18, b"ab", &mut out)?, 27);
-    assert_eq!(rt; put_types(27, &values, &mut out)?, 31);
-    assert_eq!(rt; put_values(Order::Big, 64, 31, &values, &mut out)?, 33);
-    assert_eq!(rt; begin_array(8, 33, &mut out)?, 40);
-    append_u32(Order::Big, 3, &mut out)?;
-    assert_eq!(rt; out.len(), 43);
-    end_array(Order::Big, 35, 4, &mut out)?;
+    assert!(rt; put_u32(Order::Big, 1, 258, &mut out) == Ok(8));
+    append_u32(Order::Little, 258, &mut out).expect(&rt, "memory");
+    assert!(rt; put_padded(8, 12, b"\x07", &mut out) == Ok(17));
+    assert!(rt; put_padding(2, 17, 0, &mut out) == Ok(18));
+    assert!(rt; put_counted(Order::Little, 18, b"ab", &mut out) == Ok(27));
+    assert!(rt; put_types(27, &values, &mut out) == Ok(31));
+    assert!(rt; put_values(Order::Big, 64, 31, &values, &mut out) == Ok(33));
+    assert!(rt; begin_array(8, 33, &mut out) == Ok(40));
+    append_u32(Order::Big, 3, &mut out).expect(&rt, "memory");
+    assert!(rt; out.len() == 43);
+    end_array(Order::Big, 35, 4, &mut out).expect(&rt, "a length");
     set_u32(Order::Little, 3, 772, &mut out);
-    assert_eq!(rt;
-        out.as_slice(),
-        b"\0\0\0\x04\x03\0\0\x02\x01\0\0\0\0\0\0\x07\0\0\0\x02\0\0\0ab\0\x02yy\0\x01\x02\0\0\0\0\0\0\x04\0\0\0\x03".as_slice()
-    );
-    Ok(())
+    assert!(rt; out.as_slice() == STEPS);
 }
+
+/// The bytes of all steps.
+const STEPS: &[u8] =
+    b"\0\0\0\x04\x03\0\0\x02\x01\0\0\0\0\0\0\x07\0\0\0\x02\0\0\0ab\0\x02yy\0\x01\x02\0\0\0\0\0\0\x04\0\0\0\x03";
 
 /// A variant in so many others.
 fn nested(alloc: Global, depth: u32) -> Result<Value, NoMemory>
@@ -72,19 +71,33 @@ fn variant_of_array(alloc: Global, depth: u32) -> Result<Value, NoMemory>
 }
 
 /// An array of so many bytes.
-fn array_of(alloc: Global, count: usize) -> Result<Value, Fail>
+fn array_of(alloc: Global, count: u32) -> Result<Value, NoMemory>
     ensures { IfOk result (λ value. IsWellTyped (data_of value)) }
 {
-    let bytes = vec![in alloc; 0u8; count]?;
+    let bytes = vec![in alloc; 0u8; count as usize]?;
     Ok(Value::Array(Ty::Byte, Values::from_bytes(bytes)))
 }
 
+/// The value that a word and a number spell.
+fn value_of(alloc: Global, word: &str, n: u32) -> Option<Value>
+    ensures { IfSome result (λ value. IsWellTyped (data_of value)) }
+{
+    match word {
+        "byte" => Some(Value::Byte(7)),
+        "number" => Some(Value::U32(7)),
+        "double" => Some(Value::Double(7)),
+        "nested" => nested(alloc, n).ok(),
+        "typed" => variant_of_array(alloc, n).ok(),
+        _ => array_of(alloc, n).ok(),
+    }
+}
+
 /// How many bytes are appended, where those before stay; none of a value that is too big.
-fn appended(rt: &HostRuntime, at: u32, value: &Value) -> Option<usize>
+fn appended(alloc: Global, at: u32, value: &Value) -> Option<usize>
     requires place { at ≤ 134217728 }
     requires typed { IsWellTyped (data_of value.now) }
 {
-    let mut out = Bytes::new(rt.alloc());
+    let mut out = Bytes::new(alloc);
     out.extend(b"abc").ok()?;
     match encode(Order::Big, at, value, &mut out) {
         Ok(()) => Some(out.as_slice().strip_prefix(b"abc")?.len()),
@@ -92,64 +105,52 @@ fn appended(rt: &HostRuntime, at: u32, value: &Value) -> Option<usize>
             if out.as_slice() == b"abc".as_slice() {
                 None
             } else {
-                Some(out.len())
+                Some(0)
             }
         }
-        Err(WriteFault::NoMemory) => Some(99),
+        Err(WriteFault::NoMemory) => Some(0),
     }
 }
 
-/// The same of a number of one, four or eight bytes.
-fn number_appended(rt: &HostRuntime, at: u32, size: u8) -> Option<usize> {
+/// A place in a message, a value, and how many bytes are appended there; `big` where it is too big. Variants have 64 levels at the most, each of three bytes and the
+/// last with a byte more. A variant of 32 arrays in one another has 33 letters, their count, a zero byte, a byte of padding and the array's length. The last rows are
+/// at the end of a message.
+const LIMITS: &str = "\
+0 nested 63 => 193
+0 nested 64 => big
+0 typed 31 => 40
+0 typed 32 => big
+0 array 67108864 => 67108868
+0 array 67108865 => big
+134217727 byte 7 => 1
+134217728 byte 7 => big
+134217724 number 7 => 4
+134217721 number 7 => 7
+134217725 number 7 => big
+134217720 double 7 => 8
+134217721 double 7 => big
+134217728 double 7 => big
+134217723 array 0 => 5
+134217723 array 1 => big
+134217535 nested 63 => 193
+134217536 nested 63 => big";
+
+/// Whether the value of a row is appended as is due.
+fn is_appended(alloc: Global, row: &str) -> Option<bool> {
+    let (asked, due) = row.split_once(" => ")?;
+    let (at, value) = asked.split_once(' ')?;
+    let (word, n) = value.split_once(' ')?;
+    let at = at.parse::<u32>().ok()?;
     if at > 134_217_728 {
-        return Some(98);
+        return None;
     }
-    match size {
-        1 => appended(rt, at, &Value::Byte(7)),
-        4 => appended(rt, at, &Value::U32(7)),
-        _ => appended(rt, at, &Value::Double(7)),
-    }
+    let value = value_of(alloc, word, n.parse::<u32>().ok()?)?;
+    Some(appended(alloc, at, &value) == due.parse::<usize>().ok())
 }
 
 #[test]
-fn what_passes_a_limit_is_not_written(rt: HostRuntime) -> Result<(), Fail> {
-    // 64 levels, each of three bytes and the last with a byte more
-    assert_eq!(rt; appended(&rt, 0, &nested(rt.alloc(), 63)?), Some(193));
-    assert_eq!(rt; appended(&rt, 0, &nested(rt.alloc(), 64)?), None);
-    // 32 arrays in one another: 33 letters, their count, a zero byte, a byte of padding and the array's length
-    assert_eq!(rt;
-        appended(&rt, 0, &variant_of_array(rt.alloc(), 31)?),
-        Some(40)
-    );
-    assert_eq!(rt; appended(&rt, 0, &variant_of_array(rt.alloc(), 32)?), None);
-    assert_eq!(rt;
-        appended(&rt, 0, &array_of(rt.alloc(), 67_108_864)?),
-        Some(67_108_868)
-    );
-    assert_eq!(rt; appended(&rt, 0, &array_of(rt.alloc(), 67_108_865)?), None);
-    // the end of a message
-    let ends: [(u32, u8, Option<usize>); 8] = [
-        (134_217_727, 1, Some(1)),
-        (134_217_728, 1, None),
-        (134_217_724, 4, Some(4)),
-        (134_217_721, 4, Some(7)),
-        (134_217_725, 4, None),
-        (134_217_720, 8, Some(8)),
-        (134_217_721, 8, None),
-        (134_217_728, 8, None),
-    ];
-    for (at, size, due) in ends {
-        assert_eq!(rt; number_appended(&rt, at, size), due, "{size} bytes at {at}");
+fn what_passes_a_limit_is_not_written(rt: HostRuntime) {
+    for row in LIMITS.lines() {
+        assert!(rt; is_appended(rt.alloc(), row) == Some(true), "{row}");
     }
-    assert_eq!(rt;
-        appended(&rt, 134_217_723, &array_of(rt.alloc(), 0)?),
-        Some(5)
-    );
-    assert_eq!(rt; appended(&rt, 134_217_723, &array_of(rt.alloc(), 1)?), None);
-    assert_eq!(rt;
-        appended(&rt, 134_217_535, &nested(rt.alloc(), 63)?),
-        Some(193)
-    );
-    assert_eq!(rt; appended(&rt, 134_217_536, &nested(rt.alloc(), 63)?), None);
-    Ok(())
 }
