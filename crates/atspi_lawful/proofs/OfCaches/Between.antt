@@ -1,6 +1,6 @@
 -- What stands between two messages of an application, where no signal of it stands there: steps that are not told, and at most one that the second
 -- message announces.
-use Rattle.std.proofs.Common.{◌≡◌, ◌⊎◌, inl, inr, ℕ, suc, ◌+◌, ◌≤◌, Bool, true, false, List, [], ◌∷◌, ◌++◌, length, map, Option, None, Some, refl, sym, ap, ◌∙◌, subst, arith}
+use Rattle.std.proofs.Common.{◌≡◌, ◌⊎◌, inl, inr, ℕ, suc, ◌+◌, Bool, true, false, List, [], ◌∷◌, ◌++◌, length, map, Option, None, Some, refl, sym, ap, ◌∙◌, subst, arith}
 use Rattle.std.specs.Prelude.{◌==◌, if◌then◌else◌, cond}
 use Rattle.std.specs.List.{AllByRecursion}
 use Rattle.std.proofs.lemmas.Bool.{eq-eqb, eqb-true, ne_eqb}
@@ -35,7 +35,7 @@ use Rattle.atspi_lawful.specs.heard.Laws.{signals_under}
 use Rattle.atspi_lawful.specs.folds.Laws.{AreAllCovered}
 use Rattle.atspi_lawful.specs.views.Laws.{IsCarried, StepIsCarried}
 use Rattle.atspi_lawful.specs.caches.Laws.{IsSigned, IsNoSignal}
-use Rattle.atspi_lawful.proofs.OfOrder.Parties.{no_none, false_true, party-same, all_append}
+use Rattle.atspi_lawful.proofs.OfOrder.Parties.{false_true, all_append}
 use Rattle.atspi_lawful.proofs.OfSteps.Trees.{tree_more, count_more}
 use Rattle.atspi_lawful.proofs.OfSerials.Serial.{messages_more}
 use Rattle.atspi_lawful.proofs.OfFolds.LawFolds.{all_asked}

@@ -1,6 +1,6 @@
 -- What a reader that misses nothing has of an application is the view of its tree as of the last message taken.
-use Rattle.std.proofs.Common.{◌≡◌, ◌⊎◌, inl, inr, ℕ, suc, ◌≤◌, ◌<◌, Bool, true, false, List, [], ◌∷◌, ◌++◌, length, map, Option, None, Some, refl, sym, ap, ap₂, ◌∙◌, subst, arith, is_some}
-use Rattle.std.specs.Prelude.{◌==◌, ◌&&◌, ◌||◌, if◌then◌else◌, bytes_eq, option_map, cond}
+use Rattle.std.proofs.Common.{◌≡◌, ◌⊎◌, inl, inr, ℕ, suc, ◌≤◌, Bool, true, false, List, [], ◌∷◌, ◌++◌, length, map, Option, None, Some, refl, sym, ap, ap₂, ◌∙◌, subst, arith, is_some}
+use Rattle.std.specs.Prelude.{◌==◌, ◌&&◌, ◌||◌, if◌then◌else◌, bytes_eq, cond}
 use Rattle.std.specs.List.{AllByRecursion, cons_option, fold}
 use Rattle.std.proofs.lemmas.Bool.{eq-eqb, eqb-true}
 use Rattle.std.proofs.lemmas.List.{append-nil, append_assoc}
@@ -17,12 +17,11 @@ use Rattle.atspi_forest.specs.Row.{TreeRow}
 use Rattle.atspi_forest.specs.Tree.{added_after}
 use Rattle.atspi_forest.specs.View.{Told, view}
 use Rattle.atspi_forest.specs.News.{effect, load}
-use Rattle.atspi_forest.specs.Announce.{announcement}
-use Rattle.atspi_forest.specs.Laws.{UntoldOfNew, PathsTellNodes}
+use Rattle.atspi_forest.specs.Laws.{UntoldOfNew}
 use Rattle.atspi_forest.proofs.Path.{path_of_apart}
 use Rattle.atspi_lines.specs.declared.line.Line.{Line}
 use Rattle.atspi_lines.specs.declared.line.Party.{Party}
-use Rattle.atspi_lines.specs.declared.line.Party.TheVariants.{Bus as The_bus, Registry, App, Reader}
+use Rattle.atspi_lines.specs.declared.line.Party.TheVariants.{App, Reader}
 use Rattle.atspi_message.specs.Envelope.{Envelope}
 use Rattle.atspi_protocol.specs.ends.Messages.{numbered}
 use Rattle.atspi_protocol.specs.announcing.Signals.{Signal}
@@ -36,19 +35,19 @@ use Rattle.atspi_protocol.specs.news.NewsOf.{news_of}
 use Rattle.atspi_protocol.specs.news.Replies.{items_told, part_told}
 use Rattle.atspi_protocol.specs.following.ReaderState.{Followed}
 use Rattle.atspi_protocol.specs.following.Wishes.{same_part, is_refused}
-use Rattle.atspi_protocol.specs.following.Replied.{loaded, told_part}
+use Rattle.atspi_protocol.specs.following.Replied.{told_part}
 use Rattle.atspi_protocol.specs.following.Takes.{noted, folded}
 use Rattle.atspi_trace.specs.Entry.{Entry, changed, sent, got, gone}
 use Rattle.atspi_trace.specs.Ends.{same_party}
 use Rattle.atspi_trace.specs.Causes.{told_in}
 use Rattle.atspi_trace.specs.Due.{begins, after_all, Goes}
 use Rattle.atspi_lawful.specs.laws.Words.{tree_after, live_tree, added, messages, message, with_serial, before_sent, as_of, heard_pairs, answers_question, Kept, kept_with, kept_after, held_on, held}
-use Rattle.atspi_lawful.specs.laws.NineLaws.{Everywhere, Follow, WasSent, LawOfLinks, StepIsOne}
+use Rattle.atspi_lawful.specs.laws.NineLaws.{Everywhere, WasSent, LawOfLinks, StepIsOne}
 use Rattle.atspi_lawful.specs.order.Scripts.{CanAllStand}
 use Rattle.atspi_lawful.specs.heard.Laws.{signals_under, IsAmong}
 use Rattle.atspi_lawful.specs.views.Laws.{IsCarried, StepIsCarried}
 use Rattle.atspi_lawful.specs.caches.Caches.{unasked, with_items, with_part, replied, reads, reads_if, follows_after, follows_on, followed}
-use Rattle.atspi_lawful.specs.caches.Laws.{IsSigned, TellsItems, TellsPart, Tells, IsAnswered, IsNoSignal, MissesNothing, IsLoad, MissesNone, IsServed, IsViewed, CacheIs}
+use Rattle.atspi_lawful.specs.caches.Laws.{TellsItems, TellsPart, Tells, MissesNothing, IsLoad, IsServed, CacheIs}
 use Rattle.atspi_lawful.proofs.OfOrder.Parties.{no_none, same_some, same-party, party-same, false_true, all_append, all_back, all_front}
 use Rattle.atspi_lawful.proofs.OfSteps.Trees.{tree_more, count_more}
 use Rattle.atspi_lawful.proofs.OfSteps.LawSteps.{steps_apply}
@@ -58,7 +57,7 @@ use Rattle.atspi_lawful.proofs.OfDelivered.LawLinks.{links_hold}
 use Rattle.atspi_lawful.proofs.OfHeld.Keeping.{held_more}
 use Rattle.atspi_lawful.proofs.OfViews.LawViews.{announcements_carry}
 use Rattle.atspi_lawful.proofs.OfCaches.Starts.{StartsAnew, starts_anew}
-use Rattle.atspi_lawful.proofs.OfCaches.Between.{IsStep, OfMessage, behind_first, echo_messages, signal_messages, announced_step, IsAnnounced, SameViews, AllSilent, OneStep, Walked, walk}
+use Rattle.atspi_lawful.proofs.OfCaches.Between.{IsStep, OfMessage, behind_first, echo_messages, signal_messages, announced_step, IsAnnounced, SameViews, AllSilent, Walked, walk}
 
 -- A MESSAGE IN ITS PLACE
 -- the message with a serial stands behind what stands before it

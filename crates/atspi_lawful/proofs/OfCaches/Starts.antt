@@ -1,5 +1,5 @@
 -- Who starts has sent nothing before, along a lawful trace.
-use Rattle.std.proofs.Common.{◌≡◌, ◌⊎◌, inl, inr, ℕ, ◌≤◌, List, [], ◌∷◌, ◌++◌, length, map, Option, Some, None, refl, sym, ap, ◌∙◌, subst, arith}
+use Rattle.std.proofs.Common.{◌≡◌, ℕ, ◌≤◌, List, [], ◌∷◌, ◌++◌, length, map, Option, Some, None, sym, ap, subst, arith}
 use Rattle.std.specs.List.{AllByRecursion}
 use Rattle.atspi_lines.specs.declared.line.Line.{Line}
 use Rattle.atspi_lines.specs.declared.line.Party.{Party}
@@ -21,7 +21,6 @@ use Rattle.atspi_lawful.specs.laws.Words.{messages}
 use Rattle.atspi_lawful.specs.laws.NineLaws.{Everywhere}
 use Rattle.atspi_lawful.specs.order.Scripts.{CanAllStand}
 use Rattle.atspi_lawful.proofs.OfOrder.BusWords.{all_any, bus_all}
-use Rattle.atspi_lawful.proofs.OfOrder.Allowed.{MovedUp, MovedDown}
 use Rattle.atspi_lawful.proofs.OfOrder.Effects.{received, Effect, resets, app_joins, reader_joins, app_edited, app_took, reader_called, swapped, exited_, showed_, told_busy, told_quiet, bus_took, bus_ended, registry_took, reader_took}
 use Rattle.atspi_lawful.proofs.OfOrder.Along.{Keeps, kept}
 use Rattle.atspi_lawful.proofs.OfOrder.Growing.{Grows, Shaped, And, grown}

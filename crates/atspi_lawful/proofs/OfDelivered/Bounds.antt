@@ -1,5 +1,5 @@
 -- The bus's own messages on their way have serials that it has given.
-use Rattle.std.proofs.Common.{◌≡◌, ◌⊎◌, inl, inr, ℕ, zero, suc, ◌+◌, ◌<◌, ◌≤◌, Bool, true, false, List, [], ◌∷◌, ◌++◌, length, map, Option, None, Some, refl, sym, ap, ◌∙◌, subst, arith, cond, is_some}
+use Rattle.std.proofs.Common.{◌≡◌, ◌⊎◌, inl, inr, ℕ, ◌+◌, ◌<◌, ◌≤◌, Bool, true, false, List, [], ◌∷◌, length, map, Option, None, Some, refl, sym, ◌∙◌, subst, arith, cond}
 use Rattle.std.specs.Prelude.{flat_map}
 use Rattle.std.specs.List.{AllByRecursion}
 use Rattle.std.specs.FinMap as finmap
@@ -12,7 +12,7 @@ use Rattle.atspi_routing.specs.BusState.{BusState, unique_of}
 use Rattle.atspi_routing.specs.Members.{is_text}
 use Rattle.atspi_routing.specs.OwnMessages.{numbered}
 use Rattle.atspi_routing.specs.Routing.{receivers}
-use Rattle.atspi_routing.specs.Steps.{Move, says, delivers, closes, BusStep, handed, said, speaks}
+use Rattle.atspi_routing.specs.Steps.{Move, says, delivers, closes, BusStep, handed, speaks}
 use Rattle.atspi_lawful.proofs.OfOrder.Parties.{no_none, all_append}
 use Rattle.atspi_lawful.proofs.OfOrder.Each.{all_map}
 use Rattle.atspi_lawful.proofs.OfTaken.Handing.{HandsOn}

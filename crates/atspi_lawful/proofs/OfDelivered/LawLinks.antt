@@ -1,5 +1,5 @@
 -- The law of bus and links, along a lawful trace, as long as the registry lives.
-use Rattle.std.proofs.Common.{◌≡◌, ◌⊎◌, inl, inr, ℕ, zero, suc, ◌+◌, ◌<◌, ◌≤◌, Bool, true, false, List, [], ◌∷◌, ◌++◌, length, map, None, Some, refl, sym, ap, ◌∙◌, subst, arith, cond, is_some, length-append}
+use Rattle.std.proofs.Common.{◌≡◌, ◌⊎◌, inl, inr, ℕ, zero, suc, ◌+◌, ◌<◌, ◌≤◌, Bool, true, false, List, [], ◌∷◌, ◌++◌, length, None, Some, refl, sym, ap, ◌∙◌, subst, arith, cond, is_some, length-append}
 use Rattle.std.specs.Prelude.{codes}
 use Rattle.std.specs.List.{AllByRecursion}
 use Rattle.std.specs.FinMap.{get-from_sorted}
@@ -13,13 +13,12 @@ use Rattle.atspi_message.specs.Envelope.{Envelope}
 use Rattle.atspi_names.specs.Owners.{own_name}
 use Rattle.atspi_protocol.specs.registering.Steps.{registry_takes}
 use Rattle.atspi_protocol.specs.exporting.Taking.{app_takes}
-use Rattle.atspi_routing.specs.BusState.{unique_of}
 use Rattle.atspi_routing.specs.Members.{is_text}
 use Rattle.atspi_protocol.specs.following.Calls.{user_call}
 use Rattle.atspi_protocol.specs.declared.following.question.Question.{Question}
 use Rattle.atspi_trace.specs.Entry.{Entry, sent, got}
 use Rattle.atspi_trace.specs.World.{Role, the_registry, an_application, a_reader, Letter, first_unique, first_registry, first_world, End, World}
-use Rattle.atspi_trace.specs.Ends.{same_party, number_of, end_at, with_end, rest_of, taken_down, stops}
+use Rattle.atspi_trace.specs.Ends.{number_of, end_at, with_end, rest_of, taken_down, stops}
 use Rattle.atspi_trace.specs.Carrying as carrying
 use Rattle.atspi_trace.specs.Carrying.{Carried, bus_entries}
 use Rattle.atspi_trace.specs.Hearing.{hears_letter}
@@ -28,7 +27,7 @@ use Rattle.atspi_trace.specs.Due.{asks_as, asks_at, begins, Goes}
 use Rattle.atspi_lawful.specs.laws.Words.{messages, message}
 use Rattle.atspi_lawful.specs.laws.NineLaws.{Everywhere, HasNextSerial, WasSent, LawOfLinks}
 use Rattle.atspi_lawful.specs.order.Scripts.{CanAllStand}
-use Rattle.atspi_lawful.proofs.OfOrder.Parties.{no_none, same_some, false_true}
+use Rattle.atspi_lawful.proofs.OfOrder.Parties.{no_none, same_some}
 use Rattle.atspi_lawful.proofs.OfOrder.Allowed.{MovedUp, MovedDown}
 use Rattle.atspi_lawful.proofs.OfOrder.Frame.{Over, over_same, over_both, over_with, joined_cases}
 use Rattle.atspi_lawful.proofs.OfOrder.Shape.{Shape}
@@ -52,7 +51,7 @@ use Rattle.atspi_lawful.specs.taken.Laws.{IsTakenAsSent}
 use Rattle.atspi_lawful.proofs.OfTaken.LawTaken.{NotGot, did_not_got, sent_not_got, bus_not_got, not_got_of, taken_was_sent}
 use Rattle.atspi_lawful.specs.own.Laws.{HasNextOwn}
 use Rattle.atspi_lawful.proofs.OfOwn.Writing.{next_own, Lives, lived}
-use Rattle.atspi_lawful.proofs.OfOwn.LawOwn.{State, Owned, own_keeps, own_numbers_rise}
+use Rattle.atspi_lawful.proofs.OfOwn.LawOwn.{Owned, own_keeps, own_numbers_rise}
 use Rattle.atspi_lawful.proofs.OfLost.Alive.{registry_lives}
 use Rattle.atspi_lawful.specs.delivered.Laws.{IsOfTheBus}
 use Rattle.atspi_lawful.proofs.OfDelivered.Bounds.{NoneIsBus}

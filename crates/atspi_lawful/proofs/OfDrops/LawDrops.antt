@@ -1,9 +1,9 @@
 -- The law of dropped ends, along a lawful trace.
-use Rattle.std.proofs.Common.{◌≡◌, ◌⊎◌, inl, inr, ℕ, zero, suc, ◌+◌, ◌<◌, ◌≤◌, Bool, true, false, List, [], ◌∷◌, ◌++◌, length, map, Option, None, Some, refl, sym, ap, ◌∙◌, subst, arith, cond, length-append}
-use Rattle.std.specs.Prelude.{nat_lt, get_or, unwrap_or}
+use Rattle.std.proofs.Common.{◌≡◌, ◌⊎◌, inl, inr, ℕ, suc, ◌+◌, ◌<◌, Bool, true, false, List, [], ◌∷◌, ◌++◌, length, map, Option, None, Some, refl, sym, ap, ◌∙◌, subst, arith, cond, length-append}
+use Rattle.std.specs.Prelude.{get_or, unwrap_or}
 use Rattle.std.specs.List.{AllByRecursion}
 use Rattle.std.specs.FinMap.{get-from_sorted}
-use Rattle.std.specs.Ordering.{nat_cmp, eq_by_cmp}
+use Rattle.std.specs.Ordering.{nat_cmp}
 use Rattle.std.specs.Cmp.Lexicographic.{slice_cmp}
 use Rattle.std.proofs.lemmas.Option.{slice_get-get_or}
 use Rattle.atspi_lines.specs.declared.limits.TheConstants.{QUOTA_MOST}
@@ -17,7 +17,7 @@ use Rattle.atspi_protocol.specs.registering.Steps.{registry_takes}
 use Rattle.atspi_protocol.specs.exporting.Exporter.{Happening, steps, sends, hears, deaf, begins as begins_app}
 use Rattle.atspi_protocol.specs.exporting.Starting.{starts}
 use Rattle.atspi_protocol.specs.exporting.Taking.{app_takes}
-use Rattle.atspi_trace.specs.Entry.{Entry, started, sent, dropped}
+use Rattle.atspi_trace.specs.Entry.{Entry, sent, dropped}
 use Rattle.atspi_trace.specs.World.{an_application, first_lists, first_world, End, World, newcomer}
 use Rattle.atspi_trace.specs.Ends.{number_of, whose, party_at, end_at, app_count, put_up}
 use Rattle.atspi_trace.specs.Carrying as carrying
@@ -32,7 +32,7 @@ use Rattle.atspi_lawful.specs.drops.Laws.{IsOfAnEnd}
 use Rattle.atspi_lawful.proofs.OfOrder.Parties.{all_append}
 use Rattle.atspi_lawful.proofs.OfOrder.BusWords.{bus_all}
 use Rattle.atspi_lawful.proofs.OfOrder.Allowed.{MovedUp, MovedDown}
-use Rattle.atspi_lawful.proofs.OfOrder.Frame.{Over, with_length, at_below}
+use Rattle.atspi_lawful.proofs.OfOrder.Frame.{Over, at_below}
 use Rattle.atspi_lawful.proofs.OfOrder.Shape.{Lasts, Shape}
 use Rattle.atspi_lawful.proofs.OfOrder.Effects.{received, BusTakes, BusEnds, Effect, resets, app_joins, reader_joins, app_edited, app_took, reader_called, swapped, exited_, showed_, told_busy, told_quiet, bus_took, bus_ended, registry_took, reader_took}
 use Rattle.atspi_lawful.proofs.OfOrder.Shaped.{new_app, new_reader, app_joined, bus_takes_over, bus_ends_over, edits_over, app_takes_over, calls_over, stopping_over, registry_over, reader_over, up_moved_over, down_moved_over, asked_over}

@@ -1,28 +1,28 @@
 -- Whom the bus hands something to has an end: who has joined, and who stands in the list of a name.
-use Rattle.std.proofs.Common.{◌≡◌, ◌⊎◌, inl, inr, ℕ, zero, suc, ◌+◌, ◌<◌, ◌≤◌, Bool, true, false, List, [], ◌∷◌, ◌++◌, map, Option, None, Some, refl, sym, ap, ◌∙◌, subst, arith, cond}
+use Rattle.std.proofs.Common.{◌≡◌, ℕ, zero, suc, ◌+◌, ◌<◌, Bool, true, false, List, [], ◌∷◌, ◌++◌, map, Option, None, Some, refl, sym, subst, cond}
 use Rattle.std.specs.Prelude.{◌==◌, ◌&&◌, ◌-◌, nat_lt, not, filter, flat_map, length, codes, if◌then◌else◌, Result, Ok, Err}
 use Rattle.std.specs.List.{AllByRecursion, fold, list_any}
 use Rattle.std.specs.FinMap as finmap
-use Rattle.atspi_types.specs.Data.{Data, text_data}
+use Rattle.atspi_types.specs.Data.{Data}
 use Rattle.atspi_lines.specs.declared.line.Party.{Party}
 use Rattle.atspi_message.specs.Envelope.{Envelope}
 use Rattle.atspi_message.specs.Bytes.{written}
 use Rattle.atspi_match.specs.declared.condition.Condition.{Condition}
 use Rattle.atspi_match.specs.RuleIndex.{is_pair, rules_of, without_first, without_rules}
 use Rattle.atspi_names.specs.Queue.{allows_replacement, replaces_existing, forbids_queueing, stands, without, with_flags, taken_over, requested, released, owner_in}
-use Rattle.atspi_names.specs.Owners.{Lists, list_of, with_list, lists_without, Owners, unique_name, after_hello, after_gone}
+use Rattle.atspi_names.specs.Owners.{Lists, list_of, with_list, lists_without, unique_name, after_hello, after_gone}
 use Rattle.atspi_names.proofs.BookLemmas.{list_of-with_list, list_of-lists_without}
 use Rattle.atspi_routing.specs.declared.closing.Why.{Why}
 use Rattle.atspi_routing.specs.declared.closing.Why.TheVariants.{NotHello, Quota}
 use Rattle.atspi_routing.specs.declared.closing.Closing.{Closing}
 use Rattle.atspi_routing.specs.declared.member.BusMember.{BusMember}
 use Rattle.atspi_routing.specs.declared.member.BusMember.TheVariants.{Hello, RequestName, ReleaseName, NameHasOwner, GetNameOwner, ListNames, ListQueuedOwners, AddMatch, RemoveMatch, GetId, Ping}
-use Rattle.atspi_routing.specs.BusState.{OpenCall, BusState, unique_of, text_or_empty, calls_without}
-use Rattle.atspi_routing.specs.OwnMessages.{name_acquired, owner_changed, numbered}
+use Rattle.atspi_routing.specs.BusState.{OpenCall, BusState, unique_of, calls_without}
+use Rattle.atspi_routing.specs.OwnMessages.{numbered}
 use Rattle.atspi_routing.specs.Members.{member_of}
-use Rattle.atspi_routing.specs.Answers.{Reply, fails, returns, Answer, only, answers, may_be_asked_for, first_text, second_number, requests, releases, adds_rule, removes_rule}
-use Rattle.atspi_routing.specs.Routing.{asks_for, one_or_none, receivers, is_for_bus}
-use Rattle.atspi_routing.specs.Steps.{Move, says, delivers, closes, BusStep, handed, said, speaks, replies, called, undeliverable, is_unowned, calls_after_all, is_hello, greets, farewell, bus_takes, bus_leaves}
+use Rattle.atspi_routing.specs.Answers.{fails, returns, Answer, only, answers, may_be_asked_for, first_text, second_number, requests, releases, adds_rule, removes_rule}
+use Rattle.atspi_routing.specs.Routing.{one_or_none, receivers, is_for_bus}
+use Rattle.atspi_routing.specs.Steps.{Move, says, delivers, closes, BusStep, handed, speaks, called, undeliverable, is_unowned, calls_after_all, is_hello, greets, farewell, bus_takes, bus_leaves}
 use Rattle.atspi_routing.specs.Queues as queues
 use Rattle.atspi_routing.specs.Queues.{Waiting, Bus, is_due, doomed, queue_of, without_queue}
 use Rattle.atspi_trace.specs.Rules.{rule_in}

@@ -1,5 +1,5 @@
 -- Where nobody listens no message announces a step.
-use Rattle.std.proofs.Common.{◌≡◌, ℕ, [], ◌∷◌, sym, ap, ◌∙◌, subst}
+use Rattle.std.proofs.Common.{◌≡◌, [], ◌∷◌, sym, ap, ◌∙◌, subst}
 use Rattle.atspi_forest.specs.declared.step.Step.TheVariants.{Caret}
 use Rattle.atspi_lines.specs.declared.line.Party.TheVariants.{App}
 use Rattle.atspi_protocol.specs.declared.following.question.Question.TheVariants.{Hello}

@@ -1,5 +1,5 @@
 -- That nothing waits is written alone: where it is owed, nothing else is owed behind it.
-use Rattle.std.proofs.Common.{◌≡◌, ℕ, zero, suc, Bool, true, false, List, [], ◌∷◌, ◌++◌, length, map, Option, None, Some, refl, sym, ap, ◌∙◌, subst}
+use Rattle.std.proofs.Common.{◌≡◌, ℕ, zero, suc, Bool, true, false, List, [], ◌∷◌, ◌++◌, length, map, Option, None, Some, refl, sym, subst}
 use Rattle.std.specs.Prelude.{Result, Ok, Err, if◌then◌else◌}
 use Rattle.std.specs.List.{AllByRecursion}
 use Rattle.atspi_forest.specs.declared.edit.Edit.{Edit}
@@ -23,7 +23,7 @@ use Rattle.atspi_trace.specs.Carrying as carrying
 use Rattle.atspi_trace.specs.Carrying.{bus_entries}
 use Rattle.atspi_trace.specs.Causes.{Cause, renews, starts_app, starts_reader, edits, calls, swaps_face, exits, shows, tells_busy, tells_quiet, routes, unjoins, gets, did, edited_to, edited, called, shown, routed, without_bytes, missing, taken, took, on_end, Done, does}
 use Rattle.atspi_trace.specs.Work.{Refusal, refused, Work, work_of, Next, cause, rests, next_of}
-use Rattle.atspi_trace.specs.Due.{Progress, freed, rested, wrote, done, went, progress, bound, Scene, begins, scene_of, line_done, line_worked, unless_refused, from_lines, is_lost, onward, at_work_owing, at_work, rest_entries, writes, asks_freely, own_or_due, chosen, happens_owing, happens, after_all}
+use Rattle.atspi_trace.specs.Due.{Progress, freed, rested, wrote, went, progress, bound, Scene, begins, scene_of, line_done, line_worked, unless_refused, from_lines, is_lost, onward, at_work_owing, at_work, rest_entries, writes, asks_freely, own_or_due, chosen, happens_owing, happens, after_all}
 use Rattle.atspi_lawful.proofs.OfOrder.BusWords.{all_any, bus_all}
 use Rattle.atspi_lawful.proofs.OfHeard.Quiet.{heard_all}
 

@@ -1,13 +1,13 @@
 -- An end that the bus has not named yet has its Hello in front: so none is closed for want of it, and whoever is closed is told.
 use Rattle.std.proofs.Common.{◌≡◌, ◌⊎◌, inl, inr, ℕ, zero, suc, ◌+◌, Bool, true, false, List, [], ◌∷◌, ◌++◌, map, Option, None, Some, refl, sym, ap, ◌∙◌, subst, cond, is_some}
-use Rattle.std.specs.Prelude.{◌==◌, ◌||◌, ◌-◌, nat_lt, not, filter, flat_map, length, codes, if◌then◌else◌}
+use Rattle.std.specs.Prelude.{◌==◌, ◌||◌, ◌-◌, nat_lt, not, filter, flat_map, length, if◌then◌else◌}
 use Rattle.std.specs.List.{AllByRecursion, fold, list_any}
 use Rattle.std.specs.FinMap as finmap
 use Rattle.std.specs.FinMap.{get-remove, get-insert, nat_cmp-IsAntisymmetric}
 use Rattle.std.specs.Ordering.{is_eq, nat_cmp, eq_by_cmp}
 use Rattle.std.specs.declared.cmp.Ordering.{Ordering}
 use Rattle.std.specs.declared.cmp.Ordering.TheVariants.{Less, Equal, Greater}
-use Rattle.std.proofs.lemmas.Bool.{eq-eqb, eqb-true}
+use Rattle.std.proofs.lemmas.Bool.{eq-eqb}
 use Rattle.std.specs.Cmp.{nat_cmp_total, eq_by_cmp_equiv}
 use Rattle.atspi_types.specs.Data.{text_data}
 use Rattle.atspi_lines.specs.declared.line.Party.{Party}
@@ -16,21 +16,21 @@ use Rattle.atspi_message.specs.Bytes.{written}
 use Rattle.atspi_match.specs.RuleIndex.{without_rules}
 use Rattle.atspi_names.specs.Owners.{Owners, unique_name, after_hello, after_gone}
 use Rattle.atspi_routing.specs.declared.closing.Why.{Why}
-use Rattle.atspi_routing.specs.declared.closing.Why.TheVariants.{NotHello, Quota}
+use Rattle.atspi_routing.specs.declared.closing.Why.TheVariants.{Quota}
 use Rattle.atspi_routing.specs.declared.closing.Closing.{Closing}
 use Rattle.atspi_routing.specs.BusState.{BusState, unique_of, text_or_empty, calls_without}
 use Rattle.atspi_routing.specs.OwnMessages.{name_acquired, owner_changed, numbered}
 use Rattle.atspi_routing.specs.Answers.{returns}
-use Rattle.atspi_routing.specs.Routing.{receivers, expects_reply}
-use Rattle.atspi_routing.specs.Steps.{Move, says, delivers, closes, BusStep, handed, said, speaks, replies, is_hello, greets, farewell, bus_takes, bus_leaves}
+use Rattle.atspi_routing.specs.Routing.{receivers}
+use Rattle.atspi_routing.specs.Steps.{Move, says, delivers, closes, BusStep, handed, replies, is_hello, greets, farewell, bus_takes, bus_leaves}
 use Rattle.atspi_routing.specs.Queues as queues
 use Rattle.atspi_routing.specs.Queues.{Waiting, Bus, is_due, doomed, queue_of, without_queue}
 use Rattle.atspi_trace.specs.Rules.{rule_in}
-use Rattle.atspi_trace.specs.World.{here, Said, Letter, End}
-use Rattle.atspi_trace.specs.Ends.{is_here, end_at, with_end, put_down, taken_up, leaves}
+use Rattle.atspi_trace.specs.World.{Said, Letter, End}
+use Rattle.atspi_trace.specs.Ends.{end_at, with_end, put_down, taken_up, leaves}
 use Rattle.atspi_trace.specs.Carrying.{Carried, own_letter, letter_of, stepped, left, one_closed, settled, named, with_name, takes, takes_end}
-use Rattle.atspi_lawful.proofs.OfOrder.Parties.{no_none, false_true, all_append}
-use Rattle.atspi_lawful.proofs.OfOrder.Frame.{Over, IsOrder, over_same, over_both, over_with, stepped_over, with_cases}
+use Rattle.atspi_lawful.proofs.OfOrder.Parties.{false_true, all_append}
+use Rattle.atspi_lawful.proofs.OfOrder.Frame.{Over, IsOrder, over_both, over_with, stepped_over, with_cases}
 use Rattle.atspi_lawful.proofs.OfOwn.Doing.{Doing, says_, hands_, closes_, doing_of}
 use Rattle.atspi_lawful.proofs.OfOwn.Counting.{is_quota}
 

@@ -1,9 +1,9 @@
 -- Who is live in the trace is here, along a lawful trace, as long as the registry lives.
-use Rattle.std.proofs.Common.{◌≡◌, ◌⊎◌, inl, inr, ℕ, zero, suc, ◌+◌, ◌≤◌, ◌<◌, Bool, true, false, List, [], ◌∷◌, ◌++◌, length, map, Option, None, Some, refl, sym, ap, ◌∙◌, subst, arith, is_some, cond}
+use Rattle.std.proofs.Common.{◌≡◌, ◌⊎◌, inl, inr, ℕ, zero, suc, ◌+◌, ◌≤◌, ◌<◌, Bool, true, false, List, [], ◌∷◌, ◌++◌, length, map, Option, None, Some, refl, sym, ap, ◌∙◌, subst, arith, is_some}
 use Rattle.std.specs.Prelude.{◌==◌, ◌||◌, ◌&&◌, nat_lt, not, filter, get_or, if◌then◌else◌}
 use Rattle.std.specs.List.{AllByRecursion, list_any}
 use Rattle.std.specs.FinMap.{get-from_sorted}
-use Rattle.std.specs.Ordering.{nat_cmp, eq_by_cmp}
+use Rattle.std.specs.Ordering.{nat_cmp}
 use Rattle.std.proofs.lemmas.Bool.{ltb-false, eqb-true}
 use Rattle.std.proofs.lemmas.List.{append-nil}
 use Rattle.std.proofs.lemmas.Option.{slice_get-get_or}
@@ -23,8 +23,8 @@ use Rattle.atspi_protocol.specs.exporting.Taking.{app_takes}
 use Rattle.atspi_protocol.specs.following.Calls.{user_call}
 use Rattle.atspi_protocol.specs.declared.following.question.Question.{Question}
 use Rattle.atspi_trace.specs.Entry.{Entry, started, sent, got, exited, dropped}
-use Rattle.atspi_trace.specs.World.{Standing, here, stopped, Role, the_registry, an_application, a_reader, Hearer, Said, Letter, first_unique, first_registry, first_world, End, World, newcomer}
-use Rattle.atspi_trace.specs.Ends.{is_here, same_party, number_of, whose, party_at, end_at, with_end, put_up, taken_up, taken_down, stops, app_count, reader_count}
+use Rattle.atspi_trace.specs.World.{here, stopped, Role, the_registry, an_application, a_reader, Hearer, Said, first_unique, first_registry, first_world, End, World, newcomer}
+use Rattle.atspi_trace.specs.Ends.{is_here, same_party, number_of, whose, party_at, end_at, with_end, put_up, taken_up, taken_down, stops, app_count}
 use Rattle.atspi_trace.specs.Carrying as carrying
 use Rattle.atspi_trace.specs.Carrying.{Carried, dropped_if, sent_by_bus, is_upto, bus_entries}
 use Rattle.atspi_trace.specs.Hearing.{hears_letter}
@@ -33,8 +33,8 @@ use Rattle.atspi_trace.specs.Due.{asks_as, asks_at}
 use Rattle.atspi_lawful.specs.laws.Words.{starts_it, stops_it, is_live}
 use Rattle.atspi_lawful.proofs.OfOrder.Parties.{no_none, same_some, same-party, party-same, false_true}
 use Rattle.atspi_lawful.proofs.OfOrder.BusWords.{all_any, bus_all}
-use Rattle.atspi_lawful.proofs.OfOrder.Allowed.{MovedUp, MovedDown, Asks}
-use Rattle.atspi_lawful.proofs.OfOrder.Frame.{Over, IsOrder, over_same, over_both, over_with, over_at, with_cases, joined_cases, at_changed, at_below}
+use Rattle.atspi_lawful.proofs.OfOrder.Allowed.{MovedUp, MovedDown}
+use Rattle.atspi_lawful.proofs.OfOrder.Frame.{Over, IsOrder, over_same, over_both, over_with, with_cases, joined_cases, at_below}
 use Rattle.atspi_lawful.proofs.OfOrder.Shape.{Lasts, Shape}
 use Rattle.atspi_lawful.proofs.OfOrder.Effects.{received, BusTakes, BusEnds, Stopping, Effect, resets, app_joins, reader_joins, app_edited, app_took, reader_called, swapped, exited_, showed_, told_busy, told_quiet, bus_took, bus_ended, registry_took, reader_took}
 use Rattle.atspi_lawful.proofs.OfOrder.Shaped.{new_app, new_reader, app_joined, bus_takes_over, bus_ends_over}

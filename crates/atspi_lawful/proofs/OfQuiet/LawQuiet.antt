@@ -1,26 +1,24 @@
 -- Where a lawful trace tells that nothing waits, each live reader holds each live application as it is.
-use Rattle.std.proofs.Common.{◌≡◌, ◌⊎◌, inl, inr, ℕ, zero, suc, Bool, true, false, List, [], ◌∷◌, ◌++◌, Option, None, Some, refl, sym, ap, ◌∙◌, subst}
+use Rattle.std.proofs.Common.{◌≡◌, inl, inr, ℕ, zero, suc, Bool, true, false, List, [], ◌∷◌, ◌++◌, Option, None, Some, refl, sym, ap, ◌∙◌, subst}
 use Rattle.std.specs.Prelude.{◌||◌, ◌&&◌, not}
 use Rattle.std.specs.List.{AllByRecursion, list_any}
 use Rattle.std.proofs.lemmas.List.{append-nil}
-use Rattle.atspi_forest.specs.declared.view.Row.{Row}
 use Rattle.atspi_forest.specs.Forest.{Forest, labels}
 use Rattle.atspi_forest.specs.Row.{TreeRow}
 use Rattle.atspi_forest.specs.View.{view}
 use Rattle.atspi_lines.specs.declared.line.Line.{Line}
 use Rattle.atspi_lines.specs.declared.line.Party.{Party}
 use Rattle.atspi_lines.specs.declared.line.Party.TheVariants.{Bus as The_bus, Registry, App, Reader}
-use Rattle.atspi_message.specs.Envelope.{Envelope}
 use Rattle.atspi_protocol.specs.exporting.Exporter.{Exporter}
 use Rattle.atspi_protocol.specs.following.Wishes.{unknown_parts}
 use Rattle.atspi_trace.specs.Entry.{Entry, quiet}
-use Rattle.atspi_trace.specs.World.{Standing, here, Role, an_application, a_reader, Holding, Hearer, End, World}
+use Rattle.atspi_trace.specs.World.{here, an_application, a_reader, Holding, Hearer, End, World}
 use Rattle.atspi_trace.specs.Ends.{same_party, number_of, end_at}
 use Rattle.atspi_trace.specs.Hearing.{holding_of}
 use Rattle.atspi_trace.specs.Causes.{told_in}
-use Rattle.atspi_trace.specs.Due.{first_entry, due, Scene, begins, at_work, after_all, IsFollowed, HoldsWell, Follows, FollowsAll, IsSettled, Stands, Goes}
+use Rattle.atspi_trace.specs.Due.{first_entry, due, Scene, begins, at_work, after_all, HoldsWell, Follows, FollowsAll, IsSettled, Stands, Goes}
 use Rattle.atspi_lawful.specs.laws.Words.{live_tree, messages, message, with_serial, as_of, Kept, held, starts_it, stops_it, is_live}
-use Rattle.atspi_lawful.specs.laws.NineLaws.{Everywhere, IsAsNow, KnowsAll, LawOfQuiet}
+use Rattle.atspi_lawful.specs.laws.NineLaws.{IsAsNow, KnowsAll, LawOfQuiet}
 use Rattle.atspi_lawful.specs.order.Scripts.{CanAllStand}
 use Rattle.atspi_lawful.proofs.OfOrder.Parties.{no_none, same_some, false_true}
 use Rattle.atspi_lawful.proofs.OfOrder.Shape.{RoleFits, Shape}
@@ -31,10 +29,10 @@ use Rattle.atspi_lawful.proofs.OfOrder.Told.{Tells}
 use Rattle.atspi_lawful.proofs.OfOrder.Acts.{IsActive}
 use Rattle.atspi_lawful.proofs.OfSerials.Serial.{messages_more}
 use Rattle.atspi_lawful.proofs.OfSteps.Trees.{tree_more}
-use Rattle.atspi_lawful.proofs.OfSteps.Steps.{TreeIs, Trees}
+use Rattle.atspi_lawful.proofs.OfSteps.Steps.{Trees}
 use Rattle.atspi_lawful.proofs.OfSteps.LawSteps.{Below, Stepped, steps_keep}
 use Rattle.atspi_lawful.proofs.OfTaken.Found.{front_more}
-use Rattle.atspi_lawful.proofs.OfHeld.Keeping.{held_more, SameHolding, SameKept, ReaderIs}
+use Rattle.atspi_lawful.proofs.OfHeld.Keeping.{held_more, SameKept, ReaderIs}
 use Rattle.atspi_lawful.proofs.OfHeld.LawHeld.{Below_held, Holds, holds_keep}
 use Rattle.atspi_lawful.proofs.OfLost.Alive.{registry_lives}
 use Rattle.atspi_lawful.proofs.OfLaws.One.{fronts, quiet_settled}

@@ -1,12 +1,10 @@
 -- The bus's own messages on their way are what the trace tells, as long as the registry lives.
-use Rattle.std.proofs.Common.{◌≡◌, ◌⊎◌, inl, inr, ℕ, zero, suc, ◌+◌, ◌<◌, ◌≤◌, Bool, true, false, List, [], ◌∷◌, ◌++◌, length, map, Option, None, Some, refl, sym, ap, ◌∙◌, subst, arith, length-append}
+use Rattle.std.proofs.Common.{◌≡◌, ◌⊎◌, inl, inr, ℕ, zero, suc, ◌+◌, ◌<◌, ◌≤◌, Bool, true, false, List, [], ◌∷◌, ◌++◌, length, map, Option, None, Some, refl, sym, ap, ◌∙◌, subst, arith}
 use Rattle.std.specs.Prelude.{◌==◌, ◌||◌, nat_le, not, filter, flat_map, if◌then◌else◌}
-use Rattle.std.specs.List.{AllByRecursion, cons_option, list_any}
-use Rattle.std.proofs.lemmas.Bool.{eq-eqb, eqb-true, ne_eqb, leb-true, leb-false}
-use Rattle.std.proofs.lemmas.List.{append-nil, append_assoc}
-use Rattle.atspi_lines.specs.declared.limits.TheConstants.{QUOTA_MOST}
+use Rattle.std.specs.List.{AllByRecursion, list_any}
+use Rattle.std.proofs.lemmas.Bool.{eq-eqb, ne_eqb, leb-true, leb-false}
 use Rattle.atspi_lines.specs.declared.line.Party.{Party}
-use Rattle.atspi_lines.specs.declared.line.Party.TheVariants.{Bus as The_bus, Registry, App, Reader}
+use Rattle.atspi_lines.specs.declared.line.Party.TheVariants.{Bus as The_bus, Registry}
 use Rattle.atspi_message.specs.Envelope.{Envelope}
 use Rattle.atspi_names.specs.Owners.{Owners, own_name, after_gone}
 use Rattle.atspi_match.specs.RuleIndex.{without_rules}
@@ -18,21 +16,21 @@ use Rattle.atspi_routing.specs.Members.{is_text}
 use Rattle.atspi_routing.specs.OwnMessages.{numbered}
 use Rattle.atspi_routing.specs.Queues.{without_queue, own_of}
 use Rattle.atspi_routing.specs.Routing.{receivers}
-use Rattle.atspi_routing.specs.Steps.{Move, says, delivers, closes, BusStep, handed, said, speaks, farewell, bus_takes, bus_leaves}
-use Rattle.atspi_trace.specs.Entry.{Entry, sent, dropped}
+use Rattle.atspi_routing.specs.Steps.{Move, says, delivers, closes, BusStep, handed, speaks, farewell, bus_takes, bus_leaves}
+use Rattle.atspi_trace.specs.Entry.{Entry}
 use Rattle.atspi_trace.specs.Rules.{rule_in}
-use Rattle.atspi_trace.specs.World.{Said, Letter, End, World}
-use Rattle.atspi_trace.specs.Ends.{same_party, party_at, end_at, with_end, put_down, taken_up, leaves}
+use Rattle.atspi_trace.specs.World.{Said, Letter, End}
+use Rattle.atspi_trace.specs.Ends.{same_party, party_at, with_end, put_down, taken_up, leaves}
 use Rattle.atspi_trace.specs.Carrying.{Carried, own_letter, letter_of, stepped, left, one_closed, settled, named, with_name, takes, takes_end, is_upto, dropped_if, sent_by_bus, bus_entries}
-use Rattle.atspi_lawful.specs.laws.Words.{messages, message, with_serial, stops_it, is_live}
-use Rattle.atspi_lawful.proofs.OfOrder.Parties.{no_none, same_some, same-party, party-same, false_true, all_append, all_front, all_back}
+use Rattle.atspi_lawful.specs.laws.Words.{messages, with_serial, stops_it}
+use Rattle.atspi_lawful.proofs.OfOrder.Parties.{same-party, false_true, all_append, all_front, all_back}
 use Rattle.atspi_lawful.proofs.OfOrder.Frame.{Over, IsOrder, over_same, over_both, over_with}
 use Rattle.atspi_lawful.proofs.OfOrder.Each.{all_map}
 use Rattle.atspi_lawful.proofs.OfSerials.Serial.{messages_more}
 use Rattle.atspi_lawful.proofs.OfLinks.Ups.{From}
 use Rattle.atspi_lawful.proofs.OfTaken.Handing.{HandsOn, stepped_put}
 use Rattle.atspi_lawful.proofs.OfOwn.Doing.{Doing, says_, hands_, closes_, doing_of}
-use Rattle.atspi_lawful.proofs.OfOwn.Counting.{is_quota, ClosingFine, from_append}
+use Rattle.atspi_lawful.proofs.OfOwn.Counting.{is_quota, ClosingFine}
 use Rattle.atspi_lawful.proofs.OfOwn.Writing.{IsFirst}
 use Rattle.atspi_lawful.proofs.OfDelivered.Bounds.{NoneIsBus}
 

@@ -1,13 +1,12 @@
 -- What became of a reader's own calls is what the trace tells, as long as the registry lives.
-use Rattle.std.proofs.Common.{◌≡◌, ◌⊎◌, inl, inr, ℕ, zero, suc, ◌+◌, ◌≤◌, Bool, true, false, List, [], ◌∷◌, ◌++◌, length, map, Option, None, Some, refl, sym, ap, ap₂, ◌∙◌, subst, arith, is_some}
-use Rattle.std.specs.Prelude.{◌==◌, ◌||◌, ◌&&◌, filter_map, nat_lt, if◌then◌else◌}
+use Rattle.std.proofs.Common.{◌≡◌, ◌⊎◌, inl, inr, ℕ, zero, suc, ◌+◌, ◌≤◌, Bool, true, false, List, [], ◌∷◌, ◌++◌, length, map, Option, None, Some, refl, sym, ap, ap₂, ◌∙◌, subst, arith}
+use Rattle.std.specs.Prelude.{◌==◌, ◌||◌, ◌&&◌, filter_map, if◌then◌else◌}
 use Rattle.std.specs.List.{AllByRecursion, cons_option, list_any}
-use Rattle.std.proofs.lemmas.Bool.{eq-eqb, ltb-false}
-use Rattle.std.proofs.lemmas.List.{append-nil, append_assoc}
+use Rattle.std.proofs.lemmas.List.{append-nil}
 use lib.Utf8.{encode}
 use Rattle.atspi_lines.specs.declared.limits.TheConstants.{QUOTA_MOST}
 use Rattle.atspi_lines.specs.declared.line.Party.{Party}
-use Rattle.atspi_lines.specs.declared.line.Party.TheVariants.{Bus as The_bus, Registry, App, Reader}
+use Rattle.atspi_lines.specs.declared.line.Party.TheVariants.{Bus as The_bus, Reader}
 use Rattle.atspi_message.specs.Envelope.{Envelope}
 use Rattle.atspi_routing.specs.Routing.{is_reply}
 use Rattle.atspi_protocol.specs.registering.Steps.{RegistryStep, registry_takes}
@@ -18,17 +17,16 @@ use Rattle.atspi_protocol.specs.following.Replied.{is_reply_to}
 use Rattle.atspi_protocol.specs.declared.following.question.Question.{Question}
 use Rattle.atspi_protocol.specs.declared.following.question.Question.TheVariants.{Hello}
 use Rattle.atspi_trace.specs.Entry.{Entry, started, sent, got}
-use Rattle.atspi_trace.specs.World.{Fate, waits, returned, failed, Asked, Role, the_registry, an_application, a_reader, Hearer, Said, Letter, first_registry, first_world, End, World}
-use Rattle.atspi_trace.specs.Ends.{same_party, is_reader, number_of, party_at, end_at, with_end, put_down, taken_up, taken_down, stops, leaves, reader_count}
-use Rattle.atspi_trace.specs.Carrying as carrying
+use Rattle.atspi_trace.specs.World.{Fate, waits, returned, failed, Asked, Role, the_registry, an_application, a_reader, Hearer, Letter, first_registry, first_world, End, World}
+use Rattle.atspi_trace.specs.Ends.{same_party, is_reader, number_of, end_at, with_end, put_down, taken_up, taken_down, stops, leaves, reader_count}
 use Rattle.atspi_trace.specs.Carrying.{own_letter, letter_of, named}
 use Rattle.atspi_trace.specs.Hearing.{fate_of, answered_by, question_in, hears_letter, heard_entries}
 use Rattle.atspi_trace.specs.Causes.{Done, at_end, has_done, asks, reader_sends, first_hearer, registry_did, reader_starts}
 use Rattle.atspi_trace.specs.Due.{asks_as, asks_at}
-use Rattle.atspi_lawful.specs.laws.Words.{messages, message, with_serial, taken_as, taken, own_call, is_answered, is_returned}
+use Rattle.atspi_lawful.specs.laws.Words.{messages, message, with_serial, taken_as, taken, is_answered, is_returned}
 use Rattle.atspi_lawful.proofs.OfOrder.Parties.{no_none, same_some, false_true, party-same, all_append}
 use Rattle.atspi_lawful.proofs.OfOrder.Allowed.{MovedUp, MovedDown, Asks}
-use Rattle.atspi_lawful.proofs.OfOrder.Frame.{Over, IsOrder, over_same, over_both, over_with, takes_over, ends_over, joined_cases, with_cases}
+use Rattle.atspi_lawful.proofs.OfOrder.Frame.{Over, over_same, over_both, over_with, takes_over, ends_over, joined_cases, with_cases}
 use Rattle.atspi_lawful.proofs.OfOrder.Shape.{Shape}
 use Rattle.atspi_lawful.proofs.OfOrder.Effects.{received, ReaderCalls, ReaderTakes, Effect, resets, app_joins, reader_joins, app_edited, app_took, reader_called, swapped, exited_, showed_, told_busy, told_quiet, bus_took, bus_ended, registry_took, reader_took}
 use Rattle.atspi_lawful.proofs.OfOrder.Shaped.{received_at, new_app, new_reader, app_joined}
@@ -43,8 +41,8 @@ use Rattle.atspi_lawful.proofs.OfTaken.Said as told
 use Rattle.atspi_lawful.proofs.OfTaken.LawTaken.{Known, not_sent_at}
 use Rattle.atspi_lawful.proofs.OfHeld.LawHeld.{SameReader, same_reader, Below_held, Holds, holds_keep}
 use Rattle.atspi_lawful.proofs.OfOwn.Writing.{Lives, lived}
-use Rattle.atspi_lawful.proofs.OfReaders.BusSaid.{OwnIs, OwnAre}
-use Rattle.atspi_lawful.proofs.OfReaders.TellsBus.{Told, Speaks_true, Below_told, told_keeps}
+use Rattle.atspi_lawful.proofs.OfReaders.BusSaid.{OwnIs}
+use Rattle.atspi_lawful.proofs.OfReaders.TellsBus.{Speaks_true, Below_told, told_keeps}
 
 -- WHAT A PARTY TOOK
 or_true : (a b : Bool) → b ≡ true → (a || b) ≡ true

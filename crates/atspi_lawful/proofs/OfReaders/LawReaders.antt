@@ -1,9 +1,8 @@
 -- The law of readers, along a lawful trace.
-use Rattle.std.proofs.Common.{◌≡◌, ◌⊎◌, inl, inr, ℕ, zero, suc, ◌+◌, ◌<◌, ◌≤◌, Bool, true, false, List, [], ◌∷◌, ◌++◌, length, map, Option, None, Some, refl, sym, ap, ap₂, ◌∙◌, subst, arith, is_some}
-use Rattle.std.specs.Prelude.{◌==◌, ◌||◌, ◌&&◌, bytes_eq, if◌then◌else◌}
-use Rattle.std.specs.List.{AllByRecursion, cons_option, list_any, list_all}
+use Rattle.std.proofs.Common.{◌≡◌, ℕ, ◌<◌, ◌≤◌, Bool, true, false, List, [], ◌∷◌, ◌++◌, length, map, Option, None, Some, refl, sym, ap, ◌∙◌, subst, arith, is_some}
+use Rattle.std.specs.Prelude.{◌==◌, ◌||◌, ◌&&◌, if◌then◌else◌}
+use Rattle.std.specs.List.{AllByRecursion, list_any, list_all}
 use Rattle.std.proofs.lemmas.Bool.{eqb-true}
-use Rattle.std.proofs.lemmas.List.{append-nil}
 use Rattle.std.proofs.lemmas.Slice.Eq.{bytes_eq-Decides}
 use Rattle.atspi_lines.specs.declared.line.Line.{Line}
 use Rattle.atspi_lines.specs.declared.line.Party.{Party}
@@ -15,24 +14,23 @@ use Rattle.atspi_protocol.specs.registering.Steps.{registry_takes}
 use Rattle.atspi_protocol.specs.exporting.Exporter.{Happening, steps, sends, hears, deaf, begins as begins_app}
 use Rattle.atspi_protocol.specs.exporting.Starting.{starts}
 use Rattle.atspi_protocol.specs.exporting.Taking.{app_takes}
-use Rattle.atspi_protocol.specs.following.Calls.{asking}
 use Rattle.atspi_protocol.specs.following.Replied.{is_reply_to}
 use Rattle.atspi_protocol.specs.following.ReaderState.{start_calls}
 use Rattle.atspi_protocol.specs.declared.following.question.Question.{Question}
 use Rattle.atspi_protocol.specs.declared.following.question.Question.TheVariants.{Hello, AddMatch, RegisterEvent, GetChildren, GetItems, GetPart}
 use Rattle.atspi_types.specs.Names.{is_bus_name}
-use Rattle.atspi_trace.specs.Entry.{Entry, started, changed, sent, got, heard, unheard, spoke, gone, dropped}
+use Rattle.atspi_trace.specs.Entry.{Entry, started, sent, got, spoke, dropped}
 use Rattle.atspi_trace.specs.World.{Fate, waits, returned, failed, Asked, Role, the_registry, an_application, a_reader, Hearer, Letter, End, World, newcomer}
-use Rattle.atspi_trace.specs.Ends.{same_party, number_of, party_at, end_at, taken_down, app_count, reader_count, put_up}
+use Rattle.atspi_trace.specs.Ends.{number_of, party_at, end_at, taken_down, app_count, reader_count, put_up}
 use Rattle.atspi_trace.specs.Carrying as carrying
 use Rattle.atspi_trace.specs.Carrying.{bus_entries}
 use Rattle.atspi_trace.specs.Hearing.{is_answered as has_answer, patterns_in, registers, is_registered, may_ask, question_in, holding_of, app_ended, lines_if_held, last_lines, ended_entries, hears_letter, heard_entries}
 use Rattle.atspi_trace.specs.Causes.{Cause, renews, starts_app, starts_reader, edits, calls, swaps_face, exits, shows, tells_busy, tells_quiet, routes, unjoins, gets, Done, does, took, did, has_done, registry_did, reader_starts}
-use Rattle.atspi_trace.specs.Due.{freed, asks_at, begins, Goes}
-use Rattle.atspi_lawful.specs.laws.Words.{messages, message, with_serial, taken, question_if, own_call, is_answered, is_returned}
-use Rattle.atspi_lawful.specs.laws.NineLaws.{Everywhere, IsBetween, StandsBehindGot, IsRegistered, WantsRegistrations, IsFreeCall, IsAllowedCall, LawOfReaders}
+use Rattle.atspi_trace.specs.Due.{freed, begins, Goes}
+use Rattle.atspi_lawful.specs.laws.Words.{messages, with_serial, taken, question_if, own_call, is_answered, is_returned}
+use Rattle.atspi_lawful.specs.laws.NineLaws.{IsBetween, StandsBehindGot, IsRegistered, WantsRegistrations, IsFreeCall, IsAllowedCall, LawOfReaders}
 use Rattle.atspi_lawful.specs.order.Scripts.{CanAllStand}
-use Rattle.atspi_lawful.proofs.OfOrder.Parties.{no_none, same_some, false_true, party-same}
+use Rattle.atspi_lawful.proofs.OfOrder.Parties.{no_none, same_some, false_true}
 use Rattle.atspi_lawful.proofs.OfOrder.BusWords.{all_any, bus_all}
 use Rattle.atspi_lawful.proofs.OfOrder.Plain.{user_plain}
 use Rattle.atspi_lawful.proofs.OfOrder.Allowed.{Allowed, Asks}
@@ -41,7 +39,7 @@ use Rattle.atspi_lawful.proofs.OfOrder.Shape.{RoleFits, Shape}
 use Rattle.atspi_lawful.proofs.OfOrder.Effects.{received, reader_role, take_is, Effect, effect, resets, app_joins, reader_joins, app_edited, app_took, reader_called, swapped, exited_, showed_, told_busy, told_quiet, bus_took, bus_ended, registry_took, reader_took}
 use Rattle.atspi_lawful.proofs.OfOrder.Shaped.{received_at}
 use Rattle.atspi_lawful.proofs.OfOrder.Along.{Keeps, kept}
-use Rattle.atspi_lawful.proofs.OfOrder.Growing.{Grows, Shaped, And}
+use Rattle.atspi_lawful.proofs.OfOrder.Growing.{Shaped, And}
 use Rattle.atspi_lawful.proofs.OfOrder.Each.{Each, everywhere, each_more, each_of}
 use Rattle.atspi_lawful.proofs.OfSerials.Serial.{messages_more}
 use Rattle.atspi_lawful.proofs.OfSerials.Numbers.{Numbered}
@@ -51,7 +49,7 @@ use Rattle.atspi_lawful.proofs.OfHeld.Keeping.{ReaderIs}
 use Rattle.atspi_lawful.proofs.OfHeld.LawHeld.{Holds}
 use Rattle.atspi_lawful.proofs.OfOwn.Writing.{Lives}
 use Rattle.atspi_lawful.proofs.OfLost.Alive.{registry_lives}
-use Rattle.atspi_lawful.proofs.OfReaders.Fates.{FateOf, FateIs, FatesAre, Fated, hello_read, Holding_told, fated_keeps}
+use Rattle.atspi_lawful.proofs.OfReaders.Fates.{FateOf, FateIs, Fated, hello_read, Holding_told, fated_keeps}
 
 -- AN OWN CALL THAT WAS ANSWERED
 -- a return answers

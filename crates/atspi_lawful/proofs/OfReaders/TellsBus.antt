@@ -8,7 +8,6 @@ use Rattle.atspi_lines.specs.declared.limits.TheConstants.{QUOTA_MOST}
 use Rattle.atspi_lines.specs.declared.line.Party.{Party}
 use Rattle.atspi_lines.specs.declared.line.Party.TheVariants.{Bus as The_bus, Registry, App, Reader}
 use Rattle.atspi_message.specs.Envelope.{Envelope}
-use Rattle.atspi_routing.specs.declared.closing.Closing.{Closing}
 use Rattle.atspi_protocol.specs.registering.Steps.{registry_takes}
 use Rattle.atspi_protocol.specs.exporting.Exporter.{Happening, steps, sends, hears, deaf, begins as begins_app}
 use Rattle.atspi_protocol.specs.exporting.Starting.{starts}
@@ -23,10 +22,10 @@ use Rattle.atspi_trace.specs.Carrying.{Carried, bus_entries}
 use Rattle.atspi_trace.specs.Hearing.{hears_letter}
 use Rattle.atspi_trace.specs.Causes.{Done, at_end, did, has_done, reader_sends, registry_did}
 use Rattle.atspi_trace.specs.Due.{asks_as, asks_at}
-use Rattle.atspi_lawful.specs.laws.Words.{messages, message, with_serial, stops_it, is_live}
+use Rattle.atspi_lawful.specs.laws.Words.{messages, with_serial, stops_it}
 use Rattle.atspi_lawful.proofs.OfOrder.Parties.{no_none, same_some, false_true, all_back}
 use Rattle.atspi_lawful.proofs.OfOrder.Allowed.{MovedUp, MovedDown}
-use Rattle.atspi_lawful.proofs.OfOrder.Frame.{Over, IsOrder, over_same, over_both, over_with, joined_cases}
+use Rattle.atspi_lawful.proofs.OfOrder.Frame.{Over, over_same, over_both, over_with, joined_cases}
 use Rattle.atspi_lawful.proofs.OfOrder.Shape.{Shape}
 use Rattle.atspi_lawful.proofs.OfOrder.Effects.{received, BusTakes, BusEnds, Effect, resets, app_joins, reader_joins, app_edited, app_took, reader_called, swapped, exited_, showed_, told_busy, told_quiet, bus_took, bus_ended, registry_took, reader_took}
 use Rattle.atspi_lawful.proofs.OfOrder.Shaped.{new_app, new_reader, app_joined}
@@ -38,7 +37,7 @@ use Rattle.atspi_lawful.proofs.OfSerials.Serial.{messages_more}
 use Rattle.atspi_lawful.proofs.OfLinks.Ups.{From}
 use Rattle.atspi_lawful.proofs.OfLinks.LawLinks.{no_bus}
 use Rattle.atspi_lawful.proofs.OfHeard.Quiet.{heard_all}
-use Rattle.atspi_lawful.proofs.OfOwn.Counting.{ClosingFine, Counted, Regular, from_append, takes_counted, ends_counted, takes_regular, ends_regular}
+use Rattle.atspi_lawful.proofs.OfOwn.Counting.{Counted, Regular, from_append, takes_counted, ends_counted, takes_regular, ends_regular}
 use Rattle.atspi_lawful.proofs.OfOwn.Writing.{Lives, lived, next_own, IsFirst}
 use Rattle.atspi_lawful.proofs.OfOwn.LawOwn.{State, Owned}
 use Rattle.atspi_lawful.proofs.OfDelivered.LawLinks.{Under_links, Delivered, delivered_keeps}

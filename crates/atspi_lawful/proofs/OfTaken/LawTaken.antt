@@ -25,7 +25,7 @@ use Rattle.atspi_trace.specs.Ends.{same_party, number_of, whose, party_at, end_a
 use Rattle.atspi_trace.specs.Carrying as carrying
 use Rattle.atspi_trace.specs.Carrying.{own_letter, named, bus_entries}
 use Rattle.atspi_trace.specs.Hearing.{hears_letter}
-use Rattle.atspi_trace.specs.Causes.{Done, at_end, did, saids, has_done, reader_sends, registry_did, app_starts, reader_starts, asks}
+use Rattle.atspi_trace.specs.Causes.{Done, at_end, did, saids, has_done, reader_sends, registry_did, app_starts, reader_starts}
 use Rattle.atspi_trace.specs.Due.{asks_as, asks_at, begins, Goes}
 use Rattle.atspi_lawful.specs.laws.Words.{message, messages, with_serial}
 use Rattle.atspi_lawful.specs.laws.NineLaws.{Everywhere, sent_before}

@@ -24,7 +24,7 @@ use Rattle.atspi_trace.specs.Ends.{is_here, same_party, number_of, end_at, with_
 use Rattle.atspi_trace.specs.Carrying as carrying
 use Rattle.atspi_trace.specs.Carrying.{Carried, own_letter, letter_of, stepped, named, with_name, takes, bus_entries}
 use Rattle.atspi_trace.specs.Hearing.{hears_letter}
-use Rattle.atspi_trace.specs.Causes.{Done, at_end, has_done, reader_sends, registry_did, asks}
+use Rattle.atspi_trace.specs.Causes.{Done, at_end, has_done, reader_sends, registry_did}
 use Rattle.atspi_trace.specs.Due.{asks_as, asks_at, begins, Goes}
 use Rattle.atspi_lawful.specs.laws.NineLaws.{Everywhere, count_got_by_bus}
 use Rattle.atspi_lawful.specs.order.Scripts.{CanAllStand}

@@ -1,4 +1,4 @@
-use Rattle.std.proofs.Common.{refl, sym, ap}
+use Rattle.std.proofs.Common.{refl, ap}
 use Rattle.std.specs.Prelude.{◌==◌}
 use Rattle.atspi_lawful.proofs.OfOrder.Parties.{false_true}
 use Rattle.atspi_lawful.proofs.caches.examples.what_is_missed.Goals as goal
