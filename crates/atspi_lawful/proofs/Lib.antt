@@ -16,5 +16,6 @@ pub mod OfCaches
 pub mod OfQuiet
 pub mod OfDrops
 pub mod OfReaders
+pub mod OfNames
 pub mod OfLaws
 pub mod OfExamples

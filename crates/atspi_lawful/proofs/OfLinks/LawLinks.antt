@@ -33,7 +33,7 @@ abbrev pub NotTaken : Entry → Type 0
 NotTaken (got The_bus who serial) = ⊥
 NotTaken entry = Unit {0}
 
-none_taken : (who : Party) (ys : List Entry) → AllByRecursion NotTaken ys → count_got_by_bus ys who ≡ 0
+pub none_taken : (who : Party) (ys : List Entry) → AllByRecursion NotTaken ys → count_got_by_bus ys who ≡ 0
 none_taken who [] a = refl
 none_taken who (got The_bus other serial ∷ ys) a = absurd a.0
 none_taken who (got Registry other serial ∷ ys) a = none_taken who ys a.1
@@ -45,7 +45,7 @@ abbrev add : Bool → ℕ → ℕ
 add true n = suc n
 add false n = n
 
-count_more : (es ys : List Entry) (who : Party) → count_got_by_bus (es ++ ys) who ≡ count_got_by_bus es who + count_got_by_bus ys who
+pub count_more : (es ys : List Entry) (who : Party) → count_got_by_bus (es ++ ys) who ≡ count_got_by_bus es who + count_got_by_bus ys who
 count_more [] ys who = omega arith
 count_more (x ∷ es) ys who = by (is_got_by_bus who x) (count_more es ys who)
   where
@@ -200,7 +200,7 @@ module _ (es : List Entry) (w : World) (d : Done) (s : Shape w) (numbers : Numbe
   free : AllByRecursion NotTaken words
   free = bus_free carried.ends carried.bus.own carried.bus.closings
 
-  counted : (p : Party) (t : Bool) → same_party b.e.who p ≡ t → count_got_by_bus ys p ≡ add t 0
+  pub counted : (p : Party) (t : Bool) → same_party b.e.who p ≡ t → count_got_by_bus ys p ≡ add t 0
   counted p t h = ap (λ c. add c (count_got_by_bus words p)) h ∙ ap (add t) (none_taken p words free)
 
   taken_law : Each IsTakenInOrder [] (es ++ ys)

@@ -174,7 +174,7 @@ standing_on = record {
   both = λ e d c f g. record { whose = g.whose ∙ f.whose; on = λ h. g.on (f.on h) };
 }
 
-forward : (R : End → End → Type 0) (a b : List End) (k : ℕ) (e : End) → Over R a b → end_at a k ≡ Some e → (d : End) × (end_at b k ≡ Some d) × R e d
+pub forward : (R : End → End → Type 0) (a b : List End) (k : ℕ) (e : End) → Over R a b → end_at a k ≡ Some e → (d : End) × (end_at b k ≡ Some d) × R e d
 forward R a b k e o h =
     let below : k < length b = subst (λ n. k < n) (sym o.size) (at_below a k e h) in
     let at : end_at b k ≡ Some (get_or b k e) = slice_get-get_or b k e below in
@@ -225,7 +225,7 @@ still_greeted w v i o owners due = record {
 abbrev GoneAt : List End → Closing → Type 0
 GoneAt ends c = (d : End) → end_at ends c.conn ≡ Some d → is_here d.standing ≡ false
 
-closed_gone : (ends : List End) (k : ℕ) (cs : List Closing) → AllByRecursion (GoneAt ends) cs → list_any (is_of k) cs ≡ true → (d : End) → end_at ends k ≡ Some d → is_here d.standing ≡ false
+pub closed_gone : (ends : List End) (k : ℕ) (cs : List Closing) → AllByRecursion (GoneAt ends) cs → list_any (is_of k) cs ≡ true → (d : End) → end_at ends k ≡ Some d → is_here d.standing ≡ false
 closed_gone ends k [] a h d at = absurd (false_true h)
 closed_gone ends k (c ∷ cs) a h d at = by (c.conn == k) refl h (λ s. closed_gone ends k cs a.1 s d at)
   where
