@@ -5,7 +5,7 @@ use Rattle.atspi_host.specs.declared.call.Did.{Did}
 use Rattle.atspi_host.specs.declared.call.Call.{Call}
 use Rattle.atspi_host.specs.declared.call.Call.TheVariants.{Read, Write}
 use Rattle.atspi_host.specs.Calls.{Adds, front, takes, gives, taken, given}
-use Rattle.atspi_conversation.specs.Moved.{answer_of_read, reads, GoesOn, AllGoOn, Tells, Gives}
+use Rattle.atspi_conversation.specs.Moved.{answer_of_read, reads, GoesOn, AllGoOn, Grows, Tells, Gives}
 
 pub taken_append : (k : ℕ) (cs ds : List Call) → taken k (cs ++ ds) ≡ taken k cs ++ taken k ds
 taken_append k [] ds = refl
@@ -75,3 +75,20 @@ gives_tells k (Some cs) (Some ds) part t g dids a p = (a.0 ∙ p.0, a.1 ∙ ap (
 pub go_on_more : (dids : List Did) (did : Did) → AllGoOn dids → GoesOn did → AllGoOn (dids ++ did ∷ [])
 go_on_more [] did a g = (g, tt)
 go_on_more (d ∷ dids) did a g = (a.0, go_on_more dids did a.1 g)
+
+-- what was taken grows
+pub read_grows : (k : ℕ) (old new : Option (List Call)) (bytes : List ℕ) (did : Did) → Adds old new (Read k bytes did) → Grows k old new
+read_grows k old None bytes did a = tt
+read_grows k None (Some ds) bytes did a = absurd a
+read_grows k (Some cs) (Some ds) bytes did a = rw a (takes k (Read k bytes did), sym (taken_more k cs (Read k bytes did)))
+
+pub gives_grows : (k : ℕ) (old new : Option (List Call)) (part : List ℕ) → Gives k old new part → Grows k old new
+gives_grows k old None part g = tt
+gives_grows k None (Some ds) part g = absurd g
+gives_grows k (Some cs) (Some ds) part g = ([], append-nil (taken k cs) ∙ sym g.0)
+
+pub grows_both : (k : ℕ) (old mid new : Option (List Call)) → Grows k old mid → Grows k mid new → Grows k old new
+grows_both k old mid None a b = tt
+grows_both k old None (Some ds) a b = absurd b
+grows_both k None (Some cs) (Some ds) a b = absurd a
+grows_both k (Some bs) (Some cs) (Some ds) a b = (a.0 ++ b.0, sym (append_assoc (taken k bs) a.0 b.0) ∙ ap (λ (w : List ℕ). w ++ b.0) a.1 ∙ b.1)

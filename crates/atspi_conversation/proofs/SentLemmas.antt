@@ -2,6 +2,7 @@
 use Rattle.std.proofs.Common.{◌≡◌, ℕ, ◌<◌, Option, List, [], ◌∷◌, ◌++◌, length, refl, sym, ap, subst, ◌∙◌, inl, inr, append_assoc, append-nil, arith}
 use Rattle.std.proofs.lemmas.List.{length-append}
 use Rattle.atspi_message.specs.Envelope.{Envelope}
+use Rattle.atspi_message.specs.Rules.{MeetsRules}
 use Rattle.atspi_message.specs.Bytes.{IsMessage, written}
 use Rattle.atspi_stream.specs.Stream.{IsParted, AreMessages}
 use Rattle.atspi_stream.specs.Stream as stream
@@ -10,7 +11,7 @@ use Rattle.atspi_stream.proofs.StreamLaws.{message_states}
 use Rattle.atspi_conversation.specs.Sent.{IsSent, AreSent, AllMeet}
 use Rattle.atspi_conversation.specs.Speech.{envelopes}
 use Rattle.atspi_types.specs.declared.fault.Fault.{Fault}
-use Rattle.atspi_conversation.specs.Talking.{Takes, HandsOut, MaySpeak, Says, Attends, AttendsAll, AttendsToSpent, EndsIn}
+use Rattle.atspi_conversation.specs.Talking.{Takes, HandsOut, Rests, MaySpeak, Says, Attends, AttendsAll, AttendsToSpent, EndsIn}
 
 -- the bytes of messages behind those of others
 pub sent_more : (es fs : List Envelope) (bs cs : List ℕ) → AreSent es bs → AreSent fs cs → AreSent (es ++ fs) (bs ++ cs)
@@ -50,11 +51,26 @@ says_more Stands old mid new u v w e s h p =
       handed = λ took said q. subst (λ (x : List Envelope). Stands new took x) (append_assoc said s.messages (e ∷ [])) (h took (said ++ s.messages) (s.handed took said q));
     }
 
-pub may_hand_out : {E : Type 0} (Stands : E → List Envelope → List Envelope → Type 0) (old new : E) (e : Envelope) → MaySpeak Stands old → HandsOut Stands old new e → MaySpeak Stands new
-may_hand_out Stands old new e m h = record { took = m.took; said = m.said ++ e ∷ []; stands = h m.took m.said m.stands; meet = m.meet }
+pub says_rests : {E : Type 0} (Stands : E → List Envelope → List Envelope → Type 0) (old mid new : E) (u v w : List ℕ) → Says Stands old mid u v → Rests Stands mid new → w ≡ v → Says Stands old new u w
+says_rests Stands old mid new u v w s r e = record {
+  messages = s.messages;
+  sent = s.sent;
+  spelled = s.spelled;
+  behind = e ∙ s.behind;
+  handed = λ took said q. r took (said ++ s.messages) (s.handed took said q);
+}
 
-pub may_say : {E : Type 0} (Stands : E → List Envelope → List Envelope → Type 0) (old new : E) (u v : List ℕ) → MaySpeak Stands old → Says Stands old new u v → MaySpeak Stands new
-may_say Stands old new u v m s = record { took = m.took; said = m.said ++ s.messages; stands = s.handed m.took m.said m.stands; meet = m.meet }
+pub may_hand_out : {E : Type 0} (Stands : List ℕ → E → List Envelope → List Envelope → Type 0) (old new : E) (e : List ℕ → Envelope) → MaySpeak Stands old
+    → ((aside : List ℕ) → HandsOut (Stands aside) old new (e aside)) → MaySpeak Stands new
+may_hand_out Stands old new e m h = record { aside = m.aside; took = m.took; said = m.said ++ e m.aside ∷ []; stands = h m.aside m.took m.said m.stands; meet = m.meet }
+
+pub may_rest : {E : Type 0} (Stands : List ℕ → E → List Envelope → List Envelope → Type 0) (old new : E) → MaySpeak Stands old → ((aside : List ℕ) → Rests (Stands aside) old new) → MaySpeak Stands new
+may_rest Stands old new m r = record { aside = m.aside; took = m.took; said = m.said; stands = r m.aside m.took m.said m.stands; meet = m.meet }
+
+pub may_say : {E : Type 0} (Stands : List ℕ → E → List Envelope → List Envelope → Type 0) (old new : E) (u v : List ℕ) → MaySpeak Stands old → ((aside : List ℕ) → Says (Stands aside) old new u v) → MaySpeak Stands new
+may_say Stands old new u v m h =
+    let s = h m.aside in
+    record { aside = m.aside; took = m.took; said = m.said ++ s.messages; stands = s.handed m.took m.said m.stands; meet = m.meet }
 
 -- messages of a stream meet the rules
 pub all_meet : (ms : List (Envelope × List ℕ)) → AreMessages ms → AllMeet (envelopes ms)
@@ -65,13 +81,25 @@ pub meet_both : (es fs : List Envelope) → AllMeet es → AllMeet fs → AllMee
 meet_both [] fs a b = b
 meet_both (e ∷ es) fs a b = (a.0, meet_both es fs a.1 b)
 
-pub may_attend : {E : Type 0} (Stands : E → List Envelope → List Envelope → Type 0) (held held' : List ℕ) (old new : E) → MaySpeak Stands old → Attends Stands held held' old new → MaySpeak Stands new
-may_attend Stands held held' old new m a = record {
-  took = m.took ++ envelopes a.messages;
+pub may_take : {E : Type 0} (Stands : List ℕ → E → List Envelope → List Envelope → Type 0) (old new : E) (e : Envelope) → MaySpeak Stands old → ((aside : List ℕ) → Takes (Stands aside) old new e) → MeetsRules e → MaySpeak Stands new
+may_take Stands old new e m t meets = record {
+  aside = m.aside;
+  took = m.took ++ e ∷ [];
   said = m.said;
-  stands = a.took m.took m.said m.stands;
-  meet = meet_both m.took (envelopes a.messages) m.meet (all_meet a.messages a.parted.are);
+  stands = t m.aside m.took m.said m.stands;
+  meet = meet_both m.took (e ∷ []) m.meet (meets, tt);
 }
+
+pub may_attend : {E : Type 0} (Stands : List ℕ → E → List Envelope → List Envelope → Type 0) (held held' : List ℕ) (old new : E) → MaySpeak Stands old → ((aside : List ℕ) → Attends (Stands aside) held held' old new) → MaySpeak Stands new
+may_attend Stands held held' old new m h =
+    let a = h m.aside in
+    record {
+      aside = m.aside;
+      took = m.took ++ envelopes a.messages;
+      said = m.said;
+      stands = a.took m.took m.said m.stands;
+      meet = meet_both m.took (envelopes a.messages) m.meet (all_meet a.messages a.parted.are);
+    }
 
 pub envelopes_both : (ms ns : List (Envelope × List ℕ)) → envelopes (ms ++ ns) ≡ envelopes ms ++ envelopes ns
 envelopes_both [] ns = refl

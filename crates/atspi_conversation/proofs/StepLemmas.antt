@@ -215,8 +215,8 @@ at_first Stands k calls c end tells client feeder unsent heard stands = record {
   at_ease = begins Stands c end client feeder unsent heard stands;
 }
 
-pub may_begin : {E : Type 0} (Stands : E → List Envelope → List Envelope → Type 0) (end : E) → Stands end [] [] → MaySpeak Stands end
-may_begin Stands end stands = record { took = []; said = []; stands = stands; meet = tt }
+pub may_begin : {E : Type 0} (Stands : List ℕ → E → List Envelope → List Envelope → Type 0) (aside : List ℕ) (end : E) → Stands aside end [] [] → MaySpeak Stands end
+may_begin Stands aside end stands = record { aside = aside; took = []; said = []; stands = stands; meet = tt }
 
 -- behind the last round
 pub all_done : {E : Type 0} (Stands : E → List Envelope → List Envelope → Type 0) (IsSpent : E → Envelope → Type 0) (k n rounds : ℕ) (calls : Option (List Call)) (c : Conversation) (end : E)
@@ -238,8 +238,8 @@ all_done Stands IsSpent k n rounds calls c end e w = by calls w.tells
 pub hears_own : (ending : Ending) (client : Standing) (piece : List ℕ) → HearsNot ending client piece → IsOwn ending
 hears_own endings.NotAuthenticated client piece h = tt
 hears_own endings.NoMemory client piece h = tt
-hears_own endings.RoundsDone client piece h = tt
-hears_own endings.PeerEnded client piece h = tt
+hears_own endings.RoundsDone client piece h = h
+hears_own endings.PeerEnded client piece h = h
 hears_own endings.HostFailed client piece h = h
 hears_own (endings.Malformed start fault) client piece h = tt
 hears_own endings.Spent client piece h = tt
@@ -247,8 +247,8 @@ hears_own endings.Spent client piece h = tt
 pub tells_own : {E : Type 0} (Stands : E → List Envelope → List Envelope → Type 0) (IsSpent : E → Envelope → Type 0) (ending : Ending) (c : Conversation) (end : E) → TellsNot Stands IsSpent ending c end → IsOwn ending
 tells_own Stands IsSpent endings.NotAuthenticated c end h = tt
 tells_own Stands IsSpent endings.NoMemory c end h = tt
-tells_own Stands IsSpent endings.RoundsDone c end h = tt
-tells_own Stands IsSpent endings.PeerEnded c end h = tt
+tells_own Stands IsSpent endings.RoundsDone c end h = h
+tells_own Stands IsSpent endings.PeerEnded c end h = h
 tells_own Stands IsSpent endings.HostFailed c end h = h
 tells_own Stands IsSpent (endings.Malformed start fault) c end h = tt
 tells_own Stands IsSpent endings.Spent c end h = tt
@@ -256,8 +256,8 @@ tells_own Stands IsSpent endings.Spent c end h = tt
 own_blames : (ending : Ending) (before after : ℕ) → IsOwn ending → after ≡ before → Blames ending before after
 own_blames endings.NotAuthenticated before after h e = e
 own_blames endings.NoMemory before after h e = e
-own_blames endings.RoundsDone before after h e = e
-own_blames endings.PeerEnded before after h e = e
+own_blames endings.RoundsDone before after h e = absurd h
+own_blames endings.PeerEnded before after h e = absurd h
 own_blames endings.HostFailed before after h e = absurd h
 own_blames (endings.Malformed start fault) before after h e = e
 own_blames endings.Spent before after h e = e
@@ -265,3 +265,7 @@ own_blames endings.Spent before after h e = e
 pub cause_of : {T : Type 0} (r : Result T Ending) (before after : ℕ) → IfErr r IsOwn → after ≡ before → MatchResult r (λ _. after ≡ before) (λ ending. Blames ending before after)
 cause_of (Ok x) before after h e = e
 cause_of (Err x) before after h e = own_blames x before after h e
+
+-- an ending that is not the peer's
+pub not_ended : {T : Type 0} (r : Result T Ending) → IfErr r IsOwn → r ≡ Err endings.PeerEnded → ⊥
+not_ended r o e = rw e at o

@@ -90,6 +90,12 @@ parted_more t piece p held held' ms e h q =
     subst (λ (w : List ℕ). IsParted w ms held') (ap (λ (w : List ℕ). behind client_start t ++ w) e ∙ sym (behind-append client_start t piece))
     (takes_piece held p held' h (behind client_start t) ms q)
 
+-- messages at the front stay there where more bytes come
+pub parted_later : (t piece held : List ℕ) (ms : List (Envelope × List ℕ)) → IsParted (behind client_start t) ms held → (held' : List ℕ) × IsParted (behind client_start (t ++ piece)) ms held'
+parted_later t piece held ms q =
+    let p : List ℕ = behind (after client_start t) piece in
+    (held ++ p, parted_more t piece p held (held ++ p) ms refl refl q)
+
 -- what was given is a front of what is said for more bytes, too
 pub speech_more : {E : Type 0} (Stands' : E → List Envelope → List Envelope → Type 0) (t piece g : List ℕ) → IsSpeech Stands' t g → IsSpeech Stands' (t ++ piece) g
 speech_more Stands' t piece g s =

@@ -4,7 +4,7 @@ use Rattle.atspi_host.specs.declared.call.Did.{Did}
 use Rattle.atspi_host.specs.declared.call.Did.TheVariants.{Done, NotYet, End, Failed}
 use Rattle.atspi_host.specs.declared.call.Call.{Call}
 use Rattle.atspi_host.specs.declared.call.Call.TheVariants.{Listen, Accept, Connect, Read, Write, Close}
-use Rattle.atspi_host.specs.Calls.{taken, given}
+use Rattle.atspi_host.specs.Calls.{IsFront, taken, given}
 
 -- the answers of the reads of a link
 abbrev pub answer_of_read : ℕ → Call → List Did
@@ -34,6 +34,12 @@ AllGoOn (did ∷ dids) = GoesOn did × AllGoOn dids
 abbrev pub Tells : ℕ → Option (List Call) → List ℕ → List ℕ → List Did → Type 0
 Tells k None t g dids = ⊤
 Tells k (Some cs) t g dids = (taken k cs ≡ t) × (given k cs ≡ g) × (reads k cs ≡ dids)
+
+-- what was taken of a link stands, and more may stand behind it
+abbrev pub Grows : ℕ → Option (List Call) → Option (List Call) → Type 0
+Grows k old None = ⊤
+Grows k None (Some cs) = ⊥
+Grows k (Some cs) (Some ds) = IsFront (taken k cs) (taken k ds)
 
 -- calls behind others by which some bytes were given, and none taken
 abbrev pub Gives : ℕ → Option (List Call) → Option (List Call) → List ℕ → Type 0

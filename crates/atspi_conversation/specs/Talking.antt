@@ -18,6 +18,17 @@ use Rattle.atspi_conversation.specs.declared.conversation.Conversation.{Conversa
 use Rattle.atspi_conversation.specs.declared.ending.Ending.{Ending}
 use Rattle.atspi_conversation.specs.declared.ending.Ending.TheVariants as endings
 
+-- how many bytes of messages were heard
+abbrev pub heard_in : Conversation → ℕ
+heard_in c = c.heard
+
+-- nothing was heard or said
+pub record HasBegun (c : Conversation) : Type 0 where
+  pub client : c.client ≡ client_start
+  pub feeder : c.feeder ≡ []
+  pub unsent : c.unsent ≡ []
+  pub heard : c.heard ≡ 0
+
 -- whatever an end did before, it took one more message
 abbrev pub Takes : {E : Type 0} → (E → List Envelope → List Envelope → Type 0) → E → E → Envelope → Type 0
 Takes Stands old new e = (took said : List Envelope) → Stands old took said → Stands new (took ++ e ∷ []) said
@@ -26,21 +37,26 @@ Takes Stands old new e = (took said : List Envelope) → Stands old took said �
 abbrev pub HandsOut : {E : Type 0} → (E → List Envelope → List Envelope → Type 0) → E → E → Envelope → Type 0
 HandsOut Stands old new e = (took said : List Envelope) → Stands old took said → Stands new took (said ++ e ∷ [])
 
+-- or it did nothing for the link
+abbrev pub Rests : {E : Type 0} → (E → List Envelope → List Envelope → Type 0) → E → E → Type 0
+Rests Stands old new = (took said : List Envelope) → Stands old took said → Stands new took said
+
 -- what it hands out meets the rules of messages, where those that it took did
 abbrev pub MaySend : {E : Type 0} → (E → List Envelope → List Envelope → Type 0) → E → Envelope → Type 0
 MaySend Stands end e = (took said : List Envelope) → Stands end took said → AllMeet took → MeetsRules e
 
 -- an end that took only messages that meet the rules
-pub record MaySpeak {E : Type 0} (Stands : E → List Envelope → List Envelope → Type 0) (end : E) : Type 0 where
+pub record MaySpeak {E : Type 0} (Stands : List ℕ → E → List Envelope → List Envelope → Type 0) (end : E) : Type 0 where
+  pub aside : List ℕ
   pub took : List Envelope
   pub said : List Envelope
-  pub stands : Stands end took said
+  pub stands : Stands aside end took said
   pub meet : AllMeet took
 
 -- it handed out one more message, which was put behind some bytes; or it has none
 abbrev pub SaysOne : {E : Type 0} → (E → List Envelope → List Envelope → Type 0) → Bool → E → E → List ℕ → List ℕ → Type 0
 SaysOne Stands true old new unsent unsent' = (e : Envelope) × HandsOut Stands old new e × IsSent e unsent unsent'
-SaysOne Stands false old new unsent unsent' = (new ≡ old) × (unsent' ≡ unsent)
+SaysOne Stands false old new unsent unsent' = Rests Stands old new × (unsent' ≡ unsent)
 
 -- it handed out some messages, which were put behind some bytes
 pub record Says {E : Type 0} (Stands : E → List Envelope → List Envelope → Type 0) (old new : E) (unsent unsent' : List ℕ) : Type 0 where
@@ -143,7 +159,9 @@ abbrev pub Blames : Ending → ℕ → ℕ → Type 0
 Blames endings.HostFailed before after = (before ≤ after) × Rose before after
 Blames ending before after = after ≡ before
 
--- an ending for which no call of the host is to blame
+-- an ending that is neither the peer's nor the host's, nor that of all rounds
 abbrev pub IsOwn : Ending → Type 0
 IsOwn endings.HostFailed = ⊥
+IsOwn endings.PeerEnded = ⊥
+IsOwn endings.RoundsDone = ⊥
 IsOwn ending = ⊤

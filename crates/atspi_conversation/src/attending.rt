@@ -1,8 +1,8 @@
 //! What an end is told: the messages of its stream.
 
-ghost use Rattle.std.specs.Prelude.{◌≡◌, IfOk, IsErrOf, length};
+ghost use Rattle.std.specs.Prelude.{◌≡◌, ℕ, List, IfOk, IsErrOf, length};
 ghost use Rattle.atspi_protocol.specs.declared.ends.fault.EndFault.{EndFault};
-ghost use Rattle.atspi_conversation.specs.Talking.{AttendsAll, AttendsToSpent};
+ghost use Rattle.atspi_conversation.specs.Talking.{AttendsAll, AttendsToSpent, MaySpeak};
 
 use crate::BusEnd;
 use atspi_protocol::ends::EndFault;
@@ -11,8 +11,9 @@ use atspi_types::Fault;
 
 /// The end takes each whole message that is held. Answers the fault behind them, if there is one.
 pub(crate) fn attend<E: BusEnd>(feeder: &mut Feeder, end: &mut E) -> Result<Option<Fault>, EndFault>
-    ensures ok { IfOk result (λ fault. AttendsAll E.Stands fault feeder.old feeder.new end.old end.new) }
-    ensures spent { IsErrOf result EndFault.Spent → AttendsToSpent E.Stands E.IsSpent feeder.old end.old }
+    requires { MaySpeak E.Stands end.old }
+    ensures ok { IfOk result (λ fault. (aside : List ℕ) → AttendsAll (E.Stands aside) fault feeder.old feeder.new end.old end.new) }
+    ensures spent { IsErrOf result EndFault.Spent → (aside : List ℕ) → AttendsToSpent (E.Stands aside) E.IsSpent feeder.old end.old }
 {
     'messages: loop {
         match feeder.next() {

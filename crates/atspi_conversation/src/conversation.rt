@@ -1,8 +1,7 @@
 //! An end's part of a conversation on a link, but for its messages: authentication, what is held of a message that is not whole, and
 //! the bytes that wait to be given.
 
-ghost use Rattle.std.specs.Prelude.{◌≡◌, []};
-ghost use Rattle.atspi_auth.specs.Talk.{client_start};
+ghost use Rattle.atspi_conversation.specs.Talking.{HasBegun};
 
 use crate::unsent::Unsent;
 use atspi_auth::Client;
@@ -11,7 +10,7 @@ use std::alloc::Global;
 
 /// What is known of a link between two rounds.
 #[derive(Drop)]
-pub(crate) struct Conversation {
+pub struct Conversation {
     pub(crate) client: Client,
     pub(crate) feeder: Feeder,
     pub(crate) unsent: Unsent,
@@ -21,11 +20,8 @@ pub(crate) struct Conversation {
 
 impl Conversation {
     /// Nothing was heard or said.
-    pub(crate) fn new(alloc: Global) -> Conversation
-        ensures client { result.client ≡ client_start }
-        ensures feeder { result.feeder ≡ [] }
-        ensures unsent { result.unsent ≡ [] }
-        ensures heard { result.heard ≡ 0 }
+    pub fn new(alloc: Global) -> Conversation
+        ensures { HasBegun result }
     {
         Conversation {
             client: Client::new(alloc),

@@ -39,8 +39,9 @@ impl Conversation {
 
     /// The end takes each whole message that is held.
     fn tell<E: BusEnd>(&mut self, end: &mut E) -> Result<(), Ending>
-        ensures ok { OnOk result (AttendsAll E.Stands None self.old.feeder self.new.feeder end.old end.new) }
-        ensures err { IfErr result (λ ending. TellsNot E.Stands E.IsSpent ending self.old end.old) }
+        requires { MaySpeak E.Stands end.old }
+        ensures ok { OnOk result ((aside : List ℕ) → AttendsAll (E.Stands aside) None self.old.feeder self.new.feeder end.old end.new) }
+        ensures err { IfErr result (λ ending. (aside : List ℕ) → TellsNot (E.Stands aside) E.IsSpent ending self.old end.old) }
         ensures client { self.new.client ≡ self.old.client }
         ensures unsent { self.new.unsent ≡ self.old.unsent }
         ensures heard { self.new.heard ≡ self.old.heard }
@@ -77,12 +78,13 @@ impl Conversation {
     /// Hears a piece, and the end takes each message that is then whole.
     pub(crate) fn heed<E: BusEnd>(&mut self, piece: &[u8], end: &mut E) -> Result<(), Ending>
         requires room { self.old.heard + length piece.now < 2 ^ 64 }
-        ensures ok { OnOk result ((t g : List ℕ) → Converses E.Stands t g self.old end.old
-            → IsAtEase E.Stands (t ++ piece.now) g self.new end.new) }
-        ensures may { OnOk result (MaySpeak E.Stands end.old → MaySpeak E.Stands end.new) }
+        requires may { MaySpeak E.Stands end.old }
+        ensures ok { OnOk result ((aside t g : List ℕ) → Converses (E.Stands aside) t g self.old end.old
+            → IsAtEase (E.Stands aside) (t ++ piece.now) g self.new end.new) }
+        ensures may { OnOk result (MaySpeak E.Stands end.new) }
         ensures few { OnOk result (self.new.heard ≤ self.old.heard + length piece.now) }
-        ensures err { IfErr result (λ ending. (t g : List ℕ) → Converses E.Stands t g self.old end.old
-            → BreaksOff E.Stands E.IsSpent ending (t ++ piece.now)) }
+        ensures err { IfErr result (λ ending. (aside t g : List ℕ) → Converses (E.Stands aside) t g self.old end.old
+            → BreaksOff (E.Stands aside) E.IsSpent ending (t ++ piece.now)) }
         ensures own { IfErr result IsOwn }
     {
         if let Err(ending) = self.hear(piece) {
@@ -94,7 +96,7 @@ impl Conversation {
     /// What is to be said now waits to be given: lines, and once these are over messages of the end, until enough bytes wait.
     pub(crate) fn utter<E: BusEnd>(&mut self, end: &mut E) -> Result<(), NoMemory>
         requires { MaySpeak E.Stands end.old }
-        ensures ok { OnOk result ((t g : List ℕ) → IsAtEase E.Stands t g self.old end.old → IsAtEase E.Stands t g self.new end.new) }
+        ensures ok { OnOk result ((aside t g : List ℕ) → IsAtEase (E.Stands aside) t g self.old end.old → IsAtEase (E.Stands aside) t g self.new end.new) }
         ensures may { OnOk result (MaySpeak E.Stands end.new) }
         ensures heard { OnOk result (self.new.heard ≡ self.old.heard) }
     {

@@ -11,5 +11,6 @@ mod speaking;
 mod unsent;
 
 pub use bus_end::BusEnd;
+pub use conversation::Conversation;
 pub use ending::Ending;
-pub use rounds::converse;
+pub use rounds::{converse, round};

@@ -1,11 +1,12 @@
 //! Rounds over a host: one read, and then one write where bytes wait.
 
-ghost use Rattle.std.specs.Prelude.{◌≡◌, ◌<◌, ◌≤◌, ◌+◌, ◌^◌, ℕ, List, [], length, IfErr, MatchResult, OnOk};
+ghost use Rattle.std.specs.Prelude.{◌≡◌, ◌<◌, ◌≤◌, ◌+◌, ◌^◌, ℕ, List, [], Err, length, IfErr, MatchResult, OnOk};
 ghost use Rattle.atspi_base.specs.Outside.{Rose};
 ghost use Rattle.atspi_host.specs.Calls.{IsOpen};
-ghost use Rattle.atspi_conversation.specs.Moved.{Tells};
+ghost use Rattle.atspi_conversation.specs.Moved.{Grows, Tells};
 ghost use Rattle.atspi_conversation.specs.Speech.{Ends, Speaks};
-ghost use Rattle.atspi_conversation.specs.Talking.{Blames, GivesPart, Going, IsEnded, MaySpeak};
+ghost use Rattle.atspi_conversation.specs.declared.ending.Ending.{Ending};
+ghost use Rattle.atspi_conversation.specs.Talking.{Blames, GivesPart, Going, IsEnded, MaySpeak, heard_in};
 
 use crate::conversation::Conversation;
 use crate::unsent::Unsent;
@@ -27,14 +28,16 @@ fn take_in<H: Host, E: BusEnd>(
 ) -> Result<(), Ending>
     requires open { IsOpen link (H.links host.old) }
     requires some { 0 < length piece.old }
-    requires room { conversation.old.heard + length piece.old < 2 ^ 64 }
+    requires room { heard_in conversation.old + length piece.old < 2 ^ 64 }
     requires may { MaySpeak E.Stands end.old }
-    ensures ok { OnOk result ((n : ℕ) → Going E.Stands link (H.calls host.old) n conversation.old end.old
-        → Going E.Stands link (H.calls host.new) (n + 1) conversation.new end.new) }
-    ensures err { IfErr result (λ ending. (n rounds : ℕ) → Going E.Stands link (H.calls host.old) n conversation.old end.old
-        → IsEnded E.Stands E.IsSpent link ending rounds (H.calls host.new)) }
+    ensures ok { OnOk result ((aside : List ℕ) (n : ℕ) → Going (E.Stands aside) link (H.calls host.old) n conversation.old end.old
+        → Going (E.Stands aside) link (H.calls host.new) (n + 1) conversation.new end.new) }
+    ensures err { IfErr result (λ ending. (aside : List ℕ) (n rounds : ℕ) → Going (E.Stands aside) link (H.calls host.old) n conversation.old end.old
+        → IsEnded (E.Stands aside) E.IsSpent link ending rounds (H.calls host.new)) }
     ensures may { OnOk result (MaySpeak E.Stands end.new) }
-    ensures few { OnOk result (conversation.new.heard ≤ conversation.old.heard + length piece.old) }
+    ensures few { OnOk result (heard_in conversation.new ≤ heard_in conversation.old + length piece.old) }
+    ensures grows { Grows link (H.calls host.old) (H.calls host.new) }
+    ensures still { result ≡ Err Ending.PeerEnded → end.new ≡ end.old }
     ensures links { H.links host.new ≡ H.links host.old }
     ensures cause { MatchResult result (λ _. H.link_faults host.new ≡ H.link_faults host.old) (λ ending. Blames ending (H.link_faults host.old) (H.link_faults host.new)) }
     ensures other { H.faults host.new ≡ H.faults host.old }
@@ -68,8 +71,9 @@ fn give<H: Host>(host: &mut H, link: u32, unsent: &mut Unsent) -> Result<(), Fai
     }
 }
 
-/// One round.
-fn round<H: Host, E: BusEnd>(
+/// One round of a conversation: one read of at most as many bytes as the piece has room for, the end takes each message that is then whole,
+/// and where output waits one write of at most 4,096 bytes.
+pub fn round<H: Host, E: BusEnd>(
     host: &mut H,
     link: u32,
     piece: &mut [u8],
@@ -78,14 +82,16 @@ fn round<H: Host, E: BusEnd>(
 ) -> Result<(), Ending>
     requires open { IsOpen link (H.links host.old) }
     requires some { 0 < length piece.old }
-    requires room { conversation.old.heard + length piece.old < 2 ^ 64 }
+    requires room { heard_in conversation.old + length piece.old < 2 ^ 64 }
     requires may { MaySpeak E.Stands end.old }
-    ensures ok { OnOk result ((n : ℕ) → Going E.Stands link (H.calls host.old) n conversation.old end.old
-        → Going E.Stands link (H.calls host.new) (n + 1) conversation.new end.new) }
-    ensures err { IfErr result (λ ending. (n rounds : ℕ) → Going E.Stands link (H.calls host.old) n conversation.old end.old
-        → IsEnded E.Stands E.IsSpent link ending rounds (H.calls host.new)) }
+    ensures ok { OnOk result ((aside : List ℕ) (n : ℕ) → Going (E.Stands aside) link (H.calls host.old) n conversation.old end.old
+        → Going (E.Stands aside) link (H.calls host.new) (n + 1) conversation.new end.new) }
+    ensures err { IfErr result (λ ending. (aside : List ℕ) (n rounds : ℕ) → Going (E.Stands aside) link (H.calls host.old) n conversation.old end.old
+        → IsEnded (E.Stands aside) E.IsSpent link ending rounds (H.calls host.new)) }
     ensures may { OnOk result (MaySpeak E.Stands end.new) }
-    ensures few { OnOk result (conversation.new.heard ≤ conversation.old.heard + length piece.old) }
+    ensures few { OnOk result (heard_in conversation.new ≤ heard_in conversation.old + length piece.old) }
+    ensures grows { Grows link (H.calls host.old) (H.calls host.new) }
+    ensures still { result ≡ Err Ending.PeerEnded → end.new ≡ end.old }
     ensures links { H.links host.new ≡ H.links host.old }
     ensures cause { MatchResult result (λ _. H.link_faults host.new ≡ H.link_faults host.old) (λ ending. Blames ending (H.link_faults host.old) (H.link_faults host.new)) }
     ensures other { H.faults host.new ≡ H.faults host.old }
@@ -118,9 +124,9 @@ pub fn converse<H: Host, E: BusEnd>(
 ) -> Ending
     requires open { IsOpen link (H.links host.old) }
     requires fresh { Tells link (H.calls host.old) [] [] [] }
-    requires begins { E.Stands end.old [] [] }
-    ensures speech { Speaks E.Stands link (H.calls host.new) }
-    ensures ends { Ends E.Stands E.IsSpent link result rounds (H.calls host.new) }
+    requires begins { E.Stands [] end.old [] [] }
+    ensures speech { Speaks (E.Stands []) link (H.calls host.new) }
+    ensures ends { Ends (E.Stands []) E.IsSpent link result rounds (H.calls host.new) }
     ensures links { H.links host.new ≡ H.links host.old }
     ensures cause { Blames result (H.link_faults host.old) (H.link_faults host.new) }
     ensures other { H.faults host.new ≡ H.faults host.old }

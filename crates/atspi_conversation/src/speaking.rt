@@ -1,6 +1,6 @@
 //! What an end says: its messages, on their way to the link.
 
-ghost use Rattle.std.specs.Prelude.{◌≡◌, ◌<◌, IsTrue, IfOk, OnOk, length};
+ghost use Rattle.std.specs.Prelude.{◌≡◌, ◌<◌, ℕ, List, IsTrue, IfOk, OnOk, length};
 ghost use Rattle.atspi_conversation.specs.Talking.{MaySpeak, Says, SaysOne};
 
 use crate::BusEnd;
@@ -13,7 +13,7 @@ const ENOUGH: usize = 4096;
 /// Writes the end's next message, if it has one.
 fn say_one<E: BusEnd>(end: &mut E, unsent: &mut Unsent) -> Result<bool, NoMemory>
     requires { MaySpeak E.Stands end.old }
-    ensures says { IfOk result (λ more. SaysOne E.Stands more end.old end.new unsent.old unsent.new) }
+    ensures says { IfOk result (λ more. (aside : List ℕ) → SaysOne (E.Stands aside) more end.old end.new unsent.old unsent.new) }
     ensures fewer { IfOk result (λ more. IsTrue more → E.queued end.new < E.queued end.old) }
 {
     match end.next() {
@@ -28,7 +28,7 @@ fn say_one<E: BusEnd>(end: &mut E, unsent: &mut Unsent) -> Result<bool, NoMemory
 /// Writes messages of the end, until enough bytes wait or it has no more.
 pub(crate) fn say<E: BusEnd>(end: &mut E, unsent: &mut Unsent) -> Result<(), NoMemory>
     requires { MaySpeak E.Stands end.old }
-    ensures { OnOk result (Says E.Stands end.old end.new unsent.old unsent.new) }
+    ensures { OnOk result ((aside : List ℕ) → Says (E.Stands aside) end.old end.new unsent.old unsent.new) }
 {
     'messages: while unsent.len() < ENOUGH {
         match say_one(end, unsent) {

@@ -1,6 +1,6 @@
 -- A registry that takes messages and hands out its own stands where the definitions say, and what it hands out meets the rules.
-use Rattle.std.proofs.Common.{◌≡◌, ◌<◌, List, [], ◌∷◌, ◌++◌, length, fold, Option, None, Some, refl, sym, ap, subst, ◌∙◌, append_assoc, arith}
-use Rattle.std.specs.Prelude.{IfSome, IfNone, MatchOption}
+use Rattle.std.proofs.Common.{◌≡◌, ◌<◌, ℕ, List, [], ◌∷◌, ◌++◌, length, fold, Option, None, Some, refl, sym, ap, subst, ◌∙◌, append_assoc, arith}
+use Rattle.std.specs.Prelude.{IfSome, IfNone, MatchOption, Result, Ok, Err, OnErr}
 use Rattle.atspi_message.specs.declared.message.Message.{Message}
 use Rattle.atspi_message.specs.Envelope.{Envelope, envelope_of}
 use Rattle.atspi_message.specs.Rules.{MeetsRules}
@@ -10,7 +10,7 @@ use Rattle.atspi_protocol.specs.registry_laws.Sends as sends
 use Rattle.atspi_protocol.specs.registry_laws.Sends.{AreNumbered, started}
 use Rattle.atspi_protocol.proofs.OfRegistryLaws.Sending.{all_meet}
 use Rattle.atspi_conversation.specs.Sent.{AllMeet}
-use Rattle.atspi_conversation.specs.Talking.{Takes, HandsOut, MaySend}
+use Rattle.atspi_conversation.specs.Talking.{Takes, HandsOut, Rests, MaySend}
 use Rattle.atspi_live_registry.specs.Standing.{IsAfter}
 use Rattle.atspi_live_registry.specs.declared.live_registry.LiveRegistry.{LiveRegistry}
 
@@ -55,14 +55,14 @@ may_send old new e out took said stands meet =
 
 -- what handing out the oldest message answers
 pub next_hands_out : (r : Option Message) (old new : LiveRegistry) → MatchOption r (old.registry.out ≡ []) (λ m. old.registry.out ≡ envelope_of m ∷ new.registry.out)
-    → MatchOption r (new.registry ≡ old.registry) (λ m. new.registry.state ≡ old.registry.state) → IfSome r (λ m. HandsOut Stands' old new (envelope_of m))
+    → MatchOption r (new.registry ≡ old.registry) (λ m. new.registry.state ≡ old.registry.state) → IfSome r (λ m. (aside : List ℕ) → HandsOut Stands' old new (envelope_of m))
 next_hands_out None old new front state = tt
-next_hands_out (Some m) old new front state = handed_one old new (envelope_of m) front state
+next_hands_out (Some m) old new front state = λ aside. handed_one old new (envelope_of m) front state
 
 pub next_may_send : (r : Option Message) (old new : LiveRegistry) → MatchOption r (old.registry.out ≡ []) (λ m. old.registry.out ≡ envelope_of m ∷ new.registry.out)
-    → IfSome r (λ m. MaySend Stands' old (envelope_of m))
+    → IfSome r (λ m. (aside : List ℕ) → MaySend Stands' old (envelope_of m))
 next_may_send None old new front = tt
-next_may_send (Some m) old new front = may_send old new (envelope_of m) front
+next_may_send (Some m) old new front = λ aside. may_send old new (envelope_of m) front
 
 pub next_fewer : (r : Option Message) (old new : LiveRegistry) → MatchOption r (old.registry.out ≡ []) (λ m. old.registry.out ≡ envelope_of m ∷ new.registry.out)
     → IfSome r (λ m. length new.registry.out < length old.registry.out)
@@ -70,9 +70,10 @@ next_fewer None old new front = tt
 next_fewer (Some m) old new front = omega (arith, ap (λ (w : List Envelope). length w) front)
 
 pub next_none : (r : Option Message) (old new : LiveRegistry) → MatchOption r (new.registry ≡ old.registry) (λ m. new.registry.state ≡ old.registry.state)
-    → IfNone r (new ≡ old)
-next_none None old new state = ap live state
-  where
-    live : Registry → LiveRegistry
-    live r = record { registry = r }
+    → IfNone r ((aside : List ℕ) → Rests Stands' old new)
+next_none None old new state = λ aside took said s. subst (λ (w : Registry). IsAfter w took said) (sym state) s
 next_none (Some m) old new state = tt
+
+pub take_rests : {T X : Type 0} (r : Result T X) (old new : LiveRegistry) → OnErr r (new.registry ≡ old.registry) → OnErr r ((aside : List ℕ) → Rests Stands' old new)
+take_rests (Ok x) old new e = tt
+take_rests (Err x) old new e = λ aside took said s. subst (λ (w : Registry). IsAfter w took said) (sym e) s

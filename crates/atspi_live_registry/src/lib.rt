@@ -5,4 +5,5 @@ mod live_registry;
 mod reporting;
 mod run;
 
+pub use reporting::report;
 pub use run::registry;

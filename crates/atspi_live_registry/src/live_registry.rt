@@ -32,7 +32,8 @@ pub(crate) fn start(alloc: Global) -> Result<LiveRegistry, NoMemory>
 }
 
 impl BusEnd for LiveRegistry {
-    ghost Stands = { λ l took said. IsAfter l.registry took said };
+    // it tells nothing beside the link
+    ghost Stands = { λ aside l took said. IsAfter l.registry took said };
 
     ghost IsSpent = { λ l e. standing.IsSpent l.registry e };
 

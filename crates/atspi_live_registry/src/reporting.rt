@@ -37,7 +37,7 @@ fn tell_fault<K: Sink>(alloc: Global, start: u64, place: u64, reason: u8, sink: 
 }
 
 /// The status of a run that ended so. Where a message was malformed, its line is written.
-pub(crate) fn report<K: Sink>(alloc: Global, ending: Ending, sink: &mut K) -> u8
+pub fn report<K: Sink>(alloc: Global, ending: Ending, sink: &mut K) -> u8
     ensures reports { Reports ending result (K.written sink.old) (K.written sink.new) }
     ensures cause { SinkBlamed result (K.faults sink.old) (K.faults sink.new) }
 {

@@ -1,4 +1,4 @@
-use Rattle.std.proofs.Common.{◌≡◌, ℕ, List, refl, sym, subst, ◌∙◌, rules, arith}
+use Rattle.std.proofs.Common.{◌≡◌, ℕ, List, [], refl, sym, subst, ◌∙◌, rules, arith}
 use Rattle.atspi_host.specs.Calls.{IsOpen}
 use Rattle.atspi_conversation.specs.Talking.{Blames}
 use Rattle.atspi_conversation.proofs.StepLemmas.{all_done, at_first, may_begin}
@@ -6,9 +6,9 @@ use Rattle.atspi_conversation.proofs.rounds.converse.Goals as goal
 
 pub rounds-init : goal.rounds-init
 rounds-init g c = record {
-  going = at_first g.E.BusEnd.Stands c.args.link (g.H.Host.calls c.args.host.now) c.new-conversation.result c.args.end.now c.requires.fresh
+  going = at_first (g.E.BusEnd.Stands []) c.args.link (g.H.Host.calls c.args.host.now) c.new-conversation.result c.args.end.now c.requires.fresh
       c.new-conversation.ensures.client c.new-conversation.ensures.feeder c.new-conversation.ensures.unsent c.new-conversation.ensures.heard c.requires.begins;
-  may = may_begin g.E.BusEnd.Stands c.args.end.now c.requires.begins;
+  may = may_begin g.E.BusEnd.Stands [] c.args.end.now c.requires.begins;
   few = omega (arith, c.new-conversation.ensures.heard);
   within = omega arith;
   piece = search rules;
@@ -22,7 +22,7 @@ round-requires-clause-open g c = subst (λ (w : List ℕ). IsOpen c.args.link w)
 
 pub rounds-preserved : goal.rounds-preserved
 rounds-preserved g c = record {
-  going = c.in-Ok.ensures.ok c.rounds.done c.rounds.invariant.going;
+  going = c.in-Ok.ensures.ok [] c.rounds.done c.rounds.invariant.going;
   may = c.in-Ok.ensures.may;
   few = omega (arith, c.in-Ok.ensures.few, c.rounds.invariant.few, c.rounds.invariant.piece);
   within = omega arith;
@@ -33,10 +33,10 @@ rounds-preserved g c = record {
 }
 
 pub returns-in-Err-clause-speech : goal.returns-in-Err-clause-speech
-returns-in-Err-clause-speech g c = (c.in-Err.ensures.err c.rounds.done c.args.rounds c.rounds.invariant.going).0
+returns-in-Err-clause-speech g c = (c.in-Err.ensures.err [] c.rounds.done c.args.rounds c.rounds.invariant.going).0
 
 pub returns-in-Err-clause-ends : goal.returns-in-Err-clause-ends
-returns-in-Err-clause-ends g c = (c.in-Err.ensures.err c.rounds.done c.args.rounds c.rounds.invariant.going).1
+returns-in-Err-clause-ends g c = (c.in-Err.ensures.err [] c.rounds.done c.args.rounds c.rounds.invariant.going).1
 
 pub returns-in-Err-clause-cause : goal.returns-in-Err-clause-cause
 returns-in-Err-clause-cause g c = subst (λ (n : ℕ). Blames c.in-Err.ending n (g.H.Host.link_faults c.round.new.host)) c.rounds.invariant.steady c.in-Err.ensures.cause
@@ -44,9 +44,9 @@ returns-in-Err-clause-cause g c = subst (λ (n : ℕ). Blames c.in-Err.ending n 
 pub returns-clause-speech : goal.returns-clause-speech
 returns-clause-speech g c =
     let done : c.rounds.done ≡ c.args.rounds = omega arith in
-    (all_done g.E.BusEnd.Stands g.E.BusEnd.IsSpent c.args.link c.rounds.done c.args.rounds (g.H.Host.calls c.rounds.host) c.rounds.conversation c.rounds.end done c.rounds.invariant.going).0
+    (all_done (g.E.BusEnd.Stands []) g.E.BusEnd.IsSpent c.args.link c.rounds.done c.args.rounds (g.H.Host.calls c.rounds.host) c.rounds.conversation c.rounds.end done c.rounds.invariant.going).0
 
 pub returns-clause-ends : goal.returns-clause-ends
 returns-clause-ends g c =
     let done : c.rounds.done ≡ c.args.rounds = omega arith in
-    (all_done g.E.BusEnd.Stands g.E.BusEnd.IsSpent c.args.link c.rounds.done c.args.rounds (g.H.Host.calls c.rounds.host) c.rounds.conversation c.rounds.end done c.rounds.invariant.going).1
+    (all_done (g.E.BusEnd.Stands []) g.E.BusEnd.IsSpent c.args.link c.rounds.done c.args.rounds (g.H.Host.calls c.rounds.host) c.rounds.conversation c.rounds.end done c.rounds.invariant.going).1

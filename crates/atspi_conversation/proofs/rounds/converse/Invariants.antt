@@ -1,11 +1,11 @@
-use Rattle.std.proofs.Common.{◌≡◌, ◌-◌, ◌*◌, ◌≤◌, length}
+use Rattle.std.proofs.Common.{◌≡◌, ◌-◌, ◌*◌, ◌≤◌, [], length}
 use Rattle.atspi_conversation.specs.Talking.{Going, MaySpeak}
 use Rattle.atspi_conversation.proofs.rounds.converse.Given as goal
 
 abbrev pub invariant-rounds : goal.invariant-rounds
 invariant-rounds g l =
     record {
-      going : Going g.E.BusEnd.Stands l.link (g.H.Host.calls l.host) l.done l.conversation l.end;
+      going : Going (g.E.BusEnd.Stands []) l.link (g.H.Host.calls l.host) l.done l.conversation l.end;
       may : MaySpeak g.E.BusEnd.Stands l.end;
       few : l.conversation.heard ≤ 4096 * l.done;
       within : l.done ≤ l.rounds;

@@ -1,18 +1,29 @@
 use Rattle.std.proofs.Common.{◌+◌, refl}
+use Rattle.atspi_conversation.proofs.MovedLemmas.{gives_grows, grows_both}
 use Rattle.atspi_conversation.proofs.StepLemmas.{gave, no_memory, write_failed}
 use Rattle.atspi_conversation.proofs.rounds.round.Goals as goal
 
 pub returns-in_default-utter-clause-err : goal.returns-in_default-utter-clause-err
-returns-in_default-utter-clause-err g c n rounds w =
-    no_memory g.E.BusEnd.Stands g.E.BusEnd.IsSpent c.args.link (n + 1) rounds (g.H.Host.calls c.take_in.new.host) c.take_in.new.conversation c.take_in.new.end (c.in_default.ensures.ok n w)
+returns-in_default-utter-clause-err g c aside n rounds w =
+    no_memory (g.E.BusEnd.Stands aside) g.E.BusEnd.IsSpent c.args.link (n + 1) rounds (g.H.Host.calls c.take_in.new.host) c.take_in.new.conversation c.take_in.new.end (c.in_default.ensures.ok aside n w)
 
 pub returns-in-Ok-give-clause-ok : goal.returns-in-Ok-give-clause-ok
-returns-in-Ok-give-clause-ok g c n w =
-    gave g.E.BusEnd.Stands c.args.link (n + 1) (g.H.Host.calls c.take_in.new.host) (g.H.Host.calls c.give.new.host) c.take_in.new.conversation c.utter.new.self _ c.take_in.new.end c.utter.new.end
-    c.in-Ok.ensures.ok c.give.ensures.gives refl refl refl (c.in_default.ensures.ok n w)
+returns-in-Ok-give-clause-ok g c aside n w =
+    gave (g.E.BusEnd.Stands aside) c.args.link (n + 1) (g.H.Host.calls c.take_in.new.host) (g.H.Host.calls c.give.new.host) c.take_in.new.conversation c.utter.new.self _ c.take_in.new.end c.utter.new.end
+    (c.in-Ok.ensures.ok aside) c.give.ensures.gives refl refl refl (c.in_default.ensures.ok aside n w)
 
 pub returns-in-Err-give-clause-err : goal.returns-in-Err-give-clause-err
-returns-in-Err-give-clause-err g c n rounds w =
-    write_failed g.E.BusEnd.Stands g.E.BusEnd.IsSpent c.args.link (n + 1) rounds (g.H.Host.calls c.give.new.host) (record c.utter.new.self { unsent = c.give.new.unsent }) c.utter.new.end
-    (gave g.E.BusEnd.Stands c.args.link (n + 1) (g.H.Host.calls c.take_in.new.host) (g.H.Host.calls c.give.new.host) c.take_in.new.conversation c.utter.new.self (record c.utter.new.self { unsent = c.give.new.unsent }) c.take_in.new.end c.utter.new.end
-    c.in-Ok.ensures.ok c.give.ensures.gives refl refl refl (c.in_default.ensures.ok n w))
+returns-in-Err-give-clause-err g c aside n rounds w =
+    write_failed (g.E.BusEnd.Stands aside) g.E.BusEnd.IsSpent c.args.link (n + 1) rounds (g.H.Host.calls c.give.new.host) (record c.utter.new.self { unsent = c.give.new.unsent }) c.utter.new.end
+    (gave (g.E.BusEnd.Stands aside) c.args.link (n + 1) (g.H.Host.calls c.take_in.new.host) (g.H.Host.calls c.give.new.host) c.take_in.new.conversation c.utter.new.self (record c.utter.new.self { unsent = c.give.new.unsent }) c.take_in.new.end c.utter.new.end
+    (c.in-Ok.ensures.ok aside) c.give.ensures.gives refl refl refl (c.in_default.ensures.ok aside n w))
+
+pub returns-in-Ok-give-clause-grows : goal.returns-in-Ok-give-clause-grows
+returns-in-Ok-give-clause-grows g c =
+    grows_both c.args.link (g.H.Host.calls c.args.host.now) (g.H.Host.calls c.take_in.new.host) (g.H.Host.calls c.give.new.host) c.take_in.ensures.grows
+    (gives_grows c.args.link (g.H.Host.calls c.take_in.new.host) (g.H.Host.calls c.give.new.host) c.give.ensures.gives.0 c.give.ensures.gives.1)
+
+pub returns-in-Err-give-clause-grows : goal.returns-in-Err-give-clause-grows
+returns-in-Err-give-clause-grows g c =
+    grows_both c.args.link (g.H.Host.calls c.args.host.now) (g.H.Host.calls c.take_in.new.host) (g.H.Host.calls c.give.new.host) c.take_in.ensures.grows
+    (gives_grows c.args.link (g.H.Host.calls c.take_in.new.host) (g.H.Host.calls c.give.new.host) c.give.ensures.gives.0 c.give.ensures.gives.1)

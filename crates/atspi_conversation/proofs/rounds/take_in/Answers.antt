@@ -1,33 +1,49 @@
-use Rattle.std.proofs.Common.{take}
-use Rattle.atspi_host.specs.declared.call.Did.TheVariants.{Done}
-use Rattle.atspi_conversation.proofs.StepLemmas.{cause_of, if_err, on_ok, peer_ended, read_failed, took, took_last, took_nothing}
+use Rattle.std.proofs.Common.{take, []}
+use Rattle.atspi_host.specs.declared.call.Did.TheVariants.{Done, NotYet, End, Failed}
+use Rattle.atspi_conversation.proofs.StepLemmas.{cause_of, if_err, not_ended, on_ok, peer_ended, read_failed, took, took_last, took_nothing}
+use Rattle.atspi_conversation.proofs.MovedLemmas.{read_grows}
 use Rattle.atspi_conversation.proofs.rounds.take_in.Goals as goal
 
 pub returns-in-Done-clause-ok : goal.returns-in-Done-clause-ok
 returns-in-Done-clause-ok g c =
     on_ok c.heed.result _ _
-    (λ f n w. took g.E.BusEnd.Stands c.args.link n (g.H.Host.calls c.args.host.now) (g.H.Host.calls c.read.new.self) (take c.in-Done.n c.read.new.into) (Done c.in-Done.n)
-    c.args.conversation.now c.heed.new.self c.args.end.now c.heed.new.end c.in-Done.ensures.calls tt f w)
+    (λ f aside n w. took (g.E.BusEnd.Stands aside) c.args.link n (g.H.Host.calls c.args.host.now) (g.H.Host.calls c.read.new.self) (take c.in-Done.n c.read.new.into) (Done c.in-Done.n)
+    c.args.conversation.now c.heed.new.self c.args.end.now c.heed.new.end c.in-Done.ensures.calls tt (f aside) w)
     c.heed.ensures.ok
 
 pub returns-in-Done-clause-err : goal.returns-in-Done-clause-err
 returns-in-Done-clause-err g c =
     if_err c.heed.result _ _
-    (λ ending f n rounds w. took_last g.E.BusEnd.Stands g.E.BusEnd.IsSpent c.args.link n rounds (g.H.Host.calls c.args.host.now) (g.H.Host.calls c.read.new.self) (take c.in-Done.n c.read.new.into) (Done c.in-Done.n)
-    c.args.conversation.now c.args.end.now ending c.in-Done.ensures.calls tt f w)
+    (λ ending f aside n rounds w. took_last (g.E.BusEnd.Stands aside) g.E.BusEnd.IsSpent c.args.link n rounds (g.H.Host.calls c.args.host.now) (g.H.Host.calls c.read.new.self) (take c.in-Done.n c.read.new.into) (Done c.in-Done.n)
+    c.args.conversation.now c.args.end.now ending c.in-Done.ensures.calls tt (f aside) w)
     c.heed.ensures.err
 
 pub returns-in-NotYet-clause-ok : goal.returns-in-NotYet-clause-ok
-returns-in-NotYet-clause-ok g c n w =
-    took_nothing g.E.BusEnd.Stands c.args.link n (g.H.Host.calls c.args.host.now) (g.H.Host.calls c.read.new.self) c.args.conversation.now c.args.end.now c.in-NotYet.ensures.calls w
+returns-in-NotYet-clause-ok g c aside n w =
+    took_nothing (g.E.BusEnd.Stands aside) c.args.link n (g.H.Host.calls c.args.host.now) (g.H.Host.calls c.read.new.self) c.args.conversation.now c.args.end.now c.in-NotYet.ensures.calls w
 
 pub returns-in-End-clause-err : goal.returns-in-End-clause-err
-returns-in-End-clause-err g c n rounds w =
-    peer_ended g.E.BusEnd.Stands g.E.BusEnd.IsSpent c.args.link n rounds (g.H.Host.calls c.args.host.now) (g.H.Host.calls c.read.new.self) c.args.conversation.now c.args.end.now c.in-End.ensures.calls w
+returns-in-End-clause-err g c aside n rounds w =
+    peer_ended (g.E.BusEnd.Stands aside) g.E.BusEnd.IsSpent c.args.link n rounds (g.H.Host.calls c.args.host.now) (g.H.Host.calls c.read.new.self) c.args.conversation.now c.args.end.now c.in-End.ensures.calls w
 
 pub returns-in-Failed-clause-err : goal.returns-in-Failed-clause-err
-returns-in-Failed-clause-err g c n rounds w =
-    read_failed g.E.BusEnd.Stands g.E.BusEnd.IsSpent c.args.link n rounds (g.H.Host.calls c.args.host.now) (g.H.Host.calls c.read.new.self) c.args.conversation.now c.args.end.now c.in-Failed.ensures.calls w
+returns-in-Failed-clause-err g c aside n rounds w =
+    read_failed (g.E.BusEnd.Stands aside) g.E.BusEnd.IsSpent c.args.link n rounds (g.H.Host.calls c.args.host.now) (g.H.Host.calls c.read.new.self) c.args.conversation.now c.args.end.now c.in-Failed.ensures.calls w
 
 pub returns-in-Done-clause-cause : goal.returns-in-Done-clause-cause
 returns-in-Done-clause-cause g c = cause_of c.heed.result (g.H.Host.link_faults c.args.host.now) (g.H.Host.link_faults c.read.new.self) c.heed.ensures.own c.in-Done.ensures.cause
+
+pub returns-in-Done-clause-still : goal.returns-in-Done-clause-still
+returns-in-Done-clause-still g c e = absurd (not_ended c.heed.result c.heed.ensures.own e)
+
+pub returns-in-Done-clause-grows : goal.returns-in-Done-clause-grows
+returns-in-Done-clause-grows g c = read_grows c.args.link (g.H.Host.calls c.args.host.now) (g.H.Host.calls c.read.new.self) (take c.in-Done.n c.read.new.into) (Done c.in-Done.n) c.in-Done.ensures.calls
+
+pub returns-in-NotYet-clause-grows : goal.returns-in-NotYet-clause-grows
+returns-in-NotYet-clause-grows g c = read_grows c.args.link (g.H.Host.calls c.args.host.now) (g.H.Host.calls c.read.new.self) [] NotYet c.in-NotYet.ensures.calls
+
+pub returns-in-End-clause-grows : goal.returns-in-End-clause-grows
+returns-in-End-clause-grows g c = read_grows c.args.link (g.H.Host.calls c.args.host.now) (g.H.Host.calls c.read.new.self) [] End c.in-End.ensures.calls
+
+pub returns-in-Failed-clause-grows : goal.returns-in-Failed-clause-grows
+returns-in-Failed-clause-grows g c = read_grows c.args.link (g.H.Host.calls c.args.host.now) (g.H.Host.calls c.read.new.self) [] Failed c.in-Failed.ensures.calls
