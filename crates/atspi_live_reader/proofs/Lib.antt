@@ -1,0 +1,5 @@
+pub mod Framing
+pub mod Sending
+pub mod Handing
+pub mod Turning
+pub mod Running

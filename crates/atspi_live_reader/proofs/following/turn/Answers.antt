@@ -1,0 +1,36 @@
+use Rattle.std.proofs.Common.{refl}
+use Rattle.atspi_conversation.proofs.StepLemmas.{if_err, on_ok}
+use Rattle.atspi_live_reader.proofs.Turning.{if_match, may_wrote, mute_blames, turn_ended, turn_muted, turned}
+use Rattle.atspi_live_reader.proofs.following.turn.Goals as goal
+
+pub returns-in-Err-clause-err : goal.returns-in-Err-clause-err
+returns-in-Err-clause-err g c written n rounds w =
+    turn_ended c.args.link n rounds c.in-Err.ending (g.H.Host.calls c.args.host.now) (g.H.Host.calls c.round.new.host) c.args.conversation.now c.args.end.now written (g.K.Sink.written c.args.sink.now)
+    c.requires.quiet c.round.ensures.grows w (c.in-Err.ensures.err written n rounds w)
+
+pub returns-clause-ok : goal.returns-clause-ok
+returns-clause-ok g c =
+    on_ok c.speak.result _ _
+    (λ s. turned c.args.link (g.H.Host.calls c.args.host.now) (g.H.Host.calls c.round.new.host) c.args.conversation.now c.round.new.conversation c.args.end.now c.round.new.end c.speak.new.end
+    (g.K.Sink.written c.args.sink.now) (g.K.Sink.written c.speak.new.sink) c.in_default.ensures.ok s)
+    c.speak.ensures.ok
+
+pub returns-clause-err : goal.returns-clause-err
+returns-clause-err g c =
+    if_err c.speak.result _ _
+    (λ over m written n rounds w. turn_muted c.args.link n rounds over (g.H.Host.calls c.args.host.now) (g.H.Host.calls c.round.new.host) c.args.conversation.now c.round.new.conversation c.args.end.now c.round.new.end written
+    (g.K.Sink.written c.args.sink.now) (g.K.Sink.written c.speak.new.sink) c.requires.quiet c.round.ensures.grows w (c.in_default.ensures.ok written n w) m)
+    c.speak.ensures.err
+
+pub returns-clause-may : goal.returns-clause-may
+returns-clause-may g c =
+    on_ok c.speak.result _ _ (λ s. may_wrote c.round.new.end c.speak.new.end (g.K.Sink.written c.args.sink.now) (g.K.Sink.written c.speak.new.sink) c.in_default.ensures.may s) c.speak.ensures.ok
+
+pub returns-clause-quiet : goal.returns-clause-quiet
+returns-clause-quiet g c = on_ok c.speak.result _ _ (λ s. s.quiet) c.speak.ensures.ok
+
+pub returns-clause-cause : goal.returns-clause-cause
+returns-clause-cause g c =
+    if_match c.speak.result _ _ _ (λ x. c.in_default.ensures.cause)
+    (λ over m. mute_blames over c.round.new.end (g.K.Sink.written c.args.sink.now) (g.K.Sink.written c.speak.new.sink) (g.H.Host.link_faults c.args.host.now) (g.H.Host.link_faults c.round.new.host) c.in_default.ensures.cause m)
+    c.speak.ensures.err

@@ -1,0 +1,4 @@
+pub mod Spoken
+pub mod Handed
+pub mod Following
+pub mod Runs

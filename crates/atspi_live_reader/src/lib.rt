@@ -1,0 +1,11 @@
+//! A reader on a Unix socket, which speaks on an output.
+#![tactic(auto)]
+
+mod following;
+mod handed;
+mod live_reader;
+mod over;
+mod run;
+mod speaking;
+
+pub use run::read;

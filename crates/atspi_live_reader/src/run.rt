@@ -1,0 +1,45 @@
+//! A run of a reader on a Unix socket.
+
+ghost use Rattle.std.specs.Prelude.{◌≡◌, []};
+ghost use Rattle.atspi_live_registry.specs.Runs.{Begins, Causes};
+ghost use Rattle.atspi_live_reader.specs.Runs.{AllSpeak, RunEnds};
+
+use crate::following::follow;
+use crate::live_reader::start;
+use crate::over::Over;
+use atspi_base::{Sink, Text};
+use atspi_host::{Did, Host};
+use atspi_live_registry::report;
+use std::alloc::Global;
+
+/// Connects to the bus at the path, and is a reader there for so many rounds: authentication as a client, then the calls of its start, then
+/// what `Reader` does. What is given on the link is a front of the authentication's lines and then of the reader's messages, for the bytes
+/// that were taken. What is written is a front of the lines `say NAME "TEXT"` of what that reader speaks, after each round those of the round.
+///
+/// Status 0: the peer ended. 4: the sink failed. 5: no memory is left. 6: a message of the peer is malformed, and the line
+/// `fault START PLACE REASON` was written, where START is how many bytes of messages stand before it. 7: a call of the host failed. 8: all
+/// rounds were done. 10: the peer did not authenticate. 13: a message would pass number 4,294,967,295.
+pub fn read<K: Sink, H: Host>(
+    alloc: Global,
+    path: &Text,
+    rounds: u32,
+    sink: &mut K,
+    host: &mut H,
+) -> u8
+    requires calls { Begins (H.calls host.old) }
+    requires links { H.links host.old ≡ [] }
+    ensures speech { AllSpeak (H.links host.new) (H.calls host.new) }
+    ensures ends { RunEnds (H.links host.new) result rounds (H.calls host.new) (K.written sink.old) (K.written sink.new) }
+    ensures causes { Causes result (H.faults host.old) (H.faults host.new) (H.link_faults host.old) (H.link_faults host.new) (K.faults sink.old) (K.faults sink.new) }
+{
+    let Ok(mut end) = start(alloc) else {
+        return 5;
+    };
+    let Did::Done(link) = host.connect(path) else {
+        return 7;
+    };
+    match follow(alloc, host, link, &mut end, sink, rounds) {
+        Over::Ended(ending) => report(alloc, ending, sink),
+        Over::NotWritten => 4,
+    }
+}

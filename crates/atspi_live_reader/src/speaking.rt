@@ -1,0 +1,71 @@
+//! What a reader does, one thing after another, as messages for the link and lines for the output.
+
+ghost use Rattle.std.specs.Prelude.{◌≡◌, ◌<◌, ◌++◌, length, IfSome, OnOk};
+ghost use Rattle.atspi_message.specs.Envelope.{envelope_of};
+ghost use Rattle.atspi_reader.specs.ReaderOf.{IsReader, reader_of};
+ghost use Rattle.atspi_live_reader.specs.Spoken.{say_line};
+ghost use Rattle.atspi_live_reader.specs.Handed.{HandsAll, HandsOver, KeepsLine};
+
+use crate::handed::Handed;
+use atspi_base::{Bytes, NoMemory, Text, put_quoted};
+use atspi_message::Message;
+use atspi_protocol::following::ReaderEvent;
+use atspi_reader::Reader;
+use atspi_types::BusName;
+
+/// Appends the line of what is spoken about an application.
+fn put_line(name: &BusName, text: &Text, lines: &mut Bytes) -> Result<(), NoMemory>
+    ensures { OnOk result (lines.new ≡ lines.old ++ say_line name.now text.now) }
+{
+    lines.extend(b"say ")?;
+    lines.extend(name.as_str().as_bytes())?;
+    lines.push(b' ')?;
+    put_quoted(text, lines)?;
+    lines.push(b'\n')
+}
+
+/// Keeps the line of what is spoken. Where there is no memory for it, `starved` says so from then on.
+fn keep_line(name: &BusName, text: &Text, lines: &mut Bytes, starved: &mut bool)
+    ensures { KeepsLine starved.old starved.new lines.old lines.new (say_line name.now text.now) }
+{
+    if put_line(name, text, lines).is_err() {
+        *starved = true;
+    }
+}
+
+/// Takes the oldest thing that a reader did: a message, or a line that is kept with those that are to be written.
+fn hand_over(reader: &mut Reader, lines: &mut Bytes, starved: &mut bool) -> Handed
+    requires { IsReader reader.old }
+    ensures hands { HandsOver result (reader_of reader.old) (reader_of reader.new) starved.old starved.new lines.old lines.new }
+    ensures stays { IsReader reader.new }
+{
+    match reader.next() {
+        Some(ReaderEvent::Send(message)) => Handed::Message(message),
+        Some(ReaderEvent::Say(name, text)) => {
+            keep_line(&name, &text, lines, starved);
+            Handed::Aside
+        }
+        Some(ReaderEvent::Gone(_)) => Handed::Aside,
+        None => Handed::Nothing,
+    }
+}
+
+/// The oldest message of a reader that was not handed out. The lines that it spoke before that are kept.
+pub(crate) fn next_message(
+    reader: &mut Reader,
+    lines: &mut Bytes,
+    starved: &mut bool,
+) -> Option<Message>
+    requires { IsReader reader.old }
+    ensures hands { HandsAll envelope_of result (reader_of reader.old) (reader_of reader.new) starved.old starved.new lines.old lines.new }
+    ensures stays { IsReader reader.new }
+    ensures fewer { IfSome result (λ m. length (reader_of reader.new).out < length (reader_of reader.old).out) }
+{
+    'events: loop {
+        match hand_over(reader, lines, starved) {
+            Handed::Message(message) => return Some(message),
+            Handed::Aside => {}
+            Handed::Nothing => return None,
+        }
+    }
+}
