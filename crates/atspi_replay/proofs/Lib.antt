@@ -1,0 +1,9 @@
+pub mod DoneLemmas
+pub mod LineLemmas
+pub mod MadeLemmas
+pub mod MayLemmas
+pub mod Pending
+pub mod PlayLemmas
+pub mod RunLemmas
+pub mod StopLemmas
+pub mod TellLemmas

@@ -1,0 +1,10 @@
+use Rattle.std.proofs.Common.{◌≡◌}
+use Rattle.atspi_replay.proofs.Pending.{Pending}
+use Rattle.atspi_replay.proofs.telling.write_trace.Given as goal
+
+abbrev pub invariant-loop-place : goal.invariant-loop-place
+invariant-loop-place g l =
+    record {
+      told : Pending l.options (g.K.Sink.written l.fn.sink) (g.K.Sink.written l.sink) l.text;
+      steady : g.K.Sink.faults l.sink ≡ g.K.Sink.faults l.fn.sink;
+    }

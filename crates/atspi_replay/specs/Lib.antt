@@ -1,0 +1,9 @@
+pub mod Input
+pub mod Lines
+pub mod Names
+pub mod Told
+pub mod Done
+pub mod Play
+pub mod Causes
+pub mod Run
+pub mod Made

@@ -1,0 +1,28 @@
+-- What is written of events: the text of each that is told, and the bytes of its message where they are asked for.
+use Rattle.std.specs.Prelude.{ℕ, List, [], ◌∷◌, ◌++◌, cond}
+use Rattle.std.specs.List.{flat_map}
+use Rattle.atspi_events.specs.declared.event.Event.{Event}
+use Rattle.atspi_events.specs.declared.options.TraceOptions.{TraceOptions}
+use Rattle.atspi_events.specs.EventText.{ended, event_text}
+use Rattle.atspi_events.specs.TraceText.{is_brief, wire_line}
+
+-- an event, and the bytes of the message that it tells of; none where it tells of none
+pub record Told : Type 0 where
+  pub event : Event
+  pub bytes : List ℕ
+
+-- bytes as a line, where there are some
+abbrev pub bytes_text : List ℕ → List ℕ
+bytes_text [] = []
+bytes_text (b ∷ bytes) = ended (wire_line (b ∷ bytes))
+
+-- an event's text, and the bytes where they are asked for
+abbrev pub whole_text : TraceOptions → Told → List ℕ
+whole_text options t = event_text t.event ++ cond options.wire (bytes_text t.bytes) []
+
+-- nothing of an event that the brief text does not keep
+abbrev pub entry_text : TraceOptions → Told → List ℕ
+entry_text options t = cond options.brief (cond (is_brief t.event) (whole_text options t) []) (whole_text options t)
+
+abbrev pub told_text : TraceOptions → List Told → List ℕ
+told_text options ts = flat_map (entry_text options) ts

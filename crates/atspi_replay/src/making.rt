@@ -1,0 +1,258 @@
+//! `make`: a script is drawn from a seed and done, and what came of it is told in a line.
+
+ghost use Rattle.std.specs.Prelude.{◌≡◌, ◌++◌, ◌<◌, ℕ, All, OnOk};
+ghost use Rattle.std.specs.Fmt.{decimal};
+ghost use Rattle.std.specs.Io.KnownBytes.{Appends};
+ghost use Rattle.atspi_base.specs.Outside.{AppendsPart};
+ghost use Rattle.atspi_bus_steps.specs.Inner.{state_of};
+ghost use Rattle.atspi_stage.specs.MayAct.{MayAct};
+ghost use Rattle.atspi_stage.specs.Stage.{IsStage};
+ghost use Rattle.atspi_replay.specs.Causes.{Causes};
+ghost use Rattle.atspi_replay.specs.Made.{IsHalt, Made, made_text};
+
+use crate::naming::{Halt, Stop, stop_of_act};
+use atspi_base::{Bytes, NoMemory, Sink, Text, put_decimal, write_all};
+use atspi_events::Event;
+use atspi_lines::Line;
+use atspi_make::{Draws, HasTree, LiveNodes, next_edit};
+use atspi_stage::Stage;
+use atspi_stage_ends::{Application, Follower};
+use std::alloc::Global;
+
+/// The most edits that are made.
+pub const MAKE_LIMIT: u32 = 20_000;
+
+/// Seeds are below this.
+pub const SEED_LIMIT: u32 = 2_147_483_648;
+
+/// Behind so many edits come turns.
+const ROUND: u32 = 16;
+
+/// So many turns.
+const TURNS: u32 = 64;
+
+/// A line is done.
+fn act<A: Application, R: Follower>(world: &mut Stage<A, R>, line: &Line) -> Result<(), Stop>
+    requires may { MayAct line.now }
+    requires stage { IsStage A.is_app R.is_follower A.is_kit A.is_spare world.old.cast.apps.items world.old.cast.readers.items world.old.kits.items world.old.spares.items (state_of world.old.carrier.bus) }
+    ensures stage { OnOk result (IsStage A.is_app R.is_follower A.is_kit A.is_spare world.new.cast.apps.items world.new.cast.readers.items world.new.kits.items world.new.spares.items (state_of world.new.carrier.bus)) }
+{
+    match world.act(line) {
+        Ok(()) => Ok(()),
+        Err(fault) => Err(stop_of_act(fault)),
+    }
+}
+
+/// The application and the reader start, and know of one another.
+fn begin<A: Application, R: Follower>(alloc: Global, world: &mut Stage<A, R>) -> Result<(), Stop>
+    requires stage { IsStage A.is_app R.is_follower A.is_kit A.is_spare world.old.cast.apps.items world.old.cast.readers.items world.old.kits.items world.old.spares.items (state_of world.old.carrier.bus) }
+    ensures stage { OnOk result (IsStage A.is_app R.is_follower A.is_kit A.is_spare world.new.cast.apps.items world.new.cast.readers.items world.new.kits.items world.new.spares.items (state_of world.new.carrier.bus)) }
+{
+    let Ok(name) = Text::of(alloc, "Made") else {
+        return Err(Stop::NoMemory);
+    };
+    act(world, &Line::App(name))?;
+    act(world, &Line::Reader)?;
+    act(world, &Line::Drain)
+}
+
+/// The edit with this number is drawn from the application's tree and made.
+fn make_edit<A: Application + HasTree, R: Follower>(
+    alloc: Global,
+    world: &mut Stage<A, R>,
+    number: u32,
+    nodes: &mut LiveNodes,
+    draws: &mut Draws,
+) -> Result<(), Stop>
+    requires stage { IsStage A.is_app R.is_follower A.is_kit A.is_spare world.old.cast.apps.items world.old.cast.readers.items world.old.kits.items world.old.spares.items (state_of world.old.carrier.bus) }
+    ensures stage { OnOk result (IsStage A.is_app R.is_follower A.is_kit A.is_spare world.new.cast.apps.items world.new.cast.readers.items world.new.kits.items world.new.spares.items (state_of world.new.carrier.bus)) }
+{
+    let Some(app) = world.app(0) else {
+        return Ok(());
+    };
+    let tree = app.tree();
+    let Ok(()) = nodes.follow(tree) else {
+        return Err(Stop::NoMemory);
+    };
+    let Ok(edit) = next_edit(alloc, tree, nodes, number, draws) else {
+        return Err(Stop::NoMemory);
+    };
+    act(world, &Line::Edit { app: 0, edit })
+}
+
+/// Behind each sixteenth edit come turns.
+fn make_turns<A: Application, R: Follower>(world: &mut Stage<A, R>, number: u32) -> Result<(), Stop>
+    requires stage { IsStage A.is_app R.is_follower A.is_kit A.is_spare world.old.cast.apps.items world.old.cast.readers.items world.old.kits.items world.old.spares.items (state_of world.old.carrier.bus) }
+    ensures stage { OnOk result (IsStage A.is_app R.is_follower A.is_kit A.is_spare world.new.cast.apps.items world.new.cast.readers.items world.new.kits.items world.new.spares.items (state_of world.new.carrier.bus)) }
+{
+    if number % ROUND == 0 {
+        return act(world, &Line::Turns(TURNS));
+    }
+    Ok(())
+}
+
+/// So many edits, with turns behind each sixteenth, and all that then waits.
+fn make_edits<A: Application + HasTree, R: Follower>(
+    alloc: Global,
+    world: &mut Stage<A, R>,
+    count: u32,
+    draws: &mut Draws,
+) -> Result<(), Stop>
+    requires count { count < 4294967295 }
+    requires stage { IsStage A.is_app R.is_follower A.is_kit A.is_spare world.old.cast.apps.items world.old.cast.readers.items world.old.kits.items world.old.spares.items (state_of world.old.carrier.bus) }
+    ensures stage { OnOk result (IsStage A.is_app R.is_follower A.is_kit A.is_spare world.new.cast.apps.items world.new.cast.readers.items world.new.kits.items world.new.spares.items (state_of world.new.carrier.bus)) }
+{
+    let mut nodes = LiveNodes::new(alloc);
+    for number in 1..count + 1 {
+        make_edit(alloc, world, number, &mut nodes, draws)?;
+        make_turns(world, number)?;
+    }
+    act(world, &Line::Drain)
+}
+
+/// How many events of a trace are steps.
+fn count_steps(trace: &[Event]) -> usize {
+    trace
+        .iter()
+        .filter(|event| matches!(event, Event::Step { .. }))
+        .count()
+}
+
+/// How many events of a trace are spoken lines.
+fn count_says(trace: &[Event]) -> usize {
+    trace
+        .iter()
+        .filter(|event| matches!(event, Event::Say { .. }))
+        .count()
+}
+
+/// Appends a word and a number.
+fn put_count(word: &[u8], count: usize, out: &mut Bytes) -> Result<(), NoMemory>
+    ensures { OnOk result (out.new ≡ out.old ++ (word.now ++ decimal count)) }
+{
+    out.extend(word)?;
+    put_decimal(count as u64, out)
+}
+
+/// What came of a script.
+#[derive(Clone, Copy)]
+struct Outcome {
+    /// The steps that were made.
+    steps: usize,
+    /// The rows that the reader shows.
+    nodes: usize,
+    /// The lines that it spoke.
+    says: usize,
+}
+
+/// What came of a script.
+fn what_came<A: Application, R: Follower>(world: &Stage<A, R>) -> Outcome
+    requires stage { IsStage A.is_app R.is_follower A.is_kit A.is_spare world.now.cast.apps.items world.now.cast.readers.items world.now.kits.items world.now.spares.items (state_of world.now.carrier.bus) }
+{
+    Outcome {
+        steps: count_steps(world.trace()),
+        nodes: world.row_count(0, 0),
+        says: count_says(world.trace()),
+    }
+}
+
+/// Appends the line that tells what came of a script.
+fn put_made(count: u32, seed: u32, of: Outcome, out: &mut Bytes) -> Result<(), NoMemory>
+    ensures { OnOk result (out.new ≡ out.old ++ made_text count seed of.steps of.nodes of.says) }
+{
+    put_count(b"made ", count as usize, out)?;
+    put_count(b" ", seed as usize, out)?;
+    put_count(b" steps ", of.steps, out)?;
+    put_count(b" nodes ", of.nodes, out)?;
+    put_count(b" says ", of.says, out)?;
+    out.push(b'\n')
+}
+
+/// Writes the line that tells what came of a script.
+fn tell<K: Sink>(alloc: Global, count: u32, seed: u32, of: Outcome, sink: &mut K) -> u8
+    ensures made { Made count seed result (K.written sink.old) (K.written sink.new) }
+    ensures causes { (source : ℕ) → Causes result source source (K.faults sink.old) (K.faults sink.new) }
+{
+    let mut text = Bytes::new(alloc);
+    let Ok(()) = put_made(count, seed, of, &mut text) else {
+        return 5;
+    };
+    match write_all(sink, text.as_slice()) {
+        Ok(()) => 0,
+        Err(_) => 4,
+    }
+}
+
+/// The status of a script that was not done to its end.
+fn halted(stop: Stop) -> u8
+    ensures { IsHalt result }
+{
+    match stop {
+        Stop::Refused(_) => 1,
+        Stop::Halted(Halt::RegistryLost) => 9,
+        Stop::Halted(Halt::Spent) => 13,
+        // nothing was written yet
+        Stop::Write => 5,
+        Stop::NoMemory => 5,
+    }
+}
+
+/// Makes the edits in a world, and answers what came of them.
+fn make_in<A: Application + HasTree, R: Follower>(
+    alloc: Global,
+    world: &mut Stage<A, R>,
+    count: u32,
+    seed: u32,
+) -> Result<Outcome, Stop>
+    requires count { count < 4294967295 }
+    requires seed { seed < 2147483648 }
+    requires stage { IsStage A.is_app R.is_follower A.is_kit A.is_spare world.old.cast.apps.items world.old.cast.readers.items world.old.kits.items world.old.spares.items (state_of world.old.carrier.bus) }
+{
+    begin(alloc, world)?;
+    let mut draws = Draws::new(seed);
+    make_edits(alloc, world, count, &mut draws)?;
+    Ok(what_came(world))
+}
+
+/// Makes the edits in a world over these kits and spares, and answers what came of them.
+fn make_all<A: Application + HasTree, R: Follower>(
+    alloc: Global,
+    count: u32,
+    seed: u32,
+    kits: Vec<A::Kit>,
+    spares: Vec<A::Spare>,
+) -> Result<Outcome, Stop>
+    requires count { count < 4294967295 }
+    requires seed { seed < 2147483648 }
+    requires kits { All A.is_kit kits.items }
+    requires spares { All A.is_spare spares.items }
+{
+    let made: Result<Stage<A, R>, _> = Stage::new(alloc, kits, spares);
+    match made {
+        Ok(mut world) => make_in(alloc, &mut world, count, seed),
+        Err(_) => Err(Stop::NoMemory),
+    }
+}
+
+/// Draws a script of so many edits from a seed, does it in a world over these kits and spares, and writes how many steps were made, how many
+/// nodes the reader shows, and how many lines it spoke.
+pub fn make<A: Application + HasTree, R: Follower, K: Sink>(
+    alloc: Global,
+    count: u32,
+    seed: u32,
+    sink: &mut K,
+    kits: Vec<A::Kit>,
+    spares: Vec<A::Spare>,
+) -> u8
+    requires count { count < 4294967295 }
+    requires seed { seed < 2147483648 }
+    requires kits { All A.is_kit kits.items }
+    requires spares { All A.is_spare spares.items }
+    ensures made { Made count seed result (K.written sink.old) (K.written sink.new) }
+    ensures causes { (source : ℕ) → Causes result source source (K.faults sink.old) (K.faults sink.new) }
+{
+    match make_all::<A, R>(alloc, count, seed, kits, spares) {
+        Ok(of) => tell(alloc, count, seed, of, sink),
+        Err(stop) => halted(stop),
+    }
+}

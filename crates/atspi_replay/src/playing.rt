@@ -1,0 +1,118 @@
+//! Doing the lines of a script, one after another, and writing what each adds to the trace.
+
+ghost use Rattle.std.specs.Prelude.{◌≡◌, All, OnOk, OnErr};
+ghost use Rattle.std.specs.Io.KnownBytes.{Appends};
+ghost use Rattle.atspi_bus_steps.specs.Inner.{state_of};
+ghost use Rattle.atspi_stage.specs.Stage.{IsStage};
+ghost use Rattle.atspi_replay.specs.Lines.{lines_read};
+ghost use Rattle.atspi_replay.specs.Names.{RefusedAs, refused_text};
+ghost use Rattle.atspi_replay.specs.Play.{BlamesWrite, Did, DoesLine, IfHalted, IfRefused, Played, PlayedHalted, PlayedPart, PlayedRefused, StoppedAt};
+
+use crate::lines::next_line;
+use crate::naming::{Stop, stop_of_act, stop_of_line};
+use crate::telling::{finish, refuse, write_trace};
+use atspi_base::Sink;
+use atspi_events::TraceOptions;
+use atspi_lines::parse_line;
+use atspi_stage::Stage;
+use atspi_stage_ends::{Application, Follower};
+use std::alloc::Global;
+
+/// Reads a line, and lets the world do it.
+fn do_line<A: Application, R: Follower>(
+    alloc: Global,
+    world: &mut Stage<A, R>,
+    bytes: &[u8],
+) -> Result<(), Stop>
+    requires stage { IsStage A.is_app R.is_follower A.is_kit A.is_spare world.old.cast.apps.items world.old.cast.readers.items world.old.kits.items world.old.spares.items (state_of world.old.carrier.bus) }
+    ensures stage { OnOk result (IsStage A.is_app R.is_follower A.is_kit A.is_spare world.new.cast.apps.items world.new.cast.readers.items world.new.kits.items world.new.spares.items (state_of world.new.carrier.bus)) }
+    ensures line { DoesLine result bytes.now }
+{
+    match parse_line(alloc, bytes) {
+        Err(fault) => Err(stop_of_line(fault)),
+        Ok(line) => match world.act(&line) {
+            Ok(()) => Ok(()),
+            Err(fault) => Err(stop_of_act(fault)),
+        },
+    }
+}
+
+/// Does a line, and writes what it added to the trace, or that it is refused. Lines are counted from 1.
+fn play_line<A: Application, R: Follower, K: Sink>(
+    alloc: Global,
+    world: &mut Stage<A, R>,
+    options: TraceOptions,
+    number: u64,
+    line: &[u8],
+    sink: &mut K,
+) -> Result<(), Stop>
+    requires stage { IsStage A.is_app R.is_follower A.is_kit A.is_spare world.old.cast.apps.items world.old.cast.readers.items world.old.kits.items world.old.spares.items (state_of world.old.carrier.bus) }
+    ensures stage { OnOk result (IsStage A.is_app R.is_follower A.is_kit A.is_spare world.new.cast.apps.items world.new.cast.readers.items world.new.kits.items world.new.spares.items (state_of world.new.carrier.bus)) }
+    ensures ok { OnOk result (Did options line.now (K.written sink.old) (K.written sink.new)) }
+    ensures halted { IfHalted result (Did options line.now (K.written sink.old) (K.written sink.new)) }
+    ensures refused { IfRefused result (λ why. RefusedAs line.now why × Appends (K.written sink.old) (K.written sink.new) (refused_text number why)) }
+    ensures err { OnErr result (StoppedAt options line.now number (K.written sink.old) (K.written sink.new)) }
+    ensures cause { BlamesWrite result (K.faults sink.old) (K.faults sink.new) }
+{
+    let from = world.trace().len();
+    match do_line(alloc, world, line) {
+        Ok(()) => write_trace(alloc, world, options, from, sink),
+        Err(Stop::Refused(why)) => refuse(alloc, number, why, sink),
+        Err(Stop::Halted(halt)) => finish(alloc, world, options, from, halt, sink),
+        Err(Stop::Write) => Err(Stop::Write),
+        Err(Stop::NoMemory) => Err(Stop::NoMemory),
+    }
+}
+
+/// Does each line of the text, and writes what they add to the trace. The last line counts where `ended` says so.
+fn play_lines<A: Application, R: Follower, K: Sink>(
+    alloc: Global,
+    world: &mut Stage<A, R>,
+    options: TraceOptions,
+    text: &[u8],
+    ended: bool,
+    sink: &mut K,
+) -> Result<(), Stop>
+    requires stage { IsStage A.is_app R.is_follower A.is_kit A.is_spare world.old.cast.apps.items world.old.cast.readers.items world.old.kits.items world.old.spares.items (state_of world.old.carrier.bus) }
+    ensures ok { OnOk result (Played options (lines_read ended text.now) (K.written sink.old) (K.written sink.new)) }
+    ensures halted { IfHalted result (PlayedHalted options (lines_read ended text.now) (K.written sink.old) (K.written sink.new)) }
+    ensures refused { IfRefused result (λ why. PlayedRefused options (lines_read ended text.now) (K.written sink.old) (K.written sink.new)) }
+    ensures err { OnErr result (PlayedPart options (lines_read ended text.now) (K.written sink.old) (K.written sink.new)) }
+    ensures cause { BlamesWrite result (K.faults sink.old) (K.faults sink.new) }
+{
+    let mut rest = text;
+    let mut number = 0u64;
+    while let Some((line, after)) = next_line(rest, ended) {
+        number += 1;
+        if let Err(stop) = play_line(alloc, world, options, number, line, sink) {
+            return Err(stop);
+        }
+        rest = after;
+    }
+    Ok(())
+}
+
+/// Does each line of the text in a world over these kits and spares, and writes the trace.
+pub(crate) fn play<A: Application, R: Follower, K: Sink>(
+    alloc: Global,
+    options: TraceOptions,
+    text: &[u8],
+    ended: bool,
+    sink: &mut K,
+    kits: Vec<A::Kit>,
+    spares: Vec<A::Spare>,
+) -> Result<(), Stop>
+    requires kits { All A.is_kit kits.items }
+    requires spares { All A.is_spare spares.items }
+    ensures ok { OnOk result (Played options (lines_read ended text.now) (K.written sink.old) (K.written sink.new)) }
+    ensures halted { IfHalted result (PlayedHalted options (lines_read ended text.now) (K.written sink.old) (K.written sink.new)) }
+    ensures refused { IfRefused result (λ why. PlayedRefused options (lines_read ended text.now) (K.written sink.old) (K.written sink.new)) }
+    ensures err { OnErr result (PlayedPart options (lines_read ended text.now) (K.written sink.old) (K.written sink.new)) }
+    ensures cause { BlamesWrite result (K.faults sink.old) (K.faults sink.new) }
+{
+    let made: Result<Stage<A, R>, _> = Stage::new(alloc, kits, spares);
+    match made {
+        Ok(mut world) => play_lines(alloc, &mut world, options, text, ended, sink),
+        Err(_) => Err(Stop::NoMemory),
+    }
+}
