@@ -1,3 +1,5 @@
 pub mod Naming
 pub mod Places
 pub mod LawNames
+pub mod Bounds
+pub mod LawEnds

@@ -90,7 +90,7 @@ caused : (es : List Entry) (w : World) (d : Done) → Numbered es w → Begun es
 caused es w d m i (resets quota few is) = quietly es d.entries i (none_of d _ is tt)
 caused es w d m i (app_joins name short is) =
     starting es d.entries (App (app_count w.ends)) _ i (m.2 (App (app_count w.ends)) (least (app_count w.ends))) (Some name) (ap (λ x. x.entries) is) (did_no_start (number_of (party_at (w.ends ++ put_up [] (newcomer (App (app_count w.ends)) (an_application (begins_app name))) ∷ []) (length w.ends))) (starts (begins_app name)).out)
-caused es w d m i (reader_joins is) =
+caused es w d m i (reader_joins few is) =
     starting es d.entries (Reader (reader_count w.ends)) _ i (m.2 (Reader (reader_count w.ends)) (least (reader_count w.ends))) None (ap (λ x. x.entries) is) (tt, tt)
 caused es w d m i (app_edited b) = quietly es d.entries i (none_of d _ b.is (did_no_start _ b.after.out))
 caused es w d m i (app_took b) = quietly es d.entries i (none_of d _ b.is (tt, did_no_start _ (app_takes b.before b.letter.said.message).out))

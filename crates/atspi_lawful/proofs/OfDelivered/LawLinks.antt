@@ -254,7 +254,7 @@ caused : (es : List Entry) (w : World) (d : Done) → Shape w → Owned es w →
 caused es w d s o i (resets quota few is) = (quietly es d.entries i.0 (not_got_of d _ is tt), subst (λ x. Fine x.world) (sym is) (first_fine quota))
 caused es w d s o i (app_joins name short is) =
     joins es w d (new_app w name) i (not_got_of d _ is (tt, (tt, tt))) (ap (λ x. x.world.ends) is ∙ app_joined w name) refl (ap (λ x. x.world.bus.state.next) is) (ap (λ x. x.world.bus.state.owners) is)
-caused es w d s o i (reader_joins is) = joins es w d (new_reader w) i (not_got_of d _ is (tt, (tt, tt))) (ap (λ x. x.world.ends) is) refl (ap (λ x. x.world.bus.state.next) is) (ap (λ x. x.world.bus.state.owners) is)
+caused es w d s o i (reader_joins few is) = joins es w d (new_reader w) i (not_got_of d _ is (tt, (tt, tt))) (ap (λ x. x.world.ends) is) refl (ap (λ x. x.world.bus.state.next) is) (ap (λ x. x.world.bus.state.owners) is)
 caused es w d s o i (app_edited b) =
     changed es w d b.conn (has_done b.before b.after) i (not_got_of d _ b.is (did_not_got _ b.after.out)) (ap (λ x. x.world.ends) b.is) (λ x a. a) (ap (λ x. x.world.bus.state.next) b.is) (ap (λ x. x.world.bus.state.owners) b.is)
 caused es w d s o i (app_took b) =

@@ -208,7 +208,7 @@ caused es w d s after t i (app_joins name short is) = (
       (none_of d _ is (tt, did_none (number_of (party_at (w.ends ++ put_up [] (newcomer (App (app_count w.ends)) (an_application (begins_app name))) ∷ []) (length w.ends))) (starts (begins_app name)).out)),
   joins_ends w d.world (new_app w name) i.1 (ap (λ x. x.world.ends) is ∙ app_joined w name) (ap (λ x. x.world.bus.state.joined) is) (ap (λ x. x.world.bus.state.owners) is) (ap (λ x. x.world.bus.waiting.due) is),
 )
-caused es w d s after t i (reader_joins is) = (
+caused es w d s after t i (reader_joins few is) = (
   law_more es d.entries i.0 (none_of d _ is (tt, (tt, tt))),
   joins_ends w d.world (new_reader w) i.1 (ap (λ x. x.world.ends) is) (ap (λ x. x.world.bus.state.joined) is) (ap (λ x. x.world.bus.state.owners) is) (ap (λ x. x.world.bus.waiting.due) is),
 )

@@ -327,7 +327,7 @@ reader_took_ends w d b =
 caused_heard : (es : List Entry) (w : World) (d : Done) → Shape w → Trees es w → Numbered es w → Heard es w → Effect w d → Heard (es ++ d.entries) d.world
 caused_heard es w d s t m i (resets quota few is) = anew es w d quota s i few is
 caused_heard es w d s t m i (app_joins name short is) = join_heard es w d name s m i is
-caused_heard es w d s t m i (reader_joins is) = reader_heard es w d s i is
+caused_heard es w d s t m i (reader_joins few is) = reader_heard es w d s i is
 caused_heard es w d s t m i (app_edited b) = edits_heard es w d s t m.1 i b
 caused_heard es w d s t m i (app_took b) = takes_heard es w d s t m.1 i b
 caused_heard es w d s t m i (reader_called b) =

@@ -528,7 +528,7 @@ anew es w d quota s i few is =
 caused_holds : (es : List Entry) (w : World) (d : Done) → Shape w → Numbered es w → Known es w → Holds es w → Effect w d → Holds (es ++ d.entries) d.world
 caused_holds es w d s m kn i (resets quota few is) = anew es w d quota s i few is
 caused_holds es w d s m kn i (app_joins name short is) = joins_hold es w d name s i is
-caused_holds es w d s m kn i (reader_joins is) = reader_joins_hold es w d s m i is
+caused_holds es w d s m kn i (reader_joins few is) = reader_joins_hold es w d s m i is
 caused_holds es w d s m kn i (app_edited b) =
     app_acts es w d.world d.entries b.conn w.ends (has_done b.before b.after) i (over_same SameReader same_reader w.ends) (app_same b.before b.after) (ap (λ x. x.world.ends) b.is)
     (fresh_over w d.world (edits_over w d b)) (none_in d _ b.is (did_no_reader _ b.after.out))

@@ -61,7 +61,7 @@ caused_linked es w d s t m i (resets quota few is) = anew es w d quota s i few i
 caused_linked es w d s t m i (app_joins name short is) =
     joins_linked es d.entries w d.world (new_app w name) i (ap (λ x. x.world.ends) is ∙ app_joined w name) (least (app_count w.ends)) refl (record { ups = (refl, tt); total = refl })
     (app_speaks w d s name is).grown (free_of d (app_starts w name) is (tt, (tt, tt)))
-caused_linked es w d s t m i (reader_joins is) =
+caused_linked es w d s t m i (reader_joins few is) =
     joins_linked es d.entries w d.world (new_reader w) i (ap (λ x. x.world.ends) is) (least (reader_count w.ends)) refl (record { ups = (refl, tt); total = refl })
     (reader_speaks w d s is).grown (free_of d (reader_starts w) is (tt, (tt, tt)))
 caused_linked es w d s t m i (app_edited b) =

@@ -204,7 +204,7 @@ wrote_alive es w d s a (app_joins name short is) =
     let p : Party = App (app_count w.ends) in
     let live : is_live (es ++ started p (Some name) ∷ []) p ≡ true = new_alive es w p (Some name) s refl (λ h. false_true (ap (λ q. same_party q The_bus) h)) a.0.1.1 in
     subst (λ x. Each ActsAlive es x.entries) (sym is) (tt, (subst (λ n. is_live (es ++ started p (Some name) ∷ []) (App n) ≡ true) (sym number) live, tt))
-wrote_alive es w d s a (reader_joins is) =
+wrote_alive es w d s a (reader_joins few is) =
     let p : Party = Reader (reader_count w.ends) in
     subst (λ x. Each ActsAlive es x.entries) (sym is) (tt, (new_alive es w p None s refl (λ h. false_true (ap (λ q. same_party q The_bus) h)) a.0.1.1, tt))
 wrote_alive es w d s a (app_edited b) =

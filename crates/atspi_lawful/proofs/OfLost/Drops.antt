@@ -131,7 +131,7 @@ plain_last d c is a = none_last d.entries (subst (λ x. AllByRecursion NoDrop x.
 effect_last : (w : World) (d : Done) → Effect w d → DropsLast d.entries
 effect_last w d (resets quota few is) = plain_last d _ is tt
 effect_last w d (app_joins name short is) = plain_last d _ is (refl, (refl, tt))
-effect_last w d (reader_joins is) = plain_last d _ is (refl, (refl, tt))
+effect_last w d (reader_joins few is) = plain_last d _ is (refl, (refl, tt))
 effect_last w d (app_edited b) = plain_last d _ b.is (did_plain _ b.after.out)
 effect_last w d (app_took b) = plain_last d _ b.is (refl, did_plain _ (app_takes b.before b.letter.said.message).out)
 effect_last w d (reader_called b) = plain_last d _ b.is (refl, tt)

@@ -82,13 +82,13 @@ pub record SameName (e d : End) : Type 0 where
   pub unique : d.unique ≡ e.unique
   pub on : d.standing ≡ here → e.standing ≡ here
 
-same_name : IsOrder SameName
+pub same_name : IsOrder SameName
 same_name = record {
   same = λ e. record { whose = refl; unique = refl; on = λ h. h };
   both = λ e d c f g. record { whose = g.whose ∙ f.whose; unique = g.unique ∙ f.unique; on = λ h. f.on (g.on h) };
 }
 
-alike : (e d : End) → d.who ≡ e.who → d.unique ≡ e.unique → d.standing ≡ e.standing → SameName e d
+pub alike : (e d : End) → d.who ≡ e.who → d.unique ≡ e.unique → d.standing ≡ e.standing → SameName e d
 alike e d who unique standing = record { whose = who; unique = unique; on = λ h. sym standing ∙ h }
 
 all_to : {X : Type 0} (P Q : X → Type 0) (xs : List X) → ((x : X) → P x → Q x) → AllByRecursion P xs → AllByRecursion Q xs
@@ -142,7 +142,7 @@ module _ (es ys : List Entry) (w v : World) (i : Named es w) (o : Over SameName 
           by (inl h) = inl (x.2.whose ∙ h)
           by (inr h) = inr (subst (λ p. 1 ≤ count_got_by_bus (es ++ ys) p) (sym x.2.whose) (more_count es ys x.0.who h))
 
-still_quiet : (es ys : List Entry) (w v : World) → Named es w → Over SameName w.ends v.ends → AllByRecursion NotTaken ys → v.bus.state.owners ≡ w.bus.state.owners → Named (es ++ ys) v
+pub still_quiet : (es ys : List Entry) (w v : World) → Named es w → Over SameName w.ends v.ends → AllByRecursion NotTaken ys → v.bus.state.owners ≡ w.bus.state.owners → Named (es ++ ys) v
 still_quiet es ys w v i o quiet owners =
     still es ys w v i o (same_greeted es ys (none_greeted ys quiet)) (ap (λ (x : Owners). x.given) owners) (λ k d h s. ap (λ x. unique_of x k) owners) (λ k h. ap (λ x. unique_of x k) owners ∙ h)
     (λ k e h none. none_taken e.who ys quiet)
@@ -610,7 +610,7 @@ anew es w d quota i few is = subst (λ x. Named (es ++ x.entries) x.world) (sym 
     empty (x ∷ xs) h = absurd (omega (arith, h))
 
 -- EACH CAUSE
-down_same : (e : End) → SameName e (taken_down e)
+pub down_same : (e : End) → SameName e (taken_down e)
 down_same e = alike e (taken_down e) refl refl refl
 
 done_same : (x y : Exporter) (e : End) → SameName e (has_done x y e)
@@ -650,7 +650,7 @@ caused es w d s t g m l i (resets quota few is) = anew es w d quota i few is
 caused es w d s t g m l i (app_joins name short is) =
     joined_named es d.entries w d.world s l i (new_app w name) (ap (λ x. x.world.ends) is ∙ app_joined w name) refl (least (app_count w.ends)) (ap (λ x. x.world.bus.state.owners) is)
     (free_as d (app_starts w name) is (tt, (tt, tt)))
-caused es w d s t g m l i (reader_joins is) =
+caused es w d s t g m l i (reader_joins few is) =
     joined_named es d.entries w d.world s l i (new_reader w) (ap (λ x. x.world.ends) is) refl (least (reader_count w.ends)) (ap (λ x. x.world.bus.state.owners) is) (free_as d (reader_starts w) is (tt, (tt, tt)))
 caused es w d s t g m l i (app_edited b) =
     by_end es w d i (has_done b.before b.after) b.conn (done_same b.before b.after) (ap (λ x. x.world.ends) b.is) (free_as d _ b.is (did_free _ b.after.out)) (ap (λ x. x.world.bus.state.owners) b.is)

@@ -108,7 +108,7 @@ acts w d s t (app_joins name short is) =
     let first : number_of (party_at (w.ends ++ put_up [] (newcomer (App (app_count w.ends)) (an_application (begins name))) ∷ []) (length w.ends)) ≡ app_count w.ends =
     ap (λ o. number_of (whose o)) (last_at w.ends (put_up [] (newcomer (App (app_count w.ends)) (an_application (begins name))))) in
     acted (subst (λ x. AllByRecursion (Act (Actor w)) x.entries) (sym is) (inr (inr refl), subst (λ n. AllByRecursion (Act (Actor w)) (map (did n) (starts (begins name)).out)) (sym first) (did_act (Actor w) (app_count w.ends) (starts (begins name)).out (inr (inr refl)))))
-acts w d s t (reader_joins is) = acted (subst (λ x. AllByRecursion (Act (Actor w)) x.entries) (sym is) (inr (inr refl), (inr (inr refl), tt)))
+acts w d s t (reader_joins few is) = acted (subst (λ x. AllByRecursion (Act (Actor w)) x.entries) (sym is) (inr (inr refl), (inr (inr refl), tt)))
 acts w d s t (app_edited b) =
     acted (subst (λ x. AllByRecursion (Act (Actor w)) x.entries) (sym b.is)
     (subst (λ n. AllByRecursion (Act (Actor w)) (map (did n) b.after.out)) (sym (number_at w.ends b.conn b.app b.e b.is_here.there b.whose))

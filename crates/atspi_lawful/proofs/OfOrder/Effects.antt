@@ -1,10 +1,11 @@
 -- What a cause that is allowed does, in the few forms that there are.
 use Rattle.std.proofs.Common.{◌≡◌, ℕ, suc, false, List, [], ◌∷◌, length, None, Some, refl, sym, ap, ◌∙◌, subst}
-use Rattle.std.specs.Prelude.{nat_lt, Result, Ok, Err}
+use Rattle.std.specs.Prelude.{nat_lt, nat_le, Result, Ok, Err}
 use Rattle.atspi_forest.specs.declared.edit.Edit.{Edit}
 use Rattle.atspi_forest.specs.declared.edit.EditFault.{EditFault}
 use Rattle.atspi_forest.specs.Edits.{is_long_name, IsEdit}
 use Rattle.atspi_lines.specs.declared.deed.Deed.{Deed}
+use Rattle.atspi_lines.specs.declared.limits.TheConstants.{APP_COUNT, READER_COUNT}
 use Rattle.atspi_lines.specs.declared.line.Party.{Party}
 use Rattle.atspi_lines.specs.declared.line.Party.TheVariants.{Bus as The_bus, Registry, App, Reader}
 use Rattle.atspi_protocol.specs.registering.RegistryState.{RegistryState}
@@ -12,7 +13,7 @@ use Rattle.atspi_protocol.specs.exporting.Exporter.{Exporter}
 use Rattle.atspi_protocol.specs.exporting.Taking.{app_edits, app_takes}
 use Rattle.atspi_trace.specs.Entry.{got, exited, busy, quiet}
 use Rattle.atspi_trace.specs.World.{stopped, Hearer, Role, the_registry, an_application, a_reader, Said, Letter, End, World, first_world}
-use Rattle.atspi_trace.specs.Ends.{same_party, party_at, number_of, end_at, with_end, taken_down, stops}
+use Rattle.atspi_trace.specs.Ends.{same_party, party_at, number_of, end_at, with_end, taken_down, stops, app_count, reader_count}
 use Rattle.atspi_trace.specs.Causes.{Cause, renews, starts_app, starts_reader, edits, calls, swaps_face, exits, shows, tells_busy, tells_quiet, routes, unjoins, gets, Done, only, at_end, app_did, app_starts, edited_to, edited, reader_starts, called, shown, routed, ended, without_bytes, missing, took, taken, on_end, does}
 use Rattle.atspi_trace.specs.Work.{of_edit, if_refused, edit_refusal, next_turn}
 use Rattle.atspi_lawful.proofs.OfOrder.Parties.{no_none}
@@ -132,8 +133,8 @@ pub record ReaderTakes (w : World) (d : Done) : Type 0 where
 
 pub data Effect (w : World) (d : Done) : Type 0 where
   resets : (quota : ℕ) → nat_lt 1 (length w.ends) ≡ false → d ≡ only (first_world quota) [] → Effect w d
-  app_joins : (name : List ℕ) → is_long_name name ≡ false → d ≡ app_starts w name → Effect w d
-  reader_joins : d ≡ reader_starts w → Effect w d
+  app_joins : (name : List ℕ) → (is_long_name name ≡ false) × (nat_le APP_COUNT (app_count w.ends) ≡ false) → d ≡ app_starts w name → Effect w d
+  reader_joins : nat_le READER_COUNT (reader_count w.ends) ≡ false → d ≡ reader_starts w → Effect w d
   app_edited : AppEdits w d → Effect w d
   app_took : AppTakes w d → Effect w d
   reader_called : ReaderCalls w d → Effect w d
@@ -285,8 +286,8 @@ take_effect w conn e letter rest (a_reader s) sh h link f =
 
 pub effect : (w : World) (c : Cause) → Shape w → Allowed w c → Effect w (does w c)
 effect w (renews quota) s a = resets quota a refl
-effect w (starts_app name) s a = app_joins name a.0 refl
-effect w starts_reader s a = reader_joins refl
+effect w (starts_app name) s a = app_joins name a refl
+effect w starts_reader s a = reader_joins a refl
 effect w (edits conn edit) s a = edit_effect w conn a.1 edit a.0 s a.2 a.3 a.4 a.5
 effect w (calls conn name node deed) s a = call_effect w conn a.1 name node deed a.0 s a.2 a.3
 effect w swaps_face s a = swapped (record { conn = a.2; app = a.1; e = a.0; there = a.3; whose = a.4; is = refl })

@@ -55,7 +55,7 @@ no_reset w who s few g =
 pub gone_kept : (w : World) (d : Done) (who : Party) → Shape w → Effect w d → IsGone w who → IsGone d.world who
 gone_kept w d who s (resets quota few is) g = absurd (no_reset w who s few g)
 gone_kept w d who s (app_joins name short is) g = subst (λ x. IsGone x.world who) (sym is) (gone_joined w (app_starts w name).world (new_app w name) who (app_joined w name) g)
-gone_kept w d who s (reader_joins is) g = subst (λ x. IsGone x.world who) (sym is) (gone_joined w (reader_starts w).world (new_reader w) who refl g)
+gone_kept w d who s (reader_joins few is) g = subst (λ x. IsGone x.world who) (sym is) (gone_joined w (reader_starts w).world (new_reader w) who refl g)
 gone_kept w d who s (app_edited b) g = gone_over w d.world who (edits_over w d b) g
 gone_kept w d who s (app_took b) g = gone_over w d.world who (app_takes_over w d b) g
 gone_kept w d who s (reader_called b) g = gone_over w d.world who (calls_over w d b) g

@@ -36,7 +36,7 @@ same_ends w d h = lasting_ (subst (Over Lasts w.ends) (sym h) (over_same Lasts l
 pub ends_after : (w : World) (d : Done) → Effect w d → Ends_after w d
 ends_after w d (resets quota few is) = anew quota (ap (λ x. x.world) is)
 ends_after w d (app_joins name short is) = joined_ (new_app w name) (Some name) _ (ap (λ x. x.world.ends) is ∙ app_joined w name) (ap (λ x. x.entries) is)
-ends_after w d (reader_joins is) = joined_ (new_reader w) None _ (ap (λ x. x.world.ends) is) (ap (λ x. x.entries) is)
+ends_after w d (reader_joins few is) = joined_ (new_reader w) None _ (ap (λ x. x.world.ends) is) (ap (λ x. x.entries) is)
 ends_after w d (app_edited b) = lasting_ (edits_over w d b)
 ends_after w d (app_took b) = lasting_ (app_takes_over w d b)
 ends_after w d (reader_called b) = lasting_ (calls_over w d b)

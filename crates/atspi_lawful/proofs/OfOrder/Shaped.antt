@@ -172,7 +172,7 @@ pub shape_kept : (w : World) (d : Done) → Shape w → Effect w d → Shape d.w
 shape_kept w d s (resets quota few is) = subst (λ x. Shape x.world) (sym is) (first_shape quota)
 shape_kept w d s (app_joins name short is) =
     subst (λ x. Shape x.world) (sym is) (shape_joined w (app_starts w name).world s (new_app w name) tt refl (app_joined w name) (one_end w s))
-shape_kept w d s (reader_joins is) =
+shape_kept w d s (reader_joins few is) =
     subst (λ x. Shape x.world) (sym is) (shape_joined w (reader_starts w).world s (new_reader w) tt refl refl (one_end w s))
 shape_kept w d s (app_edited b) = shape_lasts w d.world s (edits_over w d b) (inl (two_ends w b.conn b.e s b.is_here.there (not_app b.e b.app b.whose)))
 shape_kept w d s (app_took b) = shape_lasts w d.world s (app_takes_over w d b) (inl (two_ends w b.conn b.e s b.is_here.there (not_app b.e b.app b.whose)))

@@ -18,7 +18,7 @@ same_told w v o c t = record { own = o ∙ t.own; closings = c ∙ t.closings }
 told_kept : (w : World) (d : Done) → IsTold w → Effect w d → IsTold d.world
 told_kept w d t (resets quota few is) = subst (λ x. IsTold x.world) (sym is) (record { own = refl; closings = refl })
 told_kept w d t (app_joins name short is) = subst (λ x. IsTold x.world) (sym is) (record { own = t.own; closings = t.closings })
-told_kept w d t (reader_joins is) = subst (λ x. IsTold x.world) (sym is) (record { own = t.own; closings = t.closings })
+told_kept w d t (reader_joins few is) = subst (λ x. IsTold x.world) (sym is) (record { own = t.own; closings = t.closings })
 told_kept w d t (app_edited b) = subst (λ x. IsTold x.world) (sym b.is) (record { own = t.own; closings = t.closings })
 told_kept w d t (app_took b) = subst (λ x. IsTold x.world) (sym b.is) (record { own = t.own; closings = t.closings })
 told_kept w d t (reader_called b) = subst (λ x. IsTold x.world) (sym b.is) (record { own = t.own; closings = t.closings })

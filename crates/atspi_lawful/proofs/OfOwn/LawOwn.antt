@@ -331,7 +331,7 @@ caused_owned : (es : List Entry) (w : World) (d : Done) → Shape w → Shape d.
 caused_owned es w d s after t i (resets quota few is) = anew es w d quota s i few is
 caused_owned es w d s after t i (app_joins name short is) =
     joined_owned es w d (new_app w name) s i (no_own_of d _ is (tt, (tt, tt))) (ap (λ x. x.world.ends) is ∙ app_joined w name) refl (ap (λ x. x.world.bus.state.next) is) (ap (λ x. x.world.bus.waiting.due) is) (ap (λ x. x.world.bus.state.owners) is)
-caused_owned es w d s after t i (reader_joins is) =
+caused_owned es w d s after t i (reader_joins few is) =
     joined_owned es w d (new_reader w) s i (no_own_of d _ is (tt, (tt, tt))) (ap (λ x. x.world.ends) is) refl (ap (λ x. x.world.bus.state.next) is) (ap (λ x. x.world.bus.waiting.due) is) (ap (λ x. x.world.bus.state.owners) is)
 caused_owned es w d s after t i (app_edited b) =
     over_quiet es w d i (no_own_of d _ b.is (did_no_own _ b.after.out)) (ap (λ x. x.world.bus.state) b.is) (ap (λ x. x.world.bus.waiting.due) b.is)

@@ -663,7 +663,7 @@ caused es w d s t i (resets quota few is) = anew es w d quota s i few is
 caused es w d s t i (app_joins name short is) =
     joined_present es w d s t i (new_app w name) (Some name) _ (ap (λ x. x.world.ends) is ∙ app_joined w name) (ap (λ x. x.entries) is) (did_no_start (number_of (party_at (w.ends ++ put_up [] (newcomer (App (app_count w.ends)) (an_application (begins_app name))) ∷ []) (length w.ends))) (starts (begins_app name)).out) refl (app_hello w name)
     (ap (λ x. x.world.bus.state.owners) is) (ap (λ x. x.world.bus.waiting.due) is)
-caused es w d s t i (reader_joins is) =
+caused es w d s t i (reader_joins few is) =
     joined_present es w d s t i (new_reader w) None _ (ap (λ x. x.world.ends) is) (ap (λ x. x.entries) is) (tt, tt) refl (reader_hello w)
     (ap (λ x. x.world.bus.state.owners) is) (ap (λ x. x.world.bus.waiting.due) is)
 caused es w d s t i (app_edited b) =

@@ -352,7 +352,7 @@ caused : (es : List Entry) (w : World) (d : Done) → Numbered es w → Known es
 caused es w d m kn t i (resets quota few is) = subst (λ x. Fated (es ++ x.entries) x.world) (sym is) (λ live k r e h there who role. absurd (no_reader_first quota k r e there who))
 caused es w d m kn t i (app_joins name short is) =
     by_join es w d i (new_app w name) (ap (λ x. x.world.ends) is ∙ app_joined w name) (λ r h who role. absurd (false_true (ap is_reader who)))
-caused es w d m kn t i (reader_joins is) = joins_fated es w d m i is
+caused es w d m kn t i (reader_joins few is) = joins_fated es w d m i is
 caused es w d m kn t i (app_edited b) = by_end es w d i (has_done b.before b.after) b.conn (app_same b.before b.after) (ap (λ x. x.world.ends) b.is)
 caused es w d m kn t i (app_took b) =
     by_both es w d i (has_done b.before (app_takes b.before b.letter.said.message)) b.conn (app_same b.before (app_takes b.before b.letter.said.message)) (ap (λ x. x.world.ends) b.is)

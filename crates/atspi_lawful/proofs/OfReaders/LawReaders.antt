@@ -308,7 +308,7 @@ caused_law : (es : List Entry) (w : World) (d : Done) → Numbered es w → Effe
 caused_law es w d m (resets quota few is) = calmly es d _ is tt
 caused_law es w d m (app_joins name short is) =
     calmly es d _ is (tt, did_calm (number_of (party_at (w.ends ++ put_up [] (newcomer (App (app_count w.ends)) (an_application (begins_app name))) ∷ []) (length w.ends))) (starts (begins_app name)).out)
-caused_law es w d m (reader_joins is) = starting es w d m is
+caused_law es w d m (reader_joins few is) = starting es w d m is
 caused_law es w d m (app_edited b) = calmly es d _ b.is (did_calm _ b.after.out)
 caused_law es w d m (app_took b) = calmly es d _ b.is (tt, did_calm _ (app_takes b.before b.letter.said.message).out)
 caused_law es w d m (reader_called b) = calmly es d _ b.is (call_calm (party_at w.ends b.conn) _ (user_plain b.hearer.next b.name b.node b.deed), tt)

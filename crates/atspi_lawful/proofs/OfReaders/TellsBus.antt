@@ -289,7 +289,7 @@ caused es w d s after t o n i (app_joins name short is) =
     joined es w d i
     (none_of d _ is (tt, did_no_own (number_of (party_at (w.ends ++ put_up [] (newcomer (App (app_count w.ends)) (an_application (begins_app name))) ∷ []) (length w.ends))) (starts (begins_app name)).out))
     (new_app w name) (ap (λ x. x.world.ends) is ∙ app_joined w name) refl
-caused es w d s after t o n i (reader_joins is) = joined es w d i (none_of d _ is (tt, (tt, tt))) (new_reader w) (ap (λ x. x.world.ends) is) refl
+caused es w d s after t o n i (reader_joins few is) = joined es w d i (none_of d _ is (tt, (tt, tt))) (new_reader w) (ap (λ x. x.world.ends) is) refl
 caused es w d s after t o n i (app_edited b) = by_end es w d i (none_of d _ b.is (did_no_own _ b.after.out)) (has_done b.before b.after) b.conn (λ e a. a) (ap (λ x. x.world.ends) b.is)
 caused es w d s after t o n i (app_took b) =
     by_both es w d i (none_of d _ b.is (tt, did_no_own _ (app_takes b.before b.letter.said.message).out)) (has_done b.before (app_takes b.before b.letter.said.message)) b.conn (λ e a. a) (ap (λ x. x.world.ends) b.is)

@@ -52,7 +52,7 @@ caused_numbered : (es : List Entry) (w : World) (d : Done) → Shape w → Trees
 caused_numbered es w d s t i (resets quota few is) = anew es w d quota s i few is
 caused_numbered es w d s t i (app_joins name short is) =
     spoken es d.entries w d.world (App (app_count w.ends)) 1 i (app_speaks w d s name is) (first_at es w (App (app_count w.ends)) i.2 (least (app_count w.ends)) refl)
-caused_numbered es w d s t i (reader_joins is) =
+caused_numbered es w d s t i (reader_joins few is) =
     spoken es d.entries w d.world (Reader (reader_count w.ends)) 1 i (reader_speaks w d s is) (first_at es w (Reader (reader_count w.ends)) i.2 (least (reader_count w.ends)) refl)
 caused_numbered es w d s t i (app_edited b) =
     spoken es d.entries w d.world (App b.app) b.before.next i (edit_speaks w d s b (t b.conn b.app b.e b.before b.is_here.there b.whose b.role).empty)

@@ -208,8 +208,8 @@ same_over w d h = subst (Over Lasts w.ends) (sym h) (over_same Lasts lasting w.e
 
 pub of_apps : (es : List Entry) (w : World) (d : Done) → Trees es w → Effect w d → OfApps es w d
 of_apps es w d f (resets quota few is) = anew_ quota few is
-of_apps es w d f (app_joins name short is) = app_new name short is
-of_apps es w d f (reader_joins is) = reader_new is
+of_apps es w d f (app_joins name short is) = app_new name short.0 is
+of_apps es w d f (reader_joins few is) = reader_new is
 of_apps es w d f (app_edited b) = acts_ (edited_acts es w d f b) (edits_over w d b)
 of_apps es w d f (app_took b) = acts_ (took_acts es w d f b) (app_takes_over w d b)
 of_apps es w d f (reader_called b) = still_ (called_still w d b) (calls_over w d b)

@@ -418,7 +418,7 @@ not_got_of d x is a = subst (λ y. AllByRecursion NotGot y.entries) (sym is) a
 caused_law : (es : List Entry) (w : World) (d : Done) → Known es w → Each IsTakenAsSent [] es → Effect w d → Each IsTakenAsSent [] (es ++ d.entries)
 caused_law es w d i law (resets quota few is) = quietly es d.entries law (not_got_of d _ is tt)
 caused_law es w d i law (app_joins name short is) = quietly es d.entries law (not_got_of d _ is (tt, (tt, tt)))
-caused_law es w d i law (reader_joins is) = quietly es d.entries law (not_got_of d _ is (tt, (tt, tt)))
+caused_law es w d i law (reader_joins few is) = quietly es d.entries law (not_got_of d _ is (tt, (tt, tt)))
 caused_law es w d i law (app_edited b) = quietly es d.entries law (not_got_of d _ b.is (did_not_got _ b.after.out))
 caused_law es w d i law (app_took b) = taking es w b.conn b.e b.letter b.rest b.e.who d.entries _ i b.is_here.there b.link law (ap (λ x. x.entries) b.is) (did_not_got _ (app_takes b.before b.letter.said.message).out)
 caused_law es w d i law (reader_called b) = quietly es d.entries law (not_got_of d _ b.is (tt, tt))
@@ -452,7 +452,7 @@ first_known es quota (suc k) e h = absurd (no_none e h)
 caused_known : (es : List Entry) (w : World) (d : Done) → Shape w → Trees es w → Numbered es w → Heard es w → Known es w → Effect w d → Known (es ++ d.entries) d.world
 caused_known es w d s t m h i (resets quota few is) = subst (λ x. Known (es ++ x.entries) x.world) (sym is) (first_known (es ++ []) quota)
 caused_known es w d s t m h i (app_joins name short is) = app_known es w d name m h i is
-caused_known es w d s t m h i (reader_joins is) = reader_joins_known es w d m i is
+caused_known es w d s t m h i (reader_joins few is) = reader_joins_known es w d m i is
 caused_known es w d s t m h i (app_edited b) = edits_known es w d s t m h i b
 caused_known es w d s t m h i (app_took b) = takes_known es w d s t m h i b
 caused_known es w d s t m h i (reader_called b) = calls_known es w d s m i b

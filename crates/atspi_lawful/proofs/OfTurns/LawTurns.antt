@@ -394,7 +394,7 @@ caused_turned es w d s l i (resets quota few is) =
     subst (λ x. Turned (es ++ x.entries) x.world) (sym is) (subst (λ xs. Turned xs (first_world quota)) (sym (append-nil es)) (i.0, i.1, first_turned es quota, first_joined quota))
 caused_turned es w d s l i (app_joins name short is) =
     joins_turned es w d (new_app w name) i (not_got_of d _ is (tt, (tt, tt))) (ap (λ x. x.world.ends) is ∙ app_joined w name) refl (ap (λ x. x.world.bus.state.joined) is)
-caused_turned es w d s l i (reader_joins is) =
+caused_turned es w d s l i (reader_joins few is) =
     joins_turned es w d (new_reader w) i (not_got_of d _ is (tt, (tt, tt))) (ap (λ x. x.world.ends) is) refl (ap (λ x. x.world.bus.state.joined) is)
 caused_turned es w d s l i (app_edited b) =
     changed_turned es w d b.conn (has_done b.before b.after) i (not_got_of d _ b.is (did_not_got _ b.after.out)) (ap (λ x. x.world.ends) b.is) (λ e t. t) (ap (λ x. x.world.bus.state.joined) b.is)
