@@ -16,5 +16,6 @@ pub mod caches
 pub mod quiet
 pub mod drops
 pub mod readers
+pub mod exits
 pub mod laws
 pub mod examples

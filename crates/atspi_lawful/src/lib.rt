@@ -6,6 +6,7 @@ pub mod caches;
 pub mod delivered;
 pub mod drops;
 pub mod examples;
+pub mod exits;
 pub mod folds;
 pub mod heard;
 pub mod held;

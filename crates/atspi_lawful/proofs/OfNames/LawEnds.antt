@@ -1,5 +1,5 @@
 -- A reader tells the end of an application exactly where it takes the news of it, along a lawful trace.
-use Rattle.std.proofs.Common.{◌≡◌, ◌⊎◌, inl, inr, ℕ, zero, suc, ◌+◌, ◌≤◌, ◌<◌, Bool, true, false, List, [], ◌∷◌, ◌++◌, length, map, Option, None, Some, refl, sym, ap, ap₂, ◌∙◌, subst, arith, is_some}
+use Rattle.std.proofs.Common.{◌≡◌, ℕ, zero, suc, ◌+◌, ◌≤◌, Bool, true, false, List, [], ◌∷◌, ◌++◌, length, map, Option, None, Some, refl, sym, ap, ap₂, ◌∙◌, subst, arith}
 use Rattle.std.specs.Prelude.{bytes_eq, option_map, if◌then◌else◌}
 use Rattle.std.specs.List.{AllByRecursion}
 use Rattle.std.proofs.lemmas.List.{append-nil, append_assoc}
@@ -17,7 +17,7 @@ use Rattle.atspi_protocol.specs.exporting.Exporter.{Happening, steps, sends, hea
 use Rattle.atspi_protocol.specs.exporting.Taking.{app_takes}
 use Rattle.atspi_speech.specs.Speech.{closing_says}
 use Rattle.atspi_trace.specs.Entry.{Entry, sent, spoke, gone, got, dropped}
-use Rattle.atspi_trace.specs.World.{Holding, Hearer, Said, Letter, End, World}
+use Rattle.atspi_trace.specs.World.{Holding, Hearer, Said, End, World}
 use Rattle.atspi_trace.specs.Ends.{same_party, number_of, party_at, end_at, taken_down, number_if, app_named, app_count, reader_count}
 use Rattle.atspi_trace.specs.Carrying as carrying
 use Rattle.atspi_trace.specs.Carrying.{bus_entries}
@@ -25,7 +25,7 @@ use Rattle.atspi_trace.specs.Hearing.{holding_of, last_lines, ended_entries, app
 use Rattle.atspi_trace.specs.Causes.{Done, did, app_starts, reader_starts}
 use Rattle.atspi_trace.specs.Due.{after_all, begins, Goes}
 use Rattle.atspi_lawful.specs.laws.Words.{message, messages, name_in, Kept, held, as_of}
-use Rattle.atspi_lawful.specs.laws.NineLaws.{Everywhere, closing_due, TellsEnd}
+use Rattle.atspi_lawful.specs.laws.NineLaws.{Everywhere, closing_due, TellsEnd, LawOfExits}
 use Rattle.atspi_lawful.specs.order.Scripts.{CanAllStand}
 use Rattle.atspi_lawful.proofs.OfOrder.Parties.{no_none, same_some, false_true}
 use Rattle.atspi_lawful.proofs.OfOrder.BusWords.{all_any, bus_all}
@@ -34,6 +34,7 @@ use Rattle.atspi_lawful.proofs.OfOrder.Effects.{received, ReaderTakes, Effect, r
 use Rattle.atspi_lawful.proofs.OfOrder.Along.{Keeps, kept}
 use Rattle.atspi_lawful.proofs.OfOrder.Growing.{Grows, Shaped, Nothing, And, grown}
 use Rattle.atspi_lawful.proofs.OfOrder.Each.{Each, everywhere, each_more, each_of}
+use Rattle.atspi_lawful.proofs.OfOrder.Exits.{nothing_follows}
 use Rattle.atspi_lawful.proofs.OfHeard.Quiet.{heard_all}
 use Rattle.atspi_lawful.proofs.OfHeld.Keeping.{SameKept, ReaderIs}
 use Rattle.atspi_lawful.proofs.OfHeld.LawHeld.{Below_held, Holds, holds_keep}
@@ -43,7 +44,7 @@ use Rattle.atspi_lawful.proofs.OfReaders.BusSaid.{OwnIs}
 use Rattle.atspi_lawful.proofs.OfReaders.TellsBus.{Speaks_true, Below_told, told_keeps}
 use Rattle.atspi_lawful.proofs.OfReaders.Fates.{both_keep}
 use Rattle.atspi_lawful.proofs.OfNames.Places.{first_at, greeted, name_told, told_is, told_among, names_differ, count_ends, count_least}
-use Rattle.atspi_lawful.proofs.OfNames.LawNames.{has_name, NamedAt, IsAt, Named, SameName, same_name, down_same, still_quiet, Under_names, names_keep}
+use Rattle.atspi_lawful.proofs.OfNames.LawNames.{has_name, IsAt, Named, SameName, same_name, down_same, still_quiet, Under_names, names_keep}
 use Rattle.atspi_lawful.proofs.OfNames.Bounds.{Fits, Bounded, bounds_keep}
 
 -- so few parties were greeted
@@ -133,8 +134,8 @@ tells_bus : (es : List Entry) (v : World) (r : ℕ) (h : Hearer) (said : Said) �
 tells_bus es v r h said i n few is app name e found ends named_ = (
   [],
   ap (λ o. ended_entries r h o) (ap (app_with v.ends) (ap told_end (same_some said.message e (sym is ∙ found)) ∙ ends) ∙ app_is es v app name n few named_)
-  ∙ ap (λ l. gone r app ∷ l) (closing_lines_due es r app h i)
-  ∙ sym (append-nil (gone r app ∷ closing_due es r app (held es r app))),
+      ∙ ap (λ l. gone r app ∷ l) (closing_lines_due es r app h i)
+      ∙ sym (append-nil (gone r app ∷ closing_due es r app (held es r app))),
 )
 
 tells_from : (es : List Entry) (v : World) (r : ℕ) (h : Hearer) (said : Said) (from : Party) → ReaderIs es r h → Named es v → length (greeted es) ≤ 1000
@@ -215,8 +216,8 @@ took_law es w d i t n f b =
     let reader : ReaderIs es b.reader b.hearer = i.1 b.conn b.reader b.e b.hearer b.is_here.there b.whose b.role in
     subst (Each EndsAlive es) (sym wrote) (
       (λ live.
-      let own : OwnIs (messages es The_bus) b.letter = (subst (AllByRecursion (OwnIs (messages es The_bus))) b.link ((t live).links b.conn b.e b.is_here.there)).0 in
-      tells_from es v b.reader b.hearer b.letter.said b.letter.from reader named_ (few_greeted es w n f) own),
+          let own : OwnIs (messages es The_bus) b.letter = (subst (AllByRecursion (OwnIs (messages es The_bus))) b.link ((t live).links b.conn b.e b.is_here.there)).0 in
+          tells_from es v b.reader b.hearer b.letter.said b.letter.from reader named_ (few_greeted es w n f) own),
       each_of TellsAlive EndsAlive (es ++ got (Reader b.reader) b.letter.from b.letter.said.message.serial ∷ []) rest quiet_law (heard_all TellsAlive (λ r app line. tt) (λ r app. tt) b.reader b.hearer v.ends b.letter),
     )
 
@@ -267,3 +268,6 @@ ends_told lines trace a g none before entry behind h =
     let k = kept (Shaped (And Ended_below Ended)) ended_keeps lines trace a g in
     let whole : Each EndsAlive [] trace = subst (Each EndsAlive []) (ap (λ l. trace ++ l) none ∙ append-nil trace) k.state.1.1 in
     everywhere EndsAlive trace whole before entry behind h (registry_lives lines trace a g before entry behind h)
+
+pub exits_law : (lines : List Line) (trace : List Entry) → CanAllStand lines → Goes (begins lines) trace → (after_all (begins lines) trace).owing ≡ [] → LawOfExits trace
+exits_law lines trace a g none = record { last = nothing_follows lines trace a g; told = ends_told lines trace a g none }

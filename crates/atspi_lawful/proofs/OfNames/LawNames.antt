@@ -1,5 +1,5 @@
 -- Each end has the unique name that the trace tells of its party, along a lawful trace.
-use Rattle.std.proofs.Common.{◌≡◌, ◌⊎◌, inl, inr, ℕ, zero, suc, ◌+◌, ◌≤◌, ◌<◌, Bool, true, false, List, [], ◌∷◌, ◌++◌, length, map, Option, None, Some, refl, sym, ap, ◌∙◌, subst, arith, cond, is_some}
+use Rattle.std.proofs.Common.{◌≡◌, ◌⊎◌, inl, inr, ℕ, zero, suc, ◌+◌, ◌≤◌, ◌<◌, Bool, true, false, List, [], ◌∷◌, ◌++◌, length, Option, None, Some, refl, sym, ap, ◌∙◌, subst, arith, cond, is_some}
 use Rattle.std.specs.Prelude.{◌==◌, codes, nat_lt, option_map, if◌then◌else◌}
 use Rattle.std.specs.List.{AllByRecursion, list_any, cons_option}
 use Rattle.std.specs.FinMap as finmap
@@ -15,43 +15,41 @@ use Rattle.atspi_message.specs.Envelope.{Envelope}
 use Rattle.atspi_names.specs.Owners.{Owners, unique_name}
 use Rattle.atspi_routing.specs.BusState.{unique_of}
 use Rattle.atspi_routing.specs.Steps.{BusStep, is_hello, greets, bus_takes}
-use Rattle.atspi_routing.specs.declared.closing.Closing.{Closing}
 use Rattle.atspi_protocol.specs.exporting.Taking.{app_takes}
 use Rattle.atspi_protocol.specs.registering.Steps.{registry_takes}
 use Rattle.atspi_protocol.specs.following.Calls.{user_call}
 use Rattle.atspi_protocol.specs.declared.following.question.Question.{Question}
 use Rattle.atspi_protocol.specs.exporting.Exporter.{Exporter}
-use Rattle.atspi_trace.specs.Entry.{Entry, sent, got, started, exited}
+use Rattle.atspi_trace.specs.Entry.{Entry, sent, got}
 use Rattle.atspi_trace.specs.Rules.{rule_in}
-use Rattle.atspi_trace.specs.World.{here, stopped, a_reader, an_application, the_registry, Role, Hearer, Said, Letter, first_unique, first_registry, first_world, End, World}
-use Rattle.atspi_trace.specs.Ends.{is_here, same_party, number_of, party_at, end_at, with_end, put_up, put_down, taken_up, taken_down, stops, leaves, app_count, reader_count}
+use Rattle.atspi_trace.specs.World.{here, a_reader, an_application, the_registry, Role, Hearer, Said, Letter, first_unique, first_registry, first_world, End, World}
+use Rattle.atspi_trace.specs.Ends.{is_here, same_party, number_of, end_at, with_end, put_down, taken_up, taken_down, stops, leaves, app_count, reader_count}
 use Rattle.atspi_trace.specs.Carrying as carrying
 use Rattle.atspi_trace.specs.Carrying.{Carried, own_letter, letter_of, stepped, named, with_name, settled, bus_entries}
 use Rattle.atspi_trace.specs.Hearing.{hears_letter, heard_entries}
 use Rattle.atspi_trace.specs.Causes.{Done, only, at_end, has_done, reader_sends, asks, registry_did, app_starts, reader_starts}
 use Rattle.atspi_trace.specs.Due.{asks_as, asks_at}
-use Rattle.atspi_lawful.specs.laws.Words.{hello_of}
 use Rattle.atspi_lawful.specs.laws.NineLaws.{sent_before, count_got_by_bus}
 use Rattle.atspi_lawful.proofs.OfOrder.Parties.{no_none, same_some, same-party, party-same, false_true, all_append}
-use Rattle.atspi_lawful.proofs.OfOrder.Allowed.{MovedUp, MovedDown, Asks}
-use Rattle.atspi_lawful.proofs.OfOrder.Frame.{Over, IsOrder, over_same, over_both, over_with, stepped_over, left_over, settled_over, ends_over, with_cases, joined_cases, at_below}
+use Rattle.atspi_lawful.proofs.OfOrder.Allowed.{MovedUp, MovedDown}
+use Rattle.atspi_lawful.proofs.OfOrder.Frame.{Over, IsOrder, over_same, over_both, over_with, stepped_over, settled_over, ends_over, with_cases, joined_cases, at_below}
 use Rattle.atspi_lawful.proofs.OfOrder.Shape.{Lasts, Shape}
 use Rattle.atspi_lawful.proofs.OfOrder.Effects.{received, BusTakes, BusEnds, Effect, resets, app_joins, reader_joins, app_edited, app_took, reader_called, swapped, exited_, showed_, told_busy, told_quiet, bus_took, bus_ended, registry_took, reader_took}
 use Rattle.atspi_lawful.proofs.OfOrder.Shaped.{new_app, new_reader, app_joined, bus_takes_over}
 use Rattle.atspi_lawful.proofs.OfOrder.Along.{Keeps}
 use Rattle.atspi_lawful.proofs.OfOrder.Growing.{Grows, Shaped, Nothing, And, grown}
 use Rattle.atspi_lawful.proofs.OfOrder.Gone.{at_front}
-use Rattle.atspi_lawful.proofs.OfOrder.Acts.{Act, heard_act, last_at}
+use Rattle.atspi_lawful.proofs.OfOrder.Acts.{Act, heard_act}
 use Rattle.atspi_lawful.proofs.OfOrder.Each.{all_map}
 use Rattle.atspi_lawful.proofs.OfOrder.Closed.{IsTold, takes_closes, ends_closes}
 use Rattle.atspi_lawful.proofs.OfOrder.Told.{Tells}
 use Rattle.atspi_lawful.proofs.OfSerials.Numbers.{Numbered, IsFresh, known_not_fresh}
-use Rattle.atspi_lawful.proofs.OfLinks.LawLinks.{NotTaken, none_taken, count_more, counted, did_free, sent_free, got_free, word_free, bus_free, no_bus, IsLinked, first_unread, Linked}
+use Rattle.atspi_lawful.proofs.OfLinks.LawLinks.{NotTaken, none_taken, count_more, counted, did_free, sent_free, got_free, word_free, bus_free, no_bus, first_unread, Linked}
 use Rattle.atspi_lawful.proofs.OfLinks.Ups.{Ups}
 use Rattle.atspi_lawful.proofs.OfLinks.TakenInOrder.{Base, links_keep}
 use Rattle.atspi_lawful.proofs.OfReaders.Fates.{both_keep}
 use Rattle.atspi_lawful.proofs.OfQuiet.Hello.{equal_of_tie, is_of, Nobody, takes_hello}
-use Rattle.atspi_lawful.proofs.OfQuiet.Here.{SaysHello, Greeted, Present, closed_gone, forward, present_keeps}
+use Rattle.atspi_lawful.proofs.OfQuiet.Here.{Greeted, Present, closed_gone, forward, present_keeps}
 use Rattle.atspi_lawful.proofs.OfNames.Naming.{SameAs, takes_same, hello_here, hello_other, gone_less, KeptNames, settled_names, left_names}
 use Rattle.atspi_lawful.proofs.OfNames.Places.{first_at, first_last, first_same, greeted, name_told, greeted_more, none_greeted, told_among, count_ends, count_same, count_one, count_joined, count_least}
 
@@ -269,8 +267,7 @@ module _ (es : List Entry) (w : World) (d : Done) (s : Shape w) (t : IsTold w) (
         where
           at : ((x : End) × (end_at w.ends k ≡ Some x) × SameName x u.0) → (((k ≡ b.conn) × (y ≡ named st.bus b.conn u.0)) ⊎ ((k ≡ b.conn → ⊥) × (y ≡ u.0))) → After k z
           at x (inl h) =
-              let same : x.0 ≡ b.e = same_some x.0 b.e (sym x.1 ∙ ap (end_at w.ends) h.0 ∙ b.is_here.there) in
-              (
+              let same : x.0 ≡ b.e = same_some x.0 b.e (sym x.1 ∙ ap (end_at w.ends) h.0 ∙ b.is_here.there) in (
                 x.0,
                 x.1,
                 q.whose ∙ ap (λ (n : End). n.who) h.1 ∙ x.2.whose,
