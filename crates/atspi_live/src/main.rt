@@ -1,4 +1,4 @@
-//! The ends of the bus on Unix sockets: `registry PATH ROUNDS`.
+//! The ends of the bus on Unix sockets: `registry PATH ROUNDS`, `read PATH ROUNDS`.
 #![tactic(auto)]
 
 mod net;
@@ -7,6 +7,7 @@ mod output;
 mod retry;
 
 use atspi_base::Text;
+use atspi_live_reader::read;
 use atspi_live_registry::registry;
 use net::NetHost;
 use output::StandardOutput;
@@ -28,9 +29,24 @@ fn rounds_in(word: &str) -> Option<u32> {
     }
 }
 
+/// What is run.
+#[derive(Clone, Copy)]
+enum Command {
+    Registry,
+    Read,
+}
+
+fn command_in(word: &str) -> Option<Command> {
+    match word {
+        "registry" => Some(Command::Registry),
+        "read" => Some(Command::Read),
+        _ => None,
+    }
+}
+
 /// The words are not understood.
 fn usage(rt: &impl Print) -> ExitCode {
-    let _ = rt.println("usage: atspi_live registry PATH ROUNDS");
+    let _ = rt.println("usage: atspi_live registry or read, PATH and ROUNDS");
     ExitCode::from(2)
 }
 
@@ -50,8 +66,11 @@ fn main(rt: HostRuntime) -> ExitCode {
     let Some(rounds) = rounds_in(rounds.as_str()) else {
         return usage(&rt);
     };
+    let Some(command) = command_in(command.as_str()) else {
+        return usage(&rt);
+    };
     let bytes = path.as_str().as_bytes();
-    if command.as_str() != "registry" || bytes.is_empty() || bytes.len() > 107 {
+    if bytes.is_empty() || bytes.len() > 107 {
         return usage(&rt);
     }
     let Ok(path) = Text::read(rt.alloc(), bytes) else {
@@ -61,5 +80,10 @@ fn main(rt: HostRuntime) -> ExitCode {
         return ExitCode::from(5);
     };
     let mut sink = StandardOutput::new(rt.stdout(), &rt);
-    ExitCode::from(registry(rt.alloc(), &path, rounds, &mut sink, &mut host))
+    let alloc = rt.alloc();
+    let status = match command {
+        Command::Registry => registry(alloc, &path, rounds, &mut sink, &mut host),
+        Command::Read => read(alloc, &path, rounds, &mut sink, &mut host),
+    };
+    ExitCode::from(status)
 }

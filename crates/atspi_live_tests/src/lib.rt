@@ -2,4 +2,8 @@
 #![tactic(auto)]
 
 #[cfg(test)]
+mod hosts;
+#[cfg(test)]
+mod reader;
+#[cfg(test)]
 mod registry;

@@ -1,0 +1,106 @@
+//! The reader over a host in memory, with answers of a bus worked out by hand.
+
+use crate::hosts::{NEVER, given, host_of, joined, pieces};
+use atspi_base::{MemSink, Text};
+use atspi_host::Peer;
+use atspi_live_reader::read;
+use std::alloc::Global;
+use std::process::Abort;
+use std::test::*;
+
+const CHALLENGE: &[u8] = b"DATA\x0d\x0a";
+
+const GRANT: &[u8] = b"OK 61747370693200000000000000000001\x0d\x0a";
+
+/// The lines of a client.
+const LINES: &[u8] = b"\0AUTH EXTERNAL\x0d\x0aDATA\x0d\x0aBEGIN\x0d\x0a";
+
+/// The call of Hello, with number 1.
+const HELLO: &[u8] =
+    b"l\x01\0\x01\0\0\0\0\x01\0\0\0m\0\0\0\x01\x01o\0\x15\0\0\0/org/freedesktop/DBus\0\0\0\x02\x01s\0\x14\0\0\0org.freedesktop.DBus\0\0\0\0\x03\x01s\0\x05\0\0\0Hello\0\0\0\x06\x01s\0\x14\0\0\0org.freedesktop.DBus\0\0\0\0";
+
+/// The call of AddMatch, with number 2: news of owners.
+const MATCH: &[u8] =
+    b"l\x01\0\x01M\0\0\0\x02\0\0\0\x7f\0\0\0\x01\x01o\0\x15\0\0\0/org/freedesktop/DBus\0\0\0\x02\x01s\0\x14\0\0\0org.freedesktop.DBus\0\0\0\0\x03\x01s\0\x08\0\0\0AddMatch\0\0\0\0\0\0\0\0\x06\x01s\0\x14\0\0\0org.freedesktop.DBus\0\0\0\0\x08\x01g\0\x01s\0\0H\0\0\0type='signal',interface='org.freedesktop.DBus',member='NameOwnerChanged'\0";
+
+/// The bus's return to Hello: the unique name `:1.0`.
+const NAMED: &[u8] =
+    b"l\x02\x01\x01\x09\0\0\0\x01\0\0\0?\0\0\0\x05\x01u\0\x01\0\0\0\x06\x01s\0\x04\0\0\0:1.0\0\0\0\0\x07\x01s\0\x14\0\0\0org.freedesktop.DBus\0\0\0\0\x08\x01g\0\x01s\0\0\x04\0\0\0:1.0\0";
+
+/// What a run came to: its status, what was given on the link, and what was written.
+#[derive(Drop)]
+struct Run {
+    status: u8,
+    given: Vec<u8>,
+    written: MemSink,
+}
+
+/// The reader does so many rounds with a peer that sends these pieces; the call with this number fails.
+fn run_with(
+    rt: &impl Abort,
+    alloc: Global,
+    parts: &[&[u8]],
+    ends: bool,
+    failing: u64,
+    rounds: u32,
+) -> Result<Run, Fail> {
+    let mut peers = Vec::new(alloc);
+    peers.push(Peer::new(pieces(alloc, parts)?, ends))?;
+    let mut host = host_of(alloc, peers, failing)?;
+    let mut written = MemSink::new(alloc, Vec::new(alloc));
+    let path = Text::read(alloc, b"/run/bus").expect(rt, "a path");
+    let status = read(alloc, &path, rounds, &mut written, &mut host);
+    let calls = host.calls().unwrap_or(&[]);
+    Ok(Run {
+        status,
+        given: given(alloc, 0, calls)?,
+        written,
+    })
+}
+
+#[test]
+fn starts(rt: HostRuntime) -> Result<(), Fail> {
+    let alloc = rt.alloc();
+    let run = run_with(&rt, alloc, &[CHALLENGE, GRANT, NAMED], true, NEVER, 9)?;
+    assert_eq!(rt; run.status, 0);
+    let due = joined(alloc, &[LINES, HELLO, MATCH])?;
+    assert_eq!(rt; run.given.as_slice(), due.as_slice());
+    assert_eq!(rt; run.written.bytes(), b"".as_slice());
+    Ok(())
+}
+
+#[test]
+fn is_not_connected(rt: HostRuntime) -> Result<(), Fail> {
+    let alloc = rt.alloc();
+    let run = run_with(&rt, alloc, &[], false, 0, 5)?;
+    assert_eq!(rt; run.status, 7);
+    Ok(())
+}
+
+#[test]
+fn is_rejected(rt: HostRuntime) -> Result<(), Fail> {
+    let alloc = rt.alloc();
+    let parts: &[&[u8]] = &[CHALLENGE, b"REJECTED EXTERNAL\r\n"];
+    let run = run_with(&rt, alloc, parts, false, NEVER, 5)?;
+    assert_eq!(rt; run.status, 10);
+    Ok(())
+}
+
+#[test]
+fn a_message_is_malformed(rt: HostRuntime) -> Result<(), Fail> {
+    let alloc = rt.alloc();
+    // a call whose number is 0
+    let parts: &[&[u8]] = &[CHALLENGE, GRANT, b"l\x01\0\x01\0\0\0\0\0\0\0\0m\0\0\0"];
+    let run = run_with(&rt, alloc, parts, false, NEVER, 5)?;
+    assert_eq!(rt; run.status, 6);
+    assert_eq!(rt; run.written.bytes(), b"fault 0 8 26\n".as_slice());
+    Ok(())
+}
+
+#[test]
+fn does_its_rounds(rt: HostRuntime) -> Result<(), Fail> {
+    let alloc = rt.alloc();
+    let run = run_with(&rt, alloc, &[CHALLENGE], false, NEVER, 5)?;
+    assert_eq!(rt; run.status, 8);
+    Ok(())
+}
