@@ -148,6 +148,7 @@ impl App {
         requires exported { IsExported (⟦<Exported as Exports>⟧.kinds self.old.exported) (⟦<Exported as Exports>⟧.parts self.old.exported) }
         ensures exported { IsExported (⟦<Exported as Exports>⟧.kinds self.new.exported) (⟦<Exported as Exports>⟧.parts self.new.exported) }
         ensures front { MatchOption result ((seen (⟦<Exported as Exports>⟧.parts self.old.exported) self.old.id self.old.known).out ≡ []) (λ event. (seen (⟦<Exported as Exports>⟧.parts self.old.exported) self.old.id self.old.known).out ≡ happening_of event ∷ (seen (⟦<Exported as Exports>⟧.parts self.new.exported) self.new.id self.new.known).out) }
+        ensures empty { MatchOption result ((seen (⟦<Exported as Exports>⟧.parts self.new.exported) self.new.id self.new.known).out ≡ (seen (⟦<Exported as Exports>⟧.parts self.old.exported) self.old.id self.old.known).out) (λ event. (seen (⟦<Exported as Exports>⟧.parts self.new.exported) self.new.id self.new.known).next ≡ (seen (⟦<Exported as Exports>⟧.parts self.old.exported) self.old.id self.old.known).next) }
         ensures rest { (seen (⟦<Exported as Exports>⟧.parts self.new.exported) self.new.id self.new.known) ≡ record (seen (⟦<Exported as Exports>⟧.parts self.old.exported) self.old.id self.old.known) { out = (seen (⟦<Exported as Exports>⟧.parts self.new.exported) self.new.id self.new.known).out } }
     {
         self.known.next()

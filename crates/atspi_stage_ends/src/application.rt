@@ -66,10 +66,11 @@ pub trait Application: Drop {
         ensures spent { IsErrOf result AppFault.Spent → (after : Exporter) → app_edits (exporter self.old) edit.now ≡ Ok after → is_spent after ≡ true }
         ensures err { OnErr result (exporter self.new ≡ exporter self.old) };
 
-    /// The oldest of what is queued, which is no longer queued.
+    /// The oldest of what is queued, which is no longer queued. Where nothing is, all stays as it is.
     fn next(&mut self) -> Option<AppEvent>
         requires app { is_app self.old }
         ensures app { is_app self.new }
+        ensures empty { MatchOption result ((exporter self.new).out ≡ (exporter self.old).out) (λ event. (exporter self.new).next ≡ (exporter self.old).next) }
         ensures front { MatchOption result ((exporter self.old).out ≡ []) (λ event. (exporter self.old).out ≡ happening_of event ∷ (exporter self.new).out) }
         ensures rest { exporter self.new ≡ record (exporter self.old) { out = (exporter self.new).out } };
 

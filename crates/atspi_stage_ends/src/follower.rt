@@ -54,10 +54,11 @@ pub trait Follower: Drop {
         ensures not_held { IsErrOf result CallFault.NotHeld ↔ (held_view (follower self.old) app.now ≡ None) }
         ensures err { OnErr result (follower self.new ≡ follower self.old) };
 
-    /// What it did first of all that was not handed out yet.
+    /// What it did first of all that was not handed out yet. Where all was, all stays as it is.
     fn next(&mut self) -> Option<ReaderEvent>
         requires { is_follower self.old }
         ensures is { is_follower self.new }
+        ensures empty { MatchOption result (follower self.new ≡ follower self.old) (λ event. follower self.old ≡ record (follower self.new) { out = done_of event ∷ (follower self.new).out }) }
         ensures front { MatchOption result ((follower self.old).out ≡ []) (λ event. (follower self.old).out ≡ done_of event ∷ (follower self.new).out) }
         ensures rest { follower self.new ≡ record (follower self.old) { out = (follower self.new).out } };
 

@@ -68,6 +68,7 @@ impl Known {
     /// The oldest of what is queued, which is no longer queued.
     pub fn next(&mut self) -> Option<AppEvent>
         ensures front { MatchOption result (out_of self.old.queue ≡ []) (λ event. out_of self.old.queue ≡ happening_of event ∷ out_of self.new.queue) }
+        ensures empty { MatchOption result (out_of self.new.queue ≡ out_of self.old.queue) (λ event. next_of self.new.queue ≡ next_of self.old.queue) }
         ensures rest { (s : Exporter) → known_in self.new s ≡ record (known_in self.old s) { out = out_of self.new.queue } }
     {
         self.queue.pop()
