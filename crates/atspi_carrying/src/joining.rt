@@ -33,6 +33,19 @@ impl Carrier {
         }
     }
 
+    /// The bus is made anew with this quota, and nobody has joined; what was told stays.
+    pub fn renew(&mut self, quota: u32)
+        ensures sound { IsSound (state_of self.new.bus) }
+        ensures bus { inner_of self.new.bus ≡ empty_bus quota }
+        ensures posts { self.new.posts.items ≡ [] }
+        ensures given { self.new.at_end.items ≡ [] }
+        ensures trace { self.new.trace ≡ self.old.trace }
+    {
+        self.bus = Inner::new(self.alloc, quota);
+        self.posts.clear();
+        self.at_end.clear();
+    }
+
     /// A party joins the bus; its connection's number is its place. Spent where no number is left.
     pub fn join(&mut self, who: Party) -> Result<u32, CarryFault>
         requires sound { IsSound (state_of self.old.bus) }

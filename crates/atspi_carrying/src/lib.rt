@@ -14,6 +14,6 @@ mod waiting;
 
 pub use carrier::Carrier;
 pub use fault::CarryFault;
-pub use places::{conn_of, named_app, party_named};
+pub use places::{named_app, party_named};
 pub use sending::{note, send};
 pub use waiting::Turn;

@@ -1,19 +1,7 @@
-//! Connections by their parties and names.
+//! Connections by their names.
 
 use atspi_lines::Party;
 use atspi_posts::Post;
-
-/// The number of a party's connection, none where the party was not started.
-pub fn conn_of(posts: &[Post], who: Party) -> Option<u32> {
-    let mut conn: u32 = 0;
-    for post in posts {
-        if post.who == who {
-            return Some(conn);
-        }
-        conn = conn.saturating_add(1);
-    }
-    None
-}
 
 /// The party whose messages have this sender: the bus, or the end that has or had that unique name.
 pub fn party_named(posts: &[Post], name: Option<&str>) -> Party {

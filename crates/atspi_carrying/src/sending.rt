@@ -2,7 +2,7 @@
 
 ghost use Rattle.std.specs.Prelude.{◌≡◌, [], ◌∷◌, ◌++◌, OnOk, OnErr};
 ghost use Rattle.atspi_message.specs.Envelope.{envelope_of};
-ghost use Rattle.atspi_message.specs.Bytes.{written};
+ghost use Rattle.atspi_message.specs.Bytes.{IsMessage, written};
 
 use crate::fault::CarryFault;
 use atspi_events::Event;
@@ -27,6 +27,7 @@ pub fn send(
     trace: &mut Vec<Event>,
 ) -> Result<(), CarryFault>
     ensures up { OnOk result (post.new ≡ record post.old { up = post.old.up ++ written (envelope_of message) }) }
+    ensures message { OnOk result (IsMessage (envelope_of message) (written (envelope_of message))) }
     ensures told { OnOk result (trace.new.items ≡ trace.old.items ++ Event.Sent who message ∷ []) }
 {
     post.up.send(&message)?;
