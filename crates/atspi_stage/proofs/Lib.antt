@@ -1,1 +1,14 @@
+pub mod Calling
+pub mod Changed
+pub mod Conns
+pub mod Elements
+pub mod Found
+pub mod Joining
+pub mod Lining
+pub mod Plays
+pub mod Queued
+pub mod Routing
+pub mod Sayings
 pub mod Seats
+pub mod Signals
+pub mod Stays

@@ -1,18 +1,23 @@
 //! Doing the lines of a script.
 
-ghost use Rattle.std.specs.Prelude.{◌≡◌, Some, length, OnOk};
+ghost use Rattle.std.specs.Prelude.{◌≡◌, None, Some, length, OnOk};
 ghost use Rattle.atspi_forest.specs.Edits.{IsEdit};
 ghost use Rattle.atspi_reader_calls.specs.Deeds.{MayBeAsked};
-ghost use Rattle.atspi_bus_steps.specs.Inner.{state_of};
+ghost use Rattle.atspi_bus_steps.specs.Inner.{inner_of, state_of};
+ghost use Rattle.atspi_lines.specs.declared.line.Line.TheVariants as lines;
+ghost use Rattle.atspi_trace.specs.Causes.{exits};
 ghost use Rattle.atspi_trace.specs.World.{World};
 ghost use Rattle.atspi_trace.specs.Work as work;
+ghost use Rattle.atspi_stage.specs.Lines.{CausedAt, LineDone, LineDoneElse};
 ghost use Rattle.atspi_stage.specs.MayAct.{HasName, MayAct};
 ghost use Rattle.atspi_stage.specs.Refusals.{first_refusal, IsOf, IsRefusedFor};
 ghost use Rattle.atspi_stage.specs.Stage.{IsStage, UnlessHalted};
+ghost use Rattle.atspi_stage.specs.Worlds.{staged};
 
 use crate::fault::ActFault;
+use crate::places::conn_of;
 use crate::stage::Stage;
-use atspi_carrying::{CarryFault, conn_of};
+use atspi_carrying::CarryFault;
 use atspi_forest::Edit;
 use atspi_lines::{Deed, Line, Party};
 use atspi_posts::Standing;
@@ -24,6 +29,7 @@ impl<A: Application, R: Follower> Stage<A, R> {
         requires edit { IsEdit edit.now }
         requires stage { IsStage A.is_app R.is_follower A.is_kit A.is_spare self.old.cast.apps.items self.old.cast.readers.items self.old.kits.items self.old.spares.items (state_of self.old.carrier.bus) }
         ensures stage { IsStage A.is_app R.is_follower A.is_kit A.is_spare self.new.cast.apps.items self.new.cast.readers.items self.new.kits.items self.new.spares.items (state_of self.new.carrier.bus) }
+        ensures does { OnOk result (LineDone (lines.Edit app edit.now) (staged A.exporter R.follower (inner_of self.old.carrier.bus) self.old.carrier.posts.items self.old.cast.apps.items self.old.cast.readers.items (length self.old.kits.items) (length self.old.spares.items) self.old.carrier.trace.items) (staged A.exporter R.follower (inner_of self.new.carrier.bus) self.new.carrier.posts.items self.new.cast.apps.items self.new.cast.readers.items (length self.new.kits.items) (length self.new.spares.items) self.new.carrier.trace.items)) }
     {
         match conn_of(&self.carrier.posts, Party::App(app)) {
             Some(conn) => self.edit(conn, app, edit),
@@ -50,9 +56,10 @@ impl<A: Application, R: Follower> Stage<A, R> {
     fn exit_of(&mut self, who: Party) -> Result<(), CarryFault>
         requires stage { IsStage A.is_app R.is_follower A.is_kit A.is_spare self.old.cast.apps.items self.old.cast.readers.items self.old.kits.items self.old.spares.items (state_of self.old.carrier.bus) }
         ensures stage { IsStage A.is_app R.is_follower A.is_kit A.is_spare self.new.cast.apps.items self.new.cast.readers.items self.new.kits.items self.new.spares.items (state_of self.new.carrier.bus) }
+        ensures does { OnOk result (CausedAt who exits (staged A.exporter R.follower (inner_of self.old.carrier.bus) self.old.carrier.posts.items self.old.cast.apps.items self.old.cast.readers.items (length self.old.kits.items) (length self.old.spares.items) self.old.carrier.trace.items) (staged A.exporter R.follower (inner_of self.new.carrier.bus) self.new.carrier.posts.items self.new.cast.apps.items self.new.cast.readers.items (length self.new.kits.items) (length self.new.spares.items) self.new.carrier.trace.items)) }
     {
         match conn_of(&self.carrier.posts, who) {
-            Some(conn) => self.exit(conn, who),
+            Some(conn) => self.carrier.exit(conn),
             None => Ok(()),
         }
     }
@@ -108,6 +115,7 @@ impl<A: Application, R: Follower> Stage<A, R> {
         requires name { HasName line.now }
         requires stage { IsStage A.is_app R.is_follower A.is_kit A.is_spare self.old.cast.apps.items self.old.cast.readers.items self.old.kits.items self.old.spares.items (state_of self.old.carrier.bus) }
         ensures stage { OnOk result (IsStage A.is_app R.is_follower A.is_kit A.is_spare self.new.cast.apps.items self.new.cast.readers.items self.new.kits.items self.new.spares.items (state_of self.new.carrier.bus)) }
+        ensures does { OnOk result (LineDoneElse line.now (staged A.exporter R.follower (inner_of self.old.carrier.bus) self.old.carrier.posts.items self.old.cast.apps.items self.old.cast.readers.items (length self.old.kits.items) (length self.old.spares.items) self.old.carrier.trace.items) (staged A.exporter R.follower (inner_of self.new.carrier.bus) self.new.carrier.posts.items self.new.cast.apps.items self.new.cast.readers.items (length self.new.kits.items) (length self.new.spares.items) self.new.carrier.trace.items)) }
     {
         match line {
             Line::Quota(quota) => self.renew(*quota),
@@ -130,6 +138,7 @@ impl<A: Application, R: Follower> Stage<A, R> {
         requires name { HasName line.now }
         requires stage { IsStage A.is_app R.is_follower A.is_kit A.is_spare self.old.cast.apps.items self.old.cast.readers.items self.old.kits.items self.old.spares.items (state_of self.old.carrier.bus) }
         ensures stage { UnlessHalted result (IsStage A.is_app R.is_follower A.is_kit A.is_spare self.new.cast.apps.items self.new.cast.readers.items self.new.kits.items self.new.spares.items (state_of self.new.carrier.bus)) }
+        ensures does { OnOk result (LineDone line.now (staged A.exporter R.follower (inner_of self.old.carrier.bus) self.old.carrier.posts.items self.old.cast.apps.items self.old.cast.readers.items (length self.old.kits.items) (length self.old.spares.items) self.old.carrier.trace.items) (staged A.exporter R.follower (inner_of self.new.carrier.bus) self.new.carrier.posts.items self.new.cast.apps.items self.new.cast.readers.items (length self.new.kits.items) (length self.new.spares.items) self.new.carrier.trace.items)) }
     {
         match line {
             Line::Edit { app, edit } => self.ask_edit(*app, edit),
@@ -152,6 +161,7 @@ impl<A: Application, R: Follower> Stage<A, R> {
         requires may { MayAct line.now }
         requires stage { IsStage A.is_app R.is_follower A.is_kit A.is_spare self.old.cast.apps.items self.old.cast.readers.items self.old.kits.items self.old.spares.items (state_of self.old.carrier.bus) }
         ensures stage { UnlessHalted result (IsStage A.is_app R.is_follower A.is_kit A.is_spare self.new.cast.apps.items self.new.cast.readers.items self.new.kits.items self.new.spares.items (state_of self.new.carrier.bus)) }
+        ensures does { OnOk result (LineDone line.now (staged A.exporter R.follower (inner_of self.old.carrier.bus) self.old.carrier.posts.items self.old.cast.apps.items self.old.cast.readers.items (length self.old.kits.items) (length self.old.spares.items) self.old.carrier.trace.items) (staged A.exporter R.follower (inner_of self.new.carrier.bus) self.new.carrier.posts.items self.new.cast.apps.items self.new.cast.readers.items (length self.new.kits.items) (length self.new.spares.items) self.new.carrier.trace.items)) }
         ensures refused { (w : World) (why : work.Refusal) → IsOf w self.old.carrier.posts.items (length self.old.cast.apps.items) (length self.old.cast.readers.items) (length self.old.spares.items)
             → first_refusal w line.now ≡ Some why → IsRefusedFor result why }
         ensures nothing { (w : World) (why : work.Refusal) → IsOf w self.old.carrier.posts.items (length self.old.cast.apps.items) (length self.old.cast.readers.items) (length self.old.spares.items)

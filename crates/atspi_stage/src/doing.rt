@@ -1,18 +1,23 @@
-//! What users do: edits, calls, swaps of faces, and ends that stop.
+//! What users do: edits, calls and swaps of faces.
 
-ghost use Rattle.std.specs.Prelude.{◌≡◌, All, Option};
+ghost use Rattle.std.specs.Prelude.{◌≡◌, ◌<◌, map, length, Some, All, OnOk};
 ghost use Rattle.atspi_forest.specs.Edits.{IsEdit};
 ghost use Rattle.atspi_reader_calls.specs.Deeds.{MayBeAsked};
-ghost use Rattle.atspi_bus_steps.specs.Inner.{state_of};
-ghost use Rattle.atspi_stage.specs.Stage.{IsStage, UnlessHalted};
+ghost use Rattle.atspi_bus_steps.specs.Inner.{inner_of, state_of};
+ghost use Rattle.atspi_lines.specs.declared.line.Party.TheVariants as parties;
+ghost use Rattle.atspi_trace.specs.World.{World};
+ghost use Rattle.atspi_trace.specs.Ends.{conn_of};
+ghost use Rattle.atspi_trace.specs.Causes.{does, edits, swaps_face};
+ghost use Rattle.atspi_stage.specs.Doing.{CallsAt, EditsAt};
+ghost use Rattle.atspi_stage.specs.Stage.{IsStage};
+ghost use Rattle.atspi_stage.specs.Worlds.{staged, IsAfter, IsWorld};
 
 use crate::fault::ActFault;
 use crate::getting::{tell_app_at, tell_reader_at};
 use crate::stage::Stage;
-use atspi_carrying::{CarryFault, note};
-use atspi_events::Event;
+use atspi_carrying::CarryFault;
 use atspi_forest::Edit;
-use atspi_lines::{Deed, Party};
+use atspi_lines::Deed;
 use atspi_posts::Post;
 use atspi_stage_ends::{AppFault, Application, CallFault, Follower};
 use std::alloc::Global;
@@ -27,6 +32,7 @@ fn edit_at<A: Application>(
     requires edit { IsEdit edit.now }
     requires apps { All A.is_app apps.old }
     ensures apps { All A.is_app apps.new }
+    ensures edited { OnOk result (EditsAt (map A.exporter apps.old) (map A.exporter apps.new) number edit.now) }
 {
     let place = number as usize;
     if place >= apps.len() {
@@ -46,6 +52,7 @@ fn call_at<R: Follower>(
     requires deed { MayBeAsked deed.now }
     requires readers { All R.is_follower readers.old }
     ensures readers { All R.is_follower readers.new }
+    ensures called { OnOk result (CallsAt (map R.follower readers.old) (map R.follower readers.new) number callee.now.name node deed.now) }
 {
     let place = number as usize;
     if place >= readers.len() {
@@ -67,6 +74,7 @@ fn swap_at<A: Application>(
     requires spare { A.is_spare spare }
     requires apps { All A.is_app apps.old }
     ensures apps { All A.is_app apps.new }
+    ensures same { map A.exporter apps.new ≡ map A.exporter apps.old }
 {
     let place = number as usize;
     if place >= apps.len() {
@@ -82,6 +90,8 @@ impl<A: Application, R: Follower> Stage<A, R> {
         requires edit { IsEdit edit.now }
         requires stage { IsStage A.is_app R.is_follower A.is_kit A.is_spare self.old.cast.apps.items self.old.cast.readers.items self.old.kits.items self.old.spares.items (state_of self.old.carrier.bus) }
         ensures stage { IsStage A.is_app R.is_follower A.is_kit A.is_spare self.new.cast.apps.items self.new.cast.readers.items self.new.kits.items self.new.spares.items (state_of self.new.carrier.bus) }
+        ensures does { OnOk result ((w : World) → IsWorld w (staged A.exporter R.follower (inner_of self.old.carrier.bus) self.old.carrier.posts.items self.old.cast.apps.items self.old.cast.readers.items (length self.old.kits.items) (length self.old.spares.items) self.old.carrier.trace.items) → conn_of w.ends (parties.App app) ≡ Some conn
+            → IsAfter (does w (edits conn edit.now)) (staged A.exporter R.follower (inner_of self.old.carrier.bus) self.old.carrier.posts.items self.old.cast.apps.items self.old.cast.readers.items (length self.old.kits.items) (length self.old.spares.items) self.old.carrier.trace.items) (staged A.exporter R.follower (inner_of self.new.carrier.bus) self.new.carrier.posts.items self.new.cast.apps.items self.new.cast.readers.items (length self.new.kits.items) (length self.new.spares.items) self.new.carrier.trace.items)) }
     {
         edit_at(self.carrier.alloc, &mut self.cast.apps, app, edit)?;
         tell_app_at(
@@ -108,14 +118,14 @@ impl<A: Application, R: Follower> Stage<A, R> {
         requires stage { IsStage A.is_app R.is_follower A.is_kit A.is_spare self.old.cast.apps.items self.old.cast.readers.items self.old.kits.items self.old.spares.items (state_of self.old.carrier.bus) }
         ensures stage { IsStage A.is_app R.is_follower A.is_kit A.is_spare self.new.cast.apps.items self.new.cast.readers.items self.new.kits.items self.new.spares.items (state_of self.new.carrier.bus) }
     {
-        let callee = callee as usize;
-        if callee >= self.carrier.posts.len() {
+        let place = callee as usize;
+        if place >= self.carrier.posts.len() {
             return Ok(());
         }
         call_at(
             &mut self.cast.readers,
             reader,
-            &self.carrier.posts[callee],
+            &self.carrier.posts[place],
             node,
             deed,
         )?;
@@ -133,22 +143,11 @@ impl<A: Application, R: Follower> Stage<A, R> {
     pub(crate) fn swap(&mut self, app: u32) -> Result<(), CarryFault>
         requires stage { IsStage A.is_app R.is_follower A.is_kit A.is_spare self.old.cast.apps.items self.old.cast.readers.items self.old.kits.items self.old.spares.items (state_of self.old.carrier.bus) }
         ensures stage { IsStage A.is_app R.is_follower A.is_kit A.is_spare self.new.cast.apps.items self.new.cast.readers.items self.new.kits.items self.new.spares.items (state_of self.new.carrier.bus) }
+        ensures does { OnOk result ((w : World) → IsWorld w (staged A.exporter R.follower (inner_of self.old.carrier.bus) self.old.carrier.posts.items self.old.cast.apps.items self.old.cast.readers.items (length self.old.kits.items) (length self.old.spares.items) self.old.carrier.trace.items) → w.swaps < 16 → IsAfter (does w swaps_face) (staged A.exporter R.follower (inner_of self.old.carrier.bus) self.old.carrier.posts.items self.old.cast.apps.items self.old.cast.readers.items (length self.old.kits.items) (length self.old.spares.items) self.old.carrier.trace.items) (staged A.exporter R.follower (inner_of self.new.carrier.bus) self.new.carrier.posts.items self.new.cast.apps.items self.new.cast.readers.items (length self.new.kits.items) (length self.new.spares.items) self.new.carrier.trace.items)) }
     {
         match self.spares.pop() {
             Some(spare) => swap_at(self.carrier.alloc, &mut self.cast.apps, app, spare),
             None => Ok(()),
         }
-    }
-
-    /// The end of a connection stops: what waits on its up link is lost.
-    pub(crate) fn exit(&mut self, conn: u32, who: Party) -> Result<(), CarryFault>
-        requires stage { IsStage A.is_app R.is_follower A.is_kit A.is_spare self.old.cast.apps.items self.old.cast.readers.items self.old.kits.items self.old.spares.items (state_of self.old.carrier.bus) }
-        ensures stage { IsStage A.is_app R.is_follower A.is_kit A.is_spare self.new.cast.apps.items self.new.cast.readers.items self.new.kits.items self.new.spares.items (state_of self.new.carrier.bus) }
-    {
-        let place = conn as usize;
-        if place < self.carrier.posts.len() {
-            self.carrier.posts[place].stop();
-        }
-        note(&mut self.carrier.trace, Event::Exit { who })
     }
 }

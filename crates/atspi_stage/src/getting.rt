@@ -1,7 +1,8 @@
 //! An end takes what comes down its link.
 
-ghost use Rattle.std.specs.Prelude.{◌≡◌, All, OnOk};
+ghost use Rattle.std.specs.Prelude.{◌≡◌, map, All, OnOk};
 ghost use Rattle.atspi_bus_steps.specs.Inner.{state_of};
+ghost use Rattle.atspi_stage.specs.Doing.{TellsAt, TellsReaderAt};
 ghost use Rattle.atspi_stage.specs.Stage.{IsStage};
 
 use crate::cast::Cast;
@@ -88,6 +89,7 @@ pub(crate) fn tell_app_at<A: Application>(
 ) -> Result<(), CarryFault>
     requires apps { All A.is_app apps.old }
     ensures apps { All A.is_app apps.new }
+    ensures told { OnOk result (TellsAt (map A.exporter apps.old) (map A.exporter apps.new) number conn posts.old posts.new trace.old.items trace.new.items) }
 {
     let place = number as usize;
     let at = conn as usize;
@@ -110,6 +112,7 @@ pub(crate) fn tell_reader_at<R: Follower>(
 ) -> Result<(), CarryFault>
     requires readers { All R.is_follower readers.old }
     ensures readers { All R.is_follower readers.new }
+    ensures told { OnOk result (TellsReaderAt (map R.follower readers.old) (map R.follower readers.new) number conn posts.old posts.new trace.old.items trace.new.items) }
 {
     let place = number as usize;
     if place >= readers.len() {

@@ -65,7 +65,7 @@ fn count_rows(rows: Rows<'_>) -> usize {
 }
 
 impl<A: Application, R: Follower> Stage<A, R> {
-    /// How many rows a reader holds of an application, 0 where it does not hold it. Takes no memory.
+    /// How many rows a reader holds of an application, 0 where it does not hold it or one of them was not started. Takes no memory.
     pub fn row_count(&self, reader: u32, app: u32) -> usize
         requires stage { IsStage A.is_app R.is_follower A.is_kit A.is_spare self.now.cast.apps.items self.now.cast.readers.items self.now.kits.items self.now.spares.items (state_of self.now.carrier.bus) }
     {

@@ -1,5 +1,8 @@
 //! The world: its ends, what lies between them, and what is left for further ends.
 
+ghost use Rattle.std.specs.Prelude.{◌≡◌, slice_get};
+ghost use Rattle.std.specs.Option.{option_copied};
+
 use crate::cast::Cast;
 use atspi_carrying::Carrier;
 use atspi_events::Event;
@@ -18,18 +21,24 @@ pub struct Stage<A: Application, R: Follower> {
 
 impl<A: Application, R: Follower> Stage<A, R> {
     /// All that happened, the oldest first.
-    pub fn trace(&self) -> &[Event] {
+    pub fn trace(&self) -> &[Event]
+        ensures { result.now ≡ self.now.carrier.trace.items }
+    {
         &self.carrier.trace
     }
 
     /// The reader with this number, counted from 0 in order of starting, as it is, or as it was when it stopped. None exactly where none of that
     /// number was started. Takes no memory.
-    pub fn reader(&self, reader: u32) -> Option<&R> {
+    pub fn reader(&self, reader: u32) -> Option<&R>
+        ensures { option_copied result ≡ slice_get self.now.cast.readers.items reader }
+    {
         self.cast.readers.get(reader as usize)
     }
 
     /// The application with this number, in the same way.
-    pub fn app(&self, app: u32) -> Option<&A> {
+    pub fn app(&self, app: u32) -> Option<&A>
+        ensures { option_copied result ≡ slice_get self.now.cast.apps.items app }
+    {
         self.cast.apps.get(app as usize)
     }
 }

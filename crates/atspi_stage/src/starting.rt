@@ -1,6 +1,6 @@
 //! The beginning of a world, and the starts of ends.
 
-ghost use Rattle.std.specs.Prelude.{◌<◌, length, All, IfOk, OnOk};
+ghost use Rattle.std.specs.Prelude.{All, IfOk, OnOk};
 ghost use Rattle.atspi_forest.specs.Row.{IsName};
 ghost use Rattle.atspi_bus_steps.specs.Inner.{state_of};
 ghost use Rattle.atspi_stage.specs.Stage.{IsStage};
@@ -49,6 +49,7 @@ impl<A: Application, R: Follower> Stage<A, R> {
         requires stage { IsStage A.is_app R.is_follower A.is_kit A.is_spare self.old.cast.apps.items self.old.cast.readers.items self.old.kits.items self.old.spares.items (state_of self.old.carrier.bus) }
         ensures stage { OnOk result (IsStage A.is_app R.is_follower A.is_kit A.is_spare self.new.cast.apps.items self.new.cast.readers.items self.new.kits.items self.new.spares.items (state_of self.new.carrier.bus)) }
     {
+        let told = self.carrier.trace.len();
         let conn = self.carrier.join(Party::Registry)?;
         self.cast.registry.start()?;
         self.cast.tell(
@@ -58,7 +59,7 @@ impl<A: Application, R: Follower> Stage<A, R> {
             &mut self.carrier.trace,
         )?;
         self.turns(START_TURNS)?;
-        self.carrier.trace.clear();
+        self.carrier.trace.truncate(told);
         Ok(())
     }
 
@@ -67,13 +68,9 @@ impl<A: Application, R: Follower> Stage<A, R> {
         requires stage { IsStage A.is_app R.is_follower A.is_kit A.is_spare self.old.cast.apps.items self.old.cast.readers.items self.old.kits.items self.old.spares.items (state_of self.old.carrier.bus) }
         ensures stage { OnOk result (IsStage A.is_app R.is_follower A.is_kit A.is_spare self.new.cast.apps.items self.new.cast.readers.items self.new.kits.items self.new.spares.items (state_of self.new.carrier.bus)) }
     {
-        let alloc = self.carrier.alloc;
-        let fresh = Carrier::new(alloc, quota);
-        let before = std::mem::replace(&mut self.carrier, fresh);
-        self.cast.registry = Registry::new(alloc)?;
-        self.begin()?;
-        self.carrier.trace = before.trace;
-        Ok(())
+        self.carrier.renew(quota);
+        self.cast.registry = Registry::new(self.carrier.alloc)?;
+        self.begin()
     }
 
     /// An application starts, with the name of its root, where a kit is left.
@@ -96,7 +93,9 @@ impl<A: Application, R: Follower> Stage<A, R> {
         ensures stage { OnOk result (IsStage A.is_app R.is_follower A.is_kit A.is_spare self.new.cast.apps.items self.new.cast.readers.items self.new.kits.items self.new.spares.items (state_of self.new.carrier.bus)) }
     {
         let alloc = self.carrier.alloc;
-        let number = u32::try_from(self.cast.apps.len()).unwrap_or(u32::MAX);
+        let Ok(number) = u32::try_from(self.cast.apps.len()) else {
+            return Err(CarryFault::Spent);
+        };
         let who = Party::App(number);
         let told = name.copy(alloc)?;
         note(
@@ -124,7 +123,9 @@ impl<A: Application, R: Follower> Stage<A, R> {
         requires stage { IsStage A.is_app R.is_follower A.is_kit A.is_spare self.old.cast.apps.items self.old.cast.readers.items self.old.kits.items self.old.spares.items (state_of self.old.carrier.bus) }
         ensures stage { OnOk result (IsStage A.is_app R.is_follower A.is_kit A.is_spare self.new.cast.apps.items self.new.cast.readers.items self.new.kits.items self.new.spares.items (state_of self.new.carrier.bus)) }
     {
-        let number = u32::try_from(self.cast.readers.len()).unwrap_or(u32::MAX);
+        let Ok(number) = u32::try_from(self.cast.readers.len()) else {
+            return Err(CarryFault::Spent);
+        };
         let who = Party::Reader(number);
         note(&mut self.carrier.trace, Event::Start { who, name: None })?;
         let mut reader = R::new(self.carrier.alloc)?;

@@ -1,6 +1,14 @@
 //! What ends did, put on their links and into the trace.
 
-ghost use Rattle.std.specs.Prelude.{◌≡◌, ◌++◌, [], map, OnOk, OnErr, All};
+ghost use Rattle.std.specs.Prelude.{◌≡◌, ◌<◌, ◌++◌, ◌∷◌, [], length, OnOk};
+ghost use Rattle.atspi_app_known.specs.happenings.Happened.{happening_of};
+ghost use Rattle.atspi_lines.specs.declared.line.Party.TheVariants as parties;
+ghost use Rattle.atspi_message.specs.Envelope.{Envelope, envelope_of};
+ghost use Rattle.atspi_protocol.specs.following.ReaderState.{sends};
+ghost use Rattle.atspi_stage_ends.specs.Done.{done_of};
+ghost use Rattle.atspi_trace.specs.Entry.{entries_of};
+ghost use Rattle.atspi_trace.specs.Causes.{did};
+ghost use Rattle.atspi_stage.specs.Doing.{said_on, silent, CanBeWritten, IsSent, IsTold, SendsAll};
 
 use atspi_app_known::happenings::AppEvent;
 use atspi_carrying::{CarryFault, named_app, note, send};
@@ -30,7 +38,11 @@ fn tell_event(
     app: u32,
     post: &mut Post,
     trace: &mut Vec<Event>,
-) -> Result<(), CarryFault> {
+) -> Result<(), CarryFault>
+    ensures post { OnOk result (post.new ≡ said_on (happening_of event) post.old) }
+    ensures told { OnOk result (entries_of trace.new.items ≡ entries_of trace.old.items ++ did app (happening_of event) ∷ []) }
+    ensures written { OnOk result (CanBeWritten (happening_of event)) }
+{
     match event {
         AppEvent::Send(message) => send(post, Party::App(app), message, trace),
         AppEvent::Step(step) => note(trace, Event::Step { app, step }),
@@ -62,6 +74,7 @@ pub(crate) fn tell_app<A: Application>(
 ) -> Result<(), CarryFault>
     requires app { A.is_app app.old }
     ensures app { A.is_app app.new }
+    ensures told { OnOk result (IsTold (A.exporter app.old) (A.exporter app.new) number post.old post.new trace.old.items trace.new.items) }
 {
     while let Some(event) = app.next() {
         tell_event(event, number, post, trace)?;
@@ -76,7 +89,9 @@ fn send_at(
     who: Party,
     message: Message,
     trace: &mut Vec<Event>,
-) -> Result<(), CarryFault> {
+) -> Result<(), CarryFault>
+    ensures sent { OnOk result (conn < length posts.old → IsSent who (envelope_of message) conn posts.old posts.new trace.old.items trace.new.items) }
+{
     let place = conn as usize;
     if place >= posts.len() {
         return Ok(());
@@ -91,7 +106,10 @@ fn tell_deed(
     posts: &mut [Post],
     conn: u32,
     trace: &mut Vec<Event>,
-) -> Result<(), CarryFault> {
+) -> Result<(), CarryFault>
+    ensures sends { OnOk result ((e : Envelope) → done_of event ≡ sends e → conn < length posts.old
+        → IsSent (parties.Reader reader) e conn posts.old posts.new trace.old.items trace.new.items) }
+{
     match event {
         ReaderEvent::Send(message) => {
             send_at(posts, conn, Party::Reader(reader), message, trace)
@@ -117,6 +135,8 @@ pub(crate) fn tell_reader<R: Follower>(
 ) -> Result<(), CarryFault>
     requires is { R.is_follower reader.old }
     ensures is { R.is_follower reader.new }
+    ensures silent { OnOk result (R.follower reader.new ≡ silent (R.follower reader.old)) }
+    ensures sends { OnOk result (SendsAll (R.follower reader.old) number conn posts.old posts.new trace.old.items trace.new.items) }
 {
     while let Some(event) = reader.next() {
         tell_deed(event, number, posts, conn, trace)?;

@@ -1,7 +1,14 @@
 //! The bytes of the messages that a trace tells.
 
-ghost use Rattle.std.specs.Prelude.{◌<◌, length};
+ghost use Rattle.std.specs.Prelude.{◌≡◌, ◌≤◌, ◌++◌, length, OnOk, OnErr};
+ghost use Rattle.std.specs.Option.{option_copied};
+ghost use Rattle.atspi_message.specs.Envelope.{envelope_of};
+ghost use Rattle.atspi_message.specs.Bytes.{written};
+ghost use Rattle.atspi_stage.specs.Places as places;
+ghost use Rattle.atspi_stage.specs.Wires as wires;
+ghost use Rattle.atspi_stage.specs.Wires.{name_if};
 
+use crate::places::{is_party, post_of};
 use crate::stage::Stage;
 use atspi_base::Bytes;
 use atspi_carrying::CarryFault;
@@ -13,24 +20,58 @@ use atspi_stage_ends::{Application, Follower};
 use atspi_types::BusName;
 use std::alloc::Global;
 
-/// The message of a party with this serial, as it was sent.
-fn sent_message(trace: &[Event], who: Party, serial: u32) -> Option<&Message> {
-    for event in trace.iter().rev() {
-        if let Event::Sent {
+/// The message of a party with this serial, where an event tells that it was sent.
+fn sent_here(event: &Event, who: Party, serial: u32) -> Option<&Message>
+    ensures { option_copied result ≡ wires.sent_here who serial event.now }
+{
+    match event {
+        Event::Sent {
             who: sender,
             message,
-        } = event
-        {
-            if *sender == who && message.serial == serial {
-                return Some(message);
+        } => {
+            if is_party(*sender, who) && message.serial == serial {
+                Some(message)
+            } else {
+                None
             }
+        }
+        Event::Start { .. }
+        | Event::Step { .. }
+        | Event::Got { .. }
+        | Event::Hears { .. }
+        | Event::Deaf { .. }
+        | Event::Say { .. }
+        | Event::Show { .. }
+        | Event::Exit { .. }
+        | Event::Gone { .. }
+        | Event::Dropped { .. }
+        | Event::Busy(_)
+        | Event::Quiet => None,
+    }
+}
+
+/// The last message of a party with this serial that was sent before a place of a trace. Looked for from that place back, so that it costs what was
+/// told between the two.
+fn sent_before(trace: &[Event], place: usize, who: Party, serial: u32) -> Option<&Message>
+    requires { place ≤ length trace.now }
+    ensures { option_copied result ≡ wires.sent_before who serial trace.now place }
+{
+    let mut left = place;
+    while left > 0 {
+        left -= 1;
+        match sent_here(&trace[left], who, serial) {
+            Some(message) => return Some(message),
+            None => {}
         }
     }
     None
 }
 
 /// Appends the bytes of a message. After a fault nothing was appended.
-fn write(message: &Message, out: &mut Bytes) -> Result<(), CarryFault> {
+fn write(message: &Message, out: &mut Bytes) -> Result<(), CarryFault>
+    ensures ok { OnOk result (out.new ≡ out.old ++ written (envelope_of message.now)) }
+    ensures err { OnErr result (out.new ≡ out.old) }
+{
     if !meets_rules(message) {
         return Err(CarryFault::Unsendable);
     }
@@ -42,22 +83,24 @@ fn write(message: &Message, out: &mut Bytes) -> Result<(), CarryFault> {
 }
 
 /// The unique name of a party, once the bus gave it.
-fn name_of<'a>(posts: &'a [Post], who: Party) -> Option<&'a BusName> {
-    for post in posts {
-        if post.who == who {
-            return post.name.as_ref();
-        }
+fn name_of(posts: &[Post], who: Party) -> Option<&BusName>
+    ensures { option_copied result ≡ name_if (places.post_of who posts.now) }
+{
+    match post_of(posts, who) {
+        Some(post) => post.name.as_ref(),
+        None => None,
     }
-    None
 }
 
-/// Appends the bytes of an end's message with the sender that the bus set.
+/// Appends the bytes of an end's message with the sender that the bus set. After a fault nothing was appended.
 fn write_from(
     alloc: Global,
     message: &Message,
     sender: Option<&BusName>,
     out: &mut Bytes,
-) -> Result<(), CarryFault> {
+) -> Result<(), CarryFault>
+    ensures err { OnErr result (out.new ≡ out.old) }
+{
     let mut taken = message.copy(alloc)?;
     taken.sender = match sender {
         Some(name) => Some(name.copy(alloc)?),
@@ -66,7 +109,7 @@ fn write_from(
     write(&taken, out)
 }
 
-/// Appends the bytes of a message of a sender as its taker got it.
+/// Appends the bytes of a message of a sender as its taker got it. After a fault nothing was appended.
 fn write_taken(
     alloc: Global,
     posts: &[Post],
@@ -74,11 +117,10 @@ fn write_taken(
     sender: Party,
     message: &Message,
     out: &mut Bytes,
-) -> Result<(), CarryFault> {
-    if taker == Party::Bus {
-        return write(message, out);
-    }
-    if sender == Party::Bus {
+) -> Result<(), CarryFault>
+    ensures err { OnErr result (out.new ≡ out.old) }
+{
+    if is_party(taker, Party::Bus) || is_party(sender, Party::Bus) {
         return write(message, out);
     }
     write_from(alloc, message, name_of(posts, sender), out)
@@ -86,8 +128,12 @@ fn write_taken(
 
 impl<A: Application, R: Follower> Stage<A, R> {
     /// Appends the bytes of the message that an event tells: as it was sent, or as it was taken, that is, with the sender that the bus set where the
-    /// taker is another end. Nothing for an event other than Sent and Got, and where there is no such event.
-    pub fn wire(&self, event: usize, out: &mut Bytes) -> Result<(), CarryFault> {
+    /// taker is another end. A message that was taken is the last one that its sender sent with that serial before the event; it is looked for from
+    /// the event back. Nothing for an event other than Sent and Got, and where there is no such event or message. After a fault nothing was appended:
+    /// Unsendable where the message breaks a rule, or passes the limits of the wire with that sender.
+    pub fn wire(&self, event: usize, out: &mut Bytes) -> Result<(), CarryFault>
+        ensures err { OnErr result (out.new ≡ out.old) }
+    {
         let trace = self.carrier.trace.as_slice();
         if event >= trace.len() {
             return Ok(());
@@ -98,7 +144,7 @@ impl<A: Application, R: Follower> Stage<A, R> {
                 taker,
                 sender,
                 serial,
-            } => match sent_message(trace, *sender, *serial) {
+            } => match sent_before(trace, event, *sender, *serial) {
                 Some(message) => write_taken(
                     self.carrier.alloc,
                     &self.carrier.posts,
@@ -109,7 +155,17 @@ impl<A: Application, R: Follower> Stage<A, R> {
                 ),
                 None => Ok(()),
             },
-            _ => Ok(()),
+            Event::Start { .. }
+            | Event::Step { .. }
+            | Event::Hears { .. }
+            | Event::Deaf { .. }
+            | Event::Say { .. }
+            | Event::Show { .. }
+            | Event::Exit { .. }
+            | Event::Gone { .. }
+            | Event::Dropped { .. }
+            | Event::Busy(_)
+            | Event::Quiet => Ok(()),
         }
     }
 }

@@ -1,0 +1,147 @@
+-- A message that an end sends, on its link and in the trace.
+use Rattle.std.proofs.Common.{◌≡◌, ℕ, suc, ◌+◌, ◌<◌, ◌≤◌, Bool, true, false, cond, List, [], ◌∷◌, ◌++◌, length, map, set, Option, None, Some, refl, sym, ap, ◌∙◌, subst, append-nil, append_assoc, arith}
+use Rattle.std.specs.Prelude.{Result, Ok, Err, ◌&&◌, filter, codes, slice_get, if◌then◌else◌}
+use Rattle.std.specs.List.{list_any, AllByRecursion}
+use Rattle.std.proofs.lemmas.Option.{slice_get_within}
+use Rattle.atspi_lines.specs.declared.deed.Deed.{Deed}
+use Rattle.atspi_lines.specs.declared.deed.Deed.TheVariants.{SetCaret, InsertText, DeleteText, SetText, SelectChild, DeselectChild, SelectAll, ClearSelection, DoAction}
+use Rattle.atspi_lines.specs.declared.line.Party.{Party}
+use Rattle.atspi_lines.specs.declared.line.Party.TheVariants.{Reader}
+use Rattle.atspi_message.specs.Envelope.{Envelope}
+use Rattle.atspi_message.specs.Bytes.{IsMessage, written}
+use Rattle.atspi_protocol.specs.ends.Messages.{call_to}
+use Rattle.atspi_protocol.specs.ends.Places.{bus, bus_path}
+use Rattle.atspi_protocol.specs.exporting.Starting.{name_or_empty}
+use Rattle.atspi_protocol.specs.following.ReaderState.{Done, sends, ReaderState}
+use Rattle.atspi_protocol.specs.following.Calls.{user_call}
+use Rattle.atspi_protocol.specs.following.Takes.{reader_calls}
+use Rattle.atspi_routing.specs.declared.member.BusMember.{BusMember}
+use Rattle.atspi_routing.specs.declared.member.BusMember.TheVariants.{Hello, RequestName, ReleaseName, NameHasOwner, GetNameOwner, ListNames, ListQueuedOwners, AddMatch, RemoveMatch, GetId, Ping}
+use Rattle.atspi_routing.specs.Members.{MemberLine, member_lines, is_of, is_text, first_line, with_arguments, member_of}
+use Rattle.atspi_routing.specs.Queues.{Bus}
+use Rattle.atspi_bus_steps.specs.Spoken.{IsRuleOf, IsRuleNamed}
+use Rattle.atspi_events.specs.declared.event.Event.{Event}
+use Rattle.atspi_posts.specs.declared.post.Post.{Post}
+use Rattle.atspi_trace.specs.Entry.{Entry, entries_of, sent}
+use Rattle.atspi_trace.specs.Rules.{rule_in}
+use Rattle.atspi_trace.specs.World.{Role, a_reader, Hearer, Said, End, World}
+use Rattle.atspi_trace.specs.Ends.{plain, put_up, party_at, whose, conn_of, end_at, end_if, with_end}
+use Rattle.atspi_trace.specs.Causes.{at_end, on_end, called, reader_sends, calls, does}
+use Rattle.atspi_trace.specs.Work.{name_of}
+use Rattle.atspi_carrying.specs.Changes.{changed_at}
+use Rattle.atspi_carrying.specs.Carried.{bytes_up, post_of, IsSendable, AreSendable, IsCarried}
+use Rattle.atspi_carrying.proofs.Changes.{length-changed, map-changed}
+use Rattle.atspi_carrying.proofs.Ties.{post_below}
+use Rattle.atspi_carrying.proofs.Views.{with-changed, all_with}
+use Rattle.atspi_stage.specs.Cast.{IsReader}
+use Rattle.atspi_stage.specs.Doing.{sent_on, all_sent, messages, silent, OnlySends, AreSent, TellsReaderAt, CallsAt}
+use Rattle.atspi_stage.specs.Worlds.{Staged, IsWorld, IsAfter}
+use Rattle.atspi_stage.proofs.Conns.{conn_end, conn_who}
+use Rattle.atspi_stage.proofs.Plays.{get_set}
+use Rattle.atspi_stage.proofs.Sayings.{up-append, set_set}
+use Rattle.atspi_stage.proofs.Signals.{all-append}
+use Rattle.atspi_stage.proofs.Stays.{Beside, reader_world}
+
+-- Hello speaks of no rule
+abbrev hello : ℕ → Envelope
+hello n = record (call_to bus bus_path bus (codes "Hello") []) { serial = n }
+
+not_adding : ◌≡◌ {A = Result BusMember (List ℕ)} (Ok Hello) (Ok AddMatch) → ⊥
+not_adding h = cc
+
+not_removing : ◌≡◌ {A = Result BusMember (List ℕ)} (Ok Hello) (Ok RemoveMatch) → ⊥
+not_removing h = cc
+
+hello_rule : (n : ℕ) → IsRuleOf (hello n) (rule_in (hello n))
+hello_rule n AddMatch is = absurd (not_adding is)
+hello_rule n RemoveMatch is = absurd (not_removing is)
+hello_rule n Hello is = tt
+hello_rule n RequestName is = tt
+hello_rule n ReleaseName is = tt
+hello_rule n NameHasOwner is = tt
+hello_rule n GetNameOwner is = tt
+hello_rule n ListNames is = tt
+hello_rule n ListQueuedOwners is = tt
+hello_rule n GetId is = tt
+hello_rule n Ping is = tt
+
+pub hello_reads : (n : ℕ) → IsRuleNamed (record (call_to bus bus_path bus (codes "Hello") []) { serial = n }) (rule_in (record (call_to bus bus_path bus (codes "Hello") []) { serial = n }))
+hello_reads n = λ asked one. hello_rule n
+
+-- nor does a call of an interface that the bus does not have
+no_member : (e : Envelope) (member : BusMember) → list_any (is_of e.interface) member_lines ≡ false → member_of e ≡ Ok member → ⊥
+no_member e member none is = by (list_any (is_of e.interface) member_lines) none is
+  where
+    by : (b : Bool) → b ≡ false
+        → (if b then with_arguments e (first_line (filter (λ l. is_of e.interface l && is_text e.member l.name) member_lines)) else Err (codes "UnknownInterface")) ≡ Ok member → ⊥
+    by true n i = let clash : true ≡ false = n in cc
+    by false n i = cc
+
+pub deed_reads : (n : ℕ) (name : List ℕ) (node : ℕ) (deed : Deed) → IsRuleNamed (user_call n name node deed) (rule_in (user_call n name node deed))
+deed_reads n name node deed = λ asked one member is. absurd (no_member (user_call n name node deed) member (by deed) is)
+  where
+    by : (d : Deed) → list_any (is_of (user_call n name node d).interface) member_lines ≡ false
+    by (SetCaret at) = refl
+    by (InsertText at text) = refl
+    by (DeleteText from to) = refl
+    by (SetText text) = refl
+    by (SelectChild index) = refl
+    by (DeselectChild index) = refl
+    by SelectAll = refl
+    by ClearSelection = refl
+    by (DoAction index) = refl
+
+-- an end that sends one message and may change its role
+abbrev pub sends_one : Envelope → Role → End → End
+sends_one m role e = put_up (plain m ∷ []) (record e { role = role })
+
+put_is : (m : Envelope) (role : Role) (e : End) → post_of (sends_one m role e) ≡ sent_on m (post_of e)
+put_is m role e = ap (λ l. record (post_of e) { up = l }) (up-append e.up (plain m ∷ []) ∙ ap (λ l. bytes_up e.up ++ l) (append-nil (written m)))
+
+pub one_sent : (w : World) (conn : ℕ) (role : Role) (m : Envelope) (b b' : Bus) (posts posts' : List Post) → IsCarried w b posts → IsSendable m → b' ≡ b → posts' ≡ changed_at conn (sent_on m) posts
+    → IsCarried (at_end w conn (sends_one m role)) b' posts'
+one_sent w conn role m b b' posts posts' is sendable same changed =
+    record {
+      bus_is = same ∙ is.bus_is;
+      own_told = is.own_told;
+      closings_told = is.closings_told;
+      posts_are = changed ∙ ap (changed_at conn (sent_on m)) is.posts_are ∙ sym (map-changed post_of (sends_one m role) (sent_on m) (put_is m role) w.ends conn)
+          ∙ ap (map post_of) (sym (with-changed (sends_one m role) w.ends conn));
+      few = subst (λ n. n ≤ 4294967296) (sym (ap length changed ∙ length-changed (sent_on m) posts conn)) is.few;
+      sendable = all_with AreSendable (sends_one m role) (λ y h. all-append (λ (said : Said). IsSendable said.message) y.up (plain m ∷ []) h (sendable, tt)) conn w.ends is.sendable;
+    }
+
+-- a reader makes a call of its user, and that is told
+pub call_world : (w : World) (conn r : ℕ) (y : End) (p : Post) (node : ℕ) (deed : Deed) (old new : Staged) (readers : List ReaderState) → IsWorld w old → conn_of w.ends (Reader r) ≡ Some conn
+    → p ≡ post_of y → CallsAt old.readers readers r p.name node deed → TellsReaderAt readers new.readers r conn old.posts new.posts old.trace new.trace
+    → new.bus ≡ old.bus → new.apps ≡ old.apps → Beside old new → IsAfter (does w (calls conn (name_of (Some y)) node deed)) old new
+call_world w conn r y p node deed old new readers is there p_is calls_ tells bus_same apps beside =
+    let found = conn_end w.ends (Reader r) conn there in
+    let e : End = found.0 in
+    let at : end_at w.ends conn ≡ Some e = found.1 in
+    let play = is.readers_play r e (ap (end_if w.ends) there ∙ at) in
+    let s : ReaderState = play.player in
+    let h : Hearer = play.plays.hearer in
+    let k = calls_ s play.there in
+    let nm : List ℕ = name_of (Some y) in
+    let name_is : k.name ≡ nm = sym (ap name_or_empty (sym (ap (λ (q : Post). q.name) p_is) ∙ k.named)) in
+    let m : Envelope = user_call h.next nm node deed in
+    let m_is : user_call s.next k.name node deed ≡ m = ap (λ n. user_call n k.name node deed) play.plays.next ∙ ap (λ n. user_call h.next n node deed) name_is in
+    let t : ReaderState = reader_calls s k.name node deed in
+    let out_is : t.out ≡ sends m ∷ [] = ap (λ l. l ++ sends (user_call s.next k.name node deed) ∷ []) play.plays.quiet ∙ ap (λ x. sends x ∷ []) m_is in
+    let few : r < length old.readers = slice_get_within old.readers r s play.there in
+    let put : slice_get readers r ≡ Some t = ap (λ l. slice_get l r) k.readers ∙ get_set old.readers r t few in
+    let told = tells t put in
+    let all : AreSent r (messages t.out) conn old.posts new.posts old.trace new.trace = told.sends (subst OnlySends (sym out_is) tt) (post_below w old.bus old.posts conn e is.carried at) in
+    let one : AreSent r (m ∷ []) conn old.posts new.posts old.trace new.trace = subst (λ l. AreSent r (messages l) conn old.posts new.posts old.trace new.trace) out_is all in
+    let role : Role = a_reader (record h { next = suc h.next }) in
+    let carried : IsCarried (at_end w conn (sends_one m role)) new.bus new.posts =
+    one_sent w conn role m old.bus new.bus old.posts new.posts is.carried (record { is = one.written_.0; reads = deed_reads h.next nm node deed }) bus_same one.posts_are in
+    let next_is : s.next + 1 ≡ suc h.next = ap (λ n. n + 1) play.plays.next ∙ (let more : h.next + 1 ≡ suc h.next = omega arith in more) in
+    let after_ : IsWorld (at_end w conn (sends_one m role)) new =
+    reader_world w conn r e (sends_one m role) (silent t) old new (λ z. refl) (record { hearer = record h { next = suc h.next }; role_is = refl; next = next_is; quiet = refl }) is there at carried few
+    (told.readers ∙ ap (λ l. set l r (silent t)) k.readers ∙ set_set old.readers r t (silent t)) apps beside in
+    let does_is : does w (calls conn nm node deed) ≡ record { world = at_end w conn (sends_one m role); entries = sent (party_at w.ends conn) m ∷ [] } =
+    ap (λ o. on_end w o (λ x. called w conn nm node deed x.role)) at ∙ ap (called w conn nm node deed) play.plays.role_is in
+    let party : Reader r ≡ party_at w.ends conn = sym (conn_who w.ends (Reader r) conn e there at) ∙ ap whose (sym at) in
+    subst (λ x. IsAfter x old new) (sym does_is) (record { is = after_; wrote = one.wrote ∙ ap (λ q. entries_of old.trace ++ sent q m ∷ []) party })

@@ -1,0 +1,166 @@
+-- What a line's causes do is what the line does.
+use Rattle.std.proofs.Common.{◌≡◌, ℕ, ◌<◌, ◌≤◌, Bool, true, false, List, length, Option, None, Some, refl, sym, ap, ◌∙◌, subst}
+use Rattle.std.specs.Prelude.{Result, Ok, Err, OnOk, nat_le, position, if◌then◌else◌}
+use Rattle.std.proofs.lemmas.Bool.{leb-false}
+use Rattle.std.proofs.lemmas.Option.{same_Some}
+use Rattle.atspi_forest.specs.declared.edit.Edit.{Edit}
+use Rattle.atspi_forest.specs.declared.edit.EditFault.TheVariants.{TextFull}
+use Rattle.atspi_forest.specs.Edits.{is_long_name}
+use Rattle.atspi_forest.specs.Forest.{first_of}
+use Rattle.atspi_lines.specs.declared.deed.Deed.{Deed}
+use Rattle.atspi_lines.specs.declared.line.Line.{Line}
+use Rattle.atspi_lines.specs.declared.line.Line.TheVariants as lines
+use Rattle.atspi_lines.specs.declared.line.Party.{Party}
+use Rattle.atspi_lines.specs.declared.line.Party.TheVariants.{App, Reader}
+use Rattle.atspi_posts.specs.declared.post.Post.{Post}
+use Rattle.atspi_trace.specs.World.{End, World}
+use Rattle.atspi_trace.specs.Ends.{is_here, same_party, conn_of, end_at, end_if, end_of, stops, app_count, reader_count}
+use Rattle.atspi_trace.specs.Causes.{Cause, does, starts_app, starts_reader, edits, calls, swaps_face, exits}
+use Rattle.atspi_trace.specs.Work.{Refusal, no_party, dead, no_kit, no_reader, no_spare, of_edit, refusal_if, if_started, if_here, no_more, doing, with_conn, moving, name_of}
+use Rattle.atspi_carrying.specs.Carried.{IsCarried, IsDone}
+use Rattle.atspi_carrying.proofs.Ties.{conn_is}
+use Rattle.atspi_stage.specs.Lines.{CausedAt, WorkDone, LineDone, LineDoneElse}
+use Rattle.atspi_stage.specs.Worlds.{Staged, IsWorld, IsAfter}
+use Rattle.atspi_stage.proofs.Conns.{conn_end}
+use Rattle.atspi_stage.proofs.Stays.{Beside, same_world, parts_kept, idle}
+
+-- what the search for a party's connection says
+abbrev pub Finds : Option ℕ → Party → List Post → Type 0
+Finds o who posts = length posts ≤ 4294967296 → o ≡ position (λ (p : Post). same_party p.who who) posts
+
+pub found_is : (w : World) (old : Staged) (who : Party) (o : Option ℕ) → IsWorld w old → Finds o who old.posts → conn_of w.ends who ≡ o
+found_is w old who o is h = sym (conn_is w old.bus old.posts who is.carried) ∙ sym (h is.carried.few)
+
+-- an edit
+pub edit_some : (app : ℕ) (edit : Edit) (conn : ℕ) (old new : Staged) → Finds (Some conn) (App app) old.posts
+    → ((w : World) → IsWorld w old → conn_of w.ends (App app) ≡ Some conn → IsAfter (does w (edits conn edit)) old new) → LineDone (lines.Edit app edit) old new
+edit_some app edit conn old new found does_ = λ w is free.
+    let there = found_is w old (App app) (Some conn) is found in
+    subst (λ o. WorkDone w (with_conn o (λ k. doing (edits k edit))) old new) (sym there) (does_ w is there)
+
+pub edit_none : (app : ℕ) (edit : Edit) (s : Staged) → Finds None (App app) s.posts → LineDone (lines.Edit app edit) s s
+edit_none app edit s found = λ w is free. subst (λ o. WorkDone w (with_conn o (λ k. doing (edits k edit))) s s) (sym (found_is w s (App app) None is found)) (idle w s is)
+
+-- an end that stops
+pub exit_some : (who : Party) (conn : ℕ) (old new : Staged) → Finds (Some conn) who old.posts
+    → ((w : World) (e : End) → IsCarried w old.bus old.posts → end_at w.ends conn ≡ Some e → IsDone (does w (exits conn)) new.bus new.posts old.trace new.trace)
+    → new.apps ≡ old.apps → new.readers ≡ old.readers → Beside old new → CausedAt who exits old new
+exit_some who conn old new found does_ apps readers beside = λ w k is there.
+    let same : conn ≡ k = same_Some conn k (sym (found_is w old who (Some conn) is found) ∙ there) in
+    subst (λ n. IsAfter (does w (exits n)) old new) same (at w is)
+  where
+    at : (w : World) → IsWorld w old → IsAfter (does w (exits conn)) old new
+    at w is =
+        let e = conn_end w.ends who conn (found_is w old who (Some conn) is found) in
+        let done = does_ w e.0 is.carried e.1 in
+        record { is = same_world w (does w (exits conn)).world old new is (parts_kept stops (λ y. refl) w.ends conn) refl done.tied apps readers beside; wrote = done.wrote }
+
+pub exit_none : (who : Party) (s : Staged) → Finds None who s.posts → CausedAt who exits s s
+exit_none who s found = λ w k is there. let no : None ≡ Some k = sym (found_is w s who None is found) ∙ there in absurd cc
+
+pub exit_line : (who : Party) (old new : Staged) → CausedAt who exits old new → (w : World) → IsWorld w old → if_started (end_of w.ends who) (λ e. if_here e no_more) ≡ None
+    → WorkDone w (with_conn (conn_of w.ends who) (λ k. doing (exits k))) old new
+exit_line who old new does_ w is free = by (conn_of w.ends who) refl free
+  where
+    by : (o : Option ℕ) → conn_of w.ends who ≡ o → if_started (end_if w.ends o) (λ e. if_here e no_more) ≡ None → WorkDone w (with_conn o (λ k. doing (exits k))) old new
+    by None there h = absurd cc
+    by (Some k) there h = does_ w k is there
+
+-- what is not refused for want of kits, readers and faces
+below : (n k : ℕ) (why : Refusal) → refusal_if (nat_le n k) why ≡ None → k < n
+below n k why h = by (nat_le n k) refl h
+  where
+    by : (b : Bool) → nat_le n k ≡ b → refusal_if b why ≡ None → k < n
+    by true t e = absurd cc
+    by false t e = leb-false n k t
+
+pub faces_left : (n k : ℕ) (why : Refusal) (o : Option End) → if_started o (λ e. if_here e (λ a. refusal_if (nat_le n k) why)) ≡ None → k < n
+faces_left n k why None h = absurd cc
+faces_left n k why (Some e) h = by (is_here e.standing) h
+  where
+    by : (b : Bool) → (if b then refusal_if (nat_le n k) why else Some dead) ≡ None → k < n
+    by true i = below n k why i
+    by false i = absurd cc
+
+-- a line that is no edit and no call
+pub line_else : (line : Line) (old new : Staged) → ((app : ℕ) (edit : Edit) → line ≡ lines.Edit app edit → ⊥) → ((reader app node : ℕ) (deed : Deed) → line ≡ lines.Call reader app node deed → ⊥)
+    → LineDoneElse line old new → LineDone line old new
+line_else (lines.Edit app edit) old new no_edit no_call h = absurd (no_edit app edit refl)
+line_else (lines.Call reader app node deed) old new no_edit no_call h = absurd (no_call reader app node deed refl)
+line_else lines.Blank old new no_edit no_call h = h
+line_else (lines.Quota quota) old new no_edit no_call h = h
+line_else (lines.App name) old new no_edit no_call h = h
+line_else lines.Reader old new no_edit no_call h = h
+line_else (lines.Swap app) old new no_edit no_call h = h
+line_else (lines.Exit app) old new no_edit no_call h = h
+line_else (lines.Leave reader) old new no_edit no_call h = h
+line_else (lines.Bytes who up count) old new no_edit no_call h = h
+line_else (lines.Turns count) old new no_edit no_call h = h
+line_else lines.Drain old new no_edit no_call h = h
+line_else (lines.Show reader app) old new no_edit no_call h = h
+
+-- THE LINES, each by what its causes do
+module _ (line : Line) (old new : Staged) where
+  pub line_app : (name : List ℕ) → line ≡ lines.App name → LineDoneElse line old new
+  line_app name e = subst (λ l. LineDoneElse l old new) (sym e) tt
+
+  pub line_reader : line ≡ lines.Reader → LineDoneElse line old new
+  line_reader e = subst (λ l. LineDoneElse l old new) (sym e) tt
+
+  pub line_swap : (app : ℕ) → line ≡ lines.Swap app → ((w : World) → IsWorld w old → w.swaps < 16 → IsAfter (does w swaps_face) old new) → LineDoneElse line old new
+  line_swap app e does_ = subst (λ l. LineDoneElse l old new) (sym e) (at does_)
+    where
+      at : ((w : World) → IsWorld w old → w.swaps < 16 → IsAfter (does w swaps_face) old new) → LineDoneElse (lines.Swap app) old new
+      at d = λ w is free. d w is (faces_left 16 w.swaps no_spare (end_of w.ends (App app)) free)
+
+  pub line_exit : (app : ℕ) → line ≡ lines.Exit app → CausedAt (App app) exits old new → LineDoneElse line old new
+  line_exit app e does_ = subst (λ l. LineDoneElse l old new) (sym e) (exit_line (App app) old new does_)
+
+  pub line_leave : (reader : ℕ) → line ≡ lines.Leave reader → CausedAt (Reader reader) exits old new → LineDoneElse line old new
+  line_leave reader e does_ = subst (λ l. LineDoneElse l old new) (sym e) (exit_line (Reader reader) old new does_)
+
+  pub line_quota : (quota : ℕ) → line ≡ lines.Quota quota → LineDoneElse line old new
+  line_quota quota e = subst (λ l. LineDoneElse l old new) (sym e) tt
+
+  pub line_show : (reader app : ℕ) → line ≡ lines.Show reader app → LineDoneElse line old new
+  line_show reader app e = subst (λ l. LineDoneElse l old new) (sym e) tt
+
+  pub line_edit : (app : ℕ) (edit : Edit) → line ≡ lines.Edit app edit → LineDoneElse line old new
+  line_edit app edit e = subst (λ l. LineDoneElse l old new) (sym e) tt
+
+  pub line_call : (reader app node : ℕ) (deed : Deed) → line ≡ lines.Call reader app node deed → LineDoneElse line old new
+  line_call reader app node deed e = subst (λ l. LineDoneElse l old new) (sym e) tt
+
+  pub line_turns : (count : ℕ) → line ≡ lines.Turns count → LineDoneElse line old new
+  line_turns count e = subst (λ l. LineDoneElse l old new) (sym e) at
+    where
+      at : LineDoneElse (lines.Turns count) old new
+      at = λ w is free. tt
+
+  pub line_drain : line ≡ lines.Drain → LineDoneElse line old new
+  line_drain e = subst (λ l. LineDoneElse l old new) (sym e) at
+    where
+      at : LineDoneElse lines.Drain old new
+      at = λ w is free. tt
+
+  pub line_bytes : (who : Party) (up : Bool) (count : ℕ) → line ≡ lines.Bytes who up count → LineDoneElse line old new
+  line_bytes who up count e = subst (λ l. LineDoneElse l old new) (sym e) at
+    where
+      by : (w : World) (o : Option ℕ) (u : Bool) → if_started (end_if w.ends o) no_more ≡ None → WorkDone w (with_conn o (moving u count)) old new
+      by w None u h = absurd cc
+      by w (Some k) true h = tt
+      by w (Some k) false h = tt
+
+      at : LineDoneElse (lines.Bytes who up count) old new
+      at = λ w is free. by w (conn_of w.ends who) up free
+
+pub line_blank : (line : Line) (s : Staged) → line ≡ lines.Blank → LineDoneElse line s s
+line_blank line s e = subst (λ l. LineDoneElse l s s) (sym e) at
+  where
+    at : LineDoneElse lines.Blank s s
+    at = λ w is free. idle w s is
+
+-- what holds whatever came of a call
+pub ok_any : {T F P : Type 0} (r : Result T F) → P → OnOk r P
+ok_any (Ok x) p = p
+ok_any (Err e) p = tt

@@ -1,0 +1,78 @@
+-- What the bus does changes no end's party and no role.
+use Rattle.std.proofs.Common.{◌≡◌, ℕ, zero, suc, Bool, true, false, List, [], ◌∷◌, map, Some, refl, ap, ◌∙◌}
+use Rattle.std.specs.Prelude.{length, if◌then◌else◌}
+use Rattle.std.specs.List.{fold}
+use Rattle.atspi_lines.specs.declared.line.Party.{Party}
+use Rattle.atspi_message.specs.Envelope.{Envelope}
+use Rattle.atspi_routing.specs.declared.closing.Why.{Why}
+use Rattle.atspi_routing.specs.Steps.{Move, says, delivers, closes, BusStep, bus_takes, bus_leaves}
+use Rattle.atspi_routing.specs.Queues as queues
+use Rattle.atspi_routing.specs.Queues.{Waiting, Bus, without_queue}
+use Rattle.atspi_trace.specs.Rules.{rule_in}
+use Rattle.atspi_trace.specs.World.{Said, Letter, End, World}
+use Rattle.atspi_trace.specs.Ends.{end_at, with_end, put_down, taken_up, leaves}
+use Rattle.atspi_trace.specs.Causes.{Done, does, on_end, routed, routes, unjoins}
+use Rattle.atspi_trace.specs.Carrying.{Carried, Filled, letter_of, own_letter, grew, with_letter, moved, stepped, left, one_closed, settled, named, with_name, takes, takes_end}
+use Rattle.atspi_carrying.specs.Carried.{IsDone}
+use Rattle.atspi_stage.specs.Worlds.{Staged, IsWorld, IsAfter}
+use Rattle.atspi_stage.proofs.Changed.{part_of}
+use Rattle.atspi_stage.proofs.Stays.{Beside, parts_kept, same_world}
+
+letter_parts : (letter : Envelope → Letter) (b a : Waiting) (move : Move) (ends : List End) → map part_of (with_letter letter b a move ends) ≡ map part_of ends
+letter_parts letter b a (delivers conn m) ends = by (grew conn b a)
+  where
+    by : (t : Bool) → map part_of (if t then with_end conn (put_down (letter m)) ends else ends) ≡ map part_of ends
+    by true = parts_kept (put_down (letter m)) (λ e. refl) ends conn
+    by false = refl
+letter_parts letter b a (says m) ends = refl
+letter_parts letter b a (closes conn) ends = refl
+
+folded_parts : (letter : Envelope → Letter) (quota : ℕ) (f : Filled) (moves : List Move) → map part_of (fold (moved letter quota) f moves).ends ≡ map part_of f.ends
+folded_parts letter quota f [] = refl
+folded_parts letter quota f (move ∷ moves) = folded_parts letter quota (moved letter quota f move) moves ∙ letter_parts letter f.waiting (queues.moved quota f.waiting move) move f.ends
+
+stepped_parts : (letter : Envelope → Letter) (c : Carried) (step : BusStep) → map part_of (stepped letter c step).ends ≡ map part_of c.ends
+stepped_parts letter c step = folded_parts letter c.bus.quota (record { waiting = c.bus.waiting; ends = c.ends }) step.moves
+
+abbrev without : Carried → ℕ → Carried
+without c conn = record { bus = record c.bus { waiting = without_queue c.bus.waiting conn }; ends = with_end conn leaves c.ends }
+
+left_parts : (c : Carried) (conn : ℕ) → map part_of (left c conn).ends ≡ map part_of c.ends
+left_parts c conn = stepped_parts own_letter (without c conn) (bus_leaves c.bus.state conn) ∙ parts_kept leaves (λ e. refl) c.ends conn
+
+one_parts : (c : Carried) (due : List (ℕ × Why)) → map part_of (one_closed c due).ends ≡ map part_of c.ends
+one_parts c [] = refl
+one_parts c (first ∷ rest) = left_parts c first.0
+
+settled_parts : (n : ℕ) (c : Carried) → map part_of (settled n c).ends ≡ map part_of c.ends
+settled_parts zero c = refl
+settled_parts (suc n) c = settled_parts n (one_closed c c.bus.waiting.due) ∙ one_parts c c.bus.waiting.due
+
+takes_parts : (c : Carried) (conn : ℕ) (who : Party) (said : Said) → map part_of (takes c conn who said).ends ≡ map part_of c.ends
+takes_parts c conn who said =
+    let off : Carried = record c { ends = with_end conn taken_up c.ends } in
+    let handed : Carried = stepped (letter_of who said) off (bus_takes c.bus.state conn said.message (rule_in said.message)) in
+    settled_parts (length c.bus.state.joined) (with_name conn handed) ∙ parts_kept (named handed.bus conn) (λ e. refl) handed.ends conn
+    ∙ stepped_parts (letter_of who said) off (bus_takes c.bus.state conn said.message (rule_in said.message)) ∙ parts_kept taken_up (λ e. refl) c.ends conn
+
+ends_parts : (c : Carried) (conn : ℕ) → map part_of (takes_end c conn).ends ≡ map part_of c.ends
+ends_parts c conn = settled_parts (length c.bus.state.joined) (left c conn) ∙ left_parts c conn
+
+-- the bus took a message of an end
+pub route_world : (w : World) (conn : ℕ) (e : End) (said : Said) (rest : List Said) (old new : Staged) → IsWorld w old → end_at w.ends conn ≡ Some e → e.up ≡ said ∷ rest
+    → IsDone (does w (routes conn)) new.bus new.posts old.trace new.trace → new.apps ≡ old.apps → new.readers ≡ old.readers → Beside old new → IsAfter (does w (routes conn)) old new
+route_world w conn e said rest old new is at up done apps readers beside =
+    let does_is = ap (λ o. on_end w o (λ x. routed w conn x.who x.up)) at ∙ ap (routed w conn e.who) up in
+    record {
+      is = same_world w (does w (routes conn)).world old new is
+          (ap (λ (d : Done). map part_of d.world.ends) does_is ∙ takes_parts (record { bus = w.bus; ends = w.ends }) conn e.who said) (ap (λ (d : Done). d.world.swaps) does_is) done.tied apps readers beside;
+      wrote = done.wrote;
+    }
+
+-- the bus took an end that stopped
+pub part_world : (w : World) (conn : ℕ) (old new : Staged) → IsWorld w old → IsDone (does w (unjoins conn)) new.bus new.posts old.trace new.trace → new.apps ≡ old.apps → new.readers ≡ old.readers → Beside old new
+    → IsAfter (does w (unjoins conn)) old new
+part_world w conn old new is done apps readers beside = record {
+  is = same_world w (does w (unjoins conn)).world old new is (ends_parts (record { bus = w.bus; ends = w.ends }) conn) refl done.tied apps readers beside;
+  wrote = done.wrote;
+}
