@@ -76,10 +76,10 @@ module _ (es : List Entry) (w : World) (s : Shape w) (live : LiveHere (es ++ qui
   same_messages a = messages_more es (quiet ∷ []) (App a) ∙ append-nil (messages es (App a))
 
   -- what is held of it
-  as_now : (reader app : ℕ) (tree : Forest TreeRow) (o : Option Holding) → live_tree es app ≡ tree → HoldsWell tree o → (k : Option Kept) → held es reader app ≡ k → SameKept now app k o → (x : Kept) × (held es reader app ≡ Some x) × IsAsNow es app x
-  as_now reader app tree None live well k is same = absurd well
-  as_now reader app tree (Some hk) live well None is same = absurd same
-  as_now reader app tree (Some hk) live well (Some x) is same = (x, is, record { same = views; known = known })
+  as_now : (reader app : ℕ) (its_tree : Forest TreeRow) (o : Option Holding) → live_tree es app ≡ its_tree → HoldsWell its_tree o → (k : Option Kept) → held es reader app ≡ k → SameKept now app k o → (x : Kept) × (held es reader app ≡ Some x) × IsAsNow es app x
+  as_now reader app its_tree None live well k is same = absurd well
+  as_now reader app its_tree (Some hk) live well None is same = absurd same
+  as_now reader app its_tree (Some hk) live well (Some x) is same = (x, is, record { same = views; known = known })
     where
       was : message es (App app) hk.last ≡ Some same.first
       was = sym (ap (with_serial hk.last) (same_messages app)) ∙ same.was
@@ -90,11 +90,11 @@ module _ (es : List Entry) (w : World) (s : Shape w) (live : LiveHere (es ++ qui
       views : view (told_in x.told) (as_of es app x.last) ≡ view (told_in x.told) (live_tree es app)
       views =
           ap (view (told_in x.told)) tree_then ∙ ap (λ t. view (told_in t) hk.tree) same.told ∙ well.same
-          ∙ ap (λ t. view (told_in t) tree) (sym same.told) ∙ ap (view (told_in x.told)) (sym live)
+          ∙ ap (λ t. view (told_in t) its_tree) (sym same.told) ∙ ap (view (told_in x.told)) (sym live)
 
       known : AllByRecursion (λ row. unknown_parts row ≡ []) (labels (view (told_in x.told) (live_tree es app)))
       known =
-          subst (λ v. AllByRecursion (λ row. unknown_parts row ≡ []) (labels v)) (well.same ∙ ap (λ t. view (told_in t) tree) (sym same.told) ∙ ap (view (told_in x.told)) (sym live)) well.known
+          subst (λ v. AllByRecursion (λ row. unknown_parts row ≡ []) (labels v)) (well.same ∙ ap (λ t. view (told_in t) its_tree) (sym same.told) ∙ ap (view (told_in x.told)) (sym live)) well.known
 
   knows : (reader app : ℕ) → is_live es (Reader reader) ≡ true → is_live es (App app) ≡ true → (k : Kept) × (held es reader app ≡ Some k) × IsAsNow es app k
   knows reader app reader_live app_live =

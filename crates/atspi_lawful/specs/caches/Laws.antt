@@ -50,9 +50,9 @@ pub record TellsPart (name : List ℕ) (tree : Forest TreeRow) (count : ℕ) (pa
   pub was_added : node ≤ count
 
 abbrev pub Tells : List ℕ → Forest TreeRow → ℕ → Option Question → Envelope → Type 0
-Tells name tree count (Some (GetItems n)) e = TellsItems name tree e
-Tells name tree count (Some (GetPart n path part)) e = TellsPart name tree count path part e
-Tells name tree count question e = Unit {0}
+Tells name its_tree count (Some (GetItems n)) e = TellsItems name its_tree e
+Tells name its_tree count (Some (GetPart n path part)) e = TellsPart name its_tree count path part e
+Tells name its_tree count question e = Unit {0}
 
 abbrev pub IsAnswered : List ℕ → ℕ → ℕ → List Entry → Entry → List Entry → Type 0
 IsAnswered name reader app before (got (Reader r) (App a) serial) behind =
