@@ -1,6 +1,8 @@
 //! Hosts in memory, and what was given on their links.
 
-use atspi_host::{Call, Did, MemHost, Peer};
+ghost use Rattle.std.specs.Prelude.{◌≡◌, [], Some, IfOk};
+
+use atspi_host::{Call, Did, Host, MemHost, Peer};
 use std::alloc::Global;
 use std::collections::VecDeque;
 use std::test::Fail;
@@ -47,7 +49,10 @@ pub fn pieces(alloc: Global, parts: &[&[u8]]) -> Result<VecDeque<Vec<u8>>, Fail>
 }
 
 /// A host with these peers, whose call with this number fails.
-pub fn host_of(alloc: Global, peers: Vec<Peer>, failing: u64) -> Result<MemHost, Fail> {
+pub fn host_of(alloc: Global, peers: Vec<Peer>, failing: u64) -> Result<MemHost, Fail>
+    ensures calls { IfOk result (λ host. ⟦<MemHost as Host>⟧.calls host ≡ Some []) }
+    ensures links { IfOk result (λ host. ⟦<MemHost as Host>⟧.links host ≡ []) }
+{
     let mut numbers = Vec::new(alloc);
     numbers.push(failing)?;
     Ok(MemHost::new(alloc, peers, numbers))
