@@ -125,7 +125,7 @@ reader_sends h m e = put_up (plain m ∷ []) (record e { role = a_reader h })
 
 -- a reader's start, with Hello
 abbrev pub first_hearer : Hearer
-first_hearer = record { asked = []; next = 1; holds = [] }
+first_hearer = record { asked = []; next = 1; registry = None; named = []; holds = [] }
 
 abbrev pub reader_starts : World → Done
 reader_starts w =

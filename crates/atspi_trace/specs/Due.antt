@@ -174,7 +174,7 @@ pub record IsOwnCall (s : Scene) (r : ℕ) (e : Envelope) : Type 0 where
   pub standing : asker.standing ≡ here
   pub reader : asker.role ≡ a_reader hearer
   pub answered : list_all is_answered hearer.asked ≡ true
-  pub allowed : may_ask hearer.asked question ≡ true
+  pub allowed : may_ask hearer question ≡ true
   pub spelled : e ≡ asking hearer.next question
   pub read : question_in e ≡ Some question
 

@@ -12,11 +12,13 @@ use Rattle.atspi_routing.specs.Answers.{first_text}
 use Rattle.atspi_speech.specs.Speech.{says_after, closing_says}
 use Rattle.atspi_protocol.specs.declared.news.part.PartName.{PartName}
 use Rattle.atspi_protocol.specs.declared.news.part.PartName.TheVariants.{Text, Caret, Columns}
+use Rattle.atspi_forest.specs.declared.news.Reference.{Reference}
 use Rattle.atspi_protocol.specs.news.NewsOf.{or_empty}
+use Rattle.atspi_protocol.specs.news.Replies.{elements_of}
 use Rattle.atspi_protocol.specs.declared.following.question.Question.{Question}
 use Rattle.atspi_protocol.specs.declared.following.question.Question.TheVariants.{Hello, AddMatch, RegisterEvent, GetChildren, GetItems, GetPart}
-use Rattle.atspi_protocol.specs.following.ReaderState.{start_calls}
-use Rattle.atspi_protocol.specs.following.Known.{told_end}
+use Rattle.atspi_protocol.specs.following.ReaderState.{start_calls, begins}
+use Rattle.atspi_protocol.specs.following.Known.{told_end, references_among, new_child}
 use Rattle.atspi_protocol.specs.following.Replied.{is_reply_to}
 use Rattle.atspi_trace.specs.Entry.{Entry, spoke, gone}
 use Rattle.atspi_trace.specs.World.{Fate, waits, returned, failed, Asked, Holding, Hearer, Said, Letter, End}
@@ -87,8 +89,25 @@ holds_of h ends letter = by letter.from
     by (App app) = holds_after app letter.said (question_returned letter.said.message h.asked) h.holds
     by who = without_ended (app_ended ends letter) h.holds
 
+-- The bus names that a message tells as those of applications: those of the registry's children in a return, and behind it that of each child of
+-- which whoever sent the return tells that it was added
+abbrev pub child_name : Option Reference → List (List ℕ)
+child_name None = []
+child_name (Some root) = root.bus ∷ []
+
+abbrev pub names_told : Hearer → Envelope → Option Question → List (List ℕ)
+names_told h e (Some GetChildren) = map (λ (root : Reference). root.bus) (references_among (elements_of e.body))
+names_told h e question = child_name (new_child (record begins { registry = h.registry }) e)
+
+abbrev pub registry_after : Hearer → Envelope → Option Question → Option (List ℕ)
+registry_after h e (Some GetChildren) = e.sender
+registry_after h e question = h.registry
+
 abbrev pub hears_letter : Hearer → List End → Letter → Hearer
-hears_letter h ends letter = record h { asked = map (answered_by letter.said.message) h.asked; holds = holds_of h ends letter }
+hears_letter h ends letter =
+    let e = letter.said.message in
+    let answered = question_returned e h.asked in
+    record h { asked = map (answered_by e) h.asked; registry = registry_after h e answered; named = h.named ++ names_told h e answered; holds = holds_of h ends letter }
 
 -- What it speaks at an application's message: where it holds the application and the message announces a step, the lines of that step,
 -- read from the tree as of the message
@@ -117,8 +136,8 @@ heard_entries r h ends letter = by letter.from
     by (App app) = map (spoke r app) (lines_if_held (holding_of app h.holds) letter.said)
     by who = ended_entries r h (app_ended ends letter)
 
--- The own calls that it may send: one of its start at any time; one for all items of an application once the five patterns are
--- registered; one for a part
+-- The own calls that it may send: one of its start at any time; one for a part; and one for all items of an application that it was told of, once the
+-- rules and patterns of its start were returned, so that it misses nothing behind the items
 abbrev pub is_answered : Asked → Bool
 is_answered a = by a.fate
   where
@@ -143,13 +162,20 @@ rules_in [] = []
 rules_in (AddMatch rule ∷ questions) = rule ∷ rules_in questions
 rules_in (question ∷ questions) = rules_in questions
 
-abbrev pub may_ask : List Asked → Question → Bool
-may_ask asked Hello = true
-may_ask asked (AddMatch rule) = list_any (bytes_eq rule) (rules_in start_calls)
-may_ask asked (RegisterEvent pattern) = list_any (bytes_eq pattern) (patterns_in start_calls)
-may_ask asked GetChildren = true
-may_ask asked (GetItems name) = is_bus_name name && is_registered asked
-may_ask asked (GetPart name path part) = is_bus_name name && is_path path
+abbrev pub listens : List ℕ → Question → Fate → Bool
+listens rule (AddMatch other) returned = bytes_eq other rule
+listens rule question fate = false
+
+abbrev pub is_listening : List Asked → Bool
+is_listening asked = list_all (λ rule. list_any (λ (a : Asked). listens rule a.question a.fate) asked) (rules_in start_calls)
+
+abbrev pub may_ask : Hearer → Question → Bool
+may_ask h Hello = true
+may_ask h (AddMatch rule) = list_any (bytes_eq rule) (rules_in start_calls)
+may_ask h (RegisterEvent pattern) = list_any (bytes_eq pattern) (patterns_in start_calls)
+may_ask h GetChildren = true
+may_ask h (GetItems name) = is_bus_name name && (is_listening h.asked && (is_registered h.asked && list_any (bytes_eq name) h.named))
+may_ask h (GetPart name path part) = is_bus_name name && is_path path
 
 -- The question of a message that has the form of an own call
 abbrev pub second_text : List Data → List ℕ

@@ -42,10 +42,12 @@ pub record Holding : Type 0 where
   pub told : List (List ℕ × PartName)
 
 -- A reader as the laws of a trace see it, whatever it does with a message: its own calls so far, the oldest first; the serial of its next
--- message; and what it holds
+-- message; who answered its call for the registry's children, and the bus names that it was told as those of applications; and what it holds
 pub record Hearer : Type 0 where
   pub asked : List Asked
   pub next : ℕ
+  pub registry : Option (List ℕ)
+  pub named : List (List ℕ)
   pub holds : List Holding
 
 pub data Role : Type 0 where

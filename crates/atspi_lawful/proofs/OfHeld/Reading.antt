@@ -12,7 +12,7 @@ use Rattle.atspi_protocol.specs.declared.following.question.Question.TheVariants
 use Rattle.atspi_speech.specs.Speech.{says_after}
 use Rattle.atspi_trace.specs.Entry.{Entry, got, spoke, gone}
 use Rattle.atspi_trace.specs.World.{Holding, Hearer, Said, Letter, End}
-use Rattle.atspi_trace.specs.Hearing.{answered_by, question_returned, holding_of, without, noted, holds_after, without_ended, hears_letter, step_lines, lines_if_held, last_lines, ended_entries, heard_entries}
+use Rattle.atspi_trace.specs.Hearing.{answered_by, question_returned, holding_of, without, noted, holds_after, without_ended, registry_after, names_told, hears_letter, step_lines, lines_if_held, last_lines, ended_entries, heard_entries}
 use Rattle.atspi_lawful.specs.laws.Words.{messages, message, as_of, answer_to, answers_question, Kept, kept_with, kept_after, held_on, held}
 use Rattle.atspi_lawful.specs.laws.NineLaws.{IsSpoken, Follow}
 use Rattle.atspi_lawful.proofs.OfOrder.Parties.{false_true}
@@ -169,7 +169,9 @@ module _ (es : List Entry) (r : ℕ) (h : Hearer) (serial : ℕ) (m : Envelope) 
   got_entries = got_it ∷ ended_entries r h o
 
   abbrev got_hearer : Hearer
-  got_hearer = record h { asked = map (answered_by m) h.asked; holds = without_ended o h.holds }
+  got_hearer =
+      let answered = question_returned m h.asked in
+      record h { asked = map (answered_by m) h.asked; registry = registry_after h m answered; named = h.named ++ names_told h m answered; holds = without_ended o h.holds }
 
   ended_now : (b : ℕ) (p : Option ℕ) (early : List Entry) (k : Option Kept) → held_on early r b k (ended_entries r h p) ≡ without_kept b p k
   ended_now b None early k = refl

@@ -66,7 +66,7 @@ pub record Asks (w : World) (conn r : ℕ) (m : Envelope) (question : Question) 
   pub whose : asker.who ≡ Reader r
   pub reader : asker.role ≡ a_reader hearer
   pub answered : list_all is_answered hearer.asked ≡ true
-  pub allowed : may_ask hearer.asked question ≡ true
+  pub allowed : may_ask hearer question ≡ true
   pub spelled : m ≡ asking hearer.next question
   pub read : question_in m ≡ Some question
 

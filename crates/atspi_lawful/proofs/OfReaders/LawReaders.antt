@@ -1,6 +1,6 @@
 -- The law of readers, along a lawful trace.
 use Rattle.std.proofs.Common.{◌≡◌, ℕ, ◌<◌, ◌≤◌, Bool, true, false, List, [], ◌∷◌, ◌++◌, length, map, Option, None, Some, refl, sym, ap, ◌∙◌, subst, arith, is_some}
-use Rattle.std.specs.Prelude.{◌==◌, ◌||◌, ◌&&◌, if◌then◌else◌}
+use Rattle.std.specs.Prelude.{◌==◌, ◌||◌, ◌&&◌, if◌then◌else◌, bytes_eq}
 use Rattle.std.specs.List.{AllByRecursion, list_any, list_all}
 use Rattle.std.proofs.lemmas.Bool.{eqb-true}
 use Rattle.std.proofs.lemmas.Slice.Eq.{bytes_eq-Decides}
@@ -24,7 +24,7 @@ use Rattle.atspi_trace.specs.World.{Fate, waits, returned, failed, Asked, Role, 
 use Rattle.atspi_trace.specs.Ends.{number_of, party_at, end_at, taken_down, app_count, reader_count, put_up}
 use Rattle.atspi_trace.specs.Carrying as carrying
 use Rattle.atspi_trace.specs.Carrying.{bus_entries}
-use Rattle.atspi_trace.specs.Hearing.{is_answered as has_answer, patterns_in, registers, is_registered, may_ask, question_in, holding_of, app_ended, lines_if_held, last_lines, ended_entries, hears_letter, heard_entries}
+use Rattle.atspi_trace.specs.Hearing.{is_answered as has_answer, patterns_in, registers, is_registered, is_listening, may_ask, question_in, holding_of, app_ended, lines_if_held, last_lines, ended_entries, hears_letter, heard_entries}
 use Rattle.atspi_trace.specs.Causes.{Cause, renews, starts_app, starts_reader, edits, calls, swaps_face, exits, shows, tells_busy, tells_quiet, routes, unjoins, gets, Done, does, took, did, has_done, registry_did, reader_starts}
 use Rattle.atspi_trace.specs.Due.{freed, begins, Goes}
 use Rattle.atspi_lawful.specs.laws.Words.{messages, with_serial, taken, question_if, own_call, is_answered, is_returned}
@@ -133,13 +133,14 @@ registered_all es r (p ∷ ps) xs a h = (
   registered_all es r ps xs a (and_right (list_any (λ (x : Asked). registers p x.question x.fate) xs) (list_all (λ pattern. list_any (λ (x : Asked). registers pattern x.question x.fate) xs) ps) h),
 )
 
-wants : (es : List Entry) (r : ℕ) (question : Question) (xs : List Asked) → AllByRecursion (FateIs es r) xs → may_ask xs question ≡ true → WantsRegistrations es r question
-wants es r (GetItems name) xs a h = registered_all es r (patterns_in start_calls) xs a (and_right (is_bus_name name) (is_registered xs) h)
-wants es r Hello xs a h = tt
-wants es r (AddMatch rule) xs a h = tt
-wants es r (RegisterEvent pattern) xs a h = tt
-wants es r GetChildren xs a h = tt
-wants es r (GetPart name path part) xs a h = tt
+wants : (es : List Entry) (r : ℕ) (question : Question) (g : Hearer) → AllByRecursion (FateIs es r) g.asked → may_ask g question ≡ true → WantsRegistrations es r question
+wants es r (GetItems name) g a h =
+    registered_all es r (patterns_in start_calls) g.asked a (and_left (is_registered g.asked) (list_any (bytes_eq name) g.named) (and_right (is_listening g.asked) (is_registered g.asked && list_any (bytes_eq name) g.named) (and_right (is_bus_name name) (is_listening g.asked && (is_registered g.asked && list_any (bytes_eq name) g.named)) h)))
+wants es r Hello g a h = tt
+wants es r (AddMatch rule) g a h = tt
+wants es r (RegisterEvent pattern) g a h = tt
+wants es r GetChildren g a h = tt
+wants es r (GetPart name path part) g a h = tt
 
 -- BEHIND A MESSAGE THAT IT TOOK
 abbrev pub Freed : List Entry → World → Option ℕ → Type 0
@@ -338,7 +339,7 @@ free_call : (es : List Entry) (w : World) (conn r : ℕ) (m : Envelope) (questio
 free_call es w conn r m question i a live other h = record {
   behind_got = λ k. i.freed_ r a.asker a.is_here.there a.whose;
   answered = λ serial some. all_answered es r serial a.hearer.asked fates a.answered (ap is_some (sym (reader.calls serial)) ∙ some);
-  registered = subst (WantsRegistrations es r) (same_some question other (sym a.read ∙ h)) (wants es r question a.hearer.asked fates a.allowed);
+  registered = subst (WantsRegistrations es r) (same_some question other (sym a.read ∙ h)) (wants es r question a.hearer fates a.allowed);
 }
   where
     fated : Fated es w

@@ -1,20 +1,28 @@
--- Words for worked cases: a reader that asks an application for all items, takes the return, and then the news of another name.
-use Rattle.std.specs.Prelude.{ℕ, List, [], ◌∷◌, ◌++◌, map, Option, Some, option_map, codes}
+-- Words for worked cases: a reader that asks an application for all items, takes the return, and then the news of another name; and which calls it may
+-- send.
+use Rattle.std.specs.Prelude.{ℕ, List, [], ◌∷◌, ◌++◌, map, take, drop, Option, Some, option_map, codes}
+use Rattle.std.specs.List.{fold}
 use Rattle.atspi_types.specs.Data.{text_data}
 use Rattle.atspi_forest.specs.declared.step.Step.TheVariants.{SetName, SetDescription}
 use Rattle.atspi_forest.specs.declared.view.Row.{Row}
 use Rattle.atspi_forest.specs.Forest.{labels}
 use Rattle.atspi_forest.specs.Path.{path_of}
 use Rattle.atspi_forest.specs.Row.{TreeRow}
-use Rattle.atspi_lines.specs.declared.line.Party.TheVariants.{App, Reader}
+use Rattle.atspi_lines.specs.declared.line.Party.TheVariants.{Registry, App, Reader}
+use Rattle.atspi_message.specs.Envelope.{Envelope}
 use Rattle.atspi_protocol.specs.announcing.Signals.{property_changed}
-use Rattle.atspi_protocol.specs.declared.following.question.Question.TheVariants.{RegisterEvent, GetItems}
+use Rattle.atspi_protocol.specs.declared.following.question.Question.{Question}
+use Rattle.atspi_protocol.specs.declared.following.question.Question.TheVariants.{GetChildren, GetItems}
+use Rattle.atspi_protocol.specs.ends.Places.{references}
+use Rattle.atspi_protocol.specs.registering.Told.{children_changed}
 use Rattle.atspi_protocol.specs.following.Calls.{asking}
 use Rattle.atspi_protocol.specs.following.Cases.{returned, item, items}
 use Rattle.atspi_protocol.specs.following.ReaderState.{start_calls}
 use Rattle.atspi_trace.specs.Entry.{Entry, started, changed, sent, got}
-use Rattle.atspi_trace.specs.World.{returned as returned_fate, Asked}
-use Rattle.atspi_trace.specs.Hearing.{patterns_in}
+use Rattle.atspi_trace.specs.World.{waits, returned as returned_fate, Asked, Hearer}
+use Rattle.atspi_trace.specs.Ends.{plain}
+use Rattle.atspi_trace.specs.Hearing.{hears_letter}
+use Rattle.atspi_trace.specs.Causes.{first_hearer}
 use Rattle.atspi_lawful.specs.laws.Words.{as_of}
 use Rattle.atspi_lawful.specs.caches.Caches.{followed}
 
@@ -53,6 +61,35 @@ missed =
 abbrev pub names_then : List Entry → ℕ → List (List ℕ)
 names_then trace serial = map (λ (row : TreeRow). row.shape.name) (labels (as_of trace 0 serial))
 
--- a reader's own calls so far: its five patterns are registered, and none of its match rules was asked for
-abbrev pub registered_alone : List Asked
-registered_alone = map (λ (pattern : List ℕ). record { serial = 1; question = RegisterEvent pattern; fate = returned_fate }) (patterns_in start_calls)
+-- A reader whose calls of the start were returned, but for those at the left out places, and which the registry told of the application
+abbrev pub returned_at : ℕ → Question → Asked
+returned_at serial question = record { serial = serial; question = question; fate = returned_fate }
+
+abbrev pub ready_but : ℕ → ℕ → Hearer
+ready_but from to = record first_hearer {
+  asked = map (returned_at 1) (take from start_calls ++ drop to start_calls);
+  next = 12;
+  registry = Some (codes ":1.0");
+  named = its_name ∷ [];
+}
+
+abbrev pub ready : Hearer
+ready = ready_but 0 0
+
+-- one whose first call waits for its return, which is a call for the registry's children
+abbrev pub asks_children : Hearer
+asks_children = record first_hearer { asked = record { serial = 1; question = GetChildren; fate = waits } ∷ []; next = 2 }
+
+-- the return, which names the application, and the news of a child that was added, which names another
+abbrev pub children_told : Envelope
+children_told = returned 1 (codes ":1.0") (references ((its_name, codes "/r") ∷ []) ∷ [])
+
+abbrev pub child_told : List ℕ → Envelope
+child_told sender = record (children_changed (codes "add") 1 (codes ":1.8", codes "/r")) { sender = Some sender }
+
+-- what it was told of, behind these messages
+abbrev pub hears_one : Hearer → Envelope → Hearer
+hears_one h e = hears_letter h [] (record { from = Registry; said = plain e })
+
+abbrev pub names_had_of : List Envelope → List (List ℕ)
+names_had_of messages = (fold hears_one asks_children messages).named

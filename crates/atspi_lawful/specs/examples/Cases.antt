@@ -117,10 +117,10 @@ abbrev pub asked_items : Fate → Asked
 asked_items fate = record { serial = 11; question = GetItems (codes ":1.1"); fate = fate }
 
 abbrev pub holding : Forest TreeRow → Hearer
-holding f = record { asked = asked_items returned ∷ []; next = 12; holds = record { app = 0; tree = f; last = 6; told = [] } ∷ [] }
+holding f = record { asked = asked_items returned ∷ []; next = 12; registry = None; named = []; holds = record { app = 0; tree = f; last = 6; told = [] } ∷ [] }
 
 abbrev pub holding_none : Hearer
-holding_none = record { asked = asked_items waits ∷ []; next = 12; holds = [] }
+holding_none = record { asked = asked_items waits ∷ []; next = 12; registry = None; named = []; holds = [] }
 
 abbrev pub world : Exporter → Hearer → List Letter → World
 world s h letters = record { bus = first_bus QUOTA_MOST; ends = first_registry ∷ app_end s ∷ reader_end h letters ∷ []; swaps = 0 }

@@ -1,9 +1,9 @@
 //! Worked cases of what a reader has of an application.
 
-ghost use Rattle.std.specs.Prelude.{◌≡◌, true, [], ◌∷◌, ◌++◌, None, Some, codes};
+ghost use Rattle.std.specs.Prelude.{◌≡◌, true, [], ◌∷◌, ◌++◌, None, Some, false, codes};
 ghost use Rattle.atspi_trace.specs.Entry.{gone};
 ghost use Rattle.atspi_lawful.specs.caches.Caches.{followed};
-ghost use Rattle.atspi_lawful.specs.caches.Cases.{its_name, asked, told, loaded, renamed, heard_of, names_had, missed, names_then, registered_alone};
+ghost use Rattle.atspi_lawful.specs.caches.Cases.{its_name, asked, told, loaded, renamed, heard_of, names_had, missed, names_then, ready, ready_but, children_told, child_told, names_had_of};
 ghost use Rattle.atspi_lawful.specs.caches.Laws.{IsNoSignal};
 ghost use Rattle.atspi_trace.specs.Entry.{sent};
 ghost use Rattle.atspi_lines.specs.declared.line.Party.TheVariants.{App};
@@ -25,17 +25,30 @@ pub fn what_is_kept()
     ensures other_name { names_had (codes ":1.8") heard_of 0 ≡ Some [] }
 {}
 
-/// Where a message was missed, what the reader has is not the tree as of the last message taken: the premise of the law about caches is needed.
+/// Where a message was missed, what the reader has is not the tree as of the last message taken.
 pub fn what_is_stale()
     ensures had { names_had its_name missed 0 ≡ Some (codes "Demo" ∷ []) }
     ensures is { names_then missed 7 ≡ codes "Desk" ∷ [] }
 {}
 
-/// And a lawful trace lets a reader miss messages: it may ask for all items where none of its match rules was asked for, and of any bus name, also of one that
-/// no message named.
+/// So a lawful trace lets a reader ask for the items of an application only where it misses nothing behind them: each rule and each pattern of its start
+/// was returned, and it was told of the application. It may ask again for what it holds.
 pub fn what_may_be_asked()
-    ensures no_rules { may_ask registered_alone (GetItems its_name) ≡ true }
-    ensures any_name { may_ask registered_alone (GetItems (codes ":1.99")) ≡ true }
+    ensures allowed { may_ask ready (GetItems its_name) ≡ true }
+    ensures no_rules { may_ask (ready_but 1 4) (GetItems its_name) ≡ false }
+    ensures one_rule_lacks { may_ask (ready_but 3 4) (GetItems its_name) ≡ false }
+    ensures no_patterns { may_ask (ready_but 4 9) (GetItems its_name) ≡ false }
+    ensures one_pattern_lacks { may_ask (ready_but 6 7) (GetItems its_name) ≡ false }
+    ensures any_name { may_ask ready (GetItems (codes ":1.99")) ≡ false }
+{}
+
+/// It is told of applications by the return to its call for the registry's children, and behind it by whoever sent that return, where this tells that a child
+/// was added; by nobody before, and by nobody else.
+pub fn who_is_named()
+    ensures before { names_had_of (child_told (codes ":1.0") ∷ []) ≡ [] }
+    ensures by_the_return { names_had_of (children_told ∷ []) ≡ its_name ∷ [] }
+    ensures by_the_registry { names_had_of (children_told ∷ child_told (codes ":1.0") ∷ []) ≡ its_name ∷ codes ":1.8" ∷ [] }
+    ensures by_another { names_had_of (children_told ∷ child_told (codes ":1.7") ∷ []) ≡ its_name ∷ [] }
 {}
 
 /// A signal of the application between two messages is one that is missed; one of another application is not.
