@@ -7,7 +7,7 @@ use Rattle.std.proofs.lemmas.List.Sums.{sum_by-append, sum_by-cons}
 use Rattle.std.proofs.lemmas.List.Elements.{Contains-append_left, Contains-push, Contains-push_cases}
 use Rattle.std.specs.Ordering.{nat_cmp}
 use Rattle.std.specs.List.Retain.{IsFiltered, DiffersFromLast}
-use Rattle.std.specs.List.Sorted.{IsPermutation, IsSorted}
+use Rattle.std.specs.List.Sorted.{IsPermutation, IsSorted, IsStrictlyIncreasing}
 use Rattle.std.proofs.lemmas.List.Filters.{dedup_is}
 use Rattle.std.proofs.lemmas.List.Kept.{Contains-dedup_nat, Contains-from_dedup}
 use Rattle.std.proofs.lemmas.List.Sorted.{Contains-permutation, IsPermutation-sym}
@@ -21,11 +21,6 @@ use Rattle.atspi_match.specs.RuleIndex.{AreReceivers, rules_of, without_first, I
 -- connections with their rules
 abbrev pub Pairs : Type 0
 Pairs = List (ℕ × List Condition)
-
--- what stands before a place is not the pair
-pub record IsPast (pairs : Pairs) (conn : ℕ) (rule : List Condition) (i : ℕ) : Type 0 where
-  pub first : ¬ Contains (take i pairs) (conn, rule)
-  pub rest : without_first pairs conn rule ≡ take i pairs ++ without_first (drop i pairs) conn rule
 
 -- the pair at the first place goes out
 pub goes_out : (pairs new : Pairs) (conn : ℕ) (rule : List Condition) (i : ℕ) → IsFirstAt pairs conn rule i → new ≡ remove pairs i
@@ -64,6 +59,22 @@ limit-push pairs conn rule within room c =
     below : conn ≡ c → rules_of c pairs < 512
     below e = let w = within c in let n : rules_of c pairs ≢ 512 = subst (λ d. rules_of d pairs ≢ 512) e room in omega arith
 
+-- a connection with one rule more has room for that one
+pub room-before : (front back : Pairs) (pair : ℕ × List Condition) → IsWithinLimit (front ++ pair ∷ back) → rules_of pair.0 front ≢ 512
+room-before front back pair within full =
+    let w : sum_by (weight pair.0) (front ++ pair ∷ back) ≤ 512 = within pair.0 in
+    let sum : sum_by (weight pair.0) (front ++ pair ∷ back) ≡ sum_by (weight pair.0) front + (weight pair.0 pair + sum_by (weight pair.0) back) =
+    sum_by-append (weight pair.0) front (pair ∷ back) ∙ ap (λ n. sum_by (weight pair.0) front + n) (sum_by-cons (weight pair.0) pair back) in
+    let one : weight pair.0 pair ≡ 1 = ap (λ b. cond {A = ℕ} b 1 0) ((Decides-eqb pair.0 pair.0).1 refl) in
+    omega (arith, full)
+
+-- the first rules are within the limit where all are
+pub limit-front : (a b : Pairs) → IsWithinLimit (a ++ b) → IsWithinLimit a
+limit-front a b within c =
+    let w : sum_by (weight c) (a ++ b) ≤ 512 = within c in
+    let s : sum_by (weight c) (a ++ b) ≡ sum_by (weight c) a + sum_by (weight c) b = sum_by-append (weight c) a b in
+    omega arith
+
 -- what is left where a pair goes out is within the limit
 pub limit-goes_out : (old new : Pairs) (pair : ℕ × List Condition) → GoesOut old new pair → IsWithinLimit old → IsWithinLimit new
 limit-goes_out old new pair out within c =
@@ -92,46 +103,6 @@ limit-filter p pairs within c = let w : sum_by (weight c) pairs ≤ 512 = within
 abbrev pub Finds : List ℕ → Pairs → Envelope → Owners → Type 0
 Finds found pairs e owners = (conn : ℕ) → Contains found conn ↔ Receives pairs e owners conn
 
--- a pair more
-receives_cases : (pairs : Pairs) (pair : ℕ × List Condition) (e : Envelope) (owners : Owners) (conn : ℕ) → Receives (pairs ++ pair ∷ []) e owners conn
-    → Receives pairs e owners conn ⊎ ((pair.0 ≡ conn) × Matches pair.1 e owners)
-receives_cases pairs pair e owners conn r =
-    ⊎_elim (λ old. inl (r.0, old, r.2))
-    (λ is. inr (ap (λ p. p.0) is, subst (λ (q : ℕ × List Condition). Matches q.1 e owners) (sym is) r.2))
-    (Contains-push_cases pairs pair (conn, r.0) r.1)
-
-receives_still : (pairs : Pairs) (pair : ℕ × List Condition) (e : Envelope) (owners : Owners) (conn : ℕ) → Receives pairs e owners conn
-    → Receives (pairs ++ pair ∷ []) e owners conn
-receives_still pairs pair e owners conn r = (r.0, Contains-append_left pairs (pair ∷ []) (conn, r.0) r.1, r.2)
-
-receives_anew : (pairs : Pairs) (pair : ℕ × List Condition) (e : Envelope) (owners : Owners) (conn : ℕ) → pair.0 ≡ conn
-    → Matches pair.1 e owners → Receives (pairs ++ pair ∷ []) e owners conn
-receives_anew pairs pair e owners conn is m =
-    (pair.1, subst (λ d. Contains (pairs ++ pair ∷ []) (d, pair.1)) is (Contains-push pairs pair), m)
-
--- a pair whose rule matches
-pub finds_hit : (found : List ℕ) (pairs : Pairs) (i : ℕ) (pair : ℕ × List Condition) (e : Envelope) (owners : Owners) → i < length pairs
-    → pair ≡ get_or pairs i pair → Matches pair.1 e owners
-    → Finds found (take i pairs) e owners → Finds (found ++ pair.0 ∷ []) (take (i + 1) pairs) e owners
-finds_hit found pairs i pair e owners below is m so_far conn =
-    rw (take_more pairs i pair below, ← is) (
-      λ h. ⊎_elim (λ old. receives_still (take i pairs) pair e owners conn ((so_far conn).0 old))
-          (λ new. receives_anew (take i pairs) pair e owners conn new m) (Contains-push_cases found pair.0 conn h),
-      λ r. ⊎_elim (λ old. Contains-append_left found (pair.0 ∷ []) conn ((so_far conn).1 old))
-          (λ new. subst (λ d. Contains (found ++ pair.0 ∷ []) d) new.0 (Contains-push found pair.0))
-          (receives_cases (take i pairs) pair e owners conn r),
-    )
-
--- a pair whose rule does not
-pub finds_miss : (found : List ℕ) (pairs : Pairs) (i : ℕ) (pair : ℕ × List Condition) (e : Envelope) (owners : Owners) → i < length pairs
-    → pair ≡ get_or pairs i pair → ¬ Matches pair.1 e owners
-    → Finds found (take i pairs) e owners → Finds found (take (i + 1) pairs) e owners
-finds_miss found pairs i pair e owners below is other so_far conn =
-    rw (take_more pairs i pair below, ← is) (
-      λ h. receives_still (take i pairs) pair e owners conn ((so_far conn).0 h),
-      λ r. ⊎_elim (so_far conn).1 (λ new. absurd (other new.1)) (receives_cases (take i pairs) pair e owners conn r),
-    )
-
 -- sorted, and each once, they are the receivers
 pub are_receivers : (found sorted numbers : List ℕ) (pairs : Pairs) (e : Envelope) (owners : Owners) → Finds found pairs e owners
     → IsPermutation found sorted → IsSorted nat_cmp sorted
@@ -152,3 +123,12 @@ pub appended : (old new numbers : List ℕ) (pairs : Pairs) (e : Envelope) (owne
     → new ≡ old ++ numbers
     → (receivers : List ℕ) × (new ≡ old ++ receivers) × AreReceivers pairs e owners receivers
 appended old new numbers pairs e owners are is = (numbers, is, are)
+
+-- numbers, sorted, each once
+pub rising_once : (found sorted numbers : List ℕ) → IsPermutation found sorted → IsSorted nat_cmp sorted → IsFiltered (DiffersFromLast eqb) [] sorted numbers
+    → IsStrictlyIncreasing numbers × ((k : ℕ) → Contains found k → Contains numbers k)
+rising_once found sorted numbers moved rises filtered =
+    let is = dedup_is eqb sorted numbers filtered in (
+      rw is (IsStrictlyIncreasing-dedup sorted rises),
+      λ k h. rw is (Contains-dedup_nat sorted k (Contains-permutation found sorted k moved h)),
+    )

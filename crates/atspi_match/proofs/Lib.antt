@@ -17,3 +17,7 @@ pub mod Texts
 pub mod UniqueLemmas
 pub mod ValueLemmas
 pub mod WordLemmas
+pub mod GroupLemmas
+pub mod NotedLemmas
+pub mod SlotLemmas
+pub mod IndexedLemmas

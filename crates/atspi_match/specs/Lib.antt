@@ -8,3 +8,8 @@ pub mod Printed
 pub mod RuleFaults
 pub mod RuleIndex
 pub mod Values
+pub mod Groups
+pub mod Noted
+pub mod RuleGroups
+pub mod Counts
+pub mod Slots

@@ -2,15 +2,19 @@
 #![tactic(auto)]
 
 mod condition;
+mod counts;
 mod fault;
+mod group;
 mod item;
 mod key;
 mod matching;
 mod printing;
 mod reading;
 mod rule;
+mod rule_groups;
 mod rule_index;
 mod runs;
+mod slots;
 mod value;
 mod value_of_key;
 

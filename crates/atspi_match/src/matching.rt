@@ -140,7 +140,7 @@ fn argument<'a>(m: &MessageRef<'a>, index: u8) -> Option<Item<'a>>
 }
 
 /// The bytes of the text that is the argument of this number.
-fn text_argument<'a>(m: &MessageRef<'a>, index: u8) -> Option<&'a [u8]>
+pub fn text_argument<'a>(m: &MessageRef<'a>, index: u8) -> Option<&'a [u8]>
     ensures { option_copied result ≡ matching.text_argument (envelope_at m.now) index }
 {
     let text = argument(m, index)?.text()?;

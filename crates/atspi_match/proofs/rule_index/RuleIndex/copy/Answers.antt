@@ -1,6 +1,10 @@
-use Rattle.std.proofs.Common.{◌≤◌, sym, subst, ◌∙◌}
-use Rattle.atspi_match.specs.RuleIndex as index
+use Rattle.std.proofs.Common.{ap, sym, subst, ◌∙◌}
+use Rattle.atspi_match.specs.RuleIndex.{IsWithinLimit}
+use Rattle.atspi_match.specs.Slots.{held_in}
 use Rattle.atspi_match.proofs.rule_index.RuleIndex.copy.Goals as goal
 
-pub invariant_of-result : goal.invariant_of-result
-invariant_of-result c conn = subst (λ l. index.rules_of conn l ≤ 512) (sym (c.in_ok-copy_pairs.ensures ∙ c.deref.ensures.value)) (c.self.invariant conn)
+pub copy_slots-requires : goal.copy_slots-requires
+copy_slots-requires c = subst (λ l. IsWithinLimit (held_in l)) (sym c.deref.ensures.value) c.self.invariant.within
+
+pub returns : goal.returns
+returns c = c.in_ok-copy.ensures ∙ ap held_in c.deref.ensures.value ∙ c.self.view_is

@@ -1,16 +1,50 @@
-use Rattle.atspi_header.specs.View.{envelope_at}
+use Rattle.std.proofs.Common.{◌≡◌, ◌+◌, ◌≤◌, ℕ, List, ap, sym, ◌∙◌, ◌++◌, subst, length, arith}
 use Rattle.std.proofs.lemmas.Result.{on_ok_weaker}
-use Rattle.std.proofs.Common.{ap, ◌∙◌, ◌++◌, subst}
-use Rattle.atspi_match.proofs.IndexLemmas.{Finds, are_receivers, appended}
+use Rattle.atspi_header.specs.View.{envelope_at}
+use Rattle.atspi_match.specs.Slots.{Slots, held_in, chosen}
+use Rattle.atspi_match.proofs.IndexLemmas.{Finds, are_receivers, appended, rising_once}
+use Rattle.atspi_match.proofs.SlotLemmas.{chosen_few, finds_all}
 use Rattle.atspi_match.proofs.rule_index.RuleIndex.receivers.Goals as goal
+
+pub returns-in_err-found-clause-steps : goal.returns-in_err-found-clause-steps
+returns-in_err-found-clause-steps c =
+    let slots = c.self.inside.slots.items in
+    let places = c.dedup.new.self.items in
+    let rise = rising_once c.in_ok-places.places.items c.sort_unstable.new.self.items places c.sort_unstable.ensures.permutation c.sort_unstable.ensures.sorted c.dedup.ensures.filtered in
+    let few : length (chosen slots places) ≤ length (held_in slots) = chosen_few slots places rise.0 in
+    let seen : length (held_in slots) ≡ length c.args.self.now = ap (λ l. length l) c.self.view_is in
+    let looked : length (chosen c.deref.result.now c.deref-2.result.now) ≡ length (chosen slots places) =
+    ap (λ (l : Slots). length (chosen l c.deref-2.result.now)) c.deref.ensures.value ∙ ap (λ l. length (chosen slots l)) c.deref-2.ensures.value in (
+      omega (arith, c.receiving.ensures.steps.0),
+      omega (arith, c.receiving.ensures.steps.1),
+    )
+
+pub returns-clause-steps : goal.returns-clause-steps
+returns-clause-steps c =
+    let slots = c.self.inside.slots.items in
+    let places = c.dedup.new.self.items in
+    let rise = rising_once c.in_ok-places.places.items c.sort_unstable.new.self.items places c.sort_unstable.ensures.permutation c.sort_unstable.ensures.sorted c.dedup.ensures.filtered in
+    let few : length (chosen slots places) ≤ length (held_in slots) = chosen_few slots places rise.0 in
+    let seen : length (held_in slots) ≡ length c.args.self.now = ap (λ l. length l) c.self.view_is in
+    let looked : length (chosen c.deref.result.now c.deref-2.result.now) ≡ length (chosen slots places) =
+    ap (λ (l : Slots). length (chosen l c.deref-2.result.now)) c.deref.ensures.value ∙ ap (λ l. length (chosen slots l)) c.deref-2.ensures.value in (
+      omega (arith, c.receiving.ensures.steps.0),
+      omega (arith, c.receiving.ensures.steps.1),
+    )
 
 pub returns-clause-ok : goal.returns-clause-ok
 returns-clause-ok c =
-    let are = are_receivers c.in_ok-found.found.items c.sort_unstable.new.self.items c.dedup.new.self.items c.self.inside.pairs.items
-    (envelope_at c.args.m.now) c.args.names.now
-    (subst (λ z. Finds c.in_ok-found.found.items z (envelope_at c.args.m.now) c.args.names.now) c.deref.ensures.value c.in_ok-found.ensures.found)
-    c.sort_unstable.ensures.permutation c.sort_unstable.ensures.sorted c.dedup.ensures.filtered in
+    let slots = c.self.inside.slots.items in
+    let places = c.dedup.new.self.items in
+    let found = c.in_ok-found.found.items in
+    let e = envelope_at c.args.m.now in
+    let rise = rising_once c.in_ok-places.places.items c.sort_unstable.new.self.items places c.sort_unstable.ensures.permutation c.sort_unstable.ensures.sorted c.dedup.ensures.filtered in
+    let looked = subst (λ (l : Slots). Finds found (chosen l c.deref-2.result.now) e c.args.names.now) c.deref.ensures.value c.in_ok-found.ensures.found in
+    let finds = subst (λ (l : List ℕ). Finds found (chosen slots l) e c.args.names.now) c.deref-2.ensures.value looked in
+    let all = finds_all found slots places e c.args.names.now finds (λ place p is m. rise.1 place (c.in_ok-places.ensures p.1 c.args.names.now place (c.self.invariant.noted place p is) m)) in
+    let are = are_receivers found c.sort_unstable-2.new.self.items c.dedup-2.new.self.items (held_in slots) e c.args.names.now all
+    c.sort_unstable-2.ensures.permutation c.sort_unstable-2.ensures.sorted c.dedup-2.ensures.filtered in
     on_ok_weaker c.append.result
-    (λ e. appended c.args.out.now c.append.new.out c.dedup.new.self.items c.args.self.now (envelope_at c.args.m.now) c.args.names.now
-    (rw (← c.self.view_is) are) (e ∙ ap (λ z. c.args.out.now ++ z) c.deref-2.ensures.value))
+    (λ is. appended c.args.out.now c.append.new.out c.dedup-2.new.self.items c.args.self.now e c.args.names.now
+    (rw (← c.self.view_is) are) (is ∙ ap (λ z. c.args.out.now ++ z) c.deref-3.ensures.value))
     c.append.ensures.ok

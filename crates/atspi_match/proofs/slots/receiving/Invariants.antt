@@ -1,0 +1,12 @@
+use Rattle.std.proofs.Common.{◌+◌, ◌≤◌, length, take}
+use Rattle.atspi_header.specs.View.{envelope_at}
+use Rattle.atspi_match.specs.Slots.{chosen}
+use Rattle.atspi_match.proofs.IndexLemmas.{Finds}
+use Rattle.atspi_match.proofs.slots.receiving.Given as goal
+
+abbrev pub invariant-loop-place : goal.invariant-loop-place
+invariant-loop-place l = record {
+  finds : Finds l.found.items (chosen l.slots (take l.place-index l.places)) (envelope_at l.m) l.names;
+  rose : l.initial.steps ≤ l.steps;
+  few : l.steps ≤ l.initial.steps + length (chosen l.slots (take l.place-index l.places));
+}
