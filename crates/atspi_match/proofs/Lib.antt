@@ -18,6 +18,7 @@ pub mod UniqueLemmas
 pub mod ValueLemmas
 pub mod WordLemmas
 pub mod GroupLemmas
+pub mod NearLemmas
 pub mod NotedLemmas
 pub mod SlotLemmas
 pub mod IndexedLemmas

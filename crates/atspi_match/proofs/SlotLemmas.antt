@@ -1,13 +1,14 @@
 -- Rules in their places.
 use Rattle.std.proofs.Common.{◌≡◌, ◌≢◌, ◌⊎◌, ℕ, zero, suc, ◌+◌, ◌-◌, ◌<◌, ◌≤◌, Bool, true, false, cond, eqb, not, List, [], ◌∷◌, ◌++◌, length, get_or, take, drop, Option, None, Some, refl, sym, ap, ◌∙◌, subst, inl, inr, ⊎_elim, arith, append_assoc, append-nil, drop-cons, add-one}
 use Rattle.std.specs.Prelude.{◌==◌, ◌↔◌, set, option_to_list, remove, map, if◌then◌else◌}
-use Rattle.std.specs.List.{Contains, filter, AllByRecursion}
+use Rattle.std.specs.List.{Contains, count_by, filter, AllByRecursion}
 use Rattle.std.specs.List.Sorted.{IsStrictlyIncreasing, IsStrictlySortedBy}
 use Rattle.std.specs.Ordering.{nat_cmp}
 use Rattle.std.specs.declared.cmp.Ordering.TheVariants.{Less}
 use Rattle.std.proofs.lemmas.Bool.Decides.{Decides-eqb, nat_tests}
 use Rattle.std.proofs.lemmas.Bool.{cases_eq}
 use Rattle.std.proofs.lemmas.List.{drop-drop, length-set, take_more, take_more_set, take_all, take-append-drop, drop-set-lt, length-append, map-append, get_or-set_same, get_or-set_other, set-get_or}
+use Rattle.std.proofs.lemmas.List.Sums.{sum_by-append}
 use Rattle.std.proofs.lemmas.List.Elements.{Contains-append_left, Contains-append_right, Contains-append_cases, Contains-push, Contains-push_cases, at_from_Contains}
 use Rattle.std.proofs.lemmas.Map.Keys.{sorted_from_strictly_increasing}
 use Rattle.atspi_message.specs.Envelope.{Envelope}
@@ -77,41 +78,44 @@ held-chosen slots (k ∷ places) place p h is =
     (λ later. Contains-append_right (option_to_list (slot_at slots k)) (chosen slots places) p (held-chosen slots places place p later is))
     (Contains-append_cases (k ∷ []) places place h)
 
--- rules at places that rise are no more than all
-abbrev size : Option Pair → ℕ
-size o = length (option_to_list o)
+-- of the rules at places that rise no more pass a test than of all
+abbrev size : (Pair → Bool) → Option Pair → ℕ
+size w o = count_by w (option_to_list o)
 
-abbrev count : Slots → ℕ
-count slots = length (held_in slots)
+abbrev count : (Pair → Bool) → Slots → ℕ
+count w slots = count_by w (held_in slots)
 
-count-cons : (s : Option Pair) (slots : Slots) → count (s ∷ slots) ≡ size s + count slots
-count-cons s slots = length-append (option_to_list s) (held_in slots)
+pub count-append : (w : Pair → Bool) (a b : List Pair) → count_by w (a ++ b) ≡ count_by w a + count_by w b
+count-append w a b = sum_by-append (λ (p : Pair). cond {A = ℕ} (w p) 1 0) a b
 
-count_drop : (slots : Slots) (k : ℕ) → count (drop k slots) ≤ count slots
-count_drop slots zero = omega arith
-count_drop [] (suc k) = omega arith
-count_drop (s ∷ slots) (suc k) =
-    let e = count-cons s slots in
-    let le = count_drop slots k in
+count-cons : (w : Pair → Bool) (s : Option Pair) (slots : Slots) → count w (s ∷ slots) ≡ size w s + count w slots
+count-cons w s slots = count-append w (option_to_list s) (held_in slots)
+
+count_drop : (w : Pair → Bool) (slots : Slots) (k : ℕ) → count w (drop k slots) ≤ count w slots
+count_drop w slots zero = omega arith
+count_drop w [] (suc k) = omega arith
+count_drop w (s ∷ slots) (suc k) =
+    let e = count-cons w s slots in
+    let le = count_drop w slots k in
     more _ _ _ _ e le
   where
     more : (a b c d : ℕ) → a ≡ b + c → d ≤ c → d ≤ a
     more a b c d e le = omega arith
 
 -- what stands at a place and what stands behind it
-count_at : (slots : Slots) (k : ℕ) → size (slot_at slots k) + count (drop (suc k) slots) ≤ count (drop k slots)
-count_at [] zero = omega arith
-count_at [] (suc k) = omega arith
-count_at (s ∷ slots) zero = let e = count-cons s slots in at_most _ _ e
+count_at : (w : Pair → Bool) (slots : Slots) (k : ℕ) → size w (slot_at slots k) + count w (drop (suc k) slots) ≤ count w (drop k slots)
+count_at w [] zero = omega arith
+count_at w [] (suc k) = omega arith
+count_at w (s ∷ slots) zero = let e = count-cons w s slots in at_most _ _ e
   where
     at_most : (a b : ℕ) → a ≡ b → b ≤ a
     at_most a b e = omega arith
-count_at (s ∷ slots) (suc k) = count_at slots k
+count_at w (s ∷ slots) (suc k) = count_at w slots k
 
-count_later : (slots : Slots) (k j : ℕ) → k ≤ j → count (drop j slots) ≤ count (drop k slots)
-count_later slots k j le =
+count_later : (w : Pair → Bool) (slots : Slots) (k j : ℕ) → k ≤ j → count w (drop j slots) ≤ count w (drop k slots)
+count_later w slots k j le =
     let is : drop (j - k) (drop k slots) ≡ drop j slots = drop-drop (j - k) k slots ∙ ap (λ n. drop n slots) (adds k j le) in
-    subst (λ l. count l ≤ count (drop k slots)) is (count_drop (drop k slots) (j - k))
+    subst (λ l. count w l ≤ count w (drop k slots)) is (count_drop w (drop k slots) (j - k))
   where
     adds : (k j : ℕ) → k ≤ j → k + (j - k) ≡ j
     adds k j le = omega arith
@@ -122,14 +126,15 @@ less a b e = by a b e
     by : (a b : ℕ) → nat_cmp a b ≡ Less → a < b
     by a b e = grind (arith, nat_tests)
 
-few : (slots : Slots) (places : List ℕ) (k : ℕ) → AllByRecursion (λ p. k ≤ p) places → IsStrictlySortedBy nat_cmp places → length (chosen slots places) ≤ count (drop k slots)
+few : (w : Pair → Bool) (slots : Slots) (places : List ℕ) (k : ℕ) → AllByRecursion (λ p. k ≤ p) places → IsStrictlySortedBy nat_cmp places
+    → count_by w (chosen slots places) ≤ count w (drop k slots)
 unfolding IsStrictlySortedBy
-few slots [] k from rises = omega arith
-few slots (p ∷ places) k from rises =
-    let later = few slots places (suc p) (behind places rises.0) rises.1 in
-    let here = count_at slots p in
-    let before = count_later slots k p from.0 in
-    sum _ _ _ _ _ _ (length-append (option_to_list (slot_at slots p)) (chosen slots places)) later here before
+few w slots [] k from rises = omega arith
+few w slots (p ∷ places) k from rises =
+    let later = few w slots places (suc p) (behind places rises.0) rises.1 in
+    let here = count_at w slots p in
+    let before = count_later w slots k p from.0 in
+    sum _ _ _ _ _ _ (count-append w (option_to_list (slot_at slots p)) (chosen slots places)) later here before
   where
     behind : (ps : List ℕ) → AllByRecursion (λ q. nat_cmp p q ≡ Less) ps → AllByRecursion (λ q. suc p ≤ q) ps
     behind [] h = tt
@@ -138,8 +143,8 @@ few slots (p ∷ places) k from rises =
     sum : (a s c d e f : ℕ) → a ≡ s + c → c ≤ d → s + d ≤ e → e ≤ f → a ≤ f
     sum a s c d e f is later here before = omega arith
 
-pub chosen_few : (slots : Slots) (places : List ℕ) → IsStrictlyIncreasing places → length (chosen slots places) ≤ length (held_in slots)
-chosen_few slots places rises = few slots places 0 (all places) (sorted_from_strictly_increasing places rises)
+pub chosen_few : (w : Pair → Bool) (slots : Slots) (places : List ℕ) → IsStrictlyIncreasing places → count_by w (chosen slots places) ≤ count_by w (held_in slots)
+chosen_few w slots places rises = few w slots places 0 (all places) (sorted_from_strictly_increasing places rises)
   where
     all : (ps : List ℕ) → AllByRecursion (λ p. 0 ≤ p) ps
     all [] = tt
@@ -433,11 +438,11 @@ finds_heard found new heard pairs more e owners so_far hears is = subst (λ l. F
           (Contains-append_cases pairs more (conn, r.0) r.1),
     )
 
--- the first places have no more rules than all
-pub chosen_front : (slots : Slots) (places : List ℕ) (j : ℕ) → length (chosen slots (take j places)) ≤ length (chosen slots places)
-chosen_front slots places j =
+-- of the rules at the first places no more pass a test than of all
+pub chosen_front : (w : Pair → Bool) (slots : Slots) (places : List ℕ) (j : ℕ) → count_by w (chosen slots (take j places)) ≤ count_by w (chosen slots places)
+chosen_front w slots places j =
     let e = ap (chosen slots) (sym (take-append-drop j places)) ∙ chosen-append slots (take j places) (drop j places) in
-    let l = ap length e ∙ length-append (chosen slots (take j places)) (chosen slots (drop j places)) in
+    let l = ap (count_by w) e ∙ count-append w (chosen slots (take j places)) (chosen slots (drop j places)) in
     at_most _ _ _ l
   where
     at_most : (a b c : ℕ) → a ≡ b + c → b ≤ a

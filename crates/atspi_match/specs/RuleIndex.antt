@@ -1,9 +1,11 @@
 -- The rules of the connections, in the order in which they were added (D-Bus Specification, "AddMatch" and "RemoveMatch").
-use Rattle.std.specs.Prelude.{◌≡◌, ◌↔◌, ℕ, Bool, ◌&&◌, ◌==◌, not, List, [], ◌∷◌, ◌++◌, ◌≤◌, ◌<◌, length, take, Contains, HoldsAt, count_by, filter, remove, if◌then◌else◌}
+use Rattle.std.specs.Prelude.{◌≡◌, ◌↔◌, ℕ, Bool, false, ◌&&◌, ◌==◌, not, bytes_eq, Option, None, Some, List, [], ◌∷◌, ◌++◌, ◌≤◌, ◌<◌, length, take, Contains, HoldsAt, count_by, filter, remove, if◌then◌else◌}
+use Rattle.std.specs.List.{list_any}
 use Rattle.std.specs.List.Sorted.{IsStrictlyIncreasing}
 use Rattle.atspi_message.specs.Envelope.{Envelope}
 use Rattle.atspi_names.specs.Owners.{Owners}
 use Rattle.atspi_match.specs.declared.condition.Condition.{Condition}
+use Rattle.atspi_match.specs.declared.condition.Condition.TheVariants.{Kind, Sender, Interface, Member, Path, PathNamespace, Destination, Arg, ArgPath, Arg0Namespace, Eavesdrop}
 use Rattle.atspi_match.specs.Conditions.{same_rule}
 use Rattle.atspi_match.specs.Matching.{Matches}
 
@@ -56,3 +58,30 @@ Receives pairs e owners conn = (rule : List Condition) × Contains pairs (conn, 
 pub record AreReceivers (pairs : List (ℕ × List Condition)) (e : Envelope) (owners : Owners) (receivers : List ℕ) : Type 0 where
   pub rising : IsStrictlyIncreasing receivers
   pub each : (conn : ℕ) → Contains receivers conn ↔ Receives pairs e owners conn
+
+-- whether a field is there and is this text
+abbrev pub is_text : Option (List ℕ) → List ℕ → Bool
+is_text None text = false
+is_text (Some field) text = bytes_eq field text
+
+-- whether a condition asks for another interface than that of the message
+abbrev pub asks_another : Envelope → Condition → Bool
+asks_another e (Kind t) = false
+asks_another e (Sender name) = false
+asks_another e (Interface name) = not (is_text e.interface name)
+asks_another e (Member name) = false
+asks_another e (Path path) = false
+asks_another e (PathNamespace path) = false
+asks_another e (Destination name) = false
+asks_another e (Arg n text) = false
+asks_another e (ArgPath n text) = false
+asks_another e (Arg0Namespace text) = false
+asks_another e (Eavesdrop b) = false
+
+-- whether a rule asks for no interface, or for that of the message
+abbrev pub is_near : Envelope → List Condition → Bool
+is_near e rule = not (list_any (asks_another e) rule)
+
+-- how many of the rules ask for no interface, or for that of the message
+abbrev pub nearby : Envelope → List (ℕ × List Condition) → ℕ
+nearby e pairs = count_by (λ (p : ℕ × List Condition). is_near e p.1) pairs

@@ -8,6 +8,7 @@ mod group;
 mod item;
 mod key;
 mod matching;
+mod near;
 mod printing;
 mod reading;
 mod rule;

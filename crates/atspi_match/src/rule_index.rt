@@ -5,7 +5,7 @@ ghost use Rattle.atspi_header.specs.View.{envelope_at};
 ghost use Rattle.atspi_match.specs.Counts.{count_in, SetsCount, SameCounts};
 ghost use Rattle.atspi_match.specs.RuleGroups.{IsNoted, Stays};
 ghost use Rattle.atspi_match.specs.RuleIndex as index;
-ghost use Rattle.atspi_match.specs.RuleIndex.{IsWithinLimit, without_rules, without_first, GoesOut, AreReceivers};
+ghost use Rattle.atspi_match.specs.RuleIndex.{IsWithinLimit, without_rules, without_first, nearby, GoesOut, AreReceivers};
 ghost use Rattle.atspi_match.specs.Slots.{held_in};
 
 use crate::Rule;
@@ -176,7 +176,7 @@ impl RuleIndex {
     }
 
     /// Appends the connections with a rule that matches the message, by rising number, each once. Counts at most one step
-    /// for each rule. After want of memory the list is as before.
+    /// for each rule that asks for no interface, or for that of the message. After want of memory the list is as before.
     pub fn receivers(
         &self,
         m: &MessageRef,
@@ -188,6 +188,7 @@ impl RuleIndex {
             × AreReceivers self.now (envelope_at m.now) names.now receivers) }
         ensures err { OnErr result (out.new ≡ out.old) }
         ensures steps { (steps.old ≤ steps.new) × (steps.new ≤ steps.old + length self.now) }
+        ensures few { steps.new ≤ steps.old + nearby (envelope_at m.now) self.now }
     {
         let mut places = self.groups.places(self.alloc, m)?;
         places.sort_unstable();

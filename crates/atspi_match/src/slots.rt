@@ -3,10 +3,11 @@
 ghost use Rattle.std.specs.Prelude.{◌≡◌, ◌≢◌, ◌<◌, ◌≤◌, ◌+◌, ◌↔◌, ◌++◌, ◌∷◌, [], ℕ, length, set, Contains, IsTrue, IfOk, OnOk, MatchOption, Some, None, option_copied, option_to_list};
 ghost use Rattle.atspi_header.specs.View.{envelope_at};
 ghost use Rattle.atspi_match.specs.RuleIndex as index;
-ghost use Rattle.atspi_match.specs.RuleIndex.{without_rules, IsNowhere, Receives};
+ghost use Rattle.atspi_match.specs.RuleIndex.{without_rules, nearby, IsNowhere, Receives};
 ghost use Rattle.atspi_match.specs.Slots.{held_in, slot_at, chosen, cleared, is_its, is_this, AreNoted, IsFirstSlot, Hears};
 
 use crate::Rule;
+use crate::near::is_near;
 use crate::rule_groups::RuleGroups;
 use atspi_base::{NoMemory, Steps};
 use atspi_header::MessageRef;
@@ -121,7 +122,20 @@ fn heard(pair: &(u32, Rule), m: &MessageRef, names: &Names) -> Option<u32>
     Some(pair.0)
 }
 
-/// The connection whose rule stands at a place, if the rule matches the message. Counts a step if there is one.
+/// The connection, if its rule matches the message. Counts a step where the rule asks for no interface, or for that of the message.
+fn asked(pair: &(u32, Rule), m: &MessageRef, names: &Names, steps: &mut Steps) -> Option<u32>
+    ensures heard { Hears result (pair.now ∷ []) (envelope_at m.now) names.now }
+    ensures steps { (steps.old ≤ steps.new) × (steps.new ≤ steps.old + nearby (envelope_at m.now) (pair.now ∷ [])) }
+{
+    if !is_near(&pair.1, m) {
+        return None;
+    }
+    count_step(steps);
+    heard(pair, m, names)
+}
+
+/// The connection whose rule stands at a place, if the rule matches the message. Counts a step if there is one that asks for no interface, or
+/// for that of the message.
 fn heard_at(
     slots: &[Option<(u32, Rule)>],
     place: usize,
@@ -130,13 +144,10 @@ fn heard_at(
     steps: &mut Steps,
 ) -> Option<u32>
     ensures heard { Hears result (option_to_list (slot_at slots.now place)) (envelope_at m.now) names.now }
-    ensures steps { (steps.old ≤ steps.new) × (steps.new ≤ steps.old + length (option_to_list (slot_at slots.now place))) }
+    ensures steps { (steps.old ≤ steps.new) × (steps.new ≤ steps.old + nearby (envelope_at m.now) (option_to_list (slot_at slots.now place))) }
 {
     match rule_at(slots, place) {
-        Some(pair) => {
-            count_step(steps);
-            heard(pair, m, names)
-        }
+        Some(pair) => asked(pair, m, names, steps),
         None => None,
     }
 }
@@ -162,7 +173,7 @@ pub fn receiving(
 ) -> Result<Vec<u32>, NoMemory>
     ensures found { IfOk result (λ found. (conn : ℕ) → Contains found.items conn
         ↔ Receives (chosen slots.now places.now) (envelope_at m.now) names.now conn) }
-    ensures steps { (steps.old ≤ steps.new) × (steps.new ≤ steps.old + length (chosen slots.now places.now)) }
+    ensures steps { (steps.old ≤ steps.new) × (steps.new ≤ steps.old + nearby (envelope_at m.now) (chosen slots.now places.now)) }
 {
     let mut found = Vec::new(alloc);
     for place in places {

@@ -1,10 +1,11 @@
-use Rattle.std.proofs.Common.{◌≡◌, ◌+◌, ◌≤◌, ◌<◌, [], ◌++◌, length, take, get_or, sym, ap, ◌∙◌, subst, arith, length-append}
+use Rattle.std.proofs.Common.{◌≡◌, ◌+◌, ◌≤◌, ◌<◌, [], ◌++◌, length, take, get_or, sym, ap, ◌∙◌, subst, arith}
 use Rattle.std.specs.Prelude.{option_to_list}
 use Rattle.std.proofs.lemmas.List.{take_all}
 use Rattle.atspi_header.specs.View.{envelope_at}
-use Rattle.atspi_match.specs.Slots.{chosen, slot_at}
+use Rattle.atspi_match.specs.RuleIndex.{is_near, nearby}
+use Rattle.atspi_match.specs.Slots.{Pair, chosen, slot_at}
 use Rattle.atspi_match.proofs.IndexLemmas.{Finds}
-use Rattle.atspi_match.proofs.SlotLemmas.{chosen-more, chosen_front, finds_heard, finds_nobody}
+use Rattle.atspi_match.proofs.SlotLemmas.{chosen-more, chosen_front, count-append, finds_heard, finds_nobody}
 use Rattle.atspi_match.proofs.slots.receiving.Goals as goal
 
 pub loop-place-init : goal.loop-place-init
@@ -16,13 +17,14 @@ loop-place-init c = record {
 
 pub loop-place-preserved : goal.loop-place-preserved
 loop-place-preserved c =
+    let e = envelope_at c.args.m.now in
     let slots = c.args.slots.now in
     let xs = c.args.places.now in
     let i = c.loop-place.place-index in
     let lt : i < length xs = omega arith in
     let more = chosen-more slots xs i 0 lt in
-    let long : length (chosen slots (take (i + 1) xs)) ≡ length (chosen slots (take i xs)) + length (option_to_list (slot_at slots (get_or xs i 0))) =
-    ap length more ∙ length-append (chosen slots (take i xs)) (option_to_list (slot_at slots (get_or xs i 0))) in
+    let long : nearby e (chosen slots (take (i + 1) xs)) ≡ nearby e (chosen slots (take i xs)) + nearby e (option_to_list (slot_at slots (get_or xs i 0))) =
+    ap (nearby e) more ∙ count-append (λ (p : Pair). is_near e p.1) (chosen slots (take i xs)) (option_to_list (slot_at slots (get_or xs i 0))) in
     record {
       finds = subst (λ l. Finds c.put.new.found.items l (envelope_at c.args.m.now) c.args.names.now) (sym more)
           (finds_heard c.loop-place.found.items c.put.new.found.items c.heard_at-conn.result (chosen slots (take i xs)) (option_to_list (slot_at slots (get_or xs i 0)))
@@ -33,13 +35,14 @@ loop-place-preserved c =
 
 pub returns-in_err-put-clause-steps : goal.returns-in_err-put-clause-steps
 returns-in_err-put-clause-steps c =
+    let e = envelope_at c.args.m.now in
     let slots = c.args.slots.now in
     let xs = c.args.places.now in
     let i = c.loop-place.place-index in
     let lt : i < length xs = omega arith in
-    let long : length (chosen slots (take (i + 1) xs)) ≡ length (chosen slots (take i xs)) + length (option_to_list (slot_at slots (get_or xs i 0))) =
-    ap length (chosen-more slots xs i 0 lt) ∙ length-append (chosen slots (take i xs)) (option_to_list (slot_at slots (get_or xs i 0))) in
-    let front = chosen_front slots xs (i + 1) in (
+    let long : nearby e (chosen slots (take (i + 1) xs)) ≡ nearby e (chosen slots (take i xs)) + nearby e (option_to_list (slot_at slots (get_or xs i 0))) =
+    ap (nearby e) (chosen-more slots xs i 0 lt) ∙ count-append (λ (p : Pair). is_near e p.1) (chosen slots (take i xs)) (option_to_list (slot_at slots (get_or xs i 0))) in
+    let front = chosen_front (λ (p : Pair). is_near e p.1) slots xs (i + 1) in (
       omega (arith, c.heard_at-conn.ensures.steps.0, c.loop-place.invariant.rose),
       omega (arith, c.heard_at-conn.ensures.steps.1, c.loop-place.invariant.few),
     )
@@ -52,7 +55,8 @@ returns-clause-found c =
 
 pub returns-clause-steps : goal.returns-clause-steps
 returns-clause-steps c =
-    let front = chosen_front c.args.slots.now c.args.places.now c.loop-place.place-index in (
+    let e = envelope_at c.args.m.now in
+    let front = chosen_front (λ (p : Pair). is_near e p.1) c.args.slots.now c.args.places.now c.loop-place.place-index in (
       omega (arith, c.loop-place.invariant.rose),
       omega (arith, c.loop-place.invariant.few),
     )

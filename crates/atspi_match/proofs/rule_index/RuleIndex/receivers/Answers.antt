@@ -1,36 +1,70 @@
 use Rattle.std.proofs.Common.{◌≡◌, ◌+◌, ◌≤◌, ℕ, List, ap, sym, ◌∙◌, ◌++◌, subst, length, arith}
 use Rattle.std.proofs.lemmas.Result.{on_ok_weaker}
 use Rattle.atspi_header.specs.View.{envelope_at}
-use Rattle.atspi_match.specs.Slots.{Slots, held_in, chosen}
+use Rattle.std.proofs.lemmas.List.Sums.{count_by-le-length}
+use Rattle.atspi_match.specs.RuleIndex.{is_near, nearby}
+use Rattle.atspi_match.specs.Slots.{Slots, Pair, held_in, chosen}
 use Rattle.atspi_match.proofs.IndexLemmas.{Finds, are_receivers, appended, rising_once}
 use Rattle.atspi_match.proofs.SlotLemmas.{chosen_few, finds_all}
 use Rattle.atspi_match.proofs.rule_index.RuleIndex.receivers.Goals as goal
 
 pub returns-in_err-found-clause-steps : goal.returns-in_err-found-clause-steps
 returns-in_err-found-clause-steps c =
+    let e = envelope_at c.args.m.now in
+    let near = λ (p : Pair). is_near e p.1 in
     let slots = c.self.inside.slots.items in
     let places = c.dedup.new.self.items in
     let rise = rising_once c.in_ok-places.places.items c.sort_unstable.new.self.items places c.sort_unstable.ensures.permutation c.sort_unstable.ensures.sorted c.dedup.ensures.filtered in
-    let few : length (chosen slots places) ≤ length (held_in slots) = chosen_few slots places rise.0 in
+    let few : nearby e (chosen slots places) ≤ nearby e (held_in slots) = chosen_few near slots places rise.0 in
+    let all : nearby e (held_in slots) ≤ length (held_in slots) = count_by-le-length near (held_in slots) in
     let seen : length (held_in slots) ≡ length c.args.self.now = ap (λ l. length l) c.self.view_is in
-    let looked : length (chosen c.deref.result.now c.deref-2.result.now) ≡ length (chosen slots places) =
-    ap (λ (l : Slots). length (chosen l c.deref-2.result.now)) c.deref.ensures.value ∙ ap (λ l. length (chosen slots l)) c.deref-2.ensures.value in (
+    let looked : nearby e (chosen c.deref.result.now c.deref-2.result.now) ≡ nearby e (chosen slots places) =
+    ap (λ (l : Slots). nearby e (chosen l c.deref-2.result.now)) c.deref.ensures.value ∙ ap (λ l. nearby e (chosen slots l)) c.deref-2.ensures.value in (
       omega (arith, c.receiving.ensures.steps.0),
       omega (arith, c.receiving.ensures.steps.1),
     )
 
 pub returns-clause-steps : goal.returns-clause-steps
 returns-clause-steps c =
+    let e = envelope_at c.args.m.now in
+    let near = λ (p : Pair). is_near e p.1 in
     let slots = c.self.inside.slots.items in
     let places = c.dedup.new.self.items in
     let rise = rising_once c.in_ok-places.places.items c.sort_unstable.new.self.items places c.sort_unstable.ensures.permutation c.sort_unstable.ensures.sorted c.dedup.ensures.filtered in
-    let few : length (chosen slots places) ≤ length (held_in slots) = chosen_few slots places rise.0 in
+    let few : nearby e (chosen slots places) ≤ nearby e (held_in slots) = chosen_few near slots places rise.0 in
+    let all : nearby e (held_in slots) ≤ length (held_in slots) = count_by-le-length near (held_in slots) in
     let seen : length (held_in slots) ≡ length c.args.self.now = ap (λ l. length l) c.self.view_is in
-    let looked : length (chosen c.deref.result.now c.deref-2.result.now) ≡ length (chosen slots places) =
-    ap (λ (l : Slots). length (chosen l c.deref-2.result.now)) c.deref.ensures.value ∙ ap (λ l. length (chosen slots l)) c.deref-2.ensures.value in (
+    let looked : nearby e (chosen c.deref.result.now c.deref-2.result.now) ≡ nearby e (chosen slots places) =
+    ap (λ (l : Slots). nearby e (chosen l c.deref-2.result.now)) c.deref.ensures.value ∙ ap (λ l. nearby e (chosen slots l)) c.deref-2.ensures.value in (
       omega (arith, c.receiving.ensures.steps.0),
       omega (arith, c.receiving.ensures.steps.1),
     )
+
+pub returns-in_err-found-clause-few : goal.returns-in_err-found-clause-few
+returns-in_err-found-clause-few c =
+    let e = envelope_at c.args.m.now in
+    let near = λ (p : Pair). is_near e p.1 in
+    let slots = c.self.inside.slots.items in
+    let places = c.dedup.new.self.items in
+    let rise = rising_once c.in_ok-places.places.items c.sort_unstable.new.self.items places c.sort_unstable.ensures.permutation c.sort_unstable.ensures.sorted c.dedup.ensures.filtered in
+    let few : nearby e (chosen slots places) ≤ nearby e (held_in slots) = chosen_few near slots places rise.0 in
+    let seen : nearby e (held_in slots) ≡ nearby e c.args.self.now = ap (nearby e) c.self.view_is in
+    let looked : nearby e (chosen c.deref.result.now c.deref-2.result.now) ≡ nearby e (chosen slots places) =
+    ap (λ (l : Slots). nearby e (chosen l c.deref-2.result.now)) c.deref.ensures.value ∙ ap (λ l. nearby e (chosen slots l)) c.deref-2.ensures.value in
+    omega (arith, c.receiving.ensures.steps.1)
+
+pub returns-clause-few : goal.returns-clause-few
+returns-clause-few c =
+    let e = envelope_at c.args.m.now in
+    let near = λ (p : Pair). is_near e p.1 in
+    let slots = c.self.inside.slots.items in
+    let places = c.dedup.new.self.items in
+    let rise = rising_once c.in_ok-places.places.items c.sort_unstable.new.self.items places c.sort_unstable.ensures.permutation c.sort_unstable.ensures.sorted c.dedup.ensures.filtered in
+    let few : nearby e (chosen slots places) ≤ nearby e (held_in slots) = chosen_few near slots places rise.0 in
+    let seen : nearby e (held_in slots) ≡ nearby e c.args.self.now = ap (nearby e) c.self.view_is in
+    let looked : nearby e (chosen c.deref.result.now c.deref-2.result.now) ≡ nearby e (chosen slots places) =
+    ap (λ (l : Slots). nearby e (chosen l c.deref-2.result.now)) c.deref.ensures.value ∙ ap (λ l. nearby e (chosen slots l)) c.deref-2.ensures.value in
+    omega (arith, c.receiving.ensures.steps.1)
 
 pub returns-clause-ok : goal.returns-clause-ok
 returns-clause-ok c =
