@@ -17,5 +17,7 @@ pub mod OfQuiet
 pub mod OfDrops
 pub mod OfReaders
 pub mod OfNames
+pub mod OfSigned
+pub mod OfAnswered
 pub mod OfLaws
 pub mod OfExamples

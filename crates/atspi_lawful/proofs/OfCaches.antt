@@ -1,3 +1,4 @@
+pub mod Served
 pub mod Starts
 pub mod Between
 pub mod LawCaches

@@ -12,7 +12,9 @@ pub mod turns
 pub mod held
 pub mod views
 pub mod folds
+pub mod signed
 pub mod caches
+pub mod answered
 pub mod quiet
 pub mod drops
 pub mod readers

@@ -2,6 +2,7 @@
 //! or what several of them share.
 #![tactic(auto)]
 
+pub mod answered;
 pub mod caches;
 pub mod delivered;
 pub mod drops;
@@ -19,6 +20,7 @@ pub mod own;
 pub mod quiet;
 pub mod readers;
 pub mod serials;
+pub mod signed;
 pub mod steps;
 pub mod taken;
 pub mod turns;

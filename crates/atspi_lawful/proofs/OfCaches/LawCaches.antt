@@ -47,7 +47,7 @@ use Rattle.atspi_lawful.specs.order.Scripts.{CanAllStand}
 use Rattle.atspi_lawful.specs.heard.Laws.{signals_under, IsAmong}
 use Rattle.atspi_lawful.specs.views.Laws.{IsCarried, StepIsCarried}
 use Rattle.atspi_lawful.specs.caches.Caches.{unasked, with_items, with_part, replied, reads, reads_if, follows_after, follows_on, followed}
-use Rattle.atspi_lawful.specs.caches.Laws.{TellsItems, TellsPart, Tells, MissesNothing, IsLoad, IsServed, CacheIs}
+use Rattle.atspi_lawful.specs.caches.Laws.{TellsItems, TellsPart, MissesNothing, IsLoad, IsServed, CacheIs}
 use Rattle.atspi_lawful.proofs.OfOrder.Parties.{no_none, same_some, same-party, party-same, false_true, all_append, all_back, all_front}
 use Rattle.atspi_lawful.proofs.OfSteps.Trees.{tree_more, count_more}
 use Rattle.atspi_lawful.proofs.OfSteps.LawSteps.{steps_apply}
@@ -56,6 +56,10 @@ use Rattle.atspi_lawful.proofs.OfTaken.Found.{found_more, front_more, looked, lo
 use Rattle.atspi_lawful.proofs.OfDelivered.LawLinks.{links_hold}
 use Rattle.atspi_lawful.proofs.OfHeld.Keeping.{held_more}
 use Rattle.atspi_lawful.proofs.OfViews.LawViews.{announcements_carry}
+use Rattle.atspi_lawful.specs.signed.Laws.{IsItsName}
+use Rattle.atspi_lawful.proofs.OfSigned.LawSigned.{signed_law}
+use Rattle.atspi_lawful.proofs.OfAnswered.LawAnswered.{items_law}
+use Rattle.atspi_lawful.proofs.OfCaches.Served.{Tells, IsWholly, wholly}
 use Rattle.atspi_lawful.proofs.OfCaches.Starts.{StartsAnew, starts_anew}
 use Rattle.atspi_lawful.proofs.OfCaches.Between.{IsStep, OfMessage, behind_first, echo_messages, signal_messages, announced_step, IsAnnounced, SameViews, AllSilent, Walked, walk}
 
@@ -165,7 +169,7 @@ sends_same app P f (x ∷ es) a = absurd a.0
 news_none : (name : List ℕ) (e : Envelope) → (e.kind == 4) ≡ false → news_of name e ≡ Nothing
 news_none name e h = rw h refl
 
-module _ (T : List Entry) (name : List ℕ) (reader app : ℕ) (served : IsServed T name reader app) (carried : Everywhere StepIsCarried T) (one : Everywhere StepIsOne T) (starts : Everywhere StartsAnew T) where
+module _ (T : List Entry) (name : List ℕ) (reader app : ℕ) (served : IsWholly T name reader app) (carried : Everywhere StepIsCarried T) (one : Everywhere StepIsOne T) (starts : Everywhere StartsAnew T) where
   -- the last message taken, and the next one
   module _ (before behind : List Entry) (at : T ≡ before ++ behind) (last serial : ℕ) (e : Envelope) (is_sent : message before (App app) serial ≡ Some e) (m : MissesNothing name before app last serial) where
     abbrev pub earlier : List Entry
@@ -638,7 +642,7 @@ module _ (T : List Entry) (name : List ℕ) (reader app : ℕ) (served : IsServe
       by (Some k) h = record { shows = h.shows; last = h.last }
 
 pub caches_follow : (lines : List Line) (trace : List Entry) → CanAllStand lines → Goes (begins lines) trace → (after_all (begins lines) trace).owing ≡ []
-    → (name : List ℕ) (reader app : ℕ) → IsServed trace name reader app
+    → (name : List ℕ) (reader app : ℕ) → IsItsName trace app name → IsServed trace name reader app
     → (front rest : List Entry) → trace ≡ front ++ rest → CacheIs front app (held front reader app) (followed name front reader app)
-caches_follow lines trace a g none name reader app served front rest at =
-    cache_is trace name reader app served (announcements_carry lines trace a g) (steps_apply lines trace a g) (starts_anew lines trace a g) front rest at (links_hold lines trace a g)
+caches_follow lines trace a g none name reader app its served front rest at =
+    cache_is trace name reader app (wholly trace name reader app its (signed_law lines trace a g none) (items_law lines trace a g) served) (announcements_carry lines trace a g) (steps_apply lines trace a g) (starts_anew lines trace a g) front rest at (links_hold lines trace a g)

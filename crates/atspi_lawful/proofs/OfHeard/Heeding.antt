@@ -27,7 +27,7 @@ use Rattle.atspi_trace.specs.Causes.{did}
 use Rattle.atspi_lawful.proofs.OfOrder.Each.{Each}
 use Rattle.atspi_lawful.proofs.OfSteps.Doings.{IsStill, still_append, tree_by, tree_append, tree_numbered, still_tree, still_sends, told_tree}
 use Rattle.atspi_lawful.proofs.OfHeard.Pairs.{heard_by, heard_append, heard_numbered, sent_numbered, sent_append, exchanged_heard}
-use Rattle.atspi_lawful.proofs.OfHeard.Telling.{Both, both_more, At, at_behind, Tells, tells_both, IsPlain, plain_tells, steps_tell, told_heard}
+use Rattle.atspi_lawful.proofs.OfHeard.Telling.{Under, under_both_lists, under_tells, TellsUnder, Both, both_more, At, at_behind, Tells, tells_both, IsPlain, plain_each, plain_under, plain_tells, steps_under, steps_tell, told_heard}
 
 -- no listener among what happened
 abbrev pub NoListeners : List Happening → Type 0
@@ -75,6 +75,18 @@ kind_numbered : (n : ℕ) (hs : List Happening) → IsOneKind hs → IsOneKind (
 kind_numbered n hs (inl a) = inl (still_numbered n hs a)
 kind_numbered n hs (inr a) = inr (no_listeners_numbered n hs a)
 
+-- the name that it has, or any where it has none, and then nobody listens
+pub record IsNameOf (s : Exporter) (name : List ℕ) : Type 0 where
+  pub deaf_ : s.name ≡ None → s.heard ≡ []
+  pub same : (own : List ℕ) → s.name ≡ Some own → own ≡ name
+
+-- what it did is told under its name, whatever that is where it neither stepped nor sent a signal
+abbrev pub Plainly : ℕ → List Happening → Type 0
+Plainly app hs = (name : List ℕ) (early : List Entry) → Each (Under name) early (map (did app) hs)
+
+abbrev pub Properly : ℕ → Exporter → List Happening → Type 0
+Properly app s hs = (name : List ℕ) → IsNameOf s name → (early : List Entry) → At early app s.heard s.tree s.next → Each (Under name) early (map (did app) hs)
+
 -- what an application did between two states, and how the entries tell it
 pub record Says (app : ℕ) (s t : Exporter) : Type 0 where
   pub doings : List Happening
@@ -84,6 +96,7 @@ pub record Says (app : ℕ) (s t : Exporter) : Type 0 where
   pub next : t.next ≡ s.next + sent_in doings
   pub kind : IsOneKind doings
   pub law : (early : List Entry) → At early app s.heard s.tree s.next → Each Both early (map (did app) doings)
+  pub signed : Plainly app doings ⊎ Properly app s doings
 
 says_nothing : (app : ℕ) (s t : Exporter) → t.out ≡ s.out → t.heard ≡ s.heard → t.tree ≡ s.tree → t.next ≡ s.next → Says app s t
 says_nothing app s t out pairs tree next = record {
@@ -94,11 +107,12 @@ says_nothing app s t out pairs tree next = record {
   next = omega (arith, next);
   kind = inl tt;
   law = λ early at. tt;
+  signed = inl (λ name early. tt);
 }
 
 says_queued : (app : ℕ) (s t : Exporter) (hs : List Happening) → t.out ≡ s.out ++ numbered s.next hs → t.heard ≡ heard_by s.heard hs → t.tree ≡ tree_by s.tree hs → t.next ≡ s.next + sent_in hs
-    → IsOneKind hs → Tells app s.heard s.tree s.next hs → Says app s t
-says_queued app s t hs out pairs tree next kind law = record {
+    → IsOneKind hs → Tells app s.heard s.tree s.next hs → (Plainly app (numbered s.next hs) ⊎ Properly app s (numbered s.next hs)) → Says app s t
+says_queued app s t hs out pairs tree next kind law signed = record {
   doings = numbered s.next hs;
   out = out;
   pairs = pairs ∙ sym (heard_numbered s.heard s.next hs);
@@ -106,14 +120,15 @@ says_queued app s t hs out pairs tree next kind law = record {
   next = next ∙ ap (λ n. s.next + n) (sym (sent_numbered s.next hs));
   kind = kind_numbered s.next hs kind;
   law = law;
+  signed = signed;
 }
 
 did_append : (app : ℕ) (hs ks : List Happening) → map (did app) (hs ++ ks) ≡ map (did app) hs ++ map (did app) ks
 did_append app [] ks = refl
 did_append app (h ∷ hs) ks = ap (λ l. did app h ∷ l) (did_append app hs ks)
 
-says_both : (app : ℕ) (s t u : Exporter) (a : Says app s t) (b : Says app t u) → IsStill a.doings → IsStill b.doings → Says app s u
-says_both app s t u a b x y = record {
+says_both : (app : ℕ) (s t u : Exporter) (a : Says app s t) (b : Says app t u) → IsStill a.doings → IsStill b.doings → Plainly app a.doings → Plainly app b.doings → Says app s u
+says_both app s t u a b x y p q = record {
   doings = a.doings ++ b.doings;
   out = b.out ∙ ap (λ l. l ++ b.doings) a.out ∙ append_assoc s.out a.doings b.doings;
   pairs = b.pairs ∙ ap (λ p. heard_by p b.doings) a.pairs ∙ sym (heard_append s.heard a.doings b.doings);
@@ -123,6 +138,9 @@ says_both app s t u a b x y = record {
   law = λ early at.
       subst (Each Both early) (sym (did_append app a.doings b.doings))
       (both_more early (map (did app) a.doings) (map (did app) b.doings) (a.law early at) (b.law (early ++ map (did app) a.doings) (middle early at)));
+  signed = inl (λ name early.
+      subst (Each (Under name) early) (sym (did_append app a.doings b.doings))
+      (under_both_lists name early (map (did app) a.doings) (map (did app) b.doings) (p name early) (q name (early ++ map (did app) a.doings))));
 }
   where
     sum : t.next ≡ s.next + sent_in a.doings → u.next ≡ t.next + sent_in b.doings → sent_in (a.doings ++ b.doings) ≡ sent_in a.doings + sent_in b.doings
@@ -150,19 +168,22 @@ two_not_four k = omega (arith, k)
 three_not_four : ◌≡◌ {A = ℕ} 3 4 → ⊥
 three_not_four k = omega (arith, k)
 
+no_signal : (name : List ℕ) (c : StartCall) → (start_call name c).kind ≡ 4 → ⊥
+no_signal name hello k = one_not_four k
+no_signal name add_match k = one_not_four k
+no_signal name get_registered_events k = one_not_four k
+no_signal name embed k = one_not_four k
+
+asks_plainly : (app : ℕ) (s : Exporter) (call : StartCall) → Plainly app (numbered s.next (sends (start_call (name_or_empty s.name) call) ∷ []))
+asks_plainly app s call name early = plain_each name app s.next (sends (start_call (name_or_empty s.name) call) ∷ []) (no_signal (name_or_empty s.name) call, tt) early
+
 asks_says : (app : ℕ) (s : Exporter) (call : StartCall) → Says app s (asks s call)
 asks_says app s call =
     says_queued app s (asks s call) (sends (start_call (name_or_empty s.name) call) ∷ []) refl refl refl refl (inl tt)
-    (plain_tells app s.heard s.tree s.next (sends (start_call (name_or_empty s.name) call) ∷ []) (no_signal (name_or_empty s.name) call, tt))
-  where
-    no_signal : (name : List ℕ) (c : StartCall) → (start_call name c).kind ≡ 4 → ⊥
-    no_signal name hello k = one_not_four k
-    no_signal name add_match k = one_not_four k
-    no_signal name get_registered_events k = one_not_four k
-    no_signal name embed k = one_not_four k
+    (plain_tells app s.heard s.tree s.next (sends (start_call (name_or_empty s.name) call) ∷ []) (no_signal (name_or_empty s.name) call, tt)) (inl (asks_plainly app s call))
 
 -- listeners
-abbrev IsOfListeners : List Happening → Type 0
+abbrev pub IsOfListeners : List Happening → Type 0
 IsOfListeners [] = Unit {0}
 IsOfListeners (hears listener pattern ∷ hs) = IsOfListeners hs
 IsOfListeners (deaf listener pattern ∷ hs) = IsOfListeners hs
@@ -212,9 +233,9 @@ pub record IsToldOf (ps : List (List ℕ × List ℕ)) (c : Change) : Type 0 whe
 changes_says : (app : ℕ) (s : Exporter) (c : Change) → IsToldOf s.heard c → Says app s (queues (record s { heard = c.heard }) c.told)
 changes_says app s c is =
     says_queued app s (queues (record s { heard = c.heard }) c.told) c.told refl is.pairs (sym (listeners_tree s c.told is.listeners)) refl (inl (listeners_still c.told is.listeners))
-    (plain_tells app s.heard s.tree s.next c.told (listeners_plain c.told is.listeners))
+    (plain_tells app s.heard s.tree s.next c.told (listeners_plain c.told is.listeners)) (inl (λ name early. plain_each name app s.next c.told (listeners_plain c.told is.listeners) early))
 
-exchanged_told : (ps listed : List (List ℕ × List ℕ)) → IsToldOf ps (exchanged ps listed)
+pub exchanged_told : (ps listed : List (List ℕ × List ℕ)) → IsToldOf ps (exchanged ps listed)
 exchanged_told ps listed =
     let fallen : List (List ℕ × List ℕ) = filter (λ p. not (is_heard listed p)) ps in
     let added : List (List ℕ × List ℕ) = filter (λ p. not (is_heard ps p)) (firsts listed) in
@@ -244,7 +265,7 @@ less_with : (ps : List (List ℕ × List ℕ)) (o : Option (List ℕ × List ℕ
 less_with ps None = unchanged_told ps
 less_with ps (Some p) = one_less_told (is_heard ps p) ps p
 
-heard_told : (ps : List (List ℕ × List ℕ)) (e : Envelope) → IsToldOf ps (heard_after ps e)
+pub heard_told : (ps : List (List ℕ × List ℕ)) (e : Envelope) → IsToldOf ps (heard_after ps e)
 heard_told ps e = by (is_text e.interface registry) (is_text e.member (codes "EventListenerRegistered")) (is_text e.member (codes "EventListenerDeregistered"))
   where
     by : (a b c : Bool)
@@ -259,6 +280,7 @@ greeted_says : (app : ℕ) (s : Exporter) (o : Option (List ℕ)) → Says app s
 unfolding says_nothing asks_says says_queued
 greeted_says app s None = says_nothing app s (ends_start s) refl refl refl refl
 greeted_says app s (Some name) = says_both app s (record s { name = Some name }) (greeted s (Some name)) (says_nothing app s (record s { name = Some name }) refl refl refl refl) (asks_says app (record s { name = Some name }) add_match) tt tt
+    (λ nm early. tt) (asks_plainly app (record s { name = Some name }) add_match)
 
 listened_says : (app : ℕ) (s : Exporter) (o : Option (List (List ℕ × List ℕ))) → Says app s (listened s o)
 unfolding changes_says says_queued asks_says
@@ -268,6 +290,7 @@ listened_says app s (Some listed) =
     let t : Exporter = queues (record s { heard = change.heard }) change.told in
     says_both app s t (listened s (Some listed)) (changes_says app s change (exchanged_told s.heard listed)) (asks_says app t embed)
     (still_numbered s.next change.told (listeners_still change.told (exchanged_told s.heard listed).listeners)) tt
+    (λ name early. plain_each name app s.next change.told (listeners_plain change.told (exchanged_told s.heard listed).listeners) early) (asks_plainly app t embed)
 
 goes_on_says : (app : ℕ) (s : Exporter) (call : StartCall) (body : List Data) → Says app s (goes_on s call body)
 goes_on_says app s hello body = greeted_says app s (unique_name_in body)
@@ -293,8 +316,8 @@ replies_plain : (b : Bool) (e : Envelope) → (e.kind ≡ 4 → ⊥) → IsPlain
 replies_plain true e h = (h, tt)
 replies_plain false e h = tt
 
-called_says : (app : ℕ) (s : Exporter) (name caller : List ℕ) (e : Envelope) → Says app s (called s name caller e)
-called_says app s name caller e =
+called_says : (app : ℕ) (s : Exporter) (name caller : List ℕ) (e : Envelope) → s.name ≡ Some name → Says app s (called s name caller e)
+called_says app s name caller e mine =
     let ss : List Step = (answer_to s name e).steps in
     let hs : List Happening = steps_told s.heard name s.tree ss in
     let es : List Envelope = replies caller e (answer_to s name e).reply in
@@ -308,28 +331,52 @@ called_says app s name caller e =
     (inr (no_listeners_append hs rs (no_listeners_told s.heard name s.tree ss) (no_listeners_sends (λ x. x) es)))
     (tells_both app s.heard s.tree s.next hs rs (λ early at. steps_tell app s.heard s.tree s.next name ss early at)
     (plain_tells app (heard_by s.heard hs) (tree_by s.tree hs) (s.next + sent_in hs) rs plain))
+    (inr (λ own is.
+    subst (λ n. (early : List Entry) → At early app s.heard s.tree s.next → Each (Under n) early (map (did app) (numbered s.next (hs ++ rs)))) (is.same name mine)
+    (under_tells name app s.heard s.tree s.next hs rs (λ early at. steps_under app s.heard s.tree s.next name ss early at)
+    (plain_under name app (heard_by s.heard hs) (tree_by s.tree hs) (s.next + sent_in hs) rs plain))))
 
-call_says : (app : ℕ) (s : Exporter) (name : List ℕ) (e : Envelope) (sender : Option (List ℕ)) → e.sender ≡ sender → Says app s (takes_call s name e)
-call_says app s name e None h = rw h (says_nothing app s s refl refl refl refl)
-call_says app s name e (Some caller) h = rw h (called_says app s name caller e)
+call_says : (app : ℕ) (s : Exporter) (name : List ℕ) (e : Envelope) (sender : Option (List ℕ)) → s.name ≡ Some name → e.sender ≡ sender → Says app s (takes_call s name e)
+call_says app s name e None mine h = rw h (says_nothing app s s refl refl refl refl)
+call_says app s name e (Some caller) mine h = rw h (called_says app s name caller e mine)
 
-named_says : (b : Bool) (app : ℕ) (s : Exporter) (name : List ℕ) (e : Envelope) → Says app s (if b then takes_call s name e else if e.kind == 4 then takes_signal s e else s)
-named_says true app s name e = call_says app s name e e.sender refl
-named_says false app s name e = signal_says (e.kind == 4) app s e
+named_says : (b : Bool) (app : ℕ) (s : Exporter) (name : List ℕ) (e : Envelope) → s.name ≡ Some name → Says app s (if b then takes_call s name e else if e.kind == 4 then takes_signal s e else s)
+named_says true app s name e mine = call_says app s name e e.sender mine refl
+named_says false app s name e mine = signal_says (e.kind == 4) app s e
 
-other_says : (app : ℕ) (s : Exporter) (name : Option (List ℕ)) (e : Envelope) → Says app s (takes_other s name e)
-other_says app s None e = says_nothing app s s refl refl refl refl
-other_says app s (Some name) e = named_says (e.kind == 1) app s name e
+other_says : (app : ℕ) (s : Exporter) (name : Option (List ℕ)) (e : Envelope) → s.name ≡ name → Says app s (takes_other s name e)
+other_says app s None e mine = says_nothing app s s refl refl refl refl
+other_says app s (Some name) e mine = named_says (e.kind == 1) app s name e mine
 
 pub takes_says : (app : ℕ) (s : Exporter) (e : Envelope) → Says app s (app_takes s e)
 takes_says app s e = by (awaited s.phase e) refl
   where
     by : (o : Option StartCall) → awaited s.phase e ≡ o → Says app s (app_takes s e)
-    by None h = rw h (other_says app s s.name e)
+    by None h = rw h (other_says app s s.name e refl)
     by (Some call) h = rw h (start_says (e.kind == 2) app s call e.body)
 
 pub starts_says : (app : ℕ) (s : Exporter) → Says app s (asks s hello)
 starts_says app s = asks_says app s hello
+
+-- where nobody listens nothing is told, whatever the name
+none_asked : (xs : List Signal) → asked_for [] xs ≡ []
+none_asked [] = refl
+none_asked (x ∷ xs) = none_asked xs
+
+any_name : (b c : List ℕ) (f : Forest TreeRow) (ss : List Step) → steps_told [] b f ss ≡ steps_told [] c f ss
+any_name b c f [] = refl
+any_name b c f (step ∷ ss) =
+    ap (λ l. steps step ∷ (map (λ (s : Signal). sends s.message) l ++ steps_told [] b (after rows f step) ss)) (none_asked (announced b f step) ∙ sym (none_asked (announced c f step)))
+    ∙ ap (λ l. steps step ∷ (map (λ (s : Signal). sends s.message) (asked_for [] (announced c f step)) ++ l)) (any_name b c (after rows f step) ss)
+
+own_or_any : (s : Exporter) (name : List ℕ) (ss : List Step) → IsNameOf s name → steps_told s.heard name s.tree ss ≡ steps_told s.heard (name_or_empty s.name) s.tree ss
+own_or_any s name ss is = by s.name refl
+  where
+    by : (o : Option (List ℕ)) → s.name ≡ o → steps_told s.heard name s.tree ss ≡ steps_told s.heard (name_or_empty o) s.tree ss
+    by None h =
+        let none : s.heard ≡ [] = is.deaf_ h in
+        ap (λ p. steps_told p name s.tree ss) none ∙ any_name name [] s.tree ss ∙ ap (λ p. steps_told p [] s.tree ss) (sym none)
+    by (Some own) h = ap (λ n. steps_told s.heard n s.tree ss) (sym (is.same own h))
 
 -- at an edit
 abbrev step_result : Exporter → Result (List Step) EditFault → Result Exporter EditFault
@@ -348,6 +395,8 @@ edit_says app s t edit h = by (steps_of_tree s.tree s.added edit) refl h
         let hs : List Happening = steps_told s.heard (name_or_empty s.name) s.tree ss in
         says_queued app s (queues (stepped s ss) hs) hs refl (sym (told_heard s.heard (name_or_empty s.name) s.tree ss)) (sym (told_tree s.heard (name_or_empty s.name) s.tree ss)) refl
         (inr (no_listeners_told s.heard (name_or_empty s.name) s.tree ss)) (λ early at. steps_tell app s.heard s.tree s.next (name_or_empty s.name) ss early at)
+        (inr (λ name is early at.
+        subst (λ l. Each (Under name) early (map (did app) (numbered s.next l))) (own_or_any s name ss is) (steps_under app s.heard s.tree s.next name ss early at)))
 
     by : (r : Result (List Step) EditFault) → steps_of_tree s.tree s.added edit ≡ r → app_edits s edit ≡ Ok t → Says app s t
     by (Ok ss) e g =

@@ -177,7 +177,7 @@ edits_heard es w d s t m i b =
     (over_same SameApp same_app w.ends) b.is_here.there b.whose (ap (λ x. x.world.ends) b.is) (fresh_over w d.world (edits_over w d b)) tt
     (subst (λ l. At l b.app b.before.heard b.before.tree b.before.next) (sym (append-nil es)) at))
 
-down_same : (e : End) → SameApp e (taken_down e)
+pub down_same : (e : End) → SameApp e (taken_down e)
 down_same e = record { whose = refl; role = λ s h. h }
 
 takes_heard : (es : List Entry) (w : World) (d : Done) → Shape w → Trees es w → AreNext es w → Heard es w → AppTakes w d → Heard (es ++ d.entries) d.world
@@ -288,7 +288,7 @@ join_heard es w d name sh m i is =
         subst (λ a. heard_pairs (es ++ ys) a ≡ u.heard) number (mine ∙ ap (λ (z : Exporter). z.heard) state)
 
 -- only the registry is there, as at the beginning
-no_app_first : (quota k : ℕ) (x : End) (a : ℕ) → end_at (first_world quota).ends k ≡ Some x → x.who ≡ App a → ⊥
+pub no_app_first : (quota k : ℕ) (x : End) (a : ℕ) → end_at (first_world quota).ends k ≡ Some x → x.who ≡ App a → ⊥
 no_app_first quota zero x a h who = false_true (ap is_app (ap (λ (y : End). y.who) (same_some first_registry x h) ∙ who))
 no_app_first quota (suc k) x a h who = no_none x h
 
@@ -300,23 +300,23 @@ anew es w d quota s i few is =
     by (inl two) = let less : length w.ends ≤ 1 = ltb-false 1 (length w.ends) few in absurd (omega (arith, two, less))
     by (inr h) = let j : Heard es (first_world w.bus.quota) = subst (Heard es) h i in (j.0, (λ k a e s at who. absurd (no_app_first quota k e a at who)), j.2)
 
-same_ends : (w : World) (d : Done) → d.world.ends ≡ w.ends → Over SameApp w.ends d.world.ends
+pub same_ends : (w : World) (d : Done) → d.world.ends ≡ w.ends → Over SameApp w.ends d.world.ends
 same_ends w d h = subst (Over SameApp w.ends) (sym h) (over_same SameApp same_app w.ends)
 
 same_fresh : (w v : World) → v.ends ≡ w.ends → (p : Party) → IsFresh v p → IsFresh w p
 same_fresh w v h p f = fresh_over w v (subst (Over Lasts w.ends) (sym h) (over_same Lasts lasting w.ends)) p f
 
 -- where the cause is known as it was written
-quiet_of : (d x : Done) → d ≡ x → AllByRecursion IsQuiet x.entries → AllByRecursion IsQuiet d.entries
+pub quiet_of : (d x : Done) → d ≡ x → AllByRecursion IsQuiet x.entries → AllByRecursion IsQuiet d.entries
 quiet_of d x is a = subst (λ y. AllByRecursion IsQuiet y.entries) (sym is) a
 
-sent_quiet : (who : Party) (r : ℕ) (e : Envelope) → who ≡ Reader r → IsQuiet (sent who e)
+pub sent_quiet : (who : Party) (r : ℕ) (e : Envelope) → who ≡ Reader r → IsQuiet (sent who e)
 sent_quiet who r e h = subst (λ p. IsQuiet (sent p e)) (sym h) tt
 
-all_sent_quiet : (who : Party) (es : List Envelope) → who ≡ Registry → AllByRecursion IsQuiet (map (sent who) es)
+pub all_sent_quiet : (who : Party) (es : List Envelope) → who ≡ Registry → AllByRecursion IsQuiet (map (sent who) es)
 all_sent_quiet who es h = subst (λ p. AllByRecursion IsQuiet (map (sent p) es)) (sym h) (registry_quiet es)
 
-reader_took_ends : (w : World) (d : Done) → ReaderTakes w d → Over SameApp w.ends d.world.ends
+pub reader_took_ends : (w : World) (d : Done) → ReaderTakes w d → Over SameApp w.ends d.world.ends
 reader_took_ends w d b =
     let v : World = received w b.conn b.e b.letter in
     let hearer : Hearer = hears_letter b.hearer v.ends b.letter in
@@ -359,7 +359,7 @@ caused_heard es w d s t m i (reader_took b) =
 abbrev pub Beneath : List Entry → World → Type 0
 Beneath es w = And Base Linked es w
 
-asks_same : (m : Envelope) (question : Question) (e : End) (h : Hearer) → e.role ≡ a_reader h → SameApp e (asks_at m question e)
+pub asks_same : (m : Envelope) (question : Question) (e : End) (h : Hearer) → e.role ≡ a_reader h → SameApp e (asks_at m question e)
 asks_same m question e h role = subst (λ x. SameApp e (asks_as x m question e)) (sym role) (reader_same (asks question h) m e)
 
 heard_grows : Grows Beneath Heard

@@ -8,7 +8,7 @@ use Rattle.atspi_forest.specs.Forest.{Forest}
 use Rattle.atspi_forest.specs.Row.{TreeRow}
 use Rattle.atspi_forest.specs.RowRules.{rows}
 use Rattle.atspi_forest.specs.Tree.{after}
-use Rattle.atspi_lines.specs.declared.line.Party.TheVariants.{App}
+use Rattle.atspi_lines.specs.declared.line.Party.TheVariants.{Bus as The_bus, Registry, App, Reader}
 use Rattle.atspi_message.specs.Envelope.{Envelope}
 use Rattle.atspi_protocol.specs.ends.Messages as messages_of
 use Rattle.atspi_protocol.specs.announcing.Signals.{Signal}
@@ -24,12 +24,30 @@ use Rattle.atspi_lawful.proofs.OfOrder.Each.{Each, each_more}
 use Rattle.atspi_lawful.proofs.OfSteps.Doings.{tree_by, tree_numbered, still_tree, still_sends}
 use Rattle.atspi_lawful.proofs.OfSteps.Trees.{tree_more, did_tree}
 use Rattle.atspi_lawful.proofs.OfSerials.Serial.{messages_more}
-use Rattle.atspi_lawful.specs.heard.Laws.{signals_under, IsToldUnder, IsOneOfThem}
+use Rattle.atspi_lawful.specs.heard.Laws.{signals_under, IsToldUnder, IsAmong, IsOneOfThem}
 use Rattle.atspi_lawful.proofs.OfHeard.Pairs.{heard_by, heard_append, heard_numbered, sent_numbered, numbered_append, heard_more, did_heard}
 
--- both laws of an entry
+-- both laws of an entry, under one name: behind a step stand its signals, and each signal stands in such a list
+abbrev pub Under : List ℕ → List Entry → Entry → List Entry → Type 0
+Under name before (changed app step) behind = Follow (signals_under name before app step) behind
+Under name before (sent (App app) e) behind = e.kind ≡ 4 → (among : IsAmong before app e) × (among.name ≡ name)
+Under name before entry behind = Unit {0}
+
+-- and under some name
 abbrev pub Both : List Entry → Entry → List Entry → Type 0
 Both before entry behind = IsToldUnder before entry behind × IsOneOfThem before entry behind
+
+under_both : (name : List ℕ) (before : List Entry) (entry : Entry) (behind : List Entry) → Under name before entry behind → Both before entry behind
+under_both name before (changed app step) behind h = ((name, h), tt)
+under_both name before (sent (App app) e) behind h = (tt, λ k. (h k).0)
+under_both name before (sent The_bus e) behind h = (tt, tt)
+under_both name before (sent Registry e) behind h = (tt, tt)
+under_both name before (sent (Reader r) e) behind h = (tt, tt)
+under_both name before entry behind h = (tt, tt)
+
+all_both : (name : List ℕ) (early xs : List Entry) → Each (Under name) early xs → Each Both early xs
+all_both name early [] e = tt
+all_both name early (x ∷ xs) e = (under_both name early x xs e.0, all_both name (early ++ x ∷ []) xs e.1)
 
 follow_more : (entries behind ys : List Entry) → Follow entries behind → Follow entries (behind ++ ys)
 follow_more entries behind ys f = (f.0 ++ ys, ap (λ l. l ++ ys) f.1 ∙ append_assoc entries f.0 ys)
@@ -45,6 +63,21 @@ one_more ys before entry behind h = tt
 all_more : (ys early xs : List Entry) → Each Both early xs → Each (λ before entry behind. Both before entry (behind ++ ys)) early xs
 all_more ys early [] e = tt
 all_more ys early (x ∷ xs) e = ((told_more ys early x xs e.0.0, one_more ys early x xs e.0.1), all_more ys (early ++ x ∷ []) xs e.1)
+
+under_more : (name : List ℕ) (ys before : List Entry) (entry : Entry) (behind : List Entry) → Under name before entry behind → Under name before entry (behind ++ ys)
+under_more name ys before (changed app step) behind h = follow_more (signals_under name before app step) behind ys h
+under_more name ys before (sent (App app) e) behind h = h
+under_more name ys before (sent The_bus e) behind h = tt
+under_more name ys before (sent Registry e) behind h = tt
+under_more name ys before (sent (Reader r) e) behind h = tt
+under_more name ys before entry behind h = tt
+
+all_under : (name : List ℕ) (ys early xs : List Entry) → Each (Under name) early xs → Each (λ before entry behind. Under name before entry (behind ++ ys)) early xs
+all_under name ys early [] e = tt
+all_under name ys early (x ∷ xs) e = (under_more name ys early x xs e.0, all_under name ys (early ++ x ∷ []) xs e.1)
+
+pub under_both_lists : (name : List ℕ) (early xs ys : List Entry) → Each (Under name) early xs → Each (Under name) (early ++ xs) ys → Each (Under name) early (xs ++ ys)
+under_both_lists name early xs ys a b = each_more (Under name) early xs ys (all_under name ys early xs a) b
 
 pub both_more : (early xs ys : List Entry) → Each Both early xs → Each Both (early ++ xs) ys → Each Both early (xs ++ ys)
 both_more early xs ys a b = each_more Both early xs ys (all_more ys early xs a) b
@@ -81,6 +114,10 @@ at_behind early app ps f n hs a = record {
 abbrev pub Tells : ℕ → List (List ℕ × List ℕ) → Forest TreeRow → ℕ → List Happening → Type 0
 Tells app ps f n hs = (early : List Entry) → At early app ps f n → Each Both early (map (did app) (numbered n hs))
 
+-- and so under this name
+abbrev pub TellsUnder : List ℕ → ℕ → List (List ℕ × List ℕ) → Forest TreeRow → ℕ → List Happening → Type 0
+TellsUnder name app ps f n hs = (early : List Entry) → At early app ps f n → Each (Under name) early (map (did app) (numbered n hs))
+
 did_append : (app : ℕ) (hs ks : List Happening) → map (did app) (hs ++ ks) ≡ map (did app) hs ++ map (did app) ks
 did_append app [] ks = refl
 did_append app (h ∷ hs) ks = ap (λ l. did app h ∷ l) (did_append app hs ks)
@@ -100,6 +137,13 @@ tells_both app ps f n hs ks a b early at =
     (both_more early (map (did app) (numbered n hs)) (map (did app) (numbered (n + sent_in hs) ks)) (a early at)
     (b (early ++ map (did app) (numbered n hs)) (at_numbered early app ps f n hs at)))
 
+pub under_tells : (name : List ℕ) (app : ℕ) (ps : List (List ℕ × List ℕ)) (f : Forest TreeRow) (n : ℕ) (hs ks : List Happening) → TellsUnder name app ps f n hs
+    → TellsUnder name app (heard_by ps hs) (tree_by f hs) (n + sent_in hs) ks → TellsUnder name app ps f n (hs ++ ks)
+under_tells name app ps f n hs ks a b early at =
+    subst (Each (Under name) early) (sym (ap (map (did app)) (numbered_append n hs ks) ∙ did_append app (numbered n hs) (numbered (n + sent_in hs) ks)))
+    (under_both_lists name early (map (did app) (numbered n hs)) (map (did app) (numbered (n + sent_in hs) ks)) (a early at)
+    (b (early ++ map (did app) (numbered n hs)) (at_numbered early app ps f n hs at)))
+
 -- neither a step nor a signal
 abbrev pub IsPlain : List Happening → Type 0
 IsPlain [] = Unit {0}
@@ -107,15 +151,18 @@ IsPlain (steps step ∷ hs) = ⊥
 IsPlain (sends e ∷ hs) = (e.kind ≡ 4 → ⊥) × IsPlain hs
 IsPlain (h ∷ hs) = IsPlain hs
 
-plain_each : (app n : ℕ) (hs : List Happening) → IsPlain hs → (early : List Entry) → Each Both early (map (did app) (numbered n hs))
-plain_each app n [] p early = tt
-plain_each app n (steps step ∷ hs) p early = absurd p
-plain_each app n (sends e ∷ hs) p early = ((tt, λ k. absurd (p.0 k)), plain_each app (n + 1) hs p.1 (early ++ sent (App app) (record e { serial = n }) ∷ []))
-plain_each app n (hears listener pattern ∷ hs) p early = ((tt, tt), plain_each app n hs p (early ++ did app (hears listener pattern) ∷ []))
-plain_each app n (deaf listener pattern ∷ hs) p early = ((tt, tt), plain_each app n hs p (early ++ did app (deaf listener pattern) ∷ []))
+pub plain_each : (name : List ℕ) (app n : ℕ) (hs : List Happening) → IsPlain hs → (early : List Entry) → Each (Under name) early (map (did app) (numbered n hs))
+plain_each name app n [] p early = tt
+plain_each name app n (steps step ∷ hs) p early = absurd p
+plain_each name app n (sends e ∷ hs) p early = ((λ k. absurd (p.0 k)), plain_each name app (n + 1) hs p.1 (early ++ sent (App app) (record e { serial = n }) ∷ []))
+plain_each name app n (hears listener pattern ∷ hs) p early = (tt, plain_each name app n hs p (early ++ did app (hears listener pattern) ∷ []))
+plain_each name app n (deaf listener pattern ∷ hs) p early = (tt, plain_each name app n hs p (early ++ did app (deaf listener pattern) ∷ []))
+
+pub plain_under : (name : List ℕ) (app : ℕ) (ps : List (List ℕ × List ℕ)) (f : Forest TreeRow) (n : ℕ) (hs : List Happening) → IsPlain hs → TellsUnder name app ps f n hs
+plain_under name app ps f n hs p early at = plain_each name app n hs p early
 
 pub plain_tells : (app : ℕ) (ps : List (List ℕ × List ℕ)) (f : Forest TreeRow) (n : ℕ) (hs : List Happening) → IsPlain hs → Tells app ps f n hs
-plain_tells app ps f n hs p early at = plain_each app n hs p early
+plain_tells app ps f n hs p early at = all_both [] early (map (did app) (numbered n hs)) (plain_each [] app n hs p early)
 
 -- THE SIGNALS OF ONE STEP
 signal_sends : (app n : ℕ) (xs : List Signal)
@@ -126,13 +173,13 @@ signal_sends app n (x ∷ xs) = ap (λ l. sent (App app) (record x.message { ser
 -- those that a step's list ends with, behind those before
 sents_each : (app : ℕ) (early : List Entry) (step : Step) (name : List ℕ) (front : List Entry) (n : ℕ) (xs : List Signal)
     → signals_under name early app step ≡ front ++ map (did app) (numbered n (map (λ (s : Signal). sends s.message) xs))
-    → Each Both (early ++ changed app step ∷ front) (map (did app) (numbered n (map (λ (s : Signal). sends s.message) xs)))
+    → Each (Under name) (early ++ changed app step ∷ front) (map (did app) (numbered n (map (λ (s : Signal). sends s.message) xs)))
 sents_each app early step name front n [] h = tt
 sents_each app early step name front n (x ∷ xs) h =
     let e : Envelope = record x.message { serial = n } in
     let back : List Entry = map (did app) (numbered (n + 1) (map (λ (s : Signal). sends s.message) xs)) in (
-      (tt, λ k. record { name = name; early = early; step = step; front = front; back = back; stands = refl; listed = h }),
-      subst (λ l. Each Both l back) (sym (append_assoc early (changed app step ∷ front) (sent (App app) e ∷ [])))
+      (λ k. (record { name = name; early = early; step = step; front = front; back = back; stands = refl; listed = h }, refl)),
+      subst (λ l. Each (Under name) l back) (sym (append_assoc early (changed app step ∷ front) (sent (App app) e ∷ [])))
           (sents_each app early step name (front ++ sent (App app) e ∷ []) (n + 1) xs (h ∙ sym (append_assoc front (sent (App app) e ∷ []) back))),
     )
 
@@ -144,14 +191,11 @@ listed_at early app ps f n name step a =
     ∙ ap₂ (λ p t. map (sent (App app)) (messages_of.numbered n (map (λ (s : Signal). s.message) (asked_for p (announced name t step))))) a.pairs a.tree
     ∙ signal_sends app n (asked_for ps (announced name f step))
 
-pub step_tells : (app : ℕ) (ps : List (List ℕ × List ℕ)) (f : Forest TreeRow) (n : ℕ) (name : List ℕ) (step : Step) → Tells app ps f n (step_told ps name f step)
-step_tells app ps f n name step early at =
+step_under : (app : ℕ) (ps : List (List ℕ × List ℕ)) (f : Forest TreeRow) (n : ℕ) (name : List ℕ) (step : Step) → TellsUnder name app ps f n (step_told ps name f step)
+step_under app ps f n name step early at =
     let xs : List Signal = asked_for ps (announced name f step) in
     let listed = listed_at early app ps f n name step at in
-    let sends_ : List Entry = map (did app) (numbered n (map (λ (s : Signal). sends s.message) xs)) in (
-      ((name, ([], sym (append-nil (signals_under name early app step) ∙ listed))), tt),
-      sents_each app early step name [] n xs listed,
-    )
+    (([], sym (append-nil (signals_under name early app step) ∙ listed)), sents_each app early step name [] n xs listed)
 
 -- and those of steps one after another
 sends_heard : (ps : List (List ℕ × List ℕ)) (xs : List Signal) → heard_by ps (map (λ (s : Signal). sends s.message) xs) ≡ ps
@@ -166,14 +210,17 @@ told_heard ps name f (step ∷ ss) =
     ∙ ap (λ p. heard_by p (steps_told ps name (after rows f step) ss)) (sends_heard ps (asked_for ps (announced name f step)))
     ∙ told_heard ps name (after rows f step) ss
 
-pub steps_tell : (app : ℕ) (ps : List (List ℕ × List ℕ)) (f : Forest TreeRow) (n : ℕ) (name : List ℕ) (ss : List Step) → Tells app ps f n (steps_told ps name f ss)
-steps_tell app ps f n name [] early at = tt
-steps_tell app ps f n name (step ∷ ss) early at =
+pub steps_under : (app : ℕ) (ps : List (List ℕ × List ℕ)) (f : Forest TreeRow) (n : ℕ) (name : List ℕ) (ss : List Step) → TellsUnder name app ps f n (steps_told ps name f ss)
+steps_under app ps f n name [] early at = tt
+steps_under app ps f n name (step ∷ ss) early at =
     let xs : List Signal = asked_for ps (announced name f step) in
     let signals : List Happening = map (λ (s : Signal). sends s.message) xs in
     let g : Forest TreeRow = after rows f step in
     let tree : tree_by g signals ≡ g = still_tree g signals (still_sends (λ (s : Signal). s.message) xs) in
-    tells_both app ps f n (step_told ps name f step) (steps_told ps name g ss) (step_tells app ps f n name step)
-    (subst (λ p. Tells app p (tree_by g signals) (n + sent_in signals) (steps_told ps name g ss)) (sym (sends_heard ps xs))
-    (subst (λ t. Tells app ps t (n + sent_in signals) (steps_told ps name g ss)) (sym tree) (λ e a. steps_tell app ps g (n + sent_in signals) name ss e a)))
+    under_tells name app ps f n (step_told ps name f step) (steps_told ps name g ss) (step_under app ps f n name step)
+    (subst (λ p. TellsUnder name app p (tree_by g signals) (n + sent_in signals) (steps_told ps name g ss)) (sym (sends_heard ps xs))
+    (subst (λ t. TellsUnder name app ps t (n + sent_in signals) (steps_told ps name g ss)) (sym tree) (λ e a. steps_under app ps g (n + sent_in signals) name ss e a)))
     early at
+
+pub steps_tell : (app : ℕ) (ps : List (List ℕ × List ℕ)) (f : Forest TreeRow) (n : ℕ) (name : List ℕ) (ss : List Step) → Tells app ps f n (steps_told ps name f ss)
+steps_tell app ps f n name ss early at = all_both name early (map (did app) (numbered n (steps_told ps name f ss))) (steps_under app ps f n name ss early at)

@@ -48,7 +48,7 @@ use Rattle.atspi_lawful.proofs.OfNames.LawNames.{has_name, IsAt, Named, SameName
 use Rattle.atspi_lawful.proofs.OfNames.Bounds.{Fits, Bounded, bounds_keep}
 
 -- so few parties were greeted
-few_greeted : (es : List Entry) (w : World) → Named es w → Fits w → length (greeted es) ≤ 1000
+pub few_greeted : (es : List Entry) (w : World) → Named es w → Fits w → length (greeted es) ≤ 1000
 few_greeted es w i f =
     let size : suc (length (greeted es)) ≡ count_ends has_name w.ends = i.size in
     let least : count_ends has_name w.ends ≤ length w.ends = count_least has_name w.ends in

@@ -201,7 +201,7 @@ zero_before Registry f g = absurd (g refl)
 zero_before (App a) f g = refl
 zero_before (Reader r) f g = refl
 
-not_first : (p : Party) (serial count : ℕ) → (p ≡ The_bus → ⊥) → serial ≡ suc (sent_before p + count) → ((p ≡ Registry) ⊎ (1 ≤ count)) → (serial == 1) ≡ false
+pub not_first : (p : Party) (serial count : ℕ) → (p ≡ The_bus → ⊥) → serial ≡ suc (sent_before p + count) → ((p ≡ Registry) ⊎ (1 ≤ count)) → (serial == 1) ≡ false
 not_first p serial count nb h c = by (serial == 1) refl
   where
     never : (p : Party) → (p ≡ The_bus → ⊥) → serial ≡ suc (sent_before p + count) → ((p ≡ Registry) ⊎ (1 ≤ count)) → serial ≡ 1 → ⊥
@@ -282,7 +282,7 @@ module _ (es : List Entry) (w : World) (d : Done) (s : Shape w) (t : IsTold w) (
             inr (h.0, q.unique ∙ ap (λ (n : End). n.unique) h.1 ∙ x.2.unique),
           )
 
-  owner_now : (k : ℕ) (z : End) → end_at d.world.ends k ≡ Some z → z.standing ≡ here → unique_of d.world.bus.state.owners k ≡ unique_of step.state.owners k
+  pub owner_now : (k : ℕ) (z : End) → end_at d.world.ends k ≡ Some z → z.standing ≡ here → unique_of d.world.bus.state.owners k ≡ unique_of step.state.owners k
   owner_now k z h stands = ap (λ x. unique_of x.world.bus.state.owners k) b.is ∙ by (kept_t.same k (λ x. x))
     where
       by : ((unique_of t1.bus.state.owners k ≡ unique_of step.state.owners k) ⊎ (list_any (is_of k) t1.bus.closings ≡ true)) → unique_of t1.bus.state.owners k ≡ unique_of step.state.owners k
@@ -314,7 +314,7 @@ module _ (es : List Entry) (w : World) (d : Done) (s : Shape w) (t : IsTold w) (
   old : NamedAt es w.bus.state.owners b.conn b.e
   old = i.ends b.conn b.e b.is_here.there
 
-  serial_is : b.said.message.serial ≡ suc (sent_before b.e.who + count_got_by_bus es b.e.who)
+  pub serial_is : b.said.message.serial ≡ suc (sent_before b.e.who + count_got_by_bus es b.e.who)
   serial_is = (subst (Ups (first_unread es b.e.who)) b.link (l.1 b.conn b.e b.is_here.there (ap is_here b.is_here.standing)).ups).0
 
   -- of one that has its name

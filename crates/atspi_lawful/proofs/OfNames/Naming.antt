@@ -90,7 +90,7 @@ hello_other s conn k e differ = get-insert nat_cmp_total s.owners.unique conn (u
     by true g = absurd (differ (nat_cmp-IsAntisymmetric k conn (equal_of_tie _ g)))
     by false g = refl
 
-gone_other : (owners : Owners) (conn k : ℕ) → (conn ≡ k → ⊥) → unique_of (after_gone owners conn) k ≡ unique_of owners k
+pub gone_other : (owners : Owners) (conn k : ℕ) → (conn ≡ k → ⊥) → unique_of (after_gone owners conn) k ≡ unique_of owners k
 gone_other owners conn k differ = get-remove nat_cmp_total owners.unique conn k ∙ by (eq_by_cmp nat_cmp k conn) refl
   where
     by : (b : Bool) → eq_by_cmp nat_cmp k conn ≡ b → cond b None (finmap.get owners.unique k) ≡ unique_of owners k

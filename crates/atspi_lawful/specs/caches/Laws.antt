@@ -26,15 +26,10 @@ use Rattle.atspi_lawful.specs.laws.NineLaws.{Everywhere, Follow}
 use Rattle.atspi_lawful.specs.order.Scripts.{CanAllStand}
 use Rattle.atspi_lawful.specs.heard.Laws.{signals_under, IsAmong}
 use Rattle.atspi_lawful.specs.folds.Laws.{AreAllCovered}
+use Rattle.atspi_lawful.specs.signed.Laws.{IsItsName}
 use Rattle.atspi_lawful.specs.caches.Caches.{followed}
 
--- THE NAME. The signals of each step of the application are those of an application with this name, and it sends no others.
-abbrev pub IsSigned : List ℕ → ℕ → List Entry → Entry → List Entry → Type 0
-IsSigned name app before (changed a step) behind = a ≡ app → Follow (signals_under name before app step) behind
-IsSigned name app before (sent (App a) e) behind = a ≡ app → e.kind ≡ 4 → (among : IsAmong before app e) × (among.name ≡ name)
-IsSigned name app before entry behind = Unit {0}
-
--- THE REPLIES. A return to a call for all items tells the view of a tree, and one to a call for a part tells that part of it, of a node that was
+-- WHAT RETURNS TELL. A return to a call for all items tells the view of a tree, and one to a call for a part tells that part of it, of a node that was
 -- added.
 pub record TellsItems (name : List ℕ) (tree : Forest TreeRow) (e : Envelope) : Type 0 where
   pub items : List Item
@@ -49,16 +44,16 @@ pub record TellsPart (name : List ℕ) (tree : Forest TreeRow) (count : ℕ) (pa
   pub is_of : path ≡ path_of node
   pub was_added : node ≤ count
 
-abbrev pub Tells : List ℕ → Forest TreeRow → ℕ → Option Question → Envelope → Type 0
-Tells name its_tree count (Some (GetItems n)) e = TellsItems name its_tree e
-Tells name its_tree count (Some (GetPart n path part)) e = TellsPart name its_tree count path part e
-Tells name its_tree count question e = Unit {0}
+-- each return to a call for a part, as the reader takes it
+abbrev pub TellsIfPart : List ℕ → Forest TreeRow → ℕ → Option Question → Envelope → Type 0
+TellsIfPart name its_tree count (Some (GetPart n path part)) e = TellsPart name its_tree count path part e
+TellsIfPart name its_tree count question e = Unit {0}
 
-abbrev pub IsAnswered : List ℕ → ℕ → ℕ → List Entry → Entry → List Entry → Type 0
-IsAnswered name reader app before (got (Reader r) (App a) serial) behind =
+abbrev pub ArePartsTold : List ℕ → ℕ → ℕ → List Entry → Entry → List Entry → Type 0
+ArePartsTold name reader app before (got (Reader r) (App a) serial) behind =
     r ≡ reader → a ≡ app → (e : Envelope) → message before (App app) serial ≡ Some e
-    → Tells name (as_of before app serial) (added (before_sent (App app) serial before) app) (answers_question before reader (Some e)) e
-IsAnswered name reader app before entry behind = Unit {0}
+    → TellsIfPart name (as_of before app serial) (added (before_sent (App app) serial before) app) (answers_question before reader (Some e)) e
+ArePartsTold name reader app before entry behind = Unit {0}
 
 -- NOTHING IS MISSED. Between the last message that the reader took of the application and the one that it takes now the application sent no signal, and
 -- each step of it that stands between was asked for whole.
@@ -86,8 +81,7 @@ MissesNone name reader app before entry behind = Unit {0}
 
 -- such a reader and application
 pub record IsServed (trace : List Entry) (name : List ℕ) (reader app : ℕ) : Type 0 where
-  pub signed : Everywhere (IsSigned name app) trace
-  pub answered : Everywhere (IsAnswered name reader app) trace
+  pub parts_told : Everywhere (ArePartsTold name reader app) trace
   pub nothing_missed : Everywhere (MissesNone name reader app) trace
 
 -- WHAT THE READER HAS: nothing of one that it does not hold; of one that it holds the view of its tree as of the last message taken, with the parts
@@ -100,9 +94,9 @@ abbrev pub CacheIs : List Entry → ℕ → Option Kept → Followed → Type 0
 CacheIs es app None f = f.view ≡ None
 CacheIs es app (Some k) f = IsViewed es app k f
 
--- so it is behind each front of a lawful trace
+-- so it is behind each front of a lawful trace, under the application's own name
 abbrev pub CachesFollow : Type 0
 CachesFollow =
     (lines : List Line) (trace : List Entry) → CanAllStand lines → Begun lines trace → (after_all (begins lines) trace).owing ≡ []
-    → (name : List ℕ) (reader app : ℕ) → IsServed trace name reader app
+    → (name : List ℕ) (reader app : ℕ) → IsItsName trace app name → IsServed trace name reader app
     → (front rest : List Entry) → trace ≡ front ++ rest → CacheIs front app (held front reader app) (followed name front reader app)

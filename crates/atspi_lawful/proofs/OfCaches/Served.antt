@@ -1,0 +1,90 @@
+-- How a reader is served by an application: under which name it signs, what its returns tell, and that nothing is missed.
+use Rattle.std.proofs.Common.{◌≡◌, ℕ, List, [], ◌∷◌, ◌++◌, Option, None, Some, refl, sym, ap, ◌∙◌, subst}
+use Rattle.atspi_forest.specs.Forest.{Forest}
+use Rattle.atspi_forest.specs.Row.{TreeRow}
+use Rattle.atspi_lines.specs.declared.line.Party.{Party}
+use Rattle.atspi_lines.specs.declared.line.Party.TheVariants.{Bus as The_bus, Registry, App, Reader}
+use Rattle.atspi_message.specs.Envelope.{Envelope}
+use Rattle.atspi_protocol.specs.declared.following.question.Question.{Question}
+use Rattle.atspi_protocol.specs.declared.following.question.Question.TheVariants.{Hello, AddMatch, RegisterEvent, GetChildren, GetItems, GetPart}
+use Rattle.atspi_trace.specs.Entry.{Entry, changed, sent, got}
+use Rattle.atspi_lawful.specs.laws.Words.{added, message, before_sent, as_of, name_in, answers_question}
+use Rattle.atspi_lawful.specs.laws.NineLaws.{Everywhere, Follow}
+use Rattle.atspi_lawful.specs.heard.Laws.{signals_under, IsAmong}
+use Rattle.atspi_lawful.specs.signed.Laws.{IsItsName, IsSignedTruly}
+use Rattle.atspi_lawful.specs.answered.Laws.{IsItemsTold}
+use Rattle.atspi_lawful.specs.caches.Laws.{TellsItems, TellsPart, TellsIfPart, ArePartsTold, MissesNone, IsServed}
+use Rattle.atspi_lawful.proofs.OfNames.Places.{told_is}
+use Rattle.atspi_lawful.proofs.OfSigned.Mail.{told_more}
+
+-- The signals of each step of the application are those of an application with this name, and it sends no others.
+abbrev pub IsSigned : List ℕ → ℕ → List Entry → Entry → List Entry → Type 0
+IsSigned name app before (changed a step) behind = a ≡ app → Follow (signals_under name before app step) behind
+IsSigned name app before (sent (App a) e) behind = a ≡ app → e.kind ≡ 4 → (among : IsAmong before app e) × (among.name ≡ name)
+IsSigned name app before entry behind = Unit {0}
+
+-- a return tells the tree
+abbrev pub Tells : List ℕ → Forest TreeRow → ℕ → Option Question → Envelope → Type 0
+Tells name its_tree count (Some (GetItems n)) e = TellsItems name its_tree e
+Tells name its_tree count (Some (GetPart n path part)) e = TellsPart name its_tree count path part e
+Tells name its_tree count question e = Unit {0}
+
+abbrev pub IsAnswered : List ℕ → ℕ → ℕ → List Entry → Entry → List Entry → Type 0
+IsAnswered name reader app before (got (Reader r) (App a) serial) behind =
+    r ≡ reader → a ≡ app → (e : Envelope) → message before (App app) serial ≡ Some e
+    → Tells name (as_of before app serial) (added (before_sent (App app) serial before) app) (answers_question before reader (Some e)) e
+IsAnswered name reader app before entry behind = Unit {0}
+
+pub record IsWholly (trace : List Entry) (name : List ℕ) (reader app : ℕ) : Type 0 where
+  pub signed : Everywhere (IsSigned name app) trace
+  pub answered : Everywhere (IsAnswered name reader app) trace
+  pub nothing_missed : Everywhere (MissesNone name reader app) trace
+
+-- the name of the whole trace is that of each front
+front_name : (before rest : List Entry) (app : ℕ) (name : List ℕ) → IsItsName (before ++ rest) app name → IsItsName before app name
+front_name before rest app name its own h = its own (told_is (before ++ rest) (App app) ∙ told_more before rest (App app) own (sym (told_is before (App app)) ∙ h))
+
+module _ (T : List Entry) (name : List ℕ) (reader app : ℕ) (its : IsItsName T app name) where
+  name_at : (before : List Entry) (entry : Entry) (behind : List Entry) → T ≡ before ++ entry ∷ behind → IsItsName before app name
+  name_at before entry behind at = front_name before (entry ∷ behind) app name (subst (λ l. IsItsName l app name) at its)
+
+  signed_by : (before : List Entry) (entry : Entry) (behind : List Entry) → IsItsName before app name → IsSignedTruly before entry behind → IsSigned name app before entry behind
+  signed_by before (changed a step) behind own h = λ same. subst (λ n. Follow (signals_under name before n step) behind) same (h name (subst (λ n. IsItsName before n name) (sym same) own))
+  signed_by before (sent (App a) e) behind own h = λ same four.
+      subst (λ n. (among : IsAmong before n e) × (among.name ≡ name)) same (h four name (subst (λ n. IsItsName before n name) (sym same) own))
+  signed_by before (sent The_bus e) behind own h = tt
+  signed_by before (sent Registry e) behind own h = tt
+  signed_by before (sent (Reader r) e) behind own h = tt
+  signed_by before entry behind own h = tt
+
+  tells_by : (before : List Entry) (serial : ℕ) (e : Envelope) (q : Option Question) → ((asked : List ℕ) → q ≡ Some (GetItems asked) → TellsItems name (as_of before app serial) e)
+      → TellsIfPart name (as_of before app serial) (added (before_sent (App app) serial before) app) q e → Tells name (as_of before app serial) (added (before_sent (App app) serial before) app) q e
+  tells_by before serial e (Some (GetItems asked)) f g = f asked refl
+  tells_by before serial e (Some (GetPart n path part)) f g = g
+  tells_by before serial e (Some Hello) f g = tt
+  tells_by before serial e (Some (AddMatch rule)) f g = tt
+  tells_by before serial e (Some (RegisterEvent pattern)) f g = tt
+  tells_by before serial e (Some GetChildren) f g = tt
+  tells_by before serial e None f g = tt
+
+  answered_by : (before : List Entry) (entry : Entry) (behind : List Entry) → IsItsName before app name → IsItemsTold before entry behind → ArePartsTold name reader app before entry behind → IsAnswered name reader app before entry behind
+  answered_by before (got (Reader r) (App a) serial) behind own h g = λ rs bs e found.
+      tells_by before serial e (answers_question before reader (Some e))
+      (λ asked q.
+      subst (λ n. IsItsName before n name → message before (App n) serial ≡ Some e → TellsItems name (as_of before n serial) e) bs
+      (λ its_own was. h name asked e its_own was (ap (λ n. answers_question before n (Some e)) rs ∙ q)) own found)
+      (g rs bs e found)
+  answered_by before (got (Reader r) The_bus serial) behind own h g = tt
+  answered_by before (got (Reader r) Registry serial) behind own h g = tt
+  answered_by before (got (Reader r) (Reader q) serial) behind own h g = tt
+  answered_by before (got The_bus from serial) behind own h g = tt
+  answered_by before (got Registry from serial) behind own h g = tt
+  answered_by before (got (App a) from serial) behind own h g = tt
+  answered_by before entry behind own h g = tt
+
+  pub wholly : Everywhere IsSignedTruly T → Everywhere IsItemsTold T → IsServed T name reader app → IsWholly T name reader app
+  wholly signed items served = record {
+    signed = λ before entry behind at. signed_by before entry behind (name_at before entry behind at) (signed before entry behind at);
+    answered = λ before entry behind at. answered_by before entry behind (name_at before entry behind at) (items before entry behind at) (served.parts_told before entry behind at);
+    nothing_missed = served.nothing_missed;
+  }
