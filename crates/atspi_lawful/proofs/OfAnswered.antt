@@ -1,2 +1,4 @@
 pub mod Items
+pub mod Parts
+pub mod Counted
 pub mod LawAnswered

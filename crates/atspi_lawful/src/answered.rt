@@ -1,3 +1,4 @@
 //! What applications answer readers, along lawful traces.
 
+pub mod examples;
 pub mod laws;

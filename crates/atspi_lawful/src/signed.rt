@@ -1,3 +1,4 @@
 //! Under which name applications sign, along lawful traces.
 
+pub mod examples;
 pub mod laws;

@@ -1,6 +1,6 @@
 -- What an application answers to a call for all items is read back as the items of its tree.
-use Rattle.std.proofs.Common.{◌≡◌, ℕ, zero, suc, ◌+◌, ◌≤◌, Bool, true, false, List, [], ◌∷◌, ◌++◌, map, Option, None, Some, refl, sym, ap, ◌∙◌, subst, arith}
-use Rattle.std.specs.Prelude.{pos, negsuc, codes, if◌then◌else◌}
+use Rattle.std.proofs.Common.{◌≡◌, ℕ, suc, ◌+◌, ◌≤◌, true, List, [], ◌∷◌, map, Some, refl, ap, ◌∙◌, arith}
+use Rattle.std.specs.Prelude.{negsuc, codes}
 use Rattle.std.specs.List.{AllByRecursion}
 use lib.Utf8.{encode}
 use Rattle.atspi_types.specs.Data.{Data, items_of, values_in}
@@ -13,12 +13,12 @@ use Rattle.atspi_forest.specs.RowRules.{rows}
 use Rattle.atspi_forest.specs.Tree.{IsTree}
 use Rattle.atspi_forest.specs.Announce.{own, item_of, items_below, items}
 use Rattle.atspi_protocol.specs.ends.Places.{registry, root_path, cache_path}
-use Rattle.atspi_protocol.specs.ends.Messages.{reply_to, returns}
+use Rattle.atspi_protocol.specs.ends.Messages.{reply_to}
 use Rattle.atspi_protocol.specs.members.Interfaces as interfaces
 use Rattle.atspi_protocol.specs.news.Replies.{items_among, items_told}
 use Rattle.atspi_protocol.specs.news.CacheSignals.{item_in}
 use Rattle.atspi_protocol.specs.objects.Application.{Application}
-use Rattle.atspi_protocol.specs.objects.Answers.{Answer, tells, items_data, answer}
+use Rattle.atspi_protocol.specs.objects.Answers.{tells, items_data, answer}
 use Rattle.atspi_protocol.specs.objects.Values.{item_data}
 use Rattle.atspi_protocol.proofs.OfAnnouncing.Back.{signed_back, texts_back, states_back, item_back}
 use Rattle.atspi_protocol.proofs.OfAnnouncing.Bounds.{everyone, width-count}

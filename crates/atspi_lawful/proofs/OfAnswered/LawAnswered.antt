@@ -1,46 +1,47 @@
--- What a reader takes as the return to its call for all items is the application's answer to it, along a lawful trace.
-use Rattle.std.proofs.Common.{◌≡◌, ◌⊎◌, inl, inr, ℕ, ◌≤◌, Bool, true, false, List, [], ◌∷◌, ◌++◌, length, map, Option, None, Some, refl, sym, ap, ap₂, ◌∙◌, subst}
+-- What a reader takes as the return to its own call is the application's answer to it, along a lawful trace.
+use Rattle.std.proofs.Common.{◌≡◌, ◌⊎◌, inl, inr, ℕ, ◌≤◌, Bool, true, false, List, [], ◌∷◌, ◌++◌, length, Option, None, Some, refl, sym, ap, ap₂, ◌∙◌, subst}
 use Rattle.std.specs.Prelude.{◌==◌, ◌||◌, if◌then◌else◌}
 use Rattle.std.specs.List.{AllByRecursion}
 use Rattle.std.proofs.lemmas.Bool.{eqb-true}
-use Rattle.std.proofs.lemmas.List.{append-nil}
 use Rattle.atspi_forest.specs.Path.{path_of}
 use Rattle.atspi_forest.specs.Announce.{items}
+use Rattle.atspi_forest.specs.Forest.{count}
 use Rattle.atspi_forest.proofs.Load.{load_items}
 use Rattle.atspi_forest.specs.View.{nothing_told, view}
 use Rattle.atspi_forest.specs.News.{load}
 use Rattle.atspi_forest.specs.RowRules.{rows}
-use Rattle.atspi_forest.specs.Tree.{after_all}
-use Rattle.atspi_lines.specs.declared.limits.TheConstants.{QUOTA_MOST}
+use Rattle.atspi_forest.specs.Tree.{is_node, after_all}
 use Rattle.atspi_lines.specs.declared.line.Line.{Line}
 use Rattle.atspi_lines.specs.declared.line.Party.{Party}
 use Rattle.atspi_lines.specs.declared.line.Party.TheVariants.{Bus as The_bus, Registry, App, Reader}
 use Rattle.atspi_message.specs.Envelope.{Envelope}
 use Rattle.atspi_names.specs.Owners.{own_name}
-use Rattle.atspi_routing.specs.Routing.{is_for_bus, is_reply}
-use Rattle.atspi_protocol.specs.exporting.Exporter.{Happening, Exporter, named}
+use Rattle.atspi_protocol.specs.exporting.Exporter.{Exporter, named}
 use Rattle.atspi_protocol.specs.exporting.Taking.{app_takes, answer_to}
 use Rattle.atspi_protocol.specs.ends.Messages.{reply_to}
 use Rattle.atspi_protocol.specs.following.Calls.{asking}
 use Rattle.atspi_protocol.specs.declared.following.question.Question.{Question}
-use Rattle.atspi_protocol.specs.declared.following.question.Question.TheVariants.{GetItems}
+use Rattle.atspi_protocol.specs.declared.following.question.Question.TheVariants.{GetItems, GetPart}
+use Rattle.atspi_protocol.specs.declared.news.part.PartName.{PartName}
+use Rattle.atspi_protocol.specs.declared.news.part.PartName.TheVariants.{Text, Caret, Columns}
 use Rattle.atspi_protocol.specs.news.Replies.{items_told}
 use Rattle.atspi_protocol.specs.objects.Application.{Application}
 use Rattle.atspi_protocol.specs.objects.Answers.{Answer, tells, items_data}
 use Rattle.atspi_protocol.specs.registering.Steps.{registry_takes}
 use Rattle.atspi_trace.specs.Entry.{Entry, sent, got}
-use Rattle.atspi_trace.specs.World.{Said, Letter, End, World}
+use Rattle.atspi_trace.specs.World.{Said, Letter, World}
 use Rattle.atspi_trace.specs.Ends.{same_party, number_of}
 use Rattle.atspi_trace.specs.Carrying as carrying
 use Rattle.atspi_trace.specs.Hearing.{question_in, heard_entries}
 use Rattle.atspi_trace.specs.Causes.{Done, app_starts, reader_starts}
 use Rattle.atspi_trace.specs.Due.{begins, Goes}
-use Rattle.atspi_lawful.specs.laws.Words.{message, as_of, question_if, own_call, answer_to as answer_of, answers_question}
-use Rattle.atspi_lawful.specs.laws.NineLaws.{Everywhere}
+use Rattle.atspi_lawful.specs.laws.Words.{message, added, before_sent, as_of, question_if, own_call, answer_to as answer_of, answers_question}
+use Rattle.atspi_lawful.specs.laws.NineLaws.{Everywhere, LawOfSteps}
 use Rattle.atspi_lawful.specs.order.Scripts.{CanAllStand}
 use Rattle.atspi_lawful.specs.signed.Laws.{IsItsName}
-use Rattle.atspi_lawful.specs.caches.Laws.{TellsItems}
-use Rattle.atspi_lawful.specs.answered.Laws.{IsItemsTold}
+use Rattle.atspi_lawful.specs.views.Laws.{StepsOnTree}
+use Rattle.atspi_lawful.specs.caches.Laws.{TellsItems, TellsPart}
+use Rattle.atspi_lawful.specs.answered.Laws.{IsItemsTold, IsPartTold}
 use Rattle.atspi_lawful.proofs.OfOrder.Parties.{no_none, same_some, party-same, false_true}
 use Rattle.atspi_lawful.proofs.OfOrder.Effects.{received, ReaderTakes, Effect, resets, app_joins, reader_joins, app_edited, app_took, reader_called, swapped, exited_, showed_, told_busy, told_quiet, bus_took, bus_ended, registry_took, reader_took}
 use Rattle.atspi_lawful.proofs.OfOrder.Along.{Keeps, kept}
@@ -50,11 +51,15 @@ use Rattle.atspi_lawful.proofs.OfHeard.Quiet.{heard_all}
 use Rattle.atspi_lawful.proofs.OfTaken.Said.{TellsOf}
 use Rattle.atspi_lawful.proofs.OfTaken.LawTaken.{NotGot, did_not_got, sent_not_got, bus_not_got}
 use Rattle.atspi_lawful.proofs.OfNames.LawEnds.{few_greeted}
-use Rattle.atspi_lawful.proofs.OfNames.Places.{greeted, name_told, told_is}
-use Rattle.atspi_lawful.proofs.OfSigned.Mail.{NameIs, Content, IsAnswerOf, IsCallOf, IsAnswer, IsOfBus, IsPost, IsMail}
+use Rattle.atspi_lawful.proofs.OfNames.Places.{greeted, told_is}
+use Rattle.atspi_lawful.proofs.OfSigned.Mail.{NameIs, Content, IsAnswerOf, IsCallOf, IsAnswer, IsPost, IsMail}
 use Rattle.atspi_lawful.proofs.OfSigned.Self.{unique_told, one_named, for_bus_true}
 use Rattle.atspi_lawful.proofs.OfSigned.LawMail.{Under_mail, Known_mail, mail_keeps}
+use Rattle.atspi_lawful.proofs.OfSteps.LawSteps.{steps_apply}
+use Rattle.atspi_lawful.proofs.OfViews.LawViews.{trees_stand}
 use Rattle.atspi_lawful.proofs.OfAnswered.Items.{its_registry, answers_items, told_items}
+use Rattle.atspi_lawful.proofs.OfAnswered.Parts.{part_answer, part_return, part_steps}
+use Rattle.atspi_lawful.proofs.OfAnswered.Counted.{sent_counted}
 
 -- A RETURN, AS A READER READS IT
 no_app_bus : (a : ℕ) → App a ≡ The_bus → ⊥
@@ -142,11 +147,16 @@ items_of_answer es r a first asked h name its tree = record {
     message_is = x.message ∙ ap (λ (y : Answer). record (reply_to h.caller h.call.serial y.reply) { serial = first.message.serial }) answered
 
 -- as the reader takes it
-app_items : (es : List Entry) (r a : ℕ) (letter : Letter) → length (greeted es) ≤ 1000 → letter.from ≡ App a → IsPost es (Reader r) letter → (name asked : List ℕ) (e : Envelope) → IsItsName es a name
-    → message es (App a) letter.said.message.serial ≡ Some e → answers_question es r (Some e) ≡ Some (GetItems asked) → TellsItems name (as_of es a letter.said.message.serial) e
-app_items es r a letter few from p name asked e its found answers =
-    subst (λ n. TellsItems name (as_of es a n) e) (sym serial)
-    (subst (TellsItems name (as_of es a p.first.message.serial)) same (items_of_answer es r a p.first asked (his_answer es r a letter (GetItems asked) few from p ret) name its tells.tree))
+pub record IsReplied (es : List Entry) (r a serial : ℕ) (question : Question) (e : Envelope) : Type 0 where
+  pub first : Said
+  pub his : IsHisAnswer es r a first question
+  pub same : first.message ≡ e
+  pub with_ : serial ≡ first.message.serial
+  pub tree : as_of es a first.message.serial ≡ first.tree
+
+app_replies : (es : List Entry) (r a : ℕ) (letter : Letter) → length (greeted es) ≤ 1000 → letter.from ≡ App a → IsPost es (Reader r) letter → (question : Question) (e : Envelope)
+    → message es (App a) letter.said.message.serial ≡ Some e → answers_question es r (Some e) ≡ Some question → IsReplied es r a letter.said.message.serial question e
+app_replies es r a letter few from p question e found answers = record { first = p.first; his = his_answer es r a letter question few from p ret; same = same; with_ = serial; tree = tells.tree }
   where
     serial : letter.said.message.serial ≡ p.first.message.serial
     serial = ap (λ (z : Said). z.message.serial) p.alike
@@ -157,14 +167,49 @@ app_items es r a letter few from p name asked e its found answers =
     same : p.first.message ≡ e
     same = same_some p.first.message e (sym was ∙ ap (message es (App a)) (sym serial) ∙ found)
 
-    ret : IsReturn es r p.first.message (GetItems asked)
-    ret = return_of es r p.first.message (GetItems asked) (ap (λ m. answers_question es r (Some m)) same ∙ answers)
+    ret : IsReturn es r p.first.message question
+    ret = return_of es r p.first.message question (ap (λ m. answers_question es r (Some m)) same ∙ answers)
 
     tells : TellsOf es (App a) p.first
     tells = subst (λ w. TellsOf es w p.first) from p.sent_.tells
 
+-- WHAT THE ANSWER TO A CALL FOR A PART TELLS
+part_call_answered : (app : Exporter) (name : List ℕ) (caller : List ℕ) (serial : ℕ) (asked path : List ℕ) (part : PartName)
+    → answer_to app name (record (asking serial (GetPart asked path part)) { sender = Some caller }) ≡ part_answer (named app name) path part
+part_call_answered app name caller serial asked path Text = refl
+part_call_answered app name caller serial asked path Caret = refl
+part_call_answered app name caller serial asked path Columns = refl
+
+part_of_answer : (es : List Entry) (r a : ℕ) (first : Said) (asked path : List ℕ) (part : PartName) → (h : IsHisAnswer es r a first (GetPart asked path part)) → (name : List ℕ) (most : ℕ) → first.message.kind ≡ 2
+    → as_of es a first.message.serial ≡ first.tree → ((m : ℕ) → 1 ≤ count (is_node m) (as_of es a first.message.serial) → m ≤ most) → TellsPart name (as_of es a first.message.serial) most path part first.message
+part_of_answer es r a first asked path part h name most two tree low =
+    subst (λ f. TellsPart name f most path part first.message) (sym tree_is)
+    (part_return name h.caller h.call.serial first.message.serial app x.app.added most path part first.message x.has (λ m there. low m (subst (λ f. 1 ≤ count (is_node m) f) (sym tree_is) there)) message_is two)
+  where
+    x : IsAnswerOf es a first h.call h.caller
+    x = h.answer
+
+    app : Application
+    app = named x.app x.name
+
+    answered : answer_to x.app x.name h.call ≡ part_answer app path part
+    answered = ap (answer_to x.app x.name) h.spelled ∙ part_call_answered x.app x.name h.caller h.serial asked path part
+
+    message_is : first.message ≡ record (reply_to h.caller h.call.serial (part_answer app path part).reply) { serial = first.message.serial }
+    message_is = x.message ∙ ap (λ (y : Answer). record (reply_to h.caller h.call.serial y.reply) { serial = first.message.serial }) answered
+
+    tree_is : as_of es a first.message.serial ≡ x.app.tree
+    tree_is =
+        tree ∙ x.tree ∙ ap (λ (y : Answer). after_all rows x.app.tree y.steps) answered
+        ∙ ap (after_all rows x.app.tree) (part_steps h.call.serial first.message.serial h.caller app x.app.added path part first.message x.has message_is two)
+
+-- whatever a reader takes of an application as a reply to its own call is so known
+abbrev pub IsKnown : List Entry → Entry → List Entry → Type 0
+IsKnown before (got (Reader r) (App a) serial) behind = (question : Question) (e : Envelope) → message before (App a) serial ≡ Some e → answers_question before r (Some e) ≡ Some question → IsReplied before r a serial question e
+IsKnown before entry behind = Unit {0}
+
 -- THE LAW OF LISTS
-weaker : (ys before : List Entry) (entry : Entry) (behind : List Entry) → IsItemsTold before entry behind → IsItemsTold before entry (behind ++ ys)
+weaker : (ys before : List Entry) (entry : Entry) (behind : List Entry) → IsKnown before entry behind → IsKnown before entry (behind ++ ys)
 weaker ys before (got (Reader r) (App a) serial) behind h = h
 weaker ys before (got (Reader r) The_bus serial) behind h = tt
 weaker ys before (got (Reader r) Registry serial) behind h = tt
@@ -174,40 +219,40 @@ weaker ys before (got Registry from serial) behind h = tt
 weaker ys before (got (App a) from serial) behind h = tt
 weaker ys before entry behind h = tt
 
-all_weaker : (ys early xs : List Entry) → Each IsItemsTold early xs → Each (λ before entry behind. IsItemsTold before entry (behind ++ ys)) early xs
+all_weaker : (ys early xs : List Entry) → Each IsKnown early xs → Each (λ before entry behind. IsKnown before entry (behind ++ ys)) early xs
 all_weaker ys early [] e = tt
 all_weaker ys early (x ∷ xs) e = (weaker ys early x xs e.0, all_weaker ys (early ++ x ∷ []) xs e.1)
 
-law_more : (es ys : List Entry) → Each IsItemsTold [] es → Each IsItemsTold es ys → Each IsItemsTold [] (es ++ ys)
-law_more es ys a b = each_more IsItemsTold [] es ys (all_weaker ys [] es a) b
+law_more : (es ys : List Entry) → Each IsKnown [] es → Each IsKnown es ys → Each IsKnown [] (es ++ ys)
+law_more es ys a b = each_more IsKnown [] es ys (all_weaker ys [] es a) b
 
-quiet_law : (before : List Entry) (entry : Entry) (behind : List Entry) → NotGot entry → IsItemsTold before entry behind
+quiet_law : (before : List Entry) (entry : Entry) (behind : List Entry) → NotGot entry → IsKnown before entry behind
 quiet_law before (got taker sender serial) behind h = absurd h
 quiet_law before entry behind h = tt
 
-quietly : (es ys : List Entry) → Each IsItemsTold [] es → AllByRecursion NotGot ys → Each IsItemsTold [] (es ++ ys)
-quietly es ys law q = law_more es ys law (each_of NotGot IsItemsTold es ys quiet_law q)
+quietly : (es ys : List Entry) → Each IsKnown [] es → AllByRecursion NotGot ys → Each IsKnown [] (es ++ ys)
+quietly es ys law q = law_more es ys law (each_of NotGot IsKnown es ys quiet_law q)
 
 not_got_of : (d x : Done) → d ≡ x → AllByRecursion NotGot x.entries → AllByRecursion NotGot d.entries
 not_got_of d x is a = subst (λ y. AllByRecursion NotGot y.entries) (sym is) a
 
 -- an end that is no reader takes a message
-other_got : (who from : Party) (serial : ℕ) (es ys : List Entry) → ((r : ℕ) → who ≡ Reader r → ⊥) → Each IsItemsTold [] es → AllByRecursion NotGot ys → Each IsItemsTold [] (es ++ got who from serial ∷ ys)
-other_got who from serial es ys never law q = law_more es (got who from serial ∷ ys) law (first who never, each_of NotGot IsItemsTold (es ++ got who from serial ∷ []) ys quiet_law q)
+other_got : (who from : Party) (serial : ℕ) (es ys : List Entry) → ((r : ℕ) → who ≡ Reader r → ⊥) → Each IsKnown [] es → AllByRecursion NotGot ys → Each IsKnown [] (es ++ got who from serial ∷ ys)
+other_got who from serial es ys never law q = law_more es (got who from serial ∷ ys) law (first who never, each_of NotGot IsKnown (es ++ got who from serial ∷ []) ys quiet_law q)
   where
-    first : (p : Party) → ((r : ℕ) → p ≡ Reader r → ⊥) → IsItemsTold es (got p from serial) ys
+    first : (p : Party) → ((r : ℕ) → p ≡ Reader r → ⊥) → IsKnown es (got p from serial) ys
     first The_bus f = tt
     first Registry f = tt
     first (App a) f = tt
     first (Reader r) f = absurd (f r refl)
 
 -- a reader
-reader_got : (es : List Entry) (w : World) (d : Done) → length (greeted es) ≤ 1000 → Known_mail es w → Each IsItemsTold [] es → ReaderTakes w d → Each IsItemsTold [] (es ++ d.entries)
+reader_got : (es : List Entry) (w : World) (d : Done) → length (greeted es) ≤ 1000 → Known_mail es w → Each IsKnown [] es → ReaderTakes w d → Each IsKnown [] (es ++ d.entries)
 reader_got es w d few i law b =
-    subst (λ l. Each IsItemsTold [] (es ++ l)) (sym wrote)
+    subst (λ l. Each IsKnown [] (es ++ l)) (sym wrote)
     (law_more es (got (Reader b.reader) b.letter.from b.letter.said.message.serial ∷ rest) law (
       first b.letter.from refl,
-      each_of NotGot IsItemsTold (es ++ got (Reader b.reader) b.letter.from b.letter.said.message.serial ∷ []) rest quiet_law (heard_all NotGot (λ r app line. tt) (λ r app. tt) (number_of b.e.who) b.hearer (received w b.conn b.e b.letter).ends b.letter),
+      each_of NotGot IsKnown (es ++ got (Reader b.reader) b.letter.from b.letter.said.message.serial ∷ []) rest quiet_law (heard_all NotGot (λ r app line. tt) (λ r app. tt) (number_of b.e.who) b.hearer (received w b.conn b.e b.letter).ends b.letter),
     ))
   where
     rest : List Entry
@@ -219,11 +264,11 @@ reader_got es w d few i law b =
     mail : IsMail es (Reader b.reader) b.letter
     mail = subst (λ p. IsMail es p b.letter) b.whose (subst (AllByRecursion (IsMail es b.e.who)) b.link (i.0.downs b.conn b.e b.is_here.there b.is_here.standing)).0
 
-    of_app : (a : ℕ) → b.letter.from ≡ App a → IsMail es (Reader b.reader) b.letter → IsItemsTold es (got (Reader b.reader) (App a) b.letter.said.message.serial) rest
+    of_app : (a : ℕ) → b.letter.from ≡ App a → IsMail es (Reader b.reader) b.letter → IsKnown es (got (Reader b.reader) (App a) b.letter.said.message.serial) rest
     of_app a from (inl m) = absurd (no_app_bus a (sym from ∙ m.from))
-    of_app a from (inr p) = λ name asked e its found answers. app_items es b.reader a b.letter few from p name asked e its found answers
+    of_app a from (inr p) = λ question e found answers. app_replies es b.reader a b.letter few from p question e found answers
 
-    first : (from : Party) → b.letter.from ≡ from → IsItemsTold es (got (Reader b.reader) from b.letter.said.message.serial) rest
+    first : (from : Party) → b.letter.from ≡ from → IsKnown es (got (Reader b.reader) from b.letter.said.message.serial) rest
     first The_bus h = tt
     first Registry h = tt
     first (Reader q) h = tt
@@ -240,7 +285,7 @@ no_reader_bus r h = false_true (ap (λ p. same_party p (Reader r)) h ∙ party-s
 
 -- EACH CAUSE
 abbrev pub Answered : List Entry → World → Type 0
-Answered es w = Each IsItemsTold [] es
+Answered es w = Each IsKnown [] es
 
 caused : (es : List Entry) (w : World) (d : Done) → length (greeted es) ≤ 1000 → Known_mail es w → Answered es w → Effect w d → Answered (es ++ d.entries) d.world
 caused es w d few k i (resets quota old is) = quietly es d.entries i (not_got_of d _ is tt)
@@ -280,11 +325,11 @@ answered_grows = record {
 answered_keeps : Keeps (Shaped (And Under_answered Answered))
 answered_keeps = grown Under_answered Answered mail_keeps answered_grows
 
-each_front : (xs ys : List Entry) (early : List Entry) → Each IsItemsTold early (xs ++ ys) → Each IsItemsTold early xs
+each_front : (xs ys : List Entry) (early : List Entry) → Each IsKnown early (xs ++ ys) → Each IsKnown early xs
 each_front [] ys early e = tt
 each_front (x ∷ xs) ys early e = (fewer x e.0, each_front xs ys (early ++ x ∷ []) e.1)
   where
-    fewer : (entry : Entry) → IsItemsTold early entry (xs ++ ys) → IsItemsTold early entry xs
+    fewer : (entry : Entry) → IsKnown early entry (xs ++ ys) → IsKnown early entry xs
     fewer (got (Reader r) (App a) serial) law = law
     fewer (got (Reader r) The_bus serial) law = tt
     fewer (got (Reader r) Registry serial) law = tt
@@ -294,7 +339,45 @@ each_front (x ∷ xs) ys early e = (fewer x e.0, each_front xs ys (early ++ x �
     fewer (got (App a) from serial) law = tt
     fewer entry law = tt
 
-pub items_law : (lines : List Line) (trace : List Entry) → CanAllStand lines → Goes (begins lines) trace → Everywhere IsItemsTold trace
-items_law lines trace a g =
+pub replies_known : (lines : List Line) (trace : List Entry) → CanAllStand lines → Goes (begins lines) trace → Everywhere IsKnown trace
+replies_known lines trace a g =
     let k = kept (Shaped (And Under_answered Answered)) answered_keeps lines trace a g in
-    everywhere IsItemsTold trace (each_front trace _ [] k.state.1.1)
+    everywhere IsKnown trace (each_front trace _ [] k.state.1.1)
+
+-- so items are told
+items_of_known : (before : List Entry) (entry : Entry) (behind : List Entry) → IsKnown before entry behind → IsItemsTold before entry behind
+items_of_known before (got (Reader r) (App a) serial) behind h = λ name asked e its found answers.
+    let x = h (GetItems asked) e found answers in
+    subst (λ n. TellsItems name (as_of before a n) e) (sym x.with_) (subst (TellsItems name (as_of before a x.first.message.serial)) x.same (items_of_answer before r a x.first asked x.his name its x.tree))
+items_of_known before (got (Reader r) The_bus serial) behind h = tt
+items_of_known before (got (Reader r) Registry serial) behind h = tt
+items_of_known before (got (Reader r) (Reader q) serial) behind h = tt
+items_of_known before (got The_bus from serial) behind h = tt
+items_of_known before (got Registry from serial) behind h = tt
+items_of_known before (got (App a) from serial) behind h = tt
+items_of_known before entry behind h = tt
+
+pub items_law : (lines : List Line) (trace : List Entry) → CanAllStand lines → Goes (begins lines) trace → Everywhere IsItemsTold trace
+items_law lines trace a g = λ before entry behind is. items_of_known before entry behind (replies_known lines trace a g before entry behind is)
+
+-- and parts
+module _ (T : List Entry) (trees : Everywhere StepsOnTree T) (steps : LawOfSteps T) where
+  parts_of_known : (before : List Entry) (entry : Entry) (behind : List Entry) → T ≡ before ++ entry ∷ behind → IsKnown before entry behind → IsPartTold before entry behind
+  parts_of_known before (got (Reader r) (App a) serial) behind at h = λ name asked path part e found answers.
+      let x = h (GetPart asked path part) e found answers in
+      let ret = return_of before r e (GetPart asked path part) answers in
+      let low = sent_counted T a trees steps before (got (Reader r) (App a) serial ∷ behind) at x.first.message.serial in
+      subst (λ n. TellsPart name (as_of before a n) (added (before_sent (App a) n before) a) path part e) (sym x.with_)
+      (subst (TellsPart name (as_of before a x.first.message.serial) (added (before_sent (App a) x.first.message.serial before) a) path part) x.same
+      (part_of_answer before r a x.first asked path part x.his name (added (before_sent (App a) x.first.message.serial before) a) (ap (λ (m : Envelope). m.kind) x.same ∙ ret.two) x.tree low))
+  parts_of_known before (got (Reader r) The_bus serial) behind at h = tt
+  parts_of_known before (got (Reader r) Registry serial) behind at h = tt
+  parts_of_known before (got (Reader r) (Reader q) serial) behind at h = tt
+  parts_of_known before (got The_bus from serial) behind at h = tt
+  parts_of_known before (got Registry from serial) behind at h = tt
+  parts_of_known before (got (App a) from serial) behind at h = tt
+  parts_of_known before entry behind at h = tt
+
+pub parts_law : (lines : List Line) (trace : List Entry) → CanAllStand lines → Goes (begins lines) trace → Everywhere IsPartTold trace
+parts_law lines trace a g = λ before entry behind is.
+    parts_of_known trace (trees_stand lines trace a g) (steps_apply lines trace a g) before entry behind is (replies_known lines trace a g before entry behind is)

@@ -11,7 +11,7 @@ use Rattle.atspi_forest.specs.declared.step.Step.{Step}
 use Rattle.atspi_forest.specs.declared.step.Step.TheVariants.{Add, Remove, Move, SetName, SetDescription, SetRole, SetState, Insert, Delete, Caret, TextSelect, Relate}
 use Rattle.atspi_forest.specs.declared.view.Row.{Row}
 use Rattle.atspi_forest.specs.Forest.{Forest, labels, width, pick, find, children_at}
-use Rattle.atspi_forest.specs.Row.{TreeRow}
+use Rattle.atspi_forest.specs.Row.{TreeRow, Each}
 use Rattle.atspi_forest.specs.RowRules.{rows}
 use Rattle.atspi_forest.specs.Tree.{is_node, first_tree, after, added_after, seat_of}
 use Rattle.atspi_forest.specs.Path.{path_of}
@@ -19,6 +19,8 @@ use Rattle.atspi_forest.specs.View.{Told, view}
 use Rattle.atspi_forest.specs.News.{effect}
 use Rattle.atspi_forest.specs.Announce.{announcement, echoes, Idle}
 use Rattle.atspi_forest.specs.Laws.{UntoldOfNew}
+use Rattle.atspi_speech.specs.Speech.{lines as read_lines, says_after}
+use Rattle.atspi_speech.proofs.DueLemmas.{echoes_silent}
 use Rattle.atspi_lines.specs.declared.line.Party.TheVariants.{App}
 use Rattle.atspi_message.specs.Envelope.{Envelope}
 use Rattle.atspi_protocol.specs.ends.Messages.{numbered}
@@ -196,36 +198,60 @@ echoes_stay early app name parts (Caret n at) c = tt
 echoes_stay early app name parts (TextSelect n marks) c = tt
 echoes_stay early app name parts (Relate n kind targets) c = tt
 
-stays_in : (name : List ℕ) (v : Forest Row) (xs : List Signal) → AllByRecursion (Stays name v) (map (news_in name) xs) → AllByRecursion (λ (s : Signal). (m : ℕ) → Stays name v (news_of name (record s.message { serial = m }))) xs
-stays_in name v [] a = tt
-stays_in name v (x ∷ xs) a = ((λ m. a.0), stays_in name v xs a.1)
+-- what holds of the news of some signals holds of the news of their messages
+news_in_each : (name : List ℕ) (P : News → Type 0) (xs : List Signal) → AllByRecursion P (map (news_in name) xs) → AllByRecursion (λ (s : Signal). (m : ℕ) → P (news_of name (record s.message { serial = m }))) xs
+news_in_each name P [] a = tt
+news_in_each name P (x ∷ xs) a = ((λ m. a.0), news_in_each name P xs a.1)
 
 -- of the signals that a step sends, each behind the first is an echo
-pub echo_messages : (early : List Entry) (app : ℕ) (name : List ℕ) (parts : List ℕ → Told) (step : Step) → IsCarried early app step
-    → AllByRecursion (OfMessage (λ e. Stays name (view parts (live_tree (early ++ changed app step ∷ []) app)) (news_of name e)) app) (behind_first (signals_under name early app step))
-echo_messages early app name parts step c =
+pub echo_news : (early : List Entry) (app : ℕ) (name : List ℕ) (step : Step) (P : News → Type 0) → IsCarried early app step → AllByRecursion P (echoes name (live_tree early app) step)
+    → AllByRecursion (OfMessage (λ e. P (news_of name e)) app) (behind_first (signals_under name early app step))
+echo_news early app name step P c holds =
     by (asked_for (heard_pairs early app) (announced name (live_tree early app) step))
     (asked_behind Good (heard_pairs early app) (announced name (live_tree early app) step) (good (announced name (live_tree early app) step) refl))
   where
-    v : Forest Row
-    v = view parts (live_tree (early ++ changed app step ∷ []) app)
-
     Good : Signal → Type 0
-    Good s = (m : ℕ) → Stays name v (news_of name (record s.message { serial = m }))
+    Good s = (m : ℕ) → P (news_of name (record s.message { serial = m }))
 
     good : (l : List Signal) → announced name (live_tree early app) step ≡ l → AllByRecursion Good (behind_first l)
     good [] h = tt
-    good (x ∷ more) h =
-        let is = announced_step early app name step x more c h in
-        stays_in name v more (subst (AllByRecursion (Stays name v)) (sym is.rest) (echoes_stay early app name parts step c))
+    good (x ∷ more) h = let is = announced_step early app name step x more c h in news_in_each name P more (subst (AllByRecursion P) (sym is.rest) holds)
 
     n : ℕ
     n = suc (length (messages early (App app)))
 
     by : (l : List Signal) → AllByRecursion Good (behind_first l)
-        → AllByRecursion (OfMessage (λ e. Stays name v (news_of name e)) app) (behind_first (map (sent (App app)) (numbered n (map (λ (s : Signal). s.message) l))))
+        → AllByRecursion (OfMessage (λ e. P (news_of name e)) app) (behind_first (map (sent (App app)) (numbered n (map (λ (s : Signal). s.message) l))))
     by [] a = tt
-    by (x ∷ xs) a = sent_each (λ e. Stays name v (news_of name e)) app (n + 1) xs a
+    by (x ∷ xs) a = sent_each (λ e. P (news_of name e)) app (n + 1) xs a
+
+pub echo_messages : (early : List Entry) (app : ℕ) (name : List ℕ) (parts : List ℕ → Told) (step : Step) → IsCarried early app step
+    → AllByRecursion (OfMessage (λ e. Stays name (view parts (live_tree (early ++ changed app step ∷ []) app)) (news_of name e)) app) (behind_first (signals_under name early app step))
+echo_messages early app name parts step c = echo_news early app name step (Stays name (view parts (live_tree (early ++ changed app step ∷ []) app))) c (echoes_stay early app name parts step c)
+
+-- and nothing is spoken at it
+pub echo_lines : (early : List Entry) (app : ℕ) (name : List ℕ) (v : Forest Row) (step : Step) → IsCarried early app step
+    → AllByRecursion (OfMessage (λ e. read_lines (path_of 0) name v (news_of name e) ≡ []) app) (behind_first (signals_under name early app step))
+echo_lines early app name v step c = echo_news early app name step (λ news. read_lines (path_of 0) name v news ≡ []) c (all_of (echoes name (live_tree early app) step) (echoes_silent name (live_tree early app) v step))
+  where
+    all_of : (xs : List News) → Each (λ news. read_lines (path_of 0) name v news ≡ []) xs → AllByRecursion (λ news. read_lines (path_of 0) name v news ≡ []) xs
+    all_of [] a = tt
+    all_of (x ∷ xs) a = (a.0, all_of xs a.1)
+
+-- nothing is due at a step that is announced by nothing
+pub none_due : (name : List ℕ) (f g : Forest TreeRow) (step : Step) → IsSilent name f step → says_after g step ≡ []
+none_due name f g (Add n p i seed) s = absurd (no_cons (announcement name f (Add n p i seed)) (echoes name f (Add n p i seed)) (sym s.none))
+none_due name f g (Remove n) s = refl
+none_due name f g (Move n p i) s = refl
+none_due name f g (SetName n x) s = absurd (no_cons (announcement name f (SetName n x)) (echoes name f (SetName n x)) (sym s.none))
+none_due name f g (SetDescription n x) s = refl
+none_due name f g (SetRole n role) s = refl
+none_due name f g (SetState n state on) s = absurd (no_cons (announcement name f (SetState n state on)) (echoes name f (SetState n state on)) (sym s.none))
+none_due name f g (Insert n at x) s = absurd (no_cons (announcement name f (Insert n at x)) (echoes name f (Insert n at x)) (sym s.none))
+none_due name f g (Delete n at x) s = absurd (no_cons (announcement name f (Delete n at x)) (echoes name f (Delete n at x)) (sym s.none))
+none_due name f g (Caret n at) s = refl
+none_due name f g (TextSelect n marks) s = refl
+none_due name f g (Relate n kind targets) s = refl
 
 pub signal_messages : (early : List Entry) (app : ℕ) (name : List ℕ) (step : Step) → AllByRecursion (OfMessage (λ e. e.kind ≡ 4) app) (signals_under name early app step)
 signal_messages early app name step =

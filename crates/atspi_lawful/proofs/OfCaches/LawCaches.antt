@@ -14,14 +14,17 @@ use Rattle.atspi_forest.specs.declared.view.Row.{Row}
 use Rattle.atspi_forest.specs.Forest.{Forest}
 use Rattle.atspi_forest.specs.Path.{path_of}
 use Rattle.atspi_forest.specs.Row.{TreeRow}
-use Rattle.atspi_forest.specs.Tree.{added_after}
-use Rattle.atspi_forest.specs.View.{Told, view}
+use Rattle.atspi_forest.specs.Tree.{added_after, after}
+use Rattle.atspi_forest.specs.View.{Told, view, nothing_told}
 use Rattle.atspi_forest.specs.News.{effect, load}
 use Rattle.atspi_forest.specs.Laws.{UntoldOfNew}
 use Rattle.atspi_forest.proofs.Path.{path_of_apart}
+use Rattle.atspi_speech.specs.Speech.{lines as read_lines, says_after, closing_lines, closing_says}
+use Rattle.atspi_speech.proofs.DueLemmas.{says_due, closes_due}
+use Rattle.atspi_forest.specs.RowRules.{rows}
 use Rattle.atspi_lines.specs.declared.line.Line.{Line}
 use Rattle.atspi_lines.specs.declared.line.Party.{Party}
-use Rattle.atspi_lines.specs.declared.line.Party.TheVariants.{App, Reader}
+use Rattle.atspi_lines.specs.declared.line.Party.TheVariants.{Bus as The_bus, Registry, App, Reader}
 use Rattle.atspi_message.specs.Envelope.{Envelope}
 use Rattle.atspi_protocol.specs.ends.Messages.{numbered}
 use Rattle.atspi_protocol.specs.announcing.Signals.{Signal}
@@ -45,9 +48,9 @@ use Rattle.atspi_lawful.specs.laws.Words.{tree_after, live_tree, added, messages
 use Rattle.atspi_lawful.specs.laws.NineLaws.{Everywhere, WasSent, LawOfLinks, StepIsOne}
 use Rattle.atspi_lawful.specs.order.Scripts.{CanAllStand}
 use Rattle.atspi_lawful.specs.heard.Laws.{signals_under, IsAmong}
-use Rattle.atspi_lawful.specs.views.Laws.{IsCarried, StepIsCarried}
+use Rattle.atspi_lawful.specs.views.Laws.{IsCarried, StepIsCarried, StepsOnTree}
 use Rattle.atspi_lawful.specs.caches.Caches.{unasked, with_items, with_part, replied, reads, reads_if, follows_after, follows_on, followed}
-use Rattle.atspi_lawful.specs.caches.Laws.{TellsItems, TellsPart, MissesNothing, IsLoad, IsServed, CacheIs}
+use Rattle.atspi_lawful.specs.caches.Laws.{TellsItems, TellsPart, MissesNothing, IsLoad, IsServed, CacheIs, IsRead, ReadsAt, ReadsDue}
 use Rattle.atspi_lawful.proofs.OfOrder.Parties.{no_none, same_some, same-party, party-same, false_true, all_append, all_back, all_front}
 use Rattle.atspi_lawful.proofs.OfSteps.Trees.{tree_more, count_more}
 use Rattle.atspi_lawful.proofs.OfSteps.LawSteps.{steps_apply}
@@ -55,13 +58,13 @@ use Rattle.atspi_lawful.proofs.OfSerials.Serial.{messages_more}
 use Rattle.atspi_lawful.proofs.OfTaken.Found.{found_more, front_more, looked, look_is}
 use Rattle.atspi_lawful.proofs.OfDelivered.LawLinks.{links_hold}
 use Rattle.atspi_lawful.proofs.OfHeld.Keeping.{held_more}
-use Rattle.atspi_lawful.proofs.OfViews.LawViews.{announcements_carry}
+use Rattle.atspi_lawful.proofs.OfViews.LawViews.{announcements_carry, trees_stand}
 use Rattle.atspi_lawful.specs.signed.Laws.{IsItsName}
 use Rattle.atspi_lawful.proofs.OfSigned.LawSigned.{signed_law}
-use Rattle.atspi_lawful.proofs.OfAnswered.LawAnswered.{items_law}
+use Rattle.atspi_lawful.proofs.OfAnswered.LawAnswered.{items_law, parts_law}
 use Rattle.atspi_lawful.proofs.OfCaches.Served.{Tells, IsWholly, wholly}
 use Rattle.atspi_lawful.proofs.OfCaches.Starts.{StartsAnew, starts_anew}
-use Rattle.atspi_lawful.proofs.OfCaches.Between.{IsStep, OfMessage, behind_first, echo_messages, signal_messages, announced_step, IsAnnounced, SameViews, AllSilent, Walked, walk}
+use Rattle.atspi_lawful.proofs.OfCaches.Between.{IsStep, OfMessage, behind_first, echo_messages, signal_messages, announced_step, IsAnnounced, SameViews, AllSilent, Walked, walk, echo_lines, none_due, silent_step, OneStep}
 
 -- A MESSAGE IN ITS PLACE
 -- the message with a serial stands behind what stands before it
@@ -165,6 +168,10 @@ sends_same app P f [] a = refl
 sends_same app P f (sent (App n) e ∷ es) a = sends_same app P f es a.1
 sends_same app P f (x ∷ es) a = absurd a.0
 
+abbrev step_or : Step → Entry → Step
+step_or d (changed a step) = step
+step_or d entry = d
+
 -- THE NEWS OF THE NEXT MESSAGE
 news_none : (name : List ℕ) (e : Envelope) → (e.kind == 4) ≡ false → news_of name e ≡ Nothing
 news_none name e h = rw h refl
@@ -206,8 +213,30 @@ module _ (T : List Entry) (name : List ℕ) (reader app : ℕ) (served : IsWholl
             mine true g k = no_end xs m.first (sym k)
             mine false g k = absurd (false_true g)
 
-    -- a signal of which no step stands between is an echo
-    echoes_only : (parts : List ℕ → Told) → AllSilent name early m.between app → e.kind ≡ 4 → effect (path_of 0) name (view parts (live_tree now app)) (news_of name e) ≡ view parts (live_tree now app)
+    -- where the last entry is a step, and all that stand between are silent, it is announced by nothing
+    ended_with : AllSilent name early m.between app → (xs : List Entry) (step : Step) → now ≡ xs ++ changed app step ∷ [] → announced name (live_tree xs app) step ≡ []
+    ended_with silent xs step is = by (from_end m.between)
+      where
+        ends : early ++ m.between ≡ xs ++ changed app step ∷ []
+        ends = sym is_now ∙ is
+
+        by : ((m.between ≡ []) ⊎ Ended m.between) → announced name (live_tree xs app) step ≡ []
+        by (inl h) =
+            let same : sent (App app) m.first ≡ changed app step =
+            sym (last_end (sent (App app) m.first) earlier (sent (App app) m.first)) ∙ ap (last_or (sent (App app) m.first)) (sym (append-nil early) ∙ ap (λ l. early ++ l) (sym h) ∙ ends)
+            ∙ last_end (sent (App app) m.first) xs (changed app step) in
+            absurd (subst IsStep (sym same) tt)
+        by (inr z) =
+            let joined : (early ++ z.front) ++ z.last ∷ [] ≡ xs ++ changed app step ∷ [] = append_assoc early z.front (z.last ∷ []) ∙ ap (λ l. early ++ l) (sym z.is) ∙ ends in
+            let last_is : z.last ≡ changed app step = sym (last_end z.last (early ++ z.front) z.last) ∙ ap (last_or z.last) joined ∙ last_end z.last xs (changed app step) in
+            let front_is : early ++ z.front ≡ xs = sym (but_end (early ++ z.front) z.last) ∙ ap but_last joined ∙ but_end xs (changed app step) in
+            ap (λ l. announced name (live_tree l app) step) (sym front_is) ∙ silent.silent z.front [] step (z.is ∙ ap (λ l. z.front ++ l ∷ []) last_is)
+
+    -- a signal of which no step stands between is an echo: it changes nothing, and nothing is read from it
+    abbrev IsEcho : (List ℕ → Told) → Type 0
+    IsEcho parts = (effect (path_of 0) name (view parts (live_tree now app)) (news_of name e) ≡ view parts (live_tree now app)) × ((v : Forest Row) → read_lines (path_of 0) name v (news_of name e) ≡ [])
+
+    echoes_only : (parts : List ℕ → Told) → AllSilent name early m.between app → e.kind ≡ 4 → IsEcho parts
     echoes_only parts silent four = by a.front refl
       where
         x : (among : IsAmong now app e) × (among.name ≡ name)
@@ -225,40 +254,24 @@ module _ (T : List Entry) (name : List ℕ) (reader app : ℕ) (served : IsWholl
         all_four : AllByRecursion (OfMessage (λ y. y.kind ≡ 4) app) (a.front ++ sent (App app) e ∷ a.back)
         all_four = subst (AllByRecursion (OfMessage (λ y. y.kind ≡ 4) app)) listed (signal_messages a.early app name a.step)
 
+        nothing_listed : announced name (live_tree a.early app) a.step ≡ [] → signals_under name a.early app a.step ≡ a.front ++ sent (App app) e ∷ a.back → ⊥
+        nothing_listed h l = by_list (announced name (live_tree a.early app) a.step) h l
+          where
+            empty : {X : Type 0} (xs : List X) (x : X) (ys : List X) → [] ≡ xs ++ x ∷ ys → ⊥
+            empty [] x ys g = absurd (omega (arith, ap length g))
+            empty (y ∷ zs) x ys g = absurd (omega (arith, ap length g))
+
+            by_list : (xs : List Signal) → xs ≡ [] → map (sent (App app)) (numbered (suc (length (messages a.early (App app)))) (map (λ (s : Signal). s.message) (asked_for (heard_pairs a.early app) xs))) ≡ a.front ++ sent (App app) e ∷ a.back → ⊥
+            by_list [] g k = empty a.front (sent (App app) e) a.back k
+            by_list (y ∷ ys) g k = absurd (omega (arith, ap length g))
+
         -- the step itself would stand last
         no_front : a.front ≡ [] → ⊥
-        no_front none = by (from_end m.between)
-          where
-            ends : early ++ m.between ≡ a.early ++ changed app a.step ∷ []
-            ends = sym is_now ∙ a.stands ∙ ap (λ l. a.early ++ changed app a.step ∷ l) none
-
-            by : ((m.between ≡ []) ⊎ Ended m.between) → ⊥
-            by (inl h) =
-                let same : sent (App app) m.first ≡ changed app a.step =
-                sym (last_end (sent (App app) m.first) earlier (sent (App app) m.first)) ∙ ap (last_or (sent (App app) m.first)) (sym (append-nil early) ∙ ap (λ l. early ++ l) (sym h) ∙ ends)
-                ∙ last_end (sent (App app) m.first) a.early (changed app a.step) in
-                subst IsStep (sym same) tt
-            by (inr z) =
-                let joined : (early ++ z.front) ++ z.last ∷ [] ≡ a.early ++ changed app a.step ∷ [] = append_assoc early z.front (z.last ∷ []) ∙ ap (λ l. early ++ l) (sym z.is) ∙ ends in
-                let last_is : z.last ≡ changed app a.step = sym (last_end z.last (early ++ z.front) z.last) ∙ ap (last_or z.last) joined ∙ last_end z.last a.early (changed app a.step) in
-                let front_is : early ++ z.front ≡ a.early = sym (but_end (early ++ z.front) z.last) ∙ ap but_last joined ∙ but_end a.early (changed app a.step) in
-                let quiet : announced name (live_tree (early ++ z.front) app) a.step ≡ [] = silent.silent z.front [] a.step (z.is ∙ ap (λ l. z.front ++ l ∷ []) last_is) in
-                nothing_listed (ap (λ l. announced name (live_tree l app) a.step) (sym front_is) ∙ quiet) listed
-              where
-                nothing_listed : announced name (live_tree a.early app) a.step ≡ [] → signals_under name a.early app a.step ≡ a.front ++ sent (App app) e ∷ a.back → ⊥
-                nothing_listed h l = by_list (announced name (live_tree a.early app) a.step) h l
-                  where
-                    empty : {X : Type 0} (xs : List X) (x : X) (ys : List X) → [] ≡ xs ++ x ∷ ys → ⊥
-                    empty [] x ys g = absurd (omega (arith, ap length g))
-                    empty (y ∷ zs) x ys g = absurd (omega (arith, ap length g))
-
-                    by_list : (xs : List Signal) → xs ≡ [] → map (sent (App app)) (numbered (suc (length (messages a.early (App app)))) (map (λ (s : Signal). s.message) (asked_for (heard_pairs a.early app) xs))) ≡ a.front ++ sent (App app) e ∷ a.back → ⊥
-                    by_list [] g k = empty a.front (sent (App app) e) a.back k
-                    by_list (y ∷ ys) g k = absurd (omega (arith, ap length g))
+        no_front none = nothing_listed (ended_with silent a.early a.step (a.stands ∙ ap (λ l. a.early ++ changed app a.step ∷ l) none)) listed
 
         -- behind other signals of the step, which are the last messages before it
-        behind_others : (f : Entry) (fs : List Entry) → a.front ≡ f ∷ fs → effect (path_of 0) name (view parts (live_tree now app)) (news_of name e) ≡ view parts (live_tree now app)
-        behind_others f fs is = subst (λ v. effect (path_of 0) name v (news_of name e) ≡ v) (sym tree_same) echo
+        behind_others : (f : Entry) (fs : List Entry) → a.front ≡ f ∷ fs → IsEcho parts
+        behind_others f fs is = (subst (λ v. effect (path_of 0) name v (news_of name e) ≡ v) (sym tree_same) echo, silence)
           where
             echo_entry : OfMessage (λ y. effect (path_of 0) name (view parts (live_tree (a.early ++ changed app a.step ∷ []) app)) (news_of name y) ≡ view parts (live_tree (a.early ++ changed app a.step ∷ []) app)) app (sent (App app) e)
             echo_entry =
@@ -268,12 +281,20 @@ module _ (T : List Entry) (name : List ℕ) (reader app : ℕ) (served : IsWholl
             echo : effect (path_of 0) name (view parts (live_tree (a.early ++ changed app a.step ∷ []) app)) (news_of name e) ≡ view parts (live_tree (a.early ++ changed app a.step ∷ []) app)
             echo = echo_entry.1
 
+            silent_entry : (v : Forest Row) → OfMessage (λ y. read_lines (path_of 0) name v (news_of name y) ≡ []) app (sent (App app) e)
+            silent_entry v =
+                (all_back _ fs (sent (App app) e ∷ a.back)
+                (subst (AllByRecursion _) (ap behind_first (listed ∙ ap (λ l. l ++ sent (App app) e ∷ a.back) is)) (echo_lines a.early app name v a.step c))).0
+
+            silence : (v : Forest Row) → read_lines (path_of 0) name v (news_of name e) ≡ []
+            silence v = (silent_entry v).1
+
             tree_same : view parts (live_tree now app) ≡ view parts (live_tree (a.early ++ changed app a.step ∷ []) app)
             tree_same =
                 ap (λ l. view parts (live_tree l app)) (a.stands ∙ sym (append_assoc a.early (changed app a.step ∷ []) a.front))
                 ∙ ap (view parts) (tree_more app (a.early ++ changed app a.step ∷ []) a.front ∙ sends_same app (λ y. y.kind ≡ 4) (live_tree (a.early ++ changed app a.step ∷ []) app) a.front (all_front _ a.front (sent (App app) e ∷ a.back) all_four))
 
-        by : (l : List Entry) → a.front ≡ l → effect (path_of 0) name (view parts (live_tree now app)) (news_of name e) ≡ view parts (live_tree now app)
+        by : (l : List Entry) → a.front ≡ l → IsEcho parts
         by [] h = absurd (no_front h)
         by (f ∷ fs) h = behind_others f fs h
 
@@ -289,7 +310,7 @@ module _ (T : List Entry) (name : List ℕ) (reader app : ℕ) (served : IsWholl
         silently s = ap (λ l. view t (live_tree l app)) is_now ∙ s.same.views t ∙ same_start.views t
 
         by_kind : AllSilent name early m.between app → (b : Bool) → (e.kind == 4) ≡ b → effect (path_of 0) name (view t (live_tree earlier app)) (news_of name e) ≡ view t (live_tree now app)
-        by_kind s true g = subst (λ v. effect (path_of 0) name v (news_of name e) ≡ view t (live_tree now app)) (silently s) (echoes_only t s (eqb-true e.kind 4 g))
+        by_kind s true g = subst (λ v. effect (path_of 0) name v (news_of name e) ≡ view t (live_tree now app)) (silently s) (echoes_only t s (eqb-true e.kind 4 g)).0
         by_kind s false g = ap (effect (path_of 0) name (view t (live_tree earlier app))) (news_none name e g) ∙ sym (silently s)
 
         by : Walked name early m.between app e → effect (path_of 0) name (view t (live_tree earlier app)) (news_of name e) ≡ view t (live_tree now app)
@@ -341,6 +362,64 @@ module _ (T : List Entry) (name : List ℕ) (reader app : ℕ) (served : IsWholl
             (sym (ap (λ l. added l app) (is_now ∙ ap (λ l. early ++ l) o.stands ∙ sym (append_assoc early o.front (changed app o.step ∷ []))) ∙ count_more app (early ++ o.front) (changed app o.step ∷ [])
             ∙ ap (λ b. cond b (added_after (added (early ++ o.front) app) o.step) (added (early ++ o.front) app)) (eq-eqb app app refl)))
             (subst (λ k. k ≤ added_after (added (early ++ o.front) app) o.step) (o.same.count ∙ same_start.count) (grows (added (early ++ o.front) app) o.step))
+
+    -- WHAT THE READER READS from the view before it
+    silent_lines : AllSilent name early m.between app → (v : Forest Row) → read_lines (path_of 0) name v (news_of name e) ≡ []
+    silent_lines s v = by (e.kind == 4) refl
+      where
+        by : (b : Bool) → (e.kind == 4) ≡ b → read_lines (path_of 0) name v (news_of name e) ≡ []
+        by true g = (echoes_only nothing_told s (eqb-true e.kind 4 g)).1 v
+        by false g = ap (read_lines (path_of 0) name v) (news_none name e g)
+
+    next_lines : Everywhere StepsOnTree T → (parts : List (List ℕ × PartName)) → AllByRecursion (IsLow (added earlier app)) parts → IsRead name before app serial (view (told_in parts) (live_tree earlier app)) e
+    next_lines trees parts low = record { behind_step = λ xs step is. behind_step xs step is walked; elsewhere = λ none. elsewhere none walked }
+      where
+        t : List ℕ → Told
+        t = told_in parts
+
+        here : (o : OneStep name early m.between app e) → now ≡ (early ++ o.front) ++ changed app o.step ∷ []
+        here o = is_now ∙ ap (λ l. early ++ l) o.stands ∙ sym (append_assoc early o.front (changed app o.step ∷ []))
+
+        elsewhere : ((xs : List Entry) (step : Step) → now ≡ xs ++ changed app step ∷ [] → ⊥) → Walked name early m.between app e → read_lines (path_of 0) name (view t (live_tree earlier app)) (news_of name e) ≡ []
+        elsewhere none (inl s) = silent_lines s (view t (live_tree earlier app))
+        elsewhere none (inr o) = absurd (none (early ++ o.front) o.step (here o))
+
+        step_at : (xs : List Entry) (step : Step) → now ≡ xs ++ changed app step ∷ [] → T ≡ xs ++ changed app step ∷ (sent (App app) e ∷ post)
+        step_at xs step is = stands ∙ ap (λ l. l ++ sent (App app) e ∷ post) is ∙ append_assoc xs (changed app step ∷ []) (sent (App app) e ∷ post)
+
+        behind_step : (xs : List Entry) (step : Step) → now ≡ xs ++ changed app step ∷ [] → Walked name early m.between app e
+            → read_lines (path_of 0) name (view t (live_tree earlier app)) (news_of name e) ≡ says_after (live_tree now app) step
+        behind_step xs step is (inl s) =
+            let c : IsCarried xs app step = carried xs (changed app step) (sent (App app) e ∷ post) (step_at xs step is) in
+            silent_lines s (view t (live_tree earlier app)) ∙ sym (none_due name (live_tree xs app) (live_tree now app) step (silent_step xs app name step c (ended_with s xs step is)))
+        behind_step xs step is (inr o) =
+            ap (λ w. read_lines (path_of 0) name w (news_of name e)) (sym (o.same.views t ∙ same_start.views t))
+            ∙ ap (read_lines (path_of 0) name (view t f)) (ap (news_of name) o.message ∙ announces.first)
+            ∙ says_due name t f (added (early ++ o.front) app) o.step (trees (early ++ o.front) (changed app o.step) (sent (App app) e ∷ post) place) (one (early ++ o.front) (changed app o.step) (sent (App app) e ∷ post) place).1 untold
+            ∙ ap (λ g. says_after g o.step) (sym now_tree)
+            ∙ ap (says_after (live_tree now app)) same_step
+          where
+            f : Forest TreeRow
+            f = live_tree (early ++ o.front) app
+
+            place : T ≡ (early ++ o.front) ++ changed app o.step ∷ (sent (App app) e ∷ post)
+            place = step_at (early ++ o.front) o.step (here o)
+
+            announces : IsAnnounced name f o.step o.first o.more
+            announces = announced_step (early ++ o.front) app name o.step o.first o.more (carried (early ++ o.front) (changed app o.step) (sent (App app) e ∷ post) place) o.told
+
+            untold : UntoldOfNew t o.step
+            untold =
+                untold_new parts (early ++ o.front) app o.step (sent (App app) e ∷ post) (subst (λ n. AllByRecursion (IsLow n) parts) (sym (o.same.count ∙ same_start.count)) low)
+                (one (early ++ o.front) (changed app o.step) (sent (App app) e ∷ post) place)
+
+            now_tree : live_tree now app ≡ after rows f o.step
+            now_tree = ap (λ l. live_tree l app) (here o) ∙ tree_more app (early ++ o.front) (changed app o.step ∷ []) ∙ ap (λ b. cond b (after rows f o.step) f) (eq-eqb app app refl)
+
+            same_step : o.step ≡ step
+            same_step =
+                ap (step_or step)
+                (sym (last_end (changed app step) (early ++ o.front) (changed app o.step)) ∙ ap (last_or (changed app step)) (sym (here o) ∙ is) ∙ last_end (changed app step) xs (changed app step))
 
   -- WHAT THE READER HAS, along the trace
   pub record IsHad (es : List Entry) (k : Kept) (f : Followed) : Type 0 where
@@ -641,8 +720,51 @@ module _ (T : List Entry) (name : List ℕ) (reader app : ℕ) (served : IsWholl
       by None h = h
       by (Some k) h = record { shows = h.shows; last = h.last }
 
+  -- WHAT THE READER READS, along the trace
+  reads_at : Everywhere StepsOnTree T → LawOfLinks T → (before behind : List Entry) (serial : ℕ) (at : T ≡ before ++ got (Reader reader) (App app) serial ∷ behind) → (IsLoad (answers_question before reader (message before (App app) serial)) → ⊥)
+      → (e : Envelope) → message before (App app) serial ≡ Some e → (v : Forest Row) → (followed name before reader app).view ≡ Some v → IsRead name before app serial v e
+  reads_at trees links before behind serial at no_load e was v h =
+      by (held before reader app) refl (along [] before (got (Reader reader) (App app) serial ∷ behind) None (unasked name) at links (record { is_held = refl; named = refl; root = refl; has = refl })).has
+    where
+      by : (k : Option Kept) → held before reader app ≡ k → Has before k (followed name before reader app) → IsRead name before app serial v e
+      by None g has = absurd (no_none v (sym has ∙ h))
+      by (Some k) g i =
+          let m : MissesNothing name before app k.last serial = served.nothing_missed before (got (Reader reader) (App app) serial) behind at refl refl no_load k g in
+          subst (λ w. IsRead name before app serial w e) (same_some (view (told_in k.told) (as_of before app k.last)) v (sym i.shows ∙ h))
+          (next_lines before (got (Reader reader) (App app) serial ∷ behind) at k.last serial e was m trees k.told i.low)
+
+  closes_at : LawOfLinks T → (before behind : List Entry) (at : T ≡ before ++ behind) (k : Kept) → held before reader app ≡ Some k → (v : Forest Row) → (followed name before reader app).view ≡ Some v
+      → closing_lines v ≡ closing_says (as_of before app k.last)
+  closes_at links before behind at k g v h =
+      by (subst (λ o. CacheIs before app o (followed name before reader app)) g (cache_is before behind at links))
+    where
+      by : CacheIs before app (Some k) (followed name before reader app) → closing_lines v ≡ closing_says (as_of before app k.last)
+      by i =
+          ap closing_lines (sym (same_some (view (told_in k.told) (as_of before app k.last)) v (sym i.shows ∙ h))) ∙ closes_due (told_in k.told) (as_of before app k.last)
+
+  pub reads_due : Everywhere StepsOnTree T → LawOfLinks T → Everywhere (ReadsDue name reader app) T
+  reads_due trees links before (got (Reader r) (App a) serial) behind at = λ rs bs.
+      subst (λ n. ReadsAt name n a before serial) (sym rs)
+      (subst (λ n. ReadsAt name reader n before serial) (sym bs)
+      (reads_at trees links before behind serial (at ∙ ap₂ (λ x y. before ++ got (Reader x) (App y) serial ∷ behind) rs bs)))
+  reads_due trees links before (got (Reader r) The_bus serial) behind at = tt
+  reads_due trees links before (got (Reader r) Registry serial) behind at = tt
+  reads_due trees links before (got (Reader r) (Reader other) serial) behind at = tt
+  reads_due trees links before (got The_bus from serial) behind at = tt
+  reads_due trees links before (got Registry from serial) behind at = tt
+  reads_due trees links before (got (App a) from serial) behind at = tt
+  reads_due trees links before (gone r a) behind at = λ rs bs. closes_at links before (gone r a ∷ behind) at
+  reads_due trees links before x behind at = tt
+
 pub caches_follow : (lines : List Line) (trace : List Entry) → CanAllStand lines → Goes (begins lines) trace → (after_all (begins lines) trace).owing ≡ []
     → (name : List ℕ) (reader app : ℕ) → IsItsName trace app name → IsServed trace name reader app
     → (front rest : List Entry) → trace ≡ front ++ rest → CacheIs front app (held front reader app) (followed name front reader app)
 caches_follow lines trace a g none name reader app its served front rest at =
-    cache_is trace name reader app (wholly trace name reader app its (signed_law lines trace a g none) (items_law lines trace a g) served) (announcements_carry lines trace a g) (steps_apply lines trace a g) (starts_anew lines trace a g) front rest at (links_hold lines trace a g)
+    cache_is trace name reader app (wholly trace name reader app its (signed_law lines trace a g none) (items_law lines trace a g) (parts_law lines trace a g) served) (announcements_carry lines trace a g) (steps_apply lines trace a g) (starts_anew lines trace a g) front rest at (links_hold lines trace a g)
+
+pub lines_are_read : (script : List Line) (trace : List Entry) → CanAllStand script → Goes (begins script) trace → (after_all (begins script) trace).owing ≡ []
+    → (name : List ℕ) (reader app : ℕ) → IsItsName trace app name → IsServed trace name reader app → Everywhere (ReadsDue name reader app) trace
+lines_are_read script trace a g none name reader app its served =
+    reads_due trace name reader app
+    (wholly trace name reader app its (signed_law script trace a g none) (items_law script trace a g) (parts_law script trace a g) served) (announcements_carry script trace a g) (steps_apply script trace a g) (starts_anew script trace a g)
+    (trees_stand script trace a g) (links_hold script trace a g)

@@ -1,19 +1,19 @@
 -- How a reader is served by an application: under which name it signs, what its returns tell, and that nothing is missed.
-use Rattle.std.proofs.Common.{◌≡◌, ℕ, List, [], ◌∷◌, ◌++◌, Option, None, Some, refl, sym, ap, ◌∙◌, subst}
+use Rattle.std.proofs.Common.{◌≡◌, ℕ, List, ◌∷◌, ◌++◌, Option, None, Some, refl, sym, ap, ◌∙◌, subst}
 use Rattle.atspi_forest.specs.Forest.{Forest}
 use Rattle.atspi_forest.specs.Row.{TreeRow}
-use Rattle.atspi_lines.specs.declared.line.Party.{Party}
 use Rattle.atspi_lines.specs.declared.line.Party.TheVariants.{Bus as The_bus, Registry, App, Reader}
 use Rattle.atspi_message.specs.Envelope.{Envelope}
+use Rattle.atspi_protocol.specs.declared.news.part.PartName.{PartName}
 use Rattle.atspi_protocol.specs.declared.following.question.Question.{Question}
 use Rattle.atspi_protocol.specs.declared.following.question.Question.TheVariants.{Hello, AddMatch, RegisterEvent, GetChildren, GetItems, GetPart}
 use Rattle.atspi_trace.specs.Entry.{Entry, changed, sent, got}
-use Rattle.atspi_lawful.specs.laws.Words.{added, message, before_sent, as_of, name_in, answers_question}
+use Rattle.atspi_lawful.specs.laws.Words.{added, message, before_sent, as_of, answers_question}
 use Rattle.atspi_lawful.specs.laws.NineLaws.{Everywhere, Follow}
 use Rattle.atspi_lawful.specs.heard.Laws.{signals_under, IsAmong}
 use Rattle.atspi_lawful.specs.signed.Laws.{IsItsName, IsSignedTruly}
-use Rattle.atspi_lawful.specs.answered.Laws.{IsItemsTold}
-use Rattle.atspi_lawful.specs.caches.Laws.{TellsItems, TellsPart, TellsIfPart, ArePartsTold, MissesNone, IsServed}
+use Rattle.atspi_lawful.specs.answered.Laws.{IsItemsTold, IsPartTold}
+use Rattle.atspi_lawful.specs.caches.Laws.{TellsItems, TellsPart, MissesNone, IsServed}
 use Rattle.atspi_lawful.proofs.OfNames.Places.{told_is}
 use Rattle.atspi_lawful.proofs.OfSigned.Mail.{told_more}
 
@@ -58,22 +58,25 @@ module _ (T : List Entry) (name : List ℕ) (reader app : ℕ) (its : IsItsName 
   signed_by before entry behind own h = tt
 
   tells_by : (before : List Entry) (serial : ℕ) (e : Envelope) (q : Option Question) → ((asked : List ℕ) → q ≡ Some (GetItems asked) → TellsItems name (as_of before app serial) e)
-      → TellsIfPart name (as_of before app serial) (added (before_sent (App app) serial before) app) q e → Tells name (as_of before app serial) (added (before_sent (App app) serial before) app) q e
+      → ((asked path : List ℕ) (part : PartName) → q ≡ Some (GetPart asked path part) → TellsPart name (as_of before app serial) (added (before_sent (App app) serial before) app) path part e)
+      → Tells name (as_of before app serial) (added (before_sent (App app) serial before) app) q e
   tells_by before serial e (Some (GetItems asked)) f g = f asked refl
-  tells_by before serial e (Some (GetPart n path part)) f g = g
+  tells_by before serial e (Some (GetPart n path part)) f g = g n path part refl
   tells_by before serial e (Some Hello) f g = tt
   tells_by before serial e (Some (AddMatch rule)) f g = tt
   tells_by before serial e (Some (RegisterEvent pattern)) f g = tt
   tells_by before serial e (Some GetChildren) f g = tt
   tells_by before serial e None f g = tt
 
-  answered_by : (before : List Entry) (entry : Entry) (behind : List Entry) → IsItsName before app name → IsItemsTold before entry behind → ArePartsTold name reader app before entry behind → IsAnswered name reader app before entry behind
+  answered_by : (before : List Entry) (entry : Entry) (behind : List Entry) → IsItsName before app name → IsItemsTold before entry behind → IsPartTold before entry behind → IsAnswered name reader app before entry behind
   answered_by before (got (Reader r) (App a) serial) behind own h g = λ rs bs e found.
       tells_by before serial e (answers_question before reader (Some e))
       (λ asked q.
       subst (λ n. IsItsName before n name → message before (App n) serial ≡ Some e → TellsItems name (as_of before n serial) e) bs
       (λ its_own was. h name asked e its_own was (ap (λ n. answers_question before n (Some e)) rs ∙ q)) own found)
-      (g rs bs e found)
+      (λ asked path part q.
+      subst (λ n. message before (App n) serial ≡ Some e → TellsPart name (as_of before n serial) (added (before_sent (App n) serial before) n) path part e) bs
+      (λ was. g name asked path part e was (ap (λ n. answers_question before n (Some e)) rs ∙ q)) found)
   answered_by before (got (Reader r) The_bus serial) behind own h g = tt
   answered_by before (got (Reader r) Registry serial) behind own h g = tt
   answered_by before (got (Reader r) (Reader q) serial) behind own h g = tt
@@ -82,9 +85,9 @@ module _ (T : List Entry) (name : List ℕ) (reader app : ℕ) (its : IsItsName 
   answered_by before (got (App a) from serial) behind own h g = tt
   answered_by before entry behind own h g = tt
 
-  pub wholly : Everywhere IsSignedTruly T → Everywhere IsItemsTold T → IsServed T name reader app → IsWholly T name reader app
-  wholly signed items served = record {
+  pub wholly : Everywhere IsSignedTruly T → Everywhere IsItemsTold T → Everywhere IsPartTold T → IsServed T name reader app → IsWholly T name reader app
+  wholly signed items parts served = record {
     signed = λ before entry behind at. signed_by before entry behind (name_at before entry behind at) (signed before entry behind at);
-    answered = λ before entry behind at. answered_by before entry behind (name_at before entry behind at) (items before entry behind at) (served.parts_told before entry behind at);
+    answered = λ before entry behind at. answered_by before entry behind (name_at before entry behind at) (items before entry behind at) (parts before entry behind at);
     nothing_missed = served.nothing_missed;
   }

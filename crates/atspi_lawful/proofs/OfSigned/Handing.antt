@@ -1,11 +1,9 @@
 -- Whom the bus hands what: its own messages, and that of an end to whoever has the name that it is sent to.
-use Rattle.std.proofs.Common.{◌≡◌, ◌⊎◌, inl, inr, ℕ, zero, suc, ◌+◌, Bool, true, false, List, [], ◌∷◌, ◌++◌, map, Option, None, Some, refl, sym, ap, ◌∙◌, subst, arith}
-use Rattle.std.specs.Prelude.{◌==◌, ◌-◌, not, filter, flat_map, bytes_eq, length, codes, if◌then◌else◌, Result, Ok, Err}
+use Rattle.std.proofs.Common.{◌≡◌, ◌⊎◌, inl, inr, ℕ, zero, suc, ◌+◌, Bool, true, false, List, [], ◌∷◌, ◌++◌, map, Option, None, Some, refl, sym, ap, subst, arith}
+use Rattle.std.specs.Prelude.{◌==◌, ◌-◌, not, filter, flat_map, bytes_eq, codes, if◌then◌else◌, Result, Ok, Err}
 use Rattle.std.specs.List.{AllByRecursion, fold, list_any}
 use Rattle.std.proofs.lemmas.Slice.Eq.{bytes_eq-Decides}
 use Rattle.atspi_types.specs.Data.{Data, text_data}
-use Rattle.atspi_types.specs.Names.{is_unique_name}
-use Rattle.atspi_lines.specs.declared.line.Party.{Party}
 use Rattle.atspi_message.specs.Envelope.{Envelope}
 use Rattle.atspi_names.specs.Owners.{Owners, own_name, unique_name, list_of, after_hello, after_gone, owned_by}
 use Rattle.atspi_names.specs.Queue.{request_change, release_change, owner_in}
@@ -15,16 +13,16 @@ use Rattle.atspi_routing.specs.declared.closing.Why.{Why}
 use Rattle.atspi_routing.specs.declared.member.BusMember.{BusMember}
 use Rattle.atspi_routing.specs.declared.member.BusMember.TheVariants.{Hello, RequestName, ReleaseName, NameHasOwner, GetNameOwner, ListNames, ListQueuedOwners, AddMatch, RemoveMatch, GetId, Ping}
 use Rattle.atspi_routing.specs.BusState.{OpenCall, BusState, unique_of, text_or_empty, name_or_empty, calls_without, waiting_for}
-use Rattle.atspi_routing.specs.Members.{is_text, member_of}
+use Rattle.atspi_routing.specs.Members.{member_of}
 use Rattle.atspi_routing.specs.OwnMessages.{return_to, error_to, name_lost, name_acquired, owner_changed, same_owner, told_of_change, numbered}
 use Rattle.atspi_routing.specs.Answers.{Reply, returns, fails, Answer, only, answers, may_be_asked_for, first_text, second_number, requests, releases, adds_rule, removes_rule}
 use Rattle.atspi_routing.specs.Routing.{receivers, owners_of, is_for_bus, expects_reply}
-use Rattle.atspi_routing.specs.Steps.{Move, says, delivers, closes, BusStep, handed, said, speaks, replies, answered, called, undeliverable, is_unowned, passes_on, calls_after_all, is_hello, greets, bus_takes, no_replies, name_passes_on, names_pass_on, farewell, bus_leaves}
+use Rattle.atspi_routing.specs.Steps.{Move, says, delivers, closes, BusStep, handed, speaks, replies, answered, called, undeliverable, is_unowned, greets, bus_takes, no_replies, name_passes_on, names_pass_on, farewell, bus_leaves}
 use Rattle.atspi_routing.specs.Queues as queues
 use Rattle.atspi_routing.specs.Queues.{Waiting, Bus, without_queue}
-use Rattle.atspi_trace.specs.World.{Said, Letter, End}
+use Rattle.atspi_trace.specs.World.{Letter, End}
 use Rattle.atspi_trace.specs.Ends.{end_at, with_end, put_down, leaves}
-use Rattle.atspi_trace.specs.Carrying.{Carried, Filled, own_letter, letter_of, grew, with_letter, moved, stepped, left, one_closed, settled}
+use Rattle.atspi_trace.specs.Carrying.{Carried, Filled, own_letter, grew, with_letter, moved, stepped, left, one_closed, settled}
 use Rattle.atspi_lawful.proofs.OfOrder.Parties.{all_append}
 use Rattle.atspi_lawful.proofs.OfOrder.Frame.{with_cases}
 use Rattle.atspi_lawful.proofs.OfSigned.Unique.{OwnLists, IsIn, owner_has}

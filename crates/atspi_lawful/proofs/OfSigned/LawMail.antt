@@ -1,6 +1,6 @@
 -- What is known of messages on their way, along a lawful trace.
-use Rattle.std.proofs.Common.{◌≡◌, ◌⊎◌, inl, inr, ℕ, zero, suc, ◌+◌, ◌≤◌, Bool, true, false, List, [], ◌∷◌, ◌++◌, length, map, Option, None, Some, refl, sym, ap, ap₂, ◌∙◌, subst, arith, cond}
-use Rattle.std.specs.Prelude.{◌==◌, ◌||◌, codes, nat_lt, option_map, unwrap_or, is_some, if◌then◌else◌}
+use Rattle.std.proofs.Common.{◌≡◌, ◌⊎◌, inl, inr, ℕ, zero, suc, ◌+◌, Bool, true, false, List, [], ◌∷◌, ◌++◌, length, map, Option, None, Some, refl, sym, ap, ap₂, ◌∙◌, subst, arith, cond}
+use Rattle.std.specs.Prelude.{◌==◌, ◌||◌, codes, option_map, unwrap_or, is_some, if◌then◌else◌}
 use Rattle.std.specs.Ordering.{nat_cmp, eq_by_cmp}
 use Rattle.std.specs.Cmp.Lexicographic.{slice_cmp}
 use Rattle.std.specs.List.{AllByRecursion}
@@ -9,7 +9,6 @@ use Rattle.std.specs.FinMap.{get-from_sorted}
 use Rattle.std.proofs.lemmas.Bool.{eqb-true, eq-eqb}
 use Rattle.std.proofs.lemmas.List.{append-nil}
 use Rattle.std.proofs.lemmas.Slice.Eq.{bytes_eq-Decides}
-use Rattle.atspi_types.specs.Data.{text_data}
 use Rattle.atspi_types.specs.Names.{is_unique_name}
 use Rattle.atspi_forest.specs.Forest.{first_of}
 use Rattle.atspi_lines.specs.declared.deed.Deed.{Deed}
@@ -18,7 +17,7 @@ use Rattle.atspi_lines.specs.declared.limits.TheConstants.{QUOTA_MOST}
 use Rattle.atspi_lines.specs.declared.line.Party.{Party}
 use Rattle.atspi_lines.specs.declared.line.Party.TheVariants.{Bus as The_bus, Registry, App, Reader}
 use Rattle.atspi_message.specs.Envelope.{Envelope}
-use Rattle.atspi_names.specs.Owners.{own_name, unique_name, list_of}
+use Rattle.atspi_names.specs.Owners.{own_name, unique_name}
 use Rattle.atspi_names.specs.Queue.{stands}
 use Rattle.atspi_names.proofs.ListsLemmas.{names_apart}
 use Rattle.atspi_protocol.specs.ends.Places.{registry as registry_name}
@@ -29,20 +28,19 @@ use Rattle.atspi_routing.specs.Steps.{BusStep, is_hello, greets, bus_takes}
 use Rattle.atspi_routing.specs.Queues.{Bus}
 use Rattle.atspi_protocol.specs.ends.Messages.{Reply, returns, fails, reply_to}
 use Rattle.atspi_protocol.specs.registering.Steps.{RegistryStep, registry_takes}
-use Rattle.atspi_protocol.specs.exporting.Exporter.{Exporter, begins as begins_app}
+use Rattle.atspi_protocol.specs.exporting.Exporter.{Exporter}
 use Rattle.atspi_protocol.specs.exporting.Laws.{HasTree}
-use Rattle.atspi_protocol.specs.exporting.Starting.{starts}
 use Rattle.atspi_protocol.specs.exporting.Taking.{app_takes, answer_to}
 use Rattle.atspi_protocol.specs.following.Calls.{asking, user_call}
 use Rattle.atspi_protocol.specs.declared.following.question.Question.{Question}
 use Rattle.atspi_protocol.specs.declared.following.question.Question.TheVariants.{Hello, AddMatch, RegisterEvent, GetChildren, GetItems, GetPart}
 use Rattle.atspi_protocol.specs.declared.news.part.PartName.TheVariants.{Text, Caret, Columns}
-use Rattle.atspi_trace.specs.Entry.{Entry, sent, got}
+use Rattle.atspi_trace.specs.Entry.{Entry, sent}
 use Rattle.atspi_trace.specs.Rules.{rule_in}
-use Rattle.atspi_trace.specs.World.{here, Role, the_registry, an_application, a_reader, Hearer, Said, Letter, newcomer, first_unique, first_lists, first_registry, first_world, End, World}
-use Rattle.atspi_trace.specs.Ends.{is_here, same_party, end_at, with_end, plain, put_up, put_down, rest_of, taken_up, taken_down, stops, leaves, app_count, reader_count}
+use Rattle.atspi_trace.specs.World.{here, a_reader, Hearer, Said, Letter, first_unique, first_lists, first_registry, first_world, End, World}
+use Rattle.atspi_trace.specs.Ends.{is_here, same_party, end_at, with_end, plain, put_down, rest_of, taken_up, taken_down, stops, leaves, app_count, reader_count}
 use Rattle.atspi_trace.specs.Carrying as carrying
-use Rattle.atspi_trace.specs.Carrying.{Carried, own_letter, letter_of, stepped, named, with_name, settled, bus_entries}
+use Rattle.atspi_trace.specs.Carrying.{Carried, own_letter, letter_of, stepped, named, with_name, settled}
 use Rattle.atspi_trace.specs.Hearing.{question_in, hears_letter}
 use Rattle.atspi_trace.specs.Causes.{Done, at_end, saids, has_done, reader_sends, asks, registry_did, app_starts, reader_starts}
 use Rattle.atspi_trace.specs.Due.{asks_as, asks_at}
@@ -51,7 +49,7 @@ use Rattle.atspi_lawful.specs.laws.NineLaws.{count_got_by_bus}
 use Rattle.atspi_lawful.proofs.OfOrder.Parties.{no_none, same_some, same-party, party-same, false_true, all_append}
 use Rattle.atspi_lawful.proofs.OfOrder.Plain.{user_plain}
 use Rattle.atspi_lawful.proofs.OfOrder.Allowed.{MovedUp, MovedDown, Asks}
-use Rattle.atspi_lawful.proofs.OfOrder.Frame.{Over, IsOrder, over_same, over_both, over_with, over_at, stepped_over, settled_over, takes_over, ends_over, joined_cases}
+use Rattle.atspi_lawful.proofs.OfOrder.Frame.{Over, IsOrder, over_same, over_both, over_with, over_at, takes_over, ends_over, joined_cases}
 use Rattle.atspi_lawful.proofs.OfOrder.Shape.{Shape}
 use Rattle.atspi_lawful.proofs.OfOrder.Effects.{received, AppEdits, AppTakes, ReaderCalls, BusTakes, BusEnds, RegistryTakes, Effect, resets, app_joins, reader_joins, app_edited, app_took, reader_called, swapped, exited_, showed_, told_busy, told_quiet, bus_took, bus_ended, registry_took, reader_took}
 use Rattle.atspi_lawful.proofs.OfOrder.Shaped.{received_at, new_app, new_reader, app_joined}
@@ -62,7 +60,6 @@ use Rattle.atspi_lawful.proofs.OfOrder.Closed.{IsTold}
 use Rattle.atspi_lawful.proofs.OfSteps.Steps.{Trees}
 use Rattle.atspi_lawful.proofs.OfSerials.Numbers.{Numbered}
 use Rattle.atspi_lawful.proofs.OfLinks.LawLinks.{Linked, no_bus}
-use Rattle.atspi_lawful.proofs.OfTaken.Found.{found_more}
 use Rattle.atspi_lawful.proofs.OfTaken.Said.{IsSaid, said_more}
 use Rattle.atspi_lawful.proofs.OfTaken.LawTaken.{Known, Under, Taken, taken_keeps}
 use Rattle.atspi_lawful.proofs.OfReaders.Fates.{both_keep, hello_read}
@@ -71,7 +68,7 @@ use Rattle.atspi_lawful.proofs.OfQuiet.Here.{Greeted}
 use Rattle.atspi_lawful.proofs.OfNames.Naming.{takes_same, hello_here}
 use Rattle.atspi_lawful.proofs.OfNames.LawNames.{NamedAt, Named, Under_names, names_keep}
 use Rattle.atspi_lawful.proofs.OfNames.LawNames as names
-use Rattle.atspi_lawful.proofs.OfNames.Places.{first_at, greeted, name_told}
+use Rattle.atspi_lawful.proofs.OfNames.Places.{first_at, greeted}
 use Rattle.atspi_lawful.proofs.OfNames.Bounds.{Bounded, bounds_keep}
 use Rattle.atspi_lawful.proofs.OfNames.LawEnds.{few_greeted}
 use Rattle.atspi_lawful.proofs.OfSigned.Self.{IsSelf, Selves, caused_selves, moved_selves, asked_selves, first_selves}

@@ -1,69 +1,44 @@
 -- An application signs with its own unique name, along a lawful trace.
-use Rattle.std.proofs.Common.{◌≡◌, ◌⊎◌, inl, inr, ℕ, zero, suc, ◌+◌, ◌≤◌, ◌<◌, Bool, true, false, List, [], ◌∷◌, ◌++◌, length, map, Option, None, Some, refl, sym, ap, ap₂, ◌∙◌, subst, arith, is_some}
-use Rattle.std.specs.Prelude.{◌==◌, ◌&&◌, ◌||◌, ◌^◌, option_map, if◌then◌else◌, Result, Ok, Err}
-use Rattle.std.specs.List.{AllByRecursion, cons_option}
-use Rattle.std.proofs.lemmas.Bool.{eqb-true}
+use Rattle.std.proofs.Common.{◌≡◌, ◌⊎◌, inl, inr, ℕ, suc, ◌+◌, List, [], ◌∷◌, ◌++◌, map, None, Some, sym, ap, ◌∙◌, subst, arith}
+use Rattle.std.specs.Prelude.{option_map}
+use Rattle.std.specs.List.{AllByRecursion}
 use Rattle.std.proofs.lemmas.List.{append-nil, append_assoc}
-use Rattle.std.proofs.lemmas.Slice.Eq.{bytes_eq-Decides}
-use Rattle.atspi_types.specs.Data.{Data, text_data}
-use Rattle.atspi_types.specs.Names.{is_unique_name, is_bus_name}
-use Rattle.atspi_forest.specs.declared.edit.Edit.{Edit}
-use Rattle.atspi_forest.specs.declared.edit.EditFault.{EditFault}
-use Rattle.atspi_forest.specs.declared.step.Step.{Step}
-use Rattle.atspi_forest.specs.Edits.{steps_of_tree}
-use Rattle.atspi_lines.specs.declared.limits.TheConstants.{QUOTA_MOST}
 use Rattle.atspi_lines.specs.declared.line.Line.{Line}
-use Rattle.atspi_lines.specs.declared.line.Party.{Party}
 use Rattle.atspi_lines.specs.declared.line.Party.TheVariants.{Bus as The_bus, Registry, App, Reader}
-use Rattle.atspi_message.specs.Envelope.{Envelope}
-use Rattle.atspi_names.specs.Owners.{own_name, unique_name}
-use Rattle.atspi_names.proofs.UniqueLemmas.{unique_name-injective}
-use Rattle.atspi_routing.specs.Routing.{is_for_bus}
+use Rattle.atspi_names.specs.Owners.{unique_name}
 use Rattle.atspi_protocol.specs.registering.Steps.{registry_takes}
-use Rattle.atspi_protocol.specs.exporting.Exporter.{StartCall, hello, add_match, get_registered_events, embed, Phase, new, awaits, over, Happening, steps, sends, hears, deaf, Exporter, begins as begins_app, queues}
-use Rattle.atspi_protocol.specs.exporting.Hearing.{pairs_in}
-use Rattle.atspi_protocol.specs.exporting.Telling.{steps_told}
-use Rattle.atspi_protocol.specs.exporting.Starting.{starts, awaited, is_number, goes_on, greeted as greeted_by, listened, ends_start, unique_name_in, name_or_empty, start_call}
-use Rattle.atspi_protocol.specs.exporting.Taking.{app_takes, app_edits, stepped, takes_other, takes_call, takes_signal, called}
-use Rattle.atspi_trace.specs.Entry.{Entry, started, changed, sent, got, heard, unheard}
-use Rattle.atspi_trace.specs.World.{an_application, Letter, newcomer, first_registry, first_world, End, World}
-use Rattle.atspi_trace.specs.Ends.{is_app, same_party, number_of, whose, party_at, end_at, with_end, put_up, taken_down, app_count}
+use Rattle.atspi_protocol.specs.exporting.Exporter.{Happening, steps, sends, hears, deaf, Exporter}
+use Rattle.atspi_protocol.specs.exporting.Starting.{name_or_empty}
+use Rattle.atspi_protocol.specs.exporting.Taking.{app_takes}
+use Rattle.atspi_trace.specs.Entry.{Entry, changed, sent, got, heard, unheard}
+use Rattle.atspi_trace.specs.World.{World}
+use Rattle.atspi_trace.specs.Ends.{same_party, number_of, whose, party_at, taken_down}
 use Rattle.atspi_trace.specs.Carrying as carrying
-use Rattle.atspi_trace.specs.Causes.{Done, only, at_end, did, has_done, app_starts, reader_starts}
-use Rattle.atspi_trace.specs.Due.{asks_at, begins, after_all, Goes}
-use Rattle.atspi_lawful.specs.laws.Words.{messages, message, with_serial, name_in}
-use Rattle.atspi_lawful.specs.laws.NineLaws.{Everywhere, Follow, IsTold, IsSignalOfStep, HasNextSerial, LawOfApplications}
+use Rattle.atspi_trace.specs.Causes.{Done, did, app_starts, reader_starts}
+use Rattle.atspi_trace.specs.Due.{begins, after_all, Goes}
+use Rattle.atspi_lawful.specs.laws.Words.{message, name_in}
+use Rattle.atspi_lawful.specs.laws.NineLaws.{Everywhere, IsTold, IsSignalOfStep, LawOfApplications}
 use Rattle.atspi_lawful.specs.order.Scripts.{CanAllStand}
 use Rattle.atspi_lawful.specs.heard.Laws.{signals_under, IsAmong}
 use Rattle.atspi_lawful.specs.signed.Laws.{IsItsName, IsSignedTruly}
-use Rattle.atspi_lawful.proofs.OfOrder.Parties.{no_none, same_some, party-same, false_true, all_append, all_front}
-use Rattle.atspi_lawful.proofs.OfOrder.Allowed.{MovedUp, MovedDown}
-use Rattle.atspi_lawful.proofs.OfOrder.Frame.{Over, over_same, over_both, over_with, over_at, with_cases, joined_cases}
-use Rattle.atspi_lawful.proofs.OfOrder.Shape.{Shape}
+use Rattle.atspi_lawful.proofs.OfOrder.Parties.{all_front}
 use Rattle.atspi_lawful.proofs.OfOrder.Effects.{received, AppEdits, AppTakes, Effect, resets, app_joins, reader_joins, app_edited, app_took, reader_called, swapped, exited_, showed_, told_busy, told_quiet, bus_took, bus_ended, registry_took, reader_took}
-use Rattle.atspi_lawful.proofs.OfOrder.Shaped.{received_at, new_app, new_reader, app_joined}
+use Rattle.atspi_lawful.proofs.OfOrder.Shaped.{received_at}
 use Rattle.atspi_lawful.proofs.OfOrder.Along.{Keeps, kept}
-use Rattle.atspi_lawful.proofs.OfOrder.Growing.{Grows, Shaped, Nothing, And, grown}
-use Rattle.atspi_lawful.proofs.OfOrder.Each.{Each, everywhere, each_more, each_of, all_map}
-use Rattle.atspi_lawful.proofs.OfOrder.Acts.{last_at, number_at}
-use Rattle.atspi_lawful.proofs.OfSteps.Steps.{SameApp, same_app, Trees, same_app_of}
-use Rattle.atspi_lawful.proofs.OfSteps.Stepping.{bus_took_still, bus_ended_still, called_still, stopping_still, registry_still, up_moved_same, down_moved_same}
-use Rattle.atspi_lawful.proofs.OfSerials.Serial.{messages_more}
+use Rattle.atspi_lawful.proofs.OfOrder.Growing.{Grows, Shaped, And, grown}
+use Rattle.atspi_lawful.proofs.OfOrder.Each.{Each, everywhere, each_more, each_of}
+use Rattle.atspi_lawful.proofs.OfOrder.Acts.{number_at}
+use Rattle.atspi_lawful.proofs.OfSteps.Steps.{Trees}
 use Rattle.atspi_lawful.proofs.OfSerials.Numbers.{Numbered}
 use Rattle.atspi_lawful.proofs.OfLinks.LawLinks.{NotTaken}
 use Rattle.atspi_lawful.proofs.OfHeard.Telling.{Under, At}
 use Rattle.atspi_lawful.proofs.OfHeard.Heeding.{IsNameOf, Plainly, Properly, Says, takes_says, edit_says}
 use Rattle.atspi_lawful.proofs.OfHeard.Quiet.{IsQuiet, bus_quiet, heard_all}
-use Rattle.atspi_lawful.proofs.OfHeard.LawHeard.{Heard, at_es, at_got, quiet_of, sent_quiet, all_sent_quiet, reader_took_ends, no_app_first, asks_same, down_same, same_ends}
-use Rattle.atspi_lawful.proofs.OfTaken.Found.{found_more}
-use Rattle.atspi_lawful.proofs.OfReaders.Fates.{both_keep}
-use Rattle.atspi_lawful.proofs.OfNames.Bounds.{Bounded, bounds_keep}
-use Rattle.atspi_lawful.proofs.OfNames.Places.{first_at, first_below, greeted, greeted_more, none_greeted, name_told, told_is, names_differ}
-use Rattle.atspi_lawful.proofs.OfNames.LawNames.{Named}
-use Rattle.atspi_lawful.proofs.OfNames.LawEnds.{few_greeted}
+use Rattle.atspi_lawful.proofs.OfHeard.LawHeard.{Heard, at_es, at_got, quiet_of, sent_quiet, all_sent_quiet}
+use Rattle.atspi_lawful.proofs.OfNames.Places.{first_at, greeted, greeted_more, none_greeted, name_told, told_is}
 use Rattle.atspi_lawful.proofs.OfDelivered.LawLinks.{serials_rise}
 use Rattle.atspi_lawful.proofs.OfCaches.Between.{OfMessage, signal_messages}
-use Rattle.atspi_lawful.proofs.OfSigned.Mail.{NameIs, told_more, IsCallOf, Called, IsAnswer, IsOfBus, IsPost, IsMail}
+use Rattle.atspi_lawful.proofs.OfSigned.Mail.{told_more}
 use Rattle.atspi_lawful.proofs.OfSigned.Self.{IsSelf, Selves}
 use Rattle.atspi_lawful.proofs.OfSigned.LawMail.{Under_mail, Known_mail, mail_keeps}
 

@@ -1,8 +1,7 @@
 -- What ends say: which of it are replies.
-use Rattle.std.proofs.Common.{◌≡◌, ◌⊎◌, inl, inr, ℕ, ◌+◌, Bool, true, false, List, [], ◌∷◌, ◌++◌, map, Option, None, Some, refl, sym, ap, ap₂, ◌∙◌, subst, arith}
-use Rattle.std.specs.Prelude.{◌==◌, ◌||◌, ◌&&◌, bit_and, not, filter, if◌then◌else◌, Result, Ok, Err}
+use Rattle.std.proofs.Common.{◌≡◌, ℕ, ◌+◌, Bool, true, false, List, [], ◌∷◌, ◌++◌, map, Option, None, Some, refl, sym, ap, ◌∙◌, subst}
+use Rattle.std.specs.Prelude.{◌==◌, ◌||◌, ◌&&◌, bit_and, filter, if◌then◌else◌, Result, Ok, Err}
 use Rattle.std.specs.List.{AllByRecursion}
-use Rattle.std.proofs.lemmas.Bool.{eqb-true}
 use Rattle.atspi_types.specs.Data.{Data}
 use Rattle.atspi_forest.specs.declared.edit.Edit.{Edit}
 use Rattle.atspi_forest.specs.declared.edit.EditFault.{EditFault}
@@ -14,23 +13,22 @@ use Rattle.atspi_forest.specs.RowRules.{rows}
 use Rattle.atspi_forest.specs.Tree.{after, after_all}
 use Rattle.atspi_message.specs.Envelope.{Envelope}
 use Rattle.atspi_routing.specs.Routing.{is_reply}
-use Rattle.atspi_protocol.specs.ends.Messages.{Reply, returns, fails, reply_to, replies, expects_reply}
+use Rattle.atspi_protocol.specs.ends.Messages.{reply_to, replies, expects_reply}
 use Rattle.atspi_protocol.specs.registering.RegistryState.{RegistryState}
 use Rattle.atspi_protocol.specs.registering.Steps.{RegistryStep, named, called_by, hears, name_told, name_gone, registry_takes}
 use Rattle.atspi_protocol.specs.registering.Laws.{replies_in, AreOneReply}
 use Rattle.atspi_protocol.proofs.OfRegistering.Replies.{once}
 use Rattle.atspi_protocol.specs.announcing.Signals.{Signal}
 use Rattle.atspi_protocol.specs.announcing.Announced.{announced}
-use Rattle.atspi_protocol.specs.exporting.Exporter.{StartCall, hello, add_match, get_registered_events, embed, Happening, steps, sends, hears as hears_of, deaf, Exporter, begins, numbered, queues}
-use Rattle.atspi_protocol.specs.exporting.Hearing.{exchanged, firsts, is_heard, is_pair, pairs_in, heard_after, Change, is_covered}
+use Rattle.atspi_protocol.specs.exporting.Exporter.{StartCall, hello, add_match, get_registered_events, embed, Happening, steps, sends, hears as hears_of, deaf, Exporter, numbered, queues}
+use Rattle.atspi_protocol.specs.exporting.Hearing.{exchanged, pairs_in, heard_after, Change, is_covered}
 use Rattle.atspi_protocol.specs.exporting.Telling.{asked_for, steps_told}
-use Rattle.atspi_protocol.specs.exporting.Starting.{awaited, goes_on, asks, greeted, listened, ends_start, start_call, name_or_empty, unique_name_in, starts}
+use Rattle.atspi_protocol.specs.exporting.Starting.{awaited, goes_on, asks, greeted, listened, ends_start, start_call, name_or_empty, unique_name_in}
 use Rattle.atspi_protocol.specs.exporting.Taking.{app_takes, app_edits, takes_other, takes_call, takes_signal, called, stepped, answer_to}
 use Rattle.atspi_trace.specs.World.{Said}
 use Rattle.atspi_trace.specs.Causes.{saids, announced_if}
-use Rattle.atspi_lawful.proofs.OfOrder.Parties.{no_none, same_some, false_true, all_append}
-use Rattle.atspi_lawful.proofs.OfOrder.Each.{all_map}
-use Rattle.atspi_lawful.proofs.OfHeard.Heeding.{IsOfListeners, IsToldOf, heard_told, exchanged_told}
+use Rattle.atspi_lawful.proofs.OfOrder.Parties.{false_true}
+use Rattle.atspi_lawful.proofs.OfHeard.Heeding.{IsOfListeners, heard_told, exchanged_told}
 use Rattle.atspi_lawful.proofs.OfCaches.Between.{IsSignal, all_signals}
 
 -- THE REPLY TO A CALL, with the tree as its steps leave it

@@ -1,5 +1,5 @@
 -- The list of a unique name holds no connection but the one that has it, whatever the bus does.
-use Rattle.std.proofs.Common.{◌≡◌, ◌⊎◌, inl, inr, ℕ, zero, suc, Bool, true, false, List, [], ◌∷◌, ◌++◌, Option, None, Some, refl, sym, ap, ◌∙◌, subst}
+use Rattle.std.proofs.Common.{◌≡◌, ◌⊎◌, inl, inr, ℕ, zero, suc, Bool, true, false, List, [], ◌∷◌, ◌++◌, Option, None, Some, refl, sym, ap, ◌∙◌}
 use Rattle.std.specs.Prelude.{◌==◌, ◌&&◌, ◌||◌, ◌-◌, not, bytes_eq, codes, if◌then◌else◌, Result, Ok, Err}
 use Rattle.std.specs.List.{list_any}
 use Rattle.std.proofs.lemmas.Bool.{eqb-true, eq-eqb}
@@ -22,7 +22,7 @@ use Rattle.atspi_routing.specs.Answers.{Answer, only, fails, returns, answers, m
 use Rattle.atspi_routing.specs.Routing.{receivers, is_for_bus, owners_of, one_or_none}
 use Rattle.atspi_routing.specs.Steps.{handed, speaks, called, undeliverable, is_unowned, calls_after_all, is_hello, greets, closes, bus_takes}
 use Rattle.atspi_trace.specs.Carrying.{Carried, one_closed, settled}
-use Rattle.atspi_lawful.proofs.OfOrder.Parties.{no_none, same_some, false_true}
+use Rattle.atspi_lawful.proofs.OfOrder.Parties.{no_none, false_true}
 use Rattle.atspi_lawful.proofs.OfNames.Naming.{hello_here, hello_other, gone_other}
 
 abbrev pub OwnLists : Owners → Type 0

@@ -1,14 +1,15 @@
--- What applications' returns to readers' calls for all items tell.
+-- What applications' returns to readers' calls for all items, and for parts, tell.
 use Rattle.std.specs.Prelude.{◌≡◌, ℕ, List, Some}
 use Rattle.atspi_lines.specs.declared.line.Party.TheVariants.{App, Reader}
 use Rattle.atspi_message.specs.Envelope.{Envelope}
-use Rattle.atspi_protocol.specs.declared.following.question.Question.TheVariants.{GetItems}
+use Rattle.atspi_protocol.specs.declared.following.question.Question.TheVariants.{GetItems, GetPart}
 use Rattle.atspi_trace.specs.Entry.{Entry, got}
-use Rattle.atspi_lawful.specs.laws.Words.{message, as_of, answers_question}
+use Rattle.atspi_protocol.specs.declared.news.part.PartName.{PartName}
+use Rattle.atspi_lawful.specs.laws.Words.{added, message, before_sent, as_of, answers_question}
 use Rattle.atspi_lawful.specs.laws.NineLaws.{Everywhere}
 use Rattle.atspi_lawful.specs.order.Laws.{OfEachTrace}
 use Rattle.atspi_lawful.specs.signed.Laws.{IsItsName}
-use Rattle.atspi_lawful.specs.caches.Laws.{TellsItems}
+use Rattle.atspi_lawful.specs.caches.Laws.{TellsItems, TellsPart}
 
 -- a return that a reader takes as one to its call for all items tells the view of the application's tree as it was when it was sent, under its own name
 abbrev pub IsItemsTold : List Entry → Entry → List Entry → Type 0
@@ -18,3 +19,13 @@ IsItemsTold before entry behind = Unit {0}
 
 abbrev pub ItemsAreTold : Type 0
 ItemsAreTold = OfEachTrace (Everywhere IsItemsTold)
+
+-- and one that it takes as one to its call for a part that part of the tree as it was when it was sent, of a node that was added to it
+abbrev pub IsPartTold : List Entry → Entry → List Entry → Type 0
+IsPartTold before (got (Reader r) (App a) serial) behind =
+    (name asked path : List ℕ) (part : PartName) (e : Envelope) → message before (App a) serial ≡ Some e → answers_question before r (Some e) ≡ Some (GetPart asked path part)
+    → TellsPart name (as_of before a serial) (added (before_sent (App a) serial before) a) path part e
+IsPartTold before entry behind = Unit {0}
+
+abbrev pub PartsAreTold : Type 0
+PartsAreTold = OfEachTrace (Everywhere IsPartTold)

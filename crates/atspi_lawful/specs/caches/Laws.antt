@@ -3,28 +3,30 @@ use Rattle.std.specs.Prelude.{◌≡◌, ◌≤◌, ℕ, List, [], ◌∷◌, �
 use Rattle.std.specs.List.{AllByRecursion}
 use Rattle.atspi_forest.specs.declared.news.Item.{Item}
 use Rattle.atspi_forest.specs.declared.news.News.{News}
+use Rattle.atspi_forest.specs.declared.view.Row.{Row}
 use Rattle.atspi_forest.specs.declared.step.Step.{Step}
 use Rattle.atspi_forest.specs.Forest.{Forest}
 use Rattle.atspi_forest.specs.News.{effect, load}
 use Rattle.atspi_forest.specs.Path.{path_of}
 use Rattle.atspi_forest.specs.Row.{TreeRow}
 use Rattle.atspi_forest.specs.View.{nothing_told, view}
+use Rattle.atspi_speech.specs.Speech.{lines as read_lines, says_after, closing_lines, closing_says}
 use Rattle.atspi_lines.specs.declared.line.Line.{Line}
 use Rattle.atspi_lines.specs.declared.line.Party.TheVariants.{App, Reader}
 use Rattle.atspi_message.specs.Envelope.{Envelope}
 use Rattle.atspi_protocol.specs.announcing.Announced.{announced}
 use Rattle.atspi_protocol.specs.declared.news.part.PartName.{PartName}
 use Rattle.atspi_protocol.specs.declared.following.question.Question.{Question}
-use Rattle.atspi_protocol.specs.declared.following.question.Question.TheVariants.{GetItems, GetPart}
+use Rattle.atspi_protocol.specs.declared.following.question.Question.TheVariants.{GetItems}
+use Rattle.atspi_protocol.specs.news.NewsOf.{news_of}
 use Rattle.atspi_protocol.specs.news.Replies.{items_told, part_told}
 use Rattle.atspi_protocol.specs.following.ReaderState.{Followed}
-use Rattle.atspi_trace.specs.Entry.{Entry, changed, sent, got}
+use Rattle.atspi_trace.specs.Entry.{Entry, changed, sent, got, gone}
 use Rattle.atspi_trace.specs.Causes.{told_in}
 use Rattle.atspi_trace.specs.Due.{begins, after_all, Begun}
-use Rattle.atspi_lawful.specs.laws.Words.{live_tree, added, message, before_sent, as_of, heard_pairs, answers_question, Kept, held}
-use Rattle.atspi_lawful.specs.laws.NineLaws.{Everywhere, Follow}
+use Rattle.atspi_lawful.specs.laws.Words.{live_tree, message, before_sent, as_of, heard_pairs, answers_question, Kept, held}
+use Rattle.atspi_lawful.specs.laws.NineLaws.{Everywhere}
 use Rattle.atspi_lawful.specs.order.Scripts.{CanAllStand}
-use Rattle.atspi_lawful.specs.heard.Laws.{signals_under, IsAmong}
 use Rattle.atspi_lawful.specs.folds.Laws.{AreAllCovered}
 use Rattle.atspi_lawful.specs.signed.Laws.{IsItsName}
 use Rattle.atspi_lawful.specs.caches.Caches.{followed}
@@ -43,17 +45,6 @@ pub record TellsPart (name : List ℕ) (tree : Forest TreeRow) (count : ℕ) (pa
   pub node : ℕ
   pub is_of : path ≡ path_of node
   pub was_added : node ≤ count
-
--- each return to a call for a part, as the reader takes it
-abbrev pub TellsIfPart : List ℕ → Forest TreeRow → ℕ → Option Question → Envelope → Type 0
-TellsIfPart name its_tree count (Some (GetPart n path part)) e = TellsPart name its_tree count path part e
-TellsIfPart name its_tree count question e = Unit {0}
-
-abbrev pub ArePartsTold : List ℕ → ℕ → ℕ → List Entry → Entry → List Entry → Type 0
-ArePartsTold name reader app before (got (Reader r) (App a) serial) behind =
-    r ≡ reader → a ≡ app → (e : Envelope) → message before (App app) serial ≡ Some e
-    → TellsIfPart name (as_of before app serial) (added (before_sent (App app) serial before) app) (answers_question before reader (Some e)) e
-ArePartsTold name reader app before entry behind = Unit {0}
 
 -- NOTHING IS MISSED. Between the last message that the reader took of the application and the one that it takes now the application sent no signal, and
 -- each step of it that stands between was asked for whole.
@@ -81,7 +72,6 @@ MissesNone name reader app before entry behind = Unit {0}
 
 -- such a reader and application
 pub record IsServed (trace : List Entry) (name : List ℕ) (reader app : ℕ) : Type 0 where
-  pub parts_told : Everywhere (ArePartsTold name reader app) trace
   pub nothing_missed : Everywhere (MissesNone name reader app) trace
 
 -- WHAT THE READER HAS: nothing of one that it does not hold; of one that it holds the view of its tree as of the last message taken, with the parts
@@ -100,3 +90,25 @@ CachesFollow =
     (lines : List Line) (trace : List Entry) → CanAllStand lines → Begun lines trace → (after_all (begins lines) trace).owing ≡ []
     → (name : List ℕ) (reader app : ℕ) → IsItsName trace app name → IsServed trace name reader app
     → (front rest : List Entry) → trace ≡ front ++ rest → CacheIs front app (held front reader app) (followed name front reader app)
+
+-- THE LINES THAT IT READS, by the reader's own definition, from what it has. At a message directly behind a step they are those that are due at the step,
+-- read from the tree as of the message; at any other message there are none. And at the application's end it is the closing line that is due.
+pub record IsRead (name : List ℕ) (before : List Entry) (app serial : ℕ) (v : Forest Row) (e : Envelope) : Type 0 where
+  pub behind_step : (early : List Entry) (step : Step) → before_sent (App app) serial before ≡ early ++ changed app step ∷ [] → read_lines (path_of 0) name v (news_of name e) ≡ says_after (as_of before app serial) step
+  pub elsewhere : ((early : List Entry) (step : Step) → before_sent (App app) serial before ≡ early ++ changed app step ∷ [] → ⊥) → read_lines (path_of 0) name v (news_of name e) ≡ []
+
+abbrev pub ReadsAt : List ℕ → ℕ → ℕ → List Entry → ℕ → Type 0
+ReadsAt name reader app before serial =
+    (IsLoad (answers_question before reader (message before (App app) serial)) → ⊥) → (e : Envelope) → message before (App app) serial ≡ Some e
+    → (v : Forest Row) → (followed name before reader app).view ≡ Some v → IsRead name before app serial v e
+
+abbrev pub ReadsDue : List ℕ → ℕ → ℕ → List Entry → Entry → List Entry → Type 0
+ReadsDue name reader app before (got (Reader r) (App a) serial) behind = r ≡ reader → a ≡ app → ReadsAt name r a before serial
+ReadsDue name reader app before (gone r a) behind =
+    r ≡ reader → a ≡ app → (k : Kept) → held before reader app ≡ Some k → (v : Forest Row) → (followed name before reader app).view ≡ Some v → closing_lines v ≡ closing_says (as_of before app k.last)
+ReadsDue name reader app before entry behind = Unit {0}
+
+abbrev pub LinesAreRead : Type 0
+LinesAreRead =
+    (script : List Line) (trace : List Entry) → CanAllStand script → Begun script trace → (after_all (begins script) trace).owing ≡ []
+    → (name : List ℕ) (reader app : ℕ) → IsItsName trace app name → IsServed trace name reader app → Everywhere (ReadsDue name reader app) trace
