@@ -27,7 +27,7 @@ use Rattle.atspi_trace.specs.Causes.{did}
 use Rattle.atspi_lawful.proofs.OfOrder.Each.{Each}
 use Rattle.atspi_lawful.proofs.OfSteps.Doings.{IsStill, still_append, tree_by, tree_append, tree_numbered, still_tree, still_sends, told_tree}
 use Rattle.atspi_lawful.proofs.OfHeard.Pairs.{heard_by, heard_append, heard_numbered, sent_numbered, sent_append, exchanged_heard}
-use Rattle.atspi_lawful.proofs.OfHeard.Telling.{Under, under_both_lists, under_tells, TellsUnder, Both, both_more, At, at_behind, Tells, tells_both, IsPlain, plain_each, plain_under, plain_tells, steps_under, steps_tell, told_heard}
+use Rattle.atspi_lawful.proofs.OfHeard.Telling.{Under, under_both_lists, under_tells, Both, both_more, At, at_behind, Tells, tells_both, IsPlain, plain_each, plain_under, plain_tells, steps_under, steps_tell, told_heard}
 
 -- no listener among what happened
 abbrev pub NoListeners : List Happening → Type 0

@@ -1,5 +1,5 @@
 -- An application signs with its own unique name, along a lawful trace.
-use Rattle.std.proofs.Common.{◌≡◌, ◌⊎◌, inl, inr, ℕ, suc, ◌+◌, List, [], ◌∷◌, ◌++◌, map, None, Some, sym, ap, ◌∙◌, subst, arith}
+use Rattle.std.proofs.Common.{◌≡◌, ◌⊎◌, inl, inr, ℕ, suc, List, [], ◌∷◌, ◌++◌, map, None, Some, sym, ap, ◌∙◌, subst, arith}
 use Rattle.std.specs.Prelude.{option_map}
 use Rattle.std.specs.List.{AllByRecursion}
 use Rattle.std.proofs.lemmas.List.{append-nil, append_assoc}
@@ -16,7 +16,7 @@ use Rattle.atspi_trace.specs.Ends.{same_party, number_of, whose, party_at, taken
 use Rattle.atspi_trace.specs.Carrying as carrying
 use Rattle.atspi_trace.specs.Causes.{Done, did, app_starts, reader_starts}
 use Rattle.atspi_trace.specs.Due.{begins, after_all, Goes}
-use Rattle.atspi_lawful.specs.laws.Words.{message, name_in}
+use Rattle.atspi_lawful.specs.laws.Words.{name_in}
 use Rattle.atspi_lawful.specs.laws.NineLaws.{Everywhere, IsTold, IsSignalOfStep, LawOfApplications}
 use Rattle.atspi_lawful.specs.order.Scripts.{CanAllStand}
 use Rattle.atspi_lawful.specs.heard.Laws.{signals_under, IsAmong}

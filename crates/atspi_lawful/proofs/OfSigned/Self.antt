@@ -24,10 +24,9 @@ use Rattle.atspi_protocol.specs.exporting.Hearing.{pairs_in}
 use Rattle.atspi_protocol.specs.exporting.Telling.{steps_told}
 use Rattle.atspi_protocol.specs.exporting.Starting.{starts, awaited, is_number, goes_on, greeted as greeted_by, listened, ends_start, unique_name_in, name_or_empty, start_call}
 use Rattle.atspi_protocol.specs.exporting.Taking.{app_takes, app_edits, stepped, takes_other, takes_call, takes_signal, called}
-use Rattle.atspi_trace.specs.Entry.{Entry, started, sent, heard}
+use Rattle.atspi_trace.specs.Entry.{Entry, started, sent}
 use Rattle.atspi_trace.specs.World.{an_application, Letter, newcomer, first_world, End, World}
 use Rattle.atspi_trace.specs.Ends.{is_app, same_party, number_of, whose, end_at, with_end, put_up, taken_down, app_count}
-use Rattle.atspi_trace.specs.Carrying as carrying
 use Rattle.atspi_trace.specs.Causes.{Done, at_end, has_done, app_starts, reader_starts}
 use Rattle.atspi_trace.specs.Due.{asks_at}
 use Rattle.atspi_lawful.specs.laws.Words.{messages, message, with_serial}
