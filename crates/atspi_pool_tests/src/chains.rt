@@ -48,3 +48,22 @@ pub fn cut_back(rt: &impl Abort, pool: &mut Pool, chain: u32, n: u32)
     assert!(rt; n <= pool.len(chain));
     pool.cut_back(chain, n);
 }
+
+/// Whether a chain has so many bytes, in a pool of so many blocks of which so many are free.
+pub fn counts(pool: &Pool, chain: u32, len: u32, made: u64, free: u64) -> bool
+    requires { IsSome (chain_at pool.now chain) }
+{
+    pool.len(chain) == len && has_blocks(pool, made, free)
+}
+
+/// Whether so many blocks were made, and so many of them are free.
+pub fn has_blocks(pool: &Pool, made: u64, free: u64) -> bool {
+    pool.made() == made && pool.free() == free
+}
+
+/// Whether the first block of a chain has these bytes.
+pub fn shows(pool: &Pool, chain: u32, bytes: &[u8]) -> bool
+    requires { IsSome (chain_at pool.now chain) }
+{
+    pool.front(chain) == bytes
+}

@@ -5,11 +5,10 @@ ghost use Rattle.atspi_pool.specs.Store.{chain_at};
 ghost use Rattle.atspi_pool.specs.Pool.{in_use, no_pool};
 ghost use Rattle.atspi_pool_tests.specs.Kept.{AllUsed, KeepsChains};
 
-use crate::chains::{cut_back, open, pop, push};
+use crate::chains::{counts, cut_back, open, pop, push};
 use atspi_pool::Pool;
-use std::alloc::Global;
+use std::alloc::{AllocError, Global};
 use std::process::Abort;
-use std::test::Fail;
 
 /// So many chains of a new pool.
 fn opened(rt: &impl Abort, alloc: Global, pool: &mut Pool, count: u32) -> Vec<u32>
@@ -90,35 +89,54 @@ fn a_thousand_chains(rt: HostRuntime) {
         greatest = greatest.max(most_blocks(&pool, &numbers));
         grow_and_shrink(&rt, &mut pool, &numbers, round);
         greatest = greatest.max(most_blocks(&pool, &numbers));
-        assert!(rt; pool.made() <= greatest, "{} of {greatest}", pool.made());
+        assert!(rt; pool.made() <= greatest);
     }
     empty(&rt, &mut pool, &numbers);
-    assert_eq!(rt; pool.free(), pool.made());
+    assert!(rt; pool.free() == pool.made());
 }
 
-/// A chain of 16 MiB comes out as it went in.
-#[test]
-fn sixteen_mebibytes(rt: HostRuntime) -> Result<(), Fail> {
-    let mut bytes = Vec::with_capacity(rt.alloc(), 16_777_216)?;
+/// 16 MiB of bytes that tell where they stand.
+fn sixteen(alloc: Global) -> Result<Vec<u8>, AllocError> {
+    let mut bytes = Vec::with_capacity(alloc, 16_777_216)?;
     for i in 0..16_777_216u32 {
         bytes.push((i % 251) as u8)?;
     }
-    let mut pool = Pool::new(rt.alloc());
-    let chain = open(&rt, &mut pool);
-    push(&rt, &mut pool, chain, &[0; 100]);
-    pop(&rt, &mut pool, chain, 99);
-    assert!(rt; bytes.len() <= 100_000_000);
-    push(&rt, &mut pool, chain, &bytes);
-    assert_eq!(rt; (pool.len(chain), pool.made()), (16_777_217, 65_537));
-    pop(&rt, &mut pool, chain, 1);
-    let mut out = Vec::with_capacity(rt.alloc(), 16_777_216)?;
+    Ok(bytes)
+}
+
+/// What comes out of a chain in 70,000 blocks.
+fn drained(
+    rt: &impl Abort,
+    alloc: Global,
+    pool: &mut Pool,
+    chain: u32,
+) -> Result<Vec<u8>, AllocError>
+    requires { IsSome (chain_at pool.old chain) }
+    ensures { KeepsChains pool.old pool.new }
+{
+    let mut out = Vec::with_capacity(alloc, 16_777_216)?;
     for _ in 0..70_000 {
         let front = pool.front(chain);
         out.extend_from_slice(front)?;
         let n = front.len() as u32;
-        pop(&rt, &mut pool, chain, n);
+        pop(rt, pool, chain, n);
     }
+    Ok(out)
+}
+
+/// A chain of 16 MiB comes out as it went in.
+#[test]
+fn sixteen_mebibytes(rt: HostRuntime) {
+    let bytes = sixteen(rt.alloc()).expect(&rt, "memory");
+    assert!(rt; bytes.len() <= 100_000_000);
+    let mut pool = Pool::new(rt.alloc());
+    let chain = open(&rt, &mut pool);
+    push(&rt, &mut pool, chain, &[0; 100]);
+    pop(&rt, &mut pool, chain, 99);
+    push(&rt, &mut pool, chain, &bytes);
+    assert!(rt; counts(&pool, chain, 16_777_217, 65_537, 0));
+    pop(&rt, &mut pool, chain, 1);
+    let out = drained(&rt, rt.alloc(), &mut pool, chain).expect(&rt, "memory");
     assert!(rt; out == bytes);
-    assert_eq!(rt; (pool.len(chain), pool.free()), (0, 65_537));
-    Ok(())
+    assert!(rt; counts(&pool, chain, 0, 65_537, 65_537));
 }
