@@ -1,5 +1,5 @@
 -- A reader's view of four nodes, with short paths, and the items and news about them.
-use Rattle.std.specs.Prelude.{ℕ, ◌+◌, ℤ, pos, false, List, [], ◌∷◌, Option, Some, None, codes}
+use Rattle.std.specs.Prelude.{ℕ, ◌+◌, ℤ, pos, false, cond, bytes_eq, List, [], ◌∷◌, Option, Some, None, codes}
 use Rattle.atspi_forest.specs.declared.view.Row.{Row}
 use Rattle.atspi_forest.specs.declared.view.Part.TheVariants.{Absent, Unknown, Known}
 use Rattle.atspi_forest.specs.declared.view.NumPart.TheVariants.{Absent as NoNumber, Unknown as UnknownNumber, Known as KnownNumber}
@@ -9,6 +9,7 @@ use Rattle.atspi_forest.specs.declared.news.News.{News}
 use Rattle.atspi_forest.specs.Forest.{Forest, nil, tree, seats}
 use Rattle.atspi_forest.specs.View.{Told}
 use Rattle.atspi_forest.specs.News.{effect, load, told_after}
+use Rattle.atspi_examples.specs.Room.{told_all}
 
 -- the bus name of the application, and that of another
 abbrev pub bus : List ℕ
@@ -111,3 +112,10 @@ told_nothing path = record { text = false; caret = false; columns = false }
 
 abbrev pub told_by : News → ℕ → Told
 told_by news n = told_after told_nothing news (path n)
+
+-- a reader who was told all of node 1 and nothing else, and what it was told of a path after a news
+abbrev pub told_one : List ℕ → Told
+told_one p = cond (bytes_eq p (path 1)) (told_all p) (told_nothing p)
+
+abbrev pub told_again : News → ℕ → Told
+told_again news n = told_after told_one news (path n)

@@ -1,6 +1,7 @@
 //! The steps of each edit of the room, where it is not refused.
 
 ghost use Rattle.std.specs.Prelude.{◌≡◌, ◌∷◌, [], codes, true, false};
+ghost use Rattle.atspi_forest.specs.Edits.{is_seat, numbers_to};
 ghost use Rattle.atspi_examples.specs.Room.{answer, plain};
 
 use atspi_forest::{Edit, Step};
@@ -18,6 +19,7 @@ pub fn remove_and_move()
     ensures first { answer (Edit.Move 4 1 0) ≡ Ok (Step.Move 4 1 0 ∷ []) }
     ensures last { answer (Edit.Move 4 1 2) ≡ Ok (Step.Move 4 1 2 ∷ []) }
     ensures own { answer (Edit.Move 4 1 1) ≡ Ok [] }
+    ensures own_first { answer (Edit.Move 6 1 0) ≡ Ok [] }
     ensures same_index { answer (Edit.Move 4 7 1) ≡ Ok (Step.Move 4 7 1 ∷ []) }
     ensures with_children { answer (Edit.Move 1 7 0) ≡ Ok (Step.Move 1 7 0 ∷ []) }
 {}
@@ -49,6 +51,7 @@ pub fn states_and_focus()
 pub fn put_and_type()
     ensures before { answer (Edit.Put 2 1 (codes "xy")) ≡ Ok (Step.Insert 2 1 (codes "xy") ∷ Step.Caret 2 5 ∷ []) }
     ensures there { answer (Edit.Put 2 3 (codes "x")) ≡ Ok (Step.Insert 2 3 (codes "x") ∷ []) }
+    ensures just_before { answer (Edit.Put 2 2 (codes "x")) ≡ Ok (Step.Insert 2 2 (codes "x") ∷ Step.Caret 2 4 ∷ []) }
     ensures at_end { answer (Edit.Put 2 5 (codes "x")) ≡ Ok (Step.Insert 2 5 (codes "x") ∷ []) }
     ensures put_nothing { answer (Edit.Put 2 1 []) ≡ Ok [] }
     ensures typed { answer (Edit.Keys 2 (codes "xy")) ≡ Ok (Step.Insert 2 3 (codes "xy") ∷ Step.Caret 2 5 ∷ []) }
@@ -79,6 +82,7 @@ pub fn caret_and_marks()
 pub fn selections()
     ensures other { answer (Edit.Select 1 1) ≡ Ok (Step.SetState 6 23 false ∷ Step.SetState 5 23 false ∷ Step.SetState 4 23 true ∷ []) }
     ensures selected { answer (Edit.Select 1 0) ≡ Ok (Step.SetState 5 23 false ∷ []) }
+    ensures selected_last { answer (Edit.Select 1 2) ≡ Ok (Step.SetState 6 23 false ∷ []) }
     ensures beside { answer (Edit.Select 7 1) ≡ Ok (Step.SetState 9 23 true ∷ []) }
     ensures selected_beside { answer (Edit.Select 7 0) ≡ Ok [] }
     ensures deselect { answer (Edit.Deselect 1 2) ≡ Ok (Step.SetState 5 23 false ∷ []) }
@@ -107,4 +111,15 @@ pub fn relations()
     ensures fewer { answer (Edit.Unrelate 2 1 3) ≡ Ok (Step.Relate 2 1 (5 ∷ []) ∷ []) }
     ensures none { answer (Edit.Unrelate 2 2 4) ≡ Ok (Step.Relate 2 2 [] ∷ []) }
     ensures not_there { answer (Edit.Unrelate 2 1 4) ≡ Ok [] }
+    ensures last_kind { answer (Edit.Unrelate 3 18 0) ≡ Ok [] }
+{}
+
+/// The focus is taken from any node that was ever added, the root too; a node stands at one index of one parent, and the root
+/// at none.
+pub fn numbers_and_seats()
+    ensures root { numbers_to 0 ≡ 0 ∷ [] }
+    ensures all { numbers_to 3 ≡ 0 ∷ 1 ∷ 2 ∷ 3 ∷ [] }
+    ensures seat { is_seat 7 2 (Some (Some 7, 2)) ≡ true }
+    ensures no_seat { is_seat 0 0 None ≡ false }
+    ensures root_seat { is_seat 0 0 (Some (None, 0)) ≡ false }
 {}

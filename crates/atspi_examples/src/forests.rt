@@ -87,6 +87,7 @@ pub fn each()
     ensures label_below { EachLabel (λ x. x ≡ 1) (tree 1 (leaf 2) nil) → ⊥ }
     ensures label_beside { EachLabel (λ x. x ≡ 1) (tree 1 nil (leaf 2)) → ⊥ }
     ensures nodes { EachNode (λ x below. width below ≡ x) (tree 1 (leaf 0) (leaf 0)) }
+    ensures node_alone { EachNode (λ x below. width below ≡ x) (tree 1 (leaf 0) nil) }
     ensures node { EachNode (λ x below. width below ≡ x) (leaf 1) → ⊥ }
     ensures node_below { EachNode (λ x below. width below ≡ x) (tree 1 (leaf 1) nil) → ⊥ }
     ensures node_beside { EachNode (λ x below. width below ≡ x) (tree 1 (leaf 0) (leaf 1)) → ⊥ }

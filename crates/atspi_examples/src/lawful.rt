@@ -46,6 +46,7 @@ pub fn removals_and_moves()
     ensures remove_none { Removes rows room 99 → ⊥ }
     ensures moved { Applies rows room 12 (Step.Move 4 1 2) }
     ensures moved_elsewhere { Applies rows room 12 (Step.Move 4 7 1) }
+    ensures moved_below_root { Applies rows room 12 (Step.Move 4 0 0) }
     ensures move_root { Moves rows (tree root nil (tree button nil nil)) 0 3 0 → ⊥ }
     ensures move_none { Moves rows room 99 1 0 → ⊥ }
     ensures move_below { Moves rows room 1 4 0 → ⊥ }

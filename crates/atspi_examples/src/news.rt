@@ -5,8 +5,8 @@ ghost use Rattle.std.specs.Prelude.{◌≡◌, ◌∷◌, [], pos, negsuc, codes
 ghost use Rattle.atspi_forest.specs.Forest.{nil, tree};
 ghost use Rattle.atspi_forest.specs.News.{effect, is_seat_at, seat_in, marks_reload, kinds_of};
 ghost use Rattle.atspi_forest.specs.Announce.{Idle};
-ghost use Rattle.atspi_examples.specs.Room.{no_kinds};
-ghost use Rattle.atspi_examples.specs.Seen.{bus, other_bus, path, row, known_row, unknown_row, with_rows, seen, seen_1, seen_2, hear, object, item, renewed_by_item, places, at_root, below, told_by, told_nothing};
+ghost use Rattle.atspi_examples.specs.Room.{no_kinds, told_all};
+ghost use Rattle.atspi_examples.specs.Seen.{bus, other_bus, path, row, known_row, unknown_row, with_rows, seen, seen_1, seen_2, hear, object, item, renewed_by_item, places, at_root, below, told_again, told_by, told_nothing};
 
 use atspi_forest::{News, NumPart, Part};
 
@@ -71,6 +71,18 @@ pub fn told()
     ensures columns_of_other { told_by (News.ColumnsIs (path 1) (pos 0)) 2 ≡ told_nothing [] }
     ensures no_columns { told_by (News.ColumnsIs (path 1) (negsuc 0)) 1 ≡ told_nothing [] }
     ensures moved_caret { told_by (News.Caret (path 1) (pos 0)) 1 ≡ told_nothing [] }
+{}
+
+/// What was told of a path before stays so, of the news' own path too.
+pub fn told_before()
+    ensures text { told_again (News.TextIs (path 1) []) 1 ≡ told_all [] }
+    ensures text_of_other { told_again (News.TextIs (path 2) []) 1 ≡ told_all [] }
+    ensures caret { told_again (News.CaretIs (path 1) (pos 0)) 1 ≡ told_all [] }
+    ensures caret_of_other { told_again (News.CaretIs (path 2) (pos 0)) 1 ≡ told_all [] }
+    ensures columns { told_again (News.ColumnsIs (path 1) (pos 0)) 1 ≡ told_all [] }
+    ensures columns_of_other { told_again (News.ColumnsIs (path 2) (pos 0)) 1 ≡ told_all [] }
+    ensures nothing { told_again News.Nothing 1 ≡ told_all [] }
+    ensures nothing_of_other { told_again News.Nothing 2 ≡ told_nothing [] }
 {}
 
 /// A node that is gone takes with it what is below it; the root stays.
@@ -159,4 +171,7 @@ pub fn idle()
     ensures asks { Idle (path 0) bus seen (News.ChildAdded (path 8) ∷ []) → ⊥ }
     ensures echoes { Idle (path 0) bus (hear (News.Item (item 1 2 (pos 0)))) (News.ChildRemoved (path 0) (pos 0) (path 1) ∷ News.Nothing ∷ News.ChildAdded (path 1) ∷ []) }
     ensures second { Idle (path 0) bus seen (News.Removed (path 8) ∷ News.ChildAdded (path 8) ∷ []) → ⊥ }
+    ensures root { Idle (path 0) bus seen (News.Removed (path 0) ∷ News.Removed (path 0) ∷ []) }
+    ensures item { Idle (path 0) bus seen (News.Item (item 0 8 (negsuc 0)) ∷ []) → ⊥ }
+    ensures second_item { Idle (path 0) bus seen (News.Removed (path 8) ∷ News.Item (item 0 8 (negsuc 0)) ∷ []) → ⊥ }
 {}
