@@ -1,28 +1,9 @@
 //! Scripts at their limits, and an outside that fails or moves few bytes in a call. What is due was worked out by hand.
 
-use atspi_base::{MemSink, MemSource};
-use atspi_run::run;
+use crate::running::{AMPLE, NEVER, Outside, ran};
 use std::alloc::Global;
 use std::process::Abort;
 use std::test::*;
-
-/// How the outside behaves: how many bytes a call moves at the most, and which read and which write fail.
-#[derive(Clone, Copy)]
-struct Outside {
-    most: usize,
-    failing_read: u64,
-    failing_write: u64,
-}
-
-/// The number of a call that never comes.
-const NEVER: u64 = u64::MAX;
-
-/// An outside that moves all bytes, and never fails.
-const AMPLE: Outside = Outside {
-    most: usize::MAX,
-    failing_read: NEVER,
-    failing_write: NEVER,
-};
 
 /// A script: a front, so many bytes `x`, and an end.
 struct Padded {
@@ -40,14 +21,14 @@ const LINES: [Padded; 10] = [
         count: 65_535,
         end: b"\nfrob\n",
         status: 1,
-        output: b"refused 2 Later\n",
+        output: b"refused 2 Form\n",
     },
     Padded {
         front: b"#",
         count: 65_536,
         end: b"\nfrob\n",
         status: 1,
-        output: b"refused 1 Later\n",
+        output: b"refused 1 Long\n",
     },
     Padded {
         front: b"#",
@@ -61,69 +42,51 @@ const LINES: [Padded; 10] = [
         count: 65_536,
         end: b"",
         status: 1,
-        output: b"refused 1 Later\n",
+        output: b"refused 1 Long\n",
     },
     Padded {
         front: b"app \"",
         count: 511,
         end: b"\"\nfrob\n",
         status: 1,
-        output: b"refused 2 Later\n",
+        output: b"refused 2 Form\n",
     },
     Padded {
         front: b"app \"",
         count: 512,
         end: b"\"\nfrob\n",
         status: 1,
-        output: b"refused 1 Later\n",
+        output: b"refused 1 TextFull\n",
     },
     Padded {
         front: b"#\xc3\xa9",
         count: 1,
         end: b"\nfrob\n",
         status: 1,
-        output: b"refused 2 Later\n",
+        output: b"refused 2 Form\n",
     },
     Padded {
         front: b"#\xff",
         count: 1,
         end: b"\nfrob\n",
         status: 1,
-        output: b"refused 1 Later\n",
+        output: b"refused 1 NotUtf8\n",
     },
     Padded {
         front: b"#\xc3",
         count: 1,
         end: b"\nfrob\n",
         status: 1,
-        output: b"refused 1 Later\n",
+        output: b"refused 1 NotUtf8\n",
     },
     Padded {
         front: b"app \"\xed\xa0\x80",
         count: 1,
         end: b"\"\nfrob\n",
         status: 1,
-        output: b"refused 1 Later\n",
+        output: b"refused 1 NotUtf8\n",
     },
 ];
-
-/// The words of the command.
-fn command(alloc: Global) -> Result<Vec<String>, Fail> {
-    let mut words = Vec::new(alloc);
-    words.push(String::from_str(alloc, "replay")?)?;
-    words.push(String::from_str(alloc, "--brief")?)?;
-    Ok(words)
-}
-
-/// The status of a script's replay, and what it wrote.
-fn replayed(alloc: Global, script: Vec<u8>, outside: Outside) -> Result<(u8, Vec<u8>), Fail> {
-    let words = command(alloc)?;
-    let most = outside.most.max(1);
-    let mut source = MemSource::in_pieces(script, most, [outside.failing_read].to_vec(alloc)?);
-    let mut sink = MemSink::in_pieces(alloc, most, [outside.failing_write].to_vec(alloc)?);
-    let status = run(alloc, &words, &mut source, &mut sink);
-    Ok((status, sink.bytes().to_vec(alloc)?))
-}
 
 /// Replays a script, and asserts what is due.
 fn assert_replayed(
@@ -134,7 +97,7 @@ fn assert_replayed(
     status: u8,
     output: &[u8],
 ) -> Result<(), Fail> {
-    let (ended, written) = replayed(alloc, script, outside)?;
+    let (ended, written) = ran(alloc, &["replay", "--brief"], script, outside)?;
     assert_eq!(rt; ended, status);
     assert_eq!(rt; written.as_slice(), output);
     Ok(())
@@ -164,22 +127,22 @@ const NAMES: [(&str, u8, &str); 8] = [
     (
         "\\\"\\\\\\x01\\x02\\x03\\x04\\x05\\x06\\x07\\x08\\x09\\x0a\\x0b\\x0c\\x0d\\x0e\\x0f\\x10\\x11\\x12\\x13\\x14\\x15\\x16\\x17\\x18\\x19\\x1a\\x1b\\x1c\\x1d\\x1e\\x1f\\x7f",
         0,
-        "show r0 a0 1\n| root - -1 application 0000000043000100 \"\\\"\\\\\\x01\\x02\\x03\\x04\\x05\\x06\\x07\\x08\\x09\\x0a\\x0b\\x0c\\x0d\\x0e\\x0f\\x10\\x11\\x12\\x13\\x14\\x15\\x16\\x17\\x18\\x19\\x1a\\x1b\\x1c\\x1d\\x1e\\x1f\\x7f\" \"\" - - - -\n",
+        "quiet\nshow r0 a0 1\n| root - -1 application 0000000043000100 \"\\\"\\\\\\x01\\x02\\x03\\x04\\x05\\x06\\x07\\x08\\x09\\x0a\\x0b\\x0c\\x0d\\x0e\\x0f\\x10\\x11\\x12\\x13\\x14\\x15\\x16\\x17\\x18\\x19\\x1a\\x1b\\x1c\\x1d\\x1e\\x1f\\x7f\" \"\" - - - -\n",
     ),
-    ("\\x00", 1, "refused 1 Later\n"),
-    ("\\x20", 1, "refused 1 Later\n"),
-    ("\\x0A", 1, "refused 1 Later\n"),
-    ("\\x1", 1, "refused 1 Later\n"),
-    ("\\n", 1, "refused 1 Later\n"),
-    ("\\", 1, "refused 1 Later\n"),
-    ("\u{1}", 1, "refused 1 Later\n"),
+    ("\\x00", 1, "refused 1 Form\n"),
+    ("\\x20", 1, "refused 1 Form\n"),
+    ("\\x0A", 1, "refused 1 Form\n"),
+    ("\\x1", 1, "refused 1 Form\n"),
+    ("\\n", 1, "refused 1 Form\n"),
+    ("\\", 1, "refused 1 Form\n"),
+    ("\u{1}", 1, "refused 1 Form\n"),
 ];
 
 /// A script in which a reader shows an application of this name.
 fn named(alloc: Global, name: &str) -> Result<Vec<u8>, Fail> {
     let mut script = b"app \"".to_vec(alloc)?;
     script.extend_from_slice(name.as_bytes())?;
-    script.extend_from_slice(b"\"\nreader\nturns 1\nshow r0 a0\n")?;
+    script.extend_from_slice(b"\"\nreader\ndrain\nshow r0 a0\n")?;
     Ok(script)
 }
 
@@ -287,8 +250,8 @@ fn a_write_that_fails_leaves_a_front_of_the_output(rt: HostRuntime) -> Result<()
     for written in 0..32u64 {
         assert_cut(&rt, rt.alloc(), TWICE, written, SHOWN)?;
     }
-    for written in 0..16u64 {
-        assert_cut(&rt, rt.alloc(), b"frob\n", written, b"refused 1 Later\n")?;
+    for written in 0..15u64 {
+        assert_cut(&rt, rt.alloc(), b"frob\n", written, b"refused 1 Form\n")?;
     }
     Ok(())
 }
@@ -315,7 +278,7 @@ fn pieces_of_any_size_give_the_same_output(rt: HostRuntime) -> Result<(), Fail> 
             b"frob\n".to_vec(rt.alloc())?,
             outside,
             1,
-            b"refused 1 Later\n",
+            b"refused 1 Form\n",
         )?;
     }
     Ok(())

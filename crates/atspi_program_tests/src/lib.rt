@@ -4,6 +4,10 @@
 #[cfg(test)]
 mod edge_tests;
 #[cfg(test)]
+mod rows;
+#[cfg(test)]
+mod running;
+#[cfg(test)]
 mod script_tests;
 #[cfg(test)]
 mod stream_tests;

@@ -1,160 +1,73 @@
 //! Scripts as worked out by hand, and words that are no command.
 
-use atspi_base::{MemSink, MemSource};
-use atspi_run::run;
+use crate::rows::{ROWS, Row};
+use crate::running::{AMPLE, NEVER, Outside, ran};
 use std::alloc::Global;
 use std::process::Abort;
 use std::test::*;
 
-/// A case: the words, the script, the numbers of the reads and of the writes that fail (none: 99), and what is due.
-struct Case {
-    name: &'static str,
-    script: &'static str,
-    failing_read: u64,
-    failing_write: u64,
-    status: u8,
-    output: &'static str,
-}
-
-/// The worked rows of this stage, and scripts that are refused or broken off.
-const CASES: [Case; 14] = [
-    Case {
-        name: "a button is inserted and renamed",
-        script: "app \"Demo\"\nreader\nturns 1000\nedit a0 insert 0 0 push-button \"OK\"\nedit a0 name 1 \"Save\"\nshow r0 a0\nturns 1000\nshow r0 a0\n",
-        failing_read: 99,
-        failing_write: 99,
-        status: 0,
-        output: "show r0 a0 1\n| root - -1 application 0000000043000100 \"Demo\" \"\" - - - -\nshow r0 a0 2\n| root - -1 application 0000000043000100 \"Demo\" \"\" - - - -\n| 1 root 0 push-button 0000000043000100 \"Save\" \"\" - - - -\n",
-    },
-    Case {
-        name: "busy, and a cache that follows message by message",
-        script: "app \"Demo\"\nreader\nshow r0 a0\nedit a0 insert 0 0 push-button \"OK\"\nturns 1\nshow r0 a0\nturns 1\nshow r0 a0\n",
-        failing_read: 99,
-        failing_write: 99,
-        status: 0,
-        output: "show r0 a0 none\nbusy 1\nshow r0 a0 1\n| root - -1 application 0000000043000100 \"Demo\" \"\" - - - -\nshow r0 a0 2\n| root - -1 application 0000000043000100 \"Demo\" \"\" - - - -\n| 1 root 0 push-button 0000000043000100 \"OK\" \"\" - - - -\n",
-    },
-    Case {
-        name: "a word that is none",
-        script: "frob\n",
-        failing_read: 99,
-        failing_write: 99,
-        status: 1,
-        output: "refused 1 Later\n",
-    },
-    Case {
-        name: "a node that is not there",
-        script: "app \"Demo\"\nedit a0 name 7 \"x\"\n",
-        failing_read: 99,
-        failing_write: 99,
-        status: 1,
-        output: "refused 2 NoNode\n",
-    },
-    Case {
-        name: "an index past the children",
-        script: "app \"Demo\"\nedit a0 insert 0 2 label \"x\"\n",
-        failing_read: 99,
-        failing_write: 99,
-        status: 1,
-        output: "refused 2 BadIndex\n",
-    },
-    Case {
-        name: "an end that is started again",
-        script: "# two readers\n\nreader\nreader\n",
-        failing_read: 99,
-        failing_write: 99,
-        status: 1,
-        output: "refused 4 Later\n",
-    },
-    Case {
-        name: "an end that is not started",
-        script: "app \"Demo\"\nshow r0 a0\n",
-        failing_read: 99,
-        failing_write: 99,
-        status: 1,
-        output: "refused 2 Later\n",
-    },
-    Case {
-        name: "every escape of a quoted text",
-        script: "app \"\\\"\\\\\\x01\\x1f\\x7f\u{e9}\"\nreader\nturns 1\nshow r0 a0",
-        failing_read: 99,
-        failing_write: 99,
-        status: 0,
-        output: "show r0 a0 1\n| root - -1 application 0000000043000100 \"\\\"\\\\\\x01\\x1f\\x7f\u{e9}\" \"\" - - - -\n",
-    },
-    Case {
-        name: "an escape that is none",
-        script: "app \"\\x41\"\n",
-        failing_read: 99,
-        failing_write: 99,
-        status: 1,
-        output: "refused 1 Later\n",
-    },
-    Case {
-        name: "a number with a leading zero",
-        script: "turns 01\n",
-        failing_read: 99,
-        failing_write: 99,
-        status: 1,
-        output: "refused 1 Later\n",
-    },
-    Case {
-        name: "a role by its number, siblings at an index",
-        script: "app \"D\"\nreader\nturns 1\nedit a0 insert 0 0 200 \"b\"\nedit a0 insert 0 0 29 \"a\"\nturns 9\nshow r0 a0\n",
-        failing_read: 99,
-        failing_write: 99,
-        status: 0,
-        output: "show r0 a0 3\n| root - -1 application 0000000043000100 \"D\" \"\" - - - -\n| 2 root 0 label 0000000043000100 \"a\" \"\" - - - -\n| 1 root 1 200 0000000043000100 \"b\" \"\" - - - -\n",
-    },
-    Case {
-        name: "an empty input",
-        script: "",
-        failing_read: 99,
-        failing_write: 99,
-        status: 0,
-        output: "",
-    },
-    Case {
-        name: "the first read fails",
-        script: "app \"Demo\"\nshow",
-        failing_read: 0,
-        failing_write: 99,
-        status: 3,
-        output: "",
-    },
-    Case {
-        name: "the second write fails",
-        script: "app \"Demo\"\nreader\nshow r0 a0\nshow r0 a0\nshow r0 a0\n",
-        failing_read: 99,
-        failing_write: 1,
-        status: 4,
-        output: "show r0 a0 none\n",
-    },
-];
-
-/// Runs a case, and asserts what is due.
-fn assert_case(rt: &impl Abort, alloc: Global, case: &Case) -> Result<(), Fail> {
-    let mut words = Vec::new(alloc);
-    words.push(String::from_str(alloc, "replay")?)?;
-    words.push(String::from_str(alloc, "--brief")?)?;
-    let script = case.script.as_bytes().to_vec(alloc)?;
-    let mut source = MemSource::new(script, [case.failing_read].to_vec(alloc)?);
-    let mut sink = MemSink::new(alloc, [case.failing_write].to_vec(alloc)?);
-    let status = run(alloc, &words, &mut source, &mut sink);
-    assert_eq!(rt; status, case.status, "status of: {}", case.name);
+/// Runs a row, and asserts what is due.
+fn assert_row(rt: &impl Abort, alloc: Global, row: &Row) -> Result<(), Fail> {
+    let (status, written) = ran(alloc, row.words, row.input.as_bytes().to_vec(alloc)?, AMPLE)?;
+    assert_eq!(rt; status, row.status, "status of: {}", row.name);
     assert_eq!(rt;
-        sink.bytes(),
-        case.output.as_bytes(),
+        written.as_slice(),
+        row.output.as_bytes(),
         "output of: {}",
-        case.name
+        row.name
     );
     Ok(())
 }
 
 #[test]
-fn scripts_are_replayed_as_worked_out_by_hand(rt: HostRuntime) -> Result<(), Fail> {
-    for case in &CASES {
-        assert_case(&rt, rt.alloc(), case)?;
+fn runs_are_as_worked_out_by_hand(rt: HostRuntime) -> Result<(), Fail> {
+    for row in &ROWS {
+        assert_row(&rt, rt.alloc(), row)?;
+    }
+    Ok(())
+}
+
+/// Scripts with a read or a write that fails: the script, the outside, and what is due.
+const BROKEN: [(&str, Outside, u8, &str); 3] = [
+    (
+        "app \"Demo\"\nshow",
+        Outside {
+            most: usize::MAX,
+            failing_read: 0,
+            failing_write: NEVER,
+        },
+        3,
+        "",
+    ),
+    (
+        "app \"Demo\"\nshow",
+        Outside {
+            most: usize::MAX,
+            failing_read: 1,
+            failing_write: NEVER,
+        },
+        3,
+        "start a0 \"Demo\"\nsent a0 call l 0 1 path=/org/freedesktop/DBus interface=org.freedesktop.DBus member=Hello destination=org.freedesktop.DBus\n",
+    ),
+    (
+        "app \"Demo\"\nreader\nexit a0\nleave r0\n",
+        Outside {
+            most: usize::MAX,
+            failing_read: NEVER,
+            failing_write: 0,
+        },
+        4,
+        "",
+    ),
+];
+
+#[test]
+fn what_was_written_before_a_fault_stands(rt: HostRuntime) -> Result<(), Fail> {
+    for (script, outside, status, output) in BROKEN {
+        let input = script.as_bytes().to_vec(rt.alloc())?;
+        let (ended, written) = ran(rt.alloc(), &["replay"], input, outside)?;
+        assert_eq!(rt; ended, status);
+        assert_eq!(rt; written.as_slice(), output.as_bytes());
     }
     Ok(())
 }
@@ -170,9 +83,29 @@ struct Told {
 const USAGE: &[u8] = b"usage: atspi replay, check, make, bus, registry, app or read\n";
 
 /// The words that are told a text, and words that are none's.
-const TOLD: [Told; 15] = [
+const TOLD: [Told; 19] = [
     Told {
         words: &["replay"],
+        status: 0,
+        text: b"",
+    },
+    Told {
+        words: &["replay", "--wire", "--brief"],
+        status: 2,
+        text: USAGE,
+    },
+    Told {
+        words: &["make", "20001", "0"],
+        status: 2,
+        text: USAGE,
+    },
+    Told {
+        words: &["make", "1", "2147483648"],
+        status: 2,
+        text: USAGE,
+    },
+    Told {
+        words: &["make", "01", "0"],
         status: 2,
         text: USAGE,
     },
@@ -208,8 +141,15 @@ const TOLD: [Told; 15] = [
     },
     Told {
         words: &["make", "--help"],
-        status: 2,
-        text: USAGE,
+        status: 0,
+        text: b"atspi make N SEED\n\
+Draws N edits from SEED, does them in an application that a reader follows, and writes\n\
+`made N SEED steps S nodes M says K`: S steps of the tree, M nodes that the reader holds at the end,\n\
+K lines that it spoke. The same words write the same line.\n\
+\n\
+N is 1 to 20000, SEED 0 to 2147483647.\n\
+\n\
+Status 0: the line was written. 4: writing failed. 5: no memory is left. 1, 9, 13: as of replay.\n",
     },
     Told {
         words: &["check --help"],
@@ -234,34 +174,53 @@ const TOLD: [Told; 15] = [
     Told {
         words: &["--help"],
         status: 0,
-        text: b"atspi replay --brief  a script on standard input: what each reader shows\n\
-atspi replay --help   the lines of a script, and the statuses of replay\n\
-atspi check           D-Bus messages on standard input: a line for each, or the first fault\n\
-atspi check --help    the lines that check writes, and its statuses\n\
-atspi --help          this text\n\
-atspi --version       the version\n",
+        text: b"atspi replay [--brief] [--wire]  a script on standard input: what happens, line by line\n\
+atspi replay --help              the lines of a script, and the statuses of replay\n\
+atspi make N SEED                a script of N edits is drawn and done: a line on what came of it\n\
+atspi make --help                its limits, and its statuses\n\
+atspi check                      D-Bus messages on standard input: a line for each, or the first fault\n\
+atspi check --help               the lines that check writes, and its statuses\n\
+atspi --help                     this text\n\
+atspi --version                  the version\n",
     },
     Told {
         words: &["replay", "--help"],
         status: 0,
-        text: b"atspi replay --brief\n\
-Does the lines of the script on standard input, and writes what the reader shows.\n\
+        text: b"atspi replay [--brief] [--wire]\n\
+Does the lines of the script on standard input, and writes what happens: each start, step, message,\n\
+spoken line and end. --brief keeps what readers say and show, who is dropped, and how turns end;\n\
+--wire adds the bytes of messages.\n\
 \n\
-app NAME                             the application a0 starts\n\
-reader                               the reader r0 starts\n\
-edit a0 insert NODE PLACE ROLE NAME  a new node below NODE, before its child PLACE\n\
-edit a0 name NODE NAME               NODE gets the name NAME\n\
-turns COUNT                          up to COUNT messages are taken; busy N: so many still wait\n\
-show r0 a0                           writes what the reader holds of the application\n\
-# TEXT                               nothing; so does an empty line\n\
+app Q                      the next application starts: a0 to a15\n\
+reader                     the next reader starts: r0 to r3\n\
+quota N                    each queue holds N bytes, 1024 to 16777216; before the first start\n\
+edit A insert P I ROLE Q   a new node below node P, before its child I; behind it `text Q` or\n\
+\x20                          `static Q`, `columns K`, `select`, `action Q` up to 8 times\n\
+edit A remove N            N goes, with all below it\n\
+edit A move N P I          N goes below P, before its child I\n\
+edit A name N Q            also: describe N Q, role N ROLE, state N STATE on|off, focus N\n\
+edit A put N O Q           Q stands in N's text at O; also: type N Q, cut N O J, caret N O,\n\
+\x20                          mark N O J, unmark N\n\
+edit A select N I          also: deselect N I, press N I, relate N K M, unrelate N K M\n\
+call R A N CALL            R calls node N of A: set-caret I, insert-text I Q, delete-text I J,\n\
+\x20                          set-text Q, select-child I, deselect-child I, select-all,\n\
+\x20                          clear-selection, do-action I\n\
+swap A                     A's texts go into another face\n\
+exit A, leave R            that end stops\n\
+bytes P up N, bytes P down N   N bytes of P's link move; P is A, R or reg\n\
+turns N                    N times the first thing that waits moves; busy N: something waits still\n\
+drain                      until nothing waits: quiet\n\
+show R A                   writes what R holds of A\n\
+# TEXT                     nothing; so does an empty line\n\
 \n\
-NAME stands in double quotes; in it a quote and a backslash are written behind a backslash, and a\n\
+Q stands in double quotes; in it a quote and a backslash are written behind a backslash, and a\n\
 control character as x and two hexadecimal digits behind one. ROLE is a word, as push-button, or a\n\
 number. A script has at most 16777216 bytes, and a line 65536.\n\
 \n\
 Status 0: all lines of the script were done. 1: a line is refused, which `refused LINE WHY` tells.\n\
 3: reading failed, behind whole lines that were done. 4: writing failed. 5: no memory is left.\n\
-8: the script is longer than its limit, and the whole lines inside it were done.\n",
+8: the script is longer than its limit, and the whole lines inside it were done. 9: the registry was\n\
+dropped at its quota. 13: a message would pass number 4294967295.\n",
     },
     Told {
         words: &["check", "--help"],
@@ -282,14 +241,9 @@ input ends inside one (reason 36). 8: the input is longer than its limit.\n",
 
 /// Runs the program on words and no input, and asserts the status and the text that are due.
 fn assert_told(rt: &impl Abort, alloc: Global, told: &Told) -> Result<(), Fail> {
-    let mut words = Vec::new(alloc);
-    for word in told.words {
-        words.push(String::from_str(alloc, word)?)?;
-    }
-    let mut source = MemSource::new(Vec::new(alloc), Vec::new(alloc));
-    let mut sink = MemSink::new(alloc, Vec::new(alloc));
-    assert_eq!(rt; run(alloc, &words, &mut source, &mut sink), told.status);
-    assert_eq!(rt; sink.bytes(), told.text);
+    let (status, written) = ran(alloc, told.words, Vec::new(alloc), AMPLE)?;
+    assert_eq!(rt; status, told.status);
+    assert_eq!(rt; written.as_slice(), told.text);
     Ok(())
 }
 
@@ -303,12 +257,18 @@ fn words_are_told_their_text(rt: HostRuntime) -> Result<(), Fail> {
 
 #[test]
 fn a_text_that_cannot_be_written_gives_status_4(rt: HostRuntime) -> Result<(), Fail> {
-    let mut words = Vec::new(rt.alloc());
-    words.push(String::from_str(rt.alloc(), "check")?)?;
-    words.push(String::from_str(rt.alloc(), "--help")?)?;
-    let mut source = MemSource::new(Vec::new(rt.alloc()), Vec::new(rt.alloc()));
-    let mut sink = MemSink::in_pieces(rt.alloc(), 5, [1u64].to_vec(rt.alloc())?);
-    assert_eq!(rt; run(rt.alloc(), &words, &mut source, &mut sink), 4);
-    assert_eq!(rt; sink.bytes(), b"atspi".as_slice());
+    let outside = Outside {
+        most: 5,
+        failing_read: NEVER,
+        failing_write: 1,
+    };
+    let (status, written) = ran(
+        rt.alloc(),
+        &["check", "--help"],
+        Vec::new(rt.alloc()),
+        outside,
+    )?;
+    assert_eq!(rt; status, 4);
+    assert_eq!(rt; written.as_slice(), b"atspi".as_slice());
     Ok(())
 }

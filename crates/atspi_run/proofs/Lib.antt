@@ -1,4 +1,3 @@
-pub mod LawLemmas
-pub mod OneText
-pub mod RunLemmas
+pub mod CommandLemmas
+pub mod TaskLemmas
 pub mod WordLemmas

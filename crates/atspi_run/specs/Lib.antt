@@ -1,5 +1,2 @@
-pub mod Input
-pub mod Play
 pub mod Words
-pub mod Run
-pub mod Laws
+pub mod Tasks

@@ -1,7 +1,13 @@
 -- What the words of a command line ask for.
-use Rattle.std.specs.Prelude.{◌≡◌, ◌⊎◌, ℕ, List, [], ◌∷◌, ◌++◌, Option, codes}
+use Rattle.std.specs.Prelude.{◌≡◌, ◌⊎◌, ℕ, ◌<◌, ◌≤◌, Bool, true, false, List, [], ◌∷◌, ◌++◌, Option, codes}
+use Rattle.std.specs.Fmt.{decimal}
 use Rattle.std.specs.Io.KnownBytes.{Appends}
 use Rattle.atspi_base.specs.Outside.{AppendsPart}
+use Rattle.atspi_events.specs.declared.options.TraceOptions.{TraceOptions}
+use Rattle.atspi_run.specs.declared.words.Script.{Script}
+use Rattle.atspi_run.specs.declared.words.Task.{Task}
+use Rattle.atspi_run.specs.declared.words.Task.TheVariants.{Replay, Make}
+use Rattle.atspi_replay.specs.declared.making.TheConstants.{MAKE_LIMIT, SEED_LIMIT}
 
 -- lines, each with its line feed
 abbrev pub text_of : List (List ℕ) → List ℕ
@@ -12,12 +18,14 @@ text_of (line ∷ lines) = line ++ 10 ∷ text_of lines
 abbrev pub help : List ℕ
 help =
     text_of
-    (codes "atspi replay --brief  a script on standard input: what each reader shows"
-    ∷ codes "atspi replay --help   the lines of a script, and the statuses of replay"
-    ∷ codes "atspi check           D-Bus messages on standard input: a line for each, or the first fault"
-    ∷ codes "atspi check --help    the lines that check writes, and its statuses"
-    ∷ codes "atspi --help          this text"
-    ∷ codes "atspi --version       the version"
+    (codes "atspi replay [--brief] [--wire]  a script on standard input: what happens, line by line"
+    ∷ codes "atspi replay --help              the lines of a script, and the statuses of replay"
+    ∷ codes "atspi make N SEED                a script of N edits is drawn and done: a line on what came of it"
+    ∷ codes "atspi make --help                its limits, and its statuses"
+    ∷ codes "atspi check                      D-Bus messages on standard input: a line for each, or the first fault"
+    ∷ codes "atspi check --help               the lines that check writes, and its statuses"
+    ∷ codes "atspi --help                     this text"
+    ∷ codes "atspi --version                  the version"
     ∷ [])
 
 -- for `--version`
@@ -28,24 +36,55 @@ version = text_of (codes "atspi 0.1.0" ∷ [])
 abbrev pub replay_help : List ℕ
 replay_help =
     text_of
-    (codes "atspi replay --brief"
-    ∷ codes "Does the lines of the script on standard input, and writes what the reader shows."
+    (codes "atspi replay [--brief] [--wire]"
+    ∷ codes "Does the lines of the script on standard input, and writes what happens: each start, step, message,"
+    ∷ codes "spoken line and end. --brief keeps what readers say and show, who is dropped, and how turns end;"
+    ∷ codes "--wire adds the bytes of messages."
     ∷ codes ""
-    ∷ codes "app NAME                             the application a0 starts"
-    ∷ codes "reader                               the reader r0 starts"
-    ∷ codes "edit a0 insert NODE PLACE ROLE NAME  a new node below NODE, before its child PLACE"
-    ∷ codes "edit a0 name NODE NAME               NODE gets the name NAME"
-    ∷ codes "turns COUNT                          up to COUNT messages are taken; busy N: so many still wait"
-    ∷ codes "show r0 a0                           writes what the reader holds of the application"
-    ∷ codes "# TEXT                               nothing; so does an empty line"
+    ∷ codes "app Q                      the next application starts: a0 to a15"
+    ∷ codes "reader                     the next reader starts: r0 to r3"
+    ∷ codes "quota N                    each queue holds N bytes, 1024 to 16777216; before the first start"
+    ∷ codes "edit A insert P I ROLE Q   a new node below node P, before its child I; behind it `text Q` or"
+    ∷ codes "                           `static Q`, `columns K`, `select`, `action Q` up to 8 times"
+    ∷ codes "edit A remove N            N goes, with all below it"
+    ∷ codes "edit A move N P I          N goes below P, before its child I"
+    ∷ codes "edit A name N Q            also: describe N Q, role N ROLE, state N STATE on|off, focus N"
+    ∷ codes "edit A put N O Q           Q stands in N's text at O; also: type N Q, cut N O J, caret N O,"
+    ∷ codes "                           mark N O J, unmark N"
+    ∷ codes "edit A select N I          also: deselect N I, press N I, relate N K M, unrelate N K M"
+    ∷ codes "call R A N CALL            R calls node N of A: set-caret I, insert-text I Q, delete-text I J,"
+    ∷ codes "                           set-text Q, select-child I, deselect-child I, select-all,"
+    ∷ codes "                           clear-selection, do-action I"
+    ∷ codes "swap A                     A's texts go into another face"
+    ∷ codes "exit A, leave R            that end stops"
+    ∷ codes "bytes P up N, bytes P down N   N bytes of P's link move; P is A, R or reg"
+    ∷ codes "turns N                    N times the first thing that waits moves; busy N: something waits still"
+    ∷ codes "drain                      until nothing waits: quiet"
+    ∷ codes "show R A                   writes what R holds of A"
+    ∷ codes "# TEXT                     nothing; so does an empty line"
     ∷ codes ""
-    ∷ codes "NAME stands in double quotes; in it a quote and a backslash are written behind a backslash, and a"
+    ∷ codes "Q stands in double quotes; in it a quote and a backslash are written behind a backslash, and a"
     ∷ codes "control character as x and two hexadecimal digits behind one. ROLE is a word, as push-button, or a"
     ∷ codes "number. A script has at most 16777216 bytes, and a line 65536."
     ∷ codes ""
     ∷ codes "Status 0: all lines of the script were done. 1: a line is refused, which `refused LINE WHY` tells."
     ∷ codes "3: reading failed, behind whole lines that were done. 4: writing failed. 5: no memory is left."
-    ∷ codes "8: the script is longer than its limit, and the whole lines inside it were done."
+    ∷ codes "8: the script is longer than its limit, and the whole lines inside it were done. 9: the registry was"
+    ∷ codes "dropped at its quota. 13: a message would pass number 4294967295."
+    ∷ [])
+
+-- for `make --help`
+abbrev pub make_help : List ℕ
+make_help =
+    text_of
+    (codes "atspi make N SEED"
+    ∷ codes "Draws N edits from SEED, does them in an application that a reader follows, and writes"
+    ∷ codes "`made N SEED steps S nodes M says K`: S steps of the tree, M nodes that the reader holds at the end,"
+    ∷ codes "K lines that it spoke. The same words write the same line."
+    ∷ codes ""
+    ∷ codes "N is 1 to 20000, SEED 0 to 2147483647."
+    ∷ codes ""
+    ∷ codes "Status 0: the line was written. 4: writing failed. 5: no memory is left. 1, 9, 13: as of replay."
     ∷ [])
 
 -- for `check --help`
@@ -69,9 +108,38 @@ check_help =
 abbrev pub usage : List ℕ
 usage = text_of (codes "usage: atspi replay, check, make, bus, registry, app or read" ∷ [])
 
--- the words are `replay --brief`
-abbrev pub IsReplay : List (List ℕ) → Type 0
-IsReplay words = words ≡ codes "replay" ∷ codes "--brief" ∷ []
+-- a word that stands where it is asked for
+abbrev pub word_if : Bool → List ℕ → List (List ℕ)
+word_if true word = word ∷ []
+word_if false word = []
+
+-- the words are `replay [--brief] [--wire]`, with these options
+abbrev pub IsReplay : List (List ℕ) → TraceOptions → Type 0
+IsReplay words options = words ≡ codes "replay" ∷ (word_if options.brief (codes "--brief") ++ word_if options.wire (codes "--wire"))
+
+-- both numbers are within the limits of `make`
+pub record IsAllowed (script : Script) : Type 0 where
+  pub some : 0 < script.count
+  pub few : script.count ≤ MAKE_LIMIT
+  pub small : script.seed < SEED_LIMIT
+
+-- these texts are numbers within the limits of `make`, as a script spells numbers
+pub record AreOf (first second : List ℕ) (count seed : ℕ) : Type 0 where
+  pub first_is : first ≡ decimal count
+  pub second_is : second ≡ decimal seed
+  pub some : 0 < count
+  pub few : count ≤ MAKE_LIMIT
+  pub small : seed < SEED_LIMIT
+
+-- the words are `make N SEED`
+abbrev pub IsMake : List (List ℕ) → ℕ → ℕ → Type 0
+IsMake (make ∷ first ∷ second ∷ []) count seed = (make ≡ codes "make") × AreOf first second count seed
+IsMake _ count seed = ⊥
+
+-- the words ask for this in a world
+abbrev pub IsTask : List (List ℕ) → Task → Type 0
+IsTask words (Replay options) = IsReplay words options
+IsTask words (Make script) = IsMake words script.count script.seed
 
 -- the words are `check` alone
 abbrev pub IsCheck : List (List ℕ) → Type 0
@@ -83,15 +151,23 @@ Asks words text =
     ((words ≡ codes "--help" ∷ []) × (text ≡ help))
     ⊎ (((words ≡ codes "--version" ∷ []) × (text ≡ version))
     ⊎ (((words ≡ codes "replay" ∷ codes "--help" ∷ []) × (text ≡ replay_help))
-    ⊎ ((words ≡ codes "check" ∷ codes "--help" ∷ []) × (text ≡ check_help))))
+    ⊎ (((words ≡ codes "make" ∷ codes "--help" ∷ []) × (text ≡ make_help))
+    ⊎ ((words ≡ codes "check" ∷ codes "--help" ∷ []) × (text ≡ check_help)))))
 
 -- the words ask for some text
 abbrev pub IsTold : List (List ℕ) → Type 0
 IsTold words = (text : List ℕ) × Asks words text
 
+-- the words ask for a replay, or for a script to be made
+abbrev pub IsReplayed : List (List ℕ) → Type 0
+IsReplayed words = (options : TraceOptions) × IsReplay words options
+
+abbrev pub IsMade : List (List ℕ) → Type 0
+IsMade words = (count : ℕ) × (seed : ℕ) × IsMake words count seed
+
 -- the words are those of a command
 abbrev pub IsCommand : List (List ℕ) → Type 0
-IsCommand words = IsReplay words ⊎ (IsCheck words ⊎ IsTold words)
+IsCommand words = IsReplayed words ⊎ (IsMade words ⊎ (IsCheck words ⊎ IsTold words))
 
 -- the text was written, and the status is the one that is due; or a front of it was, and the status is 4
 abbrev pub Tells : ℕ → List ℕ → ℕ → Option (List ℕ) → Option (List ℕ) → Type 0

@@ -2,11 +2,7 @@
 #![tactic(auto)]
 
 mod commands;
-mod input;
-mod laws;
-mod play;
 mod words;
+mod world;
 
 pub use commands::run;
-pub use input::SCRIPT_LIMIT;
-pub use laws::lines_write_one_text;

@@ -1,0 +1,48 @@
+//! Runs of the program over memory.
+
+use atspi_base::{MemSink, MemSource};
+use atspi_run::run;
+use std::alloc::Global;
+use std::test::*;
+
+/// How the outside behaves: how many bytes a call moves at the most, and which read and which write fail.
+#[derive(Clone, Copy)]
+pub struct Outside {
+    pub most: usize,
+    pub failing_read: u64,
+    pub failing_write: u64,
+}
+
+/// The number of a call that never comes.
+pub const NEVER: u64 = u64::MAX;
+
+/// An outside that moves all bytes, and never fails.
+pub const AMPLE: Outside = Outside {
+    most: usize::MAX,
+    failing_read: NEVER,
+    failing_write: NEVER,
+};
+
+/// These words.
+fn words_of(alloc: Global, words: &[&str]) -> Result<Vec<String>, Fail> {
+    let mut list = Vec::new(alloc);
+    for word in words {
+        list.push(String::from_str(alloc, word)?)?;
+    }
+    Ok(list)
+}
+
+/// The status of a run, and what it wrote.
+pub fn ran(
+    alloc: Global,
+    words: &[&str],
+    input: Vec<u8>,
+    outside: Outside,
+) -> Result<(u8, Vec<u8>), Fail> {
+    let words = words_of(alloc, words)?;
+    let most = outside.most.max(1);
+    let mut source = MemSource::in_pieces(input, most, [outside.failing_read].to_vec(alloc)?);
+    let mut sink = MemSink::in_pieces(alloc, most, [outside.failing_write].to_vec(alloc)?);
+    let status = run(alloc, &words, &mut source, &mut sink);
+    Ok((status, sink.bytes().to_vec(alloc)?))
+}

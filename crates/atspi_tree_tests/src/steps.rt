@@ -1,0 +1,157 @@
+//! A copy of each step. What is due was worked out by hand.
+
+use atspi_base::{Marks, Nums, Text, Texts};
+use atspi_edits::copy_step;
+use atspi_forest::{Seed, Step};
+use std::alloc::Global;
+use std::test::*;
+
+/// A step as its kind, its node, two numbers more and a text.
+type Told<'a> = (u32, u32, u32, u32, &'a str);
+
+/// A text of these characters.
+fn text(alloc: Global, characters: &str) -> Result<Text, Fail> {
+    let bytes = characters.as_bytes();
+    if bytes.len() > 1024 {
+        return Err(Fail::new("too many characters"));
+    }
+    Ok(Text::read(alloc, bytes)?)
+}
+
+/// A seed that has all that a seed can have.
+fn rich_seed(alloc: Global, name: &str) -> Result<Seed, Fail> {
+    let mut actions = Texts::new(alloc);
+    actions.push(text(alloc, "press")?)?;
+    Ok(Seed {
+        role: 62,
+        name: text(alloc, name)?,
+        text: Some(text(alloc, "t")?),
+        editable: true,
+        columns: Some(2),
+        select: true,
+        actions,
+    })
+}
+
+/// Whether a seed has all that a rich one has but for the name.
+fn is_rich(seed: &Seed) -> bool {
+    let has_text = match &seed.text {
+        Some(text) => text.as_str() == "t",
+        None => false,
+    };
+    let has_action = match seed.actions.as_slice() {
+        [action] => action.as_str() == "press",
+        _ => false,
+    };
+    has_text
+        && has_action
+        && seed.role == 62
+        && seed.editable
+        && seed.select
+        && seed.columns == Some(2)
+}
+
+/// The step that is told so.
+fn step_of(alloc: Global, told: Told<'_>) -> Result<Step, Fail> {
+    let (kind, node, a, b, characters) = told;
+    let text = text(alloc, characters)?;
+    Ok(match kind {
+        0 => Step::Add {
+            node,
+            parent: a,
+            index: b,
+            seed: rich_seed(alloc, characters)?,
+        },
+        1 => Step::Remove { node },
+        2 => Step::Move {
+            node,
+            parent: a,
+            index: b,
+        },
+        3 => Step::SetName { node, text },
+        4 => Step::SetDescription { node, text },
+        5 => Step::SetRole { node, role: a },
+        6 => Step::SetState {
+            node,
+            state: 12,
+            on: true,
+        },
+        7 => Step::Insert { node, at: a, text },
+        8 => Step::Delete { node, at: a, text },
+        9 => Step::Caret { node, at: a },
+        10 => Step::TextSelect {
+            node,
+            marks: Marks::from_vec([(a, b)].to_vec(alloc)?),
+        },
+        _ => Step::Relate {
+            node,
+            kind: a,
+            targets: Nums::from_vec([b].to_vec(alloc)?),
+        },
+    })
+}
+
+/// What a step says.
+fn told(step: &Step) -> Option<Told<'_>> {
+    match step {
+        Step::Add {
+            node,
+            parent,
+            index,
+            seed,
+        } if is_rich(seed) => Some((0, *node, *parent, *index, seed.name.as_str())),
+        Step::Add { .. } => None,
+        Step::Remove { node } => Some((1, *node, 0, 0, "")),
+        Step::Move {
+            node,
+            parent,
+            index,
+        } => Some((2, *node, *parent, *index, "")),
+        Step::SetName { node, text } => Some((3, *node, 0, 0, text.as_str())),
+        Step::SetDescription { node, text } => Some((4, *node, 0, 0, text.as_str())),
+        Step::SetRole { node, role } => Some((5, *node, *role, 0, "")),
+        Step::SetState { node, state, on } => {
+            Some((6, *node, *state as u32, u32::from(*on), ""))
+        }
+        Step::Insert { node, at, text } => Some((7, *node, *at, 0, text.as_str())),
+        Step::Delete { node, at, text } => Some((8, *node, *at, 0, text.as_str())),
+        Step::Caret { node, at } => Some((9, *node, *at, 0, "")),
+        Step::TextSelect { node, marks } => match marks.as_slice() {
+            [(from, to)] => Some((10, *node, *from, *to, "")),
+            _ => None,
+        },
+        Step::Relate {
+            node,
+            kind,
+            targets,
+        } => match targets.as_slice() {
+            [target] => Some((11, *node, *kind, *target, "")),
+            _ => None,
+        },
+    }
+}
+
+/// Each kind of step.
+const STEPS: [Told<'static>; 12] = [
+    (0, 9, 4, 2, "cell"),
+    (1, 9, 0, 0, ""),
+    (2, 9, 4, 2, ""),
+    (3, 9, 0, 0, "name"),
+    (4, 9, 0, 0, "description"),
+    (5, 9, 62, 0, ""),
+    (6, 9, 12, 1, ""),
+    (7, 9, 3, 0, "in"),
+    (8, 9, 3, 0, "out"),
+    (9, 9, 3, 0, ""),
+    (10, 9, 1, 5, ""),
+    (11, 9, 2, 7, ""),
+];
+
+#[test]
+fn each_step_is_copied(rt: HostRuntime) -> Result<(), Fail> {
+    for want in STEPS {
+        let copy = copy_step(rt.alloc(), &step_of(rt.alloc(), want)?)?;
+        assert!(rt; told(&copy) == Some(want), "step {}", want.0);
+    }
+    Ok(())
+}

@@ -1,5 +1,0 @@
-use Rattle.atspi_world.proofs.WordLemmas.{NoneBefore}
-use Rattle.atspi_world.proofs.words.split_word.Given as goal
-
-abbrev pub invariant-loop-i : goal.invariant-loop-i
-invariant-loop-i l = NoneBefore l.bytes l.i

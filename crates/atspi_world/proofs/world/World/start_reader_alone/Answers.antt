@@ -1,7 +1,0 @@
-use Rattle.atspi_world.proofs.WorldLemmas.{keeps_reader_alone}
-use Rattle.atspi_world.proofs.world.World.start_reader_alone.Goals as goal
-
-pub invariant_of-self-2 : goal.invariant_of-self-2
-invariant_of-self-2 c =
-    rw (c.push_reserved.ensures.items, c.in_ok-make_room.ensures.same_trace, c.in_ok-make_room.ensures.same_waiting)
-    (keeps_reader_alone c.self.inside.trace.items c.args.self.now c.self.view_is c.requires.no_app c.requires.no_reader c.self.invariant)
