@@ -10,5 +10,6 @@ pub mod Queued
 pub mod Routing
 pub mod Sayings
 pub mod Seats
+pub mod Shows
 pub mod Signals
 pub mod Stays

@@ -31,6 +31,10 @@ Finds o who posts = length posts ≤ 4294967296 → o ≡ position (λ (p : Post
 pub found_is : (w : World) (old : Staged) (who : Party) (o : Option ℕ) → IsWorld w old → Finds o who old.posts → conn_of w.ends who ≡ o
 found_is w old who o is h = sym (conn_is w old.bus old.posts who is.carried) ∙ sym (h is.carried.few)
 
+pub find_none : (o : Option ℕ) (who : Party) (posts : List Post) → ((k : ℕ) → o ≡ Some k → ⊥) → Finds o who posts → Finds None who posts
+find_none None who posts none h = h
+find_none (Some k) who posts none h = absurd (none k refl)
+
 -- an edit
 pub edit_some : (app : ℕ) (edit : Edit) (conn : ℕ) (old new : Staged) → Finds (Some conn) (App app) old.posts
     → ((w : World) → IsWorld w old → conn_of w.ends (App app) ≡ Some conn → IsAfter (does w (edits conn edit)) old new) → LineDone (lines.Edit app edit) old new
@@ -66,6 +70,35 @@ exit_line who old new does_ w is free = by (conn_of w.ends who) refl free
     by None there h = absurd cc
     by (Some k) there h = does_ w k is there
 
+-- a call
+pub call_some : (reader app node : ℕ) (deed : Deed) (conn callee : ℕ) (old new : Staged) → Finds (Some conn) (Reader reader) old.posts → Finds (Some callee) (App app) old.posts
+    → ((w : World) (e : End) → IsWorld w old → conn_of w.ends (Reader reader) ≡ Some conn → end_at w.ends callee ≡ Some e → IsAfter (does w (calls conn (name_of (Some e)) node deed)) old new)
+    → LineDone (lines.Call reader app node deed) old new
+call_some reader app node deed conn callee old new found other does_ = λ w is free.
+    let there = found_is w old (Reader reader) (Some conn) is found in
+    let there' = found_is w old (App app) (Some callee) is other in
+    let e = conn_end w.ends (App app) callee there' in
+    let end_is : end_of w.ends (App app) ≡ Some e.0 = ap (end_if w.ends) there' ∙ e.1 in
+    subst (λ o. WorkDone w (with_conn o (λ k. doing (calls k (name_of (end_of w.ends (App app))) node deed))) old new) (sym there)
+    (subst (λ x. IsAfter (does w (calls conn (name_of x) node deed)) old new) (sym end_is) (does_ w e.0 is there e.1))
+
+call_refused : (w : World) (r a : Option End) → (r ≡ None) → if_started r (λ x. if_started a (λ b. if_here x no_more)) ≡ None → ⊥
+call_refused w None a e h = cc
+call_refused w (Some x) a e h = cc
+
+callee_refused : (w : World) (r a : Option End) → (a ≡ None) → if_started r (λ x. if_started a (λ b. if_here x no_more)) ≡ None → ⊥
+callee_refused w None a e h = cc
+callee_refused w (Some x) None e h = cc
+callee_refused w (Some x) (Some y) e h = cc
+
+pub call_none : (reader app node : ℕ) (deed : Deed) (s : Staged) → Finds None (Reader reader) s.posts → LineDone (lines.Call reader app node deed) s s
+call_none reader app node deed s found = λ w is free.
+    absurd (call_refused w (end_of w.ends (Reader reader)) (end_of w.ends (App app)) (ap (end_if w.ends) (found_is w s (Reader reader) None is found)) free)
+
+pub callee_none : (reader app node : ℕ) (deed : Deed) (s : Staged) → Finds None (App app) s.posts → LineDone (lines.Call reader app node deed) s s
+callee_none reader app node deed s found = λ w is free.
+    absurd (callee_refused w (end_of w.ends (Reader reader)) (end_of w.ends (App app)) (ap (end_if w.ends) (found_is w s (App app) None is found)) free)
+
 -- what is not refused for want of kits, readers and faces
 below : (n k : ℕ) (why : Refusal) → refusal_if (nat_le n k) why ≡ None → k < n
 below n k why h = by (nat_le n k) refl h
@@ -73,6 +106,16 @@ below n k why h = by (nat_le n k) refl h
     by : (b : Bool) → nat_le n k ≡ b → refusal_if b why ≡ None → k < n
     by true t e = absurd cc
     by false t e = leb-false n k t
+
+pub kits_left : (n k : ℕ) (why : Refusal) (o : Option Refusal) → first_of (refusal_if (nat_le n k) why) o ≡ None → k < n
+kits_left n k why o h = below n k why (first (refusal_if (nat_le n k) why) h)
+  where
+    first : (x : Option Refusal) → first_of x o ≡ None → x ≡ None
+    first None e = refl
+    first (Some x) e = absurd cc
+
+pub readers_left : (n k : ℕ) (why : Refusal) → refusal_if (nat_le n k) why ≡ None → k < n
+readers_left n k why h = below n k why h
 
 pub faces_left : (n k : ℕ) (why : Refusal) (o : Option End) → if_started o (λ e. if_here e (λ a. refusal_if (nat_le n k) why)) ≡ None → k < n
 faces_left n k why None h = absurd cc
@@ -101,11 +144,17 @@ line_else (lines.Show reader app) old new no_edit no_call h = h
 
 -- THE LINES, each by what its causes do
 module _ (line : Line) (old new : Staged) where
-  pub line_app : (name : List ℕ) → line ≡ lines.App name → LineDoneElse line old new
-  line_app name e = subst (λ l. LineDoneElse l old new) (sym e) tt
+  pub line_app : (name : List ℕ) → line ≡ lines.App name → ((w : World) → IsWorld w old → app_count w.ends < 16 → IsAfter (does w (starts_app name)) old new) → LineDoneElse line old new
+  line_app name e does_ = subst (λ l. LineDoneElse l old new) (sym e) (at does_)
+    where
+      at : ((w : World) → IsWorld w old → app_count w.ends < 16 → IsAfter (does w (starts_app name)) old new) → LineDoneElse (lines.App name) old new
+      at d = λ w is free. d w is (kits_left 16 (app_count w.ends) no_kit (refusal_if (is_long_name name) (of_edit TextFull)) free)
 
-  pub line_reader : line ≡ lines.Reader → LineDoneElse line old new
-  line_reader e = subst (λ l. LineDoneElse l old new) (sym e) tt
+  pub line_reader : line ≡ lines.Reader → ((w : World) → IsWorld w old → reader_count w.ends < 4 → IsAfter (does w starts_reader) old new) → LineDoneElse line old new
+  line_reader e does_ = subst (λ l. LineDoneElse l old new) (sym e) (at does_)
+    where
+      at : ((w : World) → IsWorld w old → reader_count w.ends < 4 → IsAfter (does w starts_reader) old new) → LineDoneElse lines.Reader old new
+      at d = λ w is free. d w is (readers_left 4 (reader_count w.ends) no_reader free)
 
   pub line_swap : (app : ℕ) → line ≡ lines.Swap app → ((w : World) → IsWorld w old → w.swaps < 16 → IsAfter (does w swaps_face) old new) → LineDoneElse line old new
   line_swap app e does_ = subst (λ l. LineDoneElse l old new) (sym e) (at does_)
@@ -122,8 +171,8 @@ module _ (line : Line) (old new : Staged) where
   pub line_quota : (quota : ℕ) → line ≡ lines.Quota quota → LineDoneElse line old new
   line_quota quota e = subst (λ l. LineDoneElse l old new) (sym e) tt
 
-  pub line_show : (reader app : ℕ) → line ≡ lines.Show reader app → LineDoneElse line old new
-  line_show reader app e = subst (λ l. LineDoneElse l old new) (sym e) tt
+  pub line_show : (reader app : ℕ) → line ≡ lines.Show reader app → LineDone (lines.Show reader app) old new → LineDoneElse line old new
+  line_show reader app e does_ = subst (λ l. LineDoneElse l old new) (sym e) does_
 
   pub line_edit : (app : ℕ) (edit : Edit) → line ≡ lines.Edit app edit → LineDoneElse line old new
   line_edit app edit e = subst (λ l. LineDoneElse l old new) (sym e) tt
@@ -150,7 +199,6 @@ module _ (line : Line) (old new : Staged) where
       by w None u h = absurd cc
       by w (Some k) true h = tt
       by w (Some k) false h = tt
-
       at : LineDoneElse (lines.Bytes who up count) old new
       at = λ w is free. by w (conn_of w.ends who) up free
 

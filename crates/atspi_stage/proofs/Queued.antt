@@ -13,7 +13,7 @@ use Rattle.atspi_trace.specs.Entry.{entries_of, sent}
 use Rattle.atspi_trace.specs.Causes.{did}
 use Rattle.atspi_carrying.specs.Changes.{changed_at}
 use Rattle.atspi_carrying.proofs.Changes.{length-changed}
-use Rattle.atspi_stage.specs.Doing.{sent_on, IsSent, said_on, all_said, quiet, silent, CanBeWritten, IsTold, TellsAt, OnlySends, messages, all_sent, AreSent, SendsAll}
+use Rattle.atspi_stage.specs.Doing.{sent_on, IsSent, said_on, all_said, quiet, silent, CanBeWritten, IsTold, TellsAt, OnlySends, messages, all_sent, AreSent, SendsAll, TellsReaderAt}
 
 -- an application that queued nothing told all
 pub told_none : (s t : Exporter) (number : ℕ) (p : Post) (trace : List Event) → s.out ≡ [] → t.out ≡ s.out → t ≡ record s { out = t.out } → IsTold s t number p p trace trace
@@ -92,3 +92,9 @@ written_back n xs ys h = ap (λ k. take k (xs ++ drop (length xs) ys)) (sym h) �
 pub tells_as : (b b' d d' : List Exporter) (p p' q q' : List Post) (a conn : ℕ) (old new : List Event) → b ≡ b' → d ≡ d' → p ≡ p' → q ≡ q' → TellsAt b d a conn p q old new → TellsAt b' d' a conn p' q' old new
 tells_as b b' d d' p p' q q' a conn old new eb ed ep eq t =
     subst (λ x. TellsAt x d' a conn p' q' old new) eb (subst (λ x. TellsAt b x a conn p' q' old new) ed (subst (λ x. TellsAt b d a conn x q' old new) ep (subst (λ x. TellsAt b d a conn p x old new) eq t)))
+
+pub tells_reader_as : (b b' d d' : List ReaderState) (p p' q q' : List Post) (r conn : ℕ) (old new : List Event) → b ≡ b' → d ≡ d' → p ≡ p' → q ≡ q' → TellsReaderAt b d r conn p q old new
+    → TellsReaderAt b' d' r conn p' q' old new
+tells_reader_as b b' d d' p p' q q' r conn old new eb ed ep eq t =
+    subst (λ x. TellsReaderAt x d' r conn p' q' old new) eb
+    (subst (λ x. TellsReaderAt b x r conn p' q' old new) ed (subst (λ x. TellsReaderAt b d r conn x q' old new) ep (subst (λ x. TellsReaderAt b d r conn p x old new) eq t)))

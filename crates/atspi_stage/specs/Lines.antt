@@ -1,13 +1,14 @@
 -- What a line that was done does to the world, in the words of lawful traces.
 use Rattle.std.specs.Prelude.{◌≡◌, ℕ, List, [], None, Some}
 use Rattle.atspi_lines.specs.declared.line.Line.{Line}
-use Rattle.atspi_lines.specs.declared.line.Line.TheVariants.{Quota, App, Reader, Edit, Call, Show}
+use Rattle.atspi_lines.specs.declared.line.Line.TheVariants.{Quota, Edit, Call, Show}
 use Rattle.atspi_lines.specs.declared.line.Party.{Party}
 use Rattle.atspi_trace.specs.World.{World}
 use Rattle.atspi_trace.specs.Ends.{conn_of}
 use Rattle.atspi_trace.specs.Causes.{Cause, does, only}
 use Rattle.atspi_trace.specs.Work.{Work, resting, doing, moving_up, moving_down, turning, draining, with_conn, work_of}
 use Rattle.atspi_stage.specs.Refusals.{first_refusal}
+use Rattle.atspi_stage.specs.Shown.{IsShowDone}
 use Rattle.atspi_stage.specs.Worlds.{Staged, IsWorld, IsAfter}
 
 -- a cause of the end of a party was done, by its connection
@@ -23,14 +24,11 @@ WorkDone w (moving_down conn count) old new = Unit {0}
 WorkDone w (turning count left) old new = Unit {0}
 WorkDone w draining old new = Unit {0}
 
--- A LINE WAS DONE: of each world that this was and that does not refuse it, its work was done. Of another quota, of
--- starts, of calls and of what a reader shows, this does not speak
+-- A LINE WAS DONE: of each world that this was and that does not refuse it, its work was done; a reader's Show is its own view. Of another quota this does
+-- not speak
 abbrev pub LineDone : Line → Staged → Staged → Type 0
 LineDone (Quota quota) old new = Unit {0}
-LineDone (App name) old new = Unit {0}
-LineDone Reader old new = Unit {0}
-LineDone (Call reader app node deed) old new = Unit {0}
-LineDone (Show reader app) old new = Unit {0}
+LineDone (Show reader app) old new = (w : World) → IsWorld w old → first_refusal w (Show reader app) ≡ None → IsShowDone w reader app old new
 LineDone line old new = (w : World) → IsWorld w old → first_refusal w line ≡ None → WorkDone w (work_of w line) old new
 
 -- the same of a line that asks for no edit and no call

@@ -1,6 +1,6 @@
 //! The rows that a reader shows.
 
-ghost use Rattle.std.specs.Prelude.{◌≡◌, IfOk};
+ghost use Rattle.std.specs.Prelude.{◌≡◌, ◌-◌, ◌^◌, map, length, min, IfOk};
 ghost use Rattle.std.specs.Option.{option_copied};
 ghost use Rattle.atspi_arena.specs.Walk.{seen_sight};
 ghost use Rattle.atspi_stage.specs.Shown.{shown_sight};
@@ -73,10 +73,25 @@ fn shown_row(alloc: Global, seen: &Seen<'_>) -> Result<ShownRow, NoMemory>
 }
 
 /// The rows of a walk, each with its place, in preorder. Each row is walked to once.
-pub(crate) fn shown_rows(alloc: Global, rows: Rows<'_>) -> Result<Shown, NoMemory> {
+pub(crate) fn shown_rows(alloc: Global, rows: Rows<'_>) -> Result<Shown, NoMemory>
+    ensures { IfOk result (λ shown. shown ≡ map shown_sight rows.entry) }
+{
     let mut list = Vec::new(alloc);
-    for seen in rows {
+    let mut rest = rows;
+    while let Some(seen) = rest.next() {
         list.push(shown_row(alloc, &seen)?)?;
     }
     Ok(Shown::from_vec(list))
+}
+
+/// How many rows a walk shows, as far as a `usize` counts. Takes no memory.
+pub(crate) fn count_rows(rows: Rows<'_>) -> usize
+    ensures { result ≡ min (length rows.entry) (2 ^ 64 - 1) }
+{
+    let mut count: usize = 0;
+    let mut rest = rows;
+    while let Some(_seen) = rest.next() {
+        count = count.saturating_add(1);
+    }
+    count
 }

@@ -1,13 +1,19 @@
 //! What a reader shows of an application.
 
-ghost use Rattle.std.specs.Prelude.{◌≡◌, All};
-ghost use Rattle.atspi_bus_steps.specs.Inner.{state_of};
+ghost use Rattle.std.specs.Prelude.{◌≡◌, map, length, slice_get, Some, All, IfOk, OnOk};
+ghost use Rattle.atspi_bus_steps.specs.Inner.{inner_of, state_of};
+ghost use Rattle.atspi_lines.specs.declared.line.Party.TheVariants as parties;
+ghost use Rattle.atspi_trace.specs.World.{End, World};
+ghost use Rattle.atspi_trace.specs.Ends.{end_at};
+ghost use Rattle.atspi_stage.specs.Places as places;
+ghost use Rattle.atspi_stage.specs.Shown.{shown_by, row_total, IsShownAs};
 ghost use Rattle.atspi_stage.specs.Stage.{IsStage};
+ghost use Rattle.atspi_stage.specs.Wires.{name_if};
+ghost use Rattle.atspi_stage.specs.Worlds.{staged, IsWorld};
 
 use crate::places::post_of;
-use crate::rows::shown_rows;
+use crate::rows::{count_rows, shown_rows};
 use crate::stage::Stage;
-use atspi_arena::Rows;
 use atspi_base::NoMemory;
 use atspi_carrying::{CarryFault, note};
 use atspi_events::{Event, Shown};
@@ -24,6 +30,7 @@ fn shown_at<R: Follower>(
     post: &Post,
 ) -> Result<Option<Shown>, NoMemory>
     requires { All R.is_follower readers.now }
+    ensures { IfOk result (λ shown. shown ≡ shown_by (slice_get (map R.follower readers.now) number) post.now.name) }
 {
     let place = number as usize;
     if place >= readers.len() {
@@ -38,9 +45,10 @@ fn shown_at<R: Follower>(
     }
 }
 
-/// How many rows a reader holds of the application at a connection.
+/// How many rows a reader holds of the application at a connection. Takes no memory.
 fn count_at<R: Follower>(readers: &[R], number: u32, post: &Post) -> usize
     requires { All R.is_follower readers.now }
+    ensures { result ≡ row_total (shown_by (slice_get (map R.follower readers.now) number) post.now.name) }
 {
     let place = number as usize;
     if place >= readers.len() {
@@ -55,19 +63,11 @@ fn count_at<R: Follower>(readers: &[R], number: u32, post: &Post) -> usize
     }
 }
 
-/// How many rows there are.
-fn count_rows(rows: Rows<'_>) -> usize {
-    let mut count: usize = 0;
-    for _ in rows {
-        count = count.saturating_add(1);
-    }
-    count
-}
-
 impl<A: Application, R: Follower> Stage<A, R> {
     /// How many rows a reader holds of an application, 0 where it does not hold it or one of them was not started. Takes no memory.
     pub fn row_count(&self, reader: u32, app: u32) -> usize
         requires stage { IsStage A.is_app R.is_follower A.is_kit A.is_spare self.now.cast.apps.items self.now.cast.readers.items self.now.kits.items self.now.spares.items (state_of self.now.carrier.bus) }
+        ensures { result ≡ row_total (shown_by (slice_get (map R.follower self.now.cast.readers.items) reader) (name_if (places.post_of (parties.App app) self.now.carrier.posts.items))) }
     {
         match post_of(&self.carrier.posts, Party::App(app)) {
             Some(post) => count_at(&self.cast.readers, reader, post),
@@ -79,6 +79,8 @@ impl<A: Application, R: Follower> Stage<A, R> {
     pub(crate) fn show(&mut self, reader: u32, app: u32, conn: u32) -> Result<(), CarryFault>
         requires stage { IsStage A.is_app R.is_follower A.is_kit A.is_spare self.old.cast.apps.items self.old.cast.readers.items self.old.kits.items self.old.spares.items (state_of self.old.carrier.bus) }
         ensures stage { IsStage A.is_app R.is_follower A.is_kit A.is_spare self.new.cast.apps.items self.new.cast.readers.items self.new.kits.items self.new.spares.items (state_of self.new.carrier.bus) }
+        ensures shows { OnOk result ((w : World) (e : End) → IsWorld w (staged A.exporter R.follower (inner_of self.old.carrier.bus) self.old.carrier.posts.items self.old.cast.apps.items self.old.cast.readers.items (length self.old.kits.items) (length self.old.spares.items) self.old.carrier.trace.items) → end_at w.ends conn ≡ Some e
+            → IsShownAs w reader app e.unique (staged A.exporter R.follower (inner_of self.old.carrier.bus) self.old.carrier.posts.items self.old.cast.apps.items self.old.cast.readers.items (length self.old.kits.items) (length self.old.spares.items) self.old.carrier.trace.items) (staged A.exporter R.follower (inner_of self.new.carrier.bus) self.new.carrier.posts.items self.new.cast.apps.items self.new.cast.readers.items (length self.new.kits.items) (length self.new.spares.items) self.new.carrier.trace.items)) }
     {
         let conn = conn as usize;
         if conn >= self.carrier.posts.len() {

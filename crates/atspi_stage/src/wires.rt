@@ -1,16 +1,16 @@
 //! The bytes of the messages that a trace tells.
 
-ghost use Rattle.std.specs.Prelude.{◌≡◌, ◌≤◌, ◌++◌, length, OnOk, OnErr};
+ghost use Rattle.std.specs.Prelude.{◌≡◌, ◌≤◌, ◌++◌, length, slice_get, IfOk, OnOk, OnErr};
 ghost use Rattle.std.specs.Option.{option_copied};
 ghost use Rattle.atspi_message.specs.Envelope.{envelope_of};
 ghost use Rattle.atspi_message.specs.Bytes.{written};
 ghost use Rattle.atspi_stage.specs.Places as places;
 ghost use Rattle.atspi_stage.specs.Wires as wires;
-ghost use Rattle.atspi_stage.specs.Wires.{name_if};
+ghost use Rattle.atspi_stage.specs.Wires.{as_taken, name_if, wire_bytes};
 
 use crate::places::{is_party, post_of};
 use crate::stage::Stage;
-use atspi_base::Bytes;
+use atspi_base::{Bytes, NoMemory};
 use atspi_carrying::CarryFault;
 use atspi_events::Event;
 use atspi_lines::Party;
@@ -92,6 +92,23 @@ fn name_of(posts: &[Post], who: Party) -> Option<&BusName>
     }
 }
 
+/// An equal name, where there is one.
+fn copy_name(alloc: Global, name: Option<&BusName>) -> Result<Option<BusName>, NoMemory>
+    ensures { IfOk result (λ copy. copy ≡ option_copied name.entry) }
+{
+    match name {
+        Some(name) => Ok(Some(name.copy(alloc)?)),
+        None => Ok(None),
+    }
+}
+
+/// The same message with this sender.
+fn signed(message: Message, sender: Option<BusName>) -> Message
+    ensures { envelope_of result ≡ record (envelope_of message) { sender = sender } }
+{
+    Message { sender, ..message }
+}
+
 /// Appends the bytes of an end's message with the sender that the bus set. After a fault nothing was appended.
 fn write_from(
     alloc: Global,
@@ -99,13 +116,11 @@ fn write_from(
     sender: Option<&BusName>,
     out: &mut Bytes,
 ) -> Result<(), CarryFault>
+    ensures ok { OnOk result (out.new ≡ out.old ++ written (record (envelope_of message.now) { sender = option_copied sender.entry })) }
     ensures err { OnErr result (out.new ≡ out.old) }
 {
-    let mut taken = message.copy(alloc)?;
-    taken.sender = match sender {
-        Some(name) => Some(name.copy(alloc)?),
-        None => None,
-    };
+    let name = copy_name(alloc, sender)?;
+    let taken = signed(message.copy(alloc)?, name);
     write(&taken, out)
 }
 
@@ -118,6 +133,7 @@ fn write_taken(
     message: &Message,
     out: &mut Bytes,
 ) -> Result<(), CarryFault>
+    ensures ok { OnOk result (out.new ≡ out.old ++ written (as_taken posts.now taker sender (envelope_of message.now))) }
     ensures err { OnErr result (out.new ≡ out.old) }
 {
     if is_party(taker, Party::Bus) || is_party(sender, Party::Bus) {
@@ -132,6 +148,7 @@ impl<A: Application, R: Follower> Stage<A, R> {
     /// the event back. Nothing for an event other than Sent and Got, and where there is no such event or message. After a fault nothing was appended:
     /// Unsendable where the message breaks a rule, or passes the limits of the wire with that sender.
     pub fn wire(&self, event: usize, out: &mut Bytes) -> Result<(), CarryFault>
+        ensures ok { OnOk result (out.new ≡ out.old ++ wire_bytes self.now.carrier.posts.items self.now.carrier.trace.items event (slice_get self.now.carrier.trace.items event)) }
         ensures err { OnErr result (out.new ≡ out.old) }
     {
         let trace = self.carrier.trace.as_slice();

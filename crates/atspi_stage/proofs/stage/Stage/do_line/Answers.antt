@@ -6,10 +6,10 @@ pub returns-in-Quota-clause-does : goal.returns-in-Quota-clause-does
 returns-in-Quota-clause-does g c = ok_any c.renew.result (line_quota c.args.line.now _ _ c.in-Quota.quota c.in-Quota.is)
 
 pub returns-in-App-clause-does : goal.returns-in-App-clause-does
-returns-in-App-clause-does g c = ok_any c.start_app.result (line_app c.args.line.now _ _ c.in-App.name c.in-App.is)
+returns-in-App-clause-does g c = on_ok_weaker c.start_app.result (line_app c.args.line.now _ _ c.in-App.name c.in-App.is) c.start_app.ensures.does
 
 pub returns-in-Reader-clause-does : goal.returns-in-Reader-clause-does
-returns-in-Reader-clause-does g c = ok_any c.start_reader.result (line_reader c.args.line.now _ _ c.in-Reader.is)
+returns-in-Reader-clause-does g c = on_ok_weaker c.start_reader.result (line_reader c.args.line.now _ _ c.in-Reader.is) c.start_reader.ensures.does
 
 pub returns-in-Swap-clause-does : goal.returns-in-Swap-clause-does
 returns-in-Swap-clause-does g c = on_ok_weaker c.swap.result (line_swap c.args.line.now _ _ c.in-Swap.app c.in-Swap.is) c.swap.ensures.does
@@ -30,4 +30,4 @@ pub returns-in-Drain-clause-does : goal.returns-in-Drain-clause-does
 returns-in-Drain-clause-does g c = ok_any c.drain.result (line_drain c.args.line.now _ _ c.in-Drain.is)
 
 pub returns-in-Show-clause-does : goal.returns-in-Show-clause-does
-returns-in-Show-clause-does g c = ok_any c.show_of.result (line_show c.args.line.now _ _ c.in-Show.reader c.in-Show.app c.in-Show.is)
+returns-in-Show-clause-does g c = on_ok_weaker c.show_of.result (line_show c.args.line.now _ _ c.in-Show.reader c.in-Show.app c.in-Show.is) c.show_of.ensures.does
