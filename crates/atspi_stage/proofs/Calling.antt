@@ -136,12 +136,12 @@ call_world w conn r y p node deed old new readers is there p_is calls_ tells bus
     let one : AreSent r (m ∷ []) conn old.posts new.posts old.trace new.trace = subst (λ l. AreSent r (messages l) conn old.posts new.posts old.trace new.trace) out_is all in
     let role : Role = a_reader (record h { next = suc h.next }) in
     let carried : IsCarried (at_end w conn (sends_one m role)) new.bus new.posts =
-        one_sent w conn role m old.bus new.bus old.posts new.posts is.carried (record { is = one.written_.0; reads = deed_reads h.next nm node deed }) bus_same one.posts_are in
+    one_sent w conn role m old.bus new.bus old.posts new.posts is.carried (record { is = one.written_.0; reads = deed_reads h.next nm node deed }) bus_same one.posts_are in
     let next_is : s.next + 1 ≡ suc h.next = ap (λ n. n + 1) play.plays.next ∙ (let more : h.next + 1 ≡ suc h.next = omega arith in more) in
     let after_ : IsWorld (at_end w conn (sends_one m role)) new =
-        reader_world w conn r e (sends_one m role) (silent t) old new (λ z. refl) (record { hearer = record h { next = suc h.next }; role_is = refl; next = next_is; quiet = refl }) is there at carried few
-        (told.readers ∙ ap (λ l. set l r (silent t)) k.readers ∙ set_set old.readers r t (silent t)) apps beside in
+    reader_world w conn r e (sends_one m role) (silent t) old new (λ z. refl) (record { hearer = record h { next = suc h.next }; role_is = refl; next = next_is; quiet = refl }) is there at carried few
+    (told.readers ∙ ap (λ l. set l r (silent t)) k.readers ∙ set_set old.readers r t (silent t)) apps beside in
     let does_is : does w (calls conn nm node deed) ≡ record { world = at_end w conn (sends_one m role); entries = sent (party_at w.ends conn) m ∷ [] } =
-        ap (λ o. on_end w o (λ x. called w conn nm node deed x.role)) at ∙ ap (called w conn nm node deed) play.plays.role_is in
+    ap (λ o. on_end w o (λ x. called w conn nm node deed x.role)) at ∙ ap (called w conn nm node deed) play.plays.role_is in
     let party : Reader r ≡ party_at w.ends conn = sym (conn_who w.ends (Reader r) conn e there at) ∙ ap whose (sym at) in
     subst (λ x. IsAfter x old new) (sym does_is) (record { is = after_; wrote = one.wrote ∙ ap (λ q. entries_of old.trace ++ sent q m ∷ []) party })

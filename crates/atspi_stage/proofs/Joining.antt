@@ -72,14 +72,14 @@ module _ (w : World) (name : List ℕ) (old new : Staged) (apps : List Exporter)
       let put : slice_get apps (app_count w.ends) ≡ Some app_starts_as = ap (λ l. slice_get l (app_count w.ends)) apps_are ∙ ap (slice_get (old.apps ++ app_starts_as ∷ [])) is.apps_are ∙ get_last old.apps app_starts_as in
       let told = tells app_starts_as (post_of app_end) put (post_at v new.bus posts (length w.ends) app_end carried at) in
       let hello : AllByRecursion (λ (said : Said). IsSendable said.message) (saids (exporting.begins name) (exporting.begins name).tree None app_starts_as.out) =
-          (record { is = told.written_.0; reads = hello_reads 1 }, tt) in
+      (record { is = told.written_.0; reads = hello_reads 1 }, tt) in
       let wrote : entries_of new.trace ≡ entries_of old.trace ++ ((started app_is (Some name) ∷ []) ++ map (did (app_count w.ends)) app_starts_as.out) =
-          told.wrote ∙ ap (λ l. l ++ map (did (app_count w.ends)) app_starts_as.out) begun ∙ append_assoc (entries_of old.trace) (started app_is (Some name) ∷ []) (map (did (app_count w.ends)) app_starts_as.out) in
+      told.wrote ∙ ap (λ l. l ++ map (did (app_count w.ends)) app_starts_as.out) begun ∙ append_assoc (entries_of old.trace) (started app_is (Some name) ∷ []) (map (did (app_count w.ends)) app_starts_as.out) in
       let done : IsDone (app_did v (length w.ends) (started app_is (Some name) ∷ []) (exporting.begins name) app_starts_as) new.bus new.posts old.trace new.trace =
-          told_done v (length w.ends) (app_count w.ends) app_end (started app_is (Some name) ∷ []) (exporting.begins name) app_starts_as new.bus new.bus posts new.posts old.trace new.trace carried at refl hello refl told.posts_are wrote in
+      told_done v (length w.ends) (app_count w.ends) app_end (started app_is (Some name) ∷ []) (exporting.begins name) app_starts_as new.bus new.bus posts new.posts old.trace new.trace carried at refl hello refl told.posts_are wrote in
       let apps_after : new.apps ≡ old.apps ++ quiet app_starts_as ∷ [] =
-          told.apps ∙ ap (λ l. set l (app_count w.ends) (quiet app_starts_as)) apps_are ∙ ap (λ k. set (old.apps ++ app_starts_as ∷ []) k (quiet app_starts_as)) is.apps_are
-          ∙ set_last old.apps app_starts_as (quiet app_starts_as) in
+      told.apps ∙ ap (λ l. set l (app_count w.ends) (quiet app_starts_as)) apps_are ∙ ap (λ k. set (old.apps ++ app_starts_as ∷ []) k (quiet app_starts_as)) is.apps_are
+      ∙ set_last old.apps app_starts_as (quiet app_starts_as) in
       let f : End → End = has_done (exporting.begins name) app_starts_as in
       record {
         is = app_joins w (at_end v (length w.ends) f) (f app_end) (quiet app_starts_as) (record old { kits = suc old.kits }) new (ap App is.apps_are) (record { role_is = refl; quiet = refl }) is
@@ -125,10 +125,10 @@ module _ (w : World) (old new : Staged) (readers : List ReaderState) (posts : Li
       let told = tells t put in
       let one : AreSent (reader_count w.ends) (first_call ∷ []) (length w.ends) posts new.posts trace new.trace = told.sends tt (post_below v new.bus posts (length w.ends) reader_end carried at) in
       let sent_ : IsCarried (at_end v (length w.ends) (sends_one first_call reader_role)) new.bus new.posts =
-          one_sent v (length w.ends) reader_role first_call new.bus new.bus posts new.posts carried (record { is = one.written_.0; reads = hello_reads 1 }) refl one.posts_are in
+      one_sent v (length w.ends) reader_role first_call new.bus new.bus posts new.posts carried (record { is = one.written_.0; reads = hello_reads 1 }) refl one.posts_are in
       let tied : IsCarried u new.bus new.posts = subst (λ es. IsCarried (record v { ends = es }) new.bus new.posts) (last_with (sends_one first_call reader_role) w.ends reader_end) sent_ in
       let readers_after : new.readers ≡ old.readers ++ silent t ∷ [] =
-          told.readers ∙ ap (λ l. set l (reader_count w.ends) (silent t)) readers_are ∙ ap (λ k. set (old.readers ++ t ∷ []) k (silent t)) is.readers_are ∙ set_last old.readers t (silent t) in
+      told.readers ∙ ap (λ l. set l (reader_count w.ends) (silent t)) readers_are ∙ ap (λ k. set (old.readers ++ t ∷ []) k (silent t)) is.readers_are ∙ set_last old.readers t (silent t) in
       record {
         is = reader_joins w u (put_up (plain first_call ∷ []) (newcomer reader_is reader_role)) (silent t) old new (ap Reader is.readers_are)
             (record { hearer = asks Hello first_hearer; role_is = refl; next = refl; quiet = refl }) is refl refl tied readers_after apps beside;

@@ -199,6 +199,7 @@ module _ (line : Line) (old new : Staged) where
       by w None u h = absurd cc
       by w (Some k) true h = tt
       by w (Some k) false h = tt
+
       at : LineDoneElse (lines.Bytes who up count) old new
       at = λ w is free. by w (conn_of w.ends who) up free
 
