@@ -19,5 +19,6 @@ pub mod OfReaders
 pub mod OfNames
 pub mod OfSigned
 pub mod OfAnswered
+pub mod OfEnds
 pub mod OfLaws
 pub mod OfExamples
