@@ -3,3 +3,4 @@ pub mod Room
 pub mod Edited
 pub mod Maps
 pub mod Seen
+pub mod Spoken

@@ -4,6 +4,7 @@
 #![tactic(auto)]
 
 pub mod announcements;
+pub mod contents;
 pub mod edits;
 pub mod forests;
 pub mod lawful;
@@ -13,5 +14,6 @@ pub mod news;
 pub mod refusals;
 pub mod rows;
 pub mod sequences;
+pub mod spoken;
 pub mod states;
 pub mod steps;
