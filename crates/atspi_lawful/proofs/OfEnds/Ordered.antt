@@ -283,8 +283,7 @@ module _ (c : Carried) (conn : ℕ) (who : Party) (said : Said) where
       by true g =
           let at : k ≡ conn = eqb-true k conn g in
           let y = forward SameName c.ends st.ends conn x same_before there in
-          let has : unique_of step.state.owners conn ≡ Some name = ap (unique_of step.state.owners) (sym at) ∙ h in
-          (
+          let has : unique_of step.state.owners conn ≡ Some name = ap (unique_of step.state.owners) (sym at) ∙ h in (
             named st.bus conn y.0,
             ap (end_at now_named.ends) at ∙ at_changed (named st.bus conn) st.ends conn y.0 y.1,
             ap (λ o. first_of o (unique_of step.state.owners conn)) (y.2.unique ∙ sym owner)
