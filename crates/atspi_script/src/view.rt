@@ -1,11 +1,12 @@
 //! What a value that lies in bytes is, by its type.
 
 ghost use Rattle.std.specs.Prelude.{◌≡◌, IsTrue};
+ghost use Rattle.atspi_types.specs.Kinds.{boolean, byte, double, i16, i32, i64, number, path, signature, text, u16, u32, u64, variant};
+ghost use Rattle.atspi_codes.specs.Codes.{is_array, is_dictionary, is_structure};
 ghost use Rattle.atspi_cursor.specs.Items.{item_data, item_kind};
-ghost use Rattle.atspi_cursor.specs.Known.{is_simple};
 ghost use Rattle.atspi_script.specs.Views.{view_data};
 
-use atspi_codes::TysRef;
+use atspi_codes::{Shape, TysRef};
 use atspi_cursor::{Elements, Entries, Fields, Item};
 
 /// A value that lies in bytes: itself where it has no parts, or what walks over its parts.
@@ -29,63 +30,200 @@ pub enum View<'a> {
     Variant(Item<'a>),
 }
 
-/// What the value is.
+/// What the value is. Its type tells, so that one getter alone is asked.
 pub fn view_of(item: Item<'_>) -> View<'_>
     ensures { view_data result ≡ item_data item.entry }
 {
-    if let Some(text) = item.text() {
-        return View::Text(text);
+    match item.ty().shape() {
+        Shape::Text => text_of(item),
+        Shape::U32 => u32_of(item),
+        Shape::I32 => i32_of(item),
+        Shape::Struct(_) => struct_of(item),
+        Shape::Path => path_of(item),
+        Shape::Variant => variant_of(item),
+        Shape::Array(_) => array_of(item),
+        Shape::Dict(_, _) => dictionary_of(item),
+        Shape::Sig => types_of(item),
+        Shape::Byte => byte_of(item),
+        Shape::Bool => bool_of(item),
+        Shape::U64 => u64_of(item),
+        Shape::I64 => i64_of(item),
+        Shape::U16 => u16_of(item),
+        Shape::I16 => i16_of(item),
+        Shape::Double => double_of(item),
     }
-    if let Some(path) = item.path() {
-        return View::Path(path);
-    }
-    if let Some(fields) = item.fields() {
-        return View::Struct(fields);
-    }
-    if let Some(elements) = item.elements() {
-        return View::Array(elements);
-    }
-    if let Some(entries) = item.entries() {
-        return View::Dictionary(entries);
-    }
-    if let Some(inner) = item.variant() {
-        return View::Variant(inner);
-    }
-    if let Some(types) = item.signature() {
-        return View::Types(types);
-    }
-    number(item)
 }
 
-/// What a value is that has a fixed length.
-fn number(item: Item<'_>) -> View<'_>
-    requires { IsTrue (is_simple (item_kind item)) }
+/// A text.
+fn text_of(item: Item<'_>) -> View<'_>
+    requires { item_kind item ≡ text }
     ensures { view_data result ≡ item_data item.entry }
 {
-    if let Some(n) = item.u32() {
-        return View::U32(n);
+    match item.text() {
+        Some(text) => View::Text(text),
+        None => unreachable!(),
     }
-    if let Some(n) = item.i32() {
-        return View::I32(n);
+}
+
+/// A path.
+fn path_of(item: Item<'_>) -> View<'_>
+    requires { item_kind item ≡ path }
+    ensures { view_data result ≡ item_data item.entry }
+{
+    match item.path() {
+        Some(path) => View::Path(path),
+        None => unreachable!(),
     }
-    if let Some(n) = item.u8() {
-        return View::Byte(n);
+}
+
+/// A signature.
+fn types_of(item: Item<'_>) -> View<'_>
+    requires { item_kind item ≡ signature }
+    ensures { view_data result ≡ item_data item.entry }
+{
+    match item.signature() {
+        Some(types) => View::Types(types),
+        None => unreachable!(),
     }
-    if let Some(b) = item.bool() {
-        return View::Bool(b);
+}
+
+/// An array and no dictionary.
+fn array_of(item: Item<'_>) -> View<'_>
+    requires { IsTrue (is_array (item_kind item)) }
+    ensures { view_data result ≡ item_data item.entry }
+{
+    match item.elements() {
+        Some(elements) => View::Array(elements),
+        None => unreachable!(),
     }
-    if let Some(n) = item.u64() {
-        return View::U64(n);
+}
+
+/// A struct.
+fn struct_of(item: Item<'_>) -> View<'_>
+    requires { IsTrue (is_structure (item_kind item)) }
+    ensures { view_data result ≡ item_data item.entry }
+{
+    match item.fields() {
+        Some(fields) => View::Struct(fields),
+        None => unreachable!(),
     }
-    if let Some(n) = item.i64() {
-        return View::I64(n);
+}
+
+/// A dictionary.
+fn dictionary_of(item: Item<'_>) -> View<'_>
+    requires { IsTrue (is_dictionary (item_kind item)) }
+    ensures { view_data result ≡ item_data item.entry }
+{
+    match item.entries() {
+        Some(entries) => View::Dictionary(entries),
+        None => unreachable!(),
     }
-    if let Some(n) = item.u16() {
-        return View::U16(n);
+}
+
+/// A variant.
+fn variant_of(item: Item<'_>) -> View<'_>
+    requires { item_kind item ≡ variant }
+    ensures { view_data result ≡ item_data item.entry }
+{
+    match item.variant() {
+        Some(inner) => View::Variant(inner),
+        None => unreachable!(),
     }
-    if let Some(n) = item.i16() {
-        return View::I16(n);
+}
+
+/// A byte.
+fn byte_of(item: Item<'_>) -> View<'_>
+    requires { item_kind item ≡ number byte }
+    ensures { view_data result ≡ item_data item.entry }
+{
+    match item.u8() {
+        Some(n) => View::Byte(n),
+        None => unreachable!(),
     }
+}
+
+/// A boolean.
+fn bool_of(item: Item<'_>) -> View<'_>
+    requires { item_kind item ≡ boolean }
+    ensures { view_data result ≡ item_data item.entry }
+{
+    match item.bool() {
+        Some(b) => View::Bool(b),
+        None => unreachable!(),
+    }
+}
+
+/// A signed number of 16 bits.
+fn i16_of(item: Item<'_>) -> View<'_>
+    requires { item_kind item ≡ number i16 }
+    ensures { view_data result ≡ item_data item.entry }
+{
+    match item.i16() {
+        Some(n) => View::I16(n),
+        None => unreachable!(),
+    }
+}
+
+/// A number of 16 bits.
+fn u16_of(item: Item<'_>) -> View<'_>
+    requires { item_kind item ≡ number u16 }
+    ensures { view_data result ≡ item_data item.entry }
+{
+    match item.u16() {
+        Some(n) => View::U16(n),
+        None => unreachable!(),
+    }
+}
+
+/// A signed number of 32 bits.
+fn i32_of(item: Item<'_>) -> View<'_>
+    requires { item_kind item ≡ number i32 }
+    ensures { view_data result ≡ item_data item.entry }
+{
+    match item.i32() {
+        Some(n) => View::I32(n),
+        None => unreachable!(),
+    }
+}
+
+/// A number of 32 bits.
+fn u32_of(item: Item<'_>) -> View<'_>
+    requires { item_kind item ≡ number u32 }
+    ensures { view_data result ≡ item_data item.entry }
+{
+    match item.u32() {
+        Some(n) => View::U32(n),
+        None => unreachable!(),
+    }
+}
+
+/// A signed number of 64 bits.
+fn i64_of(item: Item<'_>) -> View<'_>
+    requires { item_kind item ≡ number i64 }
+    ensures { view_data result ≡ item_data item.entry }
+{
+    match item.i64() {
+        Some(n) => View::I64(n),
+        None => unreachable!(),
+    }
+}
+
+/// A number of 64 bits.
+fn u64_of(item: Item<'_>) -> View<'_>
+    requires { item_kind item ≡ number u64 }
+    ensures { view_data result ≡ item_data item.entry }
+{
+    match item.u64() {
+        Some(n) => View::U64(n),
+        None => unreachable!(),
+    }
+}
+
+/// A double.
+fn double_of(item: Item<'_>) -> View<'_>
+    requires { item_kind item ≡ number double }
+    ensures { view_data result ≡ item_data item.entry }
+{
     match item.double() {
         Some(bits) => View::Double(bits),
         None => unreachable!(),
