@@ -1,5 +1,7 @@
 pub mod Buses
 pub mod Changes
+pub mod Downs
+pub mod Filling
 pub mod Leaving
 pub mod OwnSerials
 pub mod OwnTold

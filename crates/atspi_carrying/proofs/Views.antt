@@ -1,8 +1,9 @@
 -- The connections of a world's ends, through what the bus does: messages that are handed to ends change none, and closings make some leave.
-use Rattle.std.proofs.Common.{◌≡◌, ℕ, zero, suc, Bool, true, false, List, [], ◌∷◌, ◌++◌, length, map, refl, sym, ap, ◌∙◌, append-nil, append_assoc}
+use Rattle.std.proofs.Common.{◌≡◌, ℕ, zero, suc, ◌<◌, Bool, true, false, List, [], ◌∷◌, ◌++◌, length, map, refl, sym, ap, ◌∙◌, append-nil, append_assoc, arith}
 use Rattle.std.specs.Prelude.{◌-◌, if◌then◌else◌}
 use Rattle.std.specs.List.{fold, AllByRecursion}
 use Rattle.atspi_message.specs.Envelope.{Envelope}
+use Rattle.atspi_message.specs.Bytes.{Field, header_bytes, spelled_with, rising_fields, written}
 use Rattle.atspi_routing.specs.declared.closing.Why.{Why}
 use Rattle.atspi_routing.specs.declared.closing.Closing.{Closing}
 use Rattle.atspi_routing.specs.Steps.{Move, says, delivers, closes, BusStep, bus_leaves}
@@ -42,7 +43,7 @@ module _ (letter : Envelope → Letter) where
   stepped_view c step = folded_view c.bus.quota (record { waiting = c.bus.waiting; ends = c.ends }) step.moves
 
 -- who leaves
-abbrev without : Carried → ℕ → Carried
+abbrev pub without : Carried → ℕ → Carried
 without c conn = record { bus = record c.bus { waiting = without_queue c.bus.waiting conn }; ends = with_end conn leaves c.ends }
 
 pub left_view : (c : Carried) (conn : ℕ) → map post_of (left c conn).ends ≡ changed_at conn gone (map post_of c.ends)
@@ -142,3 +143,11 @@ taken_sendable e h = rest e.up h
     rest : (saids : List Said) → AllByRecursion (λ (said : Said). IsSendable said.message) saids → AllByRecursion (λ (said : Said). IsSendable said.message) (rest_of saids)
     rest [] a = tt
     rest (s ∷ ss) a = a.1
+
+-- each message has bytes
+spelled_some : (m : Envelope) (fs : List Field) → 0 < length (spelled_with m fs)
+unfolding spelled_with header_bytes
+spelled_some m fs = omega arith
+
+pub written_some : (m : Envelope) → 0 < length (written m)
+written_some m = spelled_some m (rising_fields m)

@@ -1,8 +1,10 @@
 //! Bytes come down a link.
 
-ghost use Rattle.std.specs.Prelude.{◌≡◌, ◌≤◌, IfOk, OnOk, OnErr};
-ghost use Rattle.atspi_bus_steps.specs.Inner.{state_of};
+ghost use Rattle.std.specs.Prelude.{◌≡◌, ◌<◌, ◌≤◌, length, IfOk, OnOk, OnErr};
+ghost use Rattle.atspi_stream.specs.Stream.{AwaitsMore};
+ghost use Rattle.atspi_bus_steps.specs.Inner.{inner_of, state_of};
 ghost use Rattle.atspi_bus_steps.specs.Sound.{IsSound};
+ghost use Rattle.atspi_carrying.specs.Filled.{waits_for, FillsAt, IsAwaited, IsFilled, IsGiven};
 
 use crate::carrier::Carrier;
 use crate::fault::CarryFault;
@@ -19,6 +21,9 @@ fn carry_down(
 ) -> Result<usize, CarryFault>
     ensures most { IfOk result (λ count. count ≤ most) }
     ensures state { state_of bus.new ≡ state_of bus.old }
+    ensures gives { IfOk result (λ count. IsGiven (inner_of bus.old) (inner_of bus.new) feeder.old feeder.new conn count) }
+    ensures awaited { IfOk result (λ count. IsAwaited feeder.old count) }
+    ensures some { IfOk result (λ count. 0 < most → 0 < length (waits_for (inner_of bus.old) conn) → AwaitsMore feeder.old → 0 < count) }
 {
     let most = most.min(bus.waiting(conn) as usize);
     let count = carry(bus.front(conn), feeder, most)?;
@@ -30,6 +35,7 @@ fn carry_down(
 fn fill(bus: &mut Inner, feeder: &mut Feeder, conn: u32, most: usize) -> Result<usize, CarryFault>
     ensures most { IfOk result (λ count. count ≤ most) }
     ensures state { state_of bus.new ≡ state_of bus.old }
+    ensures filled { IfOk result (λ count. IsFilled (inner_of bus.old) (inner_of bus.new) feeder.old feeder.new conn most count) }
 {
     let mut left = most;
     'pieces: loop {
@@ -49,6 +55,7 @@ impl Carrier {
         ensures most { IfOk result (λ count. count ≤ most) }
         ensures trace { self.new.trace ≡ self.old.trace }
         ensures posts { self.new.posts ≡ self.old.posts }
+        ensures filled { IfOk result (λ count. FillsAt (inner_of self.old.bus) (inner_of self.new.bus) self.old.at_end.items self.new.at_end.items conn most count) }
     {
         let place = conn as usize;
         if place >= self.at_end.len() {

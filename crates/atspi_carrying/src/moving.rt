@@ -2,6 +2,7 @@
 
 ghost use Rattle.std.specs.Prelude.{◌≡◌, ◌<◌, ◌≤◌, ◌++◌, length, take, IfOk, OnErr};
 ghost use Rattle.atspi_stream.specs.Stream.{AwaitsMore};
+ghost use Rattle.atspi_carrying.specs.Filled.{IsAwaited};
 
 use atspi_base::NoMemory;
 use atspi_stream::Feeder;
@@ -13,6 +14,7 @@ pub fn carry(waiting: &[u8], feeder: &mut Feeder, most: usize) -> Result<usize, 
     ensures there { IfOk result (λ count. count ≤ length waiting.now) }
     ensures moved { IfOk result (λ count. feeder.new ≡ feeder.old ++ take count waiting.now) }
     ensures some { 0 < most → 0 < length waiting.now → AwaitsMore feeder.old → IfOk result (λ count. 0 < count) }
+    ensures awaited { IfOk result (λ count. IsAwaited feeder.old count) }
     ensures err { OnErr result (feeder.new ≡ feeder.old) }
 {
     let count = most.min(waiting.len()).min(feeder.missing());

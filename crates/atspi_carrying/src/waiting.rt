@@ -1,5 +1,10 @@
 //! What waits.
 
+ghost use Rattle.std.specs.Prelude.{◌≡◌, ◌≤◌, length};
+ghost use Rattle.atspi_forest.specs.Forest.{first_of};
+ghost use Rattle.atspi_bus_steps.specs.Inner.{inner_of};
+ghost use Rattle.atspi_carrying.specs.Waits as waits;
+
 use crate::carrier::Carrier;
 use atspi_posts::{Post, Standing};
 
@@ -15,7 +20,9 @@ pub enum Turn {
 }
 
 /// Whether something waits on an up link: a message, or that the end stopped.
-fn up_turn(post: &Post, conn: u32) -> Option<Turn> {
+fn up_turn(post: &Post, conn: u32) -> Option<Turn>
+    ensures { result ≡ waits.up_turn conn post.now }
+{
     match post.standing {
         Standing::Here => {
             if post.up.is_empty() {
@@ -30,7 +37,9 @@ fn up_turn(post: &Post, conn: u32) -> Option<Turn> {
 }
 
 /// The first up link on which something waits, in order of joining.
-fn first_up(posts: &[Post]) -> Option<Turn> {
+fn first_up(posts: &[Post]) -> Option<Turn>
+    ensures { length posts.now ≤ 4294967296 → result ≡ waits.first_up 0 posts.now }
+{
     let mut conn: u32 = 0;
     for post in posts {
         if let Some(turn) = up_turn(post, conn) {
@@ -43,7 +52,9 @@ fn first_up(posts: &[Post]) -> Option<Turn> {
 
 impl Carrier {
     /// Whether bytes wait for an end that is there.
-    fn waits_below(&self, post: &Post, conn: u32) -> bool {
+    fn waits_below(&self, post: &Post, conn: u32) -> bool
+        ensures { result ≡ waits.waits_at (inner_of self.now.bus) self.now.at_end.items conn post.now.standing }
+    {
         if post.standing != Standing::Here {
             return false;
         }
@@ -57,7 +68,9 @@ impl Carrier {
     }
 
     /// The first down link on which something waits, in order of joining.
-    fn first_down(&self) -> Option<Turn> {
+    fn first_down(&self) -> Option<Turn>
+        ensures { length self.now.posts.items ≤ 4294967296 → result ≡ waits.first_down (inner_of self.now.bus) self.now.at_end.items 0 self.now.posts.items }
+    {
         let mut conn: u32 = 0;
         for post in &self.posts {
             if self.waits_below(post, conn) {
@@ -70,7 +83,9 @@ impl Carrier {
 
     /// The first thing that waits: the first up link on which something does, in order of joining, and else the first down link of an end that is
     /// there.
-    pub fn next_turn(&self) -> Option<Turn> {
+    pub fn next_turn(&self) -> Option<Turn>
+        ensures { length self.now.posts.items ≤ 4294967296 → result ≡ first_of (waits.first_up 0 self.now.posts.items) (waits.first_down (inner_of self.now.bus) self.now.at_end.items 0 self.now.posts.items) }
+    {
         match first_up(&self.posts) {
             Some(turn) => Some(turn),
             None => self.first_down(),

@@ -1,9 +1,18 @@
-use Rattle.std.proofs.Common.{◌≡◌, ◌≤◌}
-use Rattle.atspi_bus_steps.specs.Inner.{state_of}
+use Rattle.std.proofs.Common.{◌≡◌, ◌≤◌, ◌+◌, ◌-◌, ◌++◌, ℕ, List}
+use Rattle.atspi_routing.specs.Queues.{Bus}
+use Rattle.atspi_bus_steps.specs.Inner.{inner_of, state_of}
+use Rattle.atspi_carrying.specs.Filled.{waits_for, IsGiven, KeepsWithin}
 use Rattle.atspi_carrying.proofs.down.fill.Given as goal
 
+-- what is given from here on completes what was given so far
 abbrev pub invariant-pieces : goal.invariant-pieces
-invariant-pieces l = record { state : state_of l.bus ≡ state_of l.initial.bus; left : l.left ≤ l.most }
+invariant-pieces l = record {
+  state : state_of l.bus ≡ state_of l.initial.bus;
+  left : l.left ≤ l.most;
+  within : KeepsWithin l.initial.feeder (waits_for (inner_of l.initial.bus) l.conn) l.feeder;
+  whole : l.feeder ++ waits_for (inner_of l.bus) l.conn ≡ l.initial.feeder ++ waits_for (inner_of l.initial.bus) l.conn;
+  rest : (n : ℕ) (bus : Bus) (given : List ℕ) → IsGiven (inner_of l.bus) bus l.feeder given l.conn n → IsGiven (inner_of l.initial.bus) bus l.initial.feeder given l.conn (l.most - l.left + n);
+}
 
 abbrev pub decreases-pieces : goal.decreases-pieces
 decreases-pieces l = l.left
