@@ -6,13 +6,13 @@ set -eu
 top=$(cd "$(dirname "$0")/.." && pwd)
 folds=${1:-100000}
 runs=${2:-7}
-(cd "$top/crates/atspi_cache_speed" && rt run -- mixed 100 100) >/dev/null 2>&1 || { echo "it could not be built" >&2; exit 1; }
-program=$top/crates/atspi_cache_speed/out/atspi_cache_speed
+(cd "$top/crates/atspi_speed" && rt run -- each) >/dev/null 2>&1 || { echo "it could not be built" >&2; exit 1; }
+program=$top/crates/atspi_speed/out/atspi_speed
 echo "load: $(cut -d' ' -f1-3 /proc/loadavg), processors: $(nproc)"
 for shape in wide deep mixed; do
     for items in 1000 2000 4000 8000; do
         for _run in $(seq "$runs"); do
-            "$program" "$shape" "$items" "$folds" 2>&1 >/dev/null
+            "$program" cache "$shape" "$items" "$folds" 2>&1 >/dev/null
         done | tr -d , | awk -v shape="$shape" -v items="$items" '
             NR == 1 || $2 < load { load = $2 }
             NR == 1 || $7 < rows { rows = $7 }

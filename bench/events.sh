@@ -4,9 +4,9 @@
 set -eu
 top=$(cd "$(dirname "$0")/.." && pwd)
 rounds=${1:-100000}
-(cd "$top/crates/atspi_events_speed" && rt run) >/dev/null
-program=$top/crates/atspi_events_speed/out/atspi_events_speed
+(cd "$top/crates/atspi_speed" && rt run -- each) >/dev/null
+program=$top/crates/atspi_speed/out/atspi_speed
 begin=$(date +%s%N)
-"$program" "$rounds" >/dev/null
+"$program" events "$rounds" >/dev/null
 end=$(date +%s%N)
 awk -v t="$((end - begin))" -v n="$((rounds * 10))" 'BEGIN { printf "%.0f nanoseconds an event\n", t / n }'

@@ -5,5 +5,5 @@
 set -eu
 top=$(cd "$(dirname "$0")/.." && pwd)
 echo "load: $(cut -d' ' -f1-3 /proc/loadavg), processors: $(nproc)"
-cd "$top/crates/atspi_faces_speed"
-rt run -- "${1:-1000000}" "${2:-10000}"
+cd "$top/crates/atspi_speed"
+rt run -- faces "${1:-1000000}" "${2:-10000}"

@@ -4,9 +4,9 @@
 set -eu
 top=$(cd "$(dirname "$0")/.." && pwd)
 rounds=${1:-50000}
-(cd "$top/crates/atspi_lines_speed" && rt run) >/dev/null
-program=$top/crates/atspi_lines_speed/out/atspi_lines_speed
+(cd "$top/crates/atspi_speed" && rt run -- each) >/dev/null
+program=$top/crates/atspi_speed/out/atspi_speed
 begin=$(date +%s%N)
-"$program" "$rounds" >/dev/null
+"$program" lines "$rounds" >/dev/null
 end=$(date +%s%N)
 awk -v t="$((end - begin))" -v n="$((rounds * 20))" 'BEGIN { printf "%.0f nanoseconds a line\n", t / n }'

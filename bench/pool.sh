@@ -7,12 +7,12 @@ top=$(cd "$(dirname "$0")/.." && pwd)
 rounds=${1:-500}
 work=$(mktemp -d)
 trap 'rm -rf "$work"' EXIT
-(cd "$top/crates/atspi_pool_speed" && rt run -- pool 20) >"$work/build" 2>&1 || { cat "$work/build" >&2; exit 1; }
-program=$top/crates/atspi_pool_speed/out/atspi_pool_speed
+(cd "$top/crates/atspi_speed" && rt run -- each) >"$work/build" 2>&1 || { cat "$work/build" >&2; exit 1; }
+program=$top/crates/atspi_speed/out/atspi_speed
 
 # count WORD: the instructions of a run
 count() {
-    valgrind --tool=callgrind --callgrind-out-file="$work/$1.callgrind" "$program" "$1" "$rounds" >"$work/$1.out" 2>"$work/log"
+    valgrind --tool=callgrind --callgrind-out-file="$work/$1.callgrind" "$program" pool "$1" "$rounds" >"$work/$1.out" 2>"$work/log"
     awk '/^totals:|^summary:/ { n = $2 } END { print n }' "$work/$1.callgrind"
 }
 none=$(count none)

@@ -8,16 +8,18 @@ work=$(mktemp -d)
 trap 'rm -rf "$work"' EXIT
 
 ${CC:-cc} -O2 -o "$work/c" "$top/bench/marshal.c"
-if ! (cd "$top/crates/atspi_speed" && rt run -- decode 1000) >"$work/build" 2>&1; then
+if ! (cd "$top/crates/atspi_speed" && rt run -- each) >"$work/build" 2>&1; then
     cat "$work/build" >&2
     exit 1
 fi
 cp "$top/crates/atspi_speed/out/atspi_speed" "$work/proved"
 
+# part PROGRAM: the word before its others
+part() { [ "$1" = c ] || echo values; }
 # run PROGRAM WORD: appends the processor time in ms to PROGRAM.WORD.cpu, and what the program measured in us to PROGRAM.WORD.clock
 run() {
     local TIMEFORMAT='%3U %3S'
-    { time "$work/$1" "$2" "$structs" >>"$work/$1.out" 2>>"$work/$1.$2.clock"; } 2>"$work/time"
+    { time "$work/$1" $(part "$1") "$2" "$structs" >>"$work/$1.out" 2>>"$work/$1.$2.clock"; } 2>"$work/time"
     awk '{ print int(($1 + $2) * 1000 + 0.5) }' "$work/time" >>"$work/$1.$2.cpu"
 }
 median() { sort -n "$1" | awk '{ all[NR] = $1 } END { print all[int((NR + 1) / 2)] }'; }
@@ -42,7 +44,7 @@ echo "  by the clock:   C $((c_clock / 1000)) ms, proved $((proved_clock / 1000)
 command -v valgrind >/dev/null || exit 0
 # count PROGRAM WORD: the instructions of a run
 count() {
-    valgrind --tool=callgrind --callgrind-out-file="$work/$1.$2.callgrind" "$work/$1" "$2" "$counted" >"$work/log" 2>&1
+    valgrind --tool=callgrind --callgrind-out-file="$work/$1.$2.callgrind" "$work/$1" $(part "$1") "$2" "$counted" >"$work/log" 2>&1
     awk '/^totals:|^summary:/ { n = $2 } END { print n }' "$work/$1.$2.callgrind"
 }
 for program in c proved; do

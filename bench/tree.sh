@@ -8,17 +8,17 @@ top=$(cd "$(dirname "$0")/.." && pwd)
 edits=${1:-20000}
 work=$(mktemp -d)
 trap 'rm -rf "$work"' EXIT
-(cd "$top/crates/atspi_tree_speed" && rt run -- 100 200 3 1) >"$work/build" 2>&1 || { cat "$work/build" >&2; exit 1; }
-program=$top/crates/atspi_tree_speed/out/atspi_tree_speed
+(cd "$top/crates/atspi_speed" && rt run -- each) >"$work/build" 2>&1 || { cat "$work/build" >&2; exit 1; }
+program=$top/crates/atspi_speed/out/atspi_speed
 
 # count NODES EDITS FOCUSES WALKS: the instructions of a run
 count() {
-    valgrind --tool=callgrind --callgrind-out-file="$work/callgrind" "$program" "$1" "$2" "$3" "$4" >"$work/out" 2>"$work/log"
+    valgrind --tool=callgrind --callgrind-out-file="$work/callgrind" "$program" tree "$1" "$2" "$3" "$4" >"$work/out" 2>"$work/log"
     awk '/^totals:|^summary:/ { n = $2 } END { print n }' "$work/callgrind"
 }
 echo "load: $(cut -d' ' -f1-3 /proc/loadavg), processors: $(nproc)"
 for nodes in 1000 2000 4000 8192; do
-    "$program" "$nodes" "$edits" 200 0
+    "$program" tree "$nodes" "$edits" 200 0
     grown=$(count "$nodes" 0 0 0)
     all=$(count "$nodes" "$edits" 0 0)
     focused=$(count "$nodes" 0 100 0)

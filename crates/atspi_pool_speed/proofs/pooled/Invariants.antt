@@ -1,5 +1,0 @@
-use Rattle.atspi_pool_speed.specs.Used.{AllUsed}
-use Rattle.atspi_pool_speed.proofs.pooled.Given as goal
-
-abbrev pub invariant-loop : goal.invariant-loop
-invariant-loop l = AllUsed l.pool l.chains.items
