@@ -54,5 +54,5 @@ fn each(rt: &HostRuntime) -> Result<()> {
     registry::run(rt, &["60", "4", "10"])?;
     faces::run(rt, &["1000", "10"])?;
     tree::run(rt, &["100", "200", "3", "1"])?;
-    cache::run(rt, &["mixed", "60", "40"])
+    cache::run(rt, &["mixed", "60", "40", "all"])
 }
