@@ -1,118 +1,162 @@
 //! Types within types, and what a type tells of itself.
 
 use atspi_codes::{Shape, TyRef, TysRef};
-use std::test::*;
 
 /// The one type of the codes.
-fn one(codes: &[u8]) -> Result<TyRef<'_>, Fail> {
-    match TyRef::parse(codes) {
-        Ok(Some(ty)) => Ok(ty),
-        _ => Err("no type".into()),
+fn one(codes: &[u8]) -> Option<TyRef<'_>> {
+    TyRef::parse(codes).ok()?
+}
+
+/// A word for a shape that has no types in it, and for one that has.
+fn word(shape: Shape<'_>) -> &'static str {
+    match shape {
+        Shape::Byte => "byte",
+        Shape::Bool => "bool",
+        Shape::I16 => "i16",
+        Shape::U16 => "u16",
+        Shape::I32 => "i32",
+        Shape::U32 => "u32",
+        Shape::I64 => "i64",
+        Shape::U64 => "u64",
+        Shape::Double => "double",
+        Shape::Text => "text",
+        Shape::Path => "path",
+        Shape::Sig => "signature",
+        Shape::Variant => "variant",
+        Shape::Array(_) => "array",
+        Shape::Struct(_) => "struct",
+        Shape::Dict(_, _) => "dict",
     }
 }
 
-/// A word for the shape, and the codes of the types in it.
-fn shape_of(ty: TyRef<'_>) -> (&'static str, &[u8], &[u8]) {
-    match ty.shape() {
-        Shape::Byte => ("byte", b"", b""),
-        Shape::Bool => ("bool", b"", b""),
-        Shape::I16 => ("i16", b"", b""),
-        Shape::U16 => ("u16", b"", b""),
-        Shape::I32 => ("i32", b"", b""),
-        Shape::U32 => ("u32", b"", b""),
-        Shape::I64 => ("i64", b"", b""),
-        Shape::U64 => ("u64", b"", b""),
-        Shape::Double => ("double", b"", b""),
-        Shape::Text => ("text", b"", b""),
-        Shape::Path => ("path", b"", b""),
-        Shape::Sig => ("signature", b"", b""),
-        Shape::Variant => ("variant", b"", b""),
-        Shape::Array(element) => ("array", element.codes(), b""),
-        Shape::Struct(fields) => ("struct", fields.codes(), b""),
-        Shape::Dict(key, value) => ("dict", key.codes(), value.codes()),
+/// The codes of the types in a shape.
+fn within(shape: Shape<'_>) -> (&[u8], &[u8]) {
+    match shape {
+        Shape::Array(element) => (element.codes(), b""),
+        Shape::Struct(fields) => (fields.codes(), b""),
+        Shape::Dict(key, value) => (key.codes(), value.codes()),
+        _ => (b"", b""),
     }
+}
+
+/// Codes of a type; its shape, the codes of the types in it (a dash where there are none), its alignment, and whether it is basic.
+const TYPES: &str = "\
+y byte - - 1 basic
+b bool - - 4 basic
+n i16 - - 2 basic
+q u16 - - 2 basic
+i i32 - - 4 basic
+u u32 - - 4 basic
+x i64 - - 8 basic
+t u64 - - 8 basic
+d double - - 8 basic
+s text - - 4 basic
+o path - - 4 basic
+g signature - - 1 basic
+v variant - - 1 container
+ay array y - 4 container
+aa{sv} array a{sv} - 4 container
+a(so) array (so) - 4 container
+(i) struct i - 8 container
+((so)a{sv}y) struct (so)a{sv}y - 8 container
+a{sv} dict s v 4 container
+a{o(ii)} dict o (ii) 4 container
+a{ya{ya{yy}}} dict y a{ya{yy}} 4 container
+a{sa(y(v))} dict s a(y(v)) 4 container";
+
+/// What a word of a row stands for.
+fn codes_of(word: &str) -> &[u8] {
+    if word == "-" { b"" } else { word.as_bytes() }
+}
+
+/// Whether the shape of a type is that of these words, and the getters that answer are those of its shape.
+fn has_shape(ty: TyRef<'_>, shape: &str, first: &str, second: &str) -> bool {
+    let (told, other) = within(ty.shape());
+    word(ty.shape()) == shape
+        && told == codes_of(first)
+        && other == codes_of(second)
+        && ty.element().is_some() == (shape == "array")
+        && ty.fields().is_some() == (shape == "struct")
+        && ty.entry().is_some() == (shape == "dict")
+}
+
+/// Whether a type has these codes, and is itself.
+fn has_codes(ty: TyRef<'_>, codes: &[u8]) -> bool {
+    ty.codes() == codes && codes.first() == Some(&ty.code()) && ty.is(ty)
+}
+
+/// Whether a row holds.
+fn holds(row: &str) -> Option<bool> {
+    let mut words = row.split(' ');
+    let codes = words.next()?.as_bytes();
+    let ty = one(codes)?;
+    let is_shaped = has_shape(ty, words.next()?, words.next()?, words.next()?);
+    let alignment = words.next()?.parse::<usize>().ok()?;
+    let is_basic = words.next()? == "basic";
+    Some(
+        is_shaped
+            && has_codes(ty, codes)
+            && ty.alignment() == alignment
+            && ty.is_basic() == is_basic,
+    )
 }
 
 #[test]
-fn a_type_tells_its_shape(rt: HostRuntime) -> Result<(), Fail> {
-    // The codes; the shape with the codes in it; the alignment; whether it is basic.
-    let table: [(&[u8], (&str, &[u8], &[u8]), usize, bool); 22] = [
-        (b"y", ("byte", b"", b""), 1, true),
-        (b"b", ("bool", b"", b""), 4, true),
-        (b"n", ("i16", b"", b""), 2, true),
-        (b"q", ("u16", b"", b""), 2, true),
-        (b"i", ("i32", b"", b""), 4, true),
-        (b"u", ("u32", b"", b""), 4, true),
-        (b"x", ("i64", b"", b""), 8, true),
-        (b"t", ("u64", b"", b""), 8, true),
-        (b"d", ("double", b"", b""), 8, true),
-        (b"s", ("text", b"", b""), 4, true),
-        (b"o", ("path", b"", b""), 4, true),
-        (b"g", ("signature", b"", b""), 1, true),
-        (b"v", ("variant", b"", b""), 1, false),
-        (b"ay", ("array", b"y", b""), 4, false),
-        (b"aa{sv}", ("array", b"a{sv}", b""), 4, false),
-        (b"a(so)", ("array", b"(so)", b""), 4, false),
-        (b"(i)", ("struct", b"i", b""), 8, false),
-        (b"((so)a{sv}y)", ("struct", b"(so)a{sv}y", b""), 8, false),
-        (b"a{sv}", ("dict", b"s", b"v"), 4, false),
-        (b"a{o(ii)}", ("dict", b"o", b"(ii)"), 4, false),
-        (b"a{ya{ya{yy}}}", ("dict", b"y", b"a{ya{yy}}"), 4, false),
-        (b"a{sa(y(v))}", ("dict", b"s", b"a(y(v))"), 4, false),
-    ];
-    for (codes, (word, first, second), alignment, basic) in table {
-        let ty = one(codes)?;
-        let (told, inner, other) = shape_of(ty);
-        assert_eq!(rt; told, word, "of {codes:?}");
-        assert_eq!(rt; inner, first, "within {codes:?}");
-        assert_eq!(rt; other, second, "the value of {codes:?}");
-        assert_eq!(rt; ty.alignment(), alignment, "of {codes:?}");
-        assert_eq!(rt; ty.is_basic(), basic, "of {codes:?}");
-        assert_eq!(rt; Some(&ty.code()), codes.first());
-        assert_eq!(rt; ty.codes(), codes);
-        assert_eq!(rt; ty.element().is_some(), word == "array", "of {codes:?}");
-        assert_eq!(rt; ty.fields().is_some(), word == "struct", "of {codes:?}");
-        assert_eq!(rt; ty.entry().is_some(), word == "dict", "of {codes:?}");
-        assert!(rt; ty.is(one(codes)?));
+fn a_type_tells_its_shape(rt: HostRuntime) {
+    for row in TYPES.lines() {
+        assert!(rt; holds(row) == Some(true), "{row}");
     }
-    assert!(rt; !one(b"ay")?.is(one(b"an")?));
-    assert!(rt; !one(b"(y)")?.is(one(b"(yy)")?));
-    Ok(())
+}
+
+/// Whether two codes spell the same type.
+fn are_same(first: &[u8], second: &[u8]) -> Option<bool> {
+    Some(one(first)?.is(one(second)?))
 }
 
 #[test]
-fn types_come_one_after_another(rt: HostRuntime) -> Result<(), Fail> {
-    let due: [&[u8]; 6] = [b"y", b"a(ii)", b"((s)g)", b"a{ua{sv}}", b"aav", b"o"];
-    let Ok(mut types) = TysRef::parse(b"ya(ii)((s)g)a{ua{sv}}aavo") else {
-        return Err("refused".into());
-    };
-    assert!(rt; types.single().is_none());
-    for codes in due {
-        assert!(rt; !types.is_empty());
-        let Some(ty) = types.next() else {
-            return Err("no type".into());
-        };
-        assert_eq!(rt; ty.codes(), codes);
+fn types_that_differ_are_told_apart(rt: HostRuntime) {
+    assert!(rt; are_same(b"a(ii)", b"a(ii)") == Some(true));
+    assert!(rt; are_same(b"ay", b"an") == Some(false));
+    assert!(rt; are_same(b"(y)", b"(yy)") == Some(false));
+}
+
+/// Whether the types come one after another as these words spell them, and then none.
+fn come(types: TysRef<'_>, due: &str) -> Option<bool> {
+    let mut rest = types;
+    let mut holds = rest.single().is_none();
+    for codes in due.split(' ') {
+        holds = holds && !rest.is_empty() && rest.next()?.codes() == codes.as_bytes();
     }
-    assert!(rt; types.is_empty());
-    assert!(rt; types.next().is_none());
-    assert!(rt; types.next().is_none());
-    Ok(())
+    Some(holds && rest.is_empty() && rest.next().is_none() && rest.next().is_none())
+}
+
+/// Whether a signature's types are those of these words.
+fn has_types(signature: &[u8], due: &str) -> Option<bool> {
+    come(TysRef::parse(signature).ok()?, due)
 }
 
 #[test]
-fn no_types_and_one(rt: HostRuntime) -> Result<(), Fail> {
+fn types_come_one_after_another(rt: HostRuntime) {
+    let holds = has_types(
+        b"ya(ii)((s)g)a{ua{sv}}aavo",
+        "y a(ii) ((s)g) a{ua{sv}} aav o",
+    );
+    assert!(rt; holds == Some(true));
+}
+
+/// Whether the list of no types is empty.
+fn is_nothing() -> bool {
     let mut none = TysRef::none();
-    assert!(rt; none.is_empty());
-    assert!(rt; none.single().is_none());
-    assert_eq!(rt; none.codes(), b"".as_slice());
-    assert!(rt; none.next().is_none());
-    let Some(fields) = one(b"(a{s(yy)})")?.fields() else {
-        return Err("no struct".into());
-    };
-    let Some(only) = fields.single() else {
-        return Err("not one".into());
-    };
-    assert_eq!(rt; only.codes(), b"a{s(yy)}".as_slice());
-    Ok(())
+    none.is_empty() && none.single().is_none() && none.codes().is_empty() && none.next().is_none()
+}
+
+/// Whether the one field of a struct has these codes.
+fn only_field(codes: &[u8], due: &[u8]) -> Option<bool> {
+    Some(one(codes)?.fields()?.single()?.codes() == due)
+}
+
+#[test]
+fn no_types_and_one(rt: HostRuntime) {
+    assert!(rt; is_nothing());
+    assert!(rt; only_field(b"(a{s(yy)})", b"a{s(yy)}") == Some(true));
 }
