@@ -4,6 +4,8 @@
 #[cfg(test)]
 mod changes;
 #[cfg(test)]
+mod drawn;
+#[cfg(test)]
 mod edits;
 #[cfg(test)]
 mod plain;

@@ -1,7 +1,7 @@
 use Rattle.std.proofs.Common.{drop}
 use Rattle.atspi_forest.specs.RowRules.{shapes}
 use Rattle.atspi_forest.specs.Tree.{AllApply}
-use Rattle.atspi_shape_tests.proofs.edits.take.Given as goal
+use Rattle.atspi_shape_tests.proofs.edits.edited.Given as goal
 
 -- the steps that are left apply, one after another
 abbrev pub invariant-loop-step : goal.invariant-loop-step
