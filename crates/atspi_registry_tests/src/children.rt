@@ -88,37 +88,11 @@ signal l 1 8 path=/org/a11y/atspi/registry interface=org.a11y.atspi.Registry mem
 ";
 
 #[test]
-fn a_root_is_embedded_once(rt: HostRuntime) -> Result<(), Fail> {
-    assert!(rt; goes_on(&rt, EMBEDDED)?);
-    Ok(())
-}
-
-#[test]
-fn a_root_that_comes_again_has_the_next_number(rt: HostRuntime) -> Result<(), Fail> {
-    assert!(rt; goes_on(&rt, AGAIN)?);
-    Ok(())
-}
-
-#[test]
-fn a_root_of_another_is_refused(rt: HostRuntime) -> Result<(), Fail> {
-    assert!(rt; goes_on(&rt, ANOTHERS)?);
-    Ok(())
-}
-
-#[test]
-fn children_are_told_to_those_who_ask(rt: HostRuntime) -> Result<(), Fail> {
-    assert!(rt; goes_on(&rt, TOLD)?);
-    Ok(())
-}
-
-#[test]
-fn an_application_leaves_with_its_child(rt: HostRuntime) -> Result<(), Fail> {
-    assert!(rt; goes_on(&rt, LEAVES)?);
-    Ok(())
-}
-
-#[test]
-fn who_leaves_is_not_told_of_its_own_child(rt: HostRuntime) -> Result<(), Fail> {
-    assert!(rt; goes_on(&rt, LEAVES_ALONE)?);
-    Ok(())
+fn roots_are_embedded_taken_back_and_leave(rt: HostRuntime) {
+    assert!(rt; goes_on(&rt, EMBEDDED));
+    assert!(rt; goes_on(&rt, AGAIN));
+    assert!(rt; goes_on(&rt, ANOTHERS));
+    assert!(rt; goes_on(&rt, TOLD));
+    assert!(rt; goes_on(&rt, LEAVES));
+    assert!(rt; goes_on(&rt, LEAVES_ALONE));
 }

@@ -4,6 +4,8 @@
 #[cfg(test)]
 mod children;
 #[cfg(test)]
+mod filled;
+#[cfg(test)]
 mod listeners;
 #[cfg(test)]
 mod many;

@@ -72,25 +72,9 @@ return l 1 9 reply=9 destination=:1.4 signature=a(ss) [[(\":1.3\" \"window\")]]
 ";
 
 #[test]
-fn a_pattern_registered_twice_is_told_once(rt: HostRuntime) -> Result<(), Fail> {
-    assert!(rt; goes_on(&rt, REGISTERED)?);
-    Ok(())
-}
-
-#[test]
-fn pairs_are_listed_in_order(rt: HostRuntime) -> Result<(), Fail> {
-    assert!(rt; goes_on(&rt, LISTED)?);
-    Ok(())
-}
-
-#[test]
-fn a_pair_is_given_back(rt: HostRuntime) -> Result<(), Fail> {
-    assert!(rt; goes_on(&rt, GIVEN_BACK)?);
-    Ok(())
-}
-
-#[test]
-fn a_listener_leaves_with_its_pairs(rt: HostRuntime) -> Result<(), Fail> {
-    assert!(rt; goes_on(&rt, LEAVES)?);
-    Ok(())
+fn listeners_register_ask_and_leave(rt: HostRuntime) {
+    assert!(rt; goes_on(&rt, REGISTERED));
+    assert!(rt; goes_on(&rt, LISTED));
+    assert!(rt; goes_on(&rt, GIVEN_BACK));
+    assert!(rt; goes_on(&rt, LEAVES));
 }

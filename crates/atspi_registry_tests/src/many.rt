@@ -1,93 +1,81 @@
 //! A listener with many pairs: they are listed, and it leaves with all of them.
 
+use crate::filled::{Filling, fill};
 use crate::plays::goes_on;
+use atspi_base::Bytes;
 use std::alloc::Global;
 use std::test::*;
 
 /// How many pairs the listener `:1.2` has; beside each the listener `:1.3` has one with the same pattern.
 const PAIRS: u32 = 500;
 
-/// The signal of a number for a listener's pattern.
-fn signal(
-    alloc: Global,
-    script: &mut String,
-    number: u32,
-    member: &str,
-    pair: &str,
-) -> Result<(), Fail> {
-    let line = format!(in alloc;
-        "signal l 1 {number} path=/org/a11y/atspi/registry interface=org.a11y.atspi.Registry member=EventListener{member} signature=ss [{pair}]\n"
-    )?;
-    script.push_str(&line)?;
-    Ok(())
-}
+/// A listener registers a pattern of a number, which is told by the message of another.
+const REGISTERS: &str = "\
+> quiet 1 $W registry Registry RegisterEvent s=object:$A
+signal l 1 $B path=/org/a11y/atspi/registry interface=org.a11y.atspi.Registry member=EventListenerRegistered signature=ss [\"$W\" \"object:$A\"]
+";
 
-/// A listener registers a pattern, which is told by the message of a number.
-fn register(
-    alloc: Global,
-    script: &mut String,
-    listener: &str,
-    pattern: u32,
-    number: u32,
-) -> Result<(), Fail> {
-    let line = format!(in alloc;
-        "> quiet 1 {listener} registry Registry RegisterEvent s=object:{pattern}\n"
-    )?;
-    script.push_str(&line)?;
-    let pair = format!(in alloc; "\"{listener}\" \"object:{pattern}\"")?;
-    signal(alloc, script, number, "Registered", &pair)
+/// The pair of a listener that left is told.
+const LOST: &str =
+    "signal l 1 $B path=/org/a11y/atspi/registry interface=org.a11y.atspi.Registry member=EventListenerDeregistered signature=ss [\"$W\" \"object:$A\"]\n";
+
+/// Appends a line for a listener's pattern, filled with the message's number too.
+fn put(out: &mut Bytes, lines: &str, word: &str, first: u32, second: u32) -> Option<()> {
+    let filling = Filling {
+        word,
+        first,
+        second,
+    };
+    fill(out, lines, filling)
 }
 
 /// Both listeners register all patterns, by turns.
-fn registered(alloc: Global) -> Result<String, Fail> {
-    let mut script = String::new(alloc);
+fn put_registered(out: &mut Bytes) -> Option<()> {
     let mut number = 4u32;
     for pattern in 0..PAIRS {
-        register(alloc, &mut script, ":1.2", pattern, number)?;
-        register(
-            alloc,
-            &mut script,
-            ":1.3",
-            pattern,
-            number.saturating_add(1),
-        )?;
+        put(out, REGISTERS, ":1.2", pattern, number)?;
+        put(out, REGISTERS, ":1.3", pattern, number.saturating_add(1))?;
         number = number.saturating_add(2);
     }
-    Ok(script)
+    Some(())
 }
 
-/// The pairs of `:1.3` as a list of values.
-fn left(alloc: Global) -> Result<String, Fail> {
-    let mut list = String::new(alloc);
-    for pattern in 0..PAIRS {
-        let gap = if pattern == 0 { "" } else { " " };
-        let pair = format!(in alloc; "{gap}(\":1.3\" \"object:{pattern}\")")?;
-        list.push_str(&pair)?;
-    }
-    Ok(list)
-}
-
-/// The first listener leaves, which is told of each of its pairs, and the other's are left.
-fn leaves(alloc: Global, script: &mut String) -> Result<(), Fail> {
-    script.push_str("> signal 9 bus bus bus NameOwnerChanged s=:1.2 s=:1.2 s=\n")?;
+/// The first listener leaves, which is told of each of its pairs.
+fn put_lost(out: &mut Bytes) -> Option<()> {
+    out.extend(b"> signal 9 bus bus bus NameOwnerChanged s=:1.2 s=:1.2 s=\n")
+        .ok()?;
     let mut number = 1004u32;
     for pattern in 0..PAIRS {
-        let pair = format!(in alloc; "\":1.2\" \"object:{pattern}\"")?;
-        signal(alloc, script, number, "Deregistered", &pair)?;
+        put(out, LOST, ":1.2", pattern, number)?;
         number = number.saturating_add(1);
     }
-    let list = left(alloc)?;
-    let line = format!(in alloc;
-        "> call 9 :1.4 registry Registry GetRegisteredEvents\nreturn l 1 {number} reply=9 destination=:1.4 signature=a(ss) [[{list}]]\n"
-    )?;
-    script.push_str(&line)?;
-    Ok(())
+    Some(())
+}
+
+/// The pairs of the other are left.
+fn put_left(out: &mut Bytes) -> Option<()> {
+    out.extend(
+        b"> call 9 :1.4 registry Registry GetRegisteredEvents\nreturn l 1 1504 reply=9 destination=:1.4 signature=a(ss) [[",
+    ).ok()?;
+    for pattern in 0..PAIRS {
+        let gap = if pattern == 0 { "" } else { " " };
+        put(out, "$W(\":1.3\" \"object:$A\")", gap, pattern, 0)?;
+    }
+    out.extend(b"]]\n").ok()
+}
+
+/// The whole conversation.
+fn script(alloc: Global) -> Option<Bytes> {
+    let mut out = Bytes::new(alloc);
+    put_registered(&mut out)?;
+    put_lost(&mut out)?;
+    put_left(&mut out)?;
+    Some(out)
 }
 
 #[test]
-fn a_listener_leaves_with_many_pairs(rt: HostRuntime) -> Result<(), Fail> {
-    let mut script = registered(rt.alloc())?;
-    leaves(rt.alloc(), &mut script)?;
-    assert!(rt; goes_on(&rt, &script)?);
-    Ok(())
+fn a_listener_leaves_with_many_pairs(rt: HostRuntime) {
+    let script = script(rt.alloc()).expect(&rt, "memory");
+    let text = std::str::from_utf8(script.as_slice()).expect(&rt, "a text");
+    assert!(rt; goes_on(&rt, text));
 }

@@ -1,6 +1,8 @@
 //! Each member called with values of other types than it takes, with fewer and with more: each call is refused, and changes nothing.
 
+use crate::filled::{Filling, fill};
 use crate::plays::goes_on;
+use atspi_base::Bytes;
 use std::alloc::Global;
 use std::test::*;
 
@@ -51,33 +53,40 @@ registry Properties Set s=org.a11y.atspi.Registry s=Name s=x
 registry Peer Ping u=0";
 
 /// A call is refused by the message of a number.
-fn refuse(alloc: Global, script: &mut String, call: &str, number: u32) -> Result<(), Fail> {
-    let lines = format!(in alloc;
-        "> call 5 :1.6 {call}\nerror l 1 {number} error=org.freedesktop.DBus.Error.InvalidArgs reply=5 destination=:1.6 signature=s [\"InvalidArgs\"]\n"
-    )?;
-    script.push_str(&lines)?;
-    Ok(())
-}
+const REFUSED: &str = "\
+> call 5 :1.6 $W
+error l 1 $A error=org.freedesktop.DBus.Error.InvalidArgs reply=5 destination=:1.6 signature=s [\"InvalidArgs\"]
+";
 
-/// There is no pair and no child, as the messages of a number and the next one say.
-fn end(alloc: Global, script: &mut String, number: u32) -> Result<(), Fail> {
-    let children = number.saturating_add(1);
-    let lines = format!(in alloc;
-        "> call 6 :1.6 registry Registry GetRegisteredEvents\nreturn l 1 {number} reply=6 destination=:1.6 signature=a(ss) [[]]\n> call 7 :1.6 root Accessible GetChildren\nreturn l 1 {children} reply=7 destination=:1.6 signature=a(so) [[]]\n"
-    )?;
-    script.push_str(&lines)?;
-    Ok(())
+/// There is no pair and no child, as the messages of two numbers say.
+const NOTHING: &str = "\
+> call 6 :1.6 registry Registry GetRegisteredEvents
+return l 1 $A reply=6 destination=:1.6 signature=a(ss) [[]]
+> call 7 :1.6 root Accessible GetChildren
+return l 1 $B reply=7 destination=:1.6 signature=a(so) [[]]
+";
+
+/// Each call is refused; then there is nothing.
+fn script(alloc: Global) -> Option<Bytes> {
+    let mut out = Bytes::new(alloc);
+    let mut filling = Filling {
+        word: "",
+        first: 4,
+        second: 5,
+    };
+    for call in CALLS.lines() {
+        filling.word = call;
+        fill(&mut out, REFUSED, filling)?;
+        filling.first = filling.second;
+        filling.second = filling.second.saturating_add(1);
+    }
+    fill(&mut out, NOTHING, filling)?;
+    Some(out)
 }
 
 #[test]
-fn wrong_bodies_are_refused(rt: HostRuntime) -> Result<(), Fail> {
-    let mut script = String::new(rt.alloc());
-    let mut number = 4u32;
-    for call in CALLS.lines() {
-        refuse(rt.alloc(), &mut script, call, number)?;
-        number = number.saturating_add(1);
-    }
-    end(rt.alloc(), &mut script, number)?;
-    assert!(rt; goes_on(&rt, &script)?);
-    Ok(())
+fn wrong_bodies_are_refused(rt: HostRuntime) {
+    let script = script(rt.alloc()).expect(&rt, "memory");
+    let text = std::str::from_utf8(script.as_slice()).expect(&rt, "a text");
+    assert!(rt; goes_on(&rt, text));
 }
