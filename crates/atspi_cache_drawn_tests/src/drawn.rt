@@ -1,6 +1,6 @@
 //! Drawn news of an application with the root `/n0`: after each the rows are those of a plain list that took it, too.
 
-use crate::plain::{Node, moved, told, without};
+use crate::plain::{Node, moved, root, told, without};
 use atspi_cache::Cache;
 use atspi_cache_cases::{items_of, load, shown, tell};
 use std::alloc::Global;
@@ -14,15 +14,15 @@ fn draw(state: &mut u64, below: u32) -> u32 {
     ((*state >> 33) % u64::from(below.max(1))) as u32
 }
 
-/// A drawn news, taken by both.
-fn turn(alloc: Global, state: &mut u64, cache: &mut Cache, nodes: Vec<Node>) -> Option<Vec<Node>> {
+/// A drawn news, taken by the cache. Answers the nodes of the list that took it, too.
+fn turn(alloc: Global, state: &mut u64, cache: &mut Cache, nodes: &[Node]) -> Option<Vec<Node>> {
     let node = draw(state, 12).saturating_add(1);
     let other = draw(state, 13);
     let index = ((draw(state, 8) % 8) as i32).wrapping_sub(2);
     if draw(state, 4) == 0 {
         let words = format!(in alloc; "removed /n{node}").ok()?;
         tell(alloc, cache, words.as_str())?;
-        without(alloc, &nodes, node)
+        without(alloc, nodes, node)
     } else {
         let words = format!(in alloc; "item /n{node} /n{other} {index}").ok()?;
         tell(alloc, cache, words.as_str())?;
@@ -30,19 +30,28 @@ fn turn(alloc: Global, state: &mut u64, cache: &mut Cache, nodes: Vec<Node>) -> 
     }
 }
 
+/// Whether the rows of a cache are these nodes.
+fn agrees(alloc: Global, cache: &Cache, nodes: &[Node]) -> Option<bool> {
+    let rows = shown(alloc, cache)?;
+    let due = told(alloc, nodes)?;
+    Some(rows.as_str() == due.as_str())
+}
+
+/// A cache with the root alone.
+fn loaded(alloc: Global) -> Option<Cache> {
+    load(alloc, "/n0", items_of(alloc, "/n0 /n0 0")?)
+}
+
 #[test]
-fn drawn_news_make_what_a_plain_list_makes(rt: HostRuntime) -> Result<(), Fail> {
-    let alloc = rt.alloc();
+fn drawn_news_make_what_a_plain_list_makes(rt: HostRuntime) {
     let mut state = 11u64;
-    let items = items_of(alloc, "/n0 /n0 0").ok_or("items")?;
-    let mut cache = load(alloc, "/n0", items).ok_or("a load")?;
-    let mut nodes = Vec::new(alloc);
-    nodes.push((0u32, 0u32))?;
-    for _turn in 0..2000 {
-        nodes = turn(alloc, &mut state, &mut cache, nodes).ok_or("memory")?;
-        let rows = shown(alloc, &cache).ok_or("rows")?;
-        let due = told(alloc, &nodes).ok_or("memory")?;
-        assert!(rt; rows.as_str() == due.as_str(), "{due}");
+    let mut cache = loaded(rt.alloc()).expect(&rt, "a load");
+    let mut nodes = root(rt.alloc()).expect(&rt, "memory");
+    for news in 0..2000 {
+        nodes = turn(rt.alloc(), &mut state, &mut cache, &nodes).expect(&rt, "memory");
+        assert!(rt;
+            agrees(rt.alloc(), &cache, &nodes) == Some(true),
+            "news {news}"
+        );
     }
-    Ok(())
 }
