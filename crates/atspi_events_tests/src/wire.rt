@@ -5,6 +5,7 @@ use atspi_base::Bytes;
 use atspi_events::{Event, write_wire};
 use atspi_lines::Party;
 use atspi_message::{Message, total};
+use std::alloc::Global;
 use std::test::*;
 
 /// The call of Hello.
@@ -19,49 +20,42 @@ const HELLO_LINE: &str =
     "= 6c01000100000000010000006d00000001016f00150000002f6f72672f667265656465736b746f702f4442757300000002017300140000006f72672e667265656465736b746f702e4442757300000000030173000500000048656c6c6f00000006017300140000006f72672e667265656465736b746f702e4442757300000000\n";
 
 /// The message of these bytes.
-fn parsed(rt: &HostRuntime, bytes: &[u8]) -> Option<Message> {
+fn parsed(alloc: Global, bytes: &[u8]) -> Option<Message> {
     let first = bytes.first_chunk::<16>()?;
     let length = total(first).ok()?;
     if length as usize != bytes.len() {
         return None;
     }
-    Message::parse(rt.alloc(), bytes).ok()
+    Message::parse(alloc, bytes).ok()
 }
 
-/// A line of these bytes behind what was there.
-fn line_of(rt: &HostRuntime, bytes: &[u8]) -> Result<Bytes, Fail> {
-    let mut out = Bytes::new(rt.alloc());
-    out.extend(b"> ").ok().ok_or("memory")?;
-    write_wire(rt.alloc(), bytes, &mut out)
-        .ok()
-        .ok_or("memory")?;
-    Ok(out)
-}
-
-#[test]
-fn a_message_sent_is_told_with_its_text(rt: HostRuntime) -> Result<(), Fail> {
-    let message = parsed(&rt, &HELLO).ok_or("hello")?;
+/// Whether the message of these bytes, sent by the application 0, is told so.
+fn sent_tells(alloc: Global, bytes: &[u8], due: &str) -> Option<bool> {
     let sent = Event::Sent {
         who: Party::App(0),
-        message,
+        message: parsed(alloc, bytes)?,
     };
-    assert!(rt;
-        tells(
-            &rt,
-            &sent,
-            "sent a0 call l 0 1 path=/org/freedesktop/DBus interface=org.freedesktop.DBus member=Hello destination=org.freedesktop.DBus\n"
-        )?
-    );
-    Ok(())
+    tells(alloc, &sent, due)
 }
 
 #[test]
-fn bytes_are_a_line_of_hex(rt: HostRuntime) -> Result<(), Fail> {
-    let hello = line_of(&rt, &HELLO)?;
-    assert!(rt; hello.as_slice().strip_prefix(b"> ") == Some(HELLO_LINE.as_bytes()));
-    let few = line_of(&rt, &[0, 9, 10, 255])?;
-    assert!(rt; few.as_slice() == b"> = 00090aff\n".as_slice());
-    let none = line_of(&rt, &[])?;
-    assert!(rt; none.as_slice() == b"> = \n".as_slice());
-    Ok(())
+fn a_message_sent_is_told_with_its_text(rt: HostRuntime) {
+    let due =
+        "sent a0 call l 0 1 path=/org/freedesktop/DBus interface=org.freedesktop.DBus member=Hello destination=org.freedesktop.DBus";
+    assert!(rt; sent_tells(rt.alloc(), &HELLO, due) == Some(true));
+}
+
+/// Whether the line of these bytes, behind what was there, is this.
+fn is_line(alloc: Global, bytes: &[u8], due: &str) -> Option<bool> {
+    let mut out = Bytes::new(alloc);
+    out.extend(b"> ").ok()?;
+    write_wire(alloc, bytes, &mut out).ok()?;
+    Some(out.as_slice().strip_prefix(b"> ") == Some(due.as_bytes()))
+}
+
+#[test]
+fn bytes_are_a_line_of_hex(rt: HostRuntime) {
+    assert!(rt; is_line(rt.alloc(), &HELLO, HELLO_LINE) == Some(true));
+    assert!(rt; is_line(rt.alloc(), &[0, 9, 10, 255], "= 00090aff\n") == Some(true));
+    assert!(rt; is_line(rt.alloc(), &[], "= \n") == Some(true));
 }
