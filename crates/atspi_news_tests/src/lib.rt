@@ -11,3 +11,5 @@ mod made;
 mod replies;
 #[cfg(test)]
 mod shown;
+#[cfg(test)]
+mod told;

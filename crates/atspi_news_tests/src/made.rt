@@ -1,170 +1,132 @@
-//! Messages that tests are about, as bytes.
+//! Messages that tests are about, as bytes: put together word by word, least byte first (D-Bus Specification, "Message Format").
 
-use atspi_base::{Bytes, Text};
+ghost use Rattle.std.specs.Prelude.{◌<◌};
+
+use atspi_base::Bytes;
 use atspi_header::MessageRef;
-use atspi_message::{Message, total};
-use atspi_types::{BusName, Interface, Member, Order, Pairs, Path, Ty, Tys, Value, Values};
+use atspi_message::total;
 use std::alloc::Global;
-use std::process::Abort;
 
-/// A value of a table.
-#[derive(Clone, Copy)]
-pub enum Told<'a> {
-    Words(&'a str),
-    Place(&'a str),
-    Signed(i32),
-    Unsigned(u32),
-    Child(&'a str, &'a str),
+/// Appends zeros up to a multiple of 4 or 8.
+fn pad(out: &mut Bytes, unit: usize) -> Option<()>
+    requires { 0 < unit }
+{
+    let few = (unit - out.len() % unit) % unit;
+    let (zeros, _) = b"\0\0\0\0\0\0\0".split_at(few.min(7));
+    out.extend(zeros).ok()
 }
 
-/// A text.
-pub fn words(rt: &impl Abort, alloc: Global, value: &str) -> Value {
-    assert!(rt; value.len() < 1000);
-    Value::Text(Text::read(alloc, value.as_bytes()).expect(rt, "a text"))
+/// Appends a number of four bytes.
+fn put_four(out: &mut Bytes, four: [u8; 4]) -> Option<()> {
+    pad(out, 4)?;
+    out.extend(&four).ok()
 }
 
-/// A path.
-pub fn path(rt: &impl Abort, alloc: Global, value: &str) -> Path {
-    Path::read(alloc, value.as_bytes()).expect(rt, "a path")
+/// Appends a text or a path.
+fn put_text(out: &mut Bytes, text: &str) -> Option<()> {
+    put_four(out, u32::try_from(text.len()).ok()?.to_le_bytes())?;
+    out.extend(text.as_bytes()).ok()?;
+    out.push(0).ok()
 }
 
-/// A reference.
-pub fn child(rt: &impl Abort, alloc: Global, bus: &str, at: &str) -> Value {
-    let mut fields = Values::new(alloc);
-    fields.push(words(rt, alloc, bus)).expect(rt, "memory");
-    fields
-        .push(Value::Path(path(rt, alloc, at)))
-        .expect(rt, "memory");
-    Value::Struct(fields)
+/// Appends a signature.
+fn put_signature(out: &mut Bytes, codes: &str) -> Option<()> {
+    out.push(u8::try_from(codes.len()).ok()?).ok()?;
+    out.extend(codes.as_bytes()).ok()?;
+    out.push(0).ok()
 }
 
-/// The type of references.
-pub fn child_type(rt: &impl Abort, alloc: Global) -> Ty {
-    let mut fields = Tys::new(alloc);
-    fields.push(Ty::Text).expect(rt, "memory");
-    fields.push(Ty::Path).expect(rt, "memory");
-    Ty::Struct(Box::new(alloc, fields).expect(rt, "memory"))
+/// Appends a list of so many items of `:1.7/a`, with indexes from 0. Each takes 124 bytes, and 4 more before the next.
+fn put_items(out: &mut Bytes, count: u32) -> Option<()> {
+    put_four(out, count.checked_mul(128)?.saturating_sub(4).to_le_bytes())?;
+    pad(out, 8)?;
+    for index in 0..count {
+        put_words(out, "(|s=:1.7|s=/a|(|s=:1.7|s=/r|(|s=é|s=/p")?;
+        put_four(out, index.to_le_bytes())?;
+        put_words(out, "i=0|u=13|s=a.B|s=|s=OK|u=43|s=Does it|u=4|u=1")?;
+    }
+    Some(())
 }
 
-/// The value.
-pub fn value(rt: &impl Abort, alloc: Global, told: Told) -> Value {
-    match told {
-        Told::Words(text) => words(rt, alloc, text),
-        Told::Place(at) => Value::Path(path(rt, alloc, at)),
-        Told::Signed(n) => Value::I32(n),
-        Told::Unsigned(n) => Value::U32(n),
-        Told::Child(bus, at) => child(rt, alloc, bus, at),
+/// Appends what a word spells: a text or a path `s=`, a number `u=` or `i=`, a byte `b=`, a signature `v=`, zeros before a struct or its like `(`.
+fn put_word(out: &mut Bytes, word: &str) -> Option<()> {
+    let (kind, value) = word.split_once('=').unwrap_or((word, ""));
+    match kind {
+        "s" => put_text(out, value),
+        "u" => put_four(out, value.parse::<u32>().ok()?.to_le_bytes()),
+        "i" => put_four(out, value.parse::<i32>().ok()?.to_le_bytes()),
+        "b" => out.push(value.parse::<u8>().ok()?).ok(),
+        "v" => put_signature(out, value),
+        "(" => pad(out, 8),
+        _ => None,
     }
 }
 
-/// Its type.
-fn ty(rt: &impl Abort, alloc: Global, told: Told) -> Ty {
-    match told {
-        Told::Words(_) => Ty::Text,
-        Told::Place(_) => Ty::Path,
-        Told::Signed(_) => Ty::I32,
-        Told::Unsigned(_) => Ty::U32,
-        Told::Child(_, _) => child_type(rt, alloc),
+/// Appends what words spell, with `|` between two.
+fn put_words(out: &mut Bytes, words: &str) -> Option<()> {
+    for word in words.split('|') {
+        put_word(out, word)?;
     }
+    Some(())
 }
 
-/// The value in a variant.
-pub fn variant(rt: &impl Abort, alloc: Global, told: Told) -> Value {
-    let inner = Box::new(alloc, value(rt, alloc, told)).expect(rt, "memory");
-    Value::Variant(ty(rt, alloc, told), inner)
-}
-
-/// A body of one value.
-pub fn one(rt: &impl Abort, alloc: Global, value: Value) -> Values {
-    let mut body = Values::new(alloc);
-    body.push(value).expect(rt, "memory");
-    body
-}
-
-/// A body of two values.
-pub fn two(rt: &impl Abort, alloc: Global, first: Value, second: Value) -> Values {
-    let mut body = one(rt, alloc, first);
-    body.push(second).expect(rt, "memory");
-    body
-}
-
-/// The first three arguments of an event.
-pub fn three(rt: &impl Abort, alloc: Global, minor: &str, first: i32, second: i32) -> Values {
-    let mut body = one(rt, alloc, words(rt, alloc, minor));
-    body.push(Value::I32(first)).expect(rt, "memory");
-    body.push(Value::I32(second)).expect(rt, "memory");
-    body
-}
-
-/// The arguments of an event, with no properties behind them.
-pub fn event(
-    rt: &impl Abort,
-    alloc: Global,
-    minor: &str,
-    details: (i32, i32),
-    told: Told,
-) -> Values {
-    let mut body = three(rt, alloc, minor, details.0, details.1);
-    body.push(variant(rt, alloc, told)).expect(rt, "memory");
-    body.push(Value::Dict(Ty::Text, Ty::Variant, Pairs::new(alloc)))
-        .expect(rt, "memory");
-    body
-}
-
-/// The bytes of a signal of the node `/n`.
-pub fn signal(
-    rt: &impl Abort,
-    alloc: Global,
-    interface: &str,
-    member: &str,
-    body: Values,
-) -> Vec<u8> {
-    assert!(rt; body.are_well_typed());
-    let message = Message {
-        order: Order::Little,
-        kind: 4,
-        flags: 1,
-        serial: 9,
-        path: Some(path(rt, alloc, "/n")),
-        interface: Some(Interface::read(alloc, interface.as_bytes()).expect(rt, "an interface")),
-        member: Some(Member::read(alloc, member.as_bytes()).expect(rt, "a member")),
-        error: None,
-        reply: None,
-        destination: None,
-        sender: Some(BusName::read(alloc, b":1.7").expect(rt, "a name")),
-        body,
-    };
+/// Values: words with `|` between two, of which the first may be `items=COUNT`; nothing for no values.
+fn values(alloc: Global, words: &str) -> Option<Bytes> {
     let mut out = Bytes::new(alloc);
-    message.write(&mut out).expect(rt, "a message");
-    out.into_vec()
+    let mut left = words;
+    if let Some(spelled) = words.strip_prefix("items=") {
+        let (count, rest) = spelled.split_once('|').unwrap_or((spelled, ""));
+        put_items(&mut out, count.parse::<u32>().ok()?)?;
+        left = rest;
+    }
+    if !left.is_empty() {
+        put_words(&mut out, left)?;
+    }
+    Some(out)
 }
 
-/// The bytes of what a call returns.
-pub fn returned(rt: &impl Abort, alloc: Global, body: Values) -> Vec<u8> {
-    assert!(rt; body.are_well_typed());
-    let message = Message {
-        order: Order::Little,
-        kind: 2,
-        flags: 1,
-        serial: 9,
-        path: None,
-        interface: None,
-        member: None,
-        error: None,
-        reply: Some(4),
-        destination: None,
-        sender: Some(BusName::read(alloc, b":1.7").expect(rt, "a name")),
-        body,
-    };
+/// The bytes of a message of a type, with fields before its sender `:1.7`. It is spelled by the codes of its values' types, `|` and the values.
+fn message(alloc: Global, kind: u8, mut fields: Bytes, spelled: &str) -> Option<Bytes> {
+    let (codes, words) = spelled.split_once('|').unwrap_or((spelled, ""));
+    let body = values(alloc, words)?;
+    put_words(&mut fields, "(|b=7|v=s|s=:1.7|(|b=8|v=g")?;
+    put_signature(&mut fields, codes)?;
     let mut out = Bytes::new(alloc);
-    message.write(&mut out).expect(rt, "a message");
-    out.into_vec()
+    out.extend(&[b'l', kind, 1, 1]).ok()?;
+    put_four(&mut out, u32::try_from(body.len()).ok()?.to_le_bytes())?;
+    put_words(&mut out, "u=9")?;
+    put_four(&mut out, u32::try_from(fields.len()).ok()?.to_le_bytes())?;
+    out.extend(fields.as_slice()).ok()?;
+    pad(&mut out, 8)?;
+    out.extend(body.as_slice()).ok()?;
+    Some(out)
 }
 
-/// The message that the bytes are, where it lies.
-pub fn lent<'a>(rt: &impl Abort, bytes: &'a [u8]) -> MessageRef<'a> {
-    let first = bytes.first_chunk::<16>().expect(rt, "16 bytes");
-    let length = total(first).expect(rt, "a length");
-    assert!(rt; length as usize == bytes.len());
-    MessageRef::parse(bytes).expect(rt, "a message")
+/// The bytes of a signal of the node `/n` at `:1.7`. It is spelled by its member, `|`, and what it carries.
+pub fn signal(alloc: Global, interface: &str, spelled: &str) -> Option<Bytes> {
+    let (member, carried) = spelled.split_once('|').unwrap_or((spelled, ""));
+    let mut fields = Bytes::new(alloc);
+    put_words(&mut fields, "(|b=1|v=o|s=/n|(|b=2|v=s")?;
+    put_text(&mut fields, interface)?;
+    put_words(&mut fields, "(|b=3|v=s")?;
+    put_text(&mut fields, member)?;
+    message(alloc, 4, fields, carried)
+}
+
+/// The bytes of what a call of `:1.7` returns, spelled by what it carries.
+pub fn returned(alloc: Global, carried: &str) -> Option<Bytes> {
+    let mut fields = Bytes::new(alloc);
+    put_words(&mut fields, "(|b=5|v=u|u=4")?;
+    message(alloc, 2, fields, carried)
+}
+
+/// The message that the bytes are, where it lies, taken for one of a type.
+pub fn lent(bytes: &[u8], kind: u8) -> Option<MessageRef<'_>> {
+    let length = total(bytes.first_chunk::<16>()?).ok()?;
+    if length as usize != bytes.len() {
+        return None;
+    }
+    let mut message = MessageRef::parse(bytes).ok()?;
+    message.kind = kind;
+    Some(message)
 }

@@ -1,165 +1,124 @@
 //! What replies tell.
 
-use crate::cache::item;
-use crate::made::Told::{Signed, Unsigned, Words};
-use crate::made::{Told, child_type, lent, one, path, returned, two, value, variant};
-use crate::shown::{item as item_shown, news};
+use crate::made::{lent, returned};
+use crate::shown::{put_item, put_news};
+use atspi_base::{Bytes, put_decimal};
 use atspi_news_reading::{items_told, part_told};
 use atspi_protocol::news::PartName;
-use atspi_types::{Ty, Tys, Value, Values};
+use atspi_types::Path;
 use std::alloc::Global;
-use std::process::Abort;
 use std::test::*;
 
-/// The type of items.
-fn item_type(rt: &impl Abort, alloc: Global) -> Ty {
-    let mut fields = Tys::new(alloc);
-    for _ in 0..3_u8 {
-        fields.push(child_type(rt, alloc)).expect(rt, "memory");
-    }
-    fields.push(Ty::I32).expect(rt, "memory");
-    fields.push(Ty::I32).expect(rt, "memory");
-    let texts = Box::new(alloc, Ty::Text).expect(rt, "memory");
-    fields.push(Ty::Array(texts)).expect(rt, "memory");
-    fields.push(Ty::Text).expect(rt, "memory");
-    fields.push(Ty::U32).expect(rt, "memory");
-    fields.push(Ty::Text).expect(rt, "memory");
-    let numbers = Box::new(alloc, Ty::U32).expect(rt, "memory");
-    fields.push(Ty::Array(numbers)).expect(rt, "memory");
-    Ty::Struct(Box::new(alloc, fields).expect(rt, "memory"))
+/// The bytes of a return, and the type for whose it is taken. It is spelled by that type, `|`, and what it carries.
+fn reply(alloc: Global, spelled: &str) -> Option<(Bytes, u8)> {
+    let (kind, carried) = spelled.split_once('|').unwrap_or((spelled, ""));
+    Some((returned(alloc, carried)?, kind.parse::<u8>().ok()?))
 }
 
-/// A list of so many items.
-fn list(rt: &impl Abort, alloc: Global, count: i32) -> Value {
-    let mut items = Values::new(alloc);
-    for index in 0..count {
-        items
-            .push(item(rt, alloc, index, &[1]))
-            .expect(rt, "memory");
+/// How many items a message tells and the last of them, or `none`.
+fn list_told(alloc: Global, spelled: &str) -> Option<Bytes> {
+    let (bytes, kind) = reply(alloc, spelled)?;
+    let message = lent(bytes.as_slice(), kind)?;
+    let mut out = Bytes::new(alloc);
+    let Some(items) = items_told(alloc, &message).ok()? else {
+        out.extend(b"none").ok()?;
+        return Some(out);
+    };
+    put_decimal(items.len() as u64, &mut out).ok()?;
+    out.extend(b" ").ok()?;
+    if let Some(last) = items.as_slice().last() {
+        put_item(&mut out, last).ok()?;
     }
-    Value::Array(item_type(rt, alloc), items)
+    Some(out)
 }
 
-/// How many items a reply tells, and the last of them.
-fn told(rt: &impl Abort, alloc: Global, body: Values, kind: u8) -> Option<(usize, String)> {
-    let bytes = returned(rt, alloc, body);
-    let mut message = lent(rt, &bytes);
-    message.kind = kind;
-    let items = items_told(alloc, &message).expect(rt, "memory")?;
-    let mut last = String::new(alloc);
-    for of in items.as_slice() {
-        last = item_shown(rt, alloc, of);
-    }
-    Some((items.len(), last))
+/// Messages with the values that they carry, and the items that they tell: how many, and the last.
+const LISTS: &str = "\
+2|a((so)(so)(so)iiassusau)|items=0 => 0 \n\
+2|a((so)(so)(so)iiassusau)|items=1 => 1 :1.7/a :1.7/r é/p 0 0 +a.B+ <OK> 43 <Does it> 1\n\
+2|a((so)(so)(so)iiassusau)|items=2 => 2 :1.7/a :1.7/r é/p 1 0 +a.B+ <OK> 43 <Does it> 1\n\
+2|a((so)(so)(so)iiassusau)|items=40 => 40 :1.7/a :1.7/r é/p 39 0 +a.B+ <OK> 43 <Does it> 1\n\
+3|a((so)(so)(so)iiassusau)|items=1 => none\n\
+2 => none\n\
+2|as|u=0 => none\n\
+2|((so)(so)(so)iiassusau)|(|(|s=:1.7|s=/a|(|s=:1.7|s=/r|(|s=é|s=/p|i=1|i=0|u=13|s=a.B|s=|s=OK|u=43|s=Does it|u=0 => none\n\
+2|a((so)(so)(so)iiassusau)s|items=1|s= => none";
+
+/// Whether the message of a row tells the items that are due.
+fn tells_list(alloc: Global, row: &str) -> Option<bool> {
+    let (spelled, due) = row.split_once(" => ")?;
+    let told = list_told(alloc, spelled)?;
+    Some(told.as_slice() == due.as_bytes())
 }
 
 #[test]
-fn all_items_are_told(rt: HostRuntime) {
-    let alloc = rt.alloc();
-    for count in [0_u8, 1, 2, 40] {
-        let body = one(&rt, alloc, list(&rt, alloc, i32::from(count)));
-        let (len, last) = told(&rt, alloc, body, 2).expect(&rt, "items");
-        assert_eq!(rt; len, usize::from(count));
-        if count == 40 {
-            assert_eq!(rt;
-                last.as_str(),
-                ":1.7/a :1.7/r é/p 39 0 +a.B+ <OK> 43 <Does it> 1"
-            );
-        }
+fn items_are_told(rt: HostRuntime) {
+    for row in LISTS.split('\n') {
+        assert!(rt; tells_list(rt.alloc(), row) == Some(true), "{row}");
     }
 }
 
-#[test]
-fn a_reply_of_another_form_tells_no_items(rt: HostRuntime) {
-    let alloc = rt.alloc();
-    let error = one(&rt, alloc, list(&rt, alloc, 1));
-    assert!(rt; told(&rt, alloc, error, 3).is_none());
-    assert!(rt; told(&rt, alloc, Values::new(alloc), 2).is_none());
-    let texts = one(&rt, alloc, Value::Array(Ty::Text, Values::new(alloc)));
-    assert!(rt; told(&rt, alloc, texts, 2).is_none());
-    let alone = one(&rt, alloc, item(&rt, alloc, 1, &[]));
-    assert!(rt; told(&rt, alloc, alone, 2).is_none());
-    let more = two(
-        &rt,
-        alloc,
-        list(&rt, alloc, 1),
-        value(&rt, alloc, Words("")),
-    );
-    assert!(rt; told(&rt, alloc, more, 2).is_none());
-}
-
-/// What a reply tells of a part of the row `/a`.
-fn part(rt: &impl Abort, alloc: Global, of: PartName, body: Values, kind: u8) -> String {
-    let bytes = returned(rt, alloc, body);
-    let mut message = lent(rt, &bytes);
-    message.kind = kind;
-    let at = path(rt, alloc, "/a");
-    match part_told(alloc, of, &at, &message).expect(rt, "memory") {
-        Some(told) => news(rt, alloc, &told),
-        None => String::new(alloc),
+/// The part of a name.
+fn part_of(name: &str) -> Option<PartName> {
+    match name {
+        "Text" => Some(PartName::Text),
+        "Caret" => Some(PartName::Caret),
+        "Columns" => Some(PartName::Columns),
+        _ => None,
     }
 }
 
-/// A reply with a value in a variant tells what is due.
-fn try_variant(rt: &impl Abort, alloc: Global, of: PartName, told: Told, due: &str) {
-    let body = one(rt, alloc, variant(rt, alloc, told));
-    let shown = part(rt, alloc, of, body, 2);
-    assert_eq!(rt; shown.as_str(), due);
+/// What a message tells of a part of the row `/a`, or `none`.
+fn part_shown(alloc: Global, of: PartName, spelled: &str) -> Option<Bytes> {
+    let (bytes, kind) = reply(alloc, spelled)?;
+    let message = lent(bytes.as_slice(), kind)?;
+    let path = Path::read(alloc, b"/a").ok()?;
+    let mut out = Bytes::new(alloc);
+    match part_told(alloc, of, &path, &message).ok()? {
+        Some(told) => put_news(&mut out, &told).ok()?,
+        None => out.extend(b"none").ok()?,
+    }
+    Some(out)
+}
+
+/// Parts, messages with the values that they carry, and what they tell of the part.
+const PARTS: &str = "\
+Text 2|s|s=hé => TextIs /a <hé>\n\
+Caret 2|v|v=i|i=3 => CaretIs /a 3\n\
+Caret 2|v|v=i|i=0 => CaretIs /a 0\n\
+Caret 2|v|v=i|i=2147483647 => CaretIs /a 2147483647\n\
+Columns 2|v|v=i|i=3 => ColumnsIs /a 3\n\
+Caret 2|v|v=i|i=-1 => none\n\
+Columns 2|v|v=i|i=-2147483648 => none\n\
+Caret 2|v|v=u|u=3 => none\n\
+Columns 2|v|v=u|u=3 => none\n\
+Text 2|v|v=s|s=hi => none\n\
+Text 2 => none\n\
+Text 2|i|i=3 => none\n\
+Text 2|ss|s=a|s=b => none\n\
+Text 2|vv|v=i|i=3|v=i|i=3 => none\n\
+Caret 2 => none\n\
+Caret 2|i|i=3 => none\n\
+Caret 2|ss|s=a|s=b => none\n\
+Caret 2|vv|v=i|i=3|v=i|i=3 => none\n\
+Columns 2 => none\n\
+Columns 2|i|i=3 => none\n\
+Columns 2|ss|s=a|s=b => none\n\
+Columns 2|vv|v=i|i=3|v=i|i=3 => none\n\
+Text 3|s|s=hi => none\n\
+Caret 3|v|v=i|i=3 => none";
+
+/// Whether the message of a row tells what is due of the part.
+fn tells_part(alloc: Global, row: &str) -> Option<bool> {
+    let (asked, due) = row.split_once(" => ")?;
+    let (name, spelled) = asked.split_once(' ')?;
+    let told = part_shown(alloc, part_of(name)?, spelled)?;
+    Some(told.as_slice() == due.as_bytes())
 }
 
 #[test]
 fn parts_are_told(rt: HostRuntime) {
-    let alloc = rt.alloc();
-    let text = one(&rt, alloc, value(&rt, alloc, Words("hé")));
-    let shown = part(&rt, alloc, PartName::Text, text, 2);
-    assert_eq!(rt; shown.as_str(), "TextIs /a <hé>");
-    try_variant(&rt, alloc, PartName::Caret, Signed(3), "CaretIs /a 3");
-    try_variant(&rt, alloc, PartName::Caret, Signed(0), "CaretIs /a 0");
-    try_variant(
-        &rt,
-        alloc,
-        PartName::Caret,
-        Signed(i32::MAX),
-        "CaretIs /a 2147483647",
-    );
-    try_variant(&rt, alloc, PartName::Columns, Signed(3), "ColumnsIs /a 3");
-    try_variant(&rt, alloc, PartName::Caret, Signed(-1), "");
-    try_variant(&rt, alloc, PartName::Columns, Signed(i32::MIN), "");
-    try_variant(&rt, alloc, PartName::Caret, Unsigned(3), "");
-    try_variant(&rt, alloc, PartName::Columns, Unsigned(3), "");
-    try_variant(&rt, alloc, PartName::Text, Words("hi"), "");
-}
-
-/// Replies that tell no part of any kind.
-fn try_no_part(rt: &impl Abort, alloc: Global, of: PartName) {
-    let none = part(rt, alloc, of, Values::new(alloc), 2);
-    assert_eq!(rt; none.as_str(), "");
-    let bare = one(rt, alloc, value(rt, alloc, Signed(3)));
-    assert_eq!(rt; part(rt, alloc, of, bare, 2).as_str(), "");
-    let texts = two(
-        rt,
-        alloc,
-        value(rt, alloc, Words("a")),
-        value(rt, alloc, Words("b")),
-    );
-    assert_eq!(rt; part(rt, alloc, of, texts, 2).as_str(), "");
-    let variants = two(
-        rt,
-        alloc,
-        variant(rt, alloc, Signed(3)),
-        variant(rt, alloc, Signed(3)),
-    );
-    assert_eq!(rt; part(rt, alloc, of, variants, 2).as_str(), "");
-}
-
-#[test]
-fn a_reply_of_another_form_tells_no_part(rt: HostRuntime) {
-    let alloc = rt.alloc();
-    try_no_part(&rt, alloc, PartName::Text);
-    try_no_part(&rt, alloc, PartName::Caret);
-    try_no_part(&rt, alloc, PartName::Columns);
-    let error = one(&rt, alloc, value(&rt, alloc, Words("hi")));
-    assert_eq!(rt; part(&rt, alloc, PartName::Text, error, 3).as_str(), "");
-    let error = one(&rt, alloc, variant(&rt, alloc, Signed(3)));
-    assert_eq!(rt; part(&rt, alloc, PartName::Caret, error, 3).as_str(), "");
+    for row in PARTS.split('\n') {
+        assert!(rt; tells_part(rt.alloc(), row) == Some(true), "{row}");
+    }
 }

@@ -1,84 +1,127 @@
 //! News as texts that tables can have.
 
-use atspi_base::Texts;
+use atspi_base::{Bytes, NoMemory, Texts, put_decimal, put_signed};
 use atspi_forest::{Item, News, Reference};
-use std::alloc::Global;
-use std::process::Abort;
 
-/// A reference: its bus name and its path.
-fn reference(rt: &impl Abort, alloc: Global, of: &Reference) -> String {
-    let (bus, path) = (of.bus.as_str(), of.path.as_str());
-    format!(in alloc; "{bus}{path}").expect(rt, "memory")
+/// Appends a blank and a number.
+fn put_number(out: &mut Bytes, n: i64) -> Result<(), NoMemory> {
+    out.extend(b" ")?;
+    put_signed(n, out)
 }
 
-/// The names of interfaces, one behind the other.
-fn names(rt: &impl Abort, alloc: Global, texts: &Texts) -> String {
-    let mut all = String::new(alloc);
+/// Appends a blank and a text between `<` and `>`.
+fn put_text(out: &mut Bytes, text: &str) -> Result<(), NoMemory> {
+    out.extend(b" <")?;
+    out.extend(text.as_bytes())?;
+    out.extend(b">")
+}
+
+/// Appends a word, a blank and a path.
+fn put_at(out: &mut Bytes, word: &str, path: &str) -> Result<(), NoMemory> {
+    out.extend(word.as_bytes())?;
+    out.extend(b" ")?;
+    out.extend(path.as_bytes())
+}
+
+/// Appends a word, a path, and a number.
+fn put_one(out: &mut Bytes, word: &str, path: &str, n: i64) -> Result<(), NoMemory> {
+    put_at(out, word, path)?;
+    put_number(out, n)
+}
+
+/// Appends a word, a path, and a text.
+fn put_told(out: &mut Bytes, word: &str, path: &str, text: &str) -> Result<(), NoMemory> {
+    put_at(out, word, path)?;
+    put_text(out, text)
+}
+
+/// Appends a reference, its bus name and its path, and a blank.
+fn put_reference(out: &mut Bytes, of: &Reference) -> Result<(), NoMemory> {
+    out.extend(of.bus.as_str().as_bytes())?;
+    out.extend(of.path.as_str().as_bytes())?;
+    out.extend(b" ")
+}
+
+/// Appends a blank and the names of interfaces, one behind the other.
+fn put_names(out: &mut Bytes, texts: &Texts) -> Result<(), NoMemory> {
+    out.extend(b" ")?;
     for text in texts.as_slice() {
-        all.push_str("+").expect(rt, "memory");
-        all.push_str(text.as_str()).expect(rt, "memory");
+        out.extend(b"+")?;
+        out.extend(text.as_str().as_bytes())?;
     }
-    all
+    Ok(())
 }
 
-/// An item, field by field.
-pub fn item(rt: &impl Abort, alloc: Global, of: &Item) -> String {
-    let object = reference(rt, alloc, &of.object);
-    let application = reference(rt, alloc, &of.application);
-    let parent = reference(rt, alloc, &of.parent);
-    let interfaces = names(rt, alloc, &of.interfaces);
-    let (index, children, role, states) = (of.index, of.children, of.role, of.states);
-    let (name, description) = (of.name.as_str(), of.description.as_str());
-    format!(in alloc;
-        "{object} {application} {parent} {index} {children} {interfaces} <{name}> {role} <{description}> {states}"
-    ).expect(rt, "memory")
+/// Appends what stands in an item behind its references and its two numbers.
+fn put_words(out: &mut Bytes, of: &Item) -> Result<(), NoMemory> {
+    put_names(out, &of.interfaces)?;
+    put_text(out, of.name.as_str())?;
+    put_number(out, i64::from(of.role))?;
+    put_text(out, of.description.as_str())?;
+    out.extend(b" ")?;
+    put_decimal(of.states, out)
 }
 
-/// News of text and caret.
-fn words(rt: &impl Abort, alloc: Global, news: &News) -> String {
+/// Appends an item, field by field.
+pub fn put_item(out: &mut Bytes, of: &Item) -> Result<(), NoMemory> {
+    put_reference(out, &of.object)?;
+    put_reference(out, &of.application)?;
+    put_reference(out, &of.parent)?;
+    put_signed(i64::from(of.index), out)?;
+    put_number(out, i64::from(of.children))?;
+    put_words(out, of)
+}
+
+/// Appends news of text and caret.
+fn put_text_news(out: &mut Bytes, news: &News) -> Result<(), NoMemory> {
     match news {
         News::Inserted { path, at, text } => {
-            format!(in alloc; "Inserted {} {at} <{}>", path.as_str(), text.as_str())
+            put_one(out, "Inserted", path.as_str(), i64::from(*at))?;
+            put_text(out, text.as_str())
         }
         News::Deleted {
             path,
             at,
             len,
             text,
-        } => format!(in alloc; "Deleted {} {at} {len} <{}>", path.as_str(), text.as_str()),
-        News::Caret(path, at) => format!(in alloc; "Caret {} {at}", path.as_str()),
-        News::TextIs(path, text) => {
-            format!(in alloc; "TextIs {} <{}>", path.as_str(), text.as_str())
+        } => {
+            put_one(out, "Deleted", path.as_str(), i64::from(*at))?;
+            put_number(out, i64::from(*len))?;
+            put_text(out, text.as_str())
         }
-        News::CaretIs(path, at) => format!(in alloc; "CaretIs {} {at}", path.as_str()),
-        News::ColumnsIs(path, n) => format!(in alloc; "ColumnsIs {} {n}", path.as_str()),
-        _ => format!(in alloc; "Nothing"),
+        News::Caret(path, at) => put_one(out, "Caret", path.as_str(), i64::from(*at)),
+        News::TextIs(path, text) => put_told(out, "TextIs", path.as_str(), text.as_str()),
+        News::CaretIs(path, at) => put_one(out, "CaretIs", path.as_str(), i64::from(*at)),
+        News::ColumnsIs(path, n) => put_one(out, "ColumnsIs", path.as_str(), i64::from(*n)),
+        _ => out.extend(b"Nothing"),
     }
-    .expect(rt, "memory")
 }
 
-/// The news as a text.
-pub fn news(rt: &impl Abort, alloc: Global, news: &News) -> String {
+/// Appends the news as a text.
+pub fn put_news(out: &mut Bytes, news: &News) -> Result<(), NoMemory> {
     match news {
-        News::Item(of) => format!(in alloc; "Item {}", item(rt, alloc, of)),
-        News::Removed(path) => format!(in alloc; "Removed {}", path.as_str()),
-        News::ChildAdded(path) => format!(in alloc; "ChildAdded {}", path.as_str()),
+        News::Item(of) => {
+            out.extend(b"Item ")?;
+            put_item(out, of)
+        }
+        News::Removed(path) => put_at(out, "Removed", path.as_str()),
+        News::ChildAdded(path) => put_at(out, "ChildAdded", path.as_str()),
         News::ChildRemoved {
             parent,
             index,
             child,
-        } => format!(in alloc;
-            "ChildRemoved {} {index} {}",
-            parent.as_str(),
-            child.as_str()
-        ),
-        News::Name(path, text) => format!(in alloc; "Name {} <{}>", path.as_str(), text.as_str()),
-        News::Description(path, text) => {
-            format!(in alloc; "Description {} <{}>", path.as_str(), text.as_str())
+        } => {
+            put_one(out, "ChildRemoved", parent.as_str(), i64::from(*index))?;
+            put_at(out, "", child.as_str())
         }
-        News::Role(path, role) => format!(in alloc; "Role {} {role}", path.as_str()),
-        News::State(path, state, on) => format!(in alloc; "State {} {state} {on}", path.as_str()),
-        other => Ok(words(rt, alloc, other)),
+        News::Name(path, text) => put_told(out, "Name", path.as_str(), text.as_str()),
+        News::Description(path, text) => put_told(out, "Description", path.as_str(), text.as_str()),
+        News::Role(path, role) => put_one(out, "Role", path.as_str(), i64::from(*role)),
+        News::State(path, state, on) => {
+            put_one(out, "State", path.as_str(), i64::from(*state))?;
+            let word = if *on { " true" } else { " false" };
+            out.extend(word.as_bytes())
+        }
+        other => put_text_news(out, other),
     }
-    .expect(rt, "memory")
 }
