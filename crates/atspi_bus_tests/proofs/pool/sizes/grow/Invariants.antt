@@ -1,0 +1,5 @@
+use Rattle.atspi_bus_tests.specs.Kept.{KeepsChains}
+use Rattle.atspi_bus_tests.proofs.pool.sizes.grow.Given as goal
+
+abbrev pub invariant-loop-number : goal.invariant-loop-number
+invariant-loop-number g l = KeepsChains l.fn.pool l.pool

@@ -1,0 +1,5 @@
+//! Tests of the pool over its public calls.
+
+mod chains;
+mod rows;
+mod sizes;

@@ -1,5 +1,0 @@
-use Rattle.atspi_pool_tests.specs.Kept.{AllUsed}
-use Rattle.atspi_pool_tests.proofs.sizes.a_thousand_chains.Given as goal
-
-abbrev pub invariant-loop-round : goal.invariant-loop-round
-invariant-loop-round g l = AllUsed l.pool l.numbers.items

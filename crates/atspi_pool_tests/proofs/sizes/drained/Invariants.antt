@@ -1,5 +1,0 @@
-use Rattle.atspi_pool_tests.specs.Kept.{KeepsChains}
-use Rattle.atspi_pool_tests.proofs.sizes.drained.Given as goal
-
-abbrev pub invariant-loop : goal.invariant-loop
-invariant-loop g l = KeepsChains l.fn.pool l.pool

@@ -1,5 +1,0 @@
-use Rattle.atspi_pool_tests.specs.Kept.{KeepsChains}
-use Rattle.atspi_pool_tests.proofs.sizes.grow.Given as goal
-
-abbrev pub invariant-loop-number : goal.invariant-loop-number
-invariant-loop-number g l = KeepsChains l.fn.pool l.pool
