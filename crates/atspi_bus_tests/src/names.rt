@@ -1,6 +1,6 @@
 //! Who owns a name and who waits for it, after each call.
 
-ghost use Rattle.std.specs.Prelude.{◌≡◌, ◌≢◌, ◌≤◌, ◌<◌, ◌^◌, ℕ, false, None, IfOk};
+ghost use Rattle.std.specs.Prelude.{◌≡◌, ◌≢◌, false, None, IfSome};
 ghost use Rattle.std.specs.FinMap as finmap;
 ghost use Rattle.atspi_types.specs.Names.{is_unique_name};
 ghost use Rattle.atspi_names.specs.Owners as owners;
@@ -10,225 +10,306 @@ use atspi_types::BusName;
 use std::alloc::Global;
 use std::process::Abort;
 
+/// The number that a word spells.
+fn number(word: &str) -> Option<u32> {
+    word.parse::<u32>().ok()
+}
+
 /// A well-known name.
-fn known(rt: &impl Abort, alloc: Global, text: &str) -> BusName
-    ensures not_unique { is_unique_name result ≡ false }
-    ensures not_the_bus { result ≢ owners.own_name }
+fn known(alloc: Global, text: &str) -> Option<BusName>
+    ensures not_unique { IfSome result (λ name. is_unique_name name ≡ false) }
+    ensures not_the_bus { IfSome result (λ name. name ≢ owners.own_name) }
 {
-    let name = BusName::read(alloc, text.as_bytes()).expect(rt, "a name");
-    assert!(rt; !name.is_unique());
-    assert!(rt; name.as_str() != "org.freedesktop.DBus");
-    name
-}
-
-/// Says hello.
-fn greet(rt: &impl Abort, names: &mut Names, conn: u32) -> BusName
-    requires { finmap.get names.old.unique conn ≡ None }
-    ensures { (c : ℕ) → c ≢ conn → finmap.get names.old.unique c ≡ None → finmap.get names.new.unique c ≡ None }
-{
-    names.hello(conn).expect(rt, "hello")
-}
-
-/// Names of which the connections below a number have their unique ones.
-fn joined(rt: &impl Abort, alloc: Global, count: u32) -> Names
-    ensures { (c : ℕ) → count ≤ c → finmap.get result.unique c ≡ None }
-{
-    let mut names = Names::new(alloc);
-    for conn in 0..count {
-        greet(rt, &mut names, conn);
+    let name = BusName::read(alloc, text.as_bytes()).ok()?;
+    if name.is_unique() || name.as_str() == "org.freedesktop.DBus" {
+        return None;
     }
-    names
+    Some(name)
 }
 
-/// What the list has, joined by blanks.
-fn words(rt: &impl Abort, alloc: Global, list: &NameList) -> String {
-    let mut text = String::new(alloc);
+/// Says hello for a connection that has no unique name yet, and answers whether it got this one.
+fn hello(names: &mut Names, conn: u32, due: &str) -> Option<bool> {
+    if names.unique_name(conn).is_some() {
+        return None;
+    }
+    Some(names.hello(conn).ok()?.as_str() == due)
+}
+
+/// The answer with the owners before and after it, as `ANSWER BEFORE AFTER` spells it, a dash for nobody.
+fn is_change(change: OwnerChange, due: &str) -> Option<bool> {
+    let mut words = due.split(' ');
+    let answer = number(words.next()?)?;
+    let before = words.next()?.parse::<u32>().ok();
+    let after = words.next()?.parse::<u32>().ok();
+    Some((change.answer, change.before, change.after) == (answer, before, after))
+}
+
+/// A connection asks for a name, as `CONNECTION NAME FLAGS` spells it.
+fn request(alloc: Global, names: &mut Names, words: &str, due: &str) -> Option<bool> {
+    let mut words = words.split(' ');
+    let conn = number(words.next()?)?;
+    let name = known(alloc, words.next()?)?;
+    let flags = number(words.next()?)?;
+    is_change(names.request(conn, &name, flags).ok()?, due)
+}
+
+/// A connection gives a name back, as `CONNECTION NAME` spells it.
+fn release(alloc: Global, names: &mut Names, words: &str, due: &str) -> Option<bool> {
+    let (conn, name) = words.split_once(' ')?;
+    let name = known(alloc, name)?;
+    is_change(names.release(number(conn)?, &name), due)
+}
+
+/// Whether a queue is the pairs that words spell, as `CONNECTION/FLAGS`.
+fn is_queue(queue: &[(u32, u32)], due: &str) -> Option<bool> {
+    let mut rest = queue.iter();
+    for pair in due.split_whitespace() {
+        let (conn, flags) = pair.split_once('/')?;
+        if *rest.next()? != (number(conn)?, number(flags)?) {
+            return Some(false);
+        }
+    }
+    Some(rest.next().is_none())
+}
+
+/// Whether a list is the names of these words.
+fn is_list(list: &NameList, due: &str) -> bool {
+    let mut words = due.split(' ');
     for name in list.as_slice() {
-        text.push_str(name.as_str()).expect(rt, "memory");
-        text.push(' ').expect(rt, "memory");
+        if words.next() != Some(name.as_str()) {
+            return false;
+        }
     }
-    text
+    words.next().is_none()
 }
 
-/// The answer with the owners, by which a number that no connection has stands for nobody.
-fn told(change: OwnerChange) -> (u32, u32, u32) {
-    (
-        change.answer,
-        change.before.unwrap_or(99),
-        change.after.unwrap_or(99),
-    )
+/// Whether what is asked of the names has the answer that is due.
+fn answers(alloc: Global, names: &Names, word: &str, words: &str, due: &str) -> Option<bool> {
+    match word {
+        "list" => Some(is_list(&names.list().ok()?, due)),
+        "owned" => Some(is_list(&names.owned(number(words)?).ok()?, due)),
+        "unique" => Some(names.unique_name(number(words)?).is_some() == (due == "yes")),
+        "owner" => Some(names.owner(&BusName::read(alloc, words.as_bytes()).ok()?) == number(due)),
+        "queue" => is_queue(
+            names.queue(&BusName::read(alloc, words.as_bytes()).ok()?),
+            due,
+        ),
+        _ => None,
+    }
 }
+
+/// Does what a row `WORD WORDS => DUE` says, and looks whether it comes to what is due.
+fn holds(alloc: Global, names: &mut Names, row: &str) -> Option<bool> {
+    let (asked, due) = row.split_once(" =>")?;
+    let (word, words) = asked.split_once(' ').unwrap_or((asked, ""));
+    let due = due.trim();
+    match word {
+        "hello" => hello(names, number(words)?, due),
+        "request" => request(alloc, names, words, due),
+        "release" => release(alloc, names, words, due),
+        "gone" => {
+            names.gone(number(words)?);
+            Some(true)
+        }
+        _ => answers(alloc, names, word, words, due),
+    }
+}
+
+/// Each row holds, one behind another.
+fn try_rows(rt: &impl Abort, alloc: Global, names: &mut Names, rows: &str) {
+    for row in rows.lines() {
+        assert!(rt; holds(alloc, names, row) == Some(true), "{row}");
+    }
+}
+
+/// The same of names that nobody has yet.
+fn try_anew(rt: &impl Abort, alloc: Global, rows: &str) {
+    let mut names = Names::new(alloc);
+    try_rows(rt, alloc, &mut names, rows);
+}
+
+/// A name goes to the one that replaces its owner, and back. Who gave it back stands nowhere; a name that nobody has is not there.
+const REPLACED: &str = "\
+hello 0 => :1.0
+hello 1 => :1.1
+request 0 x.y 1 => 1 - 0
+request 1 x.y 2 => 1 0 1
+queue x.y => 1/2 0/1
+list => org.freedesktop.DBus :1.0 :1.1 x.y
+release 1 x.y => 1 1 0
+owner x.y => 0
+release 1 x.y => 3 0 0
+release 0 x.y => 1 0 -
+release 0 x.y => 2 - -
+list => org.freedesktop.DBus :1.0 :1.1";
 
 #[test]
 fn a_name_goes_to_the_one_that_replaces_its_owner_and_back(rt: HostRuntime) {
-    let mut names = joined(&rt, rt.alloc(), 2);
-    let name = known(&rt, rt.alloc(), "x.y");
-    assert_eq!(rt;
-        told(names.request(0, &name, 1).expect(&rt, "request")),
-        (1, 99, 0)
-    );
-    assert_eq!(rt;
-        told(names.request(1, &name, 2).expect(&rt, "request")),
-        (1, 0, 1)
-    );
-    assert_eq!(rt; names.queue(&name), [(1, 2), (0, 1)].as_slice());
-    let list = names.list().expect(&rt, "list");
-    assert_eq!(rt;
-        words(&rt, rt.alloc(), &list).as_str(),
-        "org.freedesktop.DBus :1.0 :1.1 x.y "
-    );
-    assert_eq!(rt; told(names.release(1, &name)), (1, 1, 0));
-    assert_eq!(rt; names.owner(&name), Some(0));
-    // once more it stands nowhere, and a name that nobody has is not there
-    assert_eq!(rt; told(names.release(1, &name)), (3, 0, 0));
-    assert_eq!(rt; told(names.release(0, &name)), (1, 0, 99));
-    assert_eq!(rt; told(names.release(0, &name)), (2, 99, 99));
-    assert_eq!(rt; names.list().expect(&rt, "list").len(), 3);
+    try_anew(&rt, rt.alloc(), REPLACED);
+}
+
+/// D-Bus Specification, RequestName: a row for each flags of the owner, a column for each of the requester.
+const ANSWERS: [&[u8; 8]; 8] = [
+    b"22223333",
+    b"22113311",
+    b"22223333",
+    b"22113311",
+    b"22223333",
+    b"22113311",
+    b"22223333",
+    b"22113311",
+];
+
+/// The queue behind an answer: a replaced owner with flag 4 does not wait.
+fn queue_after(alloc: Global, answer: u8, owner: u32, requester: u32) -> Option<String> {
+    match answer {
+        b'1' if owner >= 4 => format!(in alloc; "1/{requester}").ok(),
+        b'1' => format!(in alloc; "1/{requester} 0/{owner}").ok(),
+        b'2' => format!(in alloc; "0/{owner} 1/{requester}").ok(),
+        _ => format!(in alloc; "0/{owner}").ok(),
+    }
+}
+
+/// The rows of a pair of flags.
+fn rows_of(alloc: Global, answer: u8, owner: u32, requester: u32) -> Option<String> {
+    let queue = queue_after(alloc, answer, owner, requester)?;
+    let digit = answer.wrapping_sub(b'0');
+    let after = u32::from(answer == b'1');
+    format!(in alloc;
+        "hello 0 => :1.0\nhello 1 => :1.1\nrequest 0 a.b {owner} => 1 - 0\nrequest 1 a.b {requester} => {digit} 0 {after}\n\
+queue a.b => {queue}\nrequest {after} a.b 0 => 4 {after} {after}"
+    )
+    .ok()
 }
 
 #[test]
 fn each_pair_of_flags_has_its_answer(rt: HostRuntime) {
-    // D-Bus Specification, RequestName: a row for each flags of the owner, a column for each of the requester
-    let answers: [[u32; 8]; 8] = [
-        [2, 2, 2, 2, 3, 3, 3, 3],
-        [2, 2, 1, 1, 3, 3, 1, 1],
-        [2, 2, 2, 2, 3, 3, 3, 3],
-        [2, 2, 1, 1, 3, 3, 1, 1],
-        [2, 2, 2, 2, 3, 3, 3, 3],
-        [2, 2, 1, 1, 3, 3, 1, 1],
-        [2, 2, 2, 2, 3, 3, 3, 3],
-        [2, 2, 1, 1, 3, 3, 1, 1],
-    ];
-    let name = known(&rt, rt.alloc(), "a.b");
     for owner in 0..8_u32 {
         for requester in 0..8_u32 {
-            let mut names = joined(&rt, rt.alloc(), 2);
-            let first = names.request(0, &name, owner).expect(&rt, "request");
-            assert_eq!(rt; told(first), (1, 99, 0));
-            let change = names.request(1, &name, requester).expect(&rt, "request");
-            let due = answers[owner as usize][requester as usize];
-            let after = if due == 1 { 1 } else { 0 };
-            assert_eq!(rt;
-                told(change),
-                (due, 0, after),
-                "owner {owner}, requester {requester}"
-            );
-            let queue = names.queue(&name);
-            match due {
-                // a replaced owner with flag 4 does not wait
-                1 if owner >= 4 => assert_eq!(rt; queue, [(1, requester)].as_slice()),
-                1 => assert_eq!(rt; queue, [(1, requester), (0, owner)].as_slice()),
-                2 => assert_eq!(rt; queue, [(0, owner), (1, requester)].as_slice()),
-                _ => assert_eq!(rt; queue, [(0, owner)].as_slice()),
-            }
-            let again = names.request(after, &name, 0).expect(&rt, "request");
-            assert_eq!(rt; told(again), (4, after, after));
+            let answer = ANSWERS[owner as usize][requester as usize];
+            let rows = rows_of(rt.alloc(), answer, owner, requester).unwrap_or(String::new(
+                rt.alloc(),
+            ));
+            assert!(rt; !rows.is_empty());
+            try_anew(&rt, rt.alloc(), rows.as_str());
         }
     }
 }
 
+/// Five connections, of which the first owns a name and the others wait for it.
+const FIVE: &str = "\
+hello 0 => :1.0
+hello 1 => :1.1
+hello 2 => :1.2
+hello 3 => :1.3
+hello 4 => :1.4
+request 0 org.example.Long-Name 0 => 1 - 0
+request 1 org.example.Long-Name 1 => 2 0 0
+request 2 org.example.Long-Name 0 => 2 0 0
+request 3 org.example.Long-Name 3 => 2 0 0
+request 4 org.example.Long-Name 1 => 2 0 0
+queue org.example.Long-Name => 0/0 1/1 2/0 3/3 4/1";
+
+/// One of them leaves the queue; who owns the name then, and the queue.
+const LEFT: [&str; 10] = [
+    "release 0 org.example.Long-Name => 1 0 1\nowner org.example.Long-Name => 1\nqueue org.example.Long-Name => 1/1 2/0 3/3 4/1",
+    "release 1 org.example.Long-Name => 1 0 0\nowner org.example.Long-Name => 0\nqueue org.example.Long-Name => 0/0 2/0 3/3 4/1",
+    "release 2 org.example.Long-Name => 1 0 0\nowner org.example.Long-Name => 0\nqueue org.example.Long-Name => 0/0 1/1 3/3 4/1",
+    "release 3 org.example.Long-Name => 1 0 0\nowner org.example.Long-Name => 0\nqueue org.example.Long-Name => 0/0 1/1 2/0 4/1",
+    "release 4 org.example.Long-Name => 1 0 0\nowner org.example.Long-Name => 0\nqueue org.example.Long-Name => 0/0 1/1 2/0 3/3",
+    "gone 0 =>\nowner org.example.Long-Name => 1\nqueue org.example.Long-Name => 1/1 2/0 3/3 4/1",
+    "gone 1 =>\nowner org.example.Long-Name => 0\nqueue org.example.Long-Name => 0/0 2/0 3/3 4/1",
+    "gone 2 =>\nowner org.example.Long-Name => 0\nqueue org.example.Long-Name => 0/0 1/1 3/3 4/1",
+    "gone 3 =>\nowner org.example.Long-Name => 0\nqueue org.example.Long-Name => 0/0 1/1 2/0 4/1",
+    "gone 4 =>\nowner org.example.Long-Name => 0\nqueue org.example.Long-Name => 0/0 1/1 2/0 3/3",
+];
+
 #[test]
 fn one_leaves_a_queue_from_each_place(rt: HostRuntime) {
-    let left: [[(u32, u32); 4]; 5] = [
-        [(1, 1), (2, 0), (3, 3), (4, 1)],
-        [(0, 0), (2, 0), (3, 3), (4, 1)],
-        [(0, 0), (1, 1), (3, 3), (4, 1)],
-        [(0, 0), (1, 1), (2, 0), (4, 1)],
-        [(0, 0), (1, 1), (2, 0), (3, 3)],
-    ];
-    let name = known(&rt, rt.alloc(), "org.example.Long-Name");
-    for conn in 0..5_u32 {
-        let owner = if conn == 0 { 1 } else { 0 };
-        for by_release in [true, false] {
-            let mut names = joined(&rt, rt.alloc(), 5);
-            for (waiting, flags) in [(0, 0), (1, 1), (2, 0), (3, 3), (4, 1)] {
-                names.request(waiting, &name, flags).expect(&rt, "request");
-            }
-            assert_eq!(rt; names.queue(&name).len(), 5);
-            if by_release {
-                assert_eq!(rt; told(names.release(conn, &name)), (1, 0, owner));
-            } else {
-                names.gone(conn);
-            }
-            assert_eq!(rt;
-                names.queue(&name),
-                left[conn as usize].as_slice(),
-                "without {conn}"
-            );
-            assert_eq!(rt; names.owner(&name), Some(owner));
-        }
+    for rows in LEFT {
+        let mut names = Names::new(rt.alloc());
+        try_rows(&rt, rt.alloc(), &mut names, FIVE);
+        try_rows(&rt, rt.alloc(), &mut names, rows);
     }
+}
+
+/// Flags of the owner, flags of the request that waits, flags of the next one, and behind the arrow its answer and the queue.
+const AGAIN: &str = "\
+0 0 3 => 2 0 0 => 0/0 1/3 2/0
+0 0 4 => 3 0 0 => 0/0 2/0
+1 0 2 => 1 0 1 => 1/2 0/1 2/0
+1 0 6 => 1 0 1 => 1/6 0/1 2/0
+5 1 7 => 1 0 1 => 1/7 2/0";
+
+/// The rows of a row of that table.
+fn rows_again(alloc: Global, row: &str) -> Option<String> {
+    let (flags, due) = row.split_once(" => ")?;
+    let (answer, queue) = due.split_once(" => ")?;
+    let mut flags = flags.split(' ');
+    let (owner, first, next) = (flags.next()?, flags.next()?, flags.next()?);
+    format!(in alloc;
+        "hello 0 => :1.0\nhello 1 => :1.1\nhello 2 => :1.2\nrequest 0 a.b {owner} => 1 - 0\nrequest 1 a.b {first} => 2 0 0\n\
+request 2 a.b 0 => 2 0 0\nrequest 1 a.b {next} => {answer}\nqueue a.b => {queue}"
+    )
+    .ok()
 }
 
 #[test]
 fn a_waiting_connection_asks_again_with_other_flags(rt: HostRuntime) {
-    let name = known(&rt, rt.alloc(), "a.b");
-    // (owner's flags, flags of the request that waits, flags of the next one, its answer, the queue after it)
-    let table: [(u32, u32, u32, u32, &[(u32, u32)]); 5] = [
-        (0, 0, 3, 2, &[(0, 0), (1, 3), (2, 0)]),
-        (0, 0, 4, 3, &[(0, 0), (2, 0)]),
-        (1, 0, 2, 1, &[(1, 2), (0, 1), (2, 0)]),
-        (1, 0, 6, 1, &[(1, 6), (0, 1), (2, 0)]),
-        (5, 1, 7, 1, &[(1, 7), (2, 0)]),
-    ];
-    for (owner, first, next, due, queue) in table {
-        let mut names = joined(&rt, rt.alloc(), 3);
-        names.request(0, &name, owner).expect(&rt, "request");
-        assert_eq!(rt;
-            told(names.request(1, &name, first).expect(&rt, "request")),
-            (2, 0, 0)
-        );
-        names.request(2, &name, 0).expect(&rt, "request");
-        let change = names.request(1, &name, next).expect(&rt, "request");
-        assert_eq!(rt; change.answer, due, "from {first} to {next}");
-        assert_eq!(rt; names.queue(&name), queue, "from {first} to {next}");
+    for row in AGAIN.lines() {
+        let rows = rows_again(rt.alloc(), row).unwrap_or(String::new(rt.alloc()));
+        assert!(rt; !rows.is_empty());
+        try_anew(&rt, rt.alloc(), rows.as_str());
     }
 }
+
+/// Unique names count on, also behind one that left.
+const UNIQUE: &str = "\
+hello 0 => :1.0
+hello 1 => :1.1
+hello 2 => :1.2
+gone 1 =>
+hello 7 => :1.3
+hello 5 => :1.4
+queue :1.3 => 7/0
+owner :1.4 => 5
+unique 7 => yes
+unique 1 => no
+list => org.freedesktop.DBus :1.0 :1.2 :1.4 :1.3";
 
 #[test]
 fn unique_names_count_on(rt: HostRuntime) {
-    let mut names = joined(&rt, rt.alloc(), 3);
-    names.gone(1);
-    let next = greet(&rt, &mut names, 7);
-    let last = greet(&rt, &mut names, 5);
-    assert_eq!(rt; next.as_str(), ":1.3");
-    assert_eq!(rt; last.as_str(), ":1.4");
-    assert_eq!(rt; names.queue(&next), [(7, 0)].as_slice());
-    assert_eq!(rt; names.owner(&last), Some(5));
-    assert!(rt; names.unique_name(7).is_some());
-    assert!(rt; names.unique_name(1).is_none());
-    let list = names.list().expect(&rt, "list");
-    assert_eq!(rt;
-        words(&rt, rt.alloc(), &list).as_str(),
-        "org.freedesktop.DBus :1.0 :1.2 :1.4 :1.3 "
-    );
+    try_anew(&rt, rt.alloc(), UNIQUE);
 }
+
+/// Well-known names in the order of their bytes.
+const ORDER: &str = "\
+hello 0 => :1.0
+hello 1 => :1.1
+request 1 b.a 0 => 1 - 1
+request 1 a.c 0 => 1 - 1
+request 1 _.z 0 => 1 - 1
+request 1 a.b.c 0 => 1 - 1
+request 1 -x.y 0 => 1 - 1
+request 1 A.b 0 => 1 - 1
+list => org.freedesktop.DBus :1.0 :1.1 -x.y A.b _.z a.b.c a.c b.a
+release 1 a.c => 1 1 -
+owned 1 => -x.y A.b _.z a.b.c b.a
+gone 1 =>
+list => org.freedesktop.DBus :1.0";
 
 #[test]
 fn well_known_names_are_in_the_order_of_their_bytes(rt: HostRuntime) {
-    let mut names = joined(&rt, rt.alloc(), 2);
-    for text in ["b.a", "a.c", "_.z", "a.b.c", "-x.y", "A.b"] {
-        let name = known(&rt, rt.alloc(), text);
-        names.request(1, &name, 0).expect(&rt, "request");
-    }
-    let list = names.list().expect(&rt, "list");
-    assert_eq!(rt;
-        words(&rt, rt.alloc(), &list).as_str(),
-        "org.freedesktop.DBus :1.0 :1.1 -x.y A.b _.z a.b.c a.c b.a "
-    );
-    let name = known(&rt, rt.alloc(), "a.c");
-    names.release(1, &name);
-    let owned = names.owned(1).expect(&rt, "owned");
-    assert_eq!(rt;
-        words(&rt, rt.alloc(), &owned).as_str(),
-        "-x.y A.b _.z a.b.c b.a "
-    );
-    names.gone(1);
-    let owned = NameList::from_vec(names.owned(1).expect(&rt, "owned").into_vec());
-    assert_eq!(rt; owned.len(), 0);
-    let list = names.list().expect(&rt, "list");
-    assert_eq!(rt;
-        words(&rt, rt.alloc(), &list).as_str(),
-        "org.freedesktop.DBus :1.0 "
-    );
+    try_anew(&rt, rt.alloc(), ORDER);
+}
+
+/// How many names a connection owns that has left; the list is made of its parts and put together again.
+fn owned_again(alloc: Global) -> Option<usize> {
+    let names = Names::new(alloc);
+    Some(NameList::from_vec(names.owned(1).ok()?.into_vec()).len())
+}
+
+#[test]
+fn one_that_is_not_there_owns_nothing(rt: HostRuntime) {
+    assert!(rt; owned_again(rt.alloc()) == Some(0));
 }

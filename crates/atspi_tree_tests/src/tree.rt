@@ -1,6 +1,6 @@
 //! Edits with their steps and refusals, the rows after them, and the limits, as the table of edits has them.
 
-ghost use Rattle.std.specs.Prelude.{IfOk};
+ghost use Rattle.std.specs.Prelude.{◌≡◌, length, IfOk, IfSome};
 ghost use Rattle.atspi_forest.specs.Edits.{IsEdit};
 ghost use Rattle.atspi_forest.specs.RowRules.{shapes};
 ghost use Rattle.atspi_forest.specs.Tree.{AllApply};
@@ -8,11 +8,16 @@ ghost use Rattle.atspi_edits.specs.Answers.{ReadsNone};
 
 use atspi_base::{Text, Texts};
 use atspi_edits::{EditRefused, steps_of};
-use atspi_forest::{Edit, EditFault, FaceData, Seed, Step, StepList};
+use atspi_forest::{Edit, FaceData, Seed, Step, StepList};
 use atspi_tree::Tree;
 use std::alloc::Global;
 use std::process::Abort;
-use std::test::Fail;
+
+/// A name of so many letters.
+fn letters(alloc: Global, count: usize) -> Option<Text> {
+    let bytes = vec![in alloc; b'a'; count.min(1_048_577)].ok()?;
+    Text::read(alloc, &bytes).ok()
+}
 
 /// An insert of a push button.
 fn insert(alloc: Global, parent: u32, index: u32, name: Text) -> Edit
@@ -34,12 +39,58 @@ fn insert(alloc: Global, parent: u32, index: u32, name: Text) -> Edit
     }
 }
 
+/// An insert of a table with a text below the root.
+fn table(alloc: Global, name: Text, text: Text, columns: u32) -> Edit
+    ensures lawful { IsEdit result }
+    ensures plain { ReadsNone result }
+{
+    Edit::Insert {
+        parent: 0,
+        index: 0,
+        seed: Seed {
+            role: 55,
+            name,
+            text: Some(text),
+            editable: true,
+            columns: Some(columns),
+            select: false,
+            actions: Texts::new(alloc),
+        },
+    }
+}
+
 /// An edit of a name.
-fn name(node: u32, text: Text) -> Edit
+fn rename(node: u32, text: Text) -> Edit
     ensures lawful { IsEdit result }
     ensures plain { ReadsNone result }
 {
     Edit::Name { node, text }
+}
+
+/// A number and the two behind it, which are 0 where they lack.
+fn numbers(words: &str) -> Option<(u32, u32, u32)> {
+    let mut words = words.split(' ');
+    let first = words.next()?.parse::<u32>().ok()?;
+    let second = words.next()?.parse::<u32>().ok()?;
+    let third = words.next().unwrap_or("0").parse::<u32>().ok()?;
+    Some((first, second, third))
+}
+
+/// The edit that words spell: `insert PARENT INDEX LETTERS` of a push button, `table LETTERS COLUMNS` below the root, `name NODE LETTERS`.
+fn edit_of(alloc: Global, words: &str) -> Option<Edit>
+    ensures lawful { IfSome result IsEdit }
+    ensures plain { IfSome result ReadsNone }
+{
+    let (word, rest) = words.split_once(' ')?;
+    let (first, second, third) = numbers(rest)?;
+    match word {
+        "insert" => Some(insert(alloc, first, second, letters(alloc, third as usize)?)),
+        "table" => {
+            let text = letters(alloc, first as usize)?;
+            Some(table(alloc, letters(alloc, 1)?, text, second))
+        }
+        _ => Some(rename(first, letters(alloc, second as usize)?)),
+    }
 }
 
 /// The steps of an edit that reads no contents.
@@ -63,131 +114,16 @@ fn edit(alloc: Global, tree: &mut Tree, edit: &Edit) -> Result<usize, EditRefuse
     Ok(steps.len())
 }
 
-/// A name of so many bytes.
-fn letters(alloc: Global, count: usize) -> Result<Text, Fail> {
-    let bytes = vec![in alloc; b'a'; count]?;
-    if bytes.len() > 1_048_577 {
-        return Err(Fail::new("too many letters"));
-    }
-    Ok(Text::read(alloc, &bytes)?)
+/// Does the edit that words spell, and answers how many steps it had.
+fn done(alloc: Global, tree: &mut Tree, words: &str) -> Option<usize> {
+    let wish = edit_of(alloc, words)?;
+    edit(alloc, tree, &wish).ok()
 }
 
-/// Why an edit is refused, if it is.
-fn told(alloc: Global, tree: &Tree, edit: &Edit) -> Result<Option<EditFault>, Fail>
-    requires lawful { IsEdit edit.now }
-    requires plain { ReadsNone edit.now }
-{
-    match asked(alloc, tree, edit) {
-        Ok(_) => Ok(None),
-        Err(EditRefused::Refused(fault)) => Ok(Some(fault)),
-        Err(EditRefused::NoMemory) => Err(Fail::new("out of memory")),
-    }
-}
-
-/// The root alone.
-fn demo(alloc: Global) -> Result<Tree, Fail> {
-    let name = letters(alloc, 4)?;
-    if name.as_str().len() > 511 {
-        return Err(Fail::new("a long name"));
-    }
-    Ok(Tree::new(alloc, name)?)
-}
-
-/// A tree with the nodes 2 and 1 below the root, and 3 below 2.
-fn small_tree(alloc: Global) -> Result<Tree, Fail> {
-    let mut tree = demo(alloc)?;
-    for (parent, index) in [(0, 0), (0, 0), (2, 0)] {
-        edit(
-            alloc,
-            &mut tree,
-            &insert(alloc, parent, index, letters(alloc, 1)?),
-        )?;
-    }
-    Ok(tree)
-}
-
-/// Inserts by their parent, index and count of bytes in the name, each with the reason to refuse it.
-fn check_inserts(
-    rt: &impl Abort,
-    alloc: Global,
-    tree: &Tree,
-    table: &[(u32, u32, usize, Option<EditFault>)],
-) -> Result<(), Fail> {
-    for &(parent, index, count, want) in table {
-        let edit = insert(alloc, parent, index, letters(alloc, count)?);
-        assert!(rt;
-            told(alloc, tree, &edit)? == want,
-            "insert {parent} {index}"
-        );
-    }
-    Ok(())
-}
-
-#[test]
-fn refusals_in_their_order(rt: HostRuntime) -> Result<(), Fail> {
-    let alloc = rt.alloc();
-    let tree = small_tree(alloc)?;
-    let table = [
-        (4, 9, 512, Some(EditFault::NoNode)),
-        (0, 3, 512, Some(EditFault::BadIndex)),
-        (1, 1, 1, Some(EditFault::BadIndex)),
-        (0, 2, 512, Some(EditFault::TextFull)),
-        (0, 2, 511, None),
-        (3, 0, 0, None),
-    ];
-    check_inserts(&rt, alloc, &tree, &table)?;
-    for (node, count, want) in [
-        (4, 512, Some(EditFault::NoNode)),
-        (3, 512, Some(EditFault::TextFull)),
-        (3, 511, None),
-    ] {
-        let edit = name(node, letters(alloc, count)?);
-        assert!(rt; told(alloc, &tree, &edit)? == want, "name {node}");
-    }
-    Ok(())
-}
-
-/// An insert of a node with a text of so many letters, and so many columns.
-fn limited_insert(alloc: Global, count: usize, columns: u32) -> Result<Edit, Fail>
-    ensures lawful { IfOk result IsEdit }
-    ensures plain { IfOk result ReadsNone }
-{
-    Ok(Edit::Insert {
-        parent: 0,
-        index: 0,
-        seed: Seed {
-            role: 55,
-            name: letters(alloc, 1)?,
-            text: Some(letters(alloc, count)?),
-            editable: true,
-            columns: Some(columns),
-            select: false,
-            actions: Texts::new(alloc),
-        },
-    })
-}
-
-/// Texts and columns of a new node at their limits; columns are looked at before the text.
-#[test]
-fn limits_of_a_new_node(rt: HostRuntime) -> Result<(), Fail> {
-    let alloc = rt.alloc();
-    let tree = demo(alloc)?;
-    for (count, columns, want) in [
-        (1_048_576, 1, None),
-        (0, 1_024, None),
-        (1_048_577, 1_024, Some(EditFault::TextFull)),
-        (1_048_577, 1_025, Some(EditFault::BadIndex)),
-        (0, 0, Some(EditFault::BadIndex)),
-    ] {
-        let edit = limited_insert(alloc, count, columns)?;
-        assert!(rt; told(alloc, &tree, &edit)? == want, "{count} {columns}");
-    }
-    Ok(())
-}
-
-/// The one step of an edit as numbers and a text: what it adds to which parent and index, or what it names.
-fn only_step(steps: &[Step]) -> Option<(u32, Option<(u32, u32)>, &str)> {
+/// The one step of an edit in words: `add NODE PARENT INDEX NAME` or `name NODE NAME`; `nothing` where there is none.
+fn told_step(alloc: Global, steps: &[Step]) -> Option<String> {
     match steps {
+        [] => format!(in alloc; "nothing").ok(),
         [
             Step::Add {
                 node,
@@ -195,100 +131,179 @@ fn only_step(steps: &[Step]) -> Option<(u32, Option<(u32, u32)>, &str)> {
                 index,
                 seed,
             },
-        ] => Some((*node, Some((*parent, *index)), seed.name.as_str())),
-        [Step::SetName { node, text }] => Some((*node, None, text.as_str())),
+        ] => format!(in alloc; "add {node} {parent} {index} {}", seed.name.as_str()).ok(),
+        [Step::SetName { node, text }] => format!(in alloc; "name {node} {}", text.as_str()).ok(),
         _ => None,
     }
 }
 
-/// What a step is to be: a node, for an addition its parent and index, and a name.
-type Want<'a> = Option<(u32, Option<(u32, u32)>, &'a str)>;
-
-/// Whether an edit has this step alone, or none.
-fn makes(alloc: Global, tree: &Tree, edit: &Edit, want: Want) -> Result<bool, Fail>
+/// What an edit comes to: its step, or why it is refused.
+fn told(alloc: Global, tree: &Tree, edit: &Edit) -> Option<String>
     requires lawful { IsEdit edit.now }
     requires plain { ReadsNone edit.now }
 {
-    let steps = asked(alloc, tree, edit)?;
-    Ok(only_step(steps.as_slice()) == want && steps.len() == usize::from(want.is_some()))
+    match asked(alloc, tree, edit) {
+        Ok(steps) => told_step(alloc, steps.as_slice()),
+        Err(EditRefused::Refused(fault)) => format!(in alloc; "{fault}").ok(),
+        Err(EditRefused::NoMemory) => None,
+    }
 }
 
-/// The same for a name of so many bytes.
-fn name_makes(alloc: Global, tree: &Tree, count: usize, want: Want) -> Result<bool, Fail> {
-    let edit = name(2, letters(alloc, count)?);
-    makes(alloc, tree, &edit, want)
+/// Whether the edit of a row `EDIT => DUE` comes to what is due; `fine` is due of one that is not refused, whatever its step.
+fn comes_to(alloc: Global, tree: &Tree, row: &str) -> Option<bool> {
+    let (words, due) = row.split_once(" => ")?;
+    let wish = edit_of(alloc, words)?;
+    if due == "fine" {
+        return Some(asked(alloc, tree, &wish).is_ok());
+    }
+    Some(told(alloc, tree, &wish)?.as_str() == due)
 }
 
-#[test]
-fn steps_of_an_insert_and_a_name(rt: HostRuntime) -> Result<(), Fail> {
-    let alloc = rt.alloc();
-    let tree = small_tree(alloc)?;
-    let edit = insert(alloc, 0, 1, letters(alloc, 2)?);
-    assert!(rt; makes(alloc, &tree, &edit, Some((4, Some((0, 1)), "aa")))?);
-    assert!(rt; name_makes(alloc, &tree, 2, Some((2, None, "aa")))?);
-    assert!(rt;
-        name_makes(alloc, &tree, 1, None)?,
-        "the name that the node has"
-    );
-    Ok(())
+/// The edit of each row comes to what is due, each of the same tree.
+fn try_rows(rt: &impl Abort, alloc: Global, tree: &Tree, rows: &str) {
+    for row in rows.lines() {
+        assert!(rt; comes_to(alloc, tree, row) == Some(true), "{row}");
+    }
 }
 
-/// A node's parent, role, name and children.
-type Row<'a> = (Option<u32>, u32, &'a str, &'a [u32]);
-
-/// A node's row, where the node is there and has what every node begins with.
-fn row(tree: &Tree, node: u32) -> Option<Row<'_>> {
-    if !tree.has(node) {
+/// The root alone, with a name of four letters.
+fn demo(alloc: Global) -> Option<Tree> {
+    let name = letters(alloc, 4)?;
+    if name.as_str().len() > 511 {
         return None;
     }
-    let begun = tree.states(node) == 0x4300_0100 && tree.faces(node) == 0;
-    if !begun || !tree.description(node).as_str().is_empty() {
-        return None;
-    }
-    let name = tree.name(node).as_str();
-    Some((
-        tree.parent(node),
-        tree.role(node),
-        name,
-        tree.children(node),
-    ))
+    Tree::new(alloc, name).ok()
 }
 
-#[test]
-fn rows_after_edits(rt: HostRuntime) -> Result<(), Fail> {
-    let alloc = rt.alloc();
-    let mut tree = small_tree(alloc)?;
-    let before = tree.copy()?;
-    let done = edit(alloc, &mut tree, &name(2, letters(alloc, 3)?))?;
-    assert_eq!(rt; (done, tree.made(), tree.len()), (1, 3, 4));
-    let none: &[u32] = &[];
-    for (node, want) in [
-        (0, Some((None, 75, "aaaa", [2, 1].as_slice()))),
-        (1, Some((Some(0), 43, "a", none))),
-        (2, Some((Some(0), 43, "aaa", [3].as_slice()))),
-        (3, Some((Some(2), 43, "a", none))),
-        (4, None),
-    ] {
-        assert_eq!(rt; row(&tree, node), want, "node {node}");
+/// Does the edits of these lines, one behind another.
+fn done_all(alloc: Global, tree: &mut Tree, edits: &str) -> Option<()> {
+    for words in edits.lines() {
+        done(alloc, tree, words)?;
     }
-    assert_eq!(rt; row(&before, 2), Some((Some(0), 43, "a", [3].as_slice())));
-    Ok(())
+    Some(())
+}
+
+/// A tree that these edits made out of the root.
+fn grown(alloc: Global, edits: &str) -> Option<Tree> {
+    let mut tree = demo(alloc)?;
+    match done_all(alloc, &mut tree, edits) {
+        Some(()) => Some(tree),
+        None => None,
+    }
+}
+
+/// The nodes 2 and 1 below the root, and 3 below 2.
+const SMALL: &str = "insert 0 0 1\ninsert 0 0 1\ninsert 2 0 1";
+
+/// Why edits of that tree are refused, the first reason that holds.
+const REFUSALS: &str = "\
+insert 4 9 512 => no such node
+insert 0 3 512 => no such index
+insert 1 1 1 => no such index
+insert 0 2 512 => the text is too long
+insert 0 2 511 => fine
+insert 3 0 0 => fine
+name 4 512 => no such node
+name 3 512 => the text is too long
+name 3 511 => fine";
+
+/// The steps of edits of that tree.
+const STEPS: &str = "\
+insert 0 1 2 => add 4 0 1 aa
+name 2 2 => name 2 aa
+name 2 1 => nothing";
+
+#[test]
+fn refusals_in_their_order_and_steps(rt: HostRuntime) {
+    let tree = grown(rt.alloc(), SMALL).expect(&rt, "a tree");
+    try_rows(&rt, rt.alloc(), &tree, REFUSALS);
+    try_rows(&rt, rt.alloc(), &tree, STEPS);
+}
+
+/// Texts and columns of a new node at their limits; columns are looked at before the text.
+const LIMITS: &str = "\
+table 1048576 1 => fine
+table 0 1024 => fine
+table 1048577 1024 => the text is too long
+table 1048577 1025 => no such index
+table 0 0 => no such index";
+
+#[test]
+fn limits_of_a_new_node(rt: HostRuntime) {
+    let tree = demo(rt.alloc()).expect(&rt, "a tree");
+    try_rows(&rt, rt.alloc(), &tree, LIMITS);
+}
+
+/// Whether a node is there and has what every node begins with.
+fn is_begun(tree: &Tree, node: u32) -> bool {
+    tree.has(node)
+        && tree.states(node) == 0x4300_0100
+        && tree.faces(node) == 0
+        && tree.description(node).as_str().is_empty()
+}
+
+/// Whether a row `NODE: PARENT ROLE NAME CHILDREN` is that of a node, its parent a dash at the root, its children with blanks between.
+fn is_row(tree: &Tree, row: &str) -> Option<bool> {
+    let (node, words) = row.split_once(": ")?;
+    let node = node.parse::<u32>().ok()?;
+    if !is_begun(tree, node) {
+        return None;
+    }
+    let mut words = words.split(' ');
+    let is_so = tree.parent(node) == words.next()?.parse::<u32>().ok()
+        && Some(tree.role(node)) == words.next()?.parse::<u32>().ok()
+        && tree.name(node).as_str() == words.next()?;
+    for child in tree.children(node) {
+        if words.next()?.parse::<u32>().ok() != Some(*child) {
+            return Some(false);
+        }
+    }
+    Some(is_so && words.next().is_none())
+}
+
+/// The rows of the small tree behind a new name of node 2.
+const ROWS: &str = "\
+0: - 75 aaaa 2 1
+1: 0 43 a
+2: 0 43 aaa 3
+3: 2 43 a";
+
+#[test]
+fn rows_after_edits(rt: HostRuntime) {
+    let mut tree = grown(rt.alloc(), SMALL).expect(&rt, "a tree");
+    let before = tree.copy().ok().expect(&rt, "a copy");
+    let steps = done(rt.alloc(), &mut tree, "name 2 3");
+    assert!(rt; steps == Some(1) && tree.made() == 3 && tree.len() == 4 && !tree.has(4));
+    for row in ROWS.lines() {
+        assert!(rt; is_row(&tree, row) == Some(true), "{row}");
+    }
+    assert!(rt; is_row(&before, "2: 0 43 a 3") == Some(true));
+}
+
+/// The actions of a node that has one.
+fn one_action(alloc: Global) -> Option<Texts>
+    ensures { IfSome result (λ actions. length actions ≡ 1) }
+{
+    let mut actions = Texts::new(alloc);
+    actions.push(letters(alloc, 5)?).ok()?;
+    Some(actions)
 }
 
 /// An insert of a node that has all that a node can have.
-fn rich_insert(alloc: Global) -> Result<Edit, Fail>
-    ensures lawful { IfOk result IsEdit }
-    ensures plain { IfOk result ReadsNone }
+fn rich_insert(alloc: Global) -> Option<Edit>
+    ensures lawful { IfSome result IsEdit }
+    ensures plain { IfSome result ReadsNone }
 {
-    let mut actions = Texts::new(alloc);
-    actions.push(letters(alloc, 5)?)?;
-    Ok(Edit::Insert {
+    let actions = one_action(alloc)?;
+    let name = letters(alloc, 2)?;
+    let text = letters(alloc, 3)?;
+    Some(Edit::Insert {
         parent: 0,
         index: 0,
         seed: Seed {
             role: 62,
-            name: letters(alloc, 2)?,
-            text: Some(letters(alloc, 3)?),
+            name,
+            text: Some(text),
             editable: true,
             columns: Some(1024),
             select: true,
@@ -319,29 +334,37 @@ fn adds_rich(steps: &[Step]) -> bool {
     }
 }
 
-#[test]
-fn a_node_begins_with_all_that_its_seed_says(rt: HostRuntime) -> Result<(), Fail> {
-    let alloc = rt.alloc();
-    let mut tree = demo(alloc)?;
+/// Whether the insert has that step, and the node then what its seed says.
+fn begins_so(alloc: Global, tree: &mut Tree) -> Option<bool> {
     let wish = rich_insert(alloc)?;
-    assert!(rt; adds_rich(asked(alloc, &tree, &wish)?.as_slice()));
-    edit(alloc, &mut tree, &wish)?;
-    assert!(rt; tree.has(1) && tree.faces(1) == 31 && tree.role(1) == 62);
-    Ok(())
+    let adds = adds_rich(asked(alloc, tree, &wish).ok()?.as_slice());
+    edit(alloc, tree, &wish).ok()?;
+    Some(adds && tree.has(1) && tree.faces(1) == 31 && tree.role(1) == 62)
 }
 
 #[test]
-fn a_tree_has_room_for_8192_nodes(rt: HostRuntime) -> Result<(), Fail> {
-    let alloc = rt.alloc();
-    let mut tree = demo(alloc)?;
-    for _ in 0..8191 {
-        edit(alloc, &mut tree, &insert(alloc, 0, 0, letters(alloc, 1)?))?;
+fn a_node_begins_with_all_that_its_seed_says(rt: HostRuntime) {
+    let mut tree = demo(rt.alloc()).expect(&rt, "a tree");
+    assert!(rt; begins_so(rt.alloc(), &mut tree) == Some(true));
+}
+
+/// Puts so many nodes below the root.
+fn fill(alloc: Global, tree: &mut Tree, count: u32) -> Option<()> {
+    for _node in 0..count {
+        done(alloc, tree, "insert 0 0 1")?;
     }
-    assert_eq!(rt; tree.len(), 8192);
-    let table = [
-        (8192, 0, 1, Some(EditFault::NoNode)),
-        (0, 8192, 1, Some(EditFault::BadIndex)),
-        (8191, 0, 512, Some(EditFault::Full)),
-    ];
-    check_inserts(&rt, alloc, &tree, &table)
+    Some(())
+}
+
+/// Why edits of a full tree are refused.
+const FULL: &str = "\
+insert 8192 0 1 => no such node
+insert 0 8192 1 => no such index
+insert 8191 0 512 => the tree has no room";
+
+#[test]
+fn a_tree_has_room_for_8192_nodes(rt: HostRuntime) {
+    let mut tree = demo(rt.alloc()).expect(&rt, "a tree");
+    assert!(rt; fill(rt.alloc(), &mut tree, 8191).is_some() && tree.len() == 8192);
+    try_rows(&rt, rt.alloc(), &tree, FULL);
 }
