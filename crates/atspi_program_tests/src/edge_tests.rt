@@ -1,9 +1,7 @@
 //! Scripts at their limits, and an outside that fails or moves few bytes in a call. What is due was worked out by hand.
 
-use crate::running::{AMPLE, NEVER, Outside, ran};
+use crate::running::{AMPLE, Due, NEVER, Outside, comes_to};
 use std::alloc::Global;
-use std::process::Abort;
-use std::test::*;
 
 /// A script: a front, so many bytes `x`, and an end.
 struct Padded {
@@ -88,38 +86,39 @@ const LINES: [Padded; 10] = [
     },
 ];
 
-/// Replays a script, and asserts what is due.
-fn assert_replayed(
-    rt: &impl Abort,
+/// Whether a replay of a script comes to what is due.
+fn is_replayed(
     alloc: Global,
     script: Vec<u8>,
     outside: Outside,
     status: u8,
     output: &[u8],
-) -> Result<(), Fail> {
-    let (ended, written) = ran(alloc, &["replay", "--brief"], script, outside)?;
-    assert_eq!(rt; ended, status);
-    assert_eq!(rt; written.as_slice(), output);
-    Ok(())
+) -> Option<bool> {
+    let due = Due { status, output };
+    comes_to(alloc, &["replay", "--brief"], script, outside, due)
 }
 
 /// A front, so many bytes `x`, and an end.
-fn script_of(alloc: Global, row: &Padded) -> Result<Vec<u8>, Fail> {
-    let mut script = row.front.to_vec(alloc)?;
+fn script_of(alloc: Global, row: &Padded) -> Option<Vec<u8>> {
+    let mut script = row.front.to_vec(alloc).ok()?;
     for _ in 0..row.count {
-        script.push(b'x')?;
+        script.push(b'x').ok()?;
     }
-    script.extend_from_slice(row.end)?;
-    Ok(script)
+    script.extend_from_slice(row.end).ok()?;
+    Some(script)
+}
+
+/// Whether a row comes to what is due.
+fn holds(alloc: Global, row: &Padded) -> Option<bool> {
+    let script = script_of(alloc, row)?;
+    is_replayed(alloc, script, AMPLE, row.status, row.output)
 }
 
 #[test]
-fn lines_and_names_end_at_their_limits(rt: HostRuntime) -> Result<(), Fail> {
+fn lines_and_names_end_at_their_limits(rt: HostRuntime) {
     for row in &LINES {
-        let script = script_of(rt.alloc(), row)?;
-        assert_replayed(&rt, rt.alloc(), script, AMPLE, row.status, row.output)?;
+        assert!(rt; holds(rt.alloc(), row) == Some(true), "{} bytes", row.count);
     }
-    Ok(())
 }
 
 /// A name with each escape there is, and names with what is none.
@@ -139,20 +138,27 @@ const NAMES: [(&str, u8, &str); 8] = [
 ];
 
 /// A script in which a reader shows an application of this name.
-fn named(alloc: Global, name: &str) -> Result<Vec<u8>, Fail> {
-    let mut script = b"app \"".to_vec(alloc)?;
-    script.extend_from_slice(name.as_bytes())?;
-    script.extend_from_slice(b"\"\nreader\ndrain\nshow r0 a0\n")?;
-    Ok(script)
+fn named(alloc: Global, name: &str) -> Option<Vec<u8>> {
+    let mut script = b"app \"".to_vec(alloc).ok()?;
+    script.extend_from_slice(name.as_bytes()).ok()?;
+    script
+        .extend_from_slice(b"\"\nreader\ndrain\nshow r0 a0\n")
+        .ok()?;
+    Some(script)
+}
+
+/// Whether a name is shown so.
+fn is_named(alloc: Global, row: &(&str, u8, &str)) -> Option<bool> {
+    let (name, status, output) = row;
+    let script = named(alloc, name)?;
+    is_replayed(alloc, script, AMPLE, *status, output.as_bytes())
 }
 
 #[test]
-fn names_are_quoted_with_every_escape(rt: HostRuntime) -> Result<(), Fail> {
-    for (name, status, output) in NAMES {
-        let script = named(rt.alloc(), name)?;
-        assert_replayed(&rt, rt.alloc(), script, AMPLE, status, output.as_bytes())?;
+fn names_are_quoted_with_every_escape(rt: HostRuntime) {
+    for row in &NAMES {
+        assert!(rt; is_named(rt.alloc(), row) == Some(true), "{}", row.0);
     }
-    Ok(())
 }
 
 /// Scripts about their limit of 16,777,216 bytes: how many bytes of comments, and what stands behind them.
@@ -175,26 +181,36 @@ const LONG: [(usize, &str, u8, &str); 5] = [
 ];
 
 /// A script that shows once, with comments up to so many bytes, and an end.
-fn long_script(alloc: Global, size: usize, end: &str) -> Result<Vec<u8>, Fail> {
-    let mut script = b"app \"D\"\nreader\nshow r0 a0\n".to_vec(alloc)?;
-    script.resize(size.saturating_sub(1), b'#')?;
+fn long_script(alloc: Global, size: usize, end: &str) -> Option<Vec<u8>> {
+    let mut script = b"app \"D\"\nreader\nshow r0 a0\n".to_vec(alloc).ok()?;
+    script.resize(size.saturating_sub(1), b'#').ok()?;
     for line in 1..256usize {
         if let Some(last) = script.get_mut(line * 65_536 - 1) {
             *last = b'\n';
         }
     }
-    script.push(b'\n')?;
-    script.extend_from_slice(end.as_bytes())?;
-    Ok(script)
+    script.push(b'\n').ok()?;
+    script.extend_from_slice(end.as_bytes()).ok()?;
+    Some(script)
+}
+
+/// Whether such a script comes to what is due.
+fn ends_so(alloc: Global, row: &(usize, &str, u8, &str)) -> Option<bool> {
+    let (size, end, status, output) = row;
+    let script = long_script(alloc, *size, end)?;
+    is_replayed(alloc, script, AMPLE, *status, output.as_bytes())
 }
 
 #[test]
-fn scripts_end_at_their_limit(rt: HostRuntime) -> Result<(), Fail> {
-    for (size, end, status, output) in LONG {
-        let script = long_script(rt.alloc(), size, end)?;
-        assert_replayed(&rt, rt.alloc(), script, AMPLE, status, output.as_bytes())?;
+fn scripts_end_at_their_limit(rt: HostRuntime) {
+    for row in &LONG {
+        assert!(rt;
+            ends_so(rt.alloc(), row) == Some(true),
+            "{} bytes, {}",
+            row.0,
+            row.1
+        );
     }
-    Ok(())
 }
 
 /// A script of 37 bytes: its first show ends with byte 26, its second with byte 37.
@@ -214,72 +230,72 @@ fn shown_of(read: u64) -> &'static [u8] {
     }
 }
 
+/// Whether a replay of these bytes comes to what is due.
+fn replays(
+    alloc: Global,
+    script: &[u8],
+    outside: Outside,
+    status: u8,
+    output: &[u8],
+) -> Option<bool> {
+    is_replayed(alloc, script.to_vec(alloc).ok()?, outside, status, output)
+}
+
 #[test]
-fn a_read_that_fails_ends_behind_the_whole_lines_before_it(rt: HostRuntime) -> Result<(), Fail> {
+fn a_read_that_fails_ends_behind_the_whole_lines_before_it(rt: HostRuntime) {
     for failing_read in 0..38u64 {
         let outside = Outside {
             most: 1,
             failing_read,
             failing_write: NEVER,
         };
-        let script = TWICE.to_vec(rt.alloc())?;
-        assert_replayed(&rt, rt.alloc(), script, outside, 3, shown_of(failing_read))?;
+        let holds = replays(rt.alloc(), TWICE, outside, 3, shown_of(failing_read));
+        assert!(rt; holds == Some(true), "behind {failing_read} bytes");
     }
-    Ok(())
 }
 
-/// What is due where the sink takes one byte in a call, and fails after so many: status 4 and as many bytes.
-fn assert_cut(
-    rt: &impl Abort,
-    alloc: Global,
-    script: &[u8],
-    written: u64,
-    output: &[u8],
-) -> Result<(), Fail> {
+/// Whether, where the sink takes one byte in a call and fails after so many, the status is 4 and as many bytes are written.
+fn is_cut(alloc: Global, script: &[u8], written: u64, output: &[u8]) -> Option<bool> {
     let outside = Outside {
         most: 1,
         failing_read: NEVER,
         failing_write: written,
     };
     let due = output.get(..written as usize).unwrap_or(output);
-    assert_replayed(rt, alloc, script.to_vec(alloc)?, outside, 4, due)
+    replays(alloc, script, outside, 4, due)
 }
 
 #[test]
-fn a_write_that_fails_leaves_a_front_of_the_output(rt: HostRuntime) -> Result<(), Fail> {
+fn a_write_that_fails_leaves_a_front_of_the_output(rt: HostRuntime) {
     for written in 0..32u64 {
-        assert_cut(&rt, rt.alloc(), TWICE, written, SHOWN)?;
+        assert!(rt;
+            is_cut(rt.alloc(), TWICE, written, SHOWN) == Some(true),
+            "{written} bytes"
+        );
     }
     for written in 0..15u64 {
-        assert_cut(&rt, rt.alloc(), b"frob\n", written, b"refused 1 Form\n")?;
+        let holds = is_cut(rt.alloc(), b"frob\n", written, b"refused 1 Form\n");
+        assert!(rt; holds == Some(true), "{written} bytes");
     }
-    Ok(())
+}
+
+/// Whether pieces of a size give the same output.
+fn is_same_in_pieces(alloc: Global, most: usize) -> bool {
+    let outside = Outside {
+        most,
+        failing_read: NEVER,
+        failing_write: NEVER,
+    };
+    replays(alloc, TWICE, outside, 0, SHOWN) == Some(true)
+        && replays(alloc, b"frob\n", outside, 1, b"refused 1 Form\n") == Some(true)
 }
 
 #[test]
-fn pieces_of_any_size_give_the_same_output(rt: HostRuntime) -> Result<(), Fail> {
-    for most in [1usize, 2, 7, 36, 37, 4096] {
-        let outside = Outside {
-            most,
-            failing_read: NEVER,
-            failing_write: NEVER,
-        };
-        assert_replayed(
-            &rt,
-            rt.alloc(),
-            TWICE.to_vec(rt.alloc())?,
-            outside,
-            0,
-            SHOWN,
-        )?;
-        assert_replayed(
-            &rt,
-            rt.alloc(),
-            b"frob\n".to_vec(rt.alloc())?,
-            outside,
-            1,
-            b"refused 1 Form\n",
-        )?;
-    }
-    Ok(())
+fn pieces_of_any_size_give_the_same_output(rt: HostRuntime) {
+    assert!(rt; is_same_in_pieces(rt.alloc(), 1));
+    assert!(rt; is_same_in_pieces(rt.alloc(), 2));
+    assert!(rt; is_same_in_pieces(rt.alloc(), 7));
+    assert!(rt; is_same_in_pieces(rt.alloc(), 36));
+    assert!(rt; is_same_in_pieces(rt.alloc(), 37));
+    assert!(rt; is_same_in_pieces(rt.alloc(), 4096));
 }

@@ -3,7 +3,6 @@
 use atspi_base::{MemSink, MemSource};
 use atspi_run::run;
 use std::alloc::Global;
-use std::test::*;
 
 /// How the outside behaves: how many bytes a call moves at the most, and which read and which write fail.
 #[derive(Clone, Copy)]
@@ -24,25 +23,39 @@ pub const AMPLE: Outside = Outside {
 };
 
 /// These words.
-fn words_of(alloc: Global, words: &[&str]) -> Result<Vec<String>, Fail> {
+fn words_of(alloc: Global, words: &[&str]) -> Option<Vec<String>> {
     let mut list = Vec::new(alloc);
     for word in words {
-        list.push(String::from_str(alloc, word)?)?;
+        list.push(String::from_str(alloc, word).ok()?).ok()?;
     }
-    Ok(list)
+    Some(list)
 }
 
 /// The status of a run, and what it wrote.
-pub fn ran(
+fn ran(alloc: Global, words: &[&str], input: Vec<u8>, outside: Outside) -> Option<(u8, Vec<u8>)> {
+    let words = words_of(alloc, words)?;
+    let most = outside.most.max(1);
+    let mut source = MemSource::in_pieces(input, most, [outside.failing_read].to_vec(alloc).ok()?);
+    let mut sink = MemSink::in_pieces(alloc, most, [outside.failing_write].to_vec(alloc).ok()?);
+    let status = run(alloc, &words, &mut source, &mut sink);
+    Some((status, sink.bytes().to_vec(alloc).ok()?))
+}
+
+/// What a run is to come to: its status, and what it writes.
+#[derive(Clone, Copy)]
+pub struct Due<'a> {
+    pub status: u8,
+    pub output: &'a [u8],
+}
+
+/// Whether a run comes to what is due.
+pub fn comes_to(
     alloc: Global,
     words: &[&str],
     input: Vec<u8>,
     outside: Outside,
-) -> Result<(u8, Vec<u8>), Fail> {
-    let words = words_of(alloc, words)?;
-    let most = outside.most.max(1);
-    let mut source = MemSource::in_pieces(input, most, [outside.failing_read].to_vec(alloc)?);
-    let mut sink = MemSink::in_pieces(alloc, most, [outside.failing_write].to_vec(alloc)?);
-    let status = run(alloc, &words, &mut source, &mut sink);
-    Ok((status, sink.bytes().to_vec(alloc)?))
+    due: Due<'_>,
+) -> Option<bool> {
+    let (status, written) = ran(alloc, words, input, outside)?;
+    Some(status == due.status && written.as_slice() == due.output)
 }

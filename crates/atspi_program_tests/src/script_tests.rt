@@ -1,34 +1,31 @@
 //! Scripts as worked out by hand, and words that are no command.
 
 use crate::rows::{ROWS, Row};
-use crate::running::{AMPLE, NEVER, Outside, ran};
+use crate::running::{AMPLE, Due, NEVER, Outside, comes_to};
 use std::alloc::Global;
-use std::process::Abort;
-use std::test::*;
 
-/// Runs a row, and asserts what is due.
-fn assert_row(rt: &impl Abort, alloc: Global, row: &Row) -> Result<(), Fail> {
-    let (status, written) = ran(alloc, row.words, row.input.as_bytes().to_vec(alloc)?, AMPLE)?;
-    assert_eq!(rt; status, row.status, "status of: {}", row.name);
-    assert_eq!(rt;
-        written.as_slice(),
-        row.output.as_bytes(),
-        "output of: {}",
-        row.name
-    );
-    Ok(())
+/// Whether a row comes to what is due.
+fn holds(alloc: Global, row: &Row) -> Option<bool> {
+    let due = Due {
+        status: row.status,
+        output: row.output.as_bytes(),
+    };
+    let input = row.input.as_bytes().to_vec(alloc).ok()?;
+    comes_to(alloc, row.words, input, AMPLE, due)
 }
 
 #[test]
-fn runs_are_as_worked_out_by_hand(rt: HostRuntime) -> Result<(), Fail> {
+fn runs_are_as_worked_out_by_hand(rt: HostRuntime) {
     for row in &ROWS {
-        assert_row(&rt, rt.alloc(), row)?;
+        assert!(rt; holds(rt.alloc(), row) == Some(true), "{}", row.name);
     }
-    Ok(())
 }
 
+/// A script, how the outside behaves, and the status and the output that are due.
+type Broken = (&'static str, Outside, u8, &'static str);
+
 /// Scripts with a read or a write that fails: the script, the outside, and what is due.
-const BROKEN: [(&str, Outside, u8, &str); 3] = [
+const BROKEN: [Broken; 3] = [
     (
         "app \"Demo\"\nshow",
         Outside {
@@ -61,15 +58,26 @@ const BROKEN: [(&str, Outside, u8, &str); 3] = [
     ),
 ];
 
+/// Whether such a script comes to what is due.
+fn breaks_off(alloc: Global, broken: &Broken) -> Option<bool> {
+    let (script, outside, status, output) = broken;
+    let due = Due {
+        status: *status,
+        output: output.as_bytes(),
+    };
+    let input = script.as_bytes().to_vec(alloc).ok()?;
+    comes_to(alloc, &["replay"], input, *outside, due)
+}
+
 #[test]
-fn what_was_written_before_a_fault_stands(rt: HostRuntime) -> Result<(), Fail> {
-    for (script, outside, status, output) in BROKEN {
-        let input = script.as_bytes().to_vec(rt.alloc())?;
-        let (ended, written) = ran(rt.alloc(), &["replay"], input, outside)?;
-        assert_eq!(rt; ended, status);
-        assert_eq!(rt; written.as_slice(), output.as_bytes());
+fn what_was_written_before_a_fault_stands(rt: HostRuntime) {
+    for broken in &BROKEN {
+        assert!(rt;
+            breaks_off(rt.alloc(), broken) == Some(true),
+            "{}",
+            broken.0
+        );
     }
-    Ok(())
 }
 
 /// Words without an input, and what is due.
@@ -239,36 +247,34 @@ input ends inside one (reason 36). 8: the input is longer than its limit.\n",
     },
 ];
 
-/// Runs the program on words and no input, and asserts the status and the text that are due.
-fn assert_told(rt: &impl Abort, alloc: Global, told: &Told) -> Result<(), Fail> {
-    let (status, written) = ran(alloc, told.words, Vec::new(alloc), AMPLE)?;
-    assert_eq!(rt; status, told.status);
-    assert_eq!(rt; written.as_slice(), told.text);
-    Ok(())
+/// Whether the words come to the status and the text that are due.
+fn is_told(alloc: Global, told: &Told) -> Option<bool> {
+    let due = Due {
+        status: told.status,
+        output: told.text,
+    };
+    comes_to(alloc, told.words, Vec::new(alloc), AMPLE, due)
 }
 
 #[test]
-fn words_are_told_their_text(rt: HostRuntime) -> Result<(), Fail> {
+fn words_are_told_their_text(rt: HostRuntime) {
     for told in &TOLD {
-        assert_told(&rt, rt.alloc(), told)?;
+        assert!(rt; is_told(rt.alloc(), told) == Some(true));
     }
-    Ok(())
 }
 
 #[test]
-fn a_text_that_cannot_be_written_gives_status_4(rt: HostRuntime) -> Result<(), Fail> {
+fn a_text_that_cannot_be_written_gives_status_4(rt: HostRuntime) {
     let outside = Outside {
         most: 5,
         failing_read: NEVER,
         failing_write: 1,
     };
-    let (status, written) = ran(
-        rt.alloc(),
-        &["check", "--help"],
-        Vec::new(rt.alloc()),
-        outside,
-    )?;
-    assert_eq!(rt; status, 4);
-    assert_eq!(rt; written.as_slice(), b"atspi".as_slice());
-    Ok(())
+    let due = Due {
+        status: 4,
+        output: b"atspi",
+    };
+    let none = Vec::new(rt.alloc());
+    let holds = comes_to(rt.alloc(), &["check", "--help"], none, outside, due);
+    assert!(rt; holds == Some(true));
 }

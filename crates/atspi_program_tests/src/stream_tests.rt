@@ -5,7 +5,6 @@ ghost use Rattle.std.specs.Prelude.{ℕ, List, Option, None};
 use atspi_base::{Failed, MemSink, MemSource, Source};
 use atspi_check::check;
 use std::alloc::Global;
-use std::test::*;
 
 /// A case of `check`: the input, the numbers of the reads and of the writes that fail (none: 99), and what is due.
 struct Stream {
@@ -152,69 +151,64 @@ fn checked(
     input: &[u8],
     failing_read: u64,
     failing_write: u64,
-) -> Result<(u8, Vec<u8>), Fail> {
-    let mut source = MemSource::new(input.to_vec(alloc)?, [failing_read].to_vec(alloc)?);
-    let mut sink = MemSink::new(alloc, [failing_write].to_vec(alloc)?);
+) -> Option<(u8, Vec<u8>)> {
+    let input = input.to_vec(alloc).ok()?;
+    let mut source = MemSource::new(input, [failing_read].to_vec(alloc).ok()?);
+    let mut sink = MemSink::new(alloc, [failing_write].to_vec(alloc).ok()?);
     let status = check(alloc, &mut source, &mut sink);
-    Ok((status, sink.bytes().to_vec(alloc)?))
+    Some((status, sink.bytes().to_vec(alloc).ok()?))
+}
+
+/// Whether a case comes to what is due.
+fn holds(alloc: Global, case: &Stream) -> Option<bool> {
+    let (status, output) = checked(alloc, case.input, case.failing_read, case.failing_write)?;
+    Some(status == case.status && output.as_slice() == case.output.as_bytes())
 }
 
 #[test]
-fn streams_are_checked_as_worked_out_by_hand(rt: HostRuntime) -> Result<(), Fail> {
-    for stream in &STREAMS {
-        let (status, output) = checked(
-            rt.alloc(),
-            stream.input,
-            stream.failing_read,
-            stream.failing_write,
-        )?;
-        assert_eq!(rt; status, stream.status, "status of: {}", stream.name);
-        assert_eq!(rt;
-            output.as_slice(),
-            stream.output.as_bytes(),
-            "output of: {}",
-            stream.name
-        );
+fn streams_are_checked_as_worked_out_by_hand(rt: HostRuntime) {
+    for case in &STREAMS {
+        assert!(rt; holds(rt.alloc(), case) == Some(true), "{}", case.name);
     }
-    Ok(())
 }
 
 /// A message so many times.
-fn repeated(alloc: Global, message: &[u8], count: usize) -> Result<Vec<u8>, Fail> {
+fn repeated(alloc: Global, message: &[u8], count: usize) -> Option<Vec<u8>> {
     let mut input = Vec::new(alloc);
     for _ in 0..count {
-        input.extend_from_slice(message)?;
+        input.extend_from_slice(message).ok()?;
     }
-    Ok(input)
+    Some(input)
+}
+
+/// How many bytes are written of a message so many times, where that ends well, and how many before a second write that fails, where
+/// these are a front of the others.
+fn written_of(alloc: Global, message: &[u8], count: usize) -> Option<(usize, usize)> {
+    let input = repeated(alloc, message, count)?;
+    let (status, output) = checked(alloc, &input, 99, 99)?;
+    let (broken, front) = checked(alloc, &input, 99, 1)?;
+    if (status, broken) == (0, 4) && output.as_slice().starts_with(&front) {
+        Some((output.len(), front.len()))
+    } else {
+        None
+    }
 }
 
 #[test]
-fn what_a_read_gave_is_written_at_once(rt: HostRuntime) -> Result<(), Fail> {
-    let input = repeated(rt.alloc(), HELLO, 1000)?;
-    let (status, output) = checked(rt.alloc(), &input, 99, 99)?;
-    // lines of 115 bytes, each behind a blank and its start: 0, 128, .. 127872
-    assert_eq!(rt; (status, output.len()), (0, 121_129));
-    // the first read gives 512 messages, up to the one that starts at 65408
-    let (status, front) = checked(rt.alloc(), &input, 99, 1)?;
-    assert_eq!(rt; (status, front.len()), (4, 61_863));
-    assert!(rt; output.as_slice().starts_with(&front));
-    Ok(())
+fn what_a_read_gave_is_written_at_once(rt: HostRuntime) {
+    // lines of 115 bytes, each behind a blank and its start: 0, 128, .. 127872; the first read gives 512 messages, up to the one that
+    // starts at 65408
+    assert!(rt; written_of(rt.alloc(), HELLO, 1000) == Some((121_129, 61_863)));
 }
 
 /// A return of 24 bytes; its line has 22 and its start.
 const RETURN: &[u8] = b"l\x02\x01\x01\0\0\0\0\x02\0\0\0\x08\0\0\0\x05\x01u\0\x01\0\0\0";
 
 #[test]
-fn lines_are_written_in_blocks(rt: HostRuntime) -> Result<(), Fail> {
+fn lines_are_written_in_blocks(rt: HostRuntime) {
     // one read of 65,520 bytes, whose lines are longer than a block
-    let input = repeated(rt.alloc(), RETURN, 2730)?;
-    let (status, output) = checked(rt.alloc(), &input, 99, 99)?;
-    assert_eq!(rt; (status, output.len()), (0, 73_245));
-    let (status, front) = checked(rt.alloc(), &input, 99, 1)?;
-    assert_eq!(rt; status, 4);
-    assert!(rt; 65_536 <= front.len() && front.len() < 65_536 + 27);
-    assert!(rt; output.as_slice().starts_with(&front));
-    Ok(())
+    let (all, front) = written_of(rt.alloc(), RETURN, 2730).unwrap_or((0, 0));
+    assert!(rt; all == 73_245 && 65_536 <= front && front < 65_536 + 27);
 }
 
 /// A body that is told a fault: the types of its message, its bytes, and the line that is due. The message is of a type
@@ -324,13 +318,14 @@ const BODIES: [Body; 19] = [
     },
 ];
 
-/// A message with such a body.
-fn with_body(alloc: Global, types: &[u8], body: &[u8]) -> Result<Vec<u8>, Fail> {
-    let mut bytes = Vec::new(alloc);
-    let types_len = (types.len() % 200) as u8;
-    bytes.extend_from_slice(b"l\x05\0\x01")?;
-    bytes.extend_from_slice(&[
-        (body.len() % 200) as u8,
+/// The bytes before the types of such a message, its lengths in their places.
+fn front_of(body: u8, types: u8) -> [u8; 21] {
+    [
+        b'l',
+        5,
+        0,
+        1,
+        body,
         0,
         0,
         0,
@@ -338,33 +333,51 @@ fn with_body(alloc: Global, types: &[u8], body: &[u8]) -> Result<Vec<u8>, Fail> 
         0,
         0,
         0,
-        types_len + 6,
+        types.saturating_add(6),
         0,
         0,
         0,
-    ])?;
-    bytes.extend_from_slice(&[8, 1, b'g', 0, types_len])?;
-    bytes.extend_from_slice(types)?;
-    bytes.push(0)?;
+        8,
+        1,
+        b'g',
+        0,
+        types,
+    ]
+}
+
+/// A message with such a body.
+fn with_body(alloc: Global, types: &[u8], body: &[u8]) -> Option<Vec<u8>> {
+    let mut bytes = Vec::new(alloc);
+    let front = front_of((body.len() % 200) as u8, (types.len() % 200) as u8);
+    bytes.extend_from_slice(&front).ok()?;
+    bytes.extend_from_slice(types).ok()?;
+    bytes.push(0).ok()?;
     let padding = (8 - bytes.len() % 8) % 8;
-    bytes.extend_from_slice(&[0u8; 8][..padding])?;
-    bytes.extend_from_slice(body)?;
-    Ok(bytes)
+    bytes.extend_from_slice(&[0u8; 8][..padding]).ok()?;
+    bytes.extend_from_slice(body).ok()?;
+    Some(bytes)
+}
+
+/// Whether an input is told this line, and nothing before it.
+fn is_told(alloc: Global, input: &[u8], line: &str) -> Option<bool> {
+    let (status, output) = checked(alloc, input, 99, 99)?;
+    Some(status == 6 && output.as_slice() == line.as_bytes())
+}
+
+/// Whether a body is told its line.
+fn body_is_told(alloc: Global, body: &Body) -> Option<bool> {
+    is_told(alloc, &with_body(alloc, body.types, body.body)?, body.line)
 }
 
 #[test]
-fn each_reason_of_a_body_is_told(rt: HostRuntime) -> Result<(), Fail> {
+fn each_reason_of_a_body_is_told(rt: HostRuntime) {
     for body in &BODIES {
-        let input = with_body(rt.alloc(), body.types, body.body)?;
-        let (status, output) = checked(rt.alloc(), &input, 99, 99)?;
-        assert_eq!(rt;
-            (status, output.as_slice()),
-            (6, body.line.as_bytes()),
+        assert!(rt;
+            body_is_told(rt.alloc(), body) == Some(true),
             "{}",
             body.line
         );
     }
-    Ok(())
 }
 
 /// A change of one byte of the call of Hello, and the line that is due.
@@ -433,43 +446,44 @@ const CHANGES: [Change; 11] = [
     },
 ];
 
-/// What is told of the call of Hello with one byte changed.
-fn changed_call(alloc: Global, place: usize, byte: u8) -> Result<(u8, Vec<u8>), Fail> {
-    let mut input = Vec::new(alloc);
-    for i in 0..HELLO.len() {
-        input.push(if i == place { byte } else { HELLO[i] })?;
-    }
-    checked(alloc, &input, 99, 99)
+/// The call of Hello with one byte changed.
+fn changed_call(alloc: Global, place: usize, byte: u8) -> Option<Vec<u8>> {
+    let mut input = HELLO.to_vec(alloc).ok()?;
+    *input.get_mut(place)? = byte;
+    Some(input)
+}
+
+/// Whether a change is told its line.
+fn change_is_told(alloc: Global, change: &Change) -> Option<bool> {
+    is_told(
+        alloc,
+        &changed_call(alloc, change.place, change.byte)?,
+        change.line,
+    )
 }
 
 #[test]
-fn each_reason_of_a_header_is_told(rt: HostRuntime) -> Result<(), Fail> {
+fn each_reason_of_a_header_is_told(rt: HostRuntime) {
     for change in &CHANGES {
-        let (status, output) = changed_call(rt.alloc(), change.place, change.byte)?;
-        assert_eq!(rt;
-            (status, output.as_slice()),
-            (6, change.line.as_bytes()),
+        assert!(rt;
+            change_is_told(rt.alloc(), change) == Some(true),
             "{}",
             change.line
         );
     }
-    Ok(())
+}
+
+/// A message whose body is so many variants, one in another, about a byte.
+fn variants(alloc: Global, count: usize) -> Option<Vec<u8>> {
+    let mut body = repeated(alloc, b"\x01v\0", count)?;
+    body.extend_from_slice(b"\x01y\0\x05").ok()?;
+    with_body(alloc, b"v", &body)
 }
 
 #[test]
-fn sixty_five_containers_are_one_too_many(rt: HostRuntime) -> Result<(), Fail> {
-    let mut body = Vec::new(rt.alloc());
-    for _ in 0..64 {
-        body.extend_from_slice(b"\x01v\0")?;
-    }
-    body.extend_from_slice(b"\x01y\0\x05")?;
-    let input = with_body(rt.alloc(), b"v", &body)?;
-    let (status, output) = checked(rt.alloc(), &input, 99, 99)?;
-    assert_eq!(rt;
-        (status, output.as_slice()),
-        (6, b"fault 0 216 20\n".as_slice())
-    );
-    Ok(())
+fn sixty_five_containers_are_one_too_many(rt: HostRuntime) {
+    let input = variants(rt.alloc(), 64).unwrap_or(Vec::new(rt.alloc()));
+    assert!(rt; is_told(rt.alloc(), &input, "fault 0 216 20\n") == Some(true));
 }
 
 /// A source that gives one call of Hello in a read, as often as is said, and counts its reads.
@@ -496,19 +510,25 @@ impl Source for Live {
     }
 }
 
-#[test]
-fn a_line_is_written_before_the_next_read(rt: HostRuntime) -> Result<(), Fail> {
-    for failing_write in 0..4u64 {
-        let mut source = Live {
-            messages: 9,
-            reads: 0,
-        };
-        let mut sink = MemSink::new(rt.alloc(), [failing_write].to_vec(rt.alloc())?);
-        assert_eq!(rt; check(rt.alloc(), &mut source, &mut sink), 4);
-        // each read was told before the next: the write that fails is the last read's own
-        assert_eq!(rt; source.reads, failing_write + 1);
-        let lines = sink.bytes().iter().filter(|&&byte| byte == b'\n').count();
-        assert_eq!(rt; lines as u64, failing_write);
+/// How many reads there were of nine messages, and how many lines were written, where a write fails with status 4.
+fn read_and_written(alloc: Global, failing_write: u64) -> Option<(u64, usize)> {
+    let mut source = Live {
+        messages: 9,
+        reads: 0,
+    };
+    let mut sink = MemSink::new(alloc, [failing_write].to_vec(alloc).ok()?);
+    if check(alloc, &mut source, &mut sink) != 4 {
+        return None;
     }
-    Ok(())
+    let lines = sink.bytes().iter().filter(|&&byte| byte == b'\n').count();
+    Some((source.reads, lines))
+}
+
+#[test]
+fn a_line_is_written_before_the_next_read(rt: HostRuntime) {
+    // each read was told before the next: the write that fails is the last read's own
+    assert!(rt; read_and_written(rt.alloc(), 0) == Some((1, 0)));
+    assert!(rt; read_and_written(rt.alloc(), 1) == Some((2, 1)));
+    assert!(rt; read_and_written(rt.alloc(), 2) == Some((3, 2)));
+    assert!(rt; read_and_written(rt.alloc(), 3) == Some((4, 3)));
 }
