@@ -19,6 +19,7 @@ pub mod OfReaders
 pub mod OfNames
 pub mod OfSigned
 pub mod OfAnswered
+pub mod OfMissed
 pub mod OfEnds
 pub mod OfLaws
 pub mod OfExamples

@@ -18,6 +18,7 @@ pub mod answered
 pub mod quiet
 pub mod drops
 pub mod readers
+pub mod missed
 pub mod exits
 pub mod laws
 pub mod examples

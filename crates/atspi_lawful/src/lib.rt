@@ -15,6 +15,7 @@ pub mod laws;
 pub mod links;
 pub mod living;
 pub mod lost;
+pub mod missed;
 pub mod order;
 pub mod own;
 pub mod quiet;

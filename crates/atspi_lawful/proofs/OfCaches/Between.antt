@@ -36,7 +36,7 @@ use Rattle.atspi_lawful.specs.laws.NineLaws.{Everywhere, Follow}
 use Rattle.atspi_lawful.specs.heard.Laws.{signals_under}
 use Rattle.atspi_lawful.specs.folds.Laws.{AreAllCovered}
 use Rattle.atspi_lawful.specs.views.Laws.{IsCarried, StepIsCarried}
-use Rattle.atspi_lawful.specs.caches.Laws.{IsNoSignal}
+use Rattle.atspi_lawful.specs.missed.Laws.{IsNoSignal}
 use Rattle.atspi_lawful.proofs.OfOrder.Parties.{false_true, all_append}
 use Rattle.atspi_lawful.proofs.OfSteps.Trees.{tree_more, count_more}
 use Rattle.atspi_lawful.proofs.OfSerials.Serial.{messages_more}

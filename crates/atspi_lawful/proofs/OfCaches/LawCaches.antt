@@ -23,7 +23,6 @@ use Rattle.atspi_speech.specs.Speech.{lines as read_lines, says_after, closing_l
 use Rattle.atspi_speech.proofs.DueLemmas.{says_due, closes_due}
 use Rattle.atspi_forest.specs.RowRules.{rows}
 use Rattle.atspi_lines.specs.declared.line.Line.{Line}
-use Rattle.atspi_lines.specs.declared.line.Party.{Party}
 use Rattle.atspi_lines.specs.declared.line.Party.TheVariants.{Bus as The_bus, Registry, App, Reader}
 use Rattle.atspi_message.specs.Envelope.{Envelope}
 use Rattle.atspi_protocol.specs.ends.Messages.{numbered}
@@ -50,36 +49,26 @@ use Rattle.atspi_lawful.specs.order.Scripts.{CanAllStand}
 use Rattle.atspi_lawful.specs.heard.Laws.{signals_under, IsAmong}
 use Rattle.atspi_lawful.specs.views.Laws.{IsCarried, StepIsCarried, StepsOnTree}
 use Rattle.atspi_lawful.specs.caches.Caches.{unasked, with_items, with_part, replied, reads, reads_if, follows_after, follows_on, followed}
-use Rattle.atspi_lawful.specs.caches.Laws.{TellsItems, TellsPart, MissesNothing, IsLoad, IsServed, CacheIs, IsRead, ReadsAt, ReadsDue}
-use Rattle.atspi_lawful.proofs.OfOrder.Parties.{no_none, same_some, same-party, party-same, false_true, all_append, all_back, all_front}
+use Rattle.atspi_lawful.specs.caches.Laws.{TellsItems, TellsPart, IsServed, CacheIs, IsRead, ReadsAt, ReadsDue}
+use Rattle.atspi_lawful.proofs.OfOrder.Parties.{no_none, same_some, party-same, false_true, all_append, all_back, all_front}
 use Rattle.atspi_lawful.proofs.OfSteps.Trees.{tree_more, count_more}
 use Rattle.atspi_lawful.proofs.OfSteps.LawSteps.{steps_apply}
 use Rattle.atspi_lawful.proofs.OfSerials.Serial.{messages_more}
-use Rattle.atspi_lawful.proofs.OfTaken.Found.{found_more, front_more, looked, look_is}
+use Rattle.atspi_lawful.proofs.OfTaken.Found.{found_more, front_more, sent_split}
 use Rattle.atspi_lawful.proofs.OfDelivered.LawLinks.{links_hold}
 use Rattle.atspi_lawful.proofs.OfHeld.Keeping.{held_more}
 use Rattle.atspi_lawful.proofs.OfViews.LawViews.{announcements_carry, trees_stand}
 use Rattle.atspi_lawful.specs.signed.Laws.{IsItsName}
 use Rattle.atspi_lawful.proofs.OfSigned.LawSigned.{signed_law}
 use Rattle.atspi_lawful.proofs.OfAnswered.LawAnswered.{items_law, parts_law}
-use Rattle.atspi_lawful.proofs.OfCaches.Served.{Tells, IsWholly, wholly}
+use Rattle.atspi_lawful.specs.missed.Laws.{IsLoad}
+use Rattle.atspi_lawful.proofs.OfMissed.LawMissed.{no_signal_missed}
+use Rattle.atspi_lawful.proofs.OfCaches.Served.{Tells, MissesNothing, IsWholly, wholly}
 use Rattle.atspi_lawful.proofs.OfCaches.Starts.{StartsAnew, starts_anew}
 use Rattle.atspi_lawful.proofs.OfCaches.Between.{IsStep, OfMessage, behind_first, echo_messages, signal_messages, announced_step, IsAnnounced, SameViews, AllSilent, Walked, walk, echo_lines, none_due, silent_step, OneStep}
 
 -- A MESSAGE IN ITS PLACE
--- the message with a serial stands behind what stands before it
-pub sent_split : (es : List Entry) (who : Party) (s : ℕ) (m : Envelope) → message es who s ≡ Some m → (rest : List Entry) × (es ≡ before_sent who s es ++ sent who m ∷ rest)
-sent_split [] who s m h = absurd (no_none m h)
-sent_split (sent other e ∷ es) who s m h = by (same_party other who) refl (e.serial == s) (sym (look_is other who e es s) ∙ h) (λ g. sent_split es who s m g)
-  where
-    by : (a : Bool) → same_party other who ≡ a → (b : Bool) → looked a b e (message es who s) ≡ Some m → (message es who s ≡ Some m → (rest : List Entry) × (es ≡ before_sent who s es ++ sent who m ∷ rest))
-        → (rest : List Entry) × (sent other e ∷ es ≡ (if a && b then [] else sent other e ∷ before_sent who s es) ++ sent who m ∷ rest)
-    by true p true g ih = (es, ap₂ (λ q x. sent q x ∷ es) (same-party other who p) (same_some e m g))
-    by true p false g ih = let r = ih g in (r.0, ap (λ l. sent other e ∷ l) r.1)
-    by false p b g ih = let r = ih g in (r.0, ap (λ l. sent other e ∷ l) r.1)
-sent_split (entry ∷ es) who s m h = let r = sent_split es who s m h in (r.0, ap (λ l. entry ∷ l) r.1)
-
--- and has that serial
+-- a message has its serial
 serial_in : (s : ℕ) (xs : List Envelope) (m : Envelope) → with_serial s xs ≡ Some m → m.serial ≡ s
 serial_in s [] m h = absurd (no_none m h)
 serial_in s (x ∷ xs) m h = by (x.serial == s) refl h (λ e. serial_in s xs m e)
@@ -760,11 +749,11 @@ pub caches_follow : (lines : List Line) (trace : List Entry) → CanAllStand lin
     → (name : List ℕ) (reader app : ℕ) → IsItsName trace app name → IsServed trace name reader app
     → (front rest : List Entry) → trace ≡ front ++ rest → CacheIs front app (held front reader app) (followed name front reader app)
 caches_follow lines trace a g none name reader app its served front rest at =
-    cache_is trace name reader app (wholly trace name reader app its (signed_law lines trace a g none) (items_law lines trace a g) (parts_law lines trace a g) served) (announcements_carry lines trace a g) (steps_apply lines trace a g) (starts_anew lines trace a g) front rest at (links_hold lines trace a g)
+    cache_is trace name reader app (wholly trace name reader app its (signed_law lines trace a g none) (items_law lines trace a g) (parts_law lines trace a g) (no_signal_missed lines trace a g) served) (announcements_carry lines trace a g) (steps_apply lines trace a g) (starts_anew lines trace a g) front rest at (links_hold lines trace a g)
 
 pub lines_are_read : (script : List Line) (trace : List Entry) → CanAllStand script → Goes (begins script) trace → (after_all (begins script) trace).owing ≡ []
     → (name : List ℕ) (reader app : ℕ) → IsItsName trace app name → IsServed trace name reader app → Everywhere (ReadsDue name reader app) trace
 lines_are_read script trace a g none name reader app its served =
     reads_due trace name reader app
-    (wholly trace name reader app its (signed_law script trace a g none) (items_law script trace a g) (parts_law script trace a g) served) (announcements_carry script trace a g) (steps_apply script trace a g) (starts_anew script trace a g)
+    (wholly trace name reader app its (signed_law script trace a g none) (items_law script trace a g) (parts_law script trace a g) (no_signal_missed script trace a g) served) (announcements_carry script trace a g) (steps_apply script trace a g) (starts_anew script trace a g)
     (trees_stand script trace a g) (links_hold script trace a g)

@@ -1,21 +1,29 @@
--- How a reader is served by an application: under which name it signs, what its returns tell, and that nothing is missed.
-use Rattle.std.proofs.Common.{◌≡◌, ℕ, List, ◌∷◌, ◌++◌, Option, None, Some, refl, sym, ap, ◌∙◌, subst}
+-- How a reader is served by an application: under which name it signs, what its returns tell, and that nothing is missed: no signal, and each step between was asked for whole.
+use Rattle.std.proofs.Common.{◌≡◌, ℕ, true, List, [], ◌∷◌, ◌++◌, Option, None, Some, refl, sym, ap, ◌∙◌, subst}
+use Rattle.std.specs.Prelude.{is_some}
+use Rattle.std.specs.List.{AllByRecursion}
+use Rattle.std.proofs.lemmas.List.{append_assoc}
+use Rattle.atspi_forest.specs.declared.step.Step.{Step}
 use Rattle.atspi_forest.specs.Forest.{Forest}
 use Rattle.atspi_forest.specs.Row.{TreeRow}
 use Rattle.atspi_lines.specs.declared.line.Party.TheVariants.{Bus as The_bus, Registry, App, Reader}
 use Rattle.atspi_message.specs.Envelope.{Envelope}
+use Rattle.atspi_protocol.specs.announcing.Announced.{announced}
 use Rattle.atspi_protocol.specs.declared.news.part.PartName.{PartName}
 use Rattle.atspi_protocol.specs.declared.following.question.Question.{Question}
 use Rattle.atspi_protocol.specs.declared.following.question.Question.TheVariants.{Hello, AddMatch, RegisterEvent, GetChildren, GetItems, GetPart}
 use Rattle.atspi_trace.specs.Entry.{Entry, changed, sent, got}
-use Rattle.atspi_lawful.specs.laws.Words.{added, message, before_sent, as_of, answers_question}
+use Rattle.atspi_lawful.specs.laws.Words.{live_tree, added, message, before_sent, as_of, heard_pairs, answers_question, Kept, held}
 use Rattle.atspi_lawful.specs.laws.NineLaws.{Everywhere, Follow}
 use Rattle.atspi_lawful.specs.heard.Laws.{signals_under, IsAmong}
 use Rattle.atspi_lawful.specs.signed.Laws.{IsItsName, IsSignedTruly}
 use Rattle.atspi_lawful.specs.answered.Laws.{IsItemsTold, IsPartTold}
-use Rattle.atspi_lawful.specs.caches.Laws.{TellsItems, TellsPart, MissesNone, IsServed}
+use Rattle.atspi_lawful.specs.caches.Laws.{TellsItems, TellsPart, AsksAll, IsServed}
+use Rattle.atspi_lawful.specs.missed.Laws.{IsNoSignal, NoSignalBetween, IsLoad, TookAll}
+use Rattle.atspi_lawful.specs.folds.Laws.{AreAllCovered}
 use Rattle.atspi_lawful.proofs.OfNames.Places.{told_is}
 use Rattle.atspi_lawful.proofs.OfSigned.Mail.{told_more}
+use Rattle.atspi_lawful.proofs.OfTaken.Found.{found_more, found_here}
 
 -- The signals of each step of the application are those of an application with this name, and it sends no others.
 abbrev pub IsSigned : List ℕ → ℕ → List Entry → Entry → List Entry → Type 0
@@ -34,6 +42,20 @@ IsAnswered name reader app before (got (Reader r) (App a) serial) behind =
     r ≡ reader → a ≡ app → (e : Envelope) → message before (App app) serial ≡ Some e
     → Tells name (as_of before app serial) (added (before_sent (App app) serial before) app) (answers_question before reader (Some e)) e
 IsAnswered name reader app before entry behind = Unit {0}
+
+-- NOTHING IS MISSED between the last message that the reader took of the application and the one that it takes now
+pub record MissesNothing (name : List ℕ) (before : List Entry) (app last serial : ℕ) : Type 0 where
+  pub first : Envelope
+  pub between : List Entry
+  pub stands : before_sent (App app) serial before ≡ (before_sent (App app) last before ++ sent (App app) first ∷ []) ++ between
+  pub no_signal : AllByRecursion (IsNoSignal app) between
+  pub asked : (xs ys : List Entry) (step : Step) → between ≡ xs ++ changed app step ∷ ys
+      → let early = (before_sent (App app) last before ++ sent (App app) first ∷ []) ++ xs in AreAllCovered (heard_pairs early app) (announced name (live_tree early app) step)
+
+abbrev pub MissesNone : List ℕ → ℕ → ℕ → List Entry → Entry → List Entry → Type 0
+MissesNone name reader app before (got (Reader r) (App a) serial) behind =
+    r ≡ reader → a ≡ app → (IsLoad (answers_question before reader (message before (App app) serial)) → ⊥) → (k : Kept) → held before reader app ≡ Some k → MissesNothing name before app k.last serial
+MissesNone name reader app before entry behind = Unit {0}
 
 pub record IsWholly (trace : List Entry) (name : List ℕ) (reader app : ℕ) : Type 0 where
   pub signed : Everywhere (IsSigned name app) trace
@@ -85,9 +107,41 @@ module _ (T : List Entry) (name : List ℕ) (reader app : ℕ) (its : IsItsName 
   answered_by before (got (App a) from serial) behind own h g = tt
   answered_by before entry behind own h g = tt
 
-  pub wholly : Everywhere IsSignedTruly T → Everywhere IsItemsTold T → Everywhere IsPartTold T → IsServed T name reader app → IsWholly T name reader app
-  wholly signed items parts served = record {
+  -- a message with its serial stands in the front that it ends
+  found_last : (early xs : List Entry) (e : Envelope) → is_some (message ((early ++ sent (App app) e ∷ []) ++ xs) (App app) e.serial) ≡ true
+  found_last early xs e = by (message early (App app) e.serial) refl
+    where
+      by : (o : Option Envelope) → message early (App app) e.serial ≡ o → is_some (message ((early ++ sent (App app) e ∷ []) ++ xs) (App app) e.serial) ≡ true
+      by (Some m) h = ap is_some (found_more (early ++ sent (App app) e ∷ []) xs (App app) e.serial m (found_more early (sent (App app) e ∷ []) (App app) e.serial m h))
+      by None h = ap is_some (found_more (early ++ sent (App app) e ∷ []) xs (App app) e.serial e (found_here early [] (App app) e h))
+
+  missed_by : (before : List Entry) (entry : Entry) (behind : List Entry) → TookAll before entry behind → AsksAll name reader app before entry behind → MissesNone name reader app before entry behind
+  missed_by before (got (Reader r) (App a) serial) behind t q = λ rs bs no_load k is.
+      let no : NoSignalBetween before app k.last serial =
+      subst (λ n. (IsLoad (answers_question before n (message before (App app) serial)) → ⊥) → (j : Kept) → held before n app ≡ Some j → NoSignalBetween before app j.last serial) rs
+      (subst (λ n. (IsLoad (answers_question before r (message before (App n) serial)) → ⊥) → (j : Kept) → held before r n ≡ Some j → NoSignalBetween before n j.last serial) bs t) no_load k is in
+      let front : List Entry = before_sent (App app) k.last before in
+      record {
+        first = no.first;
+        between = no.between;
+        stands = no.stands;
+        no_signal = no.no_signal;
+        asked = λ xs ys step here.
+            q rs bs no_load k is ((front ++ sent (App app) no.first ∷ []) ++ xs) ys step
+            (no.stands ∙ ap (λ l. (front ++ sent (App app) no.first ∷ []) ++ l) here ∙ sym (append_assoc (front ++ sent (App app) no.first ∷ []) xs (changed app step ∷ ys)))
+            (ap (λ n. is_some (message ((front ++ sent (App app) no.first ∷ []) ++ xs) (App app) n)) (sym no.has_serial) ∙ found_last front xs no.first);
+      }
+  missed_by before (got (Reader r) The_bus serial) behind t q = tt
+  missed_by before (got (Reader r) Registry serial) behind t q = tt
+  missed_by before (got (Reader r) (Reader p) serial) behind t q = tt
+  missed_by before (got The_bus from serial) behind t q = tt
+  missed_by before (got Registry from serial) behind t q = tt
+  missed_by before (got (App a) from serial) behind t q = tt
+  missed_by before entry behind t q = tt
+
+  pub wholly : Everywhere IsSignedTruly T → Everywhere IsItemsTold T → Everywhere IsPartTold T → Everywhere TookAll T → IsServed T name reader app → IsWholly T name reader app
+  wholly signed items parts took served = record {
     signed = λ before entry behind at. signed_by before entry behind (name_at before entry behind at) (signed before entry behind at);
     answered = λ before entry behind at. answered_by before entry behind (name_at before entry behind at) (items before entry behind at) (parts before entry behind at);
-    nothing_missed = served.nothing_missed;
+    nothing_missed = λ before entry behind at. missed_by before entry behind (took before entry behind at) (served.all_asked before entry behind at);
   }

@@ -90,10 +90,13 @@ sent_none who (e ∷ es) = (tt, sent_none who es)
 none_of : (d x : Done) → d ≡ x → AllByRecursion NoDrop x.entries → AllByRecursion OfEnd d.entries
 none_of d x is a = all_map NoDrop OfEnd d.entries no_drop_end (subst (λ y. AllByRecursion NoDrop y.entries) (sym is) a)
 
--- THE STATE
+-- THE STATE: who may be handed something is below so many, which is to say that it has an end
+abbrev Under : ℕ → ℕ → Type 0
+Under n c = c < n
+
 pub record Ends_all (n : ℕ) (w : World) : Type 0 where
-  pub state : Reach n w.bus.state
-  pub due : AllByRecursion (DueBelow n) w.bus.waiting.due
+  pub state : Reach (Under n) w.bus.state
+  pub due : AllByRecursion (DueBelow (Under n)) w.bus.waiting.due
 
 abbrev pub HasEnds : World → Type 0
 HasEnds w = Ends_all (length w.ends) w
@@ -102,7 +105,7 @@ abbrev pub Dropping : List Entry → World → Type 0
 Dropping es w = Each IsOfAnEnd [] es × HasEnds w
 
 same_ends : (w v : World) → HasEnds w → length v.ends ≡ length w.ends → v.bus.state ≡ w.bus.state → v.bus.waiting.due ≡ w.bus.waiting.due → HasEnds v
-same_ends w v i size state due = subst (λ n. Ends_all n v) (sym size) (record { state = subst (Reach (length w.ends)) (sym state) i.state; due = subst (AllByRecursion (DueBelow (length w.ends))) (sym due) i.due })
+same_ends w v i size state due = subst (λ n. Ends_all n v) (sym size) (record { state = subst (Reach (Under (length w.ends))) (sym state) i.state; due = subst (AllByRecursion (DueBelow (Under (length w.ends)))) (sym due) i.due })
 
 quietly : (es : List Entry) (w : World) (d : Done) → Dropping es w → AllByRecursion OfEnd d.entries → length d.world.ends ≡ length w.ends → d.world.bus.state ≡ w.bus.state → d.world.bus.waiting.due ≡ w.bus.waiting.due
     → Dropping (es ++ d.entries) d.world
@@ -112,10 +115,10 @@ quietly es w d i n size state due = (law_more es d.entries i.0 n, same_ends w d.
 higher : (n : ℕ) (w : World) → Ends_all n w → Ends_all (suc n) w
 higher n w i = record {
   state = record {
-    joined = all_map (Below n) (Below (suc n)) w.bus.state.joined (λ c h. up c n h) i.state.joined;
-    lists = λ q. all_map (IsIn n) (IsIn (suc n)) (list_of w.bus.state.owners.lists q) (λ p h. up p.0 n h) (i.state.lists q);
+    joined = all_map (Below (Under n)) (Below (Under (suc n))) w.bus.state.joined (λ c h. up c n h) i.state.joined;
+    lists = λ q. all_map (IsIn (Under n)) (IsIn (Under (suc n))) (list_of w.bus.state.owners.lists q) (λ p h. up p.0 n h) (i.state.lists q);
   };
-  due = all_map (DueBelow n) (DueBelow (suc n)) w.bus.waiting.due (λ d h. up d.0 n h) i.due;
+  due = all_map (DueBelow (Under n)) (DueBelow (Under (suc n))) w.bus.waiting.due (λ d h. up d.0 n h) i.due;
 }
   where
     up : (c n : ℕ) → c < n → c < suc n
@@ -129,19 +132,19 @@ joins_ends w v n i is joined owners due =
     let x : Ends_all (suc (length w.ends)) w = higher (length w.ends) w i in
     subst (λ k. Ends_all k v) (sym (size (ap length is ∙ length-append w.ends (n ∷ [])))) (record {
       state = record {
-        joined = subst (AllByRecursion (Below (suc (length w.ends)))) (sym joined) (all_append (Below (suc (length w.ends))) w.bus.state.joined (length w.ends ∷ []) x.state.joined (least (length w.ends), tt));
-        lists = subst (λ o. AreIn (suc (length w.ends)) o.lists) (sym owners) x.state.lists;
+        joined = subst (AllByRecursion (Below (Under (suc (length w.ends))))) (sym joined) (all_append (Below (Under (suc (length w.ends)))) w.bus.state.joined (length w.ends ∷ []) x.state.joined (least (length w.ends), tt));
+        lists = subst (λ o. AreIn (Under (suc (length w.ends))) o.lists) (sym owners) x.state.lists;
       };
-      due = subst (AllByRecursion (DueBelow (suc (length w.ends)))) (sym due) x.due;
+      due = subst (AllByRecursion (DueBelow (Under (suc (length w.ends))))) (sym due) x.due;
     })
   where
     size : length v.ends ≡ length w.ends + 1 → length v.ends ≡ suc (length w.ends)
     size h = omega (arith, h)
 
 -- each connection that was closed is one of an end
-closed_ends : (v : World) (n : ℕ) (ends : List End) → Shape v → v.ends ≡ ends → length ends ≡ n → (cs : List Closing) → AllByRecursion (ClosedBelow n) cs
+closed_ends : (v : World) (n : ℕ) (ends : List End) → Shape v → v.ends ≡ ends → length ends ≡ n → (cs : List Closing) → AllByRecursion (ClosedBelow (Under n)) cs
     → AllByRecursion (λ (c : Closing). (queued len : ℕ) → OfEnd (dropped (party_at ends c.conn) queued len)) cs
-closed_ends v n ends s is size cs a = all_map (ClosedBelow n) _ cs (λ c h. λ queued len. no_party c h) a
+closed_ends v n ends s is size cs a = all_map (ClosedBelow (Under n)) _ cs (λ c h. λ queued len. no_party c h) a
   where
     none : (o : Option End) → (e : End) → o ≡ Some e → whose o ≡ e.who
     none o e h = ap whose h
@@ -159,8 +162,8 @@ took_drops : (es : List Entry) (w : World) (d : Done) → Shape d.world → IsTo
 took_drops es w d s t i b o =
     let c0 : Carried = record { bus = w.bus; ends = w.ends } in
     let c : Carried = carrying.takes c0 b.conn b.e.who b.said in
-    let r : Within (length w.ends) c =
-    takes_within (length w.ends) c0 b.conn b.e.who b.said (at_below w.ends b.conn b.e b.is_here.there) (record { state = i.1.state; due = i.1.due; told = subst (AllByRecursion (ClosedBelow (length w.ends))) (sym t.closings) tt }) in
+    let r : Within (Under (length w.ends)) c =
+    takes_within (Under (length w.ends)) c0 b.conn b.e.who b.said (at_below w.ends b.conn b.e b.is_here.there) (record { state = i.1.state; due = i.1.due; told = subst (AllByRecursion (ClosedBelow (Under (length w.ends)))) (sym t.closings) tt }) in
     let ends : d.world.ends ≡ c.ends = ap (λ x. x.world.ends) b.is in (
       law_more es d.entries i.0
           (subst (λ x. AllByRecursion OfEnd x.entries) (sym b.is) (
@@ -168,8 +171,8 @@ took_drops es w d s t i b o =
             bus_all OfEnd (λ e. tt) c.ends c.bus.own c.bus.closings (closed_ends d.world (length w.ends) c.ends s ends (ap length (sym ends) ∙ o.size) c.bus.closings r.told),
           )),
       subst (λ n. Ends_all n d.world) (sym o.size) (record {
-        state = subst (λ x. Reach (length w.ends) x.world.bus.state) (sym b.is) r.state;
-        due = subst (λ x. AllByRecursion (DueBelow (length w.ends)) x.world.bus.waiting.due) (sym b.is) r.due;
+        state = subst (λ x. Reach (Under (length w.ends)) x.world.bus.state) (sym b.is) r.state;
+        due = subst (λ x. AllByRecursion (DueBelow (Under (length w.ends))) x.world.bus.waiting.due) (sym b.is) r.due;
       }),
     )
 
@@ -177,26 +180,26 @@ ended_drops : (es : List Entry) (w : World) (d : Done) → Shape d.world → IsT
 ended_drops es w d s t i b o =
     let c0 : Carried = record { bus = w.bus; ends = w.ends } in
     let c : Carried = carrying.takes_end c0 b.conn in
-    let r : Within (length w.ends) c =
-    ends_within (length w.ends) c0 b.conn (record { state = i.1.state; due = i.1.due; told = subst (AllByRecursion (ClosedBelow (length w.ends))) (sym t.closings) tt }) in
+    let r : Within (Under (length w.ends)) c =
+    ends_within (Under (length w.ends)) c0 b.conn (record { state = i.1.state; due = i.1.due; told = subst (AllByRecursion (ClosedBelow (Under (length w.ends)))) (sym t.closings) tt }) in
     let ends : d.world.ends ≡ c.ends = ap (λ x. x.world.ends) b.is in (
       law_more es d.entries i.0
           (subst (λ x. AllByRecursion OfEnd x.entries) (sym b.is)
           (bus_all OfEnd (λ e. tt) c.ends c.bus.own c.bus.closings (closed_ends d.world (length w.ends) c.ends s ends (ap length (sym ends) ∙ o.size) c.bus.closings r.told))),
       subst (λ n. Ends_all n d.world) (sym o.size) (record {
-        state = subst (λ x. Reach (length w.ends) x.world.bus.state) (sym b.is) r.state;
-        due = subst (λ x. AllByRecursion (DueBelow (length w.ends)) x.world.bus.waiting.due) (sym b.is) r.due;
+        state = subst (λ x. Reach (Under (length w.ends)) x.world.bus.state) (sym b.is) r.state;
+        due = subst (λ x. AllByRecursion (DueBelow (Under (length w.ends))) x.world.bus.waiting.due) (sym b.is) r.due;
       }),
     )
 
 -- AT THE BEGINNING
 first_ends : (quota : ℕ) → HasEnds (first_world quota)
-first_ends quota = record { state = record { joined = (one, tt); lists = λ q. subst (AllByRecursion (IsIn 1)) (sym (ap (λ o. unwrap_or o []) (get-from_sorted (slice_cmp nat_cmp) first_lists q tt))) (by _ _) }; due = tt }
+first_ends quota = record { state = record { joined = (one, tt); lists = λ q. subst (AllByRecursion (IsIn (Under 1))) (sym (ap (λ o. unwrap_or o []) (get-from_sorted (slice_cmp nat_cmp) first_lists q tt))) (by _ _) }; due = tt }
   where
     one : 0 < 1
     one = omega arith
 
-    by : (a b : Bool) → AllByRecursion (IsIn 1) (unwrap_or (cond a (Some ((0, 0) ∷ [])) (cond b (Some ((0, 4) ∷ [])) None)) [])
+    by : (a b : Bool) → AllByRecursion (IsIn (Under 1)) (unwrap_or (cond a (Some ((0, 0) ∷ [])) (cond b (Some ((0, 4) ∷ [])) None)) [])
     by true b = (one, tt)
     by false true = (one, tt)
     by false false = tt

@@ -1,5 +1,5 @@
--- Whom the bus hands something to has an end: who has joined, and who stands in the list of a name.
-use Rattle.std.proofs.Common.{◌≡◌, ℕ, zero, suc, ◌+◌, ◌<◌, Bool, true, false, List, [], ◌∷◌, ◌++◌, map, Option, None, Some, refl, sym, subst, cond}
+-- Whom the bus hands something to is of those who have joined or stand in the list of a name: what is said of all of these is said of it, as that it has an end.
+use Rattle.std.proofs.Common.{◌≡◌, ℕ, zero, suc, ◌+◌, Bool, true, false, List, [], ◌∷◌, ◌++◌, map, Option, None, Some, refl, sym, subst, cond}
 use Rattle.std.specs.Prelude.{◌==◌, ◌&&◌, ◌-◌, nat_lt, not, filter, flat_map, length, codes, if◌then◌else◌, Result, Ok, Err}
 use Rattle.std.specs.List.{AllByRecursion, fold, list_any}
 use Rattle.std.specs.FinMap as finmap
@@ -31,10 +31,10 @@ use Rattle.atspi_trace.specs.Ends.{with_end, taken_up}
 use Rattle.atspi_trace.specs.Carrying.{Carried, letter_of, stepped, left, one_closed, settled, with_name, takes, takes_end}
 use Rattle.atspi_lawful.proofs.OfOrder.Parties.{all_append}
 
--- LISTS OF NAMES
-module _ (n : ℕ) where
+-- LISTS OF NAMES, of connections of which this is said
+module _ (P : ℕ → Type 0) where
   abbrev pub IsIn : ℕ × ℕ → Type 0
-  IsIn p = p.0 < n
+  IsIn p = P p.0
 
   abbrev pub AreIn : Lists → Type 0
   AreIn lists = (q : List ℕ) → AllByRecursion IsIn (list_of lists q)
@@ -47,7 +47,7 @@ module _ (n : ℕ) where
       by true h = (a.0, h)
       by false h = h
 
-  flags_in : (conn flags : ℕ) (list : List (ℕ × ℕ)) → conn < n → AllByRecursion IsIn list → AllByRecursion IsIn (with_flags conn flags list)
+  flags_in : (conn flags : ℕ) (list : List (ℕ × ℕ)) → P conn → AllByRecursion IsIn list → AllByRecursion IsIn (with_flags conn flags list)
   flags_in conn flags [] h a = tt
   flags_in conn flags (p ∷ ps) h a = (by (p.0 == conn), flags_in conn flags ps h a.1)
     where
@@ -55,7 +55,7 @@ module _ (n : ℕ) where
       by true = h
       by false = a.0
 
-  over_in : (conn flags : ℕ) (list : List (ℕ × ℕ)) → conn < n → AllByRecursion IsIn list → AllByRecursion IsIn (taken_over conn flags list)
+  over_in : (conn flags : ℕ) (list : List (ℕ × ℕ)) → P conn → AllByRecursion IsIn list → AllByRecursion IsIn (taken_over conn flags list)
   over_in conn flags [] h a = (h, tt)
   over_in conn flags (p ∷ ps) h a = (h, by (forbids_queueing p.1))
     where
@@ -67,7 +67,7 @@ module _ (n : ℕ) where
   if_in true x y a c = a
   if_in false x y a c = c
 
-  requested_in : (list : List (ℕ × ℕ)) (conn flags : ℕ) → conn < n → AllByRecursion IsIn list → AllByRecursion IsIn (requested list conn flags).0
+  requested_in : (list : List (ℕ × ℕ)) (conn flags : ℕ) → P conn → AllByRecursion IsIn list → AllByRecursion IsIn (requested list conn flags).0
   requested_in [] conn flags h a = (h, tt)
   requested_in (p ∷ ps) conn flags h a =
       if_in (p.0 == conn) ((conn, flags) ∷ ps, 4) _ (h, a.1)
@@ -103,7 +103,7 @@ module _ (n : ℕ) where
   removes_in s conn (Some rule) h =
       if_lists (list_any (is_pair conn rule) s.rules) (record (only s (returns [])) { rules = without_first s.rules conn rule }) (only s (fails (codes "MatchRuleNotFound"))) h h
 
-  answers_in : (member : BusMember) (s : BusState) (conn : ℕ) (args : List Data) (rule : Option (List Condition)) → conn < n → AreIn s.owners.lists → AreIn (answers member s conn args rule).owners.lists
+  answers_in : (member : BusMember) (s : BusState) (conn : ℕ) (args : List Data) (rule : Option (List Condition)) → P conn → AreIn s.owners.lists → AreIn (answers member s conn args rule).owners.lists
   answers_in Hello s conn args rule h a = a
   answers_in RequestName s conn args rule h a =
       if_lists (may_be_asked_for (first_text args)) (requests s conn (first_text args) (second_number args)) (only s (fails (codes "InvalidArgs")))
@@ -122,7 +122,7 @@ module _ (n : ℕ) where
 
   -- WHO IS REACHED
   abbrev pub Below : ℕ → Type 0
-  Below c = c < n
+  Below c = P c
 
   pub record Reach (s : BusState) : Type 0 where
     pub joined : AllByRecursion Below s.joined
@@ -130,8 +130,8 @@ module _ (n : ℕ) where
 
   abbrev pub MoveBelow : Move → Type 0
   MoveBelow (says e) = Unit {0}
-  MoveBelow (delivers conn e) = conn < n
-  MoveBelow (closes conn) = conn < n
+  MoveBelow (delivers conn e) = P conn
+  MoveBelow (closes conn) = P conn
 
   filter_below : (p : ℕ → Bool) (cs : List ℕ) → AllByRecursion Below cs → AllByRecursion Below (filter p cs)
   filter_below p [] a = tt
@@ -168,10 +168,10 @@ module _ (n : ℕ) where
     pub state : Reach step.state
     pub moves : AllByRecursion MoveBelow step.moves
 
-  speaks_in : (s : BusState) (es : List Envelope) → Reach s → Steps_in (speaks s es)
+  pub speaks_in : (s : BusState) (es : List Envelope) → Reach s → Steps_in (speaks s es)
   speaks_in s es r = record { state = record { joined = r.joined; lists = r.lists }; moves = said_all s (numbered s.next es) r }
 
-  called_in : (s : BusState) (conn : ℕ) (e : Envelope) (rule : Option (List Condition)) → conn < n → Reach s → Steps_in (called s conn e rule)
+  called_in : (s : BusState) (conn : ℕ) (e : Envelope) (rule : Option (List Condition)) → P conn → Reach s → Steps_in (called s conn e rule)
   called_in s conn e rule h r = by (member_of e) refl
     where
       by : (m : Result BusMember (List ℕ)) → member_of e ≡ m → Steps_in (called s conn e rule)
@@ -180,14 +180,14 @@ module _ (n : ℕ) where
           rw g (speaks_in (record s { owners = a.owners; rules = a.rules }) _ (record { joined = r.joined; lists = answers_in member s conn e.body rule h r.lists }))
       by (Err name) g = rw g (speaks_in (record s { owners = s.owners; rules = s.rules }) _ (record { joined = r.joined; lists = r.lists }))
 
-  named_in : (a b c : Bool) (s : BusState) (conn : ℕ) (e : Envelope) (rule : Option (List Condition)) (calls : List OpenCall) → conn < n → Reach s
+  named_in : (a b c : Bool) (s : BusState) (conn : ℕ) (e : Envelope) (rule : Option (List Condition)) (calls : List OpenCall) → P conn → Reach s
       → Steps_in (if a then (if b then called s conn e rule else speaks s []) else (if c then undeliverable s conn e else record { state = record s { calls = calls }; moves = handed s e }))
   named_in true true c s conn e rule calls h r = called_in s conn e rule h r
   named_in true false c s conn e rule calls h r = speaks_in s [] r
   named_in false b true s conn e rule calls h r = speaks_in s _ r
   named_in false b false s conn e rule calls h r = record { state = record { joined = r.joined; lists = r.lists }; moves = handed_all e (receivers s e) (receivers_below s e r) }
 
-  takes_in : (s : BusState) (conn : ℕ) (e : Envelope) (rule : Option (List Condition)) → conn < n → Reach s → Steps_in (bus_takes s conn e rule)
+  pub takes_in : (s : BusState) (conn : ℕ) (e : Envelope) (rule : Option (List Condition)) → P conn → Reach s → Steps_in (bus_takes s conn e rule)
   takes_in s conn e rule h r = by (unique_of s.owners conn) refl
     where
       hello_by : (b : Bool) → Steps_in (if b then greets s conn e else record { state = s; moves = closes conn ∷ [] })
@@ -216,19 +216,19 @@ module _ (n : ℕ) where
 
   -- WHO IS TO BE CLOSED
   abbrev pub DueBelow : ℕ × Why → Type 0
-  DueBelow d = d.0 < n
+  DueBelow d = P d.0
 
   abbrev pub ClosedBelow : Closing → Type 0
-  ClosedBelow c = c.conn < n
+  ClosedBelow c = P c.conn
 
-  doomed_below : (w : Waiting) (conn : ℕ) (why : Why) → conn < n → AllByRecursion DueBelow w.due → AllByRecursion DueBelow (doomed w conn why).due
+  doomed_below : (w : Waiting) (conn : ℕ) (why : Why) → P conn → AllByRecursion DueBelow w.due → AllByRecursion DueBelow (doomed w conn why).due
   doomed_below w conn why h a = by (is_due conn w.due)
     where
       by : (b : Bool) → AllByRecursion DueBelow (if b then w else record w { due = w.due ++ (conn, why) ∷ [] }).due
       by true = a
       by false = all_append DueBelow w.due ((conn, why) ∷ []) a (h, tt)
 
-  queued_below : (quota : ℕ) (w : Waiting) (conn : ℕ) (bytes : List ℕ) → conn < n → AllByRecursion DueBelow w.due → AllByRecursion DueBelow (queues.queued quota w conn bytes).due
+  queued_below : (quota : ℕ) (w : Waiting) (conn : ℕ) (bytes : List ℕ) → P conn → AllByRecursion DueBelow w.due → AllByRecursion DueBelow (queues.queued quota w conn bytes).due
   queued_below quota w conn bytes h a = by (is_due conn w.due) (nat_lt quota (length (queue_of w.queues conn) + length bytes))
     where
       by : (b c : Bool) → AllByRecursion DueBelow (if b then w else if c then doomed w conn (Quota (length (queue_of w.queues conn)) (length bytes)) else record w { queues = finmap.insert w.queues conn (queue_of w.queues conn ++ bytes) }).due
@@ -241,7 +241,7 @@ module _ (n : ℕ) where
   moved_below quota w (delivers conn e) f a = queued_below quota w conn (written e) f a
   moved_below quota w (closes conn) f a = doomed_below w conn NotHello f a
 
-  all_moved_below : (quota : ℕ) (w : Waiting) (moves : List Move) → AllByRecursion MoveBelow moves → AllByRecursion DueBelow w.due → AllByRecursion DueBelow (fold (queues.moved quota) w moves).due
+  pub all_moved_below : (quota : ℕ) (w : Waiting) (moves : List Move) → AllByRecursion MoveBelow moves → AllByRecursion DueBelow w.due → AllByRecursion DueBelow (fold (queues.moved quota) w moves).due
   all_moved_below quota w [] f a = a
   all_moved_below quota w (move ∷ moves) f a = all_moved_below quota (queues.moved quota w move) moves f.1 (moved_below quota w move f.0 a)
 
@@ -278,7 +278,7 @@ module _ (n : ℕ) where
   settled_within zero c r = r
   settled_within (suc rounds) c r = settled_within rounds (one_closed c c.bus.waiting.due) (one_within c c.bus.waiting.due r.due r)
 
-  pub takes_within : (c : Carried) (conn : ℕ) (who : Party) (m : Said) → conn < n → Within c → Within (takes c conn who m)
+  pub takes_within : (c : Carried) (conn : ℕ) (who : Party) (m : Said) → P conn → Within c → Within (takes c conn who m)
   takes_within c conn who m h r =
       let step : BusStep = bus_takes c.bus.state conn m.message (rule_in m.message) in
       let x : Steps_in step = takes_in c.bus.state conn m.message (rule_in m.message) h r.state in

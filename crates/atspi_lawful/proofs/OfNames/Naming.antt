@@ -57,7 +57,7 @@ answers_same RemoveMatch s conn args rule = removes_same s conn rule
 answers_same GetId s conn args rule = (refl, refl)
 answers_same Ping s conn args rule = (refl, refl)
 
-called_same : (s : BusState) (conn : ℕ) (e : Envelope) (rule : Option (List Condition)) → SameAs s.owners (called s conn e rule).state.owners
+pub called_same : (s : BusState) (conn : ℕ) (e : Envelope) (rule : Option (List Condition)) → SameAs s.owners (called s conn e rule).state.owners
 called_same s conn e rule = by (member_of e) refl
   where
     by : (r : Result BusMember (List ℕ)) → member_of e ≡ r → SameAs s.owners (called s conn e rule).state.owners

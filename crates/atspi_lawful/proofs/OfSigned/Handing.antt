@@ -45,18 +45,18 @@ lost_fine : (n : ℕ) (owners : Owners) (name : List ℕ) (o : Option ℕ) → A
 lost_fine n owners name None = tt
 lost_fine n owners name (Some conn) = ((own_itself, λ k. absurd (four_two k)), tt)
 
-acquired_fine : (n : ℕ) (owners : Owners) (name : List ℕ) (o : Option ℕ) → AllByRecursion (Fine n) (name_acquired owners name o)
+pub acquired_fine : (n : ℕ) (owners : Owners) (name : List ℕ) (o : Option ℕ) → AllByRecursion (Fine n) (name_acquired owners name o)
 acquired_fine n owners name None = tt
 acquired_fine n owners name (Some conn) = ((own_itself, λ k. absurd (four_two k)), tt)
 
-changed_fine : (n : ℕ) (name before after : List ℕ) → Fine n (owner_changed name before after)
+pub changed_fine : (n : ℕ) (name before after : List ℕ) → Fine n (owner_changed name before after)
 changed_fine n name before after = (own_itself, λ k. absurd (four_two k))
 
 if_fine : (n : ℕ) (b : Bool) (e : Envelope) → Fine n e → AllByRecursion (Fine n) (if b then e ∷ [] else [])
 if_fine n true e h = (h, tt)
 if_fine n false e h = tt
 
-replies_fine : (s : BusState) (conn : ℕ) (e : Envelope) (reply : Reply) → AllByRecursion (Fine e.serial) (replies s conn e reply)
+pub replies_fine : (s : BusState) (conn : ℕ) (e : Envelope) (reply : Reply) → AllByRecursion (Fine e.serial) (replies s conn e reply)
 replies_fine s conn e (returns values) = if_fine e.serial (expects_reply e) (return_to (unique_of s.owners conn) e.serial values) (own_itself, λ k. refl)
 replies_fine s conn e (fails name) = if_fine e.serial (expects_reply e) (error_to (unique_of s.owners conn) e.serial name) (own_itself, λ k. absurd (three_two k))
 
@@ -86,7 +86,7 @@ removes_fine n s conn None = tt
 removes_fine n s conn (Some rule) =
     if_told n (list_any (is_pair conn rule) s.rules) (record (only s (returns [])) { rules = without_first s.rules conn rule }) (only s (fails (codes "MatchRuleNotFound"))) tt tt
 
-told_fine : (n : ℕ) (member : BusMember) (s : BusState) (conn : ℕ) (args : List Data) (rule : Option (List Condition)) → AllByRecursion (Fine n) (answers member s conn args rule).told
+pub told_fine : (n : ℕ) (member : BusMember) (s : BusState) (conn : ℕ) (args : List Data) (rule : Option (List Condition)) → AllByRecursion (Fine n) (answers member s conn args rule).told
 told_fine n Hello s conn args rule = tt
 told_fine n RequestName s conn args rule =
     let change = request_change (list_of s.owners.lists (first_text args)) conn (second_number args) in
@@ -130,7 +130,7 @@ module _ (H : ℕ → Envelope → Type 0) where
   Gives (says m) = Unit {0}
   Gives (closes conn) = Unit {0}
 
-  handed_gives : (m : Envelope) (conns : List ℕ) → ((c : ℕ) → IsIn c conns → H c m) → AllByRecursion Gives (map (λ c. delivers c m) conns)
+  pub handed_gives : (m : Envelope) (conns : List ℕ) → ((c : ℕ) → IsIn c conns → H c m) → AllByRecursion Gives (map (λ c. delivers c m) conns)
   handed_gives m [] f = tt
   handed_gives m (c ∷ cs) f = (f c (inl refl), handed_gives m cs (λ d i. f d (inr i)))
 

@@ -371,7 +371,7 @@ module _ (es : List Entry) (w : World) (d : Done) (s : Shape w) (t : Trees es w)
       (call_speech then_ (Reader (reader_count w.ends)) (asking 1 Hello) refl (λ r h question q. ap (asking 1) (same_some Hello question (sym hello_read ∙ q)))) refl
 
 -- THE NAME OF AN END THAT IS HERE
-named_is : (es : List Entry) (w : World) → Named es w → ((k : ℕ) (e : End) → end_at w.ends k ≡ Some e → e.who ≡ Registry → e.unique ≡ Some (codes ":1.0")) → (k : ℕ) (e : End) → end_at w.ends k ≡ Some e → e.standing ≡ here
+pub named_is : (es : List Entry) (w : World) → Named es w → ((k : ℕ) (e : End) → end_at w.ends k ≡ Some e → e.who ≡ Registry → e.unique ≡ Some (codes ":1.0")) → (k : ℕ) (e : End) → end_at w.ends k ≡ Some e → e.standing ≡ here
     → (name : List ℕ) → unique_of w.bus.state.owners k ≡ Some name → NameIs es e.who name
 named_is es w n registry k e there stands name own = by (same_party e.who Registry) refl
   where

@@ -84,7 +84,7 @@ answers_lists RemoveMatch s conn args rule i = removes_lists s conn rule i
 answers_lists GetId s conn args rule i = i
 answers_lists Ping s conn args rule i = i
 
-called_lists : (s : BusState) (conn : ℕ) (e : Envelope) (rule : Option (List Condition)) → OwnLists s.owners → OwnLists (called s conn e rule).state.owners
+pub called_lists : (s : BusState) (conn : ℕ) (e : Envelope) (rule : Option (List Condition)) → OwnLists s.owners → OwnLists (called s conn e rule).state.owners
 called_lists s conn e rule i = by (member_of e) refl
   where
     by : (r : Result BusMember (List ℕ)) → member_of e ≡ r → OwnLists (called s conn e rule).state.owners

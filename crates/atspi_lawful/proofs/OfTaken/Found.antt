@@ -1,5 +1,5 @@
 -- Messages found by their serials: more entries find the same, and what stands before a message stays before it.
-use Rattle.std.proofs.Common.{◌≡◌, ℕ, suc, ◌+◌, ◌≤◌, Bool, true, false, List, [], ◌∷◌, ◌++◌, length, None, Some, refl, sym, ap, ◌∙◌, arith}
+use Rattle.std.proofs.Common.{◌≡◌, ℕ, suc, ◌+◌, ◌≤◌, Bool, true, false, List, [], ◌∷◌, ◌++◌, length, None, Some, refl, sym, ap, ap₂, ◌∙◌, arith}
 use Rattle.std.specs.Prelude.{Option, ◌==◌, ◌&&◌, if◌then◌else◌}
 use Rattle.std.specs.List.{cons_option}
 use Rattle.std.proofs.lemmas.Bool.{eq-eqb, eqb-true}
@@ -11,7 +11,7 @@ use Rattle.atspi_trace.specs.Entry.{Entry, sent}
 use Rattle.atspi_trace.specs.Ends.{same_party}
 use Rattle.atspi_lawful.specs.laws.Words.{messages, message, with_serial, before_sent}
 use Rattle.atspi_lawful.specs.laws.NineLaws.{sent_before}
-use Rattle.atspi_lawful.proofs.OfOrder.Parties.{no_none, party-same}
+use Rattle.atspi_lawful.proofs.OfOrder.Parties.{no_none, same_some, same-party, party-same}
 use Rattle.atspi_lawful.proofs.OfOrder.Each.{Each}
 use Rattle.atspi_lawful.specs.serials.Laws.{HasNextNumber}
 use Rattle.atspi_lawful.proofs.OfSerials.Serial.{messages_more}
@@ -114,3 +114,15 @@ front_first who e rest =
 pub front_here : (early rest : List Entry) (who : Party) (e : Envelope) → message early who e.serial ≡ None → before_sent who e.serial (early ++ sent who e ∷ rest) ≡ early
 front_here early rest who e none =
     front_none early (sent who e ∷ rest) who e.serial none ∙ ap (λ l. early ++ l) (front_first who e rest) ∙ append-nil early
+
+-- the message with a serial stands behind what stands before it
+pub sent_split : (es : List Entry) (who : Party) (s : ℕ) (m : Envelope) → message es who s ≡ Some m → (rest : List Entry) × (es ≡ before_sent who s es ++ sent who m ∷ rest)
+sent_split [] who s m h = absurd (no_none m h)
+sent_split (sent other e ∷ es) who s m h = by (same_party other who) refl (e.serial == s) (sym (look_is other who e es s) ∙ h) (λ g. sent_split es who s m g)
+  where
+    by : (a : Bool) → same_party other who ≡ a → (b : Bool) → looked a b e (message es who s) ≡ Some m → (message es who s ≡ Some m → (rest : List Entry) × (es ≡ before_sent who s es ++ sent who m ∷ rest))
+        → (rest : List Entry) × (sent other e ∷ es ≡ (if a && b then [] else sent other e ∷ before_sent who s es) ++ sent who m ∷ rest)
+    by true p true g ih = (es, ap₂ (λ q x. sent q x ∷ es) (same-party other who p) (same_some e m g))
+    by true p false g ih = let r = ih g in (r.0, ap (λ l. sent other e ∷ l) r.1)
+    by false p b g ih = let r = ih g in (r.0, ap (λ l. sent other e ∷ l) r.1)
+sent_split (entry ∷ es) who s m h = let r = sent_split es who s m h in (r.0, ap (λ l. entry ∷ l) r.1)

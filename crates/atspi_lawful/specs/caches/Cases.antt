@@ -52,10 +52,12 @@ abbrev pub names_had : List ℕ → List Entry → ℕ → Option (List (List �
 names_had name trace reader = option_map (λ v. map (λ (r : Row). r.name) (labels v)) (followed name trace reader 0).view
 
 -- a description that is told and taken, where the other name was not taken: what was sent between was missed
+abbrev pub described : List Entry
+described =
+    started (App 0) (Some (codes "Demo")) ∷ renamed ++ changed 0 (SetDescription 0 (codes "main")) ∷ sent (App 0) (record (property_changed 0 (codes "accessible-description") (text_data (codes "main"))).message { serial = 7 }) ∷ []
+
 abbrev pub missed : List Entry
-missed =
-    started (App 0) (Some (codes "Demo")) ∷ renamed ++ changed 0 (SetDescription 0 (codes "main")) ∷ sent (App 0) (record (property_changed 0 (codes "accessible-description") (text_data (codes "main"))).message { serial = 7 })
-    ∷ got (Reader 0) (App 0) 7 ∷ []
+missed = described ++ got (Reader 0) (App 0) 7 ∷ []
 
 -- the names in the application's tree as of a message
 abbrev pub names_then : List Entry → ℕ → List (List ℕ)

@@ -1,6 +1,5 @@
--- THE LAW ABOUT CACHES: what a reader has of an application is the view of its tree as of the last message taken, where the reader misses nothing.
-use Rattle.std.specs.Prelude.{◌≡◌, ◌≤◌, ℕ, List, [], ◌∷◌, ◌++◌, Option, None, Some}
-use Rattle.std.specs.List.{AllByRecursion}
+-- THE LAW ABOUT CACHES: what a reader has of an application is the view of its tree as of the last message taken, where each step was asked for whole.
+use Rattle.std.specs.Prelude.{◌≡◌, ◌≤◌, ℕ, true, List, [], ◌∷◌, ◌++◌, Option, None, Some, is_some}
 use Rattle.atspi_forest.specs.declared.news.Item.{Item}
 use Rattle.atspi_forest.specs.declared.news.News.{News}
 use Rattle.atspi_forest.specs.declared.view.Row.{Row}
@@ -16,12 +15,10 @@ use Rattle.atspi_lines.specs.declared.line.Party.TheVariants.{App, Reader}
 use Rattle.atspi_message.specs.Envelope.{Envelope}
 use Rattle.atspi_protocol.specs.announcing.Announced.{announced}
 use Rattle.atspi_protocol.specs.declared.news.part.PartName.{PartName}
-use Rattle.atspi_protocol.specs.declared.following.question.Question.{Question}
-use Rattle.atspi_protocol.specs.declared.following.question.Question.TheVariants.{GetItems}
 use Rattle.atspi_protocol.specs.news.NewsOf.{news_of}
 use Rattle.atspi_protocol.specs.news.Replies.{items_told, part_told}
 use Rattle.atspi_protocol.specs.following.ReaderState.{Followed}
-use Rattle.atspi_trace.specs.Entry.{Entry, changed, sent, got, gone}
+use Rattle.atspi_trace.specs.Entry.{Entry, changed, got, gone}
 use Rattle.atspi_trace.specs.Causes.{told_in}
 use Rattle.atspi_trace.specs.Due.{begins, after_all, Begun}
 use Rattle.atspi_lawful.specs.laws.Words.{live_tree, message, before_sent, as_of, heard_pairs, answers_question, Kept, held}
@@ -29,6 +26,7 @@ use Rattle.atspi_lawful.specs.laws.NineLaws.{Everywhere}
 use Rattle.atspi_lawful.specs.order.Scripts.{CanAllStand}
 use Rattle.atspi_lawful.specs.folds.Laws.{AreAllCovered}
 use Rattle.atspi_lawful.specs.signed.Laws.{IsItsName}
+use Rattle.atspi_lawful.specs.missed.Laws.{IsLoad}
 use Rattle.atspi_lawful.specs.caches.Caches.{followed}
 
 -- WHAT RETURNS TELL. A return to a call for all items tells the view of a tree, and one to a call for a part tells that part of it, of a node that was
@@ -46,33 +44,21 @@ pub record TellsPart (name : List ℕ) (tree : Forest TreeRow) (count : ℕ) (pa
   pub is_of : path ≡ path_of node
   pub was_added : node ≤ count
 
--- NOTHING IS MISSED. Between the last message that the reader took of the application and the one that it takes now the application sent no signal, and
--- each step of it that stands between was asked for whole.
-abbrev pub IsNoSignal : ℕ → Entry → Type 0
-IsNoSignal app (sent (App a) e) = a ≡ app → e.kind ≡ 4 → ⊥
-IsNoSignal app entry = Unit {0}
+-- EACH STEP IS ASKED FOR. Each step of the application that stands behind the last message that the reader took of it and before the one that it takes now
+-- was asked for whole: some pattern that the application had heard of covers each of its signals. A return that loads it begins anew.
+abbrev pub AreAsked : List ℕ → List Entry → ℕ → ℕ → ℕ → Type 0
+AreAsked name before app last serial =
+    (early ys : List Entry) (step : Step) → before_sent (App app) serial before ≡ early ++ changed app step ∷ ys → is_some (message early (App app) last) ≡ true
+    → AreAllCovered (heard_pairs early app) (announced name (live_tree early app) step)
 
-pub record MissesNothing (name : List ℕ) (before : List Entry) (app last serial : ℕ) : Type 0 where
-  pub first : Envelope
-  pub between : List Entry
-  pub stands : before_sent (App app) serial before ≡ (before_sent (App app) last before ++ sent (App app) first ∷ []) ++ between
-  pub no_signal : AllByRecursion (IsNoSignal app) between
-  pub asked : (xs ys : List Entry) (step : Step) → between ≡ xs ++ changed app step ∷ ys
-      → let early = (before_sent (App app) last before ++ sent (App app) first ∷ []) ++ xs in AreAllCovered (heard_pairs early app) (announced name (live_tree early app) step)
-
--- a load begins anew
-abbrev pub IsLoad : Option Question → Type 0
-IsLoad (Some (GetItems name)) = Unit {0}
-IsLoad question = ⊥
-
-abbrev pub MissesNone : List ℕ → ℕ → ℕ → List Entry → Entry → List Entry → Type 0
-MissesNone name reader app before (got (Reader r) (App a) serial) behind =
-    r ≡ reader → a ≡ app → (IsLoad (answers_question before reader (message before (App app) serial)) → ⊥) → (k : Kept) → held before reader app ≡ Some k → MissesNothing name before app k.last serial
-MissesNone name reader app before entry behind = Unit {0}
+abbrev pub AsksAll : List ℕ → ℕ → ℕ → List Entry → Entry → List Entry → Type 0
+AsksAll name reader app before (got (Reader r) (App a) serial) behind =
+    r ≡ reader → a ≡ app → (IsLoad (answers_question before reader (message before (App app) serial)) → ⊥) → (k : Kept) → held before reader app ≡ Some k → AreAsked name before app k.last serial
+AsksAll name reader app before entry behind = Unit {0}
 
 -- such a reader and application
 pub record IsServed (trace : List Entry) (name : List ℕ) (reader app : ℕ) : Type 0 where
-  pub nothing_missed : Everywhere (MissesNone name reader app) trace
+  pub all_asked : Everywhere (AsksAll name reader app) trace
 
 -- WHAT THE READER HAS: nothing of one that it does not hold; of one that it holds the view of its tree as of the last message taken, with the parts
 -- that it was told, and that message's serial.

@@ -1,11 +1,11 @@
 //! Worked cases of what a reader has of an application.
 
 ghost use Rattle.std.specs.Prelude.{◌≡◌, true, [], ◌∷◌, ◌++◌, None, Some, false, codes};
-ghost use Rattle.atspi_trace.specs.Entry.{gone};
 ghost use Rattle.atspi_lawful.specs.caches.Caches.{followed};
 ghost use Rattle.atspi_lawful.specs.caches.Cases.{its_name, asked, told, loaded, renamed, heard_of, names_had, missed, names_then, ready, ready_but, children_told, child_told, names_had_of};
-ghost use Rattle.atspi_lawful.specs.caches.Laws.{IsNoSignal};
-ghost use Rattle.atspi_trace.specs.Entry.{sent};
+ghost use Rattle.atspi_lawful.specs.caches.Laws.{AreAsked};
+ghost use Rattle.atspi_trace.specs.Entry.{changed, sent, heard, gone};
+ghost use Rattle.atspi_forest.specs.declared.step.Step.TheVariants.{SetName};
 ghost use Rattle.atspi_lines.specs.declared.line.Party.TheVariants.{App};
 ghost use Rattle.atspi_protocol.specs.announcing.Signals.{caret_moved};
 ghost use Rattle.atspi_protocol.specs.declared.following.question.Question.TheVariants.{GetItems};
@@ -51,8 +51,11 @@ pub fn who_is_named()
     ensures by_another { names_had_of (children_told ∷ child_told (codes ":1.7") ∷ []) ≡ its_name ∷ [] }
 {}
 
-/// A signal of the application between two messages is one that is missed; one of another application is not.
-pub fn what_is_missed()
-    ensures mine { IsNoSignal 0 (sent (App 0) (caret_moved 1 2).message) → ⊥ }
-    ensures other { IsNoSignal 0 (sent (App 1) (caret_moved 1 2).message) }
+/// Each step between two messages that are taken is one to be asked for whole. Where nobody listens the other name was not; where some pattern covers it, it
+/// was. A step before the last message taken, and one of another application, need not be.
+pub fn what_is_asked()
+    ensures by_nobody { AreAsked its_name renamed 0 5 6 → ⊥ }
+    ensures by_a_listener { AreAsked its_name (heard 0 (codes ":1.9") (codes "object:property-change") ∷ renamed) 0 5 6 }
+    ensures before_it { AreAsked its_name (renamed ++ sent (App 0) (record (caret_moved 0 0).message { serial = 7 }) ∷ []) 0 6 7 }
+    ensures of_another { AreAsked its_name (loaded ++ changed 1 (SetName 0 (codes "Desk")) ∷ sent (App 0) (record (caret_moved 0 0).message { serial = 6 }) ∷ []) 0 5 6 }
 {}

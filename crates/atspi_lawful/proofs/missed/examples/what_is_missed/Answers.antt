@@ -1,7 +1,7 @@
 use Rattle.std.proofs.Common.{refl, ap}
 use Rattle.std.specs.Prelude.{◌==◌}
 use Rattle.atspi_lawful.proofs.OfOrder.Parties.{false_true}
-use Rattle.atspi_lawful.proofs.caches.examples.what_is_missed.Goals as goal
+use Rattle.atspi_lawful.proofs.missed.examples.what_is_missed.Goals as goal
 
 pub returns-clause-mine : goal.returns-clause-mine
 returns-clause-mine c h = h refl refl

@@ -1,0 +1,12 @@
+pub mod Settling
+pub mod Arriving
+pub mod Resting
+pub mod Ruling
+pub mod Returning
+pub mod Ruled
+pub mod LawRuled
+pub mod Signals
+pub mod Delivering
+pub mod Consecutive
+pub mod LawMissed
+pub mod Covering

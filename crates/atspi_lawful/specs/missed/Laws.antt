@@ -1,0 +1,58 @@
+-- What readers do not miss.
+use Rattle.std.specs.Prelude.{◌≡◌, ℕ, true, List, [], ◌∷◌, ◌++◌, Option, Some}
+use Rattle.std.specs.List.{AllByRecursion}
+use Rattle.atspi_forest.specs.declared.step.Step.{Step}
+use Rattle.atspi_forest.specs.Forest.{Forest}
+use Rattle.atspi_forest.specs.Row.{TreeRow}
+use Rattle.atspi_lines.specs.declared.line.Party.TheVariants.{App, Reader}
+use Rattle.atspi_message.specs.Envelope.{Envelope}
+use Rattle.atspi_protocol.specs.declared.following.question.Question.{Question}
+use Rattle.atspi_protocol.specs.declared.following.question.Question.TheVariants.{GetItems}
+use Rattle.atspi_protocol.specs.announcing.Announced.{announced}
+use Rattle.atspi_protocol.specs.exporting.Hearing.{is_heard}
+use Rattle.atspi_protocol.specs.following.ReaderState.{start_calls}
+use Rattle.atspi_trace.specs.Entry.{Entry, sent, got}
+use Rattle.atspi_trace.specs.Hearing.{patterns_in}
+use Rattle.atspi_lawful.specs.laws.Words.{message, before_sent, answers_question, Kept, held}
+use Rattle.atspi_lawful.specs.laws.NineLaws.{Everywhere}
+use Rattle.atspi_lawful.specs.order.Laws.{OfEachTrace}
+use Rattle.atspi_lawful.specs.folds.Laws.{AreAllCovered}
+
+-- an entry is no signal of the application
+abbrev pub IsNoSignal : ℕ → Entry → Type 0
+IsNoSignal app (sent (App a) e) = a ≡ app → e.kind ≡ 4 → ⊥
+IsNoSignal app entry = Unit {0}
+
+-- between two messages of it, the first with this serial and the other with that, it sent no signal
+pub record NoSignalBetween (before : List Entry) (app last serial : ℕ) : Type 0 where
+  pub first : Envelope
+  pub has_serial : first.serial ≡ last
+  pub between : List Entry
+  pub stands : before_sent (App app) serial before ≡ (before_sent (App app) last before ++ sent (App app) first ∷ []) ++ between
+  pub no_signal : AllByRecursion (IsNoSignal app) between
+
+-- a load begins anew
+abbrev pub IsLoad : Option Question → Type 0
+IsLoad (Some (GetItems name)) = Unit {0}
+IsLoad question = ⊥
+
+-- WHERE A READER TAKES A MESSAGE OF AN APPLICATION THAT IT HOLDS, but for a return that loads it, the application sent no signal between the last message
+-- that the reader took of it and this one: each signal since then was taken.
+abbrev pub TookAll : List Entry → Entry → List Entry → Type 0
+TookAll before (got (Reader r) (App a) serial) behind =
+    (IsLoad (answers_question before r (message before (App a) serial)) → ⊥) → (k : Kept) → held before r a ≡ Some k → NoSignalBetween before a k.last serial
+TookAll before entry behind = Unit {0}
+
+abbrev pub NoSignalIsMissed : Type 0
+NoSignalIsMissed = OfEachTrace (Everywhere TookAll)
+
+-- WHAT IS ASKED FOR. A pattern that an application has heard of, of some listener; and all five of a reader's start
+abbrev pub IsHeardOf : List (List ℕ × List ℕ) → List ℕ → Type 0
+IsHeardOf pairs pattern = (listener : List ℕ) × (is_heard pairs (listener, pattern) ≡ true)
+
+abbrev pub AreHeardOf : List (List ℕ × List ℕ) → Type 0
+AreHeardOf pairs = AllByRecursion (IsHeardOf pairs) (patterns_in start_calls)
+
+-- where it has, each of its steps is asked for whole, in whatever tree and under whatever name
+abbrev pub PatternsCoverAll : Type 0
+PatternsCoverAll = (pairs : List (List ℕ × List ℕ)) (name : List ℕ) (tree : Forest TreeRow) (step : Step) → AreHeardOf pairs → AreAllCovered pairs (announced name tree step)

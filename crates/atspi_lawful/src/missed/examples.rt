@@ -1,0 +1,36 @@
+//! Worked cases of what is missed, and of what is asked for.
+
+ghost use Rattle.std.specs.Prelude.{[], ◌∷◌, take, codes};
+ghost use Rattle.atspi_lines.specs.declared.line.Party.TheVariants.{App, Reader};
+ghost use Rattle.atspi_protocol.specs.announcing.Signals.{caret_moved};
+ghost use Rattle.atspi_protocol.specs.following.ReaderState.{start_calls};
+ghost use Rattle.atspi_trace.specs.Entry.{sent, got, quiet};
+ghost use Rattle.atspi_trace.specs.Hearing.{patterns_in};
+ghost use Rattle.atspi_lawful.specs.caches.Cases.{told, renamed, described};
+ghost use Rattle.atspi_lawful.specs.missed.Laws.{IsNoSignal, TookAll, IsHeardOf, AreHeardOf};
+ghost use Rattle.atspi_lawful.specs.missed.Cases.{listening_by};
+
+/// A signal of the application between two messages is one that is missed; one of another application is not.
+pub fn what_is_missed()
+    ensures mine { IsNoSignal 0 (sent (App 0) (caret_moved 1 2).message) → ⊥ }
+    ensures other { IsNoSignal 0 (sent (App 1) (caret_moved 1 2).message) }
+{}
+
+/// A reader that takes the news of another name behind the return that it holds took all. One that takes the next news without it missed a signal. The return
+/// that loads begins anew, and of another reader, which holds nothing, nothing is said.
+pub fn what_was_taken()
+    ensures next { TookAll renamed (got (Reader 0) (App 0) 6) [] }
+    ensures one_between { TookAll described (got (Reader 0) (App 0) 7) [] → ⊥ }
+    ensures a_load { TookAll told (got (Reader 0) (App 0) 5) [] }
+    ensures not_held { TookAll described (got (Reader 1) (App 0) 7) [] }
+    ensures other_entry { TookAll described quiet [] }
+{}
+
+/// A pattern is heard of by whoever listens, and no other is. All five of a reader's start are wanted.
+pub fn what_is_heard()
+    ensures heard { IsHeardOf (listening_by (codes "object:text-changed" ∷ [])) (codes "object:text-changed") }
+    ensures another { IsHeardOf (listening_by (codes "object:text-changed" ∷ [])) (codes "object:state-changed") → ⊥ }
+    ensures nobody { IsHeardOf [] (codes "object:text-changed") → ⊥ }
+    ensures all_five { AreHeardOf (listening_by (patterns_in start_calls)) }
+    ensures only_four { AreHeardOf (listening_by (take 4 (patterns_in start_calls))) → ⊥ }
+{}

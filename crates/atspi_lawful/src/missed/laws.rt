@@ -1,0 +1,15 @@
+//! No signal is missed, and what a reader's patterns ask for.
+
+ghost use Rattle.atspi_lawful.specs.missed.Laws.{NoSignalIsMissed, PatternsCoverAll};
+
+/// Where a reader takes a message of an application that it holds, but for a return that loads it, the application sent no signal between the last
+/// message that the reader took of it and this one: of each front of a lawful trace.
+pub fn no_signal_is_missed()
+    ensures { NoSignalIsMissed }
+{}
+
+/// Where an application has heard of the five patterns of a reader's start, each of its steps is asked for whole: some pattern covers each of its signals, in
+/// whatever tree and under whatever name.
+pub fn patterns_cover_all()
+    ensures { PatternsCoverAll }
+{}
