@@ -6,3 +6,4 @@ pub mod Own
 pub mod Answering
 pub mod Steps
 pub mod Handing
+pub mod Naming

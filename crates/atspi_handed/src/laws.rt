@@ -2,6 +2,7 @@
 
 ghost use Rattle.atspi_handed.specs.Spellable.{ShortAreSpelled, SpelledStaySpellable};
 ghost use Rattle.atspi_handed.specs.Handing.{LettersAreSpelled};
+ghost use Rattle.atspi_handed.specs.Naming.{NamesStay};
 
 /// A message that keeps the rules, and of which at most 64 MiB are written, is what its bytes spell: no other limit of the wire is passed.
 pub fn short_messages_are_spelled()
@@ -17,4 +18,10 @@ pub fn senders_may_be_set()
 /// that is passed on with its sender, and each of the bus's own.
 pub fn what_is_handed_on_is_spelled()
     ensures { LettersAreSpelled }
+{}
+
+/// The unique names of ends differ, those of ends that left too, and a letter bears the name of the end that it is from, or it is the bus's and bears the
+/// bus's: whatever the bus takes, this stays so.
+pub fn letters_bear_the_names_of_their_senders()
+    ensures { NamesStay }
 {}
