@@ -1,17 +1,16 @@
 -- What the bus answers to calls of its members can be written, and what it knows then stays known.
-use Rattle.std.proofs.Common.{◌≡◌, ◌≢◌, ℕ, ◌+◌, ◌<◌, ◌≤◌, ◌^◌, Bool, true, false, cond, List, [], ◌∷◌, ◌++◌, map, Option, None, Some, refl, sym, ap, subst, ◌∙◌, arith}
+use Rattle.std.proofs.Common.{◌≡◌, ℕ, ◌<◌, ◌^◌, Bool, true, false, cond, List, [], ◌∷◌, ◌++◌, map, Option, None, Some, refl, sym, ap, ◌∙◌, arith}
 use Rattle.std.specs.Prelude.{◌==◌, ◌&&◌, not, codes, bytes_eq, if◌then◌else◌, Result, Ok, Err, filter}
 use Rattle.std.specs.List.{AllByRecursion, list_any}
 use Rattle.std.proofs.lemmas.Bool.{and_parts}
 use Rattle.std.specs.Ordering.{nat_cmp}
 use Rattle.std.specs.Cmp.Lexicographic.{slice_cmp}
 use Rattle.std.specs.BTreeMap.{is_at}
-use Rattle.atspi_types.specs.Data.{Data, number_data, text_data}
-use Rattle.atspi_types.specs.Kinds.{u32}
-use Rattle.atspi_types.specs.Names.{IsBusName, is_bus_name, is_unique_name}
+use Rattle.atspi_types.specs.Data.{Data}
+use Rattle.atspi_types.specs.Names.{is_bus_name, is_unique_name}
 use Rattle.atspi_types.proofs.NameLemmas.{IsBusName-from_test}
 use Rattle.atspi_message.specs.Envelope.{Envelope}
-use Rattle.atspi_names.specs.Owners.{Owners, Lists, own_name, list_of, with_list, after_request, after_release, listed}
+use Rattle.atspi_names.specs.Owners.{Owners, Lists, own_name, list_of, with_list, listed}
 use Rattle.atspi_names.specs.Queue.{requested, released, request_change, release_change, owner_in, allows_replacement, replaces_existing, forbids_queueing, stands, taken_over, without, with_flags}
 use Rattle.atspi_names.proofs.BookLemmas.{list_of-with_list, no_empty-with_list, same_name, by_test}
 use Rattle.atspi_owners.specs.Orderly.{IsOrderly}
@@ -24,7 +23,7 @@ use Rattle.atspi_routing.specs.BusState.{OpenCall, BusState, name_or_empty}
 use Rattle.atspi_routing.specs.Members.{MemberLine, member_lines, is_of, is_text, signature_of, first_line, with_arguments, member_of}
 use Rattle.atspi_routing.specs.Answers.{Reply, returns, fails, Answer, only, answers, may_be_asked_for, requests, releases, owner_name, owner_reply, has_owner, queued_names, queued_reply, adds_rule, removes_rule, first_text, second_number, bus_id}
 use Rattle.atspi_handed.specs.Known.{AreKnown}
-use Rattle.atspi_handed.proofs.Names.{IsPlain, plain_name, bus_is, IsError, failed_is, args_is, limits_is, rule_is, rule_lost_is, owner_lost_is, unknown_interface_is, unknown_method_is, plain_unique, plain_owner, OnlyNames, listed_are}
+use Rattle.atspi_handed.proofs.Names.{IsPlain, plain_name, bus_is, IsError, failed_is, args_is, limits_is, rule_is, rule_lost_is, owner_lost_is, unknown_interface_is, unknown_method_is, plain_owner, OnlyNames, listed_are}
 use Rattle.atspi_handed.proofs.Own.{MaySpell, IsBody, no_body, text_body, number_body, boolean_body, texts_body, spell_change}
 
 -- a reply that can be written

@@ -1,27 +1,24 @@
 -- Each letter that waits on a down link is what its bytes spell, whatever the bus takes.
-use Rattle.std.proofs.Common.{◌≡◌, ℕ, zero, suc, ◌+◌, ◌<◌, ◌≤◌, Bool, true, false, List, [], ◌∷◌, ◌++◌, length, Option, None, Some, refl, sym, ap, ◌∙◌, subst, arith}
-use Rattle.std.specs.Prelude.{◌==◌, ◌-◌, nat_lt, not, filter, if◌then◌else◌}
+use Rattle.std.proofs.Common.{◌≡◌, ℕ, zero, suc, ◌+◌, ◌≤◌, Bool, true, false, List, [], ◌∷◌, ◌++◌, length, Option, Some, refl, sym, ap, ◌∙◌, subst, arith}
+use Rattle.std.specs.Prelude.{nat_lt, if◌then◌else◌}
 use Rattle.std.specs.List.{AllByRecursion, fold}
 use Rattle.std.specs.FinMap as finmap
 use Rattle.std.proofs.lemmas.Bool.{ltb-true, ltb-false}
 use Rattle.atspi_lines.specs.declared.line.Party.{Party}
 use Rattle.atspi_message.specs.Envelope.{Envelope}
 use Rattle.atspi_message.specs.Bytes.{IsMessage, written}
-use Rattle.atspi_match.specs.RuleIndex.{without_rules}
 use Rattle.atspi_names.specs.Owners.{own_name, after_gone}
 use Rattle.atspi_routing.specs.declared.closing.Why.{Why}
-use Rattle.atspi_routing.specs.declared.closing.Why.TheVariants.{NotHello, Quota}
-use Rattle.atspi_routing.specs.BusState.{BusState, unique_of, calls_without}
+use Rattle.atspi_routing.specs.declared.closing.Why.TheVariants.{Quota}
+use Rattle.atspi_routing.specs.BusState.{BusState, unique_of}
 use Rattle.atspi_routing.specs.Members.{is_text}
 use Rattle.atspi_routing.specs.Steps.{Move, says, delivers, closes, BusStep, farewell, bus_takes, bus_leaves}
-use Rattle.atspi_routing.specs.Queues as queues
-use Rattle.atspi_routing.specs.Queues.{Waiting, Bus, queue_of, is_due, doomed, without_queue}
+use Rattle.atspi_routing.specs.Queues.{Waiting, queue_of, is_due, doomed, without_queue}
 use Rattle.atspi_trace.specs.Rules.{rule_in}
 use Rattle.atspi_trace.specs.World.{Said, Letter, End}
 use Rattle.atspi_trace.specs.Ends.{with_end, put_down, taken_up, leaves}
 use Rattle.atspi_trace.specs.Carrying.{Carried, Filled, letter_of, own_letter, grew, moved, stepped, left, one_closed, settled, named, with_name, takes, takes_end}
 use Rattle.atspi_handed.specs.Spellable.{IsSpellable}
-use Rattle.atspi_handed.specs.Known.{IsKnown}
 use Rattle.atspi_handed.specs.Handing.{IsLetter, AreLetters, HandsLetters}
 use Rattle.atspi_handed.proofs.Lists.{all_append}
 use Rattle.atspi_handed.proofs.Short.{short_spelled}

@@ -1,11 +1,10 @@
 -- Names of the bus as texts, and that those that a bus knows keep their rules.
-use Rattle.std.proofs.Common.{◌≡◌, ℕ, ◌<◌, ◌≤◌, ◌^◌, Bool, true, false, List, [], ◌∷◌, ◌++◌, Option, None, Some, refl, sym, ap, subst, ◌∙◌, encode_utf8_all, arith}
-use Rattle.std.specs.Prelude.{IfSome, filter, map, not, codes}
+use Rattle.std.proofs.Common.{◌≡◌, ℕ, Bool, true, false, List, [], ◌++◌, Option, None, Some, refl, sym, ap, subst, ◌∙◌, encode_utf8_all, arith}
+use Rattle.std.specs.Prelude.{IfSome, not, codes}
 use Rattle.std.specs.List.{AllByRecursion}
 use Rattle.std.specs.Str.{all_scalars}
-use Rattle.std.specs.Ordering.{nat_cmp}
 use Rattle.std.specs.Cmp.{nat_cmp_total}
-use Rattle.std.specs.Cmp.Lexicographic.{slice_cmp, nat_list_cmp_total}
+use Rattle.std.specs.Cmp.Lexicographic.{nat_list_cmp_total}
 use Rattle.std.specs.FinMap as finmap
 use Rattle.atspi_base.specs.Text.{HasNoZero}
 use Rattle.atspi_types.specs.Elements.{parts_of, are_elements, are_two_or_more}

@@ -1,22 +1,20 @@
 -- The unique names of ends differ, and letters bear them, whatever the bus takes.
-use Rattle.std.proofs.Common.{◌≡◌, ◌≢◌, ◌⊎◌, inl, inr, ℕ, zero, suc, ◌+◌, ◌<◌, ◌≤◌, ◌^◌, Bool, true, false, cond, List, [], ◌∷◌, ◌++◌, length, Option, None, Some, refl, sym, ap, ◌∙◌, subst, arith}
-use Rattle.std.specs.Prelude.{◌==◌, ◌-◌, codes, bytes_eq, if◌then◌else◌, Result, Ok, Err}
+use Rattle.std.proofs.Common.{◌≡◌, ◌≢◌, ◌⊎◌, inl, inr, ℕ, zero, suc, ◌<◌, ◌≤◌, ◌^◌, Bool, true, false, cond, List, [], ◌∷◌, ◌++◌, length, Option, None, Some, refl, sym, ap, ◌∙◌, subst, arith}
+use Rattle.std.specs.Prelude.{◌==◌, codes, if◌then◌else◌, Result, Ok, Err}
 use Rattle.std.specs.List.{AllByRecursion, fold, list_any}
 use Rattle.std.specs.FinMap as finmap
 use Rattle.std.specs.FinMap.{get-remove, get-insert}
 use Rattle.std.specs.Ordering.{nat_cmp, eq_by_cmp}
 use Rattle.std.specs.Cmp.{nat_cmp_total, eq_by_cmp_equiv}
 use Rattle.std.proofs.lemmas.Option.{same_Some}
-use Rattle.std.specs.BTreeMap.{is_at}
 use Rattle.atspi_types.specs.Data.{Data}
 use Rattle.atspi_forest.specs.Forest.{first_of}
 use Rattle.atspi_lines.specs.declared.line.Party.{Party}
-use Rattle.atspi_lines.specs.declared.line.Party.TheVariants.{Bus as The_bus}
 use Rattle.atspi_message.specs.Envelope.{Envelope}
 use Rattle.atspi_match.specs.declared.condition.Condition.{Condition}
 use Rattle.atspi_match.specs.RuleIndex.{is_pair, rules_of, without_first}
 use Rattle.atspi_names.specs.Owners.{Owners, own_name, unique_name, after_hello, after_gone}
-use Rattle.atspi_names.proofs.BookLemmas.{same_conn, other_conn, by_test}
+use Rattle.atspi_names.proofs.BookLemmas.{same_conn, by_test}
 use Rattle.atspi_names.proofs.UniqueLemmas.{unique_name-injective}
 use Rattle.atspi_routing.specs.declared.closing.Why.{Why}
 use Rattle.atspi_routing.specs.declared.member.BusMember.{BusMember}
@@ -29,13 +27,12 @@ use Rattle.atspi_routing.specs.Steps.{Move, says, delivers, closes, BusStep, han
 use Rattle.atspi_routing.specs.Queues as queues
 use Rattle.atspi_routing.specs.Queues.{Waiting, without_queue}
 use Rattle.atspi_trace.specs.Rules.{rule_in}
-use Rattle.atspi_trace.specs.World.{Standing, here, stopped, away, Said, Letter, End}
+use Rattle.atspi_trace.specs.World.{Said, Letter, End}
 use Rattle.atspi_trace.specs.Ends.{end_at, with_end, put_down, taken_up, leaves}
 use Rattle.atspi_trace.specs.Carrying.{Carried, Filled, letter_of, own_letter, grew, with_letter, moved, stepped, left, one_closed, settled, named, with_name, takes, takes_end}
 use Rattle.atspi_handed.specs.Spellable.{IsSpellable}
-use Rattle.atspi_handed.specs.Known.{IsKnown}
 use Rattle.atspi_handed.specs.Handing.{HandsLetters}
-use Rattle.atspi_handed.specs.Naming.{IsFromEnd, IsSigned, HasLeft, IsNamed, AreNamed}
+use Rattle.atspi_handed.specs.Naming.{IsSigned, HasLeft, IsNamed, AreNamed}
 use Rattle.atspi_handed.proofs.Lists.{all_append, all_weaker}
 use Rattle.atspi_handed.proofs.Steps.{Bears, HandsOn, signer, takes_done, leaves_done}
 use Rattle.atspi_handed.proofs.Handing.{left_hands, one_hands, settled_more, front_hands, within}

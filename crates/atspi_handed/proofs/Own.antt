@@ -1,10 +1,10 @@
 -- The bus's own messages can be written.
-use Rattle.std.proofs.Common.{◌≡◌, ◌≢◌, ℕ, ◌+◌, ◌<◌, ◌≤◌, ◌^◌, Bool, true, false, List, [], ◌∷◌, ◌++◌, length, Option, None, Some, refl, sym, ap, subst, ◌∙◌, arith}
+use Rattle.std.proofs.Common.{◌≡◌, ℕ, ◌<◌, ◌^◌, Bool, true, false, List, [], ◌∷◌, ◌++◌, Option, None, Some, refl, arith}
 use Rattle.std.specs.Prelude.{IfSome, map, codes, if◌then◌else◌}
 use Rattle.std.specs.List.{AllByRecursion}
 use Rattle.atspi_types.specs.Kinds.{text, u32}
 use Rattle.atspi_types.specs.Signatures.{IsSignature}
-use Rattle.atspi_types.specs.Data.{Data, Items, number_data, boolean_data, text_data, array_data, items_of, types_of, AreWellTyped, AllHaveType}
+use Rattle.atspi_types.specs.Data.{Data, number_data, boolean_data, text_data, items_of, types_of, AreWellTyped, AllHaveType}
 use Rattle.atspi_types.specs.Names.{IsMember, IsBusName}
 use Rattle.atspi_message.specs.Envelope.{Envelope}
 use Rattle.atspi_names.specs.Owners.{Owners, own_name}
@@ -12,11 +12,11 @@ use Rattle.atspi_owners.specs.Orderly.{IsOrderly}
 use Rattle.atspi_routing.specs.BusState.{unique_of, name_or_empty}
 use Rattle.atspi_routing.specs.OwnMessages.{signal, return_to, error_to, name_lost, name_acquired, owner_changed, same_owner, told_of_change}
 use Rattle.atspi_routing.specs.Answers.{texts}
-use Rattle.atspi_handed.specs.Sits.{Sits, AllSit}
+use Rattle.atspi_handed.specs.Sits.{AllSit}
 use Rattle.atspi_handed.specs.Spellable.{IsSpellable}
 use Rattle.atspi_handed.specs.Known.{IsSerial}
 use Rattle.atspi_handed.proofs.Lists.{all_append}
-use Rattle.atspi_handed.proofs.Names.{IsPlain, plain_none, plain_name, path_is, interface_is, bus_is, lost_is, acquired_is, changed_is, IsError, error_named, unique_is, plain_owner}
+use Rattle.atspi_handed.proofs.Names.{IsPlain, path_is, interface_is, bus_is, lost_is, acquired_is, changed_is, IsError, error_named, unique_is, plain_owner}
 
 -- it is from the bus, and with any serial it can be written
 pub record MaySpell (e : Envelope) : Type 0 where

@@ -1,23 +1,22 @@
 -- Short messages that keep the rules are what their bytes spell; and a message keeps that under another sender.
-use Rattle.std.proofs.Common.{◌≡◌, ℕ, ◌+◌, ◌<◌, ◌≤◌, ◌^◌, Bool, true, false, List, [], ◌∷◌, ◌++◌, length, Option, Some, None, refl, sym, ap, subst, ◌∙◌, length-append, arith}
+use Rattle.std.proofs.Common.{◌≡◌, ℕ, ◌<◌, ◌≤◌, ◌^◌, Bool, true, false, List, [], ◌∷◌, ◌++◌, length, Option, Some, None, sym, ap, subst, ◌∙◌, length-append, arith}
 use Rattle.std.specs.Prelude.{◌==◌, IfSome, encode_utf8_all, if◌then◌else◌}
 use Rattle.std.specs.Int.{w32}
 use Rattle.std.specs.Str.{all_scalars}
 use Rattle.std.proofs.lemmas.Str.{IsUtf8-from_ascii, chars-IsAscii, scalars-chars}
 use Rattle.atspi_base.specs.Text.{HasNoZero}
-use Rattle.atspi_types.specs.Names.{IsPath, IsInterface, IsMember, IsBusName}
-use Rattle.atspi_types.specs.Kinds.{Kind, number, text, path, signature, array, u32, byte}
-use Rattle.atspi_types.specs.Data.{Data, Items, number_data, text_data, path_data, signature_data, array_data, items_of, types_of, IsWellTyped, AllHaveType}
+use Rattle.atspi_types.specs.Names.{IsInterface, IsMember, IsBusName}
+use Rattle.atspi_types.specs.Kinds.{Kind, number, text, path, signature, array, u32}
+use Rattle.atspi_types.specs.Data.{Data, number_data, text_data, path_data, array_data, items_of, types_of, IsWellTyped}
 use Rattle.atspi_types.specs.Signatures.{IsSignature}
 use Rattle.atspi_marshal.specs.Input.{number_bytes}
-use Rattle.atspi_marshal.specs.Spelling.{padding, single, spelling, spellings, Fits, FieldsFit}
+use Rattle.atspi_marshal.specs.Spelling.{padding, single, spelling, spellings}
 use Rattle.atspi_marshal.proofs.Typing.{typed}
 use Rattle.atspi_message.specs.declared.code.Code.{Code}
 use Rattle.atspi_message.specs.declared.code.Code.TheVariants as codes
 use Rattle.atspi_message.specs.Codes.{IsNameFor}
 use Rattle.atspi_message.specs.Envelope.{Envelope}
-use Rattle.atspi_message.specs.Rules.{MeetsRules, HasNames}
-use Rattle.atspi_message.specs.Bytes.{Field, field_kind, field_data, field_items, field_if, signature_if, rising_fields, with_code, at_most_one, body_place, body_bytes, header_bytes, spelled_with, FitsWire, IsMessage, written}
+use Rattle.atspi_message.specs.Bytes.{Field, field_kind, field_items, field_if, signature_if, rising_fields, with_code, at_most_one, body_place, body_bytes, header_bytes, spelled_with, IsMessage, written}
 use Rattle.atspi_message.proofs.Names.{name_is_plain, name_spells}
 use Rattle.atspi_message.proofs.MessageWriting.{are_fields}
 use Rattle.atspi_message.proofs.Rising.{written_is}

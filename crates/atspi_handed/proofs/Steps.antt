@@ -1,5 +1,5 @@
 -- What the bus does with a message, and where one leaves, hands on messages that can be written, and leaves it knowing what it did.
-use Rattle.std.proofs.Common.{◌≡◌, ◌≢◌, ◌⊎◌, inl, inr, ℕ, zero, suc, ◌+◌, ◌<◌, ◌≤◌, ◌^◌, Bool, true, false, List, [], ◌∷◌, ◌++◌, length, map, Option, None, Some, refl, sym, ap, subst, ◌∙◌, length-append, arith}
+use Rattle.std.proofs.Common.{◌≡◌, ◌≢◌, ◌⊎◌, inl, inr, ℕ, ◌+◌, ◌<◌, ◌≤◌, ◌^◌, Bool, true, false, List, [], ◌∷◌, ◌++◌, length, map, Option, None, Some, refl, ap, ◌∙◌, length-append, arith}
 use Rattle.std.specs.Prelude.{◌==◌, ◌&&◌, ◌||◌, not, codes, filter, flat_map, IfSome, if◌then◌else◌, Result, Ok, Err}
 use Rattle.std.specs.List.{AllByRecursion}
 use Rattle.atspi_types.specs.Data.{text_data}
@@ -18,7 +18,7 @@ use Rattle.atspi_routing.specs.OwnMessages.{return_to, error_to, name_acquired, 
 use Rattle.atspi_routing.specs.Members.{member_of}
 use Rattle.atspi_routing.specs.Answers.{Reply, returns, fails, Answer, only, answers}
 use Rattle.atspi_routing.specs.Routing.{receivers, is_for_bus, expects_reply, is_reply, with_call, without_answered, calls_after}
-use Rattle.atspi_routing.specs.Steps.{Move, says, delivers, closes, BusStep, handed, said, speaks, replies, answered, called, undeliverable, is_unowned, calls_after_all, passes_on, takes_from_named, is_hello, greets, no_replies, name_passes_on, names_pass_on, farewell, bus_takes, bus_leaves}
+use Rattle.atspi_routing.specs.Steps.{Move, says, delivers, closes, BusStep, handed, speaks, replies, answered, called, undeliverable, is_unowned, calls_after_all, passes_on, takes_from_named, is_hello, greets, no_replies, name_passes_on, names_pass_on, farewell, bus_takes, bus_leaves}
 use Rattle.atspi_handed.specs.Spellable.{IsSpellable}
 use Rattle.atspi_handed.specs.Known.{IsSerial, AreKnown, IsKnown}
 use Rattle.atspi_handed.proofs.Lists.{all_append, all_filter, all_map}

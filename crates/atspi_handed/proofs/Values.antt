@@ -1,5 +1,5 @@
 -- Values that have a spelling at a place have one at any place where they are short.
-use Rattle.std.proofs.Common.{◌≡◌, ℕ, zero, suc, ◌+◌, ◌<◌, ◌≤◌, ◌^◌, List, [], ◌∷◌, ◌++◌, length, refl, sym, subst, encode_utf8_all, length-append, arith}
+use Rattle.std.proofs.Common.{ℕ, zero, suc, ◌+◌, ◌<◌, ◌≤◌, ◌^◌, List, [], ◌∷◌, ◌++◌, length, refl, sym, subst, encode_utf8_all, length-append, arith}
 use Rattle.std.specs.Int.{w32}
 use Rattle.atspi_types.specs.Kinds.{Kind, alignment}
 use Rattle.atspi_types.specs.Signatures.{signature_bytes}

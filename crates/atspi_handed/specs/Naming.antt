@@ -1,7 +1,6 @@
 -- The unique names of ends, and those that letters bear.
-use Rattle.std.specs.Prelude.{◌≡◌, ◌⊎◌, ◌<◌, ◌≤◌, ℕ, List, Option, None, Some}
+use Rattle.std.specs.Prelude.{◌≡◌, ◌⊎◌, ◌<◌, ◌≤◌, ℕ, List, None, Some}
 use Rattle.std.specs.List.{AllByRecursion}
-use Rattle.atspi_lines.specs.declared.line.Party.{Party}
 use Rattle.atspi_lines.specs.declared.line.Party.TheVariants.{Bus as The_bus}
 use Rattle.atspi_names.specs.Owners.{Owners, own_name, unique_name}
 use Rattle.atspi_routing.specs.BusState.{unique_of}
