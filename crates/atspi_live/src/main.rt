@@ -4,6 +4,7 @@
 mod net;
 mod open_link;
 mod output;
+mod ready;
 mod retry;
 
 use atspi_base::Text;
@@ -85,5 +86,6 @@ fn main(rt: HostRuntime) -> ExitCode {
         Command::Registry => registry(alloc, &path, rounds, &mut sink, &mut host),
         Command::Read => read(alloc, &path, rounds, &mut sink, &mut host),
     };
+    host.leave(&path);
     ExitCode::from(status)
 }

@@ -8,51 +8,22 @@ ghost use Rattle.atspi_host.specs.Calls.{Counts, Opens};
 ghost use Rattle.atspi_live.specs.Numbers.{numbers};
 
 use crate::open_link::Open;
+use crate::ready::{LISTENER, Ready};
 use atspi_base::Text;
 use atspi_host::{Did, Host};
 use mio::net::{UnixListener, UnixStream};
-use mio::{Events, Interest, Poll, Token};
+use mio::{Interest, Token};
 use std::alloc::Global;
-use std::fs::Files;
-use std::io::{self, ErrorKind, Print, Read, Write};
+use std::fs::{self, Files};
+use std::io::{self, Eprint, ErrorKind, Read, Write};
 use std::net::Net;
-use std::time::Duration;
+use std::os::unix::fs::FileTypeExt;
 
 /// How many links are in use at the most.
 const LINKS: usize = 64;
 
 /// How many bytes are moved in one call at the most.
 const PIECE: usize = 4096;
-
-/// So long is rested at the most, in milliseconds.
-const REST: u64 = 500;
-
-/// How many calls have found nothing ready since the last one that found something.
-#[derive(Drop)]
-struct Idle {
-    /// Whether the host rests at all.
-    rests: bool,
-    calls: usize,
-    poll: Poll,
-    events: Events<Global>,
-}
-
-impl Idle {
-    /// One call more found nothing ready. Where all calls of a whole round have, the host rests until something is.
-    fn again(&mut self, links: usize) -> Did
-        ensures { result ≡ Did.NotYet }
-    {
-        self.calls = self.calls.saturating_add(1);
-        if self.rests && self.calls > links.min(LINKS) {
-            self.calls = 0;
-            // an error or a timeout is as good as something that is ready: the next round looks
-            let _ = self
-                .poll
-                .poll(&mut self.events, Some(Duration::from_millis(REST)));
-        }
-        Did::NotYet
-    }
-}
 
 /// One fault more.
 fn fault(count: &mut u64) -> Did
@@ -65,9 +36,9 @@ fn fault(count: &mut u64) -> Did
 
 /// Non-blocking Unix sockets, with the counts of their faults.
 #[derive(Drop)]
-pub struct NetHost<'a, R: Files + Net + Print> {
+pub struct NetHost<'a, R: Files + Net + Eprint> {
     rt: &'a R,
-    idle: Idle,
+    ready: Ready,
     listener: Option<UnixListener>,
     /// In the order of their numbers.
     links: Vec<Open>,
@@ -78,24 +49,16 @@ pub struct NetHost<'a, R: Files + Net + Print> {
     ghost below: { All (λ o. o.number < next) links.items },
 }
 
-impl<'a, R: Files + Net + Print> NetHost<'a, R> {
+impl<'a, R: Files + Net + Eprint> NetHost<'a, R> {
     /// No link is open yet, and no call has failed. A host that rests waits where a whole round found nothing ready; else it waits for
     /// nothing.
     pub fn new(alloc: Global, rt: &'a R, rests: bool) -> io::Result<Self>
         ensures links { IfOk result (λ h. ⟦<NetHost<'a, R> as Host>⟧.links h ≡ []) }
         ensures calls { IfOk result (λ h. ⟦<NetHost<'a, R> as Host>⟧.calls h ≡ None) }
     {
-        let poll = Poll::new(rt)?;
-        let events = Events::with_capacity(alloc, LINKS)?;
-        let idle = Idle {
-            rests,
-            calls: 0,
-            poll,
-            events,
-        };
         Ok(NetHost {
             rt,
-            idle,
+            ready: Ready::new(alloc, rt, rests, LINKS + 1)?,
             listener: None,
             links: Vec::with_capacity(alloc, LINKS)?,
             next: 0,
@@ -114,7 +77,7 @@ impl<'a, R: Files + Net + Print> NetHost<'a, R> {
         let number = self.next;
         let mut stream = stream;
         let both = Interest::READABLE | Interest::WRITABLE;
-        let registry = self.idle.poll.registry();
+        let registry = self.ready.registry();
         if registry
             .register(&mut stream, Token(number as usize), both)
             .is_err()
@@ -128,7 +91,46 @@ impl<'a, R: Files + Net + Print> NetHost<'a, R> {
             return fault(&mut self.faults);
         };
         self.next = next;
+        self.ready.add(number as usize);
         Did::Done(number)
+    }
+
+    /// Whether a socket's file stands at the path at which nobody listens: who left it has ended.
+    fn is_left(&self, path: &Text) -> bool {
+        match fs::symlink_metadata(self.rt, path.as_str()) {
+            Ok(found) if found.file_type().is_socket() => {
+                match UnixStream::connect(self.rt, path.as_str()) {
+                    Ok(_) => false,
+                    Err(error) => error.kind() == ErrorKind::ConnectionRefused,
+                }
+            }
+            _ => false,
+        }
+    }
+
+    /// A listener at the path. A socket's file that was left there is removed first; all else that is there stays, and is refused.
+    fn bind(&self, path: &Text) -> io::Result<UnixListener> {
+        match UnixListener::bind(self.rt, path.as_str()) {
+            Err(error) if error.kind() == ErrorKind::AddrInUse && self.is_left(path) => {
+                fs::remove_file(self.rt, path.as_str())?;
+                UnixListener::bind(self.rt, path.as_str())
+            }
+            bound => bound,
+        }
+    }
+
+    /// The socket's file at the path is removed, where this host listened.
+    pub fn leave(&mut self, path: &Text) {
+        if self.listener.is_some() {
+            self.listener = None;
+            let _ = fs::remove_file(self.rt, path.as_str());
+        }
+    }
+
+    /// A line of news on standard error. Where it can't be written, nothing else changes.
+    fn tell(&self, news: &str, path: &Text) {
+        let rt = self.rt;
+        let _ = eprintln!(rt; "atspi: {news} {}", path.as_str());
     }
 
     fn place(&self, link: u32) -> Option<usize>
@@ -138,7 +140,7 @@ impl<'a, R: Files + Net + Print> NetHost<'a, R> {
     }
 }
 
-impl<'a, R: Files + Net + Print> Host for NetHost<'a, R> {
+impl<'a, R: Files + Net + Eprint> Host for NetHost<'a, R> {
     ghost calls = { λ _. None };
 
     ghost links = { λ h. numbers h.links.items };
@@ -148,34 +150,41 @@ impl<'a, R: Files + Net + Print> Host for NetHost<'a, R> {
     ghost link_faults = { λ h. h.link_faults };
 
     fn listen(&mut self, path: &Text) -> Did {
-        match UnixListener::bind(self.rt, path.as_str()) {
+        match self.bind(path) {
             Ok(listener) => {
                 let mut listener = listener;
-                let registry = self.idle.poll.registry();
+                let registry = self.ready.registry();
                 if registry
-                    .register(&mut listener, Token(0), Interest::READABLE)
+                    .register(&mut listener, Token(LISTENER), Interest::READABLE)
                     .is_err()
                 {
                     return fault(&mut self.faults);
                 }
                 self.listener = Some(listener);
+                self.ready.add(LISTENER);
+                self.tell("listens at", path);
                 Did::Done(0)
             }
-            Err(_) => fault(&mut self.faults),
+            Err(_) => {
+                self.tell("cannot listen at", path);
+                fault(&mut self.faults)
+            }
         }
     }
 
     fn accept(&mut self) -> Did {
-        if self.links.len() >= LINKS {
-            return self.idle.again(LINKS);
-        }
+        self.ready.begin();
         let Some(listener) = &self.listener else {
             return fault(&mut self.faults);
         };
+        if self.links.len() >= LINKS || !self.ready.may_read(LISTENER) {
+            return Did::NotYet;
+        }
         match listener.accept() {
             Ok((stream, _)) => self.join(stream),
             Err(error) if error.kind() == ErrorKind::WouldBlock => {
-                self.idle.again(self.links.len())
+                self.ready.found_nothing(LISTENER);
+                Did::NotYet
             }
             Err(_) => fault(&mut self.faults),
         }
@@ -183,25 +192,42 @@ impl<'a, R: Files + Net + Print> Host for NetHost<'a, R> {
 
     fn connect(&mut self, path: &Text) -> Did {
         match UnixStream::connect(self.rt, path.as_str()) {
-            Ok(stream) => self.join(stream),
-            Err(_) => fault(&mut self.faults),
+            Ok(stream) => {
+                self.tell("is connected to", path);
+                self.join(stream)
+            }
+            Err(_) => {
+                self.tell("cannot connect to", path);
+                fault(&mut self.faults)
+            }
         }
     }
 
     fn read(&mut self, link: u32, into: &mut [u8]) -> Did {
+        if self.listener.is_none() {
+            self.ready.begin();
+        }
         let Some(place) = self.place(link) else {
             return fault(&mut self.link_faults);
         };
+        if !self.ready.may_read(link as usize) {
+            return Did::NotYet;
+        }
         let most = into.len().min(PIECE);
         match self.links[place].stream.read(&mut into[..most]) {
             Ok(0) => Did::End,
             Ok(n) => {
-                self.idle.calls = 0;
+                self.ready.moves();
                 Did::Done(n as u32)
             }
             Err(error) => match error.kind() {
-                ErrorKind::WouldBlock | ErrorKind::Interrupted => {
-                    self.idle.again(self.links.len())
+                ErrorKind::WouldBlock => {
+                    self.ready.found_nothing(link as usize);
+                    Did::NotYet
+                }
+                ErrorKind::Interrupted => {
+                    self.ready.moves();
+                    Did::NotYet
                 }
                 // a peer that died with bytes unread has ended
                 ErrorKind::ConnectionReset => Did::End,
@@ -214,16 +240,24 @@ impl<'a, R: Files + Net + Print> Host for NetHost<'a, R> {
         let Some(place) = self.place(link) else {
             return fault(&mut self.link_faults);
         };
+        if !self.ready.may_write(link as usize) {
+            return Did::NotYet;
+        }
         let most = bytes.len().min(PIECE);
         match self.links[place].stream.write(&bytes[..most]) {
             Ok(n) if 0 < n => {
-                self.idle.calls = 0;
+                self.ready.moves();
                 Did::Done(n as u32)
             }
             Ok(_) => fault(&mut self.link_faults),
             Err(error) => match error.kind() {
-                ErrorKind::WouldBlock | ErrorKind::Interrupted => {
-                    self.idle.again(self.links.len())
+                ErrorKind::WouldBlock => {
+                    self.ready.found_no_room(link as usize);
+                    Did::NotYet
+                }
+                ErrorKind::Interrupted => {
+                    self.ready.moves();
+                    Did::NotYet
                 }
                 _ => fault(&mut self.link_faults),
             },
@@ -232,5 +266,6 @@ impl<'a, R: Files + Net + Print> Host for NetHost<'a, R> {
 
     fn close(&mut self, link: u32) {
         self.links.retain(|o| o.number != link);
+        self.ready.forget(link as usize);
     }
 }
