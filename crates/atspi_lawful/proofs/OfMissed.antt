@@ -10,3 +10,4 @@ pub mod Delivering
 pub mod Consecutive
 pub mod LawMissed
 pub mod Covering
+pub mod TakenBack

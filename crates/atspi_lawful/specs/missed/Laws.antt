@@ -1,11 +1,12 @@
 -- What readers do not miss.
-use Rattle.std.specs.Prelude.{◌≡◌, ℕ, true, List, [], ◌∷◌, ◌++◌, Option, Some}
+use Rattle.std.specs.Prelude.{◌≡◌, ℕ, true, false, List, [], ◌∷◌, ◌++◌, Option, Some, codes}
 use Rattle.std.specs.List.{AllByRecursion}
 use Rattle.atspi_forest.specs.declared.step.Step.{Step}
 use Rattle.atspi_forest.specs.Forest.{Forest}
 use Rattle.atspi_forest.specs.Row.{TreeRow}
 use Rattle.atspi_lines.specs.declared.line.Party.TheVariants.{App, Reader}
 use Rattle.atspi_message.specs.Envelope.{Envelope}
+use Rattle.atspi_routing.specs.Members.{is_text}
 use Rattle.atspi_protocol.specs.declared.following.question.Question.{Question}
 use Rattle.atspi_protocol.specs.declared.following.question.Question.TheVariants.{GetItems}
 use Rattle.atspi_protocol.specs.announcing.Announced.{announced}
@@ -56,3 +57,16 @@ AreHeardOf pairs = AllByRecursion (IsHeardOf pairs) (patterns_in start_calls)
 -- where it has, each of its steps is asked for whole, in whatever tree and under whatever name
 abbrev pub PatternsCoverAll : Type 0
 PatternsCoverAll = (pairs : List (List ℕ × List ℕ)) (name : List ℕ) (tree : Forest TreeRow) (step : Step) → AreHeardOf pairs → AreAllCovered pairs (announced name tree step)
+
+-- NOTHING IS TAKEN BACK. What a reader sends is a call, and none by which it would take back a match rule or a pattern.
+pub record AsksOnly (e : Envelope) : Type 0 where
+  pub is_call : e.kind ≡ 1
+  pub no_rule_back : is_text e.member (codes "RemoveMatch") ≡ false
+  pub no_pattern_back : is_text e.member (codes "DeregisterEvent") ≡ false
+
+abbrev pub TakesNothingBack : List Entry → Entry → List Entry → Type 0
+TakesNothingBack before (sent (Reader r) e) behind = AsksOnly e
+TakesNothingBack before entry behind = Unit {0}
+
+abbrev pub NothingIsTakenBack : Type 0
+NothingIsTakenBack = OfEachTrace (Everywhere TakesNothingBack)

@@ -1,13 +1,15 @@
 //! Worked cases of what is missed, and of what is asked for.
 
-ghost use Rattle.std.specs.Prelude.{[], ◌∷◌, take, codes};
+ghost use Rattle.std.specs.Prelude.{[], ◌∷◌, Some, take, codes};
 ghost use Rattle.atspi_lines.specs.declared.line.Party.TheVariants.{App, Reader};
 ghost use Rattle.atspi_protocol.specs.announcing.Signals.{caret_moved};
+ghost use Rattle.atspi_protocol.specs.declared.following.question.Question.TheVariants.{Hello};
+ghost use Rattle.atspi_protocol.specs.following.Calls.{asking};
 ghost use Rattle.atspi_protocol.specs.following.ReaderState.{start_calls};
 ghost use Rattle.atspi_trace.specs.Entry.{sent, got, quiet};
 ghost use Rattle.atspi_trace.specs.Hearing.{patterns_in};
 ghost use Rattle.atspi_lawful.specs.caches.Cases.{told, renamed, described};
-ghost use Rattle.atspi_lawful.specs.missed.Laws.{IsNoSignal, TookAll, IsHeardOf, AreHeardOf};
+ghost use Rattle.atspi_lawful.specs.missed.Laws.{IsNoSignal, TookAll, IsHeardOf, AreHeardOf, TakesNothingBack};
 ghost use Rattle.atspi_lawful.specs.missed.Cases.{listening_by};
 
 /// A signal of the application between two messages is one that is missed; one of another application is not.
@@ -33,4 +35,14 @@ pub fn what_is_heard()
     ensures nobody { IsHeardOf [] (codes "object:text-changed") → ⊥ }
     ensures all_five { AreHeardOf (listening_by (patterns_in start_calls)) }
     ensures only_four { AreHeardOf (listening_by (take 4 (patterns_in start_calls))) → ⊥ }
+{}
+
+/// A reader's call is no taking back. A signal of a reader's is no call, and calls that take back a rule or a pattern are refused, where another end may make
+/// them.
+pub fn what_is_sent()
+    ensures a_call { TakesNothingBack [] (sent (Reader 0) (asking 1 Hello)) [] }
+    ensures a_signal { TakesNothingBack [] (sent (Reader 0) (caret_moved 1 2).message) [] → ⊥ }
+    ensures a_rule_back { TakesNothingBack [] (sent (Reader 0) (record (asking 1 Hello) { member = Some (codes "RemoveMatch") })) [] → ⊥ }
+    ensures a_pattern_back { TakesNothingBack [] (sent (Reader 0) (record (asking 1 Hello) { member = Some (codes "DeregisterEvent") })) [] → ⊥ }
+    ensures of_another { TakesNothingBack [] (sent (App 0) (record (asking 1 Hello) { member = Some (codes "RemoveMatch") })) [] }
 {}

@@ -1,6 +1,6 @@
 //! No signal is missed, and what a reader's patterns ask for.
 
-ghost use Rattle.atspi_lawful.specs.missed.Laws.{NoSignalIsMissed, PatternsCoverAll};
+ghost use Rattle.atspi_lawful.specs.missed.Laws.{NoSignalIsMissed, PatternsCoverAll, NothingIsTakenBack};
 
 /// Where a reader takes a message of an application that it holds, but for a return that loads it, the application sent no signal between the last
 /// message that the reader took of it and this one: of each front of a lawful trace.
@@ -12,4 +12,9 @@ pub fn no_signal_is_missed()
 /// whatever tree and under whatever name.
 pub fn patterns_cover_all()
     ensures { PatternsCoverAll }
+{}
+
+/// What a reader sends is a call, and none by which it would take back a match rule or a pattern: of each front of a lawful trace.
+pub fn nothing_is_taken_back()
+    ensures { NothingIsTakenBack }
 {}
