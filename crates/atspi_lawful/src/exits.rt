@@ -1,3 +1,4 @@
 //! What follows an end's exit, and who tells of it, along lawful traces.
 
+pub mod examples;
 pub mod laws;

@@ -55,7 +55,7 @@ put_ordered P (x ∷ xs) l other news o = ((λ from name told. by name (o.0 from
     by name (inl p) = inl p
     by name (inr a) = inr (a.0, a.1, all_append (NotFrom a.0) xs (l ∷ []) a.2 (other a.0 name a.1, tt))
 
-ordered_of : (P Q : Party → List ℕ → Type 0) (ls : List Letter) → ((who : Party) (name : List ℕ) → P who name → Q who name) → Ordered P ls → Ordered Q ls
+pub ordered_of : (P Q : Party → List ℕ → Type 0) (ls : List Letter) → ((who : Party) (name : List ℕ) → P who name → Q who name) → Ordered P ls → Ordered Q ls
 ordered_of P Q [] f o = tt
 ordered_of P Q (x ∷ xs) f o = ((λ from name told. by name (o.0 from name told)), ordered_of P Q xs f o.1)
   where

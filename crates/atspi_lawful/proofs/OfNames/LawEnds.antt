@@ -57,30 +57,30 @@ few_greeted es w i f =
     let all : length w.ends ≤ suc (app_count w.ends + reader_count w.ends) = f.2 in
     omega (arith, size, least, apps, readers, all)
 
+-- whose number a name gives
+pub number_is : (name : List ℕ) (p : Party) (v : Option (List ℕ)) (a : ℕ) → number_if name p v ≡ Some a → (p ≡ App a) × (v ≡ Some name)
+number_is name (App b) (Some other) a g = at (bytes_eq other name) refl g
+  where
+    at : (t : Bool) → bytes_eq other name ≡ t → (if t then Some b else None) ≡ Some a → (App b ≡ App a) × (Some other ≡ Some name)
+    at true s q = (ap App (same_some b a q), ap Some ((bytes_eq-Decides other name).0 s))
+    at false s q = absurd (no_none a q)
+number_is name (App b) None a g = absurd (no_none a g)
+number_is name The_bus v a g = absurd (no_none a g)
+number_is name Registry v a g = absurd (no_none a g)
+number_is name (Reader r) v a g = absurd (no_none a g)
+
 -- the application that a name tells of
 named_found : (app : ℕ) (name : List ℕ) (ends : List End) → ((k : ℕ) (e : End) (a : ℕ) → end_at ends k ≡ Some e → e.who ≡ App a → e.unique ≡ Some name → a ≡ app) → (k : ℕ) (e : End) → end_at ends k ≡ Some e → e.who ≡ App app
     → e.unique ≡ Some name → app_named name ends ≡ Some app
 named_found app name [] f k e h who u = absurd (no_none e h)
 named_found app name (x ∷ xs) f k e h who u = by (number_if name x.who x.unique) refl k h (λ j g. named_found app name xs (λ j y a. f (suc j) y a) j e g who u)
   where
-    -- the first end, where it has the name
-    is_it : (p : Party) (v : Option (List ℕ)) (a : ℕ) → number_if name p v ≡ Some a → (p ≡ App a) × (v ≡ Some name)
-    is_it (App b) (Some other) a g = at (bytes_eq other name) refl g
-      where
-        at : (t : Bool) → bytes_eq other name ≡ t → (if t then Some b else None) ≡ Some a → (App b ≡ App a) × (Some other ≡ Some name)
-        at true s q = (ap App (same_some b a q), ap Some ((bytes_eq-Decides other name).0 s))
-        at false s q = absurd (no_none a q)
-    is_it (App b) None a g = absurd (no_none a g)
-    is_it The_bus v a g = absurd (no_none a g)
-    is_it Registry v a g = absurd (no_none a g)
-    is_it (Reader r) v a g = absurd (no_none a g)
-
     has_it : (p : Party) (v : Option (List ℕ)) → p ≡ App app → v ≡ Some name → number_if name p v ≡ Some app
     has_it p v g q = ap (λ o. number_if name p o) q ∙ ap (λ o. number_if name o (Some name)) g ∙ ap (λ t. if t then Some app else None) ((bytes_eq-Decides name name).1 refl)
 
     by : (o : Option ℕ) → number_if name x.who x.unique ≡ o → (k : ℕ) → end_at (x ∷ xs) k ≡ Some e → ((j : ℕ) → end_at xs j ≡ Some e → app_named name xs ≡ Some app) → first_of (number_if name x.who x.unique) (app_named name xs) ≡ Some app
     by (Some a) g k there rest =
-        let y = is_it x.who x.unique a g in
+        let y = number_is name x.who x.unique a g in
         ap (λ o. first_of o (app_named name xs)) g ∙ ap Some (f 0 x a refl y.0 y.1)
     by None g zero there rest =
         let same : x ≡ e = same_some x e there in
