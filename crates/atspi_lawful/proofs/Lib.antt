@@ -21,5 +21,6 @@ pub mod OfSigned
 pub mod OfAnswered
 pub mod OfMissed
 pub mod OfEnds
+pub mod OfWays
 pub mod OfLaws
 pub mod OfExamples

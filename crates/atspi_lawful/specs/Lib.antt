@@ -20,5 +20,6 @@ pub mod drops
 pub mod readers
 pub mod missed
 pub mod exits
+pub mod ways
 pub mod laws
 pub mod examples

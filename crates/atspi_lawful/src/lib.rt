@@ -26,3 +26,4 @@ pub mod steps;
 pub mod taken;
 pub mod turns;
 pub mod views;
+pub mod ways;

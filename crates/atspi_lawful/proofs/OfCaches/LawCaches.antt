@@ -115,7 +115,7 @@ from_end (x ∷ xs) = by (from_end xs)
     by (inr e) = inr (record { front = x ∷ e.front; last = e.last; is = ap (λ l. x ∷ l) e.is })
 
 -- WHAT WAS TOLD OF A NEW NODE
-abbrev IsLow : ℕ → List ℕ × PartName → Type 0
+abbrev pub IsLow : ℕ → List ℕ × PartName → Type 0
 IsLow n p = (m : ℕ) × (p.0 ≡ path_of m) × (m ≤ n)
 
 unrefused : (parts : List (List ℕ × PartName)) (n k : ℕ) (part : PartName) → AllByRecursion (IsLow n) parts → k ≡ suc n → is_refused parts (path_of k) part ≡ false
@@ -288,7 +288,7 @@ module _ (T : List Entry) (name : List ℕ) (reader app : ℕ) (served : IsWholl
         by (f ∷ fs) h = behind_others f fs h
 
     -- the view behind the message
-    next_view : (parts : List (List ℕ × PartName)) → AllByRecursion (IsLow (added earlier app)) parts
+    pub next_view : (parts : List (List ℕ × PartName)) → AllByRecursion (IsLow (added earlier app)) parts
         → effect (path_of 0) name (view (told_in parts) (live_tree earlier app)) (news_of name e) ≡ view (told_in parts) (live_tree now app)
     next_view parts low = by walked
       where
@@ -324,7 +324,7 @@ module _ (T : List Entry) (name : List ℕ) (reader app : ℕ) (served : IsWholl
             is = announced_step (early ++ o.front) app name o.step o.first o.more c o.told
 
     -- as many nodes as before, or more
-    more_added : added earlier app ≤ added now app
+    pub more_added : added earlier app ≤ added now app
     more_added = by walked
       where
         same_count : (n k : ℕ) → k ≡ n → n ≤ k
@@ -418,7 +418,7 @@ module _ (T : List Entry) (name : List ℕ) (reader app : ℕ) (served : IsWholl
     pub was : message es (App app) k.last ≡ Some first
     pub low : AllByRecursion (IsLow (added (before_sent (App app) k.last es) app)) k.told
 
-  abbrev Has : List Entry → Option Kept → Followed → Type 0
+  abbrev pub Has : List Entry → Option Kept → Followed → Type 0
   Has es None f = f.view ≡ None
   Has es (Some k) f = IsHad es k f
 
@@ -490,7 +490,7 @@ module _ (T : List Entry) (name : List ℕ) (reader app : ℕ) (served : IsWholl
   part_kind part path e news h = kind_two (e.kind == 2) e.kind refl _ news h
 
   -- an empty part list tells nothing
-  low_more : (n m : ℕ) (parts : List (List ℕ × PartName)) → n ≤ m → AllByRecursion (IsLow n) parts → AllByRecursion (IsLow m) parts
+  pub low_more : (n m : ℕ) (parts : List (List ℕ × PartName)) → n ≤ m → AllByRecursion (IsLow n) parts → AllByRecursion (IsLow m) parts
   low_more n m [] h a = tt
   low_more n m (p ∷ parts) h a = ((a.0.0, a.0.1, up a.0.0 n m a.0.2 h), low_more n m parts h a.1)
     where
@@ -695,7 +695,7 @@ module _ (T : List Entry) (name : List ℕ) (reader app : ℕ) (served : IsWholl
       by false g = others es x k f (ap (λ b. if b then None else k) g) (ap (λ b. if b then unasked f.name else f) g) i
   step es behind x k f at sent_ i = others es x k f refl refl i
 
-  along : (es xs rest : List Entry) (k : Option Kept) (f : Followed) → T ≡ es ++ (xs ++ rest) → LawOfLinks T → Inv es k f → Inv (es ++ xs) (held_on es reader app k xs) (follows_on es reader app f xs)
+  pub along : (es xs rest : List Entry) (k : Option Kept) (f : Followed) → T ≡ es ++ (xs ++ rest) → LawOfLinks T → Inv es k f → Inv (es ++ xs) (held_on es reader app k xs) (follows_on es reader app f xs)
   along es [] rest k f at links i = subst (λ l. Inv l k f) (sym (append-nil es)) i
   along es (x ∷ xs) rest k f at links i =
       subst (λ l. Inv l (held_on es reader app k (x ∷ xs)) (follows_on es reader app f (x ∷ xs))) (append_assoc es (x ∷ []) xs)

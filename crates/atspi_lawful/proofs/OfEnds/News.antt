@@ -1,5 +1,5 @@
 -- Of which names the bus tells that they are nobody's: of well-known ones, and of the unique name of one that leaves.
-use Rattle.std.proofs.Common.{◌≡◌, ◌⊎◌, inl, inr, ℕ, ◌+◌, Bool, true, false, List, [], ◌∷◌, ◌++◌, map, Option, None, Some, refl, sym, ap, ◌∙◌, subst}
+use Rattle.std.proofs.Common.{◌≡◌, ◌⊎◌, inl, inr, ℕ, ◌+◌, Bool, true, false, List, [], ◌∷◌, ◌++◌, map, Option, None, Some, refl, sym, ◌∙◌, subst}
 use Rattle.std.specs.Prelude.{◌==◌, ◌&&◌, not, filter, flat_map, bytes_eq, codes, if◌then◌else◌, Result, Ok, Err}
 use Rattle.std.specs.List.{AllByRecursion, list_any}
 use Rattle.std.specs.FinMap as finmap
@@ -17,7 +17,7 @@ use Rattle.atspi_routing.specs.Members.{is_text, member_of}
 use Rattle.atspi_routing.specs.OwnMessages.{error_to, name_lost, name_acquired, owner_changed, same_owner, told_of_change, numbered}
 use Rattle.atspi_routing.specs.Answers.{Reply, returns, fails, Answer, only, answers, may_be_asked_for, first_text, second_number, requests, releases, adds_rule, removes_rule}
 use Rattle.atspi_routing.specs.Routing.{receivers, is_for_bus, expects_reply}
-use Rattle.atspi_routing.specs.Steps.{Move, says, delivers, closes, BusStep, handed, speaks, replies, answered, called, undeliverable, is_unowned, calls_after_all, is_hello, greets, no_replies, name_passes_on, names_pass_on, farewell, bus_takes, bus_leaves}
+use Rattle.atspi_routing.specs.Steps.{Move, says, delivers, closes, handed, speaks, replies, answered, called, undeliverable, is_unowned, calls_after_all, is_hello, greets, no_replies, name_passes_on, names_pass_on, farewell, bus_takes, bus_leaves}
 use Rattle.atspi_protocol.specs.following.Known.{told_end}
 use Rattle.atspi_lawful.proofs.OfOrder.Parties.{no_none, same_some, false_true, all_append}
 use Rattle.atspi_lawful.proofs.OfOrder.Each.{all_map}

@@ -1,5 +1,5 @@
 -- On each down link nothing of an end stands behind the news that its name is nobody's, whatever the bus does.
-use Rattle.std.proofs.Common.{◌≡◌, ◌⊎◌, inl, inr, ℕ, zero, suc, Bool, true, false, List, [], ◌∷◌, ◌++◌, length, Option, None, Some, refl, sym, ap, ◌∙◌, subst, cond}
+use Rattle.std.proofs.Common.{◌≡◌, ◌⊎◌, inl, inr, ℕ, zero, suc, Bool, true, false, List, [], ◌∷◌, ◌++◌, Option, None, Some, refl, sym, ap, ◌∙◌, subst, cond}
 use Rattle.std.specs.Prelude.{◌==◌, if◌then◌else◌}
 use Rattle.std.specs.List.{AllByRecursion}
 use Rattle.std.specs.FinMap as finmap
@@ -23,8 +23,8 @@ use Rattle.atspi_trace.specs.Entry.{Entry, gone}
 use Rattle.atspi_trace.specs.Rules.{rule_in}
 use Rattle.atspi_trace.specs.World.{away, Said, Letter, End}
 use Rattle.atspi_trace.specs.Ends.{end_at, with_end, put_down, rest_of, taken_up, taken_down, leaves}
-use Rattle.atspi_trace.specs.Carrying.{Carried, own_letter, letter_of, stepped, left, one_closed, settled, named, with_name, takes, takes_end}
-use Rattle.atspi_lawful.proofs.OfOrder.Parties.{no_none, same_some, false_true, all_append}
+use Rattle.atspi_trace.specs.Carrying.{Carried, own_letter, letter_of, stepped, left, one_closed, settled, named, with_name}
+use Rattle.atspi_lawful.proofs.OfOrder.Parties.{no_none, false_true, all_append}
 use Rattle.atspi_lawful.proofs.OfOrder.Frame.{Over, IsOrder, over_same, over_both, over_with, at_changed, stepped_over, left_over, settled_over}
 use Rattle.atspi_lawful.proofs.OfOrder.Each.{all_map}
 use Rattle.atspi_lawful.proofs.OfTaken.Handing.{HandsOn, stepped_put}

@@ -1,0 +1,4 @@
+//! What the messages on their way make of what a reader has, along lawful traces.
+
+pub mod examples;
+pub mod laws;
