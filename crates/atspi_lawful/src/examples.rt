@@ -5,4 +5,5 @@ pub mod alone;
 pub mod reading;
 pub mod refused;
 pub mod routing;
+pub mod runs;
 pub mod telling;

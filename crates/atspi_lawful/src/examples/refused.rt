@@ -1,12 +1,14 @@
 //! Traces of wrong bodies, each refused at the entry where it goes wrong.
 
 ghost use Rattle.std.specs.Prelude.{◌≡◌, ◌∷◌, [], false, None, Some, codes};
+ghost use Rattle.atspi_lines.specs.declared.line.Line.TheVariants as line;
 ghost use Rattle.atspi_lines.specs.declared.line.Party.TheVariants as party;
-ghost use Rattle.atspi_trace.specs.Entry.{got, spoke, showed, quiet};
+ghost use Rattle.atspi_trace.specs.Entry.{got, spoke, showed, dropped, quiet};
 ghost use Rattle.atspi_trace.specs.Hearing.{is_registered};
 ghost use Rattle.atspi_trace.specs.World.{returned};
 ghost use Rattle.atspi_trace.specs.Due.{Stands};
-ghost use Rattle.atspi_lawful.specs.examples.Cases.{untold, unasked, telling, echo_first, speaking, ending, ended, moving, half_moved, removed, left_behind, waiting, idle, race, asked_items};
+ghost use Rattle.atspi_lawful.specs.examples.Cases.{untold, unasked, telling, echo_first, speaking, ending, ended, moving, half_moved, removed, left_behind, waiting, idle, race, asked_items, scene};
+ghost use Rattle.atspi_lawful.specs.examples.Runs.{knows_none, asking_at, asks_items, loaded_race, kept_before, dropping, routed_to_none, two_up_world};
 
 /// An application tells nobody who did not ask, and its announcement stands before its echoes.
 pub fn of_applications()
@@ -31,7 +33,20 @@ pub fn of_runs()
     ensures unsettled { Stands idle quiet → ⊥ }
 {}
 
-/// The messages of one sender are taken in their order.
+/// It folds nothing in that came before the items. It asks for items only once each rule and each pattern of its start was returned, and only of an
+/// application that the registry told it of.
+pub fn of_loads()
+    ensures kept_before { Stands loaded_race (showed 0 0 (Some kept_before)) → ⊥ }
+    ensures no_rule { Stands (asking_at (knows_none 2 3) (codes ":1.0")) asks_items → ⊥ }
+    ensures no_pattern { Stands (asking_at (knows_none 6 7) (codes ":1.0")) asks_items → ⊥ }
+    ensures untold { Stands (asking_at (knows_none 0 0) (codes ":1.7")) asks_items → ⊥ }
+{}
+
+/// The messages of one sender are taken in their order, a call not ahead of a signal; a signal goes to nobody who asked for none; and who is dropped is
+/// told with the bytes of the message that was too much.
 pub fn of_the_bus()
-    ensures { Stands race (got (party.Reader 0) (party.App 0) 6) → ⊥ }
+    ensures order { Stands race (got (party.Reader 0) (party.App 0) 6) → ⊥ }
+    ensures call_first { Stands (scene two_up_world (line.Turns 1 ∷ [])) (got party.Bus (party.App 0) 8) → ⊥ }
+    ensures to_all { Stands routed_to_none (got (party.Reader 0) (party.App 0) 7) → ⊥ }
+    ensures made_up { Stands dropping (dropped (party.Reader 0) 0 201) → ⊥ }
 {}
