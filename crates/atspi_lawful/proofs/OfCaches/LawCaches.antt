@@ -62,8 +62,9 @@ use Rattle.atspi_lawful.specs.signed.Laws.{IsItsName}
 use Rattle.atspi_lawful.proofs.OfSigned.LawSigned.{signed_law}
 use Rattle.atspi_lawful.proofs.OfAnswered.LawAnswered.{items_law, parts_law}
 use Rattle.atspi_lawful.specs.missed.Laws.{IsLoad}
+use Rattle.atspi_lawful.specs.ways.Laws.{MissesNothing}
 use Rattle.atspi_lawful.proofs.OfMissed.LawMissed.{no_signal_missed}
-use Rattle.atspi_lawful.proofs.OfCaches.Served.{Tells, MissesNothing, IsWholly, wholly}
+use Rattle.atspi_lawful.proofs.OfCaches.Served.{Tells, IsWholly, wholly}
 use Rattle.atspi_lawful.proofs.OfCaches.Starts.{StartsAnew, starts_anew}
 use Rattle.atspi_lawful.proofs.OfCaches.Between.{IsStep, OfMessage, behind_first, echo_messages, signal_messages, announced_step, IsAnnounced, SameViews, AllSilent, Walked, walk, echo_lines, none_due, silent_step, OneStep}
 

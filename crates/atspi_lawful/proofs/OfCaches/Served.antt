@@ -1,26 +1,24 @@
 -- How a reader is served by an application: under which name it signs, what its returns tell, and that nothing is missed: no signal, and each step between was asked for whole.
 use Rattle.std.proofs.Common.{◌≡◌, ℕ, true, List, [], ◌∷◌, ◌++◌, Option, None, Some, refl, sym, ap, ◌∙◌, subst}
 use Rattle.std.specs.Prelude.{is_some}
-use Rattle.std.specs.List.{AllByRecursion}
 use Rattle.std.proofs.lemmas.List.{append_assoc}
 use Rattle.atspi_forest.specs.declared.step.Step.{Step}
 use Rattle.atspi_forest.specs.Forest.{Forest}
 use Rattle.atspi_forest.specs.Row.{TreeRow}
 use Rattle.atspi_lines.specs.declared.line.Party.TheVariants.{Bus as The_bus, Registry, App, Reader}
 use Rattle.atspi_message.specs.Envelope.{Envelope}
-use Rattle.atspi_protocol.specs.announcing.Announced.{announced}
 use Rattle.atspi_protocol.specs.declared.news.part.PartName.{PartName}
 use Rattle.atspi_protocol.specs.declared.following.question.Question.{Question}
 use Rattle.atspi_protocol.specs.declared.following.question.Question.TheVariants.{Hello, AddMatch, RegisterEvent, GetChildren, GetItems, GetPart}
 use Rattle.atspi_trace.specs.Entry.{Entry, changed, sent, got}
-use Rattle.atspi_lawful.specs.laws.Words.{live_tree, added, message, before_sent, as_of, heard_pairs, answers_question, Kept, held}
+use Rattle.atspi_lawful.specs.laws.Words.{added, message, before_sent, as_of, answers_question, Kept, held}
 use Rattle.atspi_lawful.specs.laws.NineLaws.{Everywhere, Follow}
 use Rattle.atspi_lawful.specs.heard.Laws.{signals_under, IsAmong}
 use Rattle.atspi_lawful.specs.signed.Laws.{IsItsName, IsSignedTruly}
 use Rattle.atspi_lawful.specs.answered.Laws.{IsItemsTold, IsPartTold}
 use Rattle.atspi_lawful.specs.caches.Laws.{TellsItems, TellsPart, AsksAll, IsServed}
-use Rattle.atspi_lawful.specs.missed.Laws.{IsNoSignal, NoSignalBetween, IsLoad, TookAll}
-use Rattle.atspi_lawful.specs.folds.Laws.{AreAllCovered}
+use Rattle.atspi_lawful.specs.missed.Laws.{NoSignalBetween, IsLoad, TookAll}
+use Rattle.atspi_lawful.specs.ways.Laws.{MissesNothing}
 use Rattle.atspi_lawful.proofs.OfNames.Places.{told_is}
 use Rattle.atspi_lawful.proofs.OfSigned.Mail.{told_more}
 use Rattle.atspi_lawful.proofs.OfTaken.Found.{found_more, found_here}
@@ -42,15 +40,6 @@ IsAnswered name reader app before (got (Reader r) (App a) serial) behind =
     r ≡ reader → a ≡ app → (e : Envelope) → message before (App app) serial ≡ Some e
     → Tells name (as_of before app serial) (added (before_sent (App app) serial before) app) (answers_question before reader (Some e)) e
 IsAnswered name reader app before entry behind = Unit {0}
-
--- NOTHING IS MISSED between the last message that the reader took of the application and the one that it takes now
-pub record MissesNothing (name : List ℕ) (before : List Entry) (app last serial : ℕ) : Type 0 where
-  pub first : Envelope
-  pub between : List Entry
-  pub stands : before_sent (App app) serial before ≡ (before_sent (App app) last before ++ sent (App app) first ∷ []) ++ between
-  pub no_signal : AllByRecursion (IsNoSignal app) between
-  pub asked : (xs ys : List Entry) (step : Step) → between ≡ xs ++ changed app step ∷ ys
-      → let early = (before_sent (App app) last before ++ sent (App app) first ∷ []) ++ xs in AreAllCovered (heard_pairs early app) (announced name (live_tree early app) step)
 
 abbrev pub MissesNone : List ℕ → ℕ → ℕ → List Entry → Entry → List Entry → Type 0
 MissesNone name reader app before (got (Reader r) (App a) serial) behind =

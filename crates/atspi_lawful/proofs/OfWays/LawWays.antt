@@ -43,6 +43,7 @@ use Rattle.atspi_lawful.proofs.OfDelivered.LawLinks.{links_hold}
 use Rattle.atspi_lawful.proofs.OfViews.LawViews.{announcements_carry}
 use Rattle.atspi_lawful.proofs.OfSigned.LawSigned.{signed_law}
 use Rattle.atspi_lawful.proofs.OfAnswered.LawAnswered.{items_law, parts_law}
+use Rattle.atspi_lawful.proofs.OfMissed.LawMissed.{no_signal_missed}
 use Rattle.atspi_lawful.proofs.OfCaches.Served.{IsSigned, IsWholly, wholly}
 use Rattle.atspi_lawful.proofs.OfCaches.Starts.{StartsAnew, starts_anew}
 use Rattle.atspi_lawful.proofs.OfCaches.Between.{all_signals, IsSignal, Walked, walk}
@@ -211,7 +212,7 @@ pub on_their_way : (lines : List Line) (trace : List Entry) → CanAllStand line
     → (v : Forest Row) → (followed name trace reader app).view ≡ Some v
     → LeadsToNow name trace app (told_in k.told) v (on_the_way (after_all (begins lines) trace).world reader app)
 on_their_way lines trace a g none name reader app its served k holds there v has =
-    led trace name reader app (wholly trace name reader app its (signed_law lines trace a g none) (items_law lines trace a g) (parts_law lines trace a g) served) (announcements_carry lines trace a g) (steps_apply lines trace a g)
+    led trace name reader app (wholly trace name reader app its (signed_law lines trace a g none) (items_law lines trace a g) (parts_law lines trace a g) (no_signal_missed lines trace a g) served) (announcements_carry lines trace a g) (steps_apply lines trace a g)
     (starts_anew lines trace a g) k (on_the_way s.world reader app) (links_hold lines trace a g) holds there (on_way name trace s.world known app reader) v has
   where
     s : Scene

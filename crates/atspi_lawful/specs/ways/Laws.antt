@@ -22,7 +22,8 @@ use Rattle.atspi_lawful.specs.order.Scripts.{CanAllStand}
 use Rattle.atspi_lawful.specs.folds.Laws.{AreAllCovered}
 use Rattle.atspi_lawful.specs.signed.Laws.{IsItsName}
 use Rattle.atspi_lawful.specs.caches.Caches.{followed}
-use Rattle.atspi_lawful.specs.caches.Laws.{IsNoSignal, MissesNothing, IsServed}
+use Rattle.atspi_lawful.specs.caches.Laws.{IsServed}
+use Rattle.atspi_lawful.specs.missed.Laws.{IsNoSignal}
 
 -- what waits on a reader's down link of an application, and what waits on the application's up link
 abbrev pub from_app : ℕ → Letter → Option Said
@@ -39,6 +40,15 @@ up_of (Some e) = e.up
 -- THE MESSAGES ON THEIR WAY, the oldest first
 abbrev pub on_the_way : World → ℕ → ℕ → List Said
 on_the_way w reader app = down_from app (end_of w.ends (Reader reader)) ++ up_of (end_of w.ends (App app))
+
+-- NOTHING IS MISSED between two messages of the application: it sent no signal there, and each step of it that stands there was asked for whole
+pub record MissesNothing (name : List ℕ) (before : List Entry) (app last serial : ℕ) : Type 0 where
+  pub first : Envelope
+  pub between : List Entry
+  pub stands : before_sent (App app) serial before ≡ (before_sent (App app) last before ++ sent (App app) first ∷ []) ++ between
+  pub no_signal : AllByRecursion (IsNoSignal app) between
+  pub asked : (xs ys : List Entry) (step : Step) → between ≡ xs ++ changed app step ∷ ys
+      → let early = (before_sent (App app) last before ++ sent (App app) first ∷ []) ++ xs in AreAllCovered (heard_pairs early app) (announced name (live_tree early app) step)
 
 -- None is missed: between the last message that the reader took and the first on its way, and between each of these and the next, the application sent
 -- no other signal, and each step of it was asked for whole; so it is behind the last of them up to now.
