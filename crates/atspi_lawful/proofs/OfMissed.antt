@@ -11,3 +11,4 @@ pub mod Consecutive
 pub mod LawMissed
 pub mod Covering
 pub mod TakenBack
+pub mod Telling

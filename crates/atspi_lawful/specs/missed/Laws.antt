@@ -1,6 +1,7 @@
 -- What readers do not miss.
-use Rattle.std.specs.Prelude.{◌≡◌, ℕ, true, false, List, [], ◌∷◌, ◌++◌, Option, Some, codes}
+use Rattle.std.specs.Prelude.{◌≡◌, ℕ, true, false, List, [], ◌∷◌, ◌++◌, Option, None, Some, codes}
 use Rattle.std.specs.List.{AllByRecursion}
+use Rattle.atspi_types.specs.Names.{is_bus_name}
 use Rattle.atspi_forest.specs.declared.step.Step.{Step}
 use Rattle.atspi_forest.specs.Forest.{Forest}
 use Rattle.atspi_forest.specs.Row.{TreeRow}
@@ -10,7 +11,10 @@ use Rattle.atspi_routing.specs.Members.{is_text}
 use Rattle.atspi_protocol.specs.declared.following.question.Question.{Question}
 use Rattle.atspi_protocol.specs.declared.following.question.Question.TheVariants.{GetItems}
 use Rattle.atspi_protocol.specs.announcing.Announced.{announced}
-use Rattle.atspi_protocol.specs.exporting.Hearing.{is_heard}
+use Rattle.atspi_protocol.specs.registering.RegistryState.{RegistryState}
+use Rattle.atspi_protocol.specs.registering.Answers.{pairs_data}
+use Rattle.atspi_protocol.specs.registering.Steps.{registry_takes}
+use Rattle.atspi_protocol.specs.exporting.Hearing.{is_heard, exchanged, heard_after, pairs_in}
 use Rattle.atspi_protocol.specs.following.ReaderState.{start_calls}
 use Rattle.atspi_trace.specs.Entry.{Entry, sent, got}
 use Rattle.atspi_trace.specs.Hearing.{patterns_in}
@@ -70,3 +74,27 @@ TakesNothingBack before entry behind = Unit {0}
 
 abbrev pub NothingIsTakenBack : Type 0
 NothingIsTakenBack = OfEachTrace (Everywhere TakesNothingBack)
+
+-- WHAT THE REGISTRY TELLS. The pairs that one has who had these, and hears so many messages
+abbrev pub hearing : List Envelope → List (List ℕ × List ℕ) → List (List ℕ × List ℕ)
+hearing [] pairs = pairs
+hearing (e ∷ es) pairs = hearing es (heard_after pairs e).heard
+
+-- listeners have bus names, and so has the sender of a message, if it names one
+abbrev pub HasBusName : List ℕ × List ℕ → Type 0
+HasBusName pair = is_bus_name pair.0 ≡ true
+
+abbrev pub AreNamed : List (List ℕ × List ℕ) → Type 0
+AreNamed pairs = AllByRecursion HasBusName pairs
+
+abbrev pub IsNamed : Option (List ℕ) → Type 0
+IsNamed None = Unit {0}
+IsNamed (Some name) = is_bus_name name ≡ true
+
+-- Whatever the registry takes: who had its pairs before, and hears what it then sends, has its pairs after, of listeners with bus names. Its list of them is read as just them, and who takes
+-- it has heard of those, whatever was heard before.
+pub record PairsAreTold : Type 0 where
+  pub news : (s : RegistryState) (e : Envelope) → AreNamed s.pairs → IsNamed e.sender → hearing (registry_takes s e).sent s.pairs ≡ (registry_takes s e).state.pairs
+  pub names : (s : RegistryState) (e : Envelope) → AreNamed s.pairs → IsNamed e.sender → AreNamed (registry_takes s e).state.pairs
+  pub list : (pairs : List (List ℕ × List ℕ)) → AreNamed pairs → pairs_in (pairs_data pairs ∷ []) ≡ Some pairs
+  pub listed : (heard pairs : List (List ℕ × List ℕ)) (p : List ℕ × List ℕ) → is_heard (exchanged heard pairs).heard p ≡ is_heard pairs p

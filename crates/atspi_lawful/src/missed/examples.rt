@@ -1,15 +1,16 @@
 //! Worked cases of what is missed, and of what is asked for.
 
-ghost use Rattle.std.specs.Prelude.{[], ◌∷◌, Some, take, codes};
+ghost use Rattle.std.specs.Prelude.{◌≡◌, [], ◌∷◌, None, Some, take, codes};
 ghost use Rattle.atspi_lines.specs.declared.line.Party.TheVariants.{App, Reader};
 ghost use Rattle.atspi_protocol.specs.announcing.Signals.{caret_moved};
 ghost use Rattle.atspi_protocol.specs.declared.following.question.Question.TheVariants.{Hello};
 ghost use Rattle.atspi_protocol.specs.following.Calls.{asking};
 ghost use Rattle.atspi_protocol.specs.following.ReaderState.{start_calls};
+ghost use Rattle.atspi_protocol.specs.registering.Told.{registered, deregistered};
 ghost use Rattle.atspi_trace.specs.Entry.{sent, got, quiet};
 ghost use Rattle.atspi_trace.specs.Hearing.{patterns_in};
 ghost use Rattle.atspi_lawful.specs.caches.Cases.{told, renamed, described};
-ghost use Rattle.atspi_lawful.specs.missed.Laws.{IsNoSignal, TookAll, IsHeardOf, AreHeardOf, TakesNothingBack};
+ghost use Rattle.atspi_lawful.specs.missed.Laws.{IsNoSignal, TookAll, IsHeardOf, AreHeardOf, TakesNothingBack, hearing, AreNamed, IsNamed};
 ghost use Rattle.atspi_lawful.specs.missed.Cases.{listening_by};
 
 /// A signal of the application between two messages is one that is missed; one of another application is not.
@@ -45,4 +46,17 @@ pub fn what_is_sent()
     ensures a_rule_back { TakesNothingBack [] (sent (Reader 0) (record (asking 1 Hello) { member = Some (codes "RemoveMatch") })) [] → ⊥ }
     ensures a_pattern_back { TakesNothingBack [] (sent (Reader 0) (record (asking 1 Hello) { member = Some (codes "DeregisterEvent") })) [] → ⊥ }
     ensures of_another { TakesNothingBack [] (sent (App 0) (record (asking 1 Hello) { member = Some (codes "RemoveMatch") })) [] }
+{}
+
+/// Who hears of a new pair has it behind the others, who hears of one that went has it no longer, and another message tells of none. A name that is none is no
+/// listener's, and a message without a sender has no such name.
+pub fn what_is_told()
+    ensures more { hearing (registered (codes ":1.9", codes "object") ∷ []) (listening_by (codes "window" ∷ [])) ≡ listening_by (codes "window" ∷ (codes "object" ∷ [])) }
+    ensures less { hearing (deregistered (codes ":1.9", codes "object") ∷ []) (listening_by (codes "window" ∷ (codes "object" ∷ []))) ≡ listening_by (codes "window" ∷ []) }
+    ensures other { hearing ((caret_moved 1 2).message ∷ []) (listening_by (codes "window" ∷ [])) ≡ listening_by (codes "window" ∷ []) }
+    ensures named { AreNamed (listening_by (codes "window" ∷ [])) }
+    ensures no_name { AreNamed (([], codes "window") ∷ []) → ⊥ }
+    ensures sent_by { IsNamed (Some (codes ":1.9")) }
+    ensures sent_by_no_name { IsNamed (Some []) → ⊥ }
+    ensures sent_by_nobody { IsNamed None }
 {}

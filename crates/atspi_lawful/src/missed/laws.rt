@@ -1,6 +1,6 @@
 //! No signal is missed, and what a reader's patterns ask for.
 
-ghost use Rattle.atspi_lawful.specs.missed.Laws.{NoSignalIsMissed, PatternsCoverAll, NothingIsTakenBack};
+ghost use Rattle.atspi_lawful.specs.missed.Laws.{NoSignalIsMissed, PatternsCoverAll, NothingIsTakenBack, PairsAreTold};
 
 /// Where a reader takes a message of an application that it holds, but for a return that loads it, the application sent no signal between the last
 /// message that the reader took of it and this one: of each front of a lawful trace.
@@ -17,4 +17,10 @@ pub fn patterns_cover_all()
 /// What a reader sends is a call, and none by which it would take back a match rule or a pattern: of each front of a lawful trace.
 pub fn nothing_is_taken_back()
     ensures { NothingIsTakenBack }
+{}
+
+/// Whoever has the registry's pairs, and hears what it sends with a message, has its pairs afterwards; its list of them is read as just them, and exchanges what
+/// was heard before for them. Names are bus names.
+pub fn pairs_are_told()
+    ensures { PairsAreTold }
 {}
