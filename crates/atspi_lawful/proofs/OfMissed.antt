@@ -12,3 +12,4 @@ pub mod LawMissed
 pub mod Covering
 pub mod TakenBack
 pub mod Telling
+pub mod Coming

@@ -23,15 +23,15 @@ use Rattle.atspi_lawful.specs.missed.Laws.{hearing, HasBusName, AreNamed, IsName
 use Rattle.atspi_lawful.proofs.OfOrder.Parties.{no_none, same_some, false_true, all_append}
 use Rattle.atspi_lawful.proofs.OfOrder.Each.{all_map}
 
-abbrev Pair : Type 0
+abbrev pub Pair : Type 0
 Pair = List ℕ × List ℕ
 
 -- PAIRS
-and_left : (a b : Bool) → (a && b) ≡ true → a ≡ true
+pub and_left : (a b : Bool) → (a && b) ≡ true → a ≡ true
 and_left true b h = refl
 and_left false b h = absurd (false_true h)
 
-and_right : (a b : Bool) → (a && b) ≡ true → b ≡ true
+pub and_right : (a b : Bool) → (a && b) ≡ true → b ≡ true
 and_right true b h = h
 and_right false b h = absurd (false_true h)
 
@@ -39,22 +39,22 @@ and_false : (a : Bool) → (a && false) ≡ false
 and_false true = refl
 and_false false = refl
 
-and_true : (a : Bool) → (a && true) ≡ a
+pub and_true : (a : Bool) → (a && true) ≡ a
 and_true true = refl
 and_true false = refl
 
-or_true : (a b : Bool) → b ≡ true → (a || b) ≡ true
+pub or_true : (a b : Bool) → b ≡ true → (a || b) ≡ true
 or_true true b h = refl
 or_true false b h = h
 
-pair_is : (p q : Pair) → is_pair p q ≡ true → p ≡ q
+pub pair_is : (p q : Pair) → is_pair p q ≡ true → p ≡ q
 pair_is p q h =
     ap₂ (λ (a b : List ℕ). (a, b)) ((bytes_eq-Decides p.0 q.0).0 (and_left (bytes_eq p.0 q.0) (bytes_eq p.1 q.1) h)) ((bytes_eq-Decides p.1 q.1).0 (and_right (bytes_eq p.0 q.0) (bytes_eq p.1 q.1) h))
 
-pair_same : (p : Pair) → is_pair p p ≡ true
+pub pair_same : (p : Pair) → is_pair p p ≡ true
 pair_same p = ap₂ (λ a b. a && b) ((bytes_eq-Decides p.0 p.0).1 refl) ((bytes_eq-Decides p.1 p.1).1 refl)
 
-pair_turned : (p q : Pair) → is_pair p q ≡ is_pair q p
+pub pair_turned : (p q : Pair) → is_pair p q ≡ is_pair q p
 pair_turned p q = by (is_pair p q) (is_pair q p) refl refl
   where
     by : (a b : Bool) → is_pair p q ≡ a → is_pair q p ≡ b → is_pair p q ≡ is_pair q p
@@ -64,7 +64,7 @@ pair_turned p q = by (is_pair p q) (is_pair q p) refl refl
     by false true h k = absurd (false_true (sym h ∙ ap (λ x. is_pair x q) (sym (pair_is q p k)) ∙ pair_same q))
 
 -- LISTS
-any_alike : (f g : Pair → Bool) (xs : List Pair) → ((q : Pair) → f q ≡ g q) → list_any f xs ≡ list_any g xs
+pub any_alike : (f g : Pair → Bool) (xs : List Pair) → ((q : Pair) → f q ≡ g q) → list_any f xs ≡ list_any g xs
 any_alike f g [] h = refl
 any_alike f g (x ∷ xs) h = ap₂ (λ a b. a || b) (h x) (any_alike f g xs h)
 
@@ -98,7 +98,7 @@ all_filter P f (x ∷ xs) a = by (f x) (all_filter P f xs a.1)
     by false i = i
 
 -- what is heard of a list of which some are left out
-heard_filter : (p : Pair) (f : Pair → Bool) (xs : List Pair) → is_heard (filter f xs) p ≡ (f p && is_heard xs p)
+pub heard_filter : (p : Pair) (f : Pair → Bool) (xs : List Pair) → is_heard (filter f xs) p ≡ (f p && is_heard xs p)
 heard_filter p f [] = sym (and_false (f p))
 heard_filter p f (x ∷ xs) = by (f x) (is_pair p x) refl refl (heard_filter p f xs)
   where
@@ -114,7 +114,7 @@ heard_filter p f (x ∷ xs) = by (f x) (is_pair p x) refl refl (heard_filter p f
         left false h ∙ i ∙ ap (λ c. c && is_heard xs p) none ∙ sym (ap (λ c. c && (is_pair p x || is_heard xs p)) none)
     by false false h k i = left false h ∙ i ∙ sym (ap (λ c. f p && (c || is_heard xs p)) k)
 
-heard_append : (p : Pair) (xs ys : List Pair) → is_heard (xs ++ ys) p ≡ (is_heard xs p || is_heard ys p)
+pub heard_append : (p : Pair) (xs ys : List Pair) → is_heard (xs ++ ys) p ≡ (is_heard xs p || is_heard ys p)
 heard_append p [] ys = refl
 heard_append p (x ∷ xs) ys = by (is_pair p x) (heard_append p xs ys)
   where

@@ -1,5 +1,5 @@
 -- What readers do not miss.
-use Rattle.std.specs.Prelude.{◌≡◌, ℕ, true, false, List, [], ◌∷◌, ◌++◌, Option, None, Some, codes}
+use Rattle.std.specs.Prelude.{◌≡◌, ◌⊎◌, encode_utf8_all, ℕ, true, false, List, [], ◌∷◌, ◌++◌, Option, None, Some, codes}
 use Rattle.std.specs.List.{AllByRecursion}
 use Rattle.atspi_types.specs.Names.{is_bus_name}
 use Rattle.atspi_forest.specs.declared.step.Step.{Step}
@@ -9,12 +9,13 @@ use Rattle.atspi_lines.specs.declared.line.Party.TheVariants.{App, Reader}
 use Rattle.atspi_message.specs.Envelope.{Envelope}
 use Rattle.atspi_routing.specs.Members.{is_text}
 use Rattle.atspi_protocol.specs.declared.following.question.Question.{Question}
-use Rattle.atspi_protocol.specs.declared.following.question.Question.TheVariants.{GetItems}
+use Rattle.atspi_protocol.specs.declared.following.question.Question.TheVariants.{RegisterEvent, GetItems}
 use Rattle.atspi_protocol.specs.announcing.Announced.{announced}
 use Rattle.atspi_protocol.specs.registering.RegistryState.{RegistryState}
 use Rattle.atspi_protocol.specs.registering.Answers.{pairs_data}
-use Rattle.atspi_protocol.specs.registering.Steps.{registry_takes}
+use Rattle.atspi_protocol.specs.registering.Steps.{name_gone, registry_takes}
 use Rattle.atspi_protocol.specs.exporting.Hearing.{is_heard, exchanged, heard_after, pairs_in}
+use Rattle.atspi_protocol.specs.following.Calls.{asking}
 use Rattle.atspi_protocol.specs.following.ReaderState.{start_calls}
 use Rattle.atspi_trace.specs.Entry.{Entry, sent, got}
 use Rattle.atspi_trace.specs.Hearing.{patterns_in}
@@ -98,3 +99,13 @@ pub record PairsAreTold : Type 0 where
   pub names : (s : RegistryState) (e : Envelope) → AreNamed s.pairs → IsNamed e.sender → AreNamed (registry_takes s e).state.pairs
   pub list : (pairs : List (List ℕ × List ℕ)) → AreNamed pairs → pairs_in (pairs_data pairs ∷ []) ≡ Some pairs
   pub listed : (heard pairs : List (List ℕ × List ℕ)) (p : List ℕ × List ℕ) → is_heard (exchanged heard pairs).heard p ≡ is_heard pairs p
+
+-- HOW PAIRS COME AND GO. What takes a pair away: a call of the listener's own, or the bus's news that its name is nobody's
+abbrev pub TakesAway : Envelope → List ℕ × List ℕ → Type 0
+TakesAway e pair = ((e.kind ≡ 1) × (e.sender ≡ Some pair.0)) ⊎ ((name : List ℕ) × (name_gone e ≡ Some name) × (pair.0 ≡ encode_utf8_all name))
+
+-- Once the registry has its name, a reader's call for a pattern enters it, under the name of its sender; and a pair that the registry has no longer was taken away.
+pub record PairsComeAndGo : Type 0 where
+  pub comes : (s : RegistryState) (own listener pattern : List ℕ) (serial : ℕ) → s.own ≡ Some own
+      → is_heard (registry_takes s (record (asking serial (RegisterEvent pattern)) { sender = Some listener })).state.pairs (listener, pattern) ≡ true
+  pub goes : (s : RegistryState) (e : Envelope) (pair : List ℕ × List ℕ) → is_heard s.pairs pair ≡ true → is_heard (registry_takes s e).state.pairs pair ≡ false → TakesAway e pair

@@ -7,10 +7,11 @@ ghost use Rattle.atspi_protocol.specs.declared.following.question.Question.TheVa
 ghost use Rattle.atspi_protocol.specs.following.Calls.{asking};
 ghost use Rattle.atspi_protocol.specs.following.ReaderState.{start_calls};
 ghost use Rattle.atspi_protocol.specs.registering.Told.{registered, deregistered};
+ghost use Rattle.atspi_protocol.specs.registering.Room.{owner_changed};
 ghost use Rattle.atspi_trace.specs.Entry.{sent, got, quiet};
 ghost use Rattle.atspi_trace.specs.Hearing.{patterns_in};
 ghost use Rattle.atspi_lawful.specs.caches.Cases.{told, renamed, described};
-ghost use Rattle.atspi_lawful.specs.missed.Laws.{IsNoSignal, TookAll, IsHeardOf, AreHeardOf, TakesNothingBack, hearing, AreNamed, IsNamed};
+ghost use Rattle.atspi_lawful.specs.missed.Laws.{IsNoSignal, TookAll, IsHeardOf, AreHeardOf, TakesNothingBack, hearing, AreNamed, IsNamed, TakesAway};
 ghost use Rattle.atspi_lawful.specs.missed.Cases.{listening_by};
 
 /// A signal of the application between two messages is one that is missed; one of another application is not.
@@ -59,4 +60,14 @@ pub fn what_is_told()
     ensures sent_by { IsNamed (Some (codes ":1.9")) }
     ensures sent_by_no_name { IsNamed (Some []) → ⊥ }
     ensures sent_by_nobody { IsNamed None }
+{}
+
+/// A call takes away pairs of its own sender, and of no other; the news that a name is nobody's takes away the pairs of that name, and of no other; and news that
+/// somebody has a name takes none away.
+pub fn what_takes_away()
+    ensures own { TakesAway (record (asking 1 Hello) { sender = Some (codes ":1.9") }) (codes ":1.9", codes "object") }
+    ensures of_another { TakesAway (record (asking 1 Hello) { sender = Some (codes ":1.8") }) (codes ":1.9", codes "object") → ⊥ }
+    ensures its_end { TakesAway (owner_changed (codes ":1.9") (codes ":1.9") []) (codes ":1.9", codes "object") }
+    ensures end_of_another { TakesAway (owner_changed (codes ":1.8") (codes ":1.8") []) (codes ":1.9", codes "object") → ⊥ }
+    ensures a_beginning { TakesAway (owner_changed (codes ":1.9") [] (codes ":1.9")) (codes ":1.9", codes "object") → ⊥ }
 {}

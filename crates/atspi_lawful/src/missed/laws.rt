@@ -1,6 +1,6 @@
 //! No signal is missed, and what a reader's patterns ask for.
 
-ghost use Rattle.atspi_lawful.specs.missed.Laws.{NoSignalIsMissed, PatternsCoverAll, NothingIsTakenBack, PairsAreTold};
+ghost use Rattle.atspi_lawful.specs.missed.Laws.{NoSignalIsMissed, PatternsCoverAll, NothingIsTakenBack, PairsAreTold, PairsComeAndGo};
 
 /// Where a reader takes a message of an application that it holds, but for a return that loads it, the application sent no signal between the last
 /// message that the reader took of it and this one: of each front of a lawful trace.
@@ -23,4 +23,10 @@ pub fn nothing_is_taken_back()
 /// was heard before for them. Names are bus names.
 pub fn pairs_are_told()
     ensures { PairsAreTold }
+{}
+
+/// Once the registry has its name, a reader's call for a pattern enters it under the name of the call's sender. A pair goes from the registry only with a call of
+/// its listener's own, or with the bus's news that its listener's name is nobody's.
+pub fn pairs_come_and_go()
+    ensures { PairsComeAndGo }
 {}
