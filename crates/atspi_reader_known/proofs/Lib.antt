@@ -15,3 +15,6 @@ pub mod Found
 pub mod Placed
 pub mod Refusals
 pub mod Settled
+pub mod Listed
+pub mod Quiet
+pub mod Following

@@ -23,7 +23,7 @@ use Rattle.atspi_reader_known.proofs.Firsts.{first-append}
 use Rattle.atspi_reader_known.proofs.Rows.{first_held, labels-relabel}
 use Rattle.atspi_reader_known.proofs.Tells.{IsPart}
 
-or_false : (b : Bool) → (b || false) ≡ b
+pub or_false : (b : Bool) → (b || false) ≡ b
 or_false true = refl
 or_false false = refl
 
@@ -31,11 +31,11 @@ or_true : (b : Bool) → (b || true) ≡ true
 or_true true = refl
 or_true false = refl
 
-and_false : (b : Bool) → (b && false) ≡ false
+pub and_false : (b : Bool) → (b && false) ≡ false
 and_false true = refl
 and_false false = refl
 
-same_way : (a b : List ℕ) → bytes_eq b a ≡ bytes_eq a b
+pub same_way : (a b : List ℕ) → bytes_eq b a ≡ bytes_eq a b
 same_way a b = by (bytes_eq a b) refl (bytes_eq b a) refl
   where
     by : (s : Bool) → bytes_eq a b ≡ s → (t : Bool) → bytes_eq b a ≡ t → t ≡ s

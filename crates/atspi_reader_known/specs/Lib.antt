@@ -5,4 +5,4 @@ pub mod Unique
 pub mod Planned
 pub mod Places
 pub mod Refusals
-pub mod Settled
+pub mod Listed

@@ -1,8 +1,8 @@
 //! An application that a reader knows.
 
-ghost use Rattle.std.specs.Prelude.{◌≡◌, ℕ, List, [], ◌++◌, true, ◌||◌, false, bytes_eq, IfOk, OnOk, OnErr, None, Some, map};
+ghost use Rattle.std.specs.Prelude.{◌≡◌, [], ◌++◌, ◌||◌, ◌&&◌, false, bytes_eq, IfOk, OnOk, OnErr, None, Some};
 ghost use Rattle.std.specs.Option.{option_map};
-ghost use Rattle.atspi_arena.specs.Sights.{Sight, sights};
+ghost use Rattle.atspi_arena.specs.Sights.{sights};
 ghost use Rattle.atspi_forest.specs.Forest.{Forest, find, has};
 ghost use Rattle.atspi_forest.specs.News.{is_path, load};
 ghost use Rattle.atspi_forest.specs.declared.news.News.TheVariants.{ChildAdded, Item as NewItem};
@@ -12,13 +12,15 @@ ghost use Rattle.atspi_protocol.specs.following.ReaderState.{Followed, is_named}
 ghost use Rattle.atspi_protocol.specs.following.Wishes.{wishes_of};
 ghost use Rattle.atspi_protocol.specs.following.Replied as replied;
 ghost use Rattle.atspi_protocol.specs.following.Takes as takes;
-ghost use Rattle.atspi_reader_known.specs.Kept.{kept, rows_of, lines_in, closing_in};
-ghost use Rattle.atspi_reader_known.specs.Wanted as wanted;
+ghost use Rattle.atspi_reader_known.specs.Kept.{kept, lines_in, closing_in};
+ghost use Rattle.atspi_reader_known.specs.Listed.{fresh_wants};
 ghost use Rattle.atspi_reader_known.specs.Wanted.{first, lent, part_question, refusing, wish_at};
 
 use crate::fresh::fresh_part;
+use crate::listing::{follows, item_wants, put_fresh, relist, tells_first};
 use crate::refused::Refused;
 use crate::unknown::first_wanted;
+use crate::wants::Wants;
 use atspi_base::{NoMemory, Text, Texts};
 use atspi_cache::{Cache, Rows, closing, lines};
 use atspi_forest::{Item, Items, News};
@@ -29,12 +31,12 @@ use std::alloc::Global;
 use std::marker::Model;
 
 /// The number of an application in its own cache.
-const HERE: u32 = 0;
+pub(crate) const HERE: u32 = 0;
 
 /// An application that a reader knows: its bus name and the path of its root, its view where it is held, whether all of it is to be asked for
 /// again, the serial of the last message taken from it, and the parts that it would not tell. Each has a cache of its own, so that nothing
-/// that is done to one touches another. Beside that it keeps whether it was seen that nothing is wanted of it, so that its rows are not walked again for
-/// what others are asked.
+/// that is done to one touches another. Beside that it keeps what is wanted of it as a list, which follows news and replies where it can, so that the first
+/// wish is found without a walk over the rows; where it cannot, the next reply lists it anew.
 #[derive(Drop)]
 pub struct App {
     alloc: Global,
@@ -44,7 +46,8 @@ pub struct App {
     reload: bool,
     last: u32,
     refused: Refused,
-    settled: bool,
+    listed: bool,
+    wants: Wants,
 }
 
 impl Model for App {
@@ -52,7 +55,7 @@ impl Model for App {
     ghost use Rattle.atspi_protocol.specs.following.ReaderState.{Followed};
     ghost use Rattle.atspi_reader_known.specs.FollowedCode.{followed_code};
     ghost use Rattle.atspi_reader_known.specs.Kept.{kept, rows_of, IsKept};
-    ghost use Rattle.atspi_reader_known.specs.Settled.{IsSoSettled};
+    ghost use Rattle.atspi_reader_known.specs.Listed.{IsOnce, IsSoListed};
 
     ghost Value = { Followed };
 
@@ -60,7 +63,7 @@ impl Model for App {
 
     ghost view = { λ a. record { name = a.name; root = a.root; view = rows_of (kept a.cache); reload = a.reload; last = a.last; refused = a.refused } };
 
-    ghost invariant = { λ a. IsKept a.name a.root (kept a.cache) × IsSoSettled a.settled (record { name = a.name; root = a.root; view = rows_of (kept a.cache); reload = a.reload; last = a.last; refused = a.refused }) };
+    ghost invariant = { λ a. IsKept a.name a.root (kept a.cache) × IsOnce (kept a.cache) × IsSoListed a.listed a.wants (record { name = a.name; root = a.root; view = rows_of (kept a.cache); reload = a.reload; last = a.last; refused = a.refused }) };
 }
 
 /// Whether a text has the characters of a bus name.
@@ -75,6 +78,13 @@ fn is_either(one: bool, other: bool) -> bool
     ensures { result ≡ (one || other) }
 {
     one || other
+}
+
+/// Whether both are so.
+fn both(one: bool, other: bool) -> bool
+    ensures { result ≡ (one && other) }
+{
+    one && other
 }
 
 /// A cache with the view of these items. What a bus name spells is the name itself.
@@ -94,41 +104,6 @@ fn is_same_path(one: &Path, other: &Path) -> bool
     one.is(other)
 }
 
-/// Whether no row has an unknown part that was not refused.
-fn has_no_wanted(alloc: Global, rows: Rows, refused: &Refused) -> bool
-    ensures { result ≡ true → wanted.first_wanted refused.now (map (λ (s : Sight). s.row) rows.entry) ≡ None }
-{
-    match first_wanted(rows, refused, &Refused::new(alloc)) {
-        Some(_) => false,
-        None => true,
-    }
-}
-
-/// Whether nothing is wanted of an application with this view. It walks over the rows up to the first that has an unknown part.
-fn wants_nothing(alloc: Global, cache: &Cache, reload: bool, refused: &Refused) -> bool
-    ensures { result ≡ true → (name root : List ℕ) (last : ℕ) → wishes_of (record { name = name; root = root; view = rows_of (kept cache.now); reload = reload; last = last; refused = refused.now }) ≡ [] }
-{
-    if reload {
-        return false;
-    }
-    match cache.rows(HERE) {
-        Some(rows) => has_no_wanted(alloc, rows, refused),
-        None => false,
-    }
-}
-
-/// Whether nothing was wanted, and nothing is after a news, whatever the view is.
-fn adds_no_wish(settled: bool, news: &News) -> bool
-    ensures was { result ≡ true → settled ≡ true }
-    ensures no_wish { result ≡ true → (app : Followed) (view : Forest Row) → wish_at app view news.now ≡ None }
-{
-    match news {
-        News::Item(_) => false,
-        News::ChildAdded(_) => false,
-        _ => settled,
-    }
-}
-
 impl App {
     /// An application of which nothing was asked yet.
     pub fn new(alloc: Global, name: BusName, root: Path) -> App
@@ -142,7 +117,8 @@ impl App {
             reload: false,
             last: 0,
             refused: Refused::new(alloc),
-            settled: false,
+            listed: false,
+            wants: Wants::new(alloc),
         }
     }
 
@@ -200,7 +176,8 @@ impl App {
         let root = self.root.copy(alloc)?;
         let cache = told(alloc, &self.name, &self.root, items)?;
         let refused = Refused::new(alloc);
-        let settled = wants_nothing(alloc, &cache, false, &refused);
+        let mut wants = Wants::new(alloc);
+        let listed = relist(alloc, &cache, false, &refused, &mut wants);
         Ok(App {
             alloc,
             name,
@@ -209,7 +186,8 @@ impl App {
             reload: false,
             last: self.last,
             refused,
-            settled,
+            listed,
+            wants,
         })
     }
 
@@ -221,10 +199,11 @@ impl App {
         if !self.cache.is_held(HERE) {
             return Ok(());
         }
-        let stays = adds_no_wish(self.settled, &news);
+        let stays = both(self.listed, follows(&self.cache, &self.wants, &news));
+        let fresh = self.fresh_wants(&news);
         let marks = self.cache.fold(HERE, news)?;
         self.reload = is_either(self.reload, marks);
-        self.settled = stays;
+        self.listed = both(stays, put_fresh(&mut self.wants, fresh));
         Ok(())
     }
 
@@ -236,8 +215,19 @@ impl App {
         if !self.cache.is_held(HERE) {
             return Ok(());
         }
+        let first = both(self.listed, tells_first(&self.wants, &news));
         self.cache.fold(HERE, news)?;
-        self.settled = wants_nothing(self.alloc, &self.cache, self.reload, &self.refused);
+        if first {
+            self.wants.take_first();
+            return Ok(());
+        }
+        self.listed = relist(
+            self.alloc,
+            &self.cache,
+            self.reload,
+            &self.refused,
+            &mut self.wants,
+        );
         Ok(())
     }
 
@@ -246,8 +236,19 @@ impl App {
         ensures ok { OnOk result (self.new ≡ replied.refused_part path part self.old) }
         ensures err { OnErr result (self.new ≡ self.old) }
     {
+        let first = both(self.listed, self.wants.begins_with(&path, part));
         self.refused.push(path, part)?;
-        self.settled = wants_nothing(self.alloc, &self.cache, self.reload, &self.refused);
+        if first {
+            self.wants.take_first();
+            return Ok(());
+        }
+        self.listed = relist(
+            self.alloc,
+            &self.cache,
+            self.reload,
+            &self.refused,
+            &mut self.wants,
+        );
         Ok(())
     }
 
@@ -273,20 +274,21 @@ impl App {
         out.push(closing(&self.cache, HERE)?)
     }
 
-    /// What is wanted of it first. It walks over no row where nothing is wanted and that was seen.
+    /// What is wanted of it first.
     pub(crate) fn wish_now(&self, alloc: Global) -> Result<Option<Question>, NoMemory>
         ensures { IfOk result (λ wish. wish ≡ first (wishes_of self.now)) }
     {
-        if self.settled {
-            return Ok(None);
-        }
         self.wish(alloc, &Refused::new(alloc))
     }
 
-    /// What is wanted of it first, if these parts too were refused. It walks over the rows up to the first that has an unknown part.
+    /// What is wanted of it first, if these parts too were refused. It walks over the rows, up to the first that has such a part, only where what is
+    /// wanted could not be listed.
     pub(crate) fn wish(&self, alloc: Global, more: &Refused) -> Result<Option<Question>, NoMemory>
         ensures { IfOk result (λ wish. wish ≡ first (wishes_of (refusing more.now self.now))) }
     {
+        if self.listed {
+            return self.part_wish(alloc, self.wants.first_left(more));
+        }
         if self.reload {
             return Ok(Some(Question::GetItems(self.name.copy(alloc)?)));
         }
@@ -353,6 +355,26 @@ impl App {
             return false;
         }
         self.cache.find(HERE, &item.parent.path).is_some()
+    }
+
+    /// The parts of the node that a news adds to its view.
+    fn fresh_wants(&self, news: &News) -> Result<Wants, NoMemory>
+        ensures { (view : Forest Row) → self.now.view ≡ Some view → IfOk result (λ wants. wants ≡ fresh_wants self.now view news.now) }
+    {
+        match news {
+            News::Item(item) => self.added_wants(item),
+            _ => Ok(Wants::new(self.alloc)),
+        }
+    }
+
+    /// Those of the node of an item, where the item adds one.
+    fn added_wants(&self, item: &Item) -> Result<Wants, NoMemory>
+        ensures { (view : Forest Row) → self.now.view ≡ Some view → IfOk result (λ wants. wants ≡ fresh_wants self.now view (NewItem item.now)) }
+    {
+        if !self.adds(item) {
+            return Ok(Wants::new(self.alloc));
+        }
+        item_wants(self.alloc, &self.refused, item)
     }
 
     /// What an item makes wanted.

@@ -19,7 +19,7 @@ fn is_word(text: &Text, word: &str) -> bool
 }
 
 /// Whether a list of interfaces has this one.
-fn offers(word: &str, interfaces: &[Text]) -> bool
+pub(crate) fn offers(word: &str, interfaces: &[Text]) -> bool
     requires plain { is_plain word.now ≡ true }
     ensures { result ≡ news.offers word.now interfaces.now }
 {

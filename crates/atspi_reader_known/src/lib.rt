@@ -5,10 +5,12 @@ mod app;
 mod apps;
 mod fresh;
 pub mod laws;
+mod listing;
 mod places;
 mod plan;
 mod refused;
 mod unknown;
+mod wants;
 
 pub use app::App;
 pub use apps::Apps;

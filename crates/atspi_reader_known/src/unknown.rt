@@ -14,7 +14,7 @@ use atspi_protocol::news::PartName;
 use atspi_types::Path;
 
 /// Whether a text is there and not known.
-fn is_unknown_text(part: &Part) -> bool
+pub(crate) fn is_unknown_text(part: &Part) -> bool
     ensures { result ≡ text_is_unknown part.now }
 {
     match part {
@@ -24,7 +24,7 @@ fn is_unknown_text(part: &Part) -> bool
 }
 
 /// Whether a number is there and not known.
-fn is_unknown_number(part: NumPart) -> bool
+pub(crate) fn is_unknown_number(part: NumPart) -> bool
     ensures { result ≡ number_is_unknown part }
 {
     match part {

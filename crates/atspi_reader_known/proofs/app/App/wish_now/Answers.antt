@@ -1,4 +1,4 @@
-use Rattle.std.proofs.Common.{List, ℕ, ap, sym, ◌∙◌}
+use Rattle.std.proofs.Common.{List, ℕ, ap, ◌∙◌}
 use Rattle.std.proofs.lemmas.Result.{IfOk-weaker}
 use Rattle.atspi_protocol.specs.declared.news.part.PartName.{PartName}
 use Rattle.atspi_protocol.specs.following.ReaderState.{Followed}
@@ -6,9 +6,6 @@ use Rattle.atspi_protocol.specs.following.Wishes.{wishes_of}
 use Rattle.atspi_reader_known.specs.Wanted.{first, refusing}
 use Rattle.atspi_reader_known.proofs.Plans.{refusing_none}
 use Rattle.atspi_reader_known.proofs.app.App.wish_now.Goals as goal
-
-pub returns-then-self : goal.returns-then-self
-returns-then-self c = sym (ap (λ (a : Followed). first (wishes_of a)) (sym c.self.view_is) ∙ ap first (c.self.invariant.1 c.if-self.true))
 
 pub returns : goal.returns
 returns c =
