@@ -1,20 +1,14 @@
 //! What a registry takes, and what it queues then.
 
-use crate::message::bytes_of;
 use atspi_base::Bytes;
-use atspi_header::MessageRef;
-use atspi_message::total;
+use atspi_message_words::{bytes_of, lent};
 use atspi_owned_text::message_text;
 use atspi_registry::Registry;
 use std::alloc::Global;
 
 /// The registry takes the message that the bytes are.
 fn take(registry: &mut Registry, bytes: &[u8]) -> Option<()> {
-    let length = total(bytes.first_chunk::<16>()?).ok()?;
-    if length as usize != bytes.len() {
-        return None;
-    }
-    let message = MessageRef::parse(bytes).ok()?;
+    let message = lent(bytes)?;
     registry.take(&message).ok()
 }
 

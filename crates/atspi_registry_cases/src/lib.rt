@@ -3,8 +3,5 @@
 #![tactic(auto)]
 
 mod conversation;
-mod draft;
-mod message;
 
 pub use conversation::{named, played, played_named, said};
-pub use message::bytes_of;

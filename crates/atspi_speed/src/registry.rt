@@ -3,8 +3,9 @@
 //! application leave. Only what the registry does is timed, with the reading of its message, and not how the message is made.
 
 use anyhow::{Result, bail};
+use atspi_message_words::bytes_of;
 use atspi_registry::Registry;
-use atspi_registry_cases::{bytes_of, named, said};
+use atspi_registry_cases::{named, said};
 use std::time::Instant;
 
 /// How many pairs, listeners and roots there are.
