@@ -13,3 +13,4 @@ pub mod Covering
 pub mod TakenBack
 pub mod Telling
 pub mod Coming
+pub mod Listening

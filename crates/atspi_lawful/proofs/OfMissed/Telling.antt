@@ -360,7 +360,7 @@ firsts_heard p (q ∷ qs) = by (is_pair p q) refl (heard_filter p (λ x. not (is
     by false h k i =
         ap (λ c. c || is_heard (filter (λ x. not (is_pair q x)) (firsts qs)) p) h ∙ k ∙ ap (λ c. not c && is_heard (firsts qs) p) (pair_turned q p ∙ h) ∙ i ∙ sym (ap (λ c. c || is_heard qs p) h)
 
-exchanged_heard : (heard listed : List Pair) (p : Pair) → is_heard (exchanged heard listed).heard p ≡ is_heard listed p
+pub exchanged_heard : (heard listed : List Pair) (p : Pair) → is_heard (exchanged heard listed).heard p ≡ is_heard listed p
 exchanged_heard heard listed p =
     heard_append p (filter (is_heard listed) heard) (filter (λ q. not (is_heard heard q)) (firsts listed))
     ∙ ap₂ (λ a b. a || b) (heard_filter p (is_heard listed) heard) (heard_filter p (λ q. not (is_heard heard q)) (firsts listed) ∙ ap (λ c. not (is_heard heard p) && c) (firsts_heard p listed))

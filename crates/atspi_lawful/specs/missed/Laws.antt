@@ -1,5 +1,5 @@
 -- What readers do not miss.
-use Rattle.std.specs.Prelude.{◌≡◌, ◌⊎◌, encode_utf8_all, ℕ, true, false, List, [], ◌∷◌, ◌++◌, Option, None, Some, codes}
+use Rattle.std.specs.Prelude.{◌≡◌, ◌==◌, if◌then◌else◌, ◌⊎◌, encode_utf8_all, ℕ, true, false, List, [], ◌∷◌, ◌++◌, Option, None, Some, codes}
 use Rattle.std.specs.List.{AllByRecursion}
 use Rattle.atspi_types.specs.Names.{is_bus_name}
 use Rattle.atspi_forest.specs.declared.step.Step.{Step}
@@ -14,6 +14,8 @@ use Rattle.atspi_protocol.specs.announcing.Announced.{announced}
 use Rattle.atspi_protocol.specs.registering.RegistryState.{RegistryState}
 use Rattle.atspi_protocol.specs.registering.Answers.{pairs_data}
 use Rattle.atspi_protocol.specs.registering.Steps.{name_gone, registry_takes}
+use Rattle.atspi_protocol.specs.exporting.Exporter.{Phase, awaits, over, embed, get_registered_events, Exporter}
+use Rattle.atspi_protocol.specs.exporting.Taking.{app_takes}
 use Rattle.atspi_protocol.specs.exporting.Hearing.{is_heard, exchanged, heard_after, pairs_in}
 use Rattle.atspi_protocol.specs.following.Calls.{asking}
 use Rattle.atspi_protocol.specs.following.ReaderState.{start_calls}
@@ -109,3 +111,19 @@ pub record PairsComeAndGo : Type 0 where
   pub comes : (s : RegistryState) (own listener pattern : List ℕ) (serial : ℕ) → s.own ≡ Some own
       → is_heard (registry_takes s (record (asking serial (RegisterEvent pattern)) { sender = Some listener })).state.pairs (listener, pattern) ≡ true
   pub goes : (s : RegistryState) (e : Envelope) (pair : List ℕ × List ℕ) → is_heard s.pairs pair ≡ true → is_heard (registry_takes s e).state.pairs pair ≡ false → TakesAway e pair
+
+-- HOW APPLICATIONS LISTEN. Its start is past the list of listeners, which it asks for once
+abbrev pub IsPastList : Phase → Type 0
+IsPastList over = Unit {0}
+IsPastList (awaits embed serial) = Unit {0}
+IsPastList phase = ⊥
+
+-- what a message makes of the pairs, where it is no list
+abbrev pub heard_on : List (List ℕ × List ℕ) → Envelope → List (List ℕ × List ℕ)
+heard_on heard e = if e.kind == 4 then (heard_after heard e).heard else heard
+
+-- An application that takes the list has heard of just its pairs; from there on it hears the signals that it takes, and no other message changes what it has heard.
+pub record ApplicationsListen : Type 0 where
+  pub lists : (s : Exporter) (e : Envelope) (serial : ℕ) (pairs : List (List ℕ × List ℕ)) → s.phase ≡ awaits get_registered_events serial → e.kind ≡ 2 → e.reply ≡ Some serial → pairs_in e.body ≡ Some pairs
+      → IsPastList (app_takes s e).phase × ((p : List ℕ × List ℕ) → is_heard (app_takes s e).heard p ≡ is_heard pairs p)
+  pub signals : (s : Exporter) (e : Envelope) (name : List ℕ) → s.name ≡ Some name → IsPastList s.phase → IsPastList (app_takes s e).phase × ((app_takes s e).heard ≡ heard_on s.heard e)

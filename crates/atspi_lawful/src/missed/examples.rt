@@ -1,4 +1,4 @@
-//! Worked cases of what is missed, and of what is asked for.
+//! Worked cases of what is missed, of what is asked for, and of what the registry tells.
 
 ghost use Rattle.std.specs.Prelude.{◌≡◌, [], ◌∷◌, None, Some, take, codes};
 ghost use Rattle.atspi_lines.specs.declared.line.Party.TheVariants.{App, Reader};
@@ -6,12 +6,13 @@ ghost use Rattle.atspi_protocol.specs.announcing.Signals.{caret_moved};
 ghost use Rattle.atspi_protocol.specs.declared.following.question.Question.TheVariants.{Hello};
 ghost use Rattle.atspi_protocol.specs.following.Calls.{asking};
 ghost use Rattle.atspi_protocol.specs.following.ReaderState.{start_calls};
+ghost use Rattle.atspi_protocol.specs.exporting.Exporter.{new, awaits, over, hello, add_match, get_registered_events, embed};
 ghost use Rattle.atspi_protocol.specs.registering.Told.{registered, deregistered};
 ghost use Rattle.atspi_protocol.specs.registering.Room.{owner_changed};
 ghost use Rattle.atspi_trace.specs.Entry.{sent, got, quiet};
 ghost use Rattle.atspi_trace.specs.Hearing.{patterns_in};
 ghost use Rattle.atspi_lawful.specs.caches.Cases.{told, renamed, described};
-ghost use Rattle.atspi_lawful.specs.missed.Laws.{IsNoSignal, TookAll, IsHeardOf, AreHeardOf, TakesNothingBack, hearing, AreNamed, IsNamed, TakesAway};
+ghost use Rattle.atspi_lawful.specs.missed.Laws.{IsNoSignal, TookAll, IsHeardOf, AreHeardOf, TakesNothingBack, hearing, AreNamed, IsNamed, TakesAway, IsPastList, heard_on};
 ghost use Rattle.atspi_lawful.specs.missed.Cases.{listening_by};
 
 /// A signal of the application between two messages is one that is missed; one of another application is not.
@@ -70,4 +71,17 @@ pub fn what_takes_away()
     ensures its_end { TakesAway (owner_changed (codes ":1.9") (codes ":1.9") []) (codes ":1.9", codes "object") }
     ensures end_of_another { TakesAway (owner_changed (codes ":1.8") (codes ":1.8") []) (codes ":1.9", codes "object") → ⊥ }
     ensures a_beginning { TakesAway (owner_changed (codes ":1.9") [] (codes ":1.9")) (codes ":1.9", codes "object") → ⊥ }
+{}
+
+/// An application's start is past the list where it waits for its place among the registry's children, and where it is over; not before. A signal of the registry's
+/// is heard from there on, and the same message as a return is not.
+pub fn what_is_past()
+    ensures over_ { IsPastList over }
+    ensures embeds { IsPastList (awaits embed 4) }
+    ensures lists { IsPastList (awaits get_registered_events 3) → ⊥ }
+    ensures matches { IsPastList (awaits add_match 2) → ⊥ }
+    ensures greets { IsPastList (awaits hello 1) → ⊥ }
+    ensures begins { IsPastList new → ⊥ }
+    ensures a_signal { heard_on [] (registered (codes ":1.9", codes "object")) ≡ listening_by (codes "object" ∷ []) }
+    ensures a_return { heard_on [] (record (registered (codes ":1.9", codes "object")) { kind = 2 }) ≡ [] }
 {}

@@ -1,6 +1,6 @@
-//! No signal is missed, and what a reader's patterns ask for.
+//! No signal is missed; what a reader's patterns ask for, and how applications hear of them.
 
-ghost use Rattle.atspi_lawful.specs.missed.Laws.{NoSignalIsMissed, PatternsCoverAll, NothingIsTakenBack, PairsAreTold, PairsComeAndGo};
+ghost use Rattle.atspi_lawful.specs.missed.Laws.{NoSignalIsMissed, PatternsCoverAll, NothingIsTakenBack, PairsAreTold, PairsComeAndGo, ApplicationsListen};
 
 /// Where a reader takes a message of an application that it holds, but for a return that loads it, the application sent no signal between the last
 /// message that the reader took of it and this one: of each front of a lawful trace.
@@ -29,4 +29,10 @@ pub fn pairs_are_told()
 /// its listener's own, or with the bus's news that its listener's name is nobody's.
 pub fn pairs_come_and_go()
     ensures { PairsComeAndGo }
+{}
+
+/// An application that takes the registry's list has heard of just its pairs; from there on it hears the signals that it takes, and no other message changes what
+/// it has heard, since it asks for no other list.
+pub fn applications_listen()
+    ensures { ApplicationsListen }
 {}
