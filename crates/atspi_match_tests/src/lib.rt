@@ -2,6 +2,12 @@
 #![tactic(auto)]
 
 #[cfg(test)]
+mod drawn;
+#[cfg(test)]
+mod made;
+#[cfg(test)]
 mod rule_texts;
 #[cfg(test)]
 mod rules;
+#[cfg(test)]
+mod spelled;
