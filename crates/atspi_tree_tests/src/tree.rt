@@ -246,7 +246,7 @@ fn is_begun(tree: &Tree, node: u32) -> bool {
 fn is_row(tree: &Tree, row: &str) -> Option<bool> {
     let (node, words) = row.split_once(": ")?;
     let node = node.parse::<u32>().ok()?;
-    if !is_begun(tree, node) {
+    if !tree.has(node) || !is_begun(tree, node) {
         return None;
     }
     let mut words = words.split(' ');
