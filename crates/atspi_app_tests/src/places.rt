@@ -1,0 +1,55 @@
+//! Paths, interfaces and members that are not there.
+
+use crate::tables::answers;
+
+/// Paths that nearly name a node; nodes that were removed; interfaces that a node lacks; members of another interface.
+const PLACES: &str = "\
+9 Accessible GetRole -> !UnknownObject
+0 Accessible GetRole -> !UnknownObject
+01 Accessible GetRole -> !UnknownObject
+4294967296 Accessible GetRole -> !UnknownObject
+4294967297 Accessible GetRole -> !UnknownObject
+18446744073709551617 Accessible GetRole -> !UnknownObject
+1/1 Accessible GetRole -> !UnknownObject
+1a Accessible GetRole -> !UnknownObject
+/ Accessible GetRole -> !UnknownObject
+/org/a11y/atspi/accessible Accessible GetRole -> !UnknownObject
+/org/a11y/atspi/accessible/Root Accessible GetRole -> !UnknownObject
+/org/a11y/atspi/null Accessible GetRole -> !UnknownObject
+registry Accessible GetRole -> !UnknownObject
+9 Peer Ping -> !UnknownObject
+9 i.f M u=1 -> !UnknownObject
+cache Accessible GetRole -> !UnknownInterface
+root Cache GetItems -> !UnknownInterface
+1 Cache GetItems -> !UnknownInterface
+1 Application GetLocale u=0 -> !UnknownInterface
+root Socket Embed (so)=:1.6@/d -> !UnknownInterface
+root Registry RegisterEvent s=window -> !UnknownInterface
+1 Table GetIndexAt i=0 i=0 -> !UnknownInterface
+2 Text GetText i=0 i=-1 -> !UnknownInterface
+3 Selection SelectAll -> !UnknownInterface
+4 Action DoAction i=0 -> !UnknownInterface
+1 org.a11y.atspi.text GetText i=0 i=-1 -> !UnknownInterface
+1 Accessible GetText i=0 i=-1 -> !UnknownMethod
+1 Text getText i=0 i=-1 -> !UnknownMethod
+1 - GetIndexAt i=0 i=0 -> !UnknownMethod
+1 - Frob -> !UnknownMethod
+cache - GetRole -> !UnknownMethod
+cache Cache GetItem -> !UnknownMethod
+edit a0 remove 2 -> remove 2
+2 Accessible GetRole -> !UnknownObject
+7 Accessible GetRole -> !UnknownObject
+3 Accessible GetRole -> u [43]
+edit a0 insert 0 1 label \"N\" -> add 9 0 1 label \"N\"
+9 Accessible GetIndexInParent -> i [1]
+3 Accessible GetIndexInParent -> i [2]
+edit a0 move 9 3 0 -> move 9 3 0
+9 Properties Get s=org.a11y.atspi.Accessible s=Parent -> v [<(so) (\":1.5\" \"/org/a11y/atspi/accessible/3\")>]
+edit a0 move 9 3 0 -> -
+";
+
+/// The first error of each call.
+#[test]
+fn others_are_refused(rt: HostRuntime) {
+    assert!(rt; answers(&rt, PLACES));
+}
