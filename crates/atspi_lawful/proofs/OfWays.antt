@@ -1,1 +1,3 @@
 pub mod LawWays
+pub mod There
+pub mod LawThere

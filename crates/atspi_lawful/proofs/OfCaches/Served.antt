@@ -2,7 +2,6 @@
 use Rattle.std.proofs.Common.{◌≡◌, ℕ, true, List, [], ◌∷◌, ◌++◌, Option, None, Some, refl, sym, ap, ◌∙◌, subst}
 use Rattle.std.specs.Prelude.{is_some}
 use Rattle.std.proofs.lemmas.List.{append_assoc}
-use Rattle.atspi_forest.specs.declared.step.Step.{Step}
 use Rattle.atspi_forest.specs.Forest.{Forest}
 use Rattle.atspi_forest.specs.Row.{TreeRow}
 use Rattle.atspi_lines.specs.declared.line.Party.TheVariants.{Bus as The_bus, Registry, App, Reader}
@@ -55,6 +54,14 @@ pub record IsWholly (trace : List Entry) (name : List ℕ) (reader app : ℕ) : 
 front_name : (before rest : List Entry) (app : ℕ) (name : List ℕ) → IsItsName (before ++ rest) app name → IsItsName before app name
 front_name before rest app name its own h = its own (told_is (before ++ rest) (App app) ∙ told_more before rest (App app) own (sym (told_is before (App app)) ∙ h))
 
+-- a message with its serial stands in the front that it ends
+pub found_last : (app : ℕ) (early xs : List Entry) (e : Envelope) → is_some (message ((early ++ sent (App app) e ∷ []) ++ xs) (App app) e.serial) ≡ true
+found_last app early xs e = by (message early (App app) e.serial) refl
+  where
+    by : (o : Option Envelope) → message early (App app) e.serial ≡ o → is_some (message ((early ++ sent (App app) e ∷ []) ++ xs) (App app) e.serial) ≡ true
+    by (Some m) h = ap is_some (found_more (early ++ sent (App app) e ∷ []) xs (App app) e.serial m (found_more early (sent (App app) e ∷ []) (App app) e.serial m h))
+    by None h = ap is_some (found_more (early ++ sent (App app) e ∷ []) xs (App app) e.serial e (found_here early [] (App app) e h))
+
 module _ (T : List Entry) (name : List ℕ) (reader app : ℕ) (its : IsItsName T app name) where
   name_at : (before : List Entry) (entry : Entry) (behind : List Entry) → T ≡ before ++ entry ∷ behind → IsItsName before app name
   name_at before entry behind at = front_name before (entry ∷ behind) app name (subst (λ l. IsItsName l app name) at its)
@@ -96,14 +103,6 @@ module _ (T : List Entry) (name : List ℕ) (reader app : ℕ) (its : IsItsName 
   answered_by before (got (App a) from serial) behind own h g = tt
   answered_by before entry behind own h g = tt
 
-  -- a message with its serial stands in the front that it ends
-  found_last : (early xs : List Entry) (e : Envelope) → is_some (message ((early ++ sent (App app) e ∷ []) ++ xs) (App app) e.serial) ≡ true
-  found_last early xs e = by (message early (App app) e.serial) refl
-    where
-      by : (o : Option Envelope) → message early (App app) e.serial ≡ o → is_some (message ((early ++ sent (App app) e ∷ []) ++ xs) (App app) e.serial) ≡ true
-      by (Some m) h = ap is_some (found_more (early ++ sent (App app) e ∷ []) xs (App app) e.serial m (found_more early (sent (App app) e ∷ []) (App app) e.serial m h))
-      by None h = ap is_some (found_more (early ++ sent (App app) e ∷ []) xs (App app) e.serial e (found_here early [] (App app) e h))
-
   missed_by : (before : List Entry) (entry : Entry) (behind : List Entry) → TookAll before entry behind → AsksAll name reader app before entry behind → MissesNone name reader app before entry behind
   missed_by before (got (Reader r) (App a) serial) behind t q = λ rs bs no_load k is.
       let no : NoSignalBetween before app k.last serial =
@@ -118,7 +117,7 @@ module _ (T : List Entry) (name : List ℕ) (reader app : ℕ) (its : IsItsName 
         asked = λ xs ys step here.
             q rs bs no_load k is ((front ++ sent (App app) no.first ∷ []) ++ xs) ys step
             (no.stands ∙ ap (λ l. (front ++ sent (App app) no.first ∷ []) ++ l) here ∙ sym (append_assoc (front ++ sent (App app) no.first ∷ []) xs (changed app step ∷ ys)))
-            (ap (λ n. is_some (message ((front ++ sent (App app) no.first ∷ []) ++ xs) (App app) n)) (sym no.has_serial) ∙ found_last front xs no.first);
+            (ap (λ n. is_some (message ((front ++ sent (App app) no.first ∷ []) ++ xs) (App app) n)) (sym no.has_serial) ∙ found_last app front xs no.first);
       }
   missed_by before (got (Reader r) The_bus serial) behind t q = tt
   missed_by before (got (Reader r) Registry serial) behind t q = tt

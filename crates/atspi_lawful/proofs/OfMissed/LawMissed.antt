@@ -45,7 +45,7 @@ use Rattle.atspi_lawful.proofs.OfMissed.Delivering.{StandsOn, HeldAll, HasAll, D
 use Rattle.atspi_lawful.proofs.OfMissed.Consecutive.{none_between}
 
 -- THE LAYERS
-abbrev Under_missed : List Entry → World → Type 0
+abbrev pub Under_missed : List Entry → World → Type 0
 Under_missed es w = And (And Holding_told Fated) (And (And Under_mail Known_mail) (And (And Nothing Rests) (And Beneath_turns Turned))) es w
 
 under_keeps : Keeps (Shaped Under_missed)
@@ -67,7 +67,7 @@ ruled_grow = record {
 ruled_keep : Keeps (Shaped (And Under_missed Ruled))
 ruled_keep = grown Under_missed Ruled under_keeps ruled_grow
 
-abbrev Under_delivered : List Entry → World → Type 0
+abbrev pub Under_delivered : List Entry → World → Type 0
 Under_delivered es w = And Under_missed Ruled es w
 
 delivers_grow : Grows Under_delivered Delivers
@@ -84,7 +84,7 @@ delivers_grow = record {
       asks_deliver es w conn r m question s t.0.0.0.0.0.1 (few_greeted es w n.0.1.1.1 n.0.0.1) n.1.0 i a;
 }
 
-delivers_keep : Keeps (Shaped (And Under_delivered Delivers))
+pub delivers_keep : Keeps (Shaped (And Under_delivered Delivers))
 delivers_keep = grown Under_delivered Delivers ruled_keep delivers_grow
 
 -- THE LAW OF LISTS, where the registry lives

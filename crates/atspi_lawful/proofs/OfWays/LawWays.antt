@@ -192,7 +192,7 @@ module _ (name : List ℕ) (trace : List Entry) (w : World) (known : Known trace
     ups who is saids a.1,
   )
 
-  on_way : (reader : ℕ) → AllByRecursion (WasSentSo name trace app) (on_the_way w reader app)
+  pub on_way : (reader : ℕ) → AllByRecursion (WasSentSo name trace app) (on_the_way w reader app)
   on_way reader =
       all_append (WasSentSo name trace app) (down_from app (end_of w.ends (Reader reader))) (up_of (end_of w.ends (App app)))
       (of_reader (end_of w.ends (Reader reader)) refl) (of_app (end_of w.ends (App app)) refl)

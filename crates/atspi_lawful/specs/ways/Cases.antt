@@ -1,11 +1,11 @@
 -- Words for worked cases: a world in which messages of an application wait on both links, and an application that got another name.
-use Rattle.std.specs.Prelude.{ℕ, List, [], ◌∷◌, map, Some, codes}
+use Rattle.std.specs.Prelude.{ℕ, List, [], ◌∷◌, map, None, Some, codes}
 use Rattle.atspi_types.specs.Data.{text_data}
 use Rattle.atspi_forest.specs.declared.view.Row.{Row}
 use Rattle.atspi_forest.specs.Forest.{Forest}
 use Rattle.atspi_forest.specs.View.{nothing_told, view}
 use Rattle.atspi_lines.specs.declared.limits.TheConstants.{QUOTA_MOST}
-use Rattle.atspi_lines.specs.declared.line.Party.TheVariants.{App}
+use Rattle.atspi_lines.specs.declared.line.Party.TheVariants.{App, Reader}
 use Rattle.atspi_protocol.specs.announcing.Signals.{property_changed}
 use Rattle.atspi_trace.specs.Entry.{Entry, started}
 use Rattle.atspi_trace.specs.World.{Said, World, first_registry, first_bus}
@@ -38,3 +38,6 @@ its_view = view nothing_told (as_of told_name 0 5)
 
 abbrev pub name_told : Said
 name_told = plain (record (property_changed 0 (codes "accessible-name") (text_data (codes "Desk"))).message { serial = 6 })
+
+abbrev pub both_started : List Entry
+both_started = started (App 0) (Some (codes "Demo")) ∷ started (Reader 0) None ∷ []

@@ -1,5 +1,5 @@
 -- What stands on the way from an application to a reader, and what it makes of what the reader has.
-use Rattle.std.specs.Prelude.{◌≡◌, ℕ, List, [], ◌∷◌, ◌++◌, filter_map, Option, None, Some, if◌then◌else◌}
+use Rattle.std.specs.Prelude.{◌≡◌, ℕ, true, List, [], ◌∷◌, ◌++◌, filter_map, Option, None, Some, is_some, if◌then◌else◌}
 use Rattle.std.specs.List.{AllByRecursion}
 use Rattle.atspi_forest.specs.declared.step.Step.{Step}
 use Rattle.atspi_forest.specs.declared.view.Row.{Row}
@@ -8,7 +8,7 @@ use Rattle.atspi_forest.specs.News.{effect}
 use Rattle.atspi_forest.specs.Path.{path_of}
 use Rattle.atspi_forest.specs.View.{Told, view}
 use Rattle.atspi_lines.specs.declared.line.Line.{Line}
-use Rattle.atspi_lines.specs.declared.line.Party.TheVariants.{App, Reader}
+use Rattle.atspi_lines.specs.declared.line.Party.TheVariants.{Registry, App, Reader}
 use Rattle.atspi_message.specs.Envelope.{Envelope}
 use Rattle.atspi_protocol.specs.announcing.Announced.{announced}
 use Rattle.atspi_protocol.specs.news.NewsOf.{news_of}
@@ -17,7 +17,7 @@ use Rattle.atspi_trace.specs.World.{Said, Letter, End, World}
 use Rattle.atspi_trace.specs.Ends.{same_party, end_of}
 use Rattle.atspi_trace.specs.Causes.{told_in}
 use Rattle.atspi_trace.specs.Due.{begins, after_all, Begun}
-use Rattle.atspi_lawful.specs.laws.Words.{live_tree, before_sent, as_of, heard_pairs, Kept, held}
+use Rattle.atspi_lawful.specs.laws.Words.{live_tree, message, before_sent, as_of, heard_pairs, Kept, held, is_live}
 use Rattle.atspi_lawful.specs.order.Scripts.{CanAllStand}
 use Rattle.atspi_lawful.specs.folds.Laws.{AreAllCovered}
 use Rattle.atspi_lawful.specs.signed.Laws.{IsItsName}
@@ -72,11 +72,39 @@ LeadsToNow name trace app parts v (said ∷ saids) =
     let next = effect (path_of 0) name v (news_of name said.message) in
     (next ≡ view parts (as_of trace app said.message.serial)) × LeadsToNow name trace app parts next saids
 
--- so do those that are on their way to a reader, from what it has
-abbrev pub MessagesOnTheirWay : Type 0
-MessagesOnTheirWay =
+-- WHAT IS THERE LEADS TO NOW: what is on its way to a reader does so, from what it has, where it is all that was sent since
+abbrev pub WhatIsThereLeads : Type 0
+WhatIsThereLeads =
     (lines : List Line) (trace : List Entry) → CanAllStand lines → Begun lines trace → (after_all (begins lines) trace).owing ≡ []
     → (name : List ℕ) (reader app : ℕ) → IsItsName trace app name → IsServed trace name reader app
     → (k : Kept) → held trace reader app ≡ Some k → AllAreThere name trace app k.last (on_the_way (after_all (begins lines) trace).world reader app)
+    → (v : Forest Row) → (followed name trace reader app).view ≡ Some v
+    → LeadsToNow name trace app (told_in k.told) v (on_the_way (after_all (begins lines) trace).world reader app)
+
+-- WHO IS HERE: both ends, and the registry, behind whose drop nothing stands. What was on the links of an end that is gone is lost.
+pub record AreHere (trace : List Entry) (reader app : ℕ) : Type 0 where
+  pub registry_lives : is_live trace Registry ≡ true
+  pub reader_lives : is_live trace (Reader reader) ≡ true
+  pub application_lives : is_live trace (App app) ≡ true
+
+-- EACH STEP SINCE WAS ASKED FOR: each of the application that stands behind this message of it, up to now, was asked for whole
+abbrev pub AreAskedSince : List ℕ → List Entry → ℕ → ℕ → Type 0
+AreAskedSince name trace app last =
+    (early ys : List Entry) (step : Step) → trace ≡ early ++ changed app step ∷ ys → is_some (message early (App app) last) ≡ true
+    → AreAllCovered (heard_pairs early app) (announced name (live_tree early app) step)
+
+-- Then all that was sent since is on its way: of a reader and an application that are here, behind the last message that the reader took of it.
+abbrev pub AllAreOnTheWay : Type 0
+AllAreOnTheWay =
+    (lines : List Line) (trace : List Entry) → CanAllStand lines → Begun lines trace → (after_all (begins lines) trace).owing ≡ []
+    → (name : List ℕ) (reader app : ℕ) → AreHere trace reader app → (k : Kept) → held trace reader app ≡ Some k → AreAskedSince name trace app k.last
+    → AllAreThere name trace app k.last (on_the_way (after_all (begins lines) trace).world reader app)
+
+-- SO WHAT IS ON ITS WAY LEADS TO NOW, where each step was asked for whole: those between two messages taken, and those since the last of them.
+abbrev pub MessagesOnTheirWay : Type 0
+MessagesOnTheirWay =
+    (lines : List Line) (trace : List Entry) → CanAllStand lines → Begun lines trace → (after_all (begins lines) trace).owing ≡ []
+    → (name : List ℕ) (reader app : ℕ) → IsItsName trace app name → IsServed trace name reader app → AreHere trace reader app
+    → (k : Kept) → held trace reader app ≡ Some k → AreAskedSince name trace app k.last
     → (v : Forest Row) → (followed name trace reader app).view ≡ Some v
     → LeadsToNow name trace app (told_in k.told) v (on_the_way (after_all (begins lines) trace).world reader app)

@@ -1,5 +1,5 @@
-use Rattle.atspi_lawful.proofs.OfWays.LawWays.{on_their_way}
+use Rattle.atspi_lawful.proofs.OfWays.LawThere.{lead_to_now}
 use Rattle.atspi_lawful.proofs.ways.laws.messages_on_their_way.Goals as goal
 
 pub returns : goal.returns
-returns c = on_their_way
+returns c = lead_to_now
