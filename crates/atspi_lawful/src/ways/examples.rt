@@ -1,8 +1,9 @@
 //! Worked cases of messages on their way.
 
-ghost use Rattle.std.specs.Prelude.{◌≡◌, [], ◌∷◌, ◌++◌, None, Some, codes};
+ghost use Rattle.std.specs.Prelude.{◌≡◌, [], ◌∷◌, ◌++◌, codes};
+ghost use Rattle.atspi_forest.specs.declared.step.Step.TheVariants.{SetName};
 ghost use Rattle.atspi_lines.specs.declared.line.Party.TheVariants.{Registry, App, Reader};
-ghost use Rattle.atspi_trace.specs.Entry.{started, heard, exited, dropped};
+ghost use Rattle.atspi_trace.specs.Entry.{changed, heard, exited, dropped};
 ghost use Rattle.atspi_forest.specs.View.{nothing_told};
 ghost use Rattle.atspi_lawful.specs.caches.Cases.{its_name};
 ghost use Rattle.atspi_lawful.specs.ways.Cases.{serials_on_the_way, told_all, told_name, its_view, name_told, both_started};
@@ -29,11 +30,12 @@ pub fn what_was_missed_since()
 {}
 
 /// Each step since message 5 is one to be asked for whole, up to now. Where nobody listens the other name was not; where some pattern covers it, it was. Since message 6
-/// there was no step.
+/// there was no step, and a step of another application need not be asked for.
 pub fn what_was_asked_since()
     ensures by_nobody { AreAskedSince its_name told_name 0 5 → ⊥ }
     ensures by_a_listener { AreAskedSince its_name (heard 0 (codes ":1.9") (codes "object:property-change") ∷ told_name) 0 5 }
     ensures before_it { AreAskedSince its_name told_name 0 6 }
+    ensures of_another { AreAskedSince its_name (told_all ++ changed 1 (SetName 0 (codes "Desk")) ∷ []) 0 5 }
 {}
 
 /// Both are here once both were started, as long as neither stopped nor was dropped, and the registry was not.

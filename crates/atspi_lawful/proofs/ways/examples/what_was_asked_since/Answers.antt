@@ -1,5 +1,5 @@
-use Rattle.std.proofs.Common.{◌≡◌, ℕ, true, List, [], ◌∷◌, Some, refl}
-use Rattle.std.specs.Prelude.{codes, is_some}
+use Rattle.std.proofs.Common.{◌≡◌, ℕ, true, List, [], ◌∷◌, ◌++◌, Some, refl, ap}
+use Rattle.std.specs.Prelude.{◌==◌, codes, is_some}
 use lib.Utf8.{encode}
 use Rattle.atspi_forest.specs.declared.step.Step.TheVariants.{SetName}
 use Rattle.atspi_lines.specs.declared.line.Party.TheVariants.{App}
@@ -8,7 +8,7 @@ use Rattle.atspi_trace.specs.Entry.{Entry, started, changed, heard}
 use Rattle.atspi_lawful.specs.laws.Words.{message, live_tree, heard_pairs}
 use Rattle.atspi_lawful.specs.folds.Laws.{AreAllCovered}
 use Rattle.atspi_lawful.specs.caches.Cases.{its_name, loaded}
-use Rattle.atspi_lawful.specs.ways.Cases.{told_name}
+use Rattle.atspi_lawful.specs.ways.Cases.{told_all, told_name}
 use Rattle.atspi_lawful.specs.ways.Laws.{AreAskedSince}
 use Rattle.atspi_lawful.proofs.OfOrder.Parties.{false_true}
 use Rattle.atspi_lawful.proofs.OfOrder.Each.{Each, everywhere}
@@ -32,3 +32,7 @@ returns-clause-by_a_listener c =
 
 pub returns-clause-before_it : goal.returns-clause-before_it
 returns-clause-before_it c = by_entries told_name 6 (tt, (tt, (tt, (tt, ((λ same some. absurd (false_true some)), (tt, tt))))))
+
+pub returns-clause-of_another : goal.returns-clause-of_another
+returns-clause-of_another c =
+    by_entries (told_all ++ changed 1 (SetName 0 (codes "Desk")) ∷ []) 5 (tt, (tt, (tt, ((λ same some. absurd (false_true (ap (λ n. n == 0) same))), tt))))
