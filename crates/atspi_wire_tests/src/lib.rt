@@ -1,19 +1,9 @@
-//! Tests of the wire, through public calls alone: texts, values and signatures, types read from their codes, marshalling, cursors, messages, headers, and streams.
+//! Tests of messages, streams, and messages as texts, through public calls alone.
 #![tactic(auto)]
 
-#[cfg(test)]
-mod codes;
-#[cfg(test)]
-mod cursor;
-#[cfg(test)]
-mod header;
-#[cfg(test)]
-mod marshal;
 #[cfg(test)]
 mod message;
 #[cfg(test)]
 mod script;
 #[cfg(test)]
 mod stream;
-#[cfg(test)]
-mod values;
