@@ -14,3 +14,5 @@ pub mod TakenBack
 pub mod Telling
 pub mod Coming
 pub mod Listening
+pub mod Listing
+pub mod Registering

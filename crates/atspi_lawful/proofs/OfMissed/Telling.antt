@@ -161,7 +161,7 @@ others_told : (es : List Envelope) (heard : List Pair) → AllByRecursion IsOthe
 others_told [] heard a = refl
 others_told (e ∷ es) heard a = ap (hearing es) (other_told heard e a.0) ∙ others_told es heard a.1
 
-hearing_append : (xs ys : List Envelope) (heard : List Pair) → hearing (xs ++ ys) heard ≡ hearing ys (hearing xs heard)
+pub hearing_append : (xs ys : List Envelope) (heard : List Pair) → hearing (xs ++ ys) heard ≡ hearing ys (hearing xs heard)
 hearing_append [] ys heard = refl
 hearing_append (x ∷ xs) ys heard = hearing_append xs ys (heard_after heard x).heard
 

@@ -5,7 +5,7 @@ use Rattle.atspi_types.specs.Names.{is_bus_name}
 use Rattle.atspi_forest.specs.declared.step.Step.{Step}
 use Rattle.atspi_forest.specs.Forest.{Forest}
 use Rattle.atspi_forest.specs.Row.{TreeRow}
-use Rattle.atspi_lines.specs.declared.line.Party.TheVariants.{App, Reader}
+use Rattle.atspi_lines.specs.declared.line.Party.TheVariants.{Registry, App, Reader}
 use Rattle.atspi_message.specs.Envelope.{Envelope}
 use Rattle.atspi_routing.specs.Members.{is_text}
 use Rattle.atspi_protocol.specs.declared.following.question.Question.{Question}
@@ -21,7 +21,7 @@ use Rattle.atspi_protocol.specs.following.Calls.{asking}
 use Rattle.atspi_protocol.specs.following.ReaderState.{start_calls}
 use Rattle.atspi_trace.specs.Entry.{Entry, sent, got}
 use Rattle.atspi_trace.specs.Hearing.{patterns_in}
-use Rattle.atspi_lawful.specs.laws.Words.{message, before_sent, answers_question, Kept, held}
+use Rattle.atspi_lawful.specs.laws.Words.{messages, message, before_sent, answers_question, Kept, held}
 use Rattle.atspi_lawful.specs.laws.NineLaws.{Everywhere}
 use Rattle.atspi_lawful.specs.order.Laws.{OfEachTrace}
 use Rattle.atspi_lawful.specs.folds.Laws.{AreAllCovered}
@@ -101,6 +101,14 @@ pub record PairsAreTold : Type 0 where
   pub names : (s : RegistryState) (e : Envelope) → AreNamed s.pairs → IsNamed e.sender → AreNamed (registry_takes s e).state.pairs
   pub list : (pairs : List (List ℕ × List ℕ)) → AreNamed pairs → pairs_in (pairs_data pairs ∷ []) ≡ Some pairs
   pub listed : (heard pairs : List (List ℕ × List ℕ)) (p : List ℕ × List ℕ) → is_heard (exchanged heard pairs).heard p ≡ is_heard pairs p
+
+-- WHERE THE REGISTRY SENDS A LIST OF PAIRS, it is of those that one has who heard all that it sent before.
+abbrev pub ListIsAsTold : List Entry → Entry → List Entry → Type 0
+ListIsAsTold before (sent Registry e) behind = (pairs : List (List ℕ × List ℕ)) → e.kind ≡ 2 → pairs_in e.body ≡ Some pairs → hearing (messages before Registry) [] ≡ pairs
+ListIsAsTold before entry behind = Unit {0}
+
+abbrev pub ListsAreAsTold : Type 0
+ListsAreAsTold = OfEachTrace (Everywhere ListIsAsTold)
 
 -- HOW PAIRS COME AND GO. What takes a pair away: a call of the listener's own, or the bus's news that its name is nobody's
 abbrev pub TakesAway : Envelope → List ℕ × List ℕ → Type 0

@@ -1,7 +1,8 @@
 //! Worked cases of what is missed, of what is asked for, and of what the registry tells.
 
 ghost use Rattle.std.specs.Prelude.{◌≡◌, [], ◌∷◌, None, Some, take, codes};
-ghost use Rattle.atspi_lines.specs.declared.line.Party.TheVariants.{App, Reader};
+ghost use Rattle.atspi_lines.specs.declared.line.Party.TheVariants.{Registry, App, Reader};
+ghost use Rattle.atspi_protocol.specs.ends.Places.{references};
 ghost use Rattle.atspi_protocol.specs.announcing.Signals.{caret_moved};
 ghost use Rattle.atspi_protocol.specs.declared.following.question.Question.TheVariants.{Hello};
 ghost use Rattle.atspi_protocol.specs.following.Calls.{asking};
@@ -12,8 +13,8 @@ ghost use Rattle.atspi_protocol.specs.registering.Room.{owner_changed};
 ghost use Rattle.atspi_trace.specs.Entry.{sent, got, quiet};
 ghost use Rattle.atspi_trace.specs.Hearing.{patterns_in};
 ghost use Rattle.atspi_lawful.specs.caches.Cases.{told, renamed, described};
-ghost use Rattle.atspi_lawful.specs.missed.Laws.{IsNoSignal, TookAll, IsHeardOf, AreHeardOf, TakesNothingBack, hearing, AreNamed, IsNamed, TakesAway, IsPastList, heard_on};
-ghost use Rattle.atspi_lawful.specs.missed.Cases.{listening_by};
+ghost use Rattle.atspi_lawful.specs.missed.Laws.{IsNoSignal, TookAll, IsHeardOf, AreHeardOf, TakesNothingBack, hearing, AreNamed, IsNamed, ListIsAsTold, TakesAway, IsPastList, heard_on};
+ghost use Rattle.atspi_lawful.specs.missed.Cases.{listening_by, telling, listing};
 
 /// A signal of the application between two messages is one that is missed; one of another application is not.
 pub fn what_is_missed()
@@ -61,6 +62,17 @@ pub fn what_is_told()
     ensures sent_by { IsNamed (Some (codes ":1.9")) }
     ensures sent_by_no_name { IsNamed (Some []) → ⊥ }
     ensures sent_by_nobody { IsNamed None }
+{}
+
+/// A list is as told where it is of the pairs that were told before it, and no other list is: one too short, or with one that nobody was told of. A signal is no list,
+/// nor is a list of other things, and another end may return what it likes.
+pub fn what_is_listed()
+    ensures as_told { ListIsAsTold (telling (listening_by (codes "object" ∷ []))) (sent Registry (listing (listening_by (codes "object" ∷ [])))) [] }
+    ensures too_short { ListIsAsTold (telling (listening_by (codes "object" ∷ []))) (sent Registry (listing [])) [] → ⊥ }
+    ensures never_told { ListIsAsTold [] (sent Registry (listing (listening_by (codes "object" ∷ [])))) [] → ⊥ }
+    ensures a_signal { ListIsAsTold [] (sent Registry (record (listing (listening_by (codes "object" ∷ []))) { kind = 4 })) [] }
+    ensures of_children { ListIsAsTold (telling (listening_by (codes "object" ∷ []))) (sent Registry (record (listing []) { body = references [] ∷ [] })) [] }
+    ensures of_another { ListIsAsTold [] (sent (App 0) (listing (listening_by (codes "object" ∷ [])))) [] }
 {}
 
 /// A call takes away pairs of its own sender, and of no other; the news that a name is nobody's takes away the pairs of that name, and of no other; and news that

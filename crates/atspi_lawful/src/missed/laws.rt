@@ -1,6 +1,6 @@
 //! No signal is missed; what a reader's patterns ask for, and how applications hear of them.
 
-ghost use Rattle.atspi_lawful.specs.missed.Laws.{NoSignalIsMissed, PatternsCoverAll, NothingIsTakenBack, PairsAreTold, PairsComeAndGo, ApplicationsListen};
+ghost use Rattle.atspi_lawful.specs.missed.Laws.{NoSignalIsMissed, PatternsCoverAll, NothingIsTakenBack, PairsAreTold, ListsAreAsTold, PairsComeAndGo, ApplicationsListen};
 
 /// Where a reader takes a message of an application that it holds, but for a return that loads it, the application sent no signal between the last
 /// message that the reader took of it and this one: of each front of a lawful trace.
@@ -23,6 +23,11 @@ pub fn nothing_is_taken_back()
 /// was heard before for them. Names are bus names.
 pub fn pairs_are_told()
     ensures { PairsAreTold }
+{}
+
+/// Where the registry sends a list of pairs, it is of just those that one has who heard all that it sent before: of each front of a lawful trace.
+pub fn lists_are_as_told()
+    ensures { ListsAreAsTold }
 {}
 
 /// Once the registry has its name, a reader's call for a pattern enters it under the name of the call's sender. A pair goes from the registry only with a call of
