@@ -12,6 +12,7 @@ pub mod LawMissed
 pub mod Covering
 pub mod TakenBack
 pub mod Telling
+pub mod Deregistering
 pub mod Coming
 pub mod Listening
 pub mod Listing

@@ -21,6 +21,7 @@ use Rattle.atspi_protocol.specs.registering.Steps.{answer_to, called_by, named, 
 use Rattle.atspi_protocol.specs.exporting.Hearing.{is_pair, is_heard}
 use Rattle.atspi_lawful.specs.missed.Laws.{TakesAway, PairsComeAndGo}
 use Rattle.atspi_lawful.proofs.OfOrder.Parties.{false_true}
+use Rattle.atspi_lawful.proofs.OfMissed.Deregistering.{MemberSays, SaysSo, registry_says}
 use Rattle.atspi_lawful.proofs.OfMissed.Telling.{Pair, and_left, or_true, pair_same, pair_turned, any_alike, heard_filter, heard_append}
 
 -- A PAIR COMES
@@ -55,47 +56,47 @@ left_out pair f pairs h g = by (f pair) refl
     by false k = absurd (false_true (sym g ∙ heard_filter pair (λ q. not (f q)) pairs ∙ ap (λ b. not b && is_heard pairs pair) k ∙ h))
 
 -- what the answer to a call leaves out is the caller's
-abbrev Leaves : List Pair → List ℕ → List Pair → Type 0
-Leaves pairs caller after = (pair : Pair) → is_heard pairs pair ≡ true → is_heard after pair ≡ false → pair.0 ≡ caller
+abbrev Leaves : Option (List ℕ) → List Pair → List ℕ → List Pair → Type 0
+Leaves text pairs caller after = (pair : Pair) → is_heard pairs pair ≡ true → is_heard after pair ≡ false → (text ≡ Some (codes "DeregisterEvent")) × (pair.0 ≡ caller)
 
-none_left : (pairs : List Pair) (caller : List ℕ) → Leaves pairs caller pairs
-none_left pairs caller pair h g = absurd (false_true (sym g ∙ h))
+none_left : (text : Option (List ℕ)) (pairs : List Pair) (caller : List ℕ) → Leaves text pairs caller pairs
+none_left text pairs caller pair h g = absurd (false_true (sym g ∙ h))
 
-registers_leaves : (s : RegistryState) (caller pattern : List ℕ) (b : Bool) → Leaves s.pairs caller (registers_if s caller pattern b).pairs
-registers_leaves s caller pattern true = none_left s.pairs caller
-registers_leaves s caller pattern false = λ pair h g.
+registers_leaves : (text : Option (List ℕ)) (s : RegistryState) (caller pattern : List ℕ) (b : Bool) → Leaves text s.pairs caller (registers_if s caller pattern b).pairs
+registers_leaves text s caller pattern true = none_left text s.pairs caller
+registers_leaves text s caller pattern false = λ pair h g.
     absurd (false_true (sym g ∙ heard_append pair s.pairs ((caller, pattern) ∷ []) ∙ ap (λ b. b || is_heard ((caller, pattern) ∷ []) pair) h))
 
-deregisters_leaves : (s : RegistryState) (caller pattern : List ℕ) (b : Bool)
-    → Leaves s.pairs caller
+deregisters_leaves : (text : Option (List ℕ)) (s : RegistryState) (caller pattern : List ℕ) (b : Bool) → text ≡ Some (codes "DeregisterEvent")
+    → Leaves text s.pairs caller
     (if b then record (only s (returns [])) { pairs = without_pair s.pairs caller pattern; before = deregistered (caller, pattern) ∷ [] } else only s (returns [])).pairs
-deregisters_leaves s caller pattern false = none_left s.pairs caller
-deregisters_leaves s caller pattern true = λ pair h g.
-    (bytes_eq-Decides pair.0 caller).0 (and_left (bytes_eq pair.0 caller) (bytes_eq pair.1 pattern) (left_out pair (is_the_pair caller pattern) s.pairs h g))
+deregisters_leaves text s caller pattern false says = none_left text s.pairs caller
+deregisters_leaves text s caller pattern true says = λ pair h g.
+    (says, (bytes_eq-Decides pair.0 caller).0 (and_left (bytes_eq pair.0 caller) (bytes_eq pair.1 pattern) (left_out pair (is_the_pair caller pattern) s.pairs h g)))
 
-own_leaves : (s : RegistryState) (caller : List ℕ) (b : Bool) (a : Answer) → a.pairs ≡ s.pairs → Leaves s.pairs caller (if b then a else only s (fails (codes "InvalidArgs"))).pairs
-own_leaves s caller true a h = subst (Leaves s.pairs caller) (sym h) (none_left s.pairs caller)
-own_leaves s caller false a h = none_left s.pairs caller
+own_leaves : (text : Option (List ℕ)) (s : RegistryState) (caller : List ℕ) (b : Bool) (a : Answer) → a.pairs ≡ s.pairs → Leaves text s.pairs caller (if b then a else only s (fails (codes "InvalidArgs"))).pairs
+own_leaves text s caller true a h = subst (Leaves text s.pairs caller) (sym h) (none_left text s.pairs caller)
+own_leaves text s caller false a h = none_left text s.pairs caller
 
 adopts_same : (s : RegistryState) (child : Pair) (b : Bool) → (if b then only s (returns (registry_root ∷ [])) else new_child s child).pairs ≡ s.pairs
 adopts_same s child true = refl
 adopts_same s child false = refl
 
-member_leaves : (member : ObjectMember) (s : RegistryState) (own caller : List ℕ) (args : List Data) → Leaves s.pairs caller (answers_member member s own caller args).pairs
-member_leaves members.RegisterEvent s own caller args = registers_leaves s caller (text_at 0 args) (has_pair s.pairs caller (text_at 0 args))
-member_leaves members.DeregisterEvent s own caller args = deregisters_leaves s caller (text_at 0 args) (has_pair s.pairs caller (text_at 0 args))
-member_leaves members.Embed s own caller args =
+member_leaves : (text : Option (List ℕ)) (member : ObjectMember) (s : RegistryState) (own caller : List ℕ) (args : List Data) → MemberSays text member → Leaves text s.pairs caller (answers_member member s own caller args).pairs
+member_leaves text members.RegisterEvent s own caller args says = registers_leaves text s caller (text_at 0 args) (has_pair s.pairs caller (text_at 0 args))
+member_leaves text members.DeregisterEvent s own caller args says = deregisters_leaves text s caller (text_at 0 args) (has_pair s.pairs caller (text_at 0 args)) says
+member_leaves text members.Embed s own caller args says =
     let child : Pair = (caller, (reference_in args).1) in
-    own_leaves s caller (bytes_eq (encode_utf8_all (reference_in args).0) caller) (adopts s child) (adopts_same s child (list_any (is_of caller) s.children))
-member_leaves members.Unembed s own caller args = own_leaves s caller (bytes_eq (encode_utf8_all (reference_in args).0) caller) (releases s caller) refl
-member_leaves _ s own caller args = none_left s.pairs caller
+    own_leaves text s caller (bytes_eq (encode_utf8_all (reference_in args).0) caller) (adopts s child) (adopts_same s child (list_any (is_of caller) s.children))
+member_leaves text members.Unembed s own caller args says = own_leaves text s caller (bytes_eq (encode_utf8_all (reference_in args).0) caller) (releases s caller) refl
+member_leaves text _ s own caller args says = none_left text s.pairs caller
 
-answer_leaves : (r : Result Asked (List ℕ)) (s : RegistryState) (own caller : List ℕ) → Leaves s.pairs caller (answer_to s own caller r).pairs
-answer_leaves (Ok (calls member args)) s own caller = member_leaves member s own caller args
-answer_leaves (Ok (gets property)) s own caller = none_left s.pairs caller
-answer_leaves (Ok (gets_all ls)) s own caller = none_left s.pairs caller
-answer_leaves (Ok (sets property d)) s own caller = none_left s.pairs caller
-answer_leaves (Err word) s own caller = none_left s.pairs caller
+answer_leaves : (text : Option (List ℕ)) (r : Result Asked (List ℕ)) (s : RegistryState) (own caller : List ℕ) → SaysSo text r → Leaves text s.pairs caller (answer_to s own caller r).pairs
+answer_leaves text (Ok (calls member args)) s own caller says = member_leaves text member s own caller args says
+answer_leaves text (Ok (gets property)) s own caller says = none_left text s.pairs caller
+answer_leaves text (Ok (gets_all ls)) s own caller says = none_left text s.pairs caller
+answer_leaves text (Ok (sets property d)) s own caller says = none_left text s.pairs caller
+answer_leaves text (Err word) s own caller says = none_left text s.pairs caller
 
 abbrev Goes_by : RegistryState → Envelope → List Pair → Type 0
 Goes_by s e after = (pair : Pair) → is_heard s.pairs pair ≡ true → is_heard after pair ≡ false → TakesAway e pair
@@ -106,7 +107,8 @@ none_goes s e pair h g = absurd (false_true (sym g ∙ h))
 called_goes : (s : RegistryState) (own : List ℕ) (e : Envelope) (caller : Option (List ℕ)) → e.kind ≡ 1 → e.sender ≡ caller → Goes_by s e (called_by s own e caller).state.pairs
 called_goes s own e None one is = none_goes s e
 called_goes s own e (Some caller) one is = λ pair h g.
-    inl (one, is ∙ ap Some (sym (answer_leaves (asked (object_at e.path) e.interface e.member e.body) s own caller pair h g)))
+    let left = answer_leaves e.member (asked (object_at e.path) e.interface e.member e.body) s own caller (registry_says e.path e.interface e.member e.body) pair h g in
+    inl (one, left.0, is ∙ ap Some (sym left.1))
 
 left_goes : (s : RegistryState) (e : Envelope) (o : Option (List ℕ)) → name_gone e ≡ o → Goes_by s e (hears s o).state.pairs
 left_goes s e None is = none_goes s e

@@ -1,5 +1,5 @@
 -- Where the registry sends a list of pairs: it has just those, whatever it sent before in the same step. And it keeps its name.
-use Rattle.std.proofs.Common.{◌≡◌, ℕ, ◌+◌, Bool, true, false, List, [], ◌∷◌, ◌++◌, length, map, Option, None, Some, refl, sym, ap, ◌∙◌, subst, arith}
+use Rattle.std.proofs.Common.{◌≡◌, ℕ, ◌+◌, Bool, true, false, List, [], ◌∷◌, ◌++◌, length, map, Option, None, Some, refl, sym, ap, ◌∙◌, arith}
 use Rattle.std.specs.Prelude.{◌==◌, ℤ, pos, negsuc, slice_get, bytes_eq, codes, encode_utf8_all, if◌then◌else◌, Result, Ok, Err}
 use Rattle.std.specs.List.{AllByRecursion, list_any}
 use Rattle.atspi_types.specs.Data.{Data}
@@ -12,8 +12,8 @@ use Rattle.atspi_protocol.specs.members.Asked.{Asked, calls, gets, gets_all, set
 use Rattle.atspi_protocol.specs.members.Arguments.{text_at, signed_at}
 use Rattle.atspi_protocol.specs.registering.RegistryState.{RegistryState, is_of, has_pair, without_pair, pairs_of, pairs_without, child_place}
 use Rattle.atspi_protocol.specs.registering.Told.{registered, deregistered, children_changed, is_asked_for}
-use Rattle.atspi_protocol.specs.registering.Answers.{Answer, only, registers, deregisters, reference_in, new_child, adopts, news_of_removal_at, news_of_removal, releases, child_or_nobody, child_at, pairs_data, answers_member, object_at}
-use Rattle.atspi_protocol.specs.registering.Steps.{RegistryStep, answered, answer_to, called_by, named, hears, name_told, name_gone, forgets, takes_as, registry_takes}
+use Rattle.atspi_protocol.specs.registering.Answers.{Answer, only, registers, deregisters, reference_in, new_child, adopts, news_of_removal_at, news_of_removal, releases, child_or_nobody, child_at, answers_member, object_at}
+use Rattle.atspi_protocol.specs.registering.Steps.{RegistryStep, answered, answer_to, called_by, named, hears, name_told, name_gone, takes_as, registry_takes}
 use Rattle.atspi_protocol.specs.exporting.Hearing.{heard_after, pairs_in}
 use Rattle.atspi_lawful.specs.missed.Laws.{hearing, AreNamed}
 use Rattle.atspi_lawful.proofs.OfOrder.Parties.{no_none, same_some, all_append}

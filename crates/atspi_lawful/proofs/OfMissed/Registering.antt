@@ -23,22 +23,22 @@ use Rattle.atspi_protocol.specs.exporting.Hearing.{heard_after}
 use Rattle.atspi_protocol.specs.exporting.Taking.{app_takes}
 use Rattle.atspi_protocol.specs.following.Calls.{user_call}
 use Rattle.atspi_protocol.specs.declared.following.question.Question.{Question}
-use Rattle.atspi_trace.specs.Entry.{Entry, started, changed, sent, got, dropped}
+use Rattle.atspi_trace.specs.Entry.{Entry, sent, got, dropped}
 use Rattle.atspi_trace.specs.World.{Role, the_registry, an_application, a_reader, Hearer, Letter, End, World, first_registry, first_world}
 use Rattle.atspi_trace.specs.Ends.{same_party, whose, party_at, number_of, end_at, with_end, taken_down, stops}
 use Rattle.atspi_trace.specs.Carrying as carrying
 use Rattle.atspi_trace.specs.Carrying.{Carried}
-use Rattle.atspi_trace.specs.Hearing.{hears_letter, heard_entries}
+use Rattle.atspi_trace.specs.Hearing.{hears_letter}
 use Rattle.atspi_trace.specs.Causes.{Done, only, did, at_end, has_done, registry_did, reader_sends, app_starts, reader_starts}
 use Rattle.atspi_trace.specs.Due.{asks_as, asks_at, begins, Goes}
 use Rattle.atspi_lawful.specs.laws.Words.{messages}
 use Rattle.atspi_lawful.specs.laws.NineLaws.{Everywhere}
 use Rattle.atspi_lawful.specs.order.Scripts.{CanAllStand}
 use Rattle.atspi_lawful.specs.missed.Laws.{hearing, AreNamed, IsNamed, ListIsAsTold}
-use Rattle.atspi_lawful.proofs.OfOrder.Parties.{no_none, same_some, false_true, same-party, all_front}
+use Rattle.atspi_lawful.proofs.OfOrder.Parties.{no_none, same_some, false_true}
 use Rattle.atspi_lawful.proofs.OfOrder.Allowed.{MovedUp, MovedDown}
 use Rattle.atspi_lawful.proofs.OfOrder.BusWords.{bus_all}
-use Rattle.atspi_lawful.proofs.OfOrder.Frame.{Over, IsOrder, over_same, over_both, over_with, over_at, at_changed, joined_cases}
+use Rattle.atspi_lawful.proofs.OfOrder.Frame.{Over, IsOrder, over_same, over_both, over_with, at_changed, joined_cases}
 use Rattle.atspi_lawful.proofs.OfOrder.Shape.{RoleFits, Shape}
 use Rattle.atspi_lawful.proofs.OfOrder.Shaped.{new_app, new_reader, app_joined, received_at}
 use Rattle.atspi_lawful.proofs.OfOrder.Effects.{received, RegistryTakes, Effect, resets, app_joins, reader_joins, app_edited, app_took, reader_called, swapped, exited_, showed_, told_busy, told_quiet, bus_took, bus_ended, registry_took, reader_took}

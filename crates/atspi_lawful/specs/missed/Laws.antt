@@ -110,9 +110,9 @@ ListIsAsTold before entry behind = Unit {0}
 abbrev pub ListsAreAsTold : Type 0
 ListsAreAsTold = OfEachTrace (Everywhere ListIsAsTold)
 
--- HOW PAIRS COME AND GO. What takes a pair away: a call of the listener's own, or the bus's news that its name is nobody's
+-- HOW PAIRS COME AND GO. What takes a pair away: a call of the listener's own to take it back, or the bus's news that its name is nobody's
 abbrev pub TakesAway : Envelope → List ℕ × List ℕ → Type 0
-TakesAway e pair = ((e.kind ≡ 1) × (e.sender ≡ Some pair.0)) ⊎ ((name : List ℕ) × (name_gone e ≡ Some name) × (pair.0 ≡ encode_utf8_all name))
+TakesAway e pair = ((e.kind ≡ 1) × (e.member ≡ Some (codes "DeregisterEvent")) × (e.sender ≡ Some pair.0)) ⊎ ((name : List ℕ) × (name_gone e ≡ Some name) × (pair.0 ≡ encode_utf8_all name))
 
 -- Once the registry has its name, a reader's call for a pattern enters it, under the name of its sender; and a pair that the registry has no longer was taken away.
 pub record PairsComeAndGo : Type 0 where

@@ -75,11 +75,12 @@ pub fn what_is_listed()
     ensures of_another { ListIsAsTold [] (sent (App 0) (listing (listening_by (codes "object" ∷ [])))) [] }
 {}
 
-/// A call takes away pairs of its own sender, and of no other; the news that a name is nobody's takes away the pairs of that name, and of no other; and news that
+/// A call of DeregisterEvent takes away pairs of its own sender, and of no other, and no other call does; the news that a name is nobody's takes away the pairs of that name, and of no other; and news that
 /// somebody has a name takes none away.
 pub fn what_takes_away()
-    ensures own { TakesAway (record (asking 1 Hello) { sender = Some (codes ":1.9") }) (codes ":1.9", codes "object") }
-    ensures of_another { TakesAway (record (asking 1 Hello) { sender = Some (codes ":1.8") }) (codes ":1.9", codes "object") → ⊥ }
+    ensures own { TakesAway (record (asking 1 Hello) { member = Some (codes "DeregisterEvent"); sender = Some (codes ":1.9") }) (codes ":1.9", codes "object") }
+    ensures of_another { TakesAway (record (asking 1 Hello) { member = Some (codes "DeregisterEvent"); sender = Some (codes ":1.8") }) (codes ":1.9", codes "object") → ⊥ }
+    ensures another_call { TakesAway (record (asking 1 Hello) { sender = Some (codes ":1.9") }) (codes ":1.9", codes "object") → ⊥ }
     ensures its_end { TakesAway (owner_changed (codes ":1.9") (codes ":1.9") []) (codes ":1.9", codes "object") }
     ensures end_of_another { TakesAway (owner_changed (codes ":1.8") (codes ":1.8") []) (codes ":1.9", codes "object") → ⊥ }
     ensures a_beginning { TakesAway (owner_changed (codes ":1.9") [] (codes ":1.9")) (codes ":1.9", codes "object") → ⊥ }

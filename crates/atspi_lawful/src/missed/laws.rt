@@ -30,8 +30,8 @@ pub fn lists_are_as_told()
     ensures { ListsAreAsTold }
 {}
 
-/// Once the registry has its name, a reader's call for a pattern enters it under the name of the call's sender. A pair goes from the registry only with a call of
-/// its listener's own, or with the bus's news that its listener's name is nobody's.
+/// Once the registry has its name, a reader's call for a pattern enters it under the name of the call's sender. A pair goes from the registry only with its
+/// listener's own call of DeregisterEvent, or with the bus's news that its listener's name is nobody's.
 pub fn pairs_come_and_go()
     ensures { PairsComeAndGo }
 {}

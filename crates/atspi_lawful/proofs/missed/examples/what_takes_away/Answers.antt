@@ -12,9 +12,13 @@ use Rattle.atspi_lawful.proofs.missed.examples.what_takes_away.Goals as goal
 four_one : ◌≡◌ {A = ℕ} 4 1 → ⊥
 four_one h = omega (arith, h)
 
-of_nobody_else : TakesAway (record (asking 1 Hello) { sender = Some (codes ":1.8") }) (codes ":1.9", codes "object") → ⊥
-of_nobody_else (inl h) = false_true (ap (λ o. is_text o (codes ":1.9")) h.1)
+of_nobody_else : TakesAway (record (asking 1 Hello) { member = Some (codes "DeregisterEvent"); sender = Some (codes ":1.8") }) (codes ":1.9", codes "object") → ⊥
+of_nobody_else (inl h) = false_true (ap (λ o. is_text o (codes ":1.9")) h.2)
 of_nobody_else (inr h) = no_none h.0 h.1
+
+not_that_call : TakesAway (record (asking 1 Hello) { sender = Some (codes ":1.9") }) (codes ":1.9", codes "object") → ⊥
+not_that_call (inl h) = false_true (ap (λ o. is_text o (codes "DeregisterEvent")) h.1)
+not_that_call (inr h) = no_none h.0 h.1
 
 not_its_end : TakesAway (owner_changed (codes ":1.8") (codes ":1.8") []) (codes ":1.9", codes "object") → ⊥
 unfolding encode
@@ -27,10 +31,13 @@ no_end (inl h) = four_one h.0
 no_end (inr h) = no_none h.0 h.1
 
 pub returns-clause-own : goal.returns-clause-own
-returns-clause-own c = inl (refl, refl)
+returns-clause-own c = inl (refl, refl, refl)
 
 pub returns-clause-of_another : goal.returns-clause-of_another
 returns-clause-of_another c = of_nobody_else
+
+pub returns-clause-another_call : goal.returns-clause-another_call
+returns-clause-another_call c = not_that_call
 
 pub returns-clause-its_end : goal.returns-clause-its_end
 unfolding encode
