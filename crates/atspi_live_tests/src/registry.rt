@@ -5,6 +5,7 @@ use atspi_host::{Call, Did, MemHost, Peer};
 use atspi_live_registry::registry;
 use std::alloc::Global;
 use std::collections::VecDeque;
+use std::process::Abort;
 use std::test::*;
 
 /// What a server says to a client that names no uid.
@@ -43,148 +44,163 @@ const ASKED: &[u8] =
 const ANSWERED: &[u8] =
     b"l\x02\x01\x01\x08\0\0\0\x04\0\0\0#\0\0\0\x05\x01u\0\x09\0\0\0\x06\x01s\0\x04\0\0\0:1.5\0\0\0\0\x08\x01g\0\x05a(ss)\0\0\0\0\0\0\0\0\0\0\0\0\0\0";
 
-/// What rejects a client.
-const REJECTED: &[u8] = b"REJECTED EXTERNAL\x0d\x0a";
-
-/// 16 bytes that begin with no order of bytes.
-const BAD: &[u8] = b"x\x01\0\x01\0\0\0\0\x01\0\0\0\0\0\0\0";
-
-/// The bytes of a name; `front` and `back` are the two parts of the bus's return to Hello.
-fn bytes_of(name: &str) -> &'static [u8] {
-    match name {
-        "challenge" => CHALLENGE,
-        "grant" => GRANT,
-        "hail" => HAIL,
-        "begin" => BEGIN,
-        "hello" => HELLO,
-        "request" => REQUEST,
-        "match" => MATCH,
-        "named" => NAMED,
-        "front" => &NAMED[..10],
-        "back" => &NAMED[10..],
-        "asked" => ASKED,
-        "answered" => ANSWERED,
-        "rejected" => REJECTED,
-        "bad" => BAD,
-        _ => b"",
-    }
+/// What a run came to: its status, what was given on the link, what was written, and how many calls of the host were made.
+#[derive(Drop)]
+struct Run {
+    status: u8,
+    given: Vec<u8>,
+    written: MemSink,
+    calls: usize,
 }
 
-/// The bytes of names with `+` between two, one behind the other.
-fn joined(alloc: Global, names: &str) -> Option<Vec<u8>> {
+/// The bytes of some slices, one behind the other.
+fn joined(alloc: Global, parts: &[&[u8]]) -> Result<Vec<u8>, Fail> {
     let mut bytes = Vec::new(alloc);
-    for name in names.split('+') {
-        bytes.extend_from_slice(bytes_of(name)).ok()?;
+    for part in parts {
+        bytes.extend_from_slice(part)?;
     }
-    Some(bytes)
-}
-
-/// Pieces of a stream, one for each read, with `;` between two; `none` for no pieces.
-fn pieces(alloc: Global, spelled: &str) -> Option<VecDeque<Vec<u8>>> {
-    let mut pieces = VecDeque::new(alloc);
-    if spelled == "none" {
-        return Some(pieces);
-    }
-    for names in spelled.split(';') {
-        pieces.push_back(joined(alloc, names)?).ok()?;
-    }
-    Some(pieces)
-}
-
-/// Appends what was given by a call.
-fn put_given(bytes: &mut Vec<u8>, call: &Call) -> Option<()> {
-    let Call::Write(_, offered, Did::Done(n)) = call else {
-        return Some(());
-    };
-    let offered = offered.as_slice();
-    let n = (*n as usize).min(offered.len());
-    bytes.extend_from_slice(&offered[..n]).ok()
+    Ok(bytes)
 }
 
 /// What was given by a list of calls.
-fn given(alloc: Global, calls: &[Call]) -> Option<Vec<u8>> {
+fn given(alloc: Global, calls: &[Call]) -> Result<Vec<u8>, Fail> {
     let mut bytes = Vec::new(alloc);
     for call in calls {
-        put_given(&mut bytes, call)?;
+        if let Call::Write(_, offered, Did::Done(n)) = call {
+            let offered = offered.as_slice();
+            let n = (*n as usize).min(offered.len());
+            bytes.extend_from_slice(&offered[..n])?;
+        }
     }
-    Some(bytes)
+    Ok(bytes)
 }
 
-/// A host with one peer that sends pieces and then ends or stays; the call with this number fails.
-fn host(alloc: Global, spelled: &str, ends: bool, failing: u64) -> Option<MemHost> {
+/// The registry does so many rounds with a peer that sends these pieces; the call with this number fails.
+fn run_with(
+    rt: &impl Abort,
+    alloc: Global,
+    pieces: VecDeque<Vec<u8>>,
+    ends: bool,
+    failing: u64,
+    rounds: u32,
+) -> Result<Run, Fail> {
     let mut peers = Vec::new(alloc);
-    peers.push(Peer::new(pieces(alloc, spelled)?, ends)).ok()?;
+    peers.push(Peer::new(pieces, ends))?;
     let mut numbers = Vec::new(alloc);
-    numbers.push(failing).ok()?;
-    Some(MemHost::new(alloc, peers, numbers))
-}
-
-/// The host of the words of a row. The call with the number `never` does not come.
-fn host_of(alloc: Global, words: &str) -> Option<MemHost> {
-    let mut words = words.split(' ');
-    let ends = words.next()? == "ends";
-    let failing = words.next()?.parse::<u64>().unwrap_or(u64::MAX);
-    host(alloc, words.next()?, ends, failing)
-}
-
-/// Whether a number is due; `?` stands for any.
-fn is_number(n: usize, due: &str) -> bool {
-    due == "?" || due.parse::<usize>().ok() == Some(n)
-}
-
-/// Whether calls gave what is due; `?` stands for any bytes.
-fn gave(alloc: Global, calls: &[Call], due: &str) -> Option<bool> {
-    if due == "?" {
-        return Some(true);
-    }
-    Some(given(alloc, calls)?.as_slice() == joined(alloc, due)?.as_slice())
-}
-
-/// Whether this line was written; `?` stands for any.
-fn wrote(written: &MemSink, due: &str) -> bool {
-    due == "?" || written.bytes().strip_suffix(b"\n") == Some(due.as_bytes())
-}
-
-/// Whether a run with a host comes to what is due.
-fn comes_to(alloc: Global, host: &mut MemHost, rounds: u32, due: &str) -> Option<bool> {
+    numbers.push(failing)?;
+    let mut host = MemHost::new(alloc, peers, numbers);
     let mut written = MemSink::new(alloc, Vec::new(alloc));
-    let path = Text::read(alloc, b"/run/bus").ok()?;
-    let status = registry(alloc, &path, rounds, &mut written, host);
-    let (status_due, rest) = due.split_once(' ')?;
-    let (calls_due, rest) = rest.split_once(' ')?;
-    let (given_due, written_due) = rest.split_once(' ')?;
-    let calls = host.calls()?;
-    let is_due = is_number(usize::from(status), status_due)
-        && is_number(calls.len(), calls_due)
-        && wrote(&written, written_due);
-    Some(is_due && gave(alloc, calls, given_due)?)
+    let path = Text::read(alloc, b"/run/bus").expect(rt, "a path");
+    let status = registry(alloc, &path, rounds, &mut written, &mut host);
+    let calls = host.calls().unwrap_or(&[]);
+    Ok(Run {
+        status,
+        given: given(alloc, calls)?,
+        written,
+        calls: calls.len(),
+    })
 }
 
-/// Runs: the rounds, whether the peer ends or stays behind its pieces, the number of the call that fails, and the pieces; then the status, how many calls were made,
-/// what was given on the link, and the line that was written. Each is one row:
-/// it registers and answers, with a pause behind the challenge and the bus's first message cut (a connect, five reads and three writes: nothing waits in the second
-/// round, and in the last the peer has ended); it does its rounds (a connect, three reads, and a write in the first round); it is not connected; a write fails; it is
-/// rejected; a message is malformed, behind a whole one of 89 bytes; the peer ends at once.
-const RUNS: &str = "\
-10 ends never challenge;-;grant+front;back+asked => 0 9 hail+challenge+begin+hello+request+match+answered ?
-3 stays never none => 8 5 hail ?
-3 stays 0 none => 7 1 ? ?
-3 stays 2 challenge => 7 3 - ?
-9 stays never challenge;rejected => 10 ? hail+challenge ?
-9 stays never challenge;grant;named;bad => 6 ? hail+challenge+begin+hello+request+match fault 89 0 22
-3 ends never none => 0 2 ? ?";
+/// Pieces of a stream, one for each read.
+fn pieces(alloc: Global, parts: &[&[u8]]) -> Result<VecDeque<Vec<u8>>, Fail> {
+    let mut pieces = VecDeque::new(alloc);
+    for part in parts {
+        pieces.push_back(part.to_vec(alloc)?)?;
+    }
+    Ok(pieces)
+}
 
-/// Whether the run of a row comes to what is due.
-fn holds(alloc: Global, row: &str) -> Option<bool> {
-    let (run, due) = row.split_once(" => ")?;
-    let (rounds, words) = run.split_once(' ')?;
-    let mut host = host_of(alloc, words)?;
-    comes_to(alloc, &mut host, rounds.parse::<u32>().ok()?, due)
+/// The number of a call that never comes.
+const NEVER: u64 = u64::MAX;
+
+#[test]
+fn registers_and_answers(rt: HostRuntime) -> Result<(), Fail> {
+    let alloc = rt.alloc();
+    // a pause behind the challenge, and the bus's first message is cut
+    let third = joined(alloc, &[GRANT, &NAMED[..10]])?;
+    let fourth = joined(alloc, &[&NAMED[10..], ASKED])?;
+    let parts = pieces(alloc, &[CHALLENGE, b"", &third, &fourth])?;
+    let run = run_with(&rt, alloc, parts, true, NEVER, 10)?;
+    assert_eq!(rt; run.status, 0);
+    let due = joined(
+        alloc,
+        &[HAIL, CHALLENGE, BEGIN, HELLO, REQUEST, MATCH, ANSWERED],
+    )?;
+    assert_eq!(rt; run.given.as_slice(), due.as_slice());
+    // a connect, five reads and three writes: nothing waits in the second round, and in the last the peer has ended
+    assert_eq!(rt; run.calls, 9);
+    Ok(())
 }
 
 #[test]
-fn runs_come_to_what_is_due(rt: HostRuntime) {
-    for row in RUNS.lines() {
-        assert!(rt; holds(rt.alloc(), row) == Some(true), "{row}");
-    }
+fn does_its_rounds(rt: HostRuntime) -> Result<(), Fail> {
+    let alloc = rt.alloc();
+    let run = run_with(&rt, alloc, pieces(alloc, &[])?, false, NEVER, 3)?;
+    assert_eq!(rt; run.status, 8);
+    assert_eq!(rt; run.given.as_slice(), HAIL);
+    // a connect, three reads, and a write in the first round
+    assert_eq!(rt; run.calls, 5);
+    Ok(())
+}
+
+#[test]
+fn is_not_connected(rt: HostRuntime) -> Result<(), Fail> {
+    let alloc = rt.alloc();
+    let run = run_with(&rt, alloc, pieces(alloc, &[])?, false, 0, 3)?;
+    assert_eq!(rt; run.status, 7);
+    assert_eq!(rt; run.calls, 1);
+    Ok(())
+}
+
+#[test]
+fn a_write_fails(rt: HostRuntime) -> Result<(), Fail> {
+    let alloc = rt.alloc();
+    let run = run_with(&rt, alloc, pieces(alloc, &[CHALLENGE])?, false, 2, 3)?;
+    assert_eq!(rt; run.status, 7);
+    assert_eq!(rt; run.given.len(), 0);
+    assert_eq!(rt; run.calls, 3);
+    Ok(())
+}
+
+#[test]
+fn is_rejected(rt: HostRuntime) -> Result<(), Fail> {
+    let alloc = rt.alloc();
+    let parts = pieces(alloc, &[CHALLENGE, b"REJECTED EXTERNAL\r\n"])?;
+    let run = run_with(&rt, alloc, parts, false, NEVER, 9)?;
+    assert_eq!(rt; run.status, 10);
+    assert_eq!(rt;
+        run.given.as_slice(),
+        b"\0AUTH EXTERNAL\r\nDATA\r\n".as_slice()
+    );
+    Ok(())
+}
+
+#[test]
+fn a_message_is_malformed(rt: HostRuntime) -> Result<(), Fail> {
+    let alloc = rt.alloc();
+    // behind a whole message of 89 bytes, 16 bytes that begin with no order of bytes
+    let parts = pieces(
+        alloc,
+        &[
+            CHALLENGE,
+            GRANT,
+            NAMED,
+            b"x\x01\0\x01\0\0\0\0\x01\0\0\0\0\0\0\0",
+        ],
+    )?;
+    let run = run_with(&rt, alloc, parts, false, NEVER, 9)?;
+    assert_eq!(rt; run.status, 6);
+    assert_eq!(rt; run.written.bytes(), b"fault 89 0 22\n".as_slice());
+    let due = joined(alloc, &[HAIL, CHALLENGE, BEGIN, HELLO, REQUEST, MATCH])?;
+    assert_eq!(rt; run.given.as_slice(), due.as_slice());
+    Ok(())
+}
+
+#[test]
+fn the_peer_ends_at_once(rt: HostRuntime) -> Result<(), Fail> {
+    let alloc = rt.alloc();
+    let run = run_with(&rt, alloc, pieces(alloc, &[])?, true, NEVER, 3)?;
+    assert_eq!(rt; run.status, 0);
+    assert_eq!(rt; run.calls, 2);
+    Ok(())
 }
