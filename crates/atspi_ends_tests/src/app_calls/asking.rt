@@ -1,6 +1,6 @@
 //! What calls ask: members, properties, and the first error.
 
-use crate::calls::{NODE, ROOT, asks, one_number, one_text, two_numbers, two_texts};
+use crate::app_calls::calls::{NODE, ROOT, asks, one_number, one_text, two_numbers, two_texts};
 use atspi_app_calls::{AppInterface, AppObject, Ask};
 use atspi_protocol::ends::CallError;
 use atspi_protocol::members::{ObjectMember, ObjectProperty};

@@ -1,6 +1,6 @@
 //! The calls of a reader's own.
 
-use crate::shown::{bus_name, path, shown, text};
+use crate::reader_calls::shown::{bus_name, path, shown, text};
 use atspi_protocol::following::Question;
 use atspi_protocol::news::PartName;
 use atspi_reader_calls::asking;

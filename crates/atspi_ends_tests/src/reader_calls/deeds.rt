@@ -3,7 +3,7 @@
 ghost use Rattle.std.specs.Prelude.{◌≤◌, length};
 ghost use Rattle.atspi_reader_calls.specs.Deeds.{MayBeAsked};
 
-use crate::shown::{bus_name, shown, text};
+use crate::reader_calls::shown::{bus_name, shown, text};
 use atspi_base::Text;
 use atspi_lines::Deed;
 use atspi_reader_calls::user_call;
