@@ -4,3 +4,4 @@ pub mod Edited
 pub mod Maps
 pub mod Seen
 pub mod Spoken
+pub mod Turning

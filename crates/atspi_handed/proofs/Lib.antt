@@ -7,3 +7,4 @@ pub mod Answering
 pub mod Steps
 pub mod Handing
 pub mod Naming
+pub mod First

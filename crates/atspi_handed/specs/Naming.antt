@@ -4,7 +4,7 @@ use Rattle.std.specs.List.{AllByRecursion}
 use Rattle.atspi_lines.specs.declared.line.Party.TheVariants.{Bus as The_bus}
 use Rattle.atspi_names.specs.Owners.{Owners, own_name, unique_name}
 use Rattle.atspi_routing.specs.BusState.{unique_of}
-use Rattle.atspi_trace.specs.World.{Standing, here, stopped, away, Said, Letter, End}
+use Rattle.atspi_trace.specs.World.{Standing, here, stopped, away, Said, Letter, End, first_world}
 use Rattle.atspi_trace.specs.Ends.{end_at}
 use Rattle.atspi_trace.specs.Carrying.{Carried, takes, takes_end}
 use Rattle.atspi_handed.specs.Spellable.{IsSpellable}
@@ -41,8 +41,9 @@ pub record AreNamed (owners : Owners) (ends : List End) : Type 0 where
   pub differ : (j k : ℕ) (d e : End) (name : List ℕ) → end_at ends j ≡ Some d → end_at ends k ≡ Some e → d.unique ≡ Some name → e.unique ≡ Some name → j ≡ k
   pub signed : (conn : ℕ) (e : End) → end_at ends conn ≡ Some e → AllByRecursion (IsSigned ends) e.down
 
--- it stays so whatever the bus takes: a message of an end that has not left, or an end
+-- so it is in the first world, and it stays so whatever the bus takes: a message of an end that has not left, or an end
 pub record NamesStay : Type 0 where
+  pub begins : (quota : ℕ) → AreNamed (first_world quota).bus.state.owners (first_world quota).ends
   pub taken : (c : Carried) (conn : ℕ) (e : End) (said : Said) → HandsLetters c → AreNamed c.bus.state.owners c.ends → end_at c.ends conn ≡ Some e → (HasLeft e.standing → ⊥) → IsSpellable said.message
       → (takes c conn e.who said).bus.state.next ≤ 4294967296 → AreNamed (takes c conn e.who said).bus.state.owners (takes c conn e.who said).ends
   pub ended : (c : Carried) (conn : ℕ) → HandsLetters c → AreNamed c.bus.state.owners c.ends → (takes_end c conn).bus.state.next ≤ 4294967296

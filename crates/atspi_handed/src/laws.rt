@@ -14,14 +14,14 @@ pub fn senders_may_be_set()
     ensures { SpelledStaySpellable }
 {}
 
-/// Under a quota of at most 64 MiB each letter that waits on a down link is a message that its written bytes spell, whatever the bus takes: a message
-/// that is passed on with its sender, and each of the bus's own.
+/// Under a quota of at most 64 MiB each letter that waits on a down link is a message that its written bytes spell, from the first world on and whatever
+/// the bus takes: a message that is passed on with its sender, and each of the bus's own.
 pub fn what_is_handed_on_is_spelled()
     ensures { LettersAreSpelled }
 {}
 
 /// The unique names of ends differ, those of ends that left too, and a letter bears the name of the end that it is from, or it is the bus's and bears the
-/// bus's: whatever the bus takes, this stays so.
+/// bus's: so it is in the first world, and whatever the bus takes, it stays so.
 pub fn letters_bear_the_names_of_their_senders()
     ensures { NamesStay }
 {}
