@@ -5,7 +5,7 @@ ghost use Rattle.atspi_routing.specs.Queues.{Bus};
 ghost use Rattle.atspi_stream.specs.Stream.{stated};
 ghost use Rattle.atspi_trace.specs.World.{Letter};
 ghost use Rattle.atspi_carrying.specs.Downs.{IsBegun};
-ghost use Rattle.atspi_carrying.specs.Filled.{IsAwaited};
+ghost use Rattle.atspi_carrying.specs.Filled.{IsAwaited, waits_for};
 ghost use Rattle.atspi_carrying.specs.Waits.{first_down, first_up, up_turn};
 ghost use Rattle.atspi_examples.specs.Turning.{IsLong, IsStill, post};
 
@@ -27,7 +27,8 @@ pub fn down()
     ensures given { (b : Bus) → IsStill b → first_down b ([] ∷ (7 ∷ []) ∷ []) 0 (post Standing.Here [] ∷ post Standing.Here [] ∷ []) ≡ Some (Turn.Get 1) }
     ensures still { (b : Bus) → IsStill b → first_down b ([] ∷ [] ∷ []) 0 (post Standing.Here [] ∷ post Standing.Here [] ∷ []) ≡ None }
     ensures stopped { (b : Bus) → first_down b ((7 ∷ []) ∷ (7 ∷ []) ∷ []) 0 (post Standing.Stopped [] ∷ post Standing.Away [] ∷ []) ≡ None }
-    ensures numbered { (b : Bus) → IsStill b → first_down b ((7 ∷ []) ∷ []) 5 (post Standing.Here [] ∷ []) ≡ Some (Turn.Get 5) }
+    ensures first { (b : Bus) → IsStill b → first_down b ((7 ∷ []) ∷ (7 ∷ []) ∷ []) 0 (post Standing.Here [] ∷ post Standing.Here [] ∷ []) ≡ Some (Turn.Get 0) }
+    ensures waiting { (b : Bus) → waits_for b 0 ≡ 7 ∷ [] → first_down b ([] ∷ []) 0 (post Standing.Here [] ∷ []) ≡ Some (Turn.Get 0) }
 {}
 
 /// Of a message of 20 bytes at most 19 were moved; where no message is, none was.

@@ -7,7 +7,7 @@ ghost use Rattle.atspi_examples.specs.Seen.{item, path, row, seen};
 ghost use Rattle.atspi_examples.specs.Turning.{held, unread, unread_both};
 
 use atspi_forest::News;
-use atspi_protocol::PartName;
+use atspi_protocol::news::PartName;
 
 /// The unknown parts of rows, those left out that were refused; and none twice.
 pub fn listed()
