@@ -21,6 +21,7 @@ pub mod OfSigned
 pub mod OfAnswered
 pub mod OfMissed
 pub mod OfEnds
+pub mod OfServed
 pub mod OfWays
 pub mod OfLaws
 pub mod OfExamples
