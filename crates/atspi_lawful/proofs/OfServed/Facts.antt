@@ -1,14 +1,15 @@
 -- The three facts of the world under "each step was asked for whole", and the one that they make: a reader's patterns are entered at the registry, an application that embedded
 -- has heard of them, and the reader asks for items of such applications alone.
-use Rattle.std.proofs.Common.{◌≡◌, ℕ, ◌<◌, ◌≤◌, true, List, [], ◌∷◌, ◌++◌, Option, None, Some}
+use Rattle.std.proofs.Common.{◌≡◌, ℕ, ◌<◌, ◌≤◌, true, List, [], ◌∷◌, ◌++◌, Option, None, Some, is_some}
 use Rattle.std.specs.Prelude.{codes, filter, nat_le}
 use Rattle.std.specs.List.{AllByRecursion}
+use Rattle.atspi_types.specs.Names.{is_unique_name}
 use Rattle.atspi_lines.specs.declared.line.Party.{Party}
 use Rattle.atspi_lines.specs.declared.line.Party.TheVariants.{Registry, App, Reader}
 use Rattle.atspi_message.specs.Envelope.{Envelope}
 use Rattle.atspi_protocol.specs.declared.following.question.Question.TheVariants.{RegisterEvent, GetItems}
 use Rattle.atspi_protocol.specs.exporting.Exporter.{Exporter}
-use Rattle.atspi_protocol.specs.exporting.Hearing.{is_heard}
+use Rattle.atspi_protocol.specs.exporting.Hearing.{is_heard, heard_after}
 use Rattle.atspi_trace.specs.Entry.{Entry}
 use Rattle.atspi_trace.specs.World.{here, Asked, returned, an_application, a_reader, Hearer, Letter, End, World}
 use Rattle.atspi_trace.specs.Ends.{end_at}
@@ -40,6 +41,29 @@ AllEntered es w =
     Lives es → (k r : ℕ) (e : End) (h : Hearer) (name : List ℕ) → end_at w.ends k ≡ Some e → e.who ≡ Reader r → e.role ≡ a_reader h → e.standing ≡ here → e.unique ≡ Some name
     → AllByRecursion (IsEntered es name) h.asked
 
+-- such a reader has its name
+abbrev pub IsKnown : End → Asked → Type 0
+IsKnown e a = (pattern : List ℕ) → a.question ≡ RegisterEvent pattern → a.fate ≡ returned → is_some e.unique ≡ true
+
+abbrev pub AllKnown : List Entry → World → Type 0
+AllKnown es w =
+    Lives es → (k r : ℕ) (e : End) (h : Hearer) → end_at w.ends k ≡ Some e → e.who ≡ Reader r → e.role ≡ a_reader h → e.standing ≡ here → AllByRecursion (IsKnown e) h.asked
+
+-- STAYS. No pair of a reader that is here goes: where one who heard so much has it, so has one who heard more.
+abbrev pub Stays : List Entry → List ℕ × List ℕ → Type 0
+Stays es pair = (m n : ℕ) → m ≤ n → is_heard (told_by es m) pair ≡ true → is_heard (told_by es n) pair ≡ true
+
+abbrev pub AllStay : List Entry → World → Type 0
+AllStay es w =
+    Lives es → (k r : ℕ) (e : End) (name pattern : List ℕ) → end_at w.ends k ≡ Some e → e.who ≡ Reader r → e.standing ≡ here → e.unique ≡ Some name → Stays es (name, pattern)
+
+-- ONLY SIGNALS TELL: a message of the registry's that is none tells of no pair
+abbrev pub TellsNone : Envelope → Type 0
+TellsNone m = (m.kind ≡ 4 → ⊥) → (pairs : List (List ℕ × List ℕ)) → (heard_after pairs m).heard ≡ pairs
+
+abbrev pub OnlySignals : List Entry → Type 0
+OnlySignals es = AllByRecursion TellsNone (messages es Registry)
+
 -- LISTED. An application took the registry's list: it sent the call that it sends behind that.
 pub record Embeds (es : List Entry) (a : ℕ) : Type 0 where
   pub call : Envelope
@@ -64,9 +88,9 @@ abbrev pub AllHear : List Entry → World → Type 0
 AllHear es w =
     Lives es → (k a : ℕ) (e : End) (s : Exporter) → end_at w.ends k ≡ Some e → e.who ≡ App a → e.role ≡ an_application s → e.standing ≡ here → Embeds es a → HearsAll es s e.down
 
--- NAMED. The bus names that a reader was told as those of applications are of such as embedded.
+-- NAMED. The bus names that a reader was told as those of applications are unique names, of such as embedded.
 abbrev pub IsListed : List Entry → List End → List ℕ → Type 0
-IsListed es ends name = (k a : ℕ) (e : End) → end_at ends k ≡ Some e → e.who ≡ App a → e.unique ≡ Some name → Embeds es a
+IsListed es ends name = (is_unique_name name ≡ true) × ((k a : ℕ) (e : End) → end_at ends k ≡ Some e → e.who ≡ App a → e.unique ≡ Some name → Embeds es a)
 
 abbrev pub AllListed : List Entry → World → Type 0
 AllListed es w = Lives es → (k : ℕ) (e : End) (h : Hearer) → end_at w.ends k ≡ Some e → e.role ≡ a_reader h → AllByRecursion (IsListed es w.ends) h.named
