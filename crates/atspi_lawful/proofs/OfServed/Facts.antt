@@ -49,13 +49,11 @@ abbrev pub AllKnown : List Entry → World → Type 0
 AllKnown es w =
     Lives es → (k r : ℕ) (e : End) (h : Hearer) → end_at w.ends k ≡ Some e → e.who ≡ Reader r → e.role ≡ a_reader h → e.standing ≡ here → AllByRecursion (IsKnown e) h.asked
 
--- STAYS. No pair of a reader that is here goes: where one who heard so much has it, so has one who heard more.
-abbrev pub Stays : List Entry → List ℕ × List ℕ → Type 0
-Stays es pair = (m n : ℕ) → m ≤ n → is_heard (told_by es m) pair ≡ true → is_heard (told_by es n) pair ≡ true
-
-abbrev pub AllStay : List Entry → World → Type 0
-AllStay es w =
-    Lives es → (k r : ℕ) (e : End) (name pattern : List ℕ) → end_at w.ends k ≡ Some e → e.who ≡ Reader r → e.standing ≡ here → e.unique ≡ Some name → Stays es (name, pattern)
+-- CARRIED ON. Where a reader that had its name before is here still, what was entered for it is so later, from the same message on.
+abbrev pub Carries : List Entry → List Entry → World → World → Type 0
+Carries es later w v =
+    Lives later → (k r : ℕ) (e d : End) (name pattern : List ℕ) → end_at w.ends k ≡ Some e → end_at v.ends k ≡ Some d → e.who ≡ Reader r → e.unique ≡ Some name → d.standing ≡ here
+    → (i : Entered es (name, pattern)) → (j : Entered later (name, pattern)) × (j.at ≡ i.at)
 
 -- ONLY SIGNALS TELL: a message of the registry's that is none tells of no pair
 abbrev pub TellsNone : Envelope → Type 0
