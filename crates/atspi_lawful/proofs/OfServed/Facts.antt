@@ -8,6 +8,8 @@ use Rattle.atspi_lines.specs.declared.line.Party.{Party}
 use Rattle.atspi_lines.specs.declared.line.Party.TheVariants.{Registry, App, Reader}
 use Rattle.atspi_message.specs.Envelope.{Envelope}
 use Rattle.atspi_protocol.specs.declared.following.question.Question.TheVariants.{RegisterEvent, GetItems}
+use Rattle.atspi_protocol.specs.ends.Places.{registry}
+use Rattle.atspi_protocol.specs.members.Asked.{is_text}
 use Rattle.atspi_protocol.specs.exporting.Exporter.{Exporter}
 use Rattle.atspi_protocol.specs.exporting.Hearing.{is_heard, heard_after}
 use Rattle.atspi_trace.specs.Entry.{Entry}
@@ -70,8 +72,11 @@ pub record Embeds (es : List Entry) (a : ℕ) : Type 0 where
   pub is_call : call.kind ≡ 1
   pub member : call.member ≡ Some (codes "Embed")
 
--- HEARS. What it has heard is what one has who heard all that the registry sent up to some message of its; each signal behind that which the bus took stands on its down link, and what stands
--- there of the registry is behind that.
+-- HEARS. What it has heard is what one has who heard all that the registry sent up to some message of its; each message of the registry's own interface behind that which the bus took (no other
+-- tells of pairs) stands on its down link, and what stands there of the registry is behind that.
+abbrev pub IsNews : Envelope → Type 0
+IsNews m = is_text m.interface registry ≡ true
+
 abbrev pub OnLink : ℕ → List Letter → Type 0
 OnLink n ls = (l : Letter) × On l ls × (l.from ≡ Registry) × (l.said.message.serial ≡ n)
 
@@ -79,7 +84,7 @@ pub record HearsAll (es : List Entry) (s : Exporter) (down : List Letter) : Type
   pub base : ℕ
   pub heard : (pair : List ℕ × List ℕ) → is_heard s.heard pair ≡ is_heard (told_by es base) pair
   pub taken : base < first_unread es Registry
-  pub behind : (n : ℕ) → base < n → n < first_unread es Registry → (m : Envelope) → message es Registry n ≡ Some m → m.kind ≡ 4 → OnLink n down
+  pub behind : (n : ℕ) → base < n → n < first_unread es Registry → (m : Envelope) → message es Registry n ≡ Some m → IsNews m → OnLink n down
   pub before : (l : Letter) → On l down → l.from ≡ Registry → base < l.said.message.serial
 
 abbrev pub AllHear : List Entry → World → Type 0
