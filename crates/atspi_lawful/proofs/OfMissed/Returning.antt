@@ -12,6 +12,8 @@ use Rattle.atspi_match.specs.declared.condition.Condition.{Condition}
 use Rattle.atspi_routing.specs.declared.member.BusMember.{BusMember}
 use Rattle.atspi_routing.specs.BusState.{BusState, unique_of, text_or_empty}
 use Rattle.atspi_routing.specs.Members.{is_text, member_of}
+use Rattle.atspi_protocol.specs.ends.Places.{registry}
+use Rattle.atspi_protocol.specs.members.Asked.{is_text as is_word}
 use Rattle.atspi_routing.specs.OwnMessages.{return_to, error_to, name_acquired, owner_changed, numbered}
 use Rattle.atspi_routing.specs.Answers.{Reply, returns, fails, Answer, only, answers}
 use Rattle.atspi_routing.specs.Routing.{receivers, owners_of, is_for_bus, expects_reply}
@@ -23,9 +25,9 @@ use Rattle.atspi_lawful.proofs.OfSigned.Unique.{OwnLists, called_lists, IsIn, ow
 use Rattle.atspi_lawful.proofs.OfSigned.Mail.{IsOwn}
 use Rattle.atspi_lawful.proofs.OfSigned.Handing.{Fine, told_fine, replies_fine, acquired_fine, changed_fine, Gives, handed_gives, speaks_gives}
 
--- A MESSAGE OF THE BUS'S OWN that is no return, or the return with this serial to the connection that has this name
+-- A MESSAGE OF THE BUS'S OWN that is no return, or the return with this serial to the connection that has this name; it is not of the registry's interface
 abbrev pub ReturnsTo : Owners → List ℕ → ℕ → ℕ → Envelope → Type 0
-ReturnsTo o own serial c m = IsOwn m × (m.kind ≡ 2 → (m.reply ≡ Some serial) × (unique_of o c ≡ Some own))
+ReturnsTo o own serial c m = IsOwn m × (m.kind ≡ 2 → (m.reply ≡ Some serial) × (unique_of o c ≡ Some own)) × (is_word m.interface registry ≡ false)
 
 -- it may be said with any serial
 none_twice : (m : Envelope) → Fine 0 m → Fine 1 m → m.kind ≡ 2 → ⊥
@@ -48,7 +50,7 @@ module _ (o : Owners) (own : List ℕ) (serial : ℕ) where
   quiet_said t at (e ∷ es) a =
       let m : Envelope = record e { serial = at } in (
         tt,
-        all_append (Gives To) (handed t m) (flat_map (λ x. says x ∷ handed t x) (numbered (at + 1) es)) (handed_gives To m (receivers t m) (λ c i. (a.0.0.0, λ k. absurd (none_twice m a.0.0 a.0.1 k))))
+        all_append (Gives To) (handed t m) (flat_map (λ x. says x ∷ handed t x) (numbered (at + 1) es)) (handed_gives To m (receivers t m) (λ c i. (a.0.0.0, λ k. absurd (none_twice m a.0.0 a.0.1 k), a.0.0.2)))
             (quiet_said t (at + 1) es a.1),
       )
 
@@ -60,7 +62,7 @@ module _ (o : Owners) (own : List ℕ) (serial : ℕ) where
   told_then t at (e ∷ es) r a f =
       let m : Envelope = record e { serial = at } in (
         tt,
-        all_append (Gives To) (handed t m) (flat_map (λ x. says x ∷ handed t x) (numbered (at + 1) (es ++ r ∷ []))) (handed_gives To m (receivers t m) (λ c i. (a.0.0.0, λ k. absurd (none_twice m a.0.0 a.0.1 k))))
+        all_append (Gives To) (handed t m) (flat_map (λ x. says x ∷ handed t x) (numbered (at + 1) (es ++ r ∷ []))) (handed_gives To m (receivers t m) (λ c i. (a.0.0.0, λ k. absurd (none_twice m a.0.0 a.0.1 k), a.0.0.2)))
             (told_then t (at + 1) es r a.1 f),
       )
 
@@ -79,12 +81,12 @@ module _ (s : BusState) (conn : ℕ) (e : Envelope) (own : List ℕ) (named_ : u
   abbrev It : ℕ → Envelope → Type 0
   It c m = ReturnsTo s.owners own e.serial c m
 
-  to_it : (t : BusState) → OwnLists t.owners → SameAs s.owners t.owners → (m : Envelope) → IsOwn m → (m.kind ≡ 2 → m.reply ≡ Some e.serial) → m.destination ≡ unique_of t.owners conn
+  to_it : (t : BusState) → OwnLists t.owners → SameAs s.owners t.owners → (m : Envelope) → IsOwn m → (m.kind ≡ 2 → m.reply ≡ Some e.serial) → is_word m.interface registry ≡ false → m.destination ≡ unique_of t.owners conn
       → (n c : ℕ) → IsIn c (receivers t (record m { serial = n })) → It c (record m { serial = n })
-  to_it t lists same m is_own two goes n c i =
+  to_it t lists same m is_own two other goes n c i =
       let owner : unique_of t.owners conn ≡ Some own = ap (λ u. finmap.get u conn) same.0 ∙ named_ in
       let has : unique_of t.owners c ≡ Some own = owner_has t own c lists unique (own_to t (record m { serial = n }) own m.destination c (goes ∙ owner) i) in
-      (is_own, λ k. (two k, sym (ap (λ u. finmap.get u c) same.0) ∙ has))
+      (is_own, λ k. (two k, sym (ap (λ u. finmap.get u c) same.0) ∙ has), other)
 
   answered_to : (t : BusState) (told : List Envelope) (reply : Reply) → OwnLists t.owners → SameAs s.owners t.owners → AllByRecursion (λ m. Fine 0 m × Fine 1 m) told → AllByRecursion (Gives It) (speaks t (told ++ replies t conn e reply)).moves
   answered_to t told (returns values) lists same a = by (expects_reply e)
@@ -94,7 +96,7 @@ module _ (s : BusState) (conn : ℕ) (e : Envelope) (own : List ℕ) (named_ : u
 
       by : (b : Bool) → AllByRecursion (Gives It) (flat_map (λ x. says x ∷ handed t x) (numbered t.next (told ++ (if b then m ∷ [] else []))))
       by false = quiet_said s.owners own e.serial t t.next (told ++ []) (no_more told a)
-      by true = told_then s.owners own e.serial t t.next told m a (to_it t lists same m mine (λ k. refl) refl)
+      by true = told_then s.owners own e.serial t t.next told m a (to_it t lists same m mine (λ k. refl) refl refl)
   answered_to t told (fails name) lists same a = by (expects_reply e)
     where
       m : Envelope
@@ -102,7 +104,7 @@ module _ (s : BusState) (conn : ℕ) (e : Envelope) (own : List ℕ) (named_ : u
 
       by : (b : Bool) → AllByRecursion (Gives It) (flat_map (λ x. says x ∷ handed t x) (numbered t.next (told ++ (if b then m ∷ [] else []))))
       by false = quiet_said s.owners own e.serial t t.next (told ++ []) (no_more told a)
-      by true = told_then s.owners own e.serial t t.next told m a (to_it t lists same m mine (λ k. refl) refl)
+      by true = told_then s.owners own e.serial t t.next told m a (to_it t lists same m mine (λ k. refl) refl refl)
 
   called_to : (rule : Option (List Condition)) → OwnLists s.owners → AllByRecursion (Gives It) (called s conn e rule).moves
   called_to rule lists = by (member_of e) refl

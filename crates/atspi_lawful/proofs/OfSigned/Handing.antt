@@ -14,6 +14,8 @@ use Rattle.atspi_routing.specs.declared.member.BusMember.{BusMember}
 use Rattle.atspi_routing.specs.declared.member.BusMember.TheVariants.{Hello, RequestName, ReleaseName, NameHasOwner, GetNameOwner, ListNames, ListQueuedOwners, AddMatch, RemoveMatch, GetId, Ping}
 use Rattle.atspi_routing.specs.BusState.{OpenCall, BusState, unique_of, text_or_empty, name_or_empty, calls_without, waiting_for}
 use Rattle.atspi_routing.specs.Members.{member_of}
+use Rattle.atspi_protocol.specs.ends.Places.{registry}
+use Rattle.atspi_protocol.specs.members.Asked.{is_text}
 use Rattle.atspi_routing.specs.OwnMessages.{return_to, error_to, name_lost, name_acquired, owner_changed, same_owner, told_of_change, numbered}
 use Rattle.atspi_routing.specs.Answers.{Reply, returns, fails, Answer, only, answers, may_be_asked_for, first_text, second_number, requests, releases, adds_rule, removes_rule}
 use Rattle.atspi_routing.specs.Routing.{receivers, owners_of, is_for_bus, expects_reply}
@@ -28,9 +30,9 @@ use Rattle.atspi_lawful.proofs.OfOrder.Frame.{with_cases}
 use Rattle.atspi_lawful.proofs.OfSigned.Unique.{OwnLists, IsIn, owner_has}
 use Rattle.atspi_lawful.proofs.OfSigned.Mail.{IsOwn}
 
--- THE BUS'S OWN MESSAGES: a return has this serial
+-- THE BUS'S OWN MESSAGES: a return has this serial, and none is of the registry's interface
 abbrev pub Fine : ℕ → Envelope → Type 0
-Fine n m = IsOwn m × (m.kind ≡ 2 → m.reply ≡ Some n)
+Fine n m = IsOwn m × (m.kind ≡ 2 → m.reply ≡ Some n) × (is_text m.interface registry ≡ false)
 
 own_itself : bytes_eq own_name own_name ≡ true
 own_itself = (bytes_eq-Decides own_name own_name).1 refl
@@ -43,22 +45,22 @@ three_two h = omega (arith, h)
 
 lost_fine : (n : ℕ) (owners : Owners) (name : List ℕ) (o : Option ℕ) → AllByRecursion (Fine n) (name_lost owners name o)
 lost_fine n owners name None = tt
-lost_fine n owners name (Some conn) = ((own_itself, λ k. absurd (four_two k)), tt)
+lost_fine n owners name (Some conn) = ((own_itself, λ k. absurd (four_two k), refl), tt)
 
 pub acquired_fine : (n : ℕ) (owners : Owners) (name : List ℕ) (o : Option ℕ) → AllByRecursion (Fine n) (name_acquired owners name o)
 acquired_fine n owners name None = tt
-acquired_fine n owners name (Some conn) = ((own_itself, λ k. absurd (four_two k)), tt)
+acquired_fine n owners name (Some conn) = ((own_itself, λ k. absurd (four_two k), refl), tt)
 
 pub changed_fine : (n : ℕ) (name before after : List ℕ) → Fine n (owner_changed name before after)
-changed_fine n name before after = (own_itself, λ k. absurd (four_two k))
+changed_fine n name before after = (own_itself, λ k. absurd (four_two k), refl)
 
 if_fine : (n : ℕ) (b : Bool) (e : Envelope) → Fine n e → AllByRecursion (Fine n) (if b then e ∷ [] else [])
 if_fine n true e h = (h, tt)
 if_fine n false e h = tt
 
 pub replies_fine : (s : BusState) (conn : ℕ) (e : Envelope) (reply : Reply) → AllByRecursion (Fine e.serial) (replies s conn e reply)
-replies_fine s conn e (returns values) = if_fine e.serial (expects_reply e) (return_to (unique_of s.owners conn) e.serial values) (own_itself, λ k. refl)
-replies_fine s conn e (fails name) = if_fine e.serial (expects_reply e) (error_to (unique_of s.owners conn) e.serial name) (own_itself, λ k. absurd (three_two k))
+replies_fine s conn e (returns values) = if_fine e.serial (expects_reply e) (return_to (unique_of s.owners conn) e.serial values) (own_itself, λ k. refl, refl)
+replies_fine s conn e (fails name) = if_fine e.serial (expects_reply e) (error_to (unique_of s.owners conn) e.serial name) (own_itself, λ k. absurd (three_two k), refl)
 
 change_fine : (n : ℕ) (owners : Owners) (name : List ℕ) (before after : Option ℕ) → AllByRecursion (Fine n) (told_of_change owners name before after)
 change_fine n owners name before after = by (same_owner before after)
@@ -106,7 +108,7 @@ told_fine n Ping s conn args rule = tt
 -- of one who leaves
 gone_fine : (n : ℕ) (s : BusState) (cs : List OpenCall) → AllByRecursion (Fine n) (map (λ (c : OpenCall). error_to (unique_of s.owners c.caller) c.serial (codes "NoReply")) cs)
 gone_fine n s [] = tt
-gone_fine n s (c ∷ cs) = ((own_itself, λ k. absurd (three_two k)), gone_fine n s cs)
+gone_fine n s (c ∷ cs) = ((own_itself, λ k. absurd (three_two k), refl), gone_fine n s cs)
 
 passed_fine : (n : ℕ) (before after : Owners) (conn : ℕ) (names : List (List ℕ)) → AllByRecursion (Fine n) (flat_map (name_passes_on before after conn) names)
 passed_fine n before after conn [] = tt
