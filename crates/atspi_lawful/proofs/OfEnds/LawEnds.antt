@@ -354,7 +354,7 @@ found_named name app (x ∷ xs) h = by (number_if name x.who x.unique) refl h (�
     by None g q rest = let y = rest q in (suc y.0, y.1, y.2, y.3, y.4)
 
 -- who left under a name is the party that the trace tells of under it
-away_named : (es : List Entry) (w : World) → Named es w → Mail es w → (who : Party) (name : List ℕ) → AwayAs w.ends who name → NameIs es who name
+pub away_named : (es : List Entry) (w : World) → Named es w → Mail es w → (who : Party) (name : List ℕ) → AwayAs w.ends who name → NameIs es who name
 away_named es w n m who name x = subst (λ p. NameIs es p name) x.whose (by (same_party x.e.who Registry) refl)
   where
     by : (b : Bool) → same_party x.e.who Registry ≡ b → NameIs es x.e.who name
@@ -542,7 +542,7 @@ caused es w d s after none n m few i (registry_took b) =
     (calm_as d _ b.is (got_registry b.e.who b.letter.from b.letter.said.message.serial b.whose, sent_calm b.e.who step.sent))
 caused es w d s after none n m few i (reader_took b) = heard_told es w d after n m few i b
 
-abbrev Under_ends : List Entry → World → Type 0
+abbrev pub Under_ends : List Entry → World → Type 0
 Under_ends es w = And (And Under_mail Known_mail) (And Under_links Delivered) es w
 
 ends_grow : Grows Under_ends Ends_told
@@ -564,7 +564,7 @@ ends_grow = record {
         (subst (λ (x : World). Over (Calmly (AwayAs w.ends)) w.ends x.ends) (sym m.after)
         (over_with (Calmly (AwayAs w.ends)) (calming (AwayAs w.ends)) (λ e. record e { down_moved = e.down_moved + m.count }) (λ e. calm_same (AwayAs w.ends) e (record e { down_moved = e.down_moved + m.count }) refl refl refl refl) m.conn w.ends)) tt
 
-ends_keep : Keeps (Shaped (And Under_ends Ends_told))
+pub ends_keep : Keeps (Shaped (And Under_ends Ends_told))
 ends_keep = grown Under_ends Ends_told (both_keep (And Under_mail Known_mail) (And Under_links Delivered) mail_keeps delivered_keeps) ends_grow
 
 -- THE LAWS
