@@ -446,7 +446,7 @@ errors_fine : (n : ℕ) (s : BusState) (conn : ℕ) (e : Envelope) (name : List 
 errors_fine n s conn e name = by (expects_reply e)
   where
     by : (b : Bool) → AllByRecursion (Fine n) (if b then error_to (unique_of s.owners conn) e.serial name ∷ [] else [])
-    by true = ((mine, λ k. absurd (three_two k)), tt)
+    by true = ((mine, λ k. absurd (three_two k), refl, three_one), tt)
     by false = tt
 
 errors_give : (s : BusState) (conn : ℕ) (e : Envelope) (name : List ℕ) → AllByRecursion (Gives NoReturn) (speaks s (replies s conn e (fails_bus name))).moves

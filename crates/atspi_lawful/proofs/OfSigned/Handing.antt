@@ -30,9 +30,9 @@ use Rattle.atspi_lawful.proofs.OfOrder.Frame.{with_cases}
 use Rattle.atspi_lawful.proofs.OfSigned.Unique.{OwnLists, IsIn, owner_has}
 use Rattle.atspi_lawful.proofs.OfSigned.Mail.{IsOwn}
 
--- THE BUS'S OWN MESSAGES: a return has this serial, and none is of the registry's interface
+-- THE BUS'S OWN MESSAGES: a return has this serial, none is of the registry's interface, and none is a call
 abbrev pub Fine : ℕ → Envelope → Type 0
-Fine n m = IsOwn m × (m.kind ≡ 2 → m.reply ≡ Some n) × (is_text m.interface registry ≡ false)
+Fine n m = IsOwn m × (m.kind ≡ 2 → m.reply ≡ Some n) × (is_text m.interface registry ≡ false) × (m.kind ≡ 1 → ⊥)
 
 own_itself : bytes_eq own_name own_name ≡ true
 own_itself = (bytes_eq-Decides own_name own_name).1 refl
@@ -43,24 +43,33 @@ four_two h = omega (arith, h)
 three_two : ◌≡◌ {A = ℕ} 3 2 → ⊥
 three_two h = omega (arith, h)
 
+four_one : ◌≡◌ {A = ℕ} 4 1 → ⊥
+four_one h = omega (arith, h)
+
+three_one : ◌≡◌ {A = ℕ} 3 1 → ⊥
+three_one h = omega (arith, h)
+
+two_one : ◌≡◌ {A = ℕ} 2 1 → ⊥
+two_one h = omega (arith, h)
+
 lost_fine : (n : ℕ) (owners : Owners) (name : List ℕ) (o : Option ℕ) → AllByRecursion (Fine n) (name_lost owners name o)
 lost_fine n owners name None = tt
-lost_fine n owners name (Some conn) = ((own_itself, λ k. absurd (four_two k), refl), tt)
+lost_fine n owners name (Some conn) = ((own_itself, λ k. absurd (four_two k), refl, four_one), tt)
 
 pub acquired_fine : (n : ℕ) (owners : Owners) (name : List ℕ) (o : Option ℕ) → AllByRecursion (Fine n) (name_acquired owners name o)
 acquired_fine n owners name None = tt
-acquired_fine n owners name (Some conn) = ((own_itself, λ k. absurd (four_two k), refl), tt)
+acquired_fine n owners name (Some conn) = ((own_itself, λ k. absurd (four_two k), refl, four_one), tt)
 
 pub changed_fine : (n : ℕ) (name before after : List ℕ) → Fine n (owner_changed name before after)
-changed_fine n name before after = (own_itself, λ k. absurd (four_two k), refl)
+changed_fine n name before after = (own_itself, λ k. absurd (four_two k), refl, four_one)
 
 if_fine : (n : ℕ) (b : Bool) (e : Envelope) → Fine n e → AllByRecursion (Fine n) (if b then e ∷ [] else [])
 if_fine n true e h = (h, tt)
 if_fine n false e h = tt
 
 pub replies_fine : (s : BusState) (conn : ℕ) (e : Envelope) (reply : Reply) → AllByRecursion (Fine e.serial) (replies s conn e reply)
-replies_fine s conn e (returns values) = if_fine e.serial (expects_reply e) (return_to (unique_of s.owners conn) e.serial values) (own_itself, λ k. refl, refl)
-replies_fine s conn e (fails name) = if_fine e.serial (expects_reply e) (error_to (unique_of s.owners conn) e.serial name) (own_itself, λ k. absurd (three_two k), refl)
+replies_fine s conn e (returns values) = if_fine e.serial (expects_reply e) (return_to (unique_of s.owners conn) e.serial values) (own_itself, λ k. refl, refl, two_one)
+replies_fine s conn e (fails name) = if_fine e.serial (expects_reply e) (error_to (unique_of s.owners conn) e.serial name) (own_itself, λ k. absurd (three_two k), refl, three_one)
 
 change_fine : (n : ℕ) (owners : Owners) (name : List ℕ) (before after : Option ℕ) → AllByRecursion (Fine n) (told_of_change owners name before after)
 change_fine n owners name before after = by (same_owner before after)
@@ -108,7 +117,7 @@ told_fine n Ping s conn args rule = tt
 -- of one who leaves
 gone_fine : (n : ℕ) (s : BusState) (cs : List OpenCall) → AllByRecursion (Fine n) (map (λ (c : OpenCall). error_to (unique_of s.owners c.caller) c.serial (codes "NoReply")) cs)
 gone_fine n s [] = tt
-gone_fine n s (c ∷ cs) = ((own_itself, λ k. absurd (three_two k), refl), gone_fine n s cs)
+gone_fine n s (c ∷ cs) = ((own_itself, λ k. absurd (three_two k), refl, three_one), gone_fine n s cs)
 
 passed_fine : (n : ℕ) (before after : Owners) (conn : ℕ) (names : List (List ℕ)) → AllByRecursion (Fine n) (flat_map (name_passes_on before after conn) names)
 passed_fine n before after conn [] = tt
@@ -186,7 +195,7 @@ module _ (H : ℕ → Envelope → Type 0) where
   -- a Hello: the return goes to whoever has the new name
   pub greets_gives : (s : BusState) (conn : ℕ) (e : Envelope) → OwnLists (greets s conn e).state.owners
       → ((c : ℕ) (m : Envelope) → Fine 0 m → H c m)
-      → ((c : ℕ) (m : Envelope) → unique_of (greets s conn e).state.owners c ≡ Some (unique_name s.owners.given) → IsOwn m → m.body ≡ text_data (unique_name s.owners.given) ∷ [] → H c m)
+      → ((c : ℕ) (m : Envelope) → unique_of (greets s conn e).state.owners c ≡ Some (unique_name s.owners.given) → Fine e.serial m → m.body ≡ text_data (unique_name s.owners.given) ∷ [] → H c m)
       → unique_of (greets s conn e).state.owners conn ≡ Some (unique_name s.owners.given) → AllByRecursion Gives (greets s conn e).moves
   greets_gives s conn e lists f g here = first (expects_reply e)
     where
@@ -210,7 +219,7 @@ module _ (H : ℕ → Envelope → Type 0) where
 
       to_owner : (at c : ℕ) → IsIn c (receivers after (record reply { serial = at })) → H c (record reply { serial = at })
       to_owner at c i =
-          g c (record reply { serial = at }) (owner_has after (unique_name s.owners.given) c lists refl (owned (unique_of after.owners conn) here i)) own_itself (ap (λ n. text_data n ∷ []) name_is)
+          g c (record reply { serial = at }) (owner_has after (unique_name s.owners.given) c lists refl (owned (unique_of after.owners conn) here i)) (own_itself, λ k. refl, refl, two_one) (ap (λ n. text_data n ∷ []) name_is)
         where
           owned : (o : Option (List ℕ)) → o ≡ Some (unique_name s.owners.given) → IsIn c (receivers after (record (record reply { destination = o }) { serial = at })) → IsIn c (owners_of after (unique_name s.owners.given))
           owned o h = subst (λ z. IsIn c (receivers after (record (record reply { destination = z }) { serial = at })) → IsIn c (owners_of after (unique_name s.owners.given))) (sym h) (λ x. x)

@@ -436,7 +436,7 @@ module _ (es : List Entry) (w : World) (d : Done) (s : Shape w) (t : IsTold w) (
   -- messages of the bus's own
   own_at : (serial : ℕ) → (serial == 1) ≡ false → (j : ℕ) (m : Envelope) → Fine serial m → At j (own_letter m)
   own_at serial other j m f z there stands =
-      inl (record { from = refl; own = f.0; greets = λ two one. absurd (false_true (sym other ∙ eq-eqb serial 1 (same_some serial 1 (sym (f.1 two) ∙ one)))) })
+      inl (record { from = refl; own = f.0; no_call = f.3; greets = λ two one. absurd (false_true (sym other ∙ eq-eqb serial 1 (same_some serial 1 (sym (f.1 two) ∙ one)))) })
 
   as_own : (j : ℕ) (m : Envelope) → IsOwn m → At j (own_letter m) → At j (letter_of b.e.who b.said m)
   as_own j m own a = subst (At j) (sym (ap (λ t. if t then own_letter m else record { from = b.e.who; said = record b.said { message = m } }) own)) a
@@ -526,10 +526,11 @@ module _ (es : List Entry) (w : World) (d : Done) (s : Shape w) (t : IsTold w) (
       after_all
       (subst (λ (x : BusStep). AllByRecursion (Gives (PutsAt At (letter_of b.e.who b.said))) x.moves) (sym step_is)
       (greets_gives (PutsAt At (letter_of b.e.who b.said)) w.bus.state b.conn b.said.message (greets_lists w.bus.state b.conn b.said.message none i.lists) (λ c m f. as_own c m f.0 (own_at 0 refl c m f))
-      (λ c m has own body. as_own c m own (λ z there stands.
+      (λ c m has f body. as_own c m f.0 (λ z there stands.
       inl (record {
         from = refl;
-        own = own;
+        own = f.0;
+        no_call = f.3;
         greets = λ two one. (unique_name w.bus.state.owners.given, body, named_now c z there stands (unique_name w.bus.state.owners.given) (ap (λ (x : BusStep). unique_of x.state.owners c) step_is ∙ has));
       })))
       (hello_here w.bus.state b.conn b.said.message)))
@@ -570,7 +571,7 @@ module _ (es : List Entry) (w : World) (d : Done) (i : Mail es w) (b : BusEnds w
 
   own_has : (j : ℕ) (m : Envelope) → Fine 0 m → Has j (own_letter m)
   own_has j m f z there stands =
-      inl (record { from = refl; own = f.0; greets = λ two one. absurd (false_true (eq-eqb 0 1 (same_some 0 1 (sym (f.1 two) ∙ one)))) })
+      inl (record { from = refl; own = f.0; no_call = f.3; greets = λ two one. absurd (false_true (eq-eqb 0 1 (same_some 0 1 (sym (f.1 two) ∙ one)))) })
 
   at_first : Downs Has w.ends
   at_first j e there = each e.down (λ z at stands. by z at stands)

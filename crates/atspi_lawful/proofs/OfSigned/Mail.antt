@@ -121,6 +121,7 @@ IsOwn m = is_text m.sender own_name ≡ true
 pub record IsOfBus (es : List Entry) (who : Party) (letter : Letter) : Type 0 where
   pub from : letter.from ≡ The_bus
   pub own : IsOwn letter.said.message
+  pub no_call : letter.said.message.kind ≡ 1 → ⊥
   pub greets : letter.said.message.kind ≡ 2 → letter.said.message.reply ≡ Some 1 → (name : List ℕ) × (letter.said.message.body ≡ text_data name ∷ []) × NameIs es who name
 
 pub record IsPost (es : List Entry) (who : Party) (letter : Letter) : Type 0 where
@@ -141,6 +142,7 @@ pub mail_more : (es ys : List Entry) (who : Party) (letter : Letter) → IsMail 
 mail_more es ys who letter (inl b) = inl (record {
   from = b.from;
   own = b.own;
+  no_call = b.no_call;
   greets = λ k h. let g = b.greets k h in (g.0, g.1, name_more es ys who g.0 g.2);
 })
 mail_more es ys who letter (inr p) = inr (record {
