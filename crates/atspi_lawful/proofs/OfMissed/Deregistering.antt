@@ -1,4 +1,4 @@
--- A call that takes a pattern back says so: of the registry's objects DeregisterEvent is asked only by a call whose member is that.
+-- A call that takes a pattern back says so, and one that embeds: of the registry's objects DeregisterEvent and Embed are asked only by calls whose members are those.
 use Rattle.std.proofs.Common.{◌≡◌, ℕ, Bool, true, false, List, [], ◌∷◌, Option, None, Some, refl, ap, ◌∙◌}
 use Rattle.std.specs.Prelude.{◌&&◌, filter, bytes_eq, codes, if◌then◌else◌, Result, Ok, Err}
 use Rattle.std.proofs.lemmas.Slice.Eq.{bytes_eq-Decides}
@@ -15,9 +15,10 @@ use Rattle.atspi_protocol.specs.registering.Answers.{object_at}
 use Rattle.atspi_lawful.proofs.OfOrder.Parties.{false_true}
 use Rattle.atspi_lawful.proofs.OfMissed.Telling.{and_left, and_right}
 
--- the member, where it is that one, is what a call names
+-- the member, where it is one of those, is what a call names
 abbrev pub MemberSays : Option (List ℕ) → ObjectMember → Type 0
 MemberSays text members.DeregisterEvent = text ≡ Some (codes "DeregisterEvent")
+MemberSays text members.Embed = text ≡ Some (codes "Embed")
 MemberSays text other = Unit {0}
 
 abbrev pub SaysSo : Option (List ℕ) → Result Asked (List ℕ) → Type 0
@@ -59,11 +60,13 @@ by_says text o body members.Get h = gets_says text (property_of o (text_at 0 bod
 by_says text o body members.GetAll h = all_says text (properties_of o (text_at 0 body))
 by_says text o body members.Set h = sets_says text (value_at 2 body) (property_of o (text_at 0 body) (text_at 1 body))
 by_says text o body members.DeregisterEvent h = h
+by_says text o body members.Embed h = h
 by_says text o body other h = tt
 
 -- MEMBERS, by the lines of an object
 abbrev is_named_so : ObjectMember → List ℕ → Bool
 is_named_so members.DeregisterEvent name = bytes_eq name (codes "DeregisterEvent")
+is_named_so members.Embed name = bytes_eq name (codes "Embed")
 is_named_so other name = true
 
 abbrev are_named_so : List MemberLine → Bool
@@ -76,6 +79,7 @@ text_is (Some field) name h = ap Some ((bytes_eq-Decides field name).0 h)
 
 line_says : (text : Option (List ℕ)) (name : List ℕ) (member : ObjectMember) → is_text text name ≡ true → is_named_so member name ≡ true → MemberSays text member
 line_says text name members.DeregisterEvent h so = text_is text name h ∙ ap Some ((bytes_eq-Decides name (codes "DeregisterEvent")).0 so)
+line_says text name members.Embed h so = text_is text name h ∙ ap Some ((bytes_eq-Decides name (codes "Embed")).0 so)
 line_says text name other h so = tt
 
 abbrev arguments : List Data → MemberLine → Result ObjectMember (List ℕ)

@@ -109,7 +109,7 @@ other_role : (e d : End) → is_registry_role d.role ≡ false → SameRegistry 
 other_role e d none s is = absurd (no_registry d.role s none is)
 
 -- an entry in which the registry sends nothing
-abbrev NotRegistry : Entry → Type 0
+abbrev pub NotRegistry : Entry → Type 0
 NotRegistry (sent who e) = same_party who Registry ≡ false
 NotRegistry entry = Unit {0}
 
@@ -120,7 +120,7 @@ not_list before (sent (App a) e) behind h = tt
 not_list before (sent (Reader r) e) behind h = tt
 not_list before entry behind h = tt
 
-none_sent : (ys : List Entry) → AllByRecursion NotRegistry ys → messages ys Registry ≡ []
+pub none_sent : (ys : List Entry) → AllByRecursion NotRegistry ys → messages ys Registry ≡ []
 none_sent [] a = refl
 none_sent (sent who e ∷ ys) a = ap (λ b. cons_option (if b then Some e else None) (messages ys Registry)) a.0 ∙ none_sent ys a.1
 none_sent (entry ∷ ys) a = none_sent ys a.1
@@ -164,7 +164,7 @@ joined_told es ys w v nu i is none a = record {
     by k d s role (inr g) = absurd (no_registry nu.role s none (ap (λ (x : End). x.role) (sym g.1) ∙ role))
 
 -- THE REGISTRY TAKES A MESSAGE
-role_registry : (who : Party) (s : RegistryState) → RoleFits who (the_registry s) → who ≡ Registry
+pub role_registry : (who : Party) (s : RegistryState) → RoleFits who (the_registry s) → who ≡ Registry
 role_registry Registry s f = refl
 role_registry The_bus s f = absurd f
 role_registry (App a) s f = absurd f
@@ -174,10 +174,10 @@ abbrev state_in : Role → RegistryState → RegistryState
 state_in (the_registry s) t = s
 state_in role t = t
 
-same_state : (s t : RegistryState) → the_registry s ≡ the_registry t → s ≡ t
+pub same_state : (s t : RegistryState) → the_registry s ≡ the_registry t → s ≡ t
 same_state s t h = ap (λ r. state_in r s) h
 
-all_sent : (xs : List Envelope) → messages (map (sent Registry) xs) Registry ≡ xs
+pub all_sent : (xs : List Envelope) → messages (map (sent Registry) xs) Registry ≡ xs
 all_sent [] = refl
 all_sent (x ∷ xs) = ap (λ l. x ∷ l) (all_sent xs)
 
@@ -249,7 +249,7 @@ module _ (es : List Entry) (w : World) (d : Done) (after : Shape d.world) (few :
       })
 
 -- EACH CAUSE
-did_quiet : (app : ℕ) (hs : List Happening) → AllByRecursion NotRegistry (map (did app) hs)
+pub did_quiet : (app : ℕ) (hs : List Happening) → AllByRecursion NotRegistry (map (did app) hs)
 did_quiet app [] = tt
 did_quiet app (steps step ∷ hs) = (tt, did_quiet app hs)
 did_quiet app (sends e ∷ hs) = (refl, did_quiet app hs)
@@ -260,7 +260,7 @@ all_any : {X : Type 0} (P : X → Type 0) → ((x : X) → P x) → (xs : List X
 all_any P f [] = tt
 all_any P f (x ∷ xs) = (f x, all_any P f xs)
 
-bus_quiet : (c : Carried) → AllByRecursion NotRegistry (carrying.bus_entries c.ends c.bus.own c.bus.closings)
+pub bus_quiet : (c : Carried) → AllByRecursion NotRegistry (carrying.bus_entries c.ends c.bus.own c.bus.closings)
 bus_quiet c =
     bus_all NotRegistry (λ e. refl) c.ends c.bus.own c.bus.closings
     (all_any (λ (x : Closing). (queued len : ℕ) → NotRegistry (dropped (party_at c.ends x.conn) queued len)) (λ x queued len. tt) c.bus.closings)
