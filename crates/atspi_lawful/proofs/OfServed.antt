@@ -5,3 +5,7 @@ pub mod Returned
 pub mod Spelling
 pub mod Staying
 pub mod Leaving
+pub mod Listing
+pub mod ListingTold
+pub mod ListingLaw
+pub mod ListingAll
