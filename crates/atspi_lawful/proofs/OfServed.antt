@@ -9,3 +9,9 @@ pub mod Listing
 pub mod ListingTold
 pub mod ListingLaw
 pub mod ListingAll
+pub mod HearingCourse
+pub mod HearingWords
+pub mod HearingFold
+pub mod HearingNews
+pub mod HearingTuned
+pub mod HearingTakes
