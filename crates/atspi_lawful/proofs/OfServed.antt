@@ -15,3 +15,5 @@ pub mod HearingFold
 pub mod HearingNews
 pub mod HearingTuned
 pub mod HearingTakes
+pub mod HearingCarried
+pub mod Hearing
