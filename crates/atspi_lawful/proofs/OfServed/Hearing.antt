@@ -1,11 +1,10 @@
 -- HEARD: an application that embedded has heard what one has who heard all that the registry sent up to some message of its, and each of the registry's news behind that which the bus took stands on
 -- its down link, along a lawful trace.
-use Rattle.std.proofs.Common.{◌≡◌, ◌⊎◌, inl, inr, ℕ, zero, suc, ◌+◌, ◌≤◌, Bool, true, false, List, [], ◌∷◌, ◌++◌, length, map, Option, None, Some, refl, sym, ap, ◌∙◌, subst, arith}
-use Rattle.std.specs.Prelude.{◌==◌, codes, if◌then◌else◌}
+use Rattle.std.proofs.Common.{◌≡◌, ◌⊎◌, inl, inr, ℕ, zero, suc, ◌+◌, ◌≤◌, false, List, [], ◌∷◌, ◌++◌, length, map, Some, refl, sym, ap, ◌∙◌, subst, arith}
+use Rattle.std.specs.Prelude.{codes}
 use Rattle.std.specs.List.{AllByRecursion}
 use Rattle.std.proofs.lemmas.List.{append-nil}
 use Rattle.atspi_lines.specs.declared.limits.TheConstants.{QUOTA_MOST}
-use Rattle.atspi_lines.specs.declared.line.Party.{Party}
 use Rattle.atspi_lines.specs.declared.line.Party.TheVariants.{Bus as The_bus, Registry, App, Reader}
 use Rattle.atspi_message.specs.Envelope.{Envelope}
 use Rattle.atspi_match.specs.declared.condition.Condition.{Condition}
@@ -15,7 +14,7 @@ use Rattle.atspi_routing.specs.declared.closing.Closing.{Closing}
 use Rattle.atspi_routing.specs.BusState.{unique_of}
 use Rattle.atspi_protocol.specs.ends.Places.{registry}
 use Rattle.atspi_protocol.specs.registering.Steps.{RegistryStep, registry_takes}
-use Rattle.atspi_protocol.specs.exporting.Exporter.{get_registered_events, awaits, Happening, Exporter}
+use Rattle.atspi_protocol.specs.exporting.Exporter.{get_registered_events, awaits, Exporter}
 use Rattle.atspi_protocol.specs.exporting.Starting.{start_call}
 use Rattle.atspi_protocol.specs.exporting.Taking.{app_takes}
 use Rattle.atspi_protocol.specs.following.Calls.{user_call}
@@ -26,14 +25,14 @@ use Rattle.atspi_trace.specs.Ends.{is_app, same_party, whose, party_at, number_o
 use Rattle.atspi_trace.specs.Carrying as carrying
 use Rattle.atspi_trace.specs.Carrying.{Carried}
 use Rattle.atspi_trace.specs.Hearing.{hears_letter, heard_entries}
-use Rattle.atspi_trace.specs.Causes.{Cause, Done, does, did, at_end, has_done, asks, reader_sends, registry_did, app_starts, reader_starts}
+use Rattle.atspi_trace.specs.Causes.{Done, does, did, at_end, has_done, reader_sends, registry_did, app_starts, reader_starts}
 use Rattle.atspi_trace.specs.Due.{asks_as, asks_at}
 use Rattle.atspi_lawful.specs.laws.Words.{messages, message}
 use Rattle.atspi_lawful.specs.laws.NineLaws.{sent_before, count_got_by_bus}
 use Rattle.atspi_lawful.specs.serials.Laws.{HasNextNumber}
 use Rattle.atspi_lawful.specs.missed.Laws.{ListIsAsTold}
 use Rattle.atspi_lawful.proofs.OfOrder.Parties.{no_none, same_some, false_true}
-use Rattle.atspi_lawful.proofs.OfOrder.Allowed.{MovedUp, MovedDown, Moves, Asks}
+use Rattle.atspi_lawful.proofs.OfOrder.Allowed.{MovedUp, MovedDown, Asks}
 use Rattle.atspi_lawful.proofs.OfOrder.Acts.{Act, heard_act, number_at}
 use Rattle.atspi_lawful.proofs.OfOrder.BusWords.{bus_all}
 use Rattle.atspi_lawful.proofs.OfOrder.Frame.{Over, over_same, over_both, over_with, over_at, joined_cases}
@@ -48,7 +47,7 @@ use Rattle.atspi_lawful.proofs.OfSerials.Hushing.{own_speaks}
 use Rattle.atspi_lawful.proofs.OfSerials.Numbers.{Numbered, spoken}
 use Rattle.atspi_lawful.proofs.OfSerials.Speaking.{next_of}
 use Rattle.atspi_lawful.proofs.OfLinks.LawLinks.{NotTaken, none_taken, did_free, sent_free, got_free, word_free, bus_free, no_bus, first_unread, Linked}
-use Rattle.atspi_lawful.proofs.OfOwn.Writing.{Lives, lived}
+use Rattle.atspi_lawful.proofs.OfOwn.Writing.{lived}
 use Rattle.atspi_lawful.proofs.OfHeard.Quiet.{heard_all}
 use Rattle.atspi_lawful.proofs.OfHeard.Telling as telling
 use Rattle.atspi_lawful.proofs.OfTaken.Said as told
@@ -65,15 +64,15 @@ use Rattle.atspi_lawful.proofs.OfSigned.LawMail.{Mail, Under_mail, Known_mail}
 use Rattle.atspi_lawful.proofs.OfMissed.Arriving.{On}
 use Rattle.atspi_lawful.proofs.OfMissed.Resting.{Rested}
 use Rattle.atspi_lawful.proofs.OfMissed.Delivering.{Delivers, all_on}
-use Rattle.atspi_lawful.proofs.OfMissed.LawMissed.{Under_missed, Under_delivered, delivers_keep}
+use Rattle.atspi_lawful.proofs.OfMissed.LawMissed.{Under_delivered, delivers_keep}
 use Rattle.atspi_lawful.proofs.OfMissed.Registering.{AsTold, told_keeps}
-use Rattle.atspi_lawful.proofs.OfServed.Facts.{IsNews, Embeds, HearsAll, AllHear}
+use Rattle.atspi_lawful.proofs.OfServed.Facts.{IsNews, HearsAll, AllHear}
 use Rattle.atspi_lawful.proofs.OfServed.Owning.{KeepsName}
 use Rattle.atspi_lawful.proofs.OfServed.Returned.{Fits, Rightly, Under_rightly, rightly_keeps, returned_by}
 use Rattle.atspi_lawful.proofs.OfServed.HearingCourse.{edit_course}
 use Rattle.atspi_lawful.proofs.OfServed.HearingWords.{Well, words_grow}
 use Rattle.atspi_lawful.proofs.OfServed.HearingNews.{IsOwner}
-use Rattle.atspi_lawful.proofs.OfServed.HearingTuned.{is_hello_call, IsAsked, Early, Hears, Late, Tuned, AllTuned, NotSaid, none_embed, tuned_more, SameTuned, same_tuned, is_app_role, not_app, gone_tuned, alike_tuned, quiet_tuned, changed_at, changed_both, did_others, one_tuned, started_tuned}
+use Rattle.atspi_lawful.proofs.OfServed.HearingTuned.{IsAsked, Early, Hears, Late, Tuned, AllTuned, NotSaid, none_embed, tuned_more, SameTuned, same_tuned, is_app_role, not_app, gone_tuned, alike_tuned, quiet_tuned, changed_at, changed_both, did_others, one_tuned, started_tuned}
 use Rattle.atspi_lawful.proofs.OfServed.HearingTakes.{retuned, edited_tuned, taken_tuned}
 use Rattle.atspi_lawful.proofs.OfServed.HearingCarried.{took_tuned, ended_tuned}
 

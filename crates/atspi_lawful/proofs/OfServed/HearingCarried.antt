@@ -3,7 +3,6 @@ use Rattle.std.proofs.Common.{◌≡◌, ◌⊎◌, inl, inr, ℕ, zero, suc, �
 use Rattle.std.specs.Prelude.{◌==◌, is_some, codes, if◌then◌else◌}
 use Rattle.std.specs.List.{AllByRecursion}
 use Rattle.std.proofs.lemmas.Bool.{eqb-true}
-use Rattle.atspi_types.specs.Names.{is_unique_name}
 use Rattle.atspi_lines.specs.declared.line.Party.{Party}
 use Rattle.atspi_lines.specs.declared.line.Party.TheVariants.{Bus as The_bus, Registry, App, Reader}
 use Rattle.atspi_message.specs.Envelope.{Envelope}
@@ -22,12 +21,12 @@ use Rattle.atspi_protocol.specs.declared.following.question.Question.TheVariants
 use Rattle.atspi_protocol.specs.following.Calls.{asking}
 use Rattle.atspi_trace.specs.Entry.{Entry, got, dropped}
 use Rattle.atspi_trace.specs.Rules.{registry_rule, rule_in}
-use Rattle.atspi_trace.specs.World.{here, an_application, Said, Letter, End, World}
+use Rattle.atspi_trace.specs.World.{here, an_application, Letter, End, World}
 use Rattle.atspi_trace.specs.Ends.{is_here, is_app, same_party, party_at, end_at, with_end, taken_up}
 use Rattle.atspi_trace.specs.Carrying as carrying
-use Rattle.atspi_trace.specs.Carrying.{Carried, own_letter, letter_of, stepped, settled, named, with_name, takes, takes_end, bus_entries}
+use Rattle.atspi_trace.specs.Carrying.{Carried, own_letter, letter_of, stepped, named, with_name, takes, takes_end, bus_entries}
 use Rattle.atspi_trace.specs.Causes.{Done}
-use Rattle.atspi_lawful.specs.laws.Words.{messages, message}
+use Rattle.atspi_lawful.specs.laws.Words.{message}
 use Rattle.atspi_lawful.specs.laws.NineLaws.{sent_before, count_got_by_bus}
 use Rattle.atspi_lawful.specs.serials.Laws.{HasNextNumber}
 use Rattle.atspi_lawful.specs.missed.Laws.{IsPastList}
@@ -38,9 +37,9 @@ use Rattle.atspi_lawful.proofs.OfOrder.Shape.{Shape}
 use Rattle.atspi_lawful.proofs.OfOrder.Effects.{BusTakes, BusEnds}
 use Rattle.atspi_lawful.proofs.OfOrder.Each.{Each, all_map}
 use Rattle.atspi_lawful.proofs.OfSerials.Speaking.{next_of}
-use Rattle.atspi_lawful.proofs.OfLinks.LawLinks.{NotTaken, none_taken, bus_free, no_bus, first_unread, Linked}
+use Rattle.atspi_lawful.proofs.OfLinks.LawLinks.{none_taken, bus_free, no_bus, first_unread, Linked}
 use Rattle.atspi_lawful.proofs.OfLinks.Ups.{Ups}
-use Rattle.atspi_lawful.proofs.OfOwn.Writing.{Lives, lived}
+use Rattle.atspi_lawful.proofs.OfOwn.Writing.{Lives}
 use Rattle.atspi_lawful.proofs.OfTaken.Found.{found_more}
 use Rattle.atspi_lawful.proofs.OfTaken.Handing.{HandsOn, takes_on}
 use Rattle.atspi_lawful.proofs.OfTaken.Said.{IsSaid}
@@ -58,11 +57,11 @@ use Rattle.atspi_lawful.proofs.OfMissed.Resting.{Rested, due_joined}
 use Rattle.atspi_lawful.proofs.OfMissed.Ruling.{Has, Removes, takes_has, took_rule, ended_rule, NoReturn, match_taken}
 use Rattle.atspi_lawful.proofs.OfMissed.Returning.{ReturnsTo, OwnOrOther, takes_to, greets_to, not_the_bus}
 use Rattle.atspi_lawful.proofs.OfMissed.Delivering.{all_on}
-use Rattle.atspi_lawful.proofs.OfServed.Facts.{IsNews, OnLink, told_by}
+use Rattle.atspi_lawful.proofs.OfServed.Facts.{IsNews, OnLink}
 use Rattle.atspi_lawful.proofs.OfServed.HearingWords.{SaysWell, said_well}
 use Rattle.atspi_lawful.proofs.OfServed.HearingFold.{told_more}
 use Rattle.atspi_lawful.proofs.OfServed.HearingNews.{registry_spelled, IsOwner, news_received, news_handed, other_rules, start_removes}
-use Rattle.atspi_lawful.proofs.OfServed.HearingTuned.{is_hello_call, IsAsked, FromBus, NewsAt, AllNews, IsList, Early, Hears, Late, Tuned, AllTuned, NotEmbed, NotSaid, none_embed, asked_more, bus_more, no_embeds, tuned_more}
+use Rattle.atspi_lawful.proofs.OfServed.HearingTuned.{is_hello_call, IsAsked, FromBus, NewsAt, AllNews, IsList, Early, Hears, Late, Tuned, AllTuned, NotSaid, none_embed, asked_more, bus_more, no_embeds, tuned_more}
 
 all_any : {X : Type 0} (P : X → Type 0) → ((x : X) → P x) → (xs : List X) → AllByRecursion P xs
 all_any P f [] = tt

@@ -42,11 +42,11 @@ use Rattle.atspi_lawful.proofs.OfMissed.Ruling.{Has}
 use Rattle.atspi_lawful.proofs.OfMissed.Delivering.{all_on}
 use Rattle.atspi_lawful.proofs.OfMissed.Signals.{ForReaders, signal_for}
 use Rattle.atspi_lawful.proofs.OfMissed.Listening.{listen}
-use Rattle.atspi_lawful.proofs.OfServed.Facts.{IsNews, Embeds, OnLink, told_by}
+use Rattle.atspi_lawful.proofs.OfServed.Facts.{IsNews, OnLink, told_by}
 use Rattle.atspi_lawful.proofs.OfServed.HearingCourse.{NoCall, Asks, Course, stays, stops, meets, tunes, lists, course, Edited}
 use Rattle.atspi_lawful.proofs.OfServed.HearingWords.{SaysWell, said_well}
-use Rattle.atspi_lawful.proofs.OfServed.HearingFold.{Alike, still_alike, no_news, other_news, told_with, told_next}
-use Rattle.atspi_lawful.proofs.OfServed.HearingTuned.{IsAsked, FromBus, NewsAt, AllNews, IsList, Early, Hears, Late, Tuned, NotEmbed, NotSaid, none_said, news_more, asked_more, hears_more, no_embeds, tuned_more}
+use Rattle.atspi_lawful.proofs.OfServed.HearingFold.{still_alike, no_news, other_news, told_with, told_next}
+use Rattle.atspi_lawful.proofs.OfServed.HearingTuned.{IsAsked, FromBus, NewsAt, AllNews, Early, Hears, Late, Tuned, NotEmbed, NotSaid, none_said, news_more, asked_more, hears_more, no_embeds, tuned_more}
 
 -- PHASES
 abbrev phase_serial : Phase → ℕ

@@ -1,12 +1,11 @@
 -- How applications listen to the registry, along a lawful trace: the bus has the rule of each whose call for it was returned, the list of pairs comes behind that, and from the list on each of the
 -- registry's news was heard or stands on the down link. What is kept, and that it is kept where no application acts.
-use Rattle.std.proofs.Common.{◌≡◌, ◌⊎◌, inl, inr, ℕ, zero, suc, ◌+◌, ◌<◌, ◌≤◌, Bool, true, false, List, [], ◌∷◌, ◌++◌, length, map, Option, None, Some, refl, sym, ap, ◌∙◌, subst, arith}
+use Rattle.std.proofs.Common.{◌≡◌, ◌⊎◌, inl, inr, ℕ, ◌+◌, ◌<◌, ◌≤◌, Bool, true, false, List, [], ◌∷◌, ◌++◌, length, map, Option, None, Some, refl, sym, ap, ◌∙◌, subst, arith}
 use Rattle.std.specs.Prelude.{◌==◌, codes, if◌then◌else◌}
 use Rattle.std.specs.List.{AllByRecursion, cons_option}
-use Rattle.std.proofs.lemmas.Bool.{eq-eqb, ne_eqb}
-use Rattle.std.proofs.lemmas.List.{append-nil}
+use Rattle.std.proofs.lemmas.Bool.{ne_eqb}
 use Rattle.atspi_lines.specs.declared.line.Party.{Party}
-use Rattle.atspi_lines.specs.declared.line.Party.TheVariants.{Bus as The_bus, Registry, App, Reader}
+use Rattle.atspi_lines.specs.declared.line.Party.TheVariants.{Bus as The_bus, Registry, App}
 use Rattle.atspi_message.specs.Envelope.{Envelope}
 use Rattle.atspi_match.specs.declared.condition.Condition.{Condition}
 use Rattle.atspi_protocol.specs.ends.Places.{registry}
@@ -18,11 +17,11 @@ use Rattle.atspi_trace.specs.Entry.{Entry, started, sent}
 use Rattle.atspi_trace.specs.Rules.{registry_rule}
 use Rattle.atspi_trace.specs.World.{here, Role, an_application, Letter, End, World, newcomer}
 use Rattle.atspi_trace.specs.Ends.{is_here, same_party, number_of, whose, end_at, with_end, put_up, taken_down, app_count}
-use Rattle.atspi_trace.specs.Causes.{Done, did, app_starts}
+use Rattle.atspi_trace.specs.Causes.{did, app_starts}
 use Rattle.atspi_lawful.specs.laws.Words.{messages, message, with_serial}
 use Rattle.atspi_lawful.specs.serials.Laws.{HasNextNumber}
 use Rattle.atspi_lawful.specs.missed.Laws.{IsPastList}
-use Rattle.atspi_lawful.proofs.OfOrder.Parties.{no_none, same_some, same-party, party-same, false_true}
+use Rattle.atspi_lawful.proofs.OfOrder.Parties.{no_none, same_some, party-same, false_true}
 use Rattle.atspi_lawful.proofs.OfOrder.Frame.{Over, IsOrder, with_cases, joined_cases}
 use Rattle.atspi_lawful.proofs.OfOrder.Shape.{Shape}
 use Rattle.atspi_lawful.proofs.OfOrder.Shaped.{new_app, app_joined}
@@ -32,12 +31,10 @@ use Rattle.atspi_lawful.proofs.OfSerials.Serial.{messages_more}
 use Rattle.atspi_lawful.proofs.OfSerials.Numbers.{Numbered}
 use Rattle.atspi_lawful.proofs.OfLinks.LawLinks.{first_unread}
 use Rattle.atspi_lawful.proofs.OfOwn.Writing.{Lives, lived}
-use Rattle.atspi_lawful.proofs.OfHeard.Heeding.{IsOfListeners}
 use Rattle.atspi_lawful.proofs.OfTaken.Found.{found_more, none_more}
 use Rattle.atspi_lawful.proofs.OfMissed.Arriving.{On}
 use Rattle.atspi_lawful.proofs.OfMissed.Ruling.{Has}
 use Rattle.atspi_lawful.proofs.OfServed.Facts.{IsNews, Embeds, OnLink, told_by}
-use Rattle.atspi_lawful.proofs.OfServed.HearingCourse.{NoCall}
 use Rattle.atspi_lawful.proofs.OfServed.HearingFold.{told_more}
 
 -- WHAT IS KEPT

@@ -1,12 +1,12 @@
 -- What ends say, entry by entry: the registry's own interface only in signals to all, readers calls alone, applications no call but those of their start.
 use Rattle.std.proofs.Common.{◌≡◌, ℕ, ◌+◌, Bool, true, false, List, [], ◌∷◌, ◌++◌, length, map, Option, None, Some, refl, sym, ap, ◌∙◌, subst}
-use Rattle.std.specs.Prelude.{◌==◌, ℤ, pos, negsuc, slice_get, bytes_eq, codes, encode_utf8_all, if◌then◌else◌, Result, Ok, Err}
+use Rattle.std.specs.Prelude.{◌==◌, slice_get, bytes_eq, codes, encode_utf8_all, if◌then◌else◌, Result, Ok, Err}
 use Rattle.std.specs.List.{AllByRecursion, list_any}
 use Rattle.atspi_types.specs.Data.{Data}
 use Rattle.atspi_lines.specs.declared.deed.Deed.{Deed}
 use Rattle.atspi_lines.specs.declared.deed.Deed.TheVariants.{SetCaret, InsertText, DeleteText, SetText, SelectChild, DeselectChild, SelectAll, ClearSelection, DoAction}
 use Rattle.atspi_lines.specs.declared.line.Party.{Party}
-use Rattle.atspi_lines.specs.declared.line.Party.TheVariants.{Bus as The_bus, Registry, App, Reader}
+use Rattle.atspi_lines.specs.declared.line.Party.TheVariants.{Registry, App, Reader}
 use Rattle.atspi_message.specs.Envelope.{Envelope}
 use Rattle.atspi_protocol.specs.ends.Places.{registry_root}
 use Rattle.atspi_protocol.specs.ends.Messages.{Reply, returns, fails, reply_to, replies, expects_reply, numbered}
@@ -17,9 +17,9 @@ use Rattle.atspi_protocol.specs.members.Arguments.{text_at}
 use Rattle.atspi_protocol.specs.registering.RegistryState.{RegistryState, is_of, has_pair, without_pair, pairs_of, pairs_without, child_place}
 use Rattle.atspi_protocol.specs.registering.Told.{registered, deregistered, children_changed, is_asked_for}
 use Rattle.atspi_protocol.specs.registering.Answers.{Answer, only, registers, deregisters, reference_in, new_child, adopts, news_of_removal_at, news_of_removal, releases, answers_member, object_at}
-use Rattle.atspi_protocol.specs.registering.Steps.{RegistryStep, answered, answer_to, called_by, named, hears, name_told, name_gone, takes_as, registry_takes}
+use Rattle.atspi_protocol.specs.registering.Steps.{RegistryStep, answer_to, called_by, named, hears, name_told, name_gone, takes_as, registry_takes}
 use Rattle.atspi_protocol.specs.exporting.Exporter.{StartCall, hello, add_match, get_registered_events, embed, Happening, steps, sends, hears as hears_of, deaf, Exporter}
-use Rattle.atspi_protocol.specs.exporting.Starting.{start_call, starts}
+use Rattle.atspi_protocol.specs.exporting.Starting.{start_call}
 use Rattle.atspi_protocol.specs.exporting.Taking.{app_takes}
 use Rattle.atspi_protocol.specs.declared.news.part.PartName.TheVariants.{Text, Caret, Columns}
 use Rattle.atspi_protocol.specs.declared.following.question.Question.{Question}
@@ -30,20 +30,18 @@ use Rattle.atspi_trace.specs.Entry.{Entry, sent, dropped}
 use Rattle.atspi_trace.specs.World.{World}
 use Rattle.atspi_trace.specs.Ends.{whose, party_at, number_of}
 use Rattle.atspi_trace.specs.Carrying as carrying
-use Rattle.atspi_trace.specs.Carrying.{bus_entries}
 use Rattle.atspi_trace.specs.Causes.{Done, did, app_starts}
 use Rattle.atspi_lawful.specs.laws.Words.{message, before_sent}
 use Rattle.atspi_lawful.proofs.OfOrder.Parties.{false_true, all_append, all_back}
 use Rattle.atspi_lawful.proofs.OfOrder.BusWords.{bus_all}
 use Rattle.atspi_lawful.proofs.OfOrder.Effects.{received, Effect, resets, app_joins, reader_joins, app_edited, app_took, reader_called, swapped, exited_, showed_, told_busy, told_quiet, bus_took, bus_ended, registry_took, reader_took}
-use Rattle.atspi_lawful.proofs.OfOrder.Along.{Keeps}
-use Rattle.atspi_lawful.proofs.OfOrder.Growing.{Grows, Shaped, Nothing, And, grown, shaped_keeps}
+use Rattle.atspi_lawful.proofs.OfOrder.Growing.{Grows}
 use Rattle.atspi_lawful.proofs.OfSteps.Steps.{Trees}
 use Rattle.atspi_lawful.proofs.OfHeard.Heeding.{IsOfListeners}
 use Rattle.atspi_lawful.proofs.OfHeard.Quiet.{heard_all}
 use Rattle.atspi_lawful.proofs.OfTaken.Found.{sent_split}
 use Rattle.atspi_lawful.proofs.OfServed.Facts.{IsNews}
-use Rattle.atspi_lawful.proofs.OfServed.HearingCourse.{NoCall, Asks, Course, stays, stops, meets, tunes, lists, course, edit_course}
+use Rattle.atspi_lawful.proofs.OfServed.HearingCourse.{NoCall, Course, stays, stops, meets, tunes, lists, course, edit_course}
 
 -- THE REGISTRY: its news are signals to all
 abbrev pub IsForAll : Envelope → Type 0
