@@ -17,3 +17,6 @@ pub mod HearingTuned
 pub mod HearingTakes
 pub mod HearingCarried
 pub mod Hearing
+pub mod EnteringTold
+pub mod EnteringBack
+pub mod Entering

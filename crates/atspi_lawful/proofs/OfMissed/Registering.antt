@@ -358,7 +358,7 @@ moved_told es w v i (inr m) =
     quiet_told es [] w v i
     (subst (λ (x : World). Over SameRegistry w.ends x.ends) (sym m.after) (over_with SameRegistry same_registry (λ e. record e { down_moved = e.down_moved + m.count }) (λ e s h. h) m.conn w.ends)) tt
 
-abbrev Under_told : List Entry → World → Type 0
+abbrev pub Under_told : List Entry → World → Type 0
 Under_told es w = And Under_mail Known_mail es w
 
 told_grows : Grows Under_told AsTold
