@@ -12,7 +12,6 @@ use Rattle.atspi_routing.specs.declared.closing.Closing.{Closing}
 use Rattle.atspi_routing.specs.BusState.{unique_of}
 use Rattle.atspi_routing.specs.Members.{is_text as is_word}
 use Rattle.atspi_routing.specs.Steps.{Move, says, delivers, closes, BusStep, is_hello, greets, bus_takes}
-use Rattle.atspi_protocol.specs.ends.Places.{registry}
 use Rattle.atspi_protocol.specs.members.Asked.{is_text}
 use Rattle.atspi_protocol.specs.exporting.Exporter.{StartCall, hello, add_match, get_registered_events, embed, Phase, awaits, Exporter}
 use Rattle.atspi_protocol.specs.exporting.Hearing.{is_heard}
