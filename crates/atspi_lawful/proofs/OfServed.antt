@@ -20,3 +20,14 @@ pub mod Hearing
 pub mod EnteringTold
 pub mod EnteringBack
 pub mod Entering
+pub mod Asking
+pub mod AskingFrame
+pub mod AskingHeard
+pub mod AskingAnswers
+pub mod AskingKept
+pub mod AskingBus
+pub mod AskingTaken
+pub mod AskingActs
+pub mod AskingCaused
+pub mod AskingOwn
+pub mod AskingLaw

@@ -21,7 +21,7 @@ pub no_entries : (before : List Entry) (entry : Entry) (behind : List Entry) →
 no_entries [] entry behind h = absurd (omega (arith, ap length h))
 no_entries (b ∷ bs) entry behind h = absurd (omega (arith, ap length h))
 
-each_split : (Law : List Entry → Entry → List Entry → Type 0) (early trace : List Entry) → Each Law early trace
+pub each_split : (Law : List Entry → Entry → List Entry → Type 0) (early trace : List Entry) → Each Law early trace
     → (before : List Entry) (entry : Entry) (behind : List Entry) → trace ≡ before ++ entry ∷ behind → Law (early ++ before) entry behind
 each_split Law early [] e before entry behind h = absurd (no_entries before entry behind h)
 each_split Law early (x ∷ xs) e [] entry behind h =

@@ -11,7 +11,7 @@ use Rattle.atspi_protocol.specs.declared.following.question.Question.TheVariants
 use Rattle.atspi_protocol.specs.ends.Places.{registry}
 use Rattle.atspi_protocol.specs.members.Asked.{is_text}
 use Rattle.atspi_protocol.specs.exporting.Exporter.{Exporter}
-use Rattle.atspi_protocol.specs.exporting.Hearing.{is_heard, heard_after}
+use Rattle.atspi_protocol.specs.exporting.Hearing.{is_heard}
 use Rattle.atspi_trace.specs.Entry.{Entry}
 use Rattle.atspi_trace.specs.World.{here, Asked, returned, an_application, a_reader, Hearer, Letter, End, World}
 use Rattle.atspi_trace.specs.Ends.{end_at}
@@ -56,13 +56,6 @@ abbrev pub Carries : List Entry → List Entry → World → World → Type 0
 Carries es later w v =
     Lives later → (k r : ℕ) (e d : End) (name pattern : List ℕ) → end_at w.ends k ≡ Some e → end_at v.ends k ≡ Some d → e.who ≡ Reader r → e.unique ≡ Some name → d.standing ≡ here
     → (i : Entered es (name, pattern)) → (j : Entered later (name, pattern)) × (j.at ≡ i.at)
-
--- ONLY SIGNALS TELL: a message of the registry's that is none tells of no pair
-abbrev pub TellsNone : Envelope → Type 0
-TellsNone m = (m.kind ≡ 4 → ⊥) → (pairs : List (List ℕ × List ℕ)) → (heard_after pairs m).heard ≡ pairs
-
-abbrev pub OnlySignals : List Entry → Type 0
-OnlySignals es = AllByRecursion TellsNone (messages es Registry)
 
 -- LISTED. An application took the registry's list: it sent the call that it sends behind that.
 pub record Embeds (es : List Entry) (a : ℕ) : Type 0 where
