@@ -31,3 +31,4 @@ pub mod AskingActs
 pub mod AskingCaused
 pub mod AskingOwn
 pub mod AskingLaw
+pub mod LawServed

@@ -21,5 +21,6 @@ pub mod readers
 pub mod missed
 pub mod exits
 pub mod ways
+pub mod served
 pub mod laws
 pub mod examples

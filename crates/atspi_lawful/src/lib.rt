@@ -21,6 +21,7 @@ pub mod own;
 pub mod quiet;
 pub mod readers;
 pub mod serials;
+pub mod served;
 pub mod signed;
 pub mod steps;
 pub mod taken;

@@ -1,0 +1,39 @@
+-- Each step was asked for whole, of every lawful trace: what was entered, is heard and was listed is kept along it.
+use Rattle.std.proofs.Common.{◌≡◌, ℕ, List, []}
+use Rattle.std.specs.Prelude.{Some}
+use Rattle.atspi_lines.specs.declared.line.Line.{Line}
+use Rattle.atspi_trace.specs.Entry.{Entry}
+use Rattle.atspi_trace.specs.World.{World}
+use Rattle.atspi_trace.specs.Due.{begins, after_all, Goes}
+use Rattle.atspi_lawful.specs.laws.Words.{Kept, held}
+use Rattle.atspi_lawful.specs.order.Scripts.{CanAllStand}
+use Rattle.atspi_lawful.specs.caches.Laws.{IsServed}
+use Rattle.atspi_lawful.specs.ways.Laws.{AreHere, AreAskedSince}
+use Rattle.atspi_lawful.proofs.OfOrder.Along.{Keeps}
+use Rattle.atspi_lawful.proofs.OfOrder.Growing.{Shaped, And}
+use Rattle.atspi_lawful.proofs.OfReaders.Fates.{both_keep}
+use Rattle.atspi_lawful.proofs.OfServed.Facts.{AllEntered, AllHear, AllListed}
+use Rattle.atspi_lawful.proofs.OfServed.Entering.{Under_entered, entered_keep, under_known, carries}
+use Rattle.atspi_lawful.proofs.OfServed.HearingTuned.{AllTuned}
+use Rattle.atspi_lawful.proofs.OfServed.Hearing.{Under_heard, hears_keep}
+use Rattle.atspi_lawful.proofs.OfServed.ListingAll.{Under_named, listed_keep}
+use Rattle.atspi_lawful.proofs.OfServed.AskingLaw as over_facts
+
+-- THE FACTS, together
+abbrev Facts : List Entry → World → Type 0
+Facts es w = And (And Under_entered AllEntered) (And (And (And Under_heard AllTuned) AllHear) (And Under_named AllListed)) es w
+
+facts_keep : Keeps (Shaped Facts)
+facts_keep =
+    both_keep (And Under_entered AllEntered) (And (And (And Under_heard AllTuned) AllHear) (And Under_named AllListed)) entered_keep
+    (both_keep (And (And Under_heard AllTuned) AllHear) (And Under_named AllListed) hears_keep listed_keep)
+
+-- THE LAWS
+pub steps_asked : (lines : List Line) (trace : List Entry) → CanAllStand lines → Goes (begins lines) trace → (name : List ℕ) (reader app : ℕ) → IsServed trace name reader app
+steps_asked =
+    over_facts.steps_asked Facts facts_keep (λ es w f. f.0.1) (λ es w f. under_known es w f.0.0) (λ es w f. f.1.0.1) (λ es w f. f.1.1.1) (λ es w d s f e after g. carries es w d s f.0.0 e)
+
+pub steps_asked_since : (lines : List Line) (trace : List Entry) → CanAllStand lines → Goes (begins lines) trace → (after_all (begins lines) trace).owing ≡ []
+    → (name : List ℕ) (reader app : ℕ) → AreHere trace reader app → (k : Kept) → held trace reader app ≡ Some k → AreAskedSince name trace app k.last
+steps_asked_since =
+    over_facts.steps_asked_since Facts facts_keep (λ es w f. f.0.1) (λ es w f. under_known es w f.0.0) (λ es w f. f.1.0.1) (λ es w f. f.1.1.1) (λ es w d s f e after g. carries es w d s f.0.0 e)
