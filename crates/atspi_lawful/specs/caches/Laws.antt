@@ -1,4 +1,4 @@
--- THE LAW ABOUT CACHES: what a reader has of an application is the view of its tree as of the last message taken, where each step was asked for whole.
+-- THE LAW ABOUT CACHES: what a reader has of an application is the view of its tree as of the last message taken.
 use Rattle.std.specs.Prelude.{◌≡◌, ◌≤◌, ℕ, true, List, [], ◌∷◌, ◌++◌, Option, None, Some, is_some}
 use Rattle.atspi_forest.specs.declared.news.Item.{Item}
 use Rattle.atspi_forest.specs.declared.news.News.{News}
@@ -74,7 +74,7 @@ CacheIs es app (Some k) f = IsViewed es app k f
 abbrev pub CachesFollow : Type 0
 CachesFollow =
     (lines : List Line) (trace : List Entry) → CanAllStand lines → Begun lines trace → (after_all (begins lines) trace).owing ≡ []
-    → (name : List ℕ) (reader app : ℕ) → IsItsName trace app name → IsServed trace name reader app
+    → (name : List ℕ) (reader app : ℕ) → IsItsName trace app name
     → (front rest : List Entry) → trace ≡ front ++ rest → CacheIs front app (held front reader app) (followed name front reader app)
 
 -- THE LINES THAT IT READS, by the reader's own definition, from what it has. At a message directly behind a step they are those that are due at the step,
@@ -97,4 +97,4 @@ ReadsDue name reader app before entry behind = Unit {0}
 abbrev pub LinesAreRead : Type 0
 LinesAreRead =
     (script : List Line) (trace : List Entry) → CanAllStand script → Begun script trace → (after_all (begins script) trace).owing ≡ []
-    → (name : List ℕ) (reader app : ℕ) → IsItsName trace app name → IsServed trace name reader app → Everywhere (ReadsDue name reader app) trace
+    → (name : List ℕ) (reader app : ℕ) → IsItsName trace app name → Everywhere (ReadsDue name reader app) trace

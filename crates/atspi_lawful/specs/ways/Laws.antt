@@ -22,7 +22,6 @@ use Rattle.atspi_lawful.specs.order.Scripts.{CanAllStand}
 use Rattle.atspi_lawful.specs.folds.Laws.{AreAllCovered}
 use Rattle.atspi_lawful.specs.signed.Laws.{IsItsName}
 use Rattle.atspi_lawful.specs.caches.Caches.{followed}
-use Rattle.atspi_lawful.specs.caches.Laws.{IsServed}
 use Rattle.atspi_lawful.specs.missed.Laws.{IsNoSignal}
 
 -- what waits on a reader's down link of an application, and what waits on the application's up link
@@ -76,7 +75,7 @@ LeadsToNow name trace app parts v (said ∷ saids) =
 abbrev pub WhatIsThereLeads : Type 0
 WhatIsThereLeads =
     (lines : List Line) (trace : List Entry) → CanAllStand lines → Begun lines trace → (after_all (begins lines) trace).owing ≡ []
-    → (name : List ℕ) (reader app : ℕ) → IsItsName trace app name → IsServed trace name reader app
+    → (name : List ℕ) (reader app : ℕ) → IsItsName trace app name
     → (k : Kept) → held trace reader app ≡ Some k → AllAreThere name trace app k.last (on_the_way (after_all (begins lines) trace).world reader app)
     → (v : Forest Row) → (followed name trace reader app).view ≡ Some v
     → LeadsToNow name trace app (told_in k.told) v (on_the_way (after_all (begins lines) trace).world reader app)
@@ -97,14 +96,13 @@ AreAskedSince name trace app last =
 abbrev pub AllAreOnTheWay : Type 0
 AllAreOnTheWay =
     (lines : List Line) (trace : List Entry) → CanAllStand lines → Begun lines trace → (after_all (begins lines) trace).owing ≡ []
-    → (name : List ℕ) (reader app : ℕ) → AreHere trace reader app → (k : Kept) → held trace reader app ≡ Some k → AreAskedSince name trace app k.last
+    → (name : List ℕ) (reader app : ℕ) → AreHere trace reader app → (k : Kept) → held trace reader app ≡ Some k
     → AllAreThere name trace app k.last (on_the_way (after_all (begins lines) trace).world reader app)
 
--- SO WHAT IS ON ITS WAY LEADS TO NOW, where each step was asked for whole: those between two messages taken, and those since the last of them.
+-- SO WHAT IS ON ITS WAY LEADS TO NOW
 abbrev pub MessagesOnTheirWay : Type 0
 MessagesOnTheirWay =
     (lines : List Line) (trace : List Entry) → CanAllStand lines → Begun lines trace → (after_all (begins lines) trace).owing ≡ []
-    → (name : List ℕ) (reader app : ℕ) → IsItsName trace app name → IsServed trace name reader app → AreHere trace reader app
-    → (k : Kept) → held trace reader app ≡ Some k → AreAskedSince name trace app k.last
+    → (name : List ℕ) (reader app : ℕ) → IsItsName trace app name → AreHere trace reader app → (k : Kept) → held trace reader app ≡ Some k
     → (v : Forest Row) → (followed name trace reader app).view ≡ Some v
     → LeadsToNow name trace app (told_in k.told) v (on_the_way (after_all (begins lines) trace).world reader app)
