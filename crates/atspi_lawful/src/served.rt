@@ -1,3 +1,4 @@
 //! Each step was asked for whole, along lawful traces.
 
+pub mod examples;
 pub mod laws;
