@@ -1,18 +1,17 @@
 -- How calls for items are kept where an application acts: where it takes a call that no news of the reader's pairs stands behind, it has heard of them, and each of its steps is heard of then.
-use Rattle.std.proofs.Common.{◌≡◌, ◌⊎◌, inl, inr, ℕ, ◌<◌, Bool, true, false, List, [], ◌∷◌, ◌++◌, map, Option, None, Some, refl, sym, ap, ◌∙◌, subst}
+use Rattle.std.proofs.Common.{◌≡◌, ◌⊎◌, inl, inr, ℕ, ◌<◌, Bool, true, false, List, [], ◌∷◌, ◌++◌, map, Some, refl, sym, ap, ◌∙◌, subst}
 use Rattle.std.specs.Prelude.{◌==◌}
 use Rattle.std.specs.List.{AllByRecursion}
 use Rattle.std.proofs.lemmas.Bool.{eqb-true, eq-eqb}
 use Rattle.std.proofs.lemmas.List.{append-nil}
 use Rattle.atspi_lines.specs.declared.line.Party.{Party}
 use Rattle.atspi_lines.specs.declared.line.Party.TheVariants.{Bus as The_bus, Registry, App, Reader}
-use Rattle.atspi_protocol.specs.declared.following.question.Question.{Question}
 use Rattle.atspi_protocol.specs.declared.following.question.Question.TheVariants.{GetItems}
 use Rattle.atspi_protocol.specs.exporting.Exporter.{Happening, steps, sends, hears, deaf, Exporter}
 use Rattle.atspi_protocol.specs.exporting.Taking.{app_takes}
 use Rattle.atspi_trace.specs.Entry.{Entry, got}
-use Rattle.atspi_trace.specs.World.{here, an_application, Hearer, Letter, End, World}
-use Rattle.atspi_trace.specs.Ends.{same_party, number_of, end_at, with_end, rest_of, taken_down}
+use Rattle.atspi_trace.specs.World.{an_application, Hearer, Letter, End, World}
+use Rattle.atspi_trace.specs.Ends.{same_party, end_at, with_end, rest_of, taken_down}
 use Rattle.atspi_trace.specs.Causes.{Done, did, has_done}
 use Rattle.atspi_lawful.specs.laws.Words.{own_call, heard_pairs}
 use Rattle.atspi_lawful.specs.serials.Laws.{HasNextNumber}

@@ -1,10 +1,10 @@
 -- What applications answer, along a lawful trace: each reply answers a call that the application took, and goes to whom that came from. So a return that a reader takes as one to its
 -- call for all items stands behind where the application took that call.
 use Rattle.std.proofs.Common.{◌≡◌, ◌⊎◌, inl, inr, ℕ, ◌≤◌, Bool, true, false, List, [], ◌∷◌, ◌++◌, length, map, Option, None, Some, refl, sym, ap, ◌∙◌, subst, is_some}
-use Rattle.std.specs.Prelude.{◌==◌, ◌||◌, if◌then◌else◌}
+use Rattle.std.specs.Prelude.{◌==◌, ◌||◌}
 use Rattle.std.specs.List.{AllByRecursion}
 use Rattle.std.proofs.lemmas.Bool.{eqb-true}
-use Rattle.std.proofs.lemmas.List.{append-nil, append_assoc}
+use Rattle.std.proofs.lemmas.List.{append_assoc}
 use Rattle.std.proofs.lemmas.Slice.Eq.{bytes_eq-Decides}
 use Rattle.atspi_forest.specs.Forest.{Forest}
 use Rattle.atspi_forest.specs.Row.{TreeRow}
@@ -27,8 +27,8 @@ use Rattle.atspi_protocol.specs.exporting.Taking.{app_takes, answer_to}
 use Rattle.atspi_protocol.specs.declared.following.question.Question.{Question}
 use Rattle.atspi_protocol.specs.declared.following.question.Question.TheVariants.{Hello, AddMatch, RegisterEvent, GetChildren, GetItems, GetPart}
 use Rattle.atspi_trace.specs.Entry.{Entry, changed, sent, got, heard, unheard, dropped}
-use Rattle.atspi_trace.specs.World.{here, Said, Letter, End, World}
-use Rattle.atspi_trace.specs.Ends.{same_party, number_of, whose, party_at, end_at, taken_down}
+use Rattle.atspi_trace.specs.World.{Said, Letter, World}
+use Rattle.atspi_trace.specs.Ends.{same_party, number_of, whose, party_at, taken_down}
 use Rattle.atspi_trace.specs.Carrying as carrying
 use Rattle.atspi_trace.specs.Carrying.{bus_entries}
 use Rattle.atspi_trace.specs.Hearing.{heard_entries}
@@ -36,7 +36,7 @@ use Rattle.atspi_trace.specs.Causes.{Done, did, saids, announced_if, app_starts,
 use Rattle.atspi_lawful.specs.laws.Words.{message, before_sent, own_call, question_if, answers_question}
 use Rattle.atspi_lawful.specs.missed.Laws.{IsLoad}
 use Rattle.atspi_lawful.specs.taken.Laws.{IsTakenAsSent}
-use Rattle.atspi_lawful.proofs.OfOrder.Parties.{no_none, same_some, party-same, false_true}
+use Rattle.atspi_lawful.proofs.OfOrder.Parties.{same_some, party-same, false_true}
 use Rattle.atspi_lawful.proofs.OfOrder.Effects.{received, AppTakes, AppEdits, ReaderTakes, Effect, resets, app_joins, reader_joins, app_edited, app_took, reader_called, swapped, exited_, showed_, told_busy, told_quiet, bus_took, bus_ended, registry_took, reader_took}
 use Rattle.atspi_lawful.proofs.OfOrder.Shaped.{received_at}
 use Rattle.atspi_lawful.proofs.OfOrder.BusWords.{all_any, bus_all}
@@ -47,7 +47,6 @@ use Rattle.atspi_lawful.proofs.OfOrder.Each.{Each, each_more, each_of, each_spli
 use Rattle.atspi_lawful.proofs.OfSteps.Steps.{Trees}
 use Rattle.atspi_lawful.proofs.OfTaken.Found.{found_more, sent_split}
 use Rattle.atspi_lawful.proofs.OfHeard.Quiet.{heard_all}
-use Rattle.atspi_lawful.proofs.OfTaken.LawTaken.{NotGot}
 use Rattle.atspi_lawful.proofs.OfNames.LawEnds.{few_greeted}
 use Rattle.atspi_lawful.proofs.OfNames.Places.{greeted}
 use Rattle.atspi_lawful.proofs.OfSigned.Mail.{NameIs, name_more, IsMail, IsPost}

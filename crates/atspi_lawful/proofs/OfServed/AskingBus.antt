@@ -1,51 +1,38 @@
 -- How calls for items are kept where the bus takes a message, or an end: links grow, a message of the registry's is the next of its, and a call goes to whoever has the name that it is sent
 -- to, which the reader was told as that of an application that embedded.
-use Rattle.std.proofs.Common.{◌≡◌, ◌⊎◌, inl, inr, ℕ, ◌<◌, ◌≤◌, Bool, true, false, List, [], ◌∷◌, ◌++◌, length, Option, None, Some, refl, sym, ap, ◌∙◌, subst, arith}
-use Rattle.std.specs.Prelude.{◌||◌, bytes_eq, if◌then◌else◌}
+use Rattle.std.proofs.Common.{◌≡◌, ◌⊎◌, inl, inr, ℕ, ◌<◌, ◌≤◌, Bool, true, false, List, [], ◌∷◌, ◌++◌, Some, refl, sym, ap, ◌∙◌, subst, arith}
+use Rattle.std.specs.Prelude.{◌||◌, bytes_eq}
 use Rattle.std.specs.List.{AllByRecursion, list_any}
 use Rattle.std.proofs.lemmas.List.{append-nil, append_assoc}
 use Rattle.std.proofs.lemmas.Slice.Eq.{bytes_eq-Decides}
-use Rattle.atspi_types.specs.Names.{is_unique_name}
 use Rattle.atspi_forest.specs.Forest.{first_of}
 use Rattle.atspi_lines.specs.declared.line.Party.{Party}
 use Rattle.atspi_lines.specs.declared.line.Party.TheVariants.{Bus as The_bus, Registry, App, Reader}
 use Rattle.atspi_message.specs.Envelope.{Envelope}
-use Rattle.atspi_names.specs.Owners.{own_name}
 use Rattle.atspi_routing.specs.BusState.{unique_of}
-use Rattle.atspi_routing.specs.Members.{is_text}
-use Rattle.atspi_routing.specs.Steps.{Move, says, delivers, closes, BusStep, bus_takes}
 use Rattle.atspi_routing.specs.Queues.{Bus}
-use Rattle.atspi_protocol.specs.declared.following.question.Question.{Question}
 use Rattle.atspi_protocol.specs.declared.following.question.Question.TheVariants.{GetItems}
 use Rattle.atspi_protocol.specs.following.Calls.{asking}
-use Rattle.atspi_trace.specs.Entry.{Entry, got}
-use Rattle.atspi_trace.specs.Rules.{rule_in}
+use Rattle.atspi_trace.specs.Entry.{Entry}
 use Rattle.atspi_trace.specs.World.{here, Hearer, Said, Letter, End, World}
-use Rattle.atspi_trace.specs.Ends.{is_here, same_party, end_at, with_end, put_down, taken_up, leaves}
+use Rattle.atspi_trace.specs.Ends.{is_here, same_party, end_at, put_down, taken_up, leaves}
 use Rattle.atspi_trace.specs.Hearing.{question_in}
-use Rattle.atspi_trace.specs.Carrying as carrying
-use Rattle.atspi_trace.specs.Carrying.{Carried, own_letter, letter_of, stepped, settled, named, with_name, takes, takes_end}
-use Rattle.atspi_trace.specs.Causes.{Done}
-use Rattle.atspi_lawful.specs.laws.Words.{message, own_call, question_if}
-use Rattle.atspi_lawful.proofs.OfOrder.Parties.{no_none, same_some, party-same, false_true}
+use Rattle.atspi_trace.specs.Carrying.{Carried, own_letter, letter_of, named, takes, takes_end}
+use Rattle.atspi_lawful.specs.laws.Words.{message, question_if}
+use Rattle.atspi_lawful.proofs.OfOrder.Parties.{party-same, false_true}
 use Rattle.atspi_lawful.proofs.OfOrder.Frame.{Over, IsOrder, takes_over, ends_over}
-use Rattle.atspi_lawful.proofs.OfOrder.Each.{Each, each_of, all_map}
-use Rattle.atspi_lawful.proofs.OfOrder.Effects.{BusTakes, BusEnds}
-use Rattle.atspi_lawful.proofs.OfLinks.LawLinks.{first_unread, Linked}
-use Rattle.atspi_lawful.proofs.OfLinks.Ups.{Ups}
+use Rattle.atspi_lawful.proofs.OfOrder.Each.{each_of}
+use Rattle.atspi_lawful.proofs.OfLinks.LawLinks.{first_unread}
 use Rattle.atspi_lawful.proofs.OfOwn.Writing.{Lives}
 use Rattle.atspi_lawful.proofs.OfHeld.LawHeld.{Readers}
-use Rattle.atspi_lawful.proofs.OfTaken.Handing.{HandsOn, takes_on}
-use Rattle.atspi_lawful.proofs.OfTaken.Handing as handing
 use Rattle.atspi_lawful.proofs.OfTaken.LawTaken.{Known}
 use Rattle.atspi_lawful.proofs.OfTurns.Turning.{IsBehind, Turns}
 use Rattle.atspi_lawful.proofs.OfTurns.LawTurns.{AllTurn}
 use Rattle.atspi_lawful.proofs.OfNames.LawNames.{Named}
 use Rattle.atspi_lawful.proofs.OfNames.Places.{name_told}
-use Rattle.atspi_lawful.proofs.OfSigned.Mail.{NameIs, IsMail, IsPost}
+use Rattle.atspi_lawful.proofs.OfSigned.Mail.{IsMail}
 use Rattle.atspi_lawful.proofs.OfSigned.Self.{app_name}
 use Rattle.atspi_lawful.proofs.OfSigned.LawMail.{Mail}
-use Rattle.atspi_lawful.proofs.OfSigned.Handing.{Fine, Gives, Downs, downs_with, PutsAt, stepped_downs, left_downs, settled_downs}
 use Rattle.atspi_lawful.proofs.OfMissed.Arriving.{On}
 use Rattle.atspi_lawful.proofs.OfServed.Facts.{Embeds, Carries, IsListed, AllListed}
 use Rattle.atspi_lawful.proofs.OfServed.Asking.{HeardAt}

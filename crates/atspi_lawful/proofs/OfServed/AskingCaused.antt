@@ -1,32 +1,27 @@
 -- How calls for items are kept, cause by cause.
-use Rattle.std.proofs.Common.{◌≡◌, ◌⊎◌, inl, inr, ℕ, zero, suc, ◌≤◌, Bool, true, false, List, [], ◌∷◌, ◌++◌, length, map, Option, None, Some, refl, sym, ap, ◌∙◌, subst, arith}
-use Rattle.std.specs.Prelude.{◌==◌, bytes_eq, filter, nat_le, if◌then◌else◌}
-use Rattle.std.specs.List.{AllByRecursion, list_any, cons_option}
-use Rattle.std.proofs.lemmas.Bool.{eqb-true}
+use Rattle.std.proofs.Common.{◌≡◌, ◌⊎◌, inl, inr, ℕ, zero, suc, ◌≤◌, Bool, true, false, List, [], ◌∷◌, ◌++◌, length, map, Some, refl, sym, ap, ◌∙◌, subst, arith}
+use Rattle.std.specs.Prelude.{bytes_eq}
+use Rattle.std.specs.List.{AllByRecursion}
 use Rattle.std.proofs.lemmas.List.{append-nil}
 use Rattle.atspi_lines.specs.declared.line.Party.{Party}
-use Rattle.atspi_lines.specs.declared.line.Party.TheVariants.{Bus as The_bus, Registry, App, Reader}
+use Rattle.atspi_lines.specs.declared.line.Party.TheVariants.{Registry, App, Reader}
 use Rattle.atspi_message.specs.Envelope.{Envelope}
 use Rattle.atspi_protocol.specs.registering.Steps.{RegistryStep, registry_takes}
-use Rattle.atspi_protocol.specs.exporting.Starting.{starts}
-use Rattle.atspi_protocol.specs.exporting.Exporter.{begins as begins_app}
 use Rattle.atspi_protocol.specs.declared.following.question.Question.{Question}
 use Rattle.atspi_protocol.specs.declared.following.question.Question.TheVariants.{Hello, GetItems}
-use Rattle.atspi_protocol.specs.following.Calls.{asking, user_call}
-use Rattle.atspi_trace.specs.Entry.{Entry, started, sent, got}
-use Rattle.atspi_trace.specs.World.{here, Role, the_registry, an_application, a_reader, Hearer, Letter, first_registry, first_world, End, World}
-use Rattle.atspi_trace.specs.Ends.{is_here, is_app, is_reader, same_party, number_of, whose, end_at, with_end, taken_down, stops, app_count, reader_count}
-use Rattle.atspi_trace.specs.Hearing.{question_in, names_told, question_returned, hears_letter}
-use Rattle.atspi_trace.specs.Causes.{Done, at_end, asks, first_hearer, reader_sends, registry_did, app_starts, reader_starts}
-use Rattle.atspi_lawful.specs.laws.Words.{messages, message, with_serial, own_call, question_if}
-use Rattle.atspi_lawful.specs.serials.Laws.{HasNextNumber}
-use Rattle.atspi_lawful.proofs.OfOrder.Parties.{no_none, same_some, party-same, false_true}
+use Rattle.atspi_protocol.specs.following.Calls.{user_call}
+use Rattle.atspi_trace.specs.Entry.{Entry, sent, got}
+use Rattle.atspi_trace.specs.World.{a_reader, Hearer, first_registry, first_world, End, World}
+use Rattle.atspi_trace.specs.Ends.{is_here, is_app, is_reader, number_of, whose, end_at, with_end, taken_down, stops, app_count, reader_count}
+use Rattle.atspi_trace.specs.Hearing.{names_told, question_returned, hears_letter}
+use Rattle.atspi_trace.specs.Causes.{Done, asks, first_hearer, reader_sends, registry_did, app_starts, reader_starts}
+use Rattle.atspi_lawful.specs.laws.Words.{messages, with_serial, own_call, question_if}
+use Rattle.atspi_lawful.proofs.OfOrder.Parties.{no_none, same_some, false_true}
 use Rattle.atspi_lawful.proofs.OfOrder.Plain.{user_plain}
-use Rattle.atspi_lawful.proofs.OfOrder.Allowed.{MovedUp, MovedDown}
 use Rattle.atspi_lawful.proofs.OfOrder.Frame.{Over, over_same, over_both, over_with, over_at, joined_cases}
 use Rattle.atspi_lawful.proofs.OfOrder.Shape.{Shape}
 use Rattle.atspi_lawful.proofs.OfOrder.Shaped.{received_at, new_app, new_reader, app_joined}
-use Rattle.atspi_lawful.proofs.OfOrder.Each.{Each, each_of}
+use Rattle.atspi_lawful.proofs.OfOrder.Each.{each_of}
 use Rattle.atspi_lawful.proofs.OfOrder.Effects.{received, ReaderCalls, ReaderTakes, RegistryTakes, Effect, resets, app_joins, reader_joins, app_edited, app_took, reader_called, swapped, exited_, showed_, told_busy, told_quiet, bus_took, bus_ended, registry_took, reader_took}
 use Rattle.atspi_lawful.proofs.OfSerials.Numbers.{Numbered}
 use Rattle.atspi_lawful.proofs.OfSteps.Steps.{Trees}

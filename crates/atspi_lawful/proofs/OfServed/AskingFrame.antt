@@ -1,10 +1,9 @@
 -- What is kept of calls for items on their way: the reader's patterns are entered, and no news of them stands behind the call; so where an application took it, it has heard of them
 -- before anything that the registry sends later. And how it is kept where links grow.
-use Rattle.std.proofs.Common.{◌≡◌, ◌⊎◌, inl, inr, ℕ, ◌<◌, ◌≤◌, Bool, true, false, List, [], ◌∷◌, ◌++◌, map, Option, None, Some, refl, sym, ap, ◌∙◌, subst, arith, is_some}
+use Rattle.std.proofs.Common.{◌≡◌, ◌⊎◌, inl, inr, ℕ, ◌<◌, ◌≤◌, Bool, true, false, List, [], ◌∷◌, ◌++◌, map, Option, None, Some, refl, sym, ap, ◌∙◌, subst, arith}
 use Rattle.std.specs.Prelude.{◌==◌, bytes_eq, if◌then◌else◌}
 use Rattle.std.specs.List.{AllByRecursion, list_any}
-use Rattle.std.proofs.lemmas.List.{append-nil, append_assoc}
-use Rattle.atspi_lines.specs.declared.line.Party.{Party}
+use Rattle.std.proofs.lemmas.List.{append_assoc}
 use Rattle.atspi_lines.specs.declared.line.Party.TheVariants.{Bus as The_bus, Registry, App, Reader}
 use Rattle.atspi_message.specs.Envelope.{Envelope}
 use Rattle.atspi_protocol.specs.declared.following.question.Question.{Question}
@@ -16,11 +15,10 @@ use Rattle.atspi_trace.specs.Ends.{same_party, end_at}
 use Rattle.atspi_trace.specs.Hearing.{patterns_in}
 use Rattle.atspi_lawful.specs.laws.Words.{message, own_call, question_if}
 use Rattle.atspi_lawful.proofs.OfOrder.Parties.{no_none, same_some, party-same, false_true}
-use Rattle.atspi_lawful.proofs.OfOrder.Each.{Each, each_more, each_of, all_map}
+use Rattle.atspi_lawful.proofs.OfOrder.Each.{Each, each_more, all_map}
 use Rattle.atspi_lawful.proofs.OfLinks.LawLinks.{first_unread}
-use Rattle.atspi_lawful.proofs.OfOwn.Writing.{Lives, lived}
+use Rattle.atspi_lawful.proofs.OfOwn.Writing.{Lives}
 use Rattle.atspi_lawful.proofs.OfHeld.Holdings.{call_at}
-use Rattle.atspi_lawful.proofs.OfHeld.Keeping.{ReaderIs}
 use Rattle.atspi_lawful.proofs.OfHeld.LawHeld.{Readers}
 use Rattle.atspi_lawful.proofs.OfTaken.Found.{found_more}
 use Rattle.atspi_lawful.proofs.OfTaken.Said.{Comes}

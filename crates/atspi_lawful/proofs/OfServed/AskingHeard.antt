@@ -1,20 +1,19 @@
 -- An application that embedded, on whose down link no news of a reader's pairs is left, has heard of them; so it has at each step that it then does.
-use Rattle.std.proofs.Common.{◌≡◌, ◌⊎◌, inl, inr, ℕ, suc, ◌+◌, ◌<◌, ◌≤◌, Bool, true, false, List, [], ◌∷◌, ◌++◌, length, map, Option, None, Some, refl, sym, ap, ◌∙◌, subst, arith}
-use Rattle.std.specs.Prelude.{◌==◌, filter, nat_le, if◌then◌else◌}
+use Rattle.std.proofs.Common.{◌≡◌, ◌⊎◌, inl, inr, ℕ, suc, ◌+◌, ◌<◌, ◌≤◌, Bool, true, false, List, [], ◌∷◌, ◌++◌, length, map, Some, refl, sym, ap, ◌∙◌, subst, arith}
+use Rattle.std.specs.Prelude.{nat_le, if◌then◌else◌}
 use Rattle.std.specs.List.{AllByRecursion}
 use Rattle.std.proofs.lemmas.Bool.{eq-eqb, ne_eqb, leb-true, leb-false}
-use Rattle.atspi_lines.specs.declared.line.Party.{Party}
-use Rattle.atspi_lines.specs.declared.line.Party.TheVariants.{Bus as The_bus, Registry, App, Reader}
+use Rattle.atspi_lines.specs.declared.line.Party.TheVariants.{Bus as The_bus, Registry, App}
 use Rattle.atspi_message.specs.Envelope.{Envelope}
 use Rattle.atspi_protocol.specs.ends.Places.{registry}
 use Rattle.atspi_protocol.specs.members.Asked.{is_text}
 use Rattle.atspi_protocol.specs.exporting.Exporter.{Happening, steps, sends, hears, deaf, Exporter}
 use Rattle.atspi_protocol.specs.exporting.Hearing.{is_heard, heard_after}
 use Rattle.atspi_trace.specs.Entry.{Entry, changed, sent, heard, unheard}
-use Rattle.atspi_trace.specs.World.{an_application, Letter, End, World}
+use Rattle.atspi_trace.specs.World.{Letter}
 use Rattle.atspi_trace.specs.Ends.{same_party}
 use Rattle.atspi_trace.specs.Causes.{did}
-use Rattle.atspi_lawful.specs.laws.Words.{messages, message, with_serial, heard_pairs}
+use Rattle.atspi_lawful.specs.laws.Words.{messages, with_serial, heard_pairs}
 use Rattle.atspi_lawful.specs.laws.NineLaws.{sent_before}
 use Rattle.atspi_lawful.specs.serials.Laws.{HasNextNumber}
 use Rattle.atspi_lawful.specs.missed.Laws.{hearing, IsHeardOf, AreHeardOf}
@@ -26,7 +25,7 @@ use Rattle.atspi_lawful.proofs.OfSteps.Doings.{IsStill}
 use Rattle.atspi_lawful.proofs.OfHeard.Pairs.{heard_more}
 use Rattle.atspi_lawful.proofs.OfHeard.Heeding.{NoListeners, IsOneKind}
 use Rattle.atspi_lawful.proofs.OfMissed.Arriving.{On}
-use Rattle.atspi_lawful.proofs.OfServed.Facts.{up_to, told_by, Entered, IsNews, OnLink, HearsAll}
+use Rattle.atspi_lawful.proofs.OfServed.Facts.{up_to, told_by, IsNews, HearsAll}
 use Rattle.atspi_lawful.proofs.OfServed.Asking.{ServedOn, Served, served_split, HeardAt}
 use Rattle.atspi_lawful.proofs.OfServed.AskingFrame.{patterns, IsCleared, Clear}
 

@@ -1,32 +1,28 @@
 -- How calls for items are kept where no link grows: whatever a reader, an application or the registry does.
-use Rattle.std.proofs.Common.{◌≡◌, ◌⊎◌, inl, inr, ℕ, suc, Bool, true, false, List, [], ◌∷◌, ◌++◌, length, map, Option, None, Some, refl, sym, ap, ◌∙◌, subst}
+use Rattle.std.proofs.Common.{◌≡◌, inl, inr, ℕ, Bool, true, false, List, [], ◌∷◌, ◌++◌, map, Option, None, Some, refl, sym, ap, ◌∙◌, subst}
 use Rattle.std.specs.Prelude.{◌==◌, ◌&&◌, ◌||◌, bytes_eq, if◌then◌else◌}
 use Rattle.std.specs.List.{AllByRecursion, list_any}
-use Rattle.std.proofs.lemmas.Bool.{eqb-true, eq-eqb}
 use Rattle.std.proofs.lemmas.List.{append-nil}
-use Rattle.atspi_lines.specs.declared.line.Party.{Party}
 use Rattle.atspi_lines.specs.declared.line.Party.TheVariants.{Bus as The_bus, Registry, App, Reader}
 use Rattle.atspi_message.specs.Envelope.{Envelope}
 use Rattle.atspi_routing.specs.Routing.{is_reply}
-use Rattle.atspi_protocol.specs.exporting.Exporter.{Exporter}
 use Rattle.atspi_protocol.specs.following.Replied.{is_reply_to}
-use Rattle.atspi_protocol.specs.declared.following.question.Question.{Question}
 use Rattle.atspi_protocol.specs.declared.following.question.Question.TheVariants.{GetItems}
 use Rattle.atspi_trace.specs.Entry.{Entry, changed, sent, got}
-use Rattle.atspi_trace.specs.World.{here, Asked, Role, a_reader, Hearer, Letter, End, World}
-use Rattle.atspi_trace.specs.Ends.{is_here, same_party, end_at, with_end}
-use Rattle.atspi_trace.specs.Hearing.{fate_of, answered_by, question_in, names_told, question_returned, hears_letter}
-use Rattle.atspi_lawful.specs.laws.Words.{messages, message, own_call, question_if}
-use Rattle.atspi_lawful.proofs.OfOrder.Parties.{no_none, same_some, same-party, party-same, false_true}
+use Rattle.atspi_trace.specs.World.{here, Asked, Role, a_reader, Hearer, End, World}
+use Rattle.atspi_trace.specs.Ends.{same_party, end_at}
+use Rattle.atspi_trace.specs.Hearing.{fate_of, answered_by, question_in}
+use Rattle.atspi_lawful.specs.laws.Words.{message, own_call, question_if}
+use Rattle.atspi_lawful.proofs.OfOrder.Parties.{no_none, same_some, same-party, false_true}
 use Rattle.atspi_lawful.proofs.OfOrder.Frame.{Over, IsOrder}
-use Rattle.atspi_lawful.proofs.OfOrder.Each.{Each, each_of, all_map}
+use Rattle.atspi_lawful.proofs.OfOrder.Each.{each_of, all_map}
 use Rattle.atspi_lawful.proofs.OfOwn.Writing.{Lives}
 use Rattle.atspi_lawful.proofs.OfHeld.LawHeld.{Readers}
 use Rattle.atspi_lawful.proofs.OfTaken.Found.{none_more, look_is, looked}
 use Rattle.atspi_lawful.proofs.OfTaken.LawTaken.{Known}
 use Rattle.atspi_lawful.proofs.OfServed.Facts.{Entered, Carries}
 use Rattle.atspi_lawful.proofs.OfServed.Asking.{IsService, ServedOn, HeardAt}
-use Rattle.atspi_lawful.proofs.OfServed.AskingFrame.{patterns, AllEnteredFor, IsReadyFor, IsReady, questions, IsReader, IsApp, Asking, call_before, ready_at, Calls, WasReader, WasApp, asking_now}
+use Rattle.atspi_lawful.proofs.OfServed.AskingFrame.{patterns, IsReadyFor, IsReady, questions, IsReader, IsApp, Asking, call_before, ready_at, WasReader, WasApp, asking_now}
 
 -- ENDS THAT GO ON
 -- a reader, as it asked and was told

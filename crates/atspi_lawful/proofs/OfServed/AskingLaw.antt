@@ -1,31 +1,26 @@
 -- Each step was asked for whole, of every lawful trace, where the facts under it are kept.
-use Rattle.std.proofs.Common.{◌≡◌, ◌⊎◌, inl, inr, ℕ, Bool, true, false, List, [], ◌∷◌, ◌++◌, map, Option, None, Some, refl, sym, ap, ◌∙◌, subst, is_some}
-use Rattle.std.specs.Prelude.{◌==◌, ◌&&◌, if◌then◌else◌}
+use Rattle.std.proofs.Common.{◌≡◌, ℕ, Bool, true, false, List, [], ◌∷◌, ◌++◌, Option, Some, refl, sym, ap, ◌∙◌, subst}
+use Rattle.std.specs.Prelude.{if◌then◌else◌}
 use Rattle.std.specs.List.{AllByRecursion}
 use Rattle.std.proofs.lemmas.List.{append-nil, append_assoc}
-use Rattle.atspi_forest.specs.declared.step.Step.{Step}
 use Rattle.atspi_lines.specs.declared.limits.TheConstants.{QUOTA_MOST}
 use Rattle.atspi_lines.specs.declared.line.Line.{Line}
 use Rattle.atspi_lines.specs.declared.line.Party.{Party}
 use Rattle.atspi_lines.specs.declared.line.Party.TheVariants.{Bus as The_bus, Registry, App, Reader}
-use Rattle.atspi_message.specs.Envelope.{Envelope}
 use Rattle.atspi_protocol.specs.registering.Steps.{registry_takes}
 use Rattle.atspi_protocol.specs.exporting.Taking.{app_takes}
 use Rattle.atspi_trace.specs.Entry.{Entry, changed, sent, got}
-use Rattle.atspi_trace.specs.World.{a_reader, Hearer, End, World}
-use Rattle.atspi_trace.specs.Ends.{same_party, number_of, end_at}
+use Rattle.atspi_trace.specs.World.{a_reader, Hearer, World}
+use Rattle.atspi_trace.specs.Ends.{same_party, number_of}
 use Rattle.atspi_trace.specs.Carrying as carrying
 use Rattle.atspi_trace.specs.Hearing.{heard_entries}
 use Rattle.atspi_trace.specs.Causes.{Done, app_starts, reader_starts}
 use Rattle.atspi_trace.specs.Due.{begins, after_all, Scene, Goes}
-use Rattle.atspi_lawful.specs.laws.Words.{live_tree, message, is_sent_as, before_sent, heard_pairs, answers_question, Kept, held}
-use Rattle.atspi_lawful.specs.laws.NineLaws.{Everywhere}
+use Rattle.atspi_lawful.specs.laws.Words.{live_tree, is_sent_as, before_sent, heard_pairs, Kept, held}
 use Rattle.atspi_lawful.specs.order.Scripts.{CanAllStand}
-use Rattle.atspi_lawful.specs.turns.Laws.{IsTakenInTurn}
-use Rattle.atspi_lawful.specs.missed.Laws.{IsLoad, AreHeardOf}
 use Rattle.atspi_lawful.specs.caches.Laws.{AreAsked, AsksAll, IsServed}
 use Rattle.atspi_lawful.specs.ways.Laws.{AreHere, AreAskedSince}
-use Rattle.atspi_lawful.proofs.OfOrder.Parties.{same_some, party-same, false_true}
+use Rattle.atspi_lawful.proofs.OfOrder.Parties.{party-same, false_true}
 use Rattle.atspi_lawful.proofs.OfOrder.Shape.{Shape, RoleFits}
 use Rattle.atspi_lawful.proofs.OfOrder.Told.{Tells}
 use Rattle.atspi_lawful.proofs.OfOrder.Acts.{IsActive}
@@ -42,7 +37,7 @@ use Rattle.atspi_lawful.proofs.OfQuiet.Here.{Present, present_keeps}
 use Rattle.atspi_lawful.proofs.OfMissed.Covering.{patterns_cover}
 use Rattle.atspi_lawful.proofs.OfServed.Facts.{AllEntered, AllKnown, AllHear, AllListed, Carries}
 use Rattle.atspi_lawful.proofs.OfServed.Asking.{HeardAt, LoadIsServed, AreHeardSince, heard_since}
-use Rattle.atspi_lawful.proofs.OfServed.AskingFrame.{IsReader, Asking, AllAsking}
+use Rattle.atspi_lawful.proofs.OfServed.AskingFrame.{IsReader, AllAsking}
 use Rattle.atspi_lawful.proofs.OfServed.AskingAnswers.{Answers, Under_answers, Answered, answers_keep}
 use Rattle.atspi_lawful.proofs.OfServed.AskingCaused.{Underlies, nobody, caused_asking}
 use Rattle.atspi_lawful.proofs.OfServed.AskingOwn.{asked_asking, moved_asking}

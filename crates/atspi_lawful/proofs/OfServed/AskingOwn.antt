@@ -1,32 +1,30 @@
 -- How calls for items are kept at a reader's own call, and at bytes that complete no message: a reader asks for items only where its patterns are entered, and of one that it was told of.
 use Rattle.std.proofs.Common.{◌≡◌, ◌⊎◌, inl, inr, ℕ, ◌+◌, ◌<◌, Bool, true, false, List, [], ◌∷◌, ◌++◌, map, Option, None, Some, refl, sym, ap, ◌∙◌, subst, is_some, arith}
-use Rattle.std.specs.Prelude.{◌==◌, ◌&&◌, ◌||◌, bytes_eq, filter, nat_le, if◌then◌else◌}
+use Rattle.std.specs.Prelude.{◌==◌, ◌&&◌, ◌||◌, bytes_eq, if◌then◌else◌}
 use Rattle.std.specs.List.{AllByRecursion, list_any, list_all, cons_option}
 use Rattle.std.proofs.lemmas.Bool.{eqb-true}
 use Rattle.std.proofs.lemmas.List.{append-nil}
 use Rattle.std.proofs.lemmas.Slice.Eq.{bytes_eq-Decides}
 use Rattle.atspi_types.specs.Names.{is_bus_name}
-use Rattle.atspi_lines.specs.declared.line.Party.{Party}
-use Rattle.atspi_lines.specs.declared.line.Party.TheVariants.{Bus as The_bus, Registry, App, Reader}
+use Rattle.atspi_lines.specs.declared.line.Party.TheVariants.{Registry, App, Reader}
 use Rattle.atspi_message.specs.Envelope.{Envelope}
 use Rattle.atspi_protocol.specs.declared.following.question.Question.{Question}
 use Rattle.atspi_protocol.specs.declared.following.question.Question.TheVariants.{Hello, AddMatch, RegisterEvent, GetChildren, GetItems, GetPart}
 use Rattle.atspi_protocol.specs.exporting.Hearing.{is_heard}
-use Rattle.atspi_protocol.specs.following.ReaderState.{start_calls}
 use Rattle.atspi_trace.specs.Entry.{Entry, sent}
-use Rattle.atspi_trace.specs.World.{Fate, waits, returned, failed, here, Asked, Role, a_reader, Hearer, Letter, End, World}
-use Rattle.atspi_trace.specs.Ends.{is_app, same_party, number_of, end_at, with_end}
-use Rattle.atspi_trace.specs.Hearing.{patterns_in, registers, is_registered, is_listening, may_ask, question_in}
+use Rattle.atspi_trace.specs.World.{Fate, waits, returned, failed, Asked, a_reader, Hearer, End, World}
+use Rattle.atspi_trace.specs.Ends.{is_app, same_party, number_of, end_at}
+use Rattle.atspi_trace.specs.Hearing.{registers, is_registered, is_listening, may_ask}
 use Rattle.atspi_trace.specs.Causes.{at_end, asks, reader_sends}
 use Rattle.atspi_trace.specs.Due.{asks_as, asks_at}
 use Rattle.atspi_lawful.specs.laws.Words.{messages, message, own_call, question_if}
 use Rattle.atspi_lawful.specs.laws.NineLaws.{count_got_by_bus}
 use Rattle.atspi_lawful.specs.missed.Laws.{hearing}
-use Rattle.atspi_lawful.proofs.OfOrder.Parties.{no_none, same_some, party-same, false_true, all_append}
+use Rattle.atspi_lawful.proofs.OfOrder.Parties.{no_none, same_some, false_true, all_append}
 use Rattle.atspi_lawful.proofs.OfOrder.Allowed.{MovedUp, MovedDown, Asks}
 use Rattle.atspi_lawful.proofs.OfOrder.Frame.{Over, with_cases, over_with}
 use Rattle.atspi_lawful.proofs.OfOrder.Shape.{Shape}
-use Rattle.atspi_lawful.proofs.OfOrder.Each.{Each, all_map}
+use Rattle.atspi_lawful.proofs.OfOrder.Each.{all_map}
 use Rattle.atspi_lawful.proofs.OfSerials.Serial.{messages_more}
 use Rattle.atspi_lawful.proofs.OfLinks.LawLinks.{first_unread, NotTaken, none_taken, count_more}
 use Rattle.atspi_lawful.proofs.OfOwn.Writing.{Lives, lived}
@@ -34,10 +32,10 @@ use Rattle.atspi_lawful.proofs.OfHeld.Keeping.{calls_same}
 use Rattle.atspi_lawful.proofs.OfHeld.LawHeld.{Readers}
 use Rattle.atspi_lawful.proofs.OfTaken.Found.{none_more, look_is, looked}
 use Rattle.atspi_lawful.proofs.OfTaken.LawTaken.{Known}
-use Rattle.atspi_lawful.proofs.OfServed.Facts.{up_to, told_by, Entered, IsEntered, AllEntered, IsKnown, AllKnown, Carries}
-use Rattle.atspi_lawful.proofs.OfServed.Asking.{ServedOn, HeardAt}
-use Rattle.atspi_lawful.proofs.OfServed.AskingFrame.{patterns, AllEnteredFor, IsReadyFor, IsReady, questions, IsReader, IsApp, Asking, AllAsking, call_before, call_more, ready_at, Calls, IsEnteredFor, WasReader, WasApp, asking_now}
-use Rattle.atspi_lawful.proofs.OfServed.AskingKept.{stays_as, staying, same_hearer, IsAsIs, being, calmly}
+use Rattle.atspi_lawful.proofs.OfServed.Facts.{up_to, Entered, IsEntered, AllEntered, IsKnown, AllKnown, Carries}
+use Rattle.atspi_lawful.proofs.OfServed.Asking.{ServedOn}
+use Rattle.atspi_lawful.proofs.OfServed.AskingFrame.{patterns, AllEnteredFor, IsReadyFor, IsReady, questions, IsReader, IsApp, Asking, AllAsking, call_before, ready_at, Calls, IsEnteredFor, WasReader, WasApp, asking_now}
+use Rattle.atspi_lawful.proofs.OfServed.AskingKept.{stays_as, same_hearer, IsAsIs, being, calmly}
 
 -- WHERE THE REGISTRY SENDS NOTHING all that was entered is carried on
 pub carries_same : (es ys : List Entry) (w v : World) → messages ys Registry ≡ [] → AllByRecursion NotTaken ys → Carries es (es ++ ys) w v

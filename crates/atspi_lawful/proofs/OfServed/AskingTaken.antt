@@ -1,15 +1,14 @@
 -- How calls for items are kept at what the bus does.
-use Rattle.std.proofs.Common.{◌≡◌, ◌⊎◌, inl, inr, ℕ, ◌≤◌, Bool, true, false, List, [], ◌∷◌, ◌++◌, length, Option, None, Some, refl, sym, ap, ◌∙◌, subst, arith}
+use Rattle.std.proofs.Common.{◌≡◌, ◌⊎◌, inl, inr, ℕ, ◌≤◌, Bool, true, false, List, [], ◌∷◌, ◌++◌, length, Some, refl, sym, ap, ◌∙◌, subst, arith}
 use Rattle.std.specs.Prelude.{if◌then◌else◌}
 use Rattle.std.specs.List.{AllByRecursion}
-use Rattle.atspi_lines.specs.declared.line.Party.{Party}
 use Rattle.atspi_lines.specs.declared.line.Party.TheVariants.{Bus as The_bus, Registry}
 use Rattle.atspi_message.specs.Envelope.{Envelope}
 use Rattle.atspi_names.specs.Owners.{own_name}
 use Rattle.atspi_routing.specs.declared.closing.Closing.{Closing}
 use Rattle.atspi_routing.specs.Members.{is_text}
 use Rattle.atspi_routing.specs.Steps.{Move, says, delivers, closes, BusStep, bus_takes}
-use Rattle.atspi_trace.specs.Entry.{Entry, got, dropped}
+use Rattle.atspi_trace.specs.Entry.{Entry, dropped}
 use Rattle.atspi_trace.specs.Rules.{rule_in}
 use Rattle.atspi_trace.specs.World.{here, Hearer, Letter, End, World}
 use Rattle.atspi_trace.specs.Ends.{is_here, same_party, party_at, end_at, with_end, taken_up}

@@ -1,10 +1,8 @@
 -- A reader's patterns are entered at the registry, along a lawful trace: where its call for one was returned, whoever heard the registry up to the return, or further, has its pair; and so it stays, as long as the reader is here.
-use Rattle.std.proofs.Common.{◌≡◌, ◌⊎◌, inl, inr, ℕ, ◌≤◌, ◌<◌, Bool, true, false, List, [], ◌∷◌, ◌++◌, length, map, Option, None, Some, refl, sym, ap, ap₂, ◌∙◌, subst, arith, is_some}
+use Rattle.std.proofs.Common.{◌≡◌, ◌⊎◌, inl, inr, ℕ, ◌≤◌, ◌<◌, Bool, true, false, List, [], ◌∷◌, ◌++◌, length, map, Some, refl, sym, ap, ap₂, ◌∙◌, subst, arith, is_some}
 use Rattle.std.specs.List.{AllByRecursion}
 use Rattle.atspi_lines.specs.declared.limits.TheConstants.{QUOTA_MOST}
-use Rattle.atspi_lines.specs.declared.line.Party.{Party}
-use Rattle.atspi_lines.specs.declared.line.Party.TheVariants.{Registry, App, Reader}
-use Rattle.atspi_message.specs.Envelope.{Envelope}
+use Rattle.atspi_lines.specs.declared.line.Party.TheVariants.{Registry, Reader}
 use Rattle.atspi_names.specs.Owners.{own_name}
 use Rattle.atspi_types.specs.Names.{is_unique_name}
 use Rattle.atspi_protocol.specs.registering.Steps.{registry_takes}
@@ -12,7 +10,7 @@ use Rattle.atspi_protocol.specs.exporting.Taking.{app_takes}
 use Rattle.atspi_protocol.specs.following.Calls.{asking}
 use Rattle.atspi_protocol.specs.declared.following.question.Question.TheVariants.{RegisterEvent}
 use Rattle.atspi_trace.specs.Entry.{Entry, sent, got}
-use Rattle.atspi_trace.specs.World.{returned, Standing, here, stopped, away, Asked, a_reader, Hearer, End, World, first_world}
+use Rattle.atspi_trace.specs.World.{Standing, here, stopped, away, Asked, End, World, first_world}
 use Rattle.atspi_trace.specs.Ends.{is_here, same_party, whose, number_of, end_at}
 use Rattle.atspi_trace.specs.Carrying as carrying
 use Rattle.atspi_trace.specs.Causes.{Done, does, at_end}
@@ -25,7 +23,6 @@ use Rattle.atspi_lawful.proofs.OfOrder.Effects.{received, RegistryTakes, Effect,
 use Rattle.atspi_lawful.proofs.OfOrder.Along.{Keeps}
 use Rattle.atspi_lawful.proofs.OfOrder.Growing.{Shaped, And}
 use Rattle.atspi_lawful.proofs.OfHeard.Quiet.{heard_all}
-use Rattle.atspi_lawful.proofs.OfOwn.Writing.{Lives}
 use Rattle.atspi_lawful.proofs.OfLinks.LawLinks.{first_unread}
 use Rattle.atspi_lawful.proofs.OfTurns.Turning.{unread_more}
 use Rattle.atspi_lawful.proofs.OfReaders.Fates.{FateIs, Fated}

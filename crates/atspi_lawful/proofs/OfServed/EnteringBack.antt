@@ -1,16 +1,14 @@
 -- Where a reader's call for a pattern was returned, the registry returned it, in a message that the bus took, along a lawful trace.
-use Rattle.std.proofs.Common.{◌≡◌, ◌⊎◌, inl, inr, ℕ, zero, suc, ◌+◌, ◌≤◌, ◌<◌, Bool, true, false, List, [], ◌∷◌, ◌++◌, length, map, Option, None, Some, refl, sym, ap, ap₂, ◌∙◌, subst, arith}
+use Rattle.std.proofs.Common.{◌≡◌, ◌⊎◌, inl, inr, ℕ, zero, suc, ◌+◌, ◌≤◌, ◌<◌, Bool, true, false, List, [], ◌∷◌, ◌++◌, length, map, Option, None, Some, refl, sym, ap, ◌∙◌, subst, arith}
 use Rattle.std.specs.Prelude.{◌==◌, ◌||◌, ◌&&◌, if◌then◌else◌}
 use Rattle.std.specs.List.{AllByRecursion}
 use Rattle.std.proofs.lemmas.Bool.{eqb-true}
 use Rattle.std.proofs.lemmas.List.{append-nil}
 use Rattle.atspi_lines.specs.declared.limits.TheConstants.{QUOTA_MOST}
-use Rattle.atspi_lines.specs.declared.line.Party.{Party}
-use Rattle.atspi_lines.specs.declared.line.Party.TheVariants.{Bus as The_bus, Registry, App, Reader}
+use Rattle.atspi_lines.specs.declared.line.Party.TheVariants.{Bus as The_bus, Registry, Reader}
 use Rattle.atspi_message.specs.Envelope.{Envelope}
 use Rattle.atspi_names.specs.Owners.{own_name}
-use Rattle.atspi_protocol.specs.ends.Places.{registry}
-use Rattle.atspi_routing.specs.Routing.{is_for_bus, is_reply}
+use Rattle.atspi_routing.specs.Routing.{is_reply}
 use Rattle.atspi_protocol.specs.registering.Steps.{RegistryStep, registry_takes}
 use Rattle.atspi_protocol.specs.exporting.Exporter.{Exporter}
 use Rattle.atspi_protocol.specs.exporting.Taking.{app_takes}
@@ -19,7 +17,7 @@ use Rattle.atspi_protocol.specs.following.Replied.{is_reply_to}
 use Rattle.atspi_protocol.specs.declared.following.question.Question.{Question}
 use Rattle.atspi_protocol.specs.declared.following.question.Question.TheVariants.{Hello, RegisterEvent}
 use Rattle.atspi_trace.specs.Entry.{Entry, sent}
-use Rattle.atspi_trace.specs.World.{Fate, waits, returned, failed, Asked, Role, the_registry, an_application, a_reader, Hearer, Said, Letter, End, World, first_registry, first_world}
+use Rattle.atspi_trace.specs.World.{Fate, waits, returned, failed, Asked, Role, the_registry, an_application, a_reader, Hearer, Said, End, World, first_registry, first_world}
 use Rattle.atspi_trace.specs.Ends.{same_party, is_reader, number_of, end_at, with_end, put_down, taken_up, taken_down, stops, leaves}
 use Rattle.atspi_trace.specs.Carrying.{own_letter, letter_of, named}
 use Rattle.atspi_trace.specs.Hearing.{fate_of, answered_by, question_in, hears_letter}
@@ -40,17 +38,17 @@ use Rattle.atspi_lawful.proofs.OfTurns.Turning.{Turns, unread_more}
 use Rattle.atspi_lawful.proofs.OfTurns.LawTurns.{Turned}
 use Rattle.atspi_lawful.proofs.OfHeld.LawHeld.{SameReader, same_reader}
 use Rattle.atspi_lawful.proofs.OfOwn.Writing.{Lives, lived}
-use Rattle.atspi_lawful.proofs.OfReaders.Fates.{FateIs, FatesAre, Fated, both_keep, hello_read}
+use Rattle.atspi_lawful.proofs.OfReaders.Fates.{FateIs, Fated, both_keep, hello_read}
 use Rattle.atspi_lawful.proofs.OfNames.Places.{greeted}
 use Rattle.atspi_lawful.proofs.OfNames.LawEnds.{few_greeted}
-use Rattle.atspi_lawful.proofs.OfSigned.Mail.{NameIs, name_more, IsCallOf, IsAnswer, IsPost, IsMail}
+use Rattle.atspi_lawful.proofs.OfSigned.Mail.{NameIs, name_more, IsCallOf, IsAnswer, IsMail}
 use Rattle.atspi_lawful.proofs.OfSigned.Self.{unique_told, for_bus_true}
 use Rattle.atspi_lawful.proofs.OfSigned.LawMail.{Mail}
 use Rattle.atspi_lawful.proofs.OfMissed.Ruled.{Ruled, RulesOf}
 use Rattle.atspi_lawful.proofs.OfMissed.Delivering.{Delivers}
 use Rattle.atspi_lawful.proofs.OfMissed.LawMissed.{Under_delivered, delivers_keep}
 use Rattle.atspi_lawful.proofs.OfServed.Returned.{Fits, Rightly, Under_rightly, rightly_keeps, returned_by}
-use Rattle.atspi_lawful.proofs.OfServed.Spelling.{IsCall, Spelled, call_of}
+use Rattle.atspi_lawful.proofs.OfServed.Spelling.{Spelled, call_of}
 use Rattle.atspi_lawful.proofs.OfServed.EnteringTold.{Under_returned, ReturnsTold, returned_keep}
 
 -- THE RETURN to a reader's call with this number

@@ -1,13 +1,12 @@
 -- The three facts of the world under "each step was asked for whole", and the one that they make: a reader's patterns are entered at the registry, an application that embedded
 -- has heard of them, and the reader asks for items of such applications alone.
-use Rattle.std.proofs.Common.{◌≡◌, ℕ, ◌<◌, ◌≤◌, true, List, [], ◌∷◌, ◌++◌, Option, None, Some, is_some}
+use Rattle.std.proofs.Common.{◌≡◌, ℕ, ◌<◌, ◌≤◌, true, List, [], Some, is_some}
 use Rattle.std.specs.Prelude.{codes, filter, nat_le}
 use Rattle.std.specs.List.{AllByRecursion}
 use Rattle.atspi_types.specs.Names.{is_unique_name}
-use Rattle.atspi_lines.specs.declared.line.Party.{Party}
 use Rattle.atspi_lines.specs.declared.line.Party.TheVariants.{Registry, App, Reader}
 use Rattle.atspi_message.specs.Envelope.{Envelope}
-use Rattle.atspi_protocol.specs.declared.following.question.Question.TheVariants.{RegisterEvent, GetItems}
+use Rattle.atspi_protocol.specs.declared.following.question.Question.TheVariants.{RegisterEvent}
 use Rattle.atspi_protocol.specs.ends.Places.{registry}
 use Rattle.atspi_protocol.specs.members.Asked.{is_text}
 use Rattle.atspi_protocol.specs.exporting.Exporter.{Exporter}

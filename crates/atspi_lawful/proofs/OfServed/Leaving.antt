@@ -2,14 +2,14 @@
 use Rattle.std.proofs.Common.{◌≡◌, ◌⊎◌, inl, inr, ℕ, suc, ◌+◌, ◌/◌, ◌%◌, ◌^◌, ◌<◌, ◌≤◌, ltb, cond, Bool, true, false, List, [], ◌∷◌, ◌++◌, length, Option, None, Some, refl, sym, ap, ap₂, ◌∙◌, subst, arith}
 use Rattle.std.specs.Prelude.{◌==◌, ◌&&◌, bytes_eq, codes, decimal, encode_utf8_all, option_map, if◌then◌else◌}
 use Rattle.std.specs.List.{AllByRecursion}
-use Rattle.std.proofs.lemmas.Bool.{eqb-true, lt-ltb, ltb-false}
+use Rattle.std.proofs.lemmas.Bool.{eqb-true, lt-ltb}
 use Rattle.std.proofs.lemmas.Fmt.{decimal_by_steps}
 use Rattle.std.proofs.lemmas.Slice.Eq.{bytes_eq-Decides}
 use lib.Utf8.{encode}
 use Rattle.atspi_types.specs.Data.{Data, text_data}
 use Rattle.atspi_types.specs.Names.{is_unique_name}
 use Rattle.atspi_lines.specs.declared.line.Party.{Party}
-use Rattle.atspi_lines.specs.declared.line.Party.TheVariants.{Bus as The_bus, Registry, App, Reader}
+use Rattle.atspi_lines.specs.declared.line.Party.TheVariants.{Bus as The_bus, Reader}
 use Rattle.atspi_message.specs.Envelope.{Envelope}
 use Rattle.atspi_names.specs.Owners.{own_name, unique_name}
 use Rattle.atspi_protocol.specs.ends.Places.{bus}
@@ -18,7 +18,7 @@ use Rattle.atspi_protocol.specs.members.Asked.{is_text}
 use Rattle.atspi_protocol.specs.registering.Steps.{is_from_bus, name_gone}
 use Rattle.atspi_protocol.specs.following.Known.{told_end}
 use Rattle.atspi_trace.specs.Entry.{Entry}
-use Rattle.atspi_trace.specs.World.{here, Letter, End, World}
+use Rattle.atspi_trace.specs.World.{here, End, World}
 use Rattle.atspi_trace.specs.Ends.{is_here, same_party, end_at}
 use Rattle.atspi_trace.specs.Causes.{Done}
 use Rattle.atspi_lawful.specs.laws.Words.{message}
@@ -26,7 +26,7 @@ use Rattle.atspi_lawful.specs.missed.Laws.{TakesAway}
 use Rattle.atspi_lawful.proofs.OfOrder.Parties.{no_none, same_some, false_true, all_append}
 use Rattle.atspi_lawful.proofs.OfOrder.Shape.{Shape}
 use Rattle.atspi_lawful.proofs.OfOrder.Effects.{RegistryTakes}
-use Rattle.atspi_lawful.proofs.OfNames.Places.{first_at, first_below, greeted, name_told}
+use Rattle.atspi_lawful.proofs.OfNames.Places.{first_at, first_below, greeted}
 use Rattle.atspi_lawful.proofs.OfNames.LawNames.{Named}
 use Rattle.atspi_lawful.proofs.OfSigned.Mail.{NameIs, IsMail}
 use Rattle.atspi_lawful.proofs.OfSigned.Self.{unique_told, one_named}

@@ -4,7 +4,6 @@ use Rattle.std.specs.Prelude.{◌==◌, ◌&&◌, ◌||◌, not, filter, codes, 
 use Rattle.std.specs.List.{AllByRecursion, list_any}
 use Rattle.std.specs.FinMap as finmap
 use Rattle.std.specs.FinMap.{get-remove}
-use Rattle.std.specs.Ordering.{nat_cmp, eq_by_cmp}
 use Rattle.std.specs.Cmp.{nat_cmp_total, eq_by_cmp_equiv}
 use Rattle.std.proofs.lemmas.Bool.{eqb-true}
 use Rattle.atspi_types.specs.Data.{Data}
@@ -27,7 +26,7 @@ use Rattle.atspi_routing.specs.Routing.{receivers, is_for_bus, owners_of, one_or
 use Rattle.atspi_routing.specs.Steps.{handed, speaks, called, undeliverable, is_unowned, calls_after_all, is_hello, greets, closes, bus_takes}
 use Rattle.atspi_trace.specs.Carrying.{Carried, one_closed, settled}
 use Rattle.atspi_lawful.proofs.OfOrder.Parties.{no_none, same_some, false_true}
-use Rattle.atspi_lawful.proofs.OfNames.Naming.{SameAs, takes_same, hello_other, gone_other, gone_less}
+use Rattle.atspi_lawful.proofs.OfNames.Naming.{hello_other, gone_less}
 use Rattle.atspi_lawful.proofs.OfSigned.Unique.{IsIn}
 
 -- the list of the registry's name is the registry alone, or the registry left and nobody has the name

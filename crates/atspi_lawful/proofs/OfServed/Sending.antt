@@ -1,6 +1,6 @@
 -- What ends send: an application signals, replies and the calls of its start; the registry signals, replies and the call that gives a root its number.
 use Rattle.std.proofs.Common.{◌≡◌, ℕ, ◌+◌, Bool, true, false, List, [], ◌∷◌, ◌++◌, length, map, Option, None, Some, refl, sym, ap, ◌∙◌, subst}
-use Rattle.std.specs.Prelude.{◌==◌, ◌&&◌, ◌||◌, slice_get, bytes_eq, codes, encode_utf8_all, if◌then◌else◌, Result, Ok, Err}
+use Rattle.std.specs.Prelude.{◌==◌, slice_get, bytes_eq, codes, encode_utf8_all, if◌then◌else◌, Result, Ok, Err}
 use Rattle.std.specs.List.{AllByRecursion, list_any}
 use Rattle.atspi_types.specs.Data.{Data}
 use Rattle.atspi_forest.specs.declared.edit.Edit.{Edit}
@@ -22,7 +22,6 @@ use Rattle.atspi_protocol.specs.members.Arguments.{text_at}
 use Rattle.atspi_protocol.specs.registering.RegistryState.{RegistryState, is_of, has_pair, without_pair, pairs_of, pairs_without, child_place}
 use Rattle.atspi_protocol.specs.registering.Told.{registered, deregistered, id_call, children_changed, is_asked_for}
 use Rattle.atspi_protocol.specs.registering.Answers.{Answer, only, registers, deregisters, reference_in, new_child, adopts, news_of_removal_at, news_of_removal, releases, answers_member, object_at}
-use Rattle.atspi_protocol.specs.registering.Answers as registering
 use Rattle.atspi_protocol.specs.registering.Steps.{RegistryStep, called_by, named, hears as registry_hears, name_told, name_gone, takes_as, registry_takes}
 use Rattle.atspi_protocol.specs.registering.Steps as registering_steps
 use Rattle.atspi_protocol.specs.announcing.Signals.{Signal}
@@ -34,7 +33,7 @@ use Rattle.atspi_protocol.specs.exporting.Starting.{awaited, goes_on, asks, gree
 use Rattle.atspi_protocol.specs.exporting.Taking.{app_takes, app_edits, takes_other, takes_call, takes_signal, called, stepped, answer_to}
 use Rattle.atspi_trace.specs.World.{Said}
 use Rattle.atspi_trace.specs.Causes.{saids}
-use Rattle.atspi_lawful.proofs.OfOrder.Parties.{no_none, false_true, all_append}
+use Rattle.atspi_lawful.proofs.OfOrder.Parties.{all_append}
 use Rattle.atspi_lawful.proofs.OfHeard.Heeding.{IsOfListeners, heard_told, exchanged_told}
 use Rattle.atspi_lawful.proofs.OfCaches.Between.{IsSignal, all_signals}
 

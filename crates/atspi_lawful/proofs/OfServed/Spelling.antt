@@ -1,14 +1,12 @@
 -- What readers send, along a lawful trace: calls that take nothing back, and where one is read as a question it is spelled as that question's call.
-use Rattle.std.proofs.Common.{◌≡◌, ℕ, Bool, true, false, List, [], ◌∷◌, ◌++◌, map, Option, None, Some, refl, sym, ap, ◌∙◌, subst}
-use Rattle.std.specs.Prelude.{◌==◌, codes, if◌then◌else◌}
+use Rattle.std.proofs.Common.{◌≡◌, ℕ, Bool, true, false, List, [], ◌∷◌, ◌++◌, map, None, Some, refl, sym, ap, ◌∙◌, subst}
+use Rattle.std.specs.Prelude.{◌==◌, if◌then◌else◌}
 use Rattle.std.specs.List.{AllByRecursion, cons_option}
 use Rattle.std.proofs.lemmas.Bool.{eqb-true}
 use Rattle.atspi_lines.specs.declared.deed.Deed.{Deed}
 use Rattle.atspi_lines.specs.declared.deed.Deed.TheVariants.{SetCaret, InsertText, DeleteText, SetText, SelectChild, DeselectChild, SelectAll, ClearSelection, DoAction}
-use Rattle.atspi_lines.specs.declared.line.Party.{Party}
-use Rattle.atspi_lines.specs.declared.line.Party.TheVariants.{Bus as The_bus, Registry, App, Reader}
+use Rattle.atspi_lines.specs.declared.line.Party.TheVariants.{Registry, Reader}
 use Rattle.atspi_message.specs.Envelope.{Envelope}
-use Rattle.atspi_routing.specs.Members.{is_text}
 use Rattle.atspi_routing.specs.declared.closing.Closing.{Closing}
 use Rattle.atspi_protocol.specs.registering.Steps.{registry_takes}
 use Rattle.atspi_protocol.specs.exporting.Exporter.{Happening, steps, sends, hears, deaf}
@@ -26,7 +24,7 @@ use Rattle.atspi_trace.specs.Hearing.{question_in}
 use Rattle.atspi_trace.specs.Causes.{Done, did, app_starts}
 use Rattle.atspi_lawful.specs.laws.Words.{messages, message, with_serial}
 use Rattle.atspi_lawful.specs.missed.Laws.{AsksOnly}
-use Rattle.atspi_lawful.proofs.OfOrder.Parties.{no_none, same_some, same-party, party-same, false_true, all_append}
+use Rattle.atspi_lawful.proofs.OfOrder.Parties.{no_none, same_some, same-party, all_append}
 use Rattle.atspi_lawful.proofs.OfOrder.Plain.{user_plain}
 use Rattle.atspi_lawful.proofs.OfOrder.BusWords.{bus_all, all_any}
 use Rattle.atspi_lawful.proofs.OfOrder.Effects.{received, Effect, resets, app_joins, reader_joins, app_edited, app_took, reader_called, swapped, exited_, showed_, told_busy, told_quiet, bus_took, bus_ended, registry_took, reader_took}

@@ -1,6 +1,6 @@
 -- What the registry sends with a message, one by one, leaves a pair with whoever hears it, unless the message takes the pair away; and a reader's call for a pattern enters it before it is returned.
-use Rattle.std.proofs.Common.{◌≡◌, ◌⊎◌, inl, inr, ℕ, suc, ◌+◌, ◌≤◌, ◌<◌, Bool, true, false, List, [], ◌∷◌, ◌++◌, length, map, Option, None, Some, refl, sym, ap, ap₂, ◌∙◌, subst, arith}
-use Rattle.std.specs.Prelude.{◌==◌, ◌&&◌, ◌||◌, not, nat_le, filter, slice_get, bytes_eq, codes, encode_utf8_all, if◌then◌else◌, Result, Ok, Err}
+use Rattle.std.proofs.Common.{◌≡◌, inl, inr, ℕ, ◌+◌, ◌≤◌, Bool, true, false, List, [], ◌∷◌, ◌++◌, length, map, Option, None, Some, refl, sym, ap, ◌∙◌, subst, arith}
+use Rattle.std.specs.Prelude.{◌==◌, ◌&&◌, ◌||◌, not, nat_le, slice_get, bytes_eq, codes, encode_utf8_all, if◌then◌else◌, Result, Ok, Err}
 use Rattle.std.specs.List.{AllByRecursion, list_any}
 use Rattle.std.proofs.lemmas.Bool.{eqb-true, le-leb}
 use Rattle.std.proofs.lemmas.Slice.Eq.{bytes_eq-Decides}
@@ -13,17 +13,17 @@ use Rattle.atspi_protocol.specs.declared.members.member.ObjectMember.{ObjectMemb
 use Rattle.atspi_protocol.specs.declared.members.member.ObjectMember.TheVariants as members
 use Rattle.atspi_protocol.specs.members.Asked.{Asked, calls, gets, gets_all, sets, asked, is_text}
 use Rattle.atspi_protocol.specs.members.Arguments.{text_at}
-use Rattle.atspi_protocol.specs.registering.RegistryState.{RegistryState, is_of, is_pair as is_the_pair, has_pair, without_pair, pairs_of, pairs_without, child_place}
+use Rattle.atspi_protocol.specs.registering.RegistryState.{RegistryState, is_of, has_pair, without_pair, pairs_of, pairs_without, child_place}
 use Rattle.atspi_protocol.specs.registering.Told.{registered, deregistered, id_call, children_changed, is_asked_for}
 use Rattle.atspi_protocol.specs.registering.Answers.{Answer, only, registers, deregisters, reference_in, new_child, adopts, news_of_removal_at, news_of_removal, releases, answers_member, object_at}
 use Rattle.atspi_protocol.specs.registering.Steps.{RegistryStep, answer_to, called_by, named, hears, name_told, name_gone, takes_as, registry_takes}
-use Rattle.atspi_protocol.specs.exporting.Hearing.{is_pair, is_heard, one_more, one_less, pair_in, with_pair, heard_after}
+use Rattle.atspi_protocol.specs.exporting.Hearing.{is_pair, is_heard, one_more, one_less, with_pair, heard_after}
 use Rattle.atspi_protocol.specs.declared.following.question.Question.TheVariants.{RegisterEvent}
 use Rattle.atspi_protocol.specs.following.Calls.{asking}
 use Rattle.atspi_lawful.specs.missed.Laws.{hearing, TakesAway}
-use Rattle.atspi_lawful.proofs.OfOrder.Parties.{no_none, same_some, false_true, all_append}
+use Rattle.atspi_lawful.proofs.OfOrder.Parties.{all_append}
 use Rattle.atspi_lawful.proofs.OfMissed.Deregistering.{MemberSays, SaysSo, registry_says}
-use Rattle.atspi_lawful.proofs.OfMissed.Telling.{Pair, or_true, pair_is, pair_same, pair_turned, any_alike, heard_filter, heard_append}
+use Rattle.atspi_lawful.proofs.OfMissed.Telling.{Pair, pair_is, pair_turned, heard_filter, heard_append}
 use Rattle.atspi_lawful.proofs.OfServed.Facts.{up_to}
 
 -- WHOEVER HAS THE PAIR has it behind such a message

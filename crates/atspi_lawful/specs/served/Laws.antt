@@ -1,5 +1,5 @@
 -- Each step was asked for whole.
-use Rattle.std.specs.Prelude.{ℕ, List, [], ◌≡◌, Option, Some}
+use Rattle.std.specs.Prelude.{ℕ, List, [], ◌≡◌, Some}
 use Rattle.atspi_lines.specs.declared.line.Line.{Line}
 use Rattle.atspi_trace.specs.Entry.{Entry}
 use Rattle.atspi_trace.specs.Due.{begins, after_all, Begun}
