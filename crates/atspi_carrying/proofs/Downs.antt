@@ -28,21 +28,21 @@ use Rattle.atspi_trace.specs.Carrying.{Carried, Filled, letter_of, own_letter, g
 use Rattle.atspi_carrying.specs.Downs.{bytes_down, IsBegun, IsWaiting, Wait}
 use Rattle.atspi_carrying.proofs.Views.{without, written_some}
 
-down-append : (xs ys : List Letter) → bytes_down (xs ++ ys) ≡ bytes_down xs ++ bytes_down ys
+pub down-append : (xs ys : List Letter) → bytes_down (xs ++ ys) ≡ bytes_down xs ++ bytes_down ys
 down-append [] ys = refl
 down-append (x ∷ xs) ys = ap (λ l. written x.said.message ++ l) (down-append xs ys) ∙ sym (append_assoc (written x.said.message) (bytes_down xs) (bytes_down ys))
 
 -- the mark is no further than the bytes
-begun_within : (n : ℕ) (letters : List Letter) → IsBegun n letters → n ≤ length (bytes_down letters)
+pub begun_within : (n : ℕ) (letters : List Letter) → IsBegun n letters → n ≤ length (bytes_down letters)
 begun_within n [] h = omega (arith, h)
 begun_within n (l ∷ ls) h = omega (arith, h, length-append (written l.said.message) (bytes_down ls))
 
-begun_more : (n : ℕ) (letters : List Letter) (letter : Letter) → IsBegun n letters → IsBegun n (letters ++ letter ∷ [])
+pub begun_more : (n : ℕ) (letters : List Letter) (letter : Letter) → IsBegun n letters → IsBegun n (letters ++ letter ∷ [])
 begun_more n [] letter h = subst (λ k. k < length (written letter.said.message)) (sym h) (written_some letter.said.message)
 begun_more n (l ∷ ls) letter h = h
 
 -- which end stands at a connection, where one changes
-at_changed : (f : End → End) (ends : List End) (k conn : ℕ) (e : End) → end_at (with_end k f ends) conn ≡ Some e
+pub at_changed : (f : End → End) (ends : List End) (k conn : ℕ) (e : End) → end_at (with_end k f ends) conn ≡ Some e
     → ((conn ≡ k) × ((x : End) × ((end_at ends conn ≡ Some x) × (e ≡ f x)))) ⊎ ((conn ≢ k) × (end_at ends conn ≡ Some e))
 at_changed f [] zero zero e h = absurd cc
 at_changed f [] zero (suc conn) e h = absurd cc
@@ -183,7 +183,7 @@ pub settled_wait : (n : ℕ) (c : Carried) → Wait c.bus.waiting.queues c.ends 
 settled_wait zero c w = w
 settled_wait (suc n) c w = settled_wait n (one_closed c c.bus.waiting.due) (one_waits c c.bus.waiting.due w)
 
-letter_message : (who : Party) (said : Said) (m : Envelope) → (letter_of who said m).said.message ≡ m
+pub letter_message : (who : Party) (said : Said) (m : Envelope) → (letter_of who said m).said.message ≡ m
 letter_message who said m = by (is_text m.sender own_name)
   where
     by : (b : Bool) → (if b then own_letter m else record { from = who; said = record said { message = m } }).said.message ≡ m
@@ -202,3 +202,28 @@ takes_wait c conn who said w =
 
 pub ends_wait : (c : Carried) (conn : ℕ) → Wait c.bus.waiting.queues c.ends → Wait (takes_end c conn).bus.waiting.queues (takes_end c conn).ends
 ends_wait c conn w = settled_wait (length c.bus.state.joined) (left c conn) (left_wait c conn w)
+
+-- an end joins, with an empty queue and an empty link
+last_of : (ends : List End) (n : End) (conn : ℕ) (e : End) → end_at (ends ++ n ∷ []) conn ≡ Some e → ((conn ≡ length ends) × (e ≡ n)) ⊎ ((conn < length ends) × (end_at ends conn ≡ Some e))
+last_of [] n zero e h = inl (refl, sym (same_Some n e h))
+last_of [] n (suc conn) e h = absurd cc
+last_of (x ∷ xs) n zero e h = inr (omega arith, h)
+last_of (x ∷ xs) n (suc conn) e h = by (last_of xs n conn e h)
+  where
+    by : ((conn ≡ length xs) × (e ≡ n)) ⊎ ((conn < length xs) × (end_at xs conn ≡ Some e)) → ((suc conn ≡ length (x ∷ xs)) × (e ≡ n)) ⊎ ((suc conn < length (x ∷ xs)) × (end_at xs conn ≡ Some e))
+    by (inl a) = inl (ap suc a.0, a.1)
+    by (inr b) = inr ((let less = b.0 in omega (arith, less)), b.1)
+
+pub joined_wait : (q : FinMap nat_cmp (List ℕ)) (ends : List End) (n : End) → n.down ≡ [] → n.down_moved ≡ 0 → Wait q ends → Wait (finmap.insert q (length ends) []) (ends ++ n ∷ [])
+joined_wait q ends n link mark w = λ conn e at. by conn e (last_of ends n conn e at)
+  where
+    by : (conn : ℕ) (e : End) → ((conn ≡ length ends) × (e ≡ n)) ⊎ ((conn < length ends) × (end_at ends conn ≡ Some e)) → IsWaiting (finmap.insert q (length ends) []) conn e
+    by conn e (inl a) = record {
+      begun = subst (λ (y : End). IsBegun y.down_moved y.down) (sym a.1) (subst (IsBegun n.down_moved) (sym link) mark);
+      bytes = ap (queue_of (finmap.insert q (length ends) [])) a.0 ∙ queue_of-insert q (length ends) [] ∙ ap (λ l. drop 0 (bytes_down l)) (sym link) ∙ ap (λ k. drop k (bytes_down n.down)) (sym mark)
+          ∙ ap (λ (y : End). drop y.down_moved (bytes_down y.down)) (sym a.1);
+    }
+    by conn e (inr b) =
+        let h = w conn e b.1 in
+        let less = b.0 in
+        record { begun = h.begun; bytes = ap or_nothing (at_other q (length ends) [] conn (λ same. omega (arith, less, same))) ∙ h.bytes }

@@ -18,7 +18,7 @@ use Rattle.atspi_routing.specs.Queues.{Bus, or_nothing, queue_of}
 use Rattle.atspi_carrying.specs.Filled.{waits_for, gave, IsGiven, IsAwaited, IsFilled}
 
 -- what is taken away in two pieces
-both_gone : (queues : FinMap nat_cmp (List ℕ)) (conn m n : ℕ) (o : Option (List ℕ)) → finmap.get queues conn ≡ o → (now : FinMap nat_cmp (List ℕ))
+pub both_gone : (queues : FinMap nat_cmp (List ℕ)) (conn m n : ℕ) (o : Option (List ℕ)) → finmap.get queues conn ≡ o → (now : FinMap nat_cmp (List ℕ))
     → now ≡ with_queue queues conn (drop m (queue_of queues conn)) → (queue_of now conn ≡ drop m (queue_of queues conn))
     × (with_queue now conn (drop n (queue_of now conn)) ≡ with_queue queues conn (drop (m + n) (queue_of queues conn)))
 both_gone queues conn m n None none now is =

@@ -1,11 +1,15 @@
+pub mod Beginning
 pub mod Buses
 pub mod Changes
+pub mod Completing
 pub mod Downs
 pub mod Filling
 pub mod Leaving
+pub mod Linked
 pub mod OwnSerials
 pub mod OwnTold
 pub mod RuleLemmas
+pub mod Senders
 pub mod Telling
 pub mod Ties
 pub mod Views

@@ -15,7 +15,7 @@ use Rattle.atspi_routing.specs.Queues.{Bus}
 use Rattle.atspi_events.specs.declared.event.Event.{Event}
 use Rattle.atspi_events.specs.declared.event.Event.TheVariants.{Got, Exit}
 use Rattle.atspi_posts.specs.declared.post.Post.{Post}
-use Rattle.atspi_posts.specs.declared.post.Standing.TheVariants.{Stopped}
+use Rattle.atspi_posts.specs.declared.post.Standing.TheVariants.{Here, Stopped}
 use Rattle.atspi_trace.specs.Entry.{Entry, entry_of, entries_of, got, exited}
 use Rattle.atspi_trace.specs.Rules.{rule_in}
 use Rattle.atspi_trace.specs.World.{Role, Said, End, World, newcomer}
@@ -26,13 +26,15 @@ use Rattle.atspi_trace.specs.Causes.{does, joins, on_end, routed, routes, unjoin
 use Rattle.atspi_trace.proofs.Following.{links_follow}
 use Rattle.atspi_carrying.specs.Changes.{changed_at}
 use Rattle.atspi_carrying.specs.Told.{gone, all_gone, whose, bus_told}
-use Rattle.atspi_carrying.specs.Routed.{IsTaken, RoutesFront, taken_off}
-use Rattle.atspi_carrying.specs.Carried.{bytes_up, post_of, IsSendable, AreSendable, IsCarried, IsDone}
+use Rattle.atspi_carrying.specs.Downs.{Wait}
+use Rattle.atspi_carrying.specs.Routed.{IsTaken, IsRouted, RoutesFront, taken_off}
+use Rattle.atspi_carrying.specs.Carried.{bytes_up, post_of, IsSendable, AreSendable, HasMark, IsCarried, IsDone}
 use Rattle.atspi_carrying.proofs.Changes.{changed-set, length-changed, map-changed, map-changed_known, get-map}
+use Rattle.atspi_carrying.proofs.Downs.{wait_same, joined_wait, letter_message, left_wait, settled_wait, stepped_wait}
 use Rattle.atspi_carrying.proofs.OwnSerials.{IsTelling, takes_tells, leaves_tells}
 use Rattle.atspi_carrying.proofs.OwnTold.{who_of, told_is}
 use Rattle.atspi_carrying.proofs.RuleLemmas.{same_taken}
-use Rattle.atspi_carrying.proofs.Views.{with-changed, stepped_view, left_view, gone_whose, length-gone, Settles, settles, all_with, stepped_all, left_all, settled_all, put_sendable, left_sendable, named_sendable, taken_sendable}
+use Rattle.atspi_carrying.proofs.Views.{with-changed, stepped_view, left_view, gone_whose, length-gone, Settles, settles, all_with, stepped_all, left_all, settled_all, put_sendable, left_sendable, named_sendable, taken_sendable, put_mark, left_mark, named_mark, taken_mark}
 
 whose_posts : (ends : List End) → map whose (map post_of ends) ≡ map who_of ends
 whose_posts [] = refl
@@ -57,11 +59,11 @@ post_is w b posts conn e p is at h = h ∙ get_or_from_slice_get posts conn (pos
 
 -- what a bus has done, the closings that follow, and the telling of both
 module _ (w : World) (front : List Entry) (n : ℕ) (a : Carried) (b1 b2 : Bus) (posts1 posts2 : List Post) (old mid new : List Event) where
-  pub closings_done : length posts1 ≤ 4294967296 → a.bus.closings ≡ [] → AllByRecursion AreSendable a.ends → posts1 ≡ map post_of a.ends → (m : ℕ) → IsTelling m (settled n a).bus → b1 ≡ (settled n a).bus
+  pub closings_done : length posts1 ≤ 4294967296 → a.bus.closings ≡ [] → AllByRecursion AreSendable a.ends → AllByRecursion HasMark a.ends → Wait a.bus.waiting.queues a.ends → posts1 ≡ map post_of a.ends → (m : ℕ) → IsTelling m (settled n a).bus → b1 ≡ (settled n a).bus
       → b2 ≡ all_told b1 → posts2 ≡ all_gone b1.closings posts1 → entries_of mid ≡ entries_of old ++ front
       → entries_of new ≡ entries_of mid ++ bus_told (map whose posts1) b1.own b1.closings
       → IsDone (bus_did w front (settled n a)) b2 posts2 old new
-  closings_done few none sendable view m tells is told gone_are before behind =
+  closings_done few none sendable marked waits view m tells is told gone_are before behind =
       let c : Carried = settled n a in
       let s : Settles a c = settles n a in
       let closed : c.bus.closings ≡ s.closed = s.told ∙ ap (λ l. l ++ s.closed) none in
@@ -76,19 +78,25 @@ module _ (w : World) (front : List Entry) (n : ℕ) (a : Carried) (b1 b2 : Bus) 
           posts_are = gone_are ∙ ap (λ (b : Bus). all_gone b.closings posts1) is ∙ ap (λ l. all_gone l posts1) closed ∙ ap (all_gone s.closed) view ∙ sym s.view;
           few = subst (λ n. n ≤ 4294967296) (sym (ap length gone_are ∙ length-gone b1.closings posts1)) few;
           sendable = settled_all AreSendable put_sendable left_sendable n a sendable;
+          marked = settled_all HasMark put_mark left_mark n a marked;
+          waits = settled_wait n a waits;
         };
         wrote = behind ∙ ap (λ l. l ++ bus_told (map whose posts1) b1.own b1.closings) before ∙ append_assoc (entries_of old) front (bus_told (map whose posts1) b1.own b1.closings)
             ∙ ap (λ l. entries_of old ++ (front ++ l)) same;
       }
 
 -- the bus takes the end of an end
+pub parted_bus : (w : World) (b b1 : Bus) (posts : List Post) (conn : ℕ) → IsCarried w b posts → b1 ≡ queues.leaves b conn → b1 ≡ (takes_end (record { bus = w.bus; ends = w.ends }) conn).bus
+parted_bus w b b1 posts conn is left_is = left_is ∙ ap (λ x. queues.leaves x conn) is.bus_is ∙ sym (links_follow.ended (record { bus = w.bus; ends = w.ends }) conn)
+
 pub parted_done : (w : World) (conn : ℕ) (b b1 b2 : Bus) (posts posts1 posts2 : List Post) (old new : List Event) → IsCarried w b posts → posts1 ≡ changed_at conn gone posts → b1 ≡ queues.leaves b conn
     → b2 ≡ all_told b1 → posts2 ≡ all_gone b1.closings posts1 → entries_of new ≡ entries_of old ++ bus_told (map whose posts1) b1.own b1.closings
     → IsDone (does w (unjoins conn)) b2 posts2 old new
 parted_done w conn b b1 b2 posts posts1 posts2 old new is left_is leaves_is told gone_are wrote =
     let c : Carried = record { bus = w.bus; ends = w.ends } in
-    let same : b1 ≡ (takes_end c conn).bus = leaves_is ∙ ap (λ x. queues.leaves x conn) is.bus_is ∙ sym (links_follow.ended c conn) in
+    let same : b1 ≡ (takes_end c conn).bus = parted_bus w b b1 posts conn is leaves_is in
     closings_done w [] (length w.bus.state.joined) (left c conn) b1 b2 posts1 posts2 old old new (subst (λ n. n ≤ 4294967296) (sym (ap length left_is ∙ length-changed gone posts conn)) is.few) is.closings_told (left_all AreSendable put_sendable left_sendable c conn is.sendable)
+    (left_all HasMark put_mark left_mark c conn is.marked) (left_wait c conn is.waits)
     (left_is ∙ ap (changed_at conn gone) is.posts_are ∙ sym (left_view c conn))
     w.bus.state.next (subst (IsTelling w.bus.state.next) (sym (links_follow.ended c conn)) (leaves_tells w.bus conn is.own_told)) same told gone_are (sym (append-nil (entries_of old))) wrote
 
@@ -130,18 +138,32 @@ module _ (w : World) (conn : ℕ) (e : End) (said : Said) (rest : List Said) (b 
       ∙ sym (map-changed post_of (named handed.bus conn) (named_post handed.bus conn) (λ x. refl) handed.ends conn)
       ∙ ap (map post_of) (sym (with-changed (named handed.bus conn) handed.ends conn))
 
+  pub first_sends : IsCarried w b posts → end_at w.ends conn ≡ Some e → e.up ≡ said ∷ rest → IsSendable said.message
+  first_sends is at up = first_of_all (subst (AllByRecursion (λ (s : Said). IsSendable s.message)) up (all_at AreSendable w.ends conn e is.sendable at))
+    where
+      first_of_all : AllByRecursion (λ (s : Said). IsSendable s.message) (said ∷ rest) → IsSendable said.message
+      first_of_all a = a.0
+
+  front_routed : IsCarried w b posts → end_at w.ends conn ≡ Some e → e.up ≡ said ∷ rest → p ≡ post_of e → RoutesFront b b0 conn p q old mid → IsRouted said.message b b0 conn p q (bytes_up rest) old mid
+  front_routed is at up p_is routes_ = routes_ said.message (bytes_up rest) (first_sends is at up).is (ap (λ (x : Post). x.up) p_is ∙ ap bytes_up up)
+
+  -- the bus is that of the world behind it
+  pub routed_bus : IsCarried w b posts → end_at w.ends conn ≡ Some e → e.up ≡ said ∷ rest → p ≡ post_of e → RoutesFront b b0 conn p q old mid → b1 ≡ queues.settled (length b.state.joined) b0
+      → b1 ≡ (takes (record { bus = w.bus; ends = w.ends }) conn e.who said).bus
+  routed_bus is at up p_is routes_ settled_is =
+      let bus : b0 ≡ handed.bus = same_bus is (first_sends is at up) (front_routed is at up p_is routes_).taken in
+      settled_is ∙ ap (λ (x : Bus). queues.settled (length x.state.joined) b0) is.bus_is ∙ ap (queues.settled (length w.bus.state.joined)) bus ∙ sym (links_follow.taken (record { bus = w.bus; ends = w.ends }) conn e.who said)
+
   pub routed_done : IsCarried w b posts → end_at w.ends conn ≡ Some e → e.up ≡ said ∷ rest → p ≡ post_of e → RoutesFront b b0 conn p q old mid → posts1 ≡ set posts conn q
       → b1 ≡ queues.settled (length b.state.joined) b0 → b2 ≡ all_told b1 → posts2 ≡ all_gone b1.closings posts1
       → entries_of new ≡ entries_of mid ++ bus_told (map whose posts1) b1.own b1.closings
       → IsDone (does w (routes conn)) b2 posts2 old new
   routed_done is at up p_is routes_ set_is settled_is told gone_are wrote =
       let c : Carried = record { bus = w.bus; ends = w.ends } in
-      let sends : IsSendable said.message = first_of_all (subst (AllByRecursion (λ (s : Said). IsSendable s.message)) up (all_at AreSendable w.ends conn e is.sendable at)) in
-      let r = routes_ said.message (bytes_up rest) sends.is (ap (λ (x : Post). x.up) p_is ∙ ap bytes_up up) in
-      let bus : b0 ≡ handed.bus = same_bus is sends r.taken in
+      let r = front_routed is at up p_is routes_ in
+      let bus : b0 ≡ handed.bus = same_bus is (first_sends is at up) r.taken in
       let follows = links_follow.taken c conn e.who said in
-      let same : b1 ≡ (takes c conn e.who said).bus =
-      settled_is ∙ ap (λ (x : Bus). queues.settled (length x.state.joined) b0) is.bus_is ∙ ap (queues.settled (length w.bus.state.joined)) bus ∙ sym follows in
+      let same : b1 ≡ (takes c conn e.who said).bus = routed_bus is at up p_is routes_ settled_is in
       let who : p.who ≡ e.who = ap whose p_is in
       let before : entries_of mid ≡ entries_of old ++ got The_bus e.who said.message.serial ∷ [] =
       ap entries_of r.taken.told ∙ map-append entry_of old (Got The_bus p.who said.message.serial ∷ []) ∙ ap (λ x. entries_of old ++ got The_bus x said.message.serial ∷ []) who in
@@ -149,11 +171,12 @@ module _ (w : World) (conn : ℕ) (e : End) (said : Said) (rest : List Said) (b 
       (closings_done w (got The_bus e.who said.message.serial ∷ []) (length w.bus.state.joined) (with_name conn handed) b1 b2 posts1 posts2 old mid new (subst (λ n. n ≤ 4294967296) (sym (ap length set_is ∙ length-set posts conn q)) is.few) is.closings_told
       (all_with AreSendable (named handed.bus conn) (named_sendable handed.bus conn) conn handed.ends
       (stepped_all AreSendable put_sendable left_sendable (letter_of e.who said) taken_off_link step (all_with AreSendable taken_up taken_sendable conn w.ends is.sendable)))
+      (all_with HasMark (named handed.bus conn) (named_mark handed.bus conn) conn handed.ends
+      (stepped_all HasMark put_mark left_mark (letter_of e.who said) taken_off_link step (all_with HasMark taken_up taken_mark conn w.ends is.marked)))
+      (wait_same (named handed.bus conn) (λ x. refl) (λ x. refl) handed.bus.waiting.queues handed.ends conn
+      (stepped_wait (letter_of e.who said) (letter_message e.who said) taken_off_link step (wait_same taken_up (λ x. refl) (λ x. refl) w.bus.waiting.queues w.ends conn is.waits)))
       (same_posts is at up p_is r.post bus set_is) w.bus.state.next
       (subst (IsTelling w.bus.state.next) (sym follows) (takes_tells w.bus conn said.message (rule_in said.message) is.own_told)) same told gone_are before wrote)
-    where
-      first_of_all : AllByRecursion (λ (s : Said). IsSendable s.message) (said ∷ rest) → IsSendable said.message
-      first_of_all a = a.0
 
 -- an end stops
 stop_sendable : (e : End) → AreSendable e → AreSendable (stops e)
@@ -172,6 +195,8 @@ exited_done w conn e b b' posts posts' p q old new is at same p_is q_is set_is w
             ∙ sym (map-changed_known post_of stops w.ends conn e at) ∙ ap (map post_of) (sym (with-changed stops w.ends conn));
         few = subst (λ n. n ≤ 4294967296) (sym (ap length set_is ∙ length-set posts conn q)) is.few;
         sendable = all_with AreSendable stops stop_sendable conn w.ends is.sendable;
+        marked = all_with HasMark stops (λ x h. refl) conn w.ends is.marked;
+        waits = wait_same stops (λ x. refl) (λ x. refl) w.bus.waiting.queues w.ends conn is.waits;
       };
       wrote = ap entries_of wrote ∙ map-append entry_of old (Exit p.who ∷ []) ∙ ap (λ x. entries_of old ++ exited x ∷ []) who;
     }
@@ -187,12 +212,20 @@ joined w who role b b' posts posts' p few is bus more p_is =
       closings_told = is.closings_told;
       posts_are = more ∙ ap (λ x. posts ++ x ∷ []) p_is ∙ ap (λ l. l ++ post_of (newcomer who role) ∷ []) is.posts_are ∙ sym (map-append post_of w.ends (put_up [] (newcomer who role) ∷ []));
       few = few;
-      sendable = all_more w.ends (put_up [] (newcomer who role)) is.sendable tt;
+      sendable = all_more AreSendable w.ends (put_up [] (newcomer who role)) is.sendable tt;
+      marked = all_more HasMark w.ends (put_up [] (newcomer who role)) is.marked refl;
+      waits = joined_wait w.bus.waiting.queues w.ends (put_up [] (newcomer who role)) refl refl is.waits;
     }
   where
-    all_more : (es : List End) (e : End) → AllByRecursion AreSendable es → AreSendable e → AllByRecursion AreSendable (es ++ e ∷ [])
-    all_more [] e a h = (h, tt)
-    all_more (x ∷ xs) e a h = (a.0, all_more xs e a.1 h)
+    all_more : (P : End → Type 0) (es : List End) (e : End) → AllByRecursion P es → P e → AllByRecursion P (es ++ e ∷ [])
+    all_more P [] e a h = (h, tt)
+    all_more P (x ∷ xs) e a h = (a.0, all_more P xs e a.1 h)
+
+-- a connection that sent nothing yet, by its parts
+pub new_post : (p : Post) (who : Party) (role : Role) → p.who ≡ who → p.standing ≡ Here → p.name ≡ None → p.up ≡ [] → p.begun ≡ 0 → p ≡ post_of (newcomer who role)
+new_post p who role is here_ unnamed up begun =
+    ap (λ x. record p { who = x }) is ∙ ap (λ x. record p { who = who; standing = x }) here_ ∙ ap (λ x. record p { who = who; standing = Here; name = x }) unnamed
+    ∙ ap (λ x. record p { who = who; standing = Here; name = None; up = x }) up ∙ ap (λ x. record { who = who; standing = Here; name = None; up = []; begun = x }) begun
 
 -- the connection of a party
 place_map : (who : Party) (es : List End) → position_or_len (λ (p : Post). same_party p.who who) (map post_of es) ≡ position_or_len (λ (e : End). same_party e.who who) es

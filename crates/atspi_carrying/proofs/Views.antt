@@ -1,9 +1,10 @@
 -- The connections of a world's ends, through what the bus does: messages that are handed to ends change none, and closings make some leave.
-use Rattle.std.proofs.Common.{◌≡◌, ℕ, zero, suc, ◌<◌, Bool, true, false, List, [], ◌∷◌, ◌++◌, length, map, refl, sym, ap, ◌∙◌, append-nil, append_assoc, arith}
+use Rattle.std.proofs.Common.{◌≡◌, ℕ, zero, suc, ◌<◌, Bool, true, false, List, [], ◌∷◌, ◌++◌, length, map, take, refl, sym, ap, ◌∙◌, subst, append-nil, append_assoc, arith}
+use Rattle.std.proofs.Math.Seq.{take-nil}
 use Rattle.std.specs.Prelude.{◌-◌, if◌then◌else◌}
 use Rattle.std.specs.List.{fold, AllByRecursion}
 use Rattle.atspi_message.specs.Envelope.{Envelope}
-use Rattle.atspi_message.specs.Bytes.{Field, header_bytes, spelled_with, rising_fields, written}
+use Rattle.atspi_message.specs.Bytes.{Field, header_bytes, spelled_with, rising_fields, written, IsMessage}
 use Rattle.atspi_routing.specs.declared.closing.Why.{Why}
 use Rattle.atspi_routing.specs.declared.closing.Closing.{Closing}
 use Rattle.atspi_routing.specs.Steps.{Move, says, delivers, closes, BusStep, bus_leaves}
@@ -15,7 +16,7 @@ use Rattle.atspi_trace.specs.Ends.{with_end, put_down, rest_of, taken_up, leaves
 use Rattle.atspi_trace.specs.Carrying.{Carried, Filled, own_letter, grew, with_letter, moved, stepped, left, one_closed, settled, named}
 use Rattle.atspi_carrying.specs.Changes.{changed_at}
 use Rattle.atspi_carrying.specs.Told.{gone, all_gone, whose}
-use Rattle.atspi_carrying.specs.Carried.{post_of, IsSendable, AreSendable}
+use Rattle.atspi_carrying.specs.Carried.{post_of, IsSendable, AreSendable, IsWithin, HasMark}
 use Rattle.atspi_carrying.proofs.Changes.{length-changed, map-changed, map-kept}
 
 pub with-changed : (f : End → End) (ends : List End) (conn : ℕ) → with_end conn f ends ≡ changed_at conn f ends
@@ -151,3 +152,29 @@ spelled_some m fs = omega arith
 
 pub written_some : (m : Envelope) → 0 < length (written m)
 written_some m = spelled_some m (rising_fields m)
+
+pub empty_message : (m : Envelope) (n : ℕ) (bytes : List ℕ) → bytes ≡ [] → IsMessage m (take n bytes) → ⊥
+empty_message m n bytes none is =
+    let short : length (spelled_with m is.fields) ≡ 0 = ap length (sym is.spelled ∙ ap (take n) none ∙ take-nil n) in
+    omega (arith, short, spelled_some m is.fields)
+
+-- marks stay within first messages
+pub fresh : (saids : List Said) → IsWithin 0 saids
+fresh [] = refl
+fresh (s ∷ ss) = written_some s.message
+
+pub within_more : (moved : ℕ) (saids more : List Said) → IsWithin moved saids → IsWithin moved (saids ++ more)
+within_more moved [] more h = subst (λ n. IsWithin n more) (sym h) (fresh more)
+within_more moved (s ∷ ss) more h = h
+
+pub put_mark : (l : Letter) (e : End) → HasMark e → HasMark (put_down l e)
+put_mark l e h = h
+
+pub left_mark : (e : End) → HasMark e → HasMark (leaves e)
+left_mark e h = refl
+
+pub named_mark : (b : Bus) (conn : ℕ) (e : End) → HasMark e → HasMark (named b conn e)
+named_mark b conn e h = h
+
+pub taken_mark : (e : End) → HasMark e → HasMark (taken_up e)
+taken_mark e h = fresh (rest_of e.up)

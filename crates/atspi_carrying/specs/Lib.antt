@@ -1,8 +1,13 @@
+pub mod Beginning
 pub mod Carried
 pub mod Changes
 pub mod Downs
 pub mod Faults
 pub mod Filled
+pub mod Linked
+pub mod Moving
+pub mod Named
 pub mod Routed
+pub mod Segments
 pub mod Told
 pub mod Waits

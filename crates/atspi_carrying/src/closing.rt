@@ -11,6 +11,7 @@ ghost use Rattle.atspi_trace.specs.Carrying.{all_told, dropped_if, sent_by_bus};
 ghost use Rattle.atspi_trace.specs.Causes.{does, exits, unjoins};
 ghost use Rattle.atspi_carrying.specs.Carried.{IsCarried, IsDone};
 ghost use Rattle.atspi_carrying.specs.Changes.{changed_at};
+ghost use Rattle.atspi_carrying.specs.Linked.{IsLinked};
 ghost use Rattle.atspi_carrying.specs.Told.{ahead, all_emptied, all_gone, behind_upto, bus_told, emptied, front_upto, gone, party_in, whose};
 
 use crate::carrier::Carrier;
@@ -192,6 +193,7 @@ impl Carrier {
         ensures bus { self.new.bus ≡ self.old.bus }
         ensures does { OnOk result ((w : World) (e : End) → IsCarried w (inner_of self.old.bus) self.old.posts.items → end_at w.ends conn ≡ Some e
             → IsDone (does w (exits conn)) (inner_of self.new.bus) self.new.posts.items self.old.trace.items self.new.trace.items) }
+        ensures linked { OnOk result ((w : World) → IsLinked w self.old.at_end.items → IsLinked (does w (exits conn)).world self.new.at_end.items) }
     {
         let place = conn as usize;
         if place >= self.posts.len() {
@@ -210,6 +212,8 @@ impl Carrier {
         ensures sound { OnOk result (IsSound (state_of self.new.bus)) }
         ensures does { OnOk result ((w : World) → IsCarried w (inner_of self.old.bus) self.old.posts.items
             → IsDone (does w (unjoins conn)) (inner_of self.new.bus) self.new.posts.items self.old.trace.items self.new.trace.items) }
+        ensures linked { OnOk result ((w : World) → IsCarried w (inner_of self.old.bus) self.old.posts.items → IsLinked w self.old.at_end.items
+            → IsLinked (does w (unjoins conn)).world self.new.at_end.items) }
     {
         self.leave(conn);
         self.bus.part_with(conn)?;

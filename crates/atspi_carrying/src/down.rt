@@ -4,7 +4,7 @@ ghost use Rattle.std.specs.Prelude.{◌≡◌, ◌<◌, ◌≤◌, length, IfOk,
 ghost use Rattle.atspi_stream.specs.Stream.{AwaitsMore};
 ghost use Rattle.atspi_bus_steps.specs.Inner.{inner_of, state_of};
 ghost use Rattle.atspi_bus_steps.specs.Sound.{IsSound};
-ghost use Rattle.atspi_carrying.specs.Filled.{waits_for, FillsAt, IsAwaited, IsFilled, IsGiven};
+ghost use Rattle.atspi_carrying.specs.Filled.{gave, waits_for, FillsAt, IsAwaited, IsFilled, IsGiven};
 
 use crate::carrier::Carrier;
 use crate::fault::CarryFault;
@@ -55,6 +55,7 @@ impl Carrier {
         ensures most { IfOk result (λ count. count ≤ most) }
         ensures trace { self.new.trace ≡ self.old.trace }
         ensures posts { self.new.posts ≡ self.old.posts }
+        ensures bus { IfOk result (λ count. inner_of self.new.bus ≡ gave (inner_of self.old.bus) conn count) }
         ensures filled { IfOk result (λ count. FillsAt (inner_of self.old.bus) (inner_of self.new.bus) self.old.at_end.items self.new.at_end.items conn most count) }
     {
         let place = conn as usize;

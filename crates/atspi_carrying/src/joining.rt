@@ -6,7 +6,9 @@ ghost use Rattle.atspi_bus_steps.specs.Sound.{IsSound};
 ghost use Rattle.atspi_routing.specs.Queues.{empty_bus};
 ghost use Rattle.atspi_trace.specs.World.{Role, World};
 ghost use Rattle.atspi_trace.specs.Causes.{joins};
+ghost use Rattle.atspi_carrying.specs.Beginning.{IsGreeted, IsGreeting};
 ghost use Rattle.atspi_carrying.specs.Carried.{IsCarried};
+ghost use Rattle.atspi_carrying.specs.Linked.{IsLinked};
 
 use crate::carrier::Carrier;
 use crate::fault::CarryFault;
@@ -54,6 +56,7 @@ impl Carrier {
         ensures place { IfOk result (λ conn. conn ≡ length self.old.posts.items) }
         ensures joins { IfOk result (λ conn. (w : World) (role : Role) → IsCarried w (inner_of self.old.bus) self.old.posts.items
             → IsCarried (joins w who role []) (inner_of self.new.bus) self.new.posts.items) }
+        ensures linked { IfOk result (λ conn. (w : World) (role : Role) → IsLinked w self.old.at_end.items → IsLinked (joins w who role []) self.new.at_end.items) }
     {
         let Ok(conn) = u32::try_from(self.posts.len()) else {
             return Err(CarryFault::Spent);
@@ -62,5 +65,18 @@ impl Carrier {
         self.at_end.push(Feeder::new(self.alloc))?;
         self.bus.join_behind(conn)?;
         Ok(conn)
+    }
+
+    /// The bus takes three messages of a connection: the calls of the registry's start.
+    pub fn greet(&mut self, conn: u32) -> Result<(), CarryFault>
+        requires sound { IsSound (state_of self.old.bus) }
+        ensures sound { OnOk result (IsSound (state_of self.new.bus)) }
+        ensures greets { OnOk result ((w : World) → IsCarried w (inner_of self.old.bus) self.old.posts.items → IsGreeting w conn
+            → IsGreeted w conn (inner_of self.new.bus) self.new.posts.items self.old.trace.items self.new.trace.items) }
+    {
+        self.route(conn)?;
+        self.route(conn)?;
+        self.route(conn)?;
+        Ok(())
     }
 }

@@ -1,19 +1,32 @@
 //! Connections by their names.
 
+ghost use Rattle.std.specs.Prelude.{◌≡◌};
+ghost use Rattle.atspi_header.specs.View.{bytes_of};
+ghost use Rattle.atspi_carrying.specs.Named as named;
+
 use atspi_lines::Party;
 use atspi_posts::Post;
 
-/// The party whose messages have this sender: the bus, or the end that has or had that unique name.
-pub fn party_named(posts: &[Post], name: Option<&str>) -> Party {
-    let Some(name) = name else {
-        return Party::Bus;
-    };
+/// The party of the first connection that has or had this unique name; the bus, where none has.
+fn first_named(posts: &[Post], name: &str) -> Party
+    ensures { result ≡ named.first_named name.now posts.now }
+{
     for post in posts {
         if post.is_named(name) {
             return post.who;
         }
     }
     Party::Bus
+}
+
+/// The party whose messages have this sender: the bus, or the end that has or had that unique name.
+pub fn party_named(posts: &[Post], name: Option<&str>) -> Party
+    ensures { result ≡ named.party_named (bytes_of name.entry) posts.now }
+{
+    match name {
+        Some(name) => first_named(posts, name),
+        None => Party::Bus,
+    }
 }
 
 /// The application that has or had a unique name.

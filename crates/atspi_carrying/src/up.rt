@@ -1,6 +1,6 @@
 //! The bus takes what comes up a link.
 
-ghost use Rattle.std.specs.Prelude.{◌≡◌, ◌≤◌, ◌∷◌, List, length, IfOk, IfSome, OnOk, OnErr};
+ghost use Rattle.std.specs.Prelude.{◌≡◌, ◌<◌, ◌≤◌, ◌+◌, ◌^◌, ◌∷◌, List, length, IfOk, IfSome, OnOk, OnErr};
 ghost use Rattle.atspi_message.specs.Rules.{MeetsRules};
 ghost use Rattle.atspi_header.specs.View.{envelope_at};
 ghost use Rattle.atspi_forest.specs.Forest.{first_of};
@@ -11,6 +11,8 @@ ghost use Rattle.atspi_trace.specs.World.{End, Said, World};
 ghost use Rattle.atspi_trace.specs.Ends.{end_at};
 ghost use Rattle.atspi_trace.specs.Causes.{does, routes};
 ghost use Rattle.atspi_carrying.specs.Carried.{IsCarried, IsDone};
+ghost use Rattle.atspi_carrying.specs.Linked.{IsLinked};
+ghost use Rattle.atspi_carrying.specs.Moving.{IsLacking, MovesAll, MovesSome};
 ghost use Rattle.atspi_carrying.specs.Routed.{IsTaken, RoutesFront, TakesFront};
 
 use crate::carrier::Carrier;
@@ -109,7 +111,10 @@ fn route_front(
 }
 
 /// How many bytes the first message of a link lacks at the bus. None where no message waits.
-fn lacking(post: &Post) -> Option<usize> {
+fn lacking(post: &Post) -> Option<usize>
+    ensures exact { IsLacking post.now result }
+    ensures room { IfSome result (λ len. 0 < len → len + post.now.begun < 2 ^ 64) }
+{
     match first_message(post.up.as_slice()) {
         None => None,
         Some(first) => Some(first.len.saturating_sub(post.begun)),
@@ -124,6 +129,8 @@ impl Carrier {
         ensures does { OnOk result ((w : World) (e : End) (said : Said) (rest : List Said) → IsCarried w (inner_of self.old.bus) self.old.posts.items
             → end_at w.ends conn ≡ Some e → e.up ≡ said ∷ rest
             → IsDone (does w (routes conn)) (inner_of self.new.bus) self.new.posts.items self.old.trace.items self.new.trace.items) }
+        ensures linked { OnOk result ((w : World) (e : End) (said : Said) (rest : List Said) → IsCarried w (inner_of self.old.bus) self.old.posts.items
+            → IsLinked w self.old.at_end.items → end_at w.ends conn ≡ Some e → e.up ≡ said ∷ rest → IsLinked (does w (routes conn)).world self.new.at_end.items) }
     {
         let place = conn as usize;
         if place >= self.posts.len() {
@@ -142,16 +149,17 @@ impl Carrier {
     fn move_some(&mut self, conn: u32, most: usize) -> Result<Option<usize>, CarryFault>
         requires sound { IsSound (state_of self.old.bus) }
         ensures sound { OnOk result (IsSound (state_of self.new.bus)) }
+        ensures moves { IfOk result (λ left. MovesSome (inner_of self.old.bus) (inner_of self.new.bus) self.old.posts.items self.new.posts.items conn most left self.old.trace.items self.new.trace.items) }
     {
         let place = conn as usize;
         if place >= self.posts.len() {
             return Ok(None);
         }
-        let post = &mut self.posts[place];
-        let Some(lacking) = lacking(post) else {
+        let Some(lacking) = lacking(&self.posts[place]) else {
             return Ok(None);
         };
         if most < lacking {
+            let post = &mut self.posts[place];
             post.begun = post.begun.saturating_add(most);
             return Ok(None);
         }
@@ -163,6 +171,7 @@ impl Carrier {
     pub fn move_up(&mut self, conn: u32, most: u32) -> Result<(), CarryFault>
         requires sound { IsSound (state_of self.old.bus) }
         ensures sound { OnOk result (IsSound (state_of self.new.bus)) }
+        ensures moves { OnOk result (MovesAll (inner_of self.old.bus) (inner_of self.new.bus) self.old.posts.items self.new.posts.items conn most self.old.trace.items self.new.trace.items) }
     {
         let mut left = most as usize;
         // each message has a byte that was not moved yet

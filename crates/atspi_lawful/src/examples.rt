@@ -2,6 +2,7 @@
 //! the entry where it goes wrong. Each case is a clause of a function without a body.
 
 pub mod alone;
+pub mod moving;
 pub mod reading;
 pub mod refused;
 pub mod routing;

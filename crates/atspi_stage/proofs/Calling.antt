@@ -29,10 +29,11 @@ use Rattle.atspi_trace.specs.Ends.{plain, put_up, party_at, whose, conn_of, end_
 use Rattle.atspi_trace.specs.Causes.{at_end, on_end, called, reader_sends, calls, does}
 use Rattle.atspi_trace.specs.Work.{name_of}
 use Rattle.atspi_carrying.specs.Changes.{changed_at}
-use Rattle.atspi_carrying.specs.Carried.{bytes_up, post_of, IsSendable, AreSendable, IsCarried}
+use Rattle.atspi_carrying.specs.Carried.{bytes_up, post_of, IsSendable, AreSendable, HasMark, IsCarried}
 use Rattle.atspi_carrying.proofs.Changes.{length-changed, map-changed}
+use Rattle.atspi_carrying.proofs.Downs.{wait_same}
 use Rattle.atspi_carrying.proofs.Ties.{post_below}
-use Rattle.atspi_carrying.proofs.Views.{with-changed, all_with}
+use Rattle.atspi_carrying.proofs.Views.{with-changed, all_with, within_more}
 use Rattle.atspi_stage.specs.Cast.{IsReader}
 use Rattle.atspi_stage.specs.Doing.{sent_on, all_sent, messages, silent, OnlySends, AreSent, TellsReaderAt, CallsAt}
 use Rattle.atspi_stage.specs.Worlds.{Staged, IsWorld, IsAfter}
@@ -95,7 +96,7 @@ deed_reads n name node deed = λ asked one member is. absurd (no_member (user_ca
 abbrev pub sends_one : Envelope → Role → End → End
 sends_one m role e = put_up (plain m ∷ []) (record e { role = role })
 
-put_is : (m : Envelope) (role : Role) (e : End) → post_of (sends_one m role e) ≡ sent_on m (post_of e)
+pub put_is : (m : Envelope) (role : Role) (e : End) → post_of (sends_one m role e) ≡ sent_on m (post_of e)
 put_is m role e = ap (λ l. record (post_of e) { up = l }) (up-append e.up (plain m ∷ []) ∙ ap (λ l. bytes_up e.up ++ l) (append-nil (written m)))
 
 pub one_sent : (w : World) (conn : ℕ) (role : Role) (m : Envelope) (b b' : Bus) (posts posts' : List Post) → IsCarried w b posts → IsSendable m → b' ≡ b → posts' ≡ changed_at conn (sent_on m) posts
@@ -109,6 +110,8 @@ one_sent w conn role m b b' posts posts' is sendable same changed =
           ∙ ap (map post_of) (sym (with-changed (sends_one m role) w.ends conn));
       few = subst (λ n. n ≤ 4294967296) (sym (ap length changed ∙ length-changed (sent_on m) posts conn)) is.few;
       sendable = all_with AreSendable (sends_one m role) (λ y h. all-append (λ (said : Said). IsSendable said.message) y.up (plain m ∷ []) h (sendable, tt)) conn w.ends is.sendable;
+      marked = all_with HasMark (sends_one m role) (λ y h. within_more y.up_moved y.up (plain m ∷ []) h) conn w.ends is.marked;
+      waits = wait_same (sends_one m role) (λ y. refl) (λ y. refl) w.bus.waiting.queues w.ends conn is.waits;
     }
 
 -- a reader makes a call of its user, and that is told

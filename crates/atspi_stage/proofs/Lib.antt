@@ -1,3 +1,4 @@
+pub mod Beginning
 pub mod Calling
 pub mod Changed
 pub mod Conns
@@ -5,6 +6,7 @@ pub mod Elements
 pub mod Found
 pub mod Joining
 pub mod Lining
+pub mod Moved
 pub mod Plays
 pub mod Queued
 pub mod Routing
@@ -13,3 +15,4 @@ pub mod Seats
 pub mod Shows
 pub mod Signals
 pub mod Stays
+pub mod Turns

@@ -1,27 +1,30 @@
 -- What a line's causes do is what the line does.
-use Rattle.std.proofs.Common.{◌≡◌, ℕ, ◌<◌, ◌≤◌, Bool, true, false, List, length, Option, None, Some, refl, sym, ap, ◌∙◌, subst}
-use Rattle.std.specs.Prelude.{Result, Ok, Err, OnOk, nat_le, position, if◌then◌else◌}
-use Rattle.std.proofs.lemmas.Bool.{leb-false}
+use Rattle.std.proofs.Common.{◌≡◌, ℕ, zero, suc, ◌<◌, ◌≤◌, Bool, true, false, cond, List, [], ◌∷◌, length, Option, None, Some, refl, sym, ap, ◌∙◌, subst, arith}
+use Rattle.std.specs.Prelude.{Result, Ok, Err, OnOk, filter, nat_le, nat_lt, position, if◌then◌else◌}
+use Rattle.std.proofs.lemmas.Bool.{leb-false, ltb-false}
 use Rattle.std.proofs.lemmas.Option.{same_Some}
 use Rattle.atspi_forest.specs.declared.edit.Edit.{Edit}
 use Rattle.atspi_forest.specs.declared.edit.EditFault.TheVariants.{TextFull}
 use Rattle.atspi_forest.specs.Edits.{is_long_name}
 use Rattle.atspi_forest.specs.Forest.{first_of}
 use Rattle.atspi_lines.specs.declared.deed.Deed.{Deed}
+use Rattle.atspi_lines.specs.declared.limits.TheConstants.{QUOTA_LEAST}
 use Rattle.atspi_lines.specs.declared.line.Line.{Line}
 use Rattle.atspi_lines.specs.declared.line.Line.TheVariants as lines
 use Rattle.atspi_lines.specs.declared.line.Party.{Party}
 use Rattle.atspi_lines.specs.declared.line.Party.TheVariants.{App, Reader}
 use Rattle.atspi_posts.specs.declared.post.Post.{Post}
 use Rattle.atspi_trace.specs.World.{End, World}
-use Rattle.atspi_trace.specs.Ends.{is_here, same_party, conn_of, end_at, end_if, end_of, stops, app_count, reader_count}
-use Rattle.atspi_trace.specs.Causes.{Cause, does, starts_app, starts_reader, edits, calls, swaps_face, exits}
-use Rattle.atspi_trace.specs.Work.{Refusal, no_party, dead, no_kit, no_reader, no_spare, of_edit, refusal_if, if_started, if_here, no_more, doing, with_conn, moving, name_of}
+use Rattle.atspi_trace.specs.Ends.{is_here, same_party, conn_of, end_at, end_if, end_of, stops, is_app, app_count, reader_count}
+use Rattle.atspi_trace.specs.Causes.{Cause, does, renews, starts_app, starts_reader, edits, calls, swaps_face, exits}
+use Rattle.atspi_trace.specs.Work.{Refusal, spare_count, no_party, dead, no_kit, no_reader, no_spare, late, of_edit, refusal_if, if_started, if_here, no_more, doing, turning, with_conn, moving, name_of}
 use Rattle.atspi_carrying.specs.Carried.{IsCarried, IsDone}
 use Rattle.atspi_carrying.proofs.Ties.{conn_is}
-use Rattle.atspi_stage.specs.Lines.{CausedAt, WorkDone, LineDone, LineDoneElse}
+use Rattle.atspi_stage.specs.Lines.{CausedAt, IsSegment, WorkDone, LineDone, LineDoneElse}
+use Rattle.atspi_stage.specs.MayAct.{MayAct}
+use Rattle.atspi_stage.specs.Turns.{AreOfBus}
 use Rattle.atspi_stage.specs.Worlds.{Staged, IsWorld, IsAfter}
-use Rattle.atspi_stage.proofs.Conns.{conn_end}
+use Rattle.atspi_stage.proofs.Conns.{conn_end, conn_who}
 use Rattle.atspi_stage.proofs.Stays.{Beside, same_world, parts_kept, idle}
 
 -- what the search for a party's connection says
@@ -117,6 +120,27 @@ kits_left n k why o h = below n k why (first (refusal_if (nat_le n k) why) h)
 pub readers_left : (n k : ℕ) (why : Refusal) → refusal_if (nat_le n k) why ≡ None → k < n
 readers_left n k why h = below n k why h
 
+-- an application that was started counts
+some_app : (ends : List End) (conn a : ℕ) (e : End) → end_at ends conn ≡ Some e → e.who ≡ App a → 0 < app_count ends
+some_app [] zero a e at who = absurd cc
+some_app [] (suc conn) a e at who = absurd cc
+some_app (x ∷ xs) zero a e at who =
+    let is : is_app x.who ≡ true = ap (λ (y : End). is_app y.who) (same_Some x e at) ∙ ap is_app who in
+    let one : app_count (x ∷ xs) ≡ suc (app_count xs) = ap (λ b. length (cond b (x ∷ filter (λ (y : End). is_app y.who) xs) (filter (λ (y : End). is_app y.who) xs))) is in
+    omega (arith, one)
+some_app (x ∷ xs) (suc conn) a e at who = by (is_app x.who) (some_app xs conn a e at who)
+  where
+    by : (b : Bool) → 0 < app_count xs → 0 < length (cond b (x ∷ filter (λ (y : End). is_app y.who) xs) (filter (λ (y : End). is_app y.who) xs))
+    by true h = omega (arith, h)
+    by false h = h
+
+app_there : (ends : List End) (a : ℕ) (then_ : End → Option Refusal) → if_started (end_of ends (App a)) then_ ≡ None → 0 < app_count ends
+app_there ends a then_ h = by (conn_of ends (App a)) refl h
+  where
+    by : (o : Option ℕ) → conn_of ends (App a) ≡ o → if_started (end_if ends o) then_ ≡ None → 0 < app_count ends
+    by None at none = absurd cc
+    by (Some k) at none = (let e = conn_end ends (App a) k at in some_app ends k a e.0 e.1 (conn_who ends (App a) k e.0 at e.1))
+
 pub faces_left : (n k : ℕ) (why : Refusal) (o : Option End) → if_started o (λ e. if_here e (λ a. refusal_if (nat_le n k) why)) ≡ None → k < n
 faces_left n k why None h = absurd cc
 faces_left n k why (Some e) h = by (is_here e.standing) h
@@ -142,6 +166,14 @@ line_else (lines.Turns count) old new no_edit no_call h = h
 line_else lines.Drain old new no_edit no_call h = h
 line_else (lines.Show reader app) old new no_edit no_call h = h
 
+-- no more than the registry is there
+not_late : (n : ℕ) → refusal_if (nat_lt 1 n) late ≡ None → n ≤ 1
+not_late n h = by (nat_lt 1 n) refl h
+  where
+    by : (b : Bool) → nat_lt 1 n ≡ b → refusal_if b late ≡ None → n ≤ 1
+    by true t e = absurd cc
+    by false t e = ltb-false 1 n t
+
 -- THE LINES, each by what its causes do
 module _ (line : Line) (old new : Staged) where
   pub line_app : (name : List ℕ) → line ≡ lines.App name → ((w : World) → IsWorld w old → app_count w.ends < 16 → IsAfter (does w (starts_app name)) old new) → LineDoneElse line old new
@@ -156,11 +188,12 @@ module _ (line : Line) (old new : Staged) where
       at : ((w : World) → IsWorld w old → reader_count w.ends < 4 → IsAfter (does w starts_reader) old new) → LineDoneElse lines.Reader old new
       at d = λ w is free. d w is (readers_left 4 (reader_count w.ends) no_reader free)
 
-  pub line_swap : (app : ℕ) → line ≡ lines.Swap app → ((w : World) → IsWorld w old → w.swaps < 16 → IsAfter (does w swaps_face) old new) → LineDoneElse line old new
+  pub line_swap : (app : ℕ) → line ≡ lines.Swap app → ((w : World) → IsWorld w old → w.swaps < 16 → 0 < app_count w.ends → IsAfter (does w swaps_face) old new) → LineDoneElse line old new
   line_swap app e does_ = subst (λ l. LineDoneElse l old new) (sym e) (at does_)
     where
-      at : ((w : World) → IsWorld w old → w.swaps < 16 → IsAfter (does w swaps_face) old new) → LineDoneElse (lines.Swap app) old new
+      at : ((w : World) → IsWorld w old → w.swaps < 16 → 0 < app_count w.ends → IsAfter (does w swaps_face) old new) → LineDoneElse (lines.Swap app) old new
       at d = λ w is free. d w is (faces_left 16 w.swaps no_spare (end_of w.ends (App app)) free)
+          (app_there w.ends app (λ x. if_here x (λ a. refusal_if (nat_le spare_count w.swaps) no_spare)) free)
 
   pub line_exit : (app : ℕ) → line ≡ lines.Exit app → CausedAt (App app) exits old new → LineDoneElse line old new
   line_exit app e does_ = subst (λ l. LineDoneElse l old new) (sym e) (exit_line (App app) old new does_)
@@ -168,8 +201,11 @@ module _ (line : Line) (old new : Staged) where
   pub line_leave : (reader : ℕ) → line ≡ lines.Leave reader → CausedAt (Reader reader) exits old new → LineDoneElse line old new
   line_leave reader e does_ = subst (λ l. LineDoneElse l old new) (sym e) (exit_line (Reader reader) old new does_)
 
-  pub line_quota : (quota : ℕ) → line ≡ lines.Quota quota → LineDoneElse line old new
-  line_quota quota e = subst (λ l. LineDoneElse l old new) (sym e) tt
+  pub line_quota : (quota : ℕ) → line ≡ lines.Quota quota → MayAct line → ((w : World) → QUOTA_LEAST ≤ quota → IsWorld w old → length w.ends ≤ 1 → IsAfter (does w (renews quota)) old new) → LineDoneElse line old new
+  line_quota quota e may does_ = subst (λ l. LineDoneElse l old new) (sym e) (at (subst MayAct e may) does_)
+    where
+      at : MayAct (lines.Quota quota) → ((w : World) → QUOTA_LEAST ≤ quota → IsWorld w old → length w.ends ≤ 1 → IsAfter (does w (renews quota)) old new) → LineDoneElse (lines.Quota quota) old new
+      at m d = λ w is free. d w m.0 is (not_late (length w.ends) free)
 
   pub line_show : (reader app : ℕ) → line ≡ lines.Show reader app → LineDone (lines.Show reader app) old new → LineDoneElse line old new
   line_show reader app e does_ = subst (λ l. LineDoneElse l old new) (sym e) does_
@@ -180,11 +216,11 @@ module _ (line : Line) (old new : Staged) where
   pub line_call : (reader app node : ℕ) (deed : Deed) → line ≡ lines.Call reader app node deed → LineDoneElse line old new
   line_call reader app node deed e = subst (λ l. LineDoneElse l old new) (sym e) tt
 
-  pub line_turns : (count : ℕ) → line ≡ lines.Turns count → LineDoneElse line old new
-  line_turns count e = subst (λ l. LineDoneElse l old new) (sym e) at
+  pub line_turns : (count : ℕ) → line ≡ lines.Turns count → ((w : World) → IsWorld w old → AreOfBus count w → IsSegment w (turning count count) old new) → LineDoneElse line old new
+  line_turns count e does_ = subst (λ l. LineDoneElse l old new) (sym e) (at does_)
     where
-      at : LineDoneElse (lines.Turns count) old new
-      at = λ w is free. tt
+      at : ((w : World) → IsWorld w old → AreOfBus count w → IsSegment w (turning count count) old new) → LineDoneElse (lines.Turns count) old new
+      at d = λ w is free ours. d w is ours
 
   pub line_drain : line ≡ lines.Drain → LineDoneElse line old new
   line_drain e = subst (λ l. LineDoneElse l old new) (sym e) at
@@ -192,16 +228,8 @@ module _ (line : Line) (old new : Staged) where
       at : LineDoneElse lines.Drain old new
       at = λ w is free. tt
 
-  pub line_bytes : (who : Party) (up : Bool) (count : ℕ) → line ≡ lines.Bytes who up count → LineDoneElse line old new
-  line_bytes who up count e = subst (λ l. LineDoneElse l old new) (sym e) at
-    where
-      by : (w : World) (o : Option ℕ) (u : Bool) → if_started (end_if w.ends o) no_more ≡ None → WorkDone w (with_conn o (moving u count)) old new
-      by w None u h = absurd cc
-      by w (Some k) true h = tt
-      by w (Some k) false h = tt
-
-      at : LineDoneElse (lines.Bytes who up count) old new
-      at = λ w is free. by w (conn_of w.ends who) up free
+  pub line_bytes : (who : Party) (up : Bool) (count : ℕ) → line ≡ lines.Bytes who up count → LineDone (lines.Bytes who up count) old new → LineDoneElse line old new
+  line_bytes who up count e does_ = subst (λ l. LineDoneElse l old new) (sym e) does_
 
 pub line_blank : (line : Line) (s : Staged) → line ≡ lines.Blank → LineDoneElse line s s
 line_blank line s e = subst (λ l. LineDoneElse l s s) (sym e) at

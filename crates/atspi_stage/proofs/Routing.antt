@@ -1,5 +1,5 @@
 -- What the bus does changes no end's party and no role.
-use Rattle.std.proofs.Common.{◌≡◌, ℕ, zero, suc, Bool, true, false, List, [], ◌∷◌, map, Some, refl, ap, ◌∙◌}
+use Rattle.std.proofs.Common.{◌≡◌, ℕ, zero, suc, Bool, true, false, List, [], ◌∷◌, map, Option, None, Some, refl, ap, ◌∙◌}
 use Rattle.std.specs.Prelude.{length, if◌then◌else◌}
 use Rattle.std.specs.List.{fold}
 use Rattle.atspi_lines.specs.declared.line.Party.{Party}
@@ -55,8 +55,19 @@ takes_parts c conn who said =
     settled_parts (length c.bus.state.joined) (with_name conn handed) ∙ parts_kept (named handed.bus conn) (λ e. refl) handed.ends conn
     ∙ stepped_parts (letter_of who said) off (bus_takes c.bus.state conn said.message (rule_in said.message)) ∙ parts_kept taken_up (λ e. refl) c.ends conn
 
-ends_parts : (c : Carried) (conn : ℕ) → map part_of (takes_end c conn).ends ≡ map part_of c.ends
+pub ends_parts : (c : Carried) (conn : ℕ) → map part_of (takes_end c conn).ends ≡ map part_of c.ends
 ends_parts c conn = settled_parts (length c.bus.state.joined) (left c conn) ∙ left_parts c conn
+
+pub routes_parts : (w : World) (conn : ℕ) → (map part_of (does w (routes conn)).world.ends ≡ map part_of w.ends) × ((does w (routes conn)).world.swaps ≡ w.swaps)
+routes_parts w conn = by (end_at w.ends conn)
+  where
+    link : (who : Party) (saids : List Said) → (map part_of (routed w conn who saids).world.ends ≡ map part_of w.ends) × ((routed w conn who saids).world.swaps ≡ w.swaps)
+    link who [] = (refl, refl)
+    link who (said ∷ rest) = (takes_parts (record { bus = w.bus; ends = w.ends }) conn who said, refl)
+
+    by : (o : Option End) → (map part_of (on_end w o (λ e. routed w conn e.who e.up)).world.ends ≡ map part_of w.ends) × ((on_end w o (λ e. routed w conn e.who e.up)).world.swaps ≡ w.swaps)
+    by None = (refl, refl)
+    by (Some e) = link e.who e.up
 
 -- the bus took a message of an end
 pub route_world : (w : World) (conn : ℕ) (e : End) (said : Said) (rest : List Said) (old new : Staged) → IsWorld w old → end_at w.ends conn ≡ Some e → e.up ≡ said ∷ rest

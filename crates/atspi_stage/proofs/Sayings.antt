@@ -26,9 +26,10 @@ use Rattle.atspi_trace.specs.Ends.{number_of, whose, party_at, conn_of, end_at, 
 use Rattle.atspi_trace.specs.Causes.{saids, announced_if, has_done, did, app_did, edited, edited_to, on_end, edits, does}
 use Rattle.atspi_trace.specs.Rules.{rule_in}
 use Rattle.atspi_bus_steps.specs.Spoken.{IsRuleNamed}
-use Rattle.atspi_carrying.specs.Carried.{bytes_up, post_of, IsSendable, AreSendable, IsCarried, IsDone}
+use Rattle.atspi_carrying.specs.Carried.{bytes_up, post_of, IsSendable, AreSendable, HasMark, IsCarried, IsDone}
 use Rattle.atspi_carrying.proofs.Changes.{map-changed_known}
-use Rattle.atspi_carrying.proofs.Views.{with-changed, all_with}
+use Rattle.atspi_carrying.proofs.Views.{with-changed, all_with, within_more}
+use Rattle.atspi_carrying.proofs.Downs.{wait_same}
 use Rattle.atspi_carrying.proofs.Ties.{post_at}
 use Rattle.atspi_stage.specs.Cast.{IsApp}
 use Rattle.atspi_stage.specs.Doing.{all_said, quiet, CanBeWritten, EditsAt, TellsAt}
@@ -87,6 +88,8 @@ told_done w conn a e front s t b b' posts posts' old new is at who can same set_
             ∙ sym (map-changed_known post_of (has_done s t) w.ends conn e at) ∙ ap (map post_of) (sym (with-changed (has_done s t) w.ends conn));
         few = subst (λ n. n ≤ 4294967296) (sym (ap length set_is ∙ length-set posts conn (all_said t.out (post_of e)))) is.few;
         sendable = all_with AreSendable (has_done s t) (λ x h. done_sendable s t x h can) conn w.ends is.sendable;
+        marked = all_with HasMark (has_done s t) (λ x h. within_more x.up_moved x.up (saids s s.tree None t.out) h) conn w.ends is.marked;
+        waits = wait_same (has_done s t) (λ x. refl) (λ x. refl) w.bus.waiting.queues w.ends conn is.waits;
       };
       wrote = wrote ∙ ap (λ n. entries_of old ++ (front ++ map (did n) t.out)) number;
     }

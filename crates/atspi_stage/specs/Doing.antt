@@ -4,6 +4,7 @@ use Rattle.std.specs.List.{AllByRecursion}
 use Rattle.atspi_forest.specs.declared.edit.Edit.{Edit}
 use Rattle.atspi_lines.specs.declared.deed.Deed.{Deed}
 use Rattle.atspi_lines.specs.declared.line.Party.{Party}
+use Rattle.atspi_lines.specs.declared.line.Party.TheVariants as party
 use Rattle.atspi_lines.specs.declared.line.Party.TheVariants.{Reader}
 use Rattle.atspi_message.specs.Envelope.{Envelope}
 use Rattle.atspi_message.specs.Bytes.{IsMessage, written}
@@ -12,6 +13,7 @@ use Rattle.atspi_protocol.specs.exporting.Taking.{app_edits}
 use Rattle.atspi_protocol.specs.following.ReaderState as following
 use Rattle.atspi_protocol.specs.following.ReaderState.{ReaderState, speaks, tells_end}
 use Rattle.atspi_protocol.specs.following.Takes.{reader_calls}
+use Rattle.atspi_protocol.specs.registering.Steps.{Registry}
 use Rattle.atspi_events.specs.declared.event.Event.{Event}
 use Rattle.atspi_posts.specs.declared.post.Post.{Post}
 use Rattle.atspi_trace.specs.Entry.{Entry, sent, entries_of}
@@ -122,3 +124,18 @@ pub record IsCallingAt (before after : List ReaderState) (r : ℕ) (callee : Opt
 
 abbrev pub CallsAt : List ReaderState → List ReaderState → ℕ → Option (List ℕ) → ℕ → Deed → Type 0
 CallsAt before after r callee node deed = (s : ReaderState) → slice_get before r ≡ Some s → IsCallingAt before after r callee node deed s
+
+-- all that the registry queued is on its link, the first, and in the trace, and it has queued nothing
+pub record IsRegistryTold (before after : Registry) (p q : Post) (old new : List Event) : Type 0 where
+  pub registry : after ≡ record before { out = [] }
+  pub post : q ≡ all_sent before.out p
+  pub wrote : entries_of new ≡ entries_of old ++ map (sent party.Registry) before.out
+  pub written_ : AllByRecursion (λ e. IsMessage e (written e)) before.out
+
+pub record IsFirstTold (before after : Registry) (p : Post) (rest posts : List Post) (old new : List Event) : Type 0 where
+  pub post : Post
+  pub posts_are : posts ≡ post ∷ rest
+  pub told : IsRegistryTold before after p post old new
+
+abbrev pub TellsFirst : Registry → Registry → List Post → List Post → List Event → List Event → Type 0
+TellsFirst before after posts posts' old new = (p : Post) (rest : List Post) → posts ≡ p ∷ rest → IsFirstTold before after p rest posts' old new

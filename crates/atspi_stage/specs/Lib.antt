@@ -7,5 +7,6 @@ pub mod Places
 pub mod Refusals
 pub mod Shown
 pub mod Stage
+pub mod Turns
 pub mod Wires
 pub mod Worlds

@@ -6,13 +6,14 @@ ghost use Rattle.atspi_reader_calls.specs.Deeds.{MayBeAsked};
 ghost use Rattle.atspi_bus_steps.specs.Inner.{inner_of, state_of};
 ghost use Rattle.atspi_lines.specs.declared.line.Line.TheVariants as lines;
 ghost use Rattle.atspi_trace.specs.Causes.{exits};
-ghost use Rattle.atspi_trace.specs.World.{World};
+ghost use Rattle.atspi_trace.specs.World.{End, World};
+ghost use Rattle.atspi_trace.specs.Ends.{end_at};
 ghost use Rattle.atspi_trace.specs.Work as work;
-ghost use Rattle.atspi_stage.specs.Lines.{CausedAt, LineDone, LineDoneElse};
+ghost use Rattle.atspi_stage.specs.Lines.{CausedAt, IsSegment, LineDone, LineDoneElse};
 ghost use Rattle.atspi_stage.specs.MayAct.{HasName, MayAct};
 ghost use Rattle.atspi_stage.specs.Refusals.{first_refusal, IsOf, IsRefusedFor};
 ghost use Rattle.atspi_stage.specs.Stage.{IsStage, UnlessHalted};
-ghost use Rattle.atspi_stage.specs.Worlds.{staged};
+ghost use Rattle.atspi_stage.specs.Worlds.{staged, IsWorld};
 
 use crate::fault::ActFault;
 use crate::places::conn_of;
@@ -81,6 +82,8 @@ impl<A: Application, R: Follower> Stage<A, R> {
     fn move_up(&mut self, conn: u32, count: u32) -> Result<(), CarryFault>
         requires stage { IsStage A.is_app R.is_follower A.is_kit A.is_spare self.old.cast.apps.items self.old.cast.readers.items self.old.kits.items self.old.spares.items (state_of self.old.carrier.bus) }
         ensures stage { OnOk result (IsStage A.is_app R.is_follower A.is_kit A.is_spare self.new.cast.apps.items self.new.cast.readers.items self.new.kits.items self.new.spares.items (state_of self.new.carrier.bus)) }
+        ensures does { OnOk result ((w : World) (e : End) → IsWorld w (staged A.exporter R.follower (inner_of self.old.carrier.bus) self.old.carrier.posts.items self.old.cast.apps.items self.old.cast.readers.items (length self.old.kits.items) (length self.old.spares.items) self.old.carrier.trace.items) → end_at w.ends conn ≡ Some e
+            → IsSegment w (work.moving_up conn count) (staged A.exporter R.follower (inner_of self.old.carrier.bus) self.old.carrier.posts.items self.old.cast.apps.items self.old.cast.readers.items (length self.old.kits.items) (length self.old.spares.items) self.old.carrier.trace.items) (staged A.exporter R.follower (inner_of self.new.carrier.bus) self.new.carrier.posts.items self.new.cast.apps.items self.new.cast.readers.items (length self.new.kits.items) (length self.new.spares.items) self.new.carrier.trace.items)) }
     {
         let place = conn as usize;
         if place >= self.carrier.posts.len() {
@@ -102,6 +105,7 @@ impl<A: Application, R: Follower> Stage<A, R> {
     fn move_bytes(&mut self, who: Party, up: bool, count: u32) -> Result<(), CarryFault>
         requires stage { IsStage A.is_app R.is_follower A.is_kit A.is_spare self.old.cast.apps.items self.old.cast.readers.items self.old.kits.items self.old.spares.items (state_of self.old.carrier.bus) }
         ensures stage { OnOk result (IsStage A.is_app R.is_follower A.is_kit A.is_spare self.new.cast.apps.items self.new.cast.readers.items self.new.kits.items self.new.spares.items (state_of self.new.carrier.bus)) }
+        ensures does { OnOk result (LineDone (lines.Bytes who up count) (staged A.exporter R.follower (inner_of self.old.carrier.bus) self.old.carrier.posts.items self.old.cast.apps.items self.old.cast.readers.items (length self.old.kits.items) (length self.old.spares.items) self.old.carrier.trace.items) (staged A.exporter R.follower (inner_of self.new.carrier.bus) self.new.carrier.posts.items self.new.cast.apps.items self.new.cast.readers.items (length self.new.kits.items) (length self.new.spares.items) self.new.carrier.trace.items)) }
     {
         let Some(conn) = conn_of(&self.carrier.posts, who) else {
             return Ok(());
@@ -114,6 +118,7 @@ impl<A: Application, R: Follower> Stage<A, R> {
 
     /// Does a line that is not refused, and asks for no edit and no call.
     fn do_line(&mut self, line: &Line) -> Result<(), CarryFault>
+        requires may { MayAct line.now }
         requires name { HasName line.now }
         requires stage { IsStage A.is_app R.is_follower A.is_kit A.is_spare self.old.cast.apps.items self.old.cast.readers.items self.old.kits.items self.old.spares.items (state_of self.old.carrier.bus) }
         ensures stage { OnOk result (IsStage A.is_app R.is_follower A.is_kit A.is_spare self.new.cast.apps.items self.new.cast.readers.items self.new.kits.items self.new.spares.items (state_of self.new.carrier.bus)) }

@@ -6,7 +6,7 @@ ghost use Rattle.atspi_reader_calls.specs.Deeds.{MayBeAsked};
 ghost use Rattle.atspi_bus_steps.specs.Inner.{inner_of, state_of};
 ghost use Rattle.atspi_lines.specs.declared.line.Party.TheVariants as parties;
 ghost use Rattle.atspi_trace.specs.World.{End, World};
-ghost use Rattle.atspi_trace.specs.Ends.{conn_of, end_at};
+ghost use Rattle.atspi_trace.specs.Ends.{app_count, conn_of, end_at};
 ghost use Rattle.atspi_trace.specs.Causes.{calls, does, edits, swaps_face};
 ghost use Rattle.atspi_trace.specs.Work.{name_of};
 ghost use Rattle.atspi_stage.specs.Doing.{CallsAt, EditsAt};
@@ -146,7 +146,7 @@ impl<A: Application, R: Follower> Stage<A, R> {
     pub(crate) fn swap(&mut self, app: u32) -> Result<(), CarryFault>
         requires stage { IsStage A.is_app R.is_follower A.is_kit A.is_spare self.old.cast.apps.items self.old.cast.readers.items self.old.kits.items self.old.spares.items (state_of self.old.carrier.bus) }
         ensures stage { IsStage A.is_app R.is_follower A.is_kit A.is_spare self.new.cast.apps.items self.new.cast.readers.items self.new.kits.items self.new.spares.items (state_of self.new.carrier.bus) }
-        ensures does { OnOk result ((w : World) → IsWorld w (staged A.exporter R.follower (inner_of self.old.carrier.bus) self.old.carrier.posts.items self.old.cast.apps.items self.old.cast.readers.items (length self.old.kits.items) (length self.old.spares.items) self.old.carrier.trace.items) → w.swaps < 16 → IsAfter (does w swaps_face) (staged A.exporter R.follower (inner_of self.old.carrier.bus) self.old.carrier.posts.items self.old.cast.apps.items self.old.cast.readers.items (length self.old.kits.items) (length self.old.spares.items) self.old.carrier.trace.items) (staged A.exporter R.follower (inner_of self.new.carrier.bus) self.new.carrier.posts.items self.new.cast.apps.items self.new.cast.readers.items (length self.new.kits.items) (length self.new.spares.items) self.new.carrier.trace.items)) }
+        ensures does { OnOk result ((w : World) → IsWorld w (staged A.exporter R.follower (inner_of self.old.carrier.bus) self.old.carrier.posts.items self.old.cast.apps.items self.old.cast.readers.items (length self.old.kits.items) (length self.old.spares.items) self.old.carrier.trace.items) → w.swaps < 16 → 0 < app_count w.ends → IsAfter (does w swaps_face) (staged A.exporter R.follower (inner_of self.old.carrier.bus) self.old.carrier.posts.items self.old.cast.apps.items self.old.cast.readers.items (length self.old.kits.items) (length self.old.spares.items) self.old.carrier.trace.items) (staged A.exporter R.follower (inner_of self.new.carrier.bus) self.new.carrier.posts.items self.new.cast.apps.items self.new.cast.readers.items (length self.new.kits.items) (length self.new.spares.items) self.new.carrier.trace.items)) }
     {
         match self.spares.pop() {
             Some(spare) => swap_at(self.carrier.alloc, &mut self.cast.apps, app, spare),

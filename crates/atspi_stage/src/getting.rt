@@ -2,7 +2,7 @@
 
 ghost use Rattle.std.specs.Prelude.{◌≡◌, map, All, OnOk};
 ghost use Rattle.atspi_bus_steps.specs.Inner.{state_of};
-ghost use Rattle.atspi_stage.specs.Doing.{TellsAt, TellsReaderAt};
+ghost use Rattle.atspi_stage.specs.Doing.{TellsAt, TellsFirst, TellsReaderAt};
 ghost use Rattle.atspi_stage.specs.Stage.{IsStage};
 
 use crate::cast::Cast;
@@ -68,11 +68,13 @@ fn take_whole<A: Application, R: Follower>(
 }
 
 /// What the registry did is told.
-fn tell_first(
+pub(crate) fn tell_first(
     registry: &mut atspi_registry::Registry,
     posts: &mut [Post],
     trace: &mut Vec<Event>,
-) -> Result<(), CarryFault> {
+) -> Result<(), CarryFault>
+    ensures told { OnOk result (TellsFirst registry.old registry.new posts.old posts.new trace.old.items trace.new.items) }
+{
     if posts.len() == 0 {
         return Ok(());
     }

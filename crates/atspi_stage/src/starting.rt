@@ -1,16 +1,22 @@
 //! The beginning of a world, and the starts of ends.
 
-ghost use Rattle.std.specs.Prelude.{◌≡◌, ◌<◌, suc, length, All, IfOk, OnOk};
+ghost use Rattle.std.specs.Prelude.{◌≡◌, ◌<◌, ◌≤◌, ℕ, suc, [], length, All, IfOk, OnOk};
 ghost use Rattle.atspi_forest.specs.Row.{IsName};
+ghost use Rattle.atspi_lines.specs.declared.limits.TheConstants.{APP_COUNT, QUOTA_LEAST, QUOTA_MOST};
+ghost use Rattle.atspi_protocol.specs.registering.RegistryState.{begins};
+ghost use Rattle.atspi_routing.specs.Queues.{empty_bus};
 ghost use Rattle.atspi_bus_steps.specs.Inner.{inner_of, state_of};
-ghost use Rattle.atspi_trace.specs.World.{World};
+ghost use Rattle.atspi_bus_steps.specs.Sound.{IsSound};
+ghost use Rattle.atspi_trace.specs.World.{World, first_world};
 ghost use Rattle.atspi_trace.specs.Ends.{app_count, reader_count};
-ghost use Rattle.atspi_trace.specs.Causes.{does, starts_app, starts_reader};
+ghost use Rattle.atspi_trace.specs.Causes.{does, renews, starts_app, starts_reader};
+ghost use Rattle.atspi_trace.specs.Work.{spare_count};
+ghost use Rattle.atspi_carrying.specs.Beginning.{IsHeard};
 ghost use Rattle.atspi_stage.specs.Stage.{IsStage};
-ghost use Rattle.atspi_stage.specs.Worlds.{staged, IsAfter, IsWorld};
+ghost use Rattle.atspi_stage.specs.Worlds.{staged, IsAfter, IsBegun, IsWorld};
 
 use crate::cast::Cast;
-use crate::getting::{tell_app_at, tell_reader_at};
+use crate::getting::{tell_app_at, tell_first, tell_reader_at};
 use crate::stage::Stage;
 use atspi_base::Text;
 use atspi_carrying::{Carrier, CarryFault, note};
@@ -18,10 +24,51 @@ use atspi_events::Event;
 use atspi_lines::{Party, QUOTA_MOST};
 use atspi_registry::Registry;
 use atspi_stage_ends::{Application, Follower};
+use atspi_stream::{Feeder, Got};
 use std::alloc::Global;
 
-/// How many turns the registry's start takes at most.
+/// How many messages the registry takes at its start at most.
 const START_TURNS: u32 = 64;
+
+/// The registry takes the message that is whole at it, if one is. It says nothing to one of its start, and nothing of that is told.
+fn hear(registry: &mut Registry, feeder: &mut Feeder) -> Result<(), CarryFault> {
+    match feeder.next() {
+        Got::Message(message) => match registry.take(&message) {
+            Ok(()) => Ok(()),
+            Err(fault) => Err(CarryFault::from(fault)),
+        },
+        Got::NotYet => Ok(()),
+        Got::Bad(_) => Ok(()),
+    }
+}
+
+/// The same at the end of a connection, if it is there.
+fn hear_at(registry: &mut Registry, at_end: &mut [Feeder], conn: u32) -> Result<(), CarryFault> {
+    let place = conn as usize;
+    if place >= at_end.len() {
+        return Ok(());
+    }
+    hear(registry, &mut at_end[place])
+}
+
+/// The registry takes all that waits for it: what the bus returns to the calls of its start. Those are fewer than 64 messages; where more waited,
+/// the registry would be lost.
+fn hear_all(carrier: &mut Carrier, registry: &mut Registry, conn: u32) -> Result<(), CarryFault>
+    requires sound { IsSound (state_of carrier.old.bus) }
+    ensures sound { IsSound (state_of carrier.new.bus) }
+    ensures posts { carrier.new.posts ≡ carrier.old.posts }
+    ensures trace { carrier.new.trace ≡ carrier.old.trace }
+    ensures heard { OnOk result (IsHeard (inner_of carrier.old.bus) (inner_of carrier.new.bus) conn) }
+{
+    for _message in 0..START_TURNS {
+        if carrier.bus.waiting(conn) == 0 {
+            return Ok(());
+        }
+        carrier.fill(conn, usize::MAX)?;
+        hear_at(registry, &mut carrier.at_end, conn)?;
+    }
+    Err(CarryFault::RegistryLost)
+}
 
 impl<A: Application, R: Follower> Stage<A, R> {
     /// A world over these kits and spare faces, the last of which come first. Its bus and its registry are started. Its one refusal is want of memory.
@@ -33,6 +80,8 @@ impl<A: Application, R: Follower> Stage<A, R> {
         requires kits { All A.is_kit kits.items }
         requires spares { All A.is_spare spares.items }
         ensures stage { IfOk result (λ stage. IsStage A.is_app R.is_follower A.is_kit A.is_spare stage.cast.apps.items stage.cast.readers.items stage.kits.items stage.spares.items (state_of stage.carrier.bus)) }
+        ensures begins { IfOk result (λ stage. length kits.items ≡ APP_COUNT → length spares.items ≡ spare_count
+            → IsWorld (first_world QUOTA_MOST) (staged A.exporter R.follower (inner_of stage.carrier.bus) stage.carrier.posts.items stage.cast.apps.items stage.cast.readers.items (length stage.kits.items) (length stage.spares.items) stage.carrier.trace.items)) }
     {
         let mut stage = Stage {
             carrier: Carrier::new(alloc, QUOTA_MOST),
@@ -52,17 +101,21 @@ impl<A: Application, R: Follower> Stage<A, R> {
     fn begin(&mut self) -> Result<(), CarryFault>
         requires stage { IsStage A.is_app R.is_follower A.is_kit A.is_spare self.old.cast.apps.items self.old.cast.readers.items self.old.kits.items self.old.spares.items (state_of self.old.carrier.bus) }
         ensures stage { OnOk result (IsStage A.is_app R.is_follower A.is_kit A.is_spare self.new.cast.apps.items self.new.cast.readers.items self.new.kits.items self.new.spares.items (state_of self.new.carrier.bus)) }
+        ensures ends { (self.new.cast.apps ≡ self.old.cast.apps) × (self.new.cast.readers ≡ self.old.cast.readers) }
+        ensures left { (self.new.kits ≡ self.old.kits) × (self.new.spares ≡ self.old.spares) }
+        ensures begins { OnOk result ((quota : ℕ) → QUOTA_LEAST ≤ quota → inner_of self.old.carrier.bus ≡ empty_bus quota → self.old.carrier.posts.items ≡ [] → self.old.cast.registry ≡ record { state = begins; out = [] }
+            → IsBegun quota (inner_of self.new.carrier.bus) self.new.carrier.posts.items self.old.carrier.trace.items self.new.carrier.trace.items) }
     {
         let told = self.carrier.trace.len();
         let conn = self.carrier.join(Party::Registry)?;
         self.cast.registry.start()?;
-        self.cast.tell(
-            Party::Registry,
+        tell_first(
+            &mut self.cast.registry,
             &mut self.carrier.posts,
-            conn,
             &mut self.carrier.trace,
         )?;
-        self.turns(START_TURNS)?;
+        self.carrier.greet(conn)?;
+        hear_all(&mut self.carrier, &mut self.cast.registry, conn)?;
         self.carrier.trace.truncate(told);
         Ok(())
     }
@@ -71,6 +124,7 @@ impl<A: Application, R: Follower> Stage<A, R> {
     pub(crate) fn renew(&mut self, quota: u32) -> Result<(), CarryFault>
         requires stage { IsStage A.is_app R.is_follower A.is_kit A.is_spare self.old.cast.apps.items self.old.cast.readers.items self.old.kits.items self.old.spares.items (state_of self.old.carrier.bus) }
         ensures stage { OnOk result (IsStage A.is_app R.is_follower A.is_kit A.is_spare self.new.cast.apps.items self.new.cast.readers.items self.new.kits.items self.new.spares.items (state_of self.new.carrier.bus)) }
+        ensures does { OnOk result ((w : World) → QUOTA_LEAST ≤ quota → IsWorld w (staged A.exporter R.follower (inner_of self.old.carrier.bus) self.old.carrier.posts.items self.old.cast.apps.items self.old.cast.readers.items (length self.old.kits.items) (length self.old.spares.items) self.old.carrier.trace.items) → length w.ends ≤ 1 → IsAfter (does w (renews quota)) (staged A.exporter R.follower (inner_of self.old.carrier.bus) self.old.carrier.posts.items self.old.cast.apps.items self.old.cast.readers.items (length self.old.kits.items) (length self.old.spares.items) self.old.carrier.trace.items) (staged A.exporter R.follower (inner_of self.new.carrier.bus) self.new.carrier.posts.items self.new.cast.apps.items self.new.cast.readers.items (length self.new.kits.items) (length self.new.spares.items) self.new.carrier.trace.items)) }
     {
         self.carrier.renew(quota);
         self.cast.registry = Registry::new(self.carrier.alloc)?;

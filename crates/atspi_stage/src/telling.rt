@@ -8,7 +8,7 @@ ghost use Rattle.atspi_protocol.specs.following.ReaderState.{sends};
 ghost use Rattle.atspi_stage_ends.specs.Done.{done_of};
 ghost use Rattle.atspi_trace.specs.Entry.{entries_of};
 ghost use Rattle.atspi_trace.specs.Causes.{did};
-ghost use Rattle.atspi_stage.specs.Doing.{said_on, silent, CanBeWritten, IsSent, IsTold, SendsAll};
+ghost use Rattle.atspi_stage.specs.Doing.{said_on, silent, CanBeWritten, IsRegistryTold, IsSent, IsTold, SendsAll};
 
 use atspi_app_known::happenings::AppEvent;
 use atspi_carrying::{CarryFault, named_app, note, send};
@@ -25,7 +25,9 @@ pub(crate) fn tell_registry(
     registry: &mut Registry,
     post: &mut Post,
     trace: &mut Vec<Event>,
-) -> Result<(), CarryFault> {
+) -> Result<(), CarryFault>
+    ensures told { OnOk result (IsRegistryTold registry.old registry.new post.old post.new trace.old.items trace.new.items) }
+{
     while let Some(message) = registry.next() {
         send(post, Party::Registry, message, trace)?;
     }

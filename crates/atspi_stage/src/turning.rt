@@ -1,8 +1,15 @@
 //! Turns: each moves the first thing that waits.
 
-ghost use Rattle.std.specs.Prelude.{OnOk};
-ghost use Rattle.atspi_bus_steps.specs.Inner.{state_of};
+ghost use Rattle.std.specs.Prelude.{◌≡◌, ℕ, true, Some, length, IfOk, OnOk};
+ghost use Rattle.atspi_bus_steps.specs.Inner.{inner_of, state_of};
+ghost use Rattle.atspi_trace.specs.World.{World};
+ghost use Rattle.atspi_trace.specs.Causes.{Cause, does};
+ghost use Rattle.atspi_trace.specs.Work as work;
+ghost use Rattle.atspi_trace.specs.Work.{first_up};
+ghost use Rattle.atspi_stage.specs.Lines.{IsSegment};
 ghost use Rattle.atspi_stage.specs.Stage.{IsStage};
+ghost use Rattle.atspi_stage.specs.Turns.{turn_of, AreOfBus, Turned};
+ghost use Rattle.atspi_stage.specs.Worlds.{staged, IsAfter, IsWorld};
 
 use crate::stage::Stage;
 use atspi_carrying::{CarryFault, Turn, note};
@@ -17,6 +24,7 @@ impl<A: Application, R: Follower> Stage<A, R> {
     fn turn(&mut self, turn: Turn) -> Result<(), CarryFault>
         requires stage { IsStage A.is_app R.is_follower A.is_kit A.is_spare self.old.cast.apps.items self.old.cast.readers.items self.old.kits.items self.old.spares.items (state_of self.old.carrier.bus) }
         ensures stage { OnOk result (IsStage A.is_app R.is_follower A.is_kit A.is_spare self.new.cast.apps.items self.new.cast.readers.items self.new.kits.items self.new.spares.items (state_of self.new.carrier.bus)) }
+        ensures does { OnOk result ((w : World) (c : Cause) → IsWorld w (staged A.exporter R.follower (inner_of self.old.carrier.bus) self.old.carrier.posts.items self.old.cast.apps.items self.old.cast.readers.items (length self.old.kits.items) (length self.old.spares.items) self.old.carrier.trace.items) → first_up 0 w.ends ≡ Some c → turn_of c ≡ Some turn → IsAfter (does w c) (staged A.exporter R.follower (inner_of self.old.carrier.bus) self.old.carrier.posts.items self.old.cast.apps.items self.old.cast.readers.items (length self.old.kits.items) (length self.old.spares.items) self.old.carrier.trace.items) (staged A.exporter R.follower (inner_of self.new.carrier.bus) self.new.carrier.posts.items self.new.cast.apps.items self.new.cast.readers.items (length self.new.kits.items) (length self.new.spares.items) self.new.carrier.trace.items)) }
     {
         match turn {
             Turn::Route(conn) => self.carrier.route(conn),
@@ -29,6 +37,7 @@ impl<A: Application, R: Follower> Stage<A, R> {
     pub(crate) fn turns(&mut self, most: u32) -> Result<bool, CarryFault>
         requires stage { IsStage A.is_app R.is_follower A.is_kit A.is_spare self.old.cast.apps.items self.old.cast.readers.items self.old.kits.items self.old.spares.items (state_of self.old.carrier.bus) }
         ensures stage { OnOk result (IsStage A.is_app R.is_follower A.is_kit A.is_spare self.new.cast.apps.items self.new.cast.readers.items self.new.kits.items self.new.spares.items (state_of self.new.carrier.bus)) }
+        ensures turned { IfOk result (λ more. (w : World) (count : ℕ) → IsWorld w (staged A.exporter R.follower (inner_of self.old.carrier.bus) self.old.carrier.posts.items self.old.cast.apps.items self.old.cast.readers.items (length self.old.kits.items) (length self.old.spares.items) self.old.carrier.trace.items) → AreOfBus most w → Turned w count most 0 (staged A.exporter R.follower (inner_of self.old.carrier.bus) self.old.carrier.posts.items self.old.cast.apps.items self.old.cast.readers.items (length self.old.kits.items) (length self.old.spares.items) self.old.carrier.trace.items) (staged A.exporter R.follower (inner_of self.new.carrier.bus) self.new.carrier.posts.items self.new.cast.apps.items self.new.cast.readers.items (length self.new.kits.items) (length self.new.spares.items) self.new.carrier.trace.items) × (more ≡ true)) }
     {
         for _turn in 0..most {
             match self.carrier.next_turn() {
@@ -43,11 +52,12 @@ impl<A: Application, R: Follower> Stage<A, R> {
     pub(crate) fn make_turns(&mut self, most: u32) -> Result<(), CarryFault>
         requires stage { IsStage A.is_app R.is_follower A.is_kit A.is_spare self.old.cast.apps.items self.old.cast.readers.items self.old.kits.items self.old.spares.items (state_of self.old.carrier.bus) }
         ensures stage { OnOk result (IsStage A.is_app R.is_follower A.is_kit A.is_spare self.new.cast.apps.items self.new.cast.readers.items self.new.kits.items self.new.spares.items (state_of self.new.carrier.bus)) }
+        ensures does { OnOk result ((w : World) → IsWorld w (staged A.exporter R.follower (inner_of self.old.carrier.bus) self.old.carrier.posts.items self.old.cast.apps.items self.old.cast.readers.items (length self.old.kits.items) (length self.old.spares.items) self.old.carrier.trace.items) → AreOfBus most w → IsSegment w (work.turning most most) (staged A.exporter R.follower (inner_of self.old.carrier.bus) self.old.carrier.posts.items self.old.cast.apps.items self.old.cast.readers.items (length self.old.kits.items) (length self.old.spares.items) self.old.carrier.trace.items) (staged A.exporter R.follower (inner_of self.new.carrier.bus) self.new.carrier.posts.items self.new.cast.apps.items self.new.cast.readers.items (length self.new.kits.items) (length self.new.spares.items) self.new.carrier.trace.items)) }
     {
-        if self.turns(most)? {
-            note(&mut self.carrier.trace, Event::Busy(most))?;
+        if !self.turns(most)? {
+            return Ok(());
         }
-        Ok(())
+        note(&mut self.carrier.trace, Event::Busy(most))
     }
 
     /// Turns until nothing waits, which is told; where 1,000,000 were made and something waits, that.

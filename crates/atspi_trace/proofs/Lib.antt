@@ -1,2 +1,4 @@
 pub mod Following
+pub mod Maps
 pub mod RulesRead
+pub mod Working

@@ -8,3 +8,4 @@ pub mod Causes
 pub mod Work
 pub mod Due
 pub mod Laws
+pub mod Works

@@ -37,7 +37,7 @@ use Rattle.atspi_protocol.specs.following.Calls.{asking}
 use Rattle.atspi_trace.specs.Entry.{Entry, started, changed, sent, got, spoke, showed, gone, quiet}
 use Rattle.atspi_trace.specs.Rules.{owner_rule, cache_rule, event_rule}
 use Rattle.atspi_trace.specs.World.{stopped, away, Fate, waits, returned, Asked, Hearer, Role, the_registry, an_application, a_reader, Said, Letter, End, World, first_bus, first_registry, newcomer}
-use Rattle.atspi_trace.specs.Ends.{plain}
+use Rattle.atspi_trace.specs.Ends.{with_end, plain, stops}
 use Rattle.atspi_trace.specs.Work.{resting}
 use Rattle.atspi_trace.specs.Due.{Scene, due, happens}
 
@@ -310,6 +310,10 @@ exiting_world = record { bus = three_bus QUOTA_MOST; ends = first_registry ∷ a
 
 abbrev pub exit_and_turn : List Line
 exit_and_turn = Exit 0 ∷ Turns 1 ∷ []
+
+-- it stopped there, and the bus was not told yet
+abbrev pub stopped_world : World
+stopped_world = record exiting_world { ends = with_end 1 stops exiting_world.ends }
 
 -- the application left before the reader's call for its items came to the bus
 abbrev pub two_unique : List (ℕ × List ℕ)

@@ -1,5 +1,6 @@
 use Rattle.std.proofs.Common.{set, refl}
 use Rattle.atspi_bus_steps.specs.Inner.{inner_of}
+use Rattle.atspi_carrying.proofs.Linked.{exited_linked}
 use Rattle.atspi_carrying.proofs.Ties.{post_is, exited_done}
 use Rattle.atspi_carrying.proofs.carrier.Carrier.exit.Goals as goal
 
@@ -8,3 +9,9 @@ returns-clause-does c = λ w e is at.
     let s = c.args.self.now in
     exited_done w c.args.conn e (inner_of s.bus) (inner_of s.bus) s.posts.items (set s.posts.items c.args.conn c.stop.new.self) c.index_mut-post.result.now c.stop.new.self s.trace.items c.note.new.trace.items is at refl
     (post_is w (inner_of s.bus) s.posts.items c.args.conn e c.index_mut-post.result.now is at c.index_mut-post.ensures.value) c.stop.ensures refl c.in_ok-note.ensures.told
+
+pub returns-clause-linked : goal.returns-clause-linked
+returns-clause-linked c = λ w linked. exited_linked w c.args.conn c.args.self.now.at_end.items linked
+
+pub returns-then-place-len-clause-linked : goal.returns-then-place-len-clause-linked
+returns-then-place-len-clause-linked c = λ w linked. exited_linked w c.args.conn c.args.self.now.at_end.items linked

@@ -1,6 +1,16 @@
-use Rattle.atspi_bus_steps.specs.Inner.{state_of}
+use Rattle.std.proofs.Common.{◌+◌, ◌≤◌}
+use Rattle.atspi_bus_steps.specs.Inner.{inner_of, state_of}
 use Rattle.atspi_bus_steps.specs.Sound.{IsSound}
+use Rattle.atspi_trace.specs.World.{World}
+use Rattle.atspi_carrying.specs.Carried.{IsCarried}
+use Rattle.atspi_carrying.specs.Moving.{MovesAt}
+use Rattle.atspi_carrying.proofs.Completing.{Continues}
 use Rattle.atspi_carrying.proofs.carrier.Carrier.move_up.Given as goal
 
+-- each round moved a byte at least
 abbrev pub invariant-loop-message : goal.invariant-loop-message
-invariant-loop-message l = IsSound (state_of l.self.bus)
+invariant-loop-message l = record {
+  sound : IsSound (state_of l.self.bus);
+  moved : (w : World) → IsCarried w (inner_of l.initial.self.bus) l.initial.self.posts.items → MovesAt l.initial.self.posts.items l.conn
+      → Continues w l.conn l.most l.left (inner_of l.self.bus) l.self.posts.items l.initial.self.trace.items l.self.trace.items × (l.left + l._message ≤ l.most);
+}

@@ -1,7 +1,10 @@
 use Rattle.std.proofs.Common.{set, refl, ap, ◌∙◌}
 use Rattle.atspi_routing.specs.Queues as queues
 use Rattle.atspi_bus_steps.specs.Inner.{inner_of}
-use Rattle.atspi_carrying.proofs.Ties.{post_is, routed_done}
+use Rattle.atspi_message.specs.Bytes.{written}
+use Rattle.atspi_handed.proofs.Short.{message_spellable}
+use Rattle.atspi_carrying.proofs.Linked.{routed_linked}
+use Rattle.atspi_carrying.proofs.Ties.{post_is, first_sends, routed_bus, routed_done}
 use Rattle.atspi_carrying.proofs.carrier.Carrier.route.Goals as goal
 
 pub returns-clause-does : goal.returns-clause-does
@@ -13,3 +16,18 @@ returns-clause-does c = λ w e said rest is at up.
     c.tell_bus.new.self.posts.items c.index_mut-post.result.now c.route_front.new.post s.trace.items c.route_front.new.trace.items c.tell_bus.new.self.trace.items is at up
     (post_is w (inner_of s.bus) s.posts.items c.args.conn e c.index_mut-post.result.now is at c.index_mut-post.ensures.value) c.in_ok-route_front.ensures.routes refl
     (c.in_ok-settle.ensures.ok ∙ ap (λ n. queues.settled n b0) c.joined_count-rounds.ensures) told.bus told.posts told.told
+
+pub returns-clause-linked : goal.returns-clause-linked
+returns-clause-linked c = λ w e said rest is linked at up.
+    let s = c.args.self.now in
+    let told = c.in_ok-tell_bus.ensures in
+    let b0 = inner_of c.route_front.new.bus in
+    let b1 = inner_of c.settle.new.self in
+    let p = c.index_mut-post.result.now in
+    let q = c.route_front.new.post in
+    let p_is = post_is w (inner_of s.bus) s.posts.items c.args.conn e p is at c.index_mut-post.ensures.value in
+    let sends = first_sends w c.args.conn e said rest (inner_of s.bus) b0 b1 b1 s.posts.items s.posts.items s.posts.items p q s.trace.items s.trace.items s.trace.items is at up in
+    let bus = routed_bus w c.args.conn e said rest (inner_of s.bus) b0 b1 b1 s.posts.items s.posts.items s.posts.items p q s.trace.items c.route_front.new.trace.items s.trace.items is at up p_is
+    c.in_ok-route_front.ensures.routes (c.in_ok-settle.ensures.ok ∙ ap (λ n. queues.settled n b0) c.joined_count-rounds.ensures) in
+    routed_linked w c.args.conn e said rest s.at_end.items c.tell_bus.new.self.at_end.items b1 linked (message_spellable said.message (written said.message) sends.is) is.closings_told at up bus
+    c.in_ok-settle.ensures.sound.ready.last told.given

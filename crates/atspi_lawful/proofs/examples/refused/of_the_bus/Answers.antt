@@ -3,7 +3,7 @@ use Rattle.std.specs.Prelude.{[], ◌∷◌}
 use Rattle.std.specs.Fmt.{digits}
 use Rattle.atspi_message.specs.Bytes.{spelled_with, header_bytes, body_bytes, body_place, rising_fields}
 use Rattle.atspi_forest.specs.Path.{path_of}
-use Rattle.atspi_lawful.proofs.OfExamples.Maps.{maps}
+use Rattle.atspi_trace.proofs.Maps.{maps}
 use Rattle.atspi_lines.specs.declared.line.Line.TheVariants as line
 use Rattle.atspi_lines.specs.declared.line.Party.TheVariants as party
 use Rattle.atspi_trace.specs.Entry.{got, dropped}

@@ -2,7 +2,7 @@ use Rattle.std.proofs.Common.{refl}
 use Rattle.std.specs.Fmt.{digits}
 use Rattle.atspi_message.specs.Bytes.{spelled_with, header_bytes, body_bytes, body_place, rising_fields}
 use Rattle.atspi_forest.specs.Path.{path_of}
-use Rattle.atspi_lawful.proofs.OfExamples.Maps.{maps}
+use Rattle.atspi_trace.proofs.Maps.{maps}
 use Rattle.atspi_lawful.proofs.examples.routing.an_exit.Goals as goal
 
 pub returns : goal.returns

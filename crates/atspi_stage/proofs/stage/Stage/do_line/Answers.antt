@@ -3,7 +3,7 @@ use Rattle.atspi_stage.proofs.Lining.{ok_any, line_app, line_reader, line_swap, 
 use Rattle.atspi_stage.proofs.stage.Stage.do_line.Goals as goal
 
 pub returns-in-Quota-clause-does : goal.returns-in-Quota-clause-does
-returns-in-Quota-clause-does g c = ok_any c.renew.result (line_quota c.args.line.now _ _ c.in-Quota.quota c.in-Quota.is)
+returns-in-Quota-clause-does g c = on_ok_weaker c.renew.result (line_quota c.args.line.now _ _ c.in-Quota.quota c.in-Quota.is c.requires.may) c.renew.ensures.does
 
 pub returns-in-App-clause-does : goal.returns-in-App-clause-does
 returns-in-App-clause-does g c = on_ok_weaker c.start_app.result (line_app c.args.line.now _ _ c.in-App.name c.in-App.is) c.start_app.ensures.does
@@ -21,10 +21,10 @@ pub returns-in-Leave-clause-does : goal.returns-in-Leave-clause-does
 returns-in-Leave-clause-does g c = on_ok_weaker c.exit_of-in-Leave.result (line_leave c.args.line.now _ _ c.in-Leave.reader c.in-Leave.is) c.exit_of-in-Leave.ensures.does
 
 pub returns-in-Bytes-clause-does : goal.returns-in-Bytes-clause-does
-returns-in-Bytes-clause-does g c = ok_any c.move_bytes.result (line_bytes c.args.line.now _ _ c.in-Bytes.party c.in-Bytes.up c.in-Bytes.count c.in-Bytes.is)
+returns-in-Bytes-clause-does g c = on_ok_weaker c.move_bytes.result (line_bytes c.args.line.now _ _ c.in-Bytes.party c.in-Bytes.up c.in-Bytes.count c.in-Bytes.is) c.move_bytes.ensures.does
 
 pub returns-in-Turns-clause-does : goal.returns-in-Turns-clause-does
-returns-in-Turns-clause-does g c = ok_any c.make_turns.result (line_turns c.args.line.now _ _ c.in-Turns.count c.in-Turns.is)
+returns-in-Turns-clause-does g c = on_ok_weaker c.make_turns.result (line_turns c.args.line.now _ _ c.in-Turns.count c.in-Turns.is) c.make_turns.ensures.does
 
 pub returns-in-Drain-clause-does : goal.returns-in-Drain-clause-does
 returns-in-Drain-clause-does g c = ok_any c.drain.result (line_drain c.args.line.now _ _ c.in-Drain.is)

@@ -1,0 +1,366 @@
+-- Bytes of an up link that are moved, and what they complete.
+use Rattle.std.proofs.Common.{◌≡◌, ◌⊎◌, inl, inr, ℕ, zero, suc, ◌+◌, ◌-◌, ◌<◌, ◌≤◌, Bool, true, false, List, [], ◌∷◌, ◌++◌, length, map, set, get_or, min, Option, None, Some, refl, sym, ap, ◌∙◌, subst, append_assoc, append-nil, add-zero, arith, length-append}
+use Rattle.std.specs.Prelude.{slice_get, nat_le, if◌then◌else◌}
+use Rattle.std.specs.Option.{option_map}
+use Rattle.std.specs.List.{AllByRecursion}
+use Rattle.std.proofs.lemmas.Bool.{leb-true, le-leb}
+use Rattle.std.proofs.lemmas.List.{length-set}
+use Rattle.std.proofs.lemmas.Option.{same_Some, slice_get_within, get_or_from_slice_get}
+use Rattle.atspi_message.specs.Envelope.{Envelope}
+use Rattle.atspi_message.specs.Bytes.{written}
+use Rattle.atspi_routing.specs.BusState.{unique_of}
+use Rattle.atspi_routing.specs.Steps.{bus_takes}
+use Rattle.atspi_routing.specs.Queues.{Bus}
+use Rattle.atspi_routing.specs.declared.closing.Closing.{Closing}
+use Rattle.atspi_forest.specs.Forest.{first_of}
+use Rattle.atspi_events.specs.declared.event.Event.{Event}
+use Rattle.atspi_posts.specs.declared.post.Post.{Post}
+use Rattle.atspi_posts.specs.declared.post.Standing.TheVariants.{Here, Away}
+use Rattle.atspi_trace.specs.Entry.{Entry, entries_of}
+use Rattle.atspi_trace.specs.Rules.{rule_in}
+use Rattle.atspi_trace.specs.World.{Standing, here, stopped, away, Said, End, World}
+use Rattle.atspi_trace.specs.Ends.{end_at, with_end, taken_up}
+use Rattle.atspi_trace.specs.Carrying.{Carried, letter_of, stepped, settled, named, with_name}
+use Rattle.atspi_trace.specs.Causes.{Done, does, on_end, routed, routes, missing}
+use Rattle.atspi_trace.specs.Work.{Next, cause, rests, moving_up, moved_up, next_up, of_end, next_of}
+use Rattle.atspi_trace.specs.Works.{Works, at_rest, caused}
+use Rattle.atspi_carrying.specs.Changes.{changed_at}
+use Rattle.atspi_carrying.specs.Told.{gone, all_gone}
+use Rattle.atspi_carrying.specs.Carried.{standing_at, bytes_up, post_of, IsSendable, AreSendable, HasMark, IsWithin, IsCarried, IsDone}
+use Rattle.atspi_carrying.specs.Segments.{IsWorked}
+use Rattle.atspi_carrying.specs.Moving.{IsLacking, Moves, MovesAt, IsCompleted, MovedSome, MovesSome}
+use Rattle.atspi_carrying.proofs.Changes.{map-changed, map-changed_known, get-map}
+use Rattle.atspi_carrying.proofs.Downs.{wait_same}
+use Rattle.atspi_carrying.proofs.Views.{with-changed, stepped_view, settles, all_with, written_some}
+use Rattle.atspi_carrying.proofs.Ties.{all_at}
+
+-- the end of a connection that is there
+record HasEnd (w : World) (conn : ℕ) (p : Post) : Type 0 where
+  pub the_end : End
+  pub at : end_at w.ends conn ≡ Some the_end
+  pub post : p ≡ post_of the_end
+
+has_end : (w : World) (b : Bus) (posts : List Post) (conn : ℕ) (p : Post) → IsCarried w b posts → slice_get posts conn ≡ Some p → HasEnd w conn p
+has_end w b posts conn p is there = by (end_at w.ends conn) refl (sym (get-map post_of w.ends conn) ∙ ap (λ l. slice_get l conn) (sym is.posts_are) ∙ there)
+  where
+    by : (o : Option End) → end_at w.ends conn ≡ o → option_map post_of o ≡ Some p → HasEnd w conn p
+    by None at h = absurd cc
+    by (Some e) at h = record { the_end = e; at = at; post = sym (same_Some (post_of e) p h) }
+
+here_is : (s : Standing) → standing_at s ≡ Here → s ≡ here
+here_is here h = refl
+here_is stopped h = absurd cc
+here_is away h = absurd cc
+
+away_is : (s : Standing) → standing_at s ≡ Away → s ≡ away
+away_is here h = absurd cc
+away_is stopped h = absurd cc
+away_is away h = refl
+
+no_bytes : (saids : List Said) → bytes_up saids ≡ [] → saids ≡ []
+no_bytes [] h = refl
+no_bytes (s ∷ ss) h =
+    let none : length (written s.message ++ bytes_up ss) ≡ 0 = ap length h in
+    absurd (omega (arith, none, length-append (written s.message) (bytes_up ss), written_some s.message))
+
+next_is : (w : World) (conn count : ℕ) (e : End) → end_at w.ends conn ≡ Some e → next_of w (moving_up conn count) ≡ next_up w conn count e.standing e.up_moved e.up
+next_is w conn count e at = ap (λ o. of_end w o (λ x. next_up w conn count x.standing x.up_moved x.up)) at
+
+-- nothing waits on the link
+rests_so : (w : World) (conn count : ℕ) (e : End) → Moves (post_of e) → e.up ≡ [] → next_up w conn count e.standing e.up_moved e.up ≡ rests w
+rests_so w conn count e (inl there) none = ap (λ s. next_up w conn count s e.up_moved e.up) (here_is e.standing there) ∙ ap (next_up w conn count here e.up_moved) none
+rests_so w conn count e (inr left) none = ap (λ s. next_up w conn count s e.up_moved e.up) (away_is e.standing left.0)
+
+pub none_moved : (w : World) (conn count : ℕ) (b : Bus) (posts : List Post) (p : Post) (t : List Event) → IsCarried w b posts → slice_get posts conn ≡ Some p → Moves p → p.up ≡ []
+    → IsWorked w (moving_up conn count) b posts t t
+none_moved w conn count b posts p t is there moves none =
+    let h = has_end w b posts conn p is there in
+    let empty : h.the_end.up ≡ [] = no_bytes h.the_end.up (sym (ap (λ (q : Post). q.up) h.post) ∙ none) in
+    record {
+      after = w;
+      entries = [];
+      works = at_rest w w (moving_up conn count) (next_is w conn count h.the_end h.at ∙ rests_so w conn count h.the_end (subst Moves h.post moves) empty);
+      tied = is;
+      wrote = sym (append-nil (entries_of t));
+    }
+
+-- its first message
+record HasFirst (w : World) (conn : ℕ) (p : Post) : Type 0 where
+  pub the_end : End
+  pub at : end_at w.ends conn ≡ Some the_end
+  pub post : p ≡ post_of the_end
+  pub first : Said
+  pub rest : List Said
+  pub up : the_end.up ≡ first ∷ rest
+  pub sends : IsSendable first.message
+  pub within : the_end.up_moved < length (written first.message)
+
+has_first : (w : World) (b : Bus) (posts : List Post) (conn : ℕ) (p : Post) → IsCarried w b posts → slice_get posts conn ≡ Some p → (p.up ≡ []) ⊎ HasFirst w conn p
+has_first w b posts conn p is there =
+    by h.the_end.up refl (all_at AreSendable w.ends conn h.the_end is.sendable h.at) (all_at HasMark w.ends conn h.the_end is.marked h.at)
+  where
+    h : HasEnd w conn p
+    h = has_end w b posts conn p is there
+
+    by : (saids : List Said) → h.the_end.up ≡ saids → AreSendable h.the_end → HasMark h.the_end → (p.up ≡ []) ⊎ HasFirst w conn p
+    by [] u sends mark = inl (ap (λ (q : Post). q.up) h.post ∙ ap bytes_up u)
+    by (s ∷ ss) u sends mark =
+        let one : AllByRecursion (λ (said : Said). IsSendable said.message) (s ∷ ss) = subst (AllByRecursion (λ (said : Said). IsSendable said.message)) u sends in
+        inr (record { the_end = h.the_end; at = h.at; post = h.post; first = s; rest = ss; up = u; sends = one.0; within = subst (IsWithin h.the_end.up_moved) u mark })
+
+-- what a search for its first message says
+first_lacks : (w : World) (conn : ℕ) (p : Post) (len : Option ℕ) → IsLacking p len → (f : HasFirst w conn p) → len ≡ Some (missing f.first.message f.the_end.up_moved)
+first_lacks w conn p len lacks f =
+    lacks.some f.first.message (bytes_up f.rest) f.sends.is (ap (λ (q : Post). q.up) f.post ∙ ap bytes_up f.up) ∙ ap (λ (q : Post). Some (length (written f.first.message) - q.begun)) f.post
+
+pub lacks_none : (w : World) (b : Bus) (posts : List Post) (conn : ℕ) (p : Post) → IsCarried w b posts → slice_get posts conn ≡ Some p → IsLacking p None → p.up ≡ []
+lacks_none w b posts conn p is there lacks = by (has_first w b posts conn p is there)
+  where
+    by : (p.up ≡ []) ⊎ HasFirst w conn p → p.up ≡ []
+    by (inl none) = none
+    by (inr f) = let clash : None ≡ Some (missing f.first.message f.the_end.up_moved) = first_lacks w conn p None lacks f in absurd cc
+
+-- one that is not empty has an end that is there
+stands_here : (e : End) (s : Said) (ss : List Said) → Moves (post_of e) → e.up ≡ s ∷ ss → e.standing ≡ here
+stands_here e s ss (inl there) up = here_is e.standing there
+stands_here e s ss (inr left) up = let none : s ∷ ss ≡ [] = sym up ∙ no_bytes e.up left.1 in absurd cc
+
+next_first : (w : World) (conn count : ℕ) (p : Post) (f : HasFirst w conn p) → Moves p → next_of w (moving_up conn count) ≡ next_up w conn count here f.the_end.up_moved (f.first ∷ f.rest)
+next_first w conn count p f moves =
+    next_is w conn count f.the_end f.at ∙ ap (λ s. next_up w conn count s f.the_end.up_moved f.the_end.up) (stands_here f.the_end f.first f.rest (subst Moves f.post moves) f.up)
+    ∙ ap (next_up w conn count here f.the_end.up_moved) f.up
+
+-- a fact of each end, where the one at a connection changes
+all_one : (P : End → Type 0) (f : End → End) (ends : List End) (conn : ℕ) (e : End) → end_at ends conn ≡ Some e → P (f e) → AllByRecursion P ends → AllByRecursion P (with_end conn f ends)
+all_one P f [] zero e at h a = tt
+all_one P f [] (suc conn) e at h a = tt
+all_one P f (x ∷ xs) zero e at h a = (subst (λ y. P (f y)) (sym (same_Some x e at)) h, a.1)
+all_one P f (x ∷ xs) (suc conn) e at h a = (a.0, all_one P f xs conn e at h a.1)
+
+too_few : (n k : ℕ) → k < n → nat_le n k ≡ false
+too_few n k h = by (nat_le n k) refl
+  where
+    by : (t : Bool) → nat_le n k ≡ t → t ≡ false
+    by true e = absurd (omega (arith, h, leb-true n k e))
+    by false e = refl
+
+-- the bytes do not complete it
+abbrev moves_by : ℕ → End → End
+moves_by count e = record e { up_moved = e.up_moved + count }
+
+moved_tie : (w : World) (conn count : ℕ) (b : Bus) (posts : List Post) (p : Post) (f : HasFirst w conn p) (begun : ℕ) → IsCarried w b posts → begun ≡ p.begun + count
+    → f.the_end.up_moved + count < length (written f.first.message) → IsCarried (moved_up w conn count) b (set posts conn (record p { begun = begun }))
+moved_tie w conn count b posts p f begun is so within =
+    let q_is : record p { begun = begun } ≡ post_of (moves_by count f.the_end) = ap (λ n. record p { begun = n }) so ∙ ap (λ (q : Post). record q { begun = q.begun + count }) f.post in
+    record {
+      bus_is = is.bus_is;
+      own_told = is.own_told;
+      closings_told = is.closings_told;
+      posts_are = ap (λ l. set l conn (record p { begun = begun })) is.posts_are ∙ ap (set (map post_of w.ends) conn) q_is
+          ∙ sym (map-changed_known post_of (moves_by count) w.ends conn f.the_end f.at) ∙ ap (map post_of) (sym (with-changed (moves_by count) w.ends conn));
+      few = subst (λ n. n ≤ 4294967296) (sym (length-set posts conn (record p { begun = begun }))) is.few;
+      sendable = all_with AreSendable (moves_by count) (λ e h. h) conn w.ends is.sendable;
+      marked = all_one HasMark (moves_by count) w.ends conn f.the_end f.at (subst (IsWithin (f.the_end.up_moved + count)) (sym f.up) within) is.marked;
+      waits = wait_same (moves_by count) (λ e. refl) (λ e. refl) w.bus.waiting.queues w.ends conn is.waits;
+    }
+
+first_moved : (w : World) (conn count : ℕ) (b : Bus) (posts : List Post) (p : Post) (f : HasFirst w conn p) (begun : ℕ) (t : List Event) → IsCarried w b posts → Moves p → begun ≡ p.begun + count
+    → count < missing f.first.message f.the_end.up_moved → IsWorked w (moving_up conn count) b (set posts conn (record p { begun = begun })) t t
+first_moved w conn count b posts p f begun t is moves so few =
+    let next : next_of w (moving_up conn count) ≡ rests (moved_up w conn count) =
+    next_first w conn count p f moves
+    ∙ ap (λ t. if t then cause (routes conn) w (moving_up conn (count - missing f.first.message f.the_end.up_moved)) else rests (moved_up w conn count))
+    (too_few (missing f.first.message f.the_end.up_moved) count few) in
+    record {
+      after = moved_up w conn count;
+      entries = [];
+      works = at_rest w (moved_up w conn count) (moving_up conn count) next;
+      tied = moved_tie w conn count b posts p f begun is so (omega (arith, few));
+      wrote = sym (append-nil (entries_of t));
+    }
+
+pub some_moved : (w : World) (conn count n : ℕ) (b : Bus) (posts : List Post) (p : Post) (begun : ℕ) (t : List Event) → IsCarried w b posts → slice_get posts conn ≡ Some p → Moves p
+    → IsLacking p (Some n) → count < n → begun ≡ p.begun + count → IsWorked w (moving_up conn count) b (set posts conn (record p { begun = begun })) t t
+some_moved w conn count n b posts p begun t is there moves lacks few so = by (has_first w b posts conn p is there)
+  where
+    by : (p.up ≡ []) ⊎ HasFirst w conn p → IsWorked w (moving_up conn count) b (set posts conn (record p { begun = begun })) t t
+    by (inl none) = let clash : Some n ≡ None = lacks.none none in absurd cc
+    by (inr f) =
+        let same : n ≡ missing f.first.message f.the_end.up_moved = same_Some n (missing f.first.message f.the_end.up_moved) (first_lacks w conn p (Some n) lacks f) in
+        first_moved w conn count b posts p f begun t is moves so (subst (λ k. count < k) same few)
+
+-- the connection of an end that the bus took a message of is there, or its end left
+own_at : (f : End → End) (ends : List End) (conn : ℕ) (e : End) → end_at ends conn ≡ Some e → end_at (with_end conn f ends) conn ≡ Some (f e)
+own_at f [] zero e h = absurd cc
+own_at f [] (suc conn) e h = absurd cc
+own_at f (x ∷ xs) zero e h = ap (λ y. Some (f y)) (same_Some x e h)
+own_at f (x ∷ xs) (suc conn) e h = own_at f xs conn e h
+
+get_changed : (f : Post → Post) (posts : List Post) (i conn : ℕ) (p : Post) → slice_get posts conn ≡ Some p
+    → (slice_get (changed_at i f posts) conn ≡ Some p) ⊎ (slice_get (changed_at i f posts) conn ≡ Some (f p))
+get_changed f [] i zero p h = absurd cc
+get_changed f [] i (suc conn) p h = absurd cc
+get_changed f (x ∷ xs) zero zero p h = inr (ap (λ y. Some (f y)) (same_Some x p h))
+get_changed f (x ∷ xs) zero (suc conn) p h = inl h
+get_changed f (x ∷ xs) (suc i) zero p h = inl h
+get_changed f (x ∷ xs) (suc i) (suc conn) p h = get_changed f xs i conn p h
+
+moves_changed : (f : Post → Post) → ((p : Post) → Moves p → Moves (f p)) → (posts : List Post) (i conn : ℕ) → MovesAt posts conn → MovesAt (changed_at i f posts) conn
+moves_changed f keeps posts i conn m = by (get_changed f posts i conn m.post m.there)
+  where
+    by : (slice_get (changed_at i f posts) conn ≡ Some m.post) ⊎ (slice_get (changed_at i f posts) conn ≡ Some (f m.post)) → MovesAt (changed_at i f posts) conn
+    by (inl there) = record { post = m.post; there = there; moves = m.moves }
+    by (inr there) = record { post = f m.post; there = there; moves = keeps m.post m.moves }
+
+moves_gone : (cs : List Closing) (posts : List Post) (conn : ℕ) → MovesAt posts conn → MovesAt (all_gone cs posts) conn
+moves_gone [] posts conn m = m
+moves_gone (c ∷ cs) posts conn m = moves_gone cs (changed_at c.conn gone posts) conn (moves_changed gone (λ p h. inr (refl, refl)) posts c.conn conn m)
+
+-- a connection with the name that the bus has for it
+abbrev named_post : Bus → ℕ → Post → Post
+named_post b conn p = record p { name = first_of p.name (unique_of b.state.owners conn) }
+
+routed_moves : (w : World) (conn : ℕ) (e : End) (said : Said) (rest : List Said) (b : Bus) (posts : List Post) (old new : List Event) → end_at w.ends conn ≡ Some e → e.up ≡ said ∷ rest → e.standing ≡ here
+    → IsDone (does w (routes conn)) b posts old new → MovesAt posts conn
+routed_moves w conn e said rest b posts old new at up stands done =
+    let off : Carried = record { bus = w.bus; ends = with_end conn taken_up w.ends } in
+    let step = bus_takes w.bus.state conn said.message (rule_in said.message) in
+    let handed : Carried = stepped (letter_of e.who said) off step in
+    let called : Carried = with_name conn handed in
+    let s = settles (length w.bus.state.joined) called in
+    let does_is = ap (λ o. on_end w o (λ x. routed w conn x.who x.up)) at ∙ ap (routed w conn e.who) up in
+    let view : posts ≡ all_gone s.closed (map post_of called.ends) = done.tied.posts_are ∙ ap (λ (d : Done). map post_of d.world.ends) does_is ∙ s.view in
+    let names : map post_of called.ends ≡ changed_at conn (named_post handed.bus conn) (map post_of off.ends) =
+    ap (map post_of) (with-changed (named handed.bus conn) handed.ends conn) ∙ map-changed post_of (named handed.bus conn) (named_post handed.bus conn) (λ x. refl) handed.ends conn
+    ∙ ap (changed_at conn (named_post handed.bus conn)) (stepped_view (letter_of e.who said) off step) in
+    let first : MovesAt (map post_of off.ends) conn =
+    record { post = post_of (taken_up e); there = get-map post_of off.ends conn ∙ ap (option_map post_of) (own_at taken_up w.ends conn e at); moves = inl (ap standing_at stands) } in
+    subst (λ l. MovesAt l conn) (sym view)
+    (moves_gone s.closed (map post_of called.ends) conn
+    (subst (λ l. MovesAt l conn) (sym names) (moves_changed (named_post handed.bus conn) (λ p h. h) (map post_of off.ends) conn conn first)))
+
+-- the bytes complete it
+pub all_moved : (w : World) (conn count n : ℕ) (b b' : Bus) (posts posts' : List Post) (p : Post) (old new : List Event) → IsCarried w b posts → slice_get posts conn ≡ Some p → Moves p
+    → IsLacking p (Some n) → n ≤ count
+    → ((v : World) (e : End) (said : Said) (rest : List Said) → IsCarried v b posts → end_at v.ends conn ≡ Some e → e.up ≡ said ∷ rest → IsDone (does v (routes conn)) b' posts' old new)
+    → IsCompleted w conn count (count - n) b' posts' old new
+all_moved w conn count n b b' posts posts' p old new is there moves lacks enough routes_ = by (has_first w b posts conn p is there)
+  where
+    by : (p.up ≡ []) ⊎ HasFirst w conn p → IsCompleted w conn count (count - n) b' posts' old new
+    by (inl none) = let clash : Some n ≡ None = lacks.none none in absurd cc
+    by (inr f) =
+        let same : n ≡ missing f.first.message f.the_end.up_moved = same_Some n (missing f.first.message f.the_end.up_moved) (first_lacks w conn p (Some n) lacks f) in
+        let done = routes_ w f.the_end f.first f.rest is f.at f.up in
+        record {
+          next = next_first w conn count p f moves
+              ∙ ap (λ t. if t then cause (routes conn) w (moving_up conn (count - missing f.first.message f.the_end.up_moved)) else rests (moved_up w conn count))
+              (le-leb (missing f.first.message f.the_end.up_moved) count (subst (λ k. k ≤ count) same enough))
+              ∙ ap (λ k. cause (routes conn) w (moving_up conn (count - k))) (sym same);
+          done = done;
+          moves = routed_moves w conn f.the_end f.first f.rest b' posts' old new f.at f.up (stands_here f.the_end f.first f.rest (subst Moves f.post moves) f.up) done;
+          fewer = (let some = f.within in omega (arith, same, some, enough));
+        }
+
+-- WHAT WAS DONE SO FAR, and so many bytes are left to move
+pub record Continues (w : World) (conn most left : ℕ) (bus : Bus) (posts : List Post) (old new : List Event) : Type 0 where
+  pub now : World
+  pub entries : List Entry
+  pub tied : IsCarried now bus posts
+  pub moves : MovesAt posts conn
+  pub wrote : entries_of new ≡ entries_of old ++ entries
+  pub completes : (es : List Entry) (u : World) → Works now (moving_up conn left) es u → Works w (moving_up conn most) (entries ++ es) u
+
+pub not_yet : (w : World) (conn most : ℕ) (b : Bus) (posts : List Post) (t : List Event) → IsCarried w b posts → MovesAt posts conn → Continues w conn most most b posts t t
+not_yet w conn most b posts t is moves =
+    record { now = w; entries = []; tied = is; moves = moves; wrote = sym (append-nil (entries_of t)); completes = λ es u h. h }
+
+pub one_more : (w : World) (conn most left rest : ℕ) (b b' : Bus) (posts posts' : List Post) (old mid new : List Event) → (so : Continues w conn most left b posts old mid)
+    → IsCompleted so.now conn left rest b' posts' mid new → Continues w conn most rest b' posts' old new
+one_more w conn most left rest b b' posts posts' old mid new so c =
+    let d : Done = does so.now (routes conn) in
+    record {
+      now = d.world;
+      entries = so.entries ++ d.entries;
+      tied = c.done.tied;
+      moves = c.moves;
+      wrote = c.done.wrote ∙ ap (λ l. l ++ d.entries) so.wrote ∙ append_assoc (entries_of old) so.entries d.entries;
+      completes = λ es u h. subst (λ l. Works w (moving_up conn most) l u) (sym (append_assoc so.entries d.entries es))
+          (so.completes (d.entries ++ es) u (caused so.now so.now u (moving_up conn left) (moving_up conn rest) (routes conn) es c.next h));
+    }
+
+pub no_more : (w : World) (conn most left : ℕ) (b b' : Bus) (posts posts' : List Post) (old mid new : List Event) → (so : Continues w conn most left b posts old mid)
+    → IsWorked so.now (moving_up conn left) b' posts' mid new → IsWorked w (moving_up conn most) b' posts' old new
+no_more w conn most left b b' posts posts' old mid new so k = record {
+  after = k.after;
+  entries = so.entries ++ k.entries;
+  works = so.completes k.entries k.after k.works;
+  tied = k.tied;
+  wrote = k.wrote ∙ ap (λ l. l ++ k.entries) so.wrote ∙ append_assoc (entries_of old) so.entries k.entries;
+}
+
+set_same : {X : Type 0} (xs : List X) (i : ℕ) (x : X) → slice_get xs i ≡ Some x → set xs i x ≡ xs
+set_same [] zero x h = refl
+set_same [] (suc i) x h = refl
+set_same (y ∷ ys) zero x h = ap (λ z. z ∷ ys) (sym (same_Some y x h))
+set_same (y ∷ ys) (suc i) x h = ap (λ l. y ∷ l) (set_same ys i x h)
+
+-- where no byte is left to move
+none_left : (w : World) (conn : ℕ) (b : Bus) (posts : List Post) (t : List Event) → IsCarried w b posts → MovesAt posts conn → IsWorked w (moving_up conn 0) b posts t t
+none_left w conn b posts t is m = by (has_first w b posts conn m.post is m.there)
+  where
+    by : (m.post.up ≡ []) ⊎ HasFirst w conn m.post → IsWorked w (moving_up conn 0) b posts t t
+    by (inl none) = none_moved w conn 0 b posts m.post t is m.there m.moves none
+    by (inr f) =
+        let some : 0 < missing f.first.message f.the_end.up_moved = (let within = f.within in omega (arith, within)) in
+        subst (λ l. IsWorked w (moving_up conn 0) b l t t) (set_same posts conn m.post m.there) (first_moved w conn 0 b posts m.post f m.post.begun t is m.moves (sym (add-zero m.post.begun)) some)
+
+pub at_end : (w : World) (conn most left : ℕ) (b : Bus) (posts : List Post) (old new : List Event) → Continues w conn most left b posts old new → left ≡ 0 → IsWorked w (moving_up conn most) b posts old new
+at_end w conn most left b posts old new so none =
+    no_more w conn most left b b posts posts old new new so (subst (λ k. IsWorked so.now (moving_up conn k) b posts new new) (sym none) (none_left so.now conn b posts new so.tied so.moves))
+
+-- ONE ROUND, by what is found at the connection
+pub lack_none : (p : Post) (o : Option ℕ) → ((n : ℕ) → o ≡ Some n → ⊥) → IsLacking p o → IsLacking p None
+lack_none p None none h = h
+lack_none p (Some n) none h = absurd (none n refl)
+
+pub no_post : (conn most : ℕ) (b : Bus) (posts : List Post) (t : List Event) → length posts ≤ conn → MovesSome b b posts posts conn most None t t
+no_post conn most b posts t past = λ w is m. let within = slice_get_within posts conn m.post m.there in absurd (omega (arith, within, past))
+
+same_post : (posts : List Post) (conn : ℕ) (p : Post) (m : MovesAt posts conn) → p ≡ get_or posts conn p → p ≡ m.post
+same_post posts conn p m there = there ∙ get_or_from_slice_get posts conn m.post p m.there
+
+pub nothing_lacks : (conn most : ℕ) (b : Bus) (posts : List Post) (p : Post) (t : List Event) → p ≡ get_or posts conn p → IsLacking p None → MovesSome b b posts posts conn most None t t
+nothing_lacks conn most b posts p t there lacks = λ w is m.
+    let lacks_there = subst (λ q. IsLacking q None) (same_post posts conn p m there) lacks in
+    none_moved w conn most b posts m.post t is m.there m.moves (lacks_none w b posts conn m.post is m.there lacks_there)
+
+-- the sum of what was moved before and is now does not pass the largest number
+pub few_moved : (conn most n : ℕ) (b : Bus) (posts : List Post) (p q r : Post) (begun : ℕ) (t : List Event) → p ≡ get_or posts conn p → q ≡ get_or posts conn q → IsLacking p (Some n)
+    → n + p.begun ≤ 18446744073709551615 → most < n → begun ≡ min (q.begun + most) 18446744073709551615 → r ≡ record q { begun = begun } → MovesSome b b posts (set posts conn r) conn most None t t
+few_moved conn most n b posts p q r begun t there there' lacks room few so put = λ w is m.
+    let p_is = same_post posts conn p m there in
+    let q_is = same_post posts conn q m there' in
+    let same : p.begun ≡ q.begun = ap (λ (x : Post). x.begun) (p_is ∙ sym q_is) in
+    let sum : begun ≡ q.begun + most = (omega (arith, so, same, room, few)) in
+    subst (λ x. IsWorked w (moving_up conn most) b (set posts conn x) t t) (sym (put ∙ ap (λ (x : Post). record x { begun = begun }) q_is))
+    (some_moved w conn most n b posts m.post begun t is m.there m.moves (subst (λ x. IsLacking x (Some n)) p_is lacks) few (sum ∙ ap (λ (x : Post). x.begun + most) q_is))
+
+pub one_completed : (conn most n : ℕ) (b b' : Bus) (posts posts' : List Post) (p : Post) (old new : List Event) → p ≡ get_or posts conn p → IsLacking p (Some n) → n ≤ most
+    → ((v : World) (e : End) (said : Said) (rest : List Said) → IsCarried v b posts → end_at v.ends conn ≡ Some e → e.up ≡ said ∷ rest → IsDone (does v (routes conn)) b' posts' old new)
+    → MovesSome b b' posts posts' conn most (Some (most - n)) old new
+one_completed conn most n b b' posts posts' p old new there lacks enough routes_ = λ w is m.
+    all_moved w conn most n b b' posts posts' m.post old new is m.there m.moves (subst (λ q. IsLacking q (Some n)) (same_post posts conn p m there) lacks) enough routes_
+
+-- one more round, or the last
+pub round_more : (w : World) (conn most left made rest : ℕ) (o : Option ℕ) (b b' : Bus) (posts posts' : List Post) (old mid new : List Event) → Continues w conn most left b posts old mid × (left + made ≤ most) → o ≡ Some rest
+    → MovesSome b b' posts posts' conn left o mid new → Continues w conn most rest b' posts' old new × (rest + (made + 1) ≤ most)
+round_more w conn most left made rest o b b' posts posts' old mid new so is moves_ =
+    let t = so.0 in
+    let done : IsCompleted t.now conn left rest b' posts' mid new = subst (λ x. MovedSome t.now conn left x b' posts' mid new) is (moves_ t.now t.tied t.moves) in
+    (one_more w conn most left rest b b' posts posts' old mid new t done, (let fewer = done.fewer in let within = so.1 in omega (arith, fewer, within)))
+
+pub round_last : (w : World) (conn most left made : ℕ) (o : Option ℕ) (b b' : Bus) (posts posts' : List Post) (old mid new : List Event) → Continues w conn most left b posts old mid × (left + made ≤ most) → o ≡ None
+    → MovesSome b b' posts posts' conn left o mid new → IsWorked w (moving_up conn most) b' posts' old new
+round_last w conn most left made o b b' posts posts' old mid new so is moves_ =
+    let t = so.0 in
+    no_more w conn most left b b' posts posts' old mid new t (subst (λ x. MovedSome t.now conn left x b' posts' mid new) is (moves_ t.now t.tied t.moves))

@@ -1,0 +1,15 @@
+-- Parties by the unique names of their connections.
+use Rattle.std.specs.Prelude.{ℕ, List, [], ◌∷◌, Option, None, Some, if◌then◌else◌}
+use Rattle.atspi_lines.specs.declared.line.Party.{Party}
+use Rattle.atspi_lines.specs.declared.line.Party.TheVariants.{Bus as The_bus}
+use Rattle.atspi_posts.specs.declared.post.Post.{Post}
+use Rattle.atspi_posts.specs.Posts.{is_named}
+
+-- the first that has or had a name, and else the bus
+abbrev pub first_named : List ℕ → List Post → Party
+first_named name [] = The_bus
+first_named name (p ∷ ps) = if is_named name p then p.who else first_named name ps
+
+abbrev pub party_named : Option (List ℕ) → List Post → Party
+party_named None posts = The_bus
+party_named (Some name) posts = first_named name posts

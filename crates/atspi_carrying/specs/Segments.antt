@@ -1,0 +1,18 @@
+-- What is left of a line at work was done, as far as it lies between the ends.
+use Rattle.std.specs.Prelude.{◌≡◌, List, ◌++◌}
+use Rattle.atspi_routing.specs.Queues.{Bus}
+use Rattle.atspi_events.specs.declared.event.Event.{Event}
+use Rattle.atspi_posts.specs.declared.post.Post.{Post}
+use Rattle.atspi_trace.specs.Entry.{Entry, entries_of}
+use Rattle.atspi_trace.specs.World.{World}
+use Rattle.atspi_trace.specs.Work.{Work}
+use Rattle.atspi_trace.specs.Works.{Works}
+use Rattle.atspi_carrying.specs.Carried.{IsCarried}
+
+-- bus and connections are those of the world at rest, and just the entries of the causes were written
+pub record IsWorked (w : World) (work : Work) (bus : Bus) (posts : List Post) (old new : List Event) : Type 0 where
+  pub after : World
+  pub entries : List Entry
+  pub works : Works w work entries after
+  pub tied : IsCarried after bus posts
+  pub wrote : entries_of new ≡ entries_of old ++ entries

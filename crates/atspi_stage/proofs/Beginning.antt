@@ -1,0 +1,168 @@
+-- The beginning of a world, as the code makes it: the registry joins, its calls are sent and taken, and it takes what they bring.
+use Rattle.std.proofs.Common.{◌≡◌, ℕ, zero, suc, ◌+◌, ◌≤◌, Bool, true, false, cond, List, [], ◌∷◌, ◌++◌, length, map, set, get_or, take, Some, refl, sym, ap, ◌∙◌, subst, append-nil, append_assoc, arith}
+use Rattle.std.specs.Prelude.{Result, Ok, Err, OnOk}
+use Rattle.std.specs.List.{AllByRecursion}
+use Rattle.std.proofs.lemmas.Bool.{leb-true}
+use Rattle.std.proofs.lemmas.List.{map-append}
+use Rattle.atspi_message.specs.Envelope.{Envelope, envelope_of}
+use Rattle.atspi_message.specs.Bytes.{IsMessage, written}
+use Rattle.atspi_message.specs.declared.message.Message.{Message}
+use Rattle.atspi_lines.specs.declared.line.Party.TheVariants as party
+use Rattle.atspi_protocol.specs.registering.RegistryState.{begins}
+use Rattle.atspi_protocol.specs.registering.Steps.{Registry, starts}
+use Rattle.atspi_routing.specs.Queues.{Bus, empty_bus}
+use Rattle.atspi_events.specs.declared.event.Event.{Event}
+use Rattle.atspi_events.specs.declared.event.Event.TheVariants.{Sent}
+use Rattle.atspi_posts.specs.declared.post.Post.{Post}
+use Rattle.atspi_trace.specs.Entry.{Entry, entry_of, entries_of, sent}
+use Rattle.atspi_trace.specs.World.{Role, the_registry, End, World, newcomer, first_registry, first_world}
+use Rattle.atspi_trace.specs.Ends.{plain, put_up, is_app, is_reader, app_count, reader_count}
+use Rattle.atspi_trace.specs.Causes.{does, renews, joins}
+use Rattle.atspi_carrying.specs.Beginning.{IsGreeting, IsGreeted, IsHeard}
+use Rattle.atspi_carrying.specs.Carried.{bytes_up, post_of, IsCarried}
+use Rattle.atspi_carrying.proofs.Beginning.{nobody_waits, calls, called_world, called_carried, greeting_up, first_carried}
+use Rattle.atspi_stage.specs.Doing.{sent_on, all_sent, IsRegistryTold, TellsFirst}
+use Rattle.atspi_stage.specs.Worlds.{Staged, BeginsWithRegistry, IsWorld, IsAfter, IsBegun}
+use Rattle.atspi_stage.proofs.Calling.{put_is}
+use Rattle.atspi_stage.proofs.Stays.{Beside}
+
+-- what the registry queued is told
+pub registry_none : (r t : Registry) (p : Post) (trace : List Event) → r.out ≡ [] → t ≡ r → IsRegistryTold r t p p trace trace
+registry_none r t p trace none same = record {
+  registry = same ∙ ap (λ o. record r { out = o }) none;
+  post = ap (λ o. all_sent o p) (sym none);
+  wrote = sym (append-nil (entries_of trace)) ∙ ap (λ o. entries_of trace ++ map (sent party.Registry) o) (sym none);
+  written_ = subst (AllByRecursion (λ e. IsMessage e (written e))) (sym none) tt;
+}
+
+pub registry_more : (r t after : Registry) (m : Envelope) (p p' q : Post) (old mid new : List Event) → r.out ≡ m ∷ t.out → t.state ≡ r.state → p' ≡ sent_on m p
+    → entries_of mid ≡ entries_of old ++ sent party.Registry m ∷ [] → IsMessage m (written m) → IsRegistryTold t after p' q mid new → IsRegistryTold r after p q old new
+registry_more r t after m p p' q old mid new front state put wrote can told = record {
+  registry = told.registry ∙ ap (λ s. record { state = s; out = [] }) state;
+  post = told.post ∙ ap (all_sent t.out) put ∙ ap (λ o. all_sent o p) (sym front);
+  wrote = told.wrote ∙ ap (λ l. l ++ map (sent party.Registry) t.out) wrote ∙ append_assoc (entries_of old) (sent party.Registry m ∷ []) (map (sent party.Registry) t.out)
+      ∙ ap (λ o. entries_of old ++ map (sent party.Registry) o) (sym front);
+  written_ = subst (AllByRecursion (λ e. IsMessage e (written e))) (sym front) (can, told.written_);
+}
+
+pub sent_told : (old new : List Event) (m : Message) → new ≡ old ++ Sent party.Registry m ∷ [] → entries_of new ≡ entries_of old ++ sent party.Registry (envelope_of m) ∷ []
+sent_told old new m told = ap entries_of told ∙ map-append entry_of old (Sent party.Registry m ∷ [])
+
+pub tells_none : (r : Registry) (posts : List Post) (t : List Event) → length posts ≡ 0 → TellsFirst r r posts posts t t
+tells_none r [] t none = λ p rest is. let clash : [] ≡ p ∷ rest = is in absurd cc
+tells_none r (x ∷ xs) t none = absurd (omega (arith, none))
+
+pub tells_first : {T F : Type 0} (r : Result T F) (before after : Registry) (posts : List Post) (p q : Post) (old new : List Event) → p ≡ get_or posts 0 p → OnOk r (IsRegistryTold before after p q old new)
+    → OnOk r (TellsFirst before after posts (set posts 0 q) old new)
+tells_first (Ok x) before after [] p q old new there told = λ y rest is. let clash : [] ≡ y ∷ rest = is in absurd cc
+tells_first (Ok x) before after (z ∷ zs) p q old new there told = λ y rest is.
+    let first : z ≡ y = cc in
+    let behind : zs ≡ rest = cc in
+    record { post = q; posts_are = ap (λ l. q ∷ l) behind; told = subst (λ v. IsRegistryTold before after v q old new) (there ∙ first) told }
+tells_first (Err e) before after posts p q old new there told = tt
+
+pub first_as : (r t : Registry) (p p' q q' : List Post) (old old' new : List Event) → p ≡ p' → q ≡ q' → old ≡ old' → TellsFirst r t p q old new → TellsFirst r t p' q' old' new
+first_as r t p p' q q' old old' new ep eq eo told =
+    subst (λ x. TellsFirst r t x q' old' new) ep (subst (λ x. TellsFirst r t p x old' new) eq (subst (λ x. TellsFirst r t p q x new) eo told))
+
+-- messages of an end that were sent are on its link
+all_put : (ms : List Envelope) (e : End) → all_sent ms (post_of e) ≡ post_of (put_up (map plain ms) e)
+all_put [] e = ap (λ l. post_of (record e { up = l })) (sym (append-nil e.up))
+all_put (m ∷ ms) e =
+    ap (all_sent ms) (sym (put_is m e.role e)) ∙ all_put ms (put_up (plain m ∷ []) e) ∙ ap (λ l. post_of (record e { up = l })) (append_assoc e.up (plain m ∷ []) (map plain ms))
+
+-- what was written behind others is cut off again
+cut_back : (old new : List Event) (more : List Entry) → entries_of new ≡ entries_of old ++ more → entries_of (take (length old) new) ≡ entries_of old
+cut_back [] new more is = refl
+cut_back (x ∷ xs) [] more is = absurd cc
+cut_back (x ∷ xs) (y ∷ ys) more is =
+    let first : entry_of y ≡ entry_of x = cc in
+    let behind : entries_of ys ≡ entries_of xs ++ more = cc in
+    ap (λ e. e ∷ entries_of (take (length xs) ys)) first ∙ ap (λ l. entry_of x ∷ l) (cut_back xs ys more behind)
+
+-- where no bytes wait, none are left
+pub none_left : (bytes : List ℕ) → length bytes ≡ 0 → bytes ≡ []
+none_left [] none = refl
+none_left (b ∷ bs) none = absurd (omega (arith, none))
+
+-- nobody is there
+abbrev empty_world : ℕ → World
+empty_world quota = record { bus = empty_bus quota; ends = []; swaps = 0 }
+
+abbrev beginner : Role
+beginner = the_registry begins
+
+-- THE REGISTRY STARTS: joined, told, greeted, and behind all that it took
+pub begun_so : (quota : ℕ) → 1024 ≤ quota → (conn : ℕ) (b0 b1 b2 b3 : Bus) (posts0 posts1 posts2 posts3 : List Post) (r0 r1 r2 : Registry) (t0 t1 t2 : List Event) → b0 ≡ empty_bus quota → posts0 ≡ []
+    → r0 ≡ record { state = begins; out = [] } → conn ≡ length posts0 → ((w : World) (role : Role) → IsCarried w b0 posts0 → IsCarried (joins w party.Registry role []) b1 posts1) → r1 ≡ starts r0
+    → TellsFirst r1 r2 posts1 posts2 t0 t1 → ((w : World) → IsCarried w b1 posts2 → IsGreeting w conn → IsGreeted w conn b2 posts3 t1 t2) → IsHeard b2 b3 conn → IsBegun quota b3 posts3 t0 (take (length t0) t2)
+begun_so quota room conn b0 b1 b2 b3 posts0 posts1 posts2 posts3 r0 r1 r2 t0 t1 t2 b0_is posts0_is r0_is conn_is joins_ r1_is tells greets heard =
+    let first : conn ≡ 0 = conn_is ∙ ap length posts0_is in
+    let none : IsCarried (empty_world quota) b0 posts0 = record {
+      bus_is = b0_is;
+      own_told = refl;
+      closings_told = refl;
+      posts_are = posts0_is;
+      few = subst (λ n. n ≤ 4294967296) (sym (ap length posts0_is)) (leb-true 0 4294967296 refl);
+      sendable = tt;
+      marked = tt;
+      waits = nobody_waits (empty_bus quota).waiting.queues;
+    } in
+    let one = joins_ (empty_world quota) beginner none in
+    let said : r1.out ≡ calls = ap (λ (r : Registry). r.out) (r1_is ∙ ap starts r0_is) in
+    let told = tells (post_of (newcomer party.Registry beginner)) [] one.posts_are in
+    let post : told.post ≡ post_of (put_up (map plain calls) (newcomer party.Registry beginner)) =
+    told.told.post ∙ ap (λ o. all_sent o (post_of (newcomer party.Registry beginner))) said ∙ all_put calls (newcomer party.Registry beginner) in
+    let two : IsCarried (called_world quota beginner) b1 posts2 =
+    called_carried quota beginner posts2 (told.posts_are ∙ ap (λ p. p ∷ []) post) (subst (AllByRecursion (λ e. IsMessage e (written e))) said told.told.written_) b1 one.bus_is in
+    let three : IsGreeted (called_world quota beginner) 0 b2 posts3 t1 t2 =
+    subst (λ k. IsGreeted (called_world quota beginner) k b2 posts3 t1 t2) first (greets (called_world quota beginner) two (subst (IsGreeting (called_world quota beginner)) (sym first) (greeting_up quota beginner room))) in
+    record {
+      carried = first_carried quota beginner b2 b3 posts3 room three.carried (subst (IsHeard b2 b3) first heard);
+      silent = cut_back t0 t2 (map (sent party.Registry) r1.out ++ three.extends.more)
+          (three.extends.wrote ∙ ap (λ l. l ++ three.extends.more) told.told.wrote ∙ append_assoc (entries_of t0) (map (sent party.Registry) r1.out) three.extends.more);
+    }
+
+-- THE FIRST WORLD
+pub world_first : (quota : ℕ) (s : Staged) → IsCarried (first_world quota) s.bus s.posts → length s.apps ≡ 0 → length s.readers ≡ 0 → s.kits ≡ 16 → s.spares ≡ 16 → IsWorld (first_world quota) s
+world_first quota s carried apps readers kits spares =
+    let all_kits : length s.apps + s.kits ≡ 16 = omega (arith, apps, kits) in
+    let all_spares : 0 + s.spares ≡ 16 = omega (arith, spares) in
+    record {
+      carried = carried;
+      apps_play = λ number e there. absurd cc;
+      readers_play = λ number e there. absurd cc;
+      apps_are = sym apps;
+      readers_are = sym readers;
+      first = refl;
+      kits_are = all_kits;
+      spares_are = all_spares;
+      unused = λ none. refl;
+    }
+
+-- the registry alone is no application and no reader
+alone : (ends : List End) → BeginsWithRegistry ends → length ends ≤ 1 → (app_count ends ≡ 0) × (reader_count ends ≡ 0)
+alone [] first few = absurd first
+alone (e ∷ []) first few = (ap (λ p. length (cond (is_app p) (e ∷ []) [])) first, ap (λ p. length (cond (is_reader p) (e ∷ []) [])) first)
+alone (e ∷ (x ∷ xs)) first few = absurd (omega (arith, few))
+
+pub renewed : (w : World) (quota : ℕ) (old new : Staged) → IsWorld w old → length w.ends ≤ 1 → IsBegun quota new.bus new.posts old.trace new.trace → new.apps ≡ old.apps → new.readers ≡ old.readers → Beside old new
+    → IsAfter (does w (renews quota)) old new
+renewed w quota old new is few begun apps readers beside =
+    let nobody = alone w.ends is.first few in
+    let no_app : length new.apps ≡ 0 = ap length apps ∙ sym is.apps_are ∙ nobody.0 in
+    let no_reader : length new.readers ≡ 0 = ap length readers ∙ sym is.readers_are ∙ nobody.1 in
+    let kits : new.kits ≡ 16 = (let all = is.kits_are in let same = beside.kits in let none = ap length apps in omega (arith, all, same, none, no_app)) in
+    let spares : new.spares ≡ 16 = (let all = is.spares_are in let same = beside.spares in let unused = is.unused nobody.0 in omega (arith, all, same, unused)) in
+    record { is = world_first quota new begun.carried no_app no_reader kits spares; wrote = begun.silent ∙ sym (append-nil (entries_of old.trace)) }
+
+-- the same, where connections and trace stay behind the takings, and the trace is cut
+pub begins_as : (quota : ℕ) (bus : Bus) (posts posts' : List Post) (old mid mid' new : List Event) → IsBegun quota bus posts old (take (length old) mid) → posts' ≡ posts → mid' ≡ mid → new ≡ take (length old) mid' → IsBegun quota bus posts' old new
+begins_as quota bus posts posts' old mid mid' new begun same kept cut = record {
+  carried = subst (IsCarried (first_world quota) bus) (sym same) begun.carried;
+  silent = ap entries_of (cut ∙ ap (take (length old)) kept) ∙ begun.silent;
+}
+
+-- the same, where what was told before stayed
+pub begun_over : (quota : ℕ) (bus : Bus) (posts : List Post) (old old' new : List Event) → old ≡ old' → IsBegun quota bus posts old new → IsBegun quota bus posts old' new
+begun_over quota bus posts old old' new same begun = record { carried = begun.carried; silent = begun.silent ∙ ap entries_of same }

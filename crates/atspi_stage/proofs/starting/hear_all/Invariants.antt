@@ -1,0 +1,14 @@
+use Rattle.std.proofs.Common.{◌≡◌, ℕ}
+use Rattle.atspi_bus_steps.specs.Inner.{inner_of, state_of}
+use Rattle.atspi_bus_steps.specs.Sound.{IsSound}
+use Rattle.atspi_carrying.specs.Filled.{gave}
+use Rattle.atspi_stage.proofs.starting.hear_all.Given as goal
+
+-- some of what waited is gone, and nothing else changed
+abbrev pub invariant-loop-message : goal.invariant-loop-message
+invariant-loop-message l = record {
+  sound : IsSound (state_of l.carrier.bus);
+  posts : l.carrier.posts ≡ l.initial.carrier.posts;
+  trace : l.carrier.trace ≡ l.initial.carrier.trace;
+  gone : (count : ℕ) × (inner_of l.carrier.bus ≡ gave (inner_of l.initial.carrier.bus) l.conn count);
+}
