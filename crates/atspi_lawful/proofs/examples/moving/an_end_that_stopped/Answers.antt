@@ -1,4 +1,4 @@
-use Rattle.std.proofs.Common.{List, [], ◌++◌, refl}
+use Rattle.std.proofs.Common.{[], ◌++◌, refl}
 use Rattle.std.specs.Fmt.{digits}
 use Rattle.atspi_message.specs.Bytes.{spelled_with, header_bytes, body_bytes, body_place, rising_fields}
 use Rattle.atspi_forest.specs.Path.{path_of}
