@@ -4,3 +4,4 @@ pub mod Trees
 pub mod Steps
 pub mod Stepping
 pub mod LawSteps
+pub mod LawNodes

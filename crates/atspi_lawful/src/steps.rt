@@ -1,3 +1,4 @@
 //! The law of steps along lawful traces.
 
+pub mod examples;
 pub mod laws;

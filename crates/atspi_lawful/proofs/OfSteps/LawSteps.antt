@@ -249,7 +249,11 @@ each_front (x ∷ xs) ys early e = (fewer x e.0, each_front xs ys (early ++ x �
     fewer (changed app step) law = law
     fewer entry law = tt
 
-pub steps_apply : (lines : List Line) (trace : List Entry) → CanAllStand lines → Goes (begins lines) trace → LawOfSteps trace
-steps_apply lines trace a g =
+-- THE LAW
+pub each_step : (lines : List Line) (trace : List Entry) → CanAllStand lines → Goes (begins lines) trace → Each StepIsOne [] trace
+each_step lines trace a g =
     let k = kept (Shaped (And Below Stepped)) steps_keep lines trace a g in
-    everywhere StepIsOne trace (each_front trace _ [] k.state.1.1.0)
+    each_front trace _ [] k.state.1.1.0
+
+pub steps_apply : (lines : List Line) (trace : List Entry) → CanAllStand lines → Goes (begins lines) trace → LawOfSteps trace
+steps_apply lines trace a g = everywhere StepIsOne trace (each_step lines trace a g)
