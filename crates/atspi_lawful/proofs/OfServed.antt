@@ -33,3 +33,6 @@ pub mod AskingCaused
 pub mod AskingOwn
 pub mod AskingLaw
 pub mod LawServed
+pub mod Reaching
+pub mod ReachingBus
+pub mod ReachingLaw

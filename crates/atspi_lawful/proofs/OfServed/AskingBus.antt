@@ -91,7 +91,7 @@ all_on P (x ∷ xs) a l (inl h) = subst P h a.0
 all_on P (x ∷ xs) a l (inr o) = all_on P xs a.1 l o
 
 -- what stands further back comes behind
-turns_apart : (es : List Entry) (who : Party) (xs ys : List Letter) (l k : Letter) → Turns es who (xs ++ ys) → On l xs → On k ys → IsBehind l k
+pub turns_apart : (es : List Entry) (who : Party) (xs ys : List Letter) (l k : Letter) → Turns es who (xs ++ ys) → On l xs → On k ys → IsBehind l k
 turns_apart es who [] ys l k t o p = absurd o
 turns_apart es who (x ∷ xs) ys l k t (inl same) p = subst (λ z. IsBehind z k) same (all_on (IsBehind x) (xs ++ ys) t.1 k (on_back k xs ys p))
 turns_apart es who (x ∷ xs) ys l k t (inr o) p = turns_apart es who xs ys l k t.2 o p
@@ -152,7 +152,7 @@ module _ (es ys : List Entry) (w v : World) (o : Over Grown w.ends v.ends) (N : 
       (λ k r z h is a. each_of IsCalm (HeardAt r a) es ys (calm_heard r a) c)
 
 -- WHERE A CALL FOR ITEMS GOES
-in_list : (P : List ℕ → Type 0) (name : List ℕ) (xs : List (List ℕ)) → list_any (bytes_eq name) xs ≡ true → AllByRecursion P xs → P name
+pub in_list : (P : List ℕ → Type 0) (name : List ℕ) (xs : List (List ℕ)) → list_any (bytes_eq name) xs ≡ true → AllByRecursion P xs → P name
 in_list P name [] h a = absurd (false_true h)
 in_list P name (x ∷ xs) h a = by (bytes_eq name x) refl (λ k. in_list P name xs k a.1) h
   where
@@ -160,41 +160,45 @@ in_list P name (x ∷ xs) h a = by (bytes_eq name x) refl (λ k. in_list P name 
     by true g ih k = subst P (sym ((bytes_eq-Decides name x).0 g)) a.0
     by false g ih k = ih k
 
+-- to one that embedded, where its reader was told that name
+pub goes_listed : (es : List Entry) (v : World) → Named es v → Mail es v → (j a : ℕ) (y : End) → IsApp v j a y → (l : Letter) → On l y.down → (r : ℕ) → (c : IsItsCall es r l) → IsListed es v.ends c.name → Embeds es a
+goes_listed es v names mail j a y app l o r c told = by (subst (λ p. IsMail es p l) app.whose (all_on (IsMail es y.who) y.down (mail.downs j y app.there app.standing) l o))
+  where
+    not_bus : l.from ≡ The_bus → ⊥
+    not_bus bus = false_true (ap (λ p. same_party p (Reader r)) (sym bus ∙ c.from) ∙ party-same (Reader r))
+
+    not_registry : y.who ≡ Registry → ⊥
+    not_registry who = false_true (ap (λ p. same_party p Registry) (sym app.whose ∙ who))
+
+    by : IsMail es (App a) l → Embeds es a
+    by (inl b) = absurd (not_bus b.from)
+    by (inr p) = told.1 j a y app.there app.whose unique
+      where
+        is_it : l.said.message ≡ record p.first.message { sender = Some p.caller }
+        is_it = ap (λ (x : Said). x.message) p.alike
+
+        was : message es (Reader r) l.said.message.serial ≡ Some p.first.message
+        was = ap (message es (Reader r)) (ap (λ (x : Envelope). x.serial) is_it) ∙ subst (λ q. message es q p.first.message.serial ≡ Some p.first.message) c.from p.sent_.was
+
+        read : question_in p.first.message ≡ Some (GetItems c.name)
+        read = sym (ap question_if was) ∙ c.call
+
+        spelled : p.first.message ≡ asking p.first.message.serial (GetItems c.name)
+        spelled = p.speech.asks r c.from (GetItems c.name) read
+
+        to : l.said.message.destination ≡ Some c.name
+        to = ap (λ (x : Envelope). x.destination) is_it ∙ ap (λ (x : Envelope). x.destination) spelled
+
+        unique : y.unique ≡ Some c.name
+        unique = (names.ends j y app.there).known not_registry ∙ ap (name_told es) app.whose ∙ app_name es a c.name (p.routed c.name to told.0)
+
 module _ (es : List Entry) (v : World) (live : Lives es) (names : Named es v) (mail : Mail es v) (listed : AllListed es v) (readers : Readers es v)
     (ready : (k r : ℕ) (z : End) (h : Hearer) → IsReader v k r z h → AllByRecursion (IsReady es z h) (questions h)) where
   pub goes_to : (j a : ℕ) (y : End) → IsApp v j a y → (l : Letter) → On l y.down → (k r : ℕ) (z : End) (h : Hearer) → IsReader v k r z h → IsItsCall es r l → Embeds es a
-  goes_to j a y app l o k r z h is c = by (subst (λ p. IsMail es p l) app.whose (all_on (IsMail es y.who) y.down (mail.downs j y app.there app.standing) l o))
+  goes_to j a y app l o k r z h is c = goes_listed es v names mail j a y app l o r c told
     where
       it : IsReadyFor es z h c.name
       it = asked_at (IsReady es z h) l.said.message.serial h.asked (GetItems c.name) (sym ((readers k r z h is.there is.whose is.role).calls l.said.message.serial) ∙ c.call) (ready k r z h is) c.name refl
 
       told : IsListed es v.ends c.name
       told = in_list (IsListed es v.ends) c.name h.named it.listed (listed live k z h is.there is.role)
-
-      not_bus : l.from ≡ The_bus → ⊥
-      not_bus bus = false_true (ap (λ p. same_party p (Reader r)) (sym bus ∙ c.from) ∙ party-same (Reader r))
-
-      not_registry : y.who ≡ Registry → ⊥
-      not_registry who = false_true (ap (λ p. same_party p Registry) (sym app.whose ∙ who))
-
-      by : IsMail es (App a) l → Embeds es a
-      by (inl b) = absurd (not_bus b.from)
-      by (inr p) = told.1 j a y app.there app.whose unique
-        where
-          is_it : l.said.message ≡ record p.first.message { sender = Some p.caller }
-          is_it = ap (λ (x : Said). x.message) p.alike
-
-          was : message es (Reader r) l.said.message.serial ≡ Some p.first.message
-          was = ap (message es (Reader r)) (ap (λ (x : Envelope). x.serial) is_it) ∙ subst (λ q. message es q p.first.message.serial ≡ Some p.first.message) c.from p.sent_.was
-
-          read : question_in p.first.message ≡ Some (GetItems c.name)
-          read = sym (ap question_if was) ∙ c.call
-
-          spelled : p.first.message ≡ asking p.first.message.serial (GetItems c.name)
-          spelled = p.speech.asks r c.from (GetItems c.name) read
-
-          to : l.said.message.destination ≡ Some c.name
-          to = ap (λ (x : Envelope). x.destination) is_it ∙ ap (λ (x : Envelope). x.destination) spelled
-
-          unique : y.unique ≡ Some c.name
-          unique = (names.ends j y app.there).known not_registry ∙ ap (name_told es) app.whose ∙ app_name es a c.name (p.routed c.name to told.0)

@@ -192,13 +192,13 @@ all_asked name reader app before entry behind live h = tt
 -- OVER THE FACTS
 module _ (F : List Entry → World → Type 0) (keeps : Keeps (Shaped F)) (entered : (es : List Entry) (w : World) → F es w → AllEntered es w) (known : (es : List Entry) (w : World) → F es w → AllKnown es w) (hear : (es : List Entry) (w : World) → F es w → AllHear es w)
     (listed : (es : List Entry) (w : World) → F es w → AllListed es w) (carries : (es : List Entry) (w : World) (d : Done) → Shape w → F es w → Effect w d → Shape d.world → F (es ++ d.entries) d.world → Carries es (es ++ d.entries) w d.world) where
-  abbrev Beneath : List Entry → World → Type 0
+  abbrev pub Beneath : List Entry → World → Type 0
   Beneath es w = And (And Under_answers Answered) F es w
 
   beneath_keeps : Keeps (Shaped Beneath)
   beneath_keeps = both_keep (And Under_answers Answered) F answers_keep keeps
 
-  underlies : (es : List Entry) (w : World) → Beneath es w → Underlies es w
+  pub underlies : (es : List Entry) (w : World) → Beneath es w → Underlies es w
   underlies es w b =
       let u = b.0.0 in
       let m = u.0.0.1.0 in
@@ -226,7 +226,7 @@ module _ (F : List Entry → World → Type 0) (keeps : Keeps (Shaped F)) (enter
         let x = underlies es w u in asked_asking es w conn r m question s x.readers x.known (entered es w u.1) (known es w u.1) (i (lived es (sent (Reader r) m ∷ []) live)) a live;
   }
 
-  asking_keeps : Keeps (Shaped (And Beneath AllAsking))
+  pub asking_keeps : Keeps (Shaped (And Beneath AllAsking))
   asking_keeps = grown Beneath AllAsking beneath_keeps asking_grows
 
   abbrev Under_heards : List Entry → World → Type 0

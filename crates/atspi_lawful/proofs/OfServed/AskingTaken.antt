@@ -73,7 +73,7 @@ module _ (es : List Entry) (w : World) (d : Done) (i : Asking es w) (live : Live
     abbrev c0 : Carried
     c0 = record { bus = w.bus; ends = w.ends }
 
-    abbrev e0 : Envelope
+    abbrev pub e0 : Envelope
     e0 = b.said.message
 
     abbrev step : BusStep
@@ -85,14 +85,14 @@ module _ (es : List Entry) (w : World) (d : Done) (i : Asking es w) (live : Live
     abbrev done_ : Carried
     done_ = with_name b.conn (stepped (letter_of b.e.who b.said) base step)
 
-    over : Over Grown w.ends d.world.ends
+    pub over : Over Grown w.ends d.world.ends
     over = subst (λ x. Over Grown w.ends x.world.ends) (sym b.is) (took_grown c0 b.conn b.e.who b.said)
 
     there_now : (j : ℕ) (y : End) → end_at d.world.ends j ≡ Some y → end_at (takes c0 b.conn b.e.who b.said).ends j ≡ Some y
     there_now j y there = sym (ap (λ x. end_at x.world.ends j) b.is) ∙ there
 
     -- one of the bus's own, or the message
-    abbrev IsNow : Letter → Type 0
+    abbrev pub IsNow : Letter → Type 0
     IsNow letter = (letter.from ≡ The_bus) ⊎ ((letter.from ≡ b.e.who) × (letter.said.message.serial ≡ e0.serial))
 
     abbrev At : ℕ → Letter → Type 0
@@ -125,7 +125,7 @@ module _ (es : List Entry) (w : World) (d : Done) (i : Asking es w) (live : Live
         (stepped_downs At (letter_of b.e.who b.said) base step
         (hands_gives (PutsAt At (letter_of b.e.who b.said)) step.moves (takes_on (λ m. (c : ℕ) → At c (letter_of b.e.who b.said m)) w.bus.state b.conn e0 (rule_in e0) (λ m own c. as_own c m own) (λ name c. as_its name c))) before_at))
 
-    came : (j : ℕ) (y : End) (there : end_at d.world.ends j ≡ Some y) → y.standing ≡ here → AllByRecursion (λ letter. On letter (over.back j y there).0.down ⊎ IsNow letter) y.down
+    pub came : (j : ℕ) (y : End) (there : end_at d.world.ends j ≡ Some y) → y.standing ≡ here → AllByRecursion (λ letter. On letter (over.back j y there).0.down ⊎ IsNow letter) y.down
     came j y there on = all_map (At j) (λ letter. On letter (over.back j y there).0.down ⊎ IsNow letter) y.down (λ letter a. a y there on) (whole j y (there_now j y there))
 
     serial_is : e0.serial ≡ first_unread es b.e.who
@@ -147,10 +147,10 @@ module _ (es : List Entry) (w : World) (d : Done) (i : Asking es w) (live : Live
     abbrev c1 : Carried
     c1 = record { bus = w.bus; ends = w.ends }
 
-    over_end : Over Grown w.ends d.world.ends
+    pub over_end : Over Grown w.ends d.world.ends
     over_end = subst (λ x. Over Grown w.ends x.world.ends) (sym b.is) (ended_grown c1 b.conn)
 
-    abbrev IsOwn : Letter → Type 0
+    abbrev pub IsOwn : Letter → Type 0
     IsOwn letter = letter.from ≡ The_bus
 
     abbrev Then : ℕ → Letter → Type 0
@@ -165,7 +165,7 @@ module _ (es : List Entry) (w : World) (d : Done) (i : Asking es w) (live : Live
     whole_end : Downs Then (takes_end c1 b.conn).ends
     whole_end = settled_downs Then own_then (length w.bus.state.joined) (carrying.left c1 b.conn) (left_downs Then own_then c1 b.conn first_then)
 
-    came_end : (j : ℕ) (y : End) (there : end_at d.world.ends j ≡ Some y) → y.standing ≡ here → AllByRecursion (λ letter. On letter (over_end.back j y there).0.down ⊎ IsOwn letter) y.down
+    pub came_end : (j : ℕ) (y : End) (there : end_at d.world.ends j ≡ Some y) → y.standing ≡ here → AllByRecursion (λ letter. On letter (over_end.back j y there).0.down ⊎ IsOwn letter) y.down
     came_end j y there on = all_map (Then j) (λ letter. On letter (over_end.back j y there).0.down ⊎ IsOwn letter) y.down (λ letter a. a y there on) (whole_end j y (sym (ap (λ x. end_at x.world.ends j) b.is) ∙ there))
 
     pub bus_ended_asking : Asking (es ++ d.entries) d.world

@@ -87,7 +87,7 @@ all_any : {X : Type 0} (P : X → Type 0) → ((x : X) → P x) → (xs : List X
 all_any P f [] = tt
 all_any P f (x ∷ xs) = (f x, all_any P f xs)
 
-bus_silent : (a : ℕ) (c : Carried) → AllByRecursion (NotSaid (App a)) (carrying.bus_entries c.ends c.bus.own c.bus.closings)
+pub bus_silent : (a : ℕ) (c : Carried) → AllByRecursion (NotSaid (App a)) (carrying.bus_entries c.ends c.bus.own c.bus.closings)
 bus_silent a c =
     bus_all (NotSaid (App a)) (λ e. refl) c.ends c.bus.own c.bus.closings
     (all_any (λ (x : Closing). (queued len : ℕ) → NotSaid (App a) (dropped (party_at c.ends x.conn) queued len)) (λ x queued len. tt) c.bus.closings)
@@ -219,17 +219,17 @@ module _ (es : List Entry) (w : World) (d : Done) (s : Shape w) (numbers : Numbe
               (subst (λ p. message es p n ≡ Some (record (start_call x.0 get_registered_events) { serial = n })) (sym b.whose) x.1) refl
 
 -- EACH CAUSE
-no_app_first : (quota k a : ℕ) (x : End) → end_at (first_world quota).ends k ≡ Some x → x.who ≡ App a → ⊥
+pub no_app_first : (quota k a : ℕ) (x : End) → end_at (first_world quota).ends k ≡ Some x → x.who ≡ App a → ⊥
 no_app_first quota zero a x h who = false_true (ap is_app (ap (λ (y : End). y.who) (same_some first_registry x h) ∙ who))
 no_app_first quota (suc k) a x h who = no_none x h
 
-registry_same : (step : RegistryStep) (x : End) → SameTuned x (registry_did step x)
+pub registry_same : (step : RegistryStep) (x : End) → SameTuned x (registry_did step x)
 registry_same step x = not_app x (registry_did step x) refl refl
 
-reader_same : (h : Hearer) (x : End) → SameTuned x (record x { role = a_reader h })
+pub reader_same : (h : Hearer) (x : End) → SameTuned x (record x { role = a_reader h })
 reader_same h x = not_app x (record x { role = a_reader h }) refl refl
 
-sends_same : (h : Hearer) (m : Envelope) (x : End) → SameTuned x (reader_sends h m x)
+pub sends_same : (h : Hearer) (m : Envelope) (x : End) → SameTuned x (reader_sends h m x)
 sends_same h m x = not_app x (reader_sends h m x) refl refl
 
 -- what is known below
@@ -296,7 +296,7 @@ caused_tuned es w d s u law i (reader_took b) =
     }))
     (λ x. record x { role = a_reader g }) b.conn b.e b.is_here.there (ap is_app_role b.role) (reader_same g) (ap (λ x. x.world.ends) b.is)
 
-asks_same : (m : Envelope) (question : Question) (e : End) → SameTuned e (asks_at m question e)
+pub asks_same : (m : Envelope) (question : Question) (e : End) → SameTuned e (asks_at m question e)
 asks_same m question e = by e.role refl
   where
     by : (role : Role) → e.role ≡ role → SameTuned e (asks_as role m question e)
@@ -371,6 +371,10 @@ below es w u =
           returned_by es e.who l few (all_on (IsMail es e.who) e.down (m.1.0.downs k e there on) l at) (all_on (Fits es e.who) e.down (r.downs k e there on) l at) two j reply more first found to;
       owner = owner_of w.bus.state.owners r.owned;
     }
+
+-- what signals an application sends
+pub signals_of : (es : List Entry) (w : World) → Under_heard es w → Each telling.Both [] es
+signals_of es w u = (below es w u).signal_law
 
 tuned_grow : Grows Under_heard AllTuned
 tuned_grow = record {

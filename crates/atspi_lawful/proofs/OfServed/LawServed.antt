@@ -17,16 +17,31 @@ use Rattle.atspi_lawful.proofs.OfServed.Entering.{Under_entered, entered_keep, u
 use Rattle.atspi_lawful.proofs.OfServed.HearingTuned.{AllTuned}
 use Rattle.atspi_lawful.proofs.OfServed.Hearing.{Under_heard, hears_keep}
 use Rattle.atspi_lawful.proofs.OfServed.ListingAll.{Under_named, listed_keep}
+use Rattle.atspi_lawful.proofs.OfServed.AskingFrame.{AllAsking}
+use Rattle.atspi_lawful.proofs.OfServed.AskingAnswers.{Under_answers, Answered}
+use Rattle.atspi_lawful.proofs.OfServed.AskingCaused.{Underlies}
 use Rattle.atspi_lawful.proofs.OfServed.AskingLaw as over_facts
 
 -- THE FACTS, together
-abbrev Facts : List Entry → World → Type 0
+abbrev pub Facts : List Entry → World → Type 0
 Facts es w = And (And Under_entered AllEntered) (And (And (And Under_heard AllTuned) AllHear) (And Under_named AllListed)) es w
 
-facts_keep : Keeps (Shaped Facts)
+pub facts_keep : Keeps (Shaped Facts)
 facts_keep =
     both_keep (And Under_entered AllEntered) (And (And (And Under_heard AllTuned) AllHear) (And Under_named AllListed)) entered_keep
     (both_keep (And (And Under_heard AllTuned) AllHear) (And Under_named AllListed) hears_keep listed_keep)
+
+-- and what stands on them
+abbrev pub Served_under : List Entry → World → Type 0
+Served_under es w = And (And Under_answers Answered) Facts es w
+
+pub served_underlies : (es : List Entry) (w : World) → Served_under es w → Underlies es w
+served_underlies =
+    over_facts.underlies Facts facts_keep (λ es w f. f.0.1) (λ es w f. under_known es w f.0.0) (λ es w f. f.1.0.1) (λ es w f. f.1.1.1) (λ es w d s f e after g. carries es w d s f.0.0 e)
+
+pub served_asking_keeps : Keeps (Shaped (And Served_under AllAsking))
+served_asking_keeps =
+    over_facts.asking_keeps Facts facts_keep (λ es w f. f.0.1) (λ es w f. under_known es w f.0.0) (λ es w f. f.1.0.1) (λ es w f. f.1.1.1) (λ es w d s f e after g. carries es w d s f.0.0 e)
 
 -- THE LAWS
 pub steps_asked : (lines : List Line) (trace : List Entry) → CanAllStand lines → Goes (begins lines) trace → (name : List ℕ) (reader app : ℕ) → IsServed trace name reader app

@@ -1,13 +1,34 @@
--- Each step was asked for whole.
-use Rattle.std.specs.Prelude.{ℕ, List, [], ◌≡◌, Some}
+-- Each step was asked for whole, since a reader's registrations come first.
+use Rattle.std.specs.Prelude.{ℕ, true, List, [], ◌≡◌, Some}
+use Rattle.std.specs.List.{AllByRecursion}
 use Rattle.atspi_lines.specs.declared.line.Line.{Line}
-use Rattle.atspi_trace.specs.Entry.{Entry}
+use Rattle.atspi_lines.specs.declared.line.Party.TheVariants.{App, Reader}
+use Rattle.atspi_protocol.specs.declared.following.question.Question.TheVariants.{GetItems}
+use Rattle.atspi_protocol.specs.exporting.Hearing.{is_heard}
+use Rattle.atspi_protocol.specs.following.ReaderState.{start_calls}
+use Rattle.atspi_trace.specs.Entry.{Entry, got}
+use Rattle.atspi_trace.specs.Hearing.{patterns_in}
 use Rattle.atspi_trace.specs.Due.{begins, after_all, Begun}
-use Rattle.atspi_lawful.specs.laws.Words.{Kept, held}
+use Rattle.atspi_lawful.specs.laws.Words.{heard_pairs, name_in, own_call, Kept, held}
+use Rattle.atspi_lawful.specs.laws.NineLaws.{Everywhere}
 use Rattle.atspi_lawful.specs.order.Scripts.{CanAllStand}
 use Rattle.atspi_lawful.specs.order.Laws.{OfEachTrace}
 use Rattle.atspi_lawful.specs.caches.Laws.{IsServed}
 use Rattle.atspi_lawful.specs.ways.Laws.{AreHere, AreAskedSince}
+
+-- an application has heard of the five patterns of a reader's start, under the name that the bus gave the reader
+pub record HasHeardOf (trace : List Entry) (reader app : ℕ) : Type 0 where
+  pub name : List ℕ
+  pub is_its : name_in trace (Reader reader) ≡ Some name
+  pub heard : AllByRecursion (λ pattern. is_heard (heard_pairs trace app) (name, pattern) ≡ true) (patterns_in start_calls)
+
+-- A READER'S REGISTRATIONS COME FIRST: where an application takes a reader's own call for all its items, it has heard of them. The reader may have left by then.
+abbrev pub IsHeardOfFirst : List Entry → Entry → List Entry → Type 0
+IsHeardOfFirst before (got (App a) (Reader r) serial) behind = (name : List ℕ) → own_call before r serial ≡ Some (GetItems name) → HasHeardOf before r a
+IsHeardOfFirst before entry behind = Unit {0}
+
+abbrev pub RegistrationsComeFirst : Type 0
+RegistrationsComeFirst = OfEachTrace (Everywhere IsHeardOfFirst)
 
 -- EACH STEP THAT A READER IS TO KNOW OF WAS ASKED FOR WHOLE: each that stands between two messages that it took of the application since it loaded it, whatever the names
 abbrev pub StepsAreAskedFor : Type 0
