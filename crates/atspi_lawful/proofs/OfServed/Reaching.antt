@@ -11,7 +11,6 @@ use Rattle.atspi_protocol.specs.ends.Places.{registry}
 use Rattle.atspi_protocol.specs.members.Asked.{is_text}
 use Rattle.atspi_protocol.specs.members.Interfaces.{cache}
 use Rattle.atspi_protocol.specs.news.NewsOf.{event_interface}
-use Rattle.atspi_protocol.specs.declared.following.question.Question.TheVariants.{GetItems}
 use Rattle.atspi_protocol.specs.exporting.Exporter.{Exporter}
 use Rattle.atspi_protocol.specs.exporting.Hearing.{is_heard, heard_after}
 use Rattle.atspi_protocol.specs.exporting.Taking.{app_takes}

@@ -4,7 +4,6 @@ use Rattle.std.proofs.Common.{◌≡◌, ◌⊎◌, inl, inr, ℕ, ◌<◌, Bool
 use Rattle.std.specs.List.{AllByRecursion}
 use Rattle.atspi_lines.specs.declared.line.Party.{Party}
 use Rattle.atspi_lines.specs.declared.line.Party.TheVariants.{Bus as The_bus, Registry, App, Reader}
-use Rattle.atspi_message.specs.Envelope.{Envelope}
 use Rattle.atspi_protocol.specs.declared.following.question.Question.TheVariants.{GetItems}
 use Rattle.atspi_protocol.specs.exporting.Exporter.{Exporter}
 use Rattle.atspi_protocol.specs.exporting.Hearing.{is_heard}
@@ -14,7 +13,6 @@ use Rattle.atspi_trace.specs.Ends.{same_party, end_at}
 use Rattle.atspi_trace.specs.Carrying as carrying
 use Rattle.atspi_trace.specs.Causes.{Done}
 use Rattle.atspi_lawful.specs.laws.Words.{message, own_call}
-use Rattle.atspi_lawful.specs.serials.Laws.{HasNextNumber}
 use Rattle.atspi_lawful.specs.missed.Laws.{heard_on}
 use Rattle.atspi_lawful.proofs.OfOrder.Parties.{same_some, same-party, party-same, false_true}
 use Rattle.atspi_lawful.proofs.OfOrder.Shape.{Shape, RoleFits}

@@ -12,15 +12,15 @@ use Rattle.atspi_protocol.specs.exporting.Taking.{app_takes}
 use Rattle.atspi_protocol.specs.registering.Steps.{registry_takes}
 use Rattle.atspi_protocol.specs.following.Calls.{user_call}
 use Rattle.atspi_trace.specs.Entry.{Entry, sent, got}
-use Rattle.atspi_trace.specs.World.{here, an_application, a_reader, Hearer, End, World}
+use Rattle.atspi_trace.specs.World.{an_application, a_reader, Hearer, End, World}
 use Rattle.atspi_trace.specs.Ends.{same_party, number_of, end_at, with_end, rest_of, taken_down, stops}
 use Rattle.atspi_trace.specs.Carrying as carrying
-use Rattle.atspi_trace.specs.Hearing.{hears_letter, heard_entries}
+use Rattle.atspi_trace.specs.Hearing.{hears_letter}
 use Rattle.atspi_trace.specs.Causes.{Done, has_done, reader_sends, registry_did, at_end, app_starts, reader_starts}
 use Rattle.atspi_trace.specs.Due.{begins, Goes, asks_at}
 use Rattle.atspi_lawful.specs.laws.NineLaws.{Everywhere}
 use Rattle.atspi_lawful.specs.order.Scripts.{CanAllStand}
-use Rattle.atspi_lawful.specs.served.Laws.{HasHeardOf, IsHeardOfFirst}
+use Rattle.atspi_lawful.specs.served.Laws.{IsHeardOfFirst}
 use Rattle.atspi_lawful.proofs.OfOrder.Parties.{party-same, false_true}
 use Rattle.atspi_lawful.proofs.OfOrder.Frame.{Over, over_same, over_both, over_with, over_at, joined_cases}
 use Rattle.atspi_lawful.proofs.OfOrder.Shape.{Shape}
