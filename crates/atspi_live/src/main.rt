@@ -1,4 +1,4 @@
-//! The ends of the bus on Unix sockets: `registry PATH ROUNDS`, `read PATH ROUNDS`.
+//! The bus and its ends on Unix sockets: `bus PATH ROUNDS`, `registry PATH ROUNDS`, `read PATH ROUNDS`.
 #![tactic(auto)]
 
 mod net;
@@ -8,6 +8,7 @@ mod ready;
 mod retry;
 
 use atspi_base::Text;
+use atspi_live_bus::bus;
 use atspi_live_reader::read;
 use atspi_live_registry::registry;
 use net::NetHost;
@@ -33,12 +34,14 @@ fn rounds_in(word: &str) -> Option<u32> {
 /// What is run.
 #[derive(Clone, Copy)]
 enum Command {
+    Bus,
     Registry,
     Read,
 }
 
 fn command_in(word: &str) -> Option<Command> {
     match word {
+        "bus" => Some(Command::Bus),
         "registry" => Some(Command::Registry),
         "read" => Some(Command::Read),
         _ => None,
@@ -47,7 +50,7 @@ fn command_in(word: &str) -> Option<Command> {
 
 /// The words are not understood.
 fn usage(rt: &impl Print) -> ExitCode {
-    let _ = rt.println("usage: atspi_live registry or read, PATH and ROUNDS");
+    let _ = rt.println("usage: atspi_live bus, registry or read, PATH and ROUNDS");
     ExitCode::from(2)
 }
 
@@ -83,6 +86,7 @@ fn main(rt: HostRuntime) -> ExitCode {
     let mut sink = StandardOutput::new(rt.stdout(), &rt);
     let alloc = rt.alloc();
     let status = match command {
+        Command::Bus => bus(alloc, &path, rounds, &mut host),
         Command::Registry => registry(alloc, &path, rounds, &mut sink, &mut host),
         Command::Read => read(alloc, &path, rounds, &mut sink, &mut host),
     };

@@ -1,0 +1,9 @@
+pub mod Serving
+pub mod Ending
+pub mod Counting
+pub mod Asking
+pub mod Calling
+pub mod Conversing
+pub mod Going
+pub mod Fetching
+pub mod Stepping

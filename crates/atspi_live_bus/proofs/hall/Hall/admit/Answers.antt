@@ -1,0 +1,49 @@
+use Rattle.std.proofs.Common.{◌≡◌, ℕ, List, [], ◌∷◌, ◌++◌, refl, sym, ap, subst, ◌∙◌, inl, inr}
+use Rattle.atspi_host.specs.declared.call.Did.TheVariants.{Done, NotYet, Failed}
+use Rattle.atspi_host.specs.Calls.{IsNew}
+use Rattle.atspi_live_bus.specs.Serving.{numbers}
+use Rattle.atspi_live_bus.specs.declared.link.Link.{Link}
+use Rattle.atspi_live_bus.proofs.Ending.{free_blames, if_err, on_ok}
+use Rattle.atspi_live_bus.proofs.Going.{want_free}
+use Rattle.atspi_live_bus.proofs.Serving.{opened, pushed}
+use Rattle.atspi_live_bus.proofs.Stepping.{none_came, seated_told, service_told, want_told}
+use Rattle.atspi_live_bus.proofs.hall.Hall.admit.Goals as goal
+
+pub returns-in-Done-clause-serves : goal.returns-in-Done-clause-serves
+returns-in-Done-clause-serves g c =
+    on_ok c.seat.result _ _
+    (λ q. opened c.args.self.now.links.items c.seat.new.self.links.items c.in-Done.number (g.H.Host.links c.args.host.now) (g.H.Host.links c.accept.new.self)
+    (ap (λ (ls : List Link). numbers ls) q.behind_others ∙ pushed c.args.self.now.links.items q.link ∙ ap (λ (k : ℕ). numbers c.args.self.now.links.items ++ k ∷ []) q.number_is)
+    c.in-Done.ensures.links c.requires.serves)
+    c.seat.ensures.ok
+
+pub returns-in-Done-clause-goes : goal.returns-in-Done-clause-goes
+returns-in-Done-clause-goes g c =
+    on_ok c.seat.result _ _
+    (λ q. seated_told c.args.self.now.bus c.seat.new.self.bus c.args.self.now.links.items c.seat.new.self.links.items c.in-Done.number (g.H.Host.calls c.args.host.now) (g.H.Host.calls c.accept.new.self) q
+    (subst (λ (w : List ℕ). IsNew c.in-Done.number w) (sym c.requires.serves.are) c.in-Done.ensures.links.1) c.in-Done.ensures.unused c.in-Done.ensures.calls c.requires.goes)
+    c.seat.ensures.ok
+
+pub returns-in-Done-clause-said : goal.returns-in-Done-clause-said
+returns-in-Done-clause-said g c =
+    if_err c.seat.result _ _
+    (λ stop w. want_told c.args.self.now.bus c.args.self.now.links.items (g.H.Host.calls c.accept.new.self) (g.H.Host.calls c.accept.new.self) stop w refl
+    (none_came c.args.self.now.bus c.args.self.now.links.items (Done c.in-Done.number) (g.H.Host.calls c.args.host.now) (g.H.Host.calls c.accept.new.self) c.in-Done.ensures.calls c.requires.goes))
+    c.seat.ensures.cause
+
+pub returns-in-Done-clause-cause : goal.returns-in-Done-clause-cause
+returns-in-Done-clause-cause g c =
+    if_err c.seat.result _ _
+    (λ stop w. free_blames stop (g.H.Host.faults c.args.host.now) (g.H.Host.faults c.accept.new.self) (want_free stop w) c.in-Done.ensures.cause)
+    c.seat.ensures.cause
+
+pub returns-in-NotYet-clause-goes : goal.returns-in-NotYet-clause-goes
+returns-in-NotYet-clause-goes g c = elim c.in-NotYet.is [
+  | inl e ↦ none_came c.args.self.now.bus c.args.self.now.links.items NotYet (g.H.Host.calls c.args.host.now) (g.H.Host.calls c.accept.new.self) (rw e at c.accept.ensures.calls) c.requires.goes
+  | inr e ↦ absurd (rw e at c.accept.ensures.links)
+]
+
+pub returns-in-Failed-clause-said : goal.returns-in-Failed-clause-said
+returns-in-Failed-clause-said g c =
+    service_told c.args.self.now.bus c.args.self.now.links.items (g.H.Host.calls c.accept.new.self)
+    (none_came c.args.self.now.bus c.args.self.now.links.items Failed (g.H.Host.calls c.args.host.now) (g.H.Host.calls c.accept.new.self) c.in-Failed.ensures.calls c.requires.goes)

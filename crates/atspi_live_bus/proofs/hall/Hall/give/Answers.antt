@@ -1,0 +1,36 @@
+use Rattle.std.proofs.Common.{slice_set}
+use Rattle.atspi_live_bus.proofs.Going.{want_free}
+use Rattle.atspi_live_bus.proofs.Serving.{link_open, turned}
+use Rattle.atspi_live_bus.proofs.Stepping.{gave_goes, want_told, without_one}
+use Rattle.atspi_live_bus.proofs.hall.Hall.give.Goals as goal
+
+pub give-requires : goal.give-requires
+give-requires g c = link_open c.args.self.now.links.items c.in-Some.at c.index_mut.result.now (g.H.Host.links c.args.host.now) c.in-Some.ensures c.index_mut.ensures.value c.requires.serves
+
+pub part-requires-clause-serves : goal.part-requires-clause-serves
+part-requires-clause-serves g c =
+    turned c.args.self.now.links.items c.in-Some.at c.index_mut.result.now c.give.new.self (g.H.Host.links c.args.host.now) (g.H.Host.links c.give.new.host)
+    c.in-Some.ensures c.index_mut.ensures.value c.give.ensures.number c.give.ensures.links c.requires.serves
+
+pub returns-in-Ok-true-clause-serves : goal.returns-in-Ok-true-clause-serves
+returns-in-Ok-true-clause-serves g c =
+    turned c.args.self.now.links.items c.in-Some.at c.index_mut.result.now c.give.new.self (g.H.Host.links c.args.host.now) (g.H.Host.links c.give.new.host)
+    c.in-Some.ensures c.index_mut.ensures.value c.give.ensures.number c.give.ensures.links c.requires.serves
+
+pub returns-in-Ok-true-clause-goes : goal.returns-in-Ok-true-clause-goes
+returns-in-Ok-true-clause-goes g c =
+    gave_goes c.args.self.now.bus c.give.new.bus c.args.self.now.links.items c.in-Some.at c.index_mut.result.now c.give.new.self (g.H.Host.links c.args.host.now) (g.H.Host.calls c.args.host.now) (g.H.Host.calls c.give.new.host)
+    c.in-Some.ensures c.index_mut.ensures.value c.requires.serves c.give.ensures.number c.give.ensures.conn c.in-Ok-true.ensures.ok c.give.ensures.given c.requires.goes
+
+pub part-requires-clause-goes : goal.part-requires-clause-goes
+part-requires-clause-goes g c =
+    without_one c.give.new.bus (slice_set c.args.self.now.links.items c.in-Some.at c.give.new.self) c.in-Some.at (g.H.Host.calls c.give.new.host)
+    (gave_goes c.args.self.now.bus c.give.new.bus c.args.self.now.links.items c.in-Some.at c.index_mut.result.now c.give.new.self (g.H.Host.links c.args.host.now) (g.H.Host.calls c.args.host.now) (g.H.Host.calls c.give.new.host)
+    c.in-Some.ensures c.index_mut.ensures.value c.requires.serves c.give.ensures.number c.give.ensures.conn c.in-Ok-false.ensures.ok c.give.ensures.given c.requires.goes)
+
+pub returns-in-Err-clause-said : goal.returns-in-Err-clause-said
+returns-in-Err-clause-said g c =
+    want_told c.args.self.now.bus c.args.self.now.links.items (g.H.Host.calls c.args.host.now) (g.H.Host.calls c.give.new.host) c.in-Err.stop c.in-Err.ensures.cause c.in-Err.ensures.err c.requires.goes
+
+pub returns-in-Err-clause-cause : goal.returns-in-Err-clause-cause
+returns-in-Err-clause-cause g c = want_free c.in-Err.stop c.in-Err.ensures.cause

@@ -1,0 +1,16 @@
+use Rattle.std.proofs.Common.{◌≡◌, length}
+use Rattle.atspi_bus.specs.View.{bus_of}
+use Rattle.atspi_live_bus.specs.Service.{OfTold}
+use Rattle.atspi_live_bus.specs.Serving.{Serves}
+use Rattle.atspi_live_bus.specs.Turns.{Goes}
+use Rattle.atspi_live_bus.proofs.hall.Hall.settle.Given as goal
+
+abbrev pub invariant-closings : goal.invariant-closings
+invariant-closings g l = record {
+  serves : Serves (g.H.Host.links l.host) l.self.links.items;
+  goes : OfTold (Goes l.self.bus l.self.links.items) (g.H.Host.calls l.host);
+  same : g.H.Host.faults l.host ≡ g.H.Host.faults l.fn.host;
+}
+
+abbrev pub decreases-closings : goal.decreases-closings
+decreases-closings g l = length (bus_of l.self.bus).closings

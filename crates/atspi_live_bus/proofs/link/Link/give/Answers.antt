@@ -1,0 +1,45 @@
+use Rattle.std.proofs.Common.{◌≡◌, ◌≤◌, ℕ, List, [], ◌++◌, length, take, drop, sym, ap, subst, ◌∙◌, inl, inr, append-nil, arith}
+use Rattle.std.proofs.lemmas.List.{length-append, take-append-drop}
+use Rattle.atspi_host.specs.declared.call.Did.TheVariants.{Done, NotYet, Failed}
+use Rattle.atspi_bus.specs.View.{bus_of}
+use Rattle.atspi_live_bus.specs.Turns.{Carries, Converses}
+use Rattle.atspi_live_bus.proofs.Calling.{carries_write}
+use Rattle.atspi_live_bus.proofs.Conversing.{given_on}
+use Rattle.atspi_live_bus.proofs.Fetching.{front_of, gives_of}
+use Rattle.atspi_live_bus.proofs.link.Link.give.Goals as goal
+
+within : (items front rest : List ℕ) (n : ℕ) → items ≡ front ++ rest → n ≤ length front → n ≤ length items
+within items front rest n e h = omega (arith, h, ap (λ (w : List ℕ). length w) e, length-append front rest)
+
+-- a front of what waits and the rest of it
+part : (items front rest out : List ℕ) (n : ℕ) → items ≡ front ++ rest → n ≤ length front → out ≡ drop n items → take n front ++ out ≡ items
+part items front rest out n e h o =
+    ap (λ (w : List ℕ). take n front ++ w) o ∙ ap (λ (w : List ℕ). w ++ drop n items) (front_of items front rest n e h) ∙ take-append-drop n items
+
+pub gave-requires : goal.gave-requires
+gave-requires g c = within c.fill.new.self.out.items c.front.result.now c.front.ensures.front.0 c.in-Done.n c.front.ensures.front.1 c.in-Done.ensures.within.1
+
+pub returns-in-Done-clause-ok : goal.returns-in-Done-clause-ok
+returns-in-Done-clause-ok g c =
+    gives_of c.args.self.now.conn c.args.self.now.number (g.H.Host.calls c.args.host.now) (g.H.Host.calls c.write.new.self) (bus_of c.args.bus.now) (bus_of c.fill.new.bus) c.args.self.now c.fill.new.self c.gave.new.self c.in_default.ensures.ok
+    (λ m h. subst (λ (k : ℕ). Carries k (g.H.Host.calls c.args.host.now) (g.H.Host.calls c.write.new.self) (Converses m h c.fill.new.self) (Converses m h c.gave.new.self)) c.fill.ensures.number
+    (carries_write c.fill.new.self.number (g.H.Host.calls c.args.host.now) (g.H.Host.calls c.write.new.self) c.front.result.now (Done c.in-Done.n) (Converses m h c.fill.new.self) (Converses m h c.gave.new.self) c.in-Done.ensures.calls
+    (λ t s v. given_on m h (take c.in-Done.n c.front.result.now) c.fill.new.self c.gave.new.self t s
+    (part c.fill.new.self.out.items c.front.result.now c.front.ensures.front.0 c.gave.new.self.out.items c.in-Done.n c.front.ensures.front.1 c.in-Done.ensures.within.1 c.gave.ensures.out) c.gave.ensures.server c.gave.ensures.feeder v)))
+
+pub returns-in-NotYet-clause-ok : goal.returns-in-NotYet-clause-ok
+returns-in-NotYet-clause-ok g c =
+    gives_of c.args.self.now.conn c.args.self.now.number (g.H.Host.calls c.args.host.now) (g.H.Host.calls c.write.new.self) (bus_of c.args.bus.now) (bus_of c.fill.new.bus) c.args.self.now c.fill.new.self c.fill.new.self c.in_default.ensures.ok
+    (λ m h. subst (λ (k : ℕ). Carries k (g.H.Host.calls c.args.host.now) (g.H.Host.calls c.write.new.self) (Converses m h c.fill.new.self) (Converses m h c.fill.new.self)) c.fill.ensures.number
+    (carries_write c.fill.new.self.number (g.H.Host.calls c.args.host.now) (g.H.Host.calls c.write.new.self) c.front.result.now NotYet (Converses m h c.fill.new.self) (Converses m h c.fill.new.self) c.in-NotYet.ensures.calls
+    (λ t s v. subst (λ (w : List ℕ). Converses m h c.fill.new.self t w) (sym (append-nil s)) v)))
+
+pub returns-in-End-clause-ok : goal.returns-in-End-clause-ok
+returns-in-End-clause-ok g c = elim c.in-End.is [
+  | inl e ↦ absurd (c.write.ensures.no_end e)
+  | inr e ↦
+      gives_of c.args.self.now.conn c.args.self.now.number (g.H.Host.calls c.args.host.now) (g.H.Host.calls c.write.new.self) (bus_of c.args.bus.now) (bus_of c.fill.new.bus) c.args.self.now c.fill.new.self c.fill.new.self c.in_default.ensures.ok
+      (λ m h. subst (λ (k : ℕ). Carries k (g.H.Host.calls c.args.host.now) (g.H.Host.calls c.write.new.self) (Converses m h c.fill.new.self) (Converses m h c.fill.new.self)) c.fill.ensures.number
+      (carries_write c.fill.new.self.number (g.H.Host.calls c.args.host.now) (g.H.Host.calls c.write.new.self) c.front.result.now Failed (Converses m h c.fill.new.self) (Converses m h c.fill.new.self) (rw e at c.write.ensures.calls)
+      (λ t s v. subst (λ (w : List ℕ). Converses m h c.fill.new.self t w) (sym (append-nil s)) v)))
+]

@@ -1,0 +1,5 @@
+pub mod Stops
+pub mod Serving
+pub mod Asked
+pub mod Service
+pub mod Turns

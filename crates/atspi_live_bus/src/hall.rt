@@ -1,0 +1,311 @@
+//! The bus and its links, in rounds over a host.
+
+ghost use Rattle.std.specs.Prelude.{◌≡◌, ◌<◌, [], length, IfErr, IfSome, OnOk};
+ghost use Rattle.std.specs.List.{remove};
+ghost use Rattle.atspi_routing.specs.Queues.{empty_bus};
+ghost use Rattle.atspi_bus.specs.View.{bus_of, given_of};
+ghost use Rattle.atspi_live_bus.specs.Service.{IsStopped, OfTold};
+ghost use Rattle.atspi_live_bus.specs.Serving.{Serves};
+ghost use Rattle.atspi_live_bus.specs.Stops.{IsFree, IsWant, StopBlames};
+ghost use Rattle.atspi_live_bus.specs.Turns.{Goes, IsAsked, Seats};
+
+use crate::link::{Link, Next};
+use crate::stop::{Stop, stop_of};
+use atspi_bus::Bus;
+use atspi_host::{Did, Host};
+use std::alloc::Global;
+
+/// How many bytes are taken in one read at the most.
+const PIECE: usize = 4096;
+
+/// How many bytes wait for a connection at the most.
+const QUOTA: u32 = 16_777_216;
+
+/// The bus, and its links in the order in which they joined, which is that of their connections.
+#[derive(Drop)]
+pub(crate) struct Hall {
+    alloc: Global,
+    bus: Bus,
+    links: Vec<Link>,
+}
+
+impl Hall {
+    /// Nobody has joined.
+    pub(crate) fn new(alloc: Global) -> Hall
+        ensures links { result.links.items ≡ [] }
+        ensures bus { bus_of result.bus ≡ empty_bus QUOTA }
+        ensures given { given_of result.bus ≡ 0 }
+    {
+        Hall {
+            alloc,
+            bus: Bus::new(alloc, QUOTA),
+            links: Vec::new(alloc),
+        }
+    }
+
+    /// Where the link of a connection stands.
+    fn place(&self, conn: u32) -> Option<usize>
+        ensures { IfSome result (λ at. at < length self.now.links.items) }
+    {
+        self.links.iter().position(|link| link.conn == conn)
+    }
+
+    /// Where the link stands that joined next behind a connection.
+    fn behind(&self, conn: u32) -> Option<usize>
+        ensures { IfSome result (λ at. at < length self.now.links.items) }
+    {
+        self.links.iter().position(|link| link.conn > conn)
+    }
+
+    /// A link that was given joins the bus, behind the others.
+    fn seat(&mut self, number: u32) -> Result<(), Stop>
+        ensures ok { OnOk result (Seats number self.old.bus self.new.bus self.old.links.items self.new.links.items) }
+        ensures cause { IfErr result IsWant }
+    {
+        let Ok(conn) = self.bus.join() else {
+            return Err(Stop::NoMemory);
+        };
+        let Ok(()) = self.links.push(Link::new(self.alloc, number, conn)) else {
+            return Err(Stop::NoMemory);
+        };
+        Ok(())
+    }
+
+    /// Takes a link in, if one waits: it joins the bus at once.
+    fn admit<H: Host>(&mut self, host: &mut H) -> Result<(), Stop>
+        requires serves { Serves (H.links host.old) self.old.links.items }
+        requires goes { OfTold (Goes self.old.bus self.old.links.items) (H.calls host.old) }
+        ensures serves { OnOk result (Serves (H.links host.new) self.new.links.items) }
+        ensures goes { OnOk result (OfTold (Goes self.new.bus self.new.links.items) (H.calls host.new)) }
+        ensures said { IfErr result (λ stop. OfTold (IsStopped stop) (H.calls host.new)) }
+        ensures same { OnOk result (H.faults host.new ≡ H.faults host.old) }
+        ensures cause { IfErr result (λ stop. StopBlames stop (H.faults host.old) (H.faults host.new)) }
+    {
+        match host.accept() {
+            Did::Done(number) => self.seat(number),
+            Did::NotYet | Did::End => Ok(()),
+            Did::Failed => Err(Stop::HostFailed),
+        }
+    }
+
+    /// A link is closed, and is none of the bus's any more. Of the link itself nothing is asked.
+    fn close<H: Host>(&mut self, host: &mut H, at: usize)
+        requires serves { Serves (H.links host.old) self.old.links.items }
+        requires there { at < length self.old.links.items }
+        requires goes { OfTold (Goes self.old.bus (remove self.old.links.items at)) (H.calls host.old) }
+        ensures serves { Serves (H.links host.new) self.new.links.items }
+        ensures goes { OfTold (Goes self.new.bus self.new.links.items) (H.calls host.new) }
+        ensures bus { self.new.bus ≡ self.old.bus }
+        ensures same { H.faults host.new ≡ H.faults host.old }
+    {
+        let gone = self.links.remove(at);
+        host.close(gone.number);
+    }
+
+    /// The bus's own messages are told to nobody else.
+    fn forget(&mut self)
+        ensures links { self.new.links.items ≡ self.old.links.items }
+        ensures asked { IsAsked (bus_of self.old.bus) (bus_of self.new.bus) }
+        ensures given { given_of self.new.bus ≡ given_of self.old.bus }
+    {
+        'messages: while let Some(_) = self.bus.own() {}
+    }
+
+    /// The link of a connection that the bus closed is closed, where it still stands.
+    fn dismiss<H: Host>(&mut self, host: &mut H, conn: u32)
+        requires serves { Serves (H.links host.old) self.old.links.items }
+        requires goes { OfTold (Goes self.old.bus self.old.links.items) (H.calls host.old) }
+        ensures serves { Serves (H.links host.new) self.new.links.items }
+        ensures goes { OfTold (Goes self.new.bus self.new.links.items) (H.calls host.new) }
+        ensures same { H.faults host.new ≡ H.faults host.old }
+        ensures bus { self.new.bus ≡ self.old.bus }
+    {
+        if let Some(at) = self.place(conn) {
+            self.close(host, at);
+        }
+    }
+
+    /// The links of the connections that the bus closed are closed, in the order of their causes.
+    fn settle<H: Host>(&mut self, host: &mut H)
+        requires serves { Serves (H.links host.old) self.old.links.items }
+        requires goes { OfTold (Goes self.old.bus self.old.links.items) (H.calls host.old) }
+        ensures serves { Serves (H.links host.new) self.new.links.items }
+        ensures goes { OfTold (Goes self.new.bus self.new.links.items) (H.calls host.new) }
+        ensures same { H.faults host.new ≡ H.faults host.old }
+    {
+        self.forget();
+        'closings: while let Some(closing) = self.bus.closed() {
+            self.dismiss(host, closing.conn);
+        }
+    }
+
+    /// A link is closed, and its connection leaves the bus. Of the link itself nothing is asked.
+    fn part<H: Host>(&mut self, host: &mut H, at: usize) -> Result<(), Stop>
+        requires serves { Serves (H.links host.old) self.old.links.items }
+        requires there { at < length self.old.links.items }
+        requires goes { OfTold (Goes self.old.bus (remove self.old.links.items at)) (H.calls host.old) }
+        ensures serves { OnOk result (Serves (H.links host.new) self.new.links.items) }
+        ensures goes { OnOk result (OfTold (Goes self.new.bus self.new.links.items) (H.calls host.new)) }
+        ensures said { IfErr result (λ stop. OfTold (IsStopped stop) (H.calls host.new)) }
+        ensures same { H.faults host.new ≡ H.faults host.old }
+        ensures cause { IfErr result IsFree }
+    {
+        let conn = self.links[at].conn;
+        self.close(host, at);
+        match self.bus.leave(conn) {
+            Ok(()) => {
+                self.settle(host);
+                Ok(())
+            }
+            Err(fault) => Err(stop_of(fault)),
+        }
+    }
+
+    /// The bus takes the next message of a link, and closes whom it brings to close; one that sent what is malformed is closed. Whether a message was taken.
+    fn attend_one<H: Host>(&mut self, host: &mut H, conn: u32) -> Result<bool, Stop>
+        requires serves { Serves (H.links host.old) self.old.links.items }
+        requires goes { OfTold (Goes self.old.bus self.old.links.items) (H.calls host.old) }
+        ensures serves { OnOk result (Serves (H.links host.new) self.new.links.items) }
+        ensures goes { OnOk result (OfTold (Goes self.new.bus self.new.links.items) (H.calls host.new)) }
+        ensures said { IfErr result (λ stop. OfTold (IsStopped stop) (H.calls host.new)) }
+        ensures same { H.faults host.new ≡ H.faults host.old }
+        ensures cause { IfErr result IsFree }
+    {
+        let Some(at) = self.place(conn) else {
+            return Ok(false);
+        };
+        match self.links[at].tell(&mut self.bus) {
+            Ok(Next::Took) => {
+                self.settle(host);
+                Ok(true)
+            }
+            Ok(Next::NotYet) => Ok(false),
+            Ok(Next::Bad) => match self.part(host, at) {
+                Ok(()) => Ok(false),
+                Err(stop) => Err(stop),
+            },
+            Err(stop) => Err(stop),
+        }
+    }
+
+    /// The bus takes each whole message of a link, until the link is gone. A read brings fewer messages than bytes.
+    fn attend<H: Host>(&mut self, host: &mut H, conn: u32) -> Result<(), Stop>
+        requires serves { Serves (H.links host.old) self.old.links.items }
+        requires goes { OfTold (Goes self.old.bus self.old.links.items) (H.calls host.old) }
+        ensures serves { OnOk result (Serves (H.links host.new) self.new.links.items) }
+        ensures goes { OnOk result (OfTold (Goes self.new.bus self.new.links.items) (H.calls host.new)) }
+        ensures said { IfErr result (λ stop. OfTold (IsStopped stop) (H.calls host.new)) }
+        ensures same { H.faults host.new ≡ H.faults host.old }
+        ensures cause { IfErr result IsFree }
+    {
+        for _ in 0..PIECE {
+            match self.attend_one(host, conn) {
+                Ok(true) => {}
+                Ok(false) => return Ok(()),
+                Err(stop) => return Err(stop),
+            }
+        }
+        Ok(())
+    }
+
+    /// One read of a link, and the bus takes what is then whole. A link that has ended, has failed, or sent what is at fault is closed.
+    fn take_in<H: Host>(&mut self, host: &mut H, conn: u32) -> Result<(), Stop>
+        requires serves { Serves (H.links host.old) self.old.links.items }
+        requires goes { OfTold (Goes self.old.bus self.old.links.items) (H.calls host.old) }
+        ensures serves { OnOk result (Serves (H.links host.new) self.new.links.items) }
+        ensures goes { OnOk result (OfTold (Goes self.new.bus self.new.links.items) (H.calls host.new)) }
+        ensures said { IfErr result (λ stop. OfTold (IsStopped stop) (H.calls host.new)) }
+        ensures same { H.faults host.new ≡ H.faults host.old }
+        ensures cause { IfErr result IsFree }
+    {
+        let Some(at) = self.place(conn) else {
+            return Ok(());
+        };
+        match self.links[at].take_in(host) {
+            Ok(true) => self.attend(host, conn),
+            Ok(false) => self.part(host, at),
+            Err(stop) => Err(stop),
+        }
+    }
+
+    /// One write of a link that is open, where output waits. One on which it failed is closed.
+    fn give<H: Host>(&mut self, host: &mut H, conn: u32) -> Result<(), Stop>
+        requires serves { Serves (H.links host.old) self.old.links.items }
+        requires goes { OfTold (Goes self.old.bus self.old.links.items) (H.calls host.old) }
+        ensures serves { OnOk result (Serves (H.links host.new) self.new.links.items) }
+        ensures goes { OnOk result (OfTold (Goes self.new.bus self.new.links.items) (H.calls host.new)) }
+        ensures said { IfErr result (λ stop. OfTold (IsStopped stop) (H.calls host.new)) }
+        ensures same { H.faults host.new ≡ H.faults host.old }
+        ensures cause { IfErr result IsFree }
+    {
+        let Some(at) = self.place(conn) else {
+            return Ok(());
+        };
+        match self.links[at].give(host, &mut self.bus) {
+            Ok(true) => Ok(()),
+            Ok(false) => self.part(host, at),
+            Err(stop) => Err(stop),
+        }
+    }
+
+    /// One read of a link and, where it is still open, one write.
+    fn serve<H: Host>(&mut self, host: &mut H, conn: u32) -> Result<(), Stop>
+        requires serves { Serves (H.links host.old) self.old.links.items }
+        requires goes { OfTold (Goes self.old.bus self.old.links.items) (H.calls host.old) }
+        ensures serves { OnOk result (Serves (H.links host.new) self.new.links.items) }
+        ensures goes { OnOk result (OfTold (Goes self.new.bus self.new.links.items) (H.calls host.new)) }
+        ensures said { IfErr result (λ stop. OfTold (IsStopped stop) (H.calls host.new)) }
+        ensures same { H.faults host.new ≡ H.faults host.old }
+        ensures cause { IfErr result IsFree }
+    {
+        match self.take_in(host, conn) {
+            Ok(()) => self.give(host, conn),
+            Err(stop) => Err(stop),
+        }
+    }
+
+    /// Each link is served once, in the order in which they joined.
+    fn pass<H: Host>(&mut self, host: &mut H) -> Result<(), Stop>
+        requires serves { Serves (H.links host.old) self.old.links.items }
+        requires goes { OfTold (Goes self.old.bus self.old.links.items) (H.calls host.old) }
+        ensures serves { OnOk result (Serves (H.links host.new) self.new.links.items) }
+        ensures goes { OnOk result (OfTold (Goes self.new.bus self.new.links.items) (H.calls host.new)) }
+        ensures said { IfErr result (λ stop. OfTold (IsStopped stop) (H.calls host.new)) }
+        ensures same { H.faults host.new ≡ H.faults host.old }
+        ensures cause { IfErr result IsFree }
+    {
+        let mut next = if self.links.is_empty() { None } else { Some(0) };
+        for _ in 0..self.links.len() {
+            let Some(at) = next else {
+                return Ok(());
+            };
+            if at >= self.links.len() {
+                return Ok(());
+            }
+            let conn = self.links[at].conn;
+            match self.serve(host, conn) {
+                Ok(()) => {}
+                Err(stop) => return Err(stop),
+            }
+            next = self.behind(conn);
+        }
+        Ok(())
+    }
+
+    /// One round: an accept, and each link is served once.
+    pub(crate) fn round<H: Host>(&mut self, host: &mut H) -> Result<(), Stop>
+        requires serves { Serves (H.links host.old) self.old.links.items }
+        requires goes { OfTold (Goes self.old.bus self.old.links.items) (H.calls host.old) }
+        ensures serves { OnOk result (Serves (H.links host.new) self.new.links.items) }
+        ensures goes { OnOk result (OfTold (Goes self.new.bus self.new.links.items) (H.calls host.new)) }
+        ensures said { IfErr result (λ stop. OfTold (IsStopped stop) (H.calls host.new)) }
+        ensures same { OnOk result (H.faults host.new ≡ H.faults host.old) }
+        ensures cause { IfErr result (λ stop. StopBlames stop (H.faults host.old) (H.faults host.new)) }
+    {
+        match self.admit(host) {
+            Ok(()) => {}
+            Err(stop) => return Err(stop),
+        }
+        self.pass(host)
+    }
+}
