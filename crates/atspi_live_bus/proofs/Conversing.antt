@@ -4,7 +4,6 @@ use Rattle.atspi_auth.specs.Lines.{lines_of}
 use Rattle.atspi_auth.specs.Said.{bytes_of}
 use Rattle.atspi_auth.specs.Talk.{HandsOut, Heard, Standing, Stands, after, behind, ends, heard, hears, hears_bytes, server_start, told}
 use Rattle.atspi_auth.specs.declared.said.AuthLine.{AuthLine}
-use Rattle.atspi_auth.specs.declared.stage.Stage.{Stage}
 use Rattle.atspi_auth.specs.declared.stage.Stage.TheVariants.{Over}
 use Rattle.atspi_auth.proofs.WholeLemmas.{after-append, behind-append, continues}
 use Rattle.atspi_message.specs.Envelope.{Envelope}

@@ -1,6 +1,8 @@
 -- What the bus tells once is fewer afterwards.
-use Rattle.std.proofs.Common.{◌≡◌, ◌<◌, ◌∷◌, length, suc, ap, arith}
-use Rattle.atspi_message.specs.Envelope.{Envelope}
+use Rattle.std.proofs.Common.{◌≡◌, ◌<◌, Bool, true, false, ◌∷◌, ◌++◌, map, length, suc, Option, None, Some, sym, ap, ◌∙◌, arith}
+use Rattle.std.specs.Prelude.{is_some, option_to_list}
+use Rattle.atspi_message.specs.Envelope.{Envelope, envelope_of}
+use Rattle.atspi_message.specs.declared.message.Message.{Message}
 use Rattle.atspi_routing.specs.declared.closing.Closing.{Closing}
 use Rattle.atspi_routing.specs.Queues as queues
 
@@ -8,6 +10,13 @@ pub fewer_own : (old new : queues.Bus) (e : Envelope) → old ≡ record new { o
 fewer_own old new e h =
     let counted : length old.own ≡ suc (length new.own) = ap (λ (b : queues.Bus). length b.own) h in
     omega (arith, counted)
+
+pub fewer_told : (old new : queues.Bus) (o : Option Message) (some : Bool) → some ≡ is_some o → some ≡ true → old ≡ record new { own = map envelope_of (option_to_list o) ++ new.own } → length new.own < length old.own
+fewer_told old new None some s t e = absurd (no (sym s ∙ t))
+  where
+    no : false ≡ true → ⊥
+    no e = cc
+fewer_told old new (Some x) some s t e = fewer_own old new (envelope_of x) e
 
 pub fewer_closings : (old new : queues.Bus) (c : Closing) → old ≡ record new { closings = c ∷ new.closings } → length new.closings < length old.closings
 fewer_closings old new c h =

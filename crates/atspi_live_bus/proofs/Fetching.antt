@@ -7,7 +7,7 @@ use Rattle.atspi_routing.specs.Queues.{queue_of}
 use Rattle.atspi_routing.specs.Queues as queues
 use Rattle.atspi_queues.specs.Change.{with_queue}
 use Rattle.atspi_host.specs.declared.call.Call.{Call}
-use Rattle.atspi_live_bus.specs.Asked.{Asked, popping, handed_to}
+use Rattle.atspi_live_bus.specs.Asked.{popping, handed_to}
 use Rattle.atspi_live_bus.specs.Turns.{Carries, Converses, Fetches, Gives}
 use Rattle.atspi_live_bus.specs.declared.link.Link.{Link}
 use Rattle.atspi_live_bus.proofs.Asking.{both_of_one, handed_both, handed_one, messages_same, one_run, popping_of_one, runs_both}

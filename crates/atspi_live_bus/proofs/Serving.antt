@@ -1,5 +1,5 @@
 -- The links of the bus and those that the host has open, link by link.
-use Rattle.std.proofs.Common.{◌≡◌, ◌≢◌, ℕ, ◌<◌, ◌==◌, List, [], ◌∷◌, ◌++◌, map, take, drop, length, suc, slice_index_or, slice_set, zero, refl, sym, ap, subst, ◌∙◌, inl, inr}
+use Rattle.std.proofs.Common.{◌≡◌, ℕ, ◌<◌, List, [], ◌∷◌, ◌++◌, take, drop, length, suc, slice_index_or, slice_set, zero, refl, sym, ap, subst, ◌∙◌, inl, inr}
 use Rattle.std.proofs.lemmas.Bool.Decides.{eqb_tells}
 use Rattle.std.proofs.lemmas.List.{map-append, map-set, set_split, length-map}
 use Rattle.std.proofs.Math.Seq.{split_at}

@@ -1,5 +1,5 @@
 -- A bus and its links before and after each of its steps, where the host tells its calls.
-use Rattle.std.proofs.Common.{◌≡◌, ℕ, ◌+◌, ◌<◌, List, [], ◌∷◌, ◌++◌, length, Option, None, Some, Result, Ok, Err, slice_index_or, slice_set, refl, sym, ap, subst, ◌∙◌, append-nil}
+use Rattle.std.proofs.Common.{◌≡◌, ℕ, ◌<◌, List, [], ◌∷◌, ◌++◌, length, Option, None, Some, slice_index_or, slice_set, refl, sym, ap, subst, ◌∙◌, append-nil}
 use Rattle.std.specs.List.{remove}
 use Rattle.atspi_message.specs.Envelope.{Envelope}
 use Rattle.atspi_routing.specs.Queues.{leaves}
@@ -7,12 +7,12 @@ use Rattle.atspi_routing.specs.Queues as queues
 use Rattle.atspi_bus.specs.declared.bus.Bus.{Bus}
 use Rattle.atspi_bus.specs.View.{bus_of, given_of}
 use Rattle.atspi_host.specs.declared.call.Did.{Did}
-use Rattle.atspi_host.specs.declared.call.Did.TheVariants.{Done, NotYet, End, Failed}
+use Rattle.atspi_host.specs.declared.call.Did.TheVariants.{Done}
 use Rattle.atspi_host.specs.declared.call.Call.{Call}
 use Rattle.atspi_host.specs.declared.call.Call.TheVariants.{Accept, Close, Listen}
-use Rattle.atspi_host.specs.Calls.{Adds, IsNew, IsUnused, Opens, taken, given}
-use Rattle.atspi_live_bus.specs.Asked.{Asked, taking, Spends, messages_of, handed_to}
-use Rattle.atspi_live_bus.specs.Service.{HasNoCall, IsService, IsSpeech, IsStopped, OfTold}
+use Rattle.atspi_host.specs.Calls.{Adds, IsNew, IsUnused, taken, given}
+use Rattle.atspi_live_bus.specs.Asked.{taking, Spends, messages_of, handed_to}
+use Rattle.atspi_live_bus.specs.Service.{HasNoCall, HasSpent, IsService, IsSpeech, IsStopped, OfTold}
 use Rattle.atspi_live_bus.specs.Serving.{Serves, numbers}
 use Rattle.atspi_live_bus.specs.Stops.{IsWant}
 use Rattle.atspi_live_bus.specs.Turns.{Carries, Converses, Gives, Goes, IsAsked, OthersRest, Seats, Tells}
@@ -136,10 +136,11 @@ none_came b links did calls calls' a g =
 pub service_told : (b : Bus) (links : List Link) (calls : Option (List Call)) → OfTold (Goes b links) calls → OfTold IsService calls
 service_told b links calls g = told_map (Goes b links) IsService calls (λ cs w. service_of b links cs w) g
 
-pub stops_of : (stop : Stop) (calls : Option (List Call)) → (stop ≡ stops.Spent → ⊥) → OfTold IsService calls → OfTold (IsStopped stop) calls
-stops_of stops.HostFailed calls n s = s
-stops_of stops.Spent calls n s = absurd (n refl)
-stops_of stops.NoMemory calls n s = s
+-- and so at each stop
+pub service_stopped : (stop : Stop) (calls : Option (List Call)) → OfTold (IsStopped stop) calls → OfTold IsService calls
+service_stopped stops.HostFailed calls s = s
+service_stopped stops.Spent calls s = told_map HasSpent IsService calls (λ cs h. h.service) s
+service_stopped stops.NoMemory calls s = s
 
 -- before the first link
 pub listened : (b : Bus) (links : List Link) (path : List ℕ) (did : Did) (calls calls' : Option (List Call)) → bus_of b ≡ queues.empty_bus 16777216 → links ≡ [] → OfTold HasNoCall calls → Adds calls calls' (Listen path did) → OfTold (Goes b links) calls'

@@ -1,6 +1,6 @@
 //! The bus and its links, in rounds over a host.
 
-ghost use Rattle.std.specs.Prelude.{◌≡◌, ◌<◌, [], length, IfErr, IfSome, OnOk};
+ghost use Rattle.std.specs.Prelude.{◌≡◌, ◌<◌, [], length, IsTrue, IfErr, IfSome, OnOk};
 ghost use Rattle.std.specs.List.{remove};
 ghost use Rattle.atspi_routing.specs.Queues.{empty_bus};
 ghost use Rattle.atspi_bus.specs.View.{bus_of, given_of};
@@ -102,13 +102,24 @@ impl Hall {
         host.close(gone.number);
     }
 
+    /// The oldest of the bus's own messages is told to nobody else. Whether there was one.
+    fn forget_one(&mut self) -> bool
+        ensures links { self.new.links.items ≡ self.old.links.items }
+        ensures asked { IsAsked (bus_of self.old.bus) (bus_of self.new.bus) }
+        ensures given { given_of self.new.bus ≡ given_of self.old.bus }
+        ensures fewer { IsTrue result → length (bus_of self.new.bus).own < length (bus_of self.old.bus).own }
+    {
+        let oldest = self.bus.own();
+        oldest.is_some()
+    }
+
     /// The bus's own messages are told to nobody else.
     fn forget(&mut self)
         ensures links { self.new.links.items ≡ self.old.links.items }
         ensures asked { IsAsked (bus_of self.old.bus) (bus_of self.new.bus) }
         ensures given { given_of self.new.bus ≡ given_of self.old.bus }
     {
-        'messages: while let Some(_) = self.bus.own() {}
+        'messages: while self.forget_one() {}
     }
 
     /// The link of a connection that the bus closed is closed, where it still stands.

@@ -1,6 +1,6 @@
 use Rattle.std.proofs.Common.{◌∙◌}
 use Rattle.atspi_live_bus.proofs.Ending.{none_served}
-use Rattle.atspi_live_bus.proofs.Stepping.{listened, service_told}
+use Rattle.atspi_live_bus.proofs.Stepping.{listened, nothing_served, service_stopped, service_told}
 use Rattle.atspi_live_bus.proofs.run.bus.Goals as goal
 
 pub loop-init : goal.loop-init
@@ -13,3 +13,10 @@ loop-init g c = record {
 
 pub returns-clause-service : goal.returns-clause-service
 returns-clause-service g c = service_told c.loop.hall.bus c.loop.hall.links.items (g.H.Host.calls c.loop.host) c.loop.invariant.goes
+
+pub returns-in-Err-clause-service : goal.returns-in-Err-clause-service
+returns-in-Err-clause-service g c =
+    nothing_served c.args.path.now c.listen.ensures.calls.0 (g.H.Host.calls c.args.host.now) (g.H.Host.calls c.listen.new.host) c.requires.calls c.listen.ensures.calls.1
+
+pub returns-in-Err-round-clause-service : goal.returns-in-Err-round-clause-service
+returns-in-Err-round-clause-service g c = service_stopped c.in-Err-round.stop (g.H.Host.calls c.round.new.host) c.in-Err-round.ensures.said

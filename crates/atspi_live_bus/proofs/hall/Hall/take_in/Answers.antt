@@ -1,3 +1,4 @@
+use Rattle.std.proofs.Common.{rules, ◌≡◌, true, false}
 use Rattle.atspi_live_bus.proofs.Going.{want_free}
 use Rattle.atspi_live_bus.proofs.Serving.{link_open, turned}
 use Rattle.atspi_live_bus.proofs.Stepping.{heard_goes, lost_stops, lost_told}
@@ -18,13 +19,15 @@ part-requires-clause-serves g c =
 
 pub attend-requires-clause-goes : goal.attend-requires-clause-goes
 attend-requires-clause-goes g c =
+    let goes_on : c.in-Ok-true.field-0 ≡ true = search rules in
     heard_goes c.args.self.now.bus c.args.self.now.links.items c.in-Some.at c.index_mut.result.now c.take_in.new.self (g.H.Host.links c.args.host.now) (g.H.Host.calls c.args.host.now) (g.H.Host.calls c.take_in.new.host)
-    c.in-Some.ensures c.index_mut.ensures.value c.requires.serves c.take_in.ensures.number c.take_in.ensures.conn (rw c.in-Ok-true.field-0-is at c.in-Ok-true.ensures.ok) c.requires.goes
+    c.in-Some.ensures c.index_mut.ensures.value c.requires.serves c.take_in.ensures.number c.take_in.ensures.conn (rw goes_on at c.in-Ok-true.ensures.ok) c.requires.goes
 
 pub part-requires-clause-goes : goal.part-requires-clause-goes
 part-requires-clause-goes g c =
+    let goes_on : c.in-Ok-false.field-0 ≡ false = search rules in
     lost_told c.args.self.now.bus c.args.self.now.links.items c.in-Some.at c.index_mut.result.now c.take_in.new.self (g.H.Host.links c.args.host.now) (g.H.Host.calls c.args.host.now) (g.H.Host.calls c.take_in.new.host)
-    c.in-Some.ensures c.index_mut.ensures.value c.requires.serves (rw c.in-Ok-false.field-0-is at c.in-Ok-false.ensures.ok) c.requires.goes
+    c.in-Some.ensures c.index_mut.ensures.value c.requires.serves (rw goes_on at c.in-Ok-false.ensures.ok) c.requires.goes
 
 pub returns-in-Err-clause-said : goal.returns-in-Err-clause-said
 returns-in-Err-clause-said g c =

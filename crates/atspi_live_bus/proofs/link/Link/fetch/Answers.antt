@@ -1,4 +1,4 @@
-use Rattle.std.proofs.Common.{rules, ◌≡◌, ◌≤◌, ℕ, List, [], ◌++◌, length, take, ap, ◌∙◌, arith}
+use Rattle.std.proofs.Common.{rules, ◌≤◌, length, take, ap, ◌∙◌, arith}
 use Rattle.atspi_auth.specs.Talk.{Standing}
 use Rattle.atspi_routing.specs.Queues.{queue_of}
 use Rattle.atspi_bus.specs.View.{bus_of}
