@@ -1,6 +1,5 @@
-use Rattle.std.proofs.Common.{rules, ◌≡◌, ℕ, ◌==◌, not, Bool, List, refl, ◌∙◌, ap}
+use Rattle.std.proofs.Common.{rules, ◌==◌, not, ◌∙◌, ap}
 use Rattle.std.proofs.lemmas.Fn.{filter_same}
-use Rattle.atspi_host.specs.Calls.{without}
 use Rattle.atspi_live.specs.Numbers.{numbers}
 use Rattle.atspi_live.proofs.LinkLemmas.{without_filter}
 use Rattle.atspi_live.proofs.net.NetHostHost.close.Goals as goal
