@@ -26,6 +26,8 @@ const CELLS: &str = "\
 2 Table IsSelected i=1 i=0 -> b [true]
 2 - IsSelected i=1 i=1 -> b [true]
 2 Table IsSelected i=2 i=0 -> b [false]
+2 Table IsSelected i=1 i=2 -> b [false]
+2 Table IsSelected i=1 i=-1 -> b [false]
 2 Table IsSelected i=-1 i=0 -> b [false]
 2 Table IsSelected i=-2147483648 i=2147483647 -> b [false]
 2 Table GetRowAtIndex i=0 -> i [0]

@@ -14,6 +14,8 @@ mod edits;
 #[cfg(test)]
 mod nodes;
 #[cfg(test)]
+mod others;
+#[cfg(test)]
 mod places;
 #[cfg(test)]
 mod plays;
@@ -25,6 +27,8 @@ mod starting;
 mod tables;
 #[cfg(test)]
 mod texts;
+#[cfg(test)]
+mod wide;
 #[cfg(test)]
 mod worked;
 #[cfg(test)]

@@ -1,6 +1,8 @@
 //! Paths, interfaces and members that are not there.
 
 use crate::tables::answers;
+use atspi_message_words::{bytes_of, lent};
+use std::alloc::Global;
 
 /// Paths that nearly name a node; nodes that were removed; interfaces that a node lacks; members of another interface.
 const PLACES: &str = "\
@@ -11,6 +13,10 @@ const PLACES: &str = "\
 4294967297 Accessible GetRole -> !UnknownObject
 18446744073709551617 Accessible GetRole -> !UnknownObject
 1/1 Accessible GetRole -> !UnknownObject
+001 Accessible GetRole -> !UnknownObject
+/org/a11y/atspi/accessible/root/1 Accessible GetRole -> !UnknownObject
+/org/a11y/atspi/accessible/_1 Accessible GetRole -> !UnknownObject
+/org/a11y/atspi/cache/1 Accessible GetRole -> !UnknownObject
 1a Accessible GetRole -> !UnknownObject
 / Accessible GetRole -> !UnknownObject
 /org/a11y/atspi/accessible Accessible GetRole -> !UnknownObject
@@ -52,4 +58,39 @@ edit a0 move 9 3 0 -> -
 #[test]
 fn others_are_refused(rt: HostRuntime) {
     assert!(rt; answers(&rt, PLACES));
+}
+
+/// Whether the bytes of a line, which is one, are a message.
+fn is_message(alloc: Global, line: &str) -> Option<bool> {
+    let bytes = bytes_of(alloc, line)?;
+    Some(lent(bytes.as_slice()).is_some())
+}
+
+/// Whether a call by a path is a message.
+fn is_called(alloc: Global, path: &str) -> Option<bool> {
+    let line = format!(in alloc; "call 5 :1.6 {path} Accessible GetRole").ok()?;
+    is_message(alloc, &line)
+}
+
+/// Whether calls by each of some paths are messages, or none of them is.
+fn are_called(alloc: Global, paths: &str, called: bool) -> bool {
+    for path in paths.lines() {
+        if is_called(alloc, path) != Some(called) {
+            return false;
+        }
+    }
+    true
+}
+
+/// A slash behind a path, two of them, or a character that no path has, make it none, and the call no message.
+#[test]
+fn paths_that_are_none(rt: HostRuntime) {
+    assert!(rt; are_called(rt.alloc(), "1\nroot\n/\n/org/a11y/atspi/accessible", true));
+    assert!(rt;
+        are_called(
+            rt.alloc(),
+            "1/\nroot/\n1//1\n1-\n/org/a11y/atspi/accessible/\norg/a11y",
+            false
+        )
+    );
 }

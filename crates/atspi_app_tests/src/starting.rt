@@ -103,6 +103,14 @@ const STOPPED: &str = "\
 1 return 1 bus 1 s=org.a.b
 1 return 1 bus 1 s=:
 1 return 1 bus 1 s=:1.5 s=:1.5
+1 return 1 bus 1 s=
+1 return 1 bus 1 s=:1
+1 return 1 bus 1 s=:1.
+1 return 1 bus 1 s=1.5
+1 return 1 bus 1 o=/a
+1 return 1 bus 1 v=:1.5
+1 return 1 bus 1 as=:1.5
+1 return 1 :1.9 1 u=5
 1 error 1 bus 1 a.b
 1 error 1 bus 1 a.b s=:1.5
 1 error 1 :1.9 1 a.b
@@ -117,11 +125,33 @@ const LATER: &str = "\
 3 return 3 :1.0 3 as=
 3 return 3 :1.0 3 a(so)=
 3 return 3 :1.0 3 a(ss)=:1.2@object;no@object
+3 return 3 :1.0 3 a(ss)=@object
+3 return 3 :1.0 3 (ss)=:1.2@object
+3 return 3 :1.0 3 v(ss)=:1.2@object
+3 return 3 :1.9 3 u=0
 3 return 3 :1.0 3 a(ss)= a(ss)=
 3 return 3 :1.0 3 s=
 4 error 4 :1.0 4 a.b
+4 error 4 :1.9 4 a.b s=no
+4 return 4 :1.0 4 (so)=:1.0@/x
 4 return 4 :1.0 4
 4 return 4 :1.0 4 u=3
+";
+
+/// A start that ended at its second call: later returns are none, but its name stays, listeners are heard, and it tells them what it does.
+const GOES_ON: &str = "\
+> start
+sent a0 call l 0 1 path=/org/freedesktop/DBus interface=org.freedesktop.DBus member=Hello destination=org.freedesktop.DBus
+> return 1 bus 1 s=:1.5
+sent a0 call l 0 2 path=/org/freedesktop/DBus interface=org.freedesktop.DBus member=AddMatch destination=org.freedesktop.DBus signature=s [\"type='signal',sender='org.a11y.atspi.Registry',interface='org.a11y.atspi.Registry'\"]
+> error 2 bus 2 a.b
+> return 2 bus 2
+> return 3 :1.0 3 a(ss)=:1.3@object
+> signal 9 :1.0 registry Registry EventListenerRegistered s=:1.2 s=object:property-change
+hears a0 :1.2 \"object:property-change\"
+> edit a0 name 0 \"x\"
+step a0 name 0 \"x\"
+sent a0 signal l 1 3 path=/org/a11y/atspi/accessible/root interface=org.a11y.atspi.Event.Object member=PropertyChange signature=siiva{sv} [\"accessible-name\" 0 0 <s \"x\"> []]
 ";
 
 /// Nothing is sent but Hello.
@@ -134,6 +164,12 @@ fn nobody_is_told(rt: HostRuntime) {
 #[test]
 fn listeners_are_heard(rt: HostRuntime) {
     assert!(rt; goes(&rt, HEARD));
+}
+
+/// What is left where the start has ended.
+#[test]
+fn a_start_that_ended_goes_no_further(rt: HostRuntime) {
+    assert!(rt; goes(&rt, GOES_ON));
 }
 
 /// Caret and selections stay; what is cut and put in then is as it would have been.

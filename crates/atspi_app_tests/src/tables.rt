@@ -119,6 +119,15 @@ fn put_table(alloc: Global, script: &mut String, table: &str) -> Option<()> {
     Some(())
 }
 
+/// The start of an application, and how it gets the example.
+pub(crate) fn example(alloc: Global) -> Option<String> {
+    let mut script = String::from_str(alloc, NAMED).ok()?;
+    match put_table(alloc, &mut script, EXAMPLE) {
+        Some(()) => Some(script),
+        None => None,
+    }
+}
+
 /// Whether an application with the root alone does what stands in a table.
 pub(crate) fn makes(rt: &HostRuntime, table: &str) -> bool {
     let mut script = String::new(rt.alloc());

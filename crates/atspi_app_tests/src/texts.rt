@@ -1,6 +1,6 @@
 //! Calls of the interfaces Text and EditableText, of a node with the text `héllo`.
 
-use crate::tables::answers;
+use crate::tables::{answers, makes};
 
 /// What is told of a text, with its caret at 2 and `él` and `o` selected, and what calls do to it; each call meets what those before it left.
 const TEXTS: &str = "\
@@ -9,6 +9,8 @@ const TEXTS: &str = "\
 1 Text GetText i=0 i=6 -> s [\"héllo\"]
 1 Text GetText i=0 i=2147483647 -> s [\"héllo\"]
 1 Text GetText i=-2147483648 i=-2147483648 -> s [\"héllo\"]
+1 Text GetText i=0 i=-2147483648 -> s [\"héllo\"]
+1 Text GetText i=2147483647 i=-2147483648 -> s [\"\"]
 1 Text GetText i=-1 i=2 -> s [\"hé\"]
 1 Text GetText i=1 i=-1 -> s [\"éllo\"]
 1 - GetText i=1 i=3 -> s [\"él\"]
@@ -51,6 +53,10 @@ const TEXTS: &str = "\
 1 Text AddSelection i=-1 i=3 -> b [false]
 1 Text AddSelection i=0 i=-1 -> b [false]
 1 Text AddSelection i=-2147483648 i=2147483647 -> b [false]
+1 Text AddSelection i=-2147483648 i=3 -> b [false]
+1 Text AddSelection i=0 i=2147483647 -> b [false]
+1 Text AddSelection i=5 i=5 -> b [false]
+1 Text AddSelection i=2147483647 i=-1 -> b [false]
 1 Text RemoveSelection i=4 -> marks 1 1 3 4 5 0 2 0 5 => b [true]
 1 Text RemoveSelection i=2 -> marks 1 1 3 4 5 0 5 => b [true]
 1 Text RemoveSelection i=2 -> marks 1 1 3 4 5 => b [true]
@@ -67,6 +73,9 @@ const TEXTS: &str = "\
 1 Text SetSelection i=0 i=-1 i=3 -> b [false]
 1 Text SetSelection i=-1 i=0 i=1 -> b [false]
 1 Text SetSelection i=2147483647 i=0 i=1 -> b [false]
+1 Text SetSelection i=-2147483648 i=0 i=1 -> b [false]
+1 Text SetSelection i=0 i=3 i=1 -> b [false]
+1 Text SetSelection i=0 i=-2147483648 i=2147483647 -> b [false]
 1 Text GetSelection i=1 -> ii [0 5]
 1 EditableText DeleteText i=2 i=2 -> b [true]
 1 EditableText DeleteText i=5 i=5 -> b [true]
@@ -75,6 +84,10 @@ const TEXTS: &str = "\
 1 EditableText DeleteText i=-1 i=2 -> b [false]
 1 EditableText DeleteText i=0 i=-1 -> b [false]
 1 EditableText DeleteText i=-2147483648 i=2147483647 -> b [false]
+1 EditableText DeleteText i=-2147483648 i=3 -> b [false]
+1 EditableText DeleteText i=0 i=2147483647 -> b [false]
+1 EditableText DeleteText i=5 i=6 -> b [false]
+1 EditableText DeleteText i=2147483647 i=2147483647 -> b [false]
 1 Text GetNSelections -> i [2]
 1 EditableText DeleteText i=0 i=1 -> caret 1 4|delete 1 0 \"h\" => b [true]
 1 Text GetNSelections -> i [0]
@@ -86,6 +99,8 @@ const TEXTS: &str = "\
 1 EditableText InsertText i=0 s= i=0 -> b [true]
 1 EditableText InsertText i=7 s=x i=1 -> b [false]
 1 EditableText InsertText i=-1 s=x i=1 -> b [false]
+1 EditableText InsertText i=-2147483648 s=x i=1 -> b [false]
+1 EditableText InsertText i=7 s= i=0 -> b [false]
 1 EditableText InsertText i=2147483647 s=x i=1 -> b [false]
 1 Text GetText i=0 i=-1 -> s [\"xélyzé\"]
 1 EditableText SetTextContents s=hi -> caret 1 0|delete 1 0 \"xélyzé\"|insert 1 0 \"hi\" => b [true]
@@ -99,8 +114,43 @@ edit a0 insert 0 0 label \"S\" static \"fixed\" -> add 9 0 0 label \"S\" static 
 9 EditableText SetTextContents s=hi -> !UnknownInterface
 ";
 
+/// A text has at most sixteen selections.
+const SIXTEEN: &str = "\
+edit a0 insert 0 0 text \"E\" text \"héllo\" -> add 1 0 0 text \"E\" text \"héllo\"
+1 Text AddSelection i=0 i=1 -> marks 1 0 1 => b [true]
+1 Text AddSelection i=1 i=2 -> marks 1 0 1 1 2 => b [true]
+1 Text AddSelection i=2 i=3 -> marks 1 0 1 1 2 2 3 => b [true]
+1 Text AddSelection i=3 i=4 -> marks 1 0 1 1 2 2 3 3 4 => b [true]
+1 Text AddSelection i=4 i=5 -> marks 1 0 1 1 2 2 3 3 4 4 5 => b [true]
+1 Text AddSelection i=0 i=2 -> marks 1 0 1 1 2 2 3 3 4 4 5 0 2 => b [true]
+1 Text AddSelection i=1 i=3 -> marks 1 0 1 1 2 2 3 3 4 4 5 0 2 1 3 => b [true]
+1 Text AddSelection i=2 i=4 -> marks 1 0 1 1 2 2 3 3 4 4 5 0 2 1 3 2 4 => b [true]
+1 Text AddSelection i=3 i=5 -> marks 1 0 1 1 2 2 3 3 4 4 5 0 2 1 3 2 4 3 5 => b [true]
+1 Text AddSelection i=0 i=3 -> marks 1 0 1 1 2 2 3 3 4 4 5 0 2 1 3 2 4 3 5 0 3 => b [true]
+1 Text AddSelection i=1 i=4 -> marks 1 0 1 1 2 2 3 3 4 4 5 0 2 1 3 2 4 3 5 0 3 1 4 => b [true]
+1 Text AddSelection i=2 i=5 -> marks 1 0 1 1 2 2 3 3 4 4 5 0 2 1 3 2 4 3 5 0 3 1 4 2 5 => b [true]
+1 Text AddSelection i=0 i=4 -> marks 1 0 1 1 2 2 3 3 4 4 5 0 2 1 3 2 4 3 5 0 3 1 4 2 5 0 4 => b [true]
+1 Text AddSelection i=1 i=5 -> marks 1 0 1 1 2 2 3 3 4 4 5 0 2 1 3 2 4 3 5 0 3 1 4 2 5 0 4 1 5 => b [true]
+1 Text AddSelection i=0 i=5 -> marks 1 0 1 1 2 2 3 3 4 4 5 0 2 1 3 2 4 3 5 0 3 1 4 2 5 0 4 1 5 0 5 => b [true]
+1 Text AddSelection i=0 i=5 -> marks 1 0 1 1 2 2 3 3 4 4 5 0 2 1 3 2 4 3 5 0 3 1 4 2 5 0 4 1 5 0 5 0 5 => b [true]
+1 Text AddSelection i=0 i=1 -> b [false]
+edit a0 mark 1 0 1 -> !no such place in the text
+1 Text GetNSelections -> i [16]
+1 Text GetSelection i=15 -> ii [0 5]
+1 Text GetSelection i=16 -> ii [-1 -1]
+1 Text RemoveSelection i=16 -> b [false]
+1 Text RemoveSelection i=14 -> marks 1 0 1 1 2 2 3 3 4 4 5 0 2 1 3 2 4 3 5 0 3 1 4 2 5 0 4 1 5 0 5 => b [true]
+1 Text AddSelection i=2 i=3 -> marks 1 0 1 1 2 2 3 3 4 4 5 0 2 1 3 2 4 3 5 0 3 1 4 2 5 0 4 1 5 0 5 2 3 => b [true]
+";
+
 /// Offsets inside and outside of a text, and numbers at both ends of their range.
 #[test]
 fn texts_are_told_and_changed(rt: HostRuntime) {
     assert!(rt; answers(&rt, TEXTS));
+}
+
+/// The seventeenth is refused, and the next one behind a removal is not.
+#[test]
+fn sixteen_selections(rt: HostRuntime) {
+    assert!(rt; makes(&rt, SIXTEEN));
 }

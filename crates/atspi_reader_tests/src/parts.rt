@@ -20,6 +20,25 @@ return 29 :1.7 18 v=hi -> 19 Get :1.7 /b org.a11y.atspi.Text
 error 30 bus 19 a.b -> 20 Get :1.7 /b org.a11y.atspi.Table
 return 31 :1.7 20 vi=3 -> -
 rows :1.7 -> /r Pad - - -, /b</r@0 Grid ? ? 3
+# 10 An error to each wish of a node, and each reply of another form
+return 10 :1.0 10 a(so)=:1.7@/r -> 11 GetItems :1.7 /org/a11y/atspi/cache
+return 20 :1.7 11 items=:1.7;/r,/,-1,-,75,Pad;/b,/r,0,tc,55,Grid -> 12 GetText :1.7 /b
+error 21 :1.7 12 a.b s=hi -> 13 Get :1.7 /b org.a11y.atspi.Text
+error 22 :1.7 13 a.b vi=1 -> 14 Get :1.7 /b org.a11y.atspi.Table
+error 23 bus 14 a.b vi=2 -> -
+rows :1.7 -> /r Pad - - -, /b</r@0 Grid ? ? ?
+signal 24 :1.7 /r Event.Object ChildrenChanged s=add i=0 i=0 v(so)=:1.7@/c a{sv}= -> 15 GetItems :1.7 /org/a11y/atspi/cache
+return 25 :1.7 15 items=:1.7;/r,/,-1,-,75,Pad;/b,/r,0,tc,55,Grid -> 16 GetText :1.7 /b
+return 26 :1.7 16 -> 17 Get :1.7 /b org.a11y.atspi.Text
+return 27 :1.7 17 i=1 -> 18 Get :1.7 /b org.a11y.atspi.Table
+return 28 :1.7 18 vu=3 -> -
+rows :1.7 -> /r Pad - - -, /b</r@0 Grid ? ? ?
+signal 29 :1.7 /r Event.Object ChildrenChanged s=add i=0 i=0 v(so)=:1.7@/c a{sv}= -> 19 GetItems :1.7 /org/a11y/atspi/cache
+return 30 :1.7 19 items=:1.7;/r,/,-1,-,75,Pad;/b,/r,0,tc,55,Grid -> 20 GetText :1.7 /b
+return 31 :1.7 20 s=hi s=ho -> 21 Get :1.7 /b org.a11y.atspi.Text
+return 32 :1.7 21 v=1 -> 22 Get :1.7 /b org.a11y.atspi.Table
+return 33 :1.7 22 vi=-1 -> -
+rows :1.7 -> /r Pad - - -, /b</r@0 Grid ? ? ?
 # 10 Items that are refused, or of another form, make an application unknown; the next one is asked
 return 10 :1.0 10 a(so)=:1.6@/r;:1.7@/r;:1.8@/r;:1.9@/r -> 11 GetItems :1.6 /org/a11y/atspi/cache
 error 20 bus 11 a.b -> 12 GetItems :1.7 /org/a11y/atspi/cache

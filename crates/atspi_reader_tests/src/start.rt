@@ -32,6 +32,29 @@ return 4 :1.9 1 s=:1.5 -> 2 AddMatch org.freedesktop.DBus /org/freedesktop/DBus 
 return 5 :1.9 1 s=:1.5 -> -
 error 6 :1.9 1 a.b -> -
 return 7 :1.9 2 -> 3 AddMatch org.freedesktop.DBus /org/freedesktop/DBus type='signal',interface='org.a11y.atspi.Cache'
+# 1 Returns to the calls behind Hello count whatever is in them, but for that to GetChildren
+return 1 bus 1 s=:1.5 -> 2 AddMatch org.freedesktop.DBus /org/freedesktop/DBus type='signal',interface='org.freedesktop.DBus',member='NameOwnerChanged'
+return 2 bus 2 u=3 -> 3 AddMatch org.freedesktop.DBus /org/freedesktop/DBus type='signal',interface='org.a11y.atspi.Cache'
+return 3 - 3 a(so)=:1.7@/r -> 4 AddMatch org.freedesktop.DBus /org/freedesktop/DBus type='signal',interface='org.a11y.atspi.Event.Object'
+return 4 bus 4 s= -> 5 RegisterEvent org.a11y.atspi.Registry /org/a11y/atspi/registry object:children-changed
+return 5 :1.9 5 b=true -> 6 RegisterEvent org.a11y.atspi.Registry /org/a11y/atspi/registry object:property-change
+return 6 :1.0 6 v=x -> 7 RegisterEvent org.a11y.atspi.Registry /org/a11y/atspi/registry object:state-changed
+return 7 :1.0 7 as=a;b -> 8 RegisterEvent org.a11y.atspi.Registry /org/a11y/atspi/registry object:text-changed
+return 8 :1.0 8 g=as -> 9 RegisterEvent org.a11y.atspi.Registry /org/a11y/atspi/registry object:text-caret-moved
+return 9 :1.0 9 i=-1 s=x -> 10 GetChildren org.a11y.atspi.Registry /org/a11y/atspi/accessible/root
+return 10 :1.0 10 a(so)= -> -
+# 1 Hello returns another body
+return 1 bus 1 o=/a -> -
+return 2 bus 1 s=:1.5 -> -
+# 1 Hello returns another body
+return 1 bus 1 as=:1.5 -> -
+return 2 bus 1 s=:1.5 -> -
+# 1 Hello returns another body
+return 1 bus 1 s=:1 -> -
+return 2 bus 1 s=:1.5 -> -
+# 1 Hello returns another body
+return 1 bus 1 u=15 -> -
+return 2 bus 1 s=:1.5 -> -
 # 1 Hello returns another body
 return 1 bus 1 -> -
 return 2 bus 1 s=:1.5 -> -
@@ -47,6 +70,12 @@ return 2 bus 1 s=:1.5 -> -
 # 1 Hello returns another body
 return 1 bus 1 v=:1.5 -> -
 return 2 bus 1 s=:1.5 -> -
+# 10 GetChildren returns another body
+return 10 :1.0 10 a(ss)=:1.7@/r -> -
+return 11 :1.0 10 a(so)=:1.7@/r -> -
+# 10 GetChildren returns another body
+return 10 :1.0 10 a(so)=:1.7@/r a(so)=:1.7@/r -> -
+return 11 :1.0 10 a(so)=:1.7@/r -> -
 # 10 GetChildren returns another body
 return 10 :1.0 10 -> -
 return 11 :1.0 10 a(so)=:1.7@/r -> -
