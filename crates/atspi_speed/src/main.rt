@@ -2,11 +2,18 @@
 //! product, the others are its module's. `each` does a little of each part.
 #![tactic(auto)]
 
+mod app;
 mod cache;
 mod events;
 mod faces;
+mod failing;
+mod failing_app;
+mod failing_reader;
+mod failing_texts;
 mod lines;
 mod pool;
+mod reader;
+mod reader_messages;
 mod registry;
 mod tree;
 mod values;
@@ -41,6 +48,9 @@ fn work(rt: &HostRuntime, part: &str, words: &[&str]) -> Result<()> {
         "faces" => faces::run(rt, words),
         "tree" => tree::run(rt, words),
         "cache" => cache::run(rt, words),
+        "app" => app::run(rt, words),
+        "reader" => reader::run(rt, words),
+        "failing" => failing::run(rt, words),
         _ => bail!("no such part: {part}"),
     }
 }
@@ -54,5 +64,11 @@ fn each(rt: &HostRuntime) -> Result<()> {
     registry::run(rt, &["60", "4", "10"])?;
     faces::run(rt, &["1000", "10"])?;
     tree::run(rt, &["100", "200", "3", "1"])?;
-    cache::run(rt, &["mixed", "60", "40", "all"])
+    cache::run(rt, &["mixed", "60", "40", "all"])?;
+    app::run(rt, &["60", "10"])?;
+    reader::run(rt, &["news", "60", "40"])?;
+    reader::run(rt, &["parts", "60"])?;
+    reader::run(rt, &["children", "60"])?;
+    failing::run(rt, &["app"])?;
+    failing::run(rt, &["reader"])
 }
