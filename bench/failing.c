@@ -1,4 +1,4 @@
-/* malloc and realloc of which one request fails, for `atspi_speed failing` (bench/failing.sh, by LD_PRELOAD). The program chooses it by the size of a request: behind one
+/* malloc and realloc of which one request fails, for `atspi_failing` (bench/failing.sh, by LD_PRELOAD). The program chooses it by the size of a request: behind one
  * of 16,000,000 + k bytes the k-th fails, none where k is 0; one of 15,999,999 bytes fails itself where one failed since the last of those, and behind it none does. */
 #define _GNU_SOURCE
 #include <dlfcn.h>

@@ -6,12 +6,12 @@ set -eu
 top=$(cd "$(dirname "$0")/.." && pwd)
 work=$(mktemp -d)
 trap 'rm -rf "$work"' EXIT
-(cd "$top/crates/atspi_speed" && rt run -- each) >"$work/build" 2>&1 || { cat "$work/build" >&2; exit 1; }
-program=$top/crates/atspi_speed/out/atspi_speed
+(cd "$top/crates/atspi_failing" && rt run -- app) >"$work/build" 2>&1 || { cat "$work/build" >&2; exit 1; }
+program=$top/crates/atspi_failing/out/atspi_failing
 cc -O2 -Wall -Wextra -shared -fPIC -o "$work/failing.so" "$top/bench/failing.c" -ldl
 for end in app reader; do
     echo "# $end"
-    LD_PRELOAD=$work/failing.so "$program" failing "$end" >"$work/$end" || { cat "$work/$end"; exit 1; }
+    LD_PRELOAD=$work/failing.so "$program" "$end" >"$work/$end" || { cat "$work/$end"; exit 1; }
     cat "$work/$end"
     awk '{ f += $1; w += $3 } END { print f " requests failed, " w " wanting" }' "$work/$end"
 done

@@ -46,7 +46,7 @@ pub(crate) fn run(rt: &HostRuntime, words: &[&str]) -> Result<()> {
 }
 
 /// A new application, whose root has the name `Demo`, over three empty faces.
-pub(crate) fn begun(alloc: Global) -> Option<App>
+fn begun(alloc: Global) -> Option<App>
     ensures { IfSome result (λ app. IsExported (⟦<Exported as Exports>⟧.kinds app.exported) (⟦<Exported as Exports>⟧.parts app.exported)) }
 {
     let chars: Box<dyn Face> = Box::new(alloc, PlainText::new(alloc)).ok()?;

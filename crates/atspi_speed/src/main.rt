@@ -6,10 +6,6 @@ mod app;
 mod cache;
 mod events;
 mod faces;
-mod failing;
-mod failing_app;
-mod failing_reader;
-mod failing_texts;
 mod lines;
 mod pool;
 mod reader;
@@ -50,7 +46,6 @@ fn work(rt: &HostRuntime, part: &str, words: &[&str]) -> Result<()> {
         "cache" => cache::run(rt, words),
         "app" => app::run(rt, words),
         "reader" => reader::run(rt, words),
-        "failing" => failing::run(rt, words),
         _ => bail!("no such part: {part}"),
     }
 }
@@ -68,7 +63,5 @@ fn each(rt: &HostRuntime) -> Result<()> {
     app::run(rt, &["60", "10"])?;
     reader::run(rt, &["news", "60", "40"])?;
     reader::run(rt, &["parts", "60"])?;
-    reader::run(rt, &["children", "60"])?;
-    failing::run(rt, &["app"])?;
-    failing::run(rt, &["reader"])
+    reader::run(rt, &["children", "60"])
 }

@@ -1,12 +1,7 @@
-//! Scripts in which each request for memory fails in turn, a line after the other (bench/failing.sh): `app` has one of an application, `reader` one of a reader. A line at
-//! which a request fails ends with want of memory, or as it would have; what was not done is done once more then, and all that happens in the whole script has to be what
-//! happens where nothing fails.
-//!
-//! The requests fail where the program runs over the allocator of bench/failing.c, to which it speaks by requests of sizes that it has no other use for. Without it
-//! nothing fails, and each line is counted with none.
+//! Requests for memory that fail. They do where the program runs over the allocator of bench/failing.c, to which it speaks by requests of sizes that it has no other use
+//! for; without that none fails.
 
-use crate::{failing_app, failing_reader};
-use anyhow::{Result, bail};
+use anyhow::Result;
 use std::alloc::Global;
 
 /// The size of a request behind which all are met. A request of k bytes more has the k-th one behind it fail.
@@ -30,15 +25,6 @@ pub(crate) struct Tried {
 pub(crate) struct Count {
     pub(crate) failed: u32,
     pub(crate) wanting: u32,
-}
-
-/// Does the work that these words name.
-pub(crate) fn run(rt: &HostRuntime, words: &[&str]) -> Result<()> {
-    match words {
-        ["app"] => failing_app::run(rt),
-        ["reader"] => failing_reader::run(rt),
-        _ => bail!("app or reader is wanted"),
-    }
 }
 
 /// From here on the k-th request for memory fails, none where that is 0.

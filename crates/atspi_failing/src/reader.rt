@@ -1,7 +1,7 @@
 //! The script of a reader in which each request for memory fails in turn: its start, its first load, parts, news of each kind, a load anew, and an end.
 
-use crate::failing::{Count, MOST, Tried, counted, fail, has_failed, show};
-use crate::failing_texts::{put_event, put_row};
+use crate::requests::{Count, MOST, Tried, counted, fail, has_failed, show};
+use crate::texts::{put_event, put_row};
 use anyhow::{Context, Result};
 use atspi_base::Bytes;
 use atspi_header::MessageRef;

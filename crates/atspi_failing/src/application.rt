@@ -1,15 +1,16 @@
 //! The script of an application in which each request for memory fails in turn: its start, a listener, an insertion of a node, calls that change a text, an exchange of
 //! faces, what is told of its items, and a removal.
 
+ghost use Rattle.std.specs.Prelude.{IfSome};
 ghost use Rattle.atspi_exported.specs.Parts.{IsExported};
 
-use crate::app::begun;
-use crate::failing::{Count, MOST, Tried, counted, fail, has_failed, show};
+use crate::requests::{Count, MOST, Tried, counted, fail, has_failed, show};
 use anyhow::{Context, Result};
-use atspi_app::{App, AppFault, Exported, Exports};
-use atspi_app_cases::play;
+use atspi_app::{App, AppFault, Exported, Exports, Kit};
+use atspi_app_cases::{made, play};
 use atspi_base::Bytes;
-use atspi_faces::GapText;
+use atspi_face::Face;
+use atspi_faces::{Deeds, GapText, Grid, PlainText};
 use atspi_lines::{Line, parse_line};
 use atspi_message_words::{bytes_of, lent};
 use std::alloc::Global;
@@ -74,6 +75,16 @@ fn played_as_due(alloc: Global, number: usize, k: u32, due: &[u8]) -> Option<Tri
         return Some(tried);
     }
     None
+}
+
+/// A new application over three empty faces.
+fn begun(alloc: Global) -> Option<App>
+    ensures { IfSome result (λ app. IsExported (⟦<Exported as Exports>⟧.kinds app.exported) (⟦<Exported as Exports>⟧.parts app.exported)) }
+{
+    let chars: Box<dyn Face> = Box::new(alloc, PlainText::new(alloc)).ok()?;
+    let grid: Box<dyn Face> = Box::new(alloc, Grid::new(alloc)).ok()?;
+    let deeds: Box<dyn Face> = Box::new(alloc, Deeds::new(alloc)).ok()?;
+    made(alloc, "Demo", Kit { chars, grid, deeds })
 }
 
 /// Plays the script with a new application.
