@@ -3,11 +3,10 @@
 //! Timed are the reading of a message where it lies, what the application does with it, and the taking of its reply from the queue; the items are told once more, with
 //! the writing of the reply. How a call is made is not timed.
 
-ghost use Rattle.std.specs.Prelude.{IfSome};
-ghost use Rattle.atspi_exported.specs.Parts.{IsExported};
+ghost use Rattle.atspi_exported.specs.Parts.{AreEmpty, AreKinds, IsExported};
 
 use anyhow::{Context, Result, bail};
-use atspi_app::{App, Exported, Exports, Kit};
+use atspi_app::{App, Boxes, Exported, Exports, Kit};
 use atspi_app_cases::{made, play, said, send};
 use atspi_base::Bytes;
 use atspi_face::Face;
@@ -39,20 +38,21 @@ pub(crate) fn run(rt: &HostRuntime, words: &[&str]) -> Result<()> {
         nodes: nodes.parse::<u32>()?,
         calls: calls.parse::<u32>()?,
     };
-    match begun(rt.alloc()) {
+    let chars: Box<dyn Face> = Box::new(rt.alloc(), PlainText::new(rt.alloc()))?;
+    let grid: Box<dyn Face> = Box::new(rt.alloc(), Grid::new(rt.alloc()))?;
+    let deeds: Box<dyn Face> = Box::new(rt.alloc(), Deeds::new(rt.alloc()))?;
+    measure_over(rt, Kit { chars, grid, deeds }, size)
+}
+
+/// All measurements, of a new application over these faces.
+fn measure_over(rt: &HostRuntime, kit: Kit, size: Size) -> Result<()>
+    requires kinds { AreKinds (⟦<Kit as Boxes>⟧.kinds kit) }
+    requires empty { AreEmpty (⟦<Kit as Boxes>⟧.faces kit) }
+{
+    match made(rt.alloc(), "Demo", kit) {
         Some(mut app) => measure(rt, &mut app, size),
         None => bail!("out of memory"),
     }
-}
-
-/// A new application, whose root has the name `Demo`, over three empty faces.
-fn begun(alloc: Global) -> Option<App>
-    ensures { IfSome result (λ app. IsExported (⟦<Exported as Exports>⟧.kinds app.exported) (⟦<Exported as Exports>⟧.parts app.exported)) }
-{
-    let chars: Box<dyn Face> = Box::new(alloc, PlainText::new(alloc)).ok()?;
-    let grid: Box<dyn Face> = Box::new(alloc, Grid::new(alloc)).ok()?;
-    let deeds: Box<dyn Face> = Box::new(alloc, Deeds::new(alloc)).ok()?;
-    made(alloc, "Demo", Kit { chars, grid, deeds })
 }
 
 /// All measurements, one behind another.
