@@ -1,6 +1,6 @@
 #!/usr/bin/env bash
-# An application of 1,000 to 8,000 nodes: all its items, and the state, the name and the children of a node; nanoseconds by the clock (which the program writes to standard
-# error), the least of RUNS runs, the bytes of the reply that has all items, and the growth from the first size to the last.
+# An application of 1,000 to 8,000 nodes: all its items, and the state, the name and the children of a node; nanoseconds of processor time (bench/clock.c; the program writes them to
+# standard error), the least of RUNS runs, the bytes of the reply that has all items, and the growth from the first size to the last.
 # usage: bench/app.sh [CALLS [RUNS]]
 set -eu
 top=$(cd "$(dirname "$0")/.." && pwd)
@@ -8,11 +8,14 @@ calls=${1:-100000}
 runs=${2:-5}
 (cd "$top/crates/atspi_speed" && rt run -- each) >/dev/null 2>&1 || { echo "it could not be built" >&2; exit 1; }
 program=$top/crates/atspi_speed/out/atspi_speed
+work=$(mktemp -d)
+trap 'rm -rf "$work"' EXIT
+cc -O2 -Wall -Wextra -shared -fPIC -o "$work/clock.so" "$top/bench/clock.c"
 
 echo "load: $(cut -d' ' -f1-3 /proc/loadavg), processors: $(nproc)"
 for nodes in 1000 2000 4000 8000; do
     for _run in $(seq "$runs"); do
-        "$program" app "$nodes" "$calls" 2>&1 | tr -d ',' | tr '\n' ' '
+        LD_PRELOAD=$work/clock.so "$program" app "$nodes" "$calls" 2>&1 | tr -d ',' | tr '\n' ' '
         echo
     done | awk -v n="$nodes" '
         function least(name, value) { if (!(name in all) || value + 0 < all[name]) all[name] = value + 0 }

@@ -1,7 +1,7 @@
 #!/usr/bin/env bash
 # A reader among 1,000 to 8,000 rows or applications: news of an application whose parts are known beside the reading and folding of the same news with a cache alone, as a
 # ratio of the two in one run (the least, the middle and the greatest of RUNS runs); a part that is asked for and told; an application that a reply tells, and its error.
-# Nanoseconds by the clock (which the program writes to standard error), the least of the runs.
+# Nanoseconds of processor time (bench/clock.c; the program writes them to standard error), the least of the runs.
 # usage: bench/reader.sh [NEWS [RUNS]]
 set -eu
 top=$(cd "$(dirname "$0")/.." && pwd)
@@ -9,11 +9,14 @@ news=${1:-10000}
 runs=${2:-5}
 (cd "$top/crates/atspi_speed" && rt run -- each) >/dev/null 2>&1 || { echo "it could not be built" >&2; exit 1; }
 program=$top/crates/atspi_speed/out/atspi_speed
+work=$(mktemp -d)
+trap 'rm -rf "$work"' EXIT
+cc -O2 -Wall -Wextra -shared -fPIC -o "$work/clock.so" "$top/bench/clock.c"
 
 # numbers WORD..: the numbers that each run of the program with these words writes, a line a run
 numbers() {
     for _run in $(seq "$runs"); do
-        "$program" reader "$@" 2>&1 >/dev/null | tr -d ',' | awk '{ for (k = 1; k <= NF; k++) if ($k ~ /^[0-9]+$/) printf "%d ", $k; print "" }'
+        LD_PRELOAD=$work/clock.so "$program" reader "$@" 2>&1 >/dev/null | tr -d ',' | awk '{ for (k = 1; k <= NF; k++) if ($k ~ /^[0-9]+$/) printf "%d ", $k; print "" }'
     done
 }
 
