@@ -1,4 +1,5 @@
-//! Each member called with one value, of each type that words cannot say: numbers of other widths, a double and a handle. Each call is refused.
+//! Each member called with one value, of each type that words cannot say: numbers of other widths, and a double. Each call is refused. (A value of the type of
+//! descriptors makes bytes no message.)
 
 ghost use Rattle.atspi_exported.specs.Parts.{IsExported};
 
@@ -13,14 +14,13 @@ use atspi_message_words::{bytes_of, lent};
 use std::alloc::Global;
 
 /// The codes of the types, and how many bytes a value has.
-const TYPES: [(u8, usize); 7] = [
+const TYPES: [(u8, usize); 6] = [
     (b'y', 1),
     (b'n', 2),
     (b'q', 2),
     (b'x', 8),
     (b't', 8),
     (b'd', 8),
-    (b'h', 4),
 ];
 
 /// Sets bytes that are there.
