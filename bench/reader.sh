@@ -32,6 +32,9 @@ for count in 1000 2000 4000 8000; do
     echo "$all" | least | awk -v n="$count" -v r="$ratios" '{ split(r, q, " "); printf "%d rows: a news %d ns, its reading and fold alone %d ns; in one run %s to %s times as much, mostly %s\n", n, $1, $2, q[1], q[3], q[2] }'
 done
 for count in 1000 2000 4000 8000; do
+    numbers load "$count" | least | awk -v n="$count" '{ printf "%d items: loaded by a reader %d ns each, read and loaded by a cache alone %d ns each\n", n, $1, $2 }'
+done
+for count in 1000 2000 4000 8000; do
     numbers parts "$count" | least | awk -v n="$count" '{ printf "%d nodes with a text: a part %d ns\n", n, $1 }'
 done
 for count in 1000 2000 4000 8000; do

@@ -62,6 +62,7 @@ fn each(rt: &HostRuntime) -> Result<()> {
     cache::run(rt, &["mixed", "60", "40", "all"])?;
     app::run(rt, &["60", "10"])?;
     reader::run(rt, &["news", "60", "40"])?;
+    reader::run(rt, &["load", "60"])?;
     reader::run(rt, &["parts", "60"])?;
     reader::run(rt, &["children", "60"])
 }

@@ -1,6 +1,6 @@
 //! A reader among many rows or many applications, so that its speed can be counted (bench/reader.sh): `news N COUNT` takes COUNT news of an application of N nodes
-//! with a text, all parts of which were told, and reads and folds the same news with a cache alone; `parts N` takes the replies to all that is asked of N nodes with a
-//! text; `children N` takes a reply that tells N applications, and an error of each.
+//! with a text, all parts of which were told, and reads and folds the same news with a cache alone; `load N` takes a reply with N items, and reads and loads the same with a cache alone; `parts N`
+//! takes the replies to all that is asked of N nodes with a text; `children N` takes a reply that tells N applications, and an error of each.
 
 use crate::reader_messages::{
     Messages, all_messages, applications, items, message, refusals, replies,
@@ -23,9 +23,10 @@ const ONE_CHILD: &str = "return 10 :1.0 10 a(so)=:1.7@/r";
 pub(crate) fn run(rt: &HostRuntime, words: &[&str]) -> Result<()> {
     match words {
         ["news", count, total] => news(rt, count.parse::<u32>()?, total.parse::<u32>()?),
+        ["load", count] => loads(rt, count.parse::<u32>()?),
         ["parts", count] => parts(rt, count.parse::<u32>()?),
         ["children", count] => children(rt, count.parse::<u32>()?),
-        _ => bail!("news N COUNT, parts N or children N is wanted"),
+        _ => bail!("news N COUNT, load N, parts N or children N is wanted"),
     }
 }
 
@@ -162,6 +163,36 @@ fn news(rt: &HostRuntime, count: u32, total: u32) -> Result<()> {
     let folding = time_folding(rt, count, &all)?;
     eprintln!(rt; "a news {taking} ns, its reading and fold alone {folding} ns")?;
     println!(rt; "{} news of {count} rows, {done} told", all.news.len())?;
+    Ok(())
+}
+
+/// The items of a reply are read and loaded by a cache alone: nanoseconds an item.
+fn time_loading(rt: &HostRuntime, count: u32, items: &[u8]) -> Result<u128> {
+    let mut cache = Cache::new(rt.alloc());
+    let start = Instant::now(rt)?;
+    load_cache(rt.alloc(), &mut cache, items)?;
+    Ok(start.elapsed(rt)?.as_nanos() / u128::from(count.max(1)))
+}
+
+/// A reader that knows the application takes the reply.
+fn time_load(rt: &HostRuntime, follower: &mut Follower, count: u32, items: &[u8]) -> Result<u128> {
+    let child = message(rt.alloc(), ONE_CHILD)?;
+    take(follower, child.as_slice())?;
+    let start = Instant::now(rt)?;
+    take(follower, items)?;
+    Ok(start.elapsed(rt)?.as_nanos() / u128::from(count.max(1)))
+}
+
+/// A load by a new reader, and by a cache alone.
+fn loads(rt: &HostRuntime, count: u32) -> Result<()> {
+    let items = items(rt.alloc(), count)?;
+    let alone = time_loading(rt, count, items.as_slice())?;
+    let taking = match begun(rt.alloc(), 10) {
+        Some(mut follower) => time_load(rt, &mut follower, count, items.as_slice())?,
+        None => bail!("out of memory"),
+    };
+    eprintln!(rt; "an item {taking} ns, its reading and load alone {alone} ns")?;
+    println!(rt; "{count} items loaded")?;
     Ok(())
 }
 
