@@ -7,8 +7,8 @@ set -eu
 top=$(cd "$(dirname "$0")/.." && pwd)
 news=${1:-10000}
 runs=${2:-5}
-(cd "$top/crates/atspi_speed" && rt run -- each) >/dev/null 2>&1 || { echo "it could not be built" >&2; exit 1; }
-program=$top/crates/atspi_speed/out/atspi_speed
+(cd "$top/crates/atspi_ends_speed" && rt run -- each) >/dev/null 2>&1 || { echo "it could not be built" >&2; exit 1; }
+program=$top/crates/atspi_ends_speed/out/atspi_ends_speed
 work=$(mktemp -d)
 trap 'rm -rf "$work"' EXIT
 cc -O2 -Wall -Wextra -shared -fPIC -o "$work/clock.so" "$top/bench/clock.c"

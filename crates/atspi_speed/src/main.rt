@@ -2,14 +2,11 @@
 //! product, the others are its module's. `each` does a little of each part.
 #![tactic(auto)]
 
-mod app;
 mod cache;
 mod events;
 mod faces;
 mod lines;
 mod pool;
-mod reader;
-mod reader_messages;
 mod registry;
 mod tree;
 mod values;
@@ -44,8 +41,6 @@ fn work(rt: &HostRuntime, part: &str, words: &[&str]) -> Result<()> {
         "faces" => faces::run(rt, words),
         "tree" => tree::run(rt, words),
         "cache" => cache::run(rt, words),
-        "app" => app::run(rt, words),
-        "reader" => reader::run(rt, words),
         _ => bail!("no such part: {part}"),
     }
 }
@@ -59,10 +54,5 @@ fn each(rt: &HostRuntime) -> Result<()> {
     registry::run(rt, &["60", "4", "10"])?;
     faces::run(rt, &["1000", "10"])?;
     tree::run(rt, &["100", "200", "3", "1"])?;
-    cache::run(rt, &["mixed", "60", "40", "all"])?;
-    app::run(rt, &["60", "10"])?;
-    reader::run(rt, &["news", "60", "40"])?;
-    reader::run(rt, &["load", "60"])?;
-    reader::run(rt, &["parts", "60"])?;
-    reader::run(rt, &["children", "60"])
+    cache::run(rt, &["mixed", "60", "40", "all"])
 }

@@ -1,5 +1,5 @@
 use Rattle.atspi_exported.specs.Parts.{IsExported, faces_of, kinds_of, parts}
-use Rattle.atspi_speed.proofs.app.timed.Given as goal
+use Rattle.atspi_ends_speed.proofs.app.timed.Given as goal
 
 abbrev pub invariant-loop-time : goal.invariant-loop-time
 invariant-loop-time g l = IsExported (kinds_of ((goal.Face-dyn g (l.app.exported.kit.chars.vtable, l.app.exported.kit.chars.value)).of_kind l.app.exported.kit.chars.value) ((goal.Face-dyn g (l.app.exported.kit.grid.vtable, l.app.exported.kit.grid.value)).of_kind l.app.exported.kit.grid.value) ((goal.Face-dyn g (l.app.exported.kit.deeds.vtable, l.app.exported.kit.deeds.value)).of_kind l.app.exported.kit.deeds.value)) (parts l.app.exported.tree (faces_of ((goal.Face-dyn g (l.app.exported.kit.chars.vtable, l.app.exported.kit.chars.value)).nodes l.app.exported.kit.chars.value) ((goal.Face-dyn g (l.app.exported.kit.grid.vtable, l.app.exported.kit.grid.value)).nodes l.app.exported.kit.grid.value) ((goal.Face-dyn g (l.app.exported.kit.deeds.vtable, l.app.exported.kit.deeds.value)).nodes l.app.exported.kit.deeds.value)))
