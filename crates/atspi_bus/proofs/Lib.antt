@@ -1,1 +1,3 @@
 pub mod Joined
+pub mod Saying
+pub mod Replying

@@ -73,8 +73,9 @@ impl Bus {
     /// The bus takes a message of a connection, which lies in bytes: what it does is in `docs/ROUTING.md`. `Spent` only where the bus's own
     /// messages for this one would pass the serial 4,294,967,295, and no answer but a fault there. After a fault all is as before.
     ///
-    /// A message that is passed on, and for which each receiver has room, costs what it brings alone. Any other one, that is, a message to
-    /// the bus itself or to a name that nobody owns, and one that brings a closing, costs a copy of what the bus knows and of what waits in it.
+    /// A message that is passed on, and one that the bus answers itself, costs what it brings alone, where each receiver of what goes out has room for
+    /// it; Hello, RequestName and ReleaseName cost a copy of the names besides. One that brings a closing costs a copy of what the bus knows and
+    /// of what waits in it.
     pub fn take(&mut self, conn: u32, m: &MessageRef) -> Result<(), BusFault>
         requires { MeetsRules (envelope_at m.now) }
         ensures ok { OnOk result ((rule : Option (List Condition)) × IsRuleTaken (bus_of self.old).state conn (envelope_at m.now) rule

@@ -1,7 +1,10 @@
 //! The bus: who has joined, who owns which name, the match rules, the open calls, what waits for each connection, and the closings.
 #![tactic(auto)]
 
+mod answering;
 mod bus;
+mod in_place;
+mod renaming;
 mod whole;
 
 pub use atspi_bus_steps::BusFault;

@@ -1,6 +1,6 @@
 //! Steps that are done whole or not at all: after a fault a bus is as it was before.
 
-ghost use Rattle.std.specs.Prelude.{◌≡◌, ◌<◌, List, Option, IsErrOf, OnOk, OnErr};
+ghost use Rattle.std.specs.Prelude.{◌≡◌, ◌<◌, List, Option, IfOk, IsErrOf, MatchBool, OnOk, OnErr};
 ghost use Rattle.atspi_message.specs.Rules.{MeetsRules};
 ghost use Rattle.atspi_header.specs.View.{envelope_at};
 ghost use Rattle.atspi_match.specs.declared.condition.Condition.{Condition};
@@ -9,6 +9,7 @@ ghost use Rattle.atspi_bus_steps.specs.Inner.{inner_of, state_of};
 ghost use Rattle.atspi_bus_steps.specs.Sound.{IsSound};
 ghost use Rattle.atspi_bus_steps.specs.Spoken.{IsRuleTaken};
 
+use crate::answering::answer_in_place;
 use atspi_bus_steps::{BusFault, Inner};
 use atspi_header::MessageRef;
 
@@ -33,6 +34,26 @@ fn take_on_copy(inner: &mut Inner, conn: u32, m: &MessageRef) -> Result<(), BusF
     }
 }
 
+/// A bus takes a message in place, one that is passed on or one that it answers itself, where that can be done, and answers whether it was. Where it
+/// was not, and after a fault, all is as before.
+fn take_in_place(inner: &mut Inner, conn: u32, m: &MessageRef) -> Result<bool, BusFault>
+    requires sound { IsSound (state_of inner.old) }
+    requires meets { MeetsRules (envelope_at m.now) }
+    ensures ok { IfOk result (λ went. MatchBool went
+        ((rule : Option (List Condition)) × IsRuleTaken (state_of inner.old) conn (envelope_at m.now) rule
+        × (inner_of inner.new ≡ takes (inner_of inner.old) conn (envelope_at m.now) rule))
+        (inner_of inner.new ≡ inner_of inner.old)) }
+    ensures sound { IsSound (state_of inner.new) }
+    ensures spent { IsErrOf result BusFault.Spent → ⊥ }
+    ensures err { OnErr result (inner_of inner.new ≡ inner_of inner.old) }
+{
+    match inner.take_in_place(conn, m) {
+        Ok(true) => Ok(true),
+        Ok(false) => answer_in_place(inner, conn, m),
+        Err(fault) => Err(fault),
+    }
+}
+
 /// A bus takes a message: in place where it can, and on a copy of itself where it cannot.
 pub fn take_whole(inner: &mut Inner, conn: u32, m: &MessageRef) -> Result<(), BusFault>
     requires sound { IsSound (state_of inner.old) }
@@ -44,7 +65,7 @@ pub fn take_whole(inner: &mut Inner, conn: u32, m: &MessageRef) -> Result<(), Bu
         × (4294967296 < (takes (inner_of inner.old) conn (envelope_at m.now) rule).state.next) }
     ensures err { OnErr result (inner_of inner.new ≡ inner_of inner.old) }
 {
-    match inner.take_in_place(conn, m) {
+    match take_in_place(inner, conn, m) {
         Ok(went) => {
             if went {
                 Ok(())

@@ -30,7 +30,7 @@ use std::alloc::Global;
 
 /// What is told where a connection gets its unique name: its reply, where it expects one, and then the name, to it and to all that ask
 /// for it.
-fn greeting(alloc: Global, name: &BusName, m: &MessageRef) -> Result<Vec<Message>, NoMemory>
+pub fn greeting(alloc: Global, name: &BusName, m: &MessageRef) -> Result<Vec<Message>, NoMemory>
     ensures { IfOk result (λ told. map envelope_of told.items ≡ greeting name.now (envelope_at m.now)) }
 {
     let mut told = Vec::new(alloc);

@@ -9,21 +9,26 @@ use atspi_routing::Closing;
 use std::alloc::Global;
 use std::collections::VecDeque;
 
-/// What a bus knows, and what waits in it. Contracts see it as `inner_of` says: the record of the definitions.
+/// What a bus knows, and what waits in it. Contracts see it as `inner_of` says: the record of the definitions. It has no rule of its own: what holds of a
+/// bus at any time (`IsSound`) its calls ask for and give back.
 #[derive(Drop)]
 pub struct Inner {
-    pub(crate) alloc: Global,
+    /// Where its memory comes from.
+    pub alloc: Global,
     /// Those who have joined, by rising number, which is the order of joining.
-    pub(crate) joined: Vec<u32>,
-    pub(crate) names: Names,
-    pub(crate) rules: RuleIndex,
+    pub joined: Vec<u32>,
+    /// Who owns which name.
+    pub names: Names,
+    /// The match rules with their connections.
+    pub rules: RuleIndex,
     /// The calls that wait for their replies, the oldest first.
-    pub(crate) calls: Vec<OpenCall>,
+    pub calls: Vec<OpenCall>,
     /// The serial of the next message of the bus's own.
-    pub(crate) next: u64,
-    pub(crate) queues: Queues,
+    pub next: u64,
+    /// What waits for each connection, and who is to be closed.
+    pub queues: Queues,
     /// The bus's own messages that nobody has asked for yet, the oldest first.
-    pub(crate) own: VecDeque<Message>,
+    pub own: VecDeque<Message>,
     /// The closings that nobody has asked for yet, the oldest first.
-    pub(crate) closings: VecDeque<Closing>,
+    pub closings: VecDeque<Closing>,
 }

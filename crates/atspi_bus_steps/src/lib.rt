@@ -15,6 +15,11 @@ mod saying;
 mod standing;
 mod taking;
 
+pub use calling::greeting;
 pub use fault::BusFault;
+pub use handing::write_own;
 pub use inner::Inner;
 pub use open_call::OpenCall;
+pub use receiving::{receivers, receivers_of_own};
+pub use saying::expects_reply;
+pub use taking::{is_for_bus, is_hello};

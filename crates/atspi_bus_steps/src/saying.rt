@@ -83,7 +83,7 @@ impl Inner {
     }
 
     /// The reply to a call of a connection, as a message.
-    fn reply(&self, conn: u32, serial: u32, reply: Reply) -> Result<Message, NoMemory>
+    pub fn reply(&self, conn: u32, serial: u32, reply: Reply) -> Result<Message, NoMemory>
         ensures { IfOk result (λ message. envelope_of message ≡ reply_message (state_of self.now) conn serial (reply_of reply)) }
     {
         let caller = self.names.unique_name(conn);

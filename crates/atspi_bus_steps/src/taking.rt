@@ -34,7 +34,7 @@ fn is_text(field: Option<&str>, text: &str) -> bool
 }
 
 /// Whether a message is a call of Hello, which the first of each connection has to be.
-fn is_hello(m: &MessageRef) -> bool
+pub fn is_hello(m: &MessageRef) -> bool
     ensures { result ≡ steps.is_hello (envelope_at m.now) }
 {
     if m.kind != 1 {
@@ -63,7 +63,7 @@ fn is_bus_or_none(interface: Option<&str>) -> bool
 }
 
 /// Whether a message is for the bus itself.
-fn is_for_bus(m: &MessageRef) -> bool
+pub fn is_for_bus(m: &MessageRef) -> bool
     ensures { result ≡ routing.is_for_bus (envelope_at m.now) }
 {
     match m.destination {
