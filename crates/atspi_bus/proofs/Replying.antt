@@ -1,103 +1,44 @@
 -- What the bus answers in place, as the definitions have it.
-use Rattle.std.proofs.Common.{◌≡◌, ◌≢◌, ℕ, ◌+◌, ◌≤◌, Bool, true, false, cond, List, [], ◌∷◌, ◌++◌, length, Option, None, Some, refl, sym, ap, ◌∙◌, subst, append-nil, arith}
-use Rattle.std.specs.Prelude.{◌==◌, Result, Ok, Err, IfOk, MatchBool, IsSome, not, codes}
+use Rattle.std.proofs.Common.{◌≡◌, ◌≢◌, ℕ, ◌+◌, ◌≤◌, Bool, true, false, cond, List, [], ◌∷◌, ◌++◌, length, map, Option, None, Some, refl, sym, ap, ◌∙◌, subst, append-nil}
+use Rattle.std.specs.Prelude.{◌==◌, Result, Ok, Err, IfOk, OnErr, MatchBool, IsSome, codes}
 use Rattle.std.specs.FinMap as finmap
 use Rattle.std.specs.FinMap.{FinMap}
 use Rattle.std.specs.List.{list_any}
 use Rattle.std.specs.Ordering.{nat_cmp}
 use Rattle.std.proofs.lemmas.Bool.Decides.{Decides-eqb}
 use Rattle.atspi_types.specs.Data.{Data}
-use Rattle.atspi_message.specs.Envelope.{Envelope}
+use Rattle.atspi_message.specs.Envelope.{Envelope, envelope_of}
+use Rattle.atspi_message.specs.declared.message.Message.{Message}
 use Rattle.atspi_match.specs.declared.condition.Condition.{Condition}
 use Rattle.atspi_match.specs.RuleIndex.{is_pair, rules_of}
-use Rattle.atspi_names.specs.Owners.{Owners, list_of}
-use Rattle.atspi_names.specs.Queue.{owner_in}
+use Rattle.atspi_names.specs.Owners.{Owners}
 use Rattle.atspi_routing.specs.declared.member.BusMember.{BusMember}
 use Rattle.atspi_routing.specs.declared.member.BusMember.TheVariants.{Hello, RequestName, ReleaseName, NameHasOwner, GetNameOwner, ListNames, ListQueuedOwners, AddMatch, RemoveMatch, GetId, Ping}
 use Rattle.atspi_routing.specs.BusState.{BusState, unique_of}
-use Rattle.atspi_routing.specs.Answers.{Reply, returns, fails, Answer, answers, only, may_be_asked_for, first_text}
+use Rattle.atspi_routing.specs.Answers.{Reply, returns, fails, Answer, answers, may_be_asked_for, first_text}
 use Rattle.atspi_routing.specs.Members.{member_of}
 use Rattle.atspi_routing.specs.OwnMessages.{return_to, error_to}
-use Rattle.atspi_routing.specs.Queues.{Bus, stepped, takes, settled}
-use Rattle.atspi_routing.specs.Routing.{receivers, one_or_none, expects_reply, is_for_bus}
-use Rattle.atspi_routing.specs.Steps.{BusStep, closes, handed, calls_after_all, speaks, replies, answered, called, undeliverable, is_unowned, passes_on, takes_from_named, is_hello, greets, bus_takes}
-use Rattle.atspi_bus_answers.specs.Answered.{IsSpokenOf, is_told, with_parts}
-use Rattle.atspi_bus_answers.specs.Errors.{error_text}
-use Rattle.atspi_bus_answers.specs.declared.error.BusError.{BusError}
+use Rattle.atspi_routing.specs.Queues.{Bus, stepped, takes}
+use Rattle.atspi_routing.specs.Routing.{receivers, expects_reply, is_for_bus}
+use Rattle.atspi_routing.specs.Steps.{BusStep, handed, calls_after_all, speaks, replies, answered, called, undeliverable, is_unowned, passes_on, takes_from_named, bus_takes}
+use Rattle.atspi_bus_answers.specs.Answered.{IsSpokenOf, IsAnswer, AreNamed, with_parts, reply_of}
+use Rattle.atspi_bus_answers.specs.declared.answering.Reply.{Reply as Given}
 use Rattle.atspi_bus_steps.specs.Sayable.{reply_message}
-use Rattle.atspi_bus_steps.specs.Sound.{IsSound}
+use Rattle.atspi_bus_steps.specs.Sound.{IsReady, IsSound}
 use Rattle.atspi_bus_steps.specs.Spoken.{IsRuleOf, IsRuleTaken, answered_by}
 use Rattle.atspi_bus_steps.proofs.Asking.{receivers-to}
 use Rattle.atspi_bus_steps.proofs.Ends.{sound-parts}
 use Rattle.atspi_bus_steps.proofs.Replies.{replied, unreplied}
 use Rattle.atspi_bus_steps.proofs.Said.{none_said}
 use Rattle.atspi_bus_steps.proofs.Settling.{settled_none}
-use Rattle.atspi_bus_steps.proofs.Sounds.{answers-parts}
+use Rattle.atspi_bus_steps.proofs.Sounds.{answers-parts, given_answered}
 use Rattle.atspi_bus.specs.Changed.{changes_rules, changes_names}
 use Rattle.atspi_bus.specs.Said.{IsSaid}
-use Rattle.atspi_bus.proofs.Saying.{said-step, said-state, said-here}
+use Rattle.atspi_bus.proofs.Saying.{said-step, said-state}
 
 -- nothing more is said
 pub quiet-step : (b : Bus) (s : BusState) → record b { state = s } ≡ stepped b (speaks s [])
 quiet-step b s = sym (none_said (record b { state = s }))
-
--- a call that expects no reply
-pub quiet-reply : (b : Bus) (conn : ℕ) (e : Envelope) (reply : Reply) → expects_reply e ≡ false → b ≡ stepped b (speaks b.state (replies b.state conn e reply))
-quiet-reply b conn e reply is = quiet-step b b.state ∙ ap (λ (l : List Envelope). stepped b (speaks b.state l)) (sym (unreplied b.state conn e reply is))
-
--- the reply to one that does
-pub said-reply : (b after : Bus) (conn : ℕ) (e d : Envelope) (reply : Reply) (bytes conns : List ℕ) → expects_reply e ≡ true → d ≡ reply_message b.state conn e.serial reply
-    → IsSaid b after d bytes conns → after ≡ stepped b (speaks b.state (replies b.state conn e reply))
-said-reply b after conn e d reply bytes conns is message said =
-    said-here b after d bytes conns said
-    ∙ ap (λ (l : List Envelope). stepped b (speaks b.state l)) (ap (λ (x : Envelope). x ∷ []) message ∙ sym (replied b.state conn e reply is))
-
--- a bus that said a message is sound
-pub said-sound : (b after : Bus) (e : Envelope) (bytes conns : List ℕ) → IsSaid b after e bytes conns → IsSound b.state → after.state.next ≤ 4294967296 → IsSound after.state
-said-sound b after e bytes conns said sound last =
-    let is = said-state b after e bytes conns said in
-    subst IsSound (sym is)
-    (sound-parts b.state b.state.owners b.state.rules (b.state.next + 1) 1 sound refl sound.named refl (subst (λ (s : BusState). s.next ≤ 4294967296) is last))
-
--- a call of a member that only asks changes nothing
-pub told_owners : (member : BusMember) (s : BusState) (conn : ℕ) (args : List Data) (rule : Option (List Condition)) → is_told member ≡ true → (answers member s conn args rule).owners ≡ s.owners
-told_owners Hello s conn args rule is = refl
-told_owners RequestName s conn args rule is = absurd cc
-told_owners ReleaseName s conn args rule is = absurd cc
-told_owners NameHasOwner s conn args rule is = refl
-told_owners GetNameOwner s conn args rule is = refl
-told_owners ListNames s conn args rule is = refl
-told_owners ListQueuedOwners s conn args rule is = refl
-told_owners AddMatch s conn args rule is = absurd cc
-told_owners RemoveMatch s conn args rule is = absurd cc
-told_owners GetId s conn args rule is = refl
-told_owners Ping s conn args rule is = refl
-
-pub told_rules : (member : BusMember) (s : BusState) (conn : ℕ) (args : List Data) (rule : Option (List Condition)) → is_told member ≡ true → (answers member s conn args rule).rules ≡ s.rules
-told_rules Hello s conn args rule is = refl
-told_rules RequestName s conn args rule is = absurd cc
-told_rules ReleaseName s conn args rule is = absurd cc
-told_rules NameHasOwner s conn args rule is = refl
-told_rules GetNameOwner s conn args rule is = refl
-told_rules ListNames s conn args rule is = refl
-told_rules ListQueuedOwners s conn args rule is = refl
-told_rules AddMatch s conn args rule is = absurd cc
-told_rules RemoveMatch s conn args rule is = absurd cc
-told_rules GetId s conn args rule is = refl
-told_rules Ping s conn args rule is = refl
-
-pub told_none : (member : BusMember) (s : BusState) (conn : ℕ) (args : List Data) (rule : Option (List Condition)) → is_told member ≡ true → (answers member s conn args rule).told ≡ []
-told_none Hello s conn args rule is = refl
-told_none RequestName s conn args rule is = absurd cc
-told_none ReleaseName s conn args rule is = absurd cc
-told_none NameHasOwner s conn args rule is = refl
-told_none GetNameOwner s conn args rule is = refl
-told_none ListNames s conn args rule is = refl
-told_none ListQueuedOwners s conn args rule is = refl
-told_none AddMatch s conn args rule is = absurd cc
-told_none RemoveMatch s conn args rule is = absurd cc
-told_none GetId s conn args rule is = refl
-told_none Ping s conn args rule is = refl
 
 -- an answer that tells nothing before its reply
 pub answered-is : (b : Bus) (conn : ℕ) (e : Envelope) (a : Answer) (owners : Owners) (rules : List (ℕ × List Condition)) (reply : Reply) → a.owners ≡ owners → a.rules ≡ rules → a.told ≡ [] → a.reply ≡ reply
@@ -185,10 +126,6 @@ rule_answer Ping s conn args rule is = absurd cc
 pub rule_refused : (s : BusState) (a : Answer) (name : List ℕ) → IsRuleAnswer s a → a.reply ≡ fails name → a.rules ≡ s.rules
 rule_refused s a name (done is) it = absurd (let e = sym is ∙ it in cc)
 rule_refused s a name (refused other is same) it = same
-
-pub rule_done : (s : BusState) (a : Answer) (values : List Data) → IsRuleAnswer s a → a.reply ≡ returns values → a.reply ≡ returns []
-rule_done s a values (done is) it = is
-rule_done s a values (refused other is same) it = absurd (let e = sym is ∙ it in cc)
 
 -- who receives a reply does not depend on the rules
 sent_to : (s : BusState) (conn serial : ℕ) (reply : Reply) → (reply_message s conn serial reply).destination ≡ unique_of s.owners conn
@@ -342,19 +279,6 @@ named-unowned s conn e rule some other is =
     ∙ ap (λ b. cond b (undeliverable s conn d) (record { state = record s { calls = calls_after_all s.calls conn d (receivers s d) }; moves = handed s d })) (unowned-signed s e name is)
     ∙ ap (speaks s) (replies-signed s conn e name (fails (codes "ServiceUnknown"))))
 
-pub is_empty_unowned : (o : Option (List ℕ)) (conns : List ℕ) → IsSome o → conns ≡ [] → is_unowned o conns ≡ true
-is_empty_unowned None conns some is = absurd cc
-is_empty_unowned (Some name) conns some is = ap (is_unowned (Some name)) is
-
--- of one without, and with a Hello
-pub unnamed-greets : (s : BusState) (conn : ℕ) (e : Envelope) (rule : Option (List Condition)) → unique_of s.owners conn ≡ None → is_hello e ≡ true → bus_takes s conn e rule ≡ greets s conn e
-unnamed-greets s conn e rule none hello =
-    by_none s conn e rule none ∙ ap (λ b. cond b (greets s conn e) (record { state = s; moves = closes conn ∷ [] })) hello
-  where
-    by_none : (s : BusState) (conn : ℕ) (e : Envelope) (rule : Option (List Condition)) → unique_of s.owners conn ≡ None
-        → bus_takes s conn e rule ≡ cond (is_hello e) (greets s conn e) (record { state = s; moves = closes conn ∷ [] })
-    by_none s conn e rule is = rw is refl
-
 -- a step that brings no closing is all
 pub step-taken : (b next : Bus) (conn : ℕ) (e : Envelope) (rule : Option (List Condition)) → b.waiting.due ≡ [] → next.waiting.due ≡ b.waiting.due
     → next ≡ stepped b (bus_takes b.state conn e rule) → next ≡ takes b conn e rule
@@ -423,3 +347,99 @@ renamed-step b next conn e a owners told same rules said is =
     is ∙ ap (λ (o : Owners). stepped b (speaks (record b.state { owners = o }) told)) same
     ∙ ap (λ (r : List (ℕ × List Condition)). stepped b (speaks (record b.state { owners = a.owners; rules = r }) told)) (sym rules)
     ∙ ap (λ (t : List Envelope). stepped b (speaks (record b.state { owners = a.owners; rules = a.rules }) t)) said
+
+-- what a call came to, with more known of what it did, and of where it did nothing
+pub both-more : {E : Type 0} (A B C D : Type 0) (r : Result Bool E) → (A → B) → (C → D) → IfOk r (λ went. MatchBool went A C) → IfOk r (λ went. MatchBool went B D)
+both-more A B C D (Ok true) f g h = f h
+both-more A B C D (Ok false) f g h = g h
+both-more A B C D (Err e) f g h = h
+
+pub err-more : {T E : Type 0} (A B : Type 0) (r : Result T E) → (A → B) → OnErr r A → OnErr r B
+err-more A B (Ok x) f h = h
+err-more A B (Err e) f h = f h
+
+-- of a message that the bus answered, what rule it spoke of
+pub rule_taken : (s : BusState) (conn : ℕ) (e : Envelope) (rule : Option (List Condition)) → IsRuleOf e rule → IsRuleTaken s conn e rule
+rule_taken s conn e rule h name unique for_bus kind = h
+
+pub rule_not_taken : (s : BusState) (conn : ℕ) (e : Envelope) → ((name : List ℕ) → unique_of s.owners conn ≡ Some name → is_for_bus e ≡ true → e.kind ≡ 1 → ⊥) → IsRuleTaken s conn e None
+rule_not_taken s conn e h name unique for_bus kind = absurd (h name unique for_bus kind)
+
+-- a bus that is as it was is sound as it was
+pub sound-same : (b next : Bus) → next ≡ b → IsSound b.state → IsSound next.state
+sound-same b next is sound = subst (λ (x : Bus). IsSound x.state) (sym is) sound
+
+-- an answer that the code gave, as the definition has it
+pub answer-is : (b : Bus) (member : BusMember) (conn : ℕ) (args : List Data) (rule : Option (List Condition)) (owners : Owners) (rules : List (ℕ × List Condition)) (old new : List Message) (given : Given)
+    → IsAnswer (answers member (with_parts b.state.owners b.state.rules) conn args rule) owners rules old new given → IsAnswer (answers member b.state conn args rule) owners rules old new given
+answer-is b member conn args rule owners rules old new given h = subst (λ (x : Answer). IsAnswer x owners rules old new given) (answers-parts member b.state conn args rule) h
+
+-- where the reply that was said was taken back, another is said
+pub replied-anew : (b u next : Bus) (conn : ℕ) (e : Envelope) (reply : Reply) → u ≡ b → next ≡ stepped u (speaks u.state (replies u.state conn e reply))
+    → next ≡ stepped b (speaks b.state (replies b.state conn e reply))
+replied-anew b u next conn e reply same is = is ∙ ap (λ (x : Bus). stepped x (speaks x.state (replies x.state conn e reply))) same
+
+-- other names leave a bus ready
+pub renamed-ready : (s : BusState) (owners : Owners) → IsReady s → IsReady (record s { owners = owners })
+renamed-ready s owners was = record { rising = was.rising; first = was.first; last = was.last }
+
+-- a call that changes names, whose answer was worked out on a copy of them
+pub name-answer : (b : Bus) (copied : Owners) (member : BusMember) (conn : ℕ) (args : List Data) (rule : Option (List Condition)) (owners : Owners) (rules : List (ℕ × List Condition)) (old new : List Message) (given : Given)
+    → copied ≡ b.state.owners → old ≡ [] → IsAnswer (answers member (with_parts copied b.state.rules) conn args rule) owners rules old new given
+    → IsAnswer (answers member b.state conn args rule) owners rules [] new given
+name-answer b copied member conn args rule owners rules old new given same none h =
+    answer-is b member conn args rule owners rules [] new given
+    (subst (λ (o : Owners). IsAnswer (answers member (with_parts o b.state.rules) conn args rule) owners rules [] new given) same
+    (subst (λ (l : List Message). IsAnswer (answers member (with_parts copied b.state.rules) conn args rule) owners rules l new given) none h))
+
+-- leaves rules as they are
+pub name-bus : (b : Bus) (member : BusMember) (conn : ℕ) (args : List Data) (rule : Option (List Condition)) (owners : Owners) (rules : List (ℕ × List Condition)) (old new : List Message) (given : Given)
+    → changes_names member ≡ true → IsAnswer (answers member b.state conn args rule) owners rules old new given → record b { state = record b.state { rules = rules } } ≡ b
+name-bus b member conn args rule owners rules old new given changes h =
+    ap (λ (r : List (ℕ × List Condition)). record b { state = record b.state { rules = r } }) (h.rules ∙ name_rules member b.state conn args rule changes)
+
+-- and is done once all is said with the names of the answer
+pub name-done : (b next : Bus) (member : BusMember) (conn : ℕ) (e : Envelope) (rule : Option (List Condition)) (owners : Owners) (rules : List (ℕ × List Condition)) (old new : List Message) (given : Given) (told : List Envelope)
+    → changes_names member ≡ true → IsAnswer (answers member b.state conn e.body rule) owners rules old new given
+    → told ≡ (answers member b.state conn e.body rule).told
+    ++ replies (record b.state { owners = (answers member b.state conn e.body rule).owners; rules = (answers member b.state conn e.body rule).rules }) conn e (answers member b.state conn e.body rule).reply
+    → next ≡ stepped b (speaks (record b.state { owners = owners; rules = rules }) told) → next ≡ stepped b (answered_by member b.state conn e rule)
+name-done b next member conn e rule owners rules old new given told changes h said is =
+    let a : Answer = answers member b.state conn e.body rule in
+    let same : a.rules ≡ b.state.rules = name_rules member b.state conn e.body rule changes in
+    renamed-step b next conn e a owners told h.owners same said
+    (is ∙ ap (λ (r : List (ℕ × List Condition)). stepped b (speaks (record b.state { owners = owners; rules = r }) told)) (h.rules ∙ same))
+
+pub name-sound : (b next : Bus) (member : BusMember) (conn : ℕ) (e : Envelope) (rule : Option (List Condition)) (owners : Owners) (rules : List (ℕ × List Condition)) (old new : List Message) (given : Given)
+    → IsSound b.state → IsAnswer (answers member b.state conn e.body rule) owners rules old new given → AreNamed owners.lists → next.state.next ≤ 4294967296
+    → next ≡ stepped b (answered_by member b.state conn e rule) → IsSound next.state
+name-sound b next member conn e rule owners rules old new given sound h named last is =
+    let a : Answer = answers member b.state conn e.body rule in
+    let same = ap (λ (x : Bus). x.state) is in
+    subst IsSound (sym same)
+    (sound-parts b.state a.owners a.rules _ _ sound (given_answered member b.state conn e.body rule) (subst (λ (o : Owners). AreNamed o.lists) h.owners named) refl
+    (subst (λ (x : BusState). x.next ≤ 4294967296) same last))
+
+-- what is told where a reply is expected, and where none is
+pub name-told : (b : Bus) (member : BusMember) (conn : ℕ) (e : Envelope) (rule : Option (List Condition)) (owners : Owners) (rules : List (ℕ × List Condition)) (new : List Message) (given : Given) (d : Envelope)
+    → changes_names member ≡ true → IsAnswer (answers member b.state conn e.body rule) owners rules [] new given → expects_reply e ≡ true
+    → d ≡ reply_message (record b.state { rules = rules }) conn e.serial (reply_of given)
+    → map envelope_of new ++ d ∷ [] ≡ (answers member b.state conn e.body rule).told
+    ++ replies (record b.state { owners = (answers member b.state conn e.body rule).owners; rules = (answers member b.state conn e.body rule).rules }) conn e (answers member b.state conn e.body rule).reply
+name-told b member conn e rule owners rules new given d changes h asked message =
+    let a : Answer = answers member b.state conn e.body rule in
+    renamed-told b.state conn e a (map envelope_of new ++ d ∷ []) d asked (name_unique member b.state conn e.body rule changes)
+    (message ∙ ap (λ (r : List (ℕ × List Condition)). reply_message (record b.state { rules = r }) conn e.serial (reply_of given)) (h.rules ∙ name_rules member b.state conn e.body rule changes)
+    ∙ ap (reply_message b.state conn e.serial) h.reply)
+    (ap (λ (l : List Envelope). l ++ d ∷ []) h.told)
+
+pub name-quiet : (b : Bus) (member : BusMember) (conn : ℕ) (e : Envelope) (rule : Option (List Condition)) (owners : Owners) (rules : List (ℕ × List Condition)) (new : List Message) (given : Given)
+    → IsAnswer (answers member b.state conn e.body rule) owners rules [] new given → expects_reply e ≡ false
+    → map envelope_of new ≡ (answers member b.state conn e.body rule).told
+    ++ replies (record b.state { owners = (answers member b.state conn e.body rule).owners; rules = (answers member b.state conn e.body rule).rules }) conn e (answers member b.state conn e.body rule).reply
+name-quiet b member conn e rule owners rules new given h silent =
+    renamed-quiet b.state conn e (answers member b.state conn e.body rule) (map envelope_of new) silent h.told
+
+pub always_err : {T E S : Type 0} (r : Result T E) → S → OnErr r S
+always_err (Ok x) s = tt
+always_err (Err e) s = s

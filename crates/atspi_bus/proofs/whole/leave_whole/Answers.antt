@@ -1,4 +1,4 @@
-use Rattle.std.proofs.Common.{◌≡◌, ◌<◌, sym, ap, ◌∙◌, subst}
+use Rattle.std.proofs.Common.{◌<◌, sym, ap, ◌∙◌, subst}
 use Rattle.atspi_routing.specs.Queues.{Bus, leaves}
 use Rattle.atspi_bus_steps.specs.Sound.{IsSound}
 use Rattle.atspi_bus.proofs.whole.leave_whole.Goals as goal

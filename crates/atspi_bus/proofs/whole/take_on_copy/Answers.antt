@@ -1,5 +1,4 @@
-use Rattle.std.proofs.Common.{◌≡◌, ◌<◌, List, Option, sym, ap, subst}
-use Rattle.std.specs.Prelude.{OnOk, IsErrOf}
+use Rattle.std.proofs.Common.{◌<◌, List, Option, sym, ap, subst}
 use Rattle.atspi_header.specs.View.{envelope_at}
 use Rattle.atspi_match.specs.declared.condition.Condition.{Condition}
 use Rattle.atspi_routing.specs.Queues.{Bus, takes}

@@ -1,4 +1,4 @@
-use Rattle.std.proofs.Common.{◌<◌, ℕ, sym, ap, subst}
+use Rattle.std.proofs.Common.{◌<◌, ℕ, sym, subst}
 use Rattle.std.specs.List.{All}
 use Rattle.atspi_header.specs.View.{envelope_at}
 use Rattle.atspi_routing.specs.Queues.{Bus}
