@@ -1,6 +1,6 @@
 -- The beginning of a world: the bus takes the three calls of the registry's start, and the registry takes what waits for it.
-use Rattle.std.proofs.Common.{◌≡◌, ◌≢◌, ℕ, zero, suc, ◌+◌, ◌<◌, ◌≤◌, Bool, true, false, List, [], ◌∷◌, ◌++◌, length, map, take, drop, Option, None, Some, refl, sym, ap, ◌∙◌, subst, append_assoc, append-nil, length-append, arith}
-use Rattle.std.specs.Prelude.{cond, is_some, codes, Result, Ok, Err, nat_lt, nat_le, slice_get, if◌then◌else◌}
+use Rattle.std.proofs.Common.{◌≡◌, ℕ, zero, suc, ◌+◌, ◌≤◌, Bool, true, false, List, [], ◌∷◌, ◌++◌, length, map, drop, Option, None, Some, refl, sym, ap, ◌∙◌, subst, append_assoc, append-nil, length-append, arith}
+use Rattle.std.specs.Prelude.{cond, is_some, codes, Result, Ok, nat_lt, if◌then◌else◌}
 use Rattle.std.specs.Fmt.{digits}
 use Rattle.std.specs.List.{fold, AllByRecursion}
 use Rattle.std.specs.FinMap as finmap
@@ -15,7 +15,6 @@ use Rattle.atspi_types.specs.Elements.{are_two_or_more, are_elements, parts_of}
 use Rattle.atspi_match.specs.declared.condition.Condition.{Condition}
 use Rattle.atspi_message.specs.Envelope.{Envelope}
 use Rattle.atspi_message.specs.Bytes.{IsMessage, written, spelled_with, header_bytes, body_bytes, body_place, rising_fields}
-use Rattle.atspi_names.specs.Owners.{Owners}
 use Rattle.atspi_forest.specs.Forest.{first_of}
 use Rattle.atspi_queues.specs.Change.{with_queue}
 use Rattle.atspi_queues.proofs.Chains.{at_key, at_other, by_keys}
@@ -32,20 +31,20 @@ use Rattle.atspi_routing.specs.Steps.{Move, says, delivers, closes, BusStep, bus
 use Rattle.atspi_routing.specs.Queues as queues
 use Rattle.atspi_routing.specs.Queues.{Waiting, Bus, or_nothing, queue_of, queued, doomed, empty_bus}
 use Rattle.atspi_bus_answers.specs.Answered.{IsSpokenOf}
-use Rattle.atspi_bus_steps.specs.Spoken.{IsRuleOf, IsRuleNamed}
+use Rattle.atspi_bus_steps.specs.Spoken.{IsRuleNamed}
 use Rattle.atspi_posts.specs.declared.post.Post.{Post}
 use Rattle.atspi_posts.specs.declared.post.Standing.TheVariants.{Here}
 use Rattle.atspi_events.specs.declared.event.Event.{Event}
 use Rattle.atspi_trace.specs.Entry.{Entry, entries_of, got}
 use Rattle.atspi_trace.specs.Rules.{owner_rule, rule_in}
-use Rattle.atspi_trace.specs.World.{here, Role, Said, Letter, End, World, first_unique, first_lists, first_owners, first_bus, first_registry, first_world, newcomer}
+use Rattle.atspi_trace.specs.World.{here, Role, Said, Letter, End, World, first_unique, first_owners, first_registry, first_world, newcomer}
 use Rattle.atspi_trace.specs.Ends.{end_at, with_end, plain, put_up, put_down, rest_of, taken_up}
 use Rattle.atspi_trace.specs.Carrying.{Carried, Filled, letter_of, grew, with_letter, moved, stepped, one_closed, settled, named, with_name, all_told}
-use Rattle.atspi_trace.specs.Causes.{Done, does, joins, on_end, routed, routes, bus_did}
+use Rattle.atspi_trace.specs.Causes.{Done, does, routed, routes, bus_did}
 use Rattle.atspi_trace.proofs.Maps.{maps, numbers_get, numbers_insert, numbers_first}
 use Rattle.atspi_trace.proofs.RulesRead.{rules_read}
 use Rattle.atspi_carrying.specs.Beginning.{HasUp, with_one_taken, IsGreeting, IsGreeted, IsHeard}
-use Rattle.atspi_carrying.specs.Carried.{standing_at, bytes_up, post_of, IsSendable, IsCarried, IsDone}
+use Rattle.atspi_carrying.specs.Carried.{standing_at, bytes_up, post_of, IsCarried, IsDone}
 use Rattle.atspi_carrying.specs.Downs.{bytes_down, IsBegun, IsWaiting, Wait}
 use Rattle.atspi_carrying.specs.Filled.{waits_for, gave}
 use Rattle.atspi_carrying.proofs.Filling.{both_gone}

@@ -6,7 +6,6 @@ use Rattle.std.specs.List.{AllByRecursion}
 use Rattle.std.proofs.lemmas.Bool.{leb-true, le-leb}
 use Rattle.std.proofs.lemmas.List.{length-set}
 use Rattle.std.proofs.lemmas.Option.{same_Some, slice_get_within, get_or_from_slice_get}
-use Rattle.atspi_message.specs.Envelope.{Envelope}
 use Rattle.atspi_message.specs.Bytes.{written}
 use Rattle.atspi_routing.specs.BusState.{unique_of}
 use Rattle.atspi_routing.specs.Steps.{bus_takes}
@@ -20,9 +19,9 @@ use Rattle.atspi_trace.specs.Entry.{Entry, entries_of}
 use Rattle.atspi_trace.specs.Rules.{rule_in}
 use Rattle.atspi_trace.specs.World.{Standing, here, stopped, away, Said, End, World}
 use Rattle.atspi_trace.specs.Ends.{end_at, with_end, taken_up}
-use Rattle.atspi_trace.specs.Carrying.{Carried, letter_of, stepped, settled, named, with_name}
+use Rattle.atspi_trace.specs.Carrying.{Carried, letter_of, stepped, named, with_name}
 use Rattle.atspi_trace.specs.Causes.{Done, does, on_end, routed, routes, missing}
-use Rattle.atspi_trace.specs.Work.{Next, cause, rests, moving_up, moved_up, next_up, of_end, next_of}
+use Rattle.atspi_trace.specs.Work.{cause, rests, moving_up, moved_up, next_up, of_end, next_of}
 use Rattle.atspi_trace.specs.Works.{Works, at_rest, caused}
 use Rattle.atspi_carrying.specs.Changes.{changed_at}
 use Rattle.atspi_carrying.specs.Told.{gone, all_gone}

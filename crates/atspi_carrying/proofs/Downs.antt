@@ -1,6 +1,6 @@
 -- What waits for each end stays the bytes of its down link, whatever the bus does.
-use Rattle.std.proofs.Common.{◌≡◌, ◌≢◌, ◌⊎◌, inl, inr, ℕ, zero, suc, ◌+◌, ◌<◌, ◌≤◌, Bool, true, false, List, [], ◌∷◌, ◌++◌, length, drop, Option, None, Some, refl, sym, ap, ◌∙◌, subst, append_assoc, append-nil, length-append, arith}
-use Rattle.std.specs.Prelude.{cond, nat_lt, slice_get, if◌then◌else◌}
+use Rattle.std.proofs.Common.{◌≡◌, ◌≢◌, ◌⊎◌, inl, inr, ℕ, zero, suc, ◌+◌, ◌<◌, ◌≤◌, Bool, true, false, List, [], ◌∷◌, ◌++◌, length, drop, None, Some, refl, sym, ap, ◌∙◌, subst, append_assoc, append-nil, length-append, arith}
+use Rattle.std.specs.Prelude.{cond, nat_lt, if◌then◌else◌}
 use Rattle.std.specs.List.{fold}
 use Rattle.std.specs.FinMap as finmap
 use Rattle.std.specs.Cmp.{nat_cmp_total}
@@ -12,7 +12,7 @@ use Rattle.std.proofs.lemmas.Option.{same_Some}
 use Rattle.atspi_message.specs.Envelope.{Envelope}
 use Rattle.atspi_message.specs.Bytes.{written}
 use Rattle.atspi_queues.proofs.Keys.{ties_not}
-use Rattle.atspi_queues.proofs.Chains.{at_key, at_other, gone_key, queue_of-insert}
+use Rattle.atspi_queues.proofs.Chains.{at_other, gone_key, queue_of-insert}
 use Rattle.atspi_lines.specs.declared.line.Party.{Party}
 use Rattle.atspi_names.specs.Owners.{own_name}
 use Rattle.atspi_routing.specs.declared.closing.Why.{Why}
@@ -20,11 +20,11 @@ use Rattle.atspi_routing.specs.declared.closing.Why.TheVariants.{NotHello, Quota
 use Rattle.atspi_routing.specs.Members.{is_text}
 use Rattle.atspi_routing.specs.Steps.{Move, says, delivers, closes, BusStep, bus_takes, bus_leaves}
 use Rattle.atspi_routing.specs.Queues as queues
-use Rattle.atspi_routing.specs.Queues.{Waiting, Bus, or_nothing, queue_of, is_due, doomed, without_queue}
+use Rattle.atspi_routing.specs.Queues.{Waiting, or_nothing, queue_of, is_due, doomed}
 use Rattle.atspi_trace.specs.Rules.{rule_in}
-use Rattle.atspi_trace.specs.World.{Said, Letter, End, World}
+use Rattle.atspi_trace.specs.World.{Said, Letter, End}
 use Rattle.atspi_trace.specs.Ends.{end_at, with_end, put_down, taken_up, leaves}
-use Rattle.atspi_trace.specs.Carrying.{Carried, Filled, letter_of, own_letter, grew, with_letter, moved, stepped, left, one_closed, settled, named, with_name, takes, takes_end}
+use Rattle.atspi_trace.specs.Carrying.{Carried, Filled, letter_of, own_letter, grew, moved, stepped, left, one_closed, settled, named, with_name, takes, takes_end}
 use Rattle.atspi_carrying.specs.Downs.{bytes_down, IsBegun, IsWaiting, Wait}
 use Rattle.atspi_carrying.proofs.Views.{without, written_some}
 

@@ -15,30 +15,28 @@ use Rattle.atspi_lines.specs.declared.line.Party.{Party}
 use Rattle.atspi_lines.specs.declared.line.Party.TheVariants.{Bus as The_bus}
 use Rattle.atspi_routing.specs.declared.closing.Why.{Why}
 use Rattle.atspi_routing.specs.declared.closing.Closing.{Closing}
-use Rattle.atspi_routing.specs.Members.{is_text}
 use Rattle.atspi_routing.specs.Steps.{Move, says, delivers, closes, BusStep, bus_takes, bus_leaves}
 use Rattle.atspi_routing.specs.Queues as queues
-use Rattle.atspi_routing.specs.Queues.{Waiting, Bus, or_nothing, queue_of, without_queue, popped}
+use Rattle.atspi_routing.specs.Queues.{Waiting, Bus, or_nothing, queue_of, popped}
 use Rattle.atspi_queues.specs.Change.{with_queue}
 use Rattle.atspi_queues.proofs.Chains.{at_other, queue_of-insert}
 use Rattle.atspi_trace.specs.Entry.{got}
 use Rattle.atspi_trace.specs.Rules.{rule_in}
 use Rattle.atspi_trace.specs.World.{Role, Said, Letter, End, World, newcomer}
 use Rattle.atspi_trace.specs.Ends.{end_at, with_end, put_down, put_up, rest_of, taken_up, taken_down, leaves, stops}
-use Rattle.atspi_trace.specs.Carrying.{Carried, Filled, letter_of, own_letter, grew, with_letter, moved, stepped, left, one_closed, settled, named, with_name, takes, takes_end, all_told}
+use Rattle.atspi_trace.specs.Carrying.{Carried, Filled, letter_of, own_letter, grew, with_letter, moved, stepped, left, one_closed, settled, named, with_name, takes, takes_end}
 use Rattle.atspi_trace.specs.Causes.{joins, does, on_end, routed, routes, unjoins, exits, bus_did, without_bytes, missing}
 use Rattle.atspi_handed.specs.Spellable.{IsSpellable}
-use Rattle.atspi_handed.specs.Handing.{IsLetter, AreLetters, HandsLetters}
-use Rattle.atspi_handed.proofs.Short.{message_spellable}
+use Rattle.atspi_handed.specs.Handing.{IsLetter, AreLetters}
 use Rattle.atspi_handed.proofs.Handing.{takes_hands, ends_hands}
 use Rattle.atspi_carrying.specs.Changes.{changed_at}
 use Rattle.atspi_carrying.specs.Told.{emptied, all_emptied}
-use Rattle.atspi_carrying.specs.Downs.{bytes_down, IsBegun, IsWaiting, Wait}
+use Rattle.atspi_carrying.specs.Downs.{bytes_down, IsBegun, IsWaiting}
 use Rattle.atspi_carrying.specs.Filled.{waits_for, FillsAt}
 use Rattle.atspi_carrying.specs.Linked.{given_of, IsLinked, IsWhole}
 use Rattle.atspi_carrying.proofs.Changes.{map-changed, get-map}
 use Rattle.atspi_carrying.proofs.Filling.{filled_whole}
-use Rattle.atspi_carrying.proofs.Views.{with-changed, without, written_some, all_with, stepped_all, left_all, settled_all}
+use Rattle.atspi_carrying.proofs.Views.{with-changed, without, written_some, all_with, stepped_all, left_all}
 use Rattle.atspi_carrying.proofs.Downs.{down-append, begun_within, begun_more, at_changed, wait_same, takes_wait, ends_wait}
 
 -- the mark of each down link stands within its first message

@@ -1,5 +1,5 @@
 -- Whose a letter is, as the unique names of the connections say.
-use Rattle.std.proofs.Common.{◌≡◌, ◌⊎◌, inl, inr, ℕ, zero, suc, ◌<◌, ◌≤◌, Bool, true, false, List, [], ◌∷◌, map, Option, None, Some, refl, sym, ap, ◌∙◌, subst, arith}
+use Rattle.std.proofs.Common.{◌≡◌, inl, inr, ℕ, zero, suc, Bool, true, false, List, [], ◌∷◌, map, Option, None, Some, refl, sym, ap, ◌∙◌, arith}
 use Rattle.std.specs.Prelude.{bytes_eq, if◌then◌else◌}
 use Rattle.std.proofs.lemmas.Option.{same_Some}
 use Rattle.std.proofs.lemmas.Slice.Eq.{bytes_eq-Decides}
@@ -8,7 +8,7 @@ use Rattle.atspi_names.specs.Owners.{Owners, own_name, unique_name}
 use Rattle.atspi_posts.specs.Posts.{is_own}
 use Rattle.atspi_trace.specs.World.{Letter, End}
 use Rattle.atspi_trace.specs.Ends.{end_at}
-use Rattle.atspi_handed.specs.Naming.{IsFromEnd, IsSigned, AreNamed}
+use Rattle.atspi_handed.specs.Naming.{IsSigned, AreNamed}
 use Rattle.atspi_carrying.specs.Carried.{post_of}
 use Rattle.atspi_carrying.specs.Named.{first_named, party_named}
 

@@ -1,16 +1,15 @@
 -- Bytes of an up link that are moved.
-use Rattle.std.specs.Prelude.{◌≡◌, ◌⊎◌, ◌<◌, ◌-◌, ◌+◌, ℕ, List, [], ◌++◌, length, Option, None, Some, slice_get}
+use Rattle.std.specs.Prelude.{◌≡◌, ◌⊎◌, ◌<◌, ◌-◌, ℕ, List, [], ◌++◌, length, Option, None, Some, slice_get}
 use Rattle.atspi_message.specs.Envelope.{Envelope}
 use Rattle.atspi_message.specs.Bytes.{IsMessage, written}
 use Rattle.atspi_routing.specs.Queues.{Bus}
 use Rattle.atspi_events.specs.declared.event.Event.{Event}
 use Rattle.atspi_posts.specs.declared.post.Post.{Post}
 use Rattle.atspi_posts.specs.declared.post.Standing.TheVariants.{Here, Away}
-use Rattle.atspi_trace.specs.World.{End, World}
-use Rattle.atspi_trace.specs.Ends.{end_at}
+use Rattle.atspi_trace.specs.World.{World}
 use Rattle.atspi_trace.specs.Causes.{does, routes}
-use Rattle.atspi_trace.specs.Work.{Work, moving_up, cause, next_of}
-use Rattle.atspi_carrying.specs.Carried.{post_of, IsCarried, IsDone}
+use Rattle.atspi_trace.specs.Work.{moving_up, cause, next_of}
+use Rattle.atspi_carrying.specs.Carried.{IsCarried, IsDone}
 use Rattle.atspi_carrying.specs.Segments.{IsWorked}
 
 -- so many bytes of the first message of a link were not moved yet; nothing waits on an empty one

@@ -1,5 +1,5 @@
 -- The beginning of a world, as the code makes it: the registry joins, its calls are sent and taken, and it takes what they bring.
-use Rattle.std.proofs.Common.{◌≡◌, ℕ, zero, suc, ◌+◌, ◌≤◌, Bool, true, false, cond, List, [], ◌∷◌, ◌++◌, length, map, set, get_or, take, Some, refl, sym, ap, ◌∙◌, subst, append-nil, append_assoc, arith}
+use Rattle.std.proofs.Common.{◌≡◌, ℕ, ◌+◌, ◌≤◌, cond, List, [], ◌∷◌, ◌++◌, length, map, set, get_or, take, refl, sym, ap, ◌∙◌, subst, append-nil, append_assoc, arith}
 use Rattle.std.specs.Prelude.{Result, Ok, Err, OnOk}
 use Rattle.std.specs.List.{AllByRecursion}
 use Rattle.std.proofs.lemmas.Bool.{leb-true}
@@ -15,11 +15,11 @@ use Rattle.atspi_events.specs.declared.event.Event.{Event}
 use Rattle.atspi_events.specs.declared.event.Event.TheVariants.{Sent}
 use Rattle.atspi_posts.specs.declared.post.Post.{Post}
 use Rattle.atspi_trace.specs.Entry.{Entry, entry_of, entries_of, sent}
-use Rattle.atspi_trace.specs.World.{Role, the_registry, End, World, newcomer, first_registry, first_world}
+use Rattle.atspi_trace.specs.World.{Role, the_registry, End, World, newcomer, first_world}
 use Rattle.atspi_trace.specs.Ends.{plain, put_up, is_app, is_reader, app_count, reader_count}
 use Rattle.atspi_trace.specs.Causes.{does, renews, joins}
 use Rattle.atspi_carrying.specs.Beginning.{IsGreeting, IsGreeted, IsHeard}
-use Rattle.atspi_carrying.specs.Carried.{bytes_up, post_of, IsCarried}
+use Rattle.atspi_carrying.specs.Carried.{post_of, IsCarried}
 use Rattle.atspi_carrying.proofs.Beginning.{nobody_waits, calls, called_world, called_carried, greeting_up, first_carried}
 use Rattle.atspi_stage.specs.Doing.{sent_on, all_sent, IsRegistryTold, TellsFirst}
 use Rattle.atspi_stage.specs.Worlds.{Staged, BeginsWithRegistry, IsWorld, IsAfter, IsBegun}

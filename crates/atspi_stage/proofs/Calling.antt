@@ -1,32 +1,30 @@
 -- A message that an end sends, on its link and in the trace.
-use Rattle.std.proofs.Common.{◌≡◌, ℕ, suc, ◌+◌, ◌<◌, ◌≤◌, Bool, true, false, cond, List, [], ◌∷◌, ◌++◌, length, map, set, Option, None, Some, refl, sym, ap, ◌∙◌, subst, append-nil, append_assoc, arith}
+use Rattle.std.proofs.Common.{◌≡◌, ℕ, suc, ◌+◌, ◌<◌, ◌≤◌, Bool, true, false, List, [], ◌∷◌, ◌++◌, length, map, set, Some, refl, sym, ap, ◌∙◌, subst, append-nil, arith}
 use Rattle.std.specs.Prelude.{Result, Ok, Err, ◌&&◌, filter, codes, slice_get, if◌then◌else◌}
-use Rattle.std.specs.List.{list_any, AllByRecursion}
+use Rattle.std.specs.List.{list_any}
 use Rattle.std.proofs.lemmas.Option.{slice_get_within}
 use Rattle.atspi_lines.specs.declared.deed.Deed.{Deed}
 use Rattle.atspi_lines.specs.declared.deed.Deed.TheVariants.{SetCaret, InsertText, DeleteText, SetText, SelectChild, DeselectChild, SelectAll, ClearSelection, DoAction}
-use Rattle.atspi_lines.specs.declared.line.Party.{Party}
 use Rattle.atspi_lines.specs.declared.line.Party.TheVariants.{Reader}
 use Rattle.atspi_message.specs.Envelope.{Envelope}
-use Rattle.atspi_message.specs.Bytes.{IsMessage, written}
+use Rattle.atspi_message.specs.Bytes.{written}
 use Rattle.atspi_protocol.specs.ends.Messages.{call_to}
 use Rattle.atspi_protocol.specs.ends.Places.{bus, bus_path}
 use Rattle.atspi_protocol.specs.exporting.Starting.{name_or_empty}
-use Rattle.atspi_protocol.specs.following.ReaderState.{Done, sends, ReaderState}
+use Rattle.atspi_protocol.specs.following.ReaderState.{sends, ReaderState}
 use Rattle.atspi_protocol.specs.following.Calls.{user_call}
 use Rattle.atspi_protocol.specs.following.Takes.{reader_calls}
 use Rattle.atspi_routing.specs.declared.member.BusMember.{BusMember}
 use Rattle.atspi_routing.specs.declared.member.BusMember.TheVariants.{Hello, RequestName, ReleaseName, NameHasOwner, GetNameOwner, ListNames, ListQueuedOwners, AddMatch, RemoveMatch, GetId, Ping}
-use Rattle.atspi_routing.specs.Members.{MemberLine, member_lines, is_of, is_text, first_line, with_arguments, member_of}
+use Rattle.atspi_routing.specs.Members.{member_lines, is_of, is_text, first_line, with_arguments, member_of}
 use Rattle.atspi_routing.specs.Queues.{Bus}
 use Rattle.atspi_bus_steps.specs.Spoken.{IsRuleOf, IsRuleNamed}
-use Rattle.atspi_events.specs.declared.event.Event.{Event}
 use Rattle.atspi_posts.specs.declared.post.Post.{Post}
-use Rattle.atspi_trace.specs.Entry.{Entry, entries_of, sent}
+use Rattle.atspi_trace.specs.Entry.{entries_of, sent}
 use Rattle.atspi_trace.specs.Rules.{rule_in}
 use Rattle.atspi_trace.specs.World.{Role, a_reader, Hearer, Said, End, World}
-use Rattle.atspi_trace.specs.Ends.{plain, put_up, party_at, whose, conn_of, end_at, end_if, with_end}
-use Rattle.atspi_trace.specs.Causes.{at_end, on_end, called, reader_sends, calls, does}
+use Rattle.atspi_trace.specs.Ends.{plain, put_up, party_at, whose, conn_of, end_at, end_if}
+use Rattle.atspi_trace.specs.Causes.{at_end, on_end, called, calls, does}
 use Rattle.atspi_trace.specs.Work.{name_of}
 use Rattle.atspi_carrying.specs.Changes.{changed_at}
 use Rattle.atspi_carrying.specs.Carried.{bytes_up, post_of, IsSendable, AreSendable, HasMark, IsCarried}
@@ -34,8 +32,7 @@ use Rattle.atspi_carrying.proofs.Changes.{length-changed, map-changed}
 use Rattle.atspi_carrying.proofs.Downs.{wait_same}
 use Rattle.atspi_carrying.proofs.Ties.{post_below}
 use Rattle.atspi_carrying.proofs.Views.{with-changed, all_with, within_more}
-use Rattle.atspi_stage.specs.Cast.{IsReader}
-use Rattle.atspi_stage.specs.Doing.{sent_on, all_sent, messages, silent, OnlySends, AreSent, TellsReaderAt, CallsAt}
+use Rattle.atspi_stage.specs.Doing.{sent_on, messages, silent, OnlySends, AreSent, TellsReaderAt, CallsAt}
 use Rattle.atspi_stage.specs.Worlds.{Staged, IsWorld, IsAfter}
 use Rattle.atspi_stage.proofs.Conns.{conn_end, conn_who}
 use Rattle.atspi_stage.proofs.Plays.{get_set}

@@ -1,9 +1,9 @@
 -- What is done by one of many is done among all.
-use Rattle.std.proofs.Common.{◌≡◌, ℕ, zero, suc, ◌<◌, ◌≤◌, List, [], ◌∷◌, ◌++◌, length, map, set, get_or, Option, None, Some, refl, sym, ap, ◌∙◌, subst, arith}
+use Rattle.std.proofs.Common.{◌≡◌, ℕ, zero, suc, ◌<◌, ◌≤◌, List, [], ◌∷◌, ◌++◌, length, map, set, get_or, Option, Some, refl, sym, ap, ◌∙◌, subst, arith}
 use Rattle.std.specs.Prelude.{Result, Ok, Err, OnOk, slice_get}
 use Rattle.std.specs.List.{AllByRecursion}
-use Rattle.std.proofs.lemmas.List.{map-append, length-map}
-use Rattle.std.proofs.lemmas.Option.{slice_get_within, get_or_from_slice_get}
+use Rattle.std.proofs.lemmas.List.{map-append}
+use Rattle.std.proofs.lemmas.Option.{get_or_from_slice_get}
 use Rattle.atspi_forest.specs.declared.edit.Edit.{Edit}
 use Rattle.atspi_lines.specs.declared.deed.Deed.{Deed}
 use Rattle.atspi_lines.specs.declared.line.Party.{Party}
@@ -23,9 +23,8 @@ use Rattle.atspi_events.specs.declared.event.Event.TheVariants.{Sent}
 use Rattle.atspi_posts.specs.declared.post.Post.{Post}
 use Rattle.atspi_trace.specs.Entry.{entry_of, entries_of}
 use Rattle.atspi_trace.specs.Causes.{did}
-use Rattle.atspi_carrying.specs.Changes.{changed_at}
 use Rattle.atspi_carrying.proofs.Changes.{changed_set}
-use Rattle.atspi_stage.specs.Doing.{sent_on, IsSent, all_said, quiet, silent, CanBeWritten, IsTold, IsToldAt, TellsAt, IsEditedAt, EditsAt, SendsAll, IsReaderTold, TellsReaderAt, IsCallingAt, CallsAt}
+use Rattle.atspi_stage.specs.Doing.{sent_on, IsSent, all_said, quiet, silent, CanBeWritten, IsTold, TellsAt, EditsAt, SendsAll, TellsReaderAt, CallsAt}
 
 module _ {A X : Type 0} (g : A → X) where
   pub map_set : (xs : List A) (i : ℕ) (y : A) → map g (set xs i y) ≡ set (map g xs) i (g y)

@@ -16,8 +16,8 @@ use Rattle.atspi_lines.specs.declared.line.Party.TheVariants.{App, Reader}
 use Rattle.atspi_posts.specs.declared.post.Post.{Post}
 use Rattle.atspi_trace.specs.World.{End, World}
 use Rattle.atspi_trace.specs.Ends.{is_here, same_party, conn_of, end_at, end_if, end_of, stops, is_app, app_count, reader_count}
-use Rattle.atspi_trace.specs.Causes.{Cause, does, renews, starts_app, starts_reader, edits, calls, swaps_face, exits}
-use Rattle.atspi_trace.specs.Work.{Refusal, spare_count, no_party, dead, no_kit, no_reader, no_spare, late, of_edit, refusal_if, if_started, if_here, no_more, doing, turning, with_conn, moving, name_of}
+use Rattle.atspi_trace.specs.Causes.{does, renews, starts_app, starts_reader, edits, calls, swaps_face, exits}
+use Rattle.atspi_trace.specs.Work.{Refusal, spare_count, dead, no_kit, no_reader, no_spare, late, of_edit, refusal_if, if_started, if_here, no_more, doing, turning, with_conn, name_of}
 use Rattle.atspi_carrying.specs.Carried.{IsCarried, IsDone}
 use Rattle.atspi_carrying.proofs.Ties.{conn_is}
 use Rattle.atspi_stage.specs.Lines.{CausedAt, IsSegment, WorkDone, LineDone, LineDoneElse}

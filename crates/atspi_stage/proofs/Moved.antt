@@ -1,19 +1,19 @@
 -- Bytes that a line moves up: whom it leaves as they are, and where nothing moves.
-use Rattle.std.proofs.Common.{◌≡◌, inl, ℕ, zero, suc, ◌+◌, ◌-◌, Bool, true, false, List, [], ◌∷◌, ◌++◌, length, map, Option, None, Some, refl, sym, ap, ◌∙◌, subst, append-nil}
-use Rattle.std.specs.Prelude.{slice_get, nat_le, if◌then◌else◌}
+use Rattle.std.proofs.Common.{◌≡◌, inl, ℕ, zero, suc, ◌+◌, ◌-◌, Bool, true, false, List, [], ◌∷◌, ◌++◌, map, Option, None, Some, refl, sym, ap, ◌∙◌, subst, append-nil}
+use Rattle.std.specs.Prelude.{nat_le, if◌then◌else◌}
 use Rattle.atspi_lines.specs.declared.line.Line.TheVariants as lines
 use Rattle.atspi_lines.specs.declared.line.Party.{Party}
 use Rattle.atspi_posts.specs.declared.post.Post.{Post}
 use Rattle.atspi_posts.specs.declared.post.Standing.TheVariants.{Here, Stopped, Away}
 use Rattle.atspi_trace.specs.Entry.{Entry, entries_of}
 use Rattle.atspi_trace.specs.World.{Standing, here, stopped, away, Said, End, World}
-use Rattle.atspi_trace.specs.Ends.{end_at, end_if, end_of, conn_of, with_end}
-use Rattle.atspi_trace.specs.Causes.{Cause, does, only, on_end, routed, routes, unjoins, missing}
+use Rattle.atspi_trace.specs.Ends.{end_at, end_if, end_of, conn_of}
+use Rattle.atspi_trace.specs.Causes.{Cause, does, routes, unjoins, missing}
 use Rattle.atspi_trace.specs.Work.{Work, resting, doing, moving_up, moving_down, turning, draining, Next, cause, rests, moved_up, next_up, of_end, next_of, with_conn, moving, if_started, no_more}
 use Rattle.atspi_trace.specs.Works.{Works, at_rest, caused}
-use Rattle.atspi_carrying.specs.Carried.{standing_at, post_of, IsCarried, IsDone}
+use Rattle.atspi_carrying.specs.Carried.{standing_at, post_of}
 use Rattle.atspi_carrying.specs.Segments.{IsWorked}
-use Rattle.atspi_carrying.specs.Moving.{Moves, MovesAt, MovesAll}
+use Rattle.atspi_carrying.specs.Moving.{MovesAt, MovesAll}
 use Rattle.atspi_carrying.proofs.Ties.{post_at}
 use Rattle.atspi_stage.specs.Lines.{IsSegment, WorkDone, LineDone}
 use Rattle.atspi_stage.specs.Worlds.{Staged, IsWorld, IsAfter}

@@ -4,7 +4,6 @@ use Rattle.std.specs.Prelude.{Option, None, Some, MatchOption}
 use Rattle.std.specs.List.{AllByRecursion}
 use Rattle.atspi_lines.specs.declared.line.Party.TheVariants.{Reader}
 use Rattle.atspi_message.specs.Envelope.{Envelope}
-use Rattle.atspi_message.specs.Bytes.{IsMessage, written}
 use Rattle.atspi_protocol.specs.exporting.Exporter.{Happening, Exporter}
 use Rattle.atspi_protocol.specs.following.ReaderState.{Done, sends, speaks, tells_end, ReaderState}
 use Rattle.atspi_events.specs.declared.event.Event.{Event}

@@ -1,5 +1,5 @@
 -- What an application said is what stands on its link.
-use Rattle.std.proofs.Common.{◌≡◌, ℕ, zero, suc, ◌<◌, ◌≤◌, List, [], ◌∷◌, ◌++◌, length, map, set, None, Some, refl, sym, ap, ◌∙◌, subst, append_assoc, append-nil, arith}
+use Rattle.std.proofs.Common.{◌≡◌, ℕ, zero, suc, ◌<◌, ◌≤◌, List, [], ◌∷◌, ◌++◌, length, map, set, None, Some, refl, sym, ap, ◌∙◌, subst, append_assoc, append-nil}
 use Rattle.std.specs.Prelude.{Option, Ok, slice_get}
 use Rattle.std.proofs.lemmas.List.{length-set}
 use Rattle.std.proofs.lemmas.Option.{slice_get_within}
@@ -31,7 +31,6 @@ use Rattle.atspi_carrying.proofs.Changes.{map-changed_known}
 use Rattle.atspi_carrying.proofs.Views.{with-changed, all_with, within_more}
 use Rattle.atspi_carrying.proofs.Downs.{wait_same}
 use Rattle.atspi_carrying.proofs.Ties.{post_at}
-use Rattle.atspi_stage.specs.Cast.{IsApp}
 use Rattle.atspi_stage.specs.Doing.{all_said, quiet, CanBeWritten, EditsAt, TellsAt}
 use Rattle.atspi_stage.specs.Worlds.{Staged, IsWorld, IsAfter}
 use Rattle.atspi_stage.proofs.Conns.{conn_end, conn_who}

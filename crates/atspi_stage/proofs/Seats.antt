@@ -1,5 +1,5 @@
 -- The end of a party, and its connection.
-use Rattle.std.proofs.Common.{◌≡◌, ℕ, ◌<◌, ◌≤◌, Bool, true, false, cond, List, [], ◌∷◌, length, map, Option, None, Some, refl, sym, ◌∙◌, ap, arith, zero, suc, nat_lt}
+use Rattle.std.proofs.Common.{◌≡◌, ℕ, ◌≤◌, Bool, true, false, cond, List, [], ◌∷◌, length, map, Option, None, Some, refl, sym, ◌∙◌, ap, arith, zero, suc, nat_lt}
 use Rattle.std.proofs.lemmas.Bool.{ltb-false}
 use Rattle.std.proofs.lemmas.Option.{same_Some}
 use Rattle.std.specs.List.{find, slice_get, position_or_len}
@@ -7,8 +7,8 @@ use Rattle.std.specs.Option.{option_map}
 use Rattle.std.proofs.lemmas.List.Folds.{find_at}
 use Rattle.atspi_lines.specs.declared.line.Party.{Party}
 use Rattle.atspi_posts.specs.declared.post.Post.{Post}
-use Rattle.atspi_trace.specs.World.{Standing, here, stopped, away, End}
-use Rattle.atspi_trace.specs.Ends.{end_of, end_if, conn_of, same_party, is_here}
+use Rattle.atspi_trace.specs.World.{Standing, End}
+use Rattle.atspi_trace.specs.Ends.{end_of, end_if, same_party, is_here}
 use Rattle.atspi_trace.specs.Work as work
 use Rattle.atspi_trace.specs.Work.{if_started, if_here, no_more}
 use Rattle.atspi_forest.specs.Forest.{first_of}

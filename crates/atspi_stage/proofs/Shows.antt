@@ -1,23 +1,22 @@
 -- What a reader shows.
-use Rattle.std.proofs.Common.{◌≡◌, ℕ, ◌<◌, ◌≤◌, List, [], ◌∷◌, ◌++◌, length, map, Option, None, Some, refl, sym, ap, ◌∙◌, subst, arith}
+use Rattle.std.proofs.Common.{◌≡◌, ℕ, ◌<◌, ◌≤◌, List, [], ◌∷◌, ◌++◌, length, Option, None, Some, refl, sym, ap, ◌∙◌, subst, arith}
 use Rattle.std.specs.Prelude.{slice_get}
-use Rattle.std.proofs.lemmas.List.{map-append, length-map}
-use Rattle.std.proofs.lemmas.Option.{same_Some, slice_get_within}
+use Rattle.std.proofs.lemmas.List.{map-append}
+use Rattle.std.proofs.lemmas.Option.{slice_get_within}
 use Rattle.atspi_lines.specs.declared.line.Line.TheVariants as lines
 use Rattle.atspi_lines.specs.declared.line.Party.TheVariants.{App, Reader}
 use Rattle.atspi_protocol.specs.following.ReaderState.{ReaderState}
-use Rattle.atspi_events.specs.declared.event.Event.{Event}
 use Rattle.atspi_events.specs.declared.event.Event.TheVariants.{Show}
 use Rattle.atspi_events.specs.declared.shown.ShownRow.{ShownRow}
 use Rattle.atspi_posts.specs.declared.post.Post.{Post}
 use Rattle.atspi_trace.specs.Entry.{entry_of, entries_of, showed}
-use Rattle.atspi_trace.specs.World.{Role, a_reader, End, World}
+use Rattle.atspi_trace.specs.World.{End, World}
 use Rattle.atspi_trace.specs.Ends.{conn_of, end_at, end_if, end_of, number_of, party_at, whose}
 use Rattle.atspi_trace.specs.Hearing.{holding_of}
 use Rattle.atspi_trace.specs.Causes.{does, shows, shown, on_end, rows_held}
 use Rattle.atspi_trace.specs.Work.{if_started, no_more}
 use Rattle.atspi_carrying.specs.Carried.{post_of, IsCarried}
-use Rattle.atspi_stage.specs.Shown.{shown_by, unique_in, IsShownAs, FollowsLaws, IsShowDone}
+use Rattle.atspi_stage.specs.Shown.{shown_by, unique_in, IsShownAs, FollowsLaws}
 use Rattle.atspi_stage.specs.Lines.{LineDone}
 use Rattle.atspi_stage.specs.Worlds.{Staged, IsWorld, IsAfter}
 use Rattle.atspi_stage.proofs.Conns.{conn_end, conn_who}

@@ -1,6 +1,5 @@
 -- The tie to a world of the definitions stays, where one end changes and where one joins.
-use Rattle.std.proofs.Common.{◌≡◌, ℕ, zero, suc, ◌+◌, ◌<◌, Bool, true, false, cond, List, [], ◌∷◌, ◌++◌, length, map, set, Some, refl, sym, ap, ◌∙◌, subst, append-nil, add-zero, arith}
-use Rattle.std.specs.Prelude.{◌==◌}
+use Rattle.std.proofs.Common.{◌≡◌, ℕ, zero, suc, ◌+◌, ◌<◌, cond, List, [], ◌∷◌, ◌++◌, length, map, set, Some, refl, sym, ap, ◌∙◌, subst, append-nil, add-zero, arith}
 use Rattle.std.proofs.lemmas.List.{length-set, length-append}
 use Rattle.atspi_lines.specs.declared.line.Party.{Party}
 use Rattle.atspi_lines.specs.declared.line.Party.TheVariants.{Bus as The_bus, App, Reader}
@@ -9,8 +8,8 @@ use Rattle.atspi_protocol.specs.following.ReaderState.{ReaderState}
 use Rattle.atspi_trace.specs.Entry.{entries_of}
 use Rattle.atspi_trace.specs.World.{Role, End, World}
 use Rattle.atspi_trace.specs.Ends.{same_party, conn_of, end_at, with_end, is_app, is_reader, app_count, reader_count}
-use Rattle.atspi_trace.specs.Causes.{Done, only, at_end}
-use Rattle.atspi_carrying.specs.Carried.{IsCarried, IsDone}
+use Rattle.atspi_trace.specs.Causes.{only, at_end}
+use Rattle.atspi_carrying.specs.Carried.{IsCarried}
 use Rattle.atspi_carrying.proofs.Changes.{map-kept}
 use Rattle.atspi_carrying.proofs.Views.{with-changed}
 use Rattle.atspi_stage.specs.Cast.{IsApp, IsReader, ArePlayed}

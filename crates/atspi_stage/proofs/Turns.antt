@@ -1,5 +1,5 @@
 -- Turns of the bus: what the code finds first is what the definitions find, and one turn after another is done.
-use Rattle.std.proofs.Common.{◌≡◌, ℕ, zero, suc, ◌+◌, ◌-◌, ◌<◌, ◌≤◌, Bool, true, false, List, [], ◌∷◌, ◌++◌, length, map, drop, Option, None, Some, refl, sym, ap, ◌∙◌, subst, append-nil, append_assoc, length-append, length-drop, arith}
+use Rattle.std.proofs.Common.{◌≡◌, ℕ, zero, suc, ◌+◌, ◌-◌, ◌<◌, ◌≤◌, Bool, true, false, List, [], ◌∷◌, ◌++◌, length, map, Option, None, Some, refl, sym, ap, ◌∙◌, subst, append-nil, append_assoc, length-append, length-drop, arith}
 use Rattle.std.specs.Prelude.{nat_lt, ◌||◌, IsSome, slice_get, if◌then◌else◌}
 use Rattle.std.proofs.lemmas.Bool.{lt-ltb}
 use Rattle.std.proofs.lemmas.List.{map-append}
@@ -11,18 +11,18 @@ use Rattle.atspi_lines.specs.declared.line.Line.TheVariants as lines
 use Rattle.atspi_events.specs.declared.event.Event.{Event}
 use Rattle.atspi_events.specs.declared.event.Event.TheVariants.{Busy}
 use Rattle.atspi_posts.specs.declared.post.Post.{Post}
-use Rattle.atspi_posts.specs.declared.post.Standing.TheVariants.{Here, Stopped, Away}
-use Rattle.atspi_trace.specs.Entry.{Entry, entry_of, entries_of, busy}
+use Rattle.atspi_posts.specs.declared.post.Standing.TheVariants.{Here}
+use Rattle.atspi_trace.specs.Entry.{entry_of, entries_of, busy}
 use Rattle.atspi_trace.specs.World.{Standing, here, stopped, away, Said, Letter, End, World}
 use Rattle.atspi_trace.specs.Ends.{end_at}
-use Rattle.atspi_trace.specs.Causes.{Cause, Done, does, only, routes, unjoins, tells_busy}
-use Rattle.atspi_trace.specs.Work.{up_turn, down_turn, first_up, first_down, next_turn, Work, turning, resting, cause, next_of_turns, next_of}
+use Rattle.atspi_trace.specs.Causes.{Cause, Done, does, routes, unjoins, tells_busy}
+use Rattle.atspi_trace.specs.Work.{up_turn, down_turn, first_up, first_down, next_turn, turning, resting, cause, next_of_turns, next_of}
 use Rattle.atspi_trace.specs.Works.{Works, at_rest, caused}
 use Rattle.atspi_carrying.specs.Carried.{standing_at, bytes_up, post_of, IsCarried, IsDone}
-use Rattle.atspi_carrying.specs.Downs.{bytes_down, IsBegun, IsWaiting, Wait}
+use Rattle.atspi_carrying.specs.Downs.{bytes_down, IsBegun, IsWaiting}
 use Rattle.atspi_carrying.specs.Filled.{waits_for}
 use Rattle.atspi_carrying.specs.Waits as waits
-use Rattle.atspi_carrying.specs.Waits.{up_turn_by, waits_below, waits_at}
+use Rattle.atspi_carrying.specs.Waits.{up_turn_by, waits_at}
 use Rattle.atspi_carrying.specs.declared.waiting.Turn.{Turn}
 use Rattle.atspi_carrying.specs.declared.waiting.Turn.TheVariants.{Route, Part, Get}
 use Rattle.atspi_carrying.proofs.Views.{written_some}

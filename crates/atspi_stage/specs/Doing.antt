@@ -16,7 +16,7 @@ use Rattle.atspi_protocol.specs.following.Takes.{reader_calls}
 use Rattle.atspi_protocol.specs.registering.Steps.{Registry}
 use Rattle.atspi_events.specs.declared.event.Event.{Event}
 use Rattle.atspi_posts.specs.declared.post.Post.{Post}
-use Rattle.atspi_trace.specs.Entry.{Entry, sent, entries_of}
+use Rattle.atspi_trace.specs.Entry.{sent, entries_of}
 use Rattle.atspi_trace.specs.Causes.{did}
 use Rattle.atspi_carrying.specs.Changes.{changed_at}
 

@@ -7,7 +7,7 @@ use Rattle.atspi_trace.specs.Entry.{Entry, entries_of}
 use Rattle.atspi_trace.specs.World.{World}
 use Rattle.atspi_trace.specs.Ends.{conn_of}
 use Rattle.atspi_trace.specs.Causes.{Cause, does, only}
-use Rattle.atspi_trace.specs.Work.{Work, resting, doing, moving_up, moving_down, turning, draining, with_conn, work_of}
+use Rattle.atspi_trace.specs.Work.{Work, resting, doing, moving_up, moving_down, turning, draining, work_of}
 use Rattle.atspi_trace.specs.Works.{Works}
 use Rattle.atspi_stage.specs.Refusals.{first_refusal}
 use Rattle.atspi_stage.specs.Shown.{IsShowDone}

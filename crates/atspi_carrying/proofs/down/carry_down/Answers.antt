@@ -1,6 +1,4 @@
-use Rattle.std.proofs.Common.{◌≤◌, length, ap, length-append, arith}
-use Rattle.atspi_bus_steps.specs.Inner.{inner_of}
-use Rattle.atspi_carrying.specs.Filled.{waits_for}
+use Rattle.std.proofs.Common.{length, ap, length-append, arith}
 use Rattle.atspi_carrying.proofs.Filling.{given_piece}
 use Rattle.atspi_carrying.proofs.down.carry_down.Goals as goal
 

@@ -1,4 +1,4 @@
-use Rattle.std.proofs.Common.{◌-◌, Some, refl, sym, ap, ◌∙◌}
+use Rattle.std.proofs.Common.{◌-◌, Some, refl, ap, ◌∙◌}
 use Rattle.atspi_message.specs.Bytes.{written}
 use Rattle.atspi_carrying.proofs.Views.{empty_message}
 use Rattle.atspi_carrying.proofs.up.lacking.Goals as goal

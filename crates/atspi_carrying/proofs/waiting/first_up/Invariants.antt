@@ -1,4 +1,4 @@
-use Rattle.std.proofs.Common.{◌≡◌, ◌-◌, ◌^◌, ◌≤◌, drop, length, min}
+use Rattle.std.proofs.Common.{◌≡◌, ◌≤◌, drop, length, min}
 use Rattle.atspi_carrying.specs.Waits.{first_up}
 use Rattle.atspi_carrying.proofs.waiting.first_up.Given as goal
 

@@ -1,4 +1,3 @@
-use Rattle.std.proofs.Common.{get_or, ap}
 use Rattle.atspi_stage.proofs.Elements.{same_there}
 use Rattle.atspi_stage.proofs.doing.swap_at.Goals as goal
 

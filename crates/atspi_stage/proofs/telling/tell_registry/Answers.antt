@@ -1,5 +1,3 @@
-use Rattle.std.proofs.Common.{ap, ◌∙◌}
-use Rattle.std.proofs.lemmas.List.{map-append}
 use Rattle.atspi_message.specs.Envelope.{envelope_of}
 use Rattle.atspi_stage.proofs.Beginning.{registry_more, registry_none, sent_told}
 use Rattle.atspi_stage.proofs.Queued.{none_given}

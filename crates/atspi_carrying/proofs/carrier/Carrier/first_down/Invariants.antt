@@ -1,4 +1,4 @@
-use Rattle.std.proofs.Common.{◌≡◌, ◌-◌, ◌^◌, ◌≤◌, drop, length, min}
+use Rattle.std.proofs.Common.{◌≡◌, ◌≤◌, drop, length, min}
 use Rattle.atspi_bus_steps.specs.Inner.{inner_of}
 use Rattle.atspi_carrying.specs.Waits.{first_down}
 use Rattle.atspi_carrying.proofs.carrier.Carrier.first_down.Given as goal

@@ -1,4 +1,4 @@
-use Rattle.std.proofs.Common.{None, Some, subst, refl}
+use Rattle.std.proofs.Common.{None, Some, subst}
 use Rattle.std.proofs.lemmas.Result.{on_ok_weaker}
 use Rattle.atspi_lines.specs.declared.line.Party.TheVariants.{App}
 use Rattle.atspi_stage.proofs.Lining.{Finds, edit_some, edit_none}

@@ -1,4 +1,3 @@
-use Rattle.std.proofs.lemmas.Result.{on_ok_weaker}
 use Rattle.atspi_stage.proofs.Lining.{line_else}
 use Rattle.atspi_stage.proofs.stage.Stage.carry_out.Goals as goal
 

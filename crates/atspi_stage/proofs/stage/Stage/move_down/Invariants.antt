@@ -1,4 +1,3 @@
-use Rattle.std.proofs.Common.{◌≤◌}
 use Rattle.atspi_bus_steps.specs.Inner.{state_of}
 use Rattle.atspi_stage.specs.Stage.{IsStage}
 use Rattle.atspi_stage.proofs.stage.Stage.move_down.Given as goal

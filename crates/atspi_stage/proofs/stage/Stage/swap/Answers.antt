@@ -1,4 +1,4 @@
-use Rattle.std.proofs.Common.{◌≡◌, suc, ◌+◌, length, map, refl, sym, ap, ◌∙◌, append-nil, arith}
+use Rattle.std.proofs.Common.{map, refl, sym, ap, ◌∙◌, append-nil, arith}
 use Rattle.atspi_trace.specs.Entry.{entries_of}
 use Rattle.atspi_stage.proofs.Lining.{ok_any}
 use Rattle.atspi_stage.proofs.Queued.{written_back}

@@ -1,4 +1,4 @@
-use Rattle.std.proofs.Common.{sym, ap, ◌∙◌, arith}
+use Rattle.std.proofs.Common.{sym, ◌∙◌, arith}
 use Rattle.atspi_bus_steps.specs.Inner.{inner_of}
 use Rattle.atspi_stage.proofs.Turns.{none_turned, turned_more, turned_not, turned_all, finds_up, something_waits}
 use Rattle.atspi_stage.proofs.stage.Stage.turns.Goals as goal
