@@ -2,8 +2,7 @@
 
 use atspi_bus_steps::Inner;
 use atspi_events::Event;
-use atspi_posts::Post;
-use atspi_stream::Feeder;
+use atspi_posts::{Link, Post};
 use std::alloc::Global;
 
 /// The bus of a world, and what lies between it and the ends. A connection's number is its place in both lists.
@@ -14,7 +13,7 @@ pub struct Carrier {
     /// The connections, in order of joining.
     pub posts: Vec<Post>,
     /// What each end was given of a message that is not whole yet.
-    pub at_end: Vec<Feeder>,
+    pub at_end: Vec<Link>,
     /// All that happened, the oldest first.
     pub trace: Vec<Event>,
 }

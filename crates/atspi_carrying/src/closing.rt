@@ -21,9 +21,8 @@ use atspi_bus_steps::Inner;
 use atspi_events::Event;
 use atspi_lines::Party;
 use atspi_message::Message;
-use atspi_posts::Post;
+use atspi_posts::{Link, Post};
 use atspi_routing::{Closing, Why};
-use atspi_stream::Feeder;
 
 /// The bus's own messages up to a serial, the first of which is given, are told; answers the next behind them.
 fn tell_own(
@@ -113,7 +112,7 @@ impl Carrier {
         if place >= self.at_end.len() {
             return;
         }
-        self.at_end[place] = Feeder::new(self.alloc);
+        self.at_end[place] = Link::new(self.alloc);
     }
 
     /// What waits on the link of a connection to the bus is lost. Answers who it is.

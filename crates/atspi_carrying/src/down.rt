@@ -10,36 +10,36 @@ use crate::carrier::Carrier;
 use crate::fault::CarryFault;
 use crate::moving::carry;
 use atspi_bus_steps::Inner;
-use atspi_stream::Feeder;
+use atspi_posts::Link;
 
 /// Moves some of the bytes that wait for a connection to its end: at most so many, and at most those that its next message awaits. Answers how many.
 fn carry_down(
     bus: &mut Inner,
-    feeder: &mut Feeder,
+    at_end: &mut Link,
     conn: u32,
     most: usize,
 ) -> Result<usize, CarryFault>
     ensures most { IfOk result (λ count. count ≤ most) }
     ensures state { state_of bus.new ≡ state_of bus.old }
-    ensures gives { IfOk result (λ count. IsGiven (inner_of bus.old) (inner_of bus.new) feeder.old feeder.new conn count) }
-    ensures awaited { IfOk result (λ count. IsAwaited feeder.old count) }
-    ensures some { IfOk result (λ count. 0 < most → 0 < length (waits_for (inner_of bus.old) conn) → AwaitsMore feeder.old → 0 < count) }
+    ensures gives { IfOk result (λ count. IsGiven (inner_of bus.old) (inner_of bus.new) at_end.old at_end.new conn count) }
+    ensures awaited { IfOk result (λ count. IsAwaited at_end.old count) }
+    ensures some { IfOk result (λ count. 0 < most → 0 < length (waits_for (inner_of bus.old) conn) → AwaitsMore at_end.old → 0 < count) }
 {
     let most = most.min(bus.waiting(conn) as usize);
-    let count = carry(bus.front(conn), feeder, most)?;
+    let count = carry(bus.front(conn), at_end, most)?;
     bus.pop(conn, count as u32);
     Ok(count)
 }
 
 /// Moves the bytes that wait for a connection to its end until a message is whole there, so many are moved, or none wait. Answers how many.
-fn fill(bus: &mut Inner, feeder: &mut Feeder, conn: u32, most: usize) -> Result<usize, CarryFault>
+fn fill(bus: &mut Inner, at_end: &mut Link, conn: u32, most: usize) -> Result<usize, CarryFault>
     ensures most { IfOk result (λ count. count ≤ most) }
     ensures state { state_of bus.new ≡ state_of bus.old }
-    ensures filled { IfOk result (λ count. IsFilled (inner_of bus.old) (inner_of bus.new) feeder.old feeder.new conn most count) }
+    ensures filled { IfOk result (λ count. IsFilled (inner_of bus.old) (inner_of bus.new) at_end.old at_end.new conn most count) }
 {
     let mut left = most;
     'pieces: loop {
-        let count = carry_down(bus, feeder, conn, left)?;
+        let count = carry_down(bus, at_end, conn, left)?;
         if count == 0 {
             return Ok(most - left);
         }

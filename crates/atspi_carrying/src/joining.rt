@@ -14,8 +14,7 @@ use crate::carrier::Carrier;
 use crate::fault::CarryFault;
 use atspi_bus_steps::Inner;
 use atspi_lines::Party;
-use atspi_posts::Post;
-use atspi_stream::Feeder;
+use atspi_posts::{Link, Post};
 use std::alloc::Global;
 
 impl Carrier {
@@ -62,7 +61,7 @@ impl Carrier {
             return Err(CarryFault::Spent);
         };
         self.posts.push(Post::new(self.alloc, who))?;
-        self.at_end.push(Feeder::new(self.alloc))?;
+        self.at_end.push(Link::new(self.alloc))?;
         self.bus.join_behind(conn)?;
         Ok(conn)
     }

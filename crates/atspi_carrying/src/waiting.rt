@@ -62,7 +62,7 @@ impl Carrier {
             return true;
         }
         match self.at_end.get(conn as usize) {
-            Some(feeder) => feeder.len() > 0,
+            Some(link) => link.len() > 0,
             None => false,
         }
     }

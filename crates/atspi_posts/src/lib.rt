@@ -10,5 +10,5 @@ mod rules;
 pub use fault::SendFault;
 pub use link::Link;
 pub use post::{Post, Standing};
-pub use reading::{Whole, first_message};
+pub use reading::{Whole, first_message, missing};
 pub use rules::meets_rules;

@@ -1,4 +1,4 @@
-//! The link from an end to the bus.
+//! A link between an end and the bus: bytes that came and were not taken.
 
 ghost use Rattle.std.specs.Prelude.{◌≡◌, ◌≤◌, ◌==◌, ◌++◌, [], length, drop, IsErrOf, OnOk, OnErr};
 ghost use Rattle.atspi_message.specs.Envelope.{envelope_of};
@@ -7,12 +7,12 @@ ghost use Rattle.atspi_message.specs.Bytes.{IsMessage, FitsWire, rising_fields, 
 
 use crate::fault::SendFault;
 use crate::rules::meets_rules;
-use atspi_base::Bytes;
+use atspi_base::{Bytes, NoMemory};
 use atspi_message::{Message, WriteFault};
 use std::alloc::Global;
 use std::marker::Model;
 
-/// The bytes of the messages that an end sent and the bus did not take yet. Contracts see the list of them.
+/// The bytes of messages that one side sent and the other did not take yet. Contracts see the list of them.
 #[derive(Drop)]
 pub struct Link {
     bytes: Bytes,
@@ -88,6 +88,15 @@ impl Link {
             Err(WriteFault::Big) => Err(SendFault::Unsendable),
             Err(WriteFault::NoMemory) => Err(SendFault::NoMemory),
         }
+    }
+
+    /// A piece of what was sent comes behind the bytes that wait. After want of memory all is as before.
+    pub fn feed(&mut self, piece: &[u8]) -> Result<(), NoMemory>
+        ensures ok { OnOk result (self.new ≡ self.old ++ piece.now) }
+        ensures err { OnErr result (self.new ≡ self.old) }
+    {
+        self.settle();
+        self.bytes.extend(piece)
     }
 
     /// The first bytes that wait are gone.

@@ -1,9 +1,10 @@
 //! The first message of bytes.
 
-ghost use Rattle.std.specs.Prelude.{◌≡◌, ◌≤◌, ◌++◌, ℕ, List, length, take, IfSome};
+ghost use Rattle.std.specs.Prelude.{◌≡◌, ◌<◌, ◌≤◌, ◌+◌, ◌++◌, ◌↔◌, ℕ, List, length, take, IfSome};
 ghost use Rattle.atspi_message.specs.Envelope.{Envelope};
 ghost use Rattle.atspi_message.specs.Bytes.{IsMessage};
 ghost use Rattle.atspi_header.specs.View.{envelope_at};
+ghost use Rattle.atspi_stream.specs.Stream.{stated, AwaitsMore};
 ghost use Rattle.atspi_posts.specs.Firsts.{IsGiven};
 
 use atspi_header::MessageRef;
@@ -37,5 +38,21 @@ pub fn first_message(bytes: &[u8]) -> Option<Whole<'_>>
     match MessageRef::parse(&bytes[..len]) {
         Ok(message) => Some(Whole { message, len }),
         Err(_) => None,
+    }
+}
+
+/// How many bytes a message that begins with these awaits: those that its first 16 lack, and once these are there, those that it lacks in whole. 0 exactly
+/// where it is whole, or malformed in its first 16 bytes. Takes no memory.
+pub fn missing(held: &[u8]) -> usize
+    ensures awaits { (0 < result) ↔ AwaitsMore held.now }
+    ensures front { length held.now < 16 → length held.now + result ≡ 16 }
+    ensures rest { 16 ≤ length held.now → 0 < result → length held.now + result ≡ stated held.now }
+{
+    let Some(first) = held.first_chunk::<16>() else {
+        return 16 - held.len();
+    };
+    match total(first) {
+        Ok(length) => (length as usize).saturating_sub(held.len()),
+        Err(_) => 0,
     }
 }

@@ -7,6 +7,7 @@ pub mod Places
 pub mod Refusals
 pub mod Shown
 pub mod Stage
+pub mod Taken
 pub mod Turns
 pub mod Wires
 pub mod Worlds

@@ -1,9 +1,13 @@
 //! An end takes what comes down its link.
 
-ghost use Rattle.std.specs.Prelude.{◌≡◌, map, All, OnOk};
+ghost use Rattle.std.specs.Prelude.{◌≡◌, ◌≤◌, [], ◌∷◌, ◌++◌, length, map, All, IfOk, IfSome, OnOk};
+ghost use Rattle.atspi_header.specs.View.{bytes_of, envelope_at};
+ghost use Rattle.atspi_events.specs.declared.event.Event.TheVariants as events;
+ghost use Rattle.atspi_carrying.specs.Named as named;
 ghost use Rattle.atspi_bus_steps.specs.Inner.{state_of};
 ghost use Rattle.atspi_stage.specs.Doing.{TellsAt, TellsFirst, TellsReaderAt};
 ghost use Rattle.atspi_stage.specs.Stage.{IsStage};
+ghost use Rattle.atspi_stage.specs.Taken.{HandsFront, TakesFront};
 
 use crate::cast::Cast;
 use crate::stage::Stage;
@@ -12,9 +16,8 @@ use atspi_carrying::{CarryFault, note, party_named};
 use atspi_events::Event;
 use atspi_header::MessageRef;
 use atspi_lines::Party;
-use atspi_posts::{Post, Standing};
+use atspi_posts::{Link, Post, Standing, first_message};
 use atspi_stage_ends::{Application, Follower};
-use atspi_stream::{Feeder, Got};
 use std::alloc::Global;
 
 /// An end takes a message, and that is told.
@@ -30,6 +33,7 @@ fn hand<A: Application, R: Follower>(
     requires readers { All R.is_follower cast.old.readers.items }
     ensures apps { All A.is_app cast.new.apps.items }
     ensures readers { All R.is_follower cast.new.readers.items }
+    ensures told { OnOk result (trace.new.items ≡ trace.old.items ++ events.Got taker (named.party_named (envelope_at message.now).sender posts.now) message.now.serial ∷ []) }
 {
     note(
         trace,
@@ -43,10 +47,35 @@ fn hand<A: Application, R: Follower>(
     Ok(())
 }
 
-/// An end takes the message that is whole, if one is; answers whether.
-fn take_whole<A: Application, R: Follower>(
+/// An end takes the first message of the bytes that lie at it; answers how many bytes it had, none where there is no message.
+fn hand_front<A: Application, R: Follower>(
     alloc: Global,
-    feeder: &mut Feeder,
+    at_end: &Link,
+    posts: &[Post],
+    taker: Party,
+    cast: &mut Cast<A, R>,
+    trace: &mut Vec<Event>,
+) -> Result<Option<usize>, CarryFault>
+    requires apps { All A.is_app cast.old.apps.items }
+    requires readers { All R.is_follower cast.old.readers.items }
+    ensures apps { All A.is_app cast.new.apps.items }
+    ensures readers { All R.is_follower cast.new.readers.items }
+    ensures within { IfOk result (λ len. IfSome len (λ n. n ≤ length at_end.now)) }
+    ensures hands { IfOk result (λ len. HandsFront at_end.now posts.now taker trace.old.items trace.new.items len) }
+{
+    match first_message(at_end.as_slice()) {
+        None => Ok(None),
+        Some(first) => match hand(alloc, &first.message, posts, taker, cast, trace) {
+            Ok(()) => Ok(Some(first.len)),
+            Err(fault) => Err(fault),
+        },
+    }
+}
+
+/// An end takes the first message of the bytes that lie at it, if they begin with one, and the others stay; answers whether it did.
+fn take_front<A: Application, R: Follower>(
+    alloc: Global,
+    at_end: &mut Link,
     posts: &[Post],
     taker: Party,
     cast: &mut Cast<A, R>,
@@ -56,14 +85,15 @@ fn take_whole<A: Application, R: Follower>(
     requires readers { All R.is_follower cast.old.readers.items }
     ensures apps { All A.is_app cast.new.apps.items }
     ensures readers { All R.is_follower cast.new.readers.items }
+    ensures takes { IfOk result (λ took. TakesFront at_end.old at_end.new posts.now taker trace.old.items trace.new.items took) }
 {
-    match feeder.next() {
-        Got::Message(message) => match hand(alloc, &message, posts, taker, cast, trace) {
-            Ok(()) => Ok(true),
-            Err(fault) => Err(fault),
-        },
-        Got::NotYet => Ok(false),
-        Got::Bad(_) => Ok(false),
+    match hand_front(alloc, at_end, posts, taker, cast, trace) {
+        Ok(Some(len)) => {
+            at_end.pop(len);
+            Ok(true)
+        }
+        Ok(None) => Ok(false),
+        Err(fault) => Err(fault),
     }
 }
 
@@ -162,7 +192,7 @@ impl<A: Application, R: Follower> Stage<A, R> {
             return Ok(false);
         }
         let taker = self.carrier.posts[place].who;
-        let took = take_whole(
+        let took = take_front(
             self.carrier.alloc,
             &mut self.carrier.at_end[place],
             &self.carrier.posts,

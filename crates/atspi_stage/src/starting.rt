@@ -1,6 +1,6 @@
 //! The beginning of a world, and the starts of ends.
 
-ghost use Rattle.std.specs.Prelude.{◌≡◌, ◌<◌, ◌≤◌, ℕ, suc, [], length, All, IfOk, OnOk};
+ghost use Rattle.std.specs.Prelude.{◌≡◌, ◌<◌, ◌≤◌, ℕ, suc, [], length, All, IfOk, IfSome, OnOk};
 ghost use Rattle.atspi_forest.specs.Row.{IsName};
 ghost use Rattle.atspi_lines.specs.declared.limits.TheConstants.{APP_COUNT, QUOTA_LEAST, QUOTA_MOST};
 ghost use Rattle.atspi_protocol.specs.registering.RegistryState.{begins};
@@ -22,28 +22,38 @@ use atspi_base::Text;
 use atspi_carrying::{Carrier, CarryFault, note};
 use atspi_events::Event;
 use atspi_lines::{Party, QUOTA_MOST};
+use atspi_posts::{Link, first_message};
 use atspi_registry::Registry;
 use atspi_stage_ends::{Application, Follower};
-use atspi_stream::{Feeder, Got};
 use std::alloc::Global;
 
 /// How many messages the registry takes at its start at most.
 const START_TURNS: u32 = 64;
 
-/// The registry takes the message that is whole at it, if one is. It says nothing to one of its start, and nothing of that is told.
-fn hear(registry: &mut Registry, feeder: &mut Feeder) -> Result<(), CarryFault> {
-    match feeder.next() {
-        Got::Message(message) => match registry.take(&message) {
-            Ok(()) => Ok(()),
+/// The registry takes the message that the bytes at it begin with, if they begin with one; answers how many bytes it had. It says nothing to one of its
+/// start, and nothing of that is told.
+fn hear_front(registry: &mut Registry, at_end: &Link) -> Result<Option<usize>, CarryFault>
+    ensures within { IfOk result (λ len. IfSome len (λ n. n ≤ length at_end.now)) }
+{
+    match first_message(at_end.as_slice()) {
+        None => Ok(None),
+        Some(first) => match registry.take(&first.message) {
+            Ok(()) => Ok(Some(first.len)),
             Err(fault) => Err(CarryFault::from(fault)),
         },
-        Got::NotYet => Ok(()),
-        Got::Bad(_) => Ok(()),
     }
 }
 
+/// The same; what it took is gone.
+fn hear(registry: &mut Registry, at_end: &mut Link) -> Result<(), CarryFault> {
+    if let Some(len) = hear_front(registry, at_end)? {
+        at_end.pop(len);
+    }
+    Ok(())
+}
+
 /// The same at the end of a connection, if it is there.
-fn hear_at(registry: &mut Registry, at_end: &mut [Feeder], conn: u32) -> Result<(), CarryFault> {
+fn hear_at(registry: &mut Registry, at_end: &mut [Link], conn: u32) -> Result<(), CarryFault> {
     let place = conn as usize;
     if place >= at_end.len() {
         return Ok(());

@@ -14,14 +14,14 @@ pieces-preserved c =
     record {
       state = e.state ∙ inv.state;
       left = (let within = inv.left in omega (arith, within));
-      within = λ m rest is all less. piece_within a b c.args.conn n c.pieces.feeder c.carry_down.new.feeder m rest e.gives e.awaited is (inv.whole ∙ all) (inv.within m rest is all less);
-      whole = given_whole a b c.args.conn n c.pieces.feeder c.carry_down.new.feeder e.gives ∙ inv.whole;
+      within = λ m rest is all less. piece_within a b c.args.conn n c.pieces.at_end c.carry_down.new.at_end m rest e.gives e.awaited is (inv.whole ∙ all) (inv.within m rest is all less);
+      whole = given_whole a b c.args.conn n c.pieces.at_end c.carry_down.new.at_end e.gives ∙ inv.whole;
       rest = λ k bus given more.
           let few = e.most in
           let within = inv.left in
           let sum : c.args.most - c.pieces.left + (n + k) ≡ c.args.most - (c.pieces.left - n) + k = omega (arith, few, within) in
-          subst (λ x. IsGiven (inner_of c.args.bus.now) bus c.args.feeder.now given c.args.conn x) sum
-          (inv.rest (n + k) bus given (given_more a b bus c.args.conn n k c.pieces.feeder c.carry_down.new.feeder given e.gives more));
+          subst (λ x. IsGiven (inner_of c.args.bus.now) bus c.args.at_end.now given c.args.conn x) sum
+          (inv.rest (n + k) bus given (given_more a b bus c.args.conn n k c.pieces.at_end c.carry_down.new.at_end given e.gives more));
     }
 
 pub returns-then-count-eq0-clause-filled : goal.returns-then-count-eq0-clause-filled
@@ -34,7 +34,7 @@ returns-then-count-eq0-clause-filled c =
     let none : n ≡ 0 = c.if-count-eq0.true in
     let sum : c.args.most - c.pieces.left + n ≡ c.args.most - c.pieces.left = omega (arith, none) in
     record {
-      gives = subst (λ x. IsGiven (inner_of c.args.bus.now) b c.args.feeder.now c.carry_down.new.feeder c.args.conn x) sum (inv.rest n b c.carry_down.new.feeder e.gives);
-      within = λ m rest is all less. piece_within a b c.args.conn n c.pieces.feeder c.carry_down.new.feeder m rest e.gives e.awaited is (inv.whole ∙ all) (inv.within m rest is all less);
-      stops = λ fewer waits awaits. stopped a b c.args.conn n c.pieces.left c.pieces.feeder c.carry_down.new.feeder e.gives none e.some (omega (arith, fewer)) waits awaits;
+      gives = subst (λ x. IsGiven (inner_of c.args.bus.now) b c.args.at_end.now c.carry_down.new.at_end c.args.conn x) sum (inv.rest n b c.carry_down.new.at_end e.gives);
+      within = λ m rest is all less. piece_within a b c.args.conn n c.pieces.at_end c.carry_down.new.at_end m rest e.gives e.awaited is (inv.whole ∙ all) (inv.within m rest is all less);
+      stops = λ fewer waits awaits. stopped a b c.args.conn n c.pieces.left c.pieces.at_end c.carry_down.new.at_end e.gives none e.some (omega (arith, fewer)) waits awaits;
     }

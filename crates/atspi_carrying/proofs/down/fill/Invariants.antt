@@ -9,9 +9,9 @@ abbrev pub invariant-pieces : goal.invariant-pieces
 invariant-pieces l = record {
   state : state_of l.bus ≡ state_of l.initial.bus;
   left : l.left ≤ l.most;
-  within : KeepsWithin l.initial.feeder (waits_for (inner_of l.initial.bus) l.conn) l.feeder;
-  whole : l.feeder ++ waits_for (inner_of l.bus) l.conn ≡ l.initial.feeder ++ waits_for (inner_of l.initial.bus) l.conn;
-  rest : (n : ℕ) (bus : Bus) (given : List ℕ) → IsGiven (inner_of l.bus) bus l.feeder given l.conn n → IsGiven (inner_of l.initial.bus) bus l.initial.feeder given l.conn (l.most - l.left + n);
+  within : KeepsWithin l.initial.at_end (waits_for (inner_of l.initial.bus) l.conn) l.at_end;
+  whole : l.at_end ++ waits_for (inner_of l.bus) l.conn ≡ l.initial.at_end ++ waits_for (inner_of l.initial.bus) l.conn;
+  rest : (n : ℕ) (bus : Bus) (given : List ℕ) → IsGiven (inner_of l.bus) bus l.at_end given l.conn n → IsGiven (inner_of l.initial.bus) bus l.initial.at_end given l.conn (l.most - l.left + n);
 }
 
 abbrev pub decreases-pieces : goal.decreases-pieces

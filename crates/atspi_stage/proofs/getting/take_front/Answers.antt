@@ -1,0 +1,26 @@
+use Rattle.std.proofs.Common.{◌≡◌, ℕ, List, ◌++◌, length, drop, None, Some, refl, sym, ap, ◌∙◌}
+use Rattle.std.proofs.Math.Seq.{drop-append_seam}
+use Rattle.std.proofs.lemmas.Option.{same_Some}
+use Rattle.atspi_message.specs.Bytes.{written}
+use Rattle.atspi_stage.proofs.getting.take_front.Goals as goal
+
+none_some : (n : ℕ) → None ≡ Some n → ⊥
+none_some n h = cc
+
+-- what is left behind a front that is gone
+behind : (bytes after own rest : List ℕ) (len : ℕ) → after ≡ drop len bytes → len ≡ length own → bytes ≡ own ++ rest → after ≡ rest
+behind bytes after own rest len gone long front = gone ∙ ap (λ n. drop n bytes) long ∙ ap (drop (length own)) front ∙ drop-append_seam own rest
+
+pub returns-in-Ok-Some-clause-takes : goal.returns-in-Ok-Some-clause-takes
+returns-in-Ok-Some-clause-takes g c = λ m rest is front.
+    let handed = c.in-Ok-Some.ensures.hands m rest is front in
+    record {
+      took_it = refl;
+      left = behind _ _ (written m) rest _ c.pop.ensures (same_Some _ _ (sym c.in-Ok-Some.field-0-is ∙ handed.long)) front;
+      told = handed.told;
+    }
+
+pub returns-in-Ok-None-clause-takes : goal.returns-in-Ok-None-clause-takes
+returns-in-Ok-None-clause-takes g c = λ m rest is front.
+    let handed = c.in-Ok-None.ensures.hands m rest is front in
+    absurd (none_some (length (written m)) (sym c.in-Ok-None.field-0-is ∙ handed.long))
