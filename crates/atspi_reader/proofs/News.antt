@@ -1,5 +1,5 @@
 -- The end of a name, and news with a new application, as a reader takes them.
-use Rattle.std.proofs.Common.{◌≡◌, ℕ, ◌<◌, ◌≤◌, Bool, true, false, cond, not, List, [], ◌∷◌, ◌++◌, filter, flat_map, Option, Some, None, refl, sym, ap, subst, ◌∙◌, append_assoc}
+use Rattle.std.proofs.Common.{◌≡◌, ℕ, ◌<◌, ◌≤◌, Bool, true, false, cond, not, List, [], ◌∷◌, ◌++◌, filter, flat_map, length, take, Option, Some, None, refl, sym, ap, subst, ◌∙◌, append_assoc}
 use Rattle.std.specs.Prelude.{bytes_eq, if◌then◌else◌, Result, Ok, Err, OnOk, OnErr, IfSome}
 use Rattle.std.specs.List.{list_any}
 use Rattle.std.proofs.lemmas.List.{append-nil}
@@ -26,12 +26,12 @@ use Rattle.atspi_reader_known.proofs.Names.{folded_name}
 use Rattle.atspi_reader.specs.declared.asks.Next.{Next}
 use Rattle.atspi_reader.specs.Asked.{chosen, next_for, sent, number_after, went_on, Asks}
 use Rattle.atspi_reader.specs.Turns.{did, with_apps, listed, IsNewTo, noted_if}
-use Rattle.atspi_reader.specs.Heard.{heard}
+use Rattle.atspi_reader.specs.Heard.{heard, Speaks}
 use Rattle.atspi_reader.specs.Steps.{Does}
-use Rattle.atspi_reader.proofs.Changed.{filter_changed, changed-changed, changed-append, wishes_filter}
+use Rattle.atspi_reader.proofs.Changed.{filter_changed, changed-changed, changed-append, only_none, wishes_filter}
 use Rattle.atspi_reader.proofs.Adopted.{known-changed}
 use Rattle.atspi_reader.proofs.Goes.{asked_at, next_at, gone, wishes-noted}
-use Rattle.atspi_reader.proofs.Done.{does_done, does_failed, same_step}
+use Rattle.atspi_reader.proofs.Done.{does_done, does_failed, same_step, unqueued}
 
 -- what was asked, where that depends on the first wish only while no call waits
 by_pending : (p : Option Pending) (wish other : Option Question) → (p ≡ None → wish ≡ other) → (to_come : List Question) → chosen p to_come wish ≡ chosen p to_come other
@@ -247,25 +247,71 @@ module _ (s : ReaderState) (e : Envelope) (child : Option Followed) (new : IfSom
     pub told_wishes : first (wishes (changed (folded news) from (s.apps ++ listed child))) ≡ first (wishes after)
     told_wishes = ap first (sym (wanted_in is_known e.serial from (changed (folded news) from (s.apps ++ listed child))))
 
-    pub heard_is : (n : Next) (done : List Done) → heard s e (listed child) news n done ≡ went_on n (with_apps (did s done) after)
+    heard_is : (n : Next) (done : List Done) → heard (did s done) e (listed child) news n ≡ went_on n (with_apps (did s done) after)
     heard_is n done = ap (went_on n) (noted_in is_known (did s done) (changed (folded news) from (s.apps ++ listed child)) e)
 
-    -- news as they are taken
-    pub heard_does : {T : Type 0} (r : Result T EndFault) (n : Next) (done : List Done) (new' : ReaderState) (wish : Option Question)
-        → (s.pending ≡ None → wish ≡ first (wishes (changed (folded news) from (s.apps ++ listed child))))
-        → Asks (Ok n) (flat_map (lines_at told) (filter (is_named from) s.apps)) done s.pending s.next s.to_come wish
-        → OnOk r (new' ≡ heard s e (listed child) news n done) → OnErr r (new' ≡ s) → (r ≡ Err Spent → ⊥)
-        → Does r s new' (goes_on (takes_news (takes_child (notes s e) e) e))
-    heard_does (Ok x) n done new' wish wanted asks ok err memory =
-        rested_done s _ (flat_map (lines_at told) (filter (is_named from) s.apps)) after wish told_is (λ h. wanted h ∙ told_wishes) x n done new' asks (ok ∙ heard_is n done)
-    heard_does (Err fault) n done new' wish wanted asks ok err memory = record { done = tt; room = tt; spent = λ h. absurd (memory h); kept = err }
+    abbrev said : News → List Done
+    said n = flat_map (lines_at n) (filter (is_named from) s.apps)
 
-    pub unheard : {T : Type 0} (fault : EndFault) (done : List Done) (wish : Option Question)
-        → (s.pending ≡ None → wish ≡ first (wishes (changed (folded news) from (s.apps ++ listed child))))
-        → Asks (Err fault) (flat_map (lines_at told) (filter (is_named from) s.apps)) done s.pending s.next s.to_come wish
-        → Does {T = T} (Err fault) s s (goes_on (takes_news (takes_child (notes s e) e) e))
-    unheard fault done wish wanted asks =
-        rested_failed s _ (flat_map (lines_at told) (filter (is_named from) s.apps)) after wish told_is (λ h. wanted h ∙ told_wishes) fault done s asks refl
+    -- nothing is spoken of an application that is not known
+    said_same : said news ≡ said told
+    said_same = by is_known refl
+      where
+        by : (b : Bool) → is_known ≡ b → said news ≡ said told
+        by true h = ap said (same h)
+        by false h = ap (flat_map (lines_at news)) (only_none from s.apps h) ∙ sym (ap (flat_map (lines_at told)) (only_none from s.apps h))
+
+    abbrev wish : Option Question
+    wish = first (wishes (changed (folded news) from (s.apps ++ listed child)))
+
+    -- news as they are taken, once what they say and make wanted is queued
+    pub heard_does : {T : Type 0} (r : Result T EndFault) (n : Next) (mid new' : ReaderState) (queued : ℕ) → Speaks (Ok n) s mid (said news) wish → queued ≡ length s.out
+        → OnOk r (new' ≡ heard mid e (listed child) news n) → OnErr r (new' ≡ record mid { out = take queued mid.out }) → (r ≡ Err Spent → ⊥)
+        → Does r s new' (goes_on (takes_news (takes_child (notes s e) e) e))
+    heard_does (Ok x) n mid new' queued speaks is ok err memory =
+        let done = said told ++ sent s.next (chosen s.pending s.to_come wish) in
+        rested_done s _ (said told) after wish told_is (λ h. told_wishes) x n done new' (record { queued = refl; next = speaks.next; room = speaks.room; spent = speaks.spent })
+        (ok
+        ∙ ap (λ (m : ReaderState). heard m e (listed child) news n) speaks.queued
+        ∙ ap (λ (l : List Done). heard (did s (l ++ sent s.next (chosen s.pending s.to_come wish))) e (listed child) news n) said_same
+        ∙ heard_is n done)
+    heard_does (Err fault) n mid new' queued speaks is ok err memory = record {
+      done = tt;
+      room = tt;
+      spent = λ h. absurd (memory h);
+      kept = err ∙ ap (λ (m : ReaderState). record m { out = take queued m.out }) speaks.queued
+          ∙ unqueued s (said news ++ sent s.next (chosen s.pending s.to_come wish)) queued is;
+    }
+
+    pub unheard : {T : Type 0} (fault : EndFault) (mid : ReaderState) → Speaks (Err fault) s mid (said news) wish
+        → Does {T = T} (Err fault) s mid (goes_on (takes_news (takes_child (notes s e) e) e))
+    unheard fault mid speaks =
+        rested_failed s _ (said told) after wish told_is (λ h. told_wishes) fault [] mid (record { queued = tt; next = tt; room = tt; spent = speaks.spent }) speaks.kept
+
+-- what is said and asked is queued, or was not
+module _ (s new : ReaderState) (said before after : List Done) (wish other : Option Question) (same : s.pending ≡ None → wish ≡ other) where
+  same_asked : chosen s.pending s.to_come wish ≡ chosen s.pending s.to_come other
+  same_asked = by_pending s.pending wish other same s.to_come
+
+  pub spoken : (n : Next) → before ≡ said → Asks (Ok n) before after s.pending s.next s.to_come wish → new ≡ did s after → Speaks (Ok n) s new said other
+  spoken n b asks e = record {
+    queued = e ∙ ap (did s) (asks.queued
+        ∙ ap (λ (l : List Done). l ++ sent s.next (chosen s.pending s.to_come wish)) b
+        ∙ ap (λ (o : Option Question). said ++ sent s.next o) same_asked);
+    next = asks.next ∙ next_by s.pending wish other same s.next s.to_come;
+    room = subst (λ (o : Option Question). number_after s.next o ≤ 4294967296) same_asked asks.room;
+    spent = λ h. subst (λ (o : Option Question). 4294967296 < number_after s.next o) same_asked (asks.spent h);
+    kept = tt;
+  }
+
+  pub unspoken : (fault : EndFault) → Asks (Err fault) before after s.pending s.next s.to_come wish → new ≡ s → Speaks (Err fault) s new said other
+  unspoken fault asks e = record {
+    queued = tt;
+    next = tt;
+    room = tt;
+    spent = λ h. subst (λ (o : Option Question). 4294967296 < number_after s.next o) same_asked (asks.spent h);
+    kept = e;
+  }
 
 -- what was new is not held
 pub if_unheld : (apps : List Followed) (child : Option Followed) → IfSome child (IsNewTo apps) → IfSome child (λ (a : Followed). a.view ≡ None)

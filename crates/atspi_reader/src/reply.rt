@@ -3,7 +3,7 @@
 ghost use Rattle.std.specs.Prelude.{◌≡◌, ◌≤◌, true, Some, None, take, IfOk, IfSome, OnOk, OnErr};
 ghost use Rattle.atspi_header.specs.View.{envelope_at};
 ghost use Rattle.atspi_protocol.specs.news.Replies as replies;
-ghost use Rattle.atspi_protocol.specs.following.Replied.{changed, replied, goes_on_if, with_children, with_items, with_part};
+ghost use Rattle.atspi_protocol.specs.following.Replied.{changed, refused_part, replied, goes_on_if, with_children, with_items, with_part};
 ghost use Rattle.atspi_protocol.specs.following.Takes as takes;
 ghost use Rattle.atspi_protocol.specs.following.Wishes.{wishes};
 ghost use Rattle.atspi_reader_known.specs.Wanted.{first};
@@ -18,7 +18,6 @@ use crate::question::waiting_question;
 use crate::state::Reader;
 use crate::wanted::{wish_now, wish_with, wish_without, wish_without_part};
 use atspi_base::NoMemory;
-use atspi_forest::{News, Reference};
 use atspi_header::MessageRef;
 use atspi_news_reading::{items_told, part_told};
 use atspi_protocol::ends::EndFault;
@@ -173,12 +172,20 @@ impl Reader {
         requires named { app.name ≡ name.now }
         ensures { Does result (reader_of self.old) (reader_of self.new) (takes.goes_on (free (with_apps (reader_of self.old) (replaced (Some app) name.now self.old.apps)) (envelope_at m.now))) }
     {
-        let wish = wish_with(self.alloc, &self.apps, name.as_str(), &app)?;
-        let next = self.proceeds(true, wish)?;
+        let next = self.proceeds_with(name, &app)?;
         self.apps.put(app);
         self.note(m);
         self.answered(true, next);
         Ok(())
+    }
+
+    /// The next call is queued, given that another application stands in the place of the one with this name then.
+    fn proceeds_with(&mut self, name: &BusName, app: &App) -> Result<Next, EndFault>
+        requires { self.old.number ≤ 4294967296 }
+        ensures { Queues result (reader_of self.old) (reader_of self.new) self.old.to_come.items (first (wishes (changed (λ _. app.now) name.now self.old.apps))) }
+    {
+        let wish = wish_with(self.alloc, &self.apps, name.as_str(), app)?;
+        self.proceeds(true, wish)
     }
 
     /// An application is forgotten.
@@ -194,7 +201,7 @@ impl Reader {
         Ok(())
     }
 
-    /// A part of a row, or that it is refused.
+    /// A part of a row, or that it is refused. What is wanted then is asked before the part is read, so that one small function holds the news.
     fn take_part(
         &mut self,
         m: &MessageRef,
@@ -205,28 +212,9 @@ impl Reader {
         requires { IsReader self.old }
         ensures { Does result (reader_of self.old) (reader_of self.new) (takes.goes_on (with_part (free (reader_of self.old) (envelope_at m.now)) name.now path part (replies.part_told part path (envelope_at m.now)))) }
     {
-        let told = part_told(self.alloc, part, &path, m)?;
-        let wish = wish_without_part(self.alloc, &self.apps, name.as_str(), &path, part)?;
-        self.part_comes(m, name, path, part, told, wish)
-    }
-
-    /// The same, given what was told and what is wanted first then.
-    fn part_comes(
-        &mut self,
-        m: &MessageRef,
-        name: &BusName,
-        path: Path,
-        part: PartName,
-        told: Option<News>,
-        wish: Option<Question>,
-    ) -> Result<(), EndFault>
-        requires within { self.old.number ≤ 4294967296 }
-        requires wish { wish ≡ first (wishes (changed (parted told path part) name.now self.old.apps)) }
-        ensures { Does result (reader_of self.old) (reader_of self.new) (takes.goes_on (free (with_apps (reader_of self.old) (changed (parted told path part) name.now self.old.apps)) (envelope_at m.now))) }
-    {
         let queued = self.queued();
-        let next = self.proceeds(true, wish)?;
-        match self.settle_part(name, path, part, told) {
+        let next = self.proceeds_without(name, &path, part)?;
+        match self.settle_part(m, name, path, part) {
             Ok(()) => {
                 self.note(m);
                 self.answered(true, next);
@@ -239,18 +227,32 @@ impl Reader {
         }
     }
 
-    /// A part of a row is known, or refused. After want of memory all is as before.
+    /// The next call is queued, given that a part of a row is known or refused then.
+    fn proceeds_without(
+        &mut self,
+        name: &BusName,
+        path: &Path,
+        part: PartName,
+    ) -> Result<Next, EndFault>
+        requires { self.old.number ≤ 4294967296 }
+        ensures { Queues result (reader_of self.old) (reader_of self.new) self.old.to_come.items (first (wishes (changed (refused_part path.now part) name.now self.old.apps))) }
+    {
+        let wish = wish_without_part(self.alloc, &self.apps, name.as_str(), path, part)?;
+        self.proceeds(true, wish)
+    }
+
+    /// A part of a row is known, or refused, as a message tells. After want of memory all is as before.
     fn settle_part(
         &mut self,
+        m: &MessageRef,
         name: &BusName,
         path: Path,
         part: PartName,
-        told: Option<News>,
     ) -> Result<(), NoMemory>
-        ensures ok { OnOk result (reader_of self.new ≡ with_apps (reader_of self.old) (changed (parted told path part) name.now self.old.apps)) }
+        ensures ok { OnOk result (reader_of self.new ≡ with_apps (reader_of self.old) (changed (parted (replies.part_told part path (envelope_at m.now)) path part) name.now self.old.apps)) }
         ensures err { OnErr result (reader_of self.new ≡ reader_of self.old) }
     {
-        match told {
+        match part_told(self.alloc, part, &path, m)? {
             Some(news) => self.apps.tell(name.as_str(), news),
             None => self.apps.refuse(name.as_str(), path, part),
         }

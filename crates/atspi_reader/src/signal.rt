@@ -1,6 +1,6 @@
 //! What a reader does with a signal.
 
-ghost use Rattle.std.specs.Prelude.{◌≡◌, ◌==◌, ◌++◌, true, [], Some, None, chars, filter, flat_map, IfOk, IfSome, IsErrOf, OnOk, OnErr, Option};
+ghost use Rattle.std.specs.Prelude.{◌≡◌, ◌==◌, ◌++◌, true, [], Some, None, chars, filter, flat_map, take, IfOk, IfSome, IsErrOf, OnOk, OnErr, Option};
 ghost use Rattle.std.specs.List.{list_any};
 ghost use Rattle.std.specs.Option.{option_copied};
 ghost use Rattle.atspi_header.specs.View.{bytes_of, envelope_at};
@@ -16,7 +16,7 @@ ghost use Rattle.atspi_protocol.specs.following.Takes.{folded, lines_at, notes};
 ghost use Rattle.atspi_reader_known.specs.Wanted.{first};
 ghost use Rattle.atspi_reader.specs.Doing.{all_done};
 ghost use Rattle.atspi_reader.specs.Turns.{listed, IsNewTo};
-ghost use Rattle.atspi_reader.specs.Heard.{heard};
+ghost use Rattle.atspi_reader.specs.Heard.{heard, Speaks};
 ghost use Rattle.atspi_reader.specs.Steps.{Does, Fine};
 ghost use Rattle.atspi_reader.specs.ReaderOf.{IsReader, reader_of};
 
@@ -91,11 +91,10 @@ impl Reader {
         ensures { Does result (reader_of self.old) (reader_of self.new) (takes.goes_on (takes.takes_news (known.takes_child (notes (reader_of self.old) (envelope_at m.now)) (envelope_at m.now)) (envelope_at m.now))) }
     {
         let child = self.child(m)?;
-        let mut events = VecDeque::new(self.alloc);
-        let news = self.read_news(m, &mut events)?;
-        let wish = self.news_wish(m, &news, child.as_ref())?;
-        let next = self.rest(wish, &mut events)?;
-        self.hear(m, child, news, next, events)
+        match self.read_news(m) {
+            Ok(news) => self.hear(m, child, news),
+            Err(fault) => Err(fault.into()),
+        }
     }
 
     /// The registry's name, once it is known.
@@ -119,22 +118,30 @@ impl Reader {
         }
     }
 
-    /// The news in a message of an application that is known, given before they are taken: what is spoken is appended.
-    fn read_news(
+    /// The news in a message of an application that is known.
+    fn read_news(&self, m: &MessageRef) -> Result<News, NoMemory>
+        ensures { list_any (is_named (or_empty (envelope_at m.now).sender)) self.now.apps ≡ true → IfOk result (λ news. news ≡ readings.news_of (or_empty (envelope_at m.now).sender) (envelope_at m.now)) }
+    {
+        match self.apps.found(sender_of(m)) {
+            Some(app) => news_of(self.alloc, app.name().as_str(), m),
+            None => Ok(News::Nothing),
+        }
+    }
+
+    /// Appends what is spoken at a news of the sender, given before it is taken.
+    fn say_told(
         &self,
         m: &MessageRef,
+        news: &News,
         events: &mut VecDeque<ReaderEvent>,
-    ) -> Result<News, NoMemory>
+    ) -> Result<(), NoMemory>
         requires { Fine self.now.apps }
-        ensures told { list_any (is_named (or_empty (envelope_at m.now).sender)) self.now.apps ≡ true → IfOk result (λ news. news ≡ readings.news_of (or_empty (envelope_at m.now).sender) (envelope_at m.now)) }
-        ensures lines { OnOk result (all_done events.new.items ≡ all_done events.old.items ++ flat_map (lines_at (readings.news_of (or_empty (envelope_at m.now).sender) (envelope_at m.now))) (filter (is_named (or_empty (envelope_at m.now).sender)) self.now.apps)) }
+        ensures { OnOk result (all_done events.new.items ≡ all_done events.old.items ++ flat_map (lines_at news.now) (filter (is_named (or_empty (envelope_at m.now).sender)) self.now.apps)) }
     {
-        let Some(app) = self.apps.found(sender_of(m)) else {
-            return Ok(News::Nothing);
-        };
-        let news = news_of(self.alloc, app.name().as_str(), m)?;
-        say_news(self.alloc, app, &news, events)?;
-        Ok(news)
+        match self.apps.found(sender_of(m)) {
+            Some(app) => say_news(self.alloc, app, news, events),
+            None => Ok(()),
+        }
     }
 
     /// What a news of the sender makes wanted, where nothing is wanted.
@@ -182,24 +189,54 @@ impl Reader {
         }
     }
 
-    /// What was spoken and asked is queued, and the news and the new application are taken. After a fault all is as before.
-    fn hear(
+    /// What is spoken at a news and asked next is queued, given before the news and a new application are taken. After a fault all is as before.
+    fn say_and_ask(
+        &mut self,
+        m: &MessageRef,
+        child: Option<&App>,
+        news: &News,
+    ) -> Result<Next, EndFault>
+        requires { IsReader self.old }
+        ensures { (a : Option Followed) → option_copied child.entry ≡ a → IfSome a (λ x. x.view ≡ None) → Speaks result (reader_of self.old) (reader_of self.new) (flat_map (lines_at news.now) (filter (is_named (or_empty (envelope_at m.now).sender)) self.old.apps)) (first (wishes (changed (folded news.now) (or_empty (envelope_at m.now).sender) (self.old.apps ++ listed a)))) }
+    {
+        let wish = self.news_wish(m, news, child)?;
+        let mut events = VecDeque::new(self.alloc);
+        self.say_told(m, news, &mut events)?;
+        let next = self.rest(wish, &mut events)?;
+        self.queue(&mut events)?;
+        Ok(next)
+    }
+
+    /// News and a new application are taken, once what they say and make wanted is queued. After a fault all is as before.
+    fn hear(&mut self, m: &MessageRef, child: Option<App>, news: News) -> Result<(), EndFault>
+        requires state { IsReader self.old }
+        requires new { IfSome child (IsNewTo self.old.apps) }
+        requires made { self.old.apps ++ listed child ≡ (known.takes_child (reader_of self.old) (envelope_at m.now)).apps }
+        requires told { list_any (is_named (or_empty (envelope_at m.now).sender)) self.old.apps ≡ true → news ≡ readings.news_of (or_empty (envelope_at m.now).sender) (envelope_at m.now) }
+        ensures { Does result (reader_of self.old) (reader_of self.new) (takes.goes_on (takes.takes_news (known.takes_child (notes (reader_of self.old) (envelope_at m.now)) (envelope_at m.now)) (envelope_at m.now))) }
+    {
+        let queued = self.queued();
+        match self.say_and_ask(m, child.as_ref(), &news) {
+            Ok(next) => self.settle_news(m, child, news, next, queued),
+            Err(fault) => Err(fault),
+        }
+    }
+
+    /// The news and the new application are taken, and the call that was queued waits. After want of memory only so much of what was done stays queued.
+    fn settle_news(
         &mut self,
         m: &MessageRef,
         child: Option<App>,
         news: News,
         next: Next,
-        events: VecDeque<ReaderEvent>,
+        queued: usize,
     ) -> Result<(), EndFault>
         requires { IfSome child (IsNewTo self.old.apps) }
-        ensures ok { OnOk result (reader_of self.new ≡ heard (reader_of self.old) (envelope_at m.now) (listed child) news next (all_done events.items)) }
-        ensures err { OnErr result (reader_of self.new ≡ reader_of self.old) }
+        ensures ok { OnOk result (reader_of self.new ≡ heard (reader_of self.old) (envelope_at m.now) (listed child) news next) }
+        ensures err { OnErr result (reader_of self.new ≡ record (reader_of self.old) { out = take queued (reader_of self.old).out }) }
         ensures memory { IsErrOf result EndFault.Spent → ⊥ }
     {
-        let mut events = events;
         let known = self.apps.has(sender_of(m));
-        let queued = self.queued();
-        self.queue(&mut events)?;
         match settle(&mut self.apps, sender_of(m), child, news) {
             Ok(()) => {
                 self.note_if(known, m);

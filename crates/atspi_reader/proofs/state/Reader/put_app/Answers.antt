@@ -13,11 +13,11 @@ use Rattle.atspi_reader.proofs.state.Reader.put_app.Goals as goal
 pub returns : goal.returns
 returns c =
     let s = reader_of c.args.self.now in
-    let mid = reader_of c.proceeds.new.self in
+    let mid = reader_of c.proceeds_with.new.self in
     let app = c.args.app in
+    let all = changed (λ _. app) c.args.name.now s.apps in
     answer_kept s mid (with_apps mid c.put.new.self) (reader_of c.note.new.self) (reader_of c.answered.new.self) (envelope_at c.args.m.now) true true s.registry
-    (changed (λ _. app) c.args.name.now s.apps) c.in_ok-wish.wish
-    (c.in_ok-wish.ensures ∙ ap (λ (n : List ℕ). first (wishes (changed (λ _. app) n s.apps))) c.as_str.ensures.bytes)
+    all (first (wishes all)) refl
     _ c.in_ok-next.next c.in_ok-next.ensures
     (ap (with_apps mid) (c.put.ensures ∙ ap (λ (n : List ℕ). changed (λ _. app) n mid.apps) c.requires.named ∙ ap (λ (r : ReaderState). changed (λ _. app) c.args.name.now r.apps) c.in_ok-next.ensures.queued))
     c.note.ensures c.answered.ensures
@@ -25,10 +25,7 @@ returns c =
 pub returns-in_err-next : goal.returns-in_err-next
 returns-in_err-next c =
     let s = reader_of c.args.self.now in
-    let mid = reader_of c.proceeds.new.self in
-    let app = c.args.app in
-    let p = err_from_is_err_and c.from_residual-in_err-next.result c.from_residual-in_err-next.ensures.1 in
-    rw (p.1, p.2) (answer_failed s mid mid mid mid (envelope_at c.args.m.now) true true s.registry
-    (changed (λ _. app) c.args.name.now s.apps) c.in_ok-wish.wish
-    (c.in_ok-wish.ensures ∙ ap (λ (n : List ℕ). first (wishes (changed (λ _. app) n s.apps))) c.as_str.ensures.bytes)
-    _ c.in_err-next.ensures refl)
+    let mid = reader_of c.proceeds_with.new.self in
+    let all = changed (λ _. c.args.app) c.args.name.now s.apps in
+    let p = err_from_is_err_and c.from_residual.result c.from_residual.ensures.1 in
+    rw (p.1, p.2) (answer_failed s mid mid mid mid (envelope_at c.args.m.now) true true s.registry all (first (wishes all)) refl _ c.in_err-next.ensures refl)
