@@ -23,5 +23,6 @@ pub mod OfMissed
 pub mod OfEnds
 pub mod OfServed
 pub mod OfWays
+pub mod OfSettled
 pub mod OfLaws
 pub mod OfExamples

@@ -1,7 +1,6 @@
 pub mod Facts
 pub mod Owning
 pub mod Sending
-pub mod Replying
 pub mod Returned
 pub mod Spelling
 pub mod Staying

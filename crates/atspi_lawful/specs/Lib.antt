@@ -22,5 +22,6 @@ pub mod missed
 pub mod exits
 pub mod ways
 pub mod served
+pub mod settled
 pub mod laws
 pub mod examples

@@ -22,6 +22,7 @@ pub mod quiet;
 pub mod readers;
 pub mod serials;
 pub mod served;
+pub mod settled;
 pub mod signed;
 pub mod steps;
 pub mod taken;

@@ -174,7 +174,7 @@ app_replies es r a letter few from p question e found answers = record { first =
     tells = subst (λ w. TellsOf es w p.first) from p.sent_.tells
 
 -- WHAT THE ANSWER TO A CALL FOR A PART TELLS
-part_call_answered : (app : Exporter) (name : List ℕ) (caller : List ℕ) (serial : ℕ) (asked path : List ℕ) (part : PartName)
+pub part_call_answered : (app : Exporter) (name : List ℕ) (caller : List ℕ) (serial : ℕ) (asked path : List ℕ) (part : PartName)
     → answer_to app name (record (asking serial (GetPart asked path part)) { sender = Some caller }) ≡ part_answer (named app name) path part
 part_call_answered app name caller serial asked path Text = refl
 part_call_answered app name caller serial asked path Caret = refl

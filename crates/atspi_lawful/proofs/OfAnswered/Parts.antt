@@ -364,6 +364,41 @@ part_is a path part added t h = by (bytes_eq path cache_path) refl
                   (row_told a part row (lawful_of row g) (subst (λ o. IsValue (replied a o (asked_of part (offered_if_there o)))) is h)),
             )
 
+-- and a node that has the part tells it
+abbrev pub HasPart : PartName → TreeRow → Type 0
+HasPart Text row = (t : TextContents) × (row.contents.text ≡ Some t)
+HasPart Caret row = (t : TextContents) × (row.contents.text ≡ Some t)
+HasPart Columns row = (n : ℕ) × (row.contents.columns ≡ Some n)
+
+row_value : (a : Application) (part : PartName) (row : TreeRow) → IsContents row.shape.kinds row.contents → HasPart part row → IsValue (replied a (Some (node row)) (asked_of part (Some (object_with (node_interfaces row)))))
+row_value a Text row c h = subst (λ x. IsValue (replied a (Some (node row)) x)) (sym (text_asked (node_interfaces row) (among_text row true (c.text ∙ ap is_some h.1)))) tt
+row_value a Caret row c h = subst (λ x. IsValue (replied a (Some (node row)) x)) (sym (caret_asked (node_interfaces row) (among_text row true (c.text ∙ ap is_some h.1)))) tt
+row_value a Columns row c h = subst (λ x. IsValue (replied a (Some (node row)) x)) (sym (columns_asked (node_interfaces row) (among_table row true (c.table ∙ ap is_some h.1)))) tt
+
+pub part_value : (a : Application) (path : List ℕ) (part : PartName) (row : TreeRow) → bytes_eq path cache_path ≡ false → node_at a.tree path ≡ Some row → IsContents row.shape.kinds row.contents → HasPart part row → IsValue (part_answer a path part).reply
+part_value a path part row c there kept h = subst (λ o. IsValue (replied a o (asked_of part (offered_if_there o)))) (sym (place_row a.tree path row c there)) (row_value a part row kept h)
+
+-- where it is refused nothing is changed
+abbrev pub HasNoPart : PartName → TreeRow → Type 0
+HasNoPart Text row = row.contents.text ≡ None
+HasNoPart Caret row = row.contents.text ≡ None
+HasNoPart Columns row = row.contents.columns ≡ None
+
+row_steps : (a : Application) (part : PartName) (row : TreeRow) → IsContents row.shape.kinds row.contents → HasNoPart part row → (place_answers a (Some (node row)) (asked_of part (Some (object_with (node_interfaces row))))).steps ≡ []
+row_steps a Text row c h = ap (λ x. (place_answers a (Some (node row)) x).steps) (text_lacks (node_interfaces row) (among_text row false (c.text ∙ ap is_some h)))
+row_steps a Caret row c h = ap (λ x. (place_answers a (Some (node row)) x).steps) (caret_lacks (node_interfaces row) (among_text row false (c.text ∙ ap is_some h)))
+row_steps a Columns row c h = ap (λ x. (place_answers a (Some (node row)) x).steps) (columns_lacks (node_interfaces row) (among_table row false (c.table ∙ ap is_some h)))
+
+none_steps : (a : Application) (what : Result Asked (List ℕ)) → (place_answers a None what).steps ≡ []
+none_steps a (Ok what) = refl
+none_steps a (Err word) = refl
+
+pub absent_steps : (a : Application) (path : List ℕ) (part : PartName) → bytes_eq path cache_path ≡ false → node_at a.tree path ≡ None → (part_answer a path part).steps ≡ []
+absent_steps a path part c there = subst (λ o. (place_answers a o (asked_of part (offered_if_there o))).steps ≡ []) (sym (place_none a.tree path c there)) (none_steps a (asked_of part None))
+
+pub lacking_steps : (a : Application) (path : List ℕ) (part : PartName) (row : TreeRow) → bytes_eq path cache_path ≡ false → node_at a.tree path ≡ Some row → IsContents row.shape.kinds row.contents → HasNoPart part row → (part_answer a path part).steps ≡ []
+lacking_steps a path part row c there kept h = subst (λ o. (place_answers a o (asked_of part (offered_if_there o))).steps ≡ []) (sym (place_row a.tree path row c there)) (row_steps a part row kept h)
+
 -- THE ROW OF A PATH
 find_same : {A : Type 0} (p q : A → Bool) → ((x : A) → p x ≡ q x) → (f : Forest A) → find p f ≡ find q f
 find_same p q e nil = refl

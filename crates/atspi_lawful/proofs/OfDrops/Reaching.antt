@@ -83,7 +83,7 @@ module _ (P : ℕ → Type 0) where
   pick_in true x y a c = a
   pick_in false x y a c = c
 
-  with_in : (lists : Lists) (name : List ℕ) (list : List (ℕ × ℕ)) → AreIn lists → AllByRecursion IsIn list → AreIn (with_list lists name list)
+  pub with_in : (lists : Lists) (name : List ℕ) (list : List (ℕ × ℕ)) → AreIn lists → AllByRecursion IsIn list → AreIn (with_list lists name list)
   with_in lists name list h a q = subst (AllByRecursion IsIn) (sym (list_of-with_list lists name list q)) (pick_in _ list (list_of lists q) a (h q))
 
   gone_in : (lists : Lists) (conn : ℕ) → AreIn lists → AreIn (lists_without conn lists)
@@ -103,7 +103,7 @@ module _ (P : ℕ → Type 0) where
   removes_in s conn (Some rule) h =
       if_lists (list_any (is_pair conn rule) s.rules) (record (only s (returns [])) { rules = without_first s.rules conn rule }) (only s (fails (codes "MatchRuleNotFound"))) h h
 
-  answers_in : (member : BusMember) (s : BusState) (conn : ℕ) (args : List Data) (rule : Option (List Condition)) → P conn → AreIn s.owners.lists → AreIn (answers member s conn args rule).owners.lists
+  pub answers_in : (member : BusMember) (s : BusState) (conn : ℕ) (args : List Data) (rule : Option (List Condition)) → P conn → AreIn s.owners.lists → AreIn (answers member s conn args rule).owners.lists
   answers_in Hello s conn args rule h a = a
   answers_in RequestName s conn args rule h a =
       if_lists (may_be_asked_for (first_text args)) (requests s conn (first_text args) (second_number args)) (only s (fails (codes "InvalidArgs")))

@@ -113,12 +113,12 @@ queued_keeps quota w k conn bytes h = by (is_due conn w.due) (nat_lt quota (leng
     by false true = doomed_keeps w k conn (Quota (length (queue_of w.queues conn)) (length bytes)) h
     by false false = h
 
-moved_keeps : (quota : ℕ) (w : Waiting) (k : ℕ) (move : Move) → is_due k w.due ≡ true → is_due k (queues.moved quota w move).due ≡ true
+pub moved_keeps : (quota : ℕ) (w : Waiting) (k : ℕ) (move : Move) → is_due k w.due ≡ true → is_due k (queues.moved quota w move).due ≡ true
 moved_keeps quota w k (says e) h = h
 moved_keeps quota w k (delivers conn e) h = queued_keeps quota w k conn (written e) h
 moved_keeps quota w k (closes conn) h = doomed_keeps w k conn NotHello h
 
-rest_due : (k conn : ℕ) (due : List (ℕ × Why)) → (k ≡ conn → ⊥) → is_due k due ≡ true → is_due k (filter (λ (d : ℕ × Why). not (d.0 == conn)) due) ≡ true
+pub rest_due : (k conn : ℕ) (due : List (ℕ × Why)) → (k ≡ conn → ⊥) → is_due k due ≡ true → is_due k (filter (λ (d : ℕ × Why). not (d.0 == conn)) due) ≡ true
 rest_due k conn [] differ h = h
 rest_due k conn (d ∷ ds) differ h = by (d.0 == conn) refl (d.0 == k) refl (λ g. rest_due k conn ds differ g) h
   where
@@ -192,7 +192,7 @@ module _ (letter : Envelope → Letter) (quota : ℕ) where
           at (inl c) = subst (λ (y : End). On l y.down) (sym c.1) (on_last l g.0.down)
           at (inr c) = absurd (c.0 refl)
 
-  delivered_now : (k : ℕ) (m : Envelope) (f : Filled) → Arrives k (letter m) (moved letter quota f (delivers k m)).ends (moved letter quota f (delivers k m)).waiting
+  pub delivered_now : (k : ℕ) (m : Envelope) (f : Filled) → Arrives k (letter m) (moved letter quota f (delivers k m)).ends (moved letter quota f (delivers k m)).waiting
   delivered_now k m f = by (is_due k f.waiting.due) refl (nat_lt quota (length (queue_of f.waiting.queues k) + length (written m)))
     where
       w : Waiting

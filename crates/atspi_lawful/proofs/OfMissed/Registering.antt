@@ -73,7 +73,7 @@ first_is_name : is_bus_name (codes ":1.0") ≡ true
 unfolding is_bus_name are_two_or_more are_elements parts_of
 first_is_name = refl
 
-name_is_bus_name : (es : List Entry) (who : Party) (name : List ℕ) → length (greeted es) ≤ 1000 → NameIs es who name → is_bus_name name ≡ true
+pub name_is_bus_name : (es : List Entry) (who : Party) (name : List ℕ) → length (greeted es) ≤ 1000 → NameIs es who name → is_bus_name name ≡ true
 name_is_bus_name es who name few (inl r) = ap is_bus_name r.1 ∙ first_is_name
 name_is_bus_name es who name few (inr h) = by (first_at (same_party who) (greeted es)) refl h
   where

@@ -70,7 +70,7 @@ pub record DueJoined (c : Carried) : Type 0 where
   pub lists : AreIn (Joins c.bus.state.joined) c.bus.state.owners.lists
   pub due : AllByRecursion (DueBelow (Joins c.bus.state.joined)) c.bus.waiting.due
 
-others_in : (P Q : ℕ → Type 0) (conn : ℕ) → ((c : ℕ) → P c → (c ≡ conn → ⊥) → Q c) → (list : List (ℕ × ℕ)) → AllByRecursion (λ (p : ℕ × ℕ). P p.0) list → AllByRecursion (λ (p : ℕ × ℕ). Q p.0) (without conn list)
+pub others_in : (P Q : ℕ → Type 0) (conn : ℕ) → ((c : ℕ) → P c → (c ≡ conn → ⊥) → Q c) → (list : List (ℕ × ℕ)) → AllByRecursion (λ (p : ℕ × ℕ). P p.0) list → AllByRecursion (λ (p : ℕ × ℕ). Q p.0) (without conn list)
 others_in P Q conn f [] a = tt
 others_in P Q conn f (p ∷ ps) a = by (p.0 == conn) refl (others_in P Q conn f ps a.1)
   where

@@ -121,7 +121,7 @@ module _ (R : End → End → Type 0) (o : IsOrder R) where
   letter_over letter l b a (says m) ends = over_same ends
   letter_over letter l b a (closes conn) ends = over_same ends
 
-  folded_over : (letter : Envelope → Letter) → Hands letter → (quota : ℕ) (f : Filled) (moves : List Move) → Over R f.ends (fold (moved letter quota) f moves).ends
+  pub folded_over : (letter : Envelope → Letter) → Hands letter → (quota : ℕ) (f : Filled) (moves : List Move) → Over R f.ends (fold (moved letter quota) f moves).ends
   folded_over letter l quota f [] = over_same f.ends
   folded_over letter l quota f (move ∷ moves) =
       over_both f.ends (moved letter quota f move).ends _

@@ -1,6 +1,6 @@
 -- What became of a reader's own calls is what the trace tells, as long as the registry lives.
 use Rattle.std.proofs.Common.{◌≡◌, ◌⊎◌, inl, inr, ℕ, zero, suc, ◌+◌, ◌≤◌, Bool, true, false, List, [], ◌∷◌, ◌++◌, length, map, Option, None, Some, refl, sym, ap, ap₂, ◌∙◌, subst, arith}
-use Rattle.std.specs.Prelude.{◌==◌, ◌||◌, ◌&&◌, filter_map, if◌then◌else◌}
+use Rattle.std.specs.Prelude.{◌==◌, ◌||◌, ◌&&◌, not, filter_map, if◌then◌else◌}
 use Rattle.std.specs.List.{AllByRecursion, cons_option, list_any}
 use Rattle.std.proofs.lemmas.List.{append-nil}
 use lib.Utf8.{encode}
@@ -90,10 +90,13 @@ any_now p es r from serial rest m was h =
     (ap (λ b. if b then message (es ++ got (Reader r) from serial ∷ rest) from serial else None) (party-same (Reader r)) ∙ found_more es (got (Reader r) from serial ∷ rest) from serial m was) h
 
 -- FATES
+abbrev pub fails_to : ℕ → Envelope → Bool
+fails_to serial e = (is_reply e && is_reply_to serial e.reply) && not (e.kind == 2)
+
 abbrev pub FateOf : List Entry → ℕ → ℕ → Fate → Type 0
 FateOf es r serial waits = Unit {0}
 FateOf es r serial returned = is_returned es r serial ≡ true
-FateOf es r serial failed = is_answered es r serial ≡ true
+FateOf es r serial failed = list_any (fails_to serial) (taken es (Reader r)) ≡ true
 
 pub record FateIs (es : List Entry) (r : ℕ) (a : Asked) : Type 0 where
   pub first : Envelope
@@ -104,7 +107,7 @@ pub record FateIs (es : List Entry) (r : ℕ) (a : Asked) : Type 0 where
 fate_more : (es ys : List Entry) (r serial : ℕ) (f : Fate) → FateOf es r serial f → FateOf (es ++ ys) r serial f
 fate_more es ys r serial waits h = tt
 fate_more es ys r serial returned h = any_taken_more (λ (e : Envelope). e.kind == 2 && is_reply_to serial e.reply) es ys (Reader r) h
-fate_more es ys r serial failed h = any_taken_more (λ e. is_reply e && is_reply_to serial e.reply) es ys (Reader r) h
+fate_more es ys r serial failed h = any_taken_more (fails_to serial) es ys (Reader r) h
 
 is_more : (es ys : List Entry) (r : ℕ) (a : Asked) → FateIs es r a → FateIs (es ++ ys) r a
 is_more es ys r a i = record { first = i.first; was = found_more es ys (Reader r) a.serial i.first i.was; read = i.read; fate = fate_more es ys r a.serial a.fate i.fate }
@@ -299,14 +302,14 @@ answered_fate es rest r letter a t i = by (is_reply m && is_reply_to a.serial m.
         any_now (λ (e : Envelope). e.kind == 2 && is_reply_to a.serial e.reply) es r letter.from m.serial rest t.first t.was
         (ap₂ (λ b c. b && c) (ap (λ k. k == 2) t.kind ∙ two) (replies to))
 
-    answered_now : is_reply m ≡ true → is_reply_to a.serial m.reply ≡ true → is_answered (es ++ ys) r a.serial ≡ true
-    answered_now reply to =
-        any_now (λ e. is_reply e && is_reply_to a.serial e.reply) es r letter.from m.serial rest t.first t.was
-        (ap₂ (λ b c. b && c) (ap (λ k. k == 2 || k == 3) t.kind ∙ reply) (replies to))
+    failed_now : (m.kind == 2) ≡ false → is_reply m ≡ true → is_reply_to a.serial m.reply ≡ true → FateOf (es ++ ys) r a.serial failed
+    failed_now other reply to =
+        any_now (fails_to a.serial) es r letter.from m.serial rest t.first t.was
+        (ap₂ (λ b c. b && c) (ap₂ (λ b c. b && c) (ap (λ k. k == 2 || k == 3) t.kind ∙ reply) (replies to)) (ap (λ k. not (k == 2)) t.kind ∙ ap not other))
 
     fate_now : (b : Bool) → (m.kind == 2) ≡ b → is_reply m ≡ true → is_reply_to a.serial m.reply ≡ true → FateOf (es ++ ys) r a.serial (if b then returned else failed)
     fate_now true g reply to = returned_now g to
-    fate_now false g reply to = answered_now reply to
+    fate_now false g reply to = failed_now g reply to
 
     and_left : (b c : Bool) → (b && c) ≡ true → b ≡ true
     and_left true c h = refl

@@ -1,6 +1,6 @@
 -- The law of readers, along a lawful trace.
 use Rattle.std.proofs.Common.{◌≡◌, ℕ, ◌<◌, ◌≤◌, Bool, true, false, List, [], ◌∷◌, ◌++◌, length, map, Option, None, Some, refl, sym, ap, ◌∙◌, subst, arith, is_some}
-use Rattle.std.specs.Prelude.{◌==◌, ◌||◌, ◌&&◌, if◌then◌else◌, bytes_eq}
+use Rattle.std.specs.Prelude.{not, ◌==◌, ◌||◌, ◌&&◌, if◌then◌else◌, bytes_eq}
 use Rattle.std.specs.List.{AllByRecursion, list_any, list_all}
 use Rattle.std.proofs.lemmas.Bool.{eqb-true}
 use Rattle.std.proofs.lemmas.Slice.Eq.{bytes_eq-Decides}
@@ -49,7 +49,7 @@ use Rattle.atspi_lawful.proofs.OfHeld.Keeping.{ReaderIs}
 use Rattle.atspi_lawful.proofs.OfHeld.LawHeld.{Holds}
 use Rattle.atspi_lawful.proofs.OfOwn.Writing.{Lives}
 use Rattle.atspi_lawful.proofs.OfLost.Alive.{registry_lives}
-use Rattle.atspi_lawful.proofs.OfReaders.Fates.{FateOf, FateIs, Fated, hello_read, Holding_told, fated_keeps}
+use Rattle.atspi_lawful.proofs.OfReaders.Fates.{fails_to, FateOf, FateIs, Fated, hello_read, Holding_told, fated_keeps}
 
 -- AN OWN CALL THAT WAS ANSWERED
 -- a return answers
@@ -70,6 +70,13 @@ returns_answer es r serial h =
     by k true g b h = ap (λ x. (x || k == 3) && b) g ∙ h
     by k false g b h = absurd (false_true h)
 
+fails_answer : (es : List Entry) (r serial : ℕ) → FateOf es r serial failed → is_answered es r serial ≡ true
+fails_answer es r serial h = list_weaker (fails_to serial) (λ e. is_reply e && is_reply_to serial e.reply) (λ e g. first (is_reply e && is_reply_to serial e.reply) (not (e.kind == 2)) g) (taken es (Reader r)) h
+  where
+    first : (a b : Bool) → (a && b) ≡ true → a ≡ true
+    first true b g = refl
+    first false b g = absurd (false_true g)
+
 fate_answers : (es : List Entry) (r serial : ℕ) (a : Asked) → has_answer a ≡ true → FateOf es r serial a.fate → is_answered es r serial ≡ true
 fate_answers es r serial a has h = by a.fate has h
   where
@@ -79,7 +86,7 @@ fate_answers es r serial a has h = by a.fate has h
     by : (f : Fate) → has_answer (record a { fate = f }) ≡ true → FateOf es r serial f → is_answered es r serial ≡ true
     by waits k h = absurd (false_true k)
     by returned k h = returns_answer es r serial h
-    by failed k h = h
+    by failed k h = fails_answer es r serial h
 
 and_left : (a b : Bool) → (a && b) ≡ true → a ≡ true
 and_left true b h = refl

@@ -158,7 +158,7 @@ all_findable j (x ∷ xs) f = ((least f.0, ap (λ b. if b then Some x else with_
 not_bus : Registry ≡ The_bus → ⊥
 not_bus h = false_true (ap (λ p. same_party p Registry) (sym h))
 
-from_four : (es : List Entry) → Each HasNextNumber [] es → From 4 (messages es Registry)
+pub from_four : (es : List Entry) → Each HasNextNumber [] es → From 4 (messages es Registry)
 from_four es law = serials_from Registry not_bus [] es law
 
 -- more entries tell no more of what was sent up to a message

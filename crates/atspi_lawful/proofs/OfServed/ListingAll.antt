@@ -122,7 +122,7 @@ abbrev is_children : Option Question → Bool
 is_children (Some GetChildren) = true
 is_children o = false
 
-returns_children : (es : List Entry) (w : World) (d : Done) → length (greeted es) ≤ 1000 → Mail es w → Fated es w → Ruled es w → Rightly es w → Spelled es w → Lives es → ReturnsChildren w d
+pub returns_children : (es : List Entry) (w : World) (d : Done) → length (greeted es) ≤ 1000 → Mail es w → Fated es w → Ruled es w → Rightly es w → Spelled es w → Lives es → ReturnsChildren w d
 returns_children es w d few mail fated ruled rightly spelled live b is =
     returned_by es (Reader b.reader) b.letter few its_mail its_fits its.3 its.0.serial its.4 more its.1.0.first its.1.0.was to
   where

@@ -226,7 +226,7 @@ call_speech : (es : List Entry) (who : Party) (m : Envelope) → is_reply m ≡ 
 call_speech es who m none asks_ = (record { answers = λ h. absurd (false_true (sym none ∙ h)); asks = asks_ }, tt)
 
 -- who made the call that an end takes
-taken_call : (es : List Entry) (who : Party) (letter : Letter) (caller : List ℕ) → IsMail es who letter → letter.said.message.sender ≡ Some caller → (c : Called es letter.said.message) × (c.caller ≡ caller)
+pub taken_call : (es : List Entry) (who : Party) (letter : Letter) (caller : List ℕ) → IsMail es who letter → letter.said.message.sender ≡ Some caller → (c : Called es letter.said.message) × (c.caller ≡ caller)
 taken_call es who letter caller (inl b) sender =
     (record { from = The_bus; caller = caller; sender = sender; known = inl (own_is letter.said.message.sender sender b.own) }, refl)
   where
@@ -386,7 +386,7 @@ named_is es w n registry k e there stands name own = by (same_party e.who Regist
     by false h = inr (sym (at.known (λ r. false_true (sym h ∙ ap (λ p. same_party p Registry) r))) ∙ has)
 
 -- it is not the bus's
-name_of_end : (es : List Entry) (who : Party) (name : List ℕ) → NameIs es who name → is_text (Some name) own_name ≡ false
+pub name_of_end : (es : List Entry) (who : Party) (name : List ℕ) → NameIs es who name → is_text (Some name) own_name ≡ false
 name_of_end es who name (inl r) = ap (λ n. is_text (Some n) own_name) r.1
 name_of_end es who name (inr h) = by (first_at (same_party who) (greeted es)) h
   where

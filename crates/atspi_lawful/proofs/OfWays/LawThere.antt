@@ -142,7 +142,7 @@ none_passes who (x ∷ xs) (suc k) e l there is = none_passes who xs k e (none_l
 past_all : (n k : ℕ) → cond (nat_lt n k) (Some n) None ≡ None → k ≤ n
 past_all n k h = grind (arith, nat_tests)
 
-is_found : (w : World) (who : Party) → Shape w → (a : IsActive w who) → end_of w.ends who ≡ Some a.e
+pub is_found : (w : World) (who : Party) → Shape w → (a : IsActive w who) → end_of w.ends who ≡ Some a.e
 is_found w who s a = by (conn_of w.ends who) refl
   where
     same : (e : End) (k : ℕ) → end_at w.ends k ≡ Some e → e.who ≡ who → end_at w.ends k ≡ Some a.e
