@@ -55,4 +55,5 @@ pub mod TellingHeardAll
 pub mod AdoptingWords
 pub mod TellingLaw
 pub mod TellingPlace
-pub mod AdoptingBecomes
+pub mod Adopting
+pub mod Telling_of_all

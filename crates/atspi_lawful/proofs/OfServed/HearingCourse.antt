@@ -96,6 +96,7 @@ pub record Asks (s t : Exporter) (call : StartCall) : Type 0 where
   pub front : List Happening
   pub quiet : IsOfListeners front
   pub name : List ℕ
+  pub named : name ≡ name_or_empty t.name
   pub serial : ℕ
   pub out : t.out ≡ front ++ sends (record (start_call name call) { serial = serial }) ∷ []
   pub phase : t.phase ≡ awaits call serial
@@ -116,6 +117,7 @@ asks_it s t call more quiet = record {
   front = t.out;
   quiet = quiet;
   name = name_or_empty t.name;
+  named = refl;
   serial = t.next;
   out = refl;
   phase = refl;

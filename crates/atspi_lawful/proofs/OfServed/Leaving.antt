@@ -76,7 +76,7 @@ name_low n h = (low_front.0, (low_front.1, (low_front.2, low_digits n h)))
 first_name_low : AllByRecursion Low (codes ":1.0")
 first_name_low = (low_front.0, (low_front.1, (low_front.2, (low_digit 0 (omega arith), tt))))
 
-name_spelled : (es : List Entry) (who : Party) (name : List ℕ) → length (greeted es) ≤ 1000 → NameIs es who name → encode_utf8_all name ≡ name
+pub name_spelled : (es : List Entry) (who : Party) (name : List ℕ) → length (greeted es) ≤ 1000 → NameIs es who name → encode_utf8_all name ≡ name
 name_spelled es who name few (inl r) = all_low name (subst (AllByRecursion Low) (sym r.1) first_name_low)
 name_spelled es who name few (inr h) = by (first_at (same_party who) (greeted es)) refl h
   where
@@ -94,7 +94,7 @@ high true f x y z xs ys zs rest h = high_byte 192 x (omega arith) h
 high false true x y z xs ys zs rest h = high_byte 224 y (omega arith) h
 high false false x y z xs ys zs rest h = high_byte 240 z (omega arith) h
 
-unique_written : (name : List ℕ) → is_unique_name (encode_utf8_all name) ≡ true → is_unique_name name ≡ true
+pub unique_written : (name : List ℕ) → is_unique_name (encode_utf8_all name) ≡ true → is_unique_name name ≡ true
 unfolding encode
 unique_written [] h = h
 unique_written (c ∷ cs) h = by (ltb c 128) h
@@ -128,7 +128,7 @@ none_both true false = refl
 none_both false true = refl
 none_both false false = refl
 
-told_same : (e : Envelope) (body : List Data) → name_gone (record e { body = body }) ≡ told_end (record e { body = body })
+pub told_same : (e : Envelope) (body : List Data) → name_gone (record e { body = body }) ≡ told_end (record e { body = body })
 told_same e (text_data name ∷ (text_data before ∷ (text_data [] ∷ []))) = ap (λ b. if b then Some name else None) (reads_same e)
 told_same e body = none_both (reads_gone e) (reads_end e)
 
@@ -144,7 +144,7 @@ and_right : (a b : Bool) → (a && b) ≡ true → b ≡ true
 and_right true b h = h
 and_right false b h = absurd (false_true h)
 
-gone_from : (e : Envelope) (name : List ℕ) → name_gone e ≡ Some name → is_text e.sender bus ≡ true
+pub gone_from : (e : Envelope) (name : List ℕ) → name_gone e ≡ Some name → is_text e.sender bus ≡ true
 gone_from e name h =
     and_left (is_text e.sender bus) (is_text e.interface bus && is_text e.member (codes "NameOwnerChanged"))
     (and_right (e.kind == 4) (is_from_bus e && (is_text e.interface bus && is_text e.member (codes "NameOwnerChanged"))) (is_read (reads_gone e) _ name h))

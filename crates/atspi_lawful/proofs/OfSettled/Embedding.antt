@@ -1,5 +1,5 @@
 -- EACH APPLICATION WHOSE START IS OVER embedded, as long as the registry lives: no call of its start is answered by an error, Hello returns its name, and the registry the list of pairs.
-use Rattle.std.proofs.Common.{◌≡◌, ◌⊎◌, inl, inr, ℕ, zero, suc, ◌+◌, ◌<◌, ◌≤◌, Bool, true, false, List, [], ◌∷◌, ◌++◌, length, map, Option, None, Some, refl, sym, ap, ap₂, ◌∙◌, subst, arith}
+use Rattle.std.proofs.Common.{◌≡◌, ◌⊎◌, inl, inr, ℕ, zero, suc, ◌+◌, ◌<◌, ◌≤◌, Bool, true, false, List, [], ◌∷◌, ◌++◌, length, map, Option, None, Some, refl, sym, ap, ap₂, ◌∙◌, subst, arith, is_some}
 use Rattle.std.specs.Prelude.{◌==◌, ◌||◌, ◌&&◌, nat_lt, codes, if◌then◌else◌, Result, Ok, Err}
 use Rattle.std.specs.List.{AllByRecursion, cons_option}
 use Rattle.std.proofs.lemmas.Bool.{eqb-true}
@@ -17,11 +17,11 @@ use Rattle.atspi_protocol.specs.ends.Places.{registry}
 use Rattle.atspi_protocol.specs.ends.Messages.{Reply, returns, fails, reply_to}
 use Rattle.atspi_protocol.specs.members.Asked.{asked}
 use Rattle.atspi_protocol.specs.registering.RegistryState.{RegistryState}
-use Rattle.atspi_protocol.specs.registering.Answers.{Answer, only, object_at, pairs_data}
+use Rattle.atspi_protocol.specs.registering.Answers.{Answer, only, object_at, pairs_data, reference_in}
 use Rattle.atspi_protocol.specs.registering.Steps.{answer_to}
 use Rattle.atspi_protocol.specs.exporting.Exporter.{StartCall, hello, add_match, get_registered_events, embed, Phase, new, awaits, over, Happening, steps, sends, hears as hears_of, deaf, Exporter, begins as begins_app}
 use Rattle.atspi_protocol.specs.exporting.Hearing.{pairs_in}
-use Rattle.atspi_protocol.specs.exporting.Starting.{awaited, is_number, goes_on, greeted as greeted_app, listened, ends_start, start_call, starts, unique_name_in}
+use Rattle.atspi_protocol.specs.exporting.Starting.{name_or_empty, awaited, is_number, goes_on, greeted as greeted_app, listened, ends_start, start_call, starts, unique_name_in}
 use Rattle.atspi_protocol.specs.exporting.Taking.{app_takes, takes_other, takes_call, takes_signal, called}
 use Rattle.atspi_routing.specs.declared.member.BusMember.TheVariants.{AddMatch}
 use Rattle.atspi_routing.specs.Members.{is_text, member_of}
@@ -33,7 +33,7 @@ use Rattle.atspi_trace.specs.Ends.{is_here, same_party, number_of, whose, end_at
 use Rattle.atspi_trace.specs.Causes.{Done, did, app_starts}
 use Rattle.atspi_lawful.specs.laws.Words.{messages, message, with_serial}
 use Rattle.atspi_lawful.specs.missed.Laws.{AreNamed}
-use Rattle.atspi_lawful.proofs.OfOrder.Parties.{no_none, same_some, party-same, false_true}
+use Rattle.atspi_lawful.proofs.OfOrder.Parties.{no_none, same_some, party-same, false_true, all_append}
 use Rattle.atspi_lawful.proofs.OfOrder.Along.{Keeps}
 use Rattle.atspi_lawful.proofs.OfOrder.Growing.{Grows, Shaped, Nothing, And, grown}
 use Rattle.atspi_lawful.proofs.OfOrder.Shape.{Shape}
@@ -48,9 +48,9 @@ use Rattle.atspi_lawful.proofs.OfHeard.Heeding.{IsOfListeners}
 use Rattle.atspi_lawful.proofs.OfOwn.Writing.{Lives}
 use Rattle.atspi_lawful.proofs.OfQuiet.Here.{Present, LiveHere, present_keeps}
 use Rattle.atspi_lawful.proofs.OfTaken.Found.{found_more}
-use Rattle.atspi_lawful.proofs.OfNames.Places.{greeted}
+use Rattle.atspi_lawful.proofs.OfNames.Places.{greeted, name_told}
 use Rattle.atspi_lawful.proofs.OfSteps.Steps.{Trees}
-use Rattle.atspi_lawful.proofs.OfSigned.Mail.{NameIs, IsCallOf, IsAnswer, IsPost, IsMail}
+use Rattle.atspi_lawful.proofs.OfSigned.Mail.{NameIs, name_more, told_more, IsCallOf, IsAnswer, IsPost, IsMail}
 use Rattle.atspi_lawful.proofs.OfSigned.Self.{InStart, IsSelf, Selves, unique_told, one_named, for_bus_true}
 use Rattle.atspi_lawful.proofs.OfMissed.Arriving.{On}
 use Rattle.atspi_lawful.proofs.OfMissed.Registering.{name_is_bus_name}
@@ -64,6 +64,8 @@ use Rattle.atspi_lawful.proofs.OfServed.HearingTuned.{IsAsked, Tuned, AllTuned, 
 use Rattle.atspi_lawful.proofs.OfServed.Hearing.{Under_heard, hears_keep}
 use Rattle.atspi_lawful.proofs.OfServed.Facts.{AllHear}
 use Rattle.atspi_lawful.proofs.OfSettled.Facts.{AllEmbed}
+use Rattle.atspi_lawful.proofs.OfSettled.TellingWords.{HasOne, one_front, one_map}
+use Rattle.atspi_lawful.proofs.OfOrder.Each.{all_map}
 use Rattle.atspi_lawful.proofs.OfSettled.RefusingLeft.{IsAway}
 use Rattle.atspi_lawful.proofs.OfSettled.RefusingRules.{is_add, counted, adds_among}
 use Rattle.atspi_lawful.proofs.OfSettled.Refusing.{Reason, ErrorTo, Excused, Refusing, Under_refusing, refusing_keeps, Below, below}
@@ -216,17 +218,91 @@ and_false : (b : Bool) → (b && false) ≡ false
 and_false true = refl
 and_false false = refl
 
+-- THE REPLY to its call of Embed, as the registry sent it
+pub record IsBack (es : List Entry) (a n : ℕ) (m : Envelope) : Type 0 where
+  pub replies : is_reply m ≡ true
+  pub number : m.reply ≡ Some n
+  pub caller : List ℕ
+  pub to : m.destination ≡ Some caller
+  pub name : NameIs es (App a) caller
+
+pub record HasEmbedded (es : List Entry) (a : ℕ) : Type 0 where
+  pub call : Embeds es a
+  pub back : HasOne (IsBack es a call.serial) (messages es Registry)
+
+-- A CALL OF EMBED names who sends it
+abbrev pub NamesItself : List Entry → ℕ → Envelope → Type 0
+NamesItself es a m = (name : List ℕ) → m ≡ record (start_call name embed) { serial = m.serial } → name_told es (App a) ≡ Some name
+
+pub no_embed_names : (es : List Entry) (a : ℕ) (name : List ℕ) (call : StartCall) (n : ℕ) → is_text (start_call name call).member (codes "Embed") ≡ false → NamesItself es a (record (start_call name call) { serial = n })
+no_embed_names es a name call n other = λ its is. absurd (false_true (sym other ∙ ap (λ (m : Envelope). is_text m.member (codes "Embed")) is))
+
+no_call_names : (es : List Entry) (a : ℕ) (hs : List Happening) → NoCall hs → AllByRecursion (NamesItself es a) (messages (map (did a) hs) (App a))
+no_call_names es a [] c = tt
+no_call_names es a (steps step ∷ hs) c = no_call_names es a hs c
+no_call_names es a (sends e ∷ hs) c = subst (AllByRecursion (NamesItself es a)) (sym (said_one a e hs)) ((λ name is. absurd (c.0 (ap (λ (m : Envelope). m.kind) is))), no_call_names es a hs c.1)
+no_call_names es a (hears_of listener pattern ∷ hs) c = no_call_names es a hs c
+no_call_names es a (deaf listener pattern ∷ hs) c = no_call_names es a hs c
+
+asks_names : (es : List Entry) (a : ℕ) (hs : List Happening) (e : Envelope) → IsOfListeners hs → NamesItself es a e → AllByRecursion (NamesItself es a) (messages (map (did a) (hs ++ sends e ∷ [])) (App a))
+asks_names es a [] e c own = subst (AllByRecursion (NamesItself es a)) (sym (said_one a e [])) (own, tt)
+asks_names es a (hears_of listener pattern ∷ hs) e c own = asks_names es a hs e c own
+asks_names es a (deaf listener pattern ∷ hs) e c own = asks_names es a hs e c own
+asks_names es a (steps step ∷ hs) e c own = absurd c
+asks_names es a (sends m ∷ hs) e c own = absurd c
+
+more_names : (es ys : List Entry) (a : ℕ) → AllByRecursion (NamesItself es a) (messages es (App a)) → AllByRecursion (NamesItself (es ++ ys) a) (messages ys (App a)) → AllByRecursion (NamesItself (es ++ ys) a) (messages (es ++ ys) (App a))
+more_names es ys a old fresh =
+    subst (AllByRecursion (NamesItself (es ++ ys) a)) (sym (messages_more es ys (App a)))
+    (all_append (NamesItself (es ++ ys) a) (messages es (App a)) (messages ys (App a)) (all_map (NamesItself es a) (NamesItself (es ++ ys) a) (messages es (App a)) (λ m f name is. told_more es ys (App a) name (f name is)) old) fresh)
+
+abbrev named_in : Envelope → List ℕ
+named_in m = (reference_in m.body).0
+
+names_taken : (es ys : List Entry) (a : ℕ) (s : Exporter) (e : Envelope) (t : Exporter) → messages ys (App a) ≡ messages (map (did a) t.out) (App a) → IsSelf es a s → Course s e t → AllByRecursion (NamesItself (es ++ ys) a) (messages ys (App a))
+names_taken es ys a s e t wrote self c = subst (AllByRecursion (NamesItself (es ++ ys) a)) (sym wrote) (by c)
+  where
+    later : List Entry
+    later = es ++ ys
+
+    one : (call : StartCall) (x : Asks s t call) → NamesItself later a (record (start_call x.name call) { serial = x.serial }) → AllByRecursion (NamesItself later a) (messages (map (did a) t.out) (App a))
+    one call x own = subst (λ l. AllByRecursion (NamesItself later a) (messages (map (did a) l) (App a))) (sym x.out) (asks_names later a x.front (record (start_call x.name call) { serial = x.serial }) x.quiet own)
+
+    told : (o : Option (List ℕ)) → s.name ≡ o → is_some s.name ≡ true → name_told later (App a) ≡ Some (name_or_empty s.name)
+    told None is h = absurd (false_true (sym (ap is_some is) ∙ h))
+    told (Some name) is h = told_more es ys (App a) name (self.told name is) ∙ ap (λ o. Some (name_or_empty o)) (sym is)
+
+    by : Course s e t → AllByRecursion (NamesItself later a) (messages (map (did a) t.out) (App a))
+    by (stays phase name next quiet) = no_call_names later a t.out quiet
+    by (stops phase name next quiet) = no_call_names later a t.out quiet
+    by (meets serial at x) = one add_match x (no_embed_names later a x.name add_match x.serial refl)
+    by (tunes serial at two reply name x) = one get_registered_events x (no_embed_names later a x.name get_registered_events x.serial refl)
+    by (lists serial at two reply pairs body name x) =
+        one embed x
+        (λ its is.
+        told s.name refl (subst (λ p. InStart p s.name) at self.start) ∙ ap (λ o. Some (name_or_empty o)) (sym name) ∙ ap Some (sym x.named) ∙ ap (λ (m : Envelope). Some (named_in m)) is)
+
 -- WHAT IS KEPT of an application
 pub record Begins (es : List Entry) (a : ℕ) (s : Exporter) : Type 0 where
   pub adds : (n : ℕ) → adds_among n (messages es (App a)) ≤ phase_adds s.phase
-  pub embeds : s.phase ≡ over → Embeds es a
+  pub names : AllByRecursion (NamesItself es a) (messages es (App a))
+  pub embeds : s.phase ≡ over → HasEmbedded es a
 
-embeds_more : (es ys : List Entry) (a : ℕ) → Embeds es a → Embeds (es ++ ys) a
-embeds_more es ys a i = record { call = i.call; serial = i.serial; was = found_more es ys (App a) i.serial i.call i.was; is_call = i.is_call; member = i.member }
+embeds_more : (es ys : List Entry) (a : ℕ) → HasEmbedded es a → HasEmbedded (es ++ ys) a
+embeds_more es ys a x =
+    let i = x.call in
+    record {
+      call = record { call = i.call; serial = i.serial; was = found_more es ys (App a) i.serial i.call i.was; is_call = i.is_call; member = i.member };
+      back =
+          subst (HasOne (IsBack (es ++ ys) a i.serial)) (sym (messages_more es ys Registry))
+          (one_front (IsBack (es ++ ys) a i.serial) (messages es Registry) (messages ys Registry)
+          (one_map (IsBack es a i.serial) (IsBack (es ++ ys) a i.serial) (messages es Registry) (λ m b. record { replies = b.replies; number = b.number; caller = b.caller; to = b.to; name = name_more es ys (App a) b.caller b.name }) x.back));
+    }
 
 pub begins_more : (es ys : List Entry) (a : ℕ) (s : Exporter) → AllByRecursion (NotSaid (App a)) ys → Begins es a s → Begins (es ++ ys) a s
 begins_more es ys a s n i = record {
   adds = λ k. subst (λ ms. adds_among k ms ≤ phase_adds s.phase) (sym (messages_more es ys (App a) ∙ ap (λ l. messages es (App a) ++ l) (none_said (App a) ys n) ∙ append-nil (messages es (App a)))) (i.adds k);
+  names = more_names es ys a i.names (subst (AllByRecursion (NamesItself (es ++ ys) a)) (sym (none_said (App a) ys n)) tt);
   embeds = λ h. embeds_more es ys a (i.embeds h);
 }
 
@@ -323,7 +399,15 @@ replied_by es who letter few p o replies n reply first found to = by r.known
         let call : c.first ≡ first = same_some c.first first (sym c.was ∙ ap₂ (message es) same is_n ∙ found) in
         c.its (ap (λ (m : Envelope). m.destination) call ∙ to)
 
-with_found : (P : Envelope → Type 0) (serial : ℕ) (ms : List Envelope) (m : Envelope) → AllByRecursion P ms → with_serial serial ms ≡ Some m → P m
+one_found : (P : Envelope → Type 0) (serial : ℕ) (ms : List Envelope) (m : Envelope) → with_serial serial ms ≡ Some m → P m → HasOne P ms
+one_found P serial [] m h p = absurd (no_none m h)
+one_found P serial (x ∷ xs) m h p = by (x.serial == serial) h (λ g. one_found P serial xs m g p)
+  where
+    by : (b : Bool) → (if b then Some x else with_serial serial xs) ≡ Some m → (with_serial serial xs ≡ Some m → HasOne P xs) → HasOne P (x ∷ xs)
+    by true k f = inl (subst P (sym (same_some x m k)) p)
+    by false k f = inr (f k)
+
+pub with_found : (P : Envelope → Type 0) (serial : ℕ) (ms : List Envelope) (m : Envelope) → AllByRecursion P ms → with_serial serial ms ≡ Some m → P m
 with_found P serial [] m a h = absurd (no_none m h)
 with_found P serial (x ∷ xs) m a h = by (x.serial == serial) h (λ g. with_found P serial xs m a.1 g)
   where
@@ -396,6 +480,9 @@ match_member name n = refl
 
 list_not_bus : (name : List ℕ) (n : ℕ) → is_for_bus (record (start_call name get_registered_events) { serial = n }) ≡ false
 list_not_bus name n = refl
+
+embed_not_bus : (name : List ℕ) (n : ℕ) → is_for_bus (record (start_call name embed) { serial = n }) ≡ false
+embed_not_bus name n = refl
 
 no_registry : (a : ℕ) → App a ≡ Registry → ⊥
 no_registry a h = false_true (ap (λ p. same_party p Registry) h)
@@ -524,10 +611,65 @@ module _ (es : List Entry) (ends : List End) (a : ℕ) (s : Exporter) (l : Lette
           replied_by es (App a) l few p (its_end p fits) (is_reply_by m.kind (inr three)) n reply (record (start_call y.0 get_registered_events) { serial = n }) y.1 refl in
           three_two three (answer_is n at p from (is_reply_by m.kind (inr three)) reply).0
 
-  ended_embeds : Ended s m → Embeds es a
+  -- its call of Embed is replied to by the registry
+  embed_back : (n : ℕ) → s.phase ≡ awaits embed n → m.reply ≡ Some n → (m.kind ≡ 2) ⊎ (m.kind ≡ 3) → HasOne (IsBack es a n) (messages es Registry)
+  embed_back n at reply why = by mail why
+    where
+      y : (name : List ℕ) × (message es (App a) n ≡ Some (record (start_call name embed) { serial = n }))
+      y = its_call embed n at
+
+      high : 2 ≤ n
+      high = (subst (IsAsked es a s.next) at asked_).3 refl
+
+      refused : (name : List ℕ) × Reason es ends (App a) n (record (start_call name embed) { serial = n }) → ⊥
+      refused (name, inl x) = false_true (sym (embed_not_bus name n) ∙ x.0)
+      refused (name, inr x) = registry_here (x.1 refl)
+
+      its_end : IsPost es (App a) l → Fits es (App a) l → OfEnd es (App a) l
+      its_end p (inr o) = o
+      its_end p (inl own) =
+          absurd (false_true (sym (subst (λ z. is_text z own_name ≡ false) (sym p.sender) (not_the_bus p.caller (unique_told es l.from p.caller p.name))) ∙ own.0))
+
+      post : IsPost es (App a) l → is_reply m ≡ true → HasOne (IsBack es a n) (messages es Registry)
+      post p replies = by_called answer.called.known
+        where
+          from : l.from ≡ Registry
+          from = replied_by es (App a) l few p (its_end p fits) replies n reply (record (start_call y.0 embed) { serial = n }) y.1 refl
+
+          is_it : m ≡ record p.first.message { sender = Some p.caller }
+          is_it = ap (λ (z : Said). z.message) p.alike
+
+          answer : IsAnswer es l.from p.first
+          answer = p.speech.answers (ap is_reply (sym is_it) ∙ replies)
+
+          goes : m.destination ≡ Some answer.called.caller
+          goes = ap (λ (x : Envelope). x.destination) is_it ∙ answer.to
+
+          by_called : (answer.called.caller ≡ own_name) ⊎ IsCallOf es answer.called.from answer.called.caller answer.call → HasOne (IsBack es a n) (messages es Registry)
+          by_called (inl own) = absurd (false_true (sym p.not_bus ∙ for_bus_true m (goes ∙ ap Some own)))
+          by_called (inr c) =
+              one_found (IsBack es a n) p.first.message.serial (messages es Registry) p.first.message (ap (λ q. message es q p.first.message.serial) (sym from) ∙ p.sent_.was)
+              (record {
+                replies = ap is_reply (sym is_it) ∙ replies;
+                number = ap (λ (x : Envelope). x.reply) (sym is_it) ∙ reply;
+                caller = answer.called.caller;
+                to = answer.to;
+                name = p.routed answer.called.caller goes (unique_told es answer.called.from answer.called.caller c.name);
+              })
+
+      by : IsMail es (App a) l → (m.kind ≡ 2) ⊎ (m.kind ≡ 3) → HasOne (IsBack es a n) (messages es Registry)
+      by (inl b) (inl two) = absurd (bus_apart b.from (returned_by es (App a) l few mail fits two n reply high (record (start_call y.0 embed) { serial = n }) y.1 refl))
+      by (inl b) (inr three) = absurd (refused (error_of embed n at b.from three reply))
+      by (inr p) k = post p (is_reply_by m.kind k)
+
+  ended_embeds : Ended s m → HasEmbedded es a
   ended_embeds x = by x.call refl
     where
-      by : (call : StartCall) → x.call ≡ call → Embeds es a
+      kind_of : ((m.kind ≡ 2) × Stopped x.call m.body) ⊎ (m.kind ≡ 3) → (m.kind ≡ 2) ⊎ (m.kind ≡ 3)
+      kind_of (inl two) = inl two.0
+      kind_of (inr three) = inr three
+
+      by : (call : StartCall) → x.call ≡ call → HasEmbedded es a
       by hello is = absurd (no_hello x.serial (x.phase ∙ ap (λ c. awaits c x.serial) is) x.reply (subst (λ c. ((m.kind ≡ 2) × Stopped c m.body) ⊎ (m.kind ≡ 3)) is x.why))
       by add_match is = absurd (three (subst (λ c. ((m.kind ≡ 2) × Stopped c m.body) ⊎ (m.kind ≡ 3)) is x.why))
         where
@@ -537,21 +679,26 @@ module _ (es : List Entry) (ends : List End) (a : ℕ) (s : Exporter) (l : Lette
       by get_registered_events is = absurd (no_list x.serial (x.phase ∙ ap (λ c. awaits c x.serial) is) x.reply (subst (λ c. ((m.kind ≡ 2) × Stopped c m.body) ⊎ (m.kind ≡ 3)) is x.why))
       by embed is =
           let y = its_call embed x.serial (x.phase ∙ ap (λ c. awaits c x.serial) is) in
-          record { call = record (start_call y.0 embed) { serial = x.serial }; serial = x.serial; was = y.1; is_call = refl; member = refl }
+          record {
+            call = record { call = record (start_call y.0 embed) { serial = x.serial }; serial = x.serial; was = y.1; is_call = refl; member = refl };
+            back = embed_back x.serial (x.phase ∙ ap (λ c. awaits c x.serial) is) x.reply (kind_of x.why);
+          }
 
   -- it takes the message
   pub begins_taken : (ys : List Entry) → messages ys (App a) ≡ messages (map (did a) (app_takes s m).out) (App a) → s.out ≡ [] → Begins (es ++ ys) a (record (app_takes s m) { out = [] })
   begins_taken ys wrote empty = record {
     adds = λ k. adds_taken es ys a k s m (app_takes s m) wrote (course s m empty) (i.adds k);
+    names = more_names es ys a i.names (names_taken es ys a s m (app_takes s m) wrote self (course s m empty));
     embeds = λ h. embeds_more es ys a (by (over_by s m h));
   }
     where
-      by : (s.phase ≡ over) ⊎ Ended s m → Embeds es a
+      by : (s.phase ≡ over) ⊎ Ended s m → HasEmbedded es a
       by (inl h) = i.embeds h
       by (inr x) = ended_embeds x
 
 pub begins_edited : (es ys : List Entry) (a : ℕ) (s t : Exporter) → messages ys (App a) ≡ messages (map (did a) t.out) (App a) → Edited s t → Begins es a s → Begins (es ++ ys) a (record t { out = [] })
 begins_edited es ys a s t wrote d i = record {
   adds = λ k. more_adds es ys a k (phase_adds s.phase) (phase_adds t.phase) 0 (i.adds k) (ap (adds_among k) wrote ∙ no_call_adds k a t.out d.quiet) (let same = ap phase_adds d.phase in omega (arith, same));
+  names = more_names es ys a i.names (subst (AllByRecursion (NamesItself (es ++ ys) a)) (sym wrote) (no_call_names (es ++ ys) a t.out d.quiet));
   embeds = λ h. embeds_more es ys a (i.embeds (sym d.phase ∙ h));
 }

@@ -43,7 +43,7 @@ use Rattle.atspi_lawful.proofs.OfSettled.RefusingRules.{counted, adds_among}
 use Rattle.atspi_lawful.proofs.OfSettled.Refusing.{Excused, Refusing, Under_refusing, refusing_keeps, Below, below}
 use Rattle.atspi_lawful.proofs.OfSettled.Answering.{Answering, Under_answering, answering_keeps}
 use Rattle.atspi_lawful.proofs.OfSettled.Exporting.{acting, AllApps, apps_kept, first_apps, asked_apps, moved_apps}
-use Rattle.atspi_lawful.proofs.OfSettled.Embedding.{Begins, begins_more, begins_taken, begins_edited}
+use Rattle.atspi_lawful.proofs.OfSettled.Embedding.{Begins, NamesItself, no_embed_names, begins_more, begins_taken, begins_edited}
 
 -- THE REGISTRY THAT LIVES is here
 first_there : (ends : List End) (k : ℕ) (e : End) → end_at ends k ≡ Some e → (x : End) × (end_at ends 0 ≡ Some x)
@@ -88,6 +88,7 @@ module _ (es : List Entry) (w : World) (name : List ℕ) (m : Numbered es w) whe
   pub begins_first : Begins (es ++ (app_starts w name).entries) n (record (starts (begins_app name)) { out = [] })
   begins_first = record {
     adds = λ k. subst (λ ms. adds_among k ms ≤ 0) (sym all) (no_more (nat_lt 1 k));
+    names = subst (AllByRecursion (NamesItself (es ++ (app_starts w name).entries) n)) (sym all) (no_embed_names (es ++ (app_starts w name).entries) n [] hello 1 refl, tt);
     embeds = λ h. absurd (false_true (ap is_over h));
   }
 
@@ -143,12 +144,12 @@ begin_grow = record {
   asked = λ es w conn r m question s u i a. asked_apps Begins begins_more es w conn r m question i;
 }
 
-begin_keep : Keeps (Shaped (And Under_embed AllBegin))
+pub begin_keep : Keeps (Shaped (And Under_embed AllBegin))
 begin_keep = grown Under_embed AllBegin under_keeps begin_grow
 
 -- EMBEDDED
 all_embed : (es : List Entry) (w : World) → AllBegin es w → AllEmbed es w
-all_embed es w i live k a e s there who role on is_over_ = (i live k a e s there who role on).embeds is_over_
+all_embed es w i live k a e s there who role on is_over_ = ((i live k a e s there who role on).embeds is_over_).call
 
 pub embed_keep : Keeps (Shaped (And (And Under_embed AllBegin) AllEmbed))
 embed_keep = derived (And Under_embed AllBegin) AllEmbed (λ es w u. all_embed es w u.1) begin_keep

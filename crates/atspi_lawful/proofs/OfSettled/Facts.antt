@@ -19,7 +19,6 @@ use Rattle.atspi_trace.specs.Ends.{end_at}
 use Rattle.atspi_trace.specs.Hearing.{holding_of}
 use Rattle.atspi_lawful.specs.laws.NineLaws.{Everywhere}
 use Rattle.atspi_lawful.specs.settled.Laws.{NothingWaits, AsksOfNode, BeginsWell, IsPartAsked}
-pub use Rattle.atspi_lawful.specs.settled.Laws.{IsIn}
 use Rattle.atspi_lawful.proofs.OfOwn.Writing.{Lives}
 use Rattle.atspi_lawful.proofs.OfServed.Facts.{Embeds}
 
@@ -58,6 +57,10 @@ abbrev pub StartsReturn : List Entry → World → Type 0
 StartsReturn es w = Lives es → (k r : ℕ) (e : End) (h : Hearer) → end_at w.ends k ≡ Some e → e.who ≡ Reader r → e.role ≡ a_reader h → e.standing ≡ here → BeginsWell h.asked → AreReturned start_calls h.asked
 
 -- TOLD OF, where nothing waits: a reader that began well, and whose call for the registry's children was returned, was told of each application that is here and embedded
+abbrev pub IsIn : List ℕ → List (List ℕ) → Type 0
+IsIn name [] = ⊥
+IsIn name (n ∷ ns) = (n ≡ name) ⊎ IsIn name ns
+
 abbrev pub AllTold : List Entry → World → Type 0
 AllTold es w =
     Lives es → (k r : ℕ) (e : End) (h : Hearer) → end_at w.ends k ≡ Some e → e.who ≡ Reader r → e.role ≡ a_reader h → e.standing ≡ here → BeginsWell h.asked

@@ -46,6 +46,7 @@ use Rattle.atspi_lawful.proofs.OfSettled.Settling_held.{all_held}
 use Rattle.atspi_lawful.proofs.OfSettled.Settling_told.{all_parts}
 use Rattle.atspi_lawful.proofs.OfSettled.Settling_asked.{AsksApps, AllAskApps, ask_keep}
 use Rattle.atspi_lawful.proofs.OfSettled.Settling_refused.{bus_knows, none_refused}
+use Rattle.atspi_lawful.proofs.OfSettled.Telling_of_all.{Under_told_of, told_keep, all_told}
 
 -- AN APPLICATION HAS BEGUN its start
 abbrev NotNew : Phase → Type 0
@@ -154,3 +155,10 @@ module _ (lines : List Line) (trace : List Entry) (can : CanAllStand lines) (g :
       settled trace s.world sh live nodes (replied trace s.world (state (Shaped (And Under_waiting Waiting)) waits_keep).1 waits) (state (Shaped (And (And Under_embed AllBegin) AllEmbed)) embed_keep).1.1 told
       (none_refused trace s.world sh grounds_here replies apps) (all_held trace s.world sh grounds_here replies) (all_parts trace s.world sh grounds_here replies (bus_knows trace s.world sh grounds_here replies))
       (all_for_one trace s.world sh grounds_here live nodes) (all_begun trace s.world (state (Shaped (And Nothing AllHaveBegun)) begun_keep).1.1 live) (named trace s.world sh grounds_here) (law.as_now lines trace can g none live waits) asks
+
+  -- and each reader was told of each child
+  pub rests : Everywhere AsksOfNode trace → NothingWaits s.world → is_lost s.world ≡ false → AllAsk trace s.world → IsSettled s.world
+  rests nodes waits found asks =
+      rests_where
+      (all_told trace s.world sh (state (Shaped Under_told_of) told_keep).1 (replied trace s.world (state (Shaped (And Under_waiting Waiting)) waits_keep).1 waits)
+      (all_begun trace s.world (state (Shaped (And Nothing AllHaveBegun)) begun_keep).1.1) waits) nodes waits found asks

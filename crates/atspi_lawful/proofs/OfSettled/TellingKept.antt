@@ -56,10 +56,10 @@ use Rattle.atspi_lawful.proofs.OfSettled.Telling_of.{ToldSince, told_map, told_n
 use Rattle.atspi_lawful.proofs.OfSettled.TellingAll.{step_told}
 
 -- THE REGISTRY, where it takes no message, knows what it knew
-abbrev SameRegistry : End → End → Type 0
+abbrev pub SameRegistry : End → End → Type 0
 SameRegistry e d = (s : RegistryState) → d.role ≡ the_registry s → e.role ≡ the_registry s
 
-same_registry : IsOrder SameRegistry
+pub same_registry : IsOrder SameRegistry
 same_registry = record { same = λ e s h. h; both = λ e d c f g s h. f s (g s h) }
 
 abbrev is_registry_role : Role → Bool
@@ -72,7 +72,7 @@ other_role e d none s is = absurd (false_true (sym none ∙ ap is_registry_role 
 goes_same : (xs zs : List End) → Over Goes_on xs zs → Over SameRegistry xs zs
 goes_same xs zs o = record { size = o.size; back = λ k d there. let x = o.back k d there in (x.0, x.1, λ s role. sym x.2.role ∙ role) }
 
-data Registers (w : World) (d : Done) : Type 0 where
+pub data Registers (w : World) (d : Done) : Type 0 where
   same_ : Over SameRegistry w.ends d.world.ends → Registers w d
   joined_ : (nu : End) → d.world.ends ≡ w.ends ++ nu ∷ [] → is_registry_role nu.role ≡ false → Registers w d
   first_ : (quota : ℕ) → d ≡ only (first_world quota) [] → Registers w d
@@ -93,7 +93,7 @@ module _ (w : World) (d : Done) where
   none : Over SameRegistry w.ends w.ends
   none = over_same SameRegistry same_registry w.ends
 
-  registers : Effect w d → Registers w d
+  pub registers : Effect w d → Registers w d
   registers (resets quota old is) = first_ quota is
   registers (app_joins name short is) = joined_ (new_app w name) (ap (λ x. x.world.ends) is ∙ app_joined w name) refl
   registers (reader_joins old is) = joined_ (new_reader w) (ap (λ x. x.world.ends) is) refl
@@ -133,7 +133,7 @@ was_returns es ys r g h ms few a back = all_map (Answers es) (λ m. IsReturn (es
   where
     one : (m : Envelope) → Answers es m → IsReturn (es ++ ys) r h m → IsReturn es r g m
     one m f x =
-        let y = named_then es ys r m x.caller few (f (ap (λ k. k == 2 || k == 3) x.kind)) x.to x.name in
+        let y = named_then es ys (Reader r) m x.caller few (f (ap (λ k. k == 2 || k == 3) x.kind)) x.to x.name in
         let number : y.1 ≡ x.serial = same_some y.1 x.serial (sym y.3 ∙ x.reply) in
         record { kind = x.kind; caller = x.caller; to = x.to; name = y.2; serial = x.serial; reply = x.reply; well = back y.0 x.serial (ap (message es (Reader r)) (sym number) ∙ y.4) x.well }
 
@@ -150,7 +150,7 @@ nothing_told later r h children none = all_those (λ (c : List ℕ × List ℕ).
     each u [] = tt
     each u (m ∷ ms) = ((λ x. absurd (none x.serial x.well)), each u ms)
 
-same_messages : (es ys : List Entry) → AllByRecursion NotRegistry ys → messages (es ++ ys) Registry ≡ messages es Registry
+pub same_messages : (es ys : List Entry) → AllByRecursion NotRegistry ys → messages (es ++ ys) Registry ≡ messages es Registry
 same_messages es ys n = messages_more es ys Registry ∙ ap (λ l. messages es Registry ++ l) (none_sent ys n) ∙ append-nil (messages es Registry)
 
 abbrev is_reader_role : Role → Bool
@@ -162,7 +162,7 @@ no_reader_first quota zero e h there role = false_true (ap is_reader_role (ap (�
 no_reader_first quota (suc k) e h there role = no_none e there
 
 -- who a call changes, and whose it stays
-asks_same : (m : Envelope) (question : Question) (e : End) → SameRegistry e (asks_at m question e)
+pub asks_same : (m : Envelope) (question : Question) (e : End) → SameRegistry e (asks_at m question e)
 asks_same m question e = by e.role refl
   where
     by : (role : Role) → e.role ≡ role → SameRegistry e (asks_as role m question e)
@@ -191,17 +191,17 @@ hearer_in role g = g
 same_hearer : (g h : Hearer) → a_reader g ≡ a_reader h → g ≡ h
 same_hearer g h is = ap (λ r. hearer_in r g) is
 
-moved_registry : (w v : World) → (MovedUp w v ⊎ MovedDown w v) → Over SameRegistry w.ends v.ends
+pub moved_registry : (w v : World) → (MovedUp w v ⊎ MovedDown w v) → Over SameRegistry w.ends v.ends
 moved_registry w v (inl m) =
     subst (λ (x : World). Over SameRegistry w.ends x.ends) (sym m.after) (over_with SameRegistry same_registry (λ e. record e { up_moved = e.up_moved + m.count }) (λ e s h. h) m.conn w.ends)
 moved_registry w v (inr m) =
     subst (λ (x : World). Over SameRegistry w.ends x.ends) (sym m.after) (over_with SameRegistry same_registry (λ e. record e { down_moved = e.down_moved + m.count }) (λ e s h. h) m.conn w.ends)
 
-one_longer : (a b : List End) (n : End) → length b ≡ length a → b ≡ a ++ n ∷ [] → ⊥
+pub one_longer : (a b : List End) (n : End) → length b ≡ length a → b ≡ a ++ n ∷ [] → ⊥
 one_longer a b n same is = let longer : length b ≡ length (a ++ n ∷ []) = ap length is in let sum = length-append a (n ∷ []) in absurd (omega (arith, same, longer, sum))
 
 -- the registry is the end that took it
-state_now : (w : World) (d : Done) → Shape d.world → (b : RegistryTakes w d) (j : ℕ) (f : End) (t : RegistryState) → end_at d.world.ends j ≡ Some f → f.role ≡ the_registry t → (registry_takes b.before b.letter.said.message).state ≡ t
+pub state_now : (w : World) (d : Done) → Shape d.world → (b : RegistryTakes w d) (j : ℕ) (f : End) (t : RegistryState) → end_at d.world.ends j ≡ Some f → f.role ≡ the_registry t → (registry_takes b.before b.letter.said.message).state ≡ t
 state_now w d after b j f t there role =
     let now_end : End = registry_did (registry_takes b.before b.letter.said.message) (taken_down b.e) in
     let now_there : end_at d.world.ends b.conn ≡ Some now_end =

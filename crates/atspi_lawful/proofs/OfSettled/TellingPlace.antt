@@ -8,7 +8,6 @@ use Rattle.atspi_protocol.specs.following.ReaderState.{start_calls}
 use Rattle.atspi_trace.specs.World.{Asked}
 use Rattle.atspi_lawful.specs.settled.Laws.{question_of, BeginsWell}
 use Rattle.atspi_lawful.proofs.OfOrder.Parties.{false_true}
-use Rattle.atspi_lawful.proofs.OfSettled.TellingAsked.{IsWell}
 
 is_get : Question → Bool
 is_get GetChildren = true
@@ -35,8 +34,6 @@ place (p ∷ ps) post without (e ∷ es) late x h q =
 abbrev first_nine : List Question
 first_nine = take 9 start_calls
 
-pub get_is_well : (early late : List Asked) (x : Asked) → BeginsWell (early ++ x ∷ late) → x.question ≡ GetChildren → IsWell (early ++ x ∷ late) x.serial
+pub get_is_well : (early late : List Asked) (x : Asked) → BeginsWell (early ++ x ∷ late) → x.question ≡ GetChildren → BeginsWell (early ++ x ∷ [])
 unfolding is_get
-get_is_well early late x begins q =
-    let r = place first_nine begins.0 (refl, (refl, (refl, (refl, (refl, (refl, (refl, (refl, (refl, tt))))))))) early late x begins.1 q in
-    record { early = early; one = x; late = late; are = refl; question = q; serial = refl; well = (r.0, r.1) }
+get_is_well early late x begins q = place first_nine begins.0 (refl, (refl, (refl, (refl, (refl, (refl, (refl, (refl, (refl, tt))))))))) early late x begins.1 q

@@ -178,8 +178,8 @@ own_itself : is_text (Some own_name) own_name ≡ true
 own_itself = (bytes_eq-Decides own_name own_name).1 refl
 
 -- OLD RETURNS: one that is such a return with more entries and calls was one before
-pub named_then : (es ys : List Entry) (r : ℕ) (m : Envelope) (caller : List ℕ) → length (greeted (es ++ ys)) ≤ 1000 → IsAnswered es m → m.destination ≡ Some caller → NameIs (es ++ ys) (Reader r) caller → (first : Envelope) × (n : ℕ) × (NameIs es (Reader r) caller) × (m.reply ≡ Some n) × (message es (Reader r) n ≡ Some first)
-named_then es ys r m caller few i to name = by i.called.known
+pub named_then : (es ys : List Entry) (who : Party) (m : Envelope) (caller : List ℕ) → length (greeted (es ++ ys)) ≤ 1000 → IsAnswered es m → m.destination ≡ Some caller → NameIs (es ++ ys) who caller → (first : Envelope) × (n : ℕ) × (NameIs es who caller) × (m.reply ≡ Some n) × (message es who n ≡ Some first)
+named_then es ys who m caller few i to name = by i.called.known
   where
     for : (c : List ℕ) (serial : ℕ) (x : Reply) → ((reply_to c serial x).destination ≡ Some c) × ((reply_to c serial x).reply ≡ Some serial)
     for c serial (returns values) = (refl, refl)
@@ -195,12 +195,12 @@ named_then es ys r m caller few i to name = by i.called.known
     replies : m.reply ≡ Some i.call.serial
     replies = ap (λ (x : Envelope). x.reply) i.message ∙ its.1
 
-    by : (i.called.caller ≡ own_name) ⊎ IsCallOf es i.called.from i.called.caller i.call → (first : Envelope) × (n : ℕ) × (NameIs es (Reader r) caller) × (m.reply ≡ Some n) × (message es (Reader r) n ≡ Some first)
-    by (inl own) = absurd (false_true (sym (not_the_bus caller (unique_told (es ++ ys) (Reader r) caller name)) ∙ own_is (sym same ∙ own)))
+    by : (i.called.caller ≡ own_name) ⊎ IsCallOf es i.called.from i.called.caller i.call → (first : Envelope) × (n : ℕ) × (NameIs es who caller) × (m.reply ≡ Some n) × (message es who n ≡ Some first)
+    by (inl own) = absurd (false_true (sym (not_the_bus caller (unique_told (es ++ ys) who caller name)) ∙ own_is (sym same ∙ own)))
       where
         own_is : caller ≡ own_name → is_text (Some caller) own_name ≡ true
         own_is h = ap (λ c. is_text (Some c) own_name) h ∙ own_itself
     by (inr c) =
         let has : NameIs es i.called.from caller = subst (NameIs es i.called.from) same c.name in
-        let from : i.called.from ≡ Reader r = one_named (es ++ ys) i.called.from (Reader r) caller few (name_more es ys i.called.from caller has) name in
+        let from : i.called.from ≡ who = one_named (es ++ ys) i.called.from who caller few (name_more es ys i.called.from caller has) name in
         (c.first, i.call.serial, subst (λ p. NameIs es p caller) from has, replies, ap (λ p. message es p i.call.serial) (sym from) ∙ c.was)

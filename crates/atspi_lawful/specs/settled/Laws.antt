@@ -91,18 +91,3 @@ IsWellAt trace s = s.owing ≡ [] → NothingWaits s.world → is_lost s.world �
 
 abbrev pub RestsAreWell : Type 0
 RestsAreWell = (lines : List Line) (trace : List Entry) → CanAllStand lines → Begun lines trace → Everywhere AsksOfNode trace → IsWellAt trace (after_all (begins lines) trace)
-
--- so it is where readers were told of each application: each reader that is here knows the name of each application that is here and has one
-abbrev pub IsIn : List ℕ → List (List ℕ) → Type 0
-IsIn name [] = ⊥
-IsIn name (n ∷ ns) = (n ≡ name) ⊎ IsIn name ns
-
-abbrev pub IsToldOfAll : List End → Hearer → Type 0
-IsToldOfAll ends h = (conn app : ℕ) (e : End) (name : List ℕ) → end_at ends conn ≡ Some e → e.who ≡ App app → e.standing ≡ here → e.unique ≡ Some name → IsIn name h.named
-
-abbrev pub AreToldOfAll : World → Type 0
-AreToldOfAll w = (conn reader : ℕ) (e : End) (h : Hearer) → end_at w.ends conn ≡ Some e → e.who ≡ Reader reader → e.standing ≡ here → e.role ≡ a_reader h → IsToldOfAll w.ends h
-
-abbrev pub RestsAreWellWhereTold : Type 0
-RestsAreWellWhereTold =
-    (lines : List Line) (trace : List Entry) → CanAllStand lines → Begun lines trace → Everywhere AsksOfNode trace → AreToldOfAll (after_all (begins lines) trace).world → IsWellAt trace (after_all (begins lines) trace)

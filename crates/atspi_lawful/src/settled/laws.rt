@@ -1,10 +1,9 @@
-//! What holds where nothing waits.
+//! At quiet: what each reader holds is as the applications are.
 
-ghost use Rattle.atspi_lawful.specs.settled.Laws.{RestsAreWellWhereTold};
+ghost use Rattle.atspi_lawful.specs.settled.Laws.{RestsAreWell};
 
-/// At quiet: behind each front of a lawful trace behind which nothing is owed and nothing waits, where the registry is here, each reader that is here holds each
-/// application that is here as it is now, with every part known. So it is of readers that asked for all, and only for parts of nodes that were added; and where each
-/// was told of each application, which lawful traces do not give yet.
-pub fn rests_are_well_where_told()
-    ensures { RestsAreWellWhereTold }
+/// Where nothing is owed and nothing waits, and the registry is here, each reader that is here and asked for all that it may holds each application that is here as it is
+/// now, with every part known. Of each front of a lawful trace whose readers ask for parts of nodes that were added.
+pub fn rests_are_well()
+    ensures { RestsAreWell }
 {}
