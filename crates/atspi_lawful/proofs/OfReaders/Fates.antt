@@ -23,7 +23,7 @@ use Rattle.atspi_trace.specs.Carrying.{own_letter, letter_of, named}
 use Rattle.atspi_trace.specs.Hearing.{fate_of, answered_by, question_in, hears_letter, heard_entries}
 use Rattle.atspi_trace.specs.Causes.{Done, at_end, has_done, asks, reader_sends, first_hearer, registry_did, reader_starts}
 use Rattle.atspi_trace.specs.Due.{asks_as, asks_at}
-use Rattle.atspi_lawful.specs.laws.Words.{messages, message, with_serial, taken_as, taken, is_answered, is_returned}
+use Rattle.atspi_lawful.specs.laws.Words.{messages, message, with_serial, taken_as, taken, is_returned}
 use Rattle.atspi_lawful.proofs.OfOrder.Parties.{no_none, same_some, false_true, party-same, all_append}
 use Rattle.atspi_lawful.proofs.OfOrder.Allowed.{MovedUp, MovedDown, Asks}
 use Rattle.atspi_lawful.proofs.OfOrder.Frame.{Over, over_same, over_both, over_with, takes_over, ends_over, joined_cases, with_cases}

@@ -1,7 +1,7 @@
 -- Who returns a call to the registry's name: the registry alone. The bus returns calls to itself, and nobody but the registry takes a call that goes there, since it has its name as long as it is here.
-use Rattle.std.proofs.Common.{◌≡◌, ◌⊎◌, inl, inr, ℕ, zero, suc, ◌+◌, ◌≤◌, Bool, true, false, List, [], ◌∷◌, ◌++◌, length, map, Option, None, Some, refl, sym, ap, ap₂, ◌∙◌, subst, arith, cond}
-use Rattle.std.specs.Prelude.{◌==◌, ◌||◌, ◌&&◌, codes, bytes_eq, unwrap_or, is_some, if◌then◌else◌}
-use Rattle.std.specs.Ordering.{nat_cmp, eq_by_cmp}
+use Rattle.std.proofs.Common.{◌≡◌, ◌⊎◌, inl, inr, ℕ, zero, suc, ◌+◌, ◌≤◌, Bool, true, false, List, [], ◌∷◌, ◌++◌, length, map, Option, None, Some, refl, sym, ap, ap₂, ◌∙◌, subst, arith}
+use Rattle.std.specs.Prelude.{◌==◌, ◌||◌, codes, bytes_eq, unwrap_or, is_some, if◌then◌else◌}
+use Rattle.std.specs.Ordering.{nat_cmp}
 use Rattle.std.specs.Cmp.Lexicographic.{slice_cmp}
 use Rattle.std.specs.List.{AllByRecursion}
 use Rattle.std.specs.FinMap.{get-from_sorted}
@@ -17,8 +17,7 @@ use Rattle.atspi_names.specs.Owners.{own_name}
 use Rattle.atspi_protocol.specs.ends.Places.{registry}
 use Rattle.atspi_protocol.specs.ends.Messages.{Reply, returns, fails, reply_to}
 use Rattle.atspi_protocol.specs.registering.Steps.{RegistryStep, registry_takes}
-use Rattle.atspi_protocol.specs.registering.Told.{id_call}
-use Rattle.atspi_protocol.specs.exporting.Exporter.{StartCall, hello, add_match, get_registered_events, embed, Exporter, begins as begins_app}
+use Rattle.atspi_protocol.specs.exporting.Exporter.{StartCall, hello, add_match, get_registered_events, embed, Exporter}
 use Rattle.atspi_protocol.specs.exporting.Starting.{start_call}
 use Rattle.atspi_protocol.specs.exporting.Taking.{app_takes, answer_to}
 use Rattle.atspi_protocol.specs.following.Calls.{asking, user_call}
@@ -36,7 +35,7 @@ use Rattle.atspi_routing.specs.Steps.{Move, says, delivers, closes, BusStep, han
 use Rattle.atspi_trace.specs.Entry.{Entry, sent}
 use Rattle.atspi_trace.specs.Rules.{rule_in}
 use Rattle.atspi_trace.specs.World.{here, a_reader, Hearer, Said, Letter, first_lists, first_registry, first_world, End, World}
-use Rattle.atspi_trace.specs.Ends.{is_here, same_party, end_at, with_end, plain, put_down, rest_of, taken_up, taken_down, stops, leaves, app_count, reader_count}
+use Rattle.atspi_trace.specs.Ends.{is_here, end_at, with_end, plain, put_down, rest_of, taken_up, taken_down, stops, leaves, reader_count}
 use Rattle.atspi_trace.specs.Carrying as carrying
 use Rattle.atspi_trace.specs.Carrying.{Carried, own_letter, letter_of, stepped, named, with_name, settled}
 use Rattle.atspi_trace.specs.Hearing.{hears_letter}
@@ -44,7 +43,7 @@ use Rattle.atspi_trace.specs.Causes.{Done, at_end, saids, has_done, reader_sends
 use Rattle.atspi_trace.specs.Due.{asks_as, asks_at}
 use Rattle.atspi_lawful.specs.laws.Words.{message}
 use Rattle.atspi_lawful.specs.laws.NineLaws.{sent_before, count_got_by_bus}
-use Rattle.atspi_lawful.proofs.OfOrder.Parties.{no_none, same_some, party-same, false_true, all_append}
+use Rattle.atspi_lawful.proofs.OfOrder.Parties.{no_none, same_some, false_true, all_append}
 use Rattle.atspi_lawful.proofs.OfOrder.Allowed.{MovedUp, MovedDown, Asks}
 use Rattle.atspi_lawful.proofs.OfOrder.Frame.{Over, IsOrder, over_same, over_both, over_with, over_at, takes_over, ends_over, joined_cases}
 use Rattle.atspi_lawful.proofs.OfOrder.Shape.{Shape}
@@ -57,14 +56,12 @@ use Rattle.atspi_lawful.proofs.OfSteps.Steps.{Trees}
 use Rattle.atspi_lawful.proofs.OfLinks.LawLinks.{Linked, no_bus, first_unread}
 use Rattle.atspi_lawful.proofs.OfLinks.Ups.{Ups}
 use Rattle.atspi_lawful.proofs.OfTaken.Found.{found_more}
-use Rattle.atspi_lawful.proofs.OfTaken.Handing.{HandsOn}
 use Rattle.atspi_lawful.proofs.OfTaken.Said.{IsSaid}
 use Rattle.atspi_lawful.proofs.OfTaken.LawTaken.{Known}
-use Rattle.atspi_lawful.proofs.OfQuiet.Hello.{equal_of_tie}
-use Rattle.atspi_lawful.proofs.OfNames.Places.{greeted, first_at}
+use Rattle.atspi_lawful.proofs.OfNames.Places.{greeted}
 use Rattle.atspi_lawful.proofs.OfNames.LawNames.{NamedAt, Named}
 use Rattle.atspi_lawful.proofs.OfNames.LawEnds.{few_greeted}
-use Rattle.atspi_lawful.proofs.OfSigned.Mail.{NameIs, name_more, IsOwn, IsOfBus, IsPost, IsMail, IsSpeech}
+use Rattle.atspi_lawful.proofs.OfSigned.Mail.{NameIs, name_more, IsOwn, IsMail}
 use Rattle.atspi_lawful.proofs.OfSigned.Self.{unique_told, one_named, for_bus_true}
 use Rattle.atspi_lawful.proofs.OfSigned.Speech.{IsReplyTo, RepliesOnly, takes_replies, edit_silent, IsItsReply, registry_replies}
 use Rattle.atspi_lawful.proofs.OfSigned.Unique.{IsIn}

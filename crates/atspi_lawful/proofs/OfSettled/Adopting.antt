@@ -1,6 +1,6 @@
 -- EACH APPLICATION THAT IS HERE, and whose call of Embed the registry replied to, is a child of the registry's root.
-use Rattle.std.proofs.Common.{◌≡◌, ◌⊎◌, inl, inr, ℕ, zero, suc, ◌+◌, ◌≤◌, Bool, true, false, List, [], ◌∷◌, ◌++◌, length, Option, None, Some, refl, sym, ap, ◌∙◌, subst, arith}
-use Rattle.std.specs.Prelude.{◌==◌, codes, encode_utf8_all}
+use Rattle.std.proofs.Common.{◌≡◌, ◌⊎◌, inl, inr, ℕ, zero, suc, ◌≤◌, Bool, true, false, List, [], ◌∷◌, ◌++◌, length, Some, refl, sym, ap, ◌∙◌, subst, arith}
+use Rattle.std.specs.Prelude.{codes, encode_utf8_all}
 use Rattle.std.specs.List.{AllByRecursion}
 use Rattle.std.proofs.lemmas.List.{append-nil}
 use Rattle.atspi_lines.specs.declared.limits.TheConstants.{QUOTA_MOST}
@@ -27,18 +27,18 @@ use Rattle.atspi_trace.specs.Due.{asks_at}
 use Rattle.atspi_lawful.specs.laws.Words.{messages, message}
 use Rattle.atspi_lawful.proofs.OfOrder.Parties.{no_none, same_some, false_true}
 use Rattle.atspi_lawful.proofs.OfOrder.Along.{Keeps}
-use Rattle.atspi_lawful.proofs.OfOrder.Allowed.{MovedUp, MovedDown, Asks}
+use Rattle.atspi_lawful.proofs.OfOrder.Allowed.{Asks}
 use Rattle.atspi_lawful.proofs.OfOrder.Frame.{Over, over_with, joined_cases}
 use Rattle.atspi_lawful.proofs.OfOrder.Gone.{at_front}
 use Rattle.atspi_lawful.proofs.OfOrder.Shape.{Shape, RoleFits}
 use Rattle.atspi_lawful.proofs.OfOrder.Shaped.{registry_over}
-use Rattle.atspi_lawful.proofs.OfOrder.Growing.{Grows, Shaped, Nothing, And, grown}
-use Rattle.atspi_lawful.proofs.OfOrder.Effects.{RegistryTakes, Effect}
+use Rattle.atspi_lawful.proofs.OfOrder.Growing.{Grows, Shaped, And, grown}
+use Rattle.atspi_lawful.proofs.OfOrder.Effects.{RegistryTakes}
 use Rattle.atspi_lawful.proofs.OfReaders.Fates.{both_keep}
 use Rattle.atspi_lawful.proofs.OfOwn.Writing.{Lives, lived}
 use Rattle.atspi_lawful.proofs.OfSerials.Serial.{messages_more}
 use Rattle.atspi_lawful.proofs.OfTaken.Found.{found_more}
-use Rattle.atspi_lawful.proofs.OfNames.Places.{greeted, greeted_more, name_told}
+use Rattle.atspi_lawful.proofs.OfNames.Places.{greeted, greeted_more}
 use Rattle.atspi_lawful.proofs.OfSigned.Mail.{NameIs, name_more, Called, IsCallOf, IsMail}
 use Rattle.atspi_lawful.proofs.OfSigned.Self.{unique_told, one_named}
 use Rattle.atspi_lawful.proofs.OfSigned.LawMail.{taken_call}

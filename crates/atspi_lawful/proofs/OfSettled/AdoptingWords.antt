@@ -1,6 +1,6 @@
 -- HOW A CHILD OF THE REGISTRY STAYS: it goes only with a call of Unembed of its own, or with the bus's news that its name is nobody's; and who calls Embed becomes one.
-use Rattle.std.proofs.Common.{◌≡◌, ◌⊎◌, inl, inr, ℕ, zero, suc, Bool, true, false, List, [], ◌∷◌, ◌++◌, length, Option, None, Some, refl, sym, ap, ◌∙◌, subst}
-use Rattle.std.specs.Prelude.{◌==◌, ◌||◌, take, drop, remove, slice_get, position, bytes_eq, codes, encode_utf8_all, if◌then◌else◌, Result, Ok, Err}
+use Rattle.std.proofs.Common.{◌≡◌, inl, inr, ℕ, zero, suc, Bool, true, false, List, [], ◌∷◌, ◌++◌, Option, None, Some, refl, sym, ap, ◌∙◌, subst}
+use Rattle.std.specs.Prelude.{◌==◌, ◌||◌, take, drop, slice_get, bytes_eq, codes, encode_utf8_all, if◌then◌else◌, Result, Ok, Err}
 use Rattle.std.specs.List.{list_any}
 use Rattle.std.proofs.lemmas.Bool.{eqb-true}
 use lib.Utf8.{encode}
@@ -16,10 +16,10 @@ use Rattle.atspi_protocol.specs.members.Arguments.{text_at}
 use Rattle.atspi_protocol.specs.registering.RegistryState.{RegistryState, is_of, has_pair, without_pair, child_place}
 use Rattle.atspi_protocol.specs.registering.Told.{registered, deregistered}
 use Rattle.atspi_protocol.specs.registering.Answers.{Answer, only, reference_in, new_child, adopts, children_without, releases, answers_member, object_at}
-use Rattle.atspi_protocol.specs.registering.Steps.{RegistryStep, answer_to, called_by, named, hears, name_told, name_gone, takes_as, registry_takes}
+use Rattle.atspi_protocol.specs.registering.Steps.{answer_to, called_by, named, hears, name_told, name_gone, takes_as, registry_takes}
 use Rattle.atspi_protocol.specs.exporting.Exporter.{StartCall, hello, add_match, get_registered_events, embed}
 use Rattle.atspi_protocol.specs.exporting.Starting.{start_call}
-use Rattle.atspi_lawful.proofs.OfOrder.Parties.{no_none, same_some, false_true, found}
+use Rattle.atspi_lawful.proofs.OfOrder.Parties.{same_some, false_true, found}
 use Rattle.atspi_lawful.proofs.OfSettled.TellingWords.{HasOne, one_front, one_back}
 
 abbrev Pair : Type 0

@@ -1,7 +1,7 @@
 -- Whom the bus answers by an error in place of an application: each error of the bus's own on a down link answers a call of that end, and where that call went to a unique name that was given when it was
 -- sent, who has the name is gone.
-use Rattle.std.proofs.Common.{◌≡◌, ◌⊎◌, inl, inr, ℕ, zero, suc, ◌+◌, ◌<◌, ◌≤◌, ◌^◌, Bool, true, false, List, [], ◌∷◌, ◌++◌, length, Option, None, Some, refl, sym, ap, ap₂, ◌∙◌, subst, arith, is_some, length-append}
-use Rattle.std.specs.Prelude.{◌==◌, codes, bytes_eq, option_map, if◌then◌else◌}
+use Rattle.std.proofs.Common.{◌≡◌, ◌⊎◌, inl, inr, ℕ, zero, suc, ◌<◌, ◌≤◌, ◌^◌, Bool, true, false, List, [], ◌∷◌, ◌++◌, length, Option, None, Some, refl, sym, ap, ◌∙◌, subst, arith, length-append}
+use Rattle.std.specs.Prelude.{codes, bytes_eq, option_map, if◌then◌else◌}
 use Rattle.std.specs.List.{AllByRecursion}
 use Rattle.std.proofs.lemmas.List.{append-nil}
 use Rattle.std.proofs.lemmas.Slice.Eq.{bytes_eq-Decides}
@@ -12,14 +12,13 @@ use Rattle.atspi_lines.specs.declared.line.Party.TheVariants.{Bus as The_bus, Re
 use Rattle.atspi_message.specs.Envelope.{Envelope}
 use Rattle.atspi_names.specs.Owners.{Owners, own_name, unique_name, list_of}
 use Rattle.atspi_names.specs.Queue.{owner_in}
-use Rattle.atspi_protocol.specs.declared.following.question.Question.{Question}
 use Rattle.atspi_routing.specs.BusState.{OpenCall, BusState, unique_of}
 use Rattle.atspi_routing.specs.Members.{is_text}
 use Rattle.atspi_routing.specs.Routing.{receivers, owners_of, one_or_none, is_for_bus}
 use Rattle.atspi_routing.specs.Steps.{Move, says, delivers, closes, BusStep, is_unowned, is_hello, greets, bus_takes}
 use Rattle.atspi_trace.specs.Entry.{Entry, sent}
 use Rattle.atspi_trace.specs.Rules.{rule_in}
-use Rattle.atspi_trace.specs.World.{Standing, here, stopped, away, first_registry, Said, Letter, End, World, first_world}
+use Rattle.atspi_trace.specs.World.{Standing, here, stopped, away, first_registry, Letter, End, World, first_world}
 use Rattle.atspi_trace.specs.Ends.{is_here, same_party, end_at, with_end, taken_up}
 use Rattle.atspi_trace.specs.Carrying as carrying
 use Rattle.atspi_trace.specs.Carrying.{Carried, own_letter, letter_of, stepped, named, with_name, left, settled}
@@ -27,7 +26,6 @@ use Rattle.atspi_trace.specs.Causes.{Done, at_end}
 use Rattle.atspi_trace.specs.Due.{asks_at}
 use Rattle.atspi_lawful.specs.laws.Words.{message, before_sent}
 use Rattle.atspi_lawful.proofs.OfOrder.Parties.{no_none, same_some, same-party, party-same, false_true}
-use Rattle.atspi_lawful.proofs.OfOrder.Allowed.{Asks}
 use Rattle.atspi_lawful.proofs.OfOrder.Along.{Keeps}
 use Rattle.atspi_lawful.proofs.OfOrder.Each.{all_map}
 use Rattle.atspi_lawful.proofs.OfOrder.Frame.{Over, at_below, joined_cases}
@@ -35,7 +33,7 @@ use Rattle.atspi_lawful.proofs.OfOrder.Shape.{Shape, Lasts}
 use Rattle.atspi_lawful.proofs.OfOrder.Shaped.{bus_takes_over, bus_ends_over}
 use Rattle.atspi_lawful.proofs.OfOrder.Gone.{at_front}
 use Rattle.atspi_lawful.proofs.OfOrder.Growing.{Grows, Shaped, And, grown}
-use Rattle.atspi_lawful.proofs.OfOrder.Effects.{BusTakes, BusEnds, Effect}
+use Rattle.atspi_lawful.proofs.OfOrder.Effects.{BusTakes, BusEnds}
 use Rattle.atspi_lawful.proofs.OfLinks.LawLinks.{no_bus}
 use Rattle.atspi_lawful.proofs.OfTaken.Found.{found_more, front_more, sent_split}
 use Rattle.atspi_lawful.proofs.OfTaken.Said.{IsSaid}
@@ -46,9 +44,9 @@ use Rattle.atspi_lawful.proofs.OfNames.LawNames.{IsAt, NamedAt, Named}
 use Rattle.atspi_lawful.proofs.OfSigned.Mail.{NameIs, name_more, told_more}
 use Rattle.atspi_lawful.proofs.OfSigned.Self.{unique_told, one_named}
 use Rattle.atspi_lawful.proofs.OfSigned.Unique.{IsIn, owner_has}
-use Rattle.atspi_lawful.proofs.OfSigned.LawMail.{Mail, named_is, name_of_end}
+use Rattle.atspi_lawful.proofs.OfSigned.LawMail.{Mail, named_is}
 use Rattle.atspi_lawful.proofs.OfSigned.Handing.{Gives, Downs, downs_with, PutsAt, stepped_downs}
-use Rattle.atspi_lawful.proofs.OfEnds.Ordered.{HasName, HasNames}
+use Rattle.atspi_lawful.proofs.OfEnds.Ordered.{HasNames}
 use Rattle.atspi_lawful.proofs.OfEnds.LawEnds.{Ends_told, Under_ends, ends_keep}
 use Rattle.atspi_lawful.proofs.OfMissed.Returning.{not_the_bus}
 use Rattle.atspi_lawful.proofs.OfMissed.Arriving.{On}
@@ -56,7 +54,7 @@ use Rattle.atspi_lawful.proofs.OfMissed.Delivering.{all_on}
 use Rattle.atspi_lawful.proofs.OfSettled.ReplyingOwners.{Owned, takes_owned}
 use Rattle.atspi_lawful.proofs.OfSettled.RefusingBus.{Errs, Refuses, takes_errs, greets_errs}
 use Rattle.atspi_lawful.proofs.OfSettled.RefusingLeft.{Inner, inner_left, settled_inner, IsAway, LeftErrs, LeftErr, settled_errs, left_settled}
-use Rattle.atspi_lawful.proofs.OfSettled.RefusingOpen.{takes_all, same_for}
+use Rattle.atspi_lawful.proofs.OfSettled.RefusingOpen.{takes_all}
 use Rattle.atspi_lawful.proofs.OfSettled.Refusing.{Below, below, Under_refusing, Refusing, refusing_keeps}
 use Rattle.atspi_lawful.proofs.OfSettled.Idling.{Stills, Idle, Joining, Form, idles, joins, takes_, ends_, begins_, form, idle_moved, idle_asked}
 

@@ -1,8 +1,7 @@
 -- Who asks to be embedded: applications alone. So the names that readers were told are unique names of applications, and each own call of a reader goes to the bus, to the registry or to an application.
-use Rattle.std.proofs.Common.{◌≡◌, ◌⊎◌, inl, inr, ℕ, Bool, true, false, List, [], ◌∷◌, ◌++◌, map, Option, None, Some, refl, sym, ap, ◌∙◌, subst, arith}
-use Rattle.std.specs.Prelude.{codes, bytes_eq, if◌then◌else◌}
-use Rattle.std.specs.List.{AllByRecursion, list_any, cons_option}
-use Rattle.std.proofs.lemmas.Slice.Eq.{bytes_eq-Decides}
+use Rattle.std.proofs.Common.{◌≡◌, ◌⊎◌, inl, inr, ℕ, Bool, true, false, List, [], ◌∷◌, ◌++◌, map, None, Some, refl, sym, ap, ◌∙◌, subst, arith}
+use Rattle.std.specs.Prelude.{codes, if◌then◌else◌}
+use Rattle.std.specs.List.{AllByRecursion, cons_option}
 use Rattle.atspi_lines.specs.declared.deed.Deed.{Deed}
 use Rattle.atspi_lines.specs.declared.deed.Deed.TheVariants.{SetCaret, InsertText, DeleteText, SetText, SelectChild, DeselectChild, SelectAll, ClearSelection, DoAction}
 use Rattle.atspi_lines.specs.declared.line.Party.{Party}
@@ -25,8 +24,8 @@ use Rattle.atspi_trace.specs.Ends.{same_party, whose, party_at, number_of}
 use Rattle.atspi_trace.specs.Carrying as carrying
 use Rattle.atspi_trace.specs.Carrying.{bus_entries}
 use Rattle.atspi_trace.specs.Causes.{Done, did, app_starts}
-use Rattle.atspi_lawful.specs.laws.Words.{messages, message, with_serial}
-use Rattle.atspi_lawful.proofs.OfOrder.Parties.{no_none, same_some, same-party, party-same, false_true, all_append}
+use Rattle.atspi_lawful.specs.laws.Words.{messages, message}
+use Rattle.atspi_lawful.proofs.OfOrder.Parties.{same-party, false_true, all_append}
 use Rattle.atspi_lawful.proofs.OfOrder.BusWords.{bus_all, all_any}
 use Rattle.atspi_lawful.proofs.OfOrder.Effects.{received, Effect, resets, app_joins, reader_joins, app_edited, app_took, reader_called, swapped, exited_, showed_, told_busy, told_quiet, bus_took, bus_ended, registry_took, reader_took}
 use Rattle.atspi_lawful.proofs.OfOrder.Along.{Keeps}

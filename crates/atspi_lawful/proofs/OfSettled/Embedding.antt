@@ -1,17 +1,15 @@
 -- EACH APPLICATION WHOSE START IS OVER embedded, as long as the registry lives: no call of its start is answered by an error, Hello returns its name, and the registry the list of pairs.
-use Rattle.std.proofs.Common.{◌≡◌, ◌⊎◌, inl, inr, ℕ, zero, suc, ◌+◌, ◌<◌, ◌≤◌, Bool, true, false, List, [], ◌∷◌, ◌++◌, length, map, Option, None, Some, refl, sym, ap, ap₂, ◌∙◌, subst, arith, is_some}
-use Rattle.std.specs.Prelude.{◌==◌, ◌||◌, ◌&&◌, nat_lt, codes, if◌then◌else◌, Result, Ok, Err}
+use Rattle.std.proofs.Common.{◌≡◌, ◌⊎◌, inl, inr, ℕ, ◌+◌, ◌≤◌, Bool, true, false, List, [], ◌∷◌, ◌++◌, length, map, Option, None, Some, refl, sym, ap, ap₂, ◌∙◌, subst, arith, is_some}
+use Rattle.std.specs.Prelude.{◌==◌, ◌||◌, ◌&&◌, nat_lt, codes, if◌then◌else◌, Ok}
 use Rattle.std.specs.List.{AllByRecursion, cons_option}
 use Rattle.std.proofs.lemmas.Bool.{eqb-true}
 use lib.Utf8.{encode}
 use Rattle.std.proofs.lemmas.List.{append-nil}
 use Rattle.atspi_types.specs.Data.{Data, text_data}
 use Rattle.atspi_types.specs.Names.{is_bus_name, is_unique_name}
-use Rattle.atspi_lines.specs.declared.limits.TheConstants.{QUOTA_MOST}
 use Rattle.atspi_lines.specs.declared.line.Party.{Party}
-use Rattle.atspi_lines.specs.declared.line.Party.TheVariants.{Bus as The_bus, Registry, App, Reader}
+use Rattle.atspi_lines.specs.declared.line.Party.TheVariants.{Bus as The_bus, Registry, App}
 use Rattle.atspi_message.specs.Envelope.{Envelope}
-use Rattle.atspi_match.specs.declared.condition.Condition.{Condition}
 use Rattle.atspi_names.specs.Owners.{own_name}
 use Rattle.atspi_protocol.specs.ends.Places.{registry}
 use Rattle.atspi_protocol.specs.ends.Messages.{Reply, returns, fails, reply_to}
@@ -19,58 +17,41 @@ use Rattle.atspi_protocol.specs.members.Asked.{asked}
 use Rattle.atspi_protocol.specs.registering.RegistryState.{RegistryState}
 use Rattle.atspi_protocol.specs.registering.Answers.{Answer, only, object_at, pairs_data, reference_in}
 use Rattle.atspi_protocol.specs.registering.Steps.{answer_to}
-use Rattle.atspi_protocol.specs.exporting.Exporter.{StartCall, hello, add_match, get_registered_events, embed, Phase, new, awaits, over, Happening, steps, sends, hears as hears_of, deaf, Exporter, begins as begins_app}
+use Rattle.atspi_protocol.specs.exporting.Exporter.{StartCall, hello, add_match, get_registered_events, embed, Phase, new, awaits, over, Happening, steps, sends, hears as hears_of, deaf, Exporter}
 use Rattle.atspi_protocol.specs.exporting.Hearing.{pairs_in}
-use Rattle.atspi_protocol.specs.exporting.Starting.{name_or_empty, awaited, is_number, goes_on, greeted as greeted_app, listened, ends_start, start_call, starts, unique_name_in}
+use Rattle.atspi_protocol.specs.exporting.Starting.{name_or_empty, awaited, is_number, goes_on, greeted as greeted_app, listened, ends_start, start_call, unique_name_in}
 use Rattle.atspi_protocol.specs.exporting.Taking.{app_takes, takes_other, takes_call, takes_signal, called}
 use Rattle.atspi_routing.specs.declared.member.BusMember.TheVariants.{AddMatch}
 use Rattle.atspi_routing.specs.Members.{is_text, member_of}
 use Rattle.atspi_routing.specs.Routing.{is_for_bus, is_reply}
-use Rattle.atspi_trace.specs.Entry.{Entry, started, sent, got}
-use Rattle.atspi_trace.specs.Rules.{rule_in, registry_rule}
-use Rattle.atspi_trace.specs.World.{here, an_application, Said, Letter, End, World, newcomer}
-use Rattle.atspi_trace.specs.Ends.{is_here, same_party, number_of, whose, end_at, put_up, app_count}
-use Rattle.atspi_trace.specs.Causes.{Done, did, app_starts}
+use Rattle.atspi_trace.specs.Entry.{Entry}
+use Rattle.atspi_trace.specs.Rules.{registry_rule}
+use Rattle.atspi_trace.specs.World.{Said, Letter, End}
+use Rattle.atspi_trace.specs.Ends.{same_party}
+use Rattle.atspi_trace.specs.Causes.{did}
 use Rattle.atspi_lawful.specs.laws.Words.{messages, message, with_serial}
 use Rattle.atspi_lawful.specs.missed.Laws.{AreNamed}
 use Rattle.atspi_lawful.proofs.OfOrder.Parties.{no_none, same_some, party-same, false_true, all_append}
-use Rattle.atspi_lawful.proofs.OfOrder.Along.{Keeps}
-use Rattle.atspi_lawful.proofs.OfOrder.Growing.{Grows, Shaped, Nothing, And, grown}
-use Rattle.atspi_lawful.proofs.OfOrder.Shape.{Shape}
-use Rattle.atspi_lawful.proofs.OfOrder.Shaped.{received_at}
-use Rattle.atspi_lawful.proofs.OfOrder.Acts.{IsActive, number_at, last_at}
-use Rattle.atspi_lawful.proofs.OfOrder.Effects.{received, AppEdits, AppTakes, Effect}
-use Rattle.atspi_lawful.proofs.OfOrder.Told.{Tells}
-use Rattle.atspi_lawful.proofs.OfReaders.Fates.{both_keep}
 use Rattle.atspi_lawful.proofs.OfSerials.Serial.{messages_more}
-use Rattle.atspi_lawful.proofs.OfSerials.Numbers.{Numbered}
 use Rattle.atspi_lawful.proofs.OfHeard.Heeding.{IsOfListeners}
-use Rattle.atspi_lawful.proofs.OfOwn.Writing.{Lives}
-use Rattle.atspi_lawful.proofs.OfQuiet.Here.{Present, LiveHere, present_keeps}
 use Rattle.atspi_lawful.proofs.OfTaken.Found.{found_more}
 use Rattle.atspi_lawful.proofs.OfNames.Places.{greeted, name_told}
-use Rattle.atspi_lawful.proofs.OfSteps.Steps.{Trees}
 use Rattle.atspi_lawful.proofs.OfSigned.Mail.{NameIs, name_more, told_more, IsCallOf, IsAnswer, IsPost, IsMail}
-use Rattle.atspi_lawful.proofs.OfSigned.Self.{InStart, IsSelf, Selves, unique_told, one_named, for_bus_true}
-use Rattle.atspi_lawful.proofs.OfMissed.Arriving.{On}
+use Rattle.atspi_lawful.proofs.OfSigned.Self.{InStart, IsSelf, unique_told, one_named, for_bus_true}
 use Rattle.atspi_lawful.proofs.OfMissed.Registering.{name_is_bus_name}
 use Rattle.atspi_lawful.proofs.OfMissed.Telling.{pairs_told}
 use Rattle.atspi_lawful.proofs.OfServed.Facts.{Embeds}
-use Rattle.atspi_lawful.proofs.OfServed.Returned.{Fits, Rightly, OfEnd, RepliesTo, CallOf, returned_by}
+use Rattle.atspi_lawful.proofs.OfServed.Returned.{Fits, OfEnd, RepliesTo, CallOf, returned_by}
 use Rattle.atspi_lawful.proofs.OfServed.HearingNews.{registry_spelled}
 use Rattle.atspi_lawful.proofs.OfMissed.Returning.{not_the_bus}
-use Rattle.atspi_lawful.proofs.OfServed.HearingCourse.{NoCall, Asks, Course, stays, stops, meets, tunes, lists, course, Edited, edit_course}
-use Rattle.atspi_lawful.proofs.OfServed.HearingTuned.{IsAsked, Tuned, AllTuned, NotSaid, none_said}
-use Rattle.atspi_lawful.proofs.OfServed.Hearing.{Under_heard, hears_keep}
-use Rattle.atspi_lawful.proofs.OfServed.Facts.{AllHear}
-use Rattle.atspi_lawful.proofs.OfSettled.Facts.{AllEmbed}
+use Rattle.atspi_lawful.proofs.OfServed.HearingCourse.{NoCall, Asks, Course, stays, stops, meets, tunes, lists, course, Edited}
+use Rattle.atspi_lawful.proofs.OfServed.HearingTuned.{IsAsked, NotSaid, none_said}
 use Rattle.atspi_lawful.proofs.OfSettled.TellingWords.{HasOne, one_front, one_map}
 use Rattle.atspi_lawful.proofs.OfOrder.Each.{all_map}
 use Rattle.atspi_lawful.proofs.OfSettled.RefusingLeft.{IsAway}
 use Rattle.atspi_lawful.proofs.OfSettled.RefusingRules.{is_add, counted, adds_among}
-use Rattle.atspi_lawful.proofs.OfSettled.Refusing.{Reason, ErrorTo, Excused, Refusing, Under_refusing, refusing_keeps, Below, below}
-use Rattle.atspi_lawful.proofs.OfSettled.Answering.{IsAnswered, Answers, Answering, Under_answering, answering_keeps}
-use Rattle.atspi_lawful.proofs.OfSettled.Exporting.{Acting, acting, AllApps, apps_kept, first_apps, asked_apps, moved_apps}
+use Rattle.atspi_lawful.proofs.OfSettled.Refusing.{Reason, ErrorTo, Excused}
+use Rattle.atspi_lawful.proofs.OfSettled.Answering.{IsAnswered, Answers}
 
 -- HOW A START ENDS
 abbrev Stopped : StartCall → List Data → Type 0

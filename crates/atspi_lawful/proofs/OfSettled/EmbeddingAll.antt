@@ -1,17 +1,16 @@
 -- Each application whose start is over embedded, along a lawful trace.
-use Rattle.std.proofs.Common.{◌≡◌, ◌⊎◌, inl, inr, ℕ, suc, ◌≤◌, Bool, true, false, List, [], ◌∷◌, ◌++◌, map, None, Some, refl, sym, ap, ◌∙◌, subst, arith}
+use Rattle.std.proofs.Common.{◌≡◌, inl, ℕ, ◌≤◌, Bool, true, false, List, [], ◌∷◌, ◌++◌, map, None, Some, refl, sym, ap, ◌∙◌, subst, arith}
 use Rattle.std.specs.Prelude.{◌&&◌, nat_lt, if◌then◌else◌}
 use Rattle.std.specs.List.{AllByRecursion, cons_option}
 use Rattle.std.proofs.lemmas.List.{append-nil}
 use Rattle.atspi_lines.specs.declared.limits.TheConstants.{QUOTA_MOST}
-use Rattle.atspi_lines.specs.declared.line.Party.{Party}
-use Rattle.atspi_lines.specs.declared.line.Party.TheVariants.{Bus as The_bus, Registry, App, Reader}
+use Rattle.atspi_lines.specs.declared.line.Party.TheVariants.{Registry, App}
 use Rattle.atspi_message.specs.Envelope.{Envelope}
-use Rattle.atspi_protocol.specs.exporting.Exporter.{hello, Phase, awaits, over, Exporter, begins as begins_app}
+use Rattle.atspi_protocol.specs.exporting.Exporter.{hello, Phase, over, begins as begins_app}
 use Rattle.atspi_protocol.specs.exporting.Starting.{start_call, starts}
 use Rattle.atspi_protocol.specs.exporting.Taking.{app_takes}
 use Rattle.atspi_trace.specs.Entry.{Entry, started, sent}
-use Rattle.atspi_trace.specs.World.{here, an_application, Letter, End, World, newcomer}
+use Rattle.atspi_trace.specs.World.{an_application, End, World, newcomer}
 use Rattle.atspi_trace.specs.Ends.{is_here, same_party, number_of, whose, end_at, put_up, taken_down, app_count}
 use Rattle.atspi_trace.specs.Causes.{Done, did, app_starts}
 use Rattle.atspi_lawful.specs.laws.Words.{messages}
@@ -21,7 +20,7 @@ use Rattle.atspi_lawful.proofs.OfOrder.Growing.{Grows, Shaped, Nothing, And, gro
 use Rattle.atspi_lawful.proofs.OfOrder.Shape.{Shape}
 use Rattle.atspi_lawful.proofs.OfOrder.Shaped.{received_at}
 use Rattle.atspi_lawful.proofs.OfOrder.Acts.{IsActive, number_at, last_at}
-use Rattle.atspi_lawful.proofs.OfOrder.Effects.{received, AppEdits, AppTakes}
+use Rattle.atspi_lawful.proofs.OfOrder.Effects.{received, AppTakes}
 use Rattle.atspi_lawful.proofs.OfOrder.Told.{Tells}
 use Rattle.atspi_lawful.proofs.OfReaders.Fates.{both_keep}
 use Rattle.atspi_lawful.proofs.OfSerials.Serial.{messages_more}

@@ -1,10 +1,8 @@
 -- What is said of each application that is here and of the trace, kept where no application acts, where one starts, and where one takes a message or its user edits.
-use Rattle.std.proofs.Common.{◌≡◌, ◌⊎◌, inl, inr, ℕ, zero, suc, ◌+◌, ◌<◌, Bool, true, false, List, [], ◌∷◌, ◌++◌, length, map, None, Some, refl, sym, ap, ◌∙◌, subst, arith}
-use Rattle.std.specs.Prelude.{Option}
+use Rattle.std.proofs.Common.{◌≡◌, ◌⊎◌, inl, inr, ℕ, zero, suc, ◌+◌, ◌<◌, Bool, true, false, List, [], ◌∷◌, ◌++◌, length, map, Some, refl, sym, ap, ◌∙◌, subst, arith}
 use Rattle.std.specs.List.{AllByRecursion}
 use Rattle.std.proofs.lemmas.Bool.{ne_eqb}
-use Rattle.atspi_lines.specs.declared.line.Party.{Party}
-use Rattle.atspi_lines.specs.declared.line.Party.TheVariants.{Bus as The_bus, Registry, App, Reader}
+use Rattle.atspi_lines.specs.declared.line.Party.TheVariants.{Registry, App, Reader}
 use Rattle.atspi_message.specs.Envelope.{Envelope}
 use Rattle.atspi_protocol.specs.registering.Steps.{registry_takes}
 use Rattle.atspi_protocol.specs.exporting.Exporter.{hello, Exporter, begins as begins_app}
@@ -19,10 +17,10 @@ use Rattle.atspi_trace.specs.Ends.{is_here, same_party, number_of, whose, party_
 use Rattle.atspi_trace.specs.Hearing.{hears_letter}
 use Rattle.atspi_trace.specs.Carrying as carrying
 use Rattle.atspi_trace.specs.Carrying.{Carried}
-use Rattle.atspi_trace.specs.Causes.{Done, did, only, at_end, has_done, reader_sends, registry_did, app_starts, reader_starts}
+use Rattle.atspi_trace.specs.Causes.{Done, did, only, at_end, has_done, reader_sends, registry_did, app_starts}
 use Rattle.atspi_trace.specs.Due.{asks_as, asks_at}
-use Rattle.atspi_lawful.proofs.OfOrder.Parties.{no_none, same_some, party-same, false_true}
-use Rattle.atspi_lawful.proofs.OfOrder.Allowed.{MovedUp, MovedDown, Asks}
+use Rattle.atspi_lawful.proofs.OfOrder.Parties.{no_none, same_some, false_true}
+use Rattle.atspi_lawful.proofs.OfOrder.Allowed.{MovedUp, MovedDown}
 use Rattle.atspi_lawful.proofs.OfOrder.BusWords.{bus_all}
 use Rattle.atspi_lawful.proofs.OfOrder.Frame.{Over, IsOrder, over_same, over_both, over_with, joined_cases}
 use Rattle.atspi_lawful.proofs.OfOrder.Shape.{Shape}

@@ -1,24 +1,24 @@
 -- The facts of the world under "at quiet": where nothing waits no call is without its reply, each application that is here embedded and is the registry's child, readers were told of each child,
 -- and what a reader asked an application that is here was returned.
-use Rattle.std.proofs.Common.{◌≡◌, ◌⊎◌, ℕ, true, List, [], ◌∷◌, ◌++◌, Option, None, Some}
+use Rattle.std.proofs.Common.{◌≡◌, ◌⊎◌, ℕ, true, List, [], ◌∷◌, None, Some}
 use Rattle.std.specs.List.{AllByRecursion}
 use Rattle.atspi_forest.specs.Forest.{Forest, labels}
 use Rattle.atspi_forest.specs.Path.{path_of}
 use Rattle.atspi_forest.specs.Row.{TreeRow}
 use Rattle.atspi_lines.specs.declared.line.Party.TheVariants.{App, Reader}
 use Rattle.atspi_protocol.specs.declared.following.question.Question.{Question}
-use Rattle.atspi_protocol.specs.declared.following.question.Question.TheVariants.{Hello, AddMatch, RegisterEvent, GetChildren, GetItems, GetPart}
+use Rattle.atspi_protocol.specs.declared.following.question.Question.TheVariants.{RegisterEvent, GetChildren, GetItems, GetPart}
 use Rattle.atspi_protocol.specs.declared.news.part.PartName.{PartName}
 use Rattle.atspi_protocol.specs.declared.news.part.PartName.TheVariants.{Text, Caret, Columns}
 use Rattle.atspi_protocol.specs.following.Wishes.{is_refused}
 use Rattle.atspi_protocol.specs.following.ReaderState.{start_calls}
-use Rattle.atspi_protocol.specs.exporting.Exporter.{StartCall, Phase, awaits, over, Exporter}
+use Rattle.atspi_protocol.specs.exporting.Exporter.{StartCall, awaits, over, Exporter}
 use Rattle.atspi_trace.specs.Entry.{Entry}
 use Rattle.atspi_trace.specs.World.{here, Asked, Fate, waits, returned, failed, an_application, a_reader, Holding, Hearer, End, World}
 use Rattle.atspi_trace.specs.Ends.{end_at}
 use Rattle.atspi_trace.specs.Hearing.{holding_of}
 use Rattle.atspi_lawful.specs.laws.NineLaws.{Everywhere}
-use Rattle.atspi_lawful.specs.settled.Laws.{NothingWaits, AsksOfNode, BeginsWell, IsPartAsked}
+use Rattle.atspi_lawful.specs.settled.Laws.{AsksOfNode, BeginsWell, IsPartAsked}
 use Rattle.atspi_lawful.proofs.OfOwn.Writing.{Lives}
 use Rattle.atspi_lawful.proofs.OfServed.Facts.{Embeds}
 

@@ -1,23 +1,17 @@
 -- What a cause does to the links, told apart in five forms: nothing new stands on a down link and the bus stays as it is; an end joins; the bus takes a message, or the end of an end; or all begins.
-use Rattle.std.proofs.Common.{◌≡◌, ◌⊎◌, inl, inr, ℕ, suc, ◌+◌, true, false, List, [], ◌∷◌, ◌++◌, length, refl, sym, ap, ◌∙◌, subst}
-use Rattle.std.specs.Prelude.{Some}
-use Rattle.atspi_match.specs.declared.condition.Condition.{Condition}
+use Rattle.std.proofs.Common.{◌≡◌, ◌⊎◌, inl, inr, ℕ, suc, ◌+◌, true, false, List, [], ◌∷◌, ◌++◌, refl, sym, ap, ◌∙◌, subst}
 use Rattle.atspi_message.specs.Envelope.{Envelope}
-use Rattle.atspi_names.specs.Owners.{Owners}
 use Rattle.atspi_protocol.specs.declared.following.question.Question.{Question}
-use Rattle.atspi_protocol.specs.exporting.Exporter.{begins as begins_app}
 use Rattle.atspi_protocol.specs.exporting.Taking.{app_takes}
 use Rattle.atspi_protocol.specs.registering.Steps.{registry_takes}
 use Rattle.atspi_protocol.specs.following.Calls.{user_call}
-use Rattle.atspi_routing.specs.BusState.{OpenCall}
 use Rattle.atspi_trace.specs.World.{here, the_registry, an_application, a_reader, Role, Hearer, Letter, End, World, first_world}
-use Rattle.atspi_trace.specs.Ends.{is_here, end_at, with_end, rest_of, put_up, taken_down, stops}
+use Rattle.atspi_trace.specs.Ends.{is_here, with_end, rest_of, taken_down, stops}
 use Rattle.atspi_trace.specs.Hearing.{hears_letter}
-use Rattle.atspi_trace.specs.Causes.{Done, only, at_end, has_done, reader_sends, registry_did, app_starts, reader_starts}
+use Rattle.atspi_trace.specs.Causes.{Done, only, at_end, has_done, reader_sends, registry_did}
 use Rattle.atspi_trace.specs.Due.{asks_as, asks_at}
-use Rattle.atspi_lawful.proofs.OfOrder.Allowed.{MovedUp, MovedDown, Asks}
+use Rattle.atspi_lawful.proofs.OfOrder.Allowed.{MovedUp, MovedDown}
 use Rattle.atspi_lawful.proofs.OfOrder.Frame.{Over, IsOrder, over_same, over_both, over_with}
-use Rattle.atspi_lawful.proofs.OfOrder.Shape.{Shape}
 use Rattle.atspi_lawful.proofs.OfOrder.Shaped.{new_app, new_reader, app_joined}
 use Rattle.atspi_lawful.proofs.OfOrder.Effects.{received, BusTakes, BusEnds, Effect, resets, app_joins, reader_joins, app_edited, app_took, reader_called, swapped, exited_, showed_, told_busy, told_quiet, bus_took, bus_ended, registry_took, reader_took}
 use Rattle.atspi_lawful.proofs.OfMissed.Arriving.{On}

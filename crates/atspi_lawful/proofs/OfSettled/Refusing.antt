@@ -1,38 +1,34 @@
 -- WHOM THE BUS ANSWERS BY AN ERROR: each error of the bus's own on a down link answers a call of that end, either one to the bus itself, behind its Hello, which is an AddMatch of a rule only where the end had sent
 -- so many; or one to another, and to the registry's name only where the registry is gone.
-use Rattle.std.proofs.Common.{◌≡◌, ◌⊎◌, inl, inr, ℕ, zero, suc, ◌+◌, ◌<◌, ◌≤◌, ◌^◌, Bool, true, false, List, [], ◌∷◌, ◌++◌, length, Option, None, Some, refl, sym, ap, ap₂, ◌∙◌, subst, arith, is_some}
-use Rattle.std.specs.Prelude.{◌==◌, codes, unwrap_or, if◌then◌else◌, Result, Ok}
+use Rattle.std.proofs.Common.{◌≡◌, ◌⊎◌, inl, inr, ℕ, zero, suc, ◌+◌, ◌<◌, ◌≤◌, ◌^◌, Bool, true, false, List, [], ◌∷◌, ◌++◌, length, Option, None, Some, refl, sym, ap, ◌∙◌, subst, arith, is_some}
+use Rattle.std.specs.Prelude.{codes, if◌then◌else◌, Ok}
 use Rattle.std.specs.List.{AllByRecursion}
-use Rattle.std.specs.Ordering.{nat_cmp}
 use Rattle.std.proofs.lemmas.List.{append-nil}
 use Rattle.atspi_types.specs.Names.{is_unique_name}
 use Rattle.atspi_lines.specs.declared.limits.TheConstants.{QUOTA_MOST}
 use Rattle.atspi_lines.specs.declared.line.Party.{Party}
-use Rattle.atspi_lines.specs.declared.line.Party.TheVariants.{Bus as The_bus, Registry, App, Reader}
+use Rattle.atspi_lines.specs.declared.line.Party.TheVariants.{Bus as The_bus, Registry, Reader}
 use Rattle.atspi_message.specs.Envelope.{Envelope}
 use Rattle.atspi_match.specs.declared.condition.Condition.{Condition}
 use Rattle.atspi_match.specs.RuleIndex.{rules_of}
 use Rattle.atspi_names.specs.Owners.{Owners, own_name, list_of}
 use Rattle.atspi_names.specs.Queue.{owner_in}
 use Rattle.atspi_protocol.specs.ends.Places.{registry}
-use Rattle.atspi_protocol.specs.declared.following.question.Question.{Question}
 use Rattle.atspi_routing.specs.declared.member.BusMember.TheVariants.{AddMatch}
 use Rattle.atspi_routing.specs.BusState.{OpenCall, BusState, unique_of}
 use Rattle.atspi_routing.specs.Members.{is_text, member_of}
-use Rattle.atspi_routing.specs.Routing.{receivers, owners_of, one_or_none, is_for_bus}
+use Rattle.atspi_routing.specs.Routing.{receivers, one_or_none, is_for_bus}
 use Rattle.atspi_routing.specs.Steps.{Move, says, delivers, closes, BusStep, is_unowned, is_hello, greets, bus_takes}
 use Rattle.atspi_trace.specs.Entry.{Entry, sent, got}
 use Rattle.atspi_trace.specs.Rules.{rule_in}
-use Rattle.atspi_trace.specs.World.{Standing, here, stopped, away, first_registry, Said, Letter, End, World, first_world}
+use Rattle.atspi_trace.specs.World.{Standing, here, stopped, away, first_registry, Letter, End, World, first_world}
 use Rattle.atspi_trace.specs.Ends.{is_here, end_at, with_end, taken_up}
-use Rattle.atspi_trace.specs.Carrying as carrying
 use Rattle.atspi_trace.specs.Carrying.{Carried, own_letter, letter_of, stepped, named, with_name, left, takes, settled, bus_entries}
 use Rattle.atspi_trace.specs.Causes.{Done, at_end}
 use Rattle.atspi_trace.specs.Due.{asks_at}
 use Rattle.atspi_lawful.specs.laws.Words.{message}
-use Rattle.atspi_lawful.specs.laws.NineLaws.{sent_before, count_got_by_bus}
+use Rattle.atspi_lawful.specs.laws.NineLaws.{count_got_by_bus}
 use Rattle.atspi_lawful.proofs.OfOrder.Parties.{no_none, same_some, party-same, false_true}
-use Rattle.atspi_lawful.proofs.OfOrder.Allowed.{Asks}
 use Rattle.atspi_lawful.proofs.OfOrder.Along.{Keeps}
 use Rattle.atspi_lawful.proofs.OfOrder.Frame.{Over, joined_cases}
 use Rattle.atspi_lawful.proofs.OfOrder.Shape.{Shape, Lasts}
@@ -48,7 +44,6 @@ use Rattle.atspi_lawful.proofs.OfTaken.LawTaken.{Known}
 use Rattle.atspi_lawful.proofs.OfNames.Places.{greeted}
 use Rattle.atspi_lawful.proofs.OfNames.LawNames.{NamedAt, Named}
 use Rattle.atspi_lawful.proofs.OfNames.LawEnds.{few_greeted}
-use Rattle.atspi_lawful.proofs.OfSigned.Mail.{NameIs}
 use Rattle.atspi_lawful.proofs.OfSigned.Self.{unique_told}
 use Rattle.atspi_lawful.proofs.OfSigned.LawMail.{Mail, named_is}
 use Rattle.atspi_lawful.proofs.OfSigned.Handing.{Gives, Downs, downs_with, PutsAt, stepped_downs}
@@ -59,11 +54,11 @@ use Rattle.atspi_lawful.proofs.OfServed.Owning.{KeepsName}
 use Rattle.atspi_lawful.proofs.OfServed.Returned.{Rightly, Under_rightly, rightly_keeps}
 use Rattle.atspi_lawful.proofs.OfSettled.ReplyingOwners.{Owned}
 use Rattle.atspi_lawful.proofs.OfSettled.RefusingBus.{Errs, Refuses, takes_errs, greets_errs}
-use Rattle.atspi_lawful.proofs.OfSettled.RefusingLeft.{IsAway, LeftErrs, LeftErr, settled_errs, left_settled}
+use Rattle.atspi_lawful.proofs.OfSettled.RefusingLeft.{IsAway, LeftErrs, settled_errs, left_settled}
 use Rattle.atspi_lawful.proofs.OfSettled.RefusingRules.{number_is, adds_below, adds_grow, Counted, counted_kept, idle_counted, counted_first}
 use Rattle.atspi_lawful.proofs.OfSettled.RefusingFirst.{owned_first}
 use Rattle.atspi_lawful.proofs.OfSettled.RefusingOpen.{IsOpen, Opened, Now, inner_step, inner_ended, idle_opened, opened_kept, same_for}
-use Rattle.atspi_lawful.proofs.OfSettled.Idling.{Stills, Idle, Joining, Form, idles, joins, takes_, ends_, begins_, form, idle_moved, idle_asked}
+use Rattle.atspi_lawful.proofs.OfSettled.Idling.{Idle, Joining, Form, idles, joins, takes_, ends_, begins_, form, idle_moved, idle_asked}
 
 -- AN ERROR, with the call that it answers and why
 abbrev pub Reason : List Entry → List End → Party → ℕ → Envelope → Type 0

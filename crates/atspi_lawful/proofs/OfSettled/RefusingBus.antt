@@ -1,11 +1,10 @@
 -- Where the bus answers a call by an error: a call to itself that it refuses (an AddMatch of a rule only where the connection has as many rules as it may), or a call that goes to a name that nobody has.
 -- The error goes to who has the caller's name, with the serial of its call. And where one leaves, to the callers whose calls it was to answer.
-use Rattle.std.proofs.Common.{◌≡◌, ◌⊎◌, inl, inr, ℕ, ◌+◌, Bool, true, false, List, [], ◌∷◌, ◌++◌, map, Option, None, Some, refl, sym, ap, ◌∙◌, subst, arith}
-use Rattle.std.specs.Prelude.{◌==◌, not, filter, flat_map, codes, if◌then◌else◌, Result, Ok, Err}
+use Rattle.std.proofs.Common.{◌≡◌, ◌⊎◌, inl, inr, ℕ, ◌+◌, Bool, true, false, List, [], ◌∷◌, ◌++◌, Option, None, Some, refl, sym, ap, ◌∙◌, subst, arith}
+use Rattle.std.specs.Prelude.{◌==◌, flat_map, codes, if◌then◌else◌, Result, Ok, Err}
 use Rattle.std.specs.List.{AllByRecursion, list_any}
 use Rattle.std.specs.FinMap as finmap
 use Rattle.std.proofs.lemmas.Bool.{eqb-true}
-use Rattle.std.proofs.lemmas.List.{append-nil}
 use Rattle.atspi_types.specs.Data.{Data, text_data}
 use Rattle.atspi_types.specs.Names.{is_unique_name}
 use Rattle.atspi_message.specs.Envelope.{Envelope}
@@ -21,7 +20,7 @@ use Rattle.atspi_routing.specs.OwnMessages.{return_to, error_to, name_lost, name
 use Rattle.atspi_routing.specs.Answers.{Reply, returns, fails, Answer, only, answers, may_be_asked_for, first_text, second_number, requests, releases, adds_rule, removes_rule}
 use Rattle.atspi_routing.specs.Routing.{receivers, owners_of, is_for_bus, expects_reply}
 use Rattle.atspi_routing.specs.Steps.{Move, says, delivers, closes, BusStep, handed, speaks, replies, answered, called, undeliverable, is_unowned, greets, bus_takes}
-use Rattle.atspi_lawful.proofs.OfOrder.Parties.{no_none, same_some, false_true, all_append}
+use Rattle.atspi_lawful.proofs.OfOrder.Parties.{no_none, false_true, all_append}
 use Rattle.atspi_lawful.proofs.OfNames.Naming.{SameAs, called_same}
 use Rattle.atspi_lawful.proofs.OfSigned.Unique.{OwnLists, called_lists, IsIn, owner_has}
 use Rattle.atspi_lawful.proofs.OfSigned.Handing.{Gives, handed_gives}

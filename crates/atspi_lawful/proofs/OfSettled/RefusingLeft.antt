@@ -1,23 +1,22 @@
 -- Where one leaves: the errors that the bus then says go to the callers of open calls that it was to answer, with their serials; so it is of all closings that a step causes.
-use Rattle.std.proofs.Common.{◌≡◌, ◌⊎◌, inl, inr, ℕ, zero, suc, Bool, true, false, List, [], ◌∷◌, ◌++◌, map, Option, None, Some, refl, sym, ap, ◌∙◌, subst, arith, cond}
-use Rattle.std.specs.Prelude.{◌==◌, ◌&&◌, ◌||◌, not, filter, flat_map, length, codes, if◌then◌else◌}
+use Rattle.std.proofs.Common.{◌≡◌, ◌⊎◌, inl, inr, ℕ, zero, suc, Bool, true, false, List, [], ◌∷◌, ◌++◌, map, Option, None, Some, refl, sym, ap, ◌∙◌, subst, arith}
+use Rattle.std.specs.Prelude.{◌==◌, ◌&&◌, ◌||◌, not, filter, flat_map, codes, if◌then◌else◌}
 use Rattle.std.specs.List.{AllByRecursion}
 use Rattle.std.proofs.lemmas.Bool.{eqb-true, eq-eqb}
 use Rattle.atspi_message.specs.Envelope.{Envelope}
 use Rattle.atspi_match.specs.RuleIndex.{without_rules}
-use Rattle.atspi_names.specs.Owners.{Owners, list_of, after_gone, owned_by}
+use Rattle.atspi_names.specs.Owners.{list_of, after_gone, owned_by}
 use Rattle.atspi_names.specs.Queue.{owner_in}
 use Rattle.atspi_routing.specs.declared.closing.Why.{Why}
 use Rattle.atspi_routing.specs.BusState.{OpenCall, BusState, unique_of, name_or_empty, calls_without, waiting_for}
 use Rattle.atspi_routing.specs.OwnMessages.{error_to, name_acquired, owner_changed}
-use Rattle.atspi_routing.specs.Routing.{receivers, owners_of}
 use Rattle.atspi_routing.specs.Steps.{Move, says, delivers, closes, no_replies, name_passes_on, names_pass_on, farewell, bus_leaves}
 use Rattle.atspi_routing.specs.Queues.{Bus, without_queue}
 use Rattle.atspi_trace.specs.World.{Letter, End}
 use Rattle.atspi_trace.specs.Ends.{is_here, end_at, with_end, leaves}
-use Rattle.atspi_trace.specs.Carrying.{Carried, own_letter, stepped, left, one_closed, settled}
-use Rattle.atspi_lawful.proofs.OfOrder.Parties.{no_none, same_some, false_true, all_append}
-use Rattle.atspi_lawful.proofs.OfOrder.Frame.{Over, with_cases, stepped_over, over_same, over_both, left_over, settled_over}
+use Rattle.atspi_trace.specs.Carrying.{Carried, own_letter, left, one_closed, settled}
+use Rattle.atspi_lawful.proofs.OfOrder.Parties.{false_true, all_append}
+use Rattle.atspi_lawful.proofs.OfOrder.Frame.{Over, with_cases, stepped_over, left_over, settled_over}
 use Rattle.atspi_lawful.proofs.OfOrder.Shape.{Lasts, lasting, put_lasts, leaves_lasts}
 use Rattle.atspi_lawful.proofs.OfNames.Naming.{gone_other}
 use Rattle.atspi_lawful.proofs.OfSigned.Unique.{IsIn}

@@ -1,9 +1,7 @@
 -- The open calls of the bus: each was sent by its caller to another than the bus, and one that went to the registry's name is the registry's to answer.
-use Rattle.std.proofs.Common.{◌≡◌, ◌⊎◌, inl, inr, ℕ, zero, suc, ◌<◌, ◌≤◌, ◌^◌, Bool, true, false, List, [], ◌∷◌, ◌++◌, length, Option, None, Some, refl, sym, ap, ◌∙◌, subst, arith, is_some, length-append}
+use Rattle.std.proofs.Common.{◌≡◌, ◌⊎◌, inl, inr, ℕ, ◌<◌, ◌^◌, Bool, true, false, List, [], ◌∷◌, ◌++◌, length, Option, None, Some, refl, sym, ap, ◌∙◌, subst, arith, length-append}
 use Rattle.std.specs.Prelude.{◌==◌, ◌&&◌, if◌then◌else◌, Result, Ok, Err}
 use Rattle.std.specs.List.{AllByRecursion}
-use Rattle.atspi_lines.specs.declared.line.Party.{Party}
-use Rattle.atspi_lines.specs.declared.limits.TheConstants.{QUOTA_MOST}
 use Rattle.atspi_message.specs.Envelope.{Envelope}
 use Rattle.atspi_match.specs.declared.condition.Condition.{Condition}
 use Rattle.atspi_protocol.specs.ends.Places.{registry}
@@ -14,13 +12,13 @@ use Rattle.atspi_routing.specs.Routing.{receivers, owners_of, is_for_bus, is_rep
 use Rattle.atspi_routing.specs.Steps.{closes, BusStep, handed, speaks, called, undeliverable, is_unowned, calls_after_all, is_hello, greets, bus_takes}
 use Rattle.atspi_trace.specs.Entry.{Entry}
 use Rattle.atspi_trace.specs.Rules.{rule_in}
-use Rattle.atspi_trace.specs.World.{here, End, World, first_world}
+use Rattle.atspi_trace.specs.World.{End, World, first_world}
 use Rattle.atspi_trace.specs.Ends.{end_at, with_end, taken_up}
 use Rattle.atspi_trace.specs.Carrying as carrying
 use Rattle.atspi_trace.specs.Carrying.{Carried, letter_of, stepped, with_name, left}
 use Rattle.atspi_trace.specs.Causes.{Done}
 use Rattle.atspi_lawful.specs.laws.Words.{message}
-use Rattle.atspi_lawful.proofs.OfOrder.Parties.{no_none, same_some, false_true}
+use Rattle.atspi_lawful.proofs.OfOrder.Parties.{same_some}
 use Rattle.atspi_lawful.proofs.OfOrder.Each.{all_map}
 use Rattle.atspi_lawful.proofs.OfOrder.Frame.{Over, at_below, joined_cases}
 use Rattle.atspi_lawful.proofs.OfOrder.Shape.{Lasts}
@@ -31,7 +29,7 @@ use Rattle.atspi_lawful.proofs.OfSigned.Unique.{IsIn}
 use Rattle.atspi_lawful.proofs.OfServed.Owning.{KeepsName, goes_first}
 use Rattle.atspi_lawful.proofs.OfSettled.ReplyingOwners.{Owned, takes_owned}
 use Rattle.atspi_lawful.proofs.OfSettled.RefusingLeft.{Inner, inner_left, settled_inner}
-use Rattle.atspi_lawful.proofs.OfSettled.Idling.{Stills, Idle, Joining, Form, idles, joins, takes_, ends_, begins_, form}
+use Rattle.atspi_lawful.proofs.OfSettled.Idling.{Idle, Joining, Form, idles, joins, takes_, ends_, begins_}
 
 -- AN OPEN CALL
 pub record IsOpen (es : List Entry) (ends : List End) (call : OpenCall) : Type 0 where

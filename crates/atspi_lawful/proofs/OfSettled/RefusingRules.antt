@@ -6,7 +6,7 @@ use Rattle.std.proofs.lemmas.List.Recursion.{is_count_by}
 use Rattle.std.proofs.lemmas.Bool.{eqb-true, eq-eqb, lt-ltb, ltb-true}
 use Rattle.atspi_lines.specs.declared.limits.TheConstants.{QUOTA_MOST}
 use Rattle.atspi_lines.specs.declared.line.Party.{Party}
-use Rattle.atspi_lines.specs.declared.line.Party.TheVariants.{Registry, Reader}
+use Rattle.atspi_lines.specs.declared.line.Party.TheVariants.{Registry}
 use Rattle.atspi_types.specs.Data.{Data}
 use Rattle.atspi_message.specs.Envelope.{Envelope}
 use Rattle.atspi_match.specs.declared.condition.Condition.{Condition}
@@ -19,7 +19,7 @@ use Rattle.atspi_routing.specs.Members.{MemberLine, is_text, is_of, first_line, 
 use Rattle.atspi_routing.specs.Answers.{returns, fails, Answer, only, answers, may_be_asked_for, first_text, second_number, requests, releases, adds_rule, removes_rule}
 use Rattle.atspi_routing.specs.Routing.{receivers, is_for_bus}
 use Rattle.atspi_routing.specs.Steps.{closes, handed, speaks, called, undeliverable, is_unowned, calls_after_all, is_hello, greets, bus_takes}
-use Rattle.atspi_trace.specs.Entry.{Entry, sent}
+use Rattle.atspi_trace.specs.Entry.{Entry}
 use Rattle.atspi_trace.specs.Rules.{rule_in}
 use Rattle.atspi_trace.specs.World.{first_registry, End, World, first_world}
 use Rattle.atspi_trace.specs.Ends.{end_at, with_end, taken_up}
@@ -29,13 +29,13 @@ use Rattle.atspi_trace.specs.Causes.{Done}
 use Rattle.atspi_lawful.specs.laws.Words.{messages, message, with_serial}
 use Rattle.atspi_lawful.proofs.OfOrder.Parties.{no_none, same_some, false_true}
 use Rattle.atspi_lawful.proofs.OfOrder.Frame.{Over, at_below, joined_cases}
-use Rattle.atspi_lawful.proofs.OfOrder.Shape.{Shape, Lasts}
+use Rattle.atspi_lawful.proofs.OfOrder.Shape.{Lasts}
 use Rattle.atspi_lawful.proofs.OfOrder.Shaped.{bus_takes_over, bus_ends_over}
-use Rattle.atspi_lawful.proofs.OfOrder.Effects.{BusTakes, BusEnds, Effect}
+use Rattle.atspi_lawful.proofs.OfOrder.Effects.{BusTakes, BusEnds}
 use Rattle.atspi_lawful.proofs.OfSerials.Serial.{messages_more}
 use Rattle.atspi_lawful.proofs.OfLinks.LawLinks.{first_unread}
 use Rattle.atspi_lawful.proofs.OfTurns.Turning.{unread_more}
-use Rattle.atspi_lawful.proofs.OfSettled.Idling.{Stills, Idle, Joining, Form, idles, joins, takes_, ends_, begins_, form}
+use Rattle.atspi_lawful.proofs.OfSettled.Idling.{Idle, Joining, Form, idles, joins, takes_, ends_, begins_}
 
 -- HOW MANY AddMatch CALLS stand among messages with a serial below this
 abbrev pub add_match : List ℕ

@@ -1,5 +1,5 @@
 -- What worked cases share: questions told apart, calls that are not among those asked, and entries that ask for no part.
-use Rattle.std.proofs.Common.{◌≡◌, inl, inr, Bool, true, false, ℕ, List, [], ◌∷◌, ◌++◌, Option, None, Some, sym, ap, ◌∙◌, subst}
+use Rattle.std.proofs.Common.{◌≡◌, inl, inr, Bool, true, false, ℕ, List, [], ◌∷◌, ◌++◌, Option, Some, sym, ap, ◌∙◌, subst}
 use Rattle.std.specs.List.{AllByRecursion}
 use Rattle.atspi_lines.specs.declared.line.Party.TheVariants.{Reader}
 use Rattle.atspi_protocol.specs.declared.following.question.Question.{Question}

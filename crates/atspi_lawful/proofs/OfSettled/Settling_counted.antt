@@ -1,14 +1,13 @@
 -- The serials of a reader's own calls rise from 1 on, and below each serial it sent no more calls of AddMatch than own calls.
-use Rattle.std.proofs.Common.{◌≡◌, ◌⊎◌, inl, inr, ℕ, zero, suc, ◌+◌, ◌≤◌, ◌<◌, Bool, true, false, List, [], ◌∷◌, ◌++◌, length, map, Option, None, Some, refl, sym, ap, ◌∙◌, subst, arith}
-use Rattle.std.specs.Prelude.{◌==◌, ◌&&◌, nat_lt, if◌then◌else◌}
+use Rattle.std.proofs.Common.{◌≡◌, ◌⊎◌, inl, inr, ℕ, zero, suc, ◌+◌, ◌≤◌, ◌<◌, Bool, true, false, List, [], ◌∷◌, ◌++◌, length, map, None, Some, refl, sym, ap, ◌∙◌, subst, arith}
+use Rattle.std.specs.Prelude.{◌&&◌, nat_lt, if◌then◌else◌}
 use Rattle.std.specs.List.{AllByRecursion, cons_option}
-use Rattle.std.proofs.lemmas.Bool.{ltb-true, ltb-false}
+use Rattle.std.proofs.lemmas.Bool.{ltb-true}
 use Rattle.std.proofs.lemmas.List.{append-nil}
 use Rattle.atspi_lines.specs.declared.deed.Deed.{Deed}
 use Rattle.atspi_lines.specs.declared.deed.Deed.TheVariants.{SetCaret, InsertText, DeleteText, SetText, SelectChild, DeselectChild, SelectAll, ClearSelection, DoAction}
 use Rattle.atspi_lines.specs.declared.limits.TheConstants.{QUOTA_MOST}
-use Rattle.atspi_lines.specs.declared.line.Party.{Party}
-use Rattle.atspi_lines.specs.declared.line.Party.TheVariants.{Bus as The_bus, Registry, App, Reader}
+use Rattle.atspi_lines.specs.declared.line.Party.TheVariants.{Registry, Reader}
 use Rattle.atspi_message.specs.Envelope.{Envelope}
 use Rattle.atspi_routing.specs.declared.closing.Closing.{Closing}
 use Rattle.atspi_protocol.specs.registering.Steps.{registry_takes}
@@ -16,17 +15,17 @@ use Rattle.atspi_protocol.specs.exporting.Exporter.{Happening, steps, sends, hea
 use Rattle.atspi_protocol.specs.exporting.Taking.{app_takes}
 use Rattle.atspi_protocol.specs.declared.following.question.Question.{Question}
 use Rattle.atspi_protocol.specs.declared.following.question.Question.TheVariants.{Hello}
-use Rattle.atspi_protocol.specs.following.Calls.{asking, user_call}
+use Rattle.atspi_protocol.specs.following.Calls.{user_call}
 use Rattle.atspi_trace.specs.Entry.{Entry, sent, dropped}
-use Rattle.atspi_trace.specs.World.{Asked, waits, Role, a_reader, Hearer, End, World, first_registry, first_world}
+use Rattle.atspi_trace.specs.World.{Asked, waits, a_reader, Hearer, End, World, first_registry, first_world}
 use Rattle.atspi_trace.specs.Ends.{same_party, whose, party_at, number_of, end_at, reader_count}
 use Rattle.atspi_trace.specs.Carrying as carrying
-use Rattle.atspi_trace.specs.Causes.{Done, did, only, at_end, reader_sends, asks, first_hearer, app_starts, reader_starts}
+use Rattle.atspi_trace.specs.Causes.{Done, did, at_end, reader_sends, asks, first_hearer, app_starts}
 use Rattle.atspi_trace.specs.Due.{asks_as, asks_at}
 use Rattle.atspi_lawful.specs.laws.Words.{messages}
-use Rattle.atspi_lawful.proofs.OfOrder.Parties.{no_none, same_some, same-party, party-same, false_true, all_append}
+use Rattle.atspi_lawful.proofs.OfOrder.Parties.{no_none, same_some, same-party, party-same, false_true}
 use Rattle.atspi_lawful.proofs.OfOrder.BusWords.{bus_all, all_any}
-use Rattle.atspi_lawful.proofs.OfOrder.Allowed.{MovedUp, MovedDown, Asks}
+use Rattle.atspi_lawful.proofs.OfOrder.Allowed.{Asks}
 use Rattle.atspi_lawful.proofs.OfOrder.Frame.{Over, with_cases, joined_cases}
 use Rattle.atspi_lawful.proofs.OfOrder.Shape.{Shape}
 use Rattle.atspi_lawful.proofs.OfOrder.Shaped.{new_reader}
@@ -39,7 +38,7 @@ use Rattle.atspi_lawful.proofs.OfSerials.Serial.{messages_more}
 use Rattle.atspi_lawful.proofs.OfSerials.Numbers.{Numbered}
 use Rattle.atspi_lawful.proofs.OfSettled.RefusingRules.{is_add, counted, adds_among}
 use Rattle.atspi_lawful.proofs.OfSettled.Settling_serials.{serials, CallsBack, is_reader_role, same_hearer, Reading, reads_on, joins, starts_, begins_, reading, moved_back}
-use Rattle.atspi_lawful.proofs.OfSettled.Settling_ground.{Ground, ground_keep, Grounds, grounds}
+use Rattle.atspi_lawful.proofs.OfSettled.Settling_ground.{Ground, ground_keep, grounds}
 
 -- NUMBERS that rise, and how many are below one
 abbrev pub Rises : ℕ → List ℕ → Type 0

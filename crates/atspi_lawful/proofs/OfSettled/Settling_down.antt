@@ -13,7 +13,7 @@ use Rattle.atspi_lines.specs.declared.line.Party.TheVariants.{Bus as The_bus, Re
 use Rattle.atspi_protocol.specs.declared.news.part.PartName.{PartName}
 use Rattle.atspi_protocol.specs.declared.news.part.PartName.TheVariants.{Text, Caret, Columns}
 use Rattle.atspi_protocol.specs.declared.following.question.Question.{Question}
-use Rattle.atspi_protocol.specs.declared.following.question.Question.TheVariants.{Hello, AddMatch, RegisterEvent, GetChildren, GetItems, GetPart}
+use Rattle.atspi_protocol.specs.declared.following.question.Question.TheVariants.{GetChildren, GetItems, GetPart}
 use Rattle.atspi_protocol.specs.following.ReaderState.{start_calls}
 use Rattle.atspi_protocol.specs.following.Wishes.{is_refused, text_is_unknown, number_is_unknown, unknown_if, unknown_parts}
 use Rattle.atspi_protocol.specs.exporting.Exporter.{Phase, new, awaits, over, Exporter}
@@ -21,13 +21,12 @@ use Rattle.atspi_trace.specs.Entry.{Entry}
 use Rattle.atspi_trace.specs.World.{Standing, here, stopped, away, Fate, waits, returned, failed, Asked, Holding, Role, the_registry, an_application, a_reader, Hearer, Said, Letter, End, World}
 use Rattle.atspi_trace.specs.Ends.{number_of, end_at}
 use Rattle.atspi_trace.specs.Hearing.{holding_of, is_answered}
-use Rattle.atspi_trace.specs.Causes.{Cause, routes, unjoins, gets, told_in}
-use Rattle.atspi_trace.specs.Work.{up_turn, down_turn, first_up, first_down, next_turn}
+use Rattle.atspi_trace.specs.Causes.{routes, gets, told_in}
+use Rattle.atspi_trace.specs.Work.{up_turn, down_turn, first_up, first_down}
 use Rattle.atspi_trace.specs.Due.{IsFollowed, HoldsWell, Follows, FollowsAll, IsSettled}
 use Rattle.atspi_lawful.specs.laws.NineLaws.{Everywhere}
 use Rattle.atspi_lawful.specs.settled.Laws.{NothingWaits, AsksOfNode, IsAsked, question_of, BeginsWell, IsPartAsked, ArePartsAsked, HasAskedAll, AllAsk}
 use Rattle.atspi_lawful.proofs.OfOrder.Parties.{no_none, same_some, false_true}
-use Rattle.atspi_lawful.proofs.OfOrder.Each.{all_map}
 use Rattle.atspi_lawful.proofs.OfOrder.Shape.{RoleFits, Shape}
 use Rattle.atspi_lawful.proofs.OfOwn.Writing.{Lives}
 use Rattle.atspi_lawful.proofs.OfServed.Facts.{Embeds}

@@ -1,5 +1,5 @@
 -- What stands under the facts of "at quiet", together; and of it: who has a name, for whom each call for items is, and that an application that embedded has its name.
-use Rattle.std.proofs.Common.{◌≡◌, ◌⊎◌, inl, inr, ℕ, ◌≤◌, Bool, true, false, List, [], ◌∷◌, ◌++◌, length, map, Option, None, Some, refl, sym, ap, ◌∙◌, subst}
+use Rattle.std.proofs.Common.{◌≡◌, ◌⊎◌, inl, inr, ℕ, ◌≤◌, Bool, true, false, List, [], ◌∷◌, length, map, Option, None, Some, refl, sym, ap, ◌∙◌, subst}
 use Rattle.std.specs.Prelude.{◌||◌, bytes_eq, option_map, suc}
 use Rattle.std.specs.List.{AllByRecursion, list_any}
 use Rattle.std.proofs.lemmas.Slice.Eq.{bytes_eq-Decides}
@@ -7,16 +7,14 @@ use Rattle.atspi_types.specs.Names.{is_bus_name}
 use Rattle.atspi_names.specs.Owners.{unique_name}
 use Rattle.atspi_lines.specs.declared.line.Party.{Party}
 use Rattle.atspi_lines.specs.declared.line.Party.TheVariants.{Bus as The_bus, Registry, App, Reader}
-use Rattle.atspi_protocol.specs.declared.following.question.Question.{Question}
 use Rattle.atspi_protocol.specs.declared.following.question.Question.TheVariants.{GetItems}
-use Rattle.atspi_protocol.specs.exporting.Exporter.{Exporter}
 use Rattle.atspi_trace.specs.Entry.{Entry}
-use Rattle.atspi_trace.specs.World.{here, Asked, Role, an_application, a_reader, Hearer, End, World}
+use Rattle.atspi_trace.specs.World.{here, Asked, Role, a_reader, Hearer, End, World}
 use Rattle.atspi_trace.specs.Ends.{same_party, end_at}
 use Rattle.atspi_lawful.specs.laws.NineLaws.{StepIsOne}
 use Rattle.atspi_lawful.specs.serials.Laws.{HasNextNumber}
 use Rattle.atspi_lawful.specs.taken.Laws.{IsTakenAsSent}
-use Rattle.atspi_lawful.proofs.OfOrder.Parties.{no_none, same_some, party-same, false_true}
+use Rattle.atspi_lawful.proofs.OfOrder.Parties.{no_none, party-same, false_true}
 use Rattle.atspi_lawful.proofs.OfOrder.Shape.{RoleFits, Shape}
 use Rattle.atspi_lawful.proofs.OfOrder.Along.{Keeps}
 use Rattle.atspi_lawful.proofs.OfOrder.Growing.{Shaped, Nothing, And}
@@ -34,16 +32,14 @@ use Rattle.atspi_lawful.proofs.OfNames.Places.{first_at, greeted, name_told, tol
 use Rattle.atspi_lawful.proofs.OfSigned.Mail.{NameIs}
 use Rattle.atspi_lawful.proofs.OfSigned.Self.{Selves, app_name}
 use Rattle.atspi_lawful.proofs.OfSigned.LawMail.{Mail}
-use Rattle.atspi_lawful.proofs.OfEnds.Ordered.{Told_ends}
 use Rattle.atspi_lawful.proofs.OfEnds.LawEnds.{Ends_told, Under_ends, ends_keep}
 use Rattle.atspi_lawful.proofs.OfMissed.Ruled.{Ruled}
 use Rattle.atspi_lawful.proofs.OfMissed.Registering.{name_is_bus_name}
-use Rattle.atspi_lawful.proofs.OfServed.Facts.{Embeds, AllListed}
 use Rattle.atspi_lawful.proofs.OfServed.Returned.{Rightly}
 use Rattle.atspi_lawful.proofs.OfServed.Spelling.{Spelled}
 use Rattle.atspi_lawful.proofs.OfServed.ListingTold.{Embedded, Listed}
-use Rattle.atspi_lawful.proofs.OfServed.HearingTuned.{AllTuned, Early, Late, Tuned}
-use Rattle.atspi_lawful.proofs.OfServed.AskingFrame.{IsReader, IsReady, IsReadyFor, Asking, AllAsking}
+use Rattle.atspi_lawful.proofs.OfServed.HearingTuned.{AllTuned, Early, Late}
+use Rattle.atspi_lawful.proofs.OfServed.AskingFrame.{IsReady, AllAsking}
 use Rattle.atspi_lawful.proofs.OfServed.AskingAnswers.{Answered}
 use Rattle.atspi_lawful.proofs.OfServed.LawServed.{Served_under, served_asking_keeps}
 use Rattle.atspi_lawful.proofs.OfSettled.Facts.{IsOfApp}

@@ -1,11 +1,10 @@
 -- What a reader took as the reply to its own call, and that it holds the application whose items were returned to it.
-use Rattle.std.proofs.Common.{◌≡◌, ◌⊎◌, inl, inr, ℕ, zero, suc, ◌≤◌, Bool, true, false, List, [], ◌∷◌, ◌++◌, length, Option, None, Some, refl, sym, ap, ap₂, ◌∙◌, subst, arith, is_some}
-use Rattle.std.specs.Prelude.{◌==◌, ◌||◌, ◌&&◌, filter_map, option_map, bytes_eq, if◌then◌else◌}
+use Rattle.std.proofs.Common.{◌≡◌, ◌⊎◌, inl, inr, ℕ, zero, suc, ◌≤◌, Bool, true, false, List, [], ◌∷◌, ◌++◌, Option, None, Some, refl, sym, ap, ap₂, ◌∙◌, subst, arith}
+use Rattle.std.specs.Prelude.{◌==◌, ◌||◌, ◌&&◌, filter_map, if◌then◌else◌}
 use Rattle.std.specs.List.{AllByRecursion, list_any, cons_option}
 use Rattle.std.proofs.lemmas.Bool.{eqb-true, eq-eqb}
-use Rattle.atspi_types.specs.Names.{is_unique_name}
 use Rattle.atspi_lines.specs.declared.line.Party.{Party}
-use Rattle.atspi_lines.specs.declared.line.Party.TheVariants.{Bus as The_bus, Registry, App, Reader}
+use Rattle.atspi_lines.specs.declared.line.Party.TheVariants.{Bus as The_bus, App, Reader}
 use Rattle.atspi_message.specs.Envelope.{Envelope}
 use Rattle.atspi_names.specs.Owners.{own_name}
 use Rattle.atspi_routing.specs.Members.{is_text}
@@ -15,18 +14,18 @@ use Rattle.atspi_protocol.specs.declared.following.question.Question.TheVariants
 use Rattle.atspi_protocol.specs.following.Calls.{asking}
 use Rattle.atspi_protocol.specs.following.Replied.{is_reply_to}
 use Rattle.atspi_trace.specs.Entry.{Entry, got, gone}
-use Rattle.atspi_trace.specs.World.{here, away, Standing, Fate, returned, failed, waits, Asked, a_reader, Holding, Hearer, End, World}
+use Rattle.atspi_trace.specs.World.{here, away, Standing, Asked, a_reader, Holding, Hearer, End, World}
 use Rattle.atspi_trace.specs.Ends.{is_here, same_party, end_at}
 use Rattle.atspi_trace.specs.Hearing.{question_in, holding_of}
-use Rattle.atspi_lawful.specs.laws.Words.{message, taken_as, taken, is_answered, is_returned, question_if, own_call, answer_to as answer_of, answers_question, Kept, kept_with, kept_after, held_on, held}
+use Rattle.atspi_lawful.specs.laws.Words.{message, taken_as, taken, question_if, own_call, answer_to as answer_of, answers_question, Kept, kept_with, kept_after, held_on, held}
 use Rattle.atspi_lawful.proofs.OfOrder.Parties.{no_none, same_some, same-party, party-same, false_true, all_back}
 use Rattle.atspi_lawful.proofs.OfOrder.Shape.{Shape}
 use Rattle.atspi_lawful.proofs.OfOrder.Each.{Each, each_split, all_map}
 use Rattle.atspi_lawful.proofs.OfOwn.Writing.{Lives, lived}
 use Rattle.atspi_lawful.proofs.OfTaken.Found.{found_more}
-use Rattle.atspi_lawful.proofs.OfHeld.Keeping.{held_append, SameKept, ReaderIs}
+use Rattle.atspi_lawful.proofs.OfHeld.Keeping.{held_append, SameKept}
 use Rattle.atspi_lawful.proofs.OfReaders.Fates.{FateOf, FateIs, hello_read}
-use Rattle.atspi_lawful.proofs.OfNames.Places.{greeted, name_told}
+use Rattle.atspi_lawful.proofs.OfNames.Places.{name_told}
 use Rattle.atspi_lawful.proofs.OfSigned.Mail.{NameIs, name_more}
 use Rattle.atspi_lawful.proofs.OfSigned.Self.{unique_told, one_named}
 use Rattle.atspi_lawful.proofs.OfSigned.LawMail.{name_of_end}

@@ -1,6 +1,6 @@
 -- A part that an application refused is one of no node of its tree, and stays so: a node that was added is not added again, and none gets a part that it was not added with.
-use Rattle.std.proofs.Common.{◌≡◌, ◌⊎◌, inl, inr, ℕ, zero, suc, ◌+◌, ◌<◌, ◌≤◌, Bool, true, false, cond, List, [], ◌∷◌, ◌++◌, Option, None, Some, refl, sym, ap, ◌∙◌, subst, arith}
-use Rattle.std.specs.Prelude.{◌==◌, bytes_eq, get_or, nat_lt, decimal, codes, ◌^◌}
+use Rattle.std.proofs.Common.{◌≡◌, ◌⊎◌, inl, inr, ℕ, zero, suc, ◌+◌, ◌≤◌, Bool, true, false, cond, List, [], ◌∷◌, ◌++◌, Option, None, Some, refl, sym, ap, ◌∙◌, subst, arith}
+use Rattle.std.specs.Prelude.{◌==◌, bytes_eq, get_or, nat_lt, decimal, ◌^◌}
 use Rattle.std.specs.List.{AllByRecursion}
 use Rattle.std.proofs.lemmas.Bool.{eqb-true}
 use Rattle.std.proofs.lemmas.List.{append-nil, append_assoc}
@@ -8,11 +8,11 @@ use Rattle.std.proofs.lemmas.Slice.Eq.{bytes_eq-Decides}
 use Rattle.atspi_forest.specs.declared.step.Seed.{Seed}
 use Rattle.atspi_forest.specs.declared.step.Step.{Step}
 use Rattle.atspi_forest.specs.declared.step.Step.TheVariants.{Add, Remove, Move, SetName, SetDescription, SetRole, SetState, Insert, Delete, Caret as Caret_step, TextSelect, Relate}
-use Rattle.atspi_forest.specs.Forest.{Forest, nil, tree, count, find, take_out, labels, EachLabel}
+use Rattle.atspi_forest.specs.Forest.{Forest, nil, tree, count, take_out, labels, EachLabel}
 use Rattle.atspi_forest.specs.Path.{base_path, path_of}
 use Rattle.atspi_forest.specs.Row.{TextContents, Contents, TreeRow, on_some, IsContents}
 use Rattle.atspi_forest.specs.RowRules.{rows, changed_contents}
-use Rattle.atspi_forest.specs.Tree.{is_number, is_node, after, added_after, first_tree, in_subtree, root_seed, IsTree, Adds, Applies}
+use Rattle.atspi_forest.specs.Tree.{is_number, is_node, after, added_after, first_tree, in_subtree, root_seed, IsTree, Applies}
 use Rattle.atspi_forest.specs.View.{nothing_told}
 use Rattle.atspi_forest.proofs.Found.{find-none, find-only, none_passes, EachLabel-weaker}
 use Rattle.atspi_forest.proofs.Labels.{each_put_in, each_take_out, each_pick, each_relabel}
@@ -28,11 +28,11 @@ use Rattle.atspi_protocol.specs.objects.Places.{node_at}
 use Rattle.atspi_trace.specs.Entry.{Entry, started, changed}
 use Rattle.atspi_lawful.specs.laws.Words.{live_tree, tree_after, added, count_after}
 use Rattle.atspi_lawful.specs.laws.NineLaws.{StepIsOne}
-use Rattle.atspi_lawful.proofs.OfOrder.Parties.{false_true, all_append, all_front, all_back}
+use Rattle.atspi_lawful.proofs.OfOrder.Parties.{all_append}
 use Rattle.atspi_lawful.proofs.OfOrder.Each.{Each}
 use Rattle.atspi_lawful.proofs.OfSteps.Trees.{tree_more, count_more}
 use Rattle.atspi_lawful.proofs.OfAnswered.Parts.{part_answer, IsValue, HasPart, part_value, HasNoPart, absent_steps, lacking_steps}
-use Rattle.atspi_lawful.proofs.OfSettled.Facts.{HasNone, Lacks}
+use Rattle.atspi_lawful.proofs.OfSettled.Facts.{HasNone}
 
 abbrev pub LacksAt : List ℕ → PartName → TreeRow → Type 0
 LacksAt path part row = path_of row.shape.node ≡ path → HasNone part row

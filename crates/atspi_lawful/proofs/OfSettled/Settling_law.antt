@@ -1,21 +1,16 @@
 -- What is known of a reader and an application that are here, of every lawful trace behind which nothing waits: what the reader holds is the view of the application's tree as it is now.
-use Rattle.std.proofs.Common.{◌≡◌, ◌⊎◌, inl, inr, ℕ, ◌+◌, Bool, true, false, List, [], ◌∷◌, ◌++◌, length, zero, Option, None, Some, refl, sym, ap, ap₂, ◌∙◌, subst, arith}
+use Rattle.std.proofs.Common.{◌≡◌, ◌⊎◌, inl, inr, ℕ, Bool, true, false, List, [], ◌∷◌, ◌++◌, length, Option, None, Some, refl, sym, ap, ap₂, ◌∙◌, subst, arith}
 use Rattle.std.specs.Prelude.{◌≤◌, filter_map, if◌then◌else◌}
 use Rattle.std.proofs.lemmas.List.{append-nil}
-use Rattle.atspi_types.specs.Names.{is_bus_name}
-use Rattle.atspi_forest.specs.declared.view.Row.{Row}
-use Rattle.atspi_forest.specs.Forest.{Forest}
 use Rattle.atspi_forest.specs.View.{view}
 use Rattle.atspi_lines.specs.declared.line.Line.{Line}
-use Rattle.atspi_lines.specs.declared.line.Party.TheVariants.{Bus as The_bus, Registry, App, Reader}
-use Rattle.atspi_protocol.specs.exporting.Exporter.{Exporter}
+use Rattle.atspi_lines.specs.declared.line.Party.TheVariants.{Registry, App, Reader}
 use Rattle.atspi_trace.specs.Entry.{Entry}
-use Rattle.atspi_trace.specs.World.{Standing, here, stopped, away, an_application, a_reader, Holding, Hearer, Said, Letter, first_registry, first_world, End, World}
-use Rattle.atspi_trace.specs.Ends.{is_here, same_party, end_at, end_of}
-use Rattle.atspi_trace.specs.Hearing.{holding_of}
+use Rattle.atspi_trace.specs.World.{Standing, here, stopped, away, a_reader, Hearer, Said, Letter, first_registry, first_world, End, World}
+use Rattle.atspi_trace.specs.Ends.{is_here, end_at, end_of}
 use Rattle.atspi_trace.specs.Causes.{told_in}
 use Rattle.atspi_trace.specs.Due.{Scene, begins, after_all, is_lost, Goes}
-use Rattle.atspi_lawful.specs.laws.Words.{name_in, as_of, live_tree, is_live, Kept, held}
+use Rattle.atspi_lawful.specs.laws.Words.{name_in, as_of, live_tree, Kept, held}
 use Rattle.atspi_lawful.specs.order.Scripts.{CanAllStand}
 use Rattle.atspi_lawful.specs.signed.Laws.{IsItsName}
 use Rattle.atspi_lawful.specs.caches.Caches.{followed}
@@ -33,7 +28,7 @@ use Rattle.atspi_lawful.proofs.OfOrder.Lives.{Started, starts_keep, here_lives}
 use Rattle.atspi_lawful.proofs.OfOwn.Writing.{Lives}
 use Rattle.atspi_lawful.proofs.OfSteps.Steps.{Trees}
 use Rattle.atspi_lawful.proofs.OfSteps.LawSteps.{Below, Stepped, steps_keep}
-use Rattle.atspi_lawful.proofs.OfHeld.Keeping.{SameHolding, SameKept, ReaderIs}
+use Rattle.atspi_lawful.proofs.OfHeld.Keeping.{SameKept, ReaderIs}
 use Rattle.atspi_lawful.proofs.OfHeld.LawHeld.{Below_held, Holds, holds_keep}
 use Rattle.atspi_lawful.proofs.OfCaches.LawCaches.{caches_follow}
 use Rattle.atspi_lawful.proofs.OfWays.LawThere.{is_found, lead_to_now}

@@ -1,10 +1,9 @@
 -- What is not refused: a reader's calls of the registry, as long as that is here, and its calls for the items of an application that is here.
-use Rattle.std.proofs.Common.{◌≡◌, ◌⊎◌, inl, inr, ℕ, zero, suc, ◌≤◌, Bool, true, false, List, [], ◌∷◌, ◌++◌, length, Option, None, Some, refl, sym, ap, ap₂, ◌∙◌, subst, arith}
-use Rattle.std.specs.Prelude.{◌==◌, ◌||◌, ◌&&◌, not, bytes_eq, encode_utf8_all, if◌then◌else◌, Result, Ok}
-use Rattle.std.specs.List.{AllByRecursion, list_any}
+use Rattle.std.proofs.Common.{◌≡◌, ◌⊎◌, inl, inr, ℕ, ◌≤◌, Bool, true, false, List, [], ◌∷◌, ◌++◌, Some, refl, sym, ap, ◌∙◌, subst, arith}
+use Rattle.std.specs.Prelude.{◌==◌, ◌||◌, ◌&&◌, not, encode_utf8_all, if◌then◌else◌, Ok}
+use Rattle.std.specs.List.{list_any}
 use Rattle.std.proofs.lemmas.Bool.{eqb-true, eq-eqb}
 use lib.Utf8.{encode}
-use Rattle.atspi_types.specs.Names.{is_unique_name}
 use Rattle.atspi_lines.specs.declared.line.Party.{Party}
 use Rattle.atspi_lines.specs.declared.line.Party.TheVariants.{Bus as The_bus, Registry, App, Reader}
 use Rattle.atspi_message.specs.Envelope.{Envelope}
@@ -14,9 +13,8 @@ use Rattle.atspi_routing.specs.Members.{member_of}
 use Rattle.atspi_routing.specs.Routing.{is_reply, is_for_bus}
 use Rattle.atspi_trace.specs.Rules.{rules_asked, rule_written, rule_in}
 use Rattle.atspi_lawful.proofs.OfSettled.RefusingRules.{adds_below, adds_grow}
-use Rattle.atspi_protocol.specs.ends.Messages.{Reply, returns, fails, reply_to}
+use Rattle.atspi_protocol.specs.ends.Messages.{Reply, returns, reply_to}
 use Rattle.atspi_protocol.specs.ends.Places.{registry}
-use Rattle.atspi_protocol.specs.members.Arguments.{text_at}
 use Rattle.atspi_protocol.specs.members.Asked.{asked}
 use Rattle.atspi_protocol.specs.registering.RegistryState.{RegistryState, has_pair}
 use Rattle.atspi_protocol.specs.registering.Answers.{only, registers, object_at}
@@ -28,29 +26,27 @@ use Rattle.atspi_protocol.specs.exporting.Exporter.{Exporter, named}
 use Rattle.atspi_protocol.specs.exporting.Taking.{answer_to}
 use Rattle.atspi_protocol.specs.following.Calls.{asking}
 use Rattle.atspi_protocol.specs.following.Replied.{is_reply_to}
-use Rattle.atspi_protocol.specs.objects.Answers.{Answer, tells, items_data}
-use Rattle.atspi_protocol.specs.objects.Application.{Application}
+use Rattle.atspi_protocol.specs.objects.Answers.{Answer}
 use Rattle.atspi_trace.specs.Entry.{Entry, sent, got}
-use Rattle.atspi_trace.specs.World.{here, Fate, failed, Asked, a_reader, Hearer, End, World}
+use Rattle.atspi_trace.specs.World.{here, failed, Asked, a_reader, Hearer, End, World}
 use Rattle.atspi_trace.specs.Ends.{same_party, number_of, end_at}
-use Rattle.atspi_trace.specs.Hearing.{question_in}
-use Rattle.atspi_lawful.specs.laws.Words.{message, before_sent, is_live, starts_it, stops_it}
-use Rattle.atspi_lawful.proofs.OfOrder.Parties.{no_none, same_some, same-party, party-same, false_true}
+use Rattle.atspi_lawful.specs.laws.Words.{message, before_sent, starts_it, stops_it}
+use Rattle.atspi_lawful.proofs.OfOrder.Parties.{same_some, same-party, false_true}
 use Rattle.atspi_lawful.proofs.OfOrder.Shape.{Shape}
 use Rattle.atspi_lawful.proofs.OfOrder.Each.{Each, each_split, all_map}
 use Rattle.atspi_lawful.proofs.OfOrder.Lives.{any_more, here_lives}
 use Rattle.atspi_lawful.proofs.OfOwn.Writing.{Lives, lived}
 use Rattle.atspi_lawful.proofs.OfTaken.Found.{found_more, front_more, sent_split}
-use Rattle.atspi_lawful.proofs.OfReaders.Fates.{fails_to, FateOf, FateIs}
-use Rattle.atspi_lawful.proofs.OfNames.Places.{greeted, name_told}
-use Rattle.atspi_lawful.proofs.OfSigned.Mail.{told_more, IsAnswerOf}
+use Rattle.atspi_lawful.proofs.OfReaders.Fates.{fails_to, FateOf}
+use Rattle.atspi_lawful.proofs.OfNames.Places.{name_told}
+use Rattle.atspi_lawful.proofs.OfSigned.Mail.{IsAnswerOf}
 use Rattle.atspi_lawful.proofs.OfSigned.Self.{unique_told, one_named}
 use Rattle.atspi_lawful.proofs.OfAnswered.Items.{answers_items}
 use Rattle.atspi_lawful.proofs.OfServed.Spelling.{call_of}
 use Rattle.atspi_lawful.proofs.OfSettled.Facts.{IsAppName, NeverFails, IsNotRefused, NoneRefused}
 use Rattle.atspi_lawful.proofs.OfSettled.Barring.{given_still}
 use Rattle.atspi_lawful.proofs.OfSettled.Settling_ground.{Grounds, unique_is}
-use Rattle.atspi_lawful.proofs.OfSettled.Settling_replies.{AppAnswers, RegistryAnswers, BusFails, AnswersIt, IsTaken, TakesReplies}
+use Rattle.atspi_lawful.proofs.OfSettled.Settling_replies.{AppAnswers, BusFails, AnswersIt, IsTaken, TakesReplies}
 use Rattle.atspi_lawful.proofs.OfSettled.Settling_held.{Took, took, and_left, and_right, reply_is, who_replied, of_app, Sure, all_sure, above_one}
 use Rattle.atspi_lawful.proofs.OfSettled.Settling_parts.{BusKnows}
 use Rattle.atspi_lawful.proofs.OfSettled.Settling_asked.{AsksApps}

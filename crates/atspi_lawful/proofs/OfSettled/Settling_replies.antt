@@ -1,11 +1,9 @@
 -- Whose the replies are that a reader takes, along a lawful trace: each of an end answers a call that the reader sent before, and one whose call went to a unique name comes from who has it; the bus
 -- returns only calls to itself.
-use Rattle.std.proofs.Common.{◌≡◌, ◌⊎◌, inl, inr, ℕ, ◌≤◌, Bool, true, false, List, [], ◌∷◌, ◌++◌, length, Option, None, Some, refl, sym, ap, ap₂, ◌∙◌, subst}
-use Rattle.std.specs.Prelude.{◌==◌, ◌||◌, ◌&&◌, not, Result, Ok}
+use Rattle.std.proofs.Common.{◌≡◌, ◌⊎◌, inl, inr, ℕ, ◌≤◌, Bool, true, false, List, [], ◌∷◌, ◌++◌, length, Option, Some, refl, sym, ap, ap₂, ◌∙◌, subst}
+use Rattle.std.specs.Prelude.{◌&&◌, not, Ok}
 use Rattle.std.specs.List.{AllByRecursion, list_any}
 use Rattle.atspi_types.specs.Names.{is_unique_name}
-use Rattle.atspi_lines.specs.declared.limits.TheConstants.{QUOTA_MOST}
-use Rattle.atspi_lines.specs.declared.line.Line.{Line}
 use Rattle.atspi_lines.specs.declared.line.Party.{Party}
 use Rattle.atspi_lines.specs.declared.line.Party.TheVariants.{Bus as The_bus, Registry, App, Reader}
 use Rattle.atspi_message.specs.Envelope.{Envelope}
@@ -28,16 +26,13 @@ use Rattle.atspi_trace.specs.Ends.{is_here, same_party, number_of, end_at}
 use Rattle.atspi_trace.specs.Carrying as carrying
 use Rattle.atspi_trace.specs.Hearing.{heard_entries}
 use Rattle.atspi_trace.specs.Causes.{Done, app_starts, reader_starts}
-use Rattle.atspi_trace.specs.Due.{begins, Goes}
 use Rattle.atspi_lawful.specs.laws.Words.{messages, message, before_sent, as_of, stops_it, is_live}
-use Rattle.atspi_lawful.specs.laws.NineLaws.{Everywhere}
-use Rattle.atspi_lawful.specs.order.Scripts.{CanAllStand}
-use Rattle.atspi_lawful.proofs.OfOrder.Parties.{no_none, same_some, party-same, false_true}
+use Rattle.atspi_lawful.proofs.OfOrder.Parties.{same_some, party-same, false_true}
 use Rattle.atspi_lawful.proofs.OfOrder.Shape.{Shape}
 use Rattle.atspi_lawful.proofs.OfOrder.Effects.{received, ReaderTakes, Effect, resets, app_joins, reader_joins, app_edited, app_took, reader_called, swapped, exited_, showed_, told_busy, told_quiet, bus_took, bus_ended, registry_took, reader_took}
-use Rattle.atspi_lawful.proofs.OfOrder.Along.{Keeps, kept}
+use Rattle.atspi_lawful.proofs.OfOrder.Along.{Keeps}
 use Rattle.atspi_lawful.proofs.OfOrder.Growing.{Grows, Shaped, And, grown}
-use Rattle.atspi_lawful.proofs.OfOrder.Each.{Each, everywhere, each_more, each_of}
+use Rattle.atspi_lawful.proofs.OfOrder.Each.{Each, each_more, each_of}
 use Rattle.atspi_lawful.proofs.OfHeard.Quiet.{heard_all}
 use Rattle.atspi_lawful.proofs.OfOwn.Writing.{Lives}
 use Rattle.atspi_lawful.proofs.OfTaken.Said.{TellsOf}
@@ -47,10 +42,10 @@ use Rattle.atspi_lawful.proofs.OfNames.Places.{greeted, name_told}
 use Rattle.atspi_lawful.proofs.OfNames.LawNames.{IsAt}
 use Rattle.atspi_lawful.proofs.OfOrder.Lives.{HasStarted}
 use Rattle.atspi_lawful.proofs.OfMissed.Arriving.{On}
-use Rattle.atspi_lawful.proofs.OfSigned.Mail.{NameIs, Content, IsAnswerOf, IsCallOf, IsAnswer, IsOfBus, IsPost, IsMail}
+use Rattle.atspi_lawful.proofs.OfSigned.Mail.{NameIs, Content, IsAnswerOf, IsCallOf, IsAnswer, IsMail}
 use Rattle.atspi_lawful.proofs.OfSigned.Self.{unique_told, one_named, for_bus_true}
 use Rattle.atspi_lawful.proofs.OfSigned.LawMail.{name_of_end}
-use Rattle.atspi_lawful.proofs.OfServed.Returned.{CallOf, RepliesTo, BusAnswers, OfEnd, Fits}
+use Rattle.atspi_lawful.proofs.OfServed.Returned.{CallOf, RepliesTo, Fits}
 use Rattle.atspi_lawful.proofs.OfSettled.Answering.{Answers}
 use Rattle.atspi_lawful.proofs.OfSettled.Embedding.{registry_reply}
 use Rattle.atspi_lawful.proofs.OfSettled.EmbeddingAll.{registry_stays}

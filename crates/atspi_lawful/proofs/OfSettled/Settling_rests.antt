@@ -1,6 +1,6 @@
 -- At quiet: behind each front of a lawful trace where nothing is owed and nothing waits each reader that is here holds each application that is here as it is now, where readers were told of each child.
-use Rattle.std.proofs.Common.{◌≡◌, ◌⊎◌, inl, inr, ℕ, Bool, true, false, List, [], ◌∷◌, ◌++◌, Option, None, Some, refl, sym, ap, ◌∙◌, subst}
-use Rattle.std.specs.Prelude.{◌==◌, ◌||◌, if◌then◌else◌}
+use Rattle.std.proofs.Common.{◌≡◌, ℕ, Bool, true, false, List, [], ◌∷◌, ◌++◌, Option, None, Some, refl, sym, ap, ◌∙◌, subst}
+use Rattle.std.specs.Prelude.{◌==◌, if◌then◌else◌}
 use Rattle.std.specs.List.{AllByRecursion}
 use Rattle.std.proofs.lemmas.List.{append-nil}
 use Rattle.atspi_types.specs.Data.{Data}
@@ -10,15 +10,14 @@ use Rattle.atspi_lines.specs.declared.line.Party.TheVariants.{App, Reader}
 use Rattle.atspi_message.specs.Envelope.{Envelope}
 use Rattle.atspi_protocol.specs.declared.following.question.Question.{Question}
 use Rattle.atspi_protocol.specs.declared.following.question.Question.TheVariants.{Hello, AddMatch, RegisterEvent, GetChildren, GetItems, GetPart}
-use Rattle.atspi_protocol.specs.exporting.Exporter.{StartCall, hello, add_match, get_registered_events, embed, Phase, new, awaits, over, Exporter}
+use Rattle.atspi_protocol.specs.exporting.Exporter.{StartCall, hello, add_match, get_registered_events, embed, Phase, new, Exporter}
 use Rattle.atspi_protocol.specs.exporting.Starting.{ends_start, unique_name_in, greeted, listened, goes_on, awaited}
 use Rattle.atspi_protocol.specs.exporting.Hearing.{pairs_in}
-use Rattle.atspi_protocol.specs.exporting.Taking.{app_takes, takes_other}
+use Rattle.atspi_protocol.specs.exporting.Taking.{app_takes}
 use Rattle.atspi_trace.specs.Entry.{Entry, sent}
-use Rattle.atspi_trace.specs.World.{here, Asked, a_reader, Hearer, End, World}
-use Rattle.atspi_trace.specs.Ends.{end_at}
+use Rattle.atspi_trace.specs.World.{Asked, World}
 use Rattle.atspi_trace.specs.Due.{Scene, begins, after_all, is_lost, IsSettled, Goes}
-use Rattle.atspi_lawful.specs.laws.Words.{message, before_sent}
+use Rattle.atspi_lawful.specs.laws.Words.{before_sent}
 use Rattle.atspi_lawful.specs.laws.NineLaws.{Everywhere}
 use Rattle.atspi_lawful.specs.order.Scripts.{CanAllStand}
 use Rattle.atspi_lawful.specs.settled.Laws.{NothingWaits, AsksOfNode, IsOfNode, AllAsk}

@@ -1,14 +1,12 @@
 -- The start of a reader is returned: of one whose own calls begin with its start, in order, none of the first ten is refused.
-use Rattle.std.proofs.Common.{◌≡◌, ◌⊎◌, inl, inr, ℕ, zero, suc, ◌+◌, ◌≤◌, ◌<◌, Bool, true, false, List, [], ◌∷◌, ◌++◌, length, map, Option, None, Some, refl, sym, ap, ◌∙◌, subst, arith, length-append}
+use Rattle.std.proofs.Common.{◌≡◌, ℕ, suc, ◌+◌, ◌≤◌, List, [], ◌∷◌, ◌++◌, length, map, Some, refl, sym, ap, ◌∙◌, subst, arith, length-append}
 use Rattle.std.specs.Prelude.{codes, encode_utf8_all}
 use Rattle.std.specs.List.{AllByRecursion}
 use Rattle.std.proofs.lemmas.List.{append_assoc}
 use lib.Utf8.{encode}
 use Rattle.atspi_match.specs.declared.condition.Condition.{Condition}
-use Rattle.atspi_match.specs.Printed.{printed}
 use Rattle.atspi_lines.specs.declared.limits.TheConstants.{QUOTA_MOST}
 use Rattle.atspi_lines.specs.declared.line.Party.TheVariants.{Reader}
-use Rattle.atspi_message.specs.Envelope.{Envelope}
 use Rattle.atspi_protocol.specs.declared.following.question.Question.{Question}
 use Rattle.atspi_protocol.specs.declared.following.question.Question.TheVariants.{Hello, AddMatch, RegisterEvent, GetChildren, GetItems, GetPart}
 use Rattle.atspi_protocol.specs.following.ReaderState.{start_calls}
@@ -18,9 +16,7 @@ use Rattle.atspi_trace.specs.World.{here, failed, Asked, a_reader, Hearer, End, 
 use Rattle.atspi_trace.specs.Causes.{does, at_end}
 use Rattle.atspi_trace.specs.Due.{asks_at}
 use Rattle.atspi_trace.specs.Ends.{end_at}
-use Rattle.atspi_lawful.specs.laws.Words.{messages}
-use Rattle.atspi_lawful.specs.settled.Laws.{question_of, BeginsWell}
-use Rattle.atspi_lawful.proofs.OfOrder.Parties.{false_true}
+use Rattle.atspi_lawful.specs.settled.Laws.{question_of}
 use Rattle.atspi_lawful.proofs.OfOrder.Shape.{Shape}
 use Rattle.atspi_lawful.proofs.OfOrder.Along.{Keeps}
 use Rattle.atspi_lawful.proofs.OfOrder.Growing.{Shaped, And}
@@ -28,7 +24,6 @@ use Rattle.atspi_lawful.proofs.OfOrder.Each.{Each}
 use Rattle.atspi_lawful.proofs.OfOwn.Writing.{Lives}
 use Rattle.atspi_lawful.proofs.OfSettled.Facts.{AreReturned, StartsReturn}
 use Rattle.atspi_lawful.proofs.OfReaders.Fates.{both_keep}
-use Rattle.atspi_lawful.proofs.OfSettled.RefusingRules.{adds_below}
 use Rattle.atspi_lawful.proofs.OfSettled.Settling_ground.{Ground, Grounds, grounds}
 use Rattle.atspi_lawful.proofs.OfSettled.Settling_replies.{TakesReplies, Replied, replied_keeps}
 use Rattle.atspi_lawful.proofs.OfSettled.Settling_held.{Sure, all_sure}

@@ -1,56 +1,44 @@
 -- What became of a part that a reader asked for since it loaded an application that is here.
-use Rattle.std.proofs.Common.{◌≡◌, ◌⊎◌, inl, inr, ℕ, zero, suc, ◌+◌, ◌<◌, ◌≤◌, Bool, true, false, List, [], ◌∷◌, ◌++◌, length, Option, None, Some, refl, sym, ap, ap₂, ◌∙◌, subst, arith, is_some}
-use Rattle.std.specs.Prelude.{◌==◌, ◌||◌, ◌&&◌, not, bytes_eq, fold, option_map, if◌then◌else◌}
-use Rattle.std.specs.List.{AllByRecursion, list_any}
+use Rattle.std.proofs.Common.{◌≡◌, ◌⊎◌, inl, inr, ℕ, suc, ◌+◌, ◌≤◌, Bool, true, false, List, [], ◌∷◌, ◌++◌, length, Option, None, Some, refl, sym, ap, ap₂, ◌∙◌, subst, arith, is_some}
+use Rattle.std.specs.Prelude.{◌==◌, ◌||◌, ◌&&◌, not, if◌then◌else◌}
 use Rattle.std.proofs.lemmas.Bool.{eqb-true, eq-eqb}
-use Rattle.std.proofs.lemmas.List.{append-nil, append_assoc}
-use Rattle.std.proofs.lemmas.Slice.Eq.{bytes_eq-Decides}
-use lib.Utf8.{encode}
-use Rattle.atspi_forest.specs.Forest.{Forest, EachLabel}
-use Rattle.atspi_forest.specs.Path.{path_of}
-use Rattle.atspi_forest.specs.Row.{TreeRow}
+use Rattle.std.proofs.lemmas.List.{append_assoc}
+use Rattle.atspi_forest.specs.Forest.{EachLabel}
 use Rattle.atspi_forest.specs.RowRules.{rows}
-use Rattle.atspi_forest.specs.declared.step.Step.{Step}
-use Rattle.atspi_forest.specs.declared.step.Step.TheVariants.{Add, Remove, Move, SetName, SetDescription, SetRole, SetState, Insert, Delete, Caret as Caret_step, TextSelect, Relate}
-use Rattle.atspi_forest.specs.Tree.{added_after, after_all}
-use Rattle.atspi_lines.specs.declared.line.Party.{Party}
-use Rattle.atspi_lines.specs.declared.line.Party.TheVariants.{Bus as The_bus, Registry, App, Reader}
+use Rattle.atspi_forest.specs.Tree.{after_all}
+use Rattle.atspi_lines.specs.declared.line.Party.TheVariants.{Bus as The_bus, App, Reader}
 use Rattle.atspi_message.specs.Envelope.{Envelope}
 use Rattle.atspi_names.specs.Owners.{own_name}
 use Rattle.atspi_routing.specs.Members.{is_text}
 use Rattle.atspi_routing.specs.Routing.{is_reply}
 use Rattle.atspi_protocol.specs.ends.Messages.{Reply, returns, fails, reply_to}
 use Rattle.atspi_protocol.specs.declared.news.part.PartName.{PartName}
-use Rattle.atspi_protocol.specs.declared.news.part.PartName.TheVariants.{Text, Caret, Columns}
 use Rattle.atspi_protocol.specs.declared.following.question.Question.{Question}
-use Rattle.atspi_protocol.specs.declared.following.question.Question.TheVariants.{Hello, AddMatch, RegisterEvent, GetChildren, GetItems, GetPart}
+use Rattle.atspi_protocol.specs.declared.following.question.Question.TheVariants.{GetPart}
 use Rattle.atspi_protocol.specs.exporting.Exporter.{Exporter, named}
 use Rattle.atspi_protocol.specs.exporting.Taking.{answer_to}
 use Rattle.atspi_protocol.specs.following.Calls.{asking}
 use Rattle.atspi_protocol.specs.following.Replied.{is_reply_to}
-use Rattle.atspi_protocol.specs.following.Wishes.{same_part, is_refused}
+use Rattle.atspi_protocol.specs.following.Wishes.{is_refused}
 use Rattle.atspi_protocol.specs.objects.Answers.{Answer}
 use Rattle.atspi_protocol.specs.objects.Application.{Application}
-use Rattle.atspi_trace.specs.Entry.{Entry, changed, sent, got, gone}
-use Rattle.atspi_trace.specs.World.{here, Fate, returned, failed, waits, Asked, an_application, a_reader, Holding, Hearer, End, World}
+use Rattle.atspi_trace.specs.Entry.{Entry, sent, got}
+use Rattle.atspi_trace.specs.World.{here, Fate, returned, failed, waits, an_application, a_reader, Holding, Hearer, End, World}
 use Rattle.atspi_trace.specs.Ends.{same_party, number_of, end_at}
 use Rattle.atspi_trace.specs.Hearing.{question_in, holding_of}
-use Rattle.atspi_lawful.specs.laws.Words.{live_tree, added, count_after, messages, message, before_sent, as_of, name_in, taken, question_if, own_call, answers_question, Kept, kept_with, kept_after, held_on, held}
+use Rattle.atspi_lawful.specs.laws.Words.{live_tree, added, messages, message, before_sent, as_of, question_if, answers_question, Kept, kept_with, kept_after, held_on, held}
 use Rattle.atspi_lawful.specs.laws.NineLaws.{Everywhere, StepIsOne, sent_before}
 use Rattle.atspi_lawful.specs.serials.Laws.{HasNextNumber}
 use Rattle.atspi_lawful.specs.taken.Laws.{IsTakenAsSent}
-use Rattle.atspi_lawful.specs.missed.Laws.{IsLoad}
 use Rattle.atspi_lawful.specs.settled.Laws.{IsOfNode, AsksOfNode, NoLoad, IsPartAsked}
-use Rattle.atspi_lawful.proofs.OfOrder.Parties.{no_none, same_some, party-same, false_true}
+use Rattle.atspi_lawful.proofs.OfOrder.Parties.{no_none, same_some, false_true}
 use Rattle.atspi_lawful.proofs.OfOrder.Shape.{Shape}
 use Rattle.atspi_lawful.proofs.OfOrder.Each.{Each, each_split, no_entries}
 use Rattle.atspi_lawful.proofs.OfOwn.Writing.{Lives}
 use Rattle.atspi_lawful.proofs.OfTaken.Found.{found_more, unsent, found_here, front_here, sent_split}
-use Rattle.atspi_lawful.proofs.OfSteps.Trees.{count_more}
-use Rattle.atspi_lawful.proofs.OfHeld.Holdings.{call_at}
-use Rattle.atspi_lawful.proofs.OfHeld.Keeping.{held_append, SameKept, ReaderIs}
-use Rattle.atspi_lawful.proofs.OfReaders.Fates.{fails_to, FateOf, FateIs}
-use Rattle.atspi_lawful.proofs.OfNames.Places.{greeted, name_told, told_is}
+use Rattle.atspi_lawful.proofs.OfHeld.Keeping.{held_append, SameKept}
+use Rattle.atspi_lawful.proofs.OfReaders.Fates.{fails_to, FateOf}
+use Rattle.atspi_lawful.proofs.OfNames.Places.{name_told, told_is}
 use Rattle.atspi_lawful.proofs.OfSigned.Mail.{NameIs, name_more, told_more, IsAnswerOf}
 use Rattle.atspi_lawful.proofs.OfSigned.Self.{one_named}
 use Rattle.atspi_lawful.proofs.OfSigned.LawMail.{name_of_end}
@@ -59,7 +47,7 @@ use Rattle.atspi_lawful.proofs.OfAnswered.LawAnswered.{part_call_answered}
 use Rattle.atspi_lawful.proofs.OfServed.Spelling.{has_serial}
 use Rattle.atspi_lawful.proofs.OfServed.Asking.{Among}
 use Rattle.atspi_lawful.proofs.OfServed.AskingAnswers.{IsAnswered, Answers}
-use Rattle.atspi_lawful.proofs.OfSettled.Facts.{HasNone, Lacks, WaitsFor, AllPartsTold}
+use Rattle.atspi_lawful.proofs.OfSettled.Facts.{Lacks, WaitsFor, AllPartsTold}
 use Rattle.atspi_lawful.proofs.OfSettled.Settling_ground.{Grounds, unique_is}
 use Rattle.atspi_lawful.proofs.OfSettled.Settling_replies.{AppAnswers, AnswersIt, TakesReplies}
 use Rattle.atspi_lawful.proofs.OfSettled.Settling_held.{returns_to, Took, took, and_left, and_right, reply_is, who_replied, of_app, was_before, reads_as, Sure, all_sure, above_one}

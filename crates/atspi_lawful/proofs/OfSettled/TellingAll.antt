@@ -1,12 +1,10 @@
 -- That readers are told of each child of the registry, along a lawful trace.
-use Rattle.std.proofs.Common.{◌≡◌, ◌⊎◌, inl, inr, ℕ, suc, ◌≤◌, Bool, true, false, List, [], ◌∷◌, ◌++◌, length, map, Option, None, Some, refl, sym, ap, ap₂, ◌∙◌, subst, arith}
+use Rattle.std.proofs.Common.{◌≡◌, inl, inr, ℕ, ◌≤◌, Bool, true, false, List, [], ◌∷◌, ◌++◌, length, Some, refl, sym, ap, ap₂, ◌∙◌, subst}
 use Rattle.std.specs.Prelude.{◌==◌, ◌||◌, codes, if◌then◌else◌}
 use Rattle.std.specs.List.{AllByRecursion}
 use Rattle.std.proofs.lemmas.Bool.{eqb-true}
-use Rattle.std.proofs.lemmas.List.{append-nil}
-use Rattle.atspi_lines.specs.declared.limits.TheConstants.{QUOTA_MOST}
 use Rattle.atspi_lines.specs.declared.line.Party.{Party}
-use Rattle.atspi_lines.specs.declared.line.Party.TheVariants.{Bus as The_bus, Registry, App, Reader}
+use Rattle.atspi_lines.specs.declared.line.Party.TheVariants.{Reader}
 use Rattle.atspi_message.specs.Envelope.{Envelope}
 use Rattle.atspi_names.specs.Owners.{own_name}
 use Rattle.atspi_routing.specs.Routing.{is_reply}
@@ -16,35 +14,26 @@ use Rattle.atspi_protocol.specs.ends.Places.{references}
 use Rattle.atspi_protocol.specs.members.Asked.{asked}
 use Rattle.atspi_protocol.specs.registering.RegistryState.{RegistryState}
 use Rattle.atspi_protocol.specs.registering.Told.{is_asked_for}
-use Rattle.atspi_protocol.specs.registering.Answers.{Answer, only, object_at}
+use Rattle.atspi_protocol.specs.registering.Answers.{Answer, object_at}
 use Rattle.atspi_protocol.specs.registering.Steps.{answer_to, registry_takes}
-use Rattle.atspi_protocol.specs.declared.following.question.Question.{Question}
 use Rattle.atspi_protocol.specs.declared.following.question.Question.TheVariants.{GetChildren}
-use Rattle.atspi_protocol.specs.following.ReaderState.{start_calls}
 use Rattle.atspi_protocol.specs.following.Calls.{asking}
-use Rattle.atspi_trace.specs.Entry.{Entry, sent}
-use Rattle.atspi_trace.specs.World.{here, Asked, Hearer, Role, the_registry, an_application, a_reader, Said, Letter, End, World, first_registry, first_world}
-use Rattle.atspi_trace.specs.Ends.{end_at, same_party}
+use Rattle.atspi_trace.specs.Entry.{Entry}
+use Rattle.atspi_trace.specs.World.{Hearer, Said, Letter, World}
 use Rattle.atspi_trace.specs.Hearing.{question_in}
-use Rattle.atspi_trace.specs.Causes.{Done, at_end, asks, reader_sends}
-use Rattle.atspi_trace.specs.Due.{asks_at}
-use Rattle.atspi_lawful.specs.laws.Words.{messages, message, with_serial}
+use Rattle.atspi_lawful.specs.laws.Words.{message, with_serial}
 use Rattle.atspi_lawful.proofs.OfOrder.Parties.{no_none, same_some, false_true}
 use Rattle.atspi_lawful.proofs.OfOrder.Each.{all_map}
-use Rattle.atspi_lawful.proofs.OfOrder.Shape.{Shape}
-use Rattle.atspi_lawful.proofs.OfOrder.Effects.{RegistryTakes}
-use Rattle.atspi_lawful.proofs.OfOwn.Writing.{Lives, lived}
-use Rattle.atspi_lawful.proofs.OfSerials.Serial.{messages_more}
-use Rattle.atspi_lawful.proofs.OfReaders.Fates.{FateIs, Fated}
+use Rattle.atspi_lawful.proofs.OfReaders.Fates.{FateIs}
 use Rattle.atspi_lawful.proofs.OfNames.Places.{greeted}
-use Rattle.atspi_lawful.proofs.OfSigned.Mail.{NameIs, name_more, IsPost, IsMail}
+use Rattle.atspi_lawful.proofs.OfSigned.Mail.{NameIs, IsMail}
 use Rattle.atspi_lawful.proofs.OfSigned.Self.{unique_told, one_named}
 use Rattle.atspi_lawful.proofs.OfMissed.Returning.{not_the_bus}
 use Rattle.atspi_lawful.proofs.OfServed.Spelling.{Spelled, call_of}
-use Rattle.atspi_lawful.proofs.OfSettled.Answering.{IsAnswered, Answers, IsReplyOf, registry_answers}
+use Rattle.atspi_lawful.proofs.OfSettled.Answering.{IsReplyOf, registry_answers}
 use Rattle.atspi_lawful.proofs.OfSettled.TellingWords.{HasOne, IsAdd, Names, IsChild, Comes, all_those, lists_child, children_answer, children_stay, children_come}
-use Rattle.atspi_lawful.proofs.OfSettled.TellingAsked.{Ordered, IsWell}
-use Rattle.atspi_lawful.proofs.OfSettled.Telling_of.{ToldSince, told_append, told_new, told_named, told_map, IsReturn, named_then}
+use Rattle.atspi_lawful.proofs.OfSettled.TellingAsked.{IsWell}
+use Rattle.atspi_lawful.proofs.OfSettled.Telling_of.{ToldSince, told_append, told_new, told_named, told_map, IsReturn}
 
 -- an element of a list
 all_child : (P : List ℕ × List ℕ → Type 0) (xs : List (List ℕ × List ℕ)) (c : List ℕ × List ℕ) → AllByRecursion P xs → IsChild c xs → P c

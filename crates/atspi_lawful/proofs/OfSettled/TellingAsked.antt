@@ -1,25 +1,20 @@
 -- A READER'S OWN CALLS, in their order: each behind which another was asked was answered; and a call for the registry's children that comes behind the rest of the start.
-use Rattle.std.proofs.Common.{◌≡◌, ◌⊎◌, inl, inr, ℕ, zero, suc, ◌+◌, Bool, true, false, List, [], ◌∷◌, ◌++◌, length, map, None, Some, refl, sym, ap, ◌∙◌, subst}
+use Rattle.std.proofs.Common.{◌≡◌, ◌⊎◌, inl, inr, ℕ, zero, suc, ◌+◌, Bool, true, false, List, [], ◌∷◌, ◌++◌, length, map, Some, refl, sym, ap, ◌∙◌, subst}
 use Rattle.std.specs.Prelude.{◌==◌, ◌&&◌, if◌then◌else◌}
 use Rattle.std.specs.List.{AllByRecursion, list_all}
-use Rattle.std.proofs.lemmas.List.{append-nil, append_assoc}
 use Rattle.atspi_lines.specs.declared.limits.TheConstants.{QUOTA_MOST}
-use Rattle.atspi_lines.specs.declared.line.Party.TheVariants.{Registry, App, Reader}
 use Rattle.atspi_message.specs.Envelope.{Envelope}
 use Rattle.atspi_routing.specs.Routing.{is_reply}
 use Rattle.atspi_protocol.specs.declared.following.question.Question.{Question}
-use Rattle.atspi_protocol.specs.declared.following.question.Question.TheVariants.{Hello, AddMatch, RegisterEvent, GetChildren, GetItems, GetPart}
-use Rattle.atspi_protocol.specs.following.ReaderState.{start_calls}
+use Rattle.atspi_protocol.specs.declared.following.question.Question.TheVariants.{Hello, GetChildren}
 use Rattle.atspi_protocol.specs.following.Replied.{is_reply_to}
 use Rattle.atspi_protocol.specs.following.Calls.{user_call}
 use Rattle.atspi_protocol.specs.exporting.Taking.{app_takes}
 use Rattle.atspi_protocol.specs.registering.Steps.{registry_takes}
-use Rattle.atspi_trace.specs.Entry.{Entry, sent}
-use Rattle.atspi_trace.specs.World.{here, Fate, waits, returned, failed, Asked, Hearer, Role, the_registry, an_application, a_reader, Letter, End, World, first_registry, first_world}
-use Rattle.atspi_trace.specs.Ends.{is_here, end_at, with_end, is_reader, taken_down, stops}
+use Rattle.atspi_trace.specs.Entry.{Entry}
+use Rattle.atspi_trace.specs.World.{here, waits, returned, failed, Asked, Hearer, Role, a_reader, End, World, first_registry, first_world}
+use Rattle.atspi_trace.specs.Ends.{is_here, end_at, with_end, taken_down, stops}
 use Rattle.atspi_trace.specs.Hearing.{answered_by, fate_of, is_answered, hears_letter}
-use Rattle.atspi_trace.specs.Carrying as carrying
-use Rattle.atspi_trace.specs.Carrying.{Carried}
 use Rattle.atspi_trace.specs.Causes.{Done, only, at_end, has_done, reader_sends, registry_did, asks}
 use Rattle.atspi_trace.specs.Due.{asks_as, asks_at}
 use Rattle.atspi_lawful.specs.settled.Laws.{question_of, BeginsWell}
@@ -27,7 +22,6 @@ use Rattle.atspi_lawful.proofs.OfOrder.Parties.{no_none, same_some, false_true}
 use Rattle.atspi_lawful.proofs.OfOrder.Along.{Keeps}
 use Rattle.atspi_lawful.proofs.OfOrder.Allowed.{MovedUp, MovedDown, Asks}
 use Rattle.atspi_lawful.proofs.OfOrder.Frame.{Over, IsOrder, over_same, over_both, over_with, over_at, with_cases, joined_cases}
-use Rattle.atspi_lawful.proofs.OfOrder.Shape.{Shape}
 use Rattle.atspi_lawful.proofs.OfOrder.Shaped.{received_at, new_app, new_reader, app_joined}
 use Rattle.atspi_lawful.proofs.OfOrder.Growing.{Grows, Shaped, Nothing, And, grown, shaped_keeps}
 use Rattle.atspi_lawful.proofs.OfOrder.Effects.{received, Effect, resets, app_joins, reader_joins, app_edited, app_took, reader_called, swapped, exited_, showed_, told_busy, told_quiet, bus_took, bus_ended, registry_took, reader_took}

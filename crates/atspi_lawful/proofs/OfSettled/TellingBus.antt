@@ -1,21 +1,20 @@
 -- What a reader heard of the registry's children, where the bus takes a message, or the end of an end: news of one that it takes of the registry stand on the reader's down link.
-use Rattle.std.proofs.Common.{◌≡◌, ◌⊎◌, inl, inr, ℕ, zero, suc, ◌+◌, ◌<◌, ◌≤◌, Bool, true, false, List, [], ◌∷◌, ◌++◌, length, Option, None, Some, refl, sym, ap, ◌∙◌, subst, arith}
-use Rattle.std.specs.Prelude.{◌==◌, codes, encode_utf8_all, if◌then◌else◌}
+use Rattle.std.proofs.Common.{◌≡◌, ◌⊎◌, inl, inr, ℕ, zero, suc, ◌+◌, ◌<◌, Bool, true, false, List, [], ◌∷◌, ◌++◌, length, None, Some, refl, sym, ap, ◌∙◌, subst, arith}
+use Rattle.std.specs.Prelude.{codes, encode_utf8_all, if◌then◌else◌}
 use Rattle.std.specs.List.{AllByRecursion}
 use lib.Utf8.{encode}
 use Rattle.atspi_lines.specs.declared.line.Party.{Party}
-use Rattle.atspi_lines.specs.declared.line.Party.TheVariants.{Bus as The_bus, Registry, App, Reader}
+use Rattle.atspi_lines.specs.declared.line.Party.TheVariants.{Bus as The_bus, Registry, Reader}
 use Rattle.atspi_message.specs.Envelope.{Envelope}
 use Rattle.atspi_match.specs.declared.condition.Condition.{Condition}
 use Rattle.atspi_names.specs.Owners.{own_name}
-use Rattle.atspi_protocol.specs.declared.following.question.Question.{Question}
 use Rattle.atspi_protocol.specs.declared.following.question.Question.TheVariants.{AddMatch}
 use Rattle.atspi_routing.specs.BusState.{unique_of}
 use Rattle.atspi_routing.specs.Members.{is_text}
 use Rattle.atspi_routing.specs.Steps.{Move, says, delivers, closes, BusStep, bus_takes}
 use Rattle.atspi_trace.specs.Entry.{Entry, got}
 use Rattle.atspi_trace.specs.Rules.{rule_in, rule_written, rules_asked, cache_rule, event_rule}
-use Rattle.atspi_trace.specs.World.{here, returned, Asked, Hearer, a_reader, Said, Letter, End, World}
+use Rattle.atspi_trace.specs.World.{here, returned, Asked, Hearer, Letter, End, World}
 use Rattle.atspi_trace.specs.Ends.{is_here, end_at, with_end, same_party, taken_up}
 use Rattle.atspi_trace.specs.Carrying as carrying
 use Rattle.atspi_trace.specs.Carrying.{Carried, own_letter, letter_of, stepped, named, with_name, settled, takes, bus_entries}

@@ -1,39 +1,28 @@
 -- WHAT A READER HEARD OF THE REGISTRY'S CHILDREN: behind the return to its call for them, news of each that came since, which the bus took, stand on its down link, or it knows the name.
-use Rattle.std.proofs.Common.{◌≡◌, ◌⊎◌, inl, inr, ℕ, zero, suc, ◌+◌, ◌<◌, ◌≤◌, Bool, true, false, List, [], ◌∷◌, ◌++◌, length, map, Option, None, Some, refl, sym, ap, ap₂, ◌∙◌, subst, arith}
-use Rattle.std.specs.Prelude.{◌==◌, ◌&&◌, ◌||◌, bytes_eq, codes, if◌then◌else◌}
-use Rattle.std.specs.List.{AllByRecursion}
-use Rattle.std.proofs.lemmas.Bool.{eqb-true, eq-eqb}
+use Rattle.std.proofs.Common.{◌≡◌, ◌⊎◌, inl, inr, ℕ, ◌<◌, Bool, true, false, List, [], ◌∷◌, ◌++◌, map, None, Some, refl, sym, ap, ap₂, ◌∙◌, subst}
+use Rattle.std.specs.Prelude.{◌==◌, ◌&&◌, bytes_eq, codes, if◌then◌else◌}
+use Rattle.std.proofs.lemmas.Bool.{eq-eqb}
 use Rattle.std.proofs.lemmas.Slice.Eq.{bytes_eq-Decides}
-use Rattle.atspi_lines.specs.declared.line.Party.{Party}
-use Rattle.atspi_lines.specs.declared.line.Party.TheVariants.{Bus as The_bus, Registry, App, Reader}
+use Rattle.atspi_lines.specs.declared.line.Party.TheVariants.{Registry, Reader}
 use Rattle.atspi_message.specs.Envelope.{Envelope}
 use Rattle.atspi_forest.specs.declared.news.Reference.{Reference}
-use Rattle.atspi_routing.specs.Routing.{is_reply}
-use Rattle.atspi_protocol.specs.news.Replies.{elements_of}
-use Rattle.atspi_protocol.specs.news.NewsOf.{or_empty}
 use Rattle.atspi_protocol.specs.registering.Told.{children_changed}
-use Rattle.atspi_protocol.specs.declared.following.question.Question.{Question}
-use Rattle.atspi_protocol.specs.declared.following.question.Question.TheVariants.{Hello, AddMatch, RegisterEvent, GetChildren, GetItems, GetPart}
 use Rattle.atspi_protocol.specs.following.ReaderState.{begins as begins_reader}
-use Rattle.atspi_protocol.specs.following.Known.{references_among, new_child}
+use Rattle.atspi_protocol.specs.following.Known.{new_child}
 use Rattle.atspi_protocol.specs.following.Replied.{is_reply_to}
 use Rattle.atspi_trace.specs.Entry.{Entry}
-use Rattle.atspi_trace.specs.World.{here, Fate, waits, returned, failed, Asked, Hearer, Said, Letter, End, World}
-use Rattle.atspi_trace.specs.Hearing.{answered_by, fate_of, question_returned, child_name, names_told, registry_after, hears_letter}
-use Rattle.atspi_lawful.specs.laws.Words.{messages, message}
-use Rattle.atspi_lawful.proofs.OfOrder.Parties.{no_none, same_some, false_true}
+use Rattle.atspi_trace.specs.World.{returned, Asked, Hearer, Letter}
+use Rattle.atspi_trace.specs.Hearing.{question_returned, child_name}
+use Rattle.atspi_lawful.specs.laws.Words.{message}
+use Rattle.atspi_lawful.proofs.OfOrder.Parties.{no_none}
 use Rattle.atspi_lawful.proofs.OfLinks.LawLinks.{first_unread}
 use Rattle.atspi_lawful.proofs.OfTaken.Found.{found_more}
-use Rattle.atspi_lawful.proofs.OfTaken.Said as told
-use Rattle.atspi_lawful.proofs.OfReaders.Fates.{FateIs}
 use Rattle.atspi_lawful.proofs.OfSigned.Mail.{NameIs, name_more}
 use Rattle.atspi_lawful.proofs.OfMissed.Arriving.{On}
 use Rattle.atspi_lawful.proofs.OfServed.Facts.{OnLink}
-use Rattle.atspi_lawful.proofs.OfServed.ListingTold.{question_of_call}
 use Rattle.atspi_lawful.proofs.OfSettled.Facts.{IsIn}
 use Rattle.atspi_lawful.proofs.OfSettled.TellingWords.{HasOne, IsAdd, Names}
-use Rattle.atspi_lawful.proofs.OfSettled.TellingAsked.{IsWell, well_back}
-use Rattle.atspi_lawful.proofs.OfSettled.Telling_of.{IsReturn}
+use Rattle.atspi_lawful.proofs.OfSettled.TellingAsked.{IsWell}
 
 -- WHAT THE BUS TOOK of the registry behind a serial: where it is news of one, they stand on the link, or the name is known
 abbrev pub NewsAt : List Entry → List Letter → List (List ℕ) → ℕ → Type 0

@@ -1,37 +1,35 @@
 -- What readers heard of the registry's children is kept along a lawful trace, where the calls of their start are returned.
-use Rattle.std.proofs.Common.{◌≡◌, ◌⊎◌, inl, inr, ℕ, zero, suc, ◌+◌, ◌≤◌, Bool, true, false, List, [], ◌∷◌, ◌++◌, length, None, Some, refl, sym, ap, ap₂, ◌∙◌, subst, arith}
+use Rattle.std.proofs.Common.{◌≡◌, ◌⊎◌, inl, inr, ℕ, zero, suc, ◌+◌, ◌≤◌, Bool, true, false, List, [], ◌∷◌, ◌++◌, length, Some, refl, sym, ap, ap₂, ◌∙◌, subst, arith}
 use Rattle.std.specs.Prelude.{◌==◌, ◌||◌}
 use Rattle.std.specs.List.{AllByRecursion}
 use Rattle.std.proofs.lemmas.List.{append-nil}
 use Rattle.atspi_lines.specs.declared.limits.TheConstants.{QUOTA_MOST}
-use Rattle.atspi_lines.specs.declared.line.Party.{Party}
-use Rattle.atspi_lines.specs.declared.line.Party.TheVariants.{Bus as The_bus, Registry, App, Reader}
+use Rattle.atspi_lines.specs.declared.line.Party.TheVariants.{Registry, Reader}
 use Rattle.atspi_message.specs.Envelope.{Envelope}
-use Rattle.atspi_match.specs.declared.condition.Condition.{Condition}
 use Rattle.atspi_protocol.specs.following.ReaderState.{start_calls}
 use Rattle.atspi_protocol.specs.declared.following.question.Question.{Question}
-use Rattle.atspi_trace.specs.Entry.{Entry, sent, got}
+use Rattle.atspi_trace.specs.Entry.{Entry, sent}
 use Rattle.atspi_trace.specs.Rules.{cache_rule, event_rule}
 use Rattle.atspi_trace.specs.World.{here, waits, Fate, returned, Asked, Hearer, Role, a_reader, Said, Letter, End, World, first_registry, first_world}
-use Rattle.atspi_trace.specs.Ends.{end_at, with_end, same_party, number_of, rest_of, taken_down}
+use Rattle.atspi_trace.specs.Ends.{end_at, same_party, number_of, rest_of, taken_down}
 use Rattle.atspi_trace.specs.Hearing.{hears_letter, heard_entries}
 use Rattle.atspi_trace.specs.Carrying as carrying
 use Rattle.atspi_trace.specs.Carrying.{Carried}
-use Rattle.atspi_trace.specs.Causes.{Done, only, at_end, asks, reader_sends}
+use Rattle.atspi_trace.specs.Causes.{Done, at_end, asks, reader_sends}
 use Rattle.atspi_trace.specs.Due.{asks_at}
 use Rattle.atspi_lawful.specs.laws.NineLaws.{count_got_by_bus}
 use Rattle.atspi_lawful.proofs.OfOrder.Parties.{no_none, same_some, false_true}
 use Rattle.atspi_lawful.proofs.OfOrder.Along.{Keeps}
-use Rattle.atspi_lawful.proofs.OfOrder.Allowed.{MovedUp, MovedDown, Asks}
+use Rattle.atspi_lawful.proofs.OfOrder.Allowed.{Asks}
 use Rattle.atspi_lawful.proofs.OfOrder.Each.{all_map}
 use Rattle.atspi_lawful.proofs.OfOrder.Acts.{Act, heard_act}
 use Rattle.atspi_lawful.proofs.OfOrder.Frame.{Over, joined_cases}
 use Rattle.atspi_lawful.proofs.OfOrder.Shape.{Shape}
 use Rattle.atspi_lawful.proofs.OfOrder.Growing.{Grows, Shaped, Nothing, And, grown}
-use Rattle.atspi_lawful.proofs.OfOrder.Effects.{received, BusTakes, BusEnds, ReaderTakes, Effect}
+use Rattle.atspi_lawful.proofs.OfOrder.Effects.{received, BusTakes, BusEnds, ReaderTakes}
 use Rattle.atspi_lawful.proofs.OfLinks.LawLinks.{NotTaken, none_taken, bus_free, got_free, word_free, no_bus, first_unread}
 use Rattle.atspi_lawful.proofs.OfOwn.Writing.{Lives, lived}
-use Rattle.atspi_lawful.proofs.OfReaders.Fates.{FateIs, Fated, both_keep}
+use Rattle.atspi_lawful.proofs.OfReaders.Fates.{Fated, both_keep}
 use Rattle.atspi_lawful.proofs.OfSerials.Speaking.{next_of}
 use Rattle.atspi_lawful.proofs.OfTaken.Said as told
 use Rattle.atspi_lawful.proofs.OfTurns.Turning.{count_more, Turns}
@@ -44,10 +42,10 @@ use Rattle.atspi_lawful.proofs.OfSerials.Numbers.{Numbered}
 use Rattle.atspi_lawful.proofs.OfTaken.LawTaken.{not_sent_at}
 use Rattle.atspi_lawful.proofs.OfMissed.Delivering.{all_on}
 use Rattle.atspi_lawful.proofs.OfSigned.Self.{unique_told, one_named, for_bus_true}
-use Rattle.atspi_lawful.proofs.OfSigned.Mail.{NameIs, IsCallOf, IsAnswer, IsPost, IsMail}
+use Rattle.atspi_lawful.proofs.OfSigned.Mail.{IsCallOf, IsAnswer, IsMail}
 use Rattle.atspi_lawful.proofs.OfMissed.Arriving.{On}
 use Rattle.atspi_lawful.proofs.OfMissed.Resting.{Rested}
-use Rattle.atspi_lawful.proofs.OfMissed.Ruled.{Ruled, RulesOf}
+use Rattle.atspi_lawful.proofs.OfMissed.Ruled.{Ruled}
 use Rattle.atspi_lawful.proofs.OfMissed.Ruling.{Has}
 use Rattle.atspi_lawful.proofs.OfMissed.Delivering.{Delivers}
 use Rattle.atspi_lawful.proofs.OfMissed.LawMissed.{Under_delivered, delivers_keep}
@@ -58,9 +56,9 @@ use Rattle.atspi_lawful.proofs.OfSettled.Facts.{AreReturned, StartsReturn}
 use Rattle.atspi_lawful.proofs.OfSettled.Refusing.{Refusing, Under_refusing, refusing_keeps, Below, below}
 use Rattle.atspi_lawful.proofs.OfSettled.TellingAsked.{IsWell, well_last, AllOrdered, ordered_keep, asked_cases}
 use Rattle.atspi_lawful.proofs.OfSettled.Telling_of.{begins_well, rule_back, cache_back}
-use Rattle.atspi_lawful.proofs.OfSettled.TellingHeard.{AllNewsOf, Heard, IsReply, Attends, attends_same, attends_more}
+use Rattle.atspi_lawful.proofs.OfSettled.TellingHeard.{IsReply, Attends, attends_same, attends_more}
 use Rattle.atspi_lawful.proofs.OfSettled.TellingTakes.{attends_taken}
-use Rattle.atspi_lawful.proofs.OfSettled.TellingRests.{SameReader, Calm, Resting, calms, joins, takes_, ends_, reads_, begins_, resting, moved_same, same_hearer}
+use Rattle.atspi_lawful.proofs.OfSettled.TellingRests.{SameReader, Resting, calms, joins, takes_, ends_, reads_, begins_, resting, moved_same, same_hearer}
 use Rattle.atspi_lawful.proofs.OfSettled.TellingBus.{both_there, before, took_attends, wrote, before_end, ended_attends}
 
 -- WHAT IS KEPT

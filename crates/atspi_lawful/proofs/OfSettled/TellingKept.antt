@@ -1,28 +1,24 @@
 -- That readers are told of each child of the registry is kept along a lawful trace, where the calls of their start are returned.
-use Rattle.std.proofs.Common.{◌≡◌, ◌⊎◌, inl, inr, ℕ, zero, suc, ◌+◌, ◌≤◌, Bool, true, false, List, [], ◌∷◌, ◌++◌, length, map, Option, None, Some, refl, sym, ap, ◌∙◌, subst, arith, length-append}
-use Rattle.std.specs.Prelude.{◌==◌, ◌||◌, codes, if◌then◌else◌}
+use Rattle.std.proofs.Common.{◌≡◌, ◌⊎◌, inl, inr, ℕ, zero, suc, ◌+◌, ◌≤◌, Bool, true, false, List, [], ◌∷◌, ◌++◌, length, Some, refl, sym, ap, ◌∙◌, subst, arith, length-append}
+use Rattle.std.specs.Prelude.{◌==◌, ◌||◌, codes}
 use Rattle.std.specs.List.{AllByRecursion}
 use Rattle.std.proofs.lemmas.List.{append-nil}
 use Rattle.atspi_lines.specs.declared.limits.TheConstants.{QUOTA_MOST}
-use Rattle.atspi_lines.specs.declared.line.Party.{Party}
-use Rattle.atspi_lines.specs.declared.line.Party.TheVariants.{Bus as The_bus, Registry, App, Reader}
+use Rattle.atspi_lines.specs.declared.line.Party.TheVariants.{Registry, Reader}
 use Rattle.atspi_message.specs.Envelope.{Envelope}
 use Rattle.atspi_protocol.specs.registering.RegistryState.{RegistryState}
 use Rattle.atspi_protocol.specs.registering.Told.{is_asked_for}
 use Rattle.atspi_protocol.specs.registering.Steps.{registry_takes}
-use Rattle.atspi_protocol.specs.exporting.Exporter.{begins as begins_app}
 use Rattle.atspi_protocol.specs.exporting.Taking.{app_takes}
 use Rattle.atspi_protocol.specs.following.Calls.{user_call}
-use Rattle.atspi_protocol.specs.following.ReaderState.{start_calls}
 use Rattle.atspi_protocol.specs.declared.following.question.Question.{Question}
 use Rattle.atspi_trace.specs.Entry.{Entry, sent}
-use Rattle.atspi_trace.specs.World.{here, waits, Asked, Hearer, Role, the_registry, an_application, a_reader, Letter, End, World, first_registry, first_world}
+use Rattle.atspi_trace.specs.World.{here, waits, Asked, Hearer, Role, the_registry, an_application, a_reader, End, World, first_registry, first_world}
 use Rattle.atspi_trace.specs.Ends.{end_at, with_end, same_party, taken_down, stops}
 use Rattle.atspi_trace.specs.Hearing.{hears_letter}
 use Rattle.atspi_trace.specs.Causes.{Done, only, at_end, has_done, asks, reader_sends, registry_did}
 use Rattle.atspi_trace.specs.Due.{asks_as, asks_at}
 use Rattle.atspi_lawful.specs.laws.Words.{messages, message}
-use Rattle.atspi_lawful.specs.missed.Laws.{hearing}
 use Rattle.atspi_lawful.proofs.OfOrder.Parties.{no_none, same_some, false_true}
 use Rattle.atspi_lawful.proofs.OfOrder.Along.{Keeps}
 use Rattle.atspi_lawful.proofs.OfOrder.Allowed.{MovedUp, MovedDown, Asks}
@@ -39,17 +35,17 @@ use Rattle.atspi_lawful.proofs.OfSerials.Speaking.{next_of}
 use Rattle.atspi_lawful.proofs.OfSerials.Numbers.{Numbered}
 use Rattle.atspi_lawful.proofs.OfTaken.LawTaken.{not_sent_at}
 use Rattle.atspi_lawful.proofs.OfNames.Places.{greeted, greeted_more, name_told}
-use Rattle.atspi_lawful.proofs.OfNames.LawNames.{NamedAt, Named}
+use Rattle.atspi_lawful.proofs.OfNames.LawNames.{Named}
 use Rattle.atspi_lawful.proofs.OfNames.LawEnds.{few_greeted}
 use Rattle.atspi_lawful.proofs.OfSigned.Mail.{NameIs, name_more, IsMail}
 use Rattle.atspi_lawful.proofs.OfSigned.LawMail.{Mail}
 use Rattle.atspi_lawful.proofs.OfMissed.Arriving.{Goes_on, took_goes, ended_goes}
-use Rattle.atspi_lawful.proofs.OfMissed.Registering.{HasTold, AsTold, NotRegistry, none_sent, same_state, role_registry}
+use Rattle.atspi_lawful.proofs.OfMissed.Registering.{HasTold, NotRegistry, none_sent, same_state, role_registry}
 use Rattle.atspi_lawful.proofs.OfServed.Facts.{AllEntered}
 use Rattle.atspi_lawful.proofs.OfServed.Entering.{Under_entered, entered_keep}
 use Rattle.atspi_lawful.proofs.OfServed.Spelling.{Spelled}
-use Rattle.atspi_lawful.proofs.OfSettled.Facts.{AreReturned, StartsReturn}
-use Rattle.atspi_lawful.proofs.OfSettled.Answering.{IsAnswered, Answers, Answering, Under_answering, answering_keeps, registry_or, registry_wrote}
+use Rattle.atspi_lawful.proofs.OfSettled.Facts.{StartsReturn}
+use Rattle.atspi_lawful.proofs.OfSettled.Answering.{Answers, Answering, Under_answering, answering_keeps, registry_or, registry_wrote}
 use Rattle.atspi_lawful.proofs.OfSettled.TellingWords.{Names, all_those}
 use Rattle.atspi_lawful.proofs.OfSettled.TellingAsked.{Ordered, IsWell, well_more, AskedBack, Reading, reads_on, joins, begins_, reading, moved_back, asked_cases, AllOrdered, ordered_keep}
 use Rattle.atspi_lawful.proofs.OfSettled.Telling_of.{ToldSince, told_map, told_named, IsReturn, named_then, begins_well, asks_for_news}

@@ -1,5 +1,5 @@
 -- WHERE NOTHING IS ON ITS WAY a reader that asked for the registry's children, behind the rest of its start, knows the name of each.
-use Rattle.std.proofs.Common.{◌≡◌, ◌⊎◌, inl, inr, ℕ, zero, suc, ◌+◌, ◌<◌, ◌≤◌, Bool, true, false, List, [], ◌∷◌, ◌++◌, None, Some, refl, sym, ap, ◌∙◌, subst, arith}
+use Rattle.std.proofs.Common.{◌≡◌, ◌⊎◌, inl, inr, ℕ, suc, ◌+◌, ◌<◌, ◌≤◌, Bool, true, false, List, [], ◌∷◌, Some, refl, sym, ap, ◌∙◌, subst, arith}
 use Rattle.std.specs.Prelude.{◌==◌, if◌then◌else◌}
 use Rattle.std.specs.List.{AllByRecursion}
 use Rattle.std.proofs.lemmas.Bool.{eqb-true, eq-eqb}
@@ -11,7 +11,7 @@ use Rattle.atspi_trace.specs.World.{here, returned, Hearer, the_registry, a_read
 use Rattle.atspi_trace.specs.Ends.{end_at}
 use Rattle.atspi_lawful.specs.laws.Words.{messages, message, with_serial}
 use Rattle.atspi_lawful.specs.serials.Laws.{HasNextNumber}
-use Rattle.atspi_lawful.proofs.OfOrder.Parties.{no_none, same_some, false_true}
+use Rattle.atspi_lawful.proofs.OfOrder.Parties.{no_none, same_some}
 use Rattle.atspi_lawful.proofs.OfOrder.Each.{Each}
 use Rattle.atspi_lawful.proofs.OfLinks.LawLinks.{first_unread}
 use Rattle.atspi_lawful.proofs.OfLinks.Ups.{From}
@@ -23,7 +23,7 @@ use Rattle.atspi_lawful.proofs.OfSettled.Facts.{IsIn}
 use Rattle.atspi_lawful.proofs.OfSettled.TellingWords.{HasOne, IsAdd, Names}
 use Rattle.atspi_lawful.proofs.OfSettled.TellingAsked.{IsWell}
 use Rattle.atspi_lawful.proofs.OfSettled.Telling_of.{ToldSince, IsReturn}
-use Rattle.atspi_lawful.proofs.OfSettled.TellingHeard.{NewsAt, Heard, Attends}
+use Rattle.atspi_lawful.proofs.OfSettled.TellingHeard.{NewsAt, Heard}
 use Rattle.atspi_lawful.proofs.OfSettled.TellingHeardAll.{Attending}
 use Rattle.atspi_lawful.proofs.OfSettled.TellingKept.{Telling}
 use Rattle.atspi_lawful.proofs.OfSettled.AdoptingWords.{HasChild}

@@ -1,5 +1,5 @@
 -- WHERE A CALL FOR THE REGISTRY'S CHILDREN STANDS: of a reader that began well, each stands behind the rest of the start, which has none.
-use Rattle.std.proofs.Common.{◌≡◌, ℕ, Bool, true, false, List, [], ◌∷◌, ◌++◌, map, refl, sym, ap, ◌∙◌, subst}
+use Rattle.std.proofs.Common.{◌≡◌, Bool, true, false, List, [], ◌∷◌, ◌++◌, map, refl, sym, ap, ◌∙◌}
 use Rattle.std.specs.Prelude.{take}
 use Rattle.std.specs.List.{AllByRecursion}
 use Rattle.atspi_protocol.specs.declared.following.question.Question.{Question}

@@ -1,24 +1,20 @@
 -- What a cause does to readers and their down links, told apart in six forms: nothing; an end joins; the bus takes a message, or the end of an end; a reader takes a message; or all begins.
-use Rattle.std.proofs.Common.{◌≡◌, inl, inr, ◌⊎◌, ℕ, suc, ◌+◌, true, false, Bool, List, [], ◌∷◌, ◌++◌, length, map, refl, sym, ap, ◌∙◌, subst}
+use Rattle.std.proofs.Common.{◌≡◌, inl, inr, ◌⊎◌, ℕ, suc, ◌+◌, true, false, Bool, [], ◌∷◌, ◌++◌, refl, sym, ap, ◌∙◌, subst}
 use Rattle.std.specs.Prelude.{Some}
 use Rattle.std.specs.List.{AllByRecursion}
-use Rattle.atspi_lines.specs.declared.line.Party.{Party}
 use Rattle.atspi_message.specs.Envelope.{Envelope}
-use Rattle.atspi_match.specs.declared.condition.Condition.{Condition}
-use Rattle.atspi_protocol.specs.declared.following.question.Question.{Question}
 use Rattle.atspi_protocol.specs.exporting.Taking.{app_takes}
 use Rattle.atspi_protocol.specs.registering.Steps.{registry_takes}
 use Rattle.atspi_protocol.specs.following.Calls.{user_call}
-use Rattle.atspi_trace.specs.Entry.{Entry}
-use Rattle.atspi_trace.specs.World.{here, Asked, Hearer, Role, the_registry, an_application, a_reader, Letter, End, World, first_world}
-use Rattle.atspi_trace.specs.Ends.{is_here, end_at, with_end, number_of, taken_down, stops}
-use Rattle.atspi_trace.specs.Causes.{Done, only, has_done, reader_sends, registry_did, app_starts, reader_starts}
+use Rattle.atspi_trace.specs.World.{here, Hearer, Role, a_reader, End, World, first_world}
+use Rattle.atspi_trace.specs.Ends.{is_here, end_at, with_end, taken_down, stops}
+use Rattle.atspi_trace.specs.Causes.{Done, only, has_done, reader_sends, registry_did}
 use Rattle.atspi_lawful.proofs.OfOrder.Parties.{false_true}
 use Rattle.atspi_lawful.proofs.OfOrder.Allowed.{MovedUp, MovedDown}
 use Rattle.atspi_lawful.proofs.OfOrder.Frame.{Over, IsOrder, over_same, over_both, over_with, over_at}
 use Rattle.atspi_lawful.proofs.OfOrder.Shape.{Shape}
-use Rattle.atspi_lawful.proofs.OfOrder.Shaped.{received_at, new_app, new_reader, app_joined}
-use Rattle.atspi_lawful.proofs.OfOrder.Effects.{received, BusTakes, BusEnds, ReaderTakes, Effect, resets, app_joins, reader_joins, app_edited, app_took, reader_called, swapped, exited_, showed_, told_busy, told_quiet, bus_took, bus_ended, registry_took, reader_took}
+use Rattle.atspi_lawful.proofs.OfOrder.Shaped.{new_app, new_reader, app_joined}
+use Rattle.atspi_lawful.proofs.OfOrder.Effects.{BusTakes, BusEnds, ReaderTakes, Effect, resets, app_joins, reader_joins, app_edited, app_took, reader_called, swapped, exited_, showed_, told_busy, told_quiet, bus_took, bus_ended, registry_took, reader_took}
 use Rattle.atspi_lawful.proofs.OfLinks.LawLinks.{NotTaken, did_free, sent_free, got_free, no_bus}
 use Rattle.atspi_lawful.proofs.OfSettled.TellingAsked.{IsWell, no_children}
 

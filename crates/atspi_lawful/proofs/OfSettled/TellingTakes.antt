@@ -1,8 +1,8 @@
 -- What a reader heard of the registry's children, where it takes a message.
-use Rattle.std.proofs.Common.{◌≡◌, ◌⊎◌, inl, inr, ℕ, zero, suc, ◌+◌, ◌<◌, ◌≤◌, Bool, true, false, List, [], ◌∷◌, ◌++◌, length, map, Option, None, Some, refl, sym, ap, ap₂, ◌∙◌, subst, arith}
-use Rattle.std.specs.Prelude.{◌==◌, ◌&&◌, ◌||◌, codes, option_map, if◌then◌else◌}
+use Rattle.std.proofs.Common.{◌≡◌, ◌⊎◌, inl, inr, ℕ, suc, ◌+◌, ◌<◌, Bool, true, false, List, [], ◌∷◌, ◌++◌, map, Option, None, Some, refl, sym, ap, ◌∙◌, subst, arith}
+use Rattle.std.specs.Prelude.{◌==◌, ◌&&◌, ◌||◌, option_map, if◌then◌else◌}
 use Rattle.std.specs.List.{AllByRecursion, cons_option}
-use Rattle.std.proofs.lemmas.Bool.{eqb-true, eq-eqb}
+use Rattle.std.proofs.lemmas.Bool.{eqb-true}
 use Rattle.atspi_lines.specs.declared.line.Party.{Party}
 use Rattle.atspi_lines.specs.declared.line.Party.TheVariants.{Bus as The_bus, Registry, App, Reader}
 use Rattle.atspi_message.specs.Envelope.{Envelope}
@@ -16,28 +16,28 @@ use Rattle.atspi_protocol.specs.following.ReaderState.{begins as begins_reader}
 use Rattle.atspi_protocol.specs.following.Known.{references_among, new_child}
 use Rattle.atspi_protocol.specs.following.Replied.{is_reply_to}
 use Rattle.atspi_trace.specs.Entry.{Entry, got}
-use Rattle.atspi_trace.specs.World.{here, Fate, waits, returned, failed, Asked, Hearer, Said, Letter, End, World}
+use Rattle.atspi_trace.specs.World.{Fate, returned, failed, Asked, Hearer, Said, Letter, End}
 use Rattle.atspi_trace.specs.Ends.{same_party}
-use Rattle.atspi_trace.specs.Hearing.{answered_by, fate_of, question_in, question_returned, child_name, names_told, registry_after, hears_letter}
-use Rattle.atspi_lawful.specs.laws.Words.{messages, message, hello_of}
+use Rattle.atspi_trace.specs.Hearing.{fate_of, question_in, question_returned, child_name, names_told, registry_after, hears_letter}
+use Rattle.atspi_lawful.specs.laws.Words.{message, hello_of}
 use Rattle.atspi_lawful.specs.laws.NineLaws.{sent_before, count_got_by_bus}
 use Rattle.atspi_lawful.specs.links.Laws.{IsTakenInOrder}
-use Rattle.atspi_lawful.proofs.OfOrder.Parties.{no_none, same_some, same-party, false_true}
+use Rattle.atspi_lawful.proofs.OfOrder.Parties.{no_none, same_some, false_true}
 use Rattle.atspi_lawful.proofs.OfOrder.Each.{Each}
 use Rattle.atspi_lawful.proofs.OfLinks.LawLinks.{first_unread}
 use Rattle.atspi_lawful.proofs.OfTaken.Found.{found_more}
 use Rattle.atspi_lawful.proofs.OfTaken.Said as told
 use Rattle.atspi_lawful.proofs.OfTurns.Turning.{IsBehind, Turns}
 use Rattle.atspi_lawful.proofs.OfReaders.Fates.{FateIs}
-use Rattle.atspi_lawful.proofs.OfNames.Places.{first_at, greeted, name_told}
-use Rattle.atspi_lawful.proofs.OfSigned.Mail.{NameIs, name_more, IsCallOf, IsAnswer, IsPost, IsMail}
+use Rattle.atspi_lawful.proofs.OfNames.Places.{first_at, greeted}
+use Rattle.atspi_lawful.proofs.OfSigned.Mail.{NameIs, name_more, IsCallOf, IsAnswer, IsMail}
 use Rattle.atspi_lawful.proofs.OfSigned.Self.{unique_told, for_bus_true}
 use Rattle.atspi_lawful.proofs.OfMissed.Arriving.{On}
 use Rattle.atspi_lawful.proofs.OfMissed.Delivering.{all_on}
 use Rattle.atspi_lawful.proofs.OfServed.Facts.{OnLink}
 use Rattle.atspi_lawful.proofs.OfServed.ListingTold.{question_of_call}
 use Rattle.atspi_lawful.proofs.OfSettled.Facts.{IsIn}
-use Rattle.atspi_lawful.proofs.OfSettled.TellingWords.{HasOne, IsAdd, Names}
+use Rattle.atspi_lawful.proofs.OfSettled.TellingWords.{IsAdd}
 use Rattle.atspi_lawful.proofs.OfSettled.TellingAsked.{IsWell, well_back, well_one}
 use Rattle.atspi_lawful.proofs.OfSettled.TellingHeard.{NewsAt, AllNewsOf, Heard, IsReply, Attends, in_front, in_back, in_map, one_name, add_taken, four_none, answers_some}
 

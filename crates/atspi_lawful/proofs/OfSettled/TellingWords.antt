@@ -1,6 +1,6 @@
 -- WHAT THE REGISTRY TELLS OF ITS CHILDREN: its list names each; one that comes is told of, where some listener asks for such news; and what an answer to a call for the children is.
 use Rattle.std.proofs.Common.{◌≡◌, ◌⊎◌, inl, inr, ℕ, zero, suc, ◌+◌, Bool, true, false, List, [], ◌∷◌, ◌++◌, length, map, Option, None, Some, refl, sym, ap, ◌∙◌, subst}
-use Rattle.std.specs.Prelude.{◌==◌, ◌&&◌, ◌||◌, take, drop, remove, slice_get, bytes_eq, codes, encode_utf8_all, if◌then◌else◌, Result, Ok, Err}
+use Rattle.std.specs.Prelude.{◌==◌, ◌&&◌, ◌||◌, take, drop, bytes_eq, codes, encode_utf8_all, if◌then◌else◌, Result, Ok, Err}
 use Rattle.std.specs.List.{AllByRecursion, list_any}
 use Rattle.std.proofs.lemmas.Slice.Eq.{bytes_eq-Decides}
 use lib.Utf8.{encode}
@@ -9,15 +9,15 @@ use Rattle.atspi_message.specs.Envelope.{Envelope}
 use Rattle.atspi_forest.specs.declared.news.Reference.{Reference}
 use Rattle.atspi_protocol.specs.ends.Covering.{covers}
 use Rattle.atspi_protocol.specs.ends.Places.{reference, references, registry_root}
-use Rattle.atspi_protocol.specs.ends.Messages.{Reply, returns, fails, reply_to, replies, expects_reply, numbered}
+use Rattle.atspi_protocol.specs.ends.Messages.{returns, fails, replies, numbered}
 use Rattle.atspi_protocol.specs.declared.members.member.ObjectMember.{ObjectMember}
 use Rattle.atspi_protocol.specs.declared.members.member.ObjectMember.TheVariants as members
 use Rattle.atspi_protocol.specs.members.Asked.{Asked, calls, gets, gets_all, sets, asked}
 use Rattle.atspi_protocol.specs.members.Arguments.{text_at}
-use Rattle.atspi_protocol.specs.registering.RegistryState.{RegistryState, is_of, has_pair, without_pair, pairs_of, pairs_without, child_place}
-use Rattle.atspi_protocol.specs.registering.Told.{registered, deregistered, id_call, children_changed, is_asked_for, child_added}
-use Rattle.atspi_protocol.specs.registering.Answers.{Answer, only, registers, deregisters, reference_in, new_child, adopts, children_without, releases, answers_member, object_at}
-use Rattle.atspi_protocol.specs.registering.Steps.{RegistryStep, answer_to, answered, called_by, named, hears, forgets, name_told, name_gone, takes_as, registry_takes}
+use Rattle.atspi_protocol.specs.registering.RegistryState.{RegistryState, is_of, has_pair, without_pair, child_place}
+use Rattle.atspi_protocol.specs.registering.Told.{registered, deregistered, children_changed, is_asked_for}
+use Rattle.atspi_protocol.specs.registering.Answers.{Answer, only, reference_in, new_child, adopts, children_without, releases, answers_member, object_at}
+use Rattle.atspi_protocol.specs.registering.Steps.{RegistryStep, answer_to, called_by, named, hears, name_told, name_gone, takes_as, registry_takes}
 use Rattle.atspi_protocol.specs.exporting.Hearing.{is_pair, is_heard}
 use Rattle.atspi_protocol.specs.following.Calls.{asking}
 use Rattle.atspi_protocol.specs.following.Known.{references_among}

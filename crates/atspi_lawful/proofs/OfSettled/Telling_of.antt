@@ -1,51 +1,41 @@
 -- OF EACH CHILD OF THE REGISTRY a reader is told that called for its children, behind the rest of its start: the return names it, or news of it were sent behind the return.
-use Rattle.std.proofs.Common.{◌≡◌, ◌⊎◌, inl, inr, ℕ, zero, suc, ◌+◌, ◌<◌, ◌≤◌, Bool, true, false, List, [], ◌∷◌, ◌++◌, length, map, Option, None, Some, refl, sym, ap, ap₂, ◌∙◌, subst, arith}
-use Rattle.std.specs.Prelude.{◌==◌, ◌||◌, nat_le, codes, if◌then◌else◌}
+use Rattle.std.proofs.Common.{◌≡◌, ◌⊎◌, inl, inr, ℕ, ◌+◌, ◌≤◌, Bool, true, false, List, [], ◌∷◌, ◌++◌, length, map, Some, refl, sym, ap, ◌∙◌, subst, arith}
+use Rattle.std.specs.Prelude.{nat_le, codes, if◌then◌else◌}
 use Rattle.std.specs.List.{AllByRecursion}
 use Rattle.std.proofs.lemmas.Bool.{le-leb}
 use Rattle.std.proofs.lemmas.Slice.Eq.{bytes_eq-Decides}
-use Rattle.std.proofs.lemmas.List.{append-nil, append_assoc}
-use Rattle.atspi_lines.specs.declared.limits.TheConstants.{QUOTA_MOST}
+use Rattle.std.proofs.lemmas.List.{append_assoc}
 use Rattle.atspi_lines.specs.declared.line.Party.{Party}
-use Rattle.atspi_lines.specs.declared.line.Party.TheVariants.{Bus as The_bus, Registry, App, Reader}
+use Rattle.atspi_lines.specs.declared.line.Party.TheVariants.{Registry, Reader}
 use Rattle.atspi_message.specs.Envelope.{Envelope}
 use Rattle.atspi_names.specs.Owners.{own_name}
-use Rattle.atspi_routing.specs.Routing.{is_reply}
 use Rattle.atspi_routing.specs.Members.{is_text}
 use Rattle.atspi_protocol.specs.ends.Messages.{Reply, returns, fails, reply_to}
-use Rattle.atspi_protocol.specs.ends.Places.{references}
 use Rattle.atspi_protocol.specs.members.Asked.{asked}
 use Rattle.atspi_protocol.specs.registering.RegistryState.{RegistryState}
 use Rattle.atspi_protocol.specs.registering.Told.{is_asked_for}
-use Rattle.atspi_protocol.specs.registering.Answers.{Answer, only, object_at}
-use Rattle.atspi_protocol.specs.registering.Steps.{answer_to, registry_takes}
+use Rattle.atspi_protocol.specs.registering.Answers.{object_at}
+use Rattle.atspi_protocol.specs.registering.Steps.{answer_to}
 use Rattle.atspi_protocol.specs.exporting.Hearing.{is_heard}
 use Rattle.atspi_protocol.specs.declared.following.question.Question.{Question}
-use Rattle.atspi_protocol.specs.declared.following.question.Question.TheVariants.{Hello, AddMatch, RegisterEvent, GetChildren, GetItems, GetPart}
+use Rattle.atspi_protocol.specs.declared.following.question.Question.TheVariants.{Hello, AddMatch, RegisterEvent, GetChildren}
 use Rattle.atspi_protocol.specs.following.ReaderState.{start_calls}
-use Rattle.atspi_protocol.specs.following.Calls.{asking}
-use Rattle.atspi_trace.specs.Entry.{Entry, sent}
-use Rattle.atspi_trace.specs.World.{here, Fate, waits, returned, failed, Asked, Hearer, Role, the_registry, an_application, a_reader, Said, Letter, End, World, first_registry, first_world}
-use Rattle.atspi_trace.specs.Ends.{end_at, same_party}
-use Rattle.atspi_trace.specs.Hearing.{is_answered, question_in}
-use Rattle.atspi_trace.specs.Causes.{Done, at_end, asks, reader_sends}
-use Rattle.atspi_trace.specs.Due.{asks_at}
+use Rattle.atspi_trace.specs.Entry.{Entry}
+use Rattle.atspi_trace.specs.World.{Fate, waits, returned, failed, Asked}
+use Rattle.atspi_trace.specs.Hearing.{is_answered}
 use Rattle.atspi_lawful.specs.laws.Words.{messages, message}
 use Rattle.atspi_lawful.specs.missed.Laws.{hearing}
 use Rattle.atspi_lawful.specs.settled.Laws.{question_of, BeginsWell}
-use Rattle.atspi_lawful.proofs.OfOrder.Parties.{no_none, same_some, false_true}
+use Rattle.atspi_lawful.proofs.OfOrder.Parties.{same_some, false_true}
 use Rattle.atspi_lawful.proofs.OfOrder.Each.{all_map}
-use Rattle.atspi_lawful.proofs.OfOwn.Writing.{Lives}
-use Rattle.atspi_lawful.proofs.OfSerials.Serial.{messages_more}
-use Rattle.atspi_lawful.proofs.OfReaders.Fates.{FateIs}
 use Rattle.atspi_lawful.proofs.OfNames.Places.{greeted}
-use Rattle.atspi_lawful.proofs.OfSigned.Mail.{NameIs, name_more, IsCallOf, IsPost, IsMail}
+use Rattle.atspi_lawful.proofs.OfSigned.Mail.{NameIs, name_more, IsCallOf}
 use Rattle.atspi_lawful.proofs.OfSigned.Self.{unique_told, one_named}
 use Rattle.atspi_lawful.proofs.OfMissed.Returning.{not_the_bus}
-use Rattle.atspi_lawful.proofs.OfServed.Facts.{up_to, told_by, Entered, IsEntered}
+use Rattle.atspi_lawful.proofs.OfServed.Facts.{up_to, Entered, IsEntered}
 use Rattle.atspi_lawful.proofs.OfSettled.Facts.{AreReturned}
-use Rattle.atspi_lawful.proofs.OfSettled.Answering.{IsAnswered, Answers, IsReplyOf}
-use Rattle.atspi_lawful.proofs.OfSettled.TellingWords.{HasOne, one_front, one_back, one_map, IsAdd, Names, IsChild, lists_child, children_answer, children_stay, children_pattern, listener_asks}
+use Rattle.atspi_lawful.proofs.OfSettled.Answering.{IsAnswered}
+use Rattle.atspi_lawful.proofs.OfSettled.TellingWords.{HasOne, one_front, one_back, IsAdd, Names, children_pattern, listener_asks}
 use Rattle.atspi_lawful.proofs.OfSettled.TellingAsked.{Ordered, ordered_split, IsWell, questions_append}
 
 -- TOLD SINCE: behind each such message that does not name it stand news of it

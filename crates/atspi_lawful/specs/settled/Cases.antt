@@ -1,5 +1,5 @@
 -- Words for worked cases: readers that asked for more or less, and what waits.
-use Rattle.std.specs.Prelude.{ℕ, List, [], ◌∷◌, ◌++◌, map, Some, codes}
+use Rattle.std.specs.Prelude.{ℕ, List, [], ◌∷◌, ◌++◌, map, codes}
 use Rattle.atspi_names.specs.Owners.{unique_name}
 use Rattle.atspi_forest.specs.Path.{path_of}
 use Rattle.atspi_forest.specs.declared.view.Part.{Part}
@@ -8,14 +8,14 @@ use Rattle.atspi_forest.specs.declared.view.NumPart.TheVariants.{Absent as No_nu
 use Rattle.atspi_lines.specs.declared.line.Party.TheVariants.{Bus as The_bus, App, Reader}
 use Rattle.atspi_protocol.specs.declared.news.part.PartName.TheVariants.{Text}
 use Rattle.atspi_protocol.specs.declared.following.question.Question.{Question}
-use Rattle.atspi_protocol.specs.declared.following.question.Question.TheVariants.{GetItems, GetPart}
+use Rattle.atspi_protocol.specs.declared.following.question.Question.TheVariants.{GetPart}
 use Rattle.atspi_protocol.specs.following.Calls.{asking}
-use Rattle.atspi_protocol.specs.following.Cases.{returned, item, items, row}
+use Rattle.atspi_protocol.specs.following.Cases.{row}
 use Rattle.atspi_trace.specs.Entry.{Entry, sent, got}
-use Rattle.atspi_trace.specs.World.{Asked, Hearer, End, World, first_registry}
+use Rattle.atspi_trace.specs.World.{Asked, Hearer, World}
 use Rattle.atspi_trace.specs.Causes.{first_hearer}
 use Rattle.atspi_lawful.specs.caches.Cases.{returned_at, its_name, loaded}
-use Rattle.atspi_lawful.specs.examples.Cases.{Brief, app_end, app_state, with_button, holding, reader_end, world, end_of_app}
+use Rattle.atspi_lawful.specs.examples.Cases.{app_state, with_button, holding, world, end_of_app}
 
 -- these calls, each of them returned
 abbrev pub asked_all : List Question → List Asked

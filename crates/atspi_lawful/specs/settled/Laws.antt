@@ -1,5 +1,5 @@
 -- Where nothing waits, and each reader asked for all that it may, each holds each application as it is now.
-use Rattle.std.specs.Prelude.{◌≡◌, ◌⊎◌, ℕ, ◌≤◌, true, false, List, [], ◌∷◌, ◌++◌, map, Option, None, Some}
+use Rattle.std.specs.Prelude.{◌≡◌, ◌⊎◌, ℕ, ◌≤◌, true, false, List, [], ◌∷◌, ◌++◌, map, None, Some}
 use Rattle.std.specs.List.{AllByRecursion, list_all}
 use Rattle.atspi_types.specs.Names.{is_bus_name}
 use Rattle.atspi_forest.specs.Forest.{labels}
@@ -8,7 +8,6 @@ use Rattle.atspi_forest.specs.View.{view}
 use Rattle.atspi_forest.specs.declared.view.Row.{Row}
 use Rattle.atspi_lines.specs.declared.line.Line.{Line}
 use Rattle.atspi_lines.specs.declared.line.Party.TheVariants.{App, Reader}
-use Rattle.atspi_message.specs.Envelope.{Envelope}
 use Rattle.atspi_protocol.specs.declared.news.part.PartName.{PartName}
 use Rattle.atspi_protocol.specs.declared.following.question.Question.{Question}
 use Rattle.atspi_protocol.specs.declared.following.question.Question.TheVariants.{GetItems, GetPart}

@@ -1,24 +1,20 @@
-use Rattle.std.proofs.Common.{◌≡◌, Bool, true, ℕ, zero, suc, ◌≤◌, List, [], ◌∷◌, ◌++◌, Option, None, Some, refl, sym, ap, ◌∙◌, arith}
+use Rattle.std.proofs.Common.{◌≡◌, Bool, true, ℕ, zero, suc, ◌≤◌, List, [], ◌∷◌, Option, None, Some, refl, sym, ap, ◌∙◌, arith}
 use Rattle.std.specs.Prelude.{◌==◌, bytes_eq, codes, option_map, filter_map, position}
 use lib.Utf8.{encode}
 use Rattle.std.specs.Fmt.{digits}
 use Rattle.atspi_names.specs.Owners.{unique_name}
 use Rattle.atspi_forest.specs.Path.{path_of}
-use Rattle.atspi_forest.specs.declared.step.Step.TheVariants.{Add}
 use Rattle.atspi_lines.specs.declared.line.Party.TheVariants.{App}
 use Rattle.atspi_protocol.specs.declared.news.part.PartName.{PartName}
 use Rattle.atspi_protocol.specs.declared.news.part.PartName.TheVariants.{Text}
 use Rattle.atspi_protocol.specs.declared.following.question.Question.{Question}
 use Rattle.atspi_protocol.specs.declared.following.question.Question.TheVariants.{GetPart}
 use Rattle.atspi_protocol.specs.following.Calls.{asking}
-use Rattle.atspi_trace.specs.Entry.{changed}
 use Rattle.atspi_trace.specs.Ends.{same_party}
 use Rattle.atspi_trace.specs.Hearing.{question_in}
 use Rattle.atspi_lawful.specs.laws.Words.{name_in, hello_of}
-use Rattle.atspi_lawful.specs.examples.Cases.{button}
 use Rattle.atspi_lawful.specs.settled.Cases.{greeted, given_name}
-use Rattle.atspi_lawful.specs.settled.Laws.{IsOfNode}
-use Rattle.atspi_lawful.proofs.OfOrder.Parties.{false_true, no_none, same_some}
+use Rattle.atspi_lawful.proofs.OfOrder.Parties.{false_true, same_some}
 use Rattle.atspi_lawful.proofs.OfSettled.Settling_parts.{part_read}
 use Rattle.atspi_lawful.proofs.settled.examples.what_is_of_a_node.Goals as goal
 

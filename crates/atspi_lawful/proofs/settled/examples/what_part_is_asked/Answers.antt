@@ -1,15 +1,15 @@
 use Rattle.std.proofs.Common.{◌≡◌, ℕ, List, [], ◌∷◌, ◌++◌, true, refl, sym, ap, subst}
 use Rattle.atspi_forest.specs.Path.{path_of}
-use Rattle.atspi_lines.specs.declared.line.Party.TheVariants.{App, Reader}
+use Rattle.atspi_lines.specs.declared.line.Party.TheVariants.{Reader}
 use Rattle.atspi_protocol.specs.declared.news.part.PartName.TheVariants.{Text}
 use Rattle.atspi_protocol.specs.declared.following.question.Question.TheVariants.{GetPart}
 use Rattle.atspi_protocol.specs.following.Calls.{asking}
 use Rattle.atspi_trace.specs.Entry.{Entry, sent, quiet}
 use Rattle.atspi_lawful.specs.caches.Cases.{its_name, told, loaded}
 use Rattle.atspi_lawful.specs.settled.Cases.{asks_text, asked_before}
-use Rattle.atspi_lawful.specs.settled.Laws.{NoLoad, IsPartAsked}
+use Rattle.atspi_lawful.specs.settled.Laws.{NoLoad}
 use Rattle.atspi_lawful.proofs.OfSettled.Settling_parts.{part_read}
-use Rattle.atspi_lawful.proofs.OfSettled.Settling_cases.{part_asked, is_part, NoPart, no_split, no_middle}
+use Rattle.atspi_lawful.proofs.OfSettled.Settling_cases.{part_asked, is_part, no_split, no_middle}
 use Rattle.atspi_lawful.proofs.settled.examples.what_part_is_asked.Goals as goal
 
 pub returns-clause-behind : goal.returns-clause-behind
