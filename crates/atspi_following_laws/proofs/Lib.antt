@@ -1,0 +1,7 @@
+pub mod Found
+pub mod Ways
+pub mod Tests
+pub mod Replies
+pub mod Forgotten
+pub mod GivenUp
+pub mod Starting

@@ -1,0 +1,1 @@
+//! Worked cases, each by hand. The type checker computes them.
