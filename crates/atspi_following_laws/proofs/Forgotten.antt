@@ -1,14 +1,12 @@
 -- Which applications are forgotten.
-use Rattle.std.proofs.Common.{◌≡◌, ℕ, Bool, true, false, List, Option, Some, None, refl, sym, ap, ◌∙◌, inl, inr}
-use Rattle.std.specs.Prelude.{◌⊎◌, is_some}
+use Rattle.std.proofs.Common.{◌≡◌, ℕ, Bool, true, false, List, Option, Some, None, refl, ap, ◌∙◌, inl, inr}
+use Rattle.std.specs.Prelude.{is_some}
 use Rattle.std.specs.Option.{option_map}
 use Rattle.atspi_message.specs.Envelope.{Envelope}
 use Rattle.atspi_forest.specs.declared.news.Item.{Item}
-use Rattle.atspi_protocol.specs.declared.news.part.PartName.{PartName}
 use Rattle.atspi_protocol.specs.news.Replies.{items_told}
 use Rattle.atspi_protocol.specs.declared.following.question.Question.TheVariants.{GetItems}
 use Rattle.atspi_protocol.specs.following.ReaderState.{Followed, ReaderState}
-use Rattle.atspi_protocol.specs.following.Known.{told_end}
 use Rattle.atspi_protocol.specs.following.Replied.{takes_reply, loaded, refused_part, with_items}
 use Rattle.atspi_protocol.specs.following.Takes.{notes, reader_takes, found_in}
 use Rattle.atspi_following_laws.specs.Laws.{IsReplyTo, BeginsAnew, is_known, Forgets}
@@ -40,9 +38,9 @@ forgotten_only s e name known lost =
     told r (Some items) is =
         let now : ReaderState = free (notes s e) in
         let still : is_known (reader_takes s e) name ≡ true =
-            after_reply is_there there_test name (GetItems name) s e r
-            ∙ ap (λ (o : Option (List Item)). is_known (with_items now name o) name) is
-            ∙ items_keep now name items (noting is_there there_test name s e ∙ known) in
+        after_reply is_there there_test name (GetItems name) s e r
+        ∙ ap (λ (o : Option (List Item)). is_known (with_items now name o) name) is
+        ∙ items_keep now name items (noting is_there there_test name s e ∙ known) in
         absurd (true_or_false (is_known (reader_takes s e) name) still lost)
 
     by : BeginsAnew s e name → Forgets s e name

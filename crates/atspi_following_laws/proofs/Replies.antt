@@ -1,5 +1,5 @@
 -- A test of the application with a name, before and after a reply.
-use Rattle.std.proofs.Common.{◌≡◌, ℕ, Bool, true, false, List, [], ◌∷◌, Option, Some, None, refl, sym, ap, subst, ◌∙◌, inl, inr}
+use Rattle.std.proofs.Common.{◌≡◌, ℕ, Bool, true, false, List, Option, Some, None, refl, sym, ap, subst, ◌∙◌, inl, inr}
 use Rattle.std.specs.Prelude.{◌==◌, ◌&&◌, ◌⊎◌, bytes_eq, if◌then◌else◌}
 use Rattle.std.specs.List.{fold}
 use Rattle.std.specs.Option.{option_map}
@@ -20,7 +20,7 @@ use Rattle.atspi_protocol.specs.following.Takes.{notes, reader_takes, found_in}
 use Rattle.atspi_following_laws.specs.Laws.{IsReplyTo, BeginsAnew}
 use Rattle.atspi_following_laws.proofs.Found.{found_changed, found_without, found_all_made}
 use Rattle.atspi_following_laws.proofs.Ways.{free, taken, by_reply, reply_is, reply_is_no_signal, apps_stay}
-use Rattle.atspi_following_laws.proofs.Tests.{IsMild, IsTest, passes, noting, stays, lost_at_end, no_signal_stays}
+use Rattle.atspi_following_laws.proofs.Tests.{IsMild, IsTest, noting, stays, lost_at_end, no_signal_stays}
 
 pub told_mild : (news : News) → IsMild (told_part news)
 told_mild news = record { name = λ app. named app app.view refl; refused = λ app. refuses app app.view refl }

@@ -16,10 +16,10 @@ use Rattle.atspi_protocol.specs.declared.following.question.Question.{Question}
 use Rattle.atspi_protocol.specs.declared.following.question.Question.TheVariants.{Hello, AddMatch, RegisterEvent, GetChildren, GetItems, GetPart}
 use Rattle.atspi_protocol.specs.following.ReaderState.{Followed, Pending, ReaderState}
 use Rattle.atspi_protocol.specs.following.Wishes.{row_wishes, wishes_of, wishes, unknown_parts, is_refused}
-use Rattle.atspi_protocol.specs.following.Known.{made_known, references_among, new_child, with_child, takes_child, told_end, with_end, takes_end}
-use Rattle.atspi_protocol.specs.following.Replied.{is_reply_to, may_answer, with_items, with_part, goes_on_if, is_unique_name_alone, children_signature, replied, takes_reply}
-use Rattle.atspi_protocol.specs.following.Takes.{notes, asks, goes_on, starts, reader_takes}
-use Rattle.atspi_following_laws.specs.Laws.{IsReplyTo, RestsOnlyAtEnd, is_of_start, fails_start, EndsStart, waits_for_start, IsOver, IsOfStart, AsksFirst, AsksInOrder}
+use Rattle.atspi_protocol.specs.following.Known.{made_known, references_among, new_child, with_child, told_end, with_end, takes_end}
+use Rattle.atspi_protocol.specs.following.Replied.{is_reply_to, may_answer, with_items, with_part, goes_on_if, is_unique_name_alone, children_signature, replied}
+use Rattle.atspi_protocol.specs.following.Takes.{notes, asks, goes_on, reader_takes}
+use Rattle.atspi_following_laws.specs.Laws.{IsReplyTo, RestsOnlyAtEnd, is_of_start, fails_start, EndsStart, waits_for_start, IsStartOver, IsOfStart, AsksFirst, AsksInOrder}
 use Rattle.atspi_following_laws.proofs.Ways.{free, taken, by_reply, reply_is, by_asking}
 use Rattle.atspi_following_laws.proofs.Replies.{unnoted, as_noted}
 
@@ -161,31 +161,31 @@ first_late apps question questions e =
     not-true (is_of_start question) (and_parts (is_late question) (list_all is_late questions) (sym (ap (list_all is_late) e) ∙ wishes_late apps)).0
 
 -- where nothing of the start is to come and no call waits, it is over
-over : (now : ReaderState) → now.to_come ≡ [] → now.pending ≡ None → IsOver (goes_on now)
-over now none free = by_asking IsOver now (λ p w. (none, ap waits_for_start free)) (λ w c q. (none, ap waits_for_start free))
+over : (now : ReaderState) → now.to_come ≡ [] → now.pending ≡ None → IsStartOver (goes_on now)
+over now none free = by_asking IsStartOver now (λ p w. (none, ap waits_for_start free)) (λ w c q. (none, ap waits_for_start free))
     (λ question to_come w c. absurd (nothing question to_come (sym c ∙ none)))
     (λ question questions w c q. (none, first_late now.apps question questions q))
   where
     nothing : (question : Question) (to_come : List Question) → question ∷ to_come ≡ [] → ⊥
     nothing question to_come e = absurd cc
 
-pub ended : (s : ReaderState) (e : Envelope) → EndsStart s e → IsOver (reader_takes s e)
+pub ended : (s : ReaderState) (e : Envelope) → EndsStart s e → IsStartOver (reader_takes s e)
 ended s e ends =
     let question : Question = ends.question in
     let r = as_noted question s e ends.reply in
     let now : ReaderState = replied question (free (notes s e)) e in
     let fails : GoesOn true (free (notes s e)) now = subst (λ (b : Bool). GoesOn b (free (notes s e)) now) ends.fails (reply_goes question (free (notes s e)) e (either_kind question (notes s e) e r)) in
     let same : Same now (taken now e) = taken_same now e in
-    subst (λ (t : ReaderState). IsOver (goes_on (taken t e))) (sym (reply_is question (notes s e) e r)) (over (taken now e) (same.0 ∙ fails.0) (same.1 ∙ fails.1))
+    subst (λ (t : ReaderState). IsStartOver (goes_on (taken t e))) (sym (reply_is question (notes s e) e r)) (over (taken now e) (same.0 ∙ fails.0) (same.1 ∙ fails.1))
 
 -- the first of those to come, and the others
 first_of : (question : Question) (s now : ReaderState) → IsOfStart s → s.to_come ≡ question ∷ now.to_come → (is_of_start question ≡ true) × IsOfStart now
 first_of question s now all was = and_parts (is_of_start question) (list_all is_of_start now.to_come) (sym (ap (list_all is_of_start) was) ∙ all)
 
-pub ended_only : (s : ReaderState) (e : Envelope) → IsOfStart s → s.to_come ≢ [] → IsOver (reader_takes s e) → EndsStart s e
+pub ended_only : (s : ReaderState) (e : Envelope) → IsOfStart s → s.to_come ≢ [] → IsStartOver (reader_takes s e) → EndsStart s e
 ended_only s e all some is_over = by (in_order s e)
   where
-    waits : (now : ReaderState) → IsOver now → AsksFirst s now → ⊥
+    waits : (now : ReaderState) → IsStartOver now → AsksFirst s now → ⊥
     waits now is first =
         let yes : is_of_start first.question ≡ true = (first_of first.question s now all first.was).0 in
         let no : is_of_start first.question ≡ false = sym (ap waits_for_start first.waits) ∙ is.1 in

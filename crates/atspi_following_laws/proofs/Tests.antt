@@ -1,6 +1,6 @@
 -- A test of the application with a name, before and after each change that a message makes: the test whether it is known, and whether a part of it is refused.
-use Rattle.std.proofs.Common.{◌≡◌, ℕ, Bool, true, false, List, [], ◌∷◌, Option, Some, None, refl, sym, ap, subst, ◌∙◌, inl, inr}
-use Rattle.std.specs.Prelude.{◌==◌, ◌⊎◌, if◌then◌else◌}
+use Rattle.std.proofs.Common.{◌≡◌, ℕ, Bool, true, false, List, Option, Some, None, refl, sym, ap, ◌∙◌, inl, inr}
+use Rattle.std.specs.Prelude.{◌==◌, ◌⊎◌}
 use Rattle.std.specs.Option.{option_map}
 use Rattle.atspi_message.specs.Envelope.{Envelope}
 use Rattle.atspi_forest.specs.declared.view.Row.{Row}
@@ -9,9 +9,9 @@ use Rattle.atspi_forest.specs.declared.news.Reference.{Reference}
 use Rattle.atspi_forest.specs.Forest.{Forest}
 use Rattle.atspi_protocol.specs.news.NewsOf.{news_of, or_empty}
 use Rattle.atspi_protocol.specs.following.ReaderState.{Followed, ReaderState}
-use Rattle.atspi_protocol.specs.following.Known.{unasked, made_known, new_child, with_child, takes_child, told_end, with_end, takes_end}
+use Rattle.atspi_protocol.specs.following.Known.{made_known, new_child, with_child, takes_child, told_end, with_end, takes_end}
 use Rattle.atspi_protocol.specs.following.Replied.{changed}
-use Rattle.atspi_protocol.specs.following.Takes.{noted, notes, folded, takes_news, goes_on, found_in}
+use Rattle.atspi_protocol.specs.following.Takes.{noted, notes, folded, takes_news, found_in}
 use Rattle.atspi_following_laws.proofs.Found.{IsAsBefore, found_changed, found_without, without_it, found_made}
 use Rattle.atspi_following_laws.proofs.Ways.{taken, no_end, no_child, end_is_no_child}
 

@@ -1,16 +1,16 @@
 -- The ways of a message through a reader: which of its changes each kind of message makes.
-use Rattle.std.proofs.Common.{◌≡◌, ℕ, Bool, true, false, List, [], ◌∷◌, Option, Some, None, refl, sym, ap, subst, ◌∙◌, inl, inr}
+use Rattle.std.proofs.Common.{◌≡◌, ℕ, Bool, true, false, List, [], ◌∷◌, Option, Some, None, refl, sym, ap, subst, inl, inr}
 use Rattle.std.specs.Prelude.{◌==◌, ◌||◌, ◌&&◌, ◌⊎◌, bytes_eq, codes, if◌then◌else◌}
-use Rattle.std.proofs.lemmas.Bool.{eqb-true, and_parts, or_cases, and_left, and_right}
+use Rattle.std.proofs.lemmas.Bool.{eqb-true, and_parts, or_cases}
 use Rattle.std.proofs.lemmas.Slice.Eq.{bytes_eq-Decides}
 use Rattle.atspi_message.specs.Envelope.{Envelope}
 use Rattle.atspi_protocol.specs.ends.Places.{bus}
 use Rattle.atspi_protocol.specs.news.Arguments.{event_in}
 use Rattle.atspi_protocol.specs.news.NewsOf.{event_interface, or_empty}
 use Rattle.atspi_protocol.specs.declared.following.question.Question.{Question}
-use Rattle.atspi_protocol.specs.following.ReaderState.{Followed, Pending, ReaderState}
+use Rattle.atspi_protocol.specs.following.ReaderState.{Pending, ReaderState}
 use Rattle.atspi_protocol.specs.following.Wishes.{wishes}
-use Rattle.atspi_protocol.specs.following.Known.{child_added, is_from, new_child, with_child, takes_child, told_end, ended_name, with_end, takes_end}
+use Rattle.atspi_protocol.specs.following.Known.{child_added, is_from, new_child, takes_child, told_end, ended_name, takes_end}
 use Rattle.atspi_protocol.specs.following.Replied.{ends_call, may_answer, is_reply_to, replied, takes_reply}
 use Rattle.atspi_protocol.specs.following.Takes.{takes_news, asks, asks_first, goes_on}
 use Rattle.atspi_following_laws.specs.Laws.{IsReplyTo}

@@ -1,5 +1,5 @@
 -- What holds of a reader whatever messages it takes: when it rests, which parts it gives up, which applications it forgets, and what ends its start early.
-use Rattle.std.specs.Prelude.{◌≡◌, ◌≢◌, ◌⊎◌, ◌==◌, ◌||◌, ℕ, Bool, true, false, not, List, [], ◌∷◌, Option, None, Some, is_some, bytes_eq}
+use Rattle.std.specs.Prelude.{◌≡◌, ◌⊎◌, ◌==◌, ◌||◌, ℕ, Bool, true, false, not, List, [], ◌∷◌, Option, None, Some, is_some, bytes_eq}
 use Rattle.std.specs.List.{list_all}
 use Rattle.atspi_message.specs.Envelope.{Envelope}
 use Rattle.atspi_protocol.specs.declared.news.part.PartName.{PartName}
@@ -77,8 +77,8 @@ waits_for_start None = false
 waits_for_start (Some p) = is_of_start p.question
 
 -- the start is over: no call of it is to come, and none waits
-abbrev pub IsOver : ReaderState → Type 0
-IsOver s = (s.to_come ≡ []) × (waits_for_start s.pending ≡ false)
+abbrev pub IsStartOver : ReaderState → Type 0
+IsStartOver s = (s.to_come ≡ []) × (waits_for_start s.pending ≡ false)
 
 -- all that is to come is of the start, as it is at the beginning
 abbrev pub IsOfStart : ReaderState → Type 0

@@ -1,4 +1,4 @@
-//! Laws of readers (this profile, "The reader"). Each is the contract of a function that does nothing.
+//! Laws of readers. Each is the contract of a function that does nothing.
 
 ghost use Rattle.std.specs.Prelude.{◌≡◌, ◌≢◌, ◌⊎◌, ℕ, true, false, List, [], None};
 ghost use Rattle.atspi_message.specs.Envelope.{Envelope};
@@ -6,7 +6,7 @@ ghost use Rattle.atspi_lines.specs.declared.deed.Deed.{Deed};
 ghost use Rattle.atspi_protocol.specs.declared.news.part.PartName.{PartName};
 ghost use Rattle.atspi_protocol.specs.following.ReaderState.{ReaderState, begins};
 ghost use Rattle.atspi_protocol.specs.following.Takes.{starts, reader_takes, reader_calls};
-ghost use Rattle.atspi_following_laws.specs.Laws.{RestsOnlyAtEnd, is_given_up, GivesUp, BeginsAnew, is_known, Forgets, EndsStart, IsOver, IsOfStart, AsksInOrder};
+ghost use Rattle.atspi_following_laws.specs.Laws.{RestsOnlyAtEnd, is_given_up, GivesUp, BeginsAnew, is_known, Forgets, EndsStart, IsStartOver, IsOfStart, AsksInOrder};
 
 /// A reader asks on: where no call of its own waits, no call of its start is to come, and there is nothing that it wants to know. So it is once it has started and after each
 /// message, and a user's call leaves it so.
@@ -34,8 +34,8 @@ pub fn applications_are_forgotten()
 
 /// A start of which calls are to come is over after a message only where that is the reply to one of them and fails it; and then it is over.
 pub fn starts_end_early()
-    ensures only { (s : ReaderState) (e : Envelope) → IsOfStart s → s.to_come ≢ [] → IsOver (reader_takes s e) → EndsStart s e }
-    ensures each { (s : ReaderState) (e : Envelope) → EndsStart s e → IsOver (reader_takes s e) }
+    ensures only { (s : ReaderState) (e : Envelope) → IsOfStart s → s.to_come ≢ [] → IsStartOver (reader_takes s e) → EndsStart s e }
+    ensures each { (s : ReaderState) (e : Envelope) → EndsStart s e → IsStartOver (reader_takes s e) }
 {}
 
 /// Otherwise a start goes on in its order. What is to come is of the start, at the beginning and ever after.

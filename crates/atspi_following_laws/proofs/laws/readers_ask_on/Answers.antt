@@ -1,4 +1,3 @@
-use Rattle.atspi_protocol.specs.following.Known.{takes_child, takes_end}
 use Rattle.atspi_protocol.specs.following.Replied.{takes_reply}
 use Rattle.atspi_protocol.specs.following.Takes.{notes}
 use Rattle.atspi_following_laws.proofs.Ways.{taken}
