@@ -3,16 +3,10 @@
 # standard error), the least of RUNS runs, the bytes of the reply that has all items, and the growth from the first size to the last.
 # usage: bench/app.sh [CALLS [RUNS]]
 set -eu
-top=$(cd "$(dirname "$0")/.." && pwd)
 calls=${1:-100000}
 runs=${2:-5}
-(cd "$top/crates/atspi_ends_speed" && rt run -- each) >/dev/null 2>&1 || { echo "it could not be built" >&2; exit 1; }
-program=$top/crates/atspi_ends_speed/out/atspi_ends_speed
-work=$(mktemp -d)
-trap 'rm -rf "$work"' EXIT
-cc -O2 -Wall -Wextra -shared -fPIC -o "$work/clock.so" "$top/bench/clock.c"
+. "$(dirname "$0")/ends.sh"
 
-echo "load: $(cut -d' ' -f1-3 /proc/loadavg), processors: $(nproc)"
 for nodes in 1000 2000 4000 8000; do
     for _run in $(seq "$runs"); do
         LD_PRELOAD=$work/clock.so "$program" app "$nodes" "$calls" 2>&1 | tr -d ',' | tr '\n' ' '

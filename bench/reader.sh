@@ -4,14 +4,9 @@
 # Nanoseconds of processor time (bench/clock.c; the program writes them to standard error), the least of the runs.
 # usage: bench/reader.sh [NEWS [RUNS]]
 set -eu
-top=$(cd "$(dirname "$0")/.." && pwd)
 news=${1:-10000}
 runs=${2:-5}
-(cd "$top/crates/atspi_ends_speed" && rt run -- each) >/dev/null 2>&1 || { echo "it could not be built" >&2; exit 1; }
-program=$top/crates/atspi_ends_speed/out/atspi_ends_speed
-work=$(mktemp -d)
-trap 'rm -rf "$work"' EXIT
-cc -O2 -Wall -Wextra -shared -fPIC -o "$work/clock.so" "$top/bench/clock.c"
+. "$(dirname "$0")/ends.sh"
 
 # numbers WORD..: the numbers that each run of the program with these words writes, a line a run
 numbers() {
@@ -25,7 +20,6 @@ least() {
     awk '{ for (k = 1; k <= NF; k++) if (NR == 1 || $k < all[k]) all[k] = $k; n = NF } END { for (k = 1; k <= n; k++) printf "%d ", all[k] }'
 }
 
-echo "load: $(cut -d' ' -f1-3 /proc/loadavg), processors: $(nproc)"
 for count in 1000 2000 4000 8000; do
     all=$(numbers news "$count" "$news")
     ratios=$(echo "$all" | awk '{ printf "%.2f\n", $1 / $2 }' | sort -n | awk '{ r[NR] = $1 } END { print r[1], r[int((NR + 1) / 2)], r[NR] }')

@@ -15,7 +15,7 @@ use std::alloc::Global;
 use std::time::Instant;
 
 /// Does the work that these words name.
-pub fn run(rt: &HostRuntime, words: &[&str]) -> Result<()> {
+pub(crate) fn run(rt: &HostRuntime, words: &[&str]) -> Result<()> {
     let [shape, count, folds, kind] = words else {
         bail!(
             "a shape, two numbers and a kind are wanted: wide, deep or mixed, items, folds and a kind of news"

@@ -108,7 +108,7 @@ fn write_all(events: &[Event], out: &mut Bytes) -> u64 {
 }
 
 /// Does the work that these words name.
-pub fn run(rt: &HostRuntime, words: &[&str]) -> Result<()> {
+pub(crate) fn run(rt: &HostRuntime, words: &[&str]) -> Result<()> {
     let [rounds] = words else {
         bail!("one word is wanted: a number");
     };

@@ -32,7 +32,7 @@ enum Places {
 }
 
 /// Does the work that these words name.
-pub fn run(rt: &HostRuntime, words: &[&str]) -> Result<()> {
+pub(crate) fn run(rt: &HostRuntime, words: &[&str]) -> Result<()> {
     let [length, typed] = words else {
         bail!("two numbers are wanted");
     };

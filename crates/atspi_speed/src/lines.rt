@@ -41,7 +41,7 @@ fn read_all(alloc: Global) -> u64 {
 }
 
 /// Does the work that these words name.
-pub fn run(rt: &HostRuntime, words: &[&str]) -> Result<()> {
+pub(crate) fn run(rt: &HostRuntime, words: &[&str]) -> Result<()> {
     let [rounds] = words else {
         bail!("one word is wanted: a number");
     };

@@ -22,7 +22,7 @@ const MESSAGE: [u8; 200] = [5; 200];
 const MOST: u32 = 1_000_000;
 
 /// Does the work that these words name.
-pub fn run(rt: &HostRuntime, words: &[&str]) -> Result<()> {
+pub(crate) fn run(rt: &HostRuntime, words: &[&str]) -> Result<()> {
     let [kind, rounds] = words else {
         bail!("two words are wanted: pool, deque or none, and a number");
     };

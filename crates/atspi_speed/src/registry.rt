@@ -24,7 +24,7 @@ struct Work {
 }
 
 /// Does the work that these words name.
-pub fn run(rt: &HostRuntime, words: &[&str]) -> Result<()> {
+pub(crate) fn run(rt: &HostRuntime, words: &[&str]) -> Result<()> {
     let [pairs, listeners, children] = words else {
         bail!("three numbers are wanted: pairs, listeners and children");
     };

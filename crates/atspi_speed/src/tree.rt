@@ -15,7 +15,7 @@ use std::alloc::Global;
 use std::time::Instant;
 
 /// Does the work that these words name.
-pub fn run(rt: &HostRuntime, words: &[&str]) -> Result<()> {
+pub(crate) fn run(rt: &HostRuntime, words: &[&str]) -> Result<()> {
     let [nodes, edits, focuses, walks] = words else {
         bail!("four numbers are wanted: nodes, edits, focuses and walks");
     };

@@ -26,7 +26,7 @@ const TEXTS: &[u8; 56] =
     b"\x05\0\0\0hello\0\0\0\x20\0\0\0/org/a11y/atspi/accessible/12345\0\0\0\0\0\0\0\0";
 
 /// Does the work that these words name.
-pub fn run(rt: &HostRuntime, words: &[&str]) -> Result<()> {
+pub(crate) fn run(rt: &HostRuntime, words: &[&str]) -> Result<()> {
     let [kind, count] = words else {
         bail!("two words are wanted: the work, and a number");
     };
