@@ -1,5 +1,5 @@
 -- The first world: its registry has its names, and the bus handed on nothing yet.
-use Rattle.std.proofs.Common.{◌≡◌, ◌≢◌, ℕ, zero, suc, ◌+◌, ◌<◌, ◌≤◌, ◌^◌, Bool, true, false, cond, List, [], ◌∷◌, length, Option, None, Some, refl, sym, ap, ◌∙◌, subst, arith}
+use Rattle.std.proofs.Common.{◌≡◌, ℕ, zero, suc, ◌+◌, ◌<◌, ◌≤◌, ◌^◌, Bool, true, false, cond, List, [], ◌∷◌, Option, None, Some, refl, sym, ap, ◌∙◌, subst, arith}
 use Rattle.std.specs.Prelude.{◌==◌, codes, unwrap_or}
 use Rattle.std.specs.Fmt.{digits}
 use Rattle.std.specs.List.{AllByRecursion}
@@ -10,7 +10,7 @@ use Rattle.std.specs.FinMap.{get-from_sorted}
 use Rattle.std.proofs.lemmas.Option.{same_Some}
 use Rattle.atspi_types.specs.Elements.{parts_of, are_elements, are_two_or_more}
 use Rattle.atspi_types.specs.Names.{is_bus_name}
-use Rattle.atspi_names.specs.Owners.{list_of, unique_name, HasNoEmptyList, NoneTooEarly}
+use Rattle.atspi_names.specs.Owners.{list_of, unique_name, HasNoEmptyList}
 use Rattle.atspi_names.specs.Queue.{owner_in}
 use Rattle.atspi_names.proofs.BookLemmas.{same_conn, same_name}
 use Rattle.atspi_names.proofs.UniqueLemmas.{is_bus_name-unique_name, unique_name-injective}
@@ -19,9 +19,9 @@ use Rattle.atspi_protocol.specs.ends.Places.{registry}
 use Rattle.atspi_routing.specs.BusState.{unique_of}
 use Rattle.atspi_trace.specs.World.{End, first_unique, first_lists, first_owners, first_bus, first_registry}
 use Rattle.atspi_trace.specs.Ends.{end_at}
-use Rattle.atspi_handed.specs.Known.{IsKnown}
 use Rattle.atspi_handed.specs.Handing.{HandsLetters}
 use Rattle.atspi_handed.specs.Naming.{IsSigned, IsNamed, AreNamed}
+use Rattle.atspi_handed.proofs.Uniques.{ties_not}
 
 first_is : unique_name 0 ≡ codes ":1.0"
 unfolding digits
@@ -128,7 +128,7 @@ first_hands quota few = record {
 }
 
 pub first_named : AreNamed first_owners (first_registry ∷ [])
-first_named = record { each = each; differ = differ; signed = signed }
+first_named = record { each = each; others = others; differ = differ; signed = signed }
   where
     registry_named : IsNamed first_owners 0 first_registry
     registry_named = record {
@@ -140,6 +140,10 @@ first_named = record { each = each; differ = differ; signed = signed }
     each : (conn : ℕ) (e : End) → end_at (first_registry ∷ []) conn ≡ Some e → IsNamed first_owners conn e
     each zero e h = subst (IsNamed first_owners 0) (same_Some first_registry e h) registry_named
     each (suc conn) e h = absurd (none_some e h)
+
+    others : (conn : ℕ) → end_at (first_registry ∷ []) conn ≡ None → unique_of first_owners conn ≡ None
+    others zero h = absurd (none_some first_registry (sym h))
+    others (suc conn) h = unique_is (suc conn) ∙ ap (λ b. cond b (Some (codes ":1.0")) None) (ties_not (suc conn) 0 (λ q. omega (arith, q)))
 
     differ : (j k : ℕ) (d e : End) (name : List ℕ) → end_at (first_registry ∷ []) j ≡ Some d → end_at (first_registry ∷ []) k ≡ Some e → d.unique ≡ Some name → e.unique ≡ Some name → j ≡ k
     differ zero zero d e name a b c u = refl

@@ -6,5 +6,9 @@ pub mod Own
 pub mod Answering
 pub mod Steps
 pub mod Handing
+pub mod Uniques
+pub mod Changing
+pub mod Renaming
 pub mod Naming
+pub mod Joining
 pub mod First

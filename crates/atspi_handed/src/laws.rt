@@ -20,8 +20,8 @@ pub fn what_is_handed_on_is_spelled()
     ensures { LettersAreSpelled }
 {}
 
-/// The unique names of ends differ, those of ends that left too, and a letter bears the name of the end that it is from, or it is the bus's and bears the
-/// bus's: so it is in the first world, and whatever the bus takes, it stays so.
+/// The unique names of ends differ, those of ends that left too, nobody else has one, and a letter bears the name of the end that it is from, or it is the
+/// bus's and bears the bus's: so it is in the first world, and it stays so whoever joins, and whatever the bus takes.
 pub fn letters_bear_the_names_of_their_senders()
     ensures { NamesStay }
 {}
