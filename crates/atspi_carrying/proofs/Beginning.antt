@@ -355,7 +355,7 @@ module _ (quota : ℕ) (role : Role) (room : 1024 ≤ quota) where
       route_one quota (second_taken quota role) owning listening (handed greeting ++ handed granting) (Some name) (plain ask) [] agreeing behind_request takes_ask (refl, tt) (omega (arith, small, more, last, all, room))
 
 has_up : (quota : ℕ) (w : World) (s : BusState) (bytes : List ℕ) (unique : Option (List ℕ)) (said : Said) (rest : List Said) → IsStarting quota w s bytes unique (said ∷ rest) → HasUp w 0
-has_up quota w s bytes unique said rest at = record { the_end = at.one.the_end; first = said; rest = rest; at = ap (λ es. end_at es 0) at.one.ends_are; up = at.one.up_is }
+has_up quota w s bytes unique said rest at = record { the_end = at.one.the_end; first = said; rest = rest; at = ap (λ es. end_at es 0) at.one.ends_are; stands = at.one.stands; up = at.one.up_is }
 
 -- three messages, each with what was written of it
 pub greeted_by : (w : World) (conn : ℕ) (b1 b2 b3 : Bus) (posts1 posts2 posts3 : List Post) (old mid late new : List Event) → (up : IsGreeting w conn) → IsDone (does w (routes conn)) b1 posts1 old mid

@@ -1,5 +1,5 @@
 -- One entry of a list changes.
-use Rattle.std.proofs.Common.{◌≡◌, ℕ, zero, suc, ◌<◌, ◌≤◌, List, [], ◌∷◌, length, map, set, get_or, Some, refl, ap, arith}
+use Rattle.std.proofs.Common.{◌≡◌, ℕ, zero, suc, ◌<◌, ◌≤◌, List, [], ◌∷◌, length, map, set, get_or, Some, refl, sym, ap, arith}
 use Rattle.std.specs.Prelude.{slice_get}
 use Rattle.std.specs.Option.{option_map}
 use Rattle.atspi_carrying.specs.Changes.{changed_at}
@@ -21,6 +21,13 @@ module _ {X : Type 0} where
   changed-set f [] (suc i) y = refl
   changed-set f (x ∷ xs) zero y = refl
   changed-set f (x ∷ xs) (suc i) y = ap (λ l. x ∷ l) (changed-set f xs i y)
+
+  -- an entry is set to what it is
+  pub set_same : (xs : List X) (i : ℕ) (x : X) → slice_get xs i ≡ Some x → set xs i x ≡ xs
+  set_same [] zero x h = refl
+  set_same [] (suc i) x h = refl
+  set_same (y ∷ ys) zero x h = let same : y ≡ x = cc in ap (λ z. z ∷ ys) (sym same)
+  set_same (y ∷ ys) (suc i) x h = ap (λ l. y ∷ l) (set_same ys i x h)
 
   pub length-changed : (f : X → X) (xs : List X) (i : ℕ) → length (changed_at i f xs) ≡ length xs
   length-changed f [] i = refl

@@ -28,8 +28,10 @@ use Rattle.atspi_carrying.specs.Told.{gone, all_gone}
 use Rattle.atspi_carrying.specs.Carried.{standing_at, bytes_up, post_of, IsSendable, AreSendable, HasMark, IsWithin, IsCarried, IsDone}
 use Rattle.atspi_carrying.specs.Segments.{IsWorked}
 use Rattle.atspi_carrying.specs.Moving.{IsLacking, Moves, MovesAt, IsCompleted, MovedSome, MovesSome}
-use Rattle.atspi_carrying.proofs.Changes.{map-changed, map-changed_known, get-map}
+use Rattle.atspi_carrying.proofs.Changes.{map-changed, map-changed_known, get-map, set_same}
+use Rattle.atspi_carrying.specs.Linked.{IsLinked}
 use Rattle.atspi_carrying.proofs.Downs.{wait_same}
+use Rattle.atspi_carrying.proofs.Linked.{linked_same}
 use Rattle.atspi_carrying.proofs.Views.{with-changed, stepped_view, settles, all_with, written_some}
 use Rattle.atspi_carrying.proofs.Ties.{all_at}
 
@@ -70,9 +72,9 @@ rests_so : (w : World) (conn count : ℕ) (e : End) → Moves (post_of e) → e.
 rests_so w conn count e (inl there) none = ap (λ s. next_up w conn count s e.up_moved e.up) (here_is e.standing there) ∙ ap (next_up w conn count here e.up_moved) none
 rests_so w conn count e (inr left) none = ap (λ s. next_up w conn count s e.up_moved e.up) (away_is e.standing left.0)
 
-pub none_moved : (w : World) (conn count : ℕ) (b : Bus) (posts : List Post) (p : Post) (t : List Event) → IsCarried w b posts → slice_get posts conn ≡ Some p → Moves p → p.up ≡ []
-    → IsWorked w (moving_up conn count) b posts t t
-none_moved w conn count b posts p t is there moves none =
+pub none_moved : (w : World) (conn count : ℕ) (b : Bus) (posts : List Post) (p : Post) (given : List (List ℕ)) (t : List Event) → IsCarried w b posts → slice_get posts conn ≡ Some p → Moves p → p.up ≡ []
+    → IsWorked w (moving_up conn count) b posts given given t t
+none_moved w conn count b posts p given t is there moves none =
     let h = has_end w b posts conn p is there in
     let empty : h.the_end.up ≡ [] = no_bytes h.the_end.up (sym (ap (λ (q : Post). q.up) h.post) ∙ none) in
     record {
@@ -80,11 +82,12 @@ none_moved w conn count b posts p t is there moves none =
       entries = [];
       works = at_rest w w (moving_up conn count) (next_is w conn count h.the_end h.at ∙ rests_so w conn count h.the_end (subst Moves h.post moves) empty);
       tied = is;
+      linked = λ l. l;
       wrote = sym (append-nil (entries_of t));
     }
 
 -- its first message
-record HasFirst (w : World) (conn : ℕ) (p : Post) : Type 0 where
+pub record HasFirst (w : World) (conn : ℕ) (p : Post) : Type 0 where
   pub the_end : End
   pub at : end_at w.ends conn ≡ Some the_end
   pub post : p ≡ post_of the_end
@@ -94,7 +97,7 @@ record HasFirst (w : World) (conn : ℕ) (p : Post) : Type 0 where
   pub sends : IsSendable first.message
   pub within : the_end.up_moved < length (written first.message)
 
-has_first : (w : World) (b : Bus) (posts : List Post) (conn : ℕ) (p : Post) → IsCarried w b posts → slice_get posts conn ≡ Some p → (p.up ≡ []) ⊎ HasFirst w conn p
+pub has_first : (w : World) (b : Bus) (posts : List Post) (conn : ℕ) (p : Post) → IsCarried w b posts → slice_get posts conn ≡ Some p → (p.up ≡ []) ⊎ HasFirst w conn p
 has_first w b posts conn p is there =
     by h.the_end.up refl (all_at AreSendable w.ends conn h.the_end is.sendable h.at) (all_at HasMark w.ends conn h.the_end is.marked h.at)
   where
@@ -163,9 +166,9 @@ moved_tie w conn count b posts p f begun is so within =
       waits = wait_same (moves_by count) (λ e. refl) (λ e. refl) w.bus.waiting.queues w.ends conn is.waits;
     }
 
-first_moved : (w : World) (conn count : ℕ) (b : Bus) (posts : List Post) (p : Post) (f : HasFirst w conn p) (begun : ℕ) (t : List Event) → IsCarried w b posts → Moves p → begun ≡ p.begun + count
-    → count < missing f.first.message f.the_end.up_moved → IsWorked w (moving_up conn count) b (set posts conn (record p { begun = begun })) t t
-first_moved w conn count b posts p f begun t is moves so few =
+pub first_moved : (w : World) (conn count : ℕ) (b : Bus) (posts : List Post) (p : Post) (f : HasFirst w conn p) (begun : ℕ) (given : List (List ℕ)) (t : List Event) → IsCarried w b posts → Moves p → begun ≡ p.begun + count
+    → count < missing f.first.message f.the_end.up_moved → IsWorked w (moving_up conn count) b (set posts conn (record p { begun = begun })) given given t t
+first_moved w conn count b posts p f begun given t is moves so few =
     let next : next_of w (moving_up conn count) ≡ rests (moved_up w conn count) =
     next_first w conn count p f moves
     ∙ ap (λ t. if t then cause (routes conn) w (moving_up conn (count - missing f.first.message f.the_end.up_moved)) else rests (moved_up w conn count))
@@ -175,18 +178,19 @@ first_moved w conn count b posts p f begun t is moves so few =
       entries = [];
       works = at_rest w (moved_up w conn count) (moving_up conn count) next;
       tied = moved_tie w conn count b posts p f begun is so (omega (arith, few));
+      linked = λ l. linked_same w conn (moves_by count) given (λ e. (refl, refl, refl, refl, refl)) l;
       wrote = sym (append-nil (entries_of t));
     }
 
-pub some_moved : (w : World) (conn count n : ℕ) (b : Bus) (posts : List Post) (p : Post) (begun : ℕ) (t : List Event) → IsCarried w b posts → slice_get posts conn ≡ Some p → Moves p
-    → IsLacking p (Some n) → count < n → begun ≡ p.begun + count → IsWorked w (moving_up conn count) b (set posts conn (record p { begun = begun })) t t
-some_moved w conn count n b posts p begun t is there moves lacks few so = by (has_first w b posts conn p is there)
+pub some_moved : (w : World) (conn count n : ℕ) (b : Bus) (posts : List Post) (p : Post) (begun : ℕ) (given : List (List ℕ)) (t : List Event) → IsCarried w b posts → slice_get posts conn ≡ Some p → Moves p
+    → IsLacking p (Some n) → count < n → begun ≡ p.begun + count → IsWorked w (moving_up conn count) b (set posts conn (record p { begun = begun })) given given t t
+some_moved w conn count n b posts p begun given t is there moves lacks few so = by (has_first w b posts conn p is there)
   where
-    by : (p.up ≡ []) ⊎ HasFirst w conn p → IsWorked w (moving_up conn count) b (set posts conn (record p { begun = begun })) t t
+    by : (p.up ≡ []) ⊎ HasFirst w conn p → IsWorked w (moving_up conn count) b (set posts conn (record p { begun = begun })) given given t t
     by (inl none) = let clash : Some n ≡ None = lacks.none none in absurd cc
     by (inr f) =
         let same : n ≡ missing f.first.message f.the_end.up_moved = same_Some n (missing f.first.message f.the_end.up_moved) (first_lacks w conn p (Some n) lacks f) in
-        first_moved w conn count b posts p f begun t is moves so (subst (λ k. count < k) same few)
+        first_moved w conn count b posts p f begun given t is moves so (subst (λ k. count < k) same few)
 
 -- the connection of an end that the bus took a message of is there, or its end left
 own_at : (f : End → End) (ends : List End) (conn : ℕ) (e : End) → end_at ends conn ≡ Some e → end_at (with_end conn f ends) conn ≡ Some (f e)
@@ -238,128 +242,33 @@ routed_moves w conn e said rest b posts old new at up stands done =
     (moves_gone s.closed (map post_of called.ends) conn
     (subst (λ l. MovesAt l conn) (sym names) (moves_changed (named_post handed.bus conn) (λ p h. h) (map post_of off.ends) conn conn first)))
 
+-- what is known of a route: the bus took the first message, and what lies at the ends is as in the world behind it
+abbrev pub RoutesSo : Bus → Bus → List Post → List Post → ℕ → List Event → List Event → Type 0
+RoutesSo b b' posts posts' conn old new =
+    (v : World) (e : End) (said : Said) (rest : List Said) → IsCarried v b posts → end_at v.ends conn ≡ Some e → e.up ≡ said ∷ rest → IsDone (does v (routes conn)) b' posts' old new
+
+abbrev pub LinksSo : Bus → List Post → List (List ℕ) → List (List ℕ) → ℕ → Type 0
+LinksSo b posts given given' conn =
+    (v : World) (e : End) (said : Said) (rest : List Said) → IsCarried v b posts → IsLinked v given → end_at v.ends conn ≡ Some e → e.standing ≡ here → e.up ≡ said ∷ rest → IsLinked (does v (routes conn)).world given'
+
 -- the bytes complete it
-pub all_moved : (w : World) (conn count n : ℕ) (b b' : Bus) (posts posts' : List Post) (p : Post) (old new : List Event) → IsCarried w b posts → slice_get posts conn ≡ Some p → Moves p
-    → IsLacking p (Some n) → n ≤ count
-    → ((v : World) (e : End) (said : Said) (rest : List Said) → IsCarried v b posts → end_at v.ends conn ≡ Some e → e.up ≡ said ∷ rest → IsDone (does v (routes conn)) b' posts' old new)
-    → IsCompleted w conn count (count - n) b' posts' old new
-all_moved w conn count n b b' posts posts' p old new is there moves lacks enough routes_ = by (has_first w b posts conn p is there)
+pub all_moved : (w : World) (conn count n : ℕ) (b b' : Bus) (posts posts' : List Post) (p : Post) (given given' : List (List ℕ)) (old new : List Event) → IsCarried w b posts → slice_get posts conn ≡ Some p → Moves p
+    → IsLacking p (Some n) → n ≤ count → RoutesSo b b' posts posts' conn old new → LinksSo b posts given given' conn → IsCompleted w conn count (count - n) b' posts' given given' old new
+all_moved w conn count n b b' posts posts' p given given' old new is there moves lacks enough routes_ links = by (has_first w b posts conn p is there)
   where
-    by : (p.up ≡ []) ⊎ HasFirst w conn p → IsCompleted w conn count (count - n) b' posts' old new
+    by : (p.up ≡ []) ⊎ HasFirst w conn p → IsCompleted w conn count (count - n) b' posts' given given' old new
     by (inl none) = let clash : Some n ≡ None = lacks.none none in absurd cc
     by (inr f) =
         let same : n ≡ missing f.first.message f.the_end.up_moved = same_Some n (missing f.first.message f.the_end.up_moved) (first_lacks w conn p (Some n) lacks f) in
         let done = routes_ w f.the_end f.first f.rest is f.at f.up in
+        let stands = stands_here f.the_end f.first f.rest (subst Moves f.post moves) f.up in
         record {
           next = next_first w conn count p f moves
               ∙ ap (λ t. if t then cause (routes conn) w (moving_up conn (count - missing f.first.message f.the_end.up_moved)) else rests (moved_up w conn count))
               (le-leb (missing f.first.message f.the_end.up_moved) count (subst (λ k. k ≤ count) same enough))
               ∙ ap (λ k. cause (routes conn) w (moving_up conn (count - k))) (sym same);
           done = done;
-          moves = routed_moves w conn f.the_end f.first f.rest b' posts' old new f.at f.up (stands_here f.the_end f.first f.rest (subst Moves f.post moves) f.up) done;
+          linked = λ l. links w f.the_end f.first f.rest is l f.at stands f.up;
+          moves = routed_moves w conn f.the_end f.first f.rest b' posts' old new f.at f.up stands done;
           fewer = (let some = f.within in omega (arith, same, some, enough));
         }
-
--- WHAT WAS DONE SO FAR, and so many bytes are left to move
-pub record Continues (w : World) (conn most left : ℕ) (bus : Bus) (posts : List Post) (old new : List Event) : Type 0 where
-  pub now : World
-  pub entries : List Entry
-  pub tied : IsCarried now bus posts
-  pub moves : MovesAt posts conn
-  pub wrote : entries_of new ≡ entries_of old ++ entries
-  pub completes : (es : List Entry) (u : World) → Works now (moving_up conn left) es u → Works w (moving_up conn most) (entries ++ es) u
-
-pub not_yet : (w : World) (conn most : ℕ) (b : Bus) (posts : List Post) (t : List Event) → IsCarried w b posts → MovesAt posts conn → Continues w conn most most b posts t t
-not_yet w conn most b posts t is moves =
-    record { now = w; entries = []; tied = is; moves = moves; wrote = sym (append-nil (entries_of t)); completes = λ es u h. h }
-
-pub one_more : (w : World) (conn most left rest : ℕ) (b b' : Bus) (posts posts' : List Post) (old mid new : List Event) → (so : Continues w conn most left b posts old mid)
-    → IsCompleted so.now conn left rest b' posts' mid new → Continues w conn most rest b' posts' old new
-one_more w conn most left rest b b' posts posts' old mid new so c =
-    let d : Done = does so.now (routes conn) in
-    record {
-      now = d.world;
-      entries = so.entries ++ d.entries;
-      tied = c.done.tied;
-      moves = c.moves;
-      wrote = c.done.wrote ∙ ap (λ l. l ++ d.entries) so.wrote ∙ append_assoc (entries_of old) so.entries d.entries;
-      completes = λ es u h. subst (λ l. Works w (moving_up conn most) l u) (sym (append_assoc so.entries d.entries es))
-          (so.completes (d.entries ++ es) u (caused so.now so.now u (moving_up conn left) (moving_up conn rest) (routes conn) es c.next h));
-    }
-
-pub no_more : (w : World) (conn most left : ℕ) (b b' : Bus) (posts posts' : List Post) (old mid new : List Event) → (so : Continues w conn most left b posts old mid)
-    → IsWorked so.now (moving_up conn left) b' posts' mid new → IsWorked w (moving_up conn most) b' posts' old new
-no_more w conn most left b b' posts posts' old mid new so k = record {
-  after = k.after;
-  entries = so.entries ++ k.entries;
-  works = so.completes k.entries k.after k.works;
-  tied = k.tied;
-  wrote = k.wrote ∙ ap (λ l. l ++ k.entries) so.wrote ∙ append_assoc (entries_of old) so.entries k.entries;
-}
-
-set_same : {X : Type 0} (xs : List X) (i : ℕ) (x : X) → slice_get xs i ≡ Some x → set xs i x ≡ xs
-set_same [] zero x h = refl
-set_same [] (suc i) x h = refl
-set_same (y ∷ ys) zero x h = ap (λ z. z ∷ ys) (sym (same_Some y x h))
-set_same (y ∷ ys) (suc i) x h = ap (λ l. y ∷ l) (set_same ys i x h)
-
--- where no byte is left to move
-none_left : (w : World) (conn : ℕ) (b : Bus) (posts : List Post) (t : List Event) → IsCarried w b posts → MovesAt posts conn → IsWorked w (moving_up conn 0) b posts t t
-none_left w conn b posts t is m = by (has_first w b posts conn m.post is m.there)
-  where
-    by : (m.post.up ≡ []) ⊎ HasFirst w conn m.post → IsWorked w (moving_up conn 0) b posts t t
-    by (inl none) = none_moved w conn 0 b posts m.post t is m.there m.moves none
-    by (inr f) =
-        let some : 0 < missing f.first.message f.the_end.up_moved = (let within = f.within in omega (arith, within)) in
-        subst (λ l. IsWorked w (moving_up conn 0) b l t t) (set_same posts conn m.post m.there) (first_moved w conn 0 b posts m.post f m.post.begun t is m.moves (sym (add-zero m.post.begun)) some)
-
-pub at_end : (w : World) (conn most left : ℕ) (b : Bus) (posts : List Post) (old new : List Event) → Continues w conn most left b posts old new → left ≡ 0 → IsWorked w (moving_up conn most) b posts old new
-at_end w conn most left b posts old new so none =
-    no_more w conn most left b b posts posts old new new so (subst (λ k. IsWorked so.now (moving_up conn k) b posts new new) (sym none) (none_left so.now conn b posts new so.tied so.moves))
-
--- ONE ROUND, by what is found at the connection
-pub lack_none : (p : Post) (o : Option ℕ) → ((n : ℕ) → o ≡ Some n → ⊥) → IsLacking p o → IsLacking p None
-lack_none p None none h = h
-lack_none p (Some n) none h = absurd (none n refl)
-
-pub no_post : (conn most : ℕ) (b : Bus) (posts : List Post) (t : List Event) → length posts ≤ conn → MovesSome b b posts posts conn most None t t
-no_post conn most b posts t past = λ w is m. let within = slice_get_within posts conn m.post m.there in absurd (omega (arith, within, past))
-
-same_post : (posts : List Post) (conn : ℕ) (p : Post) (m : MovesAt posts conn) → p ≡ get_or posts conn p → p ≡ m.post
-same_post posts conn p m there = there ∙ get_or_from_slice_get posts conn m.post p m.there
-
-pub nothing_lacks : (conn most : ℕ) (b : Bus) (posts : List Post) (p : Post) (t : List Event) → p ≡ get_or posts conn p → IsLacking p None → MovesSome b b posts posts conn most None t t
-nothing_lacks conn most b posts p t there lacks = λ w is m.
-    let lacks_there = subst (λ q. IsLacking q None) (same_post posts conn p m there) lacks in
-    none_moved w conn most b posts m.post t is m.there m.moves (lacks_none w b posts conn m.post is m.there lacks_there)
-
--- the sum of what was moved before and is now does not pass the largest number
-pub few_moved : (conn most n : ℕ) (b : Bus) (posts : List Post) (p q r : Post) (begun : ℕ) (t : List Event) → p ≡ get_or posts conn p → q ≡ get_or posts conn q → IsLacking p (Some n)
-    → n + p.begun ≤ 18446744073709551615 → most < n → begun ≡ min (q.begun + most) 18446744073709551615 → r ≡ record q { begun = begun } → MovesSome b b posts (set posts conn r) conn most None t t
-few_moved conn most n b posts p q r begun t there there' lacks room few so put = λ w is m.
-    let p_is = same_post posts conn p m there in
-    let q_is = same_post posts conn q m there' in
-    let same : p.begun ≡ q.begun = ap (λ (x : Post). x.begun) (p_is ∙ sym q_is) in
-    let sum : begun ≡ q.begun + most = (omega (arith, so, same, room, few)) in
-    subst (λ x. IsWorked w (moving_up conn most) b (set posts conn x) t t) (sym (put ∙ ap (λ (x : Post). record x { begun = begun }) q_is))
-    (some_moved w conn most n b posts m.post begun t is m.there m.moves (subst (λ x. IsLacking x (Some n)) p_is lacks) few (sum ∙ ap (λ (x : Post). x.begun + most) q_is))
-
-pub one_completed : (conn most n : ℕ) (b b' : Bus) (posts posts' : List Post) (p : Post) (old new : List Event) → p ≡ get_or posts conn p → IsLacking p (Some n) → n ≤ most
-    → ((v : World) (e : End) (said : Said) (rest : List Said) → IsCarried v b posts → end_at v.ends conn ≡ Some e → e.up ≡ said ∷ rest → IsDone (does v (routes conn)) b' posts' old new)
-    → MovesSome b b' posts posts' conn most (Some (most - n)) old new
-one_completed conn most n b b' posts posts' p old new there lacks enough routes_ = λ w is m.
-    all_moved w conn most n b b' posts posts' m.post old new is m.there m.moves (subst (λ q. IsLacking q (Some n)) (same_post posts conn p m there) lacks) enough routes_
-
--- one more round, or the last
-pub round_more : (w : World) (conn most left made rest : ℕ) (o : Option ℕ) (b b' : Bus) (posts posts' : List Post) (old mid new : List Event) → Continues w conn most left b posts old mid × (left + made ≤ most) → o ≡ Some rest
-    → MovesSome b b' posts posts' conn left o mid new → Continues w conn most rest b' posts' old new × (rest + (made + 1) ≤ most)
-round_more w conn most left made rest o b b' posts posts' old mid new so is moves_ =
-    let t = so.0 in
-    let done : IsCompleted t.now conn left rest b' posts' mid new = subst (λ x. MovedSome t.now conn left x b' posts' mid new) is (moves_ t.now t.tied t.moves) in
-    (one_more w conn most left rest b b' posts posts' old mid new t done, (let fewer = done.fewer in let within = so.1 in omega (arith, fewer, within)))
-
-pub round_last : (w : World) (conn most left made : ℕ) (o : Option ℕ) (b b' : Bus) (posts posts' : List Post) (old mid new : List Event) → Continues w conn most left b posts old mid × (left + made ≤ most) → o ≡ None
-    → MovesSome b b' posts posts' conn left o mid new → IsWorked w (moving_up conn most) b' posts' old new
-round_last w conn most left made o b b' posts posts' old mid new so is moves_ =
-    let t = so.0 in
-    no_more w conn most left b b' posts posts' old mid new t (subst (λ x. MovedSome t.now conn left x b' posts' mid new) is (moves_ t.now t.tied t.moves))

@@ -74,6 +74,13 @@ given_whole a b conn n g h gives =
     ap (λ l. h ++ l) both.0 ∙ ap (λ l. l ++ drop n (waits_for a conn)) gives.put ∙ append_assoc g (take n (waits_for a conn)) (drop n (waits_for a conn))
     ∙ ap (λ l. g ++ l) (take-append-drop n (waits_for a conn))
 
+-- what waits then, and how much lies there
+pub given_left : (a b : Bus) (conn n : ℕ) (g h : List ℕ) → IsGiven a b g h conn n → waits_for b conn ≡ drop n (waits_for a conn)
+given_left a b conn n g h gives = (both_gone a.waiting.queues conn n 0 (finmap.get a.waiting.queues conn) refl b.waiting.queues (ap (λ (x : Bus). x.waiting.queues) gives.bus)).0
+
+pub given_long : (a b : Bus) (conn n : ℕ) (g h : List ℕ) → IsGiven a b g h conn n → length h ≡ length g + n
+given_long a b conn n g h gives = ap length gives.put ∙ length-append g (take n (waits_for a conn)) ∙ ap (λ k. length g + k) (length-take-le n (waits_for a conn) gives.there)
+
 -- what a message awaits is not more than the message
 pub awaited_within : (m : Envelope) (given waiting rest : List ℕ) (count : ℕ) → IsMessage m (written m) → given ++ waiting ≡ written m ++ rest → length given ≤ length (written m) → IsAwaited given count
     → length given + count ≤ length (written m)
@@ -91,39 +98,50 @@ awaited_within m given waiting rest count is all less awaited = by (cases_lt (le
         let whole = awaited.whole long some in
         omega (arith, whole, same)
 
--- A MESSAGE THAT WAITS COMES DOWN WHOLE, and no byte behind it
-pub filled_whole : (m : Envelope) (a b : Bus) (conn most count : ℕ) (g h rest : List ℕ) → IsFilled a b g h conn most count → IsMessage m (written m) → g ++ waits_for a conn ≡ written m ++ rest
-    → length g ≤ length (written m) → length (waits_for a conn) < most → h ≡ written m
-filled_whole m a b conn most count g h rest filled is all short enough = by (cases_lt (length h) (length (written m)))
+-- a part of a message awaits more
+pub part_awaits : (m : Envelope) (h waiting rest : List ℕ) → IsMessage m (written m) → h ++ waiting ≡ written m ++ rest → length h < length (written m) → AwaitsMore h
+part_awaits m h waiting rest is same less = by (cases_lt (length h) 16)
   where
     s : Stated (written m)
     s = message_states m (written m) is
 
+    by : (length h < 16) ⊎ (16 ≤ length h) → AwaitsMore h
+    by (inl short) = few short
+    by (inr long) =
+        let front : take 16 h ≡ take 16 (written m) = sym (take-append-le 16 h waiting long) ∙ ap (take 16) same ∙ take-append-le 16 (written m) rest s.long in
+        unfinished long (subst IsSoundFront (sym front) s.sound) (let whole : stated h ≡ length (written m) = ap length_in front ∙ s.whole in omega (arith, whole, less))
+
+-- and where more waits it is not the last
+pub part_goes_on : (m : Envelope) (a b : Bus) (conn most count : ℕ) (g h rest : List ℕ) → IsFilled a b g h conn most count → IsMessage m (written m) → g ++ waits_for a conn ≡ written m ++ rest
+    → length h < length (written m) → most ≤ count
+part_goes_on m a b conn most count g h rest filled is all less = by (cases_lt count most)
+  where
     same : h ++ waits_for b conn ≡ written m ++ rest
     same = given_whole a b conn count g h filled.gives ∙ all
 
-    -- a part of it awaits more
-    waits : length h < length (written m) → (length h < 16) ⊎ (16 ≤ length h) → AwaitsMore h
-    waits less (inl short) = few short
-    waits less (inr long) =
-        let front : take 16 h ≡ take 16 (written m) = sym (take-append-le 16 h (waits_for b conn) long) ∙ ap (take 16) same ∙ take-append-le 16 (written m) rest s.long in
-        unfinished long (subst IsSoundFront (sym front) s.sound) (let whole : stated h ≡ length (written m) = ap length_in front ∙ s.whole in omega (arith, whole, less))
+    by : (count < most) ⊎ (most ≤ count) → most ≤ count
+    by (inr done) = done
+    by (inl fewer) =
+        let left : 0 < length (waits_for b conn) = (let sum = ap length same in omega (arith, sum, less, length-append h (waits_for b conn), length-append (written m) rest)) in
+        absurd (filled.stops fewer left (part_awaits m h (waits_for b conn) rest is same less))
+
+-- A MESSAGE THAT WAITS COMES DOWN WHOLE where so many bytes may be moved, and no byte behind it
+pub filled_whole : (m : Envelope) (a b : Bus) (conn most count : ℕ) (g h rest : List ℕ) → IsFilled a b g h conn most count → IsMessage m (written m) → g ++ waits_for a conn ≡ written m ++ rest
+    → length g ≤ length (written m) → length (written m) ≤ length g + most → h ≡ written m
+filled_whole m a b conn most count g h rest filled is all short enough = by (cases_lt (length h) (length (written m)))
+  where
+    same : h ++ waits_for b conn ≡ written m ++ rest
+    same = given_whole a b conn count g h filled.gives ∙ all
 
     by : (length h < length (written m)) ⊎ (length (written m) ≤ length h) → h ≡ written m
     by (inl less) =
-        let left : 0 < length (waits_for b conn) = (let sum = ap length same in omega (arith, sum, less, length-append h (waits_for b conn), length-append (written m) rest)) in
-        let stops = filled.stops (let there = filled.gives.there in omega (arith, there, enough)) left (waits less (cases_lt (length h) 16)) in
-        absurd stops
+        let all_moved = part_goes_on m a b conn most count g h rest filled is all less in
+        let long = given_long a b conn count g h filled.gives in
+        absurd (omega (arith, all_moved, long, less, enough))
     by (inr more) =
         let within = filled.within m rest is all short in
         let long : length h ≡ length (written m) = omega (arith, within, more) in
         sym (take_at h (waits_for b conn) (length (written m)) long) ∙ ap (take (length (written m))) same ∙ take_at (written m) rest (length (written m)) refl
-
-given_left : (a b : Bus) (conn n : ℕ) (g h : List ℕ) → IsGiven a b g h conn n → waits_for b conn ≡ drop n (waits_for a conn)
-given_left a b conn n g h gives = (both_gone a.waiting.queues conn n 0 (finmap.get a.waiting.queues conn) refl b.waiting.queues (ap (λ (x : Bus). x.waiting.queues) gives.bus)).0
-
-given_long : (a b : Bus) (conn n : ℕ) (g h : List ℕ) → IsGiven a b g h conn n → length h ≡ length g + n
-given_long a b conn n g h gives = ap length gives.put ∙ length-append g (take n (waits_for a conn)) ∙ ap (λ k. length g + k) (length-take-le n (waits_for a conn) gives.there)
 
 -- what was given with a piece stays within the message
 pub piece_within : (a b : Bus) (conn n : ℕ) (g h : List ℕ) (m : Envelope) (rest : List ℕ) → IsGiven a b g h conn n → IsAwaited g n → IsMessage m (written m) → g ++ waits_for a conn ≡ written m ++ rest

@@ -1,6 +1,7 @@
 pub mod Beginning
 pub mod Buses
 pub mod Changes
+pub mod Coming
 pub mod Completing
 pub mod Downs
 pub mod Filling
@@ -8,6 +9,7 @@ pub mod Leaving
 pub mod Linked
 pub mod OwnSerials
 pub mod OwnTold
+pub mod Rounds
 pub mod RuleLemmas
 pub mod Senders
 pub mod Telling

@@ -22,13 +22,17 @@ use Rattle.atspi_queues.specs.Change.{with_queue}
 use Rattle.atspi_queues.proofs.Chains.{at_other, queue_of-insert}
 use Rattle.atspi_trace.specs.Entry.{got}
 use Rattle.atspi_trace.specs.Rules.{rule_in}
-use Rattle.atspi_trace.specs.World.{Role, Said, Letter, End, World, newcomer}
+use Rattle.atspi_trace.specs.World.{here, Role, Said, Letter, End, World, newcomer}
 use Rattle.atspi_trace.specs.Ends.{end_at, with_end, put_down, put_up, rest_of, taken_up, taken_down, leaves, stops}
 use Rattle.atspi_trace.specs.Carrying.{Carried, Filled, letter_of, own_letter, grew, with_letter, moved, stepped, left, one_closed, settled, named, with_name, takes, takes_end}
 use Rattle.atspi_trace.specs.Causes.{joins, does, on_end, routed, routes, unjoins, exits, bus_did, without_bytes, missing}
 use Rattle.atspi_handed.specs.Spellable.{IsSpellable}
 use Rattle.atspi_handed.specs.Handing.{IsLetter, AreLetters}
+use Rattle.atspi_handed.specs.Naming.{IsSigned, HasLeft, AreNamed}
 use Rattle.atspi_handed.proofs.Handing.{takes_hands, ends_hands}
+use Rattle.atspi_handed.proofs.Changing.{quiet_change, stopped_named}
+use Rattle.atspi_handed.proofs.Joining.{joined_named}
+use Rattle.atspi_handed.proofs.Naming.{takes_named, ends_named}
 use Rattle.atspi_carrying.specs.Changes.{changed_at}
 use Rattle.atspi_carrying.specs.Told.{emptied, all_emptied}
 use Rattle.atspi_carrying.specs.Downs.{bytes_down, IsBegun, IsWaiting}
@@ -167,17 +171,19 @@ ends_given c conn h none =
 
 -- the world behind it, where what lies at the ends that left is gone
 pub routed_linked : (w : World) (conn : ℕ) (e : End) (said : Said) (rest : List Said) (given given' : List (List ℕ)) (b : Bus) → IsLinked w given → IsSpellable said.message → w.bus.closings ≡ [] → end_at w.ends conn ≡ Some e
-    → e.up ≡ said ∷ rest → b ≡ (takes (record { bus = w.bus; ends = w.ends }) conn e.who said).bus → b.state.next ≤ 4294967296 → given' ≡ all_emptied b.closings given → IsLinked (does w (routes conn)).world given'
-routed_linked w conn e said rest given given' b is spellable none at up same last gone =
+    → e.standing ≡ here → e.up ≡ said ∷ rest → b ≡ (takes (record { bus = w.bus; ends = w.ends }) conn e.who said).bus → b.state.next ≤ 4294967296 → given' ≡ all_emptied b.closings given → IsLinked (does w (routes conn)).world given'
+routed_linked w conn e said rest given given' b is spellable none at stands up same last gone =
     let c : Carried = record { bus = w.bus; ends = w.ends } in
     let d : Carried = takes c conn e.who said in
     let it : does w (routes conn) ≡ bus_did w (got The_bus e.who said.message.serial ∷ []) d = ap (λ o. on_end w o (λ (x : End). routed w conn x.who x.up)) at ∙ ap (routed w conn e.who) up in
-    let hands = takes_hands c conn e.who said is.hands spellable (subst (λ (x : Bus). x.state.next ≤ 4294967296) same last) in
+    let low = subst (λ (x : Bus). x.state.next ≤ 4294967296) same last in
+    let hands = takes_hands c conn e.who said is.hands spellable low in
     subst (λ x. IsLinked x.world given') (sym it)
     (record {
       given_are = gone ∙ ap (λ (x : Bus). all_emptied x.closings given) same ∙ ap (all_emptied d.bus.closings) is.given_are ∙ sym (takes_given c conn e.who said (begun_of w given is) none);
       wait = takes_wait c conn e.who said is.wait;
       hands = record { quota = hands.quota; known = hands.known; letters = hands.letters };
+      named = takes_named c conn e said is.hands is.named at (λ left. subst HasLeft stands left) spellable low;
     })
 
 pub parted_linked : (w : World) (conn : ℕ) (given given' : List (List ℕ)) (b : Bus) → IsLinked w given → w.bus.closings ≡ [] → b ≡ (takes_end (record { bus = w.bus; ends = w.ends }) conn).bus → b.state.next ≤ 4294967296
@@ -185,17 +191,19 @@ pub parted_linked : (w : World) (conn : ℕ) (given given' : List (List ℕ)) (b
 parted_linked w conn given given' b is none same last gone =
     let c : Carried = record { bus = w.bus; ends = w.ends } in
     let d : Carried = takes_end c conn in
-    let hands = ends_hands c conn is.hands (subst (λ (x : Bus). x.state.next ≤ 4294967296) same last) in
+    let low = subst (λ (x : Bus). x.state.next ≤ 4294967296) same last in
+    let hands = ends_hands c conn is.hands low in
     record {
       given_are = gone ∙ ap (λ (x : Bus). all_emptied x.closings (changed_at conn emptied given)) same ∙ ap (λ l. all_emptied d.bus.closings (changed_at conn emptied l)) is.given_are ∙ sym (ends_given c conn (begun_of w given is) none);
       wait = ends_wait c conn is.wait;
       hands = record { quota = hands.quota; known = hands.known; letters = hands.letters };
+      named = ends_named c conn is.hands is.named low;
     }
 
 -- an end that changes, and not its down link
-pub changed_linked : (f : End → End) → ((e : End) → (f e).down ≡ e.down) → ((e : End) → (f e).down_moved ≡ e.down_moved) → (w : World) (conn : ℕ) (given : List (List ℕ)) → IsLinked w given
-    → IsLinked (record w { ends = with_end conn f w.ends }) given
-changed_linked f link mark w conn given is = record {
+changed_linked : (f : End → End) → ((e : End) → (f e).down ≡ e.down) → ((e : End) → (f e).down_moved ≡ e.down_moved) → (w : World) (conn : ℕ) (given : List (List ℕ)) → IsLinked w given
+    → AreNamed w.bus.state.owners (with_end conn f w.ends) → IsLinked (record w { ends = with_end conn f w.ends }) given
+changed_linked f link mark w conn given is named = record {
   given_are = is.given_are ∙ sym (kept_given f (λ e h. ap (λ n. take n (bytes_down (f e).down)) (mark e) ∙ ap (λ l. take e.down_moved (bytes_down l)) (link e)) conn w.ends (begun_of w given is));
   wait = wait_same f link mark w.bus.waiting.queues w.ends conn is.wait;
   hands = record {
@@ -203,10 +211,22 @@ changed_linked f link mark w conn given is = record {
     known = is.hands.known;
     letters = all_with AreLetters f (λ e a. subst (AllByRecursion IsLetter) (sym (link e)) a) conn w.ends is.hands.letters;
   };
+  named = named;
 }
 
-pub exited_linked : (w : World) (conn : ℕ) (given : List (List ℕ)) → IsLinked w given → IsLinked (does w (exits conn)).world given
-exited_linked w conn given is = changed_linked stops (λ e. refl) (λ e. refl) w conn given is
+-- a change that leaves who an end is, its name, how it stands, and its down link
+abbrev pub LeavesDown : (End → End) → Type 0
+LeavesDown f = (e : End) → ((f e).who ≡ e.who) × ((f e).unique ≡ e.unique) × ((f e).standing ≡ e.standing) × ((f e).down ≡ e.down) × ((f e).down_moved ≡ e.down_moved)
+
+pub linked_same : (w : World) (conn : ℕ) (f : End → End) (given : List (List ℕ)) → LeavesDown f → IsLinked w given → IsLinked (record w { ends = with_end conn f w.ends }) given
+linked_same w conn f given same is =
+    changed_linked f (λ e. (same e).3) (λ e. (same e).4) w conn given is
+    (quiet_change f (λ e. ((same e).0, (same e).1, (same e).2)) w.bus.state.owners w.ends conn (λ e a. subst (AllByRecursion (IsSigned w.ends)) (sym (same e).3) a) is.named)
+
+-- an end that is there stops
+pub exited_linked : (w : World) (conn : ℕ) (e : End) (given : List (List ℕ)) → IsLinked w given → end_at w.ends conn ≡ Some e → e.standing ≡ here → IsLinked (does w (exits conn)).world given
+exited_linked w conn e given is at stands =
+    changed_linked stops (λ x. refl) (λ x. refl) w conn given is (stopped_named w.bus.state.owners w.ends conn e at (λ left. subst HasLeft stands left) is.named)
 
 -- an end joins
 at_joined : (ends : List End) (n : End) (conn : ℕ) (e : End) → end_at (ends ++ n ∷ []) conn ≡ Some e → ((end_at ends conn ≡ Some e) × (conn < length ends)) ⊎ ((conn ≡ length ends) × (n ≡ e))
@@ -230,6 +250,7 @@ joined_linked w who role given given' none is more empty =
       given_are = more ∙ ap (λ x. given ++ x ∷ []) empty ∙ ap (λ l. l ++ [] ∷ []) is.given_are ∙ sym (map-append given_of w.ends (n ∷ []));
       wait = λ conn e at. by conn e (at_joined w.ends n conn e at);
       hands = record { quota = is.hands.quota; known = is.hands.known; letters = more_letters w.ends n is.hands.letters tt };
+      named = joined_named w.bus.state.owners w.ends who role [] is.named;
     }
   where
     by : (conn : ℕ) (e : End) → ((end_at w.ends conn ≡ Some e) × (conn < length w.ends)) ⊎ ((conn ≡ length w.ends) × (put_up [] (newcomer who role) ≡ e)) → IsWaiting (finmap.insert w.bus.waiting.queues (length w.ends) []) conn e
@@ -239,99 +260,4 @@ joined_linked w who role given given' none is more empty =
     by conn e (inr b) = record {
       begun = subst (λ (y : End). IsBegun y.down_moved y.down) b.1 refl;
       bytes = ap (queue_of (finmap.insert w.bus.waiting.queues (length w.ends) [])) b.0 ∙ queue_of-insert w.bus.waiting.queues (length w.ends) [] ∙ ap (λ (y : End). drop y.down_moved (bytes_down y.down)) b.1;
-    }
-
--- AN END TAKES THE FIRST MESSAGE OF ITS DOWN LINK: what lay at it is gone, and so is the rest of the message
-abbrev pub off_link : World → ℕ → Envelope → ℕ → World
-off_link w conn m begun = record w { bus = without_bytes conn (missing m begun) w.bus; ends = with_end conn taken_down w.ends }
-
-rest_letters : (letters : List Letter) → AllByRecursion IsLetter letters → AllByRecursion IsLetter (rest_of letters)
-rest_letters [] a = tt
-rest_letters (l ∷ ls) a = a.1
-
-begun_none : (letters : List Letter) → IsBegun 0 letters
-begun_none [] = refl
-begun_none (l ∷ ls) = written_some l.said.message
-
-drop_both : (xs ys : List ℕ) (n : ℕ) → n ≤ length xs → drop (length xs - n) (drop n (xs ++ ys)) ≡ ys
-drop_both xs ys n h =
-    let all : n + (length xs - n) ≡ length xs = omega (arith, h) in
-    drop-drop (length xs - n) n (xs ++ ys) ∙ ap (λ k. drop k (xs ++ ys)) all ∙ drop-append_seam xs ys
-
-pub taken_linked : (w : World) (conn : ℕ) (e : End) (letter : Letter) (rest : List Letter) (given : List (List ℕ)) → IsLinked w given → end_at w.ends conn ≡ Some e → e.down ≡ letter ∷ rest
-    → IsLinked (off_link w conn letter.said.message e.down_moved) (changed_at conn emptied given)
-taken_linked w conn e letter rest given is at link = record {
-  given_are = ap (changed_at conn emptied) is.given_are ∙ sym (ap (map given_of) (with-changed taken_down w.ends conn) ∙ map-changed given_of taken_down emptied (λ x. refl) w.ends conn);
-  wait = λ k x there. by k x (at_changed taken_down w.ends conn k x there);
-  hands = record {
-    quota = is.hands.quota;
-    known = is.hands.known;
-    letters = all_with AreLetters taken_down (λ x a. rest_letters x.down a) conn w.ends is.hands.letters;
-  };
-}
-  where
-    rest_is : drop (missing letter.said.message e.down_moved) (queue_of w.bus.waiting.queues conn) ≡ bytes_down rest
-    rest_is =
-        let within : e.down_moved < length (written letter.said.message) = subst (IsBegun e.down_moved) link (is.wait conn e at).begun in
-        ap (drop (missing letter.said.message e.down_moved)) ((is.wait conn e at).bytes ∙ ap (λ l. drop e.down_moved (bytes_down l)) link)
-        ∙ drop_both (written letter.said.message) (bytes_down rest) e.down_moved (omega (arith, within))
-
-    by : (k : ℕ) (x : End) → ((k ≡ conn) × ((y : End) × ((end_at w.ends k ≡ Some y) × (x ≡ taken_down y)))) ⊎ ((k ≢ conn) × (end_at w.ends k ≡ Some x))
-        → IsWaiting (finmap.insert w.bus.waiting.queues conn (drop (missing letter.said.message e.down_moved) (queue_of w.bus.waiting.queues conn))) k x
-    by k x (inl a) =
-        let same : e ≡ a.1.0 = same_Some e a.1.0 (sym at ∙ ap (end_at w.ends) (sym a.0) ∙ a.1.1.0) in
-        let down : x.down ≡ rest = ap (λ (y : End). y.down) a.1.1.1 ∙ ap (λ (y : End). rest_of y.down) (sym same) ∙ ap rest_of link in
-        let mark : x.down_moved ≡ 0 = ap (λ (y : End). y.down_moved) a.1.1.1 in
-        record {
-          begun = subst (λ n. IsBegun n x.down) (sym mark) (begun_none x.down);
-          bytes = ap (queue_of (finmap.insert w.bus.waiting.queues conn (drop (missing letter.said.message e.down_moved) (queue_of w.bus.waiting.queues conn)))) a.0
-              ∙ queue_of-insert w.bus.waiting.queues conn (drop (missing letter.said.message e.down_moved) (queue_of w.bus.waiting.queues conn)) ∙ rest_is ∙ ap bytes_down (sym down) ∙ ap (λ n. drop n (bytes_down x.down)) (sym mark);
-        }
-    by k x (inr b) =
-        let old = is.wait k x b.1 in
-        record { begun = old.begun; bytes = ap or_nothing (at_other w.bus.waiting.queues conn (drop (missing letter.said.message e.down_moved) (queue_of w.bus.waiting.queues conn)) k b.0) ∙ old.bytes }
-
--- WHAT IS FILLED IN: the first message of the down link, where so many bytes may be moved
-get_set : (xs : List (List ℕ)) (i : ℕ) (x y : List ℕ) → slice_get xs i ≡ Some x → slice_get (slice_set xs i y) i ≡ Some y
-get_set [] zero x y h = absurd cc
-get_set [] (suc i) x y h = absurd cc
-get_set (z ∷ zs) zero x y h = refl
-get_set (z ∷ zs) (suc i) x y h = get_set zs i x y h
-
-queue_there : (queues : FinMap nat_cmp (List ℕ)) (conn : ℕ) (bytes : List ℕ) → 0 < length (queue_of queues conn) → with_queue queues conn bytes ≡ finmap.insert queues conn bytes
-queue_there queues conn bytes some = by (finmap.get queues conn) refl
-  where
-    by : (o : Option (List ℕ)) → finmap.get queues conn ≡ o → with_queue queues conn bytes ≡ finmap.insert queues conn bytes
-    by None none = absurd (let empty = ap (λ o. length (or_nothing o)) none in omega (arith, some, empty))
-    by (Some was) is = ap (λ o. cond (is_some o) (finmap.insert queues conn bytes) queues) is
-
-letters_at : (ends : List End) (conn : ℕ) (e : End) → AllByRecursion AreLetters ends → end_at ends conn ≡ Some e → AreLetters e
-letters_at [] zero e a h = absurd cc
-letters_at [] (suc conn) e a h = absurd cc
-letters_at (x ∷ xs) zero e a h = subst AreLetters (same_Some x e h) a.0
-letters_at (x ∷ xs) (suc conn) e a h = letters_at xs conn e a.1 h
-
-pub filled_is_whole : (w : World) (given given' : List (List ℕ)) (b b' : Bus) (conn most count : ℕ) (e : End) (letter : Letter) (rest : List Letter) → IsLinked w given → b ≡ w.bus → end_at w.ends conn ≡ Some e → e.down ≡ letter ∷ rest
-    → FillsAt b b' given given' conn most count → length (waits_for b conn) < most → IsWhole b b' given' conn letter.said.message e.down_moved
-filled_is_whole w given given' b b' conn most count e letter rest is same at link fills enough =
-    let m = letter.said.message in
-    let bytes = bytes_down e.down in
-    let g = given_of e in
-    let was = is.wait conn e at in
-    let there : slice_get given conn ≡ Some g = ap (λ l. slice_get l conn) is.given_are ∙ get-map given_of w.ends conn ∙ ap (option_map given_of) at in
-    let f = fills g there in
-    let waits : waits_for b conn ≡ drop e.down_moved bytes = ap (λ (x : Bus). waits_for x conn) same ∙ was.bytes in
-    let begun : e.down_moved < length (written m) = subst (IsBegun e.down_moved) link was.begun in
-    let within : e.down_moved ≤ length bytes = begun_within e.down_moved e.down was.begun in
-    let short : length g ≡ e.down_moved = length-take-le e.down_moved bytes within in
-    let all : g ++ waits_for b conn ≡ written m ++ bytes_down rest = ap (λ l. g ++ l) waits ∙ take-append-drop e.down_moved bytes ∙ ap bytes_down link in
-    let spelled : IsMessage m (written m) = (subst (AllByRecursion IsLetter) link (letters_at w.ends conn e is.hands.letters at)).0 in
-    let whole : f.now ≡ written m = filled_whole m b b' conn most count g f.now (bytes_down rest) f.filled spelled all (omega (arith, short, begun)) enough in
-    let long : length f.now ≡ length g + count = ap length f.filled.gives.put ∙ length-append g (take count (waits_for b conn)) ∙ ap (λ k. length g + k) (length-take-le count (waits_for b conn) f.filled.gives.there) in
-    let counted : count ≡ missing m e.down_moved = omega (arith, long, ap length whole, short) in
-    let some : 0 < length (waits_for b conn) = omega (arith, ap length all, length-append g (waits_for b conn), length-append (written m) (bytes_down rest), short, begun) in
-    record {
-      lies = ap (λ l. slice_get l conn) f.ends_are ∙ get_set given conn g f.now there ∙ ap Some whole;
-      bus = f.filled.gives.bus ∙ ap (λ q. record b { waiting = record b.waiting { queues = q } }) (queue_there b.waiting.queues conn (drop count (waits_for b conn)) some)
-          ∙ ap (λ n. popped b conn (drop n (waits_for b conn))) counted;
     }

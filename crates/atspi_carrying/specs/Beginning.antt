@@ -4,18 +4,19 @@ use Rattle.atspi_routing.specs.Queues.{Bus}
 use Rattle.atspi_events.specs.declared.event.Event.{Event}
 use Rattle.atspi_posts.specs.declared.post.Post.{Post}
 use Rattle.atspi_trace.specs.Entry.{Entry, entries_of}
-use Rattle.atspi_trace.specs.World.{Said, End, World}
+use Rattle.atspi_trace.specs.World.{here, Said, End, World}
 use Rattle.atspi_trace.specs.Ends.{end_at}
 use Rattle.atspi_trace.specs.Causes.{does, routes}
 use Rattle.atspi_carrying.specs.Carried.{IsCarried}
 use Rattle.atspi_carrying.specs.Filled.{waits_for, gave}
 
--- a message waits on the up link of a connection
+-- a message waits on the up link of a connection whose end is there
 pub record HasUp (w : World) (conn : ℕ) : Type 0 where
   pub the_end : End
   pub first : Said
   pub rest : List Said
   pub at : end_at w.ends conn ≡ Some the_end
+  pub stands : the_end.standing ≡ here
   pub up : the_end.up ≡ first ∷ rest
 
 -- the bus took it

@@ -10,6 +10,7 @@ use Rattle.atspi_trace.specs.World.{World}
 use Rattle.atspi_trace.specs.Causes.{does, routes}
 use Rattle.atspi_trace.specs.Work.{moving_up, cause, next_of}
 use Rattle.atspi_carrying.specs.Carried.{IsCarried, IsDone}
+use Rattle.atspi_carrying.specs.Linked.{IsLinked}
 use Rattle.atspi_carrying.specs.Segments.{IsWorked}
 
 -- so many bytes of the first message of a link were not moved yet; nothing waits on an empty one
@@ -28,19 +29,21 @@ pub record MovesAt (posts : List Post) (conn : ℕ) : Type 0 where
   pub moves : Moves post
 
 -- the bytes completed the first message, which the bus took; so many more may be moved
-pub record IsCompleted (w : World) (conn most left : ℕ) (bus : Bus) (posts : List Post) (old new : List Event) : Type 0 where
+pub record IsCompleted (w : World) (conn most left : ℕ) (bus : Bus) (posts : List Post) (given given' : List (List ℕ)) (old new : List Event) : Type 0 where
   pub next : next_of w (moving_up conn most) ≡ cause (routes conn) w (moving_up conn left)
   pub done : IsDone (does w (routes conn)) bus posts old new
+  pub linked : IsLinked w given → IsLinked (does w (routes conn)).world given'
   pub moves : MovesAt posts conn
   pub fewer : left < most
 
 -- or they completed none
-abbrev pub MovedSome : World → ℕ → ℕ → Option ℕ → Bus → List Post → List Event → List Event → Type 0
-MovedSome w conn most None bus posts old new = IsWorked w (moving_up conn most) bus posts old new
-MovedSome w conn most (Some left) bus posts old new = IsCompleted w conn most left bus posts old new
+abbrev pub MovedSome : World → ℕ → ℕ → Option ℕ → Bus → List Post → List (List ℕ) → List (List ℕ) → List Event → List Event → Type 0
+MovedSome w conn most None bus posts given given' old new = IsWorked w (moving_up conn most) bus posts given given' old new
+MovedSome w conn most (Some left) bus posts given given' old new = IsCompleted w conn most left bus posts given given' old new
 
-abbrev pub MovesSome : Bus → Bus → List Post → List Post → ℕ → ℕ → Option ℕ → List Event → List Event → Type 0
-MovesSome before after posts posts' conn most left old new = (w : World) → IsCarried w before posts → MovesAt posts conn → MovedSome w conn most left after posts' old new
+abbrev pub MovesSome : Bus → Bus → List Post → List Post → List (List ℕ) → List (List ℕ) → ℕ → ℕ → Option ℕ → List Event → List Event → Type 0
+MovesSome before after posts posts' given given' conn most left old new = (w : World) → IsCarried w before posts → MovesAt posts conn → MovedSome w conn most left after posts' given given' old new
 
-abbrev pub MovesAll : Bus → Bus → List Post → List Post → ℕ → ℕ → List Event → List Event → Type 0
-MovesAll before after posts posts' conn most old new = (w : World) → IsCarried w before posts → MovesAt posts conn → IsWorked w (moving_up conn most) after posts' old new
+abbrev pub MovesAll : Bus → Bus → List Post → List Post → List (List ℕ) → List (List ℕ) → ℕ → ℕ → List Event → List Event → Type 0
+MovesAll before after posts posts' given given' conn most old new =
+    (w : World) → IsCarried w before posts → MovesAt posts conn → IsWorked w (moving_up conn most) after posts' given given' old new

@@ -1,5 +1,5 @@
 -- What is left of a line at work was done, as far as it lies between the ends.
-use Rattle.std.specs.Prelude.{◌≡◌, List, ◌++◌}
+use Rattle.std.specs.Prelude.{◌≡◌, ℕ, List, ◌++◌}
 use Rattle.atspi_routing.specs.Queues.{Bus}
 use Rattle.atspi_events.specs.declared.event.Event.{Event}
 use Rattle.atspi_posts.specs.declared.post.Post.{Post}
@@ -8,11 +8,13 @@ use Rattle.atspi_trace.specs.World.{World}
 use Rattle.atspi_trace.specs.Work.{Work}
 use Rattle.atspi_trace.specs.Works.{Works}
 use Rattle.atspi_carrying.specs.Carried.{IsCarried}
+use Rattle.atspi_carrying.specs.Linked.{IsLinked}
 
--- bus and connections are those of the world at rest, and just the entries of the causes were written
-pub record IsWorked (w : World) (work : Work) (bus : Bus) (posts : List Post) (old new : List Event) : Type 0 where
+-- bus and connections are those of the world at rest, and so is what lies at the ends; just the entries of the causes were written
+pub record IsWorked (w : World) (work : Work) (bus : Bus) (posts : List Post) (given given' : List (List ℕ)) (old new : List Event) : Type 0 where
   pub after : World
   pub entries : List Entry
   pub works : Works w work entries after
   pub tied : IsCarried after bus posts
+  pub linked : IsLinked w given → IsLinked after given'
   pub wrote : entries_of new ≡ entries_of old ++ entries

@@ -5,7 +5,7 @@ ghost use Rattle.atspi_lines.specs.declared.line.Party.TheVariants as parties;
 ghost use Rattle.atspi_bus_steps.specs.Inner.{inner_of, state_of};
 ghost use Rattle.atspi_bus_steps.specs.Sound.{IsSound};
 ghost use Rattle.atspi_trace.specs.Entry.{entries_of};
-ghost use Rattle.atspi_trace.specs.World.{End, World};
+ghost use Rattle.atspi_trace.specs.World.{here, End, World};
 ghost use Rattle.atspi_trace.specs.Ends.{end_at, same_party};
 ghost use Rattle.atspi_trace.specs.Carrying.{all_told, dropped_if, sent_by_bus};
 ghost use Rattle.atspi_trace.specs.Causes.{does, exits, unjoins};
@@ -192,7 +192,8 @@ impl Carrier {
         ensures bus { self.new.bus ≡ self.old.bus }
         ensures does { OnOk result ((w : World) (e : End) → IsCarried w (inner_of self.old.bus) self.old.posts.items → end_at w.ends conn ≡ Some e
             → IsDone (does w (exits conn)) (inner_of self.new.bus) self.new.posts.items self.old.trace.items self.new.trace.items) }
-        ensures linked { OnOk result ((w : World) → IsLinked w self.old.at_end.items → IsLinked (does w (exits conn)).world self.new.at_end.items) }
+        ensures linked { OnOk result ((w : World) (e : End) → IsLinked w self.old.at_end.items → end_at w.ends conn ≡ Some e → e.standing ≡ here
+            → IsLinked (does w (exits conn)).world self.new.at_end.items) }
     {
         let place = conn as usize;
         if place >= self.posts.len() {

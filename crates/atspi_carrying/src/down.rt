@@ -5,6 +5,7 @@ ghost use Rattle.atspi_stream.specs.Stream.{AwaitsMore};
 ghost use Rattle.atspi_bus_steps.specs.Inner.{inner_of, state_of};
 ghost use Rattle.atspi_bus_steps.specs.Sound.{IsSound};
 ghost use Rattle.atspi_carrying.specs.Filled.{gave, waits_for, FillsAt, IsAwaited, IsFilled, IsGiven};
+ghost use Rattle.atspi_carrying.specs.Linked.{BringsDown};
 
 use crate::carrier::Carrier;
 use crate::fault::CarryFault;
@@ -57,6 +58,7 @@ impl Carrier {
         ensures posts { self.new.posts ≡ self.old.posts }
         ensures bus { IfOk result (λ count. inner_of self.new.bus ≡ gave (inner_of self.old.bus) conn count) }
         ensures filled { IfOk result (λ count. FillsAt (inner_of self.old.bus) (inner_of self.new.bus) self.old.at_end.items self.new.at_end.items conn most count) }
+        ensures brings { IfOk result (λ count. BringsDown (inner_of self.old.bus) (inner_of self.new.bus) self.old.posts.items self.old.at_end.items self.new.at_end.items conn most count) }
     {
         let place = conn as usize;
         if place >= self.at_end.len() {

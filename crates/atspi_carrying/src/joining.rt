@@ -6,7 +6,7 @@ ghost use Rattle.atspi_bus_steps.specs.Sound.{IsSound};
 ghost use Rattle.atspi_routing.specs.Queues.{empty_bus};
 ghost use Rattle.atspi_trace.specs.World.{Role, World};
 ghost use Rattle.atspi_trace.specs.Causes.{joins};
-ghost use Rattle.atspi_carrying.specs.Beginning.{IsGreeted, IsGreeting};
+ghost use Rattle.atspi_carrying.specs.Beginning.{with_one_taken, IsGreeted, IsGreeting};
 ghost use Rattle.atspi_carrying.specs.Carried.{IsCarried};
 ghost use Rattle.atspi_carrying.specs.Linked.{IsLinked};
 
@@ -23,6 +23,7 @@ impl Carrier {
         ensures sound { IsSound (state_of result.bus) }
         ensures bus { inner_of result.bus ≡ empty_bus quota }
         ensures posts { result.posts.items ≡ [] }
+        ensures given { result.at_end.items ≡ [] }
         ensures trace { result.trace.items ≡ [] }
     {
         Carrier {
@@ -72,6 +73,8 @@ impl Carrier {
         ensures sound { OnOk result (IsSound (state_of self.new.bus)) }
         ensures greets { OnOk result ((w : World) → IsCarried w (inner_of self.old.bus) self.old.posts.items → IsGreeting w conn
             → IsGreeted w conn (inner_of self.new.bus) self.new.posts.items self.old.trace.items self.new.trace.items) }
+        ensures linked { OnOk result ((w : World) → IsCarried w (inner_of self.old.bus) self.old.posts.items → IsLinked w self.old.at_end.items → IsGreeting w conn
+            → IsLinked (with_one_taken (with_one_taken (with_one_taken w conn) conn) conn) self.new.at_end.items) }
     {
         self.route(conn)?;
         self.route(conn)?;

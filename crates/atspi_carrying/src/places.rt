@@ -29,8 +29,10 @@ pub fn party_named(posts: &[Post], name: Option<&str>) -> Party
     }
 }
 
-/// The application that has or had a unique name.
-pub fn named_app(posts: &[Post], name: &str) -> Option<u32> {
+/// The first application that has or had a unique name.
+pub fn named_app(posts: &[Post], name: &str) -> Option<u32>
+    ensures { result ≡ named.app_named name.now posts.now }
+{
     for post in posts {
         if let Party::App(app) = post.who {
             if post.is_named(name) {

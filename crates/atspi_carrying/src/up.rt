@@ -7,7 +7,7 @@ ghost use Rattle.atspi_forest.specs.Forest.{first_of};
 ghost use Rattle.atspi_routing.specs.BusState.{unique_of};
 ghost use Rattle.atspi_bus_steps.specs.Inner.{inner_of, state_of};
 ghost use Rattle.atspi_bus_steps.specs.Sound.{IsSound};
-ghost use Rattle.atspi_trace.specs.World.{End, Said, World};
+ghost use Rattle.atspi_trace.specs.World.{here, End, Said, World};
 ghost use Rattle.atspi_trace.specs.Ends.{end_at};
 ghost use Rattle.atspi_trace.specs.Causes.{does, routes};
 ghost use Rattle.atspi_carrying.specs.Carried.{IsCarried, IsDone};
@@ -130,7 +130,8 @@ impl Carrier {
             → end_at w.ends conn ≡ Some e → e.up ≡ said ∷ rest
             → IsDone (does w (routes conn)) (inner_of self.new.bus) self.new.posts.items self.old.trace.items self.new.trace.items) }
         ensures linked { OnOk result ((w : World) (e : End) (said : Said) (rest : List Said) → IsCarried w (inner_of self.old.bus) self.old.posts.items
-            → IsLinked w self.old.at_end.items → end_at w.ends conn ≡ Some e → e.up ≡ said ∷ rest → IsLinked (does w (routes conn)).world self.new.at_end.items) }
+            → IsLinked w self.old.at_end.items → end_at w.ends conn ≡ Some e → e.standing ≡ here → e.up ≡ said ∷ rest
+            → IsLinked (does w (routes conn)).world self.new.at_end.items) }
     {
         let place = conn as usize;
         if place >= self.posts.len() {
@@ -149,7 +150,7 @@ impl Carrier {
     fn move_some(&mut self, conn: u32, most: usize) -> Result<Option<usize>, CarryFault>
         requires sound { IsSound (state_of self.old.bus) }
         ensures sound { OnOk result (IsSound (state_of self.new.bus)) }
-        ensures moves { IfOk result (λ left. MovesSome (inner_of self.old.bus) (inner_of self.new.bus) self.old.posts.items self.new.posts.items conn most left self.old.trace.items self.new.trace.items) }
+        ensures moves { IfOk result (λ left. MovesSome (inner_of self.old.bus) (inner_of self.new.bus) self.old.posts.items self.new.posts.items self.old.at_end.items self.new.at_end.items conn most left self.old.trace.items self.new.trace.items) }
     {
         let place = conn as usize;
         if place >= self.posts.len() {
@@ -171,7 +172,7 @@ impl Carrier {
     pub fn move_up(&mut self, conn: u32, most: u32) -> Result<(), CarryFault>
         requires sound { IsSound (state_of self.old.bus) }
         ensures sound { OnOk result (IsSound (state_of self.new.bus)) }
-        ensures moves { OnOk result (MovesAll (inner_of self.old.bus) (inner_of self.new.bus) self.old.posts.items self.new.posts.items conn most self.old.trace.items self.new.trace.items) }
+        ensures moves { OnOk result (MovesAll (inner_of self.old.bus) (inner_of self.new.bus) self.old.posts.items self.new.posts.items self.old.at_end.items self.new.at_end.items conn most self.old.trace.items self.new.trace.items) }
     {
         let mut left = most as usize;
         // each message has a byte that was not moved yet

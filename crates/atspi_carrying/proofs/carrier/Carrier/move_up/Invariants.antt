@@ -4,7 +4,7 @@ use Rattle.atspi_bus_steps.specs.Sound.{IsSound}
 use Rattle.atspi_trace.specs.World.{World}
 use Rattle.atspi_carrying.specs.Carried.{IsCarried}
 use Rattle.atspi_carrying.specs.Moving.{MovesAt}
-use Rattle.atspi_carrying.proofs.Completing.{Continues}
+use Rattle.atspi_carrying.proofs.Rounds.{Continues}
 use Rattle.atspi_carrying.proofs.carrier.Carrier.move_up.Given as goal
 
 -- each round moved a byte at least
@@ -12,5 +12,5 @@ abbrev pub invariant-loop-message : goal.invariant-loop-message
 invariant-loop-message l = record {
   sound : IsSound (state_of l.self.bus);
   moved : (w : World) → IsCarried w (inner_of l.initial.self.bus) l.initial.self.posts.items → MovesAt l.initial.self.posts.items l.conn
-      → Continues w l.conn l.most l.left (inner_of l.self.bus) l.self.posts.items l.initial.self.trace.items l.self.trace.items × (l.left + l._message ≤ l.most);
+      → Continues w l.conn l.most l.left (inner_of l.self.bus) l.self.posts.items l.initial.self.at_end.items l.self.at_end.items l.initial.self.trace.items l.self.trace.items × (l.left + l._message ≤ l.most);
 }

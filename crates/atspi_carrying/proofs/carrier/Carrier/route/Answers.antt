@@ -18,7 +18,7 @@ returns-clause-does c = λ w e said rest is at up.
     (c.in_ok-settle.ensures.ok ∙ ap (λ n. queues.settled n b0) c.joined_count-rounds.ensures) told.bus told.posts told.told
 
 pub returns-clause-linked : goal.returns-clause-linked
-returns-clause-linked c = λ w e said rest is linked at up.
+returns-clause-linked c = λ w e said rest is linked at stands up.
     let s = c.args.self.now in
     let told = c.in_ok-tell_bus.ensures in
     let b0 = inner_of c.route_front.new.bus in
@@ -29,5 +29,5 @@ returns-clause-linked c = λ w e said rest is linked at up.
     let sends = first_sends w c.args.conn e said rest (inner_of s.bus) b0 b1 b1 s.posts.items s.posts.items s.posts.items p q s.trace.items s.trace.items s.trace.items is at up in
     let bus = routed_bus w c.args.conn e said rest (inner_of s.bus) b0 b1 b1 s.posts.items s.posts.items s.posts.items p q s.trace.items c.route_front.new.trace.items s.trace.items is at up p_is
     c.in_ok-route_front.ensures.routes (c.in_ok-settle.ensures.ok ∙ ap (λ n. queues.settled n b0) c.joined_count-rounds.ensures) in
-    routed_linked w c.args.conn e said rest s.at_end.items c.tell_bus.new.self.at_end.items b1 linked (message_spellable said.message (written said.message) sends.is) is.closings_told at up bus
+    routed_linked w c.args.conn e said rest s.at_end.items c.tell_bus.new.self.at_end.items b1 linked (message_spellable said.message (written said.message) sends.is) is.closings_told at stands up bus
     c.in_ok-settle.ensures.sound.ready.last told.given

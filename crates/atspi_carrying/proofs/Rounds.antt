@@ -1,0 +1,139 @@
+-- Bytes of an up link that are moved, round by round: what was done so far, and the last.
+use Rattle.std.proofs.Common.{◌≡◌, ◌⊎◌, inl, inr, ℕ, zero, suc, ◌+◌, ◌-◌, ◌<◌, ◌≤◌, Bool, true, false, List, [], ◌∷◌, ◌++◌, length, map, set, get_or, min, Option, None, Some, refl, sym, ap, ◌∙◌, subst, append_assoc, append-nil, add-zero, arith, length-append}
+use Rattle.std.specs.Prelude.{slice_get, nat_le, if◌then◌else◌}
+use Rattle.std.specs.Option.{option_map}
+use Rattle.std.specs.List.{AllByRecursion}
+use Rattle.std.proofs.lemmas.Bool.{leb-true, le-leb}
+use Rattle.std.proofs.lemmas.List.{length-set}
+use Rattle.std.proofs.lemmas.Option.{same_Some, slice_get_within, get_or_from_slice_get}
+use Rattle.atspi_message.specs.Bytes.{written}
+use Rattle.atspi_routing.specs.BusState.{unique_of}
+use Rattle.atspi_routing.specs.Steps.{bus_takes}
+use Rattle.atspi_routing.specs.Queues.{Bus}
+use Rattle.atspi_routing.specs.declared.closing.Closing.{Closing}
+use Rattle.atspi_forest.specs.Forest.{first_of}
+use Rattle.atspi_events.specs.declared.event.Event.{Event}
+use Rattle.atspi_posts.specs.declared.post.Post.{Post}
+use Rattle.atspi_posts.specs.declared.post.Standing.TheVariants.{Here, Away}
+use Rattle.atspi_trace.specs.Entry.{Entry, entries_of}
+use Rattle.atspi_trace.specs.Rules.{rule_in}
+use Rattle.atspi_trace.specs.World.{Standing, here, stopped, away, Said, End, World}
+use Rattle.atspi_trace.specs.Ends.{end_at, with_end, taken_up}
+use Rattle.atspi_trace.specs.Carrying.{Carried, letter_of, stepped, named, with_name}
+use Rattle.atspi_trace.specs.Causes.{Done, does, on_end, routed, routes, missing}
+use Rattle.atspi_trace.specs.Work.{cause, rests, moving_up, moved_up, next_up, of_end, next_of}
+use Rattle.atspi_trace.specs.Works.{Works, at_rest, caused}
+use Rattle.atspi_carrying.specs.Changes.{changed_at}
+use Rattle.atspi_carrying.specs.Told.{gone, all_gone}
+use Rattle.atspi_carrying.specs.Carried.{standing_at, bytes_up, post_of, IsSendable, AreSendable, HasMark, IsWithin, IsCarried, IsDone}
+use Rattle.atspi_carrying.specs.Segments.{IsWorked}
+use Rattle.atspi_carrying.specs.Moving.{IsLacking, Moves, MovesAt, IsCompleted, MovedSome, MovesSome}
+use Rattle.atspi_carrying.proofs.Changes.{map-changed, map-changed_known, get-map, set_same}
+use Rattle.atspi_carrying.specs.Linked.{IsLinked}
+use Rattle.atspi_carrying.proofs.Downs.{wait_same}
+use Rattle.atspi_carrying.proofs.Linked.{linked_same}
+use Rattle.atspi_carrying.proofs.Views.{with-changed, stepped_view, settles, all_with, written_some}
+use Rattle.atspi_carrying.proofs.Ties.{all_at}
+use Rattle.atspi_carrying.proofs.Completing.{RoutesSo, LinksSo, HasFirst, has_first, none_moved, first_moved, some_moved, lacks_none, all_moved}
+
+-- WHAT WAS DONE SO FAR, and so many bytes are left to move
+pub record Continues (w : World) (conn most left : ℕ) (bus : Bus) (posts : List Post) (given given' : List (List ℕ)) (old new : List Event) : Type 0 where
+  pub now : World
+  pub entries : List Entry
+  pub tied : IsCarried now bus posts
+  pub linked : IsLinked w given → IsLinked now given'
+  pub moves : MovesAt posts conn
+  pub wrote : entries_of new ≡ entries_of old ++ entries
+  pub completes : (es : List Entry) (u : World) → Works now (moving_up conn left) es u → Works w (moving_up conn most) (entries ++ es) u
+
+pub not_yet : (w : World) (conn most : ℕ) (b : Bus) (posts : List Post) (given : List (List ℕ)) (t : List Event) → IsCarried w b posts → MovesAt posts conn → Continues w conn most most b posts given given t t
+not_yet w conn most b posts given t is moves =
+    record { now = w; entries = []; tied = is; linked = λ l. l; moves = moves; wrote = sym (append-nil (entries_of t)); completes = λ es u h. h }
+
+one_more : (w : World) (conn most left rest : ℕ) (b b' : Bus) (posts posts' : List Post) (given given1 given2 : List (List ℕ)) (old mid new : List Event) → (so : Continues w conn most left b posts given given1 old mid)
+    → IsCompleted so.now conn left rest b' posts' given1 given2 mid new → Continues w conn most rest b' posts' given given2 old new
+one_more w conn most left rest b b' posts posts' given given1 given2 old mid new so c =
+    let d : Done = does so.now (routes conn) in
+    record {
+      now = d.world;
+      entries = so.entries ++ d.entries;
+      tied = c.done.tied;
+      linked = λ l. c.linked (so.linked l);
+      moves = c.moves;
+      wrote = c.done.wrote ∙ ap (λ l. l ++ d.entries) so.wrote ∙ append_assoc (entries_of old) so.entries d.entries;
+      completes = λ es u h. subst (λ l. Works w (moving_up conn most) l u) (sym (append_assoc so.entries d.entries es))
+          (so.completes (d.entries ++ es) u (caused so.now so.now u (moving_up conn left) (moving_up conn rest) (routes conn) es c.next h));
+    }
+
+no_more : (w : World) (conn most left : ℕ) (b b' : Bus) (posts posts' : List Post) (given given1 given2 : List (List ℕ)) (old mid new : List Event) → (so : Continues w conn most left b posts given given1 old mid)
+    → IsWorked so.now (moving_up conn left) b' posts' given1 given2 mid new → IsWorked w (moving_up conn most) b' posts' given given2 old new
+no_more w conn most left b b' posts posts' given given1 given2 old mid new so k = record {
+  after = k.after;
+  entries = so.entries ++ k.entries;
+  works = so.completes k.entries k.after k.works;
+  tied = k.tied;
+  linked = λ l. k.linked (so.linked l);
+  wrote = k.wrote ∙ ap (λ l. l ++ k.entries) so.wrote ∙ append_assoc (entries_of old) so.entries k.entries;
+}
+
+-- where no byte is left to move
+none_left : (w : World) (conn : ℕ) (b : Bus) (posts : List Post) (given : List (List ℕ)) (t : List Event) → IsCarried w b posts → MovesAt posts conn → IsWorked w (moving_up conn 0) b posts given given t t
+none_left w conn b posts given t is m = by (has_first w b posts conn m.post is m.there)
+  where
+    by : (m.post.up ≡ []) ⊎ HasFirst w conn m.post → IsWorked w (moving_up conn 0) b posts given given t t
+    by (inl none) = none_moved w conn 0 b posts m.post given t is m.there m.moves none
+    by (inr f) =
+        let some : 0 < missing f.first.message f.the_end.up_moved = (let within = f.within in omega (arith, within)) in
+        subst (λ l. IsWorked w (moving_up conn 0) b l given given t t) (set_same posts conn m.post m.there) (first_moved w conn 0 b posts m.post f m.post.begun given t is m.moves (sym (add-zero m.post.begun)) some)
+
+pub at_end : (w : World) (conn most left : ℕ) (b : Bus) (posts : List Post) (given given' : List (List ℕ)) (old new : List Event) → Continues w conn most left b posts given given' old new → left ≡ 0
+    → IsWorked w (moving_up conn most) b posts given given' old new
+at_end w conn most left b posts given given' old new so none =
+    no_more w conn most left b b posts posts given given' given' old new new so (subst (λ k. IsWorked so.now (moving_up conn k) b posts given' given' new new) (sym none) (none_left so.now conn b posts given' new so.tied so.moves))
+
+-- ONE ROUND, by what is found at the connection
+pub lack_none : (p : Post) (o : Option ℕ) → ((n : ℕ) → o ≡ Some n → ⊥) → IsLacking p o → IsLacking p None
+lack_none p None none h = h
+lack_none p (Some n) none h = absurd (none n refl)
+
+pub no_post : (conn most : ℕ) (b : Bus) (posts : List Post) (given : List (List ℕ)) (t : List Event) → length posts ≤ conn → MovesSome b b posts posts given given conn most None t t
+no_post conn most b posts given t past = λ w is m. let within = slice_get_within posts conn m.post m.there in absurd (omega (arith, within, past))
+
+same_post : (posts : List Post) (conn : ℕ) (p : Post) (m : MovesAt posts conn) → p ≡ get_or posts conn p → p ≡ m.post
+same_post posts conn p m there = there ∙ get_or_from_slice_get posts conn m.post p m.there
+
+pub nothing_lacks : (conn most : ℕ) (b : Bus) (posts : List Post) (p : Post) (given : List (List ℕ)) (t : List Event) → p ≡ get_or posts conn p → IsLacking p None → MovesSome b b posts posts given given conn most None t t
+nothing_lacks conn most b posts p given t there lacks = λ w is m.
+    let lacks_there = subst (λ q. IsLacking q None) (same_post posts conn p m there) lacks in
+    none_moved w conn most b posts m.post given t is m.there m.moves (lacks_none w b posts conn m.post is m.there lacks_there)
+
+-- the sum of what was moved before and is now does not pass the largest number
+pub few_moved : (conn most n : ℕ) (b : Bus) (posts : List Post) (p q r : Post) (begun : ℕ) (given : List (List ℕ)) (t : List Event) → p ≡ get_or posts conn p → q ≡ get_or posts conn q → IsLacking p (Some n)
+    → n + p.begun ≤ 18446744073709551615 → most < n → begun ≡ min (q.begun + most) 18446744073709551615 → r ≡ record q { begun = begun } → MovesSome b b posts (set posts conn r) given given conn most None t t
+few_moved conn most n b posts p q r begun given t there there' lacks room few so put = λ w is m.
+    let p_is = same_post posts conn p m there in
+    let q_is = same_post posts conn q m there' in
+    let same : p.begun ≡ q.begun = ap (λ (x : Post). x.begun) (p_is ∙ sym q_is) in
+    let sum : begun ≡ q.begun + most = (omega (arith, so, same, room, few)) in
+    subst (λ x. IsWorked w (moving_up conn most) b (set posts conn x) given given t t) (sym (put ∙ ap (λ (x : Post). record x { begun = begun }) q_is))
+    (some_moved w conn most n b posts m.post begun given t is m.there m.moves (subst (λ x. IsLacking x (Some n)) p_is lacks) few (sum ∙ ap (λ (x : Post). x.begun + most) q_is))
+
+pub one_completed : (conn most n : ℕ) (b b' : Bus) (posts posts' : List Post) (p : Post) (given given' : List (List ℕ)) (old new : List Event) → p ≡ get_or posts conn p → IsLacking p (Some n) → n ≤ most
+    → RoutesSo b b' posts posts' conn old new → LinksSo b posts given given' conn → MovesSome b b' posts posts' given given' conn most (Some (most - n)) old new
+one_completed conn most n b b' posts posts' p given given' old new there lacks enough routes_ links = λ w is m.
+    all_moved w conn most n b b' posts posts' m.post given given' old new is m.there m.moves (subst (λ q. IsLacking q (Some n)) (same_post posts conn p m there) lacks) enough routes_ links
+
+-- one more round, or the last
+pub round_more : (w : World) (conn most left made rest : ℕ) (o : Option ℕ) (b b' : Bus) (posts posts' : List Post) (given given1 given2 : List (List ℕ)) (old mid new : List Event)
+    → Continues w conn most left b posts given given1 old mid × (left + made ≤ most) → o ≡ Some rest → MovesSome b b' posts posts' given1 given2 conn left o mid new
+    → Continues w conn most rest b' posts' given given2 old new × (rest + (made + 1) ≤ most)
+round_more w conn most left made rest o b b' posts posts' given given1 given2 old mid new so is moves_ =
+    let t = so.0 in
+    let done : IsCompleted t.now conn left rest b' posts' given1 given2 mid new = subst (λ x. MovedSome t.now conn left x b' posts' given1 given2 mid new) is (moves_ t.now t.tied t.moves) in
+    (one_more w conn most left rest b b' posts posts' given given1 given2 old mid new t done, (let fewer = done.fewer in let within = so.1 in omega (arith, fewer, within)))
+
+pub round_last : (w : World) (conn most left made : ℕ) (o : Option ℕ) (b b' : Bus) (posts posts' : List Post) (given given1 given2 : List (List ℕ)) (old mid new : List Event)
+    → Continues w conn most left b posts given given1 old mid × (left + made ≤ most) → o ≡ None → MovesSome b b' posts posts' given1 given2 conn left o mid new → IsWorked w (moving_up conn most) b' posts' given given2 old new
+round_last w conn most left made o b b' posts posts' given given1 given2 old mid new so is moves_ =
+    let t = so.0 in
+    no_more w conn most left b b' posts posts' given given1 given2 old mid new t (subst (λ x. MovedSome t.now conn left x b' posts' given1 given2 mid new) is (moves_ t.now t.tied t.moves))
