@@ -1,6 +1,6 @@
 -- Bytes come down to an end: what lies at it then, and the world that bus, connections and ends are.
-use Rattle.std.proofs.Common.{◌≡◌, ◌≢◌, ◌⊎◌, inl, inr, ℕ, zero, suc, ◌+◌, ◌<◌, ◌≤◌, Bool, true, false, List, [], ◌∷◌, ◌++◌, length, map, take, drop, set, cond, Option, None, Some, refl, sym, ap, ◌∙◌, subst, append_assoc, append-nil, take-add, arith}
-use Rattle.std.specs.Prelude.{◌-◌, is_some, nat_le, slice_get, slice_set}
+use Rattle.std.proofs.Common.{◌≡◌, ◌≢◌, ◌⊎◌, inl, inr, ℕ, zero, suc, ◌+◌, ◌<◌, ◌≤◌, Bool, true, false, List, [], ◌∷◌, ◌++◌, length, map, take, drop, set, get_or, cond, Option, None, Some, refl, sym, ap, ◌∙◌, subst, append_assoc, append-nil, take-add, arith}
+use Rattle.std.specs.Prelude.{◌-◌, is_some, nat_le, slice_get, slice_set, Result, Ok, Err, IfOk}
 use Rattle.std.specs.Option.{option_map}
 use Rattle.std.specs.List.{AllByRecursion}
 use Rattle.std.specs.FinMap as finmap
@@ -9,7 +9,7 @@ use Rattle.std.specs.Ordering.{nat_cmp}
 use Rattle.std.proofs.Math.Seq.{drop-append_seam, drop-nil}
 use Rattle.std.proofs.lemmas.Bool.{leb-true, leb-false, le-leb}
 use Rattle.std.proofs.lemmas.List.{length-append, drop-drop, length-take-le, take-append-drop}
-use Rattle.std.proofs.lemmas.Option.{same_Some}
+use Rattle.std.proofs.lemmas.Option.{same_Some, slice_get_within, get_or_from_slice_get}
 use Rattle.atspi_message.specs.Envelope.{Envelope}
 use Rattle.atspi_message.specs.Bytes.{IsMessage, written}
 use Rattle.atspi_stream.proofs.StreamLaws.{Stated, message_states}
@@ -28,7 +28,7 @@ use Rattle.atspi_carrying.specs.Carried.{post_of, AreSendable, HasMark, IsCarrie
 use Rattle.atspi_carrying.specs.Changes.{changed_at}
 use Rattle.atspi_carrying.specs.Told.{emptied}
 use Rattle.atspi_carrying.specs.Downs.{bytes_down, IsBegun, IsWaiting, Wait}
-use Rattle.atspi_carrying.specs.Filled.{waits_for, IsFilledAt, FillsAt}
+use Rattle.atspi_carrying.specs.Filled.{waits_for, gave, IsFilled, IsFilledAt, FillsAt}
 use Rattle.atspi_carrying.specs.Linked.{given_of, IsLinked, IsWhole, IsStill, CameWhole, CameInPart, BringsDown}
 use Rattle.atspi_carrying.proofs.Beginning.{gave_none}
 use Rattle.atspi_carrying.proofs.Changes.{map-changed, map-changed_known, map-kept, get-map, set_same}
@@ -263,6 +263,17 @@ brings_down b b' posts given given' conn most count few fills = λ w e carried i
   whole = λ letter rest link enough. whole_comes w given given' b b' posts conn most count e carried is at fills letter rest link (leb-true (missing letter.said.message e.down_moved) most enough);
   part = λ letter rest link less. part_comes w given given' b b' posts conn most count e carried is at fills letter rest link few (leb-false (missing letter.said.message e.down_moved) most less);
 }
+
+-- the same by what is found at the connection: nobody, or what lies at its end
+pub none_there : (b : Bus) (posts : List Post) (given : List (List ℕ)) (conn most : ℕ) → length given ≤ conn → BringsDown b b posts given given conn most 0
+none_there b posts given conn most past = brings_down b b posts given given conn most 0 (omega arith) (λ g there. absurd (let within = slice_get_within given conn g there in omega (arith, within, past)))
+
+pub one_there : {F : Type 0} (r : Result ℕ F) (b b' : Bus) (posts : List Post) (given : List (List ℕ)) (conn most : ℕ) (lay lies : List ℕ) → lay ≡ get_or given conn lay → IfOk r (λ count. count ≤ most)
+    → IfOk r (λ count. IsFilled b b' lay lies conn most count) → IfOk r (λ count. BringsDown b b' posts given (slice_set given conn lies) conn most count)
+one_there (Ok count) b b' posts given conn most lay lies at few filled =
+    brings_down b b' posts given (slice_set given conn lies) conn most count few
+    (λ g there. record { now = lies; ends_are = refl; filled = subst (λ l. IsFilled b b' l lies conn most count) (at ∙ get_or_from_slice_get given conn g lay there) filled })
+one_there (Err fault) b b' posts given conn most lay lies at few filled = tt
 
 -- the largest number of bytes is enough for each message
 pub always_enough : (m : Envelope) (moved : ℕ) → IsMessage m (written m) → nat_le (missing m moved) 18446744073709551615 ≡ true

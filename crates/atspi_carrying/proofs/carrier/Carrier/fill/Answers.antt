@@ -1,14 +1,18 @@
 use Rattle.std.proofs.Common.{sym, arith}
 use Rattle.atspi_bus_steps.specs.Inner.{inner_of}
 use Rattle.atspi_carrying.proofs.Beginning.{gave_none}
-use Rattle.atspi_carrying.proofs.Coming.{brings_down}
+use Rattle.atspi_carrying.proofs.Coming.{none_there, one_there}
 use Rattle.atspi_carrying.proofs.carrier.Carrier.fill.Goals as goal
 
 pub returns-then-place-len-clause-bus : goal.returns-then-place-len-clause-bus
 returns-then-place-len-clause-bus c = sym (gave_none (inner_of c.args.self.now.bus) c.args.conn)
 
 pub returns-then-place-len-clause-brings : goal.returns-then-place-len-clause-brings
-returns-then-place-len-clause-brings c = brings_down _ _ _ _ _ _ _ _ (omega arith) _
+returns-then-place-len-clause-brings c =
+    let s = c.args.self.now in
+    none_there (inner_of s.bus) s.posts.items s.at_end.items c.args.conn c.args.most (omega (arith, c.if-place-len.true, c.len.ensures))
 
 pub returns-clause-brings : goal.returns-clause-brings
-returns-clause-brings c = _
+returns-clause-brings c =
+    let s = c.args.self.now in
+    one_there c.fill.result (inner_of s.bus) (inner_of c.fill.new.bus) s.posts.items s.at_end.items c.args.conn c.args.most c.index_mut.result.now c.fill.new.at_end c.index_mut.ensures.value c.fill.ensures.most c.fill.ensures.filled
