@@ -97,7 +97,7 @@ nobody_closed zero c h = refl
 nobody_closed (suc n) c h = ap (λ d. settled n (one_closed c d)) h ∙ nobody_closed n c h
 
 -- nothing waits for one end alone, and nobody waits where nobody is
-one_waits : (q : FinMap nat_cmp (List ℕ)) (x : End) → x.down ≡ [] → x.down_moved ≡ 0 → queue_of q 0 ≡ [] → Wait q (x ∷ [])
+pub one_waits : (q : FinMap nat_cmp (List ℕ)) (x : End) → x.down ≡ [] → x.down_moved ≡ 0 → queue_of q 0 ≡ [] → Wait q (x ∷ [])
 one_waits q x link mark none = λ conn e at. by conn e at
   where
     by : (conn : ℕ) (e : End) → end_at (x ∷ []) conn ≡ Some e → IsWaiting q conn e

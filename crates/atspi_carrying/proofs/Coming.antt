@@ -1,5 +1,5 @@
 -- Bytes come down to an end: what lies at it then, and the world that bus, connections and ends are.
-use Rattle.std.proofs.Common.{◌≡◌, ◌≢◌, ◌⊎◌, inl, inr, ℕ, zero, suc, ◌+◌, ◌<◌, ◌≤◌, Bool, true, false, List, [], ◌∷◌, ◌++◌, length, map, take, drop, set, get_or, cond, Option, None, Some, refl, sym, ap, ◌∙◌, subst, append_assoc, append-nil, take-add, arith}
+use Rattle.std.proofs.Common.{◌≡◌, ◌≢◌, ◌⊎◌, inl, inr, ℕ, zero, suc, ◌+◌, ◌<◌, ◌≤◌, true, List, [], ◌∷◌, ◌++◌, length, map, take, drop, get_or, cond, Option, None, Some, refl, sym, ap, ◌∙◌, subst, append-nil, take-add, arith}
 use Rattle.std.specs.Prelude.{◌-◌, is_some, nat_le, slice_get, slice_set, Result, Ok, Err, IfOk}
 use Rattle.std.specs.Option.{option_map}
 use Rattle.std.specs.List.{AllByRecursion}
@@ -274,6 +274,17 @@ one_there (Ok count) b b' posts given conn most lay lies at few filled =
     brings_down b b' posts given (slice_set given conn lies) conn most count few
     (λ g there. record { now = lies; ends_are = refl; filled = subst (λ l. IsFilled b b' l lies conn most count) (at ∙ get_or_from_slice_get given conn g lay there) filled })
 one_there (Err fault) b b' posts given conn most lay lies at few filled = tt
+
+-- where bytes wait a letter does; where none do and none lie at the end, neither does one
+pub letter_waits : (w : World) (b : Bus) (posts : List Post) (given : List (List ℕ)) (conn : ℕ) (e : End) → IsCarried w b posts → IsLinked w given → end_at w.ends conn ≡ Some e → 0 < length (waits_for b conn)
+    → (letter : Letter) × ((rest : List Letter) × (e.down ≡ letter ∷ rest))
+letter_waits w b posts given conn e carried is at some = by e.down refl
+  where
+    by : (letters : List Letter) → e.down ≡ letters → (letter : Letter) × ((rest : List Letter) × (e.down ≡ letter ∷ rest))
+    by [] link =
+        let nothing = ap (λ (x : Bus). waits_for x conn) carried.bus_is ∙ (is.wait conn e at).bytes ∙ ap (λ l. drop e.down_moved (bytes_down l)) link ∙ drop-nil e.down_moved in
+        absurd (let none = ap length nothing in omega (arith, none, some))
+    by (letter ∷ rest) link = (letter, (rest, link))
 
 -- the largest number of bytes is enough for each message
 pub always_enough : (m : Envelope) (moved : ℕ) → IsMessage m (written m) → nat_le (missing m moved) 18446744073709551615 ≡ true

@@ -1,11 +1,11 @@
 -- Bytes of an up link that are moved, and what they complete.
-use Rattle.std.proofs.Common.{◌≡◌, ◌⊎◌, inl, inr, ℕ, zero, suc, ◌+◌, ◌-◌, ◌<◌, ◌≤◌, Bool, true, false, List, [], ◌∷◌, ◌++◌, length, map, set, get_or, min, Option, None, Some, refl, sym, ap, ◌∙◌, subst, append_assoc, append-nil, add-zero, arith, length-append}
+use Rattle.std.proofs.Common.{◌≡◌, ◌⊎◌, inl, inr, ℕ, zero, suc, ◌+◌, ◌-◌, ◌<◌, ◌≤◌, Bool, true, false, List, [], ◌∷◌, ◌++◌, length, map, set, Option, None, Some, refl, sym, ap, ◌∙◌, subst, append-nil, arith, length-append}
 use Rattle.std.specs.Prelude.{slice_get, nat_le, if◌then◌else◌}
 use Rattle.std.specs.Option.{option_map}
 use Rattle.std.specs.List.{AllByRecursion}
 use Rattle.std.proofs.lemmas.Bool.{leb-true, le-leb}
 use Rattle.std.proofs.lemmas.List.{length-set}
-use Rattle.std.proofs.lemmas.Option.{same_Some, slice_get_within, get_or_from_slice_get}
+use Rattle.std.proofs.lemmas.Option.{same_Some}
 use Rattle.atspi_message.specs.Bytes.{written}
 use Rattle.atspi_routing.specs.BusState.{unique_of}
 use Rattle.atspi_routing.specs.Steps.{bus_takes}
@@ -15,20 +15,20 @@ use Rattle.atspi_forest.specs.Forest.{first_of}
 use Rattle.atspi_events.specs.declared.event.Event.{Event}
 use Rattle.atspi_posts.specs.declared.post.Post.{Post}
 use Rattle.atspi_posts.specs.declared.post.Standing.TheVariants.{Here, Away}
-use Rattle.atspi_trace.specs.Entry.{Entry, entries_of}
+use Rattle.atspi_trace.specs.Entry.{entries_of}
 use Rattle.atspi_trace.specs.Rules.{rule_in}
 use Rattle.atspi_trace.specs.World.{Standing, here, stopped, away, Said, End, World}
 use Rattle.atspi_trace.specs.Ends.{end_at, with_end, taken_up}
 use Rattle.atspi_trace.specs.Carrying.{Carried, letter_of, stepped, named, with_name}
 use Rattle.atspi_trace.specs.Causes.{Done, does, on_end, routed, routes, missing}
 use Rattle.atspi_trace.specs.Work.{cause, rests, moving_up, moved_up, next_up, of_end, next_of}
-use Rattle.atspi_trace.specs.Works.{Works, at_rest, caused}
+use Rattle.atspi_trace.specs.Works.{at_rest}
 use Rattle.atspi_carrying.specs.Changes.{changed_at}
 use Rattle.atspi_carrying.specs.Told.{gone, all_gone}
 use Rattle.atspi_carrying.specs.Carried.{standing_at, bytes_up, post_of, IsSendable, AreSendable, HasMark, IsWithin, IsCarried, IsDone}
 use Rattle.atspi_carrying.specs.Segments.{IsWorked}
-use Rattle.atspi_carrying.specs.Moving.{IsLacking, Moves, MovesAt, IsCompleted, MovedSome, MovesSome}
-use Rattle.atspi_carrying.proofs.Changes.{map-changed, map-changed_known, get-map, set_same}
+use Rattle.atspi_carrying.specs.Moving.{IsLacking, Moves, MovesAt, IsCompleted}
+use Rattle.atspi_carrying.proofs.Changes.{map-changed, map-changed_known, get-map}
 use Rattle.atspi_carrying.specs.Linked.{IsLinked}
 use Rattle.atspi_carrying.proofs.Downs.{wait_same}
 use Rattle.atspi_carrying.proofs.Linked.{linked_same}

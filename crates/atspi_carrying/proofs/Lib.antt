@@ -12,6 +12,8 @@ pub mod OwnTold
 pub mod Rounds
 pub mod RuleLemmas
 pub mod Senders
+pub mod Starting
 pub mod Telling
 pub mod Ties
+pub mod Turning
 pub mod Views

@@ -1,16 +1,11 @@
 -- What lies at the ends is the front of their down links, whatever the bus takes.
-use Rattle.std.proofs.Common.{◌≡◌, ◌≢◌, ◌⊎◌, inl, inr, ℕ, zero, suc, ◌+◌, ◌<◌, ◌≤◌, Bool, true, false, List, [], ◌∷◌, ◌++◌, length, map, take, drop, cond, Option, None, Some, refl, sym, ap, ◌∙◌, subst, append_assoc, append-nil, arith}
-use Rattle.std.specs.Prelude.{◌-◌, is_some, slice_get, slice_set, if◌then◌else◌}
-use Rattle.std.specs.Option.{option_map}
+use Rattle.std.proofs.Common.{◌≡◌, ◌⊎◌, inl, inr, ℕ, zero, suc, ◌<◌, ◌≤◌, Bool, true, false, List, [], ◌∷◌, ◌++◌, length, map, take, drop, Some, refl, sym, ap, ◌∙◌, subst, append_assoc, append-nil, arith}
+use Rattle.std.specs.Prelude.{◌-◌, if◌then◌else◌}
 use Rattle.std.specs.List.{fold, AllByRecursion}
 use Rattle.std.specs.FinMap as finmap
-use Rattle.std.specs.FinMap.{FinMap}
-use Rattle.std.specs.Ordering.{nat_cmp}
-use Rattle.std.proofs.lemmas.List.{map-append, length-append, drop-drop, length-take-le, take-append-le, take-append-drop}
-use Rattle.std.proofs.Math.Seq.{drop-append_seam}
+use Rattle.std.proofs.lemmas.List.{map-append, take-append-le}
 use Rattle.std.proofs.lemmas.Option.{same_Some}
 use Rattle.atspi_message.specs.Envelope.{Envelope}
-use Rattle.atspi_message.specs.Bytes.{IsMessage, written}
 use Rattle.atspi_lines.specs.declared.line.Party.{Party}
 use Rattle.atspi_lines.specs.declared.line.Party.TheVariants.{Bus as The_bus}
 use Rattle.atspi_routing.specs.declared.closing.Why.{Why}
@@ -18,14 +13,13 @@ use Rattle.atspi_routing.specs.declared.closing.Closing.{Closing}
 use Rattle.atspi_routing.specs.Steps.{Move, says, delivers, closes, BusStep, bus_takes, bus_leaves}
 use Rattle.atspi_routing.specs.Queues as queues
 use Rattle.atspi_routing.specs.Queues.{Waiting, Bus, or_nothing, queue_of, popped}
-use Rattle.atspi_queues.specs.Change.{with_queue}
 use Rattle.atspi_queues.proofs.Chains.{at_other, queue_of-insert}
 use Rattle.atspi_trace.specs.Entry.{got}
 use Rattle.atspi_trace.specs.Rules.{rule_in}
 use Rattle.atspi_trace.specs.World.{here, Role, Said, Letter, End, World, newcomer}
-use Rattle.atspi_trace.specs.Ends.{end_at, with_end, put_down, put_up, rest_of, taken_up, taken_down, leaves, stops}
+use Rattle.atspi_trace.specs.Ends.{end_at, with_end, put_down, put_up, taken_up, leaves, stops}
 use Rattle.atspi_trace.specs.Carrying.{Carried, Filled, letter_of, own_letter, grew, with_letter, moved, stepped, left, one_closed, settled, named, with_name, takes, takes_end}
-use Rattle.atspi_trace.specs.Causes.{joins, does, on_end, routed, routes, unjoins, exits, bus_did, without_bytes, missing}
+use Rattle.atspi_trace.specs.Causes.{joins, does, on_end, routed, routes, unjoins, exits, bus_did}
 use Rattle.atspi_handed.specs.Spellable.{IsSpellable}
 use Rattle.atspi_handed.specs.Handing.{IsLetter, AreLetters}
 use Rattle.atspi_handed.specs.Naming.{IsSigned, HasLeft, AreNamed}
@@ -36,12 +30,10 @@ use Rattle.atspi_handed.proofs.Naming.{takes_named, ends_named}
 use Rattle.atspi_carrying.specs.Changes.{changed_at}
 use Rattle.atspi_carrying.specs.Told.{emptied, all_emptied}
 use Rattle.atspi_carrying.specs.Downs.{bytes_down, IsBegun, IsWaiting}
-use Rattle.atspi_carrying.specs.Filled.{waits_for, FillsAt}
-use Rattle.atspi_carrying.specs.Linked.{given_of, IsLinked, IsWhole}
-use Rattle.atspi_carrying.proofs.Changes.{map-changed, get-map}
-use Rattle.atspi_carrying.proofs.Filling.{filled_whole}
-use Rattle.atspi_carrying.proofs.Views.{with-changed, without, written_some, all_with, stepped_all, left_all}
-use Rattle.atspi_carrying.proofs.Downs.{down-append, begun_within, begun_more, at_changed, wait_same, takes_wait, ends_wait}
+use Rattle.atspi_carrying.specs.Linked.{given_of, IsLinked}
+use Rattle.atspi_carrying.proofs.Changes.{map-changed}
+use Rattle.atspi_carrying.proofs.Views.{with-changed, without, all_with, stepped_all, left_all}
+use Rattle.atspi_carrying.proofs.Downs.{down-append, begun_within, begun_more, wait_same, takes_wait, ends_wait}
 
 -- the mark of each down link stands within its first message
 abbrev Begun : End → Type 0

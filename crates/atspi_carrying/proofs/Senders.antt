@@ -1,16 +1,23 @@
 -- Whose a letter is, as the unique names of the connections say.
-use Rattle.std.proofs.Common.{◌≡◌, inl, inr, ℕ, zero, suc, Bool, true, false, List, [], ◌∷◌, map, Option, None, Some, refl, sym, ap, ◌∙◌, arith}
+use Rattle.std.proofs.Common.{◌≡◌, inl, inr, ℕ, zero, suc, Bool, true, false, List, [], ◌∷◌, map, Option, None, Some, refl, sym, ap, ◌∙◌, subst, arith}
 use Rattle.std.specs.Prelude.{bytes_eq, if◌then◌else◌}
+use Rattle.std.specs.List.{AllByRecursion}
 use Rattle.std.proofs.lemmas.Option.{same_Some}
 use Rattle.std.proofs.lemmas.Slice.Eq.{bytes_eq-Decides}
-use Rattle.atspi_lines.specs.declared.line.Party.TheVariants.{Bus as The_bus}
+use Rattle.atspi_forest.specs.Forest.{first_of}
+use Rattle.atspi_lines.specs.declared.line.Party.{Party}
+use Rattle.atspi_lines.specs.declared.line.Party.TheVariants.{Bus as The_bus, Registry, App, Reader}
 use Rattle.atspi_names.specs.Owners.{Owners, own_name, unique_name}
+use Rattle.atspi_routing.specs.Queues.{Bus}
+use Rattle.atspi_posts.specs.declared.post.Post.{Post}
 use Rattle.atspi_posts.specs.Posts.{is_own}
-use Rattle.atspi_trace.specs.World.{Letter, End}
-use Rattle.atspi_trace.specs.Ends.{end_at}
+use Rattle.atspi_trace.specs.World.{Letter, End, World}
+use Rattle.atspi_trace.specs.Ends as trace_ends
+use Rattle.atspi_trace.specs.Ends.{end_at, number_if}
 use Rattle.atspi_handed.specs.Naming.{IsSigned, AreNamed}
-use Rattle.atspi_carrying.specs.Carried.{post_of}
-use Rattle.atspi_carrying.specs.Named.{first_named, party_named}
+use Rattle.atspi_carrying.specs.Carried.{post_of, IsCarried}
+use Rattle.atspi_carrying.specs.Linked.{IsLinked}
+use Rattle.atspi_carrying.specs.Named.{first_named, party_named, app_by, app_of, app_named}
 
 -- a name is an end's own
 own_is : (name : List ℕ) (u : Option (List ℕ)) → is_own name u ≡ true → u ≡ Some name
@@ -59,3 +66,28 @@ sender_is owners ends l named (inr i) =
     ap (λ o. party_named o (map post_of ends)) i.bears
     ∙ named_at ends i.name i.conn i.sender i.there i.unique (λ j d at u. named.differ j i.conn d i.sender i.name at i.there u i.unique)
     ∙ sym i.from
+
+-- the letter at the front of a down link
+pub sender_named : (w : World) (b : Bus) (posts : List Post) (given : List (List ℕ)) (conn : ℕ) (e : End) (letter : Letter) (rest : List Letter) → IsCarried w b posts → IsLinked w given → end_at w.ends conn ≡ Some e
+    → e.down ≡ letter ∷ rest → party_named letter.said.message.sender posts ≡ letter.from
+sender_named w b posts given conn e letter rest is linked at link =
+    ap (party_named letter.said.message.sender) is.posts_are
+    ∙ sender_is w.bus.state.owners w.ends letter linked.named (subst (AllByRecursion (IsSigned w.ends)) link (linked.named.signed conn e at)).0
+
+-- WHICH APPLICATION HAS A NAME
+app_one : (name : List ℕ) (e : End) → app_of name (post_of e) ≡ number_if name e.who e.unique
+app_one name e = by e.who e.unique
+  where
+    by : (who : Party) (unique : Option (List ℕ)) → app_by name who (record (post_of e) { name = unique }) ≡ number_if name who unique
+    by (App app) (Some own) = refl
+    by (App app) None = refl
+    by The_bus unique = refl
+    by Registry unique = refl
+    by (Reader reader) unique = refl
+
+app_ends : (name : List ℕ) (ends : List End) → app_named name (map post_of ends) ≡ trace_ends.app_named name ends
+app_ends name [] = refl
+app_ends name (e ∷ es) = ap (λ o. first_of o (app_named name (map post_of es))) (app_one name e) ∙ ap (first_of (number_if name e.who e.unique)) (app_ends name es)
+
+pub app_names : (w : World) (b : Bus) (posts : List Post) (name : List ℕ) → IsCarried w b posts → app_named name posts ≡ trace_ends.app_named name w.ends
+app_names w b posts name is = ap (app_named name) is.posts_are ∙ app_ends name w.ends
