@@ -102,8 +102,8 @@ get_set (z ∷ zs) zero x y h = refl
 get_set (z ∷ zs) (suc i) x y h = get_set zs i x y h
 
 -- the down link of one end changes, and the queue of its connection
-carried_below : (w : World) (conn : ℕ) (f : End → End) (b c : Bus) (posts : List Post) → ((e : End) → post_of (f e) ≡ post_of e) → ((e : End) → AreSendable e → AreSendable (f e)) → ((e : End) → HasMark e → HasMark (f e)) → IsCarried w b posts
-    → c.own ≡ [] → c.closings ≡ [] → Wait c.waiting.queues (with_end conn f w.ends) → IsCarried (record w { bus = c; ends = with_end conn f w.ends }) c posts
+carried_below : (w : World) (conn : ℕ) (f : End → End) (b c : Bus) (posts : List Post) → ((e : End) → post_of (f e) ≡ post_of e) → ((e : End) → AreSendable e → AreSendable (f e)) → ((e : End) → HasMark e → HasMark (f e))
+    → IsCarried w b posts → c.own ≡ [] → c.closings ≡ [] → Wait c.waiting.queues (with_end conn f w.ends) → IsCarried (record w { bus = c; ends = with_end conn f w.ends }) c posts
 carried_below w conn f b c posts same sends marks is own closings waits = record {
   bus_is = refl;
   own_told = own;

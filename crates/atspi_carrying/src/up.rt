@@ -150,7 +150,8 @@ impl Carrier {
     fn move_some(&mut self, conn: u32, most: usize) -> Result<Option<usize>, CarryFault>
         requires sound { IsSound (state_of self.old.bus) }
         ensures sound { OnOk result (IsSound (state_of self.new.bus)) }
-        ensures moves { IfOk result (λ left. MovesSome (inner_of self.old.bus) (inner_of self.new.bus) self.old.posts.items self.new.posts.items self.old.at_end.items self.new.at_end.items conn most left self.old.trace.items self.new.trace.items) }
+        ensures moves { IfOk result (λ left. MovesSome (inner_of self.old.bus) (inner_of self.new.bus) self.old.posts.items self.new.posts.items self.old.at_end.items self.new.at_end.items conn most left
+            self.old.trace.items self.new.trace.items) }
     {
         let place = conn as usize;
         if place >= self.posts.len() {

@@ -82,8 +82,8 @@ kept_named owners conn x e unique alike h = record {
 }
 
 -- one end changes, and neither its names nor whether it left
-pub kept_change : (f : End → End) → KeepsNames f → (owners : Owners) (ends : List End) (k : ℕ) → ((x : End) → end_at ends k ≡ Some x → LeftAlike x (f x)) → ((x : End) → AllByRecursion (IsSigned ends) x.down → AllByRecursion (IsSigned ends) (f x).down)
-    → AreNamed owners ends → AreNamed owners (with_end k f ends)
+pub kept_change : (f : End → End) → KeepsNames f → (owners : Owners) (ends : List End) (k : ℕ) → ((x : End) → end_at ends k ≡ Some x → LeftAlike x (f x))
+    → ((x : End) → AllByRecursion (IsSigned ends) x.down → AllByRecursion (IsSigned ends) (f x).down) → AreNamed owners ends → AreNamed owners (with_end k f ends)
 kept_change f q owners ends k alike down h = record {
   each = λ conn e at. each conn e (at_changed f ends k conn e at);
   others = λ conn none. h.others conn (none_with f ends k conn none);

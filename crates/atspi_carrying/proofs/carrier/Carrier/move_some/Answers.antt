@@ -22,5 +22,5 @@ returns-then-most-lacking-clause-moves c =
 pub returns-clause-moves : goal.returns-clause-moves
 returns-clause-moves c =
     let s = c.args.self.now in
-    one_completed c.args.conn c.args.most c.in-Some.lacking (inner_of s.bus) (inner_of c.route.new.self.bus) s.posts.items c.route.new.self.posts.items c.index.result.now s.at_end.items c.route.new.self.at_end.items s.trace.items c.route.new.self.trace.items
-    c.index.ensures c.in-Some.ensures.exact c.if-most-lacking.false c.in_ok-route.ensures.does c.in_ok-route.ensures.linked
+    one_completed c.args.conn c.args.most c.in-Some.lacking (inner_of s.bus) (inner_of c.route.new.self.bus) s.posts.items c.route.new.self.posts.items c.index.result.now s.at_end.items
+    c.route.new.self.at_end.items s.trace.items c.route.new.self.trace.items c.index.ensures c.in-Some.ensures.exact c.if-most-lacking.false c.in_ok-route.ensures.does c.in_ok-route.ensures.linked

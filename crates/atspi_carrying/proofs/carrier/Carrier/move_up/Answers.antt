@@ -15,8 +15,8 @@ loop-message-preserved c =
     let new = c.move_some.new.self in
     record {
       sound = c.in_ok-rest.ensures.sound;
-      moved = λ w is m. round_more w c.args.conn c.args.most was.left was._message c.in-Some.rest c.in_ok-rest.field-0 (inner_of was.self.bus) (inner_of new.bus) was.self.posts.items new.posts.items s.at_end.items was.self.at_end.items new.at_end.items s.trace.items
-          was.self.trace.items new.trace.items (was.invariant.moved w is m) c.in-Some.is c.in_ok-rest.ensures.moves;
+      moved = λ w is m. round_more w c.args.conn c.args.most was.left was._message c.in-Some.rest c.in_ok-rest.field-0 (inner_of was.self.bus) (inner_of new.bus) was.self.posts.items new.posts.items s.at_end.items
+          was.self.at_end.items new.at_end.items s.trace.items was.self.trace.items new.trace.items (was.invariant.moved w is m) c.in-Some.is c.in_ok-rest.ensures.moves;
     }
 
 pub returns-in-None-clause-moves : goal.returns-in-None-clause-moves
