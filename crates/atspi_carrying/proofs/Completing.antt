@@ -193,7 +193,7 @@ some_moved w conn count n b posts p begun given t is there moves lacks few so = 
         first_moved w conn count b posts p f begun given t is moves so (subst (λ k. count < k) same few)
 
 -- the connection of an end that the bus took a message of is there, or its end left
-own_at : (f : End → End) (ends : List End) (conn : ℕ) (e : End) → end_at ends conn ≡ Some e → end_at (with_end conn f ends) conn ≡ Some (f e)
+pub own_at : (f : End → End) (ends : List End) (conn : ℕ) (e : End) → end_at ends conn ≡ Some e → end_at (with_end conn f ends) conn ≡ Some (f e)
 own_at f [] zero e h = absurd cc
 own_at f [] (suc conn) e h = absurd cc
 own_at f (x ∷ xs) zero e h = ap (λ y. Some (f y)) (same_Some x e h)

@@ -7,6 +7,7 @@ pub mod Downs
 pub mod Filling
 pub mod Leaving
 pub mod Linked
+pub mod Lying
 pub mod OwnSerials
 pub mod OwnTold
 pub mod Rounds
