@@ -33,6 +33,7 @@ use Rattle.atspi_carrying.specs.Linked.{given_of, IsLinked, IsWhole, IsStill, Ca
 use Rattle.atspi_carrying.proofs.Beginning.{gave_none}
 use Rattle.atspi_carrying.proofs.Changes.{map-changed, map-changed_known, map-kept, get-map, set_same}
 use Rattle.atspi_carrying.proofs.Filling.{given_long, part_goes_on, filled_whole}
+use Rattle.atspi_carrying.proofs.Staying.{there_same}
 use Rattle.atspi_carrying.proofs.Ties.{all_at}
 use Rattle.atspi_carrying.proofs.Views.{with-changed, written_some, all_with}
 use Rattle.atspi_carrying.proofs.Downs.{begun_within, at_changed}
@@ -65,6 +66,7 @@ taken_linked w conn e letter rest given is at link = record {
     letters = all_with AreLetters taken_down (λ x a. all_rest IsLetter x.down a) conn w.ends is.hands.letters;
   };
   named = quiet_change taken_down (λ x. (refl, refl, refl)) w.bus.state.owners w.ends conn (λ x a. all_rest (IsSigned w.ends) x.down a) is.named;
+  there = there_same taken_down (λ x. refl) (λ x. refl) w.ends conn is.there;
 }
   where
     rest_is : drop (missing letter.said.message e.down_moved) (queue_of w.bus.waiting.queues conn) ≡ bytes_down rest
@@ -252,6 +254,7 @@ module _ (w : World) (given given' : List (List ℕ)) (b b' : Bus) (posts : List
           wait = λ k x there. moved_waits k x (at_changed moves w.ends conn k x there);
           hands = record { quota = is.hands.quota; known = is.hands.known; letters = all_with AreLetters moves (λ x a. a) conn w.ends is.hands.letters };
           named = quiet_change moves (λ x. (refl, refl, refl)) w.bus.state.owners w.ends conn (λ x a. a) is.named;
+          there = there_same moves (λ x. refl) (λ x. refl) w.ends conn is.there;
         }
 
         tied : IsCarried v b' posts

@@ -14,7 +14,7 @@ use Rattle.atspi_routing.specs.declared.closing.Closing.{Closing}
 use Rattle.atspi_forest.specs.Forest.{first_of}
 use Rattle.atspi_events.specs.declared.event.Event.{Event}
 use Rattle.atspi_posts.specs.declared.post.Post.{Post}
-use Rattle.atspi_posts.specs.declared.post.Standing.TheVariants.{Here, Away}
+use Rattle.atspi_posts.specs.declared.post.Standing.TheVariants.{Away}
 use Rattle.atspi_trace.specs.Entry.{entries_of}
 use Rattle.atspi_trace.specs.Rules.{rule_in}
 use Rattle.atspi_trace.specs.World.{Standing, here, stopped, away, Said, End, World}
@@ -32,6 +32,7 @@ use Rattle.atspi_carrying.proofs.Changes.{map-changed, map-changed_known, get-ma
 use Rattle.atspi_carrying.specs.Linked.{IsLinked}
 use Rattle.atspi_carrying.proofs.Downs.{wait_same}
 use Rattle.atspi_carrying.proofs.Linked.{linked_same}
+use Rattle.atspi_carrying.proofs.Staying.{here_is}
 use Rattle.atspi_carrying.proofs.Views.{with-changed, stepped_view, settles, all_with, written_some}
 use Rattle.atspi_carrying.proofs.Ties.{all_at}
 
@@ -47,11 +48,6 @@ has_end w b posts conn p is there = by (end_at w.ends conn) refl (sym (get-map p
     by : (o : Option End) → end_at w.ends conn ≡ o → option_map post_of o ≡ Some p → HasEnd w conn p
     by None at h = absurd cc
     by (Some e) at h = record { the_end = e; at = at; post = sym (same_Some (post_of e) p h) }
-
-here_is : (s : Standing) → standing_at s ≡ Here → s ≡ here
-here_is here h = refl
-here_is stopped h = absurd cc
-here_is away h = absurd cc
 
 away_is : (s : Standing) → standing_at s ≡ Away → s ≡ away
 away_is here h = absurd cc

@@ -14,6 +14,7 @@ pub mod Rounds
 pub mod RuleLemmas
 pub mod Senders
 pub mod Starting
+pub mod Staying
 pub mod Telling
 pub mod Ties
 pub mod Turning

@@ -7,7 +7,7 @@ use Rattle.std.proofs.lemmas.List.{map-append, take-append-le}
 use Rattle.std.proofs.lemmas.Option.{same_Some}
 use Rattle.atspi_message.specs.Envelope.{Envelope}
 use Rattle.atspi_lines.specs.declared.line.Party.{Party}
-use Rattle.atspi_lines.specs.declared.line.Party.TheVariants.{Bus as The_bus}
+use Rattle.atspi_lines.specs.declared.line.Party.TheVariants.{Bus as The_bus, Registry}
 use Rattle.atspi_routing.specs.declared.closing.Why.{Why}
 use Rattle.atspi_routing.specs.declared.closing.Closing.{Closing}
 use Rattle.atspi_routing.specs.Steps.{Move, says, delivers, closes, BusStep, bus_takes, bus_leaves}
@@ -17,7 +17,7 @@ use Rattle.atspi_queues.proofs.Chains.{at_other, queue_of-insert}
 use Rattle.atspi_trace.specs.Entry.{got}
 use Rattle.atspi_trace.specs.Rules.{rule_in}
 use Rattle.atspi_trace.specs.World.{here, Role, Said, Letter, End, World, newcomer}
-use Rattle.atspi_trace.specs.Ends.{end_at, with_end, put_down, put_up, taken_up, leaves, stops}
+use Rattle.atspi_trace.specs.Ends.{same_party, end_at, with_end, put_down, put_up, taken_up, leaves, stops}
 use Rattle.atspi_trace.specs.Carrying.{Carried, Filled, letter_of, own_letter, grew, with_letter, moved, stepped, left, one_closed, settled, named, with_name, takes, takes_end}
 use Rattle.atspi_trace.specs.Causes.{joins, does, on_end, routed, routes, unjoins, exits, bus_did}
 use Rattle.atspi_handed.specs.Spellable.{IsSpellable}
@@ -30,9 +30,10 @@ use Rattle.atspi_handed.proofs.Naming.{takes_named, ends_named}
 use Rattle.atspi_carrying.specs.Changes.{changed_at}
 use Rattle.atspi_carrying.specs.Told.{emptied, all_emptied}
 use Rattle.atspi_carrying.specs.Downs.{bytes_down, IsBegun, IsWaiting}
-use Rattle.atspi_carrying.specs.Linked.{given_of, IsLinked}
+use Rattle.atspi_carrying.specs.Linked.{given_of, IsLinked, IsThere}
 use Rattle.atspi_carrying.proofs.Changes.{map-changed}
 use Rattle.atspi_carrying.proofs.Views.{with-changed, without, all_with, stepped_all, left_all}
+use Rattle.atspi_carrying.proofs.Staying.{there_same, there_stopped, there_joined}
 use Rattle.atspi_carrying.proofs.Downs.{down-append, begun_within, begun_more, wait_same, takes_wait, ends_wait}
 
 -- the mark of each down link stands within its first message
@@ -163,8 +164,9 @@ ends_given c conn h none =
 
 -- the world behind it, where what lies at the ends that left is gone
 pub routed_linked : (w : World) (conn : ℕ) (e : End) (said : Said) (rest : List Said) (given given' : List (List ℕ)) (b : Bus) → IsLinked w given → IsSpellable said.message → w.bus.closings ≡ [] → end_at w.ends conn ≡ Some e
-    → e.standing ≡ here → e.up ≡ said ∷ rest → b ≡ (takes (record { bus = w.bus; ends = w.ends }) conn e.who said).bus → b.state.next ≤ 4294967296 → given' ≡ all_emptied b.closings given → IsLinked (does w (routes conn)).world given'
-routed_linked w conn e said rest given given' b is spellable none at stands up same last gone =
+    → e.standing ≡ here → e.up ≡ said ∷ rest → b ≡ (takes (record { bus = w.bus; ends = w.ends }) conn e.who said).bus → b.state.next ≤ 4294967296 → given' ≡ all_emptied b.closings given
+    → IsThere (does w (routes conn)).world.ends → IsLinked (does w (routes conn)).world given'
+routed_linked w conn e said rest given given' b is spellable none at stands up same last gone there =
     let c : Carried = record { bus = w.bus; ends = w.ends } in
     let d : Carried = takes c conn e.who said in
     let it : does w (routes conn) ≡ bus_did w (got The_bus e.who said.message.serial ∷ []) d = ap (λ o. on_end w o (λ (x : End). routed w conn x.who x.up)) at ∙ ap (routed w conn e.who) up in
@@ -176,11 +178,12 @@ routed_linked w conn e said rest given given' b is spellable none at stands up s
       wait = takes_wait c conn e.who said is.wait;
       hands = record { quota = hands.quota; known = hands.known; letters = hands.letters };
       named = takes_named c conn e said is.hands is.named at (λ left. subst HasLeft stands left) spellable low;
+      there = subst (λ x. IsThere x.world.ends) it there;
     })
 
 pub parted_linked : (w : World) (conn : ℕ) (given given' : List (List ℕ)) (b : Bus) → IsLinked w given → w.bus.closings ≡ [] → b ≡ (takes_end (record { bus = w.bus; ends = w.ends }) conn).bus → b.state.next ≤ 4294967296
-    → given' ≡ all_emptied b.closings (changed_at conn emptied given) → IsLinked (does w (unjoins conn)).world given'
-parted_linked w conn given given' b is none same last gone =
+    → given' ≡ all_emptied b.closings (changed_at conn emptied given) → IsThere (does w (unjoins conn)).world.ends → IsLinked (does w (unjoins conn)).world given'
+parted_linked w conn given given' b is none same last gone there =
     let c : Carried = record { bus = w.bus; ends = w.ends } in
     let d : Carried = takes_end c conn in
     let low = subst (λ (x : Bus). x.state.next ≤ 4294967296) same last in
@@ -190,12 +193,13 @@ parted_linked w conn given given' b is none same last gone =
       wait = ends_wait c conn is.wait;
       hands = record { quota = hands.quota; known = hands.known; letters = hands.letters };
       named = ends_named c conn is.hands is.named low;
+      there = there;
     }
 
 -- an end that changes, and not its down link
 changed_linked : (f : End → End) → ((e : End) → (f e).down ≡ e.down) → ((e : End) → (f e).down_moved ≡ e.down_moved) → (w : World) (conn : ℕ) (given : List (List ℕ)) → IsLinked w given
-    → AreNamed w.bus.state.owners (with_end conn f w.ends) → IsLinked (record w { ends = with_end conn f w.ends }) given
-changed_linked f link mark w conn given is named = record {
+    → AreNamed w.bus.state.owners (with_end conn f w.ends) → IsThere (with_end conn f w.ends) → IsLinked (record w { ends = with_end conn f w.ends }) given
+changed_linked f link mark w conn given is named there = record {
   given_are = is.given_are ∙ sym (kept_given f (λ e h. ap (λ n. take n (bytes_down (f e).down)) (mark e) ∙ ap (λ l. take e.down_moved (bytes_down l)) (link e)) conn w.ends (begun_of w given is));
   wait = wait_same f link mark w.bus.waiting.queues w.ends conn is.wait;
   hands = record {
@@ -204,6 +208,7 @@ changed_linked f link mark w conn given is named = record {
     letters = all_with AreLetters f (λ e a. subst (AllByRecursion IsLetter) (sym (link e)) a) conn w.ends is.hands.letters;
   };
   named = named;
+  there = there;
 }
 
 -- a change that leaves who an end is, its name, how it stands, and its down link
@@ -214,11 +219,14 @@ pub linked_same : (w : World) (conn : ℕ) (f : End → End) (given : List (List
 linked_same w conn f given same is =
     changed_linked f (λ e. (same e).3) (λ e. (same e).4) w conn given is
     (quiet_change f (λ e. ((same e).0, (same e).1, (same e).2)) w.bus.state.owners w.ends conn (λ e a. subst (AllByRecursion (IsSigned w.ends)) (sym (same e).3) a) is.named)
+    (there_same f (λ e. (same e).0) (λ e. (same e).2) w.ends conn is.there)
 
--- an end that is there stops
-pub exited_linked : (w : World) (conn : ℕ) (e : End) (given : List (List ℕ)) → IsLinked w given → end_at w.ends conn ≡ Some e → e.standing ≡ here → IsLinked (does w (exits conn)).world given
-exited_linked w conn e given is at stands =
+-- an end that is there stops, and it is not the registry
+pub exited_linked : (w : World) (conn : ℕ) (e : End) (given : List (List ℕ)) → IsLinked w given → end_at w.ends conn ≡ Some e → e.standing ≡ here → same_party e.who Registry ≡ false
+    → IsLinked (does w (exits conn)).world given
+exited_linked w conn e given is at stands other =
     changed_linked stops (λ x. refl) (λ x. refl) w conn given is (stopped_named w.bus.state.owners w.ends conn e at (λ left. subst HasLeft stands left) is.named)
+    (there_stopped w.ends conn e at other is.there)
 
 -- an end joins
 at_joined : (ends : List End) (n : End) (conn : ℕ) (e : End) → end_at (ends ++ n ∷ []) conn ≡ Some e → ((end_at ends conn ≡ Some e) × (conn < length ends)) ⊎ ((conn ≡ length ends) × (n ≡ e))
@@ -235,14 +243,16 @@ more_letters : (ends : List End) (n : End) → AllByRecursion AreLetters ends �
 more_letters [] n a h = (h, tt)
 more_letters (x ∷ xs) n a h = (a.0, more_letters xs n a.1 h)
 
-pub joined_linked : (w : World) (who : Party) (role : Role) (given given' : List (List ℕ)) (none : List ℕ) → IsLinked w given → given' ≡ given ++ none ∷ [] → none ≡ [] → IsLinked (joins w who role []) given'
-joined_linked w who role given given' none is more empty =
+pub joined_linked : (w : World) (who : Party) (role : Role) (given given' : List (List ℕ)) (none : List ℕ) → IsLinked w given → given' ≡ given ++ none ∷ [] → none ≡ [] → (w.ends ≡ [] → who ≡ Registry)
+    → IsLinked (joins w who role []) given'
+joined_linked w who role given given' none is more empty first =
     let n : End = put_up [] (newcomer who role) in
     record {
       given_are = more ∙ ap (λ x. given ++ x ∷ []) empty ∙ ap (λ l. l ++ [] ∷ []) is.given_are ∙ sym (map-append given_of w.ends (n ∷ []));
       wait = λ conn e at. by conn e (at_joined w.ends n conn e at);
       hands = record { quota = is.hands.quota; known = is.hands.known; letters = more_letters w.ends n is.hands.letters tt };
       named = joined_named w.bus.state.owners w.ends who role [] is.named;
+      there = there_joined w.ends n refl first is.there;
     }
   where
     by : (conn : ℕ) (e : End) → ((end_at w.ends conn ≡ Some e) × (conn < length w.ends)) ⊎ ((conn ≡ length w.ends) × (put_up [] (newcomer who role) ≡ e)) → IsWaiting (finmap.insert w.bus.waiting.queues (length w.ends) []) conn e

@@ -26,6 +26,7 @@ empty_linked quota swaps few = record {
   wait = nobody_waits (empty_bus quota).waiting.queues;
   hands = empty_hands quota few;
   named = empty_named;
+  there = tt;
 }
 
 -- the registry joined, and its calls are on its up link
@@ -40,6 +41,7 @@ first_linked quota few = record {
   wait = one_waits (first_world quota).bus.waiting.queues first_registry refl refl (ap or_nothing (numbers_get ((0, []) ∷ []) 0 refl));
   hands = first_hands quota few;
   named = first_named;
+  there = (refl, refl);
 }
 
 -- where nothing waits for an end, nothing lies at it

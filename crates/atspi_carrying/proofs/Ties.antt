@@ -144,7 +144,7 @@ module _ (w : World) (conn : ℕ) (e : End) (said : Said) (rest : List Said) (b 
       first_of_all : AllByRecursion (λ (s : Said). IsSendable s.message) (said ∷ rest) → IsSendable said.message
       first_of_all a = a.0
 
-  front_routed : IsCarried w b posts → end_at w.ends conn ≡ Some e → e.up ≡ said ∷ rest → p ≡ post_of e → RoutesFront b b0 conn p q old mid → IsRouted said.message b b0 conn p q (bytes_up rest) old mid
+  pub front_routed : IsCarried w b posts → end_at w.ends conn ≡ Some e → e.up ≡ said ∷ rest → p ≡ post_of e → RoutesFront b b0 conn p q old mid → IsRouted said.message b b0 conn p q (bytes_up rest) old mid
   front_routed is at up p_is routes_ = routes_ said.message (bytes_up rest) (first_sends is at up).is (ap (λ (x : Post). x.up) p_is ∙ ap bytes_up up)
 
   -- the bus is that of the world behind it

@@ -1,10 +1,11 @@
 -- The down links of a world: what waits in the bus, what lies at the ends, and that both are letters' bytes.
 use Rattle.std.specs.Prelude.{◌≡◌, ℕ, nat_le, true, false, List, [], ◌∷◌, map, take, slice_get, slice_set, Some}
+use Rattle.atspi_lines.specs.declared.line.Party.TheVariants.{Registry}
 use Rattle.atspi_message.specs.Envelope.{Envelope}
 use Rattle.atspi_message.specs.Bytes.{written}
 use Rattle.atspi_routing.specs.Queues.{Bus}
 use Rattle.atspi_posts.specs.declared.post.Post.{Post}
-use Rattle.atspi_trace.specs.World.{Letter, End, World}
+use Rattle.atspi_trace.specs.World.{here, Letter, End, World}
 use Rattle.atspi_trace.specs.Ends.{end_at}
 use Rattle.atspi_trace.specs.Causes.{without_bytes, missing}
 use Rattle.atspi_trace.specs.Work.{moved_down}
@@ -17,13 +18,19 @@ use Rattle.atspi_carrying.specs.Downs.{bytes_down, Wait}
 abbrev pub given_of : End → List ℕ
 given_of e = take e.down_moved (bytes_down e.down)
 
+-- where there are ends, the first is the registry, and it is there
+abbrev pub IsThere : List End → Type 0
+IsThere [] = Unit {0}
+IsThere (e ∷ ends) = (e.who ≡ Registry) × (e.standing ≡ here)
+
 -- THE TIE OF DOWN LINKS: at each end lies the front of its down link, the rest waits in the bus, each letter's bytes spell its message, and it bears its
--- sender's name
+-- sender's name; and the registry is there
 pub record IsLinked (w : World) (given : List (List ℕ)) : Type 0 where
   pub given_are : given ≡ map given_of w.ends
   pub wait : Wait w.bus.waiting.queues w.ends
   pub hands : HandsLetters (record { bus = w.bus; ends = w.ends })
   pub named : AreNamed w.bus.state.owners w.ends
+  pub there : IsThere w.ends
 
 -- the first message of a down link lies at its end, whole and alone, and none of it waits in the bus any more; what lies at the other ends is as it was
 pub record IsWhole (before after : Bus) (given given' : List (List ℕ)) (conn : ℕ) (m : Envelope) (begun : ℕ) : Type 0 where

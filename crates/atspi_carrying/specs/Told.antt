@@ -1,5 +1,6 @@
 -- What a bus has to tell, put into a trace: its own messages, and behind those before it each closing; and what leaving does to connections.
-use Rattle.std.specs.Prelude.{ℕ, List, [], ◌∷◌, ◌++◌, map, Option, None, Some, option_to_list, slice_get, if◌then◌else◌}
+use Rattle.std.specs.Prelude.{◌≡◌, ℕ, false, List, [], ◌∷◌, ◌++◌, map, Option, None, Some, option_to_list, slice_get, if◌then◌else◌}
+use Rattle.std.specs.List.{AllByRecursion}
 use Rattle.atspi_message.specs.Envelope.{Envelope, envelope_of}
 use Rattle.atspi_message.specs.declared.message.Message.{Message}
 use Rattle.atspi_lines.specs.declared.line.Party.{Party}
@@ -39,6 +40,13 @@ whose p = p.who
 
 abbrev pub party_in : List Party → ℕ → Party
 party_in parties conn = or_bus (slice_get parties conn)
+
+-- closings of others than the registry
+abbrev pub IsOther : List Party → Closing → Type 0
+IsOther parties c = same_party (party_in parties c.conn) Registry ≡ false
+
+abbrev pub AreOthers : List Party → List Closing → Type 0
+AreOthers parties closings = AllByRecursion (IsOther parties) closings
 
 -- a message that was asked for, before those that were not
 abbrev pub ahead : Option Message → Bus → List Envelope

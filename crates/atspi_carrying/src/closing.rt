@@ -1,18 +1,18 @@
 //! Connections that leave, and what the bus tells of it.
 
-ghost use Rattle.std.specs.Prelude.{◌≡◌, ◌++◌, [], map, None, OnOk, IfOk};
+ghost use Rattle.std.specs.Prelude.{◌≡◌, ◌++◌, false, [], map, None, OnOk, IfOk};
 ghost use Rattle.atspi_lines.specs.declared.line.Party.TheVariants as parties;
 ghost use Rattle.atspi_bus_steps.specs.Inner.{inner_of, state_of};
 ghost use Rattle.atspi_bus_steps.specs.Sound.{IsSound};
 ghost use Rattle.atspi_trace.specs.Entry.{entries_of};
-ghost use Rattle.atspi_trace.specs.World.{here, End, World};
+ghost use Rattle.atspi_trace.specs.World.{here, stopped, End, World};
 ghost use Rattle.atspi_trace.specs.Ends.{end_at, same_party};
 ghost use Rattle.atspi_trace.specs.Carrying.{all_told, dropped_if, sent_by_bus};
 ghost use Rattle.atspi_trace.specs.Causes.{does, exits, unjoins};
 ghost use Rattle.atspi_carrying.specs.Carried.{IsCarried, IsDone};
 ghost use Rattle.atspi_carrying.specs.Changes.{changed_at};
 ghost use Rattle.atspi_carrying.specs.Linked.{IsLinked};
-ghost use Rattle.atspi_carrying.specs.Told.{ahead, all_emptied, all_gone, behind_upto, bus_told, emptied, front_upto, gone, party_in, whose};
+ghost use Rattle.atspi_carrying.specs.Told.{ahead, AreOthers, all_emptied, all_gone, behind_upto, bus_told, emptied, front_upto, gone, party_in, whose};
 
 use crate::carrier::Carrier;
 use crate::fault::CarryFault;
@@ -169,6 +169,7 @@ impl Carrier {
         ensures posts { OnOk result (self.new.posts.items ≡ all_gone (inner_of self.old.bus).closings self.old.posts.items) }
         ensures given { OnOk result (self.new.at_end.items ≡ all_emptied (inner_of self.old.bus).closings self.old.at_end.items) }
         ensures told { OnOk result (entries_of self.new.trace.items ≡ entries_of self.old.trace.items ++ bus_told (map whose self.old.posts.items) (inner_of self.old.bus).own (inner_of self.old.bus).closings) }
+        ensures others { OnOk result (AreOthers (map whose self.old.posts.items) (inner_of self.old.bus).closings) }
     {
         let mut own = self.bus.own();
         while let Some(closing) = self.bus.closed() {
@@ -193,7 +194,7 @@ impl Carrier {
         ensures does { OnOk result ((w : World) (e : End) → IsCarried w (inner_of self.old.bus) self.old.posts.items → end_at w.ends conn ≡ Some e
             → IsDone (does w (exits conn)) (inner_of self.new.bus) self.new.posts.items self.old.trace.items self.new.trace.items) }
         ensures linked { OnOk result ((w : World) (e : End) → IsLinked w self.old.at_end.items → end_at w.ends conn ≡ Some e → e.standing ≡ here
-            → IsLinked (does w (exits conn)).world self.new.at_end.items) }
+            → same_party e.who parties.Registry ≡ false → IsLinked (does w (exits conn)).world self.new.at_end.items) }
     {
         let place = conn as usize;
         if place >= self.posts.len() {
@@ -212,8 +213,8 @@ impl Carrier {
         ensures sound { OnOk result (IsSound (state_of self.new.bus)) }
         ensures does { OnOk result ((w : World) → IsCarried w (inner_of self.old.bus) self.old.posts.items
             → IsDone (does w (unjoins conn)) (inner_of self.new.bus) self.new.posts.items self.old.trace.items self.new.trace.items) }
-        ensures linked { OnOk result ((w : World) → IsCarried w (inner_of self.old.bus) self.old.posts.items → IsLinked w self.old.at_end.items
-            → IsLinked (does w (unjoins conn)).world self.new.at_end.items) }
+        ensures linked { OnOk result ((w : World) (e : End) → IsCarried w (inner_of self.old.bus) self.old.posts.items → IsLinked w self.old.at_end.items
+            → end_at w.ends conn ≡ Some e → e.standing ≡ stopped → IsLinked (does w (unjoins conn)).world self.new.at_end.items) }
     {
         self.leave(conn);
         self.bus.part_with(conn)?;

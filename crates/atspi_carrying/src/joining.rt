@@ -1,6 +1,7 @@
 //! The beginning, and joining.
 
 ghost use Rattle.std.specs.Prelude.{◌≡◌, [], length, OnOk, OnErr, IfOk};
+ghost use Rattle.atspi_lines.specs.declared.line.Party.TheVariants as parties;
 ghost use Rattle.atspi_bus_steps.specs.Inner.{inner_of, state_of};
 ghost use Rattle.atspi_bus_steps.specs.Sound.{IsSound};
 ghost use Rattle.atspi_routing.specs.Queues.{empty_bus};
@@ -56,7 +57,8 @@ impl Carrier {
         ensures place { IfOk result (λ conn. conn ≡ length self.old.posts.items) }
         ensures joins { IfOk result (λ conn. (w : World) (role : Role) → IsCarried w (inner_of self.old.bus) self.old.posts.items
             → IsCarried (joins w who role []) (inner_of self.new.bus) self.new.posts.items) }
-        ensures linked { IfOk result (λ conn. (w : World) (role : Role) → IsLinked w self.old.at_end.items → IsLinked (joins w who role []) self.new.at_end.items) }
+        ensures linked { IfOk result (λ conn. (w : World) (role : Role) → IsLinked w self.old.at_end.items → (w.ends ≡ [] → who ≡ parties.Registry)
+            → IsLinked (joins w who role []) self.new.at_end.items) }
     {
         let Ok(conn) = u32::try_from(self.posts.len()) else {
             return Err(CarryFault::Spent);

@@ -11,7 +11,7 @@ returns-clause-does c = λ w e is at.
     (post_is w (inner_of s.bus) s.posts.items c.args.conn e c.index_mut-post.result.now is at c.index_mut-post.ensures.value) c.stop.ensures refl c.in_ok-note.ensures.told
 
 pub returns-clause-linked : goal.returns-clause-linked
-returns-clause-linked c = λ w e linked at stands. exited_linked w c.args.conn e c.args.self.now.at_end.items linked at stands
+returns-clause-linked c = λ w e linked at stands other. exited_linked w c.args.conn e c.args.self.now.at_end.items linked at stands other
 
 pub returns-then-place-len-clause-linked : goal.returns-then-place-len-clause-linked
-returns-then-place-len-clause-linked c = λ w e linked at stands. exited_linked w c.args.conn e c.args.self.now.at_end.items linked at stands
+returns-then-place-len-clause-linked c = λ w e linked at stands other. exited_linked w c.args.conn e c.args.self.now.at_end.items linked at stands other

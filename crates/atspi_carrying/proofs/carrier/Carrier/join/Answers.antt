@@ -16,4 +16,4 @@ returns-clause-joins c = λ w role is.
     joined w c.args.who role (inner_of s.bus) (inner_of c.join_behind.new.self) s.posts.items c.push.new.self.items c.new.result few is (c.in_ok-join_behind.ensures.ok ∙ ap (queues.joins (inner_of s.bus)) number) c.in_ok-push.ensures.items post
 
 pub returns-clause-linked : goal.returns-clause-linked
-returns-clause-linked c = λ w role linked. joined_linked w c.args.who role c.args.self.now.at_end.items c.push-2.new.self.items c.new-2.result linked c.in_ok-push-2.ensures.items c.new-2.ensures
+returns-clause-linked c = λ w role linked first. joined_linked w c.args.who role c.args.self.now.at_end.items c.push-2.new.self.items c.new-2.result linked c.in_ok-push-2.ensures.items c.new-2.ensures first

@@ -1,10 +1,14 @@
-use Rattle.std.proofs.Common.{set, refl, ap, ◌∙◌}
+use Rattle.std.proofs.Common.{map, set, refl, sym, ap, ◌∙◌, subst}
 use Rattle.atspi_routing.specs.Queues as queues
 use Rattle.atspi_bus_steps.specs.Inner.{inner_of}
 use Rattle.atspi_message.specs.Bytes.{written}
 use Rattle.atspi_handed.proofs.Short.{message_spellable}
+use Rattle.atspi_posts.specs.declared.post.Post.{Post}
+use Rattle.atspi_trace.specs.Causes.{does, routes}
+use Rattle.atspi_carrying.specs.Told.{whose}
 use Rattle.atspi_carrying.proofs.Linked.{routed_linked}
-use Rattle.atspi_carrying.proofs.Ties.{post_is, first_sends, routed_bus, routed_done}
+use Rattle.atspi_carrying.proofs.Staying.{Stands, stands_of, there_of, stands_set, stands_closed}
+use Rattle.atspi_carrying.proofs.Ties.{post_is, first_sends, front_routed, routed_bus, routed_done}
 use Rattle.atspi_carrying.proofs.carrier.Carrier.route.Goals as goal
 
 pub returns-clause-does : goal.returns-clause-does
@@ -26,8 +30,15 @@ returns-clause-linked c = λ w e said rest is linked at stands up.
     let p = c.index_mut-post.result.now in
     let q = c.route_front.new.post in
     let p_is = post_is w (inner_of s.bus) s.posts.items c.args.conn e p is at c.index_mut-post.ensures.value in
+    let posts1 = set s.posts.items c.args.conn q in
     let sends = first_sends w c.args.conn e said rest (inner_of s.bus) b0 b1 b1 s.posts.items s.posts.items s.posts.items p q s.trace.items s.trace.items s.trace.items is at up in
+    let front = front_routed w c.args.conn e said rest (inner_of s.bus) b0 b1 b1 s.posts.items s.posts.items s.posts.items p q s.trace.items c.route_front.new.trace.items s.trace.items is at up p_is
+    c.in_ok-route_front.ensures.routes in
     let bus = routed_bus w c.args.conn e said rest (inner_of s.bus) b0 b1 b1 s.posts.items s.posts.items s.posts.items p q s.trace.items c.route_front.new.trace.items s.trace.items is at up p_is
     c.in_ok-route_front.ensures.routes (c.in_ok-settle.ensures.ok ∙ ap (λ n. queues.settled n b0) c.joined_count-rounds.ensures) in
     routed_linked w c.args.conn e said rest s.at_end.items c.tell_bus.new.self.at_end.items b1 linked (message_spellable said.message (written said.message) sends.is) is.closings_told at stands up bus
     c.in_ok-settle.ensures.sound.ready.last told.given
+    (there_of (does w (routes c.args.conn)).world.ends c.tell_bus.new.self.posts.items (returns-clause-does c w e said rest is at up).tied.posts_are
+    (subst Stands (sym told.posts)
+    (stands_closed (map whose posts1) b1.closings posts1 refl told.others
+    (stands_set s.posts.items c.args.conn p q c.index_mut-post.ensures.value (ap whose front.post) (ap (λ (x : Post). x.standing) front.post) (stands_of w.ends s.posts.items is.posts_are linked.there)))))

@@ -6,7 +6,7 @@ use Rattle.atspi_routing.specs.Queues.{Bus}
 use Rattle.atspi_bus_steps.specs.Inner.{inner_of}
 use Rattle.atspi_bus_steps.specs.Sound.{IsSound}
 use Rattle.atspi_trace.specs.Ends.{same_party}
-use Rattle.atspi_carrying.specs.Told.{ahead, all_emptied, all_gone, gone, whose}
+use Rattle.atspi_carrying.specs.Told.{ahead, AreOthers, all_emptied, all_gone, gone, party_in, whose}
 use Rattle.atspi_carrying.proofs.Changes.{map-kept}
 use Rattle.atspi_carrying.proofs.Telling.{bus_more, closing_more}
 use Rattle.atspi_carrying.proofs.carrier.Carrier.tell_bus.Goals as goal
@@ -37,4 +37,8 @@ loop-closing-preserved c =
           c.tell_own.new.trace.items c.close.new.self.trace.items inv.parties (first ∙ ap (λ cs. closing ∷ cs) (sym rest)) (ap (λ (es : List Envelope). map envelope_of (option_to_list was.own) ++ es) (sym own))
           telling.told closed.told (ap (λ (x : Bus). ahead c.in-Ok.next x) same ∙ telling.next)
           (ap (λ who. same_party who Registry) (sym closed.who) ∙ sym c.is_registry.ensures ∙ c.if-is_registry.false) ∙ inv.told;
+      others = λ left. inv.others (subst (AreOthers (map whose c.args.self.now.posts.items)) (sym first) (
+        ap (λ l. same_party (party_in l closing.conn) Registry) (sym inv.parties) ∙ ap (λ who. same_party who Registry) (sym closed.who) ∙ sym c.is_registry.ensures ∙ c.if-is_registry.false,
+        subst (AreOthers (map whose c.args.self.now.posts.items)) rest left,
+      ));
     }

@@ -2,7 +2,7 @@ use Rattle.std.proofs.Common.{◌≡◌, ◌++◌, [], None, length, map}
 use Rattle.atspi_trace.specs.Entry.{entries_of}
 use Rattle.atspi_bus_steps.specs.Inner.{inner_of, state_of}
 use Rattle.atspi_bus_steps.specs.Sound.{IsSound}
-use Rattle.atspi_carrying.specs.Told.{ahead, all_emptied, all_gone, bus_told, whose}
+use Rattle.atspi_carrying.specs.Told.{ahead, AreOthers, all_emptied, all_gone, bus_told, whose}
 use Rattle.atspi_carrying.proofs.carrier.Carrier.tell_bus.Given as goal
 
 abbrev pub invariant-loop-closing : goal.invariant-loop-closing
@@ -15,6 +15,7 @@ invariant-loop-closing l = record {
   given : all_emptied (inner_of l.self.bus).closings l.self.at_end.items ≡ all_emptied (inner_of l.initial.self.bus).closings l.initial.self.at_end.items;
   told : entries_of l.self.trace.items ++ bus_told (map whose l.initial.self.posts.items) (ahead l.own (inner_of l.self.bus)) (inner_of l.self.bus).closings
       ≡ entries_of l.initial.self.trace.items ++ bus_told (map whose l.initial.self.posts.items) (ahead l.initial.own (inner_of l.initial.self.bus)) (inner_of l.initial.self.bus).closings;
+  others : AreOthers (map whose l.initial.self.posts.items) (inner_of l.self.bus).closings → AreOthers (map whose l.initial.self.posts.items) (inner_of l.initial.self.bus).closings;
 }
 
 abbrev pub decreases-loop-closing : goal.decreases-loop-closing
