@@ -25,7 +25,7 @@ use Rattle.atspi_trace.specs.Causes.{routes, gets, told_in}
 use Rattle.atspi_trace.specs.Work.{up_turn, down_turn, first_up, first_down}
 use Rattle.atspi_trace.specs.Due.{IsFollowed, HoldsWell, Follows, FollowsAll, IsSettled}
 use Rattle.atspi_lawful.specs.laws.NineLaws.{Everywhere}
-use Rattle.atspi_lawful.specs.settled.Laws.{NothingWaits, AsksOfNode, IsAsked, question_of, BeginsWell, IsPartAsked, ArePartsAsked, HasAskedAll, AllAsk}
+use Rattle.atspi_lawful.specs.settled.Laws.{NothingWaits, AsksOfNode, IsAsked, question_of, BeginsWell, IsPartAsked, ArePartsAsked, IsNameHere, HasAskedAll, AllAsk}
 use Rattle.atspi_lawful.proofs.OfOrder.Parties.{no_none, same_some, false_true}
 use Rattle.atspi_lawful.proofs.OfOrder.Shape.{RoleFits, Shape}
 use Rattle.atspi_lawful.proofs.OfOwn.Writing.{Lives}
@@ -277,7 +277,7 @@ module _ (es : List Entry) (w : World) (shape : Shape w) (live : Lives es) (node
     -- its items were asked for and returned
     holds : (hold : Holding) × (holding_of a h.holds ≡ Some hold)
     holds =
-        let i = name_in_all (λ name. is_bus_name name ≡ true → IsAsked (GetItems name) h.asked) its.0 h.named ask.items is_told its.2 in
+        let i = name_in_all (λ name. IsNameHere w.ends name → IsAsked (GetItems name) h.asked) its.0 h.named ask.items is_told it_is in
         let x = found_asked (λ (x : Asked). Known x × IsHeld w.ends h x) (GetItems its.0) h.asked (both Known (IsHeld w.ends h) h.asked all_known (held live k r e h there whose role on)) i in
         x.2.1 its.0 x.1 (was_returned x.0.fate (x.2.0.0.0 x.2.0.0.1) (subst (NeverFails w.ends x.0.fate) x.1 x.2.0.1 it_is)) j a d its_there its_whose its_on its.1
 

@@ -9,7 +9,7 @@ use Rattle.atspi_trace.specs.Entry.{Entry}
 use Rattle.atspi_trace.specs.World.{Standing, here, stopped, away, a_reader, Hearer, Said, Letter, first_registry, first_world, End, World}
 use Rattle.atspi_trace.specs.Ends.{is_here, end_at, end_of}
 use Rattle.atspi_trace.specs.Causes.{told_in}
-use Rattle.atspi_trace.specs.Due.{Scene, begins, after_all, is_lost, Goes}
+use Rattle.atspi_trace.specs.Due.{begins, after_all, is_lost, Goes}
 use Rattle.atspi_lawful.specs.laws.Words.{name_in, as_of, live_tree, Kept, held}
 use Rattle.atspi_lawful.specs.order.Scripts.{CanAllStand}
 use Rattle.atspi_lawful.specs.signed.Laws.{IsItsName}
@@ -19,7 +19,6 @@ use Rattle.atspi_lawful.specs.ways.Laws.{from_app, down_from, up_of, on_the_way,
 use Rattle.atspi_lawful.specs.settled.Laws.{NothingWaits}
 use Rattle.atspi_lawful.proofs.OfOrder.Parties.{no_none, same_some, false_true}
 use Rattle.atspi_lawful.proofs.OfOrder.Shape.{Shape}
-use Rattle.atspi_lawful.proofs.OfOrder.Along.{Keeps, kept}
 use Rattle.atspi_lawful.proofs.OfOrder.Growing.{Shaped, Nothing, And}
 use Rattle.atspi_lawful.proofs.OfOrder.Told.{Tells}
 use Rattle.atspi_lawful.proofs.OfOrder.Acts.{IsActive}
@@ -31,6 +30,7 @@ use Rattle.atspi_lawful.proofs.OfSteps.LawSteps.{Below, Stepped, steps_keep}
 use Rattle.atspi_lawful.proofs.OfHeld.Keeping.{SameKept, ReaderIs}
 use Rattle.atspi_lawful.proofs.OfHeld.LawHeld.{Below_held, Holds, holds_keep}
 use Rattle.atspi_lawful.proofs.OfCaches.LawCaches.{caches_follow}
+use Rattle.atspi_lawful.proofs.OfWays.LawWays.{IsKept}
 use Rattle.atspi_lawful.proofs.OfWays.LawThere.{is_found, lead_to_now}
 use Rattle.atspi_lawful.proofs.OfServed.LawServed.{steps_asked, steps_asked_since}
 use Rattle.atspi_lawful.proofs.OfSettled.Settling_down.{up_empty, down_empty, AllAsNow}
@@ -48,38 +48,32 @@ no_end : (ends : List End) → 2 ≤ length ends → end_at ends 0 ≡ None → 
 no_end [] two h = absurd (omega (arith, two))
 no_end (x ∷ xs) two h = no_none x (sym h)
 
-module _ (lines : List Line) (trace : List Entry) (can : CanAllStand lines) (g : Goes (begins lines) trace) (none : (after_all (begins lines) trace).owing ≡ []) where
-  abbrev pub s : Scene
-  s = after_all (begins lines) trace
-
-  pub state : (Inv : List Entry → World → Option ℕ → Type 0) → Keeps Inv → Inv trace s.world s.free
-  state Inv k = subst (λ l. Inv l s.world s.free) (ap (λ l. trace ++ l) none ∙ append-nil trace) (kept Inv k lines trace can g).state
-
-  start : Shaped (And (And (And Nothing Tells) Exited) Started) trace s.world s.free
+module _ (lines : List Line) (trace : List Entry) (can : CanAllStand lines) (g : Goes (begins lines) trace) (none : (after_all (begins lines) trace).owing ≡ []) (w : World) (free : Option ℕ) (state : IsKept trace w free) where
+  start : Shaped (And (And (And Nothing Tells) Exited) Started) trace w free
   start = state (Shaped (And (And (And Nothing Tells) Exited) Started)) starts_keep
 
-  pub shape : Shape s.world
+  pub shape : Shape w
   shape = start.0
 
-  trees : Trees trace s.world
+  trees : Trees trace w
   trees = (state (Shaped (And Below Stepped)) steps_keep).1.1.1
 
-  readers : (k r : ℕ) (e : End) (h : Hearer) → end_at s.world.ends k ≡ Some e → e.who ≡ Reader r → e.role ≡ a_reader h → ReaderIs trace r h
+  readers : (k r : ℕ) (e : End) (h : Hearer) → end_at w.ends k ≡ Some e → e.who ≡ Reader r → e.role ≡ a_reader h → ReaderIs trace r h
   readers = (state (Shaped (And Below_held Holds)) holds_keep).1.1.1
 
   -- the registry is here where nothing is lost
-  pub registry_is_live : is_lost s.world ≡ false → Lives trace
-  registry_is_live found = by (end_at s.world.ends 0) refl
+  pub registry_is_live : is_lost w ≡ false → Lives trace
+  registry_is_live found = by (end_at w.ends 0) refl
     where
-      by : (o : Option End) → end_at s.world.ends 0 ≡ o → Lives trace
+      by : (o : Option End) → end_at w.ends 0 ≡ o → Lives trace
       by None h = absurd (nobody shape.alone)
         where
-          nobody : (2 ≤ length s.world.ends) ⊎ (s.world ≡ first_world s.world.bus.quota) → ⊥
-          nobody (inl two) = no_end s.world.ends two h
-          nobody (inr first) = no_none first_registry (sym h ∙ ap (λ (w : World). end_at w.ends 0) first)
-      by (Some e) h = here_lives trace s.world Registry shape start.1.0.1.1 start.1.1 (record { conn = 0; e = e; there = h; whose = shape.registry e h; standing = stands e.standing (sym lost_is ∙ found) })
+          nobody : (2 ≤ length w.ends) ⊎ (w ≡ first_world w.bus.quota) → ⊥
+          nobody (inl two) = no_end w.ends two h
+          nobody (inr first) = no_none first_registry (sym h ∙ ap (λ (v : World). end_at v.ends 0) first)
+      by (Some e) h = here_lives trace w Registry shape start.1.0.1.1 start.1.1 (record { conn = 0; e = e; there = h; whose = shape.registry e h; standing = stands e.standing (sym lost_is ∙ found) })
         where
-          lost_is : is_lost s.world ≡ (if is_here e.standing then false else true)
+          lost_is : is_lost w ≡ (if is_here e.standing then false else true)
           lost_is = ap by_end h
             where
               by_end : Option End → Bool
@@ -92,29 +86,29 @@ module _ (lines : List Line) (trace : List Entry) (can : CanAllStand lines) (g :
           stands away f = absurd (false_true (sym f))
 
   -- WHAT A READER HOLDS
-  pub as_now : Lives trace → NothingWaits s.world → AllAsNow s.world
+  pub as_now : Lives trace → NothingWaits w → AllAsNow w
   as_now live waits k r e h there whose role on j a d x its_there its_whose its_role its_on hold has = by (held trace r a) refl (subst (SameKept trace a (held trace r a)) has ((readers k r e h there whose role).holds a))
     where
-      its : IsActive s.world (App a)
+      its : IsActive w (App a)
       its = record { conn = j; e = d; there = its_there; whose = its_whose; standing = its_on }
 
-      mine : IsActive s.world (Reader r)
+      mine : IsActive w (Reader r)
       mine = record { conn = k; e = e; there = there; whose = whose; standing = on }
 
       are_here : AreHere trace r a
       are_here = record {
         registry_lives = live;
-        reader_lives = here_lives trace s.world (Reader r) shape start.1.0.1.1 start.1.1 mine;
-        application_lives = here_lives trace s.world (App a) shape start.1.0.1.1 start.1.1 its;
+        reader_lives = here_lives trace w (Reader r) shape start.1.0.1.1 start.1.1 mine;
+        application_lives = here_lives trace w (App a) shape start.1.0.1.1 start.1.1 its;
       }
 
       name : (name : List ℕ) × IsItsName trace a name
       name = its_name trace a
 
-      nothing : on_the_way s.world r a ≡ []
+      nothing : on_the_way w r a ≡ []
       nothing =
-          ap (λ o. down_from a o ++ up_of (end_of s.world.ends (App a))) (is_found s.world (Reader r) shape mine) ∙ ap (λ o. filter_map (from_app a) e.down ++ up_of o) (is_found s.world (App a) shape its)
-          ∙ ap₂ (λ (l : List Letter) (u : List Said). filter_map (from_app a) l ++ u) (down_empty s.world k e waits there on) (up_empty s.world j d waits its_there its_on)
+          ap (λ o. down_from a o ++ up_of (end_of w.ends (App a))) (is_found w (Reader r) shape mine) ∙ ap (λ o. filter_map (from_app a) e.down ++ up_of o) (is_found w (App a) shape its)
+          ∙ ap₂ (λ (l : List Letter) (u : List Said). filter_map (from_app a) l ++ u) (down_empty w k e waits there on) (up_empty w j d waits its_there its_on)
 
       by : (o : Option Kept) → held trace r a ≡ o → SameKept trace a o (Some hold) → view (told_in hold.told) hold.tree ≡ view (told_in hold.told) x.tree
       by None is same = absurd same
@@ -127,9 +121,9 @@ module _ (lines : List Line) (trace : List Entry) (can : CanAllStand lines) (g :
               subst (λ o. CacheIs trace a o (followed name.0 trace r a)) is
               (caches_follow lines trace can g none name.0 r a name.1 (steps_asked lines trace can g name.0 r a) trace [] (sym (append-nil trace)))
 
-          leads : LeadsToNow name.0 trace a (told_in was.told) (view (told_in was.told) (as_of trace a was.last)) (on_the_way s.world r a)
+          leads : LeadsToNow name.0 trace a (told_in was.told) (view (told_in was.told) (as_of trace a was.last)) (on_the_way w r a)
           leads =
-              lead_to_now lines trace can g none name.0 r a name.1 (steps_asked lines trace can g name.0 r a) are_here was is (steps_asked_since lines trace can g none name.0 r a are_here was is)
+              lead_to_now lines trace can g none w free state name.0 r a name.1 (steps_asked lines trace can g name.0 r a) are_here was is (steps_asked_since lines trace can g none name.0 r a are_here was is)
               (view (told_in was.told) (as_of trace a was.last)) cache.shows
 
           now : view (told_in was.told) (as_of trace a was.last) ≡ view (told_in was.told) (live_tree trace a)

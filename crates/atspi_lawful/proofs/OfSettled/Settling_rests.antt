@@ -16,7 +16,7 @@ use Rattle.atspi_protocol.specs.exporting.Hearing.{pairs_in}
 use Rattle.atspi_protocol.specs.exporting.Taking.{app_takes}
 use Rattle.atspi_trace.specs.Entry.{Entry, sent}
 use Rattle.atspi_trace.specs.World.{Asked, World}
-use Rattle.atspi_trace.specs.Due.{Scene, begins, after_all, is_lost, IsSettled, Goes}
+use Rattle.atspi_trace.specs.Due.{begins, after_all, is_lost, IsSettled, Goes}
 use Rattle.atspi_lawful.specs.laws.Words.{before_sent}
 use Rattle.atspi_lawful.specs.laws.NineLaws.{Everywhere}
 use Rattle.atspi_lawful.specs.order.Scripts.{CanAllStand}
@@ -31,6 +31,7 @@ use Rattle.atspi_lawful.proofs.OfReaders.Fates.{FateIs}
 use Rattle.atspi_lawful.proofs.OfNames.Places.{name_told, told_is}
 use Rattle.atspi_lawful.proofs.OfSigned.Mail.{told_more}
 use Rattle.atspi_lawful.proofs.OfServed.HearingTuned.{NotSaid}
+use Rattle.atspi_lawful.proofs.OfWays.LawWays.{IsKept, kept_behind}
 use Rattle.atspi_lawful.proofs.OfSettled.Facts.{IsForOne, AllEmbed, AllTold}
 use Rattle.atspi_lawful.proofs.OfSettled.Exporting.{acting, AllApps, apps_kept, first_apps, asked_apps, moved_apps}
 use Rattle.atspi_lawful.proofs.OfSettled.Embedding.{other_phase}
@@ -125,22 +126,16 @@ module _ (es : List Entry) (w : World) (sh : Shape w) (g : Grounds es w) (live :
       both [] a b = tt
       both (x ∷ xs) a b = (one x a.0 b.0, both xs a.1 b.1)
 
--- AT QUIET
-module _ (lines : List Line) (trace : List Entry) (can : CanAllStand lines) (g : Goes (begins lines) trace) (none : (after_all (begins lines) trace).owing ≡ []) where
-  abbrev pub s : Scene
-  s = after_all (begins lines) trace
+-- AT QUIET, of the world behind a trace, also of one that bytes moved further which complete no message
+module _ (lines : List Line) (trace : List Entry) (can : CanAllStand lines) (g : Goes (begins lines) trace) (none : (after_all (begins lines) trace).owing ≡ []) (w : World) (free : Option ℕ) (state : IsKept trace w free) where
+  sh : Shape w
+  sh = law.shape lines trace can g none w free state
 
-  pub state : (Inv : List Entry → World → Option ℕ → Type 0) → Keeps Inv → Inv trace s.world s.free
-  state Inv k = law.state lines trace can g none Inv k
-
-  sh : Shape s.world
-  sh = law.shape lines trace can g none
-
-  below : Ground trace s.world
+  below : Ground trace w
   below = (state (Shaped (And Ground Replied)) replied_keeps).1.0
 
-  grounds_here : Grounds trace s.world
-  grounds_here = grounds trace s.world below
+  grounds_here : Grounds trace w
+  grounds_here = grounds trace w below
 
   replies : Each TakesReplies [] trace
   replies = (state (Shaped (And Ground Replied)) replied_keeps).1.1
@@ -148,16 +143,21 @@ module _ (lines : List Line) (trace : List Entry) (can : CanAllStand lines) (g :
   apps : Each AsksApps [] trace
   apps = (state (Shaped (And Ground AllAskApps)) ask_keep).1.1
 
-  pub rests_where : AllTold trace s.world → Everywhere AsksOfNode trace → NothingWaits s.world → is_lost s.world ≡ false → AllAsk trace s.world → IsSettled s.world
+  pub rests_where : AllTold trace w → Everywhere AsksOfNode trace → NothingWaits w → is_lost w ≡ false → AllAsk trace w → IsSettled w
   rests_where told nodes waits found asks =
-      let live : Lives trace = law.registry_is_live lines trace can g none found in
-      settled trace s.world sh live nodes (replied trace s.world (state (Shaped (And Under_waiting Waiting)) waits_keep).1 waits) (state (Shaped (And (And Under_embed AllBegin) AllEmbed)) embed_keep).1.1 told
-      (none_refused trace s.world sh grounds_here replies apps) (all_held trace s.world sh grounds_here replies) (all_parts trace s.world sh grounds_here replies (bus_knows trace s.world sh grounds_here replies))
-      (all_for_one trace s.world sh grounds_here live nodes) (all_begun trace s.world (state (Shaped (And Nothing AllHaveBegun)) begun_keep).1.1 live) (named trace s.world sh grounds_here) (law.as_now lines trace can g none live waits) asks
+      let live : Lives trace = law.registry_is_live lines trace can g none w free state found in
+      settled trace w sh live nodes (replied trace w (state (Shaped (And Under_waiting Waiting)) waits_keep).1 waits) (state (Shaped (And (And Under_embed AllBegin) AllEmbed)) embed_keep).1.1 told
+      (none_refused trace w sh grounds_here replies apps) (all_held trace w sh grounds_here replies) (all_parts trace w sh grounds_here replies (bus_knows trace w sh grounds_here replies))
+      (all_for_one trace w sh grounds_here live nodes) (all_begun trace w (state (Shaped (And Nothing AllHaveBegun)) begun_keep).1.1 live) (named trace w sh grounds_here) (law.as_now lines trace can g none w free state live waits) asks
 
   -- and each reader was told of each child
-  pub rests : Everywhere AsksOfNode trace → NothingWaits s.world → is_lost s.world ≡ false → AllAsk trace s.world → IsSettled s.world
-  rests nodes waits found asks =
+  pub rests_at : Everywhere AsksOfNode trace → NothingWaits w → is_lost w ≡ false → AllAsk trace w → IsSettled w
+  rests_at nodes waits found asks =
       rests_where
-      (all_told trace s.world sh (state (Shaped Under_told_of) told_keep).1 (replied trace s.world (state (Shaped (And Under_waiting Waiting)) waits_keep).1 waits)
-      (all_begun trace s.world (state (Shaped (And Nothing AllHaveBegun)) begun_keep).1.1) waits) nodes waits found asks
+      (all_told trace w sh (state (Shaped Under_told_of) told_keep).1 (replied trace w (state (Shaped (And Under_waiting Waiting)) waits_keep).1 waits)
+      (all_begun trace w (state (Shaped (And Nothing AllHaveBegun)) begun_keep).1.1) waits) nodes waits found asks
+
+-- behind each front of a lawful trace
+pub rests : (lines : List Line) (trace : List Entry) → CanAllStand lines → Goes (begins lines) trace → (none : (after_all (begins lines) trace).owing ≡ []) → Everywhere AsksOfNode trace → NothingWaits (after_all (begins lines) trace).world
+    → is_lost (after_all (begins lines) trace).world ≡ false → AllAsk trace (after_all (begins lines) trace).world → IsSettled (after_all (begins lines) trace).world
+rests lines trace can g none = rests_at lines trace can g none (after_all (begins lines) trace).world (after_all (begins lines) trace).free (kept_behind lines trace can g none)

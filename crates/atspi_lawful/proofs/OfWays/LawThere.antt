@@ -4,7 +4,6 @@ use Rattle.std.specs.Prelude.{nat_lt, filter_map, if◌then◌else◌}
 use Rattle.std.specs.List.{AllByRecursion, cons_option, position_or_len}
 use Rattle.std.proofs.lemmas.Bool.{ltb-true, ltb-false}
 use Rattle.std.proofs.lemmas.Bool.Decides.{nat_tests}
-use Rattle.std.proofs.lemmas.List.{append-nil}
 use Rattle.atspi_forest.specs.declared.view.Row.{Row}
 use Rattle.atspi_forest.specs.Forest.{Forest}
 use Rattle.atspi_lines.specs.declared.line.Line.{Line}
@@ -16,7 +15,7 @@ use Rattle.atspi_trace.specs.World.{a_reader, Holding, Hearer, Said, Letter, End
 use Rattle.atspi_trace.specs.Ends.{is_here, same_party, conn_of, end_at, end_if, end_of}
 use Rattle.atspi_trace.specs.Hearing.{holding_of}
 use Rattle.atspi_trace.specs.Causes.{told_in}
-use Rattle.atspi_trace.specs.Due.{Scene, begins, after_all, Goes}
+use Rattle.atspi_trace.specs.Due.{begins, after_all, Goes}
 use Rattle.atspi_lawful.specs.laws.Words.{messages, message, Kept, held}
 use Rattle.atspi_lawful.specs.laws.NineLaws.{sent_before}
 use Rattle.atspi_lawful.specs.order.Scripts.{CanAllStand}
@@ -27,7 +26,6 @@ use Rattle.atspi_lawful.specs.ways.Laws.{from_app, down_from, up_of, on_the_way,
 use Rattle.atspi_lawful.proofs.OfOrder.Parties.{no_none, same_some, same-party, party-same, false_true, found}
 use Rattle.atspi_lawful.proofs.OfOrder.Shape.{RoleFits, Shape}
 use Rattle.atspi_lawful.proofs.OfOrder.Effects.{reader_role}
-use Rattle.atspi_lawful.proofs.OfOrder.Along.{Keeps, kept}
 use Rattle.atspi_lawful.proofs.OfOrder.Growing.{Shaped, Nothing, And}
 use Rattle.atspi_lawful.proofs.OfOrder.Told.{Tells}
 use Rattle.atspi_lawful.proofs.OfOrder.Acts.{IsActive}
@@ -46,7 +44,7 @@ use Rattle.atspi_lawful.proofs.OfQuiet.Here.{Present, LiveHere, present_keeps}
 use Rattle.atspi_lawful.proofs.OfMissed.Arriving.{On}
 use Rattle.atspi_lawful.proofs.OfMissed.Delivering.{StandsOn, HeldAll, Delivers}
 use Rattle.atspi_lawful.proofs.OfMissed.LawMissed.{Under_delivered, delivers_keep}
-use Rattle.atspi_lawful.proofs.OfWays.LawWays.{on_way, on_their_way}
+use Rattle.atspi_lawful.proofs.OfWays.LawWays.{on_way, IsKept, on_their_way}
 use Rattle.atspi_lawful.proofs.OfWays.There.{Rising, HasSerial, next, sent_low, all_there}
 
 -- BOTH LINKS AS ONE LIST
@@ -187,64 +185,58 @@ module _ (es : List Entry) (w : World) (numbers : Numbered es w) (links : Linked
       by false less = let not_less : n ≤ s = ltb-false s n less in back_has s (filter_map (from_app a) r.down) x.up (ups_have n s x.up linked.ups not_less (omega (arith, low, end)))
 
 -- THE LAWS
-module _ (lines : List Line) (trace : List Entry) (can : CanAllStand lines) (g : Goes (begins lines) trace) (none : (after_all (begins lines) trace).owing ≡ []) where
-  abbrev s : Scene
-  s = after_all (begins lines) trace
-
-  state : (Inv : List Entry → World → Option ℕ → Type 0) → Keeps Inv → Inv trace s.world s.free
-  state Inv k = subst (λ l. Inv l s.world s.free) (ap (λ l. trace ++ l) none ∙ append-nil trace) (kept Inv k lines trace can g).state
-
-  shape : Shape s.world
+module _ (lines : List Line) (trace : List Entry) (can : CanAllStand lines) (g : Goes (begins lines) trace) (none : (after_all (begins lines) trace).owing ≡ []) (w : World) (free : Option ℕ) (state : IsKept trace w free) where
+  shape : Shape w
   shape = (state (Shaped (And Base Linked)) links_keep).0
 
-  numbers : Numbered trace s.world
+  numbers : Numbered trace w
   numbers = (state (Shaped (And Base Linked)) links_keep).1.0.1
 
-  links : Linked trace s.world
+  links : Linked trace w
   links = (state (Shaped (And Base Linked)) links_keep).1.1
 
-  turned : Turned trace s.world
+  turned : Turned trace w
   turned = (state (Shaped (And Beneath_turns Turned)) turns_keep).1.1
 
-  known : Known trace s.world
+  known : Known trace w
   known = (state (Shaped (And Under Taken)) taken_keeps).1.1.1
 
-  live : LiveHere trace s.world
+  live : LiveHere trace w
   live = (state (Shaped (And (And Nothing Tells) Present)) present_keeps).1.1.1
 
-  readers : (k r : ℕ) (e : End) (h : Hearer) → end_at s.world.ends k ≡ Some e → e.who ≡ Reader r → e.role ≡ a_reader h → ReaderIs trace r h
+  readers : (k r : ℕ) (e : End) (h : Hearer) → end_at w.ends k ≡ Some e → e.who ≡ Reader r → e.role ≡ a_reader h → ReaderIs trace r h
   readers = (state (Shaped (And Below_held Holds)) holds_keep).1.1.1
 
-  delivers : Delivers trace s.world
+  delivers : Delivers trace w
   delivers = (state (Shaped (And Under_delivered Delivers)) delivers_keep).1.1
 
-  pub all_on_the_way : (name : List ℕ) (reader app : ℕ) → AreHere trace reader app → (k : Kept) → held trace reader app ≡ Some k → AreAskedSince name trace app k.last → AllAreThere name trace app k.last (on_the_way s.world reader app)
+  pub all_on_the_way : (name : List ℕ) (reader app : ℕ) → AreHere trace reader app → (k : Kept) → held trace reader app ≡ Some k → AreAskedSince name trace app k.last → AllAreThere name trace app k.last (on_the_way w reader app)
   all_on_the_way name reader app are_here k holds asked = by (holding_of app hearer.0.holds) refl (subst (λ o. SameKept trace app o (holding_of app hearer.0.holds)) holds ((readers r.conn reader r.e hearer.0 r.there r.whose hearer.1).holds app))
     where
-      r : IsActive s.world (Reader reader)
+      r : IsActive w (Reader reader)
       r = live (Reader reader) (λ h. false_true (ap (λ p. same_party p The_bus) h)) are_here.registry_lives are_here.reader_lives
 
-      x : IsActive s.world (App app)
+      x : IsActive w (App app)
       x = live (App app) (λ h. false_true (ap (λ p. same_party p The_bus) h)) are_here.registry_lives are_here.application_lives
 
       hearer : (h : Hearer) × (r.e.role ≡ a_reader h)
       hearer = reader_role r.e.role reader (subst (λ p. RoleFits p r.e.role) r.whose (shape.roles r.conn r.e r.there))
 
-      way_is : on_the_way s.world reader app ≡ filter_map (from_app app) r.e.down ++ x.e.up
-      way_is = ap (λ o. down_from app o ++ up_of (end_of s.world.ends (App app))) (is_found s.world (Reader reader) shape r) ∙ ap (λ o. filter_map (from_app app) r.e.down ++ up_of o) (is_found s.world (App app) shape x)
+      way_is : on_the_way w reader app ≡ filter_map (from_app app) r.e.down ++ x.e.up
+      way_is = ap (λ o. down_from app o ++ up_of (end_of w.ends (App app))) (is_found w (Reader reader) shape r) ∙ ap (λ o. filter_map (from_app app) r.e.down ++ up_of o) (is_found w (App app) shape x)
 
-      by : (o : Option Holding) → holding_of app hearer.0.holds ≡ o → SameKept trace app (Some k) o → AllAreThere name trace app k.last (on_the_way s.world reader app)
+      by : (o : Option Holding) → holding_of app hearer.0.holds ≡ o → SameKept trace app (Some k) o → AllAreThere name trace app k.last (on_the_way w reader app)
       by None h same = absurd same
       by (Some j) h same =
           let has : HeldAll trace hearer.0 r.e.down app j = (delivers are_here.registry_lives r.conn reader r.e hearer.0 r.there r.whose hearer.1 r.standing).held app j h in
-          all_there trace numbers.0 name app k.last asked (on_the_way s.world reader app) k.last same.first (subst (λ n. message trace (App app) n ≡ Some same.first) (sym same.last) same.was) (inr refl)
+          all_there trace numbers.0 name app k.last asked (on_the_way w reader app) k.last same.first (subst (λ n. message trace (App app) n ≡ Some same.first) (sym same.last) same.was) (inr refl)
           (subst (Rising k.last) (sym way_is) (subst (λ n. Rising n (filter_map (from_app app) r.e.down ++ x.e.up)) (sym same.last)
-          (way_rises trace s.world numbers links turned app r.e x.e r.conn x.conn r.there x.there x.whose (ap is_here x.standing) hearer.0 j has)))
-          (on_way name trace s.world known app reader)
+          (way_rises trace w numbers links turned app r.e x.e r.conn x.conn r.there x.there x.whose (ap is_here x.standing) hearer.0 j has)))
+          (on_way name trace w known app reader)
           (λ n m above found_ four.
           subst (HasSerial n) (sym way_is)
-          (way_has trace s.world numbers links turned app r.e x.e r.conn x.conn r.there x.there x.whose (ap is_here x.standing) hearer.0 j has n m (subst (λ l. l < n) same.last above) found_ four))
+          (way_has trace w numbers links turned app r.e x.e r.conn x.conn r.there x.there x.whose (ap is_here x.standing) hearer.0 j has n m (subst (λ l. l < n) same.last above) found_ four))
 
   pub lead_to_now : (name : List ℕ) (reader app : ℕ) → IsItsName trace app name → IsServed trace name reader app → AreHere trace reader app
-      → (k : Kept) → held trace reader app ≡ Some k → AreAskedSince name trace app k.last → (v : Forest Row) → (followed name trace reader app).view ≡ Some v → LeadsToNow name trace app (told_in k.told) v (on_the_way s.world reader app)
-  lead_to_now name reader app its served are_here k holds asked v has = on_their_way lines trace can g none name reader app its served k holds (all_on_the_way name reader app are_here k holds asked) v has
+      → (k : Kept) → held trace reader app ≡ Some k → AreAskedSince name trace app k.last → (v : Forest Row) → (followed name trace reader app).view ≡ Some v → LeadsToNow name trace app (told_in k.told) v (on_the_way w reader app)
+  lead_to_now name reader app its served are_here k holds asked v has = on_their_way lines trace can g none w free state name reader app its served k holds (all_on_the_way name reader app are_here k holds asked) v has

@@ -31,7 +31,7 @@ use Rattle.atspi_lawful.specs.caches.Caches.{unasked, followed}
 use Rattle.atspi_lawful.specs.caches.Laws.{IsServed}
 use Rattle.atspi_lawful.specs.ways.Laws.{from_app, down_from, up_of, on_the_way, MissesNothingSince, AllAreThere, LeadsToNow}
 use Rattle.atspi_lawful.proofs.OfOrder.Parties.{no_none, same_some, same-party, party-same, false_true, found, all_append}
-use Rattle.atspi_lawful.proofs.OfOrder.Along.{kept}
+use Rattle.atspi_lawful.proofs.OfOrder.Along.{Keeps, kept}
 use Rattle.atspi_lawful.proofs.OfOrder.Growing.{Shaped, And}
 use Rattle.atspi_lawful.proofs.OfOrder.Each.{Each, everywhere, each_more}
 use Rattle.atspi_lawful.proofs.OfSteps.Trees.{tree_more}
@@ -205,18 +205,27 @@ module _ (name : List ℕ) (trace : List Entry) (w : World) (known : Known trace
       of_app None h = tt
       of_app (Some e) h = let f = found_end w.ends (App app) e h in ups e.who f.2 e.up (known f.0 e f.1).0
 
--- THE LAW
-pub on_their_way : (lines : List Line) (trace : List Entry) → CanAllStand lines → Goes (begins lines) trace → (after_all (begins lines) trace).owing ≡ []
-    → (name : List ℕ) (reader app : ℕ) → IsItsName trace app name → IsServed trace name reader app
-    → (k : Kept) → held trace reader app ≡ Some k → AllAreThere name trace app k.last (on_the_way (after_all (begins lines) trace).world reader app)
-    → (v : Forest Row) → (followed name trace reader app).view ≡ Some v
-    → LeadsToNow name trace app (told_in k.told) v (on_the_way (after_all (begins lines) trace).world reader app)
-on_their_way lines trace a g none name reader app its served k holds there v has =
-    led trace name reader app (wholly trace name reader app its (signed_law lines trace a g none) (items_law lines trace a g) (parts_law lines trace a g) (no_signal_missed lines trace a g) served) (announcements_carry lines trace a g) (steps_apply lines trace a g)
-    (starts_anew lines trace a g) k (on_the_way s.world reader app) (links_hold lines trace a g) holds there (on_way name trace s.world known app reader) v has
+-- WHAT IS KEPT ALONG A TRACE holds of the world behind it
+abbrev pub IsKept : List Entry → World → Option ℕ → Type 1
+IsKept trace w free = (Inv : List Entry → World → Option ℕ → Type 0) → Keeps Inv → Inv trace w free
+
+pub kept_behind : (lines : List Line) (trace : List Entry) → CanAllStand lines → Goes (begins lines) trace → (after_all (begins lines) trace).owing ≡ []
+    → IsKept trace (after_all (begins lines) trace).world (after_all (begins lines) trace).free
+kept_behind lines trace a g none Inv k = subst (λ l. Inv l s.world s.free) (ap (λ l. trace ++ l) none ∙ append-nil trace) (kept Inv k lines trace a g).state
   where
     s : Scene
     s = after_all (begins lines) trace
 
-    known : Known trace s.world
-    known = subst (λ l. Known l s.world) (ap (λ l. trace ++ l) none ∙ append-nil trace) (kept (Shaped (And Under Taken)) taken_keeps lines trace a g).state.1.1.1
+-- THE LAW, of such a world, also of one that bytes moved further which complete no message
+pub on_their_way : (lines : List Line) (trace : List Entry) → CanAllStand lines → Goes (begins lines) trace → (after_all (begins lines) trace).owing ≡ []
+    → (w : World) (free : Option ℕ) → IsKept trace w free
+    → (name : List ℕ) (reader app : ℕ) → IsItsName trace app name → IsServed trace name reader app
+    → (k : Kept) → held trace reader app ≡ Some k → AllAreThere name trace app k.last (on_the_way w reader app)
+    → (v : Forest Row) → (followed name trace reader app).view ≡ Some v
+    → LeadsToNow name trace app (told_in k.told) v (on_the_way w reader app)
+on_their_way lines trace a g none w free state name reader app its served k holds there v has =
+    led trace name reader app (wholly trace name reader app its (signed_law lines trace a g none) (items_law lines trace a g) (parts_law lines trace a g) (no_signal_missed lines trace a g) served) (announcements_carry lines trace a g) (steps_apply lines trace a g)
+    (starts_anew lines trace a g) k (on_the_way w reader app) (links_hold lines trace a g) holds there (on_way name trace w known app reader) v has
+  where
+    known : Known trace w
+    known = (state (Shaped (And Under Taken)) taken_keeps).1.1.1

@@ -47,9 +47,12 @@ asked_before = asks_text its_name 0 ∷ loaded
 abbrev pub row_with : Part → Row
 row_with part = row (path_of 0) (codes "Demo") part No_number No_number
 
--- a world in which nothing waits, and one in which a message waits for the reader
+-- a world in which nothing waits, and one in which a message waits for the reader; and the name of the application there
 abbrev pub at_rest : World
 at_rest = world (app_state with_button []) (holding with_button) []
 
 abbrev pub with_news : World
 with_news = world (app_state with_button []) (holding with_button) (end_of_app ∷ [])
+
+abbrev pub shown_name : List ℕ
+shown_name = codes ":1.1"

@@ -1,7 +1,6 @@
 -- Where nothing waits, and each reader asked for all that it may, each holds each application as it is now.
 use Rattle.std.specs.Prelude.{◌≡◌, ◌⊎◌, ℕ, ◌≤◌, true, false, List, [], ◌∷◌, ◌++◌, map, None, Some}
 use Rattle.std.specs.List.{AllByRecursion, list_all}
-use Rattle.atspi_types.specs.Names.{is_bus_name}
 use Rattle.atspi_forest.specs.Forest.{labels}
 use Rattle.atspi_forest.specs.Path.{path_of}
 use Rattle.atspi_forest.specs.View.{view}
@@ -70,10 +69,14 @@ pub record IsPartAsked (trace : List Entry) (reader app : ℕ) (name path : List
 abbrev pub ArePartsAsked : List Entry → ℕ → ℕ → List ℕ → Row → Type 0
 ArePartsAsked trace reader app name row = AllByRecursion (IsPartAsked trace reader app name row.path) (unknown_parts row)
 
--- A READER THAT ASKED FOR ALL: each call of its start, all items of each application that the registry told it of, and each part that it does not know of one that it holds
+-- the unique name of an application that is here
+abbrev pub IsNameHere : List End → List ℕ → Type 0
+IsNameHere ends name = (conn app : ℕ) × (e : End) × (end_at ends conn ≡ Some e) × (e.who ≡ App app) × (e.standing ≡ here) × (e.unique ≡ Some name)
+
+-- A READER THAT ASKED FOR ALL: each call of its start, all items of each application that is here and that the registry told it of, and each part that it does not know of one that it holds
 pub record HasAskedAll (trace : List Entry) (ends : List End) (reader : ℕ) (h : Hearer) : Type 0 where
   pub starts : BeginsWell h.asked
-  pub items : AllByRecursion (λ name. is_bus_name name ≡ true → IsAsked (GetItems name) h.asked) h.named
+  pub items : AllByRecursion (λ name. IsNameHere ends name → IsAsked (GetItems name) h.asked) h.named
   pub parts : (conn app : ℕ) (e : End) (name : List ℕ) (k : Holding) → end_at ends conn ≡ Some e → e.who ≡ App app → e.unique ≡ Some name → holding_of app h.holds ≡ Some k
       → AllByRecursion (ArePartsAsked trace reader app name) (labels (view (told_in k.told) k.tree))
 

@@ -10,8 +10,8 @@ ghost use Rattle.atspi_protocol.specs.declared.following.question.Question.TheVa
 ghost use Rattle.atspi_protocol.specs.following.ReaderState.{start_calls};
 ghost use Rattle.atspi_trace.specs.Entry.{changed, quiet};
 ghost use Rattle.atspi_lawful.specs.caches.Cases.{its_name};
-ghost use Rattle.atspi_lawful.specs.examples.Cases.{button};
-ghost use Rattle.atspi_lawful.specs.settled.Cases.{asked_all, asker, greeted, given_name, asks_text, asked_behind, asked_before, row_with, at_rest, with_news};
+ghost use Rattle.atspi_lawful.specs.examples.Cases.{button, stopped_world};
+ghost use Rattle.atspi_lawful.specs.settled.Cases.{asked_all, asker, greeted, given_name, shown_name, asks_text, asked_behind, asked_before, row_with, at_rest, with_news};
 ghost use Rattle.atspi_lawful.specs.settled.Laws.{NothingWaits, BeginsWell, IsAsked, AsksOfNode, IsPartAsked, ArePartsAsked, HasAskedAll};
 
 /// Nothing waits in a world with empty links; where a message waits for a reader, something does.
@@ -54,12 +54,13 @@ pub fn what_part_is_asked()
     ensures nothing_unknown { ArePartsAsked [] 0 0 its_name (row_with Absent) }
 {}
 
-/// A reader that was told of no application asked for all once its start is done; one that was told of one, once it asked for its items too. A name that is no bus name
-/// need not be asked.
+/// A reader that was told of no application asked for all once its start is done; one that was told of one that is here, once it asked for its items too. Of one that
+/// stopped, or that is no longer there, none need be asked.
 pub fn who_asked_for_all()
     ensures start { HasAskedAll [] [] 0 (asker start_calls []) }
-    ensures items { HasAskedAll [] [] 0 (asker (start_calls ++ GetItems its_name ∷ []) (its_name ∷ [])) }
-    ensures no_bus_name { HasAskedAll [] [] 0 (asker start_calls (codes "x" ∷ [])) }
+    ensures items { HasAskedAll [] at_rest.ends 0 (asker (start_calls ++ GetItems shown_name ∷ []) (shown_name ∷ [])) }
+    ensures stopped { HasAskedAll [] stopped_world.ends 0 (asker start_calls (shown_name ∷ [])) }
+    ensures not_there { HasAskedAll [] [] 0 (asker start_calls (shown_name ∷ [])) }
     ensures no_start { HasAskedAll [] [] 0 (asker [] []) → ⊥ }
-    ensures no_items { HasAskedAll [] [] 0 (asker start_calls (its_name ∷ [])) → ⊥ }
+    ensures no_items { HasAskedAll [] at_rest.ends 0 (asker start_calls (shown_name ∷ [])) → ⊥ }
 {}
