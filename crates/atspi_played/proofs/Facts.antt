@@ -13,14 +13,16 @@ use Rattle.atspi_routing.specs.Routing.{is_reply}
 use Rattle.atspi_protocol.specs.declared.news.part.PartName.{PartName}
 use Rattle.atspi_protocol.specs.declared.following.question.Question.{Question}
 use Rattle.atspi_protocol.specs.declared.following.question.Question.TheVariants.{Hello, GetChildren, GetItems, GetPart}
+use Rattle.atspi_protocol.specs.ends.Places.{bus}
 use Rattle.atspi_protocol.specs.news.Arguments.{signature_of}
+use Rattle.atspi_protocol.specs.news.NewsOf.{or_empty}
 use Rattle.atspi_protocol.specs.news.Replies.{items_told}
 use Rattle.atspi_protocol.specs.following.ReaderState.{Followed, Pending, ReaderState, start_calls}
 use Rattle.atspi_protocol.specs.following.Replied.{is_reply_to, may_answer, is_unique_name_alone, children_signature}
 use Rattle.atspi_protocol.specs.following.Takes.{found_in}
 use Rattle.atspi_protocol.specs.following.Wishes.{wishes}
-use Rattle.atspi_trace.specs.Entry.{Entry}
-use Rattle.atspi_trace.specs.World.{here, waits, Asked, Hearer, a_reader, Letter, End, World}
+use Rattle.atspi_trace.specs.Entry.{Entry, gone}
+use Rattle.atspi_trace.specs.World.{here, Fate, waits, failed, Asked, Hearer, a_reader, Letter, End, World}
 use Rattle.atspi_trace.specs.Ends.{end_at, reader_count}
 use Rattle.atspi_trace.specs.Hearing.{is_answered, is_listening, is_registered}
 use Rattle.atspi_trace.specs.Due.{begins, after_all, is_lost, Goes}
@@ -50,8 +52,8 @@ pub record IsGone (w : World) (name : List ℕ) : Type 0 where
 abbrev pub IsReturnedWell : World → Envelope → Question → Type 0
 IsReturnedWell w m Hello = (m.kind ≡ 2) × (is_unique_name_alone m.body ≡ true)
 IsReturnedWell w m GetChildren = (m.kind ≡ 2) × (bytes_eq (signature_of m.body) children_signature ≡ true)
-IsReturnedWell w m (GetItems name) = ((m.kind ≡ 2) × ((items_told m ≡ None) → ⊥)) ⊎ ((m.kind ≡ 3) × IsGone w name)
-IsReturnedWell w m (GetPart name path part) = Unit {0}
+IsReturnedWell w m (GetItems name) = ((m.kind ≡ 2) × (bytes_eq (or_empty m.sender) bus ≡ false) × ((items_told m ≡ None) → ⊥)) ⊎ ((m.kind ≡ 3) × IsGone w name)
+IsReturnedWell w m (GetPart name path part) = m.kind ≡ 2 → bytes_eq (or_empty m.sender) bus ≡ false
 IsReturnedWell w m question = m.kind ≡ 2
 
 pub record IsReplyWell (w : World) (m : Envelope) (a : Asked) : Type 0 where
@@ -77,8 +79,14 @@ abbrev pub Waits : Option Pending → List Asked → Type 0
 Waits None asked = list_all is_answered asked ≡ true
 Waits (Some p) asked = (early : List Asked) × (asked ≡ early ++ record { serial = p.serial; question = p.question; fate = waits } ∷ []) × (list_all is_answered early ≡ true)
 
+-- behind the start it asks of applications alone
+abbrev pub IsLate : Question → Type 0
+IsLate (GetItems name) = Unit {0}
+IsLate (GetPart name path part) = Unit {0}
+IsLate question = ⊥
+
 abbrev pub InOrder : List Asked → List Question → Type 0
-InOrder asked to_come = (late : List Question) × (map question_of asked ++ to_come ≡ start_calls ++ late)
+InOrder asked to_come = (late : List Question) × (map question_of asked ++ to_come ≡ start_calls ++ late) × AllByRecursion IsLate late
 
 -- nothing is known of applications before the start is over but for GetChildren's return, and from there on all of the start were returned
 pub record KnowsNothing (s : ReaderState) : Type 0 where
@@ -98,11 +106,22 @@ abbrev pub AreDistinct : List Followed → Type 0
 AreDistinct [] = Unit {0}
 AreDistinct (f ∷ fs) = AllByRecursion (λ (g : Followed). bytes_eq g.name f.name ≡ false) fs × AreDistinct fs
 
+-- while calls of the start are to come no other was asked, and none of the start that was answered was refused
+abbrev pub IsStarting : List Asked → List Question → Type 0
+IsStarting asked to_come = (to_come ≡ []) ⊎ (map question_of asked ++ to_come ≡ start_calls)
+
+abbrev pub NeverFailed : Question → Fate → Type 0
+NeverFailed (GetItems name) fate = Unit {0}
+NeverFailed (GetPart name path part) fate = Unit {0}
+NeverFailed question fate = fate ≡ failed → ⊥
+
 pub record AsksWell (h : Hearer) (s : ReaderState) : Type 0 where
   pub next : s.next ≡ h.next
   pub silent : s.out ≡ []
   pub waiting : Waits s.pending h.asked
   pub order : InOrder h.asked s.to_come
+  pub starting : IsStarting h.asked s.to_come
+  pub returned : AllByRecursion (λ (a : Asked). NeverFailed a.question a.fate) h.asked
   pub started : KnowsNothing s ⊎ IsStarted s h
   pub registry : s.registry ≡ h.registry
   pub names : AllByRecursion (IsNamed h) s.apps
@@ -118,9 +137,29 @@ pub record IsOfApp (es : List Entry) (g : Followed) : Type 0 where
   pub its_name : name_in es (App app) ≡ Some g.name
   pub root : g.root ≡ path_of 0
 
+-- who was asked for items is known and not held, or its end was told since
+abbrev pub IsGoneFor : List Entry → ℕ → ℕ → Type 0
+IsGoneFor es r a = (xs ys : List Entry) × (es ≡ xs ++ gone r a ∷ ys)
+
+abbrev pub IsAwaited : List Entry → ℕ → List ℕ → List Followed → Type 0
+IsAwaited es r name apps =
+    ((g : Followed) × (found_in name apps ≡ Some g) × (g.view ≡ None)) ⊎ ((found_in name apps ≡ None) × ((a : ℕ) × (name_in es (App a) ≡ Some name) × IsGoneFor es r a))
+
+abbrev pub Awaits : List Entry → ℕ → Option Pending → List Followed → Type 0
+Awaits es r pending apps = (p : Pending) → pending ≡ Some p → (name : List ℕ) → p.question ≡ GetItems name → IsAwaited es r name apps
+
+-- no call of the start asks for items
+abbrev pub NoItems : Question → Type 0
+NoItems (GetItems name) = ⊥
+NoItems question = Unit {0}
+
 pub record SeesWell (es : List Entry) (r : ℕ) (s : ReaderState) : Type 0 where
   pub seen : (name : List ℕ) (a : ℕ) → name_in es (App a) ≡ Some name → IsSeen (found_in name s.apps) (followed name es r a)
   pub apps : AllByRecursion (IsOfApp es) s.apps
+  pub asking : Awaits es r s.pending s.apps
+  pub to_come : AllByRecursion NoItems s.to_come
+  -- of one that has no name yet it has nothing
+  pub unnamed : (a : ℕ) → name_in es (App a) ≡ None → (name : List ℕ) → (followed name es r a).view ≡ None
 
 -- 3. what it wants (piece Q): each part that it gave up was asked for since the load; what it holds was asked for; and each name that it was told of is known, or was asked for, or is gone
 pub record WantsOf (es : List Entry) (r : ℕ) (h : Hearer) (g : Followed) : Type 0 where
@@ -130,9 +169,15 @@ pub record WantsOf (es : List Entry) (r : ℕ) (h : Hearer) (g : Followed) : Typ
 abbrev pub IsKnownOrGone : World → ReaderState → Hearer → List ℕ → Type 0
 IsKnownOrGone w s h name = ((g : Followed) × (found_in name s.apps ≡ Some g)) ⊎ (IsAsked (GetItems name) h.asked ⊎ IsGone w name)
 
+-- a part that it waits for was asked for since the load
+abbrev pub PartWaits : List Entry → ℕ → Option Pending → Type 0
+PartWaits es r pending =
+    (p : Pending) → pending ≡ Some p → (name path : List ℕ) (part : PartName) → p.question ≡ GetPart name path part → (a : ℕ) × (name_in es (App a) ≡ Some name) × IsPartAsked es r a name path part
+
 pub record WantsWell (es : List Entry) (w : World) (r : ℕ) (h : Hearer) (s : ReaderState) : Type 0 where
   pub each : AllByRecursion (WantsOf es r h) s.apps
   pub named : AllByRecursion (λ name. is_bus_name name ≡ true → IsKnownOrGone w s h name) h.named
+  pub asking : PartWaits es r s.pending
   -- where no call is in flight, nothing is left to be asked
   pub idle : s.pending ≡ None → (s.to_come ≡ []) × (wishes s.apps ≡ [])
 

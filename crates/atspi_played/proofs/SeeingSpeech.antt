@@ -1,0 +1,358 @@
+-- A reader takes a letter: what it speaks is what is due.
+use Rattle.std.proofs.Common.{◌≡◌, ◌⊎◌, inl, inr, ℕ, suc, Bool, true, false, List, [], ◌∷◌, ◌++◌, map, Option, None, Some, refl, sym, ap, ap₂, ◌∙◌, subst}
+use Rattle.std.specs.Prelude.{◌==◌, ◌&&◌, flat_map, not, bytes_eq, filter, fold, option_map, if◌then◌else◌}
+use Rattle.std.specs.List.{AllByRecursion}
+use Rattle.std.proofs.lemmas.Bool.{eq-eqb, eqb-true}
+use Rattle.std.proofs.lemmas.List.{append-nil, append_assoc}
+use Rattle.atspi_forest.specs.declared.news.News.{News}
+use Rattle.atspi_forest.specs.News.{effect}
+use Rattle.atspi_forest.specs.declared.news.News.TheVariants.{Nothing}
+use Rattle.atspi_forest.specs.declared.view.Row.{Row}
+use Rattle.atspi_forest.specs.Forest.{Forest}
+use Rattle.atspi_forest.specs.View.{view}
+use Rattle.atspi_forest.specs.Row.{TreeRow}
+use Rattle.atspi_forest.specs.declared.step.Step.{Step}
+use Rattle.atspi_speech.specs.Speech.{lines as read_lines, closing_lines, closing_says}
+use Rattle.atspi_speech.proofs.DueLemmas.{closes_due}
+use Rattle.atspi_forest.specs.declared.news.Reference.{Reference}
+use Rattle.atspi_forest.specs.Path.{path_of}
+use Rattle.atspi_lines.specs.declared.line.Line.{Line}
+use Rattle.atspi_lines.specs.declared.line.Party.{Party}
+use Rattle.atspi_lines.specs.declared.line.Party.TheVariants.{Bus as The_bus, Registry, App, Reader}
+use Rattle.atspi_message.specs.Envelope.{Envelope}
+use Rattle.atspi_names.specs.Owners.{unique_name}
+use Rattle.atspi_protocol.specs.ends.Places.{bus}
+use Rattle.atspi_protocol.specs.declared.news.part.PartName.{PartName}
+use Rattle.atspi_protocol.specs.declared.following.question.Question.{Question}
+use Rattle.atspi_protocol.specs.declared.following.question.Question.TheVariants.{Hello, AddMatch, RegisterEvent, GetChildren, GetItems, GetPart}
+use Rattle.atspi_protocol.specs.news.NewsOf.{news_of, or_empty}
+use Rattle.atspi_protocol.specs.news.Replies.{elements_of}
+use Rattle.atspi_protocol.specs.following.ReaderState.{Done, sends, speaks, tells_end, Followed, Pending, ReaderState, is_named, begins}
+use Rattle.atspi_protocol.specs.following.Known.{closing_of, closings, end_of_connection, unasked, made_known, references_among, new_child, with_child, takes_child, told_end, with_end, takes_end}
+use Rattle.atspi_protocol.specs.following.Replied.{changed, loaded, told_part, refused_part, takes_reply}
+use Rattle.atspi_protocol.specs.following.Takes.{lines_at, asks, goes_on, reader_takes, found_in, noted, notes, folded, takes_news}
+use Rattle.atspi_trace.specs.Entry.{Entry, got, spoke, gone}
+use Rattle.atspi_trace.specs.World.{Asked, Holding, Said, Hearer, Letter, End, World}
+use Rattle.atspi_trace.specs.Ends.{same_party, app_named}
+use Rattle.atspi_trace.specs.Hearing.{step_lines, lines_if_held, ended_entries, last_lines, holding_of, question_returned, app_with, heard_entries}
+use Rattle.atspi_lawful.specs.laws.Words.{message, name_in, answers_question, as_of, Kept, held}
+use Rattle.atspi_lawful.specs.caches.Caches as caches
+use Rattle.atspi_lawful.specs.caches.Caches.{followed}
+use Rattle.atspi_lawful.proofs.OfOrder.Parties.{no_none, same_some, party-same, false_true, all_back}
+use Rattle.atspi_lawful.proofs.OfOrder.Each.{everywhere}
+use Rattle.atspi_lawful.specs.exits.Laws.{ComesBeforeEnd, IsNotEndOf}
+use Rattle.atspi_lawful.proofs.OfHeard.Quiet.{heard_all}
+use Rattle.atspi_lawful.proofs.OfHeld.Keeping.{ReaderIs, SameHolding, SameKept}
+use Rattle.atspi_types.specs.Names.{is_bus_name, is_unique_name}
+use Rattle.atspi_lawful.specs.missed.Laws.{IsLoad}
+use Rattle.atspi_lawful.specs.signed.Laws.{IsItsName}
+use Rattle.atspi_lawful.specs.caches.Laws.{CacheIs, IsViewed}
+use Rattle.atspi_lawful.proofs.OfCaches.LawCaches.{caches_follow}
+use Rattle.atspi_lawful.proofs.OfServed.LawServed.{steps_asked}
+use Rattle.atspi_lawful.proofs.OfMissed.Registering.{name_is_bus_name}
+use Rattle.atspi_trace.specs.Causes.{told_in}
+use Rattle.atspi_lawful.proofs.OfSigned.Self.{unique_told}
+use Rattle.atspi_lawful.proofs.OfTaken.Said.{IsLetter, TellsTree, TellsOf}
+use Rattle.atspi_lawful.proofs.OfLinks.LawLinks.{NotTaken}
+use Rattle.atspi_lawful.proofs.OfNames.Places.{first_at, greeted, greeted_more, none_greeted, name_told, told_is}
+use Rattle.atspi_lawful.proofs.OfSigned.Self.{app_name}
+use Rattle.atspi_lawful.proofs.OfSigned.Mail.{NameIs, told_more}
+use Rattle.atspi_play.specs.Playing.{silent}
+use Rattle.atspi_play.specs.Plays.{of_app, told as told_to}
+use Rattle.atspi_played.proofs.Pieces.{is_call, IsNoCall, spoken}
+use Rattle.atspi_played.proofs.SeeingLines.{due_lines}
+use Rattle.atspi_played.proofs.SeeingWell.{replied_apart, known_apart}
+use Rattle.atspi_played.proofs.Facts.{Ground, AreDistinct, Awaits, NoItems, SeesWell, IsOfApp, IsSeen, IsAwaited, IsGoneFor}
+use Rattle.atspi_played.proofs.SeeingApps.{found_list, those_named, not_named, FoundAfter, same, new, distinct_changed, distinct_without, distinct_made, distinct_fold, found_it, found_other, found_without, found_kept, found_made, found_is, each_changed, each_kept, each_made, each_fold, each_weaker}
+use Rattle.atspi_played.proofs.SeeingSame.{Part, told_is as part_is, folded_is, loaded_keeps, refused_keeps, noted_keeps, folded_keeps, told_keeps, marks_of, Same, same_noted, same_folded, IsRooted, followed_rooted}
+use Rattle.atspi_played.proofs.SeeingReplies as replies
+use Rattle.atspi_played.proofs.SeeingReplies.{Brings, items, told, refuses, fails, children, Replied, replied_to}
+use Rattle.atspi_played.proofs.SeeingTaken.{answers_as, Sees, is_seen, sees_both, same_or, sees_new, others_see, own_sees}
+use Rattle.atspi_played.proofs.SeeingGround.{its, is_name, no_bus_name, one_party, Sender, of_bus, of_end, end_from_bus, named_is, app_is, same_number}
+use Rattle.atspi_played.proofs.SeeingStep as step
+use Rattle.atspi_played.proofs.SeeingSeen.{IsQuiet, seen_before, unheld, found_own, replied_seen, other_replied}
+use Rattle.atspi_played.proofs.SeeingWishes.{IsFound, each_found, IsWished, first_wish, GoesOn, stays, begins_one, wishes_one, next_of}
+use Rattle.atspi_played.proofs.SeeingChildren.{took, Taking, from, children_from_registry}
+use Rattle.atspi_played.proofs.SeeingBehind.{same_question, written_app, written_registry, written_reader, written_bus, behind_own, behind_other, behind_registry, behind_reader, behind_bus, behind_its_end, behind_other_end}
+
+-- LISTS of what is done
+pub told_both : (f : Done → List Entry) (xs ys : List Done) → flat_map f (xs ++ ys) ≡ flat_map f xs ++ flat_map f ys
+told_both f [] ys = refl
+told_both f (x ∷ xs) ys = ap (λ l. f x ++ l) (told_both f xs ys) ∙ sym (append_assoc (f x) (flat_map f xs) (flat_map f ys))
+
+pub told_lines : (r b : ℕ) (ends : List End) (x : List ℕ) (ls : List (List ℕ)) → app_named x ends ≡ Some b → flat_map (told_to r ends) (map (λ (line : List ℕ). speaks x line) ls) ≡ map (spoke r b) ls
+told_lines r b ends x [] h = refl
+told_lines r b ends x (l ∷ ls) h = ap₂ (λ o k. of_app o (λ app. spoke r app l) ++ k) h (told_lines r b ends x ls h)
+
+lines_no_call : (x : List ℕ) (ls : List (List ℕ)) → AllByRecursion IsNoCall (map (λ (line : List ℕ). speaks x line) ls)
+lines_no_call x [] = tt
+lines_no_call x (l ∷ ls) = (refl, lines_no_call x ls)
+
+no_calls : (xs ys : List Done) → AllByRecursion IsNoCall xs → AllByRecursion IsNoCall ys → AllByRecursion IsNoCall (xs ++ ys)
+no_calls [] ys a b = b
+no_calls (x ∷ xs) ys a b = (a.0, no_calls xs ys a.1 b)
+
+pub spoken_all : (xs : List Done) → AllByRecursion IsNoCall xs → spoken xs ≡ xs
+spoken_all [] a = refl
+spoken_all (x ∷ xs) a = ap (λ t. if not t then x ∷ spoken xs else spoken xs) a.0 ∙ ap (λ l. x ∷ l) (spoken_all xs a.1)
+
+pub spoken_last : (xs : List Done) (e : Envelope) → AllByRecursion IsNoCall xs → spoken (xs ++ sends e ∷ []) ≡ xs
+spoken_last [] e a = refl
+spoken_last (x ∷ xs) e a = ap (λ t. if not t then x ∷ spoken (xs ++ sends e ∷ []) else spoken (xs ++ sends e ∷ [])) a.0 ∙ ap (λ l. x ∷ l) (spoken_last xs e a.1)
+
+-- WHAT IS READ of one
+lines_none : (news : News) (g : Followed) → g.view ≡ None → lines_at news g ≡ []
+lines_none news g h = rw h refl
+
+lines_some : (news : News) (g : Followed) (v : Forest Row) → g.view ≡ Some v → lines_at news g ≡ map (λ (line : List ℕ). speaks g.name line) (read_lines g.root g.name v news)
+lines_some news g v h = rw h refl
+
+lines_nothing : (g : Followed) → lines_at Nothing g ≡ []
+lines_nothing g = by g.view refl
+  where
+    by : (o : Option (Forest Row)) → g.view ≡ o → lines_at Nothing g ≡ []
+    by None h = lines_none Nothing g h
+    by (Some v) h = lines_some Nothing g v h
+
+lines_said : (news : News) (g : Followed) → AllByRecursion IsNoCall (lines_at news g)
+lines_said news g = by g.view refl
+  where
+    by : (o : Option (Forest Row)) → g.view ≡ o → AllByRecursion IsNoCall (lines_at news g)
+    by None h = subst (AllByRecursion IsNoCall) (sym (lines_none news g h)) tt
+    by (Some v) h = subst (AllByRecursion IsNoCall) (sym (lines_some news g v h)) (lines_no_call g.name (read_lines g.root g.name v news))
+
+all_lines : (news : News) (l : List Followed) → AllByRecursion IsNoCall (flat_map (lines_at news) l)
+all_lines news [] = tt
+all_lines news (g ∷ gs) = no_calls (lines_at news g) (flat_map (lines_at news) gs) (lines_said news g) (all_lines news gs)
+
+pub closing_none : (g : Followed) → g.view ≡ None → closing_of g ≡ []
+closing_none g h = rw h refl
+
+pub closing_some : (g : Followed) (v : Forest Row) → g.view ≡ Some v → closing_of g ≡ map (λ (line : List ℕ). speaks g.name line) (closing_lines v)
+closing_some g v h = rw h refl
+
+all_closings : (l : List Followed) → AllByRecursion IsNoCall (closings l)
+all_closings [] = tt
+all_closings (g ∷ gs) = no_calls (closing_of g) (closings gs) (by g.view refl) (all_closings gs)
+  where
+    by : (o : Option (Forest Row)) → g.view ≡ o → AllByRecursion IsNoCall (closing_of g)
+    by None h = subst (AllByRecursion IsNoCall) (sym (closing_none g h)) tt
+    by (Some v) h = subst (AllByRecursion IsNoCall) (sym (closing_some g v h)) (lines_no_call g.name (closing_lines v))
+
+an_end_said : (k : List ℕ) → AllByRecursion IsNoCall (end_of_connection k)
+an_end_said k = by (is_bus_name k && is_unique_name k)
+  where
+    by : (t : Bool) → AllByRecursion IsNoCall (if t then tells_end k ∷ [] else [])
+    by true = (refl, tt)
+    by false = tt
+
+no_news : (x : List ℕ) (e : Envelope) → (e.kind == 4) ≡ false → news_of x e ≡ Nothing
+no_news x e h = rw h refl
+
+module _ (script : List Line) (es : List Entry) (w : World) (r : ℕ) (h : Hearer) (letter : Letter) (s : ReaderState) (t : Taking script es w r h letter s) (quiet : IsQuiet es r h letter) (readers : ReaderIs es r h) where
+  abbrev m : Envelope
+  m = letter.said.message
+
+  abbrev n : List ℕ
+  n = or_empty m.sender
+
+  abbrev later : List Entry
+  later = es ++ took r h w.ends letter
+
+  abbrev q : Option Question
+  q = question_returned m h.asked
+
+  abbrev noted_all : ReaderState
+  noted_all = step.noted_all script es w r h letter s t
+
+  abbrev replied_all : ReaderState
+  replied_all = step.replied_all script es w r h letter s t
+
+  abbrev ended_all : ReaderState
+  ended_all = step.ended_all script es w r h letter s t
+
+  abbrev known_all : ReaderState
+  known_all = step.known_all script es w r h letter s t
+
+  abbrev read_all : ReaderState
+  read_all = step.read_all script es w r h letter s t
+
+  -- what it did, but for what it asks
+  silent_before : replied_all.out ≡ []
+  silent_before = (step.reply script es w r h letter s t).out ∙ t.asks.silent
+
+  known_out : known_all.out ≡ ended_all.out
+  known_out = by (new_child ended_all m)
+    where
+      by : (o : Option Reference) → (with_child ended_all o).out ≡ ended_all.out
+      by None = refl
+      by (Some root) = refl
+
+  pub read_said : AllByRecursion IsNoCall read_all.out
+  read_said =
+      no_calls known_all.out (flat_map (lines_at (news_of n m)) (filter (is_named n) known_all.apps)) (subst (AllByRecursion IsNoCall) (sym known_out) (by (told_end m))) (all_lines (news_of n m) (filter (is_named n) known_all.apps))
+    where
+      by : (o : Option (List ℕ)) → AllByRecursion IsNoCall (with_end replied_all o).out
+      by None = subst (AllByRecursion IsNoCall) (sym silent_before) tt
+      by (Some k) =
+          no_calls replied_all.out (end_of_connection k ++ closings (filter (is_named k) replied_all.apps)) (subst (AllByRecursion IsNoCall) (sym silent_before) tt)
+          (no_calls (end_of_connection k) (closings (filter (is_named k) replied_all.apps)) (an_end_said k) (all_closings (filter (is_named k) replied_all.apps)))
+
+  abbrev Whole : Type 0
+  Whole = flat_map (told_to r w.ends) read_all.out ≡ heard_entries r h w.ends letter
+
+  -- the law about caches, before
+  its_own : (b : ℕ) (x : List ℕ) → name_in es (App b) ≡ Some x → IsItsName es b x
+  its_own b x is own at = same_some own x (sym at ∙ is)
+
+  cache : (b : ℕ) (x : List ℕ) → name_in es (App b) ≡ Some x → CacheIs es b (held es r b) (followed x es r b)
+  cache b x is =
+      caches_follow script es t.ground.can t.ground.goes t.ground.nothing_owed x r b (its_own b x is) (steps_asked script es t.ground.can t.ground.goes x r b) es [] (sym (append-nil es))
+
+  -- A MESSAGE OF AN APPLICATION
+  module _ (b : ℕ) (x : List ℕ) (its_name : name_in es (App b) ≡ Some x) (is : letter.from ≡ App b) (c : IsLetter es letter) (own : n ≡ x) where
+    abbrev f : Followed
+    f = followed x es r b
+
+    named : app_named x w.ends ≡ Some b
+    named = app_is script es w None t.ground x b its_name
+
+    no_end : told_end m ≡ None
+    no_end = by (told_end m) refl
+      where
+        by : (o : Option (List ℕ)) → told_end m ≡ o → o ≡ None
+        by None e = refl
+        by (Some k) e = absurd (no_bus_name script es w None t.ground (App b) x (is_name script es w None t.ground (App b) x its_name) (sym (end_from_bus m k e) ∙ own))
+
+    before_lines : ended_all.out ≡ []
+    before_lines = ap (λ o. (with_end replied_all o).out) no_end ∙ silent_before
+
+    abbrev found : Option Followed
+    found = found_in x replied_all.apps
+
+    words_are : read_all.out ≡ flat_map (lines_at (news_of x m)) (found_list found)
+    words_are =
+        ap₂ (λ l k. l ++ k) (known_out ∙ before_lines)
+        (ap (λ z. flat_map (lines_at (news_of z m)) (filter (is_named z) known_all.apps)) own
+        ∙ ap (flat_map (lines_at (news_of x m))) (those_named x known_all.apps (known_apart script es w r h letter s t quiet readers)
+        ∙ ap found_list (found_own script es w r h letter s t quiet b x its_name is c own)))
+
+    -- what is not held is not loaded where something is held
+    no_load : (k : Kept) → held es r b ≡ Some k → (IsLoad q → ⊥)
+    no_load k is_held load = by (step.reply script es w r h letter s t).brings
+      where
+        viewed : IsViewed es b k f
+        viewed = subst (λ o. CacheIs es b o f) is_held (cache b x its_name)
+
+        none_held : f.view ≡ None → ⊥
+        none_held e = no_none (view (told_in k.told) (as_of es b k.last)) (sym e ∙ viewed.shows)
+
+        plain_load : (p : Option Question) → replies.IsPlain p → IsLoad p → ⊥
+        plain_load (Some (GetItems name)) a l = a
+        plain_load (Some (GetPart name path part)) a l = l
+        plain_load (Some GetChildren) a l = l
+        plain_load (Some Hello) a l = l
+        plain_load (Some (AddMatch rule)) a l = l
+        plain_load (Some (RegisterEvent rule)) a l = l
+        plain_load None a l = l
+
+        by : Brings m s.pending s.registry noted_all.apps q replied_all → ⊥
+        by (replies.same plain e reg) = plain_load q plain load
+        by (items p name all at asks_ qs two not_bus may tells is_apps reg) =
+            none_held (unheld script es w r h letter s t quiet b x its_name p at (asks_ ∙ ap GetItems (sym (answers_as m name not_bus may) ∙ own)))
+        by (told name path which news qs two not_bus may tells is_apps reg) = subst IsLoad qs load
+        by (refuses name path which (inl none) not_bus may tells no_four is_apps reg) = subst IsLoad none load
+        by (refuses name path which (inr some) not_bus may tells no_four is_apps reg) = subst IsLoad some load
+        by (fails p name at asks_ qs no_four is_apps reg) = subst IsLoad qs load
+        by (children qs two is_apps reg) = subst IsLoad qs load
+
+    was : message es (App b) m.serial ≡ Some c.first
+    was = ap (λ p. message es p m.serial) (sym is) ∙ c.was
+
+    tells : TellsTree es b letter.said
+    tells = subst (λ p. TellsOf es p letter.said) is c.tells
+
+    asked_same : answers_question es r (message es (App b) m.serial) ≡ q
+    asked_same = same_question es r b h m c.first readers was c.alike
+
+    -- where it holds the application, what is due is what is read from what it had
+    due : (k : Kept) → held es r b ≡ Some k → (v : Forest Row) → f.view ≡ Some v → read_lines (path_of 0) x v (news_of x c.first) ≡ step_lines letter.said letter.said.announces
+    due k is_held v has =
+        due_lines script es (heard_entries r h w.ends letter) t.after t.free r b x letter.said c.first
+        (subst (λ p. Ground script (es ++ got (Reader r) p m.serial ∷ heard_entries r h w.ends letter) t.after t.free) is t.behind)
+        (subst (λ p. IsItsName (es ++ got (Reader r) p m.serial ∷ heard_entries r h w.ends letter) b x) is
+        (λ o at. same_some o x (sym at ∙ step.name_before script es w r h letter s t (App b) ∙ its_name)))
+        was tells (λ l. no_load k is_held (subst IsLoad asked_same l)) k is_held v has
+
+    -- what the reader has after the reply, where the message is a signal
+    not_reply : m.kind ≡ 4 → q ≡ None
+    not_reply four = by h.asked
+      where
+        by : (l : List Asked) → question_returned m l ≡ None
+        by [] = refl
+        by (a ∷ l) = rw four (by l)
+
+    read_name : news_of x m ≡ news_of x c.first
+    read_name = ap (news_of x) c.alike
+
+    abbrev IsDueNow : Option Followed → Option Holding → Type 0
+    IsDueNow o k = flat_map (told_to r w.ends) (flat_map (lines_at (news_of x m)) (found_list o)) ≡ map (spoke r b) (lines_if_held k letter.said)
+
+    -- no signal: nothing is read, and nothing is due
+    nothing_read : (o : Option Followed) → flat_map (lines_at Nothing) (found_list o) ≡ []
+    nothing_read None = refl
+    nothing_read (Some g) = ap (λ l. l ++ []) (lines_nothing g)
+
+    no_signal : (m.kind == 4) ≡ false → (k : Option Kept) → held es r b ≡ k → (o : Option Holding) → SameKept es b k o → IsDueNow found o
+    no_signal no_four k is_held o like = ap (flat_map (told_to r w.ends)) (ap (λ z. flat_map (lines_at z) (found_list found)) (no_news x m no_four) ∙ nothing_read found) ∙ ap (map (spoke r b)) (by k is_held o like)
+      where
+        by : (k : Option Kept) → held es r b ≡ k → (o : Option Holding) → SameKept es b k o → [] ≡ lines_if_held o letter.said
+        by None e None y = refl
+        by (Some j) e (Some o) y =
+            let viewed : IsViewed es b j f = subst (λ z. CacheIs es b z f) e (cache b x its_name) in
+            let v : Forest Row = view (told_in j.told) (as_of es b j.last) in
+            ap (read_lines (path_of 0) x v) (sym (no_news x m no_four) ∙ read_name) ∙ due j e v viewed.shows
+        by (Some j) e None y = absurd y
+        by None e (Some o) y = absurd y
+
+    -- a signal, read from what it had before
+    a_signal : m.kind ≡ 4 → (k : Option Kept) → held es r b ≡ k → (o : Option Holding) → SameKept es b k o → IsDueNow found o
+    a_signal four k is_held o like = by found seen_after k is_held o like
+      where
+        seen_after : Sees found (noted c.first.serial f)
+        seen_after = subst (λ p. Sees found (caches.replied p c.first (noted c.first.serial f))) (not_reply four) (replied_seen script es w r h letter s t quiet b x its_name is c own)
+
+        nobody : (k : Option Kept) → held es r b ≡ k → (o : Option Holding) → SameKept es b k o → f.view ≡ None → [] ≡ map (spoke r b) (lines_if_held o letter.said)
+        nobody None e None y none = refl
+        nobody (Some j) e (Some o) y none =
+            let viewed : IsViewed es b j f = subst (λ z. CacheIs es b z f) e (cache b x its_name) in
+            absurd (no_none (view (told_in j.told) (as_of es b j.last)) (sym none ∙ viewed.shows))
+        nobody (Some j) e None y none = absurd y
+        nobody None e (Some o) y none = absurd y
+
+        some_lines : (k : Option Kept) → held es r b ≡ k → (o : Option Holding) → SameKept es b k o → (v : Forest Row) → f.view ≡ Some v → map (spoke r b) (read_lines (path_of 0) x v (news_of x m)) ≡ map (spoke r b) (lines_if_held o letter.said)
+        some_lines (Some j) e (Some o) y v has = ap (map (spoke r b)) (ap (read_lines (path_of 0) x v) read_name ∙ due j e v has)
+        some_lines None e None y v has = absurd (no_none v (sym (subst (λ z. CacheIs es b z f) e (cache b x its_name)) ∙ has))
+        some_lines (Some j) e None y v has = absurd y
+        some_lines None e (Some o) y v has = absurd y
+
+        rooted : IsRooted x f
+        rooted = followed_rooted x es r b
+
+        of_one : (g : Followed) → Same g (noted c.first.serial f) → (z : Option (Forest Row)) → f.view ≡ z → (k : Option Kept) → held es r b ≡ k → (o : Option Holding) → SameKept es b k o → IsDueNow (Some g) o
+        of_one g y None none k e o z = ap (λ l. flat_map (told_to r w.ends) (l ++ [])) (lines_none (news_of x m) g (y.view ∙ none)) ∙ nobody k e o z none
+        of_one g y (Some v) has k e o z =
+            ap (flat_map (told_to r w.ends)) (append-nil (lines_at (news_of x m) g) ∙ lines_some (news_of x m) g v (y.view ∙ has)
+            ∙ ap₂ (λ a d. map (λ (line : List ℕ). speaks a line) (read_lines d a v (news_of x m))) (y.name ∙ rooted.0) (y.root ∙ rooted.1))
+            ∙ told_lines r b w.ends x (read_lines (path_of 0) x v (news_of x m)) named ∙ some_lines k e o z v has
+
+        by : (p : Option Followed) → Sees p (noted c.first.serial f) → (k : Option Kept) → held es r b ≡ k → (o : Option Holding) → SameKept es b k o → IsDueNow p o
+        by None y k e o z = nobody k e o z y
+        by (Some g) y k e o z = of_one g y f.view refl k e o z
+
+    pub app_words : Whole
+    app_words = ap (flat_map (told_to r w.ends)) words_are ∙ by (m.kind == 4) refl ∙ sym (written_app r b h w.ends letter is)
+      where
+        by : (z : Bool) → (m.kind == 4) ≡ z → IsDueNow found (holding_of b h.holds)
+        by true e = a_signal (eqb-true m.kind 4 e) (held es r b) refl (holding_of b h.holds) (readers.holds b)
+        by false e = no_signal e (held es r b) refl (holding_of b h.holds) (readers.holds b)
