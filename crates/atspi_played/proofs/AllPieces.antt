@@ -1,9 +1,4 @@
 -- The pieces, each from its own files.
-use Rattle.std.proofs.Common.{ℕ, List, Option}
-use Rattle.atspi_lines.specs.declared.line.Line.{Line}
-use Rattle.atspi_trace.specs.Entry.{Entry}
-use Rattle.atspi_trace.specs.World.{World}
-use Rattle.atspi_played.proofs.Facts.{Ground}
 use Rattle.atspi_played.proofs.Pieces.{RepliesStep, SeesStep, WantsMore, Pieces}
 use Rattle.atspi_played.proofs.AskingPieces.{asks_step, asks_first, asks_called, idle_after}
 use Rattle.atspi_played.proofs.ReplyingRoots.{roots_are_told}

@@ -1,8 +1,8 @@
 -- Building a lawful trace: in the midst of a script all of its entries so far may stand, nothing is owed, and what is next is what is left of the line at work, and then the lines behind it.
-use Rattle.std.proofs.Common.{◌≡◌, inl, inr, ℕ, zero, suc, Bool, true, false, List, [], ◌∷◌, ◌++◌, length, Option, None, Some, refl, sym, ap, ◌∙◌, subst}
+use Rattle.std.proofs.Common.{◌≡◌, inl, inr, ℕ, suc, false, List, [], ◌∷◌, ◌++◌, length, Option, None, Some, refl, sym, ap, ◌∙◌, subst}
 use Rattle.std.specs.Prelude.{if◌then◌else◌}
 use Rattle.std.specs.List.{AllByRecursion}
-use Rattle.std.proofs.lemmas.List.{append-nil, append_assoc}
+use Rattle.std.proofs.lemmas.List.{append-nil}
 use Rattle.atspi_lines.specs.declared.limits.TheConstants.{QUOTA_MOST}
 use Rattle.atspi_lines.specs.declared.line.Line.{Line}
 use Rattle.atspi_lines.specs.declared.line.Party.TheVariants.{Bus as The_bus, Registry, App, Reader}
@@ -11,12 +11,11 @@ use Rattle.atspi_protocol.specs.declared.following.question.Question.{Question}
 use Rattle.atspi_trace.specs.Entry.{Entry, started, changed, sent, got, heard, unheard, spoke, showed, exited, gone, dropped, busy, quiet}
 use Rattle.atspi_trace.specs.World.{World, first_world}
 use Rattle.atspi_trace.specs.Causes.{Cause, does, at_end}
-use Rattle.atspi_trace.specs.Work.{Refusal, refused, Work, resting, work_of, Next, cause, rests, next_of}
-use Rattle.atspi_trace.specs.Due.{Progress, freed, rested, wrote, went, progress, bound, Scene, begins, scene_of, line_worked, unless_refused, from_lines, is_lost, onward, at_work_owing, at_work, first_entry}
-use Rattle.atspi_trace.specs.Due.{due, rest_entries, without_first, writes, asks_at, asks_freely, own_or_due, chosen, happens_owing, happens, after_all, IsOwnCall, Stands, Goes, RestsWell, TellsTruly, Lawful}
-use Rattle.atspi_lawful.specs.order.Scripts.{CanStand, CanAllStand}
-use Rattle.atspi_lawful.proofs.OfOrder.Parties.{same_some}
-use Rattle.atspi_lawful.proofs.OfOrder.Allowed.{Moves, Asks, IsWork, bare-work, NextFine}
+use Rattle.atspi_trace.specs.Work.{refused, Work, resting, work_of, cause, rests, next_of}
+use Rattle.atspi_trace.specs.Due.{freed, rested, wrote, went, progress, bound, Scene, begins, scene_of, line_worked, unless_refused, from_lines, is_lost, at_work, first_entry}
+use Rattle.atspi_trace.specs.Due.{without_first, writes, asks_at, own_or_due, chosen, happens_owing, happens, after_all, IsOwnCall, Goes, RestsWell, TellsTruly, Lawful}
+use Rattle.atspi_lawful.specs.order.Scripts.{CanAllStand}
+use Rattle.atspi_lawful.proofs.OfOrder.Allowed.{Asks, IsWork, bare-work, NextFine}
 use Rattle.atspi_lawful.proofs.OfOrder.Next.{line_fine, next_fine}
 use Rattle.atspi_lawful.proofs.OfOrder.Plain.{NotOwn, FirstPlain, does_plain}
 use Rattle.atspi_played.proofs.BuildingFuel.{enough, Goes_silent, silent_next, Enough, steady}

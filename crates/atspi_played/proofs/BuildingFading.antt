@@ -1,5 +1,5 @@
 -- Who is not here is not here again, and nobody stops by what the bus does or what an end takes: so of the turns that write nothing each takes one end from those that stopped.
-use Rattle.std.proofs.Common.{◌≡◌, ℕ, zero, suc, ◌<◌, ◌≤◌, Bool, true, false, List, [], ◌∷◌, ◌++◌, length, Option, None, Some, refl, sym, ap, ◌∙◌, subst, arith, cond}
+use Rattle.std.proofs.Common.{◌≡◌, ℕ, zero, suc, ◌<◌, ◌≤◌, Bool, true, false, List, [], ◌∷◌, length, Option, None, Some, refl, sym, ap, ◌∙◌, subst, arith, cond}
 use Rattle.std.specs.Prelude.{filter, if◌then◌else◌}
 use Rattle.std.specs.List.{fold}
 use Rattle.atspi_lines.specs.declared.line.Party.{Party}
@@ -11,7 +11,7 @@ use Rattle.atspi_routing.specs.Steps.{bus_leaves}
 use Rattle.atspi_trace.specs.World.{Standing, here, stopped, away, Role, the_registry, an_application, a_reader, Said, Letter, End, World}
 use Rattle.atspi_trace.specs.Ends.{is_here, end_at, with_end, taken_down, leaves}
 use Rattle.atspi_trace.specs.Hearing.{question_in}
-use Rattle.atspi_trace.specs.Carrying.{own_letter, letter_of, Carried, left, settled, takes_end}
+use Rattle.atspi_trace.specs.Carrying.{own_letter, Carried, left, takes_end}
 use Rattle.atspi_trace.specs.Causes.{Cause, routes, unjoins, gets, tells_busy, tells_quiet, routed, took, taken, on_end, does, at_end}
 use Rattle.atspi_trace.specs.Due.{asks_as, asks_at, is_lost}
 use Rattle.atspi_lawful.proofs.OfOrder.Parties.{no_none, same_some, false_true}

@@ -1,5 +1,5 @@
 -- A line at work goes on as far as it can: of the causes that write nothing, but for the first of a line, each takes an end that stopped. So what a progress is does not hang on how many causes it may make.
-use Rattle.std.proofs.Common.{◌≡◌, ℕ, zero, suc, ◌<◌, ◌≤◌, ◌-◌, Bool, true, false, List, [], ◌∷◌, ◌++◌, length, Option, None, Some, refl, sym, ap, ◌∙◌, subst, arith}
+use Rattle.std.proofs.Common.{◌≡◌, ℕ, zero, suc, ◌<◌, ◌-◌, Bool, true, false, List, [], ◌∷◌, length, Option, None, Some, refl, sym, ap, ◌∙◌, subst, arith}
 use Rattle.std.specs.Prelude.{nat_le, if◌then◌else◌}
 use Rattle.atspi_forest.specs.Forest.{first_of}
 use Rattle.atspi_lines.specs.declared.line.Party.{Party}
@@ -9,9 +9,9 @@ use Rattle.atspi_trace.specs.Ends.{end_at}
 use Rattle.atspi_trace.specs.Causes.{Cause, renews, starts_app, starts_reader, edits, calls, swaps_face, exits, shows, tells_busy, tells_quiet, routes, unjoins, gets, missing, Done, took, taken, routed, on_end, does}
 use Rattle.atspi_trace.specs.Work.{Work, resting, doing, moving_up, moving_down, turning, draining, up_turn, down_turn, first_up, first_down, next_turn}
 use Rattle.atspi_trace.specs.Work.{Next, cause, rests, moved_up, moved_down, next_up, next_down, of_end, next_of_turns, next_of_drain, next_of}
-use Rattle.atspi_trace.specs.Due.{Progress, freed, rested, wrote, went, progress, bound}
+use Rattle.atspi_trace.specs.Due.{Progress, freed, wrote, went, progress, bound}
 use Rattle.atspi_lawful.proofs.OfOrder.Parties.{no_none, same_some}
-use Rattle.atspi_lawful.proofs.OfOrder.Allowed.{IsHere, Allowed, IsBare, IsWork, bare-work, NextFine}
+use Rattle.atspi_lawful.proofs.OfOrder.Allowed.{Allowed, IsWork, bare-work, NextFine}
 use Rattle.atspi_lawful.proofs.OfOrder.Next.{next_fine}
 use Rattle.atspi_lawful.proofs.OfOrder.Effects.{received}
 use Rattle.atspi_played.proofs.BuildingFading.{IsTurn, stopped_count, count_most, count_ended}

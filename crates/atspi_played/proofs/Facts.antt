@@ -1,6 +1,6 @@
 -- THE FACTS BETWEEN THE PIECES of the proof that what is played is lawful. Each piece proves its own and uses those of the others as stated here.
-use Rattle.std.proofs.Common.{◌≡◌, ◌⊎◌, ℕ, Bool, true, false, List, [], ◌∷◌, ◌++◌, length, map, Option, None, Some}
-use Rattle.std.specs.Prelude.{bytes_eq, flat_map, slice_get}
+use Rattle.std.proofs.Common.{◌≡◌, ◌⊎◌, ℕ, true, false, List, [], ◌∷◌, ◌++◌, length, map, Option, None, Some}
+use Rattle.std.specs.Prelude.{bytes_eq, slice_get}
 use Rattle.std.specs.List.{AllByRecursion, list_all, list_any}
 use Rattle.atspi_types.specs.Names.{is_bus_name}
 use Rattle.atspi_forest.specs.declared.view.Row.{Row}
@@ -22,7 +22,7 @@ use Rattle.atspi_protocol.specs.following.Replied.{is_reply_to, may_answer, is_u
 use Rattle.atspi_protocol.specs.following.Takes.{found_in}
 use Rattle.atspi_protocol.specs.following.Wishes.{wishes}
 use Rattle.atspi_trace.specs.Entry.{Entry, gone}
-use Rattle.atspi_trace.specs.World.{here, Fate, waits, failed, Asked, Hearer, a_reader, Letter, End, World}
+use Rattle.atspi_trace.specs.World.{here, Fate, waits, failed, Asked, Hearer, a_reader, End, World}
 use Rattle.atspi_trace.specs.Ends.{end_at, reader_count}
 use Rattle.atspi_trace.specs.Hearing.{is_answered, is_listening, is_registered}
 use Rattle.atspi_trace.specs.Due.{begins, after_all, is_lost, Goes}

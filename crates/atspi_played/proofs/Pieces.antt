@@ -1,7 +1,7 @@
 -- WHAT EACH PIECE GIVES to the whole, exactly as the whole uses it. Where a letter is at the front of a reader's down link: w and es before, `world_behind w conn` and `es ++ entries_behind w conn`
 -- behind it; h the reader's end before, `hears_letter h w.ends letter` behind; s its own state before, `reader_takes s letter.said.message` behind.
 use Rattle.std.proofs.Common.{◌≡◌, ◌⊎◌, ℕ, suc, Bool, true, false, List, [], ◌∷◌, ◌++◌, Option, None, Some}
-use Rattle.std.specs.Prelude.{filter, flat_map, not, slice_get}
+use Rattle.std.specs.Prelude.{filter, flat_map, not}
 use Rattle.std.specs.List.{AllByRecursion}
 use Rattle.atspi_lines.specs.declared.deed.Deed.{Deed}
 use Rattle.atspi_lines.specs.declared.line.Line.{Line}

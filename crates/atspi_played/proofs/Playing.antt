@@ -1,34 +1,30 @@
 -- WHAT IS PLAYED IS LAWFUL, from the pieces: by induction along the lines and the causes of each.
-use Rattle.std.proofs.Common.{◌≡◌, ◌⊎◌, inl, inr, ℕ, zero, suc, Bool, true, false, List, [], ◌∷◌, ◌++◌, Option, None, Some, refl, sym, ap, ◌∙◌, subst}
-use Rattle.std.specs.Prelude.{slice_get, if◌then◌else◌}
-use Rattle.std.specs.List.{AllByRecursion}
+use Rattle.std.proofs.Common.{◌≡◌, ℕ, zero, suc, false, List, [], ◌∷◌, ◌++◌, Option, None, Some, refl, sym, ap, ◌∙◌, subst}
+use Rattle.std.specs.Prelude.{if◌then◌else◌}
 use Rattle.std.proofs.lemmas.List.{append-nil, append_assoc}
-use Rattle.atspi_lines.specs.declared.deed.Deed.{Deed}
 use Rattle.atspi_lines.specs.declared.line.Line.{Line}
 use Rattle.atspi_lines.specs.declared.line.Line.TheVariants.{Blank, Quota, App as App_line, Reader as Reader_line, Edit as Edit_line, Call, Swap, Exit, Leave, Bytes, Turns, Drain, Show}
 use Rattle.atspi_lines.specs.declared.line.Party.{Party}
 use Rattle.atspi_lines.specs.declared.line.Party.TheVariants.{Bus as The_bus, Registry, App, Reader}
-use Rattle.atspi_protocol.specs.following.ReaderState.{ReaderState}
-use Rattle.atspi_protocol.specs.following.Takes.{reader_takes}
 use Rattle.atspi_trace.specs.Entry.{Entry}
-use Rattle.atspi_trace.specs.World.{Hearer, a_reader, Letter, End, World, first_registry}
+use Rattle.atspi_trace.specs.World.{Letter, End, World, first_registry}
 use Rattle.atspi_trace.specs.Ends.{is_here, is_reader, same_party, whose, party_at, conn_of, end_at, end_if, end_of}
 use Rattle.atspi_trace.specs.Causes.{Cause, renews, starts_app, starts_reader, edits, calls, swaps_face, exits, shows, tells_busy, tells_quiet, routes, unjoins, gets, does}
 use Rattle.atspi_trace.specs.Work as work
 use Rattle.atspi_trace.specs.Work.{Refusal, no_party, dead, if_started, if_here, call_refusal, if_held, Work, resting, work_of, cause, rests, next_turn, next_of}
-use Rattle.atspi_trace.specs.Due.{is_lost, RestsWell, SettledUnless, Lawful}
-use Rattle.atspi_lawful.specs.order.Scripts.{CanStand, CanAllStand}
+use Rattle.atspi_trace.specs.Due.{is_lost, RestsWell, SettledUnless}
+use Rattle.atspi_lawful.specs.order.Scripts.{CanAllStand}
 use Rattle.atspi_lawful.proofs.OfOrder.Parties.{no_none, same_some, same-party, found, false_true}
-use Rattle.atspi_lawful.proofs.OfOrder.Allowed.{IsHere, Moves, IsBare, NextFine}
+use Rattle.atspi_lawful.proofs.OfOrder.Allowed.{IsHere, Moves, NextFine}
 use Rattle.atspi_lawful.proofs.OfOrder.Next.{next_fine}
 use Rattle.atspi_lawful.proofs.OfOrder.Each.{no_entries}
 use Rattle.atspi_lines.specs.declared.limits.TheConstants.{QUOTA_MOST}
 use Rattle.atspi_play.specs.Playing.{Playing, Happened, held_by, unique_in, view_in, first_playing}
-use Rattle.atspi_play.specs.Plays.{only, reader_got, reader_did, got_at, got_by, plays}
+use Rattle.atspi_play.specs.Plays.{only, reader_got, got_at, got_by, plays}
 use Rattle.atspi_play.specs.Played.{if_viewed, refused, PlaysOut, at_rest, caused, IsPlayed, begun, did}
 use Rattle.atspi_played.specs.Laws.{PlayedIsLawful, RefusalsAgree}
-use Rattle.atspi_played.proofs.Facts.{Tied, AllTied}
-use Rattle.atspi_played.proofs.Pieces.{Pieces, IsTaking}
+use Rattle.atspi_played.proofs.Facts.{AllTied}
+use Rattle.atspi_played.proofs.Pieces.{Pieces}
 use Rattle.atspi_played.proofs.Building.{begins_midway, comes_to_rest, line_begins, all_done}
 use Rattle.atspi_played.proofs.BuildingCourse.{began, moved}
 use Rattle.atspi_played.proofs.PlayingEnds.{apart, moves_apart}

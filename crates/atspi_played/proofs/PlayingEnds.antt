@@ -1,5 +1,5 @@
 -- Causes that are no reader's: what they write is of no reader, and each reader is afterwards what it was.
-use Rattle.std.proofs.Common.{◌≡◌, ◌⊎◌, inl, inr, ℕ, zero, suc, Bool, true, false, List, [], ◌∷◌, ◌++◌, ◌+◌, length, map, Option, None, Some, refl, sym, ap, ◌∙◌, subst, cond}
+use Rattle.std.proofs.Common.{◌≡◌, ◌⊎◌, inl, inr, ℕ, suc, Bool, true, false, List, [], ◌∷◌, ◌++◌, ◌+◌, length, map, Option, None, Some, refl, sym, ap, ◌∙◌, subst, cond}
 use Rattle.std.specs.Prelude.{filter, Result, Ok, Err}
 use Rattle.std.specs.List.{AllByRecursion}
 use Rattle.atspi_forest.specs.declared.edit.Edit.{Edit}
@@ -19,7 +19,7 @@ use Rattle.atspi_trace.specs.Carrying as carrying
 use Rattle.atspi_trace.specs.Carrying.{bus_entries}
 use Rattle.atspi_trace.specs.Causes.{Cause, renews, starts_app, starts_reader, edits, calls, swaps_face, exits, shows, tells_busy, tells_quiet, routes, unjoins}
 use Rattle.atspi_trace.specs.Causes.{gets, Done, did, has_done, app_did, edited_to, edited, registry_did, routed, took, taken, on_end, does}
-use Rattle.atspi_lawful.proofs.OfOrder.Parties.{no_none, same_some, false_true}
+use Rattle.atspi_lawful.proofs.OfOrder.Parties.{false_true}
 use Rattle.atspi_lawful.proofs.OfOrder.Allowed.{Allowed, MovedUp, MovedDown, Moves}
 use Rattle.atspi_lawful.proofs.OfOrder.BusWords.{all_any, bus_all}
 use Rattle.atspi_lawful.proofs.OfOrder.Frame.{Over, IsOrder, joined_cases, over_same, over_both, over_with, over_at, takes_over, ends_over}

@@ -1,20 +1,20 @@
 -- Readers by their numbers, and what stands of entries, as more are written.
-use Rattle.std.proofs.Common.{◌≡◌, ◌⊎◌, inl, inr, ℕ, zero, suc, ◌<◌, Bool, true, false, List, [], ◌∷◌, ◌++◌, length, map, Option, None, Some, refl, sym, ap, ◌∙◌, subst, arith}
+use Rattle.std.proofs.Common.{◌≡◌, ℕ, zero, suc, List, [], ◌∷◌, ◌++◌, length, map, Option, None, Some, refl, sym, ap, ◌∙◌}
 use Rattle.std.specs.Prelude.{slice_get, slice_set}
 use Rattle.std.specs.List.{AllByRecursion}
-use Rattle.std.proofs.lemmas.List.{append-nil, append_assoc}
+use Rattle.std.proofs.lemmas.List.{append_assoc}
 use Rattle.atspi_lines.specs.declared.line.Party.TheVariants.{Bus as The_bus, Registry, App, Reader}
 use Rattle.atspi_protocol.specs.declared.following.question.Question.TheVariants.{GetPart}
 use Rattle.atspi_protocol.specs.declared.news.part.PartName.{PartName}
 use Rattle.atspi_trace.specs.Entry.{Entry, started, changed, sent, got, heard, unheard, spoke, showed, exited, gone, dropped, busy, quiet}
 use Rattle.atspi_trace.specs.World.{Hearer, Letter, End}
-use Rattle.atspi_trace.specs.Ends.{end_at, with_end, number_of}
+use Rattle.atspi_trace.specs.Ends.{with_end}
 use Rattle.atspi_trace.specs.Hearing.{question_in, holding_of, app_ended, lines_if_held, last_lines, ended_entries, heard_entries}
 use Rattle.atspi_lines.specs.declared.line.Party.{Party}
 use Rattle.atspi_lawful.specs.laws.NineLaws.{Everywhere}
 use Rattle.atspi_lawful.specs.settled.Laws.{AsksOfNode}
 use Rattle.atspi_lawful.proofs.OfOrder.Parties.{no_none}
-use Rattle.atspi_lawful.proofs.OfOrder.Each.{Each, everywhere, each_more, each_map, each_of, all_map}
+use Rattle.atspi_lawful.proofs.OfOrder.Each.{Each, everywhere, each_more, each_map, each_of}
 use Rattle.atspi_lawful.proofs.OfOrder.BusWords.{all_any}
 use Rattle.atspi_played.proofs.Pieces.{Skips}
 use Rattle.atspi_played.proofs.PlayingEnds.{NoReader}

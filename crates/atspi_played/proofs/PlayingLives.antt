@@ -1,22 +1,21 @@
 -- Once the registry is lost it stays so: where it is here behind what is left of a line, it was here all along.
-use Rattle.std.proofs.Common.{◌≡◌, ◌⊎◌, inl, inr, ℕ, zero, suc, ◌+◌, ◌-◌, Bool, true, false, List, [], ◌∷◌, ◌++◌, Option, None, Some, refl, sym, ap, ◌∙◌, subst}
+use Rattle.std.proofs.Common.{◌≡◌, ◌⊎◌, inl, inr, ℕ, zero, suc, ◌+◌, ◌-◌, Bool, true, false, List, [], ◌∷◌, Option, None, Some, refl, sym, subst}
 use Rattle.std.specs.Prelude.{nat_le, slice_get, if◌then◌else◌}
-use Rattle.std.specs.List.{fold}
 use Rattle.atspi_lines.specs.declared.line.Party.{Party}
 use Rattle.atspi_lines.specs.declared.line.Party.TheVariants.{Bus as The_bus, Registry, App, Reader}
 use Rattle.atspi_protocol.specs.following.ReaderState.{ReaderState}
 use Rattle.atspi_protocol.specs.following.Takes.{reader_takes}
 use Rattle.atspi_trace.specs.Entry.{Entry}
 use Rattle.atspi_trace.specs.World.{Standing, here, stopped, away, Said, Letter, End, World}
-use Rattle.atspi_trace.specs.Ends.{end_at, with_end}
+use Rattle.atspi_trace.specs.Ends.{end_at}
 use Rattle.atspi_trace.specs.Causes.{Cause, renews, starts_app, starts_reader, edits, calls, swaps_face, exits, shows, tells_busy, tells_quiet, routes, unjoins, gets, missing, does}
 use Rattle.atspi_trace.specs.Work.{Work, resting, doing, moving_up, moving_down, turning, draining, next_turn, Next, cause, rests, moved_up, moved_down, next_up, next_down, of_end, next_of_turns, next_of_drain, next_of}
 use Rattle.atspi_trace.specs.Due.{is_lost}
-use Rattle.atspi_lawful.proofs.OfOrder.Allowed.{MovedUp, MovedDown, Moves, IsBare, IsWork, bare-work, NextFine}
+use Rattle.atspi_lawful.proofs.OfOrder.Allowed.{MovedUp, MovedDown, Moves, IsBare, bare-work, NextFine}
 use Rattle.atspi_lawful.proofs.OfOrder.Frame.{Over, over_same, over_both, over_with}
 use Rattle.atspi_lawful.proofs.OfOrder.Next.{next_fine}
 use Rattle.atspi_play.specs.Playing.{Playing}
-use Rattle.atspi_play.specs.Plays.{asked, reader_got, got_at, got_by, plays}
+use Rattle.atspi_play.specs.Plays.{reader_got, got_at, got_by, plays}
 use Rattle.atspi_play.specs.Played.{PlaysOut, at_rest, caused}
 use Rattle.atspi_played.proofs.BuildingFading.{Fades, fading, as_it_stands, IsTurn, IsQuietTurn, turn_over, out_over, here_before}
 use Rattle.atspi_played.proofs.BuildingFuel.{is_turn}

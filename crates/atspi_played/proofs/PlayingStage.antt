@@ -1,5 +1,5 @@
 -- A stage of a script that is played: its entries so far may stand, what is next is known, and all readers are tied. Behind a cause comes the next one.
-use Rattle.std.proofs.Common.{◌≡◌, ◌⊎◌, inl, inr, ℕ, zero, suc, Bool, true, false, List, [], ◌∷◌, ◌++◌, length, Option, None, Some, refl, sym, ap, ◌∙◌, subst}
+use Rattle.std.proofs.Common.{◌≡◌, ℕ, false, List, [], ◌∷◌, ◌++◌, Option, None, Some, refl, subst}
 use Rattle.std.specs.List.{AllByRecursion}
 use Rattle.atspi_lines.specs.declared.line.Line.{Line}
 use Rattle.atspi_lines.specs.declared.line.Party.TheVariants.{Reader}
@@ -7,7 +7,7 @@ use Rattle.atspi_protocol.specs.following.ReaderState.{ReaderState}
 use Rattle.atspi_trace.specs.Entry.{Entry}
 use Rattle.atspi_trace.specs.World.{Hearer, a_reader, End, World}
 use Rattle.atspi_trace.specs.Ends.{end_at}
-use Rattle.atspi_trace.specs.Causes.{Cause, Done, does}
+use Rattle.atspi_trace.specs.Causes.{Cause, does}
 use Rattle.atspi_trace.specs.Work.{Work, cause, next_of}
 use Rattle.atspi_trace.specs.Due.{freed, is_lost, TellsTruly}
 use Rattle.atspi_lawful.specs.order.Scripts.{CanAllStand}
@@ -20,7 +20,7 @@ use Rattle.atspi_lawful.proofs.OfOrder.Shape.{Shape}
 use Rattle.atspi_play.specs.Playing.{Playing}
 use Rattle.atspi_played.proofs.Facts.{Ground, Tied, AllTied}
 use Rattle.atspi_played.proofs.Pieces.{Pieces, IsOther, Skips}
-use Rattle.atspi_played.proofs.Building.{Midway, Behind, go_on, wrote_some, wrote_none}
+use Rattle.atspi_played.proofs.Building.{Midway, go_on, wrote_some, wrote_none}
 use Rattle.atspi_played.proofs.BuildingCourse.{Course, caused, passed, kept_so}
 use Rattle.atspi_played.proofs.BuildingTruly.{tells_truly}
 use Rattle.atspi_played.proofs.PlayingEnds.{NoReader, Apart}

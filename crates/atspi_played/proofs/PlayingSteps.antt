@@ -1,23 +1,21 @@
 -- The causes of a script that are a reader's: another quota, a start, a call of its user's, what it shows.
-use Rattle.std.proofs.Common.{◌≡◌, ℕ, zero, suc, Bool, true, false, List, [], ◌∷◌, ◌++◌, length, Option, None, Some, refl, sym, ap, ◌∙◌, subst}
+use Rattle.std.proofs.Common.{◌≡◌, ℕ, zero, suc, false, List, [], ◌∷◌, ◌++◌, Option, None, Some, refl, sym, ap, ◌∙◌, subst}
 use Rattle.std.specs.Prelude.{slice_get, slice_set}
 use Rattle.std.specs.List.{AllByRecursion}
 use Rattle.std.proofs.lemmas.List.{append-nil}
-use Rattle.atspi_events.specs.declared.shown.ShownRow.{ShownRow}
 use Rattle.atspi_lines.specs.declared.deed.Deed.{Deed}
 use Rattle.atspi_lines.specs.declared.line.Line.{Line}
 use Rattle.atspi_lines.specs.declared.line.Party.{Party}
-use Rattle.atspi_lines.specs.declared.line.Party.TheVariants.{Registry, App, Reader}
-use Rattle.atspi_protocol.specs.declared.following.question.Question.{Question}
+use Rattle.atspi_lines.specs.declared.line.Party.TheVariants.{App, Reader}
 use Rattle.atspi_protocol.specs.declared.following.question.Question.TheVariants.{Hello, GetPart}
 use Rattle.atspi_protocol.specs.declared.news.part.PartName.{PartName}
 use Rattle.atspi_protocol.specs.following.Calls.{asking, user_call}
 use Rattle.atspi_protocol.specs.following.ReaderState.{ReaderState, begins as begins_reader}
 use Rattle.atspi_protocol.specs.following.Takes.{starts, reader_calls}
 use Rattle.atspi_trace.specs.Entry.{Entry, sent, showed}
-use Rattle.atspi_trace.specs.World.{Hearer, a_reader, Role, End, World, first_registry, first_world}
+use Rattle.atspi_trace.specs.World.{Hearer, a_reader, End, World, first_registry, first_world}
 use Rattle.atspi_trace.specs.Ends.{is_reader, whose, with_end, party_at, end_at, end_of, number_of, reader_count}
-use Rattle.atspi_trace.specs.Hearing.{question_in, holding_of}
+use Rattle.atspi_trace.specs.Hearing.{holding_of}
 use Rattle.atspi_trace.specs.Causes as causes
 use Rattle.atspi_trace.specs.Causes.{Cause, renews, starts_reader, calls, shows, does, on_end, called, shown, reader_sends, asks, first_hearer, rows_held}
 use Rattle.atspi_trace.specs.Work.{Work, cause, next_of}
@@ -25,7 +23,6 @@ use Rattle.atspi_trace.specs.Due.{is_lost}
 use Rattle.atspi_lawful.specs.laws.NineLaws.{Everywhere}
 use Rattle.atspi_lawful.specs.settled.Laws.{AsksOfNode}
 use Rattle.atspi_lawful.proofs.OfOrder.Parties.{no_none, same_some, false_true}
-use Rattle.atspi_lawful.proofs.OfOrder.Allowed.{IsHere}
 use Rattle.atspi_lawful.proofs.OfOrder.Effects.{reader_role}
 use Rattle.atspi_lawful.proofs.OfOrder.Plain.{user_plain}
 use Rattle.atspi_lawful.proofs.OfOrder.Shape.{RoleFits, Shape}
@@ -33,11 +30,11 @@ use Rattle.atspi_lawful.proofs.OfOrder.Shaped.{new_reader}
 use Rattle.atspi_lawful.proofs.OfReaders.Fates.{hello_read}
 use Rattle.atspi_play.specs.Playing.{Playing, Happened, silent, held_by, unique_in, view_in, view_rows}
 use Rattle.atspi_play.specs.Plays.{only, with_reader, plays}
-use Rattle.atspi_played.proofs.Facts.{SeesWell, Tied, AllTied}
-use Rattle.atspi_played.proofs.Pieces.{Pieces, Skips, IsOther}
+use Rattle.atspi_played.proofs.Facts.{SeesWell, Tied}
+use Rattle.atspi_played.proofs.Pieces.{Pieces, Skips}
 use Rattle.atspi_played.proofs.PlayingEnds.{NoReader, Apart, untouched_same}
 use Rattle.atspi_played.proofs.PlayingLists.{nodes_none, AsksNoPart}
-use Rattle.atspi_played.proofs.PlayingStage.{Stage, before, shape, allowed, behind, written, ground_behind, stage_with, tied_still, stage_apart}
+use Rattle.atspi_played.proofs.PlayingStage.{Stage, before, shape, allowed, ground_behind, stage_with, tied_still, stage_apart}
 use Rattle.atspi_played.proofs.PlayingTied.{Changed, changed_at, tied_changed, tied_joined}
 
 -- the reader at a connection

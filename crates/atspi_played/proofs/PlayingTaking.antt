@@ -1,8 +1,8 @@
 -- A reader takes a message: it does what its own definitions say, and that is what a lawful trace says of it.
-use Rattle.std.proofs.Common.{◌≡◌, ◌⊎◌, inl, inr, ℕ, zero, suc, Bool, true, false, List, [], ◌∷◌, ◌++◌, length, Option, None, Some, refl, sym, ap, ◌∙◌, subst, cond}
-use Rattle.std.specs.Prelude.{filter, flat_map, not, slice_get, slice_set}
+use Rattle.std.proofs.Common.{◌≡◌, ◌⊎◌, inl, inr, ℕ, zero, suc, true, false, List, [], ◌∷◌, ◌++◌, Option, None, Some, refl, sym, ap, ◌∙◌, subst, cond}
+use Rattle.std.specs.Prelude.{flat_map, not, slice_get, slice_set}
 use Rattle.std.specs.List.{AllByRecursion, fold}
-use Rattle.std.proofs.lemmas.List.{append-nil, append_assoc}
+use Rattle.std.proofs.lemmas.List.{append_assoc}
 use Rattle.atspi_lines.specs.declared.line.Line.{Line}
 use Rattle.atspi_lines.specs.declared.line.Party.{Party}
 use Rattle.atspi_lines.specs.declared.line.Party.TheVariants.{Bus as The_bus, Registry, App, Reader}
@@ -20,21 +20,18 @@ use Rattle.atspi_trace.specs.Hearing.{question_in, without_ended, holds_of, ende
 use Rattle.atspi_trace.specs.Causes as causes
 use Rattle.atspi_trace.specs.Causes.{Cause, gets, does, on_end, taken, took, at_end, asks}
 use Rattle.atspi_trace.specs.Work.{Work, cause, next_of}
-use Rattle.atspi_trace.specs.Due.{freed, is_lost, asks_as, asks_at}
-use Rattle.atspi_lawful.proofs.OfOrder.Parties.{same_some}
+use Rattle.atspi_trace.specs.Due.{is_lost, asks_as, asks_at}
 use Rattle.atspi_lawful.proofs.OfOrder.Allowed.{IsBare, NextFine, bare-work}
 use Rattle.atspi_lawful.proofs.OfOrder.Effects.{received}
-use Rattle.atspi_lawful.proofs.OfOrder.Shape.{Shape}
-use Rattle.atspi_play.specs.Playing.{Playing, Happened, silent}
+use Rattle.atspi_play.specs.Playing.{Playing, silent}
 use Rattle.atspi_play.specs.Plays.{told, asked, asked_with, reader_did}
-use Rattle.atspi_played.proofs.Facts.{Ground, RepliesWell, SerialsDiffer, SeesWell, Tied, AllTied}
-use Rattle.atspi_played.proofs.Pieces.{Pieces, IsTaking, is_call, IsNoCall, spoken, AsksNone, AsksOne, Skips, IsOther}
+use Rattle.atspi_played.proofs.Facts.{Ground, RepliesWell, SerialsDiffer, SeesWell, Tied}
+use Rattle.atspi_played.proofs.Pieces.{Pieces, IsTaking, IsNoCall, spoken, AsksNone, AsksOne, Skips}
 use Rattle.atspi_played.proofs.Building.{Behind, go_on, asks_behind, wrote_some}
 use Rattle.atspi_played.proofs.BuildingFading.{call_over, out_over, here_before}
-use Rattle.atspi_played.proofs.BuildingFuel.{gets_writes, not_empty}
 use Rattle.atspi_played.proofs.BuildingCourse as course
 use Rattle.atspi_played.proofs.PlayingLists.{with_both, heard_skips, nodes_none, nodes_one, AsksNoPart}
-use Rattle.atspi_played.proofs.PlayingStage.{Stage, ground_of, before, shape, truly, course_behind, midway_behind, ground_behind, behind, written, stage_with, tied_still}
+use Rattle.atspi_played.proofs.PlayingStage.{Stage, ground_of, before, shape, truly, course_behind, ground_behind, stage_with, tied_still}
 use Rattle.atspi_played.proofs.PlayingTied.{changed_at, tied_changed}
 use Rattle.atspi_played.proofs.PlayingSteps.{other_party}
 use Rattle.atspi_lawful.proofs.OfHeard.Quiet.{heard_all}

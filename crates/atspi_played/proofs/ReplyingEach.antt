@@ -13,7 +13,6 @@ use Rattle.atspi_protocol.specs.following.Replied.{is_reply_to}
 use Rattle.atspi_protocol.specs.exporting.Exporter.{Exporter}
 use Rattle.atspi_protocol.specs.exporting.Taking.{app_takes}
 use Rattle.atspi_protocol.specs.registering.Steps.{registry_takes}
-use Rattle.atspi_trace.specs.Entry.{sent}
 use Rattle.atspi_trace.specs.World.{waits, Role, the_registry, an_application, a_reader, Hearer, Said, Letter, End, World}
 use Rattle.atspi_trace.specs.Ends.{is_here, number_of, end_at, plain, rest_of, taken_down, stops}
 use Rattle.atspi_trace.specs.Hearing.{hears_letter}

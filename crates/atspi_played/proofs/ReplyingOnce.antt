@@ -15,7 +15,7 @@ use Rattle.atspi_protocol.specs.exporting.Exporter.{Exporter, begins}
 use Rattle.atspi_protocol.specs.exporting.Starting.{starts}
 use Rattle.atspi_trace.specs.Entry.{Entry}
 use Rattle.atspi_trace.specs.World.{waits, Fate, returned, failed, Asked, an_application, Hearer, Letter, End, World, first_registry, first_world}
-use Rattle.atspi_trace.specs.Ends.{is_here, end_at}
+use Rattle.atspi_trace.specs.Ends.{end_at}
 use Rattle.atspi_trace.specs.Hearing.{is_answered}
 use Rattle.atspi_trace.specs.Causes.{Done, asks, first_hearer, app_starts, reader_starts}
 use Rattle.atspi_lawful.proofs.OfOrder.Parties.{no_none, same_some, false_true}

@@ -1,15 +1,13 @@
 -- What the trace says that a reader has of an application behind a letter that it takes, by who sent that.
-use Rattle.std.proofs.Common.{◌≡◌, ℕ, Bool, true, false, List, [], ◌∷◌, ◌++◌, map, Option, None, Some, refl, sym, ap, ap₂, ◌∙◌, subst}
+use Rattle.std.proofs.Common.{◌≡◌, ℕ, List, [], ◌∷◌, ◌++◌, map, Option, None, Some, refl, sym, ap, ap₂, ◌∙◌}
 use Rattle.std.specs.Prelude.{◌==◌, ◌&&◌, if◌then◌else◌}
-use Rattle.std.proofs.lemmas.Bool.{eq-eqb, eqb-true, ne_eqb}
+use Rattle.std.proofs.lemmas.Bool.{eq-eqb, ne_eqb}
 use Rattle.atspi_lines.specs.declared.line.Party.TheVariants.{Bus as The_bus, Registry, App, Reader}
 use Rattle.atspi_message.specs.Envelope.{Envelope}
-use Rattle.atspi_protocol.specs.declared.following.question.Question.{Question}
 use Rattle.atspi_protocol.specs.following.ReaderState.{Followed}
 use Rattle.atspi_protocol.specs.following.Known.{told_end}
 use Rattle.atspi_trace.specs.Entry.{Entry, got, spoke, gone}
 use Rattle.atspi_trace.specs.World.{Hearer, Letter, End}
-use Rattle.atspi_trace.specs.Ends.{app_named}
 use Rattle.atspi_trace.specs.Hearing.{question_returned, holding_of, app_with, lines_if_held, last_lines, ended_entries, heard_entries}
 use Rattle.atspi_lawful.specs.laws.Words.{message, answer_to, answers_question}
 use Rattle.atspi_lawful.specs.caches.Caches.{unasked, reads, reads_if, follows_after, follows_on, followed}

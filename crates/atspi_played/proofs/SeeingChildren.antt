@@ -1,5 +1,5 @@
 -- A reader takes a letter: what is known of it, and that each child which it tells of is the root of an application.
-use Rattle.std.proofs.Common.{◌≡◌, ◌⊎◌, inl, inr, ℕ, Bool, true, false, List, [], ◌∷◌, ◌++◌, map, Option, None, Some, refl, sym, ap, ap₂, ◌∙◌, subst, arith}
+use Rattle.std.proofs.Common.{◌≡◌, ℕ, Bool, true, false, List, [], ◌∷◌, ◌++◌, map, Option, None, Some, refl, sym, ap, ◌∙◌, subst}
 use Rattle.std.specs.Prelude.{◌==◌, ◌&&◌, bytes_eq, codes, if◌then◌else◌}
 use Rattle.std.specs.List.{AllByRecursion}
 use Rattle.std.proofs.lemmas.Bool.{eqb-true}
@@ -23,13 +23,12 @@ use Rattle.atspi_trace.specs.Entry.{Entry, got}
 use Rattle.atspi_trace.specs.World.{here, a_reader, Hearer, Letter, End, World}
 use Rattle.atspi_trace.specs.Ends.{end_at}
 use Rattle.atspi_trace.specs.Hearing.{question_returned, child_name, names_told, registry_after, hears_letter, heard_entries}
-use Rattle.atspi_lawful.specs.laws.Words.{messages, message, with_serial, name_in}
+use Rattle.atspi_lawful.specs.laws.Words.{messages, message}
 use Rattle.atspi_lawful.proofs.OfOrder.Parties.{no_none, same_some, false_true, all_back}
-use Rattle.atspi_lawful.proofs.OfNames.Places.{name_told, told_is}
+use Rattle.atspi_lawful.proofs.OfNames.Places.{told_is}
 use Rattle.atspi_lawful.proofs.OfSigned.Mail.{NameIs, name_more}
 use Rattle.atspi_lawful.proofs.OfServed.ListingTold.{Embedded, HasHeard}
 use Rattle.atspi_lawful.proofs.OfServed.Spelling.{all_found}
-use Rattle.atspi_lawful.proofs.OfTaken.Said.{IsLetter}
 use Rattle.atspi_lawful.proofs.OfSettled.Settling_ground as under
 use Rattle.atspi_played.proofs.Facts.{Ground, RepliesWell, AsksWell, SeesWell, IsOfApp}
 use Rattle.atspi_played.proofs.SeeingGround.{shape, its, live, no_bus_name, one_party, Sender, of_bus, of_end, sender}

@@ -1,12 +1,12 @@
 -- What stands of a trace and a world: who is here, whose a letter is, and which names are apart.
-use Rattle.std.proofs.Common.{◌≡◌, ◌⊎◌, inl, inr, ℕ, zero, suc, ◌≤◌, Bool, true, false, List, [], ◌∷◌, ◌++◌, length, Option, None, Some, refl, sym, ap, ap₂, ◌∙◌, subst, arith}
+use Rattle.std.proofs.Common.{◌≡◌, ◌⊎◌, inl, inr, ℕ, zero, suc, ◌≤◌, Bool, true, false, List, [], ◌∷◌, length, Option, None, Some, refl, sym, ap, ◌∙◌, subst, arith}
 use Rattle.std.specs.Prelude.{◌==◌, ◌&&◌, bytes_eq, codes, if◌then◌else◌}
 use Rattle.std.specs.List.{AllByRecursion}
 use Rattle.std.proofs.lemmas.Bool.{eqb-true}
 use Rattle.std.proofs.lemmas.Slice.Eq.{bytes_eq-Decides}
 use Rattle.atspi_lines.specs.declared.line.Line.{Line}
 use Rattle.atspi_lines.specs.declared.line.Party.{Party}
-use Rattle.atspi_lines.specs.declared.line.Party.TheVariants.{Bus as The_bus, Registry, App, Reader}
+use Rattle.atspi_lines.specs.declared.line.Party.TheVariants.{Bus as The_bus, Registry, App}
 use Rattle.atspi_message.specs.Envelope.{Envelope}
 use Rattle.atspi_names.specs.Owners.{own_name}
 use Rattle.atspi_routing.specs.Members.{is_text}
@@ -14,11 +14,11 @@ use Rattle.atspi_protocol.specs.ends.Places.{bus}
 use Rattle.atspi_protocol.specs.news.NewsOf.{or_empty}
 use Rattle.atspi_protocol.specs.following.Known.{ended_name, told_end}
 use Rattle.atspi_trace.specs.Entry.{Entry}
-use Rattle.atspi_trace.specs.World.{Standing, here, stopped, away, a_reader, Hearer, Letter, End, World, first_registry, first_world}
-use Rattle.atspi_trace.specs.Ends.{is_here, number_of, same_party, end_at, number_if, app_named}
+use Rattle.atspi_trace.specs.World.{Standing, here, stopped, away, Letter, End, World, first_registry, first_world}
+use Rattle.atspi_trace.specs.Ends.{is_here, number_of, end_at, number_if, app_named}
 use Rattle.atspi_forest.specs.Forest.{first_of}
 use Rattle.atspi_trace.specs.Due.{is_lost}
-use Rattle.atspi_lawful.specs.laws.Words.{message, name_in}
+use Rattle.atspi_lawful.specs.laws.Words.{name_in}
 use Rattle.atspi_lawful.proofs.OfOrder.Parties.{no_none, same_some, false_true}
 use Rattle.atspi_lawful.proofs.OfOrder.Shape.{Shape}
 use Rattle.atspi_lawful.proofs.OfOrder.Growing.{Shaped}
@@ -26,9 +26,8 @@ use Rattle.atspi_lawful.proofs.OfOrder.Lives.{here_lives}
 use Rattle.atspi_lawful.proofs.OfOwn.Writing.{Lives}
 use Rattle.atspi_lawful.proofs.OfTaken.Said.{IsLetter, Comes}
 use Rattle.atspi_lawful.proofs.OfNames.LawEnds.{number_is}
-use Rattle.atspi_lawful.proofs.OfNames.LawNames.{IsAt}
-use Rattle.atspi_lawful.proofs.OfNames.Places.{name_told, told_is}
-use Rattle.atspi_lawful.proofs.OfSigned.Mail.{NameIs, IsMail, name_more}
+use Rattle.atspi_lawful.proofs.OfNames.Places.{told_is}
+use Rattle.atspi_lawful.proofs.OfSigned.Mail.{NameIs, IsMail}
 use Rattle.atspi_lawful.proofs.OfSigned.Self.{one_named}
 use Rattle.atspi_lawful.proofs.OfSigned.LawMail.{name_of_end}
 use Rattle.atspi_lawful.proofs.OfSettled.Settling_ground as under

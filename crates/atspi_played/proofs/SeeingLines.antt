@@ -1,7 +1,6 @@
 -- The lines that are due at a message of an application that a reader holds are those that it reads from what it has.
-use Rattle.std.proofs.Common.{◌≡◌, ◌⊎◌, inl, inr, ℕ, Bool, true, false, List, [], ◌∷◌, ◌++◌, length, map, Option, None, Some, is_some, refl, sym, ap, ap₂, ◌∙◌, subst, arith}
+use Rattle.std.proofs.Common.{◌≡◌, ◌⊎◌, inl, inr, ℕ, Bool, true, false, List, [], ◌∷◌, ◌++◌, length, Option, None, Some, is_some, refl, sym, ap, ◌∙◌, subst, arith}
 use Rattle.std.specs.Prelude.{◌==◌, if◌then◌else◌}
-use Rattle.std.specs.List.{AllByRecursion}
 use Rattle.std.proofs.lemmas.Bool.{eq-eqb, eqb-true}
 use Rattle.std.proofs.lemmas.List.{append-nil, append_assoc}
 use Rattle.atspi_forest.specs.declared.step.Step.{Step}
@@ -25,11 +24,11 @@ use Rattle.atspi_lawful.specs.laws.Words.{message, before_sent, as_of, live_tree
 use Rattle.atspi_lawful.specs.laws.NineLaws.{IsAskedFor, Announces}
 use Rattle.atspi_lawful.specs.signed.Laws.{IsItsName}
 use Rattle.atspi_lawful.specs.folds.Laws.{AreAllCovered}
-use Rattle.atspi_lawful.specs.missed.Laws.{IsLoad, TookAll, NoSignalBetween}
+use Rattle.atspi_lawful.specs.missed.Laws.{IsLoad, NoSignalBetween}
 use Rattle.atspi_lawful.specs.caches.Caches.{followed}
 use Rattle.atspi_lawful.specs.caches.Laws.{IsServed, AreAsked, IsRead}
 use Rattle.atspi_lawful.specs.views.Laws.{IsCarried}
-use Rattle.atspi_lawful.proofs.OfOrder.Parties.{no_none, same_some, false_true}
+use Rattle.atspi_lawful.proofs.OfOrder.Parties.{no_none, false_true}
 use Rattle.atspi_lawful.proofs.OfTaken.Found.{found_more, found_here, sent_split}
 use Rattle.atspi_lawful.proofs.OfTaken.Said.{TellsTree, asked_same}
 use Rattle.atspi_lawful.proofs.OfViews.LawViews.{announcements_carry}

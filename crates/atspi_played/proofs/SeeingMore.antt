@@ -1,31 +1,27 @@
 -- What is seen stays so over what others do; and a reader that starts sees well.
-use Rattle.std.proofs.Common.{◌≡◌, ◌⊎◌, inl, inr, ℕ, ◌≤◌, Bool, true, false, List, [], ◌∷◌, ◌++◌, Option, None, Some, refl, sym, ap, ap₂, ◌∙◌, subst, arith}
+use Rattle.std.proofs.Common.{◌≡◌, inl, inr, ℕ, ◌≤◌, List, [], ◌∷◌, ◌++◌, Option, None, Some, refl, sym, ap, ◌∙◌, subst, arith}
 use Rattle.std.specs.Prelude.{◌==◌, ◌&&◌, if◌then◌else◌}
 use Rattle.std.specs.List.{AllByRecursion}
 use Rattle.std.proofs.lemmas.Bool.{ne_eqb}
 use Rattle.std.proofs.lemmas.List.{append-nil, append_assoc}
-use Rattle.atspi_lines.specs.declared.line.Line.{Line}
-use Rattle.atspi_lines.specs.declared.line.Party.TheVariants.{Bus as The_bus, Registry, App, Reader}
+use Rattle.atspi_lines.specs.declared.line.Party.TheVariants.{App, Reader}
 use Rattle.atspi_protocol.specs.declared.following.question.Question.TheVariants.{Hello, GetItems}
-use Rattle.atspi_protocol.specs.following.ReaderState.{Followed, Pending, ReaderState, begins as begins_reader}
-use Rattle.atspi_protocol.specs.following.Calls.{asking}
+use Rattle.atspi_protocol.specs.following.ReaderState.{Followed, Pending, begins as begins_reader}
 use Rattle.atspi_protocol.specs.following.Takes.{found_in, starts}
 use Rattle.atspi_play.specs.Playing.{silent}
-use Rattle.atspi_trace.specs.Entry.{Entry, started, sent, got, gone}
-use Rattle.atspi_trace.specs.World.{World}
+use Rattle.atspi_trace.specs.Entry.{Entry, got, gone}
 use Rattle.atspi_trace.specs.Ends.{reader_count}
 use Rattle.atspi_trace.specs.Causes.{starts_reader, does}
-use Rattle.atspi_lawful.specs.laws.Words.{message, answers_question, name_in, Kept, held}
+use Rattle.atspi_lawful.specs.laws.Words.{message, answers_question, name_in}
 use Rattle.atspi_lawful.specs.signed.Laws.{IsItsName}
 use Rattle.atspi_lawful.specs.caches.Caches.{unasked, reads_if, follows_after, follows_on, followed}
 use Rattle.atspi_lawful.specs.caches.Laws.{CacheIs}
 use Rattle.atspi_lawful.proofs.OfOrder.Parties.{no_none, same_some}
-use Rattle.atspi_lawful.proofs.OfOrder.Along.{Keeps}
 use Rattle.atspi_lawful.proofs.OfOrder.Growing.{Shaped, And}
 use Rattle.atspi_lawful.proofs.OfHeld.LawHeld.{Below_held, Holds, holds_keep}
 use Rattle.atspi_lawful.proofs.OfCaches.LawCaches.{caches_follow}
 use Rattle.atspi_lawful.proofs.OfServed.LawServed.{steps_asked}
-use Rattle.atspi_played.proofs.Facts.{Ground, NoItems, SeesWell, IsOfApp, IsSeen, IsAwaited}
+use Rattle.atspi_played.proofs.Facts.{NoItems, IsOfApp, IsSeen, IsAwaited}
 use Rattle.atspi_played.proofs.Pieces.{Skips, SeesMore, SeesFirst}
 use Rattle.atspi_played.proofs.SeeingApps.{found_is, each_weaker}
 use Rattle.atspi_played.proofs.SeeingSame.{followed_more}

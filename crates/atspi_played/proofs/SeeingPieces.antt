@@ -1,16 +1,15 @@
 -- WHAT IS SEEN, as the whole uses it.
-use Rattle.std.proofs.Common.{◌≡◌, ◌⊎◌, inl, inr, ℕ, zero, suc, Bool, true, false, List, [], ◌∷◌, ◌++◌, Option, None, Some, refl, sym, ap, ap₂, ◌∙◌, subst}
-use Rattle.std.specs.Prelude.{◌==◌, flat_map, map}
+use Rattle.std.proofs.Common.{◌≡◌, ℕ, zero, suc, List, [], ◌∷◌, ◌++◌, Option, None, Some, refl, sym, ap, ◌∙◌, subst}
+use Rattle.std.specs.Prelude.{flat_map}
 use Rattle.std.specs.List.{AllByRecursion}
-use Rattle.std.proofs.lemmas.Bool.{eq-eqb, eqb-true}
 use Rattle.atspi_forest.specs.Forest.{first_of}
 use Rattle.atspi_lines.specs.declared.line.Line.{Line}
 use Rattle.atspi_lines.specs.declared.line.Party.{Party}
 use Rattle.atspi_lines.specs.declared.line.Party.TheVariants.{Bus as The_bus, Registry, App, Reader}
 use Rattle.atspi_message.specs.Envelope.{Envelope}
 use Rattle.atspi_protocol.specs.following.Known.{told_end}
-use Rattle.atspi_protocol.specs.following.ReaderState.{sends, Done, ReaderState}
-use Rattle.atspi_protocol.specs.following.Takes.{goes_on, reader_takes}
+use Rattle.atspi_protocol.specs.following.ReaderState.{ReaderState}
+use Rattle.atspi_protocol.specs.following.Takes.{reader_takes}
 use Rattle.atspi_protocol.specs.news.NewsOf.{or_empty}
 use Rattle.atspi_play.specs.Playing.{silent}
 use Rattle.atspi_play.specs.Plays.{told}
@@ -19,14 +18,14 @@ use Rattle.atspi_trace.specs.World.{a_reader, Holding, Hearer, Letter, End, Worl
 use Rattle.atspi_trace.specs.Ends.{end_at, with_end, taken_down, number_if, app_named}
 use Rattle.atspi_trace.specs.Hearing.{app_with, without_ended, holds_of, hears_letter, heard_entries}
 use Rattle.atspi_lawful.specs.laws.Words.{name_in}
-use Rattle.atspi_lawful.proofs.OfOrder.Parties.{no_none, same_some, party-same, false_true}
+use Rattle.atspi_lawful.proofs.OfOrder.Parties.{party-same, false_true}
 use Rattle.atspi_lawful.proofs.OfHeld.Keeping.{ReaderIs}
 use Rattle.atspi_lawful.proofs.OfTaken.Said.{IsLetter}
 use Rattle.atspi_lawful.proofs.OfSigned.Mail.{NameIs}
 use Rattle.atspi_lawful.proofs.OfSigned.Self.{app_name}
 use Rattle.atspi_lawful.proofs.OfNames.Places.{told_is}
-use Rattle.atspi_played.proofs.Facts.{Ground, RepliesWell, SerialsDiffer, SeesWell, Tied}
-use Rattle.atspi_played.proofs.Pieces.{IsTaking, world_behind, entries_behind, spoken, IsNoCall, SeesStep}
+use Rattle.atspi_played.proofs.Facts.{Ground, SeesWell}
+use Rattle.atspi_played.proofs.Pieces.{world_behind, entries_behind, spoken, IsNoCall, SeesStep}
 use Rattle.atspi_played.proofs.ReplyingStep as letter_step
 use Rattle.atspi_played.proofs.SeeingGround.{its, is_name, no_bus_name, one_party, Sender, of_bus, of_end, end_from_bus}
 use Rattle.atspi_played.proofs.SeeingChildren.{RootsAreTold, took, Taking, from}

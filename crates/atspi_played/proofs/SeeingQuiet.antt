@@ -13,17 +13,16 @@ use Rattle.atspi_lines.specs.declared.line.Line.{Line}
 use Rattle.atspi_lines.specs.declared.line.Party.TheVariants.{App, Reader}
 use Rattle.atspi_message.specs.Envelope.{Envelope}
 use Rattle.atspi_protocol.specs.news.NewsOf.{news_of}
-use Rattle.atspi_protocol.specs.declared.following.question.Question.{Question}
 use Rattle.atspi_protocol.specs.following.ReaderState.{Followed, ReaderState}
 use Rattle.atspi_protocol.specs.following.Takes.{noted, folded}
 use Rattle.atspi_trace.specs.Entry.{Entry, changed, sent, got}
 use Rattle.atspi_trace.specs.World.{Asked, Hearer, Letter, World}
 use Rattle.atspi_trace.specs.Hearing.{question_returned, heard_entries}
 use Rattle.atspi_trace.specs.Causes.{told_in}
-use Rattle.atspi_lawful.specs.laws.Words.{message, before_sent, as_of, live_tree, answers_question, name_in, Kept, held}
+use Rattle.atspi_lawful.specs.laws.Words.{message, before_sent, live_tree, answers_question, name_in, Kept, held}
 use Rattle.atspi_lawful.specs.caches.Caches as caches
 use Rattle.atspi_lawful.specs.caches.Caches.{reads_if, follows_after, follows_on, followed}
-use Rattle.atspi_lawful.specs.caches.Laws.{CacheIs, IsViewed}
+use Rattle.atspi_lawful.specs.caches.Laws.{CacheIs}
 use Rattle.atspi_lawful.specs.heard.Laws.{signals_under, IsAmong}
 use Rattle.atspi_lawful.specs.signed.Laws.{IsItsName}
 use Rattle.atspi_lawful.specs.views.Laws.{IsCarried}
@@ -35,7 +34,6 @@ use Rattle.atspi_lawful.proofs.OfViews.LawViews.{announcements_carry}
 use Rattle.atspi_lawful.proofs.OfSigned.LawSigned.{signed_law}
 use Rattle.atspi_lawful.proofs.OfServed.LawServed.{steps_asked}
 use Rattle.atspi_lawful.proofs.OfCaches.LawCaches.{caches_follow}
-use Rattle.atspi_played.proofs.Facts.{Ground}
 use Rattle.atspi_played.proofs.SeeingSame.{folded_is, marks_of, followed_more, followed_rooted}
 use Rattle.atspi_played.proofs.SeeingSeen.{IsQuiet}
 use Rattle.atspi_played.proofs.SeeingStep as step

@@ -1,18 +1,17 @@
 -- No message of an application asks for it to be loaded anew: a child that was added is one that the reader has.
-use Rattle.std.proofs.Common.{◌≡◌, ◌⊎◌, inl, inr, ℕ, suc, Bool, true, false, List, [], ◌∷◌, ◌++◌, length, map, Option, None, Some, refl, sym, ap, ap₂, ◌∙◌, subst}
-use Rattle.std.specs.Prelude.{◌==◌, ◌&&◌, bytes_eq, not, if◌then◌else◌}
+use Rattle.std.proofs.Common.{◌≡◌, ◌⊎◌, inl, inr, ℕ, suc, false, List, [], ◌∷◌, ◌++◌, length, map, Option, None, Some, refl, sym, ap, ◌∙◌, subst}
+use Rattle.std.specs.Prelude.{not}
 use Rattle.std.specs.List.{AllByRecursion, fold}
-use Rattle.std.proofs.lemmas.Bool.{eq-eqb, eqb-true}
-use Rattle.std.proofs.lemmas.List.{append-nil, append_assoc}
+use Rattle.std.proofs.lemmas.List.{append_assoc}
 use Rattle.atspi_forest.specs.declared.news.News.{News}
 use Rattle.atspi_forest.specs.declared.news.News.TheVariants.{Item as NewItem, Removed, ChildAdded, ChildRemoved, Name, Description, Role, State, Inserted, Deleted, Caret as CaretNews, TextIs, CaretIs, ColumnsIs, Nothing}
 use Rattle.atspi_forest.specs.declared.step.Step.{Step}
 use Rattle.atspi_forest.specs.declared.step.Step.TheVariants.{Add, Remove, Move, SetName, SetDescription, SetRole, SetState, Insert, Delete, Caret, TextSelect, Relate}
 use Rattle.atspi_forest.specs.declared.view.Row.{Row}
-use Rattle.atspi_forest.specs.Forest.{Forest, has, find, children_at, width}
+use Rattle.atspi_forest.specs.Forest.{Forest, find, children_at, width}
 use Rattle.atspi_forest.specs.Tree.{is_node, after, seat_of}
 use Rattle.atspi_forest.specs.RowRules.{rows}
-use Rattle.atspi_forest.specs.News.{is_path, effect, marks_reload}
+use Rattle.atspi_forest.specs.News.{is_path, marks_reload}
 use Rattle.atspi_forest.specs.Announce.{announcement, echoes, item_news, removed_news, Idle}
 use Rattle.atspi_forest.specs.Laws.{UntoldOfNew}
 use Rattle.atspi_forest.specs.Path.{path_of}
@@ -24,12 +23,12 @@ use Rattle.atspi_protocol.specs.announcing.Announced.{announced}
 use Rattle.atspi_protocol.specs.announcing.Laws.{told}
 use Rattle.atspi_protocol.specs.news.NewsOf.{news_of}
 use Rattle.atspi_message.specs.Envelope.{Envelope}
-use Rattle.atspi_lines.specs.declared.line.Party.TheVariants.{Bus as The_bus, Registry, App, Reader}
+use Rattle.atspi_lines.specs.declared.line.Party.TheVariants.{App}
 use Rattle.atspi_trace.specs.Entry.{Entry, changed, sent}
 use Rattle.atspi_lawful.specs.laws.Words.{tree_after, live_tree, messages, heard_pairs}
-use Rattle.atspi_lawful.specs.heard.Laws.{signals_under, IsAmong}
+use Rattle.atspi_lawful.specs.heard.Laws.{signals_under}
 use Rattle.atspi_lawful.specs.views.Laws.{IsCarried}
-use Rattle.atspi_lawful.proofs.OfOrder.Parties.{no_none, same_some, false_true, all_back, all_front}
+use Rattle.atspi_lawful.proofs.OfOrder.Parties.{all_back, all_front}
 use Rattle.atspi_lawful.proofs.OfSteps.Trees.{tree_more}
 use Rattle.atspi_lawful.proofs.OfCaches.Between.{OfMessage, asked_all, sent_each, telling, IsSilent, signal_messages}
 use Rattle.atspi_protocol.specs.exporting.Telling.{asked_for}

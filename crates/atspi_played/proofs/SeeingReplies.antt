@@ -2,7 +2,7 @@
 use Rattle.std.proofs.Common.{◌≡◌, ◌⊎◌, inl, inr, ℕ, Bool, true, false, List, [], ◌∷◌, ◌++◌, Option, None, Some, refl, sym, ap, ap₂, ◌∙◌, subst, arith}
 use Rattle.std.specs.Prelude.{◌==◌, ◌&&◌, ◌||◌, not, bytes_eq, filter, fold, if◌then◌else◌}
 use Rattle.std.specs.List.{AllByRecursion, list_all}
-use Rattle.std.proofs.lemmas.Bool.{eqb-true, eq-eqb}
+use Rattle.std.proofs.lemmas.Bool.{eqb-true}
 use Rattle.atspi_message.specs.Envelope.{Envelope}
 use Rattle.atspi_routing.specs.Routing.{is_reply}
 use Rattle.atspi_forest.specs.declared.news.Item.{Item}
@@ -20,7 +20,7 @@ use Rattle.atspi_protocol.specs.following.Replied.{is_reply_to, may_answer, ends
 use Rattle.atspi_protocol.specs.following.Takes.{notes}
 use Rattle.atspi_trace.specs.World.{Asked, waits, Hearer, World}
 use Rattle.atspi_trace.specs.Hearing.{is_answered, question_returned}
-use Rattle.atspi_lawful.proofs.OfOrder.Parties.{no_none, same_some, false_true}
+use Rattle.atspi_lawful.proofs.OfOrder.Parties.{no_none, false_true}
 use Rattle.atspi_played.proofs.Facts.{IsReturnedWell, IsReplyWell, RepliesWell, Waits}
 
 -- A return to none of the calls

@@ -1,11 +1,10 @@
 -- No index of the rows that a reader holds is so great that it is cut: a tree has few nodes.
-use Rattle.std.proofs.Common.{◌≡◌, ◌⊎◌, inl, inr, ℕ, suc, ◌+◌, ◌≤◌, Bool, true, false, List, [], ◌∷◌, ◌++◌, length, map, cond, Option, None, Some, refl, sym, ap, ap₂, ◌∙◌, subst, arith}
-use Rattle.std.specs.Prelude.{◌==◌, ℤ, pos, min, if◌then◌else◌}
+use Rattle.std.proofs.Common.{◌≡◌, ℕ, suc, ◌+◌, ◌≤◌, Bool, true, false, List, [], ◌∷◌, ◌++◌, length, map, Option, None, Some, refl, sym, ap, ap₂, ◌∙◌, subst, arith}
+use Rattle.std.specs.Prelude.{◌==◌, pos, min, if◌then◌else◌}
 use Rattle.std.specs.List.{cons_option}
-use Rattle.std.proofs.lemmas.Bool.{eq-eqb, eqb-true}
+use Rattle.std.proofs.lemmas.Bool.{eqb-true}
 use Rattle.std.proofs.lemmas.List.{append-nil, append_assoc, map-append}
 use Rattle.atspi_arena.specs.Sights.{sight, sights}
-use Rattle.atspi_events.specs.declared.shown.ShownRow.{ShownRow}
 use Rattle.atspi_forest.specs.declared.limits.TheConstants.{NODE_LIMIT}
 use Rattle.atspi_forest.specs.declared.view.Row.{Row}
 use Rattle.atspi_forest.specs.Forest.{Forest, nil, tree, count, seats}
@@ -20,11 +19,9 @@ use Rattle.atspi_message.specs.Envelope.{Envelope}
 use Rattle.atspi_play.specs.Playing.{shown_sight}
 use Rattle.atspi_trace.specs.Entry.{Entry, started, changed, sent}
 use Rattle.atspi_trace.specs.World.{World}
-use Rattle.atspi_trace.specs.Ends.{same_party, end_at}
 use Rattle.atspi_trace.specs.Causes.{shown_row, shown_rows}
 use Rattle.atspi_lawful.specs.laws.Words.{tree_after, live_tree, message, messages, before_sent, as_of, name_in}
 use Rattle.atspi_lawful.specs.views.Laws.{StepsOnTree}
-use Rattle.atspi_lawful.specs.laws.NineLaws.{Everywhere}
 use Rattle.atspi_lawful.proofs.OfOrder.Parties.{party-same}
 use Rattle.atspi_lawful.proofs.OfOrder.Effects.{app_role}
 use Rattle.atspi_lawful.proofs.OfOrder.Shape.{RoleFits}
@@ -33,7 +30,7 @@ use Rattle.atspi_lawful.proofs.OfSteps.Trees.{tree_more}
 use Rattle.atspi_lawful.proofs.OfSerials.Serial.{messages_more}
 use Rattle.atspi_lawful.proofs.OfTaken.Found.{sent_split}
 use Rattle.atspi_lawful.proofs.OfViews.LawViews.{trees_stand}
-use Rattle.atspi_lawful.proofs.OfCaches.Starts.{StartsAnew, starts_anew}
+use Rattle.atspi_lawful.proofs.OfCaches.Starts.{starts_anew}
 use Rattle.atspi_lawful.proofs.OfNames.Places.{told_is}
 use Rattle.atspi_lawful.proofs.OfSettled.Settling_ground as under
 use Rattle.atspi_played.proofs.Facts.{Ground}

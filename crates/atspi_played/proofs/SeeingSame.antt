@@ -1,5 +1,5 @@
 -- What a reader's own state has of an application, and what the trace says that it has: each change does the same to both.
-use Rattle.std.proofs.Common.{◌≡◌, ℕ, Bool, true, false, List, [], ◌∷◌, ◌++◌, map, Option, None, Some, refl, sym, ap, ap₂, ◌∙◌, subst}
+use Rattle.std.proofs.Common.{◌≡◌, ℕ, Bool, true, false, List, [], ◌∷◌, ◌++◌, map, Option, None, Some, refl, sym, ap, ap₂, ◌∙◌}
 use Rattle.std.specs.Prelude.{◌==◌, ◌&&◌, ◌||◌, option_map, if◌then◌else◌}
 use Rattle.std.specs.List.{AllByRecursion}
 use Rattle.std.proofs.lemmas.List.{append-nil, append_assoc}
@@ -9,7 +9,7 @@ use Rattle.atspi_forest.specs.declared.view.Row.{Row}
 use Rattle.atspi_forest.specs.Forest.{Forest}
 use Rattle.atspi_forest.specs.News.{load, effect, marks_reload}
 use Rattle.atspi_forest.specs.Path.{path_of}
-use Rattle.atspi_lines.specs.declared.line.Party.TheVariants.{Bus as The_bus, Registry, App, Reader}
+use Rattle.atspi_lines.specs.declared.line.Party.TheVariants.{App, Reader}
 use Rattle.atspi_message.specs.Envelope.{Envelope}
 use Rattle.atspi_protocol.specs.declared.news.part.PartName.{PartName}
 use Rattle.atspi_protocol.specs.declared.following.question.Question.{Question}
@@ -21,7 +21,7 @@ use Rattle.atspi_protocol.specs.following.Replied.{loaded, told_part, refused_pa
 use Rattle.atspi_protocol.specs.following.Takes.{noted, folded}
 use Rattle.atspi_trace.specs.Entry.{Entry, got, spoke, gone}
 use Rattle.atspi_lawful.specs.laws.Words.{message, answers_question}
-use Rattle.atspi_lawful.specs.caches.Caches.{unasked, with_items, with_part, replied, reads, reads_if, follows_after, follows_on, followed}
+use Rattle.atspi_lawful.specs.caches.Caches.{unasked, with_items, with_part, replied, reads_if, follows_after, follows_on, followed}
 use Rattle.atspi_lawful.proofs.OfHeld.Keeping.{NotOfReader}
 use Rattle.atspi_played.proofs.SeeingApps.{KeepsNames}
 

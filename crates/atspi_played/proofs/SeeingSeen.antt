@@ -1,10 +1,8 @@
 -- A reader takes a letter: what its own state then has of each application is what the trace then says, application by application.
-use Rattle.std.proofs.Common.{◌≡◌, ◌⊎◌, inl, inr, ℕ, suc, Bool, true, false, List, [], ◌∷◌, ◌++◌, Option, None, Some, refl, sym, ap, ap₂, ◌∙◌, subst}
-use Rattle.std.specs.Prelude.{◌==◌, not, bytes_eq, filter, fold, option_map, if◌then◌else◌}
+use Rattle.std.proofs.Common.{◌≡◌, ◌⊎◌, inl, inr, ℕ, Bool, true, false, List, ◌∷◌, ◌++◌, Option, None, Some, refl, sym, ap, ◌∙◌, subst}
+use Rattle.std.specs.Prelude.{◌==◌, not, filter, option_map}
 use Rattle.std.specs.List.{AllByRecursion}
 use Rattle.std.proofs.lemmas.Bool.{eq-eqb, eqb-true}
-use Rattle.std.proofs.lemmas.List.{append-nil}
-use Rattle.atspi_forest.specs.declared.news.News.{News}
 use Rattle.atspi_forest.specs.News.{effect}
 use Rattle.atspi_forest.specs.declared.news.Reference.{Reference}
 use Rattle.atspi_forest.specs.Path.{path_of}
@@ -12,40 +10,33 @@ use Rattle.atspi_lines.specs.declared.line.Line.{Line}
 use Rattle.atspi_lines.specs.declared.line.Party.{Party}
 use Rattle.atspi_lines.specs.declared.line.Party.TheVariants.{Bus as The_bus, Registry, App, Reader}
 use Rattle.atspi_message.specs.Envelope.{Envelope}
-use Rattle.atspi_names.specs.Owners.{unique_name}
-use Rattle.atspi_protocol.specs.ends.Places.{bus}
-use Rattle.atspi_protocol.specs.declared.news.part.PartName.{PartName}
 use Rattle.atspi_protocol.specs.declared.following.question.Question.{Question}
-use Rattle.atspi_protocol.specs.declared.following.question.Question.TheVariants.{GetChildren, GetItems, GetPart}
+use Rattle.atspi_protocol.specs.declared.following.question.Question.TheVariants.{GetChildren, GetItems}
 use Rattle.atspi_protocol.specs.news.NewsOf.{news_of, or_empty}
-use Rattle.atspi_protocol.specs.news.Replies.{elements_of}
-use Rattle.atspi_protocol.specs.following.ReaderState.{Followed, Pending, ReaderState, is_named, begins}
-use Rattle.atspi_protocol.specs.following.Known.{unasked, made_known, references_among, new_child, with_child, takes_child, told_end, with_end, takes_end}
-use Rattle.atspi_protocol.specs.following.Replied.{changed, loaded, told_part, refused_part, takes_reply}
-use Rattle.atspi_protocol.specs.following.Takes.{found_in, noted, notes, folded, takes_news}
+use Rattle.atspi_protocol.specs.following.ReaderState.{Followed, Pending, ReaderState, is_named}
+use Rattle.atspi_protocol.specs.following.Known.{made_known, new_child, with_child, told_end, with_end}
+use Rattle.atspi_protocol.specs.following.Replied.{changed}
+use Rattle.atspi_protocol.specs.following.Takes.{found_in, noted, folded}
 use Rattle.atspi_trace.specs.Entry.{Entry, got, gone}
-use Rattle.atspi_trace.specs.World.{Hearer, Letter, End, World}
+use Rattle.atspi_trace.specs.World.{Hearer, Letter, World}
 use Rattle.atspi_trace.specs.Ends.{same_party, app_named}
 use Rattle.atspi_trace.specs.Hearing.{question_returned, app_with, heard_entries}
-use Rattle.atspi_lawful.specs.laws.Words.{message, name_in}
+use Rattle.atspi_lawful.specs.laws.Words.{name_in}
 use Rattle.atspi_lawful.specs.caches.Caches as caches
 use Rattle.atspi_lawful.specs.caches.Caches.{followed}
 use Rattle.atspi_lawful.proofs.OfOrder.Parties.{no_none, same_some, party-same, false_true, all_back}
 use Rattle.atspi_lawful.proofs.OfOrder.Each.{everywhere}
 use Rattle.atspi_lawful.specs.exits.Laws.{ComesBeforeEnd, IsNotEndOf}
-use Rattle.atspi_lawful.proofs.OfHeard.Quiet.{heard_all}
 use Rattle.atspi_lawful.proofs.OfHeld.Keeping.{ReaderIs}
 use Rattle.atspi_lawful.proofs.OfTaken.Said.{IsLetter}
-use Rattle.atspi_lawful.proofs.OfLinks.LawLinks.{NotTaken}
-use Rattle.atspi_lawful.proofs.OfNames.Places.{first_at, greeted, greeted_more, none_greeted, name_told, told_is}
+use Rattle.atspi_lawful.proofs.OfNames.Places.{told_is}
 use Rattle.atspi_lawful.proofs.OfSigned.Self.{app_name}
-use Rattle.atspi_lawful.proofs.OfSigned.Mail.{NameIs, told_more}
+use Rattle.atspi_lawful.proofs.OfSigned.Mail.{NameIs}
 use Rattle.atspi_played.proofs.Facts.{IsOfApp, IsSeen, IsAwaited, IsGoneFor}
-use Rattle.atspi_played.proofs.SeeingApps.{found_it, found_other, found_without, found_kept, found_made, found_is, each_changed, each_kept, each_made, each_fold, each_weaker}
-use Rattle.atspi_played.proofs.SeeingSame.{Part, told_is as part_is, folded_is, noted_keeps, folded_keeps, told_keeps, marks_of, Same, same_noted, same_folded, IsRooted, followed_rooted}
-use Rattle.atspi_played.proofs.SeeingReplies as replies
-use Rattle.atspi_played.proofs.SeeingReplies.{Brings, items, told, refuses, fails, children, Replied, replied_to}
-use Rattle.atspi_played.proofs.SeeingTaken.{Sees, is_seen, sees_both, same_or, sees_new, others_see, own_sees}
+use Rattle.atspi_played.proofs.SeeingApps.{found_it, found_other, found_without, found_kept, found_made, found_is, each_made, each_weaker}
+use Rattle.atspi_played.proofs.SeeingSame.{folded_is, noted_keeps, folded_keeps, marks_of, Same, same_noted, same_folded, IsRooted, followed_rooted}
+use Rattle.atspi_played.proofs.SeeingReplies.{Brings}
+use Rattle.atspi_played.proofs.SeeingTaken.{Sees, sees_both, same_or, sees_new, others_see, own_sees}
 use Rattle.atspi_played.proofs.SeeingGround.{its, is_name, no_bus_name, one_party, Sender, of_bus, of_end, end_from_bus, named_is, app_is, same_number}
 use Rattle.atspi_played.proofs.SeeingStep as step
 use Rattle.atspi_played.proofs.SeeingChildren.{took, Taking, from, children_from_registry}

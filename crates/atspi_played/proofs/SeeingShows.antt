@@ -1,19 +1,18 @@
 -- What a reader shows is what is due.
-use Rattle.std.proofs.Common.{◌≡◌, ◌⊎◌, inl, inr, ℕ, zero, suc, Bool, true, false, List, [], ◌∷◌, ◌++◌, map, Option, None, Some, refl, sym, ap, ap₂, ◌∙◌, subst}
-use Rattle.std.specs.Prelude.{position, option_map, slice_get, if◌then◌else◌}
+use Rattle.std.proofs.Common.{◌≡◌, ℕ, zero, suc, Bool, true, false, List, [], ◌∷◌, Option, None, Some, refl, sym, ap, ap₂, ◌∙◌, subst}
+use Rattle.std.specs.Prelude.{option_map, if◌then◌else◌}
 use Rattle.std.proofs.lemmas.List.{append-nil}
-use Rattle.atspi_arena.specs.Sights.{sights}
 use Rattle.atspi_forest.specs.declared.view.Row.{Row}
 use Rattle.atspi_forest.specs.Forest.{Forest}
 use Rattle.atspi_forest.specs.View.{view}
 use Rattle.atspi_lines.specs.declared.line.Line.{Line}
-use Rattle.atspi_lines.specs.declared.line.Party.TheVariants.{Registry, App, Reader}
+use Rattle.atspi_lines.specs.declared.line.Party.TheVariants.{Registry, App}
 use Rattle.atspi_protocol.specs.following.ReaderState.{Followed, ReaderState}
 use Rattle.atspi_protocol.specs.following.Takes.{found_in, view_of}
-use Rattle.atspi_play.specs.Playing.{shown_sight, view_rows, held_by, unique_in}
+use Rattle.atspi_play.specs.Playing.{view_rows, held_by, unique_in}
 use Rattle.atspi_play.specs.Played.{if_viewed}
 use Rattle.atspi_trace.specs.Entry.{Entry}
-use Rattle.atspi_trace.specs.World.{a_reader, Holding, Hearer, End, World}
+use Rattle.atspi_trace.specs.World.{Holding, Hearer, End, World}
 use Rattle.atspi_trace.specs.Ends.{same_party, conn_of, end_at, end_if, end_of}
 use Rattle.atspi_trace.specs.Hearing.{holding_of}
 use Rattle.atspi_trace.specs.Causes.{told_in, shown_rows, rows_held}
@@ -21,14 +20,14 @@ use Rattle.atspi_trace.specs.Work.{if_held}
 use Rattle.atspi_lawful.specs.laws.Words.{message, as_of, name_in, Kept, held}
 use Rattle.atspi_lawful.specs.signed.Laws.{IsItsName}
 use Rattle.atspi_lawful.specs.caches.Caches.{followed}
-use Rattle.atspi_lawful.specs.caches.Laws.{CacheIs, IsViewed}
+use Rattle.atspi_lawful.specs.caches.Laws.{CacheIs}
 use Rattle.atspi_lawful.proofs.OfOrder.Parties.{no_none, same_some, same-party, party-same, false_true}
-use Rattle.atspi_lawful.proofs.OfHeld.Keeping.{SameHolding, SameKept, ReaderIs}
+use Rattle.atspi_lawful.proofs.OfHeld.Keeping.{SameKept, ReaderIs}
 use Rattle.atspi_lawful.proofs.OfNames.Places.{first_at, position_is, name_told, told_is}
 use Rattle.atspi_lawful.proofs.OfCaches.LawCaches.{caches_follow}
 use Rattle.atspi_lawful.proofs.OfServed.LawServed.{steps_asked}
 use Rattle.atspi_lawful.proofs.OfSettled.Settling_ground as under
-use Rattle.atspi_played.proofs.Facts.{Ground, IsSeen, SeesWell, Tied}
+use Rattle.atspi_played.proofs.Facts.{Ground, IsSeen, SeesWell}
 use Rattle.atspi_played.proofs.Pieces.{ShowsDue}
 use Rattle.atspi_played.proofs.SeeingGround.{shape, its}
 use Rattle.atspi_played.proofs.SeeingRows.{rows_shown}

@@ -1,50 +1,30 @@
 -- A reader takes a letter that is of no application: what it speaks is what is due, at the end of one its closing line.
-use Rattle.std.proofs.Common.{◌≡◌, ◌⊎◌, inl, inr, ℕ, suc, Bool, true, false, List, [], ◌∷◌, ◌++◌, map, Option, None, Some, refl, sym, ap, ap₂, ◌∙◌, subst}
-use Rattle.std.specs.Prelude.{◌==◌, ◌&&◌, flat_map, not, bytes_eq, filter, fold, option_map, if◌then◌else◌}
-use Rattle.std.specs.List.{AllByRecursion}
-use Rattle.std.proofs.lemmas.Bool.{eq-eqb, eqb-true}
-use Rattle.std.proofs.lemmas.List.{append-nil, append_assoc}
-use Rattle.atspi_forest.specs.declared.news.News.{News}
-use Rattle.atspi_forest.specs.News.{effect}
-use Rattle.atspi_forest.specs.declared.news.News.TheVariants.{Nothing}
+use Rattle.std.proofs.Common.{◌≡◌, ℕ, Bool, true, false, List, [], ◌∷◌, ◌++◌, map, Option, None, Some, refl, sym, ap, ap₂, ◌∙◌, subst}
+use Rattle.std.specs.Prelude.{◌&&◌, flat_map, filter, if◌then◌else◌}
+use Rattle.std.proofs.lemmas.List.{append-nil}
 use Rattle.atspi_forest.specs.declared.view.Row.{Row}
 use Rattle.atspi_forest.specs.Forest.{Forest}
 use Rattle.atspi_forest.specs.View.{view}
-use Rattle.atspi_forest.specs.Row.{TreeRow}
-use Rattle.atspi_forest.specs.declared.step.Step.{Step}
-use Rattle.atspi_speech.specs.Speech.{lines as read_lines, closing_lines, closing_says}
+use Rattle.atspi_speech.specs.Speech.{closing_lines, closing_says}
 use Rattle.atspi_speech.proofs.DueLemmas.{closes_due}
 use Rattle.atspi_forest.specs.declared.news.Reference.{Reference}
-use Rattle.atspi_forest.specs.Path.{path_of}
 use Rattle.atspi_lines.specs.declared.line.Line.{Line}
-use Rattle.atspi_lines.specs.declared.line.Party.{Party}
-use Rattle.atspi_lines.specs.declared.line.Party.TheVariants.{Bus as The_bus, Registry, App, Reader}
+use Rattle.atspi_lines.specs.declared.line.Party.TheVariants.{Bus as The_bus, App}
 use Rattle.atspi_message.specs.Envelope.{Envelope}
-use Rattle.atspi_names.specs.Owners.{unique_name}
-use Rattle.atspi_protocol.specs.ends.Places.{bus}
-use Rattle.atspi_protocol.specs.declared.news.part.PartName.{PartName}
 use Rattle.atspi_protocol.specs.declared.following.question.Question.{Question}
-use Rattle.atspi_protocol.specs.declared.following.question.Question.TheVariants.{Hello, AddMatch, RegisterEvent, GetChildren, GetItems, GetPart}
 use Rattle.atspi_protocol.specs.news.NewsOf.{news_of, or_empty}
-use Rattle.atspi_protocol.specs.news.Replies.{elements_of}
-use Rattle.atspi_protocol.specs.following.ReaderState.{Done, sends, speaks, tells_end, Followed, Pending, ReaderState, is_named, begins}
-use Rattle.atspi_protocol.specs.following.Known.{closing_of, closings, end_of_connection, unasked, made_known, references_among, new_child, with_child, takes_child, told_end, with_end, takes_end}
-use Rattle.atspi_protocol.specs.following.Replied.{changed, loaded, told_part, refused_part, takes_reply}
-use Rattle.atspi_protocol.specs.following.Takes.{lines_at, asks, goes_on, reader_takes, found_in, noted, notes, folded, takes_news}
-use Rattle.atspi_trace.specs.Entry.{Entry, got, spoke, gone}
-use Rattle.atspi_trace.specs.World.{Asked, Holding, Said, Hearer, Letter, End, World}
-use Rattle.atspi_trace.specs.Ends.{same_party, app_named}
-use Rattle.atspi_trace.specs.Hearing.{step_lines, lines_if_held, ended_entries, last_lines, holding_of, question_returned, app_with, heard_entries}
-use Rattle.atspi_lawful.specs.laws.Words.{message, name_in, answers_question, as_of, Kept, held}
-use Rattle.atspi_lawful.specs.caches.Caches as caches
+use Rattle.atspi_protocol.specs.following.ReaderState.{speaks, tells_end, Followed, ReaderState, is_named}
+use Rattle.atspi_protocol.specs.following.Known.{closing_of, closings, end_of_connection, new_child, with_child, told_end, with_end}
+use Rattle.atspi_protocol.specs.following.Takes.{lines_at, found_in}
+use Rattle.atspi_trace.specs.Entry.{Entry, spoke, gone}
+use Rattle.atspi_trace.specs.World.{Holding, Hearer, Letter, World}
+use Rattle.atspi_trace.specs.Ends.{app_named}
+use Rattle.atspi_trace.specs.Hearing.{ended_entries, last_lines, holding_of, question_returned, app_with, heard_entries}
+use Rattle.atspi_lawful.specs.laws.Words.{name_in, as_of, Kept, held}
 use Rattle.atspi_lawful.specs.caches.Caches.{followed}
-use Rattle.atspi_lawful.proofs.OfOrder.Parties.{no_none, same_some, party-same, false_true, all_back}
-use Rattle.atspi_lawful.proofs.OfOrder.Each.{everywhere}
-use Rattle.atspi_lawful.specs.exits.Laws.{ComesBeforeEnd, IsNotEndOf}
-use Rattle.atspi_lawful.proofs.OfHeard.Quiet.{heard_all}
-use Rattle.atspi_lawful.proofs.OfHeld.Keeping.{ReaderIs, SameHolding, SameKept}
+use Rattle.atspi_lawful.proofs.OfOrder.Parties.{no_none, same_some}
+use Rattle.atspi_lawful.proofs.OfHeld.Keeping.{ReaderIs, SameKept}
 use Rattle.atspi_types.specs.Names.{is_bus_name, is_unique_name}
-use Rattle.atspi_lawful.specs.missed.Laws.{IsLoad}
 use Rattle.atspi_lawful.specs.signed.Laws.{IsItsName}
 use Rattle.atspi_lawful.specs.caches.Laws.{CacheIs, IsViewed}
 use Rattle.atspi_lawful.proofs.OfCaches.LawCaches.{caches_follow}
@@ -52,28 +32,18 @@ use Rattle.atspi_lawful.proofs.OfServed.LawServed.{steps_asked}
 use Rattle.atspi_lawful.proofs.OfMissed.Registering.{name_is_bus_name}
 use Rattle.atspi_trace.specs.Causes.{told_in}
 use Rattle.atspi_lawful.proofs.OfSigned.Self.{unique_told}
-use Rattle.atspi_lawful.proofs.OfTaken.Said.{IsLetter, TellsTree, TellsOf}
-use Rattle.atspi_lawful.proofs.OfLinks.LawLinks.{NotTaken}
-use Rattle.atspi_lawful.proofs.OfNames.Places.{first_at, greeted, greeted_more, none_greeted, name_told, told_is}
-use Rattle.atspi_lawful.proofs.OfSigned.Self.{app_name}
-use Rattle.atspi_lawful.proofs.OfSigned.Mail.{NameIs, told_more}
-use Rattle.atspi_play.specs.Playing.{silent}
 use Rattle.atspi_play.specs.Plays.{of_app, told as told_to}
-use Rattle.atspi_played.proofs.Pieces.{is_call, IsNoCall, spoken}
 use Rattle.atspi_played.proofs.SeeingSpeech.{told_both, told_lines, closing_none, closing_some}
-use Rattle.atspi_played.proofs.SeeingWell.{replied_apart, known_apart}
-use Rattle.atspi_played.proofs.Facts.{Ground, AreDistinct, Awaits, NoItems, SeesWell, IsOfApp, IsSeen, IsAwaited, IsGoneFor}
-use Rattle.atspi_played.proofs.SeeingApps.{found_list, those_named, not_named, FoundAfter, same, new, distinct_changed, distinct_without, distinct_made, distinct_fold, found_it, found_other, found_without, found_kept, found_made, found_is, each_changed, each_kept, each_made, each_fold, each_weaker}
-use Rattle.atspi_played.proofs.SeeingSame.{Part, told_is as part_is, folded_is, loaded_keeps, refused_keeps, noted_keeps, folded_keeps, told_keeps, marks_of, Same, same_noted, same_folded, IsRooted, followed_rooted}
-use Rattle.atspi_played.proofs.SeeingReplies as replies
-use Rattle.atspi_played.proofs.SeeingReplies.{Brings, items, told, refuses, fails, children, Replied, replied_to}
-use Rattle.atspi_played.proofs.SeeingTaken.{answers_as, Sees, is_seen, sees_both, same_or, sees_new, others_see, own_sees}
-use Rattle.atspi_played.proofs.SeeingGround.{its, is_name, no_bus_name, one_party, Sender, of_bus, of_end, end_from_bus, named_is, app_is, same_number}
+use Rattle.atspi_played.proofs.SeeingWell.{replied_apart}
+use Rattle.atspi_played.proofs.Facts.{IsOfApp}
+use Rattle.atspi_played.proofs.SeeingApps.{found_list, those_named, not_named, each_weaker}
+use Rattle.atspi_played.proofs.SeeingSame.{Same, followed_rooted}
+use Rattle.atspi_played.proofs.SeeingTaken.{Sees}
+use Rattle.atspi_played.proofs.SeeingGround.{its, is_name, named_is, app_is}
 use Rattle.atspi_played.proofs.SeeingStep as step
-use Rattle.atspi_played.proofs.SeeingSeen.{IsQuiet, seen_before, unheld, found_own, replied_seen, other_replied}
-use Rattle.atspi_played.proofs.SeeingWishes.{IsFound, each_found, IsWished, first_wish, GoesOn, stays, begins_one, wishes_one, next_of}
-use Rattle.atspi_played.proofs.SeeingChildren.{took, Taking, from, children_from_registry}
-use Rattle.atspi_played.proofs.SeeingBehind.{same_question, written_app, written_registry, written_reader, written_bus, behind_own, behind_other, behind_registry, behind_reader, behind_bus, behind_its_end, behind_other_end}
+use Rattle.atspi_played.proofs.SeeingSeen.{IsQuiet, other_replied}
+use Rattle.atspi_played.proofs.SeeingChildren.{took, Taking}
+use Rattle.atspi_played.proofs.SeeingBehind.{written_bus}
 
 module _ (script : List Line) (es : List Entry) (w : World) (r : ℕ) (h : Hearer) (letter : Letter) (s : ReaderState) (t : Taking script es w r h letter s) (quiet : IsQuiet es r h letter) (readers : ReaderIs es r h) where
   abbrev m : Envelope

@@ -1,11 +1,10 @@
 -- A message, and what a reader has of one application behind it: what its own state has is what the trace says.
-use Rattle.std.proofs.Common.{◌≡◌, ◌⊎◌, inl, inr, ℕ, Bool, true, false, List, [], ◌∷◌, ◌++◌, Option, None, Some, refl, sym, ap, ap₂, ◌∙◌, subst}
-use Rattle.std.specs.Prelude.{◌==◌, ◌&&◌, ◌||◌, not, bytes_eq, filter, fold, option_map, if◌then◌else◌}
+use Rattle.std.proofs.Common.{◌≡◌, ◌⊎◌, inl, inr, ℕ, Bool, true, false, List, Option, None, Some, refl, sym, ap, ◌∙◌, subst}
+use Rattle.std.specs.Prelude.{◌||◌, not, bytes_eq, filter, fold, option_map}
 use Rattle.std.specs.List.{AllByRecursion}
 use Rattle.std.proofs.lemmas.Slice.Eq.{bytes_eq-Decides}
 use Rattle.atspi_forest.specs.declared.news.Item.{Item}
 use Rattle.atspi_forest.specs.declared.news.News.{News}
-use Rattle.atspi_forest.specs.declared.news.Reference.{Reference}
 use Rattle.atspi_forest.specs.Path.{path_of}
 use Rattle.atspi_message.specs.Envelope.{Envelope}
 use Rattle.atspi_protocol.specs.ends.Places.{bus}
@@ -16,13 +15,13 @@ use Rattle.atspi_protocol.specs.news.NewsOf.{or_empty}
 use Rattle.atspi_protocol.specs.news.Replies.{elements_of, items_told, part_told}
 use Rattle.atspi_protocol.specs.following.ReaderState.{Followed, Pending, ReaderState, is_named}
 use Rattle.atspi_protocol.specs.following.Known.{unasked, made_known, references_among}
-use Rattle.atspi_protocol.specs.following.Replied.{may_answer, changed, loaded, told_part, refused_part}
-use Rattle.atspi_protocol.specs.following.Takes.{found_in, noted, folded}
+use Rattle.atspi_protocol.specs.following.Replied.{changed, loaded, told_part, refused_part}
+use Rattle.atspi_protocol.specs.following.Takes.{found_in}
 use Rattle.atspi_lawful.specs.caches.Caches.{with_items, with_part, replied}
-use Rattle.atspi_lawful.proofs.OfOrder.Parties.{no_none, same_some, false_true}
+use Rattle.atspi_lawful.proofs.OfOrder.Parties.{false_true}
 use Rattle.atspi_played.proofs.Facts.{IsSeen}
-use Rattle.atspi_played.proofs.SeeingApps.{found_it, found_other, found_without, found_kept, FoundAfter, same, new, found_made, found_fold, found_is, KeepsNames}
-use Rattle.atspi_played.proofs.SeeingSame.{Part, told_is, folded_is, marks_of, noted_keeps, loaded_keeps, refused_keeps, told_keeps, folded_keeps, Same, same_noted, same_loaded, same_refused, same_refused_here, same_told, same_folded, IsRooted}
+use Rattle.atspi_played.proofs.SeeingApps.{found_it, found_other, found_without, found_kept, FoundAfter, same, new, found_fold, found_is}
+use Rattle.atspi_played.proofs.SeeingSame.{told_is, loaded_keeps, refused_keeps, told_keeps, Same, same_loaded, same_refused_here, same_told, IsRooted}
 use Rattle.atspi_played.proofs.SeeingReplies as replies
 use Rattle.atspi_played.proofs.SeeingReplies.{IsPlain, NotBus, Brings, items, told, refuses, fails, children}
 

@@ -1,58 +1,47 @@
 -- A reader takes a letter: it then sees well, and whom it asked for items it knows and does not hold, or the end of it was told.
-use Rattle.std.proofs.Common.{◌≡◌, ◌⊎◌, inl, inr, ℕ, suc, Bool, true, false, List, [], ◌∷◌, ◌++◌, map, Option, None, Some, refl, sym, ap, ap₂, ◌∙◌, subst}
-use Rattle.std.specs.Prelude.{◌==◌, not, bytes_eq, filter, fold, option_map, if◌then◌else◌}
+use Rattle.std.proofs.Common.{◌≡◌, ◌⊎◌, inl, inr, ℕ, false, List, [], ◌∷◌, ◌++◌, map, Option, None, Some, refl, sym, ap, ◌∙◌, subst}
+use Rattle.std.specs.Prelude.{not, filter, fold, option_map}
 use Rattle.std.specs.List.{AllByRecursion}
-use Rattle.std.proofs.lemmas.Bool.{eq-eqb, eqb-true}
-use Rattle.std.proofs.lemmas.List.{append-nil, append_assoc}
+use Rattle.std.proofs.lemmas.List.{append_assoc}
 use Rattle.atspi_forest.specs.declared.news.News.{News}
 use Rattle.atspi_forest.specs.News.{effect}
 use Rattle.atspi_forest.specs.declared.news.Reference.{Reference}
-use Rattle.atspi_forest.specs.Path.{path_of}
 use Rattle.atspi_lines.specs.declared.line.Line.{Line}
 use Rattle.atspi_lines.specs.declared.line.Party.{Party}
 use Rattle.atspi_lines.specs.declared.line.Party.TheVariants.{Bus as The_bus, Registry, App, Reader}
 use Rattle.atspi_message.specs.Envelope.{Envelope}
-use Rattle.atspi_names.specs.Owners.{unique_name}
-use Rattle.atspi_protocol.specs.ends.Places.{bus}
-use Rattle.atspi_protocol.specs.declared.news.part.PartName.{PartName}
 use Rattle.atspi_protocol.specs.declared.following.question.Question.{Question}
-use Rattle.atspi_protocol.specs.declared.following.question.Question.TheVariants.{GetChildren, GetItems, GetPart}
+use Rattle.atspi_protocol.specs.declared.following.question.Question.TheVariants.{GetItems}
 use Rattle.atspi_protocol.specs.news.NewsOf.{news_of, or_empty}
 use Rattle.atspi_protocol.specs.news.Replies.{elements_of}
-use Rattle.atspi_protocol.specs.following.ReaderState.{Followed, Pending, ReaderState, is_named, begins}
-use Rattle.atspi_protocol.specs.following.Known.{unasked, made_known, references_among, new_child, with_child, takes_child, told_end, with_end, takes_end}
-use Rattle.atspi_protocol.specs.following.Replied.{changed, loaded, told_part, refused_part, takes_reply}
-use Rattle.atspi_protocol.specs.following.Takes.{asks, goes_on, reader_takes, found_in, noted, notes, folded, takes_news}
+use Rattle.atspi_protocol.specs.following.ReaderState.{Followed, Pending, ReaderState, is_named}
+use Rattle.atspi_protocol.specs.following.Known.{unasked, made_known, references_among, new_child, with_child, told_end, with_end}
+use Rattle.atspi_protocol.specs.following.Replied.{changed, loaded, told_part, refused_part}
+use Rattle.atspi_protocol.specs.following.Takes.{asks, reader_takes, found_in, noted, folded}
 use Rattle.atspi_trace.specs.Entry.{Entry, got, spoke, gone}
-use Rattle.atspi_trace.specs.World.{Hearer, Letter, End, World}
-use Rattle.atspi_trace.specs.Ends.{same_party, app_named}
-use Rattle.atspi_trace.specs.Hearing.{ended_entries, last_lines, holding_of, question_returned, app_with, heard_entries}
-use Rattle.atspi_lawful.specs.laws.Words.{message, name_in}
-use Rattle.atspi_lawful.specs.caches.Caches as caches
+use Rattle.atspi_trace.specs.World.{Hearer, Letter, World}
+use Rattle.atspi_trace.specs.Ends.{app_named}
+use Rattle.atspi_trace.specs.Hearing.{ended_entries, last_lines, holding_of, question_returned, app_with}
+use Rattle.atspi_lawful.specs.laws.Words.{name_in}
 use Rattle.atspi_lawful.specs.caches.Caches.{followed}
-use Rattle.atspi_lawful.proofs.OfOrder.Parties.{no_none, same_some, party-same, false_true, all_back}
-use Rattle.atspi_lawful.proofs.OfOrder.Each.{everywhere}
-use Rattle.atspi_lawful.specs.exits.Laws.{ComesBeforeEnd, IsNotEndOf}
-use Rattle.atspi_lawful.proofs.OfHeard.Quiet.{heard_all}
+use Rattle.atspi_lawful.proofs.OfOrder.Parties.{no_none, same_some}
 use Rattle.atspi_lawful.proofs.OfHeld.Keeping.{ReaderIs}
-use Rattle.atspi_lawful.proofs.OfTaken.Said.{IsLetter}
-use Rattle.atspi_lawful.proofs.OfLinks.LawLinks.{NotTaken}
-use Rattle.atspi_lawful.proofs.OfNames.Places.{first_at, greeted, greeted_more, none_greeted, name_told, told_is}
+use Rattle.atspi_lawful.proofs.OfNames.Places.{told_is}
 use Rattle.atspi_lawful.proofs.OfSigned.Self.{app_name}
-use Rattle.atspi_lawful.proofs.OfSigned.Mail.{NameIs, told_more}
+use Rattle.atspi_lawful.proofs.OfSigned.Mail.{NameIs}
 use Rattle.atspi_play.specs.Playing.{silent}
-use Rattle.atspi_played.proofs.Facts.{AreDistinct, Awaits, NoItems, SeesWell, IsOfApp, IsSeen, IsAwaited, IsGoneFor}
-use Rattle.atspi_played.proofs.SeeingApps.{FoundAfter, same, new, distinct_changed, distinct_without, distinct_made, distinct_fold, found_it, found_other, found_without, found_kept, found_made, found_is, each_changed, each_kept, each_made, each_fold, each_weaker}
-use Rattle.atspi_played.proofs.SeeingSame.{Part, told_is as part_is, folded_is, loaded_keeps, refused_keeps, noted_keeps, folded_keeps, told_keeps, marks_of, Same, same_noted, same_folded, IsRooted, followed_rooted}
+use Rattle.atspi_played.proofs.Facts.{AreDistinct, Awaits, NoItems, SeesWell, IsOfApp, IsAwaited, IsGoneFor}
+use Rattle.atspi_played.proofs.SeeingApps.{FoundAfter, same, new, distinct_changed, distinct_without, distinct_made, distinct_fold, found_it, found_other, found_without, found_kept, found_made, found_is}
+use Rattle.atspi_played.proofs.SeeingSame.{folded_is, loaded_keeps, refused_keeps, noted_keeps, folded_keeps, told_keeps}
 use Rattle.atspi_played.proofs.SeeingReplies as replies
 use Rattle.atspi_played.proofs.SeeingReplies.{Brings, items, told, refuses, fails, children, Replied, replied_to}
-use Rattle.atspi_played.proofs.SeeingTaken.{Sees, is_seen, sees_both, same_or, sees_new, others_see, own_sees}
-use Rattle.atspi_played.proofs.SeeingGround.{its, is_name, no_bus_name, one_party, Sender, of_bus, of_end, end_from_bus, named_is, app_is, same_number}
+use Rattle.atspi_played.proofs.SeeingTaken.{Sees, is_seen, same_or}
+use Rattle.atspi_played.proofs.SeeingGround.{no_bus_name, Sender, of_bus, of_end, end_from_bus, named_is, app_is}
 use Rattle.atspi_played.proofs.SeeingStep as step
 use Rattle.atspi_played.proofs.SeeingSeen.{IsQuiet, seen_behind}
 use Rattle.atspi_played.proofs.SeeingWishes.{IsFound, each_found, IsWished, first_wish, GoesOn, stays, begins_one, wishes_one, next_of}
-use Rattle.atspi_played.proofs.SeeingChildren.{took, Taking, from, children_from_registry}
-use Rattle.atspi_played.proofs.SeeingBehind.{written_bus, behind_own, behind_other, behind_registry, behind_reader, behind_bus, behind_its_end, behind_other_end}
+use Rattle.atspi_played.proofs.SeeingChildren.{took, Taking, from}
+use Rattle.atspi_played.proofs.SeeingBehind.{written_bus, behind_other, behind_registry, behind_reader, behind_bus, behind_other_end}
 
 -- WHO WAITS: one that is known and not held, or none, whose end was told
 abbrev pub IsBare : List ℕ → List Followed → Type 0

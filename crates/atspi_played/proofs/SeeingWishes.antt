@@ -1,5 +1,5 @@
 -- What a reader asks for next: where it asks for all items of an application, it knows that and does not hold it.
-use Rattle.std.proofs.Common.{◌≡◌, ◌⊎◌, inl, inr, ℕ, Bool, true, false, List, [], ◌∷◌, ◌++◌, map, length, Option, None, Some, refl, sym, ap, ap₂, ◌∙◌, subst, arith}
+use Rattle.std.proofs.Common.{◌≡◌, ℕ, false, List, [], ◌∷◌, ◌++◌, map, length, Option, None, Some, refl, sym, ap, ◌∙◌, subst, arith}
 use Rattle.std.specs.Prelude.{bytes_eq, filter, flat_map, not, if◌then◌else◌}
 use Rattle.std.specs.List.{AllByRecursion}
 use Rattle.std.proofs.lemmas.Slice.Eq.{bytes_eq-Decides}
@@ -7,14 +7,13 @@ use Rattle.atspi_forest.specs.declared.view.Row.{Row}
 use Rattle.atspi_forest.specs.Forest.{Forest, labels}
 use Rattle.atspi_protocol.specs.declared.news.part.PartName.{PartName}
 use Rattle.atspi_protocol.specs.declared.following.question.Question.{Question}
-use Rattle.atspi_protocol.specs.declared.following.question.Question.TheVariants.{Hello, AddMatch, RegisterEvent, GetChildren, GetItems, GetPart}
-use Rattle.atspi_protocol.specs.following.Calls.{asking}
-use Rattle.atspi_protocol.specs.following.ReaderState.{Followed, Pending, Done, sends, ReaderState}
+use Rattle.atspi_protocol.specs.declared.following.question.Question.TheVariants.{GetItems, GetPart}
+use Rattle.atspi_protocol.specs.following.ReaderState.{Followed, Pending, ReaderState}
 use Rattle.atspi_protocol.specs.following.Takes.{found_in, asks, goes_on}
 use Rattle.atspi_protocol.specs.following.Wishes.{is_refused, unknown_parts, row_wishes, wishes_of, wishes}
-use Rattle.atspi_lawful.proofs.OfOrder.Parties.{no_none, same_some, false_true, all_append}
+use Rattle.atspi_lawful.proofs.OfOrder.Parties.{false_true, all_append}
 use Rattle.atspi_played.proofs.Facts.{AreDistinct, NoItems}
-use Rattle.atspi_played.proofs.SeeingApps.{named_same, named_apart, each_weaker}
+use Rattle.atspi_played.proofs.SeeingApps.{named_same, named_apart}
 
 -- WHERE NAMES DIFFER each is found by its name
 abbrev pub IsFound : List Followed → Followed → Type 0

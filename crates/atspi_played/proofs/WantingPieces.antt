@@ -26,7 +26,7 @@ use Rattle.atspi_lawful.proofs.OfOrder.Parties.{no_none, same_some, false_true, 
 use Rattle.atspi_lawful.proofs.OfOrder.Each.{all_map}
 use Rattle.atspi_play.specs.Playing.{silent}
 use Rattle.atspi_played.proofs.Facts.{Ground, RepliesWell, Waits, PartWaits, IsGone, IsKnownOrGone, WantsOf, SeesWell, WantsWell, Tied}
-use Rattle.atspi_played.proofs.Pieces.{IsTaking, entries_behind, world_behind, IsNoCall, AsksOne, IsIdle, Skips, WantsNone, WantsOne, RestsSettled}
+use Rattle.atspi_played.proofs.Pieces.{IsTaking, entries_behind, world_behind, AsksOne, IsIdle, Skips, WantsNone, WantsOne, RestsSettled}
 use Rattle.atspi_played.proofs.AskingAnswered.{Took}
 use Rattle.atspi_played.proofs.AskingTakes as taking
 use Rattle.atspi_played.proofs.AskingTakes.{before_asking, took_message}

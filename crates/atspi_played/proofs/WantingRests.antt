@@ -17,7 +17,7 @@ use Rattle.atspi_protocol.specs.following.ReaderState.{Followed, Pending, Reader
 use Rattle.atspi_protocol.specs.following.Takes.{found_in}
 use Rattle.atspi_protocol.specs.following.Wishes.{same_part, is_refused, unknown_parts, row_wishes, wishes_of, wishes}
 use Rattle.atspi_trace.specs.Entry.{Entry}
-use Rattle.atspi_trace.specs.World.{here, waits, Asked, Holding, Hearer, End, World}
+use Rattle.atspi_trace.specs.World.{waits, Asked, Holding, Hearer, End, World}
 use Rattle.atspi_trace.specs.Ends.{end_at}
 use Rattle.atspi_trace.specs.Hearing.{is_answered, holding_of}
 use Rattle.atspi_trace.specs.Causes.{told_in}
