@@ -72,4 +72,5 @@ pub mod ReplyingSpeech
 pub mod SeeingMore
 pub mod SeeingRows
 pub mod SeeingShows
+pub mod SeeingWords
 pub mod AllPieces

@@ -182,7 +182,7 @@ none_tied = record {
 
 -- ALL LINES
 module _ (pieces : Pieces) where
-  played_stage : (lines : List Line) (es : List Entry) (p : Playing) → IsPlayed lines es p → (more : List Line) → CanAllStand (lines ++ more) → Stage (lines ++ more) es p resting more
+  pub played_stage : (lines : List Line) (es : List Entry) (p : Playing) → IsPlayed lines es p → (more : List Line) → CanAllStand (lines ++ more) → Stage (lines ++ more) es p resting more
   played_stage _ _ _ begun more can = record { can = can; midway = begins_midway more can; course = began; tied = none_tied; here = refl }
   played_stage _ _ _ (did lines line es entries p q h ok out here) more can =
       let same : (lines ++ line ∷ []) ++ more ≡ lines ++ line ∷ more = append_assoc lines (line ∷ []) more in

@@ -87,7 +87,8 @@ count_joined [] n h = ap (λ b. length (cond b (n ∷ []) [])) h
 count_joined (x ∷ xs) n h = by (is_reader x.who) (count_joined xs n h)
   where
     by : (b : Bool) → reader_count (xs ++ n ∷ []) ≡ reader_count xs
-        → length (cond b (x ∷ filter (λ (e : End). is_reader e.who) (xs ++ n ∷ [])) (filter (λ (e : End). is_reader e.who) (xs ++ n ∷ []))) ≡ length (cond b (x ∷ filter (λ (e : End). is_reader e.who) xs) (filter (λ (e : End). is_reader e.who) xs))
+        → length (cond b (x ∷ filter (λ (e : End). is_reader e.who) (xs ++ n ∷ [])) (filter (λ (e : End). is_reader e.who) (xs ++ n ∷ []))) ≡ length
+        (cond b (x ∷ filter (λ (e : End). is_reader e.who) xs) (filter (λ (e : End). is_reader e.who) xs))
     by true g = ap suc g
     by false g = g
 

@@ -92,7 +92,8 @@ count_more [] n h = ap (λ b. length (cond b (n ∷ []) [])) h
 count_more (x ∷ xs) n h = by (is_reader x.who) (count_more xs n h)
   where
     by : (b : Bool) → reader_count (xs ++ n ∷ []) ≡ suc (reader_count xs)
-        → length (cond b (x ∷ filter (λ (e : End). is_reader e.who) (xs ++ n ∷ [])) (filter (λ (e : End). is_reader e.who) (xs ++ n ∷ []))) ≡ suc (length (cond b (x ∷ filter (λ (e : End). is_reader e.who) xs) (filter (λ (e : End). is_reader e.who) xs)))
+        → length (cond b (x ∷ filter (λ (e : End). is_reader e.who) (xs ++ n ∷ [])) (filter (λ (e : End). is_reader e.who) (xs ++ n ∷ []))) ≡ suc
+        (length (cond b (x ∷ filter (λ (e : End). is_reader e.who) xs) (filter (λ (e : End). is_reader e.who) xs)))
     by true g = ap suc g
     by false g = g
 

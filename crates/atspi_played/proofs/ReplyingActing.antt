@@ -77,7 +77,8 @@ acts_once w v conn e d in_ a i k r x h there who role on n = by (dec k conn)
             let stood : e.standing ≡ here = a.on (ap (λ (q : End). q.standing) (sym it) ∙ stands) in
             let before : tally (in_letter (calls_from u n)) e.down + tally (in_said (replies_for u n)) e.up ≤ tally (opens_at c n y) w.bus.state.calls = old y e (ap (end_at w.ends) same ∙ in_.there) stood in
             subst (λ (q : End). tally (in_letter (calls_from u n)) q.down + tally (in_said (replies_for u n)) q.up ≤ tally (opens_at c n y) w.bus.state.calls) (sym it)
-            (both_le (tally (in_letter (calls_from u n)) d.down + tally (in_said (replies_for u n)) d.up) (tally (in_letter (calls_from u n)) e.down + tally (in_said (replies_for u n)) e.up) (tally (opens_at c n y) w.bus.state.calls) (a.less u n) before)
+            (both_le (tally (in_letter (calls_from u n)) d.down + tally (in_said (replies_for u n)) d.up) (tally (in_letter (calls_from u n)) e.down + tally (in_said (replies_for u n)) e.up) (tally (opens_at c n y) w.bus.state.calls)
+            (a.less u n) before)
         of (inr differ) = old y z (in_.back y z differ at) stands
 
     by : (k ≡ conn) ⊎ (k ≡ conn → ⊥) → Holds v.ends v.bus.state.calls k n x.unique (tally (answered n) h.asked) (limit n h) x
@@ -87,7 +88,12 @@ acts_once w v conn e d in_ a i k r x h there who role on n = by (dec k conn)
         let old = i conn r e y.0 in_.there y.1 y.2 (a.on (ap (λ (q : End). q.standing) (sym it) ∙ on)) n in
         subst (λ (q : End). Holds v.ends v.bus.state.calls k n q.unique (tally (answered n) h.asked) (limit n h) q) (sym it)
         (subst (λ c. Holds v.ends v.bus.state.calls c n d.unique (tally (answered n) h.asked) (limit n h) d) (sym same)
-        (record { mine = y.3 n old.mine; theirs = subst (λ u. (p : ℕ) (z : End) → end_at v.ends p ≡ Some z → z.standing ≡ here → tally (in_letter (calls_from u n)) z.down + tally (in_said (replies_for u n)) z.up ≤ tally (opens_at conn n p) v.bus.state.calls) (sym a.unique) (others conn e.unique old.theirs) }))
+        (record {
+          mine = y.3 n old.mine;
+          theirs =
+              subst (λ u. (p : ℕ) (z : End) → end_at v.ends p ≡ Some z → z.standing ≡ here → tally (in_letter (calls_from u n)) z.down + tally (in_said (replies_for u n)) z.up ≤ tally (opens_at conn n p) v.bus.state.calls) (sym a.unique)
+              (others conn e.unique old.theirs);
+        }))
     by (inr differ) =
         let old = i k r x h (in_.back k x differ there) who role on n in
         record {
@@ -121,7 +127,8 @@ joins_once w v nu is calls down none new i k r x h there who role on n = by (joi
 
         letters : (ls : List Letter) → tally (in_letter (calls_from None n)) ls ≡ 0
         letters [] = refl
-        letters (l ∷ ls) = plus (one_if (calls_from None n l.said.message)) (tally (in_letter (calls_from None n)) ls) (ap one_if (and_false (calls_as n l.said.message) (is_name l.said.message.sender None) (no_name l.said.message.sender))) (letters ls)
+        letters (l ∷ ls) = plus (one_if (calls_from None n l.said.message)) (tally (in_letter (calls_from None n)) ls)
+            (ap one_if (and_false (calls_as n l.said.message) (is_name l.said.message.sender None) (no_name l.said.message.sender))) (letters ls)
 
         said : (ss : List Said) → tally (in_said (replies_for None n)) ss ≡ 0
         said [] = refl
@@ -135,11 +142,13 @@ joins_once w v nu is calls down none new i k r x h there who role on n = by (joi
           theirs = λ y z at_z stands. of y z stands (joined_cases w.ends nu y z (ap (λ l. end_at l y) (sym is) ∙ at_z));
         }
       where
-        of : (y : ℕ) (z : End) → z.standing ≡ here → (end_at w.ends y ≡ Some z) ⊎ ((y ≡ length w.ends) × (z ≡ nu)) → tally (in_letter (calls_from x.unique n)) z.down + tally (in_said (replies_for x.unique n)) z.up ≤ tally (opens_at k n y) v.bus.state.calls
+        of : (y : ℕ) (z : End) → z.standing ≡ here → (end_at w.ends y ≡ Some z) ⊎ ((y ≡ length w.ends) × (z ≡ nu))
+            → tally (in_letter (calls_from x.unique n)) z.down + tally (in_said (replies_for x.unique n)) z.up ≤ tally (opens_at k n y) v.bus.state.calls
         of y z stands (inl q) =
             subst (λ c. tally (in_letter (calls_from x.unique n)) z.down + tally (in_said (replies_for x.unique n)) z.up ≤ tally (opens_at k n y) c) (sym calls) ((i k r x h at who role on n).theirs y z q stands)
         of y z stands (inr q) =
-            subst (λ (d : End). tally (in_letter (calls_from x.unique n)) d.down + tally (in_said (replies_for x.unique n)) d.up ≤ tally (opens_at k n y) v.bus.state.calls) (sym q.1) (nothing x.unique (tally (opens_at k n y) v.bus.state.calls))
+            subst (λ (d : End). tally (in_letter (calls_from x.unique n)) d.down + tally (in_said (replies_for x.unique n)) d.up ≤ tally (opens_at k n y) v.bus.state.calls) (sym q.1)
+            (nothing x.unique (tally (opens_at k n y) v.bus.state.calls))
     by (inr at) =
         let y = new r h (ap (λ (q : End). q.who) (sym at.1) ∙ who) (ap (λ (q : End). q.role) (sym at.1) ∙ role) n in
         subst (λ (q : End). Holds v.ends v.bus.state.calls k n q.unique (tally (answered n) h.asked) (limit n h) q) (sym at.1)

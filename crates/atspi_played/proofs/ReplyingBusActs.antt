@@ -70,7 +70,8 @@ module _ (es ys : List Entry) (w : World) (g : Grounds es w) (few : length (gree
 
   letters : (who : Party) (ls : List Letter) → AllByRecursion (IsMail es who) ls → tally (in_letter (calls_from (Some name) n)) ls ≡ 0
   letters who [] a = refl
-  letters who (l ∷ ls) a = plus (one_if (calls_from (Some name) n l.said.message)) (tally (in_letter (calls_from (Some name) n)) ls) (ap one_if (and_false (calls_as n l.said.message) (is_name l.said.message.sender (Some name)) (by a.0))) (letters who ls a.1)
+  letters who (l ∷ ls) a = plus (one_if (calls_from (Some name) n l.said.message)) (tally (in_letter (calls_from (Some name) n)) ls) (ap one_if (and_false (calls_as n l.said.message) (is_name l.said.message.sender (Some name)) (by a.0)))
+      (letters who ls a.1)
     where
       by : IsMail es who l → is_name l.said.message.sender (Some name) ≡ false
       by (inl b) = of_text l.said.message.sender b.own
@@ -92,7 +93,8 @@ module _ (es ys : List Entry) (w : World) (g : Grounds es w) (few : length (gree
               of (inr c) = other x.called.from x.called.caller c.name
 
 -- BEFORE what the bus does, with the name that the reader has behind it
-module _ (es ys : List Entry) (w v : World) (sh : Shape w) (g : Grounds es w) (g2 : Grounds (es ++ ys) v) (i : Once w) (k r : ℕ) (z : End) (h : Hearer) (there : end_at v.ends k ≡ Some z) (who : z.who ≡ Reader r) (n : ℕ) (e : End) (was : end_at w.ends k ≡ Some e) (e_who : e.who ≡ Reader r) (e_role : e.role ≡ a_reader h)
+module _ (es ys : List Entry) (w v : World) (sh : Shape w) (g : Grounds es w) (g2 : Grounds (es ++ ys) v) (i : Once w) (k r : ℕ) (z : End) (h : Hearer) (there : end_at v.ends k ≡ Some z) (who : z.who ≡ Reader r) (n : ℕ) (e : End)
+    (was : end_at w.ends k ≡ Some e) (e_who : e.who ≡ Reader r) (e_role : e.role ≡ a_reader h)
     (e_on : e.standing ≡ here) where
   no_registry : (d : End) → d.who ≡ Reader r → d.who ≡ Registry → ⊥
   no_registry d is it = false_true (ap (λ p. same_party p (Reader r)) (sym it ∙ is) ∙ party-same (Reader r))
@@ -124,11 +126,13 @@ module _ (es ys : List Entry) (w v : World) (sh : Shape w) (g : Grounds es w) (g
 
       no_letters : (ls : List Letter) → tally (in_letter (calls_from None n)) ls ≡ 0
       no_letters [] = refl
-      no_letters (l ∷ ls) = plus_ (one_if (calls_from None n l.said.message)) (tally (in_letter (calls_from None n)) ls) (ap one_if (and_false (calls_as n l.said.message) (is_name l.said.message.sender None) (no_name l.said.message.sender))) (no_letters ls)
+      no_letters (l ∷ ls) = plus_ (one_if (calls_from None n l.said.message)) (tally (in_letter (calls_from None n)) ls)
+          (ap one_if (and_false (calls_as n l.said.message) (is_name l.said.message.sender None) (no_name l.said.message.sender))) (no_letters ls)
 
       no_said : (ss : List Said) → tally (in_said (replies_for None n)) ss ≡ 0
       no_said [] = refl
-      no_said (s ∷ ss) = plus_ (one_if (replies_for None n s.message)) (tally (in_said (replies_for None n)) ss) (ap one_if (and_false (replies_to n s.message) (is_name s.message.destination None) (no_name s.message.destination))) (no_said ss)
+      no_said (s ∷ ss) = plus_ (one_if (replies_for None n s.message)) (tally (in_said (replies_for None n)) ss) (ap one_if (and_false (replies_to n s.message) (is_name s.message.destination None) (no_name s.message.destination)))
+          (no_said ss)
 
       by : (o : Option (List ℕ)) → e.unique ≡ o → (u : Option (List ℕ)) → z.unique ≡ u → tally (in_letter (calls_from z.unique n)) d.down + tally (in_said (replies_for z.unique n)) d.up ≤ tally (opens_at k n x) w.bus.state.calls
       by (Some name) f u q =
@@ -192,9 +196,11 @@ module _ (es ys : List Entry) (w v : World) (sh : Shape w) (g : Grounds es w) (g
               let are : owners_of w.bus.state name ≡ c ∷ [] = ap one_or_none q in
               inr (c, are, owner_has w.bus.state name c g.mail.lists unique (subst (IsIn c) (sym are) (inl refl)))
 
-      more : tally (in_letter (calls_from z.unique n)) ej.down + tally (in_said (replies_for z.unique n)) ej.up ≤ tally (opens_at k n j) w.bus.state.calls → replies_for z.unique n m.message ≡ true → 1 ≤ tally (opens_at k n j) w.bus.state.calls
+      more : tally (in_letter (calls_from z.unique n)) ej.down + tally (in_said (replies_for z.unique n)) ej.up ≤ tally (opens_at k n j) w.bus.state.calls → replies_for z.unique n m.message ≡ true
+          → 1 ≤ tally (opens_at k n j) w.bus.state.calls
       more le f =
-          sums (tally (in_letter (calls_from z.unique n)) ej.down) (tally (in_said (replies_for z.unique n)) ej.up) (one_if (replies_for z.unique n m.message)) (tally (in_said (replies_for z.unique n)) rest) (tally (opens_at k n j) w.bus.state.calls) le
+          sums (tally (in_letter (calls_from z.unique n)) ej.down) (tally (in_said (replies_for z.unique n)) ej.up) (one_if (replies_for z.unique n m.message)) (tally (in_said (replies_for z.unique n)) rest)
+          (tally (opens_at k n j) w.bus.state.calls) le
           (ap (tally (in_said (replies_for z.unique n))) link) (ap one_if f)
         where
           sums : (a b o q c : ℕ) → a + b ≤ c → b ≡ o + q → o ≡ 1 → 1 ≤ c

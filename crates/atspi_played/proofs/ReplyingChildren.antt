@@ -131,7 +131,8 @@ module _ (script : List Line) (es : List Entry) (w : World) (ground : Ground scr
       at false from child = absurd (no_none root child)
 
       by : (a b : Bool) → is_from s.registry letter.said.message ≡ b
-          → (if a && (b && (bytes_eq (or_empty letter.said.message.interface) event_interface && bytes_eq (or_empty letter.said.message.member) (codes "ChildrenChanged"))) then child_added (event_in letter.said.message.body) else None) ≡ Some root
+          → (if a && (b && (bytes_eq (or_empty letter.said.message.interface) event_interface && bytes_eq (or_empty letter.said.message.member) (codes "ChildrenChanged"))) then child_added (event_in letter.said.message.body) else None) ≡
+          Some root
           → IsAppRoot es root
       by true true from child = at (bytes_eq (or_empty letter.said.message.interface) event_interface && bytes_eq (or_empty letter.said.message.member) (codes "ChildrenChanged")) from child
       by true false from child = absurd (no_none root child)

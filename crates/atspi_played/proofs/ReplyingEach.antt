@@ -80,7 +80,8 @@ one_more : (p : Said → Bool) (xs : List Said) (x : Said) → tally p (xs ++ x 
 one_more p xs x = tally_append p xs (x ∷ [])
 
 -- A READER SENDS A CALL
-module _ (w v : World) (conn : ℕ) (e : End) (g h : Hearer) (m : Envelope) (calls : v.bus.state.calls ≡ w.bus.state.calls) (no_reply : is_reply m ≡ false) (serial : m.serial ≡ g.next) (next : h.next ≡ suc g.next) (r : ℕ) (whose : e.who ≡ Reader r) (role : e.role ≡ a_reader g)
+module _ (w v : World) (conn : ℕ) (e : End) (g h : Hearer) (m : Envelope) (calls : v.bus.state.calls ≡ w.bus.state.calls) (no_reply : is_reply m ≡ false) (serial : m.serial ≡ g.next) (next : h.next ≡ suc g.next) (r : ℕ)
+    (whose : e.who ≡ Reader r) (role : e.role ≡ a_reader g)
     (taken : (n : ℕ) → tally (answered n) h.asked ≡ tally (answered n) g.asked) where
   abbrev d : End
   d = reader_sends h m e
@@ -89,7 +90,8 @@ module _ (w v : World) (conn : ℕ) (e : End) (g h : Hearer) (m : Envelope) (cal
   sends_well = record {
     on = λ q. q;
     unique = refl;
-    less = λ u n. less (tally (in_letter (calls_from u n)) e.down) (tally (in_said (replies_for u n)) e.up) (tally (in_said (replies_for u n)) (e.up ++ plain m ∷ [])) (one_if (replies_for u n m)) (one_more (in_said (replies_for u n)) e.up (plain m)) (ap one_if (no_reply_for u n m no_reply));
+    less = λ u n. less (tally (in_letter (calls_from u n)) e.down) (tally (in_said (replies_for u n)) e.up) (tally (in_said (replies_for u n)) (e.up ++ plain m ∷ [])) (one_if (replies_for u n m))
+        (one_more (in_said (replies_for u n)) e.up (plain m)) (ap one_if (no_reply_for u n m no_reply));
     reader = λ q x who is on. (
       g,
       whose ∙ ap Reader (ap number_of (sym whose ∙ who)),
@@ -98,7 +100,8 @@ module _ (w v : World) (conn : ℕ) (e : End) (g h : Hearer) (m : Envelope) (cal
           let same : h ≡ x = same_hearer h x is in
           subst (λ (y : Hearer). tally (in_letter (replies_to n)) e.down + (tally (opens conn n) v.bus.state.calls + (tally (in_said (calls_as n)) (e.up ++ plain m ∷ []) + tally (answered n) y.asked)) ≤ limit n y) same
           (subst (λ c. tally (in_letter (replies_to n)) e.down + (tally (opens conn n) c + (tally (in_said (calls_as n)) (e.up ++ plain m ∷ []) + tally (answered n) h.asked)) ≤ limit n h) (sym calls)
-          (sums (tally (in_letter (replies_to n)) e.down) (tally (opens conn n) w.bus.state.calls) (tally (in_said (calls_as n)) e.up) (tally (in_said (calls_as n)) (e.up ++ plain m ∷ [])) (one_if (calls_as n m)) (tally (answered n) g.asked) (tally (answered n) h.asked) (limit n g) (limit n h) old
+          (sums (tally (in_letter (replies_to n)) e.down) (tally (opens conn n) w.bus.state.calls) (tally (in_said (calls_as n)) e.up) (tally (in_said (calls_as n)) (e.up ++ plain m ∷ [])) (one_if (calls_as n m))
+          (tally (answered n) g.asked) (tally (answered n) h.asked) (limit n g) (limit n h) old
           (one_more (in_said (calls_as n)) e.up (plain m)) (taken n) (subst (λ y. one_if (calls_as n m) + one_if (nat_lt n g.next) ≤ one_if (nat_lt n y)) (sym next) (next_one n m.serial g.next (expects_reply m) serial)))),
     );
   }
@@ -120,7 +123,8 @@ pub asked_once : (w : World) (conn r : ℕ) (m : Envelope) (question : Question)
 asked_once w conn r m question a i =
     acts_once w (at_end w conn (asks_at m question)) conn a.asker (reader_sends (asks question a.hearer) m a.asker)
     (subst (Acted w (at_end w conn (asks_at m question)) conn a.asker) is (one_acts w (at_end w conn (asks_at m question)) conn a.asker (asks_at m question) a.is_here.there refl refl))
-    (sends_well w (at_end w conn (asks_at m question)) conn a.asker a.hearer (asks question a.hearer) m refl (ap is_reply a.spelled ∙ expects_kind (asking a.hearer.next question) (own_spelled question a.hearer.next).0) (ap (λ (x : Envelope). x.serial) a.spelled) refl r a.whose a.reader taken) i
+    (sends_well w (at_end w conn (asks_at m question)) conn a.asker a.hearer (asks question a.hearer) m refl (ap is_reply a.spelled ∙ expects_kind (asking a.hearer.next question) (own_spelled question a.hearer.next).0)
+    (ap (λ (x : Envelope). x.serial) a.spelled) refl r a.whose a.reader taken) i
   where
     is : asks_at m question a.asker ≡ reader_sends (asks question a.hearer) m a.asker
     is = ap (λ role. asks_as role m question a.asker) a.reader
@@ -134,7 +138,8 @@ asked_once w conn r m question a i =
 
     taken : (n : ℕ) → tally (answered n) (asks question a.hearer).asked ≡ tally (answered n) a.hearer.asked
     taken n =
-        plus (tally (answered n) (asks question a.hearer).asked) (tally (answered n) a.hearer.asked) (one_if ((a.hearer.next == n) && false)) (tally_append (answered n) a.hearer.asked (record { serial = a.hearer.next; question = question; fate = waits } ∷ []))
+        plus (tally (answered n) (asks question a.hearer).asked) (tally (answered n) a.hearer.asked) (one_if ((a.hearer.next == n) && false))
+        (tally_append (answered n) a.hearer.asked (record { serial = a.hearer.next; question = question; fate = waits } ∷ []))
         (none (a.hearer.next == n))
 
 -- ENDS THAT ARE NO READERS
@@ -148,7 +153,8 @@ module _ (w : World) (d : Done) (empty : (k a : ℕ) (e : End) (s : Exporter) �
       (record {
         on = λ q. q;
         unique = refl;
-        less = λ u n. less (tally (in_letter (calls_from u n)) b.e.down) (tally (in_said (replies_for u n)) b.e.up) (tally (in_said (replies_for u n)) (b.e.up ++ saids b.before b.before.tree None b.after.out)) (tally (in_said (replies_for u n)) (saids b.before b.before.tree None b.after.out))
+        less = λ u n. less (tally (in_letter (calls_from u n)) b.e.down) (tally (in_said (replies_for u n)) b.e.up) (tally (in_said (replies_for u n)) (b.e.up ++ saids b.before b.before.tree None b.after.out))
+            (tally (in_said (replies_for u n)) (saids b.before b.before.tree None b.after.out))
             (tally_append (in_said (replies_for u n)) b.e.up (saids b.before b.before.tree None b.after.out))
             (none_said u n b.before b.before.tree None b.after.out (edit_no_reply b.before b.after b.edit b.done (empty b.conn b.app b.e b.before b.is_here.there b.whose b.role)));
         reader = λ r h who is on. absurd (no_reader (an_application (record b.after { out = [] })) h refl is);
@@ -169,8 +175,10 @@ module _ (w : World) (d : Done) (empty : (k a : ℕ) (e : End) (s : Exporter) �
         on = λ q. q;
         unique = refl;
         less = λ u n.
-            less_took (tally (in_letter (calls_from u n)) b.e.down) (tally (in_letter (calls_from u n)) (rest_of b.e.down)) (one_if (calls_from u n b.letter.said.message)) (tally (in_said (replies_for u n)) b.e.up) (tally (in_said (replies_for u n)) (b.e.up ++ saids b.before b.before.tree None after.out))
-            (tally (in_said (replies_for u n)) (saids b.before b.before.tree None after.out)) (first_of_link (in_letter (calls_from u n)) b.e b.letter b.rest b.link) (tally_append (in_said (replies_for u n)) b.e.up (saids b.before b.before.tree None after.out))
+            less_took (tally (in_letter (calls_from u n)) b.e.down) (tally (in_letter (calls_from u n)) (rest_of b.e.down)) (one_if (calls_from u n b.letter.said.message)) (tally (in_said (replies_for u n)) b.e.up)
+            (tally (in_said (replies_for u n)) (b.e.up ++ saids b.before b.before.tree None after.out))
+            (tally (in_said (replies_for u n)) (saids b.before b.before.tree None after.out)) (first_of_link (in_letter (calls_from u n)) b.e b.letter b.rest b.link)
+            (tally_append (in_said (replies_for u n)) b.e.up (saids b.before b.before.tree None after.out))
             (app_said u n b.before b.letter.said.message (empty b.conn b.app b.e b.before b.is_here.there b.whose b.role));
         reader = λ r h who is on. absurd (no_reader (an_application (record after { out = [] })) h refl is);
       }) i
@@ -184,7 +192,8 @@ module _ (w : World) (d : Done) (empty : (k a : ℕ) (e : End) (s : Exporter) �
         on = λ q. q;
         unique = refl;
         less = λ u n.
-            less_took (tally (in_letter (calls_from u n)) b.e.down) (tally (in_letter (calls_from u n)) (rest_of b.e.down)) (one_if (calls_from u n b.letter.said.message)) (tally (in_said (replies_for u n)) b.e.up) (tally (in_said (replies_for u n)) (b.e.up ++ map plain step.sent))
+            less_took (tally (in_letter (calls_from u n)) b.e.down) (tally (in_letter (calls_from u n)) (rest_of b.e.down)) (one_if (calls_from u n b.letter.said.message)) (tally (in_said (replies_for u n)) b.e.up)
+            (tally (in_said (replies_for u n)) (b.e.up ++ map plain step.sent))
             (tally (in_said (replies_for u n)) (map plain step.sent)) (first_of_link (in_letter (calls_from u n)) b.e b.letter b.rest b.link) (tally_append (in_said (replies_for u n)) b.e.up (map plain step.sent))
             (registry_said u n b.before b.letter.said.message);
         reader = λ r h who is on. absurd (no_reader (the_registry step.state) h refl is);
@@ -210,15 +219,18 @@ module _ (w : World) (d : Done) (empty : (k a : ℕ) (e : End) (s : Exporter) �
       (record {
         on = λ q. q;
         unique = refl;
-        less = λ u n. less (tally (in_letter (calls_from u n)) b.e.down) (tally (in_letter (calls_from u n)) (rest_of b.e.down)) (one_if (calls_from u n b.letter.said.message)) (tally (in_said (replies_for u n)) b.e.up) (first_of_link (in_letter (calls_from u n)) b.e b.letter b.rest b.link);
+        less = λ u n. less (tally (in_letter (calls_from u n)) b.e.down) (tally (in_letter (calls_from u n)) (rest_of b.e.down)) (one_if (calls_from u n b.letter.said.message)) (tally (in_said (replies_for u n)) b.e.up)
+            (first_of_link (in_letter (calls_from u n)) b.e b.letter b.rest b.link);
         reader = λ q x who is on. (
           b.hearer,
           b.whose ∙ ap Reader (ap number_of (sym b.whose ∙ who)),
           b.role,
           λ n old.
-              subst (λ (y : Hearer). tally (in_letter (replies_to n)) (rest_of b.e.down) + (tally (opens b.conn n) d.world.bus.state.calls + (tally (in_said (calls_as n)) b.e.up + tally (answered n) y.asked)) ≤ limit n y) (same_hearer h x is)
+              subst (λ (y : Hearer). tally (in_letter (replies_to n)) (rest_of b.e.down) + (tally (opens b.conn n) d.world.bus.state.calls + (tally (in_said (calls_as n)) b.e.up + tally (answered n) y.asked)) ≤ limit n y)
+              (same_hearer h x is)
               (subst (λ c. tally (in_letter (replies_to n)) (rest_of b.e.down) + (tally (opens b.conn n) c + (tally (in_said (calls_as n)) b.e.up + tally (answered n) h.asked)) ≤ limit n h) (sym (ap (λ x. x.world.bus.state.calls) b.is))
-              (sums (tally (in_letter (replies_to n)) b.e.down) (tally (in_letter (replies_to n)) (rest_of b.e.down)) (one_if (replies_to n b.letter.said.message)) (tally (opens b.conn n) w.bus.state.calls) (tally (in_said (calls_as n)) b.e.up) (tally (answered n) b.hearer.asked) (tally (answered n) h.asked)
+              (sums (tally (in_letter (replies_to n)) b.e.down) (tally (in_letter (replies_to n)) (rest_of b.e.down)) (one_if (replies_to n b.letter.said.message)) (tally (opens b.conn n) w.bus.state.calls)
+              (tally (in_said (calls_as n)) b.e.up) (tally (answered n) b.hearer.asked) (tally (answered n) h.asked)
               (limit n b.hearer) (first_of_link (in_letter (replies_to n)) b.e b.letter b.rest b.link) (answered_more n b.letter.said.message b.hearer.asked differ) old)),
         );
       }) i

@@ -75,7 +75,8 @@ map_length : (xs : List Asked) → length (map (λ (a : Asked). a.serial) xs) �
 map_length [] = refl
 map_length (x ∷ xs) = ap suc (map_length xs)
 
-module _ (es : List Entry) (w : World) (sh : Shape w) (g : Grounds es w) (law : Each TakesReplies [] es) (apps : Each AsksApps [] es) (live : Lives es) (k r : ℕ) (e : End) (h : Hearer) (there : end_at w.ends k ≡ Some e) (whose : e.who ≡ Reader r)
+module _ (es : List Entry) (w : World) (sh : Shape w) (g : Grounds es w) (law : Each TakesReplies [] es) (apps : Each AsksApps [] es) (live : Lives es) (k r : ℕ) (e : End) (h : Hearer) (there : end_at w.ends k ≡ Some e)
+    (whose : e.who ≡ Reader r)
     (role : e.role ≡ a_reader h) (on : e.standing ≡ here) (c : Counts es r h) where
   abbrev IsSure : Asked → Type 0
   IsSure = Sure es w sh g law live k r e h there whose role on

@@ -98,8 +98,10 @@ module _ (ends : List End) (j : ℕ) (said : Said) (rest : List Said) (ej : End)
 
         its_mine : tally (in_letter (replies_to n)) z.down + (tally (opens k n) step.state.calls + (tally (in_said (calls_as n)) z.up + taken)) ≤ limit
         its_mine =
-            sums (tally (in_letter (replies_to n)) z.down) (tally (in_letter (replies_to n)) a.0.down) (tally (in_letter (replies_to n)) a.1.down) (given (replies_to n) k step.moves) (tally (opens k n) step.state.calls) (tally (opens k n) bus.state.calls)
-            (one_if ((j == k) && calls_as n said.message)) (tally (in_said (calls_as n)) z.up) (tally (in_said (calls_as n)) a.0.up) (tally (in_said (calls_as n)) a.1.up) taken limit (a.3.down (replies_to n)) (ap (tally (in_letter (replies_to n))) a.4.down) fine.mine
+            sums (tally (in_letter (replies_to n)) z.down) (tally (in_letter (replies_to n)) a.0.down) (tally (in_letter (replies_to n)) a.1.down) (given (replies_to n) k step.moves) (tally (opens k n) step.state.calls)
+            (tally (opens k n) bus.state.calls)
+            (one_if ((j == k) && calls_as n said.message)) (tally (in_said (calls_as n)) z.up) (tally (in_said (calls_as n)) a.0.up) (tally (in_said (calls_as n)) a.1.up) taken limit (a.3.down (replies_to n))
+            (ap (tally (in_letter (replies_to n))) a.4.down) fine.mine
             (ap (tally (in_said (calls_as n))) a.3.up) (a.4.up (calls_as n)) old.mine
           where
             sums : (zd xd ed g o2 o i zu xu eu t l : ℕ) → zd ≤ xd + g → xd ≡ ed → g + o2 ≤ o + i → zu ≡ xu → xu + i ≡ eu → ed + (o + (eu + t)) ≤ l → zd + (o2 + (zu + t)) ≤ l
@@ -108,8 +110,10 @@ module _ (ends : List End) (j : ℕ) (said : Said) (rest : List Said) (ej : End)
         its_theirs : (x : ℕ) (d : End) → end_at stepped_ends x ≡ Some d → d.standing ≡ here → tally (in_letter (calls_from u n)) d.down + tally (in_said (replies_for u n)) d.up ≤ tally (opens_at k n x) step.state.calls
         its_theirs x d there_d on_d =
             let b = from_step x d there_d in
-            sums (tally (in_letter (calls_from u n)) d.down) (tally (in_letter (calls_from u n)) b.0.down) (tally (in_letter (calls_from u n)) b.1.down) (given (calls_from u n) x step.moves) (tally (opens_at k n x) step.state.calls) (tally (opens_at k n x) bus.state.calls)
-            (one_if ((j == x) && replies_for u n said.message)) (tally (in_said (replies_for u n)) d.up) (tally (in_said (replies_for u n)) b.0.up) (tally (in_said (replies_for u n)) b.1.up) (b.3.down (calls_from u n)) (ap (tally (in_letter (calls_from u n))) b.4.down) (fine.theirs x)
+            sums (tally (in_letter (calls_from u n)) d.down) (tally (in_letter (calls_from u n)) b.0.down) (tally (in_letter (calls_from u n)) b.1.down) (given (calls_from u n) x step.moves) (tally (opens_at k n x) step.state.calls)
+            (tally (opens_at k n x) bus.state.calls)
+            (one_if ((j == x) && replies_for u n said.message)) (tally (in_said (replies_for u n)) d.up) (tally (in_said (replies_for u n)) b.0.up) (tally (in_said (replies_for u n)) b.1.up) (b.3.down (calls_from u n))
+            (ap (tally (in_letter (calls_from u n))) b.4.down) (fine.theirs x)
             (ap (tally (in_said (replies_for u n))) b.3.up) (b.4.up (replies_for u n)) (old.theirs x b.1 b.2 (sym b.4.standing ∙ sym b.3.standing ∙ on_d))
           where
             sums : (zd xd ed g o2 o i zu xu eu : ℕ) → zd ≤ xd + g → xd ≡ ed → g + o ≤ o2 + i → zu ≡ xu → xu + i ≡ eu → ed + eu ≤ o → zd + zu ≤ o2
@@ -119,8 +123,10 @@ module _ (ends : List End) (j : ℕ) (said : Said) (rest : List Said) (ej : End)
 named_holds : (b : Bus) (j : ℕ) (ends : List End) (calls : List OpenCall) (k n : ℕ) (u : Option (List ℕ)) (taken limit : ℕ) → AllHold ends calls k n u taken limit → AllHold (with_end j (named b j) ends) calls k n u taken limit
 named_holds b j ends calls k n u taken limit i e there on = record {
   mine = ap_le x.0 x.2 (i x.0 x.1 (sym (same_standing x.0 e x.2) ∙ on)).mine;
-  theirs = λ y d there_d on_d. let z = with_cases (named b j) ends j y d there_d in subst (λ (l : List Letter). tally (in_letter (calls_from u n)) l + tally (in_said (replies_for u n)) d.up ≤ tally (opens_at k n y) calls) (sym (same_down z.0 d z.2))
-      (subst (λ (l : List Said). tally (in_letter (calls_from u n)) z.0.down + tally (in_said (replies_for u n)) l ≤ tally (opens_at k n y) calls) (sym (same_up z.0 d z.2)) ((i x.0 x.1 (sym (same_standing x.0 e x.2) ∙ on)).theirs y z.0 z.1 (sym (same_standing z.0 d z.2) ∙ on_d)));
+  theirs = λ y d there_d on_d. let z = with_cases (named b j) ends j y d there_d in subst (λ (l : List Letter). tally (in_letter (calls_from u n)) l + tally (in_said (replies_for u n)) d.up ≤ tally (opens_at k n y) calls)
+      (sym (same_down z.0 d z.2))
+      (subst (λ (l : List Said). tally (in_letter (calls_from u n)) z.0.down + tally (in_said (replies_for u n)) l ≤ tally (opens_at k n y) calls) (sym (same_up z.0 d z.2))
+      ((i x.0 x.1 (sym (same_standing x.0 e x.2) ∙ on)).theirs y z.0 z.1 (sym (same_standing z.0 d z.2) ∙ on_d)));
 }
   where
     Changed : ℕ → End → End → Type 0
@@ -173,12 +179,14 @@ left_holds c conn k n u taken limit owned i z there on = by (k == conn) refl
 
     by : (b : Bool) → (k == conn) ≡ b → Holds (left c conn).ends (left c conn).bus.state.calls k n u taken limit z
     by b h = record {
-      mine = sums (tally (in_letter (replies_to n)) z.down) (tally (in_letter (replies_to n)) a.0.down) (given (replies_to n) k (bus_leaves c.bus.state conn).moves) (tally (opens k n) (bus_leaves c.bus.state conn).state.calls) (tally (opens k n) c.bus.state.calls) (tally (in_said (calls_as n)) z.up)
+      mine = sums (tally (in_letter (replies_to n)) z.down) (tally (in_letter (replies_to n)) a.0.down) (given (replies_to n) k (bus_leaves c.bus.state conn).moves) (tally (opens k n) (bus_leaves c.bus.state conn).state.calls)
+          (tally (opens k n) c.bus.state.calls) (tally (in_said (calls_as n)) z.up)
           (tally (in_said (calls_as n)) a.0.up) taken limit (a.2.down (replies_to n)) (leaves_mine c.bus.state conn k n u owned it.1) (ap (tally (in_said (calls_as n))) a.2.up) old.mine;
       theirs = λ x d there_d on_d.
           let y = back x d there_d in
           let at = other x d y.0 y.1 y.2 on_d in
-          more (tally (in_letter (calls_from u n)) d.down) (tally (in_letter (calls_from u n)) y.0.down) (given (calls_from u n) x (bus_leaves c.bus.state conn).moves) (tally (opens_at k n x) (bus_leaves c.bus.state conn).state.calls) (tally (opens_at k n x) c.bus.state.calls)
+          more (tally (in_letter (calls_from u n)) d.down) (tally (in_letter (calls_from u n)) y.0.down) (given (calls_from u n) x (bus_leaves c.bus.state conn).moves) (tally (opens_at k n x) (bus_leaves c.bus.state conn).state.calls)
+          (tally (opens_at k n x) c.bus.state.calls)
           (tally (in_said (replies_for u n)) d.up) (tally (in_said (replies_for u n)) y.0.up) (y.2.down (calls_from u n)) (leaves_theirs c.bus.state conn k n u owned it.1 x at.1) (ap (tally (in_said (replies_for u n))) y.2.up)
           (old.theirs x y.0 at.0 (sym y.2.standing ∙ on_d));
     }
@@ -198,11 +206,13 @@ left_holds c conn k n u taken limit owned i z there on = by (k == conn) refl
         more : (zd xd g o2 o zu xu : ℕ) → zd ≤ xd + g → g + o ≤ o2 → zu ≡ xu → xd + xu ≤ o → zd + zu ≤ o2
         more zd xd g o2 o zu xu h1 h2 h3 h4 = omega (arith, h1, h2, h3, h4)
 
-closed_holds : (c : Carried) (due : List (ℕ × Why)) (k n : ℕ) (u : Option (List ℕ)) (taken limit : ℕ) → Owned c.bus.state.owners → AllHold c.ends c.bus.state.calls k n u taken limit → AllHold (one_closed c due).ends (one_closed c due).bus.state.calls k n u taken limit
+closed_holds : (c : Carried) (due : List (ℕ × Why)) (k n : ℕ) (u : Option (List ℕ)) (taken limit : ℕ) → Owned c.bus.state.owners → AllHold c.ends c.bus.state.calls k n u taken limit
+    → AllHold (one_closed c due).ends (one_closed c due).bus.state.calls k n u taken limit
 closed_holds c [] k n u taken limit owned i = i
 closed_holds c (first ∷ rest) k n u taken limit owned i = left_holds c first.0 k n u taken limit owned i
 
-settled_holds : (rounds : ℕ) (c : Carried) (k n : ℕ) (u : Option (List ℕ)) (taken limit : ℕ) → Owned c.bus.state.owners → AllHold c.ends c.bus.state.calls k n u taken limit → AllHold (settled rounds c).ends (settled rounds c).bus.state.calls k n u taken limit
+settled_holds : (rounds : ℕ) (c : Carried) (k n : ℕ) (u : Option (List ℕ)) (taken limit : ℕ) → Owned c.bus.state.owners → AllHold c.ends c.bus.state.calls k n u taken limit
+    → AllHold (settled rounds c).ends (settled rounds c).bus.state.calls k n u taken limit
 settled_holds zero c k n u taken limit owned i = i
 settled_holds (suc rounds) c k n u taken limit owned i =
     settled_holds rounds (one_closed c c.bus.waiting.due) k n u taken limit (one_owned c c.bus.waiting.due owned) (closed_holds c c.bus.waiting.due k n u taken limit owned i)
@@ -216,5 +226,6 @@ took_holds c j who said rest ej there link k n u taken limit small knows i =
     settled_holds (length c.bus.state.joined) (with_name j c1) k n u taken limit (takes_owned c.bus.state j said.message rule small knows.owned)
     (named_holds c1.bus j c1.ends c1.bus.state.calls k n u taken limit (step_holds c.ends j said rest ej there link c.bus who k n u taken limit (takes_fine c.bus.state j k n u said.message rule small knows) i))
 
-pub ended_holds : (c : Carried) (conn k n : ℕ) (u : Option (List ℕ)) (taken limit : ℕ) → Owned c.bus.state.owners → AllHold c.ends c.bus.state.calls k n u taken limit → AllHold (takes_end c conn).ends (takes_end c conn).bus.state.calls k n u taken limit
+pub ended_holds : (c : Carried) (conn k n : ℕ) (u : Option (List ℕ)) (taken limit : ℕ) → Owned c.bus.state.owners → AllHold c.ends c.bus.state.calls k n u taken limit
+    → AllHold (takes_end c conn).ends (takes_end c conn).bus.state.calls k n u taken limit
 ended_holds c conn k n u taken limit owned i = settled_holds (length c.bus.state.joined) (left c conn) k n u taken limit (gone_owned c.bus.state.owners conn owned) (left_holds c conn k n u taken limit owned i)

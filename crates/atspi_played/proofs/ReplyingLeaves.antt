@@ -155,10 +155,12 @@ module _ (s : BusState) (conn k n : ℕ) (u : Option (List ℕ)) (owned : Owned 
       sums : (x a b p q : ℕ) → x ≡ a + b → a ≤ p → b ≤ q → x ≤ p + q
       sums x a b p q h g f = omega (arith, h, g, f)
 
-      by : (a : Bool) → (c.callee == conn) ≡ a → (b : Bool) → (c.caller == conn) ≡ b → Few at cs → Few (at + 1) cs → given (replies_to n) k (flat_map (λ e. says e ∷ handed t e) (numbered at (errors (if a && not b then c ∷ waiting_for conn cs else waiting_for conn cs)))) ≤ one_if (opens k n c && a) + tally (opens_at k n conn) cs
+      by : (a : Bool) → (c.callee == conn) ≡ a → (b : Bool) → (c.caller == conn) ≡ b → Few at cs → Few (at + 1) cs
+          → given (replies_to n) k (flat_map (λ e. says e ∷ handed t e) (numbered at (errors (if a && not b then c ∷ waiting_for conn cs else waiting_for conn cs)))) ≤ one_if (opens k n c && a) + tally (opens_at k n conn) cs
       by true f false g now next =
           let m : Envelope = record (error_to (unique_of s.owners c.caller) c.serial (codes "NoReply")) { serial = at } in
-          sums (given (replies_to n) k (handed t m ++ flat_map (λ e. says e ∷ handed t e) (numbered (at + 1) (errors (waiting_for conn cs))))) (given (replies_to n) k (handed t m)) (given (replies_to n) k (flat_map (λ e. says e ∷ handed t e) (numbered (at + 1) (errors (waiting_for conn cs)))))
+          sums (given (replies_to n) k (handed t m ++ flat_map (λ e. says e ∷ handed t e) (numbered (at + 1) (errors (waiting_for conn cs))))) (given (replies_to n) k (handed t m))
+          (given (replies_to n) k (flat_map (λ e. says e ∷ handed t e) (numbered (at + 1) (errors (waiting_for conn cs)))))
           (one_if (opens k n c && true)) (tally (opens_at k n conn) cs) (given_append (replies_to n) k (handed t m) (flat_map (λ e. says e ∷ handed t e) (numbered (at + 1) (errors (waiting_for conn cs)))))
           (subst (λ b. given (replies_to n) k (handed t m) ≤ one_if b) (and_it (opens k n c)) (one_error at c (λ same. false_true (sym g ∙ eq-eqb c.caller conn (sym same))))) next
         where
@@ -204,13 +206,15 @@ module _ (s : BusState) (conn k n : ℕ) (u : Option (List ℕ)) (owned : Owned 
   farewell_own (Some own) = all_append IsOwnWord (no_replies s conn) (news_of own) (errors_own (waiting_for conn s.calls)) (all_map IsNews IsOwnWord (news_of own) (λ m h. ap (λ z. z == 1) h) (news_all own))
 
   pub leaves_mine : given (replies_to n) k (bus_leaves s conn).moves + tally (opens k n) (bus_leaves s conn).state.calls ≤ tally (opens k n) s.calls
-  leaves_mine = sums (given (replies_to n) k (bus_leaves s conn).moves) (tally (opens k n) (calls_without conn s.calls)) (tally (opens_at k n conn) s.calls) (tally (opens k n) s.calls) (farewell_given (unique_of s.owners conn)) (fewer s.calls)
+  leaves_mine = sums (given (replies_to n) k (bus_leaves s conn).moves) (tally (opens k n) (calls_without conn s.calls)) (tally (opens_at k n conn) s.calls) (tally (opens k n) s.calls) (farewell_given (unique_of s.owners conn))
+      (fewer s.calls)
     where
       sums : (a b c d : ℕ) → a ≤ c → b + c ≤ d → a + b ≤ d
       sums a b c d h g = omega (arith, h, g)
 
   pub leaves_theirs : (x : ℕ) → (x ≡ conn → ⊥) → given (calls_from u n) x (bus_leaves s conn).moves + tally (opens_at k n x) s.calls ≤ tally (opens_at k n x) (bus_leaves s conn).state.calls
-  leaves_theirs x other = sums (given (calls_from u n) x (bus_leaves s conn).moves) (tally (opens_at k n x) s.calls) (tally (opens_at k n x) (calls_without conn s.calls)) (own_called u n x s.next t (farewell s t.owners conn (unique_of s.owners conn)) (farewell_own (unique_of s.owners conn))) (same_at x other s.calls)
+  leaves_theirs x other = sums (given (calls_from u n) x (bus_leaves s conn).moves) (tally (opens_at k n x) s.calls) (tally (opens_at k n x) (calls_without conn s.calls))
+      (own_called u n x s.next t (farewell s t.owners conn (unique_of s.owners conn)) (farewell_own (unique_of s.owners conn))) (same_at x other s.calls)
     where
       sums : (a b c : ℕ) → a ≡ 0 → b ≤ c → a + b ≤ c
       sums a b c h g = omega (arith, h, g)

@@ -70,8 +70,10 @@ reader_joins_once es w d g is i =
     (λ r h who role n. (
       refl,
       subst (λ (y : Hearer). 0 + (tally (opens (length w.ends) n) d.world.bus.state.calls + ((one_if (calls_as n (asking 1 Hello)) + 0) + tally (answered n) y.asked)) ≤ limit n y) (same_hearer (asks Hello first_hearer) h role)
-          (subst (λ c. 0 + (tally (opens (length w.ends) n) c + ((one_if (calls_as n (asking 1 Hello)) + 0) + tally (answered n) (asks Hello first_hearer).asked)) ≤ limit n (asks Hello first_hearer)) (sym (ap (λ x. x.world.bus.state.calls) is))
-          (sums (tally (opens (length w.ends) n) w.bus.state.calls) (one_if (calls_as n (asking 1 Hello))) (one_if ((1 == n) && false)) (one_if (nat_lt n 1)) (one_if (nat_lt n 2)) (none_open (length w.ends) n w.bus.state.calls below) (none (1 == n)) (next_one n 1 1 (expects_reply (asking 1 Hello)) refl))),
+          (subst (λ c. 0 + (tally (opens (length w.ends) n) c + ((one_if (calls_as n (asking 1 Hello)) + 0) + tally (answered n) (asks Hello first_hearer).asked)) ≤ limit n (asks Hello first_hearer))
+          (sym (ap (λ x. x.world.bus.state.calls) is))
+          (sums (tally (opens (length w.ends) n) w.bus.state.calls) (one_if (calls_as n (asking 1 Hello))) (one_if ((1 == n) && false)) (one_if (nat_lt n 1)) (one_if (nat_lt n 2)) (none_open (length w.ends) n w.bus.state.calls below)
+          (none (1 == n)) (next_one n 1 1 (expects_reply (asking 1 Hello)) refl))),
     )) i
   where
     below : AllByRecursion (λ (c : OpenCall). c.caller < length w.ends) w.bus.state.calls
@@ -101,14 +103,38 @@ moved_once : (w v : World) → (MovedUp w v ⊎ MovedDown w v) → Once w → On
 moved_once w v (inl m) i =
     let f : End → End = λ e. record e { up_moved = e.up_moved + m.count } in
     acts_once w v m.conn m.e (f m.e) (one_acts w v m.conn m.e f m.is_here.there (ap (λ (x : World). x.ends) m.after) (ap (λ (x : World). x.bus.state.calls) m.after))
-    (record { on = λ q. q; unique = refl; less = λ u n. least (tally (in_letter (calls_from u n)) m.e.down + tally (in_said (replies_for u n)) m.e.up); reader = λ r h who is on. (h, who, is, λ n old. subst (λ c. tally (in_letter (replies_to n)) m.e.down + (tally (opens m.conn n) c + (tally (in_said (calls_as n)) m.e.up + tally (answered n) h.asked)) ≤ limit n h) (sym (ap (λ (x : World). x.bus.state.calls) m.after)) old) }) i
+    (record {
+      on = λ q. q;
+      unique = refl;
+      less = λ u n. least (tally (in_letter (calls_from u n)) m.e.down + tally (in_said (replies_for u n)) m.e.up);
+      reader =
+          λ r h who is on. (
+            h,
+            who,
+            is,
+            λ n old. subst (λ c. tally (in_letter (replies_to n)) m.e.down + (tally (opens m.conn n) c + (tally (in_said (calls_as n)) m.e.up + tally (answered n) h.asked)) ≤ limit n h)
+                (sym (ap (λ (x : World). x.bus.state.calls) m.after)) old,
+          );
+    }) i
   where
     least : (a : ℕ) → a ≤ a
     least a = omega arith
 moved_once w v (inr m) i =
     let f : End → End = λ e. record e { down_moved = e.down_moved + m.count } in
     acts_once w v m.conn m.e (f m.e) (one_acts w v m.conn m.e f m.is_here.there (ap (λ (x : World). x.ends) m.after) (ap (λ (x : World). x.bus.state.calls) m.after))
-    (record { on = λ q. q; unique = refl; less = λ u n. least (tally (in_letter (calls_from u n)) m.e.down + tally (in_said (replies_for u n)) m.e.up); reader = λ r h who is on. (h, who, is, λ n old. subst (λ c. tally (in_letter (replies_to n)) m.e.down + (tally (opens m.conn n) c + (tally (in_said (calls_as n)) m.e.up + tally (answered n) h.asked)) ≤ limit n h) (sym (ap (λ (x : World). x.bus.state.calls) m.after)) old) }) i
+    (record {
+      on = λ q. q;
+      unique = refl;
+      less = λ u n. least (tally (in_letter (calls_from u n)) m.e.down + tally (in_said (replies_for u n)) m.e.up);
+      reader =
+          λ r h who is on. (
+            h,
+            who,
+            is,
+            λ n old. subst (λ c. tally (in_letter (replies_to n)) m.e.down + (tally (opens m.conn n) c + (tally (in_said (calls_as n)) m.e.up + tally (answered n) h.asked)) ≤ limit n h)
+                (sym (ap (λ (x : World). x.bus.state.calls) m.after)) old,
+          );
+    }) i
   where
     least : (a : ℕ) → a ≤ a
     least a = omega arith
@@ -187,7 +213,8 @@ waits_still script es w g conn r e h letter rest x replies = all h.asked (λ a. 
         by (inr f) =
             let held = (once conn r e h x.there x.whose x.role x.standing a.serial).mine in
             let taken : 1 ≤ tally (answered a.serial) h.asked = among a h.asked at (f a refl) in
-            absurd (sums (tally (in_letter (replies_to a.serial)) e.down) (one_if (replies_to a.serial letter.said.message)) (tally (in_letter (replies_to a.serial)) rest) (tally (opens conn a.serial) w.bus.state.calls) (tally (in_said (calls_as a.serial)) e.up) (tally (answered a.serial) h.asked) (limit a.serial h)
+            absurd (sums (tally (in_letter (replies_to a.serial)) e.down) (one_if (replies_to a.serial letter.said.message)) (tally (in_letter (replies_to a.serial)) rest) (tally (opens conn a.serial) w.bus.state.calls)
+            (tally (in_said (calls_as a.serial)) e.up) (tally (answered a.serial) h.asked) (limit a.serial h)
             (ap (tally (in_letter (replies_to a.serial))) x.link) (ap₂ (λ b c. one_if (b && c)) replies to) taken held (one_most (nat_lt a.serial h.next)))
           where
             sums : (d o q c u t l : ℕ) → d ≡ o + q → o ≡ 1 → 1 ≤ t → d + (c + (u + t)) ≤ l → l ≤ 1 → ⊥

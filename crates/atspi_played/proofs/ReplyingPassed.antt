@@ -66,9 +66,11 @@ module _ (s : BusState) (j k n : ℕ) (u : Option (List ℕ)) (m0 : Envelope) (o
   call_passed : (c : ℕ) → receivers s m ≡ c ∷ [] → expects_reply m0 ≡ true → StepFine s j k n u m0 (passed s j m)
   call_passed c one h = record {
     mine = first (given (replies_to n) k (handed s m)) (tally (opens k n) (calls_after_all s.calls j m (receivers s m))) (tally (opens k n) s.calls) (one_if ((j == k) && calls_as n m0))
-        (given_none (replies_to n) k m (receivers s m) (ap (λ b. b && is_reply_to n m0.reply) (expects_kind m0 h))) (ap (tally (opens k n)) calls_are ∙ tally_append (opens k n) s.calls (record { caller = j; serial = m0.serial; callee = c } ∷ [])) its;
+        (given_none (replies_to n) k m (receivers s m) (ap (λ b. b && is_reply_to n m0.reply) (expects_kind m0 h)))
+        (ap (tally (opens k n)) calls_are ∙ tally_append (opens k n) s.calls (record { caller = j; serial = m0.serial; callee = c } ∷ [])) its;
     theirs = λ x.
-        second (given (calls_from u n) x (handed s m)) (one_if ((c == x) && calls_from u n m)) (tally (opens_at k n x) s.calls) (tally (opens_at k n x) (calls_after_all s.calls j m (receivers s m))) (one_if (opens_at k n x (record { caller = j; serial = m0.serial; callee = c }))) (one_if ((j == x) && replies_for u n m0))
+        second (given (calls_from u n) x (handed s m)) (one_if ((c == x) && calls_from u n m)) (tally (opens_at k n x) s.calls) (tally (opens_at k n x) (calls_after_all s.calls j m (receivers s m)))
+        (one_if (opens_at k n x (record { caller = j; serial = m0.serial; callee = c }))) (one_if ((j == x) && replies_for u n m0))
         (ap (λ l. given (calls_from u n) x (map (λ d. delivers d m) l)) one) (ap (tally (opens_at k n x)) calls_are ∙ tally_append (opens_at k n x) s.calls (record { caller = j; serial = m0.serial; callee = c } ∷ [])) (opened x);
   }
     where
@@ -137,9 +139,11 @@ module _ (s : BusState) (j k n : ℕ) (u : Option (List ℕ)) (m0 : Envelope) (o
           → one_if ((c == k) && replies_to n m0) + tally (opens k n) (calls_now o) ≤ tally (opens k n) s.calls
           → ((x : ℕ) → tally (opens_at k n x) s.calls ≤ tally (opens_at k n x) (calls_now o) + one_if ((j == x) && replies_for u n m0)) → StepFine s j k n u m0 (passed s j m)
       made o is few kept = record {
-        mine = first (given (replies_to n) k (handed s m)) (one_if ((c == k) && replies_to n m0)) (tally (opens k n) (calls_after_all s.calls j m (receivers s m))) (tally (opens k n) (calls_now o)) (tally (opens k n) s.calls) (one_if ((j == k) && calls_as n m0)) its_given
+        mine = first (given (replies_to n) k (handed s m)) (one_if ((c == k) && replies_to n m0)) (tally (opens k n) (calls_after_all s.calls j m (receivers s m))) (tally (opens k n) (calls_now o)) (tally (opens k n) s.calls)
+            (one_if ((j == k) && calls_as n m0)) its_given
             (ap (tally (opens k n)) (calls_are ∙ ap calls_now is)) few;
-        theirs = λ x. second (given (calls_from u n) x (handed s m)) (tally (opens_at k n x) s.calls) (tally (opens_at k n x) (calls_after_all s.calls j m (receivers s m))) (tally (opens_at k n x) (calls_now o)) (one_if ((j == x) && replies_for u n m0)) (not_called x)
+        theirs = λ x. second (given (calls_from u n) x (handed s m)) (tally (opens_at k n x) s.calls) (tally (opens_at k n x) (calls_after_all s.calls j m (receivers s m))) (tally (opens_at k n x) (calls_now o))
+            (one_if ((j == x) && replies_for u n m0)) (not_called x)
             (ap (tally (opens_at k n x)) (calls_are ∙ ap calls_now is)) (kept x);
       }
         where
@@ -176,15 +180,18 @@ module _ (s : BusState) (j k n : ℕ) (u : Option (List ℕ)) (m0 : Envelope) (o
               first o a a2 b h f g = omega (arith, h, f, g)
           at true f false g = none (ap₂ (λ a b. one_if (a && b)) f (replied_is ∙ g)) (fewer_open k n c serial j s.calls)
             where
-              none : one_if ((c == k) && replies_to n m0) ≡ 0 → tally (opens k n) (without_answered s.calls c serial j) ≤ tally (opens k n) s.calls → one_if ((c == k) && replies_to n m0) + tally (opens k n) (without_answered s.calls c serial j) ≤ tally (opens k n) s.calls
+              none : one_if ((c == k) && replies_to n m0) ≡ 0 → tally (opens k n) (without_answered s.calls c serial j) ≤ tally (opens k n) s.calls
+                  → one_if ((c == k) && replies_to n m0) + tally (opens k n) (without_answered s.calls c serial j) ≤ tally (opens k n) s.calls
               none z h = omega (arith, z, h)
           at false f b g = none (ap (λ a. one_if (a && replies_to n m0)) f) (fewer_open k n c serial j s.calls)
             where
-              none : one_if ((c == k) && replies_to n m0) ≡ 0 → tally (opens k n) (without_answered s.calls c serial j) ≤ tally (opens k n) s.calls → one_if ((c == k) && replies_to n m0) + tally (opens k n) (without_answered s.calls c serial j) ≤ tally (opens k n) s.calls
+              none : one_if ((c == k) && replies_to n m0) ≡ 0 → tally (opens k n) (without_answered s.calls c serial j) ≤ tally (opens k n) s.calls
+                  → one_if ((c == k) && replies_to n m0) + tally (opens k n) (without_answered s.calls c serial j) ≤ tally (opens k n) s.calls
               none z h = omega (arith, z, h)
 
           theirs : (x : ℕ) → tally (opens_at k n x) s.calls ≤ tally (opens_at k n x) (without_answered s.calls c serial j) + one_if ((j == x) && replies_for u n m0)
-          theirs x = sums (tally (opens_at k n x) s.calls) (tally (opens_at k n x) (without_answered s.calls c serial j)) (one_if (((c == k) && (serial == n)) && (j == x))) (one_if ((j == x) && replies_for u n m0)) (gone_open k n c serial j x s.calls) (less (c == k) refl (serial == n) refl (j == x))
+          theirs x = sums (tally (opens_at k n x) s.calls) (tally (opens_at k n x) (without_answered s.calls c serial j)) (one_if (((c == k) && (serial == n)) && (j == x))) (one_if ((j == x) && replies_for u n m0))
+              (gone_open k n c serial j x s.calls) (less (c == k) refl (serial == n) refl (j == x))
             where
               sums : (a b p q : ℕ) → a ≤ b + p → p ≤ q → a ≤ b + q
               sums a b p q h g = omega (arith, h, g)

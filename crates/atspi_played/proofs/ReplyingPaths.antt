@@ -221,7 +221,8 @@ module _ (P : List ℕ → Type 0) where
       plainly s (returns (child_at s.children own (signed_at 0 args) ∷ [])) known none.0 none.1
   member_paths text member s own caller args known p says = plainly s (answers_member member s own caller args).reply known refl refl
 
-  answer_paths : (text : Option (List ℕ)) (body : List Data) (r : Result Asked (List ℕ)) (s : RegistryState) (own caller : List ℕ) → AreSo P s.children → (text ≡ Some (codes "Embed") → P (reference_in body).1) → ArgsAre body r → SaysSo text r
+  answer_paths : (text : Option (List ℕ)) (body : List Data) (r : Result Asked (List ℕ)) (s : RegistryState) (own caller : List ℕ) → AreSo P s.children → (text ≡ Some (codes "Embed") → P (reference_in body).1) → ArgsAre body r
+      → SaysSo text r
       → AnswersOnly P (answer_to s own caller r)
   answer_paths text body (Ok (calls member args)) s own caller known p same says = member_paths text member s own caller args known (λ h. subst (λ b. P (reference_in b).1) (sym same) (p h)) says
   answer_paths text body (Ok (gets property)) s own caller known p same says = plainly s (answer_to s own caller (Ok (gets property))).reply known refl refl
@@ -254,7 +255,8 @@ module _ (P : List ℕ → Type 0) where
   called_paths s own e None one is known p = (tt, known)
   called_paths s own e (Some caller) one is known p =
       let question = asked (object_at e.path) e.interface e.member e.body in
-      answered_paths s caller e (answer_to s own caller question) (answer_paths e.member e.body question s own caller known (p one) (args_are (object_at e.path) e.interface e.member e.body) (registry_says e.path e.interface e.member e.body))
+      answered_paths s caller e (answer_to s own caller question)
+      (answer_paths e.member e.body question s own caller known (p one) (args_are (object_at e.path) e.interface e.member e.body) (registry_says e.path e.interface e.member e.body))
 
   left_paths : (s : RegistryState) (o : Option (List ℕ)) → AreSo P s.children → Paths (hears s o)
   left_paths s None known = (tt, known)

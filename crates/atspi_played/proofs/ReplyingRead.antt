@@ -33,6 +33,7 @@ unfolding encode
 children_signed children = refl
 
 -- an answer to a call for items tells some
-pub items_answer : (app : Exporter) (name caller asked_ : List ℕ) (n serial at : ℕ) → HasTree app → items_told (record (reply_to caller n (answer_to app name (record (asking at (GetItems asked_)) { sender = Some caller })).reply) { serial = serial }) ≡ None → ⊥
+pub items_answer : (app : Exporter) (name caller asked_ : List ℕ) (n serial at : ℕ) → HasTree app
+    → items_told (record (reply_to caller n (answer_to app name (record (asking at (GetItems asked_)) { sender = Some caller })).reply) { serial = serial }) ≡ None → ⊥
 items_answer app name caller asked_ n serial at has none =
     no_none _ (sym none ∙ ap (λ (y : Answer). items_told (record (reply_to caller n y.reply) { serial = serial })) (answers_items (named app name)) ∙ told_items (named app name) app.added caller n serial has)

@@ -156,7 +156,8 @@ module _ (es : List Entry) (w : World) (d : Done) (sh : Shape w) (after : Shape 
     where
       by : IsMail es b.e.who b.letter → IsRoot (reference_in m.body).1
       by (inl bus) = absurd (bus.no_call one)
-      by (inr p) = subst (λ x. IsRoot (reference_in x).1) (sym (ap (λ (z : Said). z.message.body) p.alike)) (at b.letter.from refl (an_embedder es w b.letter.from p.first.message.serial p.first.message g.embedders p.sent_.was first_one first_member))
+      by (inr p) = subst (λ x. IsRoot (reference_in x).1) (sym (ap (λ (z : Said). z.message.body) p.alike))
+          (at b.letter.from refl (an_embedder es w b.letter.from p.first.message.serial p.first.message g.embedders p.sent_.was first_one first_member))
         where
           first_one : p.first.message.kind ≡ 1
           first_one = ap (λ (z : Said). z.message.kind) (sym p.alike) ∙ one
@@ -234,10 +235,12 @@ caused es w d s after g words i (reader_took b) =
 moved_roots : (es : List Entry) (w v : World) → Roots es w → (MovedUp w v ⊎ MovedDown w v) → Roots es v
 moved_roots es w v i (inl m) =
     subst (λ l. Roots l v) (append-nil es) (quiet_roots es [] w v i
-    (subst (λ (x : World). Over SameChildren w.ends x.ends) (sym m.after) (over_with SameChildren same_children (λ e. record e { up_moved = e.up_moved + m.count }) (λ e. alike_in e (record e { up_moved = e.up_moved + m.count }) refl) m.conn w.ends)) tt)
+    (subst (λ (x : World). Over SameChildren w.ends x.ends) (sym m.after)
+    (over_with SameChildren same_children (λ e. record e { up_moved = e.up_moved + m.count }) (λ e. alike_in e (record e { up_moved = e.up_moved + m.count }) refl) m.conn w.ends)) tt)
 moved_roots es w v i (inr m) =
     subst (λ l. Roots l v) (append-nil es) (quiet_roots es [] w v i
-    (subst (λ (x : World). Over SameChildren w.ends x.ends) (sym m.after) (over_with SameChildren same_children (λ e. record e { down_moved = e.down_moved + m.count }) (λ e. alike_in e (record e { down_moved = e.down_moved + m.count }) refl) m.conn w.ends)) tt)
+    (subst (λ (x : World). Over SameChildren w.ends x.ends) (sym m.after)
+    (over_with SameChildren same_children (λ e. record e { down_moved = e.down_moved + m.count }) (λ e. alike_in e (record e { down_moved = e.down_moved + m.count }) refl) m.conn w.ends)) tt)
 
 asked_roots : (es : List Entry) (w : World) (conn r : ℕ) (m : Envelope) (question : Question) → Roots es w → Asks w conn r m question → Roots (es ++ sent (Reader r) m ∷ []) (at_end w conn (asks_at m question))
 asked_roots es w conn r m question i a =

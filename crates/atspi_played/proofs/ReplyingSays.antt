@@ -97,7 +97,8 @@ pub news_replied : (n x at : ℕ) (t : BusState) (es : List Envelope) → AllByR
 news_replied n x at t es a = said_none (replies_to n) x t at es (all_map IsNews (λ (m : Envelope). (i : ℕ) → replies_to n (record m { serial = i }) ≡ false) es (λ m h i. no_reply n (record m { serial = i }) h) a)
 
 -- what is said in two parts
-pub said_parts : (p : Envelope → Bool) (k at : ℕ) (t : BusState) (a b : List Envelope) → (i : ℕ) × (given p k (flat_map (λ e. says e ∷ handed t e) (numbered at (a ++ b))) ≡ given p k (flat_map (λ e. says e ∷ handed t e) (numbered at a)) + given p k (flat_map (λ e. says e ∷ handed t e) (numbered i b)))
+pub said_parts : (p : Envelope → Bool) (k at : ℕ) (t : BusState) (a b : List Envelope) → (i : ℕ)
+    × (given p k (flat_map (λ e. says e ∷ handed t e) (numbered at (a ++ b))) ≡ given p k (flat_map (λ e. says e ∷ handed t e) (numbered at a)) + given p k (flat_map (λ e. says e ∷ handed t e) (numbered i b)))
 said_parts p k at t [] b = (at, plus (given p k (flat_map (λ e. says e ∷ handed t e) (numbered at b))))
   where
     plus : (x : ℕ) → x ≡ 0 + x
@@ -122,7 +123,8 @@ one_receiver t m own j owned named to = by m.destination to ∙ owners_are t j o
     by o h = ap (λ z. receivers t (record m { destination = z })) h
 
 -- what goes to it, once
-pub one_said : (p : Envelope → Bool) (k j at : ℕ) (t : BusState) (r : Envelope) → receivers t (record r { serial = at }) ≡ j ∷ [] → given p k (flat_map (λ e. says e ∷ handed t e) (numbered at (r ∷ []))) ≤ one_if ((j == k) && p (record r { serial = at }))
+pub one_said : (p : Envelope → Bool) (k j at : ℕ) (t : BusState) (r : Envelope) → receivers t (record r { serial = at }) ≡ j ∷ []
+    → given p k (flat_map (λ e. says e ∷ handed t e) (numbered at (r ∷ []))) ≤ one_if ((j == k) && p (record r { serial = at }))
 one_said p k j at t r alone =
     sums (given p k (handed t (record r { serial = at }) ++ [])) (given p k (handed t (record r { serial = at }))) (one_if ((j == k) && p (record r { serial = at }))) (given_append p k (handed t (record r { serial = at })) [])
     (ap (λ l. given p k (map (λ c. delivers c (record r { serial = at })) l)) alone)
@@ -176,7 +178,8 @@ pub spoken_given : (n k j : ℕ) (t : BusState) (e : Envelope) (own : List ℕ) 
 spoken_given n k j t e own reply before behind owned named news more =
     let x = said_parts (replies_to n) k t.next t before (replies t j e reply ++ behind) in
     let y = said_parts (replies_to n) k x.0 t (replies t j e reply) behind in
-    sums (given (replies_to n) k (speaks t (before ++ (replies t j e reply ++ behind))).moves) (given (replies_to n) k (flat_map (λ z. says z ∷ handed t z) (numbered t.next before))) (given (replies_to n) k (flat_map (λ z. says z ∷ handed t z) (numbered x.0 (replies t j e reply ++ behind))))
+    sums (given (replies_to n) k (speaks t (before ++ (replies t j e reply ++ behind))).moves) (given (replies_to n) k (flat_map (λ z. says z ∷ handed t z) (numbered t.next before)))
+    (given (replies_to n) k (flat_map (λ z. says z ∷ handed t z) (numbered x.0 (replies t j e reply ++ behind))))
     (given (replies_to n) k (flat_map (λ z. says z ∷ handed t z) (numbered x.0 (replies t j e reply)))) (given (replies_to n) k (flat_map (λ z. says z ∷ handed t z) (numbered y.0 behind))) (one_if ((j == k) && calls_as n e)) x.1
     (news_replied n k t.next t before news) y.1 (news_replied n k y.0 t behind more) (reply_given n k j x.0 t e own reply owned named)
   where

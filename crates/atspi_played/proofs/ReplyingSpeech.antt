@@ -58,7 +58,8 @@ module _ (u : Option (List ℕ)) (n : ℕ) where
 
   -- a reply to who called, with the call's serial
   one_reply : (reply e : Envelope) (caller : List ℕ) → expects_reply e ≡ true → e.sender ≡ Some caller → reply.destination ≡ Some caller → reply.reply ≡ Some e.serial → one_if (replies_for u n reply) ≤ one_if (calls_from u n e)
-  one_reply reply e caller expects sender to with_ = by (is_reply reply) (e.serial == n) (is_name (Some caller) u) (ap₂ (λ o d. one_if ((is_reply reply && is_reply_to n o) && is_name d u)) with_ to) (ap₂ (λ b s. one_if ((b && (e.serial == n)) && is_name s u)) expects sender)
+  one_reply reply e caller expects sender to with_ = by (is_reply reply) (e.serial == n) (is_name (Some caller) u) (ap₂ (λ o d. one_if ((is_reply reply && is_reply_to n o) && is_name d u)) with_ to)
+      (ap₂ (λ b s. one_if ((b && (e.serial == n)) && is_name s u)) expects sender)
     where
       le : (a b x y : ℕ) → a ≡ x → b ≡ y → x ≤ y → a ≤ b
       le a b x y h g f = omega (arith, h, g, f)
@@ -69,15 +70,18 @@ module _ (u : Option (List ℕ)) (n : ℕ) where
       zero_le : (x : ℕ) → 0 ≤ x
       zero_le x = omega arith
 
-      by : (a b c : Bool) → one_if (replies_for u n reply) ≡ one_if ((is_reply reply && (e.serial == n)) && is_name (Some caller) u) → one_if (calls_from u n e) ≡ one_if ((true && (e.serial == n)) && is_name (Some caller) u) → one_if (replies_for u n reply) ≤ one_if (calls_from u n e)
-      by a b c h g = le (one_if (replies_for u n reply)) (one_if (calls_from u n e)) (one_if ((is_reply reply && (e.serial == n)) && is_name (Some caller) u)) (one_if ((true && (e.serial == n)) && is_name (Some caller) u)) h g (at (is_reply reply))
+      by : (a b c : Bool) → one_if (replies_for u n reply) ≡ one_if ((is_reply reply && (e.serial == n)) && is_name (Some caller) u) → one_if (calls_from u n e) ≡ one_if ((true && (e.serial == n)) && is_name (Some caller) u)
+          → one_if (replies_for u n reply) ≤ one_if (calls_from u n e)
+      by a b c h g = le (one_if (replies_for u n reply)) (one_if (calls_from u n e)) (one_if ((is_reply reply && (e.serial == n)) && is_name (Some caller) u)) (one_if ((true && (e.serial == n)) && is_name (Some caller) u)) h g
+          (at (is_reply reply))
         where
           at : (a : Bool) → one_if ((a && (e.serial == n)) && is_name (Some caller) u) ≤ one_if ((true && (e.serial == n)) && is_name (Some caller) u)
           at true = least (one_if ((true && (e.serial == n)) && is_name (Some caller) u))
           at false = zero_le (one_if ((true && (e.serial == n)) && is_name (Some caller) u))
 
   pub app_said : (s : Exporter) (e : Envelope) → s.out ≡ [] → tally (in_said (replies_for u n)) (saids s s.tree None (app_takes s e).out) ≤ one_if (calls_from u n e)
-  app_said s e empty = le (tally (in_said (replies_for u n)) (saids s s.tree None (app_takes s e).out)) (tally (replies_for u n) (replies_among (app_takes s e).out)) (one_if (calls_from u n e)) (all_said s s.tree None (app_takes s e).out) (by (waiting_for s.name e) refl (each_call_is_answered s e))
+  app_said s e empty = le (tally (in_said (replies_for u n)) (saids s s.tree None (app_takes s e).out)) (tally (replies_for u n) (replies_among (app_takes s e).out)) (one_if (calls_from u n e))
+      (all_said s s.tree None (app_takes s e).out) (by (waiting_for s.name e) refl (each_call_is_answered s e))
     where
       le : (a b c : ℕ) → a ≡ b → b ≤ c → a ≤ c
       le a b c h g = omega (arith, h, g)
@@ -100,7 +104,8 @@ module _ (u : Option (List ℕ)) (n : ℕ) where
           least a = omega arith
       by (Some caller) h x =
           let y = waited s.name caller h in
-          sums (tally (replies_for u n) (replies_among (app_takes s e).out)) (one_if (replies_for u n x.0)) (one_if (calls_from u n e)) (ap (tally (replies_for u n)) (x.1 ∙ ap (λ l. replies_among l ++ x.0 ∷ []) empty)) (one_reply x.0 e caller y.0 y.1 x.2 x.3)
+          sums (tally (replies_for u n) (replies_among (app_takes s e).out)) (one_if (replies_for u n x.0)) (one_if (calls_from u n e)) (ap (tally (replies_for u n)) (x.1 ∙ ap (λ l. replies_among l ++ x.0 ∷ []) empty))
+          (one_reply x.0 e caller y.0 y.1 x.2 x.3)
 
   -- and the registry's
   plain_said : (ms : List Envelope) → tally (in_said (replies_for u n)) (map plain ms) ≡ tally (replies_for u n) (replies_in ms)
@@ -122,7 +127,8 @@ module _ (u : Option (List ℕ)) (n : ℕ) where
   owned_is s e own k = rw k refl
 
   pub registry_said : (s : RegistryState) (e : Envelope) → tally (in_said (replies_for u n)) (map plain (registry_takes s e).sent) ≤ one_if (calls_from u n e)
-  registry_said s e = le (tally (in_said (replies_for u n)) (map plain (registry_takes s e).sent)) (tally (replies_for u n) (replies_in (registry_takes s e).sent)) (one_if (calls_from u n e)) (plain_said (registry_takes s e).sent) (by (expects_reply e) refl s.own refl e.sender refl)
+  registry_said s e = le (tally (in_said (replies_for u n)) (map plain (registry_takes s e).sent)) (tally (replies_for u n) (replies_in (registry_takes s e).sent)) (one_if (calls_from u n e)) (plain_said (registry_takes s e).sent)
+      (by (expects_reply e) refl s.own refl e.sender refl)
     where
       le : (a b c : ℕ) → a ≡ b → b ≤ c → a ≤ c
       le a b c h g = omega (arith, h, g)
@@ -193,7 +199,8 @@ module _ (n : ℕ) (m : Envelope) where
         where
           low : (a b : ℕ) → a ≤ a + b
           low a b = omega arith
-      one true g same = low (one_if (answered n (record a { fate = fate_of m }))) (one_if (answered n a)) (one_if (replies_to n m)) (one_most (answered n (record a { fate = fate_of m }))) (ap one_if (ap (λ s. is_reply m && is_reply_to s m.reply) (sym same) ∙ g))
+      one true g same = low (one_if (answered n (record a { fate = fate_of m }))) (one_if (answered n a)) (one_if (replies_to n m)) (one_most (answered n (record a { fate = fate_of m })))
+          (ap one_if (ap (λ s. is_reply m && is_reply_to s m.reply) (sym same) ∙ g))
         where
           low : (x a b : ℕ) → x ≤ 1 → b ≡ 1 → x ≤ a + b
           low x a b h g = omega (arith, h, g)
@@ -208,4 +215,5 @@ module _ (n : ℕ) (m : Envelope) where
           let same : a.serial ≡ n = eqb-true a.serial n h in
           first (one_if (answered n (answered_by m a))) (one_if (answered n a)) (tally (answered n) (map (answered_by m) xs)) (one_if (replies_to n m)) (tally (answered n) xs) (one (is_reply m && is_reply_to a.serial m.reply) refl same)
           (none_of xs (subst (λ s. AllBelow s xs) same d.0))
-      by false h ih = second (one_if (answered n (answered_by m a))) (tally (answered n) (map (answered_by m) xs)) (one_if (answered n a)) (tally (answered n) xs) (one_if (replies_to n m)) (not_it (is_reply m && is_reply_to a.serial m.reply) h) ih
+      by false h ih = second (one_if (answered n (answered_by m a))) (tally (answered n) (map (answered_by m) xs)) (one_if (answered n a)) (tally (answered n) xs) (one_if (replies_to n m))
+          (not_it (is_reply m && is_reply_to a.serial m.reply) h) ih

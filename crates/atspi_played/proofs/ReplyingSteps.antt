@@ -94,5 +94,6 @@ called_fine s j k n u m own rule named owned = by (member_of m) refl (called_own
 pub undelivered_fine : (s : BusState) (j k n : ℕ) (u : Option (List ℕ)) (m : Envelope) (own : List ℕ) → unique_of s.owners j ≡ Some own → Owned s.owners → StepFine s j k n u m (undeliverable s j m)
 undelivered_fine s j k n u m own named owned =
     leaves_open s j k n u m (undeliverable s j m) refl
-    (subst (λ l. given (replies_to n) k (speaks s l).moves ≤ one_if ((j == k) && calls_as n m)) (append-nil (replies s j m (fails (codes "ServiceUnknown")))) (spoken_given n k j s m own (fails (codes "ServiceUnknown")) [] [] owned named tt tt))
+    (subst (λ l. given (replies_to n) k (speaks s l).moves ≤ one_if ((j == k) && calls_as n m)) (append-nil (replies s j m (fails (codes "ServiceUnknown"))))
+    (spoken_given n k j s m own (fails (codes "ServiceUnknown")) [] [] owned named tt tt))
     (λ x. subst (λ l. given (calls_from u n) x (speaks s l).moves ≡ 0) (append-nil (replies s j m (fails (codes "ServiceUnknown")))) (spoken_called u n x j s m (fails (codes "ServiceUnknown")) [] [] tt tt))

@@ -95,7 +95,8 @@ given_none p k m [] h = refl
 given_none p k m (c ∷ cs) h = let g = given_none p k m cs h in let z : one_if ((c == k) && p m) ≡ 0 = ap one_if (and_false (c == k) (p m) h) in omega (arith, g, z)
 
 -- messages of the bus's own, whatever their numbers
-pub said_none : (p : Envelope → Bool) (k : ℕ) (t : BusState) (at : ℕ) (es : List Envelope) → AllByRecursion (λ (m : Envelope). (n : ℕ) → p (record m { serial = n }) ≡ false) es → given p k (flat_map (λ e. says e ∷ handed t e) (numbered at es)) ≡ 0
+pub said_none : (p : Envelope → Bool) (k : ℕ) (t : BusState) (at : ℕ) (es : List Envelope) → AllByRecursion (λ (m : Envelope). (n : ℕ) → p (record m { serial = n }) ≡ false) es
+    → given p k (flat_map (λ e. says e ∷ handed t e) (numbered at es)) ≡ 0
 said_none p k t at [] a = refl
 said_none p k t at (e ∷ es) a =
     let m : Envelope = record e { serial = at } in

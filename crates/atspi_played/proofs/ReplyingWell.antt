@@ -111,7 +111,8 @@ module _ (script : List Line) (es : List Entry) (w : World) (ground : Ground scr
       (calls_fail_well es_after w_after (shape_after script es w ground conn r e h letter rest x) (its_after script es w ground conn r e h letter rest x) law_after
       (kept_after script es w ground conn r e h letter rest x (Shaped (And under.Ground AllAskApps)) ask_keep).1.1 (live_after script es w ground conn r e h letter rest x) conn r (its_end script es w ground conn r e h letter rest x)
       (hearer script es w ground conn r e h letter rest x) (end_after script es w ground conn r e h letter rest x) x.whose refl x.standing
-      ((kept_after script es w ground conn r e h letter rest x (Shaped (And under.Ground AllCounted)) counted_keep).1.1 conn r (its_end script es w ground conn r e h letter rest x) (hearer script es w ground conn r e h letter rest x) (end_after script es w ground conn r e h letter rest x) x.whose refl)
+      ((kept_after script es w ground conn r e h letter rest x (Shaped (And under.Ground AllCounted)) counted_keep).1.1 conn r (its_end script es w ground conn r e h letter rest x) (hearer script es w ground conn r e h letter rest x)
+      (end_after script es w ground conn r e h letter rest x) x.whose refl)
       to_come (order.0, ap (λ l. l ++ to_come) (questions h.asked) ∙ order.1, order.2))
     where
       questions : (xs : List Asked) → map question_of (map (answered_by letter.said.message) xs) ≡ map question_of xs
@@ -276,7 +277,8 @@ module _ (script : List Line) (es : List Entry) (w : World) (ground : Ground scr
             made (GetPart name path part) is (it_may name b.0 b.1 goes) (λ two. not_bus name b.0 b.1 goes (later (GetPart name path part) is refl) two)
 
   -- ALL
-  all_well : (replies : is_reply letter.said.message ≡ true) (xs : List Asked) → AllByRecursion (Sure es w sh g law lives conn r e h x.there x.whose x.role x.standing) xs → AllByRecursion HelloIsOne xs → AllByRecursion (AsksAnApp es w sh g) xs
+  all_well : (replies : is_reply letter.said.message ≡ true) (xs : List Asked) → AllByRecursion (Sure es w sh g law lives conn r e h x.there x.whose x.role x.standing) xs → AllByRecursion HelloIsOne xs
+      → AllByRecursion (AsksAnApp es w sh g) xs
       → AllByRecursion (λ a. FailsWell w_after (answered_by letter.said.message a)) xs → AllByRecursion (λ (a : Asked). is_reply_to a.serial letter.said.message.reply ≡ true → a.fate ≡ waits) xs
       → AllByRecursion (λ (a : Asked). is_reply_to a.serial letter.said.message.reply ≡ true → IsReplyWell w letter.said.message a) xs
   all_well replies [] sure one apps fails waiting = tt

@@ -69,7 +69,11 @@ tail_of (x ∷ xs) = xs
 
 pub hello_one : (asked : List Asked) (to_come : List Question) → InOrder asked to_come → HeadOne (map (λ (a : Asked). a.serial) asked) → AllByRecursion HelloIsOne asked
 hello_one [] to_come order one = tt
-hello_one (x ∷ xs) to_come order one = ((λ is. one), rest xs (all_front NoHello (map question_of xs) to_come (subst (AllByRecursion NoHello) (sym (ap tail_of order.1)) (all_append NoHello nine order.0 (from_next nine nine_next) (from_late order.0 order.2)))))
+hello_one (x ∷ xs) to_come order one = (
+  (λ is. one),
+  rest xs
+      (all_front NoHello (map question_of xs) to_come (subst (AllByRecursion NoHello) (sym (ap tail_of order.1)) (all_append NoHello nine order.0 (from_next nine nine_next) (from_late order.0 order.2)))),
+)
   where
     rest : (xs : List Asked) → AllByRecursion NoHello (map question_of xs) → AllByRecursion HelloIsOne xs
     rest [] a = tt

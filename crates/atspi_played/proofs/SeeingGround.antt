@@ -108,7 +108,8 @@ module _ (script : List Line) (es : List Entry) (w : World) (free : Option ℕ) 
 pub end_from_bus : (m : Envelope) (n : List ℕ) → told_end m ≡ Some n → or_empty m.sender ≡ bus
 end_from_bus m n h = by (m.kind == 4) (bytes_eq (or_empty m.sender) bus) refl h
   where
-    by : (b c : Bool) → bytes_eq (or_empty m.sender) bus ≡ c → (if b && (c && (bytes_eq (or_empty m.interface) bus && bytes_eq (or_empty m.member) (codes "NameOwnerChanged"))) then ended_name m.body else None) ≡ Some n → or_empty m.sender ≡ bus
+    by : (b c : Bool) → bytes_eq (or_empty m.sender) bus ≡ c → (if b && (c && (bytes_eq (or_empty m.interface) bus && bytes_eq (or_empty m.member) (codes "NameOwnerChanged"))) then ended_name m.body else None) ≡ Some n
+        → or_empty m.sender ≡ bus
     by true true e k = (bytes_eq-Decides (or_empty m.sender) bus).0 e
     by true false e k = absurd (no_none n k)
     by false c e k = absurd (no_none n k)
@@ -117,7 +118,8 @@ end_from_bus m n h = by (m.kind == 4) (bytes_eq (or_empty m.sender) bus) refl h
 pub end_is_signal : (m : Envelope) (n : List ℕ) → told_end m ≡ Some n → m.kind ≡ 4
 end_is_signal m n h = by (m.kind == 4) refl h
   where
-    by : (b : Bool) → (m.kind == 4) ≡ b → (if b && (bytes_eq (or_empty m.sender) bus && (bytes_eq (or_empty m.interface) bus && bytes_eq (or_empty m.member) (codes "NameOwnerChanged"))) then ended_name m.body else None) ≡ Some n → m.kind ≡ 4
+    by : (b : Bool) → (m.kind == 4) ≡ b → (if b && (bytes_eq (or_empty m.sender) bus && (bytes_eq (or_empty m.interface) bus && bytes_eq (or_empty m.member) (codes "NameOwnerChanged"))) then ended_name m.body else None) ≡ Some n
+        → m.kind ≡ 4
     by true e k = eqb-true m.kind 4 e
     by false e k = absurd (no_none n k)
 

@@ -65,7 +65,8 @@ sees_more script es ys w v free then_free r s g later skips i = record {
     not_known x a its_name none (Some f) e =
         let one = found_is (IsOfApp es) x s.apps f e i.apps in
         let then_ : name_in (es ++ ys) (App one.0.app) ≡ Some x = name_stays es ys (App one.0.app) x (one.0.its_name ∙ ap Some one.1) in
-        let same : one.0.app ≡ a = same_number one.0.app a (one_party script (es ++ ys) v then_free later (App one.0.app) (App a) x (is_name script (es ++ ys) v then_free later (App one.0.app) x then_) (is_name script (es ++ ys) v then_free later (App a) x its_name)) in
+        let same : one.0.app ≡ a = same_number one.0.app a
+        (one_party script (es ++ ys) v then_free later (App one.0.app) (App a) x (is_name script (es ++ ys) v then_free later (App one.0.app) x then_) (is_name script (es ++ ys) v then_free later (App a) x its_name)) in
         absurd (no_none f.name (sym none ∙ ap (λ z. name_in es (App z)) (sym same) ∙ one.0.its_name))
 
     by : (x : List ℕ) (a : ℕ) → name_in (es ++ ys) (App a) ≡ Some x → (o : Option (List ℕ)) → name_in es (App a) ≡ o → IsSeen (found_in x s.apps) (followed x es r a)

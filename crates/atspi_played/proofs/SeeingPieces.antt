@@ -15,8 +15,8 @@ use Rattle.atspi_play.specs.Playing.{silent}
 use Rattle.atspi_play.specs.Plays.{told}
 use Rattle.atspi_trace.specs.Entry.{Entry, got}
 use Rattle.atspi_trace.specs.World.{a_reader, Holding, Hearer, Letter, End, World}
-use Rattle.atspi_trace.specs.Ends.{end_at, with_end, taken_down, number_if, app_named}
-use Rattle.atspi_trace.specs.Hearing.{app_with, without_ended, holds_of, hears_letter, heard_entries}
+use Rattle.atspi_trace.specs.Ends.{same_party, with_end, taken_down, number_if, app_named}
+use Rattle.atspi_trace.specs.Hearing.{app_with, ended_entries, without_ended, holds_of, hears_letter, heard_entries}
 use Rattle.atspi_lawful.specs.laws.Words.{name_in}
 use Rattle.atspi_lawful.proofs.OfOrder.Parties.{party-same, false_true}
 use Rattle.atspi_lawful.proofs.OfHeld.Keeping.{ReaderIs}
@@ -35,7 +35,8 @@ use Rattle.atspi_played.proofs.SeeingSeen.{IsQuiet}
 use Rattle.atspi_played.proofs.SeeingQuiet.{quiet}
 use Rattle.atspi_played.proofs.SeeingWishes.{GoesOn, stays, begins_one, wishes_one, next_of}
 use Rattle.atspi_played.proofs.SeeingWell.{sees_well}
-use Rattle.atspi_played.proofs.SeeingSpeech.{spoken_all, spoken_last, app_words, read_said}
+use Rattle.atspi_played.proofs.SeeingWords.{spoken_all, spoken_last}
+use Rattle.atspi_played.proofs.SeeingSpeech.{app_words, read_said}
 use Rattle.atspi_played.proofs.SeeingSilence.{no_words, end_words}
 
 -- ENDS that took a letter have the same names
@@ -68,7 +69,7 @@ module _ (r conn : ℕ) (h : Hearer) (ends : List End) (letter : Letter) where
   same_by (App a) is = (written_app r a h others letter is ∙ sym (written_app r a h ends letter is), holds_app h a others ends letter is)
   same_by The_bus is =
       let same = with_same conn (told_end letter.said.message) ends in (
-        written_bus r h others letter is ∙ ap (Rattle.atspi_trace.specs.Hearing.ended_entries r h) same ∙ sym (written_bus r h ends letter is),
+        written_bus r h others letter is ∙ ap (ended_entries r h) same ∙ sym (written_bus r h ends letter is),
         holds_bus h others letter is ∙ ap (λ o. without_ended o h.holds) same ∙ sym (holds_bus h ends letter is),
       )
   same_by Registry is = (written_registry r h others letter is ∙ sym (written_registry r h ends letter is), holds_registry h others ends letter is)
@@ -111,9 +112,9 @@ module _ (script : List Line) (es : List Entry) (w : World) (r : ℕ) (h : Heare
       of_party : (p : Party) → letter.from ≡ p → (caller : List ℕ) → m.sender ≡ Some caller → NameIs es letter.from caller → (letter.from ≡ The_bus → ⊥) → IsLetter es letter → Whole
       of_party The_bus is caller some named apart c = absurd (apart is)
       of_party Registry is caller some named apart c =
-          no_words script es w r h letter s t still readers (nobodys Registry is (λ a e. false_true (ap (λ z. Rattle.atspi_trace.specs.Ends.same_party z Registry) e)) caller some named) (no_end caller some named) (written_registry r h w.ends letter is)
+          no_words script es w r h letter s t still readers (nobodys Registry is (λ a e. false_true (ap (λ z. same_party z Registry) e)) caller some named) (no_end caller some named) (written_registry r h w.ends letter is)
       of_party (Reader p) is caller some named apart c =
-          no_words script es w r h letter s t still readers (nobodys (Reader p) is (λ a e. false_true (ap (λ z. Rattle.atspi_trace.specs.Ends.same_party z (Reader p)) e ∙ party-same (Reader p))) caller some named) (no_end caller some named)
+          no_words script es w r h letter s t still readers (nobodys (Reader p) is (λ a e. false_true (ap (λ z. same_party z (Reader p)) e ∙ party-same (Reader p))) caller some named) (no_end caller some named)
           (written_reader r p h w.ends letter is)
       of_party (App b) is caller some named apart c =
           app_words script es w r h letter s t still readers b caller (told_is es (App b) ∙ app_name es b caller (subst (λ z. NameIs es z caller) is named)) is c (ap or_empty some)
@@ -126,7 +127,7 @@ module _ (script : List Line) (es : List Entry) (w : World) (r : ℕ) (h : Heare
           nobody a x its_name e = no_bus_name script es w None t.ground (App a) x (is_name script es w None t.ground (App a) x its_name) (sym empty ∙ e)
 
           ends : (o : Option (List ℕ)) → told_end m ≡ o → Whole
-          ends None e = no_words script es w r h letter s t still readers nobody e (written_bus r h w.ends letter is ∙ ap (λ z. Rattle.atspi_trace.specs.Hearing.ended_entries r h (app_with w.ends z)) e)
+          ends None e = no_words script es w r h letter s t still readers nobody e (written_bus r h w.ends letter is ∙ ap (λ z. ended_entries r h (app_with w.ends z)) e)
           ends (Some k) e = end_words script es w r h letter s t still readers nobody is k e
 
   -- without the call of its own

@@ -21,7 +21,7 @@ use Rattle.atspi_trace.specs.Hearing.{question_returned, heard_entries}
 use Rattle.atspi_trace.specs.Causes.{told_in}
 use Rattle.atspi_lawful.specs.laws.Words.{message, before_sent, live_tree, answers_question, name_in, Kept, held}
 use Rattle.atspi_lawful.specs.caches.Caches as caches
-use Rattle.atspi_lawful.specs.caches.Caches.{reads_if, follows_after, follows_on, followed}
+use Rattle.atspi_lawful.specs.caches.Caches.{reads_if, followed}
 use Rattle.atspi_lawful.specs.caches.Laws.{CacheIs}
 use Rattle.atspi_lawful.specs.heard.Laws.{signals_under, IsAmong}
 use Rattle.atspi_lawful.specs.signed.Laws.{IsItsName}
@@ -143,8 +143,11 @@ module _ (script : List Line) (es : List Entry) (w : World) (r : ℕ) (h : Heare
     viewed : (k : Option Kept) → held front r b ≡ k → CacheIs front b k (followed x front r b) → (j : Kept) × (v ≡ view (told_in j.told) (live_tree now b))
     viewed None e i = absurd (no_none v (sym i ∙ same_view))
     viewed (Some j) e i =
-        let number : j.last ≡ m.serial = sym i.last ∙ same_last ∙ ap (λ (z : Envelope). z.serial) (sym c.alike) in
-        (j, same_some v (view (told_in j.told) (live_tree now b)) (sym same_view ∙ i.shows ∙ ap (λ z. Some (view (told_in j.told) (live_tree (before_sent (App b) z front) b))) number ∙ ap (λ z. Some (view (told_in j.told) (live_tree z b))) now_same))
+        let number : j.last ≡ m.serial = sym i.last ∙ same_last ∙ ap (λ (z : Envelope). z.serial) (sym c.alike) in (
+          j,
+          same_some v (view (told_in j.told) (live_tree now b))
+              (sym same_view ∙ i.shows ∙ ap (λ z. Some (view (told_in j.told) (live_tree (before_sent (App b) z front) b))) number ∙ ap (λ z. Some (view (told_in j.told) (live_tree z b))) now_same),
+        )
 
     abbrev post : List Entry
     post = (sent_split es (App b) m.serial c.first was).0

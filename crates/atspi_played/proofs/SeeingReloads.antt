@@ -113,7 +113,8 @@ module _ (early : List Entry) (b : ℕ) (x : List ℕ) (step : Step) (c : IsCarr
           subst (AllByRecursion Quiet) (sym h)
           (announcement_quiet (view nothing_told tree) x (live_tree early b) step, idle_quiet x (view nothing_told tree) (echoes x (live_tree early b) step) (c.echoes x nothing_told (untold step)))
 
-  each_signal : (xs : List Signal) → AllByRecursion Quiet (map (λ (s : Signal). news_of x (record s.message { serial = 0; sender = Some x })) xs) → AllByRecursion (λ (s : Signal). (k : ℕ) → Quiet (news_of x (record s.message { serial = k }))) xs
+  each_signal : (xs : List Signal) → AllByRecursion Quiet (map (λ (s : Signal). news_of x (record s.message { serial = 0; sender = Some x })) xs)
+      → AllByRecursion (λ (s : Signal). (k : ℕ) → Quiet (news_of x (record s.message { serial = k }))) xs
   each_signal [] a = tt
   each_signal (y ∷ ys) a = ((λ k. a.0), each_signal ys a.1)
 

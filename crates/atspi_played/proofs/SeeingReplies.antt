@@ -227,14 +227,16 @@ module _ (w : World) (m : Envelope) (h : Hearer) (s : ReaderState) where
     where
       by : (o : Option (List Item)) → items_told m ≡ o → Whole
       by None g = absurd (x.2 g)
-      by (Some all) g = given (record t0 { apps = changed (loaded all) name t0.apps }) (t ∙ ap (with_items t0 name) g) (items p name all is e asks two x.1 may g refl refl) (alike (record t0 { apps = changed (loaded all) name t0.apps }) refl refl refl)
+      by (Some all) g = given (record t0 { apps = changed (loaded all) name t0.apps }) (t ∙ ap (with_items t0 name) g) (items p name all is e asks two x.1 may g refl refl)
+          (alike (record t0 { apps = changed (loaded all) name t0.apps }) refl refl refl)
   when_returned p (GetPart name path which) e is two asks may well t = by (part_told which path m) refl
     where
       by : (o : Option News) → part_told which path m ≡ o → Whole
       by None g =
           given (record t0 { apps = changed (refused_part path which) name t0.apps }) (t ∙ ap (with_part t0 name path which) g)
           (refuses name path which (inr asks) well may g (no_four m 2 two refl) refl refl) (alike (record t0 { apps = changed (refused_part path which) name t0.apps }) refl refl refl)
-      by (Some news) g = given (record t0 { apps = changed (told_part news) name t0.apps }) (t ∙ ap (with_part t0 name path which) g) (told name path which news asks two (well two) may g refl refl) (alike (record t0 { apps = changed (told_part news) name t0.apps }) refl refl refl)
+      by (Some news) g = given (record t0 { apps = changed (told_part news) name t0.apps }) (t ∙ ap (with_part t0 name path which) g) (told name path which news asks two (well two) may g refl refl)
+          (alike (record t0 { apps = changed (told_part news) name t0.apps }) refl refl refl)
 
   when_failed : (p : Pending) (q : Question) → p.question ≡ q → s.pending ≡ Some p → m.kind ≡ 3 → question_returned m h.asked ≡ None → may_answer q m ≡ true → IsReturnedWell w m q → takes_reply (notes s m) m ≡ replied q t0 m → Whole
   when_failed p Hello e is three none_ may well t = absurd (three_two m.kind three well.0)
@@ -242,7 +244,8 @@ module _ (w : World) (m : Envelope) (h : Hearer) (s : ReaderState) where
   when_failed p (RegisterEvent pattern) e is three none_ may well t = absurd (three_two m.kind three well)
   when_failed p GetChildren e is three none_ may well t = absurd (three_two m.kind three well.0)
   when_failed p (GetItems name) e is three none_ may well t =
-      given (record t0 { apps = filter (λ app. not (is_named name app)) t0.apps }) (t ∙ ap (with_items t0 name) (items_three m three)) (fails p name is e none_ (no_four m 3 three refl) refl refl) (alike (record t0 { apps = filter (λ app. not (is_named name app)) t0.apps }) refl refl refl)
+      given (record t0 { apps = filter (λ app. not (is_named name app)) t0.apps }) (t ∙ ap (with_items t0 name) (items_three m three)) (fails p name is e none_ (no_four m 3 three refl) refl refl)
+      (alike (record t0 { apps = filter (λ app. not (is_named name app)) t0.apps }) refl refl refl)
   when_failed p (GetPart name path which) e is three none_ may well t =
       given (record t0 { apps = changed (refused_part path which) name t0.apps }) (t ∙ ap (with_part t0 name path which) (part_three which path m three))
       (refuses name path which (inl none_) well may (part_three which path m three) (no_four m 3 three refl) refl refl) (alike (record t0 { apps = changed (refused_part path which) name t0.apps }) refl refl refl)

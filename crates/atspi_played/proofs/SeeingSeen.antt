@@ -240,41 +240,27 @@ module _ (script : List Line) (es : List Entry) (w : World) (r : ℕ) (h : Heare
   pub seen_behind : ReaderIs es r h → Sees (found_in x read_all.apps) now
   seen_behind i = by (from script es w r h letter s t)
     where
+      no_end : (caller : List ℕ) → m.sender ≡ Some caller → NameIs es letter.from caller → told_end m ≡ None
+      no_end caller some named = nothing (told_end m) refl
+        where
+          nothing : (o : Option (List ℕ)) → told_end m ≡ o → o ≡ None
+          nothing None e = refl
+          nothing (Some k) e = absurd (no_bus_name script es w None t.ground letter.from caller named (sym (end_from_bus m k e) ∙ ap or_empty some))
+
       of_party : (p : Party) → letter.from ≡ p → (caller : List ℕ) → m.sender ≡ Some caller → NameIs es letter.from caller → (letter.from ≡ The_bus → ⊥) → IsLetter es letter → Sees (found_in x read_all.apps) now
       of_party The_bus is caller some named apart c = absurd (apart is)
       of_party Registry is caller some named apart c =
-          unended (λ e. other (sym (ap or_empty some) ∙ e)) no_end (behind_registry es r b h w.ends letter x is)
+          unended (λ e. other (sym (ap or_empty some) ∙ e)) (no_end caller some named) (behind_registry es r b h w.ends letter x is)
         where
           other : caller ≡ x → ⊥
           other e = false_true (ap (λ p. same_party p Registry) (one_party script es w None t.ground (App b) Registry x named_x (subst (NameIs es Registry) e (subst (λ p. NameIs es p caller) is named))))
-
-          no_end : told_end m ≡ None
-          no_end = nothing (told_end m) refl
-            where
-              nothing : (o : Option (List ℕ)) → told_end m ≡ o → o ≡ None
-              nothing None e = refl
-              nothing (Some k) e = absurd (no_bus_name script es w None t.ground letter.from caller named (sym (end_from_bus m k e) ∙ ap or_empty some))
       of_party (Reader p) is caller some named apart c =
-          unended (λ e. other (sym (ap or_empty some) ∙ e)) no_end (behind_reader es r b h w.ends letter x p is)
+          unended (λ e. other (sym (ap or_empty some) ∙ e)) (no_end caller some named) (behind_reader es r b h w.ends letter x p is)
         where
           other : caller ≡ x → ⊥
           other e = false_true (ap (λ z. same_party z (Reader p)) (one_party script es w None t.ground (App b) (Reader p) x named_x (subst (NameIs es (Reader p)) e (subst (λ z. NameIs es z caller) is named))) ∙ party-same (Reader p))
-
-          no_end : told_end m ≡ None
-          no_end = nothing (told_end m) refl
-            where
-              nothing : (o : Option (List ℕ)) → told_end m ≡ o → o ≡ None
-              nothing None e = refl
-              nothing (Some k) e = absurd (no_bus_name script es w None t.ground letter.from caller named (sym (end_from_bus m k e) ∙ ap or_empty some))
       of_party (App a) is caller some named apart c = of_app (a == b) refl
         where
-          no_end : told_end m ≡ None
-          no_end = nothing (told_end m) refl
-            where
-              nothing : (o : Option (List ℕ)) → told_end m ≡ o → o ≡ None
-              nothing None e = refl
-              nothing (Some k) e = absurd (no_bus_name script es w None t.ground letter.from caller named (sym (end_from_bus m k e) ∙ ap or_empty some))
-
           of_app : (z : Bool) → (a == b) ≡ z → Sees (found_in x read_all.apps) now
           of_app true e =
               let same : letter.from ≡ App b = is ∙ ap App (eqb-true a b e) in
@@ -283,7 +269,7 @@ module _ (script : List Line) (es : List Entry) (w : World) (r : ℕ) (h : Heare
               same_name : NameIs es (App b) caller → caller ≡ x
               same_name k = same_some caller x (sym (app_name es b caller k) ∙ sym (told_is es (App b)) ∙ its_name)
           of_app false e =
-              unended (λ d. other (sym (ap or_empty some) ∙ d)) no_end (behind_other es r b h w.ends letter x a is (λ same. false_true (sym e ∙ eq-eqb a b same)))
+              unended (λ d. other (sym (ap or_empty some) ∙ d)) (no_end caller some named) (behind_other es r b h w.ends letter x a is (λ same. false_true (sym e ∙ eq-eqb a b same)))
             where
               other : caller ≡ x → ⊥
               other d =

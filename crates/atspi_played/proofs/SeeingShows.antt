@@ -37,7 +37,8 @@ at_first : (p : End → Bool) (ends : List End) (i : ℕ) (d : End) → first_at
 at_first p [] i d h there = absurd (no_none i h)
 at_first p (x ∷ xs) i d h there = by (p x) refl (first_at p xs) refl i h there (λ j e z. at_first p xs j d e z)
   where
-    by : (t : Bool) → p x ≡ t → (o : Option ℕ) → first_at p xs ≡ o → (i : ℕ) → (if t then Some 0 else option_map suc o) ≡ Some i → end_at (x ∷ xs) i ≡ Some d → ((j : ℕ) → first_at p xs ≡ Some j → end_at xs j ≡ Some d → p d ≡ true) → p d ≡ true
+    by : (t : Bool) → p x ≡ t → (o : Option ℕ) → first_at p xs ≡ o → (i : ℕ) → (if t then Some 0 else option_map suc o) ≡ Some i → end_at (x ∷ xs) i ≡ Some d → ((j : ℕ) → first_at p xs ≡ Some j → end_at xs j ≡ Some d → p d ≡ true)
+        → p d ≡ true
     by true is o e i k z ih =
         let zero_ : 0 ≡ i = same_some 0 i k in
         ap p (sym (same_some x d (ap (end_at (x ∷ xs)) zero_ ∙ z))) ∙ is

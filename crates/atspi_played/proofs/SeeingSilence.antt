@@ -33,7 +33,7 @@ use Rattle.atspi_lawful.proofs.OfMissed.Registering.{name_is_bus_name}
 use Rattle.atspi_trace.specs.Causes.{told_in}
 use Rattle.atspi_lawful.proofs.OfSigned.Self.{unique_told}
 use Rattle.atspi_play.specs.Plays.{of_app, told as told_to}
-use Rattle.atspi_played.proofs.SeeingSpeech.{told_both, told_lines, closing_none, closing_some}
+use Rattle.atspi_played.proofs.SeeingWords.{told_both, told_lines, closing_none, closing_some}
 use Rattle.atspi_played.proofs.SeeingWell.{replied_apart}
 use Rattle.atspi_played.proofs.Facts.{IsOfApp}
 use Rattle.atspi_played.proofs.SeeingApps.{found_list, those_named, not_named, each_weaker}

@@ -1,15 +1,14 @@
 -- A reader takes a letter: what it speaks is what is due.
 use Rattle.std.proofs.Common.{◌≡◌, inl, inr, ℕ, Bool, true, false, List, [], ◌∷◌, ◌++◌, map, Option, None, Some, refl, sym, ap, ap₂, ◌∙◌, subst}
-use Rattle.std.specs.Prelude.{◌==◌, ◌&&◌, flat_map, not, filter, if◌then◌else◌}
+use Rattle.std.specs.Prelude.{◌==◌, flat_map, filter}
 use Rattle.std.specs.List.{AllByRecursion}
 use Rattle.std.proofs.lemmas.Bool.{eqb-true}
-use Rattle.std.proofs.lemmas.List.{append-nil, append_assoc}
-use Rattle.atspi_forest.specs.declared.news.News.{News}
+use Rattle.std.proofs.lemmas.List.{append-nil}
 use Rattle.atspi_forest.specs.declared.news.News.TheVariants.{Nothing}
 use Rattle.atspi_forest.specs.declared.view.Row.{Row}
 use Rattle.atspi_forest.specs.Forest.{Forest}
 use Rattle.atspi_forest.specs.View.{view}
-use Rattle.atspi_speech.specs.Speech.{lines as read_lines, closing_lines}
+use Rattle.atspi_speech.specs.Speech.{lines as read_lines}
 use Rattle.atspi_forest.specs.declared.news.Reference.{Reference}
 use Rattle.atspi_forest.specs.Path.{path_of}
 use Rattle.atspi_lines.specs.declared.line.Line.{Line}
@@ -18,11 +17,11 @@ use Rattle.atspi_message.specs.Envelope.{Envelope}
 use Rattle.atspi_protocol.specs.declared.following.question.Question.{Question}
 use Rattle.atspi_protocol.specs.declared.following.question.Question.TheVariants.{Hello, AddMatch, RegisterEvent, GetChildren, GetItems, GetPart}
 use Rattle.atspi_protocol.specs.news.NewsOf.{news_of, or_empty}
-use Rattle.atspi_protocol.specs.following.ReaderState.{Done, sends, speaks, tells_end, Followed, ReaderState, is_named}
-use Rattle.atspi_protocol.specs.following.Known.{closing_of, closings, end_of_connection, new_child, with_child, told_end, with_end}
+use Rattle.atspi_protocol.specs.following.ReaderState.{speaks, Followed, ReaderState, is_named}
+use Rattle.atspi_protocol.specs.following.Known.{closings, end_of_connection, new_child, with_child, told_end, with_end}
 use Rattle.atspi_protocol.specs.following.Takes.{lines_at, found_in, noted}
 use Rattle.atspi_trace.specs.Entry.{Entry, got, spoke}
-use Rattle.atspi_trace.specs.World.{Asked, Holding, Hearer, Letter, End, World}
+use Rattle.atspi_trace.specs.World.{Asked, Holding, Hearer, Letter, World}
 use Rattle.atspi_trace.specs.Ends.{app_named}
 use Rattle.atspi_trace.specs.Hearing.{step_lines, lines_if_held, holding_of, question_returned, heard_entries}
 use Rattle.atspi_lawful.specs.laws.Words.{message, name_in, answers_question, as_of, Kept, held}
@@ -30,7 +29,6 @@ use Rattle.atspi_lawful.specs.caches.Caches as caches
 use Rattle.atspi_lawful.specs.caches.Caches.{followed}
 use Rattle.atspi_lawful.proofs.OfOrder.Parties.{no_none, same_some}
 use Rattle.atspi_lawful.proofs.OfHeld.Keeping.{ReaderIs, SameKept}
-use Rattle.atspi_types.specs.Names.{is_bus_name, is_unique_name}
 use Rattle.atspi_lawful.specs.missed.Laws.{IsLoad}
 use Rattle.atspi_lawful.specs.signed.Laws.{IsItsName}
 use Rattle.atspi_lawful.specs.caches.Laws.{CacheIs, IsViewed}
@@ -38,95 +36,22 @@ use Rattle.atspi_lawful.proofs.OfCaches.LawCaches.{caches_follow}
 use Rattle.atspi_lawful.proofs.OfServed.LawServed.{steps_asked}
 use Rattle.atspi_trace.specs.Causes.{told_in}
 use Rattle.atspi_lawful.proofs.OfTaken.Said.{IsLetter, TellsTree, TellsOf}
-use Rattle.atspi_play.specs.Plays.{of_app, told as told_to}
-use Rattle.atspi_played.proofs.Pieces.{IsNoCall, spoken}
+use Rattle.atspi_play.specs.Plays.{told as told_to}
+use Rattle.atspi_played.proofs.Pieces.{IsNoCall}
 use Rattle.atspi_played.proofs.SeeingLines.{due_lines}
 use Rattle.atspi_played.proofs.SeeingWell.{known_apart}
 use Rattle.atspi_played.proofs.Facts.{Ground}
 use Rattle.atspi_played.proofs.SeeingApps.{found_list, those_named}
 use Rattle.atspi_played.proofs.SeeingSame.{Same, IsRooted, followed_rooted}
 use Rattle.atspi_played.proofs.SeeingReplies as replies
-use Rattle.atspi_played.proofs.SeeingReplies.{Brings, items, told, refuses, fails, children, Replied, replied_to}
+use Rattle.atspi_played.proofs.SeeingReplies.{Brings, items, told, refuses, fails, children}
 use Rattle.atspi_played.proofs.SeeingTaken.{answers_as, Sees}
 use Rattle.atspi_played.proofs.SeeingGround.{is_name, no_bus_name, end_from_bus, app_is}
 use Rattle.atspi_played.proofs.SeeingStep as step
 use Rattle.atspi_played.proofs.SeeingSeen.{IsQuiet, unheld, found_own, replied_seen}
 use Rattle.atspi_played.proofs.SeeingChildren.{took, Taking}
 use Rattle.atspi_played.proofs.SeeingBehind.{same_question, written_app}
-
--- LISTS of what is done
-pub told_both : (f : Done → List Entry) (xs ys : List Done) → flat_map f (xs ++ ys) ≡ flat_map f xs ++ flat_map f ys
-told_both f [] ys = refl
-told_both f (x ∷ xs) ys = ap (λ l. f x ++ l) (told_both f xs ys) ∙ sym (append_assoc (f x) (flat_map f xs) (flat_map f ys))
-
-pub told_lines : (r b : ℕ) (ends : List End) (x : List ℕ) (ls : List (List ℕ)) → app_named x ends ≡ Some b → flat_map (told_to r ends) (map (λ (line : List ℕ). speaks x line) ls) ≡ map (spoke r b) ls
-told_lines r b ends x [] h = refl
-told_lines r b ends x (l ∷ ls) h = ap₂ (λ o k. of_app o (λ app. spoke r app l) ++ k) h (told_lines r b ends x ls h)
-
-lines_no_call : (x : List ℕ) (ls : List (List ℕ)) → AllByRecursion IsNoCall (map (λ (line : List ℕ). speaks x line) ls)
-lines_no_call x [] = tt
-lines_no_call x (l ∷ ls) = (refl, lines_no_call x ls)
-
-no_calls : (xs ys : List Done) → AllByRecursion IsNoCall xs → AllByRecursion IsNoCall ys → AllByRecursion IsNoCall (xs ++ ys)
-no_calls [] ys a b = b
-no_calls (x ∷ xs) ys a b = (a.0, no_calls xs ys a.1 b)
-
-pub spoken_all : (xs : List Done) → AllByRecursion IsNoCall xs → spoken xs ≡ xs
-spoken_all [] a = refl
-spoken_all (x ∷ xs) a = ap (λ t. if not t then x ∷ spoken xs else spoken xs) a.0 ∙ ap (λ l. x ∷ l) (spoken_all xs a.1)
-
-pub spoken_last : (xs : List Done) (e : Envelope) → AllByRecursion IsNoCall xs → spoken (xs ++ sends e ∷ []) ≡ xs
-spoken_last [] e a = refl
-spoken_last (x ∷ xs) e a = ap (λ t. if not t then x ∷ spoken (xs ++ sends e ∷ []) else spoken (xs ++ sends e ∷ [])) a.0 ∙ ap (λ l. x ∷ l) (spoken_last xs e a.1)
-
--- WHAT IS READ of one
-lines_none : (news : News) (g : Followed) → g.view ≡ None → lines_at news g ≡ []
-lines_none news g h = rw h refl
-
-lines_some : (news : News) (g : Followed) (v : Forest Row) → g.view ≡ Some v → lines_at news g ≡ map (λ (line : List ℕ). speaks g.name line) (read_lines g.root g.name v news)
-lines_some news g v h = rw h refl
-
-lines_nothing : (g : Followed) → lines_at Nothing g ≡ []
-lines_nothing g = by g.view refl
-  where
-    by : (o : Option (Forest Row)) → g.view ≡ o → lines_at Nothing g ≡ []
-    by None h = lines_none Nothing g h
-    by (Some v) h = lines_some Nothing g v h
-
-lines_said : (news : News) (g : Followed) → AllByRecursion IsNoCall (lines_at news g)
-lines_said news g = by g.view refl
-  where
-    by : (o : Option (Forest Row)) → g.view ≡ o → AllByRecursion IsNoCall (lines_at news g)
-    by None h = subst (AllByRecursion IsNoCall) (sym (lines_none news g h)) tt
-    by (Some v) h = subst (AllByRecursion IsNoCall) (sym (lines_some news g v h)) (lines_no_call g.name (read_lines g.root g.name v news))
-
-all_lines : (news : News) (l : List Followed) → AllByRecursion IsNoCall (flat_map (lines_at news) l)
-all_lines news [] = tt
-all_lines news (g ∷ gs) = no_calls (lines_at news g) (flat_map (lines_at news) gs) (lines_said news g) (all_lines news gs)
-
-pub closing_none : (g : Followed) → g.view ≡ None → closing_of g ≡ []
-closing_none g h = rw h refl
-
-pub closing_some : (g : Followed) (v : Forest Row) → g.view ≡ Some v → closing_of g ≡ map (λ (line : List ℕ). speaks g.name line) (closing_lines v)
-closing_some g v h = rw h refl
-
-all_closings : (l : List Followed) → AllByRecursion IsNoCall (closings l)
-all_closings [] = tt
-all_closings (g ∷ gs) = no_calls (closing_of g) (closings gs) (by g.view refl) (all_closings gs)
-  where
-    by : (o : Option (Forest Row)) → g.view ≡ o → AllByRecursion IsNoCall (closing_of g)
-    by None h = subst (AllByRecursion IsNoCall) (sym (closing_none g h)) tt
-    by (Some v) h = subst (AllByRecursion IsNoCall) (sym (closing_some g v h)) (lines_no_call g.name (closing_lines v))
-
-an_end_said : (k : List ℕ) → AllByRecursion IsNoCall (end_of_connection k)
-an_end_said k = by (is_bus_name k && is_unique_name k)
-  where
-    by : (t : Bool) → AllByRecursion IsNoCall (if t then tells_end k ∷ [] else [])
-    by true = (refl, tt)
-    by false = tt
-
-no_news : (x : List ℕ) (e : Envelope) → (e.kind == 4) ≡ false → news_of x e ≡ Nothing
-no_news x e h = rw h refl
+use Rattle.atspi_played.proofs.SeeingWords.{told_lines, no_calls, lines_none, lines_some, lines_nothing, all_lines, all_closings, an_end_said, no_news}
 
 module _ (script : List Line) (es : List Entry) (w : World) (r : ℕ) (h : Hearer) (letter : Letter) (s : ReaderState) (t : Taking script es w r h letter s) (quiet : IsQuiet es r h letter) (readers : ReaderIs es r h) where
   abbrev m : Envelope
@@ -309,7 +234,8 @@ module _ (script : List Line) (es : List Entry) (w : World) (r : ℕ) (h : Heare
         nobody (Some j) e None y none = absurd y
         nobody None e (Some o) y none = absurd y
 
-        some_lines : (k : Option Kept) → held es r b ≡ k → (o : Option Holding) → SameKept es b k o → (v : Forest Row) → f.view ≡ Some v → map (spoke r b) (read_lines (path_of 0) x v (news_of x m)) ≡ map (spoke r b) (lines_if_held o letter.said)
+        some_lines : (k : Option Kept) → held es r b ≡ k → (o : Option Holding) → SameKept es b k o → (v : Forest Row) → f.view ≡ Some v
+            → map (spoke r b) (read_lines (path_of 0) x v (news_of x m)) ≡ map (spoke r b) (lines_if_held o letter.said)
         some_lines (Some j) e (Some o) y v has = ap (map (spoke r b)) (ap (read_lines (path_of 0) x v) read_name ∙ due j e v has)
         some_lines None e None y v has = absurd (no_none v (sym (subst (λ z. CacheIs es b z f) e (cache b x its_name)) ∙ has))
         some_lines (Some j) e None y v has = absurd y

@@ -34,7 +34,7 @@ use Rattle.atspi_played.proofs.Facts.{AreDistinct, Awaits, NoItems, SeesWell, Is
 use Rattle.atspi_played.proofs.SeeingApps.{FoundAfter, same, new, distinct_changed, distinct_without, distinct_made, distinct_fold, found_it, found_other, found_without, found_kept, found_made, found_is}
 use Rattle.atspi_played.proofs.SeeingSame.{folded_is, loaded_keeps, refused_keeps, noted_keeps, folded_keeps, told_keeps}
 use Rattle.atspi_played.proofs.SeeingReplies as replies
-use Rattle.atspi_played.proofs.SeeingReplies.{Brings, items, told, refuses, fails, children, Replied, replied_to}
+use Rattle.atspi_played.proofs.SeeingReplies.{Brings, items, told, refuses, fails, children}
 use Rattle.atspi_played.proofs.SeeingTaken.{Sees, is_seen, same_or}
 use Rattle.atspi_played.proofs.SeeingGround.{no_bus_name, Sender, of_bus, of_end, end_from_bus, named_is, app_is}
 use Rattle.atspi_played.proofs.SeeingStep as step
@@ -71,9 +71,6 @@ module _ (script : List Line) (es : List Entry) (w : World) (r : ℕ) (h : Heare
   abbrev m : Envelope
   m = letter.said.message
 
-  abbrev n : List ℕ
-  n = or_empty m.sender
-
   abbrev pub later : List Entry
   later = es ++ took r h w.ends letter
 
@@ -95,9 +92,8 @@ module _ (script : List Line) (es : List Entry) (w : World) (r : ℕ) (h : Heare
   abbrev read_all : ReaderState
   read_all = step.read_all script es w r h letter s t
 
-  -- names differ
   noted_apart : AreDistinct noted_all.apps
-  noted_apart = distinct_changed (noted m.serial) n s.apps (noted_keeps m.serial) t.asks.distinct
+  noted_apart = distinct_changed (noted m.serial) (or_empty m.sender) s.apps (noted_keeps m.serial) t.asks.distinct
 
   pub replied_apart : AreDistinct replied_all.apps
   replied_apart = by (step.reply script es w r h letter s t).brings
@@ -130,9 +126,8 @@ module _ (script : List Line) (es : List Entry) (w : World) (r : ℕ) (h : Heare
       by (Some root) = distinct_made ended_all.apps root ended_apart
 
   pub read_apart : AreDistinct read_all.apps
-  read_apart = distinct_changed (folded (news_of n m)) n known_all.apps (folded_keeps (news_of n m)) known_apart
+  read_apart = distinct_changed (folded (news_of (or_empty m.sender) m)) (or_empty m.sender) known_all.apps (folded_keeps (news_of (or_empty m.sender) m)) known_apart
 
-  -- none is to be loaded anew
   seen_now : (b : ℕ) (x : List ℕ) → name_in later (App b) ≡ Some x → Sees (found_in x read_all.apps) (followed x later r b)
   seen_now b x its_name = seen_behind script es w r h letter s t quiet b x (sym (step.name_before script es w r h letter s t (App b)) ∙ its_name) readers
 
@@ -145,11 +140,11 @@ module _ (script : List Line) (es : List Entry) (w : World) (r : ℕ) (h : Heare
 
   -- WHAT IT WAITS FOR
   bare_noted : (x : List ℕ) → IsAwaited es r x s.apps → IsAwaited later r x noted_all.apps
-  bare_noted x (inl i) = inl (bare_changed (noted m.serial) n x s.apps (noted_keeps m.serial) (λ g e. e) i)
+  bare_noted x (inl i) = inl (bare_changed (noted m.serial) (or_empty m.sender) x s.apps (noted_keeps m.serial) (λ g e. e) i)
   bare_noted x (inr i) =
       let later_gone : IsGoneFor later r i.1.0 =
       (i.1.2.0, i.1.2.1 ++ took r h w.ends letter, ap (λ l. l ++ took r h w.ends letter) i.1.2.2 ∙ append_assoc i.1.2.0 (gone r i.1.0 ∷ i.1.2.1) (took r h w.ends letter)) in
-      inr (none_changed (noted m.serial) n x s.apps (noted_keeps m.serial) i.0, (i.1.0, step.name_stays es (took r h w.ends letter) (App i.1.0) x i.1.1, later_gone))
+      inr (none_changed (noted m.serial) (or_empty m.sender) x s.apps (noted_keeps m.serial) i.0, (i.1.0, step.name_stays es (took r h w.ends letter) (App i.1.0) x i.1.1, later_gone))
 
   -- the end of one
   gone_now : (a : ℕ) (x : List ℕ) → name_in es (App a) ≡ Some x → told_end m ≡ Some x → IsGoneFor later r a
@@ -196,8 +191,8 @@ module _ (script : List Line) (es : List Entry) (w : World) (r : ℕ) (h : Heare
       by (Some root) = with_root (made_known ended_all.apps root) (found_made x ended_all.apps root) i
 
   bare_read : (x : List ℕ) → IsAwaited later r x known_all.apps → IsAwaited later r x read_all.apps
-  bare_read x (inl i) = inl (bare_changed (folded (news_of n m)) n x known_all.apps (folded_keeps (news_of n m)) (folded_bare (news_of n m)) i)
-  bare_read x (inr i) = inr (none_changed (folded (news_of n m)) n x known_all.apps (folded_keeps (news_of n m)) i.0, i.1)
+  bare_read x (inl i) = inl (bare_changed (folded (news_of (or_empty m.sender) m)) (or_empty m.sender) x known_all.apps (folded_keeps (news_of (or_empty m.sender) m)) (folded_bare (news_of (or_empty m.sender) m)) i)
+  bare_read x (inr i) = inr (none_changed (folded (news_of (or_empty m.sender) m)) (or_empty m.sender) x known_all.apps (folded_keeps (news_of (or_empty m.sender) m)) i.0, i.1)
 
   -- the call that waits, and the calls to come, are no matter of what follows the reply
   pending_same : read_all.pending ≡ replied_all.pending
