@@ -6,7 +6,8 @@ use Rattle.std.specs.List.{fold, AllByRecursion}
 use Rattle.std.specs.FinMap as finmap
 use Rattle.std.specs.FinMap.{FinMap}
 use Rattle.std.specs.Ordering.{nat_cmp}
-use Rattle.std.proofs.lemmas.Bool.{ltb-true, leb-true}
+use Rattle.std.proofs.lemmas.Bool.{ltb-true, leb-true, lt-ltb}
+use Rattle.std.proofs.lemmas.List.{map-append}
 use Rattle.std.proofs.lemmas.Option.{same_Some}
 use Rattle.atspi_types.specs.Data.{text_data, number_data}
 use Rattle.atspi_types.specs.Kinds.{u32}
@@ -47,6 +48,7 @@ use Rattle.atspi_carrying.specs.Beginning.{HasUp, with_one_taken, IsGreeting, Is
 use Rattle.atspi_carrying.specs.Carried.{standing_at, bytes_up, post_of, IsCarried, IsDone}
 use Rattle.atspi_carrying.specs.Downs.{bytes_down, IsBegun, IsWaiting, Wait}
 use Rattle.atspi_carrying.specs.Filled.{waits_for, gave}
+use Rattle.atspi_carrying.proofs.Downs.{letter_message}
 use Rattle.atspi_carrying.proofs.Filling.{both_gone}
 use Rattle.atspi_carrying.proofs.Views.{written_some}
 
@@ -62,6 +64,13 @@ handed [] = []
 handed (says e ∷ ms) = handed ms
 handed (delivers conn e ∷ ms) = written e ++ handed ms
 handed (closes conn ∷ ms) = handed ms
+
+-- the messages of these moves that are handed to somebody
+abbrev delivered : List Move → List Envelope
+delivered [] = []
+delivered (says e ∷ ms) = delivered ms
+delivered (delivers conn e ∷ ms) = e ∷ delivered ms
+delivered (closes conn ∷ ms) = delivered ms
 
 abbrev one_queue : List ℕ → Waiting
 one_queue bytes = record { queues = finmap.from_sorted ((0, bytes) ∷ []); due = [] }
@@ -115,8 +124,12 @@ nobody_waits q = λ conn e at. by conn e at
     by zero e at = absurd cc
     by (suc conn) e at = absurd cc
 
--- ONE END, whatever stands on its down link
-record OneEnd (ends : List End) (unique : Option (List ℕ)) (up : List Said) : Type 0 where
+-- the messages of letters
+abbrev pub messages_of : List Letter → List Envelope
+messages_of letters = map (λ (l : Letter). l.said.message) letters
+
+-- ONE END, with these messages on its links
+record OneEnd (ends : List End) (unique : Option (List ℕ)) (up : List Said) (down : List Envelope) : Type 0 where
   pub the_end : End
   pub ends_are : ends ≡ the_end ∷ []
   pub who : the_end.who ≡ Registry
@@ -124,51 +137,54 @@ record OneEnd (ends : List End) (unique : Option (List ℕ)) (up : List Said) : 
   pub unique_is : the_end.unique ≡ unique
   pub up_is : the_end.up ≡ up
   pub begun : the_end.up_moved ≡ 0
+  pub down_is : messages_of the_end.down ≡ down
 
-nothing_changes : (f : End → End) (conn : ℕ) → with_end conn f [] ≡ []
-nothing_changes f zero = refl
-nothing_changes f (suc conn) = refl
+module _ (letter : Envelope → Letter) (says_it : (m : Envelope) → (letter m).said.message ≡ m) (unique : Option (List ℕ)) (up : List Said) where
+  one_put : (m : Envelope) (ends : List End) (down : List Envelope) → OneEnd ends unique up down → OneEnd (with_end 0 (put_down (letter m)) ends) unique up (down ++ m ∷ [])
+  one_put m ends down o = record {
+    the_end = put_down (letter m) o.the_end;
+    ends_are = ap (with_end 0 (put_down (letter m))) o.ends_are;
+    who = o.who;
+    stands = o.stands;
+    unique_is = o.unique_is;
+    up_is = o.up_is;
+    begun = o.begun;
+    down_is = map-append (λ (l : Letter). l.said.message) o.the_end.down (letter m ∷ []) ∙ ap (λ l. l ++ messages_of (letter m ∷ [])) o.down_is ∙ ap (λ e. down ++ e ∷ []) (says_it m);
+  }
 
-one_put : (letter : Letter) (conn : ℕ) (ends : List End) (unique : Option (List ℕ)) (up : List Said) → OneEnd ends unique up → OneEnd (with_end conn (put_down letter) ends) unique up
-one_put letter zero ends unique up o = record {
-  the_end = put_down letter o.the_end;
-  ends_are = ap (with_end 0 (put_down letter)) o.ends_are;
-  who = o.who;
-  stands = o.stands;
-  unique_is = o.unique_is;
-  up_is = o.up_is;
-  begun = o.begun;
-}
-one_put letter (suc conn) ends unique up o = record {
-  the_end = o.the_end;
-  ends_are = ap (with_end (suc conn) (put_down letter)) o.ends_are ∙ ap (λ l. o.the_end ∷ l) (nothing_changes (put_down letter) conn);
-  who = o.who;
-  stands = o.stands;
-  unique_is = o.unique_is;
-  up_is = o.up_is;
-  begun = o.begun;
-}
+  grows : (bytes : List ℕ) (m : Envelope) → grew 0 (one_queue bytes) (one_queue (bytes ++ written m)) ≡ true
+  grows bytes m =
+      let before : queue_of (one_queue bytes).queues 0 ≡ bytes = ap or_nothing (numbers_get ((0, bytes) ∷ []) 0 refl) in
+      let after : queue_of (one_queue (bytes ++ written m)).queues 0 ≡ bytes ++ written m = ap or_nothing (numbers_get ((0, bytes ++ written m) ∷ []) 0 refl) in
+      let longer = length-append bytes (written m) in
+      let some = written_some m in
+      ap (λ l. nat_lt (length l) (length (queue_of (one_queue (bytes ++ written m)).queues 0))) before ∙ ap (λ l. nat_lt (length bytes) (length l)) after
+      ∙ lt-ltb (length bytes) (length (bytes ++ written m)) (omega (arith, longer, some))
 
-module _ (letter : Envelope → Letter) (unique : Option (List ℕ)) (up : List Said) where
-  one_lettered : (b a : Waiting) (move : Move) (ends : List End) → OneEnd ends unique up → OneEnd (with_letter letter b a move ends) unique up
-  one_lettered b a (says m) ends o = o
-  one_lettered b a (closes conn) ends o = o
-  one_lettered b a (delivers conn m) ends o = by (grew conn b a)
-    where
-      by : (t : Bool) → OneEnd (if t then with_end conn (put_down (letter m)) ends else ends) unique up
-      by true = one_put (letter m) conn ends unique up o
-      by false = o
+  one_folded : (quota : ℕ) (bytes : List ℕ) (ms : List Move) (ends : List End) (down : List Envelope) → OnlyFirst ms → length bytes + length (handed ms) ≤ quota → OneEnd ends unique up down
+      → OneEnd (fold (moved letter quota) (record { waiting = one_queue bytes; ends = ends }) ms).ends unique up (down ++ delivered ms)
+  one_folded quota bytes [] ends down only fits o = subst (OneEnd ends unique up) (sym (append-nil down)) o
+  one_folded quota bytes (says e ∷ ms) ends down only fits o = one_folded quota bytes ms ends down only fits o
+  one_folded quota bytes (closes conn ∷ ms) ends down only fits o = absurd only
+  one_folded quota bytes (delivers conn e ∷ ms) ends down only fits o =
+      let more = length-append (written e) (handed ms) in
+      let all = length-append bytes (written e) in
+      let f : Filled = record { waiting = one_queue bytes; ends = ends } in
+      let after : queues.moved quota (one_queue bytes) (delivers 0 e) ≡ one_queue (bytes ++ written e) = one_more quota bytes (written e) (omega (arith, fits, more)) in
+      let it : moved letter quota f (delivers conn e) ≡ record { waiting = one_queue (bytes ++ written e); ends = with_end 0 (put_down (letter e)) ends } =
+      ap (λ c. moved letter quota f (delivers c e)) only.0
+      ∙ ap (λ w. record { waiting = w; ends = with_letter letter (one_queue bytes) w (delivers 0 e) ends }) after
+      ∙ ap (λ t. record { waiting = one_queue (bytes ++ written e); ends = if t then with_end 0 (put_down (letter e)) ends else ends }) (grows bytes e) in
+      subst (λ (g : Filled). OneEnd (fold (moved letter quota) g ms).ends unique up (down ++ e ∷ delivered ms)) (sym it)
+      (subst (OneEnd (fold (moved letter quota) (record { waiting = one_queue (bytes ++ written e); ends = with_end 0 (put_down (letter e)) ends }) ms).ends unique up) (append_assoc down (e ∷ []) (delivered ms))
+      (one_folded quota (bytes ++ written e) ms (with_end 0 (put_down (letter e)) ends) (down ++ e ∷ []) only.1 (omega (arith, fits, more, all)) (one_put e ends down o)))
 
-  one_folded : (quota : ℕ) (f : Filled) (ms : List Move) → OneEnd f.ends unique up → OneEnd (fold (moved letter quota) f ms).ends unique up
-  one_folded quota f [] o = o
-  one_folded quota f (move ∷ ms) o = one_folded quota (moved letter quota f move) ms (one_lettered f.waiting (queues.moved quota f.waiting move) move f.ends o)
-
--- WHAT IS REACHED AFTER EACH CALL: the bus is in a state, so many bytes wait for the registry, and these messages are on its up link
-record IsStarting (quota : ℕ) (w : World) (s : BusState) (bytes : List ℕ) (unique : Option (List ℕ)) (up : List Said) : Type 0 where
+-- WHAT IS REACHED AFTER EACH CALL: the bus is in a state, so many bytes wait for the registry, and these messages are on its links
+record IsStarting (quota : ℕ) (w : World) (s : BusState) (bytes : List ℕ) (unique : Option (List ℕ)) (up : List Said) (down : List Envelope) : Type 0 where
   pub bus : w.bus ≡ record { quota = quota; state = s; waiting = one_queue bytes; own = []; closings = [] }
-  pub one : OneEnd w.ends unique up
+  pub one : OneEnd w.ends unique up down
 
-module _ (quota : ℕ) (s t : BusState) (bytes : List ℕ) (e : End) (said : Said) (rest : List Said) (ms : List Move) (swaps : ℕ) (unique : Option (List ℕ)) where
+module _ (quota : ℕ) (s t : BusState) (bytes : List ℕ) (e : End) (said : Said) (rest : List Said) (ms : List Move) (swaps : ℕ) (unique : Option (List ℕ)) (down : List Envelope) where
   abbrev begun_bus : Bus
   begun_bus = record { quota = quota; state = s; waiting = one_queue bytes; own = []; closings = [] }
 
@@ -187,9 +203,13 @@ module _ (quota : ℕ) (s t : BusState) (bytes : List ℕ) (e : End) (said : Sai
   waits_then : step ≡ record { state = t; moves = ms } → OnlyFirst ms → length bytes + length (handed ms) ≤ quota → passed.bus.waiting ≡ one_queue (bytes ++ handed ms)
   waits_then is only fits = ap (λ (x : BusStep). fold (queues.moved quota) (one_queue bytes) x.moves) is ∙ all_queued quota bytes ms only fits
 
-  called_one : OneEnd (taken_up e ∷ []) unique rest → step ≡ record { state = t; moves = ms } → OneEnd called.ends (first_of unique (unique_of t.owners 0)) rest
-  called_one first is =
-      let o = one_folded (letter_of e.who said) unique rest quota (record { waiting = one_queue bytes; ends = taken_up e ∷ [] }) step.moves first in
+  called_one : OneEnd (taken_up e ∷ []) unique rest down → step ≡ record { state = t; moves = ms } → OnlyFirst ms → length bytes + length (handed ms) ≤ quota
+      → OneEnd called.ends (first_of unique (unique_of t.owners 0)) rest (down ++ delivered ms)
+  called_one first is only fits =
+      let f : Filled = record { waiting = one_queue bytes; ends = taken_up e ∷ [] } in
+      let o : OneEnd passed.ends unique rest (down ++ delivered ms) =
+      subst (λ (x : BusStep). OneEnd (fold (moved (letter_of e.who said) quota) f x.moves).ends unique rest (down ++ delivered ms)) (sym is)
+      (one_folded (letter_of e.who said) (letter_message e.who said) unique rest quota bytes ms (taken_up e ∷ []) down only fits first) in
       record {
         the_end = named passed.bus 0 o.the_end;
         ends_are = ap (with_end 0 (named passed.bus 0)) o.ends_are;
@@ -198,39 +218,40 @@ module _ (quota : ℕ) (s t : BusState) (bytes : List ℕ) (e : End) (said : Sai
         unique_is = ap (λ u. first_of u (unique_of step.state.owners 0)) o.unique_is ∙ ap (λ (x : BusStep). first_of unique (unique_of x.state.owners 0)) is;
         up_is = o.up_is;
         begun = o.begun;
+        down_is = o.down_is;
       }
 
   does_one : e.up ≡ said ∷ rest → called.bus.waiting.due ≡ [] → does the_world (routes 0) ≡ bus_did the_world (got The_bus e.who said.message.serial ∷ []) called
   does_one up due = ap (routed the_world 0 e.who) up ∙ ap (bus_did the_world (got The_bus e.who said.message.serial ∷ [])) (nobody_closed (length s.joined) called due)
 
-  one_called : OneEnd (taken_up e ∷ []) unique rest → e.up ≡ said ∷ rest → step ≡ record { state = t; moves = ms } → OnlyFirst ms → length bytes + length (handed ms) ≤ quota
-      → IsStarting quota (does the_world (routes 0)).world t (bytes ++ handed ms) (first_of unique (unique_of t.owners 0)) rest
+  one_called : OneEnd (taken_up e ∷ []) unique rest down → e.up ≡ said ∷ rest → step ≡ record { state = t; moves = ms } → OnlyFirst ms → length bytes + length (handed ms) ≤ quota
+      → IsStarting quota (does the_world (routes 0)).world t (bytes ++ handed ms) (first_of unique (unique_of t.owners 0)) rest (down ++ delivered ms)
   one_called first up is only fits =
       let waiting = waits_then is only fits in
       let d = does_one up (ap (λ (v : Waiting). v.due) waiting) in
       record {
         bus = ap (λ (x : Done). x.world.bus) d ∙ ap (λ (x : BusStep). all_told (queues.stepped begun_bus x)) is
             ∙ ap (λ v. record { quota = quota; state = t; waiting = v; own = []; closings = [] }) (all_queued quota bytes ms only fits);
-        one = subst (λ es. OneEnd es (first_of unique (unique_of t.owners 0)) rest) (sym (ap (λ (x : Done). x.world.ends) d)) (called_one first is);
+        one = subst (λ es. OneEnd es (first_of unique (unique_of t.owners 0)) rest (down ++ delivered ms)) (sym (ap (λ (x : Done). x.world.ends) d)) (called_one first is only fits);
       }
 
 -- the bus takes one of the calls
-route_one : (quota : ℕ) (w : World) (s t : BusState) (bytes : List ℕ) (unique : Option (List ℕ)) (said : Said) (rest : List Said) (ms : List Move) → IsStarting quota w s bytes unique (said ∷ rest)
+route_one : (quota : ℕ) (w : World) (s t : BusState) (bytes : List ℕ) (unique : Option (List ℕ)) (said : Said) (rest : List Said) (down : List Envelope) (ms : List Move) → IsStarting quota w s bytes unique (said ∷ rest) down
     → bus_takes s 0 said.message (rule_in said.message) ≡ record { state = t; moves = ms } → OnlyFirst ms → length bytes + length (handed ms) ≤ quota
-    → IsStarting quota (does w (routes 0)).world t (bytes ++ handed ms) (first_of unique (unique_of t.owners 0)) rest
-route_one quota w s t bytes unique said rest ms at is only fits =
+    → IsStarting quota (does w (routes 0)).world t (bytes ++ handed ms) (first_of unique (unique_of t.owners 0)) rest (down ++ delivered ms)
+route_one quota w s t bytes unique said rest down ms at is only fits =
     let o = at.one in
     let e = o.the_end in
     let bus : Bus = record { quota = quota; state = s; waiting = one_queue bytes; own = []; closings = [] } in
     let same : w ≡ record { bus = bus; ends = e ∷ []; swaps = w.swaps } =
     ap (λ b. record w { bus = b }) at.bus ∙ ap (λ es. record { bus = bus; ends = es; swaps = w.swaps }) o.ends_are in
-    let first : OneEnd (taken_up e ∷ []) unique rest =
-    record { the_end = taken_up e; ends_are = refl; who = o.who; stands = o.stands; unique_is = o.unique_is; up_is = ap rest_of o.up_is; begun = refl } in
-    subst (λ v. IsStarting quota (does v (routes 0)).world t (bytes ++ handed ms) (first_of unique (unique_of t.owners 0)) rest) (sym same)
-    (one_called quota s t bytes e said rest ms w.swaps unique first o.up_is is only fits)
+    let first : OneEnd (taken_up e ∷ []) unique rest down =
+    record { the_end = taken_up e; ends_are = refl; who = o.who; stands = o.stands; unique_is = o.unique_is; up_is = ap rest_of o.up_is; begun = refl; down_is = o.down_is } in
+    subst (λ v. IsStarting quota (does v (routes 0)).world t (bytes ++ handed ms) (first_of unique (unique_of t.owners 0)) rest (down ++ delivered ms)) (sym same)
+    (one_called quota s t bytes e said rest ms w.swaps unique down first o.up_is is only fits)
 
 -- THE THREE CALLS, what the bus knows behind each, and what it says to it
-abbrev name : List ℕ
+abbrev pub name : List ℕ
 name = codes ":1.0"
 
 abbrev pub hello : Envelope
@@ -263,25 +284,25 @@ owning = record greeted { owners = first_owners; next = 7 }
 abbrev listening : BusState
 listening = record owning { rules = (0, owner_rule) ∷ []; next = 8 }
 
-abbrev name_returned : Envelope
+abbrev pub name_returned : Envelope
 name_returned = record (return_to (Some name) 1 (text_data name ∷ [])) { serial = 1 }
 
-abbrev name_told : Envelope
+abbrev pub name_told : Envelope
 name_told = record (signal (codes "NameAcquired") (Some name) (text_data name ∷ [])) { serial = 2 }
 
 abbrev greeting : List Move
 greeting = says name_returned ∷ delivers 0 name_returned ∷ says name_told ∷ delivers 0 name_told ∷ says (record (owner_changed name [] name) { serial = 3 }) ∷ []
 
-abbrev place_told : Envelope
+abbrev pub place_told : Envelope
 place_told = record (signal (codes "NameAcquired") (Some name) (text_data registry ∷ [])) { serial = 4 }
 
-abbrev place_returned : Envelope
+abbrev pub place_returned : Envelope
 place_returned = record (return_to (Some name) 2 (number_data u32 1 ∷ [])) { serial = 6 }
 
 abbrev granting : List Move
 granting = says place_told ∷ delivers 0 place_told ∷ says (record (owner_changed registry [] name) { serial = 5 }) ∷ says place_returned ∷ delivers 0 place_returned ∷ []
 
-abbrev rule_returned : Envelope
+abbrev pub rule_returned : Envelope
 rule_returned = record (return_to (Some name) 3 []) { serial = 7 }
 
 abbrev agreeing : List Move
@@ -318,10 +339,10 @@ agreeing_small = leb-true (length (handed agreeing)) 340 refl
 abbrev pub called_world : ℕ → Role → World
 called_world quota role = record { bus = queues.joins (empty_bus quota) 0; ends = put_up (map plain calls) (newcomer Registry role) ∷ []; swaps = 0 }
 
-starts_so : (quota : ℕ) (role : Role) → IsStarting quota (called_world quota role) joined [] None (map plain calls)
+starts_so : (quota : ℕ) (role : Role) → IsStarting quota (called_world quota role) joined [] None (map plain calls) []
 starts_so quota role = record {
   bus = ap (λ q. record { quota = quota; state = joined; waiting = record { queues = q; due = [] }; own = []; closings = [] }) (numbers_first 0 []);
-  one = record { the_end = put_up (map plain calls) (newcomer Registry role); ends_are = refl; who = refl; stands = refl; unique_is = refl; up_is = refl; begun = refl };
+  one = record { the_end = put_up (map plain calls) (newcomer Registry role); ends_are = refl; who = refl; stands = refl; unique_is = refl; up_is = refl; begun = refl; down_is = refl };
 }
 
 abbrev pub first_taken : ℕ → Role → World
@@ -334,28 +355,28 @@ abbrev pub third_taken : ℕ → Role → World
 third_taken quota role = (does (second_taken quota role) (routes 0)).world
 
 module _ (quota : ℕ) (role : Role) (room : 1024 ≤ quota) where
-  behind_hello : IsStarting quota (first_taken quota role) greeted (handed greeting) (Some name) (plain request ∷ plain ask ∷ [])
+  behind_hello : IsStarting quota (first_taken quota role) greeted (handed greeting) (Some name) (plain request ∷ plain ask ∷ []) (delivered greeting)
   behind_hello =
       let small = greeting_small in
-      subst (λ u. IsStarting quota (first_taken quota role) greeted (handed greeting) u (plain request ∷ plain ask ∷ [])) (numbers_get first_unique 0 refl)
-      (route_one quota (called_world quota role) joined greeted [] None (plain hello) (plain request ∷ plain ask ∷ []) greeting (starts_so quota role) takes_hello (refl, (refl, tt)) (omega (arith, small, room)))
+      subst (λ u. IsStarting quota (first_taken quota role) greeted (handed greeting) u (plain request ∷ plain ask ∷ []) (delivered greeting)) (numbers_get first_unique 0 refl)
+      (route_one quota (called_world quota role) joined greeted [] None (plain hello) (plain request ∷ plain ask ∷ []) [] greeting (starts_so quota role) takes_hello (refl, (refl, tt)) (omega (arith, small, room)))
 
-  behind_request : IsStarting quota (second_taken quota role) owning (handed greeting ++ handed granting) (Some name) (plain ask ∷ [])
+  behind_request : IsStarting quota (second_taken quota role) owning (handed greeting ++ handed granting) (Some name) (plain ask ∷ []) (delivered greeting ++ delivered granting)
   behind_request =
       let small = greeting_small in
       let more = granting_small in
-      route_one quota (first_taken quota role) greeted owning (handed greeting) (Some name) (plain request) (plain ask ∷ []) granting behind_hello takes_request (refl, (refl, tt)) (omega (arith, small, more, room))
+      route_one quota (first_taken quota role) greeted owning (handed greeting) (Some name) (plain request) (plain ask ∷ []) (delivered greeting) granting behind_hello takes_request (refl, (refl, tt)) (omega (arith, small, more, room))
 
-  behind_ask : IsStarting quota (third_taken quota role) listening ((handed greeting ++ handed granting) ++ handed agreeing) (Some name) []
+  behind_ask : IsStarting quota (third_taken quota role) listening ((handed greeting ++ handed granting) ++ handed agreeing) (Some name) [] ((delivered greeting ++ delivered granting) ++ delivered agreeing)
   behind_ask =
       let small = greeting_small in
       let more = granting_small in
       let last = agreeing_small in
       let all = length-append (handed greeting) (handed granting) in
-      route_one quota (second_taken quota role) owning listening (handed greeting ++ handed granting) (Some name) (plain ask) [] agreeing behind_request takes_ask (refl, tt) (omega (arith, small, more, last, all, room))
+      route_one quota (second_taken quota role) owning listening (handed greeting ++ handed granting) (Some name) (plain ask) [] (delivered greeting ++ delivered granting) agreeing behind_request takes_ask (refl, tt) (omega (arith, small, more, last, all, room))
 
-has_up : (quota : ℕ) (w : World) (s : BusState) (bytes : List ℕ) (unique : Option (List ℕ)) (said : Said) (rest : List Said) → IsStarting quota w s bytes unique (said ∷ rest) → HasUp w 0
-has_up quota w s bytes unique said rest at = record { the_end = at.one.the_end; first = said; rest = rest; at = ap (λ es. end_at es 0) at.one.ends_are; stands = at.one.stands; up = at.one.up_is }
+has_up : (quota : ℕ) (w : World) (s : BusState) (bytes : List ℕ) (unique : Option (List ℕ)) (said : Said) (rest : List Said) (down : List Envelope) → IsStarting quota w s bytes unique (said ∷ rest) down → HasUp w 0
+has_up quota w s bytes unique said rest down at = record { the_end = at.one.the_end; first = said; rest = rest; at = ap (λ es. end_at es 0) at.one.ends_are; stands = at.one.stands; up = at.one.up_is }
 
 -- three messages, each with what was written of it
 pub greeted_by : (w : World) (conn : ℕ) (b1 b2 b3 : Bus) (posts1 posts2 posts3 : List Post) (old mid late new : List Event) → (up : IsGreeting w conn) → IsDone (does w (routes conn)) b1 posts1 old mid
@@ -403,8 +424,8 @@ emptied_queue bytes count =
     let there : finmap.get m 0 ≡ Some bytes = numbers_get ((0, bytes) ∷ []) 0 refl in
     ap (λ o. cond (is_some o) (finmap.insert m 0 (drop count (or_nothing o))) m) there ∙ numbers_insert ((0, bytes) ∷ []) 0 (drop count bytes) refl
 
-first_again : (quota : ℕ) (w : World) (bytes : List ℕ) (a b : Bus) (posts : List Post) → IsStarting quota w listening bytes (Some name) [] → IsCarried w a posts → IsHeard a b 0 → IsCarried (first_world quota) b posts
-first_again quota w bytes a b posts at is heard =
+first_again : (quota : ℕ) (w : World) (bytes : List ℕ) (down : List Envelope) (a b : Bus) (posts : List Post) → IsStarting quota w listening bytes (Some name) [] down → IsCarried w a posts → IsHeard a b 0 → IsCarried (first_world quota) b posts
+first_again quota w bytes down a b posts at is heard =
     let o = at.one in
     let c : Bus = record { quota = quota; state = listening; waiting = one_queue bytes; own = []; closings = [] } in
     let left : List ℕ = drop heard.count bytes in
@@ -422,7 +443,7 @@ first_again quota w bytes a b posts at is heard =
       waits = one_waits (first_world quota).bus.waiting.queues first_registry refl refl (ap or_nothing (numbers_get ((0, []) ∷ []) 0 refl));
     }
   where
-    same_post : (o : OneEnd w.ends (Some name) []) → post_of o.the_end ≡ post_of first_registry
+    same_post : (o : OneEnd w.ends (Some name) [] down) → post_of o.the_end ≡ post_of first_registry
     same_post o =
         ap (λ x. record (post_of o.the_end) { who = x }) o.who ∙ ap (λ x. record (post_of o.the_end) { who = Registry; standing = standing_at x }) o.stands
         ∙ ap (λ x. record (post_of o.the_end) { who = Registry; standing = Here; name = x }) o.unique_is
@@ -430,13 +451,27 @@ first_again quota w bytes a b posts at is heard =
         ∙ ap (λ x. record { who = Registry; standing = Here; name = Some name; up = []; begun = x }) o.begun
 
 pub first_carried : (quota : ℕ) (role : Role) (a b : Bus) (posts : List Post) → 1024 ≤ quota → IsCarried (third_taken quota role) a posts → IsHeard a b 0 → IsCarried (first_world quota) b posts
-first_carried quota role a b posts room is heard = first_again quota (third_taken quota role) ((handed greeting ++ handed granting) ++ handed agreeing) a b posts (behind_ask quota role room) is heard
+first_carried quota role a b posts room is heard = first_again quota (third_taken quota role) ((handed greeting ++ handed granting) ++ handed agreeing) _ a b posts (behind_ask quota role room) is heard
+
+-- WHAT WAITS FOR THE REGISTRY THEN: its name, that it has it, that it owns the registry's, and the two other returns
+abbrev pub heard : List Envelope
+heard = name_returned ∷ name_told ∷ place_told ∷ place_returned ∷ rule_returned ∷ []
+
+pub record HasHeard (w : World) (messages : List Envelope) : Type 0 where
+  pub the_end : End
+  pub at : end_at w.ends 0 ≡ Some the_end
+  pub down : messages_of the_end.down ≡ messages
+
+pub greeting_heard : (quota : ℕ) (role : Role) → 1024 ≤ quota → HasHeard (third_taken quota role) heard
+greeting_heard quota role room =
+    let o = (behind_ask quota role room).one in
+    record { the_end = o.the_end; at = ap (λ es. end_at es 0) o.ends_are; down = o.down_is }
 
 pub greeting_up : (quota : ℕ) (role : Role) → 1024 ≤ quota → IsGreeting (called_world quota role) 0
 greeting_up quota role room = record {
-  first = has_up quota (called_world quota role) joined [] None (plain hello) (plain request ∷ plain ask ∷ []) (starts_so quota role);
-  second = has_up quota (first_taken quota role) greeted (handed greeting) (Some name) (plain request) (plain ask ∷ []) (behind_hello quota role room);
-  third = has_up quota (second_taken quota role) owning (handed greeting ++ handed granting) (Some name) (plain ask) [] (behind_request quota role room);
+  first = has_up quota (called_world quota role) joined [] None (plain hello) (plain request ∷ plain ask ∷ []) [] (starts_so quota role);
+  second = has_up quota (first_taken quota role) greeted (handed greeting) (Some name) (plain request) (plain ask ∷ []) (delivered greeting) (behind_hello quota role room);
+  third = has_up quota (second_taken quota role) owning (handed greeting ++ handed granting) (Some name) (plain ask) [] (delivered greeting ++ delivered granting) (behind_request quota role room);
 }
 
 -- EACH CALL IS SENDABLE: two speak of no rule, and the third of the one that its text spells

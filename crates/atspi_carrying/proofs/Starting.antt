@@ -56,12 +56,14 @@ no_letter n (l ∷ ls) begun none = absurd (nothing_left n (l ∷ ls) l ls refl 
         let whole = begun_within n (l ∷ ls) begun in
         omega (arith, many, all, none, begun, whole, length-append (written l.said.message) (bytes_down ls))
 
+pub none_below : (w : World) (b : Bus) (posts : List Post) (given : List (List ℕ)) (conn : ℕ) (e : End) → IsCarried w b posts → IsLinked w given → end_at w.ends conn ≡ Some e → waits_for b conn ≡ [] → e.down ≡ []
+none_below w b posts given conn e carried is at none =
+    let waiting = is.wait conn e at in
+    no_letter e.down_moved e.down waiting.begun (ap length (sym waiting.bytes ∙ ap (λ (x : Bus). waits_for x conn) (sym carried.bus_is) ∙ none))
+
 pub nothing_lies : (w : World) (b : Bus) (posts : List Post) (given : List (List ℕ)) (conn : ℕ) (e : End) → IsCarried w b posts → IsLinked w given → end_at w.ends conn ≡ Some e → waits_for b conn ≡ [] → given_of e ≡ []
 nothing_lies w b posts given conn e carried is at none =
-    let waiting = is.wait conn e at in
-    let queue : length (drop e.down_moved (bytes_down e.down)) ≡ 0 = ap length (sym waiting.bytes ∙ ap (λ (x : Bus). waits_for x conn) (sym carried.bus_is) ∙ none) in
-    let empty : e.down ≡ [] = no_letter e.down_moved e.down waiting.begun queue in
-    let unmoved : e.down_moved ≡ 0 = subst (IsBegun e.down_moved) empty waiting.begun in
+    let unmoved : e.down_moved ≡ 0 = subst (IsBegun e.down_moved) (none_below w b posts given conn e carried is at none) (is.wait conn e at).begun in
     ap (λ (n : ℕ). given_of (record e { down_moved = n })) unmoved
 
 -- the registry took all that waited for it

@@ -23,7 +23,7 @@ use Rattle.atspi_posts.specs.declared.post.Post.{Post}
 use Rattle.atspi_trace.specs.Entry.{entries_of, sent}
 use Rattle.atspi_trace.specs.Rules.{rule_in}
 use Rattle.atspi_trace.specs.World.{Role, a_reader, Hearer, Said, End, World}
-use Rattle.atspi_trace.specs.Ends.{plain, put_up, party_at, whose, conn_of, end_at, end_if}
+use Rattle.atspi_trace.specs.Ends.{plain, put_up, number_of, party_at, whose, conn_of, end_at, end_if}
 use Rattle.atspi_trace.specs.Causes.{at_end, on_end, called, calls, does}
 use Rattle.atspi_trace.specs.Work.{name_of}
 use Rattle.atspi_carrying.specs.Changes.{changed_at}
@@ -32,11 +32,18 @@ use Rattle.atspi_carrying.proofs.Changes.{length-changed, map-changed}
 use Rattle.atspi_carrying.proofs.Downs.{wait_same}
 use Rattle.atspi_carrying.proofs.Ties.{post_below}
 use Rattle.atspi_carrying.proofs.Views.{with-changed, all_with, within_more}
-use Rattle.atspi_stage.specs.Doing.{sent_on, messages, silent, OnlySends, AreSent, TellsReaderAt, CallsAt}
-use Rattle.atspi_stage.specs.Worlds.{Staged, IsWorld, IsAfter}
+use Rattle.atspi_carrying.specs.Linked.{IsLinked}
+use Rattle.atspi_carrying.proofs.Linked.{linked_same}
+use Rattle.atspi_play.specs.Playing.{Playing, silent}
+use Rattle.atspi_play.specs.Plays as play
+use Rattle.atspi_play.specs.Plays.{plays, with_reader}
+use Rattle.atspi_stage.specs.Doing.{sent_on, IsToldAll, TellsReaderAt, CallsAt}
+use Rattle.atspi_stage.specs.Worlds.{Staged, IsWorld, IsPlaying, Happens}
+use Rattle.atspi_stage.proofs.AskingReaders.{calls_left}
 use Rattle.atspi_stage.proofs.Conns.{conn_end, conn_who}
 use Rattle.atspi_stage.proofs.Plays.{get_set}
 use Rattle.atspi_stage.proofs.Sayings.{up-append, set_set}
+use Rattle.atspi_stage.proofs.Segments.{with_reader_is}
 use Rattle.atspi_stage.proofs.Signals.{all-append}
 use Rattle.atspi_stage.proofs.Stays.{Beside, reader_world}
 
@@ -112,36 +119,48 @@ one_sent w conn role m b b' posts posts' is sendable same changed =
     }
 
 -- a reader makes a call of its user, and that is told
-pub call_world : (w : World) (conn r : ℕ) (y : End) (p : Post) (node : ℕ) (deed : Deed) (old new : Staged) (readers : List ReaderState) → IsWorld w old → conn_of w.ends (Reader r) ≡ Some conn
-    → p ≡ post_of y → CallsAt old.readers readers r p.name node deed → TellsReaderAt readers new.readers r conn old.posts new.posts old.trace new.trace
-    → new.bus ≡ old.bus → new.apps ≡ old.apps → Beside old new → IsAfter (does w (calls conn (name_of (Some y)) node deed)) old new
-call_world w conn r y p node deed old new readers is there p_is calls_ tells bus_same apps beside =
+pub call_world : (p : Playing) (conn r : ℕ) (y : End) (post : Post) (node : ℕ) (deed : Deed) (old new : Staged) (readers : List ReaderState) → IsPlaying p old → conn_of p.world.ends (Reader r) ≡ Some conn
+    → post ≡ post_of y → CallsAt old.readers readers r post.name node deed → TellsReaderAt readers new.readers r conn old.posts new.posts old.trace new.trace
+    → new.bus ≡ old.bus → new.given ≡ old.given → new.apps ≡ old.apps → Beside old new → Happens (plays p (calls conn (name_of (Some y)) node deed)) old new
+call_world p conn r y post node deed old new readers playing there p_is calls_ tells bus_same given apps beside =
+    let w : World = p.world in
+    let is : IsWorld w old = playing.is in
     let found = conn_end w.ends (Reader r) conn there in
     let e : End = found.0 in
     let at : end_at w.ends conn ≡ Some e = found.1 in
-    let play = is.readers_play r e (ap (end_if w.ends) there ∙ at) in
-    let s : ReaderState = play.player in
-    let h : Hearer = play.plays.hearer in
-    let k = calls_ s play.there in
+    let acts = is.readers_play r e (ap (end_if w.ends) there ∙ at) in
+    let s : ReaderState = acts.player in
+    let h : Hearer = acts.plays.hearer in
+    let k = calls_ s acts.there in
     let nm : List ℕ = name_of (Some y) in
     let name_is : k.name ≡ nm = sym (ap name_or_empty (sym (ap (λ (q : Post). q.name) p_is) ∙ k.named)) in
     let m : Envelope = user_call h.next nm node deed in
-    let m_is : user_call s.next k.name node deed ≡ m = ap (λ n. user_call n k.name node deed) play.plays.next ∙ ap (λ n. user_call h.next n node deed) name_is in
+    let m_is : user_call s.next k.name node deed ≡ m = ap (λ n. user_call n k.name node deed) acts.plays.next ∙ ap (λ n. user_call h.next n node deed) name_is in
     let t : ReaderState = reader_calls s k.name node deed in
-    let out_is : t.out ≡ sends m ∷ [] = ap (λ l. l ++ sends (user_call s.next k.name node deed) ∷ []) play.plays.quiet ∙ ap (λ x. sends x ∷ []) m_is in
-    let few : r < length old.readers = slice_get_within old.readers r s play.there in
+    let out_is : t.out ≡ sends m ∷ [] = ap (λ l. l ++ sends (user_call s.next k.name node deed) ∷ []) acts.plays.quiet ∙ ap (λ x. sends x ∷ []) m_is in
+    let few : r < length old.readers = slice_get_within old.readers r s acts.there in
     let put : slice_get readers r ≡ Some t = ap (λ l. slice_get l r) k.readers ∙ get_set old.readers r t few in
     let told = tells t put in
-    let all : AreSent r (messages t.out) conn old.posts new.posts old.trace new.trace = told.sends (subst OnlySends (sym out_is) tt) (post_below w old.bus old.posts conn e is.carried at) in
-    let one : AreSent r (m ∷ []) conn old.posts new.posts old.trace new.trace = subst (λ l. AreSent r (messages l) conn old.posts new.posts old.trace new.trace) out_is all in
+    let all : IsToldAll r t.out conn old.posts new.posts old.trace new.trace = told.tells (post_below w old.bus old.posts conn e is.carried at) in
+    let one : IsToldAll r (sends m ∷ []) conn old.posts new.posts old.trace new.trace = subst (λ l. IsToldAll r l conn old.posts new.posts old.trace new.trace) out_is all in
     let role : Role = a_reader (record h { next = suc h.next }) in
     let carried : IsCarried (at_end w conn (sends_one m role)) new.bus new.posts =
     one_sent w conn role m old.bus new.bus old.posts new.posts is.carried (record { is = one.written_.0; reads = deed_reads h.next nm node deed }) bus_same one.posts_are in
-    let next_is : s.next + 1 ≡ suc h.next = ap (λ n. n + 1) play.plays.next ∙ (let more : h.next + 1 ≡ suc h.next = omega arith in more) in
-    let after_ : IsWorld (at_end w conn (sends_one m role)) new =
-    reader_world w conn r e (sends_one m role) (silent t) old new (λ z. refl) (record { hearer = record h { next = suc h.next }; role_is = refl; next = next_is; quiet = refl }) is there at carried few
-    (told.readers ∙ ap (λ l. set l r (silent t)) k.readers ∙ set_set old.readers r t (silent t)) apps beside in
+    let next_is : s.next + 1 ≡ suc h.next = ap (λ n. n + 1) acts.plays.next ∙ (let more : h.next + 1 ≡ suc h.next = omega arith in more) in
+    let v : World = at_end w conn (sends_one m role) in
+    let linked : IsLinked v new.given = subst (IsLinked v) (sym given) (linked_same w conn (sends_one m role) old.given (λ z. (refl, refl, refl, refl, refl)) is.linked) in
+    let became : new.readers ≡ set old.readers r (silent t) = told.readers ∙ ap (λ l. set l r (silent t)) k.readers ∙ set_set old.readers r t (silent t) in
+    let after_ : IsWorld v new =
+    reader_world w v conn r e (sends_one m role) (silent t) old new (record { ends = refl; swaps = refl; who = λ z. refl })
+    (record { hearer = record h { next = suc h.next }; role_is = refl; next = next_is; quiet = refl; left = calls_left s k.name node deed acts.plays.left }) is there at carried linked few
+    became apps beside in
     let does_is : does w (calls conn nm node deed) ≡ record { world = at_end w conn (sends_one m role); entries = sent (party_at w.ends conn) m ∷ [] } =
-    ap (λ o. on_end w o (λ x. called w conn nm node deed x.role)) at ∙ ap (called w conn nm node deed) play.plays.role_is in
+    ap (λ o. on_end w o (λ x. called w conn nm node deed x.role)) at ∙ ap (called w conn nm node deed) acts.plays.role_is in
     let party : Reader r ≡ party_at w.ends conn = sym (conn_who w.ends (Reader r) conn e there at) ∙ ap whose (sym at) in
-    subst (λ x. IsAfter x old new) (sym does_is) (record { is = after_; wrote = one.wrote ∙ ap (λ q. entries_of old.trace ++ sent q m ∷ []) party })
+    let change : ReaderState → ReaderState = λ z. silent (reader_calls z nm node deed) in
+    let mine : slice_get p.readers r ≡ Some s = ap (λ l. slice_get l r) (sym playing.readers) ∙ acts.there in
+    let readers_are : new.readers ≡ with_reader (number_of (party_at w.ends conn)) change p.readers =
+    became ∙ ap (λ n. set old.readers r (silent (reader_calls s n node deed))) name_is ∙ ap (λ l. set l r (change s)) playing.readers ∙ sym (with_reader_is r change p.readers s mine)
+    ∙ ap (λ q. with_reader (number_of q) change p.readers) party in
+    subst (λ x. Happens (play.called p conn nm node deed x) old new) (sym does_is)
+    (record { is = record { is = after_; readers = readers_are }; wrote = one.wrote ∙ ap (λ q. entries_of old.trace ++ sent q m ∷ []) party })

@@ -9,7 +9,8 @@ use Rattle.atspi_lines.specs.declared.line.Party.TheVariants.{Bus, Registry, App
 use Rattle.atspi_trace.specs.World.{End}
 use Rattle.atspi_trace.specs.Ends.{same_party, conn_of, end_at}
 
-same-party : (a b : Party) → same_party a b ≡ true → a ≡ b
+-- who is the same
+pub same-party : (a b : Party) → same_party a b ≡ true → a ≡ b
 same-party Bus Bus h = refl
 same-party Registry Registry h = refl
 same-party (App a) (App b) h = ap App (eqb-true a b h)

@@ -7,24 +7,22 @@ use Rattle.std.proofs.lemmas.Option.{get_or_from_slice_get}
 use Rattle.atspi_forest.specs.declared.edit.Edit.{Edit}
 use Rattle.atspi_lines.specs.declared.deed.Deed.{Deed}
 use Rattle.atspi_lines.specs.declared.line.Party.{Party}
-use Rattle.atspi_lines.specs.declared.line.Party.TheVariants.{Reader}
-use Rattle.atspi_message.specs.Envelope.{Envelope, envelope_of}
+use Rattle.atspi_message.specs.Envelope.{envelope_of}
 use Rattle.atspi_message.specs.Bytes.{IsMessage, written}
 use Rattle.atspi_message.specs.declared.message.Message.{Message}
 use Rattle.atspi_protocol.specs.exporting.Exporter.{Exporter}
 use Rattle.atspi_protocol.specs.exporting.Taking.{app_edits}
-use Rattle.atspi_protocol.specs.declared.following.event.ReaderEvent.{ReaderEvent}
-use Rattle.atspi_protocol.specs.declared.following.event.ReaderEvent.TheVariants.{Send}
-use Rattle.atspi_protocol.specs.following.ReaderState.{Done, sends, speaks, tells_end, ReaderState}
-use Rattle.atspi_stage_ends.specs.Done.{done_of}
+use Rattle.atspi_protocol.specs.following.ReaderState.{ReaderState}
 use Rattle.atspi_protocol.specs.following.Takes.{reader_calls}
 use Rattle.atspi_events.specs.declared.event.Event.{Event}
 use Rattle.atspi_events.specs.declared.event.Event.TheVariants.{Sent}
 use Rattle.atspi_posts.specs.declared.post.Post.{Post}
 use Rattle.atspi_trace.specs.Entry.{entry_of, entries_of}
 use Rattle.atspi_trace.specs.Causes.{did}
+use Rattle.atspi_carrying.specs.Changes.{changed_at}
 use Rattle.atspi_carrying.proofs.Changes.{changed_set}
-use Rattle.atspi_stage.specs.Doing.{sent_on, IsSent, all_said, quiet, silent, CanBeWritten, IsTold, TellsAt, EditsAt, SendsAll, TellsReaderAt, CallsAt}
+use Rattle.atspi_play.specs.Playing.{silent}
+use Rattle.atspi_stage.specs.Doing.{sent_on, IsSent, all_said, quiet, CanBeWritten, IsTold, TellsAt, EditsAt, TellsAll, TellsReaderAt, CallsAt}
 
 module _ {A X : Type 0} (g : A → X) where
   pub map_set : (xs : List A) (i : ℕ) (y : A) → map g (set xs i y) ≡ set (map g xs) i (g y)
@@ -51,6 +49,23 @@ module _ {A X : Type 0} (g : A → X) where
   same_there [] (suc i) x y h e = refl
   same_there (z ∷ zs) zero x y h e = ap (λ v. v ∷ map g zs) (e ∙ ap g h)
   same_there (z ∷ zs) (suc i) x y h e = ap (λ l. g z ∷ l) (same_there zs i x y h e)
+
+  -- one that takes something, among all
+  pub took_none : (f : X → X) (xs : List A) (i : ℕ) → length xs ≤ i → map g xs ≡ changed_at i f (map g xs)
+  took_none f [] zero h = refl
+  took_none f [] (suc i) h = refl
+  took_none f (x ∷ xs) zero h = absurd (omega (arith, h))
+  took_none f (x ∷ xs) (suc i) h = ap (λ l. g x ∷ l) (took_none f xs i (omega (arith, h)))
+
+  took_one : (f : X → X) (xs : List A) (i : ℕ) (x y : A) → x ≡ get_or xs i x → g y ≡ f (g x) → map g (set xs i y) ≡ changed_at i f (map g xs)
+  took_one f [] zero x y h e = refl
+  took_one f [] (suc i) x y h e = refl
+  took_one f (z ∷ zs) zero x y h e = ap (λ v. v ∷ map g zs) (e ∙ ap (λ q. f (g q)) h)
+  took_one f (z ∷ zs) (suc i) x y h e = ap (λ l. g z ∷ l) (took_one f zs i x y h e)
+
+  pub took_at : {T F : Type 0} (r : Result T F) (f : X → X) (xs : List A) (i : ℕ) (x y : A) → x ≡ get_or xs i x → OnOk r (g y ≡ f (g x)) → OnOk r (map g (set xs i y) ≡ changed_at i f (map g xs))
+  took_at (Ok t) f xs i x y h e = took_one f xs i x y h e
+  took_at (Err t) f xs i x y h e = tt
 
 none_post : (posts : List Post) (i : ℕ) (p : Post) → length posts ≤ i → slice_get posts i ≡ Some p → ⊥
 none_post [] zero p h e = cc
@@ -102,15 +117,15 @@ module _ {A : Type 0} (exporter : A → Exporter) where
   edits_no_app apps number edit h = λ s at. absurd (none_there exporter apps number s h at)
 
 module _ {R : Type 0} (follower : R → ReaderState) where
-  -- what a reader sent
+  -- what a reader did
   pub sends_at : {T F : Type 0} (r : Result T F) (readers : List R) (a a' : R) (number conn : ℕ) (posts posts' : List Post) (old new : List Event) → a ≡ get_or readers number a
-      → OnOk r (follower a' ≡ silent (follower a)) → OnOk r (SendsAll (follower a) number conn posts posts' old new)
+      → OnOk r (follower a' ≡ silent (follower a)) → OnOk r (TellsAll (follower a) number conn posts posts' old new)
       → OnOk r (TellsReaderAt (map follower readers) (map follower (set readers number a')) number conn posts posts' old new)
   sends_at (Ok x) readers a a' number conn posts posts' old new reader_is quiet_ all = λ s at.
       let s_is : follower a ≡ s = ap follower reader_is ∙ seen_there follower readers number a s at in
       record {
         readers = map_set follower readers number a' ∙ ap (set (map follower readers) number) (quiet_ ∙ ap silent s_is);
-        sends = subst (λ x. SendsAll x number conn posts posts' old new) s_is all;
+        tells = subst (λ x. TellsAll x number conn posts posts' old new) s_is all;
       }
   sends_at (Err e) readers a a' number conn posts posts' old new reader_is quiet_ all = tt
 
@@ -127,32 +142,3 @@ module _ {R : Type 0} (follower : R → ReaderState) where
 
   pub calls_no_reader : (readers : List R) (number node : ℕ) (callee : Option (List ℕ)) (deed : Deed) → length readers ≤ number → CallsAt (map follower readers) (map follower readers) number callee node deed
   calls_no_reader readers number node callee deed h = λ s at. absurd (none_there follower readers number s h at)
-
--- what a reader did first, where that was a message
-pub deed_sent : {T F : Type 0} (r : Result T F) (event : ReaderEvent) (m : Message) (reader conn : ℕ) (posts posts' : List Post) (old new : List Event) → event ≡ Send m
-    → OnOk r (conn < length posts → IsSent (Reader reader) (envelope_of m) conn posts posts' old new)
-    → OnOk r ((e : Envelope) → done_of event ≡ sends e → conn < length posts → IsSent (Reader reader) e conn posts posts' old new)
-deed_sent (Ok x) event m reader conn posts posts' old new is h = λ e d joined.
-    let same : envelope_of m ≡ e = same_sends (envelope_of m) e (sym (ap done_of is) ∙ d) in
-    subst (λ z. IsSent (Reader reader) z conn posts posts' old new) same (h joined)
-  where
-    same_sends : (a b : Envelope) → ◌≡◌ {A = Done} (sends a) (sends b) → a ≡ b
-    same_sends a b h = cc
-deed_sent (Err f) event m reader conn posts posts' old new is h = tt
-
--- and where it was none
-pub deed_said : {T F : Type 0} (r : Result T F) (event : ReaderEvent) (name line : List ℕ) (reader conn : ℕ) (posts posts' : List Post) (old new : List Event) → done_of event ≡ speaks name line
-    → OnOk r ((e : Envelope) → done_of event ≡ sends e → conn < length posts → IsSent (Reader reader) e conn posts posts' old new)
-deed_said (Ok x) event name line reader conn posts posts' old new is = λ e d joined. absurd (differ e (sym is ∙ d))
-  where
-    differ : (e : Envelope) → ◌≡◌ {A = Done} (speaks name line) (sends e) → ⊥
-    differ e h = cc
-deed_said (Err f) event name line reader conn posts posts' old new is = tt
-
-pub deed_ended : {T F : Type 0} (r : Result T F) (event : ReaderEvent) (name : List ℕ) (reader conn : ℕ) (posts posts' : List Post) (old new : List Event) → done_of event ≡ tells_end name
-    → OnOk r ((e : Envelope) → done_of event ≡ sends e → conn < length posts → IsSent (Reader reader) e conn posts posts' old new)
-deed_ended (Ok x) event name reader conn posts posts' old new is = λ e d joined. absurd (differ e (sym is ∙ d))
-  where
-    differ : (e : Envelope) → ◌≡◌ {A = Done} (tells_end name) (sends e) → ⊥
-    differ e h = cc
-deed_ended (Err f) event name reader conn posts posts' old new is = tt

@@ -10,13 +10,19 @@ use Rattle.atspi_trace.specs.World.{Standing, here, stopped, away, Said, End, Wo
 use Rattle.atspi_trace.specs.Ends.{end_at, end_if, end_of, conn_of}
 use Rattle.atspi_trace.specs.Causes.{Cause, does, routes, unjoins, missing}
 use Rattle.atspi_trace.specs.Work.{Work, resting, doing, moving_up, moving_down, turning, draining, Next, cause, rests, moved_up, next_up, of_end, next_of, with_conn, moving, if_started, no_more}
-use Rattle.atspi_trace.specs.Works.{Works, at_rest, caused}
+use Rattle.atspi_trace.specs.Works as works
+use Rattle.atspi_trace.specs.Works.{Works}
 use Rattle.atspi_carrying.specs.Carried.{standing_at, post_of}
 use Rattle.atspi_carrying.specs.Segments.{IsWorked}
 use Rattle.atspi_carrying.specs.Moving.{MovesAt, MovesAll}
+use Rattle.atspi_carrying.proofs.Staying.{lives_so}
 use Rattle.atspi_carrying.proofs.Ties.{post_at}
-use Rattle.atspi_stage.specs.Lines.{IsSegment, WorkDone, LineDone}
-use Rattle.atspi_stage.specs.Worlds.{Staged, IsWorld, IsAfter}
+use Rattle.atspi_protocol.specs.following.ReaderState.{ReaderState}
+use Rattle.atspi_play.specs.Playing.{Playing}
+use Rattle.atspi_play.specs.Plays.{plays}
+use Rattle.atspi_play.specs.Played.{PlaysOut, at_rest, caused}
+use Rattle.atspi_stage.specs.Lines.{IsSegment, WorkDone, WorkOf}
+use Rattle.atspi_stage.specs.Worlds.{Staged, IsPlaying, Happens}
 use Rattle.atspi_stage.proofs.Changed.{part_of}
 use Rattle.atspi_stage.proofs.Conns.{conn_end}
 use Rattle.atspi_stage.proofs.Lining.{Finds, found_is}
@@ -78,32 +84,48 @@ bus_keeps w (unjoins conn) b = record { parts = ends_parts (record { bus = w.bus
 bus_keeps w c b = absurd b
 
 works_keep : (w u : World) (work : Work) (es : List Entry) → Works w work es u → IsUp work → Keeps w u
-works_keep _ _ _ _ (at_rest w v work e) up = subst (GoesUp w) e (work_goes w work up)
-works_keep _ _ _ _ (caused w v u work left c more e h) up =
+works_keep _ _ _ _ (works.at_rest w v work e) up = subst (GoesUp w) e (work_goes w work up)
+works_keep _ _ _ _ (works.caused w v u work left c more e h) up =
     let g = subst (GoesUp w) e (work_goes w work up) in
     both_keep w v u (subst (Keeps w) (sym g.0) (same_keeps w)) (both_keep v (does v c).world u (bus_keeps v c g.1) (works_keep (does v c).world u left more h g.2))
 
+-- the bus's causes do in a world whose readers are those of their own definitions what they do in any
+bus_plays : (readers : List ReaderState) (w v u : World) (work left : Work) (c : Cause) (more : List Entry) → IsOfBus c → next_of w work ≡ cause c v left
+    → PlaysOut (record { world = (does v c).world; readers = readers }) left more (record { world = u; readers = readers })
+    → PlaysOut (record { world = w; readers = readers }) work ((does v c).entries ++ more) (record { world = u; readers = readers })
+bus_plays readers w v u work left (routes conn) more of_bus next rest = caused (record { world = w; readers = readers }) (record { world = u; readers = readers }) v work left (routes conn) more next rest
+bus_plays readers w v u work left (unjoins conn) more of_bus next rest = caused (record { world = w; readers = readers }) (record { world = u; readers = readers }) v work left (unjoins conn) more next rest
+bus_plays readers w v u work left c more of_bus next rest = absurd of_bus
+
+works_play : (readers : List ReaderState) (w u : World) (work : Work) (es : List Entry) → Works w work es u → IsUp work
+    → PlaysOut (record { world = w; readers = readers }) work es (record { world = u; readers = readers })
+works_play readers _ _ _ _ (works.at_rest w v work e) up = at_rest (record { world = w; readers = readers }) v work e
+works_play readers _ _ _ _ (works.caused w v u work left c more e h) up =
+    let g = subst (GoesUp w) e (work_goes w work up) in
+    bus_plays readers w v u work left c more g.1 e (works_play readers (does v c).world u left more h g.2)
+
 -- WHAT WAS MOVED UP, as the whole world sees it
-pub move_world : (w : World) (conn count : ℕ) (old new : Staged) → IsWorld w old → IsWorked w (moving_up conn count) new.bus new.posts old.trace new.trace → new.apps ≡ old.apps → new.readers ≡ old.readers
-    → Beside old new → IsSegment w (moving_up conn count) old new
-move_world w conn count old new is worked apps readers beside =
-    let kept = works_keep w worked.after (moving_up conn count) worked.entries worked.works tt in
+pub move_world : (p : Playing) (conn count : ℕ) (old new : Staged) → IsPlaying p old → IsWorked p.world (moving_up conn count) new.bus new.posts old.given new.given old.trace new.trace
+    → new.apps ≡ old.apps → new.readers ≡ old.readers → Beside old new → IsSegment p (moving_up conn count) old new
+move_world p conn count old new is worked apps readers beside =
+    let links = worked.linked is.is.linked in
+    let kept = works_keep p.world worked.after (moving_up conn count) worked.entries worked.works tt in
     record {
-      after = worked.after;
+      after = record p { world = worked.after };
       entries = worked.entries;
-      works = worked.works;
-      is = same_world w worked.after old new is kept.parts kept.swaps worked.tied apps readers beside;
+      plays = works_play p.readers p.world worked.after (moving_up conn count) worked.entries worked.works tt;
+      is = record { is = same_world p.world worked.after old new is.is kept.parts kept.swaps worked.tied links (lives_so worked.after new.given links) apps readers beside; readers = readers ∙ is.readers };
       wrote = worked.wrote;
     }
 
 -- where nothing moves
-still : (w v : World) (work : Work) (s : Staged) → next_of w work ≡ rests w → IsWorld w s → IsSegment w work s s
-still w v work s e is = record { after = w; entries = []; works = at_rest w w work e; is = is; wrote = sym (append-nil (entries_of s.trace)) }
+still : (p : Playing) (work : Work) (s : Staged) → next_of p.world work ≡ rests p.world → IsPlaying p s → IsSegment p work s s
+still p work s e is = record { after = p; entries = []; plays = at_rest p p.world work e; is = is; wrote = sym (append-nil (entries_of s.trace)) }
 
 standing_next : (w : World) (conn count : ℕ) (e : End) (s : Standing) → end_at w.ends conn ≡ Some e → e.standing ≡ s → next_of w (moving_up conn count) ≡ next_up w conn count s e.up_moved e.up
 standing_next w conn count e s at is = ap (λ o. of_end w o (λ x. next_up w conn count x.standing x.up_moved x.up)) at ∙ ap (λ t. next_up w conn count t e.up_moved e.up) is
 
-stopped_is : (s : Standing) → standing_at s ≡ Stopped → s ≡ stopped
+pub stopped_is : (s : Standing) → standing_at s ≡ Stopped → s ≡ stopped
 stopped_is here h = absurd cc
 stopped_is stopped h = refl
 stopped_is away h = absurd cc
@@ -114,53 +136,57 @@ away_is stopped h = absurd cc
 away_is away h = refl
 
 -- THE LINE'S END, by how it stands
-pub up_here : (w : World) (conn count : ℕ) (e : End) (p : Post) (old new : Staged) → IsWorld w old → end_at w.ends conn ≡ Some e → p ≡ post_of e → p.standing ≡ Here
-    → MovesAll old.bus new.bus old.posts new.posts conn count old.trace new.trace → new.apps ≡ old.apps → new.readers ≡ old.readers → Beside old new → IsSegment w (moving_up conn count) old new
-up_here w conn count e p old new is at p_is stands moves_ apps readers beside =
-    let there : MovesAt old.posts conn = record { post = p; there = post_at w old.bus old.posts conn e is.carried at ∙ ap Some (sym p_is); moves = inl stands } in
-    move_world w conn count old new is (moves_ w is.carried there) apps readers beside
+pub up_here : (p : Playing) (conn count : ℕ) (e : End) (post : Post) (old new : Staged) → IsPlaying p old → end_at p.world.ends conn ≡ Some e → post ≡ post_of e → post.standing ≡ Here
+    → MovesAll old.bus new.bus old.posts new.posts old.given new.given conn count old.trace new.trace → new.apps ≡ old.apps → new.readers ≡ old.readers → Beside old new → IsSegment p (moving_up conn count) old new
+up_here p conn count e post old new is at post_is stands moves_ apps readers beside =
+    let there : MovesAt old.posts conn = record { post = post; there = post_at p.world old.bus old.posts conn e is.is.carried at ∙ ap Some (sym post_is); moves = inl stands } in
+    move_world p conn count old new is (moves_ p.world is.is.carried there) apps readers beside
 
-pub up_stopped_none : (w : World) (conn count : ℕ) (e : End) (p : Post) (s : Staged) → IsWorld w s → end_at w.ends conn ≡ Some e → p ≡ post_of e → p.standing ≡ Stopped → count ≡ 0 → IsSegment w (moving_up conn count) s s
-up_stopped_none w conn zero e p s is at p_is stands none =
-    still w w (moving_up conn 0) s (standing_next w conn 0 e stopped at (stopped_is e.standing (ap (λ (q : Post). q.standing) (sym p_is) ∙ stands))) is
-up_stopped_none w conn (suc count) e p s is at p_is stands none = absurd cc
+pub up_stopped_none : (p : Playing) (conn count : ℕ) (e : End) (post : Post) (s : Staged) → IsPlaying p s → end_at p.world.ends conn ≡ Some e → post ≡ post_of e → post.standing ≡ Stopped → count ≡ 0 → IsSegment p (moving_up conn count) s s
+up_stopped_none p conn zero e post s is at post_is stands none =
+    still p (moving_up conn 0) s (standing_next p.world conn 0 e stopped at (stopped_is e.standing (ap (λ (q : Post). q.standing) (sym post_is) ∙ stands))) is
+up_stopped_none p conn (suc count) e post s is at post_is stands none = absurd cc
 
-pub up_stopped : (w : World) (conn count : ℕ) (e : End) (p : Post) (old new : Staged) → IsWorld w old → end_at w.ends conn ≡ Some e → p ≡ post_of e → p.standing ≡ Stopped → (count ≡ 0 → ⊥)
-    → IsAfter (does w (unjoins conn)) old new → IsSegment w (moving_up conn count) old new
-up_stopped w conn zero e p old new is at p_is stands some after_ = absurd (some refl)
-up_stopped w conn (suc count) e p old new is at p_is stands some after_ =
-    let next = standing_next w conn (suc count) e stopped at (stopped_is e.standing (ap (λ (q : Post). q.standing) (sym p_is) ∙ stands)) in
-    let d = does w (unjoins conn) in
+pub up_stopped : (p : Playing) (conn count : ℕ) (e : End) (post : Post) (old new : Staged) → IsPlaying p old → end_at p.world.ends conn ≡ Some e → post ≡ post_of e → post.standing ≡ Stopped → (count ≡ 0 → ⊥)
+    → Happens (plays p (unjoins conn)) old new → IsSegment p (moving_up conn count) old new
+up_stopped p conn zero e post old new is at post_is stands some after_ = absurd (some refl)
+up_stopped p conn (suc count) e post old new is at post_is stands some after_ =
+    let next = standing_next p.world conn (suc count) e stopped at (stopped_is e.standing (ap (λ (q : Post). q.standing) (sym post_is) ∙ stands)) in
+    let d = plays p (unjoins conn) in
     record {
-      after = d.world;
+      after = d.now;
       entries = d.entries ++ [];
-      works = caused w w d.world (moving_up conn (suc count)) resting (unjoins conn) [] next (at_rest d.world d.world resting refl);
+      plays = caused p d.now p.world (moving_up conn (suc count)) resting (unjoins conn) [] next (at_rest d.now d.now.world resting refl);
       is = after_.is;
       wrote = after_.wrote ∙ ap (λ l. entries_of old.trace ++ l) (sym (append-nil d.entries));
     }
 
-pub up_away : (w : World) (conn count : ℕ) (e : End) (p : Post) (s : Staged) → IsWorld w s → end_at w.ends conn ≡ Some e → p ≡ post_of e → p.standing ≡ Away → IsSegment w (moving_up conn count) s s
-up_away w conn count e p s is at p_is stands =
-    still w w (moving_up conn count) s (standing_next w conn count e away at (away_is e.standing (ap (λ (q : Post). q.standing) (sym p_is) ∙ stands))) is
+pub up_away : (p : Playing) (conn count : ℕ) (e : End) (post : Post) (s : Staged) → IsPlaying p s → end_at p.world.ends conn ≡ Some e → post ≡ post_of e → post.standing ≡ Away → IsSegment p (moving_up conn count) s s
+up_away p conn count e post s is at post_is stands =
+    still p (moving_up conn count) s (standing_next p.world conn count e away at (away_is e.standing (ap (λ (q : Post). q.standing) (sym post_is) ∙ stands))) is
 
 -- a party that was not started is refused
-pub bytes_none : (who : Party) (up : Bool) (count : ℕ) (s : Staged) → Finds None who s.posts → LineDone (lines.Bytes who up count) s s
-bytes_none who up count s found = λ w is free. absurd (refused (end_of w.ends who) (ap (end_if w.ends) (found_is w s who None is found)) free)
+pub bytes_none : (who : Party) (up : Bool) (count : ℕ) (old new : Staged) → Finds None who old.posts → WorkOf (lines.Bytes who up count) old new
+bytes_none who up count old new found = λ p is free. absurd (refused (end_of p.world.ends who) (ap (end_if p.world.ends) (found_is p.world old who None is.is found)) free)
   where
     refused : (o : Option End) → o ≡ None → if_started o no_more ≡ None → ⊥
     refused None e h = cc
     refused (Some x) e h = cc
 
-pub bytes_up_some : (who : Party) (up : Bool) (count conn : ℕ) (old new : Staged) → up ≡ true → Finds (Some conn) who old.posts
-    → ((w : World) (e : End) → IsWorld w old → end_at w.ends conn ≡ Some e → IsSegment w (moving_up conn count) old new) → LineDone (lines.Bytes who up count) old new
-bytes_up_some who up count conn old new goes_up found does_ = λ w is free.
-    let there = found_is w old who (Some conn) is found in
-    let e = conn_end w.ends who conn there in
-    subst (λ o. WorkDone w (with_conn o (moving up count)) old new) (sym there) (subst (λ u. WorkDone w (moving u count conn) old new) (sym goes_up) (does_ w e.0 is e.1))
+-- bytes of one that was, up or down
+bytes_some : (who : Party) (up : Bool) (count conn : ℕ) (old new : Staged) → Finds (Some conn) who old.posts
+    → ((p : Playing) (e : End) → IsPlaying p old → end_at p.world.ends conn ≡ Some e → WorkDone p (moving up count conn) old new) → WorkOf (lines.Bytes who up count) old new
+bytes_some who up count conn old new found does_ = λ p is free.
+    let there = found_is p.world old who (Some conn) is.is found in
+    let e = conn_end p.world.ends who conn there in
+    subst (λ o. WorkDone p (with_conn o (moving up count)) old new) (sym there) (does_ p e.0 is e.1)
 
-pub bytes_down : (who : Party) (up : Bool) (count : ℕ) (old new : Staged) → up ≡ false → LineDone (lines.Bytes who up count) old new
-bytes_down who up count old new goes_down = λ w is free. by w (conn_of w.ends who) free
-  where
-    by : (w : World) (o : Option ℕ) → if_started (end_if w.ends o) no_more ≡ None → WorkDone w (with_conn o (moving up count)) old new
-    by w None h = absurd cc
-    by w (Some conn) h = subst (λ u. WorkDone w (moving u count conn) old new) (sym goes_down) tt
+pub bytes_up_some : (who : Party) (up : Bool) (count conn : ℕ) (old new : Staged) → up ≡ true → Finds (Some conn) who old.posts
+    → ((p : Playing) (e : End) → IsPlaying p old → end_at p.world.ends conn ≡ Some e → IsSegment p (moving_up conn count) old new) → WorkOf (lines.Bytes who up count) old new
+bytes_up_some who up count conn old new goes_up found does_ =
+    bytes_some who up count conn old new found (λ p e is at. subst (λ u. WorkDone p (moving u count conn) old new) (sym goes_up) (does_ p e is at))
+
+pub bytes_down_some : (who : Party) (up : Bool) (count conn : ℕ) (old new : Staged) → up ≡ false → Finds (Some conn) who old.posts
+    → ((p : Playing) (e : End) → IsPlaying p old → end_at p.world.ends conn ≡ Some e → IsSegment p (moving_down conn count) old new) → WorkOf (lines.Bytes who up count) old new
+bytes_down_some who up count conn old new goes_down found does_ =
+    bytes_some who up count conn old new found (λ p e is at. subst (λ u. WorkDone p (moving u count conn) old new) (sym goes_down) (does_ p e is at))

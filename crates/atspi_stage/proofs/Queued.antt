@@ -1,18 +1,14 @@
 -- What an end queued, told one thing after another.
-use Rattle.std.proofs.Common.{◌≡◌, ℕ, zero, suc, ◌<◌, List, [], ◌∷◌, ◌++◌, length, map, take, drop, refl, sym, ap, ◌∙◌, subst, append-nil, append_assoc}
+use Rattle.std.proofs.Common.{◌≡◌, ℕ, List, [], ◌∷◌, ◌++◌, length, map, take, drop, refl, sym, ap, ◌∙◌, subst, append-nil, append_assoc}
 use Rattle.std.specs.Prelude.{Option, None, Some, MatchOption}
 use Rattle.std.specs.List.{AllByRecursion}
-use Rattle.atspi_lines.specs.declared.line.Party.TheVariants.{Reader}
-use Rattle.atspi_message.specs.Envelope.{Envelope}
 use Rattle.atspi_protocol.specs.exporting.Exporter.{Happening, Exporter}
-use Rattle.atspi_protocol.specs.following.ReaderState.{Done, sends, speaks, tells_end, ReaderState}
+use Rattle.atspi_protocol.specs.following.ReaderState.{ReaderState}
 use Rattle.atspi_events.specs.declared.event.Event.{Event}
 use Rattle.atspi_posts.specs.declared.post.Post.{Post}
-use Rattle.atspi_trace.specs.Entry.{entries_of, sent}
+use Rattle.atspi_trace.specs.Entry.{entries_of}
 use Rattle.atspi_trace.specs.Causes.{did}
-use Rattle.atspi_carrying.specs.Changes.{changed_at}
-use Rattle.atspi_carrying.proofs.Changes.{length-changed}
-use Rattle.atspi_stage.specs.Doing.{sent_on, IsSent, said_on, all_said, quiet, silent, CanBeWritten, IsTold, TellsAt, OnlySends, messages, all_sent, AreSent, SendsAll, TellsReaderAt}
+use Rattle.atspi_stage.specs.Doing.{said_on, all_said, quiet, CanBeWritten, IsTold, TellsAt, TellsReaderAt}
 
 -- an application that queued nothing told all
 pub told_none : (s t : Exporter) (number : ℕ) (p : Post) (trace : List Event) → s.out ≡ [] → t.out ≡ s.out → t ≡ record s { out = t.out } → IsTold s t number p p trace trace
@@ -33,47 +29,6 @@ told_more s t after h number p p' q old mid new front rest put wrote can told = 
       ∙ ap (λ o. entries_of old ++ map (did number) o) (sym front);
   written_ = subst (AllByRecursion CanBeWritten) (sym front) (can, told.written_);
 }
-
-changed_none : (conn : ℕ) (posts : List Post) → changed_at conn (all_sent []) posts ≡ posts
-changed_none zero [] = refl
-changed_none (suc conn) [] = refl
-changed_none zero (p ∷ ps) = refl
-changed_none (suc conn) (p ∷ ps) = ap (λ l. p ∷ l) (changed_none conn ps)
-
-changed_more : (e : Envelope) (es : List Envelope) (conn : ℕ) (posts : List Post) → changed_at conn (all_sent es) (changed_at conn (sent_on e) posts) ≡ changed_at conn (all_sent (e ∷ es)) posts
-changed_more e es zero [] = refl
-changed_more e es (suc conn) [] = refl
-changed_more e es zero (p ∷ ps) = refl
-changed_more e es (suc conn) (p ∷ ps) = ap (λ l. p ∷ l) (changed_more e es conn ps)
-
--- a reader that queued nothing is silent
-pub silent_none : (s t first : ReaderState) → t ≡ s → s.out ≡ [] → silent s ≡ silent first → t ≡ silent first
-silent_none s t first same none stays = same ∙ ap (λ o. record s { out = o }) none ∙ stays
-
--- the same of a reader that queued messages alone
-pub sends_none : (s : ReaderState) (reader conn : ℕ) (posts : List Post) (trace : List Event) → s.out ≡ [] → SendsAll s reader conn posts posts trace trace
-sends_none s reader conn posts trace none = λ only joined.
-    let nothing : AreSent reader [] conn posts posts trace trace = record { posts_are = sym (changed_none conn posts); wrote = sym (append-nil (entries_of trace)); written_ = tt } in
-    subst (λ o. AreSent reader (messages o) conn posts posts trace trace) (sym none) nothing
-
-pub sends_more : (s t : ReaderState) (d : Done) (reader conn : ℕ) (posts posts' posts'' : List Post) (old mid new : List Event) → s.out ≡ d ∷ t.out
-    → ((e : Envelope) → d ≡ sends e → conn < length posts → IsSent (Reader reader) e conn posts posts' old mid) → SendsAll t reader conn posts' posts'' mid new → SendsAll s reader conn posts posts'' old new
-sends_more s t d reader conn posts posts' posts'' old mid new front one rest = λ only joined.
-    subst (λ o. AreSent reader (messages o) conn posts posts'' old new) (sym front) (by d one (subst OnlySends front only) joined)
-  where
-    by : (x : Done) → ((e : Envelope) → x ≡ sends e → conn < length posts → IsSent (Reader reader) e conn posts posts' old mid) → OnlySends (x ∷ t.out) → conn < length posts
-        → AreSent reader (messages (x ∷ t.out)) conn posts posts'' old new
-    by (sends e) h only joined =
-        let first = h e refl joined in
-        let all = rest only (subst (λ n. conn < n) (sym (ap length first.posts_are ∙ length-changed (sent_on e) posts conn)) joined) in
-        record {
-          posts_are = all.posts_are ∙ ap (changed_at conn (all_sent (messages t.out))) first.posts_are ∙ changed_more e (messages t.out) conn posts;
-          wrote = all.wrote ∙ ap (λ l. l ++ map (sent (Reader reader)) (messages t.out)) first.wrote
-              ∙ append_assoc (entries_of old) (sent (Reader reader) e ∷ []) (map (sent (Reader reader)) (messages t.out));
-          written_ = (first.written_, all.written_);
-        }
-    by (speaks name line) h only joined = absurd only
-    by (tells_end name) h only joined = absurd only
 
 -- nothing was handed out
 pub none_given : {X : Type 0} (r : Option X) (P : Type 0) (Q : X → Type 0) → ((x : X) → r ≡ Some x → ⊥) → MatchOption r P Q → P

@@ -11,12 +11,16 @@ use Rattle.atspi_routing.specs.Queues.{Waiting, without_queue}
 use Rattle.atspi_trace.specs.Rules.{rule_in}
 use Rattle.atspi_trace.specs.World.{Said, Letter, End, World}
 use Rattle.atspi_trace.specs.Ends.{end_at, with_end, put_down, taken_up, leaves}
-use Rattle.atspi_trace.specs.Causes.{Done, does, on_end, routed, routes, unjoins}
+use Rattle.atspi_trace.specs.Causes.{does, on_end, routed, routes, unjoins}
 use Rattle.atspi_trace.specs.Carrying.{Carried, Filled, letter_of, own_letter, grew, with_letter, moved, stepped, left, one_closed, settled, named, with_name, takes, takes_end}
 use Rattle.atspi_carrying.specs.Carried.{IsDone}
-use Rattle.atspi_stage.specs.Worlds.{Staged, IsWorld, IsAfter}
+use Rattle.atspi_carrying.specs.Linked.{IsLinked}
+use Rattle.atspi_carrying.proofs.Staying.{lives_so}
+use Rattle.atspi_play.specs.Playing.{Playing}
+use Rattle.atspi_play.specs.Plays.{plays}
+use Rattle.atspi_stage.specs.Worlds.{Staged, IsPlaying, Happens}
 use Rattle.atspi_stage.proofs.Changed.{part_of}
-use Rattle.atspi_stage.proofs.Stays.{Beside, parts_kept, same_world}
+use Rattle.atspi_stage.proofs.Stays.{Beside, parts_kept, same_world, only_happens}
 
 letter_parts : (letter : Envelope → Letter) (b a : Waiting) (move : Move) (ends : List End) → map part_of (with_letter letter b a move ends) ≡ map part_of ends
 letter_parts letter b a (delivers conn m) ends = by (grew conn b a)
@@ -69,21 +73,10 @@ routes_parts w conn = by (end_at w.ends conn)
     by None = (refl, refl)
     by (Some e) = link e.who e.up
 
--- the bus took a message of an end
-pub route_world : (w : World) (conn : ℕ) (e : End) (said : Said) (rest : List Said) (old new : Staged) → IsWorld w old → end_at w.ends conn ≡ Some e → e.up ≡ said ∷ rest
-    → IsDone (does w (routes conn)) new.bus new.posts old.trace new.trace → new.apps ≡ old.apps → new.readers ≡ old.readers → Beside old new → IsAfter (does w (routes conn)) old new
-route_world w conn e said rest old new is at up done apps readers beside =
-    let does_is = ap (λ o. on_end w o (λ x. routed w conn x.who x.up)) at ∙ ap (routed w conn e.who) up in
-    record {
-      is = same_world w (does w (routes conn)).world old new is
-          (ap (λ (d : Done). map part_of d.world.ends) does_is ∙ takes_parts (record { bus = w.bus; ends = w.ends }) conn e.who said) (ap (λ (d : Done). d.world.swaps) does_is) done.tied apps readers beside;
-      wrote = done.wrote;
-    }
-
 -- the bus took an end that stopped
-pub part_world : (w : World) (conn : ℕ) (old new : Staged) → IsWorld w old → IsDone (does w (unjoins conn)) new.bus new.posts old.trace new.trace → new.apps ≡ old.apps → new.readers ≡ old.readers → Beside old new
-    → IsAfter (does w (unjoins conn)) old new
-part_world w conn old new is done apps readers beside = record {
-  is = same_world w (does w (unjoins conn)).world old new is (ends_parts (record { bus = w.bus; ends = w.ends }) conn) refl done.tied apps readers beside;
-  wrote = done.wrote;
-}
+pub part_world : (p : Playing) (conn : ℕ) (old new : Staged) → IsPlaying p old → IsDone (does p.world (unjoins conn)) new.bus new.posts old.trace new.trace → IsLinked (does p.world (unjoins conn)).world new.given
+    → new.apps ≡ old.apps → new.readers ≡ old.readers → Beside old new → Happens (plays p (unjoins conn)) old new
+part_world p conn old new is done linked apps readers beside =
+    only_happens p (does p.world (unjoins conn)) old new is
+    (same_world p.world (does p.world (unjoins conn)).world old new is.is (ends_parts (record { bus = p.world.bus; ends = p.world.ends }) conn) refl done.tied linked
+    (lives_so (does p.world (unjoins conn)).world new.given linked) apps readers beside) readers done.wrote

@@ -23,20 +23,24 @@ use Rattle.atspi_posts.specs.declared.post.Post.{Post}
 use Rattle.atspi_trace.specs.Entry.{Entry, entries_of}
 use Rattle.atspi_trace.specs.World.{an_application, Said, End, World}
 use Rattle.atspi_trace.specs.Ends.{number_of, whose, party_at, conn_of, end_at, end_if}
-use Rattle.atspi_trace.specs.Causes.{saids, announced_if, has_done, did, app_did, edited, edited_to, on_end, edits, does}
+use Rattle.atspi_trace.specs.Causes.{at_end, saids, announced_if, has_done, did, app_did, edited, edited_to, on_end, edits, does}
 use Rattle.atspi_trace.specs.Rules.{rule_in}
 use Rattle.atspi_bus_steps.specs.Spoken.{IsRuleNamed}
 use Rattle.atspi_carrying.specs.Carried.{bytes_up, post_of, IsSendable, AreSendable, HasMark, IsCarried, IsDone}
+use Rattle.atspi_carrying.specs.Linked.{IsLinked}
+use Rattle.atspi_carrying.proofs.Linked.{LeavesDown, linked_same}
 use Rattle.atspi_carrying.proofs.Changes.{map-changed_known}
 use Rattle.atspi_carrying.proofs.Views.{with-changed, all_with, within_more}
 use Rattle.atspi_carrying.proofs.Downs.{wait_same}
 use Rattle.atspi_carrying.proofs.Ties.{post_at}
+use Rattle.atspi_play.specs.Playing.{Playing}
+use Rattle.atspi_play.specs.Plays.{only, plays}
 use Rattle.atspi_stage.specs.Doing.{all_said, quiet, CanBeWritten, EditsAt, TellsAt}
-use Rattle.atspi_stage.specs.Worlds.{Staged, IsWorld, IsAfter}
+use Rattle.atspi_stage.specs.Worlds.{Staged, IsWorld, IsPlaying, Happens}
 use Rattle.atspi_stage.proofs.Conns.{conn_end, conn_who}
 use Rattle.atspi_stage.proofs.Plays.{get_set}
 use Rattle.atspi_stage.proofs.Signals.{all-append, SendsSignal, edited_signals}
-use Rattle.atspi_stage.proofs.Stays.{Beside, app_world}
+use Rattle.atspi_stage.proofs.Stays.{Beside, app_world, only_happens}
 
 pub up-append : (xs ys : List Said) → bytes_up (xs ++ ys) ≡ bytes_up xs ++ bytes_up ys
 up-append [] ys = refl
@@ -103,10 +107,16 @@ set_set [] (suc i) y z = refl
 set_set (x ∷ xs) zero y z = refl
 set_set (x ∷ xs) (suc i) y z = ap (λ l. x ∷ l) (set_set xs i y z)
 
+-- what an application did changes none of its down link
+pub done_leaves : (s t : Exporter) → LeavesDown (has_done s t)
+done_leaves s t = λ e. (refl, refl, refl, refl, refl)
+
 -- an application made an edit, and that is told
-pub edit_world : (w : World) (conn a : ℕ) (edit : Edit) (old new : Staged) (apps : List Exporter) → IsWorld w old → conn_of w.ends (App a) ≡ Some conn → EditsAt old.apps apps a edit
-    → TellsAt apps new.apps a conn old.posts new.posts old.trace new.trace → new.bus ≡ old.bus → new.readers ≡ old.readers → Beside old new → IsAfter (does w (edits conn edit)) old new
-edit_world w conn a edit old new apps is there edited_ tells bus readers beside =
+pub edit_world : (p : Playing) (conn a : ℕ) (edit : Edit) (old new : Staged) (apps : List Exporter) → IsPlaying p old → conn_of p.world.ends (App a) ≡ Some conn → EditsAt old.apps apps a edit
+    → TellsAt apps new.apps a conn old.posts new.posts old.trace new.trace → new.bus ≡ old.bus → new.given ≡ old.given → new.readers ≡ old.readers → Beside old new → Happens (plays p (edits conn edit)) old new
+edit_world p conn a edit old new apps playing there edited_ tells bus given readers beside =
+    let w : World = p.world in
+    let is : IsWorld w old = playing.is in
     let found = conn_end w.ends (App a) conn there in
     let e : End = found.0 in
     let at : end_at w.ends conn ≡ Some e = found.1 in
@@ -118,10 +128,12 @@ edit_world w conn a edit old new apps is there edited_ tells bus readers beside 
     let few : a < length old.apps = slice_get_within old.apps a s play.there in
     let put : slice_get apps a ≡ Some t = ap (λ l. slice_get l a) d.apps ∙ get_set old.apps a t few in
     let told = tells t (post_of e) put (post_at w old.bus old.posts conn e is.carried at) in
+    let v : World = at_end w conn (has_done s t) in
     let done : IsDone (app_did w conn [] s t) new.bus new.posts old.trace new.trace =
     told_done w conn a e [] s t old.bus new.bus old.posts new.posts old.trace new.trace is.carried at who
     (signals_sendable s s.tree None t.out told.written_ (edited_signals s t edit play.plays.quiet d.edited)) bus told.posts_are told.wrote in
-    let after_ : IsWorld (app_did w conn [] s t).world new =
-    app_world w conn a e (has_done s t) (quiet t) old new (λ y. refl) (record { role_is = refl; quiet = refl }) is there at done.tied few
+    let linked : IsLinked v new.given = subst (IsLinked v) (sym given) (linked_same w conn (has_done s t) old.given (done_leaves s t) is.linked) in
+    let after_ : IsWorld v new =
+    app_world w v conn a e (has_done s t) (quiet t) old new (record { ends = refl; swaps = refl; who = λ y. refl }) (record { role_is = refl; quiet = refl }) is there at done.tied linked few
     (told.apps ∙ ap (λ l. set l a (quiet t)) d.apps ∙ set_set old.apps a t (quiet t)) readers beside in
-    subst (λ x. IsAfter x old new) (sym (does-edits w conn edit e s t at play.plays.role_is d.edited)) (record { is = after_; wrote = done.wrote })
+    subst (λ x. Happens (only p x) old new) (sym (does-edits w conn edit e s t at play.plays.role_is d.edited)) (only_happens p (app_did w conn [] s t) old new playing after_ readers done.wrote)

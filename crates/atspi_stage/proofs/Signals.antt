@@ -79,7 +79,7 @@ sent_signals : (ss : List Signal) → AllByRecursion IsSignal ss → AllByRecurs
 sent_signals [] a = tt
 sent_signals (s ∷ ss) a = (a.0, sent_signals ss a.1)
 
-steps_signals : (heard : List (List ℕ × List ℕ)) (bus : List ℕ) (f : Forest TreeRow) (ss : List Step) → AllByRecursion SendsSignal (steps_told heard bus f ss)
+pub steps_signals : (heard : List (List ℕ × List ℕ)) (bus : List ℕ) (f : Forest TreeRow) (ss : List Step) → AllByRecursion SendsSignal (steps_told heard bus f ss)
 steps_signals heard bus f [] = tt
 steps_signals heard bus f (step ∷ more) =
     all-append SendsSignal (step_told heard bus f step) (steps_told heard bus (after rows f step) more)

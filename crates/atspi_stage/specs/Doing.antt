@@ -1,5 +1,5 @@
 -- What an end did, put on its link and into the trace.
-use Rattle.std.specs.Prelude.{◌≡◌, ◌<◌, ℕ, List, [], ◌∷◌, ◌++◌, length, map, slice_get, slice_set, Option, Some, Ok}
+use Rattle.std.specs.Prelude.{◌≡◌, ◌<◌, ℕ, List, [], ◌∷◌, ◌++◌, flat_map, length, map, slice_get, slice_set, Option, Some, Ok}
 use Rattle.std.specs.List.{AllByRecursion}
 use Rattle.atspi_forest.specs.declared.edit.Edit.{Edit}
 use Rattle.atspi_lines.specs.declared.deed.Deed.{Deed}
@@ -16,9 +16,12 @@ use Rattle.atspi_protocol.specs.following.Takes.{reader_calls}
 use Rattle.atspi_protocol.specs.registering.Steps.{Registry}
 use Rattle.atspi_events.specs.declared.event.Event.{Event}
 use Rattle.atspi_posts.specs.declared.post.Post.{Post}
-use Rattle.atspi_trace.specs.Entry.{sent, entries_of}
+use Rattle.atspi_trace.specs.Entry.{Entry, sent, spoke, gone, entries_of}
 use Rattle.atspi_trace.specs.Causes.{did}
 use Rattle.atspi_carrying.specs.Changes.{changed_at}
+use Rattle.atspi_carrying.specs.Named.{app_named}
+use Rattle.atspi_play.specs.Plays.{of_app}
+use Rattle.atspi_play.specs.Playing.{silent}
 
 -- a connection with a message that was sent
 abbrev pub sent_on : Envelope → Post → Post
@@ -78,12 +81,11 @@ pub record IsEditedAt (before after : List Exporter) (a : ℕ) (edit : Edit) (s 
 abbrev pub EditsAt : List Exporter → List Exporter → ℕ → Edit → Type 0
 EditsAt before after a edit = (s : Exporter) → slice_get before a ≡ Some s → IsEditedAt before after a edit s
 
--- A reader that queued messages alone
-abbrev pub OnlySends : List following.Done → Type 0
-OnlySends [] = Unit {0}
-OnlySends (following.sends e ∷ ds) = OnlySends ds
-OnlySends (speaks name line ∷ ds) = ⊥
-OnlySends (tells_end name ∷ ds) = ⊥
+-- What a reader did, as entries: of an application that it names by a unique name, where that is or was one's
+abbrev pub told_by : ℕ → List Post → following.Done → List Entry
+told_by reader posts (following.sends e) = sent (Reader reader) e ∷ []
+told_by reader posts (speaks name line) = of_app (app_named name posts) (λ app. spoke reader app line)
+told_by reader posts (tells_end name) = of_app (app_named name posts) (λ app. gone reader app)
 
 -- the messages that it queued
 abbrev pub messages : List following.Done → List Envelope
@@ -96,22 +98,23 @@ abbrev pub all_sent : List Envelope → Post → Post
 all_sent [] p = p
 all_sent (e ∷ es) p = all_sent es (sent_on e p)
 
-abbrev pub silent : ReaderState → ReaderState
-silent s = record s { out = [] }
+-- all that a reader queued is told, and its messages are on its link
+pub record IsToldAll (reader : ℕ) (ds : List following.Done) (conn : ℕ) (posts posts' : List Post) (old new : List Event) : Type 0 where
+  pub posts_are : posts' ≡ changed_at conn (all_sent (messages ds)) posts
+  pub wrote : entries_of new ≡ entries_of old ++ flat_map (told_by reader posts) ds
+  pub written_ : AllByRecursion (λ e. IsMessage e (written e)) (messages ds)
 
--- messages of a reader are on its link and in the trace
-pub record AreSent (reader : ℕ) (es : List Envelope) (conn : ℕ) (posts posts' : List Post) (old new : List Event) : Type 0 where
-  pub posts_are : posts' ≡ changed_at conn (all_sent es) posts
-  pub wrote : entries_of new ≡ entries_of old ++ map (sent (Reader reader)) es
-  pub written_ : AllByRecursion (λ e. IsMessage e (written e)) es
+-- of one thing that it did
+abbrev pub TellsOne : following.Done → ℕ → ℕ → List Post → List Post → List Event → List Event → Type 0
+TellsOne d reader conn posts posts' old new = conn < length posts → IsToldAll reader (d ∷ []) conn posts posts' old new
 
-abbrev pub SendsAll : ReaderState → ℕ → ℕ → List Post → List Post → List Event → List Event → Type 0
-SendsAll s reader conn posts posts' old new = OnlySends s.out → conn < length posts → AreSent reader (messages s.out) conn posts posts' old new
+abbrev pub TellsAll : ReaderState → ℕ → ℕ → List Post → List Post → List Event → List Event → Type 0
+TellsAll s reader conn posts posts' old new = conn < length posts → IsToldAll reader s.out conn posts posts' old new
 
 -- the same of the reader with a number, among all; it has queued nothing then
 pub record IsReaderTold (before after : List ReaderState) (r conn : ℕ) (posts posts' : List Post) (old new : List Event) (s : ReaderState) : Type 0 where
   pub readers : after ≡ slice_set before r (silent s)
-  pub sends : SendsAll s r conn posts posts' old new
+  pub tells : TellsAll s r conn posts posts' old new
 
 abbrev pub TellsReaderAt : List ReaderState → List ReaderState → ℕ → ℕ → List Post → List Post → List Event → List Event → Type 0
 TellsReaderAt before after r conn posts posts' old new = (s : ReaderState) → slice_get before r ≡ Some s → IsReaderTold before after r conn posts posts' old new s

@@ -1,18 +1,25 @@
 -- Why a world refuses a line, as the definitions of traces say it.
-use Rattle.std.specs.Prelude.{◌≡◌, ℕ, ◌+◌, List, map, Option, Result, Err}
+use Rattle.std.specs.Prelude.{◌≡◌, ℕ, ◌+◌, List, map, Option, None, Some, Result, Ok, Err, slice_get}
 use Rattle.atspi_lines.specs.declared.line.Party.{Party}
 use Rattle.atspi_lines.specs.declared.line.Party.TheVariants.{App, Reader}
 use Rattle.atspi_lines.specs.declared.line.Line.{Line}
 use Rattle.atspi_lines.specs.declared.line.Line.TheVariants.{Edit as Edit_line, Call}
+use Rattle.atspi_forest.specs.declared.edit.Edit.{Edit}
+use Rattle.atspi_protocol.specs.exporting.Exporter.{Exporter}
+use Rattle.atspi_protocol.specs.following.ReaderState.{ReaderState}
 use Rattle.atspi_posts.specs.declared.post.Post.{Post}
 use Rattle.atspi_posts.specs.declared.post.Standing as stands
 use Rattle.atspi_posts.specs.declared.post.Standing.TheVariants.{Here, Stopped, Away}
-use Rattle.atspi_trace.specs.World.{Standing, here, stopped, away, End, World}
+use Rattle.atspi_trace.specs.World.{Standing, here, stopped, away, an_application, End, World}
 use Rattle.atspi_trace.specs.Ends.{end_of, app_count, reader_count}
 use Rattle.atspi_trace.specs.Work as work
-use Rattle.atspi_trace.specs.Work.{if_started, if_here, no_more, refused, spare_count}
+use Rattle.atspi_trace.specs.Work.{if_started, if_here, no_more, edit_refusal, refused, spare_count}
+use Rattle.atspi_play.specs.Playing.{Playing, held_by}
+use Rattle.atspi_play.specs.Played as playing
+use Rattle.atspi_play.specs.Played.{if_viewed}
+use Rattle.atspi_stage.specs.Worlds.{Staged, IsPlaying}
 use Rattle.atspi_stage.specs.declared.fault.Refusal.{Refusal}
-use Rattle.atspi_stage.specs.declared.fault.Refusal.TheVariants.{NoParty, Dead, NoKit, NoReader, NoSpare, Late, NotHeld, Edit}
+use Rattle.atspi_stage.specs.declared.fault.Refusal.TheVariants.{NoParty, Dead, NoKit, NoReader, NoSpare, Late, NotHeld, Edit as Edit_refused}
 use Rattle.atspi_stage.specs.declared.fault.ActFault.{ActFault}
 use Rattle.atspi_stage.specs.declared.fault.ActFault.TheVariants.{Refused}
 
@@ -29,7 +36,7 @@ refusal_of NoReader = work.no_reader
 refusal_of NoSpare = work.no_spare
 refusal_of Late = work.late
 refusal_of NotHeld = work.not_held
-refusal_of (Edit fault) = work.of_edit fault
+refusal_of (Edit_refused fault) = work.of_edit fault
 
 -- who an end is, and whether it is there
 abbrev pub seat_of_end : End → Party × Standing
@@ -57,7 +64,28 @@ first_refusal w (Call reader app node deed) =
     if_started (end_of w.ends (Reader reader)) (λ r. if_started (end_of w.ends (App app)) (λ a. if_here r no_more))
 first_refusal w line = refused w line
 
--- it was refused for this
-abbrev pub IsRefusedFor : {A : Type 0} → Result A ActFault → work.Refusal → Type 0
-IsRefusedFor (Err (Refused why)) due = refusal_of why ≡ due
-IsRefusedFor _ due = ⊥
+-- a line of the code's world was refused just for what a world of the definitions refuses it for
+abbrev pub RefusedFor : Line → Refusal → Staged → Type 0
+RefusedFor line why s = (p : Playing) → IsPlaying p s → playing.refused p line ≡ Some (refusal_of why)
+
+-- the same of one that is refused by no more than the edit or the call that it asks for
+abbrev pub RefusedElse : Line → Refusal → Staged → Type 0
+RefusedElse line why s = (p : Playing) → IsPlaying p s → first_refusal p.world line ≡ None → playing.refused p line ≡ Some (refusal_of why)
+
+-- why one of the applications refuses an edit of its user, none where it makes it
+abbrev pub EditIsRefused : Option work.Refusal → List Exporter → ℕ → Edit → Type 0
+EditIsRefused why apps a edit = (s : Exporter) → slice_get apps a ≡ Some s → edit_refusal edit (an_application s) ≡ why
+
+-- and why one of the readers refuses a call of an application that has this name
+abbrev pub CallIsRefused : Option work.Refusal → List ReaderState → ℕ → Option (List ℕ) → Type 0
+CallIsRefused why readers r callee = (s : ReaderState) → slice_get readers r ≡ Some s → if_viewed (held_by (Some s) callee) ≡ why
+
+-- the application is the one at a connection
+abbrev pub CallAtIsRefused : Option work.Refusal → List ReaderState → ℕ → List Post → ℕ → Type 0
+CallAtIsRefused why readers r posts callee = (p : Post) → slice_get posts callee ≡ Some p → CallIsRefused why readers r p.name
+
+-- such a line is not done: it is refused for this, or memory or serials are wanting
+abbrev pub Refuses : {A : Type 0} → Result A ActFault → work.Refusal → Type 0
+Refuses (Ok done) due = ⊥
+Refuses (Err (Refused why)) due = refusal_of why ≡ due
+Refuses (Err fault) due = Unit {0}

@@ -1,30 +1,24 @@
--- Turns of the bus.
-use Rattle.std.specs.Prelude.{◌≡◌, ℕ, zero, suc, List, ◌++◌, Option, None, Some, IsSome}
-use Rattle.atspi_carrying.specs.declared.waiting.Turn.{Turn}
-use Rattle.atspi_carrying.specs.declared.waiting.Turn.TheVariants.{Route, Part}
+-- What is done of a line's work so far, and turns, as far as they were made.
+use Rattle.std.specs.Prelude.{◌≡◌, ℕ, Bool, true, false, List, ◌++◌, None, IsSome}
 use Rattle.atspi_trace.specs.Entry.{Entry, entries_of}
-use Rattle.atspi_trace.specs.World.{World}
-use Rattle.atspi_trace.specs.Causes.{Cause, does, routes, unjoins}
-use Rattle.atspi_trace.specs.Work.{first_up, next_turn, turning}
-use Rattle.atspi_trace.specs.Works.{Works}
-use Rattle.atspi_stage.specs.Worlds.{Staged, IsWorld}
+use Rattle.atspi_trace.specs.Work.{Work, turning, next_turn}
+use Rattle.atspi_play.specs.Playing.{Playing}
+use Rattle.atspi_play.specs.Played.{PlaysOut}
+use Rattle.atspi_stage.specs.Worlds.{Staged, IsPlaying}
 
--- the next so many turns are the bus's, since up links wait, and behind them something waits
-abbrev pub AreOfBus : ℕ → World → Type 0
-AreOfBus zero w = IsSome (next_turn w)
-AreOfBus (suc left) w = (c : Cause) × ((first_up 0 w.ends ≡ Some c) × AreOfBus left (does w c).world)
-
--- what such a turn is to the code
-abbrev pub turn_of : Cause → Option Turn
-turn_of (routes conn) = Some (Route conn)
-turn_of (unjoins conn) = Some (Part conn)
-turn_of c = None
-
--- so many turns of so many are left, and these are the bus's too: what was made so far, and what completes it
-pub record Turned (w : World) (count most left : ℕ) (old new : Staged) : Type 0 where
-  pub now : World
+-- a part of some work was done, and this is left: what was written so far, and what completes it
+pub record PartDone (p : Playing) (work left : Work) (old new : Staged) : Type 0 where
+  pub now : Playing
   pub entries : List Entry
-  pub is : IsWorld now new
+  pub is : IsPlaying now new
   pub wrote : entries_of new.trace ≡ entries_of old.trace ++ entries
-  pub rest : AreOfBus left now
-  pub completes : (es : List Entry) (u : World) → Works now (turning count left) es u → Works w (turning count most) (entries ++ es) u
+  pub completes : (es : List Entry) (q : Playing) → PlaysOut now left es q → PlaysOut p work (entries ++ es) q
+
+-- so many turns of so many are left
+abbrev pub Turned : Playing → ℕ → ℕ → ℕ → Staged → Staged → Type 0
+Turned p count most left old new = PartDone p (turning count most) (turning count left) old new
+
+-- whether something waits behind so many turns at most: all were made and something does, or some and nothing does
+abbrev pub TurnsMade : Playing → ℕ → ℕ → Bool → Staged → Staged → Type 0
+TurnsMade p count most true old new = (t : Turned p count most 0 old new) × IsSome (next_turn t.now.world)
+TurnsMade p count most false old new = (left : ℕ) × (t : Turned p count most left old new) × (next_turn t.now.world ≡ None)

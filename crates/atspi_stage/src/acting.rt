@@ -1,19 +1,23 @@
 //! Doing the lines of a script.
 
-ghost use Rattle.std.specs.Prelude.{◌≡◌, None, Some, length, OnOk};
+ghost use Rattle.std.specs.Prelude.{◌≡◌, false, Some, length, IsErrOf, OnOk};
 ghost use Rattle.atspi_forest.specs.Edits.{IsEdit};
 ghost use Rattle.atspi_reader_calls.specs.Deeds.{MayBeAsked};
 ghost use Rattle.atspi_bus_steps.specs.Inner.{inner_of, state_of};
 ghost use Rattle.atspi_lines.specs.declared.line.Line.TheVariants as lines;
 ghost use Rattle.atspi_trace.specs.Causes.{exits};
-ghost use Rattle.atspi_trace.specs.World.{End, World};
-ghost use Rattle.atspi_trace.specs.Ends.{end_at};
+ghost use Rattle.atspi_trace.specs.World.{End};
+ghost use Rattle.atspi_play.specs.Playing.{Playing};
+ghost use Rattle.atspi_lines.specs.declared.line.Party.TheVariants as parties;
+ghost use Rattle.atspi_trace.specs.Ends.{end_at, same_party};
 ghost use Rattle.atspi_trace.specs.Work as work;
-ghost use Rattle.atspi_stage.specs.Lines.{CausedAt, IsSegment, LineDone, LineDoneElse};
+ghost use Rattle.atspi_stage.specs.Lines.{CausedAt, IsSegment, LineDone, LineDoneElse, WorkOf, WorkOfElse};
 ghost use Rattle.atspi_stage.specs.MayAct.{HasName, MayAct};
-ghost use Rattle.atspi_stage.specs.Refusals.{first_refusal, IsOf, IsRefusedFor};
+ghost use Rattle.atspi_play.specs.Played as playing;
+ghost use Rattle.atspi_stage.specs.Refusals.{RefusedElse, RefusedFor, Refuses};
+ghost use Rattle.atspi_stage.specs.declared.fault.Refusal.{Refusal};
 ghost use Rattle.atspi_stage.specs.Stage.{IsStage, UnlessHalted};
-ghost use Rattle.atspi_stage.specs.Worlds.{staged, IsWorld};
+ghost use Rattle.atspi_stage.specs.Worlds.{staged, IsPlaying};
 
 use crate::fault::ActFault;
 use crate::places::conn_of;
@@ -30,7 +34,9 @@ impl<A: Application, R: Follower> Stage<A, R> {
         requires edit { IsEdit edit.now }
         requires stage { IsStage A.is_app R.is_follower A.is_kit A.is_spare self.old.cast.apps.items self.old.cast.readers.items self.old.kits.items self.old.spares.items (state_of self.old.carrier.bus) }
         ensures stage { IsStage A.is_app R.is_follower A.is_kit A.is_spare self.new.cast.apps.items self.new.cast.readers.items self.new.kits.items self.new.spares.items (state_of self.new.carrier.bus) }
-        ensures does { OnOk result (LineDone (lines.Edit app edit.now) (staged A.exporter R.follower (inner_of self.old.carrier.bus) self.old.carrier.posts.items self.old.cast.apps.items self.old.cast.readers.items (length self.old.kits.items) (length self.old.spares.items) self.old.carrier.trace.items) (staged A.exporter R.follower (inner_of self.new.carrier.bus) self.new.carrier.posts.items self.new.cast.apps.items self.new.cast.readers.items (length self.new.kits.items) (length self.new.spares.items) self.new.carrier.trace.items)) }
+        ensures does { OnOk result (LineDoneElse (lines.Edit app edit.now) (staged A.exporter R.follower (inner_of self.old.carrier.bus) self.old.carrier.posts.items self.old.carrier.at_end.items self.old.cast.registry self.old.cast.apps.items self.old.cast.readers.items (length self.old.kits.items) (length self.old.spares.items) self.old.carrier.trace.items) (staged A.exporter R.follower (inner_of self.new.carrier.bus) self.new.carrier.posts.items self.new.carrier.at_end.items self.new.cast.registry self.new.cast.apps.items self.new.cast.readers.items (length self.new.kits.items) (length self.new.spares.items) self.new.carrier.trace.items)) }
+        ensures refused { (why : Refusal) → IsErrOf result (ActFault.Refused why) → RefusedElse (lines.Edit app edit.now) why (staged A.exporter R.follower (inner_of self.old.carrier.bus) self.old.carrier.posts.items self.old.carrier.at_end.items self.old.cast.registry self.old.cast.apps.items self.old.cast.readers.items (length self.old.kits.items) (length self.old.spares.items) self.old.carrier.trace.items) }
+        ensures nothing { (why : Refusal) → IsErrOf result (ActFault.Refused why) → (staged A.exporter R.follower (inner_of self.new.carrier.bus) self.new.carrier.posts.items self.new.carrier.at_end.items self.new.cast.registry self.new.cast.apps.items self.new.cast.readers.items (length self.new.kits.items) (length self.new.spares.items) self.new.carrier.trace.items) ≡ (staged A.exporter R.follower (inner_of self.old.carrier.bus) self.old.carrier.posts.items self.old.carrier.at_end.items self.old.cast.registry self.old.cast.apps.items self.old.cast.readers.items (length self.old.kits.items) (length self.old.spares.items) self.old.carrier.trace.items) }
     {
         match conn_of(&self.carrier.posts, Party::App(app)) {
             Some(conn) => self.edit(conn, app, edit),
@@ -43,7 +49,9 @@ impl<A: Application, R: Follower> Stage<A, R> {
         requires deed { MayBeAsked deed.now }
         requires stage { IsStage A.is_app R.is_follower A.is_kit A.is_spare self.old.cast.apps.items self.old.cast.readers.items self.old.kits.items self.old.spares.items (state_of self.old.carrier.bus) }
         ensures stage { IsStage A.is_app R.is_follower A.is_kit A.is_spare self.new.cast.apps.items self.new.cast.readers.items self.new.kits.items self.new.spares.items (state_of self.new.carrier.bus) }
-        ensures does { OnOk result (LineDone (lines.Call reader app node deed.now) (staged A.exporter R.follower (inner_of self.old.carrier.bus) self.old.carrier.posts.items self.old.cast.apps.items self.old.cast.readers.items (length self.old.kits.items) (length self.old.spares.items) self.old.carrier.trace.items) (staged A.exporter R.follower (inner_of self.new.carrier.bus) self.new.carrier.posts.items self.new.cast.apps.items self.new.cast.readers.items (length self.new.kits.items) (length self.new.spares.items) self.new.carrier.trace.items)) }
+        ensures does { OnOk result (LineDoneElse (lines.Call reader app node deed.now) (staged A.exporter R.follower (inner_of self.old.carrier.bus) self.old.carrier.posts.items self.old.carrier.at_end.items self.old.cast.registry self.old.cast.apps.items self.old.cast.readers.items (length self.old.kits.items) (length self.old.spares.items) self.old.carrier.trace.items) (staged A.exporter R.follower (inner_of self.new.carrier.bus) self.new.carrier.posts.items self.new.carrier.at_end.items self.new.cast.registry self.new.cast.apps.items self.new.cast.readers.items (length self.new.kits.items) (length self.new.spares.items) self.new.carrier.trace.items)) }
+        ensures refused { (why : Refusal) → IsErrOf result (ActFault.Refused why) → RefusedElse (lines.Call reader app node deed.now) why (staged A.exporter R.follower (inner_of self.old.carrier.bus) self.old.carrier.posts.items self.old.carrier.at_end.items self.old.cast.registry self.old.cast.apps.items self.old.cast.readers.items (length self.old.kits.items) (length self.old.spares.items) self.old.carrier.trace.items) }
+        ensures nothing { (why : Refusal) → IsErrOf result (ActFault.Refused why) → (staged A.exporter R.follower (inner_of self.new.carrier.bus) self.new.carrier.posts.items self.new.carrier.at_end.items self.new.cast.registry self.new.cast.apps.items self.new.cast.readers.items (length self.new.kits.items) (length self.new.spares.items) self.new.carrier.trace.items) ≡ (staged A.exporter R.follower (inner_of self.old.carrier.bus) self.old.carrier.posts.items self.old.carrier.at_end.items self.old.cast.registry self.old.cast.apps.items self.old.cast.readers.items (length self.old.kits.items) (length self.old.spares.items) self.old.carrier.trace.items) }
     {
         let Some(conn) = conn_of(&self.carrier.posts, Party::Reader(reader)) else {
             return Ok(());
@@ -56,9 +64,10 @@ impl<A: Application, R: Follower> Stage<A, R> {
 
     /// A party stops.
     fn exit_of(&mut self, who: Party) -> Result<(), CarryFault>
+        requires end { same_party who parties.Registry ≡ false }
         requires stage { IsStage A.is_app R.is_follower A.is_kit A.is_spare self.old.cast.apps.items self.old.cast.readers.items self.old.kits.items self.old.spares.items (state_of self.old.carrier.bus) }
         ensures stage { IsStage A.is_app R.is_follower A.is_kit A.is_spare self.new.cast.apps.items self.new.cast.readers.items self.new.kits.items self.new.spares.items (state_of self.new.carrier.bus) }
-        ensures does { OnOk result (CausedAt who exits (staged A.exporter R.follower (inner_of self.old.carrier.bus) self.old.carrier.posts.items self.old.cast.apps.items self.old.cast.readers.items (length self.old.kits.items) (length self.old.spares.items) self.old.carrier.trace.items) (staged A.exporter R.follower (inner_of self.new.carrier.bus) self.new.carrier.posts.items self.new.cast.apps.items self.new.cast.readers.items (length self.new.kits.items) (length self.new.spares.items) self.new.carrier.trace.items)) }
+        ensures does { OnOk result (CausedAt who exits (staged A.exporter R.follower (inner_of self.old.carrier.bus) self.old.carrier.posts.items self.old.carrier.at_end.items self.old.cast.registry self.old.cast.apps.items self.old.cast.readers.items (length self.old.kits.items) (length self.old.spares.items) self.old.carrier.trace.items) (staged A.exporter R.follower (inner_of self.new.carrier.bus) self.new.carrier.posts.items self.new.carrier.at_end.items self.new.cast.registry self.new.cast.apps.items self.new.cast.readers.items (length self.new.kits.items) (length self.new.spares.items) self.new.carrier.trace.items)) }
     {
         match conn_of(&self.carrier.posts, who) {
             Some(conn) => self.carrier.exit(conn),
@@ -70,7 +79,7 @@ impl<A: Application, R: Follower> Stage<A, R> {
     fn show_of(&mut self, reader: u32, app: u32) -> Result<(), CarryFault>
         requires stage { IsStage A.is_app R.is_follower A.is_kit A.is_spare self.old.cast.apps.items self.old.cast.readers.items self.old.kits.items self.old.spares.items (state_of self.old.carrier.bus) }
         ensures stage { IsStage A.is_app R.is_follower A.is_kit A.is_spare self.new.cast.apps.items self.new.cast.readers.items self.new.kits.items self.new.spares.items (state_of self.new.carrier.bus) }
-        ensures does { OnOk result (LineDone (lines.Show reader app) (staged A.exporter R.follower (inner_of self.old.carrier.bus) self.old.carrier.posts.items self.old.cast.apps.items self.old.cast.readers.items (length self.old.kits.items) (length self.old.spares.items) self.old.carrier.trace.items) (staged A.exporter R.follower (inner_of self.new.carrier.bus) self.new.carrier.posts.items self.new.cast.apps.items self.new.cast.readers.items (length self.new.kits.items) (length self.new.spares.items) self.new.carrier.trace.items)) }
+        ensures does { OnOk result (WorkOf (lines.Show reader app) (staged A.exporter R.follower (inner_of self.old.carrier.bus) self.old.carrier.posts.items self.old.carrier.at_end.items self.old.cast.registry self.old.cast.apps.items self.old.cast.readers.items (length self.old.kits.items) (length self.old.spares.items) self.old.carrier.trace.items) (staged A.exporter R.follower (inner_of self.new.carrier.bus) self.new.carrier.posts.items self.new.carrier.at_end.items self.new.cast.registry self.new.cast.apps.items self.new.cast.readers.items (length self.new.kits.items) (length self.new.spares.items) self.new.carrier.trace.items)) }
     {
         match conn_of(&self.carrier.posts, Party::App(app)) {
             Some(conn) => self.show(reader, app, conn),
@@ -82,8 +91,8 @@ impl<A: Application, R: Follower> Stage<A, R> {
     fn move_up(&mut self, conn: u32, count: u32) -> Result<(), CarryFault>
         requires stage { IsStage A.is_app R.is_follower A.is_kit A.is_spare self.old.cast.apps.items self.old.cast.readers.items self.old.kits.items self.old.spares.items (state_of self.old.carrier.bus) }
         ensures stage { OnOk result (IsStage A.is_app R.is_follower A.is_kit A.is_spare self.new.cast.apps.items self.new.cast.readers.items self.new.kits.items self.new.spares.items (state_of self.new.carrier.bus)) }
-        ensures does { OnOk result ((w : World) (e : End) → IsWorld w (staged A.exporter R.follower (inner_of self.old.carrier.bus) self.old.carrier.posts.items self.old.cast.apps.items self.old.cast.readers.items (length self.old.kits.items) (length self.old.spares.items) self.old.carrier.trace.items) → end_at w.ends conn ≡ Some e
-            → IsSegment w (work.moving_up conn count) (staged A.exporter R.follower (inner_of self.old.carrier.bus) self.old.carrier.posts.items self.old.cast.apps.items self.old.cast.readers.items (length self.old.kits.items) (length self.old.spares.items) self.old.carrier.trace.items) (staged A.exporter R.follower (inner_of self.new.carrier.bus) self.new.carrier.posts.items self.new.cast.apps.items self.new.cast.readers.items (length self.new.kits.items) (length self.new.spares.items) self.new.carrier.trace.items)) }
+        ensures does { OnOk result ((p : Playing) (e : End) → IsPlaying p (staged A.exporter R.follower (inner_of self.old.carrier.bus) self.old.carrier.posts.items self.old.carrier.at_end.items self.old.cast.registry self.old.cast.apps.items self.old.cast.readers.items (length self.old.kits.items) (length self.old.spares.items) self.old.carrier.trace.items) → end_at p.world.ends conn ≡ Some e
+            → IsSegment p (work.moving_up conn count) (staged A.exporter R.follower (inner_of self.old.carrier.bus) self.old.carrier.posts.items self.old.carrier.at_end.items self.old.cast.registry self.old.cast.apps.items self.old.cast.readers.items (length self.old.kits.items) (length self.old.spares.items) self.old.carrier.trace.items) (staged A.exporter R.follower (inner_of self.new.carrier.bus) self.new.carrier.posts.items self.new.carrier.at_end.items self.new.cast.registry self.new.cast.apps.items self.new.cast.readers.items (length self.new.kits.items) (length self.new.spares.items) self.new.carrier.trace.items)) }
     {
         let place = conn as usize;
         if place >= self.carrier.posts.len() {
@@ -105,7 +114,7 @@ impl<A: Application, R: Follower> Stage<A, R> {
     fn move_bytes(&mut self, who: Party, up: bool, count: u32) -> Result<(), CarryFault>
         requires stage { IsStage A.is_app R.is_follower A.is_kit A.is_spare self.old.cast.apps.items self.old.cast.readers.items self.old.kits.items self.old.spares.items (state_of self.old.carrier.bus) }
         ensures stage { OnOk result (IsStage A.is_app R.is_follower A.is_kit A.is_spare self.new.cast.apps.items self.new.cast.readers.items self.new.kits.items self.new.spares.items (state_of self.new.carrier.bus)) }
-        ensures does { OnOk result (LineDone (lines.Bytes who up count) (staged A.exporter R.follower (inner_of self.old.carrier.bus) self.old.carrier.posts.items self.old.cast.apps.items self.old.cast.readers.items (length self.old.kits.items) (length self.old.spares.items) self.old.carrier.trace.items) (staged A.exporter R.follower (inner_of self.new.carrier.bus) self.new.carrier.posts.items self.new.cast.apps.items self.new.cast.readers.items (length self.new.kits.items) (length self.new.spares.items) self.new.carrier.trace.items)) }
+        ensures does { OnOk result (WorkOf (lines.Bytes who up count) (staged A.exporter R.follower (inner_of self.old.carrier.bus) self.old.carrier.posts.items self.old.carrier.at_end.items self.old.cast.registry self.old.cast.apps.items self.old.cast.readers.items (length self.old.kits.items) (length self.old.spares.items) self.old.carrier.trace.items) (staged A.exporter R.follower (inner_of self.new.carrier.bus) self.new.carrier.posts.items self.new.carrier.at_end.items self.new.cast.registry self.new.cast.apps.items self.new.cast.readers.items (length self.new.kits.items) (length self.new.spares.items) self.new.carrier.trace.items)) }
     {
         let Some(conn) = conn_of(&self.carrier.posts, who) else {
             return Ok(());
@@ -122,7 +131,7 @@ impl<A: Application, R: Follower> Stage<A, R> {
         requires name { HasName line.now }
         requires stage { IsStage A.is_app R.is_follower A.is_kit A.is_spare self.old.cast.apps.items self.old.cast.readers.items self.old.kits.items self.old.spares.items (state_of self.old.carrier.bus) }
         ensures stage { OnOk result (IsStage A.is_app R.is_follower A.is_kit A.is_spare self.new.cast.apps.items self.new.cast.readers.items self.new.kits.items self.new.spares.items (state_of self.new.carrier.bus)) }
-        ensures does { OnOk result (LineDoneElse line.now (staged A.exporter R.follower (inner_of self.old.carrier.bus) self.old.carrier.posts.items self.old.cast.apps.items self.old.cast.readers.items (length self.old.kits.items) (length self.old.spares.items) self.old.carrier.trace.items) (staged A.exporter R.follower (inner_of self.new.carrier.bus) self.new.carrier.posts.items self.new.cast.apps.items self.new.cast.readers.items (length self.new.kits.items) (length self.new.spares.items) self.new.carrier.trace.items)) }
+        ensures does { OnOk result (WorkOfElse line.now (staged A.exporter R.follower (inner_of self.old.carrier.bus) self.old.carrier.posts.items self.old.carrier.at_end.items self.old.cast.registry self.old.cast.apps.items self.old.cast.readers.items (length self.old.kits.items) (length self.old.spares.items) self.old.carrier.trace.items) (staged A.exporter R.follower (inner_of self.new.carrier.bus) self.new.carrier.posts.items self.new.carrier.at_end.items self.new.cast.registry self.new.cast.apps.items self.new.cast.readers.items (length self.new.kits.items) (length self.new.spares.items) self.new.carrier.trace.items)) }
     {
         match line {
             Line::Quota(quota) => self.renew(*quota),
@@ -145,7 +154,9 @@ impl<A: Application, R: Follower> Stage<A, R> {
         requires name { HasName line.now }
         requires stage { IsStage A.is_app R.is_follower A.is_kit A.is_spare self.old.cast.apps.items self.old.cast.readers.items self.old.kits.items self.old.spares.items (state_of self.old.carrier.bus) }
         ensures stage { UnlessHalted result (IsStage A.is_app R.is_follower A.is_kit A.is_spare self.new.cast.apps.items self.new.cast.readers.items self.new.kits.items self.new.spares.items (state_of self.new.carrier.bus)) }
-        ensures does { OnOk result (LineDone line.now (staged A.exporter R.follower (inner_of self.old.carrier.bus) self.old.carrier.posts.items self.old.cast.apps.items self.old.cast.readers.items (length self.old.kits.items) (length self.old.spares.items) self.old.carrier.trace.items) (staged A.exporter R.follower (inner_of self.new.carrier.bus) self.new.carrier.posts.items self.new.cast.apps.items self.new.cast.readers.items (length self.new.kits.items) (length self.new.spares.items) self.new.carrier.trace.items)) }
+        ensures does { OnOk result (LineDoneElse line.now (staged A.exporter R.follower (inner_of self.old.carrier.bus) self.old.carrier.posts.items self.old.carrier.at_end.items self.old.cast.registry self.old.cast.apps.items self.old.cast.readers.items (length self.old.kits.items) (length self.old.spares.items) self.old.carrier.trace.items) (staged A.exporter R.follower (inner_of self.new.carrier.bus) self.new.carrier.posts.items self.new.carrier.at_end.items self.new.cast.registry self.new.cast.apps.items self.new.cast.readers.items (length self.new.kits.items) (length self.new.spares.items) self.new.carrier.trace.items)) }
+        ensures refused { (why : Refusal) → IsErrOf result (ActFault.Refused why) → RefusedElse line.now why (staged A.exporter R.follower (inner_of self.old.carrier.bus) self.old.carrier.posts.items self.old.carrier.at_end.items self.old.cast.registry self.old.cast.apps.items self.old.cast.readers.items (length self.old.kits.items) (length self.old.spares.items) self.old.carrier.trace.items) }
+        ensures nothing { (why : Refusal) → IsErrOf result (ActFault.Refused why) → (staged A.exporter R.follower (inner_of self.new.carrier.bus) self.new.carrier.posts.items self.new.carrier.at_end.items self.new.cast.registry self.new.cast.apps.items self.new.cast.readers.items (length self.new.kits.items) (length self.new.spares.items) self.new.carrier.trace.items) ≡ (staged A.exporter R.follower (inner_of self.old.carrier.bus) self.old.carrier.posts.items self.old.carrier.at_end.items self.old.cast.registry self.old.cast.apps.items self.old.cast.readers.items (length self.old.kits.items) (length self.old.spares.items) self.old.carrier.trace.items) }
     {
         match line {
             Line::Edit { app, edit } => self.ask_edit(*app, edit),
@@ -168,11 +179,10 @@ impl<A: Application, R: Follower> Stage<A, R> {
         requires may { MayAct line.now }
         requires stage { IsStage A.is_app R.is_follower A.is_kit A.is_spare self.old.cast.apps.items self.old.cast.readers.items self.old.kits.items self.old.spares.items (state_of self.old.carrier.bus) }
         ensures stage { UnlessHalted result (IsStage A.is_app R.is_follower A.is_kit A.is_spare self.new.cast.apps.items self.new.cast.readers.items self.new.kits.items self.new.spares.items (state_of self.new.carrier.bus)) }
-        ensures does { OnOk result (LineDone line.now (staged A.exporter R.follower (inner_of self.old.carrier.bus) self.old.carrier.posts.items self.old.cast.apps.items self.old.cast.readers.items (length self.old.kits.items) (length self.old.spares.items) self.old.carrier.trace.items) (staged A.exporter R.follower (inner_of self.new.carrier.bus) self.new.carrier.posts.items self.new.cast.apps.items self.new.cast.readers.items (length self.new.kits.items) (length self.new.spares.items) self.new.carrier.trace.items)) }
-        ensures refused { (w : World) (why : work.Refusal) → IsOf w self.old.carrier.posts.items (length self.old.cast.apps.items) (length self.old.cast.readers.items) (length self.old.spares.items)
-            → first_refusal w line.now ≡ Some why → IsRefusedFor result why }
-        ensures nothing { (w : World) (why : work.Refusal) → IsOf w self.old.carrier.posts.items (length self.old.cast.apps.items) (length self.old.cast.readers.items) (length self.old.spares.items)
-            → first_refusal w line.now ≡ Some why → self.new ≡ self.old }
+        ensures does { OnOk result (LineDone line.now (staged A.exporter R.follower (inner_of self.old.carrier.bus) self.old.carrier.posts.items self.old.carrier.at_end.items self.old.cast.registry self.old.cast.apps.items self.old.cast.readers.items (length self.old.kits.items) (length self.old.spares.items) self.old.carrier.trace.items) (staged A.exporter R.follower (inner_of self.new.carrier.bus) self.new.carrier.posts.items self.new.carrier.at_end.items self.new.cast.registry self.new.cast.apps.items self.new.cast.readers.items (length self.new.kits.items) (length self.new.spares.items) self.new.carrier.trace.items)) }
+        ensures refused { (why : Refusal) → IsErrOf result (ActFault.Refused why) → RefusedFor line.now why (staged A.exporter R.follower (inner_of self.old.carrier.bus) self.old.carrier.posts.items self.old.carrier.at_end.items self.old.cast.registry self.old.cast.apps.items self.old.cast.readers.items (length self.old.kits.items) (length self.old.spares.items) self.old.carrier.trace.items) }
+        ensures refuses { (p : Playing) (due : work.Refusal) → IsPlaying p (staged A.exporter R.follower (inner_of self.old.carrier.bus) self.old.carrier.posts.items self.old.carrier.at_end.items self.old.cast.registry self.old.cast.apps.items self.old.cast.readers.items (length self.old.kits.items) (length self.old.spares.items) self.old.carrier.trace.items) → playing.refused p line.now ≡ Some due → Refuses result due }
+        ensures nothing { (why : Refusal) → IsErrOf result (ActFault.Refused why) → (staged A.exporter R.follower (inner_of self.new.carrier.bus) self.new.carrier.posts.items self.new.carrier.at_end.items self.new.cast.registry self.new.cast.apps.items self.new.cast.readers.items (length self.new.kits.items) (length self.new.spares.items) self.new.carrier.trace.items) ≡ (staged A.exporter R.follower (inner_of self.old.carrier.bus) self.old.carrier.posts.items self.old.carrier.at_end.items self.old.cast.registry self.old.cast.apps.items self.old.cast.readers.items (length self.old.kits.items) (length self.old.spares.items) self.old.carrier.trace.items) }
     {
         match self.refusal(line) {
             Some(why) => Err(ActFault::Refused(why)),

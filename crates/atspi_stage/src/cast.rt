@@ -1,6 +1,13 @@
 //! The ends of a world.
 
-ghost use Rattle.std.specs.Prelude.{All};
+ghost use Rattle.std.specs.Prelude.{◌≡◌, map, All, OnOk};
+ghost use Rattle.atspi_header.specs.View.{envelope_at};
+ghost use Rattle.atspi_protocol.specs.exporting.Exporter.{Exporter};
+ghost use Rattle.atspi_protocol.specs.exporting.Taking.{app_takes};
+ghost use Rattle.atspi_protocol.specs.following.ReaderState.{ReaderState};
+ghost use Rattle.atspi_protocol.specs.following.Takes.{reader_takes};
+ghost use Rattle.atspi_carrying.specs.Changes.{changed_at};
+ghost use Rattle.atspi_stage.specs.Taken.{ends_after, ends_of};
 
 use atspi_header::MessageRef;
 use atspi_lines::Party;
@@ -24,8 +31,9 @@ fn take_app<A: Application>(
     number: u32,
     message: &MessageRef<'_>,
 ) -> Result<(), EndFault>
-    requires { All A.is_app apps.old }
-    ensures { All A.is_app apps.new }
+    requires apps { All A.is_app apps.old }
+    ensures apps { All A.is_app apps.new }
+    ensures took { OnOk result (map A.exporter apps.new ≡ changed_at number (λ (s : Exporter). app_takes s (envelope_at message.now)) (map A.exporter apps.old)) }
 {
     let place = number as usize;
     if place >= apps.len() {
@@ -41,8 +49,9 @@ fn take_reader<R: Follower>(
     number: u32,
     message: &MessageRef<'_>,
 ) -> Result<(), EndFault>
-    requires { All R.is_follower readers.old }
-    ensures { All R.is_follower readers.new }
+    requires readers { All R.is_follower readers.old }
+    ensures readers { All R.is_follower readers.new }
+    ensures took { OnOk result (map R.follower readers.new ≡ changed_at number (λ (s : ReaderState). reader_takes s (envelope_at message.now)) (map R.follower readers.old)) }
 {
     let place = number as usize;
     if place >= readers.len() {
@@ -64,6 +73,7 @@ impl<A: Application, R: Follower> Cast<A, R> {
         requires readers { All R.is_follower self.old.readers.items }
         ensures apps { All A.is_app self.new.apps.items }
         ensures readers { All R.is_follower self.new.readers.items }
+        ensures took { OnOk result (ends_of A.exporter R.follower self.new.registry self.new.apps.items self.new.readers.items ≡ ends_after who (envelope_at message.now) (ends_of A.exporter R.follower self.old.registry self.old.apps.items self.old.readers.items)) }
     {
         match who {
             Party::Bus => Ok(()),

@@ -1,13 +1,21 @@
 //! An end takes what comes down its link.
 
-ghost use Rattle.std.specs.Prelude.{◌≡◌, ◌≤◌, [], ◌∷◌, ◌++◌, length, map, All, IfOk, IfSome, OnOk};
+ghost use Rattle.std.specs.Prelude.{◌≡◌, ◌≤◌, List, Some, [], ◌∷◌, ◌++◌, length, map, All, IfOk, IfSome, OnOk};
 ghost use Rattle.atspi_header.specs.View.{bytes_of, envelope_at};
 ghost use Rattle.atspi_events.specs.declared.event.Event.TheVariants as events;
 ghost use Rattle.atspi_carrying.specs.Named as named;
-ghost use Rattle.atspi_bus_steps.specs.Inner.{state_of};
+ghost use Rattle.atspi_bus_steps.specs.Inner.{inner_of, state_of};
+ghost use Rattle.atspi_trace.specs.World.{here, End, Letter};
+ghost use Rattle.atspi_trace.specs.Ends.{end_at};
+ghost use Rattle.atspi_trace.specs.Causes.{gets};
+ghost use Rattle.atspi_trace.specs.Work as work;
+ghost use Rattle.atspi_play.specs.Playing.{Playing};
+ghost use Rattle.atspi_play.specs.Plays.{plays};
 ghost use Rattle.atspi_stage.specs.Doing.{TellsAt, TellsFirst, TellsReaderAt};
+ghost use Rattle.atspi_stage.specs.Lines.{IsSegment};
 ghost use Rattle.atspi_stage.specs.Stage.{IsStage};
-ghost use Rattle.atspi_stage.specs.Taken.{HandsFront, TakesFront};
+ghost use Rattle.atspi_stage.specs.Taken.{ends_after, ends_of, Gets, HandsFront, HandsNothing, TakesFront, TakesNothing, Tells};
+ghost use Rattle.atspi_stage.specs.Worlds.{staged, Happens, IsPlaying};
 
 use crate::cast::Cast;
 use crate::stage::Stage;
@@ -34,6 +42,7 @@ fn hand<A: Application, R: Follower>(
     ensures apps { All A.is_app cast.new.apps.items }
     ensures readers { All R.is_follower cast.new.readers.items }
     ensures told { OnOk result (trace.new.items ≡ trace.old.items ++ events.Got taker (named.party_named (envelope_at message.now).sender posts.now) message.now.serial ∷ []) }
+    ensures took { OnOk result (ends_of A.exporter R.follower cast.new.registry cast.new.apps.items cast.new.readers.items ≡ ends_after taker (envelope_at message.now) (ends_of A.exporter R.follower cast.old.registry cast.old.apps.items cast.old.readers.items)) }
 {
     note(
         trace,
@@ -61,7 +70,8 @@ fn hand_front<A: Application, R: Follower>(
     ensures apps { All A.is_app cast.new.apps.items }
     ensures readers { All R.is_follower cast.new.readers.items }
     ensures within { IfOk result (λ len. IfSome len (λ n. n ≤ length at_end.now)) }
-    ensures hands { IfOk result (λ len. HandsFront at_end.now posts.now taker trace.old.items trace.new.items len) }
+    ensures hands { IfOk result (λ len. HandsFront at_end.now posts.now taker (ends_of A.exporter R.follower cast.old.registry cast.old.apps.items cast.old.readers.items) (ends_of A.exporter R.follower cast.new.registry cast.new.apps.items cast.new.readers.items) trace.old.items trace.new.items len) }
+    ensures nothing { IfOk result (λ len. HandsNothing at_end.now (ends_of A.exporter R.follower cast.old.registry cast.old.apps.items cast.old.readers.items) (ends_of A.exporter R.follower cast.new.registry cast.new.apps.items cast.new.readers.items) trace.old.items trace.new.items len) }
 {
     match first_message(at_end.as_slice()) {
         None => Ok(None),
@@ -85,7 +95,8 @@ fn take_front<A: Application, R: Follower>(
     requires readers { All R.is_follower cast.old.readers.items }
     ensures apps { All A.is_app cast.new.apps.items }
     ensures readers { All R.is_follower cast.new.readers.items }
-    ensures takes { IfOk result (λ took. TakesFront at_end.old at_end.new posts.now taker trace.old.items trace.new.items took) }
+    ensures takes { IfOk result (λ took. TakesFront at_end.old at_end.new posts.now taker (ends_of A.exporter R.follower cast.old.registry cast.old.apps.items cast.old.readers.items) (ends_of A.exporter R.follower cast.new.registry cast.new.apps.items cast.new.readers.items) trace.old.items trace.new.items took) }
+    ensures nothing { IfOk result (λ took. TakesNothing at_end.old at_end.new (ends_of A.exporter R.follower cast.old.registry cast.old.apps.items cast.old.readers.items) (ends_of A.exporter R.follower cast.new.registry cast.new.apps.items cast.new.readers.items) trace.old.items trace.new.items took) }
 {
     match hand_front(alloc, at_end, posts, taker, cast, trace) {
         Ok(Some(len)) => {
@@ -166,6 +177,7 @@ impl<A: Application, R: Follower> Cast<A, R> {
         requires readers { All R.is_follower self.old.readers.items }
         ensures apps { All A.is_app self.new.apps.items }
         ensures readers { All R.is_follower self.new.readers.items }
+        ensures tells { OnOk result (Tells who conn (ends_of A.exporter R.follower self.old.registry self.old.apps.items self.old.readers.items) (ends_of A.exporter R.follower self.new.registry self.new.apps.items self.new.readers.items) posts.old posts.new trace.old.items trace.new.items) }
     {
         match who {
             Party::Bus => Ok(()),
@@ -183,6 +195,7 @@ impl<A: Application, R: Follower> Stage<A, R> {
     pub(crate) fn get(&mut self, conn: u32) -> Result<bool, CarryFault>
         requires stage { IsStage A.is_app R.is_follower A.is_kit A.is_spare self.old.cast.apps.items self.old.cast.readers.items self.old.kits.items self.old.spares.items (state_of self.old.carrier.bus) }
         ensures stage { IsStage A.is_app R.is_follower A.is_kit A.is_spare self.new.cast.apps.items self.new.cast.readers.items self.new.kits.items self.new.spares.items (state_of self.new.carrier.bus) }
+        ensures got { IfOk result (λ took. Gets conn (staged A.exporter R.follower (inner_of self.old.carrier.bus) self.old.carrier.posts.items self.old.carrier.at_end.items self.old.cast.registry self.old.cast.apps.items self.old.cast.readers.items (length self.old.kits.items) (length self.old.spares.items) self.old.carrier.trace.items) (staged A.exporter R.follower (inner_of self.new.carrier.bus) self.new.carrier.posts.items self.new.carrier.at_end.items self.new.cast.registry self.new.cast.apps.items self.new.cast.readers.items (length self.new.kits.items) (length self.new.spares.items) self.new.carrier.trace.items) took) }
     {
         let place = conn as usize;
         if place >= self.carrier.posts.len() {
@@ -221,6 +234,7 @@ impl<A: Application, R: Follower> Stage<A, R> {
     pub(crate) fn move_down(&mut self, conn: u32, most: u32) -> Result<(), CarryFault>
         requires stage { IsStage A.is_app R.is_follower A.is_kit A.is_spare self.old.cast.apps.items self.old.cast.readers.items self.old.kits.items self.old.spares.items (state_of self.old.carrier.bus) }
         ensures stage { OnOk result (IsStage A.is_app R.is_follower A.is_kit A.is_spare self.new.cast.apps.items self.new.cast.readers.items self.new.kits.items self.new.spares.items (state_of self.new.carrier.bus)) }
+        ensures does { OnOk result ((p : Playing) (e : End) → IsPlaying p (staged A.exporter R.follower (inner_of self.old.carrier.bus) self.old.carrier.posts.items self.old.carrier.at_end.items self.old.cast.registry self.old.cast.apps.items self.old.cast.readers.items (length self.old.kits.items) (length self.old.spares.items) self.old.carrier.trace.items) → end_at p.world.ends conn ≡ Some e → IsSegment p (work.moving_down conn most) (staged A.exporter R.follower (inner_of self.old.carrier.bus) self.old.carrier.posts.items self.old.carrier.at_end.items self.old.cast.registry self.old.cast.apps.items self.old.cast.readers.items (length self.old.kits.items) (length self.old.spares.items) self.old.carrier.trace.items) (staged A.exporter R.follower (inner_of self.new.carrier.bus) self.new.carrier.posts.items self.new.carrier.at_end.items self.new.cast.registry self.new.cast.apps.items self.new.cast.readers.items (length self.new.kits.items) (length self.new.spares.items) self.new.carrier.trace.items)) }
     {
         if !self.is_here(conn) {
             return Ok(());
@@ -241,6 +255,8 @@ impl<A: Application, R: Follower> Stage<A, R> {
     pub(crate) fn take_next(&mut self, conn: u32) -> Result<(), CarryFault>
         requires stage { IsStage A.is_app R.is_follower A.is_kit A.is_spare self.old.cast.apps.items self.old.cast.readers.items self.old.kits.items self.old.spares.items (state_of self.old.carrier.bus) }
         ensures stage { OnOk result (IsStage A.is_app R.is_follower A.is_kit A.is_spare self.new.cast.apps.items self.new.cast.readers.items self.new.kits.items self.new.spares.items (state_of self.new.carrier.bus)) }
+        ensures does { OnOk result ((p : Playing) (e : End) (letter : Letter) (rest : List Letter) → IsPlaying p (staged A.exporter R.follower (inner_of self.old.carrier.bus) self.old.carrier.posts.items self.old.carrier.at_end.items self.old.cast.registry self.old.cast.apps.items self.old.cast.readers.items (length self.old.kits.items) (length self.old.spares.items) self.old.carrier.trace.items) → end_at p.world.ends conn ≡ Some e → e.standing ≡ here → e.down ≡ letter ∷ rest
+            → Happens (plays p (gets conn)) (staged A.exporter R.follower (inner_of self.old.carrier.bus) self.old.carrier.posts.items self.old.carrier.at_end.items self.old.cast.registry self.old.cast.apps.items self.old.cast.readers.items (length self.old.kits.items) (length self.old.spares.items) self.old.carrier.trace.items) (staged A.exporter R.follower (inner_of self.new.carrier.bus) self.new.carrier.posts.items self.new.carrier.at_end.items self.new.cast.registry self.new.cast.apps.items self.new.cast.readers.items (length self.new.kits.items) (length self.new.spares.items) self.new.carrier.trace.items)) }
     {
         self.carrier.fill(conn, usize::MAX)?;
         self.get(conn)?;

@@ -3,7 +3,7 @@
 ghost use Rattle.std.specs.Prelude.{◌≡◌, ◌-◌, ◌^◌, map, length, min, IfOk};
 ghost use Rattle.std.specs.Option.{option_copied};
 ghost use Rattle.atspi_arena.specs.Walk.{seen_sight};
-ghost use Rattle.atspi_stage.specs.Shown.{shown_sight};
+ghost use Rattle.atspi_play.specs.Playing.{shown_sight};
 
 use atspi_arena::{Rows, Seen};
 use atspi_base::NoMemory;

@@ -1,15 +1,17 @@
 //! What a reader shows of an application.
 
-ghost use Rattle.std.specs.Prelude.{◌≡◌, map, length, slice_get, Some, All, IfOk, OnOk};
+ghost use Rattle.std.specs.Prelude.{◌≡◌, ℕ, map, length, slice_get, Some, All, IfOk, OnOk};
 ghost use Rattle.atspi_bus_steps.specs.Inner.{inner_of, state_of};
 ghost use Rattle.atspi_lines.specs.declared.line.Party.TheVariants as parties;
-ghost use Rattle.atspi_trace.specs.World.{End, World};
-ghost use Rattle.atspi_trace.specs.Ends.{end_at};
+ghost use Rattle.atspi_trace.specs.Ends.{conn_of};
+ghost use Rattle.atspi_trace.specs.Causes.{shows};
+ghost use Rattle.atspi_play.specs.Playing.{Playing};
+ghost use Rattle.atspi_play.specs.Plays.{plays};
 ghost use Rattle.atspi_stage.specs.Places as places;
-ghost use Rattle.atspi_stage.specs.Shown.{shown_by, row_total, IsShownAs};
+ghost use Rattle.atspi_stage.specs.Shown.{shown_by, row_total};
 ghost use Rattle.atspi_stage.specs.Stage.{IsStage};
 ghost use Rattle.atspi_stage.specs.Wires.{name_if};
-ghost use Rattle.atspi_stage.specs.Worlds.{staged, IsWorld};
+ghost use Rattle.atspi_stage.specs.Worlds.{staged, Happens, IsPlaying};
 
 use crate::places::post_of;
 use crate::rows::{count_rows, shown_rows};
@@ -79,8 +81,8 @@ impl<A: Application, R: Follower> Stage<A, R> {
     pub(crate) fn show(&mut self, reader: u32, app: u32, conn: u32) -> Result<(), CarryFault>
         requires stage { IsStage A.is_app R.is_follower A.is_kit A.is_spare self.old.cast.apps.items self.old.cast.readers.items self.old.kits.items self.old.spares.items (state_of self.old.carrier.bus) }
         ensures stage { IsStage A.is_app R.is_follower A.is_kit A.is_spare self.new.cast.apps.items self.new.cast.readers.items self.new.kits.items self.new.spares.items (state_of self.new.carrier.bus) }
-        ensures shows { OnOk result ((w : World) (e : End) → IsWorld w (staged A.exporter R.follower (inner_of self.old.carrier.bus) self.old.carrier.posts.items self.old.cast.apps.items self.old.cast.readers.items (length self.old.kits.items) (length self.old.spares.items) self.old.carrier.trace.items) → end_at w.ends conn ≡ Some e
-            → IsShownAs w reader app e.unique (staged A.exporter R.follower (inner_of self.old.carrier.bus) self.old.carrier.posts.items self.old.cast.apps.items self.old.cast.readers.items (length self.old.kits.items) (length self.old.spares.items) self.old.carrier.trace.items) (staged A.exporter R.follower (inner_of self.new.carrier.bus) self.new.carrier.posts.items self.new.cast.apps.items self.new.cast.readers.items (length self.new.kits.items) (length self.new.spares.items) self.new.carrier.trace.items)) }
+        ensures shows { OnOk result ((p : Playing) (at : ℕ) → IsPlaying p (staged A.exporter R.follower (inner_of self.old.carrier.bus) self.old.carrier.posts.items self.old.carrier.at_end.items self.old.cast.registry self.old.cast.apps.items self.old.cast.readers.items (length self.old.kits.items) (length self.old.spares.items) self.old.carrier.trace.items) → conn_of p.world.ends (parties.App app) ≡ Some conn → conn_of p.world.ends (parties.Reader reader) ≡ Some at
+            → Happens (plays p (shows at app)) (staged A.exporter R.follower (inner_of self.old.carrier.bus) self.old.carrier.posts.items self.old.carrier.at_end.items self.old.cast.registry self.old.cast.apps.items self.old.cast.readers.items (length self.old.kits.items) (length self.old.spares.items) self.old.carrier.trace.items) (staged A.exporter R.follower (inner_of self.new.carrier.bus) self.new.carrier.posts.items self.new.carrier.at_end.items self.new.cast.registry self.new.cast.apps.items self.new.cast.readers.items (length self.new.kits.items) (length self.new.spares.items) self.new.carrier.trace.items)) }
     {
         let conn = conn as usize;
         if conn >= self.carrier.posts.len() {

@@ -7,13 +7,14 @@ ghost use Rattle.atspi_protocol.specs.registering.RegistryState.{begins};
 ghost use Rattle.atspi_routing.specs.Queues.{empty_bus};
 ghost use Rattle.atspi_bus_steps.specs.Inner.{inner_of, state_of};
 ghost use Rattle.atspi_bus_steps.specs.Sound.{IsSound};
-ghost use Rattle.atspi_trace.specs.World.{World, first_world};
+ghost use Rattle.atspi_play.specs.Playing.{first_playing, Playing};
+ghost use Rattle.atspi_play.specs.Plays.{plays};
 ghost use Rattle.atspi_trace.specs.Ends.{app_count, reader_count};
-ghost use Rattle.atspi_trace.specs.Causes.{does, renews, starts_app, starts_reader};
+ghost use Rattle.atspi_trace.specs.Causes.{renews, starts_app, starts_reader};
 ghost use Rattle.atspi_trace.specs.Work.{spare_count};
 ghost use Rattle.atspi_carrying.specs.Beginning.{IsHeard};
 ghost use Rattle.atspi_stage.specs.Stage.{IsStage};
-ghost use Rattle.atspi_stage.specs.Worlds.{staged, IsAfter, IsBegun, IsWorld};
+ghost use Rattle.atspi_stage.specs.Worlds.{staged, Happens, IsBegun, IsPlaying};
 
 use crate::cast::Cast;
 use crate::getting::{tell_app_at, tell_first, tell_reader_at};
@@ -91,7 +92,7 @@ impl<A: Application, R: Follower> Stage<A, R> {
         requires spares { All A.is_spare spares.items }
         ensures stage { IfOk result (λ stage. IsStage A.is_app R.is_follower A.is_kit A.is_spare stage.cast.apps.items stage.cast.readers.items stage.kits.items stage.spares.items (state_of stage.carrier.bus)) }
         ensures begins { IfOk result (λ stage. length kits.items ≡ APP_COUNT → length spares.items ≡ spare_count
-            → IsWorld (first_world QUOTA_MOST) (staged A.exporter R.follower (inner_of stage.carrier.bus) stage.carrier.posts.items stage.cast.apps.items stage.cast.readers.items (length stage.kits.items) (length stage.spares.items) stage.carrier.trace.items)) }
+            → IsPlaying (first_playing QUOTA_MOST) (staged A.exporter R.follower (inner_of stage.carrier.bus) stage.carrier.posts.items stage.carrier.at_end.items stage.cast.registry stage.cast.apps.items stage.cast.readers.items (length stage.kits.items) (length stage.spares.items) stage.carrier.trace.items)) }
     {
         let mut stage = Stage {
             carrier: Carrier::new(alloc, QUOTA_MOST),
@@ -113,8 +114,8 @@ impl<A: Application, R: Follower> Stage<A, R> {
         ensures stage { OnOk result (IsStage A.is_app R.is_follower A.is_kit A.is_spare self.new.cast.apps.items self.new.cast.readers.items self.new.kits.items self.new.spares.items (state_of self.new.carrier.bus)) }
         ensures ends { (self.new.cast.apps ≡ self.old.cast.apps) × (self.new.cast.readers ≡ self.old.cast.readers) }
         ensures left { (self.new.kits ≡ self.old.kits) × (self.new.spares ≡ self.old.spares) }
-        ensures begins { OnOk result ((quota : ℕ) → QUOTA_LEAST ≤ quota → inner_of self.old.carrier.bus ≡ empty_bus quota → self.old.carrier.posts.items ≡ [] → self.old.cast.registry ≡ record { state = begins; out = [] }
-            → IsBegun quota (inner_of self.new.carrier.bus) self.new.carrier.posts.items self.old.carrier.trace.items self.new.carrier.trace.items) }
+        ensures begins { OnOk result ((quota : ℕ) → QUOTA_LEAST ≤ quota → quota ≤ QUOTA_MOST → inner_of self.old.carrier.bus ≡ empty_bus quota → self.old.carrier.posts.items ≡ [] → self.old.carrier.at_end.items ≡ [] → self.old.cast.registry ≡ record { state = begins; out = [] }
+            → IsBegun quota (inner_of self.new.carrier.bus) self.new.carrier.posts.items self.new.carrier.at_end.items self.new.cast.registry self.old.carrier.trace.items self.new.carrier.trace.items) }
     {
         let told = self.carrier.trace.len();
         let conn = self.carrier.join(Party::Registry)?;
@@ -134,7 +135,7 @@ impl<A: Application, R: Follower> Stage<A, R> {
     pub(crate) fn renew(&mut self, quota: u32) -> Result<(), CarryFault>
         requires stage { IsStage A.is_app R.is_follower A.is_kit A.is_spare self.old.cast.apps.items self.old.cast.readers.items self.old.kits.items self.old.spares.items (state_of self.old.carrier.bus) }
         ensures stage { OnOk result (IsStage A.is_app R.is_follower A.is_kit A.is_spare self.new.cast.apps.items self.new.cast.readers.items self.new.kits.items self.new.spares.items (state_of self.new.carrier.bus)) }
-        ensures does { OnOk result ((w : World) → QUOTA_LEAST ≤ quota → IsWorld w (staged A.exporter R.follower (inner_of self.old.carrier.bus) self.old.carrier.posts.items self.old.cast.apps.items self.old.cast.readers.items (length self.old.kits.items) (length self.old.spares.items) self.old.carrier.trace.items) → length w.ends ≤ 1 → IsAfter (does w (renews quota)) (staged A.exporter R.follower (inner_of self.old.carrier.bus) self.old.carrier.posts.items self.old.cast.apps.items self.old.cast.readers.items (length self.old.kits.items) (length self.old.spares.items) self.old.carrier.trace.items) (staged A.exporter R.follower (inner_of self.new.carrier.bus) self.new.carrier.posts.items self.new.cast.apps.items self.new.cast.readers.items (length self.new.kits.items) (length self.new.spares.items) self.new.carrier.trace.items)) }
+        ensures does { OnOk result ((p : Playing) → QUOTA_LEAST ≤ quota → quota ≤ QUOTA_MOST → IsPlaying p (staged A.exporter R.follower (inner_of self.old.carrier.bus) self.old.carrier.posts.items self.old.carrier.at_end.items self.old.cast.registry self.old.cast.apps.items self.old.cast.readers.items (length self.old.kits.items) (length self.old.spares.items) self.old.carrier.trace.items) → length p.world.ends ≤ 1 → Happens (plays p (renews quota)) (staged A.exporter R.follower (inner_of self.old.carrier.bus) self.old.carrier.posts.items self.old.carrier.at_end.items self.old.cast.registry self.old.cast.apps.items self.old.cast.readers.items (length self.old.kits.items) (length self.old.spares.items) self.old.carrier.trace.items) (staged A.exporter R.follower (inner_of self.new.carrier.bus) self.new.carrier.posts.items self.new.carrier.at_end.items self.new.cast.registry self.new.cast.apps.items self.new.cast.readers.items (length self.new.kits.items) (length self.new.spares.items) self.new.carrier.trace.items)) }
     {
         self.carrier.renew(quota);
         self.cast.registry = Registry::new(self.carrier.alloc)?;
@@ -146,7 +147,7 @@ impl<A: Application, R: Follower> Stage<A, R> {
         requires name { IsName name.now }
         requires stage { IsStage A.is_app R.is_follower A.is_kit A.is_spare self.old.cast.apps.items self.old.cast.readers.items self.old.kits.items self.old.spares.items (state_of self.old.carrier.bus) }
         ensures stage { OnOk result (IsStage A.is_app R.is_follower A.is_kit A.is_spare self.new.cast.apps.items self.new.cast.readers.items self.new.kits.items self.new.spares.items (state_of self.new.carrier.bus)) }
-        ensures does { OnOk result ((w : World) → IsWorld w (staged A.exporter R.follower (inner_of self.old.carrier.bus) self.old.carrier.posts.items self.old.cast.apps.items self.old.cast.readers.items (length self.old.kits.items) (length self.old.spares.items) self.old.carrier.trace.items) → app_count w.ends < 16 → IsAfter (does w (starts_app name.now)) (staged A.exporter R.follower (inner_of self.old.carrier.bus) self.old.carrier.posts.items self.old.cast.apps.items self.old.cast.readers.items (length self.old.kits.items) (length self.old.spares.items) self.old.carrier.trace.items) (staged A.exporter R.follower (inner_of self.new.carrier.bus) self.new.carrier.posts.items self.new.cast.apps.items self.new.cast.readers.items (length self.new.kits.items) (length self.new.spares.items) self.new.carrier.trace.items)) }
+        ensures does { OnOk result ((p : Playing) → IsPlaying p (staged A.exporter R.follower (inner_of self.old.carrier.bus) self.old.carrier.posts.items self.old.carrier.at_end.items self.old.cast.registry self.old.cast.apps.items self.old.cast.readers.items (length self.old.kits.items) (length self.old.spares.items) self.old.carrier.trace.items) → app_count p.world.ends < 16 → Happens (plays p (starts_app name.now)) (staged A.exporter R.follower (inner_of self.old.carrier.bus) self.old.carrier.posts.items self.old.carrier.at_end.items self.old.cast.registry self.old.cast.apps.items self.old.cast.readers.items (length self.old.kits.items) (length self.old.spares.items) self.old.carrier.trace.items) (staged A.exporter R.follower (inner_of self.new.carrier.bus) self.new.carrier.posts.items self.new.carrier.at_end.items self.new.cast.registry self.new.cast.apps.items self.new.cast.readers.items (length self.new.kits.items) (length self.new.spares.items) self.new.carrier.trace.items)) }
     {
         match self.kits.pop() {
             Some(kit) => self.add_app(name, kit),
@@ -160,8 +161,8 @@ impl<A: Application, R: Follower> Stage<A, R> {
         requires name { IsName name.now }
         requires kit { A.is_kit kit }
         ensures stage { OnOk result (IsStage A.is_app R.is_follower A.is_kit A.is_spare self.new.cast.apps.items self.new.cast.readers.items self.new.kits.items self.new.spares.items (state_of self.new.carrier.bus)) }
-        ensures does { OnOk result ((w : World) → IsWorld w (staged A.exporter R.follower (inner_of self.old.carrier.bus) self.old.carrier.posts.items self.old.cast.apps.items self.old.cast.readers.items (suc (length self.old.kits.items)) (length self.old.spares.items) self.old.carrier.trace.items)
-            → IsAfter (does w (starts_app name.now)) (staged A.exporter R.follower (inner_of self.old.carrier.bus) self.old.carrier.posts.items self.old.cast.apps.items self.old.cast.readers.items (length self.old.kits.items) (length self.old.spares.items) self.old.carrier.trace.items) (staged A.exporter R.follower (inner_of self.new.carrier.bus) self.new.carrier.posts.items self.new.cast.apps.items self.new.cast.readers.items (length self.new.kits.items) (length self.new.spares.items) self.new.carrier.trace.items)) }
+        ensures does { OnOk result ((p : Playing) → IsPlaying p (staged A.exporter R.follower (inner_of self.old.carrier.bus) self.old.carrier.posts.items self.old.carrier.at_end.items self.old.cast.registry self.old.cast.apps.items self.old.cast.readers.items (suc (length self.old.kits.items)) (length self.old.spares.items) self.old.carrier.trace.items)
+            → Happens (plays p (starts_app name.now)) (staged A.exporter R.follower (inner_of self.old.carrier.bus) self.old.carrier.posts.items self.old.carrier.at_end.items self.old.cast.registry self.old.cast.apps.items self.old.cast.readers.items (length self.old.kits.items) (length self.old.spares.items) self.old.carrier.trace.items) (staged A.exporter R.follower (inner_of self.new.carrier.bus) self.new.carrier.posts.items self.new.carrier.at_end.items self.new.cast.registry self.new.cast.apps.items self.new.cast.readers.items (length self.new.kits.items) (length self.new.spares.items) self.new.carrier.trace.items)) }
     {
         let alloc = self.carrier.alloc;
         let Ok(number) = u32::try_from(self.cast.apps.len()) else {
@@ -193,7 +194,7 @@ impl<A: Application, R: Follower> Stage<A, R> {
     pub(crate) fn start_reader(&mut self) -> Result<(), CarryFault>
         requires stage { IsStage A.is_app R.is_follower A.is_kit A.is_spare self.old.cast.apps.items self.old.cast.readers.items self.old.kits.items self.old.spares.items (state_of self.old.carrier.bus) }
         ensures stage { OnOk result (IsStage A.is_app R.is_follower A.is_kit A.is_spare self.new.cast.apps.items self.new.cast.readers.items self.new.kits.items self.new.spares.items (state_of self.new.carrier.bus)) }
-        ensures does { OnOk result ((w : World) → IsWorld w (staged A.exporter R.follower (inner_of self.old.carrier.bus) self.old.carrier.posts.items self.old.cast.apps.items self.old.cast.readers.items (length self.old.kits.items) (length self.old.spares.items) self.old.carrier.trace.items) → reader_count w.ends < 4 → IsAfter (does w starts_reader) (staged A.exporter R.follower (inner_of self.old.carrier.bus) self.old.carrier.posts.items self.old.cast.apps.items self.old.cast.readers.items (length self.old.kits.items) (length self.old.spares.items) self.old.carrier.trace.items) (staged A.exporter R.follower (inner_of self.new.carrier.bus) self.new.carrier.posts.items self.new.cast.apps.items self.new.cast.readers.items (length self.new.kits.items) (length self.new.spares.items) self.new.carrier.trace.items)) }
+        ensures does { OnOk result ((p : Playing) → IsPlaying p (staged A.exporter R.follower (inner_of self.old.carrier.bus) self.old.carrier.posts.items self.old.carrier.at_end.items self.old.cast.registry self.old.cast.apps.items self.old.cast.readers.items (length self.old.kits.items) (length self.old.spares.items) self.old.carrier.trace.items) → reader_count p.world.ends < 4 → Happens (plays p starts_reader) (staged A.exporter R.follower (inner_of self.old.carrier.bus) self.old.carrier.posts.items self.old.carrier.at_end.items self.old.cast.registry self.old.cast.apps.items self.old.cast.readers.items (length self.old.kits.items) (length self.old.spares.items) self.old.carrier.trace.items) (staged A.exporter R.follower (inner_of self.new.carrier.bus) self.new.carrier.posts.items self.new.carrier.at_end.items self.new.cast.registry self.new.cast.apps.items self.new.cast.readers.items (length self.new.kits.items) (length self.new.spares.items) self.new.carrier.trace.items)) }
     {
         let Ok(number) = u32::try_from(self.cast.readers.len()) else {
             return Err(CarryFault::Spent);

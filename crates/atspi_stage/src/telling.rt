@@ -2,13 +2,12 @@
 
 ghost use Rattle.std.specs.Prelude.{◌≡◌, ◌<◌, ◌++◌, ◌∷◌, [], length, OnOk};
 ghost use Rattle.atspi_app_known.specs.happenings.Happened.{happening_of};
-ghost use Rattle.atspi_lines.specs.declared.line.Party.TheVariants as parties;
 ghost use Rattle.atspi_message.specs.Envelope.{Envelope, envelope_of};
-ghost use Rattle.atspi_protocol.specs.following.ReaderState.{sends};
 ghost use Rattle.atspi_stage_ends.specs.Done.{done_of};
 ghost use Rattle.atspi_trace.specs.Entry.{entries_of};
 ghost use Rattle.atspi_trace.specs.Causes.{did};
-ghost use Rattle.atspi_stage.specs.Doing.{said_on, silent, CanBeWritten, IsRegistryTold, IsSent, IsTold, SendsAll};
+ghost use Rattle.atspi_play.specs.Playing.{silent};
+ghost use Rattle.atspi_stage.specs.Doing.{said_on, CanBeWritten, IsRegistryTold, IsSent, IsTold, TellsAll, TellsOne};
 
 use atspi_app_known::happenings::AppEvent;
 use atspi_carrying::{CarryFault, named_app, note, send};
@@ -109,8 +108,7 @@ fn tell_deed(
     conn: u32,
     trace: &mut Vec<Event>,
 ) -> Result<(), CarryFault>
-    ensures sends { OnOk result ((e : Envelope) → done_of event ≡ sends e → conn < length posts.old
-        → IsSent (parties.Reader reader) e conn posts.old posts.new trace.old.items trace.new.items) }
+    ensures told { OnOk result (TellsOne (done_of event) reader conn posts.old posts.new trace.old.items trace.new.items) }
 {
     match event {
         ReaderEvent::Send(message) => {
@@ -138,7 +136,7 @@ pub(crate) fn tell_reader<R: Follower>(
     requires is { R.is_follower reader.old }
     ensures is { R.is_follower reader.new }
     ensures silent { OnOk result (R.follower reader.new ≡ silent (R.follower reader.old)) }
-    ensures sends { OnOk result (SendsAll (R.follower reader.old) number conn posts.old posts.new trace.old.items trace.new.items) }
+    ensures tells { OnOk result (TellsAll (R.follower reader.old) number conn posts.old posts.new trace.old.items trace.new.items) }
 {
     while let Some(event) = reader.next() {
         tell_deed(event, number, posts, conn, trace)?;

@@ -1,30 +1,32 @@
 //! Turns: each moves the first thing that waits.
 
-ghost use Rattle.std.specs.Prelude.{◌≡◌, ℕ, true, Some, length, IfOk, OnOk};
+ghost use Rattle.std.specs.Prelude.{◌≡◌, ℕ, Some, length, IfOk, OnOk};
 ghost use Rattle.atspi_bus_steps.specs.Inner.{inner_of, state_of};
-ghost use Rattle.atspi_trace.specs.World.{World};
-ghost use Rattle.atspi_trace.specs.Causes.{Cause, does};
+ghost use Rattle.atspi_play.specs.Playing.{Playing};
+ghost use Rattle.atspi_play.specs.Plays.{plays};
+ghost use Rattle.atspi_trace.specs.Causes.{Cause};
 ghost use Rattle.atspi_trace.specs.Work as work;
-ghost use Rattle.atspi_trace.specs.Work.{first_up};
-ghost use Rattle.atspi_stage.specs.Lines.{IsSegment};
+ghost use Rattle.atspi_trace.specs.Work.{next_turn};
+ghost use Rattle.atspi_stage.specs.Lines.{IsSegment, WorkDone};
 ghost use Rattle.atspi_stage.specs.Stage.{IsStage};
-ghost use Rattle.atspi_stage.specs.Turns.{turn_of, AreOfBus, Turned};
-ghost use Rattle.atspi_stage.specs.Worlds.{staged, IsAfter, IsWorld};
+ghost use Rattle.atspi_carrying.specs.Waits.{turn_of};
+ghost use Rattle.atspi_stage.specs.Turns.{TurnsMade};
+ghost use Rattle.atspi_stage.specs.Worlds.{staged, Happens, IsPlaying};
 
 use crate::stage::Stage;
 use atspi_carrying::{CarryFault, Turn, note};
 use atspi_events::Event;
 use atspi_stage_ends::{Application, Follower};
 
-/// How many turns a drain makes at most.
-pub const TURN_LIMIT: u32 = 1_000_000;
+/// How many turns a drain makes at most: more than messages can be taken, since each of 22 parties takes each message of a serial at most once.
+const TURN_LIMIT: u64 = 1 << 42;
 
 impl<A: Application, R: Follower> Stage<A, R> {
     /// Moves what waits.
     fn turn(&mut self, turn: Turn) -> Result<(), CarryFault>
         requires stage { IsStage A.is_app R.is_follower A.is_kit A.is_spare self.old.cast.apps.items self.old.cast.readers.items self.old.kits.items self.old.spares.items (state_of self.old.carrier.bus) }
         ensures stage { OnOk result (IsStage A.is_app R.is_follower A.is_kit A.is_spare self.new.cast.apps.items self.new.cast.readers.items self.new.kits.items self.new.spares.items (state_of self.new.carrier.bus)) }
-        ensures does { OnOk result ((w : World) (c : Cause) → IsWorld w (staged A.exporter R.follower (inner_of self.old.carrier.bus) self.old.carrier.posts.items self.old.cast.apps.items self.old.cast.readers.items (length self.old.kits.items) (length self.old.spares.items) self.old.carrier.trace.items) → first_up 0 w.ends ≡ Some c → turn_of c ≡ Some turn → IsAfter (does w c) (staged A.exporter R.follower (inner_of self.old.carrier.bus) self.old.carrier.posts.items self.old.cast.apps.items self.old.cast.readers.items (length self.old.kits.items) (length self.old.spares.items) self.old.carrier.trace.items) (staged A.exporter R.follower (inner_of self.new.carrier.bus) self.new.carrier.posts.items self.new.cast.apps.items self.new.cast.readers.items (length self.new.kits.items) (length self.new.spares.items) self.new.carrier.trace.items)) }
+        ensures does { OnOk result ((p : Playing) (c : Cause) → IsPlaying p (staged A.exporter R.follower (inner_of self.old.carrier.bus) self.old.carrier.posts.items self.old.carrier.at_end.items self.old.cast.registry self.old.cast.apps.items self.old.cast.readers.items (length self.old.kits.items) (length self.old.spares.items) self.old.carrier.trace.items) → next_turn p.world ≡ Some c → turn_of c ≡ Some turn → Happens (plays p c) (staged A.exporter R.follower (inner_of self.old.carrier.bus) self.old.carrier.posts.items self.old.carrier.at_end.items self.old.cast.registry self.old.cast.apps.items self.old.cast.readers.items (length self.old.kits.items) (length self.old.spares.items) self.old.carrier.trace.items) (staged A.exporter R.follower (inner_of self.new.carrier.bus) self.new.carrier.posts.items self.new.carrier.at_end.items self.new.cast.registry self.new.cast.apps.items self.new.cast.readers.items (length self.new.kits.items) (length self.new.spares.items) self.new.carrier.trace.items)) }
     {
         match turn {
             Turn::Route(conn) => self.carrier.route(conn),
@@ -37,7 +39,7 @@ impl<A: Application, R: Follower> Stage<A, R> {
     pub(crate) fn turns(&mut self, most: u32) -> Result<bool, CarryFault>
         requires stage { IsStage A.is_app R.is_follower A.is_kit A.is_spare self.old.cast.apps.items self.old.cast.readers.items self.old.kits.items self.old.spares.items (state_of self.old.carrier.bus) }
         ensures stage { OnOk result (IsStage A.is_app R.is_follower A.is_kit A.is_spare self.new.cast.apps.items self.new.cast.readers.items self.new.kits.items self.new.spares.items (state_of self.new.carrier.bus)) }
-        ensures turned { IfOk result (λ more. (w : World) (count : ℕ) → IsWorld w (staged A.exporter R.follower (inner_of self.old.carrier.bus) self.old.carrier.posts.items self.old.cast.apps.items self.old.cast.readers.items (length self.old.kits.items) (length self.old.spares.items) self.old.carrier.trace.items) → AreOfBus most w → Turned w count most 0 (staged A.exporter R.follower (inner_of self.old.carrier.bus) self.old.carrier.posts.items self.old.cast.apps.items self.old.cast.readers.items (length self.old.kits.items) (length self.old.spares.items) self.old.carrier.trace.items) (staged A.exporter R.follower (inner_of self.new.carrier.bus) self.new.carrier.posts.items self.new.cast.apps.items self.new.cast.readers.items (length self.new.kits.items) (length self.new.spares.items) self.new.carrier.trace.items) × (more ≡ true)) }
+        ensures turned { IfOk result (λ more. (p : Playing) (count : ℕ) → IsPlaying p (staged A.exporter R.follower (inner_of self.old.carrier.bus) self.old.carrier.posts.items self.old.carrier.at_end.items self.old.cast.registry self.old.cast.apps.items self.old.cast.readers.items (length self.old.kits.items) (length self.old.spares.items) self.old.carrier.trace.items) → TurnsMade p count most more (staged A.exporter R.follower (inner_of self.old.carrier.bus) self.old.carrier.posts.items self.old.carrier.at_end.items self.old.cast.registry self.old.cast.apps.items self.old.cast.readers.items (length self.old.kits.items) (length self.old.spares.items) self.old.carrier.trace.items) (staged A.exporter R.follower (inner_of self.new.carrier.bus) self.new.carrier.posts.items self.new.carrier.at_end.items self.new.cast.registry self.new.cast.apps.items self.new.cast.readers.items (length self.new.kits.items) (length self.new.spares.items) self.new.carrier.trace.items)) }
     {
         for _turn in 0..most {
             match self.carrier.next_turn() {
@@ -52,7 +54,7 @@ impl<A: Application, R: Follower> Stage<A, R> {
     pub(crate) fn make_turns(&mut self, most: u32) -> Result<(), CarryFault>
         requires stage { IsStage A.is_app R.is_follower A.is_kit A.is_spare self.old.cast.apps.items self.old.cast.readers.items self.old.kits.items self.old.spares.items (state_of self.old.carrier.bus) }
         ensures stage { OnOk result (IsStage A.is_app R.is_follower A.is_kit A.is_spare self.new.cast.apps.items self.new.cast.readers.items self.new.kits.items self.new.spares.items (state_of self.new.carrier.bus)) }
-        ensures does { OnOk result ((w : World) → IsWorld w (staged A.exporter R.follower (inner_of self.old.carrier.bus) self.old.carrier.posts.items self.old.cast.apps.items self.old.cast.readers.items (length self.old.kits.items) (length self.old.spares.items) self.old.carrier.trace.items) → AreOfBus most w → IsSegment w (work.turning most most) (staged A.exporter R.follower (inner_of self.old.carrier.bus) self.old.carrier.posts.items self.old.cast.apps.items self.old.cast.readers.items (length self.old.kits.items) (length self.old.spares.items) self.old.carrier.trace.items) (staged A.exporter R.follower (inner_of self.new.carrier.bus) self.new.carrier.posts.items self.new.cast.apps.items self.new.cast.readers.items (length self.new.kits.items) (length self.new.spares.items) self.new.carrier.trace.items)) }
+        ensures does { OnOk result ((p : Playing) → IsPlaying p (staged A.exporter R.follower (inner_of self.old.carrier.bus) self.old.carrier.posts.items self.old.carrier.at_end.items self.old.cast.registry self.old.cast.apps.items self.old.cast.readers.items (length self.old.kits.items) (length self.old.spares.items) self.old.carrier.trace.items) → IsSegment p (work.turning most most) (staged A.exporter R.follower (inner_of self.old.carrier.bus) self.old.carrier.posts.items self.old.carrier.at_end.items self.old.cast.registry self.old.cast.apps.items self.old.cast.readers.items (length self.old.kits.items) (length self.old.spares.items) self.old.carrier.trace.items) (staged A.exporter R.follower (inner_of self.new.carrier.bus) self.new.carrier.posts.items self.new.carrier.at_end.items self.new.cast.registry self.new.cast.apps.items self.new.cast.readers.items (length self.new.kits.items) (length self.new.spares.items) self.new.carrier.trace.items)) }
     {
         if !self.turns(most)? {
             return Ok(());
@@ -60,17 +62,18 @@ impl<A: Application, R: Follower> Stage<A, R> {
         note(&mut self.carrier.trace, Event::Busy(most))
     }
 
-    /// Turns until nothing waits, which is told; where 1,000,000 were made and something waits, that.
+    /// Turns until nothing waits, which is told. Spent where so many were made that no serial is left.
     pub(crate) fn drain(&mut self) -> Result<(), CarryFault>
         requires stage { IsStage A.is_app R.is_follower A.is_kit A.is_spare self.old.cast.apps.items self.old.cast.readers.items self.old.kits.items self.old.spares.items (state_of self.old.carrier.bus) }
         ensures stage { OnOk result (IsStage A.is_app R.is_follower A.is_kit A.is_spare self.new.cast.apps.items self.new.cast.readers.items self.new.kits.items self.new.spares.items (state_of self.new.carrier.bus)) }
+        ensures does { OnOk result ((p : Playing) → IsPlaying p (staged A.exporter R.follower (inner_of self.old.carrier.bus) self.old.carrier.posts.items self.old.carrier.at_end.items self.old.cast.registry self.old.cast.apps.items self.old.cast.readers.items (length self.old.kits.items) (length self.old.spares.items) self.old.carrier.trace.items) → WorkDone p work.draining (staged A.exporter R.follower (inner_of self.old.carrier.bus) self.old.carrier.posts.items self.old.carrier.at_end.items self.old.cast.registry self.old.cast.apps.items self.old.cast.readers.items (length self.old.kits.items) (length self.old.spares.items) self.old.carrier.trace.items) (staged A.exporter R.follower (inner_of self.new.carrier.bus) self.new.carrier.posts.items self.new.carrier.at_end.items self.new.cast.registry self.new.cast.apps.items self.new.cast.readers.items (length self.new.kits.items) (length self.new.spares.items) self.new.carrier.trace.items)) }
     {
-        let event = if self.turns(TURN_LIMIT)? {
-            Event::Busy(TURN_LIMIT)
-        } else {
-            Event::Quiet
-        };
-        note(&mut self.carrier.trace, event)?;
-        Ok(())
+        for _turn in 0..TURN_LIMIT {
+            match self.carrier.next_turn() {
+                Some(turn) => self.turn(turn)?,
+                None => return note(&mut self.carrier.trace, Event::Quiet),
+            }
+        }
+        Err(CarryFault::Spent)
     }
 }

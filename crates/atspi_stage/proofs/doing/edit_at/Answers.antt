@@ -1,5 +1,9 @@
 use Rattle.atspi_stage.proofs.Elements.{edits_at}
+use Rattle.atspi_stage.proofs.Reasons.{err_at}
 use Rattle.atspi_stage.proofs.doing.edit_at.Goals as goal
 
 pub returns-clause-edited : goal.returns-clause-edited
 returns-clause-edited g c = edits_at g.A.Application.exporter c.edit.result c.args.apps.now _ c.edit.new.self c.args.number c.args.edit.now (cc (c.index-apps-place.is)) c.edit.ensures.ok
+
+pub returns-clause-err : goal.returns-clause-err
+returns-clause-err g c = err_at g.A.Application.exporter c.edit.result c.args.apps.now c.args.number _ c.edit.new.self (cc (c.index-apps-place.is)) c.edit.ensures.err

@@ -1,10 +1,15 @@
-use Rattle.std.proofs.Common.{◌≡◌, [], ◌∷◌, ◌++◌, Some, ap, ◌∙◌, subst}
+use Rattle.std.proofs.Common.{◌≡◌, List, [], ◌∷◌, ◌++◌, Some, refl, sym, ap, ◌∙◌, subst}
 use Rattle.atspi_message.specs.Bytes.{written}
-use Rattle.atspi_stage.specs.Taken.{got_by}
+use Rattle.atspi_stream.specs.Stream.{AwaitsMore}
+use Rattle.atspi_stage.specs.Taken.{got_by, ends_after, ends_of}
+use Rattle.atspi_stage.proofs.Wholes.{no_message}
 use Rattle.atspi_stage.proofs.getting.hand_front.Goals as goal
 
 pub returns-in-None-clause-hands : goal.returns-in-None-clause-hands
 returns-in-None-clause-hands g c = λ m rest is front. absurd (c.in-None.ensures.given m (written m) rest is (c.as_slice.ensures ∙ front))
+
+pub returns-in-None-clause-nothing : goal.returns-in-None-clause-nothing
+returns-in-None-clause-nothing g c = λ more. (refl, (refl, refl))
 
 pub returns-in-Ok-clause-hands : goal.returns-in-Ok-clause-hands
 returns-in-Ok-clause-hands g c = λ m rest is front.
@@ -12,4 +17,9 @@ returns-in-Ok-clause-hands g c = λ m rest is front.
     record {
       long = ap Some given.1;
       told = subst (λ e. c.hand.new.trace.items ≡ c.args.trace.now.items ++ got_by c.args.taker c.args.posts.now e ∷ []) given.0 c.in-Ok.ensures.told;
+      taken = subst (λ e. ends_of g.A.Application.exporter g.R.Follower.follower c.hand.new.cast.registry c.hand.new.cast.apps.items c.hand.new.cast.readers.items
+          ≡ ends_after c.args.taker e (ends_of g.A.Application.exporter g.R.Follower.follower c.args.cast.now.registry c.args.cast.now.apps.items c.args.cast.now.readers.items)) given.0 c.in-Ok.ensures.took;
     }
+
+pub returns-in-Ok-clause-nothing : goal.returns-in-Ok-clause-nothing
+returns-in-Ok-clause-nothing g c = λ more. absurd (no_message _ c.as_slice.result.now _ c.in-Some.ensures.message (subst AwaitsMore (sym c.as_slice.ensures) more))

@@ -18,9 +18,18 @@ returns-in-Ok-Some-clause-takes g c = λ m rest is front.
       took_it = refl;
       left = behind _ _ (written m) rest _ c.pop.ensures (same_Some _ _ (sym c.in-Ok-Some.field-0-is ∙ handed.long)) front;
       told = handed.told;
+      taken = handed.taken;
     }
+
+pub returns-in-Ok-Some-clause-nothing : goal.returns-in-Ok-Some-clause-nothing
+returns-in-Ok-Some-clause-nothing g c = λ more. absurd (none_some c.in-Ok-Some.len (sym (c.in-Ok-Some.ensures.nothing more).0 ∙ c.in-Ok-Some.field-0-is))
 
 pub returns-in-Ok-None-clause-takes : goal.returns-in-Ok-None-clause-takes
 returns-in-Ok-None-clause-takes g c = λ m rest is front.
     let handed = c.in-Ok-None.ensures.hands m rest is front in
     absurd (none_some (length (written m)) (sym c.in-Ok-None.field-0-is ∙ handed.long))
+
+pub returns-in-Ok-None-clause-nothing : goal.returns-in-Ok-None-clause-nothing
+returns-in-Ok-None-clause-nothing g c = λ more.
+    let handed = c.in-Ok-None.ensures.nothing more in
+    (refl, (refl, (handed.1.0, handed.1.1)))

@@ -1,5 +1,5 @@
 use Rattle.std.proofs.Common.{◌≡◌, ◌++◌, length, map}
-use Rattle.atspi_stage.specs.Shown.{shown_sight}
+use Rattle.atspi_play.specs.Playing.{shown_sight}
 use Rattle.atspi_stage.proofs.rows.shown_rows.Given as goal
 
 -- what was shown, and then what is left, is all

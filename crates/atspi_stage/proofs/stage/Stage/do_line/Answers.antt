@@ -1,5 +1,5 @@
 use Rattle.std.proofs.lemmas.Result.{on_ok_weaker}
-use Rattle.atspi_stage.proofs.Lining.{ok_any, line_app, line_reader, line_swap, line_exit, line_leave, line_quota, line_show, line_turns, line_drain, line_bytes}
+use Rattle.atspi_stage.proofs.Lined.{line_app, line_rest, line_reader, line_swap, line_exit, line_leave, line_quota, line_show, line_turns, line_drain, line_bytes}
 use Rattle.atspi_stage.proofs.stage.Stage.do_line.Goals as goal
 
 pub returns-in-Quota-clause-does : goal.returns-in-Quota-clause-does
@@ -27,7 +27,10 @@ pub returns-in-Turns-clause-does : goal.returns-in-Turns-clause-does
 returns-in-Turns-clause-does g c = on_ok_weaker c.make_turns.result (line_turns c.args.line.now _ _ c.in-Turns.count c.in-Turns.is) c.make_turns.ensures.does
 
 pub returns-in-Drain-clause-does : goal.returns-in-Drain-clause-does
-returns-in-Drain-clause-does g c = ok_any c.drain.result (line_drain c.args.line.now _ _ c.in-Drain.is)
+returns-in-Drain-clause-does g c = on_ok_weaker c.drain.result (line_drain c.args.line.now _ _ c.in-Drain.is) c.drain.ensures.does
 
 pub returns-in-Show-clause-does : goal.returns-in-Show-clause-does
 returns-in-Show-clause-does g c = on_ok_weaker c.show_of.result (line_show c.args.line.now _ _ c.in-Show.reader c.in-Show.app c.in-Show.is) c.show_of.ensures.does
+
+pub returns-in-Blank-clause-does : goal.returns-in-Blank-clause-does
+returns-in-Blank-clause-does g c = line_rest c.args.line.now _ c.in-Blank.is

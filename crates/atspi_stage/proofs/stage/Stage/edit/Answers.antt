@@ -1,14 +1,23 @@
-use Rattle.std.proofs.Common.{map, refl, sym, ap, ◌∙◌, subst, arith}
+use Rattle.std.proofs.Common.{Err, Some, map, refl, sym, ap, ◌∙◌, subst, arith}
+use Rattle.atspi_trace.specs.Work.{of_edit}
 use Rattle.atspi_stage.specs.Doing.{EditsAt}
+use Rattle.atspi_stage.specs.Refusals.{EditIsRefused}
 use Rattle.atspi_stage.proofs.Queued.{written_back, tells_as}
+use Rattle.atspi_stage.proofs.Reasons.{edit_why}
 use Rattle.atspi_stage.proofs.Sayings.{edit_world}
 use Rattle.atspi_stage.proofs.stage.Stage.edit.Goals as goal
 
 pub returns-clause-does : goal.returns-clause-does
-returns-clause-does g c = λ w is there.
+returns-clause-does g c = λ p is there.
     let exporter = g.A.Application.exporter in
-    edit_world w c.args.conn c.args.app c.args.edit.now _ _ (map exporter c.edit_at.new.apps) is there
+    edit_world p c.args.conn c.args.app c.args.edit.now _ _ (map exporter c.edit_at.new.apps) is there
     (subst (λ l. EditsAt (map exporter l) (map exporter c.edit_at.new.apps) c.args.app c.args.edit.now) c.deref_mut.ensures.value c.in_ok-edit_at.ensures.edited)
     (tells_as _ _ _ _ _ _ _ _ c.args.app c.args.conn _ _ (ap (map exporter) (c.deref_mut-2.ensures.value ∙ written_back _ c.edit_at.new.apps _ (omega arith))) (ap (map exporter) (sym (written_back _ c.tell_app_at.new.apps _ (omega arith))))
     c.deref_mut-3.ensures.value (sym (written_back _ c.tell_app_at.new.posts _ (omega arith))) c.in_ok-tell_app_at.ensures.told)
-    refl refl (record { kits = refl; spares = refl })
+    refl refl refl (record { registry = refl; kits = refl; spares = refl })
+
+pub returns-in_err-edit_at-clause-refused : goal.returns-in_err-edit_at-clause-refused
+returns-in_err-edit_at-clause-refused g c = λ why is.
+    let exporter = g.A.Application.exporter in
+    edit_why c.in_err-edit_at.field-0.0 c.from_residual.result why (λ o. EditIsRefused o (map exporter c.args.self.now.cast.apps.items) c.args.app c.args.edit.now) c.from_residual.ensures.1 is
+    (λ fault e. subst (λ l. EditIsRefused (Some (of_edit fault)) (map exporter l) c.args.app c.args.edit.now) c.deref_mut.ensures.value (c.in_err-edit_at.ensures.refused fault (ap Err e)))

@@ -1,16 +1,17 @@
 use Rattle.std.proofs.Common.{Some, subst}
 use Rattle.std.proofs.lemmas.Result.{on_ok_weaker}
-use Rattle.atspi_stage.proofs.Lining.{ok_any, Finds, find_none}
-use Rattle.atspi_stage.proofs.Moved.{bytes_none, bytes_up_some, bytes_down}
+use Rattle.atspi_stage.proofs.Lining.{Finds, find_none}
+use Rattle.atspi_stage.proofs.Moved.{bytes_none, bytes_up_some, bytes_down_some}
 use Rattle.atspi_stage.proofs.stage.Stage.move_bytes.Goals as goal
 
 pub returns-in_default-clause-does : goal.returns-in_default-clause-does
 returns-in_default-clause-does g c =
-    bytes_none c.args.who c.args.up c.args.count _ (find_none c.conn_of.result c.args.who _ c.in_default.not-Some (subst (Finds c.conn_of.result c.args.who) c.deref.ensures.value c.conn_of.ensures))
+    bytes_none c.args.who c.args.up c.args.count _ _ (find_none c.conn_of.result c.args.who _ c.in_default.not-Some (subst (Finds c.conn_of.result c.args.who) c.deref.ensures.value c.conn_of.ensures))
 
 pub returns-then-up-clause-does : goal.returns-then-up-clause-does
 returns-then-up-clause-does g c =
     on_ok_weaker c.move_up.result (bytes_up_some c.args.who c.args.up c.args.count c.in-Some.conn _ _ c.if-up.true (subst (Finds (Some c.in-Some.conn) c.args.who) c.deref.ensures.value c.in-Some.ensures)) c.move_up.ensures.does
 
 pub returns-clause-does : goal.returns-clause-does
-returns-clause-does g c = ok_any c.move_down.result (bytes_down c.args.who c.args.up c.args.count _ _ c.if-up.false)
+returns-clause-does g c =
+    on_ok_weaker c.move_down.result (bytes_down_some c.args.who c.args.up c.args.count c.in-Some.conn _ _ c.if-up.false (subst (Finds (Some c.in-Some.conn) c.args.who) c.deref.ensures.value c.in-Some.ensures)) c.move_down.ensures.does

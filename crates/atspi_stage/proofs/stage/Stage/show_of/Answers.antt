@@ -10,4 +10,4 @@ returns-in-Some-clause-does g c =
     on_ok_weaker c.show.result (show_some c.args.reader c.args.app c.in-Some.conn _ _ (subst (Finds (Some c.in-Some.conn) (App c.args.app)) c.deref.ensures.value c.in-Some.ensures)) c.show.ensures.shows
 
 pub returns-in-None-clause-does : goal.returns-in-None-clause-does
-returns-in-None-clause-does g c = show_none c.args.reader c.args.app _ (subst (Finds None (App c.args.app)) c.deref.ensures.value c.in-None.ensures)
+returns-in-None-clause-does g c = show_none c.args.reader c.args.app _ _ (subst (Finds None (App c.args.app)) c.deref.ensures.value c.in-None.ensures)

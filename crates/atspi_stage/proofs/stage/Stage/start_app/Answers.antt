@@ -1,16 +1,18 @@
 use Rattle.std.proofs.Common.{◌≡◌, suc, length, subst, arith}
 use Rattle.std.proofs.lemmas.Result.{on_ok_weaker}
 use Rattle.atspi_bus_steps.specs.Inner.{inner_of}
-use Rattle.atspi_stage.specs.Worlds.{staged, IsWorld}
+use Rattle.atspi_stage.specs.Worlds.{staged, IsPlaying}
 use Rattle.atspi_stage.proofs.stage.Stage.start_app.Goals as goal
 
 pub returns-in-Some-clause-does : goal.returns-in-Some-clause-does
 returns-in-Some-clause-does g c =
     let s = c.args.self.now in
     let more : length s.kits.items ≡ suc (length c.pop.new.self.items) = omega (arith, c.in-Some.ensures) in
-    on_ok_weaker c.add_app.result (λ done w is few.
-    (let a = done w (subst (λ n. IsWorld w (staged g.A.Application.exporter g.R.Follower.follower (inner_of s.carrier.bus) s.carrier.posts.items s.cast.apps.items s.cast.readers.items n (length s.spares.items) s.carrier.trace.items)) more is) in
+    on_ok_weaker c.add_app.result (λ done p is few.
+    (let a = done p
+    (subst (λ n. IsPlaying p (staged g.A.Application.exporter g.R.Follower.follower (inner_of s.carrier.bus) s.carrier.posts.items s.carrier.at_end.items s.cast.registry
+    s.cast.apps.items s.cast.readers.items n (length s.spares.items) s.carrier.trace.items)) more is) in
     record { is = a.is; wrote = a.wrote })) c.add_app.ensures.does
 
 pub returns-in-None-clause-does : goal.returns-in-None-clause-does
-returns-in-None-clause-does g c = λ w is few. absurd (omega (arith, few, is.kits_are, is.apps_are, c.in-None.ensures))
+returns-in-None-clause-does g c = λ p is few. absurd (omega (arith, few, is.is.kits_are, is.is.apps_are, c.in-None.ensures))

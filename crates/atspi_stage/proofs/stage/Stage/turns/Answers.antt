@@ -1,27 +1,24 @@
-use Rattle.std.proofs.Common.{sym, ◌∙◌, arith}
-use Rattle.atspi_bus_steps.specs.Inner.{inner_of}
-use Rattle.atspi_stage.proofs.Turns.{none_turned, turned_more, turned_not, turned_all, finds_up, something_waits}
+use Rattle.std.proofs.Common.{sym, arith}
+use Rattle.atspi_stage.proofs.TurnsMade.{finds_as, finds_so, turned_none, turned_more, made_some, made_all, made_as}
 use Rattle.atspi_stage.proofs.stage.Stage.turns.Goals as goal
 
 pub loop-turn-init : goal.loop-turn-init
-loop-turn-init g c = record { stage = c.requires.stage; turned = λ w count is ours. (c.args.most, (omega arith, none_turned w count c.args.most _ is ours)) }
+loop-turn-init g c = record { stage = c.requires.stage; turned = λ p count is. turned_none p count c.args.most _ is }
 
 pub loop-turn-preserved : goal.loop-turn-preserved
 loop-turn-preserved g c =
     let inv = c.loop-turn.invariant in
-    let s = c.loop-turn.self.carrier in
     record {
       stage = c.in_ok-turn-in-Some.ensures.stage;
-      turned = λ w count is ours. turned_more w count c.args.most c.loop-turn._turn _ _ _ (inv.turned w count is ours) c.loop-turn-test.true (λ v k v_is up. c.in_ok-turn-in-Some.ensures.does v k v_is up
-          (sym (finds_up v (inner_of s.bus) s.posts.items s.at_end.items c.next_turn.result k v_is.carried c.next_turn.ensures up) ∙ c.in-Some.is));
+      turned = λ p count is. turned_more p count c.args.most c.loop-turn._turn _ _ _ c.in-Some.turn (inv.turned p count is) c.loop-turn-test.true
+          (finds_as _ c.next_turn.result _ c.in-Some.is c.next_turn.ensures) c.in_ok-turn-in-Some.ensures.does;
     }
 
 pub returns-in-None-clause-turned : goal.returns-in-None-clause-turned
-returns-in-None-clause-turned g c = λ w count is ours.
-    absurd (turned_not w count c.args.most c.loop-turn._turn _ _ c.loop-turn.self.carrier.at_end.items (c.loop-turn.invariant.turned w count is ours) c.loop-turn-test.true c.in-None.ensures)
+returns-in-None-clause-turned g c = λ p count is.
+    made_some p count c.args.most c.loop-turn._turn _ _ (c.loop-turn.invariant.turned p count is) (finds_as _ c.next_turn.result _ c.in-None.is c.next_turn.ensures)
 
 pub returns-clause-turned : goal.returns-clause-turned
-returns-clause-turned g c = λ w count is ours.
-    let t = turned_all w count c.args.most c.loop-turn._turn _ _ (c.loop-turn.invariant.turned w count is ours) (omega arith) in
-    let s = c.loop-turn.self.carrier in
-    (t, c.is_some.ensures ∙ something_waits t.now (inner_of s.bus) s.posts.items s.at_end.items c.next_turn-2.result t.is.carried c.next_turn-2.ensures t.rest)
+returns-clause-turned g c = λ p count is.
+    made_as p count c.args.most _ _ _ _ (sym c.is_some.ensures)
+    (made_all p count c.args.most c.loop-turn._turn _ _ c.next_turn-2.result (c.loop-turn.invariant.turned p count is) (omega arith) (finds_so c.next_turn-2.result _ c.next_turn-2.ensures))

@@ -1,0 +1,12 @@
+use Rattle.std.proofs.Common.{arith}
+use Rattle.atspi_header.specs.View.{envelope_at}
+use Rattle.atspi_protocol.specs.exporting.Taking.{app_takes}
+use Rattle.atspi_stage.proofs.Elements.{took_at, took_none}
+use Rattle.atspi_stage.proofs.cast.take_app.Goals as goal
+
+pub returns-then-place-apps-clause-took : goal.returns-then-place-apps-clause-took
+returns-then-place-apps-clause-took g c = took_none g.A.Application.exporter (λ s. app_takes s (envelope_at c.args.message.now)) c.args.apps.now c.args.number (omega arith)
+
+pub returns-clause-took : goal.returns-clause-took
+returns-clause-took g c =
+    took_at g.A.Application.exporter c.take.result (λ s. app_takes s (envelope_at c.args.message.now)) c.args.apps.now c.args.number _ c.take.new.self (cc (c.index-apps-place.is)) c.take.ensures.ok

@@ -1,0 +1,12 @@
+use Rattle.std.proofs.Common.{arith}
+use Rattle.atspi_header.specs.View.{envelope_at}
+use Rattle.atspi_protocol.specs.following.Takes.{reader_takes}
+use Rattle.atspi_stage.proofs.Elements.{took_at, took_none}
+use Rattle.atspi_stage.proofs.cast.take_reader.Goals as goal
+
+pub returns-then-place-readers-clause-took : goal.returns-then-place-readers-clause-took
+returns-then-place-readers-clause-took g c = took_none g.R.Follower.follower (λ s. reader_takes s (envelope_at c.args.message.now)) c.args.readers.now c.args.number (omega arith)
+
+pub returns-clause-took : goal.returns-clause-took
+returns-clause-took g c =
+    took_at g.R.Follower.follower c.take.result (λ s. reader_takes s (envelope_at c.args.message.now)) c.args.readers.now c.args.number _ c.take.new.self (cc (c.index-readers-place.is)) c.take.ensures.ok
