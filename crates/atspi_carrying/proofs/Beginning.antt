@@ -46,7 +46,7 @@ use Rattle.atspi_trace.proofs.Maps.{maps, numbers_get, numbers_insert, numbers_f
 use Rattle.atspi_trace.proofs.RulesRead.{rules_read}
 use Rattle.atspi_carrying.specs.Beginning.{HasUp, with_one_taken, IsGreeting, IsGreeted, IsHeard}
 use Rattle.atspi_carrying.specs.Carried.{standing_at, bytes_up, post_of, IsCarried, IsDone}
-use Rattle.atspi_carrying.specs.Downs.{bytes_down, IsBegun, IsWaiting, Wait}
+use Rattle.atspi_carrying.specs.Downs.{messages_of, bytes_down, IsBegun, IsWaiting, Wait}
 use Rattle.atspi_carrying.specs.Filled.{waits_for, gave}
 use Rattle.atspi_carrying.proofs.Downs.{letter_message}
 use Rattle.atspi_carrying.proofs.Filling.{both_gone}
@@ -123,10 +123,6 @@ nobody_waits q = λ conn e at. by conn e at
     by : (conn : ℕ) (e : End) → end_at [] conn ≡ Some e → IsWaiting q conn e
     by zero e at = absurd cc
     by (suc conn) e at = absurd cc
-
--- the messages of letters
-abbrev pub messages_of : List Letter → List Envelope
-messages_of letters = map (λ (l : Letter). l.said.message) letters
 
 -- ONE END, with these messages on its links
 record OneEnd (ends : List End) (unique : Option (List ℕ)) (up : List Said) (down : List Envelope) : Type 0 where

@@ -278,6 +278,11 @@ one_there (Ok count) b b' posts given conn most lay lies at few filled =
     (λ g there. record { now = lies; ends_are = refl; filled = subst (λ l. IsFilled b b' l lies conn most count) (at ∙ get_or_from_slice_get given conn g lay there) filled })
 one_there (Err fault) b b' posts given conn most lay lies at few filled = tt
 
+-- the first message of a down link is spelled by its bytes
+pub letter_spelled : (w : World) (given : List (List ℕ)) (conn : ℕ) (e : End) (letter : Letter) (rest : List Letter) → IsLinked w given → end_at w.ends conn ≡ Some e → e.down ≡ letter ∷ rest
+    → IsMessage letter.said.message (written letter.said.message)
+letter_spelled w given conn e letter rest is at link = (subst (AllByRecursion IsLetter) link (all_at AreLetters w.ends conn e is.hands.letters at)).0
+
 -- where bytes wait a letter does; where none do and none lie at the end, neither does one
 pub letter_waits : (w : World) (b : Bus) (posts : List Post) (given : List (List ℕ)) (conn : ℕ) (e : End) → IsCarried w b posts → IsLinked w given → end_at w.ends conn ≡ Some e → 0 < length (waits_for b conn)
     → (letter : Letter) × ((rest : List Letter) × (e.down ≡ letter ∷ rest))

@@ -14,6 +14,7 @@ pub mod Elements
 pub mod Firsts
 pub mod Found
 pub mod GotMessages
+pub mod Hearing
 pub mod Joining
 pub mod Lined
 pub mod Lining

@@ -13,6 +13,7 @@ ghost use Rattle.atspi_trace.specs.Ends.{app_count, reader_count};
 ghost use Rattle.atspi_trace.specs.Causes.{renews, starts_app, starts_reader};
 ghost use Rattle.atspi_trace.specs.Work.{spare_count};
 ghost use Rattle.atspi_carrying.specs.Beginning.{IsHeard};
+ghost use Rattle.atspi_stage.specs.Hearing.{HearsFront, HearsOff, HearsAt, HearsAll};
 ghost use Rattle.atspi_stage.specs.Stage.{IsStage};
 ghost use Rattle.atspi_stage.specs.Worlds.{staged, Happens, IsBegun, IsPlaying};
 
@@ -35,6 +36,7 @@ const START_TURNS: u32 = 64;
 /// start, and nothing of that is told.
 fn hear_front(registry: &mut Registry, at_end: &Link) -> Result<Option<usize>, CarryFault>
     ensures within { IfOk result (λ len. IfSome len (λ n. n ≤ length at_end.now)) }
+    ensures hears { IfOk result (λ len. HearsFront at_end.now registry.old registry.new len) }
 {
     match first_message(at_end.as_slice()) {
         None => Ok(None),
@@ -46,7 +48,9 @@ fn hear_front(registry: &mut Registry, at_end: &Link) -> Result<Option<usize>, C
 }
 
 /// The same; what it took is gone.
-fn hear(registry: &mut Registry, at_end: &mut Link) -> Result<(), CarryFault> {
+fn hear(registry: &mut Registry, at_end: &mut Link) -> Result<(), CarryFault>
+    ensures hears { OnOk result (HearsOff at_end.old at_end.new registry.old registry.new) }
+{
     if let Some(len) = hear_front(registry, at_end)? {
         at_end.pop(len);
     }
@@ -54,7 +58,9 @@ fn hear(registry: &mut Registry, at_end: &mut Link) -> Result<(), CarryFault> {
 }
 
 /// The same at the end of a connection, if it is there.
-fn hear_at(registry: &mut Registry, at_end: &mut [Link], conn: u32) -> Result<(), CarryFault> {
+fn hear_at(registry: &mut Registry, at_end: &mut [Link], conn: u32) -> Result<(), CarryFault>
+    ensures hears { OnOk result (HearsAt at_end.old at_end.new conn registry.old registry.new) }
+{
     let place = conn as usize;
     if place >= at_end.len() {
         return Ok(());
@@ -70,6 +76,7 @@ fn hear_all(carrier: &mut Carrier, registry: &mut Registry, conn: u32) -> Result
     ensures posts { carrier.new.posts ≡ carrier.old.posts }
     ensures trace { carrier.new.trace ≡ carrier.old.trace }
     ensures heard { OnOk result (IsHeard (inner_of carrier.old.bus) (inner_of carrier.new.bus) conn) }
+    ensures hears { OnOk result (HearsAll (inner_of carrier.old.bus) (inner_of carrier.new.bus) carrier.old.posts.items carrier.old.at_end.items carrier.new.at_end.items conn registry.old registry.new) }
 {
     for _message in 0..START_TURNS {
         if carrier.bus.waiting(conn) == 0 {

@@ -1,12 +1,12 @@
 use Rattle.std.proofs.Common.{map, length, ap, ◌∙◌, arith}
 use Rattle.std.specs.Prelude.{vec_items}
 use Rattle.atspi_lines.specs.declared.limits.TheConstants.{QUOTA_MOST}
-use Rattle.atspi_stage.proofs.Beginning.{world_first}
+use Rattle.atspi_stage.proofs.Beginning.{first_plays}
 use Rattle.atspi_stage.proofs.stage.Stage.new.Goals as goal
 
 pub returns-clause-begins : goal.returns-clause-begins
 returns-clause-begins g c = λ kits spares.
-    let begun = c.in_ok-begin.ensures.begins QUOTA_MOST (omega arith) c.new.ensures.bus c.new.ensures.posts c.in_ok-new.ensures in
-    world_first QUOTA_MOST _ begun.carried (ap (λ v. length (map g.A.Application.exporter (vec_items v))) c.begin.ensures.ends.0 ∙ ap (λ l. length (map g.A.Application.exporter l)) c.new-3.ensures.items)
+    let begun = c.in_ok-begin.ensures.begins QUOTA_MOST (omega arith) (omega arith) c.new.ensures.bus c.new.ensures.posts c.new.ensures.given c.in_ok-new.ensures in
+    first_plays QUOTA_MOST _ _ begun (ap (λ v. length (map g.A.Application.exporter (vec_items v))) c.begin.ensures.ends.0 ∙ ap (λ l. length (map g.A.Application.exporter l)) c.new-3.ensures.items)
     (ap (λ v. length (map g.R.Follower.follower (vec_items v))) c.begin.ensures.ends.1 ∙ ap (λ l. length (map g.R.Follower.follower l)) c.new-4.ensures.items)
     (ap (λ v. length (vec_items v)) c.begin.ensures.left.0 ∙ kits) (ap (λ v. length (vec_items v)) c.begin.ensures.left.1 ∙ spares)
