@@ -10,6 +10,8 @@ pub mod Beginning
 pub mod Calling
 pub mod Changed
 pub mod Conns
+pub mod Downward
+pub mod DownwardSteps
 pub mod Elements
 pub mod Firsts
 pub mod Found
@@ -32,6 +34,7 @@ pub mod Segments
 pub mod Shows
 pub mod Signals
 pub mod Stays
+pub mod Still
 pub mod Taking
 pub mod TakingEnds
 pub mod TakingReaders

@@ -21,11 +21,11 @@ on_ok_both (Ok t) f p q = f p q
 on_ok_both (Err e) f p q = tt
 
 -- nothing yet
-pub none_done : (p : Playing) (work : Work) (s : Staged) → IsPlaying p s → PartDone p work work s s
+abbrev pub none_done : (p : Playing) (work : Work) (s : Staged) → IsPlaying p s → PartDone p work work s s
 none_done p work s is = record { now = p; entries = []; is = is; wrote = sym (append-nil (entries_of s.trace)); completes = λ es q h. h }
 
 -- one cause more
-pub one_done : (p : Playing) (work left next : Work) (c : Cause) (old mid new : Staged) → (t : PartDone p work left old mid) → next_of t.now.world left ≡ cause c t.now.world next → Happens (plays t.now c) mid new
+abbrev pub one_done : (p : Playing) (work left next : Work) (c : Cause) (old mid new : Staged) → (t : PartDone p work left old mid) → next_of t.now.world left ≡ cause c t.now.world next → Happens (plays t.now c) mid new
     → PartDone p work next old new
 one_done p work left next c old mid new t is done =
     let h = plays t.now c in

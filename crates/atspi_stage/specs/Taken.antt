@@ -12,6 +12,8 @@ use Rattle.atspi_protocol.specs.registering.Steps as registering
 use Rattle.atspi_events.specs.declared.event.Event.{Event}
 use Rattle.atspi_events.specs.declared.event.Event.TheVariants.{Got}
 use Rattle.atspi_posts.specs.declared.post.Post.{Post}
+use Rattle.atspi_posts.specs.declared.post.Standing.{Standing}
+use Rattle.atspi_posts.specs.declared.post.Standing.TheVariants.{Here}
 use Rattle.atspi_stream.specs.Stream.{AwaitsMore}
 use Rattle.atspi_carrying.specs.Changes.{changed_at}
 use Rattle.atspi_carrying.specs.Named.{party_named}
@@ -112,3 +114,12 @@ pub record IsGot (conn : ℕ) (who : Party) (bytes : List ℕ) (old new : Staged
 
 abbrev pub Gets : ℕ → Staged → Staged → Bool → Type 0
 Gets conn old new took = (p : Post) (bytes : List ℕ) → slice_get old.posts conn ≡ Some p → slice_get old.given conn ≡ Some bytes → IsGot conn p.who bytes old new took
+
+-- the end of a connection is there
+abbrev pub is_standing : Standing → Bool
+is_standing Here = true
+is_standing standing = false
+
+abbrev pub stands_here : Option Post → Bool
+stands_here None = false
+stands_here (Some p) = is_standing p.standing

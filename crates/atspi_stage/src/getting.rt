@@ -1,6 +1,6 @@
 //! An end takes what comes down its link.
 
-ghost use Rattle.std.specs.Prelude.{◌≡◌, ◌≤◌, List, Some, [], ◌∷◌, ◌++◌, length, map, All, IfOk, IfSome, OnOk};
+ghost use Rattle.std.specs.Prelude.{◌≡◌, ◌≤◌, List, Some, [], ◌∷◌, ◌++◌, length, map, All, IfOk, IfSome, OnOk, slice_get};
 ghost use Rattle.atspi_header.specs.View.{bytes_of, envelope_at};
 ghost use Rattle.atspi_events.specs.declared.event.Event.TheVariants as events;
 ghost use Rattle.atspi_carrying.specs.Named as named;
@@ -14,7 +14,7 @@ ghost use Rattle.atspi_play.specs.Plays.{plays};
 ghost use Rattle.atspi_stage.specs.Doing.{TellsAt, TellsFirst, TellsReaderAt};
 ghost use Rattle.atspi_stage.specs.Lines.{IsSegment};
 ghost use Rattle.atspi_stage.specs.Stage.{IsStage};
-ghost use Rattle.atspi_stage.specs.Taken.{ends_after, ends_of, Gets, HandsFront, HandsNothing, TakesFront, TakesNothing, Tells};
+ghost use Rattle.atspi_stage.specs.Taken.{ends_after, ends_of, Gets, HandsFront, HandsNothing, TakesFront, TakesNothing, Tells, stands_here};
 ghost use Rattle.atspi_stage.specs.Worlds.{staged, Happens, IsPlaying};
 
 use crate::cast::Cast;
@@ -223,7 +223,9 @@ impl<A: Application, R: Follower> Stage<A, R> {
     }
 
     /// Whether the end of a connection is there.
-    fn is_here(&self, conn: u32) -> bool {
+    fn is_here(&self, conn: u32) -> bool
+        ensures { result ≡ stands_here (slice_get self.now.carrier.posts.items conn) }
+    {
         match self.carrier.posts.get(conn as usize) {
             Some(post) => post.standing == Standing::Here,
             None => false,
