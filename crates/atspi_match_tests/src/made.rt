@@ -57,12 +57,24 @@ fn put_words(out: &mut Bytes, words: &str) -> Option<()> {
     Some(())
 }
 
-/// The bytes of a signal of a connection to `:1.1`; no sender where its name is empty. It is spelled by its path, the codes of its values' types, and the values, with `|`
-/// between two.
-pub(crate) fn signal_of(alloc: Global, sender: &str, spelled: &str) -> Option<Bytes> {
-    let (path, carried) = spelled.split_once('|').unwrap_or((spelled, ""));
-    let (codes, words) = carried.split_once('|').unwrap_or((carried, ""));
-    let fields = fields(alloc, sender, path, codes)?;
+/// The names in the header of a signal, each where it is there.
+#[derive(Clone, Copy)]
+pub(crate) struct Header<'a> {
+    pub path: Option<&'a str>,
+    pub interface: Option<&'a str>,
+    pub member: Option<&'a str>,
+    pub destination: Option<&'a str>,
+    pub sender: Option<&'a str>,
+}
+
+/// The bytes of a signal with these names, the codes of its values' types, and the values, with `|` between two.
+pub(crate) fn signal_with(
+    alloc: Global,
+    header: Header<'_>,
+    codes: &str,
+    words: &str,
+) -> Option<Bytes> {
+    let fields = fields(alloc, header, codes)?;
     let mut body = Bytes::new(alloc);
     if !words.is_empty() {
         put_words(&mut body, words)?;
@@ -78,19 +90,44 @@ pub(crate) fn signal_of(alloc: Global, sender: &str, spelled: &str) -> Option<By
     Some(out)
 }
 
-/// The fields of such a signal.
-fn fields(alloc: Global, sender: &str, path: &str, codes: &str) -> Option<Bytes> {
-    let mut fields = Bytes::new(alloc);
-    put_words(&mut fields, "(|b=1|v=o")?;
-    put_text(&mut fields, path)?;
-    put_words(
-        &mut fields,
-        "(|b=2|v=s|s=org.example.Events|(|b=3|v=s|s=Changed|(|b=6|v=s|s=:1.1",
-    )?;
-    if !sender.is_empty() {
-        put_words(&mut fields, "(|b=7|v=s")?;
-        put_text(&mut fields, sender)?;
+/// The bytes of a signal of a connection to `:1.1`; no sender where its name is empty. It is spelled by its path, the codes of its values' types, and the values, with `|`
+/// between two.
+pub(crate) fn signal_of<'a>(alloc: Global, sender: &'a str, spelled: &'a str) -> Option<Bytes> {
+    let (path, carried) = spelled.split_once('|').unwrap_or((spelled, ""));
+    let (codes, words) = carried.split_once('|').unwrap_or((carried, ""));
+    let header = Header {
+        path: Some(path),
+        interface: Some("org.example.Events"),
+        member: Some("Changed"),
+        destination: Some(":1.1"),
+        sender: if sender.is_empty() {
+            None
+        } else {
+            Some(sender)
+        },
+    };
+    signal_with(alloc, header, codes, words)
+}
+
+/// Appends a field with a text or a path, where it is there.
+fn put_field(out: &mut Bytes, front: &str, value: Option<&str>) -> Option<()> {
+    match value {
+        Some(text) => {
+            put_words(out, front)?;
+            put_text(out, text)
+        }
+        None => Some(()),
     }
+}
+
+/// The fields of such a signal.
+fn fields(alloc: Global, header: Header<'_>, codes: &str) -> Option<Bytes> {
+    let mut fields = Bytes::new(alloc);
+    put_field(&mut fields, "(|b=1|v=o", header.path)?;
+    put_field(&mut fields, "(|b=2|v=s", header.interface)?;
+    put_field(&mut fields, "(|b=3|v=s", header.member)?;
+    put_field(&mut fields, "(|b=6|v=s", header.destination)?;
+    put_field(&mut fields, "(|b=7|v=s", header.sender)?;
     put_words(&mut fields, "(|b=8|v=g")?;
     put_signature(&mut fields, codes)?;
     Some(fields)
