@@ -76,7 +76,8 @@ abbrev pub Goes : Bool → Playing → ℕ → ℕ → ℕ → ℕ → Staged �
 Goes true p conn most left count old new = MovedSoFar p conn most (left - count) old new × (0 < count)
 Goes false p conn most left count old new = IsSegment p (moving_down conn most) old new
 
-module _ (p : Playing) (conn most left count : ℕ) (old mid new : Staged) (b : Bus) (given : List (List ℕ)) (so_far : MovedSoFar p conn most left old mid) (brings : BringsDown mid.bus b mid.posts mid.given given conn left count) (took : Bool)
+module _ (p : Playing) (conn most left count : ℕ) (old mid new : Staged) (b : Bus) (given : List (List ℕ)) (so_far : MovedSoFar p conn most left old mid)
+    (brings : BringsDown mid.bus b mid.posts mid.given given conn left count) (took : Bool)
     (gets_ : Gets conn (record mid { bus = b; given = given }) new took) where
   abbrev q : Playing
   q = so_far.part.now

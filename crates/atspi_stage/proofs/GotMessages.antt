@@ -47,7 +47,8 @@ whole_got {p} {conn} {old} {new} {took} x g = by x.the_end.who refl g
     by (Reader r) is g = reader_got_so x r is g
 
 -- a letter's bytes spell its message
-pub letter_spelled : (w : World) (given : List (List ℕ)) (conn : ℕ) (e : End) (letter : Letter) (rest : List Letter) → IsLinked w given → end_at w.ends conn ≡ Some e → e.down ≡ letter ∷ rest → IsMessage letter.said.message (written letter.said.message)
+pub letter_spelled : (w : World) (given : List (List ℕ)) (conn : ℕ) (e : End) (letter : Letter) (rest : List Letter) → IsLinked w given → end_at w.ends conn ≡ Some e → e.down ≡ letter ∷ rest
+    → IsMessage letter.said.message (written letter.said.message)
 letter_spelled w given conn e letter rest is at link = (subst (AllByRecursion IsLetter) link (all_at AreLetters w.ends conn e is.hands.letters at)).0
 
 pub got_whole : (p : Playing) (conn : ℕ) (e : End) (letter : Letter) (rest : List Letter) (old new : Staged) (b : Bus) (given : List (List ℕ)) (took : Bool) → IsPlaying p old → end_at p.world.ends conn ≡ Some e → e.down ≡ letter ∷ rest

@@ -23,8 +23,8 @@ app_tells (Ok t) who a conn ends ends' before after posts posts' old new is was 
     (subst (λ l. TellsAt l ends'.apps a conn posts posts' old new) was (subst (λ l. TellsAt before l a conn posts posts' old new) now told), (registry, readers))
 app_tells (Err t) who a conn ends ends' before after posts posts' old new is was now registry readers told = tt
 
-pub reader_tells : {T F : Type 0} (r : Result T F) (who : Party) (n conn : ℕ) (ends ends' : Ends) (before after : List ReaderState) (posts posts' : List Post) (old new : List Event) → who ≡ Reader n → before ≡ ends.readers → after ≡ ends'.readers
-    → ends'.registry ≡ ends.registry → ends'.apps ≡ ends.apps → OnOk r (TellsReaderAt before after n conn posts posts' old new) → OnOk r (Tells who conn ends ends' posts posts' old new)
+pub reader_tells : {T F : Type 0} (r : Result T F) (who : Party) (n conn : ℕ) (ends ends' : Ends) (before after : List ReaderState) (posts posts' : List Post) (old new : List Event) → who ≡ Reader n
+    → before ≡ ends.readers → after ≡ ends'.readers → ends'.registry ≡ ends.registry → ends'.apps ≡ ends.apps → OnOk r (TellsReaderAt before after n conn posts posts' old new) → OnOk r (Tells who conn ends ends' posts posts' old new)
 reader_tells (Ok t) who n conn ends ends' before after posts posts' old new is was now registry apps told =
     subst (λ w. Tells w conn ends ends' posts posts' old new) (sym is)
     (subst (λ l. TellsReaderAt l ends'.readers n conn posts posts' old new) was (subst (λ l. TellsReaderAt before l n conn posts posts' old new) now told), (registry, apps))
@@ -32,8 +32,8 @@ reader_tells (Err t) who n conn ends ends' before after posts posts' old new is 
 
 -- WHAT AN END DOES WITH WHAT LIES AT IT
 pub got_so : (conn : ℕ) (old new : Staged) (took : Bool) (p : Post) (link link' : List ℕ) (mid : Ends) (trace : List Event) → TakesFront link link' old.posts p.who (ends_in old) mid old.trace trace took
-    → TakesNothing link link' (ends_in old) mid old.trace trace took → Tells p.who conn mid (ends_in new) old.posts new.posts trace new.trace → p ≡ get_or old.posts conn p → link ≡ get_or old.given conn link → new.given ≡ set old.given conn link'
-    → new.bus ≡ old.bus → new.kits ≡ old.kits → new.spares ≡ old.spares → Gets conn old new took
+    → TakesNothing link link' (ends_in old) mid old.trace trace took → Tells p.who conn mid (ends_in new) old.posts new.posts trace new.trace → p ≡ get_or old.posts conn p → link ≡ get_or old.given conn link
+    → new.given ≡ set old.given conn link' → new.bus ≡ old.bus → new.kits ≡ old.kits → new.spares ≡ old.spares → Gets conn old new took
 got_so conn old new took p link link' mid trace takes nothing tells post_is link_is given bus kits spares = λ q bytes there lies.
     let who : p.who ≡ q.who = ap (λ (x : Post). x.who) (post_is ∙ get_or_from_slice_get old.posts conn q p there) in
     let all : link ≡ bytes = link_is ∙ get_or_from_slice_get old.given conn bytes link lies in
@@ -61,7 +61,8 @@ got_so conn old new took p link link' mid trace takes nothing tells post_is link
       spares = spares;
     }
 
-pub takes_as : (link link' : List ℕ) (seen posts : List Post) (who : Party) (ends ends' : Ends) (old new : List Event) (took : Bool) → seen ≡ posts → TakesFront link link' seen who ends ends' old new took → TakesFront link link' posts who ends ends' old new took
+pub takes_as : (link link' : List ℕ) (seen posts : List Post) (who : Party) (ends ends' : Ends) (old new : List Event) (took : Bool) → seen ≡ posts → TakesFront link link' seen who ends ends' old new took
+    → TakesFront link link' posts who ends ends' old new took
 takes_as link link' seen posts who ends ends' old new took is t = subst (λ s. TakesFront link link' s who ends ends' old new took) is t
 
 pub tells_as_posts : (who : Party) (conn : ℕ) (ends ends' : Ends) (p p' q q' : List Post) (old new : List Event) → p ≡ q → p' ≡ q' → Tells who conn ends ends' p p' old new → Tells who conn ends ends' q q' old new

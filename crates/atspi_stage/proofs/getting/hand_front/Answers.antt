@@ -1,4 +1,4 @@
-use Rattle.std.proofs.Common.{◌≡◌, List, [], ◌∷◌, ◌++◌, Some, refl, sym, ap, ◌∙◌, subst}
+use Rattle.std.proofs.Common.{◌≡◌, [], ◌∷◌, ◌++◌, Some, refl, sym, ap, ◌∙◌, subst}
 use Rattle.atspi_message.specs.Bytes.{written}
 use Rattle.atspi_stream.specs.Stream.{AwaitsMore}
 use Rattle.atspi_stage.specs.Taken.{got_by, ends_after, ends_of}

@@ -4,7 +4,9 @@ use Rattle.atspi_stage.proofs.ToldAll.{deed_sent, line_of, line_of_none, end_of,
 use Rattle.atspi_stage.proofs.telling.tell_deed.Goals as goal
 
 pub returns-in-Send : goal.returns-in-Send
-returns-in-Send c = record { told = deed_sent c.send_at.result c.args.event c.in-Send.message c.args.reader c.args.conn c.args.posts.now c.send_at.new.posts c.args.trace.now.items c.send_at.new.trace.items c.in-Send.is c.send_at.ensures.sent }
+returns-in-Send c = record {
+  told = deed_sent c.send_at.result c.args.event c.in-Send.message c.args.reader c.args.conn c.args.posts.now c.send_at.new.posts c.args.trace.now.items c.send_at.new.trace.items c.in-Send.is c.send_at.ensures.sent;
+}
 
 pub returns-in-Some : goal.returns-in-Some
 returns-in-Some c = record {

@@ -1,4 +1,4 @@
-use Rattle.std.proofs.Common.{sym, ap}
+use Rattle.std.proofs.Common.{ap}
 use Rattle.atspi_stage.proofs.GotMessages.{next_got, gets_as}
 use Rattle.atspi_stage.proofs.stage.Stage.take_next.Goals as goal
 
