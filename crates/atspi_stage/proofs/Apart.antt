@@ -1,13 +1,13 @@
 -- No party has two ends, and the bus none: that stays, where ends change and where one joins, and so the connection of an end's party is its own.
-use Rattle.std.proofs.Common.{◌≡◌, inl, inr, ℕ, zero, suc, ◌+◌, ◌<◌, Bool, true, false, cond, eq-eqb, List, [], ◌∷◌, ◌++◌, length, map, Option, None, Some, refl, sym, ap, ◌∙◌, subst, arith}
-use Rattle.std.specs.Prelude.{not, nat_lt}
-use Rattle.std.specs.List.{position_or_len, AllByRecursion}
-use Rattle.std.proofs.lemmas.Bool.{lt-ltb, eqb-true}
+use Rattle.std.proofs.Common.{◌≡◌, ℕ, zero, suc, ◌+◌, ◌<◌, Bool, true, false, cond, eq-eqb, List, [], ◌∷◌, ◌++◌, length, map, None, Some, refl, sym, ap, ◌∙◌, subst, arith}
+use Rattle.std.specs.Prelude.{not}
+use Rattle.std.specs.List.{AllByRecursion}
+use Rattle.std.proofs.lemmas.Bool.{lt-ltb}
 use Rattle.std.proofs.lemmas.Option.{same_Some, slice_get_within}
 use Rattle.atspi_lines.specs.declared.line.Party.{Party}
 use Rattle.atspi_lines.specs.declared.line.Party.TheVariants.{Bus, Registry, App, Reader}
 use Rattle.atspi_trace.specs.World.{Role, End}
-use Rattle.atspi_trace.specs.Ends.{same_party, conn_of, end_at, end_of, end_if, with_end}
+use Rattle.atspi_trace.specs.Ends.{same_party, conn_of, end_at, end_if, with_end}
 use Rattle.atspi_stage.specs.Cast.{ArePlayed}
 use Rattle.atspi_stage.specs.Worlds.{AreApart, who_of}
 use Rattle.atspi_stage.proofs.Changed.{part_of}

@@ -1,10 +1,8 @@
 -- Bytes of a down link, moved until so many are, or none is left: message after message.
-use Rattle.std.proofs.Common.{◌≡◌, ℕ, zero, suc, ◌+◌, ◌-◌, ◌<◌, ◌≤◌, Bool, true, false, List, [], ◌∷◌, length, map, set, take, drop, None, Some, Option, refl, sym, ap, ◌∙◌, subst, append-nil, arith}
-use Rattle.std.specs.Prelude.{nat_le, slice_get, if◌then◌else◌}
+use Rattle.std.proofs.Common.{◌≡◌, ℕ, ◌<◌, List, [], ◌∷◌, length, take, drop, None, Some, Option, refl, sym, ap, ◌∙◌, subst, arith}
+use Rattle.std.specs.Prelude.{slice_get}
 use Rattle.std.specs.Option.{option_map}
 use Rattle.std.specs.List.{fold}
-use Rattle.std.proofs.lemmas.Bool.{leb-true, leb-false}
-use Rattle.std.proofs.lemmas.Option.{same_Some}
 use Rattle.std.proofs.Math.Seq.{take-nil}
 use Rattle.std.proofs.lemmas.List.{length-take-le, take-append-drop}
 use Rattle.atspi_lines.specs.declared.line.Party.{Party}
@@ -14,24 +12,19 @@ use Rattle.atspi_message.specs.Bytes.{written}
 use Rattle.atspi_protocol.specs.following.ReaderState.{Done, sends, speaks, tells_end, ReaderState}
 use Rattle.atspi_protocol.specs.following.Takes.{reader_takes}
 use Rattle.atspi_protocol.specs.declared.following.question.Question.{Question}
-use Rattle.atspi_routing.specs.Queues.{Bus}
-use Rattle.atspi_posts.specs.declared.post.Post.{Post}
 use Rattle.atspi_stream.specs.Stream.{AwaitsMore, few}
-use Rattle.atspi_trace.specs.World.{Standing, here, stopped, away, Role, the_registry, an_application, a_reader, Letter, End, World}
+use Rattle.atspi_trace.specs.World.{Standing, Role, the_registry, an_application, a_reader, Letter, End, World}
 use Rattle.atspi_trace.specs.Ends.{end_at, with_end, taken_down}
-use Rattle.atspi_trace.specs.Causes.{gets, does, took, taken, on_end, missing}
+use Rattle.atspi_trace.specs.Causes.{gets, does, took, taken, on_end}
 use Rattle.atspi_trace.specs.Due.{asks_at, asks_as}
 use Rattle.atspi_trace.specs.Hearing.{question_in}
-use Rattle.atspi_trace.specs.Work.{moving_down, moved_down, next_down, of_end, next_of, cause, rests}
-use Rattle.atspi_carrying.specs.Carried.{post_of}
 use Rattle.atspi_carrying.specs.Downs.{bytes_down, IsBegun}
-use Rattle.atspi_carrying.specs.Linked.{given_of, IsLinked, BringsDown, CameInPart}
+use Rattle.atspi_carrying.specs.Linked.{given_of, IsLinked}
 use Rattle.atspi_carrying.proofs.Changes.{get-map}
 use Rattle.atspi_carrying.proofs.Downs.{begun_within}
 use Rattle.atspi_carrying.proofs.Filling.{part_awaits}
 use Rattle.atspi_play.specs.Playing.{Playing}
-use Rattle.atspi_play.specs.Plays.{asked, asked_with, got_at, got_by, reader_did, reader_got, plays}
-use Rattle.atspi_stage.specs.Worlds.{IsPlaying}
+use Rattle.atspi_play.specs.Plays.{asked, asked_with, got_at, got_by, reader_got, plays}
 use Rattle.atspi_stage.proofs.Taking.{with_at}
 use Rattle.atspi_stage.proofs.GotMessages.{letter_spelled}
 

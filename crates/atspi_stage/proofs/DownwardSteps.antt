@@ -1,17 +1,16 @@
 -- Bytes of a down link, one message after another.
-use Rattle.std.proofs.Common.{◌≡◌, ℕ, ◌+◌, ◌-◌, ◌<◌, ◌≤◌, Bool, true, false, List, [], ◌∷◌, ◌++◌, length, Option, None, Some, refl, sym, ap, ◌∙◌, subst, append-nil, arith}
-use Rattle.std.specs.Prelude.{nat_le, slice_get, take, if◌then◌else◌}
+use Rattle.std.proofs.Common.{◌≡◌, ℕ, ◌+◌, ◌-◌, ◌<◌, Bool, true, false, List, [], ◌∷◌, length, Some, refl, sym, ap, ◌∙◌, subst, append-nil, arith}
+use Rattle.std.specs.Prelude.{nat_le, slice_get, if◌then◌else◌}
 use Rattle.std.proofs.lemmas.Bool.{lt-leb}
 use Rattle.atspi_message.specs.Bytes.{written}
 use Rattle.atspi_routing.specs.Queues.{Bus}
-use Rattle.atspi_trace.specs.Entry.{entries_of}
 use Rattle.atspi_trace.specs.World.{Standing, here, stopped, away, Letter, End, World}
 use Rattle.atspi_trace.specs.Ends.{end_at}
 use Rattle.atspi_trace.specs.Causes.{gets, missing}
-use Rattle.atspi_trace.specs.Work.{Next, moving_down, moved_down, next_down, of_end, next_of, cause, rests}
+use Rattle.atspi_trace.specs.Work.{moving_down, moved_down, next_down, of_end, next_of, cause, rests}
 use Rattle.atspi_carrying.specs.Carried.{standing_at, post_of, IsCarried}
 use Rattle.atspi_carrying.specs.Downs.{IsBegun}
-use Rattle.atspi_carrying.specs.Filled.{gave, waits_for, FillsAt}
+use Rattle.atspi_carrying.specs.Filled.{FillsAt}
 use Rattle.atspi_carrying.specs.Linked.{given_of, IsLinked, BringsDown, ComesDown}
 use Rattle.atspi_carrying.proofs.Beginning.{gave_none}
 use Rattle.atspi_carrying.proofs.Changes.{set_same}

@@ -1,40 +1,29 @@
 -- What an end does with what lies at it: it takes the message that is whole there, and of a part of one it takes nothing.
-use Rattle.std.proofs.Common.{◌≡◌, ℕ, Bool, true, List, [], ◌∷◌, ◌++◌, map, set, Some, refl, sym, ap, ◌∙◌, subst, append-nil}
-use Rattle.std.specs.Prelude.{slice_get}
+use Rattle.std.proofs.Common.{◌≡◌, ℕ, Bool, true, List, ◌∷◌, Some, refl, subst}
 use Rattle.std.specs.List.{AllByRecursion}
-use Rattle.std.proofs.lemmas.Option.{same_Some}
 use Rattle.atspi_lines.specs.declared.line.Party.{Party}
 use Rattle.atspi_lines.specs.declared.line.Party.TheVariants.{Bus as The_bus, Registry as The_registry, App, Reader}
 use Rattle.atspi_message.specs.Envelope.{Envelope}
 use Rattle.atspi_message.specs.Bytes.{IsMessage, written}
-use Rattle.atspi_protocol.specs.exporting.Exporter.{Exporter}
-use Rattle.atspi_protocol.specs.following.ReaderState.{ReaderState}
-use Rattle.atspi_protocol.specs.registering.Steps.{Registry}
 use Rattle.atspi_routing.specs.Queues.{Bus}
 use Rattle.atspi_events.specs.declared.event.Event.{Event}
 use Rattle.atspi_posts.specs.declared.post.Post.{Post}
-use Rattle.atspi_stream.specs.Stream.{AwaitsMore, few}
-use Rattle.atspi_trace.specs.Entry.{entries_of, sent}
 use Rattle.atspi_trace.specs.World.{Letter, End, World}
-use Rattle.atspi_trace.specs.Ends.{end_at, end_if, conn_of}
-use Rattle.atspi_trace.specs.Causes.{did, gets}
+use Rattle.atspi_trace.specs.Ends.{end_at}
+use Rattle.atspi_trace.specs.Causes.{gets}
 use Rattle.atspi_handed.specs.Handing.{IsLetter, AreLetters}
-use Rattle.atspi_carrying.specs.Carried.{post_of, IsCarried}
-use Rattle.atspi_carrying.specs.Linked.{given_of, IsLinked, IsWhole, BringsDown}
-use Rattle.atspi_carrying.proofs.Changes.{set_same}
+use Rattle.atspi_carrying.specs.Carried.{post_of}
+use Rattle.atspi_carrying.specs.Linked.{IsLinked, IsWhole, BringsDown}
 use Rattle.atspi_carrying.proofs.Coming.{always_enough}
-use Rattle.atspi_carrying.proofs.Ties.{all_at, post_at, post_below}
-use Rattle.atspi_play.specs.Playing.{Playing, silent}
+use Rattle.atspi_carrying.proofs.Ties.{all_at, post_at}
+use Rattle.atspi_play.specs.Playing.{Playing}
 use Rattle.atspi_play.specs.Plays.{plays}
-use Rattle.atspi_stage.specs.Doing.{quiet, all_said, all_sent, messages}
-use Rattle.atspi_stage.specs.Taken.{Tells, ends_in, GotWhole, GotNothing, Gets}
-use Rattle.atspi_stage.specs.Worlds.{Staged, BeginsWithRegistry, IsRegistry, IsWorld, IsPlaying, Happens}
-use Rattle.atspi_stage.proofs.Apart.{conn_here, not_bus}
-use Rattle.atspi_stage.proofs.Stays.{Beside, same_world}
+use Rattle.atspi_stage.specs.Taken.{GotWhole, Gets}
+use Rattle.atspi_stage.specs.Worlds.{Staged, IsPlaying, Happens}
+use Rattle.atspi_stage.proofs.Apart.{not_bus}
 use Rattle.atspi_stage.proofs.Taking.{IsComing, message, stage_mid}
-use Rattle.atspi_stage.proofs.TakingEnds.{app_got, registry_got, posts_first, plays_registry}
+use Rattle.atspi_stage.proofs.TakingEnds.{app_got, registry_got}
 use Rattle.atspi_stage.proofs.TakingReaders.{reader_got_so}
-use Rattle.atspi_stage.proofs.ToldAll.{changed_none}
 
 -- THE MESSAGE THAT IS WHOLE, whoever takes it
 whole_got : {p : Playing} {conn : ℕ} {old new : Staged} {took : Bool} (x : IsComing p conn old new took) → GotWhole (message x) conn x.the_end.who (stage_mid x) new took → Happens (plays p (gets conn)) old new

@@ -7,7 +7,7 @@ use Rattle.atspi_posts.specs.declared.post.Post.{Post}
 use Rattle.atspi_posts.specs.declared.post.Standing.TheVariants.{Here, Stopped, Away}
 use Rattle.atspi_trace.specs.Entry.{Entry, entries_of}
 use Rattle.atspi_trace.specs.World.{Standing, here, stopped, away, Said, End, World}
-use Rattle.atspi_trace.specs.Ends.{end_at, end_if, end_of, conn_of}
+use Rattle.atspi_trace.specs.Ends.{end_at, end_if, end_of}
 use Rattle.atspi_trace.specs.Causes.{Cause, does, routes, unjoins, missing}
 use Rattle.atspi_trace.specs.Work.{Work, resting, doing, moving_up, moving_down, turning, draining, Next, cause, rests, moved_up, next_up, of_end, next_of, with_conn, moving, if_started, no_more}
 use Rattle.atspi_trace.specs.Works as works

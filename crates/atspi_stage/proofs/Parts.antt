@@ -1,11 +1,11 @@
 -- What is done of some work, cause by cause.
-use Rattle.std.proofs.Common.{◌≡◌, ℕ, List, [], ◌∷◌, ◌++◌, map, refl, sym, ap, ◌∙◌, subst, append-nil, append_assoc}
+use Rattle.std.proofs.Common.{◌≡◌, List, [], ◌∷◌, ◌++◌, refl, sym, ap, ◌∙◌, subst, append-nil, append_assoc}
 use Rattle.std.specs.Prelude.{Result, Ok, Err, OnOk}
 use Rattle.std.proofs.lemmas.List.{map-append}
 use Rattle.atspi_events.specs.declared.event.Event.{Event}
-use Rattle.atspi_trace.specs.Entry.{Entry, entry_of, entries_of}
+use Rattle.atspi_trace.specs.Entry.{entry_of, entries_of}
 use Rattle.atspi_trace.specs.World.{World}
-use Rattle.atspi_trace.specs.Causes.{Cause, does}
+use Rattle.atspi_trace.specs.Causes.{Cause}
 use Rattle.atspi_trace.specs.Work.{Work, cause, rests, next_of}
 use Rattle.atspi_play.specs.Playing.{Playing}
 use Rattle.atspi_play.specs.Plays.{only, plays}

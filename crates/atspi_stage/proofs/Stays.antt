@@ -1,16 +1,12 @@
 -- The tie to a world of the definitions stays, where one end changes and where one joins.
-use Rattle.std.proofs.Common.{◌≡◌, ℕ, zero, suc, ◌+◌, ◌<◌, Bool, true, false, cond, List, [], ◌∷◌, ◌++◌, length, map, set, Option, None, Some, refl, sym, ap, ◌∙◌, subst, add-zero, arith}
+use Rattle.std.proofs.Common.{◌≡◌, ℕ, zero, suc, ◌+◌, ◌<◌, true, false, cond, List, [], ◌∷◌, ◌++◌, length, map, set, Some, refl, sym, ap, ◌∙◌, subst, add-zero, arith}
 use Rattle.std.specs.Prelude.{if◌then◌else◌}
 use Rattle.std.proofs.lemmas.List.{length-set, length-append}
-use Rattle.std.proofs.lemmas.Option.{same_Some}
-use Rattle.atspi_lines.specs.declared.line.Party.{Party}
-use Rattle.atspi_lines.specs.declared.line.Party.TheVariants.{Bus as The_bus, Registry as The_registry, App, Reader}
+use Rattle.atspi_lines.specs.declared.line.Party.TheVariants.{Registry as The_registry, App, Reader}
 use Rattle.atspi_protocol.specs.exporting.Exporter.{Exporter}
 use Rattle.atspi_protocol.specs.following.ReaderState.{ReaderState}
-use Rattle.atspi_protocol.specs.registering.Steps.{Registry}
-use Rattle.atspi_routing.specs.Queues.{Bus}
 use Rattle.atspi_trace.specs.Entry.{entries_of}
-use Rattle.atspi_trace.specs.World.{Role, the_registry, End, World}
+use Rattle.atspi_trace.specs.World.{the_registry, End, World}
 use Rattle.atspi_trace.specs.Ends.{is_here, same_party, conn_of, end_at, with_end, is_app, is_reader, app_count, reader_count}
 use Rattle.atspi_trace.specs.Causes.{Done}
 use Rattle.atspi_trace.specs.Due.{is_lost}
@@ -21,7 +17,7 @@ use Rattle.atspi_carrying.proofs.Views.{with-changed}
 use Rattle.atspi_play.specs.Playing.{Playing}
 use Rattle.atspi_play.specs.Plays.{only}
 use Rattle.atspi_stage.specs.Cast.{IsApp, IsReader, ArePlayed}
-use Rattle.atspi_stage.specs.Worlds.{Staged, BeginsWithRegistry, IsRegistry, IsWorld, IsAfter, IsPlaying, Happens}
+use Rattle.atspi_stage.specs.Worlds.{Staged, IsRegistry, IsWorld, IsPlaying, Happens}
 use Rattle.atspi_stage.proofs.Apart.{apart_parts, apart_with, apart_more}
 use Rattle.atspi_stage.proofs.Conns.{same-party, conn_who}
 use Rattle.atspi_stage.proofs.Changed.{part_of, parts_count, same_count, more_count}

@@ -1,12 +1,12 @@
 -- An end that takes nothing has nothing to tell: all stays as it is.
-use Rattle.std.proofs.Common.{◌≡◌, ℕ, List, [], ◌∷◌, ◌++◌, map, set, Some, refl, sym, ap, ◌∙◌, subst, append-nil}
+use Rattle.std.proofs.Common.{◌≡◌, ℕ, [], ◌∷◌, ◌++◌, map, set, Some, refl, sym, ap, ◌∙◌, subst, append-nil}
 use Rattle.atspi_lines.specs.declared.line.Party.{Party}
 use Rattle.atspi_lines.specs.declared.line.Party.TheVariants.{Bus as The_bus, Registry as The_registry, App, Reader}
 use Rattle.atspi_protocol.specs.exporting.Exporter.{Exporter}
 use Rattle.atspi_protocol.specs.following.ReaderState.{ReaderState}
 use Rattle.atspi_protocol.specs.registering.Steps.{Registry}
 use Rattle.atspi_trace.specs.Entry.{entries_of, sent}
-use Rattle.atspi_trace.specs.World.{End, World}
+use Rattle.atspi_trace.specs.World.{End}
 use Rattle.atspi_trace.specs.Ends.{end_at, end_if, conn_of}
 use Rattle.atspi_trace.specs.Causes.{did}
 use Rattle.atspi_carrying.specs.Carried.{post_of, IsCarried}
@@ -14,7 +14,7 @@ use Rattle.atspi_carrying.specs.Changes.{changed_at}
 use Rattle.atspi_carrying.specs.Linked.{IsLinked}
 use Rattle.atspi_carrying.proofs.Changes.{set_same}
 use Rattle.atspi_carrying.proofs.Ties.{post_at, post_below}
-use Rattle.atspi_play.specs.Playing.{Playing, silent}
+use Rattle.atspi_play.specs.Playing.{Playing}
 use Rattle.atspi_stage.specs.Doing.{all_said, all_sent, messages, told_by}
 use Rattle.std.specs.Prelude.{flat_map}
 use Rattle.atspi_stage.specs.Taken.{Tells, ends_in}

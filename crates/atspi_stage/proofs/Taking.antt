@@ -1,9 +1,9 @@
 -- An end takes the message that lies whole at it, and what it did then is told: what both an application and the registry do.
-use Rattle.std.proofs.Common.{◌≡◌, ℕ, zero, suc, ◌<◌, ◌≤◌, Bool, List, [], ◌∷◌, ◌++◌, length, map, set, Option, None, Some, refl, sym, ap, ◌∙◌, subst, append-nil, append_assoc}
+use Rattle.std.proofs.Common.{◌≡◌, ℕ, zero, suc, ◌≤◌, Bool, List, [], ◌∷◌, ◌++◌, length, map, set, Option, None, Some, refl, sym, ap, ◌∙◌, subst, append-nil, append_assoc}
 use Rattle.std.specs.Prelude.{slice_get, slice_set}
 use Rattle.std.specs.List.{AllByRecursion}
 use Rattle.std.proofs.lemmas.List.{map-append}
-use Rattle.std.proofs.lemmas.Option.{same_Some, slice_get_within}
+use Rattle.std.proofs.lemmas.Option.{same_Some}
 use Rattle.atspi_forest.specs.Forest.{Forest}
 use Rattle.atspi_forest.specs.declared.step.Step.{Step}
 use Rattle.atspi_forest.specs.Row.{TreeRow}
@@ -17,7 +17,7 @@ use Rattle.atspi_protocol.specs.exporting.Exporter.{Happening, steps, sends, hea
 use Rattle.atspi_protocol.specs.exporting.Starting.{name_or_empty}
 use Rattle.atspi_routing.specs.Queues.{Bus}
 use Rattle.atspi_posts.specs.declared.post.Post.{Post}
-use Rattle.atspi_trace.specs.Entry.{Entry, entry_of, entries_of, got}
+use Rattle.atspi_trace.specs.Entry.{entry_of, entries_of, got}
 use Rattle.atspi_trace.specs.World.{Role, Said, Letter, End, World}
 use Rattle.atspi_trace.specs.Ends.{end_at, with_end, plain, put_up, taken_down}
 use Rattle.atspi_trace.specs.Causes as causes
@@ -25,7 +25,6 @@ use Rattle.atspi_trace.specs.Causes.{at_end, saids, announced_if, on_end, taken,
 use Rattle.atspi_carrying.specs.Carried.{bytes_up, post_of, IsSendable, AreSendable, HasMark, IsCarried}
 use Rattle.atspi_carrying.specs.Changes.{changed_at}
 use Rattle.atspi_carrying.specs.Linked.{IsLinked, IsWhole}
-use Rattle.atspi_carrying.specs.Named.{party_named}
 use Rattle.atspi_carrying.proofs.Changes.{length-changed, map-changed}
 use Rattle.atspi_carrying.proofs.Coming.{off_link, linked_taken}
 use Rattle.atspi_carrying.proofs.Downs.{wait_same}

@@ -1,38 +1,32 @@
 -- An application takes the message that lies whole at it, and the registry does.
-use Rattle.std.proofs.Common.{◌≡◌, ℕ, ◌<◌, Bool, List, [], ◌∷◌, ◌++◌, length, map, set, None, Some, refl, sym, ap, ◌∙◌, subst, append_assoc}
-use Rattle.std.specs.Prelude.{slice_get}
+use Rattle.std.proofs.Common.{◌≡◌, ℕ, Bool, List, [], ◌∷◌, ◌++◌, map, set, None, Some, refl, sym, ap, ◌∙◌, subst, append_assoc}
 use Rattle.std.specs.List.{AllByRecursion}
 use Rattle.std.proofs.lemmas.Option.{same_Some, slice_get_within}
-use Rattle.atspi_lines.specs.declared.line.Party.{Party}
 use Rattle.atspi_lines.specs.declared.line.Party.TheVariants.{Bus as The_bus, Registry as The_registry, App}
-use Rattle.atspi_message.specs.Envelope.{Envelope}
 use Rattle.atspi_message.specs.Bytes.{IsMessage, written}
 use Rattle.atspi_protocol.specs.exporting.Exporter.{Exporter}
 use Rattle.atspi_protocol.specs.exporting.Taking.{app_takes}
-use Rattle.atspi_protocol.specs.registering.RegistryState.{RegistryState}
 use Rattle.atspi_protocol.specs.registering.Steps.{Registry, RegistryStep, registry_takes}
-use Rattle.atspi_routing.specs.Queues.{Bus}
 use Rattle.atspi_posts.specs.declared.post.Post.{Post}
 use Rattle.atspi_trace.specs.Entry.{Entry, entries_of, got, sent}
-use Rattle.atspi_trace.specs.World.{the_registry, an_application, Role, Letter, End, World}
+use Rattle.atspi_trace.specs.World.{the_registry, Role, Letter, End, World}
 use Rattle.atspi_trace.specs.Ends.{end_at, end_if, conn_of, with_end, taken_down}
 use Rattle.atspi_trace.specs.Causes as causes
 use Rattle.atspi_trace.specs.Causes.{at_end, did, app_did, has_done, registry_did, gets, does, Done}
 use Rattle.atspi_carrying.specs.Carried.{post_of, IsCarried, IsDone}
 use Rattle.atspi_carrying.specs.Changes.{changed_at}
-use Rattle.atspi_carrying.specs.Linked.{IsLinked, IsWhole}
 use Rattle.atspi_carrying.proofs.Linked.{linked_same}
 use Rattle.atspi_carrying.proofs.Ties.{post_at}
 use Rattle.atspi_play.specs.Playing.{Playing}
 use Rattle.atspi_play.specs.Plays.{only, plays}
 use Rattle.atspi_stage.specs.Doing.{quiet, all_sent}
 use Rattle.atspi_stage.specs.Taken.{GotWhole}
-use Rattle.atspi_stage.specs.Worlds.{Staged, AreApart, who_of, BeginsWithRegistry, IsRegistry, IsWorld, IsPlaying, Happens}
+use Rattle.atspi_stage.specs.Worlds.{Staged, AreApart, who_of, BeginsWithRegistry, IsRegistry, IsWorld, Happens}
 use Rattle.atspi_stage.proofs.Apart.{conn_here}
 use Rattle.atspi_stage.proofs.AskingApps.{taking_sends}
 use Rattle.atspi_stage.proofs.AskingRegistry.{registry_asks}
 use Rattle.atspi_stage.proofs.Sayings.{told_done, set_set}
-use Rattle.atspi_stage.proofs.Stays.{Beside, with_twice, app_world, registry_world, only_happens}
+use Rattle.atspi_stage.proofs.Stays.{with_twice, app_world, registry_world, only_happens}
 use Rattle.atspi_stage.proofs.Taking.{IsComing, message, world_off, stage_mid, carried_off, linked_off, taken_at, does_so, plays_so, told_so, changed_known, get_changed, sends_all, all_sendable, all_carried, truly_sendable}
 
 -- THE REGISTRY stands at the first connection

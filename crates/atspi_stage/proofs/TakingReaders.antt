@@ -1,11 +1,10 @@
 -- A reader takes the message that lies whole at it: it asks at most one call of its own, and tells what it tells.
-use Rattle.std.proofs.Common.{◌≡◌, ◌⊎◌, inl, inr, ℕ, suc, ◌+◌, ◌<◌, Bool, List, [], ◌∷◌, ◌++◌, length, map, set, Option, None, Some, refl, sym, ap, ◌∙◌, subst, append-nil, append_assoc, arith}
+use Rattle.std.proofs.Common.{◌≡◌, inl, inr, ℕ, suc, ◌+◌, Bool, List, [], ◌∷◌, ◌++◌, set, Some, refl, sym, ap, ◌∙◌, subst, append-nil, append_assoc, arith}
 use Rattle.std.specs.Prelude.{flat_map, slice_get}
 use Rattle.std.specs.List.{fold, AllByRecursion}
 use Rattle.std.proofs.lemmas.Option.{slice_get_within}
 use Rattle.atspi_lines.specs.declared.line.Party.TheVariants.{Reader}
 use Rattle.atspi_message.specs.Envelope.{Envelope}
-use Rattle.atspi_protocol.specs.declared.following.question.Question.{Question}
 use Rattle.atspi_protocol.specs.following.Calls.{asking}
 use Rattle.atspi_protocol.specs.following.ReaderState.{Done, sends, speaks, tells_end, ReaderState}
 use Rattle.atspi_protocol.specs.following.Takes.{reader_takes}
@@ -13,30 +12,28 @@ use Rattle.atspi_routing.specs.Queues.{Bus}
 use Rattle.atspi_posts.specs.declared.post.Post.{Post}
 use Rattle.atspi_trace.specs.Entry.{Entry, entries_of, got, spoke, gone}
 use Rattle.atspi_trace.specs.World.{a_reader, Hearer, Role, Letter, End, World}
-use Rattle.atspi_trace.specs.Ends.{end_at, end_if, conn_of, with_end, taken_down}
+use Rattle.atspi_trace.specs.Ends.{end_at, end_if, conn_of, taken_down}
 use Rattle.atspi_trace.specs.Causes as causes
 use Rattle.atspi_trace.specs.Causes.{asks, at_end, gets, does}
-use Rattle.atspi_trace.specs.Due.{asks_at, asks_as}
-use Rattle.atspi_trace.specs.Hearing.{hears_letter, question_in}
+use Rattle.atspi_trace.specs.Due.{asks_at}
+use Rattle.atspi_trace.specs.Hearing.{hears_letter}
 use Rattle.atspi_carrying.specs.Carried.{IsCarried}
-use Rattle.atspi_carrying.specs.Linked.{IsLinked, IsWhole}
 use Rattle.atspi_carrying.proofs.Linked.{linked_same}
 use Rattle.atspi_carrying.proofs.Senders.{app_names}
 use Rattle.atspi_carrying.proofs.Ties.{post_below}
 use Rattle.atspi_play.specs.Playing.{Playing, silent}
 use Rattle.atspi_play.specs.Plays.{of_app, told, asked, asked_with, reader_did, reader_got, plays}
-use Rattle.atspi_stage.specs.Cast.{IsReader}
 use Rattle.atspi_stage.specs.Doing.{told_by, messages}
 use Rattle.atspi_stage.specs.Taken.{GotWhole}
-use Rattle.atspi_stage.specs.Worlds.{Staged, IsWorld, IsPlaying, Happens}
+use Rattle.atspi_stage.specs.Worlds.{Staged, IsWorld, Happens}
 use Rattle.atspi_stage.proofs.Apart.{conn_here}
-use Rattle.atspi_stage.proofs.AskingOnce.{AsksNone, AsksOne, AsksOnce, reader_asks_once}
+use Rattle.atspi_stage.proofs.AskingOnce.{AsksOnce, reader_asks_once}
 use Rattle.atspi_stage.proofs.AskingQuestions.{question_read}
 use Rattle.atspi_stage.proofs.AskingReaders.{takes_left, reader_asks, messages_ask}
 use Rattle.atspi_stage.proofs.AskingTelling.{IsTold, before_asking}
 use Rattle.atspi_stage.proofs.Sayings.{set_set}
 use Rattle.atspi_stage.proofs.Stays.{with_twice, reader_world}
-use Rattle.atspi_stage.proofs.Taking.{IsComing, message, world_off, stage_mid, carried_off, linked_off, taken_at, does_so, plays_so, told_so, changed_known, get_changed, with_at, with_same, sends_all, all_sendable, all_carried}
+use Rattle.atspi_stage.proofs.Taking.{IsComing, message, world_off, stage_mid, carried_off, linked_off, taken_at, does_so, plays_so, told_so, changed_known, get_changed, with_same, sends_all, all_sendable, all_carried}
 
 -- WHAT IS TOLD is told of the applications of the world
 one_told : (w : World) (b : Bus) (posts : List Post) (reader : ℕ) → IsCarried w b posts → (d : Done) → told_by reader posts d ≡ told reader w.ends d

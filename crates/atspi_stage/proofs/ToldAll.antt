@@ -1,6 +1,6 @@
 -- What a reader did, told one thing after another.
-use Rattle.std.proofs.Common.{◌≡◌, ℕ, zero, suc, ◌<◌, List, [], ◌∷◌, ◌++◌, length, Option, None, Some, refl, sym, ap, ◌∙◌, subst, append-nil, append_assoc}
-use Rattle.std.specs.Prelude.{Result, Ok, Err, OnOk, flat_map, if◌then◌else◌}
+use Rattle.std.proofs.Common.{◌≡◌, ℕ, zero, suc, ◌<◌, List, [], ◌∷◌, ◌++◌, length, None, Some, refl, sym, ap, ◌∙◌, subst, append-nil, append_assoc}
+use Rattle.std.specs.Prelude.{Result, Ok, Err, OnOk, flat_map}
 use Rattle.std.specs.List.{AllByRecursion}
 use Rattle.std.proofs.lemmas.List.{map-append}
 use Rattle.atspi_forest.specs.Forest.{first_of}
@@ -15,7 +15,7 @@ use Rattle.atspi_protocol.specs.following.ReaderState.{Done, sends, speaks, tell
 use Rattle.atspi_events.specs.declared.event.Event.{Event}
 use Rattle.atspi_events.specs.declared.event.Event.TheVariants.{Say, Gone}
 use Rattle.atspi_posts.specs.declared.post.Post.{Post}
-use Rattle.atspi_trace.specs.Entry.{Entry, entry_of, entries_of, sent, spoke, gone}
+use Rattle.atspi_trace.specs.Entry.{entry_of, entries_of, spoke, gone}
 use Rattle.atspi_carrying.specs.Changes.{changed_at}
 use Rattle.atspi_carrying.specs.Named.{app_by, app_of, app_named}
 use Rattle.atspi_carrying.proofs.Changes.{length-changed}

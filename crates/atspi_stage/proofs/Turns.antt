@@ -1,30 +1,20 @@
 -- One turn after another: what the code finds first is what the definitions find.
-use Rattle.std.proofs.Common.{◌≡◌, ℕ, zero, suc, ◌+◌, ◌<◌, ◌≤◌, Bool, true, false, List, [], ◌∷◌, map, Option, None, Some, refl, sym, ap, ◌∙◌, subst, arith}
-use Rattle.std.specs.Prelude.{IsSome, is_some}
+use Rattle.std.proofs.Common.{◌≡◌, ℕ, suc, ◌+◌, List, [], ◌∷◌, Option, None, Some, refl, sym, ap, ◌∙◌, subst, arith}
+use Rattle.std.specs.Prelude.{IsSome}
 use Rattle.std.proofs.lemmas.Option.{same_Some}
 use Rattle.atspi_forest.specs.Forest.{first_of}
-use Rattle.atspi_events.specs.declared.event.Event.{Event}
-use Rattle.atspi_events.specs.declared.event.Event.TheVariants.{Busy, Quiet}
-use Rattle.atspi_routing.specs.Queues.{Bus}
-use Rattle.atspi_posts.specs.declared.post.Post.{Post}
 use Rattle.atspi_trace.specs.World.{Standing, here, stopped, away, Said, Letter, End, World}
 use Rattle.atspi_trace.specs.Ends.{end_at}
-use Rattle.atspi_trace.specs.Causes.{Cause, does, routes, unjoins, gets, tells_busy, tells_quiet}
-use Rattle.atspi_trace.specs.Work.{up_turn, down_turn, first_up, first_down, next_turn, turning, draining, resting, cause, next_of_turns, next_of_drain, next_of}
+use Rattle.atspi_trace.specs.Causes.{Cause, does, routes, unjoins, gets}
+use Rattle.atspi_trace.specs.Work.{up_turn, down_turn, first_up, first_down, next_turn}
 use Rattle.atspi_carrying.specs.Carried.{IsDone, IsCarried}
 use Rattle.atspi_carrying.specs.Linked.{IsLinked}
-use Rattle.atspi_carrying.specs.Waits as waits
-use Rattle.atspi_carrying.specs.Waits.{turn_of, turn_next}
-use Rattle.atspi_carrying.specs.declared.waiting.Turn.{Turn}
+use Rattle.atspi_carrying.specs.Waits.{turn_of}
 use Rattle.atspi_carrying.specs.declared.waiting.Turn.TheVariants.{Route, Part, Get}
 use Rattle.atspi_carrying.proofs.Staying.{lives_so}
-use Rattle.atspi_carrying.proofs.Turning.{turns_agree}
 use Rattle.atspi_play.specs.Playing.{Playing}
 use Rattle.atspi_play.specs.Plays.{plays}
-use Rattle.atspi_stage.specs.Lines.{IsSegment}
-use Rattle.atspi_stage.specs.Turns.{PartDone, Turned, TurnsMade}
 use Rattle.atspi_stage.specs.Worlds.{Staged, IsPlaying, Happens}
-use Rattle.atspi_stage.proofs.Parts.{none_done, one_done, all_done, noted}
 use Rattle.atspi_stage.proofs.Routing.{routes_parts, ends_parts}
 use Rattle.atspi_stage.proofs.Stays.{Beside, same_world, only_happens}
 

@@ -1,5 +1,5 @@
 -- Bytes that await more begin with no message.
-use Rattle.std.proofs.Common.{◌≡◌, ℕ, List, take, drop, refl, sym}
+use Rattle.std.proofs.Common.{ℕ, List, take, drop, refl, sym}
 use Rattle.std.proofs.lemmas.List.{take-append-drop}
 use Rattle.atspi_message.specs.Envelope.{Envelope}
 use Rattle.atspi_message.specs.Bytes.{IsMessage}
