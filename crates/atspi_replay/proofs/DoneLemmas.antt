@@ -1,94 +1,54 @@
--- What lines add to what is told, and what is written of it, line after line.
-use Rattle.std.proofs.Common.{◌≡◌, ℕ, suc, ◌+◌, List, [], ◌∷◌, ◌++◌, length, refl, sym, ap, subst, ◌∙◌, arith, append_assoc, append-nil, length-append, Option, None, Some, inl, inr, ◌⊎◌}
+-- What a line adds to what is told, and the text of it.
+use Rattle.std.proofs.Common.{◌≡◌, ℕ, suc, zero, List, [], ◌∷◌, ◌++◌, drop, length, map, refl, sym, ap, ◌∙◌, append-nil, Option, None, Some}
 use Rattle.std.proofs.lemmas.Grind.{flat_map-append}
 use Rattle.std.specs.Io.KnownBytes.{Appends}
-use Rattle.atspi_base.specs.Outside.{AppendsPart, appends_both, appends_part}
+use Rattle.atspi_events.specs.declared.event.Event.{Event}
 use Rattle.atspi_events.specs.declared.options.TraceOptions.{TraceOptions}
-use Rattle.atspi_replay.specs.declared.naming.Refused as refused
-use Rattle.atspi_replay.specs.Names.{RefusedAs, refused_text}
-use Rattle.atspi_replay.specs.Told.{Told, entry_text, told_text}
-use Rattle.atspi_replay.specs.Done.{SegmentOf, Done, Upto}
-use Rattle.atspi_replay.specs.Play.{DoneText, IsLineText, PlayedHalted, PlayedPart, PlayedRefused, RefusedText, StoppedAt}
-
--- one more line
-done_more : (lines : List (List ℕ)) (told : List Told) (line : List ℕ) (added : List Told) → Done lines told → SegmentOf line added → Done (lines ++ line ∷ []) (told ++ added)
-done_more [] told line added h s = (added, [], ap (λ t. t ++ added) h ∙ sym (append-nil added), s, refl)
-done_more (l ∷ ls) told line added h s = (h.0, h.1 ++ added, ap (λ t. t ++ added) h.2 ∙ append_assoc h.0 h.1 added, h.3, done_more ls h.1 line added h.4 s)
+use Rattle.atspi_lines.specs.declared.line.Line.{Line}
+use Rattle.atspi_lines.specs.Line.{Spells}
+use Rattle.atspi_posts.specs.declared.post.Post.{Post}
+use Rattle.atspi_trace.specs.Entry.{Entry, entry_of, entries_of}
+use Rattle.atspi_stage.specs.Worlds.{Staged}
+use Rattle.atspi_replay.specs.Told.{Told, entry_text, told_on, told_text}
+use Rattle.atspi_replay.specs.Done.{AreSpelled, entries_told}
+use Rattle.atspi_replay.specs.Play.{added}
 
 pub text_more : (options : TraceOptions) (xs ys : List Told) → told_text options (xs ++ ys) ≡ told_text options xs ++ told_text options ys
 text_more options xs ys = flat_map-append (entry_text options) xs ys
-
--- one more line is done
-pub upto_more : {lines rest : List (List ℕ)} {told added : List Told} {line : List ℕ} → Upto lines (line ∷ rest) told → SegmentOf line added → Upto lines rest (told ++ added)
-upto_more {rest = rest} {told = told} {added = added} {line = line} u s = record {
-  done = u.done ++ line ∷ [];
-  front = u.front ∙ sym (append_assoc u.done (line ∷ []) rest);
-  are = done_more u.done told line added u.are s;
-}
-
-pub upto_end : {lines : List (List ℕ)} {told : List Told} → Upto lines [] told → Done lines told
-upto_end {told = told} u = subst (λ ls. Done ls told) (sym (u.front ∙ append-nil u.done)) u.are
-
--- so many lines were done: the lines still to come, and the number of the one that comes next
-pub record Playing (lines rest : List (List ℕ)) (told : List Told) (number : ℕ) : Type 0 where
-  pub upto : Upto lines rest told
-  pub counted : number ≡ length upto.done
-
-pub playing_start : (lines : List (List ℕ)) → Playing lines lines [] 0
-playing_start lines = record { upto = record { done = []; front = refl; are = refl }; counted = refl }
-
-pub playing_more : {lines rest : List (List ℕ)} {told added : List Told} {line : List ℕ} {number : ℕ} → Playing lines (line ∷ rest) told number → SegmentOf line added → Playing lines rest (told ++ added) (number + 1)
-unfolding upto_more
-playing_more {line = line} w s = record { upto = upto_more w.upto s; counted = omega (arith, w.counted, length-append w.upto.done (line ∷ [])) }
-
--- a part of what the next line writes is a part of such a text
-pub stopped_part : {options : TraceOptions} {lines rest : List (List ℕ)} {told : List Told} {line : List ℕ} {number : ℕ} (old mid new : Option (List ℕ)) → Playing lines (line ∷ rest) told number
-    → Appends old mid (told_text options told) → StoppedAt options line (number + 1) mid new → PlayedPart options lines old new
-stopped_part {options = options} {lines = lines} {rest = rest} {told = told} {line = line} {number = number} old mid new w a s =
-    (told_text options told ++ s.0, text s.0 s.1, appends_part old mid new (told_text options told) s.0 a s.2)
-  where
-    text : (t : List ℕ) → IsLineText options line (number + 1) t → DoneText options lines (told_text options told ++ t) ⊎ RefusedText options lines (told_text options told ++ t)
-    text t (inl none) = inl record { rest = line ∷ rest; told = told; upto = w.upto; are = ap (λ x. told_text options told ++ x) none ∙ append-nil (told_text options told) }
-    text t (inr (inl done)) =
-        inl record { rest = rest; told = told ++ done.0; upto = upto_more w.upto done.1; are = ap (λ x. told_text options told ++ x) done.2 ∙ sym (text_more options told done.0) }
-    text t (inr (inr refused)) =
-        inr record {
-          line = line;
-          rest = rest;
-          told = told;
-          why = refused.0;
-          upto = w.upto;
-          refused = refused.1;
-          are = ap (λ x. told_text options told ++ x) (refused.2 ∙ ap (λ n. refused_text n refused.0) (omega (arith, w.counted)));
-        }
-
--- the next line is refused
-pub refused_next : {options : TraceOptions} {lines rest : List (List ℕ)} {told : List Told} {line : List ℕ} {number : ℕ} (why : refused.Refused) (old mid new : Option (List ℕ)) → Playing lines (line ∷ rest) told number
-    → Appends old mid (told_text options told) → RefusedAs line why → Appends mid new (refused_text (number + 1) why) → PlayedRefused options lines old new
-refused_next {options = options} {rest = rest} {told = told} {line = line} {number = number} why old mid new w a r b = (
-  told_text options told ++ refused_text (number + 1) why,
-  record {
-    line = line;
-    rest = rest;
-    told = told;
-    why = why;
-    upto = w.upto;
-    refused = r;
-    are = ap (λ n. told_text options told ++ refused_text n why) (omega (arith, w.counted));
-  },
-  appends_both old mid new (told_text options told) (refused_text (number + 1) why) a b,
-)
-
--- the world ends at the next line
-pub halted_next : {options : TraceOptions} {lines rest : List (List ℕ)} {told : List Told} {line : List ℕ} {number : ℕ} (added : List Told) (old mid new : Option (List ℕ)) → Playing lines (line ∷ rest) told number
-    → Appends old mid (told_text options told) → SegmentOf line added → Appends mid new (told_text options added) → PlayedHalted options lines old new
-halted_next {options = options} {rest = rest} {told = told} added old mid new w a s b = (
-  told_text options told ++ told_text options added,
-  record { rest = rest; told = told ++ added; upto = upto_more w.upto s; are = sym (text_more options told added) },
-  appends_both old mid new (told_text options told) (told_text options added) a b,
-)
 
 -- nothing was written yet
 pub appends_nothing : (o : Option (List ℕ)) → Appends o o []
 appends_nothing None = tt
 appends_nothing (Some written) = sym (append-nil written)
+
+-- one more line
+pub spelled_more : (texts : List (List ℕ)) (lines : List Line) (bytes : List ℕ) (line : Line) → AreSpelled texts lines → Spells line bytes → AreSpelled (texts ++ bytes ∷ []) (lines ++ line ∷ [])
+spelled_more [] [] bytes line a s = (s, tt)
+spelled_more [] (other ∷ lines) bytes line a s = absurd a
+spelled_more (text ∷ texts) [] bytes line a s = absurd a
+spelled_more (text ∷ texts) (other ∷ lines) bytes line a s = (a.0, spelled_more texts lines bytes line a.1 s)
+
+-- THE ENTRIES OF WHAT WAS TOLD
+pub entries_both : (told more : List Told) → entries_told (told ++ more) ≡ entries_told told ++ entries_told more
+entries_both [] more = refl
+entries_both (t ∷ told) more = ap (λ es. entry_of t.event ∷ es) (entries_both told more)
+
+entries_on : (posts : List Post) (trace : List Event) (place : ℕ) (events : List Event) → entries_told (told_on posts trace place events) ≡ entries_of events
+entries_on posts trace place [] = refl
+entries_on posts trace place (event ∷ events) = ap (λ es. entry_of event ∷ es) (entries_on posts trace (suc place) events)
+
+behind : (before events : List Event) (entries : List Entry) → entries_of events ≡ entries_of before ++ entries → entries_of (drop (length before) events) ≡ entries
+behind [] events entries h = h
+behind (event ∷ before) [] entries h = absurd cc
+behind (event ∷ before) (other ∷ events) entries h = behind before events entries (rest (entry_of other) (entry_of event) (entries_of events) (entries_of before ++ entries) h)
+  where
+    tail : List Entry → List Entry
+    tail [] = []
+    tail (e ∷ es) = es
+
+    rest : (x y : Entry) (xs ys : List Entry) → x ∷ xs ≡ y ∷ ys → xs ≡ ys
+    rest x y xs ys h = ap tail h
+
+-- what a line added is what its causes wrote
+pub added_are : (old new : Staged) (entries : List Entry) → entries_of new.trace ≡ entries_of old.trace ++ entries → entries_told (added old new) ≡ entries
+added_are old new entries h = entries_on new.posts new.trace (length old.trace) (drop (length old.trace) new.trace) ∙ behind old.trace new.trace entries h

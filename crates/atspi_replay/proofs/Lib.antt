@@ -1,9 +1,12 @@
+pub mod Course
 pub mod DoneLemmas
 pub mod LineLemmas
 pub mod MadeLemmas
 pub mod MayLemmas
 pub mod Pending
 pub mod PlayLemmas
+pub mod Refusing
 pub mod RunLemmas
+pub mod Segments
 pub mod StopLemmas
 pub mod TellLemmas

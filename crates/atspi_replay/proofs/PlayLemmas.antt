@@ -4,48 +4,47 @@ use Rattle.std.proofs.lemmas.Bool.{false≢true}
 use Rattle.std.specs.Io.KnownBytes.{Appends}
 use Rattle.atspi_base.specs.Outside.{AppendsPart}
 use Rattle.atspi_events.specs.declared.options.TraceOptions.{TraceOptions}
+use Rattle.atspi_lines.specs.declared.line.Line.{Line}
+use Rattle.atspi_lines.specs.Line.{ReadsLine, Spells}
+use Rattle.atspi_stage.specs.Worlds.{Staged}
 use Rattle.atspi_replay.specs.declared.naming.Refused as refused
-use Rattle.atspi_replay.specs.Names.{IsLine, RefusedAs, refused_text}
+use Rattle.atspi_replay.specs.Names.{IsLine, refused_text}
 use Rattle.atspi_replay.specs.Told.{Told, told_text}
 use Rattle.atspi_replay.specs.declared.naming.Stop.{Stop}
 use Rattle.atspi_replay.specs.declared.naming.Stop.TheVariants.{Refused, Halted, Write, NoMemory}
-use Rattle.atspi_replay.specs.Play.{Did, IfHalted, IfRefused, PlayedHalted, PlayedPart, PlayedRefused, StoppedAt}
-use Rattle.atspi_replay.proofs.DoneLemmas.{Playing, appends_nothing, halted_next, playing_start, refused_next}
+use Rattle.atspi_replay.specs.Play.{Did, DidLine, Ended, IfHalted, IfRefused, PlayedHalted, PlayedPart, PlayedRefused, RefusedIn, StoppedAt, added}
+use Rattle.atspi_replay.proofs.Course.{SoFar, halted_next, nothing_told, refused_next}
+use Rattle.atspi_replay.proofs.DoneLemmas.{appends_nothing}
 use Rattle.atspi_replay.proofs.StopLemmas.{halted_weaker, refused_weaker}
 
--- what is told of a line, or a part of it
-abbrev pub Wrote : TraceOptions → Option (List ℕ) → Option (List ℕ) → Type 0
-Wrote options old new = (told : List Told) × Appends old new (told_text options told)
+-- a line was done, and what it added was written
+pub did_if : {T E : Type 0} (r : Result T E) (options : TraceOptions) (bytes : List ℕ) (old new : Staged) (w w' : Option (List ℕ)) → DidLine bytes old new → OnOk r (Appends w w' (told_text options (added old new)))
+    → OnOk r (Did options bytes old new w w')
+did_if (Ok x) options bytes old new w w' d a = (d, a)
+did_if (Err x) options bytes old new w w' d a = tt
 
-abbrev pub WrotePart : TraceOptions → Option (List ℕ) → Option (List ℕ) → Type 0
-WrotePart options old new = (told : List Told) × AppendsPart old new (told_text options told)
+-- a part of it was
+pub did_part_if : {T E : Type 0} (r : Result T E) (options : TraceOptions) (bytes : List ℕ) (number : ℕ) (old new : Staged) (w w' : Option (List ℕ)) → DidLine bytes old new
+    → OnErr r (AppendsPart w w' (told_text options (added old new))) → OnErr r (StoppedAt options bytes number old new w w')
+did_part_if (Ok x) options bytes number old new w w' d a = tt
+did_part_if (Err x) options bytes number old new w w' d a = (told_text options (added old new), inr (inl (d, refl)), a)
 
-pub did : (options : TraceOptions) (line : List ℕ) (old new : Option (List ℕ)) → IsLine line → Wrote options old new → Did options line old new
-did options line old new l t = (t.0, record { line = l }, t.1)
+-- the world came to its end at a line, and what it added was written
+pub was_halted : {T : Type 0} (r : Result T Stop) (options : TraceOptions) (bytes : List ℕ) (more : List Told) (w w' : Option (List ℕ)) → IsLine bytes → IfHalted r (Appends w w' (told_text options more))
+    → IfHalted r (Ended options bytes w w')
+was_halted r options bytes more w w' l h = halted_weaker r _ _ (λ a. (l, (more, a))) h
 
-pub did_if : {T E : Type 0} (r : Result T E) (options : TraceOptions) (line : List ℕ) (old new : Option (List ℕ)) → IsLine line → OnOk r (Wrote options old new) → OnOk r (Did options line old new)
-did_if (Ok x) options line old new l t = did options line old new l t
-did_if (Err x) options line old new l t = tt
-
-pub part : (options : TraceOptions) (line : List ℕ) (number : ℕ) (old new : Option (List ℕ)) → IsLine line → WrotePart options old new → StoppedAt options line number old new
-part options line number old new l t = (told_text options t.0, inr (inl (t.0, record { line = l }, refl)), t.1)
-
-pub part_if : {T E : Type 0} (r : Result T E) (options : TraceOptions) (line : List ℕ) (number : ℕ) (old new : Option (List ℕ)) → IsLine line → OnErr r (WrotePart options old new) → OnErr r (StoppedAt options line number old new)
-part_if (Ok x) options line number old new l t = tt
-part_if (Err x) options line number old new l t = part options line number old new l t
+pub halted_part_if : {T E : Type 0} (r : Result T E) (options : TraceOptions) (bytes : List ℕ) (number : ℕ) (old new : Staged) (more : List Told) (w w' : Option (List ℕ)) → IsLine bytes
+    → OnErr r (AppendsPart w w' (told_text options more)) → OnErr r (StoppedAt options bytes number old new w w')
+halted_part_if (Ok x) options bytes number old new more w w' l a = tt
+halted_part_if (Err x) options bytes number old new more w w' l a = (told_text options more, inr (inr (inl (l, (more, refl)))), a)
 
 -- all of it is a part of it
 pub all_part : (text : List ℕ) (old new : Option (List ℕ)) → Appends old new text → AppendsPart old new text
 all_part text old new a = (text, [], append-nil text, a)
 
-pub all_told : (options : TraceOptions) (old new : Option (List ℕ)) → Wrote options old new → WrotePart options old new
-all_told options old new t = (t.0, all_part (told_text options t.0) old new t.1)
-
-refused_part : (options : TraceOptions) (line : List ℕ) (number : ℕ) (why : refused.Refused) (old new : Option (List ℕ)) → RefusedAs line why → AppendsPart old new (refused_text number why) → StoppedAt options line number old new
-refused_part options line number why old new r p = (refused_text number why, inr (inr (why, r, refl)), p)
-
-pub nothing : (options : TraceOptions) (line : List ℕ) (number : ℕ) (w : Option (List ℕ)) → StoppedAt options line number w w
-nothing options line number w = ([], inl refl, ([], [], refl, appends_nothing w))
+pub nothing : (options : TraceOptions) (bytes : List ℕ) (number : ℕ) (old new : Staged) (w : Option (List ℕ)) → StoppedAt options bytes number old new w w
+nothing options bytes number old new w = ([], inl refl, ([], [], refl, appends_nothing w))
 
 -- what does not end well has no fact of a good end
 pub never_ok : {T E : Type 0} (r : Result T E) (P : Type 0) → IsErr r → OnOk r P
@@ -57,44 +56,40 @@ pub ok_holds : {T E : Type 0} (r : Result T E) (P : Type 0) → P → OnOk r P
 ok_holds (Ok x) P p = p
 ok_holds (Err x) P p = tt
 
-same_refusal : (line : List ℕ) (number : ℕ) (why said : refused.Refused) (old new : Option (List ℕ)) → RefusedAs line why → (said ≡ why) × Appends old new (refused_text number why)
-    → RefusedAs line said × Appends old new (refused_text number said)
-same_refusal line number why said old new because f = (
-  subst (λ (x : refused.Refused). RefusedAs line x) (sym f.0) because,
-  subst (λ (x : refused.Refused). Appends old new (refused_text number x)) (sym f.0) f.1,
+-- a line was refused, and that was written
+same_refusal : (s : Staged) (bytes : List ℕ) (number : ℕ) (why said : refused.Refused) (w w' : Option (List ℕ)) → RefusedIn s bytes why → (said ≡ why) × Appends w w' (refused_text number why)
+    → RefusedIn s bytes said × Appends w w' (refused_text number said)
+same_refusal s bytes number why said w w' because f = (
+  subst (λ (x : refused.Refused). RefusedIn s bytes x) (sym f.0) because,
+  subst (λ (x : refused.Refused). Appends w w' (refused_text number x)) (sym f.0) f.1,
 )
 
--- a line was refused, and that was written
-pub was_refused : {T : Type 0} (r : Result T Stop) (line : List ℕ) (number : ℕ) (why : refused.Refused) (old new : Option (List ℕ)) → RefusedAs line why
-    → IfRefused r (λ said. (said ≡ why) × Appends old new (refused_text number why)) → IfRefused r (λ said. RefusedAs line said × Appends old new (refused_text number said))
-was_refused r line number why old new because h = refused_weaker r _ _ (λ said f. same_refusal line number why said old new because f) h
+pub was_refused : {T : Type 0} (r : Result T Stop) (s : Staged) (bytes : List ℕ) (number : ℕ) (why : refused.Refused) (w w' : Option (List ℕ)) → RefusedIn s bytes why
+    → IfRefused r (λ said. (said ≡ why) × Appends w w' (refused_text number why)) → IfRefused r (λ said. RefusedIn s bytes said × Appends w w' (refused_text number said))
+was_refused r s bytes number why w w' because h = refused_weaker r _ _ (λ said f. same_refusal s bytes number why said w w' because f) h
 
-pub refused_part_if : {T E : Type 0} (r : Result T E) (options : TraceOptions) (line : List ℕ) (number : ℕ) (why : refused.Refused) (old new : Option (List ℕ)) → RefusedAs line why
-    → OnErr r (AppendsPart old new (refused_text number why)) → OnErr r (StoppedAt options line number old new)
-refused_part_if (Ok x) options line number why old new because p = tt
-refused_part_if (Err x) options line number why old new because p = refused_part options line number why old new because p
-
--- the world came to its end at a line, and what it added was written
-pub was_halted : {T : Type 0} (r : Result T Stop) (options : TraceOptions) (line : List ℕ) (old new : Option (List ℕ)) → IsLine line → IfHalted r (Wrote options old new) → IfHalted r (Did options line old new)
-was_halted r options line old new l h = halted_weaker r _ _ (did options line old new l) h
+pub refused_part_if : {T E : Type 0} (r : Result T E) (options : TraceOptions) (bytes : List ℕ) (number : ℕ) (old new : Staged) (why : refused.Refused) (w w' : Option (List ℕ)) → RefusedIn old bytes why
+    → OnErr r (AppendsPart w w' (refused_text number why)) → OnErr r (StoppedAt options bytes number old new w w')
+refused_part_if (Ok x) options bytes number old new why w w' because p = tt
+refused_part_if (Err x) options bytes number old new why w w' because p = (refused_text number why, inr (inr (inr (why, because, refl))), p)
 
 -- nothing was written of any lines
 pub played_nothing : (options : TraceOptions) (lines : List (List ℕ)) (w : Option (List ℕ)) → PlayedPart options lines w w
-played_nothing options lines w = ([], inl record { rest = lines; told = []; upto = (playing_start lines).upto; are = refl }, ([], [], refl, appends_nothing w))
+played_nothing options lines w = ([], inl record { rest = lines; told = []; upto = nothing_told lines; are = refl }, ([], [], refl, appends_nothing w))
 
 -- behind lines that were done: the next one is refused, or the world ends at it
-pub then_refused : {T : Type 0} (r : Result T Stop) (options : TraceOptions) (lines rest : List (List ℕ)) (told : List Told) (line : List ℕ) (number : ℕ) (old mid new : Option (List ℕ)) → Playing lines (line ∷ rest) told number
-    → Appends old mid (told_text options told) → IfRefused r (λ why. RefusedAs line why × Appends mid new (refused_text (number + 1) why)) → IfRefused r (λ why. PlayedRefused options lines old new)
-then_refused (Ok x) options lines rest told line number old mid new w a h = tt
-then_refused (Err (Refused why)) options lines rest told line number old mid new w a h = refused_next why old mid new w a h.0 h.1
-then_refused (Err (Halted halt)) options lines rest told line number old mid new w a h = tt
-then_refused (Err Write) options lines rest told line number old mid new w a h = tt
-then_refused (Err NoMemory) options lines rest told line number old mid new w a h = tt
+pub then_refused : {T : Type 0} (r : Result T Stop) (options : TraceOptions) (lines rest : List (List ℕ)) (told : List Told) (bytes : List ℕ) (number : ℕ) (s : Staged) (old mid new : Option (List ℕ))
+    → SoFar lines (bytes ∷ rest) told number s → Appends old mid (told_text options told) → IfRefused r (λ why. RefusedIn s bytes why × Appends mid new (refused_text (number + 1) why)) → IfRefused r (λ why. PlayedRefused options lines old new)
+then_refused (Ok x) options lines rest told bytes number s old mid new w a h = tt
+then_refused (Err (Refused why)) options lines rest told bytes number s old mid new w a h = refused_next why old mid new w a h.0 h.1
+then_refused (Err (Halted halt)) options lines rest told bytes number s old mid new w a h = tt
+then_refused (Err Write) options lines rest told bytes number s old mid new w a h = tt
+then_refused (Err NoMemory) options lines rest told bytes number s old mid new w a h = tt
 
-pub then_halted : {T : Type 0} (r : Result T Stop) (options : TraceOptions) (lines rest : List (List ℕ)) (told : List Told) (line : List ℕ) (number : ℕ) (old mid new : Option (List ℕ)) → Playing lines (line ∷ rest) told number
-    → Appends old mid (told_text options told) → IfHalted r (Did options line mid new) → IfHalted r (PlayedHalted options lines old new)
-then_halted (Ok x) options lines rest told line number old mid new w a h = tt
-then_halted (Err (Refused why)) options lines rest told line number old mid new w a h = tt
-then_halted (Err (Halted halt)) options lines rest told line number old mid new w a h = halted_next h.0 old mid new w a h.1 h.2
-then_halted (Err Write) options lines rest told line number old mid new w a h = tt
-then_halted (Err NoMemory) options lines rest told line number old mid new w a h = tt
+pub then_halted : {T : Type 0} (r : Result T Stop) (options : TraceOptions) (lines rest : List (List ℕ)) (told : List Told) (bytes : List ℕ) (number : ℕ) (s : Staged) (old mid new : Option (List ℕ))
+    → SoFar lines (bytes ∷ rest) told number s → Appends old mid (told_text options told) → IfHalted r (Ended options bytes mid new) → IfHalted r (PlayedHalted options lines old new)
+then_halted (Ok x) options lines rest told bytes number s old mid new w a h = tt
+then_halted (Err (Refused why)) options lines rest told bytes number s old mid new w a h = tt
+then_halted (Err (Halted halt)) options lines rest told bytes number s old mid new w a h = halted_next h.1.0 old mid new w a h.0 h.1.1
+then_halted (Err Write) options lines rest told bytes number s old mid new w a h = tt
+then_halted (Err NoMemory) options lines rest told bytes number s old mid new w a h = tt

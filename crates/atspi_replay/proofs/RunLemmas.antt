@@ -13,7 +13,8 @@ use Rattle.atspi_replay.specs.declared.naming.Stop.{Stop}
 use Rattle.atspi_replay.specs.declared.naming.Stop.TheVariants.{Refused, Halted, Write, NoMemory}
 use Rattle.atspi_replay.specs.Play.{BlamesStop, IfHalted, IfRefused, Played, PlayedHalted, PlayedPart, PlayedRefused}
 use Rattle.atspi_replay.specs.Run.{OfAll, OfReading, OfFront, OfLimit, Replayed, end_status, stop_status}
-use Rattle.atspi_replay.proofs.DoneLemmas.{appends_nothing, playing_start}
+use Rattle.atspi_replay.proofs.Course.{nothing_told}
+use Rattle.atspi_replay.proofs.DoneLemmas.{appends_nothing}
 
 of_limit : (left left' : Option (List ℕ)) (text : List ℕ) (P : List (List ℕ) → Type 0) → HasRead TooLong left left' text → P (whole_lines text) → OfLimit 16777216 left P
 of_limit None left' text P h p = tt
@@ -56,7 +57,7 @@ of_nothing options (Some input) w = (
   false,
   [],
   record { rest = input; front = refl; whole = λ e. cc },
-  ([], inl record { rest = lines_read false []; told = []; upto = (playing_start (lines_read false [])).upto; are = refl }, ([], [], refl, appends_nothing w)),
+  ([], inl record { rest = lines_read false []; told = []; upto = nothing_told (lines_read false []); are = refl }, ([], [], refl, appends_nothing w)),
 )
 
 -- what each status says

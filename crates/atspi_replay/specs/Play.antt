@@ -3,12 +3,18 @@ use Rattle.std.specs.Prelude.{◌≡◌, ◌⊎◌, ℕ, suc, ◌≤◌, List, [
 use Rattle.std.specs.Io.KnownBytes.{Appends}
 use Rattle.atspi_base.specs.Outside.{Rose, AppendsPart}
 use Rattle.atspi_events.specs.declared.options.TraceOptions.{TraceOptions}
+use Rattle.atspi_lines.specs.declared.line.Line.{Line}
+use Rattle.atspi_lines.specs.Line.{Spells}
+use Rattle.atspi_stage.specs.Worlds.{Staged}
+use Rattle.atspi_stage.specs.Lines.{LineDone}
+use Rattle.atspi_stage.specs.Refusals.{RefusedFor}
 use Rattle.atspi_replay.specs.declared.naming.Refused as refused
+use Rattle.atspi_replay.specs.declared.naming.Refused.TheVariants.{World}
 use Rattle.atspi_replay.specs.declared.naming.Stop.{Stop}
 use Rattle.atspi_replay.specs.declared.naming.Stop.TheVariants.{Refused, Halted, Write, NoMemory}
 use Rattle.atspi_replay.specs.Names.{IsLine, RefusedAs, refused_text}
-use Rattle.atspi_replay.specs.Told.{Told, told_text}
-use Rattle.atspi_replay.specs.Done.{SegmentOf, Done, Upto}
+use Rattle.atspi_replay.specs.Told.{Told, told_from, told_text}
+use Rattle.atspi_replay.specs.Done.{IsLawfulOf, IsRefusedBehind, Upto}
 
 -- the count rose where the sink failed, and else is the same
 abbrev pub BlamesStop : ℕ → ℕ → Stop → Type 0
@@ -28,38 +34,65 @@ abbrev pub IfHalted : {T : Type 0} → Result T Stop → Type 0 → Type 0
 IfHalted (Err (Halted why)) P = P
 IfHalted _ P = Unit {0}
 
+-- bytes are refused in a stage: they spell no line, or the world refuses the one that they spell
+abbrev pub RefusedIn : Staged → List ℕ → refused.Refused → Type 0
+RefusedIn s bytes (World why) = (line : Line) × Spells line bytes × RefusedFor line why s
+RefusedIn s bytes why = RefusedAs bytes why
+
 -- why a line stops a run: its bytes are refused, or the world comes to its end at it; the sink has no part in it
-abbrev pub StopsAs : Stop → List ℕ → Type 0
-StopsAs (Refused why) line = RefusedAs line why
-StopsAs (Halted why) line = IsLine line
-StopsAs NoMemory line = Unit {0}
-StopsAs Write line = ⊥
+abbrev pub StopsAs : Stop → List ℕ → Staged → Type 0
+StopsAs (Refused why) bytes s = RefusedIn s bytes why
+StopsAs (Halted why) bytes s = IsLine bytes
+StopsAs NoMemory bytes s = Unit {0}
+StopsAs Write bytes s = ⊥
 
--- what doing a line answers: the bytes spell a line, or they stop the run
-abbrev pub DoesLine : {T : Type 0} → Result T Stop → List ℕ → Type 0
-DoesLine (Ok _) line = IsLine line
-DoesLine (Err stop) line = StopsAs stop line
+-- the bytes spell a line, and it was done
+abbrev pub DidLine : List ℕ → Staged → Staged → Type 0
+DidLine bytes old new = (line : Line) × Spells line bytes × LineDone line old new
 
--- a segment of the line was written
-abbrev pub Did : TraceOptions → List ℕ → Option (List ℕ) → Option (List ℕ) → Type 0
-Did options line old new = (added : List Told) × SegmentOf line added × Appends old new (told_text options added)
+-- what doing a line answers: it was done, or stops the run
+abbrev pub DoesLine : {T : Type 0} → Result T Stop → List ℕ → Staged → Staged → Type 0
+DoesLine (Ok _) bytes old new = DidLine bytes old new
+DoesLine (Err stop) bytes old new = StopsAs stop bytes old
 
--- what a line can write: nothing, the text of its segment, or its refusal
-abbrev pub IsLineText : TraceOptions → List ℕ → ℕ → List ℕ → Type 0
-IsLineText options line number text =
-    (text ≡ []) ⊎ (((added : List Told) × SegmentOf line added × (text ≡ told_text options added))
-    ⊎ ((why : refused.Refused) × RefusedAs line why × (text ≡ refused_text number why)))
+-- what a line added to the trace of a stage
+abbrev pub added : Staged → Staged → List Told
+added old new = told_from new.posts new.trace (length old.trace)
+
+-- a line was done, and what it added was written
+abbrev pub Did : TraceOptions → List ℕ → Staged → Staged → Option (List ℕ) → Option (List ℕ) → Type 0
+Did options bytes old new w w' = DidLine bytes old new × Appends w w' (told_text options (added old new))
+
+-- the world came to its end at a line, and something of it was written
+abbrev pub Ended : TraceOptions → List ℕ → Option (List ℕ) → Option (List ℕ) → Type 0
+Ended options bytes w w' = IsLine bytes × ((more : List Told) × Appends w w' (told_text options more))
+
+-- what a line can write: nothing; what it added; what it added before the world came to its end; its refusal
+abbrev pub IsLineText : TraceOptions → List ℕ → ℕ → Staged → Staged → List ℕ → Type 0
+IsLineText options bytes number old new text =
+    (text ≡ []) ⊎ ((DidLine bytes old new × (text ≡ told_text options (added old new))) ⊎ ((IsLine bytes × ((more : List Told) × (text ≡ told_text options more)))
+    ⊎ ((why : refused.Refused) × RefusedIn old bytes why × (text ≡ refused_text number why))))
 
 -- a part of it was written
-abbrev pub StoppedAt : TraceOptions → List ℕ → ℕ → Option (List ℕ) → Option (List ℕ) → Type 0
-StoppedAt options line number old new = (text : List ℕ) × IsLineText options line number text × AppendsPart old new text
+abbrev pub StoppedAt : TraceOptions → List ℕ → ℕ → Staged → Staged → Option (List ℕ) → Option (List ℕ) → Type 0
+StoppedAt options bytes number old new w w' = (text : List ℕ) × IsLineText options bytes number old new text × AppendsPart w w' text
 
--- the text of what is told of the first of the lines
+-- the text of a lawful trace of the first of the lines
 pub record DoneText (options : TraceOptions) (lines : List (List ℕ)) (text : List ℕ) : Type 0 where
   pub rest : List (List ℕ)
   pub told : List Told
   pub upto : Upto lines rest told
   pub are : text ≡ told_text options told
+
+-- the same, and behind it more of the next line, at which the world came to its end
+pub record HaltedText (options : TraceOptions) (lines : List (List ℕ)) (text : List ℕ) : Type 0 where
+  pub line : List ℕ
+  pub rest : List (List ℕ)
+  pub told : List Told
+  pub more : List Told
+  pub upto : Upto lines (line ∷ rest) told
+  pub is_line : IsLine line
+  pub are : text ≡ told_text options (told ++ more)
 
 -- the same, and behind it the refusal of the next line
 pub record RefusedText (options : TraceOptions) (lines : List (List ℕ)) (text : List ℕ) : Type 0 where
@@ -68,21 +101,21 @@ pub record RefusedText (options : TraceOptions) (lines : List (List ℕ)) (text 
   pub told : List Told
   pub why : refused.Refused
   pub upto : Upto lines (line ∷ rest) told
-  pub refused : RefusedAs line why
+  pub refused : IsRefusedBehind upto.lawful.lines told line why
   pub are : text ≡ told_text options told ++ refused_text (suc (length upto.done)) why
 
--- the text of all the lines was written
+-- THE TEXT OF A LAWFUL TRACE OF ALL THE LINES WAS WRITTEN
 abbrev pub Played : TraceOptions → List (List ℕ) → Option (List ℕ) → Option (List ℕ) → Type 0
-Played options lines old new = (told : List Told) × Done lines told × Appends old new (told_text options told)
+Played options lines old new = (told : List Told) × IsLawfulOf lines told × Appends old new (told_text options told)
 
 -- that of the lines before the first that is refused, and the refusal
 abbrev pub PlayedRefused : TraceOptions → List (List ℕ) → Option (List ℕ) → Option (List ℕ) → Type 0
 PlayedRefused options lines old new = (text : List ℕ) × RefusedText options lines text × Appends old new text
 
--- that of the first of the lines, up to the one at which the world came to its end
+-- that of the lines before the one at which the world came to its end, and more of that one
 abbrev pub PlayedHalted : TraceOptions → List (List ℕ) → Option (List ℕ) → Option (List ℕ) → Type 0
-PlayedHalted options lines old new = (text : List ℕ) × DoneText options lines text × Appends old new text
+PlayedHalted options lines old new = (text : List ℕ) × HaltedText options lines text × Appends old new text
 
 -- a part of such a text
 abbrev pub PlayedPart : TraceOptions → List (List ℕ) → Option (List ℕ) → Option (List ℕ) → Type 0
-PlayedPart options lines old new = (text : List ℕ) × (DoneText options lines text ⊎ RefusedText options lines text) × AppendsPart old new text
+PlayedPart options lines old new = (text : List ℕ) × (DoneText options lines text ⊎ (HaltedText options lines text ⊎ RefusedText options lines text)) × AppendsPart old new text

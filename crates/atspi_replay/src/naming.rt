@@ -1,9 +1,12 @@
 //! Why a line is not done, and the names of the reasons.
 
 ghost use Rattle.std.specs.Prelude.{◌≡◌, ℕ, List, Err};
-ghost use Rattle.atspi_lines.specs.Line.{ReadsLine};
-ghost use Rattle.atspi_replay.specs.Names.{IsLine, edit_fault_name, refusal_name, refused_name};
+ghost use Rattle.atspi_lines.specs.declared.line.Line.{Line};
+ghost use Rattle.atspi_lines.specs.Line.{ReadsLine, Spells};
+ghost use Rattle.atspi_replay.specs.Names.{edit_fault_name, refusal_name, refused_name};
 ghost use Rattle.atspi_replay.specs.Play.{StopsAs};
+ghost use Rattle.atspi_stage.specs.Refusals.{RefusedFor};
+ghost use Rattle.atspi_stage.specs.Worlds.{Staged};
 
 use atspi_forest::EditFault;
 use atspi_lines::LineFault;
@@ -45,7 +48,7 @@ pub enum Stop {
 
 /// Why bytes are no line.
 pub(crate) fn stop_of_line(fault: LineFault) -> Stop
-    ensures { (bytes : List ℕ) → ReadsLine (Err fault) bytes → StopsAs result bytes }
+    ensures { (bytes : List ℕ) (s : Staged) → ReadsLine (Err fault) bytes → StopsAs result bytes s }
 {
     match fault {
         LineFault::Long => Stop::Refused(Refused::Long),
@@ -57,7 +60,7 @@ pub(crate) fn stop_of_line(fault: LineFault) -> Stop
 
 /// Why a world did not do a line.
 pub(crate) fn stop_of_act(fault: ActFault) -> Stop
-    ensures { (bytes : List ℕ) → IsLine bytes → StopsAs result bytes }
+    ensures { (line : Line) (bytes : List ℕ) (s : Staged) → Spells line bytes → ((why : Refusal) → fault ≡ ActFault.Refused why → RefusedFor line why s) → StopsAs result bytes s }
 {
     match fault {
         ActFault::Refused(why) => Stop::Refused(Refused::World(why)),

@@ -1,12 +1,16 @@
 //! Doing the lines of a script, one after another, and writing what each adds to the trace.
 
-ghost use Rattle.std.specs.Prelude.{◌≡◌, All, OnOk, OnErr};
+ghost use Rattle.std.specs.Prelude.{◌≡◌, All, OnOk, OnErr, length};
 ghost use Rattle.std.specs.Io.KnownBytes.{Appends};
-ghost use Rattle.atspi_bus_steps.specs.Inner.{state_of};
+ghost use Rattle.atspi_bus_steps.specs.Inner.{inner_of, state_of};
+ghost use Rattle.atspi_lines.specs.declared.limits.TheConstants.{APP_COUNT, QUOTA_MOST};
+ghost use Rattle.atspi_play.specs.Playing.{first_playing};
 ghost use Rattle.atspi_stage.specs.Stage.{IsStage};
+ghost use Rattle.atspi_stage.specs.Worlds.{staged, IsPlaying};
+ghost use Rattle.atspi_trace.specs.Work.{spare_count};
 ghost use Rattle.atspi_replay.specs.Lines.{lines_read};
-ghost use Rattle.atspi_replay.specs.Names.{RefusedAs, refused_text};
-ghost use Rattle.atspi_replay.specs.Play.{BlamesWrite, Did, DoesLine, IfHalted, IfRefused, Played, PlayedHalted, PlayedPart, PlayedRefused, StoppedAt};
+ghost use Rattle.atspi_replay.specs.Names.{refused_text};
+ghost use Rattle.atspi_replay.specs.Play.{BlamesWrite, Did, DoesLine, Ended, IfHalted, IfRefused, Played, PlayedHalted, PlayedPart, PlayedRefused, RefusedIn, StoppedAt};
 
 use crate::lines::next_line;
 use crate::naming::{Stop, stop_of_act, stop_of_line};
@@ -26,7 +30,7 @@ fn do_line<A: Application, R: Follower>(
 ) -> Result<(), Stop>
     requires stage { IsStage A.is_app R.is_follower A.is_kit A.is_spare world.old.cast.apps.items world.old.cast.readers.items world.old.kits.items world.old.spares.items (state_of world.old.carrier.bus) }
     ensures stage { OnOk result (IsStage A.is_app R.is_follower A.is_kit A.is_spare world.new.cast.apps.items world.new.cast.readers.items world.new.kits.items world.new.spares.items (state_of world.new.carrier.bus)) }
-    ensures line { DoesLine result bytes.now }
+    ensures line { DoesLine result bytes.now (staged A.exporter R.follower (inner_of world.old.carrier.bus) world.old.carrier.posts.items world.old.carrier.at_end.items world.old.cast.registry world.old.cast.apps.items world.old.cast.readers.items (length world.old.kits.items) (length world.old.spares.items) world.old.carrier.trace.items) (staged A.exporter R.follower (inner_of world.new.carrier.bus) world.new.carrier.posts.items world.new.carrier.at_end.items world.new.cast.registry world.new.cast.apps.items world.new.cast.readers.items (length world.new.kits.items) (length world.new.spares.items) world.new.carrier.trace.items) }
 {
     match parse_line(alloc, bytes) {
         Err(fault) => Err(stop_of_line(fault)),
@@ -48,10 +52,10 @@ fn play_line<A: Application, R: Follower, K: Sink>(
 ) -> Result<(), Stop>
     requires stage { IsStage A.is_app R.is_follower A.is_kit A.is_spare world.old.cast.apps.items world.old.cast.readers.items world.old.kits.items world.old.spares.items (state_of world.old.carrier.bus) }
     ensures stage { OnOk result (IsStage A.is_app R.is_follower A.is_kit A.is_spare world.new.cast.apps.items world.new.cast.readers.items world.new.kits.items world.new.spares.items (state_of world.new.carrier.bus)) }
-    ensures ok { OnOk result (Did options line.now (K.written sink.old) (K.written sink.new)) }
-    ensures halted { IfHalted result (Did options line.now (K.written sink.old) (K.written sink.new)) }
-    ensures refused { IfRefused result (λ why. RefusedAs line.now why × Appends (K.written sink.old) (K.written sink.new) (refused_text number why)) }
-    ensures err { OnErr result (StoppedAt options line.now number (K.written sink.old) (K.written sink.new)) }
+    ensures ok { OnOk result (Did options line.now (staged A.exporter R.follower (inner_of world.old.carrier.bus) world.old.carrier.posts.items world.old.carrier.at_end.items world.old.cast.registry world.old.cast.apps.items world.old.cast.readers.items (length world.old.kits.items) (length world.old.spares.items) world.old.carrier.trace.items) (staged A.exporter R.follower (inner_of world.new.carrier.bus) world.new.carrier.posts.items world.new.carrier.at_end.items world.new.cast.registry world.new.cast.apps.items world.new.cast.readers.items (length world.new.kits.items) (length world.new.spares.items) world.new.carrier.trace.items) (K.written sink.old) (K.written sink.new)) }
+    ensures halted { IfHalted result (Ended options line.now (K.written sink.old) (K.written sink.new)) }
+    ensures refused { IfRefused result (λ why. RefusedIn (staged A.exporter R.follower (inner_of world.old.carrier.bus) world.old.carrier.posts.items world.old.carrier.at_end.items world.old.cast.registry world.old.cast.apps.items world.old.cast.readers.items (length world.old.kits.items) (length world.old.spares.items) world.old.carrier.trace.items) line.now why × Appends (K.written sink.old) (K.written sink.new) (refused_text number why)) }
+    ensures err { OnErr result (StoppedAt options line.now number (staged A.exporter R.follower (inner_of world.old.carrier.bus) world.old.carrier.posts.items world.old.carrier.at_end.items world.old.cast.registry world.old.cast.apps.items world.old.cast.readers.items (length world.old.kits.items) (length world.old.spares.items) world.old.carrier.trace.items) (staged A.exporter R.follower (inner_of world.new.carrier.bus) world.new.carrier.posts.items world.new.carrier.at_end.items world.new.cast.registry world.new.cast.apps.items world.new.cast.readers.items (length world.new.kits.items) (length world.new.spares.items) world.new.carrier.trace.items) (K.written sink.old) (K.written sink.new)) }
     ensures cause { BlamesWrite result (K.faults sink.old) (K.faults sink.new) }
 {
     let from = world.trace().len();
@@ -74,6 +78,7 @@ fn play_lines<A: Application, R: Follower, K: Sink>(
     sink: &mut K,
 ) -> Result<(), Stop>
     requires stage { IsStage A.is_app R.is_follower A.is_kit A.is_spare world.old.cast.apps.items world.old.cast.readers.items world.old.kits.items world.old.spares.items (state_of world.old.carrier.bus) }
+    requires begins { IsPlaying (first_playing QUOTA_MOST) (staged A.exporter R.follower (inner_of world.old.carrier.bus) world.old.carrier.posts.items world.old.carrier.at_end.items world.old.cast.registry world.old.cast.apps.items world.old.cast.readers.items (length world.old.kits.items) (length world.old.spares.items) world.old.carrier.trace.items) }
     ensures ok { OnOk result (Played options (lines_read ended text.now) (K.written sink.old) (K.written sink.new)) }
     ensures halted { IfHalted result (PlayedHalted options (lines_read ended text.now) (K.written sink.old) (K.written sink.new)) }
     ensures refused { IfRefused result (λ why. PlayedRefused options (lines_read ended text.now) (K.written sink.old) (K.written sink.new)) }
@@ -92,7 +97,7 @@ fn play_lines<A: Application, R: Follower, K: Sink>(
     Ok(())
 }
 
-/// Does each line of the text in a world over these kits and spares, and writes the trace.
+/// Does each line of the text in a world over these kits and spares, and writes the trace. There are as many as a script can use.
 pub(crate) fn play<A: Application, R: Follower, K: Sink>(
     alloc: Global,
     options: TraceOptions,
@@ -104,6 +109,8 @@ pub(crate) fn play<A: Application, R: Follower, K: Sink>(
 ) -> Result<(), Stop>
     requires kits { All A.is_kit kits.items }
     requires spares { All A.is_spare spares.items }
+    requires kit_count { length kits.items ≡ APP_COUNT }
+    requires spare_count { length spares.items ≡ spare_count }
     ensures ok { OnOk result (Played options (lines_read ended text.now) (K.written sink.old) (K.written sink.new)) }
     ensures halted { IfHalted result (PlayedHalted options (lines_read ended text.now) (K.written sink.old) (K.written sink.new)) }
     ensures refused { IfRefused result (λ why. PlayedRefused options (lines_read ended text.now) (K.written sink.old) (K.written sink.new)) }

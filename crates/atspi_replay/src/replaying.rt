@@ -1,8 +1,10 @@
 //! `replay`: a script is read, done, and its trace written.
 
-ghost use Rattle.std.specs.Prelude.{◌≡◌, All};
+ghost use Rattle.std.specs.Prelude.{◌≡◌, All, length};
+ghost use Rattle.atspi_lines.specs.declared.limits.TheConstants.{APP_COUNT};
 ghost use Rattle.atspi_replay.specs.Causes.{Causes};
 ghost use Rattle.atspi_replay.specs.Run.{Replayed, end_status, stop_status};
+ghost use Rattle.atspi_trace.specs.Work.{spare_count};
 
 use crate::input::{End, SCRIPT_LIMIT, read_all};
 use crate::naming::{Halt, Stop};
@@ -36,7 +38,9 @@ pub(crate) fn stop_status(stop: Stop) -> u8
     }
 }
 
-/// Reads a script, does it in a world over these kits and spares, and writes the text of its trace.
+/// Reads a script, does it in a world over these kits and spares, and writes the text of its trace, which is a lawful trace of the lines that were
+/// done. There are kits for sixteen applications, and spares for sixteen exchanges: over fewer a world would refuse a line that no lawful trace
+/// refuses.
 ///
 /// Status 0: the input was read to its end, and all its lines were done. 1: a line is refused, and those before it were done. 3: the source
 /// failed, behind whole lines that were done. 4: the sink failed. 5: no memory is left. 8: the input is longer than the limit, and the whole
@@ -51,6 +55,8 @@ pub fn replay<A: Application, R: Follower, S: Source, K: Sink>(
 ) -> u8
     requires kits { All A.is_kit kits.items }
     requires spares { All A.is_spare spares.items }
+    requires kit_count { length kits.items ≡ APP_COUNT }
+    requires spare_count { length spares.items ≡ spare_count }
     ensures replayed { Replayed options SCRIPT_LIMIT result (S.left source.old) (S.left source.new) (K.written sink.old) (K.written sink.new) }
     ensures causes { Causes result (S.faults source.old) (S.faults source.new) (K.faults sink.old) (K.faults sink.new) }
 {

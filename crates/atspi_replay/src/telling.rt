@@ -1,12 +1,14 @@
 //! What happened in a world is written.
 
-ghost use Rattle.std.specs.Prelude.{◌≡◌, ◌++◌, ℕ, List, IsErr, OnOk, OnErr, cond, true, false};
+ghost use Rattle.std.specs.Prelude.{◌≡◌, [], ◌∷◌, ◌++◌, ℕ, List, IsErr, OnOk, OnErr, Some, cond, slice_get, true, false};
+ghost use Rattle.std.specs.Option.{option_copied};
 ghost use Rattle.std.specs.Io.KnownBytes.{Appends};
 ghost use Rattle.atspi_base.specs.Outside.{AppendsPart};
 ghost use Rattle.atspi_events.specs.TraceText.{is_brief as keeps};
 ghost use Rattle.atspi_replay.specs.Names.{refused_text};
 ghost use Rattle.atspi_replay.specs.Play.{BlamesWrite, IfHalted, IfRefused};
-ghost use Rattle.atspi_replay.specs.Told.{Told, bytes_text, told_text};
+ghost use Rattle.atspi_replay.specs.Told.{bytes_text, told_at, told_from, told_if, told_text};
+ghost use Rattle.atspi_stage.specs.Wires.{wire_bytes};
 
 use crate::naming::{Halt, Refused, Stop, refused_name};
 use atspi_base::{Bytes, NoMemory, Sink, write_all};
@@ -42,7 +44,7 @@ fn put_bytes<A: Application, R: Follower>(
     event: usize,
     text: &mut Bytes,
 ) -> Result<(), NoMemory>
-    ensures { OnOk result ((bytes : List ℕ) × (text.new ≡ text.old ++ bytes_text bytes)) }
+    ensures { OnOk result (text.new ≡ text.old ++ bytes_text (wire_bytes world.now.carrier.posts.items world.now.carrier.trace.items event (slice_get world.now.carrier.trace.items event))) }
 {
     let mut bytes = Bytes::new(alloc);
     let Ok(()) = world.wire(event, &mut bytes) else {
@@ -60,7 +62,8 @@ fn put_event<A: Application, R: Follower>(
     event: &Event,
     text: &mut Bytes,
 ) -> Result<(), NoMemory>
-    ensures { OnOk result ((told : List Told) × (text.new ≡ text.old ++ told_text options told)) }
+    requires { slice_get world.now.carrier.trace.items place ≡ Some event.now }
+    ensures { OnOk result (text.new ≡ text.old ++ told_text options (told_at world.now.carrier.posts.items world.now.carrier.trace.items place event.now ∷ [])) }
 {
     if !is_told(options, event) {
         return Ok(());
@@ -72,6 +75,13 @@ fn put_event<A: Application, R: Follower>(
     put_bytes(alloc, world, place, text)
 }
 
+/// The event at a place of a trace.
+fn event_at(trace: &[Event], place: usize) -> Option<&Event>
+    ensures { option_copied result ≡ slice_get trace.now place }
+{
+    trace.get(place)
+}
+
 /// Appends what is told of the event with this place in a world's trace.
 fn put_entry<A: Application, R: Follower>(
     alloc: Global,
@@ -80,9 +90,9 @@ fn put_entry<A: Application, R: Follower>(
     place: usize,
     text: &mut Bytes,
 ) -> Result<(), NoMemory>
-    ensures { OnOk result ((told : List Told) × (text.new ≡ text.old ++ told_text options told)) }
+    ensures { OnOk result (text.new ≡ text.old ++ told_text options (told_if world.now.carrier.posts.items world.now.carrier.trace.items place (slice_get world.now.carrier.trace.items place))) }
 {
-    match world.trace().get(place) {
+    match event_at(world.trace(), place) {
         Some(event) => put_event(alloc, world, options, place, event, text),
         None => Ok(()),
     }
@@ -133,8 +143,8 @@ pub(crate) fn write_trace<A: Application, R: Follower, K: Sink>(
     from: usize,
     sink: &mut K,
 ) -> Result<(), Stop>
-    ensures ok { OnOk result ((told : List Told) × Appends (K.written sink.old) (K.written sink.new) (told_text options told)) }
-    ensures err { OnErr result ((told : List Told) × AppendsPart (K.written sink.old) (K.written sink.new) (told_text options told)) }
+    ensures ok { OnOk result (Appends (K.written sink.old) (K.written sink.new) (told_text options (told_from world.now.carrier.posts.items world.now.carrier.trace.items from))) }
+    ensures err { OnErr result (AppendsPart (K.written sink.old) (K.written sink.new) (told_text options (told_from world.now.carrier.posts.items world.now.carrier.trace.items from))) }
     ensures cause { BlamesWrite result (K.faults sink.old) (K.faults sink.new) }
     ensures not_refused { IfRefused result (λ why. ⊥) }
     ensures not_halted { IfHalted result ⊥ }
@@ -212,8 +222,8 @@ pub(crate) fn finish<A: Application, R: Follower, K: Sink>(
     sink: &mut K,
 ) -> Result<(), Stop>
     ensures stops { IsErr result }
-    ensures halted { IfHalted result ((told : List Told) × Appends (K.written sink.old) (K.written sink.new) (told_text options told)) }
-    ensures err { OnErr result ((told : List Told) × AppendsPart (K.written sink.old) (K.written sink.new) (told_text options told)) }
+    ensures halted { IfHalted result (Appends (K.written sink.old) (K.written sink.new) (told_text options (told_from world.now.carrier.posts.items world.now.carrier.trace.items from))) }
+    ensures err { OnErr result (AppendsPart (K.written sink.old) (K.written sink.new) (told_text options (told_from world.now.carrier.posts.items world.now.carrier.trace.items from))) }
     ensures cause { BlamesWrite result (K.faults sink.old) (K.faults sink.new) }
     ensures not_refused { IfRefused result (λ why. ⊥) }
 {

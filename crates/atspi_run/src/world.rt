@@ -2,8 +2,10 @@
 
 ghost use Rattle.std.specs.Prelude.{◌≡◌, All, IfOk, Ok, length};
 ghost use Rattle.atspi_exported.specs.Parts.{AreEmpty, AreKinds, IsEmpty, faces_of, kinds_of};
+ghost use Rattle.atspi_lines.specs.declared.limits.TheConstants.{APP_COUNT};
 ghost use Rattle.atspi_replay.specs.Causes.{Causes};
 ghost use Rattle.atspi_run.specs.Tasks.{DoesTask, MayDo};
+ghost use Rattle.atspi_trace.specs.Work.{spare_count};
 
 use crate::words::Task;
 use atspi_app::Kit;
@@ -50,6 +52,8 @@ fn do_over<A: Application + HasTree, R: Follower, S: Source, K: Sink>(
     requires may { MayDo task }
     requires kits { All A.is_kit kits.items }
     requires spares { All A.is_spare spares.items }
+    requires kit_count { length kits.items ≡ APP_COUNT }
+    requires spare_count { length spares.items ≡ spare_count }
     ensures does { DoesTask task result (S.left source.old) (S.left source.new) (K.written sink.old) (K.written sink.new) }
     ensures causes { Causes result (S.faults source.old) (S.faults source.new) (K.faults sink.old) (K.faults sink.new) }
 {

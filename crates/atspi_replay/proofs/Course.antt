@@ -1,0 +1,150 @@
+-- The run so far: which lines were done, the world that they came to, and what was told of them.
+use Rattle.std.proofs.Common.{◌≡◌, ℕ, suc, ◌+◌, List, [], ◌∷◌, ◌++◌, length, refl, sym, ap, subst, ◌∙◌, arith, append_assoc, append-nil, length-append, Option, inl, inr, ◌⊎◌}
+use Rattle.std.specs.Io.KnownBytes.{Appends}
+use Rattle.std.specs.List.{AllByRecursion}
+use Rattle.atspi_base.specs.Outside.{AppendsPart, appends_both, appends_part}
+use Rattle.atspi_events.specs.declared.options.TraceOptions.{TraceOptions}
+use Rattle.atspi_lines.specs.declared.limits.TheConstants.{QUOTA_MOST}
+use Rattle.atspi_lines.specs.declared.line.Line.{Line}
+use Rattle.atspi_lawful.specs.order.Scripts.{CanStand, CanAllStand}
+use Rattle.atspi_play.specs.Playing.{Playing, first_playing}
+use Rattle.atspi_play.specs.Played.{IsPlayed, begun}
+use Rattle.atspi_stage.specs.Worlds.{Staged, IsPlaying}
+use Rattle.atspi_stage.specs.Lines.{IsLineDone}
+use Rattle.atspi_stage.specs.Refusals.{refusal_of}
+use Rattle.atspi_replay.specs.declared.naming.Refused as refused
+use Rattle.atspi_replay.specs.declared.naming.Refused.TheVariants.{Long, NotUtf8, Form, World}
+use Rattle.atspi_replay.specs.Names.{IsLine, RefusedAs, refused_text}
+use Rattle.atspi_replay.specs.Told.{Told, told_text}
+use Rattle.atspi_replay.specs.Done.{AreSpelled, IsLawfulOf, IsRefusedBehind, Upto, entries_told}
+use Rattle.atspi_replay.specs.Play.{Did, DidLine, DoneText, HaltedText, IsLineText, PlayedHalted, PlayedPart, PlayedRefused, RefusedIn, RefusedText, StoppedAt, added}
+use Rattle.atspi_replay.proofs.DoneLemmas.{added_are, spelled_more, entries_both, text_more}
+use Rattle.atspi_replay.proofs.Segments.{can_stand, played_more}
+use Rattle.atspi_replay.proofs.Refusing.{is_refused, lawful}
+
+-- so many lines were done: the lines still to come, and the number of the one that comes next
+pub record SoFar (lines rest : List (List ℕ)) (told : List Told) (number : ℕ) (s : Staged) : Type 0 where
+  pub done : List (List ℕ)
+  pub front : lines ≡ done ++ rest
+  pub counted : number ≡ length done
+  pub script : List Line
+  pub spelled : AreSpelled done script
+  pub can : CanAllStand script
+  pub now : Playing
+  pub is : IsPlaying now s
+  pub played : IsPlayed script (entries_told told) now
+
+pub so_far_start : (lines : List (List ℕ)) (s : Staged) → IsPlaying (first_playing QUOTA_MOST) s → SoFar lines lines [] 0 s
+so_far_start lines s is = record { done = []; front = refl; counted = refl; script = []; spelled = tt; can = tt; now = first_playing QUOTA_MOST; is = is; played = begun }
+
+can_more : (lines : List Line) (line : Line) → CanAllStand lines → CanStand line → CanAllStand (lines ++ line ∷ [])
+can_more [] line all can = (can, tt)
+can_more (other ∷ lines) line all can = (all.0, can_more lines line all.1 can)
+
+-- ONE MORE LINE IS DONE
+pub so_far_more : {lines rest : List (List ℕ)} {told : List Told} {bytes : List ℕ} {number : ℕ} {s : Staged} (new : Staged) → SoFar lines (bytes ∷ rest) told number s → DidLine bytes s new
+    → SoFar lines rest (told ++ added s new) (number + 1) new
+so_far_more {rest = rest} {told = told} {bytes = bytes} {s = s} new c d =
+    let line : IsLineDone c.now d.0 s new = d.2 c.now c.is in
+    let entries : entries_told (told ++ added s new) ≡ entries_told told ++ line.done.entries = entries_both told (added s new) ∙ ap (λ es. entries_told told ++ es) (added_are s new line.done.entries line.done.wrote) in
+    record {
+      done = c.done ++ bytes ∷ [];
+      front = c.front ∙ sym (append_assoc c.done (bytes ∷ []) rest);
+      counted = omega (arith, c.counted, length-append c.done (bytes ∷ []));
+      script = c.script ++ d.0 ∷ [];
+      spelled = spelled_more c.done c.script bytes d.0 c.spelled d.1;
+      can = can_more c.script d.0 c.can (can_stand d.0 bytes d.1);
+      now = line.done.after;
+      is = line.done.is;
+      played = subst (λ es. IsPlayed (c.script ++ d.0 ∷ []) es line.done.after) (sym entries) (played_more c.script (entries_told told) c.now d.0 s new c.played line);
+    }
+
+-- and what it added is written
+pub one_more : (options : TraceOptions) {lines rest : List (List ℕ)} {told : List Told} {bytes : List ℕ} {number : ℕ} {s : Staged} (new : Staged) (w w' w'' : Option (List ℕ)) → SoFar lines (bytes ∷ rest) told number s
+    → Appends w w' (told_text options told) → Did options bytes s new w' w'' → (more : List Told) × SoFar lines rest more (number + 1) new × Appends w w'' (told_text options more)
+one_more options {told = told} {s = s} new w w' w'' c a did = (
+  told ++ added s new,
+  so_far_more new c did.0,
+  subst (λ x. Appends w w'' x) (sym (text_more options told (added s new))) (appends_both w w' w'' (told_text options told) (told_text options (added s new)) a did.1),
+)
+
+-- WHAT WAS TOLD IS A LAWFUL TRACE OF THEM
+abbrev pub so_far_upto : {lines rest : List (List ℕ)} {told : List Told} {number : ℕ} {s : Staged} → SoFar lines rest told number s → Upto lines rest told
+so_far_upto {told = told} c = record { done = c.done; front = c.front; lawful = record { lines = c.script; spelled = c.spelled; lawful = lawful c.script (entries_told told) c.now c.can c.played } }
+
+pub so_far_end : {lines : List (List ℕ)} {told : List Told} {number : ℕ} {s : Staged} → SoFar lines [] told number s → IsLawfulOf lines told
+so_far_end {told = told} c = subst (λ ls. IsLawfulOf ls told) (sym (c.front ∙ append-nil c.done)) (so_far_upto c).lawful
+
+-- and the next line is refused by it where it is refused
+pub refused_behind : {lines rest : List (List ℕ)} {told : List Told} {number : ℕ} {s : Staged} (c : SoFar lines rest told number s) (bytes : List ℕ) (why : refused.Refused) → RefusedIn s bytes why
+    → IsRefusedBehind c.script told bytes why
+refused_behind c bytes Long r = record { bytes_are = r; lawful = tt }
+refused_behind c bytes NotUtf8 r = record { bytes_are = r; lawful = tt }
+refused_behind c bytes Form r = record { bytes_are = r; lawful = tt }
+refused_behind {told = told} c bytes (World why) r = record {
+  bytes_are = (r.0, r.1);
+  lawful = (r.0, r.1, is_refused c.script (entries_told told) c.now r.0 (refusal_of why) (can_more c.script r.0 c.can (can_stand r.0 bytes r.1)) c.played (r.2 c.now c.is));
+}
+
+-- the text of the next line's refusal
+refused_so : {options : TraceOptions} {lines rest : List (List ℕ)} {told : List Told} {bytes : List ℕ} {number : ℕ} {s : Staged} (why : refused.Refused) (text : List ℕ) → SoFar lines (bytes ∷ rest) told number s
+    → RefusedIn s bytes why → text ≡ told_text options told ++ refused_text (number + 1) why → RefusedText options lines text
+refused_so {options = options} {rest = rest} {told = told} {bytes = bytes} why text c r are = record {
+  line = bytes;
+  rest = rest;
+  told = told;
+  why = why;
+  upto = so_far_upto c;
+  refused = refused_behind c bytes why r;
+  are = are ∙ ap (λ n. told_text options told ++ refused_text n why) (omega (arith, c.counted));
+}
+
+-- a part of what the next line writes is a part of such a text
+pub stopped_part : {options : TraceOptions} {lines rest : List (List ℕ)} {told : List Told} {bytes : List ℕ} {number : ℕ} {s : Staged} (new : Staged) (w w' w'' : Option (List ℕ)) → SoFar lines (bytes ∷ rest) told number s
+    → Appends w w' (told_text options told) → StoppedAt options bytes (number + 1) s new w' w'' → PlayedPart options lines w w''
+stopped_part {options = options} {lines = lines} {rest = rest} {told = told} {bytes = bytes} {number = number} {s = s} new w w' w'' c a p =
+    (told_text options told ++ p.0, text p.0 p.1, appends_part w w' w'' (told_text options told) p.0 a p.2)
+  where
+    text : (t : List ℕ) → IsLineText options bytes (number + 1) s new t
+        → DoneText options lines (told_text options told ++ t) ⊎ (HaltedText options lines (told_text options told ++ t) ⊎ RefusedText options lines (told_text options told ++ t))
+    text t (inl none) = inl record { rest = bytes ∷ rest; told = told; upto = so_far_upto c; are = ap (λ x. told_text options told ++ x) none ∙ append-nil (told_text options told) }
+    text t (inr (inl d)) =
+        inl record {
+          rest = rest;
+          told = told ++ added s new;
+          upto = so_far_upto (so_far_more new c d.0);
+          are = ap (λ x. told_text options told ++ x) d.1 ∙ sym (text_more options told (added s new));
+        }
+    text t (inr (inr (inl h))) =
+        inr (inl record {
+          line = bytes;
+          rest = rest;
+          told = told;
+          more = h.1.0;
+          upto = so_far_upto c;
+          is_line = h.0;
+          are = ap (λ x. told_text options told ++ x) h.1.1 ∙ sym (text_more options told h.1.0);
+        })
+    text t (inr (inr (inr r))) = inr (inr (refused_so r.0 (told_text options told ++ t) c r.1 (ap (λ x. told_text options told ++ x) r.2)))
+
+-- the next line is refused
+pub refused_next : {options : TraceOptions} {lines rest : List (List ℕ)} {told : List Told} {bytes : List ℕ} {number : ℕ} {s : Staged} (why : refused.Refused) (w w' w'' : Option (List ℕ))
+    → SoFar lines (bytes ∷ rest) told number s → Appends w w' (told_text options told) → RefusedIn s bytes why → Appends w' w'' (refused_text (number + 1) why) → PlayedRefused options lines w w''
+refused_next {options = options} {told = told} {number = number} why w w' w'' c a r b = (
+  told_text options told ++ refused_text (number + 1) why,
+  refused_so why (told_text options told ++ refused_text (number + 1) why) c r refl,
+  appends_both w w' w'' (told_text options told) (refused_text (number + 1) why) a b,
+)
+
+-- the world ends at the next line
+pub halted_next : {options : TraceOptions} {lines rest : List (List ℕ)} {told : List Told} {bytes : List ℕ} {number : ℕ} {s : Staged} (more : List Told) (w w' w'' : Option (List ℕ)) → SoFar lines (bytes ∷ rest) told number s
+    → Appends w w' (told_text options told) → IsLine bytes → Appends w' w'' (told_text options more) → PlayedHalted options lines w w''
+halted_next {options = options} {rest = rest} {told = told} {bytes = bytes} more w w' w'' c a l b = (
+  told_text options told ++ told_text options more,
+  record { line = bytes; rest = rest; told = told; more = more; upto = so_far_upto c; is_line = l; are = sym (text_more options told more) },
+  appends_both w w' w'' (told_text options told) (told_text options more) a b,
+)
+
+-- nothing was told of no lines
+pub nothing_told : (lines : List (List ℕ)) → Upto lines lines []
+nothing_told lines = record { done = []; front = refl; lawful = record { lines = []; spelled = tt; lawful = lawful [] [] (first_playing QUOTA_MOST) tt begun } }

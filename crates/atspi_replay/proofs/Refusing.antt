@@ -1,0 +1,26 @@
+-- A line that the world refuses is refused by the lawful trace of the lines before it.
+use Rattle.std.proofs.Common.{◌≡◌, List, [], ◌∷◌, ◌++◌, Some, sym, ap, ◌∙◌}
+use Rattle.atspi_lines.specs.declared.line.Line.{Line}
+use Rattle.atspi_trace.specs.Entry.{Entry}
+use Rattle.atspi_trace.specs.Work as work
+use Rattle.atspi_trace.specs.Work.{Refusal, resting, work_of}
+use Rattle.atspi_trace.specs.Due.{Scene, rested, scene_of, unless_refused, refusal_in, refusal_at, Lawful}
+use Rattle.atspi_lawful.specs.order.Scripts.{CanAllStand}
+use Rattle.atspi_play.specs.Playing.{Playing}
+use Rattle.atspi_play.specs.Played.{refused, IsPlayed}
+use Rattle.atspi_played.proofs.AllPieces.{pieces}
+use Rattle.atspi_played.proofs.Building.{onwards}
+use Rattle.atspi_played.proofs.Playing.{agrees, is_lawful, played_stage}
+
+pub is_refused : (lines : List Line) (es : List Entry) (p : Playing) (line : Line) (why : Refusal) → CanAllStand (lines ++ line ∷ []) → IsPlayed lines es p → refused p line ≡ Some why
+    → refusal_at (lines ++ line ∷ []) es ≡ Some why
+is_refused lines es p line why can h due =
+    let stage = played_stage pieces lines es p h (line ∷ []) can in
+    let passed = stage.midway.passed ++ p.world ∷ [] in
+    let so : work.refused p.world line ≡ Some why = sym (agrees pieces (lines ++ line ∷ []) (line ∷ []) es p resting stage line) ∙ due in
+    ap (λ (s : Scene). refusal_in s.world s.left)
+    (stage.midway.next ∙ ap (λ o. unless_refused o (onwards [] passed p.world (work_of p.world line)) (scene_of (rested p.world) passed (line ∷ []))) so)
+    ∙ so
+
+pub lawful : (lines : List Line) (es : List Entry) (p : Playing) → CanAllStand lines → IsPlayed lines es p → Lawful lines es
+lawful lines es p can h = is_lawful pieces lines es p can h
