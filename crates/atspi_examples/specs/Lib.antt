@@ -5,3 +5,4 @@ pub mod Maps
 pub mod Seen
 pub mod Spoken
 pub mod Turning
+pub mod Players

@@ -11,6 +11,7 @@ pub mod lawful;
 pub mod loads;
 pub mod maps;
 pub mod news;
+pub mod played;
 pub mod refusals;
 pub mod rows;
 pub mod sequences;
