@@ -1,5 +1,5 @@
 -- Small worlds with two applications and two readers of their own definitions.
-use Rattle.std.specs.Prelude.{ℕ, pos, negsuc, List, [], ◌∷◌, drop, Option, Some, None, codes}
+use Rattle.std.specs.Prelude.{ℕ, pos, negsuc, List, [], ◌∷◌, drop, Some, None, codes}
 use Rattle.atspi_events.specs.declared.shown.ShownRow.{ShownRow}
 use Rattle.atspi_forest.specs.declared.view.Row.{Row}
 use Rattle.atspi_forest.specs.Forest.{Forest, nil, tree}
@@ -124,3 +124,9 @@ at_rest b = playing (resting_world b []) holder
 
 abbrev pub halted : Bus → Playing
 halted b = playing (world b (record (busy_reader (hearer [] 21) []) { standing = stopped })) holder
+
+-- where the second application stopped
+abbrev pub exited_world : Bus → World
+exited_world b = record (resting_world b []) {
+  ends = first_registry ∷ nameless_app ∷ record named_app { standing = stopped } ∷ idle_reader ∷ busy_reader (hearer [] 21) [] ∷ [];
+}

@@ -1,0 +1,28 @@
+use Rattle.std.proofs.Common.{refl, ◌∷◌, [], None}
+use Rattle.atspi_lines.specs.declared.limits.TheConstants.{QUOTA_MOST}
+use Rattle.atspi_lines.specs.declared.line.Line.TheVariants.{Blank, Drain, Reader as Reader_line}
+use Rattle.atspi_lines.specs.declared.line.Party.TheVariants.{Reader}
+use Rattle.atspi_protocol.specs.declared.following.question.Question.TheVariants.{Hello}
+use Rattle.atspi_protocol.specs.following.Calls.{asking}
+use Rattle.atspi_trace.specs.Causes.{starts_reader, tells_quiet}
+use Rattle.atspi_trace.specs.Entry.{quiet, sent, started}
+use Rattle.atspi_trace.specs.Work.{doing, draining, resting}
+use Rattle.atspi_play.specs.Playing.{first_playing}
+use Rattle.atspi_play.specs.Plays.{plays}
+use Rattle.atspi_play.specs.Played.{begun, did}
+use Rattle.atspi_examples.proofs.PlayingOut.{over, one_cause}
+use Rattle.atspi_examples.proofs.played.done.Goals as goal
+
+pub returns-clause-none : goal.returns-clause-none
+returns-clause-none c = begun
+
+pub returns-clause-blank : goal.returns-clause-blank
+returns-clause-blank c = did [] Blank [] [] (first_playing QUOTA_MOST) (first_playing QUOTA_MOST) begun refl (over (first_playing QUOTA_MOST) resting refl) refl
+
+pub returns-clause-two : goal.returns-clause-two
+returns-clause-two c =
+    let p = first_playing QUOTA_MOST in
+    let q = (plays p starts_reader).now in
+    let drained = did [] Drain [] (quiet ∷ []) p p begun refl (one_cause p tells_quiet draining resting refl refl) refl in
+    did (Drain ∷ []) Reader_line (quiet ∷ []) (started (Reader 0) None ∷ sent (Reader 0) (asking 1 Hello) ∷ []) p q drained refl
+    (one_cause p starts_reader (doing starts_reader) resting refl refl) refl
