@@ -16,7 +16,7 @@ use Rattle.atspi_protocol.specs.following.Cases.{returned, owner_changed}
 use Rattle.atspi_routing.specs.Queues.{Bus}
 use Rattle.atspi_types.specs.Data.{text_data}
 use Rattle.atspi_trace.specs.World as fate
-use Rattle.atspi_trace.specs.World.{stopped, Fate, Asked, Hearer, a_reader, an_application, Letter, End, World, first_registry, newcomer}
+use Rattle.atspi_trace.specs.World.{stopped, Fate, Asked, Hearer, a_reader, an_application, Said, Letter, End, World, first_registry, newcomer}
 use Rattle.atspi_trace.specs.Ends.{plain}
 use Rattle.atspi_play.specs.Playing.{Playing}
 use Rattle.atspi_examples.specs.Seen.{path, row}
@@ -130,3 +130,7 @@ abbrev pub exited_world : Bus → World
 exited_world b = record (resting_world b []) {
   ends = first_registry ∷ nameless_app ∷ record named_app { standing = stopped } ∷ idle_reader ∷ busy_reader (hearer [] 21) [] ∷ [];
 }
+
+-- where so many bytes were moved of the message that waits on the second reader's up link
+abbrev pub bytes_world : Bus → Said → ℕ → World
+bytes_world b said moved = world b (record (busy_reader (hearer [] 21) []) { up = said ∷ []; up_moved = moved })

@@ -1,25 +1,27 @@
 //! Worlds whose readers are those of their own definitions: what each cause does there, and which lines are refused.
 
-ghost use Rattle.std.specs.Prelude.{◌≡◌, ℕ, List, ◌∷◌, ◌++◌, [], None, Some, codes, false, drop};
+ghost use Rattle.std.specs.Prelude.{◌≡◌, ℕ, List, ◌∷◌, ◌++◌, [], length, None, Some, codes, false};
 ghost use Rattle.atspi_lines.specs.declared.limits.TheConstants.{QUOTA_MOST};
 ghost use Rattle.atspi_lines.specs.declared.line.Line.{Line};
 ghost use Rattle.atspi_lines.specs.declared.line.Line.TheVariants as line;
 ghost use Rattle.atspi_lines.specs.declared.line.Party.TheVariants as party;
 ghost use Rattle.atspi_forest.specs.Forest.{nil};
+ghost use Rattle.atspi_message.specs.Bytes.{written};
 ghost use Rattle.atspi_protocol.specs.declared.following.question.Question.TheVariants.{Hello};
-ghost use Rattle.atspi_protocol.specs.following.ReaderState.{begins, sends, speaks, start_calls, tells_end};
+ghost use Rattle.atspi_protocol.specs.following.ReaderState.{begins, sends, speaks, tells_end};
 ghost use Rattle.atspi_protocol.specs.following.Calls.{asking};
 ghost use Rattle.atspi_routing.specs.Queues.{Bus};
 ghost use Rattle.atspi_trace.specs.Entry.{Entry, sent, got, spoke, showed, gone, exited, started, busy, quiet};
-ghost use Rattle.atspi_trace.specs.World.{World, End, a_reader, first_world, returned, waits};
+ghost use Rattle.atspi_trace.specs.World.{Said, first_world, waits};
 ghost use Rattle.atspi_trace.specs.Ends.{end_at, plain};
 ghost use Rattle.atspi_trace.specs.Causes as cause;
 ghost use Rattle.atspi_trace.specs.Due.{is_lost};
-ghost use Rattle.atspi_trace.specs.Work.{dead, draining, no_party, not_held, resting, turning, work_of};
+ghost use Rattle.atspi_trace.specs.Work.{dead, draining, moving_up, no_party, not_held, resting, turning, work_of};
 ghost use Rattle.atspi_play.specs.Playing.{Playing, first_playing, held_by, silent, unique_in, view_in, view_rows};
 ghost use Rattle.atspi_play.specs.Plays.{asked, asked_with, got_at, got_by, of_app, plays, reader_got, told, with_reader};
 ghost use Rattle.atspi_play.specs.Played.{IsPlayed, PlaysOut, if_viewed, refused};
-ghost use Rattle.atspi_examples.specs.Players.{at_rest, busy_reader, caret, caret_call, end_of_named, exited_world, first_rule, five_ends, halted, hearer, hello_returned, hello_waits, hello_waits_at, holder, idle_reader, loud, named_app, nameless_app, new_reader, playing, registry_world, resting_world, rule_waits, rule_waits_at, starting_world, two_rows, two_shown};
+ghost use Rattle.atspi_examples.specs.Players.{at_rest, busy_reader, bytes_world, caret, caret_call, end_of_named, exited_world, first_rule, five_ends};
+ghost use Rattle.atspi_examples.specs.Players.{halted, hearer, hello_returned, hello_waits, hello_waits_at, holder, idle_reader, loud, named_app, nameless_app, new_reader, playing, registry_world, resting_world, rule_waits, rule_waits_at, starting_world, two_rows, two_shown};
 
 /// A view is had of an application with a name, by a reader that is there.
 pub fn views()
@@ -153,7 +155,8 @@ pub fn refusals()
     ensures other { (b : Bus) → refused (at_rest b) (line.Exit 2) ≡ Some no_party }
 {}
 
-/// What is left of a line, done: nothing of a blank one; one cause of a swap and of an exit; that nothing waits of a drain. More is not written.
+/// What is left of a line, done: nothing of a blank one; one cause of a swap and of an exit; that nothing waits of a drain; bytes that complete no
+/// message move. More is not written.
 pub fn lines()
     ensures blank { (b : Bus) → PlaysOut (at_rest b) (work_of (at_rest b).world line.Blank) [] (at_rest b) }
     ensures swap { (b : Bus) → PlaysOut (at_rest b) (work_of (at_rest b).world (line.Swap 1)) [] (record (at_rest b) { world = record (resting_world b []) { swaps = 1 } }) }
@@ -161,15 +164,19 @@ pub fn lines()
     ensures drain { (b : Bus) → PlaysOut (at_rest b) draining (quiet ∷ []) (at_rest b) }
     ensures turns { (b : Bus) → PlaysOut (playing (starting_world b (hello_returned ∷ [])) hello_waits) (turning 1 1) (got (party.Reader 1) party.Bus 33 ∷ sent (party.Reader 1) (asking 2 first_rule) ∷ busy 1 ∷ [])
         (plays (playing (starting_world b (hello_returned ∷ [])) hello_waits) (cause.gets 4)).now }
+    ensures bytes { (b : Bus) → (said : Said) → length (written said.message) ≡ 20 → PlaysOut (playing (bytes_world b said 0) holder) (moving_up 4 5) [] (playing (bytes_world b said 5) holder) }
     ensures blank_more { (b : Bus) → (entry : Entry) → (q : Playing) → PlaysOut (at_rest b) resting (entry ∷ []) q → ⊥ }
     ensures drain_less { (b : Bus) → (q : Playing) → PlaysOut (at_rest b) draining [] q → ⊥ }
 {}
 
-/// Lines that were done: none at the beginning, and each behind those before it; no refused one, and none behind which the registry is lost.
+/// Lines that were done: none at the beginning, and each behind those before it, a reader's call by the reader's own view; no refused one, and none
+/// behind which the registry is lost.
 pub fn done()
     ensures none { IsPlayed [] [] (first_playing QUOTA_MOST) }
     ensures blank { IsPlayed (line.Blank ∷ []) [] (first_playing QUOTA_MOST) }
     ensures two { IsPlayed (line.Drain ∷ line.Reader ∷ []) (quiet ∷ started (party.Reader 0) None ∷ sent (party.Reader 0) (asking 1 Hello) ∷ []) (plays (first_playing QUOTA_MOST) cause.starts_reader).now }
+    ensures called { (b : Bus) → (lines : List Line) → (entries : List Entry) → IsPlayed lines entries (at_rest b)
+        → IsPlayed (lines ++ line.Call 1 1 1 caret ∷ []) (entries ++ sent (party.Reader 1) caret_call ∷ []) (plays (at_rest b) (cause.calls 4 (codes ":1.1") 1 caret)).now }
     ensures refused { (entries : List Entry) → (q : Playing) → IsPlayed (line.Exit 0 ∷ []) entries q → ⊥ }
     ensures kept { (lines : List Line) → (entries : List Entry) → (q : Playing) → IsPlayed lines entries q → is_lost q.world ≡ false }
 {}

@@ -3,10 +3,10 @@ use Rattle.atspi_types.specs.Names.{is_bus_name}
 use Rattle.atspi_types.specs.Elements.{are_two_or_more, are_elements, parts_of}
 use Rattle.atspi_trace.specs.Causes.{exits, gets, swaps_face, tells_busy, tells_quiet}
 use Rattle.atspi_trace.specs.Entry.{busy}
-use Rattle.atspi_trace.specs.Work.{doing, draining, resting, turning}
+use Rattle.atspi_trace.specs.Work.{doing, draining, moving_up, resting, turning}
 use Rattle.atspi_play.specs.Plays.{plays}
-use Rattle.atspi_play.specs.Played.{caused}
-use Rattle.atspi_examples.specs.Players.{at_rest, hello_returned, hello_waits, playing, starting_world}
+use Rattle.atspi_play.specs.Played.{caused, at_rest as still}
+use Rattle.atspi_examples.specs.Players.{at_rest, bytes_world, hello_returned, hello_waits, holder, playing, starting_world}
 use Rattle.atspi_examples.proofs.PlayingOut.{over, one_cause}
 use Rattle.atspi_examples.proofs.played.lines.Goals as goal
 
@@ -21,6 +21,10 @@ returns-clause-exit c = λ b. one_cause (at_rest b) (exits 2) (doing (exits 2)) 
 
 pub returns-clause-drain : goal.returns-clause-drain
 returns-clause-drain c = λ b. one_cause (at_rest b) tells_quiet draining resting refl refl
+
+pub returns-clause-bytes : goal.returns-clause-bytes
+returns-clause-bytes c = λ b said long.
+    still (playing (bytes_world b said 0) holder) (bytes_world b said 5) (moving_up 4 5) (rw long refl)
 
 pub returns-clause-turns : goal.returns-clause-turns
 unfolding is_bus_name are_two_or_more are_elements parts_of
