@@ -1,0 +1,9 @@
+pub mod Serials
+pub mod OwnLinks
+pub mod OwnTurns
+pub mod Counting
+pub mod Pairs
+pub mod Parties
+pub mod LawFew
+pub mod Turns
+pub mod WithoutEnd
