@@ -1,7 +1,8 @@
 -- The lines that were played so far in a stage, and the counts of what it tells.
-use Rattle.std.proofs.Common.{◌≡◌, ℕ, suc, Bool, true, false, cond, length, List, [], ◌∷◌, ◌++◌, refl, sym, ap, subst, ◌∙◌}
+use Rattle.std.proofs.Common.{◌≡◌, ◌<◌, ◌≤◌, ◌+◌, ℕ, suc, get_or, take, Bool, true, false, cond, length, List, [], ◌∷◌, ◌++◌, refl, sym, ap, subst, ◌∙◌}
 use Rattle.std.specs.Prelude.{count_by, filter}
-use Rattle.std.proofs.lemmas.List.Sums.{length-filter}
+use Rattle.std.proofs.lemmas.List.Sums.{count_by_more_no, count_by_more_yes, length-filter}
+use Rattle.std.proofs.lemmas.List.{take_all}
 use Rattle.atspi_events.specs.declared.event.Event.{Event}
 use Rattle.atspi_lines.specs.declared.limits.TheConstants.{QUOTA_MOST}
 use Rattle.atspi_lines.specs.declared.line.Line.{Line}
@@ -35,6 +36,19 @@ played_line line old new may h d =
       is = seg.is.is;
       played = subst (λ es. IsPlayed (h.did ++ seg.did ∷ []) es seg.is.after) (sym seg.is.wrote) (played_more h.did (entries_of old.trace) h.now line old new h.played seg);
     }
+
+-- one more event is counted, or is not
+pub counted_one : (p : Event → Bool) (events : List Event) (i count next : ℕ) (event : Event) → i < length events → event ≡ get_or events i event → count ≡ count_by p (take i events) → p event ≡ true
+    → next ≡ count + 1 → next ≡ count_by p (take (i + 1) events)
+counted_one p events i count next event within is so passes more =
+    more ∙ ap (λ n. n + 1) so ∙ sym (count_by_more_yes p events i event within (ap p (sym is) ∙ passes))
+
+pub counted_none : (p : Event → Bool) (events : List Event) (i count next : ℕ) (event : Event) → i < length events → event ≡ get_or events i event → count ≡ count_by p (take i events) → p event ≡ false
+    → next ≡ count → next ≡ count_by p (take (i + 1) events)
+counted_none p events i count next event within is so fails same = same ∙ so ∙ sym (count_by_more_no p events i event within (ap p (sym is) ∙ fails))
+
+pub counted_all : (p : Event → Bool) (events : List Event) (i count : ℕ) → length events ≤ i → count ≡ count_by p (take i events) → count ≡ count_by p events
+counted_all p events i count past so = so ∙ ap (count_by p) (take_all i events past)
 
 -- what is counted among events is counted among entries
 as_many : (b : Bool) (event : Event) (entry : Entry) (events : List Event) (entries : List Entry) → length events ≡ length entries → length (cond b (event ∷ events) events) ≡ length (cond b (entry ∷ entries) entries)

@@ -142,14 +142,26 @@ fn is_spoken(event: &Event) -> bool
 fn count_steps(trace: &[Event]) -> usize
     ensures { result ≡ count_by (λ event. is_step (entry_of event)) trace.now }
 {
-    trace.iter().filter(|event| is_step(event)).count()
+    let mut count = 0usize;
+    for event in trace {
+        if is_step(event) {
+            count += 1;
+        }
+    }
+    count
 }
 
 /// How many events of a trace are spoken lines.
 fn count_says(trace: &[Event]) -> usize
     ensures { result ≡ count_by (λ event. is_spoken (entry_of event)) trace.now }
 {
-    trace.iter().filter(|event| is_spoken(event)).count()
+    let mut count = 0usize;
+    for event in trace {
+        if is_spoken(event) {
+            count += 1;
+        }
+    }
+    count
 }
 
 /// Appends a word and a number.
