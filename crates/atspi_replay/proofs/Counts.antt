@@ -9,17 +9,17 @@ use Rattle.atspi_lines.specs.declared.line.Line.{Line}
 use Rattle.atspi_trace.specs.Entry.{Entry, entry_of, entries_of}
 use Rattle.atspi_play.specs.Playing.{first_playing}
 use Rattle.atspi_play.specs.Played.{IsPlayed, begun}
-use Rattle.atspi_stage.specs.Lines.{LineDone}
+use Rattle.atspi_stage.specs.Lines.{IsLineDone, LineDone}
 use Rattle.atspi_stage.specs.MayAct.{MayAct}
 use Rattle.atspi_stage.specs.Worlds.{Staged, IsPlaying}
 use Rattle.atspi_replay.specs.Made.{AreOfTrace, HasPlayed, is_spoken, is_step}
 use Rattle.atspi_replay.proofs.Course.{can_more}
 use Rattle.atspi_replay.proofs.Refusing.{lawful}
-use Rattle.atspi_replay.proofs.Segments.{Segment, played_more, segment_of, stands}
+use Rattle.atspi_replay.proofs.Segments.{played_more, stands}
 
 pub played_none : (s : Staged) → IsPlaying (first_playing QUOTA_MOST) s → s.trace ≡ [] → HasPlayed s
 played_none s is none = record {
-  did = [];
+  lines = [];
   can = tt;
   now = first_playing QUOTA_MOST;
   is = is;
@@ -28,13 +28,13 @@ played_none s is none = record {
 
 pub played_line : (line : Line) (old new : Staged) → MayAct line → HasPlayed old → LineDone line old new → HasPlayed new
 played_line line old new may h d =
-    let seg : Segment h.now line old new = segment_of h.now line old new (stands line may) (d h.now h.is) in
+    let one : IsLineDone h.now line old new = d h.now h.is in
     record {
-      did = h.did ++ seg.did ∷ [];
-      can = can_more h.did seg.did h.can seg.can;
-      now = seg.is.after;
-      is = seg.is.is;
-      played = subst (λ es. IsPlayed (h.did ++ seg.did ∷ []) es seg.is.after) (sym seg.is.wrote) (played_more h.did (entries_of old.trace) h.now line old new h.played seg);
+      lines = h.lines ++ line ∷ [];
+      can = can_more h.lines line h.can (stands line may);
+      now = one.done.after;
+      is = one.done.is;
+      played = subst (λ es. IsPlayed (h.lines ++ line ∷ []) es one.done.after) (sym one.done.wrote) (played_more h.lines (entries_of old.trace) h.now line old new h.played one);
     }
 
 -- one more event is counted, or is not
@@ -65,9 +65,9 @@ counts_both of_entry events = sym (length-filter (λ event. of_entry (entry_of e
 
 pub counted : (s : Staged) (steps says : ℕ) → HasPlayed s → steps ≡ count_by (λ event. is_step (entry_of event)) s.trace → says ≡ count_by (λ event. is_spoken (entry_of event)) s.trace → AreOfTrace steps says
 counted s steps says h steps_are says_are = record {
-  did = h.did;
+  lines = h.lines;
   entries = entries_of s.trace;
-  lawful = lawful h.did (entries_of s.trace) h.now h.can h.played;
+  lawful = lawful h.lines (entries_of s.trace) h.now h.can h.played;
   steps_are = steps_are ∙ counts_both is_step s.trace;
   says_are = says_are ∙ counts_both is_spoken s.trace;
 }

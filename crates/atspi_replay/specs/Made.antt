@@ -34,19 +34,19 @@ is_spoken entry = false
 
 -- THE NUMBERS ARE THOSE OF A LAWFUL TRACE OF SOME LINES
 pub record AreOfTrace (steps says : ℕ) : Type 0 where
-  pub did : List Line
+  pub lines : List Line
   pub entries : List Entry
-  pub lawful : Lawful did entries
+  pub lawful : Lawful lines entries
   pub steps_are : steps ≡ count_by is_step entries
   pub says_are : says ≡ count_by is_spoken entries
 
 -- these lines were played so far, and all that the stage tells is of them
 pub record HasPlayed (s : Staged) : Type 0 where
-  pub did : List Line
-  pub can : CanAllStand did
+  pub lines : List Line
+  pub can : CanAllStand lines
   pub now : Playing
   pub is : IsPlaying now s
-  pub played : IsPlayed did (entries_of s.trace) now
+  pub played : IsPlayed lines (entries_of s.trace) now
 
 -- 0: the line was written. 4: a front of it. With any other status nothing was written.
 pub record Made (count seed status : ℕ) (w w' : Option (List ℕ)) : Type 0 where
