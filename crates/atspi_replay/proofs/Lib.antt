@@ -1,4 +1,3 @@
-pub mod Counts
 pub mod Course
 pub mod DoneLemmas
 pub mod LineLemmas
