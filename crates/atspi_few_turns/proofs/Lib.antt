@@ -7,3 +7,4 @@ pub mod Parties
 pub mod LawFew
 pub mod Turns
 pub mod WithoutEnd
+pub mod PlayedTurns

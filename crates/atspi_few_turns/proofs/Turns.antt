@@ -27,7 +27,7 @@ use Rattle.atspi_lawful.proofs.OfOrder.Growing.{Shaped, Nothing, And}
 use Rattle.atspi_lawful.proofs.OfNames.Bounds.{Bounded, bounds_keep}
 
 -- WHAT A TURN MOVES
-data TurnOf (w : World) (c : Cause) : Type 0 where
+pub data TurnOf (w : World) (c : Cause) : Type 0 where
   bus_takes_ : (conn : ℕ) (e : End) (said : Said) (rest : List Said) → c ≡ routes conn → end_at w.ends conn ≡ Some e → e.up ≡ said ∷ rest → TurnOf w c
   end_leaves : (conn : ℕ) (e : End) → c ≡ unjoins conn → end_at w.ends conn ≡ Some e → e.standing ≡ stopped → TurnOf w c
   end_takes : (conn : ℕ) (e : End) (letter : Letter) (rest : List Letter) → c ≡ gets conn → end_at w.ends conn ≡ Some e → e.down ≡ letter ∷ rest → TurnOf w c
@@ -72,7 +72,7 @@ first_down_of w conn (e ∷ es) s c h =
     (λ d t. down_of w conn e e.standing e.down d (sees_first w conn e es s) refl t)
     (λ d t. first_down_of w (suc conn) es (sees_rest w conn e es s) d t)
 
-turn_of : (w : World) (c : Cause) → next_turn w ≡ Some c → TurnOf w c
+pub turn_of : (w : World) (c : Cause) → next_turn w ≡ Some c → TurnOf w c
 turn_of w c h =
     either (TurnOf w) (first_up 0 w.ends) (first_down 0 w.ends) c h
     (λ d t. first_up_of w 0 w.ends sees_all d t)
@@ -82,11 +82,11 @@ turn_of w c h =
     sees_all k e g = let same : k ≡ 0 + k = omega arith in subst (λ j. end_at w.ends j ≡ Some e) same g
 
 -- HOW MANY ENDS STOPPED
-abbrev is_stopped : Standing → Bool
+abbrev pub is_stopped : Standing → Bool
 is_stopped stopped = true
 is_stopped standing = false
 
-abbrev stopped_count : List End → ℕ
+abbrev pub stopped_count : List End → ℕ
 stopped_count ends = length (filter (λ (e : End). is_stopped e.standing) ends)
 
 -- nobody else stops
@@ -110,7 +110,7 @@ head_count x xs = by (is_stopped x.standing)
     by true = refl
     by false = refl
 
-at_most : (n : ℕ) → n ≤ n
+pub at_most : (n : ℕ) → n ≤ n
 at_most n = omega arith
 
 counted_fewer : (b c : Bool) (n m : ℕ) → (b ≡ true → c ≡ true) → n ≤ m → counted b n ≤ counted c m
@@ -131,7 +131,7 @@ fewer (x ∷ xs) (y ∷ ys) s b =
     subst (λ n. n ≤ stopped_count (x ∷ xs)) (sym (head_count y ys))
     (subst (λ n. counted (is_stopped y.standing) (stopped_count ys) ≤ n) (sym (head_count x xs)) (counted_fewer (is_stopped y.standing) (is_stopped x.standing) (stopped_count ys) (stopped_count xs) not_new rest))
 
-over_fewer : (a b : List End) → Over StopsNot a b → stopped_count b ≤ stopped_count a
+pub over_fewer : (a b : List End) → Over StopsNot a b → stopped_count b ≤ stopped_count a
 over_fewer a b o = fewer a b o.size o.back
 
 -- one of them leaves
@@ -150,7 +150,7 @@ one_fewer (suc conn) (x ∷ xs) e h s =
     by true r = omega (arith, r)
     by false r = r
 
-all_fewer : (p : End → Bool) (xs : List End) → length (filter p xs) ≤ length xs
+pub all_fewer : (p : End → Bool) (xs : List End) → length (filter p xs) ≤ length xs
 all_fewer p [] = omega arith
 all_fewer p (x ∷ xs) = by (p x) (all_fewer p xs)
   where
@@ -159,7 +159,7 @@ all_fewer p (x ∷ xs) = by (p x) (all_fewer p xs)
     by false h = omega (arith, h)
 
 -- EACH TURN
-abbrev Takes : World → Done → Type 0
+abbrev pub Takes : World → Done → Type 0
 Takes w d = (1 ≤ count_taken d.entries) × Over StopsNot w.ends d.world.ends
 
 end_over : (w : World) (conn : ℕ) (f : End → End) → ((e : End) → StopsNot e (f e)) → Over StopsNot w.ends (with_end conn f (with_end conn taken_down w.ends))
@@ -178,14 +178,17 @@ left_over_ c conn =
     (stepped_over StopsNot stopping_not own_letter (λ m e h. h) (record { bus = record c.bus { waiting = without_queue c.bus.waiting conn }; ends = with_end conn leaves c.ends }) (bus_leaves c.bus.state conn))
     (settled_over StopsNot stopping_not (λ m e h. h) leave_not (length c.bus.state.joined) (left c conn))
 
-turn_does : (w : World) (c : Cause) → TurnOf w c → Takes w (does w c) ⊎ (suc (stopped_count (does w c).world.ends) ≤ stopped_count w.ends)
+pub got_does : (w : World) (conn : ℕ) (e : End) (letter : Letter) (rest : List Letter) → end_at w.ends conn ≡ Some e → e.down ≡ letter ∷ rest → Takes w (does w (gets conn))
+got_does w conn e letter rest there link =
+    let does_ : does w (gets conn) ≡ taken w conn e (letter ∷ rest) = ap (λ o. on_end w o (λ x. taken w conn x x.down)) there ∙ ap (taken w conn e) link in
+    subst (Takes w) (sym does_) (took_takes w (without_bytes conn (missing letter.said.message e.down_moved) w.bus) conn letter e.who e.role)
+
+pub turn_does : (w : World) (c : Cause) → TurnOf w c → Takes w (does w c) ⊎ (suc (stopped_count (does w c).world.ends) ≤ stopped_count w.ends)
 turn_does w c (bus_takes_ conn e said rest is there link) =
     let does_ : does w c ≡ routed w conn e.who (said ∷ rest) = ap (does w) is ∙ ap (λ o. on_end w o (λ x. routed w conn x.who x.up)) there ∙ ap (routed w conn e.who) link in
     inl (subst (Takes w) (sym does_)
     (omega arith, takes_over StopsNot stopping_not (λ m x h. h) leave_not (λ b k x h. h) (λ x h. h) (record { bus = w.bus; ends = w.ends }) conn e.who said (λ m x h. h)))
-turn_does w c (end_takes conn e letter rest is there link) =
-    let does_ : does w c ≡ taken w conn e (letter ∷ rest) = ap (does w) is ∙ ap (λ o. on_end w o (λ x. taken w conn x x.down)) there ∙ ap (taken w conn e) link in
-    inl (subst (Takes w) (sym does_) (took_takes w (without_bytes conn (missing letter.said.message e.down_moved) w.bus) conn letter e.who e.role))
+turn_does w c (end_takes conn e letter rest is there link) = inl (subst (λ x. Takes w (does w x)) (sym is) (got_does w conn e letter rest there link))
 turn_does w c (end_leaves conn e is there stands) =
     let c0 : Carried = record { bus = w.bus; ends = w.ends } in
     inr (subst (λ x. suc (stopped_count (does w x).world.ends) ≤ stopped_count w.ends) (sym is)
@@ -203,7 +206,7 @@ asks_not m question e h = by e.role h
     by (the_registry x) g = g
     by (an_application x) g = g
 
-asked_fewer : (w v : World) (own : List Entry) → MayAsk w v own → stopped_count v.ends ≤ stopped_count w.ends
+pub asked_fewer : (w v : World) (own : List Entry) → MayAsk w v own → stopped_count v.ends ≤ stopped_count w.ends
 asked_fewer w v own (inl h) = subst (λ (x : World). stopped_count x.ends ≤ stopped_count w.ends) (sym h.0) (at_most (stopped_count w.ends))
 asked_fewer w v own (inr h) =
     subst (λ (x : World). stopped_count x.ends ≤ stopped_count w.ends) (sym h.4)

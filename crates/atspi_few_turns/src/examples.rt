@@ -6,8 +6,9 @@ ghost use Rattle.atspi_protocol.specs.following.Calls.{asking};
 ghost use Rattle.atspi_lines.specs.declared.line.Party.TheVariants.{Bus, Registry, App, Reader};
 ghost use Rattle.atspi_trace.specs.Entry.{sent, got, exited, quiet};
 ghost use Rattle.atspi_trace.specs.World.{first_world};
-ghost use Rattle.atspi_few_turns.specs.Cases.{one_waits};
-ghost use Rattle.atspi_few_turns.specs.Laws.{count_taken, IsUnspent, Makes};
+ghost use Rattle.atspi_play.specs.Playing.{first_playing};
+ghost use Rattle.atspi_few_turns.specs.Cases.{one_played, one_plays, one_waits};
+ghost use Rattle.atspi_few_turns.specs.Laws.{count_taken, IsUnspent, Makes, PlayedTurns};
 
 /// What the bus takes and what an end takes of it counts, and nothing else does.
 pub fn what_is_counted()
@@ -32,4 +33,13 @@ pub fn what_turns_make()
     ensures one { Makes 1 one_waits (got Registry Bus 8 ∷ []) }
     ensures no_more { Makes 1 one_waits [] → ⊥ }
     ensures nothing_waits { Makes 1 (first_world 4096) [] → ⊥ }
+{}
+
+/// So where it is played: no turn leaves all as it is; a turn is played where something waits, and writes what was taken.
+pub fn what_turns_play()
+    ensures none { PlayedTurns 0 one_plays [] one_plays }
+    ensures none_writes { PlayedTurns 0 one_plays (quiet ∷ []) one_plays → ⊥ }
+    ensures one { PlayedTurns 1 one_plays (got Registry Bus 8 ∷ []) one_played }
+    ensures no_more { PlayedTurns 1 one_plays [] one_played → ⊥ }
+    ensures nothing_waits { PlayedTurns 1 (first_playing 4096) [] (first_playing 4096) → ⊥ }
 {}
