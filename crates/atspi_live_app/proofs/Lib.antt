@@ -1,0 +1,13 @@
+pub mod Framing
+pub mod May
+pub mod Shaped
+pub mod Told
+pub mod Sending
+pub mod Making
+pub mod Meeting
+pub mod Stood
+pub mod Stopped
+pub mod Asked
+pub mod Feeds
+pub mod Handing
+pub mod Lawful

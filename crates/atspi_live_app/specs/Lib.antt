@@ -1,0 +1,9 @@
+pub mod Faults
+pub mod Lines
+pub mod Asking
+pub mod Input
+pub mod Standing
+pub mod Names
+pub mod HandedOver
+pub mod Live
+pub mod Stops

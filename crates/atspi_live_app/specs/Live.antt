@@ -1,0 +1,78 @@
+-- A live application: what it has done, what it hands out, and why a line of its input is not done.
+use Rattle.std.specs.Prelude.{◌≡◌, ◌≤◌, ℕ, List, [], ◌∷◌, ◌++◌, length, Option, None, Some, MatchOption, ⊤}
+use Rattle.atspi_forest.specs.declared.edit.Edit.{Edit}
+use Rattle.atspi_forest.specs.Edits.{IsEdit}
+use Rattle.atspi_message.specs.Envelope.{Envelope}
+use Rattle.atspi_protocol.specs.exporting.Exporter.{Happening, Exporter}
+use Rattle.atspi_app.specs.Seen.{IsSpentAfter}
+use Rattle.atspi_protocol.specs.exporting.Taking.{app_edits}
+use Rattle.atspi_live_app.specs.Lines.{lines_of}
+use Rattle.atspi_live_app.specs.Input.{left_in}
+use Rattle.atspi_live_app.specs.Standing.{Event, HandedOut, IsRefused, IsSpentAt, Makes, MayNot, RefusedBy, lines_in, taken_in}
+use Rattle.atspi_live_app.specs.declared.asking.Ask.{Ask}
+use Rattle.atspi_live_app.specs.declared.asking.Ask.TheVariants as ask
+use Rattle.atspi_live_app.specs.declared.doing.Undone.{Undone}
+use Rattle.atspi_live_app.specs.declared.doing.Undone.TheVariants as undone
+use Rattle.atspi_live_app.specs.declared.input.TheConstants.{INPUT_LIMIT}
+use Rattle.atspi_live_app.specs.declared.live_app.Stop.{Stop}
+use Rattle.atspi_live_app.specs.declared.live_app.Stop.TheVariants as stops
+
+-- the application as it is seen, once it has started
+abbrev pub seen : {A : Type 0} → (A → Exporter) → Option A → Option Exporter
+seen exporter None = None
+seen exporter (Some app) = Some (exporter app)
+
+-- how much it has queued
+abbrev pub queued_in : Option Exporter → ℕ
+queued_in None = 0
+queued_in (Some s) = length s.out
+
+-- there is what it is to be made with, until it has started
+abbrev pub IsKept : {A K : Type 0} → (A → Type 0) → (K → Type 0) → Option A → Option K → Type 0
+IsKept is_app is_kit None kit = MatchOption kit ⊥ is_kit
+IsKept is_app is_kit (Some app) kit = is_app app
+
+abbrev pub IsStarted : {A : Type 0} → (A → Type 0) → Option A → Type 0
+IsStarted is_app None = ⊤
+IsStarted is_app (Some app) = is_app app
+
+-- a message was handed out, and what stands before it passed; or all was passed, and none was there
+abbrev pub Hands : {M : Type 0} → (M → Envelope) → Option M → Option Exporter → Option Exporter → Type 0
+Hands envelope None old new = HandedOut [] new old
+Hands envelope (Some m) old new = HandedOut (envelope m ∷ []) new old
+
+-- of the lines of this text it did the first, took these messages and handed out those
+pub record Stands {A K : Type 0} (is_app : A → Type 0) (exporter : A → Exporter) (is_kit : K → Type 0) (text : List ℕ) (app : Option A) (kit : Option K) (held : List ℕ) (at number : ℕ) (took said : List Envelope) : Type 0 where
+  pub kept : IsKept is_app is_kit app kit
+  pub same : held ≡ text
+  pub short : length text ≤ INPUT_LIMIT
+  pub history : List Event
+  pub all : lines_in history ++ left_in text at ≡ lines_of text
+  pub taken : taken_in history ≡ took
+  pub whole : Option Exporter
+  pub makes : Makes None history whole
+  pub handed : HandedOut said (seen exporter app) whole
+  pub counted : number ≡ length (lines_in history)
+
+-- an edit that is asked for can be
+abbrev pub IsLawful : Ask → Type 0
+IsLawful (ask.Edit edit) = IsEdit edit
+IsLawful what = ⊤
+
+-- the edit would take its messages past the last number
+abbrev pub SpentBy : Option Exporter → Ask → Type 0
+SpentBy (Some s) (ask.Edit edit) = IsSpentAfter (app_edits s edit)
+SpentBy s what = ⊥
+
+-- why what is asked for is not done
+abbrev pub IsUndone : Undone → Option Exporter → Ask → Type 0
+IsUndone undone.Form s what = MayNot s what
+IsUndone (undone.Refused why) s what = RefusedBy s what why
+IsUndone undone.Spent s what = SpentBy s what
+IsUndone undone.NoMemory s what = ⊤
+
+-- why no further line is done
+abbrev pub IsStopped : Stop → List (List ℕ) → List Envelope → Type 0
+IsStopped (stops.Refused number why) lines took = IsRefused lines took number why
+IsStopped stops.Spent lines took = IsSpentAt lines took
+IsStopped stops.NoMemory lines took = ⊤

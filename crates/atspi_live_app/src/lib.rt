@@ -1,0 +1,13 @@
+//! An application on a Unix socket.
+#![tactic(auto)]
+
+mod asking;
+mod doing;
+mod exporting;
+mod held;
+mod input;
+mod lines;
+mod live_app;
+mod naming;
+mod next_message;
+
