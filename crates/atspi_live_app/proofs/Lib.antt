@@ -11,3 +11,5 @@ pub mod Asked
 pub mod Feeds
 pub mod Handing
 pub mod Lawful
+pub mod Turning
+pub mod Running

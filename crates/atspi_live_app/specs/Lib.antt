@@ -7,3 +7,5 @@ pub mod Names
 pub mod HandedOver
 pub mod Live
 pub mod Stops
+pub mod Overs
+pub mod Runs

@@ -10,4 +10,8 @@ mod lines;
 mod live_app;
 mod naming;
 mod next_message;
+mod over;
+mod rounds;
+mod run;
 
+pub use run::app;

@@ -25,10 +25,10 @@ use std::alloc::Global;
 #[derive(Drop)]
 pub(crate) struct LiveApp<A: Exporting> {
     alloc: Global,
-    app: Option<A>,
+    pub(crate) app: Option<A>,
     /// What the application is made with, before it has started.
-    kit: Option<A::Kit>,
-    input: Input,
+    pub(crate) kit: Option<A::Kit>,
+    pub(crate) input: Input,
 }
 
 /// Why a line is not done.

@@ -1,0 +1,157 @@
+-- A turn of an application: what was said, taken and done.
+use Rattle.std.proofs.Common.{◌≡◌, ℕ, List, [], ◌++◌, Option, None, Some, refl, sym, ap, subst, ◌∙◌}
+use Rattle.atspi_auth.specs.Talk.{behind, client_start}
+use Rattle.atspi_message.specs.Envelope.{Envelope}
+use Rattle.atspi_stream.specs.Stream.{IsParted}
+use Rattle.atspi_host.specs.declared.call.Call.{Call}
+use Rattle.atspi_host.specs.Calls.{taken, given}
+use Rattle.atspi_conversation.specs.Moved.{Tells}
+use Rattle.atspi_conversation.specs.Speech.{Ends, EndsBy, IsSpeech, IsSpentBy, Speaks, envelopes}
+use Rattle.atspi_conversation.specs.Talking.{Going, IsEnded, MaySpeak, Rests}
+use Rattle.atspi_conversation.specs.declared.conversation.Conversation.{Conversation}
+use Rattle.atspi_conversation.specs.declared.ending.Ending.{Ending}
+use Rattle.atspi_conversation.specs.declared.ending.Ending.TheVariants as endings
+use Rattle.atspi_conversation.proofs.StepLemmas.{all_done}
+use Rattle.atspi_protocol.specs.exporting.Exporter.{Exporter}
+use Rattle.atspi_live_app.specs.Lines.{lines_of}
+use Rattle.atspi_live_app.specs.Standing.{IsAfter, IsSpent}
+use Rattle.atspi_live_app.specs.Live.{IsStopped, Stands, seen}
+use Rattle.atspi_live_app.specs.Input.{left_in}
+use Rattle.atspi_live_app.specs.Overs.{IsOver, StopsSo}
+use Rattle.atspi_live_app.specs.declared.live_app.LiveApp.{LiveApp}
+use Rattle.atspi_live_app.specs.declared.live_app.Stop.{Stop}
+use Rattle.atspi_live_app.specs.declared.over.Over.TheVariants as overs
+
+-- what a live application did, of the application alone
+pub after : {A K : Type 0} (is_app : A → Type 0) (exporter : A → Exporter) (is_kit : K → Type 0) (text : List ℕ) (app : Option A) (kit : Option K) (held : List ℕ) (at number : ℕ) (took said : List Envelope)
+    → Stands is_app exporter is_kit text app kit held at number took said → IsAfter (lines_of text) (seen exporter app) took said
+after is_app exporter is_kit text app kit held at number took said f = record { history = f.history; left = left_in text at; all = f.all; taken = f.taken; whole = f.whole; makes = f.makes; handed = f.handed }
+
+-- an end that is seen as an application, and what holds of it then
+abbrev pub IsSeen : {E : Type 0} → (E → List Envelope → List Envelope → Type 0) → List (List ℕ) → (E → Option Exporter) → Type 0
+IsSeen {E} St lines see = (e : E) (took said : List Envelope) → St e took said → IsAfter lines (see e) took said
+
+speech : {E : Type 0} (St : E → List Envelope → List Envelope → Type 0) (lines : List (List ℕ)) (see : E → Option Exporter) (t g : List ℕ) → IsSeen St lines see → IsSpeech St t g → IsSpeech (IsAfter lines) t g
+speech St lines see t g h s = record {
+  messages = s.messages;
+  rest = s.rest;
+  parted = s.parted;
+  end = see s.end;
+  said = s.said;
+  stands = h s.end (envelopes s.messages) s.said s.stands;
+  sent = s.sent;
+  spelled = s.spelled;
+  over = s.over;
+  more = s.more;
+  front = s.front;
+}
+
+speaks : {E : Type 0} (St : E → List Envelope → List Envelope → Type 0) (lines : List (List ℕ)) (see : E → Option Exporter) (k : ℕ) (calls : Option (List Call)) → IsSeen St lines see → Speaks St k calls → Speaks (IsAfter lines) k calls
+speaks St lines see k None h s = tt
+speaks St lines see k (Some cs) h s = speech St lines see (taken k cs) (given k cs) h s
+
+spent : {E : Type 0} (St : E → List Envelope → List Envelope → Type 0) (lines : List (List ℕ)) (see : E → Option Exporter) (t : List ℕ) → IsSeen St lines see → IsSpentBy St (λ e m. IsSpent (see e) m) t → IsSpentBy (IsAfter lines) IsSpent t
+spent St lines see t h s = record {
+  messages = s.messages;
+  message = s.message;
+  bytes = s.bytes;
+  rest = s.rest;
+  parted = s.parted;
+  is = s.is;
+  end = see s.end;
+  said = s.said;
+  stands = h s.end (envelopes s.messages) s.said s.stands;
+  spent = s.spent;
+}
+
+ends_by : {E : Type 0} (St : E → List Envelope → List Envelope → Type 0) (lines : List (List ℕ)) (see : E → Option Exporter) (k rounds : ℕ) (ending : Ending) (cs : List Call) → IsSeen St lines see
+    → EndsBy St (λ e m. IsSpent (see e) m) k ending rounds cs → EndsBy (IsAfter lines) IsSpent k ending rounds cs
+ends_by St lines see k rounds endings.RoundsDone cs h e = e
+ends_by St lines see k rounds endings.PeerEnded cs h e = e
+ends_by St lines see k rounds endings.HostFailed cs h e = e
+ends_by St lines see k rounds endings.NotAuthenticated cs h e = e
+ends_by St lines see k rounds (endings.Malformed start fault) cs h e = e
+ends_by St lines see k rounds endings.Spent cs h e = (spent St lines see (taken k cs) h e.0, e.1)
+ends_by St lines see k rounds endings.NoMemory cs h e = tt
+
+ends_on : {E : Type 0} (St : E → List Envelope → List Envelope → Type 0) (lines : List (List ℕ)) (see : E → Option Exporter) (k rounds : ℕ) (ending : Ending) (calls : Option (List Call)) → IsSeen St lines see
+    → Ends St (λ e m. IsSpent (see e) m) k ending rounds calls → Ends (IsAfter lines) IsSpent k ending rounds calls
+ends_on St lines see k rounds ending None h e = tt
+ends_on St lines see k rounds ending (Some cs) h e = ends_by St lines see k rounds ending cs h e
+
+-- the conversation ended
+pub turn_ended : {E : Type 0} (St : E → List Envelope → List Envelope → Type 0) (lines : List (List ℕ)) (see : E → Option Exporter) (k rounds : ℕ) (ending : Ending) (calls : Option (List Call)) → IsSeen St lines see
+    → IsEnded St (λ e m. IsSpent (see e) m) k ending rounds calls → IsOver lines k (overs.Ended ending) rounds calls
+turn_ended St lines see k rounds ending calls h e = record { speaks = speaks St lines see k calls h e.0; so = ends_on St lines see k rounds ending calls h e.1 }
+
+-- all rounds were done
+pub all_turned : {E : Type 0} (St : E → List Envelope → List Envelope → Type 0) (lines : List (List ℕ)) (see : E → Option Exporter) (k n rounds : ℕ) (calls : Option (List Call)) (c : Conversation) (end : E) → IsSeen St lines see
+    → n ≡ rounds → Going St k calls n c end → IsOver lines k (overs.Ended endings.RoundsDone) rounds calls
+all_turned St lines see k n rounds calls c end h e g = turn_ended St lines see k rounds endings.RoundsDone calls h (all_done St (λ e m. IsSpent (see e) m) k n rounds calls c end e g)
+
+-- a line was not done
+stops : {E : Type 0} (St : E → List Envelope → List Envelope → Type 0) (lines : List (List ℕ)) (see : E → Option Exporter) (k n : ℕ) (stop : Stop) (calls : Option (List Call)) (c : Conversation) (end : E)
+    → ((took said : List Envelope) → St end took said → IsStopped stop lines took) → Going St k calls n c end → IsEnded St (λ e m. IsSpent (see e) m) k endings.RoundsDone n calls → StopsSo lines stop k calls
+stops St lines see k n stop None c end f g e = tt
+stops St lines see k n stop (Some cs) c end f g e =
+    let v = g.at_ease.converses in
+    (
+      record {
+        order = e.1.0;
+        messages = v.messages;
+        rest = c.feeder;
+        parted = subst (λ (t : List ℕ). IsParted (behind client_start t) v.messages c.feeder) (sym g.tells.0) v.parted;
+        awaits = g.at_ease.awaits;
+        stopped = f (envelopes v.messages) v.said v.end_stands;
+      },
+      e.1.1,
+    )
+
+pub turn_stopped : {E : Type 0} (St : E → List Envelope → List Envelope → Type 0) (lines : List (List ℕ)) (see : E → Option Exporter) (k n rounds : ℕ) (stop : Stop) (calls : Option (List Call)) (c : Conversation) (end : E) → IsSeen St lines see
+    → ((took said : List Envelope) → St end took said → IsStopped stop lines took) → Going St k calls n c end → IsOver lines k (overs.Stopped stop) rounds calls
+turn_stopped St lines see k n rounds stop calls c end h f g =
+    let e : IsEnded St (λ e m. IsSpent (see e) m) k endings.RoundsDone n calls = all_done St (λ e m. IsSpent (see e) m) k n n calls c end refl g in
+    record { speaks = speaks St lines see k calls h e.0; so = stops St lines see k n stop calls c end f g e }
+
+-- a line was done between two rounds
+pub going_rests : {E : Type 0} (St : E → List Envelope → List Envelope → Type 0) (k n : ℕ) (calls : Option (List Call)) (c : Conversation) (old new : E) → Rests St old new → Going St k calls n c old → Going St k calls n c new
+going_rests St k n calls c old new r g =
+    let v = g.at_ease.converses in
+    record {
+      t = g.t;
+      g = g.g;
+      dids = g.dids;
+      tells = g.tells;
+      go_on = g.go_on;
+      counted = g.counted;
+      at_ease = record {
+        converses = record {
+          lines = v.lines;
+          messages = v.messages;
+          said = v.said;
+          sent = v.sent;
+          client_stands = v.client_stands;
+          parted = v.parted;
+          heard = v.heard;
+          end_stands = r (envelopes v.messages) v.said v.end_stands;
+          spelled = v.spelled;
+          all = v.all;
+          order = v.order;
+        };
+        authenticated = g.at_ease.authenticated;
+        awaits = g.at_ease.awaits;
+      };
+    }
+
+pub may_rests : {E : Type 0} (St : List ℕ → E → List Envelope → List Envelope → Type 0) (old new : E) → ((text : List ℕ) → Rests (St text) old new) → MaySpeak St old → MaySpeak St new
+may_rests St old new r m = record { aside = m.aside; took = m.took; said = m.said; stands = r m.aside m.took m.said m.stands; meet = m.meet }
+
+-- the same of a live application
+abbrev pub StandsOf : {A K : Type 0} → (A → Type 0) → (A → Exporter) → (K → Type 0) → List ℕ → LiveApp A K → List Envelope → List Envelope → Type 0
+StandsOf is_app exporter is_kit text l took said = Stands is_app exporter is_kit text l.app l.kit l.input.text.items l.input.at l.input.number took said
+
+abbrev pub see_of : {A K : Type 0} → (A → Exporter) → LiveApp A K → Option Exporter
+see_of exporter l = seen exporter l.app
+
+pub seen_of : {A K : Type 0} (is_app : A → Type 0) (exporter : A → Exporter) (is_kit : K → Type 0) (text : List ℕ) → IsSeen (StandsOf is_app exporter is_kit text) (lines_of text) (see_of exporter)
+seen_of is_app exporter is_kit text l took said f = after is_app exporter is_kit text l.app l.kit l.input.text.items l.input.at l.input.number took said f

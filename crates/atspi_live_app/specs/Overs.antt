@@ -1,0 +1,43 @@
+-- How an application that exports its tree on a link comes to its end.
+use Rattle.std.specs.Prelude.{◌≡◌, ℕ, List, Option, None, Some, ⊤}
+use Rattle.atspi_auth.specs.Talk.{behind, client_start}
+use Rattle.atspi_message.specs.Envelope.{Envelope}
+use Rattle.atspi_stream.specs.Stream.{AwaitsMore, IsParted}
+use Rattle.atspi_host.specs.declared.call.Call.{Call}
+use Rattle.atspi_host.specs.Calls.{taken}
+use Rattle.atspi_conversation.specs.Moved.{AllGoOn, reads}
+use Rattle.atspi_conversation.specs.Speech.{Ends, IsInOrder, Speaks, envelopes}
+use Rattle.atspi_conversation.specs.Talking.{Blames}
+use Rattle.atspi_live_app.specs.Standing.{IsAfter, IsSpent}
+use Rattle.atspi_live_app.specs.Live.{IsStopped}
+use Rattle.atspi_live_app.specs.declared.live_app.Stop.{Stop}
+use Rattle.atspi_live_app.specs.declared.over.Over.{Over}
+use Rattle.atspi_live_app.specs.declared.over.Over.TheVariants as overs
+
+-- nothing of the bytes that were taken is at fault, and where the messages that are whole were taken a line is not done for this
+pub record StopsBy (lines : List (List ℕ)) (stop : Stop) (t : List ℕ) : Type 0 where
+  pub order : IsInOrder t
+  pub messages : List (Envelope × List ℕ)
+  pub rest : List ℕ
+  pub parted : IsParted (behind client_start t) messages rest
+  pub awaits : AwaitsMore rest
+  pub stopped : IsStopped stop lines (envelopes messages)
+
+abbrev pub StopsSo : List (List ℕ) → Stop → ℕ → Option (List Call) → Type 0
+StopsSo lines stop k None = ⊤
+StopsSo lines stop k (Some cs) = StopsBy lines stop (taken k cs) × AllGoOn (reads k cs)
+
+-- the conversation ended, or a line was not done
+abbrev pub EndsSo : List (List ℕ) → ℕ → Over → ℕ → Option (List Call) → Type 0
+EndsSo lines k (overs.Ended ending) rounds calls = Ends (IsAfter lines) IsSpent k ending rounds calls
+EndsSo lines k (overs.Stopped stop) rounds calls = StopsSo lines stop k calls
+
+-- what was said, and why it was over
+pub record IsOver (lines : List (List ℕ)) (k : ℕ) (over : Over) (rounds : ℕ) (calls : Option (List Call)) : Type 0 where
+  pub speaks : Speaks (IsAfter lines) k calls
+  pub so : EndsSo lines k over rounds calls
+
+-- the count of failed reads and writes rose where one failed, and else is the same
+abbrev pub OverBlames : Over → ℕ → ℕ → Type 0
+OverBlames (overs.Ended ending) before after = Blames ending before after
+OverBlames (overs.Stopped stop) before after = after ≡ before
