@@ -1,5 +1,5 @@
 -- What an application has queued stands in front of what a message or an edit queues: neither looks at it.
-use Rattle.std.proofs.Common.{◌≡◌, ℕ, ◌+◌, Bool, true, false, List, [], ◌∷◌, ◌++◌, Option, Some, None, refl, sym, ap, ◌∙◌, append_assoc}
+use Rattle.std.proofs.Common.{◌≡◌, ℕ, Bool, true, false, List, [], ◌∷◌, ◌++◌, Option, Some, None, refl, sym, ap, ◌∙◌, append_assoc}
 use Rattle.std.specs.Prelude.{◌==◌, if◌then◌else◌, Result, Ok, Err}
 use Rattle.atspi_types.specs.Data.{Data}
 use Rattle.atspi_forest.specs.declared.edit.Edit.{Edit}
@@ -11,7 +11,7 @@ use Rattle.atspi_protocol.specs.exporting.Exporter.{StartCall, hello, add_match,
 use Rattle.atspi_protocol.specs.exporting.Hearing.{exchanged, pairs_in, heard_after}
 use Rattle.atspi_protocol.specs.exporting.Telling.{steps_told}
 use Rattle.atspi_protocol.specs.exporting.Starting.{awaited, goes_on, asks, greeted, listened, ends_start, start_call, name_or_empty, unique_name_in}
-use Rattle.atspi_protocol.specs.exporting.Taking.{answer_to, app_takes, app_edits, takes_other, takes_call, takes_signal, called, call_happens, stepped}
+use Rattle.atspi_protocol.specs.exporting.Taking.{answer_to, app_takes, app_edits, takes_other, takes_call, takes_signal, call_happens, stepped}
 
 -- these stand in front of what is queued
 abbrev pub put : List Happening → Exporter → Exporter

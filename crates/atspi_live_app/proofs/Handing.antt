@@ -1,8 +1,7 @@
 -- What an application hands over, one thing after another.
-use Rattle.std.proofs.Common.{◌≡◌, ◌<◌, ◌≤◌, ℕ, List, [], ◌∷◌, ◌++◌, length, Option, Some, None, refl, sym, ap, ◌∙◌, length-append, arith}
-use Rattle.std.specs.Prelude.{MatchOption, IfSome}
-use Rattle.atspi_message.specs.Envelope.{Envelope, envelope_of}
-use Rattle.atspi_protocol.specs.exporting.Exporter.{Exporter, Happening, sends}
+use Rattle.std.proofs.Common.{◌≡◌, ◌<◌, ◌≤◌, List, [], ◌∷◌, length, Some, refl, sym, ap, ◌∙◌, length-append, arith}
+use Rattle.atspi_message.specs.Envelope.{Envelope}
+use Rattle.atspi_protocol.specs.exporting.Exporter.{Exporter, Happening}
 use Rattle.atspi_live_app.specs.Standing.{HandedOut, sent_in}
 use Rattle.atspi_live_app.specs.HandedOver.{HandsOver, IsHanded}
 use Rattle.atspi_live_app.specs.declared.next_message.Handed.{Handed}

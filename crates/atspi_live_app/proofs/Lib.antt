@@ -12,4 +12,3 @@ pub mod Feeds
 pub mod Handing
 pub mod Lawful
 pub mod Turning
-pub mod Running

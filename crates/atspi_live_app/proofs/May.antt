@@ -1,6 +1,5 @@
 -- Messages that meet the rules of messages, whatever number they get.
 use Rattle.std.proofs.Common.{◌≢◌, ℕ, List, refl, arith}
-use Rattle.std.specs.Prelude.{codes}
 use Rattle.atspi_types.specs.Data.{Data, items_of, AreWellTyped}
 use Rattle.atspi_message.specs.Envelope.{Envelope}
 use Rattle.atspi_message.specs.Rules.{MeetsRules}

@@ -1,8 +1,5 @@
 -- The signals of steps meet the rules of messages.
-use Rattle.std.proofs.Common.{◌≡◌, ℕ, Bool, List, [], ◌∷◌, ◌++◌, Option, Some, None, map}
-use Rattle.std.specs.Prelude.{codes, pos, filter}
-use Rattle.atspi_types.specs.Kinds.{u32}
-use Rattle.atspi_types.specs.Data.{Data, items_of, AreWellTyped, number_data, text_data}
+use Rattle.std.proofs.Common.{ℕ, List, [], ◌∷◌, ◌++◌, Option, Some, None, map}
 use Rattle.atspi_forest.specs.declared.step.Step.{Step}
 use Rattle.atspi_forest.specs.declared.step.Step.TheVariants.{Add, Remove, Move, SetName, SetDescription, SetRole, SetState, Insert, Delete, Caret, TextSelect, Relate}
 use Rattle.atspi_forest.specs.Forest.{Forest, labels, width, pick, find, children_at}

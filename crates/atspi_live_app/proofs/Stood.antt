@@ -1,25 +1,16 @@
 -- A live application takes a message, hands one out, and does a line.
-use Rattle.std.proofs.Common.{◌≡◌, ℕ, ◌+◌, ◌<◌, ◌≤◌, List, [], ◌∷◌, ◌++◌, length, Option, Some, None, Bool, true, false, refl, sym, ap, subst, ◌∙◌, append_assoc, append-nil, length-append, arith, inl, inr}
-use Rattle.std.specs.Prelude.{◌==◌, if◌then◌else◌, Result, Ok, Err, IfSome, IfNone}
+use Rattle.std.proofs.Common.{◌≡◌, ℕ, ◌+◌, ◌<◌, ◌≤◌, List, [], ◌∷◌, ◌++◌, length, Option, Some, None, Bool, true, false, refl, sym, ap, subst, ◌∙◌, append_assoc, append-nil, length-append, arith}
+use Rattle.std.specs.Prelude.{◌==◌, if◌then◌else◌, Ok, IfSome, IfNone}
 use Rattle.atspi_message.specs.Envelope.{Envelope}
 use Rattle.atspi_message.specs.Rules.{MeetsRules}
 use Rattle.atspi_conversation.specs.Sent.{AllMeet}
-use Rattle.atspi_lines.specs.declared.line.LineFault.{LineFault}
-use Rattle.atspi_lines.specs.declared.line.LineFault.TheVariants as faults
 use Rattle.atspi_protocol.specs.exporting.Exporter.{Exporter}
-use Rattle.atspi_live_app.specs.Asking.{AsksFor, IsAsk}
 use Rattle.atspi_live_app.specs.Input.{Passes, left_in}
 use Rattle.atspi_live_app.specs.Lines.{lines_of, onto}
-use Rattle.atspi_live_app.specs.Standing.{Does, Event, HandedOut, does, takes, lines_in, taken_in}
+use Rattle.atspi_live_app.specs.Standing.{Does, HandedOut, does, takes, lines_in, taken_in}
 use Rattle.atspi_live_app.specs.Live.{Hands, IsKept, IsStarted, Stands, seen}
-use Rattle.atspi_live_app.specs.Stops.{stop_of_line, stop_of_undone}
 use Rattle.atspi_live_app.specs.declared.asking.Ask.{Ask}
-use Rattle.atspi_live_app.specs.declared.asking.Ask.TheVariants as ask
-use Rattle.atspi_live_app.specs.declared.doing.Undone.{Undone}
-use Rattle.atspi_live_app.specs.declared.doing.Undone.TheVariants as undone
-use Rattle.atspi_live_app.specs.declared.naming.Refused.TheVariants as refused
-use Rattle.atspi_live_app.specs.declared.live_app.Stop.TheVariants as stops
-use Rattle.atspi_live_app.proofs.Making.{after_taken, comes_taken, does_whole, handed_both, lines_both, makes_both, may_not_whole, none_handed, refused_whole, spent_whole, taken_both, took_whole}
+use Rattle.atspi_live_app.proofs.Making.{after_taken, comes_taken, does_whole, handed_both, lines_both, makes_both, taken_both, took_whole}
 use Rattle.atspi_live_app.proofs.Meeting.{next_meets}
 
 -- a message was taken

@@ -1,18 +1,17 @@
 -- Why a live application does no further line.
-use Rattle.std.proofs.Common.{◌≡◌, ℕ, ◌+◌, ◌<◌, List, [], ◌∷◌, ◌++◌, length, Option, Some, None, refl, sym, ap, subst, ◌∙◌, inl, inr}
-use Rattle.std.specs.Prelude.{Result, Ok, Err}
+use Rattle.std.proofs.Common.{◌≡◌, ℕ, ◌+◌, ◌<◌, List, [], ◌∷◌, ◌++◌, Option, None, refl, sym, ap, subst, ◌∙◌, inl, inr}
+use Rattle.std.specs.Prelude.{Ok, Err}
 use Rattle.atspi_message.specs.Envelope.{Envelope}
 use Rattle.atspi_lines.specs.declared.line.LineFault.{LineFault}
 use Rattle.atspi_lines.specs.declared.line.LineFault.TheVariants as faults
 use Rattle.atspi_protocol.specs.exporting.Exporter.{Exporter}
-use Rattle.atspi_live_app.specs.Asking.{AsksFor, IsAsk}
+use Rattle.atspi_live_app.specs.Asking.{IsAsk}
 use Rattle.atspi_live_app.specs.Input.{Passes, left_in}
 use Rattle.atspi_live_app.specs.Lines.{lines_of}
-use Rattle.atspi_live_app.specs.Standing.{IsRefused, Makes, RefusedAs, RefusedNext, lines_in}
+use Rattle.atspi_live_app.specs.Standing.{IsRefused, Makes, RefusedNext, lines_in}
 use Rattle.atspi_live_app.specs.Live.{IsStopped, IsUndone, Stands, seen}
 use Rattle.atspi_live_app.specs.Stops.{stop_of_line, stop_of_undone}
 use Rattle.atspi_live_app.specs.declared.asking.Ask.{Ask}
-use Rattle.atspi_live_app.specs.declared.asking.Ask.TheVariants as ask
 use Rattle.atspi_live_app.specs.declared.doing.Undone.{Undone}
 use Rattle.atspi_live_app.specs.declared.doing.Undone.TheVariants as undone
 use Rattle.atspi_live_app.specs.declared.naming.Refused.{Refused}

@@ -1,11 +1,10 @@
 -- A turn of an application: what was said, taken and done.
-use Rattle.std.proofs.Common.{◌≡◌, ℕ, List, [], ◌++◌, Option, None, Some, refl, sym, ap, subst, ◌∙◌}
+use Rattle.std.proofs.Common.{◌≡◌, ℕ, List, Option, None, Some, refl, sym, subst}
 use Rattle.atspi_auth.specs.Talk.{behind, client_start}
 use Rattle.atspi_message.specs.Envelope.{Envelope}
 use Rattle.atspi_stream.specs.Stream.{IsParted}
 use Rattle.atspi_host.specs.declared.call.Call.{Call}
 use Rattle.atspi_host.specs.Calls.{taken, given}
-use Rattle.atspi_conversation.specs.Moved.{Tells}
 use Rattle.atspi_conversation.specs.Speech.{Ends, EndsBy, IsSpeech, IsSpentBy, Speaks, envelopes}
 use Rattle.atspi_conversation.specs.Talking.{Going, IsEnded, MaySpeak, Rests}
 use Rattle.atspi_conversation.specs.declared.conversation.Conversation.{Conversation}
@@ -94,8 +93,7 @@ stops : {E : Type 0} (St : E → List Envelope → List Envelope → Type 0) (li
     → ((took said : List Envelope) → St end took said → IsStopped stop lines took) → Going St k calls n c end → IsEnded St (λ e m. IsSpent (see e) m) k endings.RoundsDone n calls → StopsSo lines stop k calls
 stops St lines see k n stop None c end f g e = tt
 stops St lines see k n stop (Some cs) c end f g e =
-    let v = g.at_ease.converses in
-    (
+    let v = g.at_ease.converses in (
       record {
         order = e.1.0;
         messages = v.messages;

@@ -1,5 +1,5 @@
 -- The lines of a text: each ends at a line feed, and the last may lack it.
-use Rattle.std.specs.Prelude.{Bool, ℕ, List, [], ◌∷◌, if◌then◌else◌, ◌==◌}
+use Rattle.std.specs.Prelude.{ℕ, List, [], ◌∷◌, if◌then◌else◌, ◌==◌}
 
 -- a byte, and then the first line; where there is none, it is a line by itself
 abbrev pub onto : ℕ → List (List ℕ) → List (List ℕ)

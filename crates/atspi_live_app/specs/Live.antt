@@ -1,9 +1,8 @@
 -- A live application: what it has done, what it hands out, and why a line of its input is not done.
 use Rattle.std.specs.Prelude.{◌≡◌, ◌≤◌, ℕ, List, [], ◌∷◌, ◌++◌, length, Option, None, Some, MatchOption, ⊤}
-use Rattle.atspi_forest.specs.declared.edit.Edit.{Edit}
 use Rattle.atspi_forest.specs.Edits.{IsEdit}
 use Rattle.atspi_message.specs.Envelope.{Envelope}
-use Rattle.atspi_protocol.specs.exporting.Exporter.{Happening, Exporter}
+use Rattle.atspi_protocol.specs.exporting.Exporter.{Exporter}
 use Rattle.atspi_app.specs.Seen.{IsSpentAfter}
 use Rattle.atspi_protocol.specs.exporting.Taking.{app_edits}
 use Rattle.atspi_live_app.specs.Lines.{lines_of}

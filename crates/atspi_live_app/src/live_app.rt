@@ -92,10 +92,7 @@ impl<A: Exporting> LiveApp<A> {
             },
             Some(Err(fault)) => Err(stop_of_line(fault, self.input.number)),
             None if self.app.is_some() => Ok(1),
-            None => Err(Stop::Refused(
-                self.input.number.saturating_add(1),
-                Refused::Form,
-            )),
+            None => Err(Stop::Refused(self.input.number.saturating_add(1), Refused::Form)),
         }
     }
 }

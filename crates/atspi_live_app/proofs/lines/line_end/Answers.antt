@@ -1,4 +1,4 @@
-use Rattle.std.proofs.Common.{◌≡◌, ◌<◌, ◌≤◌, ℕ, List, [], ◌∷◌, length, take, drop, ◌+◌, suc, refl, sym, ap, subst, ◌∙◌, add-one, arith, rules}
+use Rattle.std.proofs.Common.{◌≡◌, ◌<◌, ℕ, List, ◌∷◌, length, take, drop, ◌+◌, add-one, arith}
 use Rattle.std.proofs.lemmas.List.{drop_all, take_all}
 use Rattle.atspi_live_app.specs.Lines.{lines_of}
 use Rattle.atspi_live_app.proofs.Feeds.{NoFeed, at_feed, last_line}

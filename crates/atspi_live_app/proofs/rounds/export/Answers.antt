@@ -1,4 +1,4 @@
-use Rattle.std.proofs.Common.{◌≡◌, ℕ, List, [], refl, sym, subst, ◌∙◌, rules, arith}
+use Rattle.std.proofs.Common.{◌≡◌, ℕ, List, refl, sym, subst, ◌∙◌, rules, arith}
 use Rattle.atspi_host.specs.Calls.{IsOpen}
 use Rattle.atspi_conversation.proofs.StepLemmas.{at_first, may_begin}
 use Rattle.atspi_live_app.specs.Lines.{lines_of}

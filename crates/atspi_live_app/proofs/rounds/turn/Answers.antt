@@ -1,4 +1,3 @@
-use Rattle.std.proofs.Common.{ℕ, List}
 use Rattle.atspi_live_app.specs.Lines.{lines_of}
 use Rattle.atspi_live_app.proofs.Turning.{StandsOf, going_rests, may_rests, see_of, seen_of, turn_ended, turn_stopped}
 use Rattle.atspi_live_app.proofs.rounds.turn.Goals as goal

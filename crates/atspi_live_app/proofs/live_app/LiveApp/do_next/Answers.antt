@@ -1,4 +1,4 @@
-use Rattle.std.proofs.Common.{◌≡◌, ℕ, List, Option, Some, None, refl, sym, ap, subst, ◌∙◌, arith, rules}
+use Rattle.std.proofs.Common.{◌≡◌, None, sym, subst, rules}
 use Rattle.std.specs.Prelude.{Ok, Err}
 use Rattle.atspi_live_app.specs.Live.{IsStopped, Stands}
 use Rattle.atspi_live_app.specs.Lines.{lines_of}

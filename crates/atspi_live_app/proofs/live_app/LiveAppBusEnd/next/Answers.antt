@@ -1,4 +1,4 @@
-use Rattle.std.proofs.Common.{ℕ, List, [], ◌∷◌, ◌++◌, subst, append-nil}
+use Rattle.std.proofs.Common.{List, [], ◌∷◌, subst, append-nil}
 use Rattle.atspi_message.specs.Envelope.{Envelope, envelope_of}
 use Rattle.atspi_live_app.specs.Live.{Stands, seen}
 use Rattle.atspi_live_app.proofs.Stood.{kept_on, of_none, of_some, stands_handed, stands_meets}

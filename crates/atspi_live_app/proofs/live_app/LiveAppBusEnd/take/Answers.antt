@@ -1,4 +1,4 @@
-use Rattle.std.proofs.Common.{Option, Some, refl, sym, ap, ◌∙◌}
+use Rattle.std.proofs.Common.{Option, Some, sym, ap, ◌∙◌}
 use Rattle.std.proofs.lemmas.Result.{on_ok_weaker}
 use Rattle.atspi_header.specs.View.{envelope_at}
 use Rattle.atspi_protocol.specs.exporting.Exporter.{Exporter}
