@@ -1,6 +1,10 @@
-//! The bus and its ends on Unix sockets: `bus PATH ROUNDS`, `registry PATH ROUNDS`, `read PATH ROUNDS`.
+//! The bus and its ends on Unix sockets: `bus PATH ROUNDS`, `registry PATH ROUNDS`, `app PATH ROUNDS`, `read PATH ROUNDS`.
 #![tactic(auto)]
 
+ghost use Rattle.std.specs.Prelude.{IfOk};
+ghost use Rattle.atspi_exported.specs.Parts.{AreEmpty, AreKinds};
+
+mod input;
 mod net;
 mod open_link;
 mod output;
@@ -8,11 +12,16 @@ mod ready;
 mod retry;
 
 use atspi_base::Text;
+use atspi_exported::{Boxes, Kit};
+use atspi_faces::{Deeds, Grid, PlainText};
+use atspi_live_app::app;
 use atspi_live_bus::bus;
 use atspi_live_reader::read;
 use atspi_live_registry::registry;
+use input::StandardInput;
 use net::NetHost;
 use output::StandardOutput;
+use std::alloc::{AllocError, Global};
 use std::env;
 use std::io::Print;
 use std::process::ExitCode;
@@ -36,6 +45,7 @@ fn rounds_in(word: &str) -> Option<u32> {
 enum Command {
     Bus,
     Registry,
+    App,
     Read,
 }
 
@@ -43,6 +53,7 @@ fn command_in(word: &str) -> Option<Command> {
     match word {
         "bus" => Some(Command::Bus),
         "registry" => Some(Command::Registry),
+        "app" => Some(Command::App),
         "read" => Some(Command::Read),
         _ => None,
     }
@@ -50,8 +61,19 @@ fn command_in(word: &str) -> Option<Command> {
 
 /// The words are not understood.
 fn usage(rt: &impl Print) -> ExitCode {
-    let _ = rt.println("usage: atspi_live bus, registry or read, PATH and ROUNDS");
+    let _ = rt.println("usage: atspi_live bus, registry, app or read, PATH and ROUNDS");
     ExitCode::from(2)
+}
+
+/// Boxes without a node, for the application.
+fn empty_kit(alloc: Global) -> Result<Kit, AllocError>
+    ensures kinds { IfOk result (λ kit. AreKinds (⟦<Kit as Boxes>⟧.kinds kit)) }
+    ensures empty { IfOk result (λ kit. AreEmpty (⟦<Kit as Boxes>⟧.faces kit)) }
+{
+    let chars = Box::new(alloc, PlainText::new(alloc))?;
+    let grid = Box::new(alloc, Grid::new(alloc))?;
+    let deeds = Box::new(alloc, Deeds::new(alloc))?;
+    Ok(Kit { chars, grid, deeds })
 }
 
 fn main(rt: HostRuntime) -> ExitCode {
@@ -88,6 +110,13 @@ fn main(rt: HostRuntime) -> ExitCode {
     let status = match command {
         Command::Bus => bus(alloc, &path, rounds, &mut host),
         Command::Registry => registry(alloc, &path, rounds, &mut sink, &mut host),
+        Command::App => {
+            let Ok(kit) = empty_kit(alloc) else {
+                return ExitCode::from(5);
+            };
+            let mut source = StandardInput::new(rt.stdin(), &rt);
+            app(alloc, &path, rounds, &mut source, &mut sink, &mut host, kit)
+        }
         Command::Read => read(alloc, &path, rounds, &mut sink, &mut host),
     };
     host.leave(&path);

@@ -2,6 +2,8 @@
 #![tactic(auto)]
 
 #[cfg(test)]
+mod app;
+#[cfg(test)]
 mod hosts;
 #[cfg(test)]
 mod reader;
