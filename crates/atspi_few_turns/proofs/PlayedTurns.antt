@@ -14,10 +14,10 @@ use Rattle.atspi_protocol.specs.following.ReaderState.{ReaderState, sends, speak
 use Rattle.atspi_protocol.specs.following.Takes.{reader_takes}
 use Rattle.atspi_trace.specs.Entry.{Entry, sent, busy}
 use Rattle.atspi_trace.specs.World.{Letter, End, World}
-use Rattle.atspi_trace.specs.Ends.{end_at, app_count, reader_count}
+use Rattle.atspi_trace.specs.Ends.{app_count, reader_count}
 use Rattle.atspi_trace.specs.Hearing.{question_in}
 use Rattle.atspi_trace.specs.Causes.{Cause, routes, unjoins, gets, tells_busy, Done, does, at_end}
-use Rattle.atspi_trace.specs.Work.{turning, resting, cause, rests, next_turn, next_of, next_of_turns}
+use Rattle.atspi_trace.specs.Work.{turning, resting, next_turn, next_of_turns}
 use Rattle.atspi_trace.specs.Due.{is_lost, asks_at}
 use Rattle.atspi_lawful.specs.order.Scripts.{CanStand, CanAllStand}
 use Rattle.atspi_lawful.proofs.OfOrder.Growing.{Shaped, Nothing, And}
