@@ -1,0 +1,60 @@
+//! Connections that get their names: `names COUNT` has so many join one bus and say Hello; `hello ROUNDS` has one join a new bus in each round,
+//! say Hello and ask for all signals.
+
+use crate::joining::{QUOTA, ask, join, join_all};
+use crate::letters::bus_call;
+use crate::tell;
+use anyhow::{Result, bail};
+use atspi_bus::Bus;
+use std::alloc::Global;
+use std::time::Instant;
+
+/// Does the work of `names`.
+pub(crate) fn run(rt: &HostRuntime, words: &[&str]) -> Result<()> {
+    let [count] = words else {
+        bail!("how many connections is wanted");
+    };
+    let count = count.parse::<u32>()?;
+    let mut bus = Bus::new(rt.alloc(), QUOTA);
+    measure(rt, &mut bus, count)
+}
+
+/// So many connections join a bus.
+fn measure(rt: &HostRuntime, bus: &mut Bus, count: u32) -> Result<()> {
+    let start = Instant::now(rt)?;
+    let bytes = join_all(rt.alloc(), bus, count)?;
+    tell(rt, &start, count, bytes)
+}
+
+/// Does the work of `hello`.
+pub(crate) fn run_anew(rt: &HostRuntime, words: &[&str]) -> Result<()> {
+    let [rounds] = words else {
+        bail!("how many rounds is wanted");
+    };
+    let rounds = rounds.parse::<u32>()?;
+    let start = Instant::now(rt)?;
+    let bytes = greet_all(rt.alloc(), rounds)?;
+    tell(rt, &start, rounds, bytes)
+}
+
+/// The first connection of a bus joins and asks for all signals; how many bytes the bus says to it.
+fn greet(alloc: Global, bus: &mut Bus) -> Result<u64> {
+    let hello = join(alloc, bus)?;
+    let call = bus_call(2, "AddMatch", Some("type='signal'"));
+    Ok(hello.saturating_add(ask(alloc, bus, 0, &call)?))
+}
+
+/// The same on a new bus.
+fn greet_anew(alloc: Global) -> Result<u64> {
+    let mut bus = Bus::new(alloc, QUOTA);
+    greet(alloc, &mut bus)
+}
+
+/// The same on so many buses, one behind the other.
+fn greet_all(alloc: Global, rounds: u32) -> Result<u64> {
+    let mut bytes: u64 = 0;
+    for _round in 0..rounds {
+        bytes = bytes.saturating_add(greet_anew(alloc)?);
+    }
+    Ok(bytes)
+}
