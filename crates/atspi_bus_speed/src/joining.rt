@@ -3,7 +3,7 @@
 use crate::letters::{bus_call, bytes_of};
 use anyhow::{Result, bail};
 use atspi_bus::Bus;
-use atspi_bus_cases::{Letter, lent};
+use atspi_bus_cases::lent;
 use std::alloc::Global;
 
 /// The quota of each connection.
@@ -15,12 +15,6 @@ pub(crate) fn send(bus: &mut Bus, conn: u32, bytes: &[u8]) -> Result<()> {
         Some(m) => Ok(bus.take(conn, &m)?),
         None => bail!("no message"),
     }
-}
-
-/// A connection sends a letter.
-pub(crate) fn send_letter(alloc: Global, bus: &mut Bus, conn: u32, letter: &Letter) -> Result<()> {
-    let bytes = bytes_of(alloc, letter)?;
-    send(bus, conn, bytes.as_slice())
 }
 
 /// Takes out what waits for a connection; how many bytes that were.
@@ -39,24 +33,25 @@ fn forget_said(bus: &mut Bus) {
     }
 }
 
-/// A connection asks the bus, and takes out what the bus says to it; how many bytes that are.
-pub(crate) fn ask(alloc: Global, bus: &mut Bus, conn: u32, letter: &Letter) -> Result<u64> {
-    send_letter(alloc, bus, conn, letter)?;
+/// A connection sends a call of the bus, and takes out what the bus says to it; how many bytes that are.
+pub(crate) fn ask(bus: &mut Bus, conn: u32, call: &[u8]) -> Result<u64> {
+    send(bus, conn, call)?;
     forget_said(bus);
     Ok(take_out(bus, conn))
 }
 
-/// A connection more, with its Hello; how many bytes the bus says to it.
-pub(crate) fn join(alloc: Global, bus: &mut Bus) -> Result<u64> {
+/// A connection more, which sends this Hello; how many bytes the bus says to it.
+pub(crate) fn join(bus: &mut Bus, hello: &[u8]) -> Result<u64> {
     let conn = bus.join()?;
-    ask(alloc, bus, conn, &bus_call(1, "Hello", None))
+    ask(bus, conn, hello)
 }
 
 /// So many connections more; how many bytes the bus says to them.
 pub(crate) fn join_all(alloc: Global, bus: &mut Bus, count: u32) -> Result<u64> {
+    let hello = bytes_of(alloc, &bus_call(1, "Hello", None))?;
     let mut bytes: u64 = 0;
     for _conn in 0..count {
-        bytes = bytes.saturating_add(join(alloc, bus)?);
+        bytes = bytes.saturating_add(join(bus, hello.as_slice())?);
     }
     Ok(bytes)
 }

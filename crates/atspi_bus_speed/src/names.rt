@@ -2,7 +2,7 @@
 //! say Hello and ask for all signals.
 
 use crate::joining::{QUOTA, ask, join, join_all};
-use crate::letters::bus_call;
+use crate::letters::{bus_call, bytes_of};
 use crate::tell;
 use anyhow::{Result, bail};
 use atspi_bus::Bus;
@@ -32,29 +32,30 @@ pub(crate) fn run_anew(rt: &HostRuntime, words: &[&str]) -> Result<()> {
         bail!("how many rounds is wanted");
     };
     let rounds = rounds.parse::<u32>()?;
+    let hello = bytes_of(rt.alloc(), &bus_call(1, "Hello", None))?;
+    let asking = bytes_of(rt.alloc(), &bus_call(2, "AddMatch", Some("type='signal'")))?;
     let start = Instant::now(rt)?;
-    let bytes = greet_all(rt.alloc(), rounds)?;
+    let bytes = greet_all(rt.alloc(), hello.as_slice(), asking.as_slice(), rounds)?;
     tell(rt, &start, rounds, bytes)
 }
 
-/// The first connection of a bus joins and asks for all signals; how many bytes the bus says to it.
-fn greet(alloc: Global, bus: &mut Bus) -> Result<u64> {
-    let hello = join(alloc, bus)?;
-    let call = bus_call(2, "AddMatch", Some("type='signal'"));
-    Ok(hello.saturating_add(ask(alloc, bus, 0, &call)?))
+/// The first connection of a bus joins with this Hello, and asks for signals by this call; how many bytes the bus says to it.
+fn greet(bus: &mut Bus, hello: &[u8], asking: &[u8]) -> Result<u64> {
+    let joined = join(bus, hello)?;
+    Ok(joined.saturating_add(ask(bus, 0, asking)?))
 }
 
 /// The same on a new bus.
-fn greet_anew(alloc: Global) -> Result<u64> {
+fn greet_anew(alloc: Global, hello: &[u8], asking: &[u8]) -> Result<u64> {
     let mut bus = Bus::new(alloc, QUOTA);
-    greet(alloc, &mut bus)
+    greet(&mut bus, hello, asking)
 }
 
 /// The same on so many buses, one behind the other.
-fn greet_all(alloc: Global, rounds: u32) -> Result<u64> {
+fn greet_all(alloc: Global, hello: &[u8], asking: &[u8], rounds: u32) -> Result<u64> {
     let mut bytes: u64 = 0;
     for _round in 0..rounds {
-        bytes = bytes.saturating_add(greet_anew(alloc)?);
+        bytes = bytes.saturating_add(greet_anew(alloc, hello, asking)?);
     }
     Ok(bytes)
 }

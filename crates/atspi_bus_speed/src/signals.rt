@@ -1,7 +1,7 @@
 //! Signals to many: `ROUNDS RECEIVERS RULES WHICH KEY` has a connection send a signal to so many others, each of which asks by so many rules that
 //! differ in the value of one key. The first of them matches, the others do not. `one` has rules of that key alone, and `all` rules of all five keys.
 
-use crate::joining::{QUOTA, ask, join, join_all, send, take_out};
+use crate::joining::{QUOTA, ask, join_all, send, take_out};
 use crate::letters::{bus_call, bytes_of, signal};
 use crate::tell;
 use anyhow::{Result, bail};
@@ -103,18 +103,14 @@ fn rule(alloc: Global, rules: Rules, number: u32) -> Result<String> {
 /// A connection asks for signals by its rule of this number.
 fn add(alloc: Global, bus: &mut Bus, conn: u32, rules: Rules, number: u32) -> Result<()> {
     let text = rule(alloc, rules, number)?;
-    ask(
-        alloc,
-        bus,
-        conn,
-        &bus_call(2, "AddMatch", Some(text.as_str())),
-    )?;
+    let call = bytes_of(alloc, &bus_call(2, "AddMatch", Some(text.as_str())))?;
+    ask(bus, conn, call.as_slice())?;
     Ok(())
 }
 
 /// A connection more, whose number this is, which asks by its rules.
 fn join_asking(alloc: Global, bus: &mut Bus, conn: u32, rules: Rules) -> Result<()> {
-    join(alloc, bus)?;
+    join_all(alloc, bus, 1)?;
     for number in 0..rules.count {
         add(alloc, bus, conn, rules, number)?;
     }
