@@ -7,7 +7,14 @@
 set -eu
 top=$(cd "$(dirname "$0")/.." && pwd)
 work=$(mktemp -d)
-trap 'rm -rf "$work"' EXIT
+# stop: what still runs behind is ended, by the number of the process that began it
+stop() {
+    local job
+    for job in $(jobs -p); do pkill -P "$job" || true; done
+    wait
+    rm -rf "$work"
+}
+trap stop EXIT
 (cd "$top/crates/atspi_bus_speed" && rt run -- each) >"$work/build" 2>&1 || { cat "$work/build" >&2; exit 1; }
 program=$work/atspi_bus_speed
 cp "$top/crates/atspi_bus_speed/out/atspi_bus_speed" "$program"
