@@ -1,9 +1,6 @@
 //! The bus and its ends on Unix sockets: `bus PATH ROUNDS`, `registry PATH ROUNDS`, `app PATH ROUNDS`, `read PATH ROUNDS`.
 #![tactic(auto)]
 
-ghost use Rattle.std.specs.Prelude.{IfOk};
-ghost use Rattle.atspi_exported.specs.Parts.{AreEmpty, AreKinds};
-
 mod input;
 mod net;
 mod open_link;
@@ -12,7 +9,7 @@ mod ready;
 mod retry;
 
 use atspi_base::Text;
-use atspi_exported::{Boxes, Kit};
+use atspi_exported::Kit;
 use atspi_faces::{Deeds, Grid, PlainText};
 use atspi_live_app::app;
 use atspi_live_bus::bus;
@@ -21,7 +18,6 @@ use atspi_live_registry::registry;
 use input::StandardInput;
 use net::NetHost;
 use output::StandardOutput;
-use std::alloc::{AllocError, Global};
 use std::env;
 use std::io::Print;
 use std::process::ExitCode;
@@ -65,17 +61,6 @@ fn usage(rt: &impl Print) -> ExitCode {
     ExitCode::from(2)
 }
 
-/// Boxes without a node, for the application.
-fn empty_kit(alloc: Global) -> Result<Kit, AllocError>
-    ensures kinds { IfOk result (λ kit. AreKinds (⟦<Kit as Boxes>⟧.kinds kit)) }
-    ensures empty { IfOk result (λ kit. AreEmpty (⟦<Kit as Boxes>⟧.faces kit)) }
-{
-    let chars = Box::new(alloc, PlainText::new(alloc))?;
-    let grid = Box::new(alloc, Grid::new(alloc))?;
-    let deeds = Box::new(alloc, Deeds::new(alloc))?;
-    Ok(Kit { chars, grid, deeds })
-}
-
 fn main(rt: HostRuntime) -> ExitCode {
     let mut words = Vec::new(rt.alloc());
     let Ok(args) = env::args(&rt) else {
@@ -111,9 +96,17 @@ fn main(rt: HostRuntime) -> ExitCode {
         Command::Bus => bus(alloc, &path, rounds, &mut host),
         Command::Registry => registry(alloc, &path, rounds, &mut sink, &mut host),
         Command::App => {
-            let Ok(kit) = empty_kit(alloc) else {
+            // boxes without a node
+            let Ok(chars) = Box::new(alloc, PlainText::new(alloc)) else {
                 return ExitCode::from(5);
             };
+            let Ok(grid) = Box::new(alloc, Grid::new(alloc)) else {
+                return ExitCode::from(5);
+            };
+            let Ok(deeds) = Box::new(alloc, Deeds::new(alloc)) else {
+                return ExitCode::from(5);
+            };
+            let kit = Kit { chars, grid, deeds };
             let mut source = StandardInput::new(rt.stdin(), &rt);
             app(alloc, &path, rounds, &mut source, &mut sink, &mut host, kit)
         }

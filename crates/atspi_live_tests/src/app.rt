@@ -1,15 +1,12 @@
 //! The application over a host in memory, with messages of a bus and of a registry worked out by hand.
 
-ghost use Rattle.std.specs.Prelude.{IfOk};
-ghost use Rattle.atspi_exported.specs.Parts.{AreEmpty, AreKinds};
-
 use crate::hosts::{NEVER, given, host_of, joined, pieces};
 use atspi_base::{MemSink, MemSource, Text};
-use atspi_exported::{Boxes, Kit};
+use atspi_exported::Kit;
 use atspi_faces::{Deeds, Grid, PlainText};
 use atspi_host::Peer;
 use atspi_live_app::app;
-use std::alloc::{AllocError, Global};
+use std::alloc::Global;
 use std::process::Abort;
 use std::test::*;
 
@@ -60,17 +57,6 @@ struct Run {
     written: MemSink,
 }
 
-/// Boxes without a node.
-fn empty_kit(alloc: Global) -> Result<Kit, AllocError>
-    ensures kinds { IfOk result (λ kit. AreKinds (⟦<Kit as Boxes>⟧.kinds kit)) }
-    ensures empty { IfOk result (λ kit. AreEmpty (⟦<Kit as Boxes>⟧.faces kit)) }
-{
-    let chars = Box::new(alloc, PlainText::new(alloc))?;
-    let grid = Box::new(alloc, Grid::new(alloc))?;
-    let deeds = Box::new(alloc, Deeds::new(alloc))?;
-    Ok(Kit { chars, grid, deeds })
-}
-
 /// A source of these bytes, whose call with this number fails.
 fn source_of(alloc: Global, input: &[u8], failing: u64) -> Result<MemSource, Fail> {
     let mut numbers = Vec::new(alloc);
@@ -94,7 +80,10 @@ fn run_with(
     let mut source = source_of(alloc, input, failing.0)?;
     let mut written = MemSink::new(alloc, Vec::new(alloc));
     let path = Text::read(alloc, b"/run/bus").expect(rt, "a path");
-    let kit = empty_kit(alloc)?;
+    let chars = Box::new(alloc, PlainText::new(alloc))?;
+    let grid = Box::new(alloc, Grid::new(alloc))?;
+    let deeds = Box::new(alloc, Deeds::new(alloc))?;
+    let kit = Kit { chars, grid, deeds };
     let status = app(
         alloc,
         &path,
