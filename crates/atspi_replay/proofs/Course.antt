@@ -37,7 +37,7 @@ pub record SoFar (lines rest : List (List ℕ)) (told : List Told) (number : ℕ
 pub so_far_start : (lines : List (List ℕ)) (s : Staged) → IsPlaying (first_playing QUOTA_MOST) s → SoFar lines lines [] 0 s
 so_far_start lines s is = record { done = []; front = refl; counted = refl; script = []; spelled = tt; can = tt; now = first_playing QUOTA_MOST; is = is; played = begun }
 
-can_more : (lines : List Line) (line : Line) → CanAllStand lines → CanStand line → CanAllStand (lines ++ line ∷ [])
+pub can_more : (lines : List Line) (line : Line) → CanAllStand lines → CanStand line → CanAllStand (lines ++ line ∷ [])
 can_more [] line all can = (can, tt)
 can_more (other ∷ lines) line all can = (all.0, can_more lines line all.1 can)
 

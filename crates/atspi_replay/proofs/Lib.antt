@@ -1,3 +1,4 @@
+pub mod Counts
 pub mod Course
 pub mod DoneLemmas
 pub mod LineLemmas

@@ -1,5 +1,5 @@
 -- A line that bytes spell may be done.
-use Rattle.std.proofs.Common.{◌≡◌, ◌≤◌, ◌/◌, ◌%◌, ℕ, Bool, true, false, List, [], ◌∷◌, ◌++◌, length, ap, arith, encode_utf8_all, flat_map, length-append, if◌then◌else◌}
+use Rattle.std.proofs.Common.{◌≡◌, ◌≤◌, ◌/◌, ◌%◌, ℕ, Bool, true, false, List, [], ◌∷◌, length, ap, arith, encode_utf8_all, flat_map, length-append, if◌then◌else◌}
 use Rattle.std.proofs.lemmas.Str.{length-le-encodes}
 use Rattle.atspi_base.specs.Quoted.{escaped, hex_digit, is_control, is_marked, quoted}
 use Rattle.atspi_lines.specs.declared.deed.Deed.{Deed}

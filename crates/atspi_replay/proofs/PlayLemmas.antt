@@ -4,8 +4,6 @@ use Rattle.std.proofs.lemmas.Bool.{false≢true}
 use Rattle.std.specs.Io.KnownBytes.{Appends}
 use Rattle.atspi_base.specs.Outside.{AppendsPart}
 use Rattle.atspi_events.specs.declared.options.TraceOptions.{TraceOptions}
-use Rattle.atspi_lines.specs.declared.line.Line.{Line}
-use Rattle.atspi_lines.specs.Line.{ReadsLine, Spells}
 use Rattle.atspi_stage.specs.Worlds.{Staged}
 use Rattle.atspi_replay.specs.declared.naming.Refused as refused
 use Rattle.atspi_replay.specs.Names.{IsLine, refused_text}

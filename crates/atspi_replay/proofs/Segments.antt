@@ -7,25 +7,29 @@ use Rattle.atspi_trace.specs.Entry.{Entry}
 use Rattle.atspi_lawful.specs.order.Scripts.{CanStand}
 use Rattle.atspi_play.specs.Playing.{Playing}
 use Rattle.atspi_play.specs.Played.{IsPlayed, did}
+use Rattle.atspi_stage.specs.MayAct.{MayAct}
 use Rattle.atspi_stage.specs.Worlds.{Staged}
 use Rattle.atspi_stage.specs.Lines.{IsLineDone}
 use Rattle.atspi_replay.proofs.MayLemmas.{line_may}
 
--- a line that bytes spell can stand in a script
+-- a line that a world may be given can stand in a script; so can one that bytes spell
+pub stands : (line : Line) → MayAct line → CanStand line
+stands (Edit app edit) may = may
+stands Blank may = tt
+stands (Quota quota) may = tt
+stands (App name) may = tt
+stands Reader may = tt
+stands (Call reader app node deed) may = tt
+stands (Swap app) may = tt
+stands (Exit app) may = tt
+stands (Leave reader) may = tt
+stands (Bytes who up count) may = tt
+stands (Turns count) may = tt
+stands Drain may = tt
+stands (Show reader app) may = tt
+
 pub can_stand : (line : Line) (bytes : List ℕ) → Spells line bytes → CanStand line
-can_stand (Edit app edit) bytes s = line_may (Edit app edit) bytes s
-can_stand Blank bytes s = tt
-can_stand (Quota quota) bytes s = tt
-can_stand (App name) bytes s = tt
-can_stand Reader bytes s = tt
-can_stand (Call reader app node deed) bytes s = tt
-can_stand (Swap app) bytes s = tt
-can_stand (Exit app) bytes s = tt
-can_stand (Leave reader) bytes s = tt
-can_stand (Bytes who up count) bytes s = tt
-can_stand (Turns count) bytes s = tt
-can_stand Drain bytes s = tt
-can_stand (Show reader app) bytes s = tt
+can_stand line bytes s = stands line (line_may line bytes s)
 
 -- the lines that were played, and this one
 pub played_more : (lines : List Line) (es : List Entry) (p : Playing) (line : Line) (old new : Staged) → IsPlayed lines es p → (d : IsLineDone p line old new) → IsPlayed (lines ++ line ∷ []) (es ++ d.done.entries) d.done.after

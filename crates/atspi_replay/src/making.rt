@@ -1,14 +1,18 @@
 //! `make`: a script is drawn from a seed and done, and what came of it is told in a line.
 
-ghost use Rattle.std.specs.Prelude.{◌≡◌, ◌++◌, ◌<◌, ℕ, All, OnOk};
+ghost use Rattle.std.specs.Prelude.{◌≡◌, ◌++◌, ◌<◌, ℕ, All, IfOk, OnOk, count_by, length};
 ghost use Rattle.std.specs.Fmt.{decimal};
 ghost use Rattle.std.specs.Io.KnownBytes.{Appends};
 ghost use Rattle.atspi_base.specs.Outside.{AppendsPart};
-ghost use Rattle.atspi_bus_steps.specs.Inner.{state_of};
+ghost use Rattle.atspi_bus_steps.specs.Inner.{inner_of, state_of};
+ghost use Rattle.atspi_lines.specs.declared.limits.TheConstants.{APP_COUNT};
 ghost use Rattle.atspi_stage.specs.MayAct.{MayAct};
 ghost use Rattle.atspi_stage.specs.Stage.{IsStage};
+ghost use Rattle.atspi_stage.specs.Worlds.{staged};
+ghost use Rattle.atspi_trace.specs.Entry.{entry_of};
+ghost use Rattle.atspi_trace.specs.Work.{spare_count};
 ghost use Rattle.atspi_replay.specs.Causes.{Causes};
-ghost use Rattle.atspi_replay.specs.Made.{IsHalt, Made, made_text};
+ghost use Rattle.atspi_replay.specs.Made.{AreOfTrace, HasPlayed, IsHalt, Made, is_spoken, is_step, made_text};
 
 use crate::naming::{Halt, Stop, stop_of_act};
 use atspi_base::{Bytes, NoMemory, Sink, Text, put_decimal, write_all};
@@ -35,7 +39,9 @@ const TURNS: u32 = 64;
 fn act<A: Application, R: Follower>(world: &mut Stage<A, R>, line: &Line) -> Result<(), Stop>
     requires may { MayAct line.now }
     requires stage { IsStage A.is_app R.is_follower A.is_kit A.is_spare world.old.cast.apps.items world.old.cast.readers.items world.old.kits.items world.old.spares.items (state_of world.old.carrier.bus) }
+    requires played { HasPlayed (staged A.exporter R.follower (inner_of world.old.carrier.bus) world.old.carrier.posts.items world.old.carrier.at_end.items world.old.cast.registry world.old.cast.apps.items world.old.cast.readers.items (length world.old.kits.items) (length world.old.spares.items) world.old.carrier.trace.items) }
     ensures stage { OnOk result (IsStage A.is_app R.is_follower A.is_kit A.is_spare world.new.cast.apps.items world.new.cast.readers.items world.new.kits.items world.new.spares.items (state_of world.new.carrier.bus)) }
+    ensures played { OnOk result (HasPlayed (staged A.exporter R.follower (inner_of world.new.carrier.bus) world.new.carrier.posts.items world.new.carrier.at_end.items world.new.cast.registry world.new.cast.apps.items world.new.cast.readers.items (length world.new.kits.items) (length world.new.spares.items) world.new.carrier.trace.items)) }
 {
     match world.act(line) {
         Ok(()) => Ok(()),
@@ -46,7 +52,9 @@ fn act<A: Application, R: Follower>(world: &mut Stage<A, R>, line: &Line) -> Res
 /// The application and the reader start, and know of one another.
 fn begin<A: Application, R: Follower>(alloc: Global, world: &mut Stage<A, R>) -> Result<(), Stop>
     requires stage { IsStage A.is_app R.is_follower A.is_kit A.is_spare world.old.cast.apps.items world.old.cast.readers.items world.old.kits.items world.old.spares.items (state_of world.old.carrier.bus) }
+    requires played { HasPlayed (staged A.exporter R.follower (inner_of world.old.carrier.bus) world.old.carrier.posts.items world.old.carrier.at_end.items world.old.cast.registry world.old.cast.apps.items world.old.cast.readers.items (length world.old.kits.items) (length world.old.spares.items) world.old.carrier.trace.items) }
     ensures stage { OnOk result (IsStage A.is_app R.is_follower A.is_kit A.is_spare world.new.cast.apps.items world.new.cast.readers.items world.new.kits.items world.new.spares.items (state_of world.new.carrier.bus)) }
+    ensures played { OnOk result (HasPlayed (staged A.exporter R.follower (inner_of world.new.carrier.bus) world.new.carrier.posts.items world.new.carrier.at_end.items world.new.cast.registry world.new.cast.apps.items world.new.cast.readers.items (length world.new.kits.items) (length world.new.spares.items) world.new.carrier.trace.items)) }
 {
     let Ok(name) = Text::of(alloc, "Made") else {
         return Err(Stop::NoMemory);
@@ -65,7 +73,9 @@ fn make_edit<A: Application + HasTree, R: Follower>(
     draws: &mut Draws,
 ) -> Result<(), Stop>
     requires stage { IsStage A.is_app R.is_follower A.is_kit A.is_spare world.old.cast.apps.items world.old.cast.readers.items world.old.kits.items world.old.spares.items (state_of world.old.carrier.bus) }
+    requires played { HasPlayed (staged A.exporter R.follower (inner_of world.old.carrier.bus) world.old.carrier.posts.items world.old.carrier.at_end.items world.old.cast.registry world.old.cast.apps.items world.old.cast.readers.items (length world.old.kits.items) (length world.old.spares.items) world.old.carrier.trace.items) }
     ensures stage { OnOk result (IsStage A.is_app R.is_follower A.is_kit A.is_spare world.new.cast.apps.items world.new.cast.readers.items world.new.kits.items world.new.spares.items (state_of world.new.carrier.bus)) }
+    ensures played { OnOk result (HasPlayed (staged A.exporter R.follower (inner_of world.new.carrier.bus) world.new.carrier.posts.items world.new.carrier.at_end.items world.new.cast.registry world.new.cast.apps.items world.new.cast.readers.items (length world.new.kits.items) (length world.new.spares.items) world.new.carrier.trace.items)) }
 {
     let Some(app) = world.app(0) else {
         return Ok(());
@@ -83,7 +93,9 @@ fn make_edit<A: Application + HasTree, R: Follower>(
 /// Behind each sixteenth edit come turns.
 fn make_turns<A: Application, R: Follower>(world: &mut Stage<A, R>, number: u32) -> Result<(), Stop>
     requires stage { IsStage A.is_app R.is_follower A.is_kit A.is_spare world.old.cast.apps.items world.old.cast.readers.items world.old.kits.items world.old.spares.items (state_of world.old.carrier.bus) }
+    requires played { HasPlayed (staged A.exporter R.follower (inner_of world.old.carrier.bus) world.old.carrier.posts.items world.old.carrier.at_end.items world.old.cast.registry world.old.cast.apps.items world.old.cast.readers.items (length world.old.kits.items) (length world.old.spares.items) world.old.carrier.trace.items) }
     ensures stage { OnOk result (IsStage A.is_app R.is_follower A.is_kit A.is_spare world.new.cast.apps.items world.new.cast.readers.items world.new.kits.items world.new.spares.items (state_of world.new.carrier.bus)) }
+    ensures played { OnOk result (HasPlayed (staged A.exporter R.follower (inner_of world.new.carrier.bus) world.new.carrier.posts.items world.new.carrier.at_end.items world.new.cast.registry world.new.cast.apps.items world.new.cast.readers.items (length world.new.kits.items) (length world.new.spares.items) world.new.carrier.trace.items)) }
 {
     if number % ROUND == 0 {
         return act(world, &Line::Turns(TURNS));
@@ -100,7 +112,9 @@ fn make_edits<A: Application + HasTree, R: Follower>(
 ) -> Result<(), Stop>
     requires count { count < 4294967295 }
     requires stage { IsStage A.is_app R.is_follower A.is_kit A.is_spare world.old.cast.apps.items world.old.cast.readers.items world.old.kits.items world.old.spares.items (state_of world.old.carrier.bus) }
+    requires played { HasPlayed (staged A.exporter R.follower (inner_of world.old.carrier.bus) world.old.carrier.posts.items world.old.carrier.at_end.items world.old.cast.registry world.old.cast.apps.items world.old.cast.readers.items (length world.old.kits.items) (length world.old.spares.items) world.old.carrier.trace.items) }
     ensures stage { OnOk result (IsStage A.is_app R.is_follower A.is_kit A.is_spare world.new.cast.apps.items world.new.cast.readers.items world.new.kits.items world.new.spares.items (state_of world.new.carrier.bus)) }
+    ensures played { OnOk result (HasPlayed (staged A.exporter R.follower (inner_of world.new.carrier.bus) world.new.carrier.posts.items world.new.carrier.at_end.items world.new.cast.registry world.new.cast.apps.items world.new.cast.readers.items (length world.new.kits.items) (length world.new.spares.items) world.new.carrier.trace.items)) }
 {
     let mut nodes = LiveNodes::new(alloc);
     for number in 1..count + 1 {
@@ -110,20 +124,44 @@ fn make_edits<A: Application + HasTree, R: Follower>(
     act(world, &Line::Drain)
 }
 
+/// Whether an event is a step of a tree.
+fn is_step(event: &Event) -> bool
+    ensures { result ≡ is_step (entry_of event.now) }
+{
+    matches!(event, Event::Step { .. })
+}
+
+/// Whether an event is a spoken line.
+fn is_spoken(event: &Event) -> bool
+    ensures { result ≡ is_spoken (entry_of event.now) }
+{
+    matches!(event, Event::Say { .. })
+}
+
 /// How many events of a trace are steps.
-fn count_steps(trace: &[Event]) -> usize {
-    trace
-        .iter()
-        .filter(|event| matches!(event, Event::Step { .. }))
-        .count()
+fn count_steps(trace: &[Event]) -> usize
+    ensures { result ≡ count_by (λ event. is_step (entry_of event)) trace.now }
+{
+    let mut count = 0usize;
+    for event in trace {
+        if is_step(event) {
+            count += 1;
+        }
+    }
+    count
 }
 
 /// How many events of a trace are spoken lines.
-fn count_says(trace: &[Event]) -> usize {
-    trace
-        .iter()
-        .filter(|event| matches!(event, Event::Say { .. }))
-        .count()
+fn count_says(trace: &[Event]) -> usize
+    ensures { result ≡ count_by (λ event. is_spoken (entry_of event)) trace.now }
+{
+    let mut count = 0usize;
+    for event in trace {
+        if is_spoken(event) {
+            count += 1;
+        }
+    }
+    count
 }
 
 /// Appends a word and a number.
@@ -148,6 +186,8 @@ struct Outcome {
 /// What came of a script.
 fn what_came<A: Application, R: Follower>(world: &Stage<A, R>) -> Outcome
     requires stage { IsStage A.is_app R.is_follower A.is_kit A.is_spare world.now.cast.apps.items world.now.cast.readers.items world.now.kits.items world.now.spares.items (state_of world.now.carrier.bus) }
+    requires played { HasPlayed (staged A.exporter R.follower (inner_of world.now.carrier.bus) world.now.carrier.posts.items world.now.carrier.at_end.items world.now.cast.registry world.now.cast.apps.items world.now.cast.readers.items (length world.now.kits.items) (length world.now.spares.items) world.now.carrier.trace.items) }
+    ensures { AreOfTrace result.steps result.says }
 {
     Outcome {
         steps: count_steps(world.trace()),
@@ -170,6 +210,7 @@ fn put_made(count: u32, seed: u32, of: Outcome, out: &mut Bytes) -> Result<(), N
 
 /// Writes the line that tells what came of a script.
 fn tell<K: Sink>(alloc: Global, count: u32, seed: u32, of: Outcome, sink: &mut K) -> u8
+    requires { AreOfTrace of.steps of.says }
     ensures made { Made count seed result (K.written sink.old) (K.written sink.new) }
     ensures causes { (source : ℕ) → Causes result source source (K.faults sink.old) (K.faults sink.new) }
 {
@@ -207,6 +248,8 @@ fn make_in<A: Application + HasTree, R: Follower>(
     requires count { count < 4294967295 }
     requires seed { seed < 2147483648 }
     requires stage { IsStage A.is_app R.is_follower A.is_kit A.is_spare world.old.cast.apps.items world.old.cast.readers.items world.old.kits.items world.old.spares.items (state_of world.old.carrier.bus) }
+    requires played { HasPlayed (staged A.exporter R.follower (inner_of world.old.carrier.bus) world.old.carrier.posts.items world.old.carrier.at_end.items world.old.cast.registry world.old.cast.apps.items world.old.cast.readers.items (length world.old.kits.items) (length world.old.spares.items) world.old.carrier.trace.items) }
+    ensures { IfOk result (λ of. AreOfTrace of.steps of.says) }
 {
     begin(alloc, world)?;
     let mut draws = Draws::new(seed);
@@ -226,6 +269,9 @@ fn make_all<A: Application + HasTree, R: Follower>(
     requires seed { seed < 2147483648 }
     requires kits { All A.is_kit kits.items }
     requires spares { All A.is_spare spares.items }
+    requires kit_count { length kits.items ≡ APP_COUNT }
+    requires spare_count { length spares.items ≡ spare_count }
+    ensures { IfOk result (λ of. AreOfTrace of.steps of.says) }
 {
     let made: Result<Stage<A, R>, _> = Stage::new(alloc, kits, spares);
     match made {
@@ -235,7 +281,8 @@ fn make_all<A: Application + HasTree, R: Follower>(
 }
 
 /// Draws a script of so many edits from a seed, does it in a world over these kits and spares, and writes how many steps were made, how many
-/// nodes the reader shows, and how many lines it spoke.
+/// nodes the reader shows, and how many lines it spoke: the numbers of a lawful trace of the lines. There are kits and spares for all that a script
+/// can use.
 pub fn make<A: Application + HasTree, R: Follower, K: Sink>(
     alloc: Global,
     count: u32,
@@ -248,6 +295,8 @@ pub fn make<A: Application + HasTree, R: Follower, K: Sink>(
     requires seed { seed < 2147483648 }
     requires kits { All A.is_kit kits.items }
     requires spares { All A.is_spare spares.items }
+    requires kit_count { length kits.items ≡ APP_COUNT }
+    requires spare_count { length spares.items ≡ spare_count }
     ensures made { Made count seed result (K.written sink.old) (K.written sink.new) }
     ensures causes { (source : ℕ) → Causes result source source (K.faults sink.old) (K.faults sink.new) }
 {

@@ -212,3 +212,8 @@ begins_as quota bus posts posts' given r old mid mid' new begun same kept cut = 
 pub begun_over : (quota : ℕ) (bus : Bus) (posts : List Post) (given : List (List ℕ)) (r : Registry) (old old' new : List Event) → old ≡ old' → IsBegun quota bus posts given r old new → IsBegun quota bus posts given r old' new
 begun_over quota bus posts given r old old' new same begun =
     record { carried = begun.carried; linked = begun.linked; registry_plays = begun.registry_plays; silent = begun.silent ∙ ap entries_of same }
+
+-- where no entry was written, nothing was told
+pub untold : (events : List Event) → entries_of events ≡ [] → events ≡ []
+untold [] h = refl
+untold (event ∷ events) h = absurd cc

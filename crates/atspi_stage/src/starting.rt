@@ -89,7 +89,7 @@ fn hear_all(carrier: &mut Carrier, registry: &mut Registry, conn: u32) -> Result
 }
 
 impl<A: Application, R: Follower> Stage<A, R> {
-    /// A world over these kits and spare faces, the last of which come first. Its bus and its registry are started. Its one refusal is want of memory.
+    /// A world over these kits and spare faces, the last of which come first. Its bus and its registry are started, and nothing of that is told. Its one refusal is want of memory.
     pub fn new(
         alloc: Global,
         kits: Vec<A::Kit>,
@@ -100,6 +100,7 @@ impl<A: Application, R: Follower> Stage<A, R> {
         ensures stage { IfOk result (λ stage. IsStage A.is_app R.is_follower A.is_kit A.is_spare stage.cast.apps.items stage.cast.readers.items stage.kits.items stage.spares.items (state_of stage.carrier.bus)) }
         ensures begins { IfOk result (λ stage. length kits.items ≡ APP_COUNT → length spares.items ≡ spare_count
             → IsPlaying (first_playing QUOTA_MOST) (staged A.exporter R.follower (inner_of stage.carrier.bus) stage.carrier.posts.items stage.carrier.at_end.items stage.cast.registry stage.cast.apps.items stage.cast.readers.items (length stage.kits.items) (length stage.spares.items) stage.carrier.trace.items)) }
+        ensures silent { IfOk result (λ stage. stage.carrier.trace.items ≡ []) }
     {
         let mut stage = Stage {
             carrier: Carrier::new(alloc, QUOTA_MOST),

@@ -1,4 +1,4 @@
-use Rattle.std.proofs.Common.{◌≡◌, sym, ◌∙◌, ap, ◌++◌}
+use Rattle.std.proofs.Common.{sym, ◌∙◌, ap, ◌++◌}
 use Rattle.std.proofs.lemmas.Result.{on_ok_weaker}
 use Rattle.atspi_replay.specs.Told.{bytes_text, told_at}
 use Rattle.atspi_replay.proofs.TellLemmas.{bytes_here, not_false, not_true, tells_bytes, tells_event, tells_nothing}

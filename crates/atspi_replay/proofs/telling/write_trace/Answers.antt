@@ -1,6 +1,5 @@
-use Rattle.std.proofs.Common.{◌≤◌, length, refl, subst, sym, ◌∙◌}
+use Rattle.std.proofs.Common.{◌≤◌, length, refl, subst, ◌∙◌}
 use Rattle.std.proofs.lemmas.Result.{on_ok_weaker, on_err_weaker}
-use Rattle.atspi_replay.specs.Play.{BlamesWrite}
 use Rattle.atspi_replay.specs.Told.{told_from}
 use Rattle.atspi_replay.proofs.Pending.{pending_end, pending_next, pending_part, pending_piece, pending_start, pending_stop}
 use Rattle.atspi_replay.proofs.TellLemmas.{from_end}

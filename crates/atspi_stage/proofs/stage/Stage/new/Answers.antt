@@ -1,7 +1,8 @@
 use Rattle.std.proofs.Common.{map, length, ap, ◌∙◌, arith}
 use Rattle.std.specs.Prelude.{vec_items}
 use Rattle.atspi_lines.specs.declared.limits.TheConstants.{QUOTA_MOST}
-use Rattle.atspi_stage.proofs.Beginning.{first_plays}
+use Rattle.atspi_trace.specs.Entry.{entries_of}
+use Rattle.atspi_stage.proofs.Beginning.{first_plays, untold}
 use Rattle.atspi_stage.proofs.stage.Stage.new.Goals as goal
 
 pub returns-clause-begins : goal.returns-clause-begins
@@ -10,3 +11,8 @@ returns-clause-begins g c = λ kits spares.
     first_plays QUOTA_MOST _ _ begun (ap (λ v. length (map g.A.Application.exporter (vec_items v))) c.begin.ensures.ends.0 ∙ ap (λ l. length (map g.A.Application.exporter l)) c.new-3.ensures.items)
     (ap (λ v. length (map g.R.Follower.follower (vec_items v))) c.begin.ensures.ends.1 ∙ ap (λ l. length (map g.R.Follower.follower l)) c.new-4.ensures.items)
     (ap (λ v. length (vec_items v)) c.begin.ensures.left.0 ∙ kits) (ap (λ v. length (vec_items v)) c.begin.ensures.left.1 ∙ spares)
+
+pub returns-clause-silent : goal.returns-clause-silent
+returns-clause-silent g c =
+    let begun = c.in_ok-begin.ensures.begins QUOTA_MOST (omega arith) (omega arith) c.new.ensures.bus c.new.ensures.posts c.new.ensures.given c.in_ok-new.ensures in
+    untold _ (begun.silent ∙ ap entries_of c.new.ensures.trace)
