@@ -28,7 +28,8 @@ use Rattle.atspi_play.specs.Played.{PlaysOut, at_rest, caused, IsPlayed, did}
 use Rattle.atspi_played.proofs.AllPieces.{pieces}
 use Rattle.atspi_played.proofs.Playing.{played_stage, is_lawful}
 use Rattle.atspi_played.proofs.PlayingStage.{ground}
-use Rattle.atspi_few_turns.specs.Laws.{count_taken, IsUnspent, PlayedTurns}
+use Rattle.atspi_play.specs.Breaking.{PlayedTurns}
+use Rattle.atspi_few_turns.specs.Laws.{count_taken, IsUnspent}
 use Rattle.atspi_few_turns.proofs.LawFew.{turns_are_few}
 use Rattle.atspi_few_turns.proofs.Turns.{TurnOf, bus_takes_, end_leaves, end_takes, turn_of, is_stopped, stopped_count, at_most, over_fewer, all_fewer, Takes, got_does, turn_does, asked_fewer, count_more}
 

@@ -13,8 +13,8 @@ use Rattle.atspi_trace.specs.Due.{is_lost, asks_at, begins, after_all, Begun}
 use Rattle.atspi_lawful.specs.order.Scripts.{CanAllStand}
 use Rattle.atspi_lawful.specs.order.Laws.{OfEachTrace}
 use Rattle.atspi_play.specs.Playing.{Playing}
-use Rattle.atspi_play.specs.Plays.{plays}
 use Rattle.atspi_play.specs.Played.{IsPlayed}
+use Rattle.atspi_play.specs.Breaking.{PlayedTurns}
 
 -- how many messages were taken, by the bus and by each end
 abbrev pub is_taking : Entry → Bool
@@ -62,11 +62,6 @@ abbrev pub NoTurnsWithoutEnd : Type 0
 NoTurnsWithoutEnd =
     (lines : List Line) (trace : List Entry) → CanAllStand lines → Begun lines trace → (n : ℕ) (es : List Entry) → Makes n (after_all (begins lines) trace).world es
     → Begun lines (trace ++ es) → AllByRecursion IsUnspent (trace ++ es) → n < 4398046511104
-
--- So many turns that are played, one behind the other: each moves the first thing that waits, and a reader that takes it does what its own definitions say
-abbrev pub PlayedTurns : ℕ → Playing → List Entry → Playing → Type 0
-PlayedTurns zero p es q = (es ≡ []) × (q ≡ p)
-PlayedTurns (suc n) p es q = (c : Cause) × (rest : List Entry) × (next_turn p.world ≡ Some c) × (es ≡ (plays p c).entries ++ rest) × PlayedTurns n (plays p c).now rest q
 
 -- So a drain ends: behind each script that is played fewer than 2^42 turns are, as long as the registry is there behind the last of them (once lost it stays lost) and no serial is spent.
 abbrev pub DrainsEnd : Type 0

@@ -1,3 +1,4 @@
 pub mod Playing
 pub mod Plays
 pub mod Played
+pub mod Breaking
