@@ -89,6 +89,7 @@ fn with_sender<'a>(m: &MessageRef<'a>, name: &'a BusName) -> MessageRef<'a>
         destination: m.destination,
         sender: Some(name.as_str()),
         body: m.body,
+        body_bytes: m.body_bytes,
     }
 }
 

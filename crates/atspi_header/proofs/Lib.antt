@@ -1,3 +1,4 @@
+pub mod Bodies
 pub mod Names
 pub mod HeaderFields
 pub mod BodyValues

@@ -6,7 +6,6 @@ use Rattle.atspi_types.specs.declared.fault.Fault.{Fault}
 use Rattle.atspi_marshal.proofs.Places.{IsBytes}
 use Rattle.atspi_message.specs.Envelope.{Envelope}
 use Rattle.atspi_message.specs.Bytes.{IsMessage}
-use Rattle.atspi_message.specs.Rules.{HasNames}
 use Rattle.atspi_message.specs.Front.{input_in, length_in, IsSoundFront}
 use Rattle.atspi_message.specs.Faults.{FirstFault}
 use Rattle.atspi_message.specs.Reading.{Found, message_at, Describes}
@@ -20,10 +19,10 @@ use Rattle.atspi_header.specs.View.{envelope_at}
 use Rattle.atspi_header.specs.Parsing.{IsReadOrTold}
 use Rattle.atspi_header.specs.declared.message.MessageRef.{MessageRef}
 
--- a message that was read has its names
-pub has_names : (bytes : List ℕ) (e : Envelope) (found : Found) (values : List Data) → IsBytes bytes → length_in (take 16 bytes) ≡ length bytes → IsSoundFront (take 16 bytes) → Describes e bytes found values
-    → message_at bytes ≡ Ok (found, values) → HasNames e
-has_names bytes e found values h long front describes is = (message_sound bytes e found values (read_laws (input_in bytes) h) h (sound_from bytes front) (whole_from bytes long) describes is).named
+-- what was read is the message
+pub is_message : (bytes : List ℕ) (e : Envelope) (found : Found) (values : List Data) → IsBytes bytes → length_in (take 16 bytes) ≡ length bytes → IsSoundFront (take 16 bytes) → Describes e bytes found values
+    → message_at bytes ≡ Ok (found, values) → IsMessage e bytes
+is_message bytes e found values h long front describes is = message_sound bytes e found values (read_laws (input_in bytes) h) h (sound_from bytes front) (whole_from bytes long) describes is
 
 -- the clauses of parse
 

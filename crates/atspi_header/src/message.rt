@@ -1,13 +1,16 @@
 //! Messages that lie in bytes.
 
 ghost use Rattle.std.specs.Prelude.{IsTrue};
+ghost use Rattle.atspi_cursor.specs.Items.{fields_data};
+ghost use Rattle.atspi_header.specs.Bodies.{IsBody};
 ghost use Rattle.atspi_header.specs.Names.{are_named};
 
 use atspi_cursor::Fields;
 use atspi_types::Order;
 
 /// A message that lies in bytes (D-Bus Specification, "Message Protocol"): the order of its bytes, the fields of its header,
-/// and the values of its body. Names are lent from the bytes, each of its rule; the values are walked where they lie.
+/// and the values of its body. Names are lent from the bytes, each of its rule; the values are walked where they lie, and their
+/// bytes are lent too.
 #[derive(Clone, Copy)]
 pub struct MessageRef<'a> {
     pub order: Order,
@@ -26,5 +29,8 @@ pub struct MessageRef<'a> {
     pub destination: Option<&'a str>,
     pub sender: Option<&'a str>,
     pub body: Fields<'a>,
+    /// The bytes of the body, up to the end of the message.
+    pub body_bytes: &'a [u8],
     ghost named: { IsTrue (are_named path interface member error destination sender) },
+    ghost lies: { ∥ IsBody order (fields_data body) body_bytes.now ∥₁ },
 }

@@ -1,12 +1,12 @@
 //! Reading messages where they lie.
 
-ghost use Rattle.std.specs.Prelude.{◌≡◌, ◌<◌, ◌≤◌, ℕ, List, Err, length, take, IfOk, IfErr, IsOkAnd, IsErrOf, if◌then◌else◌};
+ghost use Rattle.std.specs.Prelude.{◌≡◌, ◌<◌, ◌≤◌, ℕ, List, Err, length, take, drop, IfOk, IfErr, IsOkAnd, IsErrOf, if◌then◌else◌};
 ghost use Rattle.atspi_types.specs.Kinds.{kinds_of};
 ghost use Rattle.atspi_codes.specs.TyRefs.{refs_kinds};
 ghost use Rattle.atspi_cursor.specs.Items.{fields_data};
 ghost use Rattle.atspi_message.specs.Envelope.{Envelope};
 ghost use Rattle.atspi_message.specs.Bytes.{IsMessage};
-ghost use Rattle.atspi_message.specs.Front.{order_by, type_in, fields_end_in, length_in, IsSoundFront};
+ghost use Rattle.atspi_message.specs.Front.{order_by, type_in, fields_end_in, body_place_in, length_in, IsSoundFront};
 ghost use Rattle.atspi_message.specs.Faults.{FirstFault};
 ghost use Rattle.atspi_message.specs.Reading.{has_required, rest_at, values_at, missing_at};
 ghost use Rattle.atspi_header.specs.View.{found_in, envelope_at, Reads};
@@ -106,6 +106,16 @@ fn body<'a>(bytes: &'a [u8], header: &Header<'a>) -> Result<Fields<'a>, Fault>
     }
 }
 
+/// The bytes of the body, behind its padding.
+fn body_bytes(bytes: &[u8]) -> &[u8]
+    requires { (16 ≤ length bytes.now) × (body_place_in bytes.now ≤ length bytes.now) × (length bytes.now ≤ 134217728) }
+    ensures { result.now ≡ drop (body_place_in bytes.now) bytes.now }
+{
+    let end = fields_end(bytes);
+    let place = end + (8 - end % 8) % 8;
+    &bytes[place..]
+}
+
 /// The message that the bytes are.
 #[tactic(auto, unfolding(atspi_message::specs::Reading::message_at, atspi_message::specs::Reading::ended_at))]
 fn read<'a>(bytes: &'a [u8]) -> Result<MessageRef<'a>, Fault>
@@ -136,6 +146,7 @@ fn read<'a>(bytes: &'a [u8]) -> Result<MessageRef<'a>, Fault>
         destination: header.destination,
         sender: header.sender,
         body,
+        body_bytes: body_bytes(bytes),
     })
 }
 

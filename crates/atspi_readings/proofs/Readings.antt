@@ -1,12 +1,15 @@
 -- Bytes are an item or a fault, and what is written is read.
-use Rattle.std.proofs.Common.{◌≡◌, ℕ, ◌<◌, ◌≤◌, List, length, take, Result, Ok, Err, refl, sym, ap, subst, ◌∙◌, arith, ◌⊎◌, inl, inr}
-use Rattle.atspi_types.specs.Kinds.{Kind, IsLawful}
-use Rattle.atspi_types.specs.Data.{Data}
+use Rattle.std.proofs.Common.{◌≡◌, ℕ, ◌<◌, ◌≤◌, List, ◌++◌, length, Result, Ok, Err, refl, sym, ap, subst, ◌∙◌, arith, ◌⊎◌, inl, inr}
+use Rattle.std.specs.Int.{w32}
+use Rattle.atspi_types.specs.Kinds.{Kind, array, IsLawful}
+use Rattle.atspi_types.specs.Data.{Data, array_data, items_of, types_of}
 use Rattle.atspi_types.specs.declared.fault.Order.{Order}
+use Rattle.atspi_types.specs.declared.fault.Order.TheVariants.{Little, Big}
 use Rattle.atspi_types.specs.declared.fault.Fault.{Fault}
 use Rattle.atspi_types.specs.SignatureFaults.{Before}
-use Rattle.atspi_marshal.specs.Input.{whole, to_end}
-use Rattle.atspi_marshal.specs.Faults.{Wrong, FaultAt}
+use Rattle.atspi_marshal.specs.Input.{whole, to_end, number_bytes}
+use Rattle.atspi_marshal.specs.Spelling.{padding, spelling}
+use Rattle.atspi_marshal.specs.Faults.{FaultAt}
 use Rattle.atspi_marshal.specs.Reading.{decoded}
 use Rattle.atspi_marshal.proofs.Places.{IsBytes, IsValid, ok_is}
 use Rattle.atspi_marshal.proofs.Sound.{IsSound-read}
@@ -15,13 +18,14 @@ use Rattle.atspi_marshal.proofs.There.{IsThere-read}
 use Rattle.atspi_marshal.proofs.Least.{IsLeast-read}
 use Rattle.atspi_message.specs.Envelope.{Envelope}
 use Rattle.atspi_message.specs.Rules.{MeetsRules, HasNames}
-use Rattle.atspi_message.specs.Bytes.{FitsWire, IsMessage, rising_fields, written}
+use Rattle.atspi_message.specs.Bytes.{FitsWire, IsMessage, field_kind, field_items, order_byte, body_place, body_bytes, header_bytes, spelled_with, rising_fields, written}
 use Rattle.atspi_message.specs.Laws.{HasOneMessage, HasOneFault as one_fault}
 use Rattle.atspi_message.proofs.ParsingLaws.{both_before}
 use Rattle.atspi_message.proofs.FrontLaws.{same_length, sound_to}
 use Rattle.atspi_message.proofs.IsSpelled.{front_is}
 use Rattle.atspi_message.proofs.OneReading.{one_reading}
 use Rattle.atspi_message.proofs.Rising.{written_is}
+use Rattle.atspi_readings.proofs.SpelledBytes.{AreBytes, both, each_below, padding_are, number_are, spelled_bytes, fields_bytes}
 use Rattle.atspi_readings.specs.Readings.{IsValue, IsFaulty, HasOneValue, HasOneFault, IsAskedFor, IsReadBack}
 
 abbrev Reading : Type 0
@@ -86,11 +90,30 @@ asked_for e bytes m =
     let f = front_is bytes e m.fields m.meets m.fits m.spelled in
     record { sound = sound_to bytes f.sound; length = same_length bytes ∙ f.whole.whole }
 
-pub read_back : (e : Envelope) → MeetsRules e → HasNames e → FitsWire e (rising_fields e) → IsBytes (written e) → IsReadBack e (written e)
-read_back e meets named fits h =
+order_small : (o : Order) → order_byte o < 256
+order_small Little = omega arith
+order_small Big = omega arith
+
+-- what is written are bytes
+written_bytes : (e : Envelope) → FitsWire e (rising_fields e) → AreBytes (written e)
+unfolding spelled_with header_bytes body_bytes
+written_bytes e fits =
+    let o = e.order in
+    let body = body_bytes e (rising_fields e) in
+    let header = header_bytes e (rising_fields e) in
+    let pad = padding 8 (length header) in
+    let fields = spelling o 12 (array_data field_kind (field_items (rising_fields e))) in
+    let count = number_bytes o w32 (length body) in
+    let serial = number_bytes o w32 e.serial in
+    let numbers = both count (serial ++ fields) (number_are o w32 (length body)) (both serial fields (number_are o w32 e.serial) (spelled_bytes o 64 12 (array_data field_kind (field_items (rising_fields e))) (array field_kind) fits.fields)) in
+    let front : AreBytes header = (order_small o, (fits.kind, (fits.flags, (omega arith, numbers)))) in
+    both header (pad ++ body) front (both pad body (padding_are 8 (length header)) (fields_bytes o 64 (body_place o (rising_fields e)) (items_of e.body) (types_of (items_of e.body)) fits.body))
+
+pub read_back : (e : Envelope) → MeetsRules e → HasNames e → FitsWire e (rising_fields e) → IsReadBack e (written e)
+read_back e meets named fits =
     let m = written_is e meets named fits in
     let a = asked_for e (written e) m in
-    record { asked = a; message = m; one = by m (one_reading (written e) h a.length) }
+    record { asked = a; message = m; one = by m (one_reading (written e) (each_below (written e) (written_bytes e fits)) a.length) }
   where
     by : IsMessage e (written e) → HasOneMessage (written e) ⊎ one_fault (written e) → (d : Envelope) → IsMessage d (written e) → d ≡ e
     by m (inl one) d is = one.one d is ∙ sym (one.one e m)

@@ -1,10 +1,11 @@
 -- What any bytes are read as (D-Bus Specification, "Marshaling (Wire Format)" and "Message Format").
-use Rattle.std.specs.Prelude.{◌≡◌, ◌⊎◌, ◌<◌, ◌≤◌, ℕ, List, length, take, slice_index}
-use Rattle.atspi_types.specs.Kinds.{Kind, IsLawful}
-use Rattle.atspi_types.specs.Data.{Data}
+use Rattle.std.specs.Prelude.{◌≡◌, ◌⊎◌, ◌<◌, ◌≤◌, ◌%◌, ℕ, List, length, take, slice_index}
+use Rattle.atspi_types.specs.Kinds.{Kind, Kinds, IsLawful}
+use Rattle.atspi_types.specs.Data.{Data, Items}
 use Rattle.atspi_types.specs.declared.fault.Order.{Order}
 use Rattle.atspi_marshal.specs.Input.{whole, to_end}
 use Rattle.atspi_marshal.specs.Faults.{IsItem, Wrong, FaultAt}
+use Rattle.atspi_marshal.specs.Spelling.{spellings, FieldsFit}
 use Rattle.atspi_message.specs.Envelope.{Envelope}
 use Rattle.atspi_message.specs.Rules.{MeetsRules, HasNames}
 use Rattle.atspi_message.specs.Bytes.{FitsWire, IsMessage, rising_fields, written}
@@ -52,4 +53,16 @@ pub record IsReadBack (e : Envelope) (bytes : List ℕ) : Type 0 where
   pub one : (d : Envelope) → IsMessage d bytes → d ≡ e
 
 abbrev pub WhatIsWrittenIsRead : Type 0
-WhatIsWrittenIsRead = (e : Envelope) → MeetsRules e → HasNames e → FitsWire e (rising_fields e) → ((i : ℕ) → slice_index (written e) i < 256) → IsReadBack e (written e)
+WhatIsWrittenIsRead = (e : Envelope) → MeetsRules e → HasNames e → FitsWire e (rising_fields e) → IsReadBack e (written e)
+
+-- two places are as far behind a multiple of 8
+abbrev pub StandAlike : ℕ → ℕ → Type 0
+StandAlike a b = a % 8 ≡ b % 8
+
+-- At such places values have the same spelling, and the same are within the limits.
+pub record AreSpelledAlike (o : Order) (a b : ℕ) (ds : Items) : Type 0 where
+  pub same : spellings o a ds ≡ spellings o b ds
+  pub fits : (levels : ℕ) (ks : Kinds) → FieldsFit o levels a ds ks → FieldsFit o levels b ds ks
+
+abbrev pub PlacesCountByEights : Type 0
+PlacesCountByEights = (o : Order) (a b : ℕ) (ds : Items) → StandAlike a b → AreSpelledAlike o a b ds

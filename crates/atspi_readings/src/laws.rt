@@ -1,6 +1,6 @@
 //! Laws of readings (D-Bus Specification, "Marshaling (Wire Format)" and "Message Format").
 
-ghost use Rattle.atspi_readings.specs.Readings.{ValuesHaveOneReading, MessagesAreAskedFor, WhatIsWrittenIsRead};
+ghost use Rattle.atspi_readings.specs.Readings.{ValuesHaveOneReading, MessagesAreAskedFor, WhatIsWrittenIsRead, PlacesCountByEights};
 
 /// At any place in any bytes exactly one item of a type is spelled, or exactly one fault is the first, and never both. So what
 /// `decode` answers is told by the bytes alone, but for want of memory.
@@ -17,4 +17,10 @@ pub fn messages_are_asked_for()
 /// back.
 pub fn what_is_written_is_read()
     ensures { WhatIsWrittenIsRead }
+{}
+
+/// How values are spelled depends on the place where they begin only modulo 8, the greatest alignment: bytes that spell values at a
+/// multiple of 8 spell them at each other one.
+pub fn places_count_by_eights()
+    ensures { PlacesCountByEights }
 {}

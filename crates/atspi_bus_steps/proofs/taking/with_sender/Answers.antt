@@ -9,4 +9,4 @@ invariant_of-result c =
     let m = c.args.m.now in
     let n = each_named m.path m.interface m.member m.error m.destination m.sender m.named in
     let name = is_bus_name-from_IsBusName c.as_str.result.now (subst IsBusName (sym c.as_str.ensures.bytes) c.as_str.ensures.rule) in
-    record { named = rw (n.path, n.interface, n.member, n.error, n.destination, name) refl }
+    record { named = rw (n.path, n.interface, n.member, n.error, n.destination, name) refl; lies = m.lies }

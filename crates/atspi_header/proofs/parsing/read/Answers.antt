@@ -1,4 +1,5 @@
-use Rattle.std.proofs.Common.{ap, ◌∙◌, refl, arith}
+use Rattle.std.proofs.Common.{ap, subst, sym, ◌∙◌, refl, arith, List, ℕ}
+use Rattle.std.proofs.lemmas.Grind.{merely}
 use Rattle.std.specs.Prelude.{slice_index}
 use Rattle.std.specs.Int.{w32}
 use Rattle.atspi_types.specs.declared.fault.Order.{Order}
@@ -6,11 +7,16 @@ use Rattle.atspi_marshal.specs.Input.{whole, number_in}
 use Rattle.atspi_cursor.specs.Items.{fields_data}
 use Rattle.atspi_message.specs.Envelope.{Envelope}
 use Rattle.atspi_message.specs.Reading.{Describes}
-use Rattle.atspi_message.proofs.ParsingLaws.{made_from}
+use Rattle.atspi_message.proofs.ParsingLaws.{made_from, whole_from}
 use Rattle.atspi_header.specs.View.{bytes_of, found_in}
+use Rattle.atspi_header.specs.Bodies.{IsBody}
+use Rattle.atspi_header.proofs.Bodies.{body_lies}
 use Rattle.atspi_header.proofs.Names.{named_from}
-use Rattle.atspi_header.proofs.ParsingLaws.{has_names}
+use Rattle.atspi_header.proofs.ParsingLaws.{is_message}
 use Rattle.atspi_header.proofs.parsing.read.Goals as goal
+
+pub body_bytes-requires : goal.body_bytes-requires
+body_bytes-requires c = (let w = whole_from c.args.bytes.now c.requires.length in (omega (arith, w.long), omega (arith, w.whole), omega (arith, c.requires.length, c.requires.sound.short)))
 
 pub invariant_of-result : goal.invariant_of-result
 invariant_of-result c =
@@ -50,8 +56,11 @@ invariant_of-result c =
     }
     in
     let read = made_from bytes c.order_of.result c.fields_end.result (found_in h) values c.order_of.ensures c.fields_end.ensures c.in_ok-header.ensures c.in_ok-body.ensures in
-    let names = has_names bytes e (found_in h) values (λ i. omega (arith, c.type_inv.bytes i)) c.requires.length c.requires.sound describes read in
-    record { named = named_from h.path h.interface h.member h.error h.destination h.sender e names refl refl refl refl refl refl }
+    let is = is_message bytes e (found_in h) values (λ i. omega (arith, c.type_inv.bytes i)) c.requires.length c.requires.sound describes read in
+    record {
+      named = named_from h.path h.interface h.member h.error h.destination h.sender e is.named refl refl refl refl refl refl;
+      lies = merely (subst (λ (bs : List ℕ). IsBody e.order values bs) (sym c.body_bytes.ensures) (body_lies bytes e is));
+    }
 
 pub returns : goal.returns
 returns c = record {
