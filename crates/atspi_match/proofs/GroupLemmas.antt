@@ -1,10 +1,10 @@
--- A rule that matches a message stands in a group that the message's own values name.
-use Rattle.std.proofs.Common.{◌≡◌, ℕ, Bool, true, false, cond, List, [], ◌∷◌, ◌++◌, Option, None, Some, refl, sym, ap, ◌∙◌, subst, ⊎_elim}
+-- A rule that matches a message stands in a group that the message's own values name, whichever of its groups that is.
+use Rattle.std.proofs.Common.{◌≡◌, ℕ, Bool, true, false, cond, List, [], ◌∷◌, ◌++◌, Option, None, Some, refl, sym, ap, ◌∙◌, subst, inl, inr, ⊎_elim}
 use Rattle.std.specs.Prelude.{◌==◌, IsSomeAnd, option_to_list, encode_utf8_all}
-use Rattle.std.specs.List.{Contains, fold}
-use Rattle.std.specs.Option.{option_map, unwrap_or}
+use Rattle.std.specs.List.{Contains}
+use Rattle.std.specs.Option.{option_map}
 use Rattle.std.proofs.lemmas.Bool.Decides.{Decides-eqb}
-use Rattle.std.proofs.lemmas.List.Elements.{All-head, All-tail, Contains-append_left, Contains-append_right, Contains-push}
+use Rattle.std.proofs.lemmas.List.Elements.{All-contains, Contains-append_left, Contains-append_right, Contains-push}
 use Rattle.atspi_types.specs.Names.{is_unique_name}
 use Rattle.atspi_message.specs.Envelope.{Envelope}
 use Rattle.atspi_names.specs.Owners.{Owners}
@@ -13,10 +13,16 @@ use Rattle.atspi_match.specs.declared.condition.Condition.TheVariants.{Kind, Sen
 use Rattle.atspi_match.specs.declared.group.GroupKey.{GroupKey}
 use Rattle.atspi_match.specs.declared.group.GroupKey.TheVariants.{BySender, ByInterface, ByMember, ByPath, ByArg0}
 use Rattle.atspi_match.specs.Matching.{Holds, GoesBy, Matches, text_argument}
-use Rattle.atspi_match.specs.Groups.{Asked, asked, value_at, mark, mark_of, narrowed, group_of, marked, groups_of}
+use Rattle.atspi_match.specs.Groups.{Asked, asked, value_at, mark, mark_of, IsOwn, marked, groups_of}
 
 no_value : {v : Asked} → None ≡ Some v → ⊥
 no_value e = cc
+
+no_number : {n : ℕ} → None ≡ Some n → ⊥
+no_number e = cc
+
+one_number : {m n : ℕ} → Some m ≡ Some n → m ≡ n
+one_number e = cc
 
 one_value : {a v : Asked} → Some a ≡ Some v → a ≡ v
 one_value e = cc
@@ -91,14 +97,14 @@ none_in e =
     (Contains-append_left ((0 ∷ []) ++ marked e BySender) (marked e ByInterface) 0
     (Contains-append_left (0 ∷ []) (marked e BySender) 0 (Contains-push [] 0)))))
 
-narrowed_in : (e : Envelope) (owners : Owners) (rule : List Condition) (n : ℕ) → Contains (groups_of e) n → Matches rule e owners → Contains (groups_of e) (fold narrowed n rule)
-narrowed_in e owners [] n h m = h
-narrowed_in e owners (c ∷ rule) n h m =
-    narrowed_in e owners rule (narrowed n c) (at (asked c) refl) (All-tail (Holds e owners) c rule m)
+-- each group in which a rule may stand
+pub group_in : (e : Envelope) (owners : Owners) (rule : List Condition) (n : ℕ) → IsOwn rule n → Matches rule e owners → Contains (groups_of e) n
+group_in e owners rule n (inl h) m = at (asked h.0) refl h.2
   where
-    at : (o : Option Asked) → asked c ≡ o → Contains (groups_of e) (unwrap_or (option_map mark_of o) n)
-    at None is = h
-    at (Some v) is = in_groups e v.0 v.1 (asked-met e owners c v (All-head (Holds e owners) c rule m) is)
+    met : Holds e owners h.0
+    met = All-contains (Holds e owners) rule h.0 m h.1
 
-pub group_in : (e : Envelope) (owners : Owners) (rule : List Condition) → Matches rule e owners → Contains (groups_of e) (group_of rule)
-group_in e owners rule m = narrowed_in e owners rule 0 (none_in e) m
+    at : (o : Option Asked) → asked h.0 ≡ o → option_map mark_of o ≡ Some n → Contains (groups_of e) n
+    at None is num = absurd (no_number num)
+    at (Some v) is num = subst (λ k. Contains (groups_of e) k) (one_number num) (in_groups e v.0 v.1 (asked-met e owners h.0 v met is))
+group_in e owners rule n (inr none) m = subst (λ k. Contains (groups_of e) k) (sym none.0) (none_in e)

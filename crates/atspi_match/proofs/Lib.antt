@@ -19,6 +19,7 @@ pub mod ValueLemmas
 pub mod WordLemmas
 pub mod GroupLemmas
 pub mod NearLemmas
+pub mod NarrowLemmas
 pub mod NotedLemmas
 pub mod SlotLemmas
 pub mod IndexedLemmas

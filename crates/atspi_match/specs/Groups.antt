@@ -1,8 +1,8 @@
 -- The groups of match rules. A condition on a unique sender, the interface, the member, the path or the first argument is met only by a message that
--- has the very value. So a rule is kept by the last value that it asks for at these keys, which tells most, and a message looks up its own.
-use Rattle.std.specs.Prelude.{◌≡◌, ℕ, ◌+◌, ◌*◌, ◌%◌, ◌^◌, ◌==◌, List, [], ◌∷◌, ◌++◌, take, Option, None, Some, option_to_list, encode_utf8_all, if◌then◌else◌}
+-- has the very value. So a rule is kept by one of the values that it asks for at these keys, and a message looks up its own.
+use Rattle.std.specs.Prelude.{◌≡◌, ◌⊎◌, ℕ, ◌+◌, ◌*◌, ◌%◌, ◌^◌, ◌==◌, List, [], ◌∷◌, ◌++◌, take, Contains, Option, None, Some, option_to_list, encode_utf8_all, if◌then◌else◌}
 use Rattle.std.specs.List.{fold}
-use Rattle.std.specs.Option.{option_map, unwrap_or}
+use Rattle.std.specs.Option.{option_map}
 use Rattle.atspi_types.specs.Names.{is_unique_name}
 use Rattle.atspi_message.specs.Envelope.{Envelope}
 use Rattle.atspi_match.specs.declared.condition.Condition.{Condition}
@@ -54,12 +54,13 @@ mark k value = fold mixed (seed k) (take 255 value)
 abbrev pub mark_of : Asked → ℕ
 mark_of v = mark v.0 v.1
 
--- the group of a rule: the number of the last value that it asks for, and 0 where it asks for none
-abbrev pub narrowed : ℕ → Condition → ℕ
-narrowed n c = unwrap_or (option_map mark_of (asked c)) n
+-- the number of a value that a rule asks for
+abbrev pub IsAsked : List Condition → ℕ → Type 0
+IsAsked rule n = (c : Condition) × Contains rule c × (option_map mark_of (asked c) ≡ Some n)
 
-abbrev pub group_of : List Condition → ℕ
-group_of rule = fold narrowed 0 rule
+-- the groups in which a rule may stand: those of the values that it asks for, and 0 where it asks for none
+abbrev pub IsOwn : List Condition → ℕ → Type 0
+IsOwn rule n = IsAsked rule n ⊎ ((n ≡ 0) × ((m : ℕ) → ¬ IsAsked rule m))
 
 -- the groups of a message: that of the rules that ask for no value, and those of its own values
 abbrev pub marked : Envelope → GroupKey → List ℕ

@@ -4,15 +4,23 @@ use Rattle.std.specs.Ordering.{nat_cmp}
 use Rattle.std.specs.BTreeMap as tree
 use Rattle.std.specs.BTreeMap.{BTreeMap, is_at}
 use Rattle.std.specs.BTreeSet as set
-use Rattle.std.specs.BTreeSet.{BTreeSet}
+use Rattle.atspi_match.specs.declared.rule_groups.Group.{Group}
 
 abbrev pub Sets : Type 0
-Sets = BTreeMap ℕ (BTreeSet ℕ)
+Sets = BTreeMap ℕ Group
 
 -- the rules of one group have the one at this place
-abbrev pub has_place : Option (BTreeSet ℕ) → ℕ → Bool
+abbrev pub has_place : Option Group → ℕ → Bool
 has_place None place = false
-has_place (Some places) place = set.contains nat_cmp places place
+has_place (Some group) place = set.contains nat_cmp group.places place
+
+-- how many rules were counted that ask for the value of a group, wherever they stand: none before a rule stood there
+abbrev pub askers_of : Option Group → ℕ
+askers_of None = 0
+askers_of (Some group) = group.askers
+
+abbrev pub askers_in : Sets → ℕ → ℕ
+askers_in sets group = askers_of (tree.get nat_cmp sets group)
 
 -- a rule stands in a group
 abbrev pub notes : Sets → ℕ → ℕ → Bool

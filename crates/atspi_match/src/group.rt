@@ -1,4 +1,4 @@
-//! The groups of match rules. A rule stands in the group of the last value that it asks for, and a message looks into those groups alone that
+//! The groups of match rules. A rule stands in the group of one of the values that it asks for, and a message looks into those groups alone that
 //! its own values name.
 
 ghost use Rattle.std.specs.Prelude.{◌≡◌, ◌++◌, take, IfOk, OnOk, option_copied, option_to_list};
@@ -93,7 +93,7 @@ fn field_mark(key: GroupKey, field: Option<&str>) -> Option<u64>
 }
 
 /// The number of the value that a condition asks for, if only the very value meets it.
-fn asked(condition: &Condition) -> Option<u64>
+pub fn asked(condition: &Condition) -> Option<u64>
     ensures { result ≡ option_map mark_of (groups.asked condition.now) }
 {
     match condition {
@@ -120,17 +120,6 @@ fn asked(condition: &Condition) -> Option<u64>
     }
 }
 
-/// The group of a rule.
-pub fn group_of(conditions: &[Condition]) -> u64
-    ensures { result ≡ groups.group_of conditions.now }
-{
-    let mut group = 0;
-    for condition in conditions {
-        group = asked(condition).unwrap_or(group);
-    }
-    group
-}
-
 /// Appends a group, if there is one.
 fn put(groups: &mut Vec<u64>, mark: Option<u64>) -> Result<(), NoMemory>
     ensures { OnOk result (groups.new.items ≡ groups.old.items ++ option_to_list mark) }
@@ -145,7 +134,7 @@ fn put(groups: &mut Vec<u64>, mark: Option<u64>) -> Result<(), NoMemory>
 pub fn groups_of(alloc: Global, m: &MessageRef) -> Result<Vec<u64>, NoMemory>
     ensures { IfOk result (λ found. found.items ≡ groups.groups_of (envelope_at m.now)) }
 {
-    let mut groups = Vec::new(alloc);
+    let mut groups = Vec::with_capacity(alloc, 6)?;
     groups.push(0)?;
     put(&mut groups, field_mark(GroupKey::BySender, m.sender))?;
     put(&mut groups, field_mark(GroupKey::ByInterface, m.interface))?;

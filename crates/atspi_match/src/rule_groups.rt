@@ -1,27 +1,37 @@
-//! The groups in which the rules of a bus stand: a message looks into those alone that its own values name.
+//! The groups in which the rules of a bus stand: a message looks into those alone that its own values name. A rule stands in that group, of all
+//! values that it asks for, for whose value the fewest rules ask, so that rules with many values in common stand by one in which they differ.
 
-ghost use Rattle.std.specs.Prelude.{◌≡◌, ◌≢◌, ◌++◌, ℕ, List, true, false, Some, Contains, IfOk, OnOk, OnErr};
+ghost use Rattle.std.specs.Prelude.{◌≡◌, ◌≢◌, ◌≤◌, ◌++◌, ℕ, List, true, false, Some, Contains, IfOk, OnOk, OnErr};
 ghost use Rattle.std.specs.Option.{option_copied};
 ghost use Rattle.std.specs.Ordering.{nat_cmp};
 ghost use Rattle.std.specs.BTreeMap.{Updates, IsUnchanged};
 ghost use Rattle.atspi_header.specs.View.{envelope_at};
 ghost use Rattle.atspi_names.specs.Owners.{Owners};
 ghost use Rattle.atspi_match.specs.declared.condition.Condition.{Condition};
+ghost use Rattle.atspi_match.specs.Groups.{IsOwn};
 ghost use Rattle.atspi_match.specs.Matching.{Matches};
-ghost use Rattle.atspi_match.specs.Noted.{notes, has_place, SetsNote, SameNotes};
-ghost use Rattle.atspi_match.specs.RuleGroups.{IsNoted, Stays};
+ghost use Rattle.atspi_match.specs.Noted.{notes, has_place, askers_in, SetsNote, SameNotes};
+ghost use Rattle.atspi_match.specs.RuleGroups.{IsNarrowest, IsNoted, Stays};
 
-use crate::Rule;
-use crate::group::{group_of, groups_of};
+use crate::group::{asked, groups_of};
+use crate::{Condition, Rule};
 use atspi_base::NoMemory;
 use atspi_header::MessageRef;
 use std::alloc::Global;
 use std::collections::{BTreeMap, BTreeSet};
 
-/// The groups in which rules stand, each rule by its place.
+/// The rules that stand in a group, each by its place.
+#[derive(Drop)]
+pub struct Group {
+    places: BTreeSet<usize>,
+    /// How many rules were noted that ask for its value, wherever they stand, since it is there. One that is forgotten is counted still.
+    askers: usize,
+}
+
+/// The groups in which rules stand.
 #[derive(Drop)]
 pub struct RuleGroups {
-    sets: BTreeMap<u64, BTreeSet<usize>>,
+    sets: BTreeMap<u64, Group>,
 }
 
 impl RuleGroups {
@@ -32,60 +42,115 @@ impl RuleGroups {
         }
     }
 
-    /// The rules of a group.
-    fn get(&self, group: u64) -> Option<&BTreeSet<usize>>
-        ensures { (q : ℕ) → has_place (option_copied result) q ≡ notes self.now.sets group q }
+    /// A group, if a rule stood there.
+    fn get(&self, number: u64) -> Option<&Group>
+        ensures { (q : ℕ) → has_place (option_copied result) q ≡ notes self.now.sets number q }
     {
-        self.sets.get(&group)
+        self.sets.get(&number)
+    }
+
+    /// How many rules ask for the value of a group, as far as they were counted.
+    fn askers(&self, number: u64) -> usize
+        ensures { result ≡ askers_in self.now.sets number }
+    {
+        match self.sets.get(&number) {
+            Some(group) => group.askers,
+            None => 0,
+        }
+    }
+
+    /// The group of a rule for whose value the fewest rules ask, the last of those that are equal.
+    fn narrowest(&self, conditions: &[Condition]) -> u64
+        ensures { IsNarrowest self.now.sets conditions.now result }
+    {
+        let mut narrowest = 0;
+        let mut fewest = usize::MAX;
+        for condition in conditions {
+            if let Some(number) = asked(condition) {
+                let askers = self.askers(number);
+                if askers <= fewest {
+                    narrowest = number;
+                    fewest = askers;
+                }
+            }
+        }
+        narrowest
+    }
+
+    /// Counts a rule more that asks for the value of a group, if the group is there.
+    fn count(&mut self, number: u64)
+        ensures { SameNotes self.old.sets self.new.sets }
+    {
+        if let Some(group) = self.sets.get_mut(&number) {
+            group.askers = group.askers.saturating_add(1);
+        }
+    }
+
+    /// Counts a rule more.
+    fn count_all(&mut self, conditions: &[Condition])
+        ensures { SameNotes self.old.sets self.new.sets }
+    {
+        for condition in conditions {
+            if let Some(number) = asked(condition) {
+                self.count(number);
+            }
+        }
     }
 
     /// Notes that a rule stands in a group. After want of memory nothing is noted.
-    fn put_in(&mut self, alloc: Global, group: u64, place: usize) -> Result<(), NoMemory>
-        ensures ok { OnOk result (SetsNote self.old.sets self.new.sets group place true) }
+    fn put_in(&mut self, alloc: Global, number: u64, place: usize) -> Result<(), NoMemory>
+        ensures ok { OnOk result (SetsNote self.old.sets self.new.sets number place true) }
         ensures err { OnErr result (SameNotes self.old.sets self.new.sets) }
     {
-        if let Some(places) = self.sets.get_mut(&group) {
-            places.insert(place)?;
+        if let Some(group) = self.sets.get_mut(&number) {
+            group.places.insert(place)?;
             return Ok(());
         }
         let mut places = BTreeSet::new(alloc);
         places.insert(place)?;
-        put(&mut self.sets, group, places)
+        put(&mut self.sets, number, Group { places, askers: 1 })
     }
 
     /// Forgets that a rule stands in a group.
-    fn take_out(&mut self, group: u64, place: usize)
-        ensures { SetsNote self.old.sets self.new.sets group place false }
+    fn take_out(&mut self, number: u64, place: usize)
+        ensures { SetsNote self.old.sets self.new.sets number place false }
     {
-        if let Some(places) = self.sets.get_mut(&group) {
-            places.remove(&place);
+        if let Some(group) = self.sets.get_mut(&number) {
+            group.places.remove(&place);
         }
     }
 
     /// Notes the rule at a place. What stood elsewhere stands there still.
     pub fn note(&mut self, alloc: Global, rule: &Rule, place: usize) -> Result<(), NoMemory>
+        ensures narrowest { OnOk result ((number : ℕ) × IsNarrowest self.old.sets rule.now number × SetsNote self.old.sets self.new.sets number place true) }
         ensures noted { OnOk result (IsNoted self.new rule.now place) }
         ensures stays { Stays self.old self.new }
     {
-        let group = group_of(rule.conditions());
-        self.put_in(alloc, group, place)
+        let number = self.narrowest(rule.conditions());
+        self.count_all(rule.conditions());
+        self.put_in(alloc, number, place)
     }
 
-    /// Forgets the rule at a place.
+    /// Forgets the rule at a place, in whichever of its groups it stands.
     pub fn forget(&mut self, rule: &Rule, place: usize)
-        ensures { (other : List Condition) (q : ℕ) → q ≢ place → IsNoted self.old other q → IsNoted self.new other q }
+        ensures gone { (number : ℕ) → IsOwn rule.now number → notes self.new.sets number place ≡ false }
+        ensures others { (other : List Condition) (q : ℕ) → q ≢ place → IsNoted self.old other q → IsNoted self.new other q }
     {
-        let group = group_of(rule.conditions());
-        self.take_out(group, place);
+        self.take_out(0, place);
+        for condition in rule.conditions() {
+            if let Some(number) = asked(condition) {
+                self.take_out(number, place);
+            }
+        }
     }
 
     /// Appends the places of one group.
-    fn add_group(&self, group: u64, places: &mut Vec<usize>) -> Result<(), NoMemory>
-        ensures all { OnOk result ((q : ℕ) → notes self.now.sets group q ≡ true → Contains places.new.items q) }
+    fn add_group(&self, number: u64, places: &mut Vec<usize>) -> Result<(), NoMemory>
+        ensures all { OnOk result ((q : ℕ) → notes self.now.sets number q ≡ true → Contains places.new.items q) }
         ensures stays { OnOk result ((q : ℕ) → Contains places.old.items q → Contains places.new.items q) }
     {
-        match self.get(group) {
-            Some(set) => append_places(set, places),
+        match self.get(number) {
+            Some(group) => append_places(&group.places, places),
             None => Ok(()),
         }
     }
@@ -97,23 +162,19 @@ impl RuleGroups {
     {
         let groups = groups_of(alloc, m)?;
         let mut places = Vec::new(alloc);
-        for group in &groups {
-            self.add_group(*group, &mut places)?;
+        for number in &groups {
+            self.add_group(*number, &mut places)?;
         }
         Ok(places)
     }
 }
 
-/// Puts the first rules of a group. After want of memory there are none.
-fn put(
-    sets: &mut BTreeMap<u64, BTreeSet<usize>>,
-    group: u64,
-    places: BTreeSet<usize>,
-) -> Result<(), NoMemory>
-    ensures ok { OnOk result (Updates nat_cmp sets.old sets.new group (Some places)) }
+/// Puts a group with its first rule. After want of memory there is none.
+fn put(sets: &mut BTreeMap<u64, Group>, number: u64, group: Group) -> Result<(), NoMemory>
+    ensures ok { OnOk result (Updates nat_cmp sets.old sets.new number (Some group)) }
     ensures err { OnErr result (IsUnchanged sets.old sets.new) }
 {
-    sets.insert(group, places)?;
+    sets.insert(number, group)?;
     Ok(())
 }
 
@@ -121,6 +182,7 @@ fn put(
 fn append_places(set: &BTreeSet<usize>, places: &mut Vec<usize>) -> Result<(), NoMemory>
     ensures { OnOk result (places.new.items ≡ places.old.items ++ set.now.keys) }
 {
+    places.reserve(set.len())?;
     for place in set {
         places.push(*place)?;
     }

@@ -175,7 +175,7 @@ pub fn receiving(
         ↔ Receives (chosen slots.now places.now) (envelope_at m.now) names.now conn) }
     ensures steps { (steps.old ≤ steps.new) × (steps.new ≤ steps.old + nearby (envelope_at m.now) (chosen slots.now places.now)) }
 {
-    let mut found = Vec::new(alloc);
+    let mut found = Vec::with_capacity(alloc, places.len())?;
     for place in places {
         let conn = heard_at(slots, *place, m, names, steps);
         put(&mut found, conn)?;

@@ -11,4 +11,4 @@ loop-place-preserved c =
 pub returns : goal.returns
 returns c =
     sym (append-nil c.loop-place.places.items) ∙ ap (λ l. c.loop-place.places.items ++ l) (sym c.in-None.ensures.steps.0) ∙ c.loop-place.invariant
-    ∙ ap (λ l. c.args.places.now.items ++ l) c.into_iter-place-iterator.ensures.into_iter_gives.0
+    ∙ ap (λ l. c.reserve.new.self.items ++ l) c.into_iter-place-iterator.ensures.into_iter_gives.0 ∙ ap (λ l. l ++ c.args.set.now.keys) c.in_ok-reserve.ensures.items

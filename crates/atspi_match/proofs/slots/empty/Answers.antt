@@ -12,4 +12,4 @@ returns-in-None-clause-noted c =
 pub returns-in-Some-clause-noted : goal.returns-in-Some-clause-noted
 returns-in-Some-clause-noted c =
     subst (λ o. AreNoted c.forget.new.self (set c.args.slots.now.items c.args.place o)) (sym c.replace.ensures.after)
-    (noted-emptied c.args.groups.now c.forget.new.self c.args.slots.now.items c.args.place c.requires.place c.requires.noted c.forget.ensures)
+    (noted-emptied c.args.groups.now c.forget.new.self c.args.slots.now.items c.args.place c.requires.place c.requires.noted c.forget.ensures.others)

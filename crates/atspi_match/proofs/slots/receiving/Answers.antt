@@ -10,7 +10,7 @@ use Rattle.atspi_match.proofs.slots.receiving.Goals as goal
 
 pub loop-place-init : goal.loop-place-init
 loop-place-init c = record {
-  finds = subst (λ l. Finds l [] (envelope_at c.args.m.now) c.args.names.now) (sym c.new-found.ensures.items) (finds_nobody (envelope_at c.args.m.now) c.args.names.now);
+  finds = subst (λ l. Finds l [] (envelope_at c.args.m.now) c.args.names.now) (sym c.in_ok-found.ensures.items) (finds_nobody (envelope_at c.args.m.now) c.args.names.now);
   rose = omega arith;
   few = omega arith;
 }
