@@ -5,3 +5,4 @@ pub mod ListsLemmas
 pub mod BookLemmas
 pub mod OwnersLemmas
 pub mod UniqueLemmas
+pub mod HelloLemmas

@@ -1,4 +1,5 @@
 pub mod Book
+pub mod Hello
 pub mod Owners
 pub mod Queue
 pub mod Standings

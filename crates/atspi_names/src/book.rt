@@ -117,6 +117,7 @@ impl Book {
         ensures ok { IfOk result (λ change. change ≡ request_change (list_of self.old name.now) conn flags) }
         ensures lists { OnOk result
             (self.new ≡ with_list self.old name.now (requested (list_of self.old name.now) conn flags).0) }
+        ensures no_empty { HasNoEmptyList self.old }
         ensures err { OnErr result (self.new ≡ self.old) }
     {
         let is_new = self.standings.ensure(alloc, conn, name)?;

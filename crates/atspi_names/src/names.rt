@@ -7,7 +7,8 @@ ghost use Rattle.std.specs.FinMap as finmap;
 ghost use Rattle.atspi_names.specs.Owners as owners;
 ghost use Rattle.atspi_types.specs.Names.{is_unique_name};
 ghost use Rattle.atspi_names.specs.Queue.{request_change, release_change, owner_in, IsRequestAnswer};
-ghost use Rattle.atspi_names.specs.Owners.{list_of, unique_name, listed, owned_by, nobody, after_hello, after_request, after_release, after_gone};
+ghost use Rattle.atspi_names.specs.Owners.{Owners, list_of, unique_name, listed, owned_by, nobody, after_hello, after_request, after_release, after_gone};
+ghost use Rattle.atspi_names.specs.Hello.{IsAfterHello};
 ghost use Rattle.atspi_names.specs.Tree.{as_unique};
 ghost use Rattle.atspi_names.specs.declared.names.NamesFault.TheVariants as faults;
 
@@ -110,6 +111,7 @@ impl Names {
         requires { finmap.get self.old.unique conn ≡ None }
         ensures name { IfOk result (λ name. name ≡ unique_name self.old.given) }
         ensures owners { OnOk result (self.new ≡ after_hello self.old conn) }
+        ensures after { OnOk result (IsAfterHello self.old self.new conn) }
         ensures new { IfOk result (λ name. (n : ℕ) → n < self.old.given → name ≢ unique_name n) }
         ensures full { IsErrOf result NamesFault.Full ↔ (self.old.given ≡ 4294967295) }
         ensures err { OnErr result (self.new ≡ self.old) }
@@ -125,6 +127,18 @@ impl Names {
         }
         self.given += 1;
         Ok(name)
+    }
+
+    /// Takes back the Hello of the connection, where nothing changed since: all is as before it.
+    pub fn take_back_hello(&mut self, conn: u32)
+        requires { (before : Owners) × IsAfterHello before self.old conn }
+        ensures { (before : Owners) → IsAfterHello before self.old conn → self.new ≡ before }
+    {
+        let Some(name) = self.unique.remove(&conn) else {
+            unreachable!()
+        };
+        self.book.release(conn, &name);
+        self.given -= 1;
     }
 
     /// Takes a request of the connection for a well-known name: RequestName with these flags. After want of memory
