@@ -1,6 +1,6 @@
 //! Who owns the names of a bus, and who waits for them.
 
-ghost use Rattle.std.specs.Prelude.{◌≡◌, ◌≢◌, ◌<◌, ◌^◌, ◌↔◌, ◌++◌, ℕ, false, None, IfOk, IfErr, OnOk, OnErr, IsErrOf};
+ghost use Rattle.std.specs.Prelude.{◌≡◌, ◌≢◌, ◌<◌, ◌^◌, ◌↔◌, ◌++◌, ℕ, false, None, IfOk, IfErr, IsTrue, OnOk, OnErr, IsErrOf};
 ghost use Rattle.std.specs.Option.{option_copied};
 ghost use Rattle.std.specs.Ordering.{nat_cmp};
 ghost use Rattle.std.specs.FinMap as finmap;
@@ -191,6 +191,13 @@ impl Names {
         ensures { result ≡ owner_in (list_of self.now.lists name.now) }
     {
         self.book.owner(name)
+    }
+
+    /// Whether nobody owns the name or waits for it.
+    pub fn is_free(&self, name: &BusName) -> bool
+        ensures { IsTrue result ↔ (finmap.get self.now.lists name.now ≡ None) }
+    {
+        self.book.get(name).is_empty()
     }
 
     /// The connections that own the name or wait for it, each with its flags, the owner first.
