@@ -33,13 +33,16 @@ impl Queues {
         ensures err { OnErr result (self.new ≡ self.old) }
     {
         for (i, conn) in conns.iter().enumerate() {
-            if !self.has_room(*conn, bytes.len() as u32) {
-                self.take_back_each(&conns[..i], bytes);
-                return Ok(false);
-            }
-            if self.push(*conn, bytes).is_err() {
-                self.take_back_each(&conns[..i], bytes);
-                return Err(NoMemory);
+            match self.push_if_room(*conn, bytes) {
+                Ok(true) => {}
+                Ok(false) => {
+                    self.take_back_each(&conns[..i], bytes);
+                    return Ok(false);
+                }
+                Err(refused) => {
+                    self.take_back_each(&conns[..i], bytes);
+                    return Err(refused);
+                }
             }
         }
         Ok(true)

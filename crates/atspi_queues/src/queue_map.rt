@@ -1,9 +1,10 @@
 //! The queue of each connection: a chain of one pool.
 
-ghost use Rattle.std.specs.Prelude.{◌≡◌, ◌+◌, ◌-◌, ◌<◌, ◌≤◌, ◌^◌, ◌↔◌, ℕ, List, [], ◌++◌, length, take, drop, None, IsSome, IsTrue, IfOk, OnOk, OnErr};
+ghost use Rattle.std.specs.Prelude.{◌≡◌, ◌+◌, ◌-◌, ◌<◌, ◌≤◌, ◌^◌, ◌↔◌, ℕ, List, [], ◌++◌, length, take, drop, None, IsSome, IsTrue, MatchBool, IfOk, OnOk, OnErr};
 ghost use Rattle.std.specs.FinMap as finmap;
 ghost use Rattle.atspi_routing.specs.Queues.{queue_of};
 ghost use Rattle.atspi_queues.specs.Change.{with_queue};
+ghost use Rattle.atspi_queues.specs.Space.{HasSpace};
 
 use atspi_base::NoMemory;
 use atspi_pool::Pool;
@@ -168,6 +169,26 @@ impl QueueMap {
         } else {
             self.begin(conn, bytes)
         }
+    }
+
+    /// Puts bytes behind those that wait for a connection, where it has a queue and no more than so many bytes wait there then, and
+    /// answers whether it is so. Where it is not, and after want of memory, all is as before. The queue is looked up once.
+    pub fn push_within(&mut self, conn: u32, bytes: &[u8], quota: u32) -> Result<bool, NoMemory>
+        requires { length bytes.now < 2 ^ 32 }
+        ensures ok { IfOk result (λ went. MatchBool went
+            (HasSpace self.old conn (length bytes.now) quota
+            × (self.new ≡ finmap.insert self.old conn (queue_of self.old conn ++ bytes.now)))
+            ((HasSpace self.old conn (length bytes.now) quota → ⊥) × (self.new ≡ self.old))) }
+        ensures err { OnErr result (self.new ≡ self.old) }
+    {
+        let Some(chain) = self.chains.get(&conn) else {
+            return Ok(false);
+        };
+        if u64::from(self.pool.len(*chain)) + bytes.len() as u64 > u64::from(quota) {
+            return Ok(false);
+        }
+        self.pool.push(*chain, bytes)?;
+        Ok(true)
     }
 
     /// Drops the first bytes that wait for a connection.

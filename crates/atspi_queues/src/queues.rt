@@ -1,6 +1,6 @@
 //! The queues of a bus with their quota, and who is to be closed.
 
-ghost use Rattle.std.specs.Prelude.{◌≡◌, ◌<◌, ◌≤◌, ◌^◌, ◌↔◌, ◌-◌, ℕ, List, [], ◌∷◌, ◌++◌, length, drop, take, MatchOption, IsTrue, IfOk, OnOk, OnErr};
+ghost use Rattle.std.specs.Prelude.{◌≡◌, ◌<◌, ◌≤◌, ◌^◌, ◌↔◌, ◌-◌, ℕ, List, [], ◌∷◌, ◌++◌, length, drop, take, MatchBool, MatchOption, IsTrue, IfOk, OnOk, OnErr};
 ghost use Rattle.std.specs.FinMap as finmap;
 ghost use Rattle.atspi_routing.specs.declared.closing.Why.{Why};
 ghost use Rattle.atspi_routing.specs.Queues.{queue_of, doomed, queued, without_queue};
@@ -96,6 +96,22 @@ impl Queues {
             return self.due.add(conn, Why::Quota { queued, len });
         }
         self.queues.push(conn, bytes)
+    }
+
+    /// Puts bytes behind those that wait for a connection, where it has a queue with room for them and nobody is to be closed, and answers
+    /// whether it is so. Where it is not, and after want of memory, all is as before.
+    pub fn push_if_room(&mut self, conn: u32, bytes: &[u8]) -> Result<bool, NoMemory>
+        requires { length bytes.now < 2 ^ 32 }
+        ensures ok { IfOk result (λ went. MatchBool went
+            (HasRoom self.old conn (length bytes.now)
+            × (self.new ≡ record self.old { waiting = queued self.old.quota self.old.waiting conn bytes.now }))
+            ((HasRoom self.old conn (length bytes.now) → ⊥) × (self.new ≡ self.old))) }
+        ensures err { OnErr result (self.new ≡ self.old) }
+    {
+        if self.due.first().is_some() {
+            return Ok(false);
+        }
+        self.queues.push_within(conn, bytes, self.quota)
     }
 
     /// Whether a connection has a queue with room for so many bytes more, while nobody is to be closed.
