@@ -6,6 +6,7 @@ use Rattle.std.specs.List.{AllByRecursion}
 use Rattle.std.proofs.lemmas.Bool.{leb-true, le-leb}
 use Rattle.std.proofs.lemmas.List.{length-set}
 use Rattle.std.proofs.lemmas.Option.{same_Some}
+use Rattle.atspi_lines.specs.declared.line.Party.{Party}
 use Rattle.atspi_message.specs.Bytes.{written}
 use Rattle.atspi_routing.specs.BusState.{unique_of}
 use Rattle.atspi_routing.specs.Steps.{bus_takes}
@@ -14,27 +15,29 @@ use Rattle.atspi_routing.specs.declared.closing.Closing.{Closing}
 use Rattle.atspi_forest.specs.Forest.{first_of}
 use Rattle.atspi_events.specs.declared.event.Event.{Event}
 use Rattle.atspi_posts.specs.declared.post.Post.{Post}
-use Rattle.atspi_posts.specs.declared.post.Standing.TheVariants.{Away}
 use Rattle.atspi_trace.specs.Entry.{entries_of}
 use Rattle.atspi_trace.specs.Rules.{rule_in}
-use Rattle.atspi_trace.specs.World.{Standing, here, stopped, away, Said, End, World}
+use Rattle.atspi_trace.specs.World.{here, Said, End, World}
 use Rattle.atspi_trace.specs.Ends.{end_at, with_end, taken_up}
-use Rattle.atspi_trace.specs.Carrying.{Carried, letter_of, stepped, named, with_name}
+use Rattle.atspi_trace.specs.Carrying.{Carried, letter_of, stepped, settled, named, with_name}
 use Rattle.atspi_trace.specs.Causes.{Done, does, on_end, routed, routes, missing}
 use Rattle.atspi_trace.specs.Work.{cause, rests, moving_up, moved_up, next_up, of_end, next_of}
 use Rattle.atspi_trace.specs.Works.{at_rest}
 use Rattle.atspi_carrying.specs.Changes.{changed_at}
-use Rattle.atspi_carrying.specs.Told.{gone, all_gone}
+use Rattle.atspi_carrying.specs.Told.{gone, all_gone, whose}
 use Rattle.atspi_carrying.specs.Carried.{standing_at, bytes_up, post_of, IsSendable, AreSendable, HasMark, IsWithin, IsCarried, IsDone}
+use Rattle.atspi_carrying.specs.Halted.{HasRegistryFirst, IsLostBy, IsLostNext, IsSpentBy, IsSpentNext}
 use Rattle.atspi_carrying.specs.Segments.{IsWorked}
 use Rattle.atspi_carrying.specs.Moving.{IsLacking, Moves, MovesAt, IsCompleted}
-use Rattle.atspi_carrying.proofs.Changes.{map-changed, map-changed_known, get-map}
+use Rattle.atspi_carrying.proofs.Changes.{map-changed, map-changed_known, map-kept, get-map}
 use Rattle.atspi_carrying.specs.Linked.{IsLinked}
 use Rattle.atspi_carrying.proofs.Downs.{wait_same}
 use Rattle.atspi_carrying.proofs.Linked.{linked_same}
-use Rattle.atspi_carrying.proofs.Staying.{here_is}
-use Rattle.atspi_carrying.proofs.Views.{with-changed, stepped_view, settles, all_with, written_some}
-use Rattle.atspi_carrying.proofs.Ties.{all_at}
+use Rattle.atspi_carrying.proofs.Staying.{here_is, away_is}
+use Rattle.atspi_carrying.proofs.Losing.{first_stays}
+use Rattle.atspi_carrying.proofs.OwnTold.{who_of}
+use Rattle.atspi_carrying.proofs.Views.{with-changed, stepped_view, gone_whose, settles, all_with, written_some}
+use Rattle.atspi_carrying.proofs.Ties.{all_at, whose_posts}
 
 -- the end of a connection that is there
 record HasEnd (w : World) (conn : ℕ) (p : Post) : Type 0 where
@@ -48,11 +51,6 @@ has_end w b posts conn p is there = by (end_at w.ends conn) refl (sym (get-map p
     by : (o : Option End) → end_at w.ends conn ≡ o → option_map post_of o ≡ Some p → HasEnd w conn p
     by None at h = absurd cc
     by (Some e) at h = record { the_end = e; at = at; post = sym (same_Some (post_of e) p h) }
-
-away_is : (s : Standing) → standing_at s ≡ Away → s ≡ away
-away_is here h = absurd cc
-away_is stopped h = absurd cc
-away_is away h = refl
 
 no_bytes : (saids : List Said) → bytes_up saids ≡ [] → saids ≡ []
 no_bytes [] h = refl
@@ -248,23 +246,95 @@ LinksSo b posts given given' conn =
     (v : World) (e : End) (said : Said) (rest : List Said) → IsCarried v b posts → IsLinked v given → end_at v.ends conn ≡ Some e → e.standing ≡ here → e.up ≡ said ∷ rest → IsLinked (does v (routes conn)).world given'
 
 -- the bytes complete it
-pub all_moved : (w : World) (conn count n : ℕ) (b b' : Bus) (posts posts' : List Post) (p : Post) (given given' : List (List ℕ)) (old new : List Event) → IsCarried w b posts → slice_get posts conn ≡ Some p → Moves p
-    → IsLacking p (Some n) → n ≤ count → RoutesSo b b' posts posts' conn old new → LinksSo b posts given given' conn → IsCompleted w conn count (count - n) b' posts' given given' old new
-all_moved w conn count n b b' posts posts' p given given' old new is there moves lacks enough routes_ links = by (has_first w b posts conn p is there)
+pub record Completes (w : World) (conn count left : ℕ) : Type 0 where
+  pub the_end : End
+  pub first : Said
+  pub rest : List Said
+  pub at : end_at w.ends conn ≡ Some the_end
+  pub up : the_end.up ≡ first ∷ rest
+  pub stands : the_end.standing ≡ here
+  pub next : next_of w (moving_up conn count) ≡ cause (routes conn) w (moving_up conn left)
+  pub fewer : left < count
+
+pub completes : (w : World) (conn count n : ℕ) (b : Bus) (posts : List Post) (p : Post) → IsCarried w b posts → slice_get posts conn ≡ Some p → Moves p → IsLacking p (Some n) → n ≤ count
+    → Completes w conn count (count - n)
+completes w conn count n b posts p is there moves lacks enough = by (has_first w b posts conn p is there)
   where
-    by : (p.up ≡ []) ⊎ HasFirst w conn p → IsCompleted w conn count (count - n) b' posts' given given' old new
+    by : (p.up ≡ []) ⊎ HasFirst w conn p → Completes w conn count (count - n)
     by (inl none) = let clash : Some n ≡ None = lacks.none none in absurd cc
     by (inr f) =
         let same : n ≡ missing f.first.message f.the_end.up_moved = same_Some n (missing f.first.message f.the_end.up_moved) (first_lacks w conn p (Some n) lacks f) in
-        let done = routes_ w f.the_end f.first f.rest is f.at f.up in
-        let stands = stands_here f.the_end f.first f.rest (subst Moves f.post moves) f.up in
         record {
+          the_end = f.the_end;
+          first = f.first;
+          rest = f.rest;
+          at = f.at;
+          up = f.up;
+          stands = stands_here f.the_end f.first f.rest (subst Moves f.post moves) f.up;
           next = next_first w conn count p f moves
               ∙ ap (λ t. if t then cause (routes conn) w (moving_up conn (count - missing f.first.message f.the_end.up_moved)) else rests (moved_up w conn count))
               (le-leb (missing f.first.message f.the_end.up_moved) count (subst (λ k. k ≤ count) same enough))
               ∙ ap (λ k. cause (routes conn) w (moving_up conn (count - k))) (sym same);
-          done = done;
-          linked = λ l. links w f.the_end f.first f.rest is l f.at stands f.up;
-          moves = routed_moves w conn f.the_end f.first f.rest b' posts' old new f.at f.up stands done;
           fewer = (let some = f.within in omega (arith, same, some, enough));
         }
+
+-- and the bus takes it
+pub all_moved : (w : World) (conn count n : ℕ) (b b' : Bus) (posts posts' : List Post) (p : Post) (given given' : List (List ℕ)) (old new : List Event) → IsCarried w b posts → slice_get posts conn ≡ Some p → Moves p
+    → IsLacking p (Some n) → n ≤ count → RoutesSo b b' posts posts' conn old new → LinksSo b posts given given' conn → IsCompleted w conn count (count - n) b' posts' given given' old new
+all_moved w conn count n b b' posts posts' p given given' old new is there moves lacks enough routes_ links =
+    let f = completes w conn count n b posts p is there moves lacks enough in
+    let done = routes_ w f.the_end f.first f.rest is f.at f.up in
+    record {
+      next = f.next;
+      done = done;
+      linked = λ l. links w f.the_end f.first f.rest is l f.at f.stands f.up;
+      moves = routed_moves w conn f.the_end f.first f.rest b' posts' old new f.at f.up f.stands done;
+      fewer = f.fewer;
+    }
+
+-- or is lost with that, or spends its serials
+abbrev pub LosesSo : Bus → List Post → ℕ → List Event → List Event → Type 0
+LosesSo b posts conn old new = (v : World) (e : End) (said : Said) (rest : List Said) → IsCarried v b posts → HasRegistryFirst v.ends → end_at v.ends conn ≡ Some e → e.up ≡ said ∷ rest → IsLostBy (does v (routes conn)) old new
+
+abbrev pub SpendsSo : Bus → List Post → ℕ → List Event → List Event → Type 0
+SpendsSo b posts conn old new = (v : World) (e : End) (said : Said) (rest : List Said) → IsCarried v b posts → end_at v.ends conn ≡ Some e → e.up ≡ said ∷ rest → IsSpentBy (does v (routes conn)) old new
+
+pub all_lost : (w : World) (conn count n : ℕ) (b : Bus) (posts : List Post) (p : Post) (old new : List Event) → IsCarried w b posts → HasRegistryFirst w.ends → slice_get posts conn ≡ Some p → Moves p → IsLacking p (Some n) → n ≤ count
+    → LosesSo b posts conn old new → IsLostNext w (moving_up conn count) old new
+all_lost w conn count n b posts p old new is first there moves lacks enough loses =
+    let f = completes w conn count n b posts p is there moves lacks enough in
+    record {
+      has = record { moved = w; rest = moving_up conn (count - n); next = routes conn; is_next = f.next };
+      lost = loses w f.the_end f.first f.rest is first f.at f.up;
+    }
+
+pub all_spent : (w : World) (conn count n : ℕ) (b : Bus) (posts : List Post) (p : Post) (old new : List Event) → IsCarried w b posts → slice_get posts conn ≡ Some p → Moves p → IsLacking p (Some n) → n ≤ count
+    → SpendsSo b posts conn old new → IsSpentNext w (moving_up conn count) old new
+all_spent w conn count n b posts p old new is there moves lacks enough spends =
+    let f = completes w conn count n b posts p is there moves lacks enough in
+    record {
+      has = record { moved = w; rest = moving_up conn (count - n); next = routes conn; is_next = f.next };
+      spent = spends w f.the_end f.first f.rest is f.at f.up;
+    }
+
+-- whose each end is stays so, whatever the bus takes of one
+who_routed : (w : World) (conn : ℕ) (who : Party) (saids : List Said) → map who_of (routed w conn who saids).world.ends ≡ map who_of w.ends
+who_routed w conn who [] = refl
+who_routed w conn who (said ∷ rest) =
+    let off : Carried = record { bus = w.bus; ends = with_end conn taken_up w.ends } in
+    let step = bus_takes w.bus.state conn said.message (rule_in said.message) in
+    let handed : Carried = stepped (letter_of who said) off step in
+    let called : Carried = with_name conn handed in
+    let c : Carried = settled (length w.bus.state.joined) called in
+    let s = settles (length w.bus.state.joined) called in
+    sym (whose_posts c.ends) ∙ ap (map whose) s.view ∙ gone_whose s.closed (map post_of called.ends) ∙ whose_posts called.ends
+    ∙ ap (map who_of) (with-changed (named handed.bus conn) handed.ends conn) ∙ map-kept who_of (named handed.bus conn) (λ e. refl) handed.ends conn
+    ∙ sym (whose_posts handed.ends) ∙ ap (map whose) (stepped_view (letter_of who said) off step) ∙ whose_posts off.ends
+    ∙ ap (map who_of) (with-changed taken_up w.ends conn) ∙ map-kept who_of taken_up (λ e. refl) w.ends conn
+
+pub routes_first : (w : World) (conn : ℕ) → HasRegistryFirst w.ends → HasRegistryFirst (does w (routes conn)).world.ends
+routes_first w conn h = first_stays w.ends (does w (routes conn)).world.ends (by (end_at w.ends conn)) h
+  where
+    by : (o : Option End) → map who_of (on_end w o (λ e. routed w conn e.who e.up)).world.ends ≡ map who_of w.ends
+    by None = refl
+    by (Some e) = who_routed w conn e.who e.up

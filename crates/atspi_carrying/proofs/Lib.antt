@@ -7,6 +7,7 @@ pub mod Downs
 pub mod Filling
 pub mod Leaving
 pub mod Linked
+pub mod Losing
 pub mod Lying
 pub mod OwnSerials
 pub mod OwnTold
@@ -15,6 +16,7 @@ pub mod RuleLemmas
 pub mod Senders
 pub mod Starting
 pub mod Staying
+pub mod Stopping
 pub mod Telling
 pub mod Ties
 pub mod Turning

@@ -1,5 +1,5 @@
 -- The bus's own messages have serials that rise by one.
-use Rattle.std.proofs.Common.{◌≡◌, ℕ, zero, suc, ◌+◌, Bool, true, false, List, [], ◌∷◌, ◌++◌, length, map, Option, None, Some, refl, sym, ap, ◌∙◌, subst, arith}
+use Rattle.std.proofs.Common.{◌≡◌, ℕ, zero, suc, ◌+◌, ◌≤◌, Bool, true, false, List, [], ◌∷◌, ◌++◌, length, map, Option, None, Some, refl, sym, ap, ◌∙◌, subst, arith}
 use Rattle.std.specs.Prelude.{Result, Ok, Err, ◌-◌, ◌==◌, codes, filter, flat_map, not, if◌then◌else◌}
 use Rattle.std.proofs.lemmas.List.{length-append}
 use Rattle.atspi_message.specs.Envelope.{Envelope}
@@ -161,3 +161,24 @@ takes_tells b conn e rule none =
 
 pub leaves_tells : (b : Bus) (conn : ℕ) → b.own ≡ [] → IsTelling b.state.next (queues.leaves b conn)
 leaves_tells b conn none = settled_tells b.state.next (length b.state.joined) (queues.left b conn) (left_tells b.state.next b conn (told_all b none))
+
+-- THE NEXT SERIAL NEVER FALLS, whoever is closed
+grown : (a b k : ℕ) → b ≡ a + k → a ≤ b
+grown a b k h = omega (arith, h)
+
+no_less : (a b c : ℕ) → a ≤ b → b ≤ c → a ≤ c
+no_less a b c h i = omega (arith, h, i)
+
+same_high : (a : ℕ) → a ≤ a
+same_high a = omega arith
+
+one_higher : (b : Bus) (due : List (ℕ × Why)) → b.state.next ≤ (queues.one_closed b due).state.next
+one_higher b [] = same_high b.state.next
+one_higher b (first ∷ rest) =
+    grown b.state.next (queues.one_closed b (first ∷ rest)).state.next (length (own_of (bus_leaves b.state first.0).moves)) (leaves_says b.state first.0).after
+
+pub settled_higher : (rounds : ℕ) (b : Bus) → b.state.next ≤ (queues.settled rounds b).state.next
+settled_higher zero b = same_high b.state.next
+settled_higher (suc rounds) b =
+    let next : Bus = queues.one_closed b b.waiting.due in
+    no_less b.state.next next.state.next (queues.settled rounds next).state.next (one_higher b b.waiting.due) (settled_higher rounds next)

@@ -7,14 +7,17 @@ use Rattle.atspi_posts.specs.declared.post.Post.{Post}
 use Rattle.atspi_trace.specs.Entry.{Entry, entries_of}
 use Rattle.atspi_trace.specs.World.{World}
 use Rattle.atspi_trace.specs.Causes.{Done, does, routes, missing}
-use Rattle.atspi_trace.specs.Work.{moving_up}
+use Rattle.atspi_trace.specs.Work.{Work, moving_up}
 use Rattle.atspi_trace.specs.Works.{Works, caused}
 use Rattle.atspi_carrying.specs.Carried.{IsCarried}
+use Rattle.atspi_carrying.specs.Halted as halted
+use Rattle.atspi_carrying.specs.Halted.{HasRegistryFirst, WorksOn, so_far, IsAtWork, HasNext, IsLostNext, IsSpentNext, IsLostOn, IsSpentOn}
 use Rattle.atspi_carrying.specs.Segments.{IsWorked}
 use Rattle.atspi_carrying.specs.Moving.{IsLacking, MovesAt, IsCompleted, MovedSome, MovesSome}
 use Rattle.atspi_carrying.proofs.Changes.{set_same}
 use Rattle.atspi_carrying.specs.Linked.{IsLinked}
-use Rattle.atspi_carrying.proofs.Completing.{RoutesSo, LinksSo, HasFirst, has_first, none_moved, first_moved, some_moved, lacks_none, all_moved}
+use Rattle.atspi_carrying.proofs.Completing.{RoutesSo, LinksSo, LosesSo, SpendsSo, HasFirst, has_first, none_moved, first_moved, some_moved, lacks_none, all_moved, all_lost, all_spent, routes_first}
+use Rattle.atspi_carrying.proofs.Staying.{lives_so}
 
 -- WHAT WAS DONE SO FAR, and so many bytes are left to move
 pub record Continues (w : World) (conn most left : ℕ) (bus : Bus) (posts : List Post) (given given' : List (List ℕ)) (old new : List Event) : Type 0 where
@@ -25,10 +28,12 @@ pub record Continues (w : World) (conn most left : ℕ) (bus : Bus) (posts : Lis
   pub moves : MovesAt posts conn
   pub wrote : entries_of new ≡ entries_of old ++ entries
   pub completes : (es : List Entry) (u : World) → Works now (moving_up conn left) es u → Works w (moving_up conn most) (entries ++ es) u
+  pub goes_on : (es : List Entry) (u : World) (last : Work) → WorksOn now (moving_up conn left) es u last → WorksOn w (moving_up conn most) (entries ++ es) u last
+  pub first : HasRegistryFirst w.ends → HasRegistryFirst now.ends
 
 pub not_yet : (w : World) (conn most : ℕ) (b : Bus) (posts : List Post) (given : List (List ℕ)) (t : List Event) → IsCarried w b posts → MovesAt posts conn → Continues w conn most most b posts given given t t
 not_yet w conn most b posts given t is moves =
-    record { now = w; entries = []; tied = is; linked = λ l. l; moves = moves; wrote = sym (append-nil (entries_of t)); completes = λ es u h. h }
+    record { now = w; entries = []; tied = is; linked = λ l. l; moves = moves; wrote = sym (append-nil (entries_of t)); completes = λ es u h. h; goes_on = λ es u last h. h; first = λ h. h }
 
 one_more : (w : World) (conn most left rest : ℕ) (b b' : Bus) (posts posts' : List Post) (given given1 given2 : List (List ℕ)) (old mid new : List Event) → (so : Continues w conn most left b posts given given1 old mid)
     → IsCompleted so.now conn left rest b' posts' given1 given2 mid new → Continues w conn most rest b' posts' given given2 old new
@@ -43,6 +48,9 @@ one_more w conn most left rest b b' posts posts' given given1 given2 old mid new
       wrote = c.done.wrote ∙ ap (λ l. l ++ d.entries) so.wrote ∙ append_assoc (entries_of old) so.entries d.entries;
       completes = λ es u h. subst (λ l. Works w (moving_up conn most) l u) (sym (append_assoc so.entries d.entries es))
           (so.completes (d.entries ++ es) u (caused so.now so.now u (moving_up conn left) (moving_up conn rest) (routes conn) es c.next h));
+      goes_on = λ es u last h. subst (λ l. WorksOn w (moving_up conn most) l u last) (sym (append_assoc so.entries d.entries es))
+          (so.goes_on (d.entries ++ es) u last (halted.caused so.now so.now u (moving_up conn left) (moving_up conn rest) last (routes conn) es c.next h));
+      first = λ h. routes_first so.now conn (so.first h);
     }
 
 no_more : (w : World) (conn most left : ℕ) (b b' : Bus) (posts posts' : List Post) (given given1 given2 : List (List ℕ)) (old mid new : List Event) → (so : Continues w conn most left b posts given given1 old mid)
@@ -117,3 +125,47 @@ pub round_last : (w : World) (conn most left made : ℕ) (o : Option ℕ) (b b' 
 round_last w conn most left made o b b' posts posts' given given1 given2 old mid new so is moves_ =
     let t = so.0 in
     no_more w conn most left b b' posts posts' given given1 given2 old mid new t (subst (λ x. MovedSome t.now conn left x b' posts' given1 given2 mid new) is (moves_ t.now t.tied t.moves))
+
+-- THE NEXT CAUSE, behind what was done so far, is lost with the registry, or spends the serials of the bus
+module _ (w : World) (conn most left made : ℕ) (b : Bus) (posts : List Post) (given given' : List (List ℕ)) (old mid new : List Event) (so : Continues w conn most left b posts given given' old mid × (left + made ≤ most))
+    (linked : IsLinked w given) where
+  abbrev t : Continues w conn most left b posts given given' old mid
+  t = so.0
+
+  abbrev at_work : HasNext t.now (moving_up conn left) → IsAtWork w (moving_up conn most)
+  at_work has = record {
+    entries = t.entries ++ [];
+    now = t.now;
+    last = moving_up conn left;
+    done = t.goes_on [] t.now (moving_up conn left) (so_far t.now (moving_up conn left));
+    lives = lives_so t.now given' (t.linked linked);
+    moved = has.moved;
+    rest = has.rest;
+    next = has.next;
+    is_next = has.is_next;
+  }
+
+  behind : (es : List Entry) → entries_of new ≡ entries_of mid ++ es → entries_of new ≡ entries_of old ++ ((t.entries ++ []) ++ es)
+  behind es wrote = wrote ∙ ap (λ l. l ++ es) t.wrote ∙ append_assoc (entries_of old) t.entries es ∙ ap (λ l. entries_of old ++ (l ++ es)) (sym (append-nil t.entries))
+
+  pub round_lost : HasRegistryFirst w.ends → ((v : World) → IsCarried v b posts → HasRegistryFirst v.ends → MovesAt posts conn → IsLostNext v (moving_up conn left) mid new) → IsLostOn w (moving_up conn most) old new
+  round_lost first loses =
+      let n = loses t.now t.tied (t.first first) t.moves in
+      record { at = at_work n.has; lost = n.lost.lost; wrote = behind (does n.has.moved n.has.next).entries n.lost.wrote }
+
+  pub round_spent : ((v : World) → IsCarried v b posts → MovesAt posts conn → IsSpentNext v (moving_up conn left) mid new) → IsSpentOn w (moving_up conn most) old new
+  round_spent spends =
+      let n = spends t.now t.tied t.moves in
+      let p = n.spent.1 in
+      record { at = at_work n.has; spent = n.spent.0; part = p.part; missing = p.missing; front = p.front; wrote = behind p.part p.wrote }
+
+-- of what was found at the connection
+pub first_lost : (conn most n : ℕ) (b : Bus) (posts : List Post) (p : Post) (old new : List Event) → p ≡ get_or posts conn p → IsLacking p (Some n) → n ≤ most → LosesSo b posts conn old new
+    → (w : World) → IsCarried w b posts → HasRegistryFirst w.ends → MovesAt posts conn → IsLostNext w (moving_up conn most) old new
+first_lost conn most n b posts p old new there lacks enough loses w is first m =
+    all_lost w conn most n b posts m.post old new is first m.there m.moves (subst (λ q. IsLacking q (Some n)) (same_post posts conn p m there) lacks) enough loses
+
+pub first_spent : (conn most n : ℕ) (b : Bus) (posts : List Post) (p : Post) (old new : List Event) → p ≡ get_or posts conn p → IsLacking p (Some n) → n ≤ most → SpendsSo b posts conn old new
+    → (w : World) → IsCarried w b posts → MovesAt posts conn → IsSpentNext w (moving_up conn most) old new
+first_spent conn most n b posts p old new there lacks enough spends w is m =
+    all_spent w conn most n b posts m.post old new is m.there m.moves (subst (λ q. IsLacking q (Some n)) (same_post posts conn p m there) lacks) enough spends

@@ -6,7 +6,7 @@ use Rattle.atspi_lines.specs.declared.line.Party.{Party}
 use Rattle.atspi_lines.specs.declared.line.Party.TheVariants.{Registry}
 use Rattle.atspi_routing.specs.declared.closing.Closing.{Closing}
 use Rattle.atspi_posts.specs.declared.post.Post.{Post}
-use Rattle.atspi_posts.specs.declared.post.Standing.TheVariants.{Here}
+use Rattle.atspi_posts.specs.declared.post.Standing.TheVariants.{Here, Away}
 use Rattle.atspi_trace.specs.World.{Standing, here, stopped, away, End, World}
 use Rattle.atspi_trace.specs.Ends.{is_here, same_party, end_at, with_end, stops}
 use Rattle.atspi_trace.specs.Due.{is_lost}
@@ -25,6 +25,11 @@ pub here_is : (s : Standing) → standing_at s ≡ Here → s ≡ here
 here_is here h = refl
 here_is stopped h = absurd cc
 here_is away h = absurd cc
+
+pub away_is : (s : Standing) → standing_at s ≡ Away → s ≡ away
+away_is here h = absurd cc
+away_is stopped h = absurd cc
+away_is away h = refl
 
 pub stands_of : (ends : List End) (posts : List Post) → posts ≡ map post_of ends → IsThere ends → Stands posts
 stands_of [] [] is h = tt

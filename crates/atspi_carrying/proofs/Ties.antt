@@ -1,5 +1,5 @@
 -- What the bus does to itself and to the connections it does to the world.
-use Rattle.std.proofs.Common.{◌≡◌, ℕ, ◌+◌, ◌<◌, ◌≤◌, List, [], ◌∷◌, ◌++◌, length, map, set, get_or, None, Some, refl, sym, ap, ◌∙◌, subst, append_assoc, append-nil, zero, suc}
+use Rattle.std.proofs.Common.{◌≡◌, ℕ, ◌+◌, ◌<◌, ◌≤◌, List, [], ◌∷◌, ◌++◌, length, map, set, get_or, None, Some, refl, sym, ap, ◌∙◌, subst, append_assoc, append-nil, zero, suc, arith}
 use Rattle.std.specs.Prelude.{slice_get, position, cond, not, nat_lt}
 use Rattle.std.specs.Option.{option_map}
 use Rattle.std.specs.List.{AllByRecursion, position_or_len}
@@ -25,18 +25,20 @@ use Rattle.atspi_trace.specs.Carrying.{Carried, letter_of, stepped, left, settle
 use Rattle.atspi_trace.specs.Causes.{does, joins, on_end, routed, routes, unjoins, exits, bus_did}
 use Rattle.atspi_trace.proofs.Following.{links_follow}
 use Rattle.atspi_carrying.specs.Changes.{changed_at}
-use Rattle.atspi_carrying.specs.Told.{gone, all_gone, whose, bus_told}
+use Rattle.atspi_carrying.specs.Told.{gone, all_gone, whose, AreOthers, bus_told}
 use Rattle.atspi_carrying.specs.Downs.{Wait}
-use Rattle.atspi_carrying.specs.Routed.{IsTaken, IsRouted, RoutesFront, taken_off}
+use Rattle.atspi_carrying.specs.Halted.{HasRegistryFirst, IsLostBy, IsSpentBy}
+use Rattle.atspi_carrying.specs.Routed.{IsTaken, IsSpentTaking, IsRouted, RoutesFront, SpendsAtFront, taken_off}
 use Rattle.atspi_carrying.specs.Carried.{bytes_up, post_of, IsSendable, AreSendable, HasMark, IsCarried, IsDone}
-use Rattle.atspi_carrying.proofs.Changes.{changed-set, length-changed, map-changed, map-changed_known, get-map}
+use Rattle.atspi_carrying.proofs.Changes.{changed-set, length-changed, map-kept, map-changed, map-changed_known, get-map}
 use Rattle.atspi_carrying.proofs.Downs.{wait_same, joined_wait, letter_message, left_wait, settled_wait, stepped_wait}
-use Rattle.atspi_carrying.proofs.OwnSerials.{IsTelling, takes_tells, leaves_tells}
+use Rattle.atspi_carrying.proofs.Losing.{FirstOfParties, first_party, whose_set, registry_leaves, lost_so}
+use Rattle.atspi_carrying.proofs.OwnSerials.{IsTelling, takes_tells, leaves_tells, settled_higher}
 use Rattle.atspi_carrying.proofs.OwnTold.{who_of, told_is}
 use Rattle.atspi_carrying.proofs.RuleLemmas.{same_taken}
 use Rattle.atspi_carrying.proofs.Views.{with-changed, stepped_view, left_view, gone_whose, length-gone, Settles, settles, all_with, stepped_all, left_all, settled_all, put_sendable, left_sendable, named_sendable, taken_sendable, put_mark, left_mark, named_mark, taken_mark}
 
-whose_posts : (ends : List End) → map whose (map post_of ends) ≡ map who_of ends
+pub whose_posts : (ends : List End) → map whose (map post_of ends) ≡ map who_of ends
 whose_posts [] = refl
 whose_posts (e ∷ es) = ap (λ l. e.who ∷ l) (whose_posts es)
 
@@ -57,6 +59,35 @@ post_below w b posts conn e is at = slice_get_within posts conn (post_of e) (pos
 pub post_is : (w : World) (b : Bus) (posts : List Post) (conn : ℕ) (e : End) (p : Post) → IsCarried w b posts → end_at w.ends conn ≡ Some e → p ≡ get_or posts conn p → p ≡ post_of e
 post_is w b posts conn e p is at h = h ∙ get_or_from_slice_get posts conn (post_of e) p (post_at w b posts conn e is at)
 
+-- the closings that follow what a bus has done: the connections behind them, and what is written
+module _ (n : ℕ) (a : Carried) (b1 : Bus) (posts1 : List Post) (view : posts1 ≡ map post_of a.ends) (is : b1 ≡ (settled n a).bus) where
+  closings_view : a.bus.closings ≡ [] → all_gone b1.closings posts1 ≡ map post_of (settled n a).ends
+  closings_view none =
+      let s : Settles a (settled n a) = settles n a in
+      let closed : (settled n a).bus.closings ≡ s.closed = s.told ∙ ap (λ l. l ++ s.closed) none in
+      ap (λ (b : Bus). all_gone b.closings posts1) is ∙ ap (λ l. all_gone l posts1) closed ∙ ap (all_gone s.closed) view ∙ sym s.view
+
+  closings_wrote : (front : List Entry) (old mid new : List Event) (m : ℕ) → IsTelling m (settled n a).bus → entries_of mid ≡ entries_of old ++ front
+      → entries_of new ≡ entries_of mid ++ bus_told (map whose posts1) b1.own b1.closings
+      → entries_of new ≡ entries_of old ++ (front ++ bus_entries (settled n a).ends (settled n a).bus.own (settled n a).bus.closings)
+  closings_wrote front old mid new m tells before behind =
+      let c : Carried = settled n a in
+      let s : Settles a c = settles n a in
+      let parties : map whose posts1 ≡ map who_of c.ends = ap (map whose) view ∙ sym (gone_whose s.closed (map post_of a.ends)) ∙ ap (map whose) (sym s.view) ∙ whose_posts c.ends in
+      let same : bus_told (map whose posts1) b1.own b1.closings ≡ bus_entries c.ends c.bus.own c.bus.closings =
+      ap (λ (b : Bus). bus_told (map whose posts1) b.own b.closings) is ∙ sym (told_is c.ends (map whose posts1) parties c.bus.closings m c.bus.own tells.own) in
+      behind ∙ ap (λ l. l ++ bus_told (map whose posts1) b1.own b1.closings) before ∙ append_assoc (entries_of old) front (bus_told (map whose posts1) b1.own b1.closings)
+      ∙ ap (λ l. entries_of old ++ (front ++ l)) same
+
+  -- the registry is among them
+  closings_lost : (w : World) (front : List Entry) (old mid new : List Event) (m : ℕ) → a.bus.closings ≡ [] → FirstOfParties (map whose posts1) → IsTelling m (settled n a).bus
+      → entries_of mid ≡ entries_of old ++ front → entries_of new ≡ entries_of mid ++ bus_told (map whose posts1) b1.own b1.closings → (AreOthers (map whose posts1) b1.closings → ⊥)
+      → IsLostBy (bus_did w front (settled n a)) old new
+  closings_lost w front old mid new m none first tells before behind some = record {
+    lost = lost_so (bus_did w front (settled n a)).world (all_gone b1.closings posts1) (closings_view none) (registry_leaves (map whose posts1) b1.closings posts1 refl first some);
+    wrote = closings_wrote front old mid new m tells before behind;
+  }
+
 -- what a bus has done, the closings that follow, and the telling of both
 module _ (w : World) (front : List Entry) (n : ℕ) (a : Carried) (b1 b2 : Bus) (posts1 posts2 : List Post) (old mid new : List Event) where
   pub closings_done : length posts1 ≤ 4294967296 → a.bus.closings ≡ [] → AllByRecursion AreSendable a.ends → AllByRecursion HasMark a.ends → Wait a.bus.waiting.queues a.ends → posts1 ≡ map post_of a.ends → (m : ℕ) → IsTelling m (settled n a).bus → b1 ≡ (settled n a).bus
@@ -64,25 +95,18 @@ module _ (w : World) (front : List Entry) (n : ℕ) (a : Carried) (b1 b2 : Bus) 
       → entries_of new ≡ entries_of mid ++ bus_told (map whose posts1) b1.own b1.closings
       → IsDone (bus_did w front (settled n a)) b2 posts2 old new
   closings_done few none sendable marked waits view m tells is told gone_are before behind =
-      let c : Carried = settled n a in
-      let s : Settles a c = settles n a in
-      let closed : c.bus.closings ≡ s.closed = s.told ∙ ap (λ l. l ++ s.closed) none in
-      let parties : map whose posts1 ≡ map who_of c.ends = ap (map whose) view ∙ sym (gone_whose s.closed (map post_of a.ends)) ∙ ap (map whose) (sym s.view) ∙ whose_posts c.ends in
-      let same : bus_told (map whose posts1) b1.own b1.closings ≡ bus_entries c.ends c.bus.own c.bus.closings =
-      ap (λ (b : Bus). bus_told (map whose posts1) b.own b.closings) is ∙ sym (told_is c.ends (map whose posts1) parties c.bus.closings m c.bus.own tells.own) in
       record {
         tied = record {
           bus_is = told ∙ ap all_told is;
           own_told = refl;
           closings_told = refl;
-          posts_are = gone_are ∙ ap (λ (b : Bus). all_gone b.closings posts1) is ∙ ap (λ l. all_gone l posts1) closed ∙ ap (all_gone s.closed) view ∙ sym s.view;
+          posts_are = gone_are ∙ closings_view n a b1 posts1 view is none;
           few = subst (λ n. n ≤ 4294967296) (sym (ap length gone_are ∙ length-gone b1.closings posts1)) few;
           sendable = settled_all AreSendable put_sendable left_sendable n a sendable;
           marked = settled_all HasMark put_mark left_mark n a marked;
           waits = settled_wait n a waits;
         };
-        wrote = behind ∙ ap (λ l. l ++ bus_told (map whose posts1) b1.own b1.closings) before ∙ append_assoc (entries_of old) front (bus_told (map whose posts1) b1.own b1.closings)
-            ∙ ap (λ l. entries_of old ++ (front ++ l)) same;
+        wrote = closings_wrote n a b1 posts1 view is front old mid new m tells before behind;
       }
 
 -- the bus takes the end of an end
@@ -99,6 +123,27 @@ parted_done w conn b b1 b2 posts posts1 posts2 old new is left_is leaves_is told
     (left_all HasMark put_mark left_mark c conn is.marked) (left_wait c conn is.waits)
     (left_is ∙ ap (changed_at conn gone) is.posts_are ∙ sym (left_view c conn))
     w.bus.state.next (subst (IsTelling w.bus.state.next) (sym (links_follow.ended c conn)) (leaves_tells w.bus conn is.own_told)) same told gone_are (sym (append-nil (entries_of old))) wrote
+
+-- its closings drop the registry
+pub parted_lost : (w : World) (conn : ℕ) (b b1 : Bus) (posts posts1 : List Post) (old new : List Event) → IsCarried w b posts → posts1 ≡ changed_at conn gone posts → b1 ≡ queues.leaves b conn → HasRegistryFirst w.ends
+    → entries_of new ≡ entries_of old ++ bus_told (map whose posts1) b1.own b1.closings → (AreOthers (map whose posts1) b1.closings → ⊥) → IsLostBy (does w (unjoins conn)) old new
+parted_lost w conn b b1 posts posts1 old new is left_is leaves_is first wrote some =
+    let c : Carried = record { bus = w.bus; ends = w.ends } in
+    let parties : map whose posts1 ≡ map who_of w.ends = ap (map whose) left_is ∙ map-kept whose gone (λ p. refl) posts conn ∙ ap (map whose) is.posts_are ∙ whose_posts w.ends in
+    closings_lost (length w.bus.state.joined) (left c conn) b1 posts1 (left_is ∙ ap (changed_at conn gone) is.posts_are ∙ sym (left_view c conn)) (parted_bus w b b1 posts conn is leaves_is)
+    w [] old old new w.bus.state.next is.closings_told (subst FirstOfParties (sym parties) (first_party w.ends first)) (subst (IsTelling w.bus.state.next) (sym (links_follow.ended c conn)) (leaves_tells w.bus conn is.own_told))
+    (sym (append-nil (entries_of old))) wrote some
+
+-- it has no serials left: nothing was written
+pub parted_spent : (w : World) (conn : ℕ) (b : Bus) (posts : List Post) (old new : List Event) → IsCarried w b posts → 4294967296 < (queues.leaves b conn).state.next → entries_of new ≡ entries_of old
+    → IsSpentBy (does w (unjoins conn)) old new
+parted_spent w conn b posts old new is spent same = (
+  subst (λ (x : Bus). 4294967296 < x.state.next) (parted_bus w b (queues.leaves b conn) posts conn is refl) spent,
+  record { part = []; missing = (does w (unjoins conn)).entries; front = refl; wrote = same ∙ sym (append-nil (entries_of old)) },
+)
+
+above : (n m k : ℕ) → n < m → m ≤ k → n < k
+above n m k h i = omega (arith, h, i)
 
 -- a connection with the name that the bus has for it
 abbrev named_post : Bus → ℕ → Post → Post
@@ -154,6 +199,11 @@ module _ (w : World) (conn : ℕ) (e : End) (said : Said) (rest : List Said) (b 
       let bus : b0 ≡ handed.bus = same_bus is (first_sends is at up) (front_routed is at up p_is routes_).taken in
       settled_is ∙ ap (λ (x : Bus). queues.settled (length x.state.joined) b0) is.bus_is ∙ ap (queues.settled (length w.bus.state.joined)) bus ∙ sym (links_follow.taken (record { bus = w.bus; ends = w.ends }) conn e.who said)
 
+  -- what is told of a message that the bus takes
+  got_told : (sender : Party) (old' mid' : List Event) → sender ≡ e.who → mid' ≡ old' ++ Got The_bus sender said.message.serial ∷ [] → entries_of mid' ≡ entries_of old' ++ got The_bus e.who said.message.serial ∷ []
+  got_told sender old' mid' who told =
+      ap entries_of told ∙ map-append entry_of old' (Got The_bus sender said.message.serial ∷ []) ∙ ap (λ x. entries_of old' ++ got The_bus x said.message.serial ∷ []) who
+
   pub routed_done : IsCarried w b posts → end_at w.ends conn ≡ Some e → e.up ≡ said ∷ rest → p ≡ post_of e → RoutesFront b b0 conn p q old mid → posts1 ≡ set posts conn q
       → b1 ≡ queues.settled (length b.state.joined) b0 → b2 ≡ all_told b1 → posts2 ≡ all_gone b1.closings posts1
       → entries_of new ≡ entries_of mid ++ bus_told (map whose posts1) b1.own b1.closings
@@ -165,8 +215,7 @@ module _ (w : World) (conn : ℕ) (e : End) (said : Said) (rest : List Said) (b 
       let follows = links_follow.taken c conn e.who said in
       let same : b1 ≡ (takes c conn e.who said).bus = routed_bus is at up p_is routes_ settled_is in
       let who : p.who ≡ e.who = ap whose p_is in
-      let before : entries_of mid ≡ entries_of old ++ got The_bus e.who said.message.serial ∷ [] =
-      ap entries_of r.taken.told ∙ map-append entry_of old (Got The_bus p.who said.message.serial ∷ []) ∙ ap (λ x. entries_of old ++ got The_bus x said.message.serial ∷ []) who in
+      let before = got_told p.who old mid who r.taken.told in
       subst (λ d. IsDone d b2 posts2 old new) (sym (does-routes at up))
       (closings_done w (got The_bus e.who said.message.serial ∷ []) (length w.bus.state.joined) (with_name conn handed) b1 b2 posts1 posts2 old mid new (subst (λ n. n ≤ 4294967296) (sym (ap length set_is ∙ length-set posts conn q)) is.few) is.closings_told
       (all_with AreSendable (named handed.bus conn) (named_sendable handed.bus conn) conn handed.ends
@@ -177,6 +226,50 @@ module _ (w : World) (conn : ℕ) (e : End) (said : Said) (rest : List Said) (b 
       (stepped_wait (letter_of e.who said) (letter_message e.who said) taken_off_link step (wait_same taken_up (λ x. refl) (λ x. refl) w.bus.waiting.queues w.ends conn is.waits)))
       (same_posts is at up p_is r.post bus set_is) w.bus.state.next
       (subst (IsTelling w.bus.state.next) (sym follows) (takes_tells w.bus conn said.message (rule_in said.message) is.own_told)) same told gone_are before wrote)
+
+  -- its closings drop the registry
+  pub routed_lost : IsCarried w b posts → end_at w.ends conn ≡ Some e → e.up ≡ said ∷ rest → p ≡ post_of e → RoutesFront b b0 conn p q old mid → posts1 ≡ set posts conn q
+      → b1 ≡ queues.settled (length b.state.joined) b0 → HasRegistryFirst w.ends → entries_of new ≡ entries_of mid ++ bus_told (map whose posts1) b1.own b1.closings
+      → (AreOthers (map whose posts1) b1.closings → ⊥) → IsLostBy (does w (routes conn)) old new
+  routed_lost is at up p_is routes_ set_is settled_is first wrote some =
+      let c : Carried = record { bus = w.bus; ends = w.ends } in
+      let r = front_routed is at up p_is routes_ in
+      let bus : b0 ≡ handed.bus = same_bus is (first_sends is at up) r.taken in
+      let who : p.who ≡ e.who = ap whose p_is in
+      let parties : map whose posts1 ≡ map who_of w.ends =
+      ap (map whose) set_is ∙ whose_set posts conn (post_of e) q (post_at w b posts conn e is at) (ap whose r.post ∙ who) ∙ ap (map whose) is.posts_are ∙ whose_posts w.ends in
+      subst (λ d. IsLostBy d old new) (sym (does-routes at up))
+      (closings_lost (length w.bus.state.joined) (with_name conn handed) b1 posts1 (same_posts is at up p_is r.post bus set_is) (routed_bus is at up p_is routes_ settled_is)
+      w (got The_bus e.who said.message.serial ∷ []) old mid new w.bus.state.next is.closings_told (subst FirstOfParties (sym parties) (first_party w.ends first))
+      (subst (IsTelling w.bus.state.next) (sym (links_follow.taken c conn e.who said)) (takes_tells w.bus conn said.message (rule_in said.message) is.own_told)) (got_told p.who old mid who r.taken.told) wrote some)
+
+  -- no serials are left: just that it was taken is told
+  got_only : end_at w.ends conn ≡ Some e → e.up ≡ said ∷ rest → 4294967296 < (takes (record { bus = w.bus; ends = w.ends }) conn e.who said).bus.state.next
+      → entries_of mid ≡ entries_of old ++ got The_bus e.who said.message.serial ∷ [] → IsSpentBy (does w (routes conn)) old mid
+  got_only at up spent wrote =
+      let d : Carried = settled (length w.bus.state.joined) (with_name conn handed) in
+      subst (λ x. IsSpentBy x old mid) (sym (does-routes at up))
+      (spent, record { part = got The_bus e.who said.message.serial ∷ []; missing = bus_entries d.ends d.bus.own d.bus.closings; front = refl; wrote = wrote })
+
+  -- for what the message itself brings
+  pub taken_spent : IsCarried w b posts → end_at w.ends conn ≡ Some e → e.up ≡ said ∷ rest → p ≡ post_of e → SpendsAtFront p.up b conn p.who old mid → IsSpentBy (does w (routes conn)) old mid
+  taken_spent is at up p_is spends =
+      let c : Carried = record { bus = w.bus; ends = w.ends } in
+      let sends = first_sends is at up in
+      let t : IsSpentTaking said.message w.bus conn p.who old mid =
+      subst (λ x. IsSpentTaking said.message x conn p.who old mid) is.bus_is (spends said.message (bytes_up rest) sends.is (ap (λ (x : Post). x.up) p_is ∙ ap bytes_up up)) in
+      let past : 4294967296 < step.state.next =
+      subst (λ (x : BusStep). 4294967296 < x.state.next) (same_taken w.bus.state conn said.message t.rule (rule_in said.message) t.reads (λ name h. sends.reads)) t.spent in
+      let spent : 4294967296 < (queues.takes w.bus conn said.message (rule_in said.message)).state.next =
+      above 4294967296 step.state.next (queues.takes w.bus conn said.message (rule_in said.message)).state.next past (settled_higher (length w.bus.state.joined) (queues.stepped w.bus step)) in
+      got_only at up (subst (λ (x : Bus). 4294967296 < x.state.next) (sym (links_follow.taken c conn e.who said)) spent) (got_told p.who old mid (ap whose p_is) t.told)
+
+  -- for the closings behind it
+  pub settled_spent : IsCarried w b posts → end_at w.ends conn ≡ Some e → e.up ≡ said ∷ rest → p ≡ post_of e → RoutesFront b b0 conn p q old mid → b1 ≡ queues.settled (length b.state.joined) b0
+      → 4294967296 < b1.state.next → IsSpentBy (does w (routes conn)) old mid
+  settled_spent is at up p_is routes_ settled_is spent =
+      got_only at up (subst (λ (x : Bus). 4294967296 < x.state.next) (routed_bus is at up p_is routes_ settled_is) spent)
+      (got_told p.who old mid (ap whose p_is) (front_routed is at up p_is routes_).taken.told)
 
 -- an end stops
 stop_sendable : (e : End) → AreSendable e → AreSendable (stops e)

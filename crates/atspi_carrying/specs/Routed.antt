@@ -1,5 +1,5 @@
 -- What the bus's taking of one message does.
-use Rattle.std.specs.Prelude.{◌≡◌, ℕ, List, [], ◌∷◌, ◌++◌, length, Option, Some}
+use Rattle.std.specs.Prelude.{◌≡◌, ◌<◌, ℕ, List, [], ◌∷◌, ◌++◌, length, Option, Some}
 use Rattle.atspi_message.specs.Envelope.{Envelope}
 use Rattle.atspi_message.specs.Bytes.{IsMessage, written}
 use Rattle.atspi_match.specs.declared.condition.Condition.{Condition}
@@ -41,3 +41,13 @@ pub record IsRouted (m : Envelope) (before after : Bus) (conn : ℕ) (p q : Post
 abbrev pub RoutesFront : Bus → Bus → ℕ → Post → Post → List Event → List Event → Type 0
 RoutesFront before after conn p q old new =
     (m : Envelope) (rest : List ℕ) → IsMessage m (written m) → p.up ≡ written m ++ rest → IsRouted m before after conn p q rest old new
+
+-- that the bus took a message is told, and for its own messages that this brings no serials are left
+pub record IsSpentTaking (m : Envelope) (before : Bus) (conn : ℕ) (sender : Party) (old new : List Event) : Type 0 where
+  pub rule : Option (List Condition)
+  pub reads : IsRuleTaken before.state conn m rule
+  pub spent : 4294967296 < (bus_takes before.state conn m rule).state.next
+  pub told : new ≡ old ++ Got The_bus sender m.serial ∷ []
+
+abbrev pub SpendsAtFront : List ℕ → Bus → ℕ → Party → List Event → List Event → Type 0
+SpendsAtFront bytes before conn sender old new = (m : Envelope) (rest : List ℕ) → IsMessage m (written m) → bytes ≡ written m ++ rest → IsSpentTaking m before conn sender old new

@@ -1,6 +1,6 @@
 //! Connections that leave, and what the bus tells of it.
 
-ghost use Rattle.std.specs.Prelude.{◌≡◌, ◌++◌, false, [], map, None, OnOk, IfOk};
+ghost use Rattle.std.specs.Prelude.{◌≡◌, ◌++◌, false, [], map, None, OnOk, IfOk, IsErrOf};
 ghost use Rattle.atspi_lines.specs.declared.line.Party.TheVariants as parties;
 ghost use Rattle.atspi_bus_steps.specs.Inner.{inner_of, state_of};
 ghost use Rattle.atspi_bus_steps.specs.Sound.{IsSound};
@@ -11,12 +11,14 @@ ghost use Rattle.atspi_trace.specs.Carrying.{all_told, dropped_if, sent_by_bus};
 ghost use Rattle.atspi_trace.specs.Causes.{does, exits, unjoins};
 ghost use Rattle.atspi_carrying.specs.Carried.{IsCarried, IsDone};
 ghost use Rattle.atspi_carrying.specs.Changes.{changed_at};
+ghost use Rattle.atspi_carrying.specs.Halted.{HasRegistryFirst, IsLostBy, IsSpentBy};
 ghost use Rattle.atspi_carrying.specs.Linked.{IsLinked};
 ghost use Rattle.atspi_carrying.specs.Told.{ahead, AreOthers, all_emptied, all_gone, behind_upto, bus_told, emptied, front_upto, gone, party_in, whose};
 
 use crate::carrier::Carrier;
 use crate::fault::CarryFault;
 use crate::sending::note;
+use atspi_base::NoMemory;
 use atspi_bus_steps::Inner;
 use atspi_events::Event;
 use atspi_lines::Party;
@@ -30,7 +32,7 @@ fn tell_own(
     trace: &mut Vec<Event>,
     first: Option<Message>,
     last: u32,
-) -> Result<Option<Message>, CarryFault>
+) -> Result<Option<Message>, NoMemory>
     requires { first ≡ None → (inner_of bus.old).own ≡ [] }
     ensures bus { inner_of bus.new ≡ record (inner_of bus.old) { own = (inner_of bus.new).own } }
     ensures told { IfOk result (λ next. entries_of trace.new.items ≡ entries_of trace.old.items ++ sent_by_bus (front_upto last (ahead first (inner_of bus.old)))) }
@@ -59,7 +61,7 @@ fn tell_rest(
     bus: &mut Inner,
     trace: &mut Vec<Event>,
     first: Option<Message>,
-) -> Result<(), CarryFault>
+) -> Result<(), NoMemory>
     requires { first ≡ None → (inner_of bus.old).own ≡ [] }
     ensures bus { inner_of bus.new ≡ record (inner_of bus.old) { own = (inner_of bus.new).own } }
     ensures told { OnOk result (entries_of trace.new.items ≡ entries_of trace.old.items ++ sent_by_bus (ahead first (inner_of bus.old))) }
@@ -80,7 +82,7 @@ fn tell_rest(
 }
 
 /// That an end was dropped at its quota is told.
-fn tell_dropped(trace: &mut Vec<Event>, who: Party, why: Why) -> Result<(), CarryFault>
+fn tell_dropped(trace: &mut Vec<Event>, who: Party, why: Why) -> Result<(), NoMemory>
     ensures told { OnOk result (entries_of trace.new.items ≡ entries_of trace.old.items ++ dropped_if who why) }
 {
     match why {
@@ -147,7 +149,7 @@ impl Carrier {
     }
 
     /// A connection was closed by the bus, and where it was dropped that is told; answers who it is.
-    fn close(&mut self, closing: Closing) -> Result<Party, CarryFault>
+    fn close(&mut self, closing: Closing) -> Result<Party, NoMemory>
         ensures bus { self.new.bus ≡ self.old.bus }
         ensures posts { IfOk result (λ who. self.new.posts.items ≡ changed_at closing.conn gone self.old.posts.items) }
         ensures given { IfOk result (λ who. self.new.at_end.items ≡ changed_at closing.conn emptied self.old.at_end.items) }
@@ -161,7 +163,8 @@ impl Carrier {
         }
     }
 
-    /// The bus's own messages are told, and behind those before it each closing. RegistryLost where the registry was closed.
+    /// The bus's own messages are told, and behind those before it each closing. RegistryLost where the registry was closed, and then all is told up to
+    /// that.
     pub(crate) fn tell_bus(&mut self) -> Result<(), CarryFault>
         requires sound { IsSound (state_of self.old.bus) }
         ensures sound { IsSound (state_of self.new.bus) }
@@ -170,26 +173,31 @@ impl Carrier {
         ensures given { OnOk result (self.new.at_end.items ≡ all_emptied (inner_of self.old.bus).closings self.old.at_end.items) }
         ensures told { OnOk result (entries_of self.new.trace.items ≡ entries_of self.old.trace.items ++ bus_told (map whose self.old.posts.items) (inner_of self.old.bus).own (inner_of self.old.bus).closings) }
         ensures others { OnOk result (AreOthers (map whose self.old.posts.items) (inner_of self.old.bus).closings) }
+        ensures lost { IsErrOf result CarryFault.RegistryLost
+            → (entries_of self.new.trace.items ≡ entries_of self.old.trace.items ++ bus_told (map whose self.old.posts.items) (inner_of self.old.bus).own (inner_of self.old.bus).closings)
+            × (AreOthers (map whose self.old.posts.items) (inner_of self.old.bus).closings → ⊥) }
+        ensures calm { IsErrOf result CarryFault.Spent → ⊥ }
     {
         let mut own = self.bus.own();
         while let Some(closing) = self.bus.closed() {
             own = match tell_own(&mut self.bus, &mut self.trace, own, closing.after) {
                 Ok(next) => next,
-                Err(fault) => return Err(fault),
+                Err(fault) => return Err(CarryFault::from(fault)),
             };
             let who = match self.close(closing) {
                 Ok(who) => who,
-                Err(fault) => return Err(fault),
+                Err(fault) => return Err(CarryFault::from(fault)),
             };
             if is_registry(who) {
                 return Err(CarryFault::RegistryLost);
             }
         }
-        tell_rest(&mut self.bus, &mut self.trace, own)
+        tell_rest(&mut self.bus, &mut self.trace, own)?;
+        Ok(())
     }
 
     /// The end of a connection stops: what waits on its link to the bus is lost.
-    pub fn exit(&mut self, conn: u32) -> Result<(), CarryFault>
+    pub fn exit(&mut self, conn: u32) -> Result<(), NoMemory>
         ensures bus { self.new.bus ≡ self.old.bus }
         ensures does { OnOk result ((w : World) (e : End) → IsCarried w (inner_of self.old.bus) self.old.posts.items → end_at w.ends conn ≡ Some e
             → IsDone (does w (exits conn)) (inner_of self.new.bus) self.new.posts.items self.old.trace.items self.new.trace.items) }
@@ -207,7 +215,8 @@ impl Carrier {
         Ok(())
     }
 
-    /// The bus takes the end of a connection.
+    /// The bus takes the end of a connection. RegistryLost where that drops the registry, and then all is told that it writes; Spent where the bus's own
+    /// messages would pass serial 4,294,967,295.
     pub fn part(&mut self, conn: u32) -> Result<(), CarryFault>
         requires sound { IsSound (state_of self.old.bus) }
         ensures sound { OnOk result (IsSound (state_of self.new.bus)) }
@@ -215,6 +224,10 @@ impl Carrier {
             → IsDone (does w (unjoins conn)) (inner_of self.new.bus) self.new.posts.items self.old.trace.items self.new.trace.items) }
         ensures linked { OnOk result ((w : World) (e : End) → IsCarried w (inner_of self.old.bus) self.old.posts.items → IsLinked w self.old.at_end.items
             → end_at w.ends conn ≡ Some e → e.standing ≡ stopped → IsLinked (does w (unjoins conn)).world self.new.at_end.items) }
+        ensures lost { IsErrOf result CarryFault.RegistryLost → (w : World) → IsCarried w (inner_of self.old.bus) self.old.posts.items → HasRegistryFirst w.ends
+            → IsLostBy (does w (unjoins conn)) self.old.trace.items self.new.trace.items }
+        ensures spent { IsErrOf result CarryFault.Spent → (w : World) → IsCarried w (inner_of self.old.bus) self.old.posts.items
+            → IsSpentBy (does w (unjoins conn)) self.old.trace.items self.new.trace.items }
     {
         self.leave(conn);
         self.bus.part_with(conn)?;

@@ -8,18 +8,13 @@ ghost use Rattle.atspi_carrying.specs.Filled.{gave, waits_for, FillsAt, IsAwaite
 ghost use Rattle.atspi_carrying.specs.Linked.{BringsDown};
 
 use crate::carrier::Carrier;
-use crate::fault::CarryFault;
 use crate::moving::carry;
+use atspi_base::NoMemory;
 use atspi_bus_steps::Inner;
 use atspi_posts::Link;
 
 /// Moves some of the bytes that wait for a connection to its end: at most so many, and at most those that its next message awaits. Answers how many.
-fn carry_down(
-    bus: &mut Inner,
-    at_end: &mut Link,
-    conn: u32,
-    most: usize,
-) -> Result<usize, CarryFault>
+fn carry_down(bus: &mut Inner, at_end: &mut Link, conn: u32, most: usize) -> Result<usize, NoMemory>
     ensures most { IfOk result (λ count. count ≤ most) }
     ensures state { state_of bus.new ≡ state_of bus.old }
     ensures gives { IfOk result (λ count. IsGiven (inner_of bus.old) (inner_of bus.new) at_end.old at_end.new conn count) }
@@ -33,7 +28,7 @@ fn carry_down(
 }
 
 /// Moves the bytes that wait for a connection to its end until a message is whole there, so many are moved, or none wait. Answers how many.
-fn fill(bus: &mut Inner, at_end: &mut Link, conn: u32, most: usize) -> Result<usize, CarryFault>
+fn fill(bus: &mut Inner, at_end: &mut Link, conn: u32, most: usize) -> Result<usize, NoMemory>
     ensures most { IfOk result (λ count. count ≤ most) }
     ensures state { state_of bus.new ≡ state_of bus.old }
     ensures filled { IfOk result (λ count. IsFilled (inner_of bus.old) (inner_of bus.new) at_end.old at_end.new conn most count) }
@@ -50,7 +45,7 @@ fn fill(bus: &mut Inner, at_end: &mut Link, conn: u32, most: usize) -> Result<us
 
 impl Carrier {
     /// Moves the bytes that wait for a connection to its end until a message is whole there, so many are moved, or none wait. Answers how many.
-    pub fn fill(&mut self, conn: u32, most: usize) -> Result<usize, CarryFault>
+    pub fn fill(&mut self, conn: u32, most: usize) -> Result<usize, NoMemory>
         requires sound { IsSound (state_of self.old.bus) }
         ensures sound { IsSound (state_of self.new.bus) }
         ensures most { IfOk result (λ count. count ≤ most) }

@@ -14,14 +14,14 @@ use thiserror::Error;
 /// Why something was not carried. The carrier is not used again then.
 #[derive(Clone, Copy, Debug, PartialEq, Eq, Error)]
 pub enum CarryFault {
-    /// A message of an end, or of the bus, would pass serial 4,294,967,295, or no number of a connection is left.
+    /// A message of an end, or of the bus, would pass serial 4,294,967,295.
     #[error("no number is left for a message")]
     Spent,
     /// The registry was dropped at its quota.
     #[error("the registry was dropped")]
     RegistryLost,
-    /// A message breaks a rule, or passes the limits of the wire. No end sends such a one.
-    #[error("a message breaks a rule, or passes the limits of the wire")]
+    /// What no script comes to: a message breaks a rule, or passes the limits of the wire, or no number of a connection is left.
+    #[error("a message breaks a rule, or passes the limits of the wire, or no number of a connection is left")]
     Unsendable,
     #[error("out of memory")]
     NoMemory,
@@ -56,7 +56,7 @@ impl From<BusFault> for CarryFault {
 
     fn from(fault: BusFault) -> CarryFault {
         match fault {
-            BusFault::Full => CarryFault::Spent,
+            BusFault::Full => CarryFault::Unsendable,
             BusFault::Spent => CarryFault::Spent,
             BusFault::Big => CarryFault::Unsendable,
             BusFault::NoMemory => CarryFault::NoMemory,

@@ -1,6 +1,6 @@
 //! The beginning, and joining.
 
-ghost use Rattle.std.specs.Prelude.{◌≡◌, [], length, OnOk, OnErr, IfOk};
+ghost use Rattle.std.specs.Prelude.{◌≡◌, [], length, OnOk, OnErr, IfOk, IsErrOf};
 ghost use Rattle.atspi_lines.specs.declared.line.Party.TheVariants as parties;
 ghost use Rattle.atspi_bus_steps.specs.Inner.{inner_of, state_of};
 ghost use Rattle.atspi_bus_steps.specs.Sound.{IsSound};
@@ -13,7 +13,7 @@ ghost use Rattle.atspi_carrying.specs.Linked.{IsLinked};
 
 use crate::carrier::Carrier;
 use crate::fault::CarryFault;
-use atspi_bus_steps::Inner;
+use atspi_bus_steps::{BusFault, Inner};
 use atspi_lines::Party;
 use atspi_posts::{Link, Post};
 use std::alloc::Global;
@@ -49,7 +49,7 @@ impl Carrier {
         self.at_end.clear();
     }
 
-    /// A party joins the bus; its connection's number is its place. Spent where no number is left.
+    /// A party joins the bus; its connection's number is its place. Unsendable where no number is left.
     pub fn join(&mut self, who: Party) -> Result<u32, CarryFault>
         requires sound { IsSound (state_of self.old.bus) }
         ensures sound { OnOk result (IsSound (state_of self.new.bus)) }
@@ -59,14 +59,18 @@ impl Carrier {
             → IsCarried (joins w who role []) (inner_of self.new.bus) self.new.posts.items) }
         ensures linked { IfOk result (λ conn. (w : World) (role : Role) → IsLinked w self.old.at_end.items → (w.ends ≡ [] → who ≡ parties.Registry)
             → IsLinked (joins w who role []) self.new.at_end.items) }
+        ensures calm { (IsErrOf result CarryFault.Spent → ⊥) × (IsErrOf result CarryFault.RegistryLost → ⊥) }
     {
         let Ok(conn) = u32::try_from(self.posts.len()) else {
-            return Err(CarryFault::Spent);
+            return Err(CarryFault::Unsendable);
         };
         self.posts.push(Post::new(self.alloc, who))?;
         self.at_end.push(Link::new(self.alloc))?;
-        self.bus.join_behind(conn)?;
-        Ok(conn)
+        match self.bus.join_behind(conn) {
+            Ok(()) => Ok(conn),
+            Err(BusFault::NoMemory) => Err(CarryFault::NoMemory),
+            Err(BusFault::Full | BusFault::Spent | BusFault::Big) => Err(CarryFault::Unsendable),
+        }
     }
 
     /// The bus takes three messages of a connection: the calls of the registry's start.

@@ -4,14 +4,14 @@ ghost use Rattle.std.specs.Prelude.{◌≡◌, [], ◌∷◌, ◌++◌, OnOk, On
 ghost use Rattle.atspi_message.specs.Envelope.{envelope_of};
 ghost use Rattle.atspi_message.specs.Bytes.{IsMessage, written};
 
-use crate::fault::CarryFault;
+use atspi_base::NoMemory;
 use atspi_events::Event;
 use atspi_lines::Party;
 use atspi_message::Message;
-use atspi_posts::Post;
+use atspi_posts::{Post, SendFault};
 
 /// An event is told behind the others. After want of memory the trace is as before.
-pub fn note(trace: &mut Vec<Event>, event: Event) -> Result<(), CarryFault>
+pub fn note(trace: &mut Vec<Event>, event: Event) -> Result<(), NoMemory>
     ensures told { OnOk result (trace.new.items ≡ trace.old.items ++ event ∷ []) }
     ensures err { OnErr result (trace.new.items ≡ trace.old.items) }
 {
@@ -25,11 +25,12 @@ pub fn send(
     who: Party,
     message: Message,
     trace: &mut Vec<Event>,
-) -> Result<(), CarryFault>
+) -> Result<(), SendFault>
     ensures up { OnOk result (post.new ≡ record post.old { up = post.old.up ++ written (envelope_of message) }) }
     ensures message { OnOk result (IsMessage (envelope_of message) (written (envelope_of message))) }
     ensures told { OnOk result (trace.new.items ≡ trace.old.items ++ Event.Sent who message ∷ []) }
 {
     post.up.send(&message)?;
-    note(trace, Event::Sent { who, message })
+    note(trace, Event::Sent { who, message })?;
+    Ok(())
 }

@@ -1,6 +1,6 @@
 //! The bus takes what comes up a link.
 
-ghost use Rattle.std.specs.Prelude.{◌≡◌, ◌<◌, ◌≤◌, ◌+◌, ◌^◌, ◌∷◌, List, length, IfOk, IfSome, OnOk, OnErr};
+ghost use Rattle.std.specs.Prelude.{◌≡◌, ◌<◌, ◌≤◌, ◌+◌, ◌^◌, ◌∷◌, List, length, IfOk, IfSome, OnOk, OnErr, IsErrOf};
 ghost use Rattle.atspi_message.specs.Rules.{MeetsRules};
 ghost use Rattle.atspi_header.specs.View.{envelope_at};
 ghost use Rattle.atspi_forest.specs.Forest.{first_of};
@@ -10,14 +10,17 @@ ghost use Rattle.atspi_bus_steps.specs.Sound.{IsSound};
 ghost use Rattle.atspi_trace.specs.World.{here, End, Said, World};
 ghost use Rattle.atspi_trace.specs.Ends.{end_at};
 ghost use Rattle.atspi_trace.specs.Causes.{does, routes};
+ghost use Rattle.atspi_trace.specs.Work.{moving_up};
 ghost use Rattle.atspi_carrying.specs.Carried.{IsCarried, IsDone};
+ghost use Rattle.atspi_carrying.specs.Halted.{HasRegistryFirst, IsLostBy, IsLostNext, IsLostOn, IsSpentBy, IsSpentNext, IsSpentOn};
 ghost use Rattle.atspi_carrying.specs.Linked.{IsLinked};
-ghost use Rattle.atspi_carrying.specs.Moving.{IsLacking, MovesAll, MovesSome};
-ghost use Rattle.atspi_carrying.specs.Routed.{IsTaken, RoutesFront, TakesFront};
+ghost use Rattle.atspi_carrying.specs.Moving.{IsLacking, MovesAll, MovesAt, MovesSome};
+ghost use Rattle.atspi_carrying.specs.Routed.{IsSpentTaking, IsTaken, RoutesFront, SpendsAtFront, TakesFront};
 
 use crate::carrier::Carrier;
 use crate::fault::CarryFault;
 use crate::sending::note;
+use atspi_base::NoMemory;
 use atspi_bus_steps::Inner;
 use atspi_events::Event;
 use atspi_lines::Party;
@@ -36,6 +39,8 @@ fn take_front(
     ensures sound { IfOk result (λ len. IsSound (state_of bus.new)) }
     ensures within { IfOk result (λ len. IfSome len (λ n. n ≤ length link.now)) }
     ensures takes { IfOk result (λ len. TakesFront link.now (inner_of bus.old) (inner_of bus.new) conn sender trace.old.items trace.new.items len) }
+    ensures spent { IsErrOf result CarryFault.Spent → SpendsAtFront link.now (inner_of bus.old) conn sender trace.old.items trace.new.items }
+    ensures calm { IsErrOf result CarryFault.RegistryLost → ⊥ }
 {
     match first_message(link.as_slice()) {
         None => Ok(None),
@@ -58,6 +63,8 @@ fn take(
     requires meets { MeetsRules (envelope_at first.message) }
     ensures sound { OnOk result (IsSound (state_of bus.new)) }
     ensures taken { OnOk result (IsTaken (envelope_at first.entry.message) (inner_of bus.old) (inner_of bus.new) conn sender trace.old.items trace.new.items) }
+    ensures spent { IsErrOf result CarryFault.Spent → IsSpentTaking (envelope_at first.entry.message) (inner_of bus.old) conn sender trace.old.items trace.new.items }
+    ensures calm { IsErrOf result CarryFault.RegistryLost → ⊥ }
 {
     note(
         trace,
@@ -74,7 +81,7 @@ fn take(
 }
 
 /// The unique name of a connection is kept once the bus gave it.
-fn keep_name(alloc: Global, bus: &Inner, post: &mut Post, conn: u32) -> Result<(), CarryFault>
+fn keep_name(alloc: Global, bus: &Inner, post: &mut Post, conn: u32) -> Result<(), NoMemory>
     ensures { OnOk result (post.new ≡ record post.old { name = first_of post.old.name (unique_of (state_of bus.now).owners conn) }) }
 {
     if post.name.is_some() {
@@ -98,12 +105,15 @@ fn route_front(
     requires sound { IsSound (state_of bus.old) }
     ensures sound { OnOk result (IsSound (state_of bus.new)) }
     ensures routes { OnOk result (RoutesFront (inner_of bus.old) (inner_of bus.new) conn post.old post.new trace.old.items trace.new.items) }
+    ensures spent { IsErrOf result CarryFault.Spent → SpendsAtFront post.old.up (inner_of bus.old) conn post.old.who trace.old.items trace.new.items }
+    ensures calm { IsErrOf result CarryFault.RegistryLost → ⊥ }
 {
     match take_front(bus, &post.up, conn, post.who, trace) {
         Ok(Some(len)) => {
             post.up.pop(len);
             post.begun = 0;
-            keep_name(alloc, bus, post, conn)
+            keep_name(alloc, bus, post, conn)?;
+            Ok(())
         }
         Ok(None) => Ok(()),
         Err(fault) => Err(fault),
@@ -122,7 +132,8 @@ fn lacking(post: &Post) -> Option<usize>
 }
 
 impl Carrier {
-    /// The bus takes the first message of a connection's up link, if there is one.
+    /// The bus takes the first message of a connection's up link, if there is one. RegistryLost where that drops the registry, and then all is told that
+    /// it writes; Spent where the bus's own messages would pass serial 4,294,967,295.
     pub fn route(&mut self, conn: u32) -> Result<(), CarryFault>
         requires sound { IsSound (state_of self.old.bus) }
         ensures sound { OnOk result (IsSound (state_of self.new.bus)) }
@@ -132,6 +143,10 @@ impl Carrier {
         ensures linked { OnOk result ((w : World) (e : End) (said : Said) (rest : List Said) → IsCarried w (inner_of self.old.bus) self.old.posts.items
             → IsLinked w self.old.at_end.items → end_at w.ends conn ≡ Some e → e.standing ≡ here → e.up ≡ said ∷ rest
             → IsLinked (does w (routes conn)).world self.new.at_end.items) }
+        ensures lost { IsErrOf result CarryFault.RegistryLost → (w : World) (e : End) (said : Said) (rest : List Said) → IsCarried w (inner_of self.old.bus) self.old.posts.items
+            → HasRegistryFirst w.ends → end_at w.ends conn ≡ Some e → e.up ≡ said ∷ rest → IsLostBy (does w (routes conn)) self.old.trace.items self.new.trace.items }
+        ensures spent { IsErrOf result CarryFault.Spent → (w : World) (e : End) (said : Said) (rest : List Said) → IsCarried w (inner_of self.old.bus) self.old.posts.items
+            → end_at w.ends conn ≡ Some e → e.up ≡ said ∷ rest → IsSpentBy (does w (routes conn)) self.old.trace.items self.new.trace.items }
     {
         let place = conn as usize;
         if place >= self.posts.len() {
@@ -152,6 +167,10 @@ impl Carrier {
         ensures sound { OnOk result (IsSound (state_of self.new.bus)) }
         ensures moves { IfOk result (λ left. MovesSome (inner_of self.old.bus) (inner_of self.new.bus) self.old.posts.items self.new.posts.items self.old.at_end.items self.new.at_end.items conn most left
             self.old.trace.items self.new.trace.items) }
+        ensures lost { IsErrOf result CarryFault.RegistryLost → (w : World) → IsCarried w (inner_of self.old.bus) self.old.posts.items → HasRegistryFirst w.ends
+            → MovesAt self.old.posts.items conn → IsLostNext w (moving_up conn most) self.old.trace.items self.new.trace.items }
+        ensures spent { IsErrOf result CarryFault.Spent → (w : World) → IsCarried w (inner_of self.old.bus) self.old.posts.items
+            → MovesAt self.old.posts.items conn → IsSpentNext w (moving_up conn most) self.old.trace.items self.new.trace.items }
     {
         let place = conn as usize;
         if place >= self.posts.len() {
@@ -170,10 +189,15 @@ impl Carrier {
     }
 
     /// Moves at most so many bytes of an up link; the bus takes what they complete. Where that closes the connection, nothing more is there to move.
+    /// RegistryLost and Spent as `route`.
     pub fn move_up(&mut self, conn: u32, most: u32) -> Result<(), CarryFault>
         requires sound { IsSound (state_of self.old.bus) }
         ensures sound { OnOk result (IsSound (state_of self.new.bus)) }
         ensures moves { OnOk result (MovesAll (inner_of self.old.bus) (inner_of self.new.bus) self.old.posts.items self.new.posts.items self.old.at_end.items self.new.at_end.items conn most self.old.trace.items self.new.trace.items) }
+        ensures lost { IsErrOf result CarryFault.RegistryLost → (w : World) → IsCarried w (inner_of self.old.bus) self.old.posts.items → IsLinked w self.old.at_end.items
+            → HasRegistryFirst w.ends → MovesAt self.old.posts.items conn → IsLostOn w (moving_up conn most) self.old.trace.items self.new.trace.items }
+        ensures spent { IsErrOf result CarryFault.Spent → (w : World) → IsCarried w (inner_of self.old.bus) self.old.posts.items → IsLinked w self.old.at_end.items
+            → MovesAt self.old.posts.items conn → IsSpentOn w (moving_up conn most) self.old.trace.items self.new.trace.items }
     {
         let mut left = most as usize;
         // each message has a byte that was not moved yet

@@ -1,6 +1,7 @@
 pub mod Numbers
 pub mod Room
 pub mod Edited
+pub mod Halting
 pub mod Maps
 pub mod Seen
 pub mod Spoken

@@ -7,6 +7,7 @@ pub mod announcements;
 pub mod contents;
 pub mod edits;
 pub mod forests;
+pub mod halts;
 pub mod lawful;
 pub mod loads;
 pub mod maps;

@@ -1,7 +1,8 @@
-use Rattle.std.proofs.Common.{Some, ap, ◌∙◌, subst}
+use Rattle.std.proofs.Common.{◌≡◌, Some, Err, ap, ◌∙◌, subst}
 use Rattle.atspi_message.specs.Bytes.{written}
 use Rattle.atspi_bus_steps.specs.Inner.{inner_of}
-use Rattle.atspi_carrying.specs.Routed.{IsTaken}
+use Rattle.atspi_carrying.specs.declared.fault.CarryFault.TheVariants.{Spent}
+use Rattle.atspi_carrying.specs.Routed.{IsSpentTaking, IsTaken}
 use Rattle.atspi_carrying.proofs.up.take_front.Goals as goal
 
 pub returns-in-None-clause-takes : goal.returns-in-None-clause-takes
@@ -14,3 +15,9 @@ returns-in-Ok-clause-takes c = λ m rest is front.
       long = ap Some given.1;
       taken = subst (λ e. IsTaken e (inner_of c.args.bus.now) (inner_of c.take.new.bus) c.args.conn c.args.sender c.args.trace.now.items c.take.new.trace.items) given.0 c.in-Ok.ensures.taken;
     }
+
+pub returns-in-Err-clause-spent : goal.returns-in-Err-clause-spent
+returns-in-Err-clause-spent c = λ is m rest message front.
+    let given = c.in-Some.ensures.given m (written m) rest message (c.as_slice.ensures ∙ front) in
+    let same : c.in-Err.fault ≡ Spent = cc in
+    subst (λ e. IsSpentTaking e (inner_of c.args.bus.now) c.args.conn c.args.sender c.args.trace.now.items c.take.new.trace.items) given.0 (c.in-Err.ensures.spent (ap Err same))

@@ -7,13 +7,13 @@ use Rattle.atspi_carrying.proofs.Ties.{joined, new_post}
 use Rattle.atspi_carrying.proofs.Linked.{joined_linked}
 use Rattle.atspi_carrying.proofs.carrier.Carrier.join.Goals as goal
 
-pub returns-clause-joins : goal.returns-clause-joins
-returns-clause-joins c = λ w role is.
+pub returns-in-Ok-join_behind-clause-joins : goal.returns-in-Ok-join_behind-clause-joins
+returns-in-Ok-join_behind-clause-joins c = λ w role is.
     let s = c.args.self.now in
     let number : c.in-Ok.conn ≡ length s.posts.items = first_of (omega (arith, c.in-Ok.ensures, c.len.ensures), grind (arith, c.in-Ok.ensures, c.len.ensures)) in
     let few : length c.push.new.self.items ≤ 4294967296 = grind (arith, c.in-Ok.ensures, c.len.ensures, c.in_ok-push.ensures.items) in
     let post : c.new.result ≡ post_of (newcomer c.args.who role) = new_post c.new.result c.args.who role c.new.ensures.who c.new.ensures.here c.new.ensures.unnamed c.new.ensures.up c.new.ensures.begun in
-    joined w c.args.who role (inner_of s.bus) (inner_of c.join_behind.new.self) s.posts.items c.push.new.self.items c.new.result few is (c.in_ok-join_behind.ensures.ok ∙ ap (queues.joins (inner_of s.bus)) number) c.in_ok-push.ensures.items post
+    joined w c.args.who role (inner_of s.bus) (inner_of c.join_behind.new.self) s.posts.items c.push.new.self.items c.new.result few is (c.in-Ok-join_behind.ensures.ok ∙ ap (queues.joins (inner_of s.bus)) number) c.in_ok-push.ensures.items post
 
-pub returns-clause-linked : goal.returns-clause-linked
-returns-clause-linked c = λ w role linked first. joined_linked w c.args.who role c.args.self.now.at_end.items c.push-2.new.self.items c.new-2.result linked c.in_ok-push-2.ensures.items c.new-2.ensures first
+pub returns-in-Ok-join_behind-clause-linked : goal.returns-in-Ok-join_behind-clause-linked
+returns-in-Ok-join_behind-clause-linked c = λ w role linked first. joined_linked w c.args.who role c.args.self.now.at_end.items c.push-2.new.self.items c.new-2.result linked c.in_ok-push-2.ensures.items c.new-2.ensures first

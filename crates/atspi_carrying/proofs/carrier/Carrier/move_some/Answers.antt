@@ -1,6 +1,8 @@
-use Rattle.std.proofs.Common.{refl, arith}
+use Rattle.std.proofs.Common.{Err, refl, ap, arith}
 use Rattle.atspi_bus_steps.specs.Inner.{inner_of}
-use Rattle.atspi_carrying.proofs.Rounds.{no_post, nothing_lacks, lack_none, few_moved, one_completed}
+use Rattle.atspi_carrying.specs.declared.fault.CarryFault.TheVariants.{Spent, RegistryLost}
+use Rattle.atspi_carrying.proofs.Rounds.{no_post, nothing_lacks, lack_none, few_moved, first_lost, first_spent, one_completed}
+use Rattle.atspi_carrying.proofs.Stopping.{same_fault}
 use Rattle.atspi_carrying.proofs.carrier.Carrier.move_some.Goals as goal
 
 pub returns-then-place-len-clause-moves : goal.returns-then-place-len-clause-moves
@@ -24,3 +26,15 @@ returns-clause-moves c =
     let s = c.args.self.now in
     one_completed c.args.conn c.args.most c.in-Some.lacking (inner_of s.bus) (inner_of c.route.new.self.bus) s.posts.items c.route.new.self.posts.items c.index.result.now s.at_end.items
     c.route.new.self.at_end.items s.trace.items c.route.new.self.trace.items c.index.ensures c.in-Some.ensures.exact c.if-most-lacking.false c.in_ok-route.ensures.does c.in_ok-route.ensures.linked
+
+pub returns-in_err-route-clause-lost : goal.returns-in_err-route-clause-lost
+returns-in_err-route-clause-lost c = λ is.
+    let s = c.args.self.now in
+    first_lost c.args.conn c.args.most c.in-Some.lacking (inner_of s.bus) s.posts.items c.index.result.now s.trace.items c.route.new.self.trace.items c.index.ensures c.in-Some.ensures.exact c.if-most-lacking.false
+    (c.in_err-route.ensures.lost (ap Err (same_fault c.from_residual.result _ RegistryLost c.from_residual.ensures.1 is)))
+
+pub returns-in_err-route-clause-spent : goal.returns-in_err-route-clause-spent
+returns-in_err-route-clause-spent c = λ is.
+    let s = c.args.self.now in
+    first_spent c.args.conn c.args.most c.in-Some.lacking (inner_of s.bus) s.posts.items c.index.result.now s.trace.items c.route.new.self.trace.items c.index.ensures c.in-Some.ensures.exact c.if-most-lacking.false
+    (c.in_err-route.ensures.spent (ap Err (same_fault c.from_residual.result _ Spent c.from_residual.ensures.1 is)))

@@ -1,14 +1,15 @@
-use Rattle.std.proofs.Common.{◌≡◌, ◌∷◌, ◌++◌, List, map, refl, sym, ap, ◌∙◌, subst}
+use Rattle.std.proofs.Common.{◌≡◌, true, false, ◌∷◌, ◌++◌, List, map, refl, sym, ap, ◌∙◌, subst}
 use Rattle.std.specs.Prelude.{option_to_list}
 use Rattle.atspi_message.specs.Envelope.{Envelope, envelope_of}
 use Rattle.atspi_lines.specs.declared.line.Party.TheVariants.{Registry}
 use Rattle.atspi_routing.specs.Queues.{Bus}
 use Rattle.atspi_bus_steps.specs.Inner.{inner_of}
 use Rattle.atspi_bus_steps.specs.Sound.{IsSound}
+use Rattle.atspi_trace.specs.Entry.{entries_of}
 use Rattle.atspi_trace.specs.Ends.{same_party}
-use Rattle.atspi_carrying.specs.Told.{ahead, AreOthers, all_emptied, all_gone, gone, party_in, whose}
+use Rattle.atspi_carrying.specs.Told.{ahead, AreOthers, all_emptied, all_gone, bus_told, gone, party_in, whose}
 use Rattle.atspi_carrying.proofs.Changes.{map-kept}
-use Rattle.atspi_carrying.proofs.Telling.{bus_more, closing_more}
+use Rattle.atspi_carrying.proofs.Telling.{bus_more, closing_last, closing_more}
 use Rattle.atspi_carrying.proofs.carrier.Carrier.tell_bus.Goals as goal
 
 pub loop-closing-preserved : goal.loop-closing-preserved
@@ -41,4 +42,36 @@ loop-closing-preserved c =
         ap (λ l. same_party (party_in l closing.conn) Registry) (sym inv.parties) ∙ ap (λ who. same_party who Registry) (sym closed.who) ∙ sym c.is_registry.ensures ∙ c.if-is_registry.false,
         subst (AreOthers (map whose c.args.self.now.posts.items)) rest left,
       ));
+      past = λ all. subst (AreOthers (map whose c.args.self.now.posts.items)) (sym rest) (subst (AreOthers (map whose c.args.self.now.posts.items)) first (inv.past all)).1;
     }
+
+pub returns-then-is_registry-clause-lost : goal.returns-then-is_registry-clause-lost
+returns-then-is_registry-clause-lost c = λ is.
+    let s = c.args.self.now in
+    let was = c.loop-closing in
+    let inv = c.loop-closing.invariant in
+    let telling = c.in-Ok.ensures in
+    let closed = c.in-Ok-close.ensures in
+    let closing = c.in-Some.closing in
+    let parties = map whose s.posts.items in
+    let x0 = inner_of was.self.bus in
+    let x1 = inner_of c.closed.new.self in
+    let x2 = inner_of c.tell_own.new.bus in
+    let x3 = inner_of c.close.new.self.bus in
+    let asked = inner_of c.own-own.new.self in
+    let same : x3 ≡ x2 = ap inner_of closed.bus in
+    let first : x0.closings ≡ closing ∷ x1.closings = ap (λ (x : Bus). x.closings) c.in-Some.ensures.bus in
+    let rest : x3.closings ≡ x1.closings = ap (λ (x : Bus). x.closings) (same ∙ telling.bus) in
+    let own : x0.own ≡ x1.own = ap (λ (x : Bus). x.own) c.in-Some.ensures.bus in
+    let registry : same_party (party_in (map whose was.self.posts.items) closing.conn) Registry ≡ true =
+    ap (λ who. same_party who Registry) (sym closed.who) ∙ sym c.is_registry.ensures ∙ c.if-is_registry.true in
+    let told = closing_last parties (map whose was.self.posts.items) closing x0.closings x3.closings (ahead was.own x0) (ahead was.own x1) (ahead c.in-Ok.next x3) was.self.trace.items c.tell_own.new.trace.items
+    c.close.new.self.trace.items inv.parties (first ∙ ap (λ cs. closing ∷ cs) (sym rest)) (ap (λ (es : List Envelope). map envelope_of (option_to_list was.own) ++ es) (sym own)) telling.told closed.told registry in
+    let begun = c.own-own.ensures.bus in (
+      told ∙ inv.told ∙ ap (λ (x : Bus). entries_of s.trace.items ++ bus_told parties x.own x.closings) (sym begun),
+      λ others.
+          let here = inv.past (subst (λ (x : Bus). AreOthers parties x.closings) begun others) in
+          let other = (subst (AreOthers parties) first here).0 in
+          let clash : true ≡ false = sym registry ∙ ap (λ l. same_party (party_in l closing.conn) Registry) inv.parties ∙ other in
+          absurd cc,
+    )

@@ -16,6 +16,7 @@ invariant-loop-closing l = record {
   told : entries_of l.self.trace.items ++ bus_told (map whose l.initial.self.posts.items) (ahead l.own (inner_of l.self.bus)) (inner_of l.self.bus).closings
       ≡ entries_of l.initial.self.trace.items ++ bus_told (map whose l.initial.self.posts.items) (ahead l.initial.own (inner_of l.initial.self.bus)) (inner_of l.initial.self.bus).closings;
   others : AreOthers (map whose l.initial.self.posts.items) (inner_of l.self.bus).closings → AreOthers (map whose l.initial.self.posts.items) (inner_of l.initial.self.bus).closings;
+  past : AreOthers (map whose l.initial.self.posts.items) (inner_of l.initial.self.bus).closings → AreOthers (map whose l.initial.self.posts.items) (inner_of l.self.bus).closings;
 }
 
 abbrev pub decreases-loop-closing : goal.decreases-loop-closing

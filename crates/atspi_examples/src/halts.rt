@@ -1,0 +1,48 @@
+//! Where carrying stops: the registry is lost, or the serials of the bus are spent.
+
+ghost use Rattle.std.specs.Prelude.{◌≡◌, ◌∷◌, []};
+ghost use Rattle.atspi_events.specs.declared.event.Event.TheVariants as event;
+ghost use Rattle.atspi_lines.specs.declared.line.Party.TheVariants as party;
+ghost use Rattle.atspi_routing.specs.Queues.{Bus};
+ghost use Rattle.atspi_trace.specs.World.{first_registry};
+ghost use Rattle.atspi_trace.specs.Causes.{exits};
+ghost use Rattle.atspi_trace.specs.Work.{doing, resting};
+ghost use Rattle.atspi_carrying.specs.Halted.{HasNext, HasRegistryFirst, IsAtWork, IsLostBy, IsLostNext, IsLostOn, IsSpentBy, IsSpentNext, IsSpentOn};
+ghost use Rattle.atspi_examples.specs.Halting.{application_left, drops, registry_left, two_ends};
+ghost use Rattle.atspi_examples.specs.Players.{named_app};
+
+/// The first of the ends is the registry, and no other is.
+pub fn registries()
+    ensures first { HasRegistryFirst (first_registry ∷ named_app ∷ []) }
+    ensures none { HasRegistryFirst [] → ⊥ }
+    ensures second { HasRegistryFirst (named_app ∷ first_registry ∷ []) → ⊥ }
+    ensures twice { HasRegistryFirst (first_registry ∷ first_registry ∷ []) → ⊥ }
+{}
+
+/// The registry is lost where it left, and all that this writes was written.
+pub fn losses()
+    ensures lost { (b : Bus) → IsLostBy (drops (registry_left b) party.Registry) (event.Quiet ∷ []) (event.Quiet ∷ event.Dropped party.Registry 500 24 ∷ []) }
+    ensures other { (b : Bus) → IsLostBy (drops (application_left b) (party.App 1)) [] (event.Dropped (party.App 1) 500 24 ∷ []) → ⊥ }
+    ensures untold { (b : Bus) → IsLostBy (drops (registry_left b) party.Registry) [] [] → ⊥ }
+{}
+
+/// The serials of the bus are spent where its next one is above 4,294,967,296; all that is to be written, or a front of it, was.
+pub fn spent()
+    ensures none { (b : Bus) → b.state.next ≡ 4294967297 → IsSpentBy (drops (two_ends b) (party.App 1)) (event.Quiet ∷ []) (event.Quiet ∷ []) }
+    ensures all { (b : Bus) → b.state.next ≡ 4294967297 → IsSpentBy (drops (two_ends b) (party.App 1)) [] (event.Dropped (party.App 1) 500 24 ∷ []) }
+    ensures last { (b : Bus) → b.state.next ≡ 4294967296 → IsSpentBy (drops (two_ends b) (party.App 1)) [] [] → ⊥ }
+    ensures other { (b : Bus) → IsSpentBy (drops (two_ends b) (party.App 1)) [] (event.Quiet ∷ []) → ⊥ }
+{}
+
+/// What is left of a line: where its next cause takes the registry away it is lost, and not where it takes another; nothing is next of a line at rest, nor where
+/// the registry was lost before.
+pub fn lines()
+    ensures lost_next { (b : Bus) → IsLostNext (two_ends b) (doing (exits 0)) [] (event.Exit party.Registry ∷ []) }
+    ensures other_next { (b : Bus) → IsLostNext (two_ends b) (doing (exits 1)) [] (event.Exit (party.App 1) ∷ []) → ⊥ }
+    ensures spent_next { (b : Bus) → b.state.next ≡ 4294967297 → IsSpentNext (two_ends b) (doing (exits 1)) [] [] }
+    ensures last_next { (b : Bus) → b.state.next ≡ 4294967296 → IsSpentNext (two_ends b) (doing (exits 1)) [] [] → ⊥ }
+    ensures none_next { (b : Bus) → HasNext (two_ends b) resting → ⊥ }
+    ensures lost_on { (b : Bus) → IsLostOn (two_ends b) (doing (exits 0)) [] (event.Exit party.Registry ∷ []) }
+    ensures spent_on { (b : Bus) → b.state.next ≡ 4294967297 → IsSpentOn (two_ends b) (doing (exits 1)) [] [] }
+    ensures lost_before { (b : Bus) → IsAtWork (registry_left b) (doing (exits 1)) → ⊥ }
+{}
