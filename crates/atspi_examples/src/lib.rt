@@ -4,6 +4,7 @@
 #![tactic(auto)]
 
 pub mod announcements;
+pub mod broken;
 pub mod contents;
 pub mod edits;
 pub mod forests;

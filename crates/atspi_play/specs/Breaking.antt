@@ -1,8 +1,7 @@
 -- Lines that are broken off: the registry is dropped while one is done, or a serial is spent.
-use Rattle.std.specs.Prelude.{◌≡◌, ◌⊎◌, ℕ, zero, suc, ◌<◌, true, false, List, [], ◌∷◌, ◌++◌, Option, None, Some, slice_get}
-use Rattle.atspi_lines.specs.declared.line.Party.TheVariants.{Registry}
+use Rattle.std.specs.Prelude.{◌≡◌, ◌⊎◌, ℕ, zero, suc, ◌<◌, true, false, List, [], ◌∷◌, ◌++◌, Some, slice_get}
 use Rattle.atspi_protocol.specs.following.ReaderState.{ReaderState}
-use Rattle.atspi_trace.specs.Entry.{Entry, dropped}
+use Rattle.atspi_trace.specs.Entry.{Entry}
 use Rattle.atspi_trace.specs.World.{the_registry, an_application, a_reader, Role, End, World}
 use Rattle.atspi_trace.specs.Ends.{end_at}
 use Rattle.atspi_trace.specs.Causes.{Cause}
@@ -67,12 +66,6 @@ pub record IsSpentAt (p : Playing) (left : Work) (entries : List Entry) : Type 0
   pub missing : List Entry
   pub front : (does_next at).entries ≡ part ++ missing
   pub wrote : entries ≡ at.entries ++ part
-
--- the last of some entries
-abbrev pub last_of : List Entry → Option Entry
-last_of [] = None
-last_of (e ∷ []) = Some e
-last_of (e ∷ f ∷ es) = last_of (f ∷ es)
 
 -- so many turns, one behind the other: each moves the first thing that waits, and a reader that takes it does what its own definitions say
 abbrev pub PlayedTurns : ℕ → Playing → List Entry → Playing → Type 0

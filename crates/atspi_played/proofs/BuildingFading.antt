@@ -1,23 +1,17 @@
 -- Who is not here is not here again, and nobody stops by what the bus does or what an end takes: so of the turns that write nothing each takes one end from those that stopped.
 use Rattle.std.proofs.Common.{◌≡◌, ℕ, zero, suc, ◌<◌, ◌≤◌, Bool, true, false, List, [], ◌∷◌, length, Option, None, Some, refl, sym, ap, ◌∙◌, subst, arith, cond}
 use Rattle.std.specs.Prelude.{filter, if◌then◌else◌}
-use Rattle.std.specs.List.{fold}
 use Rattle.atspi_lines.specs.declared.line.Party.{Party}
-use Rattle.atspi_message.specs.Envelope.{Envelope}
-use Rattle.atspi_protocol.specs.declared.following.question.Question.{Question}
-use Rattle.atspi_protocol.specs.following.ReaderState.{Done, sends, speaks, tells_end}
 use Rattle.atspi_routing.specs.Queues.{without_queue}
 use Rattle.atspi_routing.specs.Steps.{bus_leaves}
-use Rattle.atspi_trace.specs.World.{Standing, here, stopped, away, Role, the_registry, an_application, a_reader, Said, Letter, End, World}
-use Rattle.atspi_trace.specs.Ends.{is_here, end_at, with_end, taken_down, leaves}
-use Rattle.atspi_trace.specs.Hearing.{question_in}
+use Rattle.atspi_trace.specs.World.{Standing, here, stopped, away, Said, End, World}
+use Rattle.atspi_trace.specs.Ends.{is_here, end_at, with_end, leaves}
 use Rattle.atspi_trace.specs.Carrying.{own_letter, Carried, left, takes_end}
-use Rattle.atspi_trace.specs.Causes.{Cause, routes, unjoins, gets, tells_busy, tells_quiet, routed, took, taken, on_end, does, at_end}
-use Rattle.atspi_trace.specs.Due.{asks_as, asks_at, is_lost}
+use Rattle.atspi_trace.specs.Causes.{Cause, routes, unjoins, gets, tells_busy, tells_quiet, routed, on_end, does}
+use Rattle.atspi_trace.specs.Due.{is_lost}
 use Rattle.atspi_lawful.proofs.OfOrder.Parties.{no_none, same_some, false_true}
 use Rattle.atspi_lawful.proofs.OfOrder.Frame.{Over, IsOrder, over_same, over_both, over_with, takes_over, ends_over, settled_over, stepped_over}
-use Rattle.atspi_lawful.proofs.OfOrder.Effects.{received}
-use Rattle.atspi_play.specs.Plays.{asked, asked_with}
+use Rattle.atspi_played.proofs.BuildingStanding.{gets_over}
 
 pub record Fades (e d : End) : Type 0 where
   pub gone : is_here e.standing ≡ false → is_here d.standing ≡ false
@@ -39,27 +33,6 @@ as_it_stands e d h = record { gone = λ g. ap is_here h ∙ g; stop = λ g. sym 
 leaves_fades : (e : End) → Fades e (leaves e)
 leaves_fades e = record { gone = λ h. refl; stop = λ h. absurd (away_no h) }
 
-asks_stands : (m : Envelope) (question : Question) (e : End) (role : Role) → (asks_as role m question e).standing ≡ e.standing
-asks_stands m question e (a_reader h) = refl
-asks_stands m question e (the_registry s) = refl
-asks_stands m question e (an_application s) = refl
-
-pub call_over : (w : World) (conn : ℕ) (m : Envelope) (question : Question) → Over Fades w.ends (at_end w conn (asks_at m question)).ends
-call_over w conn m question = over_with Fades fading (asks_at m question) (λ e. as_it_stands e (asks_at m question e) (asks_stands m question e e.role)) conn w.ends
-
-asked_with_over : (conn : ℕ) (w : World) (m : Envelope) (o : Option Question) → Over Fades w.ends (asked_with conn w m o).ends
-asked_with_over conn w m None = over_same Fades fading w.ends
-asked_with_over conn w m (Some question) = call_over w conn m question
-
-asked_over : (conn : ℕ) (w : World) (d : Done) → Over Fades w.ends (asked conn w d).ends
-asked_over conn w (sends m) = asked_with_over conn w m (question_in m)
-asked_over conn w (speaks name line) = over_same Fades fading w.ends
-asked_over conn w (tells_end name) = over_same Fades fading w.ends
-
-pub out_over : (conn : ℕ) (w : World) (out : List Done) → Over Fades w.ends (fold (asked conn) w out).ends
-out_over conn w [] = over_same Fades fading w.ends
-out_over conn w (d ∷ out) = over_both Fades fading w.ends (asked conn w d).ends _ (asked_over conn w d) (out_over conn (asked conn w d) out)
-
 -- WHAT A TURN DOES
 abbrev pub IsTurn : Cause → Type 0
 IsTurn (routes conn) = Unit {0}
@@ -78,28 +51,13 @@ routed_over w conn who (said ∷ rest) =
     takes_over Fades fading (λ m e. as_it_stands e _ refl) leaves_fades (λ b k e. as_it_stands e _ refl) (λ e. as_it_stands e _ refl) (record { bus = w.bus; ends = w.ends }) conn who said
     (λ m e. as_it_stands e _ refl)
 
-took_over : (w : World) (conn : ℕ) (letter : Letter) (who : Party) (role : Role) → Over Fades w.ends (took w conn letter who role).world.ends
-took_over w conn letter who (the_registry s) = over_with Fades fading _ (λ e. as_it_stands e _ refl) conn w.ends
-took_over w conn letter who (an_application s) = over_with Fades fading _ (λ e. as_it_stands e _ refl) conn w.ends
-took_over w conn letter who (a_reader h) = over_with Fades fading _ (λ e. as_it_stands e _ refl) conn w.ends
-
-taken_over : (w : World) (conn : ℕ) (e : End) (link : List Letter) → Over Fades w.ends (taken w conn e link).world.ends
-taken_over w conn e [] = over_same Fades fading w.ends
-taken_over w conn e (letter ∷ rest) =
-    over_both Fades fading w.ends (with_end conn taken_down w.ends) _ (over_with Fades fading taken_down (λ e. as_it_stands e _ refl) conn w.ends)
-    (took_over (received w conn e letter) conn letter e.who e.role)
-
 routes_over : (w : World) (conn : ℕ) (o : Option End) → Over Fades w.ends (on_end w o (λ e. routed w conn e.who e.up)).world.ends
 routes_over w conn None = over_same Fades fading w.ends
 routes_over w conn (Some e) = routed_over w conn e.who e.up
 
-gets_over : (w : World) (conn : ℕ) (o : Option End) → Over Fades w.ends (on_end w o (λ e. taken w conn e e.down)).world.ends
-gets_over w conn None = over_same Fades fading w.ends
-gets_over w conn (Some e) = taken_over w conn e e.down
-
 pub turn_over : (w : World) (c : Cause) → IsQuietTurn c → Over Fades w.ends (does w c).world.ends
 turn_over w (routes conn) t = routes_over w conn (end_at w.ends conn)
-turn_over w (gets conn) t = gets_over w conn (end_at w.ends conn)
+turn_over w (gets conn) t = gets_over Fades fading as_it_stands w conn (end_at w.ends conn)
 turn_over w (unjoins conn) t = ends_over Fades fading (λ m e. as_it_stands e _ refl) leaves_fades (record { bus = w.bus; ends = w.ends }) conn
 turn_over w (tells_busy turns) t = over_same Fades fading w.ends
 turn_over w tells_quiet t = over_same Fades fading w.ends

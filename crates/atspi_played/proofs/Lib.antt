@@ -1,4 +1,5 @@
 pub mod Facts
+pub mod BuildingStanding
 pub mod BuildingFading
 pub mod BuildingFuel
 pub mod BuildingCourse
@@ -73,4 +74,6 @@ pub mod SeeingMore
 pub mod SeeingRows
 pub mod SeeingShows
 pub mod SeeingWords
+pub mod PlayingBroken
+pub mod PlayingDropped
 pub mod AllPieces

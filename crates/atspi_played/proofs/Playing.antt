@@ -70,7 +70,7 @@ module _ (pieces : Pieces) (script : List Line) (more : List Line) where
         subst Behind_it (sym (ap (got_by p conn) a.3.there ∙ ap (got_at p conn a.0.who) a.4)) (of_party a.0 a.1 a.2 a.3 a.4 a.0.who refl)
 
   -- EACH CAUSE
-  cause_step : (es : List Entry) (p : Playing) (work rest : Work) (c : Cause) → Stage script es p work more → next_of p.world work ≡ cause c p.world rest → is_lost (plays p c).now.world ≡ false
+  pub cause_step : (es : List Entry) (p : Playing) (work rest : Work) (c : Cause) → Stage script es p work more → next_of p.world work ≡ cause c p.world rest → is_lost (plays p c).now.world ≡ false
       → Stage script (es ++ (plays p c).entries) (plays p c).now rest more
   cause_step es p work rest (renews quota) st is lives = renews_step pieces script es p work rest more quota st is
   cause_step es p work rest starts_reader st is lives = start_step pieces script es p work rest more st is lives
@@ -108,7 +108,14 @@ module _ (pieces : Pieces) (script : List Line) (more : List Line) where
         here = last;
       }
 
-  plays_on : (es : List Entry) (p : Playing) (left : Work) (entries : List Entry) (q : Playing) → PlaysOut p left entries q → Stage script es p left more → is_lost q.world ≡ false
+  -- behind a cause of it
+  pub stage_at : (es : List Entry) (p : Playing) (v : World) (left rest : Work) (c : Cause) → v ≡ p.world → Stage script es p left more → next_of p.world left ≡ cause c v rest
+      → is_lost (plays (record p { world = v }) c).now.world ≡ false → Stage script (es ++ (plays (record p { world = v }) c).entries) (plays (record p { world = v }) c).now rest more
+  stage_at es p v left rest c same st is now =
+      subst (λ x. is_lost (plays (record p { world = x }) c).now.world ≡ false → Stage script (es ++ (plays (record p { world = x }) c).entries) (plays (record p { world = x }) c).now rest more) (sym same)
+      (cause_step es p left rest c st (is ∙ ap (λ x. cause c x rest) same)) now
+
+  pub plays_on : (es : List Entry) (p : Playing) (left : Work) (entries : List Entry) (q : Playing) → PlaysOut p left entries q → Stage script es p left more → is_lost q.world ≡ false
       → Stage script (es ++ entries) q resting more
   plays_on es _ _ _ _ (at_rest p v left is) st last = subst (λ l. Stage script l (record p { world = v }) resting more) (sym (append-nil es)) (rests_stage es p v left st is last)
   plays_on es _ _ _ _ (caused p q v left rest c entries is h) st last =
@@ -117,13 +124,6 @@ module _ (pieces : Pieces) (script : List Line) (more : List Line) where
       let stage : Stage script (es ++ (plays (record p { world = v }) c).entries) (plays (record p { world = v }) c).now rest more = stage_at es p v left rest c fine.0 st is now in
       subst (λ l. Stage script l q resting more) (append_assoc es (plays (record p { world = v }) c).entries entries)
       (plays_on (es ++ (plays (record p { world = v }) c).entries) (plays (record p { world = v }) c).now rest entries q h stage last)
-    where
-      stage_at : (es : List Entry) (p : Playing) (v : World) (left rest : Work) (c : Cause) → v ≡ p.world → Stage script es p left more → next_of p.world left ≡ cause c v rest
-          → is_lost (plays (record p { world = v }) c).now.world ≡ false → Stage script (es ++ (plays (record p { world = v }) c).entries) (plays (record p { world = v }) c).now rest more
-      stage_at es p v left rest c same st is now =
-          subst (λ x. is_lost (plays (record p { world = x }) c).now.world ≡ false → Stage script (es ++ (plays (record p { world = x }) c).entries) (plays (record p { world = x }) c).now rest more) (sym same)
-          (cause_step es p left rest c st (is ∙ ap (λ x. cause c x rest) same)) now
-
   -- WHERE ALL RESTS, IT RESTS WELL
   rests_so : (es : List Entry) (p : Playing) (left : Work) → Stage script es p left more → RestsWell p.world
   rests_so es p left st = by (next_turn p.world) refl
@@ -168,6 +168,17 @@ module _ (pieces : Pieces) (script : List Line) (more : List Line) where
     agrees Drain = refl
     agrees (Show reader app) = refl
 
+-- THE NEXT LINE is at work where it is not refused
+at_line : (pieces : Pieces) (script : List Line) (es : List Entry) (p : Playing) (line : Line) (more : List Line) → refused p line ≡ None → Stage script es p resting (line ∷ more)
+    → Stage script es p (work_of p.world line) more
+at_line pieces script es p line more ok st = record {
+  can = st.can;
+  midway = line_begins script es p.world line more st.midway (rests_so pieces script (line ∷ more) es p resting st) (sym (agrees pieces script (line ∷ more) es p resting st line) ∙ ok);
+  course = st.course;
+  tied = st.tied;
+  here = st.here;
+}
+
 -- THE BEGINNING
 none_tied : AllTied [] (first_playing QUOTA_MOST)
 none_tied = record {
@@ -186,16 +197,13 @@ module _ (pieces : Pieces) where
   played_stage _ _ _ begun more can = record { can = can; midway = begins_midway more can; course = began; tied = none_tied; here = refl }
   played_stage _ _ _ (did lines line es entries p q h ok out here) more can =
       let same : (lines ++ line ∷ []) ++ more ≡ lines ++ line ∷ more = append_assoc lines (line ∷ []) more in
-      let st : Stage (lines ++ line ∷ more) es p resting (line ∷ more) = played_stage lines es p h (line ∷ more) (subst CanAllStand same can) in
-      let agreed : work.refused p.world line ≡ None = sym (agrees pieces (lines ++ line ∷ more) (line ∷ more) es p resting st line) ∙ ok in
-      let at_work : Stage (lines ++ line ∷ more) es p (work_of p.world line) more = record {
-        can = st.can;
-        midway = line_begins (lines ++ line ∷ more) es p.world line more st.midway (rests_so pieces (lines ++ line ∷ more) (line ∷ more) es p resting st) agreed;
-        course = st.course;
-        tied = st.tied;
-        here = st.here;
-      } in
+      let at_work = at_line pieces (lines ++ line ∷ more) es p line more ok (played_stage lines es p h (line ∷ more) (subst CanAllStand same can)) in
       subst (λ l. Stage l (es ++ entries) q resting more) (sym same) (plays_on pieces (lines ++ line ∷ more) more es p (work_of p.world line) entries q out at_work here)
+
+  -- the next line, which is not refused, is at work
+  pub line_stage : (lines : List Line) (es : List Entry) (p : Playing) → IsPlayed lines es p → (line : Line) (more : List Line) → refused p line ≡ None → CanAllStand (lines ++ line ∷ more)
+      → Stage (lines ++ line ∷ more) es p (work_of p.world line) more
+  line_stage lines es p h line more ok can = at_line pieces (lines ++ line ∷ more) es p line more ok (played_stage lines es p h (line ∷ more) can)
 
   whole : (lines : List Line) (es : List Entry) (p : Playing) → CanAllStand lines → IsPlayed lines es p → Stage lines es p resting []
   whole lines es p can h =

@@ -12,12 +12,15 @@ use Rattle.atspi_trace.specs.Causes.{Cause, renews, starts_app, starts_reader, e
 use Rattle.atspi_trace.specs.Work.{Work, resting, doing, moving_up, moving_down, turning, draining, next_turn, Next, cause, rests, moved_up, moved_down, next_up, next_down, of_end, next_of_turns, next_of_drain, next_of}
 use Rattle.atspi_trace.specs.Due.{is_lost}
 use Rattle.atspi_lawful.proofs.OfOrder.Allowed.{MovedUp, MovedDown, Moves, IsBare, bare-work, NextFine}
-use Rattle.atspi_lawful.proofs.OfOrder.Frame.{Over, over_same, over_both, over_with}
+use Rattle.atspi_lawful.proofs.OfOrder.Frame.{Over, IsOrder, over_same, over_both, over_with}
 use Rattle.atspi_lawful.proofs.OfOrder.Next.{next_fine}
 use Rattle.atspi_play.specs.Playing.{Playing}
 use Rattle.atspi_play.specs.Plays.{reader_got, got_at, got_by, plays}
 use Rattle.atspi_play.specs.Played.{PlaysOut, at_rest, caused}
-use Rattle.atspi_played.proofs.BuildingFading.{Fades, fading, as_it_stands, IsTurn, IsQuietTurn, turn_over, out_over, here_before}
+use Rattle.atspi_play.specs.Breaking as breaking
+use Rattle.atspi_play.specs.Breaking.{PlaysOn, so_far}
+use Rattle.atspi_played.proofs.BuildingStanding.{gets_over, out_over}
+use Rattle.atspi_played.proofs.BuildingFading.{Fades, fading, as_it_stands, IsTurn, IsQuietTurn, turn_over, here_before}
 use Rattle.atspi_played.proofs.BuildingFuel.{is_turn}
 
 -- what is next of a line at work is a turn, or tells that all was done
@@ -87,30 +90,31 @@ module _ (w : World) where
   quiet_next (turning count left) b = quiet_turns count left (next_turn w) refl
   quiet_next draining b = quiet_drain (next_turn w) refl
 
--- what is played fades nobody in
-module _ (p : Playing) (conn : ℕ) where
-  does_over : Over Fades p.world.ends (does p.world (gets conn)).world.ends
-  does_over = turn_over p.world (gets conn) tt
+-- what an end takes leaves the standing of each
+module _ (R : End → End → Type 0) (order : IsOrder R) (stay : (e d : End) → d.standing ≡ e.standing → R e d) (p : Playing) (conn : ℕ) where
+  does_over : Over R p.world.ends (does p.world (gets conn)).world.ends
+  does_over = gets_over R order stay p.world conn (end_at p.world.ends conn)
 
-  took_over : (r : ℕ) (letter : Letter) (o : Option ReaderState) → Over Fades p.world.ends (reader_got p conn r letter o).now.world.ends
+  took_over : (r : ℕ) (letter : Letter) (o : Option ReaderState) → Over R p.world.ends (reader_got p conn r letter o).now.world.ends
   took_over r letter None = does_over
   took_over r letter (Some s) =
-      over_both Fades fading p.world.ends (does p.world (gets conn)).world.ends _ does_over
-      (out_over conn (does p.world (gets conn)).world (reader_takes s letter.said.message).out)
+      over_both R order p.world.ends (does p.world (gets conn)).world.ends _ does_over
+      (out_over R order stay conn (does p.world (gets conn)).world (reader_takes s letter.said.message).out)
 
-  at_over : (who : Party) (down : List Letter) → Over Fades p.world.ends (got_at p conn who down).now.world.ends
+  at_over : (who : Party) (down : List Letter) → Over R p.world.ends (got_at p conn who down).now.world.ends
   at_over (Reader r) (letter ∷ rest) = took_over r letter (slice_get p.readers r)
   at_over (Reader r) [] = does_over
   at_over The_bus down = does_over
   at_over Registry down = does_over
   at_over (App a) down = does_over
 
-  by_over : (o : Option End) → Over Fades p.world.ends (got_by p conn o).now.world.ends
+  pub by_over : (o : Option End) → Over R p.world.ends (got_by p conn o).now.world.ends
   by_over None = does_over
   by_over (Some e) = at_over e.who e.down
 
+-- what is played fades nobody in
 plays_over : (p : Playing) (c : Cause) → IsQuietTurn c → Over Fades p.world.ends (plays p c).now.world.ends
-plays_over p (gets conn) t = by_over p conn (end_at p.world.ends conn)
+plays_over p (gets conn) t = by_over Fades fading as_it_stands p conn (end_at p.world.ends conn)
 plays_over p (routes conn) t = turn_over p.world (routes conn) tt
 plays_over p (unjoins conn) t = turn_over p.world (unjoins conn) tt
 plays_over p (tells_busy turns) t = turn_over p.world (tells_busy turns) tt
@@ -139,4 +143,13 @@ here_all_along _ _ _ _ (caused p q v left rest c entries is h) bare last =
     let fine : NextFine p.world (cause c v rest) = subst (NextFine p.world) is (next_fine p.world left (bare-work p.world left bare)) in
     let quiet : IsQuietTurn c = subst QuietNext is (quiet_next p.world left bare) in
     let now : is_lost (plays (record p { world = v }) c).now.world ≡ false = here_all_along (plays (record p { world = v }) c).now rest entries q h fine.2 last in
+    subst (λ x. is_lost x ≡ false) fine.0 (here_before v (plays (record p { world = v }) c).now.world (plays_over (record p { world = v }) c quiet) now)
+
+-- so it is where only some causes were done
+pub here_so_far : (p : Playing) (left : Work) (entries : List Entry) (q : Playing) (last : Work) → PlaysOn p left entries q last → IsBare left → is_lost q.world ≡ false → is_lost p.world ≡ false
+here_so_far _ _ _ _ _ (so_far p left) bare last = last
+here_so_far _ _ _ _ _ (breaking.caused p q v left rest end c entries is h) bare last =
+    let fine : NextFine p.world (cause c v rest) = subst (NextFine p.world) is (next_fine p.world left (bare-work p.world left bare)) in
+    let quiet : IsQuietTurn c = subst QuietNext is (quiet_next p.world left bare) in
+    let now : is_lost (plays (record p { world = v }) c).now.world ≡ false = here_so_far (plays (record p { world = v }) c).now rest entries q end h fine.2 last in
     subst (λ x. is_lost x ≡ false) fine.0 (here_before v (plays (record p { world = v }) c).now.world (plays_over (record p { world = v }) c quiet) now)

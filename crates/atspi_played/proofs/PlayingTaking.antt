@@ -28,7 +28,8 @@ use Rattle.atspi_play.specs.Plays.{told, asked, asked_with, reader_did}
 use Rattle.atspi_played.proofs.Facts.{Ground, RepliesWell, SerialsDiffer, SeesWell, Tied}
 use Rattle.atspi_played.proofs.Pieces.{Pieces, IsTaking, IsNoCall, spoken, AsksNone, AsksOne, Skips}
 use Rattle.atspi_played.proofs.Building.{Behind, go_on, asks_behind, wrote_some}
-use Rattle.atspi_played.proofs.BuildingFading.{call_over, out_over, here_before}
+use Rattle.atspi_played.proofs.BuildingStanding.{call_over, out_over}
+use Rattle.atspi_played.proofs.BuildingFading.{Fades, fading, as_it_stands, here_before}
 use Rattle.atspi_played.proofs.BuildingCourse as course
 use Rattle.atspi_played.proofs.PlayingLists.{with_both, heard_skips, nodes_none, nodes_one, AsksNoPart}
 use Rattle.atspi_played.proofs.PlayingStage.{Stage, ground_of, before, shape, truly, course_behind, ground_behind, stage_with, tied_still}
@@ -210,7 +211,7 @@ module _ (pieces : Pieces) (script : List Line) (es : List Entry) (p : Playing) 
 
     with_call : is_lost u ≡ false → Stage script (es ++ (reader_did p conn r letter t).entries) (reader_did p conn r letter t).now rest more
     with_call last =
-        let lives : is_lost v ≡ false = here_before v u (call_over v conn m a.question) last in
+        let lives : is_lost v ≡ false = here_before v u (call_over Fades fading as_it_stands v conn m a.question) last in
         let after = ground_behind pieces script es p work rest more c st is lives in
         let seen = sees lives in
         let midway = go_on script fs u None rest more last scene in
@@ -247,7 +248,7 @@ module _ (pieces : Pieces) (script : List Line) (es : List Entry) (p : Playing) 
   -- EITHER WAY
   pub takes_step : is_lost (reader_did p conn r letter t).now.world ≡ false → Stage script (es ++ (reader_did p conn r letter t).entries) (reader_did p conn r letter t).now rest more
   takes_step last =
-      let lives : is_lost v ≡ false = here_before v (fold (asked conn) v t.out) (out_over conn v t.out) last in
+      let lives : is_lost v ≡ false = here_before v (fold (asked conn) v t.out) (out_over Fades fading as_it_stands conn v t.out) last in
       by lives (pieces.asks_step script es w conn r e h letter link s (ground_behind pieces script es p work rest more c st is lives) x tie.asks (sees lives).1 replied.0)
     where
       by : is_lost v ≡ false → (AsksNone g t ⊎ AsksOne v conn r g s t) → Stage script (es ++ (reader_did p conn r letter t).entries) (reader_did p conn r letter t).now rest more

@@ -24,7 +24,7 @@ use Rattle.atspi_lawful.proofs.OfLost.Drops.{is_drop}
 use Rattle.atspi_lawful.proofs.OfLost.Lost.{each_behind}
 
 -- only a drop stops the registry
-abbrev OnlyDrops : Entry → Type 0
+abbrev pub OnlyDrops : Entry → Type 0
 OnlyDrops entry = stops_it Registry entry ≡ is_drop entry
 
 act_only : (P : Party → Type 0) (entry : Entry) → Act P entry → OnlyDrops entry
@@ -40,7 +40,7 @@ bus_only w (dropped (Reader r) queued len) g = refl
 bus_only w (exited who) g = absurd g
 bus_only w entry g = refl
 
-written_only : (w : World) (d : Done) → Written w d → AllByRecursion OnlyDrops d.entries
+pub written_only : (w : World) (d : Done) → Written w d → AllByRecursion OnlyDrops d.entries
 written_only w d (acted a) = all_map (Act _) OnlyDrops d.entries (act_only _) a
 written_only w d (told front back is a b) =
     subst (AllByRecursion OnlyDrops) (sym is) (all_append OnlyDrops front back (all_map (Act _) OnlyDrops front (act_only _) a) (all_map (OfBus d.world) OnlyDrops back (bus_only d.world) b))
