@@ -1,8 +1,10 @@
-//! Tests of messages, streams, and messages as texts, through public calls alone.
+//! Tests of messages, streams, messages that are passed on, and messages as texts, through public calls alone.
 #![tactic(auto)]
 
 #[cfg(test)]
 mod message;
+#[cfg(test)]
+mod passing;
 #[cfg(test)]
 mod script;
 #[cfg(test)]
