@@ -124,6 +124,7 @@ module _ (pieces : Pieces) (script : List Line) (more : List Line) where
       let stage : Stage script (es ++ (plays (record p { world = v }) c).entries) (plays (record p { world = v }) c).now rest more = stage_at es p v left rest c fine.0 st is now in
       subst (λ l. Stage script l q resting more) (append_assoc es (plays (record p { world = v }) c).entries entries)
       (plays_on (es ++ (plays (record p { world = v }) c).entries) (plays (record p { world = v }) c).now rest entries q h stage last)
+
   -- WHERE ALL RESTS, IT RESTS WELL
   rests_so : (es : List Entry) (p : Playing) (left : Work) → Stage script es p left more → RestsWell p.world
   rests_so es p left st = by (next_turn p.world) refl

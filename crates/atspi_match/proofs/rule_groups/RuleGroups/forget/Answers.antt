@@ -20,12 +20,12 @@ loop-condition-preserved c =
     subst (λ l. IsForgotten first c.match-asked.self.sets l c.args.place) (sym more)
     (elim c.match-asked.branch [
       | in-Some w ↦
-        subst (λ (g : RuleGroups). IsForgotten first g.sets (take i xs ++ item ∷ []) c.args.place) (sym w.self-is)
-        (forgotten-more first c.loop-condition.self.sets w.take_out-in-Some.new.self.sets (take i xs) item w.in-Some.number c.args.place (sym c.asked.ensures ∙ w.in-Some.is)
-        w.take_out-in-Some.ensures c.loop-condition.invariant)
+          subst (λ (g : RuleGroups). IsForgotten first g.sets (take i xs ++ item ∷ []) c.args.place) (sym w.self-is)
+          (forgotten-more first c.loop-condition.self.sets w.take_out-in-Some.new.self.sets (take i xs) item w.in-Some.number c.args.place (sym c.asked.ensures ∙ w.in-Some.is)
+          w.take_out-in-Some.ensures c.loop-condition.invariant)
       | in_default w ↦
-        subst (λ (g : RuleGroups). IsForgotten first g.sets (take i xs ++ item ∷ []) c.args.place) (sym w.self-is)
-        (forgotten-other first c.loop-condition.self.sets (take i xs) item c.args.place (sym c.asked.ensures ∙ w.in_default.is) c.loop-condition.invariant)
+          subst (λ (g : RuleGroups). IsForgotten first g.sets (take i xs ++ item ∷ []) c.args.place) (sym w.self-is)
+          (forgotten-other first c.loop-condition.self.sets (take i xs) item c.args.place (sym c.asked.ensures ∙ w.in_default.is) c.loop-condition.invariant)
     ])
 
 pub returns-clause-gone : goal.returns-clause-gone

@@ -17,17 +17,17 @@ loop-condition-preserved c =
     let more = seen-more xs i item lt c.condition-item.is in
     elim c.match-asked.branch [
       | in-Some+then-askers-fewest w ↦
-        best-as sets _ _ _ _ _ _ more w.narrowest-is (w.fewest-is ∙ w.askers-askers.ensures)
-        (best-next sets (take i xs) item c.loop-condition.narrowest c.loop-condition.fewest w.in-Some.number (sym c.asked.ensures ∙ w.in-Some.is)
-        (subst (λ k. k ≤ c.loop-condition.fewest) w.askers-askers.ensures w.if-askers-fewest.true) c.loop-condition.invariant)
+          best-as sets _ _ _ _ _ _ more w.narrowest-is (w.fewest-is ∙ w.askers-askers.ensures)
+          (best-next sets (take i xs) item c.loop-condition.narrowest c.loop-condition.fewest w.in-Some.number (sym c.asked.ensures ∙ w.in-Some.is)
+          (subst (λ k. k ≤ c.loop-condition.fewest) w.askers-askers.ensures w.if-askers-fewest.true) c.loop-condition.invariant)
       | in-Some+else-askers-fewest w ↦
-        best-as sets _ _ _ _ _ _ more w.narrowest-is w.fewest-is
-        (best-kept sets (take i xs) item c.loop-condition.narrowest c.loop-condition.fewest w.in-Some.number (sym c.asked.ensures ∙ w.in-Some.is)
-        (subst (λ k. c.loop-condition.fewest < k) w.askers-askers.ensures w.if-askers-fewest.false)
-        (subst (λ k. k < 18446744073709551616) w.askers-askers.ensures w.askers-askers.type_inv) c.loop-condition.invariant)
+          best-as sets _ _ _ _ _ _ more w.narrowest-is w.fewest-is
+          (best-kept sets (take i xs) item c.loop-condition.narrowest c.loop-condition.fewest w.in-Some.number (sym c.asked.ensures ∙ w.in-Some.is)
+          (subst (λ k. c.loop-condition.fewest < k) w.askers-askers.ensures w.if-askers-fewest.false)
+          (subst (λ k. k < 18446744073709551616) w.askers-askers.ensures w.askers-askers.type_inv) c.loop-condition.invariant)
       | in_default w ↦
-        best-as sets _ _ _ _ _ _ more w.narrowest-is w.fewest-is
-        (best-other sets (take i xs) item c.loop-condition.narrowest c.loop-condition.fewest (sym c.asked.ensures ∙ w.in_default.is) c.loop-condition.invariant)
+          best-as sets _ _ _ _ _ _ more w.narrowest-is w.fewest-is
+          (best-other sets (take i xs) item c.loop-condition.narrowest c.loop-condition.fewest (sym c.asked.ensures ∙ w.in_default.is) c.loop-condition.invariant)
     ]
 
 pub returns : goal.returns
