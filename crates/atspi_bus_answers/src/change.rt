@@ -108,8 +108,8 @@ pub fn request_change(queue: &[(u32, u32)], conn: u32, flags: u32) -> OwnerChang
     }
 }
 
-/// Who will own a name that the connection leaves.
-fn next_owner(queue: &[(u32, u32)], conn: u32) -> Option<u32>
+/// Who will own a name that the connection leaves, by the list of the name.
+pub fn next_owner(queue: &[(u32, u32)], conn: u32) -> Option<u32>
     ensures { result ≡ queues.owner_in (queues.without conn queue.now) }
 {
     for (other, _) in queue {

@@ -15,7 +15,8 @@ mod said;
 mod values;
 
 pub use answering::{Reply, answer};
-pub use change::tell_change;
+pub use change::{next_owner, tell_change};
 pub use error::BusError;
 pub use member::member_of;
+pub use requesting::free_name;
 pub use said::{error_to, name_acquired, owner_changed, return_to};

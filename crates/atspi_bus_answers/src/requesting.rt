@@ -1,16 +1,20 @@
 //! RequestName and ReleaseName.
 
-ghost use Rattle.std.specs.Prelude.{◌≡◌, ℕ, List, IfOk, OnErr, chars};
+ghost use Rattle.std.specs.Prelude.{◌≡◌, ℕ, List, IfOk, IfSome, OnErr, chars};
+ghost use Rattle.atspi_cursor.specs.Items.{fields_data};
 ghost use Rattle.atspi_match.specs.declared.condition.Condition.{Condition};
 ghost use Rattle.atspi_bus_answers.specs.Answered.{with_parts, IsAnswer};
+ghost use Rattle.atspi_bus_answers.specs.Free.{IsFreeName};
 ghost use Rattle.atspi_bus_answers.specs.Members.{IsAskedName, requested_answer, released_answer};
 
 use crate::BusError;
 use crate::answering::Reply;
+use crate::arguments::first_text;
 use crate::change::{release_change, request_change, tell_change};
 use crate::literal::is_own;
 use crate::values::one;
 use atspi_base::NoMemory;
+use atspi_header::MessageRef;
 use atspi_message::Message;
 use atspi_names::Names;
 use atspi_types::{BusName, NameFault, Value};
@@ -33,6 +37,23 @@ fn asked_name(alloc: Global, text: &str) -> Result<Option<BusName>, NoMemory>
         Err(NameFault::Form) => Ok(None),
         Err(NameFault::NoMemory) => Err(NoMemory),
     }
+}
+
+/// The name that a call of RequestName asks for, where connections may ask for it and nobody has it.
+pub fn free_name(
+    alloc: Global,
+    names: &Names,
+    m: &MessageRef,
+) -> Result<Option<BusName>, NoMemory>
+    ensures { IfOk result (λ name. IfSome name (IsFreeName names.now (fields_data m.now.body))) }
+{
+    let Some(name) = asked_name(alloc, first_text(m.body))? else {
+        return Ok(None);
+    };
+    if names.is_free(&name) {
+        return Ok(Some(name));
+    }
+    Ok(None)
 }
 
 /// RequestName: what it changes is told before the name is asked for, so that after want of memory the names are as before.
