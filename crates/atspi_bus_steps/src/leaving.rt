@@ -22,7 +22,7 @@ use atspi_types::BusName;
 use std::alloc::Global;
 
 /// Those whose calls wait for a connection's answer are told that there is none, the oldest call first.
-fn tell_callers(
+pub fn tell_callers(
     alloc: Global,
     names: &Names,
     calls: &[OpenCall],
@@ -75,7 +75,7 @@ fn tell_names(
 
 impl Inner {
     /// A connection is out of every list, and its queue goes with it.
-    fn forget(&mut self, conn: u32)
+    pub fn forget(&mut self, conn: u32)
         ensures { inner_of self.new ≡ forgotten (inner_of self.old) conn }
     {
         self.names.gone(conn);
