@@ -15,6 +15,9 @@ use atspi_message::Message;
 use atspi_queues::Queues;
 use std::alloc::Global;
 
+/// Room for so many bytes is made at once for a message of the bus's own: most are shorter.
+const ROOM: usize = 512;
+
 /// A message as it is written.
 pub fn write_own(alloc: Global, message: &Message) -> Result<Bytes, BusFault>
     requires { MeetsRules (envelope_of message.now) }
@@ -23,7 +26,7 @@ pub fn write_own(alloc: Global, message: &Message) -> Result<Bytes, BusFault>
     ensures short { IfOk result (λ bytes. length bytes < 2 ^ 32) }
     ensures other { IsErrOf result BusFault.Spent → ⊥ }
 {
-    let mut bytes = Bytes::new(alloc);
+    let mut bytes = Bytes::from_vec(Vec::with_capacity(alloc, ROOM)?);
     match message.write(&mut bytes) {
         Ok(()) => Ok(bytes),
         Err(WriteFault::Big) => Err(BusFault::Big),

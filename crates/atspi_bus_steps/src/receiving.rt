@@ -36,7 +36,7 @@ fn still_joined(alloc: Global, joined: &[u32], found: &[u32]) -> Result<Vec<u32>
     requires { IsStrictlyIncreasing joined.now }
     ensures { IfOk result (λ conns. conns.items ≡ filter (has_joined joined.now) found.now) }
 {
-    let mut conns = Vec::new(alloc);
+    let mut conns = Vec::with_capacity(alloc, found.len())?;
     for conn in found {
         if has(joined, *conn) {
             conns.push(*conn)?;
