@@ -12,6 +12,7 @@ use atspi_base::{Bytes, NoMemory};
 use atspi_header::MessageRef;
 use atspi_marshal::WriteFault;
 use atspi_message::Message;
+use atspi_passing::write_from;
 use atspi_queues::Queues;
 use std::alloc::Global;
 
@@ -34,15 +35,18 @@ pub fn write_own(alloc: Global, message: &Message) -> Result<Bytes, BusFault>
     }
 }
 
-/// A message that is passed on, as it is written.
+/// A message that is passed on, as it is written: no value is made.
 pub fn write_again(alloc: Global, m: &MessageRef) -> Result<Bytes, BusFault>
     requires { MeetsRules (envelope_at m.now) }
     ensures bytes { IfOk result (λ bytes. bytes ≡ written (envelope_at m.now)) }
     ensures short { IfOk result (λ bytes. length bytes < 2 ^ 32) }
     ensures other { IsErrOf result BusFault.Spent → ⊥ }
 {
-    let message = m.owned(alloc)?;
-    write_own(alloc, &message)
+    match write_from(alloc, m) {
+        Ok(bytes) => Ok(bytes),
+        Err(WriteFault::Big) => Err(BusFault::Big),
+        Err(WriteFault::NoMemory) => Err(BusFault::NoMemory),
+    }
 }
 
 /// Hands bytes to some connections, one after the other.
