@@ -40,11 +40,7 @@ fn asked_name(alloc: Global, text: &str) -> Result<Option<BusName>, NoMemory>
 }
 
 /// The name that a call of RequestName asks for, where connections may ask for it and nobody has it.
-pub fn free_name(
-    alloc: Global,
-    names: &Names,
-    m: &MessageRef,
-) -> Result<Option<BusName>, NoMemory>
+pub fn free_name(alloc: Global, names: &Names, m: &MessageRef) -> Result<Option<BusName>, NoMemory>
     ensures { IfOk result (λ name. IfSome name (IsFreeName names.now (fields_data m.now.body))) }
 {
     let Some(name) = asked_name(alloc, first_text(m.body))? else {
