@@ -1,5 +1,5 @@
 -- Two ends, the registry and an application, of which one may have left; and that one is dropped.
-use Rattle.std.specs.Prelude.{ℕ, List, [], ◌∷◌}
+use Rattle.std.specs.Prelude.{[], ◌∷◌}
 use Rattle.atspi_lines.specs.declared.line.Party.{Party}
 use Rattle.atspi_routing.specs.Queues.{Bus}
 use Rattle.atspi_trace.specs.Entry.{dropped}

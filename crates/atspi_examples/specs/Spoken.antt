@@ -1,5 +1,5 @@
 -- A tree of two nodes, and what cases of spoken lines say of it.
-use Rattle.std.specs.Prelude.{ℕ, ◌^◌, List, [], None, codes}
+use Rattle.std.specs.Prelude.{ℕ, ◌^◌, List, codes}
 use Rattle.atspi_forest.specs.Forest.{Forest, nil, tree}
 use Rattle.atspi_forest.specs.Row.{TreeRow}
 use Rattle.atspi_examples.specs.Room.{bare}

@@ -1,5 +1,5 @@
 -- Ends by what waits for them: posts with and without bytes, and a letter whose message has a length.
-use Rattle.std.specs.Prelude.{◌≡◌, ℕ, false, List, [], ◌∷◌, length, None}
+use Rattle.std.specs.Prelude.{◌≡◌, ℕ, false, List, [], length, None}
 use Rattle.atspi_forest.specs.Forest.{nil}
 use Rattle.atspi_lines.specs.declared.line.Party.TheVariants.{Bus as The_bus, Reader}
 use Rattle.atspi_message.specs.Envelope.{Envelope}

@@ -1,5 +1,5 @@
 use Rattle.std.proofs.Common.{◌≡◌, ℕ, ◌<◌, true, false, List, [], ◌∷◌, refl, sym, ap, ◌∙◌, subst, arith}
-use Rattle.atspi_lines.specs.declared.line.Party.TheVariants.{Registry, App}
+use Rattle.atspi_lines.specs.declared.line.Party.TheVariants.{App}
 use Rattle.atspi_routing.specs.Queues.{Bus}
 use Rattle.atspi_trace.specs.Entry.{Entry, exited}
 use Rattle.atspi_trace.specs.World.{World}
@@ -11,10 +11,10 @@ use Rattle.atspi_examples.specs.Halting.{registry_left, two_ends}
 use Rattle.atspi_examples.proofs.halts.lines.Goals as goal
 
 -- the one cause of an exit is next
-next_exit : (w : World) (conn : ℕ) → HasNext w (doing (exits conn))
+abbrev next_exit : (w : World) (conn : ℕ) → HasNext w (doing (exits conn))
 next_exit w conn = record { moved = w; rest = resting; next = exits conn; is_next = refl }
 
-at_exit : (b : Bus) (conn : ℕ) → IsAtWork (two_ends b) (doing (exits conn))
+abbrev at_exit : (b : Bus) (conn : ℕ) → IsAtWork (two_ends b) (doing (exits conn))
 at_exit b conn = record {
   entries = [];
   now = two_ends b;
@@ -39,12 +39,12 @@ exit_is w conn has = same_next w has.moved (exits conn) has.next has.rest has.is
 
 -- nothing more is done of a line at rest, and an exit of another does not bring the registry back
 stays : (w v : World) (work last : Work) (es : List Entry) → WorksOn w work es v last → work ≡ resting → v ≡ w
-stays w w work work [] (so_far w work) at = refl
-stays w u work last _ (caused w v u work left last c es is on) at = let clash : rests w ≡ cause c v left = sym (ap (next_of w) at) ∙ is in absurd cc
+stays _ _ _ _ _ (so_far w work) at = refl
+stays _ _ _ _ _ (caused w v u work left last c es is on) at = let clash : rests w ≡ cause c v left = sym (ap (next_of w) at) ∙ is in absurd cc
 
 still_lost : (b : Bus) (w v : World) (work last : Work) (es : List Entry) → WorksOn w work es v last → w ≡ registry_left b → work ≡ doing (exits 1) → is_lost v ≡ true
-still_lost b w w work work [] (so_far w work) left at = ap is_lost left
-still_lost b w u work last _ (caused w v u work rest last c es is on) left at =
+still_lost b _ _ _ _ _ (so_far w work) left at = ap is_lost left
+still_lost b _ _ _ _ _ (caused w v u work rest last c es is on) left at =
     let next : cause (exits 1) (registry_left b) resting ≡ cause c v rest = sym (ap (λ x. next_of x work) left ∙ ap (next_of (registry_left b)) at) ∙ is in
     let over : rest ≡ resting = cc in
     ap is_lost (stays (does v c).world u rest last es on over) ∙ ap (λ (d : Done). is_lost d.world) (same_next (registry_left b) v (exits 1) c rest next)
