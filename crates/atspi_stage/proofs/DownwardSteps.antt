@@ -30,17 +30,17 @@ use Rattle.atspi_stage.proofs.Still.{still}
 use Rattle.atspi_stage.proofs.Taking.{with_at}
 
 -- WHAT IS NEXT of bytes that are moved down to an end that is there
-next_so : (w : World) (conn n : ℕ) (e : End) (letters : List Letter) → end_at w.ends conn ≡ Some e → e.standing ≡ here → e.down ≡ letters → next_of w (moving_down conn n) ≡ next_down w conn n here e.down_moved letters
+pub next_so : (w : World) (conn n : ℕ) (e : End) (letters : List Letter) → end_at w.ends conn ≡ Some e → e.standing ≡ here → e.down ≡ letters → next_of w (moving_down conn n) ≡ next_down w conn n here e.down_moved letters
 next_so w conn n e letters at stands link =
     ap (λ o. of_end w o (λ x. next_down w conn n x.standing x.down_moved x.down)) at ∙ ap (λ s. next_down w conn n s e.down_moved e.down) stands ∙ ap (next_down w conn n here e.down_moved) link
 
-next_if : (w : World) (conn n : ℕ) (letter : Letter) (moved : ℕ) (b : Bool) → nat_le (missing letter.said.message moved) n ≡ b
+pub next_if : (w : World) (conn n : ℕ) (letter : Letter) (moved : ℕ) (b : Bool) → nat_le (missing letter.said.message moved) n ≡ b
     → (if nat_le (missing letter.said.message moved) n then cause (gets conn) w (moving_down conn (n - missing letter.said.message moved)) else rests (moved_down w conn n))
     ≡ (if b then cause (gets conn) w (moving_down conn (n - missing letter.said.message moved)) else rests (moved_down w conn n))
 next_if w conn n letter moved b is = ap (λ (t : Bool). if t then cause (gets conn) w (moving_down conn (n - missing letter.said.message moved)) else rests (moved_down w conn n)) is
 
 -- bytes that complete no message
-moved_playing : (p : Playing) (conn n : ℕ) (s : Staged) (b : Bus) (given : List (List ℕ)) → IsPlaying p s → IsCarried (moved_down p.world conn n) b s.posts → IsLinked (moved_down p.world conn n) given
+pub moved_playing : (p : Playing) (conn n : ℕ) (s : Staged) (b : Bus) (given : List (List ℕ)) → IsPlaying p s → IsCarried (moved_down p.world conn n) b s.posts → IsLinked (moved_down p.world conn n) given
     → IsPlaying (record p { world = moved_down p.world conn n }) (record s { bus = b; given = given })
 moved_playing p conn n s b given playing tied linked =
     let is = playing.is in

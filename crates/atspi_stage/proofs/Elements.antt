@@ -67,6 +67,12 @@ module _ {A X : Type 0} (g : A → X) where
   took_at (Ok t) f xs i x y h e = took_one f xs i x y h e
   took_at (Err t) f xs i x y h e = tt
 
+  pub took_there : (f : X → X) (xs : List A) (i : ℕ) (d : A) → i < length xs → slice_get (changed_at i f (map g xs)) i ≡ Some (f (g (get_or xs i d)))
+  took_there f [] zero d few = absurd (omega (arith, few))
+  took_there f [] (suc i) d few = absurd (omega (arith, few))
+  took_there f (z ∷ zs) zero d few = refl
+  took_there f (z ∷ zs) (suc i) d few = took_there f zs i d (omega (arith, few))
+
 none_post : (posts : List Post) (i : ℕ) (p : Post) → length posts ≤ i → slice_get posts i ≡ Some p → ⊥
 none_post [] zero p h e = cc
 none_post [] (suc i) p h e = cc

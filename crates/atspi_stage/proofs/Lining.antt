@@ -71,7 +71,7 @@ call_then (Some u) (Some b) x y f ri ai free = by (is_here u.standing) free ∙ 
     by false h = absurd cc
 
 -- AN EDIT: it is refused as the application refuses it
-edit_is : (app : ℕ) (edit : Edit) (conn : ℕ) (old : Staged) (why : Option Refusal) → Finds (Some conn) (App app) old.posts → EditIsRefused why old.apps app edit
+pub edit_is : (app : ℕ) (edit : Edit) (conn : ℕ) (old : Staged) (why : Option Refusal) → Finds (Some conn) (App app) old.posts → EditIsRefused why old.apps app edit
     → (p : Playing) → IsPlaying p old → first_refusal p.world (lines.Edit app edit) ≡ None → refused p (lines.Edit app edit) ≡ why
 edit_is app edit conn old why found says = λ p is free.
     let w = p.world in
@@ -130,7 +130,7 @@ exit_line who old new does_ p is free = by (conn_of p.world.ends who) refl free
     by (Some k) there h = (let e = conn_end p.world.ends who k there in caused_once p (exits k) old new (does_ p k e.0 is there e.1 (here_is (end_at p.world.ends k) e.0 e.1 h)))
 
 -- A CALL: it is refused as the reader refuses it
-call_is : (reader app node : ℕ) (deed : Deed) (conn callee : ℕ) (old : Staged) (why : Option Refusal) → Finds (Some conn) (Reader reader) old.posts → Finds (Some callee) (App app) old.posts
+pub call_is : (reader app node : ℕ) (deed : Deed) (conn callee : ℕ) (old : Staged) (why : Option Refusal) → Finds (Some conn) (Reader reader) old.posts → Finds (Some callee) (App app) old.posts
     → CallAtIsRefused why old.readers reader old.posts callee → (p : Playing) → IsPlaying p old → first_refusal p.world (lines.Call reader app node deed) ≡ None → refused p (lines.Call reader app node deed) ≡ why
 call_is reader app node deed conn callee old why found other says = λ p is free.
     let w = p.world in

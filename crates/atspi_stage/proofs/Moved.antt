@@ -30,7 +30,7 @@ use Rattle.atspi_stage.proofs.Routing.{routes_parts, ends_parts}
 use Rattle.atspi_stage.proofs.Stays.{Beside, parts_kept, same_world}
 
 -- all are and play the same, and no face is used
-record Keeps (w v : World) : Type 0 where
+pub record Keeps (w v : World) : Type 0 where
   pub parts : map part_of v.ends ≡ map part_of w.ends
   pub swaps : v.swaps ≡ w.swaps
 
@@ -41,17 +41,17 @@ same_keeps : (w : World) → Keeps w w
 same_keeps w = record { parts = refl; swaps = refl }
 
 -- the work moves bytes up, or rests; its causes are the bus's
-abbrev IsUp : Work → Type 0
+abbrev pub IsUp : Work → Type 0
 IsUp (moving_up conn count) = Unit {0}
 IsUp resting = Unit {0}
 IsUp work = ⊥
 
-abbrev IsOfBus : Cause → Type 0
+abbrev pub IsOfBus : Cause → Type 0
 IsOfBus (routes conn) = Unit {0}
 IsOfBus (unjoins conn) = Unit {0}
 IsOfBus c = ⊥
 
-abbrev GoesUp : World → Next → Type 0
+abbrev pub GoesUp : World → Next → Type 0
 GoesUp w (cause c v left) = (v ≡ w) × IsOfBus c × IsUp left
 GoesUp w (rests v) = Keeps w v
 
@@ -66,7 +66,7 @@ up_goes w conn zero stopped moved link = same_keeps w
 up_goes w conn (suc count) stopped moved link = (refl, tt, tt)
 up_goes w conn count away moved link = same_keeps w
 
-work_goes : (w : World) (work : Work) → IsUp work → GoesUp w (next_of w work)
+pub work_goes : (w : World) (work : Work) → IsUp work → GoesUp w (next_of w work)
 work_goes w resting up = same_keeps w
 work_goes w (moving_up conn count) up = by (end_at w.ends conn)
   where
@@ -122,7 +122,7 @@ move_world p conn count old new is worked apps readers beside =
 still : (p : Playing) (work : Work) (s : Staged) → next_of p.world work ≡ rests p.world → IsPlaying p s → IsSegment p work s s
 still p work s e is = record { after = p; entries = []; plays = at_rest p p.world work e; is = is; wrote = sym (append-nil (entries_of s.trace)) }
 
-standing_next : (w : World) (conn count : ℕ) (e : End) (s : Standing) → end_at w.ends conn ≡ Some e → e.standing ≡ s → next_of w (moving_up conn count) ≡ next_up w conn count s e.up_moved e.up
+pub standing_next : (w : World) (conn count : ℕ) (e : End) (s : Standing) → end_at w.ends conn ≡ Some e → e.standing ≡ s → next_of w (moving_up conn count) ≡ next_up w conn count s e.up_moved e.up
 standing_next w conn count e s at is = ap (λ o. of_end w o (λ x. next_up w conn count x.standing x.up_moved x.up)) at ∙ ap (λ t. next_up w conn count t e.up_moved e.up) is
 
 pub stopped_is : (s : Standing) → standing_at s ≡ Stopped → s ≡ stopped

@@ -7,12 +7,14 @@ use Rattle.atspi_trace.specs.Entry.{entry_of, entries_of}
 use Rattle.atspi_trace.specs.World.{World}
 use Rattle.atspi_trace.specs.Causes.{Cause}
 use Rattle.atspi_trace.specs.Work.{Work, cause, rests, next_of}
+use Rattle.atspi_play.specs.Breaking as breaking
 use Rattle.atspi_play.specs.Playing.{Playing}
 use Rattle.atspi_play.specs.Plays.{only, plays}
 use Rattle.atspi_play.specs.Played.{PlaysOut, at_rest, caused}
 use Rattle.atspi_stage.specs.Lines.{IsSegment}
 use Rattle.atspi_stage.specs.Turns.{PartDone}
 use Rattle.atspi_stage.specs.Worlds.{Staged, IsPlaying, Happens}
+use Rattle.atspi_stage.proofs.Onward.{on_more}
 use Rattle.atspi_stage.proofs.Stays.{same_world}
 
 -- what follows of two that an answer promises
@@ -22,7 +24,7 @@ on_ok_both (Err e) f p q = tt
 
 -- nothing yet
 abbrev pub none_done : (p : Playing) (work : Work) (s : Staged) → IsPlaying p s → PartDone p work work s s
-none_done p work s is = record { now = p; entries = []; is = is; wrote = sym (append-nil (entries_of s.trace)); completes = λ es q h. h }
+none_done p work s is = record { now = p; entries = []; is = is; wrote = sym (append-nil (entries_of s.trace)); on = breaking.so_far p work; completes = λ es q h. h }
 
 -- one cause more
 abbrev pub one_done : (p : Playing) (work left next : Work) (c : Cause) (old mid new : Staged) → (t : PartDone p work left old mid) → next_of t.now.world left ≡ cause c t.now.world next → Happens (plays t.now c) mid new
@@ -34,6 +36,7 @@ one_done p work left next c old mid new t is done =
       entries = t.entries ++ h.entries;
       is = done.is;
       wrote = done.wrote ∙ ap (λ l. l ++ h.entries) t.wrote ∙ append_assoc (entries_of old.trace) t.entries h.entries;
+      on = on_more p t.now t.now.world work left next c t.entries t.on is;
       completes = λ es q out. subst (λ l. PlaysOut p work l q) (sym (append_assoc t.entries h.entries es)) (t.completes (h.entries ++ es) q (caused t.now q t.now.world left next c es is out));
     }
 

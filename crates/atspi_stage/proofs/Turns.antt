@@ -19,13 +19,13 @@ use Rattle.atspi_stage.proofs.Routing.{routes_parts, ends_parts}
 use Rattle.atspi_stage.proofs.Stays.{Beside, same_world, only_happens}
 
 -- WHAT A TURN IS: at the place of its connection an end that sent something, or stopped, or for which a letter waits
-abbrev IsTurnOf : End → Cause → Type 0
+abbrev pub IsTurnOf : End → Cause → Type 0
 IsTurnOf e (routes k) = (e.standing ≡ here) × ((said : Said) × ((rest : List Said) × (e.up ≡ said ∷ rest)))
 IsTurnOf e (unjoins k) = e.standing ≡ stopped
 IsTurnOf e (gets k) = (e.standing ≡ here) × ((letter : Letter) × ((rest : List Letter) × (e.down ≡ letter ∷ rest)))
 IsTurnOf e c = ⊥
 
-abbrev conn_in : Cause → ℕ
+abbrev pub conn_in : Cause → ℕ
 conn_in (routes k) = k
 conn_in (unjoins k) = k
 conn_in (gets k) = k
@@ -75,12 +75,12 @@ turn_is w c h = by (first_up 0 w.ends) refl h
     by (Some u) some found = up_is 0 w.ends c (some ∙ found)
 
 -- the end of a turn's connection
-record HasTurn (w : World) (c : Cause) : Type 0 where
+pub record HasTurn (w : World) (c : Cause) : Type 0 where
   pub the_end : End
   pub at : end_at w.ends (conn_in c) ≡ Some the_end
   pub is : IsTurnOf the_end c
 
-turn_at : (w : World) (c : Cause) → next_turn w ≡ Some c → HasTurn w c
+pub turn_at : (w : World) (c : Cause) → next_turn w ≡ Some c → HasTurn w c
 turn_at w c h =
     let t = turn_is w c h in
     let place : conn_in c ≡ t.place = (let sum = t.sum in omega (arith, sum)) in
@@ -99,15 +99,15 @@ turn_some w c h = by c (turn_at w c h).is
     by (gets k) is = refl
     by _ is = absurd is
 
-only_route : (c : Cause) (conn : ℕ) → turn_of c ≡ Some (Route conn) → c ≡ routes conn
+pub only_route : (c : Cause) (conn : ℕ) → turn_of c ≡ Some (Route conn) → c ≡ routes conn
 only_route (routes k) conn h = (let same : k ≡ conn = cc in ap routes same)
 only_route c conn h = absurd cc
 
-only_part : (c : Cause) (conn : ℕ) → turn_of c ≡ Some (Part conn) → c ≡ unjoins conn
+pub only_part : (c : Cause) (conn : ℕ) → turn_of c ≡ Some (Part conn) → c ≡ unjoins conn
 only_part (unjoins k) conn h = (let same : k ≡ conn = cc in ap unjoins same)
 only_part c conn h = absurd cc
 
-only_get : (c : Cause) (conn : ℕ) → turn_of c ≡ Some (Get conn) → c ≡ gets conn
+pub only_get : (c : Cause) (conn : ℕ) → turn_of c ≡ Some (Get conn) → c ≡ gets conn
 only_get (gets k) conn h = (let same : k ≡ conn = cc in ap gets same)
 only_get c conn h = absurd cc
 

@@ -1,6 +1,8 @@
 -- What a fault of an end, or of what lies between the ends, is to a line.
 use Rattle.atspi_carrying.specs.declared.fault.CarryFault.{CarryFault}
 use Rattle.atspi_carrying.specs.declared.fault.CarryFault.TheVariants as carry
+use Rattle.atspi_posts.specs.declared.fault.SendFault.{SendFault}
+use Rattle.atspi_posts.specs.declared.fault.SendFault.TheVariants as send
 use Rattle.atspi_stage_ends.specs.declared.fault.AppFault.{AppFault}
 use Rattle.atspi_stage_ends.specs.declared.fault.AppFault.TheVariants as app
 use Rattle.atspi_stage_ends.specs.declared.fault.CallFault.{CallFault}
@@ -14,6 +16,10 @@ of_carry carry.Spent = Spent
 of_carry carry.RegistryLost = RegistryLost
 of_carry carry.Unsendable = Unsendable
 of_carry carry.NoMemory = NoMemory
+
+abbrev pub of_sent : SendFault → ActFault
+of_sent send.Unsendable = Unsendable
+of_sent send.NoMemory = NoMemory
 
 abbrev pub of_app : AppFault → ActFault
 of_app (app.Refused why) = Refused (Edit why)

@@ -1,6 +1,7 @@
 pub mod Cast
 pub mod Doing
 pub mod Faults
+pub mod Halts
 pub mod Hearing
 pub mod Lines
 pub mod MayAct

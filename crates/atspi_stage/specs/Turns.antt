@@ -2,6 +2,7 @@
 use Rattle.std.specs.Prelude.{◌≡◌, ℕ, Bool, true, false, List, ◌++◌, None, IsSome}
 use Rattle.atspi_trace.specs.Entry.{Entry, entries_of}
 use Rattle.atspi_trace.specs.Work.{Work, turning, next_turn}
+use Rattle.atspi_play.specs.Breaking.{PlaysOn}
 use Rattle.atspi_play.specs.Playing.{Playing}
 use Rattle.atspi_play.specs.Played.{PlaysOut}
 use Rattle.atspi_stage.specs.Worlds.{Staged, IsPlaying}
@@ -12,6 +13,7 @@ pub record PartDone (p : Playing) (work left : Work) (old new : Staged) : Type 0
   pub entries : List Entry
   pub is : IsPlaying now new
   pub wrote : entries_of new.trace ≡ entries_of old.trace ++ entries
+  pub on : PlaysOn p work entries now left
   pub completes : (es : List Entry) (q : Playing) → PlaysOut now left es q → PlaysOut p work (entries ++ es) q
 
 -- so many turns of so many are left

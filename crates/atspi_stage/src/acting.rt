@@ -11,6 +11,7 @@ ghost use Rattle.atspi_play.specs.Playing.{Playing};
 ghost use Rattle.atspi_lines.specs.declared.line.Party.TheVariants as parties;
 ghost use Rattle.atspi_trace.specs.Ends.{end_at, same_party};
 ghost use Rattle.atspi_trace.specs.Work as work;
+ghost use Rattle.atspi_stage.specs.Halts.{LineLost, LineLostElse, LineSpent, LineSpentElse, WorkLost, WorkSpent};
 ghost use Rattle.atspi_stage.specs.Lines.{CausedAt, IsSegment, LineDone, LineDoneElse, WorkOf, WorkOfElse};
 ghost use Rattle.atspi_stage.specs.MayAct.{HasName, MayAct};
 ghost use Rattle.atspi_play.specs.Played as playing;
@@ -22,6 +23,7 @@ ghost use Rattle.atspi_stage.specs.Worlds.{staged, IsPlaying};
 use crate::fault::ActFault;
 use crate::places::conn_of;
 use crate::stage::Stage;
+use atspi_base::NoMemory;
 use atspi_carrying::CarryFault;
 use atspi_forest::Edit;
 use atspi_lines::{Deed, Line, Party};
@@ -37,6 +39,8 @@ impl<A: Application, R: Follower> Stage<A, R> {
         ensures does { OnOk result (LineDoneElse (lines.Edit app edit.now) (staged A.exporter R.follower (inner_of self.old.carrier.bus) self.old.carrier.posts.items self.old.carrier.at_end.items self.old.cast.registry self.old.cast.apps.items self.old.cast.readers.items (length self.old.kits.items) (length self.old.spares.items) self.old.carrier.trace.items) (staged A.exporter R.follower (inner_of self.new.carrier.bus) self.new.carrier.posts.items self.new.carrier.at_end.items self.new.cast.registry self.new.cast.apps.items self.new.cast.readers.items (length self.new.kits.items) (length self.new.spares.items) self.new.carrier.trace.items)) }
         ensures refused { (why : Refusal) → IsErrOf result (ActFault.Refused why) → RefusedElse (lines.Edit app edit.now) why (staged A.exporter R.follower (inner_of self.old.carrier.bus) self.old.carrier.posts.items self.old.carrier.at_end.items self.old.cast.registry self.old.cast.apps.items self.old.cast.readers.items (length self.old.kits.items) (length self.old.spares.items) self.old.carrier.trace.items) }
         ensures nothing { (why : Refusal) → IsErrOf result (ActFault.Refused why) → (staged A.exporter R.follower (inner_of self.new.carrier.bus) self.new.carrier.posts.items self.new.carrier.at_end.items self.new.cast.registry self.new.cast.apps.items self.new.cast.readers.items (length self.new.kits.items) (length self.new.spares.items) self.new.carrier.trace.items) ≡ (staged A.exporter R.follower (inner_of self.old.carrier.bus) self.old.carrier.posts.items self.old.carrier.at_end.items self.old.cast.registry self.old.cast.apps.items self.old.cast.readers.items (length self.old.kits.items) (length self.old.spares.items) self.old.carrier.trace.items) }
+        ensures spent { IsErrOf result ActFault.Spent → LineSpentElse (lines.Edit app edit.now) (staged A.exporter R.follower (inner_of self.old.carrier.bus) self.old.carrier.posts.items self.old.carrier.at_end.items self.old.cast.registry self.old.cast.apps.items self.old.cast.readers.items (length self.old.kits.items) (length self.old.spares.items) self.old.carrier.trace.items) self.new.carrier.trace.items }
+        ensures calm { IsErrOf result ActFault.RegistryLost → ⊥ }
     {
         match conn_of(&self.carrier.posts, Party::App(app)) {
             Some(conn) => self.edit(conn, app, edit),
@@ -52,6 +56,8 @@ impl<A: Application, R: Follower> Stage<A, R> {
         ensures does { OnOk result (LineDoneElse (lines.Call reader app node deed.now) (staged A.exporter R.follower (inner_of self.old.carrier.bus) self.old.carrier.posts.items self.old.carrier.at_end.items self.old.cast.registry self.old.cast.apps.items self.old.cast.readers.items (length self.old.kits.items) (length self.old.spares.items) self.old.carrier.trace.items) (staged A.exporter R.follower (inner_of self.new.carrier.bus) self.new.carrier.posts.items self.new.carrier.at_end.items self.new.cast.registry self.new.cast.apps.items self.new.cast.readers.items (length self.new.kits.items) (length self.new.spares.items) self.new.carrier.trace.items)) }
         ensures refused { (why : Refusal) → IsErrOf result (ActFault.Refused why) → RefusedElse (lines.Call reader app node deed.now) why (staged A.exporter R.follower (inner_of self.old.carrier.bus) self.old.carrier.posts.items self.old.carrier.at_end.items self.old.cast.registry self.old.cast.apps.items self.old.cast.readers.items (length self.old.kits.items) (length self.old.spares.items) self.old.carrier.trace.items) }
         ensures nothing { (why : Refusal) → IsErrOf result (ActFault.Refused why) → (staged A.exporter R.follower (inner_of self.new.carrier.bus) self.new.carrier.posts.items self.new.carrier.at_end.items self.new.cast.registry self.new.cast.apps.items self.new.cast.readers.items (length self.new.kits.items) (length self.new.spares.items) self.new.carrier.trace.items) ≡ (staged A.exporter R.follower (inner_of self.old.carrier.bus) self.old.carrier.posts.items self.old.carrier.at_end.items self.old.cast.registry self.old.cast.apps.items self.old.cast.readers.items (length self.old.kits.items) (length self.old.spares.items) self.old.carrier.trace.items) }
+        ensures spent { IsErrOf result ActFault.Spent → LineSpentElse (lines.Call reader app node deed.now) (staged A.exporter R.follower (inner_of self.old.carrier.bus) self.old.carrier.posts.items self.old.carrier.at_end.items self.old.cast.registry self.old.cast.apps.items self.old.cast.readers.items (length self.old.kits.items) (length self.old.spares.items) self.old.carrier.trace.items) self.new.carrier.trace.items }
+        ensures calm { IsErrOf result ActFault.RegistryLost → ⊥ }
     {
         let Some(conn) = conn_of(&self.carrier.posts, Party::Reader(reader)) else {
             return Ok(());
@@ -63,7 +69,7 @@ impl<A: Application, R: Follower> Stage<A, R> {
     }
 
     /// A party stops.
-    fn exit_of(&mut self, who: Party) -> Result<(), CarryFault>
+    fn exit_of(&mut self, who: Party) -> Result<(), NoMemory>
         requires end { same_party who parties.Registry ≡ false }
         requires stage { IsStage A.is_app R.is_follower A.is_kit A.is_spare self.old.cast.apps.items self.old.cast.readers.items self.old.kits.items self.old.spares.items (state_of self.old.carrier.bus) }
         ensures stage { IsStage A.is_app R.is_follower A.is_kit A.is_spare self.new.cast.apps.items self.new.cast.readers.items self.new.kits.items self.new.spares.items (state_of self.new.carrier.bus) }
@@ -76,7 +82,7 @@ impl<A: Application, R: Follower> Stage<A, R> {
     }
 
     /// A reader shows what it holds of an application.
-    fn show_of(&mut self, reader: u32, app: u32) -> Result<(), CarryFault>
+    fn show_of(&mut self, reader: u32, app: u32) -> Result<(), NoMemory>
         requires stage { IsStage A.is_app R.is_follower A.is_kit A.is_spare self.old.cast.apps.items self.old.cast.readers.items self.old.kits.items self.old.spares.items (state_of self.old.carrier.bus) }
         ensures stage { IsStage A.is_app R.is_follower A.is_kit A.is_spare self.new.cast.apps.items self.new.cast.readers.items self.new.kits.items self.new.spares.items (state_of self.new.carrier.bus) }
         ensures does { OnOk result (WorkOf (lines.Show reader app) (staged A.exporter R.follower (inner_of self.old.carrier.bus) self.old.carrier.posts.items self.old.carrier.at_end.items self.old.cast.registry self.old.cast.apps.items self.old.cast.readers.items (length self.old.kits.items) (length self.old.spares.items) self.old.carrier.trace.items) (staged A.exporter R.follower (inner_of self.new.carrier.bus) self.new.carrier.posts.items self.new.carrier.at_end.items self.new.cast.registry self.new.cast.apps.items self.new.cast.readers.items (length self.new.kits.items) (length self.new.spares.items) self.new.carrier.trace.items)) }
@@ -93,6 +99,8 @@ impl<A: Application, R: Follower> Stage<A, R> {
         ensures stage { OnOk result (IsStage A.is_app R.is_follower A.is_kit A.is_spare self.new.cast.apps.items self.new.cast.readers.items self.new.kits.items self.new.spares.items (state_of self.new.carrier.bus)) }
         ensures does { OnOk result ((p : Playing) (e : End) → IsPlaying p (staged A.exporter R.follower (inner_of self.old.carrier.bus) self.old.carrier.posts.items self.old.carrier.at_end.items self.old.cast.registry self.old.cast.apps.items self.old.cast.readers.items (length self.old.kits.items) (length self.old.spares.items) self.old.carrier.trace.items) → end_at p.world.ends conn ≡ Some e
             → IsSegment p (work.moving_up conn count) (staged A.exporter R.follower (inner_of self.old.carrier.bus) self.old.carrier.posts.items self.old.carrier.at_end.items self.old.cast.registry self.old.cast.apps.items self.old.cast.readers.items (length self.old.kits.items) (length self.old.spares.items) self.old.carrier.trace.items) (staged A.exporter R.follower (inner_of self.new.carrier.bus) self.new.carrier.posts.items self.new.carrier.at_end.items self.new.cast.registry self.new.cast.apps.items self.new.cast.readers.items (length self.new.kits.items) (length self.new.spares.items) self.new.carrier.trace.items)) }
+        ensures lost { IsErrOf result CarryFault.RegistryLost → (p : Playing) (e : End) → IsPlaying p (staged A.exporter R.follower (inner_of self.old.carrier.bus) self.old.carrier.posts.items self.old.carrier.at_end.items self.old.cast.registry self.old.cast.apps.items self.old.cast.readers.items (length self.old.kits.items) (length self.old.spares.items) self.old.carrier.trace.items) → end_at p.world.ends conn ≡ Some e → WorkLost p (work.moving_up conn count) (staged A.exporter R.follower (inner_of self.old.carrier.bus) self.old.carrier.posts.items self.old.carrier.at_end.items self.old.cast.registry self.old.cast.apps.items self.old.cast.readers.items (length self.old.kits.items) (length self.old.spares.items) self.old.carrier.trace.items) self.new.carrier.trace.items }
+        ensures spent { IsErrOf result CarryFault.Spent → (p : Playing) (e : End) → IsPlaying p (staged A.exporter R.follower (inner_of self.old.carrier.bus) self.old.carrier.posts.items self.old.carrier.at_end.items self.old.cast.registry self.old.cast.apps.items self.old.cast.readers.items (length self.old.kits.items) (length self.old.spares.items) self.old.carrier.trace.items) → end_at p.world.ends conn ≡ Some e → WorkSpent p (work.moving_up conn count) (staged A.exporter R.follower (inner_of self.old.carrier.bus) self.old.carrier.posts.items self.old.carrier.at_end.items self.old.cast.registry self.old.cast.apps.items self.old.cast.readers.items (length self.old.kits.items) (length self.old.spares.items) self.old.carrier.trace.items) self.new.carrier.trace.items }
     {
         let place = conn as usize;
         if place >= self.carrier.posts.len() {
@@ -115,6 +123,8 @@ impl<A: Application, R: Follower> Stage<A, R> {
         requires stage { IsStage A.is_app R.is_follower A.is_kit A.is_spare self.old.cast.apps.items self.old.cast.readers.items self.old.kits.items self.old.spares.items (state_of self.old.carrier.bus) }
         ensures stage { OnOk result (IsStage A.is_app R.is_follower A.is_kit A.is_spare self.new.cast.apps.items self.new.cast.readers.items self.new.kits.items self.new.spares.items (state_of self.new.carrier.bus)) }
         ensures does { OnOk result (WorkOf (lines.Bytes who up count) (staged A.exporter R.follower (inner_of self.old.carrier.bus) self.old.carrier.posts.items self.old.carrier.at_end.items self.old.cast.registry self.old.cast.apps.items self.old.cast.readers.items (length self.old.kits.items) (length self.old.spares.items) self.old.carrier.trace.items) (staged A.exporter R.follower (inner_of self.new.carrier.bus) self.new.carrier.posts.items self.new.carrier.at_end.items self.new.cast.registry self.new.cast.apps.items self.new.cast.readers.items (length self.new.kits.items) (length self.new.spares.items) self.new.carrier.trace.items)) }
+        ensures lost { IsErrOf result CarryFault.RegistryLost → LineLostElse (lines.Bytes who up count) (staged A.exporter R.follower (inner_of self.old.carrier.bus) self.old.carrier.posts.items self.old.carrier.at_end.items self.old.cast.registry self.old.cast.apps.items self.old.cast.readers.items (length self.old.kits.items) (length self.old.spares.items) self.old.carrier.trace.items) self.new.carrier.trace.items }
+        ensures spent { IsErrOf result CarryFault.Spent → LineSpentElse (lines.Bytes who up count) (staged A.exporter R.follower (inner_of self.old.carrier.bus) self.old.carrier.posts.items self.old.carrier.at_end.items self.old.cast.registry self.old.cast.apps.items self.old.cast.readers.items (length self.old.kits.items) (length self.old.spares.items) self.old.carrier.trace.items) self.new.carrier.trace.items }
     {
         let Some(conn) = conn_of(&self.carrier.posts, who) else {
             return Ok(());
@@ -132,18 +142,20 @@ impl<A: Application, R: Follower> Stage<A, R> {
         requires stage { IsStage A.is_app R.is_follower A.is_kit A.is_spare self.old.cast.apps.items self.old.cast.readers.items self.old.kits.items self.old.spares.items (state_of self.old.carrier.bus) }
         ensures stage { OnOk result (IsStage A.is_app R.is_follower A.is_kit A.is_spare self.new.cast.apps.items self.new.cast.readers.items self.new.kits.items self.new.spares.items (state_of self.new.carrier.bus)) }
         ensures does { OnOk result (WorkOfElse line.now (staged A.exporter R.follower (inner_of self.old.carrier.bus) self.old.carrier.posts.items self.old.carrier.at_end.items self.old.cast.registry self.old.cast.apps.items self.old.cast.readers.items (length self.old.kits.items) (length self.old.spares.items) self.old.carrier.trace.items) (staged A.exporter R.follower (inner_of self.new.carrier.bus) self.new.carrier.posts.items self.new.carrier.at_end.items self.new.cast.registry self.new.cast.apps.items self.new.cast.readers.items (length self.new.kits.items) (length self.new.spares.items) self.new.carrier.trace.items)) }
+        ensures lost { IsErrOf result CarryFault.RegistryLost → LineLostElse line.now (staged A.exporter R.follower (inner_of self.old.carrier.bus) self.old.carrier.posts.items self.old.carrier.at_end.items self.old.cast.registry self.old.cast.apps.items self.old.cast.readers.items (length self.old.kits.items) (length self.old.spares.items) self.old.carrier.trace.items) self.new.carrier.trace.items }
+        ensures spent { IsErrOf result CarryFault.Spent → LineSpentElse line.now (staged A.exporter R.follower (inner_of self.old.carrier.bus) self.old.carrier.posts.items self.old.carrier.at_end.items self.old.cast.registry self.old.cast.apps.items self.old.cast.readers.items (length self.old.kits.items) (length self.old.spares.items) self.old.carrier.trace.items) self.new.carrier.trace.items }
     {
         match line {
             Line::Quota(quota) => self.renew(*quota),
             Line::App(name) => self.start_app(name),
             Line::Reader => self.start_reader(),
-            Line::Swap(app) => self.swap(*app),
-            Line::Exit(app) => self.exit_of(Party::App(*app)),
-            Line::Leave(reader) => self.exit_of(Party::Reader(*reader)),
+            Line::Swap(app) => Ok(self.swap(*app)?),
+            Line::Exit(app) => Ok(self.exit_of(Party::App(*app))?),
+            Line::Leave(reader) => Ok(self.exit_of(Party::Reader(*reader))?),
             Line::Bytes { party, up, count } => self.move_bytes(*party, *up, *count),
             Line::Turns(count) => self.make_turns(*count),
             Line::Drain => self.drain(),
-            Line::Show { reader, app } => self.show_of(*reader, *app),
+            Line::Show { reader, app } => Ok(self.show_of(*reader, *app)?),
             Line::Blank | Line::Edit { .. } | Line::Call { .. } => Ok(()),
         }
     }
@@ -157,6 +169,8 @@ impl<A: Application, R: Follower> Stage<A, R> {
         ensures does { OnOk result (LineDoneElse line.now (staged A.exporter R.follower (inner_of self.old.carrier.bus) self.old.carrier.posts.items self.old.carrier.at_end.items self.old.cast.registry self.old.cast.apps.items self.old.cast.readers.items (length self.old.kits.items) (length self.old.spares.items) self.old.carrier.trace.items) (staged A.exporter R.follower (inner_of self.new.carrier.bus) self.new.carrier.posts.items self.new.carrier.at_end.items self.new.cast.registry self.new.cast.apps.items self.new.cast.readers.items (length self.new.kits.items) (length self.new.spares.items) self.new.carrier.trace.items)) }
         ensures refused { (why : Refusal) → IsErrOf result (ActFault.Refused why) → RefusedElse line.now why (staged A.exporter R.follower (inner_of self.old.carrier.bus) self.old.carrier.posts.items self.old.carrier.at_end.items self.old.cast.registry self.old.cast.apps.items self.old.cast.readers.items (length self.old.kits.items) (length self.old.spares.items) self.old.carrier.trace.items) }
         ensures nothing { (why : Refusal) → IsErrOf result (ActFault.Refused why) → (staged A.exporter R.follower (inner_of self.new.carrier.bus) self.new.carrier.posts.items self.new.carrier.at_end.items self.new.cast.registry self.new.cast.apps.items self.new.cast.readers.items (length self.new.kits.items) (length self.new.spares.items) self.new.carrier.trace.items) ≡ (staged A.exporter R.follower (inner_of self.old.carrier.bus) self.old.carrier.posts.items self.old.carrier.at_end.items self.old.cast.registry self.old.cast.apps.items self.old.cast.readers.items (length self.old.kits.items) (length self.old.spares.items) self.old.carrier.trace.items) }
+        ensures lost { IsErrOf result ActFault.RegistryLost → LineLostElse line.now (staged A.exporter R.follower (inner_of self.old.carrier.bus) self.old.carrier.posts.items self.old.carrier.at_end.items self.old.cast.registry self.old.cast.apps.items self.old.cast.readers.items (length self.old.kits.items) (length self.old.spares.items) self.old.carrier.trace.items) self.new.carrier.trace.items }
+        ensures spent { IsErrOf result ActFault.Spent → LineSpentElse line.now (staged A.exporter R.follower (inner_of self.old.carrier.bus) self.old.carrier.posts.items self.old.carrier.at_end.items self.old.cast.registry self.old.cast.apps.items self.old.cast.readers.items (length self.old.kits.items) (length self.old.spares.items) self.old.carrier.trace.items) self.new.carrier.trace.items }
     {
         match line {
             Line::Edit { app, edit } => self.ask_edit(*app, edit),
@@ -173,8 +187,9 @@ impl<A: Application, R: Follower> Stage<A, R> {
         }
     }
 
-    /// Does a line. Refused for the first reason that holds, and then nothing of it is done; Spent where a message of an end, or of the bus, would
-    /// pass serial 4,294,967,295; RegistryLost where the registry was dropped. Behind any but a refusal the world is not used again.
+    /// Does a line. Refused for the first reason that holds, and then nothing of it is done. Spent where a message of an end, or of the bus, would
+    /// pass serial 4,294,967,295, and RegistryLost where the registry was dropped: the line is not refused then, a part of it was done, and of that
+    /// the trace tells all, but of what spent the serials a front. Behind any but a refusal the world is not used again.
     pub fn act(&mut self, line: &Line) -> Result<(), ActFault>
         requires may { MayAct line.now }
         requires stage { IsStage A.is_app R.is_follower A.is_kit A.is_spare self.old.cast.apps.items self.old.cast.readers.items self.old.kits.items self.old.spares.items (state_of self.old.carrier.bus) }
@@ -183,6 +198,8 @@ impl<A: Application, R: Follower> Stage<A, R> {
         ensures refused { (why : Refusal) → IsErrOf result (ActFault.Refused why) → RefusedFor line.now why (staged A.exporter R.follower (inner_of self.old.carrier.bus) self.old.carrier.posts.items self.old.carrier.at_end.items self.old.cast.registry self.old.cast.apps.items self.old.cast.readers.items (length self.old.kits.items) (length self.old.spares.items) self.old.carrier.trace.items) }
         ensures refuses { (p : Playing) (due : work.Refusal) → IsPlaying p (staged A.exporter R.follower (inner_of self.old.carrier.bus) self.old.carrier.posts.items self.old.carrier.at_end.items self.old.cast.registry self.old.cast.apps.items self.old.cast.readers.items (length self.old.kits.items) (length self.old.spares.items) self.old.carrier.trace.items) → playing.refused p line.now ≡ Some due → Refuses result due }
         ensures nothing { (why : Refusal) → IsErrOf result (ActFault.Refused why) → (staged A.exporter R.follower (inner_of self.new.carrier.bus) self.new.carrier.posts.items self.new.carrier.at_end.items self.new.cast.registry self.new.cast.apps.items self.new.cast.readers.items (length self.new.kits.items) (length self.new.spares.items) self.new.carrier.trace.items) ≡ (staged A.exporter R.follower (inner_of self.old.carrier.bus) self.old.carrier.posts.items self.old.carrier.at_end.items self.old.cast.registry self.old.cast.apps.items self.old.cast.readers.items (length self.old.kits.items) (length self.old.spares.items) self.old.carrier.trace.items) }
+        ensures lost { IsErrOf result ActFault.RegistryLost → LineLost line.now (staged A.exporter R.follower (inner_of self.old.carrier.bus) self.old.carrier.posts.items self.old.carrier.at_end.items self.old.cast.registry self.old.cast.apps.items self.old.cast.readers.items (length self.old.kits.items) (length self.old.spares.items) self.old.carrier.trace.items) self.new.carrier.trace.items }
+        ensures spent { IsErrOf result ActFault.Spent → LineSpent line.now (staged A.exporter R.follower (inner_of self.old.carrier.bus) self.old.carrier.posts.items self.old.carrier.at_end.items self.old.cast.registry self.old.cast.apps.items self.old.cast.readers.items (length self.old.kits.items) (length self.old.spares.items) self.old.carrier.trace.items) self.new.carrier.trace.items }
     {
         match self.refusal(line) {
             Some(why) => Err(ActFault::Refused(why)),

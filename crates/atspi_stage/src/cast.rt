@@ -1,12 +1,14 @@
 //! The ends of a world.
 
-ghost use Rattle.std.specs.Prelude.{◌≡◌, map, All, OnOk};
+ghost use Rattle.std.specs.Prelude.{◌≡◌, map, slice_get, Some, All, IsErrOf, OnOk};
 ghost use Rattle.atspi_header.specs.View.{envelope_at};
 ghost use Rattle.atspi_protocol.specs.exporting.Exporter.{Exporter};
 ghost use Rattle.atspi_protocol.specs.exporting.Taking.{app_takes};
 ghost use Rattle.atspi_protocol.specs.following.ReaderState.{ReaderState};
 ghost use Rattle.atspi_protocol.specs.following.Takes.{reader_takes};
 ghost use Rattle.atspi_carrying.specs.Changes.{changed_at};
+ghost use Rattle.atspi_play.specs.Breaking.{IsPast};
+ghost use Rattle.atspi_stage.specs.Halts.{HasSpentAll};
 ghost use Rattle.atspi_stage.specs.Taken.{ends_after, ends_of};
 
 use atspi_header::MessageRef;
@@ -34,6 +36,7 @@ fn take_app<A: Application>(
     requires apps { All A.is_app apps.old }
     ensures apps { All A.is_app apps.new }
     ensures took { OnOk result (map A.exporter apps.new ≡ changed_at number (λ (s : Exporter). app_takes s (envelope_at message.now)) (map A.exporter apps.old)) }
+    ensures spent { IsErrOf result EndFault.Spent → (s : Exporter) × (slice_get (changed_at number (λ (x : Exporter). app_takes x (envelope_at message.now)) (map A.exporter apps.old)) number ≡ Some s) × IsPast s.next }
 {
     let place = number as usize;
     if place >= apps.len() {
@@ -52,6 +55,7 @@ fn take_reader<R: Follower>(
     requires readers { All R.is_follower readers.old }
     ensures readers { All R.is_follower readers.new }
     ensures took { OnOk result (map R.follower readers.new ≡ changed_at number (λ (s : ReaderState). reader_takes s (envelope_at message.now)) (map R.follower readers.old)) }
+    ensures spent { IsErrOf result EndFault.Spent → (s : ReaderState) × (slice_get (changed_at number (λ (x : ReaderState). reader_takes x (envelope_at message.now)) (map R.follower readers.old)) number ≡ Some s) × IsPast s.next }
 {
     let place = number as usize;
     if place >= readers.len() {
@@ -74,6 +78,7 @@ impl<A: Application, R: Follower> Cast<A, R> {
         ensures apps { All A.is_app self.new.apps.items }
         ensures readers { All R.is_follower self.new.readers.items }
         ensures took { OnOk result (ends_of A.exporter R.follower self.new.registry self.new.apps.items self.new.readers.items ≡ ends_after who (envelope_at message.now) (ends_of A.exporter R.follower self.old.registry self.old.apps.items self.old.readers.items)) }
+        ensures spent { IsErrOf result EndFault.Spent → HasSpentAll who (ends_after who (envelope_at message.now) (ends_of A.exporter R.follower self.old.registry self.old.apps.items self.old.readers.items)) }
     {
         match who {
             Party::Bus => Ok(()),

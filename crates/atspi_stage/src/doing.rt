@@ -13,6 +13,7 @@ ghost use Rattle.atspi_play.specs.Plays.{plays};
 ghost use Rattle.atspi_trace.specs.Work.{name_of, not_held, of_edit};
 ghost use Rattle.atspi_forest.specs.declared.edit.EditFault.{EditFault};
 ghost use Rattle.atspi_stage.specs.Doing.{CallsAt, EditsAt};
+ghost use Rattle.atspi_stage.specs.Halts.{CallSpends, EditSpends, IsSpentBy};
 ghost use Rattle.atspi_stage.specs.Refusals.{refusal_of, CallAtIsRefused, CallIsRefused, EditIsRefused};
 ghost use Rattle.atspi_stage.specs.declared.fault.Refusal.{Refusal};
 ghost use Rattle.atspi_stage.specs.Stage.{IsStage};
@@ -21,7 +22,7 @@ ghost use Rattle.atspi_stage.specs.Worlds.{staged, Happens, IsPlaying};
 use crate::fault::ActFault;
 use crate::getting::{tell_app_at, tell_reader_at};
 use crate::stage::Stage;
-use atspi_carrying::CarryFault;
+use atspi_base::NoMemory;
 use atspi_forest::Edit;
 use atspi_lines::Deed;
 use atspi_posts::Post;
@@ -40,6 +41,7 @@ fn edit_at<A: Application>(
     ensures apps { All A.is_app apps.new }
     ensures accepts { OnOk result (EditIsRefused None (map A.exporter apps.old) number edit.now) }
     ensures refused { (why : EditFault) → IsErrOf result (AppFault.Refused why) → EditIsRefused (Some (of_edit why)) (map A.exporter apps.old) number edit.now }
+    ensures spent { IsErrOf result AppFault.Spent → EditSpends (map A.exporter apps.old) number edit.now }
     ensures err { OnErr result (map A.exporter apps.new ≡ map A.exporter apps.old) }
     ensures edited { OnOk result (EditsAt (map A.exporter apps.old) (map A.exporter apps.new) number edit.now) }
 {
@@ -63,6 +65,7 @@ fn call_at<R: Follower>(
     ensures readers { All R.is_follower readers.new }
     ensures accepts { OnOk result (CallIsRefused None (map R.follower readers.old) number callee.now.name) }
     ensures not_held { IsErrOf result CallFault.NotHeld → CallIsRefused (Some not_held) (map R.follower readers.old) number callee.now.name }
+    ensures spent { IsErrOf result CallFault.Spent → CallSpends (map R.follower readers.old) number callee.now.name node deed.now }
     ensures err { OnErr result (map R.follower readers.new ≡ map R.follower readers.old) }
     ensures called { OnOk result (CallsAt (map R.follower readers.old) (map R.follower readers.new) number callee.now.name node deed.now) }
 {
@@ -82,7 +85,7 @@ fn swap_at<A: Application>(
     apps: &mut [A],
     number: u32,
     spare: A::Spare,
-) -> Result<(), CarryFault>
+) -> Result<(), NoMemory>
     requires spare { A.is_spare spare }
     requires apps { All A.is_app apps.old }
     ensures apps { All A.is_app apps.new }
@@ -92,8 +95,7 @@ fn swap_at<A: Application>(
     if place >= apps.len() {
         return Ok(());
     }
-    apps[place].swap_face(alloc, spare)?;
-    Ok(())
+    apps[place].swap_face(alloc, spare)
 }
 
 impl<A: Application, R: Follower> Stage<A, R> {
@@ -107,6 +109,10 @@ impl<A: Application, R: Follower> Stage<A, R> {
         ensures accepts { OnOk result (EditIsRefused None (map A.exporter self.old.cast.apps.items) app edit.now) }
         ensures refused { (why : Refusal) → IsErrOf result (ActFault.Refused why) → EditIsRefused (Some (refusal_of why)) (map A.exporter self.old.cast.apps.items) app edit.now }
         ensures nothing { (why : Refusal) → IsErrOf result (ActFault.Refused why) → (staged A.exporter R.follower (inner_of self.new.carrier.bus) self.new.carrier.posts.items self.new.carrier.at_end.items self.new.cast.registry self.new.cast.apps.items self.new.cast.readers.items (length self.new.kits.items) (length self.new.spares.items) self.new.carrier.trace.items) ≡ (staged A.exporter R.follower (inner_of self.old.carrier.bus) self.old.carrier.posts.items self.old.carrier.at_end.items self.old.cast.registry self.old.cast.apps.items self.old.cast.readers.items (length self.old.kits.items) (length self.old.spares.items) self.old.carrier.trace.items) }
+        ensures allowed { IsErrOf result ActFault.Spent → EditIsRefused None (map A.exporter self.old.cast.apps.items) app edit.now }
+        ensures spent { IsErrOf result ActFault.Spent → (p : Playing) → IsPlaying p (staged A.exporter R.follower (inner_of self.old.carrier.bus) self.old.carrier.posts.items self.old.carrier.at_end.items self.old.cast.registry self.old.cast.apps.items self.old.cast.readers.items (length self.old.kits.items) (length self.old.spares.items) self.old.carrier.trace.items) → conn_of p.world.ends (parties.App app) ≡ Some conn
+            → IsSpentBy (plays p (edits conn edit.now)) (staged A.exporter R.follower (inner_of self.old.carrier.bus) self.old.carrier.posts.items self.old.carrier.at_end.items self.old.cast.registry self.old.cast.apps.items self.old.cast.readers.items (length self.old.kits.items) (length self.old.spares.items) self.old.carrier.trace.items) self.new.carrier.trace.items }
+        ensures calm { IsErrOf result ActFault.RegistryLost → ⊥ }
     {
         edit_at(self.carrier.alloc, &mut self.cast.apps, app, edit)?;
         tell_app_at(
@@ -137,6 +143,10 @@ impl<A: Application, R: Follower> Stage<A, R> {
         ensures accepts { OnOk result (CallAtIsRefused None (map R.follower self.old.cast.readers.items) reader self.old.carrier.posts.items callee) }
         ensures refused { (why : Refusal) → IsErrOf result (ActFault.Refused why) → CallAtIsRefused (Some (refusal_of why)) (map R.follower self.old.cast.readers.items) reader self.old.carrier.posts.items callee }
         ensures nothing { (why : Refusal) → IsErrOf result (ActFault.Refused why) → (staged A.exporter R.follower (inner_of self.new.carrier.bus) self.new.carrier.posts.items self.new.carrier.at_end.items self.new.cast.registry self.new.cast.apps.items self.new.cast.readers.items (length self.new.kits.items) (length self.new.spares.items) self.new.carrier.trace.items) ≡ (staged A.exporter R.follower (inner_of self.old.carrier.bus) self.old.carrier.posts.items self.old.carrier.at_end.items self.old.cast.registry self.old.cast.apps.items self.old.cast.readers.items (length self.old.kits.items) (length self.old.spares.items) self.old.carrier.trace.items) }
+        ensures allowed { IsErrOf result ActFault.Spent → CallAtIsRefused None (map R.follower self.old.cast.readers.items) reader self.old.carrier.posts.items callee }
+        ensures spent { IsErrOf result ActFault.Spent → (p : Playing) (e : End) → IsPlaying p (staged A.exporter R.follower (inner_of self.old.carrier.bus) self.old.carrier.posts.items self.old.carrier.at_end.items self.old.cast.registry self.old.cast.apps.items self.old.cast.readers.items (length self.old.kits.items) (length self.old.spares.items) self.old.carrier.trace.items) → conn_of p.world.ends (parties.Reader reader) ≡ Some conn → end_at p.world.ends callee ≡ Some e
+            → IsSpentBy (plays p (calls conn (name_of (Some e)) node deed.now)) (staged A.exporter R.follower (inner_of self.old.carrier.bus) self.old.carrier.posts.items self.old.carrier.at_end.items self.old.cast.registry self.old.cast.apps.items self.old.cast.readers.items (length self.old.kits.items) (length self.old.spares.items) self.old.carrier.trace.items) self.new.carrier.trace.items }
+        ensures calm { IsErrOf result ActFault.RegistryLost → ⊥ }
     {
         let place = callee as usize;
         if place >= self.carrier.posts.len() {
@@ -160,7 +170,7 @@ impl<A: Application, R: Follower> Stage<A, R> {
     }
 
     /// An application's texts go into the next spare face, if one is left.
-    pub(crate) fn swap(&mut self, app: u32) -> Result<(), CarryFault>
+    pub(crate) fn swap(&mut self, app: u32) -> Result<(), NoMemory>
         requires stage { IsStage A.is_app R.is_follower A.is_kit A.is_spare self.old.cast.apps.items self.old.cast.readers.items self.old.kits.items self.old.spares.items (state_of self.old.carrier.bus) }
         ensures stage { IsStage A.is_app R.is_follower A.is_kit A.is_spare self.new.cast.apps.items self.new.cast.readers.items self.new.kits.items self.new.spares.items (state_of self.new.carrier.bus) }
         ensures does { OnOk result ((p : Playing) → IsPlaying p (staged A.exporter R.follower (inner_of self.old.carrier.bus) self.old.carrier.posts.items self.old.carrier.at_end.items self.old.cast.registry self.old.cast.apps.items self.old.cast.readers.items (length self.old.kits.items) (length self.old.spares.items) self.old.carrier.trace.items) → p.world.swaps < 16 → 0 < app_count p.world.ends → Happens (plays p swaps_face) (staged A.exporter R.follower (inner_of self.old.carrier.bus) self.old.carrier.posts.items self.old.carrier.at_end.items self.old.cast.registry self.old.cast.apps.items self.old.cast.readers.items (length self.old.kits.items) (length self.old.spares.items) self.old.carrier.trace.items) (staged A.exporter R.follower (inner_of self.new.carrier.bus) self.new.carrier.posts.items self.new.carrier.at_end.items self.new.cast.registry self.new.cast.apps.items self.new.cast.readers.items (length self.new.kits.items) (length self.new.spares.items) self.new.carrier.trace.items)) }

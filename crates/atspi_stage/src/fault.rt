@@ -1,10 +1,11 @@
 //! Why a line is not done.
 
 ghost use Rattle.std.specs.Prelude.{◌≡◌};
-ghost use Rattle.atspi_stage.specs.Faults.{of_carry, of_app, of_call};
+ghost use Rattle.atspi_stage.specs.Faults.{of_carry, of_sent, of_app, of_call};
 
 use atspi_carrying::CarryFault;
 use atspi_forest::EditFault;
+use atspi_posts::SendFault;
 use atspi_stage_ends::{AppFault, CallFault};
 use thiserror::Error;
 
@@ -39,7 +40,7 @@ pub enum ActFault {
     Spent,
     #[error("the registry was dropped")]
     RegistryLost,
-    /// A message breaks a rule, or passes the limits of the wire. No end sends such a one.
+    /// What no script comes to: a message breaks a rule, or passes the limits of the wire, or no number of a connection or of an end is left.
     #[error("a message breaks a rule, or passes the limits of the wire")]
     Unsendable,
     #[error("out of memory")]
@@ -55,6 +56,17 @@ impl From<CarryFault> for ActFault {
             CarryFault::RegistryLost => ActFault::RegistryLost,
             CarryFault::Unsendable => ActFault::Unsendable,
             CarryFault::NoMemory => ActFault::NoMemory,
+        }
+    }
+}
+
+impl From<SendFault> for ActFault {
+    ghost from_gives = { λ f e. e ≡ of_sent f };
+
+    fn from(fault: SendFault) -> ActFault {
+        match fault {
+            SendFault::Unsendable => ActFault::Unsendable,
+            SendFault::NoMemory => ActFault::NoMemory,
         }
     }
 }

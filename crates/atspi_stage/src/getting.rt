@@ -1,6 +1,6 @@
 //! An end takes what comes down its link.
 
-ghost use Rattle.std.specs.Prelude.{◌≡◌, ◌≤◌, List, Some, [], ◌∷◌, ◌++◌, length, map, All, IfOk, IfSome, OnOk, slice_get};
+ghost use Rattle.std.specs.Prelude.{◌≡◌, ◌≤◌, List, Some, [], ◌∷◌, ◌++◌, length, map, All, IfOk, IfSome, IsErrOf, OnOk, slice_get};
 ghost use Rattle.atspi_header.specs.View.{bytes_of, envelope_at};
 ghost use Rattle.atspi_events.specs.declared.event.Event.TheVariants as events;
 ghost use Rattle.atspi_carrying.specs.Named as named;
@@ -12,6 +12,7 @@ ghost use Rattle.atspi_trace.specs.Work as work;
 ghost use Rattle.atspi_play.specs.Playing.{Playing};
 ghost use Rattle.atspi_play.specs.Plays.{plays};
 ghost use Rattle.atspi_stage.specs.Doing.{TellsAt, TellsFirst, TellsReaderAt};
+ghost use Rattle.atspi_stage.specs.Halts.{GetsSpent, HasSpentAll, IsSpentBy, SpendsFront, WorkSpent};
 ghost use Rattle.atspi_stage.specs.Lines.{IsSegment};
 ghost use Rattle.atspi_stage.specs.Stage.{IsStage};
 ghost use Rattle.atspi_stage.specs.Taken.{ends_after, ends_of, Gets, HandsFront, HandsNothing, TakesFront, TakesNothing, Tells, stands_here};
@@ -24,7 +25,8 @@ use atspi_carrying::{CarryFault, note, party_named};
 use atspi_events::Event;
 use atspi_header::MessageRef;
 use atspi_lines::Party;
-use atspi_posts::{Link, Post, Standing, first_message};
+use atspi_posts::{Link, Post, SendFault, Standing, first_message};
+use atspi_protocol::ends::EndFault;
 use atspi_stage_ends::{Application, Follower};
 use std::alloc::Global;
 
@@ -36,13 +38,14 @@ fn hand<A: Application, R: Follower>(
     taker: Party,
     cast: &mut Cast<A, R>,
     trace: &mut Vec<Event>,
-) -> Result<(), CarryFault>
+) -> Result<(), EndFault>
     requires apps { All A.is_app cast.old.apps.items }
     requires readers { All R.is_follower cast.old.readers.items }
     ensures apps { All A.is_app cast.new.apps.items }
     ensures readers { All R.is_follower cast.new.readers.items }
     ensures told { OnOk result (trace.new.items ≡ trace.old.items ++ events.Got taker (named.party_named (envelope_at message.now).sender posts.now) message.now.serial ∷ []) }
     ensures took { OnOk result (ends_of A.exporter R.follower cast.new.registry cast.new.apps.items cast.new.readers.items ≡ ends_after taker (envelope_at message.now) (ends_of A.exporter R.follower cast.old.registry cast.old.apps.items cast.old.readers.items)) }
+    ensures spent { IsErrOf result EndFault.Spent → (trace.new.items ≡ trace.old.items ++ events.Got taker (named.party_named (envelope_at message.now).sender posts.now) message.now.serial ∷ []) × HasSpentAll taker (ends_after taker (envelope_at message.now) (ends_of A.exporter R.follower cast.old.registry cast.old.apps.items cast.old.readers.items)) }
 {
     note(
         trace,
@@ -52,8 +55,7 @@ fn hand<A: Application, R: Follower>(
             serial: message.serial,
         },
     )?;
-    cast.take(alloc, taker, message)?;
-    Ok(())
+    cast.take(alloc, taker, message)
 }
 
 /// An end takes the first message of the bytes that lie at it; answers how many bytes it had, none where there is no message.
@@ -64,7 +66,7 @@ fn hand_front<A: Application, R: Follower>(
     taker: Party,
     cast: &mut Cast<A, R>,
     trace: &mut Vec<Event>,
-) -> Result<Option<usize>, CarryFault>
+) -> Result<Option<usize>, EndFault>
     requires apps { All A.is_app cast.old.apps.items }
     requires readers { All R.is_follower cast.old.readers.items }
     ensures apps { All A.is_app cast.new.apps.items }
@@ -72,6 +74,7 @@ fn hand_front<A: Application, R: Follower>(
     ensures within { IfOk result (λ len. IfSome len (λ n. n ≤ length at_end.now)) }
     ensures hands { IfOk result (λ len. HandsFront at_end.now posts.now taker (ends_of A.exporter R.follower cast.old.registry cast.old.apps.items cast.old.readers.items) (ends_of A.exporter R.follower cast.new.registry cast.new.apps.items cast.new.readers.items) trace.old.items trace.new.items len) }
     ensures nothing { IfOk result (λ len. HandsNothing at_end.now (ends_of A.exporter R.follower cast.old.registry cast.old.apps.items cast.old.readers.items) (ends_of A.exporter R.follower cast.new.registry cast.new.apps.items cast.new.readers.items) trace.old.items trace.new.items len) }
+    ensures spent { IsErrOf result EndFault.Spent → SpendsFront at_end.now posts.now taker (ends_of A.exporter R.follower cast.old.registry cast.old.apps.items cast.old.readers.items) trace.old.items trace.new.items }
 {
     match first_message(at_end.as_slice()) {
         None => Ok(None),
@@ -90,13 +93,14 @@ fn take_front<A: Application, R: Follower>(
     taker: Party,
     cast: &mut Cast<A, R>,
     trace: &mut Vec<Event>,
-) -> Result<bool, CarryFault>
+) -> Result<bool, EndFault>
     requires apps { All A.is_app cast.old.apps.items }
     requires readers { All R.is_follower cast.old.readers.items }
     ensures apps { All A.is_app cast.new.apps.items }
     ensures readers { All R.is_follower cast.new.readers.items }
     ensures takes { IfOk result (λ took. TakesFront at_end.old at_end.new posts.now taker (ends_of A.exporter R.follower cast.old.registry cast.old.apps.items cast.old.readers.items) (ends_of A.exporter R.follower cast.new.registry cast.new.apps.items cast.new.readers.items) trace.old.items trace.new.items took) }
     ensures nothing { IfOk result (λ took. TakesNothing at_end.old at_end.new (ends_of A.exporter R.follower cast.old.registry cast.old.apps.items cast.old.readers.items) (ends_of A.exporter R.follower cast.new.registry cast.new.apps.items cast.new.readers.items) trace.old.items trace.new.items took) }
+    ensures spent { IsErrOf result EndFault.Spent → SpendsFront at_end.old posts.now taker (ends_of A.exporter R.follower cast.old.registry cast.old.apps.items cast.old.readers.items) trace.old.items trace.new.items }
 {
     match hand_front(alloc, at_end, posts, taker, cast, trace) {
         Ok(Some(len)) => {
@@ -113,7 +117,7 @@ pub(crate) fn tell_first(
     registry: &mut atspi_registry::Registry,
     posts: &mut [Post],
     trace: &mut Vec<Event>,
-) -> Result<(), CarryFault>
+) -> Result<(), SendFault>
     ensures told { OnOk result (TellsFirst registry.old registry.new posts.old posts.new trace.old.items trace.new.items) }
 {
     if posts.len() == 0 {
@@ -129,7 +133,7 @@ pub(crate) fn tell_app_at<A: Application>(
     posts: &mut [Post],
     conn: u32,
     trace: &mut Vec<Event>,
-) -> Result<(), CarryFault>
+) -> Result<(), SendFault>
     requires apps { All A.is_app apps.old }
     ensures apps { All A.is_app apps.new }
     ensures told { OnOk result (TellsAt (map A.exporter apps.old) (map A.exporter apps.new) number conn posts.old posts.new trace.old.items trace.new.items) }
@@ -152,7 +156,7 @@ pub(crate) fn tell_reader_at<R: Follower>(
     posts: &mut [Post],
     conn: u32,
     trace: &mut Vec<Event>,
-) -> Result<(), CarryFault>
+) -> Result<(), SendFault>
     requires readers { All R.is_follower readers.old }
     ensures readers { All R.is_follower readers.new }
     ensures told { OnOk result (TellsReaderAt (map R.follower readers.old) (map R.follower readers.new) number conn posts.old posts.new trace.old.items trace.new.items) }
@@ -172,7 +176,7 @@ impl<A: Application, R: Follower> Cast<A, R> {
         posts: &mut [Post],
         conn: u32,
         trace: &mut Vec<Event>,
-    ) -> Result<(), CarryFault>
+    ) -> Result<(), SendFault>
         requires apps { All A.is_app self.old.apps.items }
         requires readers { All R.is_follower self.old.readers.items }
         ensures apps { All A.is_app self.new.apps.items }
@@ -196,6 +200,8 @@ impl<A: Application, R: Follower> Stage<A, R> {
         requires stage { IsStage A.is_app R.is_follower A.is_kit A.is_spare self.old.cast.apps.items self.old.cast.readers.items self.old.kits.items self.old.spares.items (state_of self.old.carrier.bus) }
         ensures stage { IsStage A.is_app R.is_follower A.is_kit A.is_spare self.new.cast.apps.items self.new.cast.readers.items self.new.kits.items self.new.spares.items (state_of self.new.carrier.bus) }
         ensures got { IfOk result (λ took. Gets conn (staged A.exporter R.follower (inner_of self.old.carrier.bus) self.old.carrier.posts.items self.old.carrier.at_end.items self.old.cast.registry self.old.cast.apps.items self.old.cast.readers.items (length self.old.kits.items) (length self.old.spares.items) self.old.carrier.trace.items) (staged A.exporter R.follower (inner_of self.new.carrier.bus) self.new.carrier.posts.items self.new.carrier.at_end.items self.new.cast.registry self.new.cast.apps.items self.new.cast.readers.items (length self.new.kits.items) (length self.new.spares.items) self.new.carrier.trace.items) took) }
+        ensures spent { IsErrOf result CarryFault.Spent → GetsSpent conn self.old.carrier.posts.items self.old.carrier.at_end.items (ends_of A.exporter R.follower self.old.cast.registry self.old.cast.apps.items self.old.cast.readers.items) self.old.carrier.trace.items self.new.carrier.trace.items }
+        ensures calm { IsErrOf result CarryFault.RegistryLost → ⊥ }
     {
         let place = conn as usize;
         if place >= self.carrier.posts.len() {
@@ -237,6 +243,8 @@ impl<A: Application, R: Follower> Stage<A, R> {
         requires stage { IsStage A.is_app R.is_follower A.is_kit A.is_spare self.old.cast.apps.items self.old.cast.readers.items self.old.kits.items self.old.spares.items (state_of self.old.carrier.bus) }
         ensures stage { OnOk result (IsStage A.is_app R.is_follower A.is_kit A.is_spare self.new.cast.apps.items self.new.cast.readers.items self.new.kits.items self.new.spares.items (state_of self.new.carrier.bus)) }
         ensures does { OnOk result ((p : Playing) (e : End) → IsPlaying p (staged A.exporter R.follower (inner_of self.old.carrier.bus) self.old.carrier.posts.items self.old.carrier.at_end.items self.old.cast.registry self.old.cast.apps.items self.old.cast.readers.items (length self.old.kits.items) (length self.old.spares.items) self.old.carrier.trace.items) → end_at p.world.ends conn ≡ Some e → IsSegment p (work.moving_down conn most) (staged A.exporter R.follower (inner_of self.old.carrier.bus) self.old.carrier.posts.items self.old.carrier.at_end.items self.old.cast.registry self.old.cast.apps.items self.old.cast.readers.items (length self.old.kits.items) (length self.old.spares.items) self.old.carrier.trace.items) (staged A.exporter R.follower (inner_of self.new.carrier.bus) self.new.carrier.posts.items self.new.carrier.at_end.items self.new.cast.registry self.new.cast.apps.items self.new.cast.readers.items (length self.new.kits.items) (length self.new.spares.items) self.new.carrier.trace.items)) }
+        ensures spent { IsErrOf result CarryFault.Spent → (p : Playing) (e : End) → IsPlaying p (staged A.exporter R.follower (inner_of self.old.carrier.bus) self.old.carrier.posts.items self.old.carrier.at_end.items self.old.cast.registry self.old.cast.apps.items self.old.cast.readers.items (length self.old.kits.items) (length self.old.spares.items) self.old.carrier.trace.items) → end_at p.world.ends conn ≡ Some e → WorkSpent p (work.moving_down conn most) (staged A.exporter R.follower (inner_of self.old.carrier.bus) self.old.carrier.posts.items self.old.carrier.at_end.items self.old.cast.registry self.old.cast.apps.items self.old.cast.readers.items (length self.old.kits.items) (length self.old.spares.items) self.old.carrier.trace.items) self.new.carrier.trace.items }
+        ensures calm { IsErrOf result CarryFault.RegistryLost → ⊥ }
     {
         if !self.is_here(conn) {
             return Ok(());
@@ -259,6 +267,9 @@ impl<A: Application, R: Follower> Stage<A, R> {
         ensures stage { OnOk result (IsStage A.is_app R.is_follower A.is_kit A.is_spare self.new.cast.apps.items self.new.cast.readers.items self.new.kits.items self.new.spares.items (state_of self.new.carrier.bus)) }
         ensures does { OnOk result ((p : Playing) (e : End) (letter : Letter) (rest : List Letter) → IsPlaying p (staged A.exporter R.follower (inner_of self.old.carrier.bus) self.old.carrier.posts.items self.old.carrier.at_end.items self.old.cast.registry self.old.cast.apps.items self.old.cast.readers.items (length self.old.kits.items) (length self.old.spares.items) self.old.carrier.trace.items) → end_at p.world.ends conn ≡ Some e → e.standing ≡ here → e.down ≡ letter ∷ rest
             → Happens (plays p (gets conn)) (staged A.exporter R.follower (inner_of self.old.carrier.bus) self.old.carrier.posts.items self.old.carrier.at_end.items self.old.cast.registry self.old.cast.apps.items self.old.cast.readers.items (length self.old.kits.items) (length self.old.spares.items) self.old.carrier.trace.items) (staged A.exporter R.follower (inner_of self.new.carrier.bus) self.new.carrier.posts.items self.new.carrier.at_end.items self.new.cast.registry self.new.cast.apps.items self.new.cast.readers.items (length self.new.kits.items) (length self.new.spares.items) self.new.carrier.trace.items)) }
+        ensures spent { IsErrOf result CarryFault.Spent → (p : Playing) (e : End) (letter : Letter) (rest : List Letter) → IsPlaying p (staged A.exporter R.follower (inner_of self.old.carrier.bus) self.old.carrier.posts.items self.old.carrier.at_end.items self.old.cast.registry self.old.cast.apps.items self.old.cast.readers.items (length self.old.kits.items) (length self.old.spares.items) self.old.carrier.trace.items) → end_at p.world.ends conn ≡ Some e → e.standing ≡ here → e.down ≡ letter ∷ rest
+            → IsSpentBy (plays p (gets conn)) (staged A.exporter R.follower (inner_of self.old.carrier.bus) self.old.carrier.posts.items self.old.carrier.at_end.items self.old.cast.registry self.old.cast.apps.items self.old.cast.readers.items (length self.old.kits.items) (length self.old.spares.items) self.old.carrier.trace.items) self.new.carrier.trace.items }
+        ensures calm { IsErrOf result CarryFault.RegistryLost → ⊥ }
     {
         self.carrier.fill(conn, usize::MAX)?;
         self.get(conn)?;

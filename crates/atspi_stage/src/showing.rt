@@ -17,7 +17,7 @@ use crate::places::post_of;
 use crate::rows::{count_rows, shown_rows};
 use crate::stage::Stage;
 use atspi_base::NoMemory;
-use atspi_carrying::{CarryFault, note};
+use atspi_carrying::note;
 use atspi_events::{Event, Shown};
 use atspi_lines::Party;
 use atspi_posts::Post;
@@ -78,7 +78,7 @@ impl<A: Application, R: Follower> Stage<A, R> {
     }
 
     /// A reader shows what it holds of the application at a connection.
-    pub(crate) fn show(&mut self, reader: u32, app: u32, conn: u32) -> Result<(), CarryFault>
+    pub(crate) fn show(&mut self, reader: u32, app: u32, conn: u32) -> Result<(), NoMemory>
         requires stage { IsStage A.is_app R.is_follower A.is_kit A.is_spare self.old.cast.apps.items self.old.cast.readers.items self.old.kits.items self.old.spares.items (state_of self.old.carrier.bus) }
         ensures stage { IsStage A.is_app R.is_follower A.is_kit A.is_spare self.new.cast.apps.items self.new.cast.readers.items self.new.kits.items self.new.spares.items (state_of self.new.carrier.bus) }
         ensures shows { OnOk result ((p : Playing) (at : ℕ) → IsPlaying p (staged A.exporter R.follower (inner_of self.old.carrier.bus) self.old.carrier.posts.items self.old.carrier.at_end.items self.old.cast.registry self.old.cast.apps.items self.old.cast.readers.items (length self.old.kits.items) (length self.old.spares.items) self.old.carrier.trace.items) → conn_of p.world.ends (parties.App app) ≡ Some conn → conn_of p.world.ends (parties.Reader reader) ≡ Some at

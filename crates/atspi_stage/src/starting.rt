@@ -1,6 +1,6 @@
 //! The beginning of a world, and the starts of ends.
 
-ghost use Rattle.std.specs.Prelude.{◌≡◌, ◌<◌, ◌≤◌, ℕ, suc, [], length, All, IfOk, IfSome, OnOk};
+ghost use Rattle.std.specs.Prelude.{◌≡◌, ◌<◌, ◌≤◌, ℕ, suc, [], length, All, IfOk, IfSome, IsErrOf, OnOk};
 ghost use Rattle.atspi_forest.specs.Row.{IsName};
 ghost use Rattle.atspi_lines.specs.declared.limits.TheConstants.{APP_COUNT, QUOTA_LEAST, QUOTA_MOST};
 ghost use Rattle.atspi_protocol.specs.registering.RegistryState.{begins};
@@ -68,8 +68,7 @@ fn hear_at(registry: &mut Registry, at_end: &mut [Link], conn: u32) -> Result<()
     hear(registry, &mut at_end[place])
 }
 
-/// The registry takes all that waits for it: what the bus returns to the calls of its start. Those are fewer than 64 messages; where more waited,
-/// the registry would be lost.
+/// The registry takes all that waits for it: what the bus returns to the calls of its start. Those are fewer than 64 messages.
 fn hear_all(carrier: &mut Carrier, registry: &mut Registry, conn: u32) -> Result<(), CarryFault>
     requires sound { IsSound (state_of carrier.old.bus) }
     ensures sound { IsSound (state_of carrier.new.bus) }
@@ -85,7 +84,7 @@ fn hear_all(carrier: &mut Carrier, registry: &mut Registry, conn: u32) -> Result
         carrier.fill(conn, usize::MAX)?;
         hear_at(registry, &mut carrier.at_end, conn)?;
     }
-    Err(CarryFault::RegistryLost)
+    Err(CarryFault::Unsendable)
 }
 
 impl<A: Application, R: Follower> Stage<A, R> {
@@ -101,6 +100,7 @@ impl<A: Application, R: Follower> Stage<A, R> {
         ensures begins { IfOk result (λ stage. length kits.items ≡ APP_COUNT → length spares.items ≡ spare_count
             → IsPlaying (first_playing QUOTA_MOST) (staged A.exporter R.follower (inner_of stage.carrier.bus) stage.carrier.posts.items stage.carrier.at_end.items stage.cast.registry stage.cast.apps.items stage.cast.readers.items (length stage.kits.items) (length stage.spares.items) stage.carrier.trace.items)) }
         ensures silent { IfOk result (λ stage. stage.carrier.trace.items ≡ []) }
+        ensures calm { (IsErrOf result CarryFault.Spent → ⊥) × (IsErrOf result CarryFault.RegistryLost → ⊥) }
     {
         let mut stage = Stage {
             carrier: Carrier::new(alloc, QUOTA_MOST),
@@ -116,8 +116,26 @@ impl<A: Application, R: Follower> Stage<A, R> {
         Ok(stage)
     }
 
-    /// The registry joins the bus and starts, and nothing of that is told.
+    /// The registry joins the bus and starts, and nothing of that is told. Unsendable for any other fault than want of memory: over a quota of 1,024
+    /// bytes or more neither does the bus drop the registry at its start, nor does one of them spend its serials, though no clause says so.
     fn begin(&mut self) -> Result<(), CarryFault>
+        requires stage { IsStage A.is_app R.is_follower A.is_kit A.is_spare self.old.cast.apps.items self.old.cast.readers.items self.old.kits.items self.old.spares.items (state_of self.old.carrier.bus) }
+        ensures stage { OnOk result (IsStage A.is_app R.is_follower A.is_kit A.is_spare self.new.cast.apps.items self.new.cast.readers.items self.new.kits.items self.new.spares.items (state_of self.new.carrier.bus)) }
+        ensures ends { (self.new.cast.apps ≡ self.old.cast.apps) × (self.new.cast.readers ≡ self.old.cast.readers) }
+        ensures left { (self.new.kits ≡ self.old.kits) × (self.new.spares ≡ self.old.spares) }
+        ensures calm { (IsErrOf result CarryFault.Spent → ⊥) × (IsErrOf result CarryFault.RegistryLost → ⊥) }
+        ensures begins { OnOk result ((quota : ℕ) → QUOTA_LEAST ≤ quota → quota ≤ QUOTA_MOST → inner_of self.old.carrier.bus ≡ empty_bus quota → self.old.carrier.posts.items ≡ [] → self.old.carrier.at_end.items ≡ [] → self.old.cast.registry ≡ record { state = begins; out = [] }
+            → IsBegun quota (inner_of self.new.carrier.bus) self.new.carrier.posts.items self.new.carrier.at_end.items self.new.cast.registry self.old.carrier.trace.items self.new.carrier.trace.items) }
+    {
+        match self.join_registry() {
+            Ok(()) => Ok(()),
+            Err(CarryFault::NoMemory) => Err(CarryFault::NoMemory),
+            Err(_) => Err(CarryFault::Unsendable),
+        }
+    }
+
+    /// The same, with what the registry's calls and the bus come to.
+    fn join_registry(&mut self) -> Result<(), CarryFault>
         requires stage { IsStage A.is_app R.is_follower A.is_kit A.is_spare self.old.cast.apps.items self.old.cast.readers.items self.old.kits.items self.old.spares.items (state_of self.old.carrier.bus) }
         ensures stage { OnOk result (IsStage A.is_app R.is_follower A.is_kit A.is_spare self.new.cast.apps.items self.new.cast.readers.items self.new.kits.items self.new.spares.items (state_of self.new.carrier.bus)) }
         ensures ends { (self.new.cast.apps ≡ self.old.cast.apps) × (self.new.cast.readers ≡ self.old.cast.readers) }
@@ -144,6 +162,7 @@ impl<A: Application, R: Follower> Stage<A, R> {
         requires stage { IsStage A.is_app R.is_follower A.is_kit A.is_spare self.old.cast.apps.items self.old.cast.readers.items self.old.kits.items self.old.spares.items (state_of self.old.carrier.bus) }
         ensures stage { OnOk result (IsStage A.is_app R.is_follower A.is_kit A.is_spare self.new.cast.apps.items self.new.cast.readers.items self.new.kits.items self.new.spares.items (state_of self.new.carrier.bus)) }
         ensures does { OnOk result ((p : Playing) → QUOTA_LEAST ≤ quota → quota ≤ QUOTA_MOST → IsPlaying p (staged A.exporter R.follower (inner_of self.old.carrier.bus) self.old.carrier.posts.items self.old.carrier.at_end.items self.old.cast.registry self.old.cast.apps.items self.old.cast.readers.items (length self.old.kits.items) (length self.old.spares.items) self.old.carrier.trace.items) → length p.world.ends ≤ 1 → Happens (plays p (renews quota)) (staged A.exporter R.follower (inner_of self.old.carrier.bus) self.old.carrier.posts.items self.old.carrier.at_end.items self.old.cast.registry self.old.cast.apps.items self.old.cast.readers.items (length self.old.kits.items) (length self.old.spares.items) self.old.carrier.trace.items) (staged A.exporter R.follower (inner_of self.new.carrier.bus) self.new.carrier.posts.items self.new.carrier.at_end.items self.new.cast.registry self.new.cast.apps.items self.new.cast.readers.items (length self.new.kits.items) (length self.new.spares.items) self.new.carrier.trace.items)) }
+        ensures calm { (IsErrOf result CarryFault.Spent → ⊥) × (IsErrOf result CarryFault.RegistryLost → ⊥) }
     {
         self.carrier.renew(quota);
         self.cast.registry = Registry::new(self.carrier.alloc)?;
@@ -156,6 +175,7 @@ impl<A: Application, R: Follower> Stage<A, R> {
         requires stage { IsStage A.is_app R.is_follower A.is_kit A.is_spare self.old.cast.apps.items self.old.cast.readers.items self.old.kits.items self.old.spares.items (state_of self.old.carrier.bus) }
         ensures stage { OnOk result (IsStage A.is_app R.is_follower A.is_kit A.is_spare self.new.cast.apps.items self.new.cast.readers.items self.new.kits.items self.new.spares.items (state_of self.new.carrier.bus)) }
         ensures does { OnOk result ((p : Playing) → IsPlaying p (staged A.exporter R.follower (inner_of self.old.carrier.bus) self.old.carrier.posts.items self.old.carrier.at_end.items self.old.cast.registry self.old.cast.apps.items self.old.cast.readers.items (length self.old.kits.items) (length self.old.spares.items) self.old.carrier.trace.items) → app_count p.world.ends < 16 → Happens (plays p (starts_app name.now)) (staged A.exporter R.follower (inner_of self.old.carrier.bus) self.old.carrier.posts.items self.old.carrier.at_end.items self.old.cast.registry self.old.cast.apps.items self.old.cast.readers.items (length self.old.kits.items) (length self.old.spares.items) self.old.carrier.trace.items) (staged A.exporter R.follower (inner_of self.new.carrier.bus) self.new.carrier.posts.items self.new.carrier.at_end.items self.new.cast.registry self.new.cast.apps.items self.new.cast.readers.items (length self.new.kits.items) (length self.new.spares.items) self.new.carrier.trace.items)) }
+        ensures calm { (IsErrOf result CarryFault.Spent → ⊥) × (IsErrOf result CarryFault.RegistryLost → ⊥) }
     {
         match self.kits.pop() {
             Some(kit) => self.add_app(name, kit),
@@ -171,10 +191,11 @@ impl<A: Application, R: Follower> Stage<A, R> {
         ensures stage { OnOk result (IsStage A.is_app R.is_follower A.is_kit A.is_spare self.new.cast.apps.items self.new.cast.readers.items self.new.kits.items self.new.spares.items (state_of self.new.carrier.bus)) }
         ensures does { OnOk result ((p : Playing) → IsPlaying p (staged A.exporter R.follower (inner_of self.old.carrier.bus) self.old.carrier.posts.items self.old.carrier.at_end.items self.old.cast.registry self.old.cast.apps.items self.old.cast.readers.items (suc (length self.old.kits.items)) (length self.old.spares.items) self.old.carrier.trace.items)
             → Happens (plays p (starts_app name.now)) (staged A.exporter R.follower (inner_of self.old.carrier.bus) self.old.carrier.posts.items self.old.carrier.at_end.items self.old.cast.registry self.old.cast.apps.items self.old.cast.readers.items (length self.old.kits.items) (length self.old.spares.items) self.old.carrier.trace.items) (staged A.exporter R.follower (inner_of self.new.carrier.bus) self.new.carrier.posts.items self.new.carrier.at_end.items self.new.cast.registry self.new.cast.apps.items self.new.cast.readers.items (length self.new.kits.items) (length self.new.spares.items) self.new.carrier.trace.items)) }
+        ensures calm { (IsErrOf result CarryFault.Spent → ⊥) × (IsErrOf result CarryFault.RegistryLost → ⊥) }
     {
         let alloc = self.carrier.alloc;
         let Ok(number) = u32::try_from(self.cast.apps.len()) else {
-            return Err(CarryFault::Spent);
+            return Err(CarryFault::Unsendable);
         };
         let who = Party::App(number);
         let told = name.copy(alloc)?;
@@ -195,7 +216,8 @@ impl<A: Application, R: Follower> Stage<A, R> {
             &mut self.carrier.posts,
             conn,
             &mut self.carrier.trace,
-        )
+        )?;
+        Ok(())
     }
 
     /// A reader starts.
@@ -203,9 +225,10 @@ impl<A: Application, R: Follower> Stage<A, R> {
         requires stage { IsStage A.is_app R.is_follower A.is_kit A.is_spare self.old.cast.apps.items self.old.cast.readers.items self.old.kits.items self.old.spares.items (state_of self.old.carrier.bus) }
         ensures stage { OnOk result (IsStage A.is_app R.is_follower A.is_kit A.is_spare self.new.cast.apps.items self.new.cast.readers.items self.new.kits.items self.new.spares.items (state_of self.new.carrier.bus)) }
         ensures does { OnOk result ((p : Playing) → IsPlaying p (staged A.exporter R.follower (inner_of self.old.carrier.bus) self.old.carrier.posts.items self.old.carrier.at_end.items self.old.cast.registry self.old.cast.apps.items self.old.cast.readers.items (length self.old.kits.items) (length self.old.spares.items) self.old.carrier.trace.items) → reader_count p.world.ends < 4 → Happens (plays p starts_reader) (staged A.exporter R.follower (inner_of self.old.carrier.bus) self.old.carrier.posts.items self.old.carrier.at_end.items self.old.cast.registry self.old.cast.apps.items self.old.cast.readers.items (length self.old.kits.items) (length self.old.spares.items) self.old.carrier.trace.items) (staged A.exporter R.follower (inner_of self.new.carrier.bus) self.new.carrier.posts.items self.new.carrier.at_end.items self.new.cast.registry self.new.cast.apps.items self.new.cast.readers.items (length self.new.kits.items) (length self.new.spares.items) self.new.carrier.trace.items)) }
+        ensures calm { (IsErrOf result CarryFault.Spent → ⊥) × (IsErrOf result CarryFault.RegistryLost → ⊥) }
     {
         let Ok(number) = u32::try_from(self.cast.readers.len()) else {
-            return Err(CarryFault::Spent);
+            return Err(CarryFault::Unsendable);
         };
         let who = Party::Reader(number);
         note(&mut self.carrier.trace, Event::Start { who, name: None })?;
@@ -219,6 +242,7 @@ impl<A: Application, R: Follower> Stage<A, R> {
             &mut self.carrier.posts,
             conn,
             &mut self.carrier.trace,
-        )
+        )?;
+        Ok(())
     }
 }

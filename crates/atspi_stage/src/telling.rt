@@ -10,11 +10,11 @@ ghost use Rattle.atspi_play.specs.Playing.{silent};
 ghost use Rattle.atspi_stage.specs.Doing.{said_on, CanBeWritten, IsRegistryTold, IsSent, IsTold, TellsAll, TellsOne};
 
 use atspi_app_known::happenings::AppEvent;
-use atspi_carrying::{CarryFault, named_app, note, send};
+use atspi_carrying::{named_app, note, send};
 use atspi_events::Event;
 use atspi_lines::Party;
 use atspi_message::Message;
-use atspi_posts::Post;
+use atspi_posts::{Post, SendFault};
 use atspi_protocol::following::ReaderEvent;
 use atspi_registry::Registry;
 use atspi_stage_ends::{Application, Follower};
@@ -24,12 +24,20 @@ pub(crate) fn tell_registry(
     registry: &mut Registry,
     post: &mut Post,
     trace: &mut Vec<Event>,
-) -> Result<(), CarryFault>
+) -> Result<(), SendFault>
     ensures told { OnOk result (IsRegistryTold registry.old registry.new post.old post.new trace.old.items trace.new.items) }
 {
     while let Some(message) = registry.next() {
         send(post, Party::Registry, message, trace)?;
     }
+    Ok(())
+}
+
+/// An event that is no message is told.
+fn tell_alone(trace: &mut Vec<Event>, event: Event) -> Result<(), SendFault>
+    ensures told { OnOk result (trace.new.items ≡ trace.old.items ++ event ∷ []) }
+{
+    note(trace, event)?;
     Ok(())
 }
 
@@ -39,15 +47,15 @@ fn tell_event(
     app: u32,
     post: &mut Post,
     trace: &mut Vec<Event>,
-) -> Result<(), CarryFault>
+) -> Result<(), SendFault>
     ensures post { OnOk result (post.new ≡ said_on (happening_of event) post.old) }
     ensures told { OnOk result (entries_of trace.new.items ≡ entries_of trace.old.items ++ did app (happening_of event) ∷ []) }
     ensures written { OnOk result (CanBeWritten (happening_of event)) }
 {
     match event {
         AppEvent::Send(message) => send(post, Party::App(app), message, trace),
-        AppEvent::Step(step) => note(trace, Event::Step { app, step }),
-        AppEvent::Hears(listener, pattern) => note(
+        AppEvent::Step(step) => tell_alone(trace, Event::Step { app, step }),
+        AppEvent::Hears(listener, pattern) => tell_alone(
             trace,
             Event::Hears {
                 app,
@@ -55,7 +63,7 @@ fn tell_event(
                 pattern,
             },
         ),
-        AppEvent::Deaf(listener, pattern) => note(
+        AppEvent::Deaf(listener, pattern) => tell_alone(
             trace,
             Event::Deaf {
                 app,
@@ -72,7 +80,7 @@ pub(crate) fn tell_app<A: Application>(
     number: u32,
     post: &mut Post,
     trace: &mut Vec<Event>,
-) -> Result<(), CarryFault>
+) -> Result<(), SendFault>
     requires app { A.is_app app.old }
     ensures app { A.is_app app.new }
     ensures told { OnOk result (IsTold (A.exporter app.old) (A.exporter app.new) number post.old post.new trace.old.items trace.new.items) }
@@ -90,7 +98,7 @@ fn send_at(
     who: Party,
     message: Message,
     trace: &mut Vec<Event>,
-) -> Result<(), CarryFault>
+) -> Result<(), SendFault>
     ensures sent { OnOk result (conn < length posts.old → IsSent who (envelope_of message) conn posts.old posts.new trace.old.items trace.new.items) }
 {
     let place = conn as usize;
@@ -107,7 +115,7 @@ fn tell_deed(
     posts: &mut [Post],
     conn: u32,
     trace: &mut Vec<Event>,
-) -> Result<(), CarryFault>
+) -> Result<(), SendFault>
     ensures told { OnOk result (TellsOne (done_of event) reader conn posts.old posts.new trace.old.items trace.new.items) }
 {
     match event {
@@ -115,11 +123,11 @@ fn tell_deed(
             send_at(posts, conn, Party::Reader(reader), message, trace)
         }
         ReaderEvent::Say(name, text) => match named_app(posts, name.as_str()) {
-            Some(app) => note(trace, Event::Say { reader, app, text }),
+            Some(app) => tell_alone(trace, Event::Say { reader, app, text }),
             None => Ok(()),
         },
         ReaderEvent::Gone(name) => match named_app(posts, name.as_str()) {
-            Some(app) => note(trace, Event::Gone { reader, app }),
+            Some(app) => tell_alone(trace, Event::Gone { reader, app }),
             None => Ok(()),
         },
     }
@@ -132,7 +140,7 @@ pub(crate) fn tell_reader<R: Follower>(
     posts: &mut [Post],
     conn: u32,
     trace: &mut Vec<Event>,
-) -> Result<(), CarryFault>
+) -> Result<(), SendFault>
     requires is { R.is_follower reader.old }
     ensures is { R.is_follower reader.new }
     ensures silent { OnOk result (R.follower reader.new ≡ silent (R.follower reader.old)) }

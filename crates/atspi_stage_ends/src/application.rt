@@ -40,11 +40,12 @@ pub trait Application: Drop {
         ensures app { IfOk result (λ app. is_app app) }
         ensures begins { IfOk result (λ app. exporter app ≡ begins name) };
 
-    /// Begins the start: Hello is queued.
+    /// Begins the start: Hello is queued. Spent only where its number would pass 4,294,967,295; after a fault all is as before.
     fn start(&mut self, alloc: Global) -> Result<(), EndFault>
         requires app { is_app self.old }
         ensures app { is_app self.new }
         ensures ok { OnOk result (exporter self.new ≡ starts (exporter self.old)) }
+        ensures spent { IsErrOf result EndFault.Spent → is_spent (starts (exporter self.old)) ≡ true }
         ensures err { OnErr result (exporter self.new ≡ exporter self.old) };
 
     /// Takes a message: what happens is queued. Spent only where its messages would pass number 4,294,967,295. After a fault all is as before.
@@ -55,8 +56,8 @@ pub trait Application: Drop {
         ensures spent { IsErrOf result EndFault.Spent → is_spent (app_takes (exporter self.old) (envelope_at message.now)) ≡ true }
         ensures err { OnErr result (exporter self.new ≡ exporter self.old) };
 
-    /// Makes an edit of its user: its steps and their signals are queued. Refused exactly by the first refusal of the edit. After a fault all is as
-    /// before.
+    /// Makes an edit of its user: its steps and their signals are queued. Refused exactly by the first refusal of the edit; Spent only where an
+    /// edit that is not refused would pass number 4,294,967,295. After a fault all is as before.
     fn edit(&mut self, alloc: Global, edit: &Edit) -> Result<(), AppFault>
         requires lawful { IsEdit edit.now }
         requires app { is_app self.old }
@@ -64,6 +65,7 @@ pub trait Application: Drop {
         ensures ok { OnOk result (app_edits (exporter self.old) edit.now ≡ Ok (exporter self.new)) }
         ensures refused { (fault : EditFault) → IsErrOf result (AppFault.Refused fault) → app_edits (exporter self.old) edit.now ≡ Err fault }
         ensures spent { IsErrOf result AppFault.Spent → (after : Exporter) → app_edits (exporter self.old) edit.now ≡ Ok after → is_spent after ≡ true }
+        ensures allowed { IsErrOf result AppFault.Spent → (after : Exporter) × (app_edits (exporter self.old) edit.now ≡ Ok after) }
         ensures err { OnErr result (exporter self.new ≡ exporter self.old) };
 
     /// The oldest of what is queued, which is no longer queued. Where nothing is, all stays as it is.

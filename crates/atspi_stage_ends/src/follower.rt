@@ -30,11 +30,12 @@ pub trait Follower: Drop {
         ensures is { IfOk result (λ reader. is_follower reader) }
         ensures begins { IfOk result (λ reader. follower reader ≡ begins) };
 
-    /// The first call, Hello, is queued.
+    /// The first call, Hello, is queued. Spent only where its number would pass 4,294,967,295; after a fault all is as before.
     fn start(&mut self) -> Result<(), EndFault>
         requires { is_follower self.old }
         ensures is { is_follower self.new }
         ensures ok { OnOk result (follower self.new ≡ starts (follower self.old)) }
+        ensures spent { IsErrOf result EndFault.Spent → 4294967296 < (starts (follower self.old)).next }
         ensures err { OnErr result (follower self.new ≡ follower self.old) };
 
     /// Takes a message. Spent only where the reader's call that it asks for would pass number 4,294,967,295; after a fault all is as before.
@@ -45,12 +46,14 @@ pub trait Follower: Drop {
         ensures spent { IsErrOf result EndFault.Spent → 4294967296 < (reader_takes (follower self.old) (envelope_at m.now)).next }
         ensures err { OnErr result (follower self.new ≡ follower self.old) };
 
-    /// A user's call of a node of an application that is held is queued. NotHeld exactly where `view` is none; after a fault all is as before.
+    /// A user's call of a node of an application that is held is queued. NotHeld exactly where `view` is none; Spent only where the
+    /// call would pass number 4,294,967,295; after a fault all is as before.
     fn call(&mut self, app: &BusName, node: u32, what: &Deed) -> Result<(), CallFault>
         requires is { is_follower self.old }
         requires asked { MayBeAsked what.now }
         ensures is { is_follower self.new }
         ensures ok { OnOk result (follower self.new ≡ reader_calls (follower self.old) app.now node what.now) }
+        ensures spent { IsErrOf result CallFault.Spent → 4294967296 < (reader_calls (follower self.old) app.now node what.now).next }
         ensures not_held { IsErrOf result CallFault.NotHeld ↔ (held_view (follower self.old) app.now ≡ None) }
         ensures err { OnErr result (follower self.new ≡ follower self.old) };
 

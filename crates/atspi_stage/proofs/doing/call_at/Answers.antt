@@ -1,5 +1,6 @@
 use Rattle.atspi_stage.proofs.Elements.{calls_at}
 use Rattle.atspi_stage.proofs.Reasons.{call_held, call_not_held, err_at}
+use Rattle.atspi_stage.proofs.ElementsSpent.{call_spends}
 use Rattle.atspi_stage.proofs.doing.call_at.Goals as goal
 
 pub returns-in-Some-clause-called : goal.returns-in-Some-clause-called
@@ -16,3 +17,8 @@ returns-in-Some-clause-not_held g c =
 
 pub returns-in-Some-clause-err : goal.returns-in-Some-clause-err
 returns-in-Some-clause-err g c = err_at g.R.Follower.follower c.call.result c.args.readers.now c.args.number _ c.call.new.self (cc (c.index-readers-place.is)) c.call.ensures.err
+
+pub returns-in-Some-clause-spent : goal.returns-in-Some-clause-spent
+returns-in-Some-clause-spent g c = λ is.
+    call_spends g.R.Follower.follower c.call.result c.args.readers.now _ c.args.number c.args.node c.in-Some.name c.args.callee.now.name c.args.deed.now (cc (c.index-readers-place.is)) c.in-Some.is
+    c.call.ensures.not_held is (c.call.ensures.spent is)

@@ -1,5 +1,6 @@
 use Rattle.atspi_stage.proofs.Elements.{edits_at}
 use Rattle.atspi_stage.proofs.Reasons.{err_at}
+use Rattle.atspi_stage.proofs.ElementsSpent.{edit_spends}
 use Rattle.atspi_stage.proofs.doing.edit_at.Goals as goal
 
 pub returns-clause-edited : goal.returns-clause-edited
@@ -7,3 +8,7 @@ returns-clause-edited g c = edits_at g.A.Application.exporter c.edit.result c.ar
 
 pub returns-clause-err : goal.returns-clause-err
 returns-clause-err g c = err_at g.A.Application.exporter c.edit.result c.args.apps.now c.args.number _ c.edit.new.self (cc (c.index-apps-place.is)) c.edit.ensures.err
+
+pub returns-clause-spent : goal.returns-clause-spent
+returns-clause-spent g c = λ is.
+    edit_spends g.A.Application.exporter c.args.apps.now _ c.args.number c.args.edit.now (cc (c.index-apps-place.is)) (c.edit.ensures.allowed is) (c.edit.ensures.spent is)

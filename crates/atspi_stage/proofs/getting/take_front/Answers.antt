@@ -1,7 +1,8 @@
-use Rattle.std.proofs.Common.{◌≡◌, ℕ, List, ◌++◌, length, drop, None, Some, refl, sym, ap, ◌∙◌}
+use Rattle.std.proofs.Common.{◌≡◌, ℕ, List, ◌++◌, length, drop, Err, None, Some, refl, sym, ap, ◌∙◌}
 use Rattle.std.proofs.Math.Seq.{drop-append_seam}
 use Rattle.std.proofs.lemmas.Option.{same_Some}
 use Rattle.atspi_message.specs.Bytes.{written}
+use Rattle.atspi_stage.proofs.Faults.{err_is}
 use Rattle.atspi_stage.proofs.getting.take_front.Goals as goal
 
 none_some : (n : ℕ) → None ≡ Some n → ⊥
@@ -33,3 +34,6 @@ pub returns-in-Ok-None-clause-nothing : goal.returns-in-Ok-None-clause-nothing
 returns-in-Ok-None-clause-nothing g c = λ more.
     let handed = c.in-Ok-None.ensures.nothing more in
     (refl, (refl, (handed.1.0, handed.1.1)))
+
+pub returns-in-Err-clause-spent : goal.returns-in-Err-clause-spent
+returns-in-Err-clause-spent g c = λ is. c.in-Err.ensures.spent (ap Err (err_is c.in-Err.fault _ is))

@@ -10,8 +10,8 @@ returns-in-Send c = record {
 
 pub returns-in-Some : goal.returns-in-Some
 returns-in-Some c = record {
-  told = line_of c.args.reader c.args.conn c.args.posts.now c.args.trace.now.items c.note.result c.args.event _ _ c.in-Some.app c.note.new.trace.items c.in-Say.is
-      (sym c.in-Some.is ∙ c.named_app.ensures ∙ ap (λ n. app_named n c.args.posts.now) c.as_str.ensures.bytes) c.note.ensures.told;
+  told = line_of c.args.reader c.args.conn c.args.posts.now c.args.trace.now.items c.tell_alone.result c.args.event _ _ c.in-Some.app c.tell_alone.new.trace.items c.in-Say.is
+      (sym c.in-Some.is ∙ c.named_app.ensures ∙ ap (λ n. app_named n c.args.posts.now) c.as_str.ensures.bytes) c.tell_alone.ensures.told;
 }
 
 pub returns-in-Say : goal.returns-in-Say
@@ -22,8 +22,8 @@ returns-in-Say c = record {
 
 pub returns-in-Some-named_app : goal.returns-in-Some-named_app
 returns-in-Some-named_app c = record {
-  told = end_of c.args.reader c.args.conn c.args.posts.now c.args.trace.now.items c.note-in-Some-named_app.result c.args.event _ c.in-Some-named_app.app c.note-in-Some-named_app.new.trace.items c.in-Gone.is
-      (sym c.in-Some-named_app.is ∙ c.named_app-in-Gone.ensures ∙ ap (λ n. app_named n c.args.posts.now) c.as_str-in-Gone.ensures.bytes) c.note-in-Some-named_app.ensures.told;
+  told = end_of c.args.reader c.args.conn c.args.posts.now c.args.trace.now.items c.tell_alone-in-Some-named_app.result c.args.event _ c.in-Some-named_app.app c.tell_alone-in-Some-named_app.new.trace.items c.in-Gone.is
+      (sym c.in-Some-named_app.is ∙ c.named_app-in-Gone.ensures ∙ ap (λ n. app_named n c.args.posts.now) c.as_str-in-Gone.ensures.bytes) c.tell_alone-in-Some-named_app.ensures.told;
 }
 
 pub returns : goal.returns

@@ -38,3 +38,17 @@ returns-in-None-clause-refuses g c =
     let free = not_first c.args.line.now _ (length s.cast.apps.items) (length s.cast.readers.items) (sym (length-map s.cast.apps.items g.A.Application.exporter))
     (sym (length-map s.cast.readers.items g.R.Follower.follower)) c.in-None.ensures.exact in
     refuses_of c.carry_out.result c.args.line.now _ _ (on_ok_weaker c.carry_out.result (λ done p is. done p is (free p is)) c.carry_out.ensures.does) (λ why is p playing. c.carry_out.ensures.refused why is p playing (free p playing))
+
+pub returns-in-None-clause-lost : goal.returns-in-None-clause-lost
+returns-in-None-clause-lost g c = λ is p playing.
+    let s = c.args.self.now in
+    c.carry_out.ensures.lost is p playing
+    (not_first c.args.line.now _ (length s.cast.apps.items) (length s.cast.readers.items) (sym (length-map s.cast.apps.items g.A.Application.exporter)) (sym (length-map s.cast.readers.items g.R.Follower.follower))
+    c.in-None.ensures.exact p playing)
+
+pub returns-in-None-clause-spent : goal.returns-in-None-clause-spent
+returns-in-None-clause-spent g c = λ is p playing.
+    let s = c.args.self.now in
+    c.carry_out.ensures.spent is p playing
+    (not_first c.args.line.now _ (length s.cast.apps.items) (length s.cast.readers.items) (sym (length-map s.cast.apps.items g.A.Application.exporter)) (sym (length-map s.cast.readers.items g.R.Follower.follower))
+    c.in-None.ensures.exact p playing)

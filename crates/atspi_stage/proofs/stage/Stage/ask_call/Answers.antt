@@ -2,6 +2,7 @@ use Rattle.std.proofs.Common.{Some, subst}
 use Rattle.atspi_lines.specs.declared.line.Party.TheVariants.{App, Reader}
 use Rattle.atspi_stage.proofs.Lining.{Finds, find_none, call_some, call_none, call_refused, callee_none}
 use Rattle.atspi_stage.proofs.Results.{both_ok}
+use Rattle.atspi_stage.proofs.LinesHalted.{call_line_spent}
 use Rattle.atspi_stage.proofs.stage.Stage.ask_call.Goals as goal
 
 pub returns-clause-does : goal.returns-clause-does
@@ -25,3 +26,9 @@ returns-clause-refused g c = λ why is.
     call_refused c.args.reader c.args.app c.args.node c.args.deed.now c.in-Some.conn c.in-Some-conn_of.callee _ why
     (subst (Finds (Some c.in-Some.conn) (Reader c.args.reader)) c.deref.ensures.value c.in-Some.ensures)
     (subst (Finds (Some c.in-Some-conn_of.callee) (App c.args.app)) c.deref-2.ensures.value c.in-Some-conn_of.ensures) (c.call.ensures.refused why is)
+
+pub returns-clause-spent : goal.returns-clause-spent
+returns-clause-spent g c = λ is.
+    call_line_spent c.args.reader c.args.app c.args.node c.args.deed.now c.in-Some.conn c.in-Some-conn_of.callee _ _
+    (subst (Finds (Some c.in-Some.conn) (Reader c.args.reader)) c.deref.ensures.value c.in-Some.ensures)
+    (subst (Finds (Some c.in-Some-conn_of.callee) (App c.args.app)) c.deref-2.ensures.value c.in-Some-conn_of.ensures) (c.call.ensures.allowed is) (c.call.ensures.spent is)

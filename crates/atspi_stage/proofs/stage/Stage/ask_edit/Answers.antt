@@ -2,6 +2,7 @@ use Rattle.std.proofs.Common.{None, Some, subst}
 use Rattle.atspi_lines.specs.declared.line.Party.TheVariants.{App}
 use Rattle.atspi_stage.proofs.Lining.{Finds, edit_some, edit_none, edit_refused}
 use Rattle.atspi_stage.proofs.Results.{both_ok}
+use Rattle.atspi_stage.proofs.LinesHalted.{edit_line_spent}
 use Rattle.atspi_stage.proofs.stage.Stage.ask_edit.Goals as goal
 
 pub returns-in-Some-clause-does : goal.returns-in-Some-clause-does
@@ -14,3 +15,7 @@ returns-in-Some-clause-refused g c = λ why is.
 
 pub returns-in-None-clause-does : goal.returns-in-None-clause-does
 returns-in-None-clause-does g c = edit_none c.args.app c.args.edit.now _ _ (subst (Finds None (App c.args.app)) c.deref.ensures.value c.in-None.ensures)
+
+pub returns-in-Some-clause-spent : goal.returns-in-Some-clause-spent
+returns-in-Some-clause-spent g c = λ is.
+    edit_line_spent c.args.app c.args.edit.now c.in-Some.conn _ _ (subst (Finds (Some c.in-Some.conn) (App c.args.app)) c.deref.ensures.value c.in-Some.ensures) (c.edit.ensures.allowed is) (c.edit.ensures.spent is)

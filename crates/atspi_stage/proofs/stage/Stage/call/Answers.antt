@@ -2,12 +2,16 @@ use Rattle.std.proofs.Common.{Err, None, Some, map, refl, sym, ap, ◌∙◌, su
 use Rattle.atspi_bus_steps.specs.Inner.{inner_of}
 use Rattle.atspi_carrying.proofs.Ties.{post_is}
 use Rattle.std.proofs.lemmas.Option.{get_or_from_slice_get, slice_get_within}
-use Rattle.atspi_trace.specs.Work.{not_held}
+use Rattle.atspi_trace.specs.Work.{name_of, not_held}
 use Rattle.atspi_stage.specs.Doing.{CallsAt}
+use Rattle.atspi_stage.specs.Halts.{CallSpends}
 use Rattle.atspi_stage.specs.Refusals.{CallIsRefused}
 use Rattle.atspi_stage.proofs.Calling.{call_world}
 use Rattle.atspi_stage.proofs.Reasons.{call_why}
 use Rattle.atspi_stage.proofs.Queued.{written_back, tells_reader_as}
+use Rattle.atspi_stage.proofs.ElementsSpent.{call_accepted}
+use Rattle.atspi_stage.proofs.Faults.{given_is, call_was_spent}
+use Rattle.atspi_stage.proofs.Spending.{call_spent}
 use Rattle.atspi_stage.proofs.stage.Stage.call.Goals as goal
 
 pub returns-clause-does : goal.returns-clause-does
@@ -40,3 +44,19 @@ returns-in_err-call_at-clause-refused g c = λ why is post at.
     call_why c.in_err-call_at.field-0.0 c.from_residual.result why (λ o. CallIsRefused o (map follower s.cast.readers.items) c.args.reader post.name) c.from_residual.ensures.1 is
     (λ e. subst (λ q. CallIsRefused (Some not_held) (map follower s.cast.readers.items) c.args.reader q.name) (c.index.ensures ∙ get_or_from_slice_get s.carrier.posts.items c.args.callee post c.index.result.now at)
     (subst (λ l. CallIsRefused (Some not_held) (map follower l) c.args.reader c.index.result.now.name) c.deref_mut.ensures.value (c.in_err-call_at.ensures.not_held (ap Err e))))
+
+pub returns-in_err-call_at-clause-allowed : goal.returns-in_err-call_at-clause-allowed
+returns-in_err-call_at-clause-allowed g c = λ is post at.
+    let s = c.args.self.now in
+    let follower = g.R.Follower.follower in
+    let fault = call_was_spent c.in_err-call_at.field-0.0 (given_is c.from_residual.result _ _ c.from_residual.ensures.1 is) in
+    subst (λ q. CallIsRefused None (map follower s.cast.readers.items) c.args.reader q.name) (c.index.ensures ∙ get_or_from_slice_get s.carrier.posts.items c.args.callee post c.index.result.now at)
+    (call_accepted (map follower s.cast.readers.items) c.args.reader c.args.node c.index.result.now.name c.args.deed.now
+    (subst (λ l. CallSpends (map follower l) c.args.reader c.index.result.now.name c.args.node c.args.deed.now) c.deref_mut.ensures.value (c.in_err-call_at.ensures.spent (ap Err fault))))
+
+pub returns-in_err-call_at-clause-spent : goal.returns-in_err-call_at-clause-spent
+returns-in_err-call_at-clause-spent g c = λ is p e playing there at.
+    let follower = g.R.Follower.follower in
+    let fault = call_was_spent c.in_err-call_at.field-0.0 (given_is c.from_residual.result _ _ c.from_residual.ensures.1 is) in
+    call_spent p c.args.conn c.args.reader (name_of (Some e)) c.index.result.now.name c.args.node c.args.deed.now _ _ playing there
+    (subst (λ l. CallSpends (map follower l) c.args.reader c.index.result.now.name c.args.node c.args.deed.now) c.deref_mut.ensures.value (c.in_err-call_at.ensures.spent (ap Err fault))) refl

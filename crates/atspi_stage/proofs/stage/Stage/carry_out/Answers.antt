@@ -1,7 +1,9 @@
-use Rattle.std.proofs.Common.{sym, ap, ◌∙◌}
+use Rattle.std.proofs.Common.{Err, sym, ap, ◌∙◌}
 use Rattle.atspi_play.specs.Played.{refused}
 use Rattle.atspi_stage.specs.Refusals.{first_refusal}
 use Rattle.atspi_stage.proofs.Lined.{line_else}
+use Rattle.atspi_stage.proofs.Faults.{err_is, was_lost, was_spent}
+use Rattle.atspi_stage.proofs.LinesHalted.{spent_as}
 use Rattle.atspi_stage.proofs.stage.Stage.carry_out.Goals as goal
 
 pub returns-in-Ok-clause-does : goal.returns-in-Ok-clause-does
@@ -12,3 +14,15 @@ returns-in-Edit-clause-refused g c = λ why is p playing free. ap (refused p) c.
 
 pub returns-in-Call-clause-refused : goal.returns-in-Call-clause-refused
 returns-in-Call-clause-refused g c = λ why is p playing free. ap (refused p) c.in-Call.is ∙ c.ask_call.ensures.refused why is p playing (ap (first_refusal p.world) (sym c.in-Call.is) ∙ free)
+
+pub returns-in-Err-clause-lost : goal.returns-in-Err-clause-lost
+returns-in-Err-clause-lost g c = λ is. c.in-Err.ensures.lost (ap Err (was_lost c.in-Err.halt (sym c.from.ensures ∙ err_is c.from.result _ is)))
+
+pub returns-in-Err-clause-spent : goal.returns-in-Err-clause-spent
+returns-in-Err-clause-spent g c = λ is. c.in-Err.ensures.spent (ap Err (was_spent c.in-Err.halt (sym c.from.ensures ∙ err_is c.from.result _ is)))
+
+pub returns-in-Call-clause-spent : goal.returns-in-Call-clause-spent
+returns-in-Call-clause-spent g c = λ is. spent_as c.args.line.now _ _ _ c.in-Call.is (c.ask_call.ensures.spent is)
+
+pub returns-in-Edit-clause-spent : goal.returns-in-Edit-clause-spent
+returns-in-Edit-clause-spent g c = λ is. spent_as c.args.line.now _ _ _ c.in-Edit.is (c.ask_edit.ensures.spent is)

@@ -5,6 +5,7 @@ use Rattle.atspi_trace.specs.Work.{draining}
 use Rattle.atspi_stage.specs.Stage.{IsStage}
 use Rattle.atspi_stage.specs.Turns.{PartDone}
 use Rattle.atspi_stage.specs.Worlds.{staged, IsPlaying}
+use Rattle.atspi_stage.proofs.TurnsHalted.{AreMade}
 use Rattle.atspi_stage.proofs.stage.Stage.drain.Given as goal
 
 -- turns were made, and all others are left
@@ -17,4 +18,5 @@ invariant-loop-turn g l =
     record {
       stage : IsStage g.A.Application.is_app g.R.Follower.is_follower g.A.Application.is_kit g.A.Application.is_spare l.self.cast.apps.items l.self.cast.readers.items l.self.kits.items l.self.spares.items (state_of l.self.carrier.bus);
       drained : (p : Playing) → IsPlaying p before → PartDone p draining draining before now;
+      made : (p : Playing) → IsPlaying p before → AreMade l._turn p before now;
     }

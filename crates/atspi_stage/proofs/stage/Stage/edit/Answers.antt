@@ -1,10 +1,14 @@
 use Rattle.std.proofs.Common.{Err, Some, map, refl, sym, ap, ◌∙◌, subst, arith}
 use Rattle.atspi_trace.specs.Work.{of_edit}
 use Rattle.atspi_stage.specs.Doing.{EditsAt}
+use Rattle.atspi_stage.specs.Halts.{EditSpends}
 use Rattle.atspi_stage.specs.Refusals.{EditIsRefused}
 use Rattle.atspi_stage.proofs.Queued.{written_back, tells_as}
 use Rattle.atspi_stage.proofs.Reasons.{edit_why}
 use Rattle.atspi_stage.proofs.Sayings.{edit_world}
+use Rattle.atspi_stage.proofs.ElementsSpent.{edit_accepted}
+use Rattle.atspi_stage.proofs.Faults.{given_is, edit_was_spent}
+use Rattle.atspi_stage.proofs.Spending.{edit_spent}
 use Rattle.atspi_stage.proofs.stage.Stage.edit.Goals as goal
 
 pub returns-clause-does : goal.returns-clause-does
@@ -21,3 +25,17 @@ returns-in_err-edit_at-clause-refused g c = λ why is.
     let exporter = g.A.Application.exporter in
     edit_why c.in_err-edit_at.field-0.0 c.from_residual.result why (λ o. EditIsRefused o (map exporter c.args.self.now.cast.apps.items) c.args.app c.args.edit.now) c.from_residual.ensures.1 is
     (λ fault e. subst (λ l. EditIsRefused (Some (of_edit fault)) (map exporter l) c.args.app c.args.edit.now) c.deref_mut.ensures.value (c.in_err-edit_at.ensures.refused fault (ap Err e)))
+
+pub returns-in_err-edit_at-clause-allowed : goal.returns-in_err-edit_at-clause-allowed
+returns-in_err-edit_at-clause-allowed g c = λ is.
+    let exporter = g.A.Application.exporter in
+    let fault = edit_was_spent c.in_err-edit_at.field-0.0 (given_is c.from_residual.result _ _ c.from_residual.ensures.1 is) in
+    edit_accepted (map exporter c.args.self.now.cast.apps.items) c.args.app c.args.edit.now
+    (subst (λ l. EditSpends (map exporter l) c.args.app c.args.edit.now) c.deref_mut.ensures.value (c.in_err-edit_at.ensures.spent (ap Err fault)))
+
+pub returns-in_err-edit_at-clause-spent : goal.returns-in_err-edit_at-clause-spent
+returns-in_err-edit_at-clause-spent g c = λ is p playing there.
+    let exporter = g.A.Application.exporter in
+    let fault = edit_was_spent c.in_err-edit_at.field-0.0 (given_is c.from_residual.result _ _ c.from_residual.ensures.1 is) in
+    edit_spent p c.args.conn c.args.app c.args.edit.now _ _ playing there
+    (subst (λ l. EditSpends (map exporter l) c.args.app c.args.edit.now) c.deref_mut.ensures.value (c.in_err-edit_at.ensures.spent (ap Err fault))) refl

@@ -2,6 +2,7 @@ use Rattle.std.proofs.Common.{Some, subst}
 use Rattle.std.proofs.lemmas.Result.{on_ok_weaker}
 use Rattle.atspi_stage.proofs.Lining.{Finds, find_none}
 use Rattle.atspi_stage.proofs.Moved.{bytes_none, bytes_up_some, bytes_down_some}
+use Rattle.atspi_stage.proofs.LinesHalted.{up_line_lost, up_line_spent, down_line_spent}
 use Rattle.atspi_stage.proofs.stage.Stage.move_bytes.Goals as goal
 
 pub returns-in_default-clause-does : goal.returns-in_default-clause-does
@@ -15,3 +16,12 @@ returns-then-up-clause-does g c =
 pub returns-clause-does : goal.returns-clause-does
 returns-clause-does g c =
     on_ok_weaker c.move_down.result (bytes_down_some c.args.who c.args.up c.args.count c.in-Some.conn _ _ c.if-up.false (subst (Finds (Some c.in-Some.conn) c.args.who) c.deref.ensures.value c.in-Some.ensures)) c.move_down.ensures.does
+
+pub returns-then-up-clause-lost : goal.returns-then-up-clause-lost
+returns-then-up-clause-lost g c = λ is. up_line_lost c.args.who c.args.up c.args.count c.in-Some.conn _ _ (subst (Finds (Some c.in-Some.conn) c.args.who) c.deref.ensures.value c.in-Some.ensures) c.if-up.true (c.move_up.ensures.lost is)
+
+pub returns-then-up-clause-spent : goal.returns-then-up-clause-spent
+returns-then-up-clause-spent g c = λ is. up_line_spent c.args.who c.args.up c.args.count c.in-Some.conn _ _ (subst (Finds (Some c.in-Some.conn) c.args.who) c.deref.ensures.value c.in-Some.ensures) c.if-up.true (c.move_up.ensures.spent is)
+
+pub returns-clause-spent : goal.returns-clause-spent
+returns-clause-spent g c = λ is. down_line_spent c.args.who c.args.up c.args.count c.in-Some.conn _ _ (subst (Finds (Some c.in-Some.conn) c.args.who) c.deref.ensures.value c.in-Some.ensures) c.if-up.false (c.move_down.ensures.spent is)

@@ -3,7 +3,7 @@ use Rattle.std.specs.Prelude.{vec_items, take}
 use Rattle.atspi_bus_steps.specs.Inner.{inner_of}
 use Rattle.atspi_stage.proofs.Queued.{written_back}
 use Rattle.atspi_stage.proofs.Beginning.{begun_so, begins_as, first_as}
-use Rattle.atspi_stage.proofs.stage.Stage.begin.Goals as goal
+use Rattle.atspi_stage.proofs.stage.Stage.join_registry.Goals as goal
 
 pub returns-clause-begins : goal.returns-clause-begins
 returns-clause-begins g c = λ quota room most bus posts given registry.

@@ -1,0 +1,70 @@
+-- Which fault of a part a fault of the whole was.
+use Rattle.std.proofs.Common.{◌≡◌, refl, sym, ap, ◌∙◌}
+use Rattle.std.specs.Prelude.{Result, Ok, Err, IsErrOf, IsErrAnd}
+use Rattle.std.proofs.lemmas.Result.{err_from_is_err_and}
+use Rattle.atspi_carrying.specs.declared.fault.CarryFault.{CarryFault}
+use Rattle.atspi_carrying.specs.declared.fault.CarryFault.TheVariants as carry
+use Rattle.atspi_carrying.specs.Faults.{of_end, of_send}
+use Rattle.atspi_posts.specs.declared.fault.SendFault.{SendFault}
+use Rattle.atspi_posts.specs.declared.fault.SendFault.TheVariants as send
+use Rattle.atspi_protocol.specs.declared.ends.fault.EndFault.{EndFault}
+use Rattle.atspi_protocol.specs.declared.ends.fault.EndFault.TheVariants as ends
+use Rattle.atspi_stage_ends.specs.declared.fault.AppFault.{AppFault}
+use Rattle.atspi_stage_ends.specs.declared.fault.AppFault.TheVariants as app
+use Rattle.atspi_stage_ends.specs.declared.fault.CallFault.{CallFault}
+use Rattle.atspi_stage_ends.specs.declared.fault.CallFault.TheVariants as call
+use Rattle.atspi_stage.specs.declared.fault.ActFault.TheVariants.{Spent, RegistryLost}
+use Rattle.atspi_stage.specs.Faults.{of_carry, of_sent, of_app, of_call}
+
+-- the fault of an answer is the one that it was made of
+abbrev err_or : {T F : Type 0} → F → Result T F → F
+err_or other (Ok x) = other
+err_or other (Err e) = e
+
+pub err_is : {T F : Type 0} (e x : F) → IsErrOf {T = T} (Err e) x → e ≡ x
+err_is e x is = ap (err_or e) is
+
+pub given_is : {T F : Type 0} (r : Result T F) (e x : F) → IsErrAnd r (λ y. y ≡ e) → r ≡ Err x → e ≡ x
+given_is r e x gives is = (let y = err_from_is_err_and r gives in sym y.2 ∙ ap (err_or e) (sym y.1 ∙ is))
+
+pub end_was_spent : (f : EndFault) → of_end f ≡ carry.Spent → f ≡ ends.Spent
+end_was_spent ends.Spent h = refl
+end_was_spent f h = absurd cc
+
+pub end_is_calm : (f : EndFault) → of_end f ≡ carry.RegistryLost → ⊥
+end_is_calm ends.Spent h = cc
+end_is_calm ends.NoMemory h = cc
+
+pub send_is_calm : (f : SendFault) → (of_send f ≡ carry.Spent → ⊥) × (of_send f ≡ carry.RegistryLost → ⊥)
+send_is_calm send.Unsendable = (λ h. cc, λ h. cc)
+send_is_calm send.NoMemory = (λ h. cc, λ h. cc)
+
+pub sent_is_calm : (f : SendFault) → (of_sent f ≡ Spent → ⊥) × (of_sent f ≡ RegistryLost → ⊥)
+sent_is_calm send.Unsendable = (λ h. cc, λ h. cc)
+sent_is_calm send.NoMemory = (λ h. cc, λ h. cc)
+
+pub was_lost : (f : CarryFault) → of_carry f ≡ RegistryLost → f ≡ carry.RegistryLost
+was_lost carry.RegistryLost h = refl
+was_lost f h = absurd cc
+
+pub was_spent : (f : CarryFault) → of_carry f ≡ Spent → f ≡ carry.Spent
+was_spent carry.Spent h = refl
+was_spent f h = absurd cc
+
+pub edit_was_spent : (f : AppFault) → of_app f ≡ Spent → f ≡ app.Spent
+edit_was_spent app.Spent h = refl
+edit_was_spent f h = absurd cc
+
+pub edit_is_calm : (f : AppFault) → of_app f ≡ RegistryLost → ⊥
+edit_is_calm (app.Refused why) h = cc
+edit_is_calm app.Spent h = cc
+edit_is_calm app.NoMemory h = cc
+
+pub call_was_spent : (f : CallFault) → of_call f ≡ Spent → f ≡ call.Spent
+call_was_spent call.Spent h = refl
+call_was_spent f h = absurd cc
+
+pub call_is_calm : (f : CallFault) → of_call f ≡ RegistryLost → ⊥
+call_is_calm call.NotHeld h = cc
+call_is_calm call.Spent h = cc
+call_is_calm call.NoMemory h = cc
