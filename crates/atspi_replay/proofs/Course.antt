@@ -1,26 +1,39 @@
 -- The run so far: which lines were done, the world that they came to, and what was told of them.
-use Rattle.std.proofs.Common.{◌≡◌, ℕ, suc, ◌+◌, List, [], ◌∷◌, ◌++◌, length, refl, sym, ap, subst, ◌∙◌, arith, append_assoc, append-nil, length-append, Option, inl, inr, ◌⊎◌}
+use Rattle.std.proofs.Common.{◌≡◌, ℕ, suc, ◌+◌, ◌<◌, List, [], ◌∷◌, ◌++◌, length, refl, sym, ap, subst, ◌∙◌, arith, append_assoc, append-nil, length-append, Option, None, inl, inr, ◌⊎◌}
 use Rattle.std.specs.Io.KnownBytes.{Appends}
 use Rattle.std.specs.List.{AllByRecursion}
 use Rattle.atspi_base.specs.Outside.{AppendsPart, appends_both, appends_part}
 use Rattle.atspi_events.specs.declared.options.TraceOptions.{TraceOptions}
 use Rattle.atspi_lines.specs.declared.limits.TheConstants.{QUOTA_MOST}
 use Rattle.atspi_lines.specs.declared.line.Line.{Line}
+use Rattle.atspi_lines.specs.Line.{Spells}
 use Rattle.atspi_lawful.specs.order.Scripts.{CanStand, CanAllStand}
+use Rattle.atspi_trace.specs.Entry.{Entry, entries_of}
+use Rattle.atspi_trace.specs.Work.{work_of}
+use Rattle.atspi_trace.specs.Due.{Begun}
 use Rattle.atspi_play.specs.Playing.{Playing, first_playing}
-use Rattle.atspi_play.specs.Played.{IsPlayed, begun}
+use Rattle.atspi_play.specs.Played.{refused, PlaysOut, IsPlayed, begun}
+use Rattle.atspi_play.specs.Breaking.{IsLostAt, IsSpentAt}
 use Rattle.atspi_stage.specs.Worlds.{Staged, IsPlaying}
 use Rattle.atspi_stage.specs.Lines.{IsLineDone}
+use Rattle.atspi_few_turns.specs.Laws.{IsUnspent}
+use Rattle.atspi_few_turns.proofs.PlayedTurns.{drains_end}
+use Rattle.atspi_stage.specs.Halts.{ManyTurns, WorkSpent}
 use Rattle.atspi_stage.specs.Refusals.{refusal_of}
+use Rattle.atspi_replay.specs.declared.naming.Halt.{Halt}
+use Rattle.atspi_replay.specs.declared.naming.Halt.TheVariants.{RegistryLost, Spent}
 use Rattle.atspi_replay.specs.declared.naming.Refused as refused
 use Rattle.atspi_replay.specs.declared.naming.Refused.TheVariants.{Long, NotUtf8, Form, World}
-use Rattle.atspi_replay.specs.Names.{IsLine, RefusedAs, refused_text}
-use Rattle.atspi_replay.specs.Told.{Told, told_text}
-use Rattle.atspi_replay.specs.Done.{AreSpelled, IsLawfulOf, IsRefusedBehind, Upto, entries_told}
-use Rattle.atspi_replay.specs.Play.{Did, DidLine, DoneText, HaltedText, IsLineText, PlayedHalted, PlayedPart, PlayedRefused, RefusedIn, RefusedText, StoppedAt, added}
+use Rattle.atspi_replay.specs.Names.{RefusedAs, refused_text}
+use Rattle.atspi_replay.specs.Told.{Told, entries_told, told_text}
+use Rattle.atspi_replay.specs.Wired as wired
+use Rattle.atspi_replay.specs.Wired.{AreWired, IsTold}
+use Rattle.atspi_replay.specs.Done.{AreSpelled, BreaksOff, EndsWith, IsHaltedBehind, IsLawfulOf, IsRefusedBehind, Upto}
+use Rattle.atspi_replay.specs.Play.{Did, DidLine, DoneText, HaltedIn, HaltedText, IsLineText, PlayedHalted, PlayedPart, PlayedRefused, RefusedIn, RefusedText, StoppedAt, added}
 use Rattle.atspi_replay.proofs.DoneLemmas.{added_are, spelled_more, entries_both, text_more}
 use Rattle.atspi_replay.proofs.Segments.{can_stand, played_more}
-use Rattle.atspi_replay.proofs.Refusing.{is_refused, lawful}
+use Rattle.atspi_replay.proofs.Wiring.{added_wired}
+use Rattle.atspi_replay.proofs.Refusing.{begins_so, drops_last, is_refused, lawful, there}
 
 -- so many lines were done: the lines still to come, and the number of the one that comes next
 pub record SoFar (lines rest : List (List ℕ)) (told : List Told) (number : ℕ) (s : Staged) : Type 0 where
@@ -33,9 +46,23 @@ pub record SoFar (lines rest : List (List ℕ)) (told : List Told) (number : ℕ
   pub now : Playing
   pub is : IsPlaying now s
   pub played : IsPlayed script (entries_told told) now
+  pub told_so : IsTold script told now
+  pub entries : entries_told told ≡ entries_of s.trace
 
-pub so_far_start : (lines : List (List ℕ)) (s : Staged) → IsPlaying (first_playing QUOTA_MOST) s → SoFar lines lines [] 0 s
-so_far_start lines s is = record { done = []; front = refl; counted = refl; script = []; spelled = tt; can = tt; now = first_playing QUOTA_MOST; is = is; played = begun }
+pub so_far_start : (lines : List (List ℕ)) (s : Staged) → IsPlaying (first_playing QUOTA_MOST) s → s.trace ≡ [] → SoFar lines lines [] 0 s
+so_far_start lines s is silent = record {
+  done = [];
+  front = refl;
+  counted = refl;
+  script = [];
+  spelled = tt;
+  can = tt;
+  now = first_playing QUOTA_MOST;
+  is = is;
+  played = begun;
+  told_so = wired.begun;
+  entries = ap entries_of (sym silent);
+}
 
 pub can_more : (lines : List Line) (line : Line) → CanAllStand lines → CanStand line → CanAllStand (lines ++ line ∷ [])
 can_more [] line all can = (can, tt)
@@ -46,7 +73,8 @@ pub so_far_more : {lines rest : List (List ℕ)} {told : List Told} {bytes : Lis
     → SoFar lines rest (told ++ added s new) (number + 1) new
 so_far_more {rest = rest} {told = told} {bytes = bytes} {s = s} new c d =
     let line : IsLineDone c.now d.0 s new = d.2 c.now c.is in
-    let entries : entries_told (told ++ added s new) ≡ entries_told told ++ line.done.entries = entries_both told (added s new) ∙ ap (λ es. entries_told told ++ es) (added_are s new line.done.entries line.done.wrote) in
+    let are : entries_told (added s new) ≡ line.done.entries = added_are s new line.done.entries line.done.wrote in
+    let entries : entries_told (told ++ added s new) ≡ entries_told told ++ line.done.entries = entries_both told (added s new) ∙ ap (λ es. entries_told told ++ es) are in
     record {
       done = c.done ++ bytes ∷ [];
       front = c.front ∙ sym (append_assoc c.done (bytes ∷ []) rest);
@@ -57,6 +85,11 @@ so_far_more {rest = rest} {told = told} {bytes = bytes} {s = s} new c d =
       now = line.done.after;
       is = line.done.is;
       played = subst (λ es. IsPlayed (c.script ++ d.0 ∷ []) es line.done.after) (sym entries) (played_more c.script (entries_told told) c.now d.0 s new c.played line);
+      told_so =
+          wired.did c.script d.0 told (added s new) c.now line.done.after c.told_so line.not_refused (subst (λ es. PlaysOut c.now (work_of c.now.world d.0) es line.done.after) (sym are) line.done.plays)
+          line.done.is.is.lives
+          (subst (λ es. AreWired line.done.after.world es (added s new)) (sym c.entries) (added_wired line.done.after s new line.done.entries line.done.is line.done.wrote));
+      entries = entries ∙ ap (λ es. es ++ line.done.entries) c.entries ∙ sym line.done.wrote;
     }
 
 -- and what it added is written
@@ -70,7 +103,7 @@ one_more options {told = told} {s = s} new w w' w'' c a did = (
 
 -- WHAT WAS TOLD IS A LAWFUL TRACE OF THEM
 abbrev pub so_far_upto : {lines rest : List (List ℕ)} {told : List Told} {number : ℕ} {s : Staged} → SoFar lines rest told number s → Upto lines rest told
-so_far_upto {told = told} c = record { done = c.done; front = c.front; lawful = record { lines = c.script; spelled = c.spelled; lawful = lawful c.script (entries_told told) c.now c.can c.played } }
+so_far_upto {told = told} c = record { done = c.done; front = c.front; lawful = record { lines = c.script; spelled = c.spelled; lawful = lawful c.script (entries_told told) c.now c.can c.played; there = there c.script (entries_told told) c.now c.can c.played; now = c.now; told_so = c.told_so } }
 
 pub so_far_end : {lines : List (List ℕ)} {told : List Told} {number : ℕ} {s : Staged} → SoFar lines [] told number s → IsLawfulOf lines told
 so_far_end {told = told} c = subst (λ ls. IsLawfulOf ls told) (sym (c.front ∙ append-nil c.done)) (so_far_upto c).lawful
@@ -99,6 +132,55 @@ refused_so {options = options} {rest = rest} {told = told} {bytes = bytes} why t
   are = are ∙ ap (λ n. told_text options told ++ refused_text n why) (omega (arith, c.counted));
 }
 
+-- THE WORLD COMES TO ITS END AT THE NEXT LINE: what that added is what its causes wrote up to there
+breaks_off : {lines rest : List (List ℕ)} {told : List Told} {number : ℕ} {s : Staged} (c : SoFar lines rest told number s) (new : Staged) (bytes : List ℕ) (line : Line) (why : Halt) → Spells line bytes
+    → refused c.now line ≡ None → (entries : List Entry) → entries_of new.trace ≡ entries_of s.trace ++ entries → BreaksOff why c.now (work_of c.now.world line) entries
+    → (IsLostAt c.now (work_of c.now.world line) entries ⊎ IsSpentAt c.now (work_of c.now.world line) entries)
+    → EndsWith why entries → IsHaltedBehind c.script told (added s new) bytes why
+breaks_off {told = told} {s = s} c new bytes line why spells ok entries wrote breaks broken ends =
+    let are : entries_told (added s new) ≡ entries = added_are s new entries wrote in
+    record {
+      line = line;
+      spells = spells;
+      now = c.now;
+      played = c.played;
+      accepted = ok;
+      breaks = subst (BreaksOff why c.now (work_of c.now.world line)) (sym are) breaks;
+      begun =
+          subst (Begun (c.script ++ line ∷ [])) (sym (entries_both told (added s new) ∙ ap (λ es. entries_told told ++ es) are))
+          (begins_so c.script (entries_told told) c.now line entries (can_more c.script line c.can (can_stand line bytes spells)) c.played ok broken);
+      last = subst (EndsWith why) (sym are) ends;
+    }
+
+pub halted_behind : {lines rest : List (List ℕ)} {told : List Told} {number : ℕ} {s : Staged} (c : SoFar lines rest told number s) (new : Staged) (bytes : List ℕ) (why : Halt) → HaltedIn s new bytes why
+    → IsHaltedBehind c.script told (added s new) bytes why
+halted_behind {told = told} {s = s} c new bytes RegistryLost h =
+    let x = h.2 c.now c.is in
+    breaks_off c new bytes h.0 RegistryLost h.1 x.0 x.1 x.3 x.2 (inl x.2)
+    (drops_last c.script (entries_told told) c.now h.0 x.1 (can_more c.script h.0 c.can (can_stand h.0 bytes h.1)) c.played x.0 x.2)
+halted_behind {told = told} {s = s} c new bytes Spent h =
+    let x = h.2 c.now c.is in
+    by x.0 x.1
+  where
+    by : refused c.now h.0 ≡ None → (WorkSpent c.now (work_of c.now.world h.0) s new.trace ⊎ ManyTurns c.now s new.trace) → IsHaltedBehind c.script told (added s new) bytes Spent
+    by ok (inl x) = breaks_off c new bytes h.0 Spent h.1 ok x.0 x.2 x.1 (inr x.1) tt
+    by ok (inr x) =
+        let all : entries_of new.trace ≡ entries_told told ++ x.0 = x.4 ∙ ap (λ es. es ++ x.0) (sym c.entries) in
+        let fewer : 4398046511104 < 4398046511104 = drains_end c.script (entries_told told) c.now c.can c.played 4398046511104 x.0 x.1 x.2 x.3 (subst (AllByRecursion IsUnspent) all h.3) in
+        absurd (omega (arith, fewer))
+
+halted_so : {options : TraceOptions} {lines rest : List (List ℕ)} {told : List Told} {bytes : List ℕ} {number : ℕ} {s : Staged} (why : Halt) (new : Staged) (text : List ℕ) → SoFar lines (bytes ∷ rest) told number s
+    → HaltedIn s new bytes why → text ≡ told_text options told ++ told_text options (added s new) → HaltedText options why lines text
+halted_so {options = options} {rest = rest} {told = told} {bytes = bytes} {s = s} why new text c h are = record {
+  line = bytes;
+  rest = rest;
+  told = told;
+  more = added s new;
+  upto = so_far_upto c;
+  halted = halted_behind c new bytes why h;
+  are = are ∙ sym (text_more options told (added s new));
+}
+
 -- a part of what the next line writes is a part of such a text
 pub stopped_part : {options : TraceOptions} {lines rest : List (List ℕ)} {told : List Told} {bytes : List ℕ} {number : ℕ} {s : Staged} (new : Staged) (w w' w'' : Option (List ℕ)) → SoFar lines (bytes ∷ rest) told number s
     → Appends w w' (told_text options told) → StoppedAt options bytes (number + 1) s new w' w'' → PlayedPart options lines w w''
@@ -106,7 +188,7 @@ stopped_part {options = options} {lines = lines} {rest = rest} {told = told} {by
     (told_text options told ++ p.0, text p.0 p.1, appends_part w w' w'' (told_text options told) p.0 a p.2)
   where
     text : (t : List ℕ) → IsLineText options bytes (number + 1) s new t
-        → DoneText options lines (told_text options told ++ t) ⊎ (HaltedText options lines (told_text options told ++ t) ⊎ RefusedText options lines (told_text options told ++ t))
+        → DoneText options lines (told_text options told ++ t) ⊎ (((why : Halt) × HaltedText options why lines (told_text options told ++ t)) ⊎ RefusedText options lines (told_text options told ++ t))
     text t (inl none) = inl record { rest = bytes ∷ rest; told = told; upto = so_far_upto c; are = ap (λ x. told_text options told ++ x) none ∙ append-nil (told_text options told) }
     text t (inr (inl d)) =
         inl record {
@@ -115,16 +197,7 @@ stopped_part {options = options} {lines = lines} {rest = rest} {told = told} {by
           upto = so_far_upto (so_far_more new c d.0);
           are = ap (λ x. told_text options told ++ x) d.1 ∙ sym (text_more options told (added s new));
         }
-    text t (inr (inr (inl h))) =
-        inr (inl record {
-          line = bytes;
-          rest = rest;
-          told = told;
-          more = h.1.0;
-          upto = so_far_upto c;
-          is_line = h.0;
-          are = ap (λ x. told_text options told ++ x) h.1.1 ∙ sym (text_more options told h.1.0);
-        })
+    text t (inr (inr (inl h))) = inr (inl (h.0, halted_so h.0 new (told_text options told ++ t) c h.1 (ap (λ x. told_text options told ++ x) h.2)))
     text t (inr (inr (inr r))) = inr (inr (refused_so r.0 (told_text options told ++ t) c r.1 (ap (λ x. told_text options told ++ x) r.2)))
 
 -- the next line is refused
@@ -137,14 +210,14 @@ refused_next {options = options} {told = told} {number = number} why w w' w'' c 
 )
 
 -- the world ends at the next line
-pub halted_next : {options : TraceOptions} {lines rest : List (List ℕ)} {told : List Told} {bytes : List ℕ} {number : ℕ} {s : Staged} (more : List Told) (w w' w'' : Option (List ℕ)) → SoFar lines (bytes ∷ rest) told number s
-    → Appends w w' (told_text options told) → IsLine bytes → Appends w' w'' (told_text options more) → PlayedHalted options lines w w''
-halted_next {options = options} {rest = rest} {told = told} {bytes = bytes} more w w' w'' c a l b = (
-  told_text options told ++ told_text options more,
-  record { line = bytes; rest = rest; told = told; more = more; upto = so_far_upto c; is_line = l; are = sym (text_more options told more) },
-  appends_both w w' w'' (told_text options told) (told_text options more) a b,
+pub halted_next : {options : TraceOptions} {lines rest : List (List ℕ)} {told : List Told} {bytes : List ℕ} {number : ℕ} {s : Staged} (why : Halt) (new : Staged) (w w' w'' : Option (List ℕ))
+    → SoFar lines (bytes ∷ rest) told number s → Appends w w' (told_text options told) → HaltedIn s new bytes why → Appends w' w'' (told_text options (added s new)) → PlayedHalted options why lines w w''
+halted_next {options = options} {told = told} {s = s} why new w w' w'' c a h b = (
+  told_text options told ++ told_text options (added s new),
+  halted_so why new (told_text options told ++ told_text options (added s new)) c h refl,
+  appends_both w w' w'' (told_text options told) (told_text options (added s new)) a b,
 )
 
 -- nothing was told of no lines
 pub nothing_told : (lines : List (List ℕ)) → Upto lines lines []
-nothing_told lines = record { done = []; front = refl; lawful = record { lines = []; spelled = tt; lawful = lawful [] [] (first_playing QUOTA_MOST) tt begun } }
+nothing_told lines = record { done = []; front = refl; lawful = record { lines = []; spelled = tt; lawful = lawful [] [] (first_playing QUOTA_MOST) tt begun; there = refl; now = first_playing QUOTA_MOST; told_so = wired.begun } }

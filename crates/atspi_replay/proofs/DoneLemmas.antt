@@ -9,8 +9,8 @@ use Rattle.atspi_lines.specs.Line.{Spells}
 use Rattle.atspi_posts.specs.declared.post.Post.{Post}
 use Rattle.atspi_trace.specs.Entry.{Entry, entry_of, entries_of}
 use Rattle.atspi_stage.specs.Worlds.{Staged}
-use Rattle.atspi_replay.specs.Told.{Told, entry_text, told_on, told_text}
-use Rattle.atspi_replay.specs.Done.{AreSpelled, entries_told}
+use Rattle.atspi_replay.specs.Told.{Told, entries_told, entry_text, told_on, told_text}
+use Rattle.atspi_replay.specs.Done.{AreSpelled}
 use Rattle.atspi_replay.specs.Play.{added}
 
 pub text_more : (options : TraceOptions) (xs ys : List Told) → told_text options (xs ++ ys) ≡ told_text options xs ++ told_text options ys

@@ -11,3 +11,4 @@ pub mod RunLemmas
 pub mod Segments
 pub mod StopLemmas
 pub mod TellLemmas
+pub mod Wiring

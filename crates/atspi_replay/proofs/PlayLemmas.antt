@@ -5,12 +5,13 @@ use Rattle.std.specs.Io.KnownBytes.{Appends}
 use Rattle.atspi_base.specs.Outside.{AppendsPart}
 use Rattle.atspi_events.specs.declared.options.TraceOptions.{TraceOptions}
 use Rattle.atspi_stage.specs.Worlds.{Staged}
+use Rattle.atspi_replay.specs.declared.naming.Halt.{Halt}
 use Rattle.atspi_replay.specs.declared.naming.Refused as refused
-use Rattle.atspi_replay.specs.Names.{IsLine, refused_text}
+use Rattle.atspi_replay.specs.Names.{refused_text}
 use Rattle.atspi_replay.specs.Told.{Told, told_text}
 use Rattle.atspi_replay.specs.declared.naming.Stop.{Stop}
 use Rattle.atspi_replay.specs.declared.naming.Stop.TheVariants.{Refused, Halted, Write, NoMemory}
-use Rattle.atspi_replay.specs.Play.{Did, DidLine, Ended, IfHalted, IfRefused, PlayedHalted, PlayedPart, PlayedRefused, RefusedIn, StoppedAt, added}
+use Rattle.atspi_replay.specs.Play.{Did, DidLine, Ended, HaltedIn, IfHalted, IfRefused, PlayedHalted, PlayedPart, PlayedRefused, RefusedIn, StoppedAt, added}
 use Rattle.atspi_replay.proofs.Course.{SoFar, halted_next, nothing_told, refused_next}
 use Rattle.atspi_replay.proofs.DoneLemmas.{appends_nothing}
 use Rattle.atspi_replay.proofs.StopLemmas.{halted_weaker, refused_weaker}
@@ -27,15 +28,19 @@ pub did_part_if : {T E : Type 0} (r : Result T E) (options : TraceOptions) (byte
 did_part_if (Ok x) options bytes number old new w w' d a = tt
 did_part_if (Err x) options bytes number old new w w' d a = (told_text options (added old new), inr (inl (d, refl)), a)
 
--- the world came to its end at a line, and what it added was written
-pub was_halted : {T : Type 0} (r : Result T Stop) (options : TraceOptions) (bytes : List ℕ) (more : List Told) (w w' : Option (List ℕ)) → IsLine bytes → IfHalted r (Appends w w' (told_text options more))
-    → IfHalted r (Ended options bytes w w')
-was_halted r options bytes more w w' l h = halted_weaker r _ _ (λ a. (l, (more, a))) h
+-- the world came to its end at a line, and what that added was written
+same_halt : (old new : Staged) (options : TraceOptions) (bytes : List ℕ) (why said : Halt) (w w' : Option (List ℕ)) → HaltedIn old new bytes why
+    → (said ≡ why) × Appends w w' (told_text options (added old new)) → Ended options bytes said old new w w'
+same_halt old new options bytes why said w w' because f = (subst (λ (x : Halt). HaltedIn old new bytes x) (sym f.0) because, f.1)
 
-pub halted_part_if : {T E : Type 0} (r : Result T E) (options : TraceOptions) (bytes : List ℕ) (number : ℕ) (old new : Staged) (more : List Told) (w w' : Option (List ℕ)) → IsLine bytes
-    → OnErr r (AppendsPart w w' (told_text options more)) → OnErr r (StoppedAt options bytes number old new w w')
-halted_part_if (Ok x) options bytes number old new more w w' l a = tt
-halted_part_if (Err x) options bytes number old new more w w' l a = (told_text options more, inr (inr (inl (l, (more, refl)))), a)
+pub was_halted : {T : Type 0} (r : Result T Stop) (options : TraceOptions) (bytes : List ℕ) (old new : Staged) (why : Halt) (w w' : Option (List ℕ)) → HaltedIn old new bytes why
+    → IfHalted r (λ said. (said ≡ why) × Appends w w' (told_text options (added old new))) → IfHalted r (λ said. Ended options bytes said old new w w')
+was_halted r options bytes old new why w w' because h = halted_weaker r _ _ (λ said f. same_halt old new options bytes why said w w' because f) h
+
+pub halted_part_if : {T E : Type 0} (r : Result T E) (options : TraceOptions) (bytes : List ℕ) (number : ℕ) (old new : Staged) (why : Halt) (w w' : Option (List ℕ)) → HaltedIn old new bytes why
+    → OnErr r (AppendsPart w w' (told_text options (added old new))) → OnErr r (StoppedAt options bytes number old new w w')
+halted_part_if (Ok x) options bytes number old new why w w' because a = tt
+halted_part_if (Err x) options bytes number old new why w w' because a = (told_text options (added old new), inr (inr (inl (why, because, refl))), a)
 
 -- all of it is a part of it
 pub all_part : (text : List ℕ) (old new : Option (List ℕ)) → Appends old new text → AppendsPart old new text
@@ -84,10 +89,10 @@ then_refused (Err (Halted halt)) options lines rest told bytes number s old mid 
 then_refused (Err Write) options lines rest told bytes number s old mid new w a h = tt
 then_refused (Err NoMemory) options lines rest told bytes number s old mid new w a h = tt
 
-pub then_halted : {T : Type 0} (r : Result T Stop) (options : TraceOptions) (lines rest : List (List ℕ)) (told : List Told) (bytes : List ℕ) (number : ℕ) (s : Staged) (old mid new : Option (List ℕ))
-    → SoFar lines (bytes ∷ rest) told number s → Appends old mid (told_text options told) → IfHalted r (Ended options bytes mid new) → IfHalted r (PlayedHalted options lines old new)
-then_halted (Ok x) options lines rest told bytes number s old mid new w a h = tt
-then_halted (Err (Refused why)) options lines rest told bytes number s old mid new w a h = tt
-then_halted (Err (Halted halt)) options lines rest told bytes number s old mid new w a h = halted_next h.1.0 old mid new w a h.0 h.1.1
-then_halted (Err Write) options lines rest told bytes number s old mid new w a h = tt
-then_halted (Err NoMemory) options lines rest told bytes number s old mid new w a h = tt
+pub then_halted : {T : Type 0} (r : Result T Stop) (options : TraceOptions) (lines rest : List (List ℕ)) (told : List Told) (bytes : List ℕ) (number : ℕ) (s t : Staged) (old mid new : Option (List ℕ))
+    → SoFar lines (bytes ∷ rest) told number s → Appends old mid (told_text options told) → IfHalted r (λ why. Ended options bytes why s t mid new) → IfHalted r (λ why. PlayedHalted options why lines old new)
+then_halted (Ok x) options lines rest told bytes number s t old mid new w a h = tt
+then_halted (Err (Refused why)) options lines rest told bytes number s t old mid new w a h = tt
+then_halted (Err (Halted halt)) options lines rest told bytes number s t old mid new w a h = halted_next halt t old mid new w a h.0 h.1
+then_halted (Err Write) options lines rest told bytes number s t old mid new w a h = tt
+then_halted (Err NoMemory) options lines rest told bytes number s t old mid new w a h = tt

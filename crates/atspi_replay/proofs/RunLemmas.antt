@@ -153,7 +153,7 @@ replayed_long options left left' w w' text h p = record {
   memory = λ e. absurd (omega (arith, e));
 }
 
-pub replayed_lost : (options : TraceOptions) (end : End) (left left' w w' : Option (List ℕ)) (text : List ℕ) → HasRead end left left' text → PlayedHalted options (lines_read (is_whole end) text) w w' → Replayed options 16777216 9 left left' w w'
+pub replayed_lost : (options : TraceOptions) (end : End) (left left' w w' : Option (List ℕ)) (text : List ℕ) → HasRead end left left' text → PlayedHalted options RegistryLost (lines_read (is_whole end) text) w w' → Replayed options 16777216 9 left left' w w'
 replayed_lost options end left left' w w' text h p = record {
   known = inr (inr (inr (inr (inr (inr (inl refl))))));
   ended = λ e. absurd (omega (arith, e));
@@ -161,13 +161,13 @@ replayed_lost options end left left' w w' text h p = record {
   refused = λ e. absurd (omega (arith, e));
   read = λ e. absurd (omega (arith, e));
   past = λ e. absurd (omega (arith, e));
-  lost = λ e. of_reading end left left' text (λ lines. PlayedHalted options lines w w') h p;
+  lost = λ e. of_reading end left left' text (λ lines. PlayedHalted options RegistryLost lines w w') h p;
   spent = λ e. absurd (omega (arith, e));
   write = λ e. absurd (omega (arith, e));
   memory = λ e. absurd (omega (arith, e));
 }
 
-pub replayed_spent : (options : TraceOptions) (end : End) (left left' w w' : Option (List ℕ)) (text : List ℕ) → HasRead end left left' text → PlayedHalted options (lines_read (is_whole end) text) w w' → Replayed options 16777216 13 left left' w w'
+pub replayed_spent : (options : TraceOptions) (end : End) (left left' w w' : Option (List ℕ)) (text : List ℕ) → HasRead end left left' text → PlayedHalted options Spent (lines_read (is_whole end) text) w w' → Replayed options 16777216 13 left left' w w'
 replayed_spent options end left left' w w' text h p = record {
   known = inr (inr (inr (inr (inr (inr (inr refl))))));
   ended = λ e. absurd (omega (arith, e));
@@ -176,7 +176,7 @@ replayed_spent options end left left' w w' text h p = record {
   read = λ e. absurd (omega (arith, e));
   past = λ e. absurd (omega (arith, e));
   lost = λ e. absurd (omega (arith, e));
-  spent = λ e. of_reading end left left' text (λ lines. PlayedHalted options lines w w') h p;
+  spent = λ e. of_reading end left left' text (λ lines. PlayedHalted options Spent lines w w') h p;
   write = λ e. absurd (omega (arith, e));
   memory = λ e. absurd (omega (arith, e));
 }
@@ -190,7 +190,7 @@ replayed_end options Failed left left' w w' text h l p = replayed_failed options
 
 -- by why the run stopped
 pub replayed_stop : (T : Type 0) (options : TraceOptions) (end : End) (stop : Stop) (left left' w w' : Option (List ℕ)) (text : List ℕ) → HasRead end left left' text
-    → IfHalted {T = T} (Err stop) (PlayedHalted options (lines_read (is_whole end) text) w w') → IfRefused {T = T} (Err stop) (λ why. PlayedRefused options (lines_read (is_whole end) text) w w')
+    → IfHalted {T = T} (Err stop) (λ why. PlayedHalted options why (lines_read (is_whole end) text) w w') → IfRefused {T = T} (Err stop) (λ why. PlayedRefused options (lines_read (is_whole end) text) w w')
     → PlayedPart options (lines_read (is_whole end) text) w w' → Replayed options 16777216 (stop_status stop) left left' w w'
 replayed_stop T options end (Refused why) left left' w w' text h halted refused part = replayed_refused options end left left' w w' text h refused
 replayed_stop T options end (Halted RegistryLost) left left' w w' text h halted refused part = replayed_lost options end left left' w w' text h halted

@@ -1,12 +1,13 @@
 -- What is said of a run that stops, by why it stops.
 use Rattle.std.proofs.Common.{Result, Ok, Err}
+use Rattle.atspi_replay.specs.declared.naming.Halt.{Halt}
 use Rattle.atspi_replay.specs.declared.naming.Refused as refused
 use Rattle.atspi_replay.specs.declared.naming.Stop.{Stop}
 use Rattle.atspi_replay.specs.declared.naming.Stop.TheVariants.{Refused, Halted, Write, NoMemory}
 use Rattle.atspi_replay.specs.Play.{IfHalted, IfRefused}
 
 -- what does not come may have any fact
-pub halted_never : {T : Type 0} (r : Result T Stop) (P : Type 0) → IfHalted r ⊥ → IfHalted r P
+pub halted_never : {T : Type 0} (r : Result T Stop) (P : Halt → Type 0) → IfHalted r (λ why. ⊥) → IfHalted r P
 halted_never (Ok x) P h = tt
 halted_never (Err (Refused why)) P h = tt
 halted_never (Err Write) P h = tt
@@ -21,11 +22,11 @@ refused_never (Err (Halted halt)) P h = tt
 refused_never (Err NoMemory) P h = tt
 
 -- a fact of a stop gives another
-pub halted_weaker : {T : Type 0} (r : Result T Stop) (P Q : Type 0) → (P → Q) → IfHalted r P → IfHalted r Q
+pub halted_weaker : {T : Type 0} (r : Result T Stop) (P Q : Halt → Type 0) → ((why : Halt) → P why → Q why) → IfHalted r P → IfHalted r Q
 halted_weaker (Ok x) P Q f h = tt
 halted_weaker (Err (Refused why)) P Q f h = tt
 halted_weaker (Err Write) P Q f h = tt
-halted_weaker (Err (Halted halt)) P Q f h = f h
+halted_weaker (Err (Halted halt)) P Q f h = f halt h
 halted_weaker (Err NoMemory) P Q f h = tt
 
 pub refused_weaker : {T : Type 0} (r : Result T Stop) (P Q : refused.Refused → Type 0) → ((why : refused.Refused) → P why → Q why) → IfRefused r P → IfRefused r Q

@@ -1,13 +1,21 @@
 -- What lines of a script come to: a lawful trace of them.
-use Rattle.std.specs.Prelude.{◌≡◌, ℕ, List, [], ◌∷◌, ◌++◌, map, Some}
+use Rattle.std.specs.Prelude.{◌≡◌, ℕ, false, List, [], ◌∷◌, ◌++◌, None, Some}
 use Rattle.atspi_lines.specs.declared.line.Line.{Line}
 use Rattle.atspi_lines.specs.Line.{Spells}
-use Rattle.atspi_trace.specs.Entry.{Entry, entries_of}
-use Rattle.atspi_trace.specs.Due.{Lawful, refusal_at}
+use Rattle.atspi_lines.specs.declared.line.Party.TheVariants.{Registry}
+use Rattle.atspi_trace.specs.Entry.{Entry, dropped}
+use Rattle.atspi_trace.specs.Work.{Work, work_of}
+use Rattle.atspi_trace.specs.Due.{begins, at_work, after_all, is_lost, Lawful, Begun, refusal_at}
+use Rattle.atspi_play.specs.Playing.{Playing}
+use Rattle.atspi_play.specs.Played.{refused, IsPlayed}
+use Rattle.atspi_play.specs.Breaking.{IsLostAt, IsSpentAt}
 use Rattle.atspi_stage.specs.Refusals.{refusal_of}
+use Rattle.atspi_replay.specs.declared.naming.Halt.{Halt}
+use Rattle.atspi_replay.specs.declared.naming.Halt.TheVariants.{RegistryLost, Spent}
 use Rattle.atspi_replay.specs.declared.naming.Refused.{Refused}
 use Rattle.atspi_replay.specs.declared.naming.Refused.TheVariants.{World}
-use Rattle.atspi_replay.specs.Told.{Told}
+use Rattle.atspi_replay.specs.Told.{Told, entries_told}
+use Rattle.atspi_replay.specs.Wired.{IsTold}
 use Rattle.atspi_replay.specs.Names.{RefusedAs}
 
 -- bytes spell these lines, one by one
@@ -16,15 +24,18 @@ AreSpelled [] [] = Unit {0}
 AreSpelled (bytes ∷ texts) (line ∷ lines) = Spells line bytes × AreSpelled texts lines
 AreSpelled texts lines = ⊥
 
--- the entries of what was told
-abbrev pub entries_told : List Told → List Entry
-entries_told told = entries_of (map (λ (t : Told). t.event) told)
+-- the registry is there behind a trace of lines
+abbrev pub HasRegistry : List Line → List Entry → Type 0
+HasRegistry lines trace = is_lost (at_work (after_all (begins lines) trace)).world ≡ false
 
--- WHAT WAS TOLD IS A LAWFUL TRACE OF THE LINES
+-- WHAT WAS TOLD IS A LAWFUL TRACE OF THE LINES, with the bytes of its messages, and the registry is there behind it
 pub record IsLawfulOf (texts : List (List ℕ)) (told : List Told) : Type 0 where
   pub lines : List Line
   pub spelled : AreSpelled texts lines
   pub lawful : Lawful lines (entries_told told)
+  pub there : HasRegistry lines (entries_told told)
+  pub now : Playing
+  pub told_so : IsTold lines told now
 
 -- a line is refused behind them: its bytes spell none, or the lawful trace refuses the one that they spell
 abbrev pub RefusedLawfully : List Line → List Told → List ℕ → Refused → Type 0
@@ -34,6 +45,27 @@ RefusedLawfully lines told bytes why = Unit {0}
 pub record IsRefusedBehind (lines : List Line) (told : List Told) (bytes : List ℕ) (why : Refused) : Type 0 where
   pub bytes_are : RefusedAs bytes why
   pub lawful : RefusedLawfully lines told bytes why
+
+-- why a world comes to its end while a line is done: the bus drops the registry, or a message would pass the last serial
+abbrev pub BreaksOff : Halt → Playing → Work → List Entry → Type 0
+BreaksOff RegistryLost p left entries = IsLostAt p left entries
+BreaksOff Spent p left entries = IsSpentAt p left entries
+
+-- what stands last then: that the registry was dropped
+abbrev pub EndsWith : Halt → List Entry → Type 0
+EndsWith RegistryLost entries = (front : List Entry) × (queued : ℕ) × (len : ℕ) × (entries ≡ front ++ dropped Registry queued len ∷ [])
+EndsWith Spent entries = Unit {0}
+
+-- THE WORLD CAME TO ITS END AT A LINE behind them, which is not refused, and just what it wrote up to there was told: all of it is the front of a lawful trace
+pub record IsHaltedBehind (lines : List Line) (told more : List Told) (bytes : List ℕ) (why : Halt) : Type 0 where
+  pub line : Line
+  pub spells : Spells line bytes
+  pub now : Playing
+  pub played : IsPlayed lines (entries_told told) now
+  pub accepted : refused now line ≡ None
+  pub breaks : BreaksOff why now (work_of now.world line) (entries_told more)
+  pub begun : Begun (lines ++ line ∷ []) (entries_told (told ++ more))
+  pub last : EndsWith why (entries_told more)
 
 -- what was told of those of the lines that stand before the rest
 pub record Upto (lines rest : List (List ℕ)) (told : List Told) : Type 0 where

@@ -2,6 +2,7 @@ pub mod Input
 pub mod Lines
 pub mod Names
 pub mod Told
+pub mod Wired
 pub mod Done
 pub mod Play
 pub mod Causes

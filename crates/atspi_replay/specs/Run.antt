@@ -53,8 +53,8 @@ stop_status (Halted Spent) = 13
 
 -- What `replay` does, by its status. The source had `left` and has `left'` now, and `w` was written before and `w'` is now.
 -- 0: the source was read to its end, and all its lines were done. 1: a line of what was read is refused, and those before it
--- were done. 3: the whole lines of what was taken of the source were done. 8: those inside the limit. 9 and 13: the world came to its end at a
--- line of what was read. 4 and 5: a front of what some lines write was written.
+-- were done. 3: the whole lines of what was taken of the source were done. 8: those inside the limit. 9: the registry was dropped at a
+-- line of what was read. 13: serials were spent at one. 4 and 5: a front of what some lines write was written.
 pub record Replayed (options : TraceOptions) (limit status : ℕ) (left left' w w' : Option (List ℕ)) : Type 0 where
   pub known : IsReplayStatus status
   pub ended : status ≡ 0 → IsAtEnd left'
@@ -62,7 +62,7 @@ pub record Replayed (options : TraceOptions) (limit status : ℕ) (left left' w 
   pub refused : status ≡ 1 → OfReading left (λ lines. PlayedRefused options lines w w')
   pub read : status ≡ 3 → OfFront left left' (λ lines. Played options lines w w')
   pub past : status ≡ 8 → OfLimit limit left (λ lines. Played options lines w w')
-  pub lost : status ≡ 9 → OfReading left (λ lines. PlayedHalted options lines w w')
-  pub spent : status ≡ 13 → OfReading left (λ lines. PlayedHalted options lines w w')
+  pub lost : status ≡ 9 → OfReading left (λ lines. PlayedHalted options RegistryLost lines w w')
+  pub spent : status ≡ 13 → OfReading left (λ lines. PlayedHalted options Spent lines w w')
   pub write : status ≡ 4 → OfReading left (λ lines. PlayedPart options lines w w')
   pub memory : status ≡ 5 → OfReading left (λ lines. PlayedPart options lines w w')

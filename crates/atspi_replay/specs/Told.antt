@@ -1,17 +1,22 @@
 -- What is written of events: the text of each that is told, and the bytes of its message where they are asked for.
-use Rattle.std.specs.Prelude.{ℕ, suc, List, [], ◌∷◌, ◌++◌, cond, drop, Option, None, Some}
+use Rattle.std.specs.Prelude.{ℕ, suc, List, [], ◌∷◌, ◌++◌, cond, drop, map, Option, None, Some}
 use Rattle.std.specs.List.{flat_map}
 use Rattle.atspi_events.specs.declared.event.Event.{Event}
 use Rattle.atspi_events.specs.declared.options.TraceOptions.{TraceOptions}
 use Rattle.atspi_events.specs.EventText.{ended, event_text}
 use Rattle.atspi_events.specs.TraceText.{is_brief, wire_line}
 use Rattle.atspi_posts.specs.declared.post.Post.{Post}
+use Rattle.atspi_trace.specs.Entry.{Entry, entries_of}
 use Rattle.atspi_stage.specs.Wires.{event_bytes}
 
 -- an event, and the bytes of the message that it tells of; none where it tells of none
 pub record Told : Type 0 where
   pub event : Event
   pub bytes : List ℕ
+
+-- the entries of what was told
+abbrev pub entries_told : List Told → List Entry
+entries_told told = entries_of (map (λ (t : Told). t.event) told)
 
 -- bytes as a line, where there are some
 abbrev pub bytes_text : List ℕ → List ℕ

@@ -7,6 +7,7 @@ mod making;
 mod naming;
 mod playing;
 mod replaying;
+mod serials;
 mod telling;
 
 pub use input::SCRIPT_LIMIT;

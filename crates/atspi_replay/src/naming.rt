@@ -1,10 +1,14 @@
 //! Why a line is not done, and the names of the reasons.
 
 ghost use Rattle.std.specs.Prelude.{◌≡◌, ℕ, List, Err};
+ghost use Rattle.std.specs.List.{AllByRecursion};
+ghost use Rattle.atspi_few_turns.specs.Laws.{IsUnspent};
+ghost use Rattle.atspi_trace.specs.Entry.{entries_of};
 ghost use Rattle.atspi_lines.specs.declared.line.Line.{Line};
 ghost use Rattle.atspi_lines.specs.Line.{ReadsLine, Spells};
 ghost use Rattle.atspi_replay.specs.Names.{edit_fault_name, refusal_name, refused_name};
 ghost use Rattle.atspi_replay.specs.Play.{StopsAs};
+ghost use Rattle.atspi_stage.specs.Halts.{LineLost, LineSpent};
 ghost use Rattle.atspi_stage.specs.Refusals.{RefusedFor};
 ghost use Rattle.atspi_stage.specs.Worlds.{Staged};
 
@@ -48,7 +52,7 @@ pub enum Stop {
 
 /// Why bytes are no line.
 pub(crate) fn stop_of_line(fault: LineFault) -> Stop
-    ensures { (bytes : List ℕ) (s : Staged) → ReadsLine (Err fault) bytes → StopsAs result bytes s }
+    ensures { (bytes : List ℕ) (old new : Staged) → ReadsLine (Err fault) bytes → StopsAs result bytes old new }
 {
     match fault {
         LineFault::Long => Stop::Refused(Refused::Long),
@@ -60,7 +64,8 @@ pub(crate) fn stop_of_line(fault: LineFault) -> Stop
 
 /// Why a world did not do a line.
 pub(crate) fn stop_of_act(fault: ActFault) -> Stop
-    ensures { (line : Line) (bytes : List ℕ) (s : Staged) → Spells line bytes → ((why : Refusal) → fault ≡ ActFault.Refused why → RefusedFor line why s) → StopsAs result bytes s }
+    ensures { (line : Line) (bytes : List ℕ) (old new : Staged) → Spells line bytes → ((why : Refusal) → fault ≡ ActFault.Refused why → RefusedFor line why old)
+        → (fault ≡ ActFault.RegistryLost → LineLost line old new.trace) → (fault ≡ ActFault.Spent → LineSpent line old new.trace) → AllByRecursion IsUnspent (entries_of new.trace) → StopsAs result bytes old new }
 {
     match fault {
         ActFault::Refused(why) => Stop::Refused(Refused::World(why)),

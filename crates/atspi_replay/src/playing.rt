@@ -1,6 +1,6 @@
 //! Doing the lines of a script, one after another, and writing what each adds to the trace.
 
-ghost use Rattle.std.specs.Prelude.{◌≡◌, All, OnOk, OnErr, length};
+ghost use Rattle.std.specs.Prelude.{◌≡◌, [], All, OnOk, OnErr, length};
 ghost use Rattle.std.specs.Io.KnownBytes.{Appends};
 ghost use Rattle.atspi_bus_steps.specs.Inner.{inner_of, state_of};
 ghost use Rattle.atspi_lines.specs.declared.limits.TheConstants.{APP_COUNT, QUOTA_MOST};
@@ -14,6 +14,7 @@ ghost use Rattle.atspi_replay.specs.Play.{BlamesWrite, Did, DoesLine, Ended, IfH
 
 use crate::lines::next_line;
 use crate::naming::{Stop, stop_of_act, stop_of_line};
+use crate::serials::all_fit;
 use crate::telling::{finish, refuse, write_trace};
 use atspi_base::Sink;
 use atspi_events::TraceOptions;
@@ -36,7 +37,10 @@ fn do_line<A: Application, R: Follower>(
         Err(fault) => Err(stop_of_line(fault)),
         Ok(line) => match world.act(&line) {
             Ok(()) => Ok(()),
-            Err(fault) => Err(stop_of_act(fault)),
+            Err(fault) => {
+                all_fit(world.trace());
+                Err(stop_of_act(fault))
+            }
         },
     }
 }
@@ -53,7 +57,7 @@ fn play_line<A: Application, R: Follower, K: Sink>(
     requires stage { IsStage A.is_app R.is_follower A.is_kit A.is_spare world.old.cast.apps.items world.old.cast.readers.items world.old.kits.items world.old.spares.items (state_of world.old.carrier.bus) }
     ensures stage { OnOk result (IsStage A.is_app R.is_follower A.is_kit A.is_spare world.new.cast.apps.items world.new.cast.readers.items world.new.kits.items world.new.spares.items (state_of world.new.carrier.bus)) }
     ensures ok { OnOk result (Did options line.now (staged A.exporter R.follower (inner_of world.old.carrier.bus) world.old.carrier.posts.items world.old.carrier.at_end.items world.old.cast.registry world.old.cast.apps.items world.old.cast.readers.items (length world.old.kits.items) (length world.old.spares.items) world.old.carrier.trace.items) (staged A.exporter R.follower (inner_of world.new.carrier.bus) world.new.carrier.posts.items world.new.carrier.at_end.items world.new.cast.registry world.new.cast.apps.items world.new.cast.readers.items (length world.new.kits.items) (length world.new.spares.items) world.new.carrier.trace.items) (K.written sink.old) (K.written sink.new)) }
-    ensures halted { IfHalted result (Ended options line.now (K.written sink.old) (K.written sink.new)) }
+    ensures halted { IfHalted result (λ why. Ended options line.now why (staged A.exporter R.follower (inner_of world.old.carrier.bus) world.old.carrier.posts.items world.old.carrier.at_end.items world.old.cast.registry world.old.cast.apps.items world.old.cast.readers.items (length world.old.kits.items) (length world.old.spares.items) world.old.carrier.trace.items) (staged A.exporter R.follower (inner_of world.new.carrier.bus) world.new.carrier.posts.items world.new.carrier.at_end.items world.new.cast.registry world.new.cast.apps.items world.new.cast.readers.items (length world.new.kits.items) (length world.new.spares.items) world.new.carrier.trace.items) (K.written sink.old) (K.written sink.new)) }
     ensures refused { IfRefused result (λ why. RefusedIn (staged A.exporter R.follower (inner_of world.old.carrier.bus) world.old.carrier.posts.items world.old.carrier.at_end.items world.old.cast.registry world.old.cast.apps.items world.old.cast.readers.items (length world.old.kits.items) (length world.old.spares.items) world.old.carrier.trace.items) line.now why × Appends (K.written sink.old) (K.written sink.new) (refused_text number why)) }
     ensures err { OnErr result (StoppedAt options line.now number (staged A.exporter R.follower (inner_of world.old.carrier.bus) world.old.carrier.posts.items world.old.carrier.at_end.items world.old.cast.registry world.old.cast.apps.items world.old.cast.readers.items (length world.old.kits.items) (length world.old.spares.items) world.old.carrier.trace.items) (staged A.exporter R.follower (inner_of world.new.carrier.bus) world.new.carrier.posts.items world.new.carrier.at_end.items world.new.cast.registry world.new.cast.apps.items world.new.cast.readers.items (length world.new.kits.items) (length world.new.spares.items) world.new.carrier.trace.items) (K.written sink.old) (K.written sink.new)) }
     ensures cause { BlamesWrite result (K.faults sink.old) (K.faults sink.new) }
@@ -79,8 +83,9 @@ fn play_lines<A: Application, R: Follower, K: Sink>(
 ) -> Result<(), Stop>
     requires stage { IsStage A.is_app R.is_follower A.is_kit A.is_spare world.old.cast.apps.items world.old.cast.readers.items world.old.kits.items world.old.spares.items (state_of world.old.carrier.bus) }
     requires begins { IsPlaying (first_playing QUOTA_MOST) (staged A.exporter R.follower (inner_of world.old.carrier.bus) world.old.carrier.posts.items world.old.carrier.at_end.items world.old.cast.registry world.old.cast.apps.items world.old.cast.readers.items (length world.old.kits.items) (length world.old.spares.items) world.old.carrier.trace.items) }
+    requires silent { world.old.carrier.trace.items ≡ [] }
     ensures ok { OnOk result (Played options (lines_read ended text.now) (K.written sink.old) (K.written sink.new)) }
-    ensures halted { IfHalted result (PlayedHalted options (lines_read ended text.now) (K.written sink.old) (K.written sink.new)) }
+    ensures halted { IfHalted result (λ why. PlayedHalted options why (lines_read ended text.now) (K.written sink.old) (K.written sink.new)) }
     ensures refused { IfRefused result (λ why. PlayedRefused options (lines_read ended text.now) (K.written sink.old) (K.written sink.new)) }
     ensures err { OnErr result (PlayedPart options (lines_read ended text.now) (K.written sink.old) (K.written sink.new)) }
     ensures cause { BlamesWrite result (K.faults sink.old) (K.faults sink.new) }
@@ -112,7 +117,7 @@ pub(crate) fn play<A: Application, R: Follower, K: Sink>(
     requires kit_count { length kits.items ≡ APP_COUNT }
     requires spare_count { length spares.items ≡ spare_count }
     ensures ok { OnOk result (Played options (lines_read ended text.now) (K.written sink.old) (K.written sink.new)) }
-    ensures halted { IfHalted result (PlayedHalted options (lines_read ended text.now) (K.written sink.old) (K.written sink.new)) }
+    ensures halted { IfHalted result (λ why. PlayedHalted options why (lines_read ended text.now) (K.written sink.old) (K.written sink.new)) }
     ensures refused { IfRefused result (λ why. PlayedRefused options (lines_read ended text.now) (K.written sink.old) (K.written sink.new)) }
     ensures err { OnErr result (PlayedPart options (lines_read ended text.now) (K.written sink.old) (K.written sink.new)) }
     ensures cause { BlamesWrite result (K.faults sink.old) (K.faults sink.new) }

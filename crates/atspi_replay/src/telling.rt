@@ -104,7 +104,7 @@ fn write<K: Sink>(sink: &mut K, text: &Bytes) -> Result<(), Stop>
     ensures err { OnErr result (AppendsPart (K.written sink.old) (K.written sink.new) text.now) }
     ensures cause { BlamesWrite result (K.faults sink.old) (K.faults sink.new) }
     ensures not_refused { IfRefused result (λ why. ⊥) }
-    ensures not_halted { IfHalted result ⊥ }
+    ensures not_halted { IfHalted result (λ why. ⊥) }
 {
     match write_all(sink, text.as_slice()) {
         Ok(()) => Ok(()),
@@ -123,7 +123,7 @@ fn write_piece<K: Sink>(sink: &mut K, text: &mut Bytes) -> Result<(), Stop>
     ensures err { OnErr result (AppendsPart (K.written sink.old) (K.written sink.new) text.old) }
     ensures cause { BlamesWrite result (K.faults sink.old) (K.faults sink.new) }
     ensures not_refused { IfRefused result (λ why. ⊥) }
-    ensures not_halted { IfHalted result ⊥ }
+    ensures not_halted { IfHalted result (λ why. ⊥) }
 {
     if !is_piece(text) {
         return Ok(());
@@ -147,7 +147,7 @@ pub(crate) fn write_trace<A: Application, R: Follower, K: Sink>(
     ensures err { OnErr result (AppendsPart (K.written sink.old) (K.written sink.new) (told_text options (told_from world.now.carrier.posts.items world.now.carrier.trace.items from))) }
     ensures cause { BlamesWrite result (K.faults sink.old) (K.faults sink.new) }
     ensures not_refused { IfRefused result (λ why. ⊥) }
-    ensures not_halted { IfHalted result ⊥ }
+    ensures not_halted { IfHalted result (λ why. ⊥) }
 {
     let mut text = Bytes::new(alloc);
     for place in from..world.trace().len() {
@@ -184,7 +184,7 @@ fn write_refused<K: Sink>(
     ensures err { OnErr result (AppendsPart (K.written sink.old) (K.written sink.new) (refused_text number why)) }
     ensures cause { BlamesWrite result (K.faults sink.old) (K.faults sink.new) }
     ensures not_refused { IfRefused result (λ why. ⊥) }
-    ensures not_halted { IfHalted result ⊥ }
+    ensures not_halted { IfHalted result (λ why. ⊥) }
 {
     let mut text = Bytes::new(alloc);
     let Ok(()) = put_refused(alloc, number, why, &mut text) else {
@@ -204,7 +204,7 @@ pub(crate) fn refuse<K: Sink>(
     ensures refused { IfRefused result (λ said. (said ≡ why) × Appends (K.written sink.old) (K.written sink.new) (refused_text number why)) }
     ensures err { OnErr result (AppendsPart (K.written sink.old) (K.written sink.new) (refused_text number why)) }
     ensures cause { BlamesWrite result (K.faults sink.old) (K.faults sink.new) }
-    ensures not_halted { IfHalted result ⊥ }
+    ensures not_halted { IfHalted result (λ why. ⊥) }
 {
     match write_refused(alloc, number, why, sink) {
         Ok(()) => Err(Stop::Refused(why)),
@@ -222,7 +222,7 @@ pub(crate) fn finish<A: Application, R: Follower, K: Sink>(
     sink: &mut K,
 ) -> Result<(), Stop>
     ensures stops { IsErr result }
-    ensures halted { IfHalted result (Appends (K.written sink.old) (K.written sink.new) (told_text options (told_from world.now.carrier.posts.items world.now.carrier.trace.items from))) }
+    ensures halted { IfHalted result (λ said. (said ≡ halt) × Appends (K.written sink.old) (K.written sink.new) (told_text options (told_from world.now.carrier.posts.items world.now.carrier.trace.items from))) }
     ensures err { OnErr result (AppendsPart (K.written sink.old) (K.written sink.new) (told_text options (told_from world.now.carrier.posts.items world.now.carrier.trace.items from))) }
     ensures cause { BlamesWrite result (K.faults sink.old) (K.faults sink.new) }
     ensures not_refused { IfRefused result (λ why. ⊥) }

@@ -42,14 +42,14 @@ returns-in-Err-Halted-clause-ok g c = never_ok c.finish.result _ c.finish.ensure
 
 pub returns-in-Err-Halted-clause-halted : goal.returns-in-Err-Halted-clause-halted
 returns-in-Err-Halted-clause-halted g c =
-    was_halted c.finish.result c.args.options c.args.line.now _ _ _ (rw c.in-Err-Halted.field-0-is at c.in-Err-Halted.ensures.line) c.finish.ensures.halted
+    was_halted c.finish.result c.args.options c.args.line.now _ _ c.in-Err-Halted.halt _ _ (rw c.in-Err-Halted.field-0-is at c.in-Err-Halted.ensures.line) (rw c.trace-from.ensures at c.finish.ensures.halted)
 
 pub returns-in-Err-Halted-clause-refused : goal.returns-in-Err-Halted-clause-refused
 returns-in-Err-Halted-clause-refused g c = refused_never c.finish.result _ c.finish.ensures.not_refused
 
 pub returns-in-Err-Halted-clause-err : goal.returns-in-Err-Halted-clause-err
 returns-in-Err-Halted-clause-err g c =
-    halted_part_if c.finish.result c.args.options c.args.line.now c.args.number _ _ _ _ _ (rw c.in-Err-Halted.field-0-is at c.in-Err-Halted.ensures.line) c.finish.ensures.err
+    halted_part_if c.finish.result c.args.options c.args.line.now c.args.number _ _ c.in-Err-Halted.halt _ _ (rw c.in-Err-Halted.field-0-is at c.in-Err-Halted.ensures.line) (rw c.trace-from.ensures at c.finish.ensures.err)
 
 pub returns-in-Err-Write-clause-err : goal.returns-in-Err-Write-clause-err
 returns-in-Err-Write-clause-err g c = nothing c.args.options c.args.line.now c.args.number _ _ _

@@ -10,7 +10,7 @@ use Rattle.atspi_replay.proofs.playing.play_lines.Goals as goal
 
 pub loop-line-init : goal.loop-line-init
 loop-line-init g c = record {
-  told = ([], so_far_start (lines_read c.args.ended c.args.text.now) _ c.requires.begins, appends_nothing (g.K.Sink.written c.args.sink.now));
+  told = ([], so_far_start (lines_read c.args.ended c.args.text.now) _ c.requires.begins c.requires.silent, appends_nothing (g.K.Sink.written c.args.sink.now));
   stage = c.requires.stage;
   steady = refl;
   few = omega arith;
@@ -32,7 +32,7 @@ pub returns-in-Err-clause-halted : goal.returns-in-Err-clause-halted
 returns-in-Err-clause-halted g c =
     let t = c.loop-line.invariant.told in
     let w = next _ _ _ t.0 c.loop-line.number _ c.in-Some.ensures.lines t.1 in
-    then_halted (failed c.in-Err.stop) c.args.options _ _ t.0 c.in-Some.line.now c.loop-line.number _ _ _ _ w t.2 c.in-Err.ensures.halted
+    then_halted (failed c.in-Err.stop) c.args.options _ _ t.0 c.in-Some.line.now c.loop-line.number _ _ _ _ _ w t.2 c.in-Err.ensures.halted
 
 pub returns-in-Err-clause-err : goal.returns-in-Err-clause-err
 returns-in-Err-clause-err g c =
