@@ -154,7 +154,7 @@ module _ (posts : List Post) (w : World) (names : (who : Party) → name_if (pos
       let b = behind trace k event events h in (
         bytes_same k event,
         subst (λ es. AreWired w es (told_on posts trace (suc k) events)) (ap entries_of (one_more trace k event b.0) ∙ all_entries (take k trace) (event ∷ []))
-        (wired_on (suc k) events b.1),
+            (wired_on (suc k) events b.1),
       )
 
 -- the front of a trace
