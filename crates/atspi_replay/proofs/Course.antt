@@ -156,8 +156,8 @@ pub halted_behind : {lines rest : List (List ℕ)} {told : List Told} {number : 
     → IsHaltedBehind c.script told (added s new) bytes why
 halted_behind {told = told} {s = s} c new bytes RegistryLost h =
     let x = h.2 c.now c.is in
-    breaks_off c new bytes h.0 RegistryLost h.1 x.0 x.1 x.3 x.2 (inl x.2)
-    (drops_last c.script (entries_told told) c.now h.0 x.1 (can_more c.script h.0 c.can (can_stand h.0 bytes h.1)) c.played x.0 x.2)
+    breaks_off c new bytes h.0 RegistryLost h.1 x.0 x.1.0 x.1.2 x.1.1 (inl x.1.1)
+    (drops_last c.script (entries_told told) c.now h.0 x.1.0 (can_more c.script h.0 c.can (can_stand h.0 bytes h.1)) c.played x.0 x.1.1)
 halted_behind {told = told} {s = s} c new bytes Spent h =
     let x = h.2 c.now c.is in
     by x.0 x.1

@@ -12,3 +12,4 @@ pub mod Segments
 pub mod StopLemmas
 pub mod TellLemmas
 pub mod Wiring
+pub mod SerialLemmas

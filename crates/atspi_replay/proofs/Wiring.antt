@@ -30,11 +30,12 @@ use Rattle.atspi_replay.proofs.DoneLemmas.{entries_both}
 -- the names of ends are those of their connections
 name_same : (ends : List End) (who : Party) → name_if (post_of who (map carried.post_of ends)) ≡ unique_in (find (λ (e : End). same_party e.who who) ends)
 name_same [] who = refl
-name_same (e ∷ ends) who = by (same_party e.who who)
+name_same (e ∷ ends) who = by (same_party e.who who) (name_same ends who)
   where
-    by : (b : Bool) → name_if (cond b (Some (carried.post_of e)) (post_of who (map carried.post_of ends))) ≡ unique_in (cond b (Some e) (find (λ (e : End). same_party e.who who) ends))
-    by true = refl
-    by false = name_same ends who
+    by : (b : Bool) → name_if (post_of who (map carried.post_of ends)) ≡ unique_in (find (λ (e : End). same_party e.who who) ends)
+        → name_if (cond b (Some (carried.post_of e)) (post_of who (map carried.post_of ends))) ≡ unique_in (cond b (Some e) (find (λ (e : End). same_party e.who who) ends))
+    by true h = refl
+    by false h = h
 
 -- MESSAGES BEFORE A PLACE
 either : (x y : Option Message) → option_map envelope_of (first_of x y) ≡ first_of (option_map envelope_of x) (option_map envelope_of y)
@@ -73,7 +74,7 @@ here_same who serial (Dropped party queued len) = refl
 here_same who serial (Busy turns) = refl
 here_same who serial Quiet = refl
 
-all_entries : (xs ys : List Event) → entries_of (xs ++ ys) ≡ entries_of xs ++ entries_of ys
+pub all_entries : (xs ys : List Event) → entries_of (xs ++ ys) ≡ entries_of xs ++ entries_of ys
 all_entries [] ys = refl
 all_entries (x ∷ xs) ys = ap (λ es. entry_of x ∷ es) (all_entries xs ys)
 
@@ -96,18 +97,18 @@ no_more (y ∷ ys) (suc k) h = ap (λ zs. y ∷ zs) (no_more ys k h)
 sent_same : (who : Party) (serial : ℕ) (trace : List Event) (k : ℕ) → option_map envelope_of (wires.sent_before who serial trace k) ≡ sent_in who serial (entries_of (take k trace))
 sent_same who serial [] zero = refl
 sent_same who serial (x ∷ trace) zero = refl
-sent_same who serial trace (suc k) = by (slice_get trace k) refl
+sent_same who serial trace (suc k) = by (slice_get trace k) refl (sent_same who serial trace k)
   where
-    by : (o : Option Event) → slice_get trace k ≡ o
+    by : (o : Option Event) → slice_get trace k ≡ o → option_map envelope_of (wires.sent_before who serial trace k) ≡ sent_in who serial (entries_of (take k trace))
         → option_map envelope_of (first_of (wires.sent_if who serial (slice_get trace k)) (wires.sent_before who serial trace k)) ≡ sent_in who serial (entries_of (take (suc k) trace))
-    by None h =
+    by None h before =
         ap (λ o. option_map envelope_of (first_of (wires.sent_if who serial o) (wires.sent_before who serial trace k))) h
-        ∙ sent_same who serial trace k ∙ ap (λ es. sent_in who serial (entries_of es)) (sym (no_more trace k h))
-    by (Some x) h =
+        ∙ before ∙ ap (λ es. sent_in who serial (entries_of es)) (sym (no_more trace k h))
+    by (Some x) h before =
         ap (λ o. option_map envelope_of (first_of (wires.sent_if who serial o) (wires.sent_before who serial trace k))) h
         ∙ either (wires.sent_here who serial x) (wires.sent_before who serial trace k)
         ∙ ap (λ o. first_of o (option_map envelope_of (wires.sent_before who serial trace k))) (here_same who serial x)
-        ∙ ap (first_of (sent_as who serial (entry_of x))) (sent_same who serial trace k)
+        ∙ ap (first_of (sent_as who serial (entry_of x))) before
         ∙ sym (last_sent who serial (entries_of (take k trace)) (entry_of x))
         ∙ ap (sent_in who serial) (sym (ap entries_of (one_more trace k x h) ∙ all_entries (take k trace) (x ∷ [])))
 
