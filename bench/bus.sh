@@ -1,8 +1,9 @@
 #!/usr/bin/env bash
-# A bus in one process, without sockets, in one run: instructions (callgrind; a run of one round is taken off, so setting up is not counted) and nanoseconds of processor
+# A bus in one process, without sockets, in one run: instructions (callgrind; a run of two rounds is taken off, so setting up is not counted) and nanoseconds of processor
 # time (bench/clock.c; the program writes them to standard error; the least of RUNS runs) of a round: a call with its return, a call of 256 KiB, a signal to 8 and to 32 receivers
 # with 1, 64 and 500 rules each that differ in one key, a new bus with a Hello and an AddMatch, and of each of many connections that join one bus.
 # usage: bench/bus.sh [ROUNDS [RUNS]]     (wants valgrind; the names of 10,000 connections take most of its time)
+#        bench/bus.sh rules [ROUNDS [RUNS]]        (the tables of rules alone)
 #        bench/bus.sh where               (where the instructions of a call with its return go, by function)
 set -eu
 top=$(cd "$(dirname "$0")/.." && pwd)
@@ -35,13 +36,14 @@ least() {
     done | awk 'NR == 1 || $1 < n { n = $1 } END { print n }'
 }
 
-# show NAME ROUNDS TIMED WORK WORD..: the instructions of one of so many rounds, and the nanoseconds of one of so many timed ones
+# show NAME ROUNDS TIMED WORK WORD..: the instructions of one of so many rounds, and the nanoseconds of one of so many timed ones. Two rounds are
+# taken off, and not one: what the C library does to let go of 16,000 rules at the end may depend on whether the last round was the first.
 show() {
-    local name=$1 rounds=$2 timed=$3 one all
+    local name=$1 rounds=$2 timed=$3 two all
     shift 3
-    one=$(counted "$work/one" "$1" 1 "${@:2}")
-    all=$(counted "$work/all" "$1" $((rounds + 1)) "${@:2}")
-    printf '%-48s %11d instructions %11d ns\n' "$name" $(((all - one) / rounds)) "$(least "$1" "$timed" "${@:2}")"
+    two=$(counted "$work/two" "$1" 2 "${@:2}")
+    all=$(counted "$work/all" "$1" $((rounds + 2)) "${@:2}")
+    printf '%-48s %11d instructions %11d ns\n' "$name" $(((all - two) / rounds)) "$(least "$1" "$timed" "${@:2}")"
 }
 
 # show_names COUNT ALL: what each of so many connections takes that join one bus, where all take so many instructions
@@ -66,22 +68,38 @@ if [ "${1:-}" = where ]; then
     where
     exit
 fi
+
+# show_rules: signals to 8 and to 32 receivers with 1, 64 and 500 rules each that differ in one key, of that key alone and of all
+show_rules() {
+    local conditions receivers key rules
+    for conditions in one all; do
+        for receivers in 8 32; do
+            for key in sender interface member path arg0; do
+                for rules in 1 64 500; do
+                    show "signal to $receivers, $rules by $key, $conditions" "$rounds" 2000 signal "$receivers" "$rules" "$conditions" "$key"
+                done
+            done
+        done
+    done
+}
+
+only=
+if [ "${1:-}" = rules ]; then
+    only=rules
+    shift
+fi
 rounds=${1:-200} runs=${2:-5}
 echo "load: $(cut -d' ' -f1-3 /proc/loadavg), processors: $(nproc)"
+if [ "$only" = rules ]; then
+    show_rules
+    exit
+fi
 counted "$work/many" names 10000 >"$work/many.count" &
 show "call and return" 1000 20000 call 4 0
 show "call and return, 1,000 other connections" 1000 20000 call 4 1000
 show "call of 256 KiB and return" 20 200 call 262144 0
 show "new bus, Hello and AddMatch" "$rounds" 2000 hello
-for conditions in one all; do
-    for receivers in 8 32; do
-        for key in sender interface member path arg0; do
-            for rules in 1 64 500; do
-                show "signal to $receivers, $rules by $key, $conditions" "$rounds" 2000 signal "$receivers" "$rules" "$conditions" "$key"
-            done
-        done
-    done
-done
+show_rules
 none=$(counted "$work/one" names 0)
 show_names 1000 "$(counted "$work/all" names 1000)"
 wait
