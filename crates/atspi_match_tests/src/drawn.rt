@@ -333,20 +333,22 @@ fn looked_at(alloc: Global, front: &str, count: u32, m: &MessageRef, names: &Nam
     }
 }
 
-/// Whether as many rules are looked at where there are 500 as where there is one, for a message that the one with the number 0 matches.
-fn is_cheap(alloc: Global, names: &Names, front: &str) -> Option<bool> {
-    let header = Header {
-        path: Some("/a/n0"),
-        interface: Some("org.example.N0"),
-        member: Some("N0"),
-        destination: Some(":1.1"),
-        sender: Some(":1.0"),
-    };
-    let bytes = signal_with(alloc, header, "s", "s=n0")?;
+/// The names of a message that the rules with the number 0 match, whichever key they ask for.
+const NAMES: Header<'static> = Header {
+    path: Some("/a/n0"),
+    interface: Some("org.example.N0"),
+    member: Some("N0"),
+    destination: Some(":1.1"),
+    sender: Some(":1.0"),
+};
+
+/// How many rules are looked at where there is one, and where there are 500, for a message that the one with the number 0 matches.
+fn of_one_and_many(alloc: Global, names: &Names, front: &str) -> Option<(u64, u64)> {
+    let bytes = signal_with(alloc, NAMES, "s", "s=n0")?;
     let message = lent(bytes.as_slice(), 4)?;
     let one = looked_at(alloc, front, 1, &message, names)?;
     let many = looked_at(alloc, front, 500, &message, names)?;
-    Some(one == 4 && many == 4)
+    Some((one, many))
 }
 
 #[test]
@@ -354,7 +356,90 @@ fn many_rules_that_differ_cost_no_more_than_one(rt: HostRuntime) {
     let alloc = rt.alloc();
     let names = two_connections(&rt, alloc);
     for front in "sender=':1.|interface='org.example.N|member='N|path='/a/n|arg0='n".split('|') {
-        assert!(rt; is_cheap(alloc, &names, front) == Some(true), "{front}");
+        assert!(rt;
+            of_one_and_many(alloc, &names, front) == Some((4, 4)),
+            "{front}"
+        );
+    }
+}
+
+/// Rules of five keys, which differ in the value of the last, a line each.
+const OF_FIVE_KEYS: &str = "\
+interface='org.example.N0',member='N0',path='/a/n0',arg0='n0',sender=':1.
+sender=':1.0',member='N0',path='/a/n0',arg0='n0',interface='org.example.N
+sender=':1.0',interface='org.example.N0',path='/a/n0',arg0='n0',member='N
+sender=':1.0',interface='org.example.N0',member='N0',arg0='n0',path='/a/n
+sender=':1.0',interface='org.example.N0',member='N0',path='/a/n0',arg0='n";
+
+#[test]
+fn many_rules_of_five_keys_cost_no_more_than_two(rt: HostRuntime) {
+    let alloc = rt.alloc();
+    let names = two_connections(&rt, alloc);
+    for front in OF_FIVE_KEYS.lines() {
+        let (one, many) = of_one_and_many(alloc, &names, front).expect(&rt, "rules");
+        assert!(rt; one == 4 && many <= 8, "{front} {many}");
+    }
+}
+
+/// Takes out the rule with the key and a value that ends in a number.
+fn remove_numbered(
+    alloc: Global,
+    index: &mut RuleIndex,
+    conn: u32,
+    front: &str,
+    number: u32,
+) -> Option<()> {
+    let text = format!(in alloc; "{front}{number}'").ok()?;
+    let rule = Rule::parse(alloc, text.as_bytes()).ok()?;
+    if index.remove(conn, &rule) {
+        Some(())
+    } else {
+        None
+    }
+}
+
+/// Takes out the rules of a connection whose numbers are these.
+fn remove_all(
+    alloc: Global,
+    index: &mut RuleIndex,
+    conn: u32,
+    front: &str,
+    numbers: (u32, u32),
+) -> Option<()> {
+    for number in numbers.0..numbers.1 {
+        remove_numbered(alloc, index, conn, front, number)?;
+    }
+    Some(())
+}
+
+/// Whether each of four connections hears a message, until its rule with the number 0 goes out; then all others do, and none is looked at.
+fn go_out(alloc: Global, names: &Names, front: &str) -> Option<bool> {
+    let bytes = signal_with(alloc, NAMES, "s", "s=n0")?;
+    let message = lent(bytes.as_slice(), 4)?;
+    let mut index = numbered(alloc, front, 20)?;
+    remove_all(alloc, &mut index, 1, front, (0, 1))?;
+    remove_all(alloc, &mut index, 3, front, (0, 20))?;
+    let (left, _) = received(alloc, &index, &message, names)?;
+    remove_all(alloc, &mut index, 0, front, (0, 20))?;
+    remove_all(alloc, &mut index, 1, front, (1, 20))?;
+    let (last, steps) = received(alloc, &index, &message, names)?;
+    remove_all(alloc, &mut index, 2, front, (0, 20))?;
+    let (none, nothing) = received(alloc, &index, &message, names)?;
+    Some(
+        left.as_slice() == [0, 2].as_slice()
+            && last.as_slice() == [2].as_slice()
+            && steps <= 2
+            && none.as_slice().is_empty()
+            && nothing == 0,
+    )
+}
+
+#[test]
+fn rules_of_five_keys_go_out_again(rt: HostRuntime) {
+    let alloc = rt.alloc();
+    let names = two_connections(&rt, alloc);
+    for front in OF_FIVE_KEYS.lines() {
+        assert!(rt; go_out(alloc, &names, front) == Some(true), "{front}");
     }
 }
 
