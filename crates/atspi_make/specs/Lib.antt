@@ -1,1 +1,4 @@
 pub mod Draws
+pub mod Drawing
+pub mod Live
+pub mod Exported

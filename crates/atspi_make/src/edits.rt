@@ -1,14 +1,21 @@
 //! The edits that `make` makes.
 
-ghost use Rattle.std.specs.Prelude.{◌≡◌, ◌<◌, true, length, IfOk};
-ghost use Rattle.atspi_forest.specs.Edits.{IsEdit};
+ghost use Rattle.std.specs.Prelude.{◌≡◌, ◌≤◌, ◌<◌, ◌++◌, true, not, length, codes, IfOk};
+ghost use Rattle.std.specs.Fmt.{decimal};
+ghost use Rattle.std.specs.Str.{IsAscii};
+ghost use Rattle.atspi_base.specs.Text.{HasNoZero};
+ghost use Rattle.atspi_forest.specs.Edits.{IsEdit, node_has_state};
 ghost use Rattle.atspi_forest.specs.Forest.{has};
+ghost use Rattle.atspi_forest.specs.States.{checked};
 ghost use Rattle.atspi_forest.specs.Tree.{is_shape};
+ghost use Rattle.atspi_tree.specs.TreeShape.{IsLawful};
+ghost use Rattle.atspi_make.specs.Draws.{drawn_of, next_state};
+ghost use Rattle.atspi_make.specs.Drawing.{drawn_edit, edit_of, inserts, live_nodes, moves, names, toggles, turns};
 
 use crate::draws::Draws;
-use crate::nodes::{LiveNodes, NODE_LIMIT, is_below};
-use atspi_base::{Bytes, NoMemory, Text, Texts, put_decimal};
-use atspi_forest::{Edit, Seed};
+use crate::nodes::{LiveNodes, is_below};
+use atspi_base::{NoMemory, Text, Texts};
+use atspi_forest::{Edit, NODE_LIMIT, Seed};
 use atspi_tree::Tree;
 use std::alloc::Global;
 
@@ -18,23 +25,22 @@ const PUSH_BUTTON: u32 = 43;
 /// The state `checked`.
 const CHECKED: u8 = 4;
 
-/// A letter and a number, of at most 10 digits.
-fn numbered(alloc: Global, letter: u8, number: u32) -> Result<Text, NoMemory> {
-    let mut text = Bytes::new(alloc);
-    text.push(letter)?;
-    put_decimal(u64::from(number), &mut text)?;
-    let bytes = text.as_slice();
-    match Text::read(alloc, &bytes[..bytes.len().min(11)]) {
-        Ok(text) => Ok(text),
-        Err(_) => Err(NoMemory),
-    }
+/// A letter and a number.
+fn numbered(alloc: Global, letter: &str, number: u32) -> Result<Text, NoMemory>
+    requires no_zero { HasNoZero letter.now }
+    requires ascii { IsAscii letter.now }
+    requires short { length letter.now ≤ 1 }
+    ensures { IfOk result (λ text. text ≡ letter.now ++ decimal number) }
+{
+    let text = format!(in alloc; "{letter}{number}")?;
+    Text::of(alloc, &text)
 }
 
 /// A node gets a name.
 fn rename(alloc: Global, node: u32, number: u32) -> Result<Edit, NoMemory>
-    ensures { IfOk result (λ edit. IsEdit edit) }
+    ensures { IfOk result (λ edit. edit ≡ Edit.Name node (codes "m" ++ decimal number)) }
 {
-    let text = numbered(alloc, b'm', number)?;
+    let text = numbered(alloc, "m", number)?;
     Ok(Edit::Name { node, text })
 }
 
@@ -46,12 +52,14 @@ fn insert(
     number: u32,
     draws: &mut Draws,
 ) -> Result<Edit, NoMemory>
-    requires { has (is_shape parent) tree.now.rows ≡ true }
-    ensures { IfOk result (λ edit. IsEdit edit) }
+    requires there { has (is_shape parent) tree.now.rows ≡ true }
+    requires lawful { IsLawful tree.now }
+    ensures edit { IfOk result (λ edit. edit ≡ (inserts tree.now parent number draws.old.state).edit) }
+    ensures state { draws.new.state ≡ (inserts tree.now parent number draws.old.state).state }
 {
-    let count = tree.children(parent).len().min(NODE_LIMIT) as u32;
+    let count = tree.children(parent).len() as u32;
     let index = draws.draw(count + 1);
-    let name = numbered(alloc, b'n', number)?;
+    let name = numbered(alloc, "n", number)?;
     let seed = Seed {
         role: PUSH_BUTTON,
         name,
@@ -68,12 +76,14 @@ fn insert(
     })
 }
 
-/// One of these nodes is drawn. A tree has no more of them than the limit.
-fn pick(nodes: &[u32], draws: &mut Draws) -> u32
-    requires { 0 < length nodes.now }
+/// One of these numbers is drawn, of which there are no more than a tree has nodes.
+fn pick(numbers: &[u32], draws: &mut Draws) -> u32
+    requires some { 0 < length numbers.now }
+    requires few { length numbers.now ≤ NODE_LIMIT }
+    ensures drawn { result ≡ drawn_of numbers.now draws.old.state }
+    ensures state { draws.new.state ≡ next_state draws.old.state }
 {
-    let count = nodes.len().min(NODE_LIMIT) as u32;
-    nodes[draws.draw(count) as usize]
+    numbers[draws.draw(numbers.len() as u32) as usize]
 }
 
 /// A node moves below another that is drawn, or gets a name where that one is not outside of it.
@@ -85,8 +95,11 @@ fn shift(
     number: u32,
     draws: &mut Draws,
 ) -> Result<Edit, NoMemory>
-    requires { 0 < length nodes.now }
-    ensures { IfOk result (λ edit. IsEdit edit) }
+    requires live { nodes.now ≡ live_nodes tree.now }
+    requires there { has (is_shape node) tree.now.rows ≡ true }
+    requires lawful { IsLawful tree.now }
+    ensures edit { IfOk result (λ edit. edit ≡ (moves tree.now node number draws.old.state).edit) }
+    ensures state { draws.new.state ≡ (moves tree.now node number draws.old.state).state }
 {
     let parent = pick(nodes, draws);
     if is_below(tree, node, parent) {
@@ -99,19 +112,39 @@ fn shift(
     })
 }
 
+/// Whether a node is checked.
+fn is_checked(tree: &Tree, node: u32) -> bool
+    requires there { has (is_shape node) tree.now.rows ≡ true }
+    requires lawful { IsLawful tree.now }
+    ensures { result ≡ node_has_state tree.now.rows node checked }
+{
+    (tree.states(node) >> CHECKED) % 2 == 1
+}
+
+/// The state `checked` of a node turns.
+fn toggle(tree: &Tree, node: u32) -> Edit
+    requires there { has (is_shape node) tree.now.rows ≡ true }
+    requires lawful { IsLawful tree.now }
+    ensures { result ≡ Edit.State node checked (not (node_has_state tree.now.rows node checked)) }
+{
+    Edit::State {
+        node,
+        state: CHECKED,
+        on: !is_checked(tree, node),
+    }
+}
+
 /// A node that is not the root is removed where the draw says so; else `checked` turns.
 fn turn(tree: &Tree, node: u32, draws: &mut Draws) -> Edit
-    requires { has (is_shape node) tree.now.rows ≡ true }
-    ensures { IsEdit result }
+    requires there { has (is_shape node) tree.now.rows ≡ true }
+    requires lawful { IsLawful tree.now }
+    ensures edit { result ≡ (turns tree.now node draws.old.state).edit }
+    ensures state { draws.new.state ≡ (turns tree.now node draws.old.state).state }
 {
     if node != 0 && draws.draw(4) == 0 {
         return Edit::Remove { node };
     }
-    Edit::State {
-        node,
-        state: CHECKED,
-        on: tree.states(node) / 16 % 2 == 0,
-    }
+    toggle(tree, node)
 }
 
 /// The edit of a node that is there, by what was drawn first.
@@ -124,11 +157,13 @@ fn edit_of(
     number: u32,
     draws: &mut Draws,
 ) -> Result<Edit, NoMemory>
-    requires some { 0 < length nodes.now }
+    requires live { nodes.now ≡ live_nodes tree.now }
     requires there { has (is_shape node) tree.now.rows ≡ true }
-    ensures { IfOk result (λ edit. IsEdit edit) }
+    requires lawful { IsLawful tree.now }
+    ensures edit { IfOk result (λ edit. edit ≡ (edit_of tree.now kind node number draws.old.state).edit) }
+    ensures state { draws.new.state ≡ (edit_of tree.now kind node number draws.old.state).state }
 {
-    if kind <= 3 && nodes.len() < NODE_LIMIT {
+    if kind < 4 && nodes.len() < NODE_LIMIT {
         return insert(alloc, tree, node, number, draws);
     }
     if kind == 5 && node != 0 {
@@ -143,7 +178,8 @@ fn edit_of(
     rename(alloc, node, number)
 }
 
-/// The edit with this number, counted from 1, of a script that is made: a script's edit, drawn from the tree that it changes and its nodes.
+/// The edit with this number, counted from 1, of a script that is made: it is drawn from the tree that it changes and the tree's live nodes. The
+/// draws are made also where no memory is left for the edit.
 pub fn next_edit(
     alloc: Global,
     tree: &Tree,
@@ -151,16 +187,14 @@ pub fn next_edit(
     number: u32,
     draws: &mut Draws,
 ) -> Result<Edit, NoMemory>
-    ensures { IfOk result (λ edit. IsEdit edit) }
+    requires { live.now.nodes.items ≡ live_nodes tree.now }
+    ensures edit { IfOk result (λ edit. edit ≡ (drawn_edit tree.now number draws.old.state).edit) }
+    ensures state { draws.new.state ≡ (drawn_edit tree.now number draws.old.state).state }
+    ensures lawful { IfOk result (λ edit. IsEdit edit) }
 {
+    tree.is_lawful();
     let nodes = live.as_slice();
     let kind = draws.draw(8);
-    if nodes.is_empty() {
-        return rename(alloc, 0, number);
-    }
     let node = pick(nodes, draws);
-    if !tree.has(node) {
-        return rename(alloc, node, number);
-    }
     edit_of(alloc, tree, nodes, kind, node, number, draws)
 }

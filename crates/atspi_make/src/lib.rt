@@ -8,5 +8,5 @@ mod source;
 
 pub use draws::Draws;
 pub use edits::next_edit;
-pub use nodes::{LiveNodes, NODE_LIMIT};
+pub use nodes::LiveNodes;
 pub use source::HasTree;

@@ -1,9 +1,14 @@
 //! What edits are drawn from.
 
+ghost use Rattle.std.specs.Prelude.{◌≡◌};
+ghost use Rattle.atspi_make.specs.Exported.{shape_seen};
+
+use atspi_stage_ends::Application;
 use atspi_tree::Tree;
 
-/// An end that has a tree.
-pub trait HasTree {
+/// An application that lends the shape of its tree.
+pub trait HasTree: Application {
     /// The shape of its tree.
-    fn tree(&self) -> &Tree;
+    fn tree(&self) -> &Tree
+        ensures { result.now ≡ shape_seen (Self.exporter self.now) };
 }

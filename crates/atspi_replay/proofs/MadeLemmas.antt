@@ -2,10 +2,10 @@
 use Rattle.std.proofs.Common.{◌≡◌, ℕ, Option, List, refl, arith, inl, inr}
 use Rattle.std.specs.Io.KnownBytes.{Appends}
 use Rattle.atspi_base.specs.Outside.{AppendsPart}
-use Rattle.atspi_replay.specs.Made.{AreOfTrace, IsHalt, Made, made_text}
+use Rattle.atspi_replay.specs.Made.{AreOfScript, IsHalt, Made, made_text}
 use Rattle.atspi_replay.proofs.DoneLemmas.{appends_nothing}
 
-pub made_done : (count seed steps nodes says : ℕ) (w w' : Option (List ℕ)) → AreOfTrace steps says → Appends w w' (made_text count seed steps nodes says) → Made count seed 0 w w'
+pub made_done : (count seed steps nodes says : ℕ) (w w' : Option (List ℕ)) → AreOfScript count seed steps nodes says → Appends w w' (made_text count seed steps nodes says) → Made count seed 0 w w'
 made_done count seed steps nodes says w w' t a = record {
   known = inl refl;
   done = λ e. (steps, nodes, says, t, a);
@@ -13,7 +13,7 @@ made_done count seed steps nodes says w w' t a = record {
   nothing = λ no cut. absurd (no refl);
 }
 
-pub made_write : (count seed steps nodes says : ℕ) (w w' : Option (List ℕ)) → AreOfTrace steps says → AppendsPart w w' (made_text count seed steps nodes says) → Made count seed 4 w w'
+pub made_write : (count seed steps nodes says : ℕ) (w w' : Option (List ℕ)) → AreOfScript count seed steps nodes says → AppendsPart w w' (made_text count seed steps nodes says) → Made count seed 4 w w'
 made_write count seed steps nodes says w w' t a = record {
   known = inr (inl refl);
   done = λ e. absurd (omega (arith, e));

@@ -1,14 +1,24 @@
--- What `make` does, by its status.
-use Rattle.std.specs.Prelude.{◌≡◌, ◌⊎◌, ℕ, Bool, true, false, List, [], ◌∷◌, ◌++◌, Option, codes, count_by}
+-- What `make` does, by its status, and the script that it does.
+use Rattle.std.specs.Prelude.{◌≡◌, ◌⊎◌, ℕ, suc, ◌+◌, ◌%◌, ◌==◌, Bool, true, false, List, [], ◌∷◌, ◌++◌, Option, codes, count_by, if◌then◌else◌}
 use Rattle.std.specs.Fmt.{decimal}
 use Rattle.std.specs.Io.KnownBytes.{Appends}
 use Rattle.atspi_base.specs.Outside.{AppendsPart}
+use Rattle.atspi_forest.specs.declared.edit.Edit.{Edit}
+use Rattle.atspi_forest.specs.Tree.{shape_of}
 use Rattle.atspi_lines.specs.declared.line.Line.{Line}
+use Rattle.atspi_lines.specs.declared.line.Line.TheVariants.{App, Reader, Edit as Edit_line, Turns, Drain}
+use Rattle.atspi_tree.specs.TreeShape.{TreeShape, IsLawful}
+use Rattle.atspi_make.specs.Drawing.{drawn_edit, live_nodes}
+use Rattle.atspi_make.specs.Live.{CanFollow}
 use Rattle.atspi_trace.specs.Entry.{Entry, changed, spoke, entries_of}
 use Rattle.atspi_trace.specs.Due.{Lawful}
+use Rattle.atspi_lawful.specs.laws.NineLaws.{rows_due}
+use Rattle.atspi_lawful.specs.laws.Words.{added, held, live_tree}
 use Rattle.atspi_lawful.specs.order.Scripts.{CanAllStand}
 use Rattle.atspi_play.specs.Playing.{Playing}
 use Rattle.atspi_play.specs.Played.{IsPlayed}
+use Rattle.atspi_stage.specs.Lines.{LineDone}
+use Rattle.atspi_stage.specs.Shown.{row_total}
 use Rattle.atspi_stage.specs.Worlds.{Staged, IsPlaying}
 
 -- `made N SEED steps S nodes M says K`
@@ -32,25 +42,86 @@ abbrev pub is_spoken : Entry → Bool
 is_spoken (spoke reader app line) = true
 is_spoken entry = false
 
--- THE NUMBERS ARE THOSE OF A LAWFUL TRACE OF SOME LINES
-pub record AreOfTrace (steps says : ℕ) : Type 0 where
-  pub lines : List Line
-  pub entries : List Entry
-  pub lawful : Lawful lines entries
-  pub steps_are : steps ≡ count_by is_step entries
-  pub says_are : says ≡ count_by is_spoken entries
+-- THE SCRIPT OF `make`: an application and a reader, which come to know of one another; then the edits, with 64 turns behind each sixteenth; and all
+-- that then waits
+abbrev pub opening : List Line
+opening = App (codes "Made") ∷ Reader ∷ Drain ∷ []
 
--- these lines were played so far, and all that the stage tells is of them
-pub record HasPlayed (s : Staged) : Type 0 where
+abbrev pub turns_behind : ℕ → List Line
+turns_behind k = if k % 16 == 0 then Turns 64 ∷ [] else []
+
+-- the edit with a number, and the turns behind it
+abbrev pub round : ℕ → Edit → List Line
+round k edit = Edit_line 0 edit ∷ turns_behind k
+
+-- the tree of the first application, as a trace tells it: the fold of its steps
+abbrev pub tree_told : List Entry → TreeShape
+tree_told trace = record { rows = shape_of (live_tree trace 0); added = added trace 0 }
+
+-- SO MANY EDITS WERE DRAWN AND MADE: these are the lines, their lawful trace, and the generator's state, which began as the seed. Each edit is the one
+-- that is drawn of the tree that the lawful trace of the lines before it tells.
+pub data AreDrawn (seed : ℕ) : ℕ → List Line → List Entry → ℕ → Type 0 where
+  none_drawn : (trace : List Entry) → Lawful opening trace → AreDrawn seed 0 opening trace seed
+  one_drawn : (k x : ℕ) (lines : List Line) (trace more : List Entry) → AreDrawn seed k lines trace x
+      → Lawful (lines ++ round (suc k) (drawn_edit (tree_told trace) (suc k) x).edit) (trace ++ more)
+      → AreDrawn seed (suc k) (lines ++ round (suc k) (drawn_edit (tree_told trace) (suc k) x).edit) (trace ++ more) (drawn_edit (tree_told trace) (suc k) x).state
+
+-- THE NUMBERS ARE THOSE OF A LAWFUL TRACE OF THE SCRIPT: its steps, its spoken lines, and the rows that the reader is due to show of the application
+-- behind it
+pub record AreOfScript (count seed steps nodes says : ℕ) : Type 0 where
   pub lines : List Line
+  pub early : List Entry
+  pub more : List Entry
+  pub state : ℕ
+  pub drawn : AreDrawn seed count lines early state
+  pub lawful : Lawful (lines ++ Drain ∷ []) (early ++ more)
+  pub steps_are : steps ≡ count_by is_step (early ++ more)
+  pub nodes_are : nodes ≡ row_total (rows_due (early ++ more) 0 (held (early ++ more) 0 0))
+  pub says_are : says ≡ count_by is_spoken (early ++ more)
+
+-- these lines were played, and all that the stage tells is of them
+pub record HasPlayed (lines : List Line) (s : Staged) : Type 0 where
   pub can : CanAllStand lines
   pub now : Playing
   pub is : IsPlaying now s
   pub played : IsPlayed lines (entries_of s.trace) now
 
+-- lines were done, one behind the other
+abbrev pub LinesDone : List Line → Staged → Staged → Type 0
+LinesDone [] old new = new ≡ old
+LinesDone (line ∷ lines) old new = (next : Staged) × LineDone line old next × LinesDone lines next new
+
+-- so many edits were drawn and made in a stage
+pub record HasDrawn (seed k x : ℕ) (s : Staged) : Type 0 where
+  pub lines : List Line
+  pub drawn : AreDrawn seed k lines (entries_of s.trace) x
+  pub played : HasPlayed lines s
+
+-- the whole script was done in it
+pub record HasMade (seed k : ℕ) (s : Staged) : Type 0 where
+  pub lines : List Line
+  pub early : List Entry
+  pub more : List Entry
+  pub state : ℕ
+  pub drawn : AreDrawn seed k lines early state
+  pub so : entries_of s.trace ≡ early ++ more
+  pub played : HasPlayed (lines ++ Drain ∷ []) s
+
+-- the live nodes were seen in a front of a trace, and below which number; or none were, and any tree can be followed
+pub record WereSeen (seen : List ℕ) (next : ℕ) (trace : List Entry) : Type 0 where
+  pub early : List Entry
+  pub more : List Entry
+  pub so : trace ≡ early ++ more
+  pub is_tree : IsLawful (tree_told early)
+  pub live : seen ≡ live_nodes (tree_told early)
+  pub below : next ≡ (tree_told early).added + 1
+
+abbrev pub AreSeen : List ℕ → ℕ → List Entry → Type 0
+AreSeen seen next trace = ((t : TreeShape) → CanFollow seen next t) ⊎ WereSeen seen next trace
+
 -- 0: the line was written. 4: a front of it. With any other status nothing was written.
 pub record Made (count seed status : ℕ) (w w' : Option (List ℕ)) : Type 0 where
   pub known : IsMakeStatus status
-  pub done : status ≡ 0 → (steps : ℕ) × (nodes : ℕ) × (says : ℕ) × AreOfTrace steps says × Appends w w' (made_text count seed steps nodes says)
-  pub write : status ≡ 4 → (steps : ℕ) × (nodes : ℕ) × (says : ℕ) × AreOfTrace steps says × AppendsPart w w' (made_text count seed steps nodes says)
+  pub done : status ≡ 0 → (steps : ℕ) × (nodes : ℕ) × (says : ℕ) × AreOfScript count seed steps nodes says × Appends w w' (made_text count seed steps nodes says)
+  pub write : status ≡ 4 → (steps : ℕ) × (nodes : ℕ) × (says : ℕ) × AreOfScript count seed steps nodes says × AppendsPart w w' (made_text count seed steps nodes says)
   pub nothing : (status ≡ 0 → ⊥) → (status ≡ 4 → ⊥) → Appends w w' []

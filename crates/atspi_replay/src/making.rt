@@ -1,25 +1,30 @@
 //! `make`: a script is drawn from a seed and done, and what came of it is told in a line.
 
-ghost use Rattle.std.specs.Prelude.{◌≡◌, ◌++◌, ◌<◌, ℕ, All, IfOk, OnOk, count_by, length};
+ghost use Rattle.std.specs.Prelude.{◌≡◌, ◌++◌, ◌-◌, ◌<◌, [], ℕ, List, All, IfOk, OnOk, count_by, length};
 ghost use Rattle.std.specs.Fmt.{decimal};
 ghost use Rattle.std.specs.Io.KnownBytes.{Appends};
 ghost use Rattle.atspi_base.specs.Outside.{AppendsPart};
 ghost use Rattle.atspi_bus_steps.specs.Inner.{inner_of, state_of};
+ghost use Rattle.atspi_forest.specs.Edits.{IsEdit};
 ghost use Rattle.atspi_lines.specs.declared.limits.TheConstants.{APP_COUNT};
+ghost use Rattle.atspi_lines.specs.declared.line.Line.{Line};
+ghost use Rattle.atspi_make.specs.Drawing.{drawn_edit};
+ghost use Rattle.atspi_stage.specs.Lines.{LineDone};
 ghost use Rattle.atspi_stage.specs.MayAct.{MayAct};
 ghost use Rattle.atspi_stage.specs.Stage.{IsStage};
 ghost use Rattle.atspi_stage.specs.Worlds.{staged};
-ghost use Rattle.atspi_trace.specs.Entry.{entry_of};
+ghost use Rattle.atspi_trace.specs.Entry.{entries_of, entry_of};
 ghost use Rattle.atspi_trace.specs.Work.{spare_count};
 ghost use Rattle.atspi_replay.specs.Causes.{Causes};
-ghost use Rattle.atspi_replay.specs.Made.{AreOfTrace, HasPlayed, IsHalt, Made, is_spoken, is_step, made_text};
+ghost use Rattle.atspi_replay.specs.Made.{AreOfScript, AreSeen, HasDrawn, HasMade, HasPlayed, IsHalt, LinesDone, Made, is_spoken, is_step, made_text, opening, tree_told, turns_behind};
 
-use crate::naming::{Halt, Stop, stop_of_act};
+use crate::naming::{Halt, Refused, Stop, stop_of_act};
 use atspi_base::{Bytes, NoMemory, Sink, Text, put_decimal, write_all};
 use atspi_events::Event;
+use atspi_forest::Edit;
 use atspi_lines::Line;
 use atspi_make::{Draws, HasTree, LiveNodes, next_edit};
-use atspi_stage::Stage;
+use atspi_stage::{Refusal, Stage};
 use atspi_stage_ends::{Application, Follower};
 use std::alloc::Global;
 
@@ -39,9 +44,8 @@ const TURNS: u32 = 64;
 fn act<A: Application, R: Follower>(world: &mut Stage<A, R>, line: &Line) -> Result<(), Stop>
     requires may { MayAct line.now }
     requires stage { IsStage A.is_app R.is_follower A.is_kit A.is_spare world.old.cast.apps.items world.old.cast.readers.items world.old.kits.items world.old.spares.items (state_of world.old.carrier.bus) }
-    requires played { HasPlayed (staged A.exporter R.follower (inner_of world.old.carrier.bus) world.old.carrier.posts.items world.old.carrier.at_end.items world.old.cast.registry world.old.cast.apps.items world.old.cast.readers.items (length world.old.kits.items) (length world.old.spares.items) world.old.carrier.trace.items) }
     ensures stage { OnOk result (IsStage A.is_app R.is_follower A.is_kit A.is_spare world.new.cast.apps.items world.new.cast.readers.items world.new.kits.items world.new.spares.items (state_of world.new.carrier.bus)) }
-    ensures played { OnOk result (HasPlayed (staged A.exporter R.follower (inner_of world.new.carrier.bus) world.new.carrier.posts.items world.new.carrier.at_end.items world.new.cast.registry world.new.cast.apps.items world.new.cast.readers.items (length world.new.kits.items) (length world.new.spares.items) world.new.carrier.trace.items)) }
+    ensures done { OnOk result (LineDone line.now (staged A.exporter R.follower (inner_of world.old.carrier.bus) world.old.carrier.posts.items world.old.carrier.at_end.items world.old.cast.registry world.old.cast.apps.items world.old.cast.readers.items (length world.old.kits.items) (length world.old.spares.items) world.old.carrier.trace.items) (staged A.exporter R.follower (inner_of world.new.carrier.bus) world.new.carrier.posts.items world.new.carrier.at_end.items world.new.cast.registry world.new.cast.apps.items world.new.cast.readers.items (length world.new.kits.items) (length world.new.spares.items) world.new.carrier.trace.items)) }
 {
     match world.act(line) {
         Ok(()) => Ok(()),
@@ -52,9 +56,8 @@ fn act<A: Application, R: Follower>(world: &mut Stage<A, R>, line: &Line) -> Res
 /// The application and the reader start, and know of one another.
 fn begin<A: Application, R: Follower>(alloc: Global, world: &mut Stage<A, R>) -> Result<(), Stop>
     requires stage { IsStage A.is_app R.is_follower A.is_kit A.is_spare world.old.cast.apps.items world.old.cast.readers.items world.old.kits.items world.old.spares.items (state_of world.old.carrier.bus) }
-    requires played { HasPlayed (staged A.exporter R.follower (inner_of world.old.carrier.bus) world.old.carrier.posts.items world.old.carrier.at_end.items world.old.cast.registry world.old.cast.apps.items world.old.cast.readers.items (length world.old.kits.items) (length world.old.spares.items) world.old.carrier.trace.items) }
     ensures stage { OnOk result (IsStage A.is_app R.is_follower A.is_kit A.is_spare world.new.cast.apps.items world.new.cast.readers.items world.new.kits.items world.new.spares.items (state_of world.new.carrier.bus)) }
-    ensures played { OnOk result (HasPlayed (staged A.exporter R.follower (inner_of world.new.carrier.bus) world.new.carrier.posts.items world.new.carrier.at_end.items world.new.cast.registry world.new.cast.apps.items world.new.cast.readers.items (length world.new.kits.items) (length world.new.spares.items) world.new.carrier.trace.items)) }
+    ensures done { OnOk result (LinesDone opening (staged A.exporter R.follower (inner_of world.old.carrier.bus) world.old.carrier.posts.items world.old.carrier.at_end.items world.old.cast.registry world.old.cast.apps.items world.old.cast.readers.items (length world.old.kits.items) (length world.old.spares.items) world.old.carrier.trace.items) (staged A.exporter R.follower (inner_of world.new.carrier.bus) world.new.carrier.posts.items world.new.carrier.at_end.items world.new.cast.registry world.new.cast.apps.items world.new.cast.readers.items (length world.new.kits.items) (length world.new.spares.items) world.new.carrier.trace.items)) }
 {
     let Ok(name) = Text::of(alloc, "Made") else {
         return Err(Stop::NoMemory);
@@ -64,38 +67,40 @@ fn begin<A: Application, R: Follower>(alloc: Global, world: &mut Stage<A, R>) ->
     act(world, &Line::Drain)
 }
 
-/// The edit with this number is drawn from the application's tree and made.
-fn make_edit<A: Application + HasTree, R: Follower>(
+/// The edit with this number is drawn from the first application's tree. Where there is none, an edit of it would be refused.
+fn draw<A: HasTree, R: Follower>(
     alloc: Global,
-    world: &mut Stage<A, R>,
+    world: &Stage<A, R>,
     number: u32,
     nodes: &mut LiveNodes,
     draws: &mut Draws,
-) -> Result<(), Stop>
-    requires stage { IsStage A.is_app R.is_follower A.is_kit A.is_spare world.old.cast.apps.items world.old.cast.readers.items world.old.kits.items world.old.spares.items (state_of world.old.carrier.bus) }
-    requires played { HasPlayed (staged A.exporter R.follower (inner_of world.old.carrier.bus) world.old.carrier.posts.items world.old.carrier.at_end.items world.old.cast.registry world.old.cast.apps.items world.old.cast.readers.items (length world.old.kits.items) (length world.old.spares.items) world.old.carrier.trace.items) }
-    ensures stage { OnOk result (IsStage A.is_app R.is_follower A.is_kit A.is_spare world.new.cast.apps.items world.new.cast.readers.items world.new.kits.items world.new.spares.items (state_of world.new.carrier.bus)) }
-    ensures played { OnOk result (HasPlayed (staged A.exporter R.follower (inner_of world.new.carrier.bus) world.new.carrier.posts.items world.new.carrier.at_end.items world.new.cast.registry world.new.cast.apps.items world.new.cast.readers.items (length world.new.kits.items) (length world.new.spares.items) world.new.carrier.trace.items)) }
+) -> Result<Edit, Stop>
+    requires played { (lines : List Line) × HasPlayed lines (staged A.exporter R.follower (inner_of world.now.carrier.bus) world.now.carrier.posts.items world.now.carrier.at_end.items world.now.cast.registry world.now.cast.apps.items world.now.cast.readers.items (length world.now.kits.items) (length world.now.spares.items) world.now.carrier.trace.items) }
+    requires seen { AreSeen nodes.old.nodes.items nodes.old.next (entries_of world.now.carrier.trace.items) }
+    ensures edit { IfOk result (λ edit. edit ≡ (drawn_edit (tree_told (entries_of world.now.carrier.trace.items)) number draws.old.state).edit) }
+    ensures state { OnOk result (draws.new.state ≡ (drawn_edit (tree_told (entries_of world.now.carrier.trace.items)) number draws.old.state).state) }
+    ensures lawful { IfOk result (λ edit. IsEdit edit) }
+    ensures seen { OnOk result (AreSeen nodes.new.nodes.items nodes.new.next (entries_of world.now.carrier.trace.items)) }
 {
     let Some(app) = world.app(0) else {
-        return Ok(());
+        return Err(Stop::Refused(Refused::World(Refusal::NoParty)));
     };
     let tree = app.tree();
+    tree.is_lawful();
     let Ok(()) = nodes.follow(tree) else {
         return Err(Stop::NoMemory);
     };
-    let Ok(edit) = next_edit(alloc, tree, nodes, number, draws) else {
-        return Err(Stop::NoMemory);
-    };
-    act(world, &Line::Edit { app: 0, edit })
+    match next_edit(alloc, tree, nodes, number, draws) {
+        Ok(edit) => Ok(edit),
+        Err(_) => Err(Stop::NoMemory),
+    }
 }
 
 /// Behind each sixteenth edit come turns.
 fn make_turns<A: Application, R: Follower>(world: &mut Stage<A, R>, number: u32) -> Result<(), Stop>
     requires stage { IsStage A.is_app R.is_follower A.is_kit A.is_spare world.old.cast.apps.items world.old.cast.readers.items world.old.kits.items world.old.spares.items (state_of world.old.carrier.bus) }
-    requires played { HasPlayed (staged A.exporter R.follower (inner_of world.old.carrier.bus) world.old.carrier.posts.items world.old.carrier.at_end.items world.old.cast.registry world.old.cast.apps.items world.old.cast.readers.items (length world.old.kits.items) (length world.old.spares.items) world.old.carrier.trace.items) }
     ensures stage { OnOk result (IsStage A.is_app R.is_follower A.is_kit A.is_spare world.new.cast.apps.items world.new.cast.readers.items world.new.kits.items world.new.spares.items (state_of world.new.carrier.bus)) }
-    ensures played { OnOk result (HasPlayed (staged A.exporter R.follower (inner_of world.new.carrier.bus) world.new.carrier.posts.items world.new.carrier.at_end.items world.new.cast.registry world.new.cast.apps.items world.new.cast.readers.items (length world.new.kits.items) (length world.new.spares.items) world.new.carrier.trace.items)) }
+    ensures done { OnOk result (LinesDone (turns_behind number) (staged A.exporter R.follower (inner_of world.old.carrier.bus) world.old.carrier.posts.items world.old.carrier.at_end.items world.old.cast.registry world.old.cast.apps.items world.old.cast.readers.items (length world.old.kits.items) (length world.old.spares.items) world.old.carrier.trace.items) (staged A.exporter R.follower (inner_of world.new.carrier.bus) world.new.carrier.posts.items world.new.carrier.at_end.items world.new.cast.registry world.new.cast.apps.items world.new.cast.readers.items (length world.new.kits.items) (length world.new.spares.items) world.new.carrier.trace.items)) }
 {
     if number % ROUND == 0 {
         return act(world, &Line::Turns(TURNS));
@@ -103,8 +108,29 @@ fn make_turns<A: Application, R: Follower>(world: &mut Stage<A, R>, number: u32)
     Ok(())
 }
 
+/// The edit with this number is drawn and made, with the turns behind it.
+fn make_edit<A: HasTree, R: Follower>(
+    alloc: Global,
+    world: &mut Stage<A, R>,
+    number: u32,
+    nodes: &mut LiveNodes,
+    draws: &mut Draws,
+) -> Result<(), Stop>
+    requires counted { 0 < number }
+    requires stage { IsStage A.is_app R.is_follower A.is_kit A.is_spare world.old.cast.apps.items world.old.cast.readers.items world.old.kits.items world.old.spares.items (state_of world.old.carrier.bus) }
+    requires drawn { (seed : ℕ) × HasDrawn seed (number - 1) draws.old.state (staged A.exporter R.follower (inner_of world.old.carrier.bus) world.old.carrier.posts.items world.old.carrier.at_end.items world.old.cast.registry world.old.cast.apps.items world.old.cast.readers.items (length world.old.kits.items) (length world.old.spares.items) world.old.carrier.trace.items) }
+    requires seen { AreSeen nodes.old.nodes.items nodes.old.next (entries_of world.old.carrier.trace.items) }
+    ensures stage { OnOk result (IsStage A.is_app R.is_follower A.is_kit A.is_spare world.new.cast.apps.items world.new.cast.readers.items world.new.kits.items world.new.spares.items (state_of world.new.carrier.bus)) }
+    ensures drawn { OnOk result ((seed : ℕ) → HasDrawn seed (number - 1) draws.old.state (staged A.exporter R.follower (inner_of world.old.carrier.bus) world.old.carrier.posts.items world.old.carrier.at_end.items world.old.cast.registry world.old.cast.apps.items world.old.cast.readers.items (length world.old.kits.items) (length world.old.spares.items) world.old.carrier.trace.items) → HasDrawn seed number draws.new.state (staged A.exporter R.follower (inner_of world.new.carrier.bus) world.new.carrier.posts.items world.new.carrier.at_end.items world.new.cast.registry world.new.cast.apps.items world.new.cast.readers.items (length world.new.kits.items) (length world.new.spares.items) world.new.carrier.trace.items)) }
+    ensures seen { OnOk result (AreSeen nodes.new.nodes.items nodes.new.next (entries_of world.new.carrier.trace.items)) }
+{
+    let edit = draw(alloc, world, number, nodes, draws)?;
+    act(world, &Line::Edit { app: 0, edit })?;
+    make_turns(world, number)
+}
+
 /// So many edits, with turns behind each sixteenth, and all that then waits.
-fn make_edits<A: Application + HasTree, R: Follower>(
+fn make_edits<A: HasTree, R: Follower>(
     alloc: Global,
     world: &mut Stage<A, R>,
     count: u32,
@@ -112,14 +138,13 @@ fn make_edits<A: Application + HasTree, R: Follower>(
 ) -> Result<(), Stop>
     requires count { count < 4294967295 }
     requires stage { IsStage A.is_app R.is_follower A.is_kit A.is_spare world.old.cast.apps.items world.old.cast.readers.items world.old.kits.items world.old.spares.items (state_of world.old.carrier.bus) }
-    requires played { HasPlayed (staged A.exporter R.follower (inner_of world.old.carrier.bus) world.old.carrier.posts.items world.old.carrier.at_end.items world.old.cast.registry world.old.cast.apps.items world.old.cast.readers.items (length world.old.kits.items) (length world.old.spares.items) world.old.carrier.trace.items) }
+    requires drawn { HasDrawn draws.old.state 0 draws.old.state (staged A.exporter R.follower (inner_of world.old.carrier.bus) world.old.carrier.posts.items world.old.carrier.at_end.items world.old.cast.registry world.old.cast.apps.items world.old.cast.readers.items (length world.old.kits.items) (length world.old.spares.items) world.old.carrier.trace.items) }
     ensures stage { OnOk result (IsStage A.is_app R.is_follower A.is_kit A.is_spare world.new.cast.apps.items world.new.cast.readers.items world.new.kits.items world.new.spares.items (state_of world.new.carrier.bus)) }
-    ensures played { OnOk result (HasPlayed (staged A.exporter R.follower (inner_of world.new.carrier.bus) world.new.carrier.posts.items world.new.carrier.at_end.items world.new.cast.registry world.new.cast.apps.items world.new.cast.readers.items (length world.new.kits.items) (length world.new.spares.items) world.new.carrier.trace.items)) }
+    ensures made { OnOk result (HasMade draws.old.state count (staged A.exporter R.follower (inner_of world.new.carrier.bus) world.new.carrier.posts.items world.new.carrier.at_end.items world.new.cast.registry world.new.cast.apps.items world.new.cast.readers.items (length world.new.kits.items) (length world.new.spares.items) world.new.carrier.trace.items)) }
 {
     let mut nodes = LiveNodes::new(alloc);
     for number in 1..count + 1 {
         make_edit(alloc, world, number, &mut nodes, draws)?;
-        make_turns(world, number)?;
     }
     act(world, &Line::Drain)
 }
@@ -186,8 +211,7 @@ struct Outcome {
 /// What came of a script.
 fn what_came<A: Application, R: Follower>(world: &Stage<A, R>) -> Outcome
     requires stage { IsStage A.is_app R.is_follower A.is_kit A.is_spare world.now.cast.apps.items world.now.cast.readers.items world.now.kits.items world.now.spares.items (state_of world.now.carrier.bus) }
-    requires played { HasPlayed (staged A.exporter R.follower (inner_of world.now.carrier.bus) world.now.carrier.posts.items world.now.carrier.at_end.items world.now.cast.registry world.now.cast.apps.items world.now.cast.readers.items (length world.now.kits.items) (length world.now.spares.items) world.now.carrier.trace.items) }
-    ensures { AreOfTrace result.steps result.says }
+    ensures { (seed count : ℕ) → HasMade seed count (staged A.exporter R.follower (inner_of world.now.carrier.bus) world.now.carrier.posts.items world.now.carrier.at_end.items world.now.cast.registry world.now.cast.apps.items world.now.cast.readers.items (length world.now.kits.items) (length world.now.spares.items) world.now.carrier.trace.items) → AreOfScript count seed result.steps result.nodes result.says }
 {
     Outcome {
         steps: count_steps(world.trace()),
@@ -210,7 +234,7 @@ fn put_made(count: u32, seed: u32, of: Outcome, out: &mut Bytes) -> Result<(), N
 
 /// Writes the line that tells what came of a script.
 fn tell<K: Sink>(alloc: Global, count: u32, seed: u32, of: Outcome, sink: &mut K) -> u8
-    requires { AreOfTrace of.steps of.says }
+    requires { AreOfScript count seed of.steps of.nodes of.says }
     ensures made { Made count seed result (K.written sink.old) (K.written sink.new) }
     ensures causes { (source : ℕ) → Causes result source source (K.faults sink.old) (K.faults sink.new) }
 {
@@ -239,7 +263,7 @@ fn halted(stop: Stop) -> u8
 }
 
 /// Makes the edits in a world, and answers what came of them.
-fn make_in<A: Application + HasTree, R: Follower>(
+fn make_in<A: HasTree, R: Follower>(
     alloc: Global,
     world: &mut Stage<A, R>,
     count: u32,
@@ -248,8 +272,8 @@ fn make_in<A: Application + HasTree, R: Follower>(
     requires count { count < 4294967295 }
     requires seed { seed < 2147483648 }
     requires stage { IsStage A.is_app R.is_follower A.is_kit A.is_spare world.old.cast.apps.items world.old.cast.readers.items world.old.kits.items world.old.spares.items (state_of world.old.carrier.bus) }
-    requires played { HasPlayed (staged A.exporter R.follower (inner_of world.old.carrier.bus) world.old.carrier.posts.items world.old.carrier.at_end.items world.old.cast.registry world.old.cast.apps.items world.old.cast.readers.items (length world.old.kits.items) (length world.old.spares.items) world.old.carrier.trace.items) }
-    ensures { IfOk result (λ of. AreOfTrace of.steps of.says) }
+    requires played { HasPlayed [] (staged A.exporter R.follower (inner_of world.old.carrier.bus) world.old.carrier.posts.items world.old.carrier.at_end.items world.old.cast.registry world.old.cast.apps.items world.old.cast.readers.items (length world.old.kits.items) (length world.old.spares.items) world.old.carrier.trace.items) }
+    ensures { IfOk result (λ of. AreOfScript count seed of.steps of.nodes of.says) }
 {
     begin(alloc, world)?;
     let mut draws = Draws::new(seed);
@@ -258,7 +282,7 @@ fn make_in<A: Application + HasTree, R: Follower>(
 }
 
 /// Makes the edits in a world over these kits and spares, and answers what came of them.
-fn make_all<A: Application + HasTree, R: Follower>(
+fn make_all<A: HasTree, R: Follower>(
     alloc: Global,
     count: u32,
     seed: u32,
@@ -271,7 +295,7 @@ fn make_all<A: Application + HasTree, R: Follower>(
     requires spares { All A.is_spare spares.items }
     requires kit_count { length kits.items ≡ APP_COUNT }
     requires spare_count { length spares.items ≡ spare_count }
-    ensures { IfOk result (λ of. AreOfTrace of.steps of.says) }
+    ensures { IfOk result (λ of. AreOfScript count seed of.steps of.nodes of.says) }
 {
     let made: Result<Stage<A, R>, _> = Stage::new(alloc, kits, spares);
     match made {
@@ -283,7 +307,7 @@ fn make_all<A: Application + HasTree, R: Follower>(
 /// Draws a script of so many edits from a seed, does it in a world over these kits and spares, and writes how many steps were made, how many
 /// nodes the reader shows, and how many lines it spoke: the numbers of a lawful trace of the lines. There are kits and spares for all that a script
 /// can use.
-pub fn make<A: Application + HasTree, R: Follower, K: Sink>(
+pub fn make<A: HasTree, R: Follower, K: Sink>(
     alloc: Global,
     count: u32,
     seed: u32,

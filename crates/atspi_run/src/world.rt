@@ -15,7 +15,7 @@ use atspi_faces::{Deeds, GapText, Grid, PlainText};
 use atspi_make::HasTree;
 use atspi_replay::{make, replay};
 use atspi_stage_app::StageApp;
-use atspi_stage_ends::{Application, Follower};
+use atspi_stage_ends::Follower;
 use atspi_stage_reader::StageReader;
 use std::alloc::{AllocError, Global};
 
@@ -41,7 +41,7 @@ fn supply<T: Drop, F: Fn() -> Result<T, AllocError>>(
 }
 
 /// Does what is asked for in a world over these kits and spares.
-fn do_over<A: Application + HasTree, R: Follower, S: Source, K: Sink>(
+fn do_over<A: HasTree, R: Follower, S: Source, K: Sink>(
     alloc: Global,
     task: Task,
     source: &mut S,

@@ -1,4 +1,4 @@
-use Rattle.atspi_replay.proofs.Counts.{played_none}
+use Rattle.atspi_replay.proofs.Script.{played_none}
 use Rattle.atspi_replay.proofs.making.make_all.Goals as goal
 
 pub make_in-requires-clause-played : goal.make_in-requires-clause-played

@@ -1,0 +1,5 @@
+use Rattle.atspi_replay.proofs.Script.{turned}
+use Rattle.atspi_replay.proofs.making.make_turns.Goals as goal
+
+pub returns-then-number-eq0-clause-done : goal.returns-then-number-eq0-clause-done
+returns-then-number-eq0-clause-done g c = turned c.act.result c.args.number _ _ c.if-number-eq0.true c.act.ensures.done
