@@ -11,6 +11,7 @@ use Rattle.atspi_message.specs.Envelope.{Envelope, envelope_of}
 use Rattle.atspi_message.specs.declared.message.Message.{Message}
 use Rattle.atspi_match.specs.declared.condition.Condition.{Condition}
 use Rattle.atspi_match.specs.RuleIndex.{is_pair, rules_of}
+use Rattle.atspi_names.specs.Hello.{IsAfterHello}
 use Rattle.atspi_names.specs.Owners.{Owners}
 use Rattle.atspi_routing.specs.declared.member.BusMember.{BusMember}
 use Rattle.atspi_routing.specs.declared.member.BusMember.TheVariants.{Hello, RequestName, ReleaseName, NameHasOwner, GetNameOwner, ListNames, ListQueuedOwners, AddMatch, RemoveMatch, GetId, Ping}
@@ -338,6 +339,11 @@ pub renamed-back : (b next : Bus) (owners before : Owners) → next ≡ record b
     → record next { state = record next.state { owners = before } } ≡ b
 renamed-back b next owners before is same =
     ap (λ (x : Bus). record x { state = record x.state { owners = before } }) is ∙ ap (λ (o : Owners). record b { state = record b.state { owners = o } }) same
+
+-- names right after a Hello, of which nothing was told in the end
+pub hello-kept : (b next : Bus) (owners : Owners) (conn : ℕ) → IsAfterHello b.state.owners owners conn → next ≡ record b { state = record b.state { owners = owners } }
+    → IsAfterHello b.state.owners next.state.owners conn
+hello-kept b next owners conn after is = subst (λ (x : Bus). IsAfterHello b.state.owners x.state.owners conn) (sym is) after
 
 -- what is said with the names of an answer is the answer
 pub renamed-step : (b next : Bus) (conn : ℕ) (e : Envelope) (a : Answer) (owners : Owners) (told : List Envelope) → owners ≡ a.owners → a.rules ≡ b.state.rules

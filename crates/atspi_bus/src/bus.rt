@@ -74,7 +74,7 @@ impl Bus {
     /// messages for this one would pass the serial 4,294,967,295, and no answer but a fault there. After a fault all is as before.
     ///
     /// A message that is passed on, and one that the bus answers itself, costs what it brings alone, where each receiver of what goes out has room for
-    /// it; Hello, RequestName and ReleaseName cost a copy of the names besides. One that brings a closing costs a copy of what the bus knows and
+    /// it; RequestName and ReleaseName cost a copy of the names besides. One that brings a closing costs a copy of what the bus knows and
     /// of what waits in it.
     pub fn take(&mut self, conn: u32, m: &MessageRef) -> Result<(), BusFault>
         requires { MeetsRules (envelope_at m.now) }

@@ -1,4 +1,5 @@
-//! Calls that change names, done on a copy of the names alone, which takes their place once all is said.
+//! Calls that change names. A Hello is taken back where it cannot be told; RequestName and ReleaseName are done on a copy of the names alone, which takes
+//! their place once all is said.
 
 ghost use Rattle.std.specs.Prelude.{◌≡◌, true, map, All, List, None, Ok, Option, IfOk, OnErr, IsErrOf, MatchBool};
 ghost use Rattle.std.specs.FinMap as finmap;
@@ -10,6 +11,7 @@ ghost use Rattle.atspi_routing.specs.Members as members;
 ghost use Rattle.atspi_routing.specs.Queues.{stepped, takes};
 ghost use Rattle.atspi_routing.specs.Steps as steps;
 ghost use Rattle.atspi_bus_answers.specs.Answered.{IsSpokenOf, AreNamed};
+ghost use Rattle.atspi_bus_steps.specs.Greeting.{greeting};
 ghost use Rattle.atspi_bus_steps.specs.Inner.{inner_of, state_of};
 ghost use Rattle.atspi_bus_steps.specs.Sayable.{MaySay};
 ghost use Rattle.atspi_bus_steps.specs.Sound.{IsReady, IsSound};
@@ -23,6 +25,7 @@ use atspi_header::MessageRef;
 use atspi_message::Message;
 use atspi_names::{Names, NamesFault};
 use atspi_routing::BusMember;
+use atspi_types::BusName;
 use std::collections::VecDeque;
 use std::mem;
 
@@ -85,7 +88,24 @@ pub fn rename_in_place(
     rename(inner, names, told)
 }
 
-/// Hello: the connection gets its unique name.
+/// Says what is told where a connection gets this unique name, all or nothing. Where it cannot be said in place, and after a fault, all is as before.
+fn tell_name(inner: &mut Inner, name: &BusName, m: &MessageRef) -> Result<bool, BusFault>
+    requires ready { IsReady (state_of inner.old) }
+    requires meets { MeetsRules (envelope_at m.now) }
+    ensures ok { IfOk result (λ went. MatchBool went
+        (inner_of inner.new ≡ stepped (inner_of inner.old) (steps.speaks (state_of inner.old) (greeting name.now (envelope_at m.now))))
+        (inner_of inner.new ≡ inner_of inner.old)) }
+    ensures ready { IsReady (state_of inner.new) }
+    ensures due { (inner_of inner.new).waiting.due ≡ (inner_of inner.old).waiting.due }
+    ensures spent { IsErrOf result BusFault.Spent → ⊥ }
+    ensures err { OnErr result (inner_of inner.new ≡ inner_of inner.old) }
+{
+    let told = greeting(inner.alloc, name, m)?;
+    let mut rest = VecDeque::from(told);
+    say_each(inner, &mut rest)
+}
+
+/// Hello: the connection gets its unique name. It is taken back where it cannot be told.
 pub fn greet_in_place(inner: &mut Inner, conn: u32, m: &MessageRef) -> Result<bool, BusFault>
     requires unnamed { finmap.get (state_of inner.old).owners.unique conn ≡ None }
     requires sound { IsSound (state_of inner.old) }
@@ -98,12 +118,20 @@ pub fn greet_in_place(inner: &mut Inner, conn: u32, m: &MessageRef) -> Result<bo
     ensures spent { IsErrOf result BusFault.Spent → ⊥ }
     ensures err { OnErr result (inner_of inner.new ≡ inner_of inner.old) }
 {
-    let mut names = inner.names.copy()?;
-    let name = match names.hello(conn) {
+    let name = match inner.names.hello(conn) {
         Ok(name) => name,
         Err(NamesFault::Full) => return Ok(false),
         Err(NamesFault::NoMemory) => return Err(BusFault::NoMemory),
     };
-    let told = greeting(inner.alloc, &name, m)?;
-    rename(inner, names, told)
+    match tell_name(inner, &name, m) {
+        Ok(true) => Ok(true),
+        Ok(false) => {
+            inner.names.take_back_hello(conn);
+            Ok(false)
+        }
+        Err(fault) => {
+            inner.names.take_back_hello(conn);
+            Err(fault)
+        }
+    }
 }
