@@ -5,6 +5,7 @@
 # usage: bench/bus.sh [ROUNDS [RUNS]]     (wants valgrind; the names of 10,000 connections take most of its time)
 #        bench/bus.sh rules [ROUNDS [RUNS]]        (the tables of rules alone)
 #        bench/bus.sh where               (where the instructions of a call with its return go, by function)
+#        bench/bus.sh hello               (what a Hello takes, alone)
 set -eu
 top=$(cd "$(dirname "$0")/.." && pwd)
 work=$(mktemp -d)
@@ -64,10 +65,22 @@ where() {
         END { for (name in own) { each = own[name] / n; if (each >= 1) printf "%8.0f%s\n", each, name } }' "$work/one.txt" "$work/all.txt" | sort -rn
 }
 
-if [ "${1:-}" = where ]; then
-    where
-    exit
-fi
+# hello: a new bus with a Hello and an AddMatch, and each of many connections that join one bus
+hello() {
+    rounds=200 runs=5
+    show "new bus, Hello and AddMatch" "$rounds" 2000 hello
+    none=$(counted "$work/one" names 0)
+    for count in 1000 10000; do
+        show_names "$count" "$(counted "$work/all" names "$count")"
+    done
+}
+
+case "${1:-}" in
+    where | hello)
+        "$1"
+        exit
+        ;;
+esac
 
 # show_rules: signals to 8 and to 32 receivers with 1, 64 and 500 rules each that differ in one key, of that key alone and of all
 show_rules() {

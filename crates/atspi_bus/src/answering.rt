@@ -17,6 +17,7 @@ ghost use Rattle.atspi_bus_steps.specs.Sound.{IsSound};
 ghost use Rattle.atspi_bus_steps.specs.Spoken.{IsRuleOf, IsRuleTaken, answered_by};
 ghost use Rattle.atspi_bus.specs.Changed.{IsChanged, changes_rules};
 
+use crate::claiming::request_in_place;
 use crate::in_place::{say_in_place, unsay};
 use crate::renaming::{greet_in_place, rename_in_place};
 use atspi_base::NoMemory;
@@ -166,7 +167,8 @@ fn answer_member(
 {
     match member {
         BusMember::AddMatch | BusMember::RemoveMatch => rule_in_place(inner, member, conn, m),
-        BusMember::RequestName | BusMember::ReleaseName => rename_in_place(inner, member, conn, m),
+        BusMember::RequestName => request_in_place(inner, conn, m),
+        BusMember::ReleaseName => rename_in_place(inner, member, conn, m),
         BusMember::Hello
         | BusMember::NameHasOwner
         | BusMember::GetNameOwner

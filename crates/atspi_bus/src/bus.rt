@@ -11,6 +11,7 @@ ghost use Rattle.atspi_queues.specs.Change.{with_queue};
 ghost use Rattle.atspi_bus_steps.specs.Inner.{state_of};
 ghost use Rattle.atspi_bus_steps.specs.Sound.{IsSound};
 ghost use Rattle.atspi_bus_steps.specs.Spoken.{IsRuleTaken};
+ghost use Rattle.atspi_bus.specs.Exclusive.{IsExclusive};
 
 use crate::whole::{leave_whole, take_whole};
 use atspi_bus_steps::{BusFault, Inner};
@@ -29,6 +30,7 @@ pub struct Bus {
     ghost limit: { given ≤ 4294967296 },
     ghost below: { All (λ (c : ℕ). c < given) (state_of inner).joined },
     ghost sound: { IsSound (state_of inner) },
+    ghost exclusive: { IsExclusive (state_of inner).owners },
 }
 
 impl Bus {
@@ -74,8 +76,8 @@ impl Bus {
     /// messages for this one would pass the serial 4,294,967,295, and no answer but a fault there. After a fault all is as before.
     ///
     /// A message that is passed on, and one that the bus answers itself, costs what it brings alone, where each receiver of what goes out has room for
-    /// it; RequestName and ReleaseName cost a copy of the names besides. One that brings a closing costs a copy of what the bus knows and
-    /// of what waits in it.
+    /// it; ReleaseName, and RequestName of a name that somebody has, cost a copy of the names besides. One that brings a closing costs a copy of
+    /// what the bus knows and of what waits in it.
     pub fn take(&mut self, conn: u32, m: &MessageRef) -> Result<(), BusFault>
         requires { MeetsRules (envelope_at m.now) }
         ensures ok { OnOk result ((rule : Option (List Condition)) × IsRuleTaken (bus_of self.old).state conn (envelope_at m.now) rule
@@ -93,7 +95,8 @@ impl Bus {
     }
 
     /// A connection leaves by itself. `Spent` only where the bus's own messages would pass the serial 4,294,967,295, and no answer but a
-    /// fault there. After a fault all is as before. It costs a copy of what the bus knows and of what waits in it.
+    /// fault there. After a fault all is as before. It costs what is told, and a look at each that has joined, each rule and each open call, where
+    /// each receiver has room for what is told, and else a copy of what the bus knows and of what waits in it.
     pub fn leave(&mut self, conn: u32) -> Result<(), BusFault>
         ensures ok { OnOk result (bus_of self.new ≡ leaves (bus_of self.old) conn) }
         ensures serial { OnOk result ((bus_of self.new).state.next ≤ 4294967296) }

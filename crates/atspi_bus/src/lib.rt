@@ -3,7 +3,9 @@
 
 mod answering;
 mod bus;
+mod claiming;
 mod in_place;
+mod leaving;
 mod renaming;
 mod whole;
 

@@ -1,5 +1,5 @@
-//! Calls that change names. A Hello is taken back where it cannot be told; RequestName and ReleaseName are done on a copy of the names alone, which takes
-//! their place once all is said.
+//! Calls that change names. A Hello is taken back where it cannot be told; ReleaseName, and RequestName of a name that somebody has, are done on a copy
+//! of the names alone, which takes their place once all is said.
 
 ghost use Rattle.std.specs.Prelude.{◌≡◌, true, map, All, List, None, Ok, Option, IfOk, OnErr, IsErrOf, MatchBool};
 ghost use Rattle.std.specs.FinMap as finmap;
@@ -57,7 +57,7 @@ fn rename(inner: &mut Inner, names: Names, told: Vec<Message>) -> Result<bool, B
     }
 }
 
-/// Answers RequestName or ReleaseName.
+/// Answers RequestName or ReleaseName, on a copy of the names.
 pub fn rename_in_place(
     inner: &mut Inner,
     member: BusMember,

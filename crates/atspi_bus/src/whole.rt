@@ -8,8 +8,10 @@ ghost use Rattle.atspi_routing.specs.Queues.{takes, leaves};
 ghost use Rattle.atspi_bus_steps.specs.Inner.{inner_of, state_of};
 ghost use Rattle.atspi_bus_steps.specs.Sound.{IsSound};
 ghost use Rattle.atspi_bus_steps.specs.Spoken.{IsRuleTaken};
+ghost use Rattle.atspi_bus.specs.Exclusive.{IsExclusive};
 
 use crate::answering::answer_in_place;
+use crate::leaving::leave_in_place;
 use atspi_bus_steps::{BusFault, Inner};
 use atspi_header::MessageRef;
 
@@ -78,7 +80,7 @@ pub fn take_whole(inner: &mut Inner, conn: u32, m: &MessageRef) -> Result<(), Bu
 }
 
 /// A connection leaves a copy of a bus, which takes its place at the end.
-pub fn leave_whole(inner: &mut Inner, conn: u32) -> Result<(), BusFault>
+fn leave_on_copy(inner: &mut Inner, conn: u32) -> Result<(), BusFault>
     requires sound { IsSound (state_of inner.old) }
     ensures ok { OnOk result (inner_of inner.new ≡ leaves (inner_of inner.old) conn) }
     ensures sound { IsSound (state_of inner.new) }
@@ -91,6 +93,22 @@ pub fn leave_whole(inner: &mut Inner, conn: u32) -> Result<(), BusFault>
             *inner = after;
             Ok(())
         }
+        Err(fault) => Err(fault),
+    }
+}
+
+/// A connection leaves: in place where it can, and on a copy of the bus where it cannot.
+pub fn leave_whole(inner: &mut Inner, conn: u32) -> Result<(), BusFault>
+    requires exclusive { IsExclusive (state_of inner.old).owners }
+    requires sound { IsSound (state_of inner.old) }
+    ensures ok { OnOk result (inner_of inner.new ≡ leaves (inner_of inner.old) conn) }
+    ensures sound { IsSound (state_of inner.new) }
+    ensures spent { IsErrOf result BusFault.Spent → 4294967296 < (leaves (inner_of inner.old) conn).state.next }
+    ensures err { OnErr result (inner_of inner.new ≡ inner_of inner.old) }
+{
+    match leave_in_place(inner, conn) {
+        Ok(true) => Ok(()),
+        Ok(false) => leave_on_copy(inner, conn),
         Err(fault) => Err(fault),
     }
 }

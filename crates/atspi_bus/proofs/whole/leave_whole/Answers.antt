@@ -1,14 +1,16 @@
-use Rattle.std.proofs.Common.{◌<◌, sym, ap, ◌∙◌, subst}
+use Rattle.std.proofs.Common.{◌≡◌, ◌<◌, subst}
+use Rattle.std.specs.Prelude.{OnOk, IsErrOf}
 use Rattle.atspi_routing.specs.Queues.{Bus, leaves}
-use Rattle.atspi_bus_steps.specs.Sound.{IsSound}
+use Rattle.atspi_bus_steps.specs.Inner.{inner_of}
+use Rattle.atspi_bus_steps.specs.declared.fault.BusFault.TheVariants.{Spent}
 use Rattle.atspi_bus.proofs.whole.leave_whole.Goals as goal
 
-pub part_with-requires : goal.part_with-requires
-part_with-requires c = record { sound = subst IsSound (sym (ap (λ (b : Bus). b.state) c.in_ok-after.ensures)) c.requires.sound }
+pub returns-in-Ok-false-clause-ok : goal.returns-in-Ok-false-clause-ok
+returns-in-Ok-false-clause-ok c =
+    let same = rw c.in-Ok-false.field-0-test at c.in-Ok-false.ensures.ok in
+    subst (λ (b : Bus). OnOk c.leave_on_copy.result (inner_of c.leave_on_copy.new.inner ≡ leaves b c.args.conn)) same c.leave_on_copy.ensures.ok
 
-pub returns-in-Ok-clause-ok : goal.returns-in-Ok-clause-ok
-returns-in-Ok-clause-ok c = c.in-Ok.ensures.ok ∙ ap (λ (b : Bus). leaves b c.args.conn) c.in_ok-after.ensures
-
-pub returns-in-Err-clause-spent : goal.returns-in-Err-clause-spent
-returns-in-Err-clause-spent c e =
-    subst (λ (x : Bus). 4294967296 < (leaves x c.args.conn).state.next) c.in_ok-after.ensures (c.in-Err.ensures.spent e)
+pub returns-in-Ok-false-clause-spent : goal.returns-in-Ok-false-clause-spent
+returns-in-Ok-false-clause-spent c =
+    let same = rw c.in-Ok-false.field-0-test at c.in-Ok-false.ensures.ok in
+    subst (λ (b : Bus). IsErrOf c.leave_on_copy.result Spent → 4294967296 < (leaves b c.args.conn).state.next) same c.leave_on_copy.ensures.spent
