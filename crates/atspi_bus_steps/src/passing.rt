@@ -1,24 +1,34 @@
 //! Messages that are passed on, and the calls that wait for their replies.
 
-ghost use Rattle.std.specs.Prelude.{◌≡◌, ◌≢◌, ◌+◌, ◌<◌, ◌≤◌, ◌==◌, ◌&&◌, [], ◌++◌, not, map, length, None, All, IfOk, OnOk, OnErr, IsErrOf, MatchBool, MatchOption, remove, vec_len, vec_capacity};
+ghost use Rattle.std.specs.Prelude.{◌≡◌, ◌≢◌, ◌+◌, ◌<◌, ◌≤◌, ◌==◌, ◌&&◌, ℕ, true, [], ◌∷◌, ◌++◌, not, map, length, None, Some, All, IfOk, OnOk, OnErr, IsErrOf, MatchBool, MatchOption, remove, vec_len, vec_capacity};
+ghost use Rattle.std.specs.List.Sorted.{IsStrictlyIncreasing};
+ghost use Rattle.atspi_types.specs.Names.{is_bus_name};
+ghost use Rattle.atspi_message.specs.Bytes.{written};
 ghost use Rattle.atspi_message.specs.Rules.{MeetsRules};
 ghost use Rattle.atspi_header.specs.View.{envelope_at};
+ghost use Rattle.atspi_names.specs.Queue.{owner_in};
+ghost use Rattle.atspi_names.specs.Owners.{list_of};
 ghost use Rattle.atspi_routing.specs.Routing as routing;
 ghost use Rattle.atspi_routing.specs.Routing.{calls_after, without_answered};
 ghost use Rattle.atspi_routing.specs.Queues.{stepped};
 ghost use Rattle.atspi_routing.specs.Steps.{passes_on, calls_after_all};
-ghost use Rattle.atspi_bus_steps.specs.Inner.{inner_of, state_of, call_of};
-ghost use Rattle.atspi_bus_steps.specs.Handing.{forwards};
+ghost use Rattle.atspi_bus_steps.specs.Inner.{inner_of, state_of, call_of, parts};
+ghost use Rattle.atspi_bus_steps.specs.Handing.{forwards, queued_each, WentToAll, WentSigned, IsPassed};
 ghost use Rattle.atspi_bus_steps.specs.Sound.{IsSound};
 
 use crate::BusFault;
 use crate::handing::{hand_out, write_again};
 use crate::inner::Inner;
 use crate::open_call::OpenCall;
-use crate::receiving::receivers;
+use crate::receiving::{bus_name, receivers};
 use crate::saying::expects_reply;
+use crate::taking::with_sender;
 use atspi_bus_answers::{BusError, Reply};
 use atspi_header::MessageRef;
+use atspi_match::RuleIndex;
+use atspi_names::Names;
+use atspi_queues::Queues;
+use std::alloc::Global;
 
 /// The place of the oldest open call that a reply of the callee to the caller answers.
 fn answered(calls: &[OpenCall], caller: u32, serial: u32, callee: u32) -> Option<usize>
@@ -74,6 +84,129 @@ fn note_all(calls: &mut Vec<OpenCall>, conn: u32, m: &MessageRef, receivers: &[u
     }
 }
 
+/// Hands a message of a connection to some receivers where each has room for it, and notes what it opens or ends. It answers whether each has
+/// room. Where one has none, and after a fault, all is as before.
+fn hand_to_each(
+    alloc: Global,
+    calls: &mut Vec<OpenCall>,
+    queues: &mut Queues,
+    conn: u32,
+    m: &MessageRef,
+    receivers: &[u32],
+) -> Result<bool, BusFault>
+    requires { MeetsRules (envelope_at m.now) }
+    ensures ok { IfOk result (λ went. MatchBool went
+        ((map call_of calls.new.items ≡ calls_after_all (map call_of calls.old.items) conn (envelope_at m.now) receivers.now)
+        × (queues.new ≡ record queues.old {
+          waiting = queued_each queues.old.quota queues.old.waiting (written (envelope_at m.now)) receivers.now;
+        }))
+        ((calls.new.items ≡ calls.old.items) × (queues.new ≡ queues.old))) }
+    ensures due { queues.new.waiting.due ≡ queues.old.waiting.due }
+    ensures spent { IsErrOf result BusFault.Spent → ⊥ }
+    ensures err { OnErr result ((calls.new.items ≡ calls.old.items) × (queues.new ≡ queues.old)) }
+{
+    let bytes = write_again(alloc, m)?;
+    calls.reserve(receivers.len())?;
+    let went = queues.push_each(receivers, bytes.as_slice())?;
+    if !went {
+        return Ok(false);
+    }
+    note_all(calls, conn, m, receivers);
+    Ok(true)
+}
+
+/// Hands a message of a connection to the owner of a name where it has one, with room for the message, and answers whether that is so. Where
+/// it is not, and after a fault, all is as before.
+fn pass_to_owner(
+    alloc: Global,
+    names: &Names,
+    calls: &mut Vec<OpenCall>,
+    queues: &mut Queues,
+    conn: u32,
+    m: &MessageRef,
+    name: &str,
+) -> Result<bool, BusFault>
+    requires name { is_bus_name name.now ≡ true }
+    requires meets { MeetsRules (envelope_at m.now) }
+    ensures ok { IfOk result (λ went. MatchBool went
+        ((owner : ℕ) × (owner_in (list_of names.now.lists name.now) ≡ Some owner)
+        × (map call_of calls.new.items ≡ calls_after_all (map call_of calls.old.items) conn (envelope_at m.now) (owner ∷ []))
+        × (queues.new ≡ record queues.old {
+          waiting = queued_each queues.old.quota queues.old.waiting (written (envelope_at m.now)) (owner ∷ []);
+        }))
+        ((calls.new.items ≡ calls.old.items) × (queues.new ≡ queues.old))) }
+    ensures due { queues.new.waiting.due ≡ queues.old.waiting.due }
+    ensures spent { IsErrOf result BusFault.Spent → ⊥ }
+    ensures err { OnErr result ((calls.new.items ≡ calls.old.items) × (queues.new ≡ queues.old)) }
+{
+    let name = bus_name(alloc, name)?;
+    match names.owner(&name) {
+        Some(owner) => hand_to_each(alloc, calls, queues, conn, m, &[owner]),
+        None => Ok(false),
+    }
+}
+
+/// Hands a message of a connection to all its receivers, where it goes to no name without an owner and each of them has room for it, and
+/// answers whether that is so. Where it is not, and after a fault, all is as before.
+fn pass_to_all(
+    alloc: Global,
+    joined: &[u32],
+    names: &Names,
+    rules: &RuleIndex,
+    calls: &mut Vec<OpenCall>,
+    queues: &mut Queues,
+    conn: u32,
+    m: &MessageRef,
+) -> Result<bool, BusFault>
+    requires joined { IsStrictlyIncreasing joined.now }
+    requires meets { MeetsRules (envelope_at m.now) }
+    ensures ok { IfOk result (λ went. MatchBool went
+        (WentToAll (parts joined.now names.now rules.now) conn (envelope_at m.now) (map call_of calls.old.items) (map call_of calls.new.items)
+        queues.old queues.new)
+        ((calls.new.items ≡ calls.old.items) × (queues.new ≡ queues.old))) }
+    ensures due { queues.new.waiting.due ≡ queues.old.waiting.due }
+    ensures spent { IsErrOf result BusFault.Spent → ⊥ }
+    ensures err { OnErr result ((calls.new.items ≡ calls.old.items) × (queues.new ≡ queues.old)) }
+{
+    match m.destination {
+        Some(text) => pass_to_owner(alloc, names, calls, queues, conn, m, text),
+        None => {
+            let found = receivers(alloc, joined, names, rules, m)?;
+            hand_to_each(alloc, calls, queues, conn, m, &found)
+        }
+    }
+}
+
+/// Does the same with a message that has no sender yet, where its connection has its name.
+fn pass_signed(
+    alloc: Global,
+    joined: &[u32],
+    names: &Names,
+    rules: &RuleIndex,
+    calls: &mut Vec<OpenCall>,
+    queues: &mut Queues,
+    conn: u32,
+    m: &MessageRef,
+) -> Result<bool, BusFault>
+    requires joined { IsStrictlyIncreasing joined.now }
+    requires meets { MeetsRules (envelope_at m.now) }
+    ensures ok { IfOk result (λ went. MatchBool went
+        (WentSigned (parts joined.now names.now rules.now) conn (envelope_at m.now) (map call_of calls.old.items) (map call_of calls.new.items)
+        queues.old queues.new)
+        ((calls.new.items ≡ calls.old.items) × (queues.new ≡ queues.old))) }
+    ensures due { queues.new.waiting.due ≡ queues.old.waiting.due }
+    ensures spent { IsErrOf result BusFault.Spent → ⊥ }
+    ensures err { OnErr result ((calls.new.items ≡ calls.old.items) × (queues.new ≡ queues.old)) }
+{
+    match names.unique_name(conn) {
+        Some(name) => {
+            let signed = with_sender(m, name);
+            pass_to_all(alloc, joined, names, rules, calls, queues, conn, &signed)
+        }
+        None => Ok(false),
+    }
+}
+
 impl Inner {
     /// Hands a message of a connection to its receivers, and notes what it opens or ends.
     fn forward(&mut self, conn: u32, m: &MessageRef, receivers: &[u32]) -> Result<(), BusFault>
@@ -87,33 +220,6 @@ impl Inner {
         hand_out(&mut self.queues, bytes.as_slice(), receivers)?;
         note_all(&mut self.calls, conn, m, receivers);
         Ok(())
-    }
-
-    /// Does the same where each receiver has room for the message, and answers whether each has. Where one has none, and after a fault,
-    /// all is as before.
-    fn forward_in_place(
-        &mut self,
-        conn: u32,
-        m: &MessageRef,
-        receivers: &[u32],
-    ) -> Result<bool, BusFault>
-        requires meets { MeetsRules (envelope_at m.now) }
-        requires receivers { receivers.now ≡ routing.receivers (state_of self.old) (envelope_at m.now) }
-        ensures ok { IfOk result (λ went. MatchBool went
-            (inner_of self.new ≡ stepped (inner_of self.old) (forwards (state_of self.old) conn (envelope_at m.now)))
-            (inner_of self.new ≡ inner_of self.old)) }
-        ensures due { (inner_of self.new).waiting.due ≡ (inner_of self.old).waiting.due }
-        ensures spent { IsErrOf result BusFault.Spent → ⊥ }
-        ensures err { OnErr result (inner_of self.new ≡ inner_of self.old) }
-    {
-        let bytes = write_again(self.alloc, m)?;
-        self.calls.reserve(receivers.len())?;
-        let went = self.queues.push_each(receivers, bytes.as_slice())?;
-        if !went {
-            return Ok(false);
-        }
-        note_all(&mut self.calls, conn, m, receivers);
-        Ok(true)
     }
 
     /// Passes a message on that is not for the bus itself. A call to a name that nobody owns is refused, anything else to it is dropped.
@@ -133,13 +239,13 @@ impl Inner {
         self.forward(conn, m, &found)
     }
 
-    /// Passes a message on in place, where it goes to no name without an owner and each receiver has room for it, and answers whether that
-    /// is so. Where it is not, and after a fault, all is as before.
+    /// Passes a message of a connection on in place, with its sender, where the connection has its name, the message goes to no name without an
+    /// owner, and each receiver has room for it. It answers whether that is so. Where it is not, and after a fault, all is as before.
     pub fn pass_in_place(&mut self, conn: u32, m: &MessageRef) -> Result<bool, BusFault>
         requires sound { IsSound (state_of self.old) }
         requires meets { MeetsRules (envelope_at m.now) }
         ensures ok { IfOk result (λ went. MatchBool went
-            (inner_of self.new ≡ stepped (inner_of self.old) (passes_on (state_of self.old) conn (envelope_at m.now)))
+            (IsPassed (inner_of self.old) (inner_of self.new) conn (envelope_at m.now))
             (inner_of self.new ≡ inner_of self.old)) }
         ensures sound { IsSound (state_of self.new) }
         ensures due { (inner_of self.new).waiting.due ≡ (inner_of self.old).waiting.due }
@@ -147,10 +253,16 @@ impl Inner {
         ensures err { OnErr result (inner_of self.new ≡ inner_of self.old) }
     {
         let (names, rules) = (&self.names, &self.rules);
-        let found = receivers(self.alloc, &self.joined, names, rules, m)?;
-        if m.destination.is_some() && found.is_empty() {
-            return Ok(false);
-        }
-        self.forward_in_place(conn, m, &found)
+        let (calls, queues) = (&mut self.calls, &mut self.queues);
+        pass_signed(
+            self.alloc,
+            &self.joined,
+            names,
+            rules,
+            calls,
+            queues,
+            conn,
+            m,
+        )
     }
 }

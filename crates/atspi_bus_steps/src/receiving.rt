@@ -74,7 +74,7 @@ fn owner_of(alloc: Global, names: &Names, name: &BusName) -> Result<Vec<u32>, No
 }
 
 /// The bus name that the text is.
-fn bus_name(alloc: Global, text: &str) -> Result<BusName, NoMemory>
+pub fn bus_name(alloc: Global, text: &str) -> Result<BusName, NoMemory>
     requires { is_bus_name text.now ≡ true }
     ensures { IfOk result (λ name. name ≡ text.now) }
 {

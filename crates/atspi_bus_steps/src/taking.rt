@@ -73,7 +73,7 @@ pub fn is_for_bus(m: &MessageRef) -> bool
 }
 
 /// A message with its sender.
-fn with_sender<'a>(m: &MessageRef<'a>, name: &'a BusName) -> MessageRef<'a>
+pub fn with_sender<'a>(m: &MessageRef<'a>, name: &'a BusName) -> MessageRef<'a>
     ensures { envelope_at result ≡ record (envelope_at m.now) { sender = Some name.now } }
 {
     MessageRef {
@@ -153,22 +153,6 @@ impl Inner {
         }
     }
 
-    /// A message of a connection with this unique name that is not for the bus is passed on in place, where it goes to no name without an owner
-    /// and each receiver has room for it. It answers whether that is so. Where it is not, and after a fault, all is as before.
-    fn pass_from(&mut self, conn: u32, name: &BusName, m: &MessageRef) -> Result<bool, BusFault>
-        requires sound { IsSound (state_of self.old) }
-        requires meets { MeetsRules (envelope_at m.now) }
-        ensures ok { IfOk result (λ went. MatchBool went
-            (inner_of self.new ≡ stepped (inner_of self.old) (steps.passes_on (state_of self.old) conn (record (envelope_at m.now) { sender = Some name.now })))
-            (inner_of self.new ≡ inner_of self.old)) }
-        ensures sound { IsSound (state_of self.new) }
-        ensures due { (inner_of self.new).waiting.due ≡ (inner_of self.old).waiting.due }
-        ensures spent { IsErrOf result BusFault.Spent → ⊥ }
-        ensures err { OnErr result (inner_of self.new ≡ inner_of self.old) }
-    {
-        self.pass_in_place(conn, &with_sender(m, name))
-    }
-
     /// The bus takes a message of a connection in place: one that is passed on, while nobody is to be closed and each receiver has room for
     /// it. It answers whether that is so. Where it is not, and after a fault, all is as before.
     pub fn take_in_place(&mut self, conn: u32, m: &MessageRef) -> Result<bool, BusFault>
@@ -188,13 +172,7 @@ impl Inner {
         if is_for_bus(m) {
             return Ok(false);
         }
-        match self.names.unique_name(conn) {
-            Some(name) => {
-                let name = name.copy(self.alloc)?;
-                self.pass_from(conn, &name, m)
-            }
-            None => Ok(false),
-        }
+        self.pass_in_place(conn, m)
     }
 
     /// The bus takes a message of a connection. After a fault it is a bus of which nothing is known.
