@@ -3,3 +3,4 @@ pub mod MovedLemmas
 pub mod LineLemmas
 pub mod TalkLemmas
 pub mod StepLemmas
+pub mod RoundLemmas

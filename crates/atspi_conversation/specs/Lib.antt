@@ -1,4 +1,5 @@
 pub mod Sent
 pub mod Moved
 pub mod Speech
+pub mod Rounds
 pub mod Talking

@@ -3,7 +3,9 @@
 ghost use Rattle.std.specs.Prelude.{◌≡◌, ◌<◌, ◌≤◌, ◌+◌, ◌^◌, ℕ, List, [], Err, length, IfErr, MatchResult, OnOk};
 ghost use Rattle.atspi_base.specs.Outside.{Rose};
 ghost use Rattle.atspi_host.specs.Calls.{IsOpen};
+ghost use Rattle.atspi_host.specs.declared.call.Did.{Did};
 ghost use Rattle.atspi_conversation.specs.Moved.{Grows, Tells};
+ghost use Rattle.atspi_conversation.specs.Rounds.{Breaks, IsRead, IsRound, IsRun, IsWrite, Makes, MayWrite};
 ghost use Rattle.atspi_conversation.specs.Speech.{Ends, Speaks};
 ghost use Rattle.atspi_conversation.specs.declared.ending.Ending.{Ending};
 ghost use Rattle.atspi_conversation.specs.Talking.{Blames, GivesPart, Going, IsEnded, MaySpeak, heard_in};
@@ -36,6 +38,7 @@ fn take_in<H: Host, E: BusEnd>(
         → IsEnded (E.Stands aside) E.IsSpent link ending rounds (H.calls host.new)) }
     ensures may { OnOk result (MaySpeak E.Stands end.new) }
     ensures few { OnOk result (heard_in conversation.new ≤ heard_in conversation.old + length piece.old) }
+    ensures made { MatchResult result (λ _. Makes (H.calls host.old) (H.calls host.new) (IsRead link (length piece.old))) (λ ending. Makes (H.calls host.old) (H.calls host.new) (Breaks link (length piece.old) ending)) }
     ensures grows { Grows link (H.calls host.old) (H.calls host.new) }
     ensures still { result ≡ Err Ending.PeerEnded → end.new ≡ end.old }
     ensures links { H.links host.new ≡ H.links host.old }
@@ -53,6 +56,7 @@ fn take_in<H: Host, E: BusEnd>(
 /// One write, where bytes wait.
 fn give<H: Host>(host: &mut H, link: u32, unsent: &mut Unsent) -> Result<(), Failed>
     requires { IsOpen link (H.links host.old) }
+    ensures made { MatchResult result (λ _. Makes (H.calls host.old) (H.calls host.new) (MayWrite link)) (λ _. Makes (H.calls host.old) (H.calls host.new) (IsWrite link Did.Failed)) }
     ensures gives { GivesPart link (H.calls host.old) (H.calls host.new) unsent.old unsent.new }
     ensures links { H.links host.new ≡ H.links host.old }
     ensures cause { MatchResult result (λ _. H.link_faults host.new ≡ H.link_faults host.old) (λ _. (H.link_faults host.old ≤ H.link_faults host.new) × Rose (H.link_faults host.old) (H.link_faults host.new)) }
@@ -90,6 +94,7 @@ pub fn round<H: Host, E: BusEnd>(
         → IsEnded (E.Stands aside) E.IsSpent link ending rounds (H.calls host.new)) }
     ensures may { OnOk result (MaySpeak E.Stands end.new) }
     ensures few { OnOk result (heard_in conversation.new ≤ heard_in conversation.old + length piece.old) }
+    ensures made { MatchResult result (λ _. Makes (H.calls host.old) (H.calls host.new) (IsRound link (length piece.old))) (λ ending. Makes (H.calls host.old) (H.calls host.new) (Breaks link (length piece.old) ending)) }
     ensures grows { Grows link (H.calls host.old) (H.calls host.new) }
     ensures still { result ≡ Err Ending.PeerEnded → end.new ≡ end.old }
     ensures links { H.links host.new ≡ H.links host.old }
@@ -127,6 +132,7 @@ pub fn converse<H: Host, E: BusEnd>(
     requires begins { E.Stands [] end.old [] [] }
     ensures speech { Speaks (E.Stands []) link (H.calls host.new) }
     ensures ends { Ends (E.Stands []) E.IsSpent link result rounds (H.calls host.new) }
+    ensures rounds { Makes (H.calls host.old) (H.calls host.new) (IsRun link 4096 result rounds) }
     ensures links { H.links host.new ≡ H.links host.old }
     ensures cause { Blames result (H.link_faults host.old) (H.link_faults host.new) }
     ensures other { H.faults host.new ≡ H.faults host.old }

@@ -9,12 +9,13 @@ use Rattle.atspi_host.specs.declared.call.Call.{Call}
 use Rattle.atspi_host.specs.declared.call.Call.TheVariants.{Connect}
 use Rattle.atspi_host.specs.Calls.{Adds, Counts, IsOpen, Opens, taken, given}
 use Rattle.atspi_conversation.specs.Moved.{Tells, reads}
+use Rattle.atspi_conversation.specs.Rounds.{IsRun, Makes}
 use Rattle.atspi_conversation.specs.Speech.{IsSpeech, IsSpentBy, Speaks, Ends, EndsBy}
 use Rattle.atspi_conversation.specs.Talking.{Blames}
 use Rattle.atspi_conversation.specs.declared.ending.Ending.{Ending}
 use Rattle.atspi_conversation.specs.declared.ending.Ending.TheVariants as endings
 use Rattle.atspi_live_registry.specs.Standing.{IsAfter, IsSpent}
-use Rattle.atspi_live_registry.specs.Runs.{AllSpeak, Begins, Causes, Reports, RunEnds, SinkBlamed}
+use Rattle.atspi_live_registry.specs.Runs.{AllSpeak, Begins, Causes, IsOnLink, Reports, RunEnds, SinkBlamed}
 use Rattle.atspi_live_registry.specs.declared.live_registry.LiveRegistry.{LiveRegistry}
 use Rattle.atspi_live_registry.proofs.Registering.{Stands'}
 
@@ -72,17 +73,24 @@ ends_on k rounds ending (Some cs) e = ends_by k rounds ending cs e
 pub none_speak : (ks : List ℕ) (calls : Option (List Call)) → ks ≡ [] → AllSpeak ks calls
 none_speak ks calls e = subst (λ (w : List ℕ). AllSpeak w calls) (sym e) tt
 
-pub none_ends : (ks : List ℕ) (status rounds : ℕ) (calls : Option (List Call)) (w : Option (List ℕ)) → ks ≡ [] → (status ≡ 7) ⊎ (status ≡ 5) → RunEnds ks status rounds calls w w
-none_ends ks status rounds calls w e s = subst (λ (x : List ℕ). RunEnds x status rounds calls w w) (sym e) (s, refl)
+pub none_ends : (path ks : List ℕ) (status rounds : ℕ) (calls : Option (List Call)) (w : Option (List ℕ)) → ks ≡ [] → (status ≡ 7) ⊎ (status ≡ 5) → RunEnds path ks status rounds calls w w
+none_ends path ks status rounds calls w e s = subst (λ (x : List ℕ). RunEnds path x status rounds calls w w) (sym e) (s, refl)
 
 -- where one link is
 pub one_speaks : (ks : List ℕ) (k : ℕ) (calls : Option (List Call)) → ks ≡ k ∷ [] → Speaks Stands' k calls → AllSpeak ks calls
 one_speaks ks k calls e s = subst (λ (w : List ℕ). AllSpeak w calls) (sym e) (speaks k calls s, tt)
 
-pub one_ends : (ks : List ℕ) (k status rounds : ℕ) (ending : Ending) (calls : Option (List Call)) (w w' : Option (List ℕ)) → ks ≡ k ∷ []
-    → Ends Stands' IsSpent' k ending rounds calls → Reports ending status w w' → RunEnds ks status rounds calls w w'
-one_ends ks k status rounds ending calls w w' e s r =
-    subst (λ (x : List ℕ). RunEnds x status rounds calls w w') (sym e) (record { ending = ending; ends = ends_on k rounds ending calls s; reports = r }, refl)
+pub one_ends : (path ks : List ℕ) (k status rounds : ℕ) (ending : Ending) (calls : Option (List Call)) (w w' : Option (List ℕ)) → ks ≡ k ∷ []
+    → Ends Stands' IsSpent' k ending rounds calls → IsOnLink path k calls (IsRun k 4096 ending rounds) → Reports ending status w w' → RunEnds path ks status rounds calls w w'
+one_ends path ks k status rounds ending calls w w' e s run r =
+    subst (λ (x : List ℕ). RunEnds path x status rounds calls w w') (sym e) (record { ending = ending; ends = ends_on k rounds ending calls s; run = run; reports = r }, refl)
+
+-- the calls behind a connect
+pub on_link : (path : List ℕ) (k : ℕ) (old mid new : Option (List Call)) (P : List Call → Type 0) → Begins old → Adds old mid (Connect path (Done k)) → Makes mid new P → IsOnLink path k new P
+on_link path k old mid None P b a m = tt
+on_link path k old None (Some ds) P b a m = absurd m
+on_link path k None (Some cs) (Some ds) P b a m = absurd a
+on_link path k (Some bs) (Some cs) (Some ds) P b a m = (m.0, m.1, m.2 ∙ ap (λ (w : List Call). w ++ m.0) (a ∙ ap (λ (w : List Call). w ++ Connect path (Done k) ∷ []) b))
 
 -- the link that a connect gives is the one that is open, and nothing passed on it
 pub connected : (old new : List ℕ) (k : ℕ) → old ≡ [] → Opens old new (Done k) → new ≡ k ∷ []

@@ -3,7 +3,10 @@ use Rattle.std.specs.Prelude.{◌≡◌, ◌⊎◌, ℕ, List, [], ◌∷◌, Op
 use Rattle.std.specs.Io.KnownBytes.{Appends}
 use Rattle.atspi_base.specs.Outside.{AppendsPart, Rose}
 use Rattle.atspi_host.specs.declared.call.Call.{Call}
+use Rattle.atspi_host.specs.declared.call.Call.TheVariants.{Connect}
+use Rattle.atspi_host.specs.declared.call.Did.TheVariants.{Done}
 use Rattle.atspi_check.specs.Check.{fault_line}
+use Rattle.atspi_conversation.specs.Rounds.{IsRun}
 use Rattle.atspi_conversation.specs.Speech.{Speaks, Ends}
 use Rattle.atspi_conversation.specs.declared.ending.Ending.{Ending}
 use Rattle.atspi_conversation.specs.declared.ending.Ending.TheVariants as endings
@@ -13,6 +16,11 @@ use Rattle.atspi_live_registry.specs.Standing.{IsAfter, IsSpent}
 abbrev pub Begins : Option (List Call) → Type 0
 Begins None = ⊤
 Begins (Some cs) = cs ≡ []
+
+-- where the host tells its calls: the link was connected at the path, and behind that such calls were made
+abbrev pub IsOnLink : List ℕ → ℕ → Option (List Call) → (List Call → Type 0) → Type 0
+IsOnLink path k None P = ⊤
+IsOnLink path k (Some cs) P = (calls : List Call) × P calls × (cs ≡ Connect path (Done k) ∷ calls)
 
 -- what was given on each link that is open is a front of what the registry says for what was taken there
 abbrev pub AllSpeak : List ℕ → Option (List Call) → Type 0
@@ -37,16 +45,17 @@ Reports endings.RoundsDone = Quietly 8
 Reports endings.NotAuthenticated = Quietly 10
 Reports endings.Spent = Quietly 13
 
--- a run on this link ended so
-pub record EndsOn (k status rounds : ℕ) (calls : Option (List Call)) (w w' : Option (List ℕ)) : Type 0 where
+-- a run on this link ended so, with its rounds
+pub record EndsOn (path : List ℕ) (k status rounds : ℕ) (calls : Option (List Call)) (w w' : Option (List ℕ)) : Type 0 where
   pub ending : Ending
   pub ends : Ends IsAfter IsSpent k ending rounds calls
+  pub run : IsOnLink path k calls (IsRun k 4096 ending rounds)
   pub reports : Reports ending status w w'
 
 -- a run ended so on the one link that is open; where there is none, it was not given: status 7, or memory was wanting before
-abbrev pub RunEnds : List ℕ → ℕ → ℕ → Option (List Call) → Option (List ℕ) → Option (List ℕ) → Type 0
-RunEnds [] status rounds calls w w' = ((status ≡ 7) ⊎ (status ≡ 5)) × (w' ≡ w)
-RunEnds (k ∷ ks) status rounds calls w w' = EndsOn k status rounds calls w w' × (ks ≡ [])
+abbrev pub RunEnds : List ℕ → List ℕ → ℕ → ℕ → Option (List Call) → Option (List ℕ) → Option (List ℕ) → Type 0
+RunEnds path [] status rounds calls w w' = ((status ≡ 7) ⊎ (status ≡ 5)) × (w' ≡ w)
+RunEnds path (k ∷ ks) status rounds calls w w' = EndsOn path k status rounds calls w w' × (ks ≡ [])
 
 -- which counts changed, by the status: 7 where one of the host's did, 4 where the sink's did
 pub record Causes (status faults faults' link_faults link_faults' sink sink' : ℕ) : Type 0 where

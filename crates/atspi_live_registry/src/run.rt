@@ -27,7 +27,7 @@ pub fn registry<K: Sink, H: Host>(
     requires calls { Begins (H.calls host.old) }
     requires links { H.links host.old ≡ [] }
     ensures speech { AllSpeak (H.links host.new) (H.calls host.new) }
-    ensures ends { RunEnds (H.links host.new) result rounds (H.calls host.new) (K.written sink.old) (K.written sink.new) }
+    ensures ends { RunEnds path.now (H.links host.new) result rounds (H.calls host.new) (K.written sink.old) (K.written sink.new) }
     ensures causes { Causes result (H.faults host.old) (H.faults host.new) (H.link_faults host.old) (H.link_faults host.new) (K.faults sink.old) (K.faults sink.new) }
 {
     let Ok(mut end) = start(alloc) else {

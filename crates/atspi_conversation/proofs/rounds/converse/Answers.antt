@@ -1,6 +1,8 @@
 use Rattle.std.proofs.Common.{◌≡◌, ℕ, List, [], refl, sym, subst, ◌∙◌, rules, arith}
 use Rattle.atspi_host.specs.Calls.{IsOpen}
 use Rattle.atspi_conversation.specs.Talking.{Blames}
+use Rattle.atspi_conversation.specs.Rounds.{AreRounds, IsRound, Breaks, Makes}
+use Rattle.atspi_conversation.proofs.RoundLemmas.{makes_none, rounds_more, run_broken, run_done}
 use Rattle.atspi_conversation.proofs.StepLemmas.{all_done, at_first, may_begin}
 use Rattle.atspi_conversation.proofs.rounds.converse.Goals as goal
 
@@ -8,6 +10,7 @@ pub rounds-init : goal.rounds-init
 rounds-init g c = record {
   going = at_first (g.E.BusEnd.Stands []) c.args.link (g.H.Host.calls c.args.host.now) c.new-conversation.result c.args.end.now c.requires.fresh
       c.new-conversation.ensures.client c.new-conversation.ensures.feeder c.new-conversation.ensures.unsent c.new-conversation.ensures.heard c.requires.begins;
+  made = makes_none (g.H.Host.calls c.args.host.now) (AreRounds c.args.link 4096 0) refl;
   may = may_begin g.E.BusEnd.Stands [] c.args.end.now c.requires.begins;
   few = omega (arith, c.new-conversation.ensures.heard);
   within = omega arith;
@@ -23,6 +26,8 @@ round-requires-clause-open g c = subst (λ (w : List ℕ). IsOpen c.args.link w)
 pub rounds-preserved : goal.rounds-preserved
 rounds-preserved g c = record {
   going = c.in-Ok.ensures.ok [] c.rounds.done c.rounds.invariant.going;
+  made = rounds_more c.args.link 4096 c.rounds.done (g.H.Host.calls c.args.host.now) (g.H.Host.calls c.rounds.host) (g.H.Host.calls c.round.new.host) c.rounds.invariant.made
+      (subst (λ (n : ℕ). Makes (g.H.Host.calls c.rounds.host) (g.H.Host.calls c.round.new.host) (IsRound c.args.link n)) c.rounds.invariant.piece c.in-Ok.ensures.made);
   may = c.in-Ok.ensures.may;
   few = omega (arith, c.in-Ok.ensures.few, c.rounds.invariant.few, c.rounds.invariant.piece);
   within = omega arith;
@@ -50,3 +55,12 @@ pub returns-clause-ends : goal.returns-clause-ends
 returns-clause-ends g c =
     let done : c.rounds.done ≡ c.args.rounds = omega arith in
     (all_done (g.E.BusEnd.Stands []) g.E.BusEnd.IsSpent c.args.link c.rounds.done c.args.rounds (g.H.Host.calls c.rounds.host) c.rounds.conversation c.rounds.end done c.rounds.invariant.going).1
+
+pub returns-in-Err-clause-rounds : goal.returns-in-Err-clause-rounds
+returns-in-Err-clause-rounds g c =
+    run_broken c.args.link 4096 c.rounds.done c.args.rounds c.in-Err.ending (g.H.Host.calls c.args.host.now) (g.H.Host.calls c.rounds.host) (g.H.Host.calls c.round.new.host) (omega arith) c.rounds.invariant.made
+    (subst (λ (n : ℕ). Makes (g.H.Host.calls c.rounds.host) (g.H.Host.calls c.round.new.host) (Breaks c.args.link n c.in-Err.ending)) c.rounds.invariant.piece c.in-Err.ensures.made)
+
+pub returns-clause-rounds : goal.returns-clause-rounds
+returns-clause-rounds g c =
+    run_done c.args.link 4096 c.rounds.done c.args.rounds (g.H.Host.calls c.args.host.now) (g.H.Host.calls c.rounds.host) (omega arith) c.rounds.invariant.made

@@ -1,5 +1,8 @@
-use Rattle.std.proofs.Common.{◌+◌, refl}
+use Rattle.std.proofs.Common.{◌+◌, length, refl, inl}
 use Rattle.atspi_conversation.proofs.MovedLemmas.{gives_grows, grows_both}
+use Rattle.atspi_conversation.specs.Rounds.{Breaks, IsRead}
+use Rattle.atspi_conversation.specs.declared.ending.Ending.TheVariants.{NoMemory}
+use Rattle.atspi_conversation.proofs.RoundLemmas.{makes_if, round_made, write_broke}
 use Rattle.atspi_conversation.proofs.StepLemmas.{gave, no_memory, write_failed}
 use Rattle.atspi_conversation.proofs.rounds.round.Goals as goal
 
@@ -27,3 +30,15 @@ pub returns-in-Err-give-clause-grows : goal.returns-in-Err-give-clause-grows
 returns-in-Err-give-clause-grows g c =
     grows_both c.args.link (g.H.Host.calls c.args.host.now) (g.H.Host.calls c.take_in.new.host) (g.H.Host.calls c.give.new.host) c.take_in.ensures.grows
     (gives_grows c.args.link (g.H.Host.calls c.take_in.new.host) (g.H.Host.calls c.give.new.host) c.give.ensures.gives.0 c.give.ensures.gives.1)
+
+pub returns-in_default-utter-clause-made : goal.returns-in_default-utter-clause-made
+returns-in_default-utter-clause-made g c =
+    makes_if (g.H.Host.calls c.args.host.now) (g.H.Host.calls c.take_in.new.host) (IsRead c.args.link (length c.args.piece.now)) (Breaks c.args.link (length c.args.piece.now) NoMemory) (λ calls. inl) c.in_default.ensures.made
+
+pub returns-in-Ok-give-clause-made : goal.returns-in-Ok-give-clause-made
+returns-in-Ok-give-clause-made g c =
+    round_made c.args.link (length c.args.piece.now) (g.H.Host.calls c.args.host.now) (g.H.Host.calls c.take_in.new.host) (g.H.Host.calls c.give.new.host) c.in_default.ensures.made c.in-Ok-give.ensures.made
+
+pub returns-in-Err-give-clause-made : goal.returns-in-Err-give-clause-made
+returns-in-Err-give-clause-made g c =
+    write_broke c.args.link (length c.args.piece.now) (g.H.Host.calls c.args.host.now) (g.H.Host.calls c.take_in.new.host) (g.H.Host.calls c.give.new.host) c.in_default.ensures.made c.in-Err-give.ensures.made
