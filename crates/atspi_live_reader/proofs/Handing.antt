@@ -1,6 +1,6 @@
 -- What a reader hands over, thing behind thing, and what it did from its start on.
-use Rattle.std.proofs.Common.{◌≡◌, ℕ, ◌<◌, Bool, true, List, [], ◌∷◌, ◌++◌, length, fold, Option, None, Some, refl, sym, ap, subst, ◌∙◌, inl, inr, append_assoc, append-nil, arith}
-use Rattle.std.specs.Prelude.{◌⊎◌, IfSome, IfNone, Result, Ok, Err, OnErr}
+use Rattle.std.proofs.Common.{◌≡◌, ℕ, ◌<◌, Bool, true, false, List, [], ◌∷◌, ◌++◌, length, fold, Option, None, Some, refl, sym, ap, subst, ◌∙◌, inl, inr, append_assoc, append-nil, arith}
+use Rattle.std.specs.Prelude.{◌⊎◌, is_some, IfSome, IfNone, Result, Ok, Err, OnErr}
 use Rattle.std.proofs.lemmas.List.{length-append}
 use Rattle.atspi_message.specs.Envelope.{Envelope}
 use Rattle.atspi_message.specs.Rules.{MeetsRules}
@@ -9,7 +9,7 @@ use Rattle.atspi_protocol.specs.following.Takes.{reader_takes, starts}
 use Rattle.atspi_conversation.specs.Sent.{AllMeet}
 use Rattle.atspi_reader.specs.Steps.{IsState}
 use Rattle.atspi_live_reader.specs.Spoken.{following, say_line, sent_in, spoken_in}
-use Rattle.atspi_live_reader.specs.Handed.{Follows, Gives, GivesSo, HandsAll, KeepsLine}
+use Rattle.atspi_live_reader.specs.Handed.{Follows, Gives, GivesRest, GivesSo, HandsAll, KeepsLine}
 use Rattle.atspi_live_reader.proofs.Framing.{put, takes_put}
 use Rattle.atspi_live_reader.proofs.Sending.{AllSent, all_meet, back_sent, front_sent, meets_in}
 
@@ -126,3 +126,31 @@ next_rests seen (Some m) r s a b u v state g = tt
 pub take_rests : {T X : Type 0} (o : Result T X) (r s : ReaderState) (a : Bool) (u : List ℕ) → OnErr o (s ≡ r) → OnErr o ((written : List ℕ) (took said : List Envelope) → Follows written r a u took said → Follows written s a u took said)
 take_rests (Ok x) r s a u e = tt
 take_rests (Err x) r s a u e = λ written took said f. subst (λ (t : ReaderState). Follows written t a u took said) (sym e) f
+
+-- a message, or none, and what was handed over before it
+pub some_handed : {M : Type 0} (seen : M → Envelope) (o : Option M) (r s : ReaderState) (a b : Bool) (u v : List ℕ) → HandsAll seen o r s a b u v → (messages : List Envelope) × GivesSo messages r s a b u v
+some_handed seen None r s a b u v g = ([], g)
+some_handed seen (Some m) r s a b u v g = (seen m ∷ [], g)
+
+pub none_left : {M : Type 0} (o : Option M) (some : Bool) (P : Type 0) → some ≡ is_some o → some ≡ false → IfNone o P → P
+none_left None some P s e p = p
+none_left (Some m) some P s e p = absurd (true_not (sym s ∙ e))
+  where
+    true_not : true ≡ false → ⊥
+    true_not h = cc
+
+pub all_handed : {M : Type 0} (o : Option M) (some : Bool) (P : Type 0) → some ≡ is_some o → some ≡ true → IfSome o (λ m. P) → P
+all_handed None some P s e p = absurd (false_not (sym s ∙ e))
+  where
+    false_not : false ≡ true → ⊥
+    false_not h = cc
+all_handed (Some m) some P s e p = p
+
+-- all that was left was handed over
+pub gives_rest : (ms : List Envelope) (r s : ReaderState) (a b : Bool) (u v : List ℕ) → GivesSo ms r s a b u v → s.out ≡ [] → GivesRest r s a b u v
+gives_rest ms r s a b u v g none =
+    let all : r.out ≡ g.done ++ s.out = out_of r s g.done g.gives.whole in
+    record {
+      whole = g.gives.whole ∙ ap (λ (w : List Done). record s { out = w }) (sym all);
+      kept = subst (λ (w : List Done). KeepsLine a b u v (spoken_in w)) (sym (all ∙ ap (λ (w : List Done). g.done ++ w) none ∙ append-nil g.done)) g.gives.kept;
+    }

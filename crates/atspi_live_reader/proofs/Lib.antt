@@ -3,3 +3,4 @@ pub mod Sending
 pub mod Handing
 pub mod Turning
 pub mod Running
+pub mod Shown

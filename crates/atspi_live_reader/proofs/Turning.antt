@@ -1,6 +1,6 @@
 -- A reader's turn: what was said, taken and written.
 use Rattle.std.proofs.Common.{◌≡◌, ℕ, ◌+◌, Bool, true, false, List, [], ◌∷◌, ◌++◌, Option, None, Some, refl, sym, ap, subst, ◌∙◌, inl, inr, append_assoc, append-nil}
-use Rattle.std.specs.Prelude.{◌⊎◌, Result, Ok, Err, IfErr, MatchResult}
+use Rattle.std.specs.Prelude.{◌⊎◌, ◌≤◌, ◌<◌, ◌==◌, Result, Ok, Err, IfErr, MatchResult, if◌then◌else◌}
 use Rattle.std.specs.Io.KnownBytes.{Appends}
 use Rattle.std.proofs.KnownBytes.{Appends-nil}
 use Rattle.atspi_auth.specs.Talk.{behind, client_start}
@@ -9,6 +9,9 @@ use Rattle.atspi_stream.specs.Stream.{IsParted}
 use Rattle.atspi_reader.specs.ReaderOf.{reader_of}
 use Rattle.atspi_protocol.specs.following.ReaderState.{ReaderState}
 use Rattle.atspi_host.specs.declared.call.Call.{Call}
+use Rattle.atspi_host.specs.declared.call.Call.TheVariants.{Read}
+use Rattle.atspi_host.specs.declared.call.Did.TheVariants.{End}
+use Rattle.atspi_host.specs.declared.call.Did.{Did}
 use Rattle.atspi_host.specs.Calls.{taken, given}
 use Rattle.atspi_conversation.specs.Moved.{Grows}
 use Rattle.atspi_conversation.specs.Speech.{Ends, EndsBy, IsSpeech, IsSpentBy, Speaks, envelopes}
@@ -21,7 +24,11 @@ use Rattle.atspi_conversation.proofs.TalkLemmas.{parted_later}
 use Rattle.atspi_reader.specs.Steps.{IsState}
 use Rattle.atspi_live_reader.specs.Spoken.{IsAfter, IsSpent, IsSpoken, following, spoken_in}
 use Rattle.atspi_live_reader.specs.Handed.{Follows}
-use Rattle.atspi_live_reader.specs.Following.{GoesOn, IsMuted, IsOver, IsQuiet, OverBlames, SpeaksOn, SpeaksUp, Stands}
+use Rattle.atspi_conversation.specs.Rounds.{AreRounds, Breaks, IsRound, Makes}
+use Rattle.atspi_conversation.specs.Moved.{Tells}
+use Rattle.atspi_conversation.proofs.MovedLemmas.{taken_append}
+use Rattle.atspi_conversation.proofs.RoundLemmas.{makes_if, rounds_more, run_broken}
+use Rattle.atspi_live_reader.specs.Following.{BreaksOver, GoesOn, IsLeft, IsMuted, IsOver, IsQuiet, IsStill, IsTaken, OverBlames, RunsOver, SpeaksOn, SpeaksUp, Stands, Stood}
 use Rattle.atspi_live_reader.specs.declared.live_reader.LiveReader.{LiveReader}
 use Rattle.atspi_live_reader.specs.declared.over.Over.{Over}
 use Rattle.atspi_live_reader.specs.declared.over.Over.TheVariants as overs
@@ -237,3 +244,72 @@ mute_blames overs.NotWritten l w w' before after e m = e
 pub if_match : {T X : Type 0} (r : Result T X) (P : T → Type 0) (R S : X → Type 0) → ((x : T) → P x) → ((x : X) → R x → S x) → IfErr r R → MatchResult r P S
 if_match (Ok x) P R S f h m = f x
 if_match (Err x) P R S f h m = h x m
+
+-- the calls of a turn whose lines were not written, of which the round is whole
+mute_breaks : (k most : ℕ) (over : Over) (l : LiveReader) (w w' : Option (List ℕ)) (calls : List Call) → IsMuted over l w w' → IsRound k most calls → BreaksOver k most over calls
+mute_breaks k most (overs.Ended ending) l w w' calls m r = subst (λ (x : Ending). Breaks k most x calls) (sym m.0) (inr r)
+mute_breaks k most overs.NotWritten l w w' calls m r = r
+
+pub mute_made : (k most : ℕ) (over : Over) (l : LiveReader) (w w' : Option (List ℕ)) (old new : Option (List Call)) → Makes old new (IsRound k most) → IsMuted over l w w' → Makes old new (BreaksOver k most over)
+mute_made k most over l w w' old new r m = makes_if old new (IsRound k most) (BreaksOver k most over) (λ calls. mute_breaks k most over l w w' calls m) r
+
+-- want of memory for a line is not the peer's end
+pub mute_not : {T : Type 0} (r : Result T Over) (l : LiveReader) (w w' : Option (List ℕ)) → IfErr r (λ over. IsMuted over l w w') → r ≡ Err (overs.Ended endings.PeerEnded) → ⊥
+mute_not r l w w' m e = by (rw e at m)
+  where
+    by : (endings.PeerEnded ≡ endings.NoMemory) × (w' ≡ w) → ⊥
+    by h = let x : endings.PeerEnded ≡ endings.NoMemory = h.0 in cc
+
+-- the peer ended in a turn
+abbrev ending_in : Result (Unit {0}) Over → Ending
+ending_in (Ok x) = endings.NoMemory
+ending_in (Err (overs.Ended ending)) = ending
+ending_in (Err overs.NotWritten) = endings.NoMemory
+
+pub same_ending : (ending : Ending) (r : Result (Unit {0}) Over) → r ≡ Err (overs.Ended ending) → r ≡ Err (overs.Ended endings.PeerEnded) → ending ≡ endings.PeerEnded
+same_ending ending r e f = ap ending_in (sym e ∙ f)
+
+pub turn_still : (k most : ℕ) (ending : Ending) (calls calls' : Option (List Call)) (old new : LiveReader) (w : Option (List ℕ)) → ending ≡ endings.PeerEnded → Makes calls calls' (Breaks k most ending) → new ≡ old → IsStill k most calls calls' old new w w
+turn_still k most ending calls calls' old new w e m s = record { made = subst (λ (x : Ending). Makes calls calls' (Breaks k most x)) e m; same = s; none = refl }
+
+-- a read that found the end took nothing
+abbrev none_either : Bool → List ℕ
+none_either b = if b then [] else []
+
+nothing : (b : Bool) → none_either b ≡ []
+nothing true = refl
+nothing false = refl
+
+still_taken : (k most : ℕ) (calls calls' : Option (List Call)) (t g : List ℕ) (dids : List Did) → Tells k calls t g dids → Makes calls calls' (Breaks k most endings.PeerEnded) → IsTaken k calls' t
+still_taken k most calls None t g dids tells m = tt
+still_taken k most None (Some ds) t g dids tells m = absurd m
+still_taken k most (Some cs) (Some ds) t g dids tells m =
+    ap (λ (w : List Call). taken k w) (m.2 ∙ ap (λ (w : List Call). cs ++ w) m.1) ∙ taken_append k cs (Read k [] End ∷ [])
+    ∙ ap (λ (w : List ℕ). taken k cs ++ (w ++ [])) (nothing (k == k)) ∙ append-nil (taken k cs) ∙ tells.0
+
+pub left_behind : (k most n : ℕ) (calls calls' : Option (List Call)) (c : Conversation) (old new : LiveReader) (written : List ℕ) (w mid w' : Option (List ℕ)) → Appends w mid written → Going (Stands written) k calls n c old → IsQuiet old
+    → IsStill k most calls calls' old new mid w' → IsLeft k calls' w w' new
+left_behind k most n calls calls' c old new written w mid w' a g q s =
+    let v = g.at_ease.converses in
+    record {
+      written = written;
+      wrote = subst (λ (x : Option (List ℕ)). Appends w x written) (sym s.none) a;
+      quiet = subst (λ (l : LiveReader). IsQuiet l) (sym s.same) q;
+      stood = subst (λ (l : LiveReader). Stood k calls' written l) (sym s.same)
+          (record { t = g.t; is_taken = still_taken k most calls calls' g.t g.g g.dids g.tells s.made; messages = v.messages; rest = c.feeder; parted = v.parted; awaits = g.at_ease.awaits; said = v.said; stands = v.end_stands });
+    }
+
+-- the calls of a run that is over
+pub over_made : (k n rounds : ℕ) (over : Over) (old mid new : Option (List Call)) → n < rounds → n + 1 ≤ rounds → Makes old mid (AreRounds k 4096 n) → Makes mid new (BreaksOver k 4096 over) → Makes old new (RunsOver k over rounds)
+over_made k n rounds (overs.Ended ending) old mid new few least a b = run_broken k 4096 n rounds ending old mid new few a b
+over_made k n rounds overs.NotWritten old mid new few least a b =
+    makes_if old new (AreRounds k 4096 (n + 1)) (RunsOver k overs.NotWritten rounds) (λ calls r. (n + 1, least, r)) (rounds_more k 4096 n old mid new a b)
+
+-- what was written of a reader whose peer has ended
+pub left_speaks : (k : ℕ) (calls : Option (List Call)) (w w' : Option (List ℕ)) (l : LiveReader) (left : IsLeft k calls w w' l) → SpeaksUp k calls left.written
+left_speaks k None w w' l left = tt
+left_speaks k (Some cs) w w' l left =
+    let s = left.stood in
+    subst (λ (t : List ℕ). IsSpoken t left.written) (sym s.is_taken)
+    (subst (λ (x : List ℕ). IsSpoken s.t x) (append-nil left.written)
+    (spoken s.t s.messages s.rest left.written [] [] (reader_of l.reader) l.starved l.lines s.said s.parted left.quiet.fed (sym left.quiet.none) s.stands))

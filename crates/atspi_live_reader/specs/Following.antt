@@ -6,7 +6,10 @@ use Rattle.atspi_message.specs.Envelope.{Envelope}
 use Rattle.atspi_reader.specs.ReaderOf.{reader_of}
 use Rattle.atspi_host.specs.declared.call.Call.{Call}
 use Rattle.atspi_host.specs.Calls.{taken}
-use Rattle.atspi_conversation.specs.Speech.{Ends, Speaks}
+use Rattle.atspi_auth.specs.Talk.{behind, client_start}
+use Rattle.atspi_stream.specs.Stream.{AwaitsMore, IsParted}
+use Rattle.atspi_conversation.specs.Rounds.{AreRounds, Breaks, IsRound, IsRun, Makes}
+use Rattle.atspi_conversation.specs.Speech.{Ends, Speaks, envelopes}
 use Rattle.atspi_conversation.specs.Talking.{Blames, Going}
 use Rattle.atspi_conversation.specs.declared.conversation.Conversation.{Conversation}
 use Rattle.atspi_conversation.specs.declared.ending.Ending.{Ending}
@@ -61,6 +64,45 @@ pub record IsOver (k : ℕ) (over : Over) (rounds : ℕ) (written : List ℕ) (c
   pub speaks : Speaks IsAfter k calls
   pub speaks_up : SpeaksUp k calls (written ++ line)
   pub so : IsEndedSo k over rounds calls
+
+-- where the host tells its calls, these bytes were taken of the link
+abbrev pub IsTaken : ℕ → Option (List Call) → List ℕ → Type 0
+IsTaken k None t = ⊤
+IsTaken k (Some cs) t = taken k cs ≡ t
+
+-- nothing of what was taken is at fault, and this is what a reader did for it that has written these bytes
+pub record Stood (k : ℕ) (calls : Option (List Call)) (written : List ℕ) (l : LiveReader) : Type 0 where
+  pub t : List ℕ
+  pub is_taken : IsTaken k calls t
+  pub messages : List (Envelope × List ℕ)
+  pub rest : List ℕ
+  pub parted : IsParted (behind client_start t) messages rest
+  pub awaits : AwaitsMore rest
+  pub said : List Envelope
+  pub stands : Stands written l (envelopes messages) said
+
+-- the peer ended: the reader is as it was behind the last round, and all that it was told to write till then was written
+pub record IsLeft (k : ℕ) (calls : Option (List Call)) (w w' : Option (List ℕ)) (l : LiveReader) : Type 0 where
+  pub written : List ℕ
+  pub wrote : Appends w w' written
+  pub quiet : IsQuiet l
+  pub stood : Stood k calls written l
+
+-- a turn in which the peer ended: nothing was taken, done or written
+pub record IsStill (k most : ℕ) (calls calls' : Option (List Call)) (old new : LiveReader) (w w' : Option (List ℕ)) : Type 0 where
+  pub made : Makes calls calls' (Breaks k most endings.PeerEnded)
+  pub same : new ≡ old
+  pub none : w' ≡ w
+
+-- the calls of a turn that ended the run
+abbrev pub BreaksOver : ℕ → ℕ → Over → List Call → Type 0
+BreaksOver k most (overs.Ended ending) calls = Breaks k most ending calls
+BreaksOver k most overs.NotWritten calls = IsRound k most calls
+
+-- the calls of a run that is over so: whole rounds, and the one in which it ended; where the sink failed, whole rounds alone
+abbrev pub RunsOver : ℕ → Over → ℕ → List Call → Type 0
+RunsOver k (overs.Ended ending) rounds calls = IsRun k 4096 ending rounds calls
+RunsOver k overs.NotWritten rounds calls = (whole : ℕ) × (whole ≤ rounds) × AreRounds k 4096 whole calls
 
 -- the counts of the host and of the sink: each rose where it failed, and else is the same
 abbrev pub OverBlames : Over → ℕ → ℕ → Type 0

@@ -32,6 +32,11 @@ abbrev pub HandsAll : {M : Type 0} → (M → Envelope) → Option M → ReaderS
 HandsAll seen None old new starved starved' lines lines' = GivesSo [] old new starved starved' lines lines'
 HandsAll seen (Some m) old new starved starved' lines lines' = GivesSo (seen m ∷ []) old new starved starved' lines lines'
 
+-- all that it did was handed over, and nothing else changed
+pub record GivesRest (old new : ReaderState) (starved starved' : Bool) (lines lines' : List ℕ) : Type 0 where
+  pub whole : old ≡ record new { out = old.out }
+  pub kept : KeepsLine starved starved' lines lines' (spoken_in old.out)
+
 -- From its start on a reader took these messages and handed out those; with the lines that are to be written the bytes that were written are
 -- all that it spoke, or memory was wanting for a line.
 pub record Follows (written : List ℕ) (r : ReaderState) (starved : Bool) (lines : List ℕ) (took said : List Envelope) : Type 0 where

@@ -1,4 +1,5 @@
 pub mod Spoken
+pub mod Shows
 pub mod Handed
 pub mod Following
 pub mod Runs

@@ -1,11 +1,19 @@
 -- What a run of the live reader does, and how it ends.
-use Rattle.std.specs.Prelude.{◌≡◌, ◌⊎◌, ℕ, List, [], ◌∷◌, Option, ⊤}
+use Rattle.std.specs.Prelude.{◌≡◌, ◌≤◌, ◌⊎◌, ℕ, List, [], ◌∷◌, ◌++◌, Option, None, Some, ⊤}
 use Rattle.std.specs.Io.KnownBytes.{Appends}
+use Rattle.atspi_auth.specs.Talk.{behind, client_start}
+use Rattle.atspi_base.specs.Outside.{AppendsPart}
+use Rattle.atspi_message.specs.Envelope.{Envelope}
+use Rattle.atspi_stream.specs.Stream.{AwaitsMore, IsParted}
+use Rattle.atspi_host.specs.Calls.{taken}
 use Rattle.atspi_host.specs.declared.call.Call.{Call}
-use Rattle.atspi_conversation.specs.Speech.{Speaks, Ends}
+use Rattle.atspi_conversation.specs.Rounds.{AreRounds, IsRun}
+use Rattle.atspi_conversation.specs.Speech.{Speaks, Ends, envelopes}
 use Rattle.atspi_conversation.specs.declared.ending.Ending.{Ending}
-use Rattle.atspi_live_registry.specs.Runs.{Reports}
-use Rattle.atspi_live_reader.specs.Spoken.{IsAfter, IsSpent}
+use Rattle.atspi_conversation.specs.declared.ending.Ending.TheVariants as endings
+use Rattle.atspi_live_registry.specs.Runs.{IsOnLink, Reports}
+use Rattle.atspi_live_reader.specs.Spoken.{IsAfter, IsSpent, following, spoken_in}
+use Rattle.atspi_live_reader.specs.Shows.{shown_in}
 use Rattle.atspi_live_reader.specs.Following.{SpeaksUp}
 
 -- what was given on each link that is open is a front of what the reader says for what was taken there
@@ -13,21 +21,62 @@ abbrev pub AllSpeak : List ℕ → Option (List Call) → Type 0
 AllSpeak [] calls = ⊤
 AllSpeak (k ∷ ks) calls = Speaks IsAfter k calls × AllSpeak ks calls
 
--- a run ended so, and its status and what is written behind the spoken lines tell it
-pub record EndsSo (k status rounds : ℕ) (calls : Option (List Call)) (w w' : Option (List ℕ)) : Type 0 where
+-- All lines that a reader speaks for the bytes that were taken, and then the rows of each application that it holds: behind whole messages more is awaited.
+pub record IsAll (t w : List ℕ) : Type 0 where
+  pub messages : List (Envelope × List ℕ)
+  pub rest : List ℕ
+  pub parted : IsParted (behind client_start t) messages rest
+  pub awaits : AwaitsMore rest
+  pub all : w ≡ spoken_in (following (envelopes messages)).out ++ shown_in (following (envelopes messages))
+
+-- the same of what a host tells of a link
+abbrev pub TellsAll : ℕ → Option (List Call) → List ℕ → Type 0
+TellsAll k None w = ⊤
+TellsAll k (Some cs) w = IsAll (taken k cs) w
+
+-- the last words were written: status 0; or a front of them, where the sink failed or memory was wanting
+abbrev pub WritesLast : List ℕ → ℕ → Option (List ℕ) → Option (List ℕ) → Type 0
+WritesLast words status w w' = ((status ≡ 0) × Appends w w' words) ⊎ (((status ≡ 4) ⊎ (status ≡ 5)) × AppendsPart w w' words)
+
+-- the status that tells how a run ended, and what is written then: the last words where the peer ended
+abbrev pub ReportsLast : List ℕ → Ending → ℕ → Option (List ℕ) → Option (List ℕ) → Type 0
+ReportsLast words endings.PeerEnded status w w' = WritesLast words status w w'
+ReportsLast words endings.RoundsDone status w w' = Reports endings.RoundsDone status w w'
+ReportsLast words endings.HostFailed status w w' = Reports endings.HostFailed status w w'
+ReportsLast words endings.NotAuthenticated status w w' = Reports endings.NotAuthenticated status w w'
+ReportsLast words (endings.Malformed start fault) status w w' = Reports (endings.Malformed start fault) status w w'
+ReportsLast words endings.Spent status w w' = Reports endings.Spent status w w'
+ReportsLast words endings.NoMemory status w w' = Reports endings.NoMemory status w w'
+
+-- where the peer ended, the last words are what is left behind the lines that were written before of all that is written
+abbrev pub AreLast : ℕ → Option (List Call) → List ℕ → List ℕ → Ending → Type 0
+AreLast k calls spoken words endings.PeerEnded = TellsAll k calls (spoken ++ words)
+AreLast k calls spoken words ending = ⊤
+
+-- a run ended so: its calls are rounds, and its status and what is written behind the spoken lines tell it
+pub record EndsSo (path : List ℕ) (k status rounds : ℕ) (spoken : List ℕ) (calls : Option (List Call)) (w w' : Option (List ℕ)) : Type 0 where
   pub ending : Ending
   pub ends : Ends IsAfter IsSpent k ending rounds calls
-  pub reports : Reports ending status w w'
+  pub run : IsOnLink path k calls (IsRun k 4096 ending rounds)
+  pub words : List ℕ
+  pub last : AreLast k calls spoken words ending
+  pub reports : ReportsLast words ending status w w'
 
--- the spoken lines were written, and then the run ended so; or the sink failed
-pub record EndsOn (k status rounds : ℕ) (calls : Option (List Call)) (w w' : Option (List ℕ)) : Type 0 where
+-- the sink failed behind whole rounds
+pub record IsCutOff (path : List ℕ) (k status rounds : ℕ) (calls : Option (List Call)) (w w' : Option (List ℕ)) : Type 0 where
+  pub status_is : status ≡ 4
+  pub none : w' ≡ w
+  pub run : IsOnLink path k calls (λ calls. (whole : ℕ) × (whole ≤ rounds) × AreRounds k 4096 whole calls)
+
+-- spoken lines were written, and then the run ended so; or the sink failed
+pub record EndsOn (path : List ℕ) (k status rounds : ℕ) (calls : Option (List Call)) (w w' : Option (List ℕ)) : Type 0 where
   pub spoken : List ℕ
   pub speaks_up : SpeaksUp k calls spoken
   pub mid : Option (List ℕ)
   pub wrote : Appends w mid spoken
-  pub so : EndsSo k status rounds calls mid w' ⊎ ((status ≡ 4) × (w' ≡ mid))
+  pub so : EndsSo path k status rounds spoken calls mid w' ⊎ IsCutOff path k status rounds calls mid w'
 
 -- a run ended so on the one link that is open; where there is none, it was not given: status 7, or memory was wanting before
-abbrev pub RunEnds : List ℕ → ℕ → ℕ → Option (List Call) → Option (List ℕ) → Option (List ℕ) → Type 0
-RunEnds [] status rounds calls w w' = ((status ≡ 7) ⊎ (status ≡ 5)) × (w' ≡ w)
-RunEnds (k ∷ ks) status rounds calls w w' = EndsOn k status rounds calls w w' × (ks ≡ [])
+abbrev pub RunEnds : List ℕ → List ℕ → ℕ → ℕ → Option (List Call) → Option (List ℕ) → Option (List ℕ) → Type 0
+RunEnds path [] status rounds calls w w' = ((status ≡ 7) ⊎ (status ≡ 5)) × (w' ≡ w)
+RunEnds path (k ∷ ks) status rounds calls w w' = EndsOn path k status rounds calls w w' × (ks ≡ [])

@@ -6,6 +6,7 @@ mod handed;
 mod live_reader;
 mod over;
 mod run;
+mod showing;
 mod speaking;
 
 pub use run::read;

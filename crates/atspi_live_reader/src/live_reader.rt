@@ -1,13 +1,15 @@
 //! The reader as an end that converses, with the lines that it speaks.
 
-ghost use Rattle.std.specs.Prelude.{◌≡◌, [], false, length, IfOk};
+ghost use Rattle.std.specs.Prelude.{◌≡◌, [], false, length, IfOk, OnOk};
 ghost use Rattle.atspi_reader.specs.ReaderOf.{IsReader, reader_of};
 ghost use Rattle.atspi_protocol.specs.following.ReaderState.{begins};
 ghost use Rattle.atspi_protocol.specs.following.Takes.{starts};
 ghost use Rattle.atspi_live_reader.specs.Spoken as spoken;
 ghost use Rattle.atspi_live_reader.specs.Handed.{Follows};
+ghost use Rattle.atspi_live_reader.specs.Shows.{last_words};
 
-use crate::speaking::next_message;
+use crate::showing::put_views;
+use crate::speaking::{next_message, take_rest};
 use atspi_base::{Bytes, NoMemory};
 use atspi_conversation::BusEnd;
 use atspi_header::MessageRef;
@@ -44,6 +46,23 @@ pub(crate) fn start(alloc: Global) -> Result<LiveReader, NoMemory>
         lines: Bytes::new(alloc),
         starved: false,
     })
+}
+
+impl LiveReader {
+    /// Where no line is to be written: keeps what is left to be written at the end, the lines of what was spoken last and then what is held of each
+    /// application.
+    pub(crate) fn conclude(&mut self, alloc: Global) -> Result<(), NoMemory>
+        requires is { IsReader self.old.reader }
+        requires fed { self.old.starved ≡ false }
+        requires none { self.old.lines ≡ [] }
+        ensures { OnOk result (self.new.lines ≡ last_words (reader_of self.old.reader)) }
+    {
+        take_rest(&mut self.reader, &mut self.lines, &mut self.starved);
+        if self.starved {
+            return Err(NoMemory);
+        }
+        put_views(alloc, &self.reader, &mut self.lines)
+    }
 }
 
 impl BusEnd for LiveReader {

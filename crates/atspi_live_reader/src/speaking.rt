@@ -1,10 +1,11 @@
 //! What a reader does, one thing after another, as messages for the link and lines for the output.
 
-ghost use Rattle.std.specs.Prelude.{◌≡◌, ◌<◌, ◌++◌, length, IfSome, OnOk};
-ghost use Rattle.atspi_message.specs.Envelope.{envelope_of};
+ghost use Rattle.std.specs.Prelude.{◌≡◌, ◌<◌, ◌++◌, List, [], false, length, IfNone, IfSome, IsTrue, OnOk};
+ghost use Rattle.atspi_message.specs.Envelope.{Envelope, envelope_of};
 ghost use Rattle.atspi_reader.specs.ReaderOf.{IsReader, reader_of};
 ghost use Rattle.atspi_live_reader.specs.Spoken.{say_line};
-ghost use Rattle.atspi_live_reader.specs.Handed.{HandsAll, HandsOver, KeepsLine};
+ghost use Rattle.atspi_live_reader.specs.Handed.{GivesRest, GivesSo, HandsAll, HandsOver, KeepsLine};
+ghost use Rattle.atspi_live_reader.specs.declared.handed.Handed.{Handed};
 
 use crate::handed::Handed;
 use atspi_base::{Bytes, NoMemory, Text, put_quoted};
@@ -37,6 +38,7 @@ fn keep_line(name: &BusName, text: &Text, lines: &mut Bytes, starved: &mut bool)
 fn hand_over(reader: &mut Reader, lines: &mut Bytes, starved: &mut bool) -> Handed
     requires { IsReader reader.old }
     ensures hands { HandsOver result (reader_of reader.old) (reader_of reader.new) starved.old starved.new lines.old lines.new }
+    ensures all { result ≡ Handed.Nothing → (reader_of reader.new).out ≡ [] }
     ensures stays { IsReader reader.new }
 {
     match reader.next() {
@@ -59,6 +61,7 @@ pub(crate) fn next_message(
     requires { IsReader reader.old }
     ensures hands { HandsAll envelope_of result (reader_of reader.old) (reader_of reader.new) starved.old starved.new lines.old lines.new }
     ensures stays { IsReader reader.new }
+    ensures all { IfNone result ((reader_of reader.new).out ≡ []) }
     ensures fewer { IfSome result (λ m. length (reader_of reader.new).out < length (reader_of reader.old).out) }
 {
     'events: loop {
@@ -68,4 +71,25 @@ pub(crate) fn next_message(
             Handed::Nothing => return None,
         }
     }
+}
+
+/// Lets the oldest message go that was not handed out, and keeps the lines that were spoken before it. Whether there was one.
+fn let_go(reader: &mut Reader, lines: &mut Bytes, starved: &mut bool) -> bool
+    requires { IsReader reader.old }
+    ensures gives { (messages : List Envelope) × GivesSo messages (reader_of reader.old) (reader_of reader.new) starved.old starved.new lines.old lines.new }
+    ensures stays { IsReader reader.new }
+    ensures all { result ≡ false → (reader_of reader.new).out ≡ [] }
+    ensures fewer { IsTrue result → length (reader_of reader.new).out < length (reader_of reader.old).out }
+{
+    let message = next_message(reader, lines, starved);
+    message.is_some()
+}
+
+/// Takes all that a reader did and that was not handed out yet. The lines that it spoke are kept; the messages, for which there is no link any
+/// more, are let go.
+pub(crate) fn take_rest(reader: &mut Reader, lines: &mut Bytes, starved: &mut bool)
+    requires { IsReader reader.old }
+    ensures { GivesRest (reader_of reader.old) (reader_of reader.new) starved.old starved.new lines.old lines.new }
+{
+    'messages: while let_go(reader, lines, starved) {}
 }

@@ -27,6 +27,21 @@ const MATCH: &[u8] =
 const NAMED: &[u8] =
     b"l\x02\x01\x01\x09\0\0\0\x01\0\0\0?\0\0\0\x05\x01u\0\x01\0\0\0\x06\x01s\0\x04\0\0\0:1.0\0\0\0\0\x07\x01s\0\x14\0\0\0org.freedesktop.DBus\0\0\0\0\x08\x01g\0\x01s\0\0\x04\0\0\0:1.0\0";
 
+/// A return without a body: what stands before its number, between that and the number of the call, and behind that.
+const ANSWER: [&[u8]; 3] = [
+    b"l\x02\x01\x01\0\0\0\0",
+    b"5\0\0\0\x05\x01u\0",
+    b"\0\0\0\x06\x01s\0\x04\0\0\0:1.0\0\0\0\0\x07\x01s\0\x14\0\0\0org.freedesktop.DBus\0\0\0\0",
+];
+
+/// The registry's return to GetChildren, which has number 10: the root of `:1.2`.
+const CHILDREN: &[u8] =
+    b"l\x02\x01\x018\0\0\0\x0c\0\0\03\0\0\0\x05\x01u\0\x0a\0\0\0\x06\x01s\0\x04\0\0\0:1.0\0\0\0\0\x07\x01s\0\x04\0\0\0:1.1\0\0\0\0\x08\x01g\0\x05a(so)\0\0\0\0\0\00\0\0\0\0\0\0\0\x04\0\0\0:1.2\0\0\0\0\x1f\0\0\0/org/a11y/atspi/accessible/root\0";
+
+/// The return of `:1.2` to GetItems, which has number 11: its root, an application with the name Demo.
+const ITEMS: &[u8] =
+    b"l\x02\x01\x01\x08\x01\0\0\x04\0\0\0F\0\0\0\x05\x01u\0\x0b\0\0\0\x06\x01s\0\x04\0\0\0:1.0\0\0\0\0\x07\x01s\0\x04\0\0\0:1.2\0\0\0\0\x08\x01g\0\x18a((so)(so)(so)iiassusau)\0\0\0\0\x01\0\0\0\0\0\0\x04\0\0\0:1.2\0\0\0\0\x1f\0\0\0/org/a11y/atspi/accessible/root\0\x04\0\0\0:1.2\0\0\0\0\x1f\0\0\0/org/a11y/atspi/accessible/root\0\x04\0\0\0:1.1\0\0\0\0\x1f\0\0\0/org/a11y/atspi/accessible/root\0\0\0\0\0\0\0\0\0?\0\0\0\x19\0\0\0org.a11y.atspi.Accessible\0\0\0\x1a\0\0\0org.a11y.atspi.Application\0\0\x04\0\0\0Demo\0\0\0\0K\0\0\0\0\0\0\0\0\0\0\0\x08\0\0\0\0\x01\0C\0\0\0\0";
+
 /// What a run came to: its status, what was given on the link, and what was written.
 #[derive(Drop)]
 struct Run {
@@ -65,6 +80,37 @@ fn starts(rt: HostRuntime) -> Result<(), Fail> {
     assert_eq!(rt; run.status, 0);
     let due = joined(alloc, &[LINES, HELLO, MATCH])?;
     assert_eq!(rt; run.given.as_slice(), due.as_slice());
+    assert_eq!(rt; run.written.bytes(), b"".as_slice());
+    Ok(())
+}
+
+/// The returns to the calls with the numbers 2 to 9.
+fn answers(alloc: Global) -> Result<Vec<u8>, Fail> {
+    let [front, middle, rest] = ANSWER;
+    let mut bytes = Vec::new(alloc);
+    for number in 2u8..10 {
+        bytes.extend_from_slice(front)?;
+        bytes.push(number)?;
+        bytes.extend_from_slice(b"\0\0\0")?;
+        bytes.extend_from_slice(middle)?;
+        bytes.push(number)?;
+        bytes.extend_from_slice(rest)?;
+    }
+    Ok(bytes)
+}
+
+#[test]
+fn shows_what_it_holds(rt: HostRuntime) -> Result<(), Fail> {
+    let alloc = rt.alloc();
+    let answers = answers(alloc)?;
+    let parts: &[&[u8]] = &[CHALLENGE, GRANT, NAMED, &answers, CHILDREN, ITEMS];
+    let run = run_with(&rt, alloc, parts, true, NEVER, 20)?;
+    assert_eq!(rt; run.status, 0);
+    let due = b"show :1.2 1\n| root - -1 application 0000000043000100 \"Demo\" \"\" - - - -\n";
+    assert_eq!(rt; run.written.bytes(), due.as_slice());
+    // with one read fewer the peer has not ended yet
+    let run = run_with(&rt, alloc, parts, true, NEVER, 6)?;
+    assert_eq!(rt; run.status, 8);
     assert_eq!(rt; run.written.bytes(), b"".as_slice());
     Ok(())
 }

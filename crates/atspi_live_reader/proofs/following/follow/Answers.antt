@@ -1,10 +1,13 @@
-use Rattle.std.proofs.Common.{◌≡◌, ℕ, List, [], ◌++◌, refl, sym, subst, ◌∙◌, rules, arith}
+use Rattle.std.proofs.Common.{◌≡◌, ℕ, List, [], ◌++◌, refl, sym, ap, subst, length, ◌∙◌, rules, arith}
 use Rattle.std.proofs.KnownBytes.{Appends-nil}
 use Rattle.atspi_base.specs.Outside.{appends_both}
 use Rattle.atspi_host.specs.Calls.{IsOpen}
+use Rattle.std.specs.Prelude.{Err}
+use Rattle.atspi_conversation.specs.Rounds.{AreRounds, IsRound, Makes}
+use Rattle.atspi_conversation.proofs.RoundLemmas.{makes_none, rounds_more, run_done}
 use Rattle.atspi_conversation.proofs.StepLemmas.{at_first, may_begin}
-use Rattle.atspi_live_reader.specs.Following.{BlamesSink, OverBlames, Stands}
-use Rattle.atspi_live_reader.proofs.Turning.{all_turned, over_later}
+use Rattle.atspi_live_reader.specs.Following.{BlamesSink, BreaksOver, OverBlames, Stands}
+use Rattle.atspi_live_reader.proofs.Turning.{all_turned, left_behind, over_later, over_made}
 use Rattle.atspi_live_reader.proofs.following.follow.Goals as goal
 
 pub rounds-init : goal.rounds-init
@@ -15,6 +18,7 @@ rounds-init g c = record {
     at_first (Stands []) c.args.link (g.H.Host.calls c.args.host.now) c.new-conversation.result c.args.end.now c.requires.fresh
         c.new-conversation.ensures.client c.new-conversation.ensures.feeder c.new-conversation.ensures.unsent c.new-conversation.ensures.heard c.requires.begins,
   );
+  made = makes_none (g.H.Host.calls c.args.host.now) (AreRounds c.args.link 4096 0) refl;
   may = may_begin Stands [] c.args.end.now c.requires.begins;
   quiet = c.requires.quiet;
   few = omega (arith, c.new-conversation.ensures.heard);
@@ -39,6 +43,8 @@ rounds-preserved g c =
         appends_both (g.K.Sink.written c.args.sink.now) (g.K.Sink.written c.rounds.sink) (g.K.Sink.written c.turn.new.sink) o.0 n.line o.1 n.wrote,
         n.goes o.0 c.rounds.done o.2,
       );
+      made = rounds_more c.args.link 4096 c.rounds.done (g.H.Host.calls c.args.host.now) (g.H.Host.calls c.rounds.host) (g.H.Host.calls c.turn.new.host) c.rounds.invariant.made
+          (subst (λ (x : ℕ). Makes (g.H.Host.calls c.rounds.host) (g.H.Host.calls c.turn.new.host) (IsRound c.args.link x)) c.rounds.invariant.piece c.in-Ok.ensures.made);
       may = c.in-Ok.ensures.may;
       quiet = c.in-Ok.ensures.quiet;
       few = omega (arith, c.in-Ok.ensures.few, c.rounds.invariant.few, c.rounds.invariant.piece);
@@ -67,3 +73,20 @@ returns-clause-over g c =
     let o = c.rounds.invariant.goes in
     let done : c.rounds.done ≡ c.args.rounds = omega arith in
     all_turned c.args.link c.rounds.done c.args.rounds (g.H.Host.calls c.rounds.host) c.rounds.conversation c.rounds.end o.0 (g.K.Sink.written c.args.sink.now) (g.K.Sink.written c.rounds.sink) done c.rounds.invariant.quiet o.1 o.2
+
+pub returns-in-Err-clause-rounds : goal.returns-in-Err-clause-rounds
+returns-in-Err-clause-rounds g c =
+    over_made c.args.link c.rounds.done c.args.rounds c.in-Err.over (g.H.Host.calls c.args.host.now) (g.H.Host.calls c.rounds.host) (g.H.Host.calls c.turn.new.host) (omega arith) (omega arith) c.rounds.invariant.made
+    (subst (λ (x : ℕ). Makes (g.H.Host.calls c.rounds.host) (g.H.Host.calls c.turn.new.host) (BreaksOver c.args.link x c.in-Err.over)) c.rounds.invariant.piece c.in-Err.ensures.made)
+
+pub returns-in-Err-clause-left : goal.returns-in-Err-clause-left
+returns-in-Err-clause-left g c e =
+    let o = c.rounds.invariant.goes in
+    left_behind c.args.link (length c.rounds.piece) c.rounds.done (g.H.Host.calls c.rounds.host) (g.H.Host.calls c.turn.new.host) c.rounds.conversation c.rounds.end c.turn.new.end o.0
+    (g.K.Sink.written c.args.sink.now) (g.K.Sink.written c.rounds.sink) (g.K.Sink.written c.turn.new.sink) o.1 o.2 c.rounds.invariant.quiet (c.in-Err.ensures.still (ap Err e))
+
+pub returns-clause-rounds : goal.returns-clause-rounds
+returns-clause-rounds g c = run_done c.args.link 4096 c.rounds.done c.args.rounds (g.H.Host.calls c.args.host.now) (g.H.Host.calls c.rounds.host) (omega arith) c.rounds.invariant.made
+
+pub returns-clause-left : goal.returns-clause-left
+returns-clause-left g c e = absurd cc

@@ -1,6 +1,7 @@
-use Rattle.std.proofs.Common.{refl}
+use Rattle.std.proofs.Common.{length, refl, ap}
+use Rattle.std.specs.Prelude.{Err}
 use Rattle.atspi_conversation.proofs.StepLemmas.{if_err, on_ok}
-use Rattle.atspi_live_reader.proofs.Turning.{if_match, may_wrote, mute_blames, turn_ended, turn_muted, turned}
+use Rattle.atspi_live_reader.proofs.Turning.{if_match, may_wrote, mute_blames, mute_made, mute_not, same_ending, turn_ended, turn_muted, turn_still, turned}
 use Rattle.atspi_live_reader.proofs.following.turn.Goals as goal
 
 pub returns-in-Err-clause-err : goal.returns-in-Err-clause-err
@@ -34,3 +35,17 @@ returns-clause-cause g c =
     if_match c.speak.result _ _ _ (λ x. c.in_default.ensures.cause)
     (λ over m. mute_blames over c.round.new.end (g.K.Sink.written c.args.sink.now) (g.K.Sink.written c.speak.new.sink) (g.H.Host.link_faults c.args.host.now) (g.H.Host.link_faults c.round.new.host) c.in_default.ensures.cause m)
     c.speak.ensures.err
+
+pub returns-in-Err-clause-still : goal.returns-in-Err-clause-still
+returns-in-Err-clause-still g c e =
+    turn_still c.args.link (length c.args.piece.now) c.in-Err.ending (g.H.Host.calls c.args.host.now) (g.H.Host.calls c.round.new.host) c.args.end.now c.round.new.end (g.K.Sink.written c.args.sink.now)
+    (same_ending c.in-Err.ending _ refl e) c.in-Err.ensures.made (c.in-Err.ensures.still (ap Err (same_ending c.in-Err.ending _ refl e)))
+
+pub returns-clause-made : goal.returns-clause-made
+returns-clause-made g c =
+    if_match c.speak.result _ _ _ (λ x. c.in_default.ensures.made)
+    (λ over m. mute_made c.args.link (length c.args.piece.now) over c.round.new.end (g.K.Sink.written c.args.sink.now) (g.K.Sink.written c.speak.new.sink) (g.H.Host.calls c.args.host.now) (g.H.Host.calls c.round.new.host) c.in_default.ensures.made m)
+    c.speak.ensures.err
+
+pub returns-clause-still : goal.returns-clause-still
+returns-clause-still g c e = absurd (mute_not c.speak.result c.round.new.end (g.K.Sink.written c.args.sink.now) (g.K.Sink.written c.speak.new.sink) c.speak.ensures.err e)

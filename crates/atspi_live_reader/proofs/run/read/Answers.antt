@@ -1,15 +1,17 @@
-use Rattle.std.proofs.Common.{ℕ, refl, subst, ◌∙◌, inl, inr, arith}
-use Rattle.atspi_live_registry.proofs.Running.{causes, connect_failed, connected, fresh, is_open}
-use Rattle.atspi_live_reader.specs.Following.{OverBlames}
-use Rattle.atspi_live_reader.specs.declared.over.Over.TheVariants.{Ended}
-use Rattle.atspi_live_reader.proofs.Running.{begins, ended, mute_causes, none_ends, none_speak, not_written, one_speaks, quiet, subst_causes}
+use Rattle.std.proofs.Common.{ℕ, refl, ap, subst, ◌∙◌, inl, inr, arith}
+use Rattle.atspi_live_registry.proofs.Running.{connect_failed, connected, fresh, is_open, on_link}
+use Rattle.atspi_reader.specs.ReaderOf.{reader_of}
+use Rattle.atspi_live_reader.specs.Following.{OverBlames, RunsOver}
+use Rattle.atspi_live_reader.specs.Shows.{last_words}
+use Rattle.atspi_live_reader.specs.declared.over.Over.TheVariants.{Ended, NotWritten}
+use Rattle.atspi_live_reader.proofs.Running.{begins, ended, last_causes, may_tell, mute_causes, none_ends, none_speak, not_written, one_speaks, quiet, subst_causes}
 use Rattle.atspi_live_reader.proofs.run.read.Goals as goal
 
 pub returns-in_default-clause-speech : goal.returns-in_default-clause-speech
 returns-in_default-clause-speech g c = none_speak (g.H.Host.links c.args.host.now) (g.H.Host.calls c.args.host.now) c.requires.links
 
 pub returns-in_default-clause-ends : goal.returns-in_default-clause-ends
-returns-in_default-clause-ends g c = none_ends (g.H.Host.links c.args.host.now) 5 c.args.rounds (g.H.Host.calls c.args.host.now) (g.K.Sink.written c.args.sink.now) c.requires.links (inr refl)
+returns-in_default-clause-ends g c = none_ends c.args.path.now (g.H.Host.links c.args.host.now) 5 c.args.rounds (g.H.Host.calls c.args.host.now) (g.K.Sink.written c.args.sink.now) c.requires.links (inr refl)
 
 pub returns-in_default-clause-causes : goal.returns-in_default-clause-causes
 returns-in_default-clause-causes g c = record { by_host = λ e. absurd (omega (arith, e)); no_host = inr (refl, refl); by_sink = λ e. absurd (omega (arith, e)); no_sink = inr refl }
@@ -26,7 +28,7 @@ returns-in_default-connect-clause-ends g c =
     let f = connect_failed c.connect.result (g.H.Host.links c.args.host.now) (g.H.Host.links c.connect.new.self) (g.H.Host.faults c.args.host.now) (g.H.Host.faults c.connect.new.self)
     c.in_default-connect.not-Done c.connect.ensures.ready c.connect.ensures.links c.connect.ensures.cause
     in
-    none_ends (g.H.Host.links c.connect.new.self) 7 c.args.rounds (g.H.Host.calls c.connect.new.self) (g.K.Sink.written c.args.sink.now) (f.1 ∙ c.requires.links) (inl refl)
+    none_ends c.args.path.now (g.H.Host.links c.connect.new.self) 7 c.args.rounds (g.H.Host.calls c.connect.new.self) (g.K.Sink.written c.args.sink.now) (f.1 ∙ c.requires.links) (inl refl)
 
 pub returns-in_default-connect-clause-causes : goal.returns-in_default-connect-clause-causes
 returns-in_default-connect-clause-causes g c =
@@ -49,21 +51,29 @@ returns-in-Ended-clause-speech g c =
     (c.follow.ensures.links ∙ connected (g.H.Host.links c.args.host.now) (g.H.Host.links c.connect.new.self) c.in-Done.link c.requires.links c.in-Done.ensures.links)
     c.follow.ensures.over
 
+pub tell-requires : goal.tell-requires
+tell-requires g c e =
+    may_tell c.in-Done.link (g.H.Host.calls c.follow.new.host) (g.K.Sink.written c.args.sink.now) (g.K.Sink.written c.follow.new.sink) c.follow.new.end (c.in-Ended.ensures.left (ap Ended e))
+
 pub returns-in-Ended-clause-ends : goal.returns-in-Ended-clause-ends
 returns-in-Ended-clause-ends g c =
-    ended (g.H.Host.links c.follow.new.host) c.in-Done.link c.report.result c.args.rounds c.in-Ended.ending (g.H.Host.calls c.follow.new.host) (g.K.Sink.written c.args.sink.now) (g.K.Sink.written c.follow.new.sink) (g.K.Sink.written c.report.new.sink)
+    ended c.args.path.now (g.H.Host.links c.follow.new.host) c.in-Done.link c.tell.result c.args.rounds c.in-Ended.ending (g.H.Host.calls c.follow.new.host) c.follow.new.end
+    (g.K.Sink.written c.args.sink.now) (g.K.Sink.written c.follow.new.sink) (g.K.Sink.written c.tell.new.sink)
     (c.follow.ensures.links ∙ connected (g.H.Host.links c.args.host.now) (g.H.Host.links c.connect.new.self) c.in-Done.link c.requires.links c.in-Done.ensures.links)
-    c.in-Ended.ensures.over c.report.ensures.reports
+    (λ e. c.in-Ended.ensures.left (ap Ended e)) c.in-Ended.ensures.over
+    (on_link c.args.path.now c.in-Done.link (g.H.Host.calls c.args.host.now) (g.H.Host.calls c.connect.new.self) (g.H.Host.calls c.follow.new.host) (RunsOver c.in-Done.link (Ended c.in-Ended.ending) c.args.rounds)
+    c.requires.calls c.in-Done.ensures.calls c.in-Ended.ensures.rounds)
+    c.tell.ensures.reports
 
 pub returns-in-Ended-clause-causes : goal.returns-in-Ended-clause-causes
 returns-in-Ended-clause-causes g c =
-    subst_causes c.report.result (g.H.Host.faults c.args.host.now) (g.H.Host.faults c.follow.new.host) (g.H.Host.link_faults c.args.host.now) (g.H.Host.link_faults c.follow.new.host)
-    (g.K.Sink.faults c.args.sink.now) (g.K.Sink.faults c.follow.new.sink) (g.K.Sink.faults c.report.new.sink) c.in-Ended.ensures.sink
-    (causes c.in-Ended.ending c.report.result (g.H.Host.faults c.args.host.now) (g.H.Host.faults c.follow.new.host) (g.H.Host.link_faults c.args.host.now) (g.H.Host.link_faults c.follow.new.host)
-    (g.K.Sink.faults c.follow.new.sink) (g.K.Sink.faults c.report.new.sink) (g.K.Sink.written c.follow.new.sink) (g.K.Sink.written c.report.new.sink)
+    subst_causes c.tell.result (g.H.Host.faults c.args.host.now) (g.H.Host.faults c.follow.new.host) (g.H.Host.link_faults c.args.host.now) (g.H.Host.link_faults c.follow.new.host)
+    (g.K.Sink.faults c.args.sink.now) (g.K.Sink.faults c.follow.new.sink) (g.K.Sink.faults c.tell.new.sink) c.in-Ended.ensures.sink
+    (last_causes (last_words (reader_of c.follow.new.end.reader)) c.in-Ended.ending c.tell.result (g.H.Host.faults c.args.host.now) (g.H.Host.faults c.follow.new.host) (g.H.Host.link_faults c.args.host.now) (g.H.Host.link_faults c.follow.new.host)
+    (g.K.Sink.faults c.follow.new.sink) (g.K.Sink.faults c.tell.new.sink) (g.K.Sink.written c.follow.new.sink) (g.K.Sink.written c.tell.new.sink)
     (c.follow.ensures.other ∙ c.in-Done.ensures.cause)
     (subst (λ (n : ℕ). OverBlames (Ended c.in-Ended.ending) n (g.H.Host.link_faults c.follow.new.host)) c.connect.ensures.other c.in-Ended.ensures.cause)
-    c.report.ensures.reports c.report.ensures.cause)
+    c.tell.ensures.reports c.tell.ensures.cause)
 
 pub returns-clause-speech : goal.returns-clause-speech
 returns-clause-speech g c =
@@ -73,9 +83,11 @@ returns-clause-speech g c =
 
 pub returns-clause-ends : goal.returns-clause-ends
 returns-clause-ends g c =
-    not_written (g.H.Host.links c.follow.new.host) c.in-Done.link c.args.rounds (g.H.Host.calls c.follow.new.host) (g.K.Sink.written c.args.sink.now) (g.K.Sink.written c.follow.new.sink)
+    not_written c.args.path.now (g.H.Host.links c.follow.new.host) c.in-Done.link c.args.rounds (g.H.Host.calls c.follow.new.host) (g.K.Sink.written c.args.sink.now) (g.K.Sink.written c.follow.new.sink)
     (c.follow.ensures.links ∙ connected (g.H.Host.links c.args.host.now) (g.H.Host.links c.connect.new.self) c.in-Done.link c.requires.links c.in-Done.ensures.links)
     c.in-NotWritten.ensures.over
+    (on_link c.args.path.now c.in-Done.link (g.H.Host.calls c.args.host.now) (g.H.Host.calls c.connect.new.self) (g.H.Host.calls c.follow.new.host) (RunsOver c.in-Done.link NotWritten c.args.rounds)
+    c.requires.calls c.in-Done.ensures.calls c.in-NotWritten.ensures.rounds)
 
 pub returns-clause-causes : goal.returns-clause-causes
 returns-clause-causes g c =

@@ -1,0 +1,35 @@
+-- What a reader shows at the end of its run: the rows of each application that it holds.
+use Rattle.std.specs.Prelude.{ℕ, List, [], ◌∷◌, ◌++◌, length, map, Option, None, Some, codes}
+use Rattle.std.specs.Fmt.{decimal}
+use Rattle.std.specs.List.{flat_map}
+use Rattle.atspi_events.specs.EventText.{ended}
+use Rattle.atspi_events.specs.Rows.{row_line}
+use Rattle.atspi_events.specs.declared.shown.ShownRow.{ShownRow}
+use Rattle.atspi_play.specs.Playing.{view_rows}
+use Rattle.atspi_protocol.specs.following.ReaderState.{ReaderState}
+use Rattle.atspi_protocol.specs.following.Takes.{held_names, held_view}
+use Rattle.atspi_live_reader.specs.Spoken.{spoken_in}
+
+-- how many rows these are, and a line of each, as a trace has them
+abbrev pub rows_text : List ShownRow → List ℕ
+rows_text rows = decimal (length rows) ++ (10 ∷ flat_map ended (map row_line rows))
+
+-- `show NAME K`, and K rows
+abbrev pub show_text : List ℕ → List ShownRow → List ℕ
+show_text name rows = codes "show " ++ (name ++ (32 ∷ rows_text rows))
+
+abbrev pub show_if : List ℕ → Option (List ShownRow) → List ℕ
+show_if name None = []
+show_if name (Some rows) = show_text name rows
+
+-- of one application, the rows of the view that the reader has of it
+abbrev pub shown_of : ReaderState → List ℕ → List ℕ
+shown_of s name = show_if name (view_rows (held_view s name))
+
+-- and of each that is held, in the order in which they became known
+abbrev pub shown_in : ReaderState → List ℕ
+shown_in s = flat_map (shown_of s) (held_names s)
+
+-- what is left to be written of a reader whose peer has ended: the lines of what it spoke and did not hand out, and then what it holds
+abbrev pub last_words : ReaderState → List ℕ
+last_words s = spoken_in s.out ++ shown_in s
