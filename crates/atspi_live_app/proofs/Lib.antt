@@ -12,3 +12,5 @@ pub mod Feeds
 pub mod Handing
 pub mod Lawful
 pub mod Turning
+pub mod Pacing
+pub mod Ending

@@ -114,3 +114,10 @@ stands_did is_app exporter is_kit text old new kit kit' held held' at number at'
           let n = number_next is_app exporter is_kit text old kit held at number took said f in
           omega (arith, p.counted n, f.counted, ap (λ (x : List (List ℕ)). length x) lines, length-append (lines_in f.history) (p.line ∷ []));
     }
+
+-- no line was left
+pub stands_passed : {A K : Type 0} (is_app : A → Type 0) (exporter : A → Exporter) (is_kit : K → Type 0) (text : List ℕ) (app : Option A) (kit : Option K) (held held' : List ℕ) (at number at' number' : ℕ) (took said : List Envelope)
+    → held' ≡ held → at' ≡ at → number' ≡ number → Stands is_app exporter is_kit text app kit held at number took said → Stands is_app exporter is_kit text app kit held' at' number' took said
+stands_passed is_app exporter is_kit text app kit held held' at number at' number' took said h a n f =
+    subst (λ (x : List ℕ). Stands is_app exporter is_kit text app kit x at' number' took said) (sym h)
+    (subst (λ (x : ℕ). Stands is_app exporter is_kit text app kit held x number' took said) (sym a) (subst (λ (x : ℕ). Stands is_app exporter is_kit text app kit held at x took said) (sym n) f))

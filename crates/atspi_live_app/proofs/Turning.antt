@@ -1,5 +1,5 @@
 -- A turn of an application: what was said, taken and done.
-use Rattle.std.proofs.Common.{◌≡◌, ℕ, List, Option, None, Some, refl, sym, subst}
+use Rattle.std.proofs.Common.{◌≡◌, ℕ, List, [], ◌∷◌, Option, None, Some, refl, sym, subst}
 use Rattle.atspi_auth.specs.Talk.{behind, client_start}
 use Rattle.atspi_message.specs.Envelope.{Envelope}
 use Rattle.atspi_stream.specs.Stream.{IsParted}
@@ -14,7 +14,7 @@ use Rattle.atspi_conversation.proofs.StepLemmas.{all_done}
 use Rattle.atspi_protocol.specs.exporting.Exporter.{Exporter}
 use Rattle.atspi_live_app.specs.Lines.{lines_of}
 use Rattle.atspi_live_app.specs.Standing.{IsAfter, IsSpent}
-use Rattle.atspi_live_app.specs.Live.{IsStopped, Stands, seen}
+use Rattle.atspi_live_app.specs.Live.{IsStopped, Stands, StandsAt, seen}
 use Rattle.atspi_live_app.specs.Input.{left_in}
 use Rattle.atspi_live_app.specs.Overs.{IsOver, StopsSo}
 use Rattle.atspi_live_app.specs.declared.live_app.LiveApp.{LiveApp}
@@ -112,8 +112,9 @@ turn_stopped St lines see k n rounds stop calls c end h f g =
     record { speaks = speaks St lines see k calls h e.0; so = stops St lines see k n stop calls c end f g e }
 
 -- a line was done between two rounds
-pub going_rests : {E : Type 0} (St : E → List Envelope → List Envelope → Type 0) (k n : ℕ) (calls : Option (List Call)) (c : Conversation) (old new : E) → Rests St old new → Going St k calls n c old → Going St k calls n c new
-going_rests St k n calls c old new r g =
+pub going_turns : {E : Type 0} (St St' : E → List Envelope → List Envelope → Type 0) (k n : ℕ) (calls : Option (List Call)) (c : Conversation) (old new : E) → ((took said : List Envelope) → St old took said → St' new took said) → Going St k calls n c old
+    → Going St' k calls n c new
+going_turns St St' k n calls c old new r g =
     let v = g.at_ease.converses in
     record {
       t = g.t;
@@ -141,15 +142,34 @@ going_rests St k n calls c old new r g =
       };
     }
 
-pub may_rests : {E : Type 0} (St : List ℕ → E → List Envelope → List Envelope → Type 0) (old new : E) → ((text : List ℕ) → Rests (St text) old new) → MaySpeak St old → MaySpeak St new
-may_rests St old new r m = record { aside = m.aside; took = m.took; said = m.said; stands = r m.aside m.took m.said m.stands; meet = m.meet }
-
 -- the same of a live application
 abbrev pub StandsOf : {A K : Type 0} → (A → Type 0) → (A → Exporter) → (K → Type 0) → List ℕ → LiveApp A K → List Envelope → List Envelope → Type 0
-StandsOf is_app exporter is_kit text l took said = Stands is_app exporter is_kit text l.app l.kit l.input.text.items l.input.at l.input.number took said
+StandsOf is_app exporter is_kit aside l took said = StandsAt is_app exporter is_kit aside l.app l.kit l.input.text.items l.input.at l.input.number took said
 
 abbrev pub see_of : {A K : Type 0} → (A → Exporter) → LiveApp A K → Option Exporter
 see_of exporter l = seen exporter l.app
 
-pub seen_of : {A K : Type 0} (is_app : A → Type 0) (exporter : A → Exporter) (is_kit : K → Type 0) (text : List ℕ) → IsSeen (StandsOf is_app exporter is_kit text) (lines_of text) (see_of exporter)
-seen_of is_app exporter is_kit text l took said f = after is_app exporter is_kit text l.app l.kit l.input.text.items l.input.at l.input.number took said f
+pub seen_of : {A K : Type 0} (is_app : A → Type 0) (exporter : A → Exporter) (is_kit : K → Type 0) (place : ℕ) (text : List ℕ) → IsSeen (StandsOf is_app exporter is_kit (place ∷ text)) (lines_of text) (see_of exporter)
+seen_of is_app exporter is_kit place text l took said f = after is_app exporter is_kit text l.app l.kit l.input.text.items l.input.at l.input.number took said f.1
+
+-- where a line may have been done, an end that may speak still may
+pub may_turns : {A K : Type 0} (is_app : A → Type 0) (exporter : A → Exporter) (is_kit : K → Type 0) (old new : LiveApp A K) (at : ℕ)
+    → ((text : List ℕ) (place : ℕ) (took said : List Envelope) → StandsOf is_app exporter is_kit (place ∷ text) old took said → StandsOf is_app exporter is_kit (at ∷ text) new took said)
+    → MaySpeak (StandsOf is_app exporter is_kit) old → MaySpeak (StandsOf is_app exporter is_kit) new
+may_turns is_app exporter is_kit old new at r m = by m.aside m.stands
+  where
+    by : (aside : List ℕ) → StandsOf is_app exporter is_kit aside old m.took m.said → MaySpeak (StandsOf is_app exporter is_kit) new
+    by [] s = absurd s
+    by (place ∷ text) s = record { aside = at ∷ text; took = m.took; said = m.said; stands = r text place m.took m.said s; meet = m.meet }
+
+-- what is told beside the link stays, where it is known how the end stands otherwise
+pub stays : {A K : Type 0} (is_app : A → Type 0) (exporter : A → Exporter) (is_kit : K → Type 0) (old new : Option A) (kit : Option K) (held : List ℕ) (at number : ℕ) (aside : List ℕ) (took took' said said' : List Envelope)
+    → ((text : List ℕ) → Stands is_app exporter is_kit text old kit held at number took said → Stands is_app exporter is_kit text new kit held at number took' said')
+    → StandsAt is_app exporter is_kit aside old kit held at number took said → StandsAt is_app exporter is_kit aside new kit held at number took' said'
+stays is_app exporter is_kit old new kit held at number [] took took' said said' r s = absurd s
+stays is_app exporter is_kit old new kit held at number (place ∷ text) took took' said said' r s = (s.0, r text s.1)
+
+pub then_of : {A K : Type 0} (is_app : A → Type 0) (exporter : A → Exporter) (is_kit : K → Type 0) (app : Option A) (kit : Option K) (held : List ℕ) (at number : ℕ) (aside : List ℕ) (took said : List Envelope) (P : Type 0)
+    → ((text : List ℕ) → Stands is_app exporter is_kit text app kit held at number took said → P) → StandsAt is_app exporter is_kit aside app kit held at number took said → P
+then_of is_app exporter is_kit app kit held at number [] took said P r s = absurd s
+then_of is_app exporter is_kit app kit held at number (place ∷ text) took said P r s = r text s.1

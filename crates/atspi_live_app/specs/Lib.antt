@@ -8,4 +8,5 @@ pub mod HandedOver
 pub mod Live
 pub mod Stops
 pub mod Overs
+pub mod Pace
 pub mod Runs

@@ -53,6 +53,11 @@ pub record Stands {A K : Type 0} (is_app : A → Type 0) (exporter : A → Expor
   pub handed : HandedOut said (seen exporter app) whole
   pub counted : number ≡ length (lines_in history)
 
+-- the same, where the next line begins at a place of the text: both are what it tells beside the link
+abbrev pub StandsAt : {A K : Type 0} → (A → Type 0) → (A → Exporter) → (K → Type 0) → List ℕ → Option A → Option K → List ℕ → ℕ → ℕ → List Envelope → List Envelope → Type 0
+StandsAt is_app exporter is_kit [] app kit held at number took said = ⊥
+StandsAt is_app exporter is_kit (place ∷ text) app kit held at number took said = (at ≡ place) × Stands is_app exporter is_kit text app kit held at number took said
+
 -- an edit that is asked for can be
 abbrev pub IsLawful : Ask → Type 0
 IsLawful (ask.Edit edit) = IsEdit edit

@@ -3,11 +3,12 @@ use Rattle.std.specs.Prelude.{◌≡◌, ◌⊎◌, ℕ, List, [], ◌∷◌, Op
 use Rattle.std.specs.Io.KnownBytes.{Appends}
 use Rattle.atspi_base.specs.Outside.{AppendsPart}
 use Rattle.atspi_host.specs.declared.call.Call.{Call}
-use Rattle.atspi_live_registry.specs.Runs.{Quietly, Reports}
+use Rattle.atspi_live_registry.specs.Runs.{IsOnLink, Quietly, Reports}
 use Rattle.atspi_live_app.specs.Input.{BlamesEnd, HasRead}
 use Rattle.atspi_live_app.specs.Lines.{lines_of}
 use Rattle.atspi_live_app.specs.Names.{refused_text}
 use Rattle.atspi_live_app.specs.Overs.{IsOver}
+use Rattle.atspi_live_app.specs.Pace.{RunsPaced}
 use Rattle.atspi_live_app.specs.declared.input.End.{End}
 use Rattle.atspi_live_app.specs.declared.input.End.TheVariants.{Whole, TooLong, Failed}
 use Rattle.atspi_live_app.specs.declared.live_app.Stop.TheVariants as stops
@@ -25,16 +26,17 @@ OverReports (overs.Stopped (stops.Refused number why)) status w w' = WritesRefus
 OverReports (overs.Stopped stops.Spent) status w w' = Quietly 13 status w w'
 OverReports (overs.Stopped stops.NoMemory) status w w' = Quietly 5 status w w'
 
--- a run on this link was over so
-pub record EndsOn (lines : List (List ℕ)) (k status rounds : ℕ) (calls : Option (List Call)) (w w' : Option (List ℕ)) : Type 0 where
+-- a run on this link was over so, with its rounds and the lines that were done before their reads
+pub record EndsOn (lines : List (List ℕ)) (path : List ℕ) (k status rounds : ℕ) (calls : Option (List Call)) (w w' : Option (List ℕ)) : Type 0 where
   pub over : Over
   pub is : IsOver lines k over rounds calls
+  pub run : IsOnLink path k calls (RunsPaced lines k over rounds)
   pub reports : OverReports over status w w'
 
 -- a run with these lines ended so on the one link that is open; where there is none, it was not given
-abbrev pub TextEnds : List (List ℕ) → List ℕ → ℕ → ℕ → Option (List Call) → Option (List ℕ) → Option (List ℕ) → Type 0
-TextEnds lines [] status rounds calls w w' = (status ≡ 7) × (w' ≡ w)
-TextEnds lines (k ∷ ks) status rounds calls w w' = EndsOn lines k status rounds calls w w' × (ks ≡ [])
+abbrev pub TextEnds : List (List ℕ) → List ℕ → List ℕ → ℕ → ℕ → Option (List Call) → Option (List ℕ) → Option (List ℕ) → Type 0
+TextEnds lines path [] status rounds calls w w' = (status ≡ 7) × (w' ≡ w)
+TextEnds lines path (k ∷ ks) status rounds calls w w' = EndsOn lines path k status rounds calls w w' × (ks ≡ [])
 
 -- the input was not read to its end
 abbrev pub CutsOff : End → ℕ → Type 0
@@ -50,12 +52,12 @@ pub record EndsEarly (left left' : Option (List ℕ)) (source source' : ℕ) (ks
   pub so : ((status ≡ 5) × (source' ≡ source)) ⊎ ((end : End) × (text : List ℕ) × CutsOff end status × BlamesEnd source source' end × HasRead end left left' text)
 
 -- the input was read to its end first
-pub record EndsLate (left left' : Option (List ℕ)) (source source' : ℕ) (ks : List ℕ) (status rounds : ℕ) (calls : Option (List Call)) (w w' : Option (List ℕ)) : Type 0 where
+pub record EndsLate (path : List ℕ) (left left' : Option (List ℕ)) (source source' : ℕ) (ks : List ℕ) (status rounds : ℕ) (calls : Option (List Call)) (w w' : Option (List ℕ)) : Type 0 where
   pub text : List ℕ
   pub read : HasRead Whole left left' text
   pub source_same : source' ≡ source
-  pub ends : TextEnds (lines_of text) ks status rounds calls w w'
+  pub ends : TextEnds (lines_of text) path ks status rounds calls w w'
 
-abbrev pub RunEnds : Option (List ℕ) → Option (List ℕ) → ℕ → ℕ → List ℕ → ℕ → ℕ → Option (List Call) → Option (List Call) → Option (List ℕ) → Option (List ℕ) → Type 0
-RunEnds left left' source source' ks status rounds calls calls' w w' =
-    EndsEarly left left' source source' ks status calls calls' w w' ⊎ EndsLate left left' source source' ks status rounds calls' w w'
+abbrev pub RunEnds : List ℕ → Option (List ℕ) → Option (List ℕ) → ℕ → ℕ → List ℕ → ℕ → ℕ → Option (List Call) → Option (List Call) → Option (List ℕ) → Option (List ℕ) → Type 0
+RunEnds path left left' source source' ks status rounds calls calls' w w' =
+    EndsEarly left left' source source' ks status calls calls' w w' ⊎ EndsLate path left left' source source' ks status rounds calls' w w'

@@ -1,8 +1,9 @@
 //! What a line asks for is done.
 
-ghost use Rattle.std.specs.Prelude.{◌≡◌, IfErr, OnOk};
+ghost use Rattle.std.specs.Prelude.{◌≡◌, IfErr, IfOk, OnOk};
 ghost use Rattle.atspi_forest.specs.Edits.{IsEdit};
 ghost use Rattle.atspi_live_app.specs.Live.{IsKept, IsLawful, IsStarted, IsUndone, seen};
+ghost use Rattle.atspi_live_app.specs.Pace.{rounds_of};
 ghost use Rattle.atspi_live_app.specs.Standing.{Does};
 ghost use Rattle.atspi_live_app.specs.Stops.{undone_of};
 ghost use Rattle.atspi_live_app.specs.declared.asking.Ask.TheVariants as asks;
@@ -91,6 +92,7 @@ pub(crate) fn do_ask<A: Exporting>(
     requires kept { IsKept A.is_app A.is_kit app.old kit.old }
     requires lawful { IsLawful ask }
     ensures ok { OnOk result (IsKept A.is_app A.is_kit app.new kit.new × Does (seen A.exporter app.old) ask (seen A.exporter app.new)) }
+    ensures rounds { IfOk result (λ rounds. rounds ≡ rounds_of ask) }
     ensures err { IfErr result (λ undone. IsUndone undone (seen A.exporter app.old) ask) }
 {
     match ask {

@@ -62,7 +62,7 @@ fn run_on<A: Exporting, K: Sink, H: Host>(
     requires short { length text.items ≤ INPUT_LIMIT }
     requires calls { Begins (H.calls host.old) }
     requires links { H.links host.old ≡ [] }
-    ensures ends { TextEnds (lines_of text.items) (H.links host.new) result rounds (H.calls host.new) (K.written sink.old) (K.written sink.new) }
+    ensures ends { TextEnds (lines_of text.items) path.now (H.links host.new) result rounds (H.calls host.new) (K.written sink.old) (K.written sink.new) }
     ensures causes { Causes result (H.faults host.old) (H.faults host.new) (H.link_faults host.old) (H.link_faults host.new) (K.faults sink.old) (K.faults sink.new) }
 {
     let Did::Done(link) = host.connect(path) else {
@@ -95,7 +95,7 @@ pub fn app<S: Source, K: Sink, H: Host>(
     requires empty { AreEmpty (⟦<Kit as Boxes>⟧.faces kit) }
     requires calls { Begins (H.calls host.old) }
     requires links { H.links host.old ≡ [] }
-    ensures ends { RunEnds (S.left source.old) (S.left source.new) (S.faults source.old) (S.faults source.new) (H.links host.new) result rounds (H.calls host.old) (H.calls host.new) (K.written sink.old) (K.written sink.new) }
+    ensures ends { RunEnds path.now (S.left source.old) (S.left source.new) (S.faults source.old) (S.faults source.new) (H.links host.new) result rounds (H.calls host.old) (H.calls host.new) (K.written sink.old) (K.written sink.new) }
     ensures causes { Causes result (H.faults host.old) (H.faults host.new) (H.link_faults host.old) (H.link_faults host.new) (K.faults sink.old) (K.faults sink.new) }
 {
     let mut text = Vec::new(alloc);

@@ -1,17 +1,25 @@
-use Rattle.std.proofs.Common.{◌≡◌, ℕ, List, refl, sym, subst, ◌∙◌, rules, arith}
+use Rattle.std.proofs.Common.{◌≡◌, ℕ, ◌+◌, List, ◌∷◌, refl, sym, subst, ◌∙◌, rules, arith}
 use Rattle.atspi_host.specs.Calls.{IsOpen}
 use Rattle.atspi_conversation.proofs.StepLemmas.{at_first, may_begin}
 use Rattle.atspi_live_app.specs.Lines.{lines_of}
+use Rattle.atspi_conversation.specs.Rounds.{AreRounds, IsRound, Makes}
+use Rattle.atspi_conversation.proofs.RoundLemmas.{makes_none, rounds_more}
 use Rattle.atspi_live_app.specs.Overs.{OverBlames}
+use Rattle.atspi_live_app.specs.Pace.{BreaksOver}
+use Rattle.atspi_live_app.proofs.Pacing.{Paced, done_paced, over_paced, paced_first, paced_more}
 use Rattle.atspi_live_app.proofs.Turning.{StandsOf, all_turned, see_of, seen_of}
 use Rattle.atspi_live_app.proofs.rounds.export.Goals as goal
 
 pub rounds-init : goal.rounds-init
 rounds-init g c = record {
-  goes =
-      at_first (StandsOf g.A.Exporting.is_app g.A.Exporting.exporter g.A.Exporting.is_kit c.args.end.now.input.text.items) c.args.link (g.H.Host.calls c.args.host.now) c.new-conversation.result c.args.end.now c.requires.fresh
-      c.new-conversation.ensures.client c.new-conversation.ensures.feeder c.new-conversation.ensures.unsent c.new-conversation.ensures.heard c.requires.begins;
-  may = may_begin (StandsOf g.A.Exporting.is_app g.A.Exporting.exporter g.A.Exporting.is_kit) c.args.end.now.input.text.items c.args.end.now c.requires.begins;
+  goes = (
+    0,
+    at_first (StandsOf g.A.Exporting.is_app g.A.Exporting.exporter g.A.Exporting.is_kit (0 ∷ c.args.end.now.input.text.items)) c.args.link (g.H.Host.calls c.args.host.now) c.new-conversation.result c.args.end.now c.requires.fresh
+        c.new-conversation.ensures.client c.new-conversation.ensures.feeder c.new-conversation.ensures.unsent c.new-conversation.ensures.heard c.requires.begins,
+    paced_first c.args.end.now.input.text.items,
+  );
+  made = makes_none (g.H.Host.calls c.args.host.now) (AreRounds c.args.link 4096 0) refl;
+  may = may_begin (StandsOf g.A.Exporting.is_app g.A.Exporting.exporter g.A.Exporting.is_kit) (0 ∷ c.args.end.now.input.text.items) c.args.end.now c.requires.begins;
   few = omega (arith, c.new-conversation.ensures.heard);
   within = omega arith;
   piece = search rules;
@@ -25,8 +33,16 @@ turn-requires-clause-open g c = subst (λ (w : List ℕ). IsOpen c.args.link w) 
 
 pub rounds-preserved : goal.rounds-preserved
 rounds-preserved g c =
+    let o = c.rounds.invariant.goes in
+    let t = c.in-Ok.ensures.ok c.args.end.now.input.text.items o.0 c.rounds.done o.1 in
     record {
-      goes = c.in-Ok.ensures.ok c.args.end.now.input.text.items c.rounds.done c.rounds.invariant.goes;
+      goes = (
+        t.1,
+        t.4,
+        subst (λ (x : ℕ). Paced c.args.end.now.input.text.items t.1 (c.rounds.done + 1) x) (sym t.3) (paced_more c.args.end.now.input.text.items o.0 c.rounds.done c.rounds.takes t.0 t.1 o.2 t.2),
+      );
+      made = rounds_more c.args.link 4096 c.rounds.done (g.H.Host.calls c.args.host.now) (g.H.Host.calls c.rounds.host) (g.H.Host.calls c.turn.new.host) c.rounds.invariant.made
+          (subst (λ (x : ℕ). Makes (g.H.Host.calls c.rounds.host) (g.H.Host.calls c.turn.new.host) (IsRound c.args.link x)) c.rounds.invariant.piece c.in-Ok.ensures.made);
       may = c.in-Ok.ensures.may;
       few = omega (arith, c.in-Ok.ensures.few, c.rounds.invariant.few, c.rounds.invariant.piece);
       within = omega arith;
@@ -37,7 +53,14 @@ rounds-preserved g c =
     }
 
 pub returns-in-Err-clause-over : goal.returns-in-Err-clause-over
-returns-in-Err-clause-over g c = c.in-Err.ensures.err c.args.end.now.input.text.items c.rounds.done c.args.rounds c.rounds.invariant.goes
+returns-in-Err-clause-over g c = (c.in-Err.ensures.err c.args.end.now.input.text.items c.rounds.invariant.goes.0 c.rounds.done c.args.rounds c.rounds.invariant.goes.1).0
+
+pub returns-in-Err-clause-paced : goal.returns-in-Err-clause-paced
+returns-in-Err-clause-paced g c =
+    let o = c.rounds.invariant.goes in
+    over_paced c.args.end.now.input.text.items o.0 c.rounds.done c.rounds.takes c.args.link c.args.rounds c.in-Err.over (g.H.Host.calls c.args.host.now) (g.H.Host.calls c.rounds.host) (g.H.Host.calls c.turn.new.host) (omega arith) o.2
+    (c.in-Err.ensures.err c.args.end.now.input.text.items o.0 c.rounds.done c.args.rounds o.1).1 c.rounds.invariant.made
+    (subst (λ (x : ℕ). Makes (g.H.Host.calls c.rounds.host) (g.H.Host.calls c.turn.new.host) (BreaksOver c.args.link x c.in-Err.over)) c.rounds.invariant.piece c.in-Err.ensures.made)
 
 pub returns-in-Err-clause-cause : goal.returns-in-Err-clause-cause
 returns-in-Err-clause-cause g c = subst (λ (n : ℕ). OverBlames c.in-Err.over n (g.H.Host.link_faults c.turn.new.host)) c.rounds.invariant.steady c.in-Err.ensures.cause
@@ -45,5 +68,12 @@ returns-in-Err-clause-cause g c = subst (λ (n : ℕ). OverBlames c.in-Err.over 
 pub returns-clause-over : goal.returns-clause-over
 returns-clause-over g c =
     let done : c.rounds.done ≡ c.args.rounds = omega arith in
-    all_turned (StandsOf g.A.Exporting.is_app g.A.Exporting.exporter g.A.Exporting.is_kit c.args.end.now.input.text.items) (lines_of c.args.end.now.input.text.items) (see_of g.A.Exporting.exporter) c.args.link c.rounds.done c.args.rounds
-    (g.H.Host.calls c.rounds.host) c.rounds.conversation c.rounds.end (seen_of g.A.Exporting.is_app g.A.Exporting.exporter g.A.Exporting.is_kit c.args.end.now.input.text.items) done c.rounds.invariant.goes
+    let o = c.rounds.invariant.goes in
+    all_turned (StandsOf g.A.Exporting.is_app g.A.Exporting.exporter g.A.Exporting.is_kit (o.0 ∷ c.args.end.now.input.text.items)) (lines_of c.args.end.now.input.text.items) (see_of g.A.Exporting.exporter) c.args.link c.rounds.done c.args.rounds
+    (g.H.Host.calls c.rounds.host) c.rounds.conversation c.rounds.end (seen_of g.A.Exporting.is_app g.A.Exporting.exporter g.A.Exporting.is_kit o.0 c.args.end.now.input.text.items) done o.1
+
+pub returns-clause-paced : goal.returns-clause-paced
+returns-clause-paced g c =
+    let done : c.rounds.done ≡ c.args.rounds = omega arith in
+    let o = c.rounds.invariant.goes in
+    done_paced c.args.end.now.input.text.items o.0 c.rounds.done c.rounds.takes c.args.link c.args.rounds (g.H.Host.calls c.args.host.now) (g.H.Host.calls c.rounds.host) done o.2 c.rounds.invariant.made
