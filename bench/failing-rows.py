@@ -17,7 +17,7 @@ RUNS = [
      'app "Demo"\nreader\nturns 1000\nedit a0 insert 0 0 push-button "OK"\nedit a0 name 1 "Save"\nshow r0 a0\nturns 1000\nshow r0 a0\n'),
     ("a text that a reader's user changes, with all bytes", ["replay", "--wire"],
      'app "T"\nreader\ndrain\nedit a0 insert 0 0 text "E" text ""\nedit a0 focus 1\ndrain\ncall r0 a0 1 insert-text 0 "hi"\ndrain\nshow r0 a0\n'),
-    ("a registry that is dropped at its quota", ["replay", "--brief"],
+    ("messages kept out at a quota", ["replay", "--brief"],
      'quota 1024\napp "Demo"\nreader\ndrain\nedit a0 name 0 "a"\nedit a0 name 0 "b"\nedit a0 name 0 "c"\nedit a0 name 0 "d"\nbytes a0 up 1000000\nshow r0 a0\ndrain\n'),
     ("an exchange of faces, two readers, an exit", ["replay"],
      'app "A"\nreader\nreader\ndrain\nedit a0 insert 0 0 text "E" text "one"\nswap a0\nedit a0 put 1 0 "so "\ndrain\nleave r1\nexit a0\ndrain\n'),
