@@ -17,9 +17,9 @@ stop() {
     rm -rf "$work"
 }
 trap stop EXIT
-(cd "$top/crates/atspi_bus_speed" && rt run -- each) >"$work/build" 2>&1 || { cat "$work/build" >&2; exit 1; }
+built=$("$top/bench/programs.sh" built atspi_bus_speed)
 program=$work/atspi_bus_speed
-cp "$top/crates/atspi_bus_speed/out/atspi_bus_speed" "$program"
+cp "$built" "$program"
 cc -O2 -Wall -Wextra -shared -fPIC -o "$work/clock.so" "$top/bench/clock.c"
 
 # counted FILE WORD..: the instructions of a run, whose profile goes to the file

@@ -6,8 +6,7 @@ set -eu
 top=$(cd "$(dirname "$0")/.." && pwd)
 folds=${1:-100000}
 runs=${2:-5}
-(cd "$top/crates/atspi_speed" && rt run -- each) >/dev/null 2>&1 || { echo "it could not be built" >&2; exit 1; }
-program=$top/crates/atspi_speed/out/atspi_speed
+program=$("$top/bench/programs.sh" built atspi_speed)
 
 # best SHAPE ITEMS KIND: the least of the runs
 best() {

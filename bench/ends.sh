@@ -1,7 +1,6 @@
 # Sourced by bench/app.sh and bench/reader.sh: builds the program of both ends, $program, and the clock that it is run with, in a folder $work of its own that goes at the end.
 top=$(cd "$(dirname "$0")/.." && pwd)
-(cd "$top/crates/atspi_ends_speed" && rt run -- each) >/dev/null 2>&1 || { echo "it could not be built" >&2; exit 1; }
-program=$top/crates/atspi_ends_speed/out/atspi_ends_speed
+program=$("$top/bench/programs.sh" built atspi_ends_speed) || exit 1
 work=$(mktemp -d)
 trap 'rm -rf "$work"' EXIT
 cc -O2 -Wall -Wextra -shared -fPIC -o "$work/clock.so" "$top/bench/clock.c"

@@ -5,5 +5,5 @@
 set -eu
 top=$(cd "$(dirname "$0")/.." && pwd)
 echo "load: $(cut -d' ' -f1-3 /proc/loadavg), processors: $(nproc)"
-cd "$top/crates/atspi_speed"
-rt run -- faces "${1:-1000000}" "${2:-10000}"
+program=$("$top/bench/programs.sh" built atspi_speed)
+"$program" faces "${1:-1000000}" "${2:-10000}"

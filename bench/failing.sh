@@ -6,8 +6,7 @@ set -eu
 top=$(cd "$(dirname "$0")/.." && pwd)
 work=$(mktemp -d)
 trap 'rm -rf "$work"' EXIT
-(cd "$top/crates/atspi_failing" && rt run -- app) >"$work/build" 2>&1 || { cat "$work/build" >&2; exit 1; }
-program=$top/crates/atspi_failing/out/atspi_failing
+program=$("$top/bench/programs.sh" built atspi_failing)
 cc -O2 -Wall -Wextra -shared -fPIC -o "$work/failing.so" "$top/bench/failing.c" -ldl
 for end in app reader; do
     echo "# $end"

@@ -4,8 +4,7 @@
 set -eu
 top=$(cd "$(dirname "$0")/.." && pwd)
 rounds=${1:-50000}
-(cd "$top/crates/atspi_speed" && rt run -- each) >/dev/null
-program=$top/crates/atspi_speed/out/atspi_speed
+program=$("$top/bench/programs.sh" built atspi_speed)
 begin=$(date +%s%N)
 "$program" lines "$rounds" >/dev/null
 end=$(date +%s%N)

@@ -7,8 +7,7 @@ top=$(cd "$(dirname "$0")/.." && pwd)
 rounds=${1:-500}
 work=$(mktemp -d)
 trap 'rm -rf "$work"' EXIT
-(cd "$top/crates/atspi_speed" && rt run -- each) >"$work/build" 2>&1 || { cat "$work/build" >&2; exit 1; }
-program=$top/crates/atspi_speed/out/atspi_speed
+program=$("$top/bench/programs.sh" built atspi_speed)
 
 # count WORD: the instructions of a run
 count() {

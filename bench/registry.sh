@@ -5,8 +5,7 @@
 set -eu
 top=$(cd "$(dirname "$0")/.." && pwd)
 runs=${1:-5}
-(cd "$top/crates/atspi_speed" && rt run -- each) >/dev/null 2>&1 || { echo "it could not be built" >&2; exit 1; }
-program=$top/crates/atspi_speed/out/atspi_speed
+program=$("$top/bench/programs.sh" built atspi_speed)
 echo "load: $(cut -d' ' -f1-3 /proc/loadavg), processors: $(nproc)"
 for size in "1000 100 100" "2000 100 200" "4000 100 400" "10000 100 1000"; do
     for _run in $(seq "$runs"); do

@@ -8,11 +8,8 @@ work=$(mktemp -d)
 trap 'rm -rf "$work"' EXIT
 
 ${CC:-cc} -O2 -o "$work/c" "$top/bench/marshal.c"
-if ! (cd "$top/crates/atspi_speed" && rt run -- each) >"$work/build" 2>&1; then
-    cat "$work/build" >&2
-    exit 1
-fi
-cp "$top/crates/atspi_speed/out/atspi_speed" "$work/proved"
+program=$("$top/bench/programs.sh" built atspi_speed)
+cp "$program" "$work/proved"
 
 # part PROGRAM: the word before its others
 part() { [ "$1" = c ] || echo values; }
