@@ -102,7 +102,10 @@ def plan(file, lanes):
         low = [(it, "proof") for it in uses[crate]]
         tasks[crate, "proof"] = low, lines[crate], of.get("proof", 0)
         tasks[crate, "tests"] = low, lines[crate] if "tests" in of else 0, of.get("tests", 0)
-        if edits:
+        if len(edits) == 1:
+            # (one alone is tried from nothing)
+            tasks[crate, edits[0]] = [(crate, "proof"), (crate, "tests")], lines[crate], of.get("edits", of.get("proof", 0))
+        elif edits:
             # the check that they begin with, and each of them
             seed = min(of.get("proof", 0), of.get("edits", 0))
             tasks[crate, "seed"] = low, 0, seed
