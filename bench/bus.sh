@@ -5,7 +5,7 @@
 # usage: bench/bus.sh [ROUNDS [RUNS]]     (wants valgrind; the names of 10,000 connections take most of its time)
 #        bench/bus.sh rules [ROUNDS [RUNS]]        (the tables of rules alone)
 #        bench/bus.sh where               (where the instructions of a call with its return go, by function)
-#        bench/bus.sh hello               (what a Hello takes, alone)
+#        bench/bus.sh hello               (what a Hello and a leaving take, alone)
 set -eu
 top=$(cd "$(dirname "$0")/.." && pwd)
 work=$(mktemp -d)
@@ -65,13 +65,17 @@ where() {
         END { for (name in own) { each = own[name] / n; if (each >= 1) printf "%8.0f%s\n", each, name } }' "$work/one.txt" "$work/all.txt" | sort -rn
 }
 
-# hello: a new bus with a Hello and an AddMatch, and each of many connections that join one bus
+# hello: a new bus with a Hello and an AddMatch, and each of many connections that join one bus, and that leave it then
 hello() {
+    local count joined left
     rounds=200 runs=5
     show "new bus, Hello and AddMatch" "$rounds" 2000 hello
     none=$(counted "$work/one" names 0)
     for count in 1000 10000; do
-        show_names "$count" "$(counted "$work/all" names "$count")"
+        joined=$(counted "$work/all" names "$count")
+        left=$(counted "$work/all" leavings "$count")
+        show_names "$count" "$joined"
+        printf '%-48s %11d instructions %11d ns\n' "leaving, each of $count" $(((left - joined) / count)) "$(least leavings "$count")"
     done
 }
 

@@ -1,10 +1,10 @@
 #!/usr/bin/env bash
 # A bus on a Unix socket beside dbus-daemon and dbus-broker, where they are installed, in one run: connects with Hello, round trips with 1 and 16 in
 # flight, beside 60 quiet links, signals to 8 receivers. bench/live.c is the client of all three; each number is the middle one of three.
-# usage: bench/live.sh PROGRAM [COUNT]      PROGRAM is the built atspi_live; COUNT round trips are made (20,000). Ends by itself within some minutes.
+# usage: bench/live.sh PROGRAM [COUNT]      PROGRAM is the built atspi; COUNT round trips are made (20,000). Ends by itself within some minutes.
 set -u
 top=$(cd "$(dirname "$0")/.." && pwd)
-program=${1:?the built program atspi_live}
+program=${1:?the built program atspi}
 count=${2:-20000}
 work=$(mktemp -d)
 started=()
@@ -32,7 +32,7 @@ measure() {
 }
 timeout 600 "$program" bus "$work/ours" 1000000000 2>/dev/null &
 started+=($!)
-measure "atspi_live bus" ours
+measure "atspi bus" ours
 if command -v dbus-daemon >/dev/null; then
     timeout 600 dbus-daemon --session --nofork --address="unix:path=$work/daemon" 2>/dev/null &
     started+=($!)

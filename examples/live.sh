@@ -1,9 +1,9 @@
 #!/usr/bin/env bash
 # A bus, the registry and a reader in one terminal, and what a stock client sees of them. With zenity and Xvfb installed (Debian packages) a real
 # application joins, and the reader speaks it. The bus is dbus-daemon where PROGRAM has no bus. Ends by itself within half a minute.
-# usage: examples/live.sh PROGRAM      PROGRAM is the built atspi_live
+# usage: examples/live.sh PROGRAM      PROGRAM is the built atspi
 set -u
-program=${1:?the built program atspi_live}
+program=${1:?the built program atspi}
 room=$(mktemp -d)
 started=()
 stop() {

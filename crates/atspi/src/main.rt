@@ -1,12 +1,16 @@
-//! The program `atspi`: the top call over the command line, standard input and standard output.
+//! The program `atspi`: the top call over the command line, standard input and standard output, and the live commands over the system's sockets.
 #![tactic(auto)]
 
 mod input;
+mod live;
 mod output;
 mod retry;
 
+use atspi_base::{Text, TextFault};
 use atspi_run::run;
+use atspi_sockets::NetHost;
 use input::StandardInput;
+use live::{do_live, live_in};
 use output::StandardOutput;
 use std::env;
 use std::io::ErrorKind;
@@ -29,7 +33,21 @@ fn main(rt: HostRuntime) -> ExitCode {
             }
         }
     }
+    let alloc = rt.alloc();
     let mut source = StandardInput::new(rt.stdin(), &rt);
     let mut sink = StandardOutput::new(rt.stdout(), &rt);
-    ExitCode::from(run(rt.alloc(), &words, &mut source, &mut sink))
+    let Some(live) = live_in(&words) else {
+        return ExitCode::from(run(alloc, &words, &mut source, &mut sink));
+    };
+    let path = match Text::read(alloc, live.path.as_bytes()) {
+        Ok(path) => path,
+        Err(TextFault::NoMemory) => return ExitCode::from(5),
+        Err(_) => return ExitCode::from(run(alloc, &words, &mut source, &mut sink)),
+    };
+    let Ok(mut host) = NetHost::new(alloc, &rt, live.rest()) else {
+        return ExitCode::from(5);
+    };
+    let status = do_live(alloc, live, &path, &mut source, &mut sink, &mut host);
+    host.leave(&path);
+    ExitCode::from(status)
 }

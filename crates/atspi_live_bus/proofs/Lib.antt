@@ -7,3 +7,4 @@ pub mod Conversing
 pub mod Going
 pub mod Fetching
 pub mod Stepping
+pub mod Rounding

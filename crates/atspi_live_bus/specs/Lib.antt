@@ -3,3 +3,4 @@ pub mod Serving
 pub mod Asked
 pub mod Service
 pub mod Turns
+pub mod Rounds

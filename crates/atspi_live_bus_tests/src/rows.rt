@@ -3,12 +3,20 @@
 use crate::runs::{Row, holds};
 use std::test::*;
 
-/// A client between two signs `|`, a word for each of its pieces; the number of the call that fails; rounds; status; the links that are closed; what
-/// is given on the first link, and on the second.
+/// A client between two signs `|`, a word for each of its pieces, `N*` before N of the same; the number of the call that fails; rounds; status; the
+/// links that are closed, `m` being the 65th, which waits until one of 64 leaves; what is given on the first link, and on the second.
 const ROWS: &str = "\
 login hello;never;400;8;;grant named acquired;
 login noise|login hello;never;900;8;a;grant;grant named acquired
 no_zero|early;never;9;8;ab;;
+silent|login hello;never;400;8;;;grant named acquired
+slowly_login slowly_hello|silent;never;400;8;;grant named acquired;
+login half|login hello;never;400;8;;grant;grant named acquired
+login half end|login hello;never;400;8;a;grant;grant named acquired
+zero long|login hello;never;400;8;a;;grant named acquired
+login hello noise|silent;never;400;8;a;grant named acquired;
+slowly_login slowly_half|login hello|62*silent|no_zero;never;130;8;;grant;grant named acquired
+slowly_login slowly_half end|login hello|62*silent|no_zero;never;130;8;am;grant;grant named acquired
 login named;never;9;8;a;grant;
 login;0;9;7;;;
 ;1;9;7;;;

@@ -27,13 +27,19 @@ const NAMED: &[u8] =
 const ACQUIRED: &[u8] =
     b"l\x04\x01\x01\x09\0\0\0\x02\0\0\0\x8f\0\0\0\x01\x01o\0\x15\0\0\0/org/freedesktop/DBus\0\0\0\x02\x01s\0\x14\0\0\0org.freedesktop.DBus\0\0\0\0\x03\x01s\0\x0c\0\0\0NameAcquired\0\0\0\0\x06\x01s\0\x04\0\0\0:1.0\0\0\0\0\x07\x01s\0\x14\0\0\0org.freedesktop.DBus\0\0\0\0\x08\x01g\0\x01s\0\0\x04\0\0\0:1.0\0";
 
+/// More bytes than a line may have.
+const LONG: [u8; 16_385] = [b'A'; 16_385];
+
 /// The bytes of a word.
-fn bytes_of(word: &str) -> &'static [u8] {
+pub fn bytes_of(word: &str) -> &'static [u8] {
     match word {
         "login" => LOGIN,
         "no_zero" => b"AUTH EXTERNAL\x0d\x0a",
         "early" => b"\0BEGIN\x0d\x0a",
+        "zero" => b"\0",
+        "long" => &LONG,
         "hello" => HELLO,
+        "half" => &HELLO[..60],
         "noise" => b"x\x01\0\x01\0\0\0\0\x01\0\0\0\0\0\0\0",
         "grant" => GRANT,
         "named" => NAMED,
@@ -51,13 +57,37 @@ fn joined(alloc: Global, words: &str) -> Result<Vec<u8>, Fail> {
     Ok(bytes)
 }
 
-/// A peer that sends these words, one for each read, and stays.
-fn peer(alloc: Global, words: &str) -> Result<Peer, Fail> {
+/// Appends the bytes of a word as one piece or, behind `slowly_`, each as a piece of its own.
+fn put_word(alloc: Global, word: &str, pieces: &mut VecDeque<Vec<u8>>) -> Result<(), Fail> {
+    let Some(slow) = word.strip_prefix("slowly_") else {
+        pieces.push_back(bytes_of(word).to_vec(alloc)?)?;
+        return Ok(());
+    };
+    for byte in bytes_of(slow) {
+        pieces.push_back([*byte].to_vec(alloc)?)?;
+    }
+    Ok(())
+}
+
+/// A peer that sends these words, one for each read, and stays, or ends behind them where `end` is the last word.
+pub fn peer(alloc: Global, words: &str) -> Result<Peer, Fail> {
+    let (words, ends) = match words.strip_suffix(" end") {
+        Some(words) => (words, true),
+        None => (words, false),
+    };
     let mut pieces = VecDeque::new(alloc);
     for word in words.split(' ') {
-        pieces.push_back(bytes_of(word).to_vec(alloc)?)?;
+        put_word(alloc, word, &mut pieces)?;
     }
-    Ok(Peer::new(pieces, false))
+    Ok(Peer::new(pieces, ends))
+}
+
+/// How many peers send these words, and the words.
+fn times(words: &str) -> (u32, &str) {
+    match words.split_once('*') {
+        Some((count, words)) => (count.parse::<u32>().unwrap_or(0), words),
+        None => (1, words),
+    }
 }
 
 /// A host with peers that send these words, a peer between two signs `|`, whose call with this number fails.
@@ -66,8 +96,11 @@ fn host_of(alloc: Global, sent: &str, failing: u64) -> Result<MemHost, Fail>
     ensures links { IfOk result (λ host. ⟦<MemHost as Host>⟧.links host ≡ []) }
 {
     let mut peers = Vec::new(alloc);
-    for words in sent.split('|') {
-        peers.push(peer(alloc, words)?)?;
+    for part in sent.split('|') {
+        let (count, words) = times(part);
+        for _ in 0..count {
+            peers.push(peer(alloc, words)?)?;
+        }
     }
     let mut numbers = Vec::new(alloc);
     numbers.push(failing)?;
@@ -99,8 +132,17 @@ fn gave(alloc: Global, link: u32, words: &str, calls: &[Call]) -> Result<bool, F
     Ok(at == due.len())
 }
 
+/// How many bytes were given on a link.
+pub fn given_on(link: u32, calls: &[Call]) -> usize {
+    let mut count = 0usize;
+    for call in calls {
+        count = count.saturating_add(given_by(link, call).len());
+    }
+    count
+}
+
 /// Whether just these links were closed, in this order, each as a letter from `a` on.
-fn closed(letters: &str, calls: &[Call]) -> bool {
+pub fn closed(letters: &str, calls: &[Call]) -> bool {
     let mut due = letters.bytes();
     for call in calls {
         if let Call::Close(link) = call {

@@ -188,6 +188,10 @@ atspi make N SEED                a script of N edits is drawn and done: a line o
 atspi make --help                its limits, and its statuses\n\
 atspi check                      D-Bus messages on standard input: a line for each, or the first fault\n\
 atspi check --help               the lines that check writes, and its statuses\n\
+atspi bus PATH ROUNDS            a message bus on the Unix socket PATH, for so many rounds\n\
+atspi registry PATH ROUNDS       the registry of accessible applications, on the bus at PATH\n\
+atspi app PATH ROUNDS            an application there, which does the lines on standard input\n\
+atspi read PATH ROUNDS           a reader there: what it speaks and, once the bus ends, what it holds\n\
 atspi --help                     this text\n\
 atspi --version                  the version\n",
     },

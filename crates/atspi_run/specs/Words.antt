@@ -24,6 +24,10 @@ help =
     ∷ codes "atspi make --help                its limits, and its statuses"
     ∷ codes "atspi check                      D-Bus messages on standard input: a line for each, or the first fault"
     ∷ codes "atspi check --help               the lines that check writes, and its statuses"
+    ∷ codes "atspi bus PATH ROUNDS            a message bus on the Unix socket PATH, for so many rounds"
+    ∷ codes "atspi registry PATH ROUNDS       the registry of accessible applications, on the bus at PATH"
+    ∷ codes "atspi app PATH ROUNDS            an application there, which does the lines on standard input"
+    ∷ codes "atspi read PATH ROUNDS           a reader there: what it speaks and, once the bus ends, what it holds"
     ∷ codes "atspi --help                     this text"
     ∷ codes "atspi --version                  the version"
     ∷ [])

@@ -14,7 +14,7 @@ use atspi_replay::{MAKE_LIMIT, SEED_LIMIT};
 /// The line that is written for words that name no command.
 const USAGE: &[u8] = b"usage: atspi replay, check, make, bus, registry, app or read\n";
 
-/// What `--help` writes: the commands that stand.
+/// What `--help` writes: the commands. Those on a socket are the program's own.
 const HELP: &[u8] =
     b"atspi replay [--brief] [--wire]  a script on standard input: what happens, line by line\n\
 atspi replay --help              the lines of a script, and the statuses of replay\n\
@@ -22,6 +22,10 @@ atspi make N SEED                a script of N edits is drawn and done: a line o
 atspi make --help                its limits, and its statuses\n\
 atspi check                      D-Bus messages on standard input: a line for each, or the first fault\n\
 atspi check --help               the lines that check writes, and its statuses\n\
+atspi bus PATH ROUNDS            a message bus on the Unix socket PATH, for so many rounds\n\
+atspi registry PATH ROUNDS       the registry of accessible applications, on the bus at PATH\n\
+atspi app PATH ROUNDS            an application there, which does the lines on standard input\n\
+atspi read PATH ROUNDS           a reader there: what it speaks and, once the bus ends, what it holds\n\
 atspi --help                     this text\n\
 atspi --version                  the version\n";
 

@@ -6,8 +6,8 @@ use Rattle.atspi_host.specs.declared.call.Did.TheVariants.{Done}
 use Rattle.atspi_host.specs.Calls.{IsNew, Opens, without}
 use Rattle.std.specs.List.{filter}
 use Rattle.std.proofs.lemmas.Bool.Decides.{eqb_tells}
-use Rattle.atspi_live.specs.Numbers.{numbers}
-use Rattle.atspi_live.specs.declared.open_link.Open.{Open}
+use Rattle.atspi_sockets.specs.Numbers.{numbers}
+use Rattle.atspi_sockets.specs.declared.open_link.Open.{Open}
 
 below_new : (os : List Open) (n : ℕ) → All (λ o. o.number < n) os → IsNew n (map (λ o. o.number) os)
 below_new [] n p = tt

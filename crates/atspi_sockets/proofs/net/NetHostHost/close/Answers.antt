@@ -1,8 +1,8 @@
 use Rattle.std.proofs.Common.{rules, ◌==◌, not, ◌∙◌, ap}
 use Rattle.std.proofs.lemmas.Fn.{filter_same}
-use Rattle.atspi_live.specs.Numbers.{numbers}
-use Rattle.atspi_live.proofs.LinkLemmas.{without_filter}
-use Rattle.atspi_live.proofs.net.NetHostHost.close.Goals as goal
+use Rattle.atspi_sockets.specs.Numbers.{numbers}
+use Rattle.atspi_sockets.proofs.LinkLemmas.{without_filter}
+use Rattle.atspi_sockets.proofs.net.NetHostHost.close.Goals as goal
 
 pub returns-clause-links : goal.returns-clause-links
 returns-clause-links g c =

@@ -6,17 +6,15 @@ use std::io;
 use std::net::Net;
 use std::time::Duration;
 
-/// So long is rested at the most, in milliseconds.
-const REST: u64 = 500;
-
 /// The token of the listener. A link's token is its number, which is less.
 pub(crate) const LISTENER: usize = 1 << 32;
 
 /// What is known of the sockets. The system tells a change once, so what it told is kept until a call has found nothing.
 #[derive(Drop)]
 pub(crate) struct Ready {
-    /// Whether the system is asked at all. If it is not, each socket is tried at each call, and nothing is waited for.
-    asks: bool,
+    /// So long is rested at the most, in milliseconds. If it is none, the system is not asked at all: each socket is tried at each call, and nothing is
+    /// waited for.
+    rest: Option<u64>,
     /// Whether something came or went in this round.
     moved: bool,
     /// In this round each socket is tried.
@@ -30,15 +28,15 @@ pub(crate) struct Ready {
 }
 
 impl Ready {
-    /// Nothing is known of so many sockets at the most. If it does not ask, the host waits for nothing.
+    /// Nothing is known of so many sockets at the most. Without a longest rest, in milliseconds, the host waits for nothing.
     pub(crate) fn new(
         alloc: Global,
         net: &impl Net,
-        asks: bool,
+        rest: Option<u64>,
         sockets: usize,
     ) -> io::Result<Ready> {
         Ok(Ready {
-            asks,
+            rest,
             moved: true,
             tries_all: true,
             poll: Poll::new(net)?,
@@ -55,10 +53,10 @@ impl Ready {
 
     /// A round begins: the system is asked once. Where nothing came or went in the whole round before, it rests until something does.
     pub(crate) fn begin(&mut self) {
-        if !self.asks {
+        let Some(rest) = self.rest else {
             return;
-        }
-        let most = if self.moved { 0 } else { REST };
+        };
+        let most = if self.moved { 0 } else { rest };
         let wait = Duration::from_millis(most);
         let failed = self.poll.poll(&mut self.events, Some(wait)).is_err();
         // also after a rest that nothing ended, so that nothing is missed for long
@@ -82,12 +80,12 @@ impl Ready {
 
     /// Whether the socket may have something to read.
     pub(crate) fn may_read(&self, token: usize) -> bool {
-        !self.asks || self.tries_all || self.readable.contains(&token)
+        self.rest.is_none() || self.tries_all || self.readable.contains(&token)
     }
 
     /// Whether the socket may have room.
     pub(crate) fn may_write(&self, token: usize) -> bool {
-        !self.asks || self.tries_all || !self.full.contains(&token)
+        self.rest.is_none() || self.tries_all || !self.full.contains(&token)
     }
 
     /// Something came or went.

@@ -5,10 +5,11 @@ ghost use Rattle.std.specs.List.{All};
 ghost use Rattle.atspi_host.specs.declared.call.Call.{Call};
 ghost use Rattle.atspi_host.specs.declared.call.Did.{Did};
 ghost use Rattle.atspi_host.specs.Calls.{Counts, Opens};
-ghost use Rattle.atspi_live.specs.Numbers.{numbers};
+ghost use Rattle.atspi_sockets.specs.Numbers.{numbers};
 
 use crate::open_link::Open;
 use crate::ready::{LISTENER, Ready};
+use crate::refusal::Refusal;
 use atspi_base::Text;
 use atspi_host::{Did, Host};
 use mio::net::{UnixListener, UnixStream};
@@ -50,15 +51,15 @@ pub struct NetHost<'a, R: Files + Net + Eprint> {
 }
 
 impl<'a, R: Files + Net + Eprint> NetHost<'a, R> {
-    /// No link is open yet, and no call has failed. A host that rests waits where a whole round found nothing ready; else it waits for
-    /// nothing.
-    pub fn new(alloc: Global, rt: &'a R, rests: bool) -> io::Result<Self>
+    /// No link is open yet, and no call has failed. A host with a longest rest, in milliseconds, waits so long where a whole round found nothing
+    /// ready; without one it waits for nothing.
+    pub fn new(alloc: Global, rt: &'a R, rest: Option<u64>) -> io::Result<Self>
         ensures links { IfOk result (λ h. ⟦<NetHost<'a, R> as Host>⟧.links h ≡ []) }
         ensures calls { IfOk result (λ h. ⟦<NetHost<'a, R> as Host>⟧.calls h ≡ None) }
     {
         Ok(NetHost {
             rt,
-            ready: Ready::new(alloc, rt, rests, LINKS + 1)?,
+            ready: Ready::new(alloc, rt, rest, LINKS + 1)?,
             listener: None,
             links: Vec::with_capacity(alloc, LINKS)?,
             next: 0,
@@ -95,28 +96,35 @@ impl<'a, R: Files + Net + Eprint> NetHost<'a, R> {
         Did::Done(number)
     }
 
-    /// Whether a socket's file stands at the path at which nobody listens: who left it has ended.
-    fn is_left(&self, path: &Text) -> bool {
+    /// Why no listener can be made where a file lies. `Unheard`: it is a socket's at which nobody listens, so that who left it has ended.
+    fn taken_by(&self, path: &Text) -> Refusal {
         match fs::symlink_metadata(self.rt, path.as_str()) {
             Ok(found) if found.file_type().is_socket() => {
                 match UnixStream::connect(self.rt, path.as_str()) {
-                    Ok(_) => false,
-                    Err(error) => error.kind() == ErrorKind::ConnectionRefused,
+                    Err(error) if error.kind() == ErrorKind::ConnectionRefused => Refusal::Unheard,
+                    _ => Refusal::Served,
                 }
             }
-            _ => false,
+            _ => Refusal::Taken,
         }
     }
 
     /// A listener at the path. A socket's file that was left there is removed first; all else that is there stays, and is refused.
-    fn bind(&self, path: &Text) -> io::Result<UnixListener> {
+    fn bind(&self, path: &Text) -> Result<UnixListener, Refusal> {
         match UnixListener::bind(self.rt, path.as_str()) {
-            Err(error) if error.kind() == ErrorKind::AddrInUse && self.is_left(path) => {
-                fs::remove_file(self.rt, path.as_str())?;
-                UnixListener::bind(self.rt, path.as_str())
-            }
-            bound => bound,
+            Ok(listener) => Ok(listener),
+            Err(error) if error.kind() == ErrorKind::AddrInUse => match self.taken_by(path) {
+                Refusal::Unheard => self.bind_again(path).map_err(|e| Refusal::of(&e)),
+                refusal => Err(refusal),
+            },
+            Err(error) => Err(Refusal::of(&error)),
         }
+    }
+
+    /// A listener at the path, in the place of the file that was left there.
+    fn bind_again(&self, path: &Text) -> io::Result<UnixListener> {
+        fs::remove_file(self.rt, path.as_str())?;
+        UnixListener::bind(self.rt, path.as_str())
     }
 
     /// The socket's file at the path is removed, where this host listened.
@@ -131,6 +139,12 @@ impl<'a, R: Files + Net + Eprint> NetHost<'a, R> {
     fn tell(&self, news: &str, path: &Text) {
         let rt = self.rt;
         let _ = eprintln!(rt; "atspi: {news} {}", path.as_str());
+    }
+
+    /// Tells on standard error that a path is refused, and why.
+    fn tell_refusal(&self, what: &str, path: &Text, refusal: Refusal) {
+        let rt = self.rt;
+        let _ = eprintln!(rt; "atspi: {what} {}: {}", path.as_str(), refusal.words());
     }
 
     fn place(&self, link: u32) -> Option<usize>
@@ -165,8 +179,8 @@ impl<'a, R: Files + Net + Eprint> Host for NetHost<'a, R> {
                 self.tell("listens at", path);
                 Did::Done(0)
             }
-            Err(_) => {
-                self.tell("cannot listen at", path);
+            Err(refusal) => {
+                self.tell_refusal("cannot listen at", path, refusal);
                 fault(&mut self.faults)
             }
         }
@@ -196,8 +210,8 @@ impl<'a, R: Files + Net + Eprint> Host for NetHost<'a, R> {
                 self.tell("is connected to", path);
                 self.join(stream)
             }
-            Err(_) => {
-                self.tell("cannot connect to", path);
+            Err(error) => {
+                self.tell_refusal("cannot connect to", path, Refusal::of(&error));
                 fault(&mut self.faults)
             }
         }

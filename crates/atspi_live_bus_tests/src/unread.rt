@@ -1,0 +1,105 @@
+//! A client that never reads, while others are served.
+
+ghost use Rattle.std.specs.Prelude.{◌≡◌, ℕ, List, Option, None, []};
+ghost use Rattle.atspi_host.specs.declared.call.Call.{Call};
+
+use crate::runs::{bytes_of, closed, given_on, peer};
+use atspi_base::Text;
+use atspi_host::{Did, Host, MemHost, Peer};
+use atspi_live_bus::bus;
+use std::alloc::Global;
+use std::collections::VecDeque;
+use std::test::*;
+
+/// A signal of 60,000 bytes to `:1.0`, up to its array.
+const HEAD: &[u8] =
+    b"l\x04\x01\x01\x64\xea\0\0\x02\0\0\0H\0\0\0\x01\x01o\0\x02\0\0\0/a\0\0\0\0\0\0\x02\x01s\0\x03\0\0\0a.b\0\0\0\0\0\x03\x01s\0\x01\0\0\0C\0\0\0\0\0\0\0\x06\x01s\0\x04\0\0\0:1.0\0\0\0\0\x08\x01g\0\x02ay\0";
+
+/// So many of them, with their sender's name 60,108 bytes each, are more than 16,777,216 bytes.
+const SIGNALS: u32 = 281;
+
+/// In so many rounds all of them are read, 15 reads each.
+const ROUNDS: u32 = 4300;
+
+/// A host in memory whose first link takes nothing, since its peer never reads. It tells no calls to contracts.
+#[derive(Drop)]
+struct Unread {
+    host: MemHost,
+}
+
+impl Host for Unread {
+    ghost calls = { λ _. None };
+
+    ghost links = { λ h. ⟦<MemHost as Host>⟧.links h.host };
+
+    ghost faults = { λ h. ⟦<MemHost as Host>⟧.faults h.host };
+
+    ghost link_faults = { λ h. ⟦<MemHost as Host>⟧.link_faults h.host };
+
+    fn listen(&mut self, path: &Text) -> Did {
+        self.host.listen(path)
+    }
+
+    fn accept(&mut self) -> Did {
+        self.host.accept()
+    }
+
+    fn connect(&mut self, path: &Text) -> Did {
+        self.host.connect(path)
+    }
+
+    fn read(&mut self, link: u32, into: &mut [u8]) -> Did {
+        self.host.read(link, into)
+    }
+
+    fn write(&mut self, link: u32, bytes: &[u8]) -> Did {
+        if link == 0 {
+            return Did::NotYet;
+        }
+        self.host.write(link, bytes)
+    }
+
+    fn close(&mut self, link: u32) {
+        self.host.close(link);
+    }
+}
+
+/// The bytes of the signal.
+fn signal(alloc: Global) -> Result<Vec<u8>, Fail> {
+    let mut bytes = HEAD.to_vec(alloc)?;
+    bytes.extend_from_slice(&60_000u32.to_le_bytes())?;
+    bytes.extend_from_slice(&[0u8; 60_000])?;
+    Ok(bytes)
+}
+
+/// A client that says Hello and then sends the signals.
+fn sender(alloc: Global) -> Result<Peer, Fail> {
+    let mut pieces = VecDeque::new(alloc);
+    pieces.push_back(bytes_of("login").to_vec(alloc)?)?;
+    pieces.push_back(bytes_of("hello").to_vec(alloc)?)?;
+    for _ in 0..SIGNALS {
+        pieces.push_back(signal(alloc)?)?;
+    }
+    Ok(Peer::new(pieces, false))
+}
+
+#[test]
+fn a_client_that_never_reads_is_closed_at_its_quota(rt: HostRuntime) -> Result<(), Fail> {
+    let alloc = rt.alloc();
+    let mut peers = Vec::new(alloc);
+    peers.push(peer(alloc, "login hello")?)?;
+    peers.push(sender(alloc)?)?;
+    peers.push(peer(alloc, "slowly_login slowly_hello")?)?;
+    let mut host = Unread {
+        host: MemHost::new(alloc, peers, Vec::new(alloc)),
+    };
+    let path = Text::read(alloc, b"/run/bus")?;
+    assert_eq!(rt; bus(alloc, &path, ROUNDS, &mut host), 8);
+    let calls = host.host.calls().unwrap_or(&[]);
+    assert!(rt; closed("a", calls));
+    assert_eq!(rt; given_on(0, calls), 0);
+    // a line of 37 bytes, and the 258 of the return to Hello and of NameAcquired
+    assert_eq!(rt; given_on(1, calls), 295);
+    assert_eq!(rt; given_on(2, calls), 295);
+    Ok(())
+}
