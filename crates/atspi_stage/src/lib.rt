@@ -8,7 +8,6 @@ mod fault;
 mod getting;
 mod places;
 mod refusing;
-mod rows;
 mod showing;
 mod stage;
 mod starting;

@@ -14,13 +14,13 @@ ghost use Rattle.atspi_stage.specs.Wires.{name_if};
 ghost use Rattle.atspi_stage.specs.Worlds.{staged, Happens, IsPlaying};
 
 use crate::places::post_of;
-use crate::rows::{count_rows, shown_rows};
 use crate::stage::Stage;
 use atspi_base::NoMemory;
 use atspi_carrying::note;
 use atspi_events::{Event, Shown};
 use atspi_lines::Party;
 use atspi_posts::Post;
+use atspi_showing::{count_rows, shown_rows};
 use atspi_stage_ends::{Application, Follower};
 use std::alloc::Global;
 
