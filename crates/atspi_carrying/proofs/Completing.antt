@@ -293,24 +293,24 @@ all_moved w conn count n b b' posts posts' p given given' old new is there moves
     }
 
 -- or is lost with that, or spends its serials
-abbrev pub LosesSo : Bus → List Post → ℕ → List Event → List Event → Type 0
-LosesSo b posts conn old new = (v : World) (e : End) (said : Said) (rest : List Said) → IsCarried v b posts → HasRegistryFirst v.ends → end_at v.ends conn ≡ Some e → e.up ≡ said ∷ rest → IsLostBy (does v (routes conn)) old new
+abbrev pub LosesSo : Bus → List Post → List Post → ℕ → List Event → List Event → Type 0
+LosesSo b posts posts' conn old new = (v : World) (e : End) (said : Said) (rest : List Said) → IsCarried v b posts → HasRegistryFirst v.ends → end_at v.ends conn ≡ Some e → e.up ≡ said ∷ rest → IsLostBy (does v (routes conn)) posts' old new
 
-abbrev pub SpendsSo : Bus → List Post → ℕ → List Event → List Event → Type 0
-SpendsSo b posts conn old new = (v : World) (e : End) (said : Said) (rest : List Said) → IsCarried v b posts → end_at v.ends conn ≡ Some e → e.up ≡ said ∷ rest → IsSpentBy (does v (routes conn)) old new
+abbrev pub SpendsSo : Bus → List Post → List Post → ℕ → List Event → List Event → Type 0
+SpendsSo b posts posts' conn old new = (v : World) (e : End) (said : Said) (rest : List Said) → IsCarried v b posts → end_at v.ends conn ≡ Some e → e.up ≡ said ∷ rest → IsSpentBy v (does v (routes conn)) posts' old new
 
-pub all_lost : (w : World) (conn count n : ℕ) (b : Bus) (posts : List Post) (p : Post) (old new : List Event) → IsCarried w b posts → HasRegistryFirst w.ends → slice_get posts conn ≡ Some p → Moves p → IsLacking p (Some n) → n ≤ count
-    → LosesSo b posts conn old new → IsLostNext w (moving_up conn count) old new
-all_lost w conn count n b posts p old new is first there moves lacks enough loses =
+pub all_lost : (w : World) (conn count n : ℕ) (b : Bus) (posts posts' : List Post) (p : Post) (old new : List Event) → IsCarried w b posts → HasRegistryFirst w.ends → slice_get posts conn ≡ Some p → Moves p → IsLacking p (Some n) → n ≤ count
+    → LosesSo b posts posts' conn old new → IsLostNext w (moving_up conn count) posts' old new
+all_lost w conn count n b posts posts' p old new is first there moves lacks enough loses =
     let f = completes w conn count n b posts p is there moves lacks enough in
     record {
       has = record { moved = w; rest = moving_up conn (count - n); next = routes conn; is_next = f.next };
       lost = loses w f.the_end f.first f.rest is first f.at f.up;
     }
 
-pub all_spent : (w : World) (conn count n : ℕ) (b : Bus) (posts : List Post) (p : Post) (old new : List Event) → IsCarried w b posts → slice_get posts conn ≡ Some p → Moves p → IsLacking p (Some n) → n ≤ count
-    → SpendsSo b posts conn old new → IsSpentNext w (moving_up conn count) old new
-all_spent w conn count n b posts p old new is there moves lacks enough spends =
+pub all_spent : (w : World) (conn count n : ℕ) (b : Bus) (posts posts' : List Post) (p : Post) (old new : List Event) → IsCarried w b posts → slice_get posts conn ≡ Some p → Moves p → IsLacking p (Some n) → n ≤ count
+    → SpendsSo b posts posts' conn old new → IsSpentNext w (moving_up conn count) posts' old new
+all_spent w conn count n b posts posts' p old new is there moves lacks enough spends =
     let f = completes w conn count n b posts p is there moves lacks enough in
     record {
       has = record { moved = w; rest = moving_up conn (count - n); next = routes conn; is_next = f.next };

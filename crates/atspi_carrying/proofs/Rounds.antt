@@ -127,7 +127,7 @@ round_last w conn most left made o b b' posts posts' given given1 given2 old mid
     no_more w conn most left b b' posts posts' given given1 given2 old mid new t (subst (λ x. MovedSome t.now conn left x b' posts' given1 given2 mid new) is (moves_ t.now t.tied t.moves))
 
 -- THE NEXT CAUSE, behind what was done so far, is lost with the registry, or spends the serials of the bus
-module _ (w : World) (conn most left made : ℕ) (b : Bus) (posts : List Post) (given given' : List (List ℕ)) (old mid new : List Event) (so : Continues w conn most left b posts given given' old mid × (left + made ≤ most))
+module _ (w : World) (conn most left made : ℕ) (b : Bus) (posts posts' : List Post) (given given' : List (List ℕ)) (old mid new : List Event) (so : Continues w conn most left b posts given given' old mid × (left + made ≤ most))
     (linked : IsLinked w given) where
   abbrev t : Continues w conn most left b posts given given' old mid
   t = so.0
@@ -148,24 +148,24 @@ module _ (w : World) (conn most left made : ℕ) (b : Bus) (posts : List Post) (
   behind : (es : List Entry) → entries_of new ≡ entries_of mid ++ es → entries_of new ≡ entries_of old ++ ((t.entries ++ []) ++ es)
   behind es wrote = wrote ∙ ap (λ l. l ++ es) t.wrote ∙ append_assoc (entries_of old) t.entries es ∙ ap (λ l. entries_of old ++ (l ++ es)) (sym (append-nil t.entries))
 
-  pub round_lost : HasRegistryFirst w.ends → ((v : World) → IsCarried v b posts → HasRegistryFirst v.ends → MovesAt posts conn → IsLostNext v (moving_up conn left) mid new) → IsLostOn w (moving_up conn most) old new
+  pub round_lost : HasRegistryFirst w.ends → ((v : World) → IsCarried v b posts → HasRegistryFirst v.ends → MovesAt posts conn → IsLostNext v (moving_up conn left) posts' mid new) → IsLostOn w (moving_up conn most) posts' old new
   round_lost first loses =
       let n = loses t.now t.tied (t.first first) t.moves in
-      record { at = at_work n.has; lost = n.lost.lost; wrote = behind (does n.has.moved n.has.next).entries n.lost.wrote }
+      record { at = at_work n.has; lost = n.lost.lost; wrote = behind (does n.has.moved n.has.next).entries n.lost.wrote; names = n.lost.names }
 
-  pub round_spent : ((v : World) → IsCarried v b posts → MovesAt posts conn → IsSpentNext v (moving_up conn left) mid new) → IsSpentOn w (moving_up conn most) old new
+  pub round_spent : ((v : World) → IsCarried v b posts → MovesAt posts conn → IsSpentNext v (moving_up conn left) posts' mid new) → IsSpentOn w (moving_up conn most) posts' old new
   round_spent spends =
       let n = spends t.now t.tied t.moves in
       let p = n.spent.1 in
-      record { at = at_work n.has; spent = n.spent.0; part = p.part; missing = p.missing; front = p.front; wrote = behind p.part p.wrote }
+      record { at = at_work n.has; spent = n.spent.0; part = p.part; missing = p.missing; front = p.front; wrote = behind p.part p.wrote; names = n.spent.2 }
 
 -- of what was found at the connection
-pub first_lost : (conn most n : ℕ) (b : Bus) (posts : List Post) (p : Post) (old new : List Event) → p ≡ get_or posts conn p → IsLacking p (Some n) → n ≤ most → LosesSo b posts conn old new
-    → (w : World) → IsCarried w b posts → HasRegistryFirst w.ends → MovesAt posts conn → IsLostNext w (moving_up conn most) old new
-first_lost conn most n b posts p old new there lacks enough loses w is first m =
-    all_lost w conn most n b posts m.post old new is first m.there m.moves (subst (λ q. IsLacking q (Some n)) (same_post posts conn p m there) lacks) enough loses
+pub first_lost : (conn most n : ℕ) (b : Bus) (posts posts' : List Post) (p : Post) (old new : List Event) → p ≡ get_or posts conn p → IsLacking p (Some n) → n ≤ most → LosesSo b posts posts' conn old new
+    → (w : World) → IsCarried w b posts → HasRegistryFirst w.ends → MovesAt posts conn → IsLostNext w (moving_up conn most) posts' old new
+first_lost conn most n b posts posts' p old new there lacks enough loses w is first m =
+    all_lost w conn most n b posts posts' m.post old new is first m.there m.moves (subst (λ q. IsLacking q (Some n)) (same_post posts conn p m there) lacks) enough loses
 
-pub first_spent : (conn most n : ℕ) (b : Bus) (posts : List Post) (p : Post) (old new : List Event) → p ≡ get_or posts conn p → IsLacking p (Some n) → n ≤ most → SpendsSo b posts conn old new
-    → (w : World) → IsCarried w b posts → MovesAt posts conn → IsSpentNext w (moving_up conn most) old new
-first_spent conn most n b posts p old new there lacks enough spends w is m =
-    all_spent w conn most n b posts m.post old new is m.there m.moves (subst (λ q. IsLacking q (Some n)) (same_post posts conn p m there) lacks) enough spends
+pub first_spent : (conn most n : ℕ) (b : Bus) (posts posts' : List Post) (p : Post) (old new : List Event) → p ≡ get_or posts conn p → IsLacking p (Some n) → n ≤ most → SpendsSo b posts posts' conn old new
+    → (w : World) → IsCarried w b posts → MovesAt posts conn → IsSpentNext w (moving_up conn most) posts' old new
+first_spent conn most n b posts posts' p old new there lacks enough spends w is m =
+    all_spent w conn most n b posts posts' m.post old new is m.there m.moves (subst (λ q. IsLacking q (Some n)) (same_post posts conn p m there) lacks) enough spends

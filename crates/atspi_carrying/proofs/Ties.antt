@@ -1,5 +1,5 @@
 -- What the bus does to itself and to the connections it does to the world.
-use Rattle.std.proofs.Common.{◌≡◌, ℕ, ◌+◌, ◌<◌, ◌≤◌, List, [], ◌∷◌, ◌++◌, length, map, set, get_or, None, Some, refl, sym, ap, ◌∙◌, subst, append_assoc, append-nil, zero, suc, arith}
+use Rattle.std.proofs.Common.{◌≡◌, ◌⊎◌, inl, inr, ℕ, ◌+◌, ◌<◌, ◌≤◌, List, [], ◌∷◌, ◌++◌, length, map, set, get_or, None, Some, refl, sym, ap, ◌∙◌, subst, append_assoc, append-nil, zero, suc, arith}
 use Rattle.std.specs.Prelude.{slice_get, position, cond, not, nat_lt}
 use Rattle.std.specs.Option.{option_map}
 use Rattle.std.specs.List.{AllByRecursion, position_or_len}
@@ -22,21 +22,21 @@ use Rattle.atspi_trace.specs.World.{Role, Said, End, World, newcomer}
 use Rattle.atspi_trace.specs.Ends as trace_ends
 use Rattle.atspi_trace.specs.Ends.{same_party, conn_of, end_at, party_at, with_end, rest_of, put_up, taken_up, leaves, stops}
 use Rattle.atspi_trace.specs.Carrying.{Carried, letter_of, stepped, left, settled, named, with_name, takes, takes_end, bus_entries, all_told}
-use Rattle.atspi_trace.specs.Causes.{does, joins, on_end, routed, routes, unjoins, exits, bus_did}
+use Rattle.atspi_trace.specs.Causes.{Done, does, joins, on_end, routed, routes, unjoins, exits, bus_did}
 use Rattle.atspi_trace.proofs.Following.{links_follow}
 use Rattle.atspi_carrying.specs.Changes.{changed_at}
 use Rattle.atspi_carrying.specs.Told.{gone, all_gone, whose, AreOthers, bus_told}
 use Rattle.atspi_carrying.specs.Downs.{Wait}
-use Rattle.atspi_carrying.specs.Halted.{HasRegistryFirst, IsLostBy, IsSpentBy}
+use Rattle.atspi_carrying.specs.Halted.{naming_of, AreNamedAs, HaveNames, HasRegistryFirst, IsPartDone, IsLostBy, IsSpentBy}
 use Rattle.atspi_carrying.specs.Routed.{IsTaken, IsSpentTaking, IsRouted, RoutesFront, SpendsAtFront, taken_off}
 use Rattle.atspi_carrying.specs.Carried.{bytes_up, post_of, IsSendable, AreSendable, HasMark, IsCarried, IsDone}
-use Rattle.atspi_carrying.proofs.Changes.{changed-set, length-changed, map-kept, map-changed, map-changed_known, get-map}
+use Rattle.atspi_carrying.proofs.Changes.{changed-set, set_same, length-changed, map-kept, map-changed, map-changed_known, get-map}
 use Rattle.atspi_carrying.proofs.Downs.{wait_same, joined_wait, letter_message, left_wait, settled_wait, stepped_wait}
 use Rattle.atspi_carrying.proofs.Losing.{FirstOfParties, first_party, whose_set, registry_leaves, lost_so}
 use Rattle.atspi_carrying.proofs.OwnSerials.{IsTelling, takes_tells, leaves_tells, settled_higher}
 use Rattle.atspi_carrying.proofs.OwnTold.{who_of, told_is}
 use Rattle.atspi_carrying.proofs.RuleLemmas.{same_taken}
-use Rattle.atspi_carrying.proofs.Views.{with-changed, stepped_view, left_view, gone_whose, length-gone, Settles, settles, all_with, stepped_all, left_all, settled_all, put_sendable, left_sendable, named_sendable, taken_sendable, put_mark, left_mark, named_mark, taken_mark}
+use Rattle.atspi_carrying.proofs.Views.{with-changed, stepped_view, left_view, gone_whose, gone_names, length-gone, Settles, settles, all_with, stepped_all, left_all, settled_all, put_sendable, left_sendable, named_sendable, taken_sendable, put_mark, left_mark, named_mark, taken_mark}
 
 pub whose_posts : (ends : List End) → map whose (map post_of ends) ≡ map who_of ends
 whose_posts [] = refl
@@ -59,6 +59,12 @@ post_below w b posts conn e is at = slice_get_within posts conn (post_of e) (pos
 pub post_is : (w : World) (b : Bus) (posts : List Post) (conn : ℕ) (e : End) (p : Post) → IsCarried w b posts → end_at w.ends conn ≡ Some e → p ≡ get_or posts conn p → p ≡ post_of e
 post_is w b posts conn e p is at h = h ∙ get_or_from_slice_get posts conn (post_of e) p (post_at w b posts conn e is at)
 
+-- closings change no name
+settled_names : (n : ℕ) (a : Carried) (posts posts' : List Post) → posts ≡ map post_of a.ends → AreNamedAs posts posts' → AreNamedAs (map post_of (settled n a).ends) posts'
+settled_names n a posts posts' view named_so =
+    let s : Settles a (settled n a) = settles n a in
+    named_so ∙ ap (map naming_of) view ∙ sym (ap (map naming_of) s.view ∙ gone_names s.closed (map post_of a.ends))
+
 -- the closings that follow what a bus has done: the connections behind them, and what is written
 module _ (n : ℕ) (a : Carried) (b1 : Bus) (posts1 : List Post) (view : posts1 ≡ map post_of a.ends) (is : b1 ≡ (settled n a).bus) where
   closings_view : a.bus.closings ≡ [] → all_gone b1.closings posts1 ≡ map post_of (settled n a).ends
@@ -80,12 +86,13 @@ module _ (n : ℕ) (a : Carried) (b1 : Bus) (posts1 : List Post) (view : posts1 
       ∙ ap (λ l. entries_of old ++ (front ++ l)) same
 
   -- the registry is among them
-  closings_lost : (w : World) (front : List Entry) (old mid new : List Event) (m : ℕ) → a.bus.closings ≡ [] → FirstOfParties (map whose posts1) → IsTelling m (settled n a).bus
+  closings_lost : (w : World) (front : List Entry) (posts2 : List Post) (old mid new : List Event) (m : ℕ) → a.bus.closings ≡ [] → FirstOfParties (map whose posts1) → IsTelling m (settled n a).bus
       → entries_of mid ≡ entries_of old ++ front → entries_of new ≡ entries_of mid ++ bus_told (map whose posts1) b1.own b1.closings → (AreOthers (map whose posts1) b1.closings → ⊥)
-      → IsLostBy (bus_did w front (settled n a)) old new
-  closings_lost w front old mid new m none first tells before behind some = record {
+      → AreNamedAs posts1 posts2 → IsLostBy (bus_did w front (settled n a)) posts2 old new
+  closings_lost w front posts2 old mid new m none first tells before behind some named_so = record {
     lost = lost_so (bus_did w front (settled n a)).world (all_gone b1.closings posts1) (closings_view none) (registry_leaves (map whose posts1) b1.closings posts1 refl first some);
     wrote = closings_wrote front old mid new m tells before behind;
+    names = settled_names n a posts1 posts2 view named_so;
   }
 
 -- what a bus has done, the closings that follow, and the telling of both
@@ -125,21 +132,22 @@ parted_done w conn b b1 b2 posts posts1 posts2 old new is left_is leaves_is told
     w.bus.state.next (subst (IsTelling w.bus.state.next) (sym (links_follow.ended c conn)) (leaves_tells w.bus conn is.own_told)) same told gone_are (sym (append-nil (entries_of old))) wrote
 
 -- its closings drop the registry
-pub parted_lost : (w : World) (conn : ℕ) (b b1 : Bus) (posts posts1 : List Post) (old new : List Event) → IsCarried w b posts → posts1 ≡ changed_at conn gone posts → b1 ≡ queues.leaves b conn → HasRegistryFirst w.ends
-    → entries_of new ≡ entries_of old ++ bus_told (map whose posts1) b1.own b1.closings → (AreOthers (map whose posts1) b1.closings → ⊥) → IsLostBy (does w (unjoins conn)) old new
-parted_lost w conn b b1 posts posts1 old new is left_is leaves_is first wrote some =
+pub parted_lost : (w : World) (conn : ℕ) (b b1 : Bus) (posts posts1 posts2 : List Post) (old new : List Event) → IsCarried w b posts → posts1 ≡ changed_at conn gone posts → b1 ≡ queues.leaves b conn → HasRegistryFirst w.ends
+    → entries_of new ≡ entries_of old ++ bus_told (map whose posts1) b1.own b1.closings → (AreOthers (map whose posts1) b1.closings → ⊥) → AreNamedAs posts1 posts2 → IsLostBy (does w (unjoins conn)) posts2 old new
+parted_lost w conn b b1 posts posts1 posts2 old new is left_is leaves_is first wrote some named_so =
     let c : Carried = record { bus = w.bus; ends = w.ends } in
     let parties : map whose posts1 ≡ map who_of w.ends = ap (map whose) left_is ∙ map-kept whose gone (λ p. refl) posts conn ∙ ap (map whose) is.posts_are ∙ whose_posts w.ends in
     closings_lost (length w.bus.state.joined) (left c conn) b1 posts1 (left_is ∙ ap (changed_at conn gone) is.posts_are ∙ sym (left_view c conn)) (parted_bus w b b1 posts conn is leaves_is)
-    w [] old old new w.bus.state.next is.closings_told (subst FirstOfParties (sym parties) (first_party w.ends first)) (subst (IsTelling w.bus.state.next) (sym (links_follow.ended c conn)) (leaves_tells w.bus conn is.own_told))
-    (sym (append-nil (entries_of old))) wrote some
+    w [] posts2 old old new w.bus.state.next is.closings_told (subst FirstOfParties (sym parties) (first_party w.ends first)) (subst (IsTelling w.bus.state.next) (sym (links_follow.ended c conn)) (leaves_tells w.bus conn is.own_told))
+    (sym (append-nil (entries_of old))) wrote some named_so
 
 -- it has no serials left: nothing was written
-pub parted_spent : (w : World) (conn : ℕ) (b : Bus) (posts : List Post) (old new : List Event) → IsCarried w b posts → 4294967296 < (queues.leaves b conn).state.next → entries_of new ≡ entries_of old
-    → IsSpentBy (does w (unjoins conn)) old new
-parted_spent w conn b posts old new is spent same = (
+pub parted_spent : (w : World) (conn : ℕ) (b : Bus) (posts posts' : List Post) (old new : List Event) → IsCarried w b posts → AreNamedAs posts posts' → 4294967296 < (queues.leaves b conn).state.next
+    → entries_of new ≡ entries_of old → IsSpentBy w (does w (unjoins conn)) posts' old new
+parted_spent w conn b posts posts' old new is named_so spent same = (
   subst (λ (x : Bus). 4294967296 < x.state.next) (parted_bus w b (queues.leaves b conn) posts conn is refl) spent,
   record { part = []; missing = (does w (unjoins conn)).entries; front = refl; wrote = same ∙ sym (append-nil (entries_of old)) },
+  inl (named_so ∙ ap (map naming_of) is.posts_are),
 )
 
 above : (n m k : ℕ) → n < m → m ≤ k → n < k
@@ -169,19 +177,23 @@ module _ (w : World) (conn : ℕ) (e : End) (said : Said) (rest : List Said) (b 
       let t : IsTaken said.message w.bus b0 conn p.who old mid = subst (λ x. IsTaken said.message x b0 conn p.who old mid) is.bus_is taken in
       t.bus ∙ ap (queues.stepped w.bus) (same_taken w.bus.state conn said.message t.rule (rule_in said.message) t.reads (λ name h. sends.reads))
 
-  same_posts : IsCarried w b posts → end_at w.ends conn ≡ Some e → e.up ≡ said ∷ rest → p ≡ post_of e → q ≡ taken_off b0 conn (bytes_up rest) p → b0 ≡ handed.bus → posts1 ≡ set posts conn q
-      → posts1 ≡ map post_of (with_name conn handed).ends
-  same_posts is at up p_is q_is bus set_is =
+  put_posts : IsCarried w b posts → end_at w.ends conn ≡ Some e → e.up ≡ said ∷ rest → p ≡ post_of e → q ≡ taken_off b0 conn (bytes_up rest) p → b0 ≡ handed.bus
+      → set posts conn q ≡ map post_of (with_name conn handed).ends
+  put_posts is at up p_is q_is bus =
       let off : q ≡ named_post handed.bus conn (post_of (taken_up e)) =
       q_is ∙ ap (λ x. taken_off x conn (bytes_up rest) p) bus ∙ ap (taken_off handed.bus conn (bytes_up rest)) p_is
       ∙ ap (λ l. taken_off handed.bus conn (bytes_up (rest_of l)) (post_of e)) (sym up) in
       let link : map post_of handed.ends ≡ set (map post_of w.ends) conn (post_of (taken_up e)) =
       stepped_view (letter_of e.who said) taken_off_link step ∙ ap (map post_of) (with-changed taken_up w.ends conn) ∙ map-changed_known post_of taken_up w.ends conn e at in
-      set_is ∙ ap (λ l. set l conn q) is.posts_are ∙ ap (set (map post_of w.ends) conn) off
+      ap (λ l. set l conn q) is.posts_are ∙ ap (set (map post_of w.ends) conn) off
       ∙ sym (changed-set (named_post handed.bus conn) (map post_of w.ends) conn (post_of (taken_up e)))
       ∙ ap (changed_at conn (named_post handed.bus conn)) (sym link)
       ∙ sym (map-changed post_of (named handed.bus conn) (named_post handed.bus conn) (λ x. refl) handed.ends conn)
       ∙ ap (map post_of) (sym (with-changed (named handed.bus conn) handed.ends conn))
+
+  same_posts : IsCarried w b posts → end_at w.ends conn ≡ Some e → e.up ≡ said ∷ rest → p ≡ post_of e → q ≡ taken_off b0 conn (bytes_up rest) p → b0 ≡ handed.bus → posts1 ≡ set posts conn q
+      → posts1 ≡ map post_of (with_name conn handed).ends
+  same_posts is at up p_is q_is bus set_is = set_is ∙ put_posts is at up p_is q_is bus
 
   pub first_sends : IsCarried w b posts → end_at w.ends conn ≡ Some e → e.up ≡ said ∷ rest → IsSendable said.message
   first_sends is at up = first_of_all (subst (AllByRecursion (λ (s : Said). IsSendable s.message)) up (all_at AreSendable w.ends conn e is.sendable at))
@@ -230,30 +242,32 @@ module _ (w : World) (conn : ℕ) (e : End) (said : Said) (rest : List Said) (b 
   -- its closings drop the registry
   pub routed_lost : IsCarried w b posts → end_at w.ends conn ≡ Some e → e.up ≡ said ∷ rest → p ≡ post_of e → RoutesFront b b0 conn p q old mid → posts1 ≡ set posts conn q
       → b1 ≡ queues.settled (length b.state.joined) b0 → HasRegistryFirst w.ends → entries_of new ≡ entries_of mid ++ bus_told (map whose posts1) b1.own b1.closings
-      → (AreOthers (map whose posts1) b1.closings → ⊥) → IsLostBy (does w (routes conn)) old new
-  routed_lost is at up p_is routes_ set_is settled_is first wrote some =
+      → (AreOthers (map whose posts1) b1.closings → ⊥) → AreNamedAs posts1 posts2 → IsLostBy (does w (routes conn)) posts2 old new
+  routed_lost is at up p_is routes_ set_is settled_is first wrote some named_so =
       let c : Carried = record { bus = w.bus; ends = w.ends } in
       let r = front_routed is at up p_is routes_ in
       let bus : b0 ≡ handed.bus = same_bus is (first_sends is at up) r.taken in
       let who : p.who ≡ e.who = ap whose p_is in
       let parties : map whose posts1 ≡ map who_of w.ends =
       ap (map whose) set_is ∙ whose_set posts conn (post_of e) q (post_at w b posts conn e is at) (ap whose r.post ∙ who) ∙ ap (map whose) is.posts_are ∙ whose_posts w.ends in
-      subst (λ d. IsLostBy d old new) (sym (does-routes at up))
+      subst (λ d. IsLostBy d posts2 old new) (sym (does-routes at up))
       (closings_lost (length w.bus.state.joined) (with_name conn handed) b1 posts1 (same_posts is at up p_is r.post bus set_is) (routed_bus is at up p_is routes_ settled_is)
-      w (got The_bus e.who said.message.serial ∷ []) old mid new w.bus.state.next is.closings_told (subst FirstOfParties (sym parties) (first_party w.ends first))
-      (subst (IsTelling w.bus.state.next) (sym (links_follow.taken c conn e.who said)) (takes_tells w.bus conn said.message (rule_in said.message) is.own_told)) (got_told p.who old mid who r.taken.told) wrote some)
+      w (got The_bus e.who said.message.serial ∷ []) posts2 old mid new w.bus.state.next is.closings_told (subst FirstOfParties (sym parties) (first_party w.ends first))
+      (subst (IsTelling w.bus.state.next) (sym (links_follow.taken c conn e.who said)) (takes_tells w.bus conn said.message (rule_in said.message) is.own_told)) (got_told p.who old mid who r.taken.told) wrote some named_so)
 
   -- no serials are left: just that it was taken is told
   got_only : end_at w.ends conn ≡ Some e → e.up ≡ said ∷ rest → 4294967296 < (takes (record { bus = w.bus; ends = w.ends }) conn e.who said).bus.state.next
-      → entries_of mid ≡ entries_of old ++ got The_bus e.who said.message.serial ∷ [] → IsSpentBy (does w (routes conn)) old mid
-  got_only at up spent wrote =
+      → entries_of mid ≡ entries_of old ++ got The_bus e.who said.message.serial ∷ [] → HaveNames w posts2 ⊎ HaveNames (does w (routes conn)).world posts2 → IsSpentBy w (does w (routes conn)) posts2 old mid
+  got_only at up spent wrote names =
       let d : Carried = settled (length w.bus.state.joined) (with_name conn handed) in
-      subst (λ x. IsSpentBy x old mid) (sym (does-routes at up))
-      (spent, record { part = got The_bus e.who said.message.serial ∷ []; missing = bus_entries d.ends d.bus.own d.bus.closings; front = refl; wrote = wrote })
+      let so : (4294967296 < (does w (routes conn)).world.bus.state.next) × IsPartDone (does w (routes conn)) old mid =
+      subst (λ (x : Done). (4294967296 < x.world.bus.state.next) × IsPartDone x old mid) (sym (does-routes at up))
+      (spent, record { part = got The_bus e.who said.message.serial ∷ []; missing = bus_entries d.ends d.bus.own d.bus.closings; front = refl; wrote = wrote }) in
+      (so.0, so.1, names)
 
   -- for what the message itself brings
-  pub taken_spent : IsCarried w b posts → end_at w.ends conn ≡ Some e → e.up ≡ said ∷ rest → p ≡ post_of e → SpendsAtFront p.up b conn p.who old mid → IsSpentBy (does w (routes conn)) old mid
-  taken_spent is at up p_is spends =
+  pub taken_spent : IsCarried w b posts → end_at w.ends conn ≡ Some e → e.up ≡ said ∷ rest → p ≡ post_of e → SpendsAtFront p.up b conn p.who old mid → posts2 ≡ set posts conn p → IsSpentBy w (does w (routes conn)) posts2 old mid
+  taken_spent is at up p_is spends stays =
       let c : Carried = record { bus = w.bus; ends = w.ends } in
       let sends = first_sends is at up in
       let t : IsSpentTaking said.message w.bus conn p.who old mid =
@@ -263,13 +277,19 @@ module _ (w : World) (conn : ℕ) (e : End) (said : Said) (rest : List Said) (b 
       let spent : 4294967296 < (queues.takes w.bus conn said.message (rule_in said.message)).state.next =
       above 4294967296 step.state.next (queues.takes w.bus conn said.message (rule_in said.message)).state.next past (settled_higher (length w.bus.state.joined) (queues.stepped w.bus step)) in
       got_only at up (subst (λ (x : Bus). 4294967296 < x.state.next) (sym (links_follow.taken c conn e.who said)) spent) (got_told p.who old mid (ap whose p_is) t.told)
+      (inl (ap (map naming_of) (stays ∙ set_same posts conn p (post_at w b posts conn e is at ∙ ap Some (sym p_is)) ∙ is.posts_are)))
 
   -- for the closings behind it
   pub settled_spent : IsCarried w b posts → end_at w.ends conn ≡ Some e → e.up ≡ said ∷ rest → p ≡ post_of e → RoutesFront b b0 conn p q old mid → b1 ≡ queues.settled (length b.state.joined) b0
-      → 4294967296 < b1.state.next → IsSpentBy (does w (routes conn)) old mid
-  settled_spent is at up p_is routes_ settled_is spent =
+      → 4294967296 < b1.state.next → posts2 ≡ set posts conn q → IsSpentBy w (does w (routes conn)) posts2 old mid
+  settled_spent is at up p_is routes_ settled_is spent set_is =
+      let r = front_routed is at up p_is routes_ in
+      let bus : b0 ≡ handed.bus = same_bus is (first_sends is at up) r.taken in
+      let view : set posts conn q ≡ map post_of (with_name conn handed).ends = put_posts is at up p_is r.post bus in
       got_only at up (subst (λ (x : Bus). 4294967296 < x.state.next) (routed_bus is at up p_is routes_ settled_is) spent)
-      (got_told p.who old mid (ap whose p_is) (front_routed is at up p_is routes_).taken.told)
+      (got_told p.who old mid (ap whose p_is) r.taken.told)
+      (inr (subst (λ (x : Done). HaveNames x.world posts2) (sym (does-routes at up))
+      (settled_names (length w.bus.state.joined) (with_name conn handed) (set posts conn q) posts2 view (ap (map naming_of) set_is))))
 
 -- an end stops
 stop_sendable : (e : End) → AreSendable e → AreSendable (stops e)

@@ -17,6 +17,7 @@ use Rattle.atspi_trace.specs.Carrying.{Carried, Filled, own_letter, grew, with_l
 use Rattle.atspi_carrying.specs.Changes.{changed_at}
 use Rattle.atspi_carrying.specs.Told.{gone, all_gone, whose}
 use Rattle.atspi_carrying.specs.Carried.{post_of, IsSendable, AreSendable, IsWithin, HasMark}
+use Rattle.atspi_carrying.specs.Halted.{naming_of}
 use Rattle.atspi_carrying.proofs.Changes.{length-changed, map-changed, map-kept}
 
 pub with-changed : (f : End → End) (ends : List End) (conn : ℕ) → with_end conn f ends ≡ changed_at conn f ends
@@ -61,6 +62,11 @@ gone-append (x ∷ xs) ys posts = gone-append xs ys (changed_at x.conn gone post
 pub gone_whose : (cs : List Closing) (posts : List Post) → map whose (all_gone cs posts) ≡ map whose posts
 gone_whose [] posts = refl
 gone_whose (c ∷ cs) posts = gone_whose cs (changed_at c.conn gone posts) ∙ map-kept whose gone (λ p. refl) posts c.conn
+
+-- nor a name
+pub gone_names : (cs : List Closing) (posts : List Post) → map naming_of (all_gone cs posts) ≡ map naming_of posts
+gone_names [] posts = refl
+gone_names (c ∷ cs) posts = gone_names cs (changed_at c.conn gone posts) ∙ map-kept naming_of gone (λ p. refl) posts c.conn
 
 pub length-gone : (cs : List Closing) (posts : List Post) → length (all_gone cs posts) ≡ length posts
 length-gone [] posts = refl

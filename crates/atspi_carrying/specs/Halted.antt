@@ -1,14 +1,17 @@
 -- Where carrying stops: the registry is dropped, or the bus spent its serials.
-use Rattle.std.specs.Prelude.{◌≡◌, ◌<◌, true, false, List, [], ◌∷◌, ◌++◌}
+use Rattle.std.specs.Prelude.{◌≡◌, ◌⊎◌, ℕ, ◌<◌, true, false, List, [], ◌∷◌, ◌++◌, map, Option}
 use Rattle.std.specs.List.{AllByRecursion}
+use Rattle.atspi_lines.specs.declared.line.Party.{Party}
 use Rattle.atspi_lines.specs.declared.line.Party.TheVariants.{Registry}
 use Rattle.atspi_events.specs.declared.event.Event.{Event}
+use Rattle.atspi_posts.specs.declared.post.Post.{Post}
 use Rattle.atspi_trace.specs.Entry.{Entry, entries_of}
 use Rattle.atspi_trace.specs.World.{End, World}
 use Rattle.atspi_trace.specs.Ends.{same_party}
 use Rattle.atspi_trace.specs.Causes.{Cause, Done, does}
 use Rattle.atspi_trace.specs.Work.{Work, cause, next_of}
 use Rattle.atspi_trace.specs.Due.{is_lost}
+use Rattle.atspi_carrying.specs.Carried.{post_of}
 
 -- the first end is the registry, and no other is
 abbrev pub IsAnother : End → Type 0
@@ -18,10 +21,26 @@ abbrev pub HasRegistryFirst : List End → Type 0
 HasRegistryFirst [] = ⊥
 HasRegistryFirst (e ∷ es) = (e.who ≡ Registry) × AllByRecursion IsAnother es
 
--- THE REGISTRY IS LOST by what was done, and all that this writes was written
-pub record IsLostBy (d : Done) (old new : List Event) : Type 0 where
+-- whose a connection is, and the name that it has
+pub record Naming : Type 0 where
+  pub who : Party
+  pub name : Option (List ℕ)
+
+abbrev pub naming_of : Post → Naming
+naming_of p = record { who = p.who; name = p.name }
+
+abbrev pub AreNamedAs : List Post → List Post → Type 0
+AreNamedAs before after = map naming_of after ≡ map naming_of before
+
+-- THE CONNECTIONS HAVE THE NAMES of the ends of a world
+abbrev pub HaveNames : World → List Post → Type 0
+HaveNames w posts = AreNamedAs (map post_of w.ends) posts
+
+-- THE REGISTRY IS LOST by what was done, and all that this writes was written; the connections have the names that ends have behind it
+pub record IsLostBy (d : Done) (posts : List Post) (old new : List Event) : Type 0 where
   pub lost : is_lost d.world ≡ true
   pub wrote : entries_of new ≡ entries_of old ++ d.entries
+  pub names : HaveNames d.world posts
 
 -- of what is to be written a front was
 pub record IsPartDone (d : Done) (old new : List Event) : Type 0 where
@@ -30,9 +49,10 @@ pub record IsPartDone (d : Done) (old new : List Event) : Type 0 where
   pub front : d.entries ≡ part ++ missing
   pub wrote : entries_of new ≡ entries_of old ++ part
 
--- THE BUS SPENT ITS SERIALS: its next one would be above 4,294,967,296, so one that it uses would be above 4,294,967,295, which has more than 32 bits
-abbrev pub IsSpentBy : Done → List Event → List Event → Type 0
-IsSpentBy d old new = (4294967296 < d.world.bus.state.next) × IsPartDone d old new
+-- THE BUS SPENT ITS SERIALS: its next one would be above 4,294,967,296, so one that it uses would be above 4,294,967,295, which has more than 32 bits; the connections
+-- have the names that ends had before that was done in a world, or have behind it
+abbrev pub IsSpentBy : World → Done → List Post → List Event → List Event → Type 0
+IsSpentBy w d posts old new = (4294967296 < d.world.bus.state.next) × IsPartDone d old new × (HaveNames w posts ⊎ HaveNames d.world posts)
 
 -- some causes of what is left of a line were done, one after another, each with its entries: this is the world then, and this is left
 pub data WorksOn : World → Work → List Entry → World → Work → Type 0 where
@@ -57,19 +77,21 @@ abbrev pub does_next : {w : World} {work : Work} → IsAtWork w work → Done
 does_next a = does a.moved a.next
 
 -- it drops the registry
-pub record IsLostOn (w : World) (work : Work) (old new : List Event) : Type 0 where
+pub record IsLostOn (w : World) (work : Work) (posts : List Post) (old new : List Event) : Type 0 where
   pub at : IsAtWork w work
   pub lost : is_lost (does_next at).world ≡ true
   pub wrote : entries_of new ≡ entries_of old ++ (at.entries ++ (does_next at).entries)
+  pub names : HaveNames (does_next at).world posts
 
 -- it spends the serials of the bus
-pub record IsSpentOn (w : World) (work : Work) (old new : List Event) : Type 0 where
+pub record IsSpentOn (w : World) (work : Work) (posts : List Post) (old new : List Event) : Type 0 where
   pub at : IsAtWork w work
   pub spent : 4294967296 < (does_next at).world.bus.state.next
   pub part : List Entry
   pub missing : List Entry
   pub front : (does_next at).entries ≡ part ++ missing
   pub wrote : entries_of new ≡ entries_of old ++ (at.entries ++ part)
+  pub names : HaveNames at.moved posts ⊎ HaveNames (does_next at).world posts
 
 -- the same of the very first cause
 pub record HasNext (w : World) (work : Work) : Type 0 where
@@ -78,10 +100,10 @@ pub record HasNext (w : World) (work : Work) : Type 0 where
   pub next : Cause
   pub is_next : next_of w work ≡ cause next moved rest
 
-pub record IsLostNext (w : World) (work : Work) (old new : List Event) : Type 0 where
+pub record IsLostNext (w : World) (work : Work) (posts : List Post) (old new : List Event) : Type 0 where
   pub has : HasNext w work
-  pub lost : IsLostBy (does has.moved has.next) old new
+  pub lost : IsLostBy (does has.moved has.next) posts old new
 
-pub record IsSpentNext (w : World) (work : Work) (old new : List Event) : Type 0 where
+pub record IsSpentNext (w : World) (work : Work) (posts : List Post) (old new : List Event) : Type 0 where
   pub has : HasNext w work
-  pub spent : IsSpentBy (does has.moved has.next) old new
+  pub spent : IsSpentBy has.moved (does has.moved has.next) posts old new

@@ -11,7 +11,7 @@ ghost use Rattle.atspi_trace.specs.Carrying.{all_told, dropped_if, sent_by_bus};
 ghost use Rattle.atspi_trace.specs.Causes.{does, exits, unjoins};
 ghost use Rattle.atspi_carrying.specs.Carried.{IsCarried, IsDone};
 ghost use Rattle.atspi_carrying.specs.Changes.{changed_at};
-ghost use Rattle.atspi_carrying.specs.Halted.{HasRegistryFirst, IsLostBy, IsSpentBy};
+ghost use Rattle.atspi_carrying.specs.Halted.{AreNamedAs, HasRegistryFirst, IsLostBy, IsSpentBy};
 ghost use Rattle.atspi_carrying.specs.Linked.{IsLinked};
 ghost use Rattle.atspi_carrying.specs.Told.{ahead, AreOthers, all_emptied, all_gone, behind_upto, bus_told, emptied, front_upto, gone, party_in, whose};
 
@@ -176,6 +176,7 @@ impl Carrier {
         ensures lost { IsErrOf result CarryFault.RegistryLost
             → (entries_of self.new.trace.items ≡ entries_of self.old.trace.items ++ bus_told (map whose self.old.posts.items) (inner_of self.old.bus).own (inner_of self.old.bus).closings)
             × (AreOthers (map whose self.old.posts.items) (inner_of self.old.bus).closings → ⊥) }
+        ensures names { IsErrOf result CarryFault.RegistryLost → AreNamedAs self.old.posts.items self.new.posts.items }
         ensures calm { IsErrOf result CarryFault.Spent → ⊥ }
     {
         let mut own = self.bus.own();
@@ -225,9 +226,9 @@ impl Carrier {
         ensures linked { OnOk result ((w : World) (e : End) → IsCarried w (inner_of self.old.bus) self.old.posts.items → IsLinked w self.old.at_end.items
             → end_at w.ends conn ≡ Some e → e.standing ≡ stopped → IsLinked (does w (unjoins conn)).world self.new.at_end.items) }
         ensures lost { IsErrOf result CarryFault.RegistryLost → (w : World) → IsCarried w (inner_of self.old.bus) self.old.posts.items → HasRegistryFirst w.ends
-            → IsLostBy (does w (unjoins conn)) self.old.trace.items self.new.trace.items }
+            → IsLostBy (does w (unjoins conn)) self.new.posts.items self.old.trace.items self.new.trace.items }
         ensures spent { IsErrOf result CarryFault.Spent → (w : World) → IsCarried w (inner_of self.old.bus) self.old.posts.items
-            → IsSpentBy (does w (unjoins conn)) self.old.trace.items self.new.trace.items }
+            → IsSpentBy w (does w (unjoins conn)) self.new.posts.items self.old.trace.items self.new.trace.items }
     {
         self.leave(conn);
         self.bus.part_with(conn)?;

@@ -106,6 +106,7 @@ fn route_front(
     ensures sound { OnOk result (IsSound (state_of bus.new)) }
     ensures routes { OnOk result (RoutesFront (inner_of bus.old) (inner_of bus.new) conn post.old post.new trace.old.items trace.new.items) }
     ensures spent { IsErrOf result CarryFault.Spent → SpendsAtFront post.old.up (inner_of bus.old) conn post.old.who trace.old.items trace.new.items }
+    ensures stays { IsErrOf result CarryFault.Spent → post.new ≡ post.old }
     ensures calm { IsErrOf result CarryFault.RegistryLost → ⊥ }
 {
     match take_front(bus, &post.up, conn, post.who, trace) {
@@ -144,9 +145,9 @@ impl Carrier {
             → IsLinked w self.old.at_end.items → end_at w.ends conn ≡ Some e → e.standing ≡ here → e.up ≡ said ∷ rest
             → IsLinked (does w (routes conn)).world self.new.at_end.items) }
         ensures lost { IsErrOf result CarryFault.RegistryLost → (w : World) (e : End) (said : Said) (rest : List Said) → IsCarried w (inner_of self.old.bus) self.old.posts.items
-            → HasRegistryFirst w.ends → end_at w.ends conn ≡ Some e → e.up ≡ said ∷ rest → IsLostBy (does w (routes conn)) self.old.trace.items self.new.trace.items }
+            → HasRegistryFirst w.ends → end_at w.ends conn ≡ Some e → e.up ≡ said ∷ rest → IsLostBy (does w (routes conn)) self.new.posts.items self.old.trace.items self.new.trace.items }
         ensures spent { IsErrOf result CarryFault.Spent → (w : World) (e : End) (said : Said) (rest : List Said) → IsCarried w (inner_of self.old.bus) self.old.posts.items
-            → end_at w.ends conn ≡ Some e → e.up ≡ said ∷ rest → IsSpentBy (does w (routes conn)) self.old.trace.items self.new.trace.items }
+            → end_at w.ends conn ≡ Some e → e.up ≡ said ∷ rest → IsSpentBy w (does w (routes conn)) self.new.posts.items self.old.trace.items self.new.trace.items }
     {
         let place = conn as usize;
         if place >= self.posts.len() {
@@ -168,9 +169,9 @@ impl Carrier {
         ensures moves { IfOk result (λ left. MovesSome (inner_of self.old.bus) (inner_of self.new.bus) self.old.posts.items self.new.posts.items self.old.at_end.items self.new.at_end.items conn most left
             self.old.trace.items self.new.trace.items) }
         ensures lost { IsErrOf result CarryFault.RegistryLost → (w : World) → IsCarried w (inner_of self.old.bus) self.old.posts.items → HasRegistryFirst w.ends
-            → MovesAt self.old.posts.items conn → IsLostNext w (moving_up conn most) self.old.trace.items self.new.trace.items }
+            → MovesAt self.old.posts.items conn → IsLostNext w (moving_up conn most) self.new.posts.items self.old.trace.items self.new.trace.items }
         ensures spent { IsErrOf result CarryFault.Spent → (w : World) → IsCarried w (inner_of self.old.bus) self.old.posts.items
-            → MovesAt self.old.posts.items conn → IsSpentNext w (moving_up conn most) self.old.trace.items self.new.trace.items }
+            → MovesAt self.old.posts.items conn → IsSpentNext w (moving_up conn most) self.new.posts.items self.old.trace.items self.new.trace.items }
     {
         let place = conn as usize;
         if place >= self.posts.len() {
@@ -195,9 +196,9 @@ impl Carrier {
         ensures sound { OnOk result (IsSound (state_of self.new.bus)) }
         ensures moves { OnOk result (MovesAll (inner_of self.old.bus) (inner_of self.new.bus) self.old.posts.items self.new.posts.items self.old.at_end.items self.new.at_end.items conn most self.old.trace.items self.new.trace.items) }
         ensures lost { IsErrOf result CarryFault.RegistryLost → (w : World) → IsCarried w (inner_of self.old.bus) self.old.posts.items → IsLinked w self.old.at_end.items
-            → HasRegistryFirst w.ends → MovesAt self.old.posts.items conn → IsLostOn w (moving_up conn most) self.old.trace.items self.new.trace.items }
+            → HasRegistryFirst w.ends → MovesAt self.old.posts.items conn → IsLostOn w (moving_up conn most) self.new.posts.items self.old.trace.items self.new.trace.items }
         ensures spent { IsErrOf result CarryFault.Spent → (w : World) → IsCarried w (inner_of self.old.bus) self.old.posts.items → IsLinked w self.old.at_end.items
-            → MovesAt self.old.posts.items conn → IsSpentOn w (moving_up conn most) self.old.trace.items self.new.trace.items }
+            → MovesAt self.old.posts.items conn → IsSpentOn w (moving_up conn most) self.new.posts.items self.old.trace.items self.new.trace.items }
     {
         let mut left = most as usize;
         // each message has a byte that was not moved yet

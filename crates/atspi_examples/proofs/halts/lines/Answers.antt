@@ -1,4 +1,4 @@
-use Rattle.std.proofs.Common.{◌≡◌, ℕ, ◌<◌, true, false, List, [], ◌∷◌, refl, sym, ap, ◌∙◌, subst, arith}
+use Rattle.std.proofs.Common.{◌≡◌, inl, ℕ, ◌<◌, true, false, List, [], ◌∷◌, refl, sym, ap, ◌∙◌, subst, arith}
 use Rattle.atspi_lines.specs.declared.line.Party.TheVariants.{App}
 use Rattle.atspi_routing.specs.Queues.{Bus}
 use Rattle.atspi_trace.specs.Entry.{Entry, exited}
@@ -50,7 +50,7 @@ still_lost b _ _ _ _ _ (caused w v u work rest last c es is on) left at =
     ap is_lost (stays (does v c).world u rest last es on over) ∙ ap (λ (d : Done). is_lost d.world) (same_next (registry_left b) v (exits 1) c rest next)
 
 pub returns-clause-lost_next : goal.returns-clause-lost_next
-returns-clause-lost_next c = λ b. record { has = next_exit (two_ends b) 0; lost = record { lost = refl; wrote = refl } }
+returns-clause-lost_next c = λ b. record { has = next_exit (two_ends b) 0; lost = record { lost = refl; wrote = refl; names = refl } }
 
 pub returns-clause-other_next : goal.returns-clause-other_next
 returns-clause-other_next c = λ b h.
@@ -58,7 +58,7 @@ returns-clause-other_next c = λ b h.
     absurd cc
 
 pub returns-clause-spent_next : goal.returns-clause-spent_next
-returns-clause-spent_next c = λ b high. record { has = next_exit (two_ends b) 1; spent = (omega (arith, high), record { part = []; missing = exited (App 1) ∷ []; front = refl; wrote = refl }) }
+returns-clause-spent_next c = λ b high. record { has = next_exit (two_ends b) 1; spent = (omega (arith, high), record { part = []; missing = exited (App 1) ∷ []; front = refl; wrote = refl }, inl refl) }
 
 pub returns-clause-last_next : goal.returns-clause-last_next
 returns-clause-last_next c = λ b low h.
@@ -69,10 +69,10 @@ pub returns-clause-none_next : goal.returns-clause-none_next
 returns-clause-none_next c = λ b h. let clash : rests (two_ends b) ≡ cause h.next h.moved h.rest = h.is_next in absurd cc
 
 pub returns-clause-lost_on : goal.returns-clause-lost_on
-returns-clause-lost_on c = λ b. record { at = at_exit b 0; lost = refl; wrote = refl }
+returns-clause-lost_on c = λ b. record { at = at_exit b 0; lost = refl; wrote = refl; names = refl }
 
 pub returns-clause-spent_on : goal.returns-clause-spent_on
-returns-clause-spent_on c = λ b high. record { at = at_exit b 1; spent = omega (arith, high); part = []; missing = exited (App 1) ∷ []; front = refl; wrote = refl }
+returns-clause-spent_on c = λ b high. record { at = at_exit b 1; spent = omega (arith, high); part = []; missing = exited (App 1) ∷ []; front = refl; wrote = refl; names = inl refl }
 
 pub returns-clause-lost_before : goal.returns-clause-lost_before
 returns-clause-lost_before c = λ b h.

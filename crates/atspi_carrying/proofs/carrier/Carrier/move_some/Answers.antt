@@ -30,11 +30,11 @@ returns-clause-moves c =
 pub returns-in_err-route-clause-lost : goal.returns-in_err-route-clause-lost
 returns-in_err-route-clause-lost c = λ is.
     let s = c.args.self.now in
-    first_lost c.args.conn c.args.most c.in-Some.lacking (inner_of s.bus) s.posts.items c.index.result.now s.trace.items c.route.new.self.trace.items c.index.ensures c.in-Some.ensures.exact c.if-most-lacking.false
+    first_lost c.args.conn c.args.most c.in-Some.lacking (inner_of s.bus) s.posts.items c.route.new.self.posts.items c.index.result.now s.trace.items c.route.new.self.trace.items c.index.ensures c.in-Some.ensures.exact c.if-most-lacking.false
     (c.in_err-route.ensures.lost (ap Err (same_fault c.from_residual.result _ RegistryLost c.from_residual.ensures.1 is)))
 
 pub returns-in_err-route-clause-spent : goal.returns-in_err-route-clause-spent
 returns-in_err-route-clause-spent c = λ is.
     let s = c.args.self.now in
-    first_spent c.args.conn c.args.most c.in-Some.lacking (inner_of s.bus) s.posts.items c.index.result.now s.trace.items c.route.new.self.trace.items c.index.ensures c.in-Some.ensures.exact c.if-most-lacking.false
+    first_spent c.args.conn c.args.most c.in-Some.lacking (inner_of s.bus) s.posts.items c.route.new.self.posts.items c.index.result.now s.trace.items c.route.new.self.trace.items c.index.ensures c.in-Some.ensures.exact c.if-most-lacking.false
     (c.in_err-route.ensures.spent (ap Err (same_fault c.from_residual.result _ Spent c.from_residual.ensures.1 is)))

@@ -41,12 +41,12 @@ pub returns-in_err-rest-clause-lost : goal.returns-in_err-rest-clause-lost
 returns-in_err-rest-clause-lost c = λ is w tied linked first m.
     let s = c.args.self.now in
     let was = c.loop-message in
-    round_lost w c.args.conn c.args.most was.left was._message (inner_of was.self.bus) was.self.posts.items s.at_end.items was.self.at_end.items s.trace.items was.self.trace.items c.move_some.new.self.trace.items
+    round_lost w c.args.conn c.args.most was.left was._message (inner_of was.self.bus) was.self.posts.items c.move_some.new.self.posts.items s.at_end.items was.self.at_end.items s.trace.items was.self.trace.items c.move_some.new.self.trace.items
     (was.invariant.moved w tied m) linked first (c.in_err-rest.ensures.lost (ap Err (same_fault c.from_residual.result _ RegistryLost c.from_residual.ensures.1 is)))
 
 pub returns-in_err-rest-clause-spent : goal.returns-in_err-rest-clause-spent
 returns-in_err-rest-clause-spent c = λ is w tied linked m.
     let s = c.args.self.now in
     let was = c.loop-message in
-    round_spent w c.args.conn c.args.most was.left was._message (inner_of was.self.bus) was.self.posts.items s.at_end.items was.self.at_end.items s.trace.items was.self.trace.items c.move_some.new.self.trace.items
+    round_spent w c.args.conn c.args.most was.left was._message (inner_of was.self.bus) was.self.posts.items c.move_some.new.self.posts.items s.at_end.items was.self.at_end.items s.trace.items was.self.trace.items c.move_some.new.self.trace.items
     (was.invariant.moved w tied m) linked (c.in_err-rest.ensures.spent (ap Err (same_fault c.from_residual.result _ Spent c.from_residual.ensures.1 is)))

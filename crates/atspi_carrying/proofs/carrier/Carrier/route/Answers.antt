@@ -55,8 +55,9 @@ returns-in_err-route_front-clause-spent c = λ is w e said rest tied at up.
     let posts = s.posts.items in
     let p = c.index_mut-post.result.now in
     let mid = c.route_front.new.trace.items in
-    taken_spent w c.args.conn e said rest b b b b posts posts posts p p s.trace.items mid mid tied at up (post_is w b posts c.args.conn e p tied at c.index_mut-post.ensures.value)
-    (c.in_err-route_front.ensures.spent (ap Err (same_fault c.from_residual.result _ Spent c.from_residual.ensures.1 is)))
+    let fault = ap Err (same_fault c.from_residual.result _ Spent c.from_residual.ensures.1 is) in
+    taken_spent w c.args.conn e said rest b b b b posts posts (set posts c.args.conn c.route_front.new.post) p p s.trace.items mid mid tied at up
+    (post_is w b posts c.args.conn e p tied at c.index_mut-post.ensures.value) (c.in_err-route_front.ensures.spent fault) (ap (set posts c.args.conn) (c.in_err-route_front.ensures.stays fault))
 
 pub returns-in_err-settle-clause-lost : goal.returns-in_err-settle-clause-lost
 returns-in_err-settle-clause-lost c = λ is. absurd (bus_lost c.from_residual-in_err-settle.result _ c.from_residual-in_err-settle.ensures.1 is)
@@ -70,9 +71,9 @@ returns-in_err-settle-clause-spent c = λ is w e said rest tied at up.
     let mid = c.route_front.new.trace.items in
     let b0 = inner_of c.route_front.new.bus in
     let b1 = queues.settled c.joined_count-rounds.result b0 in
-    settled_spent w c.args.conn e said rest b b0 b1 b1 posts posts posts p c.route_front.new.post s.trace.items mid mid tied at up (post_is w b posts c.args.conn e p tied at c.index_mut-post.ensures.value)
+    settled_spent w c.args.conn e said rest b b0 b1 b1 posts posts (set posts c.args.conn c.route_front.new.post) p c.route_front.new.post s.trace.items mid mid tied at up (post_is w b posts c.args.conn e p tied at c.index_mut-post.ensures.value)
     c.in_ok-route_front.ensures.routes (ap (λ n. queues.settled n b0) c.joined_count-rounds.ensures)
-    (c.in_err-settle.ensures.spent (ap Err (bus_spent c.from_residual-in_err-settle.result _ c.from_residual-in_err-settle.ensures.1 is)))
+    (c.in_err-settle.ensures.spent (ap Err (bus_spent c.from_residual-in_err-settle.result _ c.from_residual-in_err-settle.ensures.1 is))) refl
 
 pub returns-in_err-tell_bus-clause-lost : goal.returns-in_err-tell_bus-clause-lost
 returns-in_err-tell_bus-clause-lost c = λ is w e said rest tied first at up.
@@ -83,10 +84,11 @@ returns-in_err-tell_bus-clause-lost c = λ is w e said rest tied first at up.
     let q = c.route_front.new.post in
     let b0 = inner_of c.route_front.new.bus in
     let b1 = inner_of c.settle.new.self in
-    let lost = c.in_err-tell_bus.ensures.lost (ap Err (same_fault c.from_residual-in_err-tell_bus.result _ RegistryLost c.from_residual-in_err-tell_bus.ensures.1 is)) in
-    routed_lost w c.args.conn e said rest b b0 b1 b1 posts (set posts c.args.conn q) posts p q s.trace.items c.route_front.new.trace.items c.tell_bus.new.self.trace.items tied at up
+    let fault = ap Err (same_fault c.from_residual-in_err-tell_bus.result _ RegistryLost c.from_residual-in_err-tell_bus.ensures.1 is) in
+    let lost = c.in_err-tell_bus.ensures.lost fault in
+    routed_lost w c.args.conn e said rest b b0 b1 b1 posts (set posts c.args.conn q) c.tell_bus.new.self.posts.items p q s.trace.items c.route_front.new.trace.items c.tell_bus.new.self.trace.items tied at up
     (post_is w b posts c.args.conn e p tied at c.index_mut-post.ensures.value) c.in_ok-route_front.ensures.routes refl (c.in_ok-settle.ensures.ok ∙ ap (λ n. queues.settled n b0) c.joined_count-rounds.ensures) first
-    lost.0 lost.1
+    lost.0 lost.1 (c.in_err-tell_bus.ensures.names fault)
 
 pub returns-in_err-tell_bus-clause-spent : goal.returns-in_err-tell_bus-clause-spent
 returns-in_err-tell_bus-clause-spent c = λ is. absurd (c.in_err-tell_bus.ensures.calm (ap Err (same_fault c.from_residual-in_err-tell_bus.result _ Spent c.from_residual-in_err-tell_bus.ensures.1 is)))

@@ -7,6 +7,7 @@ use Rattle.atspi_bus_steps.specs.Inner.{inner_of}
 use Rattle.atspi_bus_steps.specs.Sound.{IsSound}
 use Rattle.atspi_trace.specs.Entry.{entries_of}
 use Rattle.atspi_trace.specs.Ends.{same_party}
+use Rattle.atspi_carrying.specs.Halted.{naming_of}
 use Rattle.atspi_carrying.specs.Told.{ahead, AreOthers, all_emptied, all_gone, bus_told, gone, party_in, whose}
 use Rattle.atspi_carrying.proofs.Changes.{map-kept}
 use Rattle.atspi_carrying.proofs.Telling.{bus_more, closing_last, closing_more}
@@ -32,6 +33,7 @@ loop-closing-preserved c =
       bus = bus_more (inner_of c.own-own.new.self) x0 x1 x2 x3 closing inv.bus c.in-Some.ensures.bus telling.bus same;
       none = λ h. ap (λ (x : Bus). x.own) same ∙ telling.none h;
       parties = ap (map whose) closed.posts ∙ map-kept whose gone (λ p. refl) was.self.posts.items closing.conn ∙ inv.parties;
+      names = ap (map naming_of) closed.posts ∙ map-kept naming_of gone (λ p. refl) was.self.posts.items closing.conn ∙ inv.names;
       posts = ap (λ cs. all_gone cs c.close.new.self.posts.items) rest ∙ ap (all_gone x1.closings) closed.posts ∙ ap (λ cs. all_gone cs was.self.posts.items) (sym first) ∙ inv.posts;
       given = ap (λ cs. all_emptied cs c.close.new.self.at_end.items) rest ∙ ap (all_emptied x1.closings) closed.given ∙ ap (λ cs. all_emptied cs was.self.at_end.items) (sym first) ∙ inv.given;
       told = closing_more (map whose c.args.self.now.posts.items) (map whose was.self.posts.items) closing x0.closings x3.closings (ahead was.own x0) (ahead was.own x1) (ahead c.in-Ok.next x3) was.self.trace.items
@@ -75,3 +77,8 @@ returns-then-is_registry-clause-lost c = λ is.
           let clash : true ≡ false = sym registry ∙ ap (λ l. same_party (party_in l closing.conn) Registry) inv.parties ∙ other in
           absurd cc,
     )
+
+pub returns-then-is_registry-clause-names : goal.returns-then-is_registry-clause-names
+returns-then-is_registry-clause-names c = λ is.
+    let was = c.loop-closing in
+    ap (map naming_of) c.in-Ok-close.ensures.posts ∙ map-kept naming_of gone (λ p. refl) was.self.posts.items c.in-Some.closing.conn ∙ was.invariant.names

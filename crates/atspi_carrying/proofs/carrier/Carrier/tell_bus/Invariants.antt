@@ -2,6 +2,7 @@ use Rattle.std.proofs.Common.{◌≡◌, ◌++◌, [], None, length, map}
 use Rattle.atspi_trace.specs.Entry.{entries_of}
 use Rattle.atspi_bus_steps.specs.Inner.{inner_of, state_of}
 use Rattle.atspi_bus_steps.specs.Sound.{IsSound}
+use Rattle.atspi_carrying.specs.Halted.{AreNamedAs}
 use Rattle.atspi_carrying.specs.Told.{ahead, AreOthers, all_emptied, all_gone, bus_told, whose}
 use Rattle.atspi_carrying.proofs.carrier.Carrier.tell_bus.Given as goal
 
@@ -11,6 +12,7 @@ invariant-loop-closing l = record {
   bus : inner_of l.self.bus ≡ record (inner_of l.initial.self.bus) { own = (inner_of l.self.bus).own; closings = (inner_of l.self.bus).closings };
   none : l.own ≡ None → (inner_of l.self.bus).own ≡ [];
   parties : map whose l.self.posts.items ≡ map whose l.initial.self.posts.items;
+  names : AreNamedAs l.initial.self.posts.items l.self.posts.items;
   posts : all_gone (inner_of l.self.bus).closings l.self.posts.items ≡ all_gone (inner_of l.initial.self.bus).closings l.initial.self.posts.items;
   given : all_emptied (inner_of l.self.bus).closings l.self.at_end.items ≡ all_emptied (inner_of l.initial.self.bus).closings l.initial.self.at_end.items;
   told : entries_of l.self.trace.items ++ bus_told (map whose l.initial.self.posts.items) (ahead l.own (inner_of l.self.bus)) (inner_of l.self.bus).closings
