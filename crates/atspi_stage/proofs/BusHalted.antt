@@ -1,9 +1,8 @@
 -- The bus takes a message, or an end that stopped, and drops the registry, or spends its serials; so do bytes that are moved up.
-use Rattle.std.proofs.Common.{◌≡◌, inl, ℕ, zero, suc, false, List, [], ◌∷◌, ◌++◌, map, Some, refl, sym, ap, ◌∙◌, subst}
+use Rattle.std.proofs.Common.{◌≡◌, ◌⊎◌, inl, inr, ℕ, zero, suc, false, List, [], ◌∷◌, ◌++◌, map, Some, refl, sym, ap, ◌∙◌, subst}
 use Rattle.std.specs.List.{AllByRecursion}
 use Rattle.atspi_lines.specs.declared.line.Party.{Party}
 use Rattle.atspi_lines.specs.declared.line.Party.TheVariants.{Bus as The_bus, Registry as The_registry, App, Reader}
-use Rattle.atspi_events.specs.declared.event.Event.{Event}
 use Rattle.atspi_posts.specs.declared.post.Post.{Post}
 use Rattle.atspi_posts.specs.declared.post.Standing.TheVariants.{Here, Stopped}
 use Rattle.atspi_trace.specs.Entry.{Entry}
@@ -15,7 +14,7 @@ use Rattle.atspi_trace.specs.Due.{is_lost}
 use Rattle.atspi_trace.specs.Work.{Work, resting, moving_up, cause, next_of, next_turn}
 use Rattle.atspi_carrying.specs.Carried.{post_of, IsCarried}
 use Rattle.atspi_carrying.specs.Halted as halted
-use Rattle.atspi_carrying.specs.Halted.{HasRegistryFirst, IsAnother}
+use Rattle.atspi_carrying.specs.Halted.{naming_of, AreNamedAs, HaveNames, HasRegistryFirst, IsAnother}
 use Rattle.atspi_carrying.specs.Linked.{IsLinked}
 use Rattle.atspi_carrying.specs.Moving.{MovesAt}
 use Rattle.atspi_carrying.specs.Waits.{turn_of}
@@ -55,48 +54,52 @@ pub registry_first : (w : World) (s : Staged) → IsWorld w s → HasRegistryFir
 registry_first w s is = first_apart w.ends is.first is.apart.1
 
 -- what the bus does is the same to readers
-lost_so : (p : Playing) (d : causes.Done) (old : Staged) (trace : List Event) → halted.IsLostBy d old.trace trace → IsLostBy (only p d) old trace
-lost_so p d old trace h = record { lost = h.lost; wrote = h.wrote }
+lost_so : (p : Playing) (d : causes.Done) (old new : Staged) → halted.IsLostBy d new.posts old.trace new.trace → IsLostBy (only p d) old new
+lost_so p d old new h = record { lost = h.lost; wrote = h.wrote; names = h.names }
 
-spent_so : (p : Playing) (d : causes.Done) (old : Staged) (trace : List Event) → halted.IsSpentBy d old.trace trace → IsSpentBy (only p d) old trace
-spent_so p d old trace h = record { spent = inl h.0; part = h.1.part; missing = h.1.missing; front = h.1.front; wrote = h.1.wrote }
+spent_so : (p : Playing) (d : causes.Done) (old new : Staged) → IsPlaying p old → halted.IsSpentBy p.world d new.posts old.trace new.trace → IsSpentBy (only p d) old new
+spent_so p d old new playing h = record { spent = inl h.0; part = h.1.part; missing = h.1.missing; front = h.1.front; wrote = h.1.wrote; names = by h.2 }
+  where
+    by : HaveNames p.world new.posts ⊎ HaveNames d.world new.posts → AreNamedAs old.posts new.posts ⊎ HaveNames d.world new.posts
+    by (inl before) = inl (before ∙ ap (map naming_of) (sym playing.is.carried.posts_are))
+    by (inr behind) = inr behind
 
 -- A TURN: the bus takes a message
-module _ (p : Playing) (c : Cause) (conn : ℕ) (old : Staged) (trace : List Event) (playing : IsPlaying p old) (found : next_turn p.world ≡ Some c) where
+module _ (p : Playing) (c : Cause) (conn : ℕ) (old new : Staged) (playing : IsPlaying p old) (found : next_turn p.world ≡ Some c) where
   pub route_lost : turn_of c ≡ Some (Route conn)
-      → ((w : World) (e : End) (said : Said) (rest : List Said) → IsCarried w old.bus old.posts → HasRegistryFirst w.ends → end_at w.ends conn ≡ Some e → e.up ≡ said ∷ rest → halted.IsLostBy (does w (routes conn)) old.trace trace)
-      → IsLostBy (plays p c) old trace
+      → ((w : World) (e : End) (said : Said) (rest : List Said) → IsCarried w old.bus old.posts → HasRegistryFirst w.ends → end_at w.ends conn ≡ Some e → e.up ≡ said ∷ rest → halted.IsLostBy (does w (routes conn)) new.posts old.trace new.trace)
+      → IsLostBy (plays p c) old new
   route_lost turn loses =
       let same = only_route c conn turn in
       let t : HasTurn p.world (routes conn) = turn_at p.world (routes conn) (subst (λ k. next_turn p.world ≡ Some k) same found) in
-      subst (λ k. IsLostBy (plays p k) old trace) (sym same)
-      (lost_so p (does p.world (routes conn)) old trace (loses p.world t.the_end t.is.1.0 t.is.1.1.0 playing.is.carried (registry_first p.world old playing.is) t.at t.is.1.1.1))
+      subst (λ k. IsLostBy (plays p k) old new) (sym same)
+      (lost_so p (does p.world (routes conn)) old new (loses p.world t.the_end t.is.1.0 t.is.1.1.0 playing.is.carried (registry_first p.world old playing.is) t.at t.is.1.1.1))
 
   pub route_spent : turn_of c ≡ Some (Route conn)
-      → ((w : World) (e : End) (said : Said) (rest : List Said) → IsCarried w old.bus old.posts → end_at w.ends conn ≡ Some e → e.up ≡ said ∷ rest → halted.IsSpentBy (does w (routes conn)) old.trace trace)
-      → IsSpentBy (plays p c) old trace
+      → ((w : World) (e : End) (said : Said) (rest : List Said) → IsCarried w old.bus old.posts → end_at w.ends conn ≡ Some e → e.up ≡ said ∷ rest → halted.IsSpentBy w (does w (routes conn)) new.posts old.trace new.trace)
+      → IsSpentBy (plays p c) old new
   route_spent turn spends =
       let same = only_route c conn turn in
       let t : HasTurn p.world (routes conn) = turn_at p.world (routes conn) (subst (λ k. next_turn p.world ≡ Some k) same found) in
-      subst (λ k. IsSpentBy (plays p k) old trace) (sym same) (spent_so p (does p.world (routes conn)) old trace (spends p.world t.the_end t.is.1.0 t.is.1.1.0 playing.is.carried t.at t.is.1.1.1))
+      subst (λ k. IsSpentBy (plays p k) old new) (sym same) (spent_so p (does p.world (routes conn)) old new playing (spends p.world t.the_end t.is.1.0 t.is.1.1.0 playing.is.carried t.at t.is.1.1.1))
 
   -- it takes an end that stopped
-  pub part_lost : turn_of c ≡ Some (Part conn) → ((w : World) → IsCarried w old.bus old.posts → HasRegistryFirst w.ends → halted.IsLostBy (does w (unjoins conn)) old.trace trace) → IsLostBy (plays p c) old trace
+  pub part_lost : turn_of c ≡ Some (Part conn) → ((w : World) → IsCarried w old.bus old.posts → HasRegistryFirst w.ends → halted.IsLostBy (does w (unjoins conn)) new.posts old.trace new.trace) → IsLostBy (plays p c) old new
   part_lost turn loses =
-      subst (λ k. IsLostBy (plays p k) old trace) (sym (only_part c conn turn))
-      (lost_so p (does p.world (unjoins conn)) old trace (loses p.world playing.is.carried (registry_first p.world old playing.is)))
+      subst (λ k. IsLostBy (plays p k) old new) (sym (only_part c conn turn))
+      (lost_so p (does p.world (unjoins conn)) old new (loses p.world playing.is.carried (registry_first p.world old playing.is)))
 
-  pub part_spent : turn_of c ≡ Some (Part conn) → ((w : World) → IsCarried w old.bus old.posts → halted.IsSpentBy (does w (unjoins conn)) old.trace trace) → IsSpentBy (plays p c) old trace
-  part_spent turn spends = subst (λ k. IsSpentBy (plays p k) old trace) (sym (only_part c conn turn)) (spent_so p (does p.world (unjoins conn)) old trace (spends p.world playing.is.carried))
+  pub part_spent : turn_of c ≡ Some (Part conn) → ((w : World) → IsCarried w old.bus old.posts → halted.IsSpentBy w (does w (unjoins conn)) new.posts old.trace new.trace) → IsSpentBy (plays p c) old new
+  part_spent turn spends = subst (λ k. IsSpentBy (plays p k) old new) (sym (only_part c conn turn)) (spent_so p (does p.world (unjoins conn)) old new playing (spends p.world playing.is.carried))
 
   -- an end takes a message
   pub get_spent : turn_of c ≡ Some (Get conn)
-      → ((q : Playing) (e : End) (letter : Letter) (rest : List Letter) → IsPlaying q old → end_at q.world.ends conn ≡ Some e → e.standing ≡ here → e.down ≡ letter ∷ rest → IsSpentBy (plays q (gets conn)) old trace)
-      → IsSpentBy (plays p c) old trace
+      → ((q : Playing) (e : End) (letter : Letter) (rest : List Letter) → IsPlaying q old → end_at q.world.ends conn ≡ Some e → e.standing ≡ here → e.down ≡ letter ∷ rest → IsSpentBy (plays q (gets conn)) old new)
+      → IsSpentBy (plays p c) old new
   get_spent turn spends =
       let same = only_get c conn turn in
       let t : HasTurn p.world (gets conn) = turn_at p.world (gets conn) (subst (λ k. next_turn p.world ≡ Some k) same found) in
-      subst (λ k. IsSpentBy (plays p k) old trace) (sym same) (spends p t.the_end t.is.1.0 t.is.1.1.0 playing t.at t.is.0 t.is.1.1.1)
+      subst (λ k. IsSpentBy (plays p k) old new) (sym same) (spends p t.the_end t.is.1.0 t.is.1.1.0 playing t.at t.is.0 t.is.1.1.1)
 
 -- BYTES THAT ARE MOVED UP: their causes are the bus's
 bus_only : (p : Playing) (c : Cause) → IsOfBus c → plays p c ≡ only p (does p.world c)
@@ -125,6 +128,7 @@ on_plays readers _ _ _ _ _ (halted.caused w v u work left last c more e h) up =
 record IsSame (p : Playing) (work : Work) (a : halted.IsAtWork p.world work) : Type 0 where
   pub at : IsAtWork p work
   pub entries : at.entries ≡ a.entries
+  pub moved : at.moved ≡ a.moved
   pub happens : breaking.does_next at ≡ only (record p { world = a.moved }) (halted.does_next a)
 
 same_at : (p : Playing) (work : Work) → IsUp work → (a : halted.IsAtWork p.world work) → IsSame p work a
@@ -134,11 +138,12 @@ same_at p work up a =
     record {
       at = record { entries = a.entries; now = record p { world = a.now }; last = a.last; done = on.0; lives = a.lives; moved = a.moved; rest = a.rest; next = a.next; is_next = a.is_next };
       entries = refl;
+      moved = refl;
       happens = bus_only (record p { world = a.moved }) a.next goes.1;
     }
 
-pub up_lost : (p : Playing) (work : Work) (old : Staged) (trace : List Event) → IsUp work → halted.IsLostOn p.world work old.trace trace → WorkLost p work old trace
-up_lost p work old trace up h =
+pub up_lost : (p : Playing) (work : Work) (old new : Staged) → IsUp work → halted.IsLostOn p.world work new.posts old.trace new.trace → WorkLost p work old new
+up_lost p work old new up h =
     let same = same_at p work up h.at in (
       h.at.entries ++ (halted.does_next h.at).entries,
       record {
@@ -147,10 +152,11 @@ up_lost p work old trace up h =
         wrote = sym (ap (λ l. l ++ (breaking.does_next same.at).entries) same.entries ∙ ap (λ (x : Happened). h.at.entries ++ x.entries) same.happens);
       },
       h.wrote,
+      subst (λ (x : Happened). HaveNames x.now.world new.posts) (sym same.happens) h.names,
     )
 
-pub up_spent : (p : Playing) (work : Work) (old : Staged) (trace : List Event) → IsUp work → halted.IsSpentOn p.world work old.trace trace → WorkSpent p work old trace
-up_spent p work old trace up h =
+pub up_spent : (p : Playing) (work : Work) (old new : Staged) → IsUp work → halted.IsSpentOn p.world work new.posts old.trace new.trace → WorkSpent p work old new
+up_spent p work old new up h =
     let same = same_at p work up h.at in (
       h.at.entries ++ h.part,
       record {
@@ -162,19 +168,25 @@ up_spent p work old trace up h =
         wrote = ap (λ l. l ++ h.part) (sym same.entries);
       },
       h.wrote,
+      names same h.names,
     )
+  where
+    names : (same : IsSame p work h.at) → HaveNames h.at.moved new.posts ⊎ HaveNames (halted.does_next h.at).world new.posts
+        → HaveNames same.at.moved new.posts ⊎ HaveNames (breaking.does_next same.at).now.world new.posts
+    names same (inl before) = inl (subst (λ (w : World). HaveNames w new.posts) (sym same.moved) before)
+    names same (inr behind) = inr (subst (λ (x : Happened). HaveNames x.now.world new.posts) (sym same.happens) behind)
 
 -- AN END THAT IS THERE, and one that stopped
-module _ (p : Playing) (conn count : ℕ) (e : End) (post : Post) (old : Staged) (trace : List Event) (playing : IsPlaying p old) (at : end_at p.world.ends conn ≡ Some e) (post_is : post ≡ post_of e) where
+module _ (p : Playing) (conn count : ℕ) (e : End) (post : Post) (old new : Staged) (playing : IsPlaying p old) (at : end_at p.world.ends conn ≡ Some e) (post_is : post ≡ post_of e) where
   moves_at : post.standing ≡ Here → MovesAt old.posts conn
   moves_at stands = record { post = post; there = post_at p.world old.bus old.posts conn e playing.is.carried at ∙ ap Some (sym post_is); moves = inl stands }
 
   pub here_lost : post.standing ≡ Here
-      → ((w : World) → IsCarried w old.bus old.posts → IsLinked w old.given → HasRegistryFirst w.ends → MovesAt old.posts conn → halted.IsLostOn w (moving_up conn count) old.trace trace) → WorkLost p (moving_up conn count) old trace
-  here_lost stands loses = up_lost p (moving_up conn count) old trace tt (loses p.world playing.is.carried playing.is.linked (registry_first p.world old playing.is) (moves_at stands))
+      → ((w : World) → IsCarried w old.bus old.posts → IsLinked w old.given → HasRegistryFirst w.ends → MovesAt old.posts conn → halted.IsLostOn w (moving_up conn count) new.posts old.trace new.trace) → WorkLost p (moving_up conn count) old new
+  here_lost stands loses = up_lost p (moving_up conn count) old new tt (loses p.world playing.is.carried playing.is.linked (registry_first p.world old playing.is) (moves_at stands))
 
-  pub here_spent : post.standing ≡ Here → ((w : World) → IsCarried w old.bus old.posts → IsLinked w old.given → MovesAt old.posts conn → halted.IsSpentOn w (moving_up conn count) old.trace trace) → WorkSpent p (moving_up conn count) old trace
-  here_spent stands spends = up_spent p (moving_up conn count) old trace tt (spends p.world playing.is.carried playing.is.linked (moves_at stands))
+  pub here_spent : post.standing ≡ Here → ((w : World) → IsCarried w old.bus old.posts → IsLinked w old.given → MovesAt old.posts conn → halted.IsSpentOn w (moving_up conn count) new.posts old.trace new.trace) → WorkSpent p (moving_up conn count) old new
+  here_spent stands spends = up_spent p (moving_up conn count) old new tt (spends p.world playing.is.carried playing.is.linked (moves_at stands))
 
   stopped_next : post.standing ≡ Stopped → (count ≡ 0 → ⊥) → next_of p.world (moving_up conn count) ≡ cause (unjoins conn) p.world resting
   stopped_next stands some = by count refl
@@ -183,12 +195,12 @@ module _ (p : Playing) (conn count : ℕ) (e : End) (post : Post) (old : Staged)
       by zero is = absurd (some is)
       by (suc n) is = standing_next p.world conn (suc n) e stopped at (stopped_is e.standing (ap (λ (q : Post). q.standing) (sym post_is) ∙ stands))
 
-  pub stopped_lost : post.standing ≡ Stopped → (count ≡ 0 → ⊥) → ((w : World) → IsCarried w old.bus old.posts → HasRegistryFirst w.ends → halted.IsLostBy (does w (unjoins conn)) old.trace trace) → WorkLost p (moving_up conn count) old trace
+  pub stopped_lost : post.standing ≡ Stopped → (count ≡ 0 → ⊥) → ((w : World) → IsCarried w old.bus old.posts → HasRegistryFirst w.ends → halted.IsLostBy (does w (unjoins conn)) new.posts old.trace new.trace) → WorkLost p (moving_up conn count) old new
   stopped_lost stands some loses =
-      then_lost p (moving_up conn count) (moving_up conn count) resting (unjoins conn) old old trace (none_done p (moving_up conn count) old playing) (stopped_next stands some)
-      (lost_so p (does p.world (unjoins conn)) old trace (loses p.world playing.is.carried (registry_first p.world old playing.is)))
+      then_lost p (moving_up conn count) (moving_up conn count) resting (unjoins conn) old old new (none_done p (moving_up conn count) old playing) (stopped_next stands some)
+      (lost_so p (does p.world (unjoins conn)) old new (loses p.world playing.is.carried (registry_first p.world old playing.is)))
 
-  pub stopped_spent : post.standing ≡ Stopped → (count ≡ 0 → ⊥) → ((w : World) → IsCarried w old.bus old.posts → halted.IsSpentBy (does w (unjoins conn)) old.trace trace) → WorkSpent p (moving_up conn count) old trace
+  pub stopped_spent : post.standing ≡ Stopped → (count ≡ 0 → ⊥) → ((w : World) → IsCarried w old.bus old.posts → halted.IsSpentBy w (does w (unjoins conn)) new.posts old.trace new.trace) → WorkSpent p (moving_up conn count) old new
   stopped_spent stands some spends =
-      then_spent p (moving_up conn count) (moving_up conn count) resting (unjoins conn) old old trace (none_done p (moving_up conn count) old playing) (stopped_next stands some)
-      (spent_so p (does p.world (unjoins conn)) old trace (spends p.world playing.is.carried))
+      then_spent p (moving_up conn count) (moving_up conn count) resting (unjoins conn) old old new (none_done p (moving_up conn count) old playing) (stopped_next stands some)
+      (spent_so p (does p.world (unjoins conn)) old new playing (spends p.world playing.is.carried))

@@ -21,8 +21,8 @@ use Rattle.atspi_stage.proofs.Halted.{then_spent}
 use Rattle.atspi_stage.proofs.Spending.{got_spent}
 use Rattle.atspi_stage.proofs.Taking.{with_at}
 
-module _ (p : Playing) (conn most left count : ℕ) (old mid : Staged) (b : Bus) (given : List (List ℕ)) (trace : List Event) (so_far : MovedSoFar p conn most left old mid)
-    (brings : BringsDown mid.bus b mid.posts mid.given given conn left count) (gets_ : GetsSpent conn mid.posts given (ends_in mid) mid.trace trace) where
+module _ (p : Playing) (conn most left count : ℕ) (old mid : Staged) (b : Bus) (given : List (List ℕ)) (new : Staged) (so_far : MovedSoFar p conn most left old mid)
+    (brings : BringsDown mid.bus b mid.posts mid.given given conn left count) (gets_ : GetsSpent conn mid.posts given (ends_in mid) mid.trace new.trace) (stays : new.posts ≡ mid.posts) where
   abbrev q : Playing
   q = so_far.part.now
 
@@ -41,13 +41,13 @@ module _ (p : Playing) (conn most left count : ℕ) (old mid : Staged) (b : Bus)
       let got = gets_ (post_of x) (given_of x) (post_at v b mid.posts conn x playing.is.carried there) (lies_so v given conn x playing.is.linked there) in
       got.part (lies_awaits v given conn x playing.is.linked there)
 
-  pub goes_spent : WorkSpent p (moving_down conn most) old trace
+  pub goes_spent : WorkSpent p (moving_down conn most) old new
   goes_spent = by e.down refl
     where
       comes : ComesDown q.world mid.bus b mid.posts mid.given given conn left count e
       comes = brings q.world e is.carried is.linked at
 
-      by : (letters : List Letter) → e.down ≡ letters → WorkSpent p (moving_down conn most) old trace
+      by : (letters : List Letter) → e.down ≡ letters → WorkSpent p (moving_down conn most) old new
       by [] link =
           let none = comes.none link in
           let same : IsPlaying q (record mid { bus = b; given = given }) =
@@ -58,11 +58,11 @@ module _ (p : Playing) (conn most left count : ℕ) (old mid : Staged) (b : Bus)
           next : next_of q.world (moving_down conn left) ≡ next_down q.world conn left here e.down_moved (letter ∷ rest)
           next = next_so q.world conn left e (letter ∷ rest) at so_far.stands.stands link
 
-          enough : (t : Bool) → nat_le (missing letter.said.message e.down_moved) left ≡ t → WorkSpent p (moving_down conn most) old trace
+          enough : (t : Bool) → nat_le (missing letter.said.message e.down_moved) left ≡ t → WorkSpent p (moving_down conn most) old new
           enough true le =
               let came = comes.whole letter rest link le in
-              then_spent p (moving_down conn most) (moving_down conn left) (moving_down conn (left - missing letter.said.message e.down_moved)) (gets conn) old mid trace so_far.part
-              (next ∙ next_if q.world conn left letter e.down_moved true le) (got_spent q conn e letter rest mid so_far.part.is at link b given trace came.whole gets_)
+              then_spent p (moving_down conn most) (moving_down conn left) (moving_down conn (left - missing letter.said.message e.down_moved)) (gets conn) old mid new so_far.part
+              (next ∙ next_if q.world conn left letter e.down_moved true le) (got_spent q conn e letter rest mid so_far.part.is at link b given new came.whole gets_ stays)
           enough false le =
               let part = comes.part letter rest link le in
               absurd (no_more (moved_down q.world conn left) (record e { down_moved = e.down_moved + left }) (moved_playing q conn left mid b given so_far.part.is part.tied part.linked)

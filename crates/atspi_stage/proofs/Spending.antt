@@ -15,13 +15,13 @@ use Rattle.atspi_protocol.specs.following.ReaderState.{ReaderState}
 use Rattle.atspi_protocol.specs.following.Takes.{reader_takes, reader_calls}
 use Rattle.atspi_protocol.specs.registering.Steps.{registry_takes}
 use Rattle.atspi_routing.specs.Queues.{Bus}
-use Rattle.atspi_events.specs.declared.event.Event.{Event}
 use Rattle.atspi_trace.specs.Entry.{Entry, entry_of, entries_of, sent, got}
 use Rattle.atspi_trace.specs.World.{Letter, End, World}
 use Rattle.atspi_trace.specs.Ends.{end_at, end_if, conn_of, with_end, taken_down, party_at, number_of, whose}
 use Rattle.atspi_trace.specs.Causes as causes
 use Rattle.atspi_trace.specs.Causes.{app_did, has_done, registry_did, on_end, taken, without_bytes, missing, gets, edits, calls, does}
 use Rattle.atspi_carrying.specs.Carried.{post_of}
+use Rattle.atspi_carrying.specs.Halted.{naming_of}
 use Rattle.atspi_carrying.specs.Linked.{IsWhole, BringsDown}
 use Rattle.atspi_carrying.proofs.Coming.{always_enough}
 use Rattle.atspi_carrying.proofs.Senders.{sender_named}
@@ -119,8 +119,9 @@ module _ (p : Playing) (conn : ℕ) (e : End) (letter : Letter) (rest : List Let
       by (App a) is g = app_spends a is g
       by (Reader r) is g = reader_spends r is g
 
-  pub got_spent : (b : Bus) (given : List (List ℕ)) (trace : List Event) → IsWhole old.bus b old.given given conn m e.down_moved → GetsSpent conn old.posts given (ends_in old) old.trace trace → IsSpentBy (plays p (gets conn)) old trace
-  got_spent b given trace whole gets_ =
+  pub got_spent : (b : Bus) (given : List (List ℕ)) (new : Staged) → IsWhole old.bus b old.given given conn m e.down_moved → GetsSpent conn old.posts given (ends_in old) old.trace new.trace → new.posts ≡ old.posts
+      → IsSpentBy (plays p (gets conn)) old new
+  got_spent b given new whole gets_ stays =
       let it = gets_ (post_of e) (written m) (post_at p.world old.bus old.posts conn e playing.is.carried at) whole.lies in
       let with_ = it.whole m [] (letter_spelled p.world old.given conn e letter rest playing.is.linked at link) (sym (append-nil (written m))) in
       let spends_ = who_spends with_.spent in
@@ -132,17 +133,19 @@ module _ (p : Playing) (conn : ℕ) (e : End) (letter : Letter) (rest : List Let
         wrote = ap entries_of with_.told ∙ map-append entry_of old.trace (taking.got_by e.who old.posts m ∷ [])
             ∙ ap (λ from. entries_of old.trace ++ got e.who from m.serial ∷ [])
             (sender_named p.world old.bus old.posts old.given conn e letter rest playing.is.carried playing.is.linked at link);
+        names = inl (ap (map naming_of) stays);
       }
 
-  pub next_spent : (count : ℕ) (b : Bus) (given : List (List ℕ)) (trace : List Event) → BringsDown old.bus b old.posts old.given given conn 18446744073709551615 count → GetsSpent conn old.posts given (ends_in old) old.trace trace
-      → IsSpentBy (plays p (gets conn)) old trace
-  next_spent count b given trace brings gets_ =
+  pub next_spent : (count : ℕ) (b : Bus) (given : List (List ℕ)) (new : Staged) → BringsDown old.bus b old.posts old.given given conn 18446744073709551615 count → GetsSpent conn old.posts given (ends_in old) old.trace new.trace
+      → new.posts ≡ old.posts → IsSpentBy (plays p (gets conn)) old new
+  next_spent count b given new brings gets_ stays =
       let enough = always_enough m e.down_moved (letter_spelled p.world old.given conn e letter rest playing.is.linked at link) in
-      got_spent b given trace ((brings p.world e playing.is.carried playing.is.linked at).whole letter rest link enough).whole gets_
+      got_spent b given new ((brings p.world e playing.is.carried playing.is.linked at).whole letter rest link enough).whole gets_ stays
 
 -- AN APPLICATION MAKES AN EDIT of its user
-pub edit_spent : (p : Playing) (conn a : ℕ) (edit : Edit) (old : Staged) (trace : List Event) → IsPlaying p old → conn_of p.world.ends (App a) ≡ Some conn → EditSpends old.apps a edit → trace ≡ old.trace → IsSpentBy (plays p (edits conn edit)) old trace
-edit_spent p conn a edit old trace playing there spends_ same =
+pub edit_spent : (p : Playing) (conn a : ℕ) (edit : Edit) (old new : Staged) → IsPlaying p old → conn_of p.world.ends (App a) ≡ Some conn → EditSpends old.apps a edit → new.trace ≡ old.trace → new.posts ≡ old.posts
+    → IsSpentBy (plays p (edits conn edit)) old new
+edit_spent p conn a edit old new playing there spends_ same stays =
     let w : World = p.world in
     let found = conn_end w.ends (App a) conn there in
     let e : End = found.0 in
@@ -150,18 +153,19 @@ edit_spent p conn a edit old trace playing there spends_ same =
     let s : Exporter = play.player in
     let k = spends_ s play.there in
     let d = app_did w conn [] s k.state in
-    subst (λ x. IsSpentBy (only p x) old trace) (sym (does-edits w conn edit e s k.state found.1 play.plays.role_is k.edited)) (record {
+    subst (λ x. IsSpentBy (only p x) old new) (sym (does-edits w conn edit e s k.state found.1 play.plays.role_is k.edited)) (record {
       spent = inr (inl (conn, has_done s k.state e, with_at (has_done s k.state) w.ends conn e found.1, k.spent));
       part = [];
       missing = d.entries;
       front = refl;
       wrote = ap entries_of same ∙ sym (append-nil (entries_of old.trace));
+      names = inl (ap (map naming_of) stays);
     })
 
 -- A READER SENDS A CALL of its user
-pub call_spent : (p : Playing) (conn r : ℕ) (name : List ℕ) (callee : Option (List ℕ)) (node : ℕ) (deed : Deed) (old : Staged) (trace : List Event) → IsPlaying p old → conn_of p.world.ends (Reader r) ≡ Some conn
-    → CallSpends old.readers r callee node deed → trace ≡ old.trace → IsSpentBy (plays p (calls conn name node deed)) old trace
-call_spent p conn r name callee node deed old trace playing there spends_ same =
+pub call_spent : (p : Playing) (conn r : ℕ) (name : List ℕ) (callee : Option (List ℕ)) (node : ℕ) (deed : Deed) (old new : Staged) → IsPlaying p old → conn_of p.world.ends (Reader r) ≡ Some conn
+    → CallSpends old.readers r callee node deed → new.trace ≡ old.trace → new.posts ≡ old.posts → IsSpentBy (plays p (calls conn name node deed)) old new
+call_spent p conn r name callee node deed old new playing there spends_ same stays =
     let w : World = p.world in
     let found = conn_end w.ends (Reader r) conn there in
     let e : End = found.0 in
@@ -179,4 +183,5 @@ call_spent p conn r name callee node deed old trace playing there spends_ same =
       missing = h.entries;
       front = refl;
       wrote = ap entries_of same ∙ sym (append-nil (entries_of old.trace));
+      names = inl (ap (map naming_of) stays);
     }

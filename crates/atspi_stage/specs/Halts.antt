@@ -14,61 +14,66 @@ use Rattle.atspi_protocol.specs.exporting.Taking.{app_edits}
 use Rattle.atspi_protocol.specs.following.ReaderState.{ReaderState}
 use Rattle.atspi_protocol.specs.following.Takes.{reader_calls}
 use Rattle.atspi_stream.specs.Stream.{AwaitsMore}
+use Rattle.atspi_carrying.specs.Halted.{AreNamedAs, HaveNames}
 use Rattle.atspi_trace.specs.Entry.{Entry, entries_of}
 use Rattle.atspi_trace.specs.Due.{is_lost}
 use Rattle.atspi_trace.specs.Work.{Work, work_of}
-use Rattle.atspi_play.specs.Breaking.{IsPast, IsSpent, IsLostAt, IsSpentAt, PlayedTurns}
+use Rattle.atspi_play.specs.Breaking.{IsPast, IsSpent, does_next, IsLostAt, IsSpentAt, PlayedTurns}
 use Rattle.atspi_play.specs.Played.{if_viewed, refused}
 use Rattle.atspi_play.specs.Playing.{Playing, Happened, held_by}
 use Rattle.atspi_stage.specs.Refusals.{first_refusal}
 use Rattle.atspi_stage.specs.Taken.{got_by, Ends, ends_after}
 use Rattle.atspi_stage.specs.Worlds.{Staged, IsPlaying}
 
--- WHAT HAPPENED DROPPED THE REGISTRY, and all that it writes was written
-pub record IsLostBy (h : Happened) (old : Staged) (trace : List Event) : Type 0 where
+-- WHAT HAPPENED DROPPED THE REGISTRY, and all that it writes was written; the connections have the names that ends have behind it
+pub record IsLostBy (h : Happened) (old new : Staged) : Type 0 where
   pub lost : is_lost h.now.world ≡ true
-  pub wrote : entries_of trace ≡ entries_of old.trace ++ h.entries
+  pub wrote : entries_of new.trace ≡ entries_of old.trace ++ h.entries
+  pub names : HaveNames h.now.world new.posts
 
--- WHAT HAPPENED SPENT SERIALS, and a front of what it writes was written
-pub record IsSpentBy (h : Happened) (old : Staged) (trace : List Event) : Type 0 where
+-- WHAT HAPPENED SPENT SERIALS, and a front of what it writes was written; the connections have the names that they had before, or those behind it
+pub record IsSpentBy (h : Happened) (old new : Staged) : Type 0 where
   pub spent : IsSpent h.now
   pub part : List Entry
   pub missing : List Entry
   pub front : h.entries ≡ part ++ missing
-  pub wrote : entries_of trace ≡ entries_of old.trace ++ part
+  pub wrote : entries_of new.trace ≡ entries_of old.trace ++ part
+  pub names : AreNamedAs old.posts new.posts ⊎ HaveNames h.now.world new.posts
 
--- what is left of a line was begun: some of its causes were done, and the next of them drops the registry
-abbrev pub WorkLost : Playing → Work → Staged → List Event → Type 0
-WorkLost p work old trace = (entries : List Entry) × IsLostAt p work entries × (entries_of trace ≡ entries_of old.trace ++ entries)
+-- what is left of a line was begun: some of its causes were done, and the next of them drops the registry; the connections have the names that ends have behind it
+abbrev pub WorkLost : Playing → Work → Staged → Staged → Type 0
+WorkLost p work old new =
+    (entries : List Entry) × (broke : IsLostAt p work entries) × (entries_of new.trace ≡ entries_of old.trace ++ entries) × HaveNames (does_next broke.at).now.world new.posts
 
--- or the next of them spends serials
-abbrev pub WorkSpent : Playing → Work → Staged → List Event → Type 0
-WorkSpent p work old trace = (entries : List Entry) × IsSpentAt p work entries × (entries_of trace ≡ entries_of old.trace ++ entries)
+-- or the next of them spends serials: the connections have the names that ends have before it, or behind it
+abbrev pub WorkSpent : Playing → Work → Staged → Staged → Type 0
+WorkSpent p work old new =
+    (entries : List Entry) × (broke : IsSpentAt p work entries) × (entries_of new.trace ≡ entries_of old.trace ++ entries) × (HaveNames broke.at.moved new.posts ⊎ HaveNames (does_next broke.at).now.world new.posts)
 
 -- 4,398,046,511,104 turns were made, one behind the other, and the registry is there
-abbrev pub ManyTurns : Playing → Staged → List Event → Type 0
-ManyTurns p old trace = (entries : List Entry) × (q : Playing) × PlayedTurns 4398046511104 p entries q × (is_lost q.world ≡ false) × (entries_of trace ≡ entries_of old.trace ++ entries)
+abbrev pub ManyTurns : Playing → Staged → Staged → Type 0
+ManyTurns p old new = (entries : List Entry) × (q : Playing) × PlayedTurns 4398046511104 p entries q × (is_lost q.world ≡ false) × (entries_of new.trace ≡ entries_of old.trace ++ entries)
 
 -- A LINE THAT THE WORLD DOES NOT REFUSE WAS BEGUN, and the registry was dropped
-abbrev pub IsLineLost : Playing → Line → Staged → List Event → Type 0
-IsLineLost p line old trace = (refused p line ≡ None) × WorkLost p (work_of p.world line) old trace
+abbrev pub IsLineLost : Playing → Line → Staged → Staged → Type 0
+IsLineLost p line old new = (refused p line ≡ None) × WorkLost p (work_of p.world line) old new
 
-abbrev pub LineLost : Line → Staged → List Event → Type 0
-LineLost line old trace = (p : Playing) → IsPlaying p old → IsLineLost p line old trace
+abbrev pub LineLost : Line → Staged → Staged → Type 0
+LineLost line old new = (p : Playing) → IsPlaying p old → IsLineLost p line old new
 
 -- ONE WAS BEGUN, AND SERIALS WERE SPENT, or so many turns were made that they had to be
-abbrev pub IsLineSpent : Playing → Line → Staged → List Event → Type 0
-IsLineSpent p line old trace = (refused p line ≡ None) × (WorkSpent p (work_of p.world line) old trace ⊎ ManyTurns p old trace)
+abbrev pub IsLineSpent : Playing → Line → Staged → Staged → Type 0
+IsLineSpent p line old new = (refused p line ≡ None) × (WorkSpent p (work_of p.world line) old new ⊎ ManyTurns p old new)
 
-abbrev pub LineSpent : Line → Staged → List Event → Type 0
-LineSpent line old trace = (p : Playing) → IsPlaying p old → IsLineSpent p line old trace
+abbrev pub LineSpent : Line → Staged → Staged → Type 0
+LineSpent line old new = (p : Playing) → IsPlaying p old → IsLineSpent p line old new
 
 -- the same of a line that is refused by no more than the edit or the call that it asks for
-abbrev pub LineLostElse : Line → Staged → List Event → Type 0
-LineLostElse line old trace = (p : Playing) → IsPlaying p old → first_refusal p.world line ≡ None → IsLineLost p line old trace
+abbrev pub LineLostElse : Line → Staged → Staged → Type 0
+LineLostElse line old new = (p : Playing) → IsPlaying p old → first_refusal p.world line ≡ None → IsLineLost p line old new
 
-abbrev pub LineSpentElse : Line → Staged → List Event → Type 0
-LineSpentElse line old trace = (p : Playing) → IsPlaying p old → first_refusal p.world line ≡ None → IsLineSpent p line old trace
+abbrev pub LineSpentElse : Line → Staged → Staged → Type 0
+LineSpentElse line old new = (p : Playing) → IsPlaying p old → first_refusal p.world line ≡ None → IsLineSpent p line old new
 
 -- A PARTY'S NEXT SERIAL IS ABOVE THE LAST
 abbrev pub HasSpentAll : Party → Ends → Type 0

@@ -59,4 +59,4 @@ returns-in_err-call_at-clause-spent g c = λ is p e playing there at.
     let follower = g.R.Follower.follower in
     let fault = call_was_spent c.in_err-call_at.field-0.0 (given_is c.from_residual.result _ _ c.from_residual.ensures.1 is) in
     call_spent p c.args.conn c.args.reader (name_of (Some e)) c.index.result.now.name c.args.node c.args.deed.now _ _ playing there
-    (subst (λ l. CallSpends (map follower l) c.args.reader c.index.result.now.name c.args.node c.args.deed.now) c.deref_mut.ensures.value (c.in_err-call_at.ensures.spent (ap Err fault))) refl
+    (subst (λ l. CallSpends (map follower l) c.args.reader c.index.result.now.name c.args.node c.args.deed.now) c.deref_mut.ensures.value (c.in_err-call_at.ensures.spent (ap Err fault))) refl refl

@@ -38,4 +38,4 @@ returns-in_err-edit_at-clause-spent g c = λ is p playing there.
     let exporter = g.A.Application.exporter in
     let fault = edit_was_spent c.in_err-edit_at.field-0.0 (given_is c.from_residual.result _ _ c.from_residual.ensures.1 is) in
     edit_spent p c.args.conn c.args.app c.args.edit.now _ _ playing there
-    (subst (λ l. EditSpends (map exporter l) c.args.app c.args.edit.now) c.deref_mut.ensures.value (c.in_err-edit_at.ensures.spent (ap Err fault))) refl
+    (subst (λ l. EditSpends (map exporter l) c.args.app c.args.edit.now) c.deref_mut.ensures.value (c.in_err-edit_at.ensures.spent (ap Err fault))) refl refl

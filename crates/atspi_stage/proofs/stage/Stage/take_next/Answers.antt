@@ -1,4 +1,4 @@
-use Rattle.std.proofs.Common.{Err, ap}
+use Rattle.std.proofs.Common.{Err, ap, ◌∙◌}
 use Rattle.atspi_stage.proofs.Faults.{given_is}
 use Rattle.atspi_stage.proofs.GotMessages.{next_got, gets_as}
 use Rattle.atspi_stage.proofs.Spending.{next_spent}
@@ -12,5 +12,7 @@ returns-clause-does g c = λ p e letter rest playing at stands link.
 
 pub returns-in_err-get-clause-spent : goal.returns-in_err-get-clause-spent
 returns-in_err-get-clause-spent g c = λ is p e letter rest playing at stands link.
+    let fault = ap Err (given_is c.from_residual-in_err-get.result _ _ c.from_residual-in_err-get.ensures.1 is) in
     next_spent p c.args.conn e letter rest _ playing at link _ _ _ _ c.in_ok-fill.ensures.brings
-    (spends_as c.args.conn _ _ _ _ _ _ _ (ap (λ v. v.items) c.fill.ensures.posts) (ap (λ v. v.items) c.fill.ensures.trace) (c.in_err-get.ensures.spent (ap Err (given_is c.from_residual-in_err-get.result _ _ c.from_residual-in_err-get.ensures.1 is))))
+    (spends_as c.args.conn _ _ _ _ _ _ _ (ap (λ v. v.items) c.fill.ensures.posts) (ap (λ v. v.items) c.fill.ensures.trace) (c.in_err-get.ensures.spent fault))
+    (c.in_err-get.ensures.stays fault ∙ ap (λ v. v.items) c.fill.ensures.posts)
