@@ -9,11 +9,13 @@ use Rattle.atspi_lines.specs.declared.line.Line.{Line}
 use Rattle.atspi_lines.specs.Line.{Spells}
 use Rattle.atspi_lawful.specs.order.Scripts.{CanStand, CanAllStand}
 use Rattle.atspi_trace.specs.Entry.{Entry, entries_of}
+use Rattle.atspi_trace.specs.World as worlds
 use Rattle.atspi_trace.specs.Work.{work_of}
 use Rattle.atspi_trace.specs.Due.{Begun}
 use Rattle.atspi_play.specs.Playing.{Playing, first_playing}
 use Rattle.atspi_play.specs.Played.{refused, PlaysOut, IsPlayed, begun}
-use Rattle.atspi_play.specs.Breaking.{IsLostAt, IsSpentAt}
+use Rattle.atspi_play.specs.Breaking.{does_next, IsLostAt, IsSpentAt}
+use Rattle.atspi_carrying.specs.Halted.{HaveNames}
 use Rattle.atspi_stage.specs.Worlds.{Staged, IsPlaying}
 use Rattle.atspi_stage.specs.Lines.{IsLineDone}
 use Rattle.atspi_few_turns.specs.Laws.{IsUnspent}
@@ -28,11 +30,11 @@ use Rattle.atspi_replay.specs.Names.{RefusedAs, refused_text}
 use Rattle.atspi_replay.specs.Told.{Told, entries_told, told_text}
 use Rattle.atspi_replay.specs.Wired as wired
 use Rattle.atspi_replay.specs.Wired.{AreWired, IsTold}
-use Rattle.atspi_replay.specs.Done.{AreSpelled, BreaksOff, EndsWith, IsHaltedBehind, IsLawfulOf, IsRefusedBehind, Upto}
+use Rattle.atspi_replay.specs.Done.{AreSpelled, BreaksOff, IsReached, EndsWith, IsHaltedBehind, IsLawfulOf, IsRefusedBehind, Upto}
 use Rattle.atspi_replay.specs.Play.{Did, DidLine, DoneText, HaltedIn, HaltedText, IsLineText, PlayedHalted, PlayedPart, PlayedRefused, RefusedIn, RefusedText, StoppedAt, added}
 use Rattle.atspi_replay.proofs.DoneLemmas.{added_are, spelled_more, entries_both, text_more}
 use Rattle.atspi_replay.proofs.Segments.{can_stand, played_more}
-use Rattle.atspi_replay.proofs.Wiring.{added_wired}
+use Rattle.atspi_replay.proofs.Wiring.{wired_by, added_wired}
 use Rattle.atspi_replay.proofs.Refusing.{begins_so, drops_last, is_refused, lawful, there}
 
 -- so many lines were done: the lines still to come, and the number of the one that comes next
@@ -132,38 +134,49 @@ refused_so {options = options} {rest = rest} {told = told} {bytes = bytes} why t
   are = are ∙ ap (λ n. told_text options told ++ refused_text n why) (omega (arith, c.counted));
 }
 
--- THE WORLD COMES TO ITS END AT THE NEXT LINE: what that added is what its causes wrote up to there
+-- THE WORLD COMES TO ITS END AT THE NEXT LINE: what that added is what its causes wrote up to there, with the bytes of its messages
 breaks_off : {lines rest : List (List ℕ)} {told : List Told} {number : ℕ} {s : Staged} (c : SoFar lines rest told number s) (new : Staged) (bytes : List ℕ) (line : Line) (why : Halt) → Spells line bytes
-    → refused c.now line ≡ None → (entries : List Entry) → entries_of new.trace ≡ entries_of s.trace ++ entries → BreaksOff why c.now (work_of c.now.world line) entries
+    → refused c.now line ≡ None → (entries : List Entry) → entries_of new.trace ≡ entries_of s.trace ++ entries → (breaks : BreaksOff why c.now (work_of c.now.world line) entries)
     → (IsLostAt c.now (work_of c.now.world line) entries ⊎ IsSpentAt c.now (work_of c.now.world line) entries)
-    → EndsWith why entries → IsHaltedBehind c.script told (added s new) bytes why
-breaks_off {told = told} {s = s} c new bytes line why spells ok entries wrote breaks broken ends =
+    → EndsWith why entries → (w : worlds.World) → IsReached why c.now (work_of c.now.world line) entries breaks w → HaveNames w new.posts → IsHaltedBehind c.script told (added s new) c.now bytes why
+breaks_off {told = told} {s = s} c new bytes line why spells ok entries wrote breaks broken ends w reached names =
     let are : entries_told (added s new) ≡ entries = added_are s new entries wrote in
+    let both : (b : BreaksOff why c.now (work_of c.now.world line) (entries_told (added s new))) × IsReached why c.now (work_of c.now.world line) (entries_told (added s new)) b w =
+    subst (λ (es : List Entry). (b : BreaksOff why c.now (work_of c.now.world line) es) × IsReached why c.now (work_of c.now.world line) es b w) (sym are) (breaks, reached) in
     record {
       line = line;
       spells = spells;
-      now = c.now;
-      played = c.played;
+      told_so = c.told_so;
       accepted = ok;
-      breaks = subst (BreaksOff why c.now (work_of c.now.world line)) (sym are) breaks;
+      breaks = both.0;
       begun =
           subst (Begun (c.script ++ line ∷ [])) (sym (entries_both told (added s new) ∙ ap (λ es. entries_told told ++ es) are))
           (begins_so c.script (entries_told told) c.now line entries (can_more c.script line c.can (can_stand line bytes spells)) c.played ok broken);
       last = subst (EndsWith why) (sym are) ends;
+      reached = w;
+      is_reached = both.1;
+      wired = subst (λ es. AreWired w es (added s new)) (sym c.entries) (wired_by w s new entries names wrote);
     }
 
+-- serials are spent at it, in the world before the cause that spends them, or behind it
+spent_behind : {lines rest : List (List ℕ)} {told : List Told} {number : ℕ} {s : Staged} (c : SoFar lines rest told number s) (new : Staged) (bytes : List ℕ) (line : Line) → Spells line bytes → refused c.now line ≡ None
+    → (entries : List Entry) (b : IsSpentAt c.now (work_of c.now.world line) entries) → entries_of new.trace ≡ entries_of s.trace ++ entries
+    → HaveNames b.at.moved new.posts ⊎ HaveNames (does_next b.at).now.world new.posts → IsHaltedBehind c.script told (added s new) c.now bytes Spent
+spent_behind c new bytes line spells ok entries b wrote (inl names) = breaks_off c new bytes line Spent spells ok entries wrote b (inr b) tt b.at.moved (inl refl) names
+spent_behind c new bytes line spells ok entries b wrote (inr names) = breaks_off c new bytes line Spent spells ok entries wrote b (inr b) tt (does_next b.at).now.world (inr refl) names
+
 pub halted_behind : {lines rest : List (List ℕ)} {told : List Told} {number : ℕ} {s : Staged} (c : SoFar lines rest told number s) (new : Staged) (bytes : List ℕ) (why : Halt) → HaltedIn s new bytes why
-    → IsHaltedBehind c.script told (added s new) bytes why
+    → IsHaltedBehind c.script told (added s new) c.now bytes why
 halted_behind {told = told} {s = s} c new bytes RegistryLost h =
     let x = h.2 c.now c.is in
     breaks_off c new bytes h.0 RegistryLost h.1 x.0 x.1.0 x.1.2 x.1.1 (inl x.1.1)
-    (drops_last c.script (entries_told told) c.now h.0 x.1.0 (can_more c.script h.0 c.can (can_stand h.0 bytes h.1)) c.played x.0 x.1.1)
+    (drops_last c.script (entries_told told) c.now h.0 x.1.0 (can_more c.script h.0 c.can (can_stand h.0 bytes h.1)) c.played x.0 x.1.1) (does_next x.1.1.at).now.world refl x.1.3
 halted_behind {told = told} {s = s} c new bytes Spent h =
     let x = h.2 c.now c.is in
     by x.0 x.1
   where
-    by : refused c.now h.0 ≡ None → (WorkSpent c.now (work_of c.now.world h.0) s new.trace ⊎ ManyTurns c.now s new.trace) → IsHaltedBehind c.script told (added s new) bytes Spent
-    by ok (inl x) = breaks_off c new bytes h.0 Spent h.1 ok x.0 x.2 x.1 (inr x.1) tt
+    by : refused c.now h.0 ≡ None → (WorkSpent c.now (work_of c.now.world h.0) s new ⊎ ManyTurns c.now s new) → IsHaltedBehind c.script told (added s new) c.now bytes Spent
+    by ok (inl x) = spent_behind c new bytes h.0 h.1 ok x.0 x.1 x.2 x.3
     by ok (inr x) =
         let all : entries_of new.trace ≡ entries_told told ++ x.0 = x.4 ∙ ap (λ es. es ++ x.0) (sym c.entries) in
         let fewer : 4398046511104 < 4398046511104 = drains_end c.script (entries_told told) c.now c.can c.played 4398046511104 x.0 x.1 x.2 x.3 (subst (AllByRecursion IsUnspent) all h.3) in

@@ -13,6 +13,7 @@ use Rattle.atspi_message.specs.Bytes.{written}
 use Rattle.atspi_message.specs.declared.message.Message.{Message}
 use Rattle.atspi_posts.specs.declared.post.Post.{Post}
 use Rattle.atspi_carrying.specs.Carried as carried
+use Rattle.atspi_carrying.specs.Halted.{Naming, naming_of, HaveNames}
 use Rattle.atspi_trace.specs.Entry.{Entry, entry_of, entries_of}
 use Rattle.atspi_trace.specs.World.{End, World}
 use Rattle.atspi_trace.specs.Ends.{same_party}
@@ -36,6 +37,30 @@ name_same (e ∷ ends) who = by (same_party e.who who) (name_same ends who)
         → name_if (cond b (Some (carried.post_of e)) (post_of who (map carried.post_of ends))) ≡ unique_in (cond b (Some e) (find (λ (e : End). same_party e.who who) ends))
     by true h = refl
     by false h = h
+
+-- and connections that are named alike give each party the same name
+abbrev first_who : List Naming → Party
+first_who [] = The_bus
+first_who (n ∷ ns) = n.who
+
+abbrev first_name : List Naming → Option (List ℕ)
+first_name [] = None
+first_name (n ∷ ns) = n.name
+
+abbrev behind_first : List Naming → List Naming
+behind_first [] = []
+behind_first (n ∷ ns) = ns
+
+name_alike : (xs ys : List Post) (who : Party) → map naming_of xs ≡ map naming_of ys → name_if (post_of who xs) ≡ name_if (post_of who ys)
+name_alike [] [] who h = refl
+name_alike [] (y ∷ ys) who h = absurd cc
+name_alike (x ∷ xs) [] who h = absurd cc
+name_alike (x ∷ xs) (y ∷ ys) who h =
+    by (same_party x.who who) (name_alike xs ys who (ap behind_first h)) ∙ ap (λ (party : Party). name_if (cond (same_party party who) (Some y) (post_of who ys))) (ap first_who h)
+  where
+    by : (b : Bool) → name_if (post_of who xs) ≡ name_if (post_of who ys) → name_if (cond b (Some x) (post_of who xs)) ≡ name_if (cond b (Some y) (post_of who ys))
+    by true rest = ap first_name h
+    by false rest = rest
 
 -- MESSAGES BEFORE A PLACE
 either : (x y : Option Message) → option_map envelope_of (first_of x y) ≡ first_of (option_map envelope_of x) (option_map envelope_of y)
@@ -176,12 +201,17 @@ front_of (x ∷ old) (y ∷ new) entries h = ap (λ o. head_with o (entries_of (
     head_with None es = es
     head_with (Some e) es = e ∷ es
 
--- WHAT A LINE ADDED IS WIRED
+-- WHAT A LINE ADDED IS WIRED by the world whose names the connections have
+pub wired_by : (w : World) (old new : Staged) (entries : List Entry) → HaveNames w new.posts → entries_of new.trace ≡ entries_of old.trace ++ entries
+    → AreWired w (entries_of old.trace) (told_from new.posts new.trace (length old.trace))
+wired_by w old new entries names wrote =
+    subst (λ es. AreWired w es (told_from new.posts new.trace (length old.trace))) (front_of old.trace new.trace entries wrote)
+    (wired_on new.posts w (λ who. name_alike new.posts (map carried.post_of w.ends) who names ∙ name_same w.ends who) new.trace (length old.trace) (drop (length old.trace) new.trace) refl)
+
+-- of a line that was done that is the world behind it
 pub added_wired : (p : Playing) (old new : Staged) (entries : List Entry) → IsPlaying p new → entries_of new.trace ≡ entries_of old.trace ++ entries
     → AreWired p.world (entries_of old.trace) (told_from new.posts new.trace (length old.trace))
-added_wired p old new entries is wrote =
-    subst (λ es. AreWired p.world es (told_from new.posts new.trace (length old.trace))) (front_of old.trace new.trace entries wrote)
-    (wired_on new.posts p.world (λ who. ap (λ ps. name_if (post_of who ps)) is.is.carried.posts_are ∙ name_same p.world.ends who) new.trace (length old.trace) (drop (length old.trace) new.trace) refl)
+added_wired p old new entries is wrote = wired_by p.world old new entries (ap (map naming_of) is.is.carried.posts_are) wrote
 
 -- what is told was played
 pub told_played : (lines : List Line) (told : List Told) (p : Playing) → IsTold lines told p → IsPlayed lines (entries_told told) p

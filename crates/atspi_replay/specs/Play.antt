@@ -47,8 +47,8 @@ RefusedIn s bytes why = RefusedAs bytes why
 
 -- the world came to its end at the line that bytes spell, with what this world's trace has then
 abbrev pub Halts : Halt → Line → Staged → Staged → Type 0
-Halts RegistryLost line old new = LineLost line old new.trace
-Halts Spent line old new = LineSpent line old new.trace
+Halts RegistryLost line old new = LineLost line old new
+Halts Spent line old new = LineSpent line old new
 
 -- and its serials have 32 bits, by their type
 abbrev pub HaltedIn : Staged → Staged → List ℕ → Halt → Type 0
@@ -106,7 +106,7 @@ pub record HaltedText (options : TraceOptions) (why : Halt) (lines : List (List 
   pub told : List Told
   pub more : List Told
   pub upto : Upto lines (line ∷ rest) told
-  pub halted : IsHaltedBehind upto.lawful.lines told more line why
+  pub halted : IsHaltedBehind upto.lawful.lines told more upto.lawful.now line why
   pub are : text ≡ told_text options (told ++ more)
 
 -- the same, and behind it the refusal of the next line

@@ -65,7 +65,7 @@ pub(crate) fn stop_of_line(fault: LineFault) -> Stop
 /// Why a world did not do a line.
 pub(crate) fn stop_of_act(fault: ActFault) -> Stop
     ensures { (line : Line) (bytes : List ℕ) (old new : Staged) → Spells line bytes → ((why : Refusal) → fault ≡ ActFault.Refused why → RefusedFor line why old)
-        → (fault ≡ ActFault.RegistryLost → LineLost line old new.trace) → (fault ≡ ActFault.Spent → LineSpent line old new.trace) → AllByRecursion IsUnspent (entries_of new.trace) → StopsAs result bytes old new }
+        → (fault ≡ ActFault.RegistryLost → LineLost line old new) → (fault ≡ ActFault.Spent → LineSpent line old new) → AllByRecursion IsUnspent (entries_of new.trace) → StopsAs result bytes old new }
 {
     match fault {
         ActFault::Refused(why) => Stop::Refused(Refused::World(why)),
