@@ -11,9 +11,10 @@ use Rattle.atspi_stage.specs.Places.{post_of}
 use Rattle.atspi_stage.specs.Shown.{row_total, shown_by}
 use Rattle.atspi_stage.specs.Wires.{name_if}
 use Rattle.atspi_stage.specs.Worlds.{Staged}
+use Rattle.atspi_replay.specs.Done.{HasRegistry}
 use Rattle.atspi_replay.specs.Made.{AreOfScript, HasMade, is_spoken, is_step}
 use Rattle.atspi_replay.proofs.Counts.{counts_both}
-use Rattle.atspi_replay.proofs.Refusing.{lawful}
+use Rattle.atspi_replay.proofs.Refusing.{lawful, there}
 use Rattle.atspi_replay.proofs.TheFirst.{rows_are}
 
 pub came : (seed count : ℕ) (s : Staged) → HasMade seed count s → (steps nodes says : ℕ) → steps ≡ count_by (λ event. is_step (entry_of event)) s.trace
@@ -25,6 +26,7 @@ came seed count s h steps nodes says steps_are nodes_are says_are = record {
   state = h.state;
   drawn = h.drawn;
   lawful = subst (Lawful (h.lines ++ Drain ∷ [])) h.so (lawful (h.lines ++ Drain ∷ []) (entries_of s.trace) h.played.now h.played.can h.played.played);
+  there = subst (HasRegistry (h.lines ++ Drain ∷ [])) h.so (there (h.lines ++ Drain ∷ []) (entries_of s.trace) h.played.now h.played.can h.played.played);
   steps_are = steps_are ∙ counts_both is_step s.trace ∙ ap (count_by is_step) h.so;
   nodes_are = nodes_are ∙ rows_are (h.lines ++ Drain ∷ []) s h.played (slice_get s.readers 0) refl ∙ ap (λ (es : List Entry). row_total (rows_due es 0 (held es 0 0))) h.so;
   says_are = says_are ∙ counts_both is_spoken s.trace ∙ ap (count_by is_spoken) h.so;

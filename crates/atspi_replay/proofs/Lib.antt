@@ -17,5 +17,6 @@ pub mod StopLemmas
 pub mod TellLemmas
 pub mod TheFirst
 pub mod TreesTold
+pub mod Stopping
 pub mod Wiring
 pub mod SerialLemmas

@@ -2,7 +2,12 @@
 use Rattle.std.proofs.Common.{◌≡◌, ℕ, Option, List, refl, arith, inl, inr}
 use Rattle.std.specs.Io.KnownBytes.{Appends}
 use Rattle.atspi_base.specs.Outside.{AppendsPart}
-use Rattle.atspi_replay.specs.Made.{AreOfScript, IsHalt, Made, made_text}
+use Rattle.atspi_replay.specs.declared.naming.Halt.TheVariants.{RegistryLost, Spent}
+use Rattle.atspi_replay.specs.declared.naming.Stop.{Stop}
+use Rattle.atspi_replay.specs.declared.naming.Stop.TheVariants.{Refused, Halted, Write, NoMemory}
+use Rattle.atspi_replay.specs.Made.{AreOfScript, Made, ScriptStops, made_text}
+use Rattle.atspi_replay.specs.Play.{BlamesStop}
+use Rattle.atspi_replay.specs.Run.{stop_status}
 use Rattle.atspi_replay.proofs.DoneLemmas.{appends_nothing}
 
 pub made_done : (count seed steps nodes says : ℕ) (w w' : Option (List ℕ)) → AreOfScript count seed steps nodes says → Appends w w' (made_text count seed steps nodes says) → Made count seed 0 w w'
@@ -10,6 +15,9 @@ made_done count seed steps nodes says w w' t a = record {
   known = inl refl;
   done = λ e. (steps, nodes, says, t, a);
   write = λ e. absurd (omega (arith, e));
+  refused = λ e. absurd (omega (arith, e));
+  lost = λ e. absurd (omega (arith, e));
+  spent = λ e. absurd (omega (arith, e));
   nothing = λ no cut. absurd (no refl);
 }
 
@@ -18,26 +26,55 @@ made_write count seed steps nodes says w w' t a = record {
   known = inr (inl refl);
   done = λ e. absurd (omega (arith, e));
   write = λ e. (steps, nodes, says, t, a);
+  refused = λ e. absurd (omega (arith, e));
+  lost = λ e. absurd (omega (arith, e));
+  spent = λ e. absurd (omega (arith, e));
   nothing = λ no cut. absurd (cut refl);
 }
 
-not_done : (status : ℕ) → IsHalt status → status ≡ 0 → ⊥
-not_done status (inl h) e = absurd (omega (arith, h, e))
-not_done status (inr (inl h)) e = absurd (omega (arith, h, e))
-not_done status (inr (inr (inl h))) e = absurd (omega (arith, h, e))
-not_done status (inr (inr (inr h))) e = absurd (omega (arith, h, e))
-
-not_cut : (status : ℕ) → IsHalt status → status ≡ 4 → ⊥
-not_cut status (inl h) e = absurd (omega (arith, h, e))
-not_cut status (inr (inl h)) e = absurd (omega (arith, h, e))
-not_cut status (inr (inr (inl h))) e = absurd (omega (arith, h, e))
-not_cut status (inr (inr (inr h))) e = absurd (omega (arith, h, e))
-
--- nothing was written
-pub made_halt : (count seed status : ℕ) (w : Option (List ℕ)) → IsHalt status → Made count seed status w w
-made_halt count seed status w h = record {
-  known = inr (inr h);
-  done = λ e. absurd (not_done status h e);
-  write = λ e. absurd (not_cut status h e);
+-- A SCRIPT THAT STOPS: nothing was written, and the status is that of its cause
+pub made_stop : (count seed : ℕ) (stop : Stop) (w : Option (List ℕ)) → ScriptStops count seed stop → Made count seed (stop_status stop) w w
+made_stop count seed (Refused why) w because = record {
+  known = inr (inr (inl refl));
+  done = λ e. absurd (omega (arith, e));
+  write = λ e. absurd (omega (arith, e));
+  refused = λ e. because;
+  lost = λ e. absurd (omega (arith, e));
+  spent = λ e. absurd (omega (arith, e));
   nothing = λ no cut. appends_nothing w;
 }
+made_stop count seed NoMemory w because = record {
+  known = inr (inr (inr (inl refl)));
+  done = λ e. absurd (omega (arith, e));
+  write = λ e. absurd (omega (arith, e));
+  refused = λ e. absurd (omega (arith, e));
+  lost = λ e. absurd (omega (arith, e));
+  spent = λ e. absurd (omega (arith, e));
+  nothing = λ no cut. appends_nothing w;
+}
+made_stop count seed (Halted RegistryLost) w because = record {
+  known = inr (inr (inr (inr (inl refl))));
+  done = λ e. absurd (omega (arith, e));
+  write = λ e. absurd (omega (arith, e));
+  refused = λ e. absurd (omega (arith, e));
+  lost = λ e. because;
+  spent = λ e. absurd (omega (arith, e));
+  nothing = λ no cut. appends_nothing w;
+}
+made_stop count seed (Halted Spent) w because = record {
+  known = inr (inr (inr (inr (inr refl))));
+  done = λ e. absurd (omega (arith, e));
+  write = λ e. absurd (omega (arith, e));
+  refused = λ e. absurd (omega (arith, e));
+  lost = λ e. absurd (omega (arith, e));
+  spent = λ e. because;
+  nothing = λ no cut. appends_nothing w;
+}
+made_stop count seed Write w because = absurd because
+
+-- the sink has no part in it
+pub stop_blames : (count seed sink : ℕ) (stop : Stop) → ScriptStops count seed stop → BlamesStop sink sink stop
+stop_blames count seed sink (Refused why) because = refl
+stop_blames count seed sink (Halted why) because = refl
+stop_blames count seed sink NoMemory because = refl
+stop_blames count seed sink Write because = absurd because

@@ -70,7 +70,7 @@ played_lines lines (line ∷ more) old new may h done =
     }
 
 -- what is played is lawful
-lawful_so : (lines : List Line) (s : Staged) → HasPlayed lines s → Lawful lines (entries_of s.trace)
+pub lawful_so : (lines : List Line) (s : Staged) → HasPlayed lines s → Lawful lines (entries_of s.trace)
 lawful_so lines s h = lawful lines (entries_of s.trace) h.now h.can h.played
 
 -- THE SCRIPT BEGINS

@@ -1,5 +1,5 @@
 -- What `make` does, by its status, and the script that it does.
-use Rattle.std.specs.Prelude.{◌≡◌, ◌⊎◌, ℕ, suc, ◌+◌, ◌%◌, ◌==◌, Bool, true, false, List, [], ◌∷◌, ◌++◌, Option, codes, count_by, if◌then◌else◌}
+use Rattle.std.specs.Prelude.{◌≡◌, ◌⊎◌, ℕ, suc, ◌+◌, ◌<◌, ◌%◌, ◌==◌, Bool, true, false, List, [], ◌∷◌, ◌++◌, Option, None, Some, codes, count_by, if◌then◌else◌}
 use Rattle.std.specs.Fmt.{decimal}
 use Rattle.std.specs.Io.KnownBytes.{Appends}
 use Rattle.atspi_base.specs.Outside.{AppendsPart}
@@ -11,15 +11,22 @@ use Rattle.atspi_tree.specs.TreeShape.{TreeShape, IsLawful}
 use Rattle.atspi_make.specs.Drawing.{drawn_edit, live_nodes}
 use Rattle.atspi_make.specs.Live.{CanFollow}
 use Rattle.atspi_trace.specs.Entry.{Entry, changed, spoke, entries_of}
-use Rattle.atspi_trace.specs.Due.{Lawful}
+use Rattle.atspi_trace.specs.Work.{Refusal, work_of}
+use Rattle.atspi_trace.specs.Due.{Begun, Lawful, refusal_at}
 use Rattle.atspi_lawful.specs.laws.NineLaws.{rows_due}
 use Rattle.atspi_lawful.specs.laws.Words.{added, held, live_tree}
 use Rattle.atspi_lawful.specs.order.Scripts.{CanAllStand}
 use Rattle.atspi_play.specs.Playing.{Playing}
+use Rattle.atspi_play.specs.Played as playing
 use Rattle.atspi_play.specs.Played.{IsPlayed}
 use Rattle.atspi_stage.specs.Lines.{LineDone}
 use Rattle.atspi_stage.specs.Shown.{row_total}
 use Rattle.atspi_stage.specs.Worlds.{Staged, IsPlaying}
+use Rattle.atspi_replay.specs.declared.naming.Halt.{Halt}
+use Rattle.atspi_replay.specs.declared.naming.Halt.TheVariants.{RegistryLost, Spent}
+use Rattle.atspi_replay.specs.declared.naming.Stop.{Stop}
+use Rattle.atspi_replay.specs.declared.naming.Stop.TheVariants.{Refused, Halted, Write, NoMemory}
+use Rattle.atspi_replay.specs.Done.{BreaksOff, EndsWith, HasRegistry}
 
 -- `made N SEED steps S nodes M says K`
 abbrev pub made_text : ℕ → ℕ → ℕ → ℕ → ℕ → List ℕ
@@ -66,8 +73,54 @@ pub data AreDrawn (seed : ℕ) : ℕ → List Line → List Entry → ℕ → Ty
       → Lawful (lines ++ round (suc k) (drawn_edit (tree_told trace) (suc k) x).edit) (trace ++ more)
       → AreDrawn seed (suc k) (lines ++ round (suc k) (drawn_edit (tree_told trace) (suc k) x).edit) (trace ++ more) (drawn_edit (tree_told trace) (suc k) x).state
 
+-- THE NEXT LINE OF A SCRIPT OF SO MANY EDITS: it stands there behind these lines, of which this is a lawful trace. It is one of the opening; or the edit
+-- that is drawn of the tree that the trace tells; or the turns behind a sixteenth edit; or the drain behind the last one.
+pub data StandsBehind (seed count : ℕ) : List Line → Line → List Entry → Type 0 where
+  in_opening : (lines rest : List Line) (line : Line) (trace : List Entry) → opening ≡ lines ++ line ∷ rest → Lawful lines trace → StandsBehind seed count lines line trace
+  next_edit : (k x : ℕ) (lines : List Line) (trace : List Entry) → AreDrawn seed k lines trace x → k < count
+      → StandsBehind seed count lines (Edit_line 0 (drawn_edit (tree_told trace) (suc k) x).edit) trace
+  next_turns : (k x : ℕ) (lines : List Line) (trace more : List Entry) → AreDrawn seed k lines trace x → k < count → suc k % 16 ≡ 0
+      → Lawful (lines ++ Edit_line 0 (drawn_edit (tree_told trace) (suc k) x).edit ∷ []) (trace ++ more)
+      → StandsBehind seed count (lines ++ Edit_line 0 (drawn_edit (tree_told trace) (suc k) x).edit ∷ []) (Turns 64) (trace ++ more)
+  last_drain : (x : ℕ) (lines : List Line) (trace : List Entry) → AreDrawn seed count lines trace x → StandsBehind seed count lines Drain trace
+
+-- A LINE OF THE SCRIPT IS REFUSED, by the lawful trace of the lines before it
+pub record IsRefusedOf (count seed : ℕ) : Type 0 where
+  pub lines : List Line
+  pub line : Line
+  pub trace : List Entry
+  pub next : StandsBehind seed count lines line trace
+  pub why : Refusal
+  pub refused : refusal_at (lines ++ line ∷ []) trace ≡ Some why
+
+-- the world comes to its end at a line behind those of this trace, which is not refused; what it wrote up to there is `more`, and all is the front of a
+-- lawful trace
+pub record IsBrokenOff (why : Halt) (lines : List Line) (line : Line) (trace more : List Entry) : Type 0 where
+  pub now : Playing
+  pub played : IsPlayed lines trace now
+  pub accepted : playing.refused now line ≡ None
+  pub breaks : BreaksOff why now (work_of now.world line) more
+  pub begun : Begun (lines ++ line ∷ []) (trace ++ more)
+  pub last : EndsWith why more
+
+-- THE WORLD COMES TO ITS END AT A LINE OF THE SCRIPT
+pub record IsHaltedOf (why : Halt) (count seed : ℕ) : Type 0 where
+  pub lines : List Line
+  pub line : Line
+  pub trace : List Entry
+  pub more : List Entry
+  pub next : StandsBehind seed count lines line trace
+  pub broken : IsBrokenOff why lines line trace more
+
+-- why a script is not done to its end; the sink has no part in it
+abbrev pub ScriptStops : ℕ → ℕ → Stop → Type 0
+ScriptStops count seed (Refused why) = IsRefusedOf count seed
+ScriptStops count seed (Halted why) = IsHaltedOf why count seed
+ScriptStops count seed NoMemory = Unit {0}
+ScriptStops count seed Write = ⊥
+
 -- THE NUMBERS ARE THOSE OF A LAWFUL TRACE OF THE SCRIPT: its steps, its spoken lines, and the rows that the reader is due to show of the application
--- behind it
+-- behind it. The registry is there behind it too.
 pub record AreOfScript (count seed steps nodes says : ℕ) : Type 0 where
   pub lines : List Line
   pub early : List Entry
@@ -75,6 +128,7 @@ pub record AreOfScript (count seed steps nodes says : ℕ) : Type 0 where
   pub state : ℕ
   pub drawn : AreDrawn seed count lines early state
   pub lawful : Lawful (lines ++ Drain ∷ []) (early ++ more)
+  pub there : HasRegistry (lines ++ Drain ∷ []) (early ++ more)
   pub steps_are : steps ≡ count_by is_step (early ++ more)
   pub nodes_are : nodes ≡ row_total (rows_due (early ++ more) 0 (held (early ++ more) 0 0))
   pub says_are : says ≡ count_by is_spoken (early ++ more)
@@ -85,6 +139,10 @@ pub record HasPlayed (lines : List Line) (s : Staged) : Type 0 where
   pub now : Playing
   pub is : IsPlaying now s
   pub played : IsPlayed lines (entries_of s.trace) now
+
+-- why any script stops whose next line this is, behind lines that were played in a stage
+abbrev pub StopsAt : Line → Staged → Stop → Type 0
+StopsAt line s stop = (count seed : ℕ) (lines : List Line) → HasPlayed lines s → StandsBehind seed count lines line (entries_of s.trace) → ScriptStops count seed stop
 
 -- lines were done, one behind the other
 abbrev pub LinesDone : List Line → Staged → Staged → Type 0
@@ -119,9 +177,13 @@ pub record WereSeen (seen : List ℕ) (next : ℕ) (trace : List Entry) : Type 0
 abbrev pub AreSeen : List ℕ → ℕ → List Entry → Type 0
 AreSeen seen next trace = ((t : TreeShape) → CanFollow seen next t) ⊎ WereSeen seen next trace
 
--- 0: the line was written. 4: a front of it. With any other status nothing was written.
+-- 0: the line was written. 4: a front of it. 1: a line of the script is refused. 9: the registry was dropped at one, and 13: serials were spent. With any
+-- status but 0 and 4 nothing was written.
 pub record Made (count seed status : ℕ) (w w' : Option (List ℕ)) : Type 0 where
   pub known : IsMakeStatus status
   pub done : status ≡ 0 → (steps : ℕ) × (nodes : ℕ) × (says : ℕ) × AreOfScript count seed steps nodes says × Appends w w' (made_text count seed steps nodes says)
   pub write : status ≡ 4 → (steps : ℕ) × (nodes : ℕ) × (says : ℕ) × AreOfScript count seed steps nodes says × AppendsPart w w' (made_text count seed steps nodes says)
+  pub refused : status ≡ 1 → IsRefusedOf count seed
+  pub lost : status ≡ 9 → IsHaltedOf RegistryLost count seed
+  pub spent : status ≡ 13 → IsHaltedOf Spent count seed
   pub nothing : (status ≡ 0 → ⊥) → (status ≡ 4 → ⊥) → Appends w w' []

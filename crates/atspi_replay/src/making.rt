@@ -1,6 +1,6 @@
 //! `make`: a script is drawn from a seed and done, and what came of it is told in a line.
 
-ghost use Rattle.std.specs.Prelude.{◌≡◌, ◌++◌, ◌-◌, ◌<◌, [], ℕ, List, All, IfOk, OnOk, count_by, length};
+ghost use Rattle.std.specs.Prelude.{◌≡◌, ◌++◌, ◌-◌, ◌%◌, ◌<◌, ◌≤◌, [], ℕ, List, All, IfErr, IfOk, OnOk, count_by, length};
 ghost use Rattle.std.specs.Fmt.{decimal};
 ghost use Rattle.std.specs.Io.KnownBytes.{Appends};
 ghost use Rattle.atspi_base.specs.Outside.{AppendsPart};
@@ -16,9 +16,11 @@ ghost use Rattle.atspi_stage.specs.Worlds.{staged};
 ghost use Rattle.atspi_trace.specs.Entry.{entries_of, entry_of};
 ghost use Rattle.atspi_trace.specs.Work.{spare_count};
 ghost use Rattle.atspi_replay.specs.Causes.{Causes};
-ghost use Rattle.atspi_replay.specs.Made.{AreOfScript, AreSeen, HasDrawn, HasMade, HasPlayed, IsHalt, LinesDone, Made, is_spoken, is_step, made_text, opening, tree_told, turns_behind};
+ghost use Rattle.atspi_replay.specs.Made.{AreOfScript, AreSeen, HasDrawn, HasMade, HasPlayed, LinesDone, Made, ScriptStops, StopsAt, is_spoken, is_step, made_text, opening, tree_told, turns_behind};
 
-use crate::naming::{Halt, Refused, Stop, stop_of_act};
+use crate::naming::{Refused, Stop, stop_of_act};
+use crate::replaying::stop_status;
+use crate::serials::all_fit;
 use atspi_base::{Bytes, NoMemory, Sink, Text, put_decimal, write_all};
 use atspi_events::Event;
 use atspi_forest::Edit;
@@ -40,24 +42,30 @@ const ROUND: u32 = 16;
 /// So many turns.
 const TURNS: u32 = 64;
 
-/// A line is done.
+/// A line is done, or stops the script.
 fn act<A: Application, R: Follower>(world: &mut Stage<A, R>, line: &Line) -> Result<(), Stop>
     requires may { MayAct line.now }
     requires stage { IsStage A.is_app R.is_follower A.is_kit A.is_spare world.old.cast.apps.items world.old.cast.readers.items world.old.kits.items world.old.spares.items (state_of world.old.carrier.bus) }
     ensures stage { OnOk result (IsStage A.is_app R.is_follower A.is_kit A.is_spare world.new.cast.apps.items world.new.cast.readers.items world.new.kits.items world.new.spares.items (state_of world.new.carrier.bus)) }
     ensures done { OnOk result (LineDone line.now (staged A.exporter R.follower (inner_of world.old.carrier.bus) world.old.carrier.posts.items world.old.carrier.at_end.items world.old.cast.registry world.old.cast.apps.items world.old.cast.readers.items (length world.old.kits.items) (length world.old.spares.items) world.old.carrier.trace.items) (staged A.exporter R.follower (inner_of world.new.carrier.bus) world.new.carrier.posts.items world.new.carrier.at_end.items world.new.cast.registry world.new.cast.apps.items world.new.cast.readers.items (length world.new.kits.items) (length world.new.spares.items) world.new.carrier.trace.items)) }
+    ensures stops { IfErr result (StopsAt line.now (staged A.exporter R.follower (inner_of world.old.carrier.bus) world.old.carrier.posts.items world.old.carrier.at_end.items world.old.cast.registry world.old.cast.apps.items world.old.cast.readers.items (length world.old.kits.items) (length world.old.spares.items) world.old.carrier.trace.items)) }
 {
     match world.act(line) {
         Ok(()) => Ok(()),
-        Err(fault) => Err(stop_of_act(fault)),
+        Err(fault) => {
+            all_fit(world.trace());
+            Err(stop_of_act(fault))
+        }
     }
 }
 
 /// The application and the reader start, and know of one another.
 fn begin<A: Application, R: Follower>(alloc: Global, world: &mut Stage<A, R>) -> Result<(), Stop>
     requires stage { IsStage A.is_app R.is_follower A.is_kit A.is_spare world.old.cast.apps.items world.old.cast.readers.items world.old.kits.items world.old.spares.items (state_of world.old.carrier.bus) }
+    requires played { HasPlayed [] (staged A.exporter R.follower (inner_of world.old.carrier.bus) world.old.carrier.posts.items world.old.carrier.at_end.items world.old.cast.registry world.old.cast.apps.items world.old.cast.readers.items (length world.old.kits.items) (length world.old.spares.items) world.old.carrier.trace.items) }
     ensures stage { OnOk result (IsStage A.is_app R.is_follower A.is_kit A.is_spare world.new.cast.apps.items world.new.cast.readers.items world.new.kits.items world.new.spares.items (state_of world.new.carrier.bus)) }
     ensures done { OnOk result (LinesDone opening (staged A.exporter R.follower (inner_of world.old.carrier.bus) world.old.carrier.posts.items world.old.carrier.at_end.items world.old.cast.registry world.old.cast.apps.items world.old.cast.readers.items (length world.old.kits.items) (length world.old.spares.items) world.old.carrier.trace.items) (staged A.exporter R.follower (inner_of world.new.carrier.bus) world.new.carrier.posts.items world.new.carrier.at_end.items world.new.cast.registry world.new.cast.apps.items world.new.cast.readers.items (length world.new.kits.items) (length world.new.spares.items) world.new.carrier.trace.items)) }
+    ensures stops { IfErr result (λ stop. (count seed : ℕ) → ScriptStops count seed stop) }
 {
     let Ok(name) = Text::of(alloc, "Made") else {
         return Err(Stop::NoMemory);
@@ -81,6 +89,7 @@ fn draw<A: HasTree, R: Follower>(
     ensures state { OnOk result (draws.new.state ≡ (drawn_edit (tree_told (entries_of world.now.carrier.trace.items)) number draws.old.state).state) }
     ensures lawful { IfOk result (λ edit. IsEdit edit) }
     ensures seen { OnOk result (AreSeen nodes.new.nodes.items nodes.new.next (entries_of world.now.carrier.trace.items)) }
+    ensures stops { IfErr result (StopsAt (Line.Edit 0 (drawn_edit (tree_told (entries_of world.now.carrier.trace.items)) number draws.old.state).edit) (staged A.exporter R.follower (inner_of world.now.carrier.bus) world.now.carrier.posts.items world.now.carrier.at_end.items world.now.cast.registry world.now.cast.apps.items world.now.cast.readers.items (length world.now.kits.items) (length world.now.spares.items) world.now.carrier.trace.items)) }
 {
     let Some(app) = world.app(0) else {
         return Err(Stop::Refused(Refused::World(Refusal::NoParty)));
@@ -101,6 +110,7 @@ fn make_turns<A: Application, R: Follower>(world: &mut Stage<A, R>, number: u32)
     requires stage { IsStage A.is_app R.is_follower A.is_kit A.is_spare world.old.cast.apps.items world.old.cast.readers.items world.old.kits.items world.old.spares.items (state_of world.old.carrier.bus) }
     ensures stage { OnOk result (IsStage A.is_app R.is_follower A.is_kit A.is_spare world.new.cast.apps.items world.new.cast.readers.items world.new.kits.items world.new.spares.items (state_of world.new.carrier.bus)) }
     ensures done { OnOk result (LinesDone (turns_behind number) (staged A.exporter R.follower (inner_of world.old.carrier.bus) world.old.carrier.posts.items world.old.carrier.at_end.items world.old.cast.registry world.old.cast.apps.items world.old.cast.readers.items (length world.old.kits.items) (length world.old.spares.items) world.old.carrier.trace.items) (staged A.exporter R.follower (inner_of world.new.carrier.bus) world.new.carrier.posts.items world.new.carrier.at_end.items world.new.cast.registry world.new.cast.apps.items world.new.cast.readers.items (length world.new.kits.items) (length world.new.spares.items) world.new.carrier.trace.items)) }
+    ensures stops { IfErr result (λ stop. (number % 16 ≡ 0) × StopsAt (Line.Turns 64) (staged A.exporter R.follower (inner_of world.old.carrier.bus) world.old.carrier.posts.items world.old.carrier.at_end.items world.old.cast.registry world.old.cast.apps.items world.old.cast.readers.items (length world.old.kits.items) (length world.old.spares.items) world.old.carrier.trace.items) stop) }
 {
     if number % ROUND == 0 {
         return act(world, &Line::Turns(TURNS));
@@ -123,6 +133,7 @@ fn make_edit<A: HasTree, R: Follower>(
     ensures stage { OnOk result (IsStage A.is_app R.is_follower A.is_kit A.is_spare world.new.cast.apps.items world.new.cast.readers.items world.new.kits.items world.new.spares.items (state_of world.new.carrier.bus)) }
     ensures drawn { OnOk result ((seed : ℕ) → HasDrawn seed (number - 1) draws.old.state (staged A.exporter R.follower (inner_of world.old.carrier.bus) world.old.carrier.posts.items world.old.carrier.at_end.items world.old.cast.registry world.old.cast.apps.items world.old.cast.readers.items (length world.old.kits.items) (length world.old.spares.items) world.old.carrier.trace.items) → HasDrawn seed number draws.new.state (staged A.exporter R.follower (inner_of world.new.carrier.bus) world.new.carrier.posts.items world.new.carrier.at_end.items world.new.cast.registry world.new.cast.apps.items world.new.cast.readers.items (length world.new.kits.items) (length world.new.spares.items) world.new.carrier.trace.items)) }
     ensures seen { OnOk result (AreSeen nodes.new.nodes.items nodes.new.next (entries_of world.new.carrier.trace.items)) }
+    ensures stops { IfErr result (λ stop. (count seed : ℕ) → number ≤ count → HasDrawn seed (number - 1) draws.old.state (staged A.exporter R.follower (inner_of world.old.carrier.bus) world.old.carrier.posts.items world.old.carrier.at_end.items world.old.cast.registry world.old.cast.apps.items world.old.cast.readers.items (length world.old.kits.items) (length world.old.spares.items) world.old.carrier.trace.items) → ScriptStops count seed stop) }
 {
     let edit = draw(alloc, world, number, nodes, draws)?;
     act(world, &Line::Edit { app: 0, edit })?;
@@ -141,6 +152,7 @@ fn make_edits<A: HasTree, R: Follower>(
     requires drawn { HasDrawn draws.old.state 0 draws.old.state (staged A.exporter R.follower (inner_of world.old.carrier.bus) world.old.carrier.posts.items world.old.carrier.at_end.items world.old.cast.registry world.old.cast.apps.items world.old.cast.readers.items (length world.old.kits.items) (length world.old.spares.items) world.old.carrier.trace.items) }
     ensures stage { OnOk result (IsStage A.is_app R.is_follower A.is_kit A.is_spare world.new.cast.apps.items world.new.cast.readers.items world.new.kits.items world.new.spares.items (state_of world.new.carrier.bus)) }
     ensures made { OnOk result (HasMade draws.old.state count (staged A.exporter R.follower (inner_of world.new.carrier.bus) world.new.carrier.posts.items world.new.carrier.at_end.items world.new.cast.registry world.new.cast.apps.items world.new.cast.readers.items (length world.new.kits.items) (length world.new.spares.items) world.new.carrier.trace.items)) }
+    ensures stops { IfErr result (ScriptStops count draws.old.state) }
 {
     let mut nodes = LiveNodes::new(alloc);
     for number in 1..count + 1 {
@@ -248,20 +260,6 @@ fn tell<K: Sink>(alloc: Global, count: u32, seed: u32, of: Outcome, sink: &mut K
     }
 }
 
-/// The status of a script that was not done to its end.
-fn halted(stop: Stop) -> u8
-    ensures { IsHalt result }
-{
-    match stop {
-        Stop::Refused(_) => 1,
-        Stop::Halted(Halt::RegistryLost) => 9,
-        Stop::Halted(Halt::Spent) => 13,
-        // nothing was written yet
-        Stop::Write => 5,
-        Stop::NoMemory => 5,
-    }
-}
-
 /// Makes the edits in a world, and answers what came of them.
 fn make_in<A: HasTree, R: Follower>(
     alloc: Global,
@@ -273,7 +271,8 @@ fn make_in<A: HasTree, R: Follower>(
     requires seed { seed < 2147483648 }
     requires stage { IsStage A.is_app R.is_follower A.is_kit A.is_spare world.old.cast.apps.items world.old.cast.readers.items world.old.kits.items world.old.spares.items (state_of world.old.carrier.bus) }
     requires played { HasPlayed [] (staged A.exporter R.follower (inner_of world.old.carrier.bus) world.old.carrier.posts.items world.old.carrier.at_end.items world.old.cast.registry world.old.cast.apps.items world.old.cast.readers.items (length world.old.kits.items) (length world.old.spares.items) world.old.carrier.trace.items) }
-    ensures { IfOk result (λ of. AreOfScript count seed of.steps of.nodes of.says) }
+    ensures made { IfOk result (λ of. AreOfScript count seed of.steps of.nodes of.says) }
+    ensures stops { IfErr result (ScriptStops count seed) }
 {
     begin(alloc, world)?;
     let mut draws = Draws::new(seed);
@@ -295,7 +294,8 @@ fn make_all<A: HasTree, R: Follower>(
     requires spares { All A.is_spare spares.items }
     requires kit_count { length kits.items ≡ APP_COUNT }
     requires spare_count { length spares.items ≡ spare_count }
-    ensures { IfOk result (λ of. AreOfScript count seed of.steps of.nodes of.says) }
+    ensures made { IfOk result (λ of. AreOfScript count seed of.steps of.nodes of.says) }
+    ensures stops { IfErr result (ScriptStops count seed) }
 {
     let made: Result<Stage<A, R>, _> = Stage::new(alloc, kits, spares);
     match made {
@@ -307,6 +307,9 @@ fn make_all<A: HasTree, R: Follower>(
 /// Draws a script of so many edits from a seed, does it in a world over these kits and spares, and writes how many steps were made, how many
 /// nodes the reader shows, and how many lines it spoke: the numbers of a lawful trace of the lines. There are kits and spares for all that a script
 /// can use.
+///
+/// Status 0: the line was written. 4: the sink failed. With any other nothing was written. 1: the lawful trace of the lines before it refuses a line of the
+/// script. 5: no memory is left. 9: the registry was dropped at its quota. 13: a message would pass the last number.
 pub fn make<A: HasTree, R: Follower, K: Sink>(
     alloc: Global,
     count: u32,
@@ -326,6 +329,6 @@ pub fn make<A: HasTree, R: Follower, K: Sink>(
 {
     match make_all::<A, R>(alloc, count, seed, kits, spares) {
         Ok(of) => tell(alloc, count, seed, of, sink),
-        Err(stop) => halted(stop),
+        Err(stop) => stop_status(stop),
     }
 }

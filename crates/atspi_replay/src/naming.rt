@@ -8,6 +8,7 @@ ghost use Rattle.atspi_lines.specs.declared.line.Line.{Line};
 ghost use Rattle.atspi_lines.specs.Line.{ReadsLine, Spells};
 ghost use Rattle.atspi_replay.specs.Names.{edit_fault_name, refusal_name, refused_name};
 ghost use Rattle.atspi_replay.specs.Play.{StopsAs};
+ghost use Rattle.atspi_replay.specs.Run.{stop_of};
 ghost use Rattle.atspi_stage.specs.Halts.{LineLost, LineSpent};
 ghost use Rattle.atspi_stage.specs.Refusals.{RefusedFor};
 ghost use Rattle.atspi_stage.specs.Worlds.{Staged};
@@ -64,7 +65,8 @@ pub(crate) fn stop_of_line(fault: LineFault) -> Stop
 
 /// Why a world did not do a line.
 pub(crate) fn stop_of_act(fault: ActFault) -> Stop
-    ensures { (line : Line) (bytes : List ℕ) (old new : Staged) → Spells line bytes → ((why : Refusal) → fault ≡ ActFault.Refused why → RefusedFor line why old)
+    ensures value { result ≡ stop_of fault }
+    ensures stops { (line : Line) (bytes : List ℕ) (old new : Staged) → Spells line bytes → ((why : Refusal) → fault ≡ ActFault.Refused why → RefusedFor line why old)
         → (fault ≡ ActFault.RegistryLost → LineLost line old new) → (fault ≡ ActFault.Spent → LineSpent line old new) → AllByRecursion IsUnspent (entries_of new.trace) → StopsAs result bytes old new }
 {
     match fault {

@@ -1,7 +1,12 @@
-use Rattle.std.proofs.Common.{ap, refl, sym, subst, ◌∙◌}
+use Rattle.std.proofs.Common.{ap, length, refl, sym, subst, ◌∙◌}
 use Rattle.atspi_tree.specs.TreeShape.{TreeShape}
 use Rattle.atspi_make.specs.Drawing.{drawn_edit}
 use Rattle.atspi_make.specs.Live.{CanFollow}
+use Rattle.atspi_bus_steps.specs.Inner.{inner_of}
+use Rattle.atspi_stage.specs.Worlds.{staged}
+use Rattle.atspi_trace.specs.Entry.{entries_of}
+use Rattle.atspi_replay.specs.Made.{tree_told}
+use Rattle.atspi_replay.proofs.Stopping.{none_drawn_of}
 use Rattle.atspi_replay.proofs.TheFirst.{can_follow, lent, seen_now}
 use Rattle.atspi_replay.proofs.making.draw.Goals as goal
 
@@ -28,3 +33,10 @@ returns-in-Ok-next_edit-clause-seen g c =
     let p = c.requires.played in
     let t = lent g.A.Application.exporter c.args.world.now.cast.apps.items c.in-Some.app.now c.tree-tree.result.now p.0 _ p.1 refl c.in-Some.ensures c.tree-tree.ensures in
     seen_now p.0 _ p.1 c.follow.new.self.nodes.items c.follow.new.self.next c.tree-tree.result.now t.1 t.0 c.in-Ok.ensures.live c.in-Ok.ensures.seen
+
+pub returns-in_default-clause-stops : goal.returns-in_default-clause-stops
+returns-in_default-clause-stops g c =
+    let w = c.args.world.now in
+    none_drawn_of g.A.Application.exporter w.cast.apps.items (tree_told (entries_of w.carrier.trace.items)) c.args.number c.args.draws.now.state
+    (staged g.A.Application.exporter g.R.Follower.follower (inner_of w.carrier.bus) w.carrier.posts.items w.carrier.at_end.items w.cast.registry w.cast.apps.items w.cast.readers.items (length w.kits.items) (length w.spares.items) w.carrier.trace.items)
+    refl c.in_default.ensures

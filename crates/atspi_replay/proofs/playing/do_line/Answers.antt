@@ -17,5 +17,5 @@ returns-in-Ok-act-clause-line g c = (c.in-Ok.line, c.in-Ok.ensures, c.in-Ok-act.
 
 pub returns-clause-line : goal.returns-clause-line
 returns-clause-line g c =
-    c.stop_of_act.ensures c.in-Ok.line c.args.bytes.now _ _ c.in-Ok.ensures (λ why e. c.in-Err-act.ensures.refused why (ap failed e)) (λ e. c.in-Err-act.ensures.lost (ap failed e))
+    c.stop_of_act.ensures.stops c.in-Ok.line c.args.bytes.now _ _ c.in-Ok.ensures (λ why e. c.in-Err-act.ensures.refused why (ap failed e)) (λ e. c.in-Err-act.ensures.lost (ap failed e))
     (λ e. c.in-Err-act.ensures.spent (ap failed e)) (rw c.trace.ensures at c.all_fit.ensures)

@@ -1,0 +1,13 @@
+use Rattle.std.proofs.Common.{ap, Result, Err}
+use Rattle.atspi_stage.specs.declared.fault.ActFault.{ActFault}
+use Rattle.atspi_replay.proofs.Stopping.{act_stops}
+use Rattle.atspi_replay.proofs.making.act.Goals as goal
+
+abbrev failed : ActFault → Result (Unit {0}) ActFault
+failed fault = Err fault
+
+pub returns-in-Err-clause-stops : goal.returns-in-Err-clause-stops
+returns-in-Err-clause-stops g c =
+    rw c.stop_of_act.ensures.value
+    (act_stops c.in-Err.fault c.args.line.now _ _ c.requires.may (λ why e. c.in-Err.ensures.refused why (ap failed e)) (λ e. c.in-Err.ensures.lost (ap failed e)) (λ e. c.in-Err.ensures.spent (ap failed e))
+    (rw c.trace.ensures at c.all_fit.ensures))
