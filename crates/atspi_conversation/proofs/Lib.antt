@@ -4,3 +4,4 @@ pub mod LineLemmas
 pub mod TalkLemmas
 pub mod StepLemmas
 pub mod RoundLemmas
+pub mod SeenLemmas

@@ -14,7 +14,7 @@ use Rattle.atspi_host.specs.declared.call.Call.TheVariants.{Read}
 use Rattle.atspi_host.specs.Calls.{Adds, taken, given}
 use Rattle.atspi_conversation.specs.Moved.{reads, GoesOn, AllGoOn, Tells}
 use Rattle.atspi_conversation.specs.Speech.{EndsBy, IsInOrder, IsMalformed, IsRefused, IsSpeech, IsSpentBy, Speaks, line_bytes}
-use Rattle.atspi_conversation.specs.Talking.{AttendsAll, Blames, BreaksOff, Converses, GivesPart, Going, HearsNot, IsAtEase, IsEnded, IsOwn, MaySpeak, Says, TellsNot}
+use Rattle.atspi_conversation.specs.Talking.{AttendsAll, Blames, BreaksOff, Converses, GivesPart, Going, HearsNot, IsAtEase, IsBroken, IsEnded, IsOwn, MaySpeak, Says, TellsNot}
 use Rattle.atspi_conversation.specs.declared.conversation.Conversation.{Conversation}
 use Rattle.atspi_conversation.specs.declared.ending.Ending.{Ending}
 use Rattle.atspi_conversation.specs.declared.ending.Ending.TheVariants as endings
@@ -265,6 +265,15 @@ own_blames endings.Spent before after h e = e
 pub cause_of : {T : Type 0} (r : Result T Ending) (before after : ℕ) → IfErr r IsOwn → after ≡ before → MatchResult r (λ _. after ≡ before) (λ ending. Blames ending before after)
 cause_of (Ok x) before after h e = e
 cause_of (Err x) before after h e = own_blames x before after h e
+
+pub own_broken : (ending : Ending) → IsOwn ending → IsBroken ending
+own_broken endings.NotAuthenticated h = tt
+own_broken endings.NoMemory h = tt
+own_broken endings.RoundsDone h = h
+own_broken endings.PeerEnded h = tt
+own_broken endings.HostFailed h = tt
+own_broken (endings.Malformed start fault) h = tt
+own_broken endings.Spent h = tt
 
 -- an ending that is not the peer's
 pub not_ended : {T : Type 0} (r : Result T Ending) → IfErr r IsOwn → r ≡ Err endings.PeerEnded → ⊥

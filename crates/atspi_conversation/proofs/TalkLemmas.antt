@@ -23,7 +23,7 @@ use Rattle.atspi_conversation.proofs.LineLemmas.{line_bytes_both, none_behind, o
 pub stage_after : (t : List ℕ) (lines : List AuthLine) (now : Standing) → Stands client_start t lines now → now.stage ≡ (after client_start t).stage
 stage_after t lines now s = ap (λ (n : Standing). n.stage) s
 
-lines_after : (t : List ℕ) (lines : List AuthLine) (now : Standing) → Stands client_start t lines now → lines ++ now.unsent ≡ lines_for t
+pub lines_after : (t : List ℕ) (lines : List AuthLine) (now : Standing) → Stands client_start t lines now → lines ++ now.unsent ≡ lines_for t
 lines_after t lines now s = ap (λ (n : Standing). n.unsent) s
 
 -- a client by its parts

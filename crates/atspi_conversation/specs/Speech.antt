@@ -48,6 +48,14 @@ abbrev pub Speaks : {E : Type 0} → (E → List Envelope → List Envelope → 
 Speaks Stands k None = ⊤
 Speaks Stands k (Some cs) = IsSpeech Stands (taken k cs) (given k cs)
 
+-- All that is due for the bytes that were taken was given: the lines and, once these are over, all messages of an end that took each
+-- whole message and has none left to hand out.
+pub record IsAllGiven {E : Type 0} (Stands : E → List Envelope → List Envelope → Type 0) (IsEmpty : E → Type 0) (t g : List ℕ) : Type 0 where
+  pub speech : IsSpeech Stands t g
+  pub awaits : AwaitsMore speech.rest
+  pub none_left : (after client_start t).stage ≡ Over → IsEmpty speech.end
+  pub no_more : speech.more ≡ []
+
 -- nothing of the bytes is at fault: authentication goes on or is over, and behind whole messages more is awaited
 pub record IsInOrder (t : List ℕ) : Type 0 where
   pub authenticated : fault_in (after client_start t).stage ≡ None

@@ -1,5 +1,5 @@
 -- A conversation that goes on: what was heard and said so far, and what its steps do.
-use Rattle.std.specs.Prelude.{◌≡◌, ◌⊎◌, ◌≤◌, ℕ, ◌-◌, Bool, true, false, List, [], ◌∷◌, ◌++◌, length, Option, None, Some, MatchOption, ⊤}
+use Rattle.std.specs.Prelude.{◌≡◌, ◌⊎◌, ◌≤◌, ◌<◌, ℕ, ◌-◌, Bool, true, false, List, [], ◌∷◌, ◌++◌, length, take, Option, None, Some, MatchOption, ⊤}
 use Rattle.atspi_auth.specs.Talk.{Standing, Stands, behind, client_start, fault_in, told}
 use Rattle.atspi_auth.specs.declared.said.AuthLine.{AuthLine}
 use Rattle.atspi_auth.specs.declared.stage.Stage.TheVariants.{Over}
@@ -10,9 +10,11 @@ use Rattle.atspi_message.specs.Bytes.{IsMessage}
 use Rattle.atspi_stream.specs.Stream.{AwaitsMore, HasFault, IsParted}
 use Rattle.atspi_host.specs.declared.call.Did.{Did}
 use Rattle.atspi_host.specs.declared.call.Call.{Call}
+use Rattle.atspi_host.specs.declared.call.Call.TheVariants.{Write}
 use Rattle.atspi_conversation.specs.Sent.{AreSent, AllMeet, IsSent}
 use Rattle.atspi_base.specs.Outside.{Rose}
-use Rattle.atspi_conversation.specs.Moved.{Tells, Gives, AllGoOn}
+use Rattle.atspi_conversation.specs.Moved.{Tells, Gives, GoesOn, AllGoOn}
+use Rattle.atspi_conversation.specs.Rounds.{Makes}
 use Rattle.atspi_conversation.specs.Speech.{envelopes, line_bytes, Speaks, Ends, IsMalformed, IsRefused, IsSpentBy}
 use Rattle.atspi_conversation.specs.declared.conversation.Conversation.{Conversation}
 use Rattle.atspi_conversation.specs.declared.ending.Ending.{Ending}
@@ -41,6 +43,10 @@ HandsOut Stands old new e = (took said : List Envelope) → Stands old took said
 abbrev pub Rests : {E : Type 0} → (E → List Envelope → List Envelope → Type 0) → E → E → Type 0
 Rests Stands old new = (took said : List Envelope) → Stands old took said → Stands new took said
 
+-- it has no message queued
+abbrev pub HasNone : {E : Type 0} → (E → ℕ) → E → Type 0
+HasNone queued end = queued end ≡ 0
+
 -- what it hands out meets the rules of messages, where those that it took did
 abbrev pub MaySend : {E : Type 0} → (E → List Envelope → List Envelope → Type 0) → E → Envelope → Type 0
 MaySend Stands end e = (took said : List Envelope) → Stands end took said → AllMeet took → MeetsRules e
@@ -65,6 +71,11 @@ pub record Says {E : Type 0} (Stands : E → List Envelope → List Envelope →
   pub spelled : AreSent messages sent
   pub behind : unsent' ≡ unsent ++ sent
   pub handed : (took said : List Envelope) → Stands old took said → Stands new took (said ++ messages)
+
+-- all lines that are to be said wait to be given, and where none of its bytes waits and the lines are over, an end has no message left
+pub record IsUttered {E : Type 0} (queued : E → ℕ) (c : Conversation) (end : E) : Type 0 where
+  pub lines : c.client.unsent ≡ []
+  pub none_left : c.unsent ≡ [] → c.client.stage ≡ Over → HasNone queued end
 
 -- what is held behind whole messages awaits more, or has a fault
 abbrev pub EndsIn : Option Fault → List ℕ → Type 0
@@ -122,6 +133,10 @@ pub record Going {E : Type 0} (Stands' : E → List Envelope → List Envelope �
   pub counted : length dids ≡ rounds
   pub at_ease : IsAtEase Stands' t g c end
 
+-- where a run went on so far, such calls were made next, which hang on what was taken and given before
+abbrev pub MakesNext : {E : Type 0} → (E → List Envelope → List Envelope → Type 0) → ℕ → Option (List Call) → Option (List Call) → Conversation → E → (List ℕ → List ℕ → List Call → Type 0) → Type 0
+MakesNext Stands k old new c end P = (n : ℕ) (going : Going Stands k old n c end) → Makes old new (P going.t going.g)
+
 -- why what was taken ends the run
 abbrev pub BreaksOff : {E : Type 0} → (E → List Envelope → List Envelope → Type 0) → (E → Envelope → Type 0) → Ending → List ℕ → Type 0
 BreaksOff Stands IsSpent endings.NotAuthenticated t = IsRefused t
@@ -150,6 +165,14 @@ TellsNot Stands IsSpent ending c end = ⊥
 abbrev pub GivesPart : ℕ → Option (List Call) → Option (List Call) → List ℕ → List ℕ → Type 0
 GivesPart k old new unsent unsent' = (part : List ℕ) × Gives k old new part × (part ++ unsent' ≡ unsent)
 
+-- one write of the first bytes that wait, answered so
+abbrev pub PutsFront : ℕ → List ℕ → Did → List Call → Type 0
+PutsFront k unsent did calls = (0 < length unsent) × (calls ≡ Write k (take 4096 unsent) did ∷ [])
+
+-- no call where no bytes wait, and else one write behind which the run can go on
+abbrev pub PutsIfAny : ℕ → List ℕ → List Call → Type 0
+PutsIfAny k unsent calls = ((calls ≡ []) × (unsent ≡ [])) ⊎ ((did : Did) × GoesOn did × PutsFront k unsent did calls)
+
 -- a run that ended: what was said, and why it ended
 abbrev pub IsEnded : {E : Type 0} → (E → List Envelope → List Envelope → Type 0) → (E → Envelope → Type 0) → ℕ → Ending → ℕ → Option (List Call) → Type 0
 IsEnded Stands IsSpent k ending rounds calls = Speaks Stands k calls × Ends Stands IsSpent k ending rounds calls
@@ -165,3 +188,8 @@ IsOwn endings.HostFailed = ⊥
 IsOwn endings.PeerEnded = ⊥
 IsOwn endings.RoundsDone = ⊥
 IsOwn ending = ⊤
+
+-- an ending in a round that is not whole
+abbrev pub IsBroken : Ending → Type 0
+IsBroken endings.RoundsDone = ⊥
+IsBroken ending = ⊤

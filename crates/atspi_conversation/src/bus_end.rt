@@ -4,7 +4,7 @@ ghost use Rattle.std.specs.Prelude.{◌<◌, ℕ, List, IfNone, IfSome, IsErrOf,
 ghost use Rattle.atspi_message.specs.Envelope.{Envelope, envelope_of};
 ghost use Rattle.atspi_header.specs.View.{envelope_at};
 ghost use Rattle.atspi_protocol.specs.declared.ends.fault.EndFault.{EndFault};
-ghost use Rattle.atspi_conversation.specs.Talking.{Takes, HandsOut, Rests, MaySend, MaySpeak};
+ghost use Rattle.atspi_conversation.specs.Talking.{Takes, HandsOut, HasNone, Rests, MaySend, MaySpeak};
 
 use atspi_header::MessageRef;
 use atspi_message::Message;
@@ -34,5 +34,6 @@ pub trait BusEnd {
         ensures some { IfSome result (λ message. (aside : List ℕ) → HandsOut (Stands aside) self.old self.new (envelope_of message)) }
         ensures meets { IfSome result (λ message. (aside : List ℕ) → MaySend (Stands aside) self.old (envelope_of message)) }
         ensures fewer { IfSome result (λ message. queued self.new < queued self.old) }
-        ensures none { IfNone result ((aside : List ℕ) → Rests (Stands aside) self.old self.new) };
+        ensures none { IfNone result ((aside : List ℕ) → Rests (Stands aside) self.old self.new) }
+        ensures empty { IfNone result (HasNone queued self.new) };
 }

@@ -3,7 +3,7 @@
 ghost use Rattle.std.specs.Prelude.{◌≡◌, ◌<◌, ◌≤◌, ◌+◌, ◌^◌, ◌++◌, ℕ, List, [], None, length, IfErr, OnOk};
 ghost use Rattle.atspi_auth.specs.Talk.{after, behind, fault_in, told};
 ghost use Rattle.atspi_conversation.specs.Speech.{line_bytes};
-ghost use Rattle.atspi_conversation.specs.Talking.{AttendsAll, BreaksOff, Converses, HearsNot, IsAtEase, IsOwn, MaySpeak, TellsNot};
+ghost use Rattle.atspi_conversation.specs.Talking.{AttendsAll, BreaksOff, Converses, HearsNot, IsAtEase, IsOwn, IsUttered, MaySpeak, TellsNot};
 
 use crate::attending::attend;
 use crate::conversation::Conversation;
@@ -97,6 +97,7 @@ impl Conversation {
     pub(crate) fn utter<E: BusEnd>(&mut self, end: &mut E) -> Result<(), NoMemory>
         requires { MaySpeak E.Stands end.old }
         ensures ok { OnOk result ((aside t g : List ℕ) → IsAtEase (E.Stands aside) t g self.old end.old → IsAtEase (E.Stands aside) t g self.new end.new) }
+        ensures uttered { OnOk result (IsUttered E.queued self.new end.new) }
         ensures may { OnOk result (MaySpeak E.Stands end.new) }
         ensures heard { OnOk result (self.new.heard ≡ self.old.heard) }
     {

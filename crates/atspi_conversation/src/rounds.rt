@@ -5,10 +5,10 @@ ghost use Rattle.atspi_base.specs.Outside.{Rose};
 ghost use Rattle.atspi_host.specs.Calls.{IsOpen};
 ghost use Rattle.atspi_host.specs.declared.call.Did.{Did};
 ghost use Rattle.atspi_conversation.specs.Moved.{Grows, Tells};
-ghost use Rattle.atspi_conversation.specs.Rounds.{Breaks, IsRead, IsRound, IsRun, IsWrite, Makes, MayWrite};
+ghost use Rattle.atspi_conversation.specs.Rounds.{Breaks, IsRead, IsRound, IsRun, Makes};
 ghost use Rattle.atspi_conversation.specs.Speech.{Ends, Speaks};
 ghost use Rattle.atspi_conversation.specs.declared.ending.Ending.{Ending};
-ghost use Rattle.atspi_conversation.specs.Talking.{Blames, GivesPart, Going, IsEnded, MaySpeak, heard_in};
+ghost use Rattle.atspi_conversation.specs.Talking.{Blames, GivesPart, Going, HasNone, IsBroken, IsEnded, MakesNext, MaySpeak, PutsFront, PutsIfAny, heard_in};
 
 use crate::conversation::Conversation;
 use crate::unsent::Unsent;
@@ -38,9 +38,11 @@ fn take_in<H: Host, E: BusEnd>(
         → IsEnded (E.Stands aside) E.IsSpent link ending rounds (H.calls host.new)) }
     ensures may { OnOk result (MaySpeak E.Stands end.new) }
     ensures few { OnOk result (heard_in conversation.new ≤ heard_in conversation.old + length piece.old) }
-    ensures made { MatchResult result (λ _. Makes (H.calls host.old) (H.calls host.new) (IsRead link (length piece.old))) (λ ending. Makes (H.calls host.old) (H.calls host.new) (Breaks link (length piece.old) ending)) }
+    ensures made { MatchResult result (λ _. Makes (H.calls host.old) (H.calls host.new) (IsRead link (length piece.old)))
+        (λ ending. (aside t g : List ℕ) → Makes (H.calls host.old) (H.calls host.new) (Breaks (E.Stands aside) (HasNone E.queued) link (length piece.old) ending t g)) }
     ensures grows { Grows link (H.calls host.old) (H.calls host.new) }
     ensures still { result ≡ Err Ending.PeerEnded → end.new ≡ end.old }
+    ensures broken { IfErr result IsBroken }
     ensures links { H.links host.new ≡ H.links host.old }
     ensures cause { MatchResult result (λ _. H.link_faults host.new ≡ H.link_faults host.old) (λ ending. Blames ending (H.link_faults host.old) (H.link_faults host.new)) }
     ensures other { H.faults host.new ≡ H.faults host.old }
@@ -56,7 +58,7 @@ fn take_in<H: Host, E: BusEnd>(
 /// One write, where bytes wait.
 fn give<H: Host>(host: &mut H, link: u32, unsent: &mut Unsent) -> Result<(), Failed>
     requires { IsOpen link (H.links host.old) }
-    ensures made { MatchResult result (λ _. Makes (H.calls host.old) (H.calls host.new) (MayWrite link)) (λ _. Makes (H.calls host.old) (H.calls host.new) (IsWrite link Did.Failed)) }
+    ensures made { MatchResult result (λ _. Makes (H.calls host.old) (H.calls host.new) (PutsIfAny link unsent.old)) (λ _. Makes (H.calls host.old) (H.calls host.new) (PutsFront link unsent.old Did.Failed)) }
     ensures gives { GivesPart link (H.calls host.old) (H.calls host.new) unsent.old unsent.new }
     ensures links { H.links host.new ≡ H.links host.old }
     ensures cause { MatchResult result (λ _. H.link_faults host.new ≡ H.link_faults host.old) (λ _. (H.link_faults host.old ≤ H.link_faults host.new) × Rose (H.link_faults host.old) (H.link_faults host.new)) }
@@ -76,7 +78,7 @@ fn give<H: Host>(host: &mut H, link: u32, unsent: &mut Unsent) -> Result<(), Fai
 }
 
 /// One round of a conversation: one read of at most as many bytes as the piece has room for, the end takes each message that is then whole,
-/// and where output waits one write of at most 4,096 bytes.
+/// and exactly where not all is given that is due, one write of the next 1 to 4,096 bytes.
 pub fn round<H: Host, E: BusEnd>(
     host: &mut H,
     link: u32,
@@ -94,9 +96,12 @@ pub fn round<H: Host, E: BusEnd>(
         → IsEnded (E.Stands aside) E.IsSpent link ending rounds (H.calls host.new)) }
     ensures may { OnOk result (MaySpeak E.Stands end.new) }
     ensures few { OnOk result (heard_in conversation.new ≤ heard_in conversation.old + length piece.old) }
-    ensures made { MatchResult result (λ _. Makes (H.calls host.old) (H.calls host.new) (IsRound link (length piece.old))) (λ ending. Makes (H.calls host.old) (H.calls host.new) (Breaks link (length piece.old) ending)) }
+    ensures made { MatchResult result
+        (λ _. (aside : List ℕ) → MakesNext (E.Stands aside) link (H.calls host.old) (H.calls host.new) conversation.old end.old (IsRound (E.Stands aside) (HasNone E.queued) link (length piece.old)))
+        (λ ending. (aside : List ℕ) → MakesNext (E.Stands aside) link (H.calls host.old) (H.calls host.new) conversation.old end.old (Breaks (E.Stands aside) (HasNone E.queued) link (length piece.old) ending)) }
     ensures grows { Grows link (H.calls host.old) (H.calls host.new) }
     ensures still { result ≡ Err Ending.PeerEnded → end.new ≡ end.old }
+    ensures broken { IfErr result IsBroken }
     ensures links { H.links host.new ≡ H.links host.old }
     ensures cause { MatchResult result (λ _. H.link_faults host.new ≡ H.link_faults host.old) (λ ending. Blames ending (H.link_faults host.old) (H.link_faults host.new)) }
     ensures other { H.faults host.new ≡ H.faults host.old }
@@ -115,7 +120,7 @@ pub fn round<H: Host, E: BusEnd>(
 
 /// Lets an end that has just started converse on a link that was given and not used, for so many rounds. It is authenticated as a
 /// client first (D-Bus Specification, "Authentication Protocol"). In each round there is one read of at most 4,096 bytes and then,
-/// where output waits, one write of at most 4,096 bytes; a message that passes the limits of the wire is left out.
+/// exactly where not all is given that is due for the bytes taken, one write of the next 1 to 4,096 bytes; a message that passes the limits of the wire is left out.
 ///
 /// `RoundsDone` where all rounds were done, `PeerEnded` where a read found the link's end, `HostFailed` where a read or a write
 /// failed, `NotAuthenticated`, `Malformed` and `Spent` by the bytes that were taken; a message before the malformed one, and one
@@ -132,7 +137,7 @@ pub fn converse<H: Host, E: BusEnd>(
     requires begins { E.Stands [] end.old [] [] }
     ensures speech { Speaks (E.Stands []) link (H.calls host.new) }
     ensures ends { Ends (E.Stands []) E.IsSpent link result rounds (H.calls host.new) }
-    ensures rounds { Makes (H.calls host.old) (H.calls host.new) (IsRun link 4096 result rounds) }
+    ensures rounds { Makes (H.calls host.old) (H.calls host.new) (IsRun (λ _. E.Stands []) (HasNone E.queued) link 4096 result rounds) }
     ensures links { H.links host.new ≡ H.links host.old }
     ensures cause { Blames result (H.link_faults host.old) (H.link_faults host.new) }
     ensures other { H.faults host.new ≡ H.faults host.old }

@@ -1,6 +1,6 @@
 use Rattle.std.proofs.Common.{◌≡◌, ℕ, List, [], refl, sym, subst, ◌∙◌, rules, arith}
 use Rattle.atspi_host.specs.Calls.{IsOpen}
-use Rattle.atspi_conversation.specs.Talking.{Blames}
+use Rattle.atspi_conversation.specs.Talking.{Blames, HasNone}
 use Rattle.atspi_conversation.specs.Rounds.{AreRounds, IsRound, Breaks, Makes}
 use Rattle.atspi_conversation.proofs.RoundLemmas.{makes_none, rounds_more, run_broken, run_done}
 use Rattle.atspi_conversation.proofs.StepLemmas.{all_done, at_first, may_begin}
@@ -10,7 +10,7 @@ pub rounds-init : goal.rounds-init
 rounds-init g c = record {
   going = at_first (g.E.BusEnd.Stands []) c.args.link (g.H.Host.calls c.args.host.now) c.new-conversation.result c.args.end.now c.requires.fresh
       c.new-conversation.ensures.client c.new-conversation.ensures.feeder c.new-conversation.ensures.unsent c.new-conversation.ensures.heard c.requires.begins;
-  made = makes_none (g.H.Host.calls c.args.host.now) (AreRounds c.args.link 4096 0) refl;
+  made = makes_none (g.H.Host.calls c.args.host.now) (AreRounds (λ _. g.E.BusEnd.Stands []) (HasNone g.E.BusEnd.queued) c.args.link 4096 0) refl;
   may = may_begin g.E.BusEnd.Stands [] c.args.end.now c.requires.begins;
   few = omega (arith, c.new-conversation.ensures.heard);
   within = omega arith;
@@ -26,8 +26,10 @@ round-requires-clause-open g c = subst (λ (w : List ℕ). IsOpen c.args.link w)
 pub rounds-preserved : goal.rounds-preserved
 rounds-preserved g c = record {
   going = c.in-Ok.ensures.ok [] c.rounds.done c.rounds.invariant.going;
-  made = rounds_more c.args.link 4096 c.rounds.done (g.H.Host.calls c.args.host.now) (g.H.Host.calls c.rounds.host) (g.H.Host.calls c.round.new.host) c.rounds.invariant.made
-      (subst (λ (n : ℕ). Makes (g.H.Host.calls c.rounds.host) (g.H.Host.calls c.round.new.host) (IsRound c.args.link n)) c.rounds.invariant.piece c.in-Ok.ensures.made);
+  made = rounds_more (λ _. g.E.BusEnd.Stands []) (HasNone g.E.BusEnd.queued) c.args.link 4096 c.rounds.done (g.H.Host.calls c.args.host.now) (g.H.Host.calls c.rounds.host) (g.H.Host.calls c.round.new.host)
+      c.rounds.invariant.going.t c.rounds.invariant.going.g c.rounds.invariant.going.dids c.requires.fresh c.rounds.invariant.going.tells c.rounds.invariant.made
+      (subst (λ (n : ℕ). Makes (g.H.Host.calls c.rounds.host) (g.H.Host.calls c.round.new.host) (IsRound (g.E.BusEnd.Stands []) (HasNone g.E.BusEnd.queued) c.args.link n c.rounds.invariant.going.t c.rounds.invariant.going.g)) c.rounds.invariant.piece
+      (c.in-Ok.ensures.made [] c.rounds.done c.rounds.invariant.going));
   may = c.in-Ok.ensures.may;
   few = omega (arith, c.in-Ok.ensures.few, c.rounds.invariant.few, c.rounds.invariant.piece);
   within = omega arith;
@@ -58,9 +60,11 @@ returns-clause-ends g c =
 
 pub returns-in-Err-clause-rounds : goal.returns-in-Err-clause-rounds
 returns-in-Err-clause-rounds g c =
-    run_broken c.args.link 4096 c.rounds.done c.args.rounds c.in-Err.ending (g.H.Host.calls c.args.host.now) (g.H.Host.calls c.rounds.host) (g.H.Host.calls c.round.new.host) (omega arith) c.rounds.invariant.made
-    (subst (λ (n : ℕ). Makes (g.H.Host.calls c.rounds.host) (g.H.Host.calls c.round.new.host) (Breaks c.args.link n c.in-Err.ending)) c.rounds.invariant.piece c.in-Err.ensures.made)
+    run_broken (λ _. g.E.BusEnd.Stands []) (HasNone g.E.BusEnd.queued) c.args.link 4096 c.rounds.done c.args.rounds c.in-Err.ending (g.H.Host.calls c.args.host.now) (g.H.Host.calls c.rounds.host) (g.H.Host.calls c.round.new.host)
+    c.rounds.invariant.going.t c.rounds.invariant.going.g c.rounds.invariant.going.dids (omega arith) c.requires.fresh c.rounds.invariant.going.tells c.rounds.invariant.made
+    (subst (λ (n : ℕ). Makes (g.H.Host.calls c.rounds.host) (g.H.Host.calls c.round.new.host) (Breaks (g.E.BusEnd.Stands []) (HasNone g.E.BusEnd.queued) c.args.link n c.in-Err.ending c.rounds.invariant.going.t c.rounds.invariant.going.g))
+    c.rounds.invariant.piece (c.in-Err.ensures.made [] c.rounds.done c.rounds.invariant.going))
 
 pub returns-clause-rounds : goal.returns-clause-rounds
 returns-clause-rounds g c =
-    run_done c.args.link 4096 c.rounds.done c.args.rounds (g.H.Host.calls c.args.host.now) (g.H.Host.calls c.rounds.host) (omega arith) c.rounds.invariant.made
+    run_done (λ _. g.E.BusEnd.Stands []) (HasNone g.E.BusEnd.queued) c.args.link 4096 c.rounds.done c.args.rounds (g.H.Host.calls c.args.host.now) (g.H.Host.calls c.rounds.host) (omega arith) c.rounds.invariant.made

@@ -1,13 +1,13 @@
 use Rattle.std.proofs.Common.{◌≡◌, ◌-◌, ◌*◌, ◌≤◌, [], length}
 use Rattle.atspi_conversation.specs.Rounds.{AreRounds, Makes}
-use Rattle.atspi_conversation.specs.Talking.{Going, MaySpeak}
+use Rattle.atspi_conversation.specs.Talking.{Going, HasNone, MaySpeak}
 use Rattle.atspi_conversation.proofs.rounds.converse.Given as goal
 
 abbrev pub invariant-rounds : goal.invariant-rounds
 invariant-rounds g l =
     record {
       going : Going (g.E.BusEnd.Stands []) l.link (g.H.Host.calls l.host) l.done l.conversation l.end;
-      made : Makes (g.H.Host.calls l.fn.host) (g.H.Host.calls l.host) (AreRounds l.link 4096 l.done);
+      made : Makes (g.H.Host.calls l.fn.host) (g.H.Host.calls l.host) (AreRounds (λ _. g.E.BusEnd.Stands []) (HasNone g.E.BusEnd.queued) l.link 4096 l.done);
       may : MaySpeak g.E.BusEnd.Stands l.end;
       few : l.conversation.heard ≤ 4096 * l.done;
       within : l.done ≤ l.rounds;

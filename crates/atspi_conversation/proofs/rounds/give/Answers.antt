@@ -2,8 +2,8 @@ use Rattle.std.proofs.Common.{◌≡◌, ◌≤◌, ℕ, List, [], ◌++◌, len
 use Rattle.std.proofs.lemmas.List.{length-take, take-take, take-append-drop}
 use Rattle.atspi_host.specs.declared.call.Did.TheVariants.{Done, NotYet, Failed}
 use Rattle.atspi_conversation.proofs.MovedLemmas.{write_gives}
-use Rattle.atspi_conversation.proofs.RoundLemmas.{makes_none, may_write, write_made}
-use Rattle.atspi_conversation.specs.Rounds.{MayWrite}
+use Rattle.atspi_conversation.proofs.RoundLemmas.{makes_none, none_wait, put_made, puts_any}
+use Rattle.atspi_conversation.specs.Talking.{PutsIfAny}
 use Rattle.atspi_conversation.proofs.rounds.give.Goals as goal
 
 -- a front of the first bytes is one of all
@@ -41,20 +41,20 @@ returns-in-End-clause-gives g c = elim c.in-End.is [
 ]
 
 pub returns-then-len-eq0-clause-made : goal.returns-then-len-eq0-clause-made
-returns-then-len-eq0-clause-made g c = makes_none (g.H.Host.calls c.args.host.now) (MayWrite c.args.link) (inl refl)
+returns-then-len-eq0-clause-made g c = makes_none (g.H.Host.calls c.args.host.now) (PutsIfAny c.args.link c.args.unsent.now) (inl (refl, none_wait c.args.unsent.now c.len.result c.len.ensures (omega arith)))
 
 pub returns-in-Done-clause-made : goal.returns-in-Done-clause-made
 returns-in-Done-clause-made g c =
-    may_write c.args.link (g.H.Host.calls c.args.host.now) (g.H.Host.calls c.write.new.self) (Done c.in-Done.n) tt
-    (write_made c.args.link c.len.result c.args.unsent.now (g.H.Host.calls c.args.host.now) (g.H.Host.calls c.write.new.self) c.front.result.now (Done c.in-Done.n) c.front.ensures c.len.ensures (omega arith) c.in-Done.ensures.calls)
+    puts_any c.args.link c.args.unsent.now (g.H.Host.calls c.args.host.now) (g.H.Host.calls c.write.new.self) (Done c.in-Done.n) tt
+    (put_made c.args.link c.len.result c.args.unsent.now (g.H.Host.calls c.args.host.now) (g.H.Host.calls c.write.new.self) c.front.result.now (Done c.in-Done.n) c.front.ensures c.len.ensures (omega arith) c.in-Done.ensures.calls)
 
 pub returns-in-NotYet-clause-made : goal.returns-in-NotYet-clause-made
 returns-in-NotYet-clause-made g c =
-    may_write c.args.link (g.H.Host.calls c.args.host.now) (g.H.Host.calls c.write.new.self) NotYet tt
-    (write_made c.args.link c.len.result c.args.unsent.now (g.H.Host.calls c.args.host.now) (g.H.Host.calls c.write.new.self) c.front.result.now NotYet c.front.ensures c.len.ensures (omega arith) c.in-NotYet.ensures.calls)
+    puts_any c.args.link c.args.unsent.now (g.H.Host.calls c.args.host.now) (g.H.Host.calls c.write.new.self) NotYet tt
+    (put_made c.args.link c.len.result c.args.unsent.now (g.H.Host.calls c.args.host.now) (g.H.Host.calls c.write.new.self) c.front.result.now NotYet c.front.ensures c.len.ensures (omega arith) c.in-NotYet.ensures.calls)
 
 pub returns-in-End-clause-made : goal.returns-in-End-clause-made
 returns-in-End-clause-made g c = elim c.in-End.is [
   | inl e ↦ absurd (c.write.ensures.no_end e)
-  | inr e ↦ write_made c.args.link c.len.result c.args.unsent.now (g.H.Host.calls c.args.host.now) (g.H.Host.calls c.write.new.self) c.front.result.now Failed c.front.ensures c.len.ensures (omega arith) (rw e at c.write.ensures.calls)
+  | inr e ↦ put_made c.args.link c.len.result c.args.unsent.now (g.H.Host.calls c.args.host.now) (g.H.Host.calls c.write.new.self) c.front.result.now Failed c.front.ensures c.len.ensures (omega arith) (rw e at c.write.ensures.calls)
 ]

@@ -1,6 +1,7 @@
 use Rattle.std.proofs.Common.{◌+◌, length, refl, inl}
 use Rattle.atspi_conversation.proofs.MovedLemmas.{gives_grows, grows_both}
 use Rattle.atspi_conversation.specs.Rounds.{Breaks, IsRead}
+use Rattle.atspi_conversation.specs.Talking.{HasNone}
 use Rattle.atspi_conversation.specs.declared.ending.Ending.TheVariants.{NoMemory}
 use Rattle.atspi_conversation.proofs.RoundLemmas.{makes_if, round_made, write_broke}
 use Rattle.atspi_conversation.proofs.StepLemmas.{gave, no_memory, write_failed}
@@ -31,14 +32,21 @@ returns-in-Err-give-clause-grows g c =
     grows_both c.args.link (g.H.Host.calls c.args.host.now) (g.H.Host.calls c.take_in.new.host) (g.H.Host.calls c.give.new.host) c.take_in.ensures.grows
     (gives_grows c.args.link (g.H.Host.calls c.take_in.new.host) (g.H.Host.calls c.give.new.host) c.give.ensures.gives.0 c.give.ensures.gives.1)
 
+pub returns-in-Err-clause-made : goal.returns-in-Err-clause-made
+returns-in-Err-clause-made g c aside n going = c.in-Err.ensures.made aside going.t going.g
+
 pub returns-in_default-utter-clause-made : goal.returns-in_default-utter-clause-made
-returns-in_default-utter-clause-made g c =
-    makes_if (g.H.Host.calls c.args.host.now) (g.H.Host.calls c.take_in.new.host) (IsRead c.args.link (length c.args.piece.now)) (Breaks c.args.link (length c.args.piece.now) NoMemory) (λ calls. inl) c.in_default.ensures.made
+returns-in_default-utter-clause-made g c aside n going =
+    makes_if (g.H.Host.calls c.args.host.now) (g.H.Host.calls c.take_in.new.host) (IsRead c.args.link (length c.args.piece.now)) (Breaks (g.E.BusEnd.Stands aside) (HasNone g.E.BusEnd.queued) c.args.link (length c.args.piece.now) NoMemory going.t going.g) (λ calls. inl) c.in_default.ensures.made
 
 pub returns-in-Ok-give-clause-made : goal.returns-in-Ok-give-clause-made
-returns-in-Ok-give-clause-made g c =
-    round_made c.args.link (length c.args.piece.now) (g.H.Host.calls c.args.host.now) (g.H.Host.calls c.take_in.new.host) (g.H.Host.calls c.give.new.host) c.in_default.ensures.made c.in-Ok-give.ensures.made
+returns-in-Ok-give-clause-made g c aside n going =
+    let w = c.in_default.ensures.ok aside n going in
+    round_made (g.E.BusEnd.Stands aside) g.E.BusEnd.queued c.args.link (length c.args.piece.now) (g.H.Host.calls c.args.host.now) (g.H.Host.calls c.take_in.new.host) (g.H.Host.calls c.give.new.host) going.t going.g w.t w.g going.dids w.dids
+    c.utter.new.self c.utter.new.end going.tells w.tells (c.in-Ok.ensures.ok aside w.t w.g w.at_ease) c.in-Ok.ensures.uttered c.in_default.ensures.made c.in-Ok-give.ensures.made
 
 pub returns-in-Err-give-clause-made : goal.returns-in-Err-give-clause-made
-returns-in-Err-give-clause-made g c =
-    write_broke c.args.link (length c.args.piece.now) (g.H.Host.calls c.args.host.now) (g.H.Host.calls c.take_in.new.host) (g.H.Host.calls c.give.new.host) c.in_default.ensures.made c.in-Err-give.ensures.made
+returns-in-Err-give-clause-made g c aside n going =
+    let w = c.in_default.ensures.ok aside n going in
+    write_broke (g.E.BusEnd.Stands aside) g.E.BusEnd.queued c.args.link (length c.args.piece.now) (g.H.Host.calls c.args.host.now) (g.H.Host.calls c.take_in.new.host) (g.H.Host.calls c.give.new.host) going.t going.g w.t w.g going.dids w.dids
+    c.utter.new.self c.utter.new.end going.tells w.tells (c.in-Ok.ensures.ok aside w.t w.g w.at_ease) c.in-Ok.ensures.uttered c.in_default.ensures.made c.in-Err-give.ensures.made

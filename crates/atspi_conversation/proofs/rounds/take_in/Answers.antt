@@ -1,10 +1,11 @@
 use Rattle.std.proofs.Common.{◌∷◌, length, take, [], refl, inl, arith}
 use Rattle.atspi_host.specs.declared.call.Did.TheVariants.{Done, NotYet, End, Failed}
-use Rattle.atspi_conversation.proofs.StepLemmas.{cause_of, if_err, not_ended, on_ok, peer_ended, read_failed, took, took_last, took_nothing}
+use Rattle.atspi_conversation.proofs.StepLemmas.{cause_of, if_err, not_ended, on_ok, own_broken, peer_ended, read_failed, took, took_last, took_nothing}
 use Rattle.atspi_conversation.proofs.MovedLemmas.{read_grows}
 use Rattle.atspi_conversation.proofs.RoundLemmas.{front_short, heed_made, makes_one, read_made}
 use Rattle.atspi_host.specs.declared.call.Call.TheVariants.{Read}
 use Rattle.atspi_conversation.specs.Rounds.{Breaks}
+use Rattle.atspi_conversation.specs.Talking.{HasNone}
 use Rattle.atspi_conversation.specs.declared.ending.Ending.TheVariants.{HostFailed, PeerEnded}
 use Rattle.atspi_conversation.proofs.rounds.take_in.Goals as goal
 
@@ -54,7 +55,7 @@ returns-in-Failed-clause-grows g c = read_grows c.args.link (g.H.Host.calls c.ar
 
 pub returns-in-Done-clause-made : goal.returns-in-Done-clause-made
 returns-in-Done-clause-made g c =
-    heed_made c.heed.result c.args.link (length c.args.piece.now) (g.H.Host.calls c.args.host.now) (g.H.Host.calls c.read.new.self) c.heed.ensures.own
+    heed_made g.E.BusEnd.Stands (HasNone g.E.BusEnd.queued) c.heed.result c.args.link (length c.args.piece.now) (g.H.Host.calls c.args.host.now) (g.H.Host.calls c.read.new.self) c.heed.ensures.own
     (read_made c.args.link (length c.args.piece.now) (g.H.Host.calls c.args.host.now) (g.H.Host.calls c.read.new.self) (take c.in-Done.n c.read.new.into) (Done c.in-Done.n) tt
     (front_short c.in-Done.n (length c.args.piece.now) c.read.new.into c.in-Done.ensures.within.1) c.in-Done.ensures.calls)
 
@@ -63,9 +64,12 @@ returns-in-NotYet-clause-made g c =
     read_made c.args.link (length c.args.piece.now) (g.H.Host.calls c.args.host.now) (g.H.Host.calls c.read.new.self) [] NotYet tt (omega arith) c.in-NotYet.ensures.calls
 
 pub returns-in-End-clause-made : goal.returns-in-End-clause-made
-returns-in-End-clause-made g c =
-    makes_one (g.H.Host.calls c.args.host.now) (g.H.Host.calls c.read.new.self) (Read c.args.link [] End) (Breaks c.args.link (length c.args.piece.now) PeerEnded) refl c.in-End.ensures.calls
+returns-in-End-clause-made g c aside t h =
+    makes_one (g.H.Host.calls c.args.host.now) (g.H.Host.calls c.read.new.self) (Read c.args.link [] End) (Breaks (g.E.BusEnd.Stands aside) (HasNone g.E.BusEnd.queued) c.args.link (length c.args.piece.now) PeerEnded t h) refl c.in-End.ensures.calls
 
 pub returns-in-Failed-clause-made : goal.returns-in-Failed-clause-made
-returns-in-Failed-clause-made g c =
-    makes_one (g.H.Host.calls c.args.host.now) (g.H.Host.calls c.read.new.self) (Read c.args.link [] Failed) (Breaks c.args.link (length c.args.piece.now) HostFailed) (inl refl) c.in-Failed.ensures.calls
+returns-in-Failed-clause-made g c aside t h =
+    makes_one (g.H.Host.calls c.args.host.now) (g.H.Host.calls c.read.new.self) (Read c.args.link [] Failed) (Breaks (g.E.BusEnd.Stands aside) (HasNone g.E.BusEnd.queued) c.args.link (length c.args.piece.now) HostFailed t h) (inl refl) c.in-Failed.ensures.calls
+
+pub returns-in-Done-clause-broken : goal.returns-in-Done-clause-broken
+returns-in-Done-clause-broken g c = if_err c.heed.result _ _ own_broken c.heed.ensures.own

@@ -14,8 +14,8 @@ messages-preserved g c =
       may = may_hand_out g.E.BusEnd.Stands c.messages.end c.say_one.new.end (λ aside. (s aside).0) c.messages.invariant.may (λ aside. (s aside).1);
     }
 
-pub returns-then-not-more : goal.returns-then-not-more
-returns-then-not-more g c aside =
+pub returns-then-not-more-clause-says : goal.returns-then-not-more-clause-says
+returns-then-not-more-clause-says g c aside =
     let more : c.in-Ok.more ≡ false = search rules in
     let s = rw more at c.in-Ok.ensures.says in
     says_rests (g.E.BusEnd.Stands aside) c.args.end.now c.messages.end c.say_one.new.end c.args.unsent.now c.messages.unsent c.say_one.new.unsent (c.messages.invariant.says aside) (s aside).0 (s aside).1
