@@ -74,6 +74,11 @@ pub next_none : (r : Option Message) (old new : LiveRegistry) → MatchOption r 
 next_none None old new state = λ aside took said s. subst (λ (w : Registry). IsAfter w took said) (sym state) s
 next_none (Some m) old new state = tt
 
+pub next_empty : (r : Option Message) (old new : LiveRegistry) → MatchOption r (old.registry.out ≡ []) (λ m. old.registry.out ≡ envelope_of m ∷ new.registry.out)
+    → MatchOption r (new.registry ≡ old.registry) (λ m. new.registry.state ≡ old.registry.state) → IfNone r (length new.registry.out ≡ 0)
+next_empty None old new front state = ap (λ (r : Registry). length r.out) state ∙ ap (λ (w : List Envelope). length w) front
+next_empty (Some m) old new front state = tt
+
 pub take_rests : {T X : Type 0} (r : Result T X) (old new : LiveRegistry) → OnErr r (new.registry ≡ old.registry) → OnErr r ((aside : List ℕ) → Rests Stands' old new)
 take_rests (Ok x) old new e = tt
 take_rests (Err x) old new e = λ aside took said s. subst (λ (w : Registry). IsAfter w took said) (sym e) s

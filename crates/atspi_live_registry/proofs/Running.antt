@@ -1,5 +1,5 @@
 -- How a run of the live registry ends, put together.
-use Rattle.std.proofs.Common.{◌≡◌, ℕ, List, [], ◌∷◌, ◌++◌, Option, None, Some, refl, sym, ap, subst, ◌∙◌, inl, inr, append-nil, arith}
+use Rattle.std.proofs.Common.{◌≡◌, ℕ, List, [], ◌∷◌, ◌++◌, length, Option, None, Some, refl, sym, ap, subst, ◌∙◌, inl, inr, append-nil, arith}
 use Rattle.std.specs.Prelude.{◌≢◌, ◌⊎◌}
 use Rattle.atspi_base.specs.Outside.{AppendsPart, Rose}
 use Rattle.atspi_message.specs.Envelope.{Envelope}
@@ -10,64 +10,31 @@ use Rattle.atspi_host.specs.declared.call.Call.TheVariants.{Connect}
 use Rattle.atspi_host.specs.Calls.{Adds, Counts, IsOpen, Opens, taken, given}
 use Rattle.atspi_conversation.specs.Moved.{Tells, reads}
 use Rattle.atspi_conversation.specs.Rounds.{IsRun, Makes}
-use Rattle.atspi_conversation.specs.Speech.{IsSpeech, IsSpentBy, Speaks, Ends, EndsBy}
-use Rattle.atspi_conversation.specs.Talking.{Blames}
+use Rattle.atspi_conversation.specs.Speech.{Speaks, Ends}
+use Rattle.atspi_conversation.specs.Talking.{Blames, HasNone}
 use Rattle.atspi_conversation.specs.declared.ending.Ending.{Ending}
 use Rattle.atspi_conversation.specs.declared.ending.Ending.TheVariants as endings
-use Rattle.atspi_live_registry.specs.Standing.{IsAfter, IsSpent}
+use Rattle.atspi_live_registry.specs.Standing.{IsAfter, IsEmpty, IsSpent}
 use Rattle.atspi_live_registry.specs.Runs.{AllSpeak, Begins, Causes, IsOnLink, Reports, RunEnds, SinkBlamed}
 use Rattle.atspi_live_registry.specs.declared.live_registry.LiveRegistry.{LiveRegistry}
+use Rattle.atspi_conversation.proofs.RoundLemmas.{makes_if, none_wait}
+use Rattle.atspi_conversation.proofs.SeenLemmas.{ends_seen, run_seen, speaks_seen}
 use Rattle.atspi_live_registry.proofs.Registering.{Stands'}
 
 abbrev IsSpent' : LiveRegistry → Envelope → Type 0
 IsSpent' l e = IsSpent l.registry e
 
+abbrev pub queued' : LiveRegistry → ℕ
+queued' l = length l.registry.out
+
 -- the same of the registry itself
-speech : (t g : List ℕ) → IsSpeech Stands' t g → IsSpeech IsAfter t g
-speech t g s = record {
-  messages = s.messages;
-  rest = s.rest;
-  parted = s.parted;
-  end = s.end.registry;
-  said = s.said;
-  stands = s.stands;
-  sent = s.sent;
-  spelled = s.spelled;
-  over = s.over;
-  more = s.more;
-  front = s.front;
-}
+empty_in : (l : LiveRegistry) → HasNone queued' l → IsEmpty l.registry
+empty_in l e = none_wait l.registry.out (queued' l) refl e
 
-speaks : (k : ℕ) (calls : Option (List Call)) → Speaks Stands' k calls → Speaks IsAfter k calls
-speaks k None s = tt
-speaks k (Some cs) s = speech (taken k cs) (given k cs) s
-
-spent : (t : List ℕ) → IsSpentBy Stands' IsSpent' t → IsSpentBy IsAfter IsSpent t
-spent t s = record {
-  messages = s.messages;
-  message = s.message;
-  bytes = s.bytes;
-  rest = s.rest;
-  parted = s.parted;
-  is = s.is;
-  end = s.end.registry;
-  said = s.said;
-  stands = s.stands;
-  spent = s.spent;
-}
-
-ends_by : (k rounds : ℕ) (ending : Ending) (cs : List Call) → EndsBy Stands' IsSpent' k ending rounds cs → EndsBy IsAfter IsSpent k ending rounds cs
-ends_by k rounds endings.RoundsDone cs e = e
-ends_by k rounds endings.PeerEnded cs e = e
-ends_by k rounds endings.HostFailed cs e = e
-ends_by k rounds endings.NotAuthenticated cs e = e
-ends_by k rounds (endings.Malformed start fault) cs e = e
-ends_by k rounds endings.Spent cs e = (spent (taken k cs) e.0, e.1)
-ends_by k rounds endings.NoMemory cs e = tt
-
-ends_on : (k rounds : ℕ) (ending : Ending) (calls : Option (List Call)) → Ends Stands' IsSpent' k ending rounds calls → Ends IsAfter IsSpent k ending rounds calls
-ends_on k rounds ending None e = tt
-ends_on k rounds ending (Some cs) e = ends_by k rounds ending cs e
+pub run_of : (k rounds : ℕ) (ending : Ending) (old new : Option (List Call)) → Makes old new (IsRun (λ _. Stands') (HasNone queued') k 4096 ending rounds) → Makes old new (IsRun (λ _. IsAfter) IsEmpty k 4096 ending rounds)
+run_of k rounds ending old new m =
+    makes_if old new (IsRun (λ _. Stands') (HasNone queued') k 4096 ending rounds) (IsRun (λ _. IsAfter) IsEmpty k 4096 ending rounds)
+    (λ calls. run_seen (λ _. Stands') (λ _. IsAfter) (HasNone queued') IsEmpty (λ (l : LiveRegistry). l.registry) k 4096 ending rounds calls (λ begun end took said s. s) empty_in) m
 
 -- where no link is open
 pub none_speak : (ks : List ℕ) (calls : Option (List Call)) → ks ≡ [] → AllSpeak ks calls
@@ -78,12 +45,20 @@ none_ends path ks status rounds calls w e s = subst (λ (x : List ℕ). RunEnds 
 
 -- where one link is
 pub one_speaks : (ks : List ℕ) (k : ℕ) (calls : Option (List Call)) → ks ≡ k ∷ [] → Speaks Stands' k calls → AllSpeak ks calls
-one_speaks ks k calls e s = subst (λ (w : List ℕ). AllSpeak w calls) (sym e) (speaks k calls s, tt)
+one_speaks ks k calls e s = subst (λ (w : List ℕ). AllSpeak w calls) (sym e) (speaks_seen Stands' IsAfter (λ (l : LiveRegistry). l.registry) k calls (λ end took said s. s) s, tt)
 
 pub one_ends : (path ks : List ℕ) (k status rounds : ℕ) (ending : Ending) (calls : Option (List Call)) (w w' : Option (List ℕ)) → ks ≡ k ∷ []
-    → Ends Stands' IsSpent' k ending rounds calls → IsOnLink path k calls (IsRun k 4096 ending rounds) → Reports ending status w w' → RunEnds path ks status rounds calls w w'
+    → Ends Stands' IsSpent' k ending rounds calls → IsOnLink path k calls (IsRun (λ _. IsAfter) IsEmpty k 4096 ending rounds) → Reports ending status w w' → RunEnds path ks status rounds calls w w'
 one_ends path ks k status rounds ending calls w w' e s run r =
-    subst (λ (x : List ℕ). RunEnds path x status rounds calls w w') (sym e) (record { ending = ending; ends = ends_on k rounds ending calls s; run = run; reports = r }, refl)
+    subst (λ (x : List ℕ). RunEnds path x status rounds calls w w') (sym e) (
+      record {
+        ending = ending;
+        ends = ends_seen Stands' IsAfter IsSpent' IsSpent (λ (l : LiveRegistry). l.registry) k rounds ending calls (λ end took said s. s) (λ end e s. s) s;
+        run = run;
+        reports = r;
+      },
+      refl,
+    )
 
 -- the calls behind a connect
 pub on_link : (path : List ℕ) (k : ℕ) (old mid new : Option (List Call)) (P : List Call → Type 0) → Begins old → Adds old mid (Connect path (Done k)) → Makes mid new P → IsOnLink path k new P

@@ -10,7 +10,7 @@ use Rattle.atspi_conversation.specs.Rounds.{IsRun}
 use Rattle.atspi_conversation.specs.Speech.{Speaks, Ends}
 use Rattle.atspi_conversation.specs.declared.ending.Ending.{Ending}
 use Rattle.atspi_conversation.specs.declared.ending.Ending.TheVariants as endings
-use Rattle.atspi_live_registry.specs.Standing.{IsAfter, IsSpent}
+use Rattle.atspi_live_registry.specs.Standing.{IsAfter, IsEmpty, IsSpent}
 
 -- no call was made yet, where the host tells its calls
 abbrev pub Begins : Option (List Call) → Type 0
@@ -45,11 +45,11 @@ Reports endings.RoundsDone = Quietly 8
 Reports endings.NotAuthenticated = Quietly 10
 Reports endings.Spent = Quietly 13
 
--- a run on this link ended so, with its rounds
+-- a run on this link ended so, with its rounds: in each one read, and then one write exactly where not all is given that the registry says for what was taken
 pub record EndsOn (path : List ℕ) (k status rounds : ℕ) (calls : Option (List Call)) (w w' : Option (List ℕ)) : Type 0 where
   pub ending : Ending
   pub ends : Ends IsAfter IsSpent k ending rounds calls
-  pub run : IsOnLink path k calls (IsRun k 4096 ending rounds)
+  pub run : IsOnLink path k calls (IsRun (λ _. IsAfter) IsEmpty k 4096 ending rounds)
   pub reports : Reports ending status w w'
 
 -- a run ended so on the one link that is open; where there is none, it was not given: status 7, or memory was wanting before

@@ -1,5 +1,5 @@
 -- What a registry did from its start on.
-use Rattle.std.specs.Prelude.{◌≡◌, ◌<◌, List, ◌++◌, fold}
+use Rattle.std.specs.Prelude.{◌≡◌, ◌<◌, List, [], ◌++◌, fold}
 use Rattle.atspi_message.specs.Envelope.{Envelope}
 use Rattle.atspi_protocol.specs.registering.Steps.{Registry, registry_takes, takes}
 use Rattle.atspi_protocol.specs.registry_laws.Sends.{started}
@@ -8,6 +8,10 @@ use Rattle.atspi_protocol.specs.registry_laws.Sends.{started}
 -- for those that it took
 abbrev pub IsAfter : Registry → List Envelope → List Envelope → Type 0
 IsAfter r took said = record { state = r.state; out = said ++ r.out } ≡ fold takes started took
+
+-- it has no message left to hand out
+abbrev pub IsEmpty : Registry → Type 0
+IsEmpty r = r.out ≡ []
 
 -- the messages that it sends for one more would pass number 4,294,967,295
 abbrev pub IsSpent : Registry → Envelope → Type 0

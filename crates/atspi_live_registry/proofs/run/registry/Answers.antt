@@ -1,7 +1,8 @@
 use Rattle.std.proofs.Common.{ℕ, refl, subst, ◌∙◌, inl, inr, arith}
 use Rattle.atspi_conversation.specs.Rounds.{IsRun}
 use Rattle.atspi_conversation.specs.Talking.{Blames}
-use Rattle.atspi_live_registry.proofs.Running.{causes, connect_failed, connected, fresh, is_open, none_ends, none_speak, on_link, one_ends, one_speaks}
+use Rattle.atspi_live_registry.proofs.Running.{causes, connect_failed, connected, fresh, is_open, none_ends, none_speak, on_link, one_ends, one_speaks, run_of}
+use Rattle.atspi_live_registry.specs.Standing.{IsAfter, IsEmpty}
 use Rattle.atspi_live_registry.proofs.run.registry.Goals as goal
 
 pub returns-in_default-clause-speech : goal.returns-in_default-clause-speech
@@ -52,8 +53,8 @@ returns-clause-ends g c =
     one_ends c.args.path.now (g.H.Host.links c.converse-ending.new.host) c.in-Done.link c.report.result c.args.rounds c.converse-ending.result (g.H.Host.calls c.converse-ending.new.host) (g.K.Sink.written c.args.sink.now) (g.K.Sink.written c.report.new.sink)
     (c.converse-ending.ensures.links ∙ connected (g.H.Host.links c.args.host.now) (g.H.Host.links c.connect.new.self) c.in-Done.link c.requires.links c.in-Done.ensures.links)
     c.converse-ending.ensures.ends
-    (on_link c.args.path.now c.in-Done.link (g.H.Host.calls c.args.host.now) (g.H.Host.calls c.connect.new.self) (g.H.Host.calls c.converse-ending.new.host) (IsRun c.in-Done.link 4096 c.converse-ending.result c.args.rounds)
-    c.requires.calls c.in-Done.ensures.calls c.converse-ending.ensures.rounds)
+    (on_link c.args.path.now c.in-Done.link (g.H.Host.calls c.args.host.now) (g.H.Host.calls c.connect.new.self) (g.H.Host.calls c.converse-ending.new.host) (IsRun (λ _. IsAfter) IsEmpty c.in-Done.link 4096 c.converse-ending.result c.args.rounds)
+    c.requires.calls c.in-Done.ensures.calls (run_of c.in-Done.link c.args.rounds c.converse-ending.result (g.H.Host.calls c.connect.new.self) (g.H.Host.calls c.converse-ending.new.host) c.converse-ending.ensures.rounds))
     c.report.ensures.reports
 
 pub returns-clause-causes : goal.returns-clause-causes

@@ -1,4 +1,4 @@
-use Rattle.atspi_live_registry.proofs.Registering.{next_fewer, next_hands_out, next_may_send, next_none}
+use Rattle.atspi_live_registry.proofs.Registering.{next_empty, next_fewer, next_hands_out, next_may_send, next_none}
 use Rattle.atspi_live_registry.proofs.live_registry.LiveRegistryBusEnd.next.Goals as goal
 
 pub returns-clause-some : goal.returns-clause-some
@@ -12,3 +12,6 @@ returns-clause-fewer c = next_fewer c.next.result c.args.self.now (record { regi
 
 pub returns-clause-none : goal.returns-clause-none
 returns-clause-none c = next_none c.next.result c.args.self.now (record { registry = c.next.new.self }) c.next.ensures.empty
+
+pub returns-clause-empty : goal.returns-clause-empty
+returns-clause-empty c = next_empty c.next.result c.args.self.now (record { registry = c.next.new.self }) c.next.ensures.front c.next.ensures.empty
