@@ -122,6 +122,10 @@ pub next_rests : {M : Type 0} (seen : M → Envelope) (o : Option M) (r s : Read
 next_rests seen None r s a b u v state g = λ written took said f. subst (λ (w : List Envelope). Follows written s b v took w) (append-nil said) (handed written [] r s a b u v took said state g f)
 next_rests seen (Some m) r s a b u v state g = tt
 
+pub next_empty : {M : Type 0} (o : Option M) (out : List Done) → IfNone o (out ≡ []) → IfNone o (length out ≡ 0)
+next_empty None out e = ap (λ (w : List Done). length w) e
+next_empty (Some m) out e = tt
+
 -- a message that was refused
 pub take_rests : {T X : Type 0} (o : Result T X) (r s : ReaderState) (a : Bool) (u : List ℕ) → OnErr o (s ≡ r) → OnErr o ((written : List ℕ) (took said : List Envelope) → Follows written r a u took said → Follows written s a u took said)
 take_rests (Ok x) r s a u e = tt

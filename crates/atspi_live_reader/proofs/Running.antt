@@ -14,11 +14,11 @@ use Rattle.atspi_conversation.specs.declared.ending.Ending.{Ending}
 use Rattle.atspi_conversation.specs.declared.ending.Ending.TheVariants as endings
 use Rattle.atspi_live_registry.specs.Runs.{Causes, IsOnLink, Reports, SinkBlamed}
 use Rattle.atspi_live_registry.proofs.Running.{causes}
-use Rattle.atspi_live_reader.specs.Following.{BlamesSink, IsLeft, IsOver, IsQuiet, OverBlames, RunsOver, Stands}
+use Rattle.atspi_live_reader.specs.Following.{BlamesSink, EndsWhole, IsLeft, IsOver, IsQuiet, OverBlames, RunsOver, Stands}
 use Rattle.atspi_live_reader.specs.Handed.{Follows}
-use Rattle.atspi_live_reader.specs.Runs.{AllSpeak, AreLast, EndsOn, EndsSo, IsAll, ReportsLast, RunEnds, TellsAll, WritesLast}
+use Rattle.atspi_live_reader.specs.Runs.{AllSpeak, AreLast, EndsOn, EndsSo, IsAll, ReportsLast, RunEnds, SpeaksAll, TellsAll, WritesLast}
 use Rattle.atspi_live_reader.specs.Shows.{last_words, shown_in}
-use Rattle.atspi_live_reader.specs.Spoken.{IsAfter, IsSpent, spoken_in}
+use Rattle.atspi_live_reader.specs.Spoken.{IsAfter, IsAllSpoken, IsEmpty, IsSpent, spoken_in}
 use Rattle.atspi_live_reader.proofs.Handing.{spoken_both}
 use Rattle.atspi_live_reader.proofs.Turning.{left_speaks}
 use Rattle.atspi_reader.specs.ReaderOf.{IsReader, reader_of}
@@ -39,16 +39,41 @@ none_ends path ks status rounds calls w e s = subst (λ (x : List ℕ). RunEnds 
 pub one_speaks : (ks : List ℕ) (k rounds : ℕ) (over : Over) (calls : Option (List Call)) (w w' : Option (List ℕ)) → ks ≡ k ∷ [] → IsOver k over rounds [] calls w w' → AllSpeak ks calls
 one_speaks ks k rounds over calls w w' e o = subst (λ (x : List ℕ). AllSpeak x calls) (sym e) (o.speaks, tt)
 
+-- all that is spoken for the bytes that were taken
+all_spoken : (t : List ℕ) (messages : List (Envelope × List ℕ)) (rest written : List ℕ) (r : state.ReaderState) (starved : Bool) (lines : List ℕ) (said : List Envelope) → IsParted (behind client_start t) messages rest → AwaitsMore rest
+    → starved ≡ false → lines ≡ [] → Follows written r starved lines (envelopes messages) said → IsAllSpoken t (written ++ spoken_in r.out)
+all_spoken t messages rest written r starved lines said parted awaits fed none f = record {
+  messages = messages;
+  rest = rest;
+  parted = parted;
+  awaits = awaits;
+  all =
+      ap (λ (w : List ℕ). w ++ spoken_in r.out) (sym (append-nil written) ∙ ap (λ (w : List ℕ). written ++ w) (sym none) ∙ by f.told)
+      ∙ sym (spoken_both f.done r.out)
+      ∙ ap (λ (s : state.ReaderState). spoken_in s.out) f.whole;
+}
+  where
+    by : (starved ≡ true) ⊎ (written ++ lines ≡ spoken_in f.done) → written ++ lines ≡ spoken_in f.done
+    by (inl e) = absurd cc
+    by (inr e) = e
+
+speaks_all : (k : ℕ) (calls : Option (List Call)) (w w' : Option (List ℕ)) (l : LiveReader) (left : IsLeft k calls w w' l) → SpeaksAll k calls (left.written ++ spoken_in (reader_of l.reader).out)
+speaks_all k None w w' l left = tt
+speaks_all k (Some cs) w w' l left =
+    let s = left.stood in
+    subst (λ (t : List ℕ). IsAllSpoken t (left.written ++ spoken_in (reader_of l.reader).out)) (sym s.is_taken)
+    (all_spoken s.t s.messages s.rest left.written (reader_of l.reader) l.starved l.lines s.said s.parted s.awaits left.quiet.fed left.quiet.none s.stands)
+
 -- all that is written for the bytes that were taken
 all_told : (t : List ℕ) (messages : List (Envelope × List ℕ)) (rest written : List ℕ) (r : state.ReaderState) (starved : Bool) (lines : List ℕ) (said : List Envelope) → IsParted (behind client_start t) messages rest → AwaitsMore rest
-    → starved ≡ false → lines ≡ [] → Follows written r starved lines (envelopes messages) said → IsAll t (written ++ last_words r)
+    → starved ≡ false → lines ≡ [] → Follows written r starved lines (envelopes messages) said → IsAll t (written ++ last_words endings.PeerEnded r)
 all_told t messages rest written r starved lines said parted awaits fed none f = record {
   messages = messages;
   rest = rest;
   parted = parted;
   awaits = awaits;
   all =
-      ap (λ (w : List ℕ). w ++ last_words r) (sym (append-nil written) ∙ ap (λ (w : List ℕ). written ++ w) (sym none) ∙ by f.told)
+      ap (λ (w : List ℕ). w ++ last_words endings.PeerEnded r) (sym (append-nil written) ∙ ap (λ (w : List ℕ). written ++ w) (sym none) ∙ by f.told)
       ∙ sym (append_assoc (spoken_in f.done) (spoken_in r.out) (shown_in r))
       ∙ ap (λ (w : List ℕ). w ++ shown_in r) (sym (spoken_both f.done r.out))
       ∙ ap (λ (s : state.ReaderState). spoken_in s.out ++ shown_in s) f.whole;
@@ -58,44 +83,51 @@ all_told t messages rest written r starved lines said parted awaits fed none f =
     by (inl e) = absurd cc
     by (inr e) = e
 
-tells_all : (k : ℕ) (calls : Option (List Call)) (w w' : Option (List ℕ)) (l : LiveReader) (left : IsLeft k calls w w' l) → TellsAll k calls (left.written ++ last_words (reader_of l.reader))
+tells_all : (k : ℕ) (calls : Option (List Call)) (w w' : Option (List ℕ)) (l : LiveReader) (left : IsLeft k calls w w' l) → TellsAll k calls (left.written ++ last_words endings.PeerEnded (reader_of l.reader))
 tells_all k None w w' l left = tt
 tells_all k (Some cs) w w' l left =
     let s = left.stood in
-    subst (λ (t : List ℕ). IsAll t (left.written ++ last_words (reader_of l.reader))) (sym s.is_taken)
+    subst (λ (t : List ℕ). IsAll t (left.written ++ last_words endings.PeerEnded (reader_of l.reader))) (sym s.is_taken)
     (all_told s.t s.messages s.rest left.written (reader_of l.reader) l.starved l.lines s.said s.parted s.awaits left.quiet.fed left.quiet.none s.stands)
 
 -- how a run ended, with what is written then
-ends_so : (path : List ℕ) (k status rounds : ℕ) (spoken words : List ℕ) (ending : Ending) (calls : Option (List Call)) (w w' : Option (List ℕ)) → Ends IsAfter IsSpent k ending rounds calls → IsOnLink path k calls (IsRun k 4096 ending rounds)
+ends_so : (path : List ℕ) (k status rounds : ℕ) (spoken words : List ℕ) (ending : Ending) (calls : Option (List Call)) (w w' : Option (List ℕ)) → Ends IsAfter IsSpent k ending rounds calls → IsOnLink path k calls (IsRun (λ _. IsAfter) IsEmpty k 4096 ending rounds)
     → AreLast k calls spoken words ending → ReportsLast words ending status w w' → EndsSo path k status rounds spoken calls w w'
 ends_so path k status rounds spoken words ending calls w w' e run last r = record { ending = ending; ends = e; run = run; words = words; last = last; reports = r }
 
-ended_by : (path : List ℕ) (k status rounds : ℕ) (ending : Ending) (calls : Option (List Call)) (l : LiveReader) (w mid w' : Option (List ℕ)) → (ending ≡ endings.PeerEnded → IsLeft k calls w mid l)
-    → IsOver k (overs.Ended ending) rounds [] calls w mid → IsOnLink path k calls (IsRun k 4096 ending rounds) → ReportsLast (last_words (reader_of l.reader)) ending status mid w' → EndsOn path k status rounds calls w w'
+ended_by : (path : List ℕ) (k status rounds : ℕ) (ending : Ending) (calls : Option (List Call)) (l : LiveReader) (w mid w' : Option (List ℕ)) → (EndsWhole (overs.Ended ending) → IsLeft k calls w mid l)
+    → IsOver k (overs.Ended ending) rounds [] calls w mid → IsOnLink path k calls (IsRun (λ _. IsAfter) IsEmpty k 4096 ending rounds) → ReportsLast (last_words ending (reader_of l.reader)) ending status mid w' → EndsOn path k status rounds calls w w'
 ended_by path k status rounds endings.PeerEnded calls l w mid w' left o run r =
-    let f = left refl in
+    let f = left tt in
     record {
       spoken = f.written;
       speaks_up = left_speaks k calls w mid l f;
       mid = mid;
       wrote = f.wrote;
-      so = inl (ends_so path k status rounds f.written (last_words (reader_of l.reader)) endings.PeerEnded calls mid w' o.so run (tells_all k calls w mid l f) r);
+      so = inl (ends_so path k status rounds f.written (last_words endings.PeerEnded (reader_of l.reader)) endings.PeerEnded calls mid w' o.so run (tells_all k calls w mid l f) r);
     }
 ended_by path k status rounds endings.RoundsDone calls l w mid w' left o run r =
-    record { spoken = o.line; speaks_up = o.speaks_up; mid = mid; wrote = o.wrote; so = inl (ends_so path k status rounds o.line (last_words (reader_of l.reader)) endings.RoundsDone calls mid w' o.so run tt r) }
+    let f = left tt in
+    record {
+      spoken = f.written;
+      speaks_up = left_speaks k calls w mid l f;
+      mid = mid;
+      wrote = f.wrote;
+      so = inl (ends_so path k status rounds f.written (last_words endings.RoundsDone (reader_of l.reader)) endings.RoundsDone calls mid w' o.so run (speaks_all k calls w mid l f) r);
+    }
 ended_by path k status rounds endings.HostFailed calls l w mid w' left o run r =
-    record { spoken = o.line; speaks_up = o.speaks_up; mid = mid; wrote = o.wrote; so = inl (ends_so path k status rounds o.line (last_words (reader_of l.reader)) endings.HostFailed calls mid w' o.so run tt r) }
+    record { spoken = o.line; speaks_up = o.speaks_up; mid = mid; wrote = o.wrote; so = inl (ends_so path k status rounds o.line (last_words endings.HostFailed (reader_of l.reader)) endings.HostFailed calls mid w' o.so run tt r) }
 ended_by path k status rounds endings.NotAuthenticated calls l w mid w' left o run r =
-    record { spoken = o.line; speaks_up = o.speaks_up; mid = mid; wrote = o.wrote; so = inl (ends_so path k status rounds o.line (last_words (reader_of l.reader)) endings.NotAuthenticated calls mid w' o.so run tt r) }
+    record { spoken = o.line; speaks_up = o.speaks_up; mid = mid; wrote = o.wrote; so = inl (ends_so path k status rounds o.line (last_words endings.NotAuthenticated (reader_of l.reader)) endings.NotAuthenticated calls mid w' o.so run tt r) }
 ended_by path k status rounds (endings.Malformed start fault) calls l w mid w' left o run r =
-    record { spoken = o.line; speaks_up = o.speaks_up; mid = mid; wrote = o.wrote; so = inl (ends_so path k status rounds o.line (last_words (reader_of l.reader)) (endings.Malformed start fault) calls mid w' o.so run tt r) }
+    record { spoken = o.line; speaks_up = o.speaks_up; mid = mid; wrote = o.wrote; so = inl (ends_so path k status rounds o.line (last_words (endings.Malformed start fault) (reader_of l.reader)) (endings.Malformed start fault) calls mid w' o.so run tt r) }
 ended_by path k status rounds endings.Spent calls l w mid w' left o run r =
-    record { spoken = o.line; speaks_up = o.speaks_up; mid = mid; wrote = o.wrote; so = inl (ends_so path k status rounds o.line (last_words (reader_of l.reader)) endings.Spent calls mid w' o.so run tt r) }
+    record { spoken = o.line; speaks_up = o.speaks_up; mid = mid; wrote = o.wrote; so = inl (ends_so path k status rounds o.line (last_words endings.Spent (reader_of l.reader)) endings.Spent calls mid w' o.so run tt r) }
 ended_by path k status rounds endings.NoMemory calls l w mid w' left o run r =
-    record { spoken = o.line; speaks_up = o.speaks_up; mid = mid; wrote = o.wrote; so = inl (ends_so path k status rounds o.line (last_words (reader_of l.reader)) endings.NoMemory calls mid w' o.so run tt r) }
+    record { spoken = o.line; speaks_up = o.speaks_up; mid = mid; wrote = o.wrote; so = inl (ends_so path k status rounds o.line (last_words endings.NoMemory (reader_of l.reader)) endings.NoMemory calls mid w' o.so run tt r) }
 
-pub ended : (path ks : List ℕ) (k status rounds : ℕ) (ending : Ending) (calls : Option (List Call)) (l : LiveReader) (w mid w' : Option (List ℕ)) → ks ≡ k ∷ [] → (ending ≡ endings.PeerEnded → IsLeft k calls w mid l)
-    → IsOver k (overs.Ended ending) rounds [] calls w mid → IsOnLink path k calls (IsRun k 4096 ending rounds) → ReportsLast (last_words (reader_of l.reader)) ending status mid w' → RunEnds path ks status rounds calls w w'
+pub ended : (path ks : List ℕ) (k status rounds : ℕ) (ending : Ending) (calls : Option (List Call)) (l : LiveReader) (w mid w' : Option (List ℕ)) → ks ≡ k ∷ [] → (EndsWhole (overs.Ended ending) → IsLeft k calls w mid l)
+    → IsOver k (overs.Ended ending) rounds [] calls w mid → IsOnLink path k calls (IsRun (λ _. IsAfter) IsEmpty k 4096 ending rounds) → ReportsLast (last_words ending (reader_of l.reader)) ending status mid w' → RunEnds path ks status rounds calls w w'
 ended path ks k status rounds ending calls l w mid w' e left o run r =
     subst (λ (x : List ℕ). RunEnds path x status rounds calls w w') (sym e) (ended_by path k status rounds ending calls l w mid w' left o run r, refl)
 
@@ -110,25 +142,26 @@ pub may_tell : (k : ℕ) (calls : Option (List Call)) (w w' : Option (List ℕ))
 may_tell k calls w w' l left = (left.stood.stands.is, left.quiet)
 
 -- what is reported of other endings than the peer's
-pub reported : (words : List ℕ) (ending : Ending) (status : ℕ) (w w' : Option (List ℕ)) → (ending ≡ endings.PeerEnded → ⊥) → Reports ending status w w' → ReportsLast words ending status w w'
-reported words endings.PeerEnded status w w' n r = absurd (n refl)
-reported words endings.RoundsDone status w w' n r = r
-reported words endings.HostFailed status w w' n r = r
-reported words endings.NotAuthenticated status w w' n r = r
-reported words (endings.Malformed start fault) status w w' n r = r
-reported words endings.Spent status w w' n r = r
-reported words endings.NoMemory status w w' n r = r
+pub reported : (words : List ℕ) (ending : Ending) (status : ℕ) (w w' : Option (List ℕ)) → (ending ≡ endings.PeerEnded → ⊥) → (ending ≡ endings.RoundsDone → ⊥) → Reports ending status w w' → ReportsLast words ending status w w'
+reported words endings.PeerEnded status w w' n m r = absurd (n refl)
+reported words endings.RoundsDone status w w' n m r = absurd (m refl)
+reported words endings.HostFailed status w w' n m r = r
+reported words endings.NotAuthenticated status w w' n m r = r
+reported words (endings.Malformed start fault) status w w' n m r = r
+reported words endings.Spent status w w' n m r = r
+reported words endings.NoMemory status w w' n m r = r
 
 -- the counts
-not_seven : (words : List ℕ) (status : ℕ) (w w' : Option (List ℕ)) → WritesLast words status w w' → status ≡ 7 → ⊥
-not_seven words status w w' (inl x) e = omega (arith, x.0, e)
-not_seven words status w w' (inr x) e = elim x.0 [ inl y ↦ omega (arith, y, e) | inr y ↦ omega (arith, y, e) ]
+not_seven : (meant : ℕ) (words : List ℕ) (status : ℕ) (w w' : Option (List ℕ)) → (meant ≡ 7 → ⊥) → WritesLast meant words status w w' → status ≡ 7 → ⊥
+not_seven meant words status w w' n (inl x) e = n (sym x.0 ∙ e)
+not_seven meant words status w w' n (inr x) e = elim x.0 [ inl y ↦ omega (arith, y, e) | inr y ↦ omega (arith, y, e) ]
 
 pub last_causes : (words : List ℕ) (ending : Ending) (status faults faults' links links' sink sink' : ℕ) (w w' : Option (List ℕ)) → faults' ≡ faults → Blames ending links links' → ReportsLast words ending status w w' → SinkBlamed status sink sink'
     → Causes status faults faults' links links' sink sink'
 last_causes words endings.PeerEnded status faults faults' links links' sink sink' w w' f b r s =
-    record { by_host = λ e. absurd (not_seven words status w w' r e); no_host = inr (f, b); by_sink = s.0; no_sink = s.1 }
-last_causes words endings.RoundsDone status faults faults' links links' sink sink' w w' f b r s = causes endings.RoundsDone status faults faults' links links' sink sink' w w' f b r s
+    record { by_host = λ e. absurd (not_seven 0 words status w w' (λ n. omega (arith, n)) r e); no_host = inr (f, b); by_sink = s.0; no_sink = s.1 }
+last_causes words endings.RoundsDone status faults faults' links links' sink sink' w w' f b r s =
+    record { by_host = λ e. absurd (not_seven 8 words status w w' (λ n. omega (arith, n)) r e); no_host = inr (f, b); by_sink = s.0; no_sink = s.1 }
 last_causes words endings.HostFailed status faults faults' links links' sink sink' w w' f b r s = causes endings.HostFailed status faults faults' links links' sink sink' w w' f b r s
 last_causes words endings.NotAuthenticated status faults faults' links links' sink sink' w w' f b r s = causes endings.NotAuthenticated status faults faults' links links' sink sink' w w' f b r s
 last_causes words (endings.Malformed start fault) status faults faults' links links' sink sink' w w' f b r s = causes (endings.Malformed start fault) status faults faults' links links' sink sink' w w' f b r s

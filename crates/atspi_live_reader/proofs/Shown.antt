@@ -15,6 +15,7 @@ use Rattle.atspi_events.specs.declared.shown.ShownRow.{ShownRow}
 use Rattle.atspi_forest.specs.Forest.{Forest}
 use Rattle.atspi_forest.specs.declared.view.Row.{Row}
 use Rattle.atspi_play.specs.Playing.{shown_sight, view_rows}
+use Rattle.atspi_conversation.specs.declared.ending.Ending.TheVariants as endings
 use Rattle.atspi_protocol.specs.following.ReaderState.{ReaderState}
 use Rattle.atspi_protocol.specs.following.Takes.{held_names, held_view}
 use Rattle.atspi_live_reader.specs.Handed.{GivesRest, KeepsLine}
@@ -82,11 +83,14 @@ none_left (x ∷ xs) (suc k) e = ap (λ (w : List (List ℕ)). x ∷ w) (none_le
 pub shown_all : (s : ReaderState) (initial out : List ℕ) (k : ℕ) → None ≡ slice_get (held_names s) k → out ≡ initial ++ flat_map (shown_of s) (take k (held_names s)) → out ≡ initial ++ shown_in s
 shown_all s initial out k e before = before ∙ ap (λ (w : List (List ℕ)). initial ++ flat_map (shown_of s) w) (none_left (held_names s) k e)
 
--- the lines that are left, and then what is held
-pub concluded : (r s : ReaderState) (starved starved' : Bool) (lines lines' new : List ℕ) → starved' ≡ false → lines ≡ [] → GivesRest r s starved starved' lines lines' → new ≡ lines' ++ shown_in s → new ≡ last_words r
-concluded r s starved starved' lines lines' new fed none g e =
-    e ∙ ap (λ (w : List ℕ). w ++ shown_in s) (by g.kept) ∙ ap (λ (w : List ℕ). spoken_in r.out ++ w) (sym (ap shown_in g.whole))
+-- the lines that are left
+pub silenced : (r s : ReaderState) (starved starved' : Bool) (lines lines' : List ℕ) → starved' ≡ false → lines ≡ [] → GivesRest r s starved starved' lines lines' → lines' ≡ last_words endings.RoundsDone r
+silenced r s starved starved' lines lines' fed none g = by g.kept
   where
     by : KeepsLine starved starved' lines lines' (spoken_in r.out) → lines' ≡ spoken_in r.out
     by (inl h) = absurd cc
     by (inr h) = h.1 ∙ ap (λ (w : List ℕ). w ++ spoken_in r.out) none
+
+-- and then what is held
+pub concluded : (r s : ReaderState) (lines new : List ℕ) → lines ≡ last_words endings.RoundsDone r → shown_in s ≡ shown_in r → new ≡ lines ++ shown_in s → new ≡ last_words endings.PeerEnded r
+concluded r s lines new l h e = e ∙ ap (λ (w : List ℕ). w ++ shown_in s) l ∙ ap (λ (w : List ℕ). spoken_in r.out ++ w) h

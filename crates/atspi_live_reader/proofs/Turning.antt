@@ -1,5 +1,5 @@
 -- A reader's turn: what was said, taken and written.
-use Rattle.std.proofs.Common.{◌≡◌, ℕ, ◌+◌, Bool, true, false, List, [], ◌∷◌, ◌++◌, Option, None, Some, refl, sym, ap, subst, ◌∙◌, inl, inr, append_assoc, append-nil}
+use Rattle.std.proofs.Common.{◌≡◌, ℕ, ◌+◌, Bool, true, false, List, [], ◌∷◌, ◌++◌, length, Option, None, Some, refl, sym, ap, subst, ◌∙◌, inl, inr, append_assoc, append-nil}
 use Rattle.std.specs.Prelude.{◌⊎◌, ◌≤◌, ◌<◌, ◌==◌, Result, Ok, Err, IfErr, MatchResult, if◌then◌else◌}
 use Rattle.std.specs.Io.KnownBytes.{Appends}
 use Rattle.std.proofs.KnownBytes.{Appends-nil}
@@ -14,21 +14,22 @@ use Rattle.atspi_host.specs.declared.call.Did.TheVariants.{End}
 use Rattle.atspi_host.specs.declared.call.Did.{Did}
 use Rattle.atspi_host.specs.Calls.{taken, given}
 use Rattle.atspi_conversation.specs.Moved.{Grows}
-use Rattle.atspi_conversation.specs.Speech.{Ends, EndsBy, IsSpeech, IsSpentBy, Speaks, envelopes}
-use Rattle.atspi_conversation.specs.Talking.{Blames, Going, IsEnded, MaySpeak}
+use Rattle.atspi_conversation.specs.Speech.{Ends, Speaks, envelopes}
+use Rattle.atspi_conversation.specs.Talking.{Blames, Going, HasNone, IsBroken, IsEnded, MaySpeak}
 use Rattle.atspi_conversation.specs.declared.conversation.Conversation.{Conversation}
 use Rattle.atspi_conversation.specs.declared.ending.Ending.{Ending}
 use Rattle.atspi_conversation.specs.declared.ending.Ending.TheVariants as endings
 use Rattle.atspi_conversation.proofs.StepLemmas.{all_done, no_memory}
 use Rattle.atspi_conversation.proofs.TalkLemmas.{parted_later}
 use Rattle.atspi_reader.specs.Steps.{IsState}
-use Rattle.atspi_live_reader.specs.Spoken.{IsAfter, IsSpent, IsSpoken, following, spoken_in}
+use Rattle.atspi_live_reader.specs.Spoken.{IsAfter, IsEmpty, IsSpent, IsSpoken, following, spoken_in}
 use Rattle.atspi_live_reader.specs.Handed.{Follows}
 use Rattle.atspi_conversation.specs.Rounds.{AreRounds, Breaks, IsRound, Makes}
 use Rattle.atspi_conversation.specs.Moved.{Tells}
 use Rattle.atspi_conversation.proofs.MovedLemmas.{taken_append}
-use Rattle.atspi_conversation.proofs.RoundLemmas.{makes_if, rounds_more, run_broken}
-use Rattle.atspi_live_reader.specs.Following.{BreaksOver, GoesOn, IsLeft, IsMuted, IsOver, IsQuiet, IsStill, IsTaken, OverBlames, RunsOver, SpeaksOn, SpeaksUp, Stands, Stood}
+use Rattle.atspi_conversation.proofs.RoundLemmas.{makes_if, none_wait, rounds_more, run_broken}
+use Rattle.atspi_conversation.proofs.SeenLemmas.{breaks_seen, ends_seen, round_seen, speaks_seen}
+use Rattle.atspi_live_reader.specs.Following.{BreaksOver, EndsWhole, GoesOn, IsBrokenOver, IsLeft, IsMuted, IsOver, IsQuiet, IsStill, IsTaken, OverBlames, RunsOver, SpeaksOn, SpeaksUp, Stands, Stood}
 use Rattle.atspi_live_reader.specs.declared.live_reader.LiveReader.{LiveReader}
 use Rattle.atspi_live_reader.specs.declared.over.Over.{Over}
 use Rattle.atspi_live_reader.specs.declared.over.Over.TheVariants as overs
@@ -40,51 +41,33 @@ IsSpent' l e = IsSpent (reader_of l.reader) e
 after : (written : List ℕ) (l : LiveReader) (took said : List Envelope) → Stands written l took said → IsAfter (reader_of l.reader) took said
 after written l took said f = record { done = f.done; whole = f.whole; sent = f.sent }
 
-speech : (written t g : List ℕ) → IsSpeech (Stands written) t g → IsSpeech IsAfter t g
-speech written t g s = record {
-  messages = s.messages;
-  rest = s.rest;
-  parted = s.parted;
-  end = reader_of s.end.reader;
-  said = s.said;
-  stands = after written s.end (envelopes s.messages) s.said s.stands;
-  sent = s.sent;
-  spelled = s.spelled;
-  over = s.over;
-  more = s.more;
-  front = s.front;
-}
+-- it is empty where it has nothing queued
+abbrev pub queued' : LiveReader → ℕ
+queued' l = length (reader_of l.reader).out
+
+empty_in : (l : LiveReader) → HasNone queued' l → IsEmpty (reader_of l.reader)
+empty_in l e = none_wait (reader_of l.reader).out (queued' l) refl e
+
+-- the reader alone
+abbrev reader_in : LiveReader → ReaderState
+reader_in l = reader_of l.reader
 
 speaks : (written : List ℕ) (k : ℕ) (calls : Option (List Call)) → Speaks (Stands written) k calls → Speaks IsAfter k calls
-speaks written k None s = tt
-speaks written k (Some cs) s = speech written (taken k cs) (given k cs) s
-
-spent : (written t : List ℕ) → IsSpentBy (Stands written) IsSpent' t → IsSpentBy IsAfter IsSpent t
-spent written t s = record {
-  messages = s.messages;
-  message = s.message;
-  bytes = s.bytes;
-  rest = s.rest;
-  parted = s.parted;
-  is = s.is;
-  end = reader_of s.end.reader;
-  said = s.said;
-  stands = after written s.end (envelopes s.messages) s.said s.stands;
-  spent = s.spent;
-}
-
-ends_by : (written : List ℕ) (k rounds : ℕ) (ending : Ending) (cs : List Call) → EndsBy (Stands written) IsSpent' k ending rounds cs → EndsBy IsAfter IsSpent k ending rounds cs
-ends_by written k rounds endings.RoundsDone cs e = e
-ends_by written k rounds endings.PeerEnded cs e = e
-ends_by written k rounds endings.HostFailed cs e = e
-ends_by written k rounds endings.NotAuthenticated cs e = e
-ends_by written k rounds (endings.Malformed start fault) cs e = e
-ends_by written k rounds endings.Spent cs e = (spent written (taken k cs) e.0, e.1)
-ends_by written k rounds endings.NoMemory cs e = tt
+speaks written k calls s = speaks_seen (Stands written) IsAfter reader_in k calls (after written) s
 
 ends_on : (written : List ℕ) (k rounds : ℕ) (ending : Ending) (calls : Option (List Call)) → Ends (Stands written) IsSpent' k ending rounds calls → Ends IsAfter IsSpent k ending rounds calls
-ends_on written k rounds ending None e = tt
-ends_on written k rounds ending (Some cs) e = ends_by written k rounds ending cs e
+ends_on written k rounds ending calls e = ends_seen (Stands written) IsAfter IsSpent' IsSpent reader_in k rounds ending calls (after written) (λ end m s. s) e
+
+-- the calls of a round, by what the reader alone says
+pub round_of : (written : List ℕ) (k most : ℕ) (t g : List ℕ) (old new : Option (List Call)) → Makes old new (IsRound (Stands written) (HasNone queued') k most t g) → Makes old new (IsRound IsAfter IsEmpty k most t g)
+round_of written k most t g old new m =
+    makes_if old new (IsRound (Stands written) (HasNone queued') k most t g) (IsRound IsAfter IsEmpty k most t g)
+    (λ calls. round_seen (Stands written) IsAfter (HasNone queued') IsEmpty reader_in k most t g calls (after written) empty_in) m
+
+pub breaks_of : (written : List ℕ) (k most : ℕ) (ending : Ending) (t g : List ℕ) (old new : Option (List Call)) → Makes old new (Breaks (Stands written) (HasNone queued') k most ending t g) → Makes old new (Breaks IsAfter IsEmpty k most ending t g)
+breaks_of written k most ending t g old new m =
+    makes_if old new (Breaks (Stands written) (HasNone queued') k most ending t g) (Breaks IsAfter IsEmpty k most ending t g)
+    (λ calls. breaks_seen (Stands written) IsAfter (HasNone queued') IsEmpty reader_in k most ending t g calls (after written) empty_in) m
 
 -- bytes that were written are a front of what was spoken
 spoken : (t : List ℕ) (messages : List (Envelope × List ℕ)) (rest : List ℕ) (written part left : List ℕ) (r : ReaderState) (starved : Bool) (lines : List ℕ) (said : List Envelope)
@@ -246,12 +229,16 @@ if_match (Ok x) P R S f h m = f x
 if_match (Err x) P R S f h m = h x m
 
 -- the calls of a turn whose lines were not written, of which the round is whole
-mute_breaks : (k most : ℕ) (over : Over) (l : LiveReader) (w w' : Option (List ℕ)) (calls : List Call) → IsMuted over l w w' → IsRound k most calls → BreaksOver k most over calls
-mute_breaks k most (overs.Ended ending) l w w' calls m r = subst (λ (x : Ending). Breaks k most x calls) (sym m.0) (inr r)
-mute_breaks k most overs.NotWritten l w w' calls m r = r
+mute_breaks : (k most : ℕ) (over : Over) (l : LiveReader) (w w' : Option (List ℕ)) (t g : List ℕ) (calls : List Call) → IsMuted over l w w' → IsRound IsAfter IsEmpty k most t g calls → BreaksOver k most over t g calls
+mute_breaks k most (overs.Ended ending) l w w' t g calls m r = subst (λ (x : Ending). Breaks IsAfter IsEmpty k most x t g calls) (sym m.0) (inr r)
+mute_breaks k most overs.NotWritten l w w' t g calls m r = r
 
-pub mute_made : (k most : ℕ) (over : Over) (l : LiveReader) (w w' : Option (List ℕ)) (old new : Option (List Call)) → Makes old new (IsRound k most) → IsMuted over l w w' → Makes old new (BreaksOver k most over)
-mute_made k most over l w w' old new r m = makes_if old new (IsRound k most) (BreaksOver k most over) (λ calls. mute_breaks k most over l w w' calls m) r
+pub mute_made : (k most : ℕ) (over : Over) (l : LiveReader) (w w' : Option (List ℕ)) (t g : List ℕ) (old new : Option (List Call)) → Makes old new (IsRound IsAfter IsEmpty k most t g) → IsMuted over l w w' → Makes old new (BreaksOver k most over t g)
+mute_made k most over l w w' t g old new r m = makes_if old new (IsRound IsAfter IsEmpty k most t g) (BreaksOver k most over t g) (λ calls. mute_breaks k most over l w w' t g calls m) r
+
+pub mute_broken : (over : Over) (l : LiveReader) (w w' : Option (List ℕ)) → IsMuted over l w w' → IsBrokenOver over
+mute_broken (overs.Ended ending) l w w' m = subst (λ (x : Ending). IsBroken x) (sym m.0) tt
+mute_broken overs.NotWritten l w w' m = tt
 
 -- want of memory for a line is not the peer's end
 pub mute_not : {T : Type 0} (r : Result T Over) (l : LiveReader) (w w' : Option (List ℕ)) → IfErr r (λ over. IsMuted over l w w') → r ≡ Err (overs.Ended endings.PeerEnded) → ⊥
@@ -269,8 +256,8 @@ ending_in (Err overs.NotWritten) = endings.NoMemory
 pub same_ending : (ending : Ending) (r : Result (Unit {0}) Over) → r ≡ Err (overs.Ended ending) → r ≡ Err (overs.Ended endings.PeerEnded) → ending ≡ endings.PeerEnded
 same_ending ending r e f = ap ending_in (sym e ∙ f)
 
-pub turn_still : (k most : ℕ) (ending : Ending) (calls calls' : Option (List Call)) (old new : LiveReader) (w : Option (List ℕ)) → ending ≡ endings.PeerEnded → Makes calls calls' (Breaks k most ending) → new ≡ old → IsStill k most calls calls' old new w w
-turn_still k most ending calls calls' old new w e m s = record { made = subst (λ (x : Ending). Makes calls calls' (Breaks k most x)) e m; same = s; none = refl }
+pub turn_still : (old new : LiveReader) (w : Option (List ℕ)) → new ≡ old → IsStill old new w w
+turn_still old new w s = record { same = s; none = refl }
 
 -- a read that found the end took nothing
 abbrev none_either : Bool → List ℕ
@@ -280,30 +267,55 @@ nothing : (b : Bool) → none_either b ≡ []
 nothing true = refl
 nothing false = refl
 
-still_taken : (k most : ℕ) (calls calls' : Option (List Call)) (t g : List ℕ) (dids : List Did) → Tells k calls t g dids → Makes calls calls' (Breaks k most endings.PeerEnded) → IsTaken k calls' t
+still_taken : (k most : ℕ) (calls calls' : Option (List Call)) (t g : List ℕ) (dids : List Did) → Tells k calls t g dids → Makes calls calls' (Breaks IsAfter IsEmpty k most endings.PeerEnded t g) → IsTaken k calls' t
 still_taken k most calls None t g dids tells m = tt
 still_taken k most None (Some ds) t g dids tells m = absurd m
 still_taken k most (Some cs) (Some ds) t g dids tells m =
     ap (λ (w : List Call). taken k w) (m.2 ∙ ap (λ (w : List Call). cs ++ w) m.1) ∙ taken_append k cs (Read k [] End ∷ [])
     ∙ ap (λ (w : List ℕ). taken k cs ++ (w ++ [])) (nothing (k == k)) ∙ append-nil (taken k cs) ∙ tells.0
 
-pub left_behind : (k most n : ℕ) (calls calls' : Option (List Call)) (c : Conversation) (old new : LiveReader) (written : List ℕ) (w mid w' : Option (List ℕ)) → Appends w mid written → Going (Stands written) k calls n c old → IsQuiet old
-    → IsStill k most calls calls' old new mid w' → IsLeft k calls' w w' new
-left_behind k most n calls calls' c old new written w mid w' a g q s =
+pub left_behind : (k most n : ℕ) (over : Over) (calls calls' : Option (List Call)) (c : Conversation) (old new : LiveReader) (written : List ℕ) (w mid w' : Option (List ℕ)) → EndsWhole over → IsBrokenOver over
+    → Appends w mid written → (g : Going (Stands written) k calls n c old) → IsQuiet old
+    → Makes calls calls' (BreaksOver k most over g.t g.g) → (over ≡ overs.Ended endings.PeerEnded → IsStill old new mid w') → IsLeft k calls' w w' new
+left_behind k most n (overs.Ended endings.PeerEnded) calls calls' c old new written w mid w' whole broken a g q m still =
     let v = g.at_ease.converses in
+    let s = still refl in
     record {
       written = written;
       wrote = subst (λ (x : Option (List ℕ)). Appends w x written) (sym s.none) a;
       quiet = subst (λ (l : LiveReader). IsQuiet l) (sym s.same) q;
       stood = subst (λ (l : LiveReader). Stood k calls' written l) (sym s.same)
-          (record { t = g.t; is_taken = still_taken k most calls calls' g.t g.g g.dids g.tells s.made; messages = v.messages; rest = c.feeder; parted = v.parted; awaits = g.at_ease.awaits; said = v.said; stands = v.end_stands });
+          (record { t = g.t; is_taken = still_taken k most calls calls' g.t g.g g.dids g.tells m; messages = v.messages; rest = c.feeder; parted = v.parted; awaits = g.at_ease.awaits; said = v.said; stands = v.end_stands });
+    }
+left_behind k most n (overs.Ended endings.RoundsDone) calls calls' c old new written w mid w' whole broken a g q m still = absurd broken
+left_behind k most n (overs.Ended endings.HostFailed) calls calls' c old new written w mid w' whole broken a g q m still = absurd whole
+left_behind k most n (overs.Ended endings.NotAuthenticated) calls calls' c old new written w mid w' whole broken a g q m still = absurd whole
+left_behind k most n (overs.Ended (endings.Malformed start fault)) calls calls' c old new written w mid w' whole broken a g q m still = absurd whole
+left_behind k most n (overs.Ended endings.Spent) calls calls' c old new written w mid w' whole broken a g q m still = absurd whole
+left_behind k most n (overs.Ended endings.NoMemory) calls calls' c old new written w mid w' whole broken a g q m still = absurd whole
+left_behind k most n overs.NotWritten calls calls' c old new written w mid w' whole broken a g q m still = absurd whole
+
+-- behind all rounds
+told_taken : (k : ℕ) (calls : Option (List Call)) (t g : List ℕ) (dids : List Did) → Tells k calls t g dids → IsTaken k calls t
+told_taken k None t g dids tells = tt
+told_taken k (Some cs) t g dids tells = tells.0
+
+pub left_at_last : (k n : ℕ) (calls : Option (List Call)) (c : Conversation) (l : LiveReader) (written : List ℕ) (w w' : Option (List ℕ)) → Appends w w' written → Going (Stands written) k calls n c l → IsQuiet l → IsLeft k calls w w' l
+left_at_last k n calls c l written w w' a g q =
+    let v = g.at_ease.converses in
+    record {
+      written = written;
+      wrote = a;
+      quiet = q;
+      stood = record { t = g.t; is_taken = told_taken k calls g.t g.g g.dids g.tells; messages = v.messages; rest = c.feeder; parted = v.parted; awaits = g.at_ease.awaits; said = v.said; stands = v.end_stands };
     }
 
 -- the calls of a run that is over
-pub over_made : (k n rounds : ℕ) (over : Over) (old mid new : Option (List Call)) → n < rounds → n + 1 ≤ rounds → Makes old mid (AreRounds k 4096 n) → Makes mid new (BreaksOver k 4096 over) → Makes old new (RunsOver k over rounds)
-over_made k n rounds (overs.Ended ending) old mid new few least a b = run_broken k 4096 n rounds ending old mid new few a b
-over_made k n rounds overs.NotWritten old mid new few least a b =
-    makes_if old new (AreRounds k 4096 (n + 1)) (RunsOver k overs.NotWritten rounds) (λ calls r. (n + 1, least, r)) (rounds_more k 4096 n old mid new a b)
+pub over_made : (k n rounds : ℕ) (over : Over) (old mid new : Option (List Call)) (t g : List ℕ) (dids : List Did) → n < rounds → n + 1 ≤ rounds → Tells k old [] [] [] → Tells k mid t g dids
+    → Makes old mid (AreRounds (λ _. IsAfter) IsEmpty k 4096 n) → Makes mid new (BreaksOver k 4096 over t g) → Makes old new (RunsOver k over rounds)
+over_made k n rounds (overs.Ended ending) old mid new t g dids few least fresh told a b = run_broken (λ _. IsAfter) IsEmpty k 4096 n rounds ending old mid new t g dids few fresh told a b
+over_made k n rounds overs.NotWritten old mid new t g dids few least fresh told a b =
+    makes_if old new (AreRounds (λ _. IsAfter) IsEmpty k 4096 (n + 1)) (RunsOver k overs.NotWritten rounds) (λ calls r. (n + 1, least, r)) (rounds_more (λ _. IsAfter) IsEmpty k 4096 n old mid new t g dids fresh told a b)
 
 -- what was written of a reader whose peer has ended
 pub left_speaks : (k : ℕ) (calls : Option (List Call)) (w w' : Option (List ℕ)) (l : LiveReader) (left : IsLeft k calls w w' l) → SpeaksUp k calls left.written

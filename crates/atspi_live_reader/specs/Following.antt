@@ -8,13 +8,13 @@ use Rattle.atspi_host.specs.declared.call.Call.{Call}
 use Rattle.atspi_host.specs.Calls.{taken}
 use Rattle.atspi_auth.specs.Talk.{behind, client_start}
 use Rattle.atspi_stream.specs.Stream.{AwaitsMore, IsParted}
-use Rattle.atspi_conversation.specs.Rounds.{AreRounds, Breaks, IsRound, IsRun, Makes}
+use Rattle.atspi_conversation.specs.Rounds.{AreRounds, Breaks, IsRound, IsRun}
 use Rattle.atspi_conversation.specs.Speech.{Ends, Speaks, envelopes}
-use Rattle.atspi_conversation.specs.Talking.{Blames, Going}
+use Rattle.atspi_conversation.specs.Talking.{Blames, Going, IsBroken}
 use Rattle.atspi_conversation.specs.declared.conversation.Conversation.{Conversation}
 use Rattle.atspi_conversation.specs.declared.ending.Ending.{Ending}
 use Rattle.atspi_conversation.specs.declared.ending.Ending.TheVariants as endings
-use Rattle.atspi_live_reader.specs.Spoken.{IsAfter, IsSpent, IsSpoken}
+use Rattle.atspi_live_reader.specs.Spoken.{IsAfter, IsEmpty, IsSpent, IsSpoken}
 use Rattle.atspi_live_reader.specs.Handed.{Follows}
 use Rattle.atspi_live_reader.specs.declared.live_reader.LiveReader.{LiveReader}
 use Rattle.atspi_live_reader.specs.declared.over.Over.{Over}
@@ -81,28 +81,38 @@ pub record Stood (k : ℕ) (calls : Option (List Call)) (written : List ℕ) (l 
   pub said : List Envelope
   pub stands : Stands written l (envelopes messages) said
 
--- the peer ended: the reader is as it was behind the last round, and all that it was told to write till then was written
+-- a run that was over in a turn was not so because all rounds were done
+abbrev pub IsBrokenOver : Over → Type 0
+IsBrokenOver (overs.Ended ending) = IsBroken ending
+IsBrokenOver overs.NotWritten = ⊤
+
+-- the run was over behind whole rounds: the peer ended, or all rounds were done
+abbrev pub EndsWhole : Over → Type 0
+EndsWhole (overs.Ended endings.PeerEnded) = ⊤
+EndsWhole (overs.Ended endings.RoundsDone) = ⊤
+EndsWhole over = ⊥
+
+-- then the reader is as it was behind the last round, and all that it was told to write till then was written
 pub record IsLeft (k : ℕ) (calls : Option (List Call)) (w w' : Option (List ℕ)) (l : LiveReader) : Type 0 where
   pub written : List ℕ
   pub wrote : Appends w w' written
   pub quiet : IsQuiet l
   pub stood : Stood k calls written l
 
--- a turn in which the peer ended: nothing was taken, done or written
-pub record IsStill (k most : ℕ) (calls calls' : Option (List Call)) (old new : LiveReader) (w w' : Option (List ℕ)) : Type 0 where
-  pub made : Makes calls calls' (Breaks k most endings.PeerEnded)
+-- a turn in which the peer ended: nothing was done or written
+pub record IsStill (old new : LiveReader) (w w' : Option (List ℕ)) : Type 0 where
   pub same : new ≡ old
   pub none : w' ≡ w
 
--- the calls of a turn that ended the run
-abbrev pub BreaksOver : ℕ → ℕ → Over → List Call → Type 0
-BreaksOver k most (overs.Ended ending) calls = Breaks k most ending calls
-BreaksOver k most overs.NotWritten calls = IsRound k most calls
+-- the calls of a turn that ended the run, before which these bytes were taken and those given
+abbrev pub BreaksOver : ℕ → ℕ → Over → List ℕ → List ℕ → List Call → Type 0
+BreaksOver k most (overs.Ended ending) t g calls = Breaks IsAfter IsEmpty k most ending t g calls
+BreaksOver k most overs.NotWritten t g calls = IsRound IsAfter IsEmpty k most t g calls
 
 -- the calls of a run that is over so: whole rounds, and the one in which it ended; where the sink failed, whole rounds alone
 abbrev pub RunsOver : ℕ → Over → ℕ → List Call → Type 0
-RunsOver k (overs.Ended ending) rounds calls = IsRun k 4096 ending rounds calls
-RunsOver k overs.NotWritten rounds calls = (whole : ℕ) × (whole ≤ rounds) × AreRounds k 4096 whole calls
+RunsOver k (overs.Ended ending) rounds calls = IsRun (λ _. IsAfter) IsEmpty k 4096 ending rounds calls
+RunsOver k overs.NotWritten rounds calls = (whole : ℕ) × (whole ≤ rounds) × AreRounds (λ _. IsAfter) IsEmpty k 4096 whole calls
 
 -- the counts of the host and of the sink: each rose where it failed, and else is the same
 abbrev pub OverBlames : Over → ℕ → ℕ → Type 0

@@ -12,7 +12,7 @@ use Rattle.atspi_conversation.specs.Speech.{Speaks, Ends, envelopes}
 use Rattle.atspi_conversation.specs.declared.ending.Ending.{Ending}
 use Rattle.atspi_conversation.specs.declared.ending.Ending.TheVariants as endings
 use Rattle.atspi_live_registry.specs.Runs.{IsOnLink, Reports}
-use Rattle.atspi_live_reader.specs.Spoken.{IsAfter, IsSpent, following, spoken_in}
+use Rattle.atspi_live_reader.specs.Spoken.{IsAfter, IsAllSpoken, IsEmpty, IsSpent, following, spoken_in}
 use Rattle.atspi_live_reader.specs.Shows.{shown_in}
 use Rattle.atspi_live_reader.specs.Following.{SpeaksUp}
 
@@ -34,30 +34,36 @@ abbrev pub TellsAll : ℕ → Option (List Call) → List ℕ → Type 0
 TellsAll k None w = ⊤
 TellsAll k (Some cs) w = IsAll (taken k cs) w
 
--- the last words were written: status 0; or a front of them, where the sink failed or memory was wanting
-abbrev pub WritesLast : List ℕ → ℕ → Option (List ℕ) → Option (List ℕ) → Type 0
-WritesLast words status w w' = ((status ≡ 0) × Appends w w' words) ⊎ (((status ≡ 4) ⊎ (status ≡ 5)) × AppendsPart w w' words)
+-- the last words were written, with this status; or a front of them, where the sink failed or memory was wanting
+abbrev pub WritesLast : ℕ → List ℕ → ℕ → Option (List ℕ) → Option (List ℕ) → Type 0
+WritesLast meant words status w w' = ((status ≡ meant) × Appends w w' words) ⊎ (((status ≡ 4) ⊎ (status ≡ 5)) × AppendsPart w w' words)
 
--- the status that tells how a run ended, and what is written then: the last words where the peer ended
+-- the status that tells how a run ended, and what is written then: the last words where the peer ended or all rounds were done
 abbrev pub ReportsLast : List ℕ → Ending → ℕ → Option (List ℕ) → Option (List ℕ) → Type 0
-ReportsLast words endings.PeerEnded status w w' = WritesLast words status w w'
-ReportsLast words endings.RoundsDone status w w' = Reports endings.RoundsDone status w w'
+ReportsLast words endings.PeerEnded status w w' = WritesLast 0 words status w w'
+ReportsLast words endings.RoundsDone status w w' = WritesLast 8 words status w w'
 ReportsLast words endings.HostFailed status w w' = Reports endings.HostFailed status w w'
 ReportsLast words endings.NotAuthenticated status w w' = Reports endings.NotAuthenticated status w w'
 ReportsLast words (endings.Malformed start fault) status w w' = Reports (endings.Malformed start fault) status w w'
 ReportsLast words endings.Spent status w w' = Reports endings.Spent status w w'
 ReportsLast words endings.NoMemory status w w' = Reports endings.NoMemory status w w'
 
--- where the peer ended, the last words are what is left behind the lines that were written before of all that is written
+-- where all rounds were done: all that is spoken for what was taken, where the host tells it
+abbrev pub SpeaksAll : ℕ → Option (List Call) → List ℕ → Type 0
+SpeaksAll k None w = ⊤
+SpeaksAll k (Some cs) w = IsAllSpoken (taken k cs) w
+
+-- with the last words behind the lines that were written before, all is written: what is spoken, and where the peer ended then what is held
 abbrev pub AreLast : ℕ → Option (List Call) → List ℕ → List ℕ → Ending → Type 0
 AreLast k calls spoken words endings.PeerEnded = TellsAll k calls (spoken ++ words)
+AreLast k calls spoken words endings.RoundsDone = SpeaksAll k calls (spoken ++ words)
 AreLast k calls spoken words ending = ⊤
 
 -- a run ended so: its calls are rounds, and its status and what is written behind the spoken lines tell it
 pub record EndsSo (path : List ℕ) (k status rounds : ℕ) (spoken : List ℕ) (calls : Option (List Call)) (w w' : Option (List ℕ)) : Type 0 where
   pub ending : Ending
   pub ends : Ends IsAfter IsSpent k ending rounds calls
-  pub run : IsOnLink path k calls (IsRun k 4096 ending rounds)
+  pub run : IsOnLink path k calls (IsRun (λ _. IsAfter) IsEmpty k 4096 ending rounds)
   pub words : List ℕ
   pub last : AreLast k calls spoken words ending
   pub reports : ReportsLast words ending status w w'
@@ -66,7 +72,7 @@ pub record EndsSo (path : List ℕ) (k status rounds : ℕ) (spoken : List ℕ) 
 pub record IsCutOff (path : List ℕ) (k status rounds : ℕ) (calls : Option (List Call)) (w w' : Option (List ℕ)) : Type 0 where
   pub status_is : status ≡ 4
   pub none : w' ≡ w
-  pub run : IsOnLink path k calls (λ calls. (whole : ℕ) × (whole ≤ rounds) × AreRounds k 4096 whole calls)
+  pub run : IsOnLink path k calls (λ calls. (whole : ℕ) × (whole ≤ rounds) × AreRounds (λ _. IsAfter) IsEmpty k 4096 whole calls)
 
 -- spoken lines were written, and then the run ended so; or the sink failed
 pub record EndsOn (path : List ℕ) (k status rounds : ℕ) (calls : Option (List Call)) (w w' : Option (List ℕ)) : Type 0 where

@@ -8,6 +8,8 @@ use Rattle.atspi_events.specs.declared.shown.ShownRow.{ShownRow}
 use Rattle.atspi_play.specs.Playing.{view_rows}
 use Rattle.atspi_protocol.specs.following.ReaderState.{ReaderState}
 use Rattle.atspi_protocol.specs.following.Takes.{held_names, held_view}
+use Rattle.atspi_conversation.specs.declared.ending.Ending.{Ending}
+use Rattle.atspi_conversation.specs.declared.ending.Ending.TheVariants as endings
 use Rattle.atspi_live_reader.specs.Spoken.{spoken_in}
 
 -- how many rows these are, and a line of each, as a trace has them
@@ -30,6 +32,9 @@ shown_of s name = show_if name (view_rows (held_view s name))
 abbrev pub shown_in : ReaderState → List ℕ
 shown_in s = flat_map (shown_of s) (held_names s)
 
--- what is left to be written of a reader whose peer has ended: the lines of what it spoke and did not hand out, and then what it holds
-abbrev pub last_words : ReaderState → List ℕ
-last_words s = spoken_in s.out ++ shown_in s
+-- what is left to be written of a reader behind its rounds: the lines of what it spoke and did not hand out, and where the peer has ended then
+-- what it holds
+abbrev pub last_words : Ending → ReaderState → List ℕ
+last_words endings.PeerEnded s = spoken_in s.out ++ shown_in s
+last_words endings.RoundsDone s = spoken_in s.out
+last_words ending s = []

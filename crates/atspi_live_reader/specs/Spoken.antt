@@ -3,7 +3,7 @@ use Rattle.std.specs.Prelude.{◌≡◌, ◌<◌, ℕ, List, [], ◌∷◌, ◌+
 use Rattle.atspi_auth.specs.Talk.{behind, client_start}
 use Rattle.atspi_base.specs.Quoted.{quoted}
 use Rattle.atspi_message.specs.Envelope.{Envelope}
-use Rattle.atspi_stream.specs.Stream.{IsParted}
+use Rattle.atspi_stream.specs.Stream.{AwaitsMore, IsParted}
 use Rattle.atspi_protocol.specs.following.ReaderState.{Done, sends, speaks, tells_end, ReaderState, begins}
 use Rattle.atspi_protocol.specs.following.Takes.{starts, reader_takes}
 use Rattle.atspi_conversation.specs.Speech.{envelopes}
@@ -35,6 +35,10 @@ pub record IsAfter (r : ReaderState) (took said : List Envelope) : Type 0 where
   pub whole : record r { out = done ++ r.out } ≡ following took
   pub sent : sent_in done ≡ said
 
+-- it has nothing left to hand out
+abbrev pub IsEmpty : ReaderState → Type 0
+IsEmpty r = r.out ≡ []
+
 -- the message that it asks for behind one more would pass number 4,294,967,295
 abbrev pub IsSpent : ReaderState → Envelope → Type 0
 IsSpent r e = 4294967296 < (reader_takes r e).next
@@ -49,3 +53,11 @@ pub record IsSpoken (t w : List ℕ) : Type 0 where
   pub all : done ++ more ≡ (following (envelopes messages)).out
   pub left : List ℕ
   pub front : w ++ left ≡ spoken_in done
+
+-- What is written is all lines of what a reader did that took the whole messages of the bytes taken: behind them more is awaited.
+pub record IsAllSpoken (t w : List ℕ) : Type 0 where
+  pub messages : List (Envelope × List ℕ)
+  pub rest : List ℕ
+  pub parted : IsParted (behind client_start t) messages rest
+  pub awaits : AwaitsMore rest
+  pub all : w ≡ spoken_in (following (envelopes messages)).out

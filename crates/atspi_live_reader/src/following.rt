@@ -6,8 +6,9 @@ ghost use Rattle.atspi_host.specs.Calls.{IsOpen};
 ghost use Rattle.atspi_conversation.specs.Moved.{Tells};
 ghost use Rattle.atspi_conversation.specs.Rounds.{IsRound, Makes};
 ghost use Rattle.atspi_conversation.specs.declared.ending.Ending.{Ending};
-ghost use Rattle.atspi_conversation.specs.Talking.{Going, MaySpeak, heard_in};
-ghost use Rattle.atspi_live_reader.specs.Following.{BlamesSink, BreaksOver, GoesOn, IsLeft, IsMuted, IsOver, IsQuiet, IsStill, OverBlames, RunsOver, SpeaksOn, Stands};
+ghost use Rattle.atspi_conversation.specs.Talking.{Going, MakesNext, MaySpeak, heard_in};
+ghost use Rattle.atspi_live_reader.specs.Following.{BlamesSink, BreaksOver, EndsWhole, GoesOn, IsBrokenOver, IsLeft, IsMuted, IsOver, IsQuiet, IsStill, OverBlames, RunsOver, SpeaksOn, Stands};
+ghost use Rattle.atspi_live_reader.specs.Spoken.{IsAfter, IsEmpty};
 ghost use Rattle.atspi_live_reader.specs.declared.over.Over.{Over};
 
 use crate::live_reader::LiveReader;
@@ -53,8 +54,10 @@ fn turn<K: Sink, H: Host>(
     ensures ok { OnOk result (GoesOn link (H.calls host.old) (H.calls host.new) conversation.old conversation.new end.old end.new (K.written sink.old) (K.written sink.new)) }
     ensures err { IfErr result (λ over. (said : List ℕ) (n rounds : ℕ) → Going (Stands said) link (H.calls host.old) n conversation.old end.old
         → IsOver link over rounds said (H.calls host.new) (K.written sink.old) (K.written sink.new)) }
-    ensures made { MatchResult result (λ _. Makes (H.calls host.old) (H.calls host.new) (IsRound link (length piece.old))) (λ over. Makes (H.calls host.old) (H.calls host.new) (BreaksOver link (length piece.old) over)) }
-    ensures still { result ≡ Err (Over.Ended Ending.PeerEnded) → IsStill link (length piece.old) (H.calls host.old) (H.calls host.new) end.old end.new (K.written sink.old) (K.written sink.new) }
+    ensures made { MatchResult result (λ _. (said : List ℕ) → MakesNext (Stands said) link (H.calls host.old) (H.calls host.new) conversation.old end.old (IsRound IsAfter IsEmpty link (length piece.old)))
+        (λ over. (said : List ℕ) → MakesNext (Stands said) link (H.calls host.old) (H.calls host.new) conversation.old end.old (BreaksOver link (length piece.old) over)) }
+    ensures broken { IfErr result IsBrokenOver }
+    ensures still { result ≡ Err (Over.Ended Ending.PeerEnded) → IsStill end.old end.new (K.written sink.old) (K.written sink.new) }
     ensures may { OnOk result (MaySpeak Stands end.new) }
     ensures quiet { OnOk result (IsQuiet end.new) }
     ensures few { OnOk result (heard_in conversation.new ≤ heard_in conversation.old + length piece.old) }
@@ -84,7 +87,7 @@ pub(crate) fn follow<K: Sink, H: Host>(
     requires quiet { IsQuiet end.old }
     ensures over { IsOver link result rounds [] (H.calls host.new) (K.written sink.old) (K.written sink.new) }
     ensures rounds { Makes (H.calls host.old) (H.calls host.new) (RunsOver link result rounds) }
-    ensures left { result ≡ Over.Ended Ending.PeerEnded → IsLeft link (H.calls host.new) (K.written sink.old) (K.written sink.new) end.new }
+    ensures left { EndsWhole result → IsLeft link (H.calls host.new) (K.written sink.old) (K.written sink.new) end.new }
     ensures links { H.links host.new ≡ H.links host.old }
     ensures cause { OverBlames result (H.link_faults host.old) (H.link_faults host.new) }
     ensures other { H.faults host.new ≡ H.faults host.old }

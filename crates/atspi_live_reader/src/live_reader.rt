@@ -6,7 +6,8 @@ ghost use Rattle.atspi_protocol.specs.following.ReaderState.{begins};
 ghost use Rattle.atspi_protocol.specs.following.Takes.{starts};
 ghost use Rattle.atspi_live_reader.specs.Spoken as spoken;
 ghost use Rattle.atspi_live_reader.specs.Handed.{Follows};
-ghost use Rattle.atspi_live_reader.specs.Shows.{last_words};
+ghost use Rattle.atspi_conversation.specs.declared.ending.Ending.{Ending};
+ghost use Rattle.atspi_live_reader.specs.Shows.{last_words, shown_in};
 
 use crate::showing::put_views;
 use crate::speaking::{next_message, take_rest};
@@ -49,19 +50,32 @@ pub(crate) fn start(alloc: Global) -> Result<LiveReader, NoMemory>
 }
 
 impl LiveReader {
-    /// Where no line is to be written: keeps what is left to be written at the end, the lines of what was spoken last and then what is held of each
-    /// application.
-    pub(crate) fn conclude(&mut self, alloc: Global) -> Result<(), NoMemory>
+    /// Where no line is to be written: keeps the lines of what was spoken last.
+    pub(crate) fn fall_silent(&mut self) -> Result<(), NoMemory>
         requires is { IsReader self.old.reader }
         requires fed { self.old.starved ≡ false }
         requires none { self.old.lines ≡ [] }
-        ensures { OnOk result (self.new.lines ≡ last_words (reader_of self.old.reader)) }
+        ensures lines { OnOk result (self.new.lines ≡ last_words Ending.RoundsDone (reader_of self.old.reader)) }
+        ensures shown { OnOk result (shown_in (reader_of self.new.reader) ≡ shown_in (reader_of self.old.reader)) }
     {
         take_rest(&mut self.reader, &mut self.lines, &mut self.starved);
         if self.starved {
             return Err(NoMemory);
         }
-        put_views(alloc, &self.reader, &mut self.lines)
+        Ok(())
+    }
+
+    /// The same, and then what is held of each application.
+    pub(crate) fn conclude(&mut self, alloc: Global) -> Result<(), NoMemory>
+        requires is { IsReader self.old.reader }
+        requires fed { self.old.starved ≡ false }
+        requires none { self.old.lines ≡ [] }
+        ensures { OnOk result (self.new.lines ≡ last_words Ending.PeerEnded (reader_of self.old.reader)) }
+    {
+        match self.fall_silent() {
+            Ok(()) => put_views(alloc, &self.reader, &mut self.lines),
+            Err(fault) => Err(fault),
+        }
     }
 }
 

@@ -7,7 +7,8 @@ use Rattle.atspi_conversation.specs.Rounds.{AreRounds, IsRound, Makes}
 use Rattle.atspi_conversation.proofs.RoundLemmas.{makes_none, rounds_more, run_done}
 use Rattle.atspi_conversation.proofs.StepLemmas.{at_first, may_begin}
 use Rattle.atspi_live_reader.specs.Following.{BlamesSink, BreaksOver, OverBlames, Stands}
-use Rattle.atspi_live_reader.proofs.Turning.{all_turned, left_behind, over_later, over_made}
+use Rattle.atspi_live_reader.proofs.Turning.{all_turned, left_at_last, left_behind, over_later, over_made}
+use Rattle.atspi_live_reader.specs.Spoken.{IsAfter, IsEmpty}
 use Rattle.atspi_live_reader.proofs.following.follow.Goals as goal
 
 pub rounds-init : goal.rounds-init
@@ -18,7 +19,7 @@ rounds-init g c = record {
     at_first (Stands []) c.args.link (g.H.Host.calls c.args.host.now) c.new-conversation.result c.args.end.now c.requires.fresh
         c.new-conversation.ensures.client c.new-conversation.ensures.feeder c.new-conversation.ensures.unsent c.new-conversation.ensures.heard c.requires.begins,
   );
-  made = makes_none (g.H.Host.calls c.args.host.now) (AreRounds c.args.link 4096 0) refl;
+  made = makes_none (g.H.Host.calls c.args.host.now) (AreRounds (λ _. IsAfter) IsEmpty c.args.link 4096 0) refl;
   may = may_begin Stands [] c.args.end.now c.requires.begins;
   quiet = c.requires.quiet;
   few = omega (arith, c.new-conversation.ensures.heard);
@@ -43,8 +44,8 @@ rounds-preserved g c =
         appends_both (g.K.Sink.written c.args.sink.now) (g.K.Sink.written c.rounds.sink) (g.K.Sink.written c.turn.new.sink) o.0 n.line o.1 n.wrote,
         n.goes o.0 c.rounds.done o.2,
       );
-      made = rounds_more c.args.link 4096 c.rounds.done (g.H.Host.calls c.args.host.now) (g.H.Host.calls c.rounds.host) (g.H.Host.calls c.turn.new.host) c.rounds.invariant.made
-          (subst (λ (x : ℕ). Makes (g.H.Host.calls c.rounds.host) (g.H.Host.calls c.turn.new.host) (IsRound c.args.link x)) c.rounds.invariant.piece c.in-Ok.ensures.made);
+      made = rounds_more (λ _. IsAfter) IsEmpty c.args.link 4096 c.rounds.done (g.H.Host.calls c.args.host.now) (g.H.Host.calls c.rounds.host) (g.H.Host.calls c.turn.new.host) o.2.t o.2.g o.2.dids c.requires.fresh o.2.tells c.rounds.invariant.made
+          (subst (λ (x : ℕ). Makes (g.H.Host.calls c.rounds.host) (g.H.Host.calls c.turn.new.host) (IsRound IsAfter IsEmpty c.args.link x o.2.t o.2.g)) c.rounds.invariant.piece (c.in-Ok.ensures.made o.0 c.rounds.done o.2));
       may = c.in-Ok.ensures.may;
       quiet = c.in-Ok.ensures.quiet;
       few = omega (arith, c.in-Ok.ensures.few, c.rounds.invariant.few, c.rounds.invariant.piece);
@@ -76,17 +77,21 @@ returns-clause-over g c =
 
 pub returns-in-Err-clause-rounds : goal.returns-in-Err-clause-rounds
 returns-in-Err-clause-rounds g c =
-    over_made c.args.link c.rounds.done c.args.rounds c.in-Err.over (g.H.Host.calls c.args.host.now) (g.H.Host.calls c.rounds.host) (g.H.Host.calls c.turn.new.host) (omega arith) (omega arith) c.rounds.invariant.made
-    (subst (λ (x : ℕ). Makes (g.H.Host.calls c.rounds.host) (g.H.Host.calls c.turn.new.host) (BreaksOver c.args.link x c.in-Err.over)) c.rounds.invariant.piece c.in-Err.ensures.made)
+    let o = c.rounds.invariant.goes in
+    over_made c.args.link c.rounds.done c.args.rounds c.in-Err.over (g.H.Host.calls c.args.host.now) (g.H.Host.calls c.rounds.host) (g.H.Host.calls c.turn.new.host) o.2.t o.2.g o.2.dids (omega arith) (omega arith) c.requires.fresh o.2.tells c.rounds.invariant.made
+    (subst (λ (x : ℕ). Makes (g.H.Host.calls c.rounds.host) (g.H.Host.calls c.turn.new.host) (BreaksOver c.args.link x c.in-Err.over o.2.t o.2.g)) c.rounds.invariant.piece (c.in-Err.ensures.made o.0 c.rounds.done o.2))
 
 pub returns-in-Err-clause-left : goal.returns-in-Err-clause-left
 returns-in-Err-clause-left g c e =
     let o = c.rounds.invariant.goes in
-    left_behind c.args.link (length c.rounds.piece) c.rounds.done (g.H.Host.calls c.rounds.host) (g.H.Host.calls c.turn.new.host) c.rounds.conversation c.rounds.end c.turn.new.end o.0
-    (g.K.Sink.written c.args.sink.now) (g.K.Sink.written c.rounds.sink) (g.K.Sink.written c.turn.new.sink) o.1 o.2 c.rounds.invariant.quiet (c.in-Err.ensures.still (ap Err e))
+    left_behind c.args.link (length c.rounds.piece) c.rounds.done c.in-Err.over (g.H.Host.calls c.rounds.host) (g.H.Host.calls c.turn.new.host) c.rounds.conversation c.rounds.end c.turn.new.end o.0
+    (g.K.Sink.written c.args.sink.now) (g.K.Sink.written c.rounds.sink) (g.K.Sink.written c.turn.new.sink) e c.in-Err.ensures.broken o.1 o.2 c.rounds.invariant.quiet (c.in-Err.ensures.made o.0 c.rounds.done o.2)
+    (λ p. c.in-Err.ensures.still (ap Err p))
 
 pub returns-clause-rounds : goal.returns-clause-rounds
-returns-clause-rounds g c = run_done c.args.link 4096 c.rounds.done c.args.rounds (g.H.Host.calls c.args.host.now) (g.H.Host.calls c.rounds.host) (omega arith) c.rounds.invariant.made
+returns-clause-rounds g c = run_done (λ _. IsAfter) IsEmpty c.args.link 4096 c.rounds.done c.args.rounds (g.H.Host.calls c.args.host.now) (g.H.Host.calls c.rounds.host) (omega arith) c.rounds.invariant.made
 
 pub returns-clause-left : goal.returns-clause-left
-returns-clause-left g c e = absurd cc
+returns-clause-left g c e =
+    let o = c.rounds.invariant.goes in
+    left_at_last c.args.link c.rounds.done (g.H.Host.calls c.rounds.host) c.rounds.conversation c.rounds.end o.0 (g.K.Sink.written c.args.sink.now) (g.K.Sink.written c.rounds.sink) o.1 o.2 c.rounds.invariant.quiet

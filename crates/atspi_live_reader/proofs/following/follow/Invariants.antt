@@ -3,13 +3,14 @@ use Rattle.std.specs.Io.KnownBytes.{Appends}
 use Rattle.atspi_conversation.specs.Rounds.{AreRounds, Makes}
 use Rattle.atspi_conversation.specs.Talking.{Going, MaySpeak, heard_in}
 use Rattle.atspi_live_reader.specs.Following.{IsQuiet, Stands}
+use Rattle.atspi_live_reader.specs.Spoken.{IsAfter, IsEmpty}
 use Rattle.atspi_live_reader.proofs.following.follow.Given as goal
 
 abbrev pub invariant-rounds : goal.invariant-rounds
 invariant-rounds g l =
     record {
       goes : (written : List ℕ) × Appends (g.K.Sink.written l.fn.sink) (g.K.Sink.written l.sink) written × Going (Stands written) l.link (g.H.Host.calls l.host) l.done l.conversation l.end;
-      made : Makes (g.H.Host.calls l.fn.host) (g.H.Host.calls l.host) (AreRounds l.link 4096 l.done);
+      made : Makes (g.H.Host.calls l.fn.host) (g.H.Host.calls l.host) (AreRounds (λ _. IsAfter) IsEmpty l.link 4096 l.done);
       may : MaySpeak Stands l.end;
       quiet : IsQuiet l.end;
       few : heard_in l.conversation ≤ 4096 * l.done;

@@ -1,7 +1,7 @@
 use Rattle.std.proofs.Common.{length, refl, ap}
 use Rattle.std.specs.Prelude.{Err}
 use Rattle.atspi_conversation.proofs.StepLemmas.{if_err, on_ok}
-use Rattle.atspi_live_reader.proofs.Turning.{if_match, may_wrote, mute_blames, mute_made, mute_not, same_ending, turn_ended, turn_muted, turn_still, turned}
+use Rattle.atspi_live_reader.proofs.Turning.{breaks_of, if_match, may_wrote, mute_blames, mute_broken, mute_made, mute_not, round_of, same_ending, turn_ended, turn_muted, turn_still, turned}
 use Rattle.atspi_live_reader.proofs.following.turn.Goals as goal
 
 pub returns-in-Err-clause-err : goal.returns-in-Err-clause-err
@@ -38,14 +38,25 @@ returns-clause-cause g c =
 
 pub returns-in-Err-clause-still : goal.returns-in-Err-clause-still
 returns-in-Err-clause-still g c e =
-    turn_still c.args.link (length c.args.piece.now) c.in-Err.ending (g.H.Host.calls c.args.host.now) (g.H.Host.calls c.round.new.host) c.args.end.now c.round.new.end (g.K.Sink.written c.args.sink.now)
-    (same_ending c.in-Err.ending _ refl e) c.in-Err.ensures.made (c.in-Err.ensures.still (ap Err (same_ending c.in-Err.ending _ refl e)))
+    turn_still c.args.end.now c.round.new.end (g.K.Sink.written c.args.sink.now) (c.in-Err.ensures.still (ap Err (same_ending c.in-Err.ending _ refl e)))
+
+pub returns-in-Err-clause-made : goal.returns-in-Err-clause-made
+returns-in-Err-clause-made g c written n going =
+    breaks_of written c.args.link (length c.args.piece.now) c.in-Err.ending going.t going.g (g.H.Host.calls c.args.host.now) (g.H.Host.calls c.round.new.host) (c.in-Err.ensures.made written n going)
 
 pub returns-clause-made : goal.returns-clause-made
 returns-clause-made g c =
-    if_match c.speak.result _ _ _ (λ x. c.in_default.ensures.made)
-    (λ over m. mute_made c.args.link (length c.args.piece.now) over c.round.new.end (g.K.Sink.written c.args.sink.now) (g.K.Sink.written c.speak.new.sink) (g.H.Host.calls c.args.host.now) (g.H.Host.calls c.round.new.host) c.in_default.ensures.made m)
+    if_match c.speak.result _ _ _
+    (λ x written n going. round_of written c.args.link (length c.args.piece.now) going.t going.g (g.H.Host.calls c.args.host.now) (g.H.Host.calls c.round.new.host) (c.in_default.ensures.made written n going))
+    (λ over m written n going. mute_made c.args.link (length c.args.piece.now) over c.round.new.end (g.K.Sink.written c.args.sink.now) (g.K.Sink.written c.speak.new.sink) going.t going.g (g.H.Host.calls c.args.host.now) (g.H.Host.calls c.round.new.host)
+    (round_of written c.args.link (length c.args.piece.now) going.t going.g (g.H.Host.calls c.args.host.now) (g.H.Host.calls c.round.new.host) (c.in_default.ensures.made written n going)) m)
     c.speak.ensures.err
+
+pub returns-in-Err-clause-broken : goal.returns-in-Err-clause-broken
+returns-in-Err-clause-broken g c = c.in-Err.ensures.broken
+
+pub returns-clause-broken : goal.returns-clause-broken
+returns-clause-broken g c = if_err c.speak.result _ _ (λ over m. mute_broken over c.round.new.end (g.K.Sink.written c.args.sink.now) (g.K.Sink.written c.speak.new.sink) m) c.speak.ensures.err
 
 pub returns-clause-still : goal.returns-clause-still
 returns-clause-still g c e = absurd (mute_not c.speak.result c.round.new.end (g.K.Sink.written c.args.sink.now) (g.K.Sink.written c.speak.new.sink) c.speak.ensures.err e)

@@ -53,14 +53,14 @@ returns-in-Ended-clause-speech g c =
 
 pub tell-requires : goal.tell-requires
 tell-requires g c e =
-    may_tell c.in-Done.link (g.H.Host.calls c.follow.new.host) (g.K.Sink.written c.args.sink.now) (g.K.Sink.written c.follow.new.sink) c.follow.new.end (c.in-Ended.ensures.left (ap Ended e))
+    may_tell c.in-Done.link (g.H.Host.calls c.follow.new.host) (g.K.Sink.written c.args.sink.now) (g.K.Sink.written c.follow.new.sink) c.follow.new.end (c.in-Ended.ensures.left e)
 
 pub returns-in-Ended-clause-ends : goal.returns-in-Ended-clause-ends
 returns-in-Ended-clause-ends g c =
     ended c.args.path.now (g.H.Host.links c.follow.new.host) c.in-Done.link c.tell.result c.args.rounds c.in-Ended.ending (g.H.Host.calls c.follow.new.host) c.follow.new.end
     (g.K.Sink.written c.args.sink.now) (g.K.Sink.written c.follow.new.sink) (g.K.Sink.written c.tell.new.sink)
     (c.follow.ensures.links ∙ connected (g.H.Host.links c.args.host.now) (g.H.Host.links c.connect.new.self) c.in-Done.link c.requires.links c.in-Done.ensures.links)
-    (λ e. c.in-Ended.ensures.left (ap Ended e)) c.in-Ended.ensures.over
+    c.in-Ended.ensures.left c.in-Ended.ensures.over
     (on_link c.args.path.now c.in-Done.link (g.H.Host.calls c.args.host.now) (g.H.Host.calls c.connect.new.self) (g.H.Host.calls c.follow.new.host) (RunsOver c.in-Done.link (Ended c.in-Ended.ending) c.args.rounds)
     c.requires.calls c.in-Done.ensures.calls c.in-Ended.ensures.rounds)
     c.tell.ensures.reports
@@ -69,7 +69,7 @@ pub returns-in-Ended-clause-causes : goal.returns-in-Ended-clause-causes
 returns-in-Ended-clause-causes g c =
     subst_causes c.tell.result (g.H.Host.faults c.args.host.now) (g.H.Host.faults c.follow.new.host) (g.H.Host.link_faults c.args.host.now) (g.H.Host.link_faults c.follow.new.host)
     (g.K.Sink.faults c.args.sink.now) (g.K.Sink.faults c.follow.new.sink) (g.K.Sink.faults c.tell.new.sink) c.in-Ended.ensures.sink
-    (last_causes (last_words (reader_of c.follow.new.end.reader)) c.in-Ended.ending c.tell.result (g.H.Host.faults c.args.host.now) (g.H.Host.faults c.follow.new.host) (g.H.Host.link_faults c.args.host.now) (g.H.Host.link_faults c.follow.new.host)
+    (last_causes (last_words c.in-Ended.ending (reader_of c.follow.new.end.reader)) c.in-Ended.ending c.tell.result (g.H.Host.faults c.args.host.now) (g.H.Host.faults c.follow.new.host) (g.H.Host.link_faults c.args.host.now) (g.H.Host.link_faults c.follow.new.host)
     (g.K.Sink.faults c.follow.new.sink) (g.K.Sink.faults c.tell.new.sink) (g.K.Sink.written c.follow.new.sink) (g.K.Sink.written c.tell.new.sink)
     (c.follow.ensures.other ∙ c.in-Done.ensures.cause)
     (subst (λ (n : ℕ). OverBlames (Ended c.in-Ended.ending) n (g.H.Host.link_faults c.follow.new.host)) c.connect.ensures.other c.in-Ended.ensures.cause)

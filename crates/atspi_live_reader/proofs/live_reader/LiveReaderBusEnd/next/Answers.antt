@@ -1,6 +1,6 @@
 use Rattle.atspi_message.specs.Envelope.{envelope_of}
 use Rattle.atspi_reader.specs.ReaderOf.{reader_of}
-use Rattle.atspi_live_reader.proofs.Handing.{next_hands_out, next_may_send, next_rests}
+use Rattle.atspi_live_reader.proofs.Handing.{next_empty, next_hands_out, next_may_send, next_rests}
 use Rattle.atspi_live_reader.proofs.live_reader.LiveReaderBusEnd.next.Goals as goal
 
 pub returns-clause-some : goal.returns-clause-some
@@ -14,3 +14,6 @@ returns-clause-none c = next_rests envelope_of c.next_message.result (reader_of 
 
 pub next_message-requires : goal.next_message-requires
 next_message-requires c = c.requires.stands.is
+
+pub returns-clause-empty : goal.returns-clause-empty
+returns-clause-empty c = next_empty c.next_message.result (reader_of c.next_message.new.reader).out c.next_message.ensures.all
