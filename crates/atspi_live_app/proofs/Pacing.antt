@@ -1,13 +1,17 @@
 -- The lines of an input and the rounds that they take, one behind the other.
 use Rattle.std.proofs.Common.{◌≡◌, ◌<◌, ◌≤◌, ℕ, ◌+◌, ◌-◌, List, [], ◌∷◌, ◌++◌, map, Option, refl, sym, ap, subst, ◌∙◌, inl, inr, append-nil, arith}
 use Rattle.std.specs.Prelude.{◌⊎◌, Ok}
+use Rattle.atspi_host.specs.declared.call.Did.{Did}
 use Rattle.atspi_host.specs.declared.call.Call.{Call}
+use Rattle.atspi_host.specs.Calls.{taken, given}
+use Rattle.atspi_conversation.specs.Moved.{Tells}
 use Rattle.atspi_conversation.specs.Rounds.{AreRounds, Breaks, EndsBehind, IsRound, IsRun, Makes}
 use Rattle.atspi_conversation.specs.declared.ending.Ending.{Ending}
 use Rattle.atspi_conversation.specs.declared.ending.Ending.TheVariants as endings
-use Rattle.atspi_conversation.proofs.RoundLemmas.{makes_both, makes_if, run_done}
+use Rattle.atspi_conversation.proofs.RoundLemmas.{makes_both, makes_if, makes_next}
 use Rattle.atspi_live_app.specs.Input.{Passes, left_in}
 use Rattle.atspi_live_app.specs.Lines.{lines_of}
+use Rattle.atspi_live_app.specs.Standing.{IsAfter, IsEmpty}
 use Rattle.atspi_live_app.specs.Pace.{AllTake, BreaksOver, EndsTurn, GoesOn, IsPaced, Proceeds, RunsPaced, Starts, StopsAt, Takes, begun_by, rounds_of, total}
 use Rattle.atspi_live_app.specs.declared.asking.Ask.{Ask}
 use Rattle.atspi_live_app.specs.declared.asking.Ask.TheVariants as ask
@@ -140,7 +144,8 @@ stops_at text place n takes p zero = record { done = p.done; left = left_in text
     by (inr e) = inr (e.0, e.1)
 
 -- a run that was broken off in a round, and one that was stopped before a round
-ended_paced : (lines : List (List ℕ)) (k n rounds : ℕ) (ending : Ending) (xs ys : List Call) → n < rounds → IsPaced lines (n + 1) → AreRounds k 4096 n xs → Breaks k 4096 ending ys → RunsPaced lines k (overs.Ended ending) rounds (xs ++ ys)
+ended_paced : (lines : List (List ℕ)) (k n rounds : ℕ) (ending : Ending) (xs ys : List Call) → n < rounds → IsPaced lines (n + 1) → AreRounds (λ _. IsAfter lines) IsEmpty k 4096 n xs → Breaks (IsAfter lines) IsEmpty k 4096 ending (taken k xs) (given k xs) ys
+    → RunsPaced lines k (overs.Ended ending) rounds (xs ++ ys)
 ended_paced lines k n rounds endings.RoundsDone xs ys few p a b = absurd b
 ended_paced lines k n rounds endings.PeerEnded xs ys few p a b = (record { whole = n; done = xs; last = ys; are = a; ends = (few, b); all = refl }, p)
 ended_paced lines k n rounds endings.HostFailed xs ys few p a b = (record { whole = n; done = xs; last = ys; are = a; ends = (few, b); all = refl }, p)
@@ -149,20 +154,21 @@ ended_paced lines k n rounds (endings.Malformed start fault) xs ys few p a b = (
 ended_paced lines k n rounds endings.Spent xs ys few p a b = (record { whole = n; done = xs; last = ys; are = a; ends = (few, b); all = refl }, p)
 ended_paced lines k n rounds endings.NoMemory xs ys few p a b = (record { whole = n; done = xs; last = ys; are = a; ends = (few, b); all = refl }, p)
 
-pub over_paced : (text : List ℕ) (place n takes k rounds : ℕ) (over : Over) (old mid new : Option (List Call)) → n < rounds → Paced text place n takes → EndsTurn text place takes over → Makes old mid (AreRounds k 4096 n) → Makes mid new (BreaksOver k 4096 over)
-    → Makes old new (RunsPaced (lines_of text) k over rounds)
-over_paced text place n takes k rounds (overs.Ended ending) old mid new few p e a b =
-    makes_both old mid new (AreRounds k 4096 n) (Breaks k 4096 ending) (RunsPaced (lines_of text) k (overs.Ended ending) rounds)
-    (λ xs ys r s. ended_paced (lines_of text) k n rounds ending xs ys few (is_paced text e.1 (n + 1) (e.0 - 1) (paced_more text place n takes e.0 e.1 p e.2)) r s) a b
-over_paced text place n takes k rounds (overs.Stopped stop) old mid new few p e a b =
-    makes_both old mid new (AreRounds k 4096 n) (BreaksOver k 4096 (overs.Stopped stop)) (RunsPaced (lines_of text) k (overs.Stopped stop) rounds)
-    (λ xs ys r s. (n, few, subst (λ (w : List Call). AreRounds k 4096 n w) (sym (nothing xs ys s)) r, stops_at text place n takes p e)) a b
+pub over_paced : (text : List ℕ) (place n takes k rounds : ℕ) (over : Over) (old mid new : Option (List Call)) (t g : List ℕ) (dids : List Did) → n < rounds → Paced text place n takes → EndsTurn text place takes over → Tells k old [] [] [] → Tells k mid t g dids
+    → Makes old mid (AreRounds (λ _. IsAfter (lines_of text)) IsEmpty k 4096 n) → Makes mid new (BreaksOver (lines_of text) k 4096 over t g) → Makes old new (RunsPaced (lines_of text) k over rounds)
+over_paced text place n takes k rounds (overs.Ended ending) old mid new t g dids few p e fresh told a b =
+    makes_next k old mid new [] [] t g [] dids (AreRounds (λ _. IsAfter (lines_of text)) IsEmpty k 4096 n) (RunsPaced (lines_of text) k (overs.Ended ending) rounds) (Breaks (IsAfter (lines_of text)) IsEmpty k 4096 ending)
+    (λ xs ys r s. ended_paced (lines_of text) k n rounds ending xs ys few (is_paced text e.1 (n + 1) (e.0 - 1) (paced_more text place n takes e.0 e.1 p e.2)) r s) fresh told a b
+over_paced text place n takes k rounds (overs.Stopped stop) old mid new t g dids few p e fresh told a b =
+    makes_both old mid new (AreRounds (λ _. IsAfter (lines_of text)) IsEmpty k 4096 n) (BreaksOver (lines_of text) k 4096 (overs.Stopped stop) t g) (RunsPaced (lines_of text) k (overs.Stopped stop) rounds)
+    (λ xs ys r s. (n, few, subst (λ (w : List Call). AreRounds (λ _. IsAfter (lines_of text)) IsEmpty k 4096 n w) (sym (nothing xs ys s)) r, stops_at text place n takes p e)) a b
   where
     nothing : (xs ys : List Call) → ys ≡ [] → xs ++ ys ≡ xs
     nothing xs ys h = ap (λ (w : List Call). xs ++ w) h ∙ append-nil xs
 
 -- a run whose rounds were all done
-pub done_paced : (text : List ℕ) (place n takes k rounds : ℕ) (old new : Option (List Call)) → n ≡ rounds → Paced text place n takes → Makes old new (AreRounds k 4096 n) → Makes old new (RunsPaced (lines_of text) k (overs.Ended endings.RoundsDone) rounds)
+pub done_paced : (text : List ℕ) (place n takes k rounds : ℕ) (old new : Option (List Call)) → n ≡ rounds → Paced text place n takes → Makes old new (AreRounds (λ _. IsAfter (lines_of text)) IsEmpty k 4096 n)
+    → Makes old new (RunsPaced (lines_of text) k (overs.Ended endings.RoundsDone) rounds)
 done_paced text place n takes k rounds old new e p a =
-    makes_if old new (AreRounds k 4096 n) (RunsPaced (lines_of text) k (overs.Ended endings.RoundsDone) rounds)
+    makes_if old new (AreRounds (λ _. IsAfter (lines_of text)) IsEmpty k 4096 n) (RunsPaced (lines_of text) k (overs.Ended endings.RoundsDone) rounds)
     (λ calls r. (record { whole = n; done = calls; last = []; are = r; ends = (e, refl); all = sym (append-nil calls) }, is_paced text place n takes p)) a

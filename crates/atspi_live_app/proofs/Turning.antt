@@ -1,20 +1,23 @@
 -- A turn of an application: what was said, taken and done.
-use Rattle.std.proofs.Common.{◌≡◌, ℕ, List, [], ◌∷◌, Option, None, Some, refl, sym, subst}
+use Rattle.std.proofs.Common.{◌≡◌, ℕ, List, [], ◌∷◌, length, Option, None, Some, refl, sym, subst}
 use Rattle.atspi_auth.specs.Talk.{behind, client_start}
 use Rattle.atspi_message.specs.Envelope.{Envelope}
 use Rattle.atspi_stream.specs.Stream.{IsParted}
 use Rattle.atspi_host.specs.declared.call.Call.{Call}
 use Rattle.atspi_host.specs.Calls.{taken, given}
-use Rattle.atspi_conversation.specs.Speech.{Ends, EndsBy, IsSpeech, IsSpentBy, Speaks, envelopes}
-use Rattle.atspi_conversation.specs.Talking.{Going, IsEnded, MaySpeak, Rests}
+use Rattle.atspi_conversation.specs.Rounds.{Breaks, IsRound, Makes}
+use Rattle.atspi_conversation.specs.Speech.{Ends, Speaks, envelopes}
+use Rattle.atspi_conversation.specs.Talking.{Going, HasNone, IsEnded, MaySpeak, Rests}
 use Rattle.atspi_conversation.specs.declared.conversation.Conversation.{Conversation}
 use Rattle.atspi_conversation.specs.declared.ending.Ending.{Ending}
 use Rattle.atspi_conversation.specs.declared.ending.Ending.TheVariants as endings
+use Rattle.atspi_conversation.proofs.RoundLemmas.{makes_if, none_wait}
+use Rattle.atspi_conversation.proofs.SeenLemmas.{breaks_seen, ends_seen, round_seen, speaks_seen}
 use Rattle.atspi_conversation.proofs.StepLemmas.{all_done}
 use Rattle.atspi_protocol.specs.exporting.Exporter.{Exporter}
 use Rattle.atspi_live_app.specs.Lines.{lines_of}
-use Rattle.atspi_live_app.specs.Standing.{IsAfter, IsSpent}
-use Rattle.atspi_live_app.specs.Live.{IsStopped, Stands, StandsAt, seen}
+use Rattle.atspi_live_app.specs.Standing.{IsAfter, IsEmpty, IsSpent}
+use Rattle.atspi_live_app.specs.Live.{IsStopped, Stands, StandsAt, queued_in, seen}
 use Rattle.atspi_live_app.specs.Input.{left_in}
 use Rattle.atspi_live_app.specs.Overs.{IsOver, StopsSo}
 use Rattle.atspi_live_app.specs.declared.live_app.LiveApp.{LiveApp}
@@ -30,53 +33,29 @@ after is_app exporter is_kit text app kit held at number took said f = record { 
 abbrev pub IsSeen : {E : Type 0} → (E → List Envelope → List Envelope → Type 0) → List (List ℕ) → (E → Option Exporter) → Type 0
 IsSeen {E} St lines see = (e : E) (took said : List Envelope) → St e took said → IsAfter lines (see e) took said
 
-speech : {E : Type 0} (St : E → List Envelope → List Envelope → Type 0) (lines : List (List ℕ)) (see : E → Option Exporter) (t g : List ℕ) → IsSeen St lines see → IsSpeech St t g → IsSpeech (IsAfter lines) t g
-speech St lines see t g h s = record {
-  messages = s.messages;
-  rest = s.rest;
-  parted = s.parted;
-  end = see s.end;
-  said = s.said;
-  stands = h s.end (envelopes s.messages) s.said s.stands;
-  sent = s.sent;
-  spelled = s.spelled;
-  over = s.over;
-  more = s.more;
-  front = s.front;
-}
-
 speaks : {E : Type 0} (St : E → List Envelope → List Envelope → Type 0) (lines : List (List ℕ)) (see : E → Option Exporter) (k : ℕ) (calls : Option (List Call)) → IsSeen St lines see → Speaks St k calls → Speaks (IsAfter lines) k calls
-speaks St lines see k None h s = tt
-speaks St lines see k (Some cs) h s = speech St lines see (taken k cs) (given k cs) h s
-
-spent : {E : Type 0} (St : E → List Envelope → List Envelope → Type 0) (lines : List (List ℕ)) (see : E → Option Exporter) (t : List ℕ) → IsSeen St lines see → IsSpentBy St (λ e m. IsSpent (see e) m) t → IsSpentBy (IsAfter lines) IsSpent t
-spent St lines see t h s = record {
-  messages = s.messages;
-  message = s.message;
-  bytes = s.bytes;
-  rest = s.rest;
-  parted = s.parted;
-  is = s.is;
-  end = see s.end;
-  said = s.said;
-  stands = h s.end (envelopes s.messages) s.said s.stands;
-  spent = s.spent;
-}
-
-ends_by : {E : Type 0} (St : E → List Envelope → List Envelope → Type 0) (lines : List (List ℕ)) (see : E → Option Exporter) (k rounds : ℕ) (ending : Ending) (cs : List Call) → IsSeen St lines see
-    → EndsBy St (λ e m. IsSpent (see e) m) k ending rounds cs → EndsBy (IsAfter lines) IsSpent k ending rounds cs
-ends_by St lines see k rounds endings.RoundsDone cs h e = e
-ends_by St lines see k rounds endings.PeerEnded cs h e = e
-ends_by St lines see k rounds endings.HostFailed cs h e = e
-ends_by St lines see k rounds endings.NotAuthenticated cs h e = e
-ends_by St lines see k rounds (endings.Malformed start fault) cs h e = e
-ends_by St lines see k rounds endings.Spent cs h e = (spent St lines see (taken k cs) h e.0, e.1)
-ends_by St lines see k rounds endings.NoMemory cs h e = tt
+speaks St lines see k calls h s = speaks_seen St (IsAfter lines) see k calls h s
 
 ends_on : {E : Type 0} (St : E → List Envelope → List Envelope → Type 0) (lines : List (List ℕ)) (see : E → Option Exporter) (k rounds : ℕ) (ending : Ending) (calls : Option (List Call)) → IsSeen St lines see
     → Ends St (λ e m. IsSpent (see e) m) k ending rounds calls → Ends (IsAfter lines) IsSpent k ending rounds calls
-ends_on St lines see k rounds ending None h e = tt
-ends_on St lines see k rounds ending (Some cs) h e = ends_by St lines see k rounds ending cs h e
+ends_on St lines see k rounds ending calls h e = ends_seen St (IsAfter lines) (λ e m. IsSpent (see e) m) IsSpent see k rounds ending calls h (λ end m s. s) e
+
+-- the calls of a round, by what the application alone says
+empty_at : (s : Option Exporter) → queued_in s ≡ 0 → IsEmpty s
+empty_at None e = tt
+empty_at (Some s) e = none_wait s.out (length s.out) refl e
+
+pub round_of : {E : Type 0} (St : E → List Envelope → List Envelope → Type 0) (lines : List (List ℕ)) (see : E → Option Exporter) (k most : ℕ) (t g : List ℕ) (old new : Option (List Call)) → IsSeen St lines see
+    → Makes old new (IsRound St (HasNone (λ e. queued_in (see e))) k most t g) → Makes old new (IsRound (IsAfter lines) IsEmpty k most t g)
+round_of St lines see k most t g old new h m =
+    makes_if old new (IsRound St (HasNone (λ e. queued_in (see e))) k most t g) (IsRound (IsAfter lines) IsEmpty k most t g)
+    (λ calls. round_seen St (IsAfter lines) (HasNone (λ e. queued_in (see e))) IsEmpty see k most t g calls h (λ e. empty_at (see e))) m
+
+pub breaks_of : {E : Type 0} (St : E → List Envelope → List Envelope → Type 0) (lines : List (List ℕ)) (see : E → Option Exporter) (k most : ℕ) (ending : Ending) (t g : List ℕ) (old new : Option (List Call)) → IsSeen St lines see
+    → Makes old new (Breaks St (HasNone (λ e. queued_in (see e))) k most ending t g) → Makes old new (Breaks (IsAfter lines) IsEmpty k most ending t g)
+breaks_of St lines see k most ending t g old new h m =
+    makes_if old new (Breaks St (HasNone (λ e. queued_in (see e))) k most ending t g) (Breaks (IsAfter lines) IsEmpty k most ending t g)
+    (λ calls. breaks_seen St (IsAfter lines) (HasNone (λ e. queued_in (see e))) IsEmpty see k most ending t g calls h (λ e. empty_at (see e))) m
 
 -- the conversation ended
 pub turn_ended : {E : Type 0} (St : E → List Envelope → List Envelope → Type 0) (lines : List (List ℕ)) (see : E → Option Exporter) (k rounds : ℕ) (ending : Ending) (calls : Option (List Call)) → IsSeen St lines see
@@ -112,7 +91,7 @@ turn_stopped St lines see k n rounds stop calls c end h f g =
     record { speaks = speaks St lines see k calls h e.0; so = stops St lines see k n stop calls c end f g e }
 
 -- a line was done between two rounds
-pub going_turns : {E : Type 0} (St St' : E → List Envelope → List Envelope → Type 0) (k n : ℕ) (calls : Option (List Call)) (c : Conversation) (old new : E) → ((took said : List Envelope) → St old took said → St' new took said) → Going St k calls n c old
+abbrev pub going_turns : {E : Type 0} (St St' : E → List Envelope → List Envelope → Type 0) (k n : ℕ) (calls : Option (List Call)) (c : Conversation) (old new : E) → ((took said : List Envelope) → St old took said → St' new took said) → Going St k calls n c old
     → Going St' k calls n c new
 going_turns St St' k n calls c old new r g =
     let v = g.at_ease.converses in

@@ -6,6 +6,7 @@ use Rattle.atspi_conversation.specs.declared.ending.Ending.{Ending}
 use Rattle.atspi_conversation.specs.declared.ending.Ending.TheVariants as endings
 use Rattle.atspi_live_app.specs.Asking.{IsAsk}
 use Rattle.atspi_live_app.specs.Input.{left_in}
+use Rattle.atspi_live_app.specs.Standing.{IsAfter, IsEmpty}
 use Rattle.atspi_live_app.specs.declared.asking.Ask.{Ask}
 use Rattle.atspi_live_app.specs.declared.asking.Ask.TheVariants as ask
 use Rattle.atspi_live_app.specs.declared.over.Over.{Over}
@@ -40,10 +41,10 @@ abbrev pub EndsTurn : List ℕ → ℕ → ℕ → Over → Type 0
 EndsTurn text place takes (overs.Ended ending) = (takes' : ℕ) × (place' : ℕ) × GoesOn text place takes takes' place'
 EndsTurn text place takes (overs.Stopped stop) = takes ≡ 0
 
--- the calls of a turn that ended the run
-abbrev pub BreaksOver : ℕ → ℕ → Over → List Call → Type 0
-BreaksOver k most (overs.Ended ending) calls = Breaks k most ending calls
-BreaksOver k most (overs.Stopped stop) calls = calls ≡ []
+-- the calls of a turn that ended the run, before which these bytes were taken and those given
+abbrev pub BreaksOver : List (List ℕ) → ℕ → ℕ → Over → List ℕ → List ℕ → List Call → Type 0
+BreaksOver lines k most (overs.Ended ending) t g calls = Breaks (IsAfter lines) IsEmpty k most ending t g calls
+BreaksOver lines k most (overs.Stopped stop) t g calls = calls ≡ []
 
 -- how many rounds all of them take
 abbrev pub total : List (List ℕ × ℕ) → ℕ
@@ -81,5 +82,5 @@ begun_by ending whole = whole + 1
 
 -- the calls of a run that is over so, and the lines that were done before its reads
 abbrev pub RunsPaced : List (List ℕ) → ℕ → Over → ℕ → List Call → Type 0
-RunsPaced lines k (overs.Ended ending) rounds calls = (run : IsRun k 4096 ending rounds calls) × IsPaced lines (begun_by ending run.whole)
-RunsPaced lines k (overs.Stopped stop) rounds calls = (whole : ℕ) × (whole < rounds) × AreRounds k 4096 whole calls × StopsAt lines whole
+RunsPaced lines k (overs.Ended ending) rounds calls = (run : IsRun (λ _. IsAfter lines) IsEmpty k 4096 ending rounds calls) × IsPaced lines (begun_by ending run.whole)
+RunsPaced lines k (overs.Stopped stop) rounds calls = (whole : ℕ) × (whole < rounds) × AreRounds (λ _. IsAfter lines) IsEmpty k 4096 whole calls × StopsAt lines whole

@@ -78,6 +78,11 @@ pub record IsAfter (lines : List (List ℕ)) (s : Option Exporter) (took said : 
   pub makes : Makes None history whole
   pub handed : HandedOut said s whole
 
+-- it has nothing left to hand out
+abbrev pub IsEmpty : Option Exporter → Type 0
+IsEmpty None = Unit {0}
+IsEmpty (Some s) = s.out ≡ []
+
 -- the messages that it sends for one more would pass number 4,294,967,295
 abbrev pub IsSpent : Option Exporter → Envelope → Type 0
 IsSpent None e = ⊥

@@ -1,10 +1,11 @@
 //! What an application has queued, as messages for its link: the rest is passed.
 
-ghost use Rattle.std.specs.Prelude.{◌<◌, Some, IfSome};
+ghost use Rattle.std.specs.Prelude.{◌≡◌, ◌<◌, [], Some, IfNone, IfSome};
 ghost use Rattle.atspi_message.specs.Envelope.{envelope_of};
 ghost use Rattle.atspi_app_known.specs.happenings.Happened.{happening_of};
 ghost use Rattle.atspi_live_app.specs.HandedOver.{HandsOver, IsHanded};
 ghost use Rattle.atspi_live_app.specs.Live.{Hands, IsStarted, queued_in, seen};
+ghost use Rattle.atspi_live_app.specs.declared.next_message.Handed.{Handed};
 
 use crate::exporting::Exporting;
 use atspi_app::AppEvent;
@@ -35,6 +36,7 @@ fn hand_over<A: Exporting>(app: &mut A) -> Handed
     requires { A.is_app app.old }
     ensures app { A.is_app app.new }
     ensures hands { HandsOver result (A.exporter app.old) (A.exporter app.new) }
+    ensures nothing { result ≡ Handed.Nothing → (A.exporter app.new).out ≡ [] }
 {
     match app.next() {
         Some(event) => handed_of(event),
@@ -48,6 +50,7 @@ fn next_of<A: Exporting>(app: &mut A) -> Option<Message>
     ensures app { A.is_app app.new }
     ensures hands { Hands envelope_of result (Some (A.exporter app.old)) (Some (A.exporter app.new)) }
     ensures fewer { IfSome result (λ m. queued_in (Some (A.exporter app.new)) < queued_in (Some (A.exporter app.old))) }
+    ensures empty { IfNone result (queued_in (Some (A.exporter app.new)) ≡ 0) }
 {
     'events: loop {
         match hand_over(app) {
@@ -64,6 +67,7 @@ pub(crate) fn next_message<A: Exporting>(app: &mut Option<A>) -> Option<Message>
     ensures app { IsStarted A.is_app app.new }
     ensures hands { Hands envelope_of result (seen A.exporter app.old) (seen A.exporter app.new) }
     ensures fewer { IfSome result (λ m. queued_in (seen A.exporter app.new) < queued_in (seen A.exporter app.old)) }
+    ensures empty { IfNone result (queued_in (seen A.exporter app.new) ≡ 0) }
 {
     match app {
         Some(app) => next_of(app),

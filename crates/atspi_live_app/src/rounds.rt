@@ -5,11 +5,12 @@ ghost use Rattle.atspi_host.specs.Calls.{IsOpen};
 ghost use Rattle.atspi_message.specs.Envelope.{Envelope};
 ghost use Rattle.atspi_conversation.specs.Moved.{Tells};
 ghost use Rattle.atspi_conversation.specs.Rounds.{IsRound, Makes};
-ghost use Rattle.atspi_conversation.specs.Talking.{Going, MaySpeak, heard_in};
+ghost use Rattle.atspi_conversation.specs.Talking.{Going, MakesNext, MaySpeak, heard_in};
 ghost use Rattle.atspi_live_app.specs.Lines.{lines_of};
 ghost use Rattle.atspi_live_app.specs.Live.{IsStopped};
 ghost use Rattle.atspi_live_app.specs.Overs.{IsOver, OverBlames};
 ghost use Rattle.atspi_live_app.specs.Pace.{BreaksOver, EndsTurn, GoesOn, RunsPaced};
+ghost use Rattle.atspi_live_app.specs.Standing.{IsAfter, IsEmpty};
 
 use crate::exporting::Exporting;
 use crate::live_app::{LiveApp, Stop};
@@ -58,7 +59,9 @@ fn turn<A: Exporting, H: Host>(
         → (due place' : ℕ) × GoesOn text place takes.old due place' × (takes.new ≡ due - 1) × Going (⟦<LiveApp<A> as BusEnd>⟧.Stands (place' ∷ text)) link (H.calls host.new) (n + 1) conversation.new end.new) }
     ensures err { IfErr result (λ over. (text : List ℕ) (place n rounds : ℕ) → Going (⟦<LiveApp<A> as BusEnd>⟧.Stands (place ∷ text)) link (H.calls host.old) n conversation.old end.old
         → IsOver (lines_of text) link over rounds (H.calls host.new) × EndsTurn text place takes.old over) }
-    ensures made { MatchResult result (λ _. Makes (H.calls host.old) (H.calls host.new) (IsRound link (length piece.old))) (λ over. Makes (H.calls host.old) (H.calls host.new) (BreaksOver link (length piece.old) over)) }
+    ensures made { MatchResult result
+        (λ _. (text : List ℕ) (place : ℕ) → MakesNext (⟦<LiveApp<A> as BusEnd>⟧.Stands (place ∷ text)) link (H.calls host.old) (H.calls host.new) conversation.old end.old (IsRound (IsAfter (lines_of text)) IsEmpty link (length piece.old)))
+        (λ over. (text : List ℕ) (place : ℕ) → MakesNext (⟦<LiveApp<A> as BusEnd>⟧.Stands (place ∷ text)) link (H.calls host.old) (H.calls host.new) conversation.old end.old (BreaksOver (lines_of text) link (length piece.old) over)) }
     ensures may { OnOk result (MaySpeak ⟦<LiveApp<A> as BusEnd>⟧.Stands end.new) }
     ensures few { OnOk result (heard_in conversation.new ≤ heard_in conversation.old + length piece.old) }
     ensures links { H.links host.new ≡ H.links host.old }

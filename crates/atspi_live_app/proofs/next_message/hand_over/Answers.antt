@@ -1,4 +1,6 @@
+use Rattle.std.proofs.Common.{subst, ◌∙◌}
 use Rattle.atspi_app_known.specs.happenings.Happened.{happening_of}
+use Rattle.atspi_live_app.specs.HandedOver.{IsHanded}
 use Rattle.atspi_live_app.proofs.Handing.{handed_first, handed_nothing}
 use Rattle.atspi_live_app.proofs.next_message.hand_over.Goals as goal
 
@@ -8,3 +10,9 @@ returns-in-Some-clause-hands g c =
 
 pub returns-in-None-clause-hands : goal.returns-in-None-clause-hands
 returns-in-None-clause-hands g c = handed_nothing (g.A.Exporting.exporter c.args.app.now) (g.A.Exporting.exporter c.next.new.self) c.in-None.ensures.empty c.next.ensures.rest
+
+pub returns-in-Some-clause-nothing : goal.returns-in-Some-clause-nothing
+returns-in-Some-clause-nothing g c e = absurd (subst (λ h. IsHanded h (happening_of c.in-Some.event)) e c.handed_of.ensures)
+
+pub returns-in-None-clause-nothing : goal.returns-in-None-clause-nothing
+returns-in-None-clause-nothing g c e = c.in-None.ensures.empty ∙ c.in-None.ensures.front

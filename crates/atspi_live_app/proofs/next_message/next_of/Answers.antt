@@ -1,5 +1,6 @@
-use Rattle.std.proofs.Common.{[], ◌∷◌, Some, arith}
+use Rattle.std.proofs.Common.{[], ◌∷◌, List, Some, length, refl, ap, arith}
 use Rattle.atspi_message.specs.Envelope.{envelope_of}
+use Rattle.atspi_protocol.specs.exporting.Exporter.{Happening}
 use Rattle.atspi_live_app.proofs.Handing.{handed_most}
 use Rattle.atspi_live_app.proofs.Making.{handed_both, handed_none}
 use Rattle.atspi_live_app.proofs.next_message.next_of.Goals as goal
@@ -28,3 +29,6 @@ returns-in-Message-clause-fewer g c =
 pub returns-in-Nothing-clause-hands : goal.returns-in-Nothing-clause-hands
 returns-in-Nothing-clause-hands g c =
     handed_both [] [] (Some (g.A.Exporting.exporter c.hand_over.new.app)) (Some (g.A.Exporting.exporter c.events.app)) (Some (g.A.Exporting.exporter c.args.app.now)) c.events.invariant.handed c.in-Nothing.ensures.hands
+
+pub returns-in-Nothing-clause-empty : goal.returns-in-Nothing-clause-empty
+returns-in-Nothing-clause-empty g c = ap (λ (w : List Happening). length w) (c.in-Nothing.ensures.nothing refl)

@@ -4,7 +4,7 @@ use Rattle.atspi_live_app.specs.Lines.{lines_of}
 use Rattle.atspi_live_app.specs.Pace.{BreaksOver}
 use Rattle.atspi_live_app.specs.declared.over.Over.TheVariants.{Stopped}
 use Rattle.atspi_conversation.proofs.RoundLemmas.{makes_none}
-use Rattle.atspi_live_app.proofs.Turning.{StandsOf, going_turns, may_turns, see_of, seen_of, turn_ended, turn_stopped}
+use Rattle.atspi_live_app.proofs.Turning.{StandsOf, breaks_of, going_turns, may_turns, round_of, see_of, seen_of, turn_ended, turn_stopped}
 use Rattle.atspi_live_app.proofs.rounds.turn.Goals as goal
 
 pub returns-in-Err-clause-err : goal.returns-in-Err-clause-err
@@ -15,7 +15,21 @@ returns-in-Err-clause-err g c = λ text place n rounds w. (
 )
 
 pub returns-in-Err-clause-made : goal.returns-in-Err-clause-made
-returns-in-Err-clause-made g c = makes_none (g.H.Host.calls c.args.host.now) (BreaksOver c.args.link (length c.args.piece.now) (Stopped c.in-Err.stop)) refl
+returns-in-Err-clause-made g c = λ text place n going. makes_none (g.H.Host.calls c.args.host.now) (BreaksOver (lines_of text) c.args.link (length c.args.piece.now) (Stopped c.in-Err.stop) going.t going.g) refl
+
+pub returns-in-Ok-clause-made : goal.returns-in-Ok-clause-made
+returns-in-Ok-clause-made g c = λ text place n going.
+    round_of (StandsOf g.A.Exporting.is_app g.A.Exporting.exporter g.A.Exporting.is_kit (c.do_due.new.end.input.at ∷ text)) (lines_of text) (see_of g.A.Exporting.exporter) c.args.link (length c.args.piece.now) going.t going.g (g.H.Host.calls c.args.host.now) (g.H.Host.calls c.round.new.host)
+    (seen_of g.A.Exporting.is_app g.A.Exporting.exporter g.A.Exporting.is_kit c.do_due.new.end.input.at text)
+    (c.in-Ok.ensures.made (c.do_due.new.end.input.at ∷ text) n (going_turns (StandsOf g.A.Exporting.is_app g.A.Exporting.exporter g.A.Exporting.is_kit (place ∷ text)) (StandsOf g.A.Exporting.is_app g.A.Exporting.exporter g.A.Exporting.is_kit (c.do_due.new.end.input.at ∷ text)) c.args.link n (g.H.Host.calls c.args.host.now) c.args.conversation.now c.args.end.now c.do_due.new.end
+    (λ took said f. (c.in_default.ensures.ok text place took said f).1) going))
+
+pub returns-in-Err-round-clause-made : goal.returns-in-Err-round-clause-made
+returns-in-Err-round-clause-made g c = λ text place n going.
+    breaks_of (StandsOf g.A.Exporting.is_app g.A.Exporting.exporter g.A.Exporting.is_kit (c.do_due.new.end.input.at ∷ text)) (lines_of text) (see_of g.A.Exporting.exporter) c.args.link (length c.args.piece.now) c.in-Err-round.ending going.t going.g (g.H.Host.calls c.args.host.now) (g.H.Host.calls c.round.new.host)
+    (seen_of g.A.Exporting.is_app g.A.Exporting.exporter g.A.Exporting.is_kit c.do_due.new.end.input.at text)
+    (c.in-Err-round.ensures.made (c.do_due.new.end.input.at ∷ text) n (going_turns (StandsOf g.A.Exporting.is_app g.A.Exporting.exporter g.A.Exporting.is_kit (place ∷ text)) (StandsOf g.A.Exporting.is_app g.A.Exporting.exporter g.A.Exporting.is_kit (c.do_due.new.end.input.at ∷ text)) c.args.link n (g.H.Host.calls c.args.host.now) c.args.conversation.now c.args.end.now c.do_due.new.end
+    (λ took said f. (c.in_default.ensures.ok text place took said f).1) going))
 
 pub round-requires-clause-may : goal.round-requires-clause-may
 round-requires-clause-may g c =

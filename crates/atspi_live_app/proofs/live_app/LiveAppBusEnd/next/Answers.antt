@@ -32,3 +32,6 @@ returns-clause-none g c =
     (stands_handed g.A.Exporting.is_app g.A.Exporting.exporter g.A.Exporting.is_kit text c.args.self.now.app c.next_message.new.app c.args.self.now.kit c.args.self.now.input.text.items c.args.self.now.input.at
     c.args.self.now.input.number [] took said
     (kept_on g.A.Exporting.is_app g.A.Exporting.exporter g.A.Exporting.is_kit [] c.args.self.now.app c.next_message.new.app c.args.self.now.kit h w.kept c.next_message.ensures.app) h w)) f)
+
+pub returns-clause-empty : goal.returns-clause-empty
+returns-clause-empty g c = c.next_message.ensures.empty
