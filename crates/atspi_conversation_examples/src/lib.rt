@@ -3,5 +3,7 @@
 #![tactic(auto)]
 
 mod cases;
+mod rounds;
 
 pub use cases::{answers_of_reads, bytes_of_lines, is_over, lines, sent};
+pub use rounds::{runs, single_rounds};
