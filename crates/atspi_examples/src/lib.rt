@@ -10,6 +10,7 @@ pub mod edits;
 pub mod forests;
 pub mod halts;
 pub mod lawful;
+pub mod lines;
 pub mod loads;
 pub mod maps;
 pub mod news;
