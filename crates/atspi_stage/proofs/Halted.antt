@@ -1,5 +1,7 @@
 -- Work that was done in part, and then the registry was lost, or serials were spent: so is the work.
-use Rattle.std.proofs.Common.{◌≡◌, ◌⊎◌, inl, inr, ◌++◌, map, refl, ap, ◌∙◌, append_assoc}
+use Rattle.std.proofs.Common.{◌≡◌, ◌⊎◌, inl, inr, List, ◌++◌, map, refl, ap, ◌∙◌, append_assoc}
+use Rattle.atspi_events.specs.declared.event.Event.{Event}
+use Rattle.atspi_posts.specs.declared.post.Post.{Post}
 use Rattle.atspi_trace.specs.Entry.{entries_of}
 use Rattle.atspi_trace.specs.Causes.{Cause}
 use Rattle.atspi_trace.specs.Work.{Work, doing, resting, cause, next_of}
@@ -11,6 +13,10 @@ use Rattle.atspi_stage.specs.Halts.{IsLostBy, IsSpentBy, WorkLost, WorkSpent}
 use Rattle.atspi_stage.specs.Turns.{PartDone}
 use Rattle.atspi_stage.specs.Worlds.{Staged, IsPlaying}
 use Rattle.atspi_stage.proofs.Parts.{none_done}
+
+-- a line that is broken off says no more of a stage than its connections and what it told
+abbrev pub with_told : {p : Playing} {old : Staged} → IsPlaying p old → List Post → List Event → Staged
+with_told {old = old} playing posts trace = record old { posts = posts; trace = trace }
 
 module _ (p : Playing) (work left next : Work) (c : Cause) (old mid new : Staged) (t : PartDone p work left old mid) (is : next_of t.now.world left ≡ cause c t.now.world next) where
   abbrev at_next : IsAtWork p work

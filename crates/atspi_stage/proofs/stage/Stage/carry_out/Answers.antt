@@ -3,6 +3,7 @@ use Rattle.atspi_play.specs.Played.{refused}
 use Rattle.atspi_stage.specs.Refusals.{first_refusal}
 use Rattle.atspi_stage.proofs.Lined.{line_else}
 use Rattle.atspi_stage.proofs.Faults.{err_is, was_lost, was_spent}
+use Rattle.atspi_stage.proofs.Halted.{with_told}
 use Rattle.atspi_stage.proofs.LinesHalted.{spent_as}
 use Rattle.atspi_stage.proofs.stage.Stage.carry_out.Goals as goal
 
@@ -22,7 +23,7 @@ pub returns-in-Err-clause-spent : goal.returns-in-Err-clause-spent
 returns-in-Err-clause-spent g c = λ is. c.in-Err.ensures.spent (ap Err (was_spent c.in-Err.halt (sym c.from.ensures ∙ err_is c.from.result _ is)))
 
 pub returns-in-Call-clause-spent : goal.returns-in-Call-clause-spent
-returns-in-Call-clause-spent g c = λ is. spent_as c.args.line.now _ _ _ c.in-Call.is (c.ask_call.ensures.spent is)
+returns-in-Call-clause-spent g c = λ is p playing free. spent_as c.args.line.now _ _ (with_told playing c.ask_call.new.self.carrier.posts.items c.ask_call.new.self.carrier.trace.items) c.in-Call.is (c.ask_call.ensures.spent is) p playing free
 
 pub returns-in-Edit-clause-spent : goal.returns-in-Edit-clause-spent
-returns-in-Edit-clause-spent g c = λ is. spent_as c.args.line.now _ _ _ c.in-Edit.is (c.ask_edit.ensures.spent is)
+returns-in-Edit-clause-spent g c = λ is p playing free. spent_as c.args.line.now _ _ (with_told playing c.ask_edit.new.self.carrier.posts.items c.ask_edit.new.self.carrier.trace.items) c.in-Edit.is (c.ask_edit.ensures.spent is) p playing free

@@ -1,4 +1,5 @@
 use Rattle.std.proofs.lemmas.Result.{on_ok_weaker}
+use Rattle.atspi_stage.proofs.Halted.{with_told}
 use Rattle.atspi_stage.proofs.Lined.{line_app, line_rest, line_reader, line_swap, line_exit, line_leave, line_quota, line_show, line_turns, line_drain, line_bytes}
 use Rattle.atspi_stage.proofs.LinesHalted.{bytes_lost, bytes_spent, turns_lost, turns_spent, drain_lost, drain_spent}
 use Rattle.atspi_stage.proofs.stage.Stage.do_line.Goals as goal
@@ -37,19 +38,19 @@ pub returns-in-Blank-clause-does : goal.returns-in-Blank-clause-does
 returns-in-Blank-clause-does g c = line_rest c.args.line.now _ c.in-Blank.is
 
 pub returns-in-Bytes-clause-lost : goal.returns-in-Bytes-clause-lost
-returns-in-Bytes-clause-lost g c = λ is. bytes_lost c.args.line.now _ _ c.in-Bytes.party c.in-Bytes.up c.in-Bytes.count c.in-Bytes.is (c.move_bytes.ensures.lost is)
+returns-in-Bytes-clause-lost g c = λ is p playing free. bytes_lost c.args.line.now _ (with_told playing c.move_bytes.new.self.carrier.posts.items c.move_bytes.new.self.carrier.trace.items) c.in-Bytes.party c.in-Bytes.up c.in-Bytes.count c.in-Bytes.is (c.move_bytes.ensures.lost is) p playing free
 
 pub returns-in-Bytes-clause-spent : goal.returns-in-Bytes-clause-spent
-returns-in-Bytes-clause-spent g c = λ is. bytes_spent c.args.line.now _ _ c.in-Bytes.party c.in-Bytes.up c.in-Bytes.count c.in-Bytes.is (c.move_bytes.ensures.spent is)
+returns-in-Bytes-clause-spent g c = λ is p playing free. bytes_spent c.args.line.now _ (with_told playing c.move_bytes.new.self.carrier.posts.items c.move_bytes.new.self.carrier.trace.items) c.in-Bytes.party c.in-Bytes.up c.in-Bytes.count c.in-Bytes.is (c.move_bytes.ensures.spent is) p playing free
 
 pub returns-in-Turns-clause-lost : goal.returns-in-Turns-clause-lost
-returns-in-Turns-clause-lost g c = λ is. turns_lost c.args.line.now _ _ c.in-Turns.count c.in-Turns.is (c.make_turns.ensures.lost is)
+returns-in-Turns-clause-lost g c = λ is p playing free. turns_lost c.args.line.now _ (with_told playing c.make_turns.new.self.carrier.posts.items c.make_turns.new.self.carrier.trace.items) c.in-Turns.count c.in-Turns.is (c.make_turns.ensures.lost is) p playing free
 
 pub returns-in-Turns-clause-spent : goal.returns-in-Turns-clause-spent
-returns-in-Turns-clause-spent g c = λ is. turns_spent c.args.line.now _ _ c.in-Turns.count c.in-Turns.is (c.make_turns.ensures.spent is)
+returns-in-Turns-clause-spent g c = λ is p playing free. turns_spent c.args.line.now _ (with_told playing c.make_turns.new.self.carrier.posts.items c.make_turns.new.self.carrier.trace.items) c.in-Turns.count c.in-Turns.is (c.make_turns.ensures.spent is) p playing free
 
 pub returns-in-Drain-clause-lost : goal.returns-in-Drain-clause-lost
-returns-in-Drain-clause-lost g c = λ is. drain_lost c.args.line.now _ _ c.in-Drain.is (c.drain.ensures.lost is)
+returns-in-Drain-clause-lost g c = λ is p playing free. drain_lost c.args.line.now _ (with_told playing c.drain.new.self.carrier.posts.items c.drain.new.self.carrier.trace.items) c.in-Drain.is (c.drain.ensures.lost is) p playing free
 
 pub returns-in-Drain-clause-spent : goal.returns-in-Drain-clause-spent
-returns-in-Drain-clause-spent g c = λ is. drain_spent c.args.line.now _ _ c.in-Drain.is (c.drain.ensures.spent is)
+returns-in-Drain-clause-spent g c = λ is p playing free. drain_spent c.args.line.now _ (with_told playing c.drain.new.self.carrier.posts.items c.drain.new.self.carrier.trace.items) c.in-Drain.is (c.drain.ensures.spent is) p playing free

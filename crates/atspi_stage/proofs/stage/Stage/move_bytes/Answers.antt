@@ -1,5 +1,6 @@
 use Rattle.std.proofs.Common.{Some, subst}
 use Rattle.std.proofs.lemmas.Result.{on_ok_weaker}
+use Rattle.atspi_stage.proofs.Halted.{with_told}
 use Rattle.atspi_stage.proofs.Lining.{Finds, find_none}
 use Rattle.atspi_stage.proofs.Moved.{bytes_none, bytes_up_some, bytes_down_some}
 use Rattle.atspi_stage.proofs.LinesHalted.{up_line_lost, up_line_spent, down_line_spent}
@@ -18,10 +19,10 @@ returns-clause-does g c =
     on_ok_weaker c.move_down.result (bytes_down_some c.args.who c.args.up c.args.count c.in-Some.conn _ _ c.if-up.false (subst (Finds (Some c.in-Some.conn) c.args.who) c.deref.ensures.value c.in-Some.ensures)) c.move_down.ensures.does
 
 pub returns-then-up-clause-lost : goal.returns-then-up-clause-lost
-returns-then-up-clause-lost g c = λ is. up_line_lost c.args.who c.args.up c.args.count c.in-Some.conn _ _ (subst (Finds (Some c.in-Some.conn) c.args.who) c.deref.ensures.value c.in-Some.ensures) c.if-up.true (c.move_up.ensures.lost is)
+returns-then-up-clause-lost g c = λ is p playing free. up_line_lost c.args.who c.args.up c.args.count c.in-Some.conn _ (with_told playing c.move_up.new.self.carrier.posts.items c.move_up.new.self.carrier.trace.items) (subst (Finds (Some c.in-Some.conn) c.args.who) c.deref.ensures.value c.in-Some.ensures) c.if-up.true (c.move_up.ensures.lost is) p playing free
 
 pub returns-then-up-clause-spent : goal.returns-then-up-clause-spent
-returns-then-up-clause-spent g c = λ is. up_line_spent c.args.who c.args.up c.args.count c.in-Some.conn _ _ (subst (Finds (Some c.in-Some.conn) c.args.who) c.deref.ensures.value c.in-Some.ensures) c.if-up.true (c.move_up.ensures.spent is)
+returns-then-up-clause-spent g c = λ is p playing free. up_line_spent c.args.who c.args.up c.args.count c.in-Some.conn _ (with_told playing c.move_up.new.self.carrier.posts.items c.move_up.new.self.carrier.trace.items) (subst (Finds (Some c.in-Some.conn) c.args.who) c.deref.ensures.value c.in-Some.ensures) c.if-up.true (c.move_up.ensures.spent is) p playing free
 
 pub returns-clause-spent : goal.returns-clause-spent
-returns-clause-spent g c = λ is. down_line_spent c.args.who c.args.up c.args.count c.in-Some.conn _ _ (subst (Finds (Some c.in-Some.conn) c.args.who) c.deref.ensures.value c.in-Some.ensures) c.if-up.false (c.move_down.ensures.spent is)
+returns-clause-spent g c = λ is p playing free. down_line_spent c.args.who c.args.up c.args.count c.in-Some.conn _ (with_told playing c.move_down.new.self.carrier.posts.items c.move_down.new.self.carrier.trace.items) (subst (Finds (Some c.in-Some.conn) c.args.who) c.deref.ensures.value c.in-Some.ensures) c.if-up.false (c.move_down.ensures.spent is) p playing free

@@ -2,6 +2,7 @@ use Rattle.std.proofs.Common.{Err, sym, ap, ◌∙◌, arith}
 use Rattle.atspi_stage.proofs.DownwardSteps.{moved_none, goes_down, goes_on, goes_no_more, moved_all, is_there, moved_away}
 use Rattle.atspi_stage.proofs.Faults.{given_is}
 use Rattle.atspi_stage.proofs.GotMessages.{gets_as}
+use Rattle.atspi_stage.proofs.Halted.{with_told}
 use Rattle.atspi_stage.proofs.DownwardHalted.{goes_spent, spends_as}
 use Rattle.atspi_stage.proofs.stage.Stage.move_down.Goals as goal
 
@@ -38,6 +39,6 @@ pub returns-in_err-get-clause-spent : goal.returns-in_err-get-clause-spent
 returns-in_err-get-clause-spent g c = λ is p e playing at.
     let so_far = c.loop-message.invariant.moved p e playing at (is_there p c.args.conn e _ playing at (sym c.is_here.ensures ∙ c.if-not-is_here.false)) in
     let fault = ap Err (given_is c.from_residual-in_err-get.result _ _ c.from_residual-in_err-get.ensures.1 is) in
-    goes_spent p c.args.conn c.args.most c.loop-message.left _ _ _ _ _ _ so_far.1 c.in_ok-moved.ensures.brings
+    goes_spent p c.args.conn c.args.most c.loop-message.left _ _ _ _ _ (with_told playing c.get.new.self.carrier.posts.items c.get.new.self.carrier.trace.items) so_far.1 c.in_ok-moved.ensures.brings
     (spends_as c.args.conn _ _ _ _ _ _ _ (ap (λ v. v.items) c.fill.ensures.posts) (ap (λ v. v.items) c.fill.ensures.trace) (c.in_err-get.ensures.spent fault))
     (c.in_err-get.ensures.stays fault ∙ ap (λ v. v.items) c.fill.ensures.posts)

@@ -6,6 +6,7 @@ use Rattle.atspi_carrying.proofs.Ties.{post_is, post_below}
 use Rattle.atspi_stage.proofs.Moved.{stopped_is, up_here, up_stopped, up_stopped_none, up_away}
 use Rattle.atspi_stage.proofs.Results.{both_ok}
 use Rattle.atspi_stage.proofs.Routing.{part_world}
+use Rattle.atspi_stage.proofs.Halted.{with_told}
 use Rattle.atspi_stage.proofs.BusHalted.{here_lost, here_spent, stopped_lost, stopped_spent}
 use Rattle.atspi_stage.proofs.stage.Stage.move_up.Goals as goal
 
@@ -48,23 +49,23 @@ returns-in-Away-clause-does g c = λ p e is at.
 pub returns-in-Here-clause-lost : goal.returns-in-Here-clause-lost
 returns-in-Here-clause-lost g c = λ is p e playing at.
     let s = c.args.self.now in
-    here_lost p c.args.conn c.args.count e c.index.result.now _ _ playing at
+    here_lost p c.args.conn c.args.count e c.index.result.now _ (with_told playing c.move_up.new.self.posts.items c.move_up.new.self.trace.items) playing at
     (post_is p.world (inner_of s.carrier.bus) s.carrier.posts.items c.args.conn e c.index.result.now playing.is.carried at c.index.ensures) c.in-Here.is (c.move_up.ensures.lost is)
 
 pub returns-in-Here-clause-spent : goal.returns-in-Here-clause-spent
 returns-in-Here-clause-spent g c = λ is p e playing at.
     let s = c.args.self.now in
-    here_spent p c.args.conn c.args.count e c.index.result.now _ _ playing at
+    here_spent p c.args.conn c.args.count e c.index.result.now _ (with_told playing c.move_up.new.self.posts.items c.move_up.new.self.trace.items) playing at
     (post_is p.world (inner_of s.carrier.bus) s.carrier.posts.items c.args.conn e c.index.result.now playing.is.carried at c.index.ensures) c.in-Here.is (c.move_up.ensures.spent is)
 
 pub returns-else-count-eq0-clause-lost : goal.returns-else-count-eq0-clause-lost
 returns-else-count-eq0-clause-lost g c = λ is p e playing at.
     let s = c.args.self.now in
-    stopped_lost p c.args.conn c.args.count e c.index.result.now _ _ playing at
+    stopped_lost p c.args.conn c.args.count e c.index.result.now _ (with_told playing c.part.new.self.posts.items c.part.new.self.trace.items) playing at
     (post_is p.world (inner_of s.carrier.bus) s.carrier.posts.items c.args.conn e c.index.result.now playing.is.carried at c.index.ensures) c.in-Stopped.is c.if-count-eq0.false (c.part.ensures.lost is)
 
 pub returns-else-count-eq0-clause-spent : goal.returns-else-count-eq0-clause-spent
 returns-else-count-eq0-clause-spent g c = λ is p e playing at.
     let s = c.args.self.now in
-    stopped_spent p c.args.conn c.args.count e c.index.result.now _ _ playing at
+    stopped_spent p c.args.conn c.args.count e c.index.result.now _ (with_told playing c.part.new.self.posts.items c.part.new.self.trace.items) playing at
     (post_is p.world (inner_of s.carrier.bus) s.carrier.posts.items c.args.conn e c.index.result.now playing.is.carried at c.index.ensures) c.in-Stopped.is c.if-count-eq0.false (c.part.ensures.spent is)
