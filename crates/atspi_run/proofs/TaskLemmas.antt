@@ -1,9 +1,10 @@
 -- What is asked for in a world, and what the top call says of it.
 use Rattle.std.proofs.Common.{◌≡◌, ℕ, List, Option, inl, inr, refl}
 use Rattle.atspi_events.specs.declared.options.TraceOptions.{TraceOptions}
+use Rattle.atspi_replay.specs.declared.naming.Stop.TheVariants.{NoMemory}
 use Rattle.atspi_replay.specs.Made.{Made}
 use Rattle.atspi_replay.specs.Run.{Replayed}
-use Rattle.atspi_replay.proofs.MadeLemmas.{made_halt}
+use Rattle.atspi_replay.proofs.MadeLemmas.{made_stop}
 use Rattle.atspi_replay.proofs.RunLemmas.{replayed_nothing}
 use Rattle.atspi_run.specs.declared.words.Task.{Task}
 use Rattle.atspi_run.specs.declared.words.Task.TheVariants.{Replay, Make}
@@ -19,7 +20,7 @@ may_do words (Make script) is = few_asked words script.count script.seed is
 -- want of memory before a world stands
 pub gave_up : (task : Task) (left w : Option (List ℕ)) → DoesTask task 5 left left w w
 gave_up (Replay options) left w = replayed_nothing options left left w
-gave_up (Make script) left w = made_halt script.count script.seed 5 w (inr (inl refl))
+gave_up (Make script) left w = made_stop script.count script.seed NoMemory w tt
 
 pub task_replayed : (words : List (List ℕ)) (task : Task) (status : ℕ) (left left' w w' : Option (List ℕ)) → IsTask words task → DoesTask task status left left' w w' → (asked : TraceOptions) → IsReplay words asked
     → Replayed asked 16777216 status left left' w w'
