@@ -7,4 +7,3 @@ pub mod Conversing
 pub mod Going
 pub mod Fetching
 pub mod Stepping
-pub mod Rounding

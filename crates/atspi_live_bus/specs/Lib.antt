@@ -3,4 +3,3 @@ pub mod Serving
 pub mod Asked
 pub mod Service
 pub mod Turns
-pub mod Rounds

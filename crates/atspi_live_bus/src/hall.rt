@@ -1,11 +1,9 @@
 //! The bus and its links, in rounds over a host.
 
-ghost use Rattle.std.specs.Prelude.{◌≡◌, ◌<◌, [], length, IsTrue, IfErr, IfSome, MatchResult, OnOk};
+ghost use Rattle.std.specs.Prelude.{◌≡◌, ◌<◌, [], length, IsTrue, IfErr, IfSome, OnOk};
 ghost use Rattle.std.specs.List.{remove};
 ghost use Rattle.atspi_routing.specs.Queues.{empty_bus};
 ghost use Rattle.atspi_bus.specs.View.{bus_of, given_of};
-ghost use Rattle.atspi_conversation.specs.Rounds.{Makes};
-ghost use Rattle.atspi_live_bus.specs.Rounds.{AreForLinks, Breaks, IsRound};
 ghost use Rattle.atspi_live_bus.specs.Service.{IsStopped, OfTold};
 ghost use Rattle.atspi_live_bus.specs.Serving.{Serves};
 ghost use Rattle.atspi_live_bus.specs.Stops.{IsFree, IsWant, StopBlames};
@@ -74,11 +72,9 @@ impl Hall {
     }
 
     /// Takes a link in, if one waits: it joins the bus at once.
-    #[tactic(auto, using(crate::proofs::Rounding::accepted, crate::proofs::Rounding::accept_failed, crate::proofs::Rounding::sat))]
     fn admit<H: Host>(&mut self, host: &mut H) -> Result<(), Stop>
         requires serves { Serves (H.links host.old) self.old.links.items }
         requires goes { OfTold (Goes self.old.bus self.old.links.items) (H.calls host.old) }
-        ensures calls { MatchResult result (λ _. Makes (H.calls host.old) (H.calls host.new) IsRound) (λ stop. Makes (H.calls host.old) (H.calls host.new) (Breaks stop)) }
         ensures serves { OnOk result (Serves (H.links host.new) self.new.links.items) }
         ensures goes { OnOk result (OfTold (Goes self.new.bus self.new.links.items) (H.calls host.new)) }
         ensures said { IfErr result (λ stop. OfTold (IsStopped stop) (H.calls host.new)) }
@@ -93,12 +89,10 @@ impl Hall {
     }
 
     /// A link is closed, and is none of the bus's any more. Of the link itself nothing is asked.
-    #[tactic(auto, using(crate::proofs::Rounding::for_one))]
     fn close<H: Host>(&mut self, host: &mut H, at: usize)
         requires serves { Serves (H.links host.old) self.old.links.items }
         requires there { at < length self.old.links.items }
         requires goes { OfTold (Goes self.old.bus (remove self.old.links.items at)) (H.calls host.old) }
-        ensures calls { Makes (H.calls host.old) (H.calls host.new) AreForLinks }
         ensures serves { Serves (H.links host.new) self.new.links.items }
         ensures goes { OfTold (Goes self.new.bus self.new.links.items) (H.calls host.new) }
         ensures bus { self.new.bus ≡ self.old.bus }
@@ -129,11 +123,9 @@ impl Hall {
     }
 
     /// The link of a connection that the bus closed is closed, where it still stands.
-    #[tactic(auto, using(crate::proofs::Rounding::for_none, crate::proofs::Rounding::for_both))]
     fn dismiss<H: Host>(&mut self, host: &mut H, conn: u32)
         requires serves { Serves (H.links host.old) self.old.links.items }
         requires goes { OfTold (Goes self.old.bus self.old.links.items) (H.calls host.old) }
-        ensures calls { Makes (H.calls host.old) (H.calls host.new) AreForLinks }
         ensures serves { Serves (H.links host.new) self.new.links.items }
         ensures goes { OfTold (Goes self.new.bus self.new.links.items) (H.calls host.new) }
         ensures same { H.faults host.new ≡ H.faults host.old }
@@ -145,11 +137,9 @@ impl Hall {
     }
 
     /// The links of the connections that the bus closed are closed, in the order of their causes.
-    #[tactic(auto, using(crate::proofs::Rounding::for_none, crate::proofs::Rounding::for_both))]
     fn settle<H: Host>(&mut self, host: &mut H)
         requires serves { Serves (H.links host.old) self.old.links.items }
         requires goes { OfTold (Goes self.old.bus self.old.links.items) (H.calls host.old) }
-        ensures calls { Makes (H.calls host.old) (H.calls host.new) AreForLinks }
         ensures serves { Serves (H.links host.new) self.new.links.items }
         ensures goes { OfTold (Goes self.new.bus self.new.links.items) (H.calls host.new) }
         ensures same { H.faults host.new ≡ H.faults host.old }
@@ -161,12 +151,10 @@ impl Hall {
     }
 
     /// A link is closed, and its connection leaves the bus. Of the link itself nothing is asked.
-    #[tactic(auto, using(crate::proofs::Rounding::for_none, crate::proofs::Rounding::for_both))]
     fn part<H: Host>(&mut self, host: &mut H, at: usize) -> Result<(), Stop>
         requires serves { Serves (H.links host.old) self.old.links.items }
         requires there { at < length self.old.links.items }
         requires goes { OfTold (Goes self.old.bus (remove self.old.links.items at)) (H.calls host.old) }
-        ensures calls { Makes (H.calls host.old) (H.calls host.new) AreForLinks }
         ensures serves { OnOk result (Serves (H.links host.new) self.new.links.items) }
         ensures goes { OnOk result (OfTold (Goes self.new.bus self.new.links.items) (H.calls host.new)) }
         ensures said { IfErr result (λ stop. OfTold (IsStopped stop) (H.calls host.new)) }
@@ -185,11 +173,9 @@ impl Hall {
     }
 
     /// The bus takes the next message of a link, and closes whom it brings to close; one that sent what is malformed is closed. Whether a message was taken.
-    #[tactic(auto, using(crate::proofs::Rounding::for_none, crate::proofs::Rounding::for_both))]
     fn attend_one<H: Host>(&mut self, host: &mut H, conn: u32) -> Result<bool, Stop>
         requires serves { Serves (H.links host.old) self.old.links.items }
         requires goes { OfTold (Goes self.old.bus self.old.links.items) (H.calls host.old) }
-        ensures calls { Makes (H.calls host.old) (H.calls host.new) AreForLinks }
         ensures serves { OnOk result (Serves (H.links host.new) self.new.links.items) }
         ensures goes { OnOk result (OfTold (Goes self.new.bus self.new.links.items) (H.calls host.new)) }
         ensures said { IfErr result (λ stop. OfTold (IsStopped stop) (H.calls host.new)) }
@@ -214,11 +200,9 @@ impl Hall {
     }
 
     /// The bus takes each whole message of a link, until the link is gone. A read brings fewer messages than bytes.
-    #[tactic(auto, using(crate::proofs::Rounding::for_none, crate::proofs::Rounding::for_both))]
     fn attend<H: Host>(&mut self, host: &mut H, conn: u32) -> Result<(), Stop>
         requires serves { Serves (H.links host.old) self.old.links.items }
         requires goes { OfTold (Goes self.old.bus self.old.links.items) (H.calls host.old) }
-        ensures calls { Makes (H.calls host.old) (H.calls host.new) AreForLinks }
         ensures serves { OnOk result (Serves (H.links host.new) self.new.links.items) }
         ensures goes { OnOk result (OfTold (Goes self.new.bus self.new.links.items) (H.calls host.new)) }
         ensures said { IfErr result (λ stop. OfTold (IsStopped stop) (H.calls host.new)) }
@@ -236,11 +220,9 @@ impl Hall {
     }
 
     /// One read of a link, and the bus takes what is then whole. A link that has ended, has failed, or sent what is at fault is closed.
-    #[tactic(auto, using(crate::proofs::Rounding::for_none, crate::proofs::Rounding::for_both))]
     fn take_in<H: Host>(&mut self, host: &mut H, conn: u32) -> Result<(), Stop>
         requires serves { Serves (H.links host.old) self.old.links.items }
         requires goes { OfTold (Goes self.old.bus self.old.links.items) (H.calls host.old) }
-        ensures calls { Makes (H.calls host.old) (H.calls host.new) AreForLinks }
         ensures serves { OnOk result (Serves (H.links host.new) self.new.links.items) }
         ensures goes { OnOk result (OfTold (Goes self.new.bus self.new.links.items) (H.calls host.new)) }
         ensures said { IfErr result (λ stop. OfTold (IsStopped stop) (H.calls host.new)) }
@@ -258,11 +240,9 @@ impl Hall {
     }
 
     /// One write of a link that is open, where output waits. One on which it failed is closed.
-    #[tactic(auto, using(crate::proofs::Rounding::for_none, crate::proofs::Rounding::for_both))]
     fn give<H: Host>(&mut self, host: &mut H, conn: u32) -> Result<(), Stop>
         requires serves { Serves (H.links host.old) self.old.links.items }
         requires goes { OfTold (Goes self.old.bus self.old.links.items) (H.calls host.old) }
-        ensures calls { Makes (H.calls host.old) (H.calls host.new) AreForLinks }
         ensures serves { OnOk result (Serves (H.links host.new) self.new.links.items) }
         ensures goes { OnOk result (OfTold (Goes self.new.bus self.new.links.items) (H.calls host.new)) }
         ensures said { IfErr result (λ stop. OfTold (IsStopped stop) (H.calls host.new)) }
@@ -280,11 +260,9 @@ impl Hall {
     }
 
     /// One read of a link and, where it is still open, one write.
-    #[tactic(auto, using(crate::proofs::Rounding::for_none, crate::proofs::Rounding::for_both))]
     fn serve<H: Host>(&mut self, host: &mut H, conn: u32) -> Result<(), Stop>
         requires serves { Serves (H.links host.old) self.old.links.items }
         requires goes { OfTold (Goes self.old.bus self.old.links.items) (H.calls host.old) }
-        ensures calls { Makes (H.calls host.old) (H.calls host.new) AreForLinks }
         ensures serves { OnOk result (Serves (H.links host.new) self.new.links.items) }
         ensures goes { OnOk result (OfTold (Goes self.new.bus self.new.links.items) (H.calls host.new)) }
         ensures said { IfErr result (λ stop. OfTold (IsStopped stop) (H.calls host.new)) }
@@ -298,11 +276,9 @@ impl Hall {
     }
 
     /// Each link is served once, in the order in which they joined.
-    #[tactic(auto, using(crate::proofs::Rounding::for_none, crate::proofs::Rounding::for_both))]
     fn pass<H: Host>(&mut self, host: &mut H) -> Result<(), Stop>
         requires serves { Serves (H.links host.old) self.old.links.items }
         requires goes { OfTold (Goes self.old.bus self.old.links.items) (H.calls host.old) }
-        ensures calls { Makes (H.calls host.old) (H.calls host.new) AreForLinks }
         ensures serves { OnOk result (Serves (H.links host.new) self.new.links.items) }
         ensures goes { OnOk result (OfTold (Goes self.new.bus self.new.links.items) (H.calls host.new)) }
         ensures said { IfErr result (λ stop. OfTold (IsStopped stop) (H.calls host.new)) }
@@ -328,11 +304,9 @@ impl Hall {
     }
 
     /// One round: an accept, and each link is served once.
-    #[tactic(auto, using(crate::proofs::Rounding::passed))]
     pub(crate) fn round<H: Host>(&mut self, host: &mut H) -> Result<(), Stop>
         requires serves { Serves (H.links host.old) self.old.links.items }
         requires goes { OfTold (Goes self.old.bus self.old.links.items) (H.calls host.old) }
-        ensures calls { MatchResult result (λ _. Makes (H.calls host.old) (H.calls host.new) IsRound) (λ stop. Makes (H.calls host.old) (H.calls host.new) (Breaks stop)) }
         ensures serves { OnOk result (Serves (H.links host.new) self.new.links.items) }
         ensures goes { OnOk result (OfTold (Goes self.new.bus self.new.links.items) (H.calls host.new)) }
         ensures said { IfErr result (λ stop. OfTold (IsStopped stop) (H.calls host.new)) }

@@ -5,8 +5,6 @@ ghost use Rattle.atspi_auth.specs.declared.stage.Stage.TheVariants.{Over};
 ghost use Rattle.atspi_message.specs.Envelope.{Envelope};
 ghost use Rattle.atspi_bus.specs.View.{bus_of, given_of};
 ghost use Rattle.atspi_host.specs.Calls.{IsOpen};
-ghost use Rattle.atspi_conversation.specs.Rounds.{Makes};
-ghost use Rattle.atspi_live_bus.specs.Rounds.{AreForLinks};
 ghost use Rattle.atspi_live_bus.specs.Asked.{Spends};
 ghost use Rattle.atspi_live_bus.specs.Service.{IsSpeech};
 ghost use Rattle.atspi_live_bus.specs.Stops.{IsFree, IsWant};
@@ -80,10 +78,8 @@ impl Link {
     }
 
     /// One read, and what it brings is heard. False where the link has ended, has failed, or sent a line that is at fault.
-    #[tactic(auto, using(crate::proofs::Rounding::for_none, crate::proofs::Rounding::for_one))]
     pub(crate) fn take_in<H: Host>(&mut self, host: &mut H) -> Result<bool, Stop>
         requires { IsOpen self.old.number (H.links host.old) }
-        ensures calls { Makes (H.calls host.old) (H.calls host.new) AreForLinks }
         ensures ok { IfOk result (λ goes_on. (took : List Envelope) (handed : List ℕ)
             → Carries self.old.number (H.calls host.old) (H.calls host.new) (Converses took handed self.old) (Remains goes_on took handed self.new)) }
         ensures err { OnErr result ((took : List Envelope) (handed : List ℕ)
@@ -222,10 +218,8 @@ impl Link {
     }
 
     /// One write, where output waits. False where it failed.
-    #[tactic(auto, using(crate::proofs::Rounding::for_none, crate::proofs::Rounding::for_one))]
     pub(crate) fn give<H: Host>(&mut self, host: &mut H, bus: &mut Bus) -> Result<bool, Stop>
         requires { IsOpen self.old.number (H.links host.old) }
-        ensures calls { Makes (H.calls host.old) (H.calls host.new) AreForLinks }
         ensures ok { OnOk result (Gives self.old.conn self.old.number (H.calls host.old) (H.calls host.new) (bus_of bus.old) (bus_of bus.new) self.old self.new) }
         ensures err { OnErr result (H.calls host.new ≡ H.calls host.old) }
         ensures given { given_of bus.new ≡ given_of bus.old }

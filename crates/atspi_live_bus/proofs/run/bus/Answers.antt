@@ -1,9 +1,4 @@
-use Rattle.std.proofs.Common.{ℕ, refl, sym, ap, subst, ◌∙◌, arith}
-use Rattle.atspi_conversation.proofs.RoundLemmas.{makes_none}
-use Rattle.atspi_live_bus.specs.Rounds.{AreRounds, IsRun}
-use Rattle.atspi_live_bus.specs.Service.{OfTold}
-use Rattle.atspi_live_bus.specs.Stops.{status_of}
-use Rattle.atspi_live_bus.proofs.Rounding.{not_listened, rounds_more, run_done, run_stopped}
+use Rattle.std.proofs.Common.{◌∙◌}
 use Rattle.atspi_live_bus.proofs.Ending.{none_served}
 use Rattle.atspi_live_bus.proofs.Stepping.{listened, nothing_served, service_stopped, service_told}
 use Rattle.atspi_live_bus.proofs.run.bus.Goals as goal
@@ -13,7 +8,6 @@ loop-init g c = record {
   serves = none_served (g.H.Host.links c.listen.new.host) c.new-hall.result.links.items (c.listen.ensures.links ∙ c.requires.links) c.new-hall.ensures.links;
   goes = listened c.new-hall.result.bus c.new-hall.result.links.items c.args.path.now c.listen.ensures.calls.0 (g.H.Host.calls c.args.host.now) (g.H.Host.calls c.listen.new.host) c.new-hall.ensures.bus c.new-hall.ensures.links
       c.requires.calls c.listen.ensures.calls.1;
-  rounds = (g.H.Host.calls c.listen.new.host, c.in_default.ensures.told.0, c.in_default.ensures.told.1, makes_none (g.H.Host.calls c.listen.new.host) (AreRounds 0) refl);
   same = c.in_default.ensures.same;
 }
 
@@ -26,29 +20,3 @@ returns-in-Err-clause-service g c =
 
 pub returns-in-Err-round-clause-service : goal.returns-in-Err-round-clause-service
 returns-in-Err-round-clause-service g c = service_stopped c.in-Err-round.stop (g.H.Host.calls c.round.new.host) c.in-Err-round.ensures.said
-
-pub loop-preserved : goal.loop-preserved
-loop-preserved g c =
-    let r = c.loop.invariant.rounds in
-    record {
-      serves = c.in-Ok.ensures.serves;
-      goes = c.in-Ok.ensures.goes;
-      rounds = (r.0, r.1, r.2, rounds_more c.loop.counter r.0 (g.H.Host.calls c.loop.host) (g.H.Host.calls c.round.new.host) r.3 c.in-Ok.ensures.calls);
-      same = c.in-Ok.ensures.same ∙ c.loop.invariant.same;
-    }
-
-pub returns-clause-rounds : goal.returns-clause-rounds
-returns-clause-rounds g c =
-    let r = c.loop.invariant.rounds in
-    run_done c.args.path.now c.loop.counter c.args.rounds r.1 (g.H.Host.calls c.args.host.now) r.0 (g.H.Host.calls c.loop.host) c.requires.calls r.2 (omega arith) r.3
-
-pub returns-in-Err-clause-rounds : goal.returns-in-Err-clause-rounds
-returns-in-Err-clause-rounds g c =
-    subst (λ (n : ℕ). OfTold (IsRun c.args.path.now n c.args.rounds) (g.H.Host.calls c.listen.new.host)) (sym (c.status_of.ensures ∙ ap status_of c.in-Err.ensures.failed))
-    (not_listened c.args.path.now c.args.rounds (g.H.Host.calls c.args.host.now) (g.H.Host.calls c.listen.new.host) c.requires.calls c.in-Err.ensures.told)
-
-pub returns-in-Err-round-clause-rounds : goal.returns-in-Err-round-clause-rounds
-returns-in-Err-round-clause-rounds g c =
-    let r = c.loop.invariant.rounds in
-    subst (λ (n : ℕ). OfTold (IsRun c.args.path.now n c.args.rounds) (g.H.Host.calls c.round.new.host)) (sym c.status_of-in-Err-round.ensures)
-    (run_stopped c.args.path.now c.loop.counter c.args.rounds c.in-Err-round.stop r.1 (g.H.Host.calls c.args.host.now) r.0 (g.H.Host.calls c.loop.host) (g.H.Host.calls c.round.new.host) c.requires.calls r.2 (omega arith) r.3 c.in-Err-round.ensures.calls)

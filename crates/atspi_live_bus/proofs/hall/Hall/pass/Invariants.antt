@@ -1,6 +1,4 @@
 use Rattle.std.proofs.Common.{◌≡◌}
-use Rattle.atspi_conversation.specs.Rounds.{Makes}
-use Rattle.atspi_live_bus.specs.Rounds.{AreForLinks}
 use Rattle.atspi_live_bus.specs.Service.{OfTold}
 use Rattle.atspi_live_bus.specs.Serving.{Serves}
 use Rattle.atspi_live_bus.specs.Turns.{Goes}
@@ -10,6 +8,5 @@ abbrev pub invariant-loop : goal.invariant-loop
 invariant-loop g l = record {
   serves : Serves (g.H.Host.links l.host) l.self.links.items;
   goes : OfTold (Goes l.self.bus l.self.links.items) (g.H.Host.calls l.host);
-  calls : Makes (g.H.Host.calls l.fn.host) (g.H.Host.calls l.host) AreForLinks;
   same : g.H.Host.faults l.host ≡ g.H.Host.faults l.fn.host;
 }

@@ -7,7 +7,6 @@ use Rattle.atspi_live_bus.specs.Turns.{Goes}
 use Rattle.atspi_live_bus.specs.declared.link.Link.{Link}
 use Rattle.atspi_live_bus.proofs.Counting.{fewer_closings}
 use Rattle.atspi_live_bus.proofs.Going.{told_closings}
-use Rattle.atspi_live_bus.proofs.Rounding.{for_none}
 use Rattle.atspi_live_bus.proofs.Stepping.{asked_goes}
 use Rattle.atspi_live_bus.proofs.hall.Hall.settle.Goals as goal
 
@@ -16,7 +15,6 @@ closings-init g c = record {
   serves = subst (λ (w : List Link). Serves (g.H.Host.links c.args.host.now) w) (sym c.forget.ensures.links) c.requires.serves;
   goes = subst (λ (w : List Link). OfTold (Goes c.forget.new.self.bus w) (g.H.Host.calls c.args.host.now)) (sym c.forget.ensures.links)
       (asked_goes c.args.self.now.bus c.forget.new.self.bus c.args.self.now.links.items (g.H.Host.calls c.args.host.now) c.forget.ensures.asked c.forget.ensures.given c.requires.goes);
-  calls = for_none (g.H.Host.calls c.args.host.now);
   same = refl;
 }
 

@@ -1,7 +1,5 @@
 use Rattle.std.proofs.Common.{◌≡◌, length}
 use Rattle.atspi_bus.specs.View.{bus_of}
-use Rattle.atspi_conversation.specs.Rounds.{Makes}
-use Rattle.atspi_live_bus.specs.Rounds.{AreForLinks}
 use Rattle.atspi_live_bus.specs.Service.{OfTold}
 use Rattle.atspi_live_bus.specs.Serving.{Serves}
 use Rattle.atspi_live_bus.specs.Turns.{Goes}
@@ -11,7 +9,6 @@ abbrev pub invariant-closings : goal.invariant-closings
 invariant-closings g l = record {
   serves : Serves (g.H.Host.links l.host) l.self.links.items;
   goes : OfTold (Goes l.self.bus l.self.links.items) (g.H.Host.calls l.host);
-  calls : Makes (g.H.Host.calls l.fn.host) (g.H.Host.calls l.host) AreForLinks;
   same : g.H.Host.faults l.host ≡ g.H.Host.faults l.fn.host;
 }
 
