@@ -1,6 +1,6 @@
 //! The live commands: `bus PATH ROUNDS`, `registry PATH ROUNDS`, `app PATH ROUNDS`, `read PATH ROUNDS` on a Unix socket.
 
-ghost use Rattle.std.specs.Prelude.{◌≡◌, []};
+ghost use Rattle.std.specs.Prelude.{◌≡◌, ◌≤◌, [], IfSome, length};
 ghost use Rattle.atspi_live_bus.specs.Service.{HasNoCall, OfTold};
 ghost use Rattle.atspi_live_registry.specs.Runs.{Begins};
 
@@ -40,7 +40,8 @@ enum Command {
 #[derive(Clone, Copy)]
 pub struct Live<'a> {
     command: Command,
-    pub path: &'a str,
+    /// The bytes of the socket's path.
+    pub path: &'a [u8],
     rounds: u32,
 }
 
@@ -68,13 +69,15 @@ fn command_in(word: &str) -> Option<Command> {
 }
 
 /// What the words ask for, where they are those of a live command.
-pub fn live_in(words: &[String]) -> Option<Live<'_>> {
+pub fn live_in(words: &[String]) -> Option<Live<'_>>
+    ensures short { IfSome result (λ live. length live.path.now ≤ 107) }
+{
     let [command, path, rounds] = words else {
         return None;
     };
     let command = command_in(command.as_str())?;
     let rounds = read_number(rounds.as_str().as_bytes())?;
-    let path = path.as_str();
+    let path = path.as_str().as_bytes();
     if path.is_empty() || path.len() > PATH_LIMIT || rounds == 0 || rounds > FOR_GOOD {
         return None;
     }

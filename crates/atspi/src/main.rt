@@ -39,7 +39,7 @@ fn main(rt: HostRuntime) -> ExitCode {
     let Some(live) = live_in(&words) else {
         return ExitCode::from(run(alloc, &words, &mut source, &mut sink));
     };
-    let path = match Text::read(alloc, live.path.as_bytes()) {
+    let path = match Text::read(alloc, live.path) {
         Ok(path) => path,
         Err(TextFault::NoMemory) => return ExitCode::from(5),
         Err(_) => return ExitCode::from(run(alloc, &words, &mut source, &mut sink)),
