@@ -16,7 +16,7 @@ use crate::paths::{Paths, insert_below, parent_of, put_root, remove_subtree, sit
 use crate::rows::{Rows, rows_from};
 use atspi_base::NoMemory;
 use atspi_forest::Row;
-use atspi_types::Path;
+use atspi_valid_names::Path;
 use indexmap::IndexMap;
 use slab::Slab;
 use std::alloc::Global;

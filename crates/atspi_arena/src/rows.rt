@@ -11,7 +11,7 @@ ghost use Rattle.atspi_arena.specs.Walk.{At, EndsAt, Frame, IsAtIndex, IsNext, I
 use crate::cell::Cell;
 use crate::paths::{Paths, parent_of};
 use atspi_forest::Row;
-use atspi_types::Path;
+use atspi_valid_names::Path;
 use slab::Slab;
 use std::iter::FusedIterator;
 use std::marker::Model;

@@ -4,7 +4,7 @@ use Rattle.std.proofs.lemmas.Bool.Decides.{Decides-eqb}
 use Rattle.std.specs.Prelude.{◌==◌, bytes_eq}
 use Rattle.std.specs.List.{list_any, filter}
 use Rattle.atspi_message.specs.Envelope.{Envelope}
-use Rattle.atspi_types.specs.Names.{is_unique_name}
+use Rattle.atspi_valid_names.specs.Names.{is_unique_name}
 use Rattle.atspi_names.specs.Queue.{owner_in, without}
 use Rattle.atspi_names.specs.Owners.{Owners, list_of, lists_without, own_name, after_gone}
 use Rattle.atspi_names.proofs.BookLemmas.{list_of-lists_without}

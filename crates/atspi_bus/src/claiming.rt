@@ -22,7 +22,7 @@ use atspi_bus_steps::{BusFault, Inner, expects_reply};
 use atspi_header::MessageRef;
 use atspi_message::Message;
 use atspi_routing::BusMember;
-use atspi_types::BusName;
+use atspi_valid_names::BusName;
 use std::collections::VecDeque;
 
 /// Says what an answer tells, and behind it the reply to the call, where one is expected, all or nothing. Where it cannot be said in place, and after a

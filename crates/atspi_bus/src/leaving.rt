@@ -17,7 +17,7 @@ use atspi_bus_answers::{next_owner, owner_changed};
 use atspi_bus_steps::{BusFault, Inner, tell_acquired, tell_callers, unique_of};
 use atspi_message::Message;
 use atspi_names::Names;
-use atspi_types::BusName;
+use atspi_valid_names::BusName;
 use std::alloc::Global;
 use std::collections::VecDeque;
 use std::mem;

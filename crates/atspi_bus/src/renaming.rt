@@ -25,7 +25,7 @@ use atspi_header::MessageRef;
 use atspi_message::Message;
 use atspi_names::{Names, NamesFault};
 use atspi_routing::BusMember;
-use atspi_types::BusName;
+use atspi_valid_names::BusName;
 use std::collections::VecDeque;
 use std::mem;
 

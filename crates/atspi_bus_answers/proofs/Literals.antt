@@ -8,8 +8,8 @@ use Rattle.std.proofs.lemmas.Str.{chars-IsAscii, encodes-IsAscii}
 use borrow.Author.Tests.{ltb-true}
 use Rattle.atspi_routing.specs.Answers.{bus_id}
 use Rattle.atspi_base.specs.Text.{HasNoZero}
-use Rattle.atspi_types.specs.Elements.{parts_of, are_elements, are_two_or_more}
-use Rattle.atspi_types.specs.Names.{is_path, is_interface, is_member, is_bus_name}
+use Rattle.atspi_valid_names.specs.Elements.{parts_of, are_elements, are_two_or_more}
+use Rattle.atspi_valid_names.specs.Names.{is_path, is_interface, is_member, is_bus_name}
 use Rattle.atspi_names.specs.Owners.{own_name}
 use Rattle.atspi_routing.specs.OwnMessages.{own_path, error_prefix}
 use Rattle.atspi_bus_answers.specs.declared.error.BusError.{BusError}

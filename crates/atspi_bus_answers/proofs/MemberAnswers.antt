@@ -8,7 +8,7 @@ use Rattle.std.specs.FinMap.{get-insert, get-remove}
 use Rattle.std.proofs.lemmas.Bool.{and_parts}
 use Rattle.std.proofs.lemmas.Str.{encodes-chars}
 use Rattle.atspi_types.specs.Data.{Data}
-use Rattle.atspi_types.specs.Names.{is_bus_name, is_unique_name}
+use Rattle.atspi_valid_names.specs.Names.{is_bus_name, is_unique_name}
 use Rattle.atspi_message.specs.Envelope.{envelope_of}
 use Rattle.atspi_message.specs.declared.message.Message.{Message}
 use Rattle.atspi_names.specs.Owners.{Owners, Lists, list_of, with_list, own_name}

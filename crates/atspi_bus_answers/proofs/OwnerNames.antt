@@ -7,8 +7,8 @@ use Rattle.std.proofs.lemmas.Str.{encodes-chars}
 use Rattle.atspi_types.specs.Data.{Data, text_data}
 use Rattle.atspi_types.specs.DataView.{data_of}
 use Rattle.atspi_types.specs.declared.value.Value.{Value}
-use Rattle.atspi_types.specs.Names.{IsBusName, is_bus_name, is_unique_name}
-use Rattle.atspi_types.proofs.NameLemmas.{is_bus_name-from_IsBusName}
+use Rattle.atspi_valid_names.specs.Names.{IsBusName, is_bus_name, is_unique_name}
+use Rattle.atspi_valid_names.proofs.NameLemmas.{is_bus_name-from_IsBusName}
 use Rattle.atspi_names.specs.Owners.{Owners, list_of, own_name}
 use Rattle.atspi_names.specs.Queue.{owner_in}
 use Rattle.atspi_routing.specs.BusState.{name_or_empty}

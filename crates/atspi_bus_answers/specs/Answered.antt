@@ -2,7 +2,7 @@
 use Rattle.std.specs.Prelude.{◌≡◌, ◌++◌, ℕ, Bool, true, false, List, [], map, Option, None, Some, encode_utf8_all}
 use Rattle.atspi_types.specs.Data.{Data}
 use Rattle.atspi_types.specs.DataView.{all_data}
-use Rattle.atspi_types.specs.Names.{is_bus_name}
+use Rattle.atspi_valid_names.specs.Names.{is_bus_name}
 use Rattle.atspi_message.specs.Envelope.{envelope_of}
 use Rattle.atspi_message.specs.declared.message.Message.{Message}
 use Rattle.atspi_names.specs.Owners.{Owners, Lists, list_of}

@@ -11,7 +11,7 @@ use crate::said::{name_acquired, name_lost, owner_changed};
 use atspi_base::NoMemory;
 use atspi_message::Message;
 use atspi_names::{Names, OwnerChange};
-use atspi_types::BusName;
+use atspi_valid_names::BusName;
 use std::alloc::Global;
 
 /// The unique name of an owner, if there is one.

@@ -14,7 +14,8 @@ use crate::literal::is_own;
 use crate::values::{name_value, one, owner_value};
 use atspi_base::{NoMemory, Text};
 use atspi_names::Names;
-use atspi_types::{BusName, NameFault, Ty, Value, Values};
+use atspi_types::{Ty, Value, Values};
+use atspi_valid_names::{BusName, NameFault};
 use std::alloc::Global;
 
 /// The names as texts.

@@ -13,7 +13,8 @@ use crate::literal::is_own;
 use crate::values::{one, owner_value};
 use atspi_base::{NoMemory, Text};
 use atspi_names::Names;
-use atspi_types::{BusName, NameFault, Value};
+use atspi_types::Value;
+use atspi_valid_names::{BusName, NameFault};
 use std::alloc::Global;
 
 /// Who owns the name that the text is, as a text: the bus its own, and else a connection by its unique name.

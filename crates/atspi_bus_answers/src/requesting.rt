@@ -17,7 +17,8 @@ use atspi_base::NoMemory;
 use atspi_header::MessageRef;
 use atspi_message::Message;
 use atspi_names::Names;
-use atspi_types::{BusName, NameFault, Value};
+use atspi_types::Value;
+use atspi_valid_names::{BusName, NameFault};
 use std::alloc::Global;
 
 /// The name that the text is, where connections may ask for it.

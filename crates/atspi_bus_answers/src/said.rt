@@ -3,7 +3,7 @@
 ghost use Rattle.std.specs.Prelude.{◌≡◌, [], ◌∷◌, true, codes, IfOk, option_copied};
 ghost use Rattle.atspi_types.specs.Data.{text_data};
 ghost use Rattle.atspi_types.specs.DataView.{all_data};
-ghost use Rattle.atspi_types.specs.Names.{is_member};
+ghost use Rattle.atspi_valid_names.specs.Names.{is_member};
 ghost use Rattle.atspi_message.specs.Envelope.{envelope_of};
 ghost use Rattle.atspi_routing.specs.BusState.{text_or_empty};
 ghost use Rattle.atspi_routing.specs.OwnMessages as own;
@@ -14,7 +14,8 @@ use crate::literal::{bus_name, interface, member, path};
 use crate::values::{name_value, one, owner_value};
 use atspi_base::{NoMemory, Text};
 use atspi_message::Message;
-use atspi_types::{BusName, Order, Value, Values};
+use atspi_types::{Order, Value, Values};
+use atspi_valid_names::BusName;
 use std::alloc::Global;
 
 /// The name of the bus itself, which is also that of its interface.

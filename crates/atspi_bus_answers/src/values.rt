@@ -7,7 +7,8 @@ ghost use Rattle.atspi_types.specs.DataView.{data_of, all_data};
 ghost use Rattle.atspi_routing.specs.BusState.{text_or_empty};
 
 use atspi_base::{NoMemory, Text};
-use atspi_types::{BusName, Value, Values};
+use atspi_types::{Value, Values};
+use atspi_valid_names::BusName;
 use std::alloc::Global;
 
 /// The name as a text.

@@ -25,7 +25,7 @@ use atspi_header::MessageRef;
 use atspi_message::Message;
 use atspi_names::NamesFault;
 use atspi_routing::BusMember;
-use atspi_types::BusName;
+use atspi_valid_names::BusName;
 use std::alloc::Global;
 
 /// What is told where a connection gets its unique name: its reply, where it expects one, and then the name, to it and to all that ask

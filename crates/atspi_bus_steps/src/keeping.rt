@@ -17,7 +17,7 @@ use atspi_message::Message;
 use atspi_names::Names;
 use atspi_queues::Queues;
 use atspi_routing::Closing;
-use atspi_types::BusName;
+use atspi_valid_names::BusName;
 use std::alloc::Global;
 use std::collections::VecDeque;
 

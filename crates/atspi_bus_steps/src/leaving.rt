@@ -18,7 +18,7 @@ use atspi_bus_answers::{BusError, error_to, owner_changed};
 use atspi_message::Message;
 use atspi_names::Names;
 use atspi_routing::{Closing, Why};
-use atspi_types::BusName;
+use atspi_valid_names::BusName;
 use std::alloc::Global;
 
 /// Those whose calls wait for a connection's answer are told that there is none, the oldest call first.

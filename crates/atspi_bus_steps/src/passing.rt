@@ -2,7 +2,7 @@
 
 ghost use Rattle.std.specs.Prelude.{◌≡◌, ◌≢◌, ◌+◌, ◌<◌, ◌≤◌, ◌==◌, ◌&&◌, ℕ, true, [], ◌∷◌, ◌++◌, not, map, length, None, Some, All, IfOk, OnOk, OnErr, IsErrOf, MatchBool, MatchOption, remove, vec_len, vec_capacity};
 ghost use Rattle.std.specs.List.Sorted.{IsStrictlyIncreasing};
-ghost use Rattle.atspi_types.specs.Names.{is_bus_name};
+ghost use Rattle.atspi_valid_names.specs.Names.{is_bus_name};
 ghost use Rattle.atspi_message.specs.Bytes.{written};
 ghost use Rattle.atspi_message.specs.Rules.{MeetsRules};
 ghost use Rattle.atspi_header.specs.View.{envelope_at};

@@ -3,7 +3,7 @@
 ghost use Rattle.std.specs.Prelude.{◌≡◌, ℕ, List, [], true, filter, Contains, IfOk, IsTrue};
 ghost use Rattle.std.specs.List.{list_any};
 ghost use Rattle.std.specs.List.Sorted.{IsStrictlyIncreasing};
-ghost use Rattle.atspi_types.specs.Names.{is_bus_name};
+ghost use Rattle.atspi_valid_names.specs.Names.{is_bus_name};
 ghost use Rattle.atspi_message.specs.Envelope.{envelope_of};
 ghost use Rattle.atspi_message.specs.Bytes.{IsMessage};
 ghost use Rattle.atspi_header.specs.View.{envelope_at};
@@ -20,7 +20,7 @@ use atspi_match::RuleIndex;
 use atspi_message::Message;
 use atspi_names::Names;
 use atspi_readings::laws::messages_are_asked_for;
-use atspi_types::{BusName, NameFault};
+use atspi_valid_names::{BusName, NameFault};
 use std::alloc::Global;
 
 /// Whether a connection has joined.

@@ -11,7 +11,8 @@ use atspi_base::{NoMemory, Text};
 use atspi_bus_answers::name_acquired;
 use atspi_message::Message;
 use atspi_names::Names;
-use atspi_types::{BusName, Value, Values};
+use atspi_types::{Value, Values};
+use atspi_valid_names::BusName;
 use std::alloc::Global;
 
 /// The unique name of an owner, if there is one.

@@ -18,7 +18,7 @@ use crate::BusFault;
 use crate::inner::Inner;
 use atspi_header::MessageRef;
 use atspi_routing::Why;
-use atspi_types::BusName;
+use atspi_valid_names::BusName;
 
 /// The name of the bus, which is also that of its interface.
 const BUS: &str = "org.freedesktop.DBus";

@@ -2,11 +2,11 @@
 
 ghost use Rattle.std.specs.Prelude.{◌≡◌, ◌≢◌, false, None, IfSome};
 ghost use Rattle.std.specs.FinMap as finmap;
-ghost use Rattle.atspi_types.specs.Names.{is_unique_name};
+ghost use Rattle.atspi_valid_names.specs.Names.{is_unique_name};
 ghost use Rattle.atspi_names.specs.Owners as owners;
 
 use atspi_names::{NameList, Names, OwnerChange};
-use atspi_types::BusName;
+use atspi_valid_names::BusName;
 use std::alloc::Global;
 use std::process::Abort;
 

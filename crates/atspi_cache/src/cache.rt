@@ -13,7 +13,7 @@ use crate::news::{fold, marks_reload};
 use atspi_arena::{Arena, Rows};
 use atspi_base::{NoMemory, Text};
 use atspi_forest::{Items, News, Row};
-use atspi_types::{BusName, Path};
+use atspi_valid_names::{BusName, Path};
 use std::alloc::Global;
 use std::collections::BTreeMap;
 use std::marker::Model;

@@ -8,7 +8,7 @@ ghost use Rattle.atspi_cache.specs.Plain.{is_plain};
 use atspi_arena::Change;
 use atspi_base::{NoMemory, Text, Texts};
 use atspi_forest::{Item, Kinds, NumPart, Part, Row};
-use atspi_types::Path;
+use atspi_valid_names::Path;
 use std::alloc::Global;
 
 /// Whether a text has just these characters of ASCII.

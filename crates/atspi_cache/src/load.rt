@@ -9,7 +9,7 @@ use atspi_arena::Arena;
 use atspi_base::{NoMemory, Text};
 use atspi_forest::Item;
 use atspi_load::reached_items;
-use atspi_types::Path;
+use atspi_valid_names::Path;
 use std::alloc::Global;
 
 /// Puts the row of an item behind the other children of its parent.

@@ -11,7 +11,7 @@ use crate::item::{fresh, renewal};
 use atspi_arena::{Arena, Change, spot};
 use atspi_base::{NoMemory, Text};
 use atspi_forest::{Item, News, Part};
-use atspi_types::Path;
+use atspi_valid_names::Path;
 use std::alloc::Global;
 
 /// Whether two texts are the same, as a test that computes.

@@ -4,7 +4,7 @@ use crate::items::{items_of, path_of};
 use crate::news::news_of;
 use atspi_cache::{Cache, Seen};
 use atspi_forest::{Items, News};
-use atspi_types::BusName;
+use atspi_valid_names::BusName;
 use std::alloc::Global;
 
 /// A cache that loaded items of an application with a root.

@@ -2,7 +2,7 @@
 
 use atspi_base::{Text, Texts};
 use atspi_forest::{Item, Items, Reference};
-use atspi_types::Path;
+use atspi_valid_names::Path;
 use std::alloc::Global;
 
 /// A text of fewer than 1,000 bytes.

@@ -3,7 +3,7 @@
 use atspi_base::{Text, Texts};
 use atspi_forest::{Item, News, NumPart, Part, Reference, Row};
 use atspi_speech::{closing_line, lines};
-use atspi_types::Path;
+use atspi_valid_names::Path;
 use std::test::*;
 
 const FOCUSED: u64 = 1 << 12;

@@ -11,8 +11,8 @@ use Rattle.std.proofs.lemmas.List.{map-append}
 use Rattle.std.proofs.lemmas.Option.{same_Some}
 use Rattle.atspi_types.specs.Data.{text_data, number_data}
 use Rattle.atspi_types.specs.Kinds.{u32}
-use Rattle.atspi_types.specs.Names.{is_bus_name}
-use Rattle.atspi_types.specs.Elements.{are_two_or_more, are_elements, parts_of}
+use Rattle.atspi_valid_names.specs.Names.{is_bus_name}
+use Rattle.atspi_valid_names.specs.Elements.{are_two_or_more, are_elements, parts_of}
 use Rattle.atspi_match.specs.declared.condition.Condition.{Condition}
 use Rattle.atspi_message.specs.Envelope.{Envelope}
 use Rattle.atspi_message.specs.Bytes.{IsMessage, written, spelled_with, header_bytes, body_bytes, body_place, rising_fields}

@@ -1,6 +1,6 @@
 //! The tests of the four kinds of name, which need no memory.
 
-use atspi_types::{is_bus_name, is_interface, is_member, is_path};
+use atspi_valid_names::{is_bus_name, is_interface, is_member, is_path};
 
 /// Bytes in ASCII, and which kinds of name they are: `p` path, `b` bus name, `i` interface, `m` member.
 const NAMES: &str = "\

@@ -16,7 +16,8 @@ use crate::plain::{fault, room};
 use atspi_base::{TextFault, read_str};
 use atspi_codes::{TyRef, TysRef};
 use atspi_marshal::{Bound, Marshalled, byte_at, u32_at};
-use atspi_types::{Fault, is_path};
+use atspi_types::Fault;
+use atspi_valid_names::is_path;
 
 /// Whether each byte is a character of its own, and none is 0.
 fn are_plain(bytes: &[u8]) -> bool

@@ -17,7 +17,7 @@ use atspi_forest::Step;
 use atspi_lines::Party;
 use atspi_message::Message;
 use atspi_owned_text::message_text;
-use atspi_types::BusName;
+use atspi_valid_names::BusName;
 
 /// Appends that an end was started, and the name of an application's root.
 fn put_start(who: Party, name: &Option<Text>, out: &mut Bytes) -> Result<(), NoMemory>

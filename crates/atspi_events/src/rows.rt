@@ -13,7 +13,7 @@ use crate::words::{put_number, put_role, put_text, put_word};
 use atspi_base::{Bytes, NoMemory, put_hex, put_signed};
 use atspi_forest::{NumPart, Part, Row};
 use atspi_lines::read_number;
-use atspi_types::Path;
+use atspi_valid_names::Path;
 
 /// How many bytes the path of each node of an application begins with.
 const BASE_LENGTH: usize = 27;

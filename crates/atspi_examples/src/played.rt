@@ -83,7 +83,7 @@ pub fn readers()
 {}
 
 /// A reader takes the return to its Hello, upon which it asks for its first rule; and the news of an end, of which it speaks.
-#[tactic(auto, unfolding(atspi_types::specs::Names::is_bus_name, atspi_types::specs::Elements::are_two_or_more, atspi_types::specs::Elements::are_elements, atspi_types::specs::Elements::parts_of))]
+#[tactic(auto, unfolding(atspi_valid_names::specs::Names::is_bus_name, atspi_valid_names::specs::Elements::are_two_or_more, atspi_valid_names::specs::Elements::are_elements, atspi_valid_names::specs::Elements::parts_of))]
 pub fn taken()
     ensures entries { (b : Bus) → (reader_got (playing (starting_world b (hello_returned ∷ [])) hello_waits) 4 1 hello_returned (Some hello_waits)).entries
         ≡ got (party.Reader 1) party.Bus 33 ∷ sent (party.Reader 1) (asking 2 first_rule) ∷ [] }
@@ -97,7 +97,7 @@ pub fn taken()
 {}
 
 /// The end that takes a message: the reader with its number; one that is no reader, one with an empty link and none at all leave the readers.
-#[tactic(auto, unfolding(atspi_types::specs::Names::is_bus_name, atspi_types::specs::Elements::are_two_or_more, atspi_types::specs::Elements::are_elements, atspi_types::specs::Elements::parts_of))]
+#[tactic(auto, unfolding(atspi_valid_names::specs::Names::is_bus_name, atspi_valid_names::specs::Elements::are_two_or_more, atspi_valid_names::specs::Elements::are_elements, atspi_valid_names::specs::Elements::parts_of))]
 pub fn takers()
     ensures reader { (b : Bus) → (got_at (playing (starting_world b (hello_returned ∷ [])) hello_waits) 4 (party.Reader 1) (hello_returned ∷ [])).now.readers ≡ begins ∷ rule_waits ∷ [] }
     ensures stateless { (b : Bus) → (got_at (record { world = starting_world b (hello_returned ∷ []); readers = begins ∷ [] }) 4 (party.Reader 1) (hello_returned ∷ [])).now.readers ≡ begins ∷ [] }
@@ -129,7 +129,7 @@ pub fn shows()
 {}
 
 /// A message is taken by the reader of the connection; of all else the readers see nothing.
-#[tactic(auto, unfolding(atspi_types::specs::Names::is_bus_name, atspi_types::specs::Elements::are_two_or_more, atspi_types::specs::Elements::are_elements, atspi_types::specs::Elements::parts_of))]
+#[tactic(auto, unfolding(atspi_valid_names::specs::Names::is_bus_name, atspi_valid_names::specs::Elements::are_two_or_more, atspi_valid_names::specs::Elements::are_elements, atspi_valid_names::specs::Elements::parts_of))]
 pub fn others()
     ensures takes { (b : Bus) → (plays (playing (starting_world b (hello_returned ∷ [])) hello_waits) (cause.gets 4)).now.readers ≡ begins ∷ rule_waits ∷ [] }
     ensures takes_none { (b : Bus) → plays (at_rest b) (cause.gets 3) ≡ record { now = at_rest b; entries = [] } }

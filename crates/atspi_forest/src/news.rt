@@ -3,7 +3,7 @@
 ghost use Rattle.std.specs.Prelude.{◌≡◌, List, [], ◌∷◌, ◌++◌, length, OnOk, OnErr};
 
 use atspi_base::{NoMemory, Text, Texts};
-use atspi_types::Path;
+use atspi_valid_names::Path;
 use std::alloc::Global;
 use std::marker::Model;
 

@@ -7,8 +7,8 @@ use Rattle.std.specs.Ordering.{nat_cmp}
 use Rattle.std.specs.Cmp.Lexicographic.{slice_cmp}
 use Rattle.std.specs.BTreeMap.{is_at}
 use Rattle.atspi_types.specs.Data.{Data}
-use Rattle.atspi_types.specs.Names.{is_bus_name, is_unique_name}
-use Rattle.atspi_types.proofs.NameLemmas.{IsBusName-from_test}
+use Rattle.atspi_valid_names.specs.Names.{is_bus_name, is_unique_name}
+use Rattle.atspi_valid_names.proofs.NameLemmas.{IsBusName-from_test}
 use Rattle.atspi_message.specs.Envelope.{Envelope}
 use Rattle.atspi_names.specs.Owners.{Owners, Lists, own_name, list_of, with_list, listed}
 use Rattle.atspi_names.specs.Queue.{requested, released, request_change, release_change, owner_in, allows_replacement, replaces_existing, forbids_queueing, stands, taken_over, without, with_flags}

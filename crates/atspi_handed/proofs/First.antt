@@ -8,8 +8,8 @@ use Rattle.std.specs.Cmp.Lexicographic.{slice_cmp}
 use Rattle.std.specs.FinMap as finmap
 use Rattle.std.specs.FinMap.{get-from_sorted}
 use Rattle.std.proofs.lemmas.Option.{same_Some}
-use Rattle.atspi_types.specs.Elements.{parts_of, are_elements, are_two_or_more}
-use Rattle.atspi_types.specs.Names.{is_bus_name}
+use Rattle.atspi_valid_names.specs.Elements.{parts_of, are_elements, are_two_or_more}
+use Rattle.atspi_valid_names.specs.Names.{is_bus_name}
 use Rattle.atspi_names.specs.Owners.{list_of, unique_name, HasNoEmptyList}
 use Rattle.atspi_names.specs.Queue.{owner_in}
 use Rattle.atspi_names.proofs.BookLemmas.{same_conn, same_name}

@@ -7,9 +7,9 @@ use Rattle.std.specs.Cmp.{nat_cmp_total}
 use Rattle.std.specs.Cmp.Lexicographic.{nat_list_cmp_total}
 use Rattle.std.specs.FinMap as finmap
 use Rattle.atspi_base.specs.Text.{HasNoZero}
-use Rattle.atspi_types.specs.Elements.{parts_of, are_elements, are_two_or_more}
-use Rattle.atspi_types.specs.Names.{IsPath, IsInterface, IsMember, IsBusName, is_path, is_interface, is_member, is_bus_name, is_unique_name}
-use Rattle.atspi_types.proofs.NameLemmas.{IsPath-from_test, IsInterface-from_test, IsMember-from_test, IsBusName-from_test}
+use Rattle.atspi_valid_names.specs.Elements.{parts_of, are_elements, are_two_or_more}
+use Rattle.atspi_valid_names.specs.Names.{IsPath, IsInterface, IsMember, IsBusName, is_path, is_interface, is_member, is_bus_name, is_unique_name}
+use Rattle.atspi_valid_names.proofs.NameLemmas.{IsPath-from_test, IsInterface-from_test, IsMember-from_test, IsBusName-from_test}
 use Rattle.atspi_message.specs.declared.code.Code.TheVariants as code
 use Rattle.atspi_names.specs.Owners.{Owners, Lists, own_name, list_of, unique_name, owned_by, well_known, listed, HasNoEmptyList}
 use Rattle.atspi_names.specs.Queue.{owns}

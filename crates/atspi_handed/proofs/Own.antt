@@ -5,7 +5,7 @@ use Rattle.std.specs.List.{AllByRecursion}
 use Rattle.atspi_types.specs.Kinds.{text, u32}
 use Rattle.atspi_types.specs.Signatures.{IsSignature}
 use Rattle.atspi_types.specs.Data.{Data, number_data, boolean_data, text_data, items_of, types_of, AreWellTyped, AllHaveType}
-use Rattle.atspi_types.specs.Names.{IsMember, IsBusName}
+use Rattle.atspi_valid_names.specs.Names.{IsMember, IsBusName}
 use Rattle.atspi_message.specs.Envelope.{Envelope}
 use Rattle.atspi_names.specs.Owners.{Owners, own_name}
 use Rattle.atspi_owners.specs.Orderly.{IsOrderly}

@@ -1,7 +1,7 @@
 -- What holds of a bus's names and open calls at any time, so that each message of its own can be written.
 use Rattle.std.specs.Prelude.{◌≡◌, ◌≢◌, ◌<◌, ◌≤◌, ◌^◌, ℕ, false, List, []}
 use Rattle.std.specs.List.{AllByRecursion}
-use Rattle.atspi_types.specs.Names.{is_bus_name}
+use Rattle.atspi_valid_names.specs.Names.{is_bus_name}
 use Rattle.atspi_names.specs.Owners.{Owners, list_of, HasNoEmptyList}
 use Rattle.atspi_owners.specs.Orderly.{IsOrderly}
 use Rattle.atspi_routing.specs.BusState.{OpenCall, BusState}

@@ -1,7 +1,7 @@
 //! Messages that lie in bytes, made into owned ones. Only memory can be wanting.
 
 ghost use Rattle.std.specs.Prelude.{◌≡◌, IfOk, IsTrue};
-ghost use Rattle.atspi_types.specs.Names.{is_path, is_interface, is_member, is_bus_name};
+ghost use Rattle.atspi_valid_names.specs.Names.{is_path, is_interface, is_member, is_bus_name};
 ghost use Rattle.atspi_message.specs.Envelope.{envelope_of};
 ghost use Rattle.atspi_header.specs.Names.{fits};
 ghost use Rattle.atspi_header.specs.View.{bytes_of, envelope_at};
@@ -9,7 +9,7 @@ ghost use Rattle.atspi_header.specs.View.{bytes_of, envelope_at};
 use crate::message::MessageRef;
 use atspi_base::NoMemory;
 use atspi_message::Message;
-use atspi_types::{BusName, Interface, Member, NameFault, Path};
+use atspi_valid_names::{BusName, Interface, Member, NameFault, Path};
 use std::alloc::Global;
 
 /// The path, owned, if there is one.

@@ -102,7 +102,7 @@ pub fn item_value(alloc: Global, item: &Item) -> Result<Value, NoMemory>
 }
 
 /// A node is there, as the object for the whole tree tells it: AddAccessible.
-#[tactic(auto, unfolding(atspi_types::specs::Names::is_member, atspi_types::specs::Names::is_path, atspi_types::specs::Names::is_interface, atspi_types::specs::Elements::are_two_or_more, atspi_types::specs::Elements::are_elements, atspi_types::specs::Elements::parts_of))]
+#[tactic(auto, unfolding(atspi_valid_names::specs::Names::is_member, atspi_valid_names::specs::Names::is_path, atspi_valid_names::specs::Names::is_interface, atspi_valid_names::specs::Elements::are_two_or_more, atspi_valid_names::specs::Elements::are_elements, atspi_valid_names::specs::Elements::parts_of))]
 pub fn node_added(alloc: Global, item: &Item) -> Result<Message, NoMemory>
     ensures { IfOk result (λ message. envelope_of message ≡ (signals.added item.now).message) }
 {

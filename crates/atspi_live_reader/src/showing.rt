@@ -11,7 +11,7 @@ use atspi_base::{Bytes, NoMemory};
 use atspi_events::{Event, write_event};
 use atspi_reader::Reader;
 use atspi_showing::shown_rows;
-use atspi_types::BusName;
+use atspi_valid_names::BusName;
 use std::alloc::Global;
 
 /// In the text of an event of showing so many bytes stand before the number of rows: the names of a reader and of an application.

@@ -12,7 +12,7 @@ use atspi_base::{Bytes, NoMemory, Text, put_quoted};
 use atspi_message::Message;
 use atspi_protocol::following::ReaderEvent;
 use atspi_reader::Reader;
-use atspi_types::BusName;
+use atspi_valid_names::BusName;
 
 /// Appends the line of what is spoken about an application.
 fn put_line(name: &BusName, text: &Text, lines: &mut Bytes) -> Result<(), NoMemory>

@@ -8,7 +8,7 @@ ghost use Rattle.atspi_load.specs.Shared.{grouped, is_below, is_lower, shared};
 use crate::own::is_bus;
 use atspi_base::{NoMemory, Text};
 use atspi_forest::Item;
-use atspi_types::Path;
+use atspi_valid_names::Path;
 use std::alloc::Global;
 use std::collections::HashMap;
 

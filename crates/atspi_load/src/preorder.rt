@@ -10,7 +10,7 @@ use crate::own::own_items;
 use crate::sorted::last_first;
 use atspi_base::{NoMemory, Text};
 use atspi_forest::Item;
-use atspi_types::Path;
+use atspi_valid_names::Path;
 use std::alloc::Global;
 use std::collections::HashMap;
 

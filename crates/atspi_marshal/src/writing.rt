@@ -13,7 +13,8 @@ mod fault;
 mod plain;
 
 use atspi_base::{Bytes, Text};
-use atspi_types::{Order, Pairs, Path, Run, Signature, Ty, Value, ValueRef, Values};
+use atspi_types::{Order, Pairs, Run, Signature, Ty, Value, ValueRef, Values};
+use atspi_valid_names::Path;
 pub use fault::WriteFault;
 pub use plain::{
     append_u32, begin_array, end_array, put_counted, put_padded, put_padding, put_types, put_u32,

@@ -11,7 +11,7 @@ use crate::{Condition, Rule};
 use atspi_cursor::Item;
 use atspi_header::MessageRef;
 use atspi_names::Names;
-use atspi_types::BusName;
+use atspi_valid_names::BusName;
 
 impl Rule {
     /// Whether the message meets each condition of the rule (D-Bus Specification, "Match Rules"). The owners of well-known

@@ -1,14 +1,14 @@
 //! Which messages a rule matches, and who receives them.
 
 ghost use Rattle.std.specs.Prelude.{◌≡◌, ◌≢◌, false};
-ghost use Rattle.atspi_types.specs.Names.{is_unique_name};
+ghost use Rattle.atspi_valid_names.specs.Names.{is_unique_name};
 ghost use Rattle.atspi_names.specs.Owners as owners;
 
 use crate::made::{lent, signal_of};
 use atspi_base::{Nums, Steps};
 use atspi_match::{Rule, RuleAdd, RuleIndex};
 use atspi_names::Names;
-use atspi_types::BusName;
+use atspi_valid_names::BusName;
 use std::alloc::Global;
 use std::process::Abort;
 use std::test::*;

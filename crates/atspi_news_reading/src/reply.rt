@@ -16,7 +16,7 @@ use atspi_cursor::{Elements, Fields, Item};
 use atspi_forest::{Items, News};
 use atspi_header::MessageRef;
 use atspi_protocol::news::PartName;
-use atspi_types::Path;
+use atspi_valid_names::Path;
 use std::alloc::Global;
 
 /// Whether the body is one list of items, by its signature.

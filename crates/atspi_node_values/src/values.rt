@@ -81,7 +81,7 @@ pub fn reference_or_null(alloc: Global, bus: &Text, node: Option<u32>) -> Result
 }
 
 /// The node that is none.
-#[tactic(auto, unfolding(atspi_types::specs::Names::is_path, atspi_types::specs::Elements::are_elements, atspi_types::specs::Elements::parts_of))]
+#[tactic(auto, unfolding(atspi_valid_names::specs::Names::is_path, atspi_valid_names::specs::Elements::are_elements, atspi_valid_names::specs::Elements::parts_of))]
 fn null_reference(alloc: Global, bus: &Text) -> Result<Value, NoMemory>
     ensures { IfOk result (λ value. data_of value ≡ numbered_or_null bus.now None) }
 {

@@ -8,7 +8,8 @@ ghost use Rattle.atspi_script.specs.Spaced.{behind_space, spaced};
 
 use atspi_base::{Bytes, NoMemory, put_decimal};
 use atspi_message::Message;
-use atspi_types::{BusName, Interface, Member, Order, Path};
+use atspi_types::Order;
+use atspi_valid_names::{BusName, Interface, Member, Path};
 
 /// Appends the text of a message as far as its body.
 pub fn put_header(message: &Message, out: &mut Bytes) -> Result<(), NoMemory>

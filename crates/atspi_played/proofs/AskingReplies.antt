@@ -4,7 +4,7 @@ use Rattle.std.specs.Prelude.{bytes_eq, filter, not, ◌&&◌, ◌||◌, ◌==�
 use Rattle.std.specs.List.{AllByRecursion, fold, list_any}
 use Rattle.std.proofs.lemmas.Bool.{and_parts}
 use Rattle.std.proofs.lemmas.List.{append-nil}
-use Rattle.atspi_types.specs.Names.{is_bus_name}
+use Rattle.atspi_valid_names.specs.Names.{is_bus_name}
 use Rattle.atspi_forest.specs.declared.news.Item.{Item}
 use Rattle.atspi_forest.specs.declared.news.News.{News}
 use Rattle.atspi_forest.specs.declared.news.Reference.{Reference}

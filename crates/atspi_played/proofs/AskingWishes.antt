@@ -4,7 +4,7 @@ use Rattle.std.specs.Prelude.{bytes_eq, flat_map, filter, not, if◌then◌else�
 use Rattle.std.specs.List.{AllByRecursion, list_any}
 use Rattle.std.proofs.lemmas.Bool.{and_from}
 use lib.Utf8.{encode}
-use Rattle.atspi_types.specs.Names.{is_bus_name, is_path}
+use Rattle.atspi_valid_names.specs.Names.{is_bus_name, is_path}
 use Rattle.atspi_forest.specs.declared.view.Row.{Row}
 use Rattle.atspi_forest.specs.Forest.{Forest, labels}
 use Rattle.atspi_lines.specs.declared.deed.Deed.{Deed}

@@ -24,7 +24,7 @@ use Rattle.atspi_lawful.specs.laws.Words.{name_in, as_of, Kept, held}
 use Rattle.atspi_lawful.specs.caches.Caches.{followed}
 use Rattle.atspi_lawful.proofs.OfOrder.Parties.{no_none, same_some}
 use Rattle.atspi_lawful.proofs.OfHeld.Keeping.{ReaderIs, SameKept}
-use Rattle.atspi_types.specs.Names.{is_bus_name, is_unique_name}
+use Rattle.atspi_valid_names.specs.Names.{is_bus_name, is_unique_name}
 use Rattle.atspi_lawful.specs.signed.Laws.{IsItsName}
 use Rattle.atspi_lawful.specs.caches.Laws.{CacheIs, IsViewed}
 use Rattle.atspi_lawful.proofs.OfCaches.LawCaches.{caches_follow}

@@ -2,7 +2,7 @@
 use Rattle.std.proofs.Common.{◌≡◌, ◌⊎◌, inl, inr, ℕ, Bool, true, false, List, [], ◌∷◌, ◌++◌, map, Option, None, Some, refl, sym, ap, ◌∙◌, subst}
 use Rattle.std.specs.Prelude.{◌==◌, ◌&&◌, if◌then◌else◌}
 use Rattle.std.specs.List.{AllByRecursion, list_all}
-use Rattle.atspi_types.specs.Names.{is_bus_name}
+use Rattle.atspi_valid_names.specs.Names.{is_bus_name}
 use Rattle.atspi_lines.specs.declared.line.Line.{Line}
 use Rattle.atspi_lines.specs.declared.line.Party.TheVariants.{App, Reader}
 use Rattle.atspi_message.specs.Envelope.{Envelope}

@@ -4,7 +4,7 @@ use Rattle.std.specs.Prelude.{◌&&◌, ◌||◌, not, bytes_eq, filter, flat_ma
 use Rattle.std.specs.List.{AllByRecursion, list_all}
 use Rattle.std.proofs.lemmas.List.{append-nil}
 use Rattle.std.proofs.lemmas.Slice.Eq.{bytes_eq-Decides}
-use Rattle.atspi_types.specs.Names.{is_bus_name}
+use Rattle.atspi_valid_names.specs.Names.{is_bus_name}
 use Rattle.atspi_forest.specs.declared.view.Row.{Row}
 use Rattle.atspi_forest.specs.Forest.{Forest, labels}
 use Rattle.atspi_forest.specs.View.{view}

@@ -5,7 +5,7 @@ ghost use Rattle.atspi_posts.specs.Posts as posts;
 
 use crate::link::Link;
 use atspi_lines::Party;
-use atspi_types::BusName;
+use atspi_valid_names::BusName;
 use std::alloc::Global;
 
 /// Whether an end is there.

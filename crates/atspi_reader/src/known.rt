@@ -9,7 +9,7 @@ ghost use Rattle.atspi_reader.specs.Turns.{app_in, listed, IsNewTo, StandsInFron
 use atspi_base::NoMemory;
 use atspi_forest::Reference;
 use atspi_reader_known::{App, Apps};
-use atspi_types::{BusName, NameFault};
+use atspi_valid_names::{BusName, NameFault};
 use std::alloc::Global;
 
 /// The application that a reference names, of which nothing was asked yet, where the reference's text is a bus name.

@@ -13,7 +13,7 @@ use atspi_base::NoMemory;
 use atspi_header::MessageRef;
 use atspi_protocol::following::Question;
 use atspi_reader_told::sender_of;
-use atspi_types::BusName;
+use atspi_valid_names::BusName;
 use std::alloc::Global;
 
 /// An equal question.

@@ -27,7 +27,7 @@ use atspi_protocol::ends::EndFault;
 use atspi_protocol::following::ReaderEvent;
 use atspi_reader_calls::user_call;
 use atspi_reader_known::Apps;
-use atspi_types::BusName;
+use atspi_valid_names::BusName;
 use std::alloc::Global;
 use std::collections::VecDeque;
 

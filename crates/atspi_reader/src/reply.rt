@@ -25,7 +25,7 @@ use atspi_protocol::following::Question;
 use atspi_protocol::news::PartName;
 use atspi_reader_known::App;
 use atspi_reader_told::{references, returns_children, returns_name, sender_of};
-use atspi_types::{BusName, NameFault, Path};
+use atspi_valid_names::{BusName, NameFault, Path};
 use std::alloc::Global;
 
 /// The sender of a message, owned.

@@ -3,7 +3,7 @@
 use crate::waiting::Waiting;
 use atspi_protocol::following::{Question, ReaderEvent};
 use atspi_reader_known::Apps;
-use atspi_types::BusName;
+use atspi_valid_names::BusName;
 use std::alloc::Global;
 use std::collections::VecDeque;
 

@@ -10,7 +10,7 @@ use atspi_base::NoMemory;
 use atspi_protocol::following::Question;
 use atspi_protocol::news::PartName;
 use atspi_reader_known::{App, Apps, Plan, Refused};
-use atspi_types::Path;
+use atspi_valid_names::Path;
 use std::alloc::Global;
 
 /// The same, once these parts of an application are known or refused.

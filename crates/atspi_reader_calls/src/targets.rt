@@ -2,7 +2,7 @@
 
 ghost use Rattle.std.specs.Prelude.{◌≡◌, true, codes, IfOk};
 ghost use Rattle.atspi_types.specs.DataView.{all_data};
-ghost use Rattle.atspi_types.specs.Names.{is_interface, is_member};
+ghost use Rattle.atspi_valid_names.specs.Names.{is_interface, is_member};
 ghost use Rattle.atspi_message.specs.Envelope.{envelope_of};
 ghost use Rattle.atspi_protocol.specs.ends.Messages as messages;
 ghost use Rattle.atspi_protocol.specs.ends.Places.{bus, bus_path, registry, registry_path, root_path, cache_path};
@@ -11,11 +11,12 @@ ghost use Rattle.atspi_protocol.specs.members.Interfaces as interfaces;
 use atspi_base::NoMemory;
 use atspi_message::Message;
 use atspi_protocol::ends::{bus_name, call_to, interface, member, path};
-use atspi_types::{BusName, Path, Values};
+use atspi_types::Values;
+use atspi_valid_names::{BusName, Path};
 use std::alloc::Global;
 
 /// A call of a member of the bus.
-#[tactic(auto, unfolding(atspi_types::specs::Names::is_bus_name, atspi_types::specs::Names::is_path, atspi_types::specs::Names::is_interface, atspi_types::specs::Elements::are_two_or_more, atspi_types::specs::Elements::are_elements, atspi_types::specs::Elements::parts_of))]
+#[tactic(auto, unfolding(atspi_valid_names::specs::Names::is_bus_name, atspi_valid_names::specs::Names::is_path, atspi_valid_names::specs::Names::is_interface, atspi_valid_names::specs::Elements::are_two_or_more, atspi_valid_names::specs::Elements::are_elements, atspi_valid_names::specs::Elements::parts_of))]
 pub(crate) fn bus_call(alloc: Global, name: &str, body: Values) -> Result<Message, NoMemory>
     requires { is_member name.now ≡ true }
     ensures { IfOk result (λ message. envelope_of message ≡ messages.call_to bus bus_path bus name.now (all_data body)) }
@@ -30,7 +31,7 @@ pub(crate) fn bus_call(alloc: Global, name: &str, body: Values) -> Result<Messag
 }
 
 /// RegisterEvent of the registry.
-#[tactic(auto, unfolding(atspi_types::specs::Names::is_bus_name, atspi_types::specs::Names::is_path, atspi_types::specs::Names::is_interface, atspi_types::specs::Names::is_member, atspi_types::specs::Elements::are_two_or_more, atspi_types::specs::Elements::are_elements, atspi_types::specs::Elements::parts_of))]
+#[tactic(auto, unfolding(atspi_valid_names::specs::Names::is_bus_name, atspi_valid_names::specs::Names::is_path, atspi_valid_names::specs::Names::is_interface, atspi_valid_names::specs::Names::is_member, atspi_valid_names::specs::Elements::are_two_or_more, atspi_valid_names::specs::Elements::are_elements, atspi_valid_names::specs::Elements::parts_of))]
 pub(crate) fn register_call(alloc: Global, body: Values) -> Result<Message, NoMemory>
     ensures { IfOk result (λ message. envelope_of message ≡ messages.call_to registry registry_path interfaces.registry (codes "RegisterEvent") (all_data body)) }
 {
@@ -44,7 +45,7 @@ pub(crate) fn register_call(alloc: Global, body: Values) -> Result<Message, NoMe
 }
 
 /// GetChildren of the registry's root.
-#[tactic(auto, unfolding(atspi_types::specs::Names::is_bus_name, atspi_types::specs::Names::is_path, atspi_types::specs::Names::is_interface, atspi_types::specs::Names::is_member, atspi_types::specs::Elements::are_two_or_more, atspi_types::specs::Elements::are_elements, atspi_types::specs::Elements::parts_of))]
+#[tactic(auto, unfolding(atspi_valid_names::specs::Names::is_bus_name, atspi_valid_names::specs::Names::is_path, atspi_valid_names::specs::Names::is_interface, atspi_valid_names::specs::Names::is_member, atspi_valid_names::specs::Elements::are_two_or_more, atspi_valid_names::specs::Elements::are_elements, atspi_valid_names::specs::Elements::parts_of))]
 pub(crate) fn children_call(alloc: Global, body: Values) -> Result<Message, NoMemory>
     ensures { IfOk result (λ message. envelope_of message ≡ messages.call_to registry root_path interfaces.accessible (codes "GetChildren") (all_data body)) }
 {
@@ -58,7 +59,7 @@ pub(crate) fn children_call(alloc: Global, body: Values) -> Result<Message, NoMe
 }
 
 /// The object that tells a whole application.
-#[tactic(auto, unfolding(atspi_types::specs::Names::is_path, atspi_types::specs::Elements::are_elements, atspi_types::specs::Elements::parts_of))]
+#[tactic(auto, unfolding(atspi_valid_names::specs::Names::is_path, atspi_valid_names::specs::Elements::are_elements, atspi_valid_names::specs::Elements::parts_of))]
 pub(crate) fn cache_object(alloc: Global) -> Result<Path, NoMemory>
     ensures { IfOk result (λ path. path ≡ cache_path) }
 {

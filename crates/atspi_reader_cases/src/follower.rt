@@ -5,7 +5,7 @@ use atspi_lines::Deed;
 use atspi_message_words::{bytes_of, lent};
 use atspi_protocol::following::ReaderEvent;
 use atspi_reader::{CallFault, Reader};
-use atspi_types::BusName;
+use atspi_valid_names::BusName;
 use std::alloc::Global;
 use std::marker::Model;
 

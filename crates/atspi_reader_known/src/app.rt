@@ -26,7 +26,7 @@ use atspi_cache::{Cache, Rows, closing, lines};
 use atspi_forest::{Item, Items, News};
 use atspi_protocol::following::Question;
 use atspi_protocol::news::PartName;
-use atspi_types::{BusName, Path};
+use atspi_valid_names::{BusName, Path};
 use std::alloc::Global;
 use std::marker::Model;
 

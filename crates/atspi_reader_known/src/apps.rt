@@ -19,7 +19,7 @@ use atspi_base::NoMemory;
 use atspi_forest::News;
 use atspi_protocol::following::Question;
 use atspi_protocol::news::PartName;
-use atspi_types::Path;
+use atspi_valid_names::Path;
 use std::alloc::Global;
 use std::marker::Model;
 use std::mem;

@@ -19,7 +19,7 @@ use atspi_base::NoMemory;
 use atspi_cache::{Cache, Rows};
 use atspi_forest::{Item, News, Row};
 use atspi_protocol::news::PartName;
-use atspi_types::Path;
+use atspi_valid_names::Path;
 use std::alloc::Global;
 
 /// Appends a part, where it is unknown and was not refused.

@@ -8,7 +8,7 @@ ghost use Rattle.atspi_reader_known.specs.Refusals.{AreSame, Puts, has_part};
 
 use atspi_base::NoMemory;
 use atspi_protocol::news::PartName;
-use atspi_types::Path;
+use atspi_valid_names::Path;
 use std::alloc::Global;
 use std::collections::BTreeSet;
 use std::marker::Model;

@@ -11,7 +11,7 @@ use crate::refused::Refused;
 use atspi_cache::Rows;
 use atspi_forest::{NumPart, Part, Row};
 use atspi_protocol::news::PartName;
-use atspi_types::Path;
+use atspi_valid_names::Path;
 
 /// Whether a text is there and not known.
 pub(crate) fn is_unknown_text(part: &Part) -> bool

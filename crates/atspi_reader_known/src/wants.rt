@@ -9,7 +9,7 @@ ghost use Rattle.atspi_reader_known.specs.Listed.{left, or_others};
 
 use crate::refused::Refused;
 use atspi_protocol::news::PartName;
-use atspi_types::Path;
+use atspi_valid_names::Path;
 use std::alloc::Global;
 use std::marker::Model;
 

@@ -10,7 +10,7 @@ use crate::outgoing::Outgoing;
 use atspi_base::Text;
 use atspi_protocol::ends::{EndFault, Mail};
 use atspi_registry_lists::{Children, Pairs};
-use atspi_types::{BusName, Path};
+use atspi_valid_names::{BusName, Path};
 
 /// A pair is kept and messages are queued.
 pub fn keep_pair(

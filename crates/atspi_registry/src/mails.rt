@@ -3,7 +3,7 @@
 ghost use Rattle.std.specs.Prelude.{◌≡◌, ◌<◌, ◌^◌, true, [], ◌∷◌, ◌++◌, chars, codes, length, map, option_copied, IfOk, OnOk};
 ghost use Rattle.std.specs.List.{list_any};
 ghost use Rattle.atspi_base.specs.Text.{HasNoZero};
-ghost use Rattle.atspi_types.specs.Names.{is_bus_name, IsPath};
+ghost use Rattle.atspi_valid_names.specs.Names.{is_bus_name, IsPath};
 ghost use Rattle.atspi_types.specs.DataView.{all_data};
 ghost use Rattle.atspi_header.specs.View.{envelope_at};
 ghost use Rattle.atspi_protocol.specs.ends.Messages.{error_word, returns, fails, replies};
@@ -20,7 +20,8 @@ use atspi_header::MessageRef;
 use atspi_protocol::ends::{CallError, Mail, bus_name, covers};
 use atspi_registry_lists::{Children, Pairs};
 use atspi_registry_told as told;
-use atspi_types::{BusName, NameFault, Path, Values};
+use atspi_types::Values;
+use atspi_valid_names::{BusName, NameFault, Path};
 use std::alloc::Global;
 
 /// The three calls to the bus at the start.

@@ -7,7 +7,7 @@ ghost use Rattle.atspi_protocol.specs.registering.Told.{is_asked_for};
 
 use atspi_base::{NoMemory, Text};
 use atspi_protocol::ends::covers;
-use atspi_types::BusName;
+use atspi_valid_names::BusName;
 use std::alloc::Global;
 use std::marker::Model;
 

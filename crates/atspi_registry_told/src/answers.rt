@@ -14,7 +14,8 @@ use crate::literal::{frame_text, registry_text};
 use crate::values::{reference_type, reference_value, text_reference};
 use atspi_base::{NoMemory, Text};
 use atspi_protocol::ends::path;
-use atspi_types::{BusName, Path, Ty, Tys, Value, Values};
+use atspi_types::{Ty, Tys, Value, Values};
+use atspi_valid_names::{BusName, Path};
 use std::alloc::Global;
 
 /// One value.
@@ -84,7 +85,7 @@ pub fn children_body(alloc: Global, children: &[(BusName, Path)]) -> Result<Valu
 }
 
 /// Nobody, told by the registry's own name.
-#[tactic(auto, unfolding(atspi_types::specs::Names::is_path, atspi_types::specs::Elements::are_elements, atspi_types::specs::Elements::parts_of))]
+#[tactic(auto, unfolding(atspi_valid_names::specs::Names::is_path, atspi_valid_names::specs::Elements::are_elements, atspi_valid_names::specs::Elements::parts_of))]
 fn nobody(alloc: Global, own: &Text) -> Result<Value, NoMemory>
     ensures { IfOk result (λ value. data_of value ≡ reference own.now null_path) }
 {
@@ -135,7 +136,7 @@ pub fn child_body(
 }
 
 /// The reference of the registry's root.
-#[tactic(auto, unfolding(atspi_types::specs::Names::is_path, atspi_types::specs::Elements::are_elements, atspi_types::specs::Elements::parts_of))]
+#[tactic(auto, unfolding(atspi_valid_names::specs::Names::is_path, atspi_valid_names::specs::Elements::are_elements, atspi_valid_names::specs::Elements::parts_of))]
 fn root_value(alloc: Global) -> Result<Value, NoMemory>
     ensures { IfOk result (λ value. data_of value ≡ registry_root) }
 {

@@ -12,7 +12,8 @@ use crate::values::name_value;
 use atspi_base::{NoMemory, Text};
 use atspi_message::Message;
 use atspi_protocol::ends::{interface, member, path, signal_of};
-use atspi_types::{BusName, Member, Value, Values};
+use atspi_types::{Value, Values};
+use atspi_valid_names::{BusName, Member};
 use std::alloc::Global;
 
 /// The pair as the body of a message.
@@ -26,7 +27,7 @@ pub(crate) fn pair_body(alloc: Global, name: &BusName, pattern: &Text) -> Result
 }
 
 /// A signal of the registry's object.
-#[tactic(auto, unfolding(atspi_types::specs::Names::is_path, atspi_types::specs::Names::is_interface, atspi_types::specs::Elements::are_two_or_more, atspi_types::specs::Elements::are_elements, atspi_types::specs::Elements::parts_of))]
+#[tactic(auto, unfolding(atspi_valid_names::specs::Names::is_path, atspi_valid_names::specs::Names::is_interface, atspi_valid_names::specs::Elements::are_two_or_more, atspi_valid_names::specs::Elements::are_elements, atspi_valid_names::specs::Elements::parts_of))]
 fn signal(alloc: Global, member: Member, body: Values) -> Result<Message, NoMemory>
     ensures { IfOk result (λ message. envelope_of message ≡ messages.signal_of registry_path registry member (all_data body)) }
 {
@@ -39,7 +40,7 @@ fn signal(alloc: Global, member: Member, body: Values) -> Result<Message, NoMemo
 }
 
 /// A listener has a pattern more.
-#[tactic(auto, unfolding(atspi_types::specs::Names::is_member))]
+#[tactic(auto, unfolding(atspi_valid_names::specs::Names::is_member))]
 pub fn registered(alloc: Global, name: &BusName, pattern: &Text) -> Result<Message, NoMemory>
     ensures { IfOk result (λ message. envelope_of message ≡ told.registered (name.now, pattern.now)) }
 {
@@ -48,7 +49,7 @@ pub fn registered(alloc: Global, name: &BusName, pattern: &Text) -> Result<Messa
 }
 
 /// A listener has a pattern less.
-#[tactic(auto, unfolding(atspi_types::specs::Names::is_member))]
+#[tactic(auto, unfolding(atspi_valid_names::specs::Names::is_member))]
 pub fn deregistered(alloc: Global, name: &BusName, pattern: &Text) -> Result<Message, NoMemory>
     ensures { IfOk result (λ message. envelope_of message ≡ told.deregistered (name.now, pattern.now)) }
 {

@@ -16,7 +16,8 @@ use crate::values::{count_value, reference_type, reference_value};
 use atspi_base::{NoMemory, Text};
 use atspi_message::Message;
 use atspi_protocol::ends::{call_to, interface, member, path, signal_of};
-use atspi_types::{BusName, Pairs, Path, Ty, Value, Values};
+use atspi_types::{Pairs, Ty, Value, Values};
+use atspi_valid_names::{BusName, Path};
 use std::alloc::Global;
 
 /// A reference in a variant.
@@ -49,7 +50,7 @@ fn news_body(
 }
 
 /// News of a child.
-#[tactic(auto, unfolding(atspi_types::specs::Names::is_path, atspi_types::specs::Names::is_interface, atspi_types::specs::Names::is_member, atspi_types::specs::Elements::are_two_or_more, atspi_types::specs::Elements::are_elements, atspi_types::specs::Elements::parts_of))]
+#[tactic(auto, unfolding(atspi_valid_names::specs::Names::is_path, atspi_valid_names::specs::Names::is_interface, atspi_valid_names::specs::Names::is_member, atspi_valid_names::specs::Elements::are_two_or_more, atspi_valid_names::specs::Elements::are_elements, atspi_valid_names::specs::Elements::parts_of))]
 fn news(alloc: Global, body: Values) -> Result<Message, NoMemory>
     ensures { IfOk result (λ message. envelope_of message ≡ messages.signal_of root_path (codes "org.a11y.atspi.Event.Object") (codes "ChildrenChanged") (all_data body)) }
 {
@@ -99,7 +100,7 @@ fn id_body(alloc: Global, n: usize) -> Result<Values, NoMemory>
 }
 
 /// The call that gives an embedded root its number.
-#[tactic(auto, unfolding(atspi_types::specs::Names::is_interface, atspi_types::specs::Names::is_member, atspi_types::specs::Elements::are_two_or_more, atspi_types::specs::Elements::are_elements, atspi_types::specs::Elements::parts_of))]
+#[tactic(auto, unfolding(atspi_valid_names::specs::Names::is_interface, atspi_valid_names::specs::Names::is_member, atspi_valid_names::specs::Elements::are_two_or_more, atspi_valid_names::specs::Elements::are_elements, atspi_valid_names::specs::Elements::parts_of))]
 pub fn id_call(alloc: Global, name: &BusName, place: &Path, n: usize) -> Result<Message, NoMemory>
     ensures { IfOk result (λ message. envelope_of message ≡ told.id_call (name.now, place.now) n) }
 {

@@ -12,11 +12,12 @@ use crate::literal::{registry_text, rule_text};
 use atspi_base::NoMemory;
 use atspi_message::Message;
 use atspi_protocol::ends::{bus_name, call_to, interface, member, path};
-use atspi_types::{Member, Value, Values};
+use atspi_types::{Value, Values};
+use atspi_valid_names::Member;
 use std::alloc::Global;
 
 /// A call of a member of the bus.
-#[tactic(auto, unfolding(atspi_types::specs::Names::is_bus_name, atspi_types::specs::Names::is_path, atspi_types::specs::Names::is_interface, atspi_types::specs::Elements::are_two_or_more, atspi_types::specs::Elements::are_elements, atspi_types::specs::Elements::parts_of))]
+#[tactic(auto, unfolding(atspi_valid_names::specs::Names::is_bus_name, atspi_valid_names::specs::Names::is_path, atspi_valid_names::specs::Names::is_interface, atspi_valid_names::specs::Elements::are_two_or_more, atspi_valid_names::specs::Elements::are_elements, atspi_valid_names::specs::Elements::parts_of))]
 fn bus_call(alloc: Global, member: Member, body: Values) -> Result<Message, NoMemory>
     ensures { IfOk result (λ message. envelope_of message ≡ messages.call_to bus bus_path bus member (all_data body)) }
 {
@@ -30,7 +31,7 @@ fn bus_call(alloc: Global, member: Member, body: Values) -> Result<Message, NoMe
 }
 
 /// Hello.
-#[tactic(auto, unfolding(atspi_types::specs::Names::is_member))]
+#[tactic(auto, unfolding(atspi_valid_names::specs::Names::is_member))]
 pub fn hello_call(alloc: Global) -> Result<Message, NoMemory>
     ensures { IfOk result (λ message. envelope_of message ≡ told.hello_call) }
 {
@@ -38,7 +39,7 @@ pub fn hello_call(alloc: Global) -> Result<Message, NoMemory>
 }
 
 /// RequestName of the registry's well-known name, which does not queue.
-#[tactic(auto, unfolding(atspi_types::specs::Names::is_member))]
+#[tactic(auto, unfolding(atspi_valid_names::specs::Names::is_member))]
 pub fn request_call(alloc: Global) -> Result<Message, NoMemory>
     ensures { IfOk result (λ message. envelope_of message ≡ told.request_call) }
 {
@@ -49,7 +50,7 @@ pub fn request_call(alloc: Global) -> Result<Message, NoMemory>
 }
 
 /// AddMatch of the bus's news of owners.
-#[tactic(auto, unfolding(atspi_types::specs::Names::is_member))]
+#[tactic(auto, unfolding(atspi_valid_names::specs::Names::is_member))]
 pub fn match_call(alloc: Global) -> Result<Message, NoMemory>
     ensures { IfOk result (λ message. envelope_of message ≡ told.match_call) }
 {

@@ -8,7 +8,8 @@ ghost use Rattle.atspi_protocol.specs.ends.Places.{reference, reference_kind};
 ghost use Rattle.atspi_protocol.specs.registering.Told.{count};
 
 use atspi_base::{NoMemory, Text};
-use atspi_types::{BusName, Path, Ty, Tys, Value, Values};
+use atspi_types::{Ty, Tys, Value, Values};
+use atspi_valid_names::{BusName, Path};
 use std::alloc::Global;
 
 /// The name as a text.

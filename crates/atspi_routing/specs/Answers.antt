@@ -3,7 +3,7 @@ use Rattle.std.specs.Prelude.{◌==◌, ◌&&◌, not, ℕ, Bool, true, false, L
 use Rattle.std.specs.List.{list_any}
 use Rattle.atspi_types.specs.Kinds.{text, u32}
 use Rattle.atspi_types.specs.Data.{Data, number_data, boolean_data, text_data, array_data, items_of}
-use Rattle.atspi_types.specs.Names.{is_bus_name, is_unique_name}
+use Rattle.atspi_valid_names.specs.Names.{is_bus_name, is_unique_name}
 use Rattle.atspi_message.specs.Envelope.{Envelope}
 use Rattle.atspi_names.specs.Owners.{Owners, list_of, own_name, after_request, after_release, listed}
 use Rattle.atspi_names.specs.Queue.{owner_in, request_change, release_change}

@@ -1,7 +1,7 @@
 -- Where a message goes (D-Bus Specification, "Message Bus Message Routing" and "Match Rules").
 use Rattle.std.specs.Prelude.{◌==◌, ◌&&◌, ◌||◌, not, ℕ, Bool, true, false, List, [], ◌∷◌, ◌++◌, length, take, filter, Option, None, Some, bytes_eq, bit_and, encode_utf8_all, if◌then◌else◌}
 use Rattle.std.specs.List.{list_any, list_all}
-use Rattle.atspi_types.specs.Names.{is_unique_name}
+use Rattle.atspi_valid_names.specs.Names.{is_unique_name}
 use Rattle.atspi_message.specs.Envelope.{Envelope}
 use Rattle.atspi_names.specs.Queue.{owner_in}
 use Rattle.atspi_names.specs.Owners.{Owners, list_of, own_name}

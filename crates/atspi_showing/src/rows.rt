@@ -9,7 +9,7 @@ use atspi_arena::{Rows, Seen};
 use atspi_base::NoMemory;
 use atspi_events::{Shown, ShownRow};
 use atspi_forest::{NumPart, Part, Row};
-use atspi_types::Path;
+use atspi_valid_names::Path;
 use std::alloc::Global;
 
 /// An equal number of a row.

@@ -17,7 +17,7 @@ use atspi_lines::Party;
 use atspi_message::{Message, WriteFault};
 use atspi_posts::{Post, meets_rules};
 use atspi_stage_ends::{Application, Follower};
-use atspi_types::BusName;
+use atspi_valid_names::BusName;
 use std::alloc::Global;
 
 /// The message of a party with this serial, where an event tells that it was sent.

@@ -16,7 +16,7 @@ use atspi_header::MessageRef;
 use atspi_lines::Deed;
 use atspi_protocol::ends::EndFault;
 use atspi_protocol::following::ReaderEvent;
-use atspi_types::BusName;
+use atspi_valid_names::BusName;
 use std::alloc::Global;
 
 /// A reader. It is seen as `follower` says, and `is_follower` holds of it at any time.

@@ -12,7 +12,7 @@ use atspi_protocol::ends::EndFault;
 use atspi_protocol::following::ReaderEvent;
 use atspi_reader::Reader;
 use atspi_stage_ends::{CallFault, Follower};
-use atspi_types::BusName;
+use atspi_valid_names::BusName;
 use std::alloc::Global;
 
 /// A reader's end, held by a world. It is seen as the reader that it holds.

@@ -5,7 +5,7 @@ ghost use Rattle.atspi_types.specs.KindView.{kind_of};
 ghost use Rattle.atspi_types.specs.Kinds.{text, variant};
 ghost use Rattle.atspi_types.specs.Data.{text_data, dictionary_data, entries_of, type_of};
 ghost use Rattle.atspi_types.specs.DataView.{data_of, all_data};
-ghost use Rattle.atspi_types.specs.Names.{is_member};
+ghost use Rattle.atspi_valid_names.specs.Names.{is_member};
 ghost use Rattle.atspi_forest.specs.Path.{path_of};
 ghost use Rattle.atspi_message.specs.Envelope.{envelope_of};
 ghost use Rattle.atspi_protocol.specs.ends.Messages as messages;
@@ -17,7 +17,8 @@ use crate::paths::node_path;
 use atspi_base::{NoMemory, Text};
 use atspi_message::Message;
 use atspi_protocol::ends::{interface, member, signal_of};
-use atspi_types::{Interface, Member, Pairs, Path, Ty, Value, Values};
+use atspi_types::{Pairs, Ty, Value, Values};
+use atspi_valid_names::{Interface, Member, Path};
 use std::alloc::Global;
 
 /// Where an event is sent from, and its name.
@@ -29,7 +30,7 @@ pub(crate) struct Place {
 }
 
 /// The place of an event at a node.
-#[tactic(auto, unfolding(atspi_types::specs::Names::is_interface, atspi_types::specs::Elements::are_two_or_more, atspi_types::specs::Elements::are_elements, atspi_types::specs::Elements::parts_of))]
+#[tactic(auto, unfolding(atspi_valid_names::specs::Names::is_interface, atspi_valid_names::specs::Elements::are_two_or_more, atspi_valid_names::specs::Elements::are_elements, atspi_valid_names::specs::Elements::parts_of))]
 pub(crate) fn at_node(alloc: Global, node: u32, name: &str) -> Result<Place, NoMemory>
     requires member { is_member name.now ≡ true }
     ensures path { IfOk result (λ place. place.path ≡ path_of node) }

@@ -14,7 +14,7 @@ use atspi_types::{Ty, Value};
 use std::alloc::Global;
 
 /// A node has another name.
-#[tactic(auto, unfolding(atspi_types::specs::Names::is_member))]
+#[tactic(auto, unfolding(atspi_valid_names::specs::Names::is_member))]
 pub fn name_changed(alloc: Global, node: u32, name: &Text) -> Result<Message, NoMemory>
     ensures { IfOk result (λ message. envelope_of message ≡ (signals.property_changed node (codes "accessible-name") (text_data name.now)).message) }
 {
@@ -25,7 +25,7 @@ pub fn name_changed(alloc: Global, node: u32, name: &Text) -> Result<Message, No
 }
 
 /// A node has another description.
-#[tactic(auto, unfolding(atspi_types::specs::Names::is_member))]
+#[tactic(auto, unfolding(atspi_valid_names::specs::Names::is_member))]
 pub fn description_changed(alloc: Global, node: u32, text: &Text) -> Result<Message, NoMemory>
     ensures { IfOk result (λ message. envelope_of message ≡ (signals.property_changed node (codes "accessible-description") (text_data text.now)).message) }
 {
@@ -36,7 +36,7 @@ pub fn description_changed(alloc: Global, node: u32, text: &Text) -> Result<Mess
 }
 
 /// A node has another role.
-#[tactic(auto, unfolding(atspi_types::specs::Names::is_member))]
+#[tactic(auto, unfolding(atspi_valid_names::specs::Names::is_member))]
 pub fn role_changed(alloc: Global, node: u32, role: u32) -> Result<Message, NoMemory>
     ensures { IfOk result (λ message. envelope_of message ≡ (signals.property_changed node (codes "accessible-role") (number_data u32 role)).message) }
 {
@@ -47,7 +47,7 @@ pub fn role_changed(alloc: Global, node: u32, role: u32) -> Result<Message, NoMe
 }
 
 /// A state of a node is on, or off.
-#[tactic(auto, unfolding(atspi_types::specs::Names::is_member))]
+#[tactic(auto, unfolding(atspi_valid_names::specs::Names::is_member))]
 pub fn state_changed(alloc: Global, node: u32, state: u8, on: bool) -> Result<Message, NoMemory>
     requires state { state < 44 }
     ensures { IfOk result (λ message. envelope_of message ≡ (signals.state_changed node state on).message) }
@@ -60,7 +60,7 @@ pub fn state_changed(alloc: Global, node: u32, state: u8, on: bool) -> Result<Me
 }
 
 /// A text was put in at this place.
-#[tactic(auto, unfolding(atspi_types::specs::Names::is_member))]
+#[tactic(auto, unfolding(atspi_valid_names::specs::Names::is_member))]
 pub fn text_inserted(alloc: Global, node: u32, at: u32, text: &Text) -> Result<Message, NoMemory>
     requires at { at ≤ 1048576 }
     requires short { length text.now ≤ 1048576 }
@@ -78,7 +78,7 @@ pub fn text_inserted(alloc: Global, node: u32, at: u32, text: &Text) -> Result<M
 }
 
 /// A text was taken out at this place.
-#[tactic(auto, unfolding(atspi_types::specs::Names::is_member))]
+#[tactic(auto, unfolding(atspi_valid_names::specs::Names::is_member))]
 pub fn text_deleted(alloc: Global, node: u32, at: u32, text: &Text) -> Result<Message, NoMemory>
     requires at { at ≤ 1048576 }
     requires short { length text.now ≤ 1048576 }
@@ -96,7 +96,7 @@ pub fn text_deleted(alloc: Global, node: u32, at: u32, text: &Text) -> Result<Me
 }
 
 /// The caret went to this place.
-#[tactic(auto, unfolding(atspi_types::specs::Names::is_member))]
+#[tactic(auto, unfolding(atspi_valid_names::specs::Names::is_member))]
 pub fn caret_moved(alloc: Global, node: u32, at: u32) -> Result<Message, NoMemory>
     requires at { at ≤ 1048576 }
     ensures { IfOk result (λ message. envelope_of message ≡ (signals.caret_moved node at).message) }

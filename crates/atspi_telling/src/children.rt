@@ -16,7 +16,7 @@ use atspi_types::Values;
 use std::alloc::Global;
 
 /// A parent has another child at this index.
-#[tactic(auto, unfolding(atspi_types::specs::Names::is_member))]
+#[tactic(auto, unfolding(atspi_valid_names::specs::Names::is_member))]
 pub fn child_added(
     alloc: Global,
     bus: &Text,
@@ -36,7 +36,7 @@ pub fn child_added(
 }
 
 /// A parent has lost the child that stood at this index.
-#[tactic(auto, unfolding(atspi_types::specs::Names::is_member))]
+#[tactic(auto, unfolding(atspi_valid_names::specs::Names::is_member))]
 pub fn child_removed(
     alloc: Global,
     bus: &Text,
@@ -56,7 +56,7 @@ pub fn child_removed(
 }
 
 /// A node has another parent.
-#[tactic(auto, unfolding(atspi_types::specs::Names::is_member))]
+#[tactic(auto, unfolding(atspi_valid_names::specs::Names::is_member))]
 pub fn parent_changed(
     alloc: Global,
     bus: &Text,
@@ -74,7 +74,7 @@ pub fn parent_changed(
 }
 
 /// A node is gone, as the object for the whole tree tells it.
-#[tactic(auto, unfolding(atspi_types::specs::Names::is_member, atspi_types::specs::Names::is_path, atspi_types::specs::Names::is_interface, atspi_types::specs::Elements::are_two_or_more, atspi_types::specs::Elements::are_elements, atspi_types::specs::Elements::parts_of))]
+#[tactic(auto, unfolding(atspi_valid_names::specs::Names::is_member, atspi_valid_names::specs::Names::is_path, atspi_valid_names::specs::Names::is_interface, atspi_valid_names::specs::Elements::are_two_or_more, atspi_valid_names::specs::Elements::are_elements, atspi_valid_names::specs::Elements::parts_of))]
 pub fn node_removed(alloc: Global, bus: &Text, node: u32) -> Result<Message, NoMemory>
     ensures { IfOk result (λ message. envelope_of message ≡ (signals.removed bus.now node).message) }
 {

@@ -5,7 +5,7 @@ ghost use Rattle.atspi_forest.specs.Path.{path_of};
 
 use atspi_base::NoMemory;
 use atspi_protocol::ends::path;
-use atspi_types::Path;
+use atspi_valid_names::Path;
 use std::alloc::Global;
 
 /// The path of a node: of the root by its name, of any other by its number.

@@ -12,7 +12,8 @@ ghost use Rattle.atspi_telling.specs.Plain.{are_plain};
 
 use atspi_base::{NoMemory, Text};
 use atspi_tables::state_name;
-use atspi_types::{Path, Ty, Tys, Value, Values};
+use atspi_types::{Ty, Tys, Value, Values};
+use atspi_valid_names::Path;
 use std::alloc::Global;
 
 /// A text that stands in the program.

@@ -2,7 +2,7 @@
 
 use atspi_base::{Text, Texts};
 use atspi_forest::{EditFault, Item, Items, Reference, Step, StepList};
-use atspi_types::Path;
+use atspi_valid_names::Path;
 use std::test::*;
 
 /// A text without characters.

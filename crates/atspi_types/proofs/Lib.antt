@@ -1,11 +1,9 @@
 pub mod DataLemmas
 pub mod DataSize
-pub mod ElementLemmas
 pub mod KindLemmas
 pub mod KindSize
 pub mod LawfulLemmas
 pub mod SameLemmas
-pub mod NameLemmas
 pub mod SignatureSteps
 pub mod SignatureFronts
 pub mod SignatureWalks
@@ -17,4 +15,3 @@ pub mod TypeLemmas
 pub mod TypedLemmas
 pub mod TypedTests
 pub mod Verdicts
-pub mod WalkLemmas

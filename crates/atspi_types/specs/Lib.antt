@@ -2,16 +2,13 @@ pub mod Borrowed
 pub mod Data
 pub mod PlainsView
 pub mod DataView
-pub mod Elements
 pub mod Extents
 pub mod KindView
 pub mod Kinds
-pub mod Names
 pub mod OpenView
 pub mod Shapes
 pub mod SignatureFaults
 pub mod SignatureReading
 pub mod SignatureView
 pub mod Signatures
-pub mod Walks
 pub mod WellTyped

@@ -2,11 +2,11 @@
 
 ghost use Rattle.std.specs.Prelude.{◌≡◌, ◌<◌, length, slice_get, Some};
 
-use crate::names::Path;
 use crate::signature::Signature;
 use crate::ty::Ty;
 use crate::value::{Pairs, Value, Values};
 use atspi_base::Text;
+use atspi_valid_names::Path;
 
 /// A value that is borrowed.
 #[derive(Clone, Copy)]

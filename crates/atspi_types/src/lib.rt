@@ -1,10 +1,9 @@
-//! Types, values, names and signatures of the wire.
+//! Types, values and signatures of the wire.
 #![tactic(auto)]
 
 mod borrowed;
 mod fault;
 mod laws;
-mod names;
 mod parser;
 mod signature;
 mod token;
@@ -14,9 +13,6 @@ mod value;
 pub use borrowed::{Run, ValueRef};
 pub use fault::{Fault, Order, ReadFault};
 pub use laws::{signature_or_fault, tests_decide};
-pub use names::{
-    BusName, Interface, Member, NameFault, Path, is_bus_name, is_interface, is_member, is_path,
-};
 pub use signature::Signature;
 pub use ty::{EntryType, Ty, Tys};
 pub use value::{Pairs, Value, Values};

@@ -2,7 +2,8 @@
 
 use crate::spelled::{bytes_of, repeated};
 use atspi_base::{Bytes, Text, TextFault, put_decimal, put_in_quotes};
-use atspi_types::{BusName, Interface, Member, Path, ReadFault, Signature};
+use atspi_types::{ReadFault, Signature};
+use atspi_valid_names::{BusName, Interface, Member, Path};
 use std::alloc::Global;
 use std::process::Abort;
 

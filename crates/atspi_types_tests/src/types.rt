@@ -4,7 +4,8 @@ mod typed;
 
 use crate::rows::{Asked, signature, try_pieces, try_rows};
 use atspi_base::Bytes;
-use atspi_types::{BusName, Pairs, Run, Signature, Ty, Tys, Value, ValueRef, Values};
+use atspi_types::{Pairs, Run, Signature, Ty, Tys, Value, ValueRef, Values};
+use atspi_valid_names::BusName;
 use std::alloc::Global;
 use std::test::*;
 

@@ -8,7 +8,7 @@ use atspi_base::Bytes;
 use atspi_header::MessageRef;
 use atspi_message::total;
 use atspi_passing::write_from;
-use atspi_types::BusName;
+use atspi_valid_names::BusName;
 use std::alloc::Global;
 use std::test::*;
 

@@ -3,7 +3,7 @@
 use atspi_base::Text;
 use atspi_forest::Step;
 use atspi_message::Message;
-use atspi_types::BusName;
+use atspi_valid_names::BusName;
 
 /// What happens at an application: in its order it is told so.
 #[derive(Drop)]

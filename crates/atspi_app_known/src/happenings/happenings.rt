@@ -9,7 +9,7 @@ use crate::happenings::event::AppEvent;
 use atspi_base::{NoMemory, Text};
 use atspi_forest::Step;
 use atspi_message::Message;
-use atspi_types::BusName;
+use atspi_valid_names::BusName;
 use std::alloc::Global;
 use std::collections::VecDeque;
 

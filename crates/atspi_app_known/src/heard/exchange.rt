@@ -13,7 +13,7 @@ use crate::heard::set::{PairSet, set_of};
 use crate::hearing::PairRef;
 use atspi_base::{NoMemory, Text};
 use atspi_protocol::ends::bus_name;
-use atspi_types::BusName;
+use atspi_valid_names::BusName;
 use std::alloc::Global;
 
 /// The pairs that count after an exchange, and what is told of it.

@@ -6,7 +6,7 @@ ghost use Rattle.atspi_protocol.specs.exporting.Hearing.{is_heard, one_more};
 
 use atspi_base::{NoMemory, Text};
 use atspi_protocol::ends::covers;
-use atspi_types::BusName;
+use atspi_valid_names::BusName;
 use std::alloc::Global;
 use std::marker::Model;
 

@@ -12,11 +12,12 @@ ghost use Rattle.atspi_protocol.specs.exporting.Starting.{registry_signals, star
 use atspi_base::{NoMemory, Text};
 use atspi_message::Message;
 use atspi_protocol::ends::{bus_name, call_to, interface, member, path};
-use atspi_types::{Member, Value, Values};
+use atspi_types::{Value, Values};
+use atspi_valid_names::Member;
 use std::alloc::Global;
 
 /// A call of a member of the bus.
-#[tactic(auto, unfolding(atspi_types::specs::Names::is_bus_name, atspi_types::specs::Names::is_path, atspi_types::specs::Names::is_interface, atspi_types::specs::Elements::are_two_or_more, atspi_types::specs::Elements::are_elements, atspi_types::specs::Elements::parts_of))]
+#[tactic(auto, unfolding(atspi_valid_names::specs::Names::is_bus_name, atspi_valid_names::specs::Names::is_path, atspi_valid_names::specs::Names::is_interface, atspi_valid_names::specs::Elements::are_two_or_more, atspi_valid_names::specs::Elements::are_elements, atspi_valid_names::specs::Elements::parts_of))]
 fn bus_call(alloc: Global, member: Member, body: Values) -> Result<Message, NoMemory>
     ensures { IfOk result (λ message. envelope_of message ≡ messages.call_to bus bus_path bus member (all_data body)) }
 {
@@ -30,7 +31,7 @@ fn bus_call(alloc: Global, member: Member, body: Values) -> Result<Message, NoMe
 }
 
 /// Hello (D-Bus Specification, "Message Bus Messages").
-#[tactic(auto, unfolding(atspi_types::specs::Names::is_member))]
+#[tactic(auto, unfolding(atspi_valid_names::specs::Names::is_member))]
 pub(crate) fn hello_call(alloc: Global) -> Result<Message, NoMemory>
     ensures { IfOk result (λ message. (name : List ℕ) → envelope_of message ≡ start_call name exporter.hello) }
 {
@@ -49,7 +50,7 @@ fn rule(alloc: Global) -> Result<Text, NoMemory>
 }
 
 /// AddMatch of that rule (D-Bus Specification, "Message Bus Messages").
-#[tactic(auto, unfolding(atspi_types::specs::Names::is_member))]
+#[tactic(auto, unfolding(atspi_valid_names::specs::Names::is_member))]
 pub(crate) fn match_call(alloc: Global) -> Result<Message, NoMemory>
     ensures { IfOk result (λ message. (name : List ℕ) → envelope_of message ≡ start_call name exporter.add_match) }
 {
@@ -60,7 +61,7 @@ pub(crate) fn match_call(alloc: Global) -> Result<Message, NoMemory>
 }
 
 /// GetRegisteredEvents (AT-SPI2's interface file Registry).
-#[tactic(auto, unfolding(atspi_types::specs::Names::is_member, atspi_types::specs::Names::is_bus_name, atspi_types::specs::Names::is_path, atspi_types::specs::Names::is_interface, atspi_types::specs::Elements::are_two_or_more, atspi_types::specs::Elements::are_elements, atspi_types::specs::Elements::parts_of))]
+#[tactic(auto, unfolding(atspi_valid_names::specs::Names::is_member, atspi_valid_names::specs::Names::is_bus_name, atspi_valid_names::specs::Names::is_path, atspi_valid_names::specs::Names::is_interface, atspi_valid_names::specs::Elements::are_two_or_more, atspi_valid_names::specs::Elements::are_elements, atspi_valid_names::specs::Elements::parts_of))]
 pub(crate) fn events_call(alloc: Global) -> Result<Message, NoMemory>
     ensures { IfOk result (λ message. (name : List ℕ) → envelope_of message ≡ start_call name exporter.get_registered_events) }
 {
@@ -74,7 +75,7 @@ pub(crate) fn events_call(alloc: Global) -> Result<Message, NoMemory>
 }
 
 /// The root of the application with this name, as a value.
-#[tactic(auto, unfolding(atspi_types::specs::Names::is_path, atspi_types::specs::Elements::are_elements, atspi_types::specs::Elements::parts_of))]
+#[tactic(auto, unfolding(atspi_valid_names::specs::Names::is_path, atspi_valid_names::specs::Elements::are_elements, atspi_valid_names::specs::Elements::parts_of))]
 fn root(alloc: Global, name: &Text) -> Result<Value, NoMemory>
     ensures { IfOk result (λ value. data_of value ≡ reference name.now root_path) }
 {
@@ -94,7 +95,7 @@ fn root_body(alloc: Global, name: &Text) -> Result<Values, NoMemory>
 }
 
 /// Embed of its root, by the application with this name (AT-SPI2's interface file Socket).
-#[tactic(auto, unfolding(atspi_types::specs::Names::is_member, atspi_types::specs::Names::is_bus_name, atspi_types::specs::Names::is_path, atspi_types::specs::Names::is_interface, atspi_types::specs::Elements::are_two_or_more, atspi_types::specs::Elements::are_elements, atspi_types::specs::Elements::parts_of))]
+#[tactic(auto, unfolding(atspi_valid_names::specs::Names::is_member, atspi_valid_names::specs::Names::is_bus_name, atspi_valid_names::specs::Names::is_path, atspi_valid_names::specs::Names::is_interface, atspi_valid_names::specs::Elements::are_two_or_more, atspi_valid_names::specs::Elements::are_elements, atspi_valid_names::specs::Elements::parts_of))]
 pub(crate) fn embed_call(alloc: Global, name: &Text) -> Result<Message, NoMemory>
     ensures { IfOk result (λ message. envelope_of message ≡ start_call name.now exporter.embed) }
 {

@@ -9,7 +9,8 @@ use atspi_forest::Kinds;
 use atspi_header::MessageRef;
 use atspi_message::{Message, total};
 use atspi_protocol::ends::CallError;
-use atspi_types::{Interface, Member, Order, Path, Value, Values};
+use atspi_types::{Order, Value, Values};
+use atspi_valid_names::{Interface, Member, Path};
 use std::alloc::Global;
 use std::process::Abort;
 

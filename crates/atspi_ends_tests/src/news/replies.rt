@@ -5,7 +5,7 @@ use crate::news::shown::{put_item, put_news};
 use atspi_base::{Bytes, put_decimal};
 use atspi_news_reading::{items_told, part_told};
 use atspi_protocol::news::PartName;
-use atspi_types::Path;
+use atspi_valid_names::Path;
 use std::alloc::Global;
 use std::test::*;
 

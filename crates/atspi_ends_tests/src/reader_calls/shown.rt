@@ -7,7 +7,7 @@ use atspi_base::{Bytes, Text};
 use atspi_cursor::Fields;
 use atspi_header::MessageRef;
 use atspi_message::{Message, total};
-use atspi_types::{BusName, Path};
+use atspi_valid_names::{BusName, Path};
 use std::alloc::Global;
 use std::process::Abort;
 

@@ -7,7 +7,7 @@ use Rattle.std.proofs.lemmas.List.{append-nil}
 use Rattle.atspi_forest.specs.Forest.{first_of}
 use Rattle.atspi_lines.specs.declared.line.Party.{Party}
 use Rattle.atspi_lines.specs.declared.line.Party.TheVariants.{Bus as The_bus, Registry, App, Reader}
-use Rattle.atspi_types.specs.Names.{is_unique_name}
+use Rattle.atspi_valid_names.specs.Names.{is_unique_name}
 use Rattle.atspi_message.specs.Envelope.{Envelope}
 use Rattle.atspi_names.specs.Owners.{own_name}
 use Rattle.atspi_routing.specs.BusState.{unique_of}

@@ -5,7 +5,7 @@ use Rattle.std.specs.List.{AllByRecursion}
 use Rattle.std.specs.FinMap as finmap
 use Rattle.std.proofs.lemmas.Slice.Eq.{bytes_eq-Decides}
 use Rattle.atspi_types.specs.Data.{text_data}
-use Rattle.atspi_types.specs.Names.{is_unique_name}
+use Rattle.atspi_valid_names.specs.Names.{is_unique_name}
 use Rattle.atspi_message.specs.Envelope.{Envelope}
 use Rattle.atspi_names.specs.Owners.{Owners, own_name, after_hello}
 use Rattle.atspi_match.specs.declared.condition.Condition.{Condition}

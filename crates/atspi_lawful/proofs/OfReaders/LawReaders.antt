@@ -18,7 +18,7 @@ use Rattle.atspi_protocol.specs.following.Replied.{is_reply_to}
 use Rattle.atspi_protocol.specs.following.ReaderState.{start_calls}
 use Rattle.atspi_protocol.specs.declared.following.question.Question.{Question}
 use Rattle.atspi_protocol.specs.declared.following.question.Question.TheVariants.{Hello, AddMatch, RegisterEvent, GetChildren, GetItems, GetPart}
-use Rattle.atspi_types.specs.Names.{is_bus_name}
+use Rattle.atspi_valid_names.specs.Names.{is_bus_name}
 use Rattle.atspi_trace.specs.Entry.{Entry, started, sent, got, spoke, dropped}
 use Rattle.atspi_trace.specs.World.{Fate, waits, returned, failed, Asked, Role, the_registry, an_application, a_reader, Hearer, Letter, End, World, newcomer}
 use Rattle.atspi_trace.specs.Ends.{number_of, party_at, end_at, taken_down, app_count, reader_count, put_up}

@@ -7,7 +7,7 @@ use Rattle.atspi_lines.specs.declared.limits.TheConstants.{QUOTA_MOST}
 use Rattle.atspi_lines.specs.declared.line.Party.{Party}
 use Rattle.atspi_lines.specs.declared.line.Party.TheVariants.{Bus as The_bus, Registry, App, Reader}
 use Rattle.atspi_message.specs.Envelope.{Envelope}
-use Rattle.atspi_types.specs.Names.{is_unique_name}
+use Rattle.atspi_valid_names.specs.Names.{is_unique_name}
 use Rattle.atspi_names.specs.Owners.{own_name}
 use Rattle.atspi_protocol.specs.ends.Messages.{Reply, returns, fails, reply_to}
 use Rattle.atspi_protocol.specs.members.Asked.{asked}

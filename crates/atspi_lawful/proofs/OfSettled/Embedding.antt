@@ -6,7 +6,7 @@ use Rattle.std.proofs.lemmas.Bool.{eqb-true}
 use lib.Utf8.{encode}
 use Rattle.std.proofs.lemmas.List.{append-nil}
 use Rattle.atspi_types.specs.Data.{Data, text_data}
-use Rattle.atspi_types.specs.Names.{is_bus_name, is_unique_name}
+use Rattle.atspi_valid_names.specs.Names.{is_bus_name, is_unique_name}
 use Rattle.atspi_lines.specs.declared.line.Party.{Party}
 use Rattle.atspi_lines.specs.declared.line.Party.TheVariants.{Bus as The_bus, Registry, App}
 use Rattle.atspi_message.specs.Envelope.{Envelope}

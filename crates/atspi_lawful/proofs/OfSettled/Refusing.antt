@@ -4,7 +4,7 @@ use Rattle.std.proofs.Common.{◌≡◌, ◌⊎◌, inl, inr, ℕ, zero, suc, �
 use Rattle.std.specs.Prelude.{codes, if◌then◌else◌, Ok}
 use Rattle.std.specs.List.{AllByRecursion}
 use Rattle.std.proofs.lemmas.List.{append-nil}
-use Rattle.atspi_types.specs.Names.{is_unique_name}
+use Rattle.atspi_valid_names.specs.Names.{is_unique_name}
 use Rattle.atspi_lines.specs.declared.limits.TheConstants.{QUOTA_MOST}
 use Rattle.atspi_lines.specs.declared.line.Party.{Party}
 use Rattle.atspi_lines.specs.declared.line.Party.TheVariants.{Bus as The_bus, Registry, Reader}

@@ -7,7 +7,7 @@ use Rattle.std.specs.Ordering.{nat_cmp, eq_by_cmp}
 use Rattle.std.specs.Cmp.Lexicographic.{slice_cmp}
 use Rattle.std.proofs.lemmas.Fmt.{decimal_is_IsNumeral}
 use Rattle.std.specs.Str.Parse.{digits_value}
-use Rattle.atspi_types.specs.Names.{is_unique_name}
+use Rattle.atspi_valid_names.specs.Names.{is_unique_name}
 use Rattle.atspi_lines.specs.declared.limits.TheConstants.{QUOTA_MOST}
 use Rattle.atspi_message.specs.Envelope.{Envelope}
 use Rattle.atspi_names.specs.Owners.{list_of, unique_name, NoneTooEarly}

@@ -3,7 +3,7 @@ use Rattle.std.proofs.Common.{◌≡◌, ◌⊎◌, inl, inr, ℕ, zero, suc, �
 use Rattle.std.specs.Prelude.{◌+◌, ◌&&◌, flat_map, if◌then◌else◌}
 use Rattle.std.specs.List.{fold}
 use Rattle.atspi_types.specs.Data.{text_data}
-use Rattle.atspi_types.specs.Names.{is_bus_name, is_unique_name}
+use Rattle.atspi_valid_names.specs.Names.{is_bus_name, is_unique_name}
 use Rattle.atspi_message.specs.Envelope.{Envelope}
 use Rattle.atspi_names.specs.Owners.{unique_name, after_hello, after_gone}
 use Rattle.atspi_names.proofs.UniqueLemmas.{is_bus_name-unique_name}

@@ -3,7 +3,7 @@
 use Rattle.std.proofs.Common.{◌≡◌, ◌⊎◌, inl, inr, ℕ, ◌≤◌, Bool, true, false, List, [], ◌∷◌, ◌++◌, length, Option, Some, refl, sym, ap, ap₂, ◌∙◌, subst}
 use Rattle.std.specs.Prelude.{◌&&◌, not, Ok}
 use Rattle.std.specs.List.{AllByRecursion, list_any}
-use Rattle.atspi_types.specs.Names.{is_unique_name}
+use Rattle.atspi_valid_names.specs.Names.{is_unique_name}
 use Rattle.atspi_lines.specs.declared.line.Party.{Party}
 use Rattle.atspi_lines.specs.declared.line.Party.TheVariants.{Bus as The_bus, Registry, App, Reader}
 use Rattle.atspi_message.specs.Envelope.{Envelope}

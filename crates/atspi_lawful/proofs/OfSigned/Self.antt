@@ -8,7 +8,7 @@ use Rattle.std.proofs.lemmas.Fmt.{decimal_is_IsNumeral}
 use Rattle.std.specs.Fmt.{decimal}
 use Rattle.std.specs.Str.Parse.{digits_value}
 use Rattle.atspi_types.specs.Data.{text_data}
-use Rattle.atspi_types.specs.Names.{is_unique_name, is_bus_name}
+use Rattle.atspi_valid_names.specs.Names.{is_unique_name, is_bus_name}
 use Rattle.atspi_forest.specs.declared.edit.Edit.{Edit}
 use Rattle.atspi_forest.specs.declared.edit.EditFault.{EditFault}
 use Rattle.atspi_forest.specs.declared.step.Step.{Step}

@@ -11,7 +11,8 @@ use crate::ends::error::CallError;
 use crate::ends::names::interface;
 use atspi_base::{NoMemory, Text};
 use atspi_message::Message;
-use atspi_types::{BusName, Interface, Member, Order, Path, Value, Values};
+use atspi_types::{Order, Value, Values};
+use atspi_valid_names::{BusName, Interface, Member, Path};
 use std::alloc::Global;
 
 /// A call of a member of another end's object.

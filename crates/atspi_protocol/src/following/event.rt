@@ -2,7 +2,7 @@
 
 use atspi_base::Text;
 use atspi_message::Message;
-use atspi_types::BusName;
+use atspi_valid_names::BusName;
 
 /// What a reader does: it speaks, tells that an application has ended, or sends a message.
 #[derive(Drop)]

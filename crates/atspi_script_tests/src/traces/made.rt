@@ -4,7 +4,7 @@ use atspi_base::{Bytes, Text, Texts};
 use atspi_events::{Event, write_event};
 use atspi_forest::Seed;
 use atspi_lines::Party;
-use atspi_types::{BusName, Path};
+use atspi_valid_names::{BusName, Path};
 use std::alloc::Global;
 
 /// What spells an event: a word, up to three more, and what stands behind `|` where one is there.

@@ -3,7 +3,7 @@
 use crate::traces::made::{number, path, tells, text};
 use atspi_events::{Event, Shown, ShownRow};
 use atspi_forest::{NumPart, Part, Row};
-use atspi_types::Path;
+use atspi_valid_names::Path;
 use std::alloc::Global;
 use std::test::*;
 

@@ -10,7 +10,8 @@ ghost use Rattle.atspi_message.specs.Rules.{MeetsRules};
 use super::{BIG, BODY, HELLO, RETURN, parsed};
 use atspi_base::{Bytes, NoMemory};
 use atspi_message::{Message, WriteFault};
-use atspi_types::{BusName, Interface, Member, Order, Path, Ty, Value, Values};
+use atspi_types::{Order, Ty, Value, Values};
+use atspi_valid_names::{BusName, Interface, Member, Path};
 use std::alloc::Global;
 use std::test::*;
 

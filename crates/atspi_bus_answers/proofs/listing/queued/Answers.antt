@@ -1,7 +1,7 @@
 use Rattle.std.proofs.Common.{◌≡◌, sym, ap, subst, ◌∙◌, [], ◌∷◌, map, List, ℕ, Some}
 use Rattle.std.proofs.lemmas.Result.{IfOk-weaker}
 use Rattle.atspi_types.specs.Data.{Data, text_data}
-use Rattle.atspi_types.specs.Names.{IsBusName, is_bus_name}
+use Rattle.atspi_valid_names.specs.Names.{IsBusName, is_bus_name}
 use Rattle.atspi_types.proofs.DataLemmas.{data_of-Text}
 use Rattle.atspi_names.specs.Owners.{list_of}
 use Rattle.atspi_routing.specs.BusState.{name_or_empty}

@@ -2,7 +2,7 @@ use Rattle.std.proofs.Common.{◌≡◌, sym, ap, subst, ◌∙◌, Option, Some
 use Rattle.std.specs.Prelude.{bytes_eq}
 use Rattle.std.specs.Option.{option_map}
 use Rattle.atspi_types.specs.Data.{Data, text_data}
-use Rattle.atspi_types.specs.Names.{IsBusName, is_bus_name}
+use Rattle.atspi_valid_names.specs.Names.{IsBusName, is_bus_name}
 use Rattle.atspi_types.proofs.DataLemmas.{data_of-Text}
 use Rattle.atspi_names.specs.Owners.{list_of}
 use Rattle.atspi_names.specs.Queue.{owner_in}

@@ -1,6 +1,6 @@
 use Rattle.std.proofs.Common.{◌≡◌, List, [], ◌∷◌, refl}
-use Rattle.atspi_types.specs.Names.{is_bus_name}
-use Rattle.atspi_types.specs.Elements.{are_two_or_more, are_elements, parts_of}
+use Rattle.atspi_valid_names.specs.Names.{is_bus_name}
+use Rattle.atspi_valid_names.specs.Elements.{are_two_or_more, are_elements, parts_of}
 use Rattle.atspi_trace.specs.Causes.{gets}
 use Rattle.atspi_trace.specs.Entry.{Entry}
 use Rattle.atspi_trace.specs.Work.{Work, draining, resting, turning}

@@ -1,6 +1,6 @@
 use Rattle.std.proofs.Common.{refl, ◌∷◌, []}
-use Rattle.atspi_types.specs.Names.{is_bus_name}
-use Rattle.atspi_types.specs.Elements.{are_two_or_more, are_elements, parts_of}
+use Rattle.atspi_valid_names.specs.Names.{is_bus_name}
+use Rattle.atspi_valid_names.specs.Elements.{are_two_or_more, are_elements, parts_of}
 use Rattle.atspi_trace.specs.Causes.{exits, gets, swaps_face, tells_busy, tells_quiet}
 use Rattle.atspi_trace.specs.Entry.{busy}
 use Rattle.atspi_trace.specs.Work.{doing, draining, moving_up, resting, turning}
