@@ -4,10 +4,9 @@ ghost use Rattle.std.specs.Prelude.{◌≡◌, ◌<◌, ◌≤◌, ◌+◌, leng
 ghost use Rattle.std.specs.Int.{w32};
 ghost use Rattle.atspi_codes.specs.TyRefs.{ref_kind, refs_kinds};
 ghost use Rattle.atspi_codes.specs.Shapes.{shape_kind};
-ghost use Rattle.atspi_marshal.specs.Input.{number_in, byte_in, aligned};
+ghost use Rattle.atspi_marshal.specs.Input.{number_in, byte_in, aligned, PlacesFit, ReachTo};
 ghost use Rattle.atspi_marshal.specs.Faults.{end_of, place_of};
 ghost use Rattle.atspi_marshal.specs.Reading.{input_of, read, is_structure};
-ghost use Rattle.atspi_cursor.specs.Bounds.{ReachTo};
 ghost use Rattle.atspi_cursor.specs.Passing.{after, read_all};
 ghost use Rattle.atspi_cursor.specs.Known.{is_read};
 
@@ -27,7 +26,7 @@ fn jump_long(input: &Marshalled, at: usize) -> usize
 
 /// The place behind a signature, be it a value or that of a variant.
 fn jump_short(input: &Marshalled, at: usize) -> usize
-    requires { (at < length input.now.bytes.now) × (length input.now.bytes.now < 4294967288) }
+    requires { (at < length input.now.bytes.now) × PlacesFit input.now.bytes.now }
     ensures { result ≡ aligned 1 at + 2 + byte_in (input_of input.now) (aligned 1 at) }
 {
     at + 2 + byte_at(input, at) as usize

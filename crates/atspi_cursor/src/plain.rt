@@ -1,9 +1,8 @@
 //! Padding, numbers and booleans that are passed.
 
 ghost use Rattle.std.specs.Prelude.{◌≡◌, ◌<◌, ◌≤◌, ◌+◌, length, IfOk};
-ghost use Rattle.atspi_marshal.specs.Input.{aligned};
+ghost use Rattle.atspi_marshal.specs.Input.{aligned, ReachTo};
 ghost use Rattle.atspi_marshal.specs.Reading.{input_of, zeros_in_front, passing_reason, padding_at, room_at, boolean_at};
-ghost use Rattle.atspi_cursor.specs.Bounds.{ReachTo};
 ghost use Rattle.atspi_cursor.specs.Passing.{after, fixed_at};
 
 use atspi_marshal::{Bound, Marshalled, u32_at};

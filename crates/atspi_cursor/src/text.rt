@@ -7,9 +7,8 @@ ghost use Rattle.atspi_base.specs.ReadsText.{ReadsStr, StrPlaceBelow};
 ghost use Rattle.atspi_types.specs.SignatureReading.{signature_in};
 ghost use Rattle.atspi_codes.specs.TyRefs.{refs_read, ReadsOne};
 ghost use Rattle.atspi_marshal.specs.Faults.{short_in};
-ghost use Rattle.atspi_marshal.specs.Input.{number_in, byte_in};
+ghost use Rattle.atspi_marshal.specs.Input.{number_in, byte_in, PlacesFit, ReachTo};
 ghost use Rattle.atspi_marshal.specs.Reading.{input_of, long_place, short_place, long_at, short_at, text_body_at, path_body_at, signature_body_at};
-ghost use Rattle.atspi_cursor.specs.Bounds.{ReachTo};
 ghost use Rattle.atspi_cursor.specs.Passing.{after, is_plain};
 
 use crate::plain::{fault, room};
@@ -44,7 +43,7 @@ fn read_text(bytes: &[u8]) -> Result<(), TextFault>
 /// So many bytes at a place.
 #[inline(always)]
 pub fn slice<'a>(bytes: &'a [u8], at: usize, len: usize) -> &'a [u8]
-    requires { (at + len ≤ length bytes.now) × (length bytes.now < 4294967288) }
+    requires { (at + len ≤ length bytes.now) × PlacesFit bytes.now }
     ensures { result.now ≡ take len (drop at bytes.now) }
 {
     &bytes[at..at + len]

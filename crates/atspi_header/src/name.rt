@@ -2,9 +2,8 @@
 
 ghost use Rattle.std.specs.Prelude.{◌≡◌, ◌<◌, ◌≤◌, ◌+◌, IfOk};
 ghost use Rattle.std.specs.Int.{w32};
-ghost use Rattle.atspi_marshal.specs.Input.{number_in};
+ghost use Rattle.atspi_marshal.specs.Input.{number_in, ReachTo};
 ghost use Rattle.atspi_marshal.specs.Reading.{input_of};
-ghost use Rattle.atspi_cursor.specs.Bounds.{ReachTo};
 ghost use Rattle.atspi_message.specs.Reading.{is_name, name_data, name_body_at, name_at};
 ghost use Rattle.atspi_header.specs.Codes.{name_code};
 ghost use Rattle.atspi_header.specs.View.{Reads};

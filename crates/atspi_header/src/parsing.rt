@@ -3,6 +3,7 @@
 ghost use Rattle.std.specs.Prelude.{◌≡◌, ◌<◌, ◌≤◌, ℕ, List, Err, length, take, drop, IfOk, IfErr, IsOkAnd, IsErrOf, if◌then◌else◌};
 ghost use Rattle.atspi_types.specs.Kinds.{kinds_of};
 ghost use Rattle.atspi_codes.specs.TyRefs.{refs_kinds};
+ghost use Rattle.atspi_marshal.specs.Input.{PlacesFit};
 ghost use Rattle.atspi_cursor.specs.Items.{fields_data};
 ghost use Rattle.atspi_message.specs.Envelope.{Envelope};
 ghost use Rattle.atspi_message.specs.Bytes.{IsMessage};
@@ -47,7 +48,7 @@ fn values<'a>(bytes: &'a [u8], types: TysRef<'a>, place: usize) -> Result<Fields
 
 /// Where the fields end.
 fn fields_end(bytes: &[u8]) -> usize
-    requires { (16 ≤ length bytes.now) × (length bytes.now < 4294967288) }
+    requires { (16 ≤ length bytes.now) × PlacesFit bytes.now }
     ensures { result ≡ fields_end_in bytes.now }
 {
     let input = Marshalled {

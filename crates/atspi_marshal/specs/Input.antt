@@ -1,7 +1,8 @@
 -- The bytes that are read, the order of the numbers in them, and where what is read has to end.
-use Rattle.std.specs.Prelude.{◌≡◌, ℕ, List, length, take, drop, slice_index, ◌+◌, ◌-◌, ◌%◌}
+use Rattle.std.specs.Prelude.{◌≡◌, ◌<◌, ◌≤◌, ℕ, List, length, take, drop, slice_index, ◌+◌, ◌-◌, ◌%◌}
 use Rattle.std.specs.Int.{Width, byte_len, from_be_bytes, from_le_bytes, to_be_bytes, to_le_bytes}
 use Rattle.atspi_marshal.specs.declared.input.Bound.{Bound}
+use Rattle.atspi_marshal.specs.declared.input.Marshalled.{Marshalled}
 use Rattle.atspi_types.specs.declared.fault.Order.{Order}
 use Rattle.atspi_types.specs.declared.fault.Order.TheVariants.{Little, Big}
 
@@ -36,6 +37,15 @@ Stands i at s next = (next ≡ at + length s) × (slice_in i at (length s) ≡ s
 -- the first place from `at` on that is a multiple of n
 abbrev pub aligned : ℕ → ℕ → ℕ
 aligned n at = at + (n - at % n) % n
+
+-- The bytes are few enough that the place of a fault, a number of 32 bits, can be told anywhere: with 4294967288 = 2 ^ 32 - 8, what
+-- stands eight bytes behind a place in them, or as far as padding reaches, is still below 2 ^ 32.
+abbrev pub PlacesFit : List ℕ → Type 0
+PlacesFit bytes = length bytes < 4294967288
+
+-- an end or a place, at most the end of the bytes, which are so few
+abbrev pub ReachTo : Marshalled → ℕ → Type 0
+ReachTo m end = (end ≤ length m.bytes.now) × PlacesFit m.bytes.now
 
 -- all of the bytes, and their end
 abbrev pub whole : Order → List ℕ → Input

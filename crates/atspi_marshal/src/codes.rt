@@ -1,10 +1,10 @@
 //! Types of one byte, which most variants have: they need no list of types.
 
-ghost use Rattle.std.specs.Prelude.{◌≡◌, ◌≤◌, ◌<◌, ◌+◌, [], ◌∷◌, length, IfSome, Ok};
+ghost use Rattle.std.specs.Prelude.{◌≡◌, ◌+◌, [], ◌∷◌, IfSome, Ok};
 ghost use Rattle.atspi_types.specs.KindView.{kind_of};
 ghost use Rattle.atspi_types.specs.SignatureReading.{signature_in};
 ghost use Rattle.atspi_marshal.specs.Faults.{short_in};
-ghost use Rattle.atspi_marshal.specs.Input.{byte_in};
+ghost use Rattle.atspi_marshal.specs.Input.{byte_in, ReachTo};
 ghost use Rattle.atspi_marshal.specs.Reading.{input_of};
 
 use crate::input::{Marshalled, byte_at};
@@ -34,7 +34,7 @@ fn type_of_code(code: u8) -> Option<Ty>
 
 /// The type, where the signature whose length stands at a place has one byte.
 pub fn plain_type(input: &Marshalled, place: usize) -> Option<Ty>
-    requires { (place + 2 + byte_in (input_of input.now) place ≤ length input.now.bytes.now) × (length input.now.bytes.now < 4294967288) }
+    requires { ReachTo input.now (place + 2 + byte_in (input_of input.now) place) }
     ensures { IfSome result (λ ty. signature_in (short_in (input_of input.now) place) ≡ Ok (kind_of ty ∷ [])) }
 {
     if byte_at(input, place) != 1 {

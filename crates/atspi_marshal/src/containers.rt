@@ -6,7 +6,7 @@ ghost use Rattle.atspi_types.specs.Kinds.{structure, kinds_of, alignment, byte};
 ghost use Rattle.atspi_types.specs.KindView.{kind_of, kinds_in};
 ghost use Rattle.atspi_types.specs.DataView.{data_of, all_data, all_pairs};
 ghost use Rattle.atspi_types.specs.Data.{number_data};
-ghost use Rattle.atspi_marshal.specs.Input.{number_in, byte_in, slice_in, aligned};
+ghost use Rattle.atspi_marshal.specs.Input.{number_in, byte_in, slice_in, aligned, ReachTo};
 ghost use Rattle.atspi_marshal.specs.Faults.{entry_kind};
 ghost use Rattle.atspi_marshal.specs.Reading.{input_of, Gives, Fails, dictionary_body_at, read, single_at, array_place, array_body_at, array_at, dictionary_at, structure_at, variant_body_at, inner_at, elements_at, fields_at, short_at, deep_at, first_of, is_byte, is_structure, struct_of, structs_in};
 
@@ -30,7 +30,7 @@ fn array_front(
 ) -> Result<usize, ReadFault>
     requires align { (0 < align) × (align ≤ 8) }
     requires at { at ≤ bound.end }
-    requires end { (bound.end ≤ length input.now.bytes.now) × (length input.now.bytes.now < 4294967288) }
+    requires end { ReachTo input.now bound.end }
     ensures place { Gives (λ p. p) result (array_place (input_of input.now) align bound at) }
     ensures within { IfOk result (λ p. (at ≤ p) × (aligned align (p + 4) + number_in (input_of input.now) w32 p ≤ bound.end)) }
 {
@@ -119,7 +119,7 @@ pub fn value(
     at: usize,
 ) -> Result<(Value, usize), ReadFault>
     requires at { at ≤ bound.end }
-    requires end { (bound.end ≤ length input.now.bytes.now) × (length input.now.bytes.now < 4294967288) }
+    requires end { ReachTo input.now bound.end }
     ensures read { Gives (λ x. (data_of x.0, x.1)) result (read (input_of input.now) levels (kind_of ty.now) bound at) }
     ensures within { IfOk result (λ x. (at ≤ x.1) × (x.1 ≤ bound.end)) }
 {
@@ -141,7 +141,7 @@ fn single(
     at: usize,
 ) -> Result<(Value, usize), ReadFault>
     requires at { at ≤ bound.end }
-    requires end { (bound.end ≤ length input.now.bytes.now) × (length input.now.bytes.now < 4294967288) }
+    requires end { ReachTo input.now bound.end }
     ensures read { Gives (λ x. (data_of x.0, x.1)) result (single_at (levels == 0) (read (input_of input.now) (levels - 1)) (input_of input.now) (kind_of ty.now) bound at) }
     ensures within { IfOk result (λ x. (at ≤ x.1) × (x.1 ≤ bound.end)) }
 {
@@ -177,7 +177,7 @@ fn array(
     at: usize,
 ) -> Result<(Value, usize), ReadFault>
     requires at { at ≤ bound.end }
-    requires end { (bound.end ≤ length input.now.bytes.now) × (length input.now.bytes.now < 4294967288) }
+    requires end { ReachTo input.now bound.end }
     ensures read { Gives (λ x. (data_of x.0, x.1)) result (array_at (levels == 0) (read (input_of input.now) (levels - 1)) (input_of input.now) (kind_of element.now) bound at) }
     ensures within { IfOk result (λ x. (at ≤ x.1) × (x.1 ≤ bound.end)) }
 {
@@ -198,7 +198,7 @@ fn array_body(
     element: &Ty,
     place: usize,
 ) -> Result<(Value, usize), ReadFault>
-    requires { (aligned (alignment (kind_of element.now)) (place + 4) + number_in (input_of input.now) w32 place ≤ length input.now.bytes.now) × (length input.now.bytes.now < 4294967288) }
+    requires { ReachTo input.now (aligned (alignment (kind_of element.now)) (place + 4) + number_in (input_of input.now) w32 place) }
     ensures read { Gives (λ x. (data_of x.0, x.1)) result (array_body_at (read (input_of input.now) levels) (input_of input.now) (kind_of element.now) place) }
     ensures within { IfOk result (λ x. x.1 ≡ aligned (alignment (kind_of element.now)) (place + 4) + number_in (input_of input.now) w32 place) }
 {
@@ -226,7 +226,7 @@ fn items_of(
     start: usize,
 ) -> Result<Values, ReadFault>
     requires at { (start ≤ inside.end) × (inside.end ≤ start + len) }
-    requires end { (inside.end ≤ length input.now.bytes.now) × (length input.now.bytes.now < 4294967288) }
+    requires end { ReachTo input.now inside.end }
     ensures read { Gives all_data result (elements_at (read (input_of input.now) levels (kind_of element.now) inside) inside.end len start) }
 {
     if is_byte(element) {
@@ -247,7 +247,7 @@ fn elements(
     start: usize,
 ) -> Result<Values, ReadFault>
     requires at { start ≤ inside.end }
-    requires end { (inside.end ≤ length input.now.bytes.now) × (length input.now.bytes.now < 4294967288) }
+    requires end { ReachTo input.now inside.end }
     ensures read { Gives all_data result (elements_at (read (input_of input.now) levels (kind_of element.now) inside) inside.end len start) }
 {
     let mut items = Values::new(alloc);
@@ -276,7 +276,7 @@ fn dictionary(
     at: usize,
 ) -> Result<(Value, usize), ReadFault>
     requires at { at ≤ bound.end }
-    requires end { (bound.end ≤ length input.now.bytes.now) × (length input.now.bytes.now < 4294967288) }
+    requires end { ReachTo input.now bound.end }
     ensures read { Gives (λ x. (data_of x.0, x.1)) result (dictionary_at (levels == 0) (read (input_of input.now) (levels - 1)) (input_of input.now) (kind_of key.now) (kind_of value.now) bound at) }
     ensures within { IfOk result (λ x. (at ≤ x.1) × (x.1 ≤ bound.end)) }
 {
@@ -298,7 +298,7 @@ fn dictionary_body(
     value: &Ty,
     place: usize,
 ) -> Result<(Value, usize), ReadFault>
-    requires { (aligned 8 (place + 4) + number_in (input_of input.now) w32 place ≤ length input.now.bytes.now) × (length input.now.bytes.now < 4294967288) }
+    requires { ReachTo input.now (aligned 8 (place + 4) + number_in (input_of input.now) w32 place) }
     ensures read { Gives (λ x. (data_of x.0, x.1)) result (dictionary_body_at (read (input_of input.now) levels) (input_of input.now) (kind_of key.now) (kind_of value.now) place) }
     ensures within { IfOk result (λ x. x.1 ≡ aligned 8 (place + 4) + number_in (input_of input.now) w32 place) }
 {
@@ -329,7 +329,7 @@ fn entries(
     start: usize,
 ) -> Result<Pairs, ReadFault>
     requires at { start ≤ inside.end }
-    requires end { (inside.end ≤ length input.now.bytes.now) × (length input.now.bytes.now < 4294967288) }
+    requires end { ReachTo input.now inside.end }
     ensures read { Gives (λ ps. structs_in (all_pairs ps)) result
         (elements_at (read (input_of input.now) levels (entry_kind (kind_of key.now) (kind_of value.now)) inside) inside.end len start) }
 {
@@ -358,7 +358,7 @@ fn entry(
     at: usize,
 ) -> Result<(Value, Value, usize), ReadFault>
     requires at { at ≤ bound.end }
-    requires end { (bound.end ≤ length input.now.bytes.now) × (length input.now.bytes.now < 4294967288) }
+    requires end { ReachTo input.now bound.end }
     ensures read { Gives (λ x. (struct_of (data_of x.0) (data_of x.1), x.2)) result
         (read (input_of input.now) levels (entry_kind (kind_of key.now) (kind_of value_type.now)) bound at) }
     ensures within { IfOk result (λ x. (at ≤ x.2) × (x.2 ≤ bound.end)) }
@@ -379,7 +379,7 @@ fn pair(
     at: usize,
 ) -> Result<(Value, Value, usize), ReadFault>
     requires at { at ≤ bound.end }
-    requires end { (bound.end ≤ length input.now.bytes.now) × (length input.now.bytes.now < 4294967288) }
+    requires end { ReachTo input.now bound.end }
     ensures read { Gives (λ x. (struct_of (data_of x.0) (data_of x.1), x.2)) result
         (structure_at (levels == 0) (read (input_of input.now) (levels - 1)) (input_of input.now) (kind_of key.now ∷ kind_of value_type.now ∷ []) bound at) }
     ensures within { IfOk result (λ x. (at ≤ x.2) × (x.2 ≤ bound.end)) }
@@ -405,7 +405,7 @@ fn structure(
     at: usize,
 ) -> Result<(Value, usize), ReadFault>
     requires at { at ≤ bound.end }
-    requires end { (bound.end ≤ length input.now.bytes.now) × (length input.now.bytes.now < 4294967288) }
+    requires end { ReachTo input.now bound.end }
     ensures read { Gives (λ x. (data_of x.0, x.1)) result (structure_at (levels == 0) (read (input_of input.now) (levels - 1)) (input_of input.now) (map kind_of fields.now) bound at) }
     ensures within { IfOk result (λ x. (at ≤ x.1) × (x.1 ≤ bound.end)) }
 {
@@ -424,7 +424,7 @@ fn structure(
 #[cycle(read)]
 fn too_deep(alloc: Global, input: &Marshalled, first: &Ty, bound: Bound, place: usize) -> ReadFault
     requires at { place ≤ bound.end }
-    requires end { (bound.end ≤ length input.now.bytes.now) × (length input.now.bytes.now < 4294967288) }
+    requires end { ReachTo input.now bound.end }
     ensures { Fails result (deep_at place (single_at true (read (input_of input.now) 0) (input_of input.now) (kind_of first.now) bound place)) }
 {
     match single(alloc, input, 0, first, bound, place) {
@@ -450,7 +450,7 @@ pub fn fields_of(
     start: usize,
 ) -> Result<(Values, usize), ReadFault>
     requires at { start ≤ bound.end }
-    requires end { (bound.end ≤ length input.now.bytes.now) × (length input.now.bytes.now < 4294967288) }
+    requires end { ReachTo input.now bound.end }
     ensures read { Gives (λ x. (all_data x.0, x.1)) result (fields_at (λ k q. read (input_of input.now) levels k bound q) (map kind_of fields.now) start) }
     ensures within { IfOk result (λ x. (start ≤ x.1) × (x.1 ≤ bound.end)) }
 {
@@ -475,7 +475,7 @@ fn variant(
     at: usize,
 ) -> Result<(Value, usize), ReadFault>
     requires at { at ≤ bound.end }
-    requires end { (bound.end ≤ length input.now.bytes.now) × (length input.now.bytes.now < 4294967288) }
+    requires end { ReachTo input.now bound.end }
     ensures read { Gives (λ x. (data_of x.0, x.1)) result (short_at (variant_body_at (levels == 0) (read (input_of input.now) (levels - 1)) (input_of input.now) bound) (input_of input.now) bound at) }
     ensures within { IfOk result (λ x. (at ≤ x.1) × (x.1 ≤ bound.end)) }
 {
@@ -494,7 +494,7 @@ fn variant_body(
     place: usize,
 ) -> Result<(Value, usize), ReadFault>
     requires at { place + 2 + byte_in (input_of input.now) place ≤ bound.end }
-    requires end { (bound.end ≤ length input.now.bytes.now) × (length input.now.bytes.now < 4294967288) }
+    requires end { ReachTo input.now bound.end }
     ensures read { Gives (λ x. (data_of x.0, x.1)) result (variant_body_at (levels == 0) (read (input_of input.now) (levels - 1)) (input_of input.now) bound place) }
     ensures within { IfOk result (λ x. (place ≤ x.1) × (x.1 ≤ bound.end)) }
 {
@@ -528,7 +528,7 @@ fn inner(
     place: usize,
 ) -> Result<(Value, usize), ReadFault>
     requires at { place + 2 + byte_in (input_of input.now) place ≤ bound.end }
-    requires end { (bound.end ≤ length input.now.bytes.now) × (length input.now.bytes.now < 4294967288) }
+    requires end { ReachTo input.now bound.end }
     ensures read { Gives (λ x. (data_of x.0, x.1)) result (inner_at (levels == 0) (read (input_of input.now) (levels - 1)) (input_of input.now) bound place (kind_of ty)) }
     ensures within { IfOk result (λ x. (place ≤ x.1) × (x.1 ≤ bound.end)) }
 {

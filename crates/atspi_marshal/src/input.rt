@@ -3,7 +3,7 @@
 ghost use Rattle.std.specs.Prelude.{◌≡◌, ◌<◌, ◌≤◌, ◌+◌, length};
 ghost use Rattle.std.specs.Int.{w16, w32, w64, cast_unsigned};
 ghost use Rattle.atspi_types.specs.declared.fault.ReadFault.TheVariants.{Bad};
-ghost use Rattle.atspi_marshal.specs.Input.{Input, number_in, byte_in, slice_in};
+ghost use Rattle.atspi_marshal.specs.Input.{Input, number_in, byte_in, slice_in, ReachTo};
 ghost use Rattle.atspi_marshal.specs.Reading.{input_of};
 
 use atspi_types::{Fault, Order, ReadFault};
@@ -51,7 +51,7 @@ pub fn byte_at(input: &Marshalled, at: usize) -> u8
 
 /// The number of 16 bits at a place.
 pub fn u16_at(input: &Marshalled, at: usize) -> u16
-    requires { (at + 2 ≤ length input.now.bytes.now) × (length input.now.bytes.now < 4294967288) }
+    requires { ReachTo input.now (at + 2) }
     ensures { result ≡ number_in (input_of input.now) w16 at }
 {
     let number = [input.bytes[at], input.bytes[at + 1]];
@@ -63,7 +63,7 @@ pub fn u16_at(input: &Marshalled, at: usize) -> u16
 
 /// The number of 32 bits at a place.
 pub fn u32_at(input: &Marshalled, at: usize) -> u32
-    requires { (at + 4 ≤ length input.now.bytes.now) × (length input.now.bytes.now < 4294967288) }
+    requires { ReachTo input.now (at + 4) }
     ensures { result ≡ number_in (input_of input.now) w32 at }
 {
     let bytes = input.bytes;
@@ -76,7 +76,7 @@ pub fn u32_at(input: &Marshalled, at: usize) -> u32
 
 /// The number of 64 bits at a place.
 pub fn u64_at(input: &Marshalled, at: usize) -> u64
-    requires { (at + 8 ≤ length input.now.bytes.now) × (length input.now.bytes.now < 4294967288) }
+    requires { ReachTo input.now (at + 8) }
     ensures { result ≡ number_in (input_of input.now) w64 at }
 {
     let bytes = input.bytes;
@@ -98,7 +98,7 @@ pub fn u64_at(input: &Marshalled, at: usize) -> u64
 
 /// The signed number of 16 bits at a place.
 pub fn i16_at(input: &Marshalled, at: usize) -> i16
-    requires { (at + 2 ≤ length input.now.bytes.now) × (length input.now.bytes.now < 4294967288) }
+    requires { ReachTo input.now (at + 2) }
     ensures { cast_unsigned w16 result ≡ number_in (input_of input.now) w16 at }
 {
     u16_at(input, at).cast_signed()
@@ -106,7 +106,7 @@ pub fn i16_at(input: &Marshalled, at: usize) -> i16
 
 /// The signed number of 32 bits at a place.
 pub fn i32_at(input: &Marshalled, at: usize) -> i32
-    requires { (at + 4 ≤ length input.now.bytes.now) × (length input.now.bytes.now < 4294967288) }
+    requires { ReachTo input.now (at + 4) }
     ensures { cast_unsigned w32 result ≡ number_in (input_of input.now) w32 at }
 {
     u32_at(input, at).cast_signed()
@@ -114,7 +114,7 @@ pub fn i32_at(input: &Marshalled, at: usize) -> i32
 
 /// The signed number of 64 bits at a place.
 pub fn i64_at(input: &Marshalled, at: usize) -> i64
-    requires { (at + 8 ≤ length input.now.bytes.now) × (length input.now.bytes.now < 4294967288) }
+    requires { ReachTo input.now (at + 8) }
     ensures { cast_unsigned w64 result ≡ number_in (input_of input.now) w64 at }
 {
     u64_at(input, at).cast_signed()

@@ -4,7 +4,7 @@ ghost use Rattle.std.specs.Prelude.{◌≡◌, ◌<◌, ◌≤◌, ◌+◌, leng
 ghost use Rattle.std.specs.Int.{w16, w32, w64};
 ghost use Rattle.atspi_types.specs.Kinds.{byte, i16, u16, i32, u32, i64, u64, double};
 ghost use Rattle.atspi_types.specs.DataView.{data_of};
-ghost use Rattle.atspi_marshal.specs.Input.{Input, number_in, aligned};
+ghost use Rattle.atspi_marshal.specs.Input.{Input, number_in, aligned, ReachTo};
 ghost use Rattle.atspi_marshal.specs.Reading.{input_of, Gives, zeros_in_front, passing_reason, padding_at, room_at, number_at, boolean_at};
 
 use crate::input::{
@@ -34,7 +34,7 @@ pub fn padding(
 ) -> Result<usize, ReadFault>
     requires align { (0 < align) × (align ≤ 8) }
     requires at { at ≤ bound.end }
-    requires end { (bound.end ≤ length input.now.bytes.now) × (length input.now.bytes.now < 4294967288) }
+    requires end { ReachTo input.now bound.end }
     ensures place { Gives (λ p. p) result (padding_at (input_of input.now) align bound at) }
     ensures aligned { IfOk result (λ p. p ≡ aligned align at) }
     ensures within { IfOk result (λ p. (at ≤ p) × (p ≤ bound.end)) }
@@ -73,7 +73,7 @@ pub fn room(
 ) -> Result<usize, ReadFault>
     requires align { (0 < align) × (align ≤ 8) × (len ≤ 8) }
     requires at { at ≤ bound.end }
-    requires end { (bound.end ≤ length input.now.bytes.now) × (length input.now.bytes.now < 4294967288) }
+    requires end { ReachTo input.now bound.end }
     ensures place { Gives (λ p. p) result (room_at (input_of input.now) align len bound at) }
     ensures within { IfOk result (λ p. (at ≤ p) × (p + len ≤ bound.end)) }
 {
@@ -88,7 +88,7 @@ pub fn room(
 #[tactic(auto, unfolding(crate::specs::Reading::number_at))]
 pub fn byte_value(input: &Marshalled, bound: Bound, at: usize) -> Result<(Value, usize), ReadFault>
     requires at { at ≤ bound.end }
-    requires end { (bound.end ≤ length input.now.bytes.now) × (length input.now.bytes.now < 4294967288) }
+    requires end { ReachTo input.now bound.end }
     ensures read { Gives (λ x. (data_of x.0, x.1)) result (number_at (input_of input.now) byte bound at) }
     ensures within { IfOk result (λ x. (at < x.1) × (x.1 ≤ bound.end)) }
 {
@@ -100,7 +100,7 @@ pub fn byte_value(input: &Marshalled, bound: Bound, at: usize) -> Result<(Value,
 #[tactic(auto, unfolding(crate::specs::Reading::number_at))]
 pub fn i16_value(input: &Marshalled, bound: Bound, at: usize) -> Result<(Value, usize), ReadFault>
     requires at { at ≤ bound.end }
-    requires end { (bound.end ≤ length input.now.bytes.now) × (length input.now.bytes.now < 4294967288) }
+    requires end { ReachTo input.now bound.end }
     ensures read { Gives (λ x. (data_of x.0, x.1)) result (number_at (input_of input.now) i16 bound at) }
     ensures within { IfOk result (λ x. (at < x.1) × (x.1 ≤ bound.end)) }
 {
@@ -112,7 +112,7 @@ pub fn i16_value(input: &Marshalled, bound: Bound, at: usize) -> Result<(Value, 
 #[tactic(auto, unfolding(crate::specs::Reading::number_at))]
 pub fn u16_value(input: &Marshalled, bound: Bound, at: usize) -> Result<(Value, usize), ReadFault>
     requires at { at ≤ bound.end }
-    requires end { (bound.end ≤ length input.now.bytes.now) × (length input.now.bytes.now < 4294967288) }
+    requires end { ReachTo input.now bound.end }
     ensures read { Gives (λ x. (data_of x.0, x.1)) result (number_at (input_of input.now) u16 bound at) }
     ensures within { IfOk result (λ x. (at < x.1) × (x.1 ≤ bound.end)) }
 {
@@ -124,7 +124,7 @@ pub fn u16_value(input: &Marshalled, bound: Bound, at: usize) -> Result<(Value, 
 #[tactic(auto, unfolding(crate::specs::Reading::number_at))]
 pub fn i32_value(input: &Marshalled, bound: Bound, at: usize) -> Result<(Value, usize), ReadFault>
     requires at { at ≤ bound.end }
-    requires end { (bound.end ≤ length input.now.bytes.now) × (length input.now.bytes.now < 4294967288) }
+    requires end { ReachTo input.now bound.end }
     ensures read { Gives (λ x. (data_of x.0, x.1)) result (number_at (input_of input.now) i32 bound at) }
     ensures within { IfOk result (λ x. (at < x.1) × (x.1 ≤ bound.end)) }
 {
@@ -136,7 +136,7 @@ pub fn i32_value(input: &Marshalled, bound: Bound, at: usize) -> Result<(Value, 
 #[tactic(auto, unfolding(crate::specs::Reading::number_at))]
 pub fn u32_value(input: &Marshalled, bound: Bound, at: usize) -> Result<(Value, usize), ReadFault>
     requires at { at ≤ bound.end }
-    requires end { (bound.end ≤ length input.now.bytes.now) × (length input.now.bytes.now < 4294967288) }
+    requires end { ReachTo input.now bound.end }
     ensures read { Gives (λ x. (data_of x.0, x.1)) result (number_at (input_of input.now) u32 bound at) }
     ensures within { IfOk result (λ x. (at < x.1) × (x.1 ≤ bound.end)) }
 {
@@ -148,7 +148,7 @@ pub fn u32_value(input: &Marshalled, bound: Bound, at: usize) -> Result<(Value, 
 #[tactic(auto, unfolding(crate::specs::Reading::number_at))]
 pub fn i64_value(input: &Marshalled, bound: Bound, at: usize) -> Result<(Value, usize), ReadFault>
     requires at { at ≤ bound.end }
-    requires end { (bound.end ≤ length input.now.bytes.now) × (length input.now.bytes.now < 4294967288) }
+    requires end { ReachTo input.now bound.end }
     ensures read { Gives (λ x. (data_of x.0, x.1)) result (number_at (input_of input.now) i64 bound at) }
     ensures within { IfOk result (λ x. (at < x.1) × (x.1 ≤ bound.end)) }
 {
@@ -160,7 +160,7 @@ pub fn i64_value(input: &Marshalled, bound: Bound, at: usize) -> Result<(Value, 
 #[tactic(auto, unfolding(crate::specs::Reading::number_at))]
 pub fn u64_value(input: &Marshalled, bound: Bound, at: usize) -> Result<(Value, usize), ReadFault>
     requires at { at ≤ bound.end }
-    requires end { (bound.end ≤ length input.now.bytes.now) × (length input.now.bytes.now < 4294967288) }
+    requires end { ReachTo input.now bound.end }
     ensures read { Gives (λ x. (data_of x.0, x.1)) result (number_at (input_of input.now) u64 bound at) }
     ensures within { IfOk result (λ x. (at < x.1) × (x.1 ≤ bound.end)) }
 {
@@ -176,7 +176,7 @@ pub fn double_value(
     at: usize,
 ) -> Result<(Value, usize), ReadFault>
     requires at { at ≤ bound.end }
-    requires end { (bound.end ≤ length input.now.bytes.now) × (length input.now.bytes.now < 4294967288) }
+    requires end { ReachTo input.now bound.end }
     ensures read { Gives (λ x. (data_of x.0, x.1)) result (number_at (input_of input.now) double bound at) }
     ensures within { IfOk result (λ x. (at < x.1) × (x.1 ≤ bound.end)) }
 {
@@ -192,7 +192,7 @@ pub fn boolean_value(
     at: usize,
 ) -> Result<(Value, usize), ReadFault>
     requires at { at ≤ bound.end }
-    requires end { (bound.end ≤ length input.now.bytes.now) × (length input.now.bytes.now < 4294967288) }
+    requires end { ReachTo input.now bound.end }
     ensures read { Gives (λ x. (data_of x.0, x.1)) result (boolean_at (input_of input.now) bound at) }
     ensures within { IfOk result (λ x. (at < x.1) × (x.1 ≤ bound.end)) }
 {

@@ -1,12 +1,12 @@
 //! Texts, paths and signatures.
 
-ghost use Rattle.std.specs.Prelude.{◌≡◌, ◌<◌, ◌≤◌, ◌+◌, length, IfOk};
+ghost use Rattle.std.specs.Prelude.{◌≡◌, ◌<◌, ◌≤◌, ◌+◌, IfOk};
 ghost use Rattle.std.specs.Int.{w32};
 ghost use Rattle.atspi_types.specs.DataView.{data_of};
 ghost use Rattle.atspi_types.specs.SignatureView.{signature_types};
 ghost use Rattle.atspi_types.specs.SignatureReading.{signature_in};
 ghost use Rattle.atspi_marshal.specs.Faults.{short_in};
-ghost use Rattle.atspi_marshal.specs.Input.{number_in, byte_in};
+ghost use Rattle.atspi_marshal.specs.Input.{number_in, byte_in, ReachTo};
 ghost use Rattle.atspi_marshal.specs.Reading.{input_of, Gives, FaultsBy, long_place, short_place, long_at, short_at, text_body_at, path_body_at, signature_body_at};
 
 use crate::input::{Bound, Marshalled, bad, byte_at, slice, u32_at};
@@ -20,7 +20,7 @@ use std::alloc::Global;
 #[tactic(auto, unfolding(crate::specs::Reading::long_place))]
 pub fn long(input: &Marshalled, bound: Bound, at: usize) -> Result<usize, ReadFault>
     requires at { at ≤ bound.end }
-    requires end { (bound.end ≤ length input.now.bytes.now) × (length input.now.bytes.now < 4294967288) }
+    requires end { ReachTo input.now bound.end }
     ensures place { Gives (λ p. p) result (long_place (input_of input.now) bound at) }
     ensures within { IfOk result (λ p. (at ≤ p) × (p + 5 + number_in (input_of input.now) w32 p ≤ bound.end)) }
 {
@@ -36,7 +36,7 @@ pub fn long(input: &Marshalled, bound: Bound, at: usize) -> Result<usize, ReadFa
 #[tactic(auto, unfolding(crate::specs::Reading::short_place))]
 pub fn short(input: &Marshalled, bound: Bound, at: usize) -> Result<usize, ReadFault>
     requires at { at ≤ bound.end }
-    requires end { (bound.end ≤ length input.now.bytes.now) × (length input.now.bytes.now < 4294967288) }
+    requires end { ReachTo input.now bound.end }
     ensures place { Gives (λ p. p) result (short_place (input_of input.now) bound at) }
     ensures within { IfOk result (λ p. (at ≤ p) × (p + 2 + byte_in (input_of input.now) p ≤ bound.end)) }
 {
@@ -51,7 +51,7 @@ pub fn short(input: &Marshalled, bound: Bound, at: usize) -> Result<usize, ReadF
 /// The text whose length stands at a place.
 #[tactic(auto, unfolding(crate::specs::Reading::text_body_at))]
 fn text_body(alloc: Global, input: &Marshalled, place: usize) -> Result<(Value, usize), ReadFault>
-    requires { (place + 5 + number_in (input_of input.now) w32 place ≤ length input.now.bytes.now) × (length input.now.bytes.now < 4294967288) }
+    requires { ReachTo input.now (place + 5 + number_in (input_of input.now) w32 place) }
     ensures read { Gives (λ x. (data_of x.0, x.1)) result (text_body_at (input_of input.now) place) }
     ensures within { IfOk result (λ x. x.1 ≡ place + 5 + number_in (input_of input.now) w32 place) }
 {
@@ -80,7 +80,7 @@ pub fn text_value(
     at: usize,
 ) -> Result<(Value, usize), ReadFault>
     requires at { at ≤ bound.end }
-    requires end { (bound.end ≤ length input.now.bytes.now) × (length input.now.bytes.now < 4294967288) }
+    requires end { ReachTo input.now bound.end }
     ensures read { Gives (λ x. (data_of x.0, x.1)) result (long_at (text_body_at (input_of input.now)) (input_of input.now) bound at) }
     ensures within { IfOk result (λ x. (at < x.1) × (x.1 ≤ bound.end)) }
 {
@@ -91,7 +91,7 @@ pub fn text_value(
 /// The path whose length stands at a place.
 #[tactic(auto, unfolding(crate::specs::Reading::path_body_at))]
 fn path_body(alloc: Global, input: &Marshalled, place: usize) -> Result<(Value, usize), ReadFault>
-    requires { (place + 5 + number_in (input_of input.now) w32 place ≤ length input.now.bytes.now) × (length input.now.bytes.now < 4294967288) }
+    requires { ReachTo input.now (place + 5 + number_in (input_of input.now) w32 place) }
     ensures read { Gives (λ x. (data_of x.0, x.1)) result (path_body_at (input_of input.now) place) }
     ensures within { IfOk result (λ x. x.1 ≡ place + 5 + number_in (input_of input.now) w32 place) }
 {
@@ -119,7 +119,7 @@ pub fn path_value(
     at: usize,
 ) -> Result<(Value, usize), ReadFault>
     requires at { at ≤ bound.end }
-    requires end { (bound.end ≤ length input.now.bytes.now) × (length input.now.bytes.now < 4294967288) }
+    requires end { ReachTo input.now bound.end }
     ensures read { Gives (λ x. (data_of x.0, x.1)) result (long_at (path_body_at (input_of input.now)) (input_of input.now) bound at) }
     ensures within { IfOk result (λ x. (at < x.1) × (x.1 ≤ bound.end)) }
 {
@@ -129,7 +129,7 @@ pub fn path_value(
 
 /// The types of the signature whose length stands at a place. The place of a fault counts from its first byte.
 pub fn signature_at(alloc: Global, input: &Marshalled, place: usize) -> Result<Signature, ReadFault>
-    requires { (place + 2 + byte_in (input_of input.now) place ≤ length input.now.bytes.now) × (length input.now.bytes.now < 4294967288) }
+    requires { ReachTo input.now (place + 2 + byte_in (input_of input.now) place) }
     ensures read { Gives signature_types result (signature_in (short_in (input_of input.now) place)) }
     ensures place { FaultsBy result (byte_in (input_of input.now) place) }
 {
@@ -144,7 +144,7 @@ fn signature_body(
     input: &Marshalled,
     place: usize,
 ) -> Result<(Value, usize), ReadFault>
-    requires { (place + 2 + byte_in (input_of input.now) place ≤ length input.now.bytes.now) × (length input.now.bytes.now < 4294967288) }
+    requires { ReachTo input.now (place + 2 + byte_in (input_of input.now) place) }
     ensures read { Gives (λ x. (data_of x.0, x.1)) result (signature_body_at (input_of input.now) place) }
     ensures within { IfOk result (λ x. x.1 ≡ place + 2 + byte_in (input_of input.now) place) }
 {
@@ -171,7 +171,7 @@ pub fn signature_value(
     at: usize,
 ) -> Result<(Value, usize), ReadFault>
     requires at { at ≤ bound.end }
-    requires end { (bound.end ≤ length input.now.bytes.now) × (length input.now.bytes.now < 4294967288) }
+    requires end { ReachTo input.now bound.end }
     ensures read { Gives (λ x. (data_of x.0, x.1)) result (short_at (signature_body_at (input_of input.now)) (input_of input.now) bound at) }
     ensures within { IfOk result (λ x. (at < x.1) × (x.1 ≤ bound.end)) }
 {

@@ -1,11 +1,11 @@
 //! The fields of a header.
 
-ghost use Rattle.std.specs.Prelude.{◌≡◌, ◌<◌, ◌≤◌, ◌+◌, length, None, IfOk};
+ghost use Rattle.std.specs.Prelude.{◌≡◌, ◌<◌, ◌≤◌, ◌+◌, None, IfOk};
 ghost use Rattle.std.specs.Int.{w32};
 ghost use Rattle.atspi_types.specs.Kinds.{u32};
 ghost use Rattle.atspi_types.specs.Data.{number_data};
 ghost use Rattle.atspi_types.specs.SignatureReading.{signature_in};
-ghost use Rattle.atspi_marshal.specs.Input.{byte_in};
+ghost use Rattle.atspi_marshal.specs.Input.{byte_in, ReachTo};
 ghost use Rattle.atspi_marshal.specs.Faults.{short_in};
 ghost use Rattle.atspi_marshal.specs.Reading.{input_of, Gives, Fails, short_at, signature_body_at};
 ghost use Rattle.atspi_message.specs.Reading.{Found, none_found, slot, is_there, set_at, typed_body_at, typed_at, other_type, reply_at, descriptors_at, known_at, coded_at, field_at, all_fields_at, has_required};
@@ -36,7 +36,7 @@ pub struct Fields {
 #[tactic(auto, unfolding(crate::specs::Reading::reply_at))]
 fn reply(input: &Marshalled, bound: Bound, at: usize) -> Result<(u32, usize), ReadFault>
     requires at { at ≤ bound.end }
-    requires end { (bound.end ≤ length input.now.bytes.now) × (length input.now.bytes.now < 4294967288) }
+    requires end { ReachTo input.now bound.end }
     ensures read { Gives (λ x. (number_data u32 x.0, x.1)) result (reply_at (input_of input.now) bound at) }
     ensures within { IfOk result (λ x. (at < x.1) × (x.1 ≤ bound.end)) }
 {
@@ -52,7 +52,7 @@ fn reply(input: &Marshalled, bound: Bound, at: usize) -> Result<(u32, usize), Re
 #[tactic(auto, unfolding(crate::specs::Reading::descriptors_at))]
 fn descriptors(input: &Marshalled, bound: Bound, at: usize) -> Result<usize, ReadFault>
     requires at { at ≤ bound.end }
-    requires end { (bound.end ≤ length input.now.bytes.now) × (length input.now.bytes.now < 4294967288) }
+    requires end { ReachTo input.now bound.end }
     ensures read { Gives (λ next. (number_data u32 0, next)) result (descriptors_at (input_of input.now) bound at) }
     ensures within { IfOk result (λ next. (at < next) × (next ≤ bound.end)) }
 {
@@ -70,7 +70,7 @@ fn signature_body(
     input: &Marshalled,
     place: usize,
 ) -> Result<(Signature, usize), ReadFault>
-    requires { (place + 2 + byte_in (input_of input.now) place ≤ length input.now.bytes.now) × (length input.now.bytes.now < 4294967288) }
+    requires { ReachTo input.now (place + 2 + byte_in (input_of input.now) place) }
     ensures read { Gives (λ x. (signature_value x.0, x.1)) result (signature_body_at (input_of input.now) place) }
     ensures within { IfOk result (λ x. x.1 ≡ place + 2 + byte_in (input_of input.now) place) }
 {
@@ -97,7 +97,7 @@ fn signature(
     at: usize,
 ) -> Result<(Signature, usize), ReadFault>
     requires at { at ≤ bound.end }
-    requires end { (bound.end ≤ length input.now.bytes.now) × (length input.now.bytes.now < 4294967288) }
+    requires end { ReachTo input.now bound.end }
     ensures read { Gives (λ x. (signature_value x.0, x.1)) result (short_at (signature_body_at (input_of input.now)) (input_of input.now) bound at) }
     ensures within { IfOk result (λ x. (at < x.1) × (x.1 ≤ bound.end)) }
 {
@@ -107,7 +107,7 @@ fn signature(
 
 /// What is wrong with the signature at a place, which is not the one of the field.
 fn wrong_type(alloc: Global, input: &Marshalled, place: usize) -> ReadFault
-    requires { (place + 2 + byte_in (input_of input.now) place ≤ length input.now.bytes.now) × (length input.now.bytes.now < 4294967288) }
+    requires { ReachTo input.now (place + 2 + byte_in (input_of input.now) place) }
     ensures { Fails result (other_type place (signature_in (short_in (input_of input.now) place))) }
 {
     match signature_at(alloc, input, place) {
@@ -125,7 +125,7 @@ fn typed_body(
     code: Code,
     place: usize,
 ) -> Result<usize, ReadFault>
-    requires { (place + 2 + byte_in (input_of input.now) place ≤ length input.now.bytes.now) × (length input.now.bytes.now < 4294967288) }
+    requires { ReachTo input.now (place + 2 + byte_in (input_of input.now) place) }
     ensures read { Gives (λ next. next) result (typed_body_at (input_of input.now) code place) }
     ensures within { IfOk result (λ next. next ≡ place + 2 + byte_in (input_of input.now) place) }
 {
@@ -148,7 +148,7 @@ fn typed(
     at: usize,
 ) -> Result<usize, ReadFault>
     requires at { at ≤ bound.end }
-    requires end { (bound.end ≤ length input.now.bytes.now) × (length input.now.bytes.now < 4294967288) }
+    requires end { ReachTo input.now bound.end }
     ensures read { Gives (λ next. next) result (typed_at (input_of input.now) bound code at) }
     ensures within { IfOk result (λ next. (at < next) × (next ≤ bound.end)) }
 {
@@ -171,7 +171,7 @@ fn unknown(
     place: usize,
 ) -> Result<usize, ReadFault>
     requires at { place + 1 ≤ bound.end }
-    requires end { (bound.end ≤ length input.now.bytes.now) × (length input.now.bytes.now < 4294967288) }
+    requires end { ReachTo input.now bound.end }
     ensures read { (found : Found) → Gives (λ next. (found, next)) result (coded_at (input_of input.now) bound found place None) }
     ensures within { IfOk result (λ next. (place < next) × (next ≤ bound.end)) }
 {
@@ -236,7 +236,7 @@ impl Fields {
         at: usize,
     ) -> Result<usize, ReadFault>
         requires at { at ≤ bound.end }
-        requires end { (bound.end ≤ length input.now.bytes.now) × (length input.now.bytes.now < 4294967288) }
+        requires end { ReachTo input.now bound.end }
         ensures read { Gives (λ next. (found_of self.new, next)) result (set_at (input_of input.now) bound code at (found_of self.old)) }
         ensures within { IfOk result (λ next. (at < next) × (next ≤ bound.end)) }
     {
@@ -300,7 +300,7 @@ impl Fields {
         code: Code,
     ) -> Result<usize, ReadFault>
         requires at { place + 1 ≤ bound.end }
-        requires end { (bound.end ≤ length input.now.bytes.now) × (length input.now.bytes.now < 4294967288) }
+        requires end { ReachTo input.now bound.end }
         ensures read { Gives (λ next. (found_of self.new, next)) result (known_at (input_of input.now) bound (found_of self.old) place code) }
         ensures within { IfOk result (λ next. (place < next) × (next ≤ bound.end)) }
     {
@@ -321,7 +321,7 @@ impl Fields {
         at: usize,
     ) -> Result<usize, ReadFault>
         requires at { at ≤ bound.end }
-        requires end { (bound.end ≤ length input.now.bytes.now) × (length input.now.bytes.now < 4294967288) }
+        requires end { ReachTo input.now bound.end }
         ensures read { Gives (λ next. (found_of self.new, next)) result (field_at (input_of input.now) bound (found_of self.old) at) }
         ensures within { IfOk result (λ next. (at ≤ next) × (next ≤ bound.end)) }
     {
@@ -339,7 +339,7 @@ impl Fields {
     /// The fields from place 16 up to their end.
     pub fn read_all(alloc: Global, input: &Marshalled, bound: Bound) -> Result<Fields, ReadFault>
         requires at { 16 ≤ bound.end }
-        requires end { (bound.end ≤ length input.now.bytes.now) × (length input.now.bytes.now < 4294967288) }
+        requires end { ReachTo input.now bound.end }
         ensures { Gives found_of result (all_fields_at (input_of input.now) bound bound.end none_found 16) }
     {
         let mut fields = Fields::new();

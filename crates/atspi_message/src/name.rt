@@ -1,9 +1,9 @@
 //! Names of a header: texts that are read in their rule.
 
-ghost use Rattle.std.specs.Prelude.{◌≡◌, ◌<◌, ◌≤◌, ◌+◌, length, IfOk};
+ghost use Rattle.std.specs.Prelude.{◌≡◌, ◌<◌, ◌≤◌, ◌+◌, IfOk};
 ghost use Rattle.std.specs.Int.{w32};
 ghost use Rattle.atspi_types.specs.Data.{path_data, text_data};
-ghost use Rattle.atspi_marshal.specs.Input.{number_in};
+ghost use Rattle.atspi_marshal.specs.Input.{number_in, ReachTo};
 ghost use Rattle.atspi_marshal.specs.Reading.{input_of, Gives};
 ghost use Rattle.atspi_message.specs.Reading.{name_body_at, name_at};
 ghost use Rattle.atspi_message.specs.declared.code.Code.TheVariants.{Path as PathCode, Interface as InterfaceCode, Member as MemberCode, Error as ErrorCode, Destination as DestinationCode, Sender as SenderCode};
@@ -16,7 +16,7 @@ use std::alloc::Global;
 /// A path whose length stands at a place.
 #[tactic(auto, unfolding(crate::specs::Reading::name_body_at))]
 fn path_body(alloc: Global, input: &Marshalled, place: usize) -> Result<(Path, usize), ReadFault>
-    requires { (place + 5 + number_in (input_of input.now) w32 place ≤ length input.now.bytes.now) × (length input.now.bytes.now < 4294967288) }
+    requires { ReachTo input.now (place + 5 + number_in (input_of input.now) w32 place) }
     ensures path { Gives (λ x. (path_data x.0, x.1)) result (name_body_at PathCode (input_of input.now) place) }
     ensures within { IfOk result (λ x. x.1 ≡ place + 5 + number_in (input_of input.now) w32 place) }
 {
@@ -43,7 +43,7 @@ pub fn path(
     at: usize,
 ) -> Result<(Path, usize), ReadFault>
     requires at { at ≤ bound.end }
-    requires end { (bound.end ≤ length input.now.bytes.now) × (length input.now.bytes.now < 4294967288) }
+    requires end { ReachTo input.now bound.end }
     ensures path { Gives (λ x. (path_data x.0, x.1)) result (name_at PathCode (input_of input.now) bound at) }
     ensures within { IfOk result (λ x. (at < x.1) × (x.1 ≤ bound.end)) }
 {
@@ -58,7 +58,7 @@ fn interface_body(
     input: &Marshalled,
     place: usize,
 ) -> Result<(Interface, usize), ReadFault>
-    requires { (place + 5 + number_in (input_of input.now) w32 place ≤ length input.now.bytes.now) × (length input.now.bytes.now < 4294967288) }
+    requires { ReachTo input.now (place + 5 + number_in (input_of input.now) w32 place) }
     ensures interface { Gives (λ x. (text_data x.0, x.1)) result (name_body_at InterfaceCode (input_of input.now) place) }
     ensures error { Gives (λ x. (text_data x.0, x.1)) result (name_body_at ErrorCode (input_of input.now) place) }
     ensures within { IfOk result (λ x. x.1 ≡ place + 5 + number_in (input_of input.now) w32 place) }
@@ -86,7 +86,7 @@ pub fn interface(
     at: usize,
 ) -> Result<(Interface, usize), ReadFault>
     requires at { at ≤ bound.end }
-    requires end { (bound.end ≤ length input.now.bytes.now) × (length input.now.bytes.now < 4294967288) }
+    requires end { ReachTo input.now bound.end }
     ensures interface { Gives (λ x. (text_data x.0, x.1)) result (name_at InterfaceCode (input_of input.now) bound at) }
     ensures error { Gives (λ x. (text_data x.0, x.1)) result (name_at ErrorCode (input_of input.now) bound at) }
     ensures within { IfOk result (λ x. (at < x.1) × (x.1 ≤ bound.end)) }
@@ -102,7 +102,7 @@ fn member_body(
     input: &Marshalled,
     place: usize,
 ) -> Result<(Member, usize), ReadFault>
-    requires { (place + 5 + number_in (input_of input.now) w32 place ≤ length input.now.bytes.now) × (length input.now.bytes.now < 4294967288) }
+    requires { ReachTo input.now (place + 5 + number_in (input_of input.now) w32 place) }
     ensures member { Gives (λ x. (text_data x.0, x.1)) result (name_body_at MemberCode (input_of input.now) place) }
     ensures within { IfOk result (λ x. x.1 ≡ place + 5 + number_in (input_of input.now) w32 place) }
 {
@@ -129,7 +129,7 @@ pub fn member(
     at: usize,
 ) -> Result<(Member, usize), ReadFault>
     requires at { at ≤ bound.end }
-    requires end { (bound.end ≤ length input.now.bytes.now) × (length input.now.bytes.now < 4294967288) }
+    requires end { ReachTo input.now bound.end }
     ensures member { Gives (λ x. (text_data x.0, x.1)) result (name_at MemberCode (input_of input.now) bound at) }
     ensures within { IfOk result (λ x. (at < x.1) × (x.1 ≤ bound.end)) }
 {
@@ -144,7 +144,7 @@ fn bus_name_body(
     input: &Marshalled,
     place: usize,
 ) -> Result<(BusName, usize), ReadFault>
-    requires { (place + 5 + number_in (input_of input.now) w32 place ≤ length input.now.bytes.now) × (length input.now.bytes.now < 4294967288) }
+    requires { ReachTo input.now (place + 5 + number_in (input_of input.now) w32 place) }
     ensures destination { Gives (λ x. (text_data x.0, x.1)) result (name_body_at DestinationCode (input_of input.now) place) }
     ensures sender { Gives (λ x. (text_data x.0, x.1)) result (name_body_at SenderCode (input_of input.now) place) }
     ensures within { IfOk result (λ x. x.1 ≡ place + 5 + number_in (input_of input.now) w32 place) }
@@ -172,7 +172,7 @@ pub fn bus_name(
     at: usize,
 ) -> Result<(BusName, usize), ReadFault>
     requires at { at ≤ bound.end }
-    requires end { (bound.end ≤ length input.now.bytes.now) × (length input.now.bytes.now < 4294967288) }
+    requires end { ReachTo input.now bound.end }
     ensures destination { Gives (λ x. (text_data x.0, x.1)) result (name_at DestinationCode (input_of input.now) bound at) }
     ensures sender { Gives (λ x. (text_data x.0, x.1)) result (name_at SenderCode (input_of input.now) bound at) }
     ensures within { IfOk result (λ x. (at < x.1) × (x.1 ≤ bound.end)) }

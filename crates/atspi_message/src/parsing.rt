@@ -4,6 +4,7 @@ ghost use Rattle.std.specs.Prelude.{◌≡◌, ◌<◌, ◌≤◌, ℕ, List, le
 ghost use Rattle.atspi_types.specs.Kinds.{kinds_of};
 ghost use Rattle.atspi_types.specs.KindView.{kind_of};
 ghost use Rattle.atspi_types.specs.DataView.{all_data};
+ghost use Rattle.atspi_marshal.specs.Input.{PlacesFit};
 ghost use Rattle.atspi_marshal.specs.Reading.{Gives, Fails};
 ghost use Rattle.atspi_message.specs.Envelope.{Envelope, envelope_of};
 ghost use Rattle.atspi_message.specs.Bytes.{IsMessage};
@@ -22,7 +23,7 @@ use std::alloc::Global;
 
 /// The values of one type or more that begin at a place. Nothing is left behind them.
 fn some_values(alloc: Global, bytes: &[u8], types: &[Ty], place: usize) -> Result<Values, ReadFault>
-    requires { (0 < length bytes.now) × (place ≤ length bytes.now) × (length bytes.now < 4294967288) }
+    requires { (0 < length bytes.now) × (place ≤ length bytes.now) × PlacesFit bytes.now }
     ensures { Gives all_data result (some_values_at bytes.now (map kind_of types.now) place) }
 {
     let end = bytes.len();
@@ -39,7 +40,7 @@ fn some_values(alloc: Global, bytes: &[u8], types: &[Ty], place: usize) -> Resul
 
 /// The values of a body of these types that begins at a place.
 fn values(alloc: Global, bytes: &[u8], types: &[Ty], place: usize) -> Result<Values, ReadFault>
-    requires { (0 < length bytes.now) × (place ≤ length bytes.now) × (length bytes.now < 4294967288) }
+    requires { (0 < length bytes.now) × (place ≤ length bytes.now) × PlacesFit bytes.now }
     ensures { Gives all_data result (values_at bytes.now (kinds_of (map kind_of types.now)) place) }
 {
     if types.is_empty() {
@@ -53,7 +54,7 @@ fn values(alloc: Global, bytes: &[u8], types: &[Ty], place: usize) -> Result<Val
 
 /// Where the fields end.
 fn fields_end(bytes: &[u8]) -> usize
-    requires { (16 ≤ length bytes.now) × (length bytes.now < 4294967288) }
+    requires { (16 ≤ length bytes.now) × PlacesFit bytes.now }
     ensures { result ≡ fields_end_in bytes.now }
 {
     let input = Marshalled {
@@ -66,7 +67,7 @@ fn fields_end(bytes: &[u8]) -> usize
 /// The body, behind its padding.
 #[tactic(auto, unfolding(crate::specs::Reading::rest_at))]
 fn rest(alloc: Global, bytes: &[u8], fields: &Fields) -> Result<Values, ReadFault>
-    requires { (16 ≤ length bytes.now) × (fields_end_in bytes.now ≤ length bytes.now) × (length bytes.now < 4294967288) }
+    requires { (16 ≤ length bytes.now) × (fields_end_in bytes.now ≤ length bytes.now) × PlacesFit bytes.now }
     ensures { Gives all_data result (rest_at bytes.now (found_of fields.now)) }
 {
     let end = fields_end(bytes);
@@ -88,7 +89,7 @@ fn rest(alloc: Global, bytes: &[u8], fields: &Fields) -> Result<Values, ReadFaul
 /// What is told where a required field is missing: what the padding or the body tells at the end of the fields for a lesser
 /// reason, or that.
 fn missing(alloc: Global, bytes: &[u8], fields: &Fields) -> ReadFault
-    requires { (16 ≤ length bytes.now) × (fields_end_in bytes.now ≤ length bytes.now) × (length bytes.now < 4294967288) }
+    requires { (16 ≤ length bytes.now) × (fields_end_in bytes.now ≤ length bytes.now) × PlacesFit bytes.now }
     ensures { Fails result (missing_at (fields_end_in bytes.now) (rest_at bytes.now (found_of fields.now))) }
 {
     let end = fields_end(bytes);
@@ -106,7 +107,7 @@ fn missing(alloc: Global, bytes: &[u8], fields: &Fields) -> ReadFault
 
 /// The body of a message with these fields.
 fn body(alloc: Global, bytes: &[u8], fields: &Fields) -> Result<Values, ReadFault>
-    requires { (16 ≤ length bytes.now) × (fields_end_in bytes.now ≤ length bytes.now) × (length bytes.now < 4294967288) }
+    requires { (16 ≤ length bytes.now) × (fields_end_in bytes.now ≤ length bytes.now) × PlacesFit bytes.now }
     ensures { Gives all_data result (if has_required (type_in bytes.now) (found_of fields.now) then rest_at bytes.now (found_of fields.now) else missing_at (fields_end_in bytes.now) (rest_at bytes.now (found_of fields.now))) }
 {
     if fields.has_required(bytes[1]) {
@@ -119,7 +120,7 @@ fn body(alloc: Global, bytes: &[u8], fields: &Fields) -> Result<Values, ReadFaul
 /// The message that the bytes are.
 #[tactic(auto, unfolding(crate::specs::Reading::message_at, crate::specs::Reading::ended_at))]
 fn read(alloc: Global, bytes: &[u8]) -> Result<Message, ReadFault>
-    requires { (16 ≤ length bytes.now) × (fields_end_in bytes.now ≤ length bytes.now) × (length bytes.now < 4294967288) }
+    requires { (16 ≤ length bytes.now) × (fields_end_in bytes.now ≤ length bytes.now) × PlacesFit bytes.now }
     ensures { Reads result bytes.now }
 {
     let input = Marshalled {
