@@ -42,7 +42,7 @@ fn tell_lost(
 }
 
 /// The owner that the name has now is told.
-pub fn tell_acquired(
+fn tell_acquired(
     alloc: Global,
     names: &Names,
     name: &BusName,
@@ -59,8 +59,8 @@ pub fn tell_acquired(
 }
 
 /// Tells that a name has another owner: who lost it, who has it now, and all that ask for it. Nothing is told where it is
-/// still the same one's.
-pub fn tell_change(
+/// still the same one's. After want of memory a front of it may have been told.
+pub(crate) fn tell_change(
     alloc: Global,
     names: &Names,
     name: &BusName,

@@ -15,7 +15,7 @@ mod said;
 mod values;
 
 pub use answering::{Reply, answer};
-pub use change::{next_owner, tell_change};
+pub use change::next_owner;
 pub use error::BusError;
 pub use member::member_of;
 pub use requesting::free_name;

@@ -1,6 +1,6 @@
 //! A connection leaves.
 
-ghost use Rattle.std.specs.Prelude.{◌≡◌, ◌<◌, ◌++◌, map, Some, OnOk, IsErrOf};
+ghost use Rattle.std.specs.Prelude.{◌≡◌, ◌<◌, ◌++◌, map, Some, IfOk, OnOk, OnErr, IsErrOf};
 ghost use Rattle.atspi_message.specs.Envelope.{envelope_of};
 ghost use Rattle.atspi_routing.specs.BusState as states;
 ghost use Rattle.atspi_routing.specs.Queues as queues;
@@ -21,7 +21,27 @@ use atspi_routing::{Closing, Why};
 use atspi_valid_names::BusName;
 use std::alloc::Global;
 
-/// Those whose calls wait for a connection's answer are told that there is none, the oldest call first.
+/// What those are told whose calls wait for a connection's answer: that there is none, the oldest call first.
+fn no_replies(
+    alloc: Global,
+    names: &Names,
+    calls: &[OpenCall],
+    conn: u32,
+) -> Result<Vec<Message>, NoMemory>
+    ensures { IfOk result (λ replies. map envelope_of replies.items ≡ farewell.no_replies names.now (map call_of calls.now) conn) }
+{
+    let mut replies = Vec::new(alloc);
+    for call in calls {
+        if call.callee == conn && call.caller != conn {
+            let caller = names.unique_name(call.caller);
+            replies.push(error_to(alloc, caller, call.serial, BusError::NoReply)?)?;
+        }
+    }
+    Ok(replies)
+}
+
+/// Those whose calls wait for a connection's answer are told that there is none, the oldest call first. After want of memory
+/// nothing more is told.
 pub fn tell_callers(
     alloc: Global,
     names: &Names,
@@ -29,14 +49,11 @@ pub fn tell_callers(
     conn: u32,
     told: &mut Vec<Message>,
 ) -> Result<(), NoMemory>
-    ensures { OnOk result (map envelope_of told.new.items ≡ map envelope_of told.old.items ++ farewell.no_replies names.now (map call_of calls.now) conn) }
+    ensures ok { OnOk result (map envelope_of told.new.items ≡ map envelope_of told.old.items ++ farewell.no_replies names.now (map call_of calls.now) conn) }
+    ensures err { OnErr result (told.new.items ≡ told.old.items) }
 {
-    for call in calls {
-        if call.callee == conn && call.caller != conn {
-            let caller = names.unique_name(call.caller);
-            told.push(error_to(alloc, caller, call.serial, BusError::NoReply)?)?;
-        }
-    }
+    let mut replies = no_replies(alloc, names, calls, conn)?;
+    told.append(&mut replies)?;
     Ok(())
 }
 

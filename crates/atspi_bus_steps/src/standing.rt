@@ -1,6 +1,6 @@
 //! What the answers of a bus have too, and do not lend: owners' names, and names as values.
 
-ghost use Rattle.std.specs.Prelude.{◌≡◌, [], ◌∷◌, ◌++◌, map, IfOk, OnOk, option_copied};
+ghost use Rattle.std.specs.Prelude.{◌≡◌, [], ◌∷◌, ◌++◌, map, IfOk, OnOk, OnErr, option_copied};
 ghost use Rattle.atspi_types.specs.Data.{text_data};
 ghost use Rattle.atspi_types.specs.DataView.{data_of, all_data};
 ghost use Rattle.atspi_message.specs.Envelope.{envelope_of};
@@ -25,7 +25,7 @@ pub fn unique_of<'a>(names: &'a Names, owner: Option<u32>) -> Option<&'a BusName
     }
 }
 
-/// The owner that the name has now is told.
+/// The owner that the name has now is told. After want of memory nothing more is told.
 pub fn tell_acquired(
     alloc: Global,
     names: &Names,
@@ -33,8 +33,9 @@ pub fn tell_acquired(
     owner: Option<u32>,
     told: &mut Vec<Message>,
 ) -> Result<(), NoMemory>
-    ensures { OnOk result
+    ensures ok { OnOk result
         (map envelope_of told.new.items ≡ map envelope_of told.old.items ++ own.name_acquired names.now name.now owner) }
+    ensures err { OnErr result (told.new.items ≡ told.old.items) }
 {
     if let Some(conn) = owner {
         told.push(name_acquired(alloc, names.unique_name(conn), name)?)?;

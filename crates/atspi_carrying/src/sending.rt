@@ -19,7 +19,7 @@ pub fn note(trace: &mut Vec<Event>, event: Event) -> Result<(), NoMemory>
     Ok(())
 }
 
-/// A message of a party is sent: its bytes stand behind those on its link, and that is told.
+/// A message of a party is sent: its bytes stand behind those on its link, and that is told. After a fault all is as before.
 pub fn send(
     post: &mut Post,
     who: Party,
@@ -29,8 +29,11 @@ pub fn send(
     ensures up { OnOk result (post.new ≡ record post.old { up = post.old.up ++ written (envelope_of message) }) }
     ensures message { OnOk result (IsMessage (envelope_of message) (written (envelope_of message))) }
     ensures told { OnOk result (trace.new.items ≡ trace.old.items ++ Event.Sent who message ∷ []) }
+    ensures err { OnErr result ((post.new ≡ post.old) × (trace.new.items ≡ trace.old.items)) }
 {
+    // room in the trace first, so that the link changes last
+    trace.reserve(1)?;
     post.up.send(&message)?;
-    note(trace, Event::Sent { who, message })?;
+    trace.push_reserved(Event::Sent { who, message });
     Ok(())
 }

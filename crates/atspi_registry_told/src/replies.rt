@@ -1,6 +1,6 @@
 //! Replies to calls.
 
-ghost use Rattle.std.specs.Prelude.{◌≡◌, ◌++◌, OnOk};
+ghost use Rattle.std.specs.Prelude.{◌≡◌, ◌++◌, OnOk, OnErr};
 ghost use Rattle.atspi_types.specs.DataView.{all_data};
 ghost use Rattle.atspi_header.specs.View.{envelope_at};
 ghost use Rattle.atspi_protocol.specs.ends.Messages as messages;
@@ -20,7 +20,7 @@ fn expects_reply(call: &MessageRef) -> bool
     call.kind == 1 && call.flags & 1 == 0
 }
 
-/// Values are returned to the caller, where it waits for them.
+/// Values are returned to the caller, where it waits for them. After want of memory all is as before.
 pub fn returned(
     alloc: Global,
     call: &MessageRef,
@@ -28,7 +28,8 @@ pub fn returned(
     values: Values,
     mail: &mut Mail,
 ) -> Result<(), NoMemory>
-    ensures { OnOk result (mail.new ≡ mail.old ++ replies caller.now (envelope_at call.now) (returns (all_data values))) }
+    ensures ok { OnOk result (mail.new ≡ mail.old ++ replies caller.now (envelope_at call.now) (returns (all_data values))) }
+    ensures err { OnErr result (mail.new ≡ mail.old) }
 {
     if expects_reply(call) {
         mail.push(return_to(caller.copy(alloc)?, call.serial, values))?;
@@ -36,7 +37,7 @@ pub fn returned(
     Ok(())
 }
 
-/// The caller gets an error, where it waits for a reply.
+/// The caller gets an error, where it waits for a reply. After want of memory all is as before.
 pub fn refused(
     alloc: Global,
     call: &MessageRef,
@@ -44,7 +45,8 @@ pub fn refused(
     error: CallError,
     mail: &mut Mail,
 ) -> Result<(), NoMemory>
-    ensures { OnOk result (mail.new ≡ mail.old ++ replies caller.now (envelope_at call.now) (fails (error_word error))) }
+    ensures ok { OnOk result (mail.new ≡ mail.old ++ replies caller.now (envelope_at call.now) (fails (error_word error))) }
+    ensures err { OnErr result (mail.new ≡ mail.old) }
 {
     if expects_reply(call) {
         mail.push(error_to(alloc, caller.copy(alloc)?, call.serial, error)?)?;

@@ -23,6 +23,6 @@ returns c =
     (told-parting b conn unique (map envelope_of c.new-told.result.items) (map envelope_of c.tell_callers.new.told.items)
     (map envelope_of c.tell_heirs.new.told.items) (map envelope_of c.push.new.self.items) (envelope_of c.in_ok-owner_changed.field-0) (map call_of c.deref.result.now) (after_gone b.state.owners conn)
     c.as_slice.result.now
-    (ap (map envelope_of) c.new-told.ensures.items) c.in_ok-tell_callers.ensures c.in_ok-tell_heirs.ensures
+    (ap (map envelope_of) c.new-told.ensures.items) c.in_ok-tell_callers.ensures.ok c.in_ok-tell_heirs.ensures
     (ap (map envelope_of) c.in_ok-push.ensures.items ∙ map-append envelope_of c.tell_heirs.new.told.items (c.in_ok-owner_changed.field-0 ∷ []))
     c.in_ok-owner_changed.ensures (ap (map call_of) c.deref.ensures.value) refl (c.as_slice.ensures ∙ c.in_ok-owned.ensures))

@@ -14,7 +14,7 @@ returns c =
     let next = c.next_owner-next.result in
     let m = c.in_ok-owner_changed.field-0 in
     ap (map envelope_of) c.in_ok-push.ensures.items ∙ map-append envelope_of c.tell_acquired.new.told.items (m ∷ [])
-    ∙ ap (λ l. l ++ envelope_of m ∷ []) c.in_ok-tell_acquired.ensures
+    ∙ ap (λ l. l ++ envelope_of m ∷ []) c.in_ok-tell_acquired.ensures.ok
     ∙ append_assoc (map envelope_of c.args.told.now.items) (name_acquired owners name next) (envelope_of m ∷ [])
     ∙ ap (λ e. map envelope_of c.args.told.now.items ++ (name_acquired owners name next ++ e ∷ []))
     (c.in_ok-owner_changed.ensures ∙ ap (λ n. owner_changed name unique n) c.unique_of-owner.ensures)

@@ -25,7 +25,7 @@ say-requires-clause-sayable c =
     let unique = c.args.unique.now in
     let told = told-parting b conn unique (map envelope_of c.new-told.result.items) (map envelope_of c.tell_callers.new.told.items)
     (map envelope_of c.tell_names.new.told.items) (map envelope_of c.push.new.self.items) (envelope_of c.in_ok-owner_changed.field-0) (map call_of c.deref.result.now) c.forget.new.self.names c.as_slice.result.now
-    (ap (map envelope_of) c.new-told.ensures.items) c.in_ok-tell_callers.ensures c.in_ok-tell_names.ensures
+    (ap (map envelope_of) c.new-told.ensures.items) c.in_ok-tell_callers.ensures.ok c.in_ok-tell_names.ensures
     (ap (map envelope_of) c.in_ok-push.ensures.items ∙ map-append envelope_of c.tell_names.new.told.items (c.in_ok-owner_changed.field-0 ∷ []))
     c.in_ok-owner_changed.ensures (ap (map call_of) c.deref.ensures.value) (ap (λ (x : Bus). x.state.owners) c.forget.ensures) (c.as_slice.ensures ∙ c.in_ok-owned.ensures) in
     subst (All MaySay) (sym told) (say-parting b conn unique c.requires.sound)
@@ -37,7 +37,7 @@ returns-clause-ok c =
     let unique = c.args.unique.now in
     let told = told-parting b conn unique (map envelope_of c.new-told.result.items) (map envelope_of c.tell_callers.new.told.items)
     (map envelope_of c.tell_names.new.told.items) (map envelope_of c.push.new.self.items) (envelope_of c.in_ok-owner_changed.field-0) (map call_of c.deref.result.now) c.forget.new.self.names c.as_slice.result.now
-    (ap (map envelope_of) c.new-told.ensures.items) c.in_ok-tell_callers.ensures c.in_ok-tell_names.ensures
+    (ap (map envelope_of) c.new-told.ensures.items) c.in_ok-tell_callers.ensures.ok c.in_ok-tell_names.ensures
     (ap (map envelope_of) c.in_ok-push.ensures.items ∙ map-append envelope_of c.tell_names.new.told.items (c.in_ok-owner_changed.field-0 ∷ []))
     c.in_ok-owner_changed.ensures (ap (map call_of) c.deref.ensures.value) (ap (λ (x : Bus). x.state.owners) c.forget.ensures) (c.as_slice.ensures ∙ c.in_ok-owned.ensures) in
     on_ok_weaker c.say.result
@@ -65,7 +65,7 @@ returns-clause-spent c e =
     let unique = c.args.unique.now in
     let told = told-parting b conn unique (map envelope_of c.new-told.result.items) (map envelope_of c.tell_callers.new.told.items)
     (map envelope_of c.tell_names.new.told.items) (map envelope_of c.push.new.self.items) (envelope_of c.in_ok-owner_changed.field-0) (map call_of c.deref.result.now) c.forget.new.self.names c.as_slice.result.now
-    (ap (map envelope_of) c.new-told.ensures.items) c.in_ok-tell_callers.ensures c.in_ok-tell_names.ensures
+    (ap (map envelope_of) c.new-told.ensures.items) c.in_ok-tell_callers.ensures.ok c.in_ok-tell_names.ensures
     (ap (map envelope_of) c.in_ok-push.ensures.items ∙ map-append envelope_of c.tell_names.new.told.items (c.in_ok-owner_changed.field-0 ∷ []))
     c.in_ok-owner_changed.ensures (ap (map call_of) c.deref.ensures.value) (ap (λ (x : Bus). x.state.owners) c.forget.ensures) (c.as_slice.ensures ∙ c.in_ok-owned.ensures) in
     let over = c.say.ensures.spent e in
