@@ -74,17 +74,12 @@ impl Signature {
         self.types.single()
     }
 
-    /// Appends the spelling. After want of memory the bytes are as before.
+    /// Appends the spelling. After want of memory `out` is as before.
     pub fn write(&self, out: &mut Bytes) -> Result<(), NoMemory>
         ensures ok { OnOk result (out.new ≡ out.old ++ signature_bytes (signature_kinds self.now)) }
         ensures err { OnErr result (out.new ≡ out.old) }
     {
-        let len = out.len();
-        let written = self.types.write(out);
-        if written.is_err() {
-            out.truncate(len);
-        }
-        written
+        self.types.write(out)
     }
 
     /// An equal signature.

@@ -1,6 +1,6 @@
 //! The spelling of types, and whether they keep within the limits of a signature.
 
-ghost use Rattle.std.specs.Prelude.{◌≡◌, ◌++◌, ◌+◌, ◌≤◌, min, max, ◌↔◌, length, take, OnOk, map, IsTrue};
+ghost use Rattle.std.specs.Prelude.{◌≡◌, ◌++◌, ◌+◌, ◌≤◌, min, max, ◌↔◌, length, take, OnOk, OnErr, map, IsTrue};
 ghost use Rattle.atspi_types.specs.Kinds.{kinds_of, kind, no_kinds};
 ghost use Rattle.atspi_types.specs.KindView.{kind_of, kinds_in};
 ghost use Rattle.atspi_types.specs.Signatures.{type_bytes, signature_bytes, FitsSignature};
@@ -99,9 +99,23 @@ impl Ty {
         self.extent().fits()
     }
 
+    /// Appends the spelling of the type. After want of memory `out` is as before.
+    pub fn write(&self, out: &mut Bytes) -> Result<(), NoMemory>
+        ensures ok { OnOk result (out.new ≡ out.old ++ type_bytes (kind_of self.now)) }
+        ensures front { take (length out.old) out.new ≡ out.old }
+        ensures err { OnErr result (out.new ≡ out.old) }
+    {
+        let len = out.len();
+        let written = self.spell(out);
+        if written.is_err() {
+            out.truncate(len);
+        }
+        written
+    }
+
     /// Appends the spelling of the type. After want of memory a front of it was appended.
     #[cycle(write)]
-    pub fn write(&self, out: &mut Bytes) -> Result<(), NoMemory>
+    pub(crate) fn spell(&self, out: &mut Bytes) -> Result<(), NoMemory>
         ensures ok { OnOk result (out.new ≡ out.old ++ type_bytes (kind_of self.now)) }
         ensures front { take (length out.old) out.new ≡ out.old }
     {
@@ -121,17 +135,17 @@ impl Ty {
             Ty::Variant => out.push(b'v'),
             Ty::Array(element) => {
                 out.push(b'a')?;
-                element.write(out)
+                element.spell(out)
             }
             Ty::Struct(fields) => {
                 out.push(b'(')?;
-                fields.write(out)?;
+                fields.spell(out)?;
                 out.push(b')')
             }
             Ty::Dict(entry) => {
                 out.extend(b"a{")?;
-                entry.key.write(out)?;
-                entry.value.write(out)?;
+                entry.key.spell(out)?;
+                entry.value.spell(out)?;
                 out.push(b'}')
             }
         }
@@ -159,14 +173,28 @@ impl Tys {
         self.extent().fits()
     }
 
+    /// Appends the spelling of the types. After want of memory `out` is as before.
+    pub fn write(&self, out: &mut Bytes) -> Result<(), NoMemory>
+        ensures ok { OnOk result (out.new ≡ out.old ++ signature_bytes (kinds_of (kinds_in self.now))) }
+        ensures front { take (length out.old) out.new ≡ out.old }
+        ensures err { OnErr result (out.new ≡ out.old) }
+    {
+        let len = out.len();
+        let written = self.spell(out);
+        if written.is_err() {
+            out.truncate(len);
+        }
+        written
+    }
+
     /// Appends the spelling of the types. After want of memory a front of it was appended.
     #[cycle(write)]
-    pub fn write(&self, out: &mut Bytes) -> Result<(), NoMemory>
+    fn spell(&self, out: &mut Bytes) -> Result<(), NoMemory>
         ensures ok { OnOk result (out.new ≡ out.old ++ signature_bytes (kinds_of (kinds_in self.now))) }
         ensures front { take (length out.old) out.new ≡ out.old }
     {
         for ty in &self.items {
-            ty.write(out)?;
+            ty.spell(out)?;
         }
         Ok(())
     }

@@ -1,6 +1,6 @@
 //! The types of values: whether they keep within the limits of a signature, and their spelling.
 
-ghost use Rattle.std.specs.Prelude.{◌≡◌, ◌++◌, ◌↔◌, length, take, OnOk, IsTrue};
+ghost use Rattle.std.specs.Prelude.{◌≡◌, ◌++◌, ◌↔◌, length, take, OnOk, OnErr, IsTrue};
 ghost use Rattle.atspi_types.specs.Borrowed.{ref_data};
 ghost use Rattle.atspi_types.specs.Data.{items_of, type_of, types_of};
 ghost use Rattle.atspi_types.specs.DataView.{all_data};
@@ -40,7 +40,7 @@ impl ValueRef<'_> {
 
     /// Appends the spelling of the value's type. After want of memory a front of it was appended.
     #[cycle(spell)]
-    fn write_type(self, out: &mut Bytes) -> Result<(), NoMemory>
+    fn spell_type(self, out: &mut Bytes) -> Result<(), NoMemory>
         ensures ok { OnOk result (out.new ≡ out.old ++ type_bytes (type_of (ref_data self.entry))) }
         ensures front { take (length out.old) out.new ≡ out.old }
     {
@@ -60,17 +60,17 @@ impl ValueRef<'_> {
             ValueRef::Variant(_, _) => out.push(b'v'),
             ValueRef::Array(element, _) => {
                 out.push(b'a')?;
-                element.write(out)
+                element.spell(out)
             }
             ValueRef::Struct(fields) => {
                 out.push(b'(')?;
-                fields.write_types(out)?;
+                fields.spell_types(out)?;
                 out.push(b')')
             }
             ValueRef::Dict(key, value, _) => {
                 out.extend(b"a{")?;
-                key.write(out)?;
-                value.write(out)?;
+                key.spell(out)?;
+                value.spell(out)?;
                 out.push(b'}')
             }
         }
@@ -98,15 +98,28 @@ impl Values {
         self.extent().fits()
     }
 
-    /// Appends the spelling of the values' types (D-Bus Specification, "Type System"). After want of memory a front of it was
-    /// appended.
-    #[cycle(spell)]
+    /// Appends the spelling of the values' types (D-Bus Specification, "Type System"). After want of memory `out` is as before.
     pub fn write_types(&self, out: &mut Bytes) -> Result<(), NoMemory>
+        ensures ok { OnOk result (out.new ≡ out.old ++ signature_bytes (types_of (items_of (all_data self.now)))) }
+        ensures front { take (length out.old) out.new ≡ out.old }
+        ensures err { OnErr result (out.new ≡ out.old) }
+    {
+        let len = out.len();
+        let written = self.spell_types(out);
+        if written.is_err() {
+            out.truncate(len);
+        }
+        written
+    }
+
+    /// Appends the spelling of the values' types. After want of memory a front of it was appended.
+    #[cycle(spell)]
+    fn spell_types(&self, out: &mut Bytes) -> Result<(), NoMemory>
         ensures ok { OnOk result (out.new ≡ out.old ++ signature_bytes (types_of (items_of (all_data self.now)))) }
         ensures front { take (length out.old) out.new ≡ out.old }
     {
         for i in 0..self.len() {
-            self.at(i).write_type(out)?;
+            self.at(i).spell_type(out)?;
         }
         Ok(())
     }

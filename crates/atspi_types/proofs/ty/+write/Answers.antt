@@ -4,10 +4,10 @@ use Rattle.atspi_types.specs.Signatures.{signature_bytes}
 use Rattle.atspi_types.proofs.SpellingLemmas.{bytes_more, kinds_all}
 use Rattle.atspi_types.proofs.ty.+write.Goals as goal
 
-pub Tys::write-loop-ty-preserved : goal.Tys::write-loop-ty-preserved
-Tys::write-loop-ty-preserved t c =
-    bytes_more c.deref-ty-items.result.now c.loop-ty.ty-index c.ty-item.result c.args.out.now c.loop-ty.out c.write.new.out (omega arith) c.ty-item.is c.loop-ty.invariant c.in_ok-write.ensures.ok
+pub Tys::spell-loop-ty-preserved : goal.Tys::spell-loop-ty-preserved
+Tys::spell-loop-ty-preserved t c =
+    bytes_more c.deref-ty-items.result.now c.loop-ty.ty-index c.ty-item.result c.args.out.now c.loop-ty.out c.spell.new.out (omega arith) c.ty-item.is c.loop-ty.invariant c.in_ok-spell.ensures.ok
 
-pub Tys::write-returns-clause-ok : goal.Tys::write-returns-clause-ok
-Tys::write-returns-clause-ok t c =
+pub Tys::spell-returns-clause-ok : goal.Tys::spell-returns-clause-ok
+Tys::spell-returns-clause-ok t c =
     c.loop-ty.invariant ∙ ap (λ ks. c.args.out.now ++ signature_bytes (kinds_of ks)) (kinds_all c.args.self.now c.deref-ty-items.result.now c.loop-ty.ty-index c.deref-ty-items.ensures.value (omega arith))

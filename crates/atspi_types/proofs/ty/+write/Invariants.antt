@@ -4,5 +4,5 @@ use Rattle.atspi_types.specs.KindView.{kind_of}
 use Rattle.atspi_types.specs.Signatures.{signature_bytes}
 use Rattle.atspi_types.proofs.ty.+write.Given as goal
 
-abbrev pub invariant-Tys::write-loop-ty : goal.invariant-Tys::write-loop-ty
-invariant-Tys::write-loop-ty l = (l.out ≡ l.fn.out ++ signature_bytes (kinds_of (map kind_of (take l.ty-index l.ty-items))))
+abbrev pub invariant-Tys::spell-loop-ty : goal.invariant-Tys::spell-loop-ty
+invariant-Tys::spell-loop-ty l = (l.out ≡ l.fn.out ++ signature_bytes (kinds_of (map kind_of (take l.ty-index l.ty-items))))
