@@ -5,5 +5,5 @@ use Rattle.atspi_bus_steps.proofs.leaving.tell_callers.Goals as goal
 
 pub returns-clause-ok : goal.returns-clause-ok
 returns-clause-ok c =
-    ap (map envelope_of) c.in_ok-append.ensures.items ∙ map-append envelope_of c.args.told.now.items c.in_ok-replies.field-0.items
+    ap (map envelope_of) c.in_ok-append.ensures.items ∙ map-append envelope_of c.args.told.now.items c.in_ok-replies.replies.items
     ∙ ap (λ l. map envelope_of c.args.told.now.items ++ l) c.in_ok-replies.ensures
