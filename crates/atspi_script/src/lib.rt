@@ -3,6 +3,7 @@
 
 mod header;
 mod message;
+mod quotes;
 mod values;
 mod view;
 

@@ -12,8 +12,9 @@ ghost use Rattle.atspi_cursor.specs.Items.{item_data, item_kind, elements_data, 
 ghost use Rattle.atspi_script.specs.Spaced.{in_brackets, spaced};
 ghost use Rattle.atspi_script.specs.ValueText.{boolean_text, entry_texts, in_braces, value_text, value_texts};
 
+use crate::quotes::put_in_quotes;
 use crate::view::{View, view_of};
-use atspi_base::{Bytes, NoMemory, put_decimal, put_hex, put_in_quotes, put_signed};
+use atspi_base::{Bytes, NoMemory, put_decimal, put_hex, put_signed};
 use atspi_codes::TysRef;
 use atspi_cursor::{Elements, Entries, Entry, Fields, Item};
 
