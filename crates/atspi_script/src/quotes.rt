@@ -10,16 +10,17 @@ use atspi_base::{Bytes, NoMemory};
 fn is_plain(byte: u8) -> bool
     ensures { IsTrue result → escaped byte ≡ byte ∷ [] }
 {
-    32 <= byte && byte != 127 && byte != b'"' && byte != b'\\'
+    (32 <= byte) & (byte != 127) & (byte != b'"') & (byte != b'\\')
 }
 
-/// Whether all of the bytes stand between quotes as they are. None ends the loop, so that the machine looks at many at once.
+/// Whether all of the bytes stand between quotes as they are. None of them ends the loop, so that the machine looks at many
+/// at once.
 fn are_plain(bytes: &[u8]) -> bool
     ensures { IsTrue result → flat_map escaped bytes.now ≡ bytes.now }
 {
     let mut plain = true;
     for i in 0..bytes.len() {
-        plain = plain && is_plain(bytes[i]);
+        plain &= is_plain(bytes[i]);
     }
     plain
 }
