@@ -3,8 +3,23 @@
 ghost use Rattle.std.specs.Prelude.{◌≡◌};
 ghost use Rattle.atspi_codes.specs.Codes.{first_end};
 
-/// How many codes the first type has.
+/// How many codes the first type has. Most types have one code, so that this is looked at first.
+#[inline(always)]
 pub fn first_len(codes: &[u8]) -> usize
+    ensures { result ≡ first_end 0 codes.now }
+{
+    if codes.is_empty() {
+        return 0;
+    }
+    let code = codes[0];
+    if code != b'a' && code != b'(' && code != b'{' {
+        return 1;
+    }
+    bracketed_len(codes)
+}
+
+/// The same, code by code.
+fn bracketed_len(codes: &[u8]) -> usize
     ensures { result ≡ first_end 0 codes.now }
 {
     let mut open = 0usize;

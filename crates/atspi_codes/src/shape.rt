@@ -30,6 +30,7 @@ pub enum Shape<'a> {
 }
 
 /// The type that a code alone spells, of a type that is no array, no dictionary and no struct.
+#[inline(always)]
 fn leaf<'a>(code: u8) -> Shape<'a>
     ensures { shape_kind result ≡ leaf_of code }
 {
@@ -52,6 +53,7 @@ fn leaf<'a>(code: u8) -> Shape<'a>
 
 impl<'a> TyRef<'a> {
     /// The outermost level of the type.
+    #[inline(always)]
     pub fn shape(self) -> Shape<'a>
         ensures { shape_kind result ≡ ref_kind self.entry }
     {

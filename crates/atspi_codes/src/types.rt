@@ -67,6 +67,7 @@ impl<'a> TysRef<'a> {
     }
 
     /// The next type. Behind it stand the others; where there is none, none comes later.
+    #[inline(always)]
     pub fn next(&mut self) -> Option<TyRef<'a>>
         ensures { TypeComes result (refs_kinds self.old) (refs_kinds self.new) }
     {
@@ -82,6 +83,7 @@ impl<'a> TysRef<'a> {
     }
 
     /// Whether there is no type.
+    #[inline(always)]
     pub fn is_empty(self) -> bool
         ensures { IsTrue result ↔ (refs_kinds self.entry ≡ []) }
     {
@@ -131,6 +133,7 @@ impl<'a> TyRef<'a> {
     }
 
     /// The code that the type begins with.
+    #[inline(always)]
     pub fn code(self) -> u8
         ensures head { result ≡ head_code (ref_kind self.entry) }
         // All types but arrays, dictionaries and structs are told by it alone.
@@ -140,6 +143,7 @@ impl<'a> TyRef<'a> {
     }
 
     /// Whether the type is basic, that is, no container.
+    #[inline(always)]
     pub fn is_basic(self) -> bool
         ensures { result ≡ is_basic (ref_kind self.entry) }
     {
@@ -147,6 +151,7 @@ impl<'a> TyRef<'a> {
     }
 
     /// The place of a value of the type is a multiple of this many bytes.
+    #[inline(always)]
     pub fn alignment(self) -> usize
         ensures { result ≡ alignment (ref_kind self.entry) }
     {
@@ -169,6 +174,7 @@ impl<'a> TyRef<'a> {
     }
 
     /// The type of the elements, exactly where it is an array and no dictionary.
+    #[inline(always)]
     pub fn element(self) -> Option<TyRef<'a>>
         ensures is { IsSome result ↔ IsTrue (is_array (ref_kind self.entry)) }
         ensures element { IfSome result (λ t. ref_kind self.entry ≡ array (ref_kind t)) }
@@ -184,6 +190,7 @@ impl<'a> TyRef<'a> {
     }
 
     /// The types of the fields, exactly where it is a struct.
+    #[inline(always)]
     pub fn fields(self) -> Option<TysRef<'a>>
         ensures is { IsSome result ↔ IsTrue (is_structure (ref_kind self.entry)) }
         ensures fields { IfSome result (λ ts. ref_kind self.entry ≡ structure (kinds_of (refs_kinds ts))) }
@@ -198,6 +205,7 @@ impl<'a> TyRef<'a> {
     }
 
     /// The types of the key and the value, exactly where it is a dictionary.
+    #[inline(always)]
     pub fn entry(self) -> Option<EntryRef<'a>>
         ensures is { IsSome result ↔ IsTrue (is_dictionary (ref_kind self.entry)) }
         ensures entry { IfSome result (λ e. ref_kind self.entry ≡ dictionary (ref_kind e.key) (ref_kind e.value)) }
@@ -222,6 +230,7 @@ impl<'a> TyRef<'a> {
 }
 
 /// Whether a type that begins with the code is basic.
+#[inline(always)]
 fn code_is_basic(code: u8) -> bool
     ensures { result ≡ definitions.code_is_basic code }
 {
@@ -229,6 +238,7 @@ fn code_is_basic(code: u8) -> bool
 }
 
 /// The alignment of a type that begins with the code.
+#[inline(always)]
 fn code_alignment(code: u8) -> usize
     ensures { result ≡ definitions.code_alignment code }
 {

@@ -18,9 +18,10 @@ use Rattle.atspi_marshal.specs.Reading.{◌>>=◌, bad, Reader, padding_at, room
 use Rattle.atspi_marshal.proofs.Places.{bind_ok, passed, ok_is, aligned-one}
 use Rattle.atspi_marshal.proofs.Levels.{dictionary_is, read_is, level_single, types_in-kinds_of}
 use Rattle.atspi_codes.specs.Codes.{head_code}
-use Rattle.atspi_cursor.specs.Passing.{after, up_to, fixed_at}
+use Rattle.atspi_cursor.specs.Passing.{after, up_to, fixed_at, number_len}
 use Rattle.atspi_cursor.specs.Known.{is_read, is_variant}
 use Rattle.atspi_cursor.proofs.Passes.{number_fixed, dictionary_forgotten, array_forgotten, structure_forgotten}
+use Rattle.atspi_cursor.proofs.Runs.{fixed_read}
 
 pub bind_known : {A B : Type 0} (r : Result A Fault) (f : A → Result (B × ℕ) Fault) → is_read (after (r >>= f)) ≡ true → (x : A) × (r ≡ Ok x) × (after (r >>= f) ≡ after (f x))
 bind_known (Ok x) f h = (x, refl, refl)
@@ -329,3 +330,15 @@ not_variant (array k) b e h = refl
 not_variant (structure ks) b e h = refl
 not_variant variant b e h = absurd (h e)
 not_variant (dictionary k v) b e h = refl
+
+-- a number is jumped over by its size
+pub record JumpsNumber (i : Input) (levels : ℕ) (k : Kind) (b : Bound) (at p : ℕ) : Type 0 where
+  pub place : after (read i levels k b at) ≡ Ok p
+  pub behind : at ≤ p
+  pub within : p ≤ b.end
+
+pub jumps_number : (i : Input) (levels : ℕ) (k : Kind) (b : Bound) (at size : ℕ) → size ≡ number_len k → (size ≡ 0 → ⊥) → is_read (after (read i levels k b at)) ≡ true → JumpsNumber i levels k b at (aligned size at + size)
+jumps_number i levels k b at size e some h =
+    let same = fixed_read i levels k b at size e some in
+    let t = fixed_known i size b at (rw same h) in
+    record { place = sym same ∙ t.0; behind = omega (arith, aligned_le size at); within = t.1 }

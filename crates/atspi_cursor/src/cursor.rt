@@ -76,6 +76,7 @@ pub struct Fields<'a> {
 }
 
 /// Whether it is the type of arrays of bytes.
+#[inline(always)]
 fn is_bytes(ty: TyRef) -> bool
     ensures { IsTrue result ↔ (ref_kind ty.entry ≡ array (number byte)) }
 {
@@ -120,6 +121,7 @@ impl<'a> Fields<'a> {
     }
 
     /// The next value. Behind it stand the others; where there is none, none comes later.
+    #[inline(always)]
     pub fn next(&mut self) -> Option<Item<'a>>
         ensures comes { Comes result (fields_data self.old) (fields_data self.new) }
         ensures types { IfSome result (λ x. fields_kinds self.old ≡ item_kind x ∷ fields_kinds self.new) }
@@ -145,6 +147,7 @@ impl<'a> Fields<'a> {
     }
 
     /// The types of the values that are left.
+    #[inline(always)]
     pub fn types(self) -> TysRef<'a>
         ensures { refs_kinds result ≡ fields_kinds self.entry }
     {
@@ -157,6 +160,7 @@ impl<'a> Elements<'a> {
     ghost use Rattle.atspi_cursor.specs.Items.{item_kind, elements_data, elements_kind, Comes};
 
     /// The next element. Behind it stand the others; where there is none, none comes later.
+    #[inline(always)]
     pub fn next(&mut self) -> Option<Item<'a>>
         ensures comes { Comes result (elements_data self.old) (elements_data self.new) }
         ensures types { IfSome result (λ x. (item_kind x ≡ elements_kind self.old) × (elements_kind self.new ≡ elements_kind self.old)) }
@@ -179,6 +183,7 @@ impl<'a> Elements<'a> {
     }
 
     /// The type of the elements.
+    #[inline(always)]
     pub fn ty(self) -> TyRef<'a>
         ensures { ref_kind result ≡ elements_kind self.entry }
     {
@@ -191,6 +196,7 @@ impl<'a> Entries<'a> {
     ghost use Rattle.atspi_cursor.specs.Items.{item_kind, entries_data, key_kind, value_kind, EntryComes};
 
     /// The next entry. Behind it stand the others; where there is none, none comes later.
+    #[inline(always)]
     pub fn next(&mut self) -> Option<Entry<'a>>
         ensures comes { EntryComes result (entries_data self.old) (entries_data self.new) }
         ensures types { IfSome result (λ e. (item_kind e.key ≡ key_kind self.old) × (item_kind e.value ≡ value_kind self.old) × (key_kind self.new ≡ key_kind self.old) × (value_kind self.new ≡ value_kind self.old)) }
@@ -229,6 +235,7 @@ impl<'a> Entries<'a> {
     }
 
     /// The type of the keys.
+    #[inline(always)]
     pub fn key_type(self) -> TyRef<'a>
         ensures { ref_kind result ≡ key_kind self.entry }
     {
@@ -236,6 +243,7 @@ impl<'a> Entries<'a> {
     }
 
     /// The type of the values.
+    #[inline(always)]
     pub fn value_type(self) -> TyRef<'a>
         ensures { ref_kind result ≡ value_kind self.entry }
     {
@@ -255,6 +263,7 @@ impl<'a> Item<'a> {
     ghost use Rattle.atspi_cursor.specs.Items.{item_data, item_kind, elements_data, elements_kind, entries_data, key_kind, value_kind, fields_data};
 
     /// The type of the value.
+    #[inline(always)]
     pub fn ty(self) -> TyRef<'a>
         ensures { ref_kind result ≡ item_kind self.entry }
     {
@@ -262,6 +271,7 @@ impl<'a> Item<'a> {
     }
 
     /// The elements, exactly where it is an array and no dictionary.
+    #[inline(always)]
     pub fn elements(self) -> Option<Elements<'a>>
         ensures is { IsSome result ↔ IsTrue (is_array (item_kind self.entry)) }
         ensures elements { IfSome result (λ es. item_data self.entry ≡ array_data (elements_kind es) (items_of (elements_data es))) }
@@ -289,6 +299,7 @@ impl<'a> Item<'a> {
     }
 
     /// The entries, exactly where it is a dictionary.
+    #[inline(always)]
     pub fn entries(self) -> Option<Entries<'a>>
         ensures is { IsSome result ↔ IsTrue (is_dictionary (item_kind self.entry)) }
         ensures entries { IfSome result (λ es. item_data self.entry ≡ dictionary_data (key_kind es) (value_kind es) (entries_in (items_of (entries_data es)))) }
@@ -317,6 +328,7 @@ impl<'a> Item<'a> {
     }
 
     /// The fields, exactly where it is a struct.
+    #[inline(always)]
     pub fn fields(self) -> Option<Fields<'a>>
         ensures is { IsSome result ↔ IsTrue (is_structure (item_kind self.entry)) }
         ensures fields { IfSome result (λ fs. item_data self.entry ≡ structure_data (items_of (fields_data fs))) }
@@ -335,6 +347,7 @@ impl<'a> Item<'a> {
     }
 
     /// The text, exactly where it is one.
+    #[inline(always)]
     pub fn text(self) -> Option<&'a str>
         ensures is { IsSome result ↔ (item_kind self.entry ≡ text) }
         ensures text { IfSome result (λ s. item_data self.entry ≡ text_data (chars s.now)) }
@@ -351,6 +364,7 @@ impl<'a> Item<'a> {
     }
 
     /// The path, exactly where it is one.
+    #[inline(always)]
     pub fn path(self) -> Option<&'a str>
         ensures is { IsSome result ↔ (item_kind self.entry ≡ path) }
         ensures path { IfSome result (λ s. item_data self.entry ≡ path_data s.now) }
@@ -366,6 +380,7 @@ impl<'a> Item<'a> {
     }
 
     /// The boolean, exactly where it is one.
+    #[inline(always)]
     pub fn bool(self) -> Option<bool>
         ensures is { IsSome result ↔ (item_kind self.entry ≡ boolean) }
         ensures value { IfSome result (λ b. item_data self.entry ≡ boolean_data b) }
@@ -379,6 +394,7 @@ impl<'a> Item<'a> {
     }
 
     /// The byte, exactly where it is one.
+    #[inline(always)]
     pub fn u8(self) -> Option<u8>
         ensures is { IsSome result ↔ (item_kind self.entry ≡ number byte) }
         ensures value { IfSome result (λ n. item_data self.entry ≡ number_data byte n) }
@@ -392,6 +408,7 @@ impl<'a> Item<'a> {
     }
 
     /// The signed number of 16 bits, exactly where it is one.
+    #[inline(always)]
     pub fn i16(self) -> Option<i16>
         ensures is { IsSome result ↔ (item_kind self.entry ≡ number i16) }
         ensures value { IfSome result (λ n. item_data self.entry ≡ number_data i16 (cast_unsigned w16 n)) }
@@ -405,6 +422,7 @@ impl<'a> Item<'a> {
     }
 
     /// The number of 16 bits, exactly where it is one.
+    #[inline(always)]
     pub fn u16(self) -> Option<u16>
         ensures is { IsSome result ↔ (item_kind self.entry ≡ number u16) }
         ensures value { IfSome result (λ n. item_data self.entry ≡ number_data u16 n) }
@@ -418,6 +436,7 @@ impl<'a> Item<'a> {
     }
 
     /// The signed number of 32 bits, exactly where it is one.
+    #[inline(always)]
     pub fn i32(self) -> Option<i32>
         ensures is { IsSome result ↔ (item_kind self.entry ≡ number i32) }
         ensures value { IfSome result (λ n. item_data self.entry ≡ number_data i32 (cast_unsigned w32 n)) }
@@ -431,6 +450,7 @@ impl<'a> Item<'a> {
     }
 
     /// The number of 32 bits, exactly where it is one.
+    #[inline(always)]
     pub fn u32(self) -> Option<u32>
         ensures is { IsSome result ↔ (item_kind self.entry ≡ number u32) }
         ensures value { IfSome result (λ n. item_data self.entry ≡ number_data u32 n) }
@@ -444,6 +464,7 @@ impl<'a> Item<'a> {
     }
 
     /// The signed number of 64 bits, exactly where it is one.
+    #[inline(always)]
     pub fn i64(self) -> Option<i64>
         ensures is { IsSome result ↔ (item_kind self.entry ≡ number i64) }
         ensures value { IfSome result (λ n. item_data self.entry ≡ number_data i64 (cast_unsigned w64 n)) }
@@ -457,6 +478,7 @@ impl<'a> Item<'a> {
     }
 
     /// The number of 64 bits, exactly where it is one.
+    #[inline(always)]
     pub fn u64(self) -> Option<u64>
         ensures is { IsSome result ↔ (item_kind self.entry ≡ number u64) }
         ensures value { IfSome result (λ n. item_data self.entry ≡ number_data u64 n) }
@@ -470,6 +492,7 @@ impl<'a> Item<'a> {
     }
 
     /// The double, as its bits, exactly where it is one.
+    #[inline(always)]
     pub fn double(self) -> Option<u64>
         ensures is { IsSome result ↔ (item_kind self.entry ≡ number double) }
         ensures value { IfSome result (λ n. item_data self.entry ≡ number_data double n) }
@@ -524,6 +547,7 @@ impl<'a> Item<'a> {
     }
 
     /// The bytes, exactly where it is an array of bytes.
+    #[inline(always)]
     pub fn bytes(self) -> Option<&'a [u8]>
         ensures is { IsSome result ↔ (item_kind self.entry ≡ array (number byte)) }
         ensures bytes { IfSome result (λ s. item_data self.entry ≡ array_data (number byte) (items_of (map (number_data byte) s.now))) }

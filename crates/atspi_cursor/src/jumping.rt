@@ -10,12 +10,36 @@ ghost use Rattle.atspi_marshal.specs.Reading.{input_of, read, is_structure};
 ghost use Rattle.atspi_cursor.specs.Passing.{after, read_all};
 ghost use Rattle.atspi_cursor.specs.Known.{is_read};
 
-use crate::passing::pass;
+use crate::passing::{number_size, pass};
 use crate::plain::align_up;
 use atspi_codes::{Shape, TyRef, TysRef};
 use atspi_marshal::{Bound, Marshalled, byte_at, u32_at};
 
+/// The place behind a number of `size` bytes.
+#[inline(always)]
+fn jump_fixed(size: usize, at: usize) -> usize
+    requires { (0 < size) × (size ≤ 8) × (at < 4294967296) }
+    ensures { result ≡ aligned size at + size }
+{
+    at + (size - at % size) % size + size
+}
+
+/// The same. Each size has an arm of its own, so that the machine divides by a constant.
+#[inline(always)]
+fn jump_number(size: usize, at: usize) -> usize
+    requires { (0 < size) × (size ≤ 8) × (at < 4294967296) }
+    ensures { result ≡ aligned size at + size }
+{
+    match size {
+        4 => jump_fixed(4, at),
+        8 => jump_fixed(8, at),
+        1 => jump_fixed(1, at),
+        _ => jump_fixed(size, at),
+    }
+}
+
 /// The place behind a text or a path.
+#[inline(always)]
 fn jump_long(input: &Marshalled, at: usize) -> usize
     requires { ReachTo input.now (aligned 4 at + 4) }
     ensures { result ≡ aligned 4 at + 5 + number_in (input_of input.now) w32 (aligned 4 at) }
@@ -25,6 +49,7 @@ fn jump_long(input: &Marshalled, at: usize) -> usize
 }
 
 /// The place behind a signature, be it a value or that of a variant.
+#[inline(always)]
 fn jump_short(input: &Marshalled, at: usize) -> usize
     requires { (at < length input.now.bytes.now) × PlacesFit input.now.bytes.now }
     ensures { result ≡ aligned 1 at + 2 + byte_in (input_of input.now) (aligned 1 at) }
@@ -33,6 +58,7 @@ fn jump_short(input: &Marshalled, at: usize) -> usize
 }
 
 /// The place behind an array whose elements stand at multiples of `align`.
+#[inline(always)]
 fn jump_array(input: &Marshalled, align: usize, at: usize) -> usize
     requires align { (0 < align) × (align ≤ 8) }
     requires end { ReachTo input.now (aligned 4 at + 4) }
@@ -42,9 +68,27 @@ fn jump_array(input: &Marshalled, align: usize, at: usize) -> usize
     align_up(align, place + 4) + u32_at(input, place) as usize
 }
 
-/// The place behind a value that was passed.
+/// The place behind a value that was passed. Of a number the first code of its type tells it.
 #[cycle(jump)]
+#[inline(always)]
 pub fn jump(input: &Marshalled, levels: u8, ty: TyRef, bound: Bound, at: usize) -> usize
+    requires at { at ≤ bound.end }
+    requires end { ReachTo input.now bound.end }
+    requires known { IsTrue (is_read (after (read (input_of input.now) levels (ref_kind ty) bound at))) }
+    ensures place { after (read (input_of input.now) levels (ref_kind ty.entry) bound at) ≡ Ok result }
+    ensures within { (at ≤ result) × (result ≤ bound.end) }
+{
+    let code = ty.code();
+    let size = number_size(code);
+    if size != 0 {
+        return jump_number(size, at);
+    }
+    jump_any(input, levels, ty, bound, at)
+}
+
+/// The same of any type, a number too.
+#[cycle(jump)]
+fn jump_any(input: &Marshalled, levels: u8, ty: TyRef, bound: Bound, at: usize) -> usize
     requires at { at ≤ bound.end }
     requires end { ReachTo input.now bound.end }
     requires known { IsTrue (is_read (after (read (input_of input.now) levels (ref_kind ty) bound at))) }
@@ -58,6 +102,7 @@ pub fn jump(input: &Marshalled, levels: u8, ty: TyRef, bound: Bound, at: usize) 
 }
 
 /// The place behind a value that was passed and is no struct.
+#[inline(always)]
 fn jump_other(input: &Marshalled, levels: u8, ty: TyRef, bound: Bound, at: usize) -> usize
     requires at { at ≤ bound.end }
     requires end { ReachTo input.now bound.end }
@@ -74,6 +119,7 @@ fn jump_other(input: &Marshalled, levels: u8, ty: TyRef, bound: Bound, at: usize
 }
 
 /// The place behind a variant that was passed, which is passed once more.
+#[inline(never)]
 fn jump_variant(input: &Marshalled, levels: u8, ty: TyRef, bound: Bound, at: usize) -> usize
     requires at { at ≤ bound.end }
     requires end { ReachTo input.now bound.end }
@@ -88,6 +134,7 @@ fn jump_variant(input: &Marshalled, levels: u8, ty: TyRef, bound: Bound, at: usi
 }
 
 /// The place where a value ends that is no struct and no variant, by what it begins with.
+#[inline(always)]
 fn jump_single(input: &Marshalled, shape: Shape, at: usize) -> usize
     requires { ReachTo input.now (end_of (input_of input.now) (shape_kind shape) (place_of (shape_kind shape) at)) }
     ensures { result ≡ end_of (input_of input.now) (shape_kind shape.entry) (place_of (shape_kind shape.entry) at) }
@@ -114,6 +161,7 @@ fn jump_single(input: &Marshalled, shape: Shape, at: usize) -> usize
 
 /// The place behind values that were passed, one after the other.
 #[cycle(jump)]
+#[inline(always)]
 pub fn jump_fields(
     input: &Marshalled,
     levels: u8,

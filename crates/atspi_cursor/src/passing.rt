@@ -19,7 +19,7 @@ use atspi_types::Fault;
 
 /// How many bytes a number has whose type is this code, and 0 of what is no number.
 #[inline(always)]
-fn number_size(code: u8) -> usize
+pub fn number_size(code: u8) -> usize
     ensures size { result ≡ number_len (leaf_of code) }
     ensures within { result ≤ 8 }
 {
@@ -37,6 +37,7 @@ fn number_size(code: u8) -> usize
 }
 
 /// The place behind numbers of so many bytes that take `len` bytes up to the end: by their length alone.
+#[inline(always)]
 fn numbers(size: usize, len: usize, end: usize) -> Result<usize, Fault>
     requires size { 0 < size }
     requires end { (len ≤ end) × (end < 4294967296) }
@@ -51,6 +52,7 @@ fn numbers(size: usize, len: usize, end: usize) -> Result<usize, Fault>
 
 /// The place of an array's length, whose elements stand at multiples of `align`.
 #[tactic(auto, unfolding(atspi_marshal::specs::Reading::array_place))]
+#[inline(always)]
 fn array_front(input: &Marshalled, align: usize, bound: Bound, at: usize) -> Result<usize, Fault>
     requires align { (0 < align) × (align ≤ 8) }
     requires at { at ≤ bound.end }
@@ -182,6 +184,7 @@ fn array(
 /// The place behind the array whose length stands at a place.
 #[cycle(pass)]
 #[tactic(auto, unfolding(atspi_marshal::specs::Reading::array_body_at))]
+#[inline(always)]
 fn array_body(input: &Marshalled, levels: u8, element: TyRef, place: usize) -> Result<usize, Fault>
     requires { ReachTo input.now (aligned (alignment (ref_kind element)) (place + 4) + number_in (input_of input.now) w32 place) }
     ensures place { result ≡ after (array_body_at (read (input_of input.now) levels) (input_of input.now) (ref_kind element.entry) place) }
@@ -303,6 +306,7 @@ fn entries(
 
 /// The place behind an entry.
 #[cycle(pass)]
+#[inline(always)]
 fn entry(
     input: &Marshalled,
     levels: u8,
@@ -322,6 +326,7 @@ fn entry(
 /// The place behind a key and its value, as the fields of a struct.
 #[cycle(pass)]
 #[tactic(auto, unfolding(atspi_marshal::specs::Reading::structure_at))]
+#[inline(always)]
 fn pair(
     input: &Marshalled,
     levels: u8,
@@ -346,6 +351,7 @@ fn pair(
 /// The place behind a struct.
 #[cycle(pass)]
 #[tactic(auto, unfolding(atspi_marshal::specs::Reading::structure_at))]
+#[inline(always)]
 fn structure(
     input: &Marshalled,
     levels: u8,
@@ -371,6 +377,7 @@ fn structure(
 
 /// Why a struct at a place is refused that is too deep: what its first inner item tells there for a lesser reason, or the depth.
 #[cycle(pass)]
+#[cold]
 fn too_deep(input: &Marshalled, first: TyRef, bound: Bound, place: usize) -> Fault
     requires at { place ≤ bound.end }
     requires end { ReachTo input.now bound.end }
@@ -389,6 +396,7 @@ fn too_deep(input: &Marshalled, first: TyRef, bound: Bound, place: usize) -> Fau
 
 /// The place behind values of the types, one after the other.
 #[cycle(pass)]
+#[inline(always)]
 pub fn fields(
     input: &Marshalled,
     levels: u8,
@@ -425,6 +433,7 @@ fn variant(input: &Marshalled, levels: u8, bound: Bound, at: usize) -> Result<us
 /// The place behind the variant whose signature's length stands at a place.
 #[cycle(pass)]
 #[tactic(auto, unfolding(atspi_marshal::specs::Reading::variant_body_at))]
+#[inline(always)]
 fn variant_body(input: &Marshalled, levels: u8, bound: Bound, place: usize) -> Result<usize, Fault>
     requires at { place + 2 + byte_in (input_of input.now) place ≤ bound.end }
     requires end { ReachTo input.now bound.end }
@@ -446,6 +455,7 @@ fn variant_body(input: &Marshalled, levels: u8, bound: Bound, place: usize) -> R
 /// The place behind the variant of a type whose signature's length stands at a place.
 #[cycle(pass)]
 #[tactic(auto, unfolding(atspi_marshal::specs::Reading::inner_at))]
+#[inline(always)]
 fn inner(
     input: &Marshalled,
     levels: u8,

@@ -29,6 +29,7 @@ pub fn align_up(align: usize, at: usize) -> usize
 }
 
 /// How many zero bytes stand in front.
+#[inline(always)]
 fn zeros_before(bytes: &[u8]) -> usize
     ensures { result ≡ zeros_in_front bytes.now }
 {
@@ -41,6 +42,7 @@ fn zeros_before(bytes: &[u8]) -> usize
 }
 
 /// The reason of padding that passes the end, unless its first byte is there and not 0.
+#[cold]
 fn reason_of_passing(input: &Marshalled, bound: Bound, at: usize) -> u8
     requires { bound.end ≤ length input.now.bytes.now }
     ensures { result ≡ passing_reason (input_of input.now) bound at }
@@ -53,6 +55,7 @@ fn reason_of_passing(input: &Marshalled, bound: Bound, at: usize) -> u8
 }
 
 /// The place behind padding that is looked at byte by byte.
+#[inline(always)]
 #[tactic(auto, unfolding(atspi_marshal::specs::Reading::padding_at))]
 fn looked_at(input: &Marshalled, align: usize, bound: Bound, at: usize) -> Result<usize, Fault>
     requires align { (0 < align) × (align ≤ 8) }

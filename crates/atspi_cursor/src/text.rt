@@ -19,6 +19,7 @@ use atspi_types::Fault;
 use atspi_valid_names::is_path;
 
 /// Whether each byte is a character of its own, and none is 0.
+#[inline(always)]
 fn are_plain(bytes: &[u8]) -> bool
     ensures { result ≡ list_all is_plain bytes.now }
 {
@@ -26,6 +27,7 @@ fn are_plain(bytes: &[u8]) -> bool
 }
 
 /// Whether the bytes are a text.
+#[inline(always)]
 fn read_text(bytes: &[u8]) -> Result<(), TextFault>
     requires { length bytes.now < 2 ^ 32 }
     ensures text { ReadsStr result bytes.now }
@@ -51,6 +53,7 @@ pub fn slice<'a>(bytes: &'a [u8], at: usize, len: usize) -> &'a [u8]
 
 /// The place of a length of 32 bits whose bytes, and the zero byte behind them, are inside the bound.
 #[tactic(auto, unfolding(atspi_marshal::specs::Reading::long_place))]
+#[inline(always)]
 pub fn long(input: &Marshalled, bound: Bound, at: usize) -> Result<usize, Fault>
     requires at { at ≤ bound.end }
     requires end { ReachTo input.now bound.end }
@@ -67,6 +70,7 @@ pub fn long(input: &Marshalled, bound: Bound, at: usize) -> Result<usize, Fault>
 
 /// The same of a length of 8 bits.
 #[tactic(auto, unfolding(atspi_marshal::specs::Reading::short_place))]
+#[inline(always)]
 pub fn short(input: &Marshalled, bound: Bound, at: usize) -> Result<usize, Fault>
     requires at { at ≤ bound.end }
     requires end { ReachTo input.now bound.end }
@@ -83,6 +87,7 @@ pub fn short(input: &Marshalled, bound: Bound, at: usize) -> Result<usize, Fault
 
 /// The place behind the text whose length stands at a place.
 #[tactic(auto, unfolding(atspi_marshal::specs::Reading::text_body_at))]
+#[inline(always)]
 fn text_body(input: &Marshalled, place: usize) -> Result<usize, Fault>
     requires { ReachTo input.now (place + 5 + number_in (input_of input.now) w32 place) }
     ensures place { result ≡ after (text_body_at (input_of input.now) place) }
@@ -118,6 +123,7 @@ pub fn pass_text(input: &Marshalled, bound: Bound, at: usize) -> Result<usize, F
 
 /// The place behind the path whose length stands at a place.
 #[tactic(auto, unfolding(atspi_marshal::specs::Reading::path_body_at))]
+#[inline(always)]
 fn path_body(input: &Marshalled, place: usize) -> Result<usize, Fault>
     requires { ReachTo input.now (place + 5 + number_in (input_of input.now) w32 place) }
     ensures place { result ≡ after (path_body_at (input_of input.now) place) }
@@ -169,6 +175,7 @@ pub fn type_at<'a>(input: &Marshalled<'a>, place: usize) -> Result<Option<TyRef<
 
 /// The place behind the signature whose length stands at a place.
 #[tactic(auto, unfolding(atspi_marshal::specs::Reading::signature_body_at))]
+#[inline(always)]
 fn signature_body(input: &Marshalled, place: usize) -> Result<usize, Fault>
     requires { ReachTo input.now (place + 2 + byte_in (input_of input.now) place) }
     ensures place { result ≡ after (signature_body_at (input_of input.now) place) }

@@ -2,22 +2,37 @@ use Rattle.std.proofs.Common.{refl, ◌∙◌, arith}
 use Rattle.atspi_codes.specs.TyRefs.{ref_kind, refs_kinds}
 use Rattle.atspi_marshal.specs.Input.{aligned}
 use Rattle.atspi_marshal.specs.Reading.{input_of}
-use Rattle.atspi_cursor.proofs.Knows.{entered}
+use Rattle.atspi_cursor.proofs.Knows.{entered, jumps_number}
 use Rattle.atspi_cursor.proofs.Passes.{not_structure}
+use Rattle.atspi_cursor.proofs.Runs.{code_size}
 use Rattle.atspi_cursor.proofs.jumping.+jump.Goals as goal
 
-pub jump-overflow_sub-levels : goal.jump-overflow_sub-levels
-jump-overflow_sub-levels t c = (entered (input_of c.args.input.now) c.args.levels (ref_kind c.args.ty) (refs_kinds c.in-Some.types) c.args.bound c.args.at (aligned 8 c.args.at) c.in-Some.ensures.fields refl c.requires.known).some
+pub jump_any-overflow_sub-levels : goal.jump_any-overflow_sub-levels
+jump_any-overflow_sub-levels t c = (entered (input_of c.args.input.now) c.args.levels (ref_kind c.args.ty) (refs_kinds c.in-Some.types) c.args.bound c.args.at (aligned 8 c.args.at) c.in-Some.ensures.fields refl c.requires.known).some
 
-pub jump-jump_fields-requires : goal.jump-jump_fields-requires
-jump-jump_fields-requires t c =
+pub jump_any-jump_fields-requires : goal.jump_any-jump_fields-requires
+jump_any-jump_fields-requires t c =
     let e = entered (input_of c.args.input.now) c.args.levels (ref_kind c.args.ty) (refs_kinds c.in-Some.types) c.args.bound c.args.at c.align_up.result c.in-Some.ensures.fields c.align_up.ensures c.requires.known in
     (omega (arith, e.some), (e.within, (c.requires.end, e.known)))
 
-pub jump-jump_other-requires : goal.jump-jump_other-requires
-jump-jump_other-requires t c = record { at = c.requires.at; end = c.requires.end; known = c.requires.known; other = not_structure (ref_kind c.args.ty) c.in-None.ensures.is.1 }
+pub jump_any-jump_other-requires : goal.jump_any-jump_other-requires
+jump_any-jump_other-requires t c = record { at = c.requires.at; end = c.requires.end; known = c.requires.known; other = not_structure (ref_kind c.args.ty) c.in-None.ensures.is.1 }
 
-pub jump-returns-in-Some-clause-place : goal.jump-returns-in-Some-clause-place
-jump-returns-in-Some-clause-place t c =
+pub jump_any-returns-in-Some-clause-place : goal.jump_any-returns-in-Some-clause-place
+jump_any-returns-in-Some-clause-place t c =
     let e = entered (input_of c.args.input.now) c.args.levels (ref_kind c.args.ty) (refs_kinds c.in-Some.types) c.args.bound c.args.at c.align_up.result c.in-Some.ensures.fields c.align_up.ensures c.requires.known in
     e.place ∙ c.jump_fields.ensures.place
+
+pub jump-returns-then-size-ne0-clause-place : goal.jump-returns-then-size-ne0-clause-place
+jump-returns-then-size-ne0-clause-place t c =
+    let k = ref_kind c.args.ty in
+    let size = c.number_size-size.ensures.size ∙ code_size k c.code-code.result c.code-code.ensures.head in
+    let j = jumps_number (input_of c.args.input.now) c.args.levels k c.args.bound c.args.at c.number_size-size.result size c.if-size-ne0.true c.requires.known in
+    rw c.jump_number.ensures j.place
+
+pub jump-returns-then-size-ne0-clause-within : goal.jump-returns-then-size-ne0-clause-within
+jump-returns-then-size-ne0-clause-within t c =
+    let k = ref_kind c.args.ty in
+    let size = c.number_size-size.ensures.size ∙ code_size k c.code-code.result c.code-code.ensures.head in
+    let j = jumps_number (input_of c.args.input.now) c.args.levels k c.args.bound c.args.at c.number_size-size.result size c.if-size-ne0.true c.requires.known in
+    rw c.jump_number.ensures (j.behind, j.within)

@@ -7,6 +7,9 @@ use Rattle.atspi_cursor.proofs.jumping.+jump.Given as goal
 abbrev pub decreases-jump : goal.decreases-jump
 decreases-jump a = 4 * a.levels + 3
 
+abbrev pub decreases-jump_any : goal.decreases-jump_any
+decreases-jump_any a = 4 * a.levels + 2
+
 abbrev pub decreases-jump_fields : goal.decreases-jump_fields
 decreases-jump_fields a = 4 * a.levels + 4
 
