@@ -1,7 +1,8 @@
 -- Steps of writing, and what a step that was refused says of the whole.
-use Rattle.std.proofs.Common.{◌≡◌, ℕ, zero, suc, ◌+◌, ◌-◌, ◌%◌, ◌<◌, ◌≤◌, ◌^◌, List, [], ◌∷◌, ◌++◌, length, take, drop, Result, Ok, Err, IsUtf8, chars, encode_utf8_all, true, refl, sym, ap, subst, ◌∙◌, append_assoc, mod-lt, arith}
+use Rattle.std.proofs.Common.{◌≡◌, ℕ, zero, suc, ◌+◌, ◌-◌, ◌%◌, ◌<◌, ◌≤◌, ◌^◌, List, [], ◌∷◌, ◌++◌, length, take, drop, Result, Ok, Err, OnOk, OnErr, IsUtf8, chars, encode_utf8_all, true, refl, sym, ap, subst, ◌∙◌, append_assoc, mod-lt, arith}
 use Rattle.std.specs.Int.{w8, w32, byte_len}
 use Rattle.std.specs.Str.{all_scalars}
+use Rattle.std.proofs.Math.Seq.{take-length}
 use Rattle.std.proofs.lemmas.List.{append-nil, length-append}
 use Rattle.std.proofs.lemmas.Str.{scalars-chars}
 use Rattle.atspi_base.specs.Text.{HasNoZero}
@@ -44,6 +45,23 @@ pub Writes-by : (P Q : Type 0) (s : List ℕ) (at : ℕ) (old new : List ℕ) (r
 Writes-by P Q s at old new (Ok next) f g w = record { may = f w.may; appended = w.appended; place = w.place; within = w.within }
 Writes-by P Q s at old new (Err faults.Big) f g w = λ q. w (g q)
 Writes-by P Q s at old new (Err faults.NoMemory) f g w = tt
+
+-- a step keeps its answer where what it wrote is taken back after a refusal
+pub Writes-settled : (P : Type 0) (s : List ℕ) (at : ℕ) (old mid new : List ℕ) (r q : Result ℕ WriteFault) → q ≡ r → OnOk q (new ≡ mid) → Writes P s at old mid r → Writes P s at old new q
+Writes-settled P s at old mid new r q e = subst (λ (x : Result ℕ WriteFault). OnOk q (new ≡ mid) → Writes P s at old mid x → Writes P s at old new q) e (by_result q)
+  where
+    by_result : (x : Result ℕ WriteFault) → OnOk x (new ≡ mid) → Writes P s at old mid x → Writes P s at old new x
+    by_result (Ok next) same w = record { may = w.may; appended = same ∙ w.appended; place = w.place; within = w.within }
+    by_result (Err faults.Big) kept w = w
+    by_result (Err faults.NoMemory) kept w = tt
+
+pub err_settled : (len : ℕ) (old mid new : List ℕ) (q : Result ℕ WriteFault) → len ≡ length old → take (length old) mid ≡ old → OnErr q (new ≡ take len mid) → OnErr q (new ≡ old)
+err_settled len old mid new (Ok next) is front cut = tt
+err_settled len old mid new (Err e) is front cut = cut ∙ (ap (λ (n : ℕ). take n mid) is ∙ front)
+
+pub front_settled : (len : ℕ) (old mid new : List ℕ) (q : Result ℕ WriteFault) → len ≡ length old → take (length old) mid ≡ old → OnOk q (new ≡ mid) → OnErr q (new ≡ take len mid) → take (length old) new ≡ old
+front_settled len old mid new (Ok next) is front same cut = ap (λ (bs : List ℕ). take (length old) bs) same ∙ front
+front_settled len old mid new (Err e) is front same cut = ap (λ (bs : List ℕ). take (length old) bs) (cut ∙ (ap (λ (n : ℕ). take n mid) is ∙ front)) ∙ take-length old
 
 -- a last step, behind others
 pub Writes-behind : (P Q : Type 0) (p s : List ℕ) (at m : ℕ) (old mid new : List ℕ) (r : Result ℕ WriteFault) → mid ≡ old ++ p → m ≡ at + length p → (P → Q) → (Q → P) → Writes P s m mid new r → Writes Q (p ++ s) at old new r

@@ -16,7 +16,8 @@ pub use input::{Bound, Marshalled, bad, byte_at, slice, u16_at, u32_at, u64_at};
 pub use laws::{is_read_again, no_front_of_another};
 pub use plain::{padding, room};
 pub use text::{long, short, signature_at};
-pub use writing::{
-    WriteFault, append_u32, begin_array, encode, end_array, put_counted, put_padded, put_padding,
-    put_types, put_u32, put_values, set_u32,
+pub use writing::steps::{
+    append_u32, begin_array, end_array, put_counted, put_padded, put_padding, put_types, put_u32,
+    put_values, set_u32,
 };
+pub use writing::{WriteFault, encode};

@@ -11,16 +11,16 @@ ghost use Rattle.atspi_marshal.specs.Writing.{FitsMessage, Writes, TakesLevel};
 
 mod fault;
 mod plain;
+pub mod steps;
 
 use atspi_base::{Bytes, Text};
 use atspi_types::{Order, Pairs, Run, Signature, Ty, Value, ValueRef, Values};
 use atspi_valid_names::Path;
 pub use fault::WriteFault;
-pub use plain::{
-    append_u32, begin_array, end_array, put_counted, put_padded, put_padding, put_types, put_u32,
-    set_u32,
+use plain::{
+    begin_array, end_array, length_place, put_bytes, put_counted, put_padded, put_padding,
+    put_signature, put_type, put_u16, put_u32, put_u64,
 };
-use plain::{length_place, put_bytes, put_signature, put_type, put_u16, put_u64};
 
 /// The levels of containers in one another, at most.
 const LEVELS: u8 = 64;
@@ -216,10 +216,9 @@ fn put_elements(
     }
 }
 
-/// Appends values one behind the other, which have so many levels of containers at most, and gives the place behind them. `Big`
-/// as `encode` says of a value. After a refusal a front of them was appended.
+/// Values one behind the other, which have so many levels of containers at most.
 #[cycle(put)]
-pub fn put_values(
+fn put_values(
     order: Order,
     levels: u8,
     at: usize,

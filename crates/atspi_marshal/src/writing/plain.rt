@@ -1,4 +1,5 @@
-//! Writing what holds no other value: padding, numbers, texts, paths, signatures and lengths.
+//! Writing what holds no other value: padding, numbers, texts, paths, signatures and lengths. After a refusal a front of it may
+//! have been appended; who begins the writing takes it back.
 
 ghost use Rattle.std.specs.Prelude.{◌≡◌, ℕ, slice_index, ◌<◌, ◌≤◌, ◌+◌, ◌++◌, ◌^◌, length, take, drop, OnOk, OnErr, IfErr};
 ghost use Rattle.std.specs.Int.{w8, w16, w32, w64};
@@ -22,7 +23,7 @@ const MESSAGE: usize = 134_217_728;
 const ARRAY: usize = 67_108_864;
 
 /// Appends zero bytes from a place up to a multiple of `align`, and gives the place behind them. `Big` where `len` bytes behind
-/// them pass the 134,217,728 bytes of a message.
+/// them pass the 134,217,728 bytes of a message. After a refusal `out` is as before.
 pub fn put_padding(
     align: usize,
     at: usize,
@@ -33,6 +34,7 @@ pub fn put_padding(
     requires place { at ≤ 134217728 }
     ensures pads { Pads align at len out.old out.new result }
     ensures front { take (length out.old) out.new ≡ out.old }
+    ensures err { OnErr result (out.new ≡ out.old) }
 {
     const ZEROS: [u8; 8] = [0; 8];
     let count = (align - at % align) % align;
@@ -44,8 +46,8 @@ pub fn put_padding(
     Ok(place)
 }
 
-/// Appends bytes at a multiple of `align`, and gives the place behind them. `Big` where they end behind 134,217,728.
-pub fn put_padded(
+/// Bytes at a multiple of `align`.
+pub(super) fn put_padded(
     align: usize,
     at: usize,
     bytes: &[u8],
@@ -62,7 +64,7 @@ pub fn put_padded(
 }
 
 /// Bytes as they lie.
-pub fn put_bytes(at: usize, bytes: &[u8], out: &mut Bytes) -> Result<usize, WriteFault>
+pub(super) fn put_bytes(at: usize, bytes: &[u8], out: &mut Bytes) -> Result<usize, WriteFault>
     requires { at ≤ 134217728 }
     ensures writes { Writes (Unit {0}) (padding 1 at ++ bytes.now) at out.old out.new result }
     ensures bytes { (i : ℕ) → slice_index bytes.now i < 256 }
@@ -72,7 +74,12 @@ pub fn put_bytes(at: usize, bytes: &[u8], out: &mut Bytes) -> Result<usize, Writ
 }
 
 /// A number of 16 bits at its place.
-pub fn put_u16(order: Order, at: usize, number: u16, out: &mut Bytes) -> Result<usize, WriteFault>
+pub(super) fn put_u16(
+    order: Order,
+    at: usize,
+    number: u16,
+    out: &mut Bytes,
+) -> Result<usize, WriteFault>
     requires { at ≤ 134217728 }
     ensures writes { Writes (number < 2 ^ 16) (padding 2 at ++ number_bytes order w16 number) at out.old out.new result }
     ensures front { take (length out.old) out.new ≡ out.old }
@@ -83,8 +90,13 @@ pub fn put_u16(order: Order, at: usize, number: u16, out: &mut Bytes) -> Result<
     }
 }
 
-/// Appends a number of 32 bits at its place, and gives the place behind it. `Big` where it ends behind 134,217,728.
-pub fn put_u32(order: Order, at: usize, number: u32, out: &mut Bytes) -> Result<usize, WriteFault>
+/// A number of 32 bits at its place.
+pub(super) fn put_u32(
+    order: Order,
+    at: usize,
+    number: u32,
+    out: &mut Bytes,
+) -> Result<usize, WriteFault>
     requires { at ≤ 134217728 }
     ensures writes { Writes (number < 2 ^ 32) (padding 4 at ++ number_bytes order w32 number) at out.old out.new result }
     ensures front { take (length out.old) out.new ≡ out.old }
@@ -96,7 +108,12 @@ pub fn put_u32(order: Order, at: usize, number: u32, out: &mut Bytes) -> Result<
 }
 
 /// A number of 64 bits at its place.
-pub fn put_u64(order: Order, at: usize, number: u64, out: &mut Bytes) -> Result<usize, WriteFault>
+pub(super) fn put_u64(
+    order: Order,
+    at: usize,
+    number: u64,
+    out: &mut Bytes,
+) -> Result<usize, WriteFault>
     requires { at ≤ 134217728 }
     ensures writes { Writes (number < 2 ^ 64) (padding 8 at ++ number_bytes order w64 number) at out.old out.new result }
     ensures front { take (length out.old) out.new ≡ out.old }
@@ -107,7 +124,7 @@ pub fn put_u64(order: Order, at: usize, number: u64, out: &mut Bytes) -> Result<
     }
 }
 
-/// Appends the bytes of a number of 32 bits, wherever that is.
+/// Appends the bytes of a number of 32 bits, wherever that is. After want of memory `out` is as before.
 pub fn append_u32(order: Order, number: u32, out: &mut Bytes) -> Result<(), NoMemory>
     ensures ok { OnOk result (out.new ≡ out.old ++ number_bytes order w32 number) }
     ensures err { OnErr result (out.new ≡ out.old) }
@@ -129,9 +146,8 @@ pub fn set_u32(order: Order, index: usize, number: u32, out: &mut Bytes)
     }
 }
 
-/// Appends bytes behind their count of 32 bits, and before a zero byte, as a text or a path is spelled (D-Bus Specification,
-/// "Marshaling"), and gives the place behind them. `Big` where they end behind 134,217,728.
-pub fn put_counted(
+/// Bytes behind their count of 32 bits, and before a zero byte.
+pub(super) fn put_counted(
     order: Order,
     at: usize,
     bytes: &[u8],
@@ -166,7 +182,11 @@ fn end_short(at: usize, index: usize, out: &mut Bytes) -> Result<usize, WriteFau
 }
 
 /// A signature.
-pub fn put_signature(at: usize, signature: &Signature, out: &mut Bytes) -> Result<usize, WriteFault>
+pub(super) fn put_signature(
+    at: usize,
+    signature: &Signature,
+    out: &mut Bytes,
+) -> Result<usize, WriteFault>
     requires { at ≤ 134217728 }
     ensures writes { Writes (IsSignature (signature_kinds signature.now)) (counted_short (signature_bytes (signature_kinds signature.now))) at out.old out.new result }
     ensures front { take (length out.old) out.new ≡ out.old }
@@ -179,7 +199,7 @@ pub fn put_signature(at: usize, signature: &Signature, out: &mut Bytes) -> Resul
 }
 
 /// The type of a variant's value, as a signature.
-pub fn put_type(at: usize, ty: &Ty, out: &mut Bytes) -> Result<usize, WriteFault>
+pub(super) fn put_type(at: usize, ty: &Ty, out: &mut Bytes) -> Result<usize, WriteFault>
     requires { at ≤ 134217728 }
     ensures writes { Writes (FitsSignature (single (kind_of ty.now))) (counted_short (signature_bytes (single (kind_of ty.now)))) at out.old out.new result }
     ensures front { take (length out.old) out.new ≡ out.old }
@@ -193,9 +213,8 @@ pub fn put_type(at: usize, ty: &Ty, out: &mut Bytes) -> Result<usize, WriteFault
     end_short(at, index, out)
 }
 
-/// Appends the types of values as a signature, and gives the place behind it. `Big` where the types pass the limits of a
-/// signature, or it ends behind 134,217,728.
-pub fn put_types(at: usize, values: &Values, out: &mut Bytes) -> Result<usize, WriteFault>
+/// The types of values, as a signature.
+pub(super) fn put_types(at: usize, values: &Values, out: &mut Bytes) -> Result<usize, WriteFault>
     requires { at ≤ 134217728 }
     ensures writes { let ks = types_of (items_of (all_data values.now)) in Writes (FitsSignature ks) (counted_short (signature_bytes ks)) at out.old out.new result }
     ensures front { take (length out.old) out.new ≡ out.old }
@@ -209,9 +228,8 @@ pub fn put_types(at: usize, values: &Values, out: &mut Bytes) -> Result<usize, W
     end_short(at, index, out)
 }
 
-/// Appends the front of an array whose elements stand at multiples of `align`, with a length of zero, and gives the place of
-/// the first element. `Big` where that is behind 134,217,728.
-pub fn begin_array(align: usize, at: usize, out: &mut Bytes) -> Result<usize, WriteFault>
+/// The front of an array whose elements stand at multiples of `align`, with a length of zero, up to the first element.
+pub(super) fn begin_array(align: usize, at: usize, out: &mut Bytes) -> Result<usize, WriteFault>
     requires align { (0 < align) × (align ≤ 8) }
     requires place { at ≤ 134217728 }
     ensures writes { Writes (Unit {0}) (padding 4 at ++ (zeros 4 ++ padding align (aligned 4 at + 4))) at out.old out.new result }
@@ -222,7 +240,7 @@ pub fn begin_array(align: usize, at: usize, out: &mut Bytes) -> Result<usize, Wr
 }
 
 /// The place of an array's length, from the place that the array begins at.
-pub fn length_place(at: usize) -> usize
+pub(super) fn length_place(at: usize) -> usize
     requires { at ≤ 134217728 }
     ensures { result ≡ aligned 4 at }
 {
@@ -230,7 +248,7 @@ pub fn length_place(at: usize) -> usize
 }
 
 /// Sets the length of an array, which stands at an index, to the bytes that its elements have. `Big` where they are more than
-/// 67,108,864; nothing is set then.
+/// 67,108,864; `out` is as before then.
 pub fn end_array(order: Order, index: usize, len: usize, out: &mut Bytes) -> Result<(), WriteFault>
     requires { index + 4 ≤ length out.old }
     ensures ok { OnOk result (out.new ≡ take index out.old ++ (number_bytes order w32 len ++ drop (index + 4) out.old)) }
