@@ -4,10 +4,10 @@ use Rattle.atspi_marshal.proofs.writing.steps.put_counted.Goals as goal
 
 pub returns-clause-writes : goal.returns-clause-writes
 returns-clause-writes c =
-    Writes-settled (Unit {0}) (counted c.args.order c.args.at c.args.bytes.now) c.args.at c.args.out.now c.put_counted.new.out c.settled.new.out c.put_counted.result c.settled.result c.settled.ensures.same c.settled.ensures.ok c.put_counted.ensures.writes
+    Writes-settled (Unit {0}) (counted c.args.order c.args.at c.args.bytes.now) c.args.at c.args.out.now c.put_counted-written.new.out c.settled.new.out c.put_counted-written.result c.settled.result c.settled.ensures.same c.settled.ensures.ok c.put_counted-written.ensures.writes
 
 pub returns-clause-front : goal.returns-clause-front
-returns-clause-front c = front_settled c.len.result c.args.out.now c.put_counted.new.out c.settled.new.out c.settled.result c.len.ensures c.put_counted.ensures.front c.settled.ensures.ok c.settled.ensures.err
+returns-clause-front c = front_settled c.len-len.result c.args.out.now c.put_counted-written.new.out c.settled.new.out c.settled.result c.len-len.ensures c.put_counted-written.ensures.front c.settled.ensures.ok c.settled.ensures.err
 
 pub returns-clause-err : goal.returns-clause-err
-returns-clause-err c = err_settled c.len.result c.args.out.now c.put_counted.new.out c.settled.new.out c.settled.result c.len.ensures c.put_counted.ensures.front c.settled.ensures.err
+returns-clause-err c = err_settled c.len-len.result c.args.out.now c.put_counted-written.new.out c.settled.new.out c.settled.result c.len-len.ensures c.put_counted-written.ensures.front c.settled.ensures.err

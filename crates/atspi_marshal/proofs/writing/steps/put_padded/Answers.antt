@@ -5,10 +5,10 @@ use Rattle.atspi_marshal.proofs.writing.steps.put_padded.Goals as goal
 
 pub returns-clause-writes : goal.returns-clause-writes
 returns-clause-writes c =
-    Writes-settled (Unit {0}) (padding c.args.align c.args.at ++ c.args.bytes.now) c.args.at c.args.out.now c.put_padded.new.out c.settled.new.out c.put_padded.result c.settled.result c.settled.ensures.same c.settled.ensures.ok c.put_padded.ensures.writes
+    Writes-settled (Unit {0}) (padding c.args.align c.args.at ++ c.args.bytes.now) c.args.at c.args.out.now c.put_padded-written.new.out c.settled.new.out c.put_padded-written.result c.settled.result c.settled.ensures.same c.settled.ensures.ok c.put_padded-written.ensures.writes
 
 pub returns-clause-front : goal.returns-clause-front
-returns-clause-front c = front_settled c.len.result c.args.out.now c.put_padded.new.out c.settled.new.out c.settled.result c.len.ensures c.put_padded.ensures.front c.settled.ensures.ok c.settled.ensures.err
+returns-clause-front c = front_settled c.len-len.result c.args.out.now c.put_padded-written.new.out c.settled.new.out c.settled.result c.len-len.ensures c.put_padded-written.ensures.front c.settled.ensures.ok c.settled.ensures.err
 
 pub returns-clause-err : goal.returns-clause-err
-returns-clause-err c = err_settled c.len.result c.args.out.now c.put_padded.new.out c.settled.new.out c.settled.result c.len.ensures c.put_padded.ensures.front c.settled.ensures.err
+returns-clause-err c = err_settled c.len-len.result c.args.out.now c.put_padded-written.new.out c.settled.new.out c.settled.result c.len-len.ensures c.put_padded-written.ensures.front c.settled.ensures.err

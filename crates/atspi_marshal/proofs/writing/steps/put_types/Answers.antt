@@ -7,10 +7,10 @@ use Rattle.atspi_marshal.proofs.writing.steps.put_types.Goals as goal
 
 pub returns-clause-writes : goal.returns-clause-writes
 returns-clause-writes c =
-    Writes-settled (FitsSignature (types_of (items_of (all_data c.args.values.now)))) (counted_short (signature_bytes (types_of (items_of (all_data c.args.values.now))))) c.args.at c.args.out.now c.put_types.new.out c.settled.new.out c.put_types.result c.settled.result c.settled.ensures.same c.settled.ensures.ok c.put_types.ensures.writes
+    Writes-settled (FitsSignature (types_of (items_of (all_data c.args.values.now)))) (counted_short (signature_bytes (types_of (items_of (all_data c.args.values.now))))) c.args.at c.args.out.now c.put_types-written.new.out c.settled.new.out c.put_types-written.result c.settled.result c.settled.ensures.same c.settled.ensures.ok c.put_types-written.ensures.writes
 
 pub returns-clause-front : goal.returns-clause-front
-returns-clause-front c = front_settled c.len.result c.args.out.now c.put_types.new.out c.settled.new.out c.settled.result c.len.ensures c.put_types.ensures.front c.settled.ensures.ok c.settled.ensures.err
+returns-clause-front c = front_settled c.len-len.result c.args.out.now c.put_types-written.new.out c.settled.new.out c.settled.result c.len-len.ensures c.put_types-written.ensures.front c.settled.ensures.ok c.settled.ensures.err
 
 pub returns-clause-err : goal.returns-clause-err
-returns-clause-err c = err_settled c.len.result c.args.out.now c.put_types.new.out c.settled.new.out c.settled.result c.len.ensures c.put_types.ensures.front c.settled.ensures.err
+returns-clause-err c = err_settled c.len-len.result c.args.out.now c.put_types-written.new.out c.settled.new.out c.settled.result c.len-len.ensures c.put_types-written.ensures.front c.settled.ensures.err
