@@ -1,3 +1,4 @@
+pub mod Alls
 pub mod Passes
 pub mod Runs
 pub mod Texts

@@ -18,12 +18,54 @@ use atspi_marshal::{Bound, Marshalled, byte_at, u32_at};
 use atspi_types::Fault;
 use atspi_valid_names::is_path;
 
+/// Whether each byte is a character of its own, and none is 0: byte by byte.
+#[inline(always)]
+fn are_plain_few(bytes: &[u8]) -> bool
+    ensures { result ≡ list_all is_plain bytes.now }
+{
+    bytes.iter().all(|byte| 0 < *byte && *byte < 128)
+}
+
+/// The same of 16 bytes, without a branch, so that the machine looks at all of them at once.
+#[inline(always)]
+fn are_plain_16(bytes: &[u8]) -> bool
+    requires { length bytes.now ≡ 16 }
+    ensures { result ≡ list_all is_plain bytes.now }
+{
+    let mut plain = true;
+    for i in 0..16usize {
+        let byte = bytes[i];
+        plain = plain & ((0 < byte) & (byte < 128));
+    }
+    plain
+}
+
+/// The same of 16 bytes or more: some of the last 16 are looked at once more.
+#[inline(always)]
+fn are_plain_many(bytes: &[u8]) -> bool
+    requires { 16 ≤ length bytes.now }
+    ensures { result ≡ list_all is_plain bytes.now }
+{
+    let last = bytes.len() - 16;
+    let mut at = 0;
+    while at < last {
+        if !are_plain_16(&bytes[at..at + 16]) {
+            return false;
+        }
+        at += 16;
+    }
+    are_plain_16(&bytes[last..])
+}
+
 /// Whether each byte is a character of its own, and none is 0.
 #[inline(always)]
 fn are_plain(bytes: &[u8]) -> bool
     ensures { result ≡ list_all is_plain bytes.now }
 {
-    bytes.iter().all(|byte| 0 < *byte && *byte < 128)
+    if bytes.len() < 16 {
+        return are_plain_few(bytes);
+    }
+    are_plain_many(bytes)
 }
 
 /// Whether the bytes are a text.
