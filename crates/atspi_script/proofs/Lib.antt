@@ -1,3 +1,4 @@
 pub mod MessageLemmas
+pub mod QuoteLemmas
 pub mod Sizes
 pub mod TextLemmas

@@ -1,3 +1,4 @@
+pub mod Marks
 pub mod MessageText
 pub mod Spaced
 pub mod ValueText

@@ -3,19 +3,49 @@
 ghost use Rattle.std.specs.Prelude.{◌≡◌, [], ◌∷◌, ◌++◌, IsTrue, OnOk, length, take};
 ghost use Rattle.std.specs.List.{flat_map};
 ghost use Rattle.atspi_base.specs.Quoted.{escaped, in_quotes};
+ghost use Rattle.atspi_script.specs.Marks.{plain_mark};
 
 use atspi_base::{Bytes, NoMemory};
 
-/// Whether a byte stands between quotes as it is.
+/// So many bytes are looked at at once.
+const BLOCK: usize = 16;
+
+/// For each byte 1 where it stands between quotes as it is.
+static PLAIN: [u8; 256] = [
+    0, 0, 0, 0, 0, 0, 0, 0, 0, 0, 0, 0, 0, 0, 0, 0, 0, 0, 0, 0, 0, 0, 0, 0, 0, 0, 0, 0, 0, 0, 0, 0,
+    1, 1, 0, 1, 1, 1, 1, 1, 1, 1, 1, 1, 1, 1, 1, 1, 1, 1, 1, 1, 1, 1, 1, 1, 1, 1, 1, 1, 1, 1, 1, 1,
+    1, 1, 1, 1, 1, 1, 1, 1, 1, 1, 1, 1, 1, 1, 1, 1, 1, 1, 1, 1, 1, 1, 1, 1, 1, 1, 1, 1, 0, 1, 1, 1,
+    1, 1, 1, 1, 1, 1, 1, 1, 1, 1, 1, 1, 1, 1, 1, 1, 1, 1, 1, 1, 1, 1, 1, 1, 1, 1, 1, 1, 1, 1, 1, 0,
+    1, 1, 1, 1, 1, 1, 1, 1, 1, 1, 1, 1, 1, 1, 1, 1, 1, 1, 1, 1, 1, 1, 1, 1, 1, 1, 1, 1, 1, 1, 1, 1,
+    1, 1, 1, 1, 1, 1, 1, 1, 1, 1, 1, 1, 1, 1, 1, 1, 1, 1, 1, 1, 1, 1, 1, 1, 1, 1, 1, 1, 1, 1, 1, 1,
+    1, 1, 1, 1, 1, 1, 1, 1, 1, 1, 1, 1, 1, 1, 1, 1, 1, 1, 1, 1, 1, 1, 1, 1, 1, 1, 1, 1, 1, 1, 1, 1,
+    1, 1, 1, 1, 1, 1, 1, 1, 1, 1, 1, 1, 1, 1, 1, 1, 1, 1, 1, 1, 1, 1, 1, 1, 1, 1, 1, 1, 1, 1, 1, 1,
+];
+
+/// The mark of a byte in the table.
+fn mark_of(byte: u8) -> u8
+    ensures { result ≡ plain_mark byte }
+{
+    PLAIN[byte as usize]
+}
+
+/// Whether a byte stands between quotes as it is, by the table.
+#[tactic(auto, using(crate::proofs::QuoteLemmas::plain_stands))]
+fn is_marked_plain(byte: u8) -> bool
+    ensures { IsTrue result → escaped byte ≡ byte ∷ [] }
+{
+    mark_of(byte) == 1
+}
+
+/// The same without a table, so that the machine can look at many bytes at once.
 fn is_plain(byte: u8) -> bool
     ensures { IsTrue result → escaped byte ≡ byte ∷ [] }
 {
     (32 <= byte) & (byte != 127) & (byte != b'"') & (byte != b'\\')
 }
 
-/// Whether all of the bytes stand between quotes as they are. None of them ends the loop, so that the machine looks at many
-/// at once.
-fn are_plain(bytes: &[u8]) -> bool
+/// Whether all of the bytes stand between quotes as they are. None of them ends the loop, for the same reason.
+fn blocks_are_plain(bytes: &[u8]) -> bool
     ensures { IsTrue result → flat_map escaped bytes.now ≡ bytes.now }
 {
     let mut plain = true;
@@ -23,6 +53,26 @@ fn are_plain(bytes: &[u8]) -> bool
         plain &= is_plain(bytes[i]);
     }
     plain
+}
+
+/// The same of fewer bytes than a block has.
+fn few_are_plain(bytes: &[u8]) -> bool
+    ensures { IsTrue result → flat_map escaped bytes.now ≡ bytes.now }
+{
+    for i in 0..bytes.len() {
+        if !is_marked_plain(bytes[i]) {
+            return false;
+        }
+    }
+    true
+}
+
+/// Whether all of the bytes stand between quotes as they are.
+fn are_plain(bytes: &[u8]) -> bool
+    ensures { IsTrue result → flat_map escaped bytes.now ≡ bytes.now }
+{
+    let whole = bytes.len() - bytes.len() % BLOCK;
+    blocks_are_plain(&bytes[..whole]) && few_are_plain(&bytes[whole..])
 }
 
 /// Appends bytes between quotes as they are. After want of memory a front of that was appended.
