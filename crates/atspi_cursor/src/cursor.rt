@@ -3,7 +3,7 @@
 ghost use Rattle.std.specs.Prelude.{◌≡◌, ◌<◌, ◌≤◌, ◌↔◌, length, IsTrue};
 ghost use Rattle.atspi_types.specs.Kinds.{array, number, byte};
 ghost use Rattle.atspi_codes.specs.TyRefs.{ref_kind, refs_kinds};
-ghost use Rattle.atspi_marshal.specs.Input.{ReachTo};
+ghost use Rattle.atspi_marshal.specs.Input.{PlacesFit};
 ghost use Rattle.atspi_marshal.specs.Reading.{input_of, read, elements_at};
 ghost use Rattle.atspi_marshal.specs.Faults.{entry_kind};
 ghost use Rattle.atspi_cursor.specs.Known.{is_read};
@@ -25,7 +25,7 @@ pub struct Item<'a> {
     levels: u8,
     bound: Bound,
     at: usize,
-    ghost within: { (at ≤ bound.end) × ReachTo input bound.end },
+    ghost within: { (at ≤ bound.end) × (bound.end ≤ length input.bytes.now) × PlacesFit input.bytes.now },
     ghost known: { IsTrue (is_read (read (input_of input) levels (ref_kind ty) bound at)) },
 }
 
@@ -38,7 +38,7 @@ pub struct Elements<'a> {
     inside: Bound,
     left: usize,
     at: usize,
-    ghost within: { (at ≤ inside.end) × ReachTo input inside.end },
+    ghost within: { (at ≤ inside.end) × (inside.end ≤ length input.bytes.now) × PlacesFit input.bytes.now },
     ghost known: { IsTrue (is_read (elements_at (read (input_of input) levels (ref_kind ty) inside) inside.end left at)) },
 }
 
@@ -52,7 +52,7 @@ pub struct Entries<'a> {
     inside: Bound,
     left: usize,
     at: usize,
-    ghost within: { (at ≤ inside.end) × ReachTo input inside.end },
+    ghost within: { (at ≤ inside.end) × (inside.end ≤ length input.bytes.now) × PlacesFit input.bytes.now },
     ghost known: { IsTrue (is_read (elements_at (read (input_of input) levels (entry_kind (ref_kind key) (ref_kind value)) inside) inside.end left at)) },
 }
 
@@ -71,7 +71,7 @@ pub struct Fields<'a> {
     levels: u8,
     bound: Bound,
     at: usize,
-    ghost within: { (at ≤ bound.end) × ReachTo input bound.end },
+    ghost within: { (at ≤ bound.end) × (bound.end ≤ length input.bytes.now) × PlacesFit input.bytes.now },
     ghost known: { IsTrue (is_read (read_all (input_of input) levels (refs_kinds types) bound at)) },
 }
 
