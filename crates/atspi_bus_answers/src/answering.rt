@@ -66,8 +66,8 @@ fn tell(alloc: Global, member: BusMember, names: &Names, args: Fields) -> Result
 }
 
 /// The answer to a connection's call of a member: what it does to names and rules, what is told before the reply, which goes
-/// behind what was told already, and the reply (D-Bus Specification, "Message Bus Messages"). After want of memory names and
-/// rules are as before.
+/// behind what was told already, and the reply (D-Bus Specification, "Message Bus Messages"). After want of memory names,
+/// rules and what was told are as before.
 pub fn answer(
     alloc: Global,
     member: BusMember,
@@ -83,6 +83,7 @@ pub fn answer(
         × IsSpokenOf member (fields_data m.now.body) rule
         × IsAnswer (answers.answers member (with_parts names.old rules.old) conn (fields_data m.now.body) rule) names.new rules.new told.old.items told.new.items reply) }
     ensures err { OnErr result ((names.new ≡ names.old) × (rules.new ≡ rules.old)) }
+    ensures untold { OnErr result (told.new.items ≡ told.old.items) }
     ensures named { AreNamed names.new.lists }
 {
     let text = first_text(m.body);

@@ -1,6 +1,6 @@
 //! What is told where a name changes hands.
 
-ghost use Rattle.std.specs.Prelude.{◌≡◌, [], ◌∷◌, ◌++◌, map, IfOk, OnOk, option_copied};
+ghost use Rattle.std.specs.Prelude.{◌≡◌, [], ◌∷◌, ◌++◌, map, take, length, IfOk, OnOk, OnErr, option_copied};
 ghost use Rattle.std.specs.Option.{option_and_then};
 ghost use Rattle.atspi_message.specs.Envelope.{envelope_of};
 ghost use Rattle.atspi_names.specs.Queue as queues;
@@ -58,8 +58,29 @@ fn tell_acquired(
     Ok(())
 }
 
-/// Tells that a name has another owner: who lost it, who has it now, and all that ask for it. Nothing is told where it is
-/// still the same one's. After want of memory a front of it may have been told.
+/// What is told where a name changes hands: who lost it, who has it now, and all that ask for it. Nothing is told where it is
+/// still the same one's.
+fn news_of(
+    alloc: Global,
+    names: &Names,
+    name: &BusName,
+    change: OwnerChange,
+) -> Result<Vec<Message>, NoMemory>
+    ensures { IfOk result (λ news. map envelope_of news.items ≡ own.told_of_change names.now name.now change.before change.after) }
+{
+    let mut news = Vec::new(alloc);
+    if change.before == change.after {
+        return Ok(news);
+    }
+    tell_lost(alloc, names, name, change.before, &mut news)?;
+    tell_acquired(alloc, names, name, change.after, &mut news)?;
+    let before = unique_of(names, change.before);
+    let after = unique_of(names, change.after);
+    news.push(owner_changed(alloc, name, before, after)?)?;
+    Ok(news)
+}
+
+/// Tells that a name changes hands, behind what was told already. After want of memory nothing more is told.
 pub(crate) fn tell_change(
     alloc: Global,
     names: &Names,
@@ -67,17 +88,13 @@ pub(crate) fn tell_change(
     change: OwnerChange,
     told: &mut Vec<Message>,
 ) -> Result<(), NoMemory>
-    ensures { OnOk result (map envelope_of told.new.items
+    ensures ok { OnOk result (map envelope_of told.new.items
         ≡ map envelope_of told.old.items ++ own.told_of_change names.now name.now change.before change.after) }
+    ensures behind { OnOk result (take (length told.old.items) told.new.items ≡ told.old.items) }
+    ensures err { OnErr result (told.new.items ≡ told.old.items) }
 {
-    if change.before == change.after {
-        return Ok(());
-    }
-    tell_lost(alloc, names, name, change.before, told)?;
-    tell_acquired(alloc, names, name, change.after, told)?;
-    let before = unique_of(names, change.before);
-    let after = unique_of(names, change.after);
-    told.push(owner_changed(alloc, name, before, after)?)?;
+    let mut news = news_of(alloc, names, name, change)?;
+    told.append(&mut news)?;
     Ok(())
 }
 

@@ -53,7 +53,8 @@ pub fn free_name(alloc: Global, names: &Names, m: &MessageRef) -> Result<Option<
     Ok(None)
 }
 
-/// RequestName: what it changes is told before the name is asked for, so that after want of memory the names are as before.
+/// RequestName: what it changes is told before the name is asked for, and taken back where that fails, so that after want of
+/// memory the names and what was told are as before.
 pub fn request_name(
     alloc: Global,
     names: &mut Names,
@@ -65,20 +66,23 @@ pub fn request_name(
     ensures ok { IfOk result (λ reply. (rules : List (ℕ × List Condition)) →
         IsAnswer (requested_answer (with_parts names.old rules) conn (chars text.now) flags) names.new rules told.old.items told.new.items reply) }
     ensures err { OnErr result (names.new ≡ names.old) }
+    ensures untold { OnErr result (told.new.items ≡ told.old.items) }
 {
     let Some(name) = asked_name(alloc, text)? else {
         return Ok(Reply::Fails(BusError::InvalidArgs));
     };
     let change = request_change(names.queue(&name), conn, flags);
     let values = one(alloc, Value::U32(change.answer))?;
+    let told_before = told.len();
     tell_change(alloc, names, &name, change, told)?;
     if names.request(conn, &name, flags).is_err() {
+        told.truncate(told_before);
         return Err(NoMemory);
     }
     Ok(Reply::Returns(values))
 }
 
-/// ReleaseName.
+/// ReleaseName. After want of memory the names and what was told are as before.
 pub fn release_name(
     alloc: Global,
     names: &mut Names,
@@ -89,6 +93,7 @@ pub fn release_name(
     ensures ok { IfOk result (λ reply. (rules : List (ℕ × List Condition)) →
         IsAnswer (released_answer (with_parts names.old rules) conn (chars text.now)) names.new rules told.old.items told.new.items reply) }
     ensures err { OnErr result (names.new ≡ names.old) }
+    ensures untold { OnErr result (told.new.items ≡ told.old.items) }
 {
     let Some(name) = asked_name(alloc, text)? else {
         return Ok(Reply::Fails(BusError::InvalidArgs));
