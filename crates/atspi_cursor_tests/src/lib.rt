@@ -6,4 +6,6 @@ mod owning;
 #[cfg(test)]
 mod passing;
 #[cfg(test)]
+mod spelled;
+#[cfg(test)]
 mod walking;

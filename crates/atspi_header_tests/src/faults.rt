@@ -1,11 +1,13 @@
 //! The first fault of bytes that are no message.
 
-use crate::samples::{BIG, BODY, HELLO, RETURN, UNKNOWN, changed};
+use crate::samples::{BIG, BODY, HELLO, RETURN, UNKNOWN};
 use atspi_header::MessageRef;
 use atspi_message::total;
-use std::test::*;
+use std::alloc::Global;
+use std::process::Abort;
 
-/// What reading a message tells: (0, 0), or the place and the reason; (length, 100) where it is not as long as it states.
+/// What reading a message tells: (0, 0), or the place and the reason of the first fault; (length, 100) where it is not as long as it
+/// states.
 fn told(bytes: &[u8]) -> (u32, u32) {
     let Some(first) = bytes.first_chunk::<16>() else {
         return (0, 98);
@@ -24,107 +26,139 @@ fn told(bytes: &[u8]) -> (u32, u32) {
     }
 }
 
+/// The byte that a word spells: a number, or a letter behind a quote.
+fn byte_of(word: &str) -> Option<u8> {
+    match word.strip_prefix('\'') {
+        Some(letter) => letter.as_bytes().first().copied(),
+        None => word.parse::<u8>().ok(),
+    }
+}
+
+/// Changes a byte, as `PLACE:BYTE` spells it.
+fn change(bytes: &mut [u8], spelled: &str) -> Option<()> {
+    let (place, byte) = spelled.split_once(':')?;
+    *bytes.get_mut(place.parse::<usize>().ok()?)? = byte_of(byte)?;
+    Some(())
+}
+
+/// The first bytes, so many of them, with zeros where they are fewer.
+fn first_bytes(alloc: Global, bytes: &[u8], len: usize) -> Option<Vec<u8>> {
+    let mut all = Vec::new(alloc);
+    for place in 0..len {
+        all.push(bytes.get(place).copied().unwrap_or(0)).ok()?;
+    }
+    Some(all)
+}
+
+/// Whether a row `LENGTH bytes CHANGES => PLACE REASON` of a message holds.
+fn holds(alloc: Global, bytes: &[u8], row: &str) -> Option<bool> {
+    let (spelled, due) = row.split_once(" => ")?;
+    let (place, reason) = due.split_once(' ')?;
+    let due = (place.parse::<u32>().ok()?, reason.parse::<u32>().ok()?);
+    let mut words = spelled.split(' ');
+    let mut all = first_bytes(alloc, bytes, words.next()?.parse::<usize>().ok()?)?;
+    for word in words.skip(1) {
+        change(&mut all, word)?;
+    }
+    Some(told(&all) == due)
+}
+
+/// Each row of a message holds.
+fn try_rows(rt: &impl Abort, alloc: Global, bytes: &[u8], rows: &str) {
+    for row in rows.lines() {
+        assert!(rt; holds(alloc, bytes, row) == Some(true), "{row}");
+    }
+}
+
+/// The call of Hello.
+const CALLS: &str = "\
+128 bytes => 0 0
+128 bytes 2:255 => 0 0
+128 bytes 1:4 => 0 0
+128 bytes 1:5 => 0 0
+128 bytes 1:255 => 0 0
+128 bytes 0:'x => 0 22
+128 bytes 0:'B => 4 25
+128 bytes 1:0 => 1 23
+128 bytes 3:2 => 3 24
+128 bytes 7:8 => 4 25
+128 bytes 8:0 => 8 26
+128 bytes 15:5 => 12 27
+128 bytes 16:0 => 16 28
+128 bytes 48:1 => 48 30
+128 bytes 18:'s => 17 29
+128 bytes 18:'h => 18 3
+128 bytes 17:2 => 19 2
+128 bytes 17:0 => 17 16
+128 bytes 24:'x => 20 15
+128 bytes 45:1 => 45 12
+128 bytes 46:1 => 46 10
+128 bytes 56:'1 => 52 31
+128 bytes 88:'1 => 84 31
+128 bytes 104:'. => 100 31
+128 bytes 96:5 => 97 29
+128 bytes 100:21 => 100 18
+128 bytes 80:10 => 125 34
+128 bytes 80:10 125:1 => 125 10
+128 bytes 16:10 => 125 34
+128 bytes 1:2 => 125 34
+128 bytes 1:3 => 125 34
+128 bytes 1:4 16:10 => 125 34
+128 bytes 1:4 48:10 => 125 34
+128 bytes 1:4 80:10 => 125 34
+128 bytes 50:'o => 49 29
+128 bytes 82:'g => 81 29
+128 bytes 98:'o => 97 29
+128 bytes 96:7 98:'o => 97 29
+128 bytes 96:4 98:'o => 97 29
+128 bytes 96:9 => 97 29
+128 bytes 1:3 48:4 => 125 34
+128 bytes 127:1 => 127 10";
+
+/// A return.
+const RETURNS: &str = "\
+24 bytes => 0 0
+24 bytes 20:0 => 20 32
+24 bytes 16:9 => 20 33
+24 bytes 16:9 20:0 => 24 34
+24 bytes 18:'i => 17 29
+24 bytes 1:1 => 24 34
+24 bytes 1:3 => 24 34";
+
+/// A message with a body.
+const BODIES: &str = "\
+32 bytes => 0 0
+33 bytes 4:9 => 32 21
+31 bytes 4:7 => 28 19
+24 bytes 4:0 => 24 19
+32 bytes 16:10 => 24 35
+32 bytes 12:6 20:0 21:0 22:0 => 24 35
+32 bytes 26:1 => 26 10
+32 bytes 21:'( => 23 6
+32 bytes 18:'s => 17 29";
+
+/// A message with a field without a meaning.
+const FIELDS: &str = "\
+24 bytes => 0 0
+24 bytes 18:'b => 20 18
+24 bytes 17:0 => 17 16
+24 bytes 18:'( => 19 6
+24 bytes 19:1 => 19 12
+24 bytes 21:1 => 21 10";
+
 #[test]
 fn the_first_fault_of_a_call_is_told(rt: HostRuntime) {
-    let table: [(&[(usize, u8)], (u32, u32)); 42] = [
-        (&[], (0, 0)),
-        (&[(2, 255)], (0, 0)),
-        (&[(1, 4)], (0, 0)),
-        (&[(1, 5)], (0, 0)),
-        (&[(1, 255)], (0, 0)),
-        (&[(0, b'x')], (0, 22)),
-        (&[(0, b'B')], (4, 25)),
-        (&[(1, 0)], (1, 23)),
-        (&[(3, 2)], (3, 24)),
-        (&[(7, 8)], (4, 25)),
-        (&[(8, 0)], (8, 26)),
-        (&[(15, 5)], (12, 27)),
-        (&[(16, 0)], (16, 28)),
-        (&[(48, 1)], (48, 30)),
-        (&[(18, b's')], (17, 29)),
-        (&[(18, b'h')], (18, 3)),
-        (&[(17, 2)], (19, 2)),
-        (&[(17, 0)], (17, 16)),
-        (&[(24, b'x')], (20, 15)),
-        (&[(45, 1)], (45, 12)),
-        (&[(46, 1)], (46, 10)),
-        (&[(56, b'1')], (52, 31)),
-        (&[(88, b'1')], (84, 31)),
-        (&[(104, b'.')], (100, 31)),
-        (&[(96, 5)], (97, 29)),
-        (&[(100, 21)], (100, 18)),
-        (&[(80, 10)], (125, 34)),
-        (&[(80, 10), (125, 1)], (125, 10)),
-        (&[(16, 10)], (125, 34)),
-        (&[(1, 2)], (125, 34)),
-        (&[(1, 3)], (125, 34)),
-        (&[(1, 4), (16, 10)], (125, 34)),
-        (&[(1, 4), (48, 10)], (125, 34)),
-        (&[(1, 4), (80, 10)], (125, 34)),
-        (&[(50, b'o')], (49, 29)),
-        (&[(82, b'g')], (81, 29)),
-        (&[(98, b'o')], (97, 29)),
-        (&[(96, 7), (98, b'o')], (97, 29)),
-        (&[(96, 4), (98, b'o')], (97, 29)),
-        (&[(96, 9)], (97, 29)),
-        (&[(1, 3), (48, 4)], (125, 34)),
-        (&[(127, 1)], (127, 10)),
-    ];
-    for (changes, due) in table {
-        let bytes = changed(&rt, &HELLO, 128, changes);
-        assert_eq!(rt; told(&bytes), due, "the call changed by {changes:?}");
-    }
+    try_rows(&rt, rt.alloc(), &HELLO, CALLS);
 }
 
 #[test]
 fn the_first_fault_of_a_return_and_of_a_body_is_told(rt: HostRuntime) {
-    let returns: [(&[(usize, u8)], (u32, u32)); 7] = [
-        (&[], (0, 0)),
-        (&[(20, 0)], (20, 32)),
-        (&[(16, 9)], (20, 33)),
-        (&[(16, 9), (20, 0)], (24, 34)),
-        (&[(18, b'i')], (17, 29)),
-        (&[(1, 1)], (24, 34)),
-        (&[(1, 3)], (24, 34)),
-    ];
-    for (changes, due) in returns {
-        let bytes = changed(&rt, &RETURN, 24, changes);
-        assert_eq!(rt; told(&bytes), due, "the return changed by {changes:?}");
-    }
-    let bodies: [(usize, &[(usize, u8)], (u32, u32)); 9] = [
-        (32, &[], (0, 0)),
-        (33, &[(4, 9)], (32, 21)),
-        (31, &[(4, 7)], (28, 19)),
-        (24, &[(4, 0)], (24, 19)),
-        (32, &[(16, 10)], (24, 35)),
-        (32, &[(12, 6), (20, 0), (21, 0), (22, 0)], (24, 35)),
-        (32, &[(26, 1)], (26, 10)),
-        (32, &[(21, b'(')], (23, 6)),
-        (32, &[(18, b's')], (17, 29)),
-    ];
-    for (len, changes, due) in bodies {
-        let bytes = changed(&rt, &BODY, len, changes);
-        assert_eq!(rt;
-            told(&bytes),
-            due,
-            "the body of {len} changed by {changes:?}"
-        );
-    }
-    assert_eq!(rt; told(&BIG), (0, 0));
+    try_rows(&rt, rt.alloc(), &RETURN, RETURNS);
+    try_rows(&rt, rt.alloc(), &BODY, BODIES);
+    assert!(rt; told(&BIG) == (0, 0));
 }
 
 #[test]
 fn a_field_without_a_meaning_is_passed_and_looked_at(rt: HostRuntime) {
-    let table: [(&[(usize, u8)], (u32, u32)); 6] = [
-        (&[], (0, 0)),
-        (&[(18, b'b')], (20, 18)),
-        (&[(17, 0)], (17, 16)),
-        (&[(18, b'(')], (19, 6)),
-        (&[(19, 1)], (19, 12)),
-        (&[(21, 1)], (21, 10)),
-    ];
-    for (changes, due) in table {
-        let bytes = changed(&rt, &UNKNOWN, 24, changes);
-        assert_eq!(rt; told(&bytes), due, "the field changed by {changes:?}");
-    }
+    try_rows(&rt, rt.alloc(), &UNKNOWN, FIELDS);
 }

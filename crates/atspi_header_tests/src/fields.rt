@@ -6,8 +6,8 @@ ghost use Rattle.atspi_message.specs.Rules.{MeetsRules};
 
 use crate::samples::{BIG, BODY, HELLO, RETURN, UNKNOWN};
 use atspi_header::MessageRef;
-use atspi_message::total;
-use std::test::*;
+use atspi_message::{Message, total};
+use std::alloc::Global;
 
 /// The message that the bytes are, if they are one.
 fn parsed<'a>(bytes: &'a [u8]) -> Option<MessageRef<'a>>
@@ -21,63 +21,82 @@ fn parsed<'a>(bytes: &'a [u8]) -> Option<MessageRef<'a>>
     MessageRef::parse(bytes).ok()
 }
 
-#[test]
-fn a_call_has_the_fields_of_its_bytes(rt: HostRuntime) -> Result<(), Fail> {
-    let hello = parsed(&HELLO).ok_or("hello")?;
-    assert_eq!(rt; (hello.kind, hello.flags, hello.serial), (1, 0, 1));
-    assert_eq!(rt; hello.path, Some("/org/freedesktop/DBus"));
-    assert_eq!(rt; hello.interface, Some("org.freedesktop.DBus"));
-    assert_eq!(rt; hello.member, Some("Hello"));
-    assert_eq!(rt; hello.destination, Some("org.freedesktop.DBus"));
-    assert!(rt; hello.sender.is_none());
-    assert!(rt; hello.error.is_none());
-    assert!(rt; hello.reply.is_none());
-    assert!(rt; hello.body.types().is_empty());
-    Ok(())
+/// Whether a message is the call of Hello, by each of its header fields.
+fn is_hello(message: &MessageRef<'_>) -> bool {
+    (message.kind, message.flags, message.serial) == (1, 0, 1)
+        && message.path == Some("/org/freedesktop/DBus")
+        && message.interface == Some("org.freedesktop.DBus")
+        && message.member == Some("Hello")
+        && message.destination == Some("org.freedesktop.DBus")
+        && message.sender.is_none()
+        && message.error.is_none()
+        && message.reply.is_none()
+        && message.body.types().is_empty()
 }
 
 #[test]
-fn replies_have_the_serial_in_both_orders(rt: HostRuntime) -> Result<(), Fail> {
-    let little = parsed(&RETURN).ok_or("return")?;
-    assert_eq!(rt; (little.serial, little.reply), (2, Some(1)));
-    let big = parsed(&BIG).ok_or("return")?;
-    assert_eq!(rt; (big.serial, big.reply), (2, Some(1)));
-    Ok(())
+fn a_call_has_the_fields_of_its_bytes(rt: HostRuntime) {
+    let holds = parsed(&HELLO).is_some_and(|message| is_hello(&message));
+    assert!(rt; holds);
+}
+
+/// The serial of a message, and that of the call that it replies to.
+fn serials(bytes: &[u8]) -> Option<(u32, u32)> {
+    let message = parsed(bytes)?;
+    Some((message.serial, message.reply?))
 }
 
 #[test]
-fn the_values_of_a_body_are_walked(rt: HostRuntime) -> Result<(), Fail> {
-    let message = parsed(&BODY).ok_or("body")?;
-    let mut body = message.body;
-    let first = body.next().ok_or("first")?;
-    assert_eq!(rt; first.u8(), Some(7));
-    let second = body.next().ok_or("second")?;
-    assert_eq!(rt; second.u32(), Some(9));
-    assert!(rt; body.next().is_none());
-    let unknown = parsed(&UNKNOWN).ok_or("unknown")?;
-    let mut none = unknown.body;
-    assert!(rt; none.next().is_none());
-    Ok(())
+fn replies_have_the_serial_in_both_orders(rt: HostRuntime) {
+    assert!(rt; serials(&RETURN) == Some((2, 1)));
+    assert!(rt; serials(&BIG) == Some((2, 1)));
+}
+
+/// The values of a body `yu`, if there are no others.
+fn byte_and_number(bytes: &[u8]) -> Option<(u8, u32)> {
+    let mut body = parsed(bytes)?.body;
+    let byte = body.next()?.u8()?;
+    let number = body.next()?.u32()?;
+    if body.next().is_some() {
+        return None;
+    }
+    Some((byte, number))
+}
+
+/// Whether a message has no value.
+fn has_no_value(bytes: &[u8]) -> Option<bool> {
+    let mut body = parsed(bytes)?.body;
+    Some(body.next().is_none())
 }
 
 #[test]
-fn a_message_is_owned_with_its_fields_and_values(rt: HostRuntime) -> Result<(), Fail> {
-    let hello = parsed(&HELLO).ok_or("hello")?;
-    let owned = hello.owned(rt.alloc()).ok().ok_or("memory")?;
-    assert_eq!(rt; (owned.kind, owned.flags, owned.serial), (1, 0, 1));
-    assert_eq!(rt; owned.path.ok_or("path")?.as_str(), "/org/freedesktop/DBus");
-    assert_eq!(rt;
-        owned.interface.ok_or("interface")?.as_str(),
-        "org.freedesktop.DBus"
-    );
-    assert_eq!(rt; owned.member.ok_or("member")?.as_str(), "Hello");
-    assert_eq!(rt;
-        owned.destination.ok_or("destination")?.as_str(),
-        "org.freedesktop.DBus"
-    );
-    assert_eq!(rt; owned.body.len(), 0);
-    let body = parsed(&BODY).ok_or("body")?;
-    let values = body.owned(rt.alloc()).ok().ok_or("memory")?.body;
-    assert_eq!(rt; values.len(), 2);
-    Ok(())
+fn the_values_of_a_body_are_walked(rt: HostRuntime) {
+    assert!(rt; byte_and_number(&BODY) == Some((7, 9)));
+    assert!(rt; has_no_value(&UNKNOWN) == Some(true));
+}
+
+/// Whether an owned message is the call of Hello.
+fn is_owned_hello(message: &Message) -> Option<bool> {
+    Some(
+        (message.kind, message.flags, message.serial) == (1, 0, 1)
+            && message.path.as_ref()?.as_str() == "/org/freedesktop/DBus"
+            && message.interface.as_ref()?.as_str() == "org.freedesktop.DBus"
+            && message.member.as_ref()?.as_str() == "Hello"
+            && message.destination.as_ref()?.as_str() == "org.freedesktop.DBus"
+            && message.body.len() == 0,
+    )
+}
+
+/// The owned message that the bytes are, if they are one.
+fn owned(alloc: Global, bytes: &[u8]) -> Option<Message> {
+    parsed(bytes)?.owned(alloc).ok()
+}
+
+#[test]
+fn a_message_is_owned_with_its_fields_and_values(rt: HostRuntime) {
+    let holds = owned(rt.alloc(), &HELLO).is_some_and(|message| is_owned_hello(&message)
+        == Some(true));
+    assert!(rt; holds);
+    let holds = owned(rt.alloc(), &BODY).is_some_and(|message| message.body.len() == 2);
+    assert!(rt; holds);
 }

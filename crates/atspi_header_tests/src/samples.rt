@@ -19,18 +19,3 @@ pub const BODY: [u8; 32] =
 
 /// A message with a field without a meaning, whose value is the byte 7, and no body.
 pub const UNKNOWN: [u8; 24] = *b"l\x05\0\x01\0\0\0\0\x03\0\0\0\x05\0\0\0\xfa\x01y\0\x07\0\0\0";
-
-/// The bytes up to a length, some of them changed; zeros where they are fewer.
-pub fn changed(rt: &HostRuntime, bytes: &[u8], len: usize, changes: &[(usize, u8)]) -> Vec<u8> {
-    let mut all = Vec::new(rt.alloc());
-    for i in 0..len {
-        let mut byte = if i < bytes.len() { bytes[i] } else { 0 };
-        for (place, change) in changes {
-            if *place == i {
-                byte = *change;
-            }
-        }
-        let _ = all.push(byte);
-    }
-    all
-}

@@ -6,8 +6,11 @@ ghost use Rattle.atspi_message.specs.Rules.{MeetsRules};
 
 mod writing;
 
+use atspi_base::Bytes;
 use atspi_message::{Message, total};
 use atspi_types::ReadFault;
+use std::alloc::Global;
+use std::process::Abort;
 use std::test::*;
 
 /// The call of Hello, 128 bytes.
@@ -28,7 +31,7 @@ const BODY: [u8; 32] =
     *b"l\x05\0\x01\x08\0\0\0\x03\0\0\0\x08\0\0\0\x08\x01g\0\x02yu\0\x07\0\0\0\x09\0\0\0";
 
 /// What reading a message tells: (0, 0), or the place and the reason; (length, 100) where it is not as long as it states.
-fn told(rt: &HostRuntime, bytes: &[u8]) -> (u32, u32) {
+fn told(alloc: Global, bytes: &[u8]) -> (u32, u32) {
     let Some(first) = bytes.first_chunk::<16>() else {
         return (0, 98);
     };
@@ -38,7 +41,7 @@ fn told(rt: &HostRuntime, bytes: &[u8]) -> (u32, u32) {
             if length as usize != bytes.len() {
                 return (length, 100);
             }
-            match Message::parse(rt.alloc(), bytes) {
+            match Message::parse(alloc, bytes) {
                 Ok(_) => (0, 0),
                 Err(ReadFault::Bad(fault)) => (fault.place, fault.reason as u32),
                 Err(ReadFault::NoMemory) => (0, 99),
@@ -47,112 +50,126 @@ fn told(rt: &HostRuntime, bytes: &[u8]) -> (u32, u32) {
     }
 }
 
-/// The bytes up to a length, some of them changed; zeros where they are fewer.
-fn changed(rt: &HostRuntime, bytes: &[u8], len: usize, changes: &[(usize, u8)]) -> Vec<u8> {
-    let mut all = Vec::new(rt.alloc());
-    for i in 0..len {
-        let mut byte = if i < bytes.len() { bytes[i] } else { 0 };
-        for (place, change) in changes {
-            if *place == i {
-                byte = *change;
-            }
-        }
-        let _ = all.push(byte);
+/// Changes a byte, as `PLACE=BYTE` spells it.
+fn change(all: &mut Bytes, spelled: &str) -> Option<()> {
+    let (place, byte) = spelled.split_once('=')?;
+    let place = place.parse::<usize>().ok()?;
+    if place >= all.len() {
+        return None;
     }
-    all
+    all.set(place, &[byte.parse::<u8>().ok()?]);
+    Some(())
 }
 
-#[test]
-fn the_first_fault_of_a_call_is_told(rt: HostRuntime) {
-    let table: [(&[(usize, u8)], (u32, u32)); 42] = [
-        (&[], (0, 0)),
-        (&[(2, 255)], (0, 0)),
-        (&[(1, 4)], (0, 0)),
-        (&[(1, 5)], (0, 0)),
-        (&[(1, 255)], (0, 0)),
-        (&[(0, b'x')], (0, 22)),
-        (&[(0, b'B')], (4, 25)),
-        (&[(1, 0)], (1, 23)),
-        (&[(3, 2)], (3, 24)),
-        (&[(7, 8)], (4, 25)),
-        (&[(8, 0)], (8, 26)),
-        (&[(15, 5)], (12, 27)),
-        (&[(16, 0)], (16, 28)),
-        (&[(48, 1)], (48, 30)),
-        (&[(18, b's')], (17, 29)),
-        (&[(18, b'h')], (18, 3)),
-        (&[(17, 2)], (19, 2)),
-        (&[(17, 0)], (17, 16)),
-        (&[(24, b'x')], (20, 15)),
-        (&[(45, 1)], (45, 12)),
-        (&[(46, 1)], (46, 10)),
-        (&[(56, b'1')], (52, 31)),
-        (&[(88, b'1')], (84, 31)),
-        (&[(104, b'.')], (100, 31)),
-        (&[(96, 5)], (97, 29)),
-        (&[(100, 21)], (100, 18)),
-        (&[(80, 10)], (125, 34)),
-        (&[(80, 10), (125, 1)], (125, 10)),
-        (&[(16, 10)], (125, 34)),
-        (&[(1, 2)], (125, 34)),
-        (&[(1, 3)], (125, 34)),
-        (&[(1, 4), (16, 10)], (125, 34)),
-        (&[(1, 4), (48, 10)], (125, 34)),
-        (&[(1, 4), (80, 10)], (125, 34)),
-        (&[(50, b'o')], (49, 29)),
-        (&[(82, b'g')], (81, 29)),
-        (&[(98, b'o')], (97, 29)),
-        (&[(96, 7), (98, b'o')], (97, 29)),
-        (&[(96, 4), (98, b'o')], (97, 29)),
-        (&[(96, 9)], (97, 29)),
-        (&[(1, 3), (48, 4)], (125, 34)),
-        (&[(127, 1)], (127, 10)),
-    ];
-    for (changes, due) in table {
-        let bytes = changed(&rt, &HELLO, 128, changes);
-        assert_eq!(rt; told(&rt, &bytes), due, "the call changed by {changes:?}");
+/// The bytes up to a length, with a zero behind them where they are fewer, some of them changed. It is spelled `LENGTH PLACE=BYTE PLACE=BYTE`.
+fn changed(alloc: Global, bytes: &[u8], spelled: &str) -> Option<Bytes> {
+    let mut words = spelled.split(' ');
+    let len = words.next()?.parse::<usize>().ok()?;
+    let (front, _) = bytes.split_at(len.min(bytes.len()));
+    let mut all = Bytes::new(alloc);
+    all.extend(front).ok()?;
+    if all.len() < len {
+        all.push(0).ok()?;
+    }
+    for word in words {
+        change(&mut all, word)?;
+    }
+    Some(all)
+}
+
+/// Whether a row tells what is due of the changed bytes: `0 0`, or the place and the reason.
+fn is_told(alloc: Global, bytes: &[u8], row: &str) -> Option<bool> {
+    let (spelled, due) = row.split_once(" => ")?;
+    let (place, reason) = due.split_once(' ')?;
+    let bytes = changed(alloc, bytes, spelled)?;
+    let told = told(alloc, bytes.as_slice());
+    Some(told == (place.parse::<u32>().ok()?, reason.parse::<u32>().ok()?))
+}
+
+/// Each row of a table tells what is due of bytes that are changed so.
+fn try_rows(rt: &impl Abort, alloc: Global, bytes: &[u8], rows: &str) {
+    for row in rows.lines() {
+        assert!(rt; is_told(alloc, bytes, row) == Some(true), "{row}");
     }
 }
 
+/// Changes of the call of Hello.
+const CALLS: &str = "\
+128 => 0 0
+128 2=255 => 0 0
+128 1=4 => 0 0
+128 1=5 => 0 0
+128 1=255 => 0 0
+128 0=120 => 0 22
+128 0=66 => 4 25
+128 1=0 => 1 23
+128 3=2 => 3 24
+128 7=8 => 4 25
+128 8=0 => 8 26
+128 15=5 => 12 27
+128 16=0 => 16 28
+128 48=1 => 48 30
+128 18=115 => 17 29
+128 18=104 => 18 3
+128 17=2 => 19 2
+128 17=0 => 17 16
+128 24=120 => 20 15
+128 45=1 => 45 12
+128 46=1 => 46 10
+128 56=49 => 52 31
+128 88=49 => 84 31
+128 104=46 => 100 31
+128 96=5 => 97 29
+128 100=21 => 100 18
+128 80=10 => 125 34
+128 80=10 125=1 => 125 10
+128 16=10 => 125 34
+128 1=2 => 125 34
+128 1=3 => 125 34
+128 1=4 16=10 => 125 34
+128 1=4 48=10 => 125 34
+128 1=4 80=10 => 125 34
+128 50=111 => 49 29
+128 82=103 => 81 29
+128 98=111 => 97 29
+128 96=7 98=111 => 97 29
+128 96=4 98=111 => 97 29
+128 96=9 => 97 29
+128 1=3 48=4 => 125 34
+128 127=1 => 127 10";
+
+/// Changes of the return.
+const RETURNS: &str = "\
+24 => 0 0
+24 20=0 => 20 32
+24 16=9 => 20 33
+24 16=9 20=0 => 24 34
+24 18=105 => 17 29
+24 1=1 => 24 34
+24 1=3 => 24 34";
+
+/// Changes of the message with a body.
+const BODIES: &str = "\
+32 => 0 0
+33 4=9 => 32 21
+31 4=7 => 28 19
+24 4=0 => 24 19
+32 16=10 => 24 35
+32 12=6 20=0 21=0 22=0 => 24 35
+32 26=1 => 26 10
+32 21=40 => 23 6
+32 18=115 => 17 29";
+
 #[test]
-fn the_first_fault_of_a_return_and_of_a_body_is_told(rt: HostRuntime) {
-    let returns: [(&[(usize, u8)], (u32, u32)); 7] = [
-        (&[], (0, 0)),
-        (&[(20, 0)], (20, 32)),
-        (&[(16, 9)], (20, 33)),
-        (&[(16, 9), (20, 0)], (24, 34)),
-        (&[(18, b'i')], (17, 29)),
-        (&[(1, 1)], (24, 34)),
-        (&[(1, 3)], (24, 34)),
-    ];
-    for (changes, due) in returns {
-        let bytes = changed(&rt, &RETURN, 24, changes);
-        assert_eq!(rt; told(&rt, &bytes), due, "the return changed by {changes:?}");
-    }
-    let bodies: [(usize, &[(usize, u8)], (u32, u32)); 9] = [
-        (32, &[], (0, 0)),
-        (33, &[(4, 9)], (32, 21)),
-        (31, &[(4, 7)], (28, 19)),
-        (24, &[(4, 0)], (24, 19)),
-        (32, &[(16, 10)], (24, 35)),
-        (32, &[(12, 6), (20, 0), (21, 0), (22, 0)], (24, 35)),
-        (32, &[(26, 1)], (26, 10)),
-        (32, &[(21, b'(')], (23, 6)),
-        (32, &[(18, b's')], (17, 29)),
-    ];
-    for (len, changes, due) in bodies {
-        let bytes = changed(&rt, &BODY, len, changes);
-        assert_eq!(rt;
-            told(&rt, &bytes),
-            due,
-            "the body of {len} changed by {changes:?}"
-        );
-    }
-    assert_eq!(rt; told(&rt, &BIG), (0, 0));
+fn the_first_fault_is_told(rt: HostRuntime) {
+    try_rows(&rt, rt.alloc(), &HELLO, CALLS);
+    try_rows(&rt, rt.alloc(), &RETURN, RETURNS);
+    try_rows(&rt, rt.alloc(), &BODY, BODIES);
+    try_rows(&rt, rt.alloc(), &BIG, "24 => 0 0");
 }
 
 /// The fields of a message that the test reads.
-fn parsed(rt: &HostRuntime, bytes: &[u8]) -> Option<Message>
+fn parsed(alloc: Global, bytes: &[u8]) -> Option<Message>
     ensures { IfSome result (λ message. MeetsRules (envelope_of message)) }
 {
     let first = bytes.first_chunk::<16>()?;
@@ -160,32 +177,46 @@ fn parsed(rt: &HostRuntime, bytes: &[u8]) -> Option<Message>
     if length as usize != bytes.len() {
         return None;
     }
-    Message::parse(rt.alloc(), bytes).ok()
+    Message::parse(alloc, bytes).ok()
+}
+
+/// Whether a message is the call of Hello.
+fn is_hello(message: &Message) -> bool {
+    message.kind == 1 && message.serial == 1 && message.flags == 0 && message.error.is_none()
+}
+
+/// Whether a message has the fields that are texts of the call of Hello.
+fn has_texts(message: &Message) -> bool {
+    let (Some(path), Some(interface), Some(member), Some(destination)) = (
+        &message.path,
+        &message.interface,
+        &message.member,
+        &message.destination,
+    ) else {
+        return false;
+    };
+    path.as_str() == "/org/freedesktop/DBus"
+        && interface.as_str() == "org.freedesktop.DBus"
+        && member.as_str() == "Hello"
+        && destination.as_str() == "org.freedesktop.DBus"
+}
+
+/// Whether a copy of the message of these bytes is the call of Hello.
+fn copied_hello(alloc: Global, bytes: &[u8]) -> Option<bool> {
+    let copy = parsed(alloc, bytes)?.copy(alloc).ok()?;
+    Some(is_hello(&copy) && has_texts(&copy))
+}
+
+/// The serial of the message of these bytes, the one that it replies to, and how many values it has.
+fn numbers(alloc: Global, bytes: &[u8]) -> Option<(u32, Option<u32>, usize)> {
+    let message = parsed(alloc, bytes)?;
+    Some((message.serial, message.reply, message.body.len()))
 }
 
 #[test]
-fn a_message_has_the_fields_and_values_of_its_bytes(rt: HostRuntime) -> Result<(), Fail> {
-    let hello = parsed(&rt, &HELLO).ok_or("hello")?;
-    let same = hello.copy(rt.alloc()).ok().ok_or("memory")?;
-    assert_eq!(rt; same.kind, 1);
-    assert_eq!(rt; same.serial, 1);
-    assert_eq!(rt; same.flags, 0);
-    assert!(rt; same.error.is_none());
-    assert_eq!(rt; same.path.ok_or("path")?.as_str(), "/org/freedesktop/DBus");
-    assert_eq!(rt;
-        same.interface.ok_or("interface")?.as_str(),
-        "org.freedesktop.DBus"
-    );
-    assert_eq!(rt; same.member.ok_or("member")?.as_str(), "Hello");
-    assert_eq!(rt;
-        same.destination.ok_or("destination")?.as_str(),
-        "org.freedesktop.DBus"
-    );
-    let little = parsed(&rt, &RETURN).ok_or("return")?;
-    assert_eq!(rt; (little.serial, little.reply), (2, Some(1)));
-    let big = parsed(&rt, &BIG).ok_or("return")?;
-    assert_eq!(rt; (big.serial, big.reply), (2, Some(1)));
-    let body = parsed(&rt, &BODY).ok_or("body")?;
-    assert_eq!(rt; body.body.len(), 2);
-    Ok(())
+fn a_message_has_the_fields_and_values_of_its_bytes(rt: HostRuntime) {
+    assert!(rt; copied_hello(rt.alloc(), &HELLO) == Some(true));
+    assert!(rt; numbers(rt.alloc(), &RETURN) == Some((2, Some(1), 0)));
+    assert!(rt; numbers(rt.alloc(), &BIG) == Some((2, Some(1), 0)));
+    assert!(rt; numbers(rt.alloc(), &BODY) == Some((3, None, 2)));
 }

@@ -1,12 +1,13 @@
 //! Messages that are passed on: what is written of one that lies in bytes.
 
 ghost use Rattle.std.specs.Prelude.{IfSome};
+ghost use Rattle.atspi_message.specs.Envelope.{envelope_of};
 ghost use Rattle.atspi_message.specs.Rules.{MeetsRules};
 ghost use Rattle.atspi_header.specs.View.{envelope_at};
 
 use atspi_base::Bytes;
 use atspi_header::MessageRef;
-use atspi_message::total;
+use atspi_message::{Message, total};
 use atspi_passing::write_from;
 use atspi_valid_names::BusName;
 use std::alloc::Global;
@@ -86,51 +87,53 @@ fn with_sender<'a>(m: &MessageRef<'a>, name: &'a BusName) -> MessageRef<'a>
     }
 }
 
-/// What is written of the message, made an owned one.
-fn written_owned(alloc: Global, m: &MessageRef) -> Option<Bytes>
-    requires { MeetsRules (envelope_at m.now) }
+/// What a message is written as.
+fn written(alloc: Global, message: &Message) -> Option<Bytes>
+    requires { MeetsRules (envelope_of message.now) }
 {
     let mut bytes = Bytes::new(alloc);
-    let message = m.owned(alloc).ok()?;
     message.write(&mut bytes).ok()?;
     Some(bytes)
 }
 
-#[test]
-fn a_message_is_passed_on_as_an_owned_one_is_written(rt: HostRuntime) -> Result<(), Fail> {
-    let all: [&[u8]; 6] = [
-        &LITTLE,
-        &LITTLE_SENT,
-        &LITTLE_PASSED,
-        &BIG,
-        &BIG_SENT,
-        &BIG_PASSED,
-    ];
-    for bytes in all {
-        let m = lent(bytes).ok_or("a message")?;
-        let owned = written_owned(rt.alloc(), &m).ok_or("an owned one")?;
-        let again = write_from(rt.alloc(), &m).ok().ok_or("memory")?;
-        assert_eq!(rt; again.as_slice(), owned.as_slice());
-    }
-    Ok(())
+/// Whether the message is passed on as these bytes.
+fn is_passed(alloc: Global, m: &MessageRef, due: &[u8]) -> Option<bool>
+    requires { MeetsRules (envelope_at m.now) }
+{
+    let passed = write_from(alloc, m).ok()?;
+    Some(passed.as_slice() == due)
+}
+
+/// Whether the message that bytes are is passed on as an owned one of it is written.
+fn is_passed_whole(alloc: Global, bytes: &[u8]) -> Option<bool> {
+    let m = lent(bytes)?;
+    let message = m.owned(alloc).ok()?;
+    is_passed(alloc, &m, written(alloc, &message)?.as_slice())
 }
 
 #[test]
-fn a_message_is_passed_on_with_its_sender(rt: HostRuntime) -> Result<(), Fail> {
-    let name = BusName::read(rt.alloc(), b":1.5").ok().ok_or("a name")?;
-    let all: [(&[u8], &[u8]); 6] = [
-        (&LITTLE, &LITTLE_PASSED),
-        (&LITTLE_SENT, &LITTLE_PASSED),
-        (&LITTLE_PASSED, &LITTLE_PASSED),
-        (&BIG, &BIG_PASSED),
-        (&BIG_SENT, &BIG_PASSED),
-        (&BIG_PASSED, &BIG_PASSED),
-    ];
-    for (bytes, due) in all {
-        let m = lent(bytes).ok_or("a message")?;
-        let sent = with_sender(&m, &name);
-        let again = write_from(rt.alloc(), &sent).ok().ok_or("memory")?;
-        assert_eq!(rt; again.as_slice(), due);
-    }
-    Ok(())
+fn a_message_is_passed_on_as_an_owned_one_is_written(rt: HostRuntime) {
+    assert!(rt; is_passed_whole(rt.alloc(), &LITTLE) == Some(true));
+    assert!(rt; is_passed_whole(rt.alloc(), &LITTLE_SENT) == Some(true));
+    assert!(rt; is_passed_whole(rt.alloc(), &LITTLE_PASSED) == Some(true));
+    assert!(rt; is_passed_whole(rt.alloc(), &BIG) == Some(true));
+    assert!(rt; is_passed_whole(rt.alloc(), &BIG_SENT) == Some(true));
+    assert!(rt; is_passed_whole(rt.alloc(), &BIG_PASSED) == Some(true));
+}
+
+/// Whether the message that bytes are is passed on with a sender as these bytes.
+fn is_sent(alloc: Global, name: &BusName, bytes: &[u8], due: &[u8]) -> Option<bool> {
+    let m = lent(bytes)?;
+    is_passed(alloc, &with_sender(&m, name), due)
+}
+
+#[test]
+fn a_message_is_passed_on_with_its_sender(rt: HostRuntime) {
+    let name = BusName::read(rt.alloc(), b":1.5").ok().expect(&rt, "a name");
+    assert!(rt; is_sent(rt.alloc(), &name, &LITTLE, &LITTLE_PASSED) == Some(true));
+    assert!(rt; is_sent(rt.alloc(), &name, &LITTLE_SENT, &LITTLE_PASSED) == Some(true));
+    assert!(rt; is_sent(rt.alloc(), &name, &LITTLE_PASSED, &LITTLE_PASSED) == Some(true));
+    assert!(rt; is_sent(rt.alloc(), &name, &BIG, &BIG_PASSED) == Some(true));
+    assert!(rt; is_sent(rt.alloc(), &name, &BIG_SENT, &BIG_PASSED) == Some(true));
+    assert!(rt; is_sent(rt.alloc(), &name, &BIG_PASSED, &BIG_PASSED) == Some(true));
 }

@@ -1,6 +1,6 @@
 //! Messages as they are written.
 
-ghost use Rattle.std.specs.Prelude.{◌≡◌, IfOk};
+ghost use Rattle.std.specs.Prelude.{◌≡◌, IfOk, IfSome};
 ghost use Rattle.atspi_types.specs.Kinds.{variant};
 ghost use Rattle.atspi_types.specs.Data.{items_of, type_of, IsWellTyped, AreWellTyped};
 ghost use Rattle.atspi_types.specs.DataView.{data_of, all_data};
@@ -66,70 +66,67 @@ const OTHER: [u8; 16] = *b"\
 B\xc8\0\x01\0\0\0\0\0\0\0\x01\0\0\0\0";
 
 /// Whether the message that was read from bytes is written as others, behind what stood there.
-fn is_written(rt: &HostRuntime, bytes: &[u8], front: &[u8], due: &[u8]) -> bool {
-    let Some(message) = parsed(rt, bytes) else {
-        return false;
-    };
-    let mut out = Bytes::new(rt.alloc());
-    if out.extend(front).is_err() || message.write(&mut out).is_err() {
-        return false;
-    }
-    let all = out.as_slice();
-    all.strip_prefix(front) == Some(due)
+fn is_written(alloc: Global, bytes: &[u8], front: &[u8], due: &[u8]) -> Option<bool> {
+    let message = parsed(alloc, bytes)?;
+    let mut out = Bytes::new(alloc);
+    out.extend(front).ok()?;
+    message.write(&mut out).ok()?;
+    Some(out.as_slice().strip_prefix(front) == Some(due))
+}
+
+/// The same behind nothing, and behind three bytes.
+fn goes(alloc: Global, bytes: &[u8], due: &[u8]) -> bool {
+    is_written(alloc, bytes, b"", due) == Some(true)
+        && is_written(alloc, bytes, b"abc", due) == Some(true)
 }
 
 #[test]
 fn a_message_is_written_in_rising_order(rt: HostRuntime) {
-    let table: [(&[u8], &[u8]); 9] = [
-        (&HELLO, &HELLO),
-        (&RETURN, &RETURN),
-        (&BIG, &BIG),
-        (&BODY, &BODY),
-        (&EVERY, &EVERY),
-        (&EVERY_BIG, &EVERY_BIG),
-        (&MIXED, &RISING),
-        (&EMPTY, &EMPTY_RISING),
-        (&OTHER, &OTHER),
-    ];
-    for (bytes, due) in table {
-        assert!(rt; is_written(&rt, bytes, b"", due), "writing {due:?}");
-        assert!(rt;
-            is_written(&rt, bytes, b"abc", due),
-            "writing {due:?} behind three bytes"
-        );
-    }
+    assert!(rt; goes(rt.alloc(), &HELLO, &HELLO));
+    assert!(rt; goes(rt.alloc(), &RETURN, &RETURN));
+    assert!(rt; goes(rt.alloc(), &BIG, &BIG));
+    assert!(rt; goes(rt.alloc(), &BODY, &BODY));
+    assert!(rt; goes(rt.alloc(), &EVERY, &EVERY));
+    assert!(rt; goes(rt.alloc(), &EVERY_BIG, &EVERY_BIG));
+    assert!(rt; goes(rt.alloc(), &MIXED, &RISING));
+    assert!(rt; goes(rt.alloc(), &EMPTY, &EMPTY_RISING));
+    assert!(rt; goes(rt.alloc(), &OTHER, &OTHER));
 }
 
 /// The call of Hello.
-fn hello(alloc: Global) -> Result<Message, Fail>
-    ensures { IfOk result (λ message. MeetsRules (envelope_of message)) }
+fn hello(alloc: Global) -> Option<Message>
+    ensures { IfSome result (λ message. MeetsRules (envelope_of message)) }
 {
-    Ok(Message {
+    let path = Path::read(alloc, b"/org/freedesktop/DBus").ok()?;
+    let interface = Interface::read(alloc, b"org.freedesktop.DBus").ok()?;
+    let member = Member::read(alloc, b"Hello").ok()?;
+    let destination = BusName::read(alloc, b"org.freedesktop.DBus").ok()?;
+    Some(Message {
         order: Order::Little,
         kind: 1,
         flags: 0,
         serial: 1,
-        path: Some(Path::read(alloc, b"/org/freedesktop/DBus")?),
-        interface: Some(Interface::read(alloc, b"org.freedesktop.DBus")?),
-        member: Some(Member::read(alloc, b"Hello")?),
+        path: Some(path),
+        interface: Some(interface),
+        member: Some(member),
         error: None,
         reply: None,
-        destination: Some(BusName::read(alloc, b"org.freedesktop.DBus")?),
+        destination: Some(destination),
         sender: None,
         body: Values::new(alloc),
     })
 }
 
 #[test]
-fn a_message_that_was_made_is_written(rt: HostRuntime) -> Result<(), Fail> {
+fn a_message_that_was_made_is_written(rt: HostRuntime) {
+    let message = hello(rt.alloc()).expect(&rt, "memory");
     let mut out = Bytes::new(rt.alloc());
-    hello(rt.alloc())?.write(&mut out)?;
-    assert_eq!(rt; out.as_slice(), HELLO.as_slice());
-    Ok(())
+    message.write(&mut out).expect(&rt, "memory");
+    assert!(rt; out.as_slice() == HELLO.as_slice());
 }
 
 /// How many bytes there are after a return with this body was written behind three, and whether it was too big.
-fn written(rt: &HostRuntime, body: Values) -> (usize, bool)
+fn written(alloc: Global, body: Values) -> (usize, bool)
     requires { AreWellTyped (items_of (all_data body)) }
 {
     let message = Message {
@@ -146,7 +143,7 @@ fn written(rt: &HostRuntime, body: Values) -> (usize, bool)
         sender: None,
         body,
     };
-    let mut out = Bytes::new(rt.alloc());
+    let mut out = Bytes::new(alloc);
     let _ = out.extend(b"abc");
     let done = message.write(&mut out);
     (out.len(), matches!(done, Err(WriteFault::Big)))
@@ -163,37 +160,66 @@ fn nested(alloc: Global, depth: u32) -> Result<Value, NoMemory>
     Ok(value)
 }
 
-/// What writing answers of a body of one value.
-fn one_written(rt: &HostRuntime, value: Value) -> (usize, bool)
+/// A body of one value.
+fn one(alloc: Global, value: Value) -> Option<Values>
     requires { IsWellTyped (data_of value) }
+    ensures { IfSome result (λ body. AreWellTyped (items_of (all_data body))) }
 {
-    let mut body = Values::new(rt.alloc());
-    if body.push(value).is_err() {
-        return (0, false);
+    let mut body = Values::new(alloc);
+    body.push(value).ok()?;
+    Some(body)
+}
+
+/// Bytes, each a value by itself.
+fn zeros(alloc: Global, count: u32) -> Result<Values, NoMemory>
+    ensures { IfOk result (λ body. AreWellTyped (items_of (all_data body))) }
+{
+    let bytes = vec![in alloc; 0u8; count as usize]?;
+    Ok(Values::from_bytes(bytes))
+}
+
+/// An array of so many bytes.
+fn array_of(alloc: Global, count: u32) -> Result<Value, NoMemory>
+    ensures { IfOk result (λ value. IsWellTyped (data_of value)) }
+{
+    let bytes = vec![in alloc; 0u8; count as usize]?;
+    Ok(Value::Array(Ty::Byte, Values::from_bytes(bytes)))
+}
+
+/// The body that a word and a number spell.
+fn body_of(alloc: Global, word: &str, n: u32) -> Option<Values>
+    ensures { IfSome result (λ body. AreWellTyped (items_of (all_data body))) }
+{
+    match word {
+        "nested" => one(alloc, nested(alloc, n).ok()?),
+        "bytes" => zeros(alloc, n).ok(),
+        _ => one(alloc, array_of(alloc, n).ok()?),
     }
-    written(rt, body)
 }
 
-/// What writing answers of a body of so many bytes, each a value by itself.
-fn bytes_written(rt: &HostRuntime, count: usize) -> Result<(usize, bool), Fail> {
-    let bytes = vec![in rt.alloc(); 0u8; count]?;
-    Ok(written(rt, Values::from_bytes(bytes)))
-}
+/// Bodies of a return, how many bytes there are after it was written behind three, and whether it was too big.
+const LIMITS: &str = "\
+nested 63 => 228 false
+nested 64 => 3 true
+bytes 0 => 27 false
+bytes 255 => 546 false
+bytes 256 => 3 true
+array 1 => 40 false
+array 67108865 => 3 true";
 
-/// What writing answers of a body of one array of so many bytes.
-fn array_written(rt: &HostRuntime, count: usize) -> Result<(usize, bool), Fail> {
-    let bytes = vec![in rt.alloc(); 0u8; count]?;
-    Ok(one_written(rt, Value::Array(Ty::Byte, Values::from_bytes(bytes))))
+/// Whether writing a return with the body of a row answers what is due.
+fn holds(alloc: Global, row: &str) -> Option<bool> {
+    let (spelled, due) = row.split_once(" => ")?;
+    let (word, n) = spelled.split_once(' ')?;
+    let (length, is_big) = due.split_once(' ')?;
+    let length = length.parse::<usize>().ok()?;
+    let body = body_of(alloc, word, n.parse::<u32>().ok()?)?;
+    Some(written(alloc, body) == (length, is_big == "true"))
 }
 
 #[test]
-fn what_passes_a_limit_is_too_big(rt: HostRuntime) -> Result<(), Fail> {
-    assert_eq!(rt; one_written(&rt, nested(rt.alloc(), 63)?), (228, false));
-    assert_eq!(rt; one_written(&rt, nested(rt.alloc(), 64)?), (3, true));
-    assert_eq!(rt; bytes_written(&rt, 0)?, (27, false));
-    assert_eq!(rt; bytes_written(&rt, 255)?, (546, false));
-    assert_eq!(rt; bytes_written(&rt, 256)?, (3, true));
-    assert_eq!(rt; array_written(&rt, 1)?, (40, false));
-    assert_eq!(rt; array_written(&rt, 67_108_865)?, (3, true));
-    Ok(())
+fn what_passes_a_limit_is_too_big(rt: HostRuntime) {
+    for row in LIMITS.lines() {
+        assert!(rt; holds(rt.alloc(), row) == Some(true), "{row}");
+    }
 }
