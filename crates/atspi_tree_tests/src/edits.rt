@@ -72,7 +72,7 @@ fn edit_of(alloc: Global, asked: Asked) -> Option<Edit>
 }
 
 /// Does the steps of an edit that reads no contents. Answers whether the edit was taken, none for want of memory.
-fn edited(alloc: Global, tree: &mut Tree, edit: &Edit) -> Option<bool>
+pub(crate) fn edited(alloc: Global, tree: &mut Tree, edit: &Edit) -> Option<bool>
     requires lawful { IsEdit edit.now }
     requires plain { ReadsNone edit.now }
 {

@@ -3,73 +3,88 @@
 use atspi_base::{Text, Texts};
 use atspi_forest::{EditFault, Item, Items, Reference, Step, StepList};
 use atspi_valid_names::Path;
+use std::alloc::Global;
 use std::test::*;
 
-/// A text without characters.
-fn no_text(rt: &HostRuntime) -> Result<Text, Fail> {
-    Ok(Text::read(rt.alloc(), b"").ok().ok_or("memory")?)
-}
-
-/// The root of an application whose bus name is empty.
-fn root(rt: &HostRuntime) -> Result<Reference, Fail> {
-    let path = Path::read(rt.alloc(), b"/org/a11y/atspi/accessible/root")
-        .ok()
-        .ok_or("memory")?;
-    Ok(Reference {
-        bus: no_text(rt)?,
-        path,
-    })
+/// The removal of node 3, and then the caret of node 1 at 5.
+fn two_steps(alloc: Global) -> Option<StepList> {
+    let mut steps = StepList::new(alloc);
+    steps.push(Step::Remove { node: 3 }).ok()?;
+    steps.push(Step::Caret { node: 1, at: 5 }).ok()?;
+    Some(steps)
 }
 
 #[test]
-fn steps_keep_their_order(rt: HostRuntime) -> Result<(), Fail> {
-    let mut steps = StepList::new(rt.alloc());
-    for step in [Step::Remove { node: 3 }, Step::Caret { node: 1, at: 5 }] {
-        steps.push(step).ok().ok_or("memory")?;
-    }
-    assert_eq!(rt; steps.len(), 2);
+fn steps_keep_their_order(rt: HostRuntime) {
+    let steps = two_steps(rt.alloc()).expect(&rt, "memory");
+    assert!(rt; steps.len() == 2);
     assert!(rt;
         matches!(
             steps.as_slice(),
             [Step::Remove { node: 3 }, Step::Caret { node: 1, at: 5 }]
         )
     );
-    assert_eq!(rt; StepList::from_vec(steps.into_vec()).len(), 2);
-    Ok(())
+    assert!(rt; StepList::from_vec(steps.into_vec()).len() == 2);
 }
 
-#[test]
-fn items_are_kept(rt: HostRuntime) -> Result<(), Fail> {
-    let object = root(&rt)?;
-    let application = root(&rt)?;
-    let parent = root(&rt)?;
-    let name = no_text(&rt)?;
-    let description = no_text(&rt)?;
-    let interfaces = Texts::new(rt.alloc());
-    let item = Item {
+/// A text without characters.
+fn no_text(alloc: Global) -> Option<Text> {
+    Text::read(alloc, b"").ok()
+}
+
+/// The root of an application whose bus name is empty.
+fn root(alloc: Global) -> Option<Reference> {
+    let bus = no_text(alloc)?;
+    let path = Path::read(alloc, b"/org/a11y/atspi/accessible/root").ok()?;
+    Some(Reference { bus, path })
+}
+
+/// An item of that root.
+fn item(alloc: Global) -> Option<Item> {
+    let object = root(alloc)?;
+    let application = root(alloc)?;
+    let parent = root(alloc)?;
+    let name = no_text(alloc)?;
+    Some(Item {
         object,
         application,
         parent,
         index: -1,
         children: 0,
-        interfaces,
+        interfaces: Texts::new(alloc),
         name,
         role: 75,
-        description,
+        description: no_text(alloc)?,
         states: 0x4300_0100,
-    };
-    let mut items = Items::new(rt.alloc());
-    items.push(item).ok().ok_or("memory")?;
-    assert_eq!(rt; items.len(), 1);
-    for item in items.as_slice() {
-        assert_eq!(rt; item.role, 75);
-    }
-    assert_eq!(rt; Items::from_vec(items.into_vec()).len(), 1);
-    Ok(())
+    })
+}
+
+/// The item alone.
+fn one_item(alloc: Global) -> Option<Items> {
+    let item = item(alloc)?;
+    let mut items = Items::new(alloc);
+    items.push(item).ok()?;
+    Some(items)
 }
 
 #[test]
-fn refusals_are_told_in_words(rt: HostRuntime) -> Result<(), Fail> {
+fn items_are_kept(rt: HostRuntime) {
+    let items = one_item(rt.alloc()).expect(&rt, "memory");
+    assert!(rt; items.len() == 1);
+    for item in items.as_slice() {
+        assert!(rt; item.role == 75);
+    }
+    assert!(rt; Items::from_vec(items.into_vec()).len() == 1);
+}
+
+/// Whether a refusal is told in these words.
+fn is_told(alloc: Global, fault: EditFault, words: &str) -> Option<bool> {
+    let told = format!(in alloc; "{fault}").ok()?;
+    Some(told.as_str() == words)
+}
+
+#[test]
+fn refusals_are_told_in_words(rt: HostRuntime) {
     let table = [
         (EditFault::NoNode, "no such node"),
         (EditFault::IsRoot, "the root stays where it is"),
@@ -81,8 +96,6 @@ fn refusals_are_told_in_words(rt: HostRuntime) -> Result<(), Fail> {
         (EditFault::TextFull, "the text is too long"),
     ];
     for (fault, words) in table {
-        let told = format!(in rt.alloc(); "{fault}")?;
-        assert_eq!(rt; told.as_str(), words);
+        assert!(rt; is_told(rt.alloc(), fault, words) == Some(true), "{words}");
     }
-    Ok(())
 }

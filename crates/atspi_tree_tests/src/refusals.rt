@@ -1,13 +1,15 @@
 //! Why each edit is refused, or how many steps it makes.
 
-ghost use Rattle.std.specs.Prelude.{IfOk, IsTrue};
+ghost use Rattle.std.specs.Prelude.{IfSome, IsTrue};
 ghost use Rattle.atspi_forest.specs.Edits.{IsEdit};
 ghost use Rattle.atspi_edits.specs.Answers.{IsKnown, ReadsNone};
 
+use crate::edits::{alone, edited};
 use crate::refusal_tables::{
     ACTIONS, BESIDE_STATES, FULL_TREE, LONG_TEXTS, MARKED_TEXTS, NODES, PRESSED, STATES, TEXTS,
     WINDOW,
 };
+use crate::tree::letters;
 use atspi_base::{Marks, Text, Texts};
 use atspi_edits::{EditRefused, steps_of};
 use atspi_forest::{Edit, FaceData};
@@ -15,36 +17,25 @@ use atspi_lines::{Line, parse_line};
 use atspi_tree::Tree;
 use std::alloc::Global;
 use std::process::Abort;
-use std::test::Fail;
-
-/// A text of so many letters.
-fn letters(alloc: Global, count: usize) -> Result<Text, Fail> {
-    let bytes = vec![in alloc; b'a'; count]?;
-    if bytes.len() > 1_048_577 {
-        return Err(Fail::new("too many letters"));
-    }
-    Ok(Text::read(alloc, &bytes)?)
-}
+use std::test::*;
 
 /// The line of an edit, with 511 letters for a `%`.
-fn line_of(alloc: Global, words: &str) -> Result<String, Fail> {
-    match words.split_once('%') {
-        Some((front, back)) => {
-            let letters = letters(alloc, 511)?;
-            Ok(format!(in alloc; "edit a0 {front}{}{back}", letters.as_str())?)
-        }
-        None => Ok(format!(in alloc; "edit a0 {words}")?),
-    }
+fn line_of(alloc: Global, words: &str) -> Option<String> {
+    let Some((front, back)) = words.split_once('%') else {
+        return format!(in alloc; "edit a0 {words}").ok();
+    };
+    let name = letters(alloc, 511)?;
+    format!(in alloc; "edit a0 {front}{}{back}", name.as_str()).ok()
 }
 
 /// The edit that words of a script spell.
-fn edit_of(alloc: Global, words: &str) -> Result<Edit, Fail>
-    ensures { IfOk result IsEdit }
+fn edit_of(alloc: Global, words: &str) -> Option<Edit>
+    ensures { IfSome result IsEdit }
 {
     let line = line_of(alloc, words)?;
     match parse_line(alloc, line.as_str().as_bytes()) {
-        Ok(Line::Edit { edit, .. }) => Ok(edit),
-        _ => Err(Fail::new("no edit")),
+        Ok(Line::Edit { edit, .. }) => Some(edit),
+        _ => None,
     }
 }
 
@@ -67,27 +58,27 @@ fn nothing(alloc: Global) -> FaceData
 }
 
 /// The actions of the window.
-fn actions(alloc: Global) -> Result<FaceData, Fail>
-    ensures { IfOk result IsKnown }
+fn actions(alloc: Global) -> Option<FaceData>
+    ensures { IfSome result IsKnown }
 {
     let mut names = Texts::new(alloc);
     for name in "toggle expand press focus jump".split(' ') {
         if name.len() <= 511 {
-            names.push(Text::read(alloc, name.as_bytes())?)?;
+            names.push(Text::read(alloc, name.as_bytes()).ok()?).ok()?;
         }
     }
-    Ok(FaceData::Deeds(names))
+    Some(FaceData::Deeds(names))
 }
 
 /// A text of so many letters with its caret, and nothing selected.
-fn text(alloc: Global, count: usize, caret: u32) -> Result<FaceData, Fail>
-    ensures { IfOk result IsKnown }
+fn text(alloc: Global, count: usize, caret: u32) -> Option<FaceData>
+    ensures { IfSome result IsKnown }
 {
     let text = letters(alloc, count)?;
     if text.count() > 1_048_576 || caret > text.count() {
-        return Err(Fail::new("no such caret"));
+        return None;
     }
-    Ok(FaceData::Chars {
+    Some(FaceData::Chars {
         text,
         caret,
         marks: Marks::new(alloc),
@@ -95,166 +86,149 @@ fn text(alloc: Global, count: usize, caret: u32) -> Result<FaceData, Fail>
 }
 
 /// A text of three letters, with as many selections as a text may have.
-fn marked(alloc: Global) -> Result<FaceData, Fail>
-    ensures { IfOk result IsKnown }
+fn marked(alloc: Global) -> Option<FaceData>
+    ensures { IfSome result IsKnown }
 {
     let text = letters(alloc, 3)?;
     if text.count() != 3 {
-        return Err(Fail::new("not three letters"));
+        return None;
     }
-    Ok(FaceData::Chars {
+    Some(FaceData::Chars {
         text,
         caret: 0,
-        marks: Marks::from_vec(vec![in alloc; (0, 1); 16]?),
+        marks: Marks::from_vec(vec![in alloc; (0, 1); 16].ok()?),
     })
 }
 
-/// Does the steps of an edit that reads no contents.
-fn take(alloc: Global, tree: &mut Tree, edit: &Edit) -> Result<(), Fail>
-    requires lawful { IsEdit edit.now }
-    requires plain { ReadsNone edit.now }
-{
-    let none = nothing(alloc);
-    let steps = match steps_of(alloc, tree, edit, &none) {
-        Ok(steps) => steps,
-        Err(_) => return Err(Fail::new("an edit is refused")),
-    };
-    for step in steps.as_slice() {
-        tree.apply(step)?;
-    }
-    Ok(())
-}
-
-/// Does the steps of an edit that reads no contents, so many times.
-fn take_times(alloc: Global, tree: &mut Tree, edit: &Edit, times: u32) -> Result<(), Fail>
+/// Does the steps of an edit that reads no contents, so many times. None where it is refused.
+fn edited_times(alloc: Global, tree: &mut Tree, edit: &Edit, times: u32) -> Option<()>
     requires lawful { IsEdit edit.now }
     requires plain { ReadsNone edit.now }
 {
     for _ in 0..times {
-        take(alloc, tree, edit)?;
+        if !edited(alloc, tree, edit)? {
+            return None;
+        }
     }
-    Ok(())
+    Some(())
 }
 
 /// Does an edit that reads no contents, so many times.
-fn repeat(alloc: Global, tree: &mut Tree, words: &str, times: u32) -> Result<(), Fail> {
+fn repeat(alloc: Global, tree: &mut Tree, words: &str, times: u32) -> Option<()> {
     let edit = edit_of(alloc, words)?;
     if !is_plain(&edit) {
-        return Err(Fail::new("an edit that reads contents"));
+        return None;
     }
-    take_times(alloc, tree, &edit, times)
+    edited_times(alloc, tree, &edit, times)
 }
 
 /// Does the edits of a list.
-fn take_all(alloc: Global, tree: &mut Tree, list: &str) -> Result<(), Fail> {
+fn take_all(alloc: Global, tree: &mut Tree, list: &str) -> Option<()> {
     for words in list.lines() {
         repeat(alloc, tree, words, 1)?;
     }
-    Ok(())
-}
-
-/// The root alone.
-fn alone(alloc: Global) -> Result<Tree, Fail> {
-    let name = letters(alloc, 4)?;
-    if name.as_str().len() > 511 {
-        return Err(Fail::new("a long name"));
-    }
-    Ok(Tree::new(alloc, name)?)
+    Some(())
 }
 
 /// The window of the tables.
-fn window(alloc: Global) -> Result<Tree, Fail> {
+fn window(alloc: Global) -> Option<Tree> {
     let mut tree = alone(alloc)?;
     take_all(alloc, &mut tree, WINDOW)?;
-    Ok(tree)
+    Some(tree)
 }
 
 /// The window with its states.
-fn window_with_states(alloc: Global) -> Result<Tree, Fail> {
+fn window_with_states(alloc: Global) -> Option<Tree> {
     let mut tree = window(alloc)?;
     take_all(alloc, &mut tree, STATES)?;
-    Ok(tree)
+    Some(tree)
 }
 
 /// Why an edit is refused, or how many steps it makes, as a word.
-fn told(alloc: Global, tree: &Tree, words: &str, known: &FaceData) -> Result<String, Fail>
+fn told(alloc: Global, tree: &Tree, words: &str, known: &FaceData) -> Option<String>
     requires { IsKnown known.now }
 {
     let edit = edit_of(alloc, words)?;
     match steps_of(alloc, tree, &edit, known) {
-        Ok(steps) => Ok(format!(in alloc; "{}", steps.len())?),
-        Err(EditRefused::Refused(fault)) => Ok(format!(in alloc; "{fault:?}")?),
-        Err(EditRefused::NoMemory) => Err(Fail::new("out of memory")),
+        Ok(steps) => format!(in alloc; "{}", steps.len()).ok(),
+        Err(EditRefused::Refused(fault)) => format!(in alloc; "{fault:?}").ok(),
+        Err(EditRefused::NoMemory) => None,
     }
 }
 
-/// Whether each edit of a table is refused, or makes steps, as its row says, where these contents are known of its node.
-fn check(
-    rt: &impl Abort,
-    alloc: Global,
-    tree: &Tree,
-    table: &str,
-    known: &FaceData,
-) -> Result<(), Fail>
+/// Whether the edit of a row is refused, or makes steps, as it says, where these contents are known of its node.
+fn comes_to(alloc: Global, tree: &Tree, row: &str, known: &FaceData) -> Option<bool>
+    requires { IsKnown known.now }
+{
+    let (words, due) = row.split_once(" = ")?;
+    let told = told(alloc, tree, words, known)?;
+    Some(told.as_str() == due)
+}
+
+/// The edit of each row comes to what is due.
+fn check(rt: &impl Abort, alloc: Global, tree: &Tree, table: &str, known: &FaceData)
     requires { IsKnown known.now }
 {
     for row in table.lines() {
-        let (words, due) = row.split_once(" = ").ok_or("a row")?;
-        assert!(rt; told(alloc, tree, words, known)?.as_str() == due, "{row}");
+        assert!(rt; comes_to(alloc, tree, row, known) == Some(true), "{row}");
     }
-    Ok(())
 }
 
 #[test]
-fn edits_that_read_no_contents(rt: HostRuntime) -> Result<(), Fail> {
-    let alloc = rt.alloc();
-    let tree = window(alloc)?;
-    check(&rt, alloc, &tree, NODES, &nothing(alloc))
+fn edits_that_read_no_contents(rt: HostRuntime) {
+    let tree = window(rt.alloc()).expect(&rt, "a window");
+    check(&rt, rt.alloc(), &tree, NODES, &nothing(rt.alloc()));
 }
 
 #[test]
-fn edits_that_look_at_states(rt: HostRuntime) -> Result<(), Fail> {
-    let alloc = rt.alloc();
-    let mut tree = window_with_states(alloc)?;
-    check(&rt, alloc, &tree, BESIDE_STATES, &nothing(alloc))?;
-    take_all(alloc, &mut tree, "state 1 multiselectable on")?;
-    check(&rt, alloc, &tree, "select 1 0 = 1", &nothing(alloc))
+fn edits_that_look_at_states(rt: HostRuntime) {
+    let mut tree = window_with_states(rt.alloc()).expect(&rt, "a window");
+    let known = nothing(rt.alloc());
+    check(&rt, rt.alloc(), &tree, BESIDE_STATES, &known);
+    let more = take_all(rt.alloc(), &mut tree, "state 1 multiselectable on");
+    assert!(rt; more.is_some());
+    check(&rt, rt.alloc(), &tree, "select 1 0 = 1", &known);
+}
+
+/// The edits of a table of the window come to what is due, where these contents are known of their node.
+fn check_window(rt: &impl Abort, alloc: Global, table: &str, known: &FaceData)
+    requires { IsKnown known.now }
+{
+    let tree = window(alloc).expect(rt, "a window");
+    check(rt, alloc, &tree, table, known);
 }
 
 #[test]
-fn edits_of_a_text(rt: HostRuntime) -> Result<(), Fail> {
-    let alloc = rt.alloc();
-    let tree = window(alloc)?;
-    check(&rt, alloc, &tree, TEXTS, &text(alloc, 3, 2)?)
+fn edits_of_a_text(rt: HostRuntime) {
+    let known = text(rt.alloc(), 3, 2).expect(&rt, "a text");
+    check_window(&rt, rt.alloc(), TEXTS, &known);
 }
 
 #[test]
-fn edits_of_a_text_that_is_full(rt: HostRuntime) -> Result<(), Fail> {
-    let alloc = rt.alloc();
-    let tree = window(alloc)?;
-    check(&rt, alloc, &tree, LONG_TEXTS, &text(alloc, 1_048_575, 0)?)
+fn edits_of_a_text_that_is_full(rt: HostRuntime) {
+    let known = text(rt.alloc(), 1_048_575, 0).expect(&rt, "a text");
+    check_window(&rt, rt.alloc(), LONG_TEXTS, &known);
 }
 
 #[test]
-fn edits_of_a_text_that_is_selected(rt: HostRuntime) -> Result<(), Fail> {
-    let alloc = rt.alloc();
-    let tree = window(alloc)?;
-    check(&rt, alloc, &tree, MARKED_TEXTS, &marked(alloc)?)
+fn edits_of_a_text_that_is_selected(rt: HostRuntime) {
+    let known = marked(rt.alloc()).expect(&rt, "a text");
+    check_window(&rt, rt.alloc(), MARKED_TEXTS, &known);
 }
 
 #[test]
-fn edits_of_actions(rt: HostRuntime) -> Result<(), Fail> {
-    let alloc = rt.alloc();
-    let known = actions(alloc)?;
-    check(&rt, alloc, &window(alloc)?, ACTIONS, &known)?;
-    check(&rt, alloc, &window_with_states(alloc)?, PRESSED, &known)
+fn edits_of_actions(rt: HostRuntime) {
+    let known = actions(rt.alloc()).expect(&rt, "actions");
+    check_window(&rt, rt.alloc(), ACTIONS, &known);
+    let tree = window_with_states(rt.alloc()).expect(&rt, "a window");
+    check(&rt, rt.alloc(), &tree, PRESSED, &known);
 }
 
 /// A text that is too long for a new node is no line of a script: that it is told last stands with the limits of a tree.
 #[test]
-fn inserts_into_a_full_tree(rt: HostRuntime) -> Result<(), Fail> {
-    let alloc = rt.alloc();
-    let mut tree = alone(alloc)?;
-    repeat(alloc, &mut tree, "insert 0 0 panel \"\"", 8191)?;
-    check(&rt, alloc, &tree, FULL_TREE, &nothing(alloc))
+fn inserts_into_a_full_tree(rt: HostRuntime) {
+    let mut tree = alone(rt.alloc()).expect(&rt, "a tree");
+    let filled = repeat(rt.alloc(), &mut tree, "insert 0 0 panel \"\"", 8191);
+    assert!(rt; filled.is_some());
+    check(&rt, rt.alloc(), &tree, FULL_TREE, &nothing(rt.alloc()));
 }

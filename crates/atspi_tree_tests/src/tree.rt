@@ -14,7 +14,7 @@ use std::alloc::Global;
 use std::process::Abort;
 
 /// A name of so many letters.
-fn letters(alloc: Global, count: usize) -> Option<Text> {
+pub(crate) fn letters(alloc: Global, count: usize) -> Option<Text> {
     let bytes = vec![in alloc; b'a'; count.min(1_048_577)].ok()?;
     Text::read(alloc, &bytes).ok()
 }
