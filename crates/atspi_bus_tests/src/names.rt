@@ -210,23 +210,51 @@ request 3 org.example.Long-Name 3 => 2 0 0
 request 4 org.example.Long-Name 1 => 2 0 0
 queue org.example.Long-Name => 0/0 1/1 2/0 3/3 4/1";
 
-/// One of them leaves the queue; who owns the name then, and the queue.
-const LEFT: [&str; 10] = [
-    "release 0 org.example.Long-Name => 1 0 1\nowner org.example.Long-Name => 1\nqueue org.example.Long-Name => 1/1 2/0 3/3 4/1",
-    "release 1 org.example.Long-Name => 1 0 0\nowner org.example.Long-Name => 0\nqueue org.example.Long-Name => 0/0 2/0 3/3 4/1",
-    "release 2 org.example.Long-Name => 1 0 0\nowner org.example.Long-Name => 0\nqueue org.example.Long-Name => 0/0 1/1 3/3 4/1",
-    "release 3 org.example.Long-Name => 1 0 0\nowner org.example.Long-Name => 0\nqueue org.example.Long-Name => 0/0 1/1 2/0 4/1",
-    "release 4 org.example.Long-Name => 1 0 0\nowner org.example.Long-Name => 0\nqueue org.example.Long-Name => 0/0 1/1 2/0 3/3",
-    "gone 0 =>\nowner org.example.Long-Name => 1\nqueue org.example.Long-Name => 1/1 2/0 3/3 4/1",
-    "gone 1 =>\nowner org.example.Long-Name => 0\nqueue org.example.Long-Name => 0/0 2/0 3/3 4/1",
-    "gone 2 =>\nowner org.example.Long-Name => 0\nqueue org.example.Long-Name => 0/0 1/1 3/3 4/1",
-    "gone 3 =>\nowner org.example.Long-Name => 0\nqueue org.example.Long-Name => 0/0 1/1 2/0 4/1",
-    "gone 4 =>\nowner org.example.Long-Name => 0\nqueue org.example.Long-Name => 0/0 1/1 2/0 3/3",
-];
+/// One of them leaves the queue; who owns the name then, and the queue. A blank line stands between two cases.
+const LEFT: &str = "\
+release 0 org.example.Long-Name => 1 0 1
+owner org.example.Long-Name => 1
+queue org.example.Long-Name => 1/1 2/0 3/3 4/1
+
+release 1 org.example.Long-Name => 1 0 0
+owner org.example.Long-Name => 0
+queue org.example.Long-Name => 0/0 2/0 3/3 4/1
+
+release 2 org.example.Long-Name => 1 0 0
+owner org.example.Long-Name => 0
+queue org.example.Long-Name => 0/0 1/1 3/3 4/1
+
+release 3 org.example.Long-Name => 1 0 0
+owner org.example.Long-Name => 0
+queue org.example.Long-Name => 0/0 1/1 2/0 4/1
+
+release 4 org.example.Long-Name => 1 0 0
+owner org.example.Long-Name => 0
+queue org.example.Long-Name => 0/0 1/1 2/0 3/3
+
+gone 0 =>
+owner org.example.Long-Name => 1
+queue org.example.Long-Name => 1/1 2/0 3/3 4/1
+
+gone 1 =>
+owner org.example.Long-Name => 0
+queue org.example.Long-Name => 0/0 2/0 3/3 4/1
+
+gone 2 =>
+owner org.example.Long-Name => 0
+queue org.example.Long-Name => 0/0 1/1 3/3 4/1
+
+gone 3 =>
+owner org.example.Long-Name => 0
+queue org.example.Long-Name => 0/0 1/1 2/0 4/1
+
+gone 4 =>
+owner org.example.Long-Name => 0
+queue org.example.Long-Name => 0/0 1/1 2/0 3/3";
 
 #[test]
 fn one_leaves_a_queue_from_each_place(rt: HostRuntime) {
-    for rows in LEFT {
+    for rows in LEFT.split("\n\n") {
         let mut names = Names::new(rt.alloc());
         try_rows(&rt, rt.alloc(), &mut names, FIVE);
         try_rows(&rt, rt.alloc(), &mut names, rows);

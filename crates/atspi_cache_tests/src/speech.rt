@@ -4,60 +4,35 @@ use atspi_base::{Text, Texts};
 use atspi_forest::{Item, News, NumPart, Part, Reference, Row};
 use atspi_speech::{closing_line, lines};
 use atspi_valid_names::Path;
+use std::alloc::Global;
+use std::process::Abort;
 use std::test::*;
 
-const FOCUSED: u64 = 1 << 12;
-
-/// A name, a role and states.
-type Known<'a> = (&'a str, u32, u64);
-
-/// What a news of `/a` says, in words that are copied.
-#[derive(Clone, Copy)]
-enum Told<'a> {
-    Name(&'a str),
-    State(u8, bool),
-    Inserted(&'a str),
-    Deleted(&'a str),
-    /// An item: its bus name and path, its parent's bus name, and its role. Its name is `Saved`.
-    Item(&'a str, &'a str, &'a str, u32),
-    Removed,
-    ChildAdded,
-    Description,
-    Role,
-    Caret,
-    Nothing,
-}
-
-fn text(rt: &HostRuntime, text: &str) -> Result<Text, Fail> {
+/// A text of fewer than 1,000 bytes.
+fn text(alloc: Global, text: &str) -> Option<Text> {
     if text.len() >= 1000 {
-        return Err("a long text")?;
+        return None;
     }
-    Ok(
-        Text::read(rt.alloc(), text.as_bytes())
-            .ok()
-            .ok_or("memory")?,
-    )
+    Text::read(alloc, text.as_bytes()).ok()
 }
 
-fn path(rt: &HostRuntime, path: &str) -> Result<Path, Fail> {
-    Ok(
-        Path::read(rt.alloc(), path.as_bytes())
-            .ok()
-            .ok_or("memory")?,
-    )
+/// A path.
+fn path(alloc: Global, path: &str) -> Option<Path> {
+    Path::read(alloc, path.as_bytes()).ok()
 }
 
-/// The row of `/a`.
-fn row_of(rt: &HostRuntime, known: Known) -> Result<Row, Fail> {
-    let path = path(rt, "/a")?;
-    let name = text(rt, known.0)?;
-    let description = text(rt, "")?;
-    Ok(Row {
-        path,
-        name,
-        description,
-        role: known.1,
-        states: known.2,
+/// The row of `/a`, as `NAME,ROLE,STATES` spells it.
+fn row_of(alloc: Global, spelled: &str) -> Option<Row> {
+    let mut words = spelled.split(',');
+    let name = words.next()?;
+    let role = words.next()?.parse::<u32>().ok()?;
+    let states = words.next()?.parse::<u64>().ok()?;
+    Some(Row {
+        path: path(alloc, "/a")?,
+        name: text(alloc, name)?,
+        description: text(alloc, "")?,
+        role,
+        states,
         faces: 1,
         text: Part::Unknown,
         caret: NumPart::Unknown,
@@ -65,278 +40,257 @@ fn row_of(rt: &HostRuntime, known: Known) -> Result<Row, Fail> {
     })
 }
 
-fn reference(rt: &HostRuntime, bus: &str, at: &str) -> Result<Reference, Fail> {
-    let bus = text(rt, bus)?;
-    let path = path(rt, at)?;
-    Ok(Reference { bus, path })
+/// An object of a bus name.
+fn reference(alloc: Global, bus: &str, at: &str) -> Option<Reference> {
+    let bus = text(alloc, bus)?;
+    let path = path(alloc, at)?;
+    Some(Reference { bus, path })
 }
 
-fn item_of(
-    rt: &HostRuntime,
-    bus: &str,
-    at: &str,
-    parent_bus: &str,
-    role: u32,
-) -> Result<Item, Fail> {
-    let object = reference(rt, bus, at)?;
-    let application = reference(rt, bus, "/r")?;
-    let parent = reference(rt, parent_bus, "/a")?;
-    let name = text(rt, "Saved")?;
-    let description = text(rt, "")?;
-    Ok(Item {
-        object,
-        application,
-        parent,
+/// An item with the name `Saved` and the focus, as `BUS PATH PARENT-BUS ROLE` spells it.
+fn item_of(alloc: Global, spelled: &str) -> Option<Item> {
+    let mut words = spelled.split(' ');
+    let bus = words.next()?;
+    let at = words.next()?;
+    let parent_bus = words.next()?;
+    let role = words.next()?.parse::<u32>().ok()?;
+    Some(Item {
+        object: reference(alloc, bus, at)?,
+        application: reference(alloc, bus, "/r")?,
+        parent: reference(alloc, parent_bus, "/a")?,
         index: 0,
         children: 0,
-        interfaces: Texts::new(rt.alloc()),
-        name,
+        interfaces: Texts::new(alloc),
+        name: text(alloc, "Saved")?,
         role,
-        description,
-        states: FOCUSED,
+        description: text(alloc, "")?,
+        states: 1 << 12,
     })
 }
 
-/// The news of a text of `/a`.
-fn news_of_text(rt: &HostRuntime, told: Told) -> Result<Option<News>, Fail> {
-    let at = path(rt, "/a")?;
-    let text = text(
-        rt,
-        match told {
-            Told::Name(text) | Told::Inserted(text) | Told::Deleted(text) => text,
-            _ => "x",
-        },
-    )?;
-    Ok(match told {
-        Told::Name(_) => Some(News::Name(at, text)),
-        Told::Inserted(_) => Some(News::Inserted {
-            path: at,
-            at: -5,
-            text,
-        }),
-        Told::Deleted(_) => Some(News::Deleted {
-            path: at,
+/// A news of `/a` with a text.
+fn text_news(alloc: Global, word: &str, spelled: &str) -> Option<News> {
+    let path = path(alloc, "/a")?;
+    let text = text(alloc, spelled)?;
+    match word {
+        "name" => Some(News::Name(path, text)),
+        "description" => Some(News::Description(path, text)),
+        "inserted" => Some(News::Inserted { path, at: -5, text }),
+        _ => Some(News::Deleted {
+            path,
             at: 9,
             len: 9,
             text,
         }),
-        Told::Description => Some(News::Description(at, text)),
-        _ => None,
-    })
+    }
 }
 
-/// The news that has no text.
-fn plain_news(rt: &HostRuntime, told: Told) -> Result<News, Fail> {
-    let at = path(rt, "/a")?;
-    Ok(match told {
-        Told::State(state, on) => News::State(at, state, on),
-        Told::Removed => News::Removed(at),
-        Told::ChildAdded => News::ChildAdded(at),
-        Told::Role => News::Role(at, 2),
-        Told::Caret => News::Caret(at, 3),
-        _ => News::Nothing,
-    })
+/// A news of `/a` without a text.
+fn plain_news(alloc: Global, word: &str) -> Option<News> {
+    let path = path(alloc, "/a")?;
+    match word {
+        "removed" => Some(News::Removed(path)),
+        "child-added" => Some(News::ChildAdded(path)),
+        "role" => Some(News::Role(path, 2)),
+        "caret" => Some(News::Caret(path, 3)),
+        "nothing" => Some(News::Nothing),
+        _ => None,
+    }
+}
+
+/// The news that a state of `/a` is on or off.
+fn state_news(alloc: Global, state: u8, on: bool) -> Option<News> {
+    Some(News::State(path(alloc, "/a")?, state, on))
+}
+
+/// The news of words: `item` and what spells it, `on` or `off` and a state, a word and a text, or a word alone.
+fn news_of(alloc: Global, spelled: &str) -> Option<News> {
+    let (word, rest) = spelled.split_once(' ').unwrap_or((spelled, ""));
+    match word {
+        "item" => Some(News::Item(item_of(alloc, rest)?)),
+        "on" => state_news(alloc, rest.parse::<u8>().ok()?, true),
+        "off" => state_news(alloc, rest.parse::<u8>().ok()?, false),
+        "name" | "description" | "inserted" | "deleted" => text_news(alloc, word, rest),
+        _ => plain_news(alloc, word),
+    }
+}
+
+/// One line that stood there.
+fn front(alloc: Global) -> Option<Texts> {
+    let line = text(alloc, "front")?;
+    let mut lines = Texts::new(alloc);
+    lines.push(line).ok()?;
+    Some(lines)
 }
 
 /// The lines of a news, behind one that stood there.
-fn heard(
-    rt: &HostRuntime,
+fn heard(alloc: Global, row: Option<&Row>, has_parent: bool, news: &News) -> Option<Texts> {
+    let root = path(alloc, "/r")?;
+    let bus = text(alloc, ":1.7")?;
+    let mut out = front(alloc)?;
+    lines(alloc, &root, &bus, row, has_parent, news, &mut out).ok()?;
+    Some(out)
+}
+
+/// Whether behind the first line stands the one that is due, or none where a dash is due.
+fn are(lines: &[Text], due: &str) -> bool {
+    match lines {
+        [_] => due == "-",
+        [_, line] => line.as_str() == due,
+        _ => false,
+    }
+}
+
+/// Whether just that is spoken at a news, where `/a` has this row or none.
+fn is_spoken(
+    alloc: Global,
     row: Option<&Row>,
     has_parent: bool,
     news: &News,
-) -> Result<Texts, Fail> {
-    let root = path(rt, "/r")?;
-    let bus = text(rt, ":1.7")?;
-    let front = text(rt, "front")?;
-    let mut out = Texts::new(rt.alloc());
-    out.push(front).ok().ok_or("memory")?;
-    lines(rt.alloc(), &root, &bus, row, has_parent, news, &mut out)
-        .ok()
-        .ok_or("memory")?;
-    Ok(out)
+    due: &str,
+) -> Option<bool> {
+    let lines = heard(alloc, row, has_parent, news)?;
+    Some(are(lines.as_slice(), due))
 }
 
-/// Whether the lines behind the first are these.
-fn are(lines: &Texts, wanted: &[&str]) -> bool {
-    let same = lines
-        .as_slice()
-        .iter()
-        .skip(1)
-        .zip(wanted)
-        .all(|(line, wanted)| line.as_str() == *wanted);
-    same && lines.len() == wanted.len() + 1
-}
-
-/// The lines of an item where its parent is known or not.
-fn item_heard(
-    rt: &HostRuntime,
-    row: Option<&Row>,
-    has_parent: bool,
-    item: Item,
-) -> Result<Texts, Fail> {
-    let news = News::Item(item);
-    heard(rt, row, has_parent, &news)
-}
-
-/// The lines of what is told, where `/a` has this row or none.
-fn told_lines(
-    rt: &HostRuntime,
-    row: Option<&Row>,
-    has_parent: bool,
-    told: Told,
-) -> Result<Texts, Fail> {
-    if let Told::Item(bus, at, parent_bus, role) = told {
-        return item_heard(rt, row, has_parent, item_of(rt, bus, at, parent_bus, role)?);
-    }
-    match news_of_text(rt, told)? {
-        Some(news) => heard(rt, row, has_parent, &news),
-        None => plain_heard(rt, row, has_parent, told),
-    }
-}
-
-fn plain_heard(
-    rt: &HostRuntime,
-    row: Option<&Row>,
-    has_parent: bool,
-    told: Told,
-) -> Result<Texts, Fail> {
-    let news = plain_news(rt, told)?;
-    heard(rt, row, has_parent, &news)
-}
-
-/// Whether just these lines are spoken at what is told, where `/a` is known so, and an item's parent too.
-fn speaks(rt: &HostRuntime, known: Known, told: Told, wanted: &[&str]) -> Result<bool, Fail> {
-    let row = row_of(rt, known)?;
-    Ok(are(&told_lines(rt, Some(&row), true, told)?, wanted))
-}
-
-/// The same where `/a` is not known.
-fn speaks_of_unknown(
-    rt: &HostRuntime,
-    has_parent: bool,
-    told: Told,
-    wanted: &[&str],
-) -> Result<bool, Fail> {
-    Ok(are(&told_lines(rt, None, has_parent, told)?, wanted))
-}
-
-#[test]
-fn the_focus_is_spoken_with_name_role_and_states(rt: HostRuntime) -> Result<(), Fail> {
-    let focus = Told::State(12, true);
-    assert!(rt; speaks(&rt, ("File", 33, 0), focus, &["File, menu"])?);
-    assert!(rt;
-        speaks(
-            &rt,
-            ("Wrap", 8, 1 << 41),
-            focus,
-            &["Wrap, check menu item, not checked"]
-        )?
-    );
-    let states = 1 << 41 | 1 << 4 | 1 << 9 | 1 << 20 | 1 << 23;
-    assert!(rt;
-        speaks(
-            &rt,
-            ("", 8, states),
-            focus,
-            &["check menu item, checked, collapsed, selected, pressed"]
-        )?
-    );
-    assert!(rt; speaks_of_unknown(&rt, false, focus, &[])?);
-    assert!(rt; speaks(&rt, ("File", 33, 0), Told::State(12, false), &[])?);
-    Ok(())
-}
-
-#[test]
-fn states_of_the_focus_are_spoken(rt: HostRuntime) -> Result<(), Fail> {
-    let node = ("Wrap", 8, FOCUSED);
-    assert!(rt; speaks(&rt, node, Told::State(4, true), &["checked"])?);
-    assert!(rt; speaks(&rt, node, Told::State(4, false), &["not checked"])?);
-    assert!(rt; speaks(&rt, node, Told::State(10, true), &["expanded"])?);
-    assert!(rt; speaks(&rt, node, Told::State(10, false), &["collapsed"])?);
-    assert!(rt; speaks(&rt, node, Told::State(20, true), &["pressed"])?);
-    assert!(rt; speaks(&rt, node, Told::State(20, false), &["not pressed"])?);
-    assert!(rt; speaks(&rt, node, Told::State(23, true), &["selected"])?);
-    assert!(rt; speaks(&rt, node, Told::State(23, false), &["not selected"])?);
-    Ok(())
-}
-
-#[test]
-fn other_states_and_nodes_are_silent(rt: HostRuntime) -> Result<(), Fail> {
-    for state in [0, 9, 41, 43, 63, 64, 255] {
-        assert!(rt; speaks(&rt, ("Wrap", 8, FOCUSED), Told::State(state, true), &[])?);
-    }
-    for state in 0..64 {
-        if state != 12 {
-            assert!(rt; speaks(&rt, ("Wrap", 8, 0), Told::State(state, true), &[])?);
+/// Whether just that is spoken at a news, where `/a` is known as is spelled and an item's parent too, where `/a` is not known (`unknown`), or where neither
+/// is (`nobody`).
+fn speaks(alloc: Global, known: &str, news: &News, due: &str) -> Option<bool> {
+    match known {
+        "unknown" => is_spoken(alloc, None, true, news, due),
+        "nobody" => is_spoken(alloc, None, false, news, due),
+        _ => {
+            let row = row_of(alloc, known)?;
+            is_spoken(alloc, Some(&row), true, news, due)
         }
     }
-    Ok(())
 }
 
-#[test]
-fn names_and_texts_of_the_focus_are_spoken(rt: HostRuntime) -> Result<(), Fail> {
-    let node = ("Find", 79, FOCUSED);
-    let secret = ("Password", 40, FOCUSED);
-    assert!(rt; speaks(&rt, node, Told::Name("New"), &["New"])?);
-    assert!(rt; speaks(&rt, node, Told::Name(""), &[])?);
-    assert!(rt; speaks(&rt, node, Told::Inserted("né"), &["typed: né"])?);
-    assert!(rt; speaks(&rt, secret, Told::Inserted("né"), &["typed: 2 characters"])?);
-    assert!(rt; speaks(&rt, node, Told::Deleted("é"), &["deleted: é"])?);
-    assert!(rt; speaks(&rt, secret, Told::Deleted("é"), &["deleted: 1 characters"])?);
-    Ok(())
+/// Whether just that is spoken which a row says: what is known, the news, and behind ` => ` the line.
+fn holds(alloc: Global, row: &str) -> Option<bool> {
+    let (asked, due) = row.split_once(" => ")?;
+    let (known, spelled) = asked.split_once(' ')?;
+    let news = news_of(alloc, spelled)?;
+    speaks(alloc, known, &news, due)
 }
 
-#[test]
-fn names_and_texts_elsewhere_are_silent(rt: HostRuntime) -> Result<(), Fail> {
-    for told in [Told::Name("New"), Told::Inserted("né"), Told::Deleted("é")] {
-        assert!(rt; speaks(&rt, ("Find", 79, 0), told, &[])?);
-        assert!(rt; speaks_of_unknown(&rt, true, told, &[])?);
+/// Just that is spoken which each row says.
+fn try_rows(rt: &impl Abort, alloc: Global, rows: &str) {
+    for row in rows.lines() {
+        assert!(rt; holds(alloc, row) == Some(true), "{row}");
     }
-    Ok(())
+}
+
+/// The focus comes and goes: the states are checkable (bit 41), and that with checked, collapsible, pressed and selected.
+const FOCUS: &str = "\
+File,33,0 on 12 => File, menu
+Wrap,8,2199023255552 on 12 => Wrap, check menu item, not checked
+,8,2199032693264 on 12 => check menu item, checked, collapsed, selected, pressed
+nobody on 12 => -
+File,33,0 off 12 => -";
+
+#[test]
+fn the_focus_is_spoken_with_name_role_and_states(rt: HostRuntime) {
+    try_rows(&rt, rt.alloc(), FOCUS);
+}
+
+/// States of a node that has the focus.
+const STATES: &str = "\
+Wrap,8,4096 on 4 => checked
+Wrap,8,4096 off 4 => not checked
+Wrap,8,4096 on 10 => expanded
+Wrap,8,4096 off 10 => collapsed
+Wrap,8,4096 on 20 => pressed
+Wrap,8,4096 off 20 => not pressed
+Wrap,8,4096 on 23 => selected
+Wrap,8,4096 off 23 => not selected
+Wrap,8,4096 on 0 => -
+Wrap,8,4096 on 9 => -
+Wrap,8,4096 on 41 => -
+Wrap,8,4096 on 43 => -
+Wrap,8,4096 on 63 => -
+Wrap,8,4096 on 64 => -
+Wrap,8,4096 on 255 => -";
+
+#[test]
+fn states_of_the_focus_are_spoken(rt: HostRuntime) {
+    try_rows(&rt, rt.alloc(), STATES);
+}
+
+/// Whether nothing is spoken where a state of a node without the focus is on.
+fn is_silent(alloc: Global, state: u8) -> Option<bool> {
+    let news = state_news(alloc, state, true)?;
+    speaks(alloc, "Wrap,8,0", &news, "-")
 }
 
 #[test]
-fn new_alerts_are_spoken(rt: HostRuntime) -> Result<(), Fail> {
-    let alert = Told::Item(":1.7", "/b", ":1.7", 2);
-    assert!(rt; speaks_of_unknown(&rt, true, alert, &["alert: Saved"])?);
-    assert!(rt; speaks_of_unknown(&rt, false, alert, &[])?);
-    assert!(rt; speaks(&rt, ("Saved", 2, FOCUSED), alert, &[])?);
-    let notification = Told::Item(":1.7", "/b", ":1.7", 101);
-    assert!(rt; speaks_of_unknown(&rt, true, notification, &["alert: Saved"])?);
-    for silent in [
-        Told::Item(":1.7", "/b", ":1.7", 3),
-        Told::Item(":1.8", "/b", ":1.7", 2),
-        Told::Item(":1.7", "/b", ":1.8", 2),
-        Told::Item(":1.7", "/r", ":1.7", 2),
-    ] {
-        assert!(rt; speaks_of_unknown(&rt, true, silent, &[])?);
+fn states_of_other_nodes_are_silent(rt: HostRuntime) {
+    for state in 0..64 {
+        if state != 12 {
+            assert!(rt; is_silent(rt.alloc(), state) == Some(true), "state {state}");
+        }
     }
-    Ok(())
+}
+
+/// Names and texts of a node that has the focus, of a password, and of other nodes.
+const TEXTS: &str = "\
+Find,79,4096 name New => New
+Find,79,4096 name => -
+Find,79,4096 inserted né => typed: né
+Password,40,4096 inserted né => typed: 2 characters
+Find,79,4096 deleted é => deleted: é
+Password,40,4096 deleted é => deleted: 1 characters
+Find,79,0 name New => -
+unknown name New => -
+Find,79,0 inserted né => -
+unknown inserted né => -
+Find,79,0 deleted é => -
+unknown deleted é => -";
+
+#[test]
+fn names_and_texts_of_the_focus_are_spoken(rt: HostRuntime) {
+    try_rows(&rt, rt.alloc(), TEXTS);
+}
+
+/// New alerts and notifications of a parent that is known; then another role, other applications, and the root.
+const ALERTS: &str = "\
+unknown item :1.7 /b :1.7 2 => alert: Saved
+nobody item :1.7 /b :1.7 2 => -
+Saved,2,4096 item :1.7 /b :1.7 2 => -
+unknown item :1.7 /b :1.7 101 => alert: Saved
+unknown item :1.7 /b :1.7 3 => -
+unknown item :1.8 /b :1.7 2 => -
+unknown item :1.7 /b :1.8 2 => -
+unknown item :1.7 /r :1.7 2 => -";
+
+#[test]
+fn new_alerts_are_spoken(rt: HostRuntime) {
+    try_rows(&rt, rt.alloc(), ALERTS);
+}
+
+/// Other news of a node that has the focus.
+const OTHERS: &str = "\
+Find,2,4096 removed => -
+Find,2,4096 child-added => -
+Find,2,4096 description x => -
+Find,2,4096 role => -
+Find,2,4096 caret => -
+Find,2,4096 nothing => -";
+
+#[test]
+fn other_news_are_silent(rt: HostRuntime) {
+    try_rows(&rt, rt.alloc(), OTHERS);
+}
+
+/// Whether this is spoken at the end of an application with that name, or none.
+fn closes(alloc: Global, name: Option<&Text>, due: &str) -> Option<bool> {
+    let line = closing_line(alloc, name).ok()?;
+    Some(line.as_str() == due)
 }
 
 #[test]
-fn other_news_are_silent(rt: HostRuntime) -> Result<(), Fail> {
-    for told in [
-        Told::Removed,
-        Told::ChildAdded,
-        Told::Description,
-        Told::Role,
-        Told::Caret,
-        Told::Nothing,
-    ] {
-        assert!(rt; speaks(&rt, ("Find", 2, FOCUSED), told, &[])?);
-    }
-    Ok(())
-}
-
-#[test]
-fn an_end_is_spoken(rt: HostRuntime) -> Result<(), Fail> {
-    let root = row_of(&rt, ("Demo", 75, 0))?;
-    let line = closing_line(rt.alloc(), Some(&root.name))
-        .ok()
-        .ok_or("memory")?;
-    assert_eq!(rt; line.as_str(), "Demo, closed");
-    let line = closing_line(rt.alloc(), None).ok().ok_or("memory")?;
-    assert_eq!(rt; line.as_str(), ", closed");
-    Ok(())
+fn an_end_is_spoken(rt: HostRuntime) {
+    let name = text(rt.alloc(), "Demo").expect(&rt, "a name");
+    assert!(rt; closes(rt.alloc(), Some(&name), "Demo, closed") == Some(true));
+    assert!(rt; closes(rt.alloc(), None, ", closed") == Some(true));
 }

@@ -68,8 +68,9 @@ fn are_texts(fields: &mut Fields) -> Option<bool> {
 
 #[test]
 fn texts_lie_where_they_were_passed(rt: HostRuntime) {
-    let mut fields = body(b"sou", b"\x02\0\0\0\xc3\xa9\0\0\x02\0\0\0/a\0\0\x05\0\0\0")
-        .expect(&rt, "a body");
+    let mut fields = body(b"sou", b"\x02\0\0\0\xc3\xa9\0\0\x02\0\0\0/a\0\0\x05\0\0\0").expect(
+        &rt, "a body",
+    );
     assert!(rt; are_texts(&mut fields) == Some(true));
 }
 
@@ -128,8 +129,9 @@ fn are_in_place(fields: &mut Fields) -> Option<bool> {
 #[test]
 fn variants_signatures_and_bytes_lie_in_place(rt: HostRuntime) {
     // A variant of a number, whose value is at 4; a signature; three bytes, whose length is at 12.
-    let mut fields = body(b"vgay", b"\x01u\0\0\x09\0\0\0\x01s\0\0\x03\0\0\0abc")
-        .expect(&rt, "a body");
+    let mut fields = body(b"vgay", b"\x01u\0\0\x09\0\0\0\x01s\0\0\x03\0\0\0abc").expect(
+        &rt, "a body",
+    );
     assert!(rt; are_in_place(&mut fields) == Some(true));
 }
 
@@ -140,7 +142,8 @@ fn is_entry(entry: Entry, key: u8, value: u32) -> bool {
 
 /// Whether the entries are of a byte and a number each, as their types say, and end behind the second.
 fn are_two_entries(entries: &mut Entries) -> Option<bool> {
-    let types = entries.key_type().codes() == b"y".as_slice() && entries.value_type().codes() == b"u".as_slice();
+    let types = entries.key_type().codes() == b"y".as_slice()
+        && entries.value_type().codes() == b"u".as_slice();
     let first = is_entry(entries.next()?, 1, 9);
     let second = is_entry(entries.next()?, 2, 10);
     let ended = entries.next().is_none() && entries.next().is_none();

@@ -1,5 +1,4 @@
 //! Tests of what calls ask of an application's objects, through public calls alone.
 
 mod asking;
-mod calls;
 mod paths;

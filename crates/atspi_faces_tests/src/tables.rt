@@ -1,316 +1,280 @@
-//! Calls and their answers in tables, which every face of a kind goes through.
+//! Calls and their answers as rows of a text, which every face of a kind goes through.
 
-use atspi_base::{Marks, NoMemory, Text, TextFault, Texts};
+use atspi_base::{Marks, Text, Texts};
 use atspi_face::{Change, Face, FaceData, FaceKind};
 use atspi_face_guarded::{caret, change, marks, part, put};
 use std::alloc::Global;
 use std::process::Abort;
-use std::test::Fail;
 
 /// The node that the calls are about.
 const NODE: u32 = 7;
 
-/// A call and the answer that is wanted.
+/// What spells a call and its answer: a word, up to three numbers, and what stands behind `|`.
 #[derive(Clone, Copy)]
-pub enum Call<'a> {
-    /// Opens the node with a text, its caret and one text selection from 1 to 3.
-    Open(&'a str, u32),
-    /// As Open, refused because the node is here.
-    OpenAgain(&'a str),
-    /// Opens another node with a text.
-    Other(u32, &'a str),
-    Insert(u32, &'a str),
-    Delete(u32, u32),
-    SetCaret(u32),
-    /// Sets so many text selections, the one at i from i to i + 1.
-    Select(u32),
-    /// A deletion, and a caret, that may not be made.
-    NoDelete(u32, u32),
-    NoCaret(u32),
-    /// The node's text from a place up to another.
-    Part(u32, u32, &'a str),
-    Count(u32),
-    Caret(u32),
-    /// How many text selections there are, and the last of them.
-    Selections(usize, Option<(u32, u32)>),
-    /// The next node from one on.
-    Next(u32, Option<u32>),
-    Close(u32),
-    /// Opens a node with so many characters, columns or actions, whichever the face keeps.
-    Alike(u32, u32),
-    /// As Alike, refused because the node is here.
-    AlikeAgain(u32, u32),
-    /// The face keeps contents of that kind.
-    Kind(FaceKind),
-    /// Opens the node with actions, whose names stand between spaces.
-    Actions(&'a str),
-    /// There is no such part.
-    NoPart(u32, u32),
+struct Row<'a> {
+    word: &'a str,
+    first: Option<u32>,
+    second: Option<u32>,
+    third: Option<u32>,
+    text: &'a str,
+}
+
+/// The number that a word spells.
+fn number(word: Option<&str>) -> Option<u32> {
+    word?.parse::<u32>().ok()
+}
+
+/// The row of a line.
+fn row_of(line: &str) -> Row<'_> {
+    let (front, text) = line.split_once('|').unwrap_or((line, ""));
+    let mut words = front.split(' ');
+    Row {
+        word: words.next().unwrap_or(""),
+        first: number(words.next()),
+        second: number(words.next()),
+        third: number(words.next()),
+        text,
+    }
 }
 
 /// A text of at most 8 MiB.
-pub fn text(alloc: Global, chars: &[u8]) -> Result<Text, TextFault> {
+fn text(alloc: Global, chars: &[u8]) -> Option<Text> {
     if 8_388_608 < chars.len() {
-        return Err(TextFault::NoMemory);
+        return None;
     }
-    Text::read(alloc, chars)
+    Text::read(alloc, chars).ok()
 }
 
-/// Goes through a table.
-pub fn run(
-    rt: &impl Abort,
-    alloc: Global,
-    face: &mut Box<dyn Face>,
-    calls: &[Call],
-) -> Result<(), Fail> {
-    for call in calls {
-        step(rt, alloc, face, *call)?;
-    }
-    Ok(())
-}
-
-/// Makes one call and looks at its answer.
-fn step(rt: &impl Abort, alloc: Global, face: &mut Box<dyn Face>, call: Call) -> Result<(), Fail> {
-    match call {
-        Call::Open(chars, at) => open(alloc, face, chars, at),
-        Call::OpenAgain(chars) => open_again(rt, alloc, face, chars),
-        Call::Other(node, chars) => other(alloc, face, node, chars),
-        Call::Insert(at, chars) => insert(rt, alloc, face, at, chars),
-        Call::Delete(at, len) => changes(rt, face, &Change::Delete { at, len }, true),
-        Call::SetCaret(to) => changes(rt, face, &Change::Caret(to), true),
-        Call::Select(n) => select(rt, alloc, face, n),
-        Call::NoDelete(at, len) => changes(rt, face, &Change::Delete { at, len }, false),
-        Call::NoCaret(to) => changes(rt, face, &Change::Caret(to), false),
-        Call::Part(from, to, wanted) => expect_part(rt, face, from, to, wanted),
-        Call::Count(wanted) => expect_count(rt, face, wanted),
-        Call::Caret(wanted) => expect_caret(rt, face, wanted),
-        Call::Selections(len, last) => expect_selections(rt, face, len, last),
-        Call::Next(from, wanted) => expect_next(rt, face, from, wanted),
-        Call::Close(node) => close(face, node),
-        Call::Alike(node, n) => alike(rt, alloc, face, node, n, true),
-        Call::AlikeAgain(node, n) => alike(rt, alloc, face, node, n, false),
-        Call::Kind(wanted) => expect_kind(rt, face, wanted),
-        Call::Actions(names) => actions(alloc, face, names),
-        Call::NoPart(from, to) => expect_no_part(rt, face, from, to),
+/// Goes through a table: each of its calls has the answer that its row says.
+pub fn run(rt: &impl Abort, alloc: Global, face: &mut Box<dyn Face>, table: &str) {
+    for line in table.lines() {
+        let holds = holds(alloc, face, row_of(line));
+        assert!(rt; holds == Some(true), "{line}");
     }
 }
 
-fn open(alloc: Global, face: &mut Box<dyn Face>, chars: &str, caret: u32) -> Result<(), Fail> {
-    let text = text(alloc, chars.as_bytes())?;
+/// Makes the call of a row. Answers whether it had the answer that is due, none for want of memory:
+/// - `open CARET|TEXT` opens the node with a text, its caret and one text selection from 1 to 3, `again|TEXT` is refused because the node is here, and
+///   `other NODE|TEXT` opens another node;
+/// - `alike NODE N` opens a node with so many characters, columns or actions, whichever the face keeps, `alike-again NODE N` is refused, and `actions|NAMES`
+///   opens the node with actions of these names;
+/// - the other words are those of changes and of what is read.
+fn holds(alloc: Global, face: &mut Box<dyn Face>, row: Row<'_>) -> Option<bool> {
+    match row.word {
+        "open" => opens(alloc, face, row.first?, row.text.as_bytes()),
+        "again" => Some(!opens_plain(alloc, face, NODE, row.text)?),
+        "other" => opens_plain(alloc, face, row.first?, row.text),
+        "alike" => opens_alike(alloc, face, row.first?, row.second?),
+        "alike-again" => Some(!opens_alike(alloc, face, row.first?, row.second?)?),
+        "actions" => opens_actions(alloc, face, row.text),
+        _ => changes(alloc, face, row),
+    }
+}
+
+/// The same of changes: `insert AT|TEXT`, `delete AT LEN`, `move TO` of the caret, `select N` for so many text selections, the one at i from i to i + 1,
+/// `no-delete AT LEN` and `no-move TO`, which may not be made, and `close NODE`.
+fn changes(alloc: Global, face: &mut Box<dyn Face>, row: Row<'_>) -> Option<bool> {
+    match row.word {
+        "insert" => inserts(alloc, face, row.first?, row.text),
+        "delete" => deletes(face, row.first?, row.second?),
+        "no-delete" => Some(!deletes(face, row.first?, row.second?)?),
+        "move" => moves(face, row.first?),
+        "no-move" => Some(!moves(face, row.first?)?),
+        "select" => selects(alloc, face, row.first?),
+        "close" => {
+            face.drop_node(row.first?);
+            Some(true)
+        }
+        _ => reads(face, row),
+    }
+}
+
+/// The same of what is read: `part FROM TO|TEXT`, `no-part FROM TO`, `count N`, `caret AT`, `marks N FROM TO` for how many text selections there are and the
+/// last of them, `next FROM NODE` for the next node from one on, `-` for none, and `kind|KIND`.
+fn reads(face: &Box<dyn Face>, row: Row<'_>) -> Option<bool> {
+    match row.word {
+        "part" => has_part(face, row.first?, row.second?, row.text),
+        "no-part" => has_no_part(face, row.first?, row.second?),
+        "count" => Some(face.count(NODE) == row.first?),
+        "caret" => Some(caret(face, NODE) == Some(row.first?)),
+        "marks" => has_marks(face, row),
+        "next" => Some(face.next_node(row.first?) == row.second),
+        "kind" => Some(face.kind() == kind_of(row.text)?),
+        _ => None,
+    }
+}
+
+/// A list of one text selection.
+fn one_mark(alloc: Global) -> Option<Marks> {
     let mut marks = Marks::new(alloc);
-    marks.push((1, 3))?;
-    match put(face, NODE, FaceData::Chars { text, caret, marks }) {
-        Ok(()) => Ok(()),
-        Err(_) => Err(Fail::from(NoMemory)),
-    }
+    marks.push((1, 3)).ok()?;
+    Some(marks)
 }
 
-fn open_again(
-    rt: &impl Abort,
-    alloc: Global,
-    face: &mut Box<dyn Face>,
-    chars: &str,
-) -> Result<(), Fail> {
+/// Opens the node with a text, its caret and one text selection. Answers whether it was done.
+fn opens(alloc: Global, face: &mut Box<dyn Face>, caret: u32, chars: &[u8]) -> Option<bool> {
+    let marks = one_mark(alloc)?;
+    let text = text(alloc, chars)?;
+    Some(put(face, NODE, FaceData::Chars { text, caret, marks }).is_ok())
+}
+
+/// Opens a node with a text. Answers whether it was done.
+fn opens_plain(alloc: Global, face: &mut Box<dyn Face>, node: u32, chars: &str) -> Option<bool> {
+    let what = FaceData::Chars {
+        text: text(alloc, chars.as_bytes())?,
+        caret: 0,
+        marks: Marks::new(alloc),
+    };
+    Some(put(face, node, what).is_ok())
+}
+
+/// Inserts a text. Answers whether it was done.
+fn inserts(alloc: Global, face: &mut Box<dyn Face>, at: u32, chars: &str) -> Option<bool> {
     let text = text(alloc, chars.as_bytes())?;
-    let marks = Marks::new(alloc);
-    let caret = 0;
-    let refused = put(face, NODE, FaceData::Chars { text, caret, marks }).is_err();
-    assert!(rt; refused);
-    Ok(())
+    change(face, NODE, &Change::Insert { at, text }).ok()
 }
 
-fn other(alloc: Global, face: &mut Box<dyn Face>, node: u32, chars: &str) -> Result<(), Fail> {
-    let text = text(alloc, chars.as_bytes())?;
-    let marks = Marks::new(alloc);
-    let caret = 0;
-    match put(face, node, FaceData::Chars { text, caret, marks }) {
-        Ok(()) => Ok(()),
-        Err(_) => Err(Fail::from(NoMemory)),
-    }
+/// Deletes so many characters. Answers whether it was done.
+fn deletes(face: &mut Box<dyn Face>, at: u32, len: u32) -> Option<bool> {
+    change(face, NODE, &Change::Delete { at, len }).ok()
 }
 
-fn changes(
-    rt: &impl Abort,
-    face: &mut Box<dyn Face>,
-    what: &Change,
-    wanted: bool,
-) -> Result<(), Fail> {
-    let made = change(face, NODE, what)?;
-    assert_eq!(rt; made, wanted);
-    Ok(())
+/// Moves the caret. Answers whether it was done.
+fn moves(face: &mut Box<dyn Face>, to: u32) -> Option<bool> {
+    change(face, NODE, &Change::Caret(to)).ok()
 }
 
-fn insert(
-    rt: &impl Abort,
-    alloc: Global,
-    face: &mut Box<dyn Face>,
-    at: u32,
-    chars: &str,
-) -> Result<(), Fail> {
-    let text = text(alloc, chars.as_bytes())?;
-    changes(rt, face, &Change::Insert { at, text }, true)
-}
-
-fn select(rt: &impl Abort, alloc: Global, face: &mut Box<dyn Face>, n: u32) -> Result<(), Fail> {
+/// Sets so many text selections. Answers whether it was done.
+fn selects(alloc: Global, face: &mut Box<dyn Face>, n: u32) -> Option<bool> {
     let mut ranges = Marks::new(alloc);
     for i in 0..n {
-        ranges.push((i, i.saturating_add(1)))?;
+        ranges.push((i, i.saturating_add(1))).ok()?;
     }
-    changes(rt, face, &Change::Marks(ranges), true)
+    change(face, NODE, &Change::Marks(ranges)).ok()
 }
 
-fn expect_part(
-    rt: &impl Abort,
-    face: &Box<dyn Face>,
-    from: u32,
-    to: u32,
-    wanted: &str,
-) -> Result<(), Fail> {
-    match part(face, NODE, from, to)? {
-        Some(text) => assert_eq!(rt; text.as_str(), wanted),
-        None => assert!(rt; false, "no part"),
+/// Whether the node's text from a place up to another is this.
+fn has_part(face: &Box<dyn Face>, from: u32, to: u32, due: &str) -> Option<bool> {
+    match part(face, NODE, from, to) {
+        Ok(Some(text)) => Some(text.as_str() == due),
+        _ => None,
     }
-    Ok(())
 }
 
-fn expect_count(rt: &impl Abort, face: &Box<dyn Face>, wanted: u32) -> Result<(), Fail> {
-    assert_eq!(rt; face.count(NODE), wanted);
-    Ok(())
-}
-
-fn expect_caret(rt: &impl Abort, face: &Box<dyn Face>, wanted: u32) -> Result<(), Fail> {
-    assert_eq!(rt; caret(face, NODE), Some(wanted));
-    Ok(())
-}
-
-fn expect_selections(
-    rt: &impl Abort,
-    face: &Box<dyn Face>,
-    len: usize,
-    last: Option<(u32, u32)>,
-) -> Result<(), Fail> {
-    match marks(face, NODE)? {
-        Some(found) => {
-            assert_eq!(rt; found.len(), len);
-            assert_eq!(rt; found.as_slice().last().copied(), last);
-        }
-        None => assert!(rt; false, "no text"),
+/// Whether there is no such part.
+fn has_no_part(face: &Box<dyn Face>, from: u32, to: u32) -> Option<bool> {
+    match part(face, NODE, from, to) {
+        Ok(found) => Some(found.is_none()),
+        Err(_) => None,
     }
-    Ok(())
 }
 
-fn expect_next(
-    rt: &impl Abort,
-    face: &Box<dyn Face>,
-    from: u32,
-    wanted: Option<u32>,
-) -> Result<(), Fail> {
-    assert_eq!(rt; face.next_node(from), wanted);
-    Ok(())
-}
-
-fn close(face: &mut Box<dyn Face>, node: u32) -> Result<(), Fail> {
-    face.drop_node(node);
-    Ok(())
-}
-
-/// A text of 1,048,576 equal characters, which takes one more: a face has no limit of its own.
-pub fn longest(
-    rt: &impl Abort,
-    alloc: Global,
-    face: &mut Box<dyn Face>,
-    unit: &str,
-) -> Result<(), Fail> {
-    let mut bytes = unit.as_bytes().to_vec(alloc)?;
-    for _ in 0..20usize {
-        let half = bytes.as_slice().to_vec(alloc)?;
-        bytes.extend_from_slice(&half)?;
+/// Whether there are as many text selections as the row says, and the last of them is the one that it says.
+fn has_marks(face: &Box<dyn Face>, row: Row<'_>) -> Option<bool> {
+    match marks(face, NODE) {
+        Ok(Some(found)) => are_marks(found.as_slice(), row),
+        _ => None,
     }
-    let long = text(alloc, &bytes)?;
-    open(alloc, face, long.as_str(), 1_048_576)?;
-    run(
-        rt,
-        alloc,
-        face,
-        &[
-            Call::Count(1_048_576),
-            Call::Caret(1_048_576),
-            Call::Part(524_288, 524_289, unit),
-            Call::Insert(524_288, "!"),
-            Call::Count(1_048_577),
-            Call::Part(524_288, 524_289, "!"),
-            Call::Part(1_048_576, 1_048_577, unit),
-            Call::Delete(524_288, 1),
-            Call::Count(1_048_576),
-            Call::Part(1_048_575, 1_048_576, unit),
-        ],
-    )
 }
 
-/// Opens a node with contents of the face's kind, where that is wanted to be done.
-fn alike(
-    rt: &impl Abort,
-    alloc: Global,
-    face: &mut Box<dyn Face>,
-    node: u32,
-    n: u32,
-    wanted: bool,
-) -> Result<(), Fail> {
+/// The same of a list.
+fn are_marks(found: &[(u32, u32)], row: Row<'_>) -> Option<bool> {
+    if found.len() != row.first? as usize {
+        return Some(false);
+    }
+    match found.last() {
+        Some((from, to)) => Some(Some(*from) == row.second && Some(*to) == row.third),
+        None => Some(row.second.is_none()),
+    }
+}
+
+/// The kind of a name.
+fn kind_of(name: &str) -> Option<FaceKind> {
+    match name {
+        "chars" => Some(FaceKind::Chars),
+        "grid" => Some(FaceKind::Grid),
+        "deeds" => Some(FaceKind::Deeds),
+        _ => None,
+    }
+}
+
+/// Opens a node with contents of the face's kind. Answers whether it was done.
+fn opens_alike(alloc: Global, face: &mut Box<dyn Face>, node: u32, n: u32) -> Option<bool> {
     let what = contents(alloc, face.kind(), n)?;
-    let done = put(face, node, what).is_ok();
-    if wanted && !done {
-        return Err(Fail::from(NoMemory));
-    }
-    assert_eq!(rt; done, wanted);
-    Ok(())
+    Some(put(face, node, what).is_ok())
 }
 
 /// Contents of a kind: so many characters of two bytes, columns, or actions.
-fn contents(alloc: Global, kind: FaceKind, n: u32) -> Result<FaceData, Fail> {
+fn contents(alloc: Global, kind: FaceKind, n: u32) -> Option<FaceData> {
     match kind {
         FaceKind::Chars => chars(alloc, n),
-        FaceKind::Grid => Ok(FaceData::Grid(n)),
+        FaceKind::Grid => Some(FaceData::Grid(n)),
         FaceKind::Deeds => deeds(alloc, n),
     }
 }
 
-fn chars(alloc: Global, n: u32) -> Result<FaceData, Fail> {
+fn chars(alloc: Global, n: u32) -> Option<FaceData> {
     let mut bytes = Vec::new(alloc);
     for _ in 0..n {
-        bytes.extend_from_slice("ß".as_bytes())?;
+        bytes.extend_from_slice("ß".as_bytes()).ok()?;
     }
-    let text = text(alloc, &bytes)?;
-    let marks = Marks::new(alloc);
-    let caret = 0;
-    Ok(FaceData::Chars { text, caret, marks })
+    Some(FaceData::Chars {
+        text: text(alloc, &bytes)?,
+        caret: 0,
+        marks: Marks::new(alloc),
+    })
 }
 
-fn deeds(alloc: Global, n: u32) -> Result<FaceData, Fail> {
+fn deeds(alloc: Global, n: u32) -> Option<FaceData> {
     let mut names = Texts::new(alloc);
     for _ in 0..n {
-        names.push(text(alloc, "click".as_bytes())?)?;
+        names.push(text(alloc, b"click")?).ok()?;
     }
-    Ok(FaceData::Deeds(names))
+    Some(FaceData::Deeds(names))
 }
 
-fn expect_kind(rt: &impl Abort, face: &Box<dyn Face>, wanted: FaceKind) -> Result<(), Fail> {
-    assert_eq!(rt; face.kind(), wanted);
-    Ok(())
-}
-
-fn actions(alloc: Global, face: &mut Box<dyn Face>, names: &str) -> Result<(), Fail> {
+/// Opens the node with actions, whose names stand between blanks. Answers whether it was done.
+fn opens_actions(alloc: Global, face: &mut Box<dyn Face>, names: &str) -> Option<bool> {
     let mut list = Texts::new(alloc);
     for name in names.split(' ') {
-        list.push(text(alloc, name.as_bytes())?)?;
+        list.push(text(alloc, name.as_bytes())?).ok()?;
     }
-    match put(face, NODE, FaceData::Deeds(list)) {
-        Ok(()) => Ok(()),
-        Err(_) => Err(Fail::from(NoMemory)),
-    }
+    Some(put(face, NODE, FaceData::Deeds(list)).is_ok())
 }
 
-fn expect_no_part(rt: &impl Abort, face: &Box<dyn Face>, from: u32, to: u32) -> Result<(), Fail> {
-    let none = part(face, NODE, from, to)?.is_none();
-    assert!(rt; none);
-    Ok(())
+/// 1,048,576 equal characters.
+fn long(alloc: Global, unit: &str) -> Option<Vec<u8>> {
+    let mut bytes = unit.as_bytes().to_vec(alloc).ok()?;
+    for _ in 0..20usize {
+        let half = bytes.as_slice().to_vec(alloc).ok()?;
+        bytes.extend_from_slice(&half).ok()?;
+    }
+    Some(bytes)
+}
+
+/// Opens the node with the longest text, and the caret behind it. Answers whether it was done.
+fn opens_long(alloc: Global, face: &mut Box<dyn Face>, unit: &str) -> Option<bool> {
+    let bytes = long(alloc, unit)?;
+    opens(alloc, face, 1_048_576, bytes.as_slice())
+}
+
+/// A text of 1,048,576 equal characters, which takes one more: a face has no limit of its own.
+pub fn longest(rt: &impl Abort, alloc: Global, face: &mut Box<dyn Face>, unit: &str) {
+    assert!(rt; opens_long(alloc, face, unit) == Some(true));
+    let table = format!(in alloc;
+        "\
+count 1048576
+caret 1048576
+part 524288 524289|{unit}
+insert 524288|!
+count 1048577
+part 524288 524289|!
+part 1048576 1048577|{unit}
+delete 524288 1
+count 1048576
+part 1048575 1048576|{unit}"
+    )
+    .ok()
+    .expect(rt, "memory");
+    run(rt, alloc, face, table.as_str());
 }

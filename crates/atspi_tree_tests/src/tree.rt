@@ -1,11 +1,10 @@
 //! Edits with their steps and refusals, the rows after them, and the limits, as the table of edits has them.
 
-ghost use Rattle.std.specs.Prelude.{◌≡◌, length, IfOk, IfSome};
+ghost use Rattle.std.specs.Prelude.{◌≡◌, length, IfSome};
 ghost use Rattle.atspi_forest.specs.Edits.{IsEdit};
-ghost use Rattle.atspi_forest.specs.RowRules.{shapes};
-ghost use Rattle.atspi_forest.specs.Tree.{AllApply};
 ghost use Rattle.atspi_edits.specs.Answers.{ReadsNone};
 
+use crate::edits::edited;
 use atspi_base::{Text, Texts};
 use atspi_edits::{EditRefused, steps_of};
 use atspi_forest::{Edit, FaceData, Seed, Step, StepList};
@@ -97,27 +96,18 @@ fn edit_of(alloc: Global, words: &str) -> Option<Edit>
 fn asked(alloc: Global, tree: &Tree, edit: &Edit) -> Result<StepList, EditRefused>
     requires lawful { IsEdit edit.now }
     requires plain { ReadsNone edit.now }
-    ensures { IfOk result (AllApply shapes tree.now.rows tree.now.added) }
 {
     steps_of(alloc, tree, edit, &FaceData::Deeds(Texts::new(alloc)))
-}
-
-/// Does the steps of an edit, and answers how many there were.
-fn edit(alloc: Global, tree: &mut Tree, edit: &Edit) -> Result<usize, EditRefused>
-    requires lawful { IsEdit edit.now }
-    requires plain { ReadsNone edit.now }
-{
-    let steps = asked(alloc, tree, edit)?;
-    for step in steps.as_slice() {
-        tree.apply(step)?;
-    }
-    Ok(steps.len())
 }
 
 /// Does the edit that words spell, and answers how many steps it had.
 fn done(alloc: Global, tree: &mut Tree, words: &str) -> Option<usize> {
     let wish = edit_of(alloc, words)?;
-    edit(alloc, tree, &wish).ok()
+    let count = asked(alloc, tree, &wish).ok()?.len();
+    if !edited(alloc, tree, &wish)? {
+        return None;
+    }
+    Some(count)
 }
 
 /// The one step of an edit in words: `add NODE PARENT INDEX NAME` or `name NODE NAME`; `nothing` where there is none.
@@ -338,8 +328,8 @@ fn adds_rich(steps: &[Step]) -> bool {
 fn begins_so(alloc: Global, tree: &mut Tree) -> Option<bool> {
     let wish = rich_insert(alloc)?;
     let adds = adds_rich(asked(alloc, tree, &wish).ok()?.as_slice());
-    edit(alloc, tree, &wish).ok()?;
-    Some(adds && tree.has(1) && tree.faces(1) == 31 && tree.role(1) == 62)
+    let taken = edited(alloc, tree, &wish)?;
+    Some(taken && adds && tree.has(1) && tree.faces(1) == 31 && tree.role(1) == 62)
 }
 
 #[test]

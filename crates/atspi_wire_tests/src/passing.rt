@@ -129,7 +129,9 @@ fn is_sent(alloc: Global, name: &BusName, bytes: &[u8], due: &[u8]) -> Option<bo
 
 #[test]
 fn a_message_is_passed_on_with_its_sender(rt: HostRuntime) {
-    let name = BusName::read(rt.alloc(), b":1.5").ok().expect(&rt, "a name");
+    let name = BusName::read(rt.alloc(), b":1.5")
+        .ok()
+        .expect(&rt, "a name");
     assert!(rt; is_sent(rt.alloc(), &name, &LITTLE, &LITTLE_PASSED) == Some(true));
     assert!(rt; is_sent(rt.alloc(), &name, &LITTLE_SENT, &LITTLE_PASSED) == Some(true));
     assert!(rt; is_sent(rt.alloc(), &name, &LITTLE_PASSED, &LITTLE_PASSED) == Some(true));

@@ -1,27 +1,33 @@
 //! Paths that name a node, and paths that nearly do.
 
 use atspi_app_calls::node_at;
-use std::process::Abort;
 use std::test::*;
+
+/// Paths, and the nodes that they name; what names none has no number.
+const PATHS: &str = "\
+/org/a11y/atspi/accessible/root => 0
+/org/a11y/atspi/accessible/1 => 1
+/org/a11y/atspi/accessible/4294967295 => 4294967295
+/org/a11y/atspi/accessible/0 => none
+/org/a11y/atspi/accessible/01 => none
+/org/a11y/atspi/accessible/4294967296 => none
+/org/a11y/atspi/accessible/1/ => none
+/org/a11y/atspi/accessible/ => none
+/org/a11y/atspi/accessible => none
+/org/a11y/atspi/accessible/rooted => none
+/org/a11y/atspi/accessible/1a => none
+/org/a11y/atspi/cache => none
+/ => none";
+
+/// Whether the path of a row names its node, or none.
+fn names(row: &str) -> Option<bool> {
+    let (path, due) = row.split_once(" => ")?;
+    Some(node_at(path) == due.parse::<u32>().ok())
+}
 
 #[test]
 fn paths_of_nodes(rt: HostRuntime) {
-    let table = [
-        ("/org/a11y/atspi/accessible/root", Some(0)),
-        ("/org/a11y/atspi/accessible/1", Some(1)),
-        ("/org/a11y/atspi/accessible/4294967295", Some(4294967295)),
-        ("/org/a11y/atspi/accessible/0", None),
-        ("/org/a11y/atspi/accessible/01", None),
-        ("/org/a11y/atspi/accessible/4294967296", None),
-        ("/org/a11y/atspi/accessible/1/", None),
-        ("/org/a11y/atspi/accessible/", None),
-        ("/org/a11y/atspi/accessible", None),
-        ("/org/a11y/atspi/accessible/rooted", None),
-        ("/org/a11y/atspi/accessible/1a", None),
-        ("/org/a11y/atspi/cache", None),
-        ("/", None),
-    ];
-    for (path, due) in table {
-        assert!(rt; node_at(path) == due, "{path}");
+    for row in PATHS.lines() {
+        assert!(rt; names(row) == Some(true), "{row}");
     }
 }

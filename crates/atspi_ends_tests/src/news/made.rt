@@ -85,20 +85,64 @@ fn values(alloc: Global, words: &str) -> Option<Bytes> {
     Some(out)
 }
 
+/// Appends a message of these fields and values. In front stand its order, its type, its flags and 1.
+fn put_message(out: &mut Bytes, front: [u8; 4], fields: &[u8], body: &[u8]) -> Option<()> {
+    out.extend(&front).ok()?;
+    put_four(out, u32::try_from(body.len()).ok()?.to_le_bytes())?;
+    put_words(out, "u=9")?;
+    put_four(out, u32::try_from(fields.len()).ok()?.to_le_bytes())?;
+    out.extend(fields).ok()?;
+    pad(out, 8)?;
+    out.extend(body).ok()
+}
+
 /// The bytes of a message of a type, with fields before its sender `:1.7`. It is spelled by the codes of its values' types, `|` and the values.
 fn message(alloc: Global, kind: u8, mut fields: Bytes, spelled: &str) -> Option<Bytes> {
     let (codes, words) = spelled.split_once('|').unwrap_or((spelled, ""));
-    let body = values(alloc, words)?;
     put_words(&mut fields, "(|b=7|v=s|s=:1.7|(|b=8|v=g")?;
     put_signature(&mut fields, codes)?;
+    let body = values(alloc, words)?;
     let mut out = Bytes::new(alloc);
-    out.extend(&[b'l', kind, 1, 1]).ok()?;
-    put_four(&mut out, u32::try_from(body.len()).ok()?.to_le_bytes())?;
-    put_words(&mut out, "u=9")?;
-    put_four(&mut out, u32::try_from(fields.len()).ok()?.to_le_bytes())?;
-    out.extend(fields.as_slice()).ok()?;
-    pad(&mut out, 8)?;
-    out.extend(body.as_slice()).ok()?;
+    put_message(
+        &mut out,
+        [b'l', kind, 1, 1],
+        fields.as_slice(),
+        body.as_slice(),
+    )?;
+    Some(out)
+}
+
+/// Appends the fields of a call of a member of `/org/a11y/atspi/accessible/7`, of an interface or, where it is a dash, of none, with values of these types.
+fn put_call(out: &mut Bytes, interface: &str, member: &str, codes: &str) -> Option<()> {
+    put_words(out, "(|b=1|v=o|s=/org/a11y/atspi/accessible/7")?;
+    if interface != "-" {
+        put_words(out, "(|b=2|v=s")?;
+        put_text(out, interface)?;
+    }
+    put_words(out, "(|b=3|v=s")?;
+    put_text(out, member)?;
+    if !codes.is_empty() {
+        put_words(out, "(|b=8|v=g")?;
+        put_signature(out, codes)?;
+    }
+    Some(())
+}
+
+/// The bytes of a call without a sender. It is spelled by its interface, a blank, its member, and behind `|` what it carries.
+pub fn call(alloc: Global, spelled: &str) -> Option<Bytes> {
+    let (names, carried) = spelled.split_once('|').unwrap_or((spelled, ""));
+    let (interface, member) = names.split_once(' ')?;
+    let (codes, words) = carried.split_once('|').unwrap_or((carried, ""));
+    let mut fields = Bytes::new(alloc);
+    put_call(&mut fields, interface, member, codes)?;
+    let body = values(alloc, words)?;
+    let mut out = Bytes::new(alloc);
+    put_message(
+        &mut out,
+        [b'l', 1, 0, 1],
+        fields.as_slice(),
+        body.as_slice(),
+    )?;
     Some(out)
 }
 

@@ -1,56 +1,38 @@
 //! Bytes that spell no line, and the first reason of each. What is due was worked out by hand.
 
 use crate::lines::forms::FORMS;
-use atspi_base::{Bytes, NoMemory};
+use atspi_base::Bytes;
 use atspi_lines::{LineFault, parse_line};
 use std::alloc::Global;
 use std::test::*;
 
 /// Why the bytes are no line, where they are none.
-fn fault(rt: &HostRuntime, bytes: &[u8]) -> Option<LineFault> {
-    parse_line(rt.alloc(), bytes).err()
+fn fault(alloc: Global, bytes: &[u8]) -> Option<LineFault> {
+    parse_line(alloc, bytes).err()
 }
 
-/// Bytes one behind another.
-fn joined(alloc: Global, parts: &[&[u8]]) -> Result<Bytes, NoMemory> {
+/// Texts one behind another.
+fn joined(alloc: Global, front: &str, middle: &str, back: &str) -> Option<Bytes> {
     let mut all = Bytes::new(alloc);
-    for part in parts {
-        all.extend(part)?;
-    }
-    Ok(all)
+    all.extend(front.as_bytes()).ok()?;
+    all.extend(middle.as_bytes()).ok()?;
+    all.extend(back.as_bytes()).ok()?;
+    Some(all)
 }
 
-/// A front, so many of one byte, and a back.
-fn filled(
-    alloc: Global,
-    front: &[u8],
-    byte: u8,
-    count: usize,
-    back: &[u8],
-) -> Result<Bytes, NoMemory> {
-    let mut all = Bytes::new(alloc);
-    all.extend(front)?;
-    for _ in 0..count {
-        all.push(byte)?;
-    }
-    all.extend(back)?;
-    Ok(all)
+/// Whether a line of three pieces is refused as out of its form.
+fn is_formless(alloc: Global, front: &str, middle: &str, back: &str) -> Option<bool> {
+    let line = joined(alloc, front, middle, back)?;
+    Some(fault(alloc, line.as_slice()) == Some(LineFault::Form))
 }
 
-/// The place of the first space, where there is one.
-fn first_space(bytes: &[u8]) -> Option<usize> {
-    bytes.iter().position(|b| *b == b' ')
-}
-
-/// The place of the last space.
-fn last_space(bytes: &[u8]) -> Option<usize> {
-    let mut last = None;
-    for (i, b) in bytes.iter().enumerate() {
-        if *b == b' ' {
-            last = Some(i);
-        }
+/// The line of a row of the forms, but for blank ones.
+fn form_of(row: &str) -> Option<&str> {
+    let (spelled, said) = row.split_once(" => ")?;
+    if said == "Blank" {
+        return None;
     }
-    last
+    Some(spelled)
 }
 
 /// Lines that are none, since one word or number is out of its form, with `|` between any two.
@@ -130,151 +112,173 @@ show r0|\
 drain\n|\
 # \u{e9}\nx drain x\u{0}y";
 
+/// Why a line that begins as a comment is refused, or any other.
+fn due_of(spelled: &str) -> Option<LineFault> {
+    if spelled.starts_with("#") {
+        return None;
+    }
+    Some(LineFault::Form)
+}
+
 #[test]
 fn words_out_of_their_form_are_refused(rt: HostRuntime) {
     for spelled in WRONG.split('|') {
-        let due = if spelled.starts_with("#") {
-            None
-        } else {
-            Some(LineFault::Form)
-        };
-        assert_eq!(rt; fault(&rt, spelled.as_bytes()), due, "line {spelled:?}");
+        let fault = fault(rt.alloc(), spelled.as_bytes());
+        assert!(rt; fault == due_of(spelled), "line {spelled:?}");
     }
 }
 
-#[test]
-fn each_form_is_refused_with_a_word_too_many(rt: HostRuntime) -> Result<(), Fail> {
-    for row in FORMS.split('\n') {
-        let (spelled, said) = row.split_once(" => ").ok_or("a row")?;
-        if said == "Blank" {
-            continue;
+/// What stands behind a line that ends before it, with `|` between any two.
+const ENDS: &str = " 7| |\r|\0|\t|\n";
+
+/// Whether a line is refused with each of these behind it, and with a blank before it.
+fn is_refused_with_more(alloc: Global, spelled: &str) -> Option<bool> {
+    for end in ENDS.split('|') {
+        if !is_formless(alloc, spelled, end, "")? {
+            return Some(false);
         }
-        let ends: [&[u8]; 6] = [b" 7", b" ", b"\r", b"\0", b"\t", b"\n"];
-        for end in ends {
-            let Ok(line) = joined(rt.alloc(), &[spelled.as_bytes(), end]) else {
-                return Err(Fail::new("out of memory"));
-            };
-            assert_eq!(rt;
-                fault(&rt, line.as_slice()),
-                Some(LineFault::Form),
-                "{spelled} and {end:?}"
+    }
+    is_formless(alloc, " ", spelled, "")
+}
+
+#[test]
+fn each_form_is_refused_with_a_word_too_many(rt: HostRuntime) {
+    for row in FORMS.split('\n') {
+        if let Some(spelled) = form_of(row) {
+            assert!(rt;
+                is_refused_with_more(rt.alloc(), spelled) == Some(true),
+                "{spelled}"
             );
         }
-        let Ok(line) = joined(rt.alloc(), &[b" ", spelled.as_bytes()]) else {
-            return Err(Fail::new("out of memory"));
-        };
-        assert_eq!(rt;
-            fault(&rt, line.as_slice()),
-            Some(LineFault::Form),
-            "a space and {spelled}"
-        );
     }
-    Ok(())
+}
+
+/// Whether a line of more than one word is refused without its last one.
+fn is_refused_without_last(alloc: Global, spelled: &str) -> Option<bool> {
+    match spelled.rsplit_once(' ') {
+        Some((front, _)) => is_formless(alloc, front, "", ""),
+        None => Some(true),
+    }
 }
 
 #[test]
-fn each_form_is_refused_without_its_last_word(rt: HostRuntime) -> Result<(), Fail> {
+fn each_form_is_refused_without_its_last_word(rt: HostRuntime) {
     for row in FORMS.split('\n') {
-        let (spelled, said) = row.split_once(" => ").ok_or("a row")?;
         // a list of which no child can be selected is a form too
-        if said == "Blank" || said.ends_with("Select") {
+        if row.ends_with("Select") {
             continue;
         }
-        let bytes = spelled.as_bytes();
-        let Some(at) = last_space(bytes) else {
-            continue;
-        };
-        let Some(front) = bytes.get(..at) else {
-            continue;
-        };
-        assert_eq!(rt;
-            fault(&rt, front),
-            Some(LineFault::Form),
-            "{spelled} without its last word"
-        );
-    }
-    Ok(())
-}
-
-#[test]
-fn each_form_is_refused_with_another_blank(rt: HostRuntime) -> Result<(), Fail> {
-    for row in FORMS.split('\n') {
-        let (spelled, said) = row.split_once(" => ").ok_or("a row")?;
-        if said == "Blank" {
-            continue;
-        }
-        let bytes = spelled.as_bytes();
-        let Some(at) = first_space(bytes) else {
-            continue;
-        };
-        let blanks: [&[u8]; 4] = [b"  ", b"\t", b"", b" \t"];
-        for blank in blanks {
-            let (Some(front), Some(back)) = (bytes.get(..at), bytes.get(at..)) else {
-                continue;
-            };
-            let Some(back) = back.get(1..) else {
-                continue;
-            };
-            let Ok(line) = joined(rt.alloc(), &[front, blank, back]) else {
-                return Err(Fail::new("out of memory"));
-            };
-            assert_eq!(rt;
-                fault(&rt, line.as_slice()),
-                Some(LineFault::Form),
-                "{spelled} with {blank:?}"
+        if let Some(spelled) = form_of(row) {
+            assert!(rt;
+                is_refused_without_last(rt.alloc(), spelled) == Some(true),
+                "{spelled}"
             );
         }
-        let Some(front) = bytes.get(..at) else {
-            continue;
-        };
-        assert_eq!(rt;
-            fault(&rt, front),
-            Some(LineFault::Form),
-            "only the first word of {spelled}"
-        );
     }
-    Ok(())
+}
+
+/// What may not stand in place of a blank, with `|` between any two.
+const BLANKS: &str = "  |\t|| \t";
+
+/// Whether a line of these two pieces is refused with each of them between, and without the second piece.
+fn is_refused_between(alloc: Global, front: &str, back: &str) -> Option<bool> {
+    for blank in BLANKS.split('|') {
+        if !is_formless(alloc, front, blank, back)? {
+            return Some(false);
+        }
+    }
+    is_formless(alloc, front, "", "")
+}
+
+/// Whether a line of more than one word is refused with another blank behind the first one.
+fn is_refused_with_another_blank(alloc: Global, spelled: &str) -> Option<bool> {
+    match spelled.split_once(' ') {
+        Some((front, back)) => is_refused_between(alloc, front, back),
+        None => Some(true),
+    }
 }
 
 #[test]
-fn long_lines_are_refused_first(rt: HostRuntime) -> Result<(), Fail> {
-    let cases: [(&[u8], u8, usize, &[u8], Option<LineFault>); 9] = [
-        (b"#", b'x', 65_535, b"", None),
-        (b"#", b'x', 65_536, b"", Some(LineFault::Long)),
-        (b"#", 255, 65_536, b"", Some(LineFault::Long)),
-        (b"app \"", b'x', 65_530, b"\"", None),
-        (b"app \"", b'x', 65_531, b"\"", Some(LineFault::Long)),
-        (b"", b'x', 65_536, b"", Some(LineFault::Form)),
-        (b"", b'x', 65_537, b"", Some(LineFault::Long)),
-        (b"", 255, 65_536, b"", Some(LineFault::NotUtf8)),
-        (b"turns ", b'0', 65_530, b"", Some(LineFault::Form)),
-    ];
-    for (front, byte, count, back, due) in cases {
-        let Ok(line) = filled(rt.alloc(), front, byte, count, back) else {
-            return Err(Fail::new("out of memory"));
-        };
-        assert_eq!(rt;
-            fault(&rt, line.as_slice()),
-            due,
-            "{front:?} and {count} of {byte}"
-        );
+fn each_form_is_refused_with_another_blank(rt: HostRuntime) {
+    for row in FORMS.split('\n') {
+        if let Some(spelled) = form_of(row) {
+            assert!(rt;
+                is_refused_with_another_blank(rt.alloc(), spelled) == Some(true),
+                "{spelled}"
+            );
+        }
     }
-    Ok(())
+}
+
+/// A front, so many of one byte, and a back, and why they are no line: the length is looked at first, then whether they are UTF-8.
+const LONG: &str = "\
+#,120,65535, => fine
+#,120,65536, => long
+#,255,65536, => long
+app \",120,65530,\" => fine
+app \",120,65531,\" => long
+,120,65536, => form
+,120,65537, => long
+,255,65536, => no UTF-8
+turns ,48,65530, => form";
+
+/// The fault that a row says; none where it is fine.
+fn fault_of(said: &str) -> Option<LineFault> {
+    match said {
+        "long" => Some(LineFault::Long),
+        "no UTF-8" => Some(LineFault::NotUtf8),
+        "form" => Some(LineFault::Form),
+        _ => None,
+    }
+}
+
+/// So many of one byte between a front and a back.
+fn filled(alloc: Global, front: &str, byte: u8, count: usize, back: &str) -> Option<Bytes> {
+    let mut all = Bytes::new(alloc);
+    all.extend(front.as_bytes()).ok()?;
+    for _ in 0..count {
+        all.push(byte).ok()?;
+    }
+    all.extend(back.as_bytes()).ok()?;
+    Some(all)
+}
+
+/// The bytes that are spelled `FRONT,BYTE,COUNT,BACK`.
+fn filled_by(alloc: Global, spelled: &str) -> Option<Bytes> {
+    let mut words = spelled.split(',');
+    let front = words.next()?;
+    let byte = words.next()?.parse::<u8>().ok()?;
+    let count = words.next()?.parse::<usize>().ok()?;
+    filled(alloc, front, byte, count, words.next()?)
+}
+
+/// Whether the bytes of a row have the fault that it says.
+fn has_fault(alloc: Global, row: &str) -> Option<bool> {
+    let (spelled, said) = row.split_once(" => ")?;
+    let line = filled_by(alloc, spelled)?;
+    Some(fault(alloc, line.as_slice()) == fault_of(said))
+}
+
+#[test]
+fn long_lines_are_refused_first(rt: HostRuntime) {
+    for row in LONG.lines() {
+        assert!(rt; has_fault(rt.alloc(), row) == Some(true), "{row}");
+    }
+}
+
+/// Whether bytes are refused since they are no UTF-8.
+fn is_no_utf8(alloc: Global, bytes: &[u8]) -> bool {
+    fault(alloc, bytes) == Some(LineFault::NotUtf8)
 }
 
 #[test]
 fn bytes_that_are_no_utf8_are_refused_next(rt: HostRuntime) {
-    let cases: [(&[u8], Option<LineFault>); 8] = [
-        (b"#\xff", Some(LineFault::NotUtf8)),
-        (b"#\xc3", Some(LineFault::NotUtf8)),
-        (b"#\xed\xa0\x80", Some(LineFault::NotUtf8)),
-        (b"#\xf4\x90\x80\x80", Some(LineFault::NotUtf8)),
-        (b"#\xf0\x9f\x98\x80 \0", None),
-        (b"app \"\xc3\x28\"", Some(LineFault::NotUtf8)),
-        (b"turns 1\xff", Some(LineFault::NotUtf8)),
-        (b"app \"\0\"", Some(LineFault::Form)),
-    ];
-    for (bytes, due) in cases {
-        assert_eq!(rt; fault(&rt, bytes), due, "reading {bytes:?}");
-    }
+    assert!(rt; is_no_utf8(rt.alloc(), b"#\xff"));
+    assert!(rt; is_no_utf8(rt.alloc(), b"#\xc3"));
+    assert!(rt; is_no_utf8(rt.alloc(), b"#\xed\xa0\x80"));
+    assert!(rt; is_no_utf8(rt.alloc(), b"#\xf4\x90\x80\x80"));
+    assert!(rt; fault(rt.alloc(), b"#\xf0\x9f\x98\x80 \0").is_none());
+    assert!(rt; is_no_utf8(rt.alloc(), b"app \"\xc3\x28\""));
+    assert!(rt; is_no_utf8(rt.alloc(), b"turns 1\xff"));
+    assert!(rt; fault(rt.alloc(), b"app \"\0\"") == Some(LineFault::Form));
 }

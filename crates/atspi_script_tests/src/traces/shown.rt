@@ -25,26 +25,46 @@ fn text_part(alloc: Global, word: &str) -> Option<Part> {
     }
 }
 
-/// A row without a description, as `PATH,ROLE,STATES,FACES,NAME,CARET,COLUMNS,TEXT`: the states and the faces as numbers.
-fn row_of(alloc: Global, spelled: &str) -> Option<Row> {
+/// The words of a row without a description, `PATH,ROLE,STATES,FACES,NAME,CARET,COLUMNS,TEXT`: the states and the faces as numbers.
+#[derive(Clone, Copy)]
+struct RowWords<'a> {
+    path: &'a str,
+    role: u32,
+    states: u64,
+    faces: u8,
+    name: &'a str,
+    caret: NumPart,
+    columns: NumPart,
+    text: &'a str,
+}
+
+/// The words of a row that is spelled.
+fn row_words(spelled: &str) -> Option<RowWords<'_>> {
     let mut words = spelled.split(',');
-    let node = path(alloc, words.next()?)?;
-    let role = number(words.next()?);
-    let states = words.next()?.parse::<u64>().ok()?;
-    let faces = words.next()?.parse::<u8>().ok()?;
-    let name = text(alloc, words.next()?)?;
-    let caret = num_part(words.next()?);
-    let columns = num_part(words.next()?);
+    Some(RowWords {
+        path: words.next()?,
+        role: number(words.next()?),
+        states: words.next()?.parse::<u64>().ok()?,
+        faces: words.next()?.parse::<u8>().ok()?,
+        name: words.next()?,
+        caret: num_part(words.next()?),
+        columns: num_part(words.next()?),
+        text: words.next()?,
+    })
+}
+
+/// The row of these words.
+fn row_of(alloc: Global, words: RowWords<'_>) -> Option<Row> {
     Some(Row {
-        path: node,
-        name,
+        path: path(alloc, words.path)?,
+        name: text(alloc, words.name)?,
         description: text(alloc, "")?,
-        role,
-        states,
-        faces,
-        text: text_part(alloc, words.next()?)?,
-        caret,
-        columns,
+        role: words.role,
+        states: words.states,
+        faces: words.faces,
+        text: text_part(alloc, words.text)?,
+        caret: words.caret,
+        columns: words.columns,
     })
 }
 
@@ -60,10 +80,12 @@ fn parent_of(alloc: Global, word: &str) -> Option<Option<Path>> {
 fn shown_row(alloc: Global, spelled: &str) -> Option<ShownRow> {
     let (parent, rest) = spelled.split_once(' ')?;
     let (index, row) = rest.split_once(' ')?;
+    let index = index.parse::<i32>().ok()?;
+    let words = row_words(row)?;
     Some(ShownRow {
         parent: parent_of(alloc, parent)?,
-        index: index.parse::<i32>().ok()?,
-        row: row_of(alloc, row)?,
+        index,
+        row: row_of(alloc, words)?,
     })
 }
 

@@ -5,6 +5,13 @@ use std::alloc::Global;
 /// A node and its depth.
 pub(crate) type Node = (u32, u32);
 
+/// The root alone.
+pub(crate) fn root(alloc: Global) -> Option<Vec<Node>> {
+    let mut nodes = Vec::new(alloc);
+    nodes.push((0, 0)).ok()?;
+    Some(nodes)
+}
+
 /// Whether each node of a list is a node or stands below it, or is not.
 fn marked(alloc: Global, nodes: &[Node], node: u32) -> Option<Vec<bool>> {
     let mut marks = Vec::new(alloc);
@@ -32,16 +39,23 @@ pub(crate) fn without(alloc: Global, nodes: &[Node], node: u32) -> Option<Vec<No
     Some(kept)
 }
 
+/// The depth of a node; 0 where it is not there.
+fn depth_of(nodes: &[Node], node: u32) -> u32 {
+    for (other, depth) in nodes {
+        if *other == node {
+            return *depth;
+        }
+    }
+    0
+}
+
 /// A node and all below it, with their depths below it; the node alone where it is not there.
 fn part(alloc: Global, nodes: &[Node], node: u32) -> Option<Vec<Node>> {
     let marks = marked(alloc, nodes, node)?;
+    let top = depth_of(nodes, node);
     let mut kept = Vec::new(alloc);
-    let mut top = 0u32;
     for ((other, depth), is_below) in nodes.iter().zip(marks.iter()) {
         if *is_below {
-            if kept.is_empty() {
-                top = *depth;
-            }
             kept.push((*other, depth.saturating_sub(top))).ok()?;
         }
     }
@@ -120,15 +134,15 @@ fn put(
 /// The nodes after an item of one, which is not the root, below another. None for want of memory.
 pub(crate) fn moved(
     alloc: Global,
-    nodes: Vec<Node>,
+    nodes: &[Node],
     node: u32,
     parent: u32,
     index: i32,
 ) -> Option<Vec<Node>> {
-    let others = without(alloc, &nodes, node)?;
+    let others = without(alloc, nodes, node)?;
     match place_of(&others, parent) {
-        Some(place) => put(alloc, &nodes, &others, node, place, index),
-        None => Some(nodes),
+        Some(place) => put(alloc, nodes, &others, node, place, index),
+        None => nodes.to_vec(alloc).ok(),
     }
 }
 
@@ -147,17 +161,21 @@ fn seat_behind(nodes: &[Node], depth: u32) -> (u32, u32) {
     (parent, index)
 }
 
+/// A node with the nodes before it: its name, and but for the root `<` and its parent, and `@` and its index.
+fn word_of(alloc: Global, before: &[Node], node: u32, depth: u32) -> Option<String> {
+    if before.is_empty() {
+        return format!(in alloc; "/n{node}").ok();
+    }
+    let (parent, index) = seat_behind(before, depth);
+    format!(in alloc; " /n{node}</n{parent}@{index}").ok()
+}
+
 /// The nodes as the rows of a cache are shown.
 pub(crate) fn told(alloc: Global, nodes: &[Node]) -> Option<String> {
     let mut text = String::new(alloc);
     for (at, (node, depth)) in nodes.iter().enumerate() {
         let (before, _) = nodes.split_at(at.min(nodes.len()));
-        let word = if before.is_empty() {
-            format!(in alloc; "/n{node}").ok()?
-        } else {
-            let (parent, index) = seat_behind(before, *depth);
-            format!(in alloc; " /n{node}</n{parent}@{index}").ok()?
-        };
+        let word = word_of(alloc, before, *node, *depth)?;
         text.push_str(word.as_str()).ok()?;
     }
     Some(text)

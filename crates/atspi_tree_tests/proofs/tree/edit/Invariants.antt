@@ -1,8 +1,0 @@
-use Rattle.std.proofs.Common.{drop}
-use Rattle.atspi_forest.specs.RowRules.{shapes}
-use Rattle.atspi_forest.specs.Tree.{AllApply}
-use Rattle.atspi_tree_tests.proofs.tree.edit.Given as goal
-
--- the steps that are left apply, one after another
-abbrev pub invariant-loop-step : goal.invariant-loop-step
-invariant-loop-step l = AllApply shapes l.tree.rows l.tree.added (drop l.step-index l.step-items)
