@@ -163,7 +163,10 @@ fn try_server(rt: &impl Abort, alloc: Global, sent: &str, due: &str) {
         let holds = server_in_two(alloc, sent, cut, due);
         assert!(rt; holds == Some(true), "{sent:?} cut at {cut}");
     }
-    assert!(rt; server_one_by_one(alloc, sent, due) == Some(true), "{sent:?}");
+    assert!(rt;
+        server_one_by_one(alloc, sent, due) == Some(true),
+        "{sent:?}"
+    );
 }
 
 #[test]
@@ -228,18 +231,8 @@ fn a_server_hears_each_conversation_in_any_two_pieces(rt: HostRuntime) {
         "\0AUTH EXTERNAL 30\r\nAUTH EXTERNAL 30\r\nDATA 30\r\nERROR no\r\nAUTH EXTERNAL 30\r\nBEGIN now\r\nBEGIN\r\n\r\n",
         "ready 2 Granted Error Error Rejected Granted Error",
     );
-    try_server(
-        &rt,
-        rt.alloc(),
-        "\0BEGIN\r\n",
-        "Early 0",
-    );
-    try_server(
-        &rt,
-        rt.alloc(),
-        "AUTH EXTERNAL 30\r\n",
-        "NoZero 0",
-    );
+    try_server(&rt, rt.alloc(), "\0BEGIN\r\n", "Early 0");
+    try_server(&rt, rt.alloc(), "AUTH EXTERNAL 30\r\n", "NoZero 0");
     // a line ends in CR LF alone
     try_server(
         &rt,
@@ -284,18 +277,8 @@ fn a_client_accepts_data_and_a_number_alone(rt: HostRuntime) {
         "DATA\r\nOK 61747370693200000000000000000001\r",
         "waits 0 Hail Data",
     );
-    try_client(
-        &rt,
-        rt.alloc(),
-        "REJECTED EXTERNAL\r\n",
-        "Rejected 0 Hail",
-    );
-    try_client(
-        &rt,
-        rt.alloc(),
-        "DATA 30\r\n",
-        "Rejected 0 Hail",
-    );
+    try_client(&rt, rt.alloc(), "REJECTED EXTERNAL\r\n", "Rejected 0 Hail");
+    try_client(&rt, rt.alloc(), "DATA 30\r\n", "Rejected 0 Hail");
     try_client(
         &rt,
         rt.alloc(),
@@ -320,18 +303,8 @@ fn a_client_accepts_data_and_a_number_alone(rt: HostRuntime) {
         "DATA\r\nOK 6174737069320000000000000000000g\r\n",
         "Rejected 0 Hail Data",
     );
-    try_client(
-        &rt,
-        rt.alloc(),
-        "DATA\r\nOK\r\n",
-        "Rejected 0 Hail Data",
-    );
-    try_client(
-        &rt,
-        rt.alloc(),
-        "DATA\r\nDATA\r\n",
-        "Rejected 0 Hail Data",
-    );
+    try_client(&rt, rt.alloc(), "DATA\r\nOK\r\n", "Rejected 0 Hail Data");
+    try_client(&rt, rt.alloc(), "DATA\r\nDATA\r\n", "Rejected 0 Hail Data");
     try_client(
         &rt,
         rt.alloc(),
@@ -407,7 +380,10 @@ fn holds(alloc: Global, row: &str, len: usize) -> Option<bool> {
 fn a_line_has_at_most_16384_bytes(rt: HostRuntime) {
     for row in LONG.lines() {
         for len in [1, 1_000, 16_383, 16_384, 20_000] {
-            assert!(rt; holds(rt.alloc(), row, len) == Some(true), "{row}, {len} at a time");
+            assert!(rt;
+                holds(rt.alloc(), row, len) == Some(true),
+                "{row}, {len} at a time"
+            );
         }
     }
 }
