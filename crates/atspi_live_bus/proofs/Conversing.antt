@@ -87,6 +87,17 @@ speech_of m h l t g v = elim v.order [
       }
 ]
 
+-- where no byte and no line waits, all was given
+pub all_said : (m : List Envelope) (h : List ℕ) (l : Link) (t g : List ℕ) → l.out.items ≡ [] → l.server.unsent ≡ [] → Converses m h l t g → g ≡ line_bytes (lines_for t) ++ h
+all_said m h l t g out none v =
+    sym (append-nil g)
+    ∙ ap (λ (w : List ℕ). g ++ w) (sym out)
+    ∙ v.all
+    ∙ ap (λ (w : List AuthLine). line_bytes w ++ h) (no_lines v.lines l.server.unsent (lines_for t) none (lines_after t v.lines l.server v.server_stands))
+
+pub over_there : (m : List Envelope) (h : List ℕ) (l : Link) (t g : List ℕ) → Converses m h l t g → (after server_start t).stage ≡ Over → l.server.stage ≡ Over
+over_there m h l t g v over = stage_after t v.lines l.server v.server_stands ∙ over
+
 lines_more : (t piece : List ℕ) → lines_for t ++ (told (after server_start t) piece).said ≡ lines_for (t ++ piece)
 lines_more t piece = ap (λ (n : Standing). n.unsent) (after-append server_start t piece)
 

@@ -41,7 +41,7 @@ each_remove P [] (suc at) e = tt
 each_remove P (l ∷ ls) zero e = e.1
 each_remove P (l ∷ ls) (suc at) e = (e.0, each_remove P ls at e.1)
 
-each_at : (P : Link → Type 0) (ls : List Link) (at : ℕ) (l : Link) → at < length ls → l ≡ slice_index_or ls at l → Each P ls → P l
+pub each_at : (P : Link → Type 0) (ls : List Link) (at : ℕ) (l : Link) → at < length ls → l ≡ slice_index_or ls at l → Each P ls → P l
 each_at P [] at l h e p = absurd (omega (arith, h))
 each_at P (x ∷ ls) zero l h e p = subst P (sym e) p.0
 each_at P (x ∷ ls) (suc at) l h e p = each_at P ls at l (omega (arith, h)) e p.1
