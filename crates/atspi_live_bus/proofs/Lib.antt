@@ -16,3 +16,4 @@ pub mod Turning
 pub mod Passing
 pub mod Admitting
 pub mod Rounding
+pub mod Worked

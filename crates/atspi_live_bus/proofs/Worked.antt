@@ -13,7 +13,10 @@ use Rattle.atspi_host.specs.declared.call.Call.{Call}
 use Rattle.atspi_host.specs.declared.call.Call.TheVariants.{Listen, Accept, Read, Close}
 use Rattle.atspi_live_bus.specs.Asked.{joining}
 use Rattle.atspi_live_bus.specs.Due.{HasAllGiven}
-use Rattle.atspi_live_bus.specs.Rounds.{AreRounds, AreTurns, FollowsRead, IsRound, IsTurn, Served, open_behind}
+use Rattle.atspi_live_bus.specs.Rounds.{AreRounds, AreTurns, FollowsRead, IsRound, IsRun, IsTurn, Served, open_behind}
+use Rattle.atspi_live_bus.specs.Stops.{status_of}
+use Rattle.atspi_live_bus.specs.declared.stop.Stop.{Stop}
+use Rattle.atspi_live_bus.specs.declared.stop.Stop.TheVariants as stops
 use Rattle.atspi_live_bus.specs.Service.{IsSaid, IsSpeech, line_bytes, lines_for}
 
 -- lists and calls that differ
@@ -34,6 +37,9 @@ one_answer j k xs ys d f e = cc
 
 pub one_accept : (d f : Did) → Accept d ≡ Accept f → d ≡ f
 one_accept d f e = cc
+
+pub one_not_none : ◌≡◌ {A = ℕ} 1 0 → ⊥
+one_not_none e = omega (arith, e)
 
 pub not_failed : (n : ℕ) → Done n ≢ Failed
 not_failed n e = cc
@@ -143,3 +149,20 @@ pub rounds_count : (n : ℕ) (past calls : List Call) → AreRounds n past calls
 rounds_count zero past calls a = omega arith
 rounds_count (suc n) past calls a =
     omega (arith, rounds_count n past a.0 a.2, ap (λ (w : List Call). length w) a.4, length-append a.0 a.1, ap (λ (w : List Call). length w) a.3.4)
+
+-- all rounds done, and no call for them
+status_eight : (stop : Stop) → 8 ≡ status_of stop → ⊥
+status_eight stops.HostFailed e = omega (arith, e)
+status_eight stops.Spent e = omega (arith, e)
+status_eight stops.NoMemory e = omega (arith, e)
+
+none_served : (past : List Call) → Served 8 1 past [] → ⊥
+none_served past s = elim s.ends [
+  | inl e ↦ omega (arith, rounds_count s.whole past s.done s.are, e.1, ap (λ (w : List Call). length w) s.all, length-append s.done s.last)
+  | inr e ↦ status_eight e.0 e.1
+]
+
+pub none_run : (path : List ℕ) → IsRun path 8 1 (Listen path (Done 0) ∷ []) → ⊥
+none_run path (inl e) = omega (arith, e.0)
+none_run path (inr r) =
+    none_served (Listen path r.0 ∷ []) (subst (λ (w : List Call). Served 8 1 (Listen path r.0 ∷ []) w) (sym (one_rest (Listen path (Done 0)) (Listen path r.0) [] r.1 r.4)) r.3)
