@@ -1,6 +1,6 @@
 -- The accept of a round, and the links behind it.
-use Rattle.std.proofs.Common.{◌≡◌, ℕ, ◌<◌, List, [], ◌∷◌, ◌++◌, Option, None, Some, Result, Ok, Err, refl, sym, ap, subst, ◌∙◌, inl, inr, arith}
-use Rattle.std.specs.Prelude.{IfErr, MatchResult, OnOk, false, ⊤}
+use Rattle.std.proofs.Common.{◌≡◌, ℕ, ◌<◌, List, [], ◌∷◌, ◌++◌, Option, None, Some, Result, Ok, Err, refl, sym, ap, subst, ◌∙◌, inl}
+use Rattle.std.specs.Prelude.{IfErr, MatchResult, false, ⊤}
 use Rattle.atspi_bus.specs.declared.bus.Bus.{Bus}
 use Rattle.atspi_bus.specs.View.{given_of}
 use Rattle.atspi_host.specs.Calls.{Adds}
@@ -9,7 +9,7 @@ use Rattle.atspi_host.specs.declared.call.Did.TheVariants.{Done, NotYet, Failed}
 use Rattle.atspi_host.specs.declared.call.Call.{Call}
 use Rattle.atspi_host.specs.declared.call.Call.TheVariants.{Accept, Listen}
 use Rattle.atspi_live_bus.specs.Asked.{Asked}
-use Rattle.atspi_live_bus.specs.Rounds.{AreTurns, Breaks, Does, GoesOn, open_behind, open_from}
+use Rattle.atspi_live_bus.specs.Rounds.{AreTurns, Breaks, Does, GoesOn, open_behind}
 use Rattle.atspi_live_bus.specs.Seats.{AreAbove, HasAccepted, Rise, Stands, numbers_of, seats}
 use Rattle.atspi_live_bus.specs.Service.{HasNoCall, OfTold}
 use Rattle.atspi_live_bus.specs.Stops.{IsWant}
@@ -50,10 +50,10 @@ all_below n asked conn cs (l ∷ ls) f e = (f l.number l.conn e.0.0, all_below n
 seated : (b b' : Bus) (links links' : List Link) (k : ℕ) (cs : List Call) → Seats k b b' links links' → Goes b links cs → Stands links cs → Stands links' (cs ++ Accept (Done k) ∷ [])
 seated b b' links links' k cs q g s = (
   open_both [] cs (Accept (Done k) ∷ [])
-  ∙ ap (λ (w : List ℕ). w ++ k ∷ []) s.0
-  ∙ ap (λ (n : ℕ). numbers_of (seats links) ++ n ∷ []) (sym q.number_is)
-  ∙ sym (numbers_more (seats links) (q.link.number, q.link.conn))
-  ∙ ap numbers_of (sym now),
+      ∙ ap (λ (w : List ℕ). w ++ k ∷ []) s.0
+      ∙ ap (λ (n : ℕ). numbers_of (seats links) ++ n ∷ []) (sym q.number_is)
+      ∙ sym (numbers_more (seats links) (q.link.number, q.link.conn))
+      ∙ ap numbers_of (sym now),
   subst Rise (sym now) (rise_more (seats links) (q.link.number, q.link.conn) s.1 (subst (λ (n : ℕ). AreBelow n (seats links)) (sym q.conn_is) (all_below (given_of b) g.asked g.conn cs links g.below g.each))),
 )
   where

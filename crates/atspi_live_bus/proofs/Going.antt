@@ -68,6 +68,9 @@ said_still asked asks (Some d) t t' g g' e f n s =
     let none = n d refl in
     speech_same (messages_of d asked) (messages_of d (asked ++ asks)) (handed_to d asked) (handed_to d (asked ++ asks)) t t' g g' (messages_same d asked asks none.0) (handed_same d asked asks none.1) e f s
 
+pub said_same : (asked : List Asked) (o : Option ℕ) (t t' g g' : List ℕ) → t' ≡ t → g' ≡ g → IsSaid asked o t g → IsSaid asked o t' g'
+said_same asked o t t' g g' e f s = subst (λ (w : List ℕ). IsSaid asked o w g') (sym e) (subst (λ (w : List ℕ). IsSaid asked o t w) (sym f) s)
+
 seated_still : (asked asks : List Asked) (conn : ℕ → Option ℕ) (cs cs' : List Call) (l : Link) → (taken l.number cs' ≡ taken l.number cs) × (given l.number cs' ≡ given l.number cs) → (messages_of l.conn asks ≡ []) × (handed_to l.conn asks ≡ [])
     → IsSeated asked conn cs l → IsSeated (asked ++ asks) conn cs' l
 seated_still asked asks conn cs cs' l same none s = (

@@ -1,18 +1,18 @@
 -- The turn of a link, call behind call.
-use Rattle.std.proofs.Common.{◌≡◌, ℕ, ◌<◌, ◌==◌, Bool, true, false, List, [], ◌∷◌, ◌++◌, length, suc, zero, slice_index_or, slice_set, Option, None, Some, refl, sym, ap, subst, ◌∙◌, inl, inr, append-nil, arith}
+use Rattle.std.proofs.Common.{◌≡◌, ℕ, ◌<◌, ◌==◌, true, false, List, [], ◌∷◌, ◌++◌, length, suc, zero, slice_index_or, slice_set, Option, None, Some, refl, sym, ap, subst, ◌∙◌, inl, inr, append-nil, arith}
 use Rattle.std.specs.Prelude.{◌⊎◌, Result, Ok, Err, MatchResult}
 use Rattle.atspi_host.specs.Calls.{IsOpen}
 use Rattle.atspi_host.specs.declared.call.Did.{Did}
 use Rattle.atspi_host.specs.declared.call.Did.TheVariants.{Done, NotYet, End, Failed}
 use Rattle.atspi_host.specs.declared.call.Call.{Call}
-use Rattle.atspi_host.specs.declared.call.Call.TheVariants.{Read, Write, Close}
+use Rattle.atspi_host.specs.declared.call.Call.TheVariants.{Write, Close}
 use Rattle.atspi_live_bus.specs.declared.link.Link.{Link}
 use Rattle.atspi_live_bus.specs.declared.stop.Stop.{Stop}
 use Rattle.std.specs.List.{position}
 use Rattle.std.proofs.lemmas.List.Quantifiers.{position-Some}
 use Rattle.std.proofs.lemmas.Bool.Decides.{eqb_tells}
 use lib.ListN.{get_or}
-use Rattle.atspi_live_bus.specs.Rounds.{AreCloses, Does, FollowsRead, FollowsWrite, GoesOn, IsGift}
+use Rattle.atspi_live_bus.specs.Rounds.{AreCloses, Does, FollowsRead, FollowsWrite, GoesOn, IsGift, Wait}
 use Rattle.atspi_live_bus.specs.Due.{HasAllGiven}
 use Rattle.atspi_live_bus.specs.Seats.{HasRead, HasWritten, Hears, MayWrite, Shuts, ShutsOne, Takes, TakesCut, Writes, left, number_at, numbers_of, seats}
 use Rattle.atspi_live_bus.proofs.Placing.{first_place, none_further, position_first, some_none}
@@ -65,7 +65,7 @@ takes k a b c past xs ys u v = (
   xs,
   ys,
   u.0,
-  subst (λ (w : List (ℕ × ℕ)). (ys ≡ []) ⊎ (IsOpen k (numbers_of w) × IsGift k ys)) u.1 v.0.0,
+  subst (λ (w : List (ℕ × ℕ)). (ys ≡ []) ⊎ (IsOpen k (numbers_of w) × IsGift (past ++ xs) k ys)) u.1 v.0.0,
   λ n o. v.1 n (subst (λ (w : List (ℕ × ℕ)). IsOpen k (numbers_of w)) (sym u.1) o),
   refl,
   v.0.1 ∙ ap (λ (w : List (ℕ × ℕ)). left w ys) u.1 ∙ sym (left_both (seats a) xs ys),
@@ -76,7 +76,7 @@ takes_cut k a b c past xs ys u v = (
   xs,
   ys,
   u.0,
-  subst (λ (w : List (ℕ × ℕ)). (ys ≡ []) ⊎ (IsOpen k (numbers_of w) × IsGift k ys)) u.1 v.0,
+  subst (λ (w : List (ℕ × ℕ)). (ys ≡ []) ⊎ (IsOpen k (numbers_of w) × IsGift (past ++ xs) k ys)) u.1 v.0,
   refl,
 )
 
@@ -142,14 +142,13 @@ gave_on links at number l m old now h e n c p w =
     does_if old now (HasWritten l.number true) (Writes number links (slice_set links at m))
     (λ past calls u. elim u [
       | inl v ↦ ((inl v.0, seats_set links at l m e n c h ∙ sym (ap (λ (x : List Call). left (seats links) x) v.0)), λ q o. subst (λ (k : ℕ). HasAllGiven past k) same v.1)
-      | inr v ↦
-          (
-            (
-              inr (here, (v.0, v.1, [], v.2, v.3, goes_behind number v.1 v.4, v.5 ∙ ap (λ (k : ℕ). Write k v.0 v.1 ∷ []) same)),
-              seats_set links at l m e n c h ∙ sym (ap (λ (x : List Call). left (seats links) x) v.5),
-            ),
-            λ q o. absurd (no_nil (Write l.number v.0 v.1) [] (sym v.5 ∙ q)),
-          )
+      | inr v ↦ (
+        (
+          inr (here, (v.0, v.1, [], v.2, v.3, subst (λ (k : ℕ). Wait past k v.0) same v.4, goes_behind number v.1 v.5, v.6 ∙ ap (λ (k : ℕ). Write k v.0 v.1 ∷ []) same)),
+          seats_set links at l m e n c h ∙ sym (ap (λ (x : List Call). left (seats links) x) v.6),
+        ),
+        λ q o. absurd (no_nil (Write l.number v.0 v.1) [] (sym v.6 ∙ q)),
+      )
     ]) w
   where
     same : l.number ≡ number
@@ -163,10 +162,22 @@ lost : (links new : List Link) (at number : ℕ) (l m : Link) (past xs ys : List
     → HasWritten l.number false past xs → ShutsOne (number_at (slice_set links at m) at) (slice_set links at m) new (past ++ xs) ys → Writes number links new past (xs ++ ys)
 lost links new at number l m past xs ys h e n c same here u v = (
   (
-    inr (here, (u.0, Failed, ys, u.1, u.2, (v.0, v.1, v.2 ∙ ap (λ (k : ℕ). Close k ∷ v.0) (number_set links at m h ∙ n ∙ same)), ap (λ (w : List Call). w ++ ys) u.3 ∙ ap (λ (k : ℕ). Write k u.0 Failed ∷ ys) same)),
-    v.3 ∙ ap (λ (w : List (ℕ × ℕ)). left w ys) (seats_set links at l m e n c h) ∙ sym (ap (λ (w : List Call). left (seats links) (w ++ ys)) u.3),
+    inr (
+      here,
+      (
+        u.0,
+        Failed,
+        ys,
+        u.1,
+        u.2,
+        subst (λ (k : ℕ). Wait past k u.0) same u.3,
+        (v.0, v.1, v.2 ∙ ap (λ (k : ℕ). Close k ∷ v.0) (number_set links at m h ∙ n ∙ same)),
+        ap (λ (w : List Call). w ++ ys) u.4 ∙ ap (λ (k : ℕ). Write k u.0 Failed ∷ ys) same,
+      ),
+    ),
+    v.3 ∙ ap (λ (w : List (ℕ × ℕ)). left w ys) (seats_set links at l m e n c h) ∙ sym (ap (λ (w : List Call). left (seats links) (w ++ ys)) u.4),
   ),
-  λ q o. absurd (no_nil (Write l.number u.0 Failed) ys (sym (ap (λ (w : List Call). w ++ ys) u.3) ∙ q)),
+  λ q o. absurd (no_nil (Write l.number u.0 Failed) ys (sym (ap (λ (w : List Call). w ++ ys) u.4) ∙ q)),
 )
 
 pub gave_lost : {T : Type 0} (r : Result T Stop) (links new : List Link) (at number : ℕ) (l m : Link) (old mid now : Option (List Call)) → at < length links → l ≡ slice_index_or links at l → m.number ≡ l.number → m.conn ≡ l.conn

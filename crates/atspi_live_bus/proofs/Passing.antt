@@ -1,6 +1,6 @@
 -- The turns of all links, one behind the other, in the order of their connections.
 use Rattle.std.proofs.Common.{◌≡◌, ℕ, ◌<◌, ◌≤◌, ◌+◌, Bool, true, false, List, [], ◌∷◌, ◌++◌, length, slice_index_or, suc, zero, Option, None, Some, refl, sym, ap, subst, ◌∙◌, inl, inr, append_assoc, append-nil, arith}
-use Rattle.std.specs.Prelude.{◌⊎◌, ⊤, map}
+use Rattle.std.specs.Prelude.{◌⊎◌}
 use Rattle.std.specs.List.{position}
 use Rattle.std.proofs.lemmas.List.Quantifiers.{position-Some}
 use Rattle.std.proofs.lemmas.Bool.Decides.{leb_tells}
@@ -10,13 +10,12 @@ use Rattle.atspi_host.specs.Calls.{IsOpen}
 use Rattle.atspi_host.specs.declared.call.Call.{Call}
 use Rattle.atspi_live_bus.specs.declared.link.Link.{Link}
 use Rattle.atspi_live_bus.specs.Rounds.{AreTurns, Does, IsCut, IsGift, IsTurn, MayGive, open_behind, open_from}
-use Rattle.atspi_live_bus.specs.Due.{HasAllGiven}
 use Rattle.atspi_live_bus.specs.Seats.{AreAbove, Rise, Stands, Takes, TakesCut, due, left, number_at, numbers_of, seats}
 use Rattle.atspi_live_bus.specs.Service.{OfTold}
 use Rattle.atspi_live_bus.proofs.Placing.{first_place, none_further, position_first, some_none}
 use Rattle.atspi_live_bus.proofs.Shutting.{number_open}
 use Rattle.atspi_live_bus.proofs.Telling.{does_if, does_none, does_then, told_then}
-use Rattle.atspi_live_bus.proofs.Turning.{AreForLinks, due_left, for_both, for_gift, for_heard, for_turn, no_more, numbers_left, open_both, rise_left, skips}
+use Rattle.atspi_live_bus.proofs.Turning.{AreForLinks, due_left, for_heard, for_turn, no_more, numbers_left, open_both, rise_left, skips}
 
 abbrev pub conn_at : List Link → ℕ → ℕ
 conn_at [] at = 0
@@ -95,7 +94,7 @@ passes_none links calls = does_none calls (Passes 0 0 links links) (λ past. rec
 open_read : (links : List Link) (past read : List Call) → AreForLinks read → open_behind past ≡ numbers_of (seats links) → open_behind (past ++ read) ≡ numbers_of (left (seats links) read)
 open_read links past read a e = open_both [] past read ∙ ap (λ (w : List ℕ). open_from w read) e ∙ sym (numbers_left (seats links) read a)
 
-may_give : (k : ℕ) (ks : List ℕ) (past gift : List Call) → open_behind past ≡ ks → (gift ≡ []) ⊎ (IsOpen k ks × IsGift k gift) → MayGive past k gift
+may_give : (k : ℕ) (ks : List ℕ) (past gift : List Call) → open_behind past ≡ ks → (gift ≡ []) ⊎ (IsOpen k ks × IsGift past k gift) → MayGive past k gift
 may_give k ks past gift e (inl n) = inl n
 may_give k ks past gift e (inr g) = inr (subst (λ (w : List ℕ). IsOpen k w) (sym e) g.0, g.1)
 
@@ -140,12 +139,14 @@ passes_one n from at start old new past xs turn h e s p t = record {
         subst (λ (w : List ℕ). AreTurns whole (past ++ xs) w (turn ++ rest)) (sym first)
         (inr (inr (
           subst (λ (w : List ℕ). IsOpen (number_at old at) w) (sym s.0) (number_open old at h),
-          (turn,
-          rest,
-          is_turn,
-          skips whole (due (conn_at old at + 1) (seats old)) (past ++ xs) turn rest for_links
-              (subst (λ (w : List ℕ). AreTurns whole ((past ++ xs) ++ turn) w rest) after (subst (λ (w : List Call). AreTurns whole w (due (conn_at old at + 1) (seats new)) rest) (sym (append_assoc past xs turn)) r)),
-          refl),
+          (
+            turn,
+            rest,
+            is_turn,
+            skips whole (due (conn_at old at + 1) (seats old)) (past ++ xs) turn rest for_links
+                (subst (λ (w : List ℕ). AreTurns whole ((past ++ xs) ++ turn) w rest) after (subst (λ (w : List Call). AreTurns whole w (due (conn_at old at + 1) (seats new)) rest) (sym (append_assoc past xs turn)) r)),
+            refl,
+          ),
         )))
 
 pub passes_on : (n from at : ℕ) (start old new : List Link) (before mid now : Option (List Call)) → at < length old → position (λ (l : Link). leb from l.conn) old ≡ Some at → OfTold (Stands old) mid → Does before mid (Passes n from start old)

@@ -1,12 +1,12 @@
 -- The rounds of a run, one behind the other.
-use Rattle.std.proofs.Common.{◌≡◌, ◌<◌, ℕ, suc, ◌+◌, Bool, true, false, List, [], ◌∷◌, ◌++◌, Option, None, Some, Result, Ok, Err, refl, sym, ap, subst, ◌∙◌, inl, inr, append-nil, append_assoc, arith}
+use Rattle.std.proofs.Common.{◌≡◌, ◌<◌, ℕ, suc, ◌+◌, Bool, true, false, List, [], ◌∷◌, ◌++◌, Option, None, Some, Result, Ok, Err, refl, sym, ap, subst, inl, inr, append-nil, arith}
 use Rattle.std.specs.Prelude.{◌≢◌, MatchResult, IfErr}
 use Rattle.atspi_host.specs.declared.call.Did.{Did}
 use Rattle.atspi_host.specs.declared.call.Did.TheVariants.{Failed}
 use Rattle.atspi_host.specs.declared.call.Call.{Call}
-use Rattle.atspi_host.specs.declared.call.Call.TheVariants.{Accept, Listen}
+use Rattle.atspi_host.specs.declared.call.Call.TheVariants.{Listen}
 use Rattle.atspi_host.specs.Calls.{Adds}
-use Rattle.atspi_live_bus.specs.Rounds.{AreRounds, AreTurns, Breaks, Does, IsRound, IsRun, Served, open_behind}
+use Rattle.atspi_live_bus.specs.Rounds.{AreRounds, AreTurns, Breaks, Does, IsRound, IsRun, open_behind}
 use Rattle.atspi_live_bus.specs.Seats.{HasAccepted, Stands, numbers_of, seats}
 use Rattle.atspi_live_bus.specs.Service.{HasNoCall, OfTold}
 use Rattle.atspi_live_bus.specs.Stops.{IsFree, status_of}

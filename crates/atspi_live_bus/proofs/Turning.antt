@@ -1,15 +1,14 @@
 -- The links that calls for links leave open, and the turns of those that are still to come.
-use Rattle.std.proofs.Common.{◌≡◌, ℕ, ◌<◌, ◌≤◌, ◌+◌, Bool, true, false, List, [], ◌∷◌, ◌++◌, length, suc, zero, refl, sym, ap, subst, ◌∙◌, inl, inr, append_assoc, append-nil, arith}
+use Rattle.std.proofs.Common.{◌≡◌, ℕ, ◌≤◌, Bool, List, [], ◌∷◌, ◌++◌, length, refl, sym, ap, subst, ◌∙◌, inl, inr, append_assoc, arith}
 use Rattle.std.specs.Prelude.{◌⊎◌, ⊤}
 use Rattle.std.proofs.lemmas.Bool.Decides.{eqb_tells, leb_tells}
-use lib.Dec.{leb}
 use Rattle.atspi_host.specs.Calls.{IsOpen, without}
 use Rattle.atspi_host.specs.declared.call.Did.{Did}
 use Rattle.atspi_host.specs.declared.call.Did.TheVariants.{Done, NotYet, End, Failed}
 use Rattle.atspi_host.specs.declared.call.Call.{Call}
 use Rattle.atspi_host.specs.declared.call.Call.TheVariants.{Listen, Accept, Connect, Read, Write, Close}
 use Rattle.atspi_live_bus.specs.Rounds.{AreCloses, AreTurns, FollowsRead, FollowsWrite, IsClose, IsGift, IsHeard, MayGive, IsTurn, open_behind, open_from, open_then}
-use Rattle.atspi_live_bus.specs.Seats.{AreAbove, Rise, due, left, left_by, numbers_of, without_seat}
+use Rattle.atspi_live_bus.specs.Seats.{AreAbove, Rise, due, left, numbers_of, without_seat}
 
 -- a read, a write or a close
 abbrev pub IsForLink : Call → Type 0
@@ -55,12 +54,12 @@ for_write k Failed closes f = rw f.2 (tt, for_closes f.0 f.1)
 pub for_heard : (k : ℕ) (calls : List Call) → IsHeard k calls → AreForLinks calls
 for_heard k calls h = rw h.5 (tt, for_read k h.1 h.2 h.4)
 
-pub for_gift : (k : ℕ) (calls : List Call) → IsGift k calls → AreForLinks calls
-for_gift k calls h = rw h.6 (tt, for_write k h.1 h.2 h.5)
+pub for_gift : (past : List Call) (k : ℕ) (calls : List Call) → IsGift past k calls → AreForLinks calls
+for_gift past k calls h = rw h.7 (tt, for_write k h.1 h.2 h.6)
 
 pub for_given : (past : List Call) (k : ℕ) (calls : List Call) → MayGive past k calls → AreForLinks calls
 for_given past k calls (inl e) = rw e tt
-for_given past k calls (inr g) = for_gift k calls g.1
+for_given past k calls (inr g) = for_gift past k calls g.1
 
 pub for_turn : (past : List Call) (k : ℕ) (calls : List Call) → IsTurn past k calls → AreForLinks calls
 for_turn past k calls t = rw t.5 (for_both t.0 t.1 (for_heard k t.0 t.2) (for_given (past ++ t.0) k t.1 t.3))

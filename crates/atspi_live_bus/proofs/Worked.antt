@@ -1,6 +1,6 @@
 -- What stands of the worked cases of rounds.
-use Rattle.std.proofs.Common.{◌≡◌, ℕ, ◌<◌, ◌==◌, true, List, [], ◌∷◌, ◌++◌, length, suc, zero, Option, None, Some, refl, sym, ap, subst, ◌∙◌, inl, inr, arith, lit<, lit≤, length-append}
-use Rattle.std.specs.Prelude.{◌≢◌, codes, if◌then◌else◌}
+use Rattle.std.proofs.Common.{◌≡◌, ℕ, ◌<◌, ◌==◌, true, List, [], ◌∷◌, ◌++◌, length, suc, zero, Option, None, Some, refl, sym, ap, subst, ◌∙◌, inl, inr, arith, lit≤, length-append}
+use Rattle.std.specs.Prelude.{◌≢◌, if◌then◌else◌}
 use Rattle.std.proofs.lemmas.Bool.Decides.{eqb_tells}
 use Rattle.atspi_auth.specs.Lines.{lines_of}
 use Rattle.atspi_auth.specs.Talk.{after, behind, heard, hears, hears_bytes, server_start}

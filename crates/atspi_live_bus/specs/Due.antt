@@ -1,5 +1,5 @@
 -- All that is due on a link was given.
-use Rattle.std.specs.Prelude.{◌≡◌, ℕ, List, [], ◌++◌, Option, Some}
+use Rattle.std.specs.Prelude.{◌≡◌, ℕ, List, [], ◌++◌, Some}
 use Rattle.atspi_auth.specs.Talk.{after, server_start}
 use Rattle.atspi_auth.specs.declared.stage.Stage.TheVariants.{Over}
 use Rattle.atspi_routing.specs.Queues.{queue_of}

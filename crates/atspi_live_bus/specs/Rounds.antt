@@ -6,6 +6,7 @@ use Rattle.atspi_host.specs.declared.call.Call.{Call}
 use Rattle.atspi_host.specs.declared.call.Call.TheVariants.{Listen, Accept, Connect, Read, Write, Close}
 use Rattle.atspi_host.specs.Calls.{IsOpen, without}
 use Rattle.atspi_live_bus.specs.Due.{HasAllGiven}
+use Rattle.atspi_live_bus.specs.Service.{IsService}
 use Rattle.atspi_live_bus.specs.Stops.{status_of}
 use Rattle.atspi_live_bus.specs.declared.stop.Stop.{Stop}
 use Rattle.atspi_live_bus.specs.declared.stop.Stop.TheVariants as stops
@@ -77,13 +78,18 @@ FollowsWrite k Failed calls = ShutsFirst k calls
 abbrev pub IsHeard : ℕ → List Call → Type 0
 IsHeard k calls = (bytes : List ℕ) × (did : Did) × (closes : List Call) × (length bytes ≤ 4096) × FollowsRead k did closes × (calls ≡ Read k bytes did ∷ closes)
 
--- one write of 1 to 4,096 bytes, and closes
-abbrev pub IsGift : ℕ → List Call → Type 0
-IsGift k calls = (bytes : List ℕ) × (did : Did) × (closes : List Call) × (0 < length bytes) × (length bytes ≤ 4096) × FollowsWrite k did closes × (calls ≡ Write k bytes did ∷ closes)
+-- the bytes are the next that wait for the link: were all of them given, what is given on the links would be that of a bus
+abbrev pub Wait : List Call → ℕ → List ℕ → Type 0
+Wait past k bytes = IsService (past ++ Write k bytes (Done (length bytes)) ∷ [])
+
+-- one write of 1 to 4,096 bytes that wait, and closes
+abbrev pub IsGift : List Call → ℕ → List Call → Type 0
+IsGift past k calls =
+    (bytes : List ℕ) × (did : Did) × (closes : List Call) × (0 < length bytes) × (length bytes ≤ 4096) × Wait past k bytes × FollowsWrite k did closes × (calls ≡ Write k bytes did ∷ closes)
 
 -- no call, or a write on a link that is still open
 abbrev pub MayGive : List Call → ℕ → List Call → Type 0
-MayGive past k calls = (calls ≡ []) ⊎ (IsOpen k (open_behind past) × IsGift k calls)
+MayGive past k calls = (calls ≡ []) ⊎ (IsOpen k (open_behind past) × IsGift past k calls)
 
 -- the turn of a link: a read, and then a write exactly where the link is open and not all was given that waits
 abbrev pub IsTurn : List Call → ℕ → List Call → Type 0

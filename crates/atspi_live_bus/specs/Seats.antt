@@ -1,6 +1,6 @@
 -- The links of the bus by their numbers and connections, and what calls leave of them.
-use Rattle.std.specs.Prelude.{◌≡◌, ◌<◌, ◌≤◌, ◌⊎◌, ◌+◌, ℕ, ◌==◌, Bool, true, false, List, [], ◌∷◌, ◌++◌, length, map, if◌then◌else◌, zero, suc, ⊤}
-use Rattle.atspi_host.specs.Calls.{IsOpen, Differ}
+use Rattle.std.specs.Prelude.{◌≡◌, ◌<◌, ◌≤◌, ◌⊎◌, ℕ, ◌==◌, Bool, true, false, List, [], ◌∷◌, ◌++◌, length, map, if◌then◌else◌, zero, suc, ⊤}
+use Rattle.atspi_host.specs.Calls.{IsOpen, front}
 use Rattle.atspi_host.specs.declared.call.Did.{Did}
 use Rattle.atspi_host.specs.declared.call.Did.TheVariants.{Failed}
 use Rattle.atspi_host.specs.declared.call.Call.{Call}
@@ -8,7 +8,7 @@ use Rattle.atspi_host.specs.declared.call.Call.TheVariants.{Listen, Accept, Conn
 use Rattle.atspi_live_bus.specs.declared.link.Link.{Link}
 use Rattle.atspi_routing.specs.Queues as queues
 use Rattle.atspi_live_bus.specs.Due.{HasAllGiven}
-use Rattle.atspi_live_bus.specs.Rounds.{AreCloses, GoesOn, IsGift, IsHeard, open_behind}
+use Rattle.atspi_live_bus.specs.Rounds.{AreCloses, GoesOn, IsGift, IsHeard, Wait, open_behind}
 use Rattle.atspi_live_bus.specs.Turns.{IsSilent}
 use lib.Dec.{leb}
 
@@ -69,15 +69,23 @@ abbrev pub HasRead : ℕ → Bool → List Call → List Call → Type 0
 HasRead k true past calls = (bytes : List ℕ) × (did : Did) × (length bytes ≤ 4096) × GoesOn did × (calls ≡ Read k bytes did ∷ [])
 HasRead k false past calls = (bytes : List ℕ) × (did : Did) × (length bytes ≤ 4096) × (calls ≡ Read k bytes did ∷ [])
 
--- no write, where nothing waits on the link, or one, which failed only where the link does not go on
+-- what was given of these bytes and what waits then begin with them
+abbrev pub Waited : List ℕ → Did → Link → Type 0
+Waited bytes did l = (rest : List ℕ) × (front did bytes ++ l.out.items ≡ bytes ++ rest)
+
+-- no write, where nothing waits on the link, or one of the bytes that waited first, which failed only where the link does not go on
 abbrev pub HasSent : ℕ → Bool → queues.Bus → Link → List Call → List Call → Type 0
-HasSent k true b l past calls = ((calls ≡ []) × (l.out.items ≡ []) × IsSilent b l) ⊎ ((bytes : List ℕ) × (did : Did) × (0 < length bytes) × (length bytes ≤ 4096) × GoesOn did × (calls ≡ Write k bytes did ∷ []))
-HasSent k false b l past calls = (bytes : List ℕ) × (0 < length bytes) × (length bytes ≤ 4096) × (calls ≡ Write k bytes Failed ∷ [])
+HasSent k true b l past calls =
+    ((calls ≡ []) × (l.out.items ≡ []) × IsSilent b l)
+    ⊎ ((bytes : List ℕ) × (did : Did) × (0 < length bytes) × (length bytes ≤ 4096) × Waited bytes did l × GoesOn did × (calls ≡ Write k bytes did ∷ []))
+HasSent k false b l past calls = (bytes : List ℕ) × (0 < length bytes) × (length bytes ≤ 4096) × Waited bytes Failed l × (calls ≡ Write k bytes Failed ∷ [])
 
 -- the same, where all that waits was given
 abbrev pub HasWritten : ℕ → Bool → List Call → List Call → Type 0
-HasWritten k true past calls = ((calls ≡ []) × HasAllGiven past k) ⊎ ((bytes : List ℕ) × (did : Did) × (0 < length bytes) × (length bytes ≤ 4096) × GoesOn did × (calls ≡ Write k bytes did ∷ []))
-HasWritten k false past calls = (bytes : List ℕ) × (0 < length bytes) × (length bytes ≤ 4096) × (calls ≡ Write k bytes Failed ∷ [])
+HasWritten k true past calls =
+    ((calls ≡ []) × HasAllGiven past k)
+    ⊎ ((bytes : List ℕ) × (did : Did) × (0 < length bytes) × (length bytes ≤ 4096) × Wait past k bytes × GoesOn did × (calls ≡ Write k bytes did ∷ []))
+HasWritten k false past calls = (bytes : List ℕ) × (0 < length bytes) × (length bytes ≤ 4096) × Wait past k bytes × (calls ≡ Write k bytes Failed ∷ [])
 
 -- one accept, behind which the bus goes on
 abbrev pub HasAccepted : List Call → List Call → Type 0
@@ -92,7 +100,7 @@ abbrev pub Hears : ℕ → List Link → List Link → List Call → List Call �
 Hears k old new past calls = IsHeard k calls × (seats new ≡ left (seats old) calls)
 
 abbrev pub MayWrite : ℕ → List Link → List Link → List Call → List Call → Type 0
-MayWrite k old new past calls = ((calls ≡ []) ⊎ (IsOpen k (numbers_of (seats old)) × IsGift k calls)) × (seats new ≡ left (seats old) calls)
+MayWrite k old new past calls = ((calls ≡ []) ⊎ (IsOpen k (numbers_of (seats old)) × IsGift past k calls)) × (seats new ≡ left (seats old) calls)
 
 -- and a write exactly where not all that waits was given
 abbrev pub Writes : ℕ → List Link → List Link → List Call → List Call → Type 0
@@ -101,8 +109,8 @@ Writes k old new past calls = MayWrite k old new past calls × (calls ≡ [] →
 -- the turn of a link
 abbrev pub Takes : ℕ → List Link → List Link → List Call → List Call → Type 0
 Takes k old new past calls =
-    (read : List Call) × (gift : List Call) × IsHeard k read × ((gift ≡ []) ⊎ (IsOpen k (numbers_of (left (seats old) read)) × IsGift k gift))
+    (read : List Call) × (gift : List Call) × IsHeard k read × ((gift ≡ []) ⊎ (IsOpen k (numbers_of (left (seats old) read)) × IsGift (past ++ read) k gift))
     × (gift ≡ [] → IsOpen k (numbers_of (left (seats old) read)) → HasAllGiven (past ++ read) k) × (calls ≡ read ++ gift) × (seats new ≡ left (seats old) calls)
 
 abbrev pub TakesCut : ℕ → List Link → List Call → List Call → Type 0
-TakesCut k old past calls = (read : List Call) × (gift : List Call) × IsHeard k read × ((gift ≡ []) ⊎ (IsOpen k (numbers_of (left (seats old) read)) × IsGift k gift)) × (calls ≡ read ++ gift)
+TakesCut k old past calls = (read : List Call) × (gift : List Call) × IsHeard k read × ((gift ≡ []) ⊎ (IsOpen k (numbers_of (left (seats old) read)) × IsGift (past ++ read) k gift)) × (calls ≡ read ++ gift)

@@ -66,7 +66,9 @@ impl Hall {
         ensures first { result ≡ position (λ l. leb from l.conn) self.now.links.items }
         ensures below { IfSome result (λ at. at < length self.now.links.items) }
     {
-        self.links.iter().position(|link| from <= u64::from(link.conn))
+        self.links
+            .iter()
+            .position(|link| from <= u64::from(link.conn))
     }
 
     /// A link that was given joins the bus, behind the others.

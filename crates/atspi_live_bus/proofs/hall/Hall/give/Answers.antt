@@ -1,6 +1,5 @@
 use Rattle.std.proofs.Common.{rules, ◌≡◌, true, false, slice_set}
-use Rattle.atspi_bus.specs.View.{bus_of}
-use Rattle.atspi_live_bus.proofs.Giving.{has_lost, has_written}
+use Rattle.atspi_live_bus.proofs.Giving.{has_written}
 use Rattle.atspi_live_bus.proofs.Going.{want_free}
 use Rattle.atspi_live_bus.proofs.Hearing.{gave_lost, gave_none, gave_on, not_there}
 use Rattle.atspi_live_bus.proofs.Serving.{link_open, turned}
@@ -46,7 +45,7 @@ returns-in-Ok-true-clause-calls g c =
     let goes_on : c.in-Ok-true.field-0 ≡ true = search rules in
     gave_on c.args.self.now.links.items c.in-Some.at c.args.number c.index_mut.result.now c.give.new.self (g.H.Host.calls c.args.host.now) (g.H.Host.calls c.give.new.host)
     c.in-Some.ensures.below c.index_mut.ensures.value c.give.ensures.number c.give.ensures.conn c.in-Some.ensures.first
-    (has_written c.give.new.bus c.args.self.now.links.items c.in-Some.at c.index_mut.result.now c.give.new.self (g.H.Host.calls c.args.host.now) (g.H.Host.calls c.give.new.host) c.in-Some.ensures.below c.give.ensures.number
+    (has_written true c.give.new.bus c.args.self.now.links.items c.in-Some.at c.index_mut.result.now c.give.new.self (g.H.Host.calls c.args.host.now) (g.H.Host.calls c.give.new.host) c.in-Some.ensures.below c.give.ensures.number
     (gave_goes c.args.self.now.bus c.give.new.bus c.args.self.now.links.items c.in-Some.at c.index_mut.result.now c.give.new.self (g.H.Host.links c.args.host.now) (g.H.Host.calls c.args.host.now) (g.H.Host.calls c.give.new.host)
     c.in-Some.ensures.below c.index_mut.ensures.value c.requires.serves c.give.ensures.number c.give.ensures.conn c.in-Ok-true.ensures.ok c.give.ensures.given c.requires.goes)
     (rw goes_on at c.in-Ok-true.ensures.calls))
@@ -56,7 +55,10 @@ returns-in-Ok-false-clause-calls g c =
     let goes_on : c.in-Ok-false.field-0 ≡ false = search rules in
     gave_lost c.part.result c.args.self.now.links.items c.part.new.self.links.items c.in-Some.at c.args.number c.index_mut.result.now c.give.new.self (g.H.Host.calls c.args.host.now) (g.H.Host.calls c.give.new.host) (g.H.Host.calls c.part.new.host)
     c.in-Some.ensures.below c.index_mut.ensures.value c.give.ensures.number c.give.ensures.conn c.in-Some.ensures.first
-    (has_lost c.index_mut.result.now.number (bus_of c.give.new.bus) c.give.new.self (g.H.Host.calls c.args.host.now) (g.H.Host.calls c.give.new.host) (rw goes_on at c.in-Ok-false.ensures.calls)) c.part.ensures.calls
+    (has_written false c.give.new.bus c.args.self.now.links.items c.in-Some.at c.index_mut.result.now c.give.new.self (g.H.Host.calls c.args.host.now) (g.H.Host.calls c.give.new.host) c.in-Some.ensures.below c.give.ensures.number
+    (gave_goes c.args.self.now.bus c.give.new.bus c.args.self.now.links.items c.in-Some.at c.index_mut.result.now c.give.new.self (g.H.Host.links c.args.host.now) (g.H.Host.calls c.args.host.now) (g.H.Host.calls c.give.new.host)
+    c.in-Some.ensures.below c.index_mut.ensures.value c.requires.serves c.give.ensures.number c.give.ensures.conn c.in-Ok-false.ensures.ok c.give.ensures.given c.requires.goes)
+    (rw goes_on at c.in-Ok-false.ensures.calls)) c.part.ensures.calls
 
 pub returns-in-Err-clause-calls : goal.returns-in-Err-clause-calls
 returns-in-Err-clause-calls g c =
