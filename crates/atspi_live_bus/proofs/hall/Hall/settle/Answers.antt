@@ -31,3 +31,8 @@ pub closings-smaller : goal.closings-smaller
 closings-smaller g c =
     subst (λ (w : Bus). length (bus_of w).closings < length (bus_of c.closings.self.bus).closings) (sym c.dismiss.ensures.bus)
     (fewer_closings (bus_of c.closings.self.bus) (bus_of c.closed.new.self) _ (rw c.in-Some.is at c.closed.ensures.bus))
+
+pub returns-clause-goes : goal.returns-clause-goes
+returns-clause-goes g c =
+    asked_goes c.closings.self.bus c.closed.new.self c.closings.self.links.items (g.H.Host.calls c.closings.host) (told_closings (bus_of c.closings.self.bus) (bus_of c.closed.new.self) _ c.closed.ensures.bus) c.closed.ensures.given
+    c.closings.invariant.goes
