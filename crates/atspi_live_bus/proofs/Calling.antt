@@ -35,7 +35,7 @@ same_link k = elim (eqb_tells k k) [ inl e ↦ e.0 | inr e ↦ absurd (e.1 refl)
 takes_read : (k : ℕ) (bytes : List ℕ) (did : Did) → takes k (Read k bytes did) ≡ bytes
 takes_read k bytes did = rw (same_link k) refl
 
-gives_write : (k : ℕ) (bytes : List ℕ) (did : Did) → gives k (Write k bytes did) ≡ front did bytes
+pub gives_write : (k : ℕ) (bytes : List ℕ) (did : Did) → gives k (Write k bytes did) ≡ front did bytes
 gives_write k bytes did = rw (same_link k) refl
 
 others_take : (k j : ℕ) (bytes : List ℕ) (did : Did) → (j ≡ k → ⊥) → takes j (Read k bytes did) ≡ []
@@ -47,7 +47,7 @@ others_give k j bytes did n = elim (eqb_tells k j) [ inl e ↦ absurd (n (sym e.
 others_read : (k : ℕ) (cs : List Call) (bytes : List ℕ) (did : Did) → OthersRest k cs (cs ++ Read k bytes did ∷ [])
 others_read k cs bytes did j n = (taken_still j cs (Read k bytes did) (others_take k j bytes did n), given_still j cs (Read k bytes did) refl)
 
-others_write : (k : ℕ) (cs : List Call) (bytes : List ℕ) (did : Did) → OthersRest k cs (cs ++ Write k bytes did ∷ [])
+pub others_write : (k : ℕ) (cs : List Call) (bytes : List ℕ) (did : Did) → OthersRest k cs (cs ++ Write k bytes did ∷ [])
 others_write k cs bytes did j n = (taken_still j cs (Write k bytes did) refl, given_still j cs (Write k bytes did) (others_give k j bytes did n))
 
 -- no call

@@ -87,6 +87,45 @@ speech_of m h l t g v = elim v.order [
       }
 ]
 
+-- where no byte and no line waits, all was given
+pub all_said : (m : List Envelope) (h : List ℕ) (l : Link) (t g : List ℕ) → l.out.items ≡ [] → l.server.unsent ≡ [] → Converses m h l t g → g ≡ line_bytes (lines_for t) ++ h
+all_said m h l t g out none v =
+    sym (append-nil g)
+    ∙ ap (λ (w : List ℕ). g ++ w) (sym out)
+    ∙ v.all
+    ∙ ap (λ (w : List AuthLine). line_bytes w ++ h) (no_lines v.lines l.server.unsent (lines_for t) none (lines_after t v.lines l.server v.server_stands))
+
+pub over_there : (m : List Envelope) (h : List ℕ) (l : Link) (t g : List ℕ) → Converses m h l t g → (after server_start t).stage ≡ Over → l.server.stage ≡ Over
+over_there m h l t g v over = stage_after t v.lines l.server v.server_stands ∙ over
+
+-- what was given with all bytes that wait first, where some of them were given and the others wait
+pub offered : (m : List Envelope) (h : List ℕ) (l : Link) (t g part bytes rest : List ℕ) → part ++ l.out.items ≡ bytes ++ rest → Converses m h l t (g ++ part) → IsSpeech m h t (g ++ bytes)
+offered m h l t g part bytes rest e v = elim v.order [
+  | inl o ↦
+      record {
+        messages = v.messages;
+        rest = l.feeder;
+        parted = v.parted;
+        taken_all = v.taken_all;
+        over = inl o;
+        more = rest ++ line_bytes l.server.unsent;
+        front = with_lines (g ++ bytes) rest h v.lines l.server.unsent (lines_for t) all (lines_after t v.lines l.server v.server_stands) o;
+      }
+  | inr o ↦
+      record {
+        messages = v.messages;
+        rest = l.feeder;
+        parted = v.parted;
+        taken_all = v.taken_all;
+        over = inr (sym (stage_after t v.lines l.server v.server_stands) ∙ o.0);
+        more = rest;
+        front = all ∙ ap (λ (w : List AuthLine). line_bytes w ++ h) (no_lines v.lines l.server.unsent (lines_for t) o.1 (lines_after t v.lines l.server v.server_stands));
+      }
+]
+  where
+    all : (g ++ bytes) ++ rest ≡ line_bytes v.lines ++ h
+    all = append_assoc g bytes rest ∙ ap (λ (w : List ℕ). g ++ w) (sym e) ∙ sym (append_assoc g part l.out.items) ∙ v.all
+
 lines_more : (t piece : List ℕ) → lines_for t ++ (told (after server_start t) piece).said ≡ lines_for (t ++ piece)
 lines_more t piece = ap (λ (n : Standing). n.unsent) (after-append server_start t piece)
 

@@ -41,7 +41,7 @@ each_remove P [] (suc at) e = tt
 each_remove P (l ∷ ls) zero e = e.1
 each_remove P (l ∷ ls) (suc at) e = (e.0, each_remove P ls at e.1)
 
-each_at : (P : Link → Type 0) (ls : List Link) (at : ℕ) (l : Link) → at < length ls → l ≡ slice_index_or ls at l → Each P ls → P l
+pub each_at : (P : Link → Type 0) (ls : List Link) (at : ℕ) (l : Link) → at < length ls → l ≡ slice_index_or ls at l → Each P ls → P l
 each_at P [] at l h e p = absurd (omega (arith, h))
 each_at P (x ∷ ls) zero l h e p = subst P (sym e) p.0
 each_at P (x ∷ ls) (suc at) l h e p = each_at P ls at l (omega (arith, h)) e p.1
@@ -67,6 +67,9 @@ said_still asked asks None t t' g g' e f n s = (e ∙ s.0, f ∙ s.1)
 said_still asked asks (Some d) t t' g g' e f n s =
     let none = n d refl in
     speech_same (messages_of d asked) (messages_of d (asked ++ asks)) (handed_to d asked) (handed_to d (asked ++ asks)) t t' g g' (messages_same d asked asks none.0) (handed_same d asked asks none.1) e f s
+
+pub said_same : (asked : List Asked) (o : Option ℕ) (t t' g g' : List ℕ) → t' ≡ t → g' ≡ g → IsSaid asked o t g → IsSaid asked o t' g'
+said_same asked o t t' g g' e f s = subst (λ (w : List ℕ). IsSaid asked o w g') (sym e) (subst (λ (w : List ℕ). IsSaid asked o t w) (sym f) s)
 
 seated_still : (asked asks : List Asked) (conn : ℕ → Option ℕ) (cs cs' : List Call) (l : Link) → (taken l.number cs' ≡ taken l.number cs) × (given l.number cs' ≡ given l.number cs) → (messages_of l.conn asks ≡ []) × (handed_to l.conn asks ≡ [])
     → IsSeated asked conn cs l → IsSeated (asked ++ asks) conn cs' l

@@ -7,3 +7,13 @@ pub mod Conversing
 pub mod Going
 pub mod Fetching
 pub mod Stepping
+pub mod Telling
+pub mod Placing
+pub mod Shutting
+pub mod Giving
+pub mod Hearing
+pub mod Turning
+pub mod Passing
+pub mod Admitting
+pub mod Rounding
+pub mod Worked

@@ -5,7 +5,7 @@ use Rattle.atspi_auth.specs.declared.said.AuthLine.{AuthLine}
 use Rattle.atspi_auth.specs.declared.stage.Stage.TheVariants.{Over}
 use Rattle.atspi_message.specs.Envelope.{Envelope}
 use Rattle.atspi_stream.specs.Stream.{IsParted}
-use Rattle.atspi_routing.specs.Queues.{empty_bus, joins}
+use Rattle.atspi_routing.specs.Queues.{empty_bus, joins, queue_of}
 use Rattle.atspi_routing.specs.Queues as queues
 use Rattle.atspi_bus.specs.declared.bus.Bus.{Bus}
 use Rattle.atspi_bus.specs.View.{bus_of, given_of}
@@ -94,6 +94,10 @@ pub record Gives (c k : ℕ) (calls calls' : Option (List Call)) (b b' : queues.
   pub only : IsOfOne c asked
   pub none_taken : messages_of c asked ≡ []
   pub talks : (took : List Envelope) (handed : List ℕ) → Carries k calls calls' (Converses took handed old) (Converses took (handed ++ handed_to c asked) new)
+
+-- nothing comes behind the bytes that wait on a link: no line and, once these are over, nothing that the bus has for it
+abbrev pub IsSilent : queues.Bus → Link → Type 0
+IsSilent b l = (l.server.unsent ≡ []) × (l.server.stage ≡ Over → queue_of b.waiting.queues l.conn ≡ [])
 
 -- a link that was given joined a bus, as its next connection
 pub record Seats (number : ℕ) (b b' : Bus) (links links' : List Link) : Type 0 where

@@ -1,9 +1,12 @@
 //! The bus and its links, in rounds over a host.
 
-ghost use Rattle.std.specs.Prelude.{◌≡◌, ◌<◌, [], length, IsTrue, IfErr, IfSome, OnOk};
+ghost use Rattle.std.specs.Prelude.{◌≡◌, ◌<◌, ◌==◌, [], length, position, true, false, IsTrue, IfErr, IfSome, MatchResult, OnOk};
+ghost use lib.Dec.{leb};
 ghost use Rattle.std.specs.List.{remove};
 ghost use Rattle.atspi_routing.specs.Queues.{empty_bus};
 ghost use Rattle.atspi_bus.specs.View.{bus_of, given_of};
+ghost use Rattle.atspi_live_bus.specs.Rounds.{AreTurns, Breaks, Does, IsRound};
+ghost use Rattle.atspi_live_bus.specs.Seats.{HasAccepted, Hears, MayWrite, Shuts, ShutsOne, Stands, Takes, TakesCut, Writes, number_at, numbers_of, seats};
 ghost use Rattle.atspi_live_bus.specs.Service.{IsStopped, OfTold};
 ghost use Rattle.atspi_live_bus.specs.Serving.{Serves};
 ghost use Rattle.atspi_live_bus.specs.Stops.{IsFree, IsWant, StopBlames};
@@ -50,11 +53,22 @@ impl Hall {
         self.links.iter().position(|link| link.conn == conn)
     }
 
-    /// Where the link stands that joined next behind a connection.
-    fn behind(&self, conn: u32) -> Option<usize>
-        ensures { IfSome result (λ at. at < length self.now.links.items) }
+    /// Where the link of a number stands.
+    fn place_of(&self, number: u32) -> Option<usize>
+        ensures first { result ≡ position (λ l. l.number == number) self.now.links.items }
+        ensures below { IfSome result (λ at. at < length self.now.links.items) }
     {
-        self.links.iter().position(|link| link.conn > conn)
+        self.links.iter().position(|link| link.number == number)
+    }
+
+    /// Where the first link stands whose connection is this one or a later one.
+    fn next_due(&self, from: u64) -> Option<usize>
+        ensures first { result ≡ position (λ l. leb from l.conn) self.now.links.items }
+        ensures below { IfSome result (λ at. at < length self.now.links.items) }
+    {
+        self.links
+            .iter()
+            .position(|link| from <= u64::from(link.conn))
     }
 
     /// A link that was given joins the bus, behind the others.
@@ -74,8 +88,11 @@ impl Hall {
     /// Takes a link in, if one waits: it joins the bus at once.
     fn admit<H: Host>(&mut self, host: &mut H) -> Result<(), Stop>
         requires serves { Serves (H.links host.old) self.old.links.items }
+        requires stands { OfTold (Stands self.old.links.items) (H.calls host.old) }
         requires goes { OfTold (Goes self.old.bus self.old.links.items) (H.calls host.old) }
+        ensures calls { MatchResult result (λ _. Does (H.calls host.old) (H.calls host.new) HasAccepted) (λ stop. Does (H.calls host.old) (H.calls host.new) (Breaks stop)) }
         ensures serves { OnOk result (Serves (H.links host.new) self.new.links.items) }
+        ensures stands { OnOk result (OfTold (Stands self.new.links.items) (H.calls host.new)) }
         ensures goes { OnOk result (OfTold (Goes self.new.bus self.new.links.items) (H.calls host.new)) }
         ensures said { IfErr result (λ stop. OfTold (IsStopped stop) (H.calls host.new)) }
         ensures same { OnOk result (H.faults host.new ≡ H.faults host.old) }
@@ -93,6 +110,7 @@ impl Hall {
         requires serves { Serves (H.links host.old) self.old.links.items }
         requires there { at < length self.old.links.items }
         requires goes { OfTold (Goes self.old.bus (remove self.old.links.items at)) (H.calls host.old) }
+        ensures calls { Does (H.calls host.old) (H.calls host.new) (ShutsOne (number_at self.old.links.items at) self.old.links.items self.new.links.items) }
         ensures serves { Serves (H.links host.new) self.new.links.items }
         ensures goes { OfTold (Goes self.new.bus self.new.links.items) (H.calls host.new) }
         ensures bus { self.new.bus ≡ self.old.bus }
@@ -123,9 +141,11 @@ impl Hall {
     }
 
     /// The link of a connection that the bus closed is closed, where it still stands.
+    #[tactic(auto, using(crate::proofs::Shutting::shuts_none, crate::proofs::Shutting::shuts_one))]
     fn dismiss<H: Host>(&mut self, host: &mut H, conn: u32)
         requires serves { Serves (H.links host.old) self.old.links.items }
         requires goes { OfTold (Goes self.old.bus self.old.links.items) (H.calls host.old) }
+        ensures calls { Does (H.calls host.old) (H.calls host.new) (Shuts self.old.links.items self.new.links.items) }
         ensures serves { Serves (H.links host.new) self.new.links.items }
         ensures goes { OfTold (Goes self.new.bus self.new.links.items) (H.calls host.new) }
         ensures same { H.faults host.new ≡ H.faults host.old }
@@ -137,9 +157,11 @@ impl Hall {
     }
 
     /// The links of the connections that the bus closed are closed, in the order of their causes.
+    #[tactic(auto, using(crate::proofs::Shutting::shuts_none, crate::proofs::Shutting::shuts_both))]
     fn settle<H: Host>(&mut self, host: &mut H)
         requires serves { Serves (H.links host.old) self.old.links.items }
         requires goes { OfTold (Goes self.old.bus self.old.links.items) (H.calls host.old) }
+        ensures calls { Does (H.calls host.old) (H.calls host.new) (Shuts self.old.links.items self.new.links.items) }
         ensures serves { Serves (H.links host.new) self.new.links.items }
         ensures goes { OfTold (Goes self.new.bus self.new.links.items) (H.calls host.new) }
         ensures same { H.faults host.new ≡ H.faults host.old }
@@ -151,10 +173,12 @@ impl Hall {
     }
 
     /// A link is closed, and its connection leaves the bus. Of the link itself nothing is asked.
+    #[tactic(auto, using(crate::proofs::Shutting::shuts_more))]
     fn part<H: Host>(&mut self, host: &mut H, at: usize) -> Result<(), Stop>
         requires serves { Serves (H.links host.old) self.old.links.items }
         requires there { at < length self.old.links.items }
         requires goes { OfTold (Goes self.old.bus (remove self.old.links.items at)) (H.calls host.old) }
+        ensures calls { Does (H.calls host.old) (H.calls host.new) (ShutsOne (number_at self.old.links.items at) self.old.links.items self.new.links.items) }
         ensures serves { OnOk result (Serves (H.links host.new) self.new.links.items) }
         ensures goes { OnOk result (OfTold (Goes self.new.bus self.new.links.items) (H.calls host.new)) }
         ensures said { IfErr result (λ stop. OfTold (IsStopped stop) (H.calls host.new)) }
@@ -173,16 +197,18 @@ impl Hall {
     }
 
     /// The bus takes the next message of a link, and closes whom it brings to close; one that sent what is malformed is closed. Whether a message was taken.
-    fn attend_one<H: Host>(&mut self, host: &mut H, conn: u32) -> Result<bool, Stop>
+    #[tactic(auto, using(crate::proofs::Shutting::shuts_none, crate::proofs::Shutting::shuts_one, crate::proofs::Shutting::shuts_from))]
+    fn attend_one<H: Host>(&mut self, host: &mut H, number: u32) -> Result<bool, Stop>
         requires serves { Serves (H.links host.old) self.old.links.items }
         requires goes { OfTold (Goes self.old.bus self.old.links.items) (H.calls host.old) }
+        ensures calls { Does (H.calls host.old) (H.calls host.new) (Shuts self.old.links.items self.new.links.items) }
         ensures serves { OnOk result (Serves (H.links host.new) self.new.links.items) }
         ensures goes { OnOk result (OfTold (Goes self.new.bus self.new.links.items) (H.calls host.new)) }
         ensures said { IfErr result (λ stop. OfTold (IsStopped stop) (H.calls host.new)) }
         ensures same { H.faults host.new ≡ H.faults host.old }
         ensures cause { IfErr result IsFree }
     {
-        let Some(at) = self.place(conn) else {
+        let Some(at) = self.place_of(number) else {
             return Ok(false);
         };
         match self.links[at].tell(&mut self.bus) {
@@ -200,9 +226,11 @@ impl Hall {
     }
 
     /// The bus takes each whole message of a link, until the link is gone. A read brings fewer messages than bytes.
-    fn attend<H: Host>(&mut self, host: &mut H, conn: u32) -> Result<(), Stop>
+    #[tactic(auto, using(crate::proofs::Shutting::shuts_none, crate::proofs::Shutting::shuts_both))]
+    fn attend<H: Host>(&mut self, host: &mut H, number: u32) -> Result<(), Stop>
         requires serves { Serves (H.links host.old) self.old.links.items }
         requires goes { OfTold (Goes self.old.bus self.old.links.items) (H.calls host.old) }
+        ensures calls { Does (H.calls host.old) (H.calls host.new) (Shuts self.old.links.items self.new.links.items) }
         ensures serves { OnOk result (Serves (H.links host.new) self.new.links.items) }
         ensures goes { OnOk result (OfTold (Goes self.new.bus self.new.links.items) (H.calls host.new)) }
         ensures said { IfErr result (λ stop. OfTold (IsStopped stop) (H.calls host.new)) }
@@ -210,7 +238,7 @@ impl Hall {
         ensures cause { IfErr result IsFree }
     {
         for _ in 0..PIECE {
-            match self.attend_one(host, conn) {
+            match self.attend_one(host, number) {
                 Ok(true) => {}
                 Ok(false) => return Ok(()),
                 Err(stop) => return Err(stop),
@@ -220,36 +248,37 @@ impl Hall {
     }
 
     /// One read of a link, and the bus takes what is then whole. A link that has ended, has failed, or sent what is at fault is closed.
-    fn take_in<H: Host>(&mut self, host: &mut H, conn: u32) -> Result<(), Stop>
+    fn take_in<H: Host>(&mut self, host: &mut H, at: usize) -> Result<(), Stop>
         requires serves { Serves (H.links host.old) self.old.links.items }
+        requires there { at < length self.old.links.items }
         requires goes { OfTold (Goes self.old.bus self.old.links.items) (H.calls host.old) }
+        ensures calls { Does (H.calls host.old) (H.calls host.new) (Hears (number_at self.old.links.items at) self.old.links.items self.new.links.items) }
         ensures serves { OnOk result (Serves (H.links host.new) self.new.links.items) }
         ensures goes { OnOk result (OfTold (Goes self.new.bus self.new.links.items) (H.calls host.new)) }
         ensures said { IfErr result (λ stop. OfTold (IsStopped stop) (H.calls host.new)) }
         ensures same { H.faults host.new ≡ H.faults host.old }
         ensures cause { IfErr result IsFree }
     {
-        let Some(at) = self.place(conn) else {
-            return Ok(());
-        };
+        let number = self.links[at].number;
         match self.links[at].take_in(host) {
-            Ok(true) => self.attend(host, conn),
+            Ok(true) => self.attend(host, number),
             Ok(false) => self.part(host, at),
             Err(stop) => Err(stop),
         }
     }
 
     /// One write of a link that is open, where output waits. One on which it failed is closed.
-    fn give<H: Host>(&mut self, host: &mut H, conn: u32) -> Result<(), Stop>
+    fn give<H: Host>(&mut self, host: &mut H, number: u32) -> Result<(), Stop>
         requires serves { Serves (H.links host.old) self.old.links.items }
         requires goes { OfTold (Goes self.old.bus self.old.links.items) (H.calls host.old) }
+        ensures calls { MatchResult result (λ _. Does (H.calls host.old) (H.calls host.new) (Writes number self.old.links.items self.new.links.items)) (λ _. Does (H.calls host.old) (H.calls host.new) (MayWrite number self.old.links.items self.new.links.items)) }
         ensures serves { OnOk result (Serves (H.links host.new) self.new.links.items) }
         ensures goes { OnOk result (OfTold (Goes self.new.bus self.new.links.items) (H.calls host.new)) }
         ensures said { IfErr result (λ stop. OfTold (IsStopped stop) (H.calls host.new)) }
         ensures same { H.faults host.new ≡ H.faults host.old }
         ensures cause { IfErr result IsFree }
     {
-        let Some(at) = self.place(conn) else {
+        let Some(at) = self.place_of(number) else {
             return Ok(());
         };
         match self.links[at].give(host, &mut self.bus) {
@@ -260,45 +289,48 @@ impl Hall {
     }
 
     /// One read of a link and, where it is still open, one write.
-    fn serve<H: Host>(&mut self, host: &mut H, conn: u32) -> Result<(), Stop>
+    fn serve<H: Host>(&mut self, host: &mut H, at: usize) -> Result<(), Stop>
         requires serves { Serves (H.links host.old) self.old.links.items }
+        requires there { at < length self.old.links.items }
         requires goes { OfTold (Goes self.old.bus self.old.links.items) (H.calls host.old) }
+        ensures calls { MatchResult result (λ _. Does (H.calls host.old) (H.calls host.new) (Takes (number_at self.old.links.items at) self.old.links.items self.new.links.items)) (λ _. Does (H.calls host.old) (H.calls host.new) (TakesCut (number_at self.old.links.items at) self.old.links.items)) }
         ensures serves { OnOk result (Serves (H.links host.new) self.new.links.items) }
         ensures goes { OnOk result (OfTold (Goes self.new.bus self.new.links.items) (H.calls host.new)) }
         ensures said { IfErr result (λ stop. OfTold (IsStopped stop) (H.calls host.new)) }
         ensures same { H.faults host.new ≡ H.faults host.old }
         ensures cause { IfErr result IsFree }
     {
-        match self.take_in(host, conn) {
-            Ok(()) => self.give(host, conn),
+        let number = self.links[at].number;
+        match self.take_in(host, at) {
+            Ok(()) => self.give(host, number),
             Err(stop) => Err(stop),
         }
     }
 
     /// Each link is served once, in the order in which they joined.
+    #[tactic(auto, using(crate::proofs::Passing::passes_none, crate::proofs::Passing::passes_on, crate::proofs::Passing::stands_then, crate::proofs::Passing::all_passed, crate::proofs::Passing::none_left, crate::proofs::Passing::cut_passed))]
     fn pass<H: Host>(&mut self, host: &mut H) -> Result<(), Stop>
         requires serves { Serves (H.links host.old) self.old.links.items }
+        requires stands { OfTold (Stands self.old.links.items) (H.calls host.old) }
         requires goes { OfTold (Goes self.old.bus self.old.links.items) (H.calls host.old) }
+        ensures calls { MatchResult result (λ _. Does (H.calls host.old) (H.calls host.new) (λ past. AreTurns true past (numbers_of (seats self.old.links.items)))) (λ _. Does (H.calls host.old) (H.calls host.new) (λ past. AreTurns false past (numbers_of (seats self.old.links.items)))) }
         ensures serves { OnOk result (Serves (H.links host.new) self.new.links.items) }
+        ensures stands { OnOk result (OfTold (Stands self.new.links.items) (H.calls host.new)) }
         ensures goes { OnOk result (OfTold (Goes self.new.bus self.new.links.items) (H.calls host.new)) }
         ensures said { IfErr result (λ stop. OfTold (IsStopped stop) (H.calls host.new)) }
         ensures same { H.faults host.new ≡ H.faults host.old }
         ensures cause { IfErr result IsFree }
     {
-        let mut next = if self.links.is_empty() { None } else { Some(0) };
+        let mut from = 0u64;
         for _ in 0..self.links.len() {
-            let Some(at) = next else {
+            let Some(at) = self.next_due(from) else {
                 return Ok(());
             };
-            if at >= self.links.len() {
-                return Ok(());
-            }
-            let conn = self.links[at].conn;
-            match self.serve(host, conn) {
+            from = u64::from(self.links[at].conn) + 1;
+            match self.serve(host, at) {
                 Ok(()) => {}
                 Err(stop) => return Err(stop),
             }
-            next = self.behind(conn);
         }
         Ok(())
     }
@@ -306,8 +338,11 @@ impl Hall {
     /// One round: an accept, and each link is served once.
     pub(crate) fn round<H: Host>(&mut self, host: &mut H) -> Result<(), Stop>
         requires serves { Serves (H.links host.old) self.old.links.items }
+        requires stands { OfTold (Stands self.old.links.items) (H.calls host.old) }
         requires goes { OfTold (Goes self.old.bus self.old.links.items) (H.calls host.old) }
+        ensures calls { MatchResult result (λ _. Does (H.calls host.old) (H.calls host.new) (IsRound true)) (λ stop. Does (H.calls host.old) (H.calls host.new) (Breaks stop)) }
         ensures serves { OnOk result (Serves (H.links host.new) self.new.links.items) }
+        ensures stands { OnOk result (OfTold (Stands self.new.links.items) (H.calls host.new)) }
         ensures goes { OnOk result (OfTold (Goes self.new.bus self.new.links.items) (H.calls host.new)) }
         ensures said { IfErr result (λ stop. OfTold (IsStopped stop) (H.calls host.new)) }
         ensures same { OnOk result (H.faults host.new ≡ H.faults host.old) }

@@ -1,14 +1,16 @@
 //! A link of the bus: its authentication, what is held of a message that is not whole, and the bytes that wait to be given.
 
-ghost use Rattle.std.specs.Prelude.{◌≡◌, ◌<◌, ◌≤◌, ◌++◌, ℕ, List, [], drop, length, IfErr, IfOk, OnErr, OnOk};
+ghost use Rattle.std.specs.Prelude.{◌≡◌, ◌<◌, ◌≤◌, ◌++◌, ℕ, List, [], drop, length, IfErr, IfOk, MatchResult, OnErr, OnOk, true};
 ghost use Rattle.atspi_auth.specs.declared.stage.Stage.TheVariants.{Over};
 ghost use Rattle.atspi_message.specs.Envelope.{Envelope};
 ghost use Rattle.atspi_bus.specs.View.{bus_of, given_of};
 ghost use Rattle.atspi_host.specs.Calls.{IsOpen};
+ghost use Rattle.atspi_live_bus.specs.Rounds.{Does};
+ghost use Rattle.atspi_live_bus.specs.Seats.{HasRead, HasSent};
 ghost use Rattle.atspi_live_bus.specs.Asked.{Spends};
 ghost use Rattle.atspi_live_bus.specs.Service.{IsSpeech};
 ghost use Rattle.atspi_live_bus.specs.Stops.{IsFree, IsWant};
-ghost use Rattle.atspi_live_bus.specs.Turns.{Carries, Converses, Fetches, Gives, Remains, Tells};
+ghost use Rattle.atspi_live_bus.specs.Turns.{Carries, Converses, Fetches, Gives, IsSilent, Remains, Tells};
 
 use crate::stop::{Stop, stop_of};
 use atspi_auth::{AuthFault, Server};
@@ -80,6 +82,7 @@ impl Link {
     /// One read, and what it brings is heard. False where the link has ended, has failed, or sent a line that is at fault.
     pub(crate) fn take_in<H: Host>(&mut self, host: &mut H) -> Result<bool, Stop>
         requires { IsOpen self.old.number (H.links host.old) }
+        ensures calls { MatchResult result (λ goes_on. Does (H.calls host.old) (H.calls host.new) (HasRead self.old.number goes_on)) (λ _. Does (H.calls host.old) (H.calls host.new) (HasRead self.old.number true)) }
         ensures ok { IfOk result (λ goes_on. (took : List Envelope) (handed : List ℕ)
             → Carries self.old.number (H.calls host.old) (H.calls host.new) (Converses took handed self.old) (Remains goes_on took handed self.new)) }
         ensures err { OnErr result ((took : List Envelope) (handed : List ℕ)
@@ -158,6 +161,7 @@ impl Link {
         requires over { self.old.server.stage ≡ Over }
         requires said { length self.old.out.items < PIECE → self.old.server.unsent ≡ [] }
         ensures ok { OnOk result (Fetches self.old.conn (bus_of bus.old) (bus_of bus.new) self.old self.new) }
+        ensures silent { OnOk result (length self.new.out.items < PIECE → IsSilent (bus_of bus.new) self.new) }
         ensures given { given_of bus.new ≡ given_of bus.old }
         ensures number { self.new.number ≡ self.old.number }
         ensures conn { self.new.conn ≡ self.old.conn }
@@ -181,6 +185,7 @@ impl Link {
     /// What is to be said now waits to be given: lines, and once these are over what the bus has for this connection.
     fn fill(&mut self, bus: &mut Bus) -> Result<(), Stop>
         ensures ok { OnOk result (Fetches self.old.conn (bus_of bus.old) (bus_of bus.new) self.old self.new) }
+        ensures silent { OnOk result (length self.new.out.items < PIECE → IsSilent (bus_of bus.new) self.new) }
         ensures given { given_of bus.new ≡ given_of bus.old }
         ensures number { self.new.number ≡ self.old.number }
         ensures conn { self.new.conn ≡ self.old.conn }
@@ -199,6 +204,7 @@ impl Link {
     fn front(&self) -> &[u8]
         ensures front { (rest : List ℕ) × (self.now.out.items ≡ result.now ++ rest) }
         ensures some { 0 < length self.now.out.items → 0 < length result.now }
+        ensures few { length result.now ≤ PIECE }
     {
         &self.out[..self.out.len().min(PIECE)]
     }
@@ -220,6 +226,7 @@ impl Link {
     /// One write, where output waits. False where it failed.
     pub(crate) fn give<H: Host>(&mut self, host: &mut H, bus: &mut Bus) -> Result<bool, Stop>
         requires { IsOpen self.old.number (H.links host.old) }
+        ensures calls { IfOk result (λ goes_on. Does (H.calls host.old) (H.calls host.new) (HasSent self.old.number goes_on (bus_of bus.new) self.new)) }
         ensures ok { OnOk result (Gives self.old.conn self.old.number (H.calls host.old) (H.calls host.new) (bus_of bus.old) (bus_of bus.new) self.old self.new) }
         ensures err { OnErr result (H.calls host.new ≡ H.calls host.old) }
         ensures given { given_of bus.new ≡ given_of bus.old }

@@ -1,9 +1,10 @@
 //! A run of the bus on a Unix socket.
 
-ghost use Rattle.std.specs.Prelude.{◌≡◌, [], IfErr, OnOk};
+ghost use Rattle.std.specs.Prelude.{◌≡◌, ◌≢◌, [], IfErr, MatchResult, OnOk};
 ghost use Rattle.atspi_host.specs.declared.call.Call.{Call};
 ghost use Rattle.atspi_host.specs.declared.call.Did.{Did};
 ghost use Rattle.atspi_host.specs.Calls.{Adds};
+ghost use Rattle.atspi_live_bus.specs.Rounds.{IsRun};
 ghost use Rattle.atspi_live_bus.specs.Service.{HasNoCall, HasSpent, IsService, OfTold};
 ghost use Rattle.atspi_live_bus.specs.Stops.{Ends, StopBlames, status_of};
 
@@ -28,6 +29,7 @@ fn status_of(stop: Stop) -> u8
 fn listen<H: Host>(path: &Text, host: &mut H) -> Result<(), Stop>
     ensures links { H.links host.new ≡ H.links host.old }
     ensures calls { (did : Did) × Adds (H.calls host.old) (H.calls host.new) (Call.Listen path.now did) }
+    ensures told { MatchResult result (λ _. (did : Did) × (did ≢ Did.Failed) × Adds (H.calls host.old) (H.calls host.new) (Call.Listen path.now did)) (λ _. Adds (H.calls host.old) (H.calls host.new) (Call.Listen path.now Did.Failed)) }
     ensures same { OnOk result (H.faults host.new ≡ H.faults host.old) }
     ensures cause { IfErr result (λ stop. StopBlames stop (H.faults host.old) (H.faults host.new)) }
     ensures failed { IfErr result (λ stop. stop ≡ Stop.HostFailed) }
@@ -53,6 +55,7 @@ pub fn bus<H: Host>(alloc: Global, path: &Text, rounds: u32, host: &mut H) -> u8
     ensures service { OfTold IsService (H.calls host.new) }
     ensures spent { result ≡ 13 → OfTold HasSpent (H.calls host.new) }
     ensures ends { Ends result (H.faults host.old) (H.faults host.new) }
+    ensures rounds { OfTold (IsRun path.now result rounds) (H.calls host.new) }
 {
     if let Err(stop) = listen(path, host) {
         return status_of(stop);

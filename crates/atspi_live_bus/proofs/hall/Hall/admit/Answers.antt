@@ -3,6 +3,7 @@ use Rattle.atspi_host.specs.declared.call.Did.TheVariants.{Done, NotYet, Failed}
 use Rattle.atspi_host.specs.Calls.{IsNew}
 use Rattle.atspi_live_bus.specs.Serving.{numbers}
 use Rattle.atspi_live_bus.specs.declared.link.Link.{Link}
+use Rattle.atspi_live_bus.proofs.Admitting.{accepted, admitted, none_seated, not_admitted, seated_stands}
 use Rattle.atspi_live_bus.proofs.Ending.{free_blames, if_err, on_ok}
 use Rattle.atspi_live_bus.proofs.Going.{want_free}
 use Rattle.atspi_live_bus.proofs.Serving.{opened, pushed}
@@ -47,3 +48,28 @@ pub returns-in-Failed-clause-said : goal.returns-in-Failed-clause-said
 returns-in-Failed-clause-said g c =
     service_told c.args.self.now.bus c.args.self.now.links.items (g.H.Host.calls c.accept.new.self)
     (none_came c.args.self.now.bus c.args.self.now.links.items Failed (g.H.Host.calls c.args.host.now) (g.H.Host.calls c.accept.new.self) c.in-Failed.ensures.calls c.requires.goes)
+
+pub returns-in-Done-clause-calls : goal.returns-in-Done-clause-calls
+returns-in-Done-clause-calls g c = admitted c.seat.result (g.H.Host.calls c.args.host.now) (g.H.Host.calls c.accept.new.self) (Done c.in-Done.number) c.seat.ensures.cause tt c.in-Done.ensures.calls
+
+pub returns-in-Done-clause-stands : goal.returns-in-Done-clause-stands
+returns-in-Done-clause-stands g c =
+    on_ok c.seat.result _ _
+    (λ q. seated_stands c.args.self.now.bus c.seat.new.self.bus c.args.self.now.links.items c.seat.new.self.links.items c.in-Done.number (g.H.Host.calls c.args.host.now) (g.H.Host.calls c.accept.new.self) q
+    c.in-Done.ensures.calls c.requires.goes c.requires.stands)
+    c.seat.ensures.ok
+
+pub returns-in-NotYet-clause-calls : goal.returns-in-NotYet-clause-calls
+returns-in-NotYet-clause-calls g c = elim c.in-NotYet.is [
+  | inl e ↦ accepted (g.H.Host.calls c.args.host.now) (g.H.Host.calls c.accept.new.self) NotYet tt (rw e at c.accept.ensures.calls)
+  | inr e ↦ absurd (rw e at c.accept.ensures.links)
+]
+
+pub returns-in-NotYet-clause-stands : goal.returns-in-NotYet-clause-stands
+returns-in-NotYet-clause-stands g c = elim c.in-NotYet.is [
+  | inl e ↦ none_seated c.args.self.now.links.items (g.H.Host.calls c.args.host.now) (g.H.Host.calls c.accept.new.self) (rw e at c.accept.ensures.calls) c.requires.stands
+  | inr e ↦ absurd (rw e at c.accept.ensures.links)
+]
+
+pub returns-in-Failed-clause-calls : goal.returns-in-Failed-clause-calls
+returns-in-Failed-clause-calls g c = not_admitted (g.H.Host.calls c.args.host.now) (g.H.Host.calls c.accept.new.self) c.in-Failed.ensures.calls

@@ -1,6 +1,7 @@
 use Rattle.std.proofs.Common.{subst, sym}
 use Rattle.atspi_live_bus.specs.Serving.{Serves}
 use Rattle.atspi_live_bus.proofs.Serving.{link_open, removed}
+use Rattle.atspi_live_bus.proofs.Shutting.{shut_here}
 use Rattle.atspi_live_bus.proofs.Stepping.{closed_goes}
 use Rattle.std.specs.List.{remove}
 use Rattle.atspi_live_bus.proofs.hall.Hall.close.Goals as goal
@@ -9,6 +10,11 @@ pub close-requires : goal.close-requires
 close-requires g c = record {
   «open» = link_open c.args.self.now.links.items c.args.at c.remove-gone.result (g.H.Host.links c.args.host.now) c.requires.there c.remove-gone.ensures.value c.requires.serves;
 }
+
+pub returns-clause-calls : goal.returns-clause-calls
+returns-clause-calls g c =
+    shut_here c.args.self.now.links.items c.remove-gone.new.self.items c.args.at c.remove-gone.result (g.H.Host.links c.args.host.now) (g.H.Host.calls c.args.host.now) (g.H.Host.calls c.close.new.self)
+    c.requires.there c.remove-gone.ensures.value c.remove-gone.ensures.items c.requires.serves c.close.ensures.calls
 
 pub returns-clause-serves : goal.returns-clause-serves
 returns-clause-serves g c =

@@ -1,5 +1,7 @@
 use Rattle.std.proofs.Common.{◌≡◌, length}
 use Rattle.atspi_bus.specs.View.{bus_of}
+use Rattle.atspi_live_bus.specs.Rounds.{Does}
+use Rattle.atspi_live_bus.specs.Seats.{Shuts}
 use Rattle.atspi_live_bus.specs.Service.{OfTold}
 use Rattle.atspi_live_bus.specs.Serving.{Serves}
 use Rattle.atspi_live_bus.specs.Turns.{Goes}
@@ -9,6 +11,7 @@ abbrev pub invariant-closings : goal.invariant-closings
 invariant-closings g l = record {
   serves : Serves (g.H.Host.links l.host) l.self.links.items;
   goes : OfTold (Goes l.self.bus l.self.links.items) (g.H.Host.calls l.host);
+  calls : Does (g.H.Host.calls l.fn.host) (g.H.Host.calls l.host) (Shuts l.fn.self.links.items l.self.links.items);
   same : g.H.Host.faults l.host ≡ g.H.Host.faults l.fn.host;
 }
 

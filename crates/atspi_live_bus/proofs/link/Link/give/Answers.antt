@@ -1,10 +1,13 @@
-use Rattle.std.proofs.Common.{◌≡◌, ◌≤◌, ℕ, List, ◌++◌, length, take, drop, sym, ap, subst, ◌∙◌, inl, inr, append-nil, arith}
+use Rattle.std.proofs.Common.{rules, ◌≡◌, ◌<◌, ◌≤◌, ℕ, true, false, List, ◌++◌, length, take, drop, sym, ap, subst, ◌∙◌, inl, inr, append-nil, arith}
 use Rattle.std.proofs.lemmas.List.{length-append, take-append-drop}
 use Rattle.atspi_host.specs.declared.call.Did.TheVariants.{Done, NotYet, Failed}
 use Rattle.atspi_bus.specs.View.{bus_of}
+use Rattle.atspi_live_bus.specs.Rounds.{Does}
+use Rattle.atspi_live_bus.specs.Seats.{HasSent}
 use Rattle.atspi_live_bus.specs.Turns.{Carries, Converses}
 use Rattle.atspi_live_bus.proofs.Calling.{carries_write}
 use Rattle.atspi_live_bus.proofs.Conversing.{given_on}
+use Rattle.atspi_live_bus.proofs.Giving.{sent_lost, sent_some}
 use Rattle.atspi_live_bus.proofs.Fetching.{front_of, gives_of}
 use Rattle.atspi_live_bus.proofs.link.Link.give.Goals as goal
 
@@ -43,3 +46,26 @@ returns-in-End-clause-ok g c = elim c.in-End.is [
       (carries_write c.fill.new.self.number (g.H.Host.calls c.args.host.now) (g.H.Host.calls c.write.new.self) c.front.result.now Failed (Converses m h c.fill.new.self) (Converses m h c.fill.new.self) (rw e at c.write.ensures.calls)
       (λ t s v. subst (λ (w : List ℕ). Converses m h c.fill.new.self t w) (sym (append-nil s)) v)))
 ]
+
+pub returns-in-Done-clause-calls : goal.returns-in-Done-clause-calls
+returns-in-Done-clause-calls g c =
+    let some : 0 < length c.front.result.now = search rules in
+    subst (λ (k : ℕ). Does (g.H.Host.calls c.args.host.now) (g.H.Host.calls c.write.new.self) (HasSent k true (bus_of c.fill.new.bus) c.gave.new.self)) c.fill.ensures.number
+    (sent_some c.fill.new.self.number (bus_of c.fill.new.bus) c.gave.new.self c.front.result.now c.front.ensures.front.0 (Done c.in-Done.n) (g.H.Host.calls c.args.host.now) (g.H.Host.calls c.write.new.self) some c.front.ensures.few
+    (part c.fill.new.self.out.items c.front.result.now c.front.ensures.front.0 c.gave.new.self.out.items c.in-Done.n c.front.ensures.front.1 c.in-Done.ensures.within.1 c.gave.ensures.out ∙ c.front.ensures.front.1) tt c.in-Done.ensures.calls)
+
+pub returns-in-NotYet-clause-calls : goal.returns-in-NotYet-clause-calls
+returns-in-NotYet-clause-calls g c =
+    let some : 0 < length c.front.result.now = search rules in
+    subst (λ (k : ℕ). Does (g.H.Host.calls c.args.host.now) (g.H.Host.calls c.write.new.self) (HasSent k true (bus_of c.fill.new.bus) c.fill.new.self)) c.fill.ensures.number
+    (sent_some c.fill.new.self.number (bus_of c.fill.new.bus) c.fill.new.self c.front.result.now c.front.ensures.front.0 NotYet (g.H.Host.calls c.args.host.now) (g.H.Host.calls c.write.new.self) some c.front.ensures.few c.front.ensures.front.1 tt c.in-NotYet.ensures.calls)
+
+pub returns-in-End-clause-calls : goal.returns-in-End-clause-calls
+returns-in-End-clause-calls g c =
+    let some : 0 < length c.front.result.now = search rules in
+    elim c.in-End.is [
+      | inl e ↦ absurd (c.write.ensures.no_end e)
+      | inr e ↦
+          subst (λ (k : ℕ). Does (g.H.Host.calls c.args.host.now) (g.H.Host.calls c.write.new.self) (HasSent k false (bus_of c.fill.new.bus) c.fill.new.self)) c.fill.ensures.number
+          (sent_lost c.fill.new.self.number (bus_of c.fill.new.bus) c.fill.new.self c.front.result.now c.front.ensures.front.0 (g.H.Host.calls c.args.host.now) (g.H.Host.calls c.write.new.self) some c.front.ensures.few c.front.ensures.front.1 (rw e at c.write.ensures.calls))
+    ]
