@@ -4,6 +4,8 @@
 #[cfg(test)]
 mod app_calls;
 #[cfg(test)]
+mod made;
+#[cfg(test)]
 mod news;
 #[cfg(test)]
 mod reader_calls;

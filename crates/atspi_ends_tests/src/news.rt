@@ -2,7 +2,6 @@
 
 mod cache;
 mod events;
-mod made;
 mod replies;
 mod shown;
 mod told;

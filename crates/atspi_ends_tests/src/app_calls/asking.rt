@@ -1,6 +1,6 @@
 //! What calls ask: members, properties, and the first error.
 
-use crate::news::made::{call, lent};
+use crate::made::{call, lent};
 use atspi_app_calls::{AppInterface, AppObject, Ask, asked};
 use atspi_forest::Kinds;
 use atspi_protocol::ends::CallError;

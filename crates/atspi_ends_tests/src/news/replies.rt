@@ -1,6 +1,6 @@
 //! What replies tell.
 
-use crate::news::made::{lent, returned};
+use crate::made::{lent, returned};
 use crate::news::shown::{put_item, put_news};
 use atspi_base::{Bytes, put_decimal};
 use atspi_news_reading::{items_told, part_told};

@@ -1,6 +1,6 @@
 //! Whether signals tell what is due.
 
-use crate::news::made::{lent, signal};
+use crate::made::{lent, signal};
 use crate::news::shown::put_news;
 use atspi_base::Bytes;
 use atspi_news_reading::news_of;

@@ -3,7 +3,7 @@
 ghost use Rattle.atspi_message.specs.Envelope.{envelope_of};
 ghost use Rattle.atspi_message.specs.Rules.{MeetsRules};
 
-use crate::news::made::lent;
+use crate::made::lent;
 use atspi_base::{Bytes, Text, put_decimal, put_signed};
 use atspi_cursor::{Fields, Item};
 use atspi_header::MessageRef;
