@@ -8,34 +8,34 @@ use Rattle.atspi_host.specs.Calls.{taken}
 use Rattle.atspi_conversation.specs.Moved.{AllGoOn, reads}
 use Rattle.atspi_conversation.specs.Speech.{Ends, IsInOrder, Speaks, envelopes}
 use Rattle.atspi_conversation.specs.Talking.{Blames}
-use Rattle.atspi_live_app.specs.Standing.{IsAfter, IsSpent}
+use Rattle.atspi_live_app.specs.Standing.{Event, IsAfter, IsSpent}
 use Rattle.atspi_live_app.specs.Live.{IsStopped}
 use Rattle.atspi_live_app.specs.declared.live_app.Stop.{Stop}
 use Rattle.atspi_live_app.specs.declared.over.Over.{Over}
 use Rattle.atspi_live_app.specs.declared.over.Over.TheVariants as overs
 
 -- nothing of the bytes that were taken is at fault, and where the messages that are whole were taken a line is not done for this
-pub record StopsBy (lines : List (List ℕ)) (stop : Stop) (t : List ℕ) : Type 0 where
+pub record StopsBy (IsOrder : List Event → List (List ℕ) → Type 0) (lines : List (List ℕ)) (stop : Stop) (t : List ℕ) : Type 0 where
   pub order : IsInOrder t
   pub messages : List (Envelope × List ℕ)
   pub rest : List ℕ
   pub parted : IsParted (behind client_start t) messages rest
   pub awaits : AwaitsMore rest
-  pub stopped : IsStopped stop lines (envelopes messages)
+  pub stopped : IsStopped IsOrder stop lines (envelopes messages)
 
-abbrev pub StopsSo : List (List ℕ) → Stop → ℕ → Option (List Call) → Type 0
-StopsSo lines stop k None = ⊤
-StopsSo lines stop k (Some cs) = StopsBy lines stop (taken k cs) × AllGoOn (reads k cs)
+abbrev pub StopsSo : (List Event → List (List ℕ) → Type 0) → List (List ℕ) → Stop → ℕ → Option (List Call) → Type 0
+StopsSo IsOrder lines stop k None = ⊤
+StopsSo IsOrder lines stop k (Some cs) = StopsBy IsOrder lines stop (taken k cs) × AllGoOn (reads k cs)
 
 -- the conversation ended, or a line was not done
-abbrev pub EndsSo : List (List ℕ) → ℕ → Over → ℕ → Option (List Call) → Type 0
-EndsSo lines k (overs.Ended ending) rounds calls = Ends (IsAfter lines) IsSpent k ending rounds calls
-EndsSo lines k (overs.Stopped stop) rounds calls = StopsSo lines stop k calls
+abbrev pub EndsSo : (List Event → List (List ℕ) → Type 0) → List (List ℕ) → ℕ → Over → ℕ → Option (List Call) → Type 0
+EndsSo IsOrder lines k (overs.Ended ending) rounds calls = Ends (IsAfter IsOrder lines) IsSpent k ending rounds calls
+EndsSo IsOrder lines k (overs.Stopped stop) rounds calls = StopsSo IsOrder lines stop k calls
 
--- what was said, and why it was over
-pub record IsOver (lines : List (List ℕ)) (k : ℕ) (over : Over) (rounds : ℕ) (calls : Option (List Call)) : Type 0 where
-  pub speaks : Speaks (IsAfter lines) k calls
-  pub so : EndsSo lines k over rounds calls
+-- what was said, and why it was over, where lines and messages came in such an order
+pub record IsOver (IsOrder : List Event → List (List ℕ) → Type 0) (lines : List (List ℕ)) (k : ℕ) (over : Over) (rounds : ℕ) (calls : Option (List Call)) : Type 0 where
+  pub speaks : Speaks (IsAfter IsOrder lines) k calls
+  pub so : EndsSo IsOrder lines k over rounds calls
 
 -- the count of failed reads and writes rose where one failed, and else is the same
 abbrev pub OverBlames : Over → ℕ → ℕ → Type 0

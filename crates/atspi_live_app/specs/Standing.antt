@@ -67,11 +67,12 @@ HandedOut said None None = said ≡ []
 HandedOut said (Some s) (Some whole) = (done : List Happening) × (record s { out = done ++ s.out } ≡ whole) × (sent_in done ≡ said)
 HandedOut said _ _ = ⊥
 
--- From its start on it did lines at the front of these, took these messages and handed out those: what it handed out, and what it has
--- queued, is all that the application sends that its lines and the messages make, in the order in which they were done.
-pub record IsAfter (lines : List (List ℕ)) (s : Option Exporter) (took said : List Envelope) : Type 0 where
+-- From its start on it did lines at the front of these, took these messages and handed out those, in an order that is so for the lines
+-- that are left: what it handed out, and what it has queued, is all that the application sends that its lines and the messages make.
+pub record IsAfter (IsOrder : List Event → List (List ℕ) → Type 0) (lines : List (List ℕ)) (s : Option Exporter) (took said : List Envelope) : Type 0 where
   pub history : List Event
   pub left : List (List ℕ)
+  pub order : IsOrder history left
   pub all : lines_in history ++ left ≡ lines
   pub taken : taken_in history ≡ took
   pub whole : Option Exporter
@@ -117,9 +118,10 @@ RefusedNext s [] why = (s ≡ None) × (why ≡ refused.Form)
 RefusedNext s (line ∷ rest) why = RefusedAs s line why
 
 -- a line of these is refused, counted from 1: those before it were done, and these messages taken
-pub record IsRefused (lines : List (List ℕ)) (took : List Envelope) (number : ℕ) (why : Refused) : Type 0 where
+pub record IsRefused (IsOrder : List Event → List (List ℕ) → Type 0) (lines : List (List ℕ)) (took : List Envelope) (number : ℕ) (why : Refused) : Type 0 where
   pub history : List Event
   pub left : List (List ℕ)
+  pub order : IsOrder history left
   pub all : lines_in history ++ left ≡ lines
   pub taken : taken_in history ≡ took
   pub whole : Option Exporter
@@ -128,10 +130,11 @@ pub record IsRefused (lines : List (List ℕ)) (took : List Envelope) (number : 
   pub counted : number ≡ length (lines_in history) + 1
 
 -- a line of these asks for an edit whose messages would pass number 4,294,967,295
-pub record IsSpentAt (lines : List (List ℕ)) (took : List Envelope) : Type 0 where
+pub record IsSpentAt (IsOrder : List Event → List (List ℕ) → Type 0) (lines : List (List ℕ)) (took : List Envelope) : Type 0 where
   pub history : List Event
   pub line : List ℕ
   pub left : List (List ℕ)
+  pub order : IsOrder history (line ∷ left)
   pub all : lines_in history ++ line ∷ left ≡ lines
   pub taken : taken_in history ≡ took
   pub whole : Exporter

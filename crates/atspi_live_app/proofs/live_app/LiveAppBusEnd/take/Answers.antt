@@ -13,7 +13,7 @@ returns-in-Some-clause-ok g c =
     on_ok_weaker c.take.result
     (λ is aside took said f. stays g.A.Exporting.is_app g.A.Exporting.exporter g.A.Exporting.is_kit c.args.self.now.app (Some c.take.new.self) c.args.self.now.kit c.args.self.now.input.text.items c.args.self.now.input.at
     c.args.self.now.input.number aside took (took ++ envelope_at c.args.m.now ∷ []) said said
-    (λ text. stands_took g.A.Exporting.is_app g.A.Exporting.exporter g.A.Exporting.is_kit text c.args.self.now.app (Some c.take.new.self) c.args.self.now.kit c.args.self.now.input.text.items c.args.self.now.input.at
+    (λ text marks. stands_took g.A.Exporting.is_app g.A.Exporting.exporter g.A.Exporting.is_kit text marks c.args.self.now.app (Some c.take.new.self) c.args.self.now.kit c.args.self.now.input.text.items c.args.self.now.input.at
     c.args.self.now.input.number (envelope_at c.args.m.now) took said c.take.ensures.app
     (ap (λ (s : Exporter). Some s) is ∙ ap (λ (o : Option _). after_taken (seen g.A.Exporting.exporter o) (envelope_at c.args.m.now)) (sym c.in-Some.is))) f)
     c.take.ensures.ok
@@ -22,6 +22,6 @@ pub returns-in-None-clause-ok : goal.returns-in-None-clause-ok
 returns-in-None-clause-ok g c = λ aside took said f.
     stays g.A.Exporting.is_app g.A.Exporting.exporter g.A.Exporting.is_kit c.args.self.now.app c.args.self.now.app c.args.self.now.kit c.args.self.now.input.text.items c.args.self.now.input.at
     c.args.self.now.input.number aside took (took ++ envelope_at c.args.m.now ∷ []) said said
-    (λ text h. stands_took g.A.Exporting.is_app g.A.Exporting.exporter g.A.Exporting.is_kit text c.args.self.now.app c.args.self.now.app c.args.self.now.kit c.args.self.now.input.text.items c.args.self.now.input.at
+    (λ text marks h. stands_took g.A.Exporting.is_app g.A.Exporting.exporter g.A.Exporting.is_kit text marks c.args.self.now.app c.args.self.now.app c.args.self.now.kit c.args.self.now.input.text.items c.args.self.now.input.at
     c.args.self.now.input.number (envelope_at c.args.m.now) took said h.kept
     (ap (λ (o : Option _). seen g.A.Exporting.exporter o) c.in-None.is ∙ ap (λ (o : Option _). after_taken (seen g.A.Exporting.exporter o) (envelope_at c.args.m.now)) (sym c.in-None.is)) h) f
