@@ -11,7 +11,7 @@ use Rattle.atspi_conversation.specs.declared.ending.Ending.{Ending}
 use Rattle.atspi_conversation.specs.declared.ending.Ending.TheVariants as endings
 use Rattle.atspi_live_app.specs.Lines.{lines_of}
 use Rattle.atspi_live_app.specs.Live.{IsMarked, IsStopped}
-use Rattle.atspi_live_app.specs.Overs.{EndsSo, IsOver, StopsBy}
+use Rattle.atspi_live_app.specs.Overs.{EndsSo, HasTaken, IsOver, StopsBy}
 use Rattle.atspi_live_app.specs.Standing.{Event, IsAfter, IsSpent, lines_in, taken_in}
 use Rattle.atspi_live_app.specs.Turns.{InTurn, IsInTurn, pieces}
 use Rattle.atspi_live_app.specs.declared.live_app.Stop.{Stop}
@@ -38,6 +38,18 @@ after_in P Q lines t messages rest s said f p a = record {
   whole = a.whole;
   makes = a.makes;
   handed = a.handed;
+  numbered = a.numbered;
+}
+
+has_taken_in : (P Q : List Event → List (List ℕ) → Type 0) (lines : List (List ℕ)) (t : List ℕ) → Leads P Q lines t → HasTaken P lines t → HasTaken Q lines t
+has_taken_in P Q lines t f s = record {
+  messages = s.messages;
+  rest = s.rest;
+  parted = s.parted;
+  awaits = s.awaits;
+  state = s.state;
+  said = s.said;
+  after = after_in P Q lines t s.messages s.rest s.state s.said f s.parted s.after;
 }
 
 abbrev pub speech_in : (P Q : List Event → List (List ℕ) → Type 0) (lines : List (List ℕ)) (t g : List ℕ) → Leads P Q lines t → IsSpeech (IsAfter P lines) t g → IsSpeech (IsAfter Q lines) t g
@@ -89,6 +101,7 @@ stopped_in P Q lines t messages rest (stops.Refused number why) f p s = record {
   taken = s.taken;
   whole = s.whole;
   makes = s.makes;
+  numbered = s.numbered;
   next = s.next;
   counted = s.counted;
 }
@@ -101,6 +114,7 @@ stopped_in P Q lines t messages rest stops.Spent f p s = record {
   taken = s.taken;
   whole = s.whole;
   makes = s.makes;
+  numbered = s.numbered;
   edit = s.edit;
   asks = s.asks;
   spent = s.spent;
@@ -127,10 +141,11 @@ none_so P lines k rounds (overs.Stopped stop) = tt
 
 pub over_in : (text : List ℕ) (place n takes' k rounds : ℕ) (over : Over) (calls : Option (List Call)) (marks : List ℕ) → Paced text place n takes' k calls marks → IsOver (IsMarked marks) (lines_of text) k over rounds calls
     → IsOver (InTurn k calls) (lines_of text) k over rounds calls
-over_in text place n takes' k rounds over None marks p o = record { speaks = tt; so = none_so (InTurn k None) (lines_of text) k rounds over }
+over_in text place n takes' k rounds over None marks p o = record { speaks = tt; so = none_so (InTurn k None) (lines_of text) k rounds over; took = λ w. tt }
 over_in text place n takes' k rounds over (Some cs) marks p o =
     let f : Leads (IsMarked marks) (IsInTurn (pieces k cs)) (lines_of text) (taken k cs) = in_turn text place n takes' k cs marks p in
     record {
       speaks = speech_in (IsMarked marks) (IsInTurn (pieces k cs)) (lines_of text) (taken k cs) (given k cs) f o.speaks;
       so = so_in (IsMarked marks) (IsInTurn (pieces k cs)) (lines_of text) k rounds over cs f o.so;
+      took = λ w. has_taken_in (IsMarked marks) (IsInTurn (pieces k cs)) (lines_of text) (taken k cs) f (o.took w);
     }

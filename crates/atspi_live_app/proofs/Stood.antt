@@ -1,16 +1,16 @@
 -- A live application takes a message, hands one out, and does a line.
 use Rattle.std.proofs.Common.{◌≡◌, ℕ, ◌+◌, ◌<◌, ◌≤◌, List, [], ◌∷◌, ◌++◌, length, Option, Some, None, Bool, true, false, refl, sym, ap, subst, ◌∙◌, append_assoc, append-nil, length-append, arith}
-use Rattle.std.specs.Prelude.{◌==◌, if◌then◌else◌, Ok, IfSome, IfNone}
+use Rattle.std.specs.Prelude.{◌==◌, if◌then◌else◌, Result, Ok, Err, IfSome, IfNone, OnOk}
 use Rattle.atspi_message.specs.Envelope.{Envelope}
 use Rattle.atspi_message.specs.Rules.{MeetsRules}
 use Rattle.atspi_conversation.specs.Sent.{AllMeet}
 use Rattle.atspi_protocol.specs.exporting.Exporter.{Exporter}
 use Rattle.atspi_live_app.specs.Input.{Passes, left_in}
 use Rattle.atspi_live_app.specs.Lines.{lines_of, onto}
-use Rattle.atspi_live_app.specs.Standing.{Does, Event, HandedOut, does, takes, lines_in, taken_in}
+use Rattle.atspi_live_app.specs.Standing.{Does, Event, HandedOut, IsNumbered, does, takes, lines_in, taken_in}
 use Rattle.atspi_live_app.specs.Live.{Hands, IsKept, IsStarted, Stands, marks_in, seen}
 use Rattle.atspi_live_app.specs.declared.asking.Ask.{Ask}
-use Rattle.atspi_live_app.proofs.Making.{after_taken, comes_taken, does_whole, handed_both, lines_both, makes_both, taken_both, took_whole}
+use Rattle.atspi_live_app.proofs.Making.{after_taken, comes_taken, does_whole, handed_both, lines_both, makes_both, numbered_on, taken_both, took_whole}
 use Rattle.atspi_live_app.proofs.Meeting.{next_meets}
 
 -- behind how many messages lines were done
@@ -29,9 +29,9 @@ marks_all es took e = omega (arith, ap (λ (x : List Envelope). length x) e)
 
 -- a message was taken
 pub stands_took : {A K : Type 0} (is_app : A → Type 0) (exporter : A → Exporter) (is_kit : K → Type 0) (text marks : List ℕ) (old new : Option A) (kit : Option K) (held : List ℕ) (at number : ℕ) (e : Envelope) (took said : List Envelope)
-    → IsKept is_app is_kit new kit → seen exporter new ≡ after_taken (seen exporter old) e → Stands is_app exporter is_kit text marks old kit held at number took said
+    → IsKept is_app is_kit new kit → IsNumbered (seen exporter new) → seen exporter new ≡ after_taken (seen exporter old) e → Stands is_app exporter is_kit text marks old kit held at number took said
     → Stands is_app exporter is_kit text marks new kit held at number (took ++ e ∷ []) said
-stands_took is_app exporter is_kit text marks old new kit held at number e took said kept is f =
+stands_took is_app exporter is_kit text marks old new kit held at number e took said kept numbered is f =
     let lines : lines_in (f.history ++ takes e ∷ []) ≡ lines_in f.history = lines_both f.history (takes e ∷ []) ∙ append-nil (lines_in f.history) in
     record {
       kept = kept;
@@ -44,6 +44,7 @@ stands_took is_app exporter is_kit text marks old new kit held at number e took 
       whole = after_taken f.whole e;
       makes = makes_both f.history (takes e ∷ []) None f.whole (after_taken f.whole e) f.makes (after_taken f.whole e, comes_taken f.whole e, refl);
       handed = subst (λ (s : Option Exporter). HandedOut said s (after_taken f.whole e)) (sym is) (took_whole said e (seen exporter old) f.whole f.handed);
+      numbered = numbered;
       counted = f.counted ∙ ap (λ (w : List (List ℕ)). length w) (sym lines);
     }
 
@@ -62,6 +63,7 @@ stands_handed is_app exporter is_kit text marks old new kit held at number more 
   whole = f.whole;
   makes = f.makes;
   handed = handed_both said more (seen exporter new) (seen exporter old) f.whole f.handed h;
+  numbered = numbered_on more (seen exporter new) (seen exporter old) h f.numbered;
   counted = f.counted;
 }
 
@@ -85,6 +87,11 @@ of_some envelope (Some m) old new P h f = f m h
 pub of_none : {M : Type 0} (envelope : M → Envelope) (r : Option M) (old new : Option Exporter) (P : Type 0) → Hands envelope r old new → (HandedOut [] new old → P) → IfNone r P
 of_none envelope None old new P h f = f h
 of_none envelope (Some m) old new P h f = tt
+
+-- two clauses of what was done
+pub on_both : {T X : Type 0} (r : Result T X) (P Q : Type 0) → OnOk r P → OnOk r Q → OnOk r (P × Q)
+on_both (Ok x) P Q p q = (p, q)
+on_both (Err x) P Q p q = tt
 
 -- a text has no more lines than bytes
 onto_few : (b : ℕ) (ls : List (List ℕ)) (n : ℕ) → length ls ≤ n → length (onto b ls) ≤ n + 1
@@ -110,9 +117,9 @@ number_next is_app exporter is_kit text marks app kit held at number took said f
 
 -- a line was done
 pub stands_did : {A K : Type 0} (is_app : A → Type 0) (exporter : A → Exporter) (is_kit : K → Type 0) (text marks : List ℕ) (old new : Option A) (kit kit' : Option K) (held held' : List ℕ) (at number at' number' : ℕ) (what : Ask) (took said : List Envelope)
-    → IsKept is_app is_kit new kit' → held' ≡ held → Passes (Ok what) held at number at' number' → Does (seen exporter old) what (seen exporter new) → Stands is_app exporter is_kit text marks old kit held at number took said
+    → IsKept is_app is_kit new kit' → IsNumbered (seen exporter new) → held' ≡ held → Passes (Ok what) held at number at' number' → Does (seen exporter old) what (seen exporter new) → Stands is_app exporter is_kit text marks old kit held at number took said
     → Stands is_app exporter is_kit text (marks ++ length took ∷ []) new kit' held' at' number' took said
-stands_did is_app exporter is_kit text marks old new kit kit' held held' at number at' number' what took said kept same p d f =
+stands_did is_app exporter is_kit text marks old new kit kit' held held' at number at' number' what took said kept numbered same p d f =
     let w = does_whole said what (seen exporter old) (seen exporter new) f.whole f.handed d in
     let lines : lines_in (f.history ++ does p.line ∷ []) ≡ lines_in f.history ++ p.line ∷ [] = lines_both f.history (does p.line ∷ []) in
     let first : left_in text at ≡ p.line ∷ left_in text at' = subst (λ (x : List ℕ). left_in x at ≡ p.line ∷ left_in x at') f.same p.first in
@@ -127,6 +134,7 @@ stands_did is_app exporter is_kit text marks old new kit kit' held held' at numb
       whole = w.then;
       makes = makes_both f.history (does p.line ∷ []) None f.whole w.then f.makes (w.then, (what, p.asks, w.does), refl);
       handed = w.handed;
+      numbered = numbered;
       counted =
           let n = number_next is_app exporter is_kit text marks old kit held at number took said f in
           omega (arith, p.counted n, f.counted, ap (λ (x : List (List ℕ)). length x) lines, length-append (lines_in f.history) (p.line ∷ []));

@@ -8,7 +8,7 @@ use Rattle.atspi_protocol.specs.exporting.Exporter.{Exporter}
 use Rattle.atspi_live_app.specs.Asking.{IsAsk}
 use Rattle.atspi_live_app.specs.Input.{Passes, left_in}
 use Rattle.atspi_live_app.specs.Lines.{lines_of}
-use Rattle.atspi_live_app.specs.Standing.{IsRefused, Makes, RefusedNext, lines_in}
+use Rattle.atspi_live_app.specs.Standing.{IsNumbered, IsRefused, Makes, RefusedNext, lines_in}
 use Rattle.atspi_live_app.specs.Live.{IsMarked, IsStopped, IsUndone, Stands, seen}
 use Rattle.atspi_live_app.specs.Stops.{stop_of_line, stop_of_undone}
 use Rattle.atspi_live_app.specs.declared.asking.Ask.{Ask}
@@ -17,7 +17,7 @@ use Rattle.atspi_live_app.specs.declared.doing.Undone.TheVariants as undone
 use Rattle.atspi_live_app.specs.declared.naming.Refused.{Refused}
 use Rattle.atspi_live_app.specs.declared.naming.Refused.TheVariants as refused
 use Rattle.atspi_live_app.specs.declared.live_app.Stop.TheVariants as stops
-use Rattle.atspi_live_app.proofs.Making.{may_not_whole, none_handed, refused_whole, spent_whole}
+use Rattle.atspi_live_app.proofs.Making.{may_not_whole, none_handed, numbered_whole, refused_whole, spent_whole}
 use Rattle.atspi_live_app.proofs.Stood.{number_next}
 
 -- the next line is refused
@@ -31,6 +31,7 @@ refused_at is_app exporter is_kit text marks app kit held at number number' left
   taken = f.taken;
   whole = f.whole;
   makes = f.makes;
+  numbered = numbered_whole said (seen exporter app) f.whole f.handed f.numbered;
   next = next;
   counted = count (number_next is_app exporter is_kit text marks app kit held at number took said f) ∙ ap (λ (n : ℕ). n + 1) f.counted;
 }
@@ -66,6 +67,7 @@ stopped_undone is_app exporter is_kit text marks app kit held at number at' numb
       taken = f.taken;
       whole = s.started;
       makes = subst (λ (x : Option Exporter). Makes None f.history x) s.is f.makes;
+      numbered = subst (λ (x : Option Exporter). IsNumbered x) s.is (numbered_whole said (seen exporter app) f.whole f.handed f.numbered);
       edit = s.edit;
       asks = subst (λ (x : Ask). IsAsk x p.line) s.asks p.asks;
       spent = s.spent;

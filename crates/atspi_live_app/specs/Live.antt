@@ -7,7 +7,7 @@ use Rattle.atspi_app.specs.Seen.{IsSpentAfter}
 use Rattle.atspi_protocol.specs.exporting.Taking.{app_edits}
 use Rattle.atspi_live_app.specs.Lines.{lines_of}
 use Rattle.atspi_live_app.specs.Input.{left_in}
-use Rattle.atspi_live_app.specs.Standing.{Event, HandedOut, IsRefused, IsSpentAt, Makes, MayNot, RefusedBy, does, lines_in, taken_in, takes}
+use Rattle.atspi_live_app.specs.Standing.{Event, HandedOut, IsNumbered, IsRefused, IsSpentAt, Makes, MayNot, RefusedBy, does, lines_in, taken_in, takes}
 use Rattle.atspi_live_app.specs.declared.asking.Ask.{Ask}
 use Rattle.atspi_live_app.specs.declared.asking.Ask.TheVariants as ask
 use Rattle.atspi_live_app.specs.declared.doing.Undone.{Undone}
@@ -62,6 +62,7 @@ pub record Stands {A K : Type 0} (is_app : A → Type 0) (exporter : A → Expor
   pub whole : Option Exporter
   pub makes : Makes None history whole
   pub handed : HandedOut said (seen exporter app) whole
+  pub numbered : IsNumbered (seen exporter app)
   pub counted : number ≡ length (lines_in history)
 
 -- what it tells beside the link: where the next line begins, behind how many messages each line was done, and its text

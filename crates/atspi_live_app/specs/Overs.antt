@@ -8,6 +8,8 @@ use Rattle.atspi_host.specs.Calls.{taken}
 use Rattle.atspi_conversation.specs.Moved.{AllGoOn, reads}
 use Rattle.atspi_conversation.specs.Speech.{Ends, IsInOrder, Speaks, envelopes}
 use Rattle.atspi_conversation.specs.Talking.{Blames}
+use Rattle.atspi_conversation.specs.declared.ending.Ending.TheVariants as endings
+use Rattle.atspi_protocol.specs.exporting.Exporter.{Exporter}
 use Rattle.atspi_live_app.specs.Standing.{Event, IsAfter, IsSpent}
 use Rattle.atspi_live_app.specs.Live.{IsStopped}
 use Rattle.atspi_live_app.specs.declared.live_app.Stop.{Stop}
@@ -32,10 +34,31 @@ abbrev pub EndsSo : (List Event → List (List ℕ) → Type 0) → List (List �
 EndsSo IsOrder lines k (overs.Ended ending) rounds calls = Ends (IsAfter IsOrder lines) IsSpent k ending rounds calls
 EndsSo IsOrder lines k (overs.Stopped stop) rounds calls = StopsSo IsOrder lines stop k calls
 
--- what was said, and why it was over, where lines and messages came in such an order
+-- the run was over behind whole rounds: the peer ended, or all rounds were done
+abbrev pub EndsWhole : Over → Type 0
+EndsWhole (overs.Ended endings.PeerEnded) = ⊤
+EndsWhole (overs.Ended endings.RoundsDone) = ⊤
+EndsWhole over = ⊥
+
+-- all messages that are whole in these bytes were taken, and none of the application's own passed the last number
+pub record HasTaken (IsOrder : List Event → List (List ℕ) → Type 0) (lines : List (List ℕ)) (t : List ℕ) : Type 0 where
+  pub messages : List (Envelope × List ℕ)
+  pub rest : List ℕ
+  pub parted : IsParted (behind client_start t) messages rest
+  pub awaits : AwaitsMore rest
+  pub state : Option Exporter
+  pub said : List Envelope
+  pub after : IsAfter IsOrder lines state (envelopes messages) said
+
+abbrev pub TakesAll : (List Event → List (List ℕ) → Type 0) → List (List ℕ) → ℕ → Option (List Call) → Type 0
+TakesAll IsOrder lines k None = ⊤
+TakesAll IsOrder lines k (Some cs) = HasTaken IsOrder lines (taken k cs)
+
+-- what was said, what was taken, and why it was over, where lines and messages came in such an order
 pub record IsOver (IsOrder : List Event → List (List ℕ) → Type 0) (lines : List (List ℕ)) (k : ℕ) (over : Over) (rounds : ℕ) (calls : Option (List Call)) : Type 0 where
   pub speaks : Speaks (IsAfter IsOrder lines) k calls
   pub so : EndsSo IsOrder lines k over rounds calls
+  pub took : EndsWhole over → TakesAll IsOrder lines k calls
 
 -- the count of failed reads and writes rose where one failed, and else is the same
 abbrev pub OverBlames : Over → ℕ → ℕ → Type 0

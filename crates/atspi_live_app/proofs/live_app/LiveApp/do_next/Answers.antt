@@ -14,6 +14,8 @@ pub do_ask-requires : goal.do_ask-requires
 do_ask-requires g c = record {
   kept = then_of g.A.Exporting.is_app g.A.Exporting.exporter g.A.Exporting.is_kit c.args.self.now.app c.args.self.now.kit c.args.self.now.input.text.items c.args.self.now.input.at c.args.self.now.input.number
       c.requires.aside c.requires.took c.requires.said _ (λ text marks f. f.kept) c.requires.stands;
+  numbered = then_of g.A.Exporting.is_app g.A.Exporting.exporter g.A.Exporting.is_kit c.args.self.now.app c.args.self.now.kit c.args.self.now.input.text.items c.args.self.now.input.at c.args.self.now.input.number
+      c.requires.aside c.requires.took c.requires.said _ (λ text marks f. f.numbered) c.requires.stands;
   lawful = lawful_as c.in-Some-Ok.field-0 c.in-Some-Ok.ask _ _ _ _ _ c.in-Some-Ok.field-0-is c.in-Some-Ok.ensures.next.1;
 }
 
@@ -26,7 +28,7 @@ returns-in-Ok-clause-ok g c = λ text marks place took said f.
       proceeds c.args.self.now.input.text.items text marks c.args.self.now.input.at c.args.self.now.input.number c.next.new.self.at c.next.new.self.number place (length took) c.in-Ok.rounds c.in-Some-Ok.ask s.1.same s.0 p c.in-Ok.ensures.rounds,
       stands_as g.A.Exporting.is_app g.A.Exporting.exporter g.A.Exporting.is_kit c.next.new.self.at (marks ++ length took ∷ []) text c.do_ask.new.app c.do_ask.new.kit c.next.new.self.text.items c.next.new.self.number took said
           (stands_did g.A.Exporting.is_app g.A.Exporting.exporter g.A.Exporting.is_kit text marks c.args.self.now.app c.do_ask.new.app c.args.self.now.kit c.do_ask.new.kit c.args.self.now.input.text.items c.next.new.self.text.items
-          c.args.self.now.input.at c.args.self.now.input.number c.next.new.self.at c.next.new.self.number c.in-Some-Ok.ask took said c.in-Ok.ensures.ok.0 c.in-Some-Ok.ensures.next.0 p c.in-Ok.ensures.ok.1 s.1),
+          c.args.self.now.input.at c.args.self.now.input.number c.next.new.self.at c.next.new.self.number c.in-Some-Ok.ask took said c.in-Ok.ensures.ok.0 c.in-Ok.ensures.numbered c.in-Some-Ok.ensures.next.0 p c.in-Ok.ensures.ok.1 s.1),
     )
 
 pub returns-in-Err-clause-err : goal.returns-in-Err-clause-err
