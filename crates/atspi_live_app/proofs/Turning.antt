@@ -8,10 +8,10 @@ use Rattle.atspi_host.specs.declared.call.Call.{Call}
 use Rattle.std.specs.Prelude.{◌==◌, if◌then◌else◌}
 use Rattle.atspi_host.specs.declared.call.Call.TheVariants.{Read}
 use Rattle.atspi_host.specs.declared.call.Did.TheVariants.{End}
-use Rattle.atspi_host.specs.Calls.{taken, given}
+use Rattle.atspi_host.specs.Calls.{taken}
 use Rattle.atspi_conversation.specs.Rounds.{Breaks, IsRound, Makes}
 use Rattle.atspi_conversation.specs.Speech.{Ends, Speaks, envelopes}
-use Rattle.atspi_conversation.specs.Talking.{Going, HasNone, IsEnded, MaySpeak, Rests}
+use Rattle.atspi_conversation.specs.Talking.{Going, HasNone, IsEnded, MaySpeak}
 use Rattle.atspi_conversation.specs.declared.conversation.Conversation.{Conversation}
 use Rattle.atspi_conversation.specs.declared.ending.Ending.{Ending}
 use Rattle.atspi_conversation.specs.declared.ending.Ending.TheVariants as endings

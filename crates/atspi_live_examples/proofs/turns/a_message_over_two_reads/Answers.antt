@@ -1,4 +1,4 @@
-use Rattle.std.proofs.Common.{◌≡◌, ◌+◌, ℕ, List, [], ◌∷◌, ◌++◌, length, map, take, refl, sym, ap, subst, ◌∙◌, inl, arith}
+use Rattle.std.proofs.Common.{◌≡◌, ℕ, List, [], ◌∷◌, ◌++◌, map, take, refl, subst, inl, arith}
 use Rattle.std.specs.List.{concat}
 use Rattle.atspi_stream.specs.Stream.{few}
 use Rattle.atspi_conversation.proofs.LineLemmas.{none_behind}
@@ -6,7 +6,7 @@ use Rattle.atspi_message.specs.Envelope.{Envelope}
 use Rattle.atspi_live_app.specs.Asking.{IsAsk}
 use Rattle.atspi_live_app.specs.Pace.{AllTake, Takes, rounds_of, total}
 use Rattle.atspi_live_app.specs.Standing.{Event, does, takes}
-use Rattle.atspi_live_app.specs.Turns.{AreWhole, IsBefore, IsInTurn}
+use Rattle.atspi_live_app.specs.Turns.{AreWhole, IsBefore}
 use Rattle.atspi_live_app.specs.declared.asking.Ask.{Ask}
 use Rattle.atspi_live_examples.proofs.turns.a_message_over_two_reads.Goals as goal
 
