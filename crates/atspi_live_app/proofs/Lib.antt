@@ -12,5 +12,10 @@ pub mod Feeds
 pub mod Handing
 pub mod Lawful
 pub mod Turning
+pub mod Pieces
+pub mod Hears
 pub mod Pacing
+pub mod Turns
+pub mod Ordering
+pub mod Rounding
 pub mod Ending

@@ -6,9 +6,9 @@ use Rattle.atspi_forest.specs.declared.edit.EditFault.{EditFault}
 use Rattle.atspi_message.specs.Envelope.{Envelope}
 use Rattle.atspi_protocol.specs.exporting.Exporter.{Happening, steps, sends, hears, deaf, Exporter, begins}
 use Rattle.atspi_protocol.specs.exporting.Starting.{starts}
-use Rattle.atspi_protocol.specs.exporting.Taking.{app_takes, app_edits}
+use Rattle.atspi_protocol.specs.exporting.Taking.{app_takes, app_edits, is_spent}
 use Rattle.atspi_app.specs.Seen.{IsSpentAfter}
-use Rattle.atspi_live_app.specs.Standing.{Comes, Does, Event, HandedOut, Makes, MayNot, RefusedBy, does, lines_in, sent_in, taken_in, takes}
+use Rattle.atspi_live_app.specs.Standing.{Comes, Does, Event, HandedOut, IsNumbered, Makes, MayNot, RefusedBy, does, lines_in, sent_in, taken_in, takes}
 use Rattle.atspi_live_app.specs.Live.{SpentBy}
 use Rattle.atspi_live_app.specs.declared.asking.Ask.{Ask}
 use Rattle.atspi_live_app.specs.declared.asking.Ask.TheVariants as ask
@@ -52,6 +52,19 @@ handed_both said more (Some t) (Some s) None h k = absurd h
 pub handed_none : (s : Option Exporter) → HandedOut [] s s
 handed_none None = refl
 handed_none (Some s) = ([], refl, refl)
+
+-- the numbers of its messages are those of the whole
+pub numbered_on : (said : List Envelope) (s whole : Option Exporter) → HandedOut said s whole → IsNumbered whole → IsNumbered s
+numbered_on said None None h n = tt
+numbered_on said (Some s) (Some whole) h n = ap is_spent h.1 ∙ n
+numbered_on said None (Some whole) h n = absurd h
+numbered_on said (Some s) None h n = absurd h
+
+pub numbered_whole : (said : List Envelope) (s whole : Option Exporter) → HandedOut said s whole → IsNumbered s → IsNumbered whole
+numbered_whole said None None h n = tt
+numbered_whole said (Some s) (Some whole) h n = sym (ap is_spent h.1) ∙ n
+numbered_whole said None (Some whole) h n = absurd h
+numbered_whole said (Some s) None h n = absurd h
 
 pub none_handed : (said : List Envelope) (whole : Option Exporter) → HandedOut said None whole → whole ≡ None
 none_handed said None h = refl

@@ -9,4 +9,6 @@ pub mod Live
 pub mod Stops
 pub mod Overs
 pub mod Pace
+pub mod Turns
+pub mod Rounds
 pub mod Runs

@@ -1,5 +1,5 @@
 -- A live application: what it has done, what it hands out, and why a line of its input is not done.
-use Rattle.std.specs.Prelude.{◌≡◌, ◌≤◌, ℕ, List, [], ◌∷◌, ◌++◌, length, Option, None, Some, MatchOption, ⊤}
+use Rattle.std.specs.Prelude.{◌≡◌, ◌≤◌, ℕ, ◌+◌, List, [], ◌∷◌, ◌++◌, length, take, drop, Option, None, Some, MatchOption, ⊤}
 use Rattle.atspi_forest.specs.Edits.{IsEdit}
 use Rattle.atspi_message.specs.Envelope.{Envelope}
 use Rattle.atspi_protocol.specs.exporting.Exporter.{Exporter}
@@ -7,7 +7,7 @@ use Rattle.atspi_app.specs.Seen.{IsSpentAfter}
 use Rattle.atspi_protocol.specs.exporting.Taking.{app_edits}
 use Rattle.atspi_live_app.specs.Lines.{lines_of}
 use Rattle.atspi_live_app.specs.Input.{left_in}
-use Rattle.atspi_live_app.specs.Standing.{Event, HandedOut, IsRefused, IsSpentAt, Makes, MayNot, RefusedBy, lines_in, taken_in}
+use Rattle.atspi_live_app.specs.Standing.{Event, HandedOut, IsNumbered, IsRefused, IsSpentAt, Makes, MayNot, RefusedBy, does, lines_in, taken_in, takes}
 use Rattle.atspi_live_app.specs.declared.asking.Ask.{Ask}
 use Rattle.atspi_live_app.specs.declared.asking.Ask.TheVariants as ask
 use Rattle.atspi_live_app.specs.declared.doing.Undone.{Undone}
@@ -40,23 +40,41 @@ abbrev pub Hands : {M : Type 0} → (M → Envelope) → Option M → Option Exp
 Hands envelope None old new = HandedOut [] new old
 Hands envelope (Some m) old new = HandedOut (envelope m ∷ []) new old
 
--- of the lines of this text it did the first, took these messages and handed out those
-pub record Stands {A K : Type 0} (is_app : A → Type 0) (exporter : A → Exporter) (is_kit : K → Type 0) (text : List ℕ) (app : Option A) (kit : Option K) (held : List ℕ) (at number : ℕ) (took said : List Envelope) : Type 0 where
+-- how many messages were taken before each line was done, where so many were taken before all that happened
+abbrev pub marks_in : ℕ → List Event → List ℕ
+marks_in taken [] = []
+marks_in taken (does line ∷ events) = taken ∷ marks_in taken events
+marks_in taken (takes e ∷ events) = marks_in (taken + 1) events
+
+-- the lines were done behind so many messages
+abbrev pub IsMarked : List ℕ → List Event → List (List ℕ) → Type 0
+IsMarked marks history left = marks_in 0 history ≡ marks
+
+-- of the lines of this text it did the first, each behind so many messages, took these messages and handed out those
+pub record Stands {A K : Type 0} (is_app : A → Type 0) (exporter : A → Exporter) (is_kit : K → Type 0) (text marks : List ℕ) (app : Option A) (kit : Option K) (held : List ℕ) (at number : ℕ) (took said : List Envelope) : Type 0 where
   pub kept : IsKept is_app is_kit app kit
   pub same : held ≡ text
   pub short : length text ≤ INPUT_LIMIT
   pub history : List Event
   pub all : lines_in history ++ left_in text at ≡ lines_of text
+  pub marked : marks_in 0 history ≡ marks
   pub taken : taken_in history ≡ took
   pub whole : Option Exporter
   pub makes : Makes None history whole
   pub handed : HandedOut said (seen exporter app) whole
+  pub numbered : IsNumbered (seen exporter app)
   pub counted : number ≡ length (lines_in history)
 
--- the same, where the next line begins at a place of the text: both are what it tells beside the link
+-- what it tells beside the link: where the next line begins, behind how many messages each line was done, and its text
+abbrev pub aside_of : ℕ → List ℕ → List ℕ → List ℕ
+aside_of place marks text = place ∷ length marks ∷ (marks ++ text)
+
+-- the same, where it tells this
 abbrev pub StandsAt : {A K : Type 0} → (A → Type 0) → (A → Exporter) → (K → Type 0) → List ℕ → Option A → Option K → List ℕ → ℕ → ℕ → List Envelope → List Envelope → Type 0
 StandsAt is_app exporter is_kit [] app kit held at number took said = ⊥
-StandsAt is_app exporter is_kit (place ∷ text) app kit held at number took said = (at ≡ place) × Stands is_app exporter is_kit text app kit held at number took said
+StandsAt is_app exporter is_kit (place ∷ []) app kit held at number took said = ⊥
+StandsAt is_app exporter is_kit (place ∷ count ∷ told) app kit held at number took said =
+    (at ≡ place) × Stands is_app exporter is_kit (drop count told) (take count told) app kit held at number took said
 
 -- an edit that is asked for can be
 abbrev pub IsLawful : Ask → Type 0
@@ -76,7 +94,7 @@ IsUndone undone.Spent s what = SpentBy s what
 IsUndone undone.NoMemory s what = ⊤
 
 -- why no further line is done
-abbrev pub IsStopped : Stop → List (List ℕ) → List Envelope → Type 0
-IsStopped (stops.Refused number why) lines took = IsRefused lines took number why
-IsStopped stops.Spent lines took = IsSpentAt lines took
-IsStopped stops.NoMemory lines took = ⊤
+abbrev pub IsStopped : (List Event → List (List ℕ) → Type 0) → Stop → List (List ℕ) → List Envelope → Type 0
+IsStopped IsOrder (stops.Refused number why) lines took = IsRefused IsOrder lines took number why
+IsStopped IsOrder stops.Spent lines took = IsSpentAt IsOrder lines took
+IsStopped IsOrder stops.NoMemory lines took = ⊤

@@ -1,12 +1,16 @@
 -- Which lines of an input were done before which rounds.
-use Rattle.std.specs.Prelude.{◌≡◌, ◌⊎◌, ◌<◌, ◌≤◌, ℕ, ◌+◌, List, [], ◌∷◌, ◌++◌, map, max}
+use Rattle.std.specs.Prelude.{◌≡◌, ◌⊎◌, ◌<◌, ◌≤◌, ℕ, ◌+◌, List, [], ◌∷◌, ◌++◌, length, map, max, Option, None, Some, ⊤}
+use Rattle.atspi_auth.specs.Talk.{behind, client_start}
+use Rattle.atspi_message.specs.Envelope.{Envelope}
+use Rattle.atspi_stream.specs.Stream.{AwaitsMore, IsParted}
 use Rattle.atspi_host.specs.declared.call.Call.{Call}
-use Rattle.atspi_conversation.specs.Rounds.{AreRounds, Breaks, IsRun}
+use Rattle.atspi_host.specs.Calls.{taken}
+use Rattle.atspi_conversation.specs.Rounds.{Breaks}
 use Rattle.atspi_conversation.specs.declared.ending.Ending.{Ending}
 use Rattle.atspi_conversation.specs.declared.ending.Ending.TheVariants as endings
 use Rattle.atspi_live_app.specs.Asking.{IsAsk}
 use Rattle.atspi_live_app.specs.Input.{left_in}
-use Rattle.atspi_live_app.specs.Standing.{IsAfter, IsEmpty}
+use Rattle.atspi_live_app.specs.Standing.{Event, IsAfter, IsEmpty}
 use Rattle.atspi_live_app.specs.declared.asking.Ask.{Ask}
 use Rattle.atspi_live_app.specs.declared.asking.Ask.TheVariants as ask
 use Rattle.atspi_live_app.specs.declared.over.Over.{Over}
@@ -27,24 +31,35 @@ abbrev pub AllTake : List (List ℕ × ℕ) → Type 0
 AllTake [] = Unit {0}
 AllTake (t ∷ ts) = Takes t × AllTake ts
 
--- the line at a place, which takes so many rounds, was passed, and the next one begins at another place; or none is left
-abbrev pub Proceeds : List ℕ → ℕ → ℕ → ℕ → Type 0
-Proceeds text place rounds place' =
-    ((line : List ℕ) × (left_in text place ≡ line ∷ left_in text place') × Takes (line, rounds)) ⊎ ((left_in text place ≡ []) × (place' ≡ place) × (rounds ≡ 1))
+-- the line at a place, which takes so many rounds, was passed behind so many messages, and the next one begins at another place; or none is left
+abbrev pub Proceeds : List ℕ → ℕ → List ℕ → ℕ → ℕ → ℕ → List ℕ → Type 0
+Proceeds text place marks count rounds place' marks' =
+    ((line : List ℕ) × (left_in text place ≡ line ∷ left_in text place') × Takes (line, rounds) × (marks' ≡ marks ++ count ∷ []))
+    ⊎ ((left_in text place ≡ []) × (place' ≡ place) × (rounds ≡ 1) × (marks' ≡ marks))
 
 -- the next line is passed before a round where the last one has taken all its rounds
-abbrev pub GoesOn : List ℕ → ℕ → ℕ → ℕ → ℕ → Type 0
-GoesOn text place takes takes' place' = ((0 < takes) × (takes' ≡ takes) × (place' ≡ place)) ⊎ ((takes ≡ 0) × Proceeds text place takes' place')
+abbrev pub GoesOn : List ℕ → ℕ → List ℕ → ℕ → ℕ → ℕ → ℕ → List ℕ → Type 0
+GoesOn text place marks count takes takes' place' marks' =
+    ((0 < takes) × (takes' ≡ takes) × (place' ≡ place) × (marks' ≡ marks)) ⊎ ((takes ≡ 0) × Proceeds text place marks count takes' place' marks')
+
+-- so many messages are whole in the bytes of a link, where a host tells its calls
+abbrev pub HasWhole : List ℕ → ℕ → Type 0
+HasWhole t count = (messages : List (Envelope × List ℕ)) × (rest : List ℕ) × IsParted (behind client_start t) messages rest × AwaitsMore rest × (length messages ≡ count)
+
+abbrev pub Heard : ℕ → Option (List Call) → ℕ → Type 0
+Heard k None count = ⊤
+Heard k (Some cs) count = HasWhole (taken k cs) count
 
 -- why a turn ended the run: in its round, or before it, where a line was due
-abbrev pub EndsTurn : List ℕ → ℕ → ℕ → Over → Type 0
-EndsTurn text place takes (overs.Ended ending) = (takes' : ℕ) × (place' : ℕ) × GoesOn text place takes takes' place'
-EndsTurn text place takes (overs.Stopped stop) = takes ≡ 0
+abbrev pub EndsTurn : List ℕ → ℕ → List ℕ → ℕ → ℕ → Option (List Call) → Over → List ℕ → Type 0
+EndsTurn text place marks takes k calls (overs.Ended ending) marks' =
+    (takes' : ℕ) × (place' : ℕ) × (count : ℕ) × GoesOn text place marks count takes takes' place' marks' × Heard k calls count
+EndsTurn text place marks takes k calls (overs.Stopped stop) marks' = (takes ≡ 0) × (marks' ≡ marks)
 
 -- the calls of a turn that ended the run, before which these bytes were taken and those given
-abbrev pub BreaksOver : List (List ℕ) → ℕ → ℕ → Over → List ℕ → List ℕ → List Call → Type 0
-BreaksOver lines k most (overs.Ended ending) t g calls = Breaks (IsAfter lines) IsEmpty k most ending t g calls
-BreaksOver lines k most (overs.Stopped stop) t g calls = calls ≡ []
+abbrev pub BreaksOver : (List Event → List (List ℕ) → Type 0) → List (List ℕ) → ℕ → ℕ → Over → List ℕ → List ℕ → List Call → Type 0
+BreaksOver IsOrder lines k most (overs.Ended ending) t g calls = Breaks (IsAfter IsOrder lines) IsEmpty k most ending t g calls
+BreaksOver IsOrder lines k most (overs.Stopped stop) t g calls = calls ≡ []
 
 -- how many rounds all of them take
 abbrev pub total : List (List ℕ × ℕ) → ℕ
@@ -79,8 +94,3 @@ pub record StopsAt (lines : List (List ℕ)) (whole : ℕ) : Type 0 where
 abbrev pub begun_by : Ending → ℕ → ℕ
 begun_by endings.RoundsDone whole = whole
 begun_by ending whole = whole + 1
-
--- the calls of a run that is over so, and the lines that were done before its reads
-abbrev pub RunsPaced : List (List ℕ) → ℕ → Over → ℕ → List Call → Type 0
-RunsPaced lines k (overs.Ended ending) rounds calls = (run : IsRun (λ _. IsAfter lines) IsEmpty k 4096 ending rounds calls) × IsPaced lines (begun_by ending run.whole)
-RunsPaced lines k (overs.Stopped stop) rounds calls = (whole : ℕ) × (whole < rounds) × AreRounds (λ _. IsAfter lines) IsEmpty k 4096 whole calls × StopsAt lines whole

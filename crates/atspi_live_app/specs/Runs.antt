@@ -8,7 +8,8 @@ use Rattle.atspi_live_app.specs.Input.{BlamesEnd, HasRead}
 use Rattle.atspi_live_app.specs.Lines.{lines_of}
 use Rattle.atspi_live_app.specs.Names.{refused_text}
 use Rattle.atspi_live_app.specs.Overs.{IsOver}
-use Rattle.atspi_live_app.specs.Pace.{RunsPaced}
+use Rattle.atspi_live_app.specs.Rounds.{RunsPaced}
+use Rattle.atspi_live_app.specs.Turns.{InTurn}
 use Rattle.atspi_live_app.specs.declared.input.End.{End}
 use Rattle.atspi_live_app.specs.declared.input.End.TheVariants.{Whole, TooLong, Failed}
 use Rattle.atspi_live_app.specs.declared.live_app.Stop.TheVariants as stops
@@ -26,10 +27,10 @@ OverReports (overs.Stopped (stops.Refused number why)) status w w' = WritesRefus
 OverReports (overs.Stopped stops.Spent) status w w' = Quietly 13 status w w'
 OverReports (overs.Stopped stops.NoMemory) status w w' = Quietly 5 status w w'
 
--- a run on this link was over so, with its rounds and the lines that were done before their reads
+-- a run on this link was over so: its lines were done and its messages taken in turn, each line before the read of its round
 pub record EndsOn (lines : List (List ℕ)) (path : List ℕ) (k status rounds : ℕ) (calls : Option (List Call)) (w w' : Option (List ℕ)) : Type 0 where
   pub over : Over
-  pub is : IsOver lines k over rounds calls
+  pub is : IsOver (InTurn k calls) lines k over rounds calls
   pub run : IsOnLink path k calls (RunsPaced lines k over rounds)
   pub reports : OverReports over status w w'
 

@@ -1,5 +1,5 @@
 -- What an application did from its start on: the lines of its input that were done and the messages that it took, in their order.
-use Rattle.std.specs.Prelude.{◌≡◌, ◌⊎◌, ℕ, ◌+◌, true, List, [], ◌∷◌, ◌++◌, length, Option, None, Some, Ok, Err}
+use Rattle.std.specs.Prelude.{◌≡◌, ◌⊎◌, ℕ, ◌+◌, false, true, List, [], ◌∷◌, ◌++◌, length, Option, None, Some, Ok, Err}
 use Rattle.atspi_forest.specs.declared.edit.Edit.{Edit}
 use Rattle.atspi_forest.specs.declared.edit.EditFault.{EditFault}
 use Rattle.atspi_forest.specs.declared.edit.EditFault.TheVariants.{TextFull}
@@ -67,16 +67,24 @@ HandedOut said None None = said ≡ []
 HandedOut said (Some s) (Some whole) = (done : List Happening) × (record s { out = done ++ s.out } ≡ whole) × (sent_in done ≡ said)
 HandedOut said _ _ = ⊥
 
--- From its start on it did lines at the front of these, took these messages and handed out those: what it handed out, and what it has
--- queued, is all that the application sends that its lines and the messages make, in the order in which they were done.
-pub record IsAfter (lines : List (List ℕ)) (s : Option Exporter) (took said : List Envelope) : Type 0 where
+-- no message of its own has a number past 4,294,967,295
+abbrev pub IsNumbered : Option Exporter → Type 0
+IsNumbered None = Unit {0}
+IsNumbered (Some s) = is_spent s ≡ false
+
+-- From its start on it did lines at the front of these, took these messages and handed out those, in an order that is so for the lines
+-- that are left: what it handed out, and what it has queued, is all that the application sends that its lines and the messages make.
+-- None of that has a number past the last one.
+pub record IsAfter (IsOrder : List Event → List (List ℕ) → Type 0) (lines : List (List ℕ)) (s : Option Exporter) (took said : List Envelope) : Type 0 where
   pub history : List Event
   pub left : List (List ℕ)
+  pub order : IsOrder history left
   pub all : lines_in history ++ left ≡ lines
   pub taken : taken_in history ≡ took
   pub whole : Option Exporter
   pub makes : Makes None history whole
   pub handed : HandedOut said s whole
+  pub numbered : IsNumbered s
 
 -- it has nothing left to hand out
 abbrev pub IsEmpty : Option Exporter → Type 0
@@ -117,25 +125,29 @@ RefusedNext s [] why = (s ≡ None) × (why ≡ refused.Form)
 RefusedNext s (line ∷ rest) why = RefusedAs s line why
 
 -- a line of these is refused, counted from 1: those before it were done, and these messages taken
-pub record IsRefused (lines : List (List ℕ)) (took : List Envelope) (number : ℕ) (why : Refused) : Type 0 where
+pub record IsRefused (IsOrder : List Event → List (List ℕ) → Type 0) (lines : List (List ℕ)) (took : List Envelope) (number : ℕ) (why : Refused) : Type 0 where
   pub history : List Event
   pub left : List (List ℕ)
+  pub order : IsOrder history left
   pub all : lines_in history ++ left ≡ lines
   pub taken : taken_in history ≡ took
   pub whole : Option Exporter
   pub makes : Makes None history whole
+  pub numbered : IsNumbered whole
   pub next : RefusedNext whole left why
   pub counted : number ≡ length (lines_in history) + 1
 
 -- a line of these asks for an edit whose messages would pass number 4,294,967,295
-pub record IsSpentAt (lines : List (List ℕ)) (took : List Envelope) : Type 0 where
+pub record IsSpentAt (IsOrder : List Event → List (List ℕ) → Type 0) (lines : List (List ℕ)) (took : List Envelope) : Type 0 where
   pub history : List Event
   pub line : List ℕ
   pub left : List (List ℕ)
+  pub order : IsOrder history (line ∷ left)
   pub all : lines_in history ++ line ∷ left ≡ lines
   pub taken : taken_in history ≡ took
   pub whole : Exporter
   pub makes : Makes None history (Some whole)
+  pub numbered : IsNumbered (Some whole)
   pub edit : Edit
   pub asks : IsAsk (ask.Edit edit) line
   pub spent : IsSpentAfter (app_edits whole edit)

@@ -4,7 +4,7 @@ ghost use Rattle.std.specs.Prelude.{◌≡◌, IfErr, IfOk, OnOk};
 ghost use Rattle.atspi_forest.specs.Edits.{IsEdit};
 ghost use Rattle.atspi_live_app.specs.Live.{IsKept, IsLawful, IsStarted, IsUndone, seen};
 ghost use Rattle.atspi_live_app.specs.Pace.{rounds_of};
-ghost use Rattle.atspi_live_app.specs.Standing.{Does};
+ghost use Rattle.atspi_live_app.specs.Standing.{Does, IsNumbered};
 ghost use Rattle.atspi_live_app.specs.Stops.{undone_of};
 ghost use Rattle.atspi_live_app.specs.declared.asking.Ask.TheVariants as asks;
 
@@ -45,6 +45,7 @@ fn start<A: Exporting>(
 ) -> Result<(), Undone>
     requires { IsKept A.is_app A.is_kit app.old kit.old }
     ensures ok { OnOk result (IsKept A.is_app A.is_kit app.new kit.new × Does (seen A.exporter app.old) (asks.Start name) (seen A.exporter app.new)) }
+    ensures numbered { OnOk result (IsNumbered (seen A.exporter app.new)) }
     ensures err { IfErr result (λ undone. IsUndone undone (seen A.exporter app.old) (asks.Start name)) }
 {
     if app.is_some() {
@@ -71,6 +72,7 @@ fn make<A: Exporting>(alloc: Global, edit: &Edit, app: &mut Option<A>) -> Result
     requires lawful { IsEdit edit.now }
     ensures app { IsStarted A.is_app app.new }
     ensures ok { OnOk result (Does (seen A.exporter app.old) (asks.Edit edit.now) (seen A.exporter app.new)) }
+    ensures numbered { OnOk result (IsNumbered (seen A.exporter app.new)) }
     ensures err { IfErr result (λ undone. IsUndone undone (seen A.exporter app.old) (asks.Edit edit.now)) }
 {
     let Some(app) = app else {
@@ -91,7 +93,9 @@ pub(crate) fn do_ask<A: Exporting>(
 ) -> Result<u32, Undone>
     requires kept { IsKept A.is_app A.is_kit app.old kit.old }
     requires lawful { IsLawful ask }
+    requires numbered { IsNumbered (seen A.exporter app.old) }
     ensures ok { OnOk result (IsKept A.is_app A.is_kit app.new kit.new × Does (seen A.exporter app.old) ask (seen A.exporter app.new)) }
+    ensures numbered { OnOk result (IsNumbered (seen A.exporter app.new)) }
     ensures rounds { IfOk result (λ rounds. rounds ≡ rounds_of ask) }
     ensures err { IfErr result (λ undone. IsUndone undone (seen A.exporter app.old) ask) }
 {

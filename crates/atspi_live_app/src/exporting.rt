@@ -1,6 +1,6 @@
 //! What a live end wants of an application.
 
-ghost use Rattle.std.specs.Prelude.{◌≡◌, ◌∷◌, [], Ok, Err, true, IfOk, IsErrOf, MatchOption, OnOk, OnErr};
+ghost use Rattle.std.specs.Prelude.{◌≡◌, ◌∷◌, [], Ok, Err, false, true, IfOk, IsErrOf, MatchOption, OnOk, OnErr};
 ghost use Rattle.atspi_forest.specs.Row.{IsName};
 ghost use Rattle.atspi_forest.specs.Edits.{IsEdit};
 ghost use Rattle.atspi_forest.specs.declared.edit.EditFault.{EditFault};
@@ -34,23 +34,26 @@ pub(crate) trait Exporting: Drop {
         requires name { IsName name }
         requires kit { is_kit kit }
         ensures app { IfOk result (λ app. is_app app) }
-        ensures begins { IfOk result (λ app. exporter app ≡ starts (begins name)) };
+        ensures begins { IfOk result (λ app. exporter app ≡ starts (begins name)) }
+        ensures numbered { IfOk result (λ app. is_spent (exporter app) ≡ false) };
 
-    /// Takes a message: what happens is queued. Spent only where its messages would pass number 4,294,967,295. After a fault all is as before.
+    /// Takes a message: what happens is queued. Spent exactly where its messages would pass number 4,294,967,295. After a fault all is as before.
     fn take(&mut self, alloc: Global, message: &MessageRef<'_>) -> Result<(), EndFault>
         requires app { is_app self.old }
         ensures app { is_app self.new }
         ensures ok { OnOk result (exporter self.new ≡ app_takes (exporter self.old) (envelope_at message.now)) }
+        ensures numbered { OnOk result (is_spent (exporter self.new) ≡ false) }
         ensures spent { IsErrOf result EndFault.Spent → is_spent (app_takes (exporter self.old) (envelope_at message.now)) ≡ true }
         ensures err { OnErr result (exporter self.new ≡ exporter self.old) };
 
-    /// Makes an edit of its user: its steps and their signals are queued. Refused exactly by the first refusal of the edit. After a fault all is as
-    /// before.
+    /// Makes an edit of its user: its steps and their signals are queued. Refused exactly by the first refusal of the edit, and
+    /// spent exactly where its messages would pass number 4,294,967,295. After a fault all is as before.
     fn edit(&mut self, alloc: Global, edit: &Edit) -> Result<(), AppFault>
         requires lawful { IsEdit edit.now }
         requires app { is_app self.old }
         ensures app { is_app self.new }
         ensures ok { OnOk result (app_edits (exporter self.old) edit.now ≡ Ok (exporter self.new)) }
+        ensures numbered { OnOk result (is_spent (exporter self.new) ≡ false) }
         ensures refused { (fault : EditFault) → IsErrOf result (AppFault.Refused fault) → app_edits (exporter self.old) edit.now ≡ Err fault }
         ensures spent { IsErrOf result AppFault.Spent → IsSpentAfter (app_edits (exporter self.old) edit.now) }
         ensures err { OnErr result (exporter self.new ≡ exporter self.old) };

@@ -1,11 +1,11 @@
 //! The application as an end that converses, with the input whose lines it does.
 
-ghost use Rattle.std.specs.Prelude.{◌≡◌, ◌≤◌, ℕ, List, [], ◌∷◌, length, IfErr, IfOk};
+ghost use Rattle.std.specs.Prelude.{◌≡◌, ◌≤◌, ℕ, List, [], length, IfErr, IfOk};
 ghost use Rattle.atspi_message.specs.Envelope.{Envelope};
 ghost use Rattle.atspi_conversation.specs.Talking.{MaySpeak};
 ghost use Rattle.atspi_live_app.specs.Lines.{lines_of};
 ghost use Rattle.atspi_live_app.specs.Live as live;
-ghost use Rattle.atspi_live_app.specs.Live.{IsStopped, StandsAt, queued_in, seen};
+ghost use Rattle.atspi_live_app.specs.Live.{IsMarked, IsStopped, StandsAt, aside_of, queued_in, seen};
 ghost use Rattle.atspi_live_app.specs.Pace.{Proceeds};
 ghost use Rattle.atspi_live_app.specs.Standing as standing;
 ghost use Rattle.atspi_live_app.specs.Stops.{stop_of_line, stop_of_undone};
@@ -70,7 +70,7 @@ impl<A: Exporting> LiveApp<A> {
     pub(crate) fn new(alloc: Global, text: Vec<u8>, kit: A::Kit) -> LiveApp<A>
         requires kit { A.is_kit kit }
         requires short { length text.items ≤ INPUT_LIMIT }
-        ensures { StandsAt A.is_app A.exporter A.is_kit (0 ∷ text.items) result.app result.kit result.input.text.items result.input.at result.input.number [] [] }
+        ensures { StandsAt A.is_app A.exporter A.is_kit (aside_of 0 [] text.items) result.app result.kit result.input.text.items result.input.at result.input.number [] [] }
     {
         LiveApp {
             alloc,
@@ -83,9 +83,10 @@ impl<A: Exporting> LiveApp<A> {
     /// The next line is done. Answers how many rounds it takes; behind the last line one after another.
     pub(crate) fn do_next(&mut self) -> Result<u32, Stop>
         requires { MaySpeak ⟦<LiveApp<A> as BusEnd>⟧.Stands self.old }
-        ensures ok { IfOk result (λ rounds. (text : List ℕ) (place : ℕ) (took said : List Envelope) → ⟦<LiveApp<A> as BusEnd>⟧.Stands (place ∷ text) self.old took said
-            → Proceeds text place rounds self.new.input.at × ⟦<LiveApp<A> as BusEnd>⟧.Stands (self.new.input.at ∷ text) self.new took said) }
-        ensures err { IfErr result (λ stop. (text : List ℕ) (place : ℕ) (took said : List Envelope) → ⟦<LiveApp<A> as BusEnd>⟧.Stands (place ∷ text) self.old took said → IsStopped stop (lines_of text) took) }
+        ensures ok { IfOk result (λ rounds. (text marks : List ℕ) (place : ℕ) (took said : List Envelope) → ⟦<LiveApp<A> as BusEnd>⟧.Stands (aside_of place marks text) self.old took said
+            → (marks' : List ℕ) × Proceeds text place marks (length took) rounds self.new.input.at marks' × ⟦<LiveApp<A> as BusEnd>⟧.Stands (aside_of self.new.input.at marks' text) self.new took said) }
+        ensures err { IfErr result (λ stop. (text marks : List ℕ) (place : ℕ) (took said : List Envelope) → ⟦<LiveApp<A> as BusEnd>⟧.Stands (aside_of place marks text) self.old took said
+            → IsStopped (IsMarked marks) stop (lines_of text) took) }
     {
         match self.input.next(self.alloc) {
             Some(Ok(ask)) => match do_ask(self.alloc, ask, &mut self.app, &mut self.kit) {

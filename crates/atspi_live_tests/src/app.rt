@@ -49,6 +49,12 @@ const MATCHED: &[u8] =
 const LISTED: &[u8] =
     b"l\x02\x01\x01/\0\0\0\x03\0\0\03\0\0\0\x05\x01u\0\x03\0\0\0\x06\x01s\0\x04\0\0\0:1.0\0\0\0\0\x07\x01s\0\x04\0\0\0:1.1\0\0\0\0\x08\x01g\0\x05a(ss)\0\0\0\0\0\0'\0\0\0\0\0\0\0\x04\0\0\0:1.9\0\0\0\0\x16\0\0\0object:property-change\0";
 
+/// The first 16 bytes of that return, and the others.
+const LISTED_FRONT: &[u8] = b"l\x02\x01\x01/\0\0\0\x03\0\0\03\0\0\0";
+
+const LISTED_REST: &[u8] =
+    b"\x05\x01u\0\x03\0\0\0\x06\x01s\0\x04\0\0\0:1.0\0\0\0\0\x07\x01s\0\x04\0\0\0:1.1\0\0\0\0\x08\x01g\0\x05a(ss)\0\0\0\0\0\0'\0\0\0\0\0\0\0\x04\0\0\0:1.9\0\0\0\0\x16\0\0\0object:property-change\0";
+
 /// What a run came to: its status, what was given on the link, and what was written.
 #[derive(Drop)]
 struct Run {
@@ -114,6 +120,19 @@ fn is_written(
     Ok(run.status == status && run.written.bytes() == line)
 }
 
+/// Whether nine rounds with this input and a peer that sends these pieces give just what is due.
+fn gives(
+    rt: &impl Abort,
+    alloc: Global,
+    input: &[u8],
+    parts: &[&[u8]],
+    due: &[&[u8]],
+) -> Result<bool, Fail> {
+    let run = run_with(rt, alloc, input, parts, (NEVER, NEVER), 9)?;
+    let due = joined(alloc, due)?;
+    Ok(run.status == 8 && run.given.as_slice() == due.as_slice())
+}
+
 #[test]
 fn tells_an_edit(rt: HostRuntime) -> Result<(), Fail> {
     let alloc = rt.alloc();
@@ -125,6 +144,31 @@ fn tells_an_edit(rt: HostRuntime) -> Result<(), Fail> {
     let due = joined(alloc, &[LINES, HELLO, MATCH, EVENTS, EMBED, SIGNAL])?;
     assert_eq!(rt; run.given.as_slice(), due.as_slice());
     assert_eq!(rt; run.written.bytes(), b"".as_slice());
+    Ok(())
+}
+
+#[test]
+fn does_a_line_before_the_read_of_its_round(rt: HostRuntime) -> Result<(), Fail> {
+    let alloc = rt.alloc();
+    // the edit stands before the fifth read, in which it is listed who listens: nobody listens yet
+    let input = b"app \"T\"\nwait 3\nname 0 \"x\"\n";
+    let parts: &[&[u8]] = &[CHALLENGE, GRANT, NAMED, MATCHED, LISTED];
+    let due: &[&[u8]] = &[LINES, HELLO, MATCH, EVENTS, EMBED];
+    assert!(rt; gives(&rt, alloc, input, parts, due)?);
+    Ok(())
+}
+
+#[test]
+fn takes_a_message_with_its_last_byte(rt: HostRuntime) -> Result<(), Fail> {
+    let alloc = rt.alloc();
+    // the sixth read makes it whole
+    let parts: &[&[u8]] = &[CHALLENGE, GRANT, NAMED, MATCHED, LISTED_FRONT, LISTED_REST];
+    let silent: &[&[u8]] = &[LINES, HELLO, MATCH, EVENTS, EMBED];
+    let told: &[&[u8]] = &[LINES, HELLO, MATCH, EVENTS, EMBED, SIGNAL];
+    let sixth = b"app \"T\"\nwait 4\nname 0 \"x\"\n";
+    assert!(rt; gives(&rt, alloc, sixth, parts, silent)?);
+    let seventh = b"app \"T\"\nwait 5\nname 0 \"x\"\n";
+    assert!(rt; gives(&rt, alloc, seventh, parts, told)?);
     Ok(())
 }
 

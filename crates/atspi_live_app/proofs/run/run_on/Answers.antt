@@ -1,7 +1,7 @@
 use Rattle.std.proofs.Common.{◌≡◌, ℕ, List, subst, ◌∙◌}
 use Rattle.atspi_live_registry.proofs.Running.{connected, on_link}
 use Rattle.atspi_live_app.specs.Lines.{lines_of}
-use Rattle.atspi_live_app.specs.Pace.{RunsPaced}
+use Rattle.atspi_live_app.specs.Rounds.{RunsPaced}
 use Rattle.atspi_live_app.specs.Runs.{TextEnds}
 use Rattle.atspi_live_app.proofs.Ending.{ended}
 use Rattle.atspi_live_app.proofs.run.run_on.Goals as goal

@@ -1,0 +1,9 @@
+//! Values of the definitions of live ends, worked out by hand: in which rounds an application does the lines of its input and takes its
+//! messages.
+#![tactic(auto)]
+
+mod paces;
+mod turns;
+
+pub use paces::{pace_of_lines, rounds_of_lines, stops_of_lines};
+pub use turns::{a_message_over_two_reads, pieces_of_reads};
