@@ -10,7 +10,6 @@ ghost use Rattle.atspi_protocol.specs.whole.Whole.{KnowsNo, as_actions, as_colum
 use atspi_forest::Step;
 
 /// Each node has the contents that the faces keep of it.
-#[tactic(auto, using(std::specs::FinMap::gets))]
 pub fn trees()
     ensures filled { filled kept (shape 1 plain) ≡ record { shape = shape 1 plain; contents = record { text = Some (record { characters = codes "abc"; caret = 1; selections = (0, 2) ∷ [] }); columns = None; actions = [] } } }
     ensures whole { whole (tree (shape 0 plain) (tree (shape 2 plain) nil nil) nil) kept

@@ -13,7 +13,7 @@ ghost use Rattle.atspi_routing.specs.Room.{room, hello, one_text, signals};
 use atspi_routing::BusMember;
 
 /// A name that is given back goes to who waits for it; a request that waits stands last. Each leaves the rules as they were.
-#[tactic(auto, using(atspi_routing_examples::proofs::Known::known))]
+#[tactic(auto, unfolding(atspi_valid_names::specs::Names::is_bus_name, atspi_valid_names::specs::Elements::are_two_or_more, atspi_valid_names::specs::Elements::are_elements, atspi_valid_names::specs::Elements::parts_of))]
 pub fn changed()
     ensures released { list_of (answers BusMember.ReleaseName room 1 (one_text (codes "a.b")) None).owners.lists (codes "a.b") ≡ (2, 0) ∷ [] }
     ensures kept { list_of (answers BusMember.ReleaseName room 1 (one_text (codes "a.b")) None).owners.lists (codes "c.d") ≡ (1, 0) ∷ [] }
@@ -31,7 +31,7 @@ pub fn limits()
 {}
 
 /// What is asked changes nothing.
-#[tactic(auto, using(atspi_routing_examples::proofs::Known::known))]
+#[tactic(auto, unfolding(atspi_valid_names::specs::Names::is_bus_name, atspi_valid_names::specs::Elements::are_two_or_more, atspi_valid_names::specs::Elements::are_elements, atspi_valid_names::specs::Elements::parts_of))]
 pub fn table()
     ensures has { (answers BusMember.NameHasOwner room 0 (one_text (codes "a.b")) None).told ≡ [] }
     ensures refused { answers BusMember.RequestName room 0 (one_text (codes "ab")) None ≡ only room (fails (codes "InvalidArgs")) }
@@ -40,7 +40,6 @@ pub fn table()
 {}
 
 /// The first call may name the bus's interface or none, and goes to the bus.
-#[tactic(auto, using(atspi_routing_examples::proofs::Known::known))]
 pub fn first_calls()
     ensures named { is_hello hello ≡ true }
     ensures without_interface { is_hello (record hello { interface = None }) ≡ true }

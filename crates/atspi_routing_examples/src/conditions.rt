@@ -20,7 +20,6 @@ pub fn kinds()
 {}
 
 /// A sender is the name itself, or owns it, where it is a well-known one; whoever waits for the name does not. A message without a sender has none.
-#[tactic(auto, using(atspi_routing_examples::proofs::Known::known))]
 pub fn senders()
     ensures literal { holds (sent_by (Some one_)) owners (condition.Sender one_) ≡ true }
     ensures other { holds (sent_by (Some two_)) owners (condition.Sender one_) ≡ false }
@@ -32,7 +31,6 @@ pub fn senders()
 {}
 
 /// A unique name is asked for literally alone, and an owner without a name is nobody.
-#[tactic(auto, using(atspi_routing_examples::proofs::Known::known))]
 pub fn owned_names()
     ensures unique { holds (sent_by (Some two_)) wrong_owners (condition.Sender one_) ≡ false }
     ensures nameless { holds (sent_by (Some two_)) wrong_owners (condition.Sender (codes "a.b")) ≡ false }
@@ -108,7 +106,6 @@ pub fn branches()
 {}
 
 /// A rule asks for what all its conditions ask for; `eavesdrop` changes nothing. A connection asks for what one of its own rules does.
-#[tactic(auto, using(atspi_routing_examples::proofs::Known::known))]
 pub fn rules()
     ensures both { matches signal_m owners (condition.Kind Signal ∷ (condition.Member (codes "M") ∷ [])) ≡ true }
     ensures second { matches signal_m owners (condition.Kind Signal ∷ (condition.Member (codes "N") ∷ [])) ≡ false }

@@ -30,7 +30,6 @@ pub fn numbers()
 {}
 
 /// Nothing is told of a name that stays with its owner, or with nobody.
-#[tactic(auto, using(atspi_routing_examples::proofs::Known::known))]
 pub fn told()
     ensures nobody { told_of_change owners (codes "a.b") None None ≡ [] }
     ensures same { told_of_change owners (codes "a.b") (Some 1) (Some 1) ≡ [] }

@@ -44,7 +44,6 @@ pub fn down()
 {}
 
 /// Bytes that do not complete a message are counted, at that end alone; those of a down link are gone from the bus.
-#[tactic(auto, using(std::specs::FinMap::gets))]
 pub fn taken()
     ensures up { (b : Bus) → end_at (moved_up (with_ends b (app 0 ∷ record (app 1) { up_moved = 12 } ∷ [])) 1 7).ends 1 ≡ Some (record (app 1) { up_moved = 19 }) }
     ensures other_up { (b : Bus) → end_at (moved_up (with_ends b (app 0 ∷ app 1 ∷ [])) 1 7).ends 0 ≡ Some (app 0) }

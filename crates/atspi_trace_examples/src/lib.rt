@@ -24,5 +24,5 @@ pub use hearing::{ends_told, fates, held, names, spoken};
 pub use questions::{asked_parts, calls, listening, may_be_asked, no_calls};
 pub use refusals::{calls as refused_calls, edits, limits, parties as refused_parties, unrefused};
 pub use rules::{asked, others};
-pub use turns::{drains, in_turn, links as waiting_links, turns};
+pub use turns::{drains, in_turn, links as waiting_links, so_many};
 pub use works::{of_calls, of_ends as works_of_ends, of_nobody, of_scripts};

@@ -36,7 +36,7 @@ pub fn in_turn()
 {}
 
 /// So many turns, while something waits; behind the last, where something waits still, that is told.
-pub fn turns()
+pub fn so_many()
     ensures nothing { (w : World) → next_of_turns w 5 3 None ≡ rests w }
     ensures one { (w : World) → next_of_turns w 5 3 (Some (cause.gets 1)) ≡ work.cause (cause.gets 1) w (turning 5 2) }
     ensures busy { (w : World) → next_of_turns w 5 0 (Some (cause.gets 1)) ≡ work.cause (cause.tells_busy 5) w resting }
