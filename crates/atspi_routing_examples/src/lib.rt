@@ -11,4 +11,4 @@ mod queues;
 pub use answers::{changed, first_calls, limits, table};
 pub use conditions::{arguments, branches, fields, kinds, namespaces, owned_names, paths, rules, senders};
 pub use own::{errors, numbers, returns, signals, told};
-pub use queues::{deliveries, of_bytes};
+pub use queues::deliveries;
