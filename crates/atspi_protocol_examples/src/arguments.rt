@@ -30,8 +30,8 @@ pub fn misread()
     ensures text_path { reference_of (text_data (codes ":1.7") ∷ text_data (codes "/a") ∷ []) ≡ None }
     ensures more { reference_of (text_data (codes ":1.7") ∷ path_data (codes "/a") ∷ text_data [] ∷ []) ≡ None }
     ensures no_structure { reference_in (path_data (codes "/a")) ≡ None }
-    ensures behind { then_end 5 (text_data [] ∷ []) ≡ None }
-    ensures last { then_end 5 [] ≡ Some 5 }
+    ensures behind { then_end (codes "a") (text_data [] ∷ []) ≡ None }
+    ensures last { then_end (codes "a") [] ≡ Some (codes "a") }
     ensures text { text_in (text_data (codes "a")) ≡ codes "a" }
     ensures no_text { text_in (number_data u32 5) ≡ [] }
     ensures number { number_in (number_data u32 5) ≡ 5 }

@@ -62,5 +62,5 @@ pub fn links()
     ensures taken_up { taken_up (record (app 0) { up = said ∷ other_said ∷ []; up_moved = 4; down = letter ∷ []; down_moved = 5 }) ≡ record (app 0) { up = other_said ∷ []; down = letter ∷ []; down_moved = 5 } }
     ensures taken_down { taken_down (record (reader 0 idle) { up = said ∷ []; up_moved = 4; down = letter ∷ letter ∷ []; down_moved = 5 }) ≡ record (reader 0 idle) { up = said ∷ []; up_moved = 4; down = letter ∷ [] } }
     ensures nothing { taken_up (app 0) ≡ app 0 }
-    ensures rest { rest_of (1 ∷ 2 ∷ []) ≡ 2 ∷ [] }
+    ensures rest { rest_of (said ∷ other_said ∷ []) ≡ other_said ∷ [] }
 {}
