@@ -3,7 +3,9 @@
 #![tactic(auto)]
 
 mod cases;
+mod following;
 mod scripts;
 
 pub use cases::{first_draws, full, inserted, live, moved, named, script_of_seed_1, turned};
+pub use following::{followed, numbers, seen};
 pub use scripts::{drained, edited, opened, turns_made};

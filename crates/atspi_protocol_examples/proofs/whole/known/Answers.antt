@@ -1,0 +1,12 @@
+use Rattle.std.proofs.Common.{refl}
+use Rattle.std.specs.FinMap.{gets}
+use Rattle.atspi_protocol_examples.proofs.whole.known.Goals as goal
+
+pub returns-clause-no_text : goal.returns-clause-no_text
+returns-clause-no_text c = simp gets refl
+
+pub returns-clause-other_columns : goal.returns-clause-other_columns
+returns-clause-other_columns c = simp gets refl
+
+pub returns-clause-no_actions : goal.returns-clause-no_actions
+returns-clause-no_actions c = simp gets refl

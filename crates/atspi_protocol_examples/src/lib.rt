@@ -1,0 +1,24 @@
+//! Worked cases of the definitions of `atspi_protocol` and `atspi_speech` that stand beside those of the two crates: the tables as they are printed, the calls of
+//! a reader's start, and what happens where a message says less than it should. Each case is a clause of a function without a body, with its value worked
+//! out by hand. So a definition that says otherwise is refused here, and a new case makes no crate above the definitions be proved again.
+#![tactic(auto)]
+
+mod answers;
+mod announced;
+mod arguments;
+mod exporting;
+mod following;
+mod looked;
+mod registering;
+mod signatures;
+mod whole;
+
+pub use announced::{moves, nothing};
+pub use answers::{changes, no_members, properties, refused, selections};
+pub use arguments::{missing, misread};
+pub use exporting::{counts, edits, numbers, refused_starts, starts, unlike};
+pub use following::{children, ends, part_calls, starts as reader_starts, user_calls};
+pub use looked::{adding, changed_rows, rows_of_items, rows_of_news};
+pub use registering::{no_requests, numbered, pairs, sent};
+pub use signatures::{of_bus_objects, of_nodes, of_properties, of_registry, of_tables, of_texts};
+pub use whole::{absent, known, trees};

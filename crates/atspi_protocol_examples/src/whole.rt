@@ -1,0 +1,42 @@
+//! Whole trees, of which the shape and the contents stand apart.
+
+ghost use Rattle.std.specs.Prelude.{◌≡◌, ◌∷◌, [], None, Some, codes};
+ghost use Rattle.std.specs.FinMap.{empty, get};
+ghost use Rattle.atspi_forest.specs.declared.contents.FaceData.TheVariants.{Chars, Deeds, Grid};
+ghost use Rattle.atspi_forest.specs.Forest.{nil, tree};
+ghost use Rattle.atspi_protocol.specs.whole.Cases.{kept, plain, shape, small};
+ghost use Rattle.atspi_protocol.specs.whole.Whole.{KnowsNo, as_actions, as_columns, as_text, faces_after, filled, whole, with_actions, with_columns, with_text};
+
+use atspi_forest::Step;
+
+/// Each node has the contents that the faces keep of it.
+pub fn trees()
+    ensures filled { filled kept (shape 1 plain) ≡ record { shape = shape 1 plain; contents = record { text = Some (record { characters = codes "abc"; caret = 1; selections = (0, 2) ∷ [] }); columns = None; actions = [] } } }
+    ensures whole { whole (tree (shape 0 plain) (tree (shape 2 plain) nil nil) nil) kept
+        ≡ tree (record { shape = shape 0 plain; contents = record { text = None; columns = None; actions = codes "press" ∷ [] } })
+        (tree (record { shape = shape 2 plain; contents = record { text = None; columns = Some 2; actions = [] } }) nil nil) nil }
+    ensures nobody { whole nil kept ≡ nil }
+{}
+
+/// Contents of another kind are none.
+pub fn absent()
+    ensures text { as_text (Some (Grid 2)) ≡ None }
+    ensures no_text { as_text None ≡ None }
+    ensures columns { as_columns (Some (Deeds [])) ≡ None }
+    ensures actions { as_actions (Some (Grid 2)) ≡ [] }
+    ensures new_text { with_text 3 None empty ≡ empty }
+    ensures new_columns { with_columns 3 None empty ≡ empty }
+    ensures new_actions { with_actions 3 [] empty ≡ empty }
+{}
+
+/// The faces know nothing of a node that none of them keeps, and something of one that one keeps; a removed node is gone from each.
+#[tactic(auto, using(std::specs::FinMap::gets))]
+pub fn known()
+    ensures nothing { KnowsNo kept 3 }
+    ensures text { KnowsNo kept 1 → ⊥ }
+    ensures columns { KnowsNo kept 2 → ⊥ }
+    ensures actions { KnowsNo kept 0 → ⊥ }
+    ensures no_text { get (faces_after small (Step.Remove 1) kept).chars 1 ≡ None }
+    ensures other_columns { get (faces_after small (Step.Remove 1) kept).grid 2 ≡ Some (Grid 2) }
+    ensures no_actions { get (faces_after small (Step.Remove 0) kept).deeds 0 ≡ None }
+{}
