@@ -3,8 +3,8 @@
 //! out by hand. So a definition that says otherwise is refused here, and a new case makes no crate above the definitions be proved again.
 #![tactic(auto)]
 
-mod answers;
 mod announced;
+mod answers;
 mod arguments;
 mod exporting;
 mod following;
@@ -15,7 +15,7 @@ mod whole;
 
 pub use announced::{moves, nothing};
 pub use answers::{changes, no_members, properties, refused, selections};
-pub use arguments::{missing, misread};
+pub use arguments::{misread, missing};
 pub use exporting::{counts, edits, numbers, refused_starts, starts, unlike};
 pub use following::{children, ends, part_calls, starts as reader_starts, user_calls};
 pub use looked::{adding, changed_rows, rows_of_items, rows_of_news};
