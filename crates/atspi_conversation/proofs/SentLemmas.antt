@@ -144,9 +144,9 @@ attends_all Stands fault held mid new old end a same e = record {
   ends = subst (λ (w : List ℕ). EndsIn fault w) (sym same) e;
 }
 
-pub attends_to_spent : {E : Type 0} (Stands : E → List Envelope → List Envelope → Type 0) (IsSpent : E → Envelope → Type 0) (held mid new : List ℕ) (old end : E) (e : Envelope) (bytes : List ℕ)
-    → Attends Stands held mid old end → IsMessage e bytes → mid ≡ bytes ++ new → IsSpent end e → AttendsToSpent Stands IsSpent held old
-attends_to_spent Stands IsSpent held mid new old end e bytes a is split s = record {
+pub attends_to_spent : {E : Type 0} (Stands : E → List Envelope → List Envelope → Type 0) (IsSpent : E → Envelope → Type 0) (held mid new : List ℕ) (old end end' : E) (e : Envelope) (bytes : List ℕ)
+    → Attends Stands held mid old end → IsMessage e bytes → mid ≡ bytes ++ new → IsSpent end e → Rests Stands end end' → AttendsToSpent Stands IsSpent held old end'
+attends_to_spent Stands IsSpent held mid new old end end' e bytes a is split s r = record {
   message = e;
   bytes = bytes;
   rest = new;
@@ -154,6 +154,7 @@ attends_to_spent Stands IsSpent held mid new old end e bytes a is split s = reco
   end = end;
   attends = subst (λ (w : List ℕ). Attends Stands held w old end) split a;
   spent = s;
+  rests = r;
 }
 
 -- a message takes bytes

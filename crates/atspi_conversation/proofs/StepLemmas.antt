@@ -42,15 +42,15 @@ hear_breaks Stands IsSpent t g piece c end (endings.Malformed start fault) v h =
 hear_breaks Stands IsSpent t g piece c end endings.Spent v h = absurd h
 
 -- messages that could not all be told
-pub tell_breaks : {E : Type 0} (Stands : E → List Envelope → List Envelope → Type 0) (IsSpent : E → Envelope → Type 0) (t g : List ℕ) (c : Conversation) (end : E) (ending : Ending) → Converses Stands t g c end
-    → TellsNot Stands IsSpent ending c end → BreaksOff Stands IsSpent ending t
-tell_breaks Stands IsSpent t g c end (endings.Malformed start fault) v h = malformed Stands t g h.0 start fault c end h.1 v h.2 h.3
-tell_breaks Stands IsSpent t g c end endings.Spent v h = spent Stands IsSpent t g c end v h
-tell_breaks Stands IsSpent t g c end endings.NoMemory v h = tt
-tell_breaks Stands IsSpent t g c end endings.NotAuthenticated v h = absurd h
-tell_breaks Stands IsSpent t g c end endings.RoundsDone v h = absurd h
-tell_breaks Stands IsSpent t g c end endings.PeerEnded v h = absurd h
-tell_breaks Stands IsSpent t g c end endings.HostFailed v h = absurd h
+pub tell_breaks : {E : Type 0} (Stands : E → List Envelope → List Envelope → Type 0) (IsSpent : E → Envelope → Type 0) (t g : List ℕ) (c : Conversation) (end end' : E) (ending : Ending) → Converses Stands t g c end
+    → TellsNot Stands IsSpent ending c end end' → BreaksOff Stands IsSpent ending t
+tell_breaks Stands IsSpent t g c end end' (endings.Malformed start fault) v h = malformed Stands t g h.0 start fault c end end' v h.1 h.2
+tell_breaks Stands IsSpent t g c end end' endings.Spent v h = spent Stands IsSpent t g c end end' v h
+tell_breaks Stands IsSpent t g c end end' endings.NoMemory v h = tt
+tell_breaks Stands IsSpent t g c end end' endings.NotAuthenticated v h = absurd h
+tell_breaks Stands IsSpent t g c end end' endings.RoundsDone v h = absurd h
+tell_breaks Stands IsSpent t g c end end' endings.PeerEnded v h = absurd h
+tell_breaks Stands IsSpent t g c end end' endings.HostFailed v h = absurd h
 
 -- a piece was heard, and the end took what was then whole
 pub heeded : {E : Type 0} (Stands : E → List Envelope → List Envelope → Type 0) (t g piece : List ℕ) (c mid c' : Conversation) (end end' : E) → Converses Stands t g c end
@@ -244,14 +244,14 @@ hears_own endings.HostFailed client piece h = h
 hears_own (endings.Malformed start fault) client piece h = tt
 hears_own endings.Spent client piece h = tt
 
-pub tells_own : {E : Type 0} (Stands : E → List Envelope → List Envelope → Type 0) (IsSpent : E → Envelope → Type 0) (ending : Ending) (c : Conversation) (end : E) → TellsNot Stands IsSpent ending c end → IsOwn ending
-tells_own Stands IsSpent endings.NotAuthenticated c end h = tt
-tells_own Stands IsSpent endings.NoMemory c end h = tt
-tells_own Stands IsSpent endings.RoundsDone c end h = h
-tells_own Stands IsSpent endings.PeerEnded c end h = h
-tells_own Stands IsSpent endings.HostFailed c end h = h
-tells_own Stands IsSpent (endings.Malformed start fault) c end h = tt
-tells_own Stands IsSpent endings.Spent c end h = tt
+pub tells_own : {E : Type 0} (Stands : E → List Envelope → List Envelope → Type 0) (IsSpent : E → Envelope → Type 0) (ending : Ending) (c : Conversation) (end end' : E) → TellsNot Stands IsSpent ending c end end' → IsOwn ending
+tells_own Stands IsSpent endings.NotAuthenticated c end end' h = tt
+tells_own Stands IsSpent endings.NoMemory c end end' h = tt
+tells_own Stands IsSpent endings.RoundsDone c end end' h = h
+tells_own Stands IsSpent endings.PeerEnded c end end' h = h
+tells_own Stands IsSpent endings.HostFailed c end end' h = h
+tells_own Stands IsSpent (endings.Malformed start fault) c end end' h = tt
+tells_own Stands IsSpent endings.Spent c end end' h = tt
 
 own_blames : (ending : Ending) (before after : ℕ) → IsOwn ending → after ≡ before → Blames ending before after
 own_blames endings.NotAuthenticated before after h e = e

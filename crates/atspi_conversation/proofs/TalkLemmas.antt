@@ -285,9 +285,9 @@ malformed Stands' t g held start f c end end' v a s =
     }
 
 -- the end's messages are spent
-pub spent : {E : Type 0} (Stands' : E → List Envelope → List Envelope → Type 0) (IsSpent : E → Envelope → Type 0) (t g : List ℕ) (c : Conversation) (end : E) → Converses Stands' t g c end
-    → AttendsToSpent Stands' IsSpent c.feeder end → IsSpentBy Stands' IsSpent t
-spent Stands' IsSpent t g c end v a = record {
+pub spent : {E : Type 0} (Stands' : E → List Envelope → List Envelope → Type 0) (IsSpent : E → Envelope → Type 0) (t g : List ℕ) (c : Conversation) (end end' : E) → Converses Stands' t g c end
+    → AttendsToSpent Stands' IsSpent c.feeder end end' → IsSpentBy Stands' IsSpent t
+spent Stands' IsSpent t g c end end' v a = record {
   messages = v.messages ++ a.attends.messages;
   message = a.message;
   bytes = a.bytes;

@@ -92,8 +92,8 @@ pub record AttendsAll {E : Type 0} (Stands : E → List Envelope → List Envelo
   pub attends : Attends Stands held held' old new
   pub ends : EndsIn fault held'
 
--- those before one that would take its own past the last number
-pub record AttendsToSpent {E : Type 0} (Stands : E → List Envelope → List Envelope → Type 0) (IsSpent : E → Envelope → Type 0) (held : List ℕ) (old : E) : Type 0 where
+-- those before one that would take its own past the last number, for which it then did nothing
+pub record AttendsToSpent {E : Type 0} (Stands : E → List Envelope → List Envelope → Type 0) (IsSpent : E → Envelope → Type 0) (held : List ℕ) (old new : E) : Type 0 where
   pub message : Envelope
   pub bytes : List ℕ
   pub rest : List ℕ
@@ -101,6 +101,7 @@ pub record AttendsToSpent {E : Type 0} (Stands : E → List Envelope → List En
   pub end : E
   pub attends : Attends Stands held (bytes ++ rest) old end
   pub spent : IsSpent end message
+  pub rests : Rests Stands end new
 
 -- What was heard and said so far, where these bytes were taken and those given: the lines and the messages that were said, and those
 -- that the end took. The end says nothing before the lines are over.
@@ -154,12 +155,11 @@ HearsNot endings.NoMemory client piece = ⊤
 HearsNot ending client piece = ⊥
 
 -- why the end could not be told all that is held: a message is at fault, behind so many bytes, or the end's own messages are spent
-abbrev pub TellsNot : {E : Type 0} → (E → List Envelope → List Envelope → Type 0) → (E → Envelope → Type 0) → Ending → Conversation → E → Type 0
-TellsNot Stands IsSpent (endings.Malformed start fault) c end =
-    (held : List ℕ) × (end' : _) × AttendsAll Stands (Some fault) c.feeder held end end' × (start ≡ c.heard - length held)
-TellsNot Stands IsSpent endings.Spent c end = AttendsToSpent Stands IsSpent c.feeder end
-TellsNot Stands IsSpent endings.NoMemory c end = ⊤
-TellsNot Stands IsSpent ending c end = ⊥
+abbrev pub TellsNot : {E : Type 0} → (E → List Envelope → List Envelope → Type 0) → (E → Envelope → Type 0) → Ending → Conversation → E → E → Type 0
+TellsNot Stands IsSpent (endings.Malformed start fault) c old new = (held : List ℕ) × AttendsAll Stands (Some fault) c.feeder held old new × (start ≡ c.heard - length held)
+TellsNot Stands IsSpent endings.Spent c old new = AttendsToSpent Stands IsSpent c.feeder old new
+TellsNot Stands IsSpent endings.NoMemory c old new = ⊤
+TellsNot Stands IsSpent ending c old new = ⊥
 
 -- some of the bytes that waited were given, and no others
 abbrev pub GivesPart : ℕ → Option (List Call) → Option (List Call) → List ℕ → List ℕ → Type 0

@@ -13,7 +13,7 @@ use atspi_types::Fault;
 pub(crate) fn attend<E: BusEnd>(feeder: &mut Feeder, end: &mut E) -> Result<Option<Fault>, EndFault>
     requires { MaySpeak E.Stands end.old }
     ensures ok { IfOk result (λ fault. (aside : List ℕ) → AttendsAll (E.Stands aside) fault feeder.old feeder.new end.old end.new) }
-    ensures spent { IsErrOf result EndFault.Spent → (aside : List ℕ) → AttendsToSpent (E.Stands aside) E.IsSpent feeder.old end.old }
+    ensures spent { IsErrOf result EndFault.Spent → (aside : List ℕ) → AttendsToSpent (E.Stands aside) E.IsSpent feeder.old end.old end.new }
 {
     'messages: loop {
         match feeder.next() {

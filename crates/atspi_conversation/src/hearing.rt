@@ -2,6 +2,7 @@
 
 ghost use Rattle.std.specs.Prelude.{◌≡◌, ◌<◌, ◌≤◌, ◌+◌, ◌^◌, ◌++◌, ℕ, List, [], None, length, IfErr, OnOk};
 ghost use Rattle.atspi_auth.specs.Talk.{after, behind, fault_in, told};
+ghost use Rattle.atspi_conversation.specs.Left.{LeavesOff};
 ghost use Rattle.atspi_conversation.specs.Speech.{line_bytes};
 ghost use Rattle.atspi_conversation.specs.Talking.{AttendsAll, BreaksOff, Converses, HearsNot, IsAtEase, IsOwn, IsUttered, MaySpeak, TellsNot};
 
@@ -41,7 +42,7 @@ impl Conversation {
     fn tell<E: BusEnd>(&mut self, end: &mut E) -> Result<(), Ending>
         requires { MaySpeak E.Stands end.old }
         ensures ok { OnOk result ((aside : List ℕ) → AttendsAll (E.Stands aside) None self.old.feeder self.new.feeder end.old end.new) }
-        ensures err { IfErr result (λ ending. (aside : List ℕ) → TellsNot (E.Stands aside) E.IsSpent ending self.old end.old) }
+        ensures err { IfErr result (λ ending. (aside : List ℕ) → TellsNot (E.Stands aside) E.IsSpent ending self.old end.old end.new) }
         ensures client { self.new.client ≡ self.old.client }
         ensures unsent { self.new.unsent ≡ self.old.unsent }
         ensures heard { self.new.heard ≡ self.old.heard }
@@ -85,6 +86,8 @@ impl Conversation {
         ensures few { OnOk result (self.new.heard ≤ self.old.heard + length piece.now) }
         ensures err { IfErr result (λ ending. (aside t g : List ℕ) → Converses (E.Stands aside) t g self.old end.old
             → BreaksOff (E.Stands aside) E.IsSpent ending (t ++ piece.now)) }
+        ensures left { IfErr result (λ ending. (aside t g : List ℕ) → IsAtEase (E.Stands aside) t g self.old end.old
+            → LeavesOff (E.Stands aside) E.IsSpent ending (t ++ piece.now) end.new) }
         ensures own { IfErr result IsOwn }
     {
         if let Err(ending) = self.hear(piece) {

@@ -4,6 +4,7 @@ ghost use Rattle.std.specs.Prelude.{◌≡◌, ◌<◌, ◌≤◌, ◌+◌, ◌^
 ghost use Rattle.atspi_base.specs.Outside.{Rose};
 ghost use Rattle.atspi_host.specs.Calls.{IsOpen};
 ghost use Rattle.atspi_host.specs.declared.call.Did.{Did};
+ghost use Rattle.atspi_conversation.specs.Left.{IsLeft};
 ghost use Rattle.atspi_conversation.specs.Moved.{Grows, Tells};
 ghost use Rattle.atspi_conversation.specs.Rounds.{Breaks, IsRead, IsRound, IsRun, Makes};
 ghost use Rattle.atspi_conversation.specs.Speech.{Ends, Speaks};
@@ -41,6 +42,8 @@ fn take_in<H: Host, E: BusEnd>(
     ensures made { MatchResult result (λ _. Makes (H.calls host.old) (H.calls host.new) (IsRead link (length piece.old)))
         (λ ending. (aside t g : List ℕ) → Makes (H.calls host.old) (H.calls host.new) (Breaks (E.Stands aside) (HasNone E.queued) link (length piece.old) ending t g)) }
     ensures grows { Grows link (H.calls host.old) (H.calls host.new) }
+    ensures left { IfErr result (λ ending. (aside : List ℕ) (n : ℕ) → Going (E.Stands aside) link (H.calls host.old) n conversation.old end.old
+        → IsLeft (E.Stands aside) E.IsSpent link ending (H.calls host.new) end.new) }
     ensures still { result ≡ Err Ending.PeerEnded → end.new ≡ end.old }
     ensures broken { IfErr result IsBroken }
     ensures links { H.links host.new ≡ H.links host.old }
@@ -78,7 +81,8 @@ fn give<H: Host>(host: &mut H, link: u32, unsent: &mut Unsent) -> Result<(), Fai
 }
 
 /// One round of a conversation: one read of at most as many bytes as the piece has room for, the end takes each message that is then whole,
-/// and exactly where not all is given that is due, one write of the next 1 to 4,096 bytes.
+/// and exactly where not all is given that is due, one write of the next 1 to 4,096 bytes. Where the run is over in it, the end took each
+/// message before what ended the run, and what it queued for these stays queued.
 pub fn round<H: Host, E: BusEnd>(
     host: &mut H,
     link: u32,
@@ -100,6 +104,8 @@ pub fn round<H: Host, E: BusEnd>(
         (λ _. (aside : List ℕ) → MakesNext (E.Stands aside) link (H.calls host.old) (H.calls host.new) conversation.old end.old (IsRound (E.Stands aside) (HasNone E.queued) link (length piece.old)))
         (λ ending. (aside : List ℕ) → MakesNext (E.Stands aside) link (H.calls host.old) (H.calls host.new) conversation.old end.old (Breaks (E.Stands aside) (HasNone E.queued) link (length piece.old) ending)) }
     ensures grows { Grows link (H.calls host.old) (H.calls host.new) }
+    ensures left { IfErr result (λ ending. (aside : List ℕ) (n : ℕ) → Going (E.Stands aside) link (H.calls host.old) n conversation.old end.old
+        → IsLeft (E.Stands aside) E.IsSpent link ending (H.calls host.new) end.new) }
     ensures still { result ≡ Err Ending.PeerEnded → end.new ≡ end.old }
     ensures broken { IfErr result IsBroken }
     ensures links { H.links host.new ≡ H.links host.old }

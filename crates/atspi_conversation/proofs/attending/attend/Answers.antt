@@ -31,5 +31,5 @@ returns-in-Err-clause-spent g c e aside =
     let left = rw c.in-Message.is at c.next.follows.holds-at-none in
     let m = left.message in
     let is : c.in-Err.fault ≡ Spent = cc in
-    attends_to_spent (g.E.BusEnd.Stands aside) g.E.BusEnd.IsSpent c.args.feeder.now c.messages.feeder new c.args.end.now c.messages.end (envelope_at c.in-Message.message) m.0 (c.messages.invariant.attends aside) m.1 m.2
-    (c.in-Err.ensures.spent (ap (λ (x : EndFault). Err x) is))
+    attends_to_spent (g.E.BusEnd.Stands aside) g.E.BusEnd.IsSpent c.args.feeder.now c.messages.feeder new c.args.end.now c.messages.end c.take.new.self (envelope_at c.in-Message.message) m.0 (c.messages.invariant.attends aside) m.1 m.2
+    (c.in-Err.ensures.spent (ap (λ (x : EndFault). Err x) is)) (c.in-Err.ensures.err aside)

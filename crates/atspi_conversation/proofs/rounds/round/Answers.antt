@@ -1,4 +1,5 @@
 use Rattle.std.proofs.Common.{◌+◌, length, refl, inl}
+use Rattle.atspi_conversation.proofs.LeftLemmas.{memory_left, write_left}
 use Rattle.atspi_conversation.proofs.MovedLemmas.{gives_grows, grows_both}
 use Rattle.atspi_conversation.specs.Rounds.{Breaks, IsRead}
 use Rattle.atspi_conversation.specs.Talking.{HasNone}
@@ -50,3 +51,13 @@ returns-in-Err-give-clause-made g c aside n going =
     let w = c.in_default.ensures.ok aside n going in
     write_broke (g.E.BusEnd.Stands aside) g.E.BusEnd.queued c.args.link (length c.args.piece.now) (g.H.Host.calls c.args.host.now) (g.H.Host.calls c.take_in.new.host) (g.H.Host.calls c.give.new.host) going.t going.g w.t w.g going.dids w.dids
     c.utter.new.self c.utter.new.end going.tells w.tells (c.in-Ok.ensures.ok aside w.t w.g w.at_ease) c.in-Ok.ensures.uttered c.in_default.ensures.made c.in-Err-give.ensures.made
+
+pub returns-in_default-utter-clause-left : goal.returns-in_default-utter-clause-left
+returns-in_default-utter-clause-left g c aside n w =
+    memory_left (g.E.BusEnd.Stands aside) g.E.BusEnd.IsSpent c.args.link (n + 1) (g.H.Host.calls c.take_in.new.host) c.take_in.new.conversation c.take_in.new.end c.utter.new.end (c.in_default.ensures.ok aside n w)
+
+pub returns-in-Err-give-clause-left : goal.returns-in-Err-give-clause-left
+returns-in-Err-give-clause-left g c aside n w =
+    write_left (g.E.BusEnd.Stands aside) g.E.BusEnd.IsSpent c.args.link (n + 1) (g.H.Host.calls c.give.new.host) (record c.utter.new.self { unsent = c.give.new.unsent }) c.utter.new.end
+    (gave (g.E.BusEnd.Stands aside) c.args.link (n + 1) (g.H.Host.calls c.take_in.new.host) (g.H.Host.calls c.give.new.host) c.take_in.new.conversation c.utter.new.self (record c.utter.new.self { unsent = c.give.new.unsent }) c.take_in.new.end c.utter.new.end
+    (c.in-Ok.ensures.ok aside) c.give.ensures.gives refl refl refl (c.in_default.ensures.ok aside n w))

@@ -1,6 +1,7 @@
 use Rattle.std.proofs.Common.{◌∷◌, length, take, [], refl, inl, arith}
 use Rattle.atspi_host.specs.declared.call.Did.TheVariants.{Done, NotYet, End, Failed}
 use Rattle.atspi_conversation.proofs.StepLemmas.{cause_of, if_err, not_ended, on_ok, own_broken, peer_ended, read_failed, took, took_last, took_nothing}
+use Rattle.atspi_conversation.proofs.LeftLemmas.{peer_left, read_left, took_left}
 use Rattle.atspi_conversation.proofs.MovedLemmas.{read_grows}
 use Rattle.atspi_conversation.proofs.RoundLemmas.{front_short, heed_made, makes_one, read_made}
 use Rattle.atspi_host.specs.declared.call.Call.TheVariants.{Read}
@@ -73,3 +74,18 @@ returns-in-Failed-clause-made g c aside t h =
 
 pub returns-in-Done-clause-broken : goal.returns-in-Done-clause-broken
 returns-in-Done-clause-broken g c = if_err c.heed.result _ _ own_broken c.heed.ensures.own
+
+pub returns-in-Done-clause-left : goal.returns-in-Done-clause-left
+returns-in-Done-clause-left g c =
+    if_err c.heed.result _ _
+    (λ ending f aside n w. took_left (g.E.BusEnd.Stands aside) g.E.BusEnd.IsSpent c.args.link n (g.H.Host.calls c.args.host.now) (g.H.Host.calls c.read.new.self) (take c.in-Done.n c.read.new.into) (Done c.in-Done.n)
+    c.args.conversation.now c.args.end.now c.heed.new.end ending c.in-Done.ensures.calls (f aside) w)
+    c.heed.ensures.left
+
+pub returns-in-End-clause-left : goal.returns-in-End-clause-left
+returns-in-End-clause-left g c aside n w =
+    peer_left (g.E.BusEnd.Stands aside) g.E.BusEnd.IsSpent c.args.link n (g.H.Host.calls c.args.host.now) (g.H.Host.calls c.read.new.self) c.args.conversation.now c.args.end.now c.in-End.ensures.calls w
+
+pub returns-in-Failed-clause-left : goal.returns-in-Failed-clause-left
+returns-in-Failed-clause-left g c aside n w =
+    read_left (g.E.BusEnd.Stands aside) g.E.BusEnd.IsSpent c.args.link n (g.H.Host.calls c.args.host.now) (g.H.Host.calls c.read.new.self) c.args.conversation.now c.args.end.now c.in-Failed.ensures.calls w

@@ -1,4 +1,5 @@
 use Rattle.std.proofs.Common.{[]}
+use Rattle.atspi_conversation.proofs.LeftLemmas.{hear_left, tell_left}
 use Rattle.atspi_conversation.proofs.SentLemmas.{may_attend}
 use Rattle.atspi_conversation.proofs.StepLemmas.{hear_breaks, hears_own, heeded, if_err, on_ok, tell_breaks, tells_own}
 use Rattle.atspi_conversation.proofs.TalkLemmas.{heard_on}
@@ -23,7 +24,7 @@ returns-clause-may g c =
 pub returns-clause-err : goal.returns-clause-err
 returns-clause-err g c =
     if_err c.tell.result _ _
-    (λ ending b aside t h v. tell_breaks (g.E.BusEnd.Stands aside) g.E.BusEnd.IsSpent _ h c.hear.new.self c.args.end.now ending
+    (λ ending b aside t h v. tell_breaks (g.E.BusEnd.Stands aside) g.E.BusEnd.IsSpent _ h c.hear.new.self c.args.end.now c.tell.new.end ending
     (heard_on (g.E.BusEnd.Stands aside) t h c.args.piece.now c.args.self.now c.hear.new.self c.args.end.now v c.in_default.ensures.client c.in_default.ensures.feeder c.in_default.ensures.heard c.in_default.ensures.unsent) (b aside))
     c.tell.ensures.err
 
@@ -31,4 +32,15 @@ pub returns-in-Err-clause-own : goal.returns-in-Err-clause-own
 returns-in-Err-clause-own g c = hears_own c.in-Err.ending c.args.self.now.client c.args.piece.now c.in-Err.ensures.err
 
 pub returns-clause-own : goal.returns-clause-own
-returns-clause-own g c = if_err c.tell.result _ _ (λ ending b. tells_own (g.E.BusEnd.Stands []) g.E.BusEnd.IsSpent ending c.hear.new.self c.args.end.now (b [])) c.tell.ensures.err
+returns-clause-own g c = if_err c.tell.result _ _ (λ ending b. tells_own (g.E.BusEnd.Stands []) g.E.BusEnd.IsSpent ending c.hear.new.self c.args.end.now c.tell.new.end (b [])) c.tell.ensures.err
+
+pub returns-in-Err-clause-left : goal.returns-in-Err-clause-left
+returns-in-Err-clause-left g c aside t h a =
+    hear_left (g.E.BusEnd.Stands aside) g.E.BusEnd.IsSpent _ c.args.piece.now c.args.self.now c.args.end.now c.in-Err.ending c.in-Err.ensures.err
+
+pub returns-clause-left : goal.returns-clause-left
+returns-clause-left g c =
+    if_err c.tell.result _ _
+    (λ ending b aside t h a. tell_left (g.E.BusEnd.Stands aside) g.E.BusEnd.IsSpent _ h c.hear.new.self c.args.end.now c.tell.new.end ending
+    (heard_on (g.E.BusEnd.Stands aside) t h c.args.piece.now c.args.self.now c.hear.new.self c.args.end.now a.converses c.in_default.ensures.client c.in_default.ensures.feeder c.in_default.ensures.heard c.in_default.ensures.unsent) (b aside))
+    c.tell.ensures.err
