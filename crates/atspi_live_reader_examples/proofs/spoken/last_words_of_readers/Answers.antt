@@ -7,5 +7,5 @@ use Rattle.atspi_tables.specs.Roles.{role_names, role_words}
 use Rattle.atspi_live_reader_examples.proofs.spoken.last_words_of_readers.Goals as goal
 
 pub returns-clause-ended_holding : goal.returns-clause-ended_holding
-unfolding digits hex_digits last_number node_text path_of role_names role_words
+unfolding digits hex_digits last_number node_text path_of role_names role_words lib.Utf8.encode
 returns-clause-ended_holding c = refl
