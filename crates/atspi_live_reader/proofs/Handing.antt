@@ -9,7 +9,7 @@ use Rattle.atspi_protocol.specs.following.Takes.{reader_takes, starts}
 use Rattle.atspi_conversation.specs.Sent.{AllMeet}
 use Rattle.atspi_reader.specs.Steps.{IsState}
 use Rattle.atspi_live_reader.specs.Spoken.{following, say_line, sent_in, spoken_in}
-use Rattle.atspi_live_reader.specs.Handed.{Follows, Gives, GivesRest, GivesSo, HandsAll, KeepsLine}
+use Rattle.atspi_live_reader.specs.Handed.{Follows, Gives, GivesRest, GivesSo, HandsAll, IsFrontOf, KeepsLine}
 use Rattle.atspi_live_reader.proofs.Framing.{put, takes_put}
 use Rattle.atspi_live_reader.proofs.Sending.{AllSent, all_meet, back_sent, front_sent, meets_in}
 
@@ -92,9 +92,14 @@ handed written ms r s a b u v took said state g f = record {
   told = by f.told g.gives.kept;
 }
   where
-    by : (a ≡ true) ⊎ (written ++ u ≡ spoken_in f.done) → KeepsLine a b u v (spoken_in g.done) → (b ≡ true) ⊎ (written ++ v ≡ spoken_in (f.done ++ g.done))
-    by p (inl q) = inl q
-    by (inl p) (inr q) = inl (q.0 ∙ p)
+    front : (left : List ℕ) → written ++ left ≡ spoken_in f.done → IsFrontOf written (spoken_in (f.done ++ g.done))
+    front left e = (left ++ spoken_in g.done, sym (append_assoc written left (spoken_in g.done)) ∙ ap (λ (w : List ℕ). w ++ spoken_in g.done) e ∙ sym (spoken_both f.done g.done))
+
+    by : ((a ≡ true) × IsFrontOf written (spoken_in f.done)) ⊎ (written ++ u ≡ spoken_in f.done) → KeepsLine a b u v (spoken_in g.done)
+        → ((b ≡ true) × IsFrontOf written (spoken_in (f.done ++ g.done))) ⊎ (written ++ v ≡ spoken_in (f.done ++ g.done))
+    by (inl p) (inl q) = inl (q, front p.1.0 p.1.1)
+    by (inr p) (inl q) = inl (q, front u p)
+    by (inl p) (inr q) = inl (q.0 ∙ p.0, front p.1.0 p.1.1)
     by (inr p) (inr q) = inr (
         ap (λ (w : List ℕ). written ++ w) q.1 ∙ sym (append_assoc written u (spoken_in g.done)) ∙ ap (λ (w : List ℕ). w ++ spoken_in g.done) p ∙ sym (spoken_both f.done g.done)
         )

@@ -1,6 +1,6 @@
 -- A reader's turn: what was said, taken and written.
-use Rattle.std.proofs.Common.{◌≡◌, ℕ, ◌+◌, Bool, true, false, List, [], ◌∷◌, ◌++◌, length, Option, None, Some, refl, sym, ap, subst, ◌∙◌, inl, inr, append_assoc, append-nil}
-use Rattle.std.specs.Prelude.{◌⊎◌, ◌≤◌, ◌<◌, ◌==◌, Result, Ok, Err, IfErr, MatchResult, if◌then◌else◌}
+use Rattle.std.proofs.Common.{◌≡◌, ℕ, ◌+◌, Bool, true, false, List, [], ◌++◌, length, Option, None, Some, refl, sym, ap, subst, ◌∙◌, inl, inr, append_assoc, append-nil}
+use Rattle.std.specs.Prelude.{◌⊎◌, ◌≤◌, ◌<◌, Result, Ok, Err, IfErr, MatchResult}
 use Rattle.std.specs.Io.KnownBytes.{Appends}
 use Rattle.std.proofs.KnownBytes.{Appends-nil}
 use Rattle.atspi_auth.specs.Talk.{behind, client_start}
@@ -9,33 +9,29 @@ use Rattle.atspi_stream.specs.Stream.{IsParted}
 use Rattle.atspi_reader.specs.ReaderOf.{reader_of}
 use Rattle.atspi_protocol.specs.following.ReaderState.{ReaderState}
 use Rattle.atspi_host.specs.declared.call.Call.{Call}
-use Rattle.atspi_host.specs.declared.call.Call.TheVariants.{Read}
-use Rattle.atspi_host.specs.declared.call.Did.TheVariants.{End}
 use Rattle.atspi_host.specs.declared.call.Did.{Did}
-use Rattle.atspi_host.specs.Calls.{taken, given}
+use Rattle.atspi_host.specs.Calls.{taken}
+use Rattle.atspi_conversation.specs.Left.{IsLeft}
 use Rattle.atspi_conversation.specs.Moved.{Grows}
 use Rattle.atspi_conversation.specs.Speech.{Ends, Speaks, envelopes}
-use Rattle.atspi_conversation.specs.Talking.{Blames, Going, HasNone, IsBroken, IsEnded, MaySpeak}
+use Rattle.atspi_conversation.specs.Talking.{Blames, Going, HasNone, IsEnded, MaySpeak}
 use Rattle.atspi_conversation.specs.declared.conversation.Conversation.{Conversation}
 use Rattle.atspi_conversation.specs.declared.ending.Ending.{Ending}
 use Rattle.atspi_conversation.specs.declared.ending.Ending.TheVariants as endings
+use Rattle.atspi_conversation.proofs.LeftLemmas.{done_left, memory_left}
 use Rattle.atspi_conversation.proofs.StepLemmas.{all_done, no_memory}
 use Rattle.atspi_conversation.proofs.TalkLemmas.{parted_later}
 use Rattle.atspi_reader.specs.Steps.{IsState}
 use Rattle.atspi_live_reader.specs.Spoken.{IsAfter, IsEmpty, IsSpent, IsSpoken, following, spoken_in}
-use Rattle.atspi_live_reader.specs.Handed.{Follows}
+use Rattle.atspi_live_reader.specs.Handed.{Follows, IsFrontOf}
 use Rattle.atspi_conversation.specs.Rounds.{AreRounds, Breaks, IsRound, Makes}
 use Rattle.atspi_conversation.specs.Moved.{Tells}
-use Rattle.atspi_conversation.proofs.MovedLemmas.{taken_append}
 use Rattle.atspi_conversation.proofs.RoundLemmas.{makes_if, none_wait, rounds_more, run_broken}
 use Rattle.atspi_conversation.proofs.SeenLemmas.{breaks_seen, ends_seen, round_seen, speaks_seen}
-use Rattle.atspi_live_reader.specs.Following.{BreaksOver, EndsWhole, GoesOn, IsBrokenOver, IsLeft, IsMuted, IsOver, IsQuiet, IsStill, IsTaken, OverBlames, RunsOver, SpeaksOn, SpeaksUp, Stands, Stood}
+use Rattle.atspi_live_reader.specs.Following.{BreaksOver, EndsRun, EndsTurn, GoesOn, IsMuted, IsOver, IsQuiet, IsSpentIn, OverBlames, RunsOver, SpeaksOn, SpeaksUp, Stands}
 use Rattle.atspi_live_reader.specs.declared.live_reader.LiveReader.{LiveReader}
 use Rattle.atspi_live_reader.specs.declared.over.Over.{Over}
 use Rattle.atspi_live_reader.specs.declared.over.Over.TheVariants as overs
-
-abbrev IsSpent' : LiveReader → Envelope → Type 0
-IsSpent' l e = IsSpent (reader_of l.reader) e
 
 -- what a live reader did, of the reader alone
 after : (written : List ℕ) (l : LiveReader) (took said : List Envelope) → Stands written l took said → IsAfter (reader_of l.reader) took said
@@ -48,6 +44,9 @@ queued' l = length (reader_of l.reader).out
 empty_in : (l : LiveReader) → HasNone queued' l → IsEmpty (reader_of l.reader)
 empty_in l e = none_wait (reader_of l.reader).out (queued' l) refl e
 
+pub true_not : (b : Bool) → b ≡ true → b ≡ false → ⊥
+true_not b e f = absurd cc
+
 -- the reader alone
 abbrev reader_in : LiveReader → ReaderState
 reader_in l = reader_of l.reader
@@ -55,8 +54,8 @@ reader_in l = reader_of l.reader
 speaks : (written : List ℕ) (k : ℕ) (calls : Option (List Call)) → Speaks (Stands written) k calls → Speaks IsAfter k calls
 speaks written k calls s = speaks_seen (Stands written) IsAfter reader_in k calls (after written) s
 
-ends_on : (written : List ℕ) (k rounds : ℕ) (ending : Ending) (calls : Option (List Call)) → Ends (Stands written) IsSpent' k ending rounds calls → Ends IsAfter IsSpent k ending rounds calls
-ends_on written k rounds ending calls e = ends_seen (Stands written) IsAfter IsSpent' IsSpent reader_in k rounds ending calls (after written) (λ end m s. s) e
+ends_on : (written : List ℕ) (k rounds : ℕ) (ending : Ending) (calls : Option (List Call)) → Ends (Stands written) IsSpentIn k ending rounds calls → Ends IsAfter IsSpent k ending rounds calls
+ends_on written k rounds ending calls e = ends_seen (Stands written) IsAfter IsSpentIn IsSpent reader_in k rounds ending calls (after written) (λ end m s. s) e
 
 -- the calls of a round, by what the reader alone says
 pub round_of : (written : List ℕ) (k most : ℕ) (t g : List ℕ) (old new : Option (List Call)) → Makes old new (IsRound (Stands written) (HasNone queued') k most t g) → Makes old new (IsRound IsAfter IsEmpty k most t g)
@@ -83,9 +82,20 @@ spoken t messages rest written part left r starved lines said parted fed split f
   front = append_assoc written part left ∙ ap (λ (w : List ℕ). written ++ w) split ∙ by f.told;
 }
   where
-    by : (starved ≡ true) ⊎ (written ++ lines ≡ spoken_in f.done) → written ++ lines ≡ spoken_in f.done
-    by (inl e) = absurd cc
+    by : ((starved ≡ true) × IsFrontOf written (spoken_in f.done)) ⊎ (written ++ lines ≡ spoken_in f.done) → written ++ lines ≡ spoken_in f.done
+    by (inl e) = absurd (true_not starved e.0 fed)
     by (inr e) = e
+
+-- also where memory was wanting for a line
+pub front_spoken : (t : List ℕ) (messages : List (Envelope × List ℕ)) (rest written : List ℕ) (r : ReaderState) (starved : Bool) (lines : List ℕ) (said : List Envelope)
+    → IsParted (behind client_start t) messages rest → Follows written r starved lines (envelopes messages) said → IsSpoken t written
+front_spoken t messages rest written r starved lines said parted f =
+    let front : IsFrontOf written (spoken_in f.done) = by f.told in
+    record { messages = messages; rest = rest; parted = parted; done = f.done; more = r.out; all = ap (λ (s : ReaderState). s.out) f.whole; left = front.0; front = front.1 }
+  where
+    by : ((starved ≡ true) × IsFrontOf written (spoken_in f.done)) ⊎ (written ++ lines ≡ spoken_in f.done) → IsFrontOf written (spoken_in f.done)
+    by (inl e) = e.1
+    by (inr e) = (lines, e)
 
 pub going_speaks : (written : List ℕ) (k n : ℕ) (calls : Option (List Call)) (c : Conversation) (l : LiveReader) (part left : List ℕ) → l.starved ≡ false → part ++ left ≡ l.lines
     → Going (Stands written) k calls n c l → SpeaksUp k calls (written ++ part)
@@ -116,8 +126,9 @@ wrote_on written old new w w' took said s f = record {
   told = by f.told;
 }
   where
-    by : (old.starved ≡ true) ⊎ (written ++ old.lines ≡ spoken_in f.done) → (new.starved ≡ true) ⊎ ((written ++ old.lines) ++ new.lines ≡ spoken_in f.done)
-    by (inl e) = let fed : old.starved ≡ false = s.fed in absurd cc
+    by : ((old.starved ≡ true) × IsFrontOf written (spoken_in f.done)) ⊎ (written ++ old.lines ≡ spoken_in f.done)
+        → ((new.starved ≡ true) × IsFrontOf (written ++ old.lines) (spoken_in f.done)) ⊎ ((written ++ old.lines) ++ new.lines ≡ spoken_in f.done)
+    by (inl e) = absurd (true_not old.starved e.0 s.fed)
     by (inr e) = inr (ap (λ (x : List ℕ). (written ++ old.lines) ++ x) s.quiet.none ∙ append-nil (written ++ old.lines) ∙ e)
 
 going_wrote : (written : List ℕ) (k n : ℕ) (calls : Option (List Call)) (c : Conversation) (old new : LiveReader) (w w' : Option (List ℕ)) → SpeaksOn old new w w' → Going (Stands written) k calls n c old
@@ -161,7 +172,7 @@ turned k calls calls' c c' old mid new w w' f s = record {
 
 -- a turn that ended the run
 pub turn_ended : (k n rounds : ℕ) (ending : Ending) (calls calls' : Option (List Call)) (c : Conversation) (old : LiveReader) (written : List ℕ) (w : Option (List ℕ))
-    → IsQuiet old → Grows k calls calls' → Going (Stands written) k calls n c old → IsEnded (Stands written) IsSpent' k ending rounds calls' → IsOver k (overs.Ended ending) rounds written calls' w w
+    → IsQuiet old → Grows k calls calls' → Going (Stands written) k calls n c old → IsEnded (Stands written) IsSpentIn k ending rounds calls' → IsOver k (overs.Ended ending) rounds written calls' w w
 turn_ended k n rounds ending calls calls' c old written w quiet grows g e = record {
   line = [];
   wrote = Appends-nil w;
@@ -174,11 +185,11 @@ turn_ended k n rounds ending calls calls' c old written w quiet grows g e = reco
 pub turn_muted : (k n rounds : ℕ) (over : Over) (calls calls' : Option (List Call)) (c c' : Conversation) (old mid : LiveReader) (written : List ℕ) (w w' : Option (List ℕ))
     → IsQuiet old → Grows k calls calls' → Going (Stands written) k calls n c old → Going (Stands written) k calls' (n + 1) c' mid → IsMuted over mid w w' → IsOver k over rounds written calls' w w'
 turn_muted k n rounds (overs.Ended ending) calls calls' c c' old mid written w w' quiet grows g g' m =
-    let e : IsEnded (Stands written) IsSpent' k endings.NoMemory rounds calls' = no_memory (Stands written) IsSpent' k (n + 1) rounds calls' c' mid g' in
+    let e : IsEnded (Stands written) IsSpentIn k endings.NoMemory rounds calls' = no_memory (Stands written) IsSpentIn k (n + 1) rounds calls' c' mid g' in
     subst (λ (x : Option (List ℕ)). IsOver k (overs.Ended ending) rounds written calls' w x) (sym m.1)
-    (turn_ended k n rounds ending calls calls' c old written w quiet grows g (subst (λ (x : Ending). IsEnded (Stands written) IsSpent' k x rounds calls') (sym m.0) e))
+    (turn_ended k n rounds ending calls calls' c old written w quiet grows g (subst (λ (x : Ending). IsEnded (Stands written) IsSpentIn k x rounds calls') (sym m.0) e))
 turn_muted k n rounds overs.NotWritten calls calls' c c' old mid written w w' quiet grows g g' m =
-    let e : IsEnded (Stands written) IsSpent' k endings.NoMemory rounds calls' = no_memory (Stands written) IsSpent' k (n + 1) rounds calls' c' mid g' in
+    let e : IsEnded (Stands written) IsSpentIn k endings.NoMemory rounds calls' = no_memory (Stands written) IsSpentIn k (n + 1) rounds calls' c' mid g' in
     let p = m.1 in
     record {
       line = p.0;
@@ -192,7 +203,7 @@ turn_muted k n rounds overs.NotWritten calls calls' c c' old mid written w w' qu
 pub all_turned : (k n rounds : ℕ) (calls : Option (List Call)) (c : Conversation) (l : LiveReader) (written : List ℕ) (w w' : Option (List ℕ))
     → n ≡ rounds → IsQuiet l → Appends w w' written → Going (Stands written) k calls n c l → IsOver k (overs.Ended endings.RoundsDone) rounds [] calls w w'
 all_turned k n rounds calls c l written w w' e quiet a g =
-    let d : IsEnded (Stands written) IsSpent' k endings.RoundsDone rounds calls = all_done (Stands written) IsSpent' k n rounds calls c l e g in
+    let d : IsEnded (Stands written) IsSpentIn k endings.RoundsDone rounds calls = all_done (Stands written) IsSpentIn k n rounds calls c l e g in
     record {
       line = written;
       wrote = a;
@@ -236,79 +247,23 @@ mute_breaks k most overs.NotWritten l w w' t g calls m r = r
 pub mute_made : (k most : ℕ) (over : Over) (l : LiveReader) (w w' : Option (List ℕ)) (t g : List ℕ) (old new : Option (List Call)) → Makes old new (IsRound IsAfter IsEmpty k most t g) → IsMuted over l w w' → Makes old new (BreaksOver k most over t g)
 mute_made k most over l w w' t g old new r m = makes_if old new (IsRound IsAfter IsEmpty k most t g) (BreaksOver k most over t g) (λ calls. mute_breaks k most over l w w' t g calls m) r
 
-pub mute_broken : (over : Over) (l : LiveReader) (w w' : Option (List ℕ)) → IsMuted over l w w' → IsBrokenOver over
-mute_broken (overs.Ended ending) l w w' m = subst (λ (x : Ending). IsBroken x) (sym m.0) tt
-mute_broken overs.NotWritten l w w' m = tt
+-- how a reader stands behind a turn in which the run was over
+pub turn_left : (k : ℕ) (ending : Ending) (written : List ℕ) (calls : Option (List Call)) (w : Option (List ℕ)) (l : LiveReader) → IsLeft (Stands written) IsSpentIn k ending calls l → EndsTurn k (overs.Ended ending) written calls w w l
+turn_left k ending written calls w l left = (refl, left)
 
--- want of memory for a line is not the peer's end
-pub mute_not : {T : Type 0} (r : Result T Over) (l : LiveReader) (w w' : Option (List ℕ)) → IfErr r (λ over. IsMuted over l w w') → r ≡ Err (overs.Ended endings.PeerEnded) → ⊥
-mute_not r l w w' m e = by (rw e at m)
-  where
-    by : (endings.PeerEnded ≡ endings.NoMemory) × (w' ≡ w) → ⊥
-    by h = let x : endings.PeerEnded ≡ endings.NoMemory = h.0 in cc
+pub mute_left : (k n : ℕ) (over : Over) (written : List ℕ) (calls : Option (List Call)) (c : Conversation) (w w' : Option (List ℕ)) (mid new : LiveReader) → Going (Stands written) k calls n c mid → IsMuted over mid w w' → EndsTurn k over written calls w w' new
+mute_left k n (overs.Ended ending) written calls c w w' mid new g m =
+    (m.1, subst (λ (x : Ending). IsLeft (Stands written) IsSpentIn k x calls new) (sym m.0) (memory_left (Stands written) IsSpentIn k n calls c mid new g))
+mute_left k n overs.NotWritten written calls c w w' mid new g m = tt
 
--- the peer ended in a turn
-abbrev ending_in : Result (Unit {0}) Over → Ending
-ending_in (Ok x) = endings.NoMemory
-ending_in (Err (overs.Ended ending)) = ending
-ending_in (Err overs.NotWritten) = endings.NoMemory
+-- and behind the run
+pub left_behind : (k : ℕ) (over : Over) (written : List ℕ) (calls : Option (List Call)) (w mid w' : Option (List ℕ)) (l : LiveReader) → Appends w mid written → EndsTurn k over written calls mid w' l → EndsRun k over calls w w' l
+left_behind k (overs.Ended ending) written calls w mid w' l a e = (written, subst (λ (x : Option (List ℕ)). Appends w x written) (sym e.0) a, e.1)
+left_behind k overs.NotWritten written calls w mid w' l a e = tt
 
-pub same_ending : (ending : Ending) (r : Result (Unit {0}) Over) → r ≡ Err (overs.Ended ending) → r ≡ Err (overs.Ended endings.PeerEnded) → ending ≡ endings.PeerEnded
-same_ending ending r e f = ap ending_in (sym e ∙ f)
-
-pub turn_still : (old new : LiveReader) (w : Option (List ℕ)) → new ≡ old → IsStill old new w w
-turn_still old new w s = record { same = s; none = refl }
-
--- a read that found the end took nothing
-abbrev none_either : Bool → List ℕ
-none_either b = if b then [] else []
-
-nothing : (b : Bool) → none_either b ≡ []
-nothing true = refl
-nothing false = refl
-
-still_taken : (k most : ℕ) (calls calls' : Option (List Call)) (t g : List ℕ) (dids : List Did) → Tells k calls t g dids → Makes calls calls' (Breaks IsAfter IsEmpty k most endings.PeerEnded t g) → IsTaken k calls' t
-still_taken k most calls None t g dids tells m = tt
-still_taken k most None (Some ds) t g dids tells m = absurd m
-still_taken k most (Some cs) (Some ds) t g dids tells m =
-    ap (λ (w : List Call). taken k w) (m.2 ∙ ap (λ (w : List Call). cs ++ w) m.1) ∙ taken_append k cs (Read k [] End ∷ [])
-    ∙ ap (λ (w : List ℕ). taken k cs ++ (w ++ [])) (nothing (k == k)) ∙ append-nil (taken k cs) ∙ tells.0
-
-pub left_behind : (k most n : ℕ) (over : Over) (calls calls' : Option (List Call)) (c : Conversation) (old new : LiveReader) (written : List ℕ) (w mid w' : Option (List ℕ)) → EndsWhole over → IsBrokenOver over
-    → Appends w mid written → (g : Going (Stands written) k calls n c old) → IsQuiet old
-    → Makes calls calls' (BreaksOver k most over g.t g.g) → (over ≡ overs.Ended endings.PeerEnded → IsStill old new mid w') → IsLeft k calls' w w' new
-left_behind k most n (overs.Ended endings.PeerEnded) calls calls' c old new written w mid w' whole broken a g q m still =
-    let v = g.at_ease.converses in
-    let s = still refl in
-    record {
-      written = written;
-      wrote = subst (λ (x : Option (List ℕ)). Appends w x written) (sym s.none) a;
-      quiet = subst (λ (l : LiveReader). IsQuiet l) (sym s.same) q;
-      stood = subst (λ (l : LiveReader). Stood k calls' written l) (sym s.same)
-          (record { t = g.t; is_taken = still_taken k most calls calls' g.t g.g g.dids g.tells m; messages = v.messages; rest = c.feeder; parted = v.parted; awaits = g.at_ease.awaits; said = v.said; stands = v.end_stands });
-    }
-left_behind k most n (overs.Ended endings.RoundsDone) calls calls' c old new written w mid w' whole broken a g q m still = absurd broken
-left_behind k most n (overs.Ended endings.HostFailed) calls calls' c old new written w mid w' whole broken a g q m still = absurd whole
-left_behind k most n (overs.Ended endings.NotAuthenticated) calls calls' c old new written w mid w' whole broken a g q m still = absurd whole
-left_behind k most n (overs.Ended (endings.Malformed start fault)) calls calls' c old new written w mid w' whole broken a g q m still = absurd whole
-left_behind k most n (overs.Ended endings.Spent) calls calls' c old new written w mid w' whole broken a g q m still = absurd whole
-left_behind k most n (overs.Ended endings.NoMemory) calls calls' c old new written w mid w' whole broken a g q m still = absurd whole
-left_behind k most n overs.NotWritten calls calls' c old new written w mid w' whole broken a g q m still = absurd whole
-
--- behind all rounds
-told_taken : (k : ℕ) (calls : Option (List Call)) (t g : List ℕ) (dids : List Did) → Tells k calls t g dids → IsTaken k calls t
-told_taken k None t g dids tells = tt
-told_taken k (Some cs) t g dids tells = tells.0
-
-pub left_at_last : (k n : ℕ) (calls : Option (List Call)) (c : Conversation) (l : LiveReader) (written : List ℕ) (w w' : Option (List ℕ)) → Appends w w' written → Going (Stands written) k calls n c l → IsQuiet l → IsLeft k calls w w' l
-left_at_last k n calls c l written w w' a g q =
-    let v = g.at_ease.converses in
-    record {
-      written = written;
-      wrote = a;
-      quiet = q;
-      stood = record { t = g.t; is_taken = told_taken k calls g.t g.g g.dids g.tells; messages = v.messages; rest = c.feeder; parted = v.parted; awaits = g.at_ease.awaits; said = v.said; stands = v.end_stands };
-    }
+pub left_at_last : (k n : ℕ) (calls : Option (List Call)) (c : Conversation) (l : LiveReader) (written : List ℕ) (w w' : Option (List ℕ)) → Appends w w' written → Going (Stands written) k calls n c l
+    → EndsRun k (overs.Ended endings.RoundsDone) calls w w' l
+left_at_last k n calls c l written w w' a g = (written, a, done_left (Stands written) IsSpentIn k n calls c l g)
 
 -- the calls of a run that is over
 pub over_made : (k n rounds : ℕ) (over : Over) (old mid new : Option (List Call)) (t g : List ℕ) (dids : List Did) → n < rounds → n + 1 ≤ rounds → Tells k old [] [] [] → Tells k mid t g dids
@@ -316,12 +271,3 @@ pub over_made : (k n rounds : ℕ) (over : Over) (old mid new : Option (List Cal
 over_made k n rounds (overs.Ended ending) old mid new t g dids few least fresh told a b = run_broken (λ _. IsAfter) IsEmpty k 4096 n rounds ending old mid new t g dids few fresh told a b
 over_made k n rounds overs.NotWritten old mid new t g dids few least fresh told a b =
     makes_if old new (AreRounds (λ _. IsAfter) IsEmpty k 4096 (n + 1)) (RunsOver k overs.NotWritten rounds) (λ calls r. (n + 1, least, r)) (rounds_more (λ _. IsAfter) IsEmpty k 4096 n old mid new t g dids fresh told a b)
-
--- what was written of a reader whose peer has ended
-pub left_speaks : (k : ℕ) (calls : Option (List Call)) (w w' : Option (List ℕ)) (l : LiveReader) (left : IsLeft k calls w w' l) → SpeaksUp k calls left.written
-left_speaks k None w w' l left = tt
-left_speaks k (Some cs) w w' l left =
-    let s = left.stood in
-    subst (λ (t : List ℕ). IsSpoken t left.written) (sym s.is_taken)
-    (subst (λ (x : List ℕ). IsSpoken s.t x) (append-nil left.written)
-    (spoken s.t s.messages s.rest left.written [] [] (reader_of l.reader) l.starved l.lines s.said s.parted left.quiet.fed (sym left.quiet.none) s.stands))

@@ -1,21 +1,21 @@
 -- A reader that speaks while it converses.
-use Rattle.std.specs.Prelude.{◌≡◌, ◌≤◌, ℕ, ◌+◌, false, List, [], ◌++◌, Option, None, Some, ⊤}
+use Rattle.std.specs.Prelude.{◌≡◌, ◌⊎◌, ◌≤◌, ℕ, ◌+◌, true, false, List, [], ◌++◌, Option, None, Some, ⊤}
 use Rattle.std.specs.Io.KnownBytes.{Appends}
 use Rattle.atspi_base.specs.Outside.{AppendsPart, Rose}
 use Rattle.atspi_message.specs.Envelope.{Envelope}
 use Rattle.atspi_reader.specs.ReaderOf.{reader_of}
 use Rattle.atspi_host.specs.declared.call.Call.{Call}
 use Rattle.atspi_host.specs.Calls.{taken}
-use Rattle.atspi_auth.specs.Talk.{behind, client_start}
-use Rattle.atspi_stream.specs.Stream.{AwaitsMore, IsParted}
+use Rattle.atspi_conversation.specs.Left.{IsLeft}
 use Rattle.atspi_conversation.specs.Rounds.{AreRounds, Breaks, IsRound, IsRun}
-use Rattle.atspi_conversation.specs.Speech.{Ends, Speaks, envelopes}
-use Rattle.atspi_conversation.specs.Talking.{Blames, Going, IsBroken}
+use Rattle.atspi_conversation.specs.Speech.{Ends, Speaks}
+use Rattle.atspi_conversation.specs.Talking.{Blames, Going}
 use Rattle.atspi_conversation.specs.declared.conversation.Conversation.{Conversation}
 use Rattle.atspi_conversation.specs.declared.ending.Ending.{Ending}
 use Rattle.atspi_conversation.specs.declared.ending.Ending.TheVariants as endings
 use Rattle.atspi_live_reader.specs.Spoken.{IsAfter, IsEmpty, IsSpent, IsSpoken}
 use Rattle.atspi_live_reader.specs.Handed.{Follows}
+use Rattle.atspi_live_reader.specs.Shows.{last_words}
 use Rattle.atspi_live_reader.specs.declared.live_reader.LiveReader.{LiveReader}
 use Rattle.atspi_live_reader.specs.declared.over.Over.{Over}
 use Rattle.atspi_live_reader.specs.declared.over.Over.TheVariants as overs
@@ -65,44 +65,37 @@ pub record IsOver (k : ℕ) (over : Over) (rounds : ℕ) (written : List ℕ) (c
   pub speaks_up : SpeaksUp k calls (written ++ line)
   pub so : IsEndedSo k over rounds calls
 
--- where the host tells its calls, these bytes were taken of the link
-abbrev pub IsTaken : ℕ → Option (List Call) → List ℕ → Type 0
-IsTaken k None t = ⊤
-IsTaken k (Some cs) t = taken k cs ≡ t
+-- a message for which it would pass the last number
+abbrev pub IsSpentIn : LiveReader → Envelope → Type 0
+IsSpentIn l e = IsSpent (reader_of l.reader) e
 
--- nothing of what was taken is at fault, and this is what a reader did for it that has written these bytes
-pub record Stood (k : ℕ) (calls : Option (List Call)) (written : List ℕ) (l : LiveReader) : Type 0 where
-  pub t : List ℕ
-  pub is_taken : IsTaken k calls t
-  pub messages : List (Envelope × List ℕ)
-  pub rest : List ℕ
-  pub parted : IsParted (behind client_start t) messages rest
-  pub awaits : AwaitsMore rest
-  pub said : List Envelope
-  pub stands : Stands written l (envelopes messages) said
+-- a turn in which the run was over otherwise than by the sink: nothing was written in it, and so the reader stands that had written these bytes before
+abbrev pub EndsTurn : ℕ → Over → List ℕ → Option (List Call) → Option (List ℕ) → Option (List ℕ) → LiveReader → Type 0
+EndsTurn k (overs.Ended ending) written calls w w' l = (w' ≡ w) × IsLeft (Stands written) IsSpentIn k ending calls l
+EndsTurn k overs.NotWritten written calls w w' l = ⊤
 
--- a run that was over in a turn was not so because all rounds were done
-abbrev pub IsBrokenOver : Over → Type 0
-IsBrokenOver (overs.Ended ending) = IsBroken ending
-IsBrokenOver overs.NotWritten = ⊤
+-- the same of the run: what was written in it
+abbrev pub EndsRun : ℕ → Over → Option (List Call) → Option (List ℕ) → Option (List ℕ) → LiveReader → Type 0
+EndsRun k (overs.Ended ending) calls w w' l = (written : List ℕ) × Appends w w' written × IsLeft (Stands written) IsSpentIn k ending calls l
+EndsRun k overs.NotWritten calls w w' l = ⊤
 
--- the run was over behind whole rounds: the peer ended, or all rounds were done
-abbrev pub EndsWhole : Over → Type 0
-EndsWhole (overs.Ended endings.PeerEnded) = ⊤
-EndsWhole (overs.Ended endings.RoundsDone) = ⊤
-EndsWhole over = ⊥
+-- a run that was over so may have left words to be written: before authentication is over a reader has none, and behind want of memory none are told
+abbrev pub HasWords : Ending → Type 0
+HasWords endings.NotAuthenticated = ⊥
+HasWords endings.NoMemory = ⊥
+HasWords ending = ⊤
 
--- then the reader is as it was behind the last round, and all that it was told to write till then was written
-pub record IsLeft (k : ℕ) (calls : Option (List Call)) (w w' : Option (List ℕ)) (l : LiveReader) : Type 0 where
-  pub written : List ℕ
-  pub wrote : Appends w w' written
-  pub quiet : IsQuiet l
-  pub stood : Stood k calls written l
+-- these are the words: the lines that were not written yet, and the last ones; where memory was wanting for a line they are not known
+abbrev pub AreWords : LiveReader → Ending → List ℕ → Type 0
+AreWords l ending words = (l.starved ≡ true) ⊎ (words ≡ l.lines ++ last_words ending (reader_of l.reader))
 
--- a turn in which the peer ended: nothing was done or written
-pub record IsStill (old new : LiveReader) (w w' : Option (List ℕ)) : Type 0 where
-  pub same : new ≡ old
-  pub none : w' ≡ w
+-- the status of a run whose last words were not all written: the sink failed, or memory was wanting
+abbrev pub IsUntold : ℕ → Type 0
+IsUntold status = (status ≡ 4) ⊎ (status ≡ 5)
+
+-- only a front of some words was written then
+abbrev pub WritesPart : ℕ → List ℕ → Option (List ℕ) → Option (List ℕ) → Type 0
+WritesPart status words w w' = IsUntold status × AppendsPart w w' words
 
 -- the calls of a turn that ended the run, before which these bytes were taken and those given
 abbrev pub BreaksOver : ℕ → ℕ → Over → List ℕ → List ℕ → List Call → Type 0

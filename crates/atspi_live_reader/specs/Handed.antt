@@ -37,11 +37,15 @@ pub record GivesRest (old new : ReaderState) (starved starved' : Bool) (lines li
   pub whole : old ≡ record new { out = old.out }
   pub kept : KeepsLine starved starved' lines lines' (spoken_in old.out)
 
+-- bytes that stand at the front of all
+abbrev pub IsFrontOf : List ℕ → List ℕ → Type 0
+IsFrontOf front all = (left : List ℕ) × (front ++ left ≡ all)
+
 -- From its start on a reader took these messages and handed out those; with the lines that are to be written the bytes that were written are
--- all that it spoke, or memory was wanting for a line.
+-- all that it spoke. Or memory was wanting for a line, and they are a front of that.
 pub record Follows (written : List ℕ) (r : ReaderState) (starved : Bool) (lines : List ℕ) (took said : List Envelope) : Type 0 where
   pub is : IsState r
   pub done : List Done
   pub whole : record r { out = done ++ r.out } ≡ following took
   pub sent : sent_in done ≡ said
-  pub told : (starved ≡ true) ⊎ (written ++ lines ≡ spoken_in done)
+  pub told : ((starved ≡ true) × IsFrontOf written (spoken_in done)) ⊎ (written ++ lines ≡ spoken_in done)

@@ -2,7 +2,8 @@
 use Rattle.std.specs.Prelude.{◌≡◌, ◌≤◌, ◌⊎◌, ℕ, List, [], ◌∷◌, ◌++◌, Option, None, Some, ⊤}
 use Rattle.std.specs.Io.KnownBytes.{Appends}
 use Rattle.atspi_auth.specs.Talk.{behind, client_start}
-use Rattle.atspi_base.specs.Outside.{AppendsPart}
+use Rattle.atspi_base.specs.Outside.{Rose}
+use Rattle.atspi_check.specs.Check.{fault_line}
 use Rattle.atspi_message.specs.Envelope.{Envelope}
 use Rattle.atspi_stream.specs.Stream.{AwaitsMore, IsParted}
 use Rattle.atspi_host.specs.Calls.{taken}
@@ -12,9 +13,9 @@ use Rattle.atspi_conversation.specs.Speech.{Speaks, Ends, envelopes}
 use Rattle.atspi_conversation.specs.declared.ending.Ending.{Ending}
 use Rattle.atspi_conversation.specs.declared.ending.Ending.TheVariants as endings
 use Rattle.atspi_live_registry.specs.Runs.{IsOnLink, Reports}
-use Rattle.atspi_live_reader.specs.Spoken.{IsAfter, IsAllSpoken, IsEmpty, IsSpent, following, spoken_in}
+use Rattle.atspi_live_reader.specs.Spoken.{IsAfter, IsAllSpoken, IsEmpty, IsSpent, IsSpokenToFault, IsSpokenToSpent, following, spoken_in}
 use Rattle.atspi_live_reader.specs.Shows.{shown_in}
-use Rattle.atspi_live_reader.specs.Following.{SpeaksUp}
+use Rattle.atspi_live_reader.specs.Following.{IsUntold, SpeaksUp, WritesPart}
 
 -- what was given on each link that is open is a front of what the reader says for what was taken there
 abbrev pub AllSpeak : List ℕ → Option (List Call) → Type 0
@@ -29,35 +30,44 @@ pub record IsAll (t w : List ℕ) : Type 0 where
   pub awaits : AwaitsMore rest
   pub all : w ≡ spoken_in (following (envelopes messages)).out ++ shown_in (following (envelopes messages))
 
--- the same of what a host tells of a link
-abbrev pub TellsAll : ℕ → Option (List Call) → List ℕ → Type 0
-TellsAll k None w = ⊤
-TellsAll k (Some cs) w = IsAll (taken k cs) w
+-- where the host tells what was taken of a link, this holds of it
+abbrev pub OfTaken : ℕ → Option (List Call) → (List ℕ → Type 0) → Type 0
+OfTaken k None P = ⊤
+OfTaken k (Some cs) P = P (taken k cs)
 
 -- the last words were written, with this status; or a front of them, where the sink failed or memory was wanting
 abbrev pub WritesLast : ℕ → List ℕ → ℕ → Option (List ℕ) → Option (List ℕ) → Type 0
-WritesLast meant words status w w' = ((status ≡ meant) × Appends w w' words) ⊎ (((status ≡ 4) ⊎ (status ≡ 5)) × AppendsPart w w' words)
+WritesLast meant words status w w' = ((status ≡ meant) × Appends w w' words) ⊎ WritesPart status words w w'
 
--- the status that tells how a run ended, and what is written then: the last words where the peer ended or all rounds were done
+-- The status that tells how a run ended, and what is written then: the last words, and where a message was malformed behind them the line of that.
+-- A run that was not authenticated, or for which memory was wanting, has no last words.
 abbrev pub ReportsLast : List ℕ → Ending → ℕ → Option (List ℕ) → Option (List ℕ) → Type 0
 ReportsLast words endings.PeerEnded status w w' = WritesLast 0 words status w w'
 ReportsLast words endings.RoundsDone status w w' = WritesLast 8 words status w w'
-ReportsLast words endings.HostFailed status w w' = Reports endings.HostFailed status w w'
+ReportsLast words endings.HostFailed status w w' = WritesLast 7 words status w w'
 ReportsLast words endings.NotAuthenticated status w w' = Reports endings.NotAuthenticated status w w'
-ReportsLast words (endings.Malformed start fault) status w w' = Reports (endings.Malformed start fault) status w w'
-ReportsLast words endings.Spent status w w' = Reports endings.Spent status w w'
+ReportsLast words (endings.Malformed start fault) status w w' = WritesLast 6 (words ++ fault_line start fault.place fault.reason) status w w'
+ReportsLast words endings.Spent status w w' = WritesLast 13 words status w w'
 ReportsLast words endings.NoMemory status w w' = Reports endings.NoMemory status w w'
 
--- where all rounds were done: all that is spoken for what was taken, where the host tells it
-abbrev pub SpeaksAll : ℕ → Option (List Call) → List ℕ → Type 0
-SpeaksAll k None w = ⊤
-SpeaksAll k (Some cs) w = IsAllSpoken (taken k cs) w
-
--- with the last words behind the lines that were written before, all is written: what is spoken, and where the peer ended then what is held
+-- With the last words behind the lines that were written before, all is written, of what was taken where the host tells it: what is spoken up to
+-- what ended the run, and where the peer ended then what is held.
 abbrev pub AreLast : ℕ → Option (List Call) → List ℕ → List ℕ → Ending → Type 0
-AreLast k calls spoken words endings.PeerEnded = TellsAll k calls (spoken ++ words)
-AreLast k calls spoken words endings.RoundsDone = SpeaksAll k calls (spoken ++ words)
-AreLast k calls spoken words ending = ⊤
+AreLast k calls spoken words endings.PeerEnded = OfTaken k calls (λ t. IsAll t (spoken ++ words))
+AreLast k calls spoken words (endings.Malformed start fault) = OfTaken k calls (λ t. IsSpokenToFault start fault.place fault.reason t (spoken ++ words))
+AreLast k calls spoken words endings.Spent = OfTaken k calls (λ t. IsSpokenToSpent t (spoken ++ words))
+AreLast k calls spoken words endings.NotAuthenticated = ⊤
+AreLast k calls spoken words endings.NoMemory = ⊤
+AreLast k calls spoken words ending = OfTaken k calls (λ t. IsAllSpoken t (spoken ++ words))
+
+-- Which counts changed, by the status: 7 where one of the host's did, unless a read or a write failed and then the last words could not be written;
+-- 4 where the sink's did.
+pub record Causes (status faults faults' link_faults link_faults' sink sink' : ℕ) : Type 0 where
+  pub by_host : status ≡ 7 → Rose faults faults' ⊎ Rose link_faults link_faults'
+  pub no_host : (status ≡ 7) ⊎ (faults' ≡ faults)
+  pub no_link : (status ≡ 7) ⊎ ((IsUntold status × Rose link_faults link_faults') ⊎ (link_faults' ≡ link_faults))
+  pub by_sink : status ≡ 4 → Rose sink sink'
+  pub no_sink : (status ≡ 4) ⊎ (sink' ≡ sink)
 
 -- a run ended so: its calls are rounds, and its status and what is written behind the spoken lines tell it
 pub record EndsSo (path : List ℕ) (k status rounds : ℕ) (spoken : List ℕ) (calls : Option (List Call)) (w w' : Option (List ℕ)) : Type 0 where

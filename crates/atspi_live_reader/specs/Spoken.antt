@@ -1,9 +1,10 @@
 -- What a reader says on its link and speaks on its output, of all that it does.
-use Rattle.std.specs.Prelude.{◌≡◌, ◌<◌, ℕ, List, [], ◌∷◌, ◌++◌, codes, fold}
+use Rattle.std.specs.Prelude.{◌≡◌, ◌<◌, ℕ, List, [], ◌∷◌, ◌++◌, codes, fold, length}
 use Rattle.atspi_auth.specs.Talk.{behind, client_start}
 use Rattle.atspi_base.specs.Quoted.{quoted}
 use Rattle.atspi_message.specs.Envelope.{Envelope}
-use Rattle.atspi_stream.specs.Stream.{AwaitsMore, IsParted}
+use Rattle.atspi_message.specs.Bytes.{IsMessage}
+use Rattle.atspi_stream.specs.Stream.{AwaitsMore, HasFault, IsParted, bytes_of}
 use Rattle.atspi_protocol.specs.following.ReaderState.{Done, sends, speaks, tells_end, ReaderState, begins}
 use Rattle.atspi_protocol.specs.following.Takes.{starts, reader_takes}
 use Rattle.atspi_conversation.specs.Speech.{envelopes}
@@ -60,4 +61,24 @@ pub record IsAllSpoken (t w : List ℕ) : Type 0 where
   pub rest : List ℕ
   pub parted : IsParted (behind client_start t) messages rest
   pub awaits : AwaitsMore rest
+  pub all : w ≡ spoken_in (following (envelopes messages)).out
+
+-- the same of the messages before one that is at fault, which stands so many bytes behind the first
+pub record IsSpokenToFault (start place reason : ℕ) (t w : List ℕ) : Type 0 where
+  pub messages : List (Envelope × List ℕ)
+  pub rest : List ℕ
+  pub parted : IsParted (behind client_start t) messages rest
+  pub fault : HasFault rest place reason
+  pub before : start ≡ length (bytes_of messages)
+  pub all : w ≡ spoken_in (following (envelopes messages)).out
+
+-- and of those before one for which the reader would pass the last number
+pub record IsSpokenToSpent (t w : List ℕ) : Type 0 where
+  pub messages : List (Envelope × List ℕ)
+  pub message : Envelope
+  pub bytes : List ℕ
+  pub rest : List ℕ
+  pub parted : IsParted (behind client_start t) messages (bytes ++ rest)
+  pub is : IsMessage message bytes
+  pub spent : IsSpent (following (envelopes messages)) message
   pub all : w ≡ spoken_in (following (envelopes messages)).out

@@ -1,15 +1,12 @@
 //! Rounds of a reader: it takes what came, and its lines are written.
 
-ghost use Rattle.std.specs.Prelude.{◌≡◌, ◌<◌, ◌≤◌, ◌+◌, ◌^◌, ℕ, List, [], ◌++◌, Err, false, length, IfErr, MatchResult, OnOk};
-ghost use Rattle.std.specs.Io.KnownBytes.{Appends};
+ghost use Rattle.std.specs.Prelude.{◌≡◌, ◌<◌, ◌≤◌, ◌+◌, ◌^◌, ℕ, List, [], length, IfErr, MatchResult, OnOk};
 ghost use Rattle.atspi_host.specs.Calls.{IsOpen};
 ghost use Rattle.atspi_conversation.specs.Moved.{Tells};
 ghost use Rattle.atspi_conversation.specs.Rounds.{IsRound, Makes};
-ghost use Rattle.atspi_conversation.specs.declared.ending.Ending.{Ending};
 ghost use Rattle.atspi_conversation.specs.Talking.{Going, MakesNext, MaySpeak, heard_in};
-ghost use Rattle.atspi_live_reader.specs.Following.{BlamesSink, BreaksOver, EndsWhole, GoesOn, IsBrokenOver, IsLeft, IsMuted, IsOver, IsQuiet, IsStill, OverBlames, RunsOver, SpeaksOn, Stands};
+ghost use Rattle.atspi_live_reader.specs.Following.{BlamesSink, BreaksOver, EndsRun, EndsTurn, GoesOn, IsMuted, IsOver, IsQuiet, OverBlames, RunsOver, SpeaksOn, Stands};
 ghost use Rattle.atspi_live_reader.specs.Spoken.{IsAfter, IsEmpty};
-ghost use Rattle.atspi_live_reader.specs.declared.over.Over.{Over};
 
 use crate::live_reader::LiveReader;
 use crate::over::Over;
@@ -56,8 +53,8 @@ fn turn<K: Sink, H: Host>(
         → IsOver link over rounds said (H.calls host.new) (K.written sink.old) (K.written sink.new)) }
     ensures made { MatchResult result (λ _. (said : List ℕ) → MakesNext (Stands said) link (H.calls host.old) (H.calls host.new) conversation.old end.old (IsRound IsAfter IsEmpty link (length piece.old)))
         (λ over. (said : List ℕ) → MakesNext (Stands said) link (H.calls host.old) (H.calls host.new) conversation.old end.old (BreaksOver link (length piece.old) over)) }
-    ensures broken { IfErr result IsBrokenOver }
-    ensures still { result ≡ Err (Over.Ended Ending.PeerEnded) → IsStill end.old end.new (K.written sink.old) (K.written sink.new) }
+    ensures left { IfErr result (λ over. (said : List ℕ) (n : ℕ) → Going (Stands said) link (H.calls host.old) n conversation.old end.old
+        → EndsTurn link over said (H.calls host.new) (K.written sink.old) (K.written sink.new) end.new) }
     ensures may { OnOk result (MaySpeak Stands end.new) }
     ensures quiet { OnOk result (IsQuiet end.new) }
     ensures few { OnOk result (heard_in conversation.new ≤ heard_in conversation.old + length piece.old) }
@@ -87,7 +84,7 @@ pub(crate) fn follow<K: Sink, H: Host>(
     requires quiet { IsQuiet end.old }
     ensures over { IsOver link result rounds [] (H.calls host.new) (K.written sink.old) (K.written sink.new) }
     ensures rounds { Makes (H.calls host.old) (H.calls host.new) (RunsOver link result rounds) }
-    ensures left { EndsWhole result → IsLeft link (H.calls host.new) (K.written sink.old) (K.written sink.new) end.new }
+    ensures left { EndsRun link result (H.calls host.new) (K.written sink.old) (K.written sink.new) end.new }
     ensures links { H.links host.new ≡ H.links host.old }
     ensures cause { OverBlames result (H.link_faults host.old) (H.link_faults host.new) }
     ensures other { H.faults host.new ≡ H.faults host.old }

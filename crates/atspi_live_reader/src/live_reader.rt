@@ -1,18 +1,17 @@
 //! The reader as an end that converses, with the lines that it speaks.
 
-ghost use Rattle.std.specs.Prelude.{◌≡◌, [], false, length, IfOk, OnOk};
+ghost use Rattle.std.specs.Prelude.{◌≡◌, ◌++◌, [], false, length, IfOk, OnOk};
 ghost use Rattle.atspi_reader.specs.ReaderOf.{IsReader, reader_of};
 ghost use Rattle.atspi_protocol.specs.following.ReaderState.{begins};
 ghost use Rattle.atspi_protocol.specs.following.Takes.{starts};
 ghost use Rattle.atspi_live_reader.specs.Spoken as spoken;
 ghost use Rattle.atspi_live_reader.specs.Handed.{Follows};
-ghost use Rattle.atspi_conversation.specs.declared.ending.Ending.{Ending};
-ghost use Rattle.atspi_live_reader.specs.Shows.{last_words, shown_in};
+ghost use Rattle.atspi_live_reader.specs.Shows.{last_words};
 
 use crate::showing::put_views;
 use crate::speaking::{next_message, take_rest};
 use atspi_base::{Bytes, NoMemory};
-use atspi_conversation::BusEnd;
+use atspi_conversation::{BusEnd, Ending};
 use atspi_header::MessageRef;
 use atspi_message::Message;
 use atspi_protocol::ends::EndFault;
@@ -50,31 +49,20 @@ pub(crate) fn start(alloc: Global) -> Result<LiveReader, NoMemory>
 }
 
 impl LiveReader {
-    /// Where no line is to be written: keeps the lines of what was spoken last.
-    pub(crate) fn fall_silent(&mut self) -> Result<(), NoMemory>
-        requires is { IsReader self.old.reader }
-        requires fed { self.old.starved ≡ false }
-        requires none { self.old.lines ≡ [] }
-        ensures lines { OnOk result (self.new.lines ≡ last_words Ending.RoundsDone (reader_of self.old.reader)) }
-        ensures shown { OnOk result (shown_in (reader_of self.new.reader) ≡ shown_in (reader_of self.old.reader)) }
+    /// Keeps the last words of a run that ended so, behind the lines that are kept: the lines of what was spoken and not handed out, and
+    /// where the peer has ended then what is held of each application.
+    pub(crate) fn conclude(&mut self, alloc: Global, ending: Ending) -> Result<(), NoMemory>
+        requires { IsReader self.old.reader }
+        ensures fed { OnOk result (self.old.starved ≡ false) }
+        ensures lines { OnOk result (self.new.lines ≡ self.old.lines ++ last_words ending (reader_of self.old.reader)) }
     {
         take_rest(&mut self.reader, &mut self.lines, &mut self.starved);
         if self.starved {
             return Err(NoMemory);
         }
-        Ok(())
-    }
-
-    /// The same, and then what is held of each application.
-    pub(crate) fn conclude(&mut self, alloc: Global) -> Result<(), NoMemory>
-        requires is { IsReader self.old.reader }
-        requires fed { self.old.starved ≡ false }
-        requires none { self.old.lines ≡ [] }
-        ensures { OnOk result (self.new.lines ≡ last_words Ending.PeerEnded (reader_of self.old.reader)) }
-    {
-        match self.fall_silent() {
-            Ok(()) => put_views(alloc, &self.reader, &mut self.lines),
-            Err(fault) => Err(fault),
+        match ending {
+            Ending::PeerEnded => put_views(alloc, &self.reader, &mut self.lines),
+            _ => Ok(()),
         }
     }
 }

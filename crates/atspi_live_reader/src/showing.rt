@@ -1,44 +1,16 @@
 //! What a reader shows at the end: the rows of each application that it holds.
 
-ghost use Rattle.std.specs.Prelude.{◌≡◌, ◌≤◌, ◌++◌, drop, length, map, OnOk};
-ghost use Rattle.std.specs.Option.{option_copied};
+ghost use Rattle.std.specs.Prelude.{◌≡◌, ◌++◌, map, OnOk};
 ghost use Rattle.atspi_play.specs.Playing.{shown_sight};
 ghost use Rattle.atspi_reader.specs.ReaderOf.{reader_of};
-ghost use Rattle.atspi_live_reader.specs.Shows.{rows_text, show_text, shown_in, shown_of};
+ghost use Rattle.atspi_live_reader.specs.Shows.{show_text, shown_in, shown_of};
 
 use atspi_arena::Rows;
 use atspi_base::{Bytes, NoMemory};
-use atspi_events::{Event, write_event};
 use atspi_reader::Reader;
-use atspi_showing::shown_rows;
+use atspi_showing::write_rows;
 use atspi_valid_names::BusName;
 use std::alloc::Global;
-
-/// In the text of an event of showing so many bytes stand before the number of rows: the names of a reader and of an application.
-const NAMES: usize = b"show r0 a0 ".len();
-
-/// What stands in the text of an event of showing behind the names.
-fn behind_names(text: &[u8]) -> &[u8]
-    requires { NAMES ≤ length text.now }
-    ensures { result.now ≡ drop NAMES text.now }
-{
-    &text[NAMES..]
-}
-
-/// Appends how many rows these are, and a line of each.
-fn put_rows(alloc: Global, rows: Rows<'_>, out: &mut Bytes) -> Result<(), NoMemory>
-    ensures { OnOk result (out.new ≡ out.old ++ rows_text (map shown_sight rows.entry)) }
-{
-    let shown = shown_rows(alloc, rows)?;
-    let event = Event::Show {
-        reader: 0,
-        app: 0,
-        rows: Some(shown),
-    };
-    let mut text = Bytes::new(alloc);
-    write_event(&event, &mut text)?;
-    out.extend(behind_names(text.as_slice()))
-}
 
 /// Appends the line of an application, and a line of each of its rows.
 fn put_show(alloc: Global, name: &BusName, rows: Rows<'_>, out: &mut Bytes) -> Result<(), NoMemory>
@@ -47,7 +19,7 @@ fn put_show(alloc: Global, name: &BusName, rows: Rows<'_>, out: &mut Bytes) -> R
     out.extend(b"show ")?;
     out.extend(name.as_str().as_bytes())?;
     out.push(b' ')?;
-    put_rows(alloc, rows, out)
+    write_rows(alloc, rows, out)
 }
 
 /// Appends what a reader holds of an application.

@@ -42,6 +42,13 @@ const CHILDREN: &[u8] =
 const ITEMS: &[u8] =
     b"l\x02\x01\x01\x08\x01\0\0\x04\0\0\0F\0\0\0\x05\x01u\0\x0b\0\0\0\x06\x01s\0\x04\0\0\0:1.0\0\0\0\0\x07\x01s\0\x04\0\0\0:1.2\0\0\0\0\x08\x01g\0\x18a((so)(so)(so)iiassusau)\0\0\0\0\x01\0\0\0\0\0\0\x04\0\0\0:1.2\0\0\0\0\x1f\0\0\0/org/a11y/atspi/accessible/root\0\x04\0\0\0:1.2\0\0\0\0\x1f\0\0\0/org/a11y/atspi/accessible/root\0\x04\0\0\0:1.1\0\0\0\0\x1f\0\0\0/org/a11y/atspi/accessible/root\0\0\0\0\0\0\0\0\0?\0\0\0\x19\0\0\0org.a11y.atspi.Accessible\0\0\0\x1a\0\0\0org.a11y.atspi.Application\0\0\x04\0\0\0Demo\0\0\0\0K\0\0\0\0\0\0\0\0\0\0\0\x08\0\0\0\0\x01\0C\0\0\0\0";
 
+/// The bus tells that the connection `:1.2` has ended.
+const GONE: &[u8] =
+    b"l\x04\x01\x01\x1d\0\0\0\x14\0\0\0\x89\0\0\0\x01\x01o\0\x15\0\0\0/org/freedesktop/DBus\0\0\0\x02\x01s\0\x14\0\0\0org.freedesktop.DBus\0\0\0\0\x03\x01s\0\x10\0\0\0NameOwnerChanged\0\0\0\0\0\0\0\0\x07\x01s\0\x14\0\0\0org.freedesktop.DBus\0\0\0\0\x08\x01g\0\x03sss\0\0\0\0\0\0\0\0\x04\0\0\0:1.2\0\0\0\0\x04\0\0\0:1.2\0\0\0\0\0\0\0\0\0";
+
+/// The front of a call whose number is 0.
+const FAULTY: &[u8] = b"l\x01\0\x01\0\0\0\0\0\0\0\0m\0\0\0";
+
 /// What a run came to: its status, what was given on the link, and what was written.
 #[derive(Drop)]
 struct Run {
@@ -135,11 +142,41 @@ fn is_rejected(rt: HostRuntime) -> Result<(), Fail> {
 #[test]
 fn a_message_is_malformed(rt: HostRuntime) -> Result<(), Fail> {
     let alloc = rt.alloc();
-    // a call whose number is 0
-    let parts: &[&[u8]] = &[CHALLENGE, GRANT, b"l\x01\0\x01\0\0\0\0\0\0\0\0m\0\0\0"];
+    let parts: &[&[u8]] = &[CHALLENGE, GRANT, FAULTY];
     let run = run_with(&rt, alloc, parts, false, NEVER, 5)?;
     assert_eq!(rt; run.status, 6);
     assert_eq!(rt; run.written.bytes(), b"fault 0 8 26\n".as_slice());
+    Ok(())
+}
+
+/// A reader hears in one piece of an application, what that holds, and that it has ended; and then some bytes more.
+fn run_to_a_stop(rt: &impl Abort, alloc: Global, behind: &[u8], failing: u64) -> Result<Run, Fail> {
+    let answers = answers(alloc)?;
+    let last = joined(alloc, &[CHILDREN, ITEMS, GONE, behind])?;
+    let parts: &[&[u8]] = &[CHALLENGE, GRANT, NAMED, &answers, &last];
+    run_with(rt, alloc, parts, false, failing, 20)
+}
+
+#[test]
+fn speaks_up_to_a_fault(rt: HostRuntime) -> Result<(), Fail> {
+    let alloc = rt.alloc();
+    let run = run_to_a_stop(&rt, alloc, FAULTY, NEVER)?;
+    assert_eq!(rt; run.status, 6);
+    let due = b"say :1.2 \"Demo, closed\"\nfault 1334 8 26\n";
+    assert_eq!(rt; run.written.bytes(), due.as_slice());
+    Ok(())
+}
+
+#[test]
+fn speaks_though_a_write_fails(rt: HostRuntime) -> Result<(), Fail> {
+    let alloc = rt.alloc();
+    // the write of the round in which the line is spoken: a connect, and then a read and a write in each of five rounds
+    let run = run_to_a_stop(&rt, alloc, b"", 10)?;
+    assert_eq!(rt; run.status, 7);
+    assert_eq!(rt;
+        run.written.bytes(),
+        b"say :1.2 \"Demo, closed\"\n".as_slice()
+    );
     Ok(())
 }
 

@@ -1,8 +1,7 @@
-use Rattle.std.proofs.Common.{◌≡◌, ℕ, List, [], ◌++◌, refl, sym, ap, subst, length, ◌∙◌, rules, arith}
+use Rattle.std.proofs.Common.{◌≡◌, ℕ, List, [], ◌++◌, refl, sym, subst, ◌∙◌, rules, arith}
 use Rattle.std.proofs.KnownBytes.{Appends-nil}
 use Rattle.atspi_base.specs.Outside.{appends_both}
 use Rattle.atspi_host.specs.Calls.{IsOpen}
-use Rattle.std.specs.Prelude.{Err}
 use Rattle.atspi_conversation.specs.Rounds.{AreRounds, IsRound, Makes}
 use Rattle.atspi_conversation.proofs.RoundLemmas.{makes_none, rounds_more, run_done}
 use Rattle.atspi_conversation.proofs.StepLemmas.{at_first, may_begin}
@@ -82,16 +81,15 @@ returns-in-Err-clause-rounds g c =
     (subst (λ (x : ℕ). Makes (g.H.Host.calls c.rounds.host) (g.H.Host.calls c.turn.new.host) (BreaksOver c.args.link x c.in-Err.over o.2.t o.2.g)) c.rounds.invariant.piece (c.in-Err.ensures.made o.0 c.rounds.done o.2))
 
 pub returns-in-Err-clause-left : goal.returns-in-Err-clause-left
-returns-in-Err-clause-left g c e =
+returns-in-Err-clause-left g c =
     let o = c.rounds.invariant.goes in
-    left_behind c.args.link (length c.rounds.piece) c.rounds.done c.in-Err.over (g.H.Host.calls c.rounds.host) (g.H.Host.calls c.turn.new.host) c.rounds.conversation c.rounds.end c.turn.new.end o.0
-    (g.K.Sink.written c.args.sink.now) (g.K.Sink.written c.rounds.sink) (g.K.Sink.written c.turn.new.sink) e c.in-Err.ensures.broken o.1 o.2 c.rounds.invariant.quiet (c.in-Err.ensures.made o.0 c.rounds.done o.2)
-    (λ p. c.in-Err.ensures.still (ap Err p))
+    left_behind c.args.link c.in-Err.over o.0 (g.H.Host.calls c.turn.new.host) (g.K.Sink.written c.args.sink.now) (g.K.Sink.written c.rounds.sink) (g.K.Sink.written c.turn.new.sink) c.turn.new.end o.1
+    (c.in-Err.ensures.left o.0 c.rounds.done o.2)
 
 pub returns-clause-rounds : goal.returns-clause-rounds
 returns-clause-rounds g c = run_done (λ _. IsAfter) IsEmpty c.args.link 4096 c.rounds.done c.args.rounds (g.H.Host.calls c.args.host.now) (g.H.Host.calls c.rounds.host) (omega arith) c.rounds.invariant.made
 
 pub returns-clause-left : goal.returns-clause-left
-returns-clause-left g c e =
+returns-clause-left g c =
     let o = c.rounds.invariant.goes in
-    left_at_last c.args.link c.rounds.done (g.H.Host.calls c.rounds.host) c.rounds.conversation c.rounds.end o.0 (g.K.Sink.written c.args.sink.now) (g.K.Sink.written c.rounds.sink) o.1 o.2 c.rounds.invariant.quiet
+    left_at_last c.args.link c.rounds.done (g.H.Host.calls c.rounds.host) c.rounds.conversation c.rounds.end o.0 (g.K.Sink.written c.args.sink.now) (g.K.Sink.written c.rounds.sink) o.1 o.2

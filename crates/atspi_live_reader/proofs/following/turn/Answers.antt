@@ -1,7 +1,6 @@
-use Rattle.std.proofs.Common.{length, refl, ap}
-use Rattle.std.specs.Prelude.{Err}
+use Rattle.std.proofs.Common.{◌+◌, length}
 use Rattle.atspi_conversation.proofs.StepLemmas.{if_err, on_ok}
-use Rattle.atspi_live_reader.proofs.Turning.{breaks_of, if_match, may_wrote, mute_blames, mute_broken, mute_made, mute_not, round_of, same_ending, turn_ended, turn_muted, turn_still, turned}
+use Rattle.atspi_live_reader.proofs.Turning.{breaks_of, if_match, may_wrote, mute_blames, mute_left, mute_made, round_of, turn_ended, turn_left, turn_muted, turned}
 use Rattle.atspi_live_reader.proofs.following.turn.Goals as goal
 
 pub returns-in-Err-clause-err : goal.returns-in-Err-clause-err
@@ -36,10 +35,6 @@ returns-clause-cause g c =
     (λ over m. mute_blames over c.round.new.end (g.K.Sink.written c.args.sink.now) (g.K.Sink.written c.speak.new.sink) (g.H.Host.link_faults c.args.host.now) (g.H.Host.link_faults c.round.new.host) c.in_default.ensures.cause m)
     c.speak.ensures.err
 
-pub returns-in-Err-clause-still : goal.returns-in-Err-clause-still
-returns-in-Err-clause-still g c e =
-    turn_still c.args.end.now c.round.new.end (g.K.Sink.written c.args.sink.now) (c.in-Err.ensures.still (ap Err (same_ending c.in-Err.ending _ refl e)))
-
 pub returns-in-Err-clause-made : goal.returns-in-Err-clause-made
 returns-in-Err-clause-made g c written n going =
     breaks_of written c.args.link (length c.args.piece.now) c.in-Err.ending going.t going.g (g.H.Host.calls c.args.host.now) (g.H.Host.calls c.round.new.host) (c.in-Err.ensures.made written n going)
@@ -52,11 +47,13 @@ returns-clause-made g c =
     (round_of written c.args.link (length c.args.piece.now) going.t going.g (g.H.Host.calls c.args.host.now) (g.H.Host.calls c.round.new.host) (c.in_default.ensures.made written n going)) m)
     c.speak.ensures.err
 
-pub returns-in-Err-clause-broken : goal.returns-in-Err-clause-broken
-returns-in-Err-clause-broken g c = c.in-Err.ensures.broken
+pub returns-in-Err-clause-left : goal.returns-in-Err-clause-left
+returns-in-Err-clause-left g c written n w =
+    turn_left c.args.link c.in-Err.ending written (g.H.Host.calls c.round.new.host) (g.K.Sink.written c.args.sink.now) c.round.new.end (c.in-Err.ensures.left written n w)
 
-pub returns-clause-broken : goal.returns-clause-broken
-returns-clause-broken g c = if_err c.speak.result _ _ (λ over m. mute_broken over c.round.new.end (g.K.Sink.written c.args.sink.now) (g.K.Sink.written c.speak.new.sink) m) c.speak.ensures.err
-
-pub returns-clause-still : goal.returns-clause-still
-returns-clause-still g c e = absurd (mute_not c.speak.result c.round.new.end (g.K.Sink.written c.args.sink.now) (g.K.Sink.written c.speak.new.sink) c.speak.ensures.err e)
+pub returns-clause-left : goal.returns-clause-left
+returns-clause-left g c =
+    if_err c.speak.result _ _
+    (λ over m written n w. mute_left c.args.link (n + 1) over written (g.H.Host.calls c.round.new.host) c.round.new.conversation (g.K.Sink.written c.args.sink.now) (g.K.Sink.written c.speak.new.sink) c.round.new.end c.speak.new.end
+    (c.in_default.ensures.ok written n w) m)
+    c.speak.ensures.err

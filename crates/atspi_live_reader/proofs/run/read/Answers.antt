@@ -1,4 +1,4 @@
-use Rattle.std.proofs.Common.{ℕ, refl, ap, subst, ◌∙◌, inl, inr, arith}
+use Rattle.std.proofs.Common.{ℕ, ◌++◌, refl, ap, subst, ◌∙◌, inl, inr, arith}
 use Rattle.atspi_live_registry.proofs.Running.{connect_failed, connected, fresh, is_open, on_link}
 use Rattle.atspi_reader.specs.ReaderOf.{reader_of}
 use Rattle.atspi_live_reader.specs.Following.{OverBlames, RunsOver}
@@ -14,7 +14,7 @@ pub returns-in_default-clause-ends : goal.returns-in_default-clause-ends
 returns-in_default-clause-ends g c = none_ends c.args.path.now (g.H.Host.links c.args.host.now) 5 c.args.rounds (g.H.Host.calls c.args.host.now) (g.K.Sink.written c.args.sink.now) c.requires.links (inr refl)
 
 pub returns-in_default-clause-causes : goal.returns-in_default-clause-causes
-returns-in_default-clause-causes g c = record { by_host = λ e. absurd (omega (arith, e)); no_host = inr (refl, refl); by_sink = λ e. absurd (omega (arith, e)); no_sink = inr refl }
+returns-in_default-clause-causes g c = record { by_host = λ e. absurd (omega (arith, e)); no_host = inr refl; no_link = inr (inr refl); by_sink = λ e. absurd (omega (arith, e)); no_sink = inr refl }
 
 pub returns-in_default-connect-clause-speech : goal.returns-in_default-connect-clause-speech
 returns-in_default-connect-clause-speech g c =
@@ -35,7 +35,7 @@ returns-in_default-connect-clause-causes g c =
     let f = connect_failed c.connect.result (g.H.Host.links c.args.host.now) (g.H.Host.links c.connect.new.self) (g.H.Host.faults c.args.host.now) (g.H.Host.faults c.connect.new.self)
     c.in_default-connect.not-Done c.connect.ensures.ready c.connect.ensures.links c.connect.ensures.cause
     in
-    record { by_host = λ e. inl f.0; no_host = inl refl; by_sink = λ e. absurd (omega (arith, e)); no_sink = inr refl }
+    record { by_host = λ e. inl f.0; no_host = inl refl; no_link = inl refl; by_sink = λ e. absurd (omega (arith, e)); no_sink = inr refl }
 
 pub follow-requires : goal.follow-requires
 follow-requires g c = record {
@@ -53,7 +53,7 @@ returns-in-Ended-clause-speech g c =
 
 pub tell-requires : goal.tell-requires
 tell-requires g c e =
-    may_tell c.in-Done.link (g.H.Host.calls c.follow.new.host) (g.K.Sink.written c.args.sink.now) (g.K.Sink.written c.follow.new.sink) c.follow.new.end (c.in-Ended.ensures.left e)
+    may_tell c.in-Done.link c.in-Ended.ending (g.H.Host.calls c.follow.new.host) (g.K.Sink.written c.args.sink.now) (g.K.Sink.written c.follow.new.sink) c.follow.new.end c.in-Ended.ensures.left e
 
 pub returns-in-Ended-clause-ends : goal.returns-in-Ended-clause-ends
 returns-in-Ended-clause-ends g c =
@@ -69,11 +69,11 @@ pub returns-in-Ended-clause-causes : goal.returns-in-Ended-clause-causes
 returns-in-Ended-clause-causes g c =
     subst_causes c.tell.result (g.H.Host.faults c.args.host.now) (g.H.Host.faults c.follow.new.host) (g.H.Host.link_faults c.args.host.now) (g.H.Host.link_faults c.follow.new.host)
     (g.K.Sink.faults c.args.sink.now) (g.K.Sink.faults c.follow.new.sink) (g.K.Sink.faults c.tell.new.sink) c.in-Ended.ensures.sink
-    (last_causes (last_words c.in-Ended.ending (reader_of c.follow.new.end.reader)) c.in-Ended.ending c.tell.result (g.H.Host.faults c.args.host.now) (g.H.Host.faults c.follow.new.host) (g.H.Host.link_faults c.args.host.now) (g.H.Host.link_faults c.follow.new.host)
+    (last_causes (c.follow.new.end.lines ++ last_words c.in-Ended.ending (reader_of c.follow.new.end.reader)) c.in-Ended.ending c.tell.result (g.H.Host.faults c.args.host.now) (g.H.Host.faults c.follow.new.host) (g.H.Host.link_faults c.args.host.now) (g.H.Host.link_faults c.follow.new.host)
     (g.K.Sink.faults c.follow.new.sink) (g.K.Sink.faults c.tell.new.sink) (g.K.Sink.written c.follow.new.sink) (g.K.Sink.written c.tell.new.sink)
     (c.follow.ensures.other ∙ c.in-Done.ensures.cause)
     (subst (λ (n : ℕ). OverBlames (Ended c.in-Ended.ending) n (g.H.Host.link_faults c.follow.new.host)) c.connect.ensures.other c.in-Ended.ensures.cause)
-    c.tell.ensures.reports c.tell.ensures.cause)
+    (c.tell.ensures.reports (c.follow.new.end.lines ++ last_words c.in-Ended.ending (reader_of c.follow.new.end.reader)) (inr refl)) c.tell.ensures.cause)
 
 pub returns-clause-speech : goal.returns-clause-speech
 returns-clause-speech g c =

@@ -1,0 +1,9 @@
+//! Worked cases of what a reader speaks and shows, with the values worked out by hand. Each case is a clause of a function without a body.
+//! So a definition that says otherwise is refused here.
+#![tactic(auto)]
+
+mod shows;
+mod spoken;
+
+pub use shows::{held_views, shown_rows};
+pub use spoken::{all_of_nothing, last_words_of_readers, spoken_lines};
