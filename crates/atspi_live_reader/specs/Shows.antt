@@ -3,7 +3,7 @@ use Rattle.std.specs.Prelude.{ℕ, List, [], ◌∷◌, ◌++◌, Option, None, 
 use Rattle.std.specs.List.{flat_map}
 use Rattle.atspi_events.specs.declared.shown.ShownRow.{ShownRow}
 use Rattle.atspi_play.specs.Playing.{view_rows}
-use Rattle.atspi_showing.specs.RowsText.{rows_text}
+use Rattle.atspi_rows_text.specs.RowsText.{rows_text}
 use Rattle.atspi_protocol.specs.following.ReaderState.{ReaderState}
 use Rattle.atspi_protocol.specs.following.Takes.{held_names, held_view}
 use Rattle.atspi_conversation.specs.declared.ending.Ending.{Ending}

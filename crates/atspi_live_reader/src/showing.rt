@@ -8,7 +8,7 @@ ghost use Rattle.atspi_live_reader.specs.Shows.{show_text, shown_in, shown_of};
 use atspi_arena::Rows;
 use atspi_base::{Bytes, NoMemory};
 use atspi_reader::Reader;
-use atspi_showing::write_rows;
+use atspi_rows_text::write_rows;
 use atspi_valid_names::BusName;
 use std::alloc::Global;
 

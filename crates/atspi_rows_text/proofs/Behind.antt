@@ -9,7 +9,7 @@ use Rattle.atspi_events.specs.EventText.{ended, event_text}
 use Rattle.atspi_events.specs.Rows.{row_line}
 use Rattle.atspi_events.specs.declared.event.Event.TheVariants.{Show}
 use Rattle.atspi_events.specs.declared.shown.ShownRow.{ShownRow}
-use Rattle.atspi_showing.specs.RowsText.{rows_text}
+use Rattle.atspi_rows_text.specs.RowsText.{rows_text}
 
 -- the text of an event of showing: two names, and what is shown
 pub event_is : (rows : List ShownRow) → event_text (Show 0 0 (Some rows)) ≡ codes "show r0 a0 " ++ rows_text rows

@@ -1,13 +1,14 @@
-//! The rows of a walk as text.
+//! The rows of a walk over what a reader holds, as text.
+#![tactic(auto)]
 
 ghost use Rattle.std.specs.Prelude.{◌≡◌, ◌≤◌, ◌++◌, drop, length, map, OnErr, OnOk};
 ghost use Rattle.atspi_play.specs.Playing.{shown_sight};
-ghost use Rattle.atspi_showing.specs.RowsText.{rows_text};
+ghost use Rattle.atspi_rows_text.specs.RowsText.{rows_text};
 
-use crate::rows::shown_rows;
 use atspi_arena::Rows;
 use atspi_base::{Bytes, NoMemory};
 use atspi_events::{Event, write_event};
+use atspi_showing::shown_rows;
 use std::alloc::Global;
 
 /// In the text of an event of showing so many bytes stand before the number of rows: the names of a reader and of an application.

@@ -2,9 +2,9 @@ use Rattle.std.proofs.Common.{◌≡◌, ◌++◌, List, ℕ, Some, ap, ◌∙�
 use Rattle.std.specs.Prelude.{Result, Ok, Err, OnOk}
 use Rattle.atspi_events.specs.EventText.{event_text}
 use Rattle.atspi_events.specs.declared.event.Event.TheVariants.{Show}
-use Rattle.atspi_showing.specs.RowsText.{rows_text}
-use Rattle.atspi_showing.proofs.Behind.{behind_names, names_within}
-use Rattle.atspi_showing.proofs.texts.write_rows.Goals as goal
+use Rattle.atspi_rows_text.specs.RowsText.{rows_text}
+use Rattle.atspi_rows_text.proofs.Behind.{behind_names, names_within}
+use Rattle.atspi_rows_text.proofs.write_rows.Goals as goal
 
 on_ok : {T X : Type 0} (r : Result T X) (P Q : Type 0) → (P → Q) → OnOk r P → OnOk r Q
 on_ok (Ok x) P Q f h = f h
