@@ -20,17 +20,17 @@ ghost use Rattle.atspi_protocol_examples.specs.Lists.{moving};
 pub fn moves()
     ensures { cases.signals moving
         ≡ added (record {
-            object = own bus 3;
-            application = own bus 0;
-            parent = own bus 13;
-            index = pos 1;
-            children = pos 0;
-            interfaces = codes "org.a11y.atspi.Accessible" ∷ [];
-            name = [];
-            role = 0;
-            description = [];
-            states = 0;
-          })
+          object = own bus 3;
+          application = own bus 0;
+          parent = own bus 13;
+          index = pos 1;
+          children = pos 0;
+          interfaces = codes "org.a11y.atspi.Accessible" ∷ [];
+          name = [];
+          role = 0;
+          description = [];
+          states = 0;
+        })
         ∷ child_changed bus 1 (codes "remove") 1 3
         ∷ property_changed 3 (codes "accessible-parent") (to 13)
         ∷ child_changed bus 13 (codes "add") 1 3 ∷ [] }

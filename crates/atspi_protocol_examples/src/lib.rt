@@ -3,8 +3,8 @@
 //! out by hand. So a definition that says otherwise is refused here, and a new case makes no crate above the definitions be proved again.
 #![tactic(auto)]
 
-mod answers;
 mod announced;
+mod answers;
 mod arguments;
 mod exporting;
 mod following;
@@ -15,10 +15,12 @@ mod whole;
 
 pub use announced::{among_siblings, moves, nothing};
 pub use answers::{changes, no_members, properties, refused, selections};
-pub use arguments::{missing, misread};
+pub use arguments::{misread, missing};
 pub use exporting::{counts, edits, numbers, own_names, refused_starts, starts, unlike};
 pub use following::{children, ends, part_calls, starts as reader_starts, user_calls};
 pub use looked::{adding, changed_rows, rows_of_items, rows_of_news};
 pub use registering::{no_requests, numbered, pairs, sent};
-pub use signatures::{kept, of_bus_objects, of_nodes, of_properties, of_registry, of_tables, of_texts};
+pub use signatures::{
+    kept, of_bus_objects, of_nodes, of_properties, of_registry, of_tables, of_texts,
+};
 pub use whole::{absent, known, trees};

@@ -9,6 +9,8 @@ mod own;
 mod queues;
 
 pub use answers::{changed, first_calls, limits, table};
-pub use conditions::{arguments, branches, fields, kinds, namespaces, owned_names, paths, rules, senders};
+pub use conditions::{
+    arguments, branches, fields, kinds, namespaces, owned_names, paths, rules, senders,
+};
 pub use own::{errors, numbers, returns, signals, told};
 pub use queues::deliveries;
