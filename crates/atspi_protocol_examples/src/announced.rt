@@ -1,6 +1,7 @@
 //! Signals of a move, whose node, parent and index differ, and of what is not there.
 
-ghost use Rattle.std.specs.Prelude.{◌≡◌, ◌∷◌, [], None, Some, pos, codes};
+ghost use Rattle.std.specs.Prelude.{◌≡◌, ◌∷◌, [], None, Some, pos, length, codes};
+ghost use Rattle.atspi_forest.specs.declared.step.Step.TheVariants.{Move};
 ghost use Rattle.atspi_types.specs.Kinds.{u32, text, variant};
 ghost use Rattle.atspi_types.specs.Data.{text_data, number_data, structure_data, items_of};
 ghost use Rattle.atspi_protocol.specs.announcing.Announced.{left, told_node};
@@ -33,6 +34,12 @@ pub fn moves()
         ∷ child_changed bus 1 (codes "remove") 1 3
         ∷ property_changed 3 (codes "accessible-parent") (to 13)
         ∷ child_changed bus 13 (codes "add") 1 3 ∷ [] }
+{}
+
+/// A node that moves among its siblings is told as it stands then.
+#[tactic(auto, unfolding(atspi_forest::specs::Path::path_of))]
+pub fn among_siblings()
+    ensures { length (cases.signals (Move 3 1 0)) ≡ 4 }
 {}
 
 /// Of a node that is not there nothing is told, nor that one left which had no parent.

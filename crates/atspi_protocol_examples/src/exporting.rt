@@ -3,13 +3,14 @@
 ghost use Rattle.std.specs.Prelude.{◌≡◌, ◌∷◌, [], None, Some, true, false, codes};
 ghost use Rattle.atspi_forest.specs.declared.step.Step.TheVariants.{Add, Remove, SetName};
 ghost use Rattle.atspi_types.specs.Data.{text_data, structure_data, items_of};
-ghost use Rattle.atspi_protocol.specs.ends.Messages.{call_to, returns};
+ghost use Rattle.atspi_protocol.specs.ends.Messages.{call_to, return_to};
+ghost use Rattle.atspi_protocol.specs.ends.Places.{reference};
 ghost use Rattle.atspi_protocol.specs.exporting.Exporter.{awaits, begins, deaf, hears, hello, numbered, queues, sends, sent_in, steps};
 ghost use Rattle.atspi_protocol.specs.exporting.Hearing.{pair_of};
 ghost use Rattle.atspi_protocol.specs.exporting.Starting.{awaited, is_number, name_or_empty, start_call};
 ghost use Rattle.atspi_protocol.specs.exporting.Taking.{added_by, app_takes, stepped, takes_call, takes_other};
 ghost use Rattle.atspi_protocol.specs.exporting.Exporter as exporter;
-ghost use Rattle.atspi_protocol.specs.exporting.Cases.{begun, handed_out, label, ready, returned};
+ghost use Rattle.atspi_protocol.specs.exporting.Cases.{asks_root, at_message, begun, label, ready, returned};
 ghost use Rattle.atspi_protocol_examples.specs.Lists.{happenings, ping};
 
 /// Messages take the numbers that follow; what else happens takes none, and stands where it stood.
@@ -54,6 +55,12 @@ pub fn refused_starts()
     ensures over { awaited exporter.over (returned 1 []) ≡ None }
     ensures nameless { takes_other begun None ping ≡ begun }
     ensures of_nobody { takes_call (ready []) (codes ":1.1") ping ≡ ready [] }
+{}
+
+/// A call is answered under the application's own name, to its caller.
+#[tactic(auto, unfolding(atspi_valid_names::specs::Names::is_bus_name, atspi_valid_names::specs::Elements::are_two_or_more, atspi_valid_names::specs::Elements::are_elements, atspi_valid_names::specs::Elements::parts_of, atspi_forest::specs::Path::path_of))]
+pub fn own_names()
+    ensures { at_message (ready []) (asks_root (codes "org.a11y.atspi.Accessible") (codes "GetApplication") []) ≡ sends (record (return_to (codes ":1.2") 9 (reference (codes ":1.1") (codes "/org/a11y/atspi/accessible/root") ∷ [])) { serial = 5 }) ∷ [] }
 {}
 
 /// What is no pair of two texts is none.

@@ -2,6 +2,8 @@
 
 ghost use Rattle.std.specs.Prelude.{◌≡◌, ◌∷◌, [], codes};
 ghost use Rattle.atspi_protocol.specs.members.Table.{accessible_lines, action_lines, application_lines, cache_lines, common_lines, editable_text_lines, property_lines, registry_lines, selection_lines, socket_lines, table_lines, text_lines};
+ghost use Rattle.atspi_protocol.specs.members.Cases.{label};
+ghost use Rattle.atspi_protocol.specs.members.Objects.{keeping};
 ghost use Rattle.atspi_protocol_examples.specs.Lists.{gives, types};
 
 /// What every accessible object answers.
@@ -52,4 +54,11 @@ pub fn of_properties()
         ∷ (codes "AccessibleId", codes "s") ∷ (codes "ToolkitName", codes "s") ∷ (codes "Version", codes "s") ∷ (codes "AtspiVersion", codes "s") ∷ (codes "Id", codes "i")
         ∷ (codes "CharacterCount", codes "i") ∷ (codes "CaretOffset", codes "i") ∷ (codes "NSelectedChildren", codes "i") ∷ (codes "NRows", codes "i")
         ∷ (codes "NColumns", codes "i") ∷ (codes "NActions", codes "i") ∷ [] }
+{}
+
+/// Of an interface some properties alone are kept; those of other interfaces stay.
+pub fn kept()
+    ensures { types (keeping (codes "org.a11y.atspi.Text") (codes "CaretOffset" ∷ []) label).properties
+        ≡ (codes "Name", codes "s") ∷ (codes "Description", codes "s") ∷ (codes "Parent", codes "(so)") ∷ (codes "ChildCount", codes "i") ∷ (codes "Locale", codes "s")
+        ∷ (codes "AccessibleId", codes "s") ∷ (codes "CaretOffset", codes "i") ∷ [] }
 {}

@@ -5,7 +5,7 @@ ghost use Rattle.std.specs.FinMap.{empty, get};
 ghost use Rattle.atspi_forest.specs.declared.contents.FaceData.TheVariants.{Chars, Deeds, Grid};
 ghost use Rattle.atspi_forest.specs.Forest.{nil, tree};
 ghost use Rattle.atspi_protocol.specs.whole.Cases.{kept, plain, shape, small};
-ghost use Rattle.atspi_protocol.specs.whole.Whole.{KnowsNo, as_actions, as_columns, as_text, faces_after, filled, whole, with_actions, with_columns, with_text};
+ghost use Rattle.atspi_protocol.specs.whole.Whole.{as_actions, as_columns, as_text, faces_after, filled, whole, with_actions, with_columns, with_text};
 
 use atspi_forest::Step;
 
@@ -29,13 +29,8 @@ pub fn absent()
     ensures new_actions { with_actions 3 [] empty ≡ empty }
 {}
 
-/// The faces know nothing of a node that none of them keeps, and something of one that one keeps; a removed node is gone from each.
-#[tactic(auto, using(std::specs::FinMap::gets))]
+/// A removed node is gone from the faces, and the others stay.
 pub fn known()
-    ensures nothing { KnowsNo kept 3 }
-    ensures text { KnowsNo kept 1 → ⊥ }
-    ensures columns { KnowsNo kept 2 → ⊥ }
-    ensures actions { KnowsNo kept 0 → ⊥ }
     ensures no_text { get (faces_after small (Step.Remove 1) kept).chars 1 ≡ None }
     ensures other_columns { get (faces_after small (Step.Remove 1) kept).grid 2 ≡ Some (Grid 2) }
     ensures no_actions { get (faces_after small (Step.Remove 0) kept).deeds 0 ≡ None }
