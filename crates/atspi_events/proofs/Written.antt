@@ -2,6 +2,7 @@
 use Rattle.std.proofs.Common.{◌≡◌, ℕ, ◌+◌, ◌<◌, List, [], ◌∷◌, ◌++◌, length, get_or, map, take, sym, ap, ◌∙◌, refl, append_assoc}
 use Rattle.std.proofs.lemmas.List.{append-nil, map-append, take_more}
 use Rattle.std.proofs.lemmas.Grind.{flat_map-append}
+use Rattle.std.specs.Fmt.{decimal}
 use Rattle.std.specs.List.{flat_map}
 use Rattle.std.specs.Prelude.{codes}
 use Rattle.atspi_base.specs.Quoted.{quoted}
@@ -9,6 +10,7 @@ use Rattle.atspi_lines.specs.Words.{Word, literal, quote}
 use Rattle.atspi_lines.specs.Forms.{action_clauses}
 use Rattle.atspi_events.specs.declared.shown.ShownRow.{ShownRow}
 use Rattle.atspi_events.specs.EventText.{ended}
+use Rattle.atspi_events.specs.Laws.{EventsShowRows}
 use Rattle.atspi_events.specs.Rows.{row_line}
 use Rattle.atspi_events.specs.Written.{word_behind, words_behind}
 
@@ -58,3 +60,12 @@ row_written rows i row initial out middle new within at before line feed =
     ∙ append_assoc initial done (ended (row_line row))
     ∙ ap (λ l. initial ++ (done ++ l)) (sym (append-nil (ended (row_line row))))
     ∙ ap (λ l. initial ++ l) (sym more)
+
+-- words of a line whose last one is a count, the line feed, and other lines
+behind_words : (a b c count feed lines : List ℕ) → (((a ++ (b ++ (c ++ (count ++ [])))) ++ []) ++ feed) ++ lines ≡ (a ++ (b ++ (c ++ []))) ++ ((count ++ feed) ++ lines)
+behind_words a b c count feed lines = simp (append_assoc, append-nil)
+
+-- the rows of an event of showing stand behind its names
+pub shown_behind_names : EventsShowRows
+shown_behind_names reader app rows =
+    behind_words (codes "show") (32 ∷ 114 ∷ decimal reader) (32 ∷ 97 ∷ decimal app) (32 ∷ decimal (length rows)) (10 ∷ []) (flat_map ended (map row_line rows))

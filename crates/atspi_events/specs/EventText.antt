@@ -6,7 +6,8 @@ use Rattle.atspi_script.specs.MessageText.{message_text}
 use Rattle.atspi_events.specs.declared.event.Event.{Event}
 use Rattle.atspi_events.specs.declared.event.Event.TheVariants.{Sent, Show}
 use Rattle.atspi_events.specs.Written.{words_text}
-use Rattle.atspi_events.specs.EventForms.{event_form}
+use Rattle.atspi_events.specs.declared.shown.ShownRow.{ShownRow}
+use Rattle.atspi_events.specs.EventForms.{count_text, event_form}
 use Rattle.atspi_events.specs.Rows.{row_line}
 
 -- a line ends with a line feed
@@ -30,3 +31,7 @@ row_lines _ = []
 -- the event's text
 abbrev pub event_text : Event → List ℕ
 event_text event = ended (event_line event) ++ flat_map ended (row_lines event)
+
+-- rows alone, as the text of an event of showing has them behind the names: how many there are, and a line of each
+abbrev pub rows_text : List ShownRow → List ℕ
+rows_text rows = ended (count_text (Some rows)) ++ flat_map ended (map row_line rows)

@@ -1,27 +1,13 @@
 //! The text of an event.
 
-ghost use Rattle.std.specs.Prelude.{◌≡◌, ◌++◌, OnOk, OnErr, length, map, take};
+ghost use Rattle.std.specs.Prelude.{◌≡◌, ◌++◌, OnOk, OnErr, length, take};
 ghost use Rattle.std.specs.List.{flat_map};
 ghost use Rattle.atspi_events.specs.EventText.{ended, event_text, row_lines};
-ghost use Rattle.atspi_events.specs.Rows.{row_line};
 
 use crate::event::Event;
 use crate::heads::put_line;
-use crate::rows::put_row;
-use crate::shown::ShownRow;
+use crate::listing::put_rows;
 use atspi_base::{Bytes, NoMemory};
-
-/// Appends the rows' lines, each with its line feed.
-fn put_rows(rows: &[ShownRow], out: &mut Bytes) -> Result<(), NoMemory>
-    ensures ok { OnOk result (out.new ≡ out.old ++ flat_map ended (map row_line rows.now)) }
-    ensures front { take (length out.old) out.new ≡ out.old }
-{
-    for row in rows {
-        put_row(row, out)?;
-        out.push(b'\n')?;
-    }
-    Ok(())
-}
 
 /// Appends the lines of the rows that an event shows.
 fn put_shown(event: &Event, out: &mut Bytes) -> Result<(), NoMemory>
