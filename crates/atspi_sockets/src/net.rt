@@ -232,6 +232,9 @@ impl<'a, R: Files + Net + Eprint> Host for NetHost<'a, R> {
             Ok(0) => Did::End,
             Ok(n) => {
                 self.ready.moves();
+                if n < most {
+                    self.ready.gave_all(link as usize);
+                }
                 Did::Done(n as u32)
             }
             Err(error) => match error.kind() {

@@ -23,6 +23,8 @@ pub(crate) struct Ready {
     events: Events<Global>,
     /// Those that may have something to read.
     readable: Vec<usize>,
+    /// Those whose peer sends no more, or that failed: what was sent before, and then the end, is still to be read.
+    ended: Vec<usize>,
     /// Those whose last write found no room.
     full: Vec<usize>,
 }
@@ -42,6 +44,7 @@ impl Ready {
             poll: Poll::new(net)?,
             events: Events::with_capacity(alloc, sockets)?,
             readable: Vec::with_capacity(alloc, sockets)?,
+            ended: Vec::with_capacity(alloc, sockets)?,
             full: Vec::with_capacity(alloc, sockets)?,
         })
     }
@@ -72,7 +75,11 @@ impl Ready {
             if event.is_writable() {
                 self.full.retain(|t| *t != token);
             }
-            if event.is_readable() || event.is_read_closed() || event.is_error() {
+            let ended = event.is_read_closed() || event.is_error();
+            if ended {
+                mark(&mut self.ended, token);
+            }
+            if ended || event.is_readable() {
                 mark(&mut self.readable, token);
             }
         }
@@ -104,6 +111,14 @@ impl Ready {
         self.readable.retain(|t| *t != token);
     }
 
+    /// The socket gave less than was asked for, so nothing is left in it, and the system tells when something comes. Not where its peer has ended: of
+    /// that the system tells no more.
+    pub(crate) fn gave_all(&mut self, token: usize) {
+        if !self.ended.contains(&token) {
+            self.found_nothing(token);
+        }
+    }
+
     /// The socket had no room.
     pub(crate) fn found_no_room(&mut self, token: usize) {
         mark(&mut self.full, token);
@@ -113,6 +128,7 @@ impl Ready {
     pub(crate) fn forget(&mut self, token: usize) {
         self.moved = true;
         self.readable.retain(|t| *t != token);
+        self.ended.retain(|t| *t != token);
         self.full.retain(|t| *t != token);
     }
 }
