@@ -1,10 +1,10 @@
 -- The laws of the conversation.
 use Rattle.std.proofs.Common.{◌≡◌, ℕ, ◌<◌, ◌==◌, true, false, cond, nat_lt, List, [], ◌∷◌, ◌++◌, length, refl, sym, ◌∙◌, ap, subst, arith, append_assoc, append-nil}
-use Rattle.std.specs.Prelude.{◌↔◌, fold, flat_map}
+use Rattle.std.specs.Prelude.{◌↔◌, None, fold, flat_map}
 use Rattle.std.specs.List.{AllByRecursion}
 use Rattle.atspi_auth.specs.Lines.{Lines, HasNoEnd, end_of_line, joined, lines_of, onto}
 use Rattle.atspi_auth.specs.Replies.{answer}
-use Rattle.atspi_auth.specs.Talk.{Heard, Standing, Stands, after, behind, client_start, ends, goes_on, heard, hears, hears_bytes, server_start, silent, told}
+use Rattle.atspi_auth.specs.Talk.{Heard, Standing, Stands, after, behind, client_start, ends, fault_in, goes_on, heard, hears, hears_bytes, server_start, silent, told}
 use Rattle.atspi_auth.specs.declared.fault.AuthFault.{AuthFault}
 use Rattle.atspi_auth.specs.declared.fault.AuthFault.TheVariants.{NoZero, TooLong}
 use Rattle.atspi_auth.specs.declared.reply.Waiting.{Waiting}
@@ -88,6 +88,40 @@ short_heard (Failed fault) line bytes = omega arith
 
 pub short_after : (now : Standing) (bytes : List ℕ) → length (after now bytes).line < 16384
 short_after now bytes = short_heard now.stage now.line bytes
+
+bare_goes_on : (reply : Reply) (later : Waiting → Heard) (behind : List ℕ) → ((next : Waiting) → ((later next).stage ≡ Over → ⊥) → (later next).behind ≡ [])
+    → ((goes_on reply later behind).stage ≡ Over → ⊥) → (goes_on reply later behind).behind ≡ []
+bare_goes_on (Say line next) later behind k h = k next h
+bare_goes_on (End line) later behind k h = absurd (h refl)
+bare_goes_on (Fail fault) later behind k h = refl
+
+bare_hears : (waiting : Waiting) (lines : List (List ℕ)) (rest : List ℕ) → ((hears waiting lines rest).stage ≡ Over → ⊥) → (hears waiting lines rest).behind ≡ []
+unfolding hears
+bare_hears waiting [] rest h =
+    elim (nat_lt (length rest) 16384) as (λ t. (cond t (silent (Waits waiting) rest) (silent (Failed TooLong) [])).behind ≡ []) [
+      | true ↦ refl
+      | false ↦ refl
+    ]
+bare_hears waiting (line ∷ lines) rest h =
+    bare_goes_on (answer waiting line) (λ next. hears next lines rest) (joined lines rest) (λ next. bare_hears next lines rest) h
+
+bare_heard : (stage : Stage) (line bytes : List ℕ) → ((heard stage line bytes).stage ≡ Over → ⊥) → (heard stage line bytes).behind ≡ []
+unfolding heard hears_bytes
+bare_heard Zero line [] h = refl
+bare_heard Zero line (b ∷ bytes) h =
+    elim (b == 0) as (λ t. ((cond t (hears_bytes ForAuth bytes) (silent (Failed NoZero) [])).stage ≡ Over → ⊥) → (cond t (hears_bytes ForAuth bytes) (silent (Failed NoZero) [])).behind ≡ []) [
+      | true ↦ bare_hears ForAuth (lines_of bytes).whole (lines_of bytes).rest
+      | false ↦ λ k. refl
+    ] h
+bare_heard (Waits waiting) line bytes h = bare_hears waiting (lines_of (line ++ bytes)).whole (lines_of (line ++ bytes)).rest h
+bare_heard Over line bytes h = absurd (h refl)
+bare_heard (Failed fault) line bytes h = refl
+
+pub behind_no_end : (now : Standing) (bytes : List ℕ) → ((after now bytes).stage ≡ Over → ⊥) → behind now bytes ≡ []
+behind_no_end now bytes h = bare_heard now.stage now.line bytes h
+
+pub behind_fault : (now : Standing) (bytes : List ℕ) → (fault_in (after now bytes).stage ≡ None → ⊥) → behind now bytes ≡ []
+behind_fault now bytes h = behind_no_end now bytes (λ e. h (ap fault_in e))
 
 -- a line and what follows
 lines_of-more : (line more : List ℕ) → HasNoEnd line

@@ -1,9 +1,9 @@
 //! Laws of the conversation. Each is the contract of a function that does nothing.
 
-ghost use Rattle.std.specs.Prelude.{◌≡◌, ◌<◌, ◌++◌, ◌↔◌, ℕ, List, [], flat_map, fold, length};
+ghost use Rattle.std.specs.Prelude.{◌≡◌, ◌<◌, ◌++◌, ◌↔◌, ℕ, List, [], None, flat_map, fold, length};
 ghost use Rattle.std.specs.List.{AllByRecursion};
 ghost use Rattle.atspi_auth.specs.Lines.{HasNoEnd, end_of_line, joined, lines_of};
-ghost use Rattle.atspi_auth.specs.Talk.{Standing, after, behind, client_start, server_start, told};
+ghost use Rattle.atspi_auth.specs.Talk.{Standing, after, behind, client_start, fault_in, server_start, told};
 ghost use Rattle.atspi_auth.specs.declared.fault.AuthFault.{AuthFault};
 ghost use Rattle.atspi_auth.specs.declared.stage.Stage.TheVariants.{Failed, Over};
 
@@ -22,6 +22,12 @@ pub fn no_way_back()
         → (after now bytes).stage ≡ Failed fault × ((told now bytes).said ≡ []) }
     ensures over { (now : Standing) (bytes : List ℕ) → now.stage ≡ Over → now.line ≡ []
         → (after now bytes).stage ≡ Over × ((told now bytes).said ≡ []) × (behind now bytes ≡ bytes) }
+{}
+
+/// Bytes stand behind the lines only once these are over, and so none do where the lines are at fault.
+pub fn nothing_behind_a_fault()
+    ensures over { (now : Standing) (bytes : List ℕ) → ((after now bytes).stage ≡ Over → ⊥) → behind now bytes ≡ [] }
+    ensures fault { (now : Standing) (bytes : List ℕ) → (fault_in (after now bytes).stage ≡ None → ⊥) → behind now bytes ≡ [] }
 {}
 
 /// Less than one line is held.

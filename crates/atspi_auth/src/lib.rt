@@ -15,6 +15,6 @@ mod talk;
 
 pub use client::Client;
 pub use fault::AuthFault;
-pub use laws::{any_cut, lines_are_unique, no_way_back, one_line};
+pub use laws::{any_cut, lines_are_unique, no_way_back, nothing_behind_a_fault, one_line};
 pub use said::AuthLine;
 pub use server::Server;
