@@ -2,6 +2,7 @@
 use Rattle.std.proofs.Common.{◌≡◌, ℕ, List, [], ◌∷◌, ◌++◌, length, Option, None, Some, refl, sym, ap, subst, ◌∙◌, append-nil, arith}
 use Rattle.std.proofs.lemmas.List.{length-append}
 use Rattle.atspi_auth.specs.Talk.{behind, client_start}
+use Rattle.atspi_auth.proofs.LawLemmas.{behind_fault}
 use Rattle.atspi_message.specs.Envelope.{Envelope}
 use Rattle.atspi_stream.specs.Stream.{IsParted}
 use Rattle.atspi_stream.specs.Stream as stream
@@ -19,20 +20,29 @@ use Rattle.atspi_conversation.specs.declared.ending.Ending.{Ending}
 use Rattle.atspi_conversation.specs.declared.ending.Ending.TheVariants as endings
 use Rattle.atspi_conversation.proofs.MovedLemmas.{read_tells}
 use Rattle.atspi_conversation.proofs.SentLemmas.{envelopes_both, parted_both}
+use Rattle.atspi_conversation.proofs.TalkLemmas.{at_fault, took_none}
 
 pub told_taken : (k : ℕ) (calls : Option (List Call)) (t g : List ℕ) (dids : List Did) → Tells k calls t g dids → IsTaken k calls t
 told_taken k None t g dids tells = tt
 told_taken k (Some cs) t g dids tells = tells.0
 
 -- a piece that could not be heard
-pub hear_left : {E : Type 0} (Stands : E → List Envelope → List Envelope → Type 0) (IsSpent : E → Envelope → Type 0) (t piece : List ℕ) (c : Conversation) (end : E) (ending : Ending) → HearsNot ending c.client piece → LeavesOff Stands IsSpent ending t end
-hear_left Stands IsSpent t piece c end endings.NotAuthenticated h = tt
-hear_left Stands IsSpent t piece c end endings.NoMemory h = tt
-hear_left Stands IsSpent t piece c end endings.RoundsDone h = absurd h
-hear_left Stands IsSpent t piece c end endings.PeerEnded h = absurd h
-hear_left Stands IsSpent t piece c end endings.HostFailed h = absurd h
-hear_left Stands IsSpent t piece c end (endings.Malformed start fault) h = absurd h
-hear_left Stands IsSpent t piece c end endings.Spent h = absurd h
+pub hear_left : {E : Type 0} (Stands : E → List Envelope → List Envelope → Type 0) (IsSpent : E → Envelope → Type 0) (t g piece : List ℕ) (c : Conversation) (end : E) (ending : Ending) → Converses Stands t g c end → HearsNot ending c.client piece
+    → LeavesOff Stands IsSpent ending (t ++ piece) end
+hear_left Stands IsSpent t g piece c end endings.NotAuthenticated v h = record {
+  messages = [];
+  rest = [];
+  parted = record { are = tt; parted = behind_fault client_start (t ++ piece) (at_fault t piece v.lines c.client v.client_stands h) };
+  said = v.said;
+  stands = took_none Stands t g piece c end v h;
+  stops = (refl, refl);
+}
+hear_left Stands IsSpent t g piece c end endings.NoMemory v h = tt
+hear_left Stands IsSpent t g piece c end endings.RoundsDone v h = absurd h
+hear_left Stands IsSpent t g piece c end endings.PeerEnded v h = absurd h
+hear_left Stands IsSpent t g piece c end endings.HostFailed v h = absurd h
+hear_left Stands IsSpent t g piece c end (endings.Malformed start fault) v h = absurd h
+hear_left Stands IsSpent t g piece c end endings.Spent v h = absurd h
 
 -- messages that could not all be told
 pub tell_left : {E : Type 0} (Stands : E → List Envelope → List Envelope → Type 0) (IsSpent : E → Envelope → Type 0) (t g : List ℕ) (c : Conversation) (old new : E) (ending : Ending) → Converses Stands t g c old → TellsNot Stands IsSpent ending c old new

@@ -5,7 +5,7 @@ use Rattle.atspi_host.specs.declared.call.Did.{Did}
 use Rattle.atspi_host.specs.declared.call.Call.{Call}
 use Rattle.atspi_host.specs.Calls.{taken, given}
 use Rattle.atspi_conversation.specs.Rounds.{AreRounds, Breaks, EndsBehind, IsRound, IsRun, IsWrite, WritesIfDue}
-use Rattle.atspi_conversation.specs.Speech.{Ends, EndsBy, IsAllGiven, IsSpeech, IsSpentBy, Speaks}
+use Rattle.atspi_conversation.specs.Speech.{Ends, EndsBy, IsAllGiven, IsInOrder, IsMalformed, IsRefused, IsSpeech, IsSpentBy, Speaks}
 use Rattle.atspi_conversation.specs.declared.ending.Ending.{Ending}
 use Rattle.atspi_conversation.specs.declared.ending.Ending.TheVariants as endings
 
@@ -116,13 +116,41 @@ spent_seen Stands Stands' IsSpent IsSpent' see t f h s = record {
   spent = h s.end s.message s.spent;
 }
 
+order_seen : {E F : Type 0} (Stands : E → List Envelope → List Envelope → Type 0) (Stands' : F → List Envelope → List Envelope → Type 0) (see : E → F) (t : List ℕ) → Sees Stands Stands' see → IsInOrder Stands t → IsInOrder Stands' t
+order_seen Stands Stands' see t f s = record {
+  authenticated = s.authenticated;
+  messages = s.messages;
+  rest = s.rest;
+  parted = s.parted;
+  awaits = s.awaits;
+  end = see s.end;
+  said = s.said;
+  stands = f s.end _ s.said s.stands;
+}
+
+malformed_seen : {E F : Type 0} (Stands : E → List Envelope → List Envelope → Type 0) (Stands' : F → List Envelope → List Envelope → Type 0) (see : E → F) (t : List ℕ) (start place reason : ℕ) → Sees Stands Stands' see
+    → IsMalformed Stands t start place reason → IsMalformed Stands' t start place reason
+malformed_seen Stands Stands' see t start place reason f s = record {
+  messages = s.messages;
+  rest = s.rest;
+  parted = s.parted;
+  fault = s.fault;
+  before = s.before;
+  end = see s.end;
+  said = s.said;
+  stands = f s.end _ s.said s.stands;
+}
+
+refused_seen : {E F : Type 0} (Stands : E → List Envelope → List Envelope → Type 0) (Stands' : F → List Envelope → List Envelope → Type 0) (see : E → F) (t : List ℕ) → Sees Stands Stands' see → IsRefused Stands t → IsRefused Stands' t
+refused_seen Stands Stands' see t f s = record { at_fault = s.at_fault; end = see s.end; said = s.said; stands = f s.end _ s.said s.stands }
+
 ends_by_seen : {E F : Type 0} (Stands : E → List Envelope → List Envelope → Type 0) (Stands' : F → List Envelope → List Envelope → Type 0) (IsSpent : E → Envelope → Type 0) (IsSpent' : F → Envelope → Type 0) (see : E → F) (k rounds : ℕ) (ending : Ending) (cs : List Call)
     → Sees Stands Stands' see → ((end : E) (e : Envelope) → IsSpent end e → IsSpent' (see end) e) → EndsBy Stands IsSpent k ending rounds cs → EndsBy Stands' IsSpent' k ending rounds cs
-ends_by_seen Stands Stands' IsSpent IsSpent' see k rounds endings.RoundsDone cs f h e = e
-ends_by_seen Stands Stands' IsSpent IsSpent' see k rounds endings.PeerEnded cs f h e = e
-ends_by_seen Stands Stands' IsSpent IsSpent' see k rounds endings.HostFailed cs f h e = e
-ends_by_seen Stands Stands' IsSpent IsSpent' see k rounds endings.NotAuthenticated cs f h e = e
-ends_by_seen Stands Stands' IsSpent IsSpent' see k rounds (endings.Malformed start fault) cs f h e = e
+ends_by_seen Stands Stands' IsSpent IsSpent' see k rounds endings.RoundsDone cs f h e = (order_seen Stands Stands' see (taken k cs) f e.0, e.1, e.2)
+ends_by_seen Stands Stands' IsSpent IsSpent' see k rounds endings.PeerEnded cs f h e = (order_seen Stands Stands' see (taken k cs) f e.0, e.1)
+ends_by_seen Stands Stands' IsSpent IsSpent' see k rounds endings.HostFailed cs f h e = order_seen Stands Stands' see (taken k cs) f e
+ends_by_seen Stands Stands' IsSpent IsSpent' see k rounds endings.NotAuthenticated cs f h e = (refused_seen Stands Stands' see (taken k cs) f e.0, e.1)
+ends_by_seen Stands Stands' IsSpent IsSpent' see k rounds (endings.Malformed start fault) cs f h e = (malformed_seen Stands Stands' see (taken k cs) start fault.place fault.reason f e.0, e.1)
 ends_by_seen Stands Stands' IsSpent IsSpent' see k rounds endings.Spent cs f h e = (spent_seen Stands Stands' IsSpent IsSpent' see (taken k cs) f h e.0, e.1)
 ends_by_seen Stands Stands' IsSpent IsSpent' see k rounds endings.NoMemory cs f h e = tt
 

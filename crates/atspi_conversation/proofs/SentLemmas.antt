@@ -162,3 +162,12 @@ pub shorter : (e : Envelope) (bytes old new : List ℕ) → IsMessage e bytes �
 shorter e bytes old new is split =
     let states = message_states e bytes is in
     omega (arith, states.long, ap (λ (w : List ℕ). length w) split, length-append bytes new)
+
+-- no message stands in no bytes
+pub none_parted : (bytes rest : List ℕ) (messages : List (Envelope × List ℕ)) → bytes ≡ [] → IsParted bytes messages rest → messages ≡ []
+none_parted bytes rest [] none p = refl
+none_parted bytes rest (m ∷ messages) none p =
+    absurd (too_long (shorter m.0 m.1 [] (stream.bytes_of messages ++ rest) p.are.0 (sym none ∙ p.parted ∙ append_assoc m.1 (stream.bytes_of messages) rest)))
+  where
+    too_long : length (stream.bytes_of messages ++ rest) < 0 → ⊥
+    too_long h = omega (arith, h)

@@ -95,8 +95,8 @@ speech_at Stands k (Some cs) t g dids tells s =
 -- why what was taken ended the run
 ends_by : {E : Type 0} (Stands : E → List Envelope → List Envelope → Type 0) (IsSpent : E → Envelope → Type 0) (k rounds : ℕ) (cs : List Call) (t : List ℕ) (dids : List Did) (ending : Ending)
     → taken k cs ≡ t → reads k cs ≡ dids → AllGoOn dids → BreaksOff Stands IsSpent ending t → EndsBy Stands IsSpent k ending rounds cs
-ends_by Stands IsSpent k rounds cs t dids endings.NotAuthenticated e d a b = (subst (λ (w : List ℕ). IsRefused w) (sym e) b, subst AllGoOn (sym d) a)
-ends_by Stands IsSpent k rounds cs t dids (endings.Malformed start fault) e d a b = (subst (λ (w : List ℕ). IsMalformed w start fault.place fault.reason) (sym e) b, subst AllGoOn (sym d) a)
+ends_by Stands IsSpent k rounds cs t dids endings.NotAuthenticated e d a b = (subst (λ (w : List ℕ). IsRefused Stands w) (sym e) b, subst AllGoOn (sym d) a)
+ends_by Stands IsSpent k rounds cs t dids (endings.Malformed start fault) e d a b = (subst (λ (w : List ℕ). IsMalformed Stands w start fault.place fault.reason) (sym e) b, subst AllGoOn (sym d) a)
 ends_by Stands IsSpent k rounds cs t dids endings.Spent e d a b = (subst (λ (w : List ℕ). IsSpentBy Stands IsSpent w) (sym e) b, subst AllGoOn (sym d) a)
 ends_by Stands IsSpent k rounds cs t dids endings.NoMemory e d a b = tt
 ends_by Stands IsSpent k rounds cs t dids endings.RoundsDone e d a b = absurd b
@@ -154,7 +154,7 @@ peer_ended Stands IsSpent k n rounds calls calls' c end a w = by calls' (subst (
     by None tells = (tt, tt)
     by (Some cs) tells = (
       speech_at Stands k (Some cs) w.t w.g (w.dids ++ End ∷ []) tells (speech_of Stands w.t w.g c end w.at_ease.converses),
-      (subst (λ (x : List ℕ). IsInOrder x) (sym tells.0) (in_order Stands w.t w.g c end w.at_ease), (w.dids, tells.2, w.go_on)),
+      (subst (λ (x : List ℕ). IsInOrder Stands x) (sym tells.0) (in_order Stands w.t w.g c end w.at_ease), (w.dids, tells.2, w.go_on)),
     )
 
 -- a host that failed, with these bytes taken and given
@@ -162,7 +162,7 @@ failed_at : {E : Type 0} (Stands : E → List Envelope → List Envelope → Typ
     → Tells k calls t g dids → IsAtEase Stands t g c end → IsEnded Stands IsSpent k endings.HostFailed rounds calls
 failed_at Stands IsSpent k rounds None t g dids c end tells a = (tt, tt)
 failed_at Stands IsSpent k rounds (Some cs) t g dids c end tells a =
-    (speech_at Stands k (Some cs) t g dids tells (speech_of Stands t g c end a.converses), subst (λ (x : List ℕ). IsInOrder x) (sym tells.0) (in_order Stands t g c end a))
+    (speech_at Stands k (Some cs) t g dids tells (speech_of Stands t g c end a.converses), subst (λ (x : List ℕ). IsInOrder Stands x) (sym tells.0) (in_order Stands t g c end a))
 
 -- a read that failed
 pub read_failed : {E : Type 0} (Stands : E → List Envelope → List Envelope → Type 0) (IsSpent : E → Envelope → Type 0) (k n rounds : ℕ) (calls calls' : Option (List Call)) (c : Conversation) (end : E)
@@ -228,7 +228,7 @@ all_done Stands IsSpent k n rounds calls c end e w = by calls w.tells
     by (Some cs) tells = (
       speech_at Stands k (Some cs) w.t w.g w.dids tells (speech_of Stands w.t w.g c end w.at_ease.converses),
       (
-        subst (λ (x : List ℕ). IsInOrder x) (sym tells.0) (in_order Stands w.t w.g c end w.at_ease),
+        subst (λ (x : List ℕ). IsInOrder Stands x) (sym tells.0) (in_order Stands w.t w.g c end w.at_ease),
         subst AllGoOn (sym tells.2) w.go_on,
         ap (λ (x : List Did). length x) tells.2 ∙ w.counted ∙ e,
       ),

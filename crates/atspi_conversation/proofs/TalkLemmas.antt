@@ -1,11 +1,11 @@
 -- A conversation that goes on keeps what is known of it, and what was given in it is a front of what is said for what was taken.
-use Rattle.std.proofs.Common.{◌≡◌, ℕ, ◌+◌, ◌-◌, List, [], ◌++◌, length, None, Some, refl, sym, ap, subst, ◌∙◌, inl, inr, append_assoc, append-nil, arith, lit<}
+use Rattle.std.proofs.Common.{◌≡◌, ℕ, ◌+◌, ◌-◌, List, [], ◌∷◌, ◌++◌, length, None, Some, refl, sym, ap, subst, ◌∙◌, inl, inr, append_assoc, append-nil, arith, lit<}
 use Rattle.std.proofs.lemmas.List.{length-append}
 use Rattle.atspi_auth.specs.Talk.{Heard, Standing, Stands, after, behind, client_start, fault_in, told}
 use Rattle.atspi_auth.specs.declared.said.AuthLine.{AuthLine}
 use Rattle.atspi_auth.specs.declared.stage.Stage.{Stage}
 use Rattle.atspi_auth.specs.declared.stage.Stage.TheVariants.{Over}
-use Rattle.atspi_auth.proofs.LawLemmas.{client_stands}
+use Rattle.atspi_auth.proofs.LawLemmas.{behind_fault, client_stands}
 use Rattle.atspi_auth.proofs.WholeLemmas.{after-append, behind-append, continues}
 use Rattle.atspi_types.specs.declared.fault.Fault.{Fault}
 use Rattle.atspi_message.specs.Envelope.{Envelope}
@@ -16,7 +16,7 @@ use Rattle.atspi_conversation.specs.Sent.{AreSent}
 use Rattle.atspi_conversation.specs.Speech.{IsSpeech, IsInOrder, IsMalformed, IsRefused, IsSpentBy, envelopes, line_bytes, lines_for}
 use Rattle.atspi_conversation.specs.Talking.{Converses, IsAtEase, Attends, AttendsAll, AttendsToSpent, Says}
 use Rattle.atspi_conversation.specs.declared.conversation.Conversation.{Conversation}
-use Rattle.atspi_conversation.proofs.SentLemmas.{sent_more, envelopes_both, parted_both}
+use Rattle.atspi_conversation.proofs.SentLemmas.{sent_more, envelopes_both, none_parted, parted_both}
 use Rattle.atspi_conversation.proofs.LineLemmas.{line_bytes_both, none_behind, over_goes_on}
 
 -- a client that heard these bytes: its stage, and the lines that it said and has to say
@@ -261,18 +261,21 @@ given_on Stands' t g part c c' end v rest client feeder heard = record {
 }
 
 -- nothing of what was taken is at fault
-pub in_order : {E : Type 0} (Stands' : E → List Envelope → List Envelope → Type 0) (t g : List ℕ) (c : Conversation) (end : E) → IsAtEase Stands' t g c end → IsInOrder t
+pub in_order : {E : Type 0} (Stands' : E → List Envelope → List Envelope → Type 0) (t g : List ℕ) (c : Conversation) (end : E) → IsAtEase Stands' t g c end → IsInOrder Stands' t
 in_order Stands' t g c end a = record {
   authenticated = ap (λ (s : Stage). fault_in s) (sym (stage_after t a.converses.lines c.client a.converses.client_stands)) ∙ a.authenticated;
   messages = a.converses.messages;
   rest = c.feeder;
   parted = a.converses.parted;
   awaits = a.awaits;
+  end = end;
+  said = a.converses.said;
+  stands = a.converses.end_stands;
 }
 
 -- a message is at fault
 pub malformed : {E : Type 0} (Stands' : E → List Envelope → List Envelope → Type 0) (t g held : List ℕ) (start : ℕ) (f : Fault) (c : Conversation) (end end' : E) → Converses Stands' t g c end
-    → AttendsAll Stands' (Some f) c.feeder held end end' → start ≡ c.heard - length held → IsMalformed t start f.place f.reason
+    → AttendsAll Stands' (Some f) c.feeder held end end' → start ≡ c.heard - length held → IsMalformed Stands' t start f.place f.reason
 malformed Stands' t g held start f c end end' v a s =
     let ms : List (Envelope × List ℕ) = v.messages ++ a.attends.messages in
     let p : IsParted (behind client_start t) ms held = parted_both (behind client_start t) c.feeder held v.messages a.attends.messages v.parted a.attends.parted in
@@ -282,6 +285,9 @@ malformed Stands' t g held start f c end end' v a s =
       parted = p;
       fault = a.ends;
       before = omega (arith, s, v.heard, ap (λ (w : List ℕ). length w) p.parted, length-append (stream.bytes_of ms) held);
+      end = end';
+      said = v.said;
+      stands = subst (λ (w : List Envelope). Stands' end' w v.said) (sym (envelopes_both v.messages a.attends.messages)) (a.attends.took (envelopes v.messages) v.said v.end_stands);
     }
 
 -- the end's messages are spent
@@ -301,10 +307,31 @@ spent Stands' IsSpent t g c end end' v a = record {
 }
 
 -- the lines of authentication are at fault
+pub at_fault : (t piece : List ℕ) (lines : List AuthLine) (now : Standing) → Stands client_start t lines now → (fault_in (told now piece).stage ≡ None → ⊥) → fault_in (after client_start (t ++ piece)).stage ≡ None → ⊥
+at_fault t piece lines now s faulty e =
+    faulty (ap (λ (h : Heard). fault_in h.stage) (told_same t piece lines now s) ∙ ap (λ (s : Stage). fault_in s) (stage_more t piece) ∙ e)
+
+front_none : (xs ys : List ℕ) → xs ++ ys ≡ [] → xs ≡ []
+front_none [] ys e = refl
+front_none (x ∷ xs) ys e = absurd cc
+
+-- no byte stood behind them, and so the end took no message
+pub took_none : {E : Type 0} (Stands' : E → List Envelope → List Envelope → Type 0) (t g piece : List ℕ) (c : Conversation) (end : E) (v : Converses Stands' t g c end)
+    → (fault_in (told c.client piece).stage ≡ None → ⊥) → Stands' end [] v.said
+took_none Stands' t g piece c end v faulty =
+    let bare : behind client_start t ++ behind (after client_start t) piece ≡ [] =
+    sym (behind-append client_start t piece) ∙ behind_fault client_start (t ++ piece) (at_fault t piece v.lines c.client v.client_stands faulty) in
+    let none : v.messages ≡ [] = none_parted (behind client_start t) c.feeder v.messages (front_none (behind client_start t) (behind (after client_start t) piece) bare) v.parted in
+    subst (λ (ms : List (Envelope × List ℕ)). Stands' end (envelopes ms) v.said) none v.end_stands
+
 pub refused : {E : Type 0} (Stands' : E → List Envelope → List Envelope → Type 0) (t g piece : List ℕ) (c : Conversation) (end : E) → Converses Stands' t g c end
-    → (fault_in (told c.client piece).stage ≡ None → ⊥) → IsRefused (t ++ piece)
-refused Stands' t g piece c end v faulty e =
-    faulty (ap (λ (h : Heard). fault_in h.stage) (told_same t piece v.lines c.client v.client_stands) ∙ ap (λ (s : Stage). fault_in s) (stage_more t piece) ∙ e)
+    → (fault_in (told c.client piece).stage ≡ None → ⊥) → IsRefused Stands' (t ++ piece)
+refused Stands' t g piece c end v faulty = record {
+  at_fault = at_fault t piece v.lines c.client v.client_stands faulty;
+  end = end;
+  said = v.said;
+  stands = took_none Stands' t g piece c end v faulty;
+}
 
 -- at the beginning
 pub begins : {E : Type 0} (Stands' : E → List Envelope → List Envelope → Type 0) (c : Conversation) (end : E) → c.client ≡ client_start → c.feeder ≡ [] → c.unsent ≡ [] → c.heard ≡ 0 → Stands' end [] []

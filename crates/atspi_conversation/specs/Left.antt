@@ -1,5 +1,5 @@
 -- How an end stands where a run of it is over: which messages it took, and what stands behind them.
-use Rattle.std.specs.Prelude.{◌≡◌, ℕ, List, ◌++◌, length, Option, None, Some, ⊤}
+use Rattle.std.specs.Prelude.{◌≡◌, ℕ, List, [], ◌++◌, length, Option, None, Some, ⊤}
 use Rattle.atspi_auth.specs.Talk.{behind, client_start}
 use Rattle.atspi_message.specs.Envelope.{Envelope}
 use Rattle.atspi_message.specs.Bytes.{IsMessage}
@@ -27,11 +27,12 @@ pub record HasSpent {E : Type 0} (Stands : E → List Envelope → List Envelope
   pub stands : Stands end took said
   pub spent : IsSpent end message
 
--- What stands behind the messages that an end took, by why the run was over: one at fault, one for which its own would pass the last number;
--- or else no whole one.
+-- What stands behind the messages that an end took, by why the run was over: one at fault, one for which its own would pass the last number; where
+-- lines of authentication were at fault, nothing, and it took none; or else no whole one.
 abbrev pub StopsAt : {E : Type 0} → (E → List Envelope → List Envelope → Type 0) → (E → Envelope → Type 0) → Ending → List (Envelope × List ℕ) → List Envelope → List ℕ → Type 0
 StopsAt Stands IsSpent (endings.Malformed start fault) messages said rest = HasFault rest fault.place fault.reason × (start ≡ length (stream.bytes_of messages))
 StopsAt Stands IsSpent endings.Spent messages said rest = HasSpent Stands IsSpent (envelopes messages) said rest
+StopsAt Stands IsSpent endings.NotAuthenticated messages said rest = (messages ≡ []) × (rest ≡ [])
 StopsAt Stands IsSpent ending messages said rest = AwaitsMore rest
 
 -- an end that took all messages at the front of the bytes taken, up to what ended the run
@@ -43,10 +44,9 @@ pub record LeftOff {E : Type 0} (Stands : E → List Envelope → List Envelope 
   pub stands : Stands end (envelopes messages) said
   pub stops : StopsAt Stands IsSpent ending messages said rest
 
--- nothing is said of an end after want of memory, nor where lines of authentication were at fault
+-- nothing is said of an end after want of memory
 abbrev pub LeavesOff : {E : Type 0} → (E → List Envelope → List Envelope → Type 0) → (E → Envelope → Type 0) → Ending → List ℕ → E → Type 0
 LeavesOff Stands IsSpent endings.NoMemory t end = ⊤
-LeavesOff Stands IsSpent endings.NotAuthenticated t end = ⊤
 LeavesOff Stands IsSpent ending t end = LeftOff Stands IsSpent ending t end
 
 -- the same of a run on a link

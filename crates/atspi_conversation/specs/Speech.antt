@@ -56,21 +56,27 @@ pub record IsAllGiven {E : Type 0} (Stands : E → List Envelope → List Envelo
   pub none_left : (after client_start t).stage ≡ Over → IsEmpty speech.end
   pub no_more : speech.more ≡ []
 
--- nothing of the bytes is at fault: authentication goes on or is over, and behind whole messages more is awaited
-pub record IsInOrder (t : List ℕ) : Type 0 where
+-- Nothing of the bytes is at fault: authentication goes on or is over, and the end took the whole messages, behind which more is awaited.
+pub record IsInOrder {E : Type 0} (Stands : E → List Envelope → List Envelope → Type 0) (t : List ℕ) : Type 0 where
   pub authenticated : fault_in (after client_start t).stage ≡ None
   pub messages : List (Envelope × List ℕ)
   pub rest : List ℕ
   pub parted : IsParted (behind client_start t) messages rest
   pub awaits : AwaitsMore rest
+  pub end : E
+  pub said : List Envelope
+  pub stands : Stands end (envelopes messages) said
 
--- behind whole messages one is at fault; so many bytes stand before it
-pub record IsMalformed (t : List ℕ) (start place reason : ℕ) : Type 0 where
+-- the end took whole messages, and the one behind them is at fault; so many bytes stand before it
+pub record IsMalformed {E : Type 0} (Stands : E → List Envelope → List Envelope → Type 0) (t : List ℕ) (start place reason : ℕ) : Type 0 where
   pub messages : List (Envelope × List ℕ)
   pub rest : List ℕ
   pub parted : IsParted (behind client_start t) messages rest
   pub fault : HasFault rest place reason
   pub before : start ≡ length (stream.bytes_of messages)
+  pub end : E
+  pub said : List Envelope
+  pub stands : Stands end (envelopes messages) said
 
 -- the end took the messages before one, which would take its own past the last number
 pub record IsSpentBy {E : Type 0} (Stands : E → List Envelope → List Envelope → Type 0) (IsSpent : E → Envelope → Type 0) (t : List ℕ) : Type 0 where
@@ -85,18 +91,21 @@ pub record IsSpentBy {E : Type 0} (Stands : E → List Envelope → List Envelop
   pub stands : Stands end (envelopes messages) said
   pub spent : IsSpent end message
 
--- the lines of authentication that were taken are at fault
-abbrev pub IsRefused : List ℕ → Type 0
-IsRefused t = fault_in (after client_start t).stage ≡ None → ⊥
+-- the lines of authentication that were taken are at fault, and the end took no message
+pub record IsRefused {E : Type 0} (Stands : E → List Envelope → List Envelope → Type 0) (t : List ℕ) : Type 0 where
+  pub at_fault : fault_in (after client_start t).stage ≡ None → ⊥
+  pub end : E
+  pub said : List Envelope
+  pub stands : Stands end [] said
 
 -- how a run ended, by the bytes that were taken and the answers of the reads
 abbrev pub EndsBy : {E : Type 0} → (E → List Envelope → List Envelope → Type 0) → (E → Envelope → Type 0) → ℕ → Ending → ℕ → List Call → Type 0
-EndsBy Stands IsSpent k endings.RoundsDone rounds cs = IsInOrder (taken k cs) × AllGoOn (reads k cs) × (length (reads k cs) ≡ rounds)
+EndsBy Stands IsSpent k endings.RoundsDone rounds cs = IsInOrder Stands (taken k cs) × AllGoOn (reads k cs) × (length (reads k cs) ≡ rounds)
 EndsBy Stands IsSpent k endings.PeerEnded rounds cs =
-    IsInOrder (taken k cs) × ((before : List _) × (reads k cs ≡ before ++ End ∷ []) × AllGoOn before)
-EndsBy Stands IsSpent k endings.HostFailed rounds cs = IsInOrder (taken k cs)
-EndsBy Stands IsSpent k endings.NotAuthenticated rounds cs = IsRefused (taken k cs) × AllGoOn (reads k cs)
-EndsBy Stands IsSpent k (endings.Malformed start fault) rounds cs = IsMalformed (taken k cs) start fault.place fault.reason × AllGoOn (reads k cs)
+    IsInOrder Stands (taken k cs) × ((before : List _) × (reads k cs ≡ before ++ End ∷ []) × AllGoOn before)
+EndsBy Stands IsSpent k endings.HostFailed rounds cs = IsInOrder Stands (taken k cs)
+EndsBy Stands IsSpent k endings.NotAuthenticated rounds cs = IsRefused Stands (taken k cs) × AllGoOn (reads k cs)
+EndsBy Stands IsSpent k (endings.Malformed start fault) rounds cs = IsMalformed Stands (taken k cs) start fault.place fault.reason × AllGoOn (reads k cs)
 EndsBy Stands IsSpent k endings.Spent rounds cs = IsSpentBy Stands IsSpent (taken k cs) × AllGoOn (reads k cs)
 EndsBy Stands IsSpent k endings.NoMemory rounds cs = ⊤
 

@@ -140,8 +140,8 @@ MakesNext Stands k old new c end P = (n : ℕ) (going : Going Stands k old n c e
 
 -- why what was taken ends the run
 abbrev pub BreaksOff : {E : Type 0} → (E → List Envelope → List Envelope → Type 0) → (E → Envelope → Type 0) → Ending → List ℕ → Type 0
-BreaksOff Stands IsSpent endings.NotAuthenticated t = IsRefused t
-BreaksOff Stands IsSpent (endings.Malformed start fault) t = IsMalformed t start fault.place fault.reason
+BreaksOff Stands IsSpent endings.NotAuthenticated t = IsRefused Stands t
+BreaksOff Stands IsSpent (endings.Malformed start fault) t = IsMalformed Stands t start fault.place fault.reason
 BreaksOff Stands IsSpent endings.Spent t = IsSpentBy Stands IsSpent t
 BreaksOff Stands IsSpent endings.NoMemory t = ⊤
 BreaksOff Stands IsSpent endings.RoundsDone t = ⊥

@@ -82,7 +82,7 @@ fn give<H: Host>(host: &mut H, link: u32, unsent: &mut Unsent) -> Result<(), Fai
 
 /// One round of a conversation: one read of at most as many bytes as the piece has room for, the end takes each message that is then whole,
 /// and exactly where not all is given that is due, one write of the next 1 to 4,096 bytes. Where the run is over in it, the end took each
-/// message before what ended the run, and what it queued for these stays queued.
+/// message before what ended the run, none where the peer did not authenticate, and what it queued for these stays queued.
 pub fn round<H: Host, E: BusEnd>(
     host: &mut H,
     link: u32,
@@ -129,7 +129,7 @@ pub fn round<H: Host, E: BusEnd>(
 /// exactly where not all is given that is due for the bytes taken, one write of the next 1 to 4,096 bytes; a message that passes the limits of the wire is left out.
 ///
 /// `RoundsDone` where all rounds were done, `PeerEnded` where a read found the link's end, `HostFailed` where a read or a write
-/// failed, `NotAuthenticated`, `Malformed` and `Spent` by the bytes that were taken; a message before the malformed one, and one
+/// failed, `NotAuthenticated`, `Malformed` and `Spent` by the bytes that were taken; each message before the malformed one, and each
 /// before the one that the end can't answer any more, was taken.
 pub fn converse<H: Host, E: BusEnd>(
     alloc: Global,

@@ -14,3 +14,19 @@ IsDone n = n ≡ 0
 -- the first line of a client
 abbrev pub hail : List ℕ
 hail = 0 ∷ codes "AUTH EXTERNAL" ++ end_of_line
+
+-- an end that took just this message
+abbrev pub Took : Envelope → ℕ → List Envelope → List Envelope → Type 0
+Took e n took said = (took ≡ e ∷ []) × (said ≡ [])
+
+-- no message takes its own past the last number
+abbrev pub IsNeverSpent : ℕ → Envelope → Type 0
+IsNeverSpent n e = ⊥
+
+-- the lines of a server that lets a client in
+abbrev pub granted : List ℕ
+granted = codes "DATA" ++ (end_of_line ++ (codes "OK 61747370693200000000000000000001" ++ end_of_line))
+
+-- the line of one that does not
+abbrev pub rejected : List ℕ
+rejected = codes "REJECTED EXTERNAL" ++ end_of_line

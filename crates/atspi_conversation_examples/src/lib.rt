@@ -3,7 +3,9 @@
 #![tactic(auto)]
 
 mod cases;
+mod ends;
 mod rounds;
 
 pub use cases::{answers_of_reads, bytes_of_lines, is_over, lines, sent};
+pub use ends::{bytes_at_fault, bytes_in_order, ended_runs, ends_left_off, lines_at_fault};
 pub use rounds::{runs, single_rounds};

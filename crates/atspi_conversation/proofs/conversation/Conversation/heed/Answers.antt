@@ -36,7 +36,7 @@ returns-clause-own g c = if_err c.tell.result _ _ (λ ending b. tells_own (g.E.B
 
 pub returns-in-Err-clause-left : goal.returns-in-Err-clause-left
 returns-in-Err-clause-left g c aside t h a =
-    hear_left (g.E.BusEnd.Stands aside) g.E.BusEnd.IsSpent _ c.args.piece.now c.args.self.now c.args.end.now c.in-Err.ending c.in-Err.ensures.err
+    hear_left (g.E.BusEnd.Stands aside) g.E.BusEnd.IsSpent t h c.args.piece.now c.args.self.now c.args.end.now c.in-Err.ending a.converses c.in-Err.ensures.err
 
 pub returns-clause-left : goal.returns-clause-left
 returns-clause-left g c =
