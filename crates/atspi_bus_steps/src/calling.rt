@@ -45,7 +45,7 @@ pub fn greeting(alloc: Global, name: &BusName, m: &MessageRef) -> Result<Vec<Mes
 
 impl Inner {
     /// Hello: the connection gets its unique name.
-    pub fn greet(&mut self, conn: u32, m: &MessageRef) -> Result<(), BusFault>
+    pub(crate) fn greet(&mut self, conn: u32, m: &MessageRef) -> Result<(), BusFault>
         requires sound { IsSound (state_of self.old) }
         requires meets { MeetsRules (envelope_at m.now) }
         requires unnamed { finmap.get (state_of self.old).owners.unique conn ≡ None }
@@ -81,7 +81,7 @@ impl Inner {
     }
 
     /// A call to the bus: of one of its members, or refused.
-    pub fn call(&mut self, conn: u32, m: &MessageRef) -> Result<(), BusFault>
+    pub(crate) fn call(&mut self, conn: u32, m: &MessageRef) -> Result<(), BusFault>
         requires sound { IsSound (state_of self.old) }
         requires meets { MeetsRules (envelope_at m.now) }
         ensures ok { OnOk result ((rule : Option (List Condition)) × IsRuleOf (envelope_at m.now) rule

@@ -39,6 +39,13 @@ impl Inner {
         }
     }
 
+    /// The bus is given up: it is one of quota 0, to which nobody has joined.
+    pub(crate) fn give_up(&mut self)
+        ensures { inner_of self.new ≡ empty_bus 0 }
+    {
+        *self = Inner::new(self.alloc, 0);
+    }
+
     /// An equal bus. It fails only for want of memory.
     pub fn copy(&self) -> Result<Inner, NoMemory>
         ensures { IfOk result (λ copy. inner_of copy ≡ inner_of self.now) }

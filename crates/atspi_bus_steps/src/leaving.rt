@@ -121,8 +121,8 @@ impl Inner {
         self.say(told)
     }
 
-    /// A connection leaves. Nobody is told of one without a unique name.
-    pub fn leave(&mut self, conn: u32) -> Result<(), BusFault>
+    /// A connection leaves. Nobody is told of one without a unique name. After a fault nothing is known of the bus.
+    pub(crate) fn leave(&mut self, conn: u32) -> Result<(), BusFault>
         requires sound { IsSound (state_of self.old) }
         ensures ok { OnOk result (inner_of self.new ≡ queues.left (inner_of self.old) conn) }
         ensures sound { OnOk result (IsSound (state_of self.new)) }
@@ -152,8 +152,8 @@ impl Inner {
         self.leave(conn)
     }
 
-    /// Closes those that are to be closed, the first cause first, at most so many.
-    pub fn settle(&mut self, rounds: usize) -> Result<(), BusFault>
+    /// Closes those that are to be closed, the first cause first, at most so many. After a fault nothing is known of the bus.
+    fn close_due(&mut self, rounds: usize) -> Result<(), BusFault>
         requires sound { IsSound (state_of self.old) }
         ensures ok { OnOk result (inner_of self.new ≡ queues.settled rounds (inner_of self.old)) }
         ensures sound { OnOk result (IsSound (state_of self.new)) }
@@ -166,5 +166,23 @@ impl Inner {
             }
         }
         Ok(())
+    }
+
+    /// Closes those that are to be closed, the first cause first, at most so many. After a fault the bus is given up: it is one of quota 0, to which
+    /// nobody has joined.
+    pub fn settle(&mut self, rounds: usize) -> Result<(), BusFault>
+        requires sound { IsSound (state_of self.old) }
+        ensures ok { OnOk result (inner_of self.new ≡ queues.settled rounds (inner_of self.old)) }
+        ensures sound { OnOk result (IsSound (state_of self.new)) }
+        ensures spent { IsErrOf result BusFault.Spent → 4294967296 < (queues.settled rounds (inner_of self.old)).state.next }
+        ensures err { OnErr result (inner_of self.new ≡ queues.empty_bus 0) }
+    {
+        match self.close_due(rounds) {
+            Ok(()) => Ok(()),
+            Err(fault) => {
+                self.give_up();
+                Err(fault)
+            }
+        }
     }
 }

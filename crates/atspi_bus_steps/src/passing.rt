@@ -223,7 +223,7 @@ impl Inner {
     }
 
     /// Passes a message on that is not for the bus itself. A call to a name that nobody owns is refused, anything else to it is dropped.
-    pub fn pass_on(&mut self, conn: u32, m: &MessageRef) -> Result<(), BusFault>
+    pub(crate) fn pass_on(&mut self, conn: u32, m: &MessageRef) -> Result<(), BusFault>
         requires sound { IsSound (state_of self.old) }
         requires meets { MeetsRules (envelope_at m.now) }
         ensures ok { OnOk result (inner_of self.new ≡ stepped (inner_of self.old) (passes_on (state_of self.old) conn (envelope_at m.now))) }
@@ -241,7 +241,7 @@ impl Inner {
 
     /// Passes a message of a connection on in place, with its sender, where the connection has its name, the message goes to no name without an
     /// owner, and each receiver has room for it. It answers whether that is so. Where it is not, and after a fault, all is as before.
-    pub fn pass_in_place(&mut self, conn: u32, m: &MessageRef) -> Result<bool, BusFault>
+    pub(crate) fn pass_in_place(&mut self, conn: u32, m: &MessageRef) -> Result<bool, BusFault>
         requires sound { IsSound (state_of self.old) }
         requires meets { MeetsRules (envelope_at m.now) }
         ensures ok { IfOk result (λ went. MatchBool went

@@ -68,7 +68,7 @@ impl Inner {
     }
 
     /// Says messages, with the next numbers. `Spent` only where they would pass the last.
-    pub fn say(&mut self, told: Vec<Message>) -> Result<(), BusFault>
+    pub(crate) fn say(&mut self, told: Vec<Message>) -> Result<(), BusFault>
         requires ready { IsReady (state_of self.old) }
         requires sayable { All MaySay (map envelope_of told.items) }
         ensures ok { OnOk result (inner_of self.new ≡ stepped (inner_of self.old) (speaks (state_of self.old) (map envelope_of told.items))) }
@@ -94,7 +94,7 @@ impl Inner {
     }
 
     /// Says what is told, and behind it the reply to a call, where one is expected.
-    pub fn conclude(
+    pub(crate) fn conclude(
         &mut self,
         conn: u32,
         m: &MessageRef,

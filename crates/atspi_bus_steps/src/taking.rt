@@ -128,8 +128,8 @@ impl Inner {
         self.take_named(conn, &with_sender(m, name))
     }
 
-    /// What a bus does with a message, apart from the closings that it brings, which `settle` makes. After a fault it is a bus of which nothing is known.
-    pub fn step(&mut self, conn: u32, m: &MessageRef) -> Result<(), BusFault>
+    /// What a bus does with a message, apart from the closings that it brings. After a fault nothing is known of it.
+    fn make_step(&mut self, conn: u32, m: &MessageRef) -> Result<(), BusFault>
         requires sound { IsSound (state_of self.old) }
         requires meets { MeetsRules (envelope_at m.now) }
         ensures ok { OnOk result ((rule : Option (List Condition)) × IsRuleTaken (state_of self.old) conn (envelope_at m.now) rule
@@ -149,6 +149,27 @@ impl Inner {
                 } else {
                     Ok(self.queues.doom(conn, Why::NotHello)?)
                 }
+            }
+        }
+    }
+
+    /// What a bus does with a message, apart from the closings that it brings, which `settle` makes. After a fault the bus is given up: it is one of
+    /// quota 0, to which nobody has joined.
+    pub fn step(&mut self, conn: u32, m: &MessageRef) -> Result<(), BusFault>
+        requires sound { IsSound (state_of self.old) }
+        requires meets { MeetsRules (envelope_at m.now) }
+        ensures ok { OnOk result ((rule : Option (List Condition)) × IsRuleTaken (state_of self.old) conn (envelope_at m.now) rule
+            × (inner_of self.new ≡ stepped (inner_of self.old) (steps.bus_takes (state_of self.old) conn (envelope_at m.now) rule))) }
+        ensures sound { OnOk result (IsSound (state_of self.new)) }
+        ensures spent { IsErrOf result BusFault.Spent → (rule : Option (List Condition)) × IsRuleTaken (state_of self.old) conn (envelope_at m.now) rule
+            × (4294967296 < (steps.bus_takes (state_of self.old) conn (envelope_at m.now) rule).state.next) }
+        ensures err { OnErr result (inner_of self.new ≡ queues.empty_bus 0) }
+    {
+        match self.make_step(conn, m) {
+            Ok(()) => Ok(()),
+            Err(fault) => {
+                self.give_up();
+                Err(fault)
             }
         }
     }
@@ -175,7 +196,7 @@ impl Inner {
         self.pass_in_place(conn, m)
     }
 
-    /// The bus takes a message of a connection. After a fault it is a bus of which nothing is known.
+    /// The bus takes a message of a connection. After a fault the bus is given up: it is one of quota 0, to which nobody has joined.
     pub fn take(&mut self, conn: u32, m: &MessageRef) -> Result<(), BusFault>
         requires sound { IsSound (state_of self.old) }
         requires meets { MeetsRules (envelope_at m.now) }
@@ -184,6 +205,7 @@ impl Inner {
         ensures sound { OnOk result (IsSound (state_of self.new)) }
         ensures spent { IsErrOf result BusFault.Spent → (rule : Option (List Condition)) × IsRuleTaken (state_of self.old) conn (envelope_at m.now) rule
             × (4294967296 < (queues.takes (inner_of self.old) conn (envelope_at m.now) rule).state.next) }
+        ensures err { OnErr result (inner_of self.new ≡ queues.empty_bus 0) }
     {
         let rounds = self.joined.len();
         match self.step(conn, m) {
@@ -192,17 +214,21 @@ impl Inner {
         }
     }
 
-    /// A connection leaves by itself. After a fault the bus is one of which nothing is known.
+    /// A connection leaves by itself. After a fault the bus is given up: it is one of quota 0, to which nobody has joined.
     pub fn part_with(&mut self, conn: u32) -> Result<(), BusFault>
         requires sound { IsSound (state_of self.old) }
         ensures ok { OnOk result (inner_of self.new ≡ queues.leaves (inner_of self.old) conn) }
         ensures sound { OnOk result (IsSound (state_of self.new)) }
         ensures spent { IsErrOf result BusFault.Spent → 4294967296 < (queues.leaves (inner_of self.old) conn).state.next }
+        ensures err { OnErr result (inner_of self.new ≡ queues.empty_bus 0) }
     {
         let rounds = self.joined.len();
         match self.leave(conn) {
             Ok(()) => self.settle(rounds),
-            Err(fault) => Err(fault),
+            Err(fault) => {
+                self.give_up();
+                Err(fault)
+            }
         }
     }
 }

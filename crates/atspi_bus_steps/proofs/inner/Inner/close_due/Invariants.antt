@@ -1,7 +1,7 @@
 use Rattle.atspi_bus_steps.specs.Inner.{inner_of, state_of}
 use Rattle.atspi_bus_steps.specs.Sound.{IsSound}
 use Rattle.atspi_bus_steps.proofs.Settling.{IsSettling}
-use Rattle.atspi_bus_steps.proofs.inner.Inner.settle.Given as goal
+use Rattle.atspi_bus_steps.proofs.inner.Inner.close_due.Given as goal
 
 abbrev pub invariant-loop-round : goal.invariant-loop-round
 invariant-loop-round l = record {

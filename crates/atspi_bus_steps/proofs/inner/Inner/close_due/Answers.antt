@@ -5,7 +5,7 @@ use Rattle.atspi_routing.specs.Queues.{settled}
 use Rattle.atspi_bus_steps.specs.Inner.{inner_of}
 use Rattle.atspi_bus_steps.specs.declared.fault.BusFault.TheVariants.{Spent}
 use Rattle.atspi_bus_steps.proofs.Settling.{settling-start, settling-next, settling-spent, settling-none}
-use Rattle.atspi_bus_steps.proofs.inner.Inner.settle.Goals as goal
+use Rattle.atspi_bus_steps.proofs.inner.Inner.close_due.Goals as goal
 
 pub loop-round-init : goal.loop-round-init
 loop-round-init c = record { settling = settling-start c.args.rounds (inner_of c.args.self.now); sound = c.requires.sound }
