@@ -1,6 +1,6 @@
 -- Bytes come down to an end: what lies at it then, and the world that bus, connections and ends are.
 use Rattle.std.proofs.Common.{◌≡◌, ◌≢◌, ◌⊎◌, inl, inr, ℕ, zero, suc, ◌+◌, ◌<◌, ◌≤◌, true, List, [], ◌∷◌, ◌++◌, length, map, take, drop, get_or, cond, Option, None, Some, refl, sym, ap, ◌∙◌, subst, append-nil, take-add, arith}
-use Rattle.std.specs.Prelude.{◌-◌, is_some, nat_le, slice_get, slice_set, Result, Ok, Err, IfOk}
+use Rattle.std.specs.Prelude.{◌-◌, is_some, nat_le, slice_get, slice_set, Result, Ok, Err, IfOk, OnErr}
 use Rattle.std.specs.Option.{option_map}
 use Rattle.std.specs.List.{AllByRecursion}
 use Rattle.std.specs.FinMap as finmap
@@ -28,7 +28,7 @@ use Rattle.atspi_carrying.specs.Carried.{post_of, AreSendable, HasMark, IsCarrie
 use Rattle.atspi_carrying.specs.Changes.{changed_at}
 use Rattle.atspi_carrying.specs.Told.{emptied}
 use Rattle.atspi_carrying.specs.Downs.{bytes_down, IsBegun, IsWaiting, Wait}
-use Rattle.atspi_carrying.specs.Filled.{waits_for, gave, IsFilled, IsFilledAt, FillsAt}
+use Rattle.atspi_carrying.specs.Filled.{waits_for, gave, IsFilled, IsFilledAt, IsGiven, FillsAt, GivesAt}
 use Rattle.atspi_carrying.specs.Linked.{given_of, IsLinked, IsWhole, IsStill, CameWhole, CameInPart, BringsDown}
 use Rattle.atspi_carrying.proofs.Beginning.{gave_none}
 use Rattle.atspi_carrying.proofs.Changes.{map-changed, map-changed_known, map-kept, get-map, set_same}
@@ -277,6 +277,29 @@ one_there (Ok count) b b' posts given conn most lay lies at few filled =
     brings_down b b' posts given (slice_set given conn lies) conn most count few
     (λ g there. record { now = lies; ends_are = refl; filled = subst (λ l. IsFilled b b' l lies conn most count) (at ∙ get_or_from_slice_get given conn g lay there) filled })
 one_there (Err fault) b b' posts given conn most lay lies at few filled = tt
+
+-- no byte came down
+pub none_given : (a b : Bus) (conn : ℕ) (g h : List ℕ) → b ≡ a → h ≡ g → IsGiven a b g h conn 0
+none_given a b conn g h bus same = record {
+  there = omega arith;
+  bus = bus ∙ sym (gave_none a conn);
+  put = same ∙ sym (append-nil g);
+}
+
+-- where memory was wanting some had come down, among what lies at all ends
+pub some_there : {F : Type 0} (r : Result ℕ F) (b b' : Bus) (given : List (List ℕ)) (conn : ℕ) (lay lies : List ℕ) → lay ≡ get_or given conn lay → OnErr r ((count : ℕ) × IsGiven b b' lay lies conn count)
+    → OnErr r (GivesAt b b' given (slice_set given conn lies) conn)
+some_there (Ok count) b b' given conn lay lies at gave_so = tt
+some_there (Err fault) b b' given conn lay lies at gave_so = λ g there. record {
+  count = gave_so.0;
+  now = lies;
+  ends_are = refl;
+  gives = subst (λ l. IsGiven b b' l lies conn gave_so.0) (at ∙ get_or_from_slice_get given conn g lay there) gave_so.1;
+}
+
+pub on_err_so : {T E P : Type 0} (r : Result T E) → P → OnErr r P
+on_err_so (Ok x) p = tt
+on_err_so (Err e) p = p
 
 -- the first message of a down link is spelled by its bytes
 pub letter_spelled : (w : World) (given : List (List ℕ)) (conn : ℕ) (e : End) (letter : Letter) (rest : List Letter) → IsLinked w given → end_at w.ends conn ≡ Some e → e.down ≡ letter ∷ rest

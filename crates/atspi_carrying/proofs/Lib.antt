@@ -11,6 +11,7 @@ pub mod Losing
 pub mod Lying
 pub mod OwnSerials
 pub mod OwnTold
+pub mod Rejoining
 pub mod Rounds
 pub mod RuleLemmas
 pub mod Senders

@@ -44,3 +44,13 @@ pub record IsFilledAt (before after : Bus) (ends ends' : List (List ℕ)) (conn 
 
 abbrev pub FillsAt : Bus → Bus → List (List ℕ) → List (List ℕ) → ℕ → ℕ → ℕ → Type 0
 FillsAt before after ends ends' conn most count = (given : List ℕ) → slice_get ends conn ≡ Some given → IsFilledAt before after ends ends' conn most count given
+
+-- some of the bytes that waited for a connection came down to the end with its number, among all, and none is lost
+pub record IsGivenAt (before after : Bus) (ends ends' : List (List ℕ)) (conn : ℕ) (given : List ℕ) : Type 0 where
+  pub count : ℕ
+  pub now : List ℕ
+  pub ends_are : ends' ≡ slice_set ends conn now
+  pub gives : IsGiven before after given now conn count
+
+abbrev pub GivesAt : Bus → Bus → List (List ℕ) → List (List ℕ) → ℕ → Type 0
+GivesAt before after ends ends' conn = (given : List ℕ) → slice_get ends conn ≡ Some given → IsGivenAt before after ends ends' conn given

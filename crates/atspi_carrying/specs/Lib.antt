@@ -4,6 +4,7 @@ pub mod Changes
 pub mod Downs
 pub mod Faults
 pub mod Filled
+pub mod GivenUp
 pub mod Halted
 pub mod Linked
 pub mod Moving

@@ -1,6 +1,6 @@
 //! Connections that leave, and what the bus tells of it.
 
-ghost use Rattle.std.specs.Prelude.{◌≡◌, ◌++◌, false, [], map, None, OnOk, IfOk, IsErrOf};
+ghost use Rattle.std.specs.Prelude.{◌≡◌, ◌++◌, false, [], map, None, OnOk, OnErr, IfOk, IsErrOf};
 ghost use Rattle.atspi_lines.specs.declared.line.Party.TheVariants as parties;
 ghost use Rattle.atspi_bus_steps.specs.Inner.{inner_of, state_of};
 ghost use Rattle.atspi_bus_steps.specs.Sound.{IsSound};
@@ -197,28 +197,30 @@ impl Carrier {
         Ok(())
     }
 
-    /// The end of a connection stops: what waits on its link to the bus is lost.
+    /// The end of a connection stops: what waits on its link to the bus is lost. After want of memory all is as before.
     pub fn exit(&mut self, conn: u32) -> Result<(), NoMemory>
         ensures bus { self.new.bus ≡ self.old.bus }
         ensures does { OnOk result ((w : World) (e : End) → IsCarried w (inner_of self.old.bus) self.old.posts.items → end_at w.ends conn ≡ Some e
             → IsDone (does w (exits conn)) (inner_of self.new.bus) self.new.posts.items self.old.trace.items self.new.trace.items) }
         ensures linked { OnOk result ((w : World) (e : End) → IsLinked w self.old.at_end.items → end_at w.ends conn ≡ Some e → e.standing ≡ here
             → same_party e.who parties.Registry ≡ false → IsLinked (does w (exits conn)).world self.new.at_end.items) }
+        ensures given { self.new.at_end.items ≡ self.old.at_end.items }
+        ensures err { OnErr result ((self.new.posts.items ≡ self.old.posts.items) × (self.new.trace.items ≡ self.old.trace.items)) }
     {
         let place = conn as usize;
         if place >= self.posts.len() {
             return Ok(());
         }
-        let post = &mut self.posts[place];
-        let who = post.who;
-        post.stop();
+        // it is told first, so that the connection changes last
+        let who = self.posts[place].who;
         note(&mut self.trace, Event::Exit { who })?;
+        let post = &mut self.posts[place];
+        post.stop();
         Ok(())
     }
 
-    /// The bus takes the end of a connection. RegistryLost where that drops the registry, and then all is told that it writes; Spent where the bus's own
-    /// messages would pass serial 4,294,967,295.
-    pub fn part(&mut self, conn: u32) -> Result<(), CarryFault>
+    /// The bus takes the end of a connection. After want of memory nothing is known of the carrier.
+    pub(crate) fn part_apart(&mut self, conn: u32) -> Result<(), CarryFault>
         requires sound { IsSound (state_of self.old.bus) }
         ensures sound { OnOk result (IsSound (state_of self.new.bus)) }
         ensures does { OnOk result ((w : World) → IsCarried w (inner_of self.old.bus) self.old.posts.items

@@ -11,7 +11,7 @@ use atspi_protocol::ends::EndFault;
 use std::alloc::{AllocError, AllocFailed};
 use thiserror::Error;
 
-/// Why something was not carried. The carrier is not used again then.
+/// Why something was not carried. A world is not used again then.
 #[derive(Clone, Copy, Debug, PartialEq, Eq, Error)]
 pub enum CarryFault {
     /// A message of an end, or of the bus, would pass serial 4,294,967,295.

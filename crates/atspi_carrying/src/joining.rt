@@ -49,7 +49,7 @@ impl Carrier {
         self.at_end.clear();
     }
 
-    /// A party joins the bus; its connection's number is its place. Unsendable where no number is left.
+    /// A party joins the bus; its connection's number is its place. Unsendable where no number is left. After a fault all is as before.
     pub fn join(&mut self, who: Party) -> Result<u32, CarryFault>
         requires sound { IsSound (state_of self.old.bus) }
         ensures sound { OnOk result (IsSound (state_of self.new.bus)) }
@@ -60,21 +60,27 @@ impl Carrier {
         ensures linked { IfOk result (λ conn. (w : World) (role : Role) → IsLinked w self.old.at_end.items → (w.ends ≡ [] → who ≡ parties.Registry)
             → IsLinked (joins w who role []) self.new.at_end.items) }
         ensures calm { (IsErrOf result CarryFault.Spent → ⊥) × (IsErrOf result CarryFault.RegistryLost → ⊥) }
+        ensures err { OnErr result ((inner_of self.new.bus ≡ inner_of self.old.bus) × (self.new.posts.items ≡ self.old.posts.items) × (self.new.at_end.items ≡ self.old.at_end.items)) }
     {
         let Ok(conn) = u32::try_from(self.posts.len()) else {
             return Err(CarryFault::Unsendable);
         };
-        self.posts.push(Post::new(self.alloc, who))?;
-        self.at_end.push(Link::new(self.alloc))?;
+        // room in both lists first, so that they change last
+        self.posts.reserve(1)?;
+        self.at_end.reserve(1)?;
         match self.bus.join_behind(conn) {
-            Ok(()) => Ok(conn),
+            Ok(()) => {
+                self.posts.push_reserved(Post::new(self.alloc, who));
+                self.at_end.push_reserved(Link::new(self.alloc));
+                Ok(conn)
+            }
             Err(BusFault::NoMemory) => Err(CarryFault::NoMemory),
             Err(BusFault::Full | BusFault::Spent | BusFault::Big) => Err(CarryFault::Unsendable),
         }
     }
 
-    /// The bus takes three messages of a connection: the calls of the registry's start.
-    pub fn greet(&mut self, conn: u32) -> Result<(), CarryFault>
+    /// The bus takes three messages of a connection: the calls of the registry's start. After want of memory nothing is known of the carrier.
+    pub(crate) fn greet_apart(&mut self, conn: u32) -> Result<(), CarryFault>
         requires sound { IsSound (state_of self.old.bus) }
         ensures sound { OnOk result (IsSound (state_of self.new.bus)) }
         ensures greets { OnOk result ((w : World) → IsCarried w (inner_of self.old.bus) self.old.posts.items → IsGreeting w conn
@@ -82,9 +88,9 @@ impl Carrier {
         ensures linked { OnOk result ((w : World) → IsCarried w (inner_of self.old.bus) self.old.posts.items → IsLinked w self.old.at_end.items → IsGreeting w conn
             → IsLinked (with_one_taken (with_one_taken (with_one_taken w conn) conn) conn) self.new.at_end.items) }
     {
-        self.route(conn)?;
-        self.route(conn)?;
-        self.route(conn)?;
+        self.route_apart(conn)?;
+        self.route_apart(conn)?;
+        self.route_apart(conn)?;
         Ok(())
     }
 }

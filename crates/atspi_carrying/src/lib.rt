@@ -9,6 +9,7 @@ mod joining;
 mod moving;
 mod places;
 mod sending;
+mod steps;
 mod up;
 mod waiting;
 

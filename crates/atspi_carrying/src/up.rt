@@ -133,9 +133,8 @@ fn lacking(post: &Post) -> Option<usize>
 }
 
 impl Carrier {
-    /// The bus takes the first message of a connection's up link, if there is one. RegistryLost where that drops the registry, and then all is told that
-    /// it writes; Spent where the bus's own messages would pass serial 4,294,967,295.
-    pub fn route(&mut self, conn: u32) -> Result<(), CarryFault>
+    /// The bus takes the first message of a connection's up link, if there is one. After want of memory nothing is known of the carrier.
+    pub(crate) fn route_apart(&mut self, conn: u32) -> Result<(), CarryFault>
         requires sound { IsSound (state_of self.old.bus) }
         ensures sound { OnOk result (IsSound (state_of self.new.bus)) }
         ensures does { OnOk result ((w : World) (e : End) (said : Said) (rest : List Said) → IsCarried w (inner_of self.old.bus) self.old.posts.items
@@ -185,13 +184,12 @@ impl Carrier {
             post.begun = post.begun.saturating_add(most);
             return Ok(None);
         }
-        self.route(conn)?;
+        self.route_apart(conn)?;
         Ok(Some(most - lacking))
     }
 
-    /// Moves at most so many bytes of an up link; the bus takes what they complete. Where that closes the connection, nothing more is there to move.
-    /// RegistryLost and Spent as `route`.
-    pub fn move_up(&mut self, conn: u32, most: u32) -> Result<(), CarryFault>
+    /// Moves at most so many bytes of an up link; the bus takes what they complete. After want of memory nothing is known of the carrier.
+    pub(crate) fn move_up_apart(&mut self, conn: u32, most: u32) -> Result<(), CarryFault>
         requires sound { IsSound (state_of self.old.bus) }
         ensures sound { OnOk result (IsSound (state_of self.new.bus)) }
         ensures moves { OnOk result (MovesAll (inner_of self.old.bus) (inner_of self.new.bus) self.old.posts.items self.new.posts.items self.old.at_end.items self.new.at_end.items conn most self.old.trace.items self.new.trace.items) }

@@ -1,6 +1,7 @@
 use Rattle.std.proofs.Common.{◌≡◌, ◌+◌, ◌-◌, ◌∙◌, subst, arith}
 use Rattle.atspi_bus_steps.specs.Inner.{inner_of}
 use Rattle.atspi_carrying.specs.Filled.{IsGiven}
+use Rattle.atspi_carrying.proofs.Coming.{none_given, on_err_so}
 use Rattle.atspi_carrying.proofs.Filling.{given_more, given_whole, piece_within, stopped}
 use Rattle.atspi_carrying.proofs.down.fill.Goals as goal
 
@@ -38,3 +39,11 @@ returns-then-count-eq0-clause-filled c =
       within = λ m rest is all less. piece_within a b c.args.conn n c.pieces.at_end c.carry_down.new.at_end m rest e.gives e.awaited is (inv.whole ∙ all) (inv.within m rest is all less);
       stops = λ fewer waits awaits. stopped a b c.args.conn n c.pieces.left c.pieces.at_end c.carry_down.new.at_end e.gives none e.some (omega (arith, fewer)) waits awaits;
     }
+
+pub returns-in_err-count-clause-part : goal.returns-in_err-count-clause-part
+returns-in_err-count-clause-part c =
+    let inv = c.pieces.invariant in
+    let same = c.in_err-count.ensures.err in
+    let b = inner_of c.carry_down.new.bus in
+    on_err_so c.from_residual.result
+    (c.args.most - c.pieces.left + 0, inv.rest 0 b c.carry_down.new.at_end (none_given (inner_of c.pieces.bus) b c.args.conn c.pieces.at_end c.carry_down.new.at_end same.0 same.1))

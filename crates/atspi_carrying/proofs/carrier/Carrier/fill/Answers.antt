@@ -1,7 +1,7 @@
 use Rattle.std.proofs.Common.{sym, arith}
 use Rattle.atspi_bus_steps.specs.Inner.{inner_of}
 use Rattle.atspi_carrying.proofs.Beginning.{gave_none}
-use Rattle.atspi_carrying.proofs.Coming.{none_there, one_there}
+use Rattle.atspi_carrying.proofs.Coming.{none_there, one_there, some_there}
 use Rattle.atspi_carrying.proofs.carrier.Carrier.fill.Goals as goal
 
 pub returns-then-place-len-clause-bus : goal.returns-then-place-len-clause-bus
@@ -16,3 +16,8 @@ pub returns-clause-brings : goal.returns-clause-brings
 returns-clause-brings c =
     let s = c.args.self.now in
     one_there c.fill.result (inner_of s.bus) (inner_of c.fill.new.bus) s.posts.items s.at_end.items c.args.conn c.args.most c.index_mut.result.now c.fill.new.at_end c.index_mut.ensures.value c.fill.ensures.most c.fill.ensures.filled
+
+pub returns-clause-part : goal.returns-clause-part
+returns-clause-part c =
+    let s = c.args.self.now in
+    some_there c.fill.result (inner_of s.bus) (inner_of c.fill.new.bus) s.at_end.items c.args.conn c.index_mut.result.now c.fill.new.at_end c.index_mut.ensures.value c.fill.ensures.part

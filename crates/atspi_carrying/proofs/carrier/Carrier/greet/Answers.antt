@@ -1,21 +1,29 @@
-use Rattle.atspi_bus_steps.specs.Inner.{inner_of}
-use Rattle.atspi_carrying.proofs.Beginning.{greeted_by}
+use Rattle.std.proofs.Common.{◌++◌, sym, ap, ◌∙◌, subst}
+use Rattle.atspi_bus_steps.specs.Inner.{inner_of, state_of}
+use Rattle.atspi_bus_steps.specs.Sound.{IsSound}
+use Rattle.atspi_bus_steps.specs.declared.inner.Inner.{Inner}
+use Rattle.atspi_carrying.specs.Beginning.{with_one_taken}
+use Rattle.atspi_carrying.specs.Linked.{IsLinked}
+use Rattle.atspi_carrying.proofs.Rejoining.{told_ok, greeted_on}
 use Rattle.atspi_carrying.proofs.carrier.Carrier.greet.Goals as goal
 
+pub returns-clause-sound : goal.returns-clause-sound
+returns-clause-sound c =
+    told_ok c.rejoin.result c.greet_apart-done.result c.rejoin.ensures.told c.greet_apart-done.ensures.sound (λ sound same. subst (λ (b : Inner). IsSound (state_of b)) (sym same.bus_is) sound)
+
 pub returns-clause-greets : goal.returns-clause-greets
-returns-clause-greets c = λ w is up.
-    greeted_by w c.args.conn (inner_of c.route.new.self.bus) (inner_of c.route-2.new.self.bus) (inner_of c.route-3.new.self.bus) c.route.new.self.posts.items c.route-2.new.self.posts.items c.route-3.new.self.posts.items
-    c.args.self.now.trace.items c.route.new.self.trace.items c.route-2.new.self.trace.items c.route-3.new.self.trace.items up
-    (c.in_ok-route.ensures.does w up.first.the_end up.first.first up.first.rest is up.first.at up.first.up) (c.in_ok-route-2.ensures.does _ up.second.the_end up.second.first up.second.rest)
-    (c.in_ok-route-3.ensures.does _ up.third.the_end up.third.first up.third.rest)
+returns-clause-greets c =
+    let s = c.args.self.now in
+    let did = c.greet_apart-done.new.self in
+    let new = c.rejoin.new.self in
+    let none = c.apart-before.ensures.none in
+    told_ok c.rejoin.result c.greet_apart-done.result c.rejoin.ensures.told c.greet_apart-done.ensures.greets
+    (λ greets same w is up.
+    greeted_on w c.args.conn (inner_of did.bus) (inner_of new.bus) did.posts.items new.posts.items s.trace.items c.apart-before.new.trace.items did.trace.items new.trace.items none (ap inner_of same.bus_is)
+    same.posts_are (same.told ∙ ap (λ l. l ++ did.trace.items) c.apart-before.ensures.before) (greets w is up))
 
 pub returns-clause-linked : goal.returns-clause-linked
-returns-clause-linked c = λ w is linked up.
-    let one = c.in_ok-route.ensures in
-    let two = c.in_ok-route-2.ensures in
-    let three = c.in_ok-route-3.ensures in
-    let first = one.does w up.first.the_end up.first.first up.first.rest is up.first.at up.first.up in
-    let second = two.does _ up.second.the_end up.second.first up.second.rest first.tied up.second.at up.second.up in
-    three.linked _ up.third.the_end up.third.first up.third.rest second.tied
-    (two.linked _ up.second.the_end up.second.first up.second.rest first.tied (one.linked w up.first.the_end up.first.first up.first.rest is linked up.first.at up.first.stands up.first.up) up.second.at up.second.stands up.second.up)
-    up.third.at up.third.stands up.third.up
+returns-clause-linked c =
+    told_ok c.rejoin.result c.greet_apart-done.result c.rejoin.ensures.told c.greet_apart-done.ensures.linked
+    (λ linked same w is linked_so up.
+    subst (IsLinked (with_one_taken (with_one_taken (with_one_taken w c.args.conn) c.args.conn) c.args.conn)) (sym same.given_are) (linked w is linked_so up))

@@ -24,17 +24,17 @@ returns-then-most-lacking-clause-moves c =
 pub returns-clause-moves : goal.returns-clause-moves
 returns-clause-moves c =
     let s = c.args.self.now in
-    one_completed c.args.conn c.args.most c.in-Some.lacking (inner_of s.bus) (inner_of c.route.new.self.bus) s.posts.items c.route.new.self.posts.items c.index.result.now s.at_end.items
-    c.route.new.self.at_end.items s.trace.items c.route.new.self.trace.items c.index.ensures c.in-Some.ensures.exact c.if-most-lacking.false c.in_ok-route.ensures.does c.in_ok-route.ensures.linked
+    one_completed c.args.conn c.args.most c.in-Some.lacking (inner_of s.bus) (inner_of c.route_apart.new.self.bus) s.posts.items c.route_apart.new.self.posts.items c.index.result.now s.at_end.items
+    c.route_apart.new.self.at_end.items s.trace.items c.route_apart.new.self.trace.items c.index.ensures c.in-Some.ensures.exact c.if-most-lacking.false c.in_ok-route_apart.ensures.does c.in_ok-route_apart.ensures.linked
 
-pub returns-in_err-route-clause-lost : goal.returns-in_err-route-clause-lost
-returns-in_err-route-clause-lost c = λ is.
+pub returns-in_err-route_apart-clause-lost : goal.returns-in_err-route_apart-clause-lost
+returns-in_err-route_apart-clause-lost c = λ is.
     let s = c.args.self.now in
-    first_lost c.args.conn c.args.most c.in-Some.lacking (inner_of s.bus) s.posts.items c.route.new.self.posts.items c.index.result.now s.trace.items c.route.new.self.trace.items c.index.ensures c.in-Some.ensures.exact c.if-most-lacking.false
-    (c.in_err-route.ensures.lost (ap Err (same_fault c.from_residual.result _ RegistryLost c.from_residual.ensures.1 is)))
+    first_lost c.args.conn c.args.most c.in-Some.lacking (inner_of s.bus) s.posts.items c.route_apart.new.self.posts.items c.index.result.now s.trace.items c.route_apart.new.self.trace.items c.index.ensures c.in-Some.ensures.exact c.if-most-lacking.false
+    (c.in_err-route_apart.ensures.lost (ap Err (same_fault c.from_residual.result _ RegistryLost c.from_residual.ensures.1 is)))
 
-pub returns-in_err-route-clause-spent : goal.returns-in_err-route-clause-spent
-returns-in_err-route-clause-spent c = λ is.
+pub returns-in_err-route_apart-clause-spent : goal.returns-in_err-route_apart-clause-spent
+returns-in_err-route_apart-clause-spent c = λ is.
     let s = c.args.self.now in
-    first_spent c.args.conn c.args.most c.in-Some.lacking (inner_of s.bus) s.posts.items c.route.new.self.posts.items c.index.result.now s.trace.items c.route.new.self.trace.items c.index.ensures c.in-Some.ensures.exact c.if-most-lacking.false
-    (c.in_err-route.ensures.spent (ap Err (same_fault c.from_residual.result _ Spent c.from_residual.ensures.1 is)))
+    first_spent c.args.conn c.args.most c.in-Some.lacking (inner_of s.bus) s.posts.items c.route_apart.new.self.posts.items c.index.result.now s.trace.items c.route_apart.new.self.trace.items c.index.ensures c.in-Some.ensures.exact c.if-most-lacking.false
+    (c.in_err-route_apart.ensures.spent (ap Err (same_fault c.from_residual.result _ Spent c.from_residual.ensures.1 is)))

@@ -1,52 +1,44 @@
-use Rattle.std.proofs.Common.{Err, ap, arith}
-use Rattle.atspi_bus_steps.specs.Inner.{inner_of}
-use Rattle.atspi_carrying.specs.declared.fault.CarryFault.TheVariants.{Spent, RegistryLost}
-use Rattle.atspi_carrying.proofs.Rounds.{not_yet, round_more, round_last, round_lost, round_spent, at_end}
-use Rattle.atspi_carrying.proofs.Stopping.{same_fault}
+use Rattle.std.proofs.Common.{◌++◌, sym, ap, ◌∙◌, subst}
+use Rattle.atspi_bus_steps.specs.Inner.{inner_of, state_of}
+use Rattle.atspi_bus_steps.specs.Sound.{IsSound}
+use Rattle.atspi_bus_steps.specs.declared.inner.Inner.{Inner}
+use Rattle.atspi_trace.specs.Work.{moving_up}
+use Rattle.atspi_carrying.proofs.Rejoining.{told_ok, told_lost, told_spent, worked_on, lost_at, spent_at}
 use Rattle.atspi_carrying.proofs.carrier.Carrier.move_up.Goals as goal
 
-pub loop-message-init : goal.loop-message-init
-loop-message-init c =
-    let s = c.args.self.now in
-    record { sound = c.requires.sound; moved = λ w is m. (not_yet w c.args.conn c.args.most (inner_of s.bus) s.posts.items s.at_end.items s.trace.items is m, omega arith) }
-
-pub loop-message-preserved : goal.loop-message-preserved
-loop-message-preserved c =
-    let s = c.args.self.now in
-    let was = c.loop-message in
-    let new = c.move_some.new.self in
-    record {
-      sound = c.in_ok-rest.ensures.sound;
-      moved = λ w is m. round_more w c.args.conn c.args.most was.left was._message c.in-Some.rest c.in_ok-rest.field-0 (inner_of was.self.bus) (inner_of new.bus) was.self.posts.items new.posts.items s.at_end.items
-          was.self.at_end.items new.at_end.items s.trace.items was.self.trace.items new.trace.items (was.invariant.moved w is m) c.in-Some.is c.in_ok-rest.ensures.moves;
-    }
-
-pub returns-in-None-clause-moves : goal.returns-in-None-clause-moves
-returns-in-None-clause-moves c = λ w is m.
-    let s = c.args.self.now in
-    let was = c.loop-message in
-    let new = c.move_some.new.self in
-    round_last w c.args.conn c.args.most was.left was._message c.in_ok-rest.field-0 (inner_of was.self.bus) (inner_of new.bus) was.self.posts.items new.posts.items s.at_end.items was.self.at_end.items new.at_end.items
-    s.trace.items was.self.trace.items new.trace.items (was.invariant.moved w is m) c.in-None.is c.in_ok-rest.ensures.moves
+pub returns-clause-sound : goal.returns-clause-sound
+returns-clause-sound c =
+    told_ok c.rejoin.result c.move_up_apart-done.result c.rejoin.ensures.told c.move_up_apart-done.ensures.sound (λ sound same. subst (λ (b : Inner). IsSound (state_of b)) (sym same.bus_is) sound)
 
 pub returns-clause-moves : goal.returns-clause-moves
-returns-clause-moves c = λ w is m.
+returns-clause-moves c =
     let s = c.args.self.now in
-    let was = c.loop-message in
-    let so = was.invariant.moved w is m in
-    let within = so.1 in
-    at_end w c.args.conn c.args.most was.left (inner_of was.self.bus) was.self.posts.items s.at_end.items was.self.at_end.items s.trace.items was.self.trace.items so.0 (omega (arith, within))
+    let did = c.move_up_apart-done.new.self in
+    let new = c.rejoin.new.self in
+    let none = c.apart-before.ensures.none in
+    told_ok c.rejoin.result c.move_up_apart-done.result c.rejoin.ensures.told c.move_up_apart-done.ensures.moves
+    (λ moves same w is at.
+    worked_on w (moving_up c.args.conn c.args.most) (inner_of did.bus) (inner_of new.bus) did.posts.items new.posts.items s.at_end.items did.at_end.items new.at_end.items s.trace.items c.apart-before.new.trace.items
+    did.trace.items new.trace.items none (ap inner_of same.bus_is) same.posts_are same.given_are (same.told ∙ ap (λ l. l ++ did.trace.items) c.apart-before.ensures.before) (moves w is at))
 
-pub returns-in_err-rest-clause-lost : goal.returns-in_err-rest-clause-lost
-returns-in_err-rest-clause-lost c = λ is w tied linked first m.
+pub returns-clause-lost : goal.returns-clause-lost
+returns-clause-lost c = λ is w tied linked first at.
     let s = c.args.self.now in
-    let was = c.loop-message in
-    round_lost w c.args.conn c.args.most was.left was._message (inner_of was.self.bus) was.self.posts.items c.move_some.new.self.posts.items s.at_end.items was.self.at_end.items s.trace.items was.self.trace.items c.move_some.new.self.trace.items
-    (was.invariant.moved w tied m) linked first (c.in_err-rest.ensures.lost (ap Err (same_fault c.from_residual.result _ RegistryLost c.from_residual.ensures.1 is)))
+    let did = c.move_up_apart-done.new.self in
+    let new = c.rejoin.new.self in
+    let none = c.apart-before.ensures.none in
+    let so = told_lost c.rejoin.result c.move_up_apart-done.result c.rejoin.ensures.told is in
+    let same = so.1 in
+    lost_at w (moving_up c.args.conn c.args.most) did.posts.items new.posts.items s.trace.items c.apart-before.new.trace.items did.trace.items new.trace.items none same.posts_are
+    (same.told ∙ ap (λ l. l ++ did.trace.items) c.apart-before.ensures.before) (c.move_up_apart-done.ensures.lost so.0 w tied linked first at)
 
-pub returns-in_err-rest-clause-spent : goal.returns-in_err-rest-clause-spent
-returns-in_err-rest-clause-spent c = λ is w tied linked m.
+pub returns-clause-spent : goal.returns-clause-spent
+returns-clause-spent c = λ is w tied linked at.
     let s = c.args.self.now in
-    let was = c.loop-message in
-    round_spent w c.args.conn c.args.most was.left was._message (inner_of was.self.bus) was.self.posts.items c.move_some.new.self.posts.items s.at_end.items was.self.at_end.items s.trace.items was.self.trace.items c.move_some.new.self.trace.items
-    (was.invariant.moved w tied m) linked (c.in_err-rest.ensures.spent (ap Err (same_fault c.from_residual.result _ Spent c.from_residual.ensures.1 is)))
+    let did = c.move_up_apart-done.new.self in
+    let new = c.rejoin.new.self in
+    let none = c.apart-before.ensures.none in
+    let so = told_spent c.rejoin.result c.move_up_apart-done.result c.rejoin.ensures.told is in
+    let same = so.1 in
+    spent_at w (moving_up c.args.conn c.args.most) did.posts.items new.posts.items s.trace.items c.apart-before.new.trace.items did.trace.items new.trace.items none same.posts_are
+    (same.told ∙ ap (λ l. l ++ did.trace.items) c.apart-before.ensures.before) (c.move_up_apart-done.ensures.spent so.0 w tied linked at)

@@ -5,7 +5,7 @@ use Rattle.atspi_trace.specs.World.{World}
 use Rattle.atspi_carrying.specs.Carried.{IsCarried}
 use Rattle.atspi_carrying.specs.Moving.{MovesAt}
 use Rattle.atspi_carrying.proofs.Rounds.{Continues}
-use Rattle.atspi_carrying.proofs.carrier.Carrier.move_up.Given as goal
+use Rattle.atspi_carrying.proofs.carrier.Carrier.move_up_apart.Given as goal
 
 -- each round moved a byte at least
 abbrev pub invariant-loop-message : goal.invariant-loop-message
