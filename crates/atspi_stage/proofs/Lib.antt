@@ -33,6 +33,7 @@ pub mod Parts
 pub mod Plays
 pub mod Queued
 pub mod Reasons
+pub mod Rejoining
 pub mod Results
 pub mod Routing
 pub mod Sayings

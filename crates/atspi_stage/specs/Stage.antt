@@ -3,7 +3,7 @@ use Rattle.std.specs.Prelude.{List, All, Result, Ok, Err}
 use Rattle.atspi_routing.specs.BusState.{BusState}
 use Rattle.atspi_bus_steps.specs.Sound.{IsSound}
 use Rattle.atspi_stage.specs.declared.fault.ActFault.{ActFault}
-use Rattle.atspi_stage.specs.declared.fault.ActFault.TheVariants.{Refused}
+use Rattle.atspi_stage.specs.declared.fault.ActFault.TheVariants.{Refused, Unsendable, NoMemory}
 
 -- what holds of each application, each reader, each kit that is left and each spare, and of the bus
 pub record IsStage {A R K S : Type 0} (is_app : A → Type 0) (is_follower : R → Type 0) (is_kit : K → Type 0) (is_spare : S → Type 0)
@@ -19,3 +19,14 @@ abbrev pub UnlessHalted : {A : Type 0} → Result A ActFault → Type 0 → Type
 UnlessHalted (Ok done) holds = holds
 UnlessHalted (Err (Refused why)) holds = holds
 UnlessHalted (Err fault) holds = Unit {0}
+
+-- a line is given up for want of memory, and for what no script comes to
+abbrev pub OnGivingUp : {A : Type 0} → Result A ActFault → Type 0 → Type 0
+OnGivingUp (Err NoMemory) holds = holds
+OnGivingUp (Err Unsendable) holds = holds
+OnGivingUp result holds = Unit {0}
+
+abbrev pub UnlessGivenUp : {A : Type 0} → Result A ActFault → Type 0 → Type 0
+UnlessGivenUp (Err NoMemory) holds = Unit {0}
+UnlessGivenUp (Err Unsendable) holds = Unit {0}
+UnlessGivenUp result holds = holds

@@ -1,6 +1,6 @@
 //! Doing the lines of a script.
 
-ghost use Rattle.std.specs.Prelude.{◌≡◌, false, Some, length, IsErrOf, OnOk};
+ghost use Rattle.std.specs.Prelude.{◌≡◌, ◌++◌, false, [], Some, length, IsErrOf, OnOk};
 ghost use Rattle.atspi_forest.specs.Edits.{IsEdit};
 ghost use Rattle.atspi_reader_calls.specs.Deeds.{MayBeAsked};
 ghost use Rattle.atspi_bus_steps.specs.Inner.{inner_of, state_of};
@@ -17,7 +17,7 @@ ghost use Rattle.atspi_stage.specs.MayAct.{HasName, MayAct};
 ghost use Rattle.atspi_play.specs.Played as playing;
 ghost use Rattle.atspi_stage.specs.Refusals.{RefusedElse, RefusedFor, Refuses};
 ghost use Rattle.atspi_stage.specs.declared.fault.Refusal.{Refusal};
-ghost use Rattle.atspi_stage.specs.Stage.{IsStage, UnlessHalted};
+ghost use Rattle.atspi_stage.specs.Stage.{IsStage, OnGivingUp, UnlessGivenUp, UnlessHalted};
 ghost use Rattle.atspi_stage.specs.Worlds.{staged, IsPlaying};
 
 use crate::fault::ActFault;
@@ -25,10 +25,42 @@ use crate::places::conn_of;
 use crate::stage::Stage;
 use atspi_base::NoMemory;
 use atspi_carrying::CarryFault;
+use atspi_events::Event;
 use atspi_forest::Edit;
 use atspi_lines::{Deed, Line, Party};
 use atspi_posts::Standing;
 use atspi_stage_ends::{Application, Follower};
+use std::alloc::Global;
+use std::mem;
+
+/// Takes out what was told, so that what a line tells is told apart.
+fn apart(alloc: Global, trace: &mut Vec<Event>) -> Vec<Event>
+    ensures before { result.items ≡ trace.old.items }
+    ensures none { trace.new.items ≡ [] }
+{
+    mem::replace(trace, Vec::new(alloc))
+}
+
+/// What a line told apart is put behind what was told before. Where the line failed for want of memory or for what no script comes to, and where memory
+/// is wanting here, nothing of it is told.
+fn rejoin(
+    trace: &mut Vec<Event>,
+    before: Vec<Event>,
+    done: Result<(), ActFault>,
+) -> Result<(), ActFault>
+    ensures told { UnlessGivenUp result ((result ≡ done) × (trace.new.items ≡ before.items ++ trace.old.items)) }
+    ensures err { OnGivingUp result (trace.new.items ≡ before.items) }
+{
+    let mut told = mem::replace(trace, before);
+    match done {
+        Err(ActFault::NoMemory) => Err(ActFault::NoMemory),
+        Err(ActFault::Unsendable) => Err(ActFault::Unsendable),
+        _ => match trace.append(&mut told) {
+            Ok(()) => done,
+            Err(_) => Err(ActFault::NoMemory),
+        },
+    }
+}
 
 impl<A: Application, R: Follower> Stage<A, R> {
     /// An application is asked for an edit.
@@ -187,10 +219,8 @@ impl<A: Application, R: Follower> Stage<A, R> {
         }
     }
 
-    /// Does a line. Refused for the first reason that holds, and then nothing of it is done. Spent where a message of an end, or of the bus, would
-    /// pass serial 4,294,967,295, and RegistryLost where the registry was dropped: the line is not refused then, a part of it was done, and of that
-    /// the trace tells all, but of what spent the serials a front. Behind any but a refusal the world is not used again.
-    pub fn act(&mut self, line: &Line) -> Result<(), ActFault>
+    /// Does a line, and tells it behind what the trace has. After want of memory nothing is known of the world.
+    fn act_apart(&mut self, line: &Line) -> Result<(), ActFault>
         requires may { MayAct line.now }
         requires stage { IsStage A.is_app R.is_follower A.is_kit A.is_spare self.old.cast.apps.items self.old.cast.readers.items self.old.kits.items self.old.spares.items (state_of self.old.carrier.bus) }
         ensures stage { UnlessHalted result (IsStage A.is_app R.is_follower A.is_kit A.is_spare self.new.cast.apps.items self.new.cast.readers.items self.new.kits.items self.new.spares.items (state_of self.new.carrier.bus)) }
@@ -205,5 +235,26 @@ impl<A: Application, R: Follower> Stage<A, R> {
             Some(why) => Err(ActFault::Refused(why)),
             None => self.carry_out(line),
         }
+    }
+
+    /// Does a line. Refused for the first reason that holds, and then nothing of it is done. Spent where a message of an end, or of the bus, would
+    /// pass serial 4,294,967,295, and RegistryLost where the registry was dropped: the line is not refused then, a part of it was done, and of that
+    /// the trace tells all, but of what spent the serials a front. After any other fault the trace is as before. Behind any but a refusal the world is
+    /// not used again.
+    pub fn act(&mut self, line: &Line) -> Result<(), ActFault>
+        requires may { MayAct line.now }
+        requires stage { IsStage A.is_app R.is_follower A.is_kit A.is_spare self.old.cast.apps.items self.old.cast.readers.items self.old.kits.items self.old.spares.items (state_of self.old.carrier.bus) }
+        ensures stage { UnlessHalted result (IsStage A.is_app R.is_follower A.is_kit A.is_spare self.new.cast.apps.items self.new.cast.readers.items self.new.kits.items self.new.spares.items (state_of self.new.carrier.bus)) }
+        ensures does { OnOk result (LineDone line.now (staged A.exporter R.follower (inner_of self.old.carrier.bus) self.old.carrier.posts.items self.old.carrier.at_end.items self.old.cast.registry self.old.cast.apps.items self.old.cast.readers.items (length self.old.kits.items) (length self.old.spares.items) self.old.carrier.trace.items) (staged A.exporter R.follower (inner_of self.new.carrier.bus) self.new.carrier.posts.items self.new.carrier.at_end.items self.new.cast.registry self.new.cast.apps.items self.new.cast.readers.items (length self.new.kits.items) (length self.new.spares.items) self.new.carrier.trace.items)) }
+        ensures refused { (why : Refusal) → IsErrOf result (ActFault.Refused why) → RefusedFor line.now why (staged A.exporter R.follower (inner_of self.old.carrier.bus) self.old.carrier.posts.items self.old.carrier.at_end.items self.old.cast.registry self.old.cast.apps.items self.old.cast.readers.items (length self.old.kits.items) (length self.old.spares.items) self.old.carrier.trace.items) }
+        ensures refuses { (p : Playing) (due : work.Refusal) → IsPlaying p (staged A.exporter R.follower (inner_of self.old.carrier.bus) self.old.carrier.posts.items self.old.carrier.at_end.items self.old.cast.registry self.old.cast.apps.items self.old.cast.readers.items (length self.old.kits.items) (length self.old.spares.items) self.old.carrier.trace.items) → playing.refused p line.now ≡ Some due → Refuses result due }
+        ensures nothing { (why : Refusal) → IsErrOf result (ActFault.Refused why) → (staged A.exporter R.follower (inner_of self.new.carrier.bus) self.new.carrier.posts.items self.new.carrier.at_end.items self.new.cast.registry self.new.cast.apps.items self.new.cast.readers.items (length self.new.kits.items) (length self.new.spares.items) self.new.carrier.trace.items) ≡ (staged A.exporter R.follower (inner_of self.old.carrier.bus) self.old.carrier.posts.items self.old.carrier.at_end.items self.old.cast.registry self.old.cast.apps.items self.old.cast.readers.items (length self.old.kits.items) (length self.old.spares.items) self.old.carrier.trace.items) }
+        ensures lost { IsErrOf result ActFault.RegistryLost → LineLost line.now (staged A.exporter R.follower (inner_of self.old.carrier.bus) self.old.carrier.posts.items self.old.carrier.at_end.items self.old.cast.registry self.old.cast.apps.items self.old.cast.readers.items (length self.old.kits.items) (length self.old.spares.items) self.old.carrier.trace.items) (staged A.exporter R.follower (inner_of self.new.carrier.bus) self.new.carrier.posts.items self.new.carrier.at_end.items self.new.cast.registry self.new.cast.apps.items self.new.cast.readers.items (length self.new.kits.items) (length self.new.spares.items) self.new.carrier.trace.items) }
+        ensures spent { IsErrOf result ActFault.Spent → LineSpent line.now (staged A.exporter R.follower (inner_of self.old.carrier.bus) self.old.carrier.posts.items self.old.carrier.at_end.items self.old.cast.registry self.old.cast.apps.items self.old.cast.readers.items (length self.old.kits.items) (length self.old.spares.items) self.old.carrier.trace.items) (staged A.exporter R.follower (inner_of self.new.carrier.bus) self.new.carrier.posts.items self.new.carrier.at_end.items self.new.cast.registry self.new.cast.apps.items self.new.cast.readers.items (length self.new.kits.items) (length self.new.spares.items) self.new.carrier.trace.items) }
+        ensures err { OnGivingUp result (self.new.carrier.trace.items ≡ self.old.carrier.trace.items) }
+    {
+        let before = apart(self.carrier.alloc, &mut self.carrier.trace);
+        let done = self.act_apart(line);
+        rejoin(&mut self.carrier.trace, before, done)
     }
 }

@@ -1,54 +1,64 @@
-use Rattle.std.proofs.Common.{Some, ap, ◌∙◌, length, sym}
-use Rattle.std.proofs.lemmas.List.{length-map}
-use Rattle.std.proofs.lemmas.Option.{same_Some}
-use Rattle.std.proofs.lemmas.Result.{on_ok_weaker}
-use Rattle.atspi_stage.specs.Refusals.{refusal_of}
-use Rattle.atspi_stage.proofs.Outcomes.{first_refused, not_first, same_why, refuses_of}
+use Rattle.std.proofs.Common.{◌++◌, length, ap, ◌∙◌}
+use Rattle.atspi_bus_steps.specs.Inner.{inner_of}
+use Rattle.atspi_stage.specs.Worlds.{staged}
+use Rattle.atspi_stage.proofs.Rejoining.{told_ok, told_lost, told_spent, told_refused, told_halted, told_refuses, playing_on, line_done_on, line_lost_on, line_spent_on, nothing_on}
 use Rattle.atspi_stage.proofs.stage.Stage.act.Goals as goal
 
-pub returns-in-Some-clause-refused : goal.returns-in-Some-clause-refused
-returns-in-Some-clause-refused g c = λ why is p playing.
-    let s = c.args.self.now in
-    first_refused c.args.line.now _ (length s.cast.apps.items) (length s.cast.readers.items) (sym (length-map s.cast.apps.items g.A.Application.exporter)) (sym (length-map s.cast.readers.items g.R.Follower.follower))
-    c.in-Some.why c.in-Some.ensures.exact p playing ∙ ap (λ y. Some (refusal_of y)) (same_why c.in-Some.why why is)
+pub returns-clause-stage : goal.returns-clause-stage
+returns-clause-stage g c = told_halted _ _ c.rejoin.result c.act_apart-done.result c.rejoin.ensures.told c.act_apart-done.ensures.stage
 
-pub returns-in-Some-clause-refuses : goal.returns-in-Some-clause-refuses
-returns-in-Some-clause-refuses g c = λ p due is h.
+pub returns-clause-does : goal.returns-clause-does
+returns-clause-does g c =
     let s = c.args.self.now in
-    same_Some _ due (sym (first_refused c.args.line.now _ (length s.cast.apps.items) (length s.cast.readers.items) (sym (length-map s.cast.apps.items g.A.Application.exporter))
-    (sym (length-map s.cast.readers.items g.R.Follower.follower)) c.in-Some.why c.in-Some.ensures.exact p is) ∙ h)
+    let did = c.act_apart-done.new.self in
+    let old = staged g.A.Application.exporter g.R.Follower.follower (inner_of s.carrier.bus) s.carrier.posts.items s.carrier.at_end.items s.cast.registry s.cast.apps.items s.cast.readers.items (length s.kits.items)
+    (length s.spares.items) s.carrier.trace.items in
+    let after = staged g.A.Application.exporter g.R.Follower.follower (inner_of did.carrier.bus) did.carrier.posts.items did.carrier.at_end.items did.cast.registry did.cast.apps.items did.cast.readers.items
+    (length did.kits.items) (length did.spares.items) did.carrier.trace.items in
+    told_ok c.rejoin.result c.act_apart-done.result c.rejoin.ensures.told c.act_apart-done.ensures.does
+    (λ done more. line_done_on c.args.line.now old after c.apart-before.new.trace.items c.rejoin.new.trace.items c.apart-before.ensures.none (more ∙ ap (λ l. l ++ did.carrier.trace.items) c.apart-before.ensures.before) done)
 
-pub returns-in-None-clause-does : goal.returns-in-None-clause-does
-returns-in-None-clause-does g c =
-    let s = c.args.self.now in
-    on_ok_weaker c.carry_out.result (λ done p is. done p is
-    (not_first c.args.line.now _ (length s.cast.apps.items) (length s.cast.readers.items) (sym (length-map s.cast.apps.items g.A.Application.exporter)) (sym (length-map s.cast.readers.items g.R.Follower.follower))
-    c.in-None.ensures.exact p is)) c.carry_out.ensures.does
+pub returns-clause-refused : goal.returns-clause-refused
+returns-clause-refused g c = λ why is p playing.
+    let so = told_refused c.rejoin.result c.act_apart-done.result why c.rejoin.ensures.told is in
+    c.act_apart-done.ensures.refused why so.0 p (playing_on p _ c.apart-before.new.trace.items playing)
 
-pub returns-in-None-clause-refused : goal.returns-in-None-clause-refused
-returns-in-None-clause-refused g c = λ why is p playing.
-    let s = c.args.self.now in
-    c.carry_out.ensures.refused why is p playing
-    (not_first c.args.line.now _ (length s.cast.apps.items) (length s.cast.readers.items) (sym (length-map s.cast.apps.items g.A.Application.exporter)) (sym (length-map s.cast.readers.items g.R.Follower.follower))
-    c.in-None.ensures.exact p playing)
+pub returns-clause-refuses : goal.returns-clause-refuses
+returns-clause-refuses g c = λ p due playing is.
+    told_refuses _ c.rejoin.result c.act_apart-done.result due c.rejoin.ensures.told (c.act_apart-done.ensures.refuses p due (playing_on p _ c.apart-before.new.trace.items playing) is)
 
-pub returns-in-None-clause-refuses : goal.returns-in-None-clause-refuses
-returns-in-None-clause-refuses g c =
+pub returns-clause-nothing : goal.returns-clause-nothing
+returns-clause-nothing g c = λ why is.
     let s = c.args.self.now in
-    let free = not_first c.args.line.now _ (length s.cast.apps.items) (length s.cast.readers.items) (sym (length-map s.cast.apps.items g.A.Application.exporter))
-    (sym (length-map s.cast.readers.items g.R.Follower.follower)) c.in-None.ensures.exact in
-    refuses_of c.carry_out.result c.args.line.now _ _ (on_ok_weaker c.carry_out.result (λ done p is. done p is (free p is)) c.carry_out.ensures.does) (λ why is p playing. c.carry_out.ensures.refused why is p playing (free p playing))
+    let did = c.act_apart-done.new.self in
+    let old = staged g.A.Application.exporter g.R.Follower.follower (inner_of s.carrier.bus) s.carrier.posts.items s.carrier.at_end.items s.cast.registry s.cast.apps.items s.cast.readers.items (length s.kits.items)
+    (length s.spares.items) s.carrier.trace.items in
+    let after = staged g.A.Application.exporter g.R.Follower.follower (inner_of did.carrier.bus) did.carrier.posts.items did.carrier.at_end.items did.cast.registry did.cast.apps.items did.cast.readers.items
+    (length did.kits.items) (length did.spares.items) did.carrier.trace.items in
+    let so = told_refused c.rejoin.result c.act_apart-done.result why c.rejoin.ensures.told is in
+    let more = so.1 in
+    nothing_on c.args.line.now old after c.apart-before.new.trace.items c.rejoin.new.trace.items c.apart-before.ensures.none (more ∙ ap (λ l. l ++ did.carrier.trace.items) c.apart-before.ensures.before) (c.act_apart-done.ensures.nothing why so.0)
 
-pub returns-in-None-clause-lost : goal.returns-in-None-clause-lost
-returns-in-None-clause-lost g c = λ is p playing.
+pub returns-clause-lost : goal.returns-clause-lost
+returns-clause-lost g c = λ is.
     let s = c.args.self.now in
-    c.carry_out.ensures.lost is p playing
-    (not_first c.args.line.now _ (length s.cast.apps.items) (length s.cast.readers.items) (sym (length-map s.cast.apps.items g.A.Application.exporter)) (sym (length-map s.cast.readers.items g.R.Follower.follower))
-    c.in-None.ensures.exact p playing)
+    let did = c.act_apart-done.new.self in
+    let old = staged g.A.Application.exporter g.R.Follower.follower (inner_of s.carrier.bus) s.carrier.posts.items s.carrier.at_end.items s.cast.registry s.cast.apps.items s.cast.readers.items (length s.kits.items)
+    (length s.spares.items) s.carrier.trace.items in
+    let after = staged g.A.Application.exporter g.R.Follower.follower (inner_of did.carrier.bus) did.carrier.posts.items did.carrier.at_end.items did.cast.registry did.cast.apps.items did.cast.readers.items
+    (length did.kits.items) (length did.spares.items) did.carrier.trace.items in
+    let so = told_lost c.rejoin.result c.act_apart-done.result c.rejoin.ensures.told is in
+    let more = so.1 in
+    line_lost_on c.args.line.now old after c.apart-before.new.trace.items c.rejoin.new.trace.items c.apart-before.ensures.none (more ∙ ap (λ l. l ++ did.carrier.trace.items) c.apart-before.ensures.before) (c.act_apart-done.ensures.lost so.0)
 
-pub returns-in-None-clause-spent : goal.returns-in-None-clause-spent
-returns-in-None-clause-spent g c = λ is p playing.
+pub returns-clause-spent : goal.returns-clause-spent
+returns-clause-spent g c = λ is.
     let s = c.args.self.now in
-    c.carry_out.ensures.spent is p playing
-    (not_first c.args.line.now _ (length s.cast.apps.items) (length s.cast.readers.items) (sym (length-map s.cast.apps.items g.A.Application.exporter)) (sym (length-map s.cast.readers.items g.R.Follower.follower))
-    c.in-None.ensures.exact p playing)
+    let did = c.act_apart-done.new.self in
+    let old = staged g.A.Application.exporter g.R.Follower.follower (inner_of s.carrier.bus) s.carrier.posts.items s.carrier.at_end.items s.cast.registry s.cast.apps.items s.cast.readers.items (length s.kits.items)
+    (length s.spares.items) s.carrier.trace.items in
+    let after = staged g.A.Application.exporter g.R.Follower.follower (inner_of did.carrier.bus) did.carrier.posts.items did.carrier.at_end.items did.cast.registry did.cast.apps.items did.cast.readers.items
+    (length did.kits.items) (length did.spares.items) did.carrier.trace.items in
+    let so = told_spent c.rejoin.result c.act_apart-done.result c.rejoin.ensures.told is in
+    let more = so.1 in
+    line_spent_on c.args.line.now old after c.apart-before.new.trace.items c.rejoin.new.trace.items c.apart-before.ensures.none (more ∙ ap (λ l. l ++ did.carrier.trace.items) c.apart-before.ensures.before) (c.act_apart-done.ensures.spent so.0)
