@@ -6,6 +6,7 @@
 mod announced;
 mod answers;
 mod arguments;
+mod codes;
 mod exporting;
 mod following;
 mod looked;
@@ -16,11 +17,12 @@ mod whole;
 pub use announced::{among_siblings, moves, nothing};
 pub use answers::{changes, no_members, properties, refused, selections};
 pub use arguments::{misread, missing};
+pub use codes::messages;
 pub use exporting::{counts, edits, numbers, own_names, refused_starts, starts, unlike};
 pub use following::{children, ends, part_calls, starts as reader_starts, user_calls};
 pub use looked::{adding, changed_rows, rows_of_items, rows_of_news};
-pub use registering::{no_requests, numbered, pairs, sent};
+pub use registering::{meeting, no_requests, numbered, pairs, sent};
 pub use signatures::{
     kept, of_bus_objects, of_nodes, of_properties, of_registry, of_tables, of_texts,
 };
-pub use whole::{absent, known, trees};
+pub use whole::{absent, known, only_of_trees, trees, unknown};

@@ -11,7 +11,7 @@ ghost use Rattle.atspi_protocol.specs.members.Asked.{calls, sets};
 ghost use Rattle.atspi_protocol.specs.registering.Answers.{answers, answers_member, news_of_removal, news_of_removal_at, only, reference_in};
 ghost use Rattle.atspi_protocol.specs.registering.RegistryState.{begins, pairs_of, pairs_without};
 ghost use Rattle.atspi_protocol.specs.registering.Room.{children_pair, room, text_pair, three_, two_, window_pair};
-ghost use Rattle.atspi_protocol.specs.registry_laws.Sends.{AreNumbered, started};
+ghost use Rattle.atspi_protocol.specs.registry_laws.Sends.{AllMeet, AreNumbered, started};
 ghost use Rattle.atspi_protocol_examples.specs.Lists.{ping};
 
 /// A member that the registry has not is unknown, and none of its properties can be set.
@@ -41,6 +41,17 @@ pub fn numbered()
     ensures one { AreNumbered (record ping { serial = 7 } ∷ []) }
     ensures unnumbered { AreNumbered (ping ∷ []) → ⊥ }
     ensures second { AreNumbered (record ping { serial = 7 } ∷ ping ∷ []) → ⊥ }
+{}
+
+/// Each message meets the rules, the first and those behind it: it has a type, its fields and a number that is not 0.
+pub fn meeting()
+    ensures none { AllMeet [] }
+    ensures one { AllMeet (record ping { serial = 7 } ∷ []) }
+    ensures two { AllMeet (record ping { serial = 7 } ∷ record ping { serial = 8 } ∷ []) }
+    ensures unnumbered { AllMeet (ping ∷ []) → ⊥ }
+    ensures untyped { AllMeet (record ping { serial = 7; kind = 0 } ∷ []) → ⊥ }
+    ensures pathless { AllMeet (record ping { serial = 7; path = None } ∷ []) → ⊥ }
+    ensures second { AllMeet (record ping { serial = 7 } ∷ ping ∷ []) → ⊥ }
 {}
 
 /// A registry that has started sent three calls, numbered from 1.

@@ -1,11 +1,11 @@
 //! Whole trees, of which the shape and the contents stand apart.
 
 ghost use Rattle.std.specs.Prelude.{◌≡◌, ◌∷◌, [], None, Some, codes};
-ghost use Rattle.std.specs.FinMap.{empty, get};
+ghost use Rattle.std.specs.FinMap.{empty, get, insert};
 ghost use Rattle.atspi_forest.specs.declared.contents.FaceData.TheVariants.{Chars, Deeds, Grid};
 ghost use Rattle.atspi_forest.specs.Forest.{nil, tree};
 ghost use Rattle.atspi_protocol.specs.whole.Cases.{kept, plain, shape, small};
-ghost use Rattle.atspi_protocol.specs.whole.Whole.{as_actions, as_columns, as_text, faces_after, filled, whole, with_actions, with_columns, with_text};
+ghost use Rattle.atspi_protocol.specs.whole.Whole.{KnowOnly, KnowsNo, as_actions, as_columns, as_text, faces_after, filled, whole, with_actions, with_columns, with_text};
 
 use atspi_forest::Step;
 
@@ -34,4 +34,22 @@ pub fn known()
     ensures no_text { get (faces_after small (Step.Remove 1) kept).chars 1 ≡ None }
     ensures other_columns { get (faces_after small (Step.Remove 1) kept).grid 2 ≡ Some (Grid 2) }
     ensures no_actions { get (faces_after small (Step.Remove 0) kept).deeds 0 ≡ None }
+{}
+
+/// Of a node nothing is known where no face has anything of it, and each of the three counts.
+pub fn unknown()
+    ensures of_none { KnowsNo kept 3 }
+    ensures text { KnowsNo kept 1 → ⊥ }
+    ensures columns { KnowsNo kept 2 → ⊥ }
+    ensures actions { KnowsNo kept 0 → ⊥ }
+    ensures text_alone { KnowsNo (record { chars = insert empty 1 (Grid 2); grid = empty; deeds = empty }) 2 }
+{}
+
+/// The faces know only nodes of the tree: a node of the tree need not be known, and one that is known is in the tree.
+pub fn only_of_trees()
+    ensures all { KnowOnly kept small }
+    ensures nothing { KnowOnly (record { chars = empty; grid = empty; deeds = empty }) nil }
+    ensures unknown { KnowOnly (record { chars = empty; grid = empty; deeds = empty }) small }
+    ensures no_tree { KnowOnly kept nil → ⊥ }
+    ensures no_table { KnowOnly kept (tree (shape 0 plain) (tree (shape 1 plain) nil nil) nil) → ⊥ }
 {}
