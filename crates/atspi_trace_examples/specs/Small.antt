@@ -1,6 +1,8 @@
 -- Small worlds: behind the registry three applications, the second without a name yet and the third stopped, a reader, and one that left.
 use Rattle.std.specs.Prelude.{◌≡◌, ℕ, zero, suc, List, [], ◌∷◌, ◌++◌, length, Option, None, Some, codes}
+use Rattle.std.specs.FinMap.{empty, insert}
 use Rattle.atspi_forest.specs.declared.step.Seed.{Seed}
+use Rattle.atspi_forest.specs.declared.step.Step.TheVariants.{Remove}
 use Rattle.atspi_forest.specs.Forest.{nil}
 use Rattle.atspi_lines.specs.declared.line.Party.{Party}
 use Rattle.atspi_lines.specs.declared.line.Party.TheVariants.{Bus as The_bus, App, Reader}
@@ -10,7 +12,9 @@ use Rattle.atspi_protocol.specs.declared.following.question.Question.{Question}
 use Rattle.atspi_protocol.specs.declared.following.question.Question.TheVariants.{AddMatch, RegisterEvent}
 use Rattle.atspi_protocol.specs.exporting.Exporter.{Exporter, begins}
 use Rattle.atspi_protocol.specs.following.Calls.{asking}
-use Rattle.atspi_routing.specs.Queues.{Bus}
+use Rattle.atspi_routing.specs.declared.closing.Closing.{Closing}
+use Rattle.atspi_routing.specs.declared.closing.Why.{Why}
+use Rattle.atspi_routing.specs.Queues.{Bus, Waiting}
 use Rattle.atspi_trace.specs.World.{Standing, stopped, away, Fate, Asked, Holding, Hearer, an_application, a_reader, Said, Letter, End, World, first_registry, newcomer}
 use Rattle.atspi_trace.specs.Ends.{plain}
 use Rattle.atspi_trace.specs.Work.{Work, resting}
@@ -90,3 +94,24 @@ scene w free = record { world = w; owing = []; free = free; work = resting; left
 -- an entry is owed
 abbrev pub owing : World → Entry → Scene
 owing w entry = record (scene w None) { owing = entry ∷ [] }
+
+-- one end alone, and who took the last message; it is that end
+abbrev pub alone : Bus → End → Option ℕ → Scene
+alone b e free = scene (with_ends b (e ∷ [])) free
+
+abbrev pub freely : Bus → End → Scene
+freely b e = alone b e (Some 0)
+
+-- a message that announces a step, and one of the bus's own with this serial
+abbrev pub announcing : Said
+announcing = record other_said { announces = Some (Remove 1) }
+
+abbrev pub from_bus : ℕ → Envelope
+from_bus serial = record (asking serial (AddMatch (codes "x"))) { sender = Some (codes "org.freedesktop.DBus") }
+
+-- one queue with these bytes, and a closing behind the bus's own message with this serial
+abbrev pub waiting : ℕ → List ℕ → Waiting
+waiting conn bytes = record { queues = insert empty conn bytes; due = [] }
+
+abbrev pub closing : ℕ → Why → ℕ → Closing
+closing conn why last = record { conn = conn; why = why; after = last }

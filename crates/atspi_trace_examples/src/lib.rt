@@ -4,11 +4,13 @@
 #![tactic(auto)]
 
 mod bytes;
+mod carrying;
 mod causes;
 mod due;
 mod ends;
 mod entries;
 mod hearing;
+mod own;
 mod questions;
 mod refusals;
 mod rules;
@@ -16,11 +18,13 @@ mod turns;
 mod works;
 
 pub use bytes::{down, lengths, taken, up};
+pub use carrying::{delivered, letters, settled_bus, written};
 pub use causes::{announced, idle_roles, on_links, pairs, rows, said_one_by_one, shown};
 pub use due::{freed, in_order, own_calls, refused_lines, truths, without_registry};
 pub use ends::{counts, links, parties, standing};
 pub use entries::{of_applications, of_ends, of_messages, of_readers};
 pub use hearing::{ends_told, fates, held, names, spoken};
+pub use own::{may_send, no_asker, no_call, no_turn};
 pub use questions::{asked_parts, calls, listening, may_be_asked, no_calls};
 pub use refusals::{calls as refused_calls, edits, limits, parties as refused_parties, unrefused};
 pub use rules::{asked, others};
