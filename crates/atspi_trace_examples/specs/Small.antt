@@ -1,15 +1,18 @@
 -- Small worlds: behind the registry three applications, the second without a name yet and the third stopped, a reader, and one that left.
-use Rattle.std.specs.Prelude.{◌≡◌, ℕ, zero, suc, List, [], ◌∷◌, ◌++◌, length, Option, None, Some, codes}
+use Rattle.std.specs.Prelude.{◌≡◌, ℕ, zero, suc, true, false, List, [], ◌∷◌, ◌++◌, length, Option, None, Some, codes}
 use Rattle.std.specs.FinMap.{empty, insert}
 use Rattle.atspi_forest.specs.declared.step.Seed.{Seed}
 use Rattle.atspi_forest.specs.declared.step.Step.TheVariants.{Remove}
-use Rattle.atspi_forest.specs.Forest.{nil}
+use Rattle.atspi_forest.specs.Forest.{nil, tree}
+use Rattle.atspi_forest.specs.Path.{path_of}
+use Rattle.atspi_forest.specs.Row.{TreeRow}
 use Rattle.atspi_lines.specs.declared.line.Party.{Party}
 use Rattle.atspi_lines.specs.declared.line.Party.TheVariants.{Bus as The_bus, App, Reader}
 use Rattle.atspi_message.specs.Envelope.{Envelope}
 use Rattle.atspi_message.specs.Bytes.{written}
 use Rattle.atspi_protocol.specs.declared.following.question.Question.{Question}
 use Rattle.atspi_protocol.specs.declared.following.question.Question.TheVariants.{AddMatch, RegisterEvent}
+use Rattle.atspi_protocol.specs.declared.news.part.PartName.TheVariants.{Text, Caret}
 use Rattle.atspi_protocol.specs.exporting.Exporter.{Exporter, begins}
 use Rattle.atspi_protocol.specs.following.Calls.{asking}
 use Rattle.atspi_routing.specs.declared.closing.Closing.{Closing}
@@ -115,3 +118,23 @@ waiting conn bytes = record { queues = insert empty conn bytes; due = [] }
 
 abbrev pub closing : ℕ → Why → ℕ → Closing
 closing conn why last = record { conn = conn; why = why; after = last }
+
+-- the registry alone; and beside it an application that a reader does not hold
+abbrev pub alone_world : Bus → World
+alone_world b = with_ends b (first_registry ∷ [])
+
+abbrev pub unheld_world : Bus → World
+unheld_world b = with_ends b (first_registry ∷ named_app ∷ reader 0 idle ∷ [])
+
+-- a text as the root; a reader that holds it, and one that was told its parts
+abbrev pub text_row : TreeRow
+text_row = record {
+  shape = record { node = 0; name = []; description = []; role = 0; states = 0; kinds = record { text = true; editable = false; selection = false; table = false; action = false }; relations = [] };
+  contents = record { text = Some (record { characters = codes "a"; caret = 0; selections = [] }); columns = None; actions = [] };
+}
+
+abbrev pub text_held : Holding
+text_held = record (holding 0) { tree = tree text_row nil nil }
+
+abbrev pub text_told : Holding
+text_told = record text_held { told = (path_of 0, Text) ∷ (path_of 0, Caret) ∷ [] }

@@ -14,6 +14,8 @@ mod own;
 mod questions;
 mod refusals;
 mod rules;
+mod settling;
+mod starting;
 mod turns;
 mod works;
 
@@ -28,5 +30,7 @@ pub use own::{may_send, no_asker, no_call, no_turn};
 pub use questions::{asked_parts, calls, listening, may_be_asked, no_calls};
 pub use refusals::{calls as refused_calls, edits, limits, parties as refused_parties, unrefused};
 pub use rules::{asked, others};
+pub use settling::{by_standing, due_entries, followed, through};
+pub use starting::{app_does, first_worlds, newcomers, rest_taken, user_calls};
 pub use turns::{drains, in_turn, links as waiting_links, so_many};
 pub use works::{of_calls, of_ends as works_of_ends, of_nobody, of_scripts};
