@@ -1,11 +1,11 @@
 -- A registry that takes messages and hands out its own stands where the definitions say, and what it hands out meets the rules.
-use Rattle.std.proofs.Common.{◌≡◌, ◌<◌, ℕ, List, [], ◌∷◌, ◌++◌, length, fold, Option, None, Some, refl, sym, ap, subst, ◌∙◌, append_assoc, arith}
-use Rattle.std.specs.Prelude.{IfSome, IfNone, MatchOption, Result, Ok, Err, OnErr}
+use Rattle.std.proofs.Common.{◌≡◌, ◌<◌, ◌≤◌, ℕ, false, List, [], ◌∷◌, ◌++◌, length, fold, Option, None, Some, refl, sym, ap, subst, ◌∙◌, append_assoc, arith}
+use Rattle.std.specs.Prelude.{IfSome, IfNone, MatchOption, Result, Ok, Err, OnErr, OnOk, is_err}
 use Rattle.atspi_message.specs.declared.message.Message.{Message}
 use Rattle.atspi_message.specs.Envelope.{Envelope, envelope_of}
 use Rattle.atspi_message.specs.Rules.{MeetsRules}
-use Rattle.atspi_protocol.specs.registering.RegistryState.{RegistryState}
-use Rattle.atspi_protocol.specs.registering.Steps.{Registry, registry_takes, takes}
+use Rattle.atspi_protocol.specs.registering.RegistryState.{RegistryState, begins}
+use Rattle.atspi_protocol.specs.registering.Steps.{Registry, registry_starts, registry_takes, starts, takes}
 use Rattle.atspi_protocol.specs.registry_laws.Sends as sends
 use Rattle.atspi_protocol.specs.registry_laws.Sends.{AreNumbered, started}
 use Rattle.atspi_protocol.proofs.OfRegistryLaws.Sending.{all_meet}
@@ -26,19 +26,37 @@ fold-one r [] e = refl
 fold-one r (x ∷ xs) e = fold-one (takes r x) xs e
 
 -- one message more was taken
-pub took_one : (old new : LiveRegistry) (e : Envelope) → new.registry ≡ takes old.registry e → Takes Stands' old new e
-took_one old new e is took said stands =
+took_one : (old new : LiveRegistry) (e : Envelope) → new.registry ≡ takes old.registry e → (registry_takes old.registry.state e).state.next ≤ 4294967296 → Takes Stands' old new e
+took_one old new e is room took said stands =
     let step = registry_takes old.registry.state e in
-    ap (λ (r : Registry). registry_of r.state (said ++ r.out)) is
-    ∙ ap (λ (w : List Envelope). registry_of step.state w) (sym (append_assoc said old.registry.out step.sent))
-    ∙ ap (λ (r : Registry). takes r e) stands
-    ∙ sym (fold-one started took e)
+    record {
+      whole = ap (λ (r : Registry). registry_of r.state (said ++ r.out)) is
+          ∙ ap (λ (w : List Envelope). registry_of step.state w) (sym (append_assoc said old.registry.out step.sent))
+          ∙ ap (λ (r : Registry). takes r e) stands.whole
+          ∙ sym (fold-one started took e);
+      numbered = subst (λ (r : Registry). r.state.next ≤ 4294967296) (sym is) room;
+    }
+
+pub take_took : {T X : Type 0} (r : Result T X) (old new : LiveRegistry) (e : Envelope) → OnOk r (new.registry ≡ takes old.registry e) → OnOk r ((registry_takes old.registry.state e).state.next ≤ 4294967296)
+    → OnOk r ((aside : List ℕ) → Takes Stands' old new e)
+take_took (Ok x) old new e is room = λ aside. took_one old new e is room
+take_took (Err x) old new e is room = tt
+
+-- it has started
+pub begun : {T X : Type 0} (r : Result T X) (old new : Registry) → old ≡ registry_of begins [] → OnOk r (new ≡ starts old) → OnOk r ((registry_starts old.state).state.next ≤ 4294967296) → is_err r ≡ false → IsAfter new [] []
+begun (Ok x) old new first is room ok =
+    let all : new ≡ started = is ∙ ap starts first in
+    record { whole = all; numbered = subst (λ (r : Registry). r.state.next ≤ 4294967296) (sym is) room }
+begun (Err x) old new first is room ok = absurd cc
 
 handed_one : (old new : LiveRegistry) (e : Envelope) → old.registry.out ≡ e ∷ new.registry.out → new.registry.state ≡ old.registry.state → HandsOut Stands' old new e
 handed_one old new e out state took said stands =
-    ap (λ (s : RegistryState). registry_of s ((said ++ e ∷ []) ++ new.registry.out)) state
-    ∙ ap (λ (w : List Envelope). registry_of old.registry.state w) (append_assoc said (e ∷ []) new.registry.out ∙ ap (λ (w : List Envelope). said ++ w) (sym out))
-    ∙ stands
+    record {
+      whole = ap (λ (s : RegistryState). registry_of s ((said ++ e ∷ []) ++ new.registry.out)) state
+          ∙ ap (λ (w : List Envelope). registry_of old.registry.state w) (append_assoc said (e ∷ []) new.registry.out ∙ ap (λ (w : List Envelope). said ++ w) (sym out))
+          ∙ stands.whole;
+      numbered = subst (λ (s : RegistryState). s.next ≤ 4294967296) (sym state) stands.numbered;
+    }
 
 numbered_of : (es : List Envelope) → AllMeet es → AreNumbered es
 numbered_of [] m = tt
@@ -50,7 +68,7 @@ meets_at (x ∷ said) e rest m = meets_at said e rest m.1
 
 may_send : (old new : LiveRegistry) (e : Envelope) → old.registry.out ≡ e ∷ new.registry.out → MaySend Stands' old e
 may_send old new e out took said stands meet =
-    let all : (fold takes started took).out ≡ said ++ e ∷ new.registry.out = sym (ap (λ (r : Registry). r.out) stands) ∙ ap (λ (w : List Envelope). said ++ w) out in
+    let all : (fold takes started took).out ≡ said ++ e ∷ new.registry.out = sym (ap (λ (r : Registry). r.out) stands.whole) ∙ ap (λ (w : List Envelope). said ++ w) out in
     meets_at said e new.registry.out (subst (λ (w : List Envelope). sends.AllMeet w) all (all_meet took (numbered_of took meet)))
 
 -- what handing out the oldest message answers

@@ -1,10 +1,9 @@
-use Rattle.std.proofs.lemmas.Result.{on_ok_weaker}
 use Rattle.atspi_header.specs.View.{envelope_at}
-use Rattle.atspi_live_registry.proofs.Registering.{take_rests, took_one}
+use Rattle.atspi_live_registry.proofs.Registering.{take_rests, take_took}
 use Rattle.atspi_live_registry.proofs.live_registry.LiveRegistryBusEnd.take.Goals as goal
 
 pub returns-clause-ok : goal.returns-clause-ok
-returns-clause-ok c = on_ok_weaker c.take.result (λ is aside. took_one c.args.self.now (record { registry = c.take.new.self }) (envelope_at c.args.m.now) is) c.take.ensures.ok
+returns-clause-ok c = take_took c.take.result c.args.self.now (record { registry = c.take.new.self }) (envelope_at c.args.m.now) c.take.ensures.ok c.take.ensures.room
 
 pub returns-clause-err : goal.returns-clause-err
 returns-clause-err c = take_rests c.take.result c.args.self.now (record { registry = c.take.new.self }) c.take.ensures.err
