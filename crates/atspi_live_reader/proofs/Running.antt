@@ -150,11 +150,23 @@ last_of k endings.NotAuthenticated calls l written has left = absurd has
 last_of k endings.NoMemory calls l written has left = absurd has
 
 -- what was written of it before
+off_speaks : (k : ℕ) (ending : Ending) (calls : Option (List Call)) (t : List ℕ) (l : LiveReader) (written : List ℕ) → IsTaken k calls t → LeftOff (Stands written) IsSpentIn ending t l → SpeaksUp k calls written
+off_speaks k ending None t l written e o = tt
+off_speaks k ending (Some cs) t l written e o =
+    subst (λ (x : List ℕ). IsSpoken x written) (sym e) (front_spoken t o.messages o.rest written (reader_of l.reader) l.starved l.lines o.said o.parted o.stands)
+
 left_speaks : (k : ℕ) (ending : Ending) (calls : Option (List Call)) (l : LiveReader) (written : List ℕ) → HasWords ending → IsLeft (Stands written) IsSpentIn k ending calls l → SpeaksUp k calls written
-left_speaks k ending None l written has left = tt
-left_speaks k ending (Some cs) l written has left =
-    let o : LeftOff (Stands written) IsSpentIn ending left.0 l = left_off written left.0 ending l has left.2 in
-    subst (λ (t : List ℕ). IsSpoken t written) (sym left.1) (front_spoken left.0 o.messages o.rest written (reader_of l.reader) l.starved l.lines o.said o.parted o.stands)
+left_speaks k ending calls l written has left = off_speaks k ending calls left.0 l written left.1 (left_off written left.0 ending l has left.2)
+
+-- a reader that took no message has spoken nothing
+front_none : (xs ys : List ℕ) → xs ++ ys ≡ [] → xs ≡ []
+front_none [] ys e = refl
+front_none (x ∷ xs) ys e = absurd cc
+
+none_spoken : (written t : List ℕ) (l : LiveReader) → LeftOff (Stands written) IsSpentIn endings.NotAuthenticated t l → written ≡ []
+none_spoken written t l o =
+    let w = words_of written t endings.NotAuthenticated l o in
+    front_none written w.0 (w.2 ∙ ap (λ (ms : List (Envelope × List ℕ)). spoken_in (following (envelopes ms)).out) o.stops.0)
 
 -- how a run ended, with what is written then
 abbrev Tells : LiveReader → Ending → ℕ → Option (List ℕ) → Option (List ℕ) → Type 0
@@ -180,16 +192,16 @@ ended_by path k status rounds endings.HostFailed calls l w mid w' left o run r =
 ended_by path k status rounds (endings.Malformed start fault) calls l w mid w' left o run r = with_words path k status rounds (endings.Malformed start fault) calls l w mid w' tt left o run r
 ended_by path k status rounds endings.Spent calls l w mid w' left o run r = with_words path k status rounds endings.Spent calls l w mid w' tt left o run r
 ended_by path k status rounds endings.NotAuthenticated calls l w mid w' left o run r = record {
-  spoken = o.line;
-  speaks_up = o.speaks_up;
+  spoken = left.0;
+  speaks_up = off_speaks k endings.NotAuthenticated calls left.2.0 l left.0 left.2.1 left.2.2;
   mid = mid;
-  wrote = o.wrote;
+  wrote = left.1;
   so = inl (record {
     ending = endings.NotAuthenticated;
     ends = o.so;
     run = run;
     words = [];
-    last = tt;
+    last = none_spoken left.0 left.2.0 l left.2.2;
     reports = r (l.lines ++ spoken_in (reader_of l.reader).out) (inr refl);
   });
 }
@@ -290,6 +302,32 @@ none_of_words w words = (inr refl, ([], words, refl, Appends-nil w))
 not_seven : (meant : ℕ) (words : List ℕ) (status : ℕ) (w w' : Option (List ℕ)) → (meant ≡ 7 → ⊥) → WritesLast meant words status w w' → status ≡ 7 → ⊥
 not_seven meant words status w w' n (inl x) e = n (sym x.0 ∙ e)
 not_seven meant words status w w' n (inr x) e = elim x.0 [ inl y ↦ omega (arith, y, e) | inr y ↦ omega (arith, y, e) ]
+
+-- with status 10 nothing was written
+not_ten : (meant : ℕ) (words : List ℕ) (status : ℕ) (w w' : Option (List ℕ)) → (meant ≡ 10 → ⊥) → WritesLast meant words status w w' → status ≡ 10 → ⊥
+not_ten meant words status w w' n (inl x) e = n (sym x.0 ∙ e)
+not_ten meant words status w w' n (inr x) e = elim x.0 [ inl y ↦ omega (arith, y, e) | inr y ↦ omega (arith, y, e) ]
+
+silent_so : (k status : ℕ) (spoken words : List ℕ) (ending : Ending) (calls : Option (List Call)) (mid w' : Option (List ℕ)) → AreLast k calls spoken words ending → ReportsLast words ending status mid w' → status ≡ 10 → (spoken ≡ []) × (w' ≡ mid)
+silent_so k status spoken words endings.PeerEnded calls mid w' l r e = absurd (not_ten 0 words status mid w' (λ n. omega (arith, n)) r e)
+silent_so k status spoken words endings.RoundsDone calls mid w' l r e = absurd (not_ten 8 words status mid w' (λ n. omega (arith, n)) r e)
+silent_so k status spoken words endings.HostFailed calls mid w' l r e = absurd (not_ten 7 words status mid w' (λ n. omega (arith, n)) r e)
+silent_so k status spoken words endings.NotAuthenticated calls mid w' l r e = (l, r.1)
+silent_so k status spoken words (endings.Malformed start fault) calls mid w' l r e = absurd (not_ten 6 (words ++ fault_line start fault.place fault.reason) status mid w' (λ n. omega (arith, n)) r e)
+silent_so k status spoken words endings.Spent calls mid w' l r e = absurd (not_ten 13 words status mid w' (λ n. omega (arith, n)) r e)
+silent_so k status spoken words endings.NoMemory calls mid w' l r e = absurd (omega (arith, r.0, e))
+
+silent_on : (path : List ℕ) (k status rounds : ℕ) (calls : Option (List Call)) (w w' : Option (List ℕ)) → EndsOn path k status rounds calls w w' → status ≡ 10 → Appends w w' []
+silent_on path k status rounds calls w w' o e = elim o.so [
+  | inl s ↦
+      let h = silent_so k status o.spoken s.words s.ending calls o.mid w' s.last s.reports e in
+      subst (λ (x : Option (List ℕ)). Appends w x []) (sym h.1) (subst (λ (x : List ℕ). Appends w o.mid x) h.0 o.wrote)
+  | inr s ↦ absurd (omega (arith, s.status_is, e))
+]
+
+pub silent : (path ks : List ℕ) (status rounds : ℕ) (calls : Option (List Call)) (w w' : Option (List ℕ)) → RunEnds path ks status rounds calls w w' → status ≡ 10 → Appends w w' []
+silent path [] status rounds calls w w' r e = elim r.0 [ inl y ↦ absurd (omega (arith, y, e)) | inr y ↦ absurd (omega (arith, y, e)) ]
+silent path (k ∷ ks) status rounds calls w w' r e = silent_on path k status rounds calls w w' r.0 e
 
 quiet_causes : (status faults faults' links links' sink sink' : ℕ) → faults' ≡ faults → links' ≡ links → (status ≡ 7 → ⊥) → SinkBlamed status sink sink' → Causes status faults faults' links links' sink sink'
 quiet_causes status faults faults' links links' sink sink' f b n s = record { by_host = λ e. absurd (n e); no_host = inr f; no_link = inr (inr b); by_sink = s.0; no_sink = s.1 }

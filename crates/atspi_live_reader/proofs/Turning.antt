@@ -35,7 +35,7 @@ use Rattle.atspi_live_reader.specs.declared.over.Over.TheVariants as overs
 
 -- what a live reader did, of the reader alone
 after : (written : List ℕ) (l : LiveReader) (took said : List Envelope) → Stands written l took said → IsAfter (reader_of l.reader) took said
-after written l took said f = record { done = f.done; whole = f.whole; sent = f.sent }
+after written l took said f = record { done = f.done; whole = f.whole; sent = f.sent; numbered = f.is.within }
 
 -- it is empty where it has nothing queued
 abbrev pub queued' : LiveReader → ℕ

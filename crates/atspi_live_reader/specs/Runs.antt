@@ -51,12 +51,12 @@ ReportsLast words endings.Spent status w w' = WritesLast 13 words status w w'
 ReportsLast words endings.NoMemory status w w' = Reports endings.NoMemory status w w'
 
 -- With the last words behind the lines that were written before, all is written, of what was taken where the host tells it: what is spoken up to
--- what ended the run, and where the peer ended then what is held.
+-- what ended the run, and where the peer ended then what is held. Where it did not authenticate, nothing was written.
 abbrev pub AreLast : ℕ → Option (List Call) → List ℕ → List ℕ → Ending → Type 0
 AreLast k calls spoken words endings.PeerEnded = OfTaken k calls (λ t. IsAll t (spoken ++ words))
 AreLast k calls spoken words (endings.Malformed start fault) = OfTaken k calls (λ t. IsSpokenToFault start fault.place fault.reason t (spoken ++ words))
 AreLast k calls spoken words endings.Spent = OfTaken k calls (λ t. IsSpokenToSpent t (spoken ++ words))
-AreLast k calls spoken words endings.NotAuthenticated = ⊤
+AreLast k calls spoken words endings.NotAuthenticated = spoken ≡ []
 AreLast k calls spoken words endings.NoMemory = ⊤
 AreLast k calls spoken words ending = OfTaken k calls (λ t. IsAllSpoken t (spoken ++ words))
 

@@ -1,5 +1,5 @@
 -- What a reader says on its link and speaks on its output, of all that it does.
-use Rattle.std.specs.Prelude.{◌≡◌, ◌<◌, ℕ, List, [], ◌∷◌, ◌++◌, codes, fold, length}
+use Rattle.std.specs.Prelude.{◌≡◌, ◌<◌, ◌≤◌, ℕ, List, [], ◌∷◌, ◌++◌, codes, fold, length}
 use Rattle.atspi_auth.specs.Talk.{behind, client_start}
 use Rattle.atspi_base.specs.Quoted.{quoted}
 use Rattle.atspi_message.specs.Envelope.{Envelope}
@@ -30,11 +30,13 @@ spoken_in (tells_end name ∷ ds) = spoken_in ds
 abbrev pub following : List Envelope → ReaderState
 following took = fold reader_takes (starts begins) took
 
--- from its start on it took these messages and handed out those: what it did so far and what it has queued is all that it does
+-- From its start on it took these messages and handed out those: what it did so far and what it has queued is all that it does. None of its
+-- own has passed the last number.
 pub record IsAfter (r : ReaderState) (took said : List Envelope) : Type 0 where
   pub done : List Done
   pub whole : record r { out = done ++ r.out } ≡ following took
   pub sent : sent_in done ≡ said
+  pub numbered : r.next ≤ 4294967296
 
 -- it has nothing left to hand out
 abbrev pub IsEmpty : ReaderState → Type 0

@@ -66,8 +66,8 @@ fn tell<K: Sink>(alloc: Global, ending: Ending, end: &mut LiveReader, sink: &mut
 /// Connects to the bus at the path, and is a reader there for so many rounds: authentication as a client, then the calls of its start, then
 /// what `Reader` does. What is given on the link is a front of the authentication's lines and then of the reader's messages, for the bytes
 /// that were taken. What is written is a front of the lines `say NAME "TEXT"` of what that reader speaks, after each round those of the round. With
-/// every status but 4, 5 and 10 all of them are written, up to what ended the run; and where the peer ended then for each application that the reader
-/// holds, in the order in which they became known, a line `show NAME K` and K rows as a trace has them.
+/// every status but 4 and 5 all of them are written, up to what ended the run, with 10 none; and where the peer ended then for each application that the
+/// reader holds, in the order in which they became known, a line `show NAME K` and K rows as a trace has them.
 ///
 /// Status 0: the peer ended. 4: the sink failed. 5: no memory is left. 6: a message of the peer is malformed, and behind the lines of what the
 /// messages before it made the reader speak the line `fault START PLACE REASON` was written, where START is how many bytes of messages stand before
@@ -84,6 +84,7 @@ pub fn read<K: Sink, H: Host>(
     requires links { H.links host.old ≡ [] }
     ensures speech { AllSpeak (H.links host.new) (H.calls host.new) }
     ensures ends { RunEnds path.now (H.links host.new) result rounds (H.calls host.new) (K.written sink.old) (K.written sink.new) }
+    ensures silent { result ≡ 10 → Appends (K.written sink.old) (K.written sink.new) [] }
     ensures causes { Causes result (H.faults host.old) (H.faults host.new) (H.link_faults host.old) (H.link_faults host.new) (K.faults sink.old) (K.faults sink.new) }
 {
     let Ok(mut end) = start(alloc) else {

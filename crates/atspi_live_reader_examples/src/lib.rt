@@ -3,7 +3,9 @@
 #![tactic(auto)]
 
 mod shows;
+mod silence;
 mod spoken;
 
 pub use shows::{held_views, shown_rows};
+pub use silence::silent_ends;
 pub use spoken::{all_of_nothing, last_words_of_readers, spoken_lines};

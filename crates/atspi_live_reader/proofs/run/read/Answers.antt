@@ -4,7 +4,7 @@ use Rattle.atspi_reader.specs.ReaderOf.{reader_of}
 use Rattle.atspi_live_reader.specs.Following.{OverBlames, RunsOver}
 use Rattle.atspi_live_reader.specs.Shows.{last_words}
 use Rattle.atspi_live_reader.specs.declared.over.Over.TheVariants.{Ended, NotWritten}
-use Rattle.atspi_live_reader.proofs.Running.{begins, ended, last_causes, may_tell, mute_causes, none_ends, none_speak, not_written, one_speaks, quiet, subst_causes}
+use Rattle.atspi_live_reader.proofs.Running.{begins, ended, last_causes, may_tell, mute_causes, none_ends, none_speak, not_written, one_speaks, quiet, silent, subst_causes}
 use Rattle.atspi_live_reader.proofs.run.read.Goals as goal
 
 pub returns-in_default-clause-speech : goal.returns-in_default-clause-speech
@@ -93,3 +93,17 @@ pub returns-clause-causes : goal.returns-clause-causes
 returns-clause-causes g c =
     mute_causes (g.H.Host.faults c.args.host.now) (g.H.Host.faults c.follow.new.host) (g.H.Host.link_faults c.args.host.now) (g.H.Host.link_faults c.follow.new.host) (g.K.Sink.faults c.args.sink.now) (g.K.Sink.faults c.follow.new.sink)
     (c.follow.ensures.other ∙ c.in-Done.ensures.cause) (c.in-NotWritten.ensures.cause ∙ c.connect.ensures.other) c.in-NotWritten.ensures.sink
+
+pub returns-in_default-clause-silent : goal.returns-in_default-clause-silent
+returns-in_default-clause-silent g c e = absurd (omega (arith, e))
+
+pub returns-in_default-connect-clause-silent : goal.returns-in_default-connect-clause-silent
+returns-in_default-connect-clause-silent g c e = absurd (omega (arith, e))
+
+pub returns-in-Ended-clause-silent : goal.returns-in-Ended-clause-silent
+returns-in-Ended-clause-silent g c =
+    silent c.args.path.now (g.H.Host.links c.follow.new.host) c.tell.result c.args.rounds (g.H.Host.calls c.follow.new.host) (g.K.Sink.written c.args.sink.now) (g.K.Sink.written c.tell.new.sink)
+    (returns-in-Ended-clause-ends g c)
+
+pub returns-clause-silent : goal.returns-clause-silent
+returns-clause-silent g c e = absurd (omega (arith, e))
