@@ -1,17 +1,17 @@
 -- The order of lines and messages, carried from what is known of an end to what is told of a run.
-use Rattle.std.proofs.Common.{◌≡◌, ℕ, List, ◌∷◌, ◌++◌, Option, None, Some}
+use Rattle.std.proofs.Common.{◌≡◌, ℕ, List, [], ◌∷◌, ◌++◌, Option, None, Some, refl}
 use Rattle.atspi_auth.specs.Talk.{behind, client_start}
 use Rattle.atspi_message.specs.Envelope.{Envelope}
 use Rattle.atspi_stream.specs.Stream.{IsParted}
 use Rattle.atspi_host.specs.declared.call.Call.{Call}
 use Rattle.atspi_host.specs.Calls.{taken, given}
 use Rattle.atspi_protocol.specs.exporting.Exporter.{Exporter}
-use Rattle.atspi_conversation.specs.Speech.{EndsBy, IsSpeech, IsSpentBy, envelopes}
+use Rattle.atspi_conversation.specs.Speech.{EndsBy, IsInOrder, IsMalformed, IsRefused, IsSpeech, IsSpentBy, envelopes}
 use Rattle.atspi_conversation.specs.declared.ending.Ending.{Ending}
 use Rattle.atspi_conversation.specs.declared.ending.Ending.TheVariants as endings
 use Rattle.atspi_live_app.specs.Lines.{lines_of}
 use Rattle.atspi_live_app.specs.Live.{IsMarked, IsStopped}
-use Rattle.atspi_live_app.specs.Overs.{EndsSo, HasTaken, IsOver, StopsBy}
+use Rattle.atspi_live_app.specs.Overs.{EndsSo, IsOver, StopsBy}
 use Rattle.atspi_live_app.specs.Standing.{Event, IsAfter, IsSpent, lines_in, taken_in}
 use Rattle.atspi_live_app.specs.Turns.{InTurn, IsInTurn, pieces}
 use Rattle.atspi_live_app.specs.declared.live_app.Stop.{Stop}
@@ -41,15 +41,36 @@ after_in P Q lines t messages rest s said f p a = record {
   numbered = a.numbered;
 }
 
-has_taken_in : (P Q : List Event → List (List ℕ) → Type 0) (lines : List (List ℕ)) (t : List ℕ) → Leads P Q lines t → HasTaken P lines t → HasTaken Q lines t
-has_taken_in P Q lines t f s = record {
+order_in : (P Q : List Event → List (List ℕ) → Type 0) (lines : List (List ℕ)) (t : List ℕ) → Leads P Q lines t → IsInOrder (IsAfter P lines) t → IsInOrder (IsAfter Q lines) t
+order_in P Q lines t f s = record {
+  authenticated = s.authenticated;
   messages = s.messages;
   rest = s.rest;
   parted = s.parted;
   awaits = s.awaits;
-  state = s.state;
+  end = s.end;
   said = s.said;
-  after = after_in P Q lines t s.messages s.rest s.state s.said f s.parted s.after;
+  stands = after_in P Q lines t s.messages s.rest s.end s.said f s.parted s.stands;
+}
+
+malformed_in : (P Q : List Event → List (List ℕ) → Type 0) (lines : List (List ℕ)) (t : List ℕ) (start place reason : ℕ) → Leads P Q lines t → IsMalformed (IsAfter P lines) t start place reason → IsMalformed (IsAfter Q lines) t start place reason
+malformed_in P Q lines t start place reason f s = record {
+  messages = s.messages;
+  rest = s.rest;
+  parted = s.parted;
+  fault = s.fault;
+  before = s.before;
+  end = s.end;
+  said = s.said;
+  stands = after_in P Q lines t s.messages s.rest s.end s.said f s.parted s.stands;
+}
+
+refused_in : (P Q : List Event → List (List ℕ) → Type 0) (lines : List (List ℕ)) (t : List ℕ) → Leads P Q lines t → IsRefused (IsAfter P lines) t → IsRefused (IsAfter Q lines) t
+refused_in P Q lines t f s = record {
+  at_fault = s.at_fault;
+  end = s.end;
+  said = s.said;
+  stands = after_in P Q lines t [] (behind client_start t) s.end s.said f (record { are = tt; parted = refl }) s.stands;
 }
 
 abbrev pub speech_in : (P Q : List Event → List (List ℕ) → Type 0) (lines : List (List ℕ)) (t g : List ℕ) → Leads P Q lines t → IsSpeech (IsAfter P lines) t g → IsSpeech (IsAfter Q lines) t g
@@ -83,11 +104,11 @@ spent_in P Q lines t f s = record {
 
 ends_in : (P Q : List Event → List (List ℕ) → Type 0) (lines : List (List ℕ)) (k rounds : ℕ) (ending : Ending) (cs : List Call) → Leads P Q lines (taken k cs) → EndsBy (IsAfter P lines) IsSpent k ending rounds cs
     → EndsBy (IsAfter Q lines) IsSpent k ending rounds cs
-ends_in P Q lines k rounds endings.RoundsDone cs f e = e
-ends_in P Q lines k rounds endings.PeerEnded cs f e = e
-ends_in P Q lines k rounds endings.HostFailed cs f e = e
-ends_in P Q lines k rounds endings.NotAuthenticated cs f e = e
-ends_in P Q lines k rounds (endings.Malformed start fault) cs f e = e
+ends_in P Q lines k rounds endings.RoundsDone cs f e = (order_in P Q lines (taken k cs) f e.0, e.1, e.2)
+ends_in P Q lines k rounds endings.PeerEnded cs f e = (order_in P Q lines (taken k cs) f e.0, e.1)
+ends_in P Q lines k rounds endings.HostFailed cs f e = order_in P Q lines (taken k cs) f e
+ends_in P Q lines k rounds endings.NotAuthenticated cs f e = (refused_in P Q lines (taken k cs) f e.0, e.1)
+ends_in P Q lines k rounds (endings.Malformed start fault) cs f e = (malformed_in P Q lines (taken k cs) start fault.place fault.reason f e.0, e.1)
 ends_in P Q lines k rounds endings.Spent cs f e = (spent_in P Q lines (taken k cs) f e.0, e.1)
 ends_in P Q lines k rounds endings.NoMemory cs f e = tt
 
@@ -123,7 +144,7 @@ stopped_in P Q lines t messages rest stops.NoMemory f p s = tt
 
 stops_in : (P Q : List Event → List (List ℕ) → Type 0) (lines : List (List ℕ)) (t : List ℕ) (stop : Stop) → Leads P Q lines t → StopsBy P lines stop t → StopsBy Q lines stop t
 stops_in P Q lines t stop f s = record {
-  order = s.order;
+  authenticated = s.authenticated;
   messages = s.messages;
   rest = s.rest;
   parted = s.parted;
@@ -141,11 +162,10 @@ none_so P lines k rounds (overs.Stopped stop) = tt
 
 pub over_in : (text : List ℕ) (place n takes' k rounds : ℕ) (over : Over) (calls : Option (List Call)) (marks : List ℕ) → Paced text place n takes' k calls marks → IsOver (IsMarked marks) (lines_of text) k over rounds calls
     → IsOver (InTurn k calls) (lines_of text) k over rounds calls
-over_in text place n takes' k rounds over None marks p o = record { speaks = tt; so = none_so (InTurn k None) (lines_of text) k rounds over; took = λ w. tt }
+over_in text place n takes' k rounds over None marks p o = record { speaks = tt; so = none_so (InTurn k None) (lines_of text) k rounds over }
 over_in text place n takes' k rounds over (Some cs) marks p o =
     let f : Leads (IsMarked marks) (IsInTurn (pieces k cs)) (lines_of text) (taken k cs) = in_turn text place n takes' k cs marks p in
     record {
       speaks = speech_in (IsMarked marks) (IsInTurn (pieces k cs)) (lines_of text) (taken k cs) (given k cs) f o.speaks;
       so = so_in (IsMarked marks) (IsInTurn (pieces k cs)) (lines_of text) k rounds over cs f o.so;
-      took = λ w. has_taken_in (IsMarked marks) (IsInTurn (pieces k cs)) (lines_of text) (taken k cs) f (o.took w);
     }

@@ -1,21 +1,16 @@
 -- A turn of an application: what was said, taken and done.
-use Rattle.std.proofs.Common.{◌≡◌, ℕ, List, [], ◌∷◌, ◌++◌, length, take, drop, Bool, true, false, Option, None, Some, refl, sym, ap, subst, ◌∙◌, append-nil, take_at, drop_at}
+use Rattle.std.proofs.Common.{◌≡◌, ℕ, List, [], ◌∷◌, ◌++◌, length, take, drop, Option, None, Some, refl, sym, subst, take_at, drop_at}
 use Rattle.std.proofs.lemmas.List.{length-map}
 use Rattle.atspi_auth.specs.Talk.{behind, client_start}
 use Rattle.atspi_message.specs.Envelope.{Envelope}
 use Rattle.atspi_stream.specs.Stream.{IsParted}
 use Rattle.atspi_host.specs.declared.call.Call.{Call}
-use Rattle.std.specs.Prelude.{◌==◌, if◌then◌else◌}
-use Rattle.atspi_host.specs.declared.call.Call.TheVariants.{Read}
-use Rattle.atspi_host.specs.declared.call.Did.TheVariants.{End}
-use Rattle.atspi_host.specs.Calls.{taken}
 use Rattle.atspi_conversation.specs.Rounds.{Breaks, IsRound, Makes}
 use Rattle.atspi_conversation.specs.Speech.{Ends, Speaks, envelopes}
 use Rattle.atspi_conversation.specs.Talking.{Going, HasNone, IsEnded, MaySpeak}
 use Rattle.atspi_conversation.specs.declared.conversation.Conversation.{Conversation}
 use Rattle.atspi_conversation.specs.declared.ending.Ending.{Ending}
 use Rattle.atspi_conversation.specs.declared.ending.Ending.TheVariants as endings
-use Rattle.atspi_conversation.proofs.MovedLemmas.{taken_append}
 use Rattle.atspi_conversation.proofs.RoundLemmas.{makes_if, none_wait}
 use Rattle.atspi_conversation.proofs.SeenLemmas.{breaks_seen, ends_seen, round_seen, speaks_seen}
 use Rattle.atspi_conversation.proofs.StepLemmas.{all_done}
@@ -24,7 +19,7 @@ use Rattle.atspi_live_app.specs.Lines.{lines_of}
 use Rattle.atspi_live_app.specs.Standing.{Event, IsAfter, IsEmpty, IsSpent}
 use Rattle.atspi_live_app.specs.Live.{IsMarked, IsStopped, Stands, StandsAt, aside_of, queued_in, seen}
 use Rattle.atspi_live_app.specs.Input.{left_in}
-use Rattle.atspi_live_app.specs.Overs.{EndsWhole, HasTaken, IsOver, StopsSo, TakesAll}
+use Rattle.atspi_live_app.specs.Overs.{IsOver, StopsSo}
 use Rattle.atspi_live_app.specs.Pace.{Heard}
 use Rattle.atspi_live_app.specs.declared.live_app.LiveApp.{LiveApp}
 use Rattle.atspi_live_app.specs.declared.live_app.Stop.{Stop}
@@ -63,53 +58,15 @@ breaks_of St P lines see k most ending t g old new h m =
     makes_if old new (Breaks St (HasNone (λ e. queued_in (see e))) k most ending t g) (Breaks (IsAfter P lines) IsEmpty k most ending t g)
     (λ calls. breaks_seen St (IsAfter P lines) (HasNone (λ e. queued_in (see e))) IsEmpty see k most ending t g calls h (λ e. empty_at (see e))) m
 
--- between two rounds all messages that are whole were taken
-going_took : {E : Type 0} (St : E → List Envelope → List Envelope → Type 0) (P : List Event → List (List ℕ) → Type 0) (lines : List (List ℕ)) (see : E → Option Exporter) (k n : ℕ) (calls : Option (List Call)) (c : Conversation) (end : E) → IsSeen St P lines see
-    → Going St k calls n c end → TakesAll P lines k calls
-going_took St P lines see k n None c end h w = tt
-going_took St P lines see k n (Some cs) c end h w =
-    let v = w.at_ease.converses in
-    record {
-      messages = v.messages;
-      rest = c.feeder;
-      parted = subst (λ (t : List ℕ). IsParted (behind client_start t) v.messages c.feeder) (sym w.tells.0) v.parted;
-      awaits = w.at_ease.awaits;
-      state = see end;
-      said = v.said;
-      after = h end (envelopes v.messages) v.said v.end_stands;
-    }
-
--- and so where the peer then ended
-none_more : (b : Bool) → ◌≡◌ {A = List ℕ} ((if b then [] else []) ++ []) []
-none_more true = refl
-none_more false = refl
-
-same_taken : (k : ℕ) (cs ds calls : List Call) → calls ≡ Read k [] End ∷ [] → ds ≡ cs ++ calls → taken k ds ≡ taken k cs
-same_taken k cs ds calls e f =
-    ap (taken k) f ∙ taken_append k cs calls ∙ ap (λ (w : List ℕ). taken k cs ++ w) (ap (taken k) e ∙ none_more (k == k)) ∙ append-nil (taken k cs)
-
-pub ended_took : {E : Type 0} (St : E → List Envelope → List Envelope → Type 0) (IsNone : E → Type 0) (P : List Event → List (List ℕ) → Type 0) (lines : List (List ℕ)) (see : E → Option Exporter) (k most n : ℕ) (ending : Ending) (old new : Option (List Call)) (t g : List ℕ)
-    (c : Conversation) (end : E) → IsSeen St P lines see → Going St k old n c end → Makes old new (Breaks St IsNone k most ending t g) → EndsWhole (overs.Ended ending) → TakesAll P lines k new
-ended_took St IsNone P lines see k most n ending old None t g c end h w m e = tt
-ended_took St IsNone P lines see k most n ending None (Some ds) t g c end h w m e = absurd m
-ended_took St IsNone P lines see k most n endings.PeerEnded (Some cs) (Some ds) t g c end h w m e =
-    subst (λ (x : List ℕ). HasTaken P lines x) (sym (same_taken k cs ds m.0 m.1 m.2)) (going_took St P lines see k n (Some cs) c end h w)
-ended_took St IsNone P lines see k most n endings.RoundsDone (Some cs) (Some ds) t g c end h w m e = absurd m.1
-ended_took St IsNone P lines see k most n endings.HostFailed (Some cs) (Some ds) t g c end h w m e = absurd e
-ended_took St IsNone P lines see k most n endings.NotAuthenticated (Some cs) (Some ds) t g c end h w m e = absurd e
-ended_took St IsNone P lines see k most n (endings.Malformed start fault) (Some cs) (Some ds) t g c end h w m e = absurd e
-ended_took St IsNone P lines see k most n endings.Spent (Some cs) (Some ds) t g c end h w m e = absurd e
-ended_took St IsNone P lines see k most n endings.NoMemory (Some cs) (Some ds) t g c end h w m e = absurd e
-
 -- the conversation ended
 pub turn_ended : {E : Type 0} (St : E → List Envelope → List Envelope → Type 0) (P : List Event → List (List ℕ) → Type 0) (lines : List (List ℕ)) (see : E → Option Exporter) (k rounds : ℕ) (ending : Ending) (calls : Option (List Call)) → IsSeen St P lines see
-    → IsEnded St (λ e m. IsSpent (see e) m) k ending rounds calls → (EndsWhole (overs.Ended ending) → TakesAll P lines k calls) → IsOver P lines k (overs.Ended ending) rounds calls
-turn_ended St P lines see k rounds ending calls h e t = record { speaks = speaks St P lines see k calls h e.0; so = ends_on St P lines see k rounds ending calls h e.1; took = t }
+    → IsEnded St (λ e m. IsSpent (see e) m) k ending rounds calls → IsOver P lines k (overs.Ended ending) rounds calls
+turn_ended St P lines see k rounds ending calls h e = record { speaks = speaks St P lines see k calls h e.0; so = ends_on St P lines see k rounds ending calls h e.1 }
 
 -- all rounds were done
 pub all_turned : {E : Type 0} (St : E → List Envelope → List Envelope → Type 0) (P : List Event → List (List ℕ) → Type 0) (lines : List (List ℕ)) (see : E → Option Exporter) (k n rounds : ℕ) (calls : Option (List Call)) (c : Conversation) (end : E) → IsSeen St P lines see
     → n ≡ rounds → Going St k calls n c end → IsOver P lines k (overs.Ended endings.RoundsDone) rounds calls
-all_turned St P lines see k n rounds calls c end h e g = turn_ended St P lines see k rounds endings.RoundsDone calls h (all_done St (λ e m. IsSpent (see e) m) k n rounds calls c end e g) (λ w. going_took St P lines see k n calls c end h g)
+all_turned St P lines see k n rounds calls c end h e g = turn_ended St P lines see k rounds endings.RoundsDone calls h (all_done St (λ e m. IsSpent (see e) m) k n rounds calls c end e g)
 
 -- a line was not done
 stops : {E : Type 0} (St : E → List Envelope → List Envelope → Type 0) (P : List Event → List (List ℕ) → Type 0) (lines : List (List ℕ)) (see : E → Option Exporter) (k n : ℕ) (stop : Stop) (calls : Option (List Call)) (c : Conversation) (end : E)
@@ -118,7 +75,7 @@ stops St P lines see k n stop None c end f g e = tt
 stops St P lines see k n stop (Some cs) c end f g e =
     let v = g.at_ease.converses in (
       record {
-        order = e.1.0;
+        authenticated = e.1.0.authenticated;
         messages = v.messages;
         rest = c.feeder;
         parted = subst (λ (t : List ℕ). IsParted (behind client_start t) v.messages c.feeder) (sym g.tells.0) v.parted;
@@ -132,7 +89,7 @@ pub turn_stopped : {E : Type 0} (St : E → List Envelope → List Envelope → 
     → ((took said : List Envelope) → St end took said → IsStopped P stop lines took) → Going St k calls n c end → IsOver P lines k (overs.Stopped stop) rounds calls
 turn_stopped St P lines see k n rounds stop calls c end h f g =
     let e : IsEnded St (λ e m. IsSpent (see e) m) k endings.RoundsDone n calls = all_done St (λ e m. IsSpent (see e) m) k n n calls c end refl g in
-    record { speaks = speaks St P lines see k calls h e.0; so = stops St P lines see k n stop calls c end f g e; took = λ w. absurd w }
+    record { speaks = speaks St P lines see k calls h e.0; so = stops St P lines see k n stop calls c end f g e }
 
 -- how many messages the end took are whole in what was taken
 pub heard_of : {E : Type 0} (St : E → List Envelope → List Envelope → Type 0) (k n : ℕ) (calls : Option (List Call)) (c : Conversation) (end : E) (w : Going St k calls n c end) → Heard k calls (length (envelopes w.at_ease.converses.messages))

@@ -1,15 +1,13 @@
 -- How an application that exports its tree on a link comes to its end.
 use Rattle.std.specs.Prelude.{◌≡◌, ℕ, List, Option, None, Some, ⊤}
-use Rattle.atspi_auth.specs.Talk.{behind, client_start}
+use Rattle.atspi_auth.specs.Talk.{after, behind, client_start, fault_in}
 use Rattle.atspi_message.specs.Envelope.{Envelope}
 use Rattle.atspi_stream.specs.Stream.{AwaitsMore, IsParted}
 use Rattle.atspi_host.specs.declared.call.Call.{Call}
 use Rattle.atspi_host.specs.Calls.{taken}
 use Rattle.atspi_conversation.specs.Moved.{AllGoOn, reads}
-use Rattle.atspi_conversation.specs.Speech.{Ends, IsInOrder, Speaks, envelopes}
+use Rattle.atspi_conversation.specs.Speech.{Ends, Speaks, envelopes}
 use Rattle.atspi_conversation.specs.Talking.{Blames}
-use Rattle.atspi_conversation.specs.declared.ending.Ending.TheVariants as endings
-use Rattle.atspi_protocol.specs.exporting.Exporter.{Exporter}
 use Rattle.atspi_live_app.specs.Standing.{Event, IsAfter, IsSpent}
 use Rattle.atspi_live_app.specs.Live.{IsStopped}
 use Rattle.atspi_live_app.specs.declared.live_app.Stop.{Stop}
@@ -18,7 +16,7 @@ use Rattle.atspi_live_app.specs.declared.over.Over.TheVariants as overs
 
 -- nothing of the bytes that were taken is at fault, and where the messages that are whole were taken a line is not done for this
 pub record StopsBy (IsOrder : List Event → List (List ℕ) → Type 0) (lines : List (List ℕ)) (stop : Stop) (t : List ℕ) : Type 0 where
-  pub order : IsInOrder t
+  pub authenticated : fault_in (after client_start t).stage ≡ None
   pub messages : List (Envelope × List ℕ)
   pub rest : List ℕ
   pub parted : IsParted (behind client_start t) messages rest
@@ -29,36 +27,16 @@ abbrev pub StopsSo : (List Event → List (List ℕ) → Type 0) → List (List 
 StopsSo IsOrder lines stop k None = ⊤
 StopsSo IsOrder lines stop k (Some cs) = StopsBy IsOrder lines stop (taken k cs) × AllGoOn (reads k cs)
 
--- the conversation ended, or a line was not done
+-- The conversation ended, or a line was not done. Whatever the ending, but for want of memory, an application stands that took the messages before it,
+-- and none of its own has passed the last number.
 abbrev pub EndsSo : (List Event → List (List ℕ) → Type 0) → List (List ℕ) → ℕ → Over → ℕ → Option (List Call) → Type 0
 EndsSo IsOrder lines k (overs.Ended ending) rounds calls = Ends (IsAfter IsOrder lines) IsSpent k ending rounds calls
 EndsSo IsOrder lines k (overs.Stopped stop) rounds calls = StopsSo IsOrder lines stop k calls
 
--- the run was over behind whole rounds: the peer ended, or all rounds were done
-abbrev pub EndsWhole : Over → Type 0
-EndsWhole (overs.Ended endings.PeerEnded) = ⊤
-EndsWhole (overs.Ended endings.RoundsDone) = ⊤
-EndsWhole over = ⊥
-
--- all messages that are whole in these bytes were taken, and none of the application's own passed the last number
-pub record HasTaken (IsOrder : List Event → List (List ℕ) → Type 0) (lines : List (List ℕ)) (t : List ℕ) : Type 0 where
-  pub messages : List (Envelope × List ℕ)
-  pub rest : List ℕ
-  pub parted : IsParted (behind client_start t) messages rest
-  pub awaits : AwaitsMore rest
-  pub state : Option Exporter
-  pub said : List Envelope
-  pub after : IsAfter IsOrder lines state (envelopes messages) said
-
-abbrev pub TakesAll : (List Event → List (List ℕ) → Type 0) → List (List ℕ) → ℕ → Option (List Call) → Type 0
-TakesAll IsOrder lines k None = ⊤
-TakesAll IsOrder lines k (Some cs) = HasTaken IsOrder lines (taken k cs)
-
--- what was said, what was taken, and why it was over, where lines and messages came in such an order
+-- what was said, and why it was over, where lines and messages came in such an order
 pub record IsOver (IsOrder : List Event → List (List ℕ) → Type 0) (lines : List (List ℕ)) (k : ℕ) (over : Over) (rounds : ℕ) (calls : Option (List Call)) : Type 0 where
   pub speaks : Speaks (IsAfter IsOrder lines) k calls
   pub so : EndsSo IsOrder lines k over rounds calls
-  pub took : EndsWhole over → TakesAll IsOrder lines k calls
 
 -- the count of failed reads and writes rose where one failed, and else is the same
 abbrev pub OverBlames : Over → ℕ → ℕ → Type 0

@@ -1,12 +1,11 @@
 use Rattle.std.proofs.Common.{length, refl, rules}
 use Rattle.atspi_conversation.specs.Speech.{envelopes}
 use Rattle.atspi_live_app.specs.Lines.{lines_of}
-use Rattle.atspi_conversation.specs.Talking.{HasNone}
-use Rattle.atspi_live_app.specs.Live.{IsMarked, aside_of, queued_in}
+use Rattle.atspi_live_app.specs.Live.{IsMarked, aside_of}
 use Rattle.atspi_live_app.specs.Pace.{BreaksOver}
 use Rattle.atspi_live_app.specs.declared.over.Over.TheVariants.{Stopped}
 use Rattle.atspi_conversation.proofs.RoundLemmas.{makes_none}
-use Rattle.atspi_live_app.proofs.Turning.{StandsOf, breaks_of, ended_took, going_turns, heard_of, may_turns, round_of, see_of, seen_of, turn_ended, turn_stopped}
+use Rattle.atspi_live_app.proofs.Turning.{StandsOf, breaks_of, going_turns, heard_of, may_turns, round_of, see_of, seen_of, turn_ended, turn_stopped}
 use Rattle.atspi_live_app.proofs.rounds.turn.Goals as goal
 
 pub returns-in-Err-clause-err : goal.returns-in-Err-clause-err
@@ -50,10 +49,7 @@ returns-in-Err-round-clause-err g c = λ text marks place n rounds w.
     (g.H.Host.calls c.args.host.now) c.args.conversation.now c.args.end.now c.do_due.new.end w h.2 in (
       h.0,
       turn_ended (StandsOf g.A.Exporting.is_app g.A.Exporting.exporter g.A.Exporting.is_kit (aside_of c.do_due.new.end.input.at h.0 text)) (IsMarked h.0) (lines_of text) (see_of g.A.Exporting.exporter) c.args.link rounds c.in-Err-round.ending (g.H.Host.calls c.round.new.host)
-          (seen_of g.A.Exporting.is_app g.A.Exporting.exporter g.A.Exporting.is_kit c.do_due.new.end.input.at h.0 text) (c.in-Err-round.ensures.err (aside_of c.do_due.new.end.input.at h.0 text) n rounds on)
-          (ended_took (StandsOf g.A.Exporting.is_app g.A.Exporting.exporter g.A.Exporting.is_kit (aside_of c.do_due.new.end.input.at h.0 text)) (HasNone (λ e. queued_in (see_of g.A.Exporting.exporter e))) (IsMarked h.0) (lines_of text) (see_of g.A.Exporting.exporter) c.args.link
-          (length c.args.piece.now) n c.in-Err-round.ending (g.H.Host.calls c.args.host.now) (g.H.Host.calls c.round.new.host) w.t w.g c.args.conversation.now c.do_due.new.end
-          (seen_of g.A.Exporting.is_app g.A.Exporting.exporter g.A.Exporting.is_kit c.do_due.new.end.input.at h.0 text) on (c.in-Err-round.ensures.made (aside_of c.do_due.new.end.input.at h.0 text) n on)),
+          (seen_of g.A.Exporting.is_app g.A.Exporting.exporter g.A.Exporting.is_kit c.do_due.new.end.input.at h.0 text) (c.in-Err-round.ensures.err (aside_of c.do_due.new.end.input.at h.0 text) n rounds on),
       (
         c.do_due.new.takes,
         c.do_due.new.end.input.at,

@@ -1,0 +1,65 @@
+use Rattle.std.proofs.Common.{◌≡◌, ℕ, List, [], ◌∷◌, ◌++◌, length, None, refl, sym, ap, ◌∙◌, append-nil, lit<}
+use Rattle.atspi_auth.specs.Lines.{lines_of, joined}
+use Rattle.atspi_auth.specs.Replies.{answer, reply_to}
+use Rattle.atspi_auth.specs.Requests.{is_grant, is_number}
+use Rattle.atspi_auth.specs.Talk.{after, behind, client_start, fault_in, heard, hears, hears_bytes}
+use Rattle.atspi_auth.proofs.LinesLemmas.{joined-lines_of}
+use Rattle.atspi_message.specs.Envelope.{Envelope}
+use Rattle.atspi_stream.specs.Stream.{few}
+use Rattle.atspi_conversation.proofs.LineLemmas.{none_behind, starts_itself}
+use Rattle.atspi_live_app.specs.Standing.{Event, IsAfter, taken_in, takes}
+use Rattle.atspi_live_examples.specs.Lines.{granted, rejected}
+use Rattle.atspi_live_examples.proofs.ends.unstarted_ends.Goals as goal
+
+-- behind the lines of a server that lets a client in stand the bytes of messages
+behind_granted : (bytes : List ℕ) → behind client_start (granted ++ bytes) ≡ bytes
+unfolding heard hears hears_bytes lines_of joined answer reply_to is_grant is_number
+behind_granted bytes = joined-lines_of bytes
+
+at_fault : fault_in (after client_start rejected).stage ≡ None → ⊥
+unfolding heard hears hears_bytes lines_of joined answer reply_to is_grant is_number
+at_fault h = cc
+
+sound : fault_in (after client_start []).stage ≡ None
+unfolding heard hears hears_bytes lines_of joined answer reply_to is_grant is_number
+sound = refl
+
+-- an application that has not started, behind such messages
+unstarted : (IsOrder : List Event → List (List ℕ) → Type 0) (lines : List (List ℕ)) → IsOrder [] lines → IsAfter IsOrder lines None [] []
+unstarted IsOrder lines o = record { history = []; left = lines; order = o; all = refl; taken = refl; whole = None; makes = refl; handed = refl; numbered = tt }
+
+one_taken : (IsOrder : List Event → List (List ℕ) → Type 0) (lines : List (List ℕ)) (e : Envelope) → IsOrder (takes e ∷ []) lines → IsAfter IsOrder lines None (e ∷ []) []
+one_taken IsOrder lines e o = record { history = takes e ∷ []; left = lines; order = o; all = refl; taken = refl; whole = None; makes = (None, refl, refl); handed = refl; numbered = tt }
+
+pub returns-clause-refused : goal.returns-clause-refused
+returns-clause-refused c IsOrder lines o = (record { at_fault = at_fault; end = None; said = []; stands = unstarted IsOrder lines o }, (tt, tt))
+
+pub returns-clause-failed : goal.returns-clause-failed
+returns-clause-failed c IsOrder lines o = record {
+  authenticated = sound;
+  messages = [];
+  rest = [];
+  parted = record { are = tt; parted = none_behind };
+  awaits = few (lit< tt);
+  end = None;
+  said = [];
+  stands = unstarted IsOrder lines o;
+}
+
+pub returns-clause-malformed : goal.returns-clause-malformed
+returns-clause-malformed c IsOrder lines e m bytes fault n o is f = (
+  record {
+    messages = (e, m) ∷ [];
+    rest = bytes;
+    parted = record { are = (is, tt); parted = ap (λ (x : List ℕ). behind client_start x) (append-nil (granted ++ (m ++ bytes))) ∙ behind_granted (m ++ bytes) ∙ ap (λ (x : List ℕ). x ++ bytes) (sym (append-nil m)) };
+    fault = f;
+    before = ap (λ (x : List ℕ). length x) (sym (append-nil m));
+    end = None;
+    said = [];
+    stands = one_taken IsOrder lines e o;
+  },
+  (tt, tt),
+)
+
+pub returns-clause-no_order : goal.returns-clause-no_order
+returns-clause-no_order c lines s = s.stands.order
