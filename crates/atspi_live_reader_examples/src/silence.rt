@@ -9,6 +9,6 @@ ghost use Rattle.atspi_live_reader.specs.Runs.{AreLast, ReportsLast};
 pub fn silent_ends()
     ensures before { (k : ℕ) (calls : Option (List Call)) (words : List ℕ) → AreLast k calls [] words Ending.NotAuthenticated }
     ensures no_line { (k : ℕ) (calls : Option (List Call)) (words : List ℕ) → AreLast k calls (codes "say") words Ending.NotAuthenticated → ⊥ }
-    ensures then { (words : List ℕ) → ReportsLast words Ending.NotAuthenticated 10 (Some []) (Some []) }
+    ensures status { (words : List ℕ) → ReportsLast words Ending.NotAuthenticated 10 (Some []) (Some []) }
     ensures no_word { (words : List ℕ) → ReportsLast words Ending.NotAuthenticated 10 (Some []) (Some (codes "say")) → ⊥ }
 {}

@@ -11,8 +11,8 @@ returns-clause-no_line c k calls words h = by h
     by : codes "say" ≡ [] → ⊥
     by h = cc
 
-pub returns-clause-then : goal.returns-clause-then
-returns-clause-then c words = (refl, refl)
+pub returns-clause-status : goal.returns-clause-status
+returns-clause-status c words = (refl, refl)
 
 pub returns-clause-no_word : goal.returns-clause-no_word
 returns-clause-no_word c words r = by r.1
