@@ -8,11 +8,11 @@ use Rattle.atspi_host.specs.Calls.{Adds, front, takes, gives, taken, given}
 use Rattle.atspi_live_bus.specs.Service.{OfTold}
 use Rattle.atspi_live_bus.specs.Turns.{Carries, OthersRest}
 
-taken_append : (k : ℕ) (cs ds : List Call) → taken k (cs ++ ds) ≡ taken k cs ++ taken k ds
+pub taken_append : (k : ℕ) (cs ds : List Call) → taken k (cs ++ ds) ≡ taken k cs ++ taken k ds
 taken_append k [] ds = refl
 taken_append k (c ∷ cs) ds = ap (λ (w : List ℕ). takes k c ++ w) (taken_append k cs ds) ∙ sym (append_assoc (takes k c) (taken k cs) (taken k ds))
 
-given_append : (k : ℕ) (cs ds : List Call) → given k (cs ++ ds) ≡ given k cs ++ given k ds
+pub given_append : (k : ℕ) (cs ds : List Call) → given k (cs ++ ds) ≡ given k cs ++ given k ds
 given_append k [] ds = refl
 given_append k (c ∷ cs) ds = ap (λ (w : List ℕ). gives k c ++ w) (given_append k cs ds) ∙ sym (append_assoc (gives k c) (given k cs) (given k ds))
 
@@ -32,7 +32,7 @@ given_still k cs c e = given_more k cs c ∙ ap (λ (w : List ℕ). given k cs +
 same_link : (k : ℕ) → (k == k) ≡ true
 same_link k = elim (eqb_tells k k) [ inl e ↦ e.0 | inr e ↦ absurd (e.1 refl) ]
 
-takes_read : (k : ℕ) (bytes : List ℕ) (did : Did) → takes k (Read k bytes did) ≡ bytes
+pub takes_read : (k : ℕ) (bytes : List ℕ) (did : Did) → takes k (Read k bytes did) ≡ bytes
 takes_read k bytes did = rw (same_link k) refl
 
 pub gives_write : (k : ℕ) (bytes : List ℕ) (did : Did) → gives k (Write k bytes did) ≡ front did bytes
@@ -44,7 +44,7 @@ others_take k j bytes did n = elim (eqb_tells k j) [ inl e ↦ absurd (n (sym e.
 others_give : (k j : ℕ) (bytes : List ℕ) (did : Did) → (j ≡ k → ⊥) → gives j (Write k bytes did) ≡ []
 others_give k j bytes did n = elim (eqb_tells k j) [ inl e ↦ absurd (n (sym e.1)) | inr e ↦ rw e.0 refl ]
 
-others_read : (k : ℕ) (cs : List Call) (bytes : List ℕ) (did : Did) → OthersRest k cs (cs ++ Read k bytes did ∷ [])
+pub others_read : (k : ℕ) (cs : List Call) (bytes : List ℕ) (did : Did) → OthersRest k cs (cs ++ Read k bytes did ∷ [])
 others_read k cs bytes did j n = (taken_still j cs (Read k bytes did) (others_take k j bytes did n), given_still j cs (Read k bytes did) refl)
 
 pub others_write : (k : ℕ) (cs : List Call) (bytes : List ℕ) (did : Did) → OthersRest k cs (cs ++ Write k bytes did ∷ [])

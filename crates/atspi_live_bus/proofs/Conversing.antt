@@ -1,8 +1,10 @@
 -- What was heard and said on a link, step behind step.
-use Rattle.std.proofs.Common.{◌≡◌, ℕ, List, [], ◌∷◌, ◌++◌, refl, sym, ap, subst, ◌∙◌, inl, inr, append_assoc, append-nil}
+use Rattle.std.proofs.Common.{◌≡◌, ◌<◌, ℕ, List, [], ◌∷◌, ◌++◌, length, None, Some, refl, sym, ap, subst, ◌∙◌, inl, inr, append_assoc, append-nil, length-append, arith}
 use Rattle.atspi_auth.specs.Lines.{lines_of}
 use Rattle.atspi_auth.specs.Said.{bytes_of}
-use Rattle.atspi_auth.specs.Talk.{HandsOut, Heard, Standing, Stands, after, behind, ends, heard, hears, hears_bytes, server_start, told}
+use Rattle.atspi_auth.specs.Talk.{HandsOut, Heard, Refuses, Standing, Stands, after, behind, ends, fault_in, heard, hears, hears_bytes, server_start, told}
+use Rattle.atspi_auth.specs.declared.fault.AuthFault.{AuthFault}
+use Rattle.atspi_auth.specs.declared.fault.AuthFault.TheVariants as faults
 use Rattle.atspi_auth.specs.declared.said.AuthLine.{AuthLine}
 use Rattle.atspi_auth.specs.declared.stage.Stage.TheVariants.{Over}
 use Rattle.atspi_auth.proofs.WholeLemmas.{after-append, behind-append, continues}
@@ -10,6 +12,10 @@ use Rattle.atspi_message.specs.Envelope.{Envelope}
 use Rattle.atspi_message.specs.Bytes.{IsMessage}
 use Rattle.atspi_stream.specs.Stream.{IsParted}
 use Rattle.atspi_stream.proofs.NextLaws.{history_more, takes_piece}
+use Rattle.atspi_stream.proofs.StreamLaws.{message_states}
+use Rattle.atspi_host.specs.declared.call.Did.{Did}
+use Rattle.atspi_live_bus.specs.Closes.{IsLost}
+use Rattle.atspi_live_bus.specs.Rounds.{GoesOn}
 use Rattle.atspi_live_bus.specs.Service.{IsSpeech, envelopes, line_bytes, lines_for}
 use Rattle.atspi_live_bus.specs.Turns.{Converses}
 use Rattle.atspi_live_bus.specs.declared.link.Link.{Link}
@@ -173,8 +179,8 @@ told_same t piece lines now s = ap (λ (n : Standing). told n piece) s
 
 -- a piece was heard
 pub heard_on : (m : List Envelope) (h : List ℕ) (l l' : Link) (t g piece : List ℕ) → l'.server ≡ after l.server piece → l'.feeder ≡ l.feeder ++ behind l.server piece → l'.out.items ≡ l.out.items
-    → Converses m h l t g → Converses m h l' (t ++ piece) g
-heard_on m h l l' t g piece server feeder out v =
+    → fault_in (told l.server piece).stage ≡ None → Converses m h l t g → Converses m h l' (t ++ piece) g
+heard_on m h l l' t g piece server feeder out none v =
     let p : List ℕ = behind l.server piece in
     let same : p ≡ behind (after server_start t) piece = ap (λ (w : Heard). w.behind) (told_same t piece v.lines l.server v.server_stands) in
     record {
@@ -193,6 +199,7 @@ heard_on m h l l' t g piece server feeder out v =
               ap (λ (n : Standing). n.unsent) server ∙ ap (λ (w : List AuthLine). l.server.unsent ++ w) stays.1 ∙ append-nil l.server.unsent ∙ e.1,
             )
       ];
+      no_fault = ap (λ (n : Standing). fault_in n.stage) server ∙ none;
     }
 
 -- the bus was told a message that was held
@@ -209,6 +216,7 @@ told_one m h l l' t g e bytes spelled split server out v = record {
     | inl o ↦ inl o
     | inr o ↦ inr (ap (λ (n : Standing). n.stage) server ∙ o.0, ap (λ (n : Standing). n.unsent) server ∙ o.1)
   ];
+  no_fault = ap (λ (n : Standing). fault_in n.stage) server ∙ v.no_fault;
 }
 
 -- nothing of it changed
@@ -224,6 +232,7 @@ idle_on m h l l' t g server feeder out v = record {
     | inl o ↦ inl o
     | inr o ↦ inr (ap (λ (n : Standing). n.stage) server ∙ o.0, ap (λ (n : Standing). n.unsent) server ∙ o.1)
   ];
+  no_fault = ap (λ (n : Standing). fault_in n.stage) server ∙ v.no_fault;
 }
 
 one_line : (x : AuthLine) → line_bytes (x ∷ []) ≡ bytes_of x
@@ -233,9 +242,9 @@ some_line : (x : AuthLine) (us : List AuthLine) → x ∷ us ≡ [] → ⊥
 some_line x us e = cc
 
 -- a line waits to be given
-pub line_said : (m : List Envelope) (h : List ℕ) (l l' : Link) (t g : List ℕ) (x : AuthLine) → HandsOut server_start l.server l'.server (x ∷ []) → l.server.unsent ≡ x ∷ l'.server.unsent → l'.feeder ≡ l.feeder → l'.out.items ≡ l.out.items ++ bytes_of x
+pub line_said : (m : List Envelope) (h : List ℕ) (l l' : Link) (t g : List ℕ) (x : AuthLine) → HandsOut server_start l.server l'.server (x ∷ []) → l.server.unsent ≡ x ∷ l'.server.unsent → l'.server.stage ≡ l.server.stage → l'.feeder ≡ l.feeder → l'.out.items ≡ l.out.items ++ bytes_of x
     → Converses m h l t g → Converses m h l' t g
-line_said m h l l' t g x whole line feeder out v = record {
+line_said m h l l' t g x whole line stage feeder out v = record {
   lines = v.lines ++ x ∷ [];
   messages = v.messages;
   server_stands = whole t v.lines v.server_stands;
@@ -243,6 +252,7 @@ line_said m h l l' t g x whole line feeder out v = record {
   taken_all = v.taken_all;
   all = ap (λ (w : List ℕ). g ++ w) (out ∙ ap (λ (w : List ℕ). l.out.items ++ w) (sym (one_line x))) ∙ with_lines g l.out.items h v.lines (x ∷ []) (v.lines ++ x ∷ []) v.all refl nothing;
   order = inl nothing;
+  no_fault = ap fault_in stage ∙ v.no_fault;
 }
   where
     nothing : h ≡ []
@@ -259,6 +269,7 @@ handed_more m h part l l' t g over none server feeder out v = record {
   taken_all = v.taken_all;
   all = ap (λ (w : List ℕ). g ++ w) out ∙ sym (append_assoc g l.out.items part) ∙ ap (λ (w : List ℕ). w ++ part) v.all ∙ append_assoc (line_bytes v.lines) h part;
   order = inr (ap (λ (n : Standing). n.stage) server ∙ over, ap (λ (n : Standing). n.unsent) server ∙ none);
+  no_fault = ap (λ (n : Standing). fault_in n.stage) server ∙ v.no_fault;
 }
 
 -- some of the bytes that waited were given
@@ -274,12 +285,17 @@ given_on m h part l l' t g rest server feeder v = record {
     | inl e ↦ inl e
     | inr e ↦ inr (ap (λ (n : Standing). n.stage) server ∙ e.0, ap (λ (n : Standing). n.unsent) server ∙ e.1)
   ];
+  no_fault = ap (λ (n : Standing). fault_in n.stage) server ∙ v.no_fault;
 }
 
 -- before the first byte nothing stands behind the lines
 none_behind : behind server_start [] ≡ []
 unfolding heard hears hears_bytes lines_of
 none_behind = refl
+
+none_failed : fault_in (after server_start []).stage ≡ None
+unfolding heard hears hears_bytes lines_of
+none_failed = refl
 
 -- a new link
 pub begins : (l : Link) → Stands server_start [] [] l.server → l.feeder ≡ [] → l.out.items ≡ [] → Converses [] [] l [] []
@@ -291,4 +307,30 @@ begins l server feeder out = record {
   taken_all = refl;
   all = out;
   order = inl refl;
+  no_fault = ap (λ (n : Standing). fault_in n.stage) server ∙ none_failed;
 }
+
+-- a link that goes on is not lost
+none_some : (fault : AuthFault) → None ≡ Some fault → ⊥
+none_some fault e = cc
+
+pub not_lost : (m : List Envelope) (h : List ℕ) (l : Link) (t g : List ℕ) (did : Did) → Converses m h l t g → GoesOn did → IsLost did t → ⊥
+not_lost m h l t g did v on (inl e) = subst GoesOn e on
+not_lost m h l t g did v on (inr (inl e)) = subst GoesOn e on
+not_lost m h l t g did v on (inr (inr f)) = none_some f.0 (sym v.no_fault ∙ ap (λ (n : Standing). fault_in n.stage) v.server_stands ∙ f.1)
+
+-- one whose lines are at fault is
+pub lost_lines : (m : List Envelope) (h : List ℕ) (l : Link) (t g piece : List ℕ) (did : Did) (fault : AuthFault) → fault_in (told l.server piece).stage ≡ Some fault → Converses m h l t g → IsLost did (t ++ piece)
+lost_lines m h l t g piece did fault f v =
+    inr (inr (fault, ap fault_in (sym (ap (λ (w : Heard). w.stage) (told_same t piece v.lines l.server v.server_stands) ∙ stage_more t piece)) ∙ f))
+
+pub refused : (fault : AuthFault) (old new : Standing) (heard : Heard) → (fault ≡ faults.NoMemory → ⊥) → Refuses fault old new heard → fault_in heard.stage ≡ Some fault
+refused faults.NoMemory old new heard n r = absurd (n refl)
+refused faults.NoZero old new heard n r = r.1
+refused faults.TooLong old new heard n r = r.1
+refused faults.Early old new heard n r = r.1
+refused faults.Rejected old new heard n r = r.1
+
+-- a message takes some of the bytes that are held
+pub shorter : (e : Envelope) (bytes old new : List ℕ) → IsMessage e bytes → old ≡ bytes ++ new → length new < length old
+shorter e bytes old new m is = omega (arith, (message_states e bytes m).long, ap (λ (w : List ℕ). length w) is, length-append bytes new)

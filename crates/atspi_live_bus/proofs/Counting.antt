@@ -1,6 +1,6 @@
 -- What the bus tells once is fewer afterwards.
-use Rattle.std.proofs.Common.{◌≡◌, ◌<◌, Bool, true, false, ◌∷◌, ◌++◌, map, length, suc, Option, None, Some, sym, ap, ◌∙◌, arith}
-use Rattle.std.specs.Prelude.{is_some, option_to_list}
+use Rattle.std.proofs.Common.{◌≡◌, ◌<◌, Bool, true, false, [], ◌∷◌, ◌++◌, map, length, suc, Option, None, Some, sym, ap, ◌∙◌, arith}
+use Rattle.std.specs.Prelude.{IfNone, is_some, option_to_list}
 use Rattle.atspi_message.specs.Envelope.{Envelope, envelope_of}
 use Rattle.atspi_message.specs.declared.message.Message.{Message}
 use Rattle.atspi_routing.specs.declared.closing.Closing.{Closing}
@@ -22,3 +22,10 @@ pub fewer_closings : (old new : queues.Bus) (c : Closing) → old ≡ record new
 fewer_closings old new c h =
     let counted : length old.closings ≡ suc (length new.closings) = ap (λ (b : queues.Bus). length b.closings) h in
     omega (arith, counted)
+
+pub none_own : (old new : queues.Bus) (o : Option Message) (some : Bool) → some ≡ is_some o → some ≡ false → IfNone o (old.own ≡ []) → old ≡ record new { own = map envelope_of (option_to_list o) ++ new.own } → new.own ≡ []
+none_own old new None some s t n e = sym (ap (λ (b : queues.Bus). b.own) e) ∙ n
+none_own old new (Some x) some s t n e = absurd (no (sym s ∙ t))
+  where
+    no : true ≡ false → ⊥
+    no e = cc

@@ -4,7 +4,7 @@ use Rattle.std.specs.Prelude.{if◌then◌else◌}
 use Rattle.std.proofs.lemmas.Bool.Decides.{eqb_tells}
 use Rattle.std.specs.List.{remove}
 use Rattle.atspi_message.specs.Envelope.{Envelope}
-use Rattle.atspi_routing.specs.Queues.{empty_bus, leaves}
+use Rattle.atspi_routing.specs.Queues.{empty_bus}
 use Rattle.atspi_routing.specs.Queues as queues
 use Rattle.atspi_routing.specs.declared.closing.Closing.{Closing}
 use Rattle.atspi_bus.specs.declared.bus.Bus.{Bus}
@@ -13,13 +13,14 @@ use Rattle.atspi_host.specs.declared.call.Call.{Call}
 use Rattle.atspi_host.specs.declared.call.Call.TheVariants.{Accept}
 use Rattle.atspi_host.specs.declared.call.Did.TheVariants.{Done}
 use Rattle.atspi_host.specs.Calls.{IsNew, taken, given}
-use Rattle.atspi_live_bus.specs.Asked.{Asked, joining, leaving, telling, Runs, Spends, messages_of, handed_to}
+use Rattle.atspi_live_bus.specs.Asked.{Asked, joining, taking, leaving, popping, telling, Runs, Spends, messages_of, handed_to}
+use Rattle.atspi_live_bus.specs.Course.{AreTellings, Course, IsCourse, start, told_all}
 use Rattle.atspi_live_bus.specs.Service.{AreApart, HasSpent, IsSaid, IsService, IsSpeech, IsStopped, OfTold}
 use Rattle.atspi_live_bus.specs.Stops.{IsFree, IsWant, status_of}
 use Rattle.atspi_live_bus.specs.declared.stop.Stop.{Stop}
 use Rattle.atspi_live_bus.specs.declared.stop.Stop.TheVariants as stops
 use Rattle.atspi_live_bus.specs.Serving.{Serves, numbers}
-use Rattle.atspi_live_bus.specs.Turns.{Converses, Each, Goes, IsAsked, IsOfOne, IsSeated, OthersRest, Seats}
+use Rattle.atspi_live_bus.specs.Turns.{Converses, Each, Goes, IsOfOne, IsSeated, IsTold, OthersRest, Seats, StopsAt}
 use Rattle.atspi_live_bus.specs.declared.link.Link.{Link}
 use Rattle.atspi_live_bus.proofs.Asking.{handed_both, handed_same, messages_both, messages_same, one_run, runs_both}
 use Rattle.atspi_live_bus.proofs.Calling.{given_still, taken_still, told_map}
@@ -89,19 +90,27 @@ others_seated asked asks conn k c cs cs' ls apart at one rest new e =
     each_other (λ l. IsSeated asked conn cs l) (λ l. IsSeated (asked ++ asks) conn cs' l) k ls new
     (λ l n s. seated_still asked asks conn cs cs' l (rest l.number n) (one l.conn (other_conn conn l.number k c l.conn apart at s.0 n)) s) e
 
+-- a course that went on
+abbrev pub on_with : Course → List Asked → Bus → Course
+on_with x asks b = record { asked = x.asked ++ asks; bus = bus_of b; conn = x.conn }
+
+pub on_none : (x : Course) (b : Bus) → x.bus ≡ bus_of b → on_with x [] b ≡ x
+on_none x b e =
+    ap (λ (w : List Asked). record { asked = w; bus = bus_of b; conn = x.conn }) (append-nil x.asked)
+    ∙ ap (λ (w : queues.Bus). record { asked = x.asked; bus = w; conn = x.conn }) (sym e)
+
 -- one link and its connection went on, and the others did not
-goes_with : (b b' : Bus) (links links' : List Link) (cs cs' : List Call) (asks : List Asked) (k c : ℕ) (g : Goes b links cs) → Runs (bus_of b) asks (bus_of b') → given_of b' ≡ given_of b → OthersRest k cs cs' → IsOfOne c asks → g.conn k ≡ Some c
-    → Each (λ l. IsSeated (g.asked ++ asks) g.conn cs' l) links' → IsSpeech (messages_of c g.asked ++ messages_of c asks) (handed_to c g.asked ++ handed_to c asks) (taken k cs') (given k cs')
-    → Goes b' links' cs'
-goes_with b b' links links' cs cs' asks k c g run same rest one at each speech = record {
-  asked = g.asked ++ asks;
-  run = runs_both (empty_bus 16777216) (bus_of b) (bus_of b') g.asked asks g.run run;
-  conn = g.conn;
+goes_with : (b b' : Bus) (links links' : List Link) (cs cs' : List Call) (asks : List Asked) (k c : ℕ) (x : Course) (g : Goes b links x cs) → Runs (bus_of b) asks (bus_of b') → given_of b' ≡ given_of b → OthersRest k cs cs' → IsOfOne c asks → x.conn k ≡ Some c
+    → Each (λ l. IsSeated (x.asked ++ asks) x.conn cs' l) links' → IsSpeech (messages_of c x.asked ++ messages_of c asks) (handed_to c x.asked ++ handed_to c asks) (taken k cs') (given k cs')
+    → Goes b' links' (on_with x asks b') cs'
+goes_with b b' links links' cs cs' asks k c x g run same rest one at each speech = record {
+  run = runs_both (empty_bus 16777216) (bus_of b) (bus_of b') x.asked asks g.run run;
+  bus_is = refl;
   apart = g.apart;
   below = λ j d e. subst (λ (n : ℕ). d < n) (sym same) (g.below j d e);
   unasked = λ d h. (
-    messages_same d g.asked asks (one d (above d h)).0 ∙ (g.unasked d (before d h)).0,
-    handed_same d g.asked asks (one d (above d h)).1 ∙ (g.unasked d (before d h)).1,
+    messages_same d x.asked asks (one d (above d h)).0 ∙ (g.unasked d (before d h)).0,
+    handed_same d x.asked asks (one d (above d h)).1 ∙ (g.unasked d (before d h)).1,
   );
   each = each;
   said = said;
@@ -113,109 +122,118 @@ goes_with b b' links links' cs cs' asks k c g run same rest one at each speech =
     above : (d : ℕ) → given_of b' ≤ d → d ≡ c → ⊥
     above d h e = omega (arith, before d h, g.below k c at, e)
 
-    here : IsSpeech (messages_of c (g.asked ++ asks)) (handed_to c (g.asked ++ asks)) (taken k cs') (given k cs')
+    here : IsSpeech (messages_of c (x.asked ++ asks)) (handed_to c (x.asked ++ asks)) (taken k cs') (given k cs')
     here =
-        speech_same (messages_of c g.asked ++ messages_of c asks) (messages_of c (g.asked ++ asks)) (handed_to c g.asked ++ handed_to c asks) (handed_to c (g.asked ++ asks)) (taken k cs') (taken k cs') (given k cs') (given k cs')
-        (messages_both c g.asked asks) (handed_both c g.asked asks) refl refl speech
+        speech_same (messages_of c x.asked ++ messages_of c asks) (messages_of c (x.asked ++ asks)) (handed_to c x.asked ++ handed_to c asks) (handed_to c (x.asked ++ asks)) (taken k cs') (taken k cs') (given k cs') (given k cs')
+        (messages_both c x.asked asks) (handed_both c x.asked asks) refl refl speech
 
-    said : (j : ℕ) → IsSaid (g.asked ++ asks) (g.conn j) (taken j cs') (given j cs')
+    said : (j : ℕ) → IsSaid (x.asked ++ asks) (x.conn j) (taken j cs') (given j cs')
     said j = elim (eqb_tells j k) [
       | inl e ↦
-          subst (λ (i : ℕ). IsSaid (g.asked ++ asks) (g.conn i) (taken i cs') (given i cs')) (sym e.1)
-          (subst (λ (o : Option ℕ). IsSaid (g.asked ++ asks) o (taken k cs') (given k cs')) (sym at) here)
+          subst (λ (i : ℕ). IsSaid (x.asked ++ asks) (x.conn i) (taken i cs') (given i cs')) (sym e.1)
+          (subst (λ (o : Option ℕ). IsSaid (x.asked ++ asks) o (taken k cs') (given k cs')) (sym at) here)
       | inr e ↦
-          said_still g.asked asks (g.conn j) (taken j cs) (taken j cs') (given j cs) (given j cs') (rest j e.1).0 (rest j e.1).1
-          (λ d there. one d (other_conn g.conn j k c d g.apart at there e.1)) (g.said j)
+          said_still x.asked asks (x.conn j) (taken j cs) (taken j cs') (given j cs) (given j cs') (rest j e.1).0 (rest j e.1).1
+          (λ d there. one d (other_conn x.conn j k c d g.apart at there e.1)) (g.said j)
     ]
 
 -- a link that heard or said something, with what was asked for it
-pub turned_goes : (b b' : Bus) (links : List Link) (at : ℕ) (l m : Link) (o : List ℕ) (cs cs' : List Call) (asks : List Asked) → at < length links → l ≡ slice_index_or links at l → Serves o links → m.number ≡ l.number → m.conn ≡ l.conn
+pub turned_goes : (b b' : Bus) (links : List Link) (at : ℕ) (l m : Link) (o : List ℕ) (x : Course) (cs cs' : List Call) (asks : List Asked) → at < length links → l ≡ slice_index_or links at l → Serves o links → m.number ≡ l.number → m.conn ≡ l.conn
     → Runs (bus_of b) asks (bus_of b') → given_of b' ≡ given_of b → IsOfOne l.conn asks → OthersRest l.number cs cs'
     → ((took : List Envelope) (handed : List ℕ) → Converses took handed l (taken l.number cs) (given l.number cs) → Converses (took ++ messages_of l.conn asks) (handed ++ handed_to l.conn asks) m (taken l.number cs') (given l.number cs'))
-    → Goes b links cs → Goes b' (slice_set links at m) cs'
-turned_goes b b' links at l m o cs cs' asks h e s number conn run same one rest f g =
-    goes_with b b' links (slice_set links at m) cs cs' asks l.number l.conn g run same rest one here.0
-    (each_set (λ x. IsSeated (g.asked ++ asks) g.conn cs' x) links at m h seat
-    (others_seated g.asked asks g.conn l.number l.conn cs cs' (remove links at) g.apart here.0 one rest (rest_new links at l o h e s) (each_remove (λ x. IsSeated g.asked g.conn cs x) links at g.each)))
-    (speech_of (messages_of l.conn g.asked ++ messages_of l.conn asks) (handed_to l.conn g.asked ++ handed_to l.conn asks) m (taken l.number cs') (given l.number cs') talks)
+    → Goes b links x cs → Goes b' (slice_set links at m) (on_with x asks b') cs'
+turned_goes b b' links at l m o x cs cs' asks h e s number conn run same one rest f g =
+    goes_with b b' links (slice_set links at m) cs cs' asks l.number l.conn x g run same rest one here.0
+    (each_set (λ n. IsSeated (x.asked ++ asks) x.conn cs' n) links at m h seat
+    (others_seated x.asked asks x.conn l.number l.conn cs cs' (remove links at) g.apart here.0 one rest (rest_new links at l o h e s) (each_remove (λ n. IsSeated x.asked x.conn cs n) links at g.each)))
+    (speech_of (messages_of l.conn x.asked ++ messages_of l.conn asks) (handed_to l.conn x.asked ++ handed_to l.conn asks) m (taken l.number cs') (given l.number cs') talks)
   where
-    here : IsSeated g.asked g.conn cs l
-    here = each_at (λ x. IsSeated g.asked g.conn cs x) links at l h e g.each
+    here : IsSeated x.asked x.conn cs l
+    here = each_at (λ n. IsSeated x.asked x.conn cs n) links at l h e g.each
 
-    talks : Converses (messages_of l.conn g.asked ++ messages_of l.conn asks) (handed_to l.conn g.asked ++ handed_to l.conn asks) m (taken l.number cs') (given l.number cs')
-    talks = f (messages_of l.conn g.asked) (handed_to l.conn g.asked) here.1
+    talks : Converses (messages_of l.conn x.asked ++ messages_of l.conn asks) (handed_to l.conn x.asked ++ handed_to l.conn asks) m (taken l.number cs') (given l.number cs')
+    talks = f (messages_of l.conn x.asked) (handed_to l.conn x.asked) here.1
 
-    seat : IsSeated (g.asked ++ asks) g.conn cs' m
+    seat : IsSeated (x.asked ++ asks) x.conn cs' m
     seat = (
-      ap (λ (j : ℕ). g.conn j) number ∙ here.0 ∙ ap (λ (c : ℕ). Some c) (sym conn),
-      converses_same (messages_of l.conn g.asked ++ messages_of l.conn asks) (messages_of m.conn (g.asked ++ asks)) (handed_to l.conn g.asked ++ handed_to l.conn asks) (handed_to m.conn (g.asked ++ asks)) m
+      ap (λ (j : ℕ). x.conn j) number ∙ here.0 ∙ ap (λ (c : ℕ). Some c) (sym conn),
+      converses_same (messages_of l.conn x.asked ++ messages_of l.conn asks) (messages_of m.conn (x.asked ++ asks)) (handed_to l.conn x.asked ++ handed_to l.conn asks) (handed_to m.conn (x.asked ++ asks)) m
           (taken l.number cs') (taken m.number cs') (given l.number cs') (given m.number cs')
-          (ap (λ (c : ℕ). messages_of c (g.asked ++ asks)) conn ∙ messages_both l.conn g.asked asks) (ap (λ (c : ℕ). handed_to c (g.asked ++ asks)) conn ∙ handed_both l.conn g.asked asks)
+          (ap (λ (c : ℕ). messages_of c (x.asked ++ asks)) conn ∙ messages_both l.conn x.asked asks) (ap (λ (c : ℕ). handed_to c (x.asked ++ asks)) conn ∙ handed_both l.conn x.asked asks)
           (ap (λ (j : ℕ). taken j cs') number) (ap (λ (j : ℕ). given j cs') number) talks,
     )
 
 -- a link that is to be closed: what was said on it stands
-pub lost_goes : (b : Bus) (links : List Link) (at : ℕ) (l : Link) (o : List ℕ) (cs cs' : List Call) → at < length links → l ≡ slice_index_or links at l → Serves o links → OthersRest l.number cs cs'
+pub lost_goes : (b : Bus) (links : List Link) (at : ℕ) (l : Link) (o : List ℕ) (x : Course) (cs cs' : List Call) → at < length links → l ≡ slice_index_or links at l → Serves o links → OthersRest l.number cs cs'
     → ((took : List Envelope) (handed : List ℕ) → Converses took handed l (taken l.number cs) (given l.number cs) → IsSpeech took handed (taken l.number cs') (given l.number cs'))
-    → Goes b links cs → Goes b (remove links at) cs'
-lost_goes b links at l o cs cs' h e s rest f g =
-    goes_with b b links (remove links at) cs cs' [] l.number l.conn g refl refl rest (λ d n. (refl, refl)) here.0
-    (others_seated g.asked [] g.conn l.number l.conn cs cs' (remove links at) g.apart here.0 (λ d n. (refl, refl)) rest (rest_new links at l o h e s) (each_remove (λ x. IsSeated g.asked g.conn cs x) links at g.each))
-    (speech_same (messages_of l.conn g.asked) (messages_of l.conn g.asked ++ []) (handed_to l.conn g.asked) (handed_to l.conn g.asked ++ []) (taken l.number cs') (taken l.number cs') (given l.number cs') (given l.number cs')
-    (append-nil (messages_of l.conn g.asked)) (append-nil (handed_to l.conn g.asked)) refl refl (f (messages_of l.conn g.asked) (handed_to l.conn g.asked) here.1))
+    → Goes b links x cs → Goes b (remove links at) x cs'
+lost_goes b links at l o x cs cs' h e s rest f g =
+    subst (λ (y : Course). Goes b (remove links at) y cs') (on_none x b g.bus_is)
+    (goes_with b b links (remove links at) cs cs' [] l.number l.conn x g refl refl rest (λ d n. (refl, refl)) here.0
+    (others_seated x.asked [] x.conn l.number l.conn cs cs' (remove links at) g.apart here.0 (λ d n. (refl, refl)) rest (rest_new links at l o h e s) (each_remove (λ n. IsSeated x.asked x.conn cs n) links at g.each))
+    (speech_same (messages_of l.conn x.asked) (messages_of l.conn x.asked ++ []) (handed_to l.conn x.asked) (handed_to l.conn x.asked ++ []) (taken l.number cs') (taken l.number cs') (given l.number cs') (given l.number cs')
+    (append-nil (messages_of l.conn x.asked)) (append-nil (handed_to l.conn x.asked)) refl refl (f (messages_of l.conn x.asked) (handed_to l.conn x.asked) here.1)))
   where
-    here : IsSeated g.asked g.conn cs l
-    here = each_at (λ x. IsSeated g.asked g.conn cs x) links at l h e g.each
+    here : IsSeated x.asked x.conn cs l
+    here = each_at (λ n. IsSeated x.asked x.conn cs n) links at l h e g.each
 
 -- without one of the links the others go on
-pub rest_goes : (b : Bus) (links : List Link) (at : ℕ) (cs : List Call) → Goes b links cs → Goes b (remove links at) cs
-rest_goes b links at cs g = record {
-  asked = g.asked;
+pub rest_goes : (b : Bus) (links : List Link) (at : ℕ) (x : Course) (cs : List Call) → Goes b links x cs → Goes b (remove links at) x cs
+rest_goes b links at x cs g = record {
   run = g.run;
-  conn = g.conn;
+  bus_is = g.bus_is;
   apart = g.apart;
   below = g.below;
   unasked = g.unasked;
-  each = each_remove (λ x. IsSeated g.asked g.conn cs x) links at g.each;
+  each = each_remove (λ n. IsSeated x.asked x.conn cs n) links at g.each;
   said = g.said;
 }
 
--- a bus was asked something that is nobody's, and by the calls of the host nothing passed
-pub still_goes : (b b' : Bus) (links : List Link) (cs cs' : List Call) → IsAsked (bus_of b) (bus_of b') → given_of b' ≡ given_of b → ((j : ℕ) → (taken j cs' ≡ taken j cs) × (given j cs' ≡ given j cs)) → Goes b links cs → Goes b' links cs'
-still_goes b b' links cs cs' a same calls g = record {
-  asked = g.asked ++ a.asked;
-  run = runs_both (empty_bus 16777216) (bus_of b) (bus_of b') g.asked a.asked g.run a.run;
-  conn = g.conn;
+-- a bus was asked something that is nobody's
+pub still_goes : (b b' : Bus) (links : List Link) (x : Course) (cs : List Call) (asks : List Asked) → Runs (bus_of b) asks (bus_of b') → ((d : ℕ) → (messages_of d asks ≡ []) × (handed_to d asks ≡ [])) → given_of b' ≡ given_of b
+    → Goes b links x cs → Goes b' links (on_with x asks b') cs
+still_goes b b' links x cs asks run nobodys same g = record {
+  run = runs_both (empty_bus 16777216) (bus_of b) (bus_of b') x.asked asks g.run run;
+  bus_is = refl;
   apart = g.apart;
   below = λ j d e. subst (λ (n : ℕ). d < n) (sym same) (g.below j d e);
   unasked = λ d h. (
-    messages_same d g.asked a.asked (a.nobodys d).0 ∙ (g.unasked d (subst (λ (n : ℕ). n ≤ d) same h)).0,
-    handed_same d g.asked a.asked (a.nobodys d).1 ∙ (g.unasked d (subst (λ (n : ℕ). n ≤ d) same h)).1,
+    messages_same d x.asked asks (nobodys d).0 ∙ (g.unasked d (subst (λ (n : ℕ). n ≤ d) same h)).0,
+    handed_same d x.asked asks (nobodys d).1 ∙ (g.unasked d (subst (λ (n : ℕ). n ≤ d) same h)).1,
   );
-  each = each_all (λ l. IsSeated g.asked g.conn cs l) (λ l. IsSeated (g.asked ++ a.asked) g.conn cs' l) links (λ l s. seated_still g.asked a.asked g.conn cs cs' l (calls l.number) (a.nobodys l.conn) s) g.each;
-  said = λ j. said_still g.asked a.asked (g.conn j) (taken j cs) (taken j cs') (given j cs) (given j cs') (calls j).0 (calls j).1 (λ d there. a.nobodys d) (g.said j);
+  each = each_all (λ l. IsSeated x.asked x.conn cs l) (λ l. IsSeated (x.asked ++ asks) x.conn cs l) links (λ l s. seated_still x.asked asks x.conn cs cs l (refl, refl) (nobodys l.conn) s) g.each;
+  said = λ j. said_still x.asked asks (x.conn j) (taken j cs) (taken j cs) (given j cs) (given j cs) refl refl (λ d there. nobodys d) (g.said j);
 }
 
-pub nothing_asked : (b : queues.Bus) → IsAsked b b
-nothing_asked b = record { asked = []; run = refl; nobodys = λ d. (refl, refl) }
-
-pub asked_more : (a b c : queues.Bus) → IsAsked a b → IsAsked b c → IsAsked a c
-asked_more a b c p q = record {
-  asked = p.asked ++ q.asked;
-  run = runs_both a b c p.asked q.asked p.run q.run;
-  nobodys = λ d. (messages_same d p.asked q.asked (q.nobodys d).0 ∙ (p.nobodys d).0, handed_same d p.asked q.asked (q.nobodys d).1 ∙ (p.nobodys d).1);
+-- it was asked nothing, and by the calls of the host nothing passed
+pub same_goes : (b b' : Bus) (links : List Link) (x : Course) (cs cs' : List Call) → bus_of b' ≡ bus_of b → given_of b' ≡ given_of b → ((j : ℕ) → (taken j cs' ≡ taken j cs) × (given j cs' ≡ given j cs)) → Goes b links x cs → Goes b' links x cs'
+same_goes b b' links x cs cs' e same calls g = record {
+  run = subst (λ (w : queues.Bus). Runs (empty_bus 16777216) x.asked w) (sym e) g.run;
+  bus_is = g.bus_is ∙ sym e;
+  apart = g.apart;
+  below = λ j d f. subst (λ (n : ℕ). d < n) (sym same) (g.below j d f);
+  unasked = λ d h. g.unasked d (subst (λ (n : ℕ). n ≤ d) same h);
+  each = each_all (λ l. IsSeated x.asked x.conn cs l) (λ l. IsSeated x.asked x.conn cs' l) links
+      (λ l s. (
+        s.0,
+        converses_same (messages_of l.conn x.asked) (messages_of l.conn x.asked) (handed_to l.conn x.asked) (handed_to l.conn x.asked) l (taken l.number cs) (taken l.number cs') (given l.number cs) (given l.number cs') refl refl (calls l.number).0 (calls l.number).1 s.1,
+      )) g.each;
+  said = λ j. said_same x.asked (x.conn j) (taken j cs) (taken j cs') (given j cs) (given j cs') (calls j).0 (calls j).1 (g.said j);
 }
+
+-- the course of a bus fits the calls
+pub course_of : (b : Bus) (links : List Link) (x : Course) (cs : List Call) → Goes b links x cs → IsCourse x cs
+course_of b links x cs g = record { run = subst (λ (w : queues.Bus). Runs (empty_bus 16777216) x.asked w) (sym g.bus_is) g.run; apart = g.apart; said = g.said }
 
 -- what is said stands
-pub service_of : (b : Bus) (links : List Link) (cs : List Call) → Goes b links cs → IsService cs
-service_of b links cs g = record { asked = g.asked; bus = bus_of b; run = g.run; conn = g.conn; apart = g.apart; said = g.said }
+pub service_of : (x : Course) (cs : List Call) → IsCourse x cs → IsService cs
+service_of x cs g = record { asked = x.asked; bus = x.bus; run = g.run; conn = x.conn; apart = g.apart; said = g.said }
 
 -- before the first link
-pub begins_going : (b : Bus) (links : List Link) (cs : List Call) → bus_of b ≡ empty_bus 16777216 → links ≡ [] → ((k : ℕ) → (taken k cs ≡ []) × (given k cs ≡ [])) → Goes b links cs
+pub begins_going : (b : Bus) (links : List Link) (cs : List Call) → bus_of b ≡ empty_bus 16777216 → links ≡ [] → ((k : ℕ) → (taken k cs ≡ []) × (given k cs ≡ [])) → Goes b links start cs
 begins_going b links cs new none calls = record {
-  asked = [];
   run = new;
-  conn = λ k. None;
+  bus_is = sym new;
   apart = λ j k c e f. absurd (no c e);
   below = λ k c e. absurd (no c e);
   unasked = λ c h. (refl, refl);
@@ -227,125 +245,166 @@ begins_going b links cs new none calls = record {
     no c e = cc
 
 -- the connection of each link, with one more
-abbrev with_link : (ℕ → Option ℕ) → ℕ → ℕ → ℕ → Option ℕ
+abbrev pub with_link : (ℕ → Option ℕ) → ℕ → ℕ → ℕ → Option ℕ
 with_link conn k c j = if j == k then Some c else conn j
 
 -- the calls with one more link
 abbrev accepted : List Call → ℕ → List Call
 accepted cs k = cs ++ Accept (Done k) ∷ []
 
-of_new : (conn : ℕ → Option ℕ) (k c j : ℕ) → j ≡ k → with_link conn k c j ≡ Some c
+pub of_new : (conn : ℕ → Option ℕ) (k c j : ℕ) → j ≡ k → with_link conn k c j ≡ Some c
 of_new conn k c j e = elim (eqb_tells j k) [ inl s ↦ rw s.0 refl | inr s ↦ absurd (s.1 e) ]
 
-of_old : (conn : ℕ → Option ℕ) (k c j : ℕ) → (j ≡ k → ⊥) → with_link conn k c j ≡ conn j
+pub of_old : (conn : ℕ → Option ℕ) (k c j : ℕ) → (j ≡ k → ⊥) → with_link conn k c j ≡ conn j
 of_old conn k c j n = elim (eqb_tells j k) [ inl s ↦ absurd (n s.1) | inr s ↦ rw s.0 refl ]
 
-same_some : (x y : ℕ) → Some x ≡ Some y → x ≡ y
+pub same_some : (x y : ℕ) → Some x ≡ Some y → x ≡ y
 same_some x y e = cc
 
 -- a link came, and its connection joined
-pub seated_goes : (b b' : Bus) (links links' : List Link) (k : ℕ) (cs : List Call) → Seats k b b' links links' → IsNew k (numbers links) → taken k cs ≡ [] → given k cs ≡ [] → Goes b links cs → Goes b' links' (cs ++ Accept (Done k) ∷ [])
-seated_goes b b' links links' k cs q new none_taken none_given g = record {
-  asked = g.asked ++ (joining q.link.conn ∷ []);
-  run = runs_both (empty_bus 16777216) (bus_of b) (bus_of b') g.asked (joining q.link.conn ∷ []) g.run (one_run (bus_of b) (bus_of b') (joining q.link.conn) q.joined);
-  conn = (with_link g.conn k q.link.conn);
+abbrev pub seated_with : Course → ℕ → ℕ → Bus → Course
+seated_with x k c b = record { asked = x.asked ++ joining c ∷ []; bus = bus_of b; conn = with_link x.conn k c }
+
+pub seated_goes : (b b' : Bus) (links links' : List Link) (k : ℕ) (x : Course) (cs : List Call) (q : Seats k b b' links links') → IsNew k (numbers links) → taken k cs ≡ [] → given k cs ≡ []
+    → Goes b links x cs → Goes b' links' (seated_with x k q.link.conn b') (cs ++ Accept (Done k) ∷ [])
+seated_goes b b' links links' k x cs q new none_taken none_given g = record {
+  run = runs_both (empty_bus 16777216) (bus_of b) (bus_of b') x.asked (joining q.link.conn ∷ []) g.run (one_run (bus_of b) (bus_of b') (joining q.link.conn) q.joined);
+  bus_is = refl;
   apart = apart;
   below = below;
   unasked = λ d h. (
-    messages_same d g.asked (joining q.link.conn ∷ []) refl ∙ (g.unasked d (omega (arith, h, q.counted))).0,
-    handed_same d g.asked (joining q.link.conn ∷ []) refl ∙ (g.unasked d (omega (arith, h, q.counted))).1,
+    messages_same d x.asked (joining q.link.conn ∷ []) refl ∙ (g.unasked d (omega (arith, h, q.counted))).0,
+    handed_same d x.asked (joining q.link.conn ∷ []) refl ∙ (g.unasked d (omega (arith, h, q.counted))).1,
   );
-  each = subst (λ (w : List Link). Each (λ x. IsSeated (g.asked ++ (joining q.link.conn ∷ [])) (with_link g.conn k q.link.conn) (accepted cs k) x) w) (sym q.behind_others)
-      (each_push (λ x. IsSeated (g.asked ++ (joining q.link.conn ∷ [])) (with_link g.conn k q.link.conn) (accepted cs k) x) links q.link seat
-      (each_other (λ x. IsSeated g.asked g.conn cs x) (λ x. IsSeated (g.asked ++ (joining q.link.conn ∷ [])) (with_link g.conn k q.link.conn) (accepted cs k) x) k links new others g.each));
+  each = subst (λ (w : List Link). Each (λ n. IsSeated (x.asked ++ (joining q.link.conn ∷ [])) (with_link x.conn k q.link.conn) (accepted cs k) n) w) (sym q.behind_others)
+      (each_push (λ n. IsSeated (x.asked ++ (joining q.link.conn ∷ [])) (with_link x.conn k q.link.conn) (accepted cs k) n) links q.link seat
+      (each_other (λ n. IsSeated x.asked x.conn cs n) (λ n. IsSeated (x.asked ++ (joining q.link.conn ∷ [])) (with_link x.conn k q.link.conn) (accepted cs k) n) k links new others g.each));
   said = said;
 }
   where
     calls : (j : ℕ) → (taken j (accepted cs k) ≡ taken j cs) × (given j (accepted cs k) ≡ given j cs)
     calls j = (taken_still j cs (Accept (Done k)) refl, given_still j cs (Accept (Done k)) refl)
 
-    below : (j d : ℕ) → (with_link g.conn k q.link.conn) j ≡ Some d → d < given_of b'
+    below : (j d : ℕ) → (with_link x.conn k q.link.conn) j ≡ Some d → d < given_of b'
     below j d e = elim (eqb_tells j k) [
-      | inl s ↦ omega (arith, same_some q.link.conn d (sym (of_new g.conn k q.link.conn j s.1) ∙ e), q.conn_is, q.counted)
-      | inr s ↦ omega (arith, g.below j d (sym (of_old g.conn k q.link.conn j s.1) ∙ e), q.counted)
+      | inl s ↦ omega (arith, same_some q.link.conn d (sym (of_new x.conn k q.link.conn j s.1) ∙ e), q.conn_is, q.counted)
+      | inr s ↦ omega (arith, g.below j d (sym (of_old x.conn k q.link.conn j s.1) ∙ e), q.counted)
     ]
 
-    too_new : (i j d : ℕ) → i ≡ k → (j ≡ k → ⊥) → (with_link g.conn k q.link.conn) i ≡ Some d → (with_link g.conn k q.link.conn) j ≡ Some d → ⊥
-    too_new i j d a n e f = omega (arith, same_some q.link.conn d (sym (of_new g.conn k q.link.conn i a) ∙ e), q.conn_is, g.below j d (sym (of_old g.conn k q.link.conn j n) ∙ f))
+    too_new : (i j d : ℕ) → i ≡ k → (j ≡ k → ⊥) → (with_link x.conn k q.link.conn) i ≡ Some d → (with_link x.conn k q.link.conn) j ≡ Some d → ⊥
+    too_new i j d a n e f = omega (arith, same_some q.link.conn d (sym (of_new x.conn k q.link.conn i a) ∙ e), q.conn_is, g.below j d (sym (of_old x.conn k q.link.conn j n) ∙ f))
 
-    apart : AreApart (with_link g.conn k q.link.conn)
+    apart : AreApart (with_link x.conn k q.link.conn)
     apart i j d e f = elim (eqb_tells i k) [
       | inl a ↦ elim (eqb_tells j k) [ inl z ↦ a.1 ∙ sym z.1 | inr n ↦ absurd (too_new i j d a.1 n.1 e f) ]
       | inr m ↦ elim (eqb_tells j k) [
         | inl z ↦ absurd (too_new j i d z.1 m.1 f e)
-        | inr n ↦ g.apart i j d (sym (of_old g.conn k q.link.conn i m.1) ∙ e) (sym (of_old g.conn k q.link.conn j n.1) ∙ f)
+        | inr n ↦ g.apart i j d (sym (of_old x.conn k q.link.conn i m.1) ∙ e) (sym (of_old x.conn k q.link.conn j n.1) ∙ f)
       ]
     ]
 
-    unasked : (messages_of q.link.conn g.asked ≡ []) × (handed_to q.link.conn g.asked ≡ [])
+    unasked : (messages_of q.link.conn x.asked ≡ []) × (handed_to q.link.conn x.asked ≡ [])
     unasked = g.unasked q.link.conn (omega (arith, q.conn_is))
 
-    seat : IsSeated (g.asked ++ (joining q.link.conn ∷ [])) (with_link g.conn k q.link.conn) (accepted cs k) q.link
+    seat : IsSeated (x.asked ++ (joining q.link.conn ∷ [])) (with_link x.conn k q.link.conn) (accepted cs k) q.link
     seat = (
-      of_new g.conn k q.link.conn q.link.number q.number_is,
-      converses_same [] (messages_of q.link.conn (g.asked ++ (joining q.link.conn ∷ []))) [] (handed_to q.link.conn (g.asked ++ (joining q.link.conn ∷ []))) q.link [] (taken q.link.number (accepted cs k)) [] (given q.link.number (accepted cs k))
-          (messages_same q.link.conn g.asked (joining q.link.conn ∷ []) refl ∙ unasked.0) (handed_same q.link.conn g.asked (joining q.link.conn ∷ []) refl ∙ unasked.1)
+      of_new x.conn k q.link.conn q.link.number q.number_is,
+      converses_same [] (messages_of q.link.conn (x.asked ++ (joining q.link.conn ∷ []))) [] (handed_to q.link.conn (x.asked ++ (joining q.link.conn ∷ []))) q.link [] (taken q.link.number (accepted cs k)) [] (given q.link.number (accepted cs k))
+          (messages_same q.link.conn x.asked (joining q.link.conn ∷ []) refl ∙ unasked.0) (handed_same q.link.conn x.asked (joining q.link.conn ∷ []) refl ∙ unasked.1)
           (ap (λ (j : ℕ). taken j (accepted cs k)) q.number_is ∙ (calls k).0 ∙ none_taken) (ap (λ (j : ℕ). given j (accepted cs k)) q.number_is ∙ (calls k).1 ∙ none_given) q.begins,
     )
 
-    others : (x : Link) → (x.number ≡ k → ⊥) → IsSeated g.asked g.conn cs x → IsSeated (g.asked ++ (joining q.link.conn ∷ [])) (with_link g.conn k q.link.conn) (accepted cs k) x
-    others x n s = (of_old g.conn k q.link.conn x.number n ∙ s.0, (seated_still g.asked (joining q.link.conn ∷ []) g.conn cs (accepted cs k) x (calls x.number) (refl, refl) s).1)
+    others : (l : Link) → (l.number ≡ k → ⊥) → IsSeated x.asked x.conn cs l → IsSeated (x.asked ++ (joining q.link.conn ∷ [])) (with_link x.conn k q.link.conn) (accepted cs k) l
+    others l n s = (of_old x.conn k q.link.conn l.number n ∙ s.0, (seated_still x.asked (joining q.link.conn ∷ []) x.conn cs (accepted cs k) l (calls l.number) (refl, refl) s).1)
 
-    said : (j : ℕ) → IsSaid (g.asked ++ (joining q.link.conn ∷ [])) ((with_link g.conn k q.link.conn) j) (taken j (accepted cs k)) (given j (accepted cs k))
+    said : (j : ℕ) → IsSaid (x.asked ++ (joining q.link.conn ∷ [])) ((with_link x.conn k q.link.conn) j) (taken j (accepted cs k)) (given j (accepted cs k))
     said j = elim (eqb_tells j k) [
       | inl s ↦
-          subst (λ (o : Option ℕ). IsSaid (g.asked ++ (joining q.link.conn ∷ [])) o (taken j (accepted cs k)) (given j (accepted cs k))) (sym (of_new g.conn k q.link.conn j s.1))
-          (speech_same [] (messages_of q.link.conn (g.asked ++ (joining q.link.conn ∷ []))) [] (handed_to q.link.conn (g.asked ++ (joining q.link.conn ∷ []))) [] (taken j (accepted cs k)) [] (given j (accepted cs k))
-          (messages_same q.link.conn g.asked (joining q.link.conn ∷ []) refl ∙ unasked.0) (handed_same q.link.conn g.asked (joining q.link.conn ∷ []) refl ∙ unasked.1)
+          subst (λ (o : Option ℕ). IsSaid (x.asked ++ (joining q.link.conn ∷ [])) o (taken j (accepted cs k)) (given j (accepted cs k))) (sym (of_new x.conn k q.link.conn j s.1))
+          (speech_same [] (messages_of q.link.conn (x.asked ++ (joining q.link.conn ∷ []))) [] (handed_to q.link.conn (x.asked ++ (joining q.link.conn ∷ []))) [] (taken j (accepted cs k)) [] (given j (accepted cs k))
+          (messages_same q.link.conn x.asked (joining q.link.conn ∷ []) refl ∙ unasked.0) (handed_same q.link.conn x.asked (joining q.link.conn ∷ []) refl ∙ unasked.1)
           ((calls j).0 ∙ ap (λ (i : ℕ). taken i cs) s.1 ∙ none_taken) ((calls j).1 ∙ ap (λ (i : ℕ). given i cs) s.1 ∙ none_given)
           (speech_of [] [] q.link [] [] q.begins))
       | inr s ↦
-          subst (λ (o : Option ℕ). IsSaid (g.asked ++ (joining q.link.conn ∷ [])) o (taken j (accepted cs k)) (given j (accepted cs k))) (sym (of_old g.conn k q.link.conn j s.1))
-          (said_still g.asked (joining q.link.conn ∷ []) (g.conn j) (taken j cs) (taken j (accepted cs k)) (given j cs) (given j (accepted cs k)) (calls j).0 (calls j).1 (λ d there. (refl, refl)) (g.said j))
+          subst (λ (o : Option ℕ). IsSaid (x.asked ++ (joining q.link.conn ∷ [])) o (taken j (accepted cs k)) (given j (accepted cs k))) (sym (of_old x.conn k q.link.conn j s.1))
+          (said_still x.asked (joining q.link.conn ∷ []) (x.conn j) (taken j cs) (taken j (accepted cs k)) (given j cs) (given j (accepted cs k)) (calls j).0 (calls j).1 (λ d there. (refl, refl)) (g.said j))
     ]
 
 -- a bus told of its own messages, or of its closings
-pub told_own : (old new : queues.Bus) (es : List Envelope) → old ≡ record new { own = es } → IsAsked old new
+pub told_own : (old new : queues.Bus) (es : List Envelope) → old ≡ record new { own = es } → IsTold old new
 told_own old new es e = record {
   asked = telling ∷ [];
+  are = (tt, tt);
   run = one_run old new telling
       (e ∙ ap (λ (w : List Envelope). record new { own = w }) (sym (ap (λ (b : queues.Bus). b.own) e)) ∙ ap (λ (w : List Closing). record new { own = old.own; closings = w }) (sym (ap (λ (b : queues.Bus). b.closings) e)));
-  nobodys = λ d. (refl, refl);
 }
 
-pub told_closings : (old new : queues.Bus) (cs : List Closing) → old ≡ record new { closings = cs } → IsAsked old new
+pub told_closings : (old new : queues.Bus) (cs : List Closing) → old ≡ record new { closings = cs } → IsTold old new
 told_closings old new cs e = record {
   asked = telling ∷ [];
+  are = (tt, tt);
   run = one_run old new telling
       (e ∙ ap (λ (w : List Envelope). record new { own = w; closings = cs }) (sym (ap (λ (b : queues.Bus). b.own) e)) ∙ ap (λ (w : List Closing). record new { own = old.own; closings = w }) (sym (ap (λ (b : queues.Bus). b.closings) e)));
-  nobodys = λ d. (refl, refl);
 }
 
--- a connection left a bus
-pub left_by_itself : (old new : queues.Bus) (c : ℕ) → new ≡ leaves old c → IsAsked old new
-left_by_itself old new c e = record { asked = leaving c ∷ []; run = one_run old new (leaving c) e; nobodys = λ d. (refl, refl) }
+-- nothing was asked, or some and then more
+pub tells_both : (asks more : List Asked) → AreTellings asks → AreTellings more → AreTellings (asks ++ more)
+tells_both [] more p q = q
+tells_both (a ∷ asks) more p q = (p.0, tells_both asks more p.1 q)
+
+pub nothing_told : (b : queues.Bus) → IsTold b b
+nothing_told b = record { asked = []; are = tt; run = refl }
+
+pub tells_more : (a b c : queues.Bus) → IsTold a b → IsTold b c → IsTold a c
+tells_more a b c p q = record { asked = p.asked ++ q.asked; are = tells_both p.asked q.asked p.are q.are; run = runs_both a b c p.asked q.asked p.run q.run }
+
+-- it is of no connection's
+pub tells_nobodys : (asks : List Asked) → AreTellings asks → (d : ℕ) → (messages_of d asks ≡ []) × (handed_to d asks ≡ [])
+tells_nobodys [] t d = (refl, refl)
+tells_nobodys (joining c ∷ asks) t d = absurd t.0
+tells_nobodys (taking c e ∷ asks) t d = absurd t.0
+tells_nobodys (leaving c ∷ asks) t d = absurd t.0
+tells_nobodys (popping c bytes ∷ asks) t d = absurd t.0
+tells_nobodys (telling ∷ asks) t d = tells_nobodys asks t.1 d
+
+-- and all else is as it was
+pub tells_same : (asks : List Asked) (b b' : queues.Bus) → AreTellings asks → Runs b asks b' → b ≡ record b' { own = b.own; closings = b.closings }
+tells_same [] b b' t r = subst (λ (w : queues.Bus). b ≡ record w { own = b.own; closings = b.closings }) (sym r) refl
+tells_same (joining c ∷ asks) b b' t r = absurd t.0
+tells_same (taking c e ∷ asks) b b' t r = absurd t.0
+tells_same (leaving c ∷ asks) b b' t r = absurd t.0
+tells_same (popping c bytes ∷ asks) b b' t r = absurd t.0
+tells_same (telling ∷ asks) b b' t r = r.1 ∙ ap (λ (w : queues.Bus). record w { own = b.own; closings = b.closings }) (tells_same asks r.0 b' t.1 r.2)
+
+pub all_told : (b b' : queues.Bus) → b ≡ record b' { own = b.own; closings = b.closings } → b'.own ≡ [] → b'.closings ≡ [] → b' ≡ told_all b
+all_told b b' e own closings =
+    ap (λ (w : List Envelope). record b' { own = w; closings = b'.closings }) own
+    ∙ ap (λ (w : List Closing). record b' { own = []; closings = w }) closings
+    ∙ sym (ap (λ (w : queues.Bus). told_all w) e)
 
 -- a bus that stops
-pub stopped_at : (stop : Stop) (b : Bus) (links : List Link) (cs : List Call) → (stop ≡ stops.Spent → Spends (bus_of b)) → Goes b links cs → IsStopped stop cs
-stopped_at stops.HostFailed b links cs f g = service_of b links cs g
-stopped_at stops.Spent b links cs f g = record { service = record { asked = g.asked; bus = bus_of b; run = g.run; conn = g.conn; apart = g.apart; said = g.said }; spends = f refl }
-stopped_at stops.NoMemory b links cs f g = service_of b links cs g
+pub stopped_at : (stop : Stop) (b : Bus) (links : List Link) (x : Course) (cs : List Call) → (stop ≡ stops.Spent → Spends (bus_of b)) → Goes b links x cs → StopsAt stop x cs
+stopped_at stop b links x cs f g = (course_of b links x cs g, λ e. subst Spends (sym g.bus_is) (f e))
 
--- where memory is wanting what is said stands
-pub want_stops : (stop : Stop) (cs : List Call) → IsWant stop → IsService cs → IsStopped stop cs
-want_stops stops.HostFailed cs w s = absurd w
-want_stops stops.Spent cs w s = absurd w
-want_stops stops.NoMemory cs w s = s
+-- where memory is wanting the course stands
+pub want_stops : (stop : Stop) (x : Course) (cs : List Call) → IsWant stop → IsCourse x cs → StopsAt stop x cs
+want_stops stops.HostFailed x cs w s = absurd w
+want_stops stops.Spent x cs w s = absurd w
+want_stops stops.NoMemory x cs w s = (s, λ e. absurd (no e))
+  where
+    no : stops.NoMemory ≡ stops.Spent → ⊥
+    no e = cc
 
 pub want_free : (stop : Stop) → IsWant stop → IsFree stop
 want_free stops.HostFailed w = w
 want_free stops.Spent w = tt
 want_free stops.NoMemory w = w
+
+-- what is said where a bus stops
+pub stops_stopped : (stop : Stop) (x : Course) (cs : List Call) → StopsAt stop x cs → IsStopped stop cs
+stops_stopped stops.HostFailed x cs s = service_of x cs s.0
+stops_stopped stops.Spent x cs s = record { service = record { asked = x.asked; bus = x.bus; run = s.0.run; conn = x.conn; apart = s.0.apart; said = s.0.said }; spends = s.1 refl }
+stops_stopped stops.NoMemory x cs s = service_of x cs s.0
 
 pub stops_service : (stop : Stop) (calls : Option (List Call)) → OfTold (IsStopped stop) calls → OfTold IsService calls
 stops_service stops.HostFailed calls s = s

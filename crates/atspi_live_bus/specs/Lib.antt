@@ -2,7 +2,11 @@ pub mod Stops
 pub mod Serving
 pub mod Asked
 pub mod Service
+pub mod Course
+pub mod Opened
+pub mod Closes
 pub mod Due
 pub mod Turns
 pub mod Rounds
 pub mod Seats
+pub mod Cases

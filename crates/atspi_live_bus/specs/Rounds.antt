@@ -1,12 +1,15 @@
--- The rounds of the bus, as the calls of a host.
+-- The rounds of the bus, as the calls of a host, and the bus itself through all of them.
 use Rattle.std.specs.Prelude.{◌≡◌, ◌≢◌, ◌⊎◌, ◌<◌, ◌≤◌, ℕ, zero, suc, Bool, true, false, List, [], ◌∷◌, ◌++◌, length, Option, None, Some, ⊤}
 use Rattle.atspi_host.specs.declared.call.Did.{Did}
 use Rattle.atspi_host.specs.declared.call.Did.TheVariants.{Done, NotYet, End, Failed}
 use Rattle.atspi_host.specs.declared.call.Call.{Call}
 use Rattle.atspi_host.specs.declared.call.Call.TheVariants.{Listen, Accept, Connect, Read, Write, Close}
-use Rattle.atspi_host.specs.Calls.{IsOpen, without}
+use Rattle.atspi_host.specs.Calls.{IsOpen, taken}
+use Rattle.atspi_live_bus.specs.Asked.{Spends}
+use Rattle.atspi_live_bus.specs.Closes.{FollowsRead, FollowsWrite}
+use Rattle.atspi_live_bus.specs.Course.{Accepts, Course, HandsOut, IsCourse, start}
 use Rattle.atspi_live_bus.specs.Due.{HasAllGiven}
-use Rattle.atspi_live_bus.specs.Service.{IsService}
+use Rattle.atspi_live_bus.specs.Opened.{open_behind}
 use Rattle.atspi_live_bus.specs.Stops.{status_of}
 use Rattle.atspi_live_bus.specs.declared.stop.Stop.{Stop}
 use Rattle.atspi_live_bus.specs.declared.stop.Stop.TheVariants as stops
@@ -17,31 +20,6 @@ GoesOn (Done n) = ⊤
 GoesOn NotYet = ⊤
 GoesOn End = ⊥
 GoesOn Failed = ⊥
-
--- a link that is given comes behind the others
-abbrev pub with_given : List ℕ → Did → List ℕ
-with_given links (Done k) = links ++ k ∷ []
-with_given links NotYet = links
-with_given links End = links
-with_given links Failed = links
-
--- the links that are open behind a call, in the order in which they were given, where these were open before it
-abbrev pub open_then : List ℕ → Call → List ℕ
-open_then links (Listen path did) = links
-open_then links (Accept did) = with_given links did
-open_then links (Connect path did) = with_given links did
-open_then links (Read k bytes did) = links
-open_then links (Write k bytes did) = links
-open_then links (Close k) = without k links
-
--- the same of calls
-abbrev pub open_from : List ℕ → List Call → List ℕ
-open_from links [] = links
-open_from links (c ∷ cs) = open_from (open_then links c) cs
-
--- the links that are open behind all calls of a run
-abbrev pub open_behind : List Call → List ℕ
-open_behind past = open_from [] past
 
 -- closes of links alone
 abbrev pub IsClose : Call → Type 0
@@ -56,79 +34,85 @@ abbrev pub AreCloses : List Call → Type 0
 AreCloses [] = ⊤
 AreCloses (c ∷ cs) = IsClose c × AreCloses cs
 
--- the close of a link, and then of those that its leaving brings to close
-abbrev pub ShutsFirst : ℕ → List Call → Type 0
-ShutsFirst k calls = (closes : List Call) × AreCloses closes × (calls ≡ Close k ∷ closes)
+-- One read of at most 4,096 bytes, and the closes that it brings.
+abbrev pub IsHeard : Bool → Course → List Call → List ℕ → ℕ → ℕ → List Call → Course → Type 0
+IsHeard whole x past links k c calls y =
+    (bytes : List ℕ) × (did : Did) × (closes : List Call) × (length bytes ≤ 4096) × FollowsRead whole k c x links did (taken k (past ++ Read k bytes did ∷ [])) closes y × (calls ≡ Read k bytes did ∷ closes)
 
--- the closes directly behind a read: a link that ended or failed is the first
-abbrev pub FollowsRead : ℕ → Did → List Call → Type 0
-FollowsRead k (Done n) calls = AreCloses calls
-FollowsRead k NotYet calls = AreCloses calls
-FollowsRead k End calls = ShutsFirst k calls
-FollowsRead k Failed calls = ShutsFirst k calls
+-- the bytes are the next that wait for the link: were all of them given, what is given on the links would be that of this bus
+abbrev pub Wait : Course → List Call → ℕ → List ℕ → Type 0
+Wait x past k bytes = IsCourse x (past ++ Write k bytes (Done (length bytes)) ∷ [])
 
--- the closes directly behind a write: none but where it failed
-abbrev pub FollowsWrite : ℕ → Did → List Call → Type 0
-FollowsWrite k (Done n) calls = calls ≡ []
-FollowsWrite k NotYet calls = calls ≡ []
-FollowsWrite k End calls = ⊥
-FollowsWrite k Failed calls = ShutsFirst k calls
+-- One write of 1 to 4,096 bytes that wait, of those that the bus handed out before or now, and the closes that it brings.
+abbrev pub IsGift : Bool → Course → List Call → List ℕ → ℕ → ℕ → List Call → Course → Type 0
+IsGift whole x past links k c calls y =
+    (mid : Course) × (bytes : List ℕ) × (did : Did) × (closes : List Call) × HandsOut c x mid × (0 < length bytes) × (length bytes ≤ 4096) × Wait mid past k bytes × FollowsWrite whole k c mid links did closes y
+    × (calls ≡ Write k bytes did ∷ closes)
 
--- one read of at most 4,096 bytes, and closes
-abbrev pub IsHeard : ℕ → List Call → Type 0
-IsHeard k calls = (bytes : List ℕ) × (did : Did) × (closes : List Call) × (length bytes ≤ 4096) × FollowsRead k did closes × (calls ≡ Read k bytes did ∷ closes)
+-- A write exactly where the link is open and not all was given that waits. Or the bus stopped there.
+abbrev pub MayGive : Bool → Course → List Call → List ℕ → ℕ → ℕ → List Call → Course → Type 0
+MayGive true x past links k c calls y =
+    ((IsOpen k links → ⊥) × (calls ≡ []) × (y ≡ x))
+    ⊎ ((IsOpen k links × HandsOut c x y × HasAllGiven y past k × (calls ≡ []))
+    ⊎ (IsOpen k links × IsGift true x past links k c calls y))
+MayGive false x past links k c calls y = ((calls ≡ []) × (y ≡ x)) ⊎ (IsOpen k links × IsGift false x past links k c calls y)
 
--- the bytes are the next that wait for the link: were all of them given, what is given on the links would be that of a bus
-abbrev pub Wait : List Call → ℕ → List ℕ → Type 0
-Wait past k bytes = IsService (past ++ Write k bytes (Done (length bytes)) ∷ [])
+-- The turn of a link, which leads the bus from here to there: a read, and then maybe a write.
+abbrev pub IsTurn : Course → List Call → ℕ → List Call → Course → Type 0
+IsTurn x past k calls y =
+    (c : ℕ) × (mid : Course) × (read : List Call) × (gift : List Call) × (x.conn k ≡ Some c) × IsHeard true x past (open_behind past) k c read mid
+    × MayGive true mid (past ++ read) (open_behind (past ++ read)) k c gift y × (calls ≡ read ++ gift)
 
--- one write of 1 to 4,096 bytes that wait, and closes
-abbrev pub IsGift : List Call → ℕ → List Call → Type 0
-IsGift past k calls =
-    (bytes : List ℕ) × (did : Did) × (closes : List Call) × (0 < length bytes) × (length bytes ≤ 4096) × Wait past k bytes × FollowsWrite k did closes × (calls ≡ Write k bytes did ∷ closes)
+-- a read that was broken off, or one behind which the write was
+abbrev pub IsPart : Course → List Call → ℕ → ℕ → List Call → Course → Type 0
+IsPart x past k c calls y =
+    IsHeard false x past (open_behind past) k c calls y
+    ⊎ ((mid : Course) × (read : List Call) × (gift : List Call) × IsHeard true x past (open_behind past) k c read mid × MayGive false mid (past ++ read) (open_behind (past ++ read)) k c gift y × (calls ≡ read ++ gift))
 
--- no call, or a write on a link that is still open
-abbrev pub MayGive : List Call → ℕ → List Call → Type 0
-MayGive past k calls = (calls ≡ []) ⊎ (IsOpen k (open_behind past) × IsGift past k calls)
-
--- the turn of a link: a read, and then a write exactly where the link is open and not all was given that waits
-abbrev pub IsTurn : List Call → ℕ → List Call → Type 0
-IsTurn past k calls =
-    (read : List Call) × (gift : List Call) × IsHeard k read × MayGive (past ++ read) k gift
-    × (gift ≡ [] → IsOpen k (open_behind (past ++ read)) → HasAllGiven (past ++ read) k) × (calls ≡ read ++ gift)
-
--- a turn that was broken off: nothing, or of a link that is open a read and what may follow it
-abbrev pub IsCut : List Call → ℕ → List Call → Type 0
-IsCut past k calls = (calls ≡ []) ⊎ (IsOpen k (open_behind past) × (read : List Call) × (gift : List Call) × IsHeard k read × MayGive (past ++ read) k gift × (calls ≡ read ++ gift))
+-- a turn that was broken off: nothing, or of a link that is open a part
+abbrev pub IsCut : Course → List Call → ℕ → List Call → Course → Type 0
+IsCut x past k calls y = ((calls ≡ []) × (y ≡ x)) ⊎ (IsOpen k (open_behind past) × (c : ℕ) × (x.conn k ≡ Some c) × IsPart x past k c calls y)
 
 -- only where not all turns are whole
-abbrev pub MayBeCut : Bool → List Call → ℕ → List Call → Type 0
-MayBeCut true past k calls = ⊥
-MayBeCut false past k calls = IsCut past k calls
+abbrev pub MayBeCut : Bool → Course → List Call → ℕ → List Call → Course → Type 0
+MayBeCut true x past k calls y = ⊥
+MayBeCut false x past k calls y = IsCut x past k calls y
 
 -- The turns of these links, one behind the other: all of them whole, or up to one that was broken off. A link that was closed before its turn has none.
-abbrev pub AreTurns : Bool → List Call → List ℕ → List Call → Type 0
-AreTurns whole past [] calls = calls ≡ []
-AreTurns whole past (k ∷ ks) calls =
-    MayBeCut whole past k calls
-    ⊎ (((IsOpen k (open_behind past) → ⊥) × AreTurns whole past ks calls)
-    ⊎ (IsOpen k (open_behind past) × ((turn : List Call) × (rest : List Call) × IsTurn past k turn × AreTurns whole (past ++ turn) ks rest × (calls ≡ turn ++ rest))))
+abbrev pub AreTurns : Bool → Course → List Call → List ℕ → List Call → Course → Type 0
+AreTurns whole x past [] calls y = (calls ≡ []) × (y ≡ x)
+AreTurns whole x past (k ∷ ks) calls y =
+    MayBeCut whole x past k calls y
+    ⊎ (((IsOpen k (open_behind past) → ⊥) × AreTurns whole x past ks calls y)
+    ⊎ (IsOpen k (open_behind past)
+    × ((mid : Course) × (turn : List Call) × (rest : List Call) × IsTurn x past k turn mid × AreTurns whole mid (past ++ turn) ks rest y × (calls ≡ turn ++ rest))))
 
--- a round: one accept, and then the turns of all links that are open, in the order in which they were accepted
-abbrev pub IsRound : Bool → List Call → List Call → Type 0
-IsRound whole past calls =
-    (did : Did) × (turns : List Call) × GoesOn did × AreTurns whole (past ++ Accept did ∷ []) (open_behind (past ++ Accept did ∷ [])) turns × (calls ≡ Accept did ∷ turns)
+-- A round: one accept, and then the turns of all links that are open, in the order in which they were accepted.
+abbrev pub IsRound : Bool → Course → List Call → List Call → Course → Type 0
+IsRound whole x past calls y =
+    (did : Did) × (mid : Course) × (turns : List Call) × Accepts did x mid × AreTurns whole mid (past ++ Accept did ∷ []) (open_behind (past ++ Accept did ∷ [])) turns y × (calls ≡ Accept did ∷ turns)
 
--- so many whole rounds, one behind the other
-abbrev pub AreRounds : ℕ → List Call → List Call → Type 0
-AreRounds zero past calls = calls ≡ []
-AreRounds (suc n) past calls = (before : List Call) × (round : List Call) × AreRounds n past before × IsRound true (past ++ before) round × (calls ≡ before ++ round)
+-- So many whole rounds, one behind the other.
+abbrev pub AreRounds : ℕ → Course → List Call → List Call → Course → Type 0
+AreRounds zero x past calls y = (calls ≡ []) × (y ≡ x)
+AreRounds (suc n) x past calls y =
+    (mid : Course) × (before : List Call) × (round : List Call) × AreRounds n x past before mid × IsRound true mid (past ++ before) round y × (calls ≡ before ++ round)
 
--- the calls of the round in which the bus stopped
-abbrev pub Breaks : Stop → List Call → List Call → Type 0
-Breaks stops.HostFailed past calls = calls ≡ Accept Failed ∷ []
-Breaks stops.Spent past calls = IsRound false past calls
-Breaks stops.NoMemory past calls = IsRound false past calls
+-- an accept whose link did not join any more
+abbrev pub IsNotSeated : Course → List Call → Course → Type 0
+IsNotSeated x calls y = (k : ℕ) × (calls ≡ Accept (Done k) ∷ []) × (y ≡ x)
+
+-- The calls of the round in which the bus stopped.
+abbrev pub Breaks : Stop → Course → List Call → List Call → Course → Type 0
+Breaks stops.HostFailed x past calls y = (calls ≡ Accept Failed ∷ []) × (y ≡ x)
+Breaks stops.Spent x past calls y = IsRound false x past calls y × Spends y.bus
+Breaks stops.NoMemory x past calls y = IsRound false x past calls y ⊎ IsNotSeated x calls y
+
+-- Wherever a bus stands before with its links, such calls lead it to where it stands then, and the host tells them behind those before; or it tells no more.
+abbrev pub Moves : Option (List Call) → Option (List Call) → (Course → List Call → Type 0) → (Course → List Call → List Call → Course → Type 0) → (Course → List Call → Type 0) → Type 0
+Moves old None S P T = ⊤
+Moves None (Some ds) S P T = ⊥
+Moves (Some past) (Some ds) S P T = (x : Course) → S x past → (y : Course) × (calls : List Call) × P x past calls y × T y ds × (ds ≡ past ++ calls)
 
 -- what a host tells afterwards is what it told before, and then such calls; or it tells no more
 abbrev pub Does : Option (List Call) → Option (List Call) → (List Call → List Call → Type 0) → Type 0
@@ -137,17 +121,21 @@ Does None (Some ds) P = ⊥
 Does (Some past) (Some ds) P = (calls : List Call) × P past calls × (ds ≡ past ++ calls)
 
 -- behind so many whole rounds the bus stopped in one, and this is its status; or all were done
-abbrev pub EndsBehind : ℕ → ℕ → ℕ → List Call → List Call → Type 0
-EndsBehind status whole rounds past last = ((status ≡ 8) × (whole ≡ rounds) × (last ≡ [])) ⊎ ((stop : Stop) × (status ≡ status_of stop) × (whole < rounds) × Breaks stop past last)
+abbrev pub EndsBehind : ℕ → ℕ → ℕ → Course → List Call → List Call → Course → Type 0
+EndsBehind status whole rounds x past last y =
+    ((status ≡ 8) × (whole ≡ rounds) × (last ≡ []) × (y ≡ x)) ⊎ ((stop : Stop) × (status ≡ status_of stop) × (whole < rounds) × Breaks stop x past last y)
 
--- rounds behind these calls, with this status
+-- Rounds of one bus behind these calls, with this status: where the whole rounds lead it, and where it then ends.
 pub record Served (status rounds : ℕ) (past calls : List Call) : Type 0 where
   pub whole : ℕ
   pub done : List Call
   pub last : List Call
-  pub are : AreRounds whole past done
-  pub ends : EndsBehind status whole rounds (past ++ done) last
+  pub led : Course
+  pub ended : Course
+  pub are : AreRounds whole start past done led
+  pub ends : EndsBehind status whole rounds led (past ++ done) last ended
   pub all : calls ≡ done ++ last
+  pub fits : IsCourse ended (past ++ calls)
 
 -- The calls of a run of the bus: a listen, and behind it rounds; or one that failed, and nothing else.
 abbrev pub IsRun : List ℕ → ℕ → ℕ → List Call → Type 0

@@ -1,15 +1,22 @@
 -- The links of the bus by their numbers and connections, and what calls leave of them.
-use Rattle.std.specs.Prelude.{◌≡◌, ◌<◌, ◌≤◌, ◌⊎◌, ℕ, ◌==◌, Bool, true, false, List, [], ◌∷◌, ◌++◌, length, map, if◌then◌else◌, zero, suc, ⊤}
-use Rattle.atspi_host.specs.Calls.{IsOpen, front}
+use Rattle.std.specs.Prelude.{◌≡◌, ◌<◌, ◌≤◌, ◌+◌, ◌⊎◌, ℕ, ◌==◌, Bool, true, false, List, [], ◌∷◌, ◌++◌, length, map, Some, if◌then◌else◌, zero, suc, ⊤}
+use Rattle.atspi_message.specs.Envelope.{Envelope}
+use Rattle.atspi_host.specs.Calls.{IsOpen, front, taken}
 use Rattle.atspi_host.specs.declared.call.Did.{Did}
 use Rattle.atspi_host.specs.declared.call.Did.TheVariants.{Failed}
 use Rattle.atspi_host.specs.declared.call.Call.{Call}
 use Rattle.atspi_host.specs.declared.call.Call.TheVariants.{Listen, Accept, Connect, Read, Write, Close}
-use Rattle.atspi_live_bus.specs.declared.link.Link.{Link}
+use Rattle.atspi_routing.specs.declared.closing.Closing.{Closing}
 use Rattle.atspi_routing.specs.Queues as queues
-use Rattle.atspi_live_bus.specs.Due.{HasAllGiven}
-use Rattle.atspi_live_bus.specs.Rounds.{AreCloses, GoesOn, IsGift, IsHeard, Wait, open_behind}
-use Rattle.atspi_live_bus.specs.Turns.{IsSilent}
+use Rattle.atspi_bus.specs.declared.bus.Bus.{Bus}
+use Rattle.atspi_live_bus.specs.Asked.{Asked, taking, Runs}
+use Rattle.atspi_live_bus.specs.Closes.{AreShut, AreTaken, Attends, Follows, IsShut, Parts}
+use Rattle.atspi_live_bus.specs.Course.{Accepts, AreTellings, Course, Steps, told_all}
+use Rattle.atspi_live_bus.specs.Opened.{open_behind}
+use Rattle.atspi_live_bus.specs.Rounds.{GoesOn, IsHeard, MayGive}
+use Rattle.atspi_live_bus.specs.Service.{IsSpeech}
+use Rattle.atspi_live_bus.specs.Turns.{Converses, Goes, IsSilent, Remains}
+use Rattle.atspi_live_bus.specs.declared.link.Link.{Link}
 use lib.Dec.{leb}
 
 -- numbers and connections, in the order in which they joined
@@ -23,6 +30,16 @@ abbrev pub number_at : List Link → ℕ → ℕ
 number_at [] at = 0
 number_at (l ∷ ls) zero = l.number
 number_at (l ∷ ls) (suc at) = number_at ls at
+
+abbrev pub conn_at : List Link → ℕ → ℕ
+conn_at [] at = 0
+conn_at (l ∷ ls) zero = l.conn
+conn_at (l ∷ ls) (suc at) = conn_at ls at
+
+-- how many bytes the links hold of messages that are not whole or not taken yet
+abbrev pub held : List Link → ℕ
+held [] = 0
+held (l ∷ ls) = length l.feeder + held ls
 
 -- without a link
 abbrev pub without_seat : ℕ → List (ℕ × ℕ) → List (ℕ × ℕ)
@@ -60,14 +77,26 @@ Rise (s ∷ ss) = AreAbove s.1 ss × Rise ss
 abbrev pub Stands : List Link → List Call → Type 0
 Stands links cs = (open_behind cs ≡ numbers_of (seats links)) × Rise (seats links)
 
--- closes alone
-abbrev pub Shuts : List Link → List Link → List Call → List Call → Type 0
-Shuts old new past calls = AreCloses calls × (seats new ≡ left (seats old) calls)
+-- a bus and its links, which are those that the calls leave open
+abbrev pub GoesOpen : Bus → List Link → Course → List Call → Type 0
+GoesOpen b links x cs = Goes b links x cs × Stands links cs
 
--- one read of a link, which ended or failed only where it does not go on
-abbrev pub HasRead : ℕ → Bool → List Call → List Call → Type 0
-HasRead k true past calls = (bytes : List ℕ) × (did : Did) × (length bytes ≤ 4096) × GoesOn did × (calls ≡ Read k bytes did ∷ [])
-HasRead k false past calls = (bytes : List ℕ) × (did : Did) × (length bytes ≤ 4096) × (calls ≡ Read k bytes did ∷ [])
+-- the links are those that the calls leave, where the bus did not stop
+abbrev pub AreLeft : Bool → List Link → List Link → List Call → Type 0
+AreLeft true old new calls = seats new ≡ left (seats old) calls
+AreLeft false old new calls = ⊤
+
+-- one read of a link, and what is known of it behind
+abbrev pub HasRead : ℕ → Bool → Link → Link → List Call → List Call → Type 0
+HasRead k goes_on old new past calls =
+    (bytes : List ℕ) × (did : Did) × (length bytes ≤ 4096) × (calls ≡ Read k bytes did ∷ [])
+    × ((took : List Envelope) (handed g : List ℕ) → Converses took handed old (taken k past) g → Remains goes_on did took handed new (taken k past ++ bytes) g)
+
+-- the same where memory was wanting for what it sent
+abbrev pub HasReadOnly : ℕ → Link → List Call → List Call → Type 0
+HasReadOnly k old past calls =
+    (bytes : List ℕ) × (did : Did) × (length bytes ≤ 4096) × (calls ≡ Read k bytes did ∷ [])
+    × ((took : List Envelope) (handed g : List ℕ) → Converses took handed old (taken k past) g → IsSpeech took handed (taken k past ++ bytes) g)
 
 -- what was given of these bytes and what waits then begin with them
 abbrev pub Waited : List ℕ → Did → Link → Type 0
@@ -80,37 +109,71 @@ HasSent k true b l past calls =
     ⊎ ((bytes : List ℕ) × (did : Did) × (0 < length bytes) × (length bytes ≤ 4096) × Waited bytes did l × GoesOn did × (calls ≡ Write k bytes did ∷ []))
 HasSent k false b l past calls = (bytes : List ℕ) × (0 < length bytes) × (length bytes ≤ 4096) × Waited bytes Failed l × (calls ≡ Write k bytes Failed ∷ [])
 
--- the same, where all that waits was given
-abbrev pub HasWritten : ℕ → Bool → List Call → List Call → Type 0
-HasWritten k true past calls =
-    ((calls ≡ []) × HasAllGiven past k)
-    ⊎ ((bytes : List ℕ) × (did : Did) × (0 < length bytes) × (length bytes ≤ 4096) × Wait past k bytes × GoesOn did × (calls ≡ Write k bytes did ∷ []))
-HasWritten k false past calls = (bytes : List ℕ) × (0 < length bytes) × (length bytes ≤ 4096) × Wait past k bytes × (calls ≡ Write k bytes Failed ∷ [])
-
 -- one accept, behind which the bus goes on
-abbrev pub HasAccepted : List Call → List Call → Type 0
-HasAccepted past calls = (did : Did) × GoesOn did × (calls ≡ Accept did ∷ [])
+abbrev pub HasAccepted : Course → List Call → List Call → Course → Type 0
+HasAccepted x past calls y = (did : Did) × Accepts did x y × (calls ≡ Accept did ∷ [])
 
--- the close of a link and then of others
-abbrev pub ShutsOne : ℕ → List Link → List Link → List Call → List Call → Type 0
-ShutsOne k old new past calls = (closes : List Call) × AreCloses closes × (calls ≡ Close k ∷ closes) × (seats new ≡ left (seats old) calls)
+-- the link of a connection is closed, if it stands
+abbrev pub Dismisses : ℕ → List Link → List Link → Course → List Call → List Call → Course → Type 0
+Dismisses c old new x past calls y = (y ≡ x) × IsShut x.conn (numbers_of (seats old)) c calls × (seats new ≡ left (seats old) calls)
+
+-- the first of a bus's closings were told
+abbrev pub Settling : List Link → List Link → Course → List Call → List Call → Course → Type 0
+Settling old new x past calls y =
+    (closings : List Closing) × (tells : List Asked) × AreTellings tells × Runs x.bus tells y.bus × (y.asked ≡ x.asked ++ tells) × (y.conn ≡ x.conn)
+    × (x.bus.closings ≡ closings ++ y.bus.closings) × AreShut x.conn (numbers_of (seats old)) closings calls × (seats new ≡ left (seats old) calls)
+
+-- all that a bus had to tell was told
+abbrev pub Settles : List Link → List Link → Course → List Call → List Call → Course → Type 0
+Settles old new x past calls y =
+    (tells : List Asked) × AreTellings tells × (y.asked ≡ x.asked ++ tells) × (y.bus ≡ told_all x.bus) × (y.conn ≡ x.conn)
+    × AreShut x.conn (numbers_of (seats old)) x.bus.closings calls × (seats new ≡ left (seats old) calls)
+
+-- the close of a link, and then of those that its leaving brings to close
+abbrev pub Leaves : Bool → ℕ → ℕ → List Link → List Link → Course → List Call → List Call → Course → Type 0
+Leaves whole k c old new x past calls y = Parts whole k c x (numbers_of (seats old)) calls y × AreLeft whole old new calls
+
+-- the bus took one message of a link
+abbrev pub TakesOne : ℕ → List Link → List Link → Course → List Call → List Call → Course → Type 0
+TakesOne k old new x past calls y =
+    (seats new ≡ left (seats old) calls) × (y.conn ≡ x.conn)
+    × ((c : ℕ) → x.conn k ≡ Some c → (e : Envelope) × (closings : List Closing) × IsOpen k (numbers_of (seats old)) × Steps x (taking c e) closings y × AreShut x.conn (numbers_of (seats old)) closings calls)
+
+-- it took no further one
+abbrev pub TakesNone : Bool → ℕ → List Link → List Link → Course → List Call → List Call → Course → Type 0
+TakesNone whole k old new x past calls y = AreLeft whole old new calls × ((c : ℕ) → x.conn k ≡ Some c → Follows whole k c x (numbers_of (seats old)) (taken k past) calls y)
+
+abbrev pub MayTake : Bool → ℕ → List Link → List Link → Course → List Call → List Call → Course → Type 0
+MayTake true k old new x past calls y = TakesOne k old new x past calls y
+MayTake false k old new x past calls y = TakesNone true k old new x past calls y
+
+-- it took some
+abbrev pub TakesSome : ℕ → List Link → List Link → Course → List Call → List Call → Course → Type 0
+TakesSome k old new x past calls y =
+    (seats new ≡ left (seats old) calls) × (y.conn ≡ x.conn) × ((c : ℕ) → x.conn k ≡ Some c → (es : List Envelope) × AreTaken k c x (numbers_of (seats old)) es calls y)
+
+-- it took all
+abbrev pub TakesAll : Bool → ℕ → List Link → List Link → Course → List Call → List Call → Course → Type 0
+TakesAll whole k old new x past calls y = AreLeft whole old new calls × ((c : ℕ) → x.conn k ≡ Some c → Attends whole k c x (numbers_of (seats old)) (taken k past) calls y)
 
 -- a read of a link, and closes
-abbrev pub Hears : ℕ → List Link → List Link → List Call → List Call → Type 0
-Hears k old new past calls = IsHeard k calls × (seats new ≡ left (seats old) calls)
+abbrev pub Hears : Bool → ℕ → ℕ → List Link → List Link → Course → List Call → List Call → Course → Type 0
+Hears whole k c old new x past calls y = AreLeft whole old new calls × IsHeard whole x past (numbers_of (seats old)) k c calls y
 
-abbrev pub MayWrite : ℕ → List Link → List Link → List Call → List Call → Type 0
-MayWrite k old new past calls = ((calls ≡ []) ⊎ (IsOpen k (numbers_of (seats old)) × IsGift past k calls)) × (seats new ≡ left (seats old) calls)
+-- a write exactly where not all that waits was given
+abbrev pub Writes : Bool → ℕ → List Link → List Link → Course → List Call → List Call → Course → Type 0
+Writes whole k old new x past calls y = AreLeft whole old new calls × ((c : ℕ) → x.conn k ≡ Some c → MayGive whole x past (numbers_of (seats old)) k c calls y)
 
--- and a write exactly where not all that waits was given
-abbrev pub Writes : ℕ → List Link → List Link → List Call → List Call → Type 0
-Writes k old new past calls = MayWrite k old new past calls × (calls ≡ [] → IsOpen k (numbers_of (seats old)) → HasAllGiven past k)
+-- a read and then maybe a write, the second of them whole or not
+abbrev pub BothDo : Bool → ℕ → ℕ → List Link → Course → List Call → List Call → Course → Type 0
+BothDo whole k c old x past calls y =
+    (mid : Course) × (read : List Call) × (gift : List Call) × IsHeard true x past (numbers_of (seats old)) k c read mid
+    × MayGive whole mid (past ++ read) (numbers_of (left (seats old) read)) k c gift y × (calls ≡ read ++ gift)
 
 -- the turn of a link
-abbrev pub Takes : ℕ → List Link → List Link → List Call → List Call → Type 0
-Takes k old new past calls =
-    (read : List Call) × (gift : List Call) × IsHeard k read × ((gift ≡ []) ⊎ (IsOpen k (numbers_of (left (seats old) read)) × IsGift (past ++ read) k gift))
-    × (gift ≡ [] → IsOpen k (numbers_of (left (seats old) read)) → HasAllGiven (past ++ read) k) × (calls ≡ read ++ gift) × (seats new ≡ left (seats old) calls)
+abbrev pub Takes : ℕ → List Link → List Link → Course → List Call → List Call → Course → Type 0
+Takes k old new x past calls y = (seats new ≡ left (seats old) calls) × (c : ℕ) × (x.conn k ≡ Some c) × BothDo true k c old x past calls y
 
-abbrev pub TakesCut : ℕ → List Link → List Call → List Call → Type 0
-TakesCut k old past calls = (read : List Call) × (gift : List Call) × IsHeard k read × ((gift ≡ []) ⊎ (IsOpen k (numbers_of (left (seats old) read)) × IsGift (past ++ read) k gift)) × (calls ≡ read ++ gift)
+-- one that was broken off
+abbrev pub TakesCut : ℕ → List Link → Course → List Call → List Call → Course → Type 0
+TakesCut k old x past calls y = (c : ℕ) × (x.conn k ≡ Some c) × (IsHeard false x past (numbers_of (seats old)) k c calls y ⊎ BothDo false k c old x past calls y)

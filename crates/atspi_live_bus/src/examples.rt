@@ -1,13 +1,20 @@
 //! Worked cases, with the values worked out by hand. Each case is a clause of a function without a body. So a definition that says
 //! otherwise is refused here.
 
-ghost use Rattle.std.specs.Prelude.{◌≡◌, ◌∷◌, [], None, codes, true};
+ghost use Rattle.std.specs.Prelude.{◌≡◌, ◌∷◌, ◌++◌, ℕ, List, [], None, codes, true};
+ghost use Rattle.atspi_auth.specs.Lines.{end_of_line};
 ghost use Rattle.atspi_host.specs.declared.call.Did.{Did};
 ghost use Rattle.atspi_host.specs.declared.call.Call.{Call};
 ghost use Rattle.atspi_message.specs.Envelope.{Envelope};
 ghost use Rattle.atspi_live_bus.specs.Asked.{handed_to, joining, leaving, messages_of, popping, taking, telling};
-ghost use Rattle.atspi_live_bus.specs.Rounds.{AreRounds, IsRound, IsRun, IsTurn, open_behind};
+ghost use Rattle.atspi_routing.specs.declared.closing.Closing.{Closing};
+ghost use Rattle.atspi_live_bus.specs.Cases.{one_link, two_conns, two_links};
+ghost use Rattle.atspi_live_bus.specs.Closes.{AreShut, FollowsRead, IsLost, IsRest};
+ghost use Rattle.atspi_live_bus.specs.Course.{Course, Steps, start};
+ghost use Rattle.atspi_live_bus.specs.Opened.{open_behind};
+ghost use Rattle.atspi_live_bus.specs.Rounds.{AreRounds, IsRound, IsRun, IsTurn};
 ghost use Rattle.atspi_live_bus.specs.Service.{IsSaid};
+ghost use Rattle.atspi_stream.specs.Stream.{AwaitsMore};
 
 use atspi_host::{Call, Did};
 
@@ -38,24 +45,47 @@ pub fn open_links()
     ensures closed { open_behind (Call.Accept (Did.Done 3) ∷ Call.Accept (Did.Done 5) ∷ Call.Read 3 [] Did.End ∷ Call.Close 3 ∷ Call.Accept (Did.Done 7) ∷ []) ≡ 5 ∷ 7 ∷ [] }
 {}
 
-/// The turn of a link has one read. One that has sent nothing and is open has then no write, since a server says nothing first; one that ended is
-/// closed, and has none.
-pub fn turns()
-    ensures quiet { IsTurn (Call.Accept (Did.Done 0) ∷ []) 0 (Call.Read 0 [] Did.NotYet ∷ []) }
-    ensures ended { IsTurn (Call.Accept (Did.Done 0) ∷ []) 0 (Call.Read 0 [] Did.End ∷ Call.Close 0 ∷ []) }
-    ensures no_read { IsTurn (Call.Accept (Did.Done 0) ∷ []) 0 [] → ⊥ }
-    ensures not_closed { IsTurn (Call.Accept (Did.Done 0) ∷ []) 0 (Call.Read 0 [] Did.End ∷ []) → ⊥ }
-    ensures of_another { IsTurn (Call.Accept (Did.Done 0) ∷ []) 0 (Call.Read 1 [] Did.NotYet ∷ []) → ⊥ }
+/// The links of connections that the bus closed are closed in the order in which it told of them, each if it is open, and no other. Here 3 is the
+/// link of connection 0, and 5 that of 1.
+pub fn closes()
+    ensures its_link { (c : Closing) → c.conn ≡ 1 → AreShut two_conns (3 ∷ 5 ∷ []) (c ∷ []) (Call.Close 5 ∷ []) }
+    ensures in_order { (c d : Closing) → c.conn ≡ 1 → d.conn ≡ 0 → AreShut two_conns (3 ∷ 5 ∷ []) (c ∷ d ∷ []) (Call.Close 5 ∷ Call.Close 3 ∷ []) }
+    ensures no_link { (c : Closing) → c.conn ≡ 0 → AreShut two_conns (5 ∷ []) (c ∷ []) [] }
+    ensures no_cause { AreShut two_conns (3 ∷ 5 ∷ []) [] (Call.Close 3 ∷ []) → ⊥ }
+    ensures not_closed { (c : Closing) → c.conn ≡ 1 → AreShut two_conns (3 ∷ 5 ∷ []) (c ∷ []) [] → ⊥ }
+    ensures another { (c : Closing) → c.conn ≡ 1 → AreShut two_conns (3 ∷ 5 ∷ []) (c ∷ []) (Call.Close 3 ∷ []) → ⊥ }
 {}
 
-/// A round is one accept, and then a turn of each link that is open.
+/// A message of link 3 that brings the bus to close connection 1 brings the close of link 5, and of no other, directly behind its read. What ended
+/// is closed itself.
+pub fn causes()
+    ensures by_message { (x y : Course) (e : Envelope) (c : Closing) (t rest : List ℕ) (n : ℕ) → x.conn ≡ two_conns → Steps x (taking 0 e) (c ∷ []) y → c.conn ≡ 1 → (IsLost (Did.Done n) t → ⊥)
+        → IsRest t (messages_of 0 y.asked) rest → AwaitsMore rest → FollowsRead true 3 0 x (3 ∷ 5 ∷ []) (Did.Done n) t (Call.Close 5 ∷ []) y }
+    ensures by_end { (y : Course) (c : Closing) (t : List ℕ) → Steps two_links (leaving 0) (c ∷ []) y → c.conn ≡ 1 → FollowsRead true 3 0 two_links (3 ∷ 5 ∷ []) Did.End t (Call.Close 3 ∷ Call.Close 5 ∷ []) y }
+    ensures own_first { (y : Course) (t : List ℕ) → FollowsRead true 3 0 two_links (3 ∷ 5 ∷ []) Did.End t (Call.Close 5 ∷ []) y → ⊥ }
+{}
+
+/// The turn of a link has one read. One that has sent nothing and is open has then no write, since a server says nothing first; one that ended is
+/// closed, and has none. One that sent what the server does not know is given the line that says so.
+pub fn turns()
+    ensures quiet { IsTurn one_link (Call.Accept (Did.Done 0) ∷ []) 0 (Call.Read 0 [] Did.NotYet ∷ []) one_link }
+    ensures answered { IsTurn one_link (Call.Accept (Did.Done 0) ∷ []) 0
+        (Call.Read 0 (0 ∷ codes "X" ++ end_of_line) (Did.Done 4) ∷ Call.Write 0 (codes "ERROR" ++ end_of_line) (Did.Done 7) ∷ []) one_link }
+    ensures ended { (y : Course) × IsTurn one_link (Call.Accept (Did.Done 0) ∷ []) 0 (Call.Read 0 [] Did.End ∷ Call.Close 0 ∷ []) y }
+    ensures no_read { (y : Course) → IsTurn one_link (Call.Accept (Did.Done 0) ∷ []) 0 [] y → ⊥ }
+    ensures not_closed { (y : Course) → IsTurn one_link (Call.Accept (Did.Done 0) ∷ []) 0 (Call.Read 0 [] Did.End ∷ []) y → ⊥ }
+    ensures of_another { (y : Course) → IsTurn one_link (Call.Accept (Did.Done 0) ∷ []) 0 (Call.Read 1 [] Did.NotYet ∷ []) y → ⊥ }
+{}
+
+/// A round is one accept, and then a turn of each link that is open, in the order in which they were accepted.
 pub fn rounds()
-    ensures no_link { IsRound true (Call.Listen (codes "/p") (Did.Done 0) ∷ []) (Call.Accept Did.NotYet ∷ []) }
-    ensures one_link { IsRound true [] (Call.Accept (Did.Done 0) ∷ Call.Read 0 [] Did.NotYet ∷ []) }
-    ensures no_turn { IsRound true [] (Call.Accept (Did.Done 0) ∷ []) → ⊥ }
-    ensures no_accept { IsRound true [] [] → ⊥ }
-    ensures two { AreRounds 2 [] (Call.Accept Did.NotYet ∷ Call.Accept Did.NotYet ∷ []) }
-    ensures only_one { AreRounds 2 [] (Call.Accept Did.NotYet ∷ []) → ⊥ }
+    ensures no_link { IsRound true start (Call.Listen (codes "/p") (Did.Done 0) ∷ []) (Call.Accept Did.NotYet ∷ []) start }
+    ensures one_link { IsRound true start [] (Call.Accept (Did.Done 0) ∷ Call.Read 0 [] Did.NotYet ∷ []) one_link }
+    ensures two_links { IsRound true two_links (Call.Accept (Did.Done 3) ∷ Call.Accept (Did.Done 5) ∷ []) (Call.Accept Did.NotYet ∷ Call.Read 3 [] Did.NotYet ∷ Call.Read 5 [] Did.NotYet ∷ []) two_links }
+    ensures no_turn { (y : Course) → IsRound true start [] (Call.Accept (Did.Done 0) ∷ []) y → ⊥ }
+    ensures no_accept { (y : Course) → IsRound true start [] [] y → ⊥ }
+    ensures two { AreRounds 2 start [] (Call.Accept Did.NotYet ∷ Call.Accept Did.NotYet ∷ []) start }
+    ensures only_one { (y : Course) → AreRounds 2 start [] (Call.Accept Did.NotYet ∷ []) y → ⊥ }
 {}
 
 /// A run is a listen and then its rounds.

@@ -1,16 +1,17 @@
 //! The bus and its links, in rounds over a host.
 
-ghost use Rattle.std.specs.Prelude.{◌≡◌, ◌<◌, ◌==◌, [], length, position, true, false, IsTrue, IfErr, IfSome, MatchResult, OnOk};
+ghost use Rattle.std.specs.Prelude.{◌≡◌, ◌<◌, ◌≤◌, ◌==◌, [], length, position, true, false, IsTrue, IfErr, IfOk, IfSome, MatchResult, OnOk};
 ghost use lib.Dec.{leb};
 ghost use Rattle.std.specs.List.{remove};
 ghost use Rattle.atspi_routing.specs.Queues.{empty_bus};
 ghost use Rattle.atspi_bus.specs.View.{bus_of, given_of};
-ghost use Rattle.atspi_live_bus.specs.Rounds.{AreTurns, Breaks, Does, IsRound};
-ghost use Rattle.atspi_live_bus.specs.Seats.{HasAccepted, Hears, MayWrite, Shuts, ShutsOne, Stands, Takes, TakesCut, Writes, number_at, numbers_of, seats};
-ghost use Rattle.atspi_live_bus.specs.Service.{IsStopped, OfTold};
+ghost use Rattle.atspi_host.specs.Calls.{Adds};
+ghost use Rattle.atspi_host.specs.declared.call.Call.{Call};
+ghost use Rattle.atspi_live_bus.specs.Rounds.{AreTurns, Breaks, IsRound, Moves};
+ghost use Rattle.atspi_live_bus.specs.Seats.{Dismisses, GoesOpen, HasAccepted, Hears, Leaves, MayTake, Settles, Takes, TakesAll, TakesCut, TakesNone, Writes, conn_at, held, number_at, numbers_of, seats};
 ghost use Rattle.atspi_live_bus.specs.Serving.{Serves};
 ghost use Rattle.atspi_live_bus.specs.Stops.{IsFree, IsWant, StopBlames};
-ghost use Rattle.atspi_live_bus.specs.Turns.{Goes, IsAsked, Seats};
+ghost use Rattle.atspi_live_bus.specs.Turns.{Goes, IsTold, Seats, StopsAt};
 
 use crate::link::{Link, Next};
 use crate::stop::{Stop, stop_of};
@@ -48,7 +49,8 @@ impl Hall {
 
     /// Where the link of a connection stands.
     fn place(&self, conn: u32) -> Option<usize>
-        ensures { IfSome result (λ at. at < length self.now.links.items) }
+        ensures first { result ≡ position (λ l. l.conn == conn) self.now.links.items }
+        ensures below { IfSome result (λ at. at < length self.now.links.items) }
     {
         self.links.iter().position(|link| link.conn == conn)
     }
@@ -88,13 +90,9 @@ impl Hall {
     /// Takes a link in, if one waits: it joins the bus at once.
     fn admit<H: Host>(&mut self, host: &mut H) -> Result<(), Stop>
         requires serves { Serves (H.links host.old) self.old.links.items }
-        requires stands { OfTold (Stands self.old.links.items) (H.calls host.old) }
-        requires goes { OfTold (Goes self.old.bus self.old.links.items) (H.calls host.old) }
-        ensures calls { MatchResult result (λ _. Does (H.calls host.old) (H.calls host.new) HasAccepted) (λ stop. Does (H.calls host.old) (H.calls host.new) (Breaks stop)) }
+        ensures calls { MatchResult result (λ _. Moves (H.calls host.old) (H.calls host.new) (GoesOpen self.old.bus self.old.links.items) HasAccepted (GoesOpen self.new.bus self.new.links.items))
+            (λ stop. Moves (H.calls host.old) (H.calls host.new) (GoesOpen self.old.bus self.old.links.items) (Breaks stop) (StopsAt stop)) }
         ensures serves { OnOk result (Serves (H.links host.new) self.new.links.items) }
-        ensures stands { OnOk result (OfTold (Stands self.new.links.items) (H.calls host.new)) }
-        ensures goes { OnOk result (OfTold (Goes self.new.bus self.new.links.items) (H.calls host.new)) }
-        ensures said { IfErr result (λ stop. OfTold (IsStopped stop) (H.calls host.new)) }
         ensures same { OnOk result (H.faults host.new ≡ H.faults host.old) }
         ensures cause { IfErr result (λ stop. StopBlames stop (H.faults host.old) (H.faults host.new)) }
     {
@@ -105,14 +103,13 @@ impl Hall {
         }
     }
 
-    /// A link is closed, and is none of the bus's any more. Of the link itself nothing is asked.
+    /// A link is closed, and is none of the bus's any more.
     fn close<H: Host>(&mut self, host: &mut H, at: usize)
         requires serves { Serves (H.links host.old) self.old.links.items }
         requires there { at < length self.old.links.items }
-        requires goes { OfTold (Goes self.old.bus (remove self.old.links.items at)) (H.calls host.old) }
-        ensures calls { Does (H.calls host.old) (H.calls host.new) (ShutsOne (number_at self.old.links.items at) self.old.links.items self.new.links.items) }
+        ensures calls { Adds (H.calls host.old) (H.calls host.new) (Call.Close (number_at self.old.links.items at)) }
+        ensures links { self.new.links.items ≡ remove self.old.links.items at }
         ensures serves { Serves (H.links host.new) self.new.links.items }
-        ensures goes { OfTold (Goes self.new.bus self.new.links.items) (H.calls host.new) }
         ensures bus { self.new.bus ≡ self.old.bus }
         ensures same { H.faults host.new ≡ H.faults host.old }
     {
@@ -123,8 +120,10 @@ impl Hall {
     /// The oldest of the bus's own messages is told to nobody else. Whether there was one.
     fn forget_one(&mut self) -> bool
         ensures links { self.new.links.items ≡ self.old.links.items }
-        ensures asked { IsAsked (bus_of self.old.bus) (bus_of self.new.bus) }
+        ensures told { IsTold (bus_of self.old.bus) (bus_of self.new.bus) }
+        ensures closings { (bus_of self.new.bus).closings ≡ (bus_of self.old.bus).closings }
         ensures given { given_of self.new.bus ≡ given_of self.old.bus }
+        ensures none { result ≡ false → (bus_of self.new.bus).own ≡ [] }
         ensures fewer { IsTrue result → length (bus_of self.new.bus).own < length (bus_of self.old.bus).own }
     {
         let oldest = self.bus.own();
@@ -134,22 +133,22 @@ impl Hall {
     /// The bus's own messages are told to nobody else.
     fn forget(&mut self)
         ensures links { self.new.links.items ≡ self.old.links.items }
-        ensures asked { IsAsked (bus_of self.old.bus) (bus_of self.new.bus) }
+        ensures told { IsTold (bus_of self.old.bus) (bus_of self.new.bus) }
+        ensures closings { (bus_of self.new.bus).closings ≡ (bus_of self.old.bus).closings }
+        ensures none { (bus_of self.new.bus).own ≡ [] }
         ensures given { given_of self.new.bus ≡ given_of self.old.bus }
     {
         'messages: while self.forget_one() {}
     }
 
     /// The link of a connection that the bus closed is closed, where it still stands.
-    #[tactic(auto, using(crate::proofs::Shutting::shuts_none, crate::proofs::Shutting::shuts_one))]
     fn dismiss<H: Host>(&mut self, host: &mut H, conn: u32)
         requires serves { Serves (H.links host.old) self.old.links.items }
-        requires goes { OfTold (Goes self.old.bus self.old.links.items) (H.calls host.old) }
-        ensures calls { Does (H.calls host.old) (H.calls host.new) (Shuts self.old.links.items self.new.links.items) }
+        ensures calls { Moves (H.calls host.old) (H.calls host.new) (Goes self.old.bus self.old.links.items) (Dismisses conn self.old.links.items self.new.links.items) (Goes self.new.bus self.new.links.items) }
         ensures serves { Serves (H.links host.new) self.new.links.items }
-        ensures goes { OfTold (Goes self.new.bus self.new.links.items) (H.calls host.new) }
         ensures same { H.faults host.new ≡ H.faults host.old }
         ensures bus { self.new.bus ≡ self.old.bus }
+        ensures held { held self.new.links.items ≤ held self.old.links.items }
     {
         if let Some(at) = self.place(conn) {
             self.close(host, at);
@@ -157,14 +156,12 @@ impl Hall {
     }
 
     /// The links of the connections that the bus closed are closed, in the order of their causes.
-    #[tactic(auto, using(crate::proofs::Shutting::shuts_none, crate::proofs::Shutting::shuts_both))]
     fn settle<H: Host>(&mut self, host: &mut H)
         requires serves { Serves (H.links host.old) self.old.links.items }
-        requires goes { OfTold (Goes self.old.bus self.old.links.items) (H.calls host.old) }
-        ensures calls { Does (H.calls host.old) (H.calls host.new) (Shuts self.old.links.items self.new.links.items) }
+        ensures calls { Moves (H.calls host.old) (H.calls host.new) (Goes self.old.bus self.old.links.items) (Settles self.old.links.items self.new.links.items) (Goes self.new.bus self.new.links.items) }
         ensures serves { Serves (H.links host.new) self.new.links.items }
-        ensures goes { OfTold (Goes self.new.bus self.new.links.items) (H.calls host.new) }
         ensures same { H.faults host.new ≡ H.faults host.old }
+        ensures held { held self.new.links.items ≤ held self.old.links.items }
     {
         self.forget();
         'closings: while let Some(closing) = self.bus.closed() {
@@ -172,16 +169,14 @@ impl Hall {
         }
     }
 
-    /// A link is closed, and its connection leaves the bus. Of the link itself nothing is asked.
-    #[tactic(auto, using(crate::proofs::Shutting::shuts_more))]
+    /// A link is closed, and its connection leaves the bus. Of what was heard and said on the link nothing is asked.
     fn part<H: Host>(&mut self, host: &mut H, at: usize) -> Result<(), Stop>
         requires serves { Serves (H.links host.old) self.old.links.items }
         requires there { at < length self.old.links.items }
-        requires goes { OfTold (Goes self.old.bus (remove self.old.links.items at)) (H.calls host.old) }
-        ensures calls { Does (H.calls host.old) (H.calls host.new) (ShutsOne (number_at self.old.links.items at) self.old.links.items self.new.links.items) }
+        ensures calls { MatchResult result
+            (λ _. Moves (H.calls host.old) (H.calls host.new) (Goes self.old.bus (remove self.old.links.items at)) (Leaves true (number_at self.old.links.items at) (conn_at self.old.links.items at) self.old.links.items self.new.links.items) (Goes self.new.bus self.new.links.items))
+            (λ stop. Moves (H.calls host.old) (H.calls host.new) (Goes self.old.bus (remove self.old.links.items at)) (Leaves false (number_at self.old.links.items at) (conn_at self.old.links.items at) self.old.links.items self.new.links.items) (StopsAt stop)) }
         ensures serves { OnOk result (Serves (H.links host.new) self.new.links.items) }
-        ensures goes { OnOk result (OfTold (Goes self.new.bus self.new.links.items) (H.calls host.new)) }
-        ensures said { IfErr result (λ stop. OfTold (IsStopped stop) (H.calls host.new)) }
         ensures same { H.faults host.new ≡ H.faults host.old }
         ensures cause { IfErr result IsFree }
     {
@@ -197,14 +192,12 @@ impl Hall {
     }
 
     /// The bus takes the next message of a link, and closes whom it brings to close; one that sent what is malformed is closed. Whether a message was taken.
-    #[tactic(auto, using(crate::proofs::Shutting::shuts_none, crate::proofs::Shutting::shuts_one, crate::proofs::Shutting::shuts_from))]
     fn attend_one<H: Host>(&mut self, host: &mut H, number: u32) -> Result<bool, Stop>
         requires serves { Serves (H.links host.old) self.old.links.items }
-        requires goes { OfTold (Goes self.old.bus self.old.links.items) (H.calls host.old) }
-        ensures calls { Does (H.calls host.old) (H.calls host.new) (Shuts self.old.links.items self.new.links.items) }
+        ensures calls { MatchResult result (λ more. Moves (H.calls host.old) (H.calls host.new) (Goes self.old.bus self.old.links.items) (MayTake more number self.old.links.items self.new.links.items) (Goes self.new.bus self.new.links.items))
+            (λ stop. Moves (H.calls host.old) (H.calls host.new) (Goes self.old.bus self.old.links.items) (TakesNone false number self.old.links.items self.new.links.items) (StopsAt stop)) }
         ensures serves { OnOk result (Serves (H.links host.new) self.new.links.items) }
-        ensures goes { OnOk result (OfTold (Goes self.new.bus self.new.links.items) (H.calls host.new)) }
-        ensures said { IfErr result (λ stop. OfTold (IsStopped stop) (H.calls host.new)) }
+        ensures fewer { IfOk result (λ more. more ≡ true → held self.new.links.items < held self.old.links.items) }
         ensures same { H.faults host.new ≡ H.faults host.old }
         ensures cause { IfErr result IsFree }
     {
@@ -225,37 +218,32 @@ impl Hall {
         }
     }
 
-    /// The bus takes each whole message of a link, until the link is gone. A read brings fewer messages than bytes.
-    #[tactic(auto, using(crate::proofs::Shutting::shuts_none, crate::proofs::Shutting::shuts_both))]
+    /// The bus takes each whole message of a link, until the link is gone.
     fn attend<H: Host>(&mut self, host: &mut H, number: u32) -> Result<(), Stop>
         requires serves { Serves (H.links host.old) self.old.links.items }
-        requires goes { OfTold (Goes self.old.bus self.old.links.items) (H.calls host.old) }
-        ensures calls { Does (H.calls host.old) (H.calls host.new) (Shuts self.old.links.items self.new.links.items) }
+        ensures calls { MatchResult result (λ _. Moves (H.calls host.old) (H.calls host.new) (Goes self.old.bus self.old.links.items) (TakesAll true number self.old.links.items self.new.links.items) (Goes self.new.bus self.new.links.items))
+            (λ stop. Moves (H.calls host.old) (H.calls host.new) (Goes self.old.bus self.old.links.items) (TakesAll false number self.old.links.items self.new.links.items) (StopsAt stop)) }
         ensures serves { OnOk result (Serves (H.links host.new) self.new.links.items) }
-        ensures goes { OnOk result (OfTold (Goes self.new.bus self.new.links.items) (H.calls host.new)) }
-        ensures said { IfErr result (λ stop. OfTold (IsStopped stop) (H.calls host.new)) }
         ensures same { H.faults host.new ≡ H.faults host.old }
         ensures cause { IfErr result IsFree }
     {
-        for _ in 0..PIECE {
+        'messages: loop {
             match self.attend_one(host, number) {
                 Ok(true) => {}
                 Ok(false) => return Ok(()),
                 Err(stop) => return Err(stop),
             }
         }
-        Ok(())
     }
 
     /// One read of a link, and the bus takes what is then whole. A link that has ended, has failed, or sent what is at fault is closed.
     fn take_in<H: Host>(&mut self, host: &mut H, at: usize) -> Result<(), Stop>
         requires serves { Serves (H.links host.old) self.old.links.items }
         requires there { at < length self.old.links.items }
-        requires goes { OfTold (Goes self.old.bus self.old.links.items) (H.calls host.old) }
-        ensures calls { Does (H.calls host.old) (H.calls host.new) (Hears (number_at self.old.links.items at) self.old.links.items self.new.links.items) }
+        ensures calls { MatchResult result
+            (λ _. Moves (H.calls host.old) (H.calls host.new) (Goes self.old.bus self.old.links.items) (Hears true (number_at self.old.links.items at) (conn_at self.old.links.items at) self.old.links.items self.new.links.items) (Goes self.new.bus self.new.links.items))
+            (λ stop. Moves (H.calls host.old) (H.calls host.new) (Goes self.old.bus self.old.links.items) (Hears false (number_at self.old.links.items at) (conn_at self.old.links.items at) self.old.links.items self.new.links.items) (StopsAt stop)) }
         ensures serves { OnOk result (Serves (H.links host.new) self.new.links.items) }
-        ensures goes { OnOk result (OfTold (Goes self.new.bus self.new.links.items) (H.calls host.new)) }
-        ensures said { IfErr result (λ stop. OfTold (IsStopped stop) (H.calls host.new)) }
         ensures same { H.faults host.new ≡ H.faults host.old }
         ensures cause { IfErr result IsFree }
     {
@@ -270,11 +258,9 @@ impl Hall {
     /// One write of a link that is open, where output waits. One on which it failed is closed.
     fn give<H: Host>(&mut self, host: &mut H, number: u32) -> Result<(), Stop>
         requires serves { Serves (H.links host.old) self.old.links.items }
-        requires goes { OfTold (Goes self.old.bus self.old.links.items) (H.calls host.old) }
-        ensures calls { MatchResult result (λ _. Does (H.calls host.old) (H.calls host.new) (Writes number self.old.links.items self.new.links.items)) (λ _. Does (H.calls host.old) (H.calls host.new) (MayWrite number self.old.links.items self.new.links.items)) }
+        ensures calls { MatchResult result (λ _. Moves (H.calls host.old) (H.calls host.new) (Goes self.old.bus self.old.links.items) (Writes true number self.old.links.items self.new.links.items) (Goes self.new.bus self.new.links.items))
+            (λ stop. Moves (H.calls host.old) (H.calls host.new) (Goes self.old.bus self.old.links.items) (Writes false number self.old.links.items self.new.links.items) (StopsAt stop)) }
         ensures serves { OnOk result (Serves (H.links host.new) self.new.links.items) }
-        ensures goes { OnOk result (OfTold (Goes self.new.bus self.new.links.items) (H.calls host.new)) }
-        ensures said { IfErr result (λ stop. OfTold (IsStopped stop) (H.calls host.new)) }
         ensures same { H.faults host.new ≡ H.faults host.old }
         ensures cause { IfErr result IsFree }
     {
@@ -292,11 +278,9 @@ impl Hall {
     fn serve<H: Host>(&mut self, host: &mut H, at: usize) -> Result<(), Stop>
         requires serves { Serves (H.links host.old) self.old.links.items }
         requires there { at < length self.old.links.items }
-        requires goes { OfTold (Goes self.old.bus self.old.links.items) (H.calls host.old) }
-        ensures calls { MatchResult result (λ _. Does (H.calls host.old) (H.calls host.new) (Takes (number_at self.old.links.items at) self.old.links.items self.new.links.items)) (λ _. Does (H.calls host.old) (H.calls host.new) (TakesCut (number_at self.old.links.items at) self.old.links.items)) }
+        ensures calls { MatchResult result (λ _. Moves (H.calls host.old) (H.calls host.new) (Goes self.old.bus self.old.links.items) (Takes (number_at self.old.links.items at) self.old.links.items self.new.links.items) (Goes self.new.bus self.new.links.items))
+            (λ stop. Moves (H.calls host.old) (H.calls host.new) (Goes self.old.bus self.old.links.items) (TakesCut (number_at self.old.links.items at) self.old.links.items) (StopsAt stop)) }
         ensures serves { OnOk result (Serves (H.links host.new) self.new.links.items) }
-        ensures goes { OnOk result (OfTold (Goes self.new.bus self.new.links.items) (H.calls host.new)) }
-        ensures said { IfErr result (λ stop. OfTold (IsStopped stop) (H.calls host.new)) }
         ensures same { H.faults host.new ≡ H.faults host.old }
         ensures cause { IfErr result IsFree }
     {
@@ -308,16 +292,12 @@ impl Hall {
     }
 
     /// Each link is served once, in the order in which they joined.
-    #[tactic(auto, using(crate::proofs::Passing::passes_none, crate::proofs::Passing::passes_on, crate::proofs::Passing::stands_then, crate::proofs::Passing::all_passed, crate::proofs::Passing::none_left, crate::proofs::Passing::cut_passed))]
     fn pass<H: Host>(&mut self, host: &mut H) -> Result<(), Stop>
         requires serves { Serves (H.links host.old) self.old.links.items }
-        requires stands { OfTold (Stands self.old.links.items) (H.calls host.old) }
-        requires goes { OfTold (Goes self.old.bus self.old.links.items) (H.calls host.old) }
-        ensures calls { MatchResult result (λ _. Does (H.calls host.old) (H.calls host.new) (λ past. AreTurns true past (numbers_of (seats self.old.links.items)))) (λ _. Does (H.calls host.old) (H.calls host.new) (λ past. AreTurns false past (numbers_of (seats self.old.links.items)))) }
+        ensures calls { MatchResult result
+            (λ _. Moves (H.calls host.old) (H.calls host.new) (GoesOpen self.old.bus self.old.links.items) (λ x past. AreTurns true x past (numbers_of (seats self.old.links.items))) (GoesOpen self.new.bus self.new.links.items))
+            (λ stop. Moves (H.calls host.old) (H.calls host.new) (GoesOpen self.old.bus self.old.links.items) (λ x past. AreTurns false x past (numbers_of (seats self.old.links.items))) (StopsAt stop)) }
         ensures serves { OnOk result (Serves (H.links host.new) self.new.links.items) }
-        ensures stands { OnOk result (OfTold (Stands self.new.links.items) (H.calls host.new)) }
-        ensures goes { OnOk result (OfTold (Goes self.new.bus self.new.links.items) (H.calls host.new)) }
-        ensures said { IfErr result (λ stop. OfTold (IsStopped stop) (H.calls host.new)) }
         ensures same { H.faults host.new ≡ H.faults host.old }
         ensures cause { IfErr result IsFree }
     {
@@ -338,13 +318,9 @@ impl Hall {
     /// One round: an accept, and each link is served once.
     pub(crate) fn round<H: Host>(&mut self, host: &mut H) -> Result<(), Stop>
         requires serves { Serves (H.links host.old) self.old.links.items }
-        requires stands { OfTold (Stands self.old.links.items) (H.calls host.old) }
-        requires goes { OfTold (Goes self.old.bus self.old.links.items) (H.calls host.old) }
-        ensures calls { MatchResult result (λ _. Does (H.calls host.old) (H.calls host.new) (IsRound true)) (λ stop. Does (H.calls host.old) (H.calls host.new) (Breaks stop)) }
+        ensures calls { MatchResult result (λ _. Moves (H.calls host.old) (H.calls host.new) (GoesOpen self.old.bus self.old.links.items) (IsRound true) (GoesOpen self.new.bus self.new.links.items))
+            (λ stop. Moves (H.calls host.old) (H.calls host.new) (GoesOpen self.old.bus self.old.links.items) (Breaks stop) (StopsAt stop)) }
         ensures serves { OnOk result (Serves (H.links host.new) self.new.links.items) }
-        ensures stands { OnOk result (OfTold (Stands self.new.links.items) (H.calls host.new)) }
-        ensures goes { OnOk result (OfTold (Goes self.new.bus self.new.links.items) (H.calls host.new)) }
-        ensures said { IfErr result (λ stop. OfTold (IsStopped stop) (H.calls host.new)) }
         ensures same { OnOk result (H.faults host.new ≡ H.faults host.old) }
         ensures cause { IfErr result (λ stop. StopBlames stop (H.faults host.old) (H.faults host.new)) }
     {

@@ -5,12 +5,12 @@ ghost use Rattle.atspi_auth.specs.declared.stage.Stage.TheVariants.{Over};
 ghost use Rattle.atspi_message.specs.Envelope.{Envelope};
 ghost use Rattle.atspi_bus.specs.View.{bus_of, given_of};
 ghost use Rattle.atspi_host.specs.Calls.{IsOpen};
+ghost use Rattle.atspi_host.specs.declared.call.Did.{Did};
 ghost use Rattle.atspi_live_bus.specs.Rounds.{Does};
-ghost use Rattle.atspi_live_bus.specs.Seats.{HasRead, HasSent};
+ghost use Rattle.atspi_live_bus.specs.Seats.{HasRead, HasReadOnly, HasSent};
 ghost use Rattle.atspi_live_bus.specs.Asked.{Spends};
-ghost use Rattle.atspi_live_bus.specs.Service.{IsSpeech};
 ghost use Rattle.atspi_live_bus.specs.Stops.{IsFree, IsWant};
-ghost use Rattle.atspi_live_bus.specs.Turns.{Carries, Converses, Fetches, Gives, IsSilent, Remains, Tells};
+ghost use Rattle.atspi_live_bus.specs.Turns.{Converses, Fetches, Gives, IsSilent, Remains, Tells};
 
 use crate::stop::{Stop, stop_of};
 use atspi_auth::{AuthFault, Server};
@@ -62,8 +62,8 @@ impl Link {
 
     /// Hears a piece of what the peer sends: lines of authentication, and behind them bytes of messages. False where a line is at fault.
     fn hear(&mut self, piece: &[u8]) -> Result<bool, Stop>
-        ensures ok { IfOk result (λ goes_on. (took : List Envelope) (handed t g : List ℕ) → Converses took handed self.old t g
-            → Remains goes_on took handed self.new (t ++ piece.now) g) }
+        ensures ok { IfOk result (λ goes_on. (n : ℕ) (took : List Envelope) (handed t g : List ℕ) → Converses took handed self.old t g
+            → Remains goes_on (Did.Done n) took handed self.new (t ++ piece.now) g) }
         ensures number { self.new.number ≡ self.old.number }
         ensures conn { self.new.conn ≡ self.old.conn }
         ensures cause { IfErr result IsWant }
@@ -71,7 +71,10 @@ impl Link {
         let taken = match self.server.feed(piece) {
             Ok(taken) => taken,
             Err(AuthFault::NoMemory) => return Err(Stop::NoMemory),
-            Err(_) => return Ok(false),
+            Err(AuthFault::NoZero | AuthFault::TooLong | AuthFault::Early | AuthFault::Rejected) =>
+                {
+                    return Ok(false);
+                }
         };
         match self.feeder.feed(&piece[taken..]) {
             Ok(()) => Ok(true),
@@ -82,11 +85,7 @@ impl Link {
     /// One read, and what it brings is heard. False where the link has ended, has failed, or sent a line that is at fault.
     pub(crate) fn take_in<H: Host>(&mut self, host: &mut H) -> Result<bool, Stop>
         requires { IsOpen self.old.number (H.links host.old) }
-        ensures calls { MatchResult result (λ goes_on. Does (H.calls host.old) (H.calls host.new) (HasRead self.old.number goes_on)) (λ _. Does (H.calls host.old) (H.calls host.new) (HasRead self.old.number true)) }
-        ensures ok { IfOk result (λ goes_on. (took : List Envelope) (handed : List ℕ)
-            → Carries self.old.number (H.calls host.old) (H.calls host.new) (Converses took handed self.old) (Remains goes_on took handed self.new)) }
-        ensures err { OnErr result ((took : List Envelope) (handed : List ℕ)
-            → Carries self.old.number (H.calls host.old) (H.calls host.new) (Converses took handed self.old) (IsSpeech took handed)) }
+        ensures calls { MatchResult result (λ goes_on. Does (H.calls host.old) (H.calls host.new) (HasRead self.old.number goes_on self.old self.new)) (λ _. Does (H.calls host.old) (H.calls host.new) (HasReadOnly self.old.number self.old)) }
         ensures number { self.new.number ≡ self.old.number }
         ensures conn { self.new.conn ≡ self.old.conn }
         ensures links { H.links host.new ≡ H.links host.old }

@@ -2,8 +2,9 @@ use Rattle.std.proofs.Common.{[], ◌∷◌, refl, inl, inr, lit<}
 use Rattle.std.specs.Prelude.{codes}
 use Rattle.atspi_host.specs.declared.call.Did.TheVariants.{Done, NotYet, Failed}
 use Rattle.atspi_host.specs.declared.call.Call.TheVariants.{Accept, Listen}
+use Rattle.atspi_live_bus.specs.Course.{start}
 use Rattle.atspi_live_bus.specs.declared.stop.Stop.TheVariants as stops
-use Rattle.atspi_live_bus.proofs.Worked.{empty_round, none_run, not_failed}
+use Rattle.atspi_live_bus.proofs.Worked.{empty_round, none_run, not_failed, nothing_passed}
 use Rattle.atspi_live_bus.proofs.examples.runs.Goals as goal
 
 pub returns-clause-done : goal.returns-clause-done
@@ -15,9 +16,12 @@ returns-clause-done c = inr (
     whole = 1;
     done = Accept NotYet ∷ [];
     last = [];
-    are = ([], Accept NotYet ∷ [], refl, empty_round (Listen (codes "/p") (Done 0) ∷ []) refl, refl);
-    ends = inl (refl, refl, refl);
+    led = start;
+    ended = start;
+    are = (start, [], Accept NotYet ∷ [], (refl, refl), empty_round start (Listen (codes "/p") (Done 0) ∷ []) refl, refl);
+    ends = inl (refl, refl, refl, refl);
     all = refl;
+    fits = nothing_passed (Listen (codes "/p") (Done 0) ∷ Accept NotYet ∷ []) (λ k. refl) (λ k. refl);
   },
   refl,
 )
@@ -31,9 +35,12 @@ returns-clause-accept_failed c = inr (
     whole = 1;
     done = Accept NotYet ∷ [];
     last = Accept Failed ∷ [];
-    are = ([], Accept NotYet ∷ [], refl, empty_round (Listen (codes "/p") (Done 0) ∷ []) refl, refl);
-    ends = inr (stops.HostFailed, refl, lit< tt, refl);
+    led = start;
+    ended = start;
+    are = (start, [], Accept NotYet ∷ [], (refl, refl), empty_round start (Listen (codes "/p") (Done 0) ∷ []) refl, refl);
+    ends = inr (stops.HostFailed, refl, lit< tt, (refl, refl));
     all = refl;
+    fits = nothing_passed (Listen (codes "/p") (Done 0) ∷ Accept NotYet ∷ Accept Failed ∷ []) (λ k. refl) (λ k. refl);
   },
   refl,
 )

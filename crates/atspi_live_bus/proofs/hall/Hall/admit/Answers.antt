@@ -1,13 +1,11 @@
-use Rattle.std.proofs.Common.{ℕ, List, [], ◌∷◌, ◌++◌, refl, sym, ap, subst, ◌∙◌, inl, inr}
-use Rattle.atspi_host.specs.declared.call.Did.TheVariants.{Done, NotYet, Failed}
+use Rattle.std.proofs.Common.{ℕ, List, [], ◌∷◌, ◌++◌, sym, ap, subst, ◌∙◌, inl, inr}
 use Rattle.atspi_host.specs.Calls.{IsNew}
 use Rattle.atspi_live_bus.specs.Serving.{numbers}
 use Rattle.atspi_live_bus.specs.declared.link.Link.{Link}
-use Rattle.atspi_live_bus.proofs.Admitting.{accepted, admitted, none_seated, not_admitted, seated_stands}
+use Rattle.atspi_live_bus.proofs.Admitting.{admitted, none_came, not_admitted}
 use Rattle.atspi_live_bus.proofs.Ending.{free_blames, if_err, on_ok}
 use Rattle.atspi_live_bus.proofs.Going.{want_free}
 use Rattle.atspi_live_bus.proofs.Serving.{opened, pushed}
-use Rattle.atspi_live_bus.proofs.Stepping.{none_came, seated_told, service_told, want_told}
 use Rattle.atspi_live_bus.proofs.hall.Hall.admit.Goals as goal
 
 pub returns-in-Done-clause-serves : goal.returns-in-Done-clause-serves
@@ -18,58 +16,22 @@ returns-in-Done-clause-serves g c =
     c.in-Done.ensures.links c.requires.serves)
     c.seat.ensures.ok
 
-pub returns-in-Done-clause-goes : goal.returns-in-Done-clause-goes
-returns-in-Done-clause-goes g c =
-    on_ok c.seat.result _ _
-    (λ q. seated_told c.args.self.now.bus c.seat.new.self.bus c.args.self.now.links.items c.seat.new.self.links.items c.in-Done.number (g.H.Host.calls c.args.host.now) (g.H.Host.calls c.accept.new.self) q
-    (subst (λ (w : List ℕ). IsNew c.in-Done.number w) (sym c.requires.serves.are) c.in-Done.ensures.links.1) c.in-Done.ensures.unused c.in-Done.ensures.calls c.requires.goes)
-    c.seat.ensures.ok
-
-pub returns-in-Done-clause-said : goal.returns-in-Done-clause-said
-returns-in-Done-clause-said g c =
-    if_err c.seat.result _ _
-    (λ stop w. want_told c.args.self.now.bus c.args.self.now.links.items (g.H.Host.calls c.accept.new.self) (g.H.Host.calls c.accept.new.self) stop w refl
-    (none_came c.args.self.now.bus c.args.self.now.links.items (Done c.in-Done.number) (g.H.Host.calls c.args.host.now) (g.H.Host.calls c.accept.new.self) c.in-Done.ensures.calls c.requires.goes))
-    c.seat.ensures.cause
-
 pub returns-in-Done-clause-cause : goal.returns-in-Done-clause-cause
 returns-in-Done-clause-cause g c =
     if_err c.seat.result _ _
     (λ stop w. free_blames stop (g.H.Host.faults c.args.host.now) (g.H.Host.faults c.accept.new.self) (want_free stop w) c.in-Done.ensures.cause)
     c.seat.ensures.cause
 
-pub returns-in-NotYet-clause-goes : goal.returns-in-NotYet-clause-goes
-returns-in-NotYet-clause-goes g c = elim c.in-NotYet.is [
-  | inl e ↦ none_came c.args.self.now.bus c.args.self.now.links.items NotYet (g.H.Host.calls c.args.host.now) (g.H.Host.calls c.accept.new.self) (rw e at c.accept.ensures.calls) c.requires.goes
-  | inr e ↦ absurd (rw e at c.accept.ensures.links)
-]
-
-pub returns-in-Failed-clause-said : goal.returns-in-Failed-clause-said
-returns-in-Failed-clause-said g c =
-    service_told c.args.self.now.bus c.args.self.now.links.items (g.H.Host.calls c.accept.new.self)
-    (none_came c.args.self.now.bus c.args.self.now.links.items Failed (g.H.Host.calls c.args.host.now) (g.H.Host.calls c.accept.new.self) c.in-Failed.ensures.calls c.requires.goes)
-
 pub returns-in-Done-clause-calls : goal.returns-in-Done-clause-calls
-returns-in-Done-clause-calls g c = admitted c.seat.result (g.H.Host.calls c.args.host.now) (g.H.Host.calls c.accept.new.self) (Done c.in-Done.number) c.seat.ensures.cause tt c.in-Done.ensures.calls
-
-pub returns-in-Done-clause-stands : goal.returns-in-Done-clause-stands
-returns-in-Done-clause-stands g c =
-    on_ok c.seat.result _ _
-    (λ q. seated_stands c.args.self.now.bus c.seat.new.self.bus c.args.self.now.links.items c.seat.new.self.links.items c.in-Done.number (g.H.Host.calls c.args.host.now) (g.H.Host.calls c.accept.new.self) q
-    c.in-Done.ensures.calls c.requires.goes c.requires.stands)
-    c.seat.ensures.ok
+returns-in-Done-clause-calls g c =
+    admitted c.seat.result c.args.self.now.bus c.seat.new.self.bus c.args.self.now.links.items c.seat.new.self.links.items c.in-Done.number (g.H.Host.calls c.args.host.now) (g.H.Host.calls c.accept.new.self) c.seat.ensures.ok c.seat.ensures.cause
+    (subst (λ (w : List ℕ). IsNew c.in-Done.number w) (sym c.requires.serves.are) c.in-Done.ensures.links.1) c.in-Done.ensures.unused c.in-Done.ensures.calls
 
 pub returns-in-NotYet-clause-calls : goal.returns-in-NotYet-clause-calls
 returns-in-NotYet-clause-calls g c = elim c.in-NotYet.is [
-  | inl e ↦ accepted (g.H.Host.calls c.args.host.now) (g.H.Host.calls c.accept.new.self) NotYet tt (rw e at c.accept.ensures.calls)
-  | inr e ↦ absurd (rw e at c.accept.ensures.links)
-]
-
-pub returns-in-NotYet-clause-stands : goal.returns-in-NotYet-clause-stands
-returns-in-NotYet-clause-stands g c = elim c.in-NotYet.is [
-  | inl e ↦ none_seated c.args.self.now.links.items (g.H.Host.calls c.args.host.now) (g.H.Host.calls c.accept.new.self) (rw e at c.accept.ensures.calls) c.requires.stands
+  | inl e ↦ none_came c.args.self.now.bus c.args.self.now.links.items (g.H.Host.calls c.args.host.now) (g.H.Host.calls c.accept.new.self) (rw e at c.accept.ensures.calls)
   | inr e ↦ absurd (rw e at c.accept.ensures.links)
 ]
 
 pub returns-in-Failed-clause-calls : goal.returns-in-Failed-clause-calls
-returns-in-Failed-clause-calls g c = not_admitted (g.H.Host.calls c.args.host.now) (g.H.Host.calls c.accept.new.self) c.in-Failed.ensures.calls
+returns-in-Failed-clause-calls g c = not_admitted c.args.self.now.bus c.args.self.now.links.items (g.H.Host.calls c.args.host.now) (g.H.Host.calls c.accept.new.self) c.in-Failed.ensures.calls

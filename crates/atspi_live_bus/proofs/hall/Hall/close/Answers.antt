@@ -1,9 +1,9 @@
-use Rattle.std.proofs.Common.{subst, sym}
+use Rattle.std.proofs.Common.{ℕ, subst, sym}
+use Rattle.atspi_host.specs.Calls.{Adds}
+use Rattle.atspi_host.specs.declared.call.Call.TheVariants.{Close}
 use Rattle.atspi_live_bus.specs.Serving.{Serves}
 use Rattle.atspi_live_bus.proofs.Serving.{link_open, removed}
-use Rattle.atspi_live_bus.proofs.Shutting.{shut_here}
-use Rattle.atspi_live_bus.proofs.Stepping.{closed_goes}
-use Rattle.std.specs.List.{remove}
+use Rattle.atspi_live_bus.proofs.Shutting.{number_there}
 use Rattle.atspi_live_bus.proofs.hall.Hall.close.Goals as goal
 
 pub close-requires : goal.close-requires
@@ -13,15 +13,9 @@ close-requires g c = record {
 
 pub returns-clause-calls : goal.returns-clause-calls
 returns-clause-calls g c =
-    shut_here c.args.self.now.links.items c.remove-gone.new.self.items c.args.at c.remove-gone.result (g.H.Host.links c.args.host.now) (g.H.Host.calls c.args.host.now) (g.H.Host.calls c.close.new.self)
-    c.requires.there c.remove-gone.ensures.value c.remove-gone.ensures.items c.requires.serves c.close.ensures.calls
+    subst (λ (k : ℕ). Adds (g.H.Host.calls c.args.host.now) (g.H.Host.calls c.close.new.self) (Close k)) (sym (number_there c.args.self.now.links.items c.args.at c.remove-gone.result c.requires.there c.remove-gone.ensures.value)) c.close.ensures.calls
 
 pub returns-clause-serves : goal.returns-clause-serves
 returns-clause-serves g c =
     subst (λ w. Serves (g.H.Host.links c.close.new.self) w) (sym c.remove-gone.ensures.items)
     (removed c.args.self.now.links.items c.args.at c.remove-gone.result (g.H.Host.links c.args.host.now) (g.H.Host.links c.close.new.self) c.requires.there c.remove-gone.ensures.value c.close.ensures.links c.requires.serves)
-
-pub returns-clause-goes : goal.returns-clause-goes
-returns-clause-goes g c =
-    closed_goes c.args.self.now.bus (remove c.args.self.now.links.items c.args.at) c.remove-gone.new.self.items c.remove-gone.result.number (g.H.Host.calls c.args.host.now) (g.H.Host.calls c.close.new.self)
-    c.remove-gone.ensures.items c.close.ensures.calls c.requires.goes

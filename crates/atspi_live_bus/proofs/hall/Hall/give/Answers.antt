@@ -1,9 +1,7 @@
 use Rattle.std.proofs.Common.{rules, ◌≡◌, true, false, slice_set}
-use Rattle.atspi_live_bus.proofs.Giving.{has_written}
 use Rattle.atspi_live_bus.proofs.Going.{want_free}
-use Rattle.atspi_live_bus.proofs.Hearing.{gave_lost, gave_none, gave_on, not_there}
+use Rattle.atspi_live_bus.proofs.Hearing.{gave, gave_either, gave_none, gave_on, not_there}
 use Rattle.atspi_live_bus.proofs.Serving.{link_open, turned}
-use Rattle.atspi_live_bus.proofs.Stepping.{gave_goes, want_told, without_one}
 use Rattle.atspi_live_bus.proofs.hall.Hall.give.Goals as goal
 
 pub give-requires : goal.give-requires
@@ -19,48 +17,28 @@ returns-in-Ok-true-clause-serves g c =
     turned c.args.self.now.links.items c.in-Some.at c.index_mut.result.now c.give.new.self (g.H.Host.links c.args.host.now) (g.H.Host.links c.give.new.host)
     c.in-Some.ensures.below c.index_mut.ensures.value c.give.ensures.number c.give.ensures.links c.requires.serves
 
-pub returns-in-Ok-true-clause-goes : goal.returns-in-Ok-true-clause-goes
-returns-in-Ok-true-clause-goes g c =
-    gave_goes c.args.self.now.bus c.give.new.bus c.args.self.now.links.items c.in-Some.at c.index_mut.result.now c.give.new.self (g.H.Host.links c.args.host.now) (g.H.Host.calls c.args.host.now) (g.H.Host.calls c.give.new.host)
-    c.in-Some.ensures.below c.index_mut.ensures.value c.requires.serves c.give.ensures.number c.give.ensures.conn c.in-Ok-true.ensures.ok c.give.ensures.given c.requires.goes
-
-pub part-requires-clause-goes : goal.part-requires-clause-goes
-part-requires-clause-goes g c =
-    without_one c.give.new.bus (slice_set c.args.self.now.links.items c.in-Some.at c.give.new.self) c.in-Some.at (g.H.Host.calls c.give.new.host)
-    (gave_goes c.args.self.now.bus c.give.new.bus c.args.self.now.links.items c.in-Some.at c.index_mut.result.now c.give.new.self (g.H.Host.links c.args.host.now) (g.H.Host.calls c.args.host.now) (g.H.Host.calls c.give.new.host)
-    c.in-Some.ensures.below c.index_mut.ensures.value c.requires.serves c.give.ensures.number c.give.ensures.conn c.in-Ok-false.ensures.ok c.give.ensures.given c.requires.goes)
-
-pub returns-in-Err-clause-said : goal.returns-in-Err-clause-said
-returns-in-Err-clause-said g c =
-    want_told c.args.self.now.bus c.args.self.now.links.items (g.H.Host.calls c.args.host.now) (g.H.Host.calls c.give.new.host) c.in-Err.stop c.in-Err.ensures.cause c.in-Err.ensures.err c.requires.goes
-
 pub returns-in-Err-clause-cause : goal.returns-in-Err-clause-cause
 returns-in-Err-clause-cause g c = want_free c.in-Err.stop c.in-Err.ensures.cause
 
 pub returns-in_default-clause-calls : goal.returns-in_default-clause-calls
-returns-in_default-clause-calls g c = not_there c.args.self.now.links.items c.args.number (g.H.Host.calls c.args.host.now) c.in_default.ensures.first
+returns-in_default-clause-calls g c = not_there c.args.self.now.bus c.args.self.now.links.items c.args.number (g.H.Host.calls c.args.host.now) c.in_default.ensures.first
 
 pub returns-in-Ok-true-clause-calls : goal.returns-in-Ok-true-clause-calls
 returns-in-Ok-true-clause-calls g c =
     let goes_on : c.in-Ok-true.field-0 ≡ true = search rules in
-    gave_on c.args.self.now.links.items c.in-Some.at c.args.number c.index_mut.result.now c.give.new.self (g.H.Host.calls c.args.host.now) (g.H.Host.calls c.give.new.host)
+    gave_on c.args.self.now.bus c.give.new.bus c.args.self.now.links.items c.in-Some.at c.args.number c.index_mut.result.now c.give.new.self (g.H.Host.calls c.args.host.now) (g.H.Host.calls c.give.new.host)
     c.in-Some.ensures.below c.index_mut.ensures.value c.give.ensures.number c.give.ensures.conn c.in-Some.ensures.first
-    (has_written true c.give.new.bus c.args.self.now.links.items c.in-Some.at c.index_mut.result.now c.give.new.self (g.H.Host.calls c.args.host.now) (g.H.Host.calls c.give.new.host) c.in-Some.ensures.below c.give.ensures.number
-    (gave_goes c.args.self.now.bus c.give.new.bus c.args.self.now.links.items c.in-Some.at c.index_mut.result.now c.give.new.self (g.H.Host.links c.args.host.now) (g.H.Host.calls c.args.host.now) (g.H.Host.calls c.give.new.host)
-    c.in-Some.ensures.below c.index_mut.ensures.value c.requires.serves c.give.ensures.number c.give.ensures.conn c.in-Ok-true.ensures.ok c.give.ensures.given c.requires.goes)
-    (rw goes_on at c.in-Ok-true.ensures.calls))
+    (gave true c.args.self.now.bus c.give.new.bus c.args.self.now.links.items c.in-Some.at c.index_mut.result.now c.give.new.self (g.H.Host.links c.args.host.now) (g.H.Host.calls c.args.host.now) (g.H.Host.calls c.give.new.host)
+    c.in-Some.ensures.below c.index_mut.ensures.value c.requires.serves c.give.ensures.number c.give.ensures.conn c.give.ensures.given c.in-Ok-true.ensures.ok (rw goes_on at c.in-Ok-true.ensures.calls))
 
 pub returns-in-Ok-false-clause-calls : goal.returns-in-Ok-false-clause-calls
 returns-in-Ok-false-clause-calls g c =
     let goes_on : c.in-Ok-false.field-0 ≡ false = search rules in
-    gave_lost c.part.result c.args.self.now.links.items c.part.new.self.links.items c.in-Some.at c.args.number c.index_mut.result.now c.give.new.self (g.H.Host.calls c.args.host.now) (g.H.Host.calls c.give.new.host) (g.H.Host.calls c.part.new.host)
-    c.in-Some.ensures.below c.index_mut.ensures.value c.give.ensures.number c.give.ensures.conn c.in-Some.ensures.first
-    (has_written false c.give.new.bus c.args.self.now.links.items c.in-Some.at c.index_mut.result.now c.give.new.self (g.H.Host.calls c.args.host.now) (g.H.Host.calls c.give.new.host) c.in-Some.ensures.below c.give.ensures.number
-    (gave_goes c.args.self.now.bus c.give.new.bus c.args.self.now.links.items c.in-Some.at c.index_mut.result.now c.give.new.self (g.H.Host.links c.args.host.now) (g.H.Host.calls c.args.host.now) (g.H.Host.calls c.give.new.host)
-    c.in-Some.ensures.below c.index_mut.ensures.value c.requires.serves c.give.ensures.number c.give.ensures.conn c.in-Ok-false.ensures.ok c.give.ensures.given c.requires.goes)
-    (rw goes_on at c.in-Ok-false.ensures.calls)) c.part.ensures.calls
+    gave_either c.part.result c.args.self.now.bus c.give.new.bus c.part.new.self.bus c.args.self.now.links.items c.part.new.self.links.items c.in-Some.at c.args.number c.index_mut.result.now c.give.new.self
+    (g.H.Host.calls c.args.host.now) (g.H.Host.calls c.give.new.host) (g.H.Host.calls c.part.new.host) c.in-Some.ensures.below c.index_mut.ensures.value c.give.ensures.number c.give.ensures.conn c.in-Some.ensures.first
+    (gave false c.args.self.now.bus c.give.new.bus c.args.self.now.links.items c.in-Some.at c.index_mut.result.now c.give.new.self (g.H.Host.links c.args.host.now) (g.H.Host.calls c.args.host.now) (g.H.Host.calls c.give.new.host)
+    c.in-Some.ensures.below c.index_mut.ensures.value c.requires.serves c.give.ensures.number c.give.ensures.conn c.give.ensures.given c.in-Ok-false.ensures.ok (rw goes_on at c.in-Ok-false.ensures.calls))
+    c.part.ensures.calls
 
 pub returns-in-Err-clause-calls : goal.returns-in-Err-clause-calls
-returns-in-Err-clause-calls g c =
-    gave_none c.args.self.now.links.items c.in-Some.at c.args.number c.index_mut.result.now c.give.new.self (g.H.Host.calls c.args.host.now) (g.H.Host.calls c.give.new.host)
-    c.in-Some.ensures.below c.index_mut.ensures.value c.give.ensures.number c.give.ensures.conn c.in-Err.ensures.err
+returns-in-Err-clause-calls g c = gave_none c.args.self.now.bus c.args.self.now.links.items (slice_set c.args.self.now.links.items c.in-Some.at c.give.new.self) c.args.number c.in-Err.stop (g.H.Host.calls c.args.host.now) (g.H.Host.calls c.give.new.host) c.in-Err.ensures.cause c.in-Err.ensures.err
