@@ -11,20 +11,21 @@ ghost use Rattle.atspi_protocol.specs.exporting.Exporter.{Exporter};
 ghost use Rattle.atspi_protocol.specs.exporting.Taking.{is_spent};
 ghost use Rattle.atspi_conversation.specs.Speech.{EndsBy};
 ghost use Rattle.atspi_conversation.specs.declared.ending.Ending.{Ending};
-ghost use Rattle.atspi_live_app.specs.Standing.{Event, IsAfter, IsSpent, takes};
+ghost use Rattle.atspi_live_app.specs.Live.{IsMarked};
+ghost use Rattle.atspi_live_app.specs.Standing.{IsAfter, IsSpent};
 ghost use Rattle.atspi_live_examples.specs.Lines.{granted, rejected};
 
-/// Before a line is done: the server refuses, the link fails, or a message is malformed behind one that was taken. Where no order would do,
-/// no run ends so.
+/// Before a line is done: the server refuses, the link fails, or a message is malformed behind one that was taken. Where there is no line, no run
+/// ends behind one.
 pub fn unstarted_ends()
-    ensures refused { (IsOrder : List Event → List (List ℕ) → Type 0) (lines : List (List ℕ)) → IsOrder [] lines → EndsBy (IsAfter IsOrder lines) IsSpent 0 Ending.NotAuthenticated 5 (Call.Read 0 rejected (Did.Done 19) ∷ []) }
-    ensures failed { (IsOrder : List Event → List (List ℕ) → Type 0) (lines : List (List ℕ)) → IsOrder [] lines → EndsBy (IsAfter IsOrder lines) IsSpent 0 Ending.HostFailed 5 (Call.Read 0 [] Did.Failed ∷ []) }
-    ensures malformed { (IsOrder : List Event → List (List ℕ) → Type 0) (lines : List (List ℕ)) (e : Envelope) (m bytes : List ℕ) (fault : Fault) (n : ℕ) → IsOrder (takes e ∷ []) lines → IsMessage e m → HasFault bytes fault.place fault.reason
-        → EndsBy (IsAfter IsOrder lines) IsSpent 0 (Ending.Malformed (length m) fault) 5 (Call.Read 0 (granted ++ (m ++ bytes)) (Did.Done n) ∷ []) }
-    ensures no_order { (lines : List (List ℕ)) → EndsBy (IsAfter (λ history left. ⊥) lines) IsSpent 0 Ending.HostFailed 5 (Call.Read 0 [] Did.Failed ∷ []) → ⊥ }
+    ensures refused { (lines : List (List ℕ)) → EndsBy (IsAfter (IsMarked []) lines) IsSpent 0 Ending.NotAuthenticated 5 (Call.Read 0 rejected (Did.Done 19) ∷ []) }
+    ensures failed { (lines : List (List ℕ)) → EndsBy (IsAfter (IsMarked []) lines) IsSpent 0 Ending.HostFailed 5 (Call.Read 0 [] Did.Failed ∷ []) }
+    ensures malformed { (lines : List (List ℕ)) (e : Envelope) (m bytes : List ℕ) (fault : Fault) (n : ℕ) → IsMessage e m → HasFault bytes fault.place fault.reason
+        → EndsBy (IsAfter (IsMarked []) lines) IsSpent 0 (Ending.Malformed (length m) fault) 5 (Call.Read 0 (granted ++ (m ++ bytes)) (Did.Done n) ∷ []) }
+    ensures no_line { EndsBy (IsAfter (IsMarked (0 ∷ [])) []) IsSpent 0 Ending.HostFailed 5 (Call.Read 0 [] Did.Failed ∷ []) → ⊥ }
 {}
 
 /// An application of whose messages one has passed the last number stands at no end.
 pub fn numbered_ends()
-    ensures { (IsOrder : List Event → List (List ℕ) → Type 0) (lines : List (List ℕ)) (s : Exporter) (took said : List Envelope) → is_spent s ≡ true → IsAfter IsOrder lines (Some s) took said → ⊥ }
+    ensures { (marks : List ℕ) (lines : List (List ℕ)) (s : Exporter) (took said : List Envelope) → is_spent s ≡ true → IsAfter (IsMarked marks) lines (Some s) took said → ⊥ }
 {}

@@ -1,4 +1,4 @@
-use Rattle.std.proofs.Common.{◌≡◌, ℕ, List, [], ◌∷◌, ◌++◌, length, None, refl, sym, ap, ◌∙◌, append-nil, lit<}
+use Rattle.std.proofs.Common.{◌≡◌, ℕ, ◌+◌, List, [], ◌∷◌, ◌++◌, length, None, refl, sym, ap, ◌∙◌, append-nil, lit<}
 use Rattle.atspi_auth.specs.Lines.{lines_of, joined}
 use Rattle.atspi_auth.specs.Replies.{answer, reply_to}
 use Rattle.atspi_auth.specs.Requests.{is_grant, is_number}
@@ -7,7 +7,8 @@ use Rattle.atspi_auth.proofs.LinesLemmas.{joined-lines_of}
 use Rattle.atspi_message.specs.Envelope.{Envelope}
 use Rattle.atspi_stream.specs.Stream.{few}
 use Rattle.atspi_conversation.proofs.LineLemmas.{none_behind}
-use Rattle.atspi_live_app.specs.Standing.{Event, IsAfter, takes}
+use Rattle.atspi_live_app.specs.Live.{IsMarked, marks_in}
+use Rattle.atspi_live_app.specs.Standing.{Event, IsAfter, does, lines_in, takes}
 use Rattle.atspi_live_examples.specs.Lines.{granted, rejected}
 use Rattle.atspi_live_examples.proofs.ends.unstarted_ends.Goals as goal
 
@@ -25,17 +26,23 @@ unfolding heard hears hears_bytes lines_of joined answer reply_to is_grant is_nu
 sound = refl
 
 -- an application that has not started, behind such messages
-unstarted : (IsOrder : List Event → List (List ℕ) → Type 0) (lines : List (List ℕ)) → IsOrder [] lines → IsAfter IsOrder lines None [] []
-unstarted IsOrder lines o = record { history = []; left = lines; order = o; all = refl; taken = refl; whole = None; makes = refl; handed = refl; numbered = tt }
+unstarted : (lines : List (List ℕ)) → IsAfter (IsMarked []) lines None [] []
+unstarted lines = record { history = []; left = lines; order = refl; all = refl; taken = refl; whole = None; makes = refl; handed = refl; numbered = tt }
 
-one_taken : (IsOrder : List Event → List (List ℕ) → Type 0) (lines : List (List ℕ)) (e : Envelope) → IsOrder (takes e ∷ []) lines → IsAfter IsOrder lines None (e ∷ []) []
-one_taken IsOrder lines e o = record { history = takes e ∷ []; left = lines; order = o; all = refl; taken = refl; whole = None; makes = (None, refl, refl); handed = refl; numbered = tt }
+one_taken : (lines : List (List ℕ)) (e : Envelope) → IsAfter (IsMarked []) lines None (e ∷ []) []
+one_taken lines e = record { history = takes e ∷ []; left = lines; order = refl; all = refl; taken = refl; whole = None; makes = (None, refl, refl); handed = refl; numbered = tt }
+
+-- of no lines none was done
+none_marked : (taken : ℕ) (history : List Event) (left : List (List ℕ)) → lines_in history ++ left ≡ [] → marks_in taken history ≡ []
+none_marked taken [] left e = refl
+none_marked taken (does line ∷ events) left e = absurd cc
+none_marked taken (takes m ∷ events) left e = none_marked (taken + 1) events left e
 
 pub returns-clause-refused : goal.returns-clause-refused
-returns-clause-refused c IsOrder lines o = (record { at_fault = at_fault; end = None; said = []; stands = unstarted IsOrder lines o }, (tt, tt))
+returns-clause-refused c lines = (record { at_fault = at_fault; end = None; said = []; stands = unstarted lines }, (tt, tt))
 
 pub returns-clause-failed : goal.returns-clause-failed
-returns-clause-failed c IsOrder lines o = record {
+returns-clause-failed c lines = record {
   authenticated = sound;
   messages = [];
   rest = [];
@@ -43,11 +50,11 @@ returns-clause-failed c IsOrder lines o = record {
   awaits = few (lit< tt);
   end = None;
   said = [];
-  stands = unstarted IsOrder lines o;
+  stands = unstarted lines;
 }
 
 pub returns-clause-malformed : goal.returns-clause-malformed
-returns-clause-malformed c IsOrder lines e m bytes fault n o is f = (
+returns-clause-malformed c lines e m bytes fault n is f = (
   record {
     messages = (e, m) ∷ [];
     rest = bytes;
@@ -56,10 +63,13 @@ returns-clause-malformed c IsOrder lines e m bytes fault n o is f = (
     before = ap (λ (x : List ℕ). length x) (sym (append-nil m));
     end = None;
     said = [];
-    stands = one_taken IsOrder lines e o;
+    stands = one_taken lines e;
   },
   (tt, tt),
 )
 
-pub returns-clause-no_order : goal.returns-clause-no_order
-returns-clause-no_order c lines s = s.stands.order
+pub returns-clause-no_line : goal.returns-clause-no_line
+returns-clause-no_line c s = none (none_marked 0 s.stands.history s.stands.left s.stands.all) s.stands.order
+  where
+    none : {marks : List ℕ} → marks ≡ [] → marks ≡ 0 ∷ [] → ⊥
+    none h k = cc
