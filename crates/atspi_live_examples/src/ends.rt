@@ -15,11 +15,13 @@ ghost use Rattle.atspi_live_app.specs.Live.{IsMarked};
 ghost use Rattle.atspi_live_app.specs.Standing.{IsAfter, IsSpent};
 ghost use Rattle.atspi_live_examples.specs.Lines.{granted, rejected};
 
-/// Before a line is done: the server refuses, the link fails, or a message is malformed behind one that was taken. Where there is no line, no run
-/// ends behind one.
+/// Before a line is done: the server refuses, the peer ends, the link fails, the one round is done, or a message is malformed behind one that was
+/// taken. Where there is no line, no run ends behind one.
 pub fn unstarted_ends()
     ensures refused { (lines : List (List ℕ)) → EndsBy (IsAfter (IsMarked []) lines) IsSpent 0 Ending.NotAuthenticated 5 (Call.Read 0 rejected (Did.Done 19) ∷ []) }
+    ensures ended { (lines : List (List ℕ)) → EndsBy (IsAfter (IsMarked []) lines) IsSpent 0 Ending.PeerEnded 5 (Call.Read 0 [] Did.End ∷ []) }
     ensures failed { (lines : List (List ℕ)) → EndsBy (IsAfter (IsMarked []) lines) IsSpent 0 Ending.HostFailed 5 (Call.Read 0 [] Did.Failed ∷ []) }
+    ensures done { (lines : List (List ℕ)) → EndsBy (IsAfter (IsMarked []) lines) IsSpent 0 Ending.RoundsDone 1 (Call.Read 0 [] Did.NotYet ∷ []) }
     ensures malformed { (lines : List (List ℕ)) (e : Envelope) (m bytes : List ℕ) (fault : Fault) (n : ℕ) → IsMessage e m → HasFault bytes fault.place fault.reason
         → EndsBy (IsAfter (IsMarked []) lines) IsSpent 0 (Ending.Malformed (length m) fault) 5 (Call.Read 0 (granted ++ (m ++ bytes)) (Did.Done n) ∷ []) }
     ensures no_line { EndsBy (IsAfter (IsMarked (0 ∷ [])) []) IsSpent 0 Ending.HostFailed 5 (Call.Read 0 [] Did.Failed ∷ []) → ⊥ }

@@ -6,6 +6,7 @@ use Rattle.atspi_auth.specs.Talk.{after, behind, client_start, fault_in, heard, 
 use Rattle.atspi_auth.proofs.LinesLemmas.{joined-lines_of}
 use Rattle.atspi_message.specs.Envelope.{Envelope}
 use Rattle.atspi_stream.specs.Stream.{few}
+use Rattle.atspi_conversation.specs.Speech.{IsInOrder}
 use Rattle.atspi_conversation.proofs.LineLemmas.{none_behind}
 use Rattle.atspi_live_app.specs.Live.{IsMarked, marks_in}
 use Rattle.atspi_live_app.specs.Standing.{Event, IsAfter, does, lines_in, takes}
@@ -38,11 +39,9 @@ none_marked taken [] left e = refl
 none_marked taken (does line ∷ events) left e = absurd cc
 none_marked taken (takes m ∷ events) left e = none_marked (taken + 1) events left e
 
-pub returns-clause-refused : goal.returns-clause-refused
-returns-clause-refused c lines = (record { at_fault = at_fault; end = None; said = []; stands = unstarted lines }, (tt, tt))
-
-pub returns-clause-failed : goal.returns-clause-failed
-returns-clause-failed c lines = record {
+-- nothing was taken, and nothing of it is at fault
+in_order : (lines : List (List ℕ)) → IsInOrder (IsAfter (IsMarked []) lines) []
+in_order lines = record {
   authenticated = sound;
   messages = [];
   rest = [];
@@ -52,6 +51,18 @@ returns-clause-failed c lines = record {
   said = [];
   stands = unstarted lines;
 }
+
+pub returns-clause-refused : goal.returns-clause-refused
+returns-clause-refused c lines = (record { at_fault = at_fault; end = None; said = []; stands = unstarted lines }, (tt, tt))
+
+pub returns-clause-ended : goal.returns-clause-ended
+returns-clause-ended c lines = (in_order lines, ([], refl, tt))
+
+pub returns-clause-failed : goal.returns-clause-failed
+returns-clause-failed c lines = in_order lines
+
+pub returns-clause-done : goal.returns-clause-done
+returns-clause-done c lines = (in_order lines, (tt, tt), refl)
 
 pub returns-clause-malformed : goal.returns-clause-malformed
 returns-clause-malformed c lines e m bytes fault n is f = (
