@@ -1,4 +1,4 @@
-use Rattle.std.proofs.Common.{◌≡◌, List, [], Some, refl}
+use Rattle.std.proofs.Common.{◌≡◌, [], Some, refl}
 use Rattle.std.specs.Prelude.{codes}
 use Rattle.atspi_live_reader_examples.proofs.silence.silent_ends.Goals as goal
 
