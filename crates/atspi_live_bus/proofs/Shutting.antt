@@ -1,5 +1,5 @@
 -- Closes, and the links that they leave.
-use Rattle.std.proofs.Common.{◌≡◌, ℕ, ◌<◌, ◌≤◌, ◌==◌, true, false, List, [], ◌∷◌, ◌++◌, length, suc, slice_index_or, slice_set, zero, Option, None, Some, refl, sym, ap, subst, ◌∙◌, inl, inr, append_assoc, append-nil, arith}
+use Rattle.std.proofs.Common.{◌≡◌, ℕ, ◌<◌, ◌≤◌, ◌==◌, true, false, List, [], ◌∷◌, ◌++◌, length, suc, slice_index_or, slice_set, zero, Option, None, Some, refl, sym, ap, subst, ◌∙◌, inl, inr, append_assoc, append-nil, arith, option_map}
 use Rattle.std.specs.Prelude.{◌⊎◌}
 use Rattle.std.proofs.lemmas.Bool.Decides.{eqb_tells}
 use Rattle.std.specs.List.{position, remove}
@@ -70,6 +70,21 @@ other_there : (k : ℕ) (links : List Link) (at : ℕ) → at < length links →
 other_there k [] at h n e = omega (arith, h)
 other_there k (l ∷ ls) zero h n e = n.0 e
 other_there k (l ∷ ls) (suc at) h n e = other_there k ls at (omega (arith, h)) n.1 e
+
+-- a link that stands where it is looked for first is the first with its number
+near_place : (k : ℕ) (links : List Link) (at : ℕ) → at < length links → number_at links at ≡ k → Differ (numbers links) → first_place (λ (x : Link). x.number == k) links ≡ Some at
+near_place k [] at h n d = absurd (omega (arith, h))
+near_place k (l ∷ ls) zero h n d = elim (eqb_tells l.number k) [ inl e ↦ rw e.0 refl | inr e ↦ absurd (e.1 n) ]
+near_place k (l ∷ ls) (suc at) h n d = elim (eqb_tells l.number k) [
+  | inl e ↦ absurd (other_there l.number ls at (omega (arith, h)) d.0 (n ∙ sym e.1))
+  | inr e ↦ rw e.0 (ap (λ (w : Option ℕ). option_map (λ n. suc n) w) (near_place k ls at (omega (arith, h)) n d.1))
+]
+
+pub near_first : (k : ℕ) (links : List Link) (at : ℕ) (l : Link) → at < length links → l ≡ slice_index_or links at l → (l.number == k) ≡ true → Differ (numbers links) → Some at ≡ position (λ (x : Link). x.number == k) links
+near_first k links at l h e t d = sym (position_first (λ (x : Link). x.number == k) links ∙ near_place k links at h (number_there links at l h e ∙ same) d)
+  where
+    same : l.number ≡ k
+    same = elim (eqb_tells l.number k) [ inl q ↦ q.1 | inr q ↦ absurd (cc (t, q.0)) ]
 
 pub seats_out : (links : List Link) (at : ℕ) → at < length links → Differ (numbers links) → seats (remove links at) ≡ without_seat (number_at links at) (seats links)
 seats_out [] at h d = absurd (omega (arith, h))

@@ -5,11 +5,11 @@ ghost use lib.Dec.{leb};
 ghost use Rattle.std.specs.List.{remove};
 ghost use Rattle.atspi_routing.specs.Queues.{empty_bus};
 ghost use Rattle.atspi_bus.specs.View.{bus_of, given_of};
-ghost use Rattle.atspi_host.specs.Calls.{Adds};
+ghost use Rattle.atspi_host.specs.Calls.{Adds, Differ};
 ghost use Rattle.atspi_host.specs.declared.call.Call.{Call};
 ghost use Rattle.atspi_live_bus.specs.Rounds.{AreTurns, Breaks, IsRound, Moves};
 ghost use Rattle.atspi_live_bus.specs.Seats.{Dismisses, GoesOpen, HasAccepted, Hears, Leaves, MayTake, Settles, Takes, TakesAll, TakesCut, TakesNone, Writes, conn_at, held, number_at, numbers_of, seats};
-ghost use Rattle.atspi_live_bus.specs.Serving.{Serves};
+ghost use Rattle.atspi_live_bus.specs.Serving.{Serves, numbers};
 ghost use Rattle.atspi_live_bus.specs.Stops.{IsFree, IsWant, StopBlames};
 ghost use Rattle.atspi_live_bus.specs.Turns.{Goes, IsTold, Seats, StopsAt};
 
@@ -61,6 +61,18 @@ impl Hall {
         ensures below { IfSome result (λ at. at < length self.now.links.items) }
     {
         self.links.iter().position(|link| link.number == number)
+    }
+
+    /// The same, and looks first where the link stood a moment ago, so that a link that has nothing to say costs no walk over the others.
+    fn place_near(&self, number: u32, near: usize) -> Option<usize>
+        requires differ { Differ (numbers self.now.links.items) }
+        ensures first { result ≡ position (λ l. l.number == number) self.now.links.items }
+        ensures below { IfSome result (λ at. at < length self.now.links.items) }
+    {
+        if near < self.links.len() && self.links[near].number == number {
+            return Some(near);
+        }
+        self.place_of(number)
     }
 
     /// Where the first link stands whose connection is this one or a later one.
@@ -192,7 +204,7 @@ impl Hall {
     }
 
     /// The bus takes the next message of a link, and closes whom it brings to close; one that sent what is malformed is closed. Whether a message was taken.
-    fn attend_one<H: Host>(&mut self, host: &mut H, number: u32) -> Result<bool, Stop>
+    fn attend_one<H: Host>(&mut self, host: &mut H, number: u32, near: usize) -> Result<bool, Stop>
         requires serves { Serves (H.links host.old) self.old.links.items }
         ensures calls { MatchResult result (λ more. Moves (H.calls host.old) (H.calls host.new) (Goes self.old.bus self.old.links.items) (MayTake more number self.old.links.items self.new.links.items) (Goes self.new.bus self.new.links.items))
             (λ stop. Moves (H.calls host.old) (H.calls host.new) (Goes self.old.bus self.old.links.items) (TakesNone false number self.old.links.items self.new.links.items) (StopsAt stop)) }
@@ -201,7 +213,7 @@ impl Hall {
         ensures same { H.faults host.new ≡ H.faults host.old }
         ensures cause { IfErr result IsFree }
     {
-        let Some(at) = self.place_of(number) else {
+        let Some(at) = self.place_near(number, near) else {
             return Ok(false);
         };
         match self.links[at].tell(&mut self.bus) {
@@ -219,7 +231,7 @@ impl Hall {
     }
 
     /// The bus takes each whole message of a link, until the link is gone.
-    fn attend<H: Host>(&mut self, host: &mut H, number: u32) -> Result<(), Stop>
+    fn attend<H: Host>(&mut self, host: &mut H, number: u32, near: usize) -> Result<(), Stop>
         requires serves { Serves (H.links host.old) self.old.links.items }
         ensures calls { MatchResult result (λ _. Moves (H.calls host.old) (H.calls host.new) (Goes self.old.bus self.old.links.items) (TakesAll true number self.old.links.items self.new.links.items) (Goes self.new.bus self.new.links.items))
             (λ stop. Moves (H.calls host.old) (H.calls host.new) (Goes self.old.bus self.old.links.items) (TakesAll false number self.old.links.items self.new.links.items) (StopsAt stop)) }
@@ -228,7 +240,7 @@ impl Hall {
         ensures cause { IfErr result IsFree }
     {
         'messages: loop {
-            match self.attend_one(host, number) {
+            match self.attend_one(host, number, near) {
                 Ok(true) => {}
                 Ok(false) => return Ok(()),
                 Err(stop) => return Err(stop),
@@ -237,7 +249,12 @@ impl Hall {
     }
 
     /// One read of a link, and the bus takes what is then whole. A link that has ended, has failed, or sent what is at fault is closed.
-    fn take_in<H: Host>(&mut self, host: &mut H, at: usize) -> Result<(), Stop>
+    fn take_in<H: Host>(
+        &mut self,
+        host: &mut H,
+        at: usize,
+        piece: &mut [u8; PIECE],
+    ) -> Result<(), Stop>
         requires serves { Serves (H.links host.old) self.old.links.items }
         requires there { at < length self.old.links.items }
         ensures calls { MatchResult result
@@ -248,15 +265,15 @@ impl Hall {
         ensures cause { IfErr result IsFree }
     {
         let number = self.links[at].number;
-        match self.links[at].take_in(host) {
-            Ok(true) => self.attend(host, number),
+        match self.links[at].take_in(host, piece) {
+            Ok(true) => self.attend(host, number, at),
             Ok(false) => self.part(host, at),
             Err(stop) => Err(stop),
         }
     }
 
     /// One write of a link that is open, where output waits. One on which it failed is closed.
-    fn give<H: Host>(&mut self, host: &mut H, number: u32) -> Result<(), Stop>
+    fn give<H: Host>(&mut self, host: &mut H, number: u32, near: usize) -> Result<(), Stop>
         requires serves { Serves (H.links host.old) self.old.links.items }
         ensures calls { MatchResult result (λ _. Moves (H.calls host.old) (H.calls host.new) (Goes self.old.bus self.old.links.items) (Writes true number self.old.links.items self.new.links.items) (Goes self.new.bus self.new.links.items))
             (λ stop. Moves (H.calls host.old) (H.calls host.new) (Goes self.old.bus self.old.links.items) (Writes false number self.old.links.items self.new.links.items) (StopsAt stop)) }
@@ -264,7 +281,7 @@ impl Hall {
         ensures same { H.faults host.new ≡ H.faults host.old }
         ensures cause { IfErr result IsFree }
     {
-        let Some(at) = self.place_of(number) else {
+        let Some(at) = self.place_near(number, near) else {
             return Ok(());
         };
         match self.links[at].give(host, &mut self.bus) {
@@ -275,7 +292,12 @@ impl Hall {
     }
 
     /// One read of a link and, where it is still open, one write.
-    fn serve<H: Host>(&mut self, host: &mut H, at: usize) -> Result<(), Stop>
+    fn serve<H: Host>(
+        &mut self,
+        host: &mut H,
+        at: usize,
+        piece: &mut [u8; PIECE],
+    ) -> Result<(), Stop>
         requires serves { Serves (H.links host.old) self.old.links.items }
         requires there { at < length self.old.links.items }
         ensures calls { MatchResult result (λ _. Moves (H.calls host.old) (H.calls host.new) (Goes self.old.bus self.old.links.items) (Takes (number_at self.old.links.items at) self.old.links.items self.new.links.items) (Goes self.new.bus self.new.links.items))
@@ -285,8 +307,8 @@ impl Hall {
         ensures cause { IfErr result IsFree }
     {
         let number = self.links[at].number;
-        match self.take_in(host, at) {
-            Ok(()) => self.give(host, number),
+        match self.take_in(host, at, piece) {
+            Ok(()) => self.give(host, number, at),
             Err(stop) => Err(stop),
         }
     }
@@ -302,12 +324,14 @@ impl Hall {
         ensures cause { IfErr result IsFree }
     {
         let mut from = 0u64;
+        // one room for the reads of all links
+        let mut piece = [0u8; PIECE];
         for _ in 0..self.links.len() {
             let Some(at) = self.next_due(from) else {
                 return Ok(());
             };
             from = u64::from(self.links[at].conn) + 1;
-            match self.serve(host, at) {
+            match self.serve(host, at, &mut piece) {
                 Ok(()) => {}
                 Err(stop) => return Err(stop),
             }

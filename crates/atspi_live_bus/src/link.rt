@@ -82,8 +82,12 @@ impl Link {
         }
     }
 
-    /// One read, and what it brings is heard. False where the link has ended, has failed, or sent a line that is at fault.
-    pub(crate) fn take_in<H: Host>(&mut self, host: &mut H) -> Result<bool, Stop>
+    /// One read into the piece, and what it brings is heard. False where the link has ended, has failed, or sent a line that is at fault.
+    pub(crate) fn take_in<H: Host>(
+        &mut self,
+        host: &mut H,
+        piece: &mut [u8; PIECE],
+    ) -> Result<bool, Stop>
         requires { IsOpen self.old.number (H.links host.old) }
         ensures calls { MatchResult result (λ goes_on. Does (H.calls host.old) (H.calls host.new) (HasRead self.old.number goes_on self.old self.new)) (λ _. Does (H.calls host.old) (H.calls host.new) (HasReadOnly self.old.number self.old)) }
         ensures number { self.new.number ≡ self.old.number }
@@ -92,8 +96,7 @@ impl Link {
         ensures same { H.faults host.new ≡ H.faults host.old }
         ensures cause { IfErr result IsWant }
     {
-        let mut piece = [0u8; PIECE];
-        match host.read(self.number, &mut piece) {
+        match host.read(self.number, piece) {
             Did::Done(n) => self.hear(&piece[..n as usize]),
             Did::NotYet => Ok(true),
             Did::End | Did::Failed => Ok(false),

@@ -1,4 +1,5 @@
-use Rattle.std.proofs.Common.{refl, slice_set, arith}
+use Rattle.std.proofs.Common.{refl, slice_set, subst, sym, arith}
+use Rattle.atspi_host.specs.Calls.{Differ}
 use Rattle.atspi_live_bus.proofs.Hearing.{bad_cut, bad_taken, none_takes, told_cut, took_one, waits}
 use Rattle.atspi_live_bus.proofs.Serving.{turned}
 use Rattle.atspi_live_bus.proofs.Shutting.{held_set}
@@ -54,3 +55,6 @@ returns-in-Err-part-clause-calls g c =
     bad_cut c.args.self.now.bus c.tell.new.bus c.args.self.now.links.items c.part.new.self.links.items c.in-Some.at c.args.number c.index_mut.result.now c.tell.new.self c.in-Err-part.stop
     (g.H.Host.calls c.args.host.now) (g.H.Host.calls c.part.new.host) c.in-Some.ensures.below c.index_mut.ensures.value c.tell.ensures.number c.tell.ensures.conn c.in-Some.ensures.first
     (rw c.in-Ok-Bad.field-0-is at c.in-Ok-Bad.ensures.ok) c.tell.ensures.given c.in-Err-part.ensures.calls
+
+pub place_near-requires : goal.place_near-requires
+place_near-requires g c = record { differ = subst Differ (sym c.requires.serves.are) c.requires.serves.differ }

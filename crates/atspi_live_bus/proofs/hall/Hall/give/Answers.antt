@@ -1,4 +1,5 @@
-use Rattle.std.proofs.Common.{rules, ◌≡◌, true, false, slice_set}
+use Rattle.std.proofs.Common.{rules, ◌≡◌, true, false, slice_set, subst, sym}
+use Rattle.atspi_host.specs.Calls.{Differ}
 use Rattle.atspi_live_bus.proofs.Going.{want_free}
 use Rattle.atspi_live_bus.proofs.Hearing.{gave, gave_either, gave_none, gave_on, not_there}
 use Rattle.atspi_live_bus.proofs.Serving.{link_open, turned}
@@ -42,3 +43,6 @@ returns-in-Ok-false-clause-calls g c =
 
 pub returns-in-Err-clause-calls : goal.returns-in-Err-clause-calls
 returns-in-Err-clause-calls g c = gave_none c.args.self.now.bus c.args.self.now.links.items (slice_set c.args.self.now.links.items c.in-Some.at c.give.new.self) c.args.number c.in-Err.stop (g.H.Host.calls c.args.host.now) (g.H.Host.calls c.give.new.host) c.in-Err.ensures.cause c.in-Err.ensures.err
+
+pub place_near-requires : goal.place_near-requires
+place_near-requires g c = record { differ = subst Differ (sym c.requires.serves.are) c.requires.serves.differ }
