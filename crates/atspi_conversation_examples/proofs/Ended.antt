@@ -10,8 +10,8 @@ use Rattle.atspi_message.specs.Bytes.{IsMessage}
 use Rattle.atspi_message.specs.Envelope.{Envelope}
 use Rattle.atspi_stream.specs.Stream.{AwaitsMore, HasFault, IsParted, bytes_of, few, unfinished}
 use Rattle.atspi_stream.proofs.StreamLaws.{begun}
-use Rattle.atspi_conversation.specs.Speech.{IsInOrder, IsMalformed, IsRefused, envelopes}
-use Rattle.atspi_conversation_examples.specs.Silent.{Says, Took, granted, rejected}
+use Rattle.atspi_conversation.specs.Speech.{IsInOrder, IsMalformed, IsRefused, IsSpentBy, envelopes}
+use Rattle.atspi_conversation_examples.specs.Silent.{IsSpentWith, Says, Took, granted, rejected}
 
 -- behind the lines that let a client in stand the bytes of messages
 behind_granted : (bytes : List ℕ) → behind client_start (granted ++ bytes) ≡ bytes
@@ -122,3 +122,41 @@ took_none e s = by s.stands.0
   where
     by : [] ≡ e ∷ [] → ⊥
     by h = cc
+
+-- messages that spend the numbers of an end
+pub spends : (e : Envelope) (m : List ℕ) → IsMessage e m → IsSpentBy Says (IsSpentWith e) (granted ++ m)
+spends e m is = record {
+  messages = [];
+  message = e;
+  bytes = m;
+  rest = [];
+  parted = record { are = tt; parted = behind_granted m ∙ sym (append-nil m) };
+  is = is;
+  end = 0;
+  said = [];
+  stands = (refl, refl);
+  spent = refl;
+}
+
+pub spends_second : (e f : Envelope) (m n rest : List ℕ) → IsMessage e m → IsMessage f n → IsSpentBy (Took e) (IsSpentWith f) (granted ++ (m ++ (n ++ rest)))
+spends_second e f m n rest is is' = record {
+  messages = (e, m) ∷ [];
+  message = f;
+  bytes = n;
+  rest = rest;
+  parted = record { are = (is, tt); parted = behind_granted (m ++ (n ++ rest)) ∙ ap (λ (x : List ℕ). x ++ (n ++ rest)) (sym (append-nil m)) };
+  is = is';
+  end = 0;
+  said = [];
+  stands = (refl, refl);
+  spent = refl;
+}
+
+-- no message stands in no bytes
+pub none_begun : (e : Envelope) (bytes more : List ℕ) → IsMessage e bytes → [] ≡ bytes ++ more → ⊥
+none_begun e bytes more m front = let b = begun e [] bytes more m front in omega (arith, b.long)
+
+pub no_spending : (e : Envelope) → IsSpentBy Says (IsSpentWith e) granted → ⊥
+no_spending e s =
+    let n = none_taken s.messages (behind client_start granted) (s.bytes ++ s.rest) s.stands.0 s.parted in
+    none_begun s.message s.bytes s.rest s.is (sym (n.0 ∙ bare_granted))

@@ -30,3 +30,11 @@ granted = codes "DATA" ++ (end_of_line ++ (codes "OK 617473706932000000000000000
 -- the line of one that does not
 abbrev pub rejected : List ℕ
 rejected = codes "REJECTED EXTERNAL" ++ end_of_line
+
+-- just this message takes its own past the last number
+abbrev pub IsSpentWith : Envelope → ℕ → Envelope → Type 0
+IsSpentWith e n m = m ≡ e
+
+-- an end that is there in the first round alone
+abbrev pub SaysFirst : ℕ → ℕ → List Envelope → List Envelope → Type 0
+SaysFirst round n took said = (round ≡ 1) × (took ≡ []) × (said ≡ [])

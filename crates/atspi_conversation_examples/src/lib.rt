@@ -5,7 +5,14 @@
 mod cases;
 mod ends;
 mod rounds;
+mod spent;
+mod steps;
 
 pub use cases::{answers_of_reads, bytes_of_lines, is_over, lines, sent};
 pub use ends::{bytes_at_fault, bytes_in_order, ended_runs, ends_left_off, lines_at_fault};
 pub use rounds::{runs, single_rounds};
+pub use spent::{bytes_that_spend, first_rounds, messages_sent, spent_runs};
+pub use steps::{
+    answers_to_go_on, counts_of_failures, kinds_of_endings, later_calls, told_calls,
+    writes_of_what_waits,
+};

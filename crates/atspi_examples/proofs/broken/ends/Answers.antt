@@ -1,4 +1,4 @@
-use Rattle.std.proofs.Common.{inr, [], codes, refl, arith}
+use Rattle.std.proofs.Common.{inr, [], codes, refl, sym, append-nil, arith}
 use Rattle.atspi_trace.specs.Causes.{calls, exits}
 use Rattle.atspi_trace.specs.Work.{doing, resting}
 use Rattle.atspi_play.specs.Breaking.{so_far}
@@ -19,6 +19,20 @@ returns-clause-spent c = λ b.
       part = [];
       missing = (plays p call).entries;
       front = refl;
+      wrote = refl;
+    }
+
+pub returns-clause-written : goal.returns-clause-written
+returns-clause-written c = λ b.
+    let s = record holder { next = 4294967296 } in
+    let p = playing (resting_world b []) s in
+    let call = calls 4 (codes ":1.1") 1 caret in
+    record {
+      at = record { entries = []; now = p; last = doing call; done = so_far p (doing call); lives = refl; moved = p.world; rest = resting; next = call; is_next = refl };
+      spent = inr (inr (1, silent (reader_calls s (codes ":1.1") 1 caret), refl, omega arith));
+      part = (plays p call).entries;
+      missing = [];
+      front = sym (append-nil (plays p call).entries);
       wrote = refl;
     }
 

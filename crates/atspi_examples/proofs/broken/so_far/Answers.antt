@@ -1,8 +1,8 @@
 use Rattle.std.proofs.Common.{◌≡◌, List, [], ◌∷◌, refl}
 use Rattle.atspi_valid_names.specs.Names.{is_bus_name}
 use Rattle.atspi_valid_names.specs.Elements.{are_two_or_more, are_elements, parts_of}
-use Rattle.atspi_trace.specs.Causes.{gets}
-use Rattle.atspi_trace.specs.Entry.{Entry}
+use Rattle.atspi_trace.specs.Causes.{gets, tells_busy}
+use Rattle.atspi_trace.specs.Entry.{Entry, busy}
 use Rattle.atspi_trace.specs.Work.{Work, draining, resting, turning}
 use Rattle.atspi_play.specs.Breaking as breaking
 use Rattle.atspi_play.specs.Breaking.{PlaysOn, caused}
@@ -20,6 +20,14 @@ returns-clause-turn c = λ b.
     let p = playing (starting_world b (hello_returned ∷ [])) hello_waits in
     let q = (plays p (gets 4)).now in
     caused p q p.world (turning 1 1) (turning 1 0) (turning 1 0) (gets 4) [] refl (breaking.so_far q (turning 1 0))
+
+pub returns-clause-both : goal.returns-clause-both
+unfolding is_bus_name are_two_or_more are_elements parts_of
+returns-clause-both c = λ b.
+    let p = playing (starting_world b (hello_returned ∷ [])) hello_waits in
+    let q = (plays p (gets 4)).now in
+    let last = (plays q (tells_busy 1)).now in
+    caused p last p.world (turning 1 1) (turning 1 0) resting (gets 4) (busy 1 ∷ []) refl (caused q last q.world (turning 1 0) resting resting (tells_busy 1) [] refl (breaking.so_far last resting))
 
 -- where all rests nothing is done
 nothing_more : (p : Playing) (left : Work) (entries : List Entry) (q : Playing) (last : Work) → PlaysOn p left entries q last → left ≡ resting → entries ≡ []
