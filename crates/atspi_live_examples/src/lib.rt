@@ -4,8 +4,10 @@
 
 mod ends;
 mod paces;
+mod standing;
 mod turns;
 
 pub use ends::{numbered_ends, unstarted_ends};
 pub use paces::{pace_of_lines, rounds_of_lines, stops_of_lines};
+pub use standing::{deeds_of_lines, messages_that_come, orders_of_events, texts_of_lines};
 pub use turns::{a_message_over_two_reads, pieces_of_reads};
