@@ -5,7 +5,9 @@
 mod shows;
 mod silence;
 mod spoken;
+mod statuses;
 
 pub use shows::{held_views, shown_rows};
 pub use silence::silent_ends;
 pub use spoken::{all_of_nothing, last_words_of_readers, spoken_lines};
+pub use statuses::{endings_with_words, kept_lines, statuses_of_endings, words_cut_off};
