@@ -1,5 +1,5 @@
 -- What is known of bytes that were read.
-use Rattle.std.proofs.Common.{◌≡◌, ℕ, zero, suc, ◌+◌, ◌-◌, ◌%◌, ◌≤◌, Bool, true, false, cond, ltb, List, ◌∷◌, Result, Ok, Err, refl, sym, ap, ◌∙◌, arith}
+use Rattle.std.proofs.Common.{◌≡◌, ℕ, zero, suc, ◌+◌, ◌-◌, ◌%◌, ◌≤◌, Bool, true, false, cond, ltb, List, ◌∷◌, Result, Ok, Err, refl, sym, ap, subst, ◌∙◌, arith}
 use Rattle.std.specs.Prelude.{◌==◌, nat_lt, ◌&&◌}
 use Rattle.std.specs.Int.{w32, byte_len}
 use Rattle.std.proofs.lemmas.Bool.{ltb-false, false≢true}
@@ -21,7 +21,7 @@ use Rattle.atspi_codes.specs.Codes.{head_code}
 use Rattle.atspi_cursor.specs.Passing.{after, up_to, fixed_at, number_len}
 use Rattle.atspi_cursor.specs.Known.{is_read, is_variant}
 use Rattle.atspi_cursor.proofs.Passes.{number_fixed, dictionary_forgotten, array_forgotten, structure_forgotten}
-use Rattle.atspi_cursor.proofs.Runs.{fixed_read}
+use Rattle.atspi_cursor.proofs.Runs.{fixed_read, Leaf, text_kind, path_kind}
 
 pub bind_known : {A B : Type 0} (r : Result A Fault) (f : A → Result (B × ℕ) Fault) → is_read (after (r >>= f)) ≡ true → (x : A) × (r ≡ Ok x) × (after (r >>= f) ≡ after (f x))
 bind_known (Ok x) f h = (x, refl, refl)
@@ -331,14 +331,31 @@ not_variant (structure ks) b e h = refl
 not_variant variant b e h = absurd (h e)
 not_variant (dictionary k v) b e h = refl
 
--- a number is jumped over by its size
-pub record JumpsNumber (i : Input) (levels : ℕ) (k : Kind) (b : Bound) (at p : ℕ) : Type 0 where
+-- where what is jumped over ends
+pub record Jumps (i : Input) (levels : ℕ) (k : Kind) (b : Bound) (at p : ℕ) : Type 0 where
   pub place : after (read i levels k b at) ≡ Ok p
   pub behind : at ≤ p
   pub within : p ≤ b.end
 
-pub jumps_number : (i : Input) (levels : ℕ) (k : Kind) (b : Bound) (at size : ℕ) → size ≡ number_len k → (size ≡ 0 → ⊥) → is_read (after (read i levels k b at)) ≡ true → JumpsNumber i levels k b at (aligned size at + size)
+-- a number is jumped over by its size
+pub jumps_number : (i : Input) (levels : ℕ) (k : Kind) (b : Bound) (at size : ℕ) → size ≡ number_len k → (size ≡ 0 → ⊥) → is_read (after (read i levels k b at)) ≡ true → Jumps i levels k b at (aligned size at + size)
 jumps_number i levels k b at size e some h =
     let same = fixed_read i levels k b at size e some in
     let t = fixed_known i size b at (rw same h) in
     record { place = sym same ∙ t.0; behind = omega (arith, aligned_le size at); within = t.1 }
+
+-- a text or a path is jumped over by its length
+long_kind : (i : Input) (levels : ℕ) (k : Kind) (b : Bound) (at p : ℕ) → Jumped (read i levels k b at) b p → p ≡ aligned 4 at + 5 + number_in i w32 (aligned 4 at) → Jumps i levels k b at (aligned 4 at + 5 + number_in i w32 (aligned 4 at))
+long_kind i levels k b at p j e = record { place = rw (← e) j.place; behind = omega (arith, aligned_le 4 at); within = omega (arith, e, j.within) }
+
+pub jumps_text : (i : Input) (levels : ℕ) (k : Kind) (b : Bound) (at code : ℕ) → code ≡ 115 → Leaf code k → is_read (after (read i levels k b at)) ≡ true → Jumps i levels k b at (aligned 4 at + 5 + number_in i w32 (aligned 4 at))
+jumps_text i levels k b at code e leaf h =
+    let is = text_kind k code e leaf in
+    let j = read_known i levels text b at refl refl (subst (λ (l : Kind). is_read (after (read i levels l b at)) ≡ true) is h) in
+    subst (λ (l : Kind). Jumps i levels l b at (aligned 4 at + 5 + number_in i w32 (aligned 4 at))) (sym is) (long_kind i levels text b at (aligned 4 at + 5 + number_in i w32 (aligned 4 at)) j refl)
+
+pub jumps_path : (i : Input) (levels : ℕ) (k : Kind) (b : Bound) (at code : ℕ) → code ≡ 111 → Leaf code k → is_read (after (read i levels k b at)) ≡ true → Jumps i levels k b at (aligned 4 at + 5 + number_in i w32 (aligned 4 at))
+jumps_path i levels k b at code e leaf h =
+    let is = path_kind k code e leaf in
+    let j = read_known i levels path b at refl refl (subst (λ (l : Kind). is_read (after (read i levels l b at)) ≡ true) is h) in
+    subst (λ (l : Kind). Jumps i levels l b at (aligned 4 at + 5 + number_in i w32 (aligned 4 at))) (sym is) (long_kind i levels path b at (aligned 4 at + 5 + number_in i w32 (aligned 4 at)) j refl)

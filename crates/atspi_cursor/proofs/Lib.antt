@@ -1,5 +1,6 @@
 pub mod Alls
 pub mod Passes
+pub mod Paths
 pub mod Runs
 pub mod Texts
 pub mod Knows

@@ -181,7 +181,13 @@ pub no_padding : (i : Input) (n : ℕ) (b : Bound) (at : ℕ) → at % n ≡ 0 �
 unfolding padding_at
 no_padding i n b at e le = ap (padded_to i b at) (aligned_here n at e) ∙ padded_here i b at le
 
--- a struct that is too deep and has no fields
+-- padding that is zeros
+pub zero_padding : (i : Input) (n : ℕ) (b : Bound) (at p : ℕ) → p ≡ aligned n at → p ≤ b.end → zeros_in_front (slice_in i at (p - at)) ≡ p - at → padding_at i n b at ≡ Ok p
+unfolding padding_at
+zero_padding i n b at p e le zs =
+    let here : padded_to i b at p ≡ Ok p = rw (le-ltb b.end p le, zs, le-ltb (p - at) (p - at) (omega arith)) refl in
+    ap (padded_to i b at) (sym e) ∙ here
+
 pub empty_deep : (below : Reader) (i : Input) (b : Bound) (at p : ℕ) → padding_at i 8 b at ≡ Ok p → structure_at true below i [] b at ≡ bad p 20
 unfolding structure_at single_at
 empty_deep below i b at p e = rw e refl

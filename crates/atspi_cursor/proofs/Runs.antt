@@ -1,16 +1,16 @@
 -- Numbers one after the other: their length alone tells whether the last is whole.
-use Rattle.std.proofs.Common.{◌≡◌, ℕ, zero, suc, ◌+◌, ◌-◌, ◌%◌, ◌<◌, ◌≤◌, Bool, true, false, cond, ltb, Result, Ok, Err, refl, sym, ap, ◌∙◌, arith}
+use Rattle.std.proofs.Common.{◌≡◌, ℕ, zero, suc, ◌+◌, ◌-◌, ◌%◌, ◌<◌, ◌≤◌, Bool, true, false, cond, ltb, List, Result, Ok, Err, refl, sym, ap, ◌∙◌, arith}
 use Rattle.std.specs.Int.{byte_len}
 use Rattle.std.specs.Prelude.{◌==◌}
 use Rattle.std.proofs.Math.Dec.{eqb-suc-zero}
 use Rattle.std.proofs.lemmas.Bool.{lt-ltb, le-ltb, ltb-true, ltb-false}
-use Rattle.atspi_types.specs.Kinds.{Num, byte, i16, u16, i32, u32, i64, u64, double, width, number_alignment, Kind, number, boolean, text, path, signature, array, structure, variant, dictionary, alignment}
+use Rattle.atspi_types.specs.Kinds.{Num, byte, i16, u16, i32, u32, i64, u64, double, width, number_alignment, Kind, number, boolean, text, path, signature, array, structure, variant, dictionary, kinds_of, alignment}
 use Rattle.atspi_types.specs.declared.fault.Fault.{Fault}
 use Rattle.atspi_codes.specs.Codes.{head_code, leaf_of}
 use Rattle.atspi_marshal.specs.declared.input.Bound.{Bound}
 use Rattle.atspi_marshal.specs.Input.{Input, aligned}
-use Rattle.atspi_marshal.specs.Reading.{bad, room_at, number_at, elements_at, single_at, level, read}
-use Rattle.atspi_marshal.proofs.Levels.{read_is}
+use Rattle.atspi_marshal.specs.Reading.{bad, room_at, number_at, elements_at, long_at, text_body_at, path_body_at, structure_at, single_at, level, read}
+use Rattle.atspi_marshal.proofs.Levels.{read_is, types_in-kinds_of}
 use Rattle.atspi_cursor.specs.Passing.{after, up_to, fixed_at, number_len, numbers_at}
 use Rattle.atspi_cursor.proofs.Passes.{One, by_one, none_by, number_fixed, no_padding}
 
@@ -160,3 +160,36 @@ code_size k b e = ap (λ (c : ℕ). number_len (leaf_of c)) e ∙ by k
     by (structure ks) = refl
     by variant = refl
     by (dictionary k v) = refl
+
+-- a struct at any number of levels
+pub structure_read : (i : Input) (levels : ℕ) (ks : List Kind) (b : Bound) (at : ℕ) → read i levels (structure (kinds_of ks)) b at ≡ structure_at (levels == 0) (read i (levels - 1)) i ks b at
+unfolding level
+structure_read i levels ks b at = rw (read_is, types_in-kinds_of) refl
+
+-- the code of a type that is no array, no dictionary and no struct tells the type
+abbrev pub Leaf : ℕ → Kind → Type 0
+Leaf b k = (b ≡ 97 → ⊥) → (b ≡ 40 → ⊥) → k ≡ leaf_of b
+
+text_here : (i : Input) (levels : ℕ) (b : Bound) (at : ℕ) → read i levels text b at ≡ long_at (text_body_at i) i b at
+unfolding level single_at
+text_here i levels b at = rw read_is refl
+
+path_here : (i : Input) (levels : ℕ) (b : Bound) (at : ℕ) → read i levels path b at ≡ long_at (path_body_at i) i b at
+unfolding level single_at
+path_here i levels b at = rw read_is refl
+
+pub text_kind : (k : Kind) (code : ℕ) → code ≡ 115 → Leaf code k → k ≡ text
+text_kind k code e leaf =
+    let is : k ≡ leaf_of code = leaf (λ q. absurd (omega (arith, e, q))) (λ q. absurd (omega (arith, e, q))) in
+    is ∙ ap leaf_of e
+
+pub path_kind : (k : Kind) (code : ℕ) → code ≡ 111 → Leaf code k → k ≡ path
+path_kind k code e leaf =
+    let is : k ≡ leaf_of code = leaf (λ q. absurd (omega (arith, e, q))) (λ q. absurd (omega (arith, e, q))) in
+    is ∙ ap leaf_of e
+
+pub text_read : (i : Input) (levels : ℕ) (k : Kind) (b : Bound) (at code : ℕ) → code ≡ 115 → Leaf code k → after (long_at (text_body_at i) i b at) ≡ after (read i levels k b at)
+text_read i levels k b at code e leaf = rw (text_kind k code e leaf, text_here) refl
+
+pub path_read : (i : Input) (levels : ℕ) (k : Kind) (b : Bound) (at code : ℕ) → code ≡ 111 → Leaf code k → after (long_at (path_body_at i) i b at) ≡ after (read i levels k b at)
+path_read i levels k b at code e leaf = rw (path_kind k code e leaf, path_here) refl

@@ -1,14 +1,30 @@
 -- Values worked out by hand, one for each case.
-use Rattle.std.specs.Prelude.{◌≡◌, true, false, Ok, Err}
+use Rattle.std.specs.Prelude.{◌≡◌, true, false, [], ◌∷◌, Ok, Err}
 use Rattle.atspi_types.specs.Kinds.{byte, i16, u16, i32, u32, i64, u64, double, number, boolean, text, path, signature, array, structure, variant, dictionary, no_kinds, kind}
 use Rattle.atspi_cursor.specs.Known.{is_variant, is_simple}
 use Rattle.atspi_cursor.specs.Passing.{is_plain, number_len, numbers_at}
+use Rattle.atspi_cursor.specs.Paths.{is_in_path, may_precede, precede, is_long_path}
 
 pub record BytesArePlain : Type 0 where
   pub zero : is_plain 0 ≡ false
   pub first : is_plain 1 ≡ true
   pub last : is_plain 127 ≡ true
   pub behind : is_plain 128 ≡ false
+
+-- a path of the bytes of /a_1/B: 47 is /, 97 is a, 95 is _, 49 is 1, 66 is B
+pub record PathsAreTold : Type 0 where
+  pub digits : (is_in_path 48 ≡ true) × (is_in_path 57 ≡ true)
+  pub capitals : (is_in_path 65 ≡ true) × (is_in_path 90 ≡ true)
+  pub small : (is_in_path 97 ≡ true) × (is_in_path 122 ≡ true)
+  pub others : (is_in_path 95 ≡ true) × (is_in_path 47 ≡ true)
+  pub refused : (is_in_path 46 ≡ false) × (is_in_path 58 ≡ false) × (is_in_path 64 ≡ false) × (is_in_path 91 ≡ false) × (is_in_path 96 ≡ false) × (is_in_path 123 ≡ false)
+  pub between : (may_precede 97 47 ≡ true) × (may_precede 47 97 ≡ true)
+  pub double : may_precede 47 47 ≡ false
+  pub whole : is_long_path (47 ∷ 97 ∷ 95 ∷ 49 ∷ 47 ∷ 66 ∷ []) ≡ true
+  pub some : precede 1 2 (46 ∷ 47 ∷ 97 ∷ 47 ∷ 47 ∷ []) ≡ true
+  pub more : precede 1 3 (46 ∷ 47 ∷ 97 ∷ 47 ∷ 47 ∷ []) ≡ false
+  pub ended : is_long_path (47 ∷ 97 ∷ 47 ∷ []) ≡ false
+  pub begun : is_long_path (97 ∷ 47 ∷ 97 ∷ []) ≡ false
 
 pub record NumbersAreSized : Type 0 where
   pub bytes : number_len (number byte) ≡ 1

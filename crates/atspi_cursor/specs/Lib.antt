@@ -2,3 +2,4 @@ pub mod Examples
 pub mod Items
 pub mod Known
 pub mod Passing
+pub mod Paths

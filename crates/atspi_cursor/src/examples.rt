@@ -1,10 +1,15 @@
 //! Values of the definitions, worked out by hand: none of these functions does anything.
 
-ghost use Rattle.atspi_cursor.specs.Examples.{BytesArePlain, NumbersAreSized, NumbersFill, TypesAreTold};
+ghost use Rattle.atspi_cursor.specs.Examples.{BytesArePlain, PathsAreTold, NumbersAreSized, NumbersFill, TypesAreTold};
 
 /// Which bytes are characters of their own.
 pub fn bytes_are_plain()
     ensures { BytesArePlain }
+{}
+
+/// Which bytes stand in paths, and where.
+pub fn paths_are_told()
+    ensures { PathsAreTold }
 {}
 
 /// How many bytes numbers take.

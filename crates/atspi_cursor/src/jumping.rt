@@ -68,7 +68,7 @@ fn jump_array(input: &Marshalled, align: usize, at: usize) -> usize
     align_up(align, place + 4) + u32_at(input, place) as usize
 }
 
-/// The place behind a value that was passed. Of a number the first code of its type tells it.
+/// The place behind a value that was passed. Numbers, texts and paths are told by the first code of their type.
 #[cycle(jump)]
 #[inline(always)]
 pub fn jump(input: &Marshalled, levels: u8, ty: TyRef, bound: Bound, at: usize) -> usize
@@ -83,10 +83,16 @@ pub fn jump(input: &Marshalled, levels: u8, ty: TyRef, bound: Bound, at: usize) 
     if size != 0 {
         return jump_number(size, at);
     }
+    if code == b's' {
+        return jump_long(input, at);
+    }
+    if code == b'o' {
+        return jump_long(input, at);
+    }
     jump_any(input, levels, ty, bound, at)
 }
 
-/// The same of any type, a number too.
+/// The same of any type, those too.
 #[cycle(jump)]
 fn jump_any(input: &Marshalled, levels: u8, ty: TyRef, bound: Bound, at: usize) -> usize
     requires at { at ≤ bound.end }

@@ -2,7 +2,7 @@
 
 ghost use Rattle.std.specs.Prelude.{◌≡◌, ◌<◌, ◌≤◌, ◌+◌, ◌-◌, ◌==◌, true, [], ◌∷◌, IfOk, Err};
 ghost use Rattle.std.specs.Int.{w32};
-ghost use Rattle.atspi_types.specs.Kinds.{alignment};
+ghost use Rattle.atspi_types.specs.Kinds.{alignment, structure, kinds_of};
 ghost use Rattle.atspi_codes.specs.Codes.{leaf_of};
 ghost use Rattle.atspi_codes.specs.TyRefs.{ref_kind, refs_kinds};
 ghost use Rattle.atspi_codes.specs.Shapes.{shape_kind};
@@ -87,7 +87,8 @@ fn first_item<'a>(ty: TyRef<'a>) -> TyRef<'a>
     item
 }
 
-/// The place behind a value of the type that has so many levels of containers at most.
+/// The place behind a value of the type that has so many levels of containers at most. Numbers, texts and paths are told by the first
+/// code of their type.
 #[cycle(pass)]
 #[inline(always)]
 pub fn pass(
@@ -107,10 +108,16 @@ pub fn pass(
     if size != 0 {
         return pass_number(input, size, bound, at);
     }
+    if code == b's' {
+        return pass_text(input, bound, at);
+    }
+    if code == b'o' {
+        return pass_path(input, bound, at);
+    }
     other(input, levels, ty, bound, at)
 }
 
-/// The same of any type, a number too.
+/// The same of any type, those too.
 #[cycle(pass)]
 fn other(input: &Marshalled, levels: u8, ty: TyRef, bound: Bound, at: usize) -> Result<usize, Fault>
     requires at { at ≤ bound.end }
@@ -203,7 +210,10 @@ fn array_body(input: &Marshalled, levels: u8, element: TyRef, place: usize) -> R
     if size != 0 {
         return numbers(size, len, inside.end);
     }
-    elements(input, levels, element, inside, len, start)
+    match element.fields() {
+        Some(types) => structures(input, levels, types, inside, len, start),
+        None => elements(input, levels, element, inside, len, start),
+    }
 }
 
 /// The elements of an array, from a place to its end.
@@ -227,6 +237,31 @@ fn elements(
             return Ok(inside.end);
         }
         at = pass(input, levels, element, inside, at)?;
+    }
+    Ok(inside.end)
+}
+
+/// The same of structs, whose types are found once for all.
+#[cycle(pass)]
+fn structures(
+    input: &Marshalled,
+    levels: u8,
+    types: TysRef,
+    inside: Bound,
+    len: usize,
+    start: usize,
+) -> Result<usize, Fault>
+    requires at { start ≤ inside.end }
+    requires end { ReachTo input.now inside.end }
+    ensures place { result ≡ up_to inside.end (elements_at (read (input_of input.now) levels (structure (kinds_of (refs_kinds types.entry))) inside) inside.end len start) }
+    ensures within { IfOk result (λ p. p ≡ inside.end) }
+{
+    let mut at = start;
+    for _ in 0..len {
+        if at == inside.end {
+            return Ok(inside.end);
+        }
+        at = structure(input, levels, types, inside, at)?;
     }
     Ok(inside.end)
 }

@@ -1,6 +1,6 @@
 //! Padding, numbers and booleans that are passed.
 
-ghost use Rattle.std.specs.Prelude.{◌≡◌, ◌<◌, ◌≤◌, ◌+◌, length, IfOk};
+ghost use Rattle.std.specs.Prelude.{◌≡◌, ◌<◌, ◌≤◌, ◌+◌, ◌==◌, length, IfOk};
 ghost use Rattle.atspi_marshal.specs.Input.{aligned, ReachTo};
 ghost use Rattle.atspi_marshal.specs.Reading.{input_of, zeros_in_front, passing_reason, padding_at, room_at, boolean_at};
 ghost use Rattle.atspi_cursor.specs.Passing.{after, fixed_at};
@@ -54,10 +54,24 @@ fn reason_of_passing(input: &Marshalled, bound: Bound, at: usize) -> u8
     }
 }
 
-/// The place behind padding that is looked at byte by byte.
+/// Whether the bytes are zeros. Up to four, as nearly all padding is, are looked at together.
 #[inline(always)]
+fn are_zeros(bytes: &[u8]) -> bool
+    ensures { result ≡ (zeros_in_front bytes.now == length bytes.now) }
+{
+    match bytes {
+        [a] => *a == 0,
+        [a, b] => (*a == 0) & (*b == 0),
+        [a, b, c] => (*a == 0) & (*b == 0) & (*c == 0),
+        [a, b, c, d] => (*a == 0) & (*b == 0) & (*c == 0) & (*d == 0),
+        _ => zeros_before(bytes) == bytes.len(),
+    }
+}
+
+/// The place behind padding that is looked at byte by byte.
+#[cold]
 #[tactic(auto, unfolding(atspi_marshal::specs::Reading::padding_at))]
-fn looked_at(input: &Marshalled, align: usize, bound: Bound, at: usize) -> Result<usize, Fault>
+fn counted(input: &Marshalled, align: usize, bound: Bound, at: usize) -> Result<usize, Fault>
     requires align { (0 < align) × (align ≤ 8) }
     requires at { at ≤ bound.end }
     requires end { ReachTo input.now bound.end }
@@ -73,6 +87,24 @@ fn looked_at(input: &Marshalled, align: usize, bound: Bound, at: usize) -> Resul
         return Err(fault(at + zeros, 10));
     }
     Ok(place)
+}
+
+/// The place behind padding that is zeros, as nearly all is; where it is not, they are counted.
+#[inline(always)]
+fn looked_at(input: &Marshalled, align: usize, bound: Bound, at: usize) -> Result<usize, Fault>
+    requires align { (0 < align) × (align ≤ 8) }
+    requires at { at ≤ bound.end }
+    requires end { ReachTo input.now bound.end }
+    ensures place { result ≡ padding_at (input_of input.now) align bound at }
+    ensures within { IfOk result (λ p. (p ≡ aligned align at) × (at ≤ p) × (p ≤ bound.end)) }
+{
+    let place = at + (align - at % align) % align;
+    if place <= bound.end {
+        if are_zeros(&input.bytes[at..place]) {
+            return Ok(place);
+        }
+    }
+    counted(input, align, bound, at)
 }
 
 /// The place behind the padding up to a multiple of `align`.

@@ -1,6 +1,6 @@
 //! Texts, paths and signatures that are passed.
 
-ghost use Rattle.std.specs.Prelude.{◌≡◌, ◌<◌, ◌≤◌, ◌+◌, ◌^◌, length, take, drop, IfOk, IfErr};
+ghost use Rattle.std.specs.Prelude.{◌≡◌, ◌<◌, ◌≤◌, ◌+◌, ◌-◌, ◌^◌, length, take, drop, IfOk, IfErr};
 ghost use Rattle.std.specs.Int.{w32};
 ghost use Rattle.std.specs.List.{list_all};
 ghost use Rattle.atspi_base.specs.ReadsText.{ReadsStr, StrPlaceBelow};
@@ -10,6 +10,9 @@ ghost use Rattle.atspi_marshal.specs.Faults.{short_in};
 ghost use Rattle.atspi_marshal.specs.Input.{number_in, byte_in, PlacesFit, ReachTo};
 ghost use Rattle.atspi_marshal.specs.Reading.{input_of, long_place, short_place, long_at, short_at, text_body_at, path_body_at, signature_body_at};
 ghost use Rattle.atspi_cursor.specs.Passing.{after, is_plain};
+ghost use Rattle.atspi_cursor.specs.Paths.{precede};
+ghost use Rattle.atspi_cursor.specs.Paths as definitions;
+ghost use Rattle.atspi_valid_names.specs.Names as names;
 
 use crate::plain::{fault, room};
 use atspi_base::{TextFault, read_str};
@@ -163,6 +166,70 @@ pub fn pass_text(input: &Marshalled, bound: Bound, at: usize) -> Result<usize, F
     text_body(input, place)
 }
 
+/// Whether a byte of a path may stand before another one: without a branch, as in `are_plain_16`.
+#[inline(always)]
+fn may_precede(byte: u8, next: u8) -> bool
+    ensures { result ≡ definitions.may_precede byte next }
+{
+    let digit = (48 <= byte) & (byte <= 57);
+    let capital = (65 <= byte) & (byte <= 90);
+    let small = (97 <= byte) & (byte <= 122);
+    let is_in_path = digit | capital | small | (byte == 95) | (byte == 47);
+    is_in_path & !((byte == 47) & (next == 47))
+}
+
+/// Whether each of 16 bytes may stand before the one behind it.
+#[inline(always)]
+fn precede_16(bytes: &[u8], at: usize) -> bool
+    requires { at + 17 ≤ length bytes.now }
+    ensures { result ≡ precede at 16 bytes.now }
+{
+    let mut all = true;
+    for i in 0..16usize {
+        all = all & may_precede(bytes[at + i], bytes[at + i + 1]);
+    }
+    all
+}
+
+/// Whether each byte but the last may stand before the one behind it: some of the last 17 are looked at once more.
+#[inline(always)]
+fn all_precede(bytes: &[u8]) -> bool
+    requires { 17 ≤ length bytes.now }
+    ensures { result ≡ precede 0 (length bytes.now - 1) bytes.now }
+{
+    let last = bytes.len() - 17;
+    let mut at = 0;
+    while at < last {
+        if !precede_16(bytes, at) {
+            return false;
+        }
+        at += 16;
+    }
+    precede_16(bytes, last)
+}
+
+/// Whether the bytes are a path that no `/` ends, looked at 16 bytes at a time.
+#[inline(always)]
+fn is_long_path(bytes: &[u8]) -> bool
+    requires { 17 ≤ length bytes.now }
+    ensures { result ≡ definitions.is_long_path bytes.now }
+{
+    bytes[0] == b'/' && may_precede(bytes[bytes.len() - 1], b'/') && all_precede(bytes)
+}
+
+/// Whether the bytes are a path. What is none so is left to the reader of the rule.
+#[inline(always)]
+fn reads_path(bytes: &[u8]) -> bool
+    ensures { result ≡ names.is_path bytes.now }
+{
+    if 17 <= bytes.len() {
+        if is_long_path(bytes) {
+            return true;
+        }
+    }
+    is_path(bytes)
+}
+
 /// The place behind the path whose length stands at a place.
 #[tactic(auto, unfolding(atspi_marshal::specs::Reading::path_body_at))]
 #[inline(always)]
@@ -174,7 +241,7 @@ fn path_body(input: &Marshalled, place: usize) -> Result<usize, Fault>
     let len = u32_at(input, place) as usize;
     let start = place + 4;
     let end = start + len;
-    if !is_path(slice(input.bytes, start, len)) {
+    if !reads_path(slice(input.bytes, start, len)) {
         return Err(fault(place, 15));
     }
     if byte_at(input, end) != 0 {

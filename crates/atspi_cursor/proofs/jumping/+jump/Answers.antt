@@ -2,7 +2,7 @@ use Rattle.std.proofs.Common.{refl, ◌∙◌, arith}
 use Rattle.atspi_codes.specs.TyRefs.{ref_kind, refs_kinds}
 use Rattle.atspi_marshal.specs.Input.{aligned}
 use Rattle.atspi_marshal.specs.Reading.{input_of}
-use Rattle.atspi_cursor.proofs.Knows.{entered, jumps_number}
+use Rattle.atspi_cursor.proofs.Knows.{entered, jumps_number, jumps_text, jumps_path}
 use Rattle.atspi_cursor.proofs.Passes.{not_structure}
 use Rattle.atspi_cursor.proofs.Runs.{code_size}
 use Rattle.atspi_cursor.proofs.jumping.+jump.Goals as goal
@@ -36,3 +36,33 @@ jump-returns-then-size-ne0-clause-within t c =
     let size = c.number_size-size.ensures.size ∙ code_size k c.code-code.result c.code-code.ensures.head in
     let j = jumps_number (input_of c.args.input.now) c.args.levels k c.args.bound c.args.at c.number_size-size.result size c.if-size-ne0.true c.requires.known in
     rw c.jump_number.ensures (j.behind, j.within)
+
+pub jump-jump_long-requires : goal.jump-jump_long-requires
+jump-jump_long-requires t c =
+    let j = jumps_text (input_of c.args.input.now) c.args.levels (ref_kind c.args.ty) c.args.bound c.args.at c.code-code.result c.if-code-eq115.true c.code-code.ensures.leaf c.requires.known in
+    (omega (arith, j.within, c.requires.end.0), c.requires.end.1)
+
+pub jump-returns-then-code-eq115-clause-place : goal.jump-returns-then-code-eq115-clause-place
+jump-returns-then-code-eq115-clause-place t c =
+    let j = jumps_text (input_of c.args.input.now) c.args.levels (ref_kind c.args.ty) c.args.bound c.args.at c.code-code.result c.if-code-eq115.true c.code-code.ensures.leaf c.requires.known in
+    rw c.jump_long.ensures j.place
+
+pub jump-returns-then-code-eq115-clause-within : goal.jump-returns-then-code-eq115-clause-within
+jump-returns-then-code-eq115-clause-within t c =
+    let j = jumps_text (input_of c.args.input.now) c.args.levels (ref_kind c.args.ty) c.args.bound c.args.at c.code-code.result c.if-code-eq115.true c.code-code.ensures.leaf c.requires.known in
+    rw c.jump_long.ensures (j.behind, j.within)
+
+pub jump-jump_long-requires-then-code-eq111 : goal.jump-jump_long-requires-then-code-eq111
+jump-jump_long-requires-then-code-eq111 t c =
+    let j = jumps_path (input_of c.args.input.now) c.args.levels (ref_kind c.args.ty) c.args.bound c.args.at c.code-code.result c.if-code-eq111.true c.code-code.ensures.leaf c.requires.known in
+    (omega (arith, j.within, c.requires.end.0), c.requires.end.1)
+
+pub jump-returns-then-code-eq111-clause-place : goal.jump-returns-then-code-eq111-clause-place
+jump-returns-then-code-eq111-clause-place t c =
+    let j = jumps_path (input_of c.args.input.now) c.args.levels (ref_kind c.args.ty) c.args.bound c.args.at c.code-code.result c.if-code-eq111.true c.code-code.ensures.leaf c.requires.known in
+    rw c.jump_long-then-code-eq111.ensures j.place
+
+pub jump-returns-then-code-eq111-clause-within : goal.jump-returns-then-code-eq111-clause-within
+jump-returns-then-code-eq111-clause-within t c =
+    let j = jumps_path (input_of c.args.input.now) c.args.levels (ref_kind c.args.ty) c.args.bound c.args.at c.code-code.result c.if-code-eq111.true c.code-code.ensures.leaf c.requires.known in
+    rw c.jump_long-then-code-eq111.ensures (j.behind, j.within)

@@ -1,13 +1,14 @@
 use Rattle.std.proofs.Common.{◌∷◌, [], sym, ◌∙◌, ap, ◌<◌, ◌-◌, ◌+◌, arith, refl}
 use Rattle.std.specs.Prelude.{◌==◌}
-use Rattle.atspi_types.specs.Kinds.{byte, i16, u16, i32, u32, i64, u64, double}
+use Rattle.std.proofs.lemmas.Result.{err_from_is_err_and}
+use Rattle.atspi_types.specs.Kinds.{structure, kinds_of, byte, i16, u16, i32, u32, i64, u64, double}
 use Rattle.atspi_codes.specs.TyRefs.{ref_kind, refs_kinds}
 use Rattle.atspi_marshal.specs.Faults.{entry_kind, inside}
 use Rattle.atspi_marshal.specs.Reading.{input_of, read, elements_at, single_at, level}
 use Rattle.atspi_marshal.proofs.Levels.{read_is, types_in-kinds_of, level_single}
-use Rattle.atspi_cursor.specs.Passing.{up_to, number_len}
-use Rattle.atspi_cursor.proofs.Passes.{number_fixed, passes_on, array_passes, dictionary_passes, structure_passes, pair_passes, not_structure, empty_deep}
-use Rattle.atspi_cursor.proofs.Runs.{numbers_pass, fixed_read, code_size}
+use Rattle.atspi_cursor.specs.Passing.{after, up_to, number_len}
+use Rattle.atspi_cursor.proofs.Passes.{number_fixed, passes_on, passes_fail, array_passes, dictionary_passes, structure_passes, pair_passes, not_structure, empty_deep}
+use Rattle.atspi_cursor.proofs.Runs.{numbers_pass, fixed_read, code_size, text_read, path_read, structure_read}
 use Rattle.atspi_cursor.proofs.passing.+pass.Goals as goal
 
 pub single-returns-in-Byte-clause-place : goal.single-returns-in-Byte-clause-place
@@ -80,6 +81,14 @@ pass-returns-then-size-ne0-clause-place t c =
     let size = c.number_size-size.ensures.size ∙ code_size k c.code-code.result c.code-code.ensures.head in
     c.pass_number.ensures.place ∙ fixed_read (input_of c.args.input.now) c.args.levels k c.args.bound c.args.at c.number_size-size.result size c.if-size-ne0.true
 
+pub pass-returns-then-code-eq115-clause-place : goal.pass-returns-then-code-eq115-clause-place
+pass-returns-then-code-eq115-clause-place t c =
+    c.pass_text.ensures.place ∙ text_read (input_of c.args.input.now) c.args.levels (ref_kind c.args.ty) c.args.bound c.args.at c.code-code.result c.if-code-eq115.true c.code-code.ensures.leaf
+
+pub pass-returns-then-code-eq111-clause-place : goal.pass-returns-then-code-eq111-clause-place
+pass-returns-then-code-eq111-clause-place t c =
+    c.pass_path.ensures.place ∙ path_read (input_of c.args.input.now) c.args.levels (ref_kind c.args.ty) c.args.bound c.args.at c.code-code.result c.if-code-eq111.true c.code-code.ensures.leaf
+
 pub other-returns-in-Some-clause-place : goal.other-returns-in-Some-clause-place
 unfolding level
 other-returns-in-Some-clause-place t c = rw (c.in-Some.ensures.fields, read_is, types_in-kinds_of) c.structure.ensures.place
@@ -102,6 +111,28 @@ elements-loop-preserved t c =
       c.in_ok-at.ensures.within.1,
       passes_on one c.args.inside.end c.args.len c.loop.counter c.loop.at c.in_ok-at.at total c.loop-test.true room (sym c.in_ok-at.ensures.place) c.loop.invariant.1,
     )
+
+pub structures-loop-preserved : goal.structures-loop-preserved
+structures-loop-preserved t c =
+    let i = input_of c.args.input.now in
+    let ks = refs_kinds c.args.types in
+    let one = read i c.args.levels (structure (kinds_of ks)) c.args.inside in
+    let total = up_to c.args.inside.end (elements_at one c.args.inside.end c.args.len c.args.start) in
+    let room : c.loop.at < c.args.inside.end = omega (arith, c.loop.invariant.0, c.if-at-inside.false) in (
+      c.in_ok-at.ensures.within.1,
+      passes_on one c.args.inside.end c.args.len c.loop.counter c.loop.at c.in_ok-at.at total c.loop-test.true room (ap after (structure_read i c.args.levels ks c.args.inside c.loop.at) ∙ sym c.in_ok-at.ensures.place) c.loop.invariant.1,
+    )
+
+pub structures-returns-in_err-at-clause-place : goal.structures-returns-in_err-at-clause-place
+structures-returns-in_err-at-clause-place t c =
+    let i = input_of c.args.input.now in
+    let ks = refs_kinds c.args.types in
+    let one = read i c.args.levels (structure (kinds_of ks)) c.args.inside in
+    let total = up_to c.args.inside.end (elements_at one c.args.inside.end c.args.len c.args.start) in
+    let room : c.loop.at < c.args.inside.end = omega (arith, c.loop.invariant.0, c.if-at-inside.false) in
+    let refused = ap after (structure_read i c.args.levels ks c.args.inside c.loop.at) ∙ sym c.in_err-at.ensures.place in
+    let p = err_from_is_err_and c.from_residual.result c.from_residual.ensures.1 in
+    rw (p.1, p.2) (sym (passes_fail c.in_err-at.field-0.0 one c.args.inside.end c.args.len c.loop.counter c.loop.at total c.loop-test.true room refused c.loop.invariant.1))
 
 pub entries-loop-preserved : goal.entries-loop-preserved
 entries-loop-preserved t c =

@@ -1,4 +1,5 @@
 use Rattle.std.proofs.Common.{◌≡◌, ◌≤◌, ◌+◌, ◌-◌, ◌*◌, length}
+use Rattle.atspi_types.specs.Kinds.{structure, kinds_of}
 use Rattle.atspi_codes.specs.TyRefs.{ref_kind, refs_kinds}
 use Rattle.atspi_marshal.specs.Faults.{entry_kind}
 use Rattle.atspi_marshal.specs.Reading.{input_of, read, elements_at}
@@ -50,6 +51,9 @@ decreases-dictionary_body a = 16 * a.levels + 18
 abbrev pub decreases-elements : goal.decreases-elements
 decreases-elements a = 16 * a.levels + 16
 
+abbrev pub decreases-structures : goal.decreases-structures
+decreases-structures a = 16 * a.levels + 9
+
 abbrev pub decreases-entries : goal.decreases-entries
 decreases-entries a = 16 * a.levels + 17
 
@@ -60,6 +64,11 @@ decreases-fields a = 16 * a.levels + 17
 abbrev pub invariant-elements-loop : goal.invariant-elements-loop
 invariant-elements-loop l =
     let one = read (input_of l.input) l.levels (ref_kind l.element) l.inside in
+    (l.at ≤ l.inside.end) × (up_to l.inside.end (elements_at one l.inside.end (l.len - l.counter) l.at) ≡ up_to l.inside.end (elements_at one l.inside.end l.len l.start))
+
+abbrev pub invariant-structures-loop : goal.invariant-structures-loop
+invariant-structures-loop l =
+    let one = read (input_of l.input) l.levels (structure (kinds_of (refs_kinds l.types))) l.inside in
     (l.at ≤ l.inside.end) × (up_to l.inside.end (elements_at one l.inside.end (l.len - l.counter) l.at) ≡ up_to l.inside.end (elements_at one l.inside.end l.len l.start))
 
 abbrev pub invariant-entries-loop : goal.invariant-entries-loop
