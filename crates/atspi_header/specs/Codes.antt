@@ -1,5 +1,4 @@
 -- The known fields of a header: six are names.
-use Rattle.std.specs.Prelude.{Option, Some, None}
 use Rattle.atspi_message.specs.declared.code.Code.{Code}
 use Rattle.atspi_message.specs.declared.code.Code.TheVariants as codes
 use Rattle.atspi_header.specs.declared.code.NameCode.{NameCode}
@@ -20,8 +19,3 @@ field_code (Name n) = name_code n
 field_code Reply = codes.Reply
 field_code Signature = codes.Signature
 field_code Descriptors = codes.Descriptors
-
--- a known field, or none
-abbrev pub known_code : Option Known → Option Code
-known_code (Some c) = Some (field_code c)
-known_code None = None

@@ -1,9 +1,9 @@
 //! The fields of a header that have a meaning.
 
 ghost use Rattle.std.specs.Prelude.{◌≡◌};
-ghost use Rattle.atspi_message.specs.Codes.{code_of, letter_of};
+ghost use Rattle.atspi_message.specs.Codes.{letter_of};
 ghost use Rattle.atspi_message.specs.Reading.{name_reason};
-ghost use Rattle.atspi_header.specs.Codes.{name_code, field_code, known_code};
+ghost use Rattle.atspi_header.specs.Codes.{name_code, field_code};
 
 /// A field that is a name (D-Bus Specification, "Header Fields").
 #[derive(Clone, Copy)]
@@ -25,25 +25,8 @@ pub enum Code {
     Descriptors,
 }
 
-/// The known field of a code.
-pub fn code_of(byte: u8) -> Option<Code>
-    ensures { known_code result ≡ code_of byte }
-{
-    match byte {
-        1 => Some(Code::Name(NameCode::Path)),
-        2 => Some(Code::Name(NameCode::Interface)),
-        3 => Some(Code::Name(NameCode::Member)),
-        4 => Some(Code::Name(NameCode::Error)),
-        5 => Some(Code::Reply),
-        6 => Some(Code::Name(NameCode::Destination)),
-        7 => Some(Code::Name(NameCode::Sender)),
-        8 => Some(Code::Signature),
-        9 => Some(Code::Descriptors),
-        _ => None,
-    }
-}
-
 /// The code of a name's type.
+#[inline(always)]
 fn name_letter(code: NameCode) -> u8
     ensures { result ≡ letter_of (name_code code) }
 {
@@ -58,6 +41,7 @@ fn name_letter(code: NameCode) -> u8
 }
 
 /// The code of the field's type.
+#[inline(always)]
 pub fn letter_of(code: Code) -> u8
     ensures { result ≡ letter_of (field_code code) }
 {
@@ -70,6 +54,7 @@ pub fn letter_of(code: Code) -> u8
 }
 
 /// The reason of a name outside its rule.
+#[inline(always)]
 pub fn reason_of(code: NameCode) -> u8
     ensures { result ≡ name_reason (name_code code) }
 {

@@ -13,7 +13,7 @@ ghost use Rattle.atspi_message.specs.Reading.{none_found, name_data, put, slot, 
 ghost use Rattle.atspi_header.specs.Codes.{name_code, field_code};
 ghost use Rattle.atspi_header.specs.View.{found_in, types_value, Reads};
 
-use crate::code::{Code, NameCode, code_of, letter_of};
+use crate::code::{Code, NameCode, letter_of};
 use crate::name::name;
 use atspi_codes::{TyRef, TysRef};
 use atspi_cursor::{fault, pass, room, short, types_at};
@@ -36,6 +36,7 @@ pub struct Header<'a> {
 
 /// The serial that a reply names, and the place behind it.
 #[tactic(auto, unfolding(atspi_message::specs::Reading::reply_at))]
+#[inline(always)]
 fn reply(input: &Marshalled, bound: Bound, at: usize) -> Result<(u32, usize), Fault>
     requires at { at ≤ bound.end }
     requires end { ReachTo input.now bound.end }
@@ -52,6 +53,7 @@ fn reply(input: &Marshalled, bound: Bound, at: usize) -> Result<(u32, usize), Fa
 
 /// The place behind a count of descriptors, which is 0.
 #[tactic(auto, unfolding(atspi_message::specs::Reading::descriptors_at))]
+#[inline(always)]
 fn descriptors(input: &Marshalled, bound: Bound, at: usize) -> Result<usize, Fault>
     requires at { at ≤ bound.end }
     requires end { ReachTo input.now bound.end }
@@ -67,6 +69,7 @@ fn descriptors(input: &Marshalled, bound: Bound, at: usize) -> Result<usize, Fau
 
 /// The types of the signature whose length stands at a place, and the place behind it.
 #[tactic(auto, unfolding(atspi_marshal::specs::Reading::signature_body_at))]
+#[inline(always)]
 fn signature_body<'a>(input: &Marshalled<'a>, place: usize) -> Result<(TysRef<'a>, usize), Fault>
     requires { ReachTo input.now (place + 2 + byte_in (input_of input.now) place) }
     ensures read { Reads (λ x. (types_value x.0, x.1)) result (signature_body_at (input_of input.now) place) }
@@ -87,6 +90,7 @@ fn signature_body<'a>(input: &Marshalled<'a>, place: usize) -> Result<(TysRef<'a
 
 /// The types of a signature, and the place behind it.
 #[tactic(auto, unfolding(atspi_marshal::specs::Reading::short_at))]
+#[inline(always)]
 fn signature<'a>(
     input: &Marshalled<'a>,
     bound: Bound,
@@ -102,6 +106,7 @@ fn signature<'a>(
 }
 
 /// What is wrong with the signature at a place, which is not the one of the field.
+#[cold]
 fn wrong_type(input: &Marshalled, place: usize) -> Fault
     requires { ReachTo input.now (place + 2 + byte_in (input_of input.now) place) }
     ensures { other_type place (signature_in (short_in (input_of input.now) place)) ≡ Err result }
@@ -114,6 +119,7 @@ fn wrong_type(input: &Marshalled, place: usize) -> Fault
 
 /// The place behind the signature at a place, which has to be that of the field.
 #[tactic(auto, unfolding(atspi_message::specs::Reading::typed_body_at))]
+#[inline(always)]
 fn typed_body(input: &Marshalled, code: Code, place: usize) -> Result<usize, Fault>
     requires { ReachTo input.now (place + 2 + byte_in (input_of input.now) place) }
     ensures read { result ≡ typed_body_at (input_of input.now) (field_code code) place }
@@ -130,6 +136,7 @@ fn typed_body(input: &Marshalled, code: Code, place: usize) -> Result<usize, Fau
 
 /// The place behind the signature of a field.
 #[tactic(auto, unfolding(atspi_message::specs::Reading::typed_at))]
+#[inline(always)]
 fn typed(input: &Marshalled, bound: Bound, code: Code, at: usize) -> Result<usize, Fault>
     requires at { at ≤ bound.end }
     requires end { ReachTo input.now bound.end }
@@ -141,6 +148,7 @@ fn typed(input: &Marshalled, bound: Bound, code: Code, at: usize) -> Result<usiz
 }
 
 /// The place behind the variant of a field without a meaning.
+#[cold]
 fn unknown(input: &Marshalled, bound: Bound, at: usize) -> Result<usize, Fault>
     requires at { at ≤ bound.end }
     requires end { ReachTo input.now bound.end }
@@ -174,6 +182,7 @@ impl<'a> Header<'a> {
     }
 
     /// Whether a name was read.
+    #[inline(always)]
     fn has_name(&self, code: NameCode) -> bool
         ensures { result ≡ is_there (slot (name_code code) (found_in self.now)) }
     {
@@ -188,6 +197,7 @@ impl<'a> Header<'a> {
     }
 
     /// Whether a field was read.
+    #[inline(always)]
     fn has(&self, code: Code) -> bool
         ensures { result ≡ is_there (slot (field_code code) (found_in self.now)) }
     {
@@ -200,6 +210,7 @@ impl<'a> Header<'a> {
     }
 
     /// Whether the fields are there that a type of message requires.
+    #[inline(always)]
     pub fn has_required(&self, kind: u8) -> bool
         ensures { result ≡ has_required kind (found_in self.now) }
     {
@@ -213,6 +224,7 @@ impl<'a> Header<'a> {
     }
 
     /// The types of the body: those of SIGNATURE, none where it is not there.
+    #[inline(always)]
     pub fn types(&self) -> TysRef<'a>
         ensures { kinds_of (refs_kinds result) ≡ signature_found (found_in self.now).signature }
     {
@@ -223,6 +235,7 @@ impl<'a> Header<'a> {
     }
 
     /// Keeps a name.
+    #[inline(always)]
     fn put_name(&mut self, code: NameCode, text: &'a str)
         ensures { found_in self.new ≡ put (name_code code) (name_data (name_code code) text.now) (found_in self.old) }
     {
@@ -237,6 +250,7 @@ impl<'a> Header<'a> {
     }
 
     /// Reads a name and keeps it.
+    #[inline(always)]
     fn set_name(
         &mut self,
         input: &Marshalled<'a>,
@@ -255,6 +269,7 @@ impl<'a> Header<'a> {
     }
 
     /// Reads the serial of a reply and keeps it.
+    #[inline(always)]
     fn set_reply(&mut self, input: &Marshalled<'a>, bound: Bound, at: usize) -> Result<usize, Fault>
         requires at { at ≤ bound.end }
         requires end { ReachTo input.now bound.end }
@@ -267,6 +282,7 @@ impl<'a> Header<'a> {
     }
 
     /// Reads the types of the body and keeps them.
+    #[inline(always)]
     fn set_signature(
         &mut self,
         input: &Marshalled<'a>,
@@ -284,6 +300,7 @@ impl<'a> Header<'a> {
     }
 
     /// Reads the count of descriptors and keeps that it is there.
+    #[inline(always)]
     fn set_descriptors(
         &mut self,
         input: &Marshalled<'a>,
@@ -301,6 +318,7 @@ impl<'a> Header<'a> {
     }
 
     /// Reads the value of a known field and keeps it, and gives the place behind it.
+    #[inline(always)]
     fn set(
         &mut self,
         input: &Marshalled<'a>,
@@ -323,6 +341,7 @@ impl<'a> Header<'a> {
 
     /// Reads the known field whose code stands at a place.
     #[tactic(auto, unfolding(atspi_message::specs::Reading::known_at))]
+    #[inline(always)]
     fn known(
         &mut self,
         input: &Marshalled<'a>,
@@ -344,6 +363,7 @@ impl<'a> Header<'a> {
 
     /// Reads a field, and gives the place behind it.
     #[tactic(auto, unfolding(atspi_message::specs::Reading::field_at))]
+    #[inline(always)]
     fn read(&mut self, input: &Marshalled<'a>, bound: Bound, at: usize) -> Result<usize, Fault>
         requires at { at ≤ bound.end }
         requires end { ReachTo input.now bound.end }
@@ -351,17 +371,23 @@ impl<'a> Header<'a> {
         ensures within { IfOk result (λ next. (at ≤ next) × (next ≤ bound.end)) }
     {
         let place = room(input, 8, 1, bound, at)?;
-        let byte = byte_at(input, place);
-        if byte == 0 {
-            return Err(fault(place, 28));
-        }
-        match code_of(byte) {
-            Some(code) => self.known(input, bound, place, code),
-            None => unknown(input, bound, place + 1),
+        match byte_at(input, place) {
+            0 => Err(fault(place, 28)),
+            1 => self.known(input, bound, place, Code::Name(NameCode::Path)),
+            2 => self.known(input, bound, place, Code::Name(NameCode::Interface)),
+            3 => self.known(input, bound, place, Code::Name(NameCode::Member)),
+            4 => self.known(input, bound, place, Code::Name(NameCode::Error)),
+            5 => self.known(input, bound, place, Code::Reply),
+            6 => self.known(input, bound, place, Code::Name(NameCode::Destination)),
+            7 => self.known(input, bound, place, Code::Name(NameCode::Sender)),
+            8 => self.known(input, bound, place, Code::Signature),
+            9 => self.known(input, bound, place, Code::Descriptors),
+            _ => unknown(input, bound, place + 1),
         }
     }
 
     /// The fields from place 16 up to their end.
+    #[inline(always)]
     pub fn read_all(input: &Marshalled<'a>, bound: Bound) -> Result<Header<'a>, Fault>
         requires at { 16 ≤ bound.end }
         requires end { ReachTo input.now bound.end }

@@ -15,6 +15,7 @@ use atspi_types::Fault;
 use atspi_valid_names::{is_bus_name, is_interface, is_member, is_path};
 
 /// Whether the bytes are of the field's rule.
+#[inline(always)]
 fn is_name(code: NameCode, bytes: &[u8]) -> bool
     ensures { result ≡ is_name (name_code code) bytes.now }
 {
@@ -30,6 +31,7 @@ fn is_name(code: NameCode, bytes: &[u8]) -> bool
 
 /// The name whose length stands at a place, and the place behind it.
 #[tactic(auto, unfolding(atspi_message::specs::Reading::name_body_at))]
+#[inline(always)]
 fn name_body<'a>(
     input: &Marshalled<'a>,
     code: NameCode,
@@ -55,6 +57,7 @@ fn name_body<'a>(
 
 /// A name, and the place behind it.
 #[tactic(auto, unfolding(atspi_message::specs::Reading::name_at, atspi_marshal::specs::Reading::long_at))]
+#[inline(always)]
 pub fn name<'a>(
     input: &Marshalled<'a>,
     code: NameCode,

@@ -21,6 +21,7 @@ use atspi_marshal::{Bound, Marshalled, u32_at};
 use atspi_types::{Fault, Order};
 
 /// The order of the bytes that the first of them tells.
+#[inline(always)]
 fn order_of(first: u8) -> Order
     ensures { result ≡ order_by first }
 {
@@ -32,6 +33,7 @@ fn order_of(first: u8) -> Order
 }
 
 /// The values of a body of these types that begins at a place. Nothing is left behind them.
+#[inline(always)]
 fn values<'a>(bytes: &'a [u8], types: TysRef<'a>, place: usize) -> Result<Fields<'a>, Fault>
     requires { (0 < length bytes.now) × (place ≤ length bytes.now) × (length bytes.now ≤ 134217728) }
     ensures { Reads fields_data result (values_at bytes.now (kinds_of (refs_kinds types.entry)) place) }
@@ -47,6 +49,7 @@ fn values<'a>(bytes: &'a [u8], types: TysRef<'a>, place: usize) -> Result<Fields
 }
 
 /// Where the fields end.
+#[inline(always)]
 fn fields_end(bytes: &[u8]) -> usize
     requires { (16 ≤ length bytes.now) × PlacesFit bytes.now }
     ensures { result ≡ fields_end_in bytes.now }
@@ -60,6 +63,7 @@ fn fields_end(bytes: &[u8]) -> usize
 
 /// The body, behind its padding.
 #[tactic(auto, unfolding(atspi_message::specs::Reading::rest_at))]
+#[inline(always)]
 fn rest<'a>(bytes: &'a [u8], header: &Header<'a>) -> Result<Fields<'a>, Fault>
     requires { (16 ≤ length bytes.now) × (fields_end_in bytes.now ≤ length bytes.now) × (length bytes.now ≤ 134217728) }
     ensures { Reads fields_data result (rest_at bytes.now (found_in header.now)) }
@@ -79,6 +83,7 @@ fn rest<'a>(bytes: &'a [u8], header: &Header<'a>) -> Result<Fields<'a>, Fault>
 
 /// What is told where a required field is missing: what the padding or the body tells at the end of the fields for a lesser
 /// reason, or that.
+#[cold]
 fn missing<'a>(bytes: &'a [u8], header: &Header<'a>) -> Fault
     requires { (16 ≤ length bytes.now) × (fields_end_in bytes.now ≤ length bytes.now) × (length bytes.now ≤ 134217728) }
     ensures { missing_at (fields_end_in bytes.now) (rest_at bytes.now (found_in header.now)) ≡ Err result }
@@ -96,6 +101,7 @@ fn missing<'a>(bytes: &'a [u8], header: &Header<'a>) -> Fault
 }
 
 /// The body of a message with these fields.
+#[inline(always)]
 fn body<'a>(bytes: &'a [u8], header: &Header<'a>) -> Result<Fields<'a>, Fault>
     requires { (16 ≤ length bytes.now) × (fields_end_in bytes.now ≤ length bytes.now) × (length bytes.now ≤ 134217728) }
     ensures { Reads fields_data result (if has_required (type_in bytes.now) (found_in header.now) then rest_at bytes.now (found_in header.now) else missing_at (fields_end_in bytes.now) (rest_at bytes.now (found_in header.now))) }
@@ -108,6 +114,7 @@ fn body<'a>(bytes: &'a [u8], header: &Header<'a>) -> Result<Fields<'a>, Fault>
 }
 
 /// The bytes of the body, behind its padding.
+#[inline(always)]
 fn body_bytes(bytes: &[u8]) -> &[u8]
     requires { (16 ≤ length bytes.now) × (body_place_in bytes.now ≤ length bytes.now) × (length bytes.now ≤ 134217728) }
     ensures { result.now ≡ drop (body_place_in bytes.now) bytes.now }
@@ -119,6 +126,7 @@ fn body_bytes(bytes: &[u8]) -> &[u8]
 
 /// The message that the bytes are.
 #[tactic(auto, unfolding(atspi_message::specs::Reading::message_at, atspi_message::specs::Reading::ended_at))]
+#[inline(always)]
 fn read<'a>(bytes: &'a [u8]) -> Result<MessageRef<'a>, Fault>
     requires length { length_in (take 16 bytes.now) ≡ length bytes.now }
     requires sound { IsSoundFront (take 16 bytes.now) }
@@ -154,6 +162,7 @@ fn read<'a>(bytes: &'a [u8]) -> Result<MessageRef<'a>, Fault>
 impl<'a> MessageRef<'a> {
     /// The message that the bytes are, where it lies: no memory is taken. They are as long as their first 16 state, which have
     /// no fault (`atspi_message::total`). Refused with the first fault, of the reasons 2 to 21 and 28 to 35.
+    #[inline(always)]
     pub fn parse(bytes: &'a [u8]) -> Result<MessageRef<'a>, Fault>
         requires length { length_in (take 16 bytes.now) ≡ length bytes.now }
         requires sound { IsSoundFront (take 16 bytes.now) }

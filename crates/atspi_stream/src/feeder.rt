@@ -50,6 +50,7 @@ impl Model for Feeder {
 }
 
 /// What begins the bytes, and how many of them a message takes.
+#[inline(always)]
 fn look(held: &[u8]) -> (Got<'_>, usize)
     ensures seen { Sees result held.now }
     ensures bytes { AreBytes held.now }
@@ -98,6 +99,7 @@ impl Feeder {
     }
 
     /// How many bytes are held.
+    #[inline(always)]
     pub fn len(&self) -> usize
         ensures { result ≡ length self.now }
     {
@@ -141,6 +143,7 @@ impl Feeder {
     /// The next message, once it is whole: it lies in the bytes that are held, and is looked at until the next call. `Bad`
     /// tells its first fault (reasons 2 to 35, its place counted from the message's first byte), as soon as the bytes show it,
     /// and the same ever after. No memory is taken.
+    #[inline(always)]
     pub fn next(&mut self) -> Got<'_>
         // A message at the front is given.
         ensures only { (e : Envelope) (bytes rest : List ℕ) → IsMessage e bytes → self.old ≡ bytes ++ rest → IsMessageGiven result e }
