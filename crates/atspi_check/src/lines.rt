@@ -37,6 +37,7 @@ impl Halt {
 }
 
 /// Appends the line of a message.
+#[inline(always)]
 fn put_message(start: u64, message: &MessageRef, out: &mut Bytes) -> Result<(), NoMemory>
     ensures { OnOk result (out.new ≡ out.old ++ message_line start (envelope_at message.now)) }
 {
@@ -60,6 +61,7 @@ fn put_fault(start: u64, place: u64, reason: u8, out: &mut Bytes) -> Result<(), 
 }
 
 /// Appends the line of a message, and writes what waits once it is a block.
+#[inline(always)]
 pub fn tell<K: Sink>(
     start: u64,
     message: &MessageRef,

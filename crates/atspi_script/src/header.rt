@@ -6,25 +6,28 @@ ghost use Rattle.atspi_header.specs.View.{bytes_of, envelope_at};
 ghost use Rattle.atspi_script.specs.MessageText.{field_words, fields_words, header_words, labelled, order_letter, reply_text, type_word};
 ghost use Rattle.atspi_script.specs.Spaced.{behind_space, spaced};
 
-use atspi_base::{Bytes, NoMemory, put_decimal};
+use crate::numbers::put_number;
+use atspi_base::{Bytes, NoMemory};
 use atspi_header::MessageRef;
 use atspi_types::Order;
 
 /// Appends the text of a message as far as its body.
+#[inline(always)]
 pub fn put_header(message: &MessageRef, out: &mut Bytes) -> Result<(), NoMemory>
     ensures ok { OnOk result (out.new ≡ out.old ++ spaced (header_words (envelope_at message.now))) }
     ensures front { take (length out.old) out.new ≡ out.old }
 {
     put_front(message.kind, message.order, out)?;
-    put_decimal(message.flags as u64, out)?;
+    put_number(message.flags as u64, out)?;
     out.push(b' ')?;
-    put_decimal(message.serial as u64, out)?;
+    put_number(message.serial as u64, out)?;
     put_fields(message, out)?;
     Ok(())
 }
 
 /// Appends the word of a message's type and the letter of its byte order, each with a space behind it. Those that most
 /// messages have are appended in one piece.
+#[inline(always)]
 fn put_front(kind: u8, order: Order, out: &mut Bytes) -> Result<(), NoMemory>
     ensures ok { OnOk result (out.new ≡ out.old ++ (type_word kind ++ 32 ∷ order_letter order ∷ 32 ∷ [])) }
     ensures front { take (length out.old) out.new ≡ out.old }
@@ -53,7 +56,7 @@ fn put_type(kind: u8, out: &mut Bytes) -> Result<(), NoMemory>
         4 => out.extend(b"signal"),
         _ => {
             out.extend(b"type-")?;
-            put_decimal(kind as u64, out)
+            put_number(kind as u64, out)
         }
     }
 }
@@ -70,6 +73,7 @@ fn put_order(order: Order, out: &mut Bytes) -> Result<(), NoMemory>
 }
 
 /// Appends the fields that are there, each behind a space.
+#[inline(always)]
 fn put_fields(message: &MessageRef, out: &mut Bytes) -> Result<(), NoMemory>
     ensures ok { OnOk result (out.new ≡ out.old ++ flat_map behind_space (fields_words (envelope_at message.now))) }
     ensures front { take (length out.old) out.new ≡ out.old }
@@ -85,6 +89,7 @@ fn put_fields(message: &MessageRef, out: &mut Bytes) -> Result<(), NoMemory>
 }
 
 /// Appends a label and the name behind it, where there is one.
+#[inline(always)]
 fn put_name(label: &[u8], name: Option<&str>, out: &mut Bytes) -> Result<(), NoMemory>
     ensures ok { OnOk result (out.new ≡ out.old ++ labelled label.now (bytes_of name.entry)) }
     ensures front { take (length out.old) out.new ≡ out.old }
@@ -97,6 +102,7 @@ fn put_name(label: &[u8], name: Option<&str>, out: &mut Bytes) -> Result<(), NoM
 }
 
 /// Appends the serial that a message replies to, where there is one.
+#[inline(always)]
 fn put_reply(reply: Option<u32>, out: &mut Bytes) -> Result<(), NoMemory>
     ensures ok { OnOk result (out.new ≡ out.old ++ flat_map behind_space (field_words (codes "reply") (reply_text reply))) }
     ensures front { take (length out.old) out.new ≡ out.old }
@@ -104,7 +110,7 @@ fn put_reply(reply: Option<u32>, out: &mut Bytes) -> Result<(), NoMemory>
     match reply {
         Some(serial) => {
             out.extend(b" reply=")?;
-            put_decimal(serial as u64, out)
+            put_number(serial as u64, out)
         }
         None => Ok(()),
     }

@@ -3,6 +3,7 @@
 
 mod header;
 mod message;
+mod numbers;
 mod quotes;
 mod values;
 mod view;

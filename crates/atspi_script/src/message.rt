@@ -30,6 +30,7 @@ pub fn message_text(message: &MessageRef, out: &mut Bytes) -> Result<(), NoMemor
 }
 
 /// Appends the text of a message. After want of memory a front of it was appended.
+#[inline(always)]
 fn put_message(message: &MessageRef, out: &mut Bytes) -> Result<(), NoMemory>
     ensures ok { OnOk result (out.new ≡ out.old ++ text_of_message (envelope_at message.now)) }
     ensures front { take (length out.old) out.new ≡ out.old }
@@ -40,6 +41,7 @@ fn put_message(message: &MessageRef, out: &mut Bytes) -> Result<(), NoMemory>
 }
 
 /// Appends the signature and the values of a body, each behind a space; nothing of an empty one.
+#[inline(always)]
 fn put_body(body: Fields<'_>, out: &mut Bytes) -> Result<(), NoMemory>
     ensures ok { OnOk result (out.new ≡ out.old ++ flat_map behind_space (body_words (items_of (fields_data body.entry)))) }
     ensures front { take (length out.old) out.new ≡ out.old }

@@ -12,30 +12,32 @@ ghost use Rattle.atspi_cursor.specs.Items.{item_data, item_kind, elements_data, 
 ghost use Rattle.atspi_script.specs.Spaced.{in_brackets, spaced};
 ghost use Rattle.atspi_script.specs.ValueText.{boolean_text, entry_texts, in_braces, value_text, value_texts};
 
-use crate::quotes::put_in_quotes;
+use crate::numbers::{put_number, put_signed};
+use crate::quotes::{put_in_quotes, put_path};
 use crate::view::{View, view_of};
-use atspi_base::{Bytes, NoMemory, put_decimal, put_hex, put_signed};
+use atspi_base::{Bytes, NoMemory, put_hex};
 use atspi_codes::TysRef;
 use atspi_cursor::{Elements, Entries, Entry, Fields, Item};
 
 /// Appends the text of a value. After want of memory a front of it was appended.
 #[cycle(put)]
+#[inline(always)]
 fn put(item: Item<'_>, out: &mut Bytes) -> Result<(), NoMemory>
     ensures ok { OnOk result (out.new ≡ out.old ++ value_text (item_data item.entry)) }
     ensures front { take (length out.old) out.new ≡ out.old }
 {
     match view_of(item) {
-        View::Byte(n) => put_decimal(n as u64, out),
+        View::Byte(n) => put_number(n as u64, out),
         View::Bool(b) => put_bool(b, out),
         View::I16(n) => put_signed(n as i64, out),
-        View::U16(n) => put_decimal(n as u64, out),
+        View::U16(n) => put_number(n as u64, out),
         View::I32(n) => put_signed(n as i64, out),
-        View::U32(n) => put_decimal(n as u64, out),
+        View::U32(n) => put_number(n as u64, out),
         View::I64(n) => put_signed(n, out),
-        View::U64(n) => put_decimal(n, out),
+        View::U64(n) => put_number(n, out),
         View::Double(bits) => put_double(bits, out),
         View::Text(text) => put_text(text, out),
-        View::Path(path) => put_in_quotes(path.as_bytes(), out),
+        View::Path(path) => put_path(path, out),
         View::Types(types) => put_types(types, out),
         View::Array(elements) => put_array(elements, out),
         View::Struct(fields) => put_struct(fields, out),
@@ -45,6 +47,7 @@ fn put(item: Item<'_>, out: &mut Bytes) -> Result<(), NoMemory>
 }
 
 /// Appends `true` or `false`.
+#[inline(always)]
 fn put_bool(b: bool, out: &mut Bytes) -> Result<(), NoMemory>
     ensures ok { OnOk result (out.new ≡ out.old ++ boolean_text b) }
     ensures front { take (length out.old) out.new ≡ out.old }
@@ -66,6 +69,7 @@ fn put_double(bits: u64, out: &mut Bytes) -> Result<(), NoMemory>
 }
 
 /// Appends a text in quotes.
+#[inline(always)]
 fn put_text(text: &str, out: &mut Bytes) -> Result<(), NoMemory>
     ensures ok { OnOk result (out.new ≡ out.old ++ quoted (chars text.now)) }
     ensures front { take (length out.old) out.new ≡ out.old }
@@ -74,6 +78,7 @@ fn put_text(text: &str, out: &mut Bytes) -> Result<(), NoMemory>
 }
 
 /// Appends the codes of types in quotes.
+#[inline(always)]
 fn put_types(types: TysRef<'_>, out: &mut Bytes) -> Result<(), NoMemory>
     ensures ok { OnOk result (out.new ≡ out.old ++ in_quotes (signature_bytes (kinds_of (refs_kinds types.entry)))) }
     ensures front { take (length out.old) out.new ≡ out.old }
@@ -94,6 +99,7 @@ fn put_array(elements: Elements<'_>, out: &mut Bytes) -> Result<(), NoMemory>
 
 /// Appends the texts of elements, with a space between any two.
 #[cycle(put)]
+#[inline(always)]
 fn put_elements(elements: Elements<'_>, out: &mut Bytes) -> Result<(), NoMemory>
     ensures ok { OnOk result (out.new ≡ out.old ++ spaced (value_texts (items_of (elements_data elements.entry)))) }
     ensures front { take (length out.old) out.new ≡ out.old }
@@ -123,6 +129,7 @@ fn put_struct(fields: Fields<'_>, out: &mut Bytes) -> Result<(), NoMemory>
 
 /// Appends the texts of values, with a space between any two. After want of memory a front of them was appended.
 #[cycle(put)]
+#[inline(always)]
 pub fn put_fields(fields: Fields<'_>, out: &mut Bytes) -> Result<(), NoMemory>
     ensures ok { OnOk result (out.new ≡ out.old ++ spaced (value_texts (items_of (fields_data fields.entry)))) }
     ensures front { take (length out.old) out.new ≡ out.old }
@@ -152,6 +159,7 @@ fn put_dictionary(entries: Entries<'_>, out: &mut Bytes) -> Result<(), NoMemory>
 
 /// Appends the texts of entries, with a space between any two.
 #[cycle(put)]
+#[inline(always)]
 fn put_entries(entries: Entries<'_>, out: &mut Bytes) -> Result<(), NoMemory>
     ensures ok { OnOk result (out.new ≡ out.old ++ spaced (entry_texts (entries_in (items_of (entries_data entries.entry))))) }
     ensures front { take (length out.old) out.new ≡ out.old }
@@ -170,6 +178,7 @@ fn put_entries(entries: Entries<'_>, out: &mut Bytes) -> Result<(), NoMemory>
 
 /// Appends the text of an entry.
 #[cycle(put)]
+#[inline(always)]
 fn put_entry(entry: Entry<'_>, out: &mut Bytes) -> Result<(), NoMemory>
     ensures ok { OnOk result (out.new ≡ out.old ++ in_braces (value_text (item_data entry.entry.key)) (value_text (item_data entry.entry.value))) }
     ensures front { take (length out.old) out.new ≡ out.old }

@@ -6,6 +6,7 @@ ghost use Rattle.atspi_codes.specs.Codes.{is_array, is_dictionary, is_structure}
 ghost use Rattle.atspi_cursor.specs.Items.{item_data, item_kind};
 ghost use Rattle.atspi_script.specs.Views.{view_data};
 
+use crate::quotes::PathText;
 use atspi_codes::{Shape, TysRef};
 use atspi_cursor::{Elements, Entries, Fields, Item};
 
@@ -22,7 +23,7 @@ pub enum View<'a> {
     U64(u64),
     Double(u64),
     Text(&'a str),
-    Path(&'a str),
+    Path(PathText<'a>),
     Types(TysRef<'a>),
     Array(Elements<'a>),
     Struct(Fields<'a>),
@@ -31,6 +32,7 @@ pub enum View<'a> {
 }
 
 /// What the value is. Its type tells, so that one getter alone is asked.
+#[inline(always)]
 pub fn view_of(item: Item<'_>) -> View<'_>
     ensures { view_data result ≡ item_data item.entry }
 {
@@ -55,6 +57,7 @@ pub fn view_of(item: Item<'_>) -> View<'_>
 }
 
 /// A text.
+#[inline(always)]
 fn text_of(item: Item<'_>) -> View<'_>
     requires { item_kind item ≡ text }
     ensures { view_data result ≡ item_data item.entry }
@@ -66,17 +69,19 @@ fn text_of(item: Item<'_>) -> View<'_>
 }
 
 /// A path.
+#[inline(always)]
 fn path_of(item: Item<'_>) -> View<'_>
     requires { item_kind item ≡ path }
     ensures { view_data result ≡ item_data item.entry }
 {
     match item.path() {
-        Some(path) => View::Path(path),
+        Some(text) => View::Path(PathText::new(text)),
         None => unreachable!(),
     }
 }
 
 /// A signature.
+#[inline(always)]
 fn types_of(item: Item<'_>) -> View<'_>
     requires { item_kind item ≡ signature }
     ensures { view_data result ≡ item_data item.entry }
@@ -88,6 +93,7 @@ fn types_of(item: Item<'_>) -> View<'_>
 }
 
 /// An array and no dictionary.
+#[inline(always)]
 fn array_of(item: Item<'_>) -> View<'_>
     requires { IsTrue (is_array (item_kind item)) }
     ensures { view_data result ≡ item_data item.entry }
@@ -99,6 +105,7 @@ fn array_of(item: Item<'_>) -> View<'_>
 }
 
 /// A struct.
+#[inline(always)]
 fn struct_of(item: Item<'_>) -> View<'_>
     requires { IsTrue (is_structure (item_kind item)) }
     ensures { view_data result ≡ item_data item.entry }
@@ -110,6 +117,7 @@ fn struct_of(item: Item<'_>) -> View<'_>
 }
 
 /// A dictionary.
+#[inline(always)]
 fn dictionary_of(item: Item<'_>) -> View<'_>
     requires { IsTrue (is_dictionary (item_kind item)) }
     ensures { view_data result ≡ item_data item.entry }
@@ -121,6 +129,7 @@ fn dictionary_of(item: Item<'_>) -> View<'_>
 }
 
 /// A variant.
+#[inline(always)]
 fn variant_of(item: Item<'_>) -> View<'_>
     requires { item_kind item ≡ variant }
     ensures { view_data result ≡ item_data item.entry }
@@ -132,6 +141,7 @@ fn variant_of(item: Item<'_>) -> View<'_>
 }
 
 /// A byte.
+#[inline(always)]
 fn byte_of(item: Item<'_>) -> View<'_>
     requires { item_kind item ≡ number byte }
     ensures { view_data result ≡ item_data item.entry }
@@ -143,6 +153,7 @@ fn byte_of(item: Item<'_>) -> View<'_>
 }
 
 /// A boolean.
+#[inline(always)]
 fn bool_of(item: Item<'_>) -> View<'_>
     requires { item_kind item ≡ boolean }
     ensures { view_data result ≡ item_data item.entry }
@@ -154,6 +165,7 @@ fn bool_of(item: Item<'_>) -> View<'_>
 }
 
 /// A signed number of 16 bits.
+#[inline(always)]
 fn i16_of(item: Item<'_>) -> View<'_>
     requires { item_kind item ≡ number i16 }
     ensures { view_data result ≡ item_data item.entry }
@@ -165,6 +177,7 @@ fn i16_of(item: Item<'_>) -> View<'_>
 }
 
 /// A number of 16 bits.
+#[inline(always)]
 fn u16_of(item: Item<'_>) -> View<'_>
     requires { item_kind item ≡ number u16 }
     ensures { view_data result ≡ item_data item.entry }
@@ -176,6 +189,7 @@ fn u16_of(item: Item<'_>) -> View<'_>
 }
 
 /// A signed number of 32 bits.
+#[inline(always)]
 fn i32_of(item: Item<'_>) -> View<'_>
     requires { item_kind item ≡ number i32 }
     ensures { view_data result ≡ item_data item.entry }
@@ -187,6 +201,7 @@ fn i32_of(item: Item<'_>) -> View<'_>
 }
 
 /// A number of 32 bits.
+#[inline(always)]
 fn u32_of(item: Item<'_>) -> View<'_>
     requires { item_kind item ≡ number u32 }
     ensures { view_data result ≡ item_data item.entry }
@@ -198,6 +213,7 @@ fn u32_of(item: Item<'_>) -> View<'_>
 }
 
 /// A signed number of 64 bits.
+#[inline(always)]
 fn i64_of(item: Item<'_>) -> View<'_>
     requires { item_kind item ≡ number i64 }
     ensures { view_data result ≡ item_data item.entry }
@@ -209,6 +225,7 @@ fn i64_of(item: Item<'_>) -> View<'_>
 }
 
 /// A number of 64 bits.
+#[inline(always)]
 fn u64_of(item: Item<'_>) -> View<'_>
     requires { item_kind item ≡ number u64 }
     ensures { view_data result ≡ item_data item.entry }
@@ -220,6 +237,7 @@ fn u64_of(item: Item<'_>) -> View<'_>
 }
 
 /// A double.
+#[inline(always)]
 fn double_of(item: Item<'_>) -> View<'_>
     requires { item_kind item ≡ number double }
     ensures { view_data result ≡ item_data item.entry }

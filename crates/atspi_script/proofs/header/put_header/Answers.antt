@@ -13,13 +13,13 @@ returns-clause-ok c =
     let m = c.args.message.now in
     let out = c.args.out.now in
     let letter = order_letter m.order in
-    let front = front_written letter (type_word m.kind) (decimal m.flags) (decimal m.serial) out (out ++ type_word m.kind) c.put_front.new.out c.put_decimal.new.out c.push.new.self c.put_decimal-2.new.out refl (c.in_ok-put_front.ensures.ok ∙ sym (append_assoc out (type_word m.kind) (32 ∷ letter ∷ 32 ∷ []))) c.in_ok-put_decimal.ensures.ok c.in_ok-push.ensures.ok c.in_ok-put_decimal-2.ensures.ok in
-    header_written letter (type_word m.kind) (decimal m.flags) (decimal m.serial) (flat_map behind_space (fields_words (envelope_at m))) out c.put_decimal-2.new.out c.put_fields.new.out front c.in_ok-put_fields.ensures.ok
+    let front = front_written letter (type_word m.kind) (decimal m.flags) (decimal m.serial) out (out ++ type_word m.kind) c.put_front.new.out c.put_number.new.out c.push.new.self c.put_number-2.new.out refl (c.in_ok-put_front.ensures.ok ∙ sym (append_assoc out (type_word m.kind) (32 ∷ letter ∷ 32 ∷ []))) c.in_ok-put_number.ensures.ok c.in_ok-push.ensures.ok c.in_ok-put_number-2.ensures.ok in
+    header_written letter (type_word m.kind) (decimal m.flags) (decimal m.serial) (flat_map behind_space (fields_words (envelope_at m))) out c.put_number-2.new.out c.put_fields.new.out front c.in_ok-put_fields.ensures.ok
 
 pub returns-in_err-put_fields-clause-front : goal.returns-in_err-put_fields-clause-front
 returns-in_err-put_fields-clause-front c =
     let m = c.args.message.now in
     let out = c.args.out.now in
     let letter = order_letter m.order in
-    let front = front_written letter (type_word m.kind) (decimal m.flags) (decimal m.serial) out (out ++ type_word m.kind) c.put_front.new.out c.put_decimal.new.out c.push.new.self c.put_decimal-2.new.out refl (c.in_ok-put_front.ensures.ok ∙ sym (append_assoc out (type_word m.kind) (32 ∷ letter ∷ 32 ∷ []))) c.in_ok-put_decimal.ensures.ok c.in_ok-push.ensures.ok c.in_ok-put_decimal-2.ensures.ok in
-    front_kept out (type_word m.kind ++ 32 ∷ letter ∷ 32 ∷ (decimal m.flags ++ 32 ∷ decimal m.serial)) c.put_decimal-2.new.out c.put_fields.new.out front c.put_fields.ensures.front
+    let front = front_written letter (type_word m.kind) (decimal m.flags) (decimal m.serial) out (out ++ type_word m.kind) c.put_front.new.out c.put_number.new.out c.push.new.self c.put_number-2.new.out refl (c.in_ok-put_front.ensures.ok ∙ sym (append_assoc out (type_word m.kind) (32 ∷ letter ∷ 32 ∷ []))) c.in_ok-put_number.ensures.ok c.in_ok-push.ensures.ok c.in_ok-put_number-2.ensures.ok in
+    front_kept out (type_word m.kind ++ 32 ∷ letter ∷ 32 ∷ (decimal m.flags ++ 32 ∷ decimal m.serial)) c.put_number-2.new.out c.put_fields.new.out front c.put_fields.ensures.front
