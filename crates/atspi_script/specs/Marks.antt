@@ -1,7 +1,7 @@
--- The marks of bytes that stand between quotes as they are.
-use Rattle.std.specs.Prelude.{ℕ, if◌then◌else◌}
+-- The bytes that stand between quotes as they are.
+use Rattle.std.specs.Prelude.{ℕ, Bool, not, ◌||◌}
 use Rattle.atspi_base.specs.Quoted.{is_marked, is_control}
 
--- 1 of a byte that is neither marked nor a control character
-abbrev pub plain_mark : ℕ → ℕ
-plain_mark b = if is_marked b then 0 else if is_control b then 0 else 1
+-- neither marked nor a control character
+abbrev pub stands : ℕ → Bool
+stands b = not (is_marked b || is_control b)

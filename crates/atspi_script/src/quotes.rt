@@ -1,10 +1,10 @@
 //! Bytes in quotes, moved whole where none of them is escaped.
 
-ghost use Rattle.std.specs.Prelude.{◌≡◌, [], ◌∷◌, ◌++◌, IsTrue, OnOk, length, take};
-ghost use Rattle.std.specs.List.{flat_map};
+ghost use Rattle.std.specs.Prelude.{◌≡◌, ◌+◌, ◌≤◌, [], ◌∷◌, ◌++◌, IsTrue, OnOk, length, take};
+ghost use Rattle.std.specs.List.{flat_map, list_all};
 ghost use Rattle.atspi_base.specs.Quoted.{escaped, in_quotes};
 ghost use Rattle.atspi_valid_names.specs.Names.{IsPath, is_path};
-ghost use Rattle.atspi_script.specs.Marks.{plain_mark};
+ghost use Rattle.atspi_script.specs.Marks.{stands};
 
 use atspi_base::{Bytes, NoMemory};
 
@@ -15,50 +15,18 @@ pub struct PathText<'a> {
     ghost rule: { IsTrue (is_path text.now) },
 }
 
-/// So many bytes are looked at at once.
-const BLOCK: usize = 16;
-
-/// For each byte 1 where it stands between quotes as it is.
-static PLAIN: [u8; 256] = [
-    0, 0, 0, 0, 0, 0, 0, 0, 0, 0, 0, 0, 0, 0, 0, 0, 0, 0, 0, 0, 0, 0, 0, 0, 0, 0, 0, 0, 0, 0, 0, 0,
-    1, 1, 0, 1, 1, 1, 1, 1, 1, 1, 1, 1, 1, 1, 1, 1, 1, 1, 1, 1, 1, 1, 1, 1, 1, 1, 1, 1, 1, 1, 1, 1,
-    1, 1, 1, 1, 1, 1, 1, 1, 1, 1, 1, 1, 1, 1, 1, 1, 1, 1, 1, 1, 1, 1, 1, 1, 1, 1, 1, 1, 0, 1, 1, 1,
-    1, 1, 1, 1, 1, 1, 1, 1, 1, 1, 1, 1, 1, 1, 1, 1, 1, 1, 1, 1, 1, 1, 1, 1, 1, 1, 1, 1, 1, 1, 1, 0,
-    1, 1, 1, 1, 1, 1, 1, 1, 1, 1, 1, 1, 1, 1, 1, 1, 1, 1, 1, 1, 1, 1, 1, 1, 1, 1, 1, 1, 1, 1, 1, 1,
-    1, 1, 1, 1, 1, 1, 1, 1, 1, 1, 1, 1, 1, 1, 1, 1, 1, 1, 1, 1, 1, 1, 1, 1, 1, 1, 1, 1, 1, 1, 1, 1,
-    1, 1, 1, 1, 1, 1, 1, 1, 1, 1, 1, 1, 1, 1, 1, 1, 1, 1, 1, 1, 1, 1, 1, 1, 1, 1, 1, 1, 1, 1, 1, 1,
-    1, 1, 1, 1, 1, 1, 1, 1, 1, 1, 1, 1, 1, 1, 1, 1, 1, 1, 1, 1, 1, 1, 1, 1, 1, 1, 1, 1, 1, 1, 1, 1,
-];
-
-/// The mark of a byte in the table.
-#[inline(always)]
-fn mark_of(byte: u8) -> u8
-    ensures { result ≡ plain_mark byte }
-{
-    PLAIN[byte as usize]
-}
-
-/// Whether a byte stands between quotes as it is, by the table.
-#[tactic(auto, using(crate::proofs::QuoteLemmas::plain_stands))]
-#[inline(always)]
-fn is_marked_plain(byte: u8) -> bool
-    ensures { IsTrue result → escaped byte ≡ byte ∷ [] }
-{
-    mark_of(byte) == 1
-}
-
-/// The same without a table, so that the machine can look at many bytes at once.
+/// Whether a byte stands between quotes as it is: without a branch, so that the machine can look at many bytes at once.
 #[inline(always)]
 fn is_plain(byte: u8) -> bool
-    ensures { IsTrue result → escaped byte ≡ byte ∷ [] }
+    ensures { result ≡ stands byte }
 {
     (32 <= byte) & (byte != 127) & (byte != b'"') & (byte != b'\\')
 }
 
 /// Whether all of the bytes stand between quotes as they are. None of them ends the loop, for the same reason.
 #[inline(always)]
-fn blocks_are_plain(bytes: &[u8]) -> bool
-    ensures { IsTrue result → flat_map escaped bytes.now ≡ bytes.now }
+fn piece_is_plain(bytes: &[u8]) -> bool
+    ensures { result ≡ list_all stands bytes.now }
 {
     let mut plain = true;
     for i in 0..bytes.len() {
@@ -67,29 +35,64 @@ fn blocks_are_plain(bytes: &[u8]) -> bool
     plain
 }
 
-/// The same of fewer bytes than a block has.
+/// The same of bytes that two pieces of `size` bytes cover: some may be looked at twice.
 #[inline(always)]
-fn few_are_plain(bytes: &[u8]) -> bool
-    ensures { IsTrue result → flat_map escaped bytes.now ≡ bytes.now }
+fn pair_is_plain(size: usize, bytes: &[u8]) -> bool
+    requires { (size ≤ length bytes.now) × (length bytes.now ≤ size + size) × (size ≤ 16) }
+    ensures { result ≡ list_all stands bytes.now }
 {
-    for i in 0..bytes.len() {
-        if !is_marked_plain(bytes[i]) {
+    let last = bytes.len() - size;
+    piece_is_plain(&bytes[..size]) && piece_is_plain(&bytes[last..])
+}
+
+/// The same of 16 bytes or more, piece by piece: some of the last 16 may be looked at twice.
+#[inline(always)]
+fn pieces_are_plain(bytes: &[u8]) -> bool
+    requires { 16 ≤ length bytes.now }
+    ensures { result ≡ list_all stands bytes.now }
+{
+    let last = bytes.len() - 16;
+    let mut at = 0;
+    while at < last {
+        if !piece_is_plain(&bytes[at..at + 16]) {
             return false;
         }
+        at += 16;
     }
-    true
+    piece_is_plain(&bytes[last..])
+}
+
+/// The same of fewer than four bytes.
+#[inline(always)]
+fn few_are_plain(bytes: &[u8]) -> bool
+    ensures { result ≡ list_all stands bytes.now }
+{
+    match bytes {
+        [] => true,
+        [a] => is_plain(*a),
+        [a, b] => is_plain(*a) & is_plain(*b),
+        [a, b, c] => is_plain(*a) & is_plain(*b) & is_plain(*c),
+        _ => piece_is_plain(bytes),
+    }
 }
 
 /// Whether all of the bytes stand between quotes as they are.
+#[tactic(auto, using(crate::proofs::QuoteLemmas::all_stand))]
 #[inline(always)]
 fn are_plain(bytes: &[u8]) -> bool
     ensures { IsTrue result → flat_map escaped bytes.now ≡ bytes.now }
 {
-    if bytes.len() < BLOCK {
-        return few_are_plain(bytes);
+    let len = bytes.len();
+    if 16 <= len {
+        return pieces_are_plain(bytes);
     }
-    let whole = bytes.len() - bytes.len() % BLOCK;
-    blocks_are_plain(&bytes[..whole]) && few_are_plain(&bytes[whole..])
+    if 8 <= len {
+        return pair_is_plain(8, bytes);
+    }
+    if 4 <= len {
+        return pair_is_plain(4, bytes);
+    }
+    few_are_plain(bytes)
 }
 
 /// Appends bytes between quotes as they are. After want of memory a front of that was appended.
