@@ -1,4 +1,5 @@
 pub mod Asking
+pub mod Appended
 pub mod Said
 pub mod Settling
 pub mod Sayables
@@ -10,3 +11,4 @@ pub mod Greetings
 pub mod Taken
 pub mod Ends
 pub mod InPlace
+pub mod TooBig

@@ -1,6 +1,7 @@
 pub mod Inner
 pub mod Sound
 pub mod Handing
+pub mod Limits
 pub mod Sayable
 pub mod Asking
 pub mod Spoken

@@ -6,6 +6,7 @@ ghost use Rattle.atspi_message.specs.Rules.{MeetsRules};
 ghost use Rattle.atspi_message.specs.Bytes.{IsMessage, written};
 ghost use Rattle.atspi_header.specs.View.{envelope_at};
 ghost use Rattle.atspi_bus_steps.specs.Handing.{queued_each};
+ghost use Rattle.atspi_bus_steps.specs.Limits.{PassesLimits};
 
 use crate::BusFault;
 use atspi_base::{Bytes, NoMemory};
@@ -25,6 +26,7 @@ pub fn write_own(alloc: Global, message: &Message) -> Result<Bytes, BusFault>
     ensures bytes { IfOk result (λ bytes. bytes ≡ written (envelope_of message.now)) }
     ensures message { IfOk result (λ bytes. IsMessage (envelope_of message.now) bytes) }
     ensures short { IfOk result (λ bytes. length bytes < 2 ^ 32) }
+    ensures big { IsErrOf result BusFault.Big → PassesLimits (envelope_of message.now) }
     ensures other { IsErrOf result BusFault.Spent → ⊥ }
 {
     let mut bytes = Bytes::from_vec(Vec::with_capacity(alloc, ROOM)?);
@@ -40,6 +42,7 @@ pub fn write_again(alloc: Global, m: &MessageRef) -> Result<Bytes, BusFault>
     requires { MeetsRules (envelope_at m.now) }
     ensures bytes { IfOk result (λ bytes. bytes ≡ written (envelope_at m.now)) }
     ensures short { IfOk result (λ bytes. length bytes < 2 ^ 32) }
+    ensures big { IsErrOf result BusFault.Big → PassesLimits (envelope_at m.now) }
     ensures other { IsErrOf result BusFault.Spent → ⊥ }
 {
     match write_from(alloc, m) {

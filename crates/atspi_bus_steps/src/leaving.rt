@@ -5,6 +5,7 @@ ghost use Rattle.atspi_message.specs.Envelope.{envelope_of};
 ghost use Rattle.atspi_routing.specs.BusState as states;
 ghost use Rattle.atspi_routing.specs.Queues as queues;
 ghost use Rattle.atspi_bus_steps.specs.Inner.{inner_of, state_of, call_of};
+ghost use Rattle.atspi_bus_steps.specs.Limits.{SaysTooMuch};
 ghost use Rattle.atspi_bus_steps.specs.Sound.{IsSound};
 ghost use Rattle.atspi_bus_steps.specs.Farewell as farewell;
 ghost use Rattle.atspi_bus_steps.specs.Farewell.{forgotten};
@@ -110,6 +111,7 @@ impl Inner {
         ensures ok { OnOk result (inner_of self.new ≡ queues.left (inner_of self.old) conn) }
         ensures sound { OnOk result (IsSound (state_of self.new)) }
         ensures spent { IsErrOf result BusFault.Spent → 4294967296 < (queues.left (inner_of self.old) conn).state.next }
+        ensures big { IsErrOf result BusFault.Big → SaysTooMuch (inner_of self.old) (queues.left (inner_of self.old) conn) }
     {
         let alloc = self.alloc;
         let mut told = Vec::new(alloc);
@@ -127,6 +129,7 @@ impl Inner {
         ensures ok { OnOk result (inner_of self.new ≡ queues.left (inner_of self.old) conn) }
         ensures sound { OnOk result (IsSound (state_of self.new)) }
         ensures spent { IsErrOf result BusFault.Spent → 4294967296 < (queues.left (inner_of self.old) conn).state.next }
+        ensures big { IsErrOf result BusFault.Big → SaysTooMuch (inner_of self.old) (queues.left (inner_of self.old) conn) }
     {
         match self.names.unique_name(conn) {
             Some(name) => {
@@ -146,6 +149,7 @@ impl Inner {
         ensures ok { OnOk result (inner_of self.new ≡ queues.closed (inner_of self.old) conn why) }
         ensures sound { OnOk result (IsSound (state_of self.new)) }
         ensures spent { IsErrOf result BusFault.Spent → 4294967296 < (queues.closed (inner_of self.old) conn why).state.next }
+        ensures big { IsErrOf result BusFault.Big → SaysTooMuch (inner_of self.old) (queues.closed (inner_of self.old) conn why) }
     {
         let after = (self.next - 1) as u32;
         self.closings.push_back(Closing { conn, why, after })?;
@@ -158,6 +162,7 @@ impl Inner {
         ensures ok { OnOk result (inner_of self.new ≡ queues.settled rounds (inner_of self.old)) }
         ensures sound { OnOk result (IsSound (state_of self.new)) }
         ensures spent { IsErrOf result BusFault.Spent → 4294967296 < (queues.settled rounds (inner_of self.old)).state.next }
+        ensures big { IsErrOf result BusFault.Big → SaysTooMuch (inner_of self.old) (queues.settled rounds (inner_of self.old)) }
     {
         for round in 0..rounds {
             match self.queues.first_due() {
@@ -175,6 +180,7 @@ impl Inner {
         ensures ok { OnOk result (inner_of self.new ≡ queues.settled rounds (inner_of self.old)) }
         ensures sound { OnOk result (IsSound (state_of self.new)) }
         ensures spent { IsErrOf result BusFault.Spent → 4294967296 < (queues.settled rounds (inner_of self.old)).state.next }
+        ensures big { IsErrOf result BusFault.Big → SaysTooMuch (inner_of self.old) (queues.settled rounds (inner_of self.old)) }
         ensures err { OnErr result (inner_of self.new ≡ queues.empty_bus 0) }
     {
         match self.close_due(rounds) {

@@ -1,6 +1,6 @@
 //! Messages that are passed on, and the calls that wait for their replies.
 
-ghost use Rattle.std.specs.Prelude.{◌≡◌, ◌≢◌, ◌+◌, ◌<◌, ◌≤◌, ◌==◌, ◌&&◌, ℕ, true, [], ◌∷◌, ◌++◌, not, map, length, None, Some, All, IfOk, OnOk, OnErr, IsErrOf, MatchBool, MatchOption, remove, vec_len, vec_capacity};
+ghost use Rattle.std.specs.Prelude.{◌≡◌, ◌≢◌, ◌⊎◌, ◌+◌, ◌<◌, ◌≤◌, ◌==◌, ◌&&◌, ℕ, true, false, [], ◌∷◌, ◌++◌, not, map, length, None, Some, All, IfOk, OnOk, OnErr, IsErrOf, MatchBool, MatchOption, remove, vec_len, vec_capacity};
 ghost use Rattle.std.specs.List.Sorted.{IsStrictlyIncreasing};
 ghost use Rattle.atspi_valid_names.specs.Names.{is_bus_name};
 ghost use Rattle.atspi_message.specs.Bytes.{written};
@@ -11,9 +11,10 @@ ghost use Rattle.atspi_names.specs.Owners.{list_of};
 ghost use Rattle.atspi_routing.specs.Routing as routing;
 ghost use Rattle.atspi_routing.specs.Routing.{calls_after, without_answered};
 ghost use Rattle.atspi_routing.specs.Queues.{stepped};
-ghost use Rattle.atspi_routing.specs.Steps.{passes_on, calls_after_all};
+ghost use Rattle.atspi_routing.specs.Steps.{passes_on, calls_after_all, is_unowned};
 ghost use Rattle.atspi_bus_steps.specs.Inner.{inner_of, state_of, call_of, parts};
 ghost use Rattle.atspi_bus_steps.specs.Handing.{forwards, queued_each, WentToAll, WentSigned, IsPassed};
+ghost use Rattle.atspi_bus_steps.specs.Limits.{PassesLimits, SaysTooMuch};
 ghost use Rattle.atspi_bus_steps.specs.Sound.{IsSound};
 
 use crate::BusFault;
@@ -214,6 +215,7 @@ impl Inner {
         requires receivers { receivers.now ≡ routing.receivers (state_of self.old) (envelope_at m.now) }
         ensures ok { OnOk result (inner_of self.new ≡ stepped (inner_of self.old) (forwards (state_of self.old) conn (envelope_at m.now))) }
         ensures spent { IsErrOf result BusFault.Spent → ⊥ }
+        ensures big { IsErrOf result BusFault.Big → PassesLimits (envelope_at m.now) }
     {
         let bytes = write_again(self.alloc, m)?;
         self.calls.reserve(receivers.len())?;
@@ -229,6 +231,9 @@ impl Inner {
         ensures ok { OnOk result (inner_of self.new ≡ stepped (inner_of self.old) (passes_on (state_of self.old) conn (envelope_at m.now))) }
         ensures sound { OnOk result (IsSound (state_of self.new)) }
         ensures spent { IsErrOf result BusFault.Spent → 4294967296 < (passes_on (state_of self.old) conn (envelope_at m.now)).state.next }
+        ensures big { IsErrOf result BusFault.Big
+            → ((is_unowned (envelope_at m.now).destination (routing.receivers (state_of self.old) (envelope_at m.now)) ≡ false) × PassesLimits (envelope_at m.now))
+            ⊎ SaysTooMuch (inner_of self.old) (stepped (inner_of self.old) (passes_on (state_of self.old) conn (envelope_at m.now))) }
     {
         let (names, rules) = (&self.names, &self.rules);
         let found = receivers(self.alloc, &self.joined, names, rules, m)?;

@@ -10,6 +10,7 @@ ghost use Rattle.atspi_routing.specs.Steps.{speaks, replies};
 ghost use Rattle.atspi_bus_answers.specs.Answered.{reply_of};
 ghost use Rattle.atspi_bus_steps.specs.Inner.{inner_of, state_of};
 ghost use Rattle.atspi_bus_steps.specs.Handing.{handed_out};
+ghost use Rattle.atspi_bus_steps.specs.Limits.{PassesLimits, SaysTooMuch};
 ghost use Rattle.atspi_bus_steps.specs.Sayable.{MaySay, IsTyped, reply_message};
 ghost use Rattle.atspi_bus_steps.specs.Sound.{IsReady};
 
@@ -37,6 +38,7 @@ impl Inner {
         requires meets { MeetsRules (envelope_of message.now) }
         ensures ok { OnOk result (inner_of self.new ≡ handed_out (inner_of self.old) (envelope_of message.now)) }
         ensures spent { IsErrOf result BusFault.Spent → ⊥ }
+        ensures big { IsErrOf result BusFault.Big → PassesLimits (envelope_of message.now) }
     {
         let bytes = write_own(self.alloc, message)?;
         let bytes = bytes.as_slice();
@@ -53,6 +55,8 @@ impl Inner {
         ensures ok { OnOk result (inner_of self.new ≡ stepped (inner_of self.old) (speaks (state_of self.old) (envelope_of message ∷ []))) }
         ensures ready { OnOk result (IsReady (state_of self.new)) }
         ensures spent { IsErrOf result BusFault.Spent → self.old.next ≡ 4294967296 }
+        ensures big { IsErrOf result BusFault.Big → SaysTooMuch (inner_of self.old)
+            (stepped (inner_of self.old) (speaks (state_of self.old) (envelope_of message ∷ []))) }
     {
         if self.next > u64::from(u32::MAX) {
             return Err(BusFault::Spent);
@@ -74,6 +78,8 @@ impl Inner {
         ensures ok { OnOk result (inner_of self.new ≡ stepped (inner_of self.old) (speaks (state_of self.old) (map envelope_of told.items))) }
         ensures ready { OnOk result (IsReady (state_of self.new)) }
         ensures spent { IsErrOf result BusFault.Spent → 4294967296 < self.old.next + length told.items }
+        ensures big { IsErrOf result BusFault.Big → SaysTooMuch (inner_of self.old)
+            (stepped (inner_of self.old) (speaks (state_of self.old) (map envelope_of told.items))) }
     {
         let mut rest = VecDeque::from(told);
         while let Some(message) = rest.pop_front() {
@@ -110,6 +116,8 @@ impl Inner {
         ensures ready { OnOk result (IsReady (state_of self.new)) }
         ensures spent { IsErrOf result BusFault.Spent → 4294967296
             < self.old.next + length (map envelope_of told.items ++ replies (state_of self.old) conn (envelope_at m.now) (reply_of reply)) }
+        ensures big { IsErrOf result BusFault.Big → SaysTooMuch (inner_of self.old) (stepped (inner_of self.old) (speaks (state_of self.old)
+            (map envelope_of told.items ++ replies (state_of self.old) conn (envelope_at m.now) (reply_of reply)))) }
     {
         let mut told = told;
         if expects_reply(m) {

@@ -1,6 +1,6 @@
 //! A bus takes a message of a connection.
 
-ghost use Rattle.std.specs.Prelude.{◌≡◌, ◌<◌, List, Option, Some, IfOk, OnOk, OnErr, IsErrOf, MatchBool};
+ghost use Rattle.std.specs.Prelude.{◌≡◌, ◌⊎◌, ◌<◌, List, Option, Some, IfOk, OnOk, OnErr, IsErrOf, MatchBool};
 ghost use Rattle.atspi_message.specs.Rules.{MeetsRules};
 ghost use Rattle.atspi_header.specs.View.{bytes_of, envelope_at};
 ghost use Rattle.atspi_match.specs.declared.condition.Condition.{Condition};
@@ -10,6 +10,7 @@ ghost use Rattle.atspi_routing.specs.Steps as steps;
 ghost use Rattle.atspi_routing.specs.Queues as queues;
 ghost use Rattle.atspi_routing.specs.Queues.{stepped};
 ghost use Rattle.atspi_bus_steps.specs.Inner.{inner_of, state_of};
+ghost use Rattle.atspi_bus_steps.specs.Limits.{IsTooBig, IsTooBigToPass, SaysTooMuch};
 ghost use Rattle.atspi_bus_steps.specs.Sound.{IsSound};
 ghost use Rattle.atspi_bus_steps.specs.Spoken.{IsRuleTaken, IsRuleNamed};
 ghost use Rattle.atspi_bus_steps.specs.Greeting.{is_bus_or_none};
@@ -103,6 +104,9 @@ impl Inner {
         ensures sound { OnOk result (IsSound (state_of self.new)) }
         ensures spent { IsErrOf result BusFault.Spent → (rule : Option (List Condition)) × IsRuleNamed (envelope_at m.now) rule
             × (4294967296 < (steps.takes_from_named (state_of self.old) conn (envelope_at m.now) rule).state.next) }
+        ensures big { IsErrOf result BusFault.Big → (rule : Option (List Condition)) × IsRuleNamed (envelope_at m.now) rule
+            × (IsTooBigToPass (state_of self.old) (envelope_at m.now)
+            ⊎ SaysTooMuch (inner_of self.old) (stepped (inner_of self.old) (steps.takes_from_named (state_of self.old) conn (envelope_at m.now) rule))) }
     {
         if is_for_bus(m) {
             if m.kind == 1 {
@@ -124,6 +128,9 @@ impl Inner {
         ensures sound { OnOk result (IsSound (state_of self.new)) }
         ensures spent { IsErrOf result BusFault.Spent → (rule : Option (List Condition)) × IsRuleNamed (envelope_at m.now) rule
             × (4294967296 < (steps.takes_from_named (state_of self.old) conn (record (envelope_at m.now) { sender = Some name.now }) rule).state.next) }
+        ensures big { IsErrOf result BusFault.Big → (rule : Option (List Condition)) × IsRuleNamed (envelope_at m.now) rule
+            × (IsTooBigToPass (state_of self.old) (record (envelope_at m.now) { sender = Some name.now })
+            ⊎ SaysTooMuch (inner_of self.old) (stepped (inner_of self.old) (steps.takes_from_named (state_of self.old) conn (record (envelope_at m.now) { sender = Some name.now }) rule))) }
     {
         self.take_named(conn, &with_sender(m, name))
     }
@@ -137,6 +144,8 @@ impl Inner {
         ensures sound { OnOk result (IsSound (state_of self.new)) }
         ensures spent { IsErrOf result BusFault.Spent → (rule : Option (List Condition)) × IsRuleTaken (state_of self.old) conn (envelope_at m.now) rule
             × (4294967296 < (steps.bus_takes (state_of self.old) conn (envelope_at m.now) rule).state.next) }
+        ensures big { IsErrOf result BusFault.Big → (rule : Option (List Condition)) × IsRuleTaken (state_of self.old) conn (envelope_at m.now) rule
+            × IsTooBig (inner_of self.old) conn (envelope_at m.now) (stepped (inner_of self.old) (steps.bus_takes (state_of self.old) conn (envelope_at m.now) rule)) }
     {
         match self.names.unique_name(conn) {
             Some(name) => {
@@ -163,6 +172,8 @@ impl Inner {
         ensures sound { OnOk result (IsSound (state_of self.new)) }
         ensures spent { IsErrOf result BusFault.Spent → (rule : Option (List Condition)) × IsRuleTaken (state_of self.old) conn (envelope_at m.now) rule
             × (4294967296 < (steps.bus_takes (state_of self.old) conn (envelope_at m.now) rule).state.next) }
+        ensures big { IsErrOf result BusFault.Big → (rule : Option (List Condition)) × IsRuleTaken (state_of self.old) conn (envelope_at m.now) rule
+            × IsTooBig (inner_of self.old) conn (envelope_at m.now) (stepped (inner_of self.old) (steps.bus_takes (state_of self.old) conn (envelope_at m.now) rule)) }
         ensures err { OnErr result (inner_of self.new ≡ queues.empty_bus 0) }
     {
         match self.make_step(conn, m) {
@@ -205,6 +216,8 @@ impl Inner {
         ensures sound { OnOk result (IsSound (state_of self.new)) }
         ensures spent { IsErrOf result BusFault.Spent → (rule : Option (List Condition)) × IsRuleTaken (state_of self.old) conn (envelope_at m.now) rule
             × (4294967296 < (queues.takes (inner_of self.old) conn (envelope_at m.now) rule).state.next) }
+        ensures big { IsErrOf result BusFault.Big → (rule : Option (List Condition)) × IsRuleTaken (state_of self.old) conn (envelope_at m.now) rule
+            × IsTooBig (inner_of self.old) conn (envelope_at m.now) (queues.takes (inner_of self.old) conn (envelope_at m.now) rule) }
         ensures err { OnErr result (inner_of self.new ≡ queues.empty_bus 0) }
     {
         let rounds = self.joined.len();
@@ -220,6 +233,7 @@ impl Inner {
         ensures ok { OnOk result (inner_of self.new ≡ queues.leaves (inner_of self.old) conn) }
         ensures sound { OnOk result (IsSound (state_of self.new)) }
         ensures spent { IsErrOf result BusFault.Spent → 4294967296 < (queues.leaves (inner_of self.old) conn).state.next }
+        ensures big { IsErrOf result BusFault.Big → SaysTooMuch (inner_of self.old) (queues.leaves (inner_of self.old) conn) }
         ensures err { OnErr result (inner_of self.new ≡ queues.empty_bus 0) }
     {
         let rounds = self.joined.len();
