@@ -1,5 +1,5 @@
 -- What a step told apart, behind what was told before it.
-use Rattle.std.proofs.Common.{◌≡◌, ◌⊎◌, ℕ, List, [], ◌++◌, Err, sym, ap, ◌∙◌, subst}
+use Rattle.std.proofs.Common.{◌≡◌, ◌⊎◌, ℕ, Bool, false, List, [], ◌++◌, Err, sym, ap, ◌∙◌, subst}
 use Rattle.std.specs.Prelude.{Result, Ok, OnOk}
 use Rattle.std.proofs.lemmas.List.{map-append}
 use Rattle.atspi_routing.specs.Queues.{Bus}
@@ -15,23 +15,18 @@ use Rattle.atspi_carrying.specs.GivenUp.{UnlessGivenUp}
 use Rattle.atspi_carrying.specs.Halted.{does_next, HaveNames, IsLostBy, IsLostOn, IsPartDone, IsSpentBy, IsSpentOn}
 use Rattle.atspi_carrying.specs.Linked.{IsLinked}
 use Rattle.atspi_carrying.specs.Segments.{IsWorked}
-use Rattle.atspi_carrying.specs.declared.fault.CarryFault.{CarryFault}
-use Rattle.atspi_carrying.specs.declared.fault.CarryFault.TheVariants.{Spent, RegistryLost}
 
--- a step that was told is the step that was done
-module _ {A H : Type 0} where
-  pub told_ok : {P Q : Type 0} → (r d : Result A CarryFault) → UnlessGivenUp r ((r ≡ d) × H) → OnOk d P → (P → H → Q) → OnOk r Q
-  told_ok {P} (Ok x) d told ok f = f (subst (λ (y : Result A CarryFault). OnOk y P) (sym told.0) ok) told.1
+-- a step that was told is the step that was done, and so is a line
+module _ {A F H : Type 0} (is_given_up : F → Bool) where
+  pub told_ok : {P Q : Type 0} → (r d : Result A F) → UnlessGivenUp is_given_up r ((r ≡ d) × H) → OnOk d P → (P → H → Q) → OnOk r Q
+  told_ok {P} (Ok x) d told ok f = f (subst (λ (y : Result A F). OnOk y P) (sym told.0) ok) told.1
   told_ok (Err e) d told ok f = tt
 
-  pub told_lost : (r d : Result A CarryFault) → UnlessGivenUp r ((r ≡ d) × H) → r ≡ Err RegistryLost → (d ≡ Err RegistryLost) × H
-  told_lost r d told is = let at = subst (λ (y : Result A CarryFault). UnlessGivenUp y ((y ≡ d) × H)) is told in (sym at.0, at.1)
-
-  pub told_spent : (r d : Result A CarryFault) → UnlessGivenUp r ((r ≡ d) × H) → r ≡ Err Spent → (d ≡ Err Spent) × H
-  told_spent r d told is = let at = subst (λ (y : Result A CarryFault). UnlessGivenUp y ((y ≡ d) × H)) is told in (sym at.0, at.1)
+  pub told_err : (r d : Result A F) (e : F) → is_given_up e ≡ false → UnlessGivenUp is_given_up r ((r ≡ d) × H) → r ≡ Err e → (d ≡ Err e) × H
+  told_err r d e kept told is = let at = subst (λ (y : Result A F). UnlessGivenUp is_given_up y ((y ≡ d) × H)) is told kept in (sym at.0, at.1)
 
 -- entries that were told apart stand behind those before
-entries_on : (old apart told new : List Event) (es : List Entry) → apart ≡ [] → new ≡ old ++ told → entries_of told ≡ entries_of apart ++ es → entries_of new ≡ entries_of old ++ es
+pub entries_on : (old apart told new : List Event) (es : List Entry) → apart ≡ [] → new ≡ old ++ told → entries_of told ≡ entries_of apart ++ es → entries_of new ≡ entries_of old ++ es
 entries_on old apart told new es none behind wrote =
     ap entries_of behind ∙ map-append entry_of old told ∙ ap (λ l. entries_of old ++ l) (wrote ∙ ap (λ (a : List Event). entries_of a ++ es) none)
 

@@ -1,5 +1,5 @@
 -- A carrier that is given up, for want of memory or for what no script comes to.
-use Rattle.std.specs.Prelude.{◌≡◌, ℕ, List, [], ◌++◌, Result, Err}
+use Rattle.std.specs.Prelude.{◌≡◌, ℕ, Bool, true, false, List, [], ◌++◌, Result, Ok, Err}
 use Rattle.atspi_routing.specs.Queues.{Bus, empty_bus}
 use Rattle.atspi_bus_steps.specs.declared.inner.Inner.{Inner}
 use Rattle.atspi_events.specs.declared.event.Event.{Event}
@@ -15,16 +15,20 @@ pub record IsGivenUp (bus : Bus) (posts : List Post) (given : List (List ℕ)) (
   pub told : new ≡ old
 
 -- so it is after want of memory, and for what no script comes to
-abbrev pub OnGivingUp : {A : Type 0} → Result A CarryFault → Type 0 → Type 0
-OnGivingUp (Err NoMemory) holds = holds
-OnGivingUp (Err Unsendable) holds = holds
-OnGivingUp result holds = Unit {0}
+abbrev pub gives_up : CarryFault → Bool
+gives_up NoMemory = true
+gives_up Unsendable = true
+gives_up fault = false
 
--- and else not
-abbrev pub UnlessGivenUp : {A : Type 0} → Result A CarryFault → Type 0 → Type 0
-UnlessGivenUp (Err NoMemory) holds = Unit {0}
-UnlessGivenUp (Err Unsendable) holds = Unit {0}
-UnlessGivenUp result holds = holds
+-- what holds behind a fault for which all is given up; which these are, a step and a line say each of their own
+abbrev pub OnGivingUp : {A F : Type 0} → (F → Bool) → Result A F → Type 0 → Type 0
+OnGivingUp is_given_up (Ok done) holds = Unit {0}
+OnGivingUp is_given_up (Err fault) holds = is_given_up fault ≡ true → holds
+
+-- and what holds in all other cases
+abbrev pub UnlessGivenUp : {A F : Type 0} → (F → Bool) → Result A F → Type 0 → Type 0
+UnlessGivenUp is_given_up (Ok done) holds = holds
+UnlessGivenUp is_given_up (Err fault) holds = is_given_up fault ≡ false → holds
 
 -- what was told apart stands behind what was told before, and all else is as it was
 pub record IsRejoined (bus bus' : Inner) (posts posts' : List Post) (given given' : List (List ℕ)) (before apart new : List Event) : Type 0 where

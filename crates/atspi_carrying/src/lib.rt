@@ -16,5 +16,5 @@ mod waiting;
 pub use carrier::Carrier;
 pub use fault::CarryFault;
 pub use places::{named_app, party_named};
-pub use sending::{note, send};
+pub use sending::{apart, note, put_behind, send};
 pub use waiting::Turn;

@@ -9,6 +9,8 @@ use atspi_events::Event;
 use atspi_lines::Party;
 use atspi_message::Message;
 use atspi_posts::{Post, SendFault};
+use std::alloc::Global;
+use std::mem;
 
 /// An event is told behind the others. After want of memory the trace is as before.
 pub fn note(trace: &mut Vec<Event>, event: Event) -> Result<(), NoMemory>
@@ -16,6 +18,24 @@ pub fn note(trace: &mut Vec<Event>, event: Event) -> Result<(), NoMemory>
     ensures err { OnErr result (trace.new.items ≡ trace.old.items) }
 {
     trace.push(event)?;
+    Ok(())
+}
+
+/// Takes out what was told, so that what is told next is told apart.
+pub fn apart(alloc: Global, trace: &mut Vec<Event>) -> Vec<Event>
+    ensures before { result.items ≡ trace.old.items }
+    ensures none { trace.new.items ≡ [] }
+{
+    mem::replace(trace, Vec::new(alloc))
+}
+
+/// What was told apart is put behind what was told before. After want of memory nothing of it is told.
+pub fn put_behind(trace: &mut Vec<Event>, before: Vec<Event>) -> Result<(), NoMemory>
+    ensures told { OnOk result (trace.new.items ≡ before.items ++ trace.old.items) }
+    ensures err { OnErr result (trace.new.items ≡ before.items) }
+{
+    let mut told = mem::replace(trace, before);
+    trace.append(&mut told)?;
     Ok(())
 }
 

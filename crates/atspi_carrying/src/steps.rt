@@ -1,6 +1,6 @@
 //! What is carried in steps that note several events: each is told whole, or the carrier is given up.
 
-ghost use Rattle.std.specs.Prelude.{◌≡◌, [], ◌∷◌, List, OnOk, IsErrOf};
+ghost use Rattle.std.specs.Prelude.{◌≡◌, ◌∷◌, List, OnOk, IsErrOf};
 ghost use Rattle.atspi_bus_steps.specs.Inner.{inner_of, state_of};
 ghost use Rattle.atspi_bus_steps.specs.Sound.{IsSound};
 ghost use Rattle.atspi_trace.specs.World.{here, stopped, End, Said, World};
@@ -9,24 +9,15 @@ ghost use Rattle.atspi_trace.specs.Causes.{does, routes, unjoins};
 ghost use Rattle.atspi_trace.specs.Work.{moving_up};
 ghost use Rattle.atspi_carrying.specs.Beginning.{with_one_taken, IsGreeted, IsGreeting};
 ghost use Rattle.atspi_carrying.specs.Carried.{IsCarried, IsDone};
-ghost use Rattle.atspi_carrying.specs.GivenUp.{IsGivenUp, IsRejoined, OnGivingUp, UnlessGivenUp};
+ghost use Rattle.atspi_carrying.specs.GivenUp.{gives_up, IsGivenUp, IsRejoined, OnGivingUp, UnlessGivenUp};
 ghost use Rattle.atspi_carrying.specs.Halted.{HasRegistryFirst, IsLostBy, IsLostOn, IsSpentBy, IsSpentOn};
 ghost use Rattle.atspi_carrying.specs.Linked.{IsLinked};
 ghost use Rattle.atspi_carrying.specs.Moving.{MovesAll, MovesAt};
 
 use crate::carrier::Carrier;
 use crate::fault::CarryFault;
+use crate::sending::{apart, put_behind};
 use atspi_events::Event;
-use std::alloc::Global;
-use std::mem;
-
-/// Takes out what was told, so that what is told next is told apart.
-fn apart(alloc: Global, trace: &mut Vec<Event>) -> Vec<Event>
-    ensures before { result.items ≡ trace.old.items }
-    ensures none { trace.new.items ≡ [] }
-{
-    mem::replace(trace, Vec::new(alloc))
-}
 
 impl Carrier {
     /// The carrier is given up: its bus has quota 0 and nobody has joined it, nothing lies at an end, and what was told stays.
@@ -39,21 +30,22 @@ impl Carrier {
     /// What a step told apart is put behind what was told before. Where the step failed for want of memory or for what no script comes to, and where
     /// memory is wanting here, the carrier is given up, and of the step nothing is told.
     fn rejoin(&mut self, before: Vec<Event>, done: Result<(), CarryFault>) -> Result<(), CarryFault>
-        ensures told { UnlessGivenUp result ((result ≡ done) × IsRejoined self.old.bus self.new.bus self.old.posts.items self.new.posts.items self.old.at_end.items self.new.at_end.items
+        ensures told { UnlessGivenUp gives_up result ((result ≡ done) × IsRejoined self.old.bus self.new.bus self.old.posts.items self.new.posts.items self.old.at_end.items self.new.at_end.items
             before.items self.old.trace.items self.new.trace.items) }
-        ensures err { OnGivingUp result (IsGivenUp (inner_of self.new.bus) self.new.posts.items self.new.at_end.items before.items self.new.trace.items) }
+        ensures err { OnGivingUp gives_up result (IsGivenUp (inner_of self.new.bus) self.new.posts.items self.new.at_end.items before.items self.new.trace.items) }
     {
-        let mut told = mem::replace(&mut self.trace, before);
         match done {
             Err(CarryFault::NoMemory) => {
+                self.trace = before;
                 self.give_up();
                 Err(CarryFault::NoMemory)
             }
             Err(CarryFault::Unsendable) => {
+                self.trace = before;
                 self.give_up();
                 Err(CarryFault::Unsendable)
             }
-            _ => match self.trace.append(&mut told) {
+            _ => match put_behind(&mut self.trace, before) {
                 Ok(()) => done,
                 Err(_) => {
                     self.give_up();
@@ -79,7 +71,7 @@ impl Carrier {
             → HasRegistryFirst w.ends → end_at w.ends conn ≡ Some e → e.up ≡ said ∷ rest → IsLostBy (does w (routes conn)) self.new.posts.items self.old.trace.items self.new.trace.items }
         ensures spent { IsErrOf result CarryFault.Spent → (w : World) (e : End) (said : Said) (rest : List Said) → IsCarried w (inner_of self.old.bus) self.old.posts.items
             → end_at w.ends conn ≡ Some e → e.up ≡ said ∷ rest → IsSpentBy w (does w (routes conn)) self.new.posts.items self.old.trace.items self.new.trace.items }
-        ensures err { OnGivingUp result (IsGivenUp (inner_of self.new.bus) self.new.posts.items self.new.at_end.items self.old.trace.items self.new.trace.items) }
+        ensures err { OnGivingUp gives_up result (IsGivenUp (inner_of self.new.bus) self.new.posts.items self.new.at_end.items self.old.trace.items self.new.trace.items) }
     {
         let before = apart(self.alloc, &mut self.trace);
         let done = self.route_apart(conn);
@@ -99,7 +91,7 @@ impl Carrier {
             → IsLostBy (does w (unjoins conn)) self.new.posts.items self.old.trace.items self.new.trace.items }
         ensures spent { IsErrOf result CarryFault.Spent → (w : World) → IsCarried w (inner_of self.old.bus) self.old.posts.items
             → IsSpentBy w (does w (unjoins conn)) self.new.posts.items self.old.trace.items self.new.trace.items }
-        ensures err { OnGivingUp result (IsGivenUp (inner_of self.new.bus) self.new.posts.items self.new.at_end.items self.old.trace.items self.new.trace.items) }
+        ensures err { OnGivingUp gives_up result (IsGivenUp (inner_of self.new.bus) self.new.posts.items self.new.at_end.items self.old.trace.items self.new.trace.items) }
     {
         let before = apart(self.alloc, &mut self.trace);
         let done = self.part_apart(conn);
@@ -115,7 +107,7 @@ impl Carrier {
             → IsGreeted w conn (inner_of self.new.bus) self.new.posts.items self.old.trace.items self.new.trace.items) }
         ensures linked { OnOk result ((w : World) → IsCarried w (inner_of self.old.bus) self.old.posts.items → IsLinked w self.old.at_end.items → IsGreeting w conn
             → IsLinked (with_one_taken (with_one_taken (with_one_taken w conn) conn) conn) self.new.at_end.items) }
-        ensures err { OnGivingUp result (IsGivenUp (inner_of self.new.bus) self.new.posts.items self.new.at_end.items self.old.trace.items self.new.trace.items) }
+        ensures err { OnGivingUp gives_up result (IsGivenUp (inner_of self.new.bus) self.new.posts.items self.new.at_end.items self.old.trace.items self.new.trace.items) }
     {
         let before = apart(self.alloc, &mut self.trace);
         let done = self.greet_apart(conn);
@@ -132,7 +124,7 @@ impl Carrier {
             → HasRegistryFirst w.ends → MovesAt self.old.posts.items conn → IsLostOn w (moving_up conn most) self.new.posts.items self.old.trace.items self.new.trace.items }
         ensures spent { IsErrOf result CarryFault.Spent → (w : World) → IsCarried w (inner_of self.old.bus) self.old.posts.items → IsLinked w self.old.at_end.items
             → MovesAt self.old.posts.items conn → IsSpentOn w (moving_up conn most) self.new.posts.items self.old.trace.items self.new.trace.items }
-        ensures err { OnGivingUp result (IsGivenUp (inner_of self.new.bus) self.new.posts.items self.new.at_end.items self.old.trace.items self.new.trace.items) }
+        ensures err { OnGivingUp gives_up result (IsGivenUp (inner_of self.new.bus) self.new.posts.items self.new.at_end.items self.old.trace.items self.new.trace.items) }
     {
         let before = apart(self.alloc, &mut self.trace);
         let done = self.move_up_apart(conn, most);

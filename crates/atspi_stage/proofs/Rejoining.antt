@@ -1,50 +1,36 @@
 -- What a line told apart, behind what was told before it.
-use Rattle.std.proofs.Common.{◌≡◌, ◌⊎◌, inl, inr, List, [], ◌++◌, Err, sym, ap, ◌∙◌, subst, append-nil}
-use Rattle.std.specs.Prelude.{Result, Ok, OnOk}
-use Rattle.std.proofs.lemmas.List.{map-append}
+use Rattle.std.proofs.Common.{◌≡◌, ◌⊎◌, inl, inr, List, [], ◌++◌, Err, refl, sym, ap, ◌∙◌, subst, append-nil}
+use Rattle.std.specs.Prelude.{Result, Ok}
 use Rattle.atspi_lines.specs.declared.line.Line.{Line}
 use Rattle.atspi_events.specs.declared.event.Event.{Event}
-use Rattle.atspi_trace.specs.Entry.{Entry, entry_of, entries_of}
 use Rattle.atspi_trace.specs.World.{World}
 use Rattle.atspi_trace.specs.Work as work
 use Rattle.atspi_trace.specs.Work.{Work, work_of}
 use Rattle.atspi_play.specs.Playing.{Playing}
+use Rattle.atspi_carrying.specs.GivenUp.{UnlessGivenUp}
+use Rattle.atspi_carrying.proofs.Rejoining.{entries_on}
 use Rattle.atspi_stage.specs.Halts.{IsLineLost, IsLineSpent, LineLost, LineSpent, ManyTurns, WorkLost, WorkSpent}
 use Rattle.atspi_stage.specs.Lines.{IsSegment, LineDone}
 use Rattle.atspi_stage.specs.Refusals.{Refuses}
-use Rattle.atspi_stage.specs.Stage.{UnlessGivenUp, UnlessHalted}
+use Rattle.atspi_stage.specs.Stage.{gives_line_up, UnlessHalted}
 use Rattle.atspi_stage.specs.Worlds.{Staged, IsPlaying, IsWorld}
 use Rattle.atspi_stage.specs.declared.fault.ActFault.{ActFault}
 use Rattle.atspi_stage.specs.declared.fault.ActFault.TheVariants.{Refused, Spent, RegistryLost, Unsendable, NoMemory}
 use Rattle.atspi_stage.specs.declared.fault.Refusal.{Refusal}
 
 -- a line that was told is the line that was done
-module _ {A H : Type 0} where
-  pub told_ok : {P Q : Type 0} → (r d : Result A ActFault) → UnlessGivenUp r ((r ≡ d) × H) → OnOk d P → (P → H → Q) → OnOk r Q
-  told_ok {P} (Ok x) d told ok f = f (subst (λ (y : Result A ActFault). OnOk y P) (sym told.0) ok) told.1
-  told_ok (Err e) d told ok f = tt
-
-  pub told_lost : (r d : Result A ActFault) → UnlessGivenUp r ((r ≡ d) × H) → r ≡ Err RegistryLost → (d ≡ Err RegistryLost) × H
-  told_lost r d told is = let at = subst (λ (y : Result A ActFault). UnlessGivenUp y ((y ≡ d) × H)) is told in (sym at.0, at.1)
-
-  pub told_spent : (r d : Result A ActFault) → UnlessGivenUp r ((r ≡ d) × H) → r ≡ Err Spent → (d ≡ Err Spent) × H
-  told_spent r d told is = let at = subst (λ (y : Result A ActFault). UnlessGivenUp y ((y ≡ d) × H)) is told in (sym at.0, at.1)
-
-  pub told_refused : (r d : Result A ActFault) (why : Refusal) → UnlessGivenUp r ((r ≡ d) × H) → r ≡ Err (Refused why) → (d ≡ Err (Refused why)) × H
-  told_refused r d why told is = let at = subst (λ (y : Result A ActFault). UnlessGivenUp y ((y ≡ d) × H)) is told in (sym at.0, at.1)
-
 module _ {A : Type 0} where
-  pub told_halted : (H P : Type 0) (r d : Result A ActFault) → UnlessGivenUp r ((r ≡ d) × H) → UnlessHalted d P → UnlessHalted r P
+  pub told_halted : (H P : Type 0) (r d : Result A ActFault) → UnlessGivenUp gives_line_up r ((r ≡ d) × H) → UnlessHalted d P → UnlessHalted r P
   told_halted H P (Ok x) d told holds = subst (λ (y : Result A ActFault). UnlessHalted y P) (sym told.0) holds
-  told_halted H P (Err (Refused why)) d told holds = subst (λ (y : Result A ActFault). UnlessHalted y P) (sym told.0) holds
+  told_halted H P (Err (Refused why)) d told holds = subst (λ (y : Result A ActFault). UnlessHalted y P) (sym (told refl).0) holds
   told_halted H P (Err Spent) d told holds = tt
   told_halted H P (Err RegistryLost) d told holds = tt
   told_halted H P (Err Unsendable) d told holds = tt
   told_halted H P (Err NoMemory) d told holds = tt
 
-  pub told_refuses : (H : Type 0) (r d : Result A ActFault) (due : work.Refusal) → UnlessGivenUp r ((r ≡ d) × H) → Refuses d due → Refuses r due
+  pub told_refuses : (H : Type 0) (r d : Result A ActFault) (due : work.Refusal) → UnlessGivenUp gives_line_up r ((r ≡ d) × H) → Refuses d due → Refuses r due
   told_refuses H (Ok x) d due told refuses = subst (λ (y : Result A ActFault). Refuses y due) (sym told.0) refuses
-  told_refuses H (Err (Refused why)) d due told refuses = subst (λ (y : Result A ActFault). Refuses y due) (sym told.0) refuses
+  told_refuses H (Err (Refused why)) d due told refuses = subst (λ (y : Result A ActFault). Refuses y due) (sym (told refl).0) refuses
   told_refuses H (Err Spent) d due told refuses = tt
   told_refuses H (Err RegistryLost) d due told refuses = tt
   told_refuses H (Err Unsendable) d due told refuses = tt
@@ -70,11 +56,6 @@ world_on w s t is = record {
 
 pub playing_on : (p : Playing) (s : Staged) (t : List Event) → IsPlaying p s → IsPlaying p (record s { trace = t })
 playing_on p s t is = record { is = world_on p.world s t is.is; readers = is.readers }
-
--- entries that were told apart stand behind those before
-entries_on : (old apart told new : List Event) (es : List Entry) → apart ≡ [] → new ≡ old ++ told → entries_of told ≡ entries_of apart ++ es → entries_of new ≡ entries_of old ++ es
-entries_on old apart told new es none behind wrote =
-    ap entries_of behind ∙ map-append entry_of old told ∙ ap (λ l. entries_of old ++ l) (wrote ∙ ap (λ (a : List Event). entries_of a ++ es) none)
 
 -- a line that was done behind an empty trace, told behind the trace of the world that it was done in
 module _ (line : Line) (s d : Staged) (apart new : List Event) (none : apart ≡ []) (behind : new ≡ s.trace ++ d.trace) where

@@ -1,5 +1,5 @@
 -- What holds of a world at any time.
-use Rattle.std.specs.Prelude.{List, All, Result, Ok, Err}
+use Rattle.std.specs.Prelude.{Bool, true, false, List, All, Result, Ok, Err}
 use Rattle.atspi_routing.specs.BusState.{BusState}
 use Rattle.atspi_bus_steps.specs.Sound.{IsSound}
 use Rattle.atspi_stage.specs.declared.fault.ActFault.{ActFault}
@@ -20,13 +20,8 @@ UnlessHalted (Ok done) holds = holds
 UnlessHalted (Err (Refused why)) holds = holds
 UnlessHalted (Err fault) holds = Unit {0}
 
--- a line is given up for want of memory, and for what no script comes to
-abbrev pub OnGivingUp : {A : Type 0} → Result A ActFault → Type 0 → Type 0
-OnGivingUp (Err NoMemory) holds = holds
-OnGivingUp (Err Unsendable) holds = holds
-OnGivingUp result holds = Unit {0}
-
-abbrev pub UnlessGivenUp : {A : Type 0} → Result A ActFault → Type 0 → Type 0
-UnlessGivenUp (Err NoMemory) holds = Unit {0}
-UnlessGivenUp (Err Unsendable) holds = Unit {0}
-UnlessGivenUp result holds = holds
+-- a line is given up for what a step is: want of memory, and what no script comes to
+abbrev pub gives_line_up : ActFault → Bool
+gives_line_up NoMemory = true
+gives_line_up Unsendable = true
+gives_line_up fault = false

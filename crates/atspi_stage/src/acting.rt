@@ -1,6 +1,6 @@
 //! Doing the lines of a script.
 
-ghost use Rattle.std.specs.Prelude.{◌≡◌, ◌++◌, false, [], Some, length, IsErrOf, OnOk};
+ghost use Rattle.std.specs.Prelude.{◌≡◌, ◌++◌, false, Some, length, IsErrOf, OnOk};
 ghost use Rattle.atspi_forest.specs.Edits.{IsEdit};
 ghost use Rattle.atspi_reader_calls.specs.Deeds.{MayBeAsked};
 ghost use Rattle.atspi_bus_steps.specs.Inner.{inner_of, state_of};
@@ -11,35 +11,26 @@ ghost use Rattle.atspi_play.specs.Playing.{Playing};
 ghost use Rattle.atspi_lines.specs.declared.line.Party.TheVariants as parties;
 ghost use Rattle.atspi_trace.specs.Ends.{end_at, same_party};
 ghost use Rattle.atspi_trace.specs.Work as work;
+ghost use Rattle.atspi_carrying.specs.GivenUp.{OnGivingUp, UnlessGivenUp};
 ghost use Rattle.atspi_stage.specs.Halts.{LineLost, LineLostElse, LineSpent, LineSpentElse, WorkLost, WorkSpent};
 ghost use Rattle.atspi_stage.specs.Lines.{CausedAt, IsSegment, LineDone, LineDoneElse, WorkOf, WorkOfElse};
 ghost use Rattle.atspi_stage.specs.MayAct.{HasName, MayAct};
 ghost use Rattle.atspi_play.specs.Played as playing;
 ghost use Rattle.atspi_stage.specs.Refusals.{RefusedElse, RefusedFor, Refuses};
 ghost use Rattle.atspi_stage.specs.declared.fault.Refusal.{Refusal};
-ghost use Rattle.atspi_stage.specs.Stage.{IsStage, OnGivingUp, UnlessGivenUp, UnlessHalted};
+ghost use Rattle.atspi_stage.specs.Stage.{gives_line_up, IsStage, UnlessHalted};
 ghost use Rattle.atspi_stage.specs.Worlds.{staged, IsPlaying};
 
 use crate::fault::ActFault;
 use crate::places::conn_of;
 use crate::stage::Stage;
 use atspi_base::NoMemory;
-use atspi_carrying::CarryFault;
+use atspi_carrying::{CarryFault, apart, put_behind};
 use atspi_events::Event;
 use atspi_forest::Edit;
 use atspi_lines::{Deed, Line, Party};
 use atspi_posts::Standing;
 use atspi_stage_ends::{Application, Follower};
-use std::alloc::Global;
-use std::mem;
-
-/// Takes out what was told, so that what a line tells is told apart.
-fn apart(alloc: Global, trace: &mut Vec<Event>) -> Vec<Event>
-    ensures before { result.items ≡ trace.old.items }
-    ensures none { trace.new.items ≡ [] }
-{
-    mem::replace(trace, Vec::new(alloc))
-}
 
 /// What a line told apart is put behind what was told before. Where the line failed for want of memory or for what no script comes to, and where memory
 /// is wanting here, nothing of it is told.
@@ -48,14 +39,19 @@ fn rejoin(
     before: Vec<Event>,
     done: Result<(), ActFault>,
 ) -> Result<(), ActFault>
-    ensures told { UnlessGivenUp result ((result ≡ done) × (trace.new.items ≡ before.items ++ trace.old.items)) }
-    ensures err { OnGivingUp result (trace.new.items ≡ before.items) }
+    ensures told { UnlessGivenUp gives_line_up result ((result ≡ done) × (trace.new.items ≡ before.items ++ trace.old.items)) }
+    ensures err { OnGivingUp gives_line_up result (trace.new.items ≡ before.items) }
 {
-    let mut told = mem::replace(trace, before);
     match done {
-        Err(ActFault::NoMemory) => Err(ActFault::NoMemory),
-        Err(ActFault::Unsendable) => Err(ActFault::Unsendable),
-        _ => match trace.append(&mut told) {
+        Err(ActFault::NoMemory) => {
+            *trace = before;
+            Err(ActFault::NoMemory)
+        }
+        Err(ActFault::Unsendable) => {
+            *trace = before;
+            Err(ActFault::Unsendable)
+        }
+        _ => match put_behind(trace, before) {
             Ok(()) => done,
             Err(_) => Err(ActFault::NoMemory),
         },
@@ -251,7 +247,7 @@ impl<A: Application, R: Follower> Stage<A, R> {
         ensures nothing { (why : Refusal) → IsErrOf result (ActFault.Refused why) → (staged A.exporter R.follower (inner_of self.new.carrier.bus) self.new.carrier.posts.items self.new.carrier.at_end.items self.new.cast.registry self.new.cast.apps.items self.new.cast.readers.items (length self.new.kits.items) (length self.new.spares.items) self.new.carrier.trace.items) ≡ (staged A.exporter R.follower (inner_of self.old.carrier.bus) self.old.carrier.posts.items self.old.carrier.at_end.items self.old.cast.registry self.old.cast.apps.items self.old.cast.readers.items (length self.old.kits.items) (length self.old.spares.items) self.old.carrier.trace.items) }
         ensures lost { IsErrOf result ActFault.RegistryLost → LineLost line.now (staged A.exporter R.follower (inner_of self.old.carrier.bus) self.old.carrier.posts.items self.old.carrier.at_end.items self.old.cast.registry self.old.cast.apps.items self.old.cast.readers.items (length self.old.kits.items) (length self.old.spares.items) self.old.carrier.trace.items) (staged A.exporter R.follower (inner_of self.new.carrier.bus) self.new.carrier.posts.items self.new.carrier.at_end.items self.new.cast.registry self.new.cast.apps.items self.new.cast.readers.items (length self.new.kits.items) (length self.new.spares.items) self.new.carrier.trace.items) }
         ensures spent { IsErrOf result ActFault.Spent → LineSpent line.now (staged A.exporter R.follower (inner_of self.old.carrier.bus) self.old.carrier.posts.items self.old.carrier.at_end.items self.old.cast.registry self.old.cast.apps.items self.old.cast.readers.items (length self.old.kits.items) (length self.old.spares.items) self.old.carrier.trace.items) (staged A.exporter R.follower (inner_of self.new.carrier.bus) self.new.carrier.posts.items self.new.carrier.at_end.items self.new.cast.registry self.new.cast.apps.items self.new.cast.readers.items (length self.new.kits.items) (length self.new.spares.items) self.new.carrier.trace.items) }
-        ensures err { OnGivingUp result (self.new.carrier.trace.items ≡ self.old.carrier.trace.items) }
+        ensures err { OnGivingUp gives_line_up result (self.new.carrier.trace.items ≡ self.old.carrier.trace.items) }
     {
         let before = apart(self.carrier.alloc, &mut self.carrier.trace);
         let done = self.act_apart(line);

@@ -1,14 +1,16 @@
-use Rattle.std.proofs.Common.{◌++◌, sym, ap, ◌∙◌, subst}
+use Rattle.std.proofs.Common.{◌++◌, refl, sym, ap, ◌∙◌, subst}
 use Rattle.atspi_bus_steps.specs.Inner.{inner_of, state_of}
 use Rattle.atspi_bus_steps.specs.Sound.{IsSound}
 use Rattle.atspi_bus_steps.specs.declared.inner.Inner.{Inner}
 use Rattle.atspi_trace.specs.Work.{moving_up}
-use Rattle.atspi_carrying.proofs.Rejoining.{told_ok, told_lost, told_spent, worked_on, lost_at, spent_at}
+use Rattle.atspi_carrying.specs.GivenUp.{gives_up}
+use Rattle.atspi_carrying.specs.declared.fault.CarryFault.TheVariants.{Spent, RegistryLost}
+use Rattle.atspi_carrying.proofs.Rejoining.{told_ok, told_err, worked_on, lost_at, spent_at}
 use Rattle.atspi_carrying.proofs.carrier.Carrier.move_up.Goals as goal
 
 pub returns-clause-sound : goal.returns-clause-sound
 returns-clause-sound c =
-    told_ok c.rejoin.result c.move_up_apart-done.result c.rejoin.ensures.told c.move_up_apart-done.ensures.sound (λ sound same. subst (λ (b : Inner). IsSound (state_of b)) (sym same.bus_is) sound)
+    told_ok gives_up c.rejoin.result c.move_up_apart-done.result c.rejoin.ensures.told c.move_up_apart-done.ensures.sound (λ sound same. subst (λ (b : Inner). IsSound (state_of b)) (sym same.bus_is) sound)
 
 pub returns-clause-moves : goal.returns-clause-moves
 returns-clause-moves c =
@@ -16,7 +18,7 @@ returns-clause-moves c =
     let did = c.move_up_apart-done.new.self in
     let new = c.rejoin.new.self in
     let none = c.apart-before.ensures.none in
-    told_ok c.rejoin.result c.move_up_apart-done.result c.rejoin.ensures.told c.move_up_apart-done.ensures.moves
+    told_ok gives_up c.rejoin.result c.move_up_apart-done.result c.rejoin.ensures.told c.move_up_apart-done.ensures.moves
     (λ moves same w is at.
     worked_on w (moving_up c.args.conn c.args.most) (inner_of did.bus) (inner_of new.bus) did.posts.items new.posts.items s.at_end.items did.at_end.items new.at_end.items s.trace.items c.apart-before.new.trace.items
     did.trace.items new.trace.items none (ap inner_of same.bus_is) same.posts_are same.given_are (same.told ∙ ap (λ l. l ++ did.trace.items) c.apart-before.ensures.before) (moves w is at))
@@ -27,7 +29,7 @@ returns-clause-lost c = λ is w tied linked first at.
     let did = c.move_up_apart-done.new.self in
     let new = c.rejoin.new.self in
     let none = c.apart-before.ensures.none in
-    let so = told_lost c.rejoin.result c.move_up_apart-done.result c.rejoin.ensures.told is in
+    let so = told_err gives_up c.rejoin.result c.move_up_apart-done.result RegistryLost refl c.rejoin.ensures.told is in
     let same = so.1 in
     lost_at w (moving_up c.args.conn c.args.most) did.posts.items new.posts.items s.trace.items c.apart-before.new.trace.items did.trace.items new.trace.items none same.posts_are
     (same.told ∙ ap (λ l. l ++ did.trace.items) c.apart-before.ensures.before) (c.move_up_apart-done.ensures.lost so.0 w tied linked first at)
@@ -38,7 +40,7 @@ returns-clause-spent c = λ is w tied linked at.
     let did = c.move_up_apart-done.new.self in
     let new = c.rejoin.new.self in
     let none = c.apart-before.ensures.none in
-    let so = told_spent c.rejoin.result c.move_up_apart-done.result c.rejoin.ensures.told is in
+    let so = told_err gives_up c.rejoin.result c.move_up_apart-done.result Spent refl c.rejoin.ensures.told is in
     let same = so.1 in
     spent_at w (moving_up c.args.conn c.args.most) did.posts.items new.posts.items s.trace.items c.apart-before.new.trace.items did.trace.items new.trace.items none same.posts_are
     (same.told ∙ ap (λ l. l ++ did.trace.items) c.apart-before.ensures.before) (c.move_up_apart-done.ensures.spent so.0 w tied linked at)

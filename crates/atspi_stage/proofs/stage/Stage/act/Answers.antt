@@ -1,7 +1,10 @@
-use Rattle.std.proofs.Common.{◌++◌, length, ap, ◌∙◌}
+use Rattle.std.proofs.Common.{◌++◌, length, refl, ap, ◌∙◌}
 use Rattle.atspi_bus_steps.specs.Inner.{inner_of}
+use Rattle.atspi_carrying.proofs.Rejoining.{told_ok, told_err}
+use Rattle.atspi_stage.specs.Stage.{gives_line_up}
 use Rattle.atspi_stage.specs.Worlds.{staged}
-use Rattle.atspi_stage.proofs.Rejoining.{told_ok, told_lost, told_spent, told_refused, told_halted, told_refuses, playing_on, line_done_on, line_lost_on, line_spent_on, nothing_on}
+use Rattle.atspi_stage.specs.declared.fault.ActFault.TheVariants.{Refused, Spent, RegistryLost}
+use Rattle.atspi_stage.proofs.Rejoining.{told_halted, told_refuses, playing_on, line_done_on, line_lost_on, line_spent_on, nothing_on}
 use Rattle.atspi_stage.proofs.stage.Stage.act.Goals as goal
 
 pub returns-clause-stage : goal.returns-clause-stage
@@ -15,12 +18,12 @@ returns-clause-does g c =
     (length s.spares.items) s.carrier.trace.items in
     let after = staged g.A.Application.exporter g.R.Follower.follower (inner_of did.carrier.bus) did.carrier.posts.items did.carrier.at_end.items did.cast.registry did.cast.apps.items did.cast.readers.items
     (length did.kits.items) (length did.spares.items) did.carrier.trace.items in
-    told_ok c.rejoin.result c.act_apart-done.result c.rejoin.ensures.told c.act_apart-done.ensures.does
+    told_ok gives_line_up c.rejoin.result c.act_apart-done.result c.rejoin.ensures.told c.act_apart-done.ensures.does
     (λ done more. line_done_on c.args.line.now old after c.apart-before.new.trace.items c.rejoin.new.trace.items c.apart-before.ensures.none (more ∙ ap (λ l. l ++ did.carrier.trace.items) c.apart-before.ensures.before) done)
 
 pub returns-clause-refused : goal.returns-clause-refused
 returns-clause-refused g c = λ why is p playing.
-    let so = told_refused c.rejoin.result c.act_apart-done.result why c.rejoin.ensures.told is in
+    let so = told_err gives_line_up c.rejoin.result c.act_apart-done.result (Refused why) refl c.rejoin.ensures.told is in
     c.act_apart-done.ensures.refused why so.0 p (playing_on p _ c.apart-before.new.trace.items playing)
 
 pub returns-clause-refuses : goal.returns-clause-refuses
@@ -35,7 +38,7 @@ returns-clause-nothing g c = λ why is.
     (length s.spares.items) s.carrier.trace.items in
     let after = staged g.A.Application.exporter g.R.Follower.follower (inner_of did.carrier.bus) did.carrier.posts.items did.carrier.at_end.items did.cast.registry did.cast.apps.items did.cast.readers.items
     (length did.kits.items) (length did.spares.items) did.carrier.trace.items in
-    let so = told_refused c.rejoin.result c.act_apart-done.result why c.rejoin.ensures.told is in
+    let so = told_err gives_line_up c.rejoin.result c.act_apart-done.result (Refused why) refl c.rejoin.ensures.told is in
     let more = so.1 in
     nothing_on c.args.line.now old after c.apart-before.new.trace.items c.rejoin.new.trace.items c.apart-before.ensures.none (more ∙ ap (λ l. l ++ did.carrier.trace.items) c.apart-before.ensures.before) (c.act_apart-done.ensures.nothing why so.0)
 
@@ -47,7 +50,7 @@ returns-clause-lost g c = λ is.
     (length s.spares.items) s.carrier.trace.items in
     let after = staged g.A.Application.exporter g.R.Follower.follower (inner_of did.carrier.bus) did.carrier.posts.items did.carrier.at_end.items did.cast.registry did.cast.apps.items did.cast.readers.items
     (length did.kits.items) (length did.spares.items) did.carrier.trace.items in
-    let so = told_lost c.rejoin.result c.act_apart-done.result c.rejoin.ensures.told is in
+    let so = told_err gives_line_up c.rejoin.result c.act_apart-done.result RegistryLost refl c.rejoin.ensures.told is in
     let more = so.1 in
     line_lost_on c.args.line.now old after c.apart-before.new.trace.items c.rejoin.new.trace.items c.apart-before.ensures.none (more ∙ ap (λ l. l ++ did.carrier.trace.items) c.apart-before.ensures.before) (c.act_apart-done.ensures.lost so.0)
 
@@ -59,6 +62,6 @@ returns-clause-spent g c = λ is.
     (length s.spares.items) s.carrier.trace.items in
     let after = staged g.A.Application.exporter g.R.Follower.follower (inner_of did.carrier.bus) did.carrier.posts.items did.carrier.at_end.items did.cast.registry did.cast.apps.items did.cast.readers.items
     (length did.kits.items) (length did.spares.items) did.carrier.trace.items in
-    let so = told_spent c.rejoin.result c.act_apart-done.result c.rejoin.ensures.told is in
+    let so = told_err gives_line_up c.rejoin.result c.act_apart-done.result Spent refl c.rejoin.ensures.told is in
     let more = so.1 in
     line_spent_on c.args.line.now old after c.apart-before.new.trace.items c.rejoin.new.trace.items c.apart-before.ensures.none (more ∙ ap (λ l. l ++ did.carrier.trace.items) c.apart-before.ensures.before) (c.act_apart-done.ensures.spent so.0)
