@@ -14,7 +14,7 @@ use Rattle.atspi_conversation.specs.Speech.{IsInOrder, IsMalformed, IsRefused, I
 use Rattle.atspi_conversation_examples.specs.Silent.{IsSpentWith, Says, Took, granted, rejected}
 
 -- behind the lines that let a client in stand the bytes of messages
-behind_granted : (bytes : List ℕ) → behind client_start (granted ++ bytes) ≡ bytes
+pub behind_granted : (bytes : List ℕ) → behind client_start (granted ++ bytes) ≡ bytes
 unfolding heard hears hears_bytes lines_of joined answer reply_to is_grant is_number
 behind_granted bytes = joined-lines_of bytes
 
@@ -31,7 +31,7 @@ pub bare_more : behind client_start (rejected ++ granted) ≡ []
 unfolding heard hears hears_bytes lines_of joined answer reply_to is_grant is_number
 bare_more = refl
 
-at_fault : fault_in (after client_start rejected).stage ≡ None → ⊥
+pub at_fault : fault_in (after client_start rejected).stage ≡ None → ⊥
 unfolding heard hears hears_bytes lines_of joined answer reply_to is_grant is_number
 at_fault h = cc
 
@@ -73,11 +73,11 @@ taken e bytes m = record {
   stands = (refl, refl);
 }
 
-not_awaited : (e : Envelope) (bytes : List ℕ) → IsMessage e bytes → AwaitsMore bytes → ⊥
+pub not_awaited : (e : Envelope) (bytes : List ℕ) → IsMessage e bytes → AwaitsMore bytes → ⊥
 not_awaited e bytes m (few short) = let b = begun e bytes bytes [] m (sym (append-nil bytes)) in omega (arith, b.long, short)
 not_awaited e bytes m (unfinished long sound short) = let b = begun e bytes bytes [] m (sym (append-nil bytes)) in omega (arith, b.enough, short)
 
-none_taken : (messages : List (Envelope × List ℕ)) (bytes rest : List ℕ) → envelopes messages ≡ [] → IsParted bytes messages rest → (rest ≡ bytes) × (length (bytes_of messages) ≡ 0)
+pub none_taken : (messages : List (Envelope × List ℕ)) (bytes rest : List ℕ) → envelopes messages ≡ [] → IsParted bytes messages rest → (rest ≡ bytes) × (length (bytes_of messages) ≡ 0)
 none_taken [] bytes rest e p = (sym p.parted, refl)
 none_taken (m ∷ messages) bytes rest e p = absurd cc
 

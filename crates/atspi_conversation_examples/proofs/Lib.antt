@@ -1,2 +1,4 @@
 pub mod Given
 pub mod Ended
+pub mod Logged
+pub mod Conversing

@@ -1,0 +1,33 @@
+use Rattle.std.proofs.Common.{◌≡◌, ℕ, List, [], ◌∷◌, ◌++◌, refl, sym, ap, subst, ◌∙◌, inl, inr, append-nil, append_assoc, arith, lit<}
+use Rattle.std.specs.Prelude.{codes, None, Some, true, false, map}
+use Rattle.atspi_message.specs.Bytes.{IsMessage, written}
+use Rattle.atspi_message.specs.Envelope.{Envelope}
+use Rattle.atspi_stream.specs.Stream.{AwaitsMore, HasFault, IsParted, few, in_front, behind}
+use Rattle.atspi_conversation.specs.Sent.{AreSent, Fits, IsSent}
+use Rattle.atspi_conversation.specs.Speech.{envelopes}
+use Rattle.atspi_conversation_examples.specs.Logs.{Log, Logs, call, fresh}
+use Rattle.atspi_conversation_examples.proofs.Ended.{none_begun, none_taken, not_awaited}
+use Rattle.atspi_conversation_examples.proofs.Logged.{hands_one, held_still, none_of, none_some, not_ruled, nothing_attended, ruled, same_serials, takes_one}
+use Rattle.atspi_conversation_examples.proofs.promises.attends.Goals as goal
+
+pub returns-clause-none : goal.returns-clause-none
+returns-clause-none c l held = record { messages = []; parted = record { are = tt; parted = refl }; took = λ took said s. (s.0 ∙ sym (append-nil took), s.1) }
+
+pub returns-clause-two : goal.returns-clause-two
+returns-clause-two c e f g m n rest is is' = record {
+  messages = (e, m) ∷ (f, n) ∷ [];
+  parted = record { are = (is, (is', tt)); parted = ap (λ (xs : List ℕ). m ++ xs) (ap (λ (xs : List ℕ). xs ++ rest) (sym (append-nil n))) ∙ sym (append_assoc m (n ++ []) rest) };
+  took = λ took said s. (ap (λ (es : List Envelope). es ++ e ∷ f ∷ []) s.0, s.1);
+}
+
+pub returns-clause-bytes_lost : goal.returns-clause-bytes_lost
+returns-clause-bytes_lost c a = by (held_still (codes "ab") (codes "b") a)
+  where
+    by : codes "ab" ≡ codes "b" → ⊥
+    by h = cc
+
+pub returns-clause-not_taken : goal.returns-clause-not_taken
+returns-clause-not_taken c e m is a = none_begun e m [] is (sym (held_still m [] a) ∙ sym (append-nil m))
+
+pub returns-clause-handed_out : goal.returns-clause-handed_out
+returns-clause-handed_out c e held a = none_some e [] (sym (a.took [] [] (refl, refl)).1)

@@ -1,0 +1,26 @@
+use Rattle.std.proofs.Common.{◌≡◌, ℕ, List, [], ◌∷◌, ◌++◌, refl, sym, ap, subst, ◌∙◌, inl, inr, append-nil, append_assoc, arith, lit<}
+use Rattle.std.specs.Prelude.{codes, None, Some, true, false, map}
+use Rattle.atspi_message.specs.Bytes.{IsMessage, written}
+use Rattle.atspi_message.specs.Envelope.{Envelope}
+use Rattle.atspi_stream.specs.Stream.{AwaitsMore, HasFault, IsParted, few, in_front, behind}
+use Rattle.atspi_conversation.specs.Sent.{AreSent, Fits, IsSent}
+use Rattle.atspi_conversation.specs.Speech.{envelopes}
+use Rattle.atspi_conversation_examples.specs.Logs.{Log, Logs, call, fresh}
+use Rattle.atspi_conversation_examples.proofs.Ended.{none_begun, none_taken, not_awaited}
+use Rattle.atspi_conversation_examples.proofs.Logged.{hands_one, held_still, none_of, none_some, not_ruled, nothing_attended, ruled, same_serials, takes_one}
+use Rattle.atspi_conversation_examples.proofs.promises.attends_all.Goals as goal
+
+pub returns-clause-one : goal.returns-clause-one
+returns-clause-one c e m is = record { attends = record { messages = (e, m) ∷ []; parted = record { are = (is, tt); parted = sym (append-nil m) ∙ sym (append-nil (m ++ [])) }; took = takes_one [] [] e }; ends = few (lit< tt) }
+
+pub returns-clause-to_a_fault : goal.returns-clause-to_a_fault
+returns-clause-to_a_fault c e m bytes place reason is f = record { attends = record { messages = (e, m) ∷ []; parted = record { are = (is, tt); parted = ap (λ (xs : List ℕ). xs ++ bytes) (sym (append-nil m)) }; took = takes_one [] [] e }; ends = f }
+
+pub returns-clause-one_left : goal.returns-clause-one_left
+returns-clause-one_left c e m is a = not_awaited e m is a.ends
+
+pub returns-clause-bytes_lost : goal.returns-clause-bytes_lost
+returns-clause-bytes_lost c a = by (held_still (codes "ab") (codes "b") a.attends)
+  where
+    by : codes "ab" ≡ codes "b" → ⊥
+    by h = cc

@@ -1,0 +1,42 @@
+use Rattle.std.proofs.Common.{◌≡◌, ℕ, List, [], ◌∷◌, ◌++◌, refl, sym, ap, subst, ◌∙◌, inl, inr, append-nil, append_assoc, arith, lit<}
+use Rattle.std.specs.Prelude.{codes, None, Some, true, false, map}
+use Rattle.atspi_message.specs.Bytes.{IsMessage, written}
+use Rattle.atspi_message.specs.Envelope.{Envelope}
+use Rattle.atspi_stream.specs.Stream.{AwaitsMore, HasFault, IsParted, few, in_front, behind}
+use Rattle.atspi_conversation.specs.Sent.{AreSent, Fits, IsSent}
+use Rattle.atspi_conversation.specs.Speech.{envelopes}
+use Rattle.atspi_conversation_examples.specs.Logs.{Log, Logs, call, fresh}
+use Rattle.atspi_conversation_examples.proofs.Ended.{none_begun, none_taken, not_awaited}
+use Rattle.atspi_conversation_examples.proofs.Logged.{hands_one, held_still, none_of, none_some, not_ruled, nothing_attended, ruled, same_serials, takes_one}
+use Rattle.atspi_conversation_examples.proofs.promises.says.Goals as goal
+
+nothing : (messages : List Envelope) (sent : List ℕ) → [] ≡ [] ++ messages → AreSent messages sent → sent ≡ []
+nothing [] sent h a = a
+nothing (m ∷ messages) sent h a = absurd (none_some m messages h)
+
+pub returns-clause-none : goal.returns-clause-none
+returns-clause-none c l unsent = record { messages = []; sent = []; spelled = refl; behind = sym (append-nil unsent); handed = λ took said s. (s.0, s.1 ∙ sym (append-nil said)) }
+
+pub returns-clause-two : goal.returns-clause-two
+returns-clause-two c e f g fits fits' = record {
+  messages = e ∷ f ∷ [];
+  sent = written e ++ written f;
+  spelled = (written e, written f, inl (fits, refl), (written f, [], inl (fits', refl), refl, sym (append-nil (written f))), refl);
+  behind = refl;
+  handed = λ took said s. (s.0, ap (λ (es : List Envelope). es ++ e ∷ f ∷ []) s.1);
+}
+
+pub returns-clause-none_but_put : goal.returns-clause-none_but_put
+returns-clause-none_but_put c l s = by s.sent (nothing s.messages s.sent (s.handed [] [] (refl, refl)).1 s.spelled) s.behind
+  where
+    by : (sent : List ℕ) → sent ≡ [] → codes "a" ≡ [] ++ sent → ⊥
+    by sent e h = cc
+
+pub returns-clause-bytes_lost : goal.returns-clause-bytes_lost
+returns-clause-bytes_lost c s = by s.sent s.behind
+  where
+    by : (sent : List ℕ) → [] ≡ codes "a" ++ sent → ⊥
+    by sent h = cc
+
+pub returns-clause-took : goal.returns-clause-took
+returns-clause-took c e unsent s = none_some e [] (sym (s.handed [] [] (refl, refl)).0)

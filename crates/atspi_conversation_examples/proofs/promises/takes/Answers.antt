@@ -1,0 +1,38 @@
+use Rattle.std.proofs.Common.{◌≡◌, ℕ, List, [], ◌∷◌, ◌++◌, refl, sym, ap, subst, ◌∙◌, inl, inr, append-nil, append_assoc, arith, lit<}
+use Rattle.std.specs.Prelude.{codes, None, Some, true, false, map}
+use Rattle.atspi_message.specs.Bytes.{IsMessage, written}
+use Rattle.atspi_message.specs.Envelope.{Envelope}
+use Rattle.atspi_stream.specs.Stream.{AwaitsMore, HasFault, IsParted, few, in_front, behind}
+use Rattle.atspi_conversation.specs.Sent.{AreSent, Fits, IsSent}
+use Rattle.atspi_conversation.specs.Speech.{envelopes}
+use Rattle.atspi_conversation_examples.specs.Logs.{Log, Logs, call, fresh}
+use Rattle.atspi_conversation_examples.proofs.Ended.{none_begun, none_taken, not_awaited}
+use Rattle.atspi_conversation_examples.proofs.Logged.{hands_one, held_still, none_of, none_some, not_ruled, nothing_attended, ruled, same_serials, takes_one}
+use Rattle.atspi_conversation_examples.proofs.promises.takes.Goals as goal
+
+pub returns-clause-first : goal.returns-clause-first
+returns-clause-first c = takes_one [] [] (call 1)
+
+pub returns-clause-behind : goal.returns-clause-behind
+returns-clause-behind c = takes_one (call 1 ∷ []) (call 7 ∷ []) (call 2)
+
+pub returns-clause-before : goal.returns-clause-before
+returns-clause-before c t = by (same_serials (call 2 ∷ call 1 ∷ []) (call 1 ∷ call 2 ∷ []) (t (call 1 ∷ []) [] (refl, refl)).0)
+  where
+    by : ◌≡◌ {A = List ℕ} (2 ∷ 1 ∷ []) (1 ∷ 2 ∷ []) → ⊥
+    by h = cc
+
+pub returns-clause-other : goal.returns-clause-other
+returns-clause-other c t = by (same_serials (call 1 ∷ []) (call 2 ∷ []) (t [] [] (refl, refl)).0)
+  where
+    by : ◌≡◌ {A = List ℕ} (1 ∷ []) (2 ∷ []) → ⊥
+    by h = cc
+
+pub returns-clause-none : goal.returns-clause-none
+returns-clause-none c t = none_some (call 1) [] (t [] [] (refl, refl)).0
+
+pub returns-clause-answered : goal.returns-clause-answered
+returns-clause-answered c t = none_some (call 7) [] (sym (t [] [] (refl, refl)).1)
+
+pub returns-clause-stood_nowhere : goal.returns-clause-stood_nowhere
+returns-clause-stood_nowhere c n took said s = absurd s
