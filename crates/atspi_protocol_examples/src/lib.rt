@@ -9,8 +9,10 @@ mod arguments;
 mod codes;
 mod exporting;
 mod following;
+mod items;
 mod looked;
 mod registering;
+mod rows;
 mod signatures;
 mod whole;
 
@@ -20,9 +22,11 @@ pub use arguments::{misread, missing};
 pub use codes::messages;
 pub use exporting::{counts, edits, numbers, own_names, refused_starts, starts, unlike};
 pub use following::{children, ends, part_calls, starts as reader_starts, user_calls};
+pub use items::{among_others, fields, types};
 pub use looked::{adding, changed_rows, rows_of_items, rows_of_news};
-pub use registering::{meeting, no_requests, numbered, pairs, sent};
+pub use registering::{asked_for, forgotten, meeting, no_requests, numbered, pairs, replies, sent};
+pub use rows::{below_the_root, one_column};
 pub use signatures::{
     kept, of_bus_objects, of_nodes, of_properties, of_registry, of_tables, of_texts,
 };
-pub use whole::{absent, known, only_of_trees, trees, unknown};
+pub use whole::{absent, added, followed, known, only_of_trees, trees, unknown};

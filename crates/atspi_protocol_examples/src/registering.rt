@@ -1,16 +1,20 @@
-//! The registry's refusals, and messages that are numbered and meet the rules.
+//! The registry's refusals and replies, what it tells of who left, and messages that are numbered, meet the rules and are asked for.
 
 ghost use Rattle.std.specs.Prelude.{◌≡◌, ◌∷◌, [], None, Some, codes};
 ghost use Rattle.atspi_types.specs.Kinds.{u32};
 ghost use Rattle.atspi_types.specs.Data.{number_data, text_data};
 ghost use Rattle.atspi_protocol.specs.declared.members.member.ObjectMember.TheVariants.{DoAction, GetRole};
 ghost use Rattle.atspi_protocol.specs.declared.members.property.ObjectProperty.TheVariants.{Name};
-ghost use Rattle.atspi_protocol.specs.ends.Messages.{fails, returns};
+ghost use Rattle.atspi_protocol.specs.ends.Messages.{fails, return_to, returns};
 ghost use Rattle.atspi_protocol.specs.ends.Places.{reference};
 ghost use Rattle.atspi_protocol.specs.members.Asked.{calls, sets};
 ghost use Rattle.atspi_protocol.specs.registering.Answers.{answers, answers_member, news_of_removal, news_of_removal_at, only, reference_in};
+ghost use Rattle.atspi_protocol.specs.registering.Laws.{AreOneReply, replies_in};
 ghost use Rattle.atspi_protocol.specs.registering.RegistryState.{begins, pairs_of, pairs_without};
-ghost use Rattle.atspi_protocol.specs.registering.Room.{children_pair, room, text_pair, three_, two_, window_pair};
+ghost use Rattle.atspi_protocol.specs.registering.Room.{at, children_pair, four_, message, room, text_pair, three_, two_, window_pair};
+ghost use Rattle.atspi_protocol.specs.registering.Steps.{forgets};
+ghost use Rattle.atspi_protocol.specs.registering.Told.{children_changed, deregistered};
+ghost use Rattle.atspi_protocol.specs.registry_laws.Asked.{AllAskedFor};
 ghost use Rattle.atspi_protocol.specs.registry_laws.Sends.{AllMeet, AreNumbered, started};
 ghost use Rattle.atspi_protocol_examples.specs.Lists.{ping};
 
@@ -61,4 +65,25 @@ pub fn sent()
     ensures hello { started.state.hello ≡ Some 1 }
     ensures own { started.state.own ≡ None }
     ensures begins { begins ≡ record { pairs = []; children = []; embeds = 0; hello = None; own = None; next = 1 } }
+{}
+
+/// Of a connection that left first each of its pairs is told, and then its child, to those who are still there.
+pub fn forgotten()
+    ensures { (forgets (record room { pairs = (four_, codes "object") ∷ children_pair ∷ [] }) four_).sent ≡ at 10 (deregistered (four_, codes "object")) ∷ at 11 (children_changed (codes "remove") 0 (four_, codes "/d")) ∷ [] }
+{}
+
+/// A return and an error are replies, and no other message is; one reply is one message to the caller with the call's number.
+pub fn replies()
+    ensures among { replies_in (message 2 None [] ∷ message 1 None [] ∷ message 4 None [] ∷ message 3 None [] ∷ []) ≡ message 2 None [] ∷ message 3 None [] ∷ [] }
+    ensures one { AreOneReply (return_to two_ 5 [] ∷ []) two_ 5 }
+    ensures none { AreOneReply [] two_ 5 → ⊥ }
+    ensures more { AreOneReply (return_to two_ 5 [] ∷ return_to two_ 5 [] ∷ []) two_ 5 → ⊥ }
+    ensures other_caller { AreOneReply (return_to (codes ":1.20") 5 [] ∷ []) two_ 5 → ⊥ }
+    ensures other_number { AreOneReply (return_to two_ 6 [] ∷ []) two_ 5 → ⊥ }
+{}
+
+/// Each news of children is asked for, the first and those behind it.
+pub fn asked_for()
+    ensures both { AllAskedFor ((two_, codes "object:children-changed") ∷ []) (children_changed (codes "add") 0 (four_, codes "/d") ∷ children_changed (codes "remove") 0 (four_, codes "/d") ∷ []) }
+    ensures second { AllAskedFor ((two_, codes "object:children-changed:add") ∷ []) (children_changed (codes "add") 0 (four_, codes "/d") ∷ children_changed (codes "remove") 0 (four_, codes "/d") ∷ []) → ⊥ }
 {}

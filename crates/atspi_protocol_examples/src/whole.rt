@@ -5,7 +5,9 @@ ghost use Rattle.std.specs.FinMap.{empty, get, insert};
 ghost use Rattle.atspi_forest.specs.declared.contents.FaceData.TheVariants.{Chars, Deeds, Grid};
 ghost use Rattle.atspi_forest.specs.Forest.{nil, tree};
 ghost use Rattle.atspi_protocol.specs.whole.Cases.{kept, plain, shape, small};
+ghost use Rattle.atspi_protocol.specs.whole.Laws.{IsFollowed};
 ghost use Rattle.atspi_protocol.specs.whole.Whole.{KnowOnly, KnowsNo, as_actions, as_columns, as_text, faces_after, filled, whole, with_actions, with_columns, with_text};
+ghost use Rattle.atspi_protocol_examples.specs.Lists.{full};
 
 use atspi_forest::Step;
 
@@ -34,6 +36,26 @@ pub fn known()
     ensures no_text { get (faces_after small (Step.Remove 1) kept).chars 1 ≡ None }
     ensures other_columns { get (faces_after small (Step.Remove 1) kept).grid 2 ≡ Some (Grid 2) }
     ensures no_actions { get (faces_after small (Step.Remove 0) kept).deeds 0 ≡ None }
+    ensures other_actions { get (faces_after small (Step.Remove 1) kept).deeds 0 ≡ Some (Deeds (codes "press" ∷ [])) }
+    ensures text_below { get (faces_after small (Step.Remove 0) kept).chars 1 ≡ None }
+    ensures table_below { get (faces_after small (Step.Remove 0) kept).grid 2 ≡ None }
+{}
+
+/// A new node opens in each face, and what the faces have of the others stays.
+pub fn added()
+    ensures text { get (faces_after small (Step.Add 3 0 1 full) kept).chars 3 ≡ Some (Chars (codes "t") 0 []) }
+    ensures columns { get (faces_after small (Step.Add 3 0 1 full) kept).grid 3 ≡ Some (Grid 4) }
+    ensures actions { get (faces_after small (Step.Add 3 0 1 full) kept).deeds 3 ≡ Some (Deeds (codes "a" ∷ codes "b" ∷ [])) }
+    ensures other_text { get (faces_after small (Step.Add 3 0 1 full) kept).chars 1 ≡ Some (Chars (codes "abc") 1 ((0, 2) ∷ [])) }
+    ensures other_columns { get (faces_after small (Step.Add 3 0 1 full) kept).grid 2 ≡ Some (Grid 2) }
+    ensures other_actions { get (faces_after small (Step.Add 3 0 1 full) kept).deeds 0 ≡ Some (Deeds (codes "press" ∷ [])) }
+    ensures no_table_of_text { get (faces_after small (Step.Add 3 0 1 full) kept).grid 1 ≡ None }
+{}
+
+/// A step is followed where the faces know no node afterwards that is not in the tree.
+pub fn followed()
+    ensures nothing { IsFollowed nil (record { chars = empty; grid = empty; deeds = empty }) (Step.SetName 0 (codes "U")) }
+    ensures stranger { IsFollowed nil kept (Step.SetName 0 (codes "U")) → ⊥ }
 {}
 
 /// Of a node nothing is known where no face has anything of it, and each of the three counts.

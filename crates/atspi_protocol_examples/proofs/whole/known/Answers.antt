@@ -10,3 +10,12 @@ returns-clause-other_columns c = simp gets refl
 
 pub returns-clause-no_actions : goal.returns-clause-no_actions
 returns-clause-no_actions c = simp gets refl
+
+pub returns-clause-other_actions : goal.returns-clause-other_actions
+returns-clause-other_actions c = simp gets refl
+
+pub returns-clause-text_below : goal.returns-clause-text_below
+returns-clause-text_below c = simp gets refl
+
+pub returns-clause-table_below : goal.returns-clause-table_below
+returns-clause-table_below c = simp gets refl
