@@ -51,10 +51,11 @@ pub fn moved()
 {}
 
 /// It is 6: a node gets the focus. It is 7: one of four is removed, and of the others and the root `checked` turns. Seed 1 draws 16838 and 5758; seed 5
-/// draws 18655, 8457 and 10616; seed 10 draws 4543, 28214 and 11245; seed 29 draws 29559, 24647 and 13634; seed 43 draws 3151 and 1324.
+/// draws 18655, 8457 and 10616; seed 81 draws 20415, 26958 and 20172; seed 10 draws 4543, 28214 and 11245; seed 29 draws 29559, 24647 and 13634; seed 43 draws 3151 and 1324.
 pub fn turned()
     ensures focus { drawn_edit small 9 1 ≡ record { edit = Edit.Focus 3; state = 377401575 } }
     ensures removed { drawn_edit small 9 5 ≡ record { edit = Edit.Remove 2; state = 695785320 } }
+    ensures removed_third { drawn_edit small 9 81 ≡ record { edit = Edit.Remove 3; state = 1322048804 } }
     ensures checked { drawn_edit small 9 10 ≡ record { edit = Edit.State 3 4 true; state = 736986865 } }
     ensures cleared { drawn_edit small 9 29 ≡ record { edit = Edit.State 5 4 false; state = 893552736 } }
     ensures root { drawn_edit small 9 43 ≡ record { edit = Edit.State 0 4 true; state = 86771233 } }
