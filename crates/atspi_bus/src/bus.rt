@@ -9,6 +9,7 @@ ghost use Rattle.atspi_routing.specs.Laws.{IsWithinQuota};
 ghost use Rattle.atspi_routing.specs.Queues.{queue_of, empty_bus, joins, takes, leaves};
 ghost use Rattle.atspi_queues.specs.Change.{with_queue};
 ghost use Rattle.atspi_bus_steps.specs.Inner.{state_of};
+ghost use Rattle.atspi_bus_steps.specs.Limits.{IsTooBig, SaysTooMuch};
 ghost use Rattle.atspi_bus_steps.specs.Sound.{IsSound};
 ghost use Rattle.atspi_bus_steps.specs.Spoken.{IsRuleTaken};
 ghost use Rattle.atspi_bus.specs.Exclusive.{IsExclusive};
@@ -73,7 +74,8 @@ impl Bus {
     }
 
     /// The bus takes a message of a connection, which lies in bytes: what it does is in `docs/ROUTING.md`. `Spent` only where the bus's own
-    /// messages for this one would pass the serial 4,294,967,295, and no answer but a fault there. After a fault all is as before.
+    /// messages for this one would pass the serial 4,294,967,295, and no answer but a fault there. `Big` only where this message, with its sender, or one
+    /// that the bus says for it passes the limits of the wire. After a fault all is as before.
     ///
     /// A message that is passed on, and one that the bus answers itself, costs what it brings alone, where each receiver of what goes out has room for
     /// it; ReleaseName, and RequestName of a name that somebody has, cost a copy of the names besides. One that brings a closing costs a copy of
@@ -85,6 +87,8 @@ impl Bus {
         ensures serial { OnOk result ((bus_of self.new).state.next ≤ 4294967296) }
         ensures spent { IsErrOf result BusFault.Spent → (rule : Option (List Condition)) × IsRuleTaken (bus_of self.old).state conn (envelope_at m.now) rule
             × (4294967296 < (takes (bus_of self.old) conn (envelope_at m.now) rule).state.next) }
+        ensures big { IsErrOf result BusFault.Big → (rule : Option (List Condition)) × IsRuleTaken (bus_of self.old).state conn (envelope_at m.now) rule
+            × IsTooBig (bus_of self.old) conn (envelope_at m.now) (takes (bus_of self.old) conn (envelope_at m.now) rule) }
         ensures within { IsWithinQuota (bus_of self.new) }
         ensures given { given_of self.new ≡ given_of self.old }
         ensures err { OnErr result (bus_of self.new ≡ bus_of self.old) }
@@ -95,12 +99,13 @@ impl Bus {
     }
 
     /// A connection leaves by itself. `Spent` only where the bus's own messages would pass the serial 4,294,967,295, and no answer but a
-    /// fault there. After a fault all is as before. It costs what is told, and a look at each that has joined, each rule and each open call, where
+    /// fault there; `Big` only where one of them passes the limits of the wire. After a fault all is as before. It costs what is told, and a look at each that has joined, each rule and each open call, where
     /// each receiver has room for what is told, and else a copy of what the bus knows and of what waits in it.
     pub fn leave(&mut self, conn: u32) -> Result<(), BusFault>
         ensures ok { OnOk result (bus_of self.new ≡ leaves (bus_of self.old) conn) }
         ensures serial { OnOk result ((bus_of self.new).state.next ≤ 4294967296) }
         ensures spent { IsErrOf result BusFault.Spent → 4294967296 < (leaves (bus_of self.old) conn).state.next }
+        ensures big { IsErrOf result BusFault.Big → SaysTooMuch (bus_of self.old) (leaves (bus_of self.old) conn) }
         ensures within { IsWithinQuota (bus_of self.new) }
         ensures given { given_of self.new ≡ given_of self.old }
         ensures err { OnErr result (bus_of self.new ≡ bus_of self.old) }

@@ -6,6 +6,7 @@ ghost use Rattle.atspi_header.specs.View.{envelope_at};
 ghost use Rattle.atspi_match.specs.declared.condition.Condition.{Condition};
 ghost use Rattle.atspi_routing.specs.Queues.{takes, leaves};
 ghost use Rattle.atspi_bus_steps.specs.Inner.{inner_of, state_of};
+ghost use Rattle.atspi_bus_steps.specs.Limits.{IsTooBig, SaysTooMuch};
 ghost use Rattle.atspi_bus_steps.specs.Sound.{IsSound};
 ghost use Rattle.atspi_bus_steps.specs.Spoken.{IsRuleTaken};
 ghost use Rattle.atspi_bus.specs.Exclusive.{IsExclusive};
@@ -24,6 +25,8 @@ fn take_on_copy(inner: &mut Inner, conn: u32, m: &MessageRef) -> Result<(), BusF
     ensures sound { IsSound (state_of inner.new) }
     ensures spent { IsErrOf result BusFault.Spent → (rule : Option (List Condition)) × IsRuleTaken (state_of inner.old) conn (envelope_at m.now) rule
         × (4294967296 < (takes (inner_of inner.old) conn (envelope_at m.now) rule).state.next) }
+    ensures big { IsErrOf result BusFault.Big → (rule : Option (List Condition)) × IsRuleTaken (state_of inner.old) conn (envelope_at m.now) rule
+        × IsTooBig (inner_of inner.old) conn (envelope_at m.now) (takes (inner_of inner.old) conn (envelope_at m.now) rule) }
     ensures err { OnErr result (inner_of inner.new ≡ inner_of inner.old) }
 {
     let mut after = inner.copy()?;
@@ -56,7 +59,7 @@ fn take_in_place(inner: &mut Inner, conn: u32, m: &MessageRef) -> Result<bool, B
     }
 }
 
-/// A bus takes a message: in place where it can, and on a copy of itself where it cannot.
+/// A bus takes a message: in place where it can, and on a copy of itself where it cannot, also where a message is then found to pass the limits of the wire.
 pub fn take_whole(inner: &mut Inner, conn: u32, m: &MessageRef) -> Result<(), BusFault>
     requires sound { IsSound (state_of inner.old) }
     requires meets { MeetsRules (envelope_at m.now) }
@@ -65,16 +68,15 @@ pub fn take_whole(inner: &mut Inner, conn: u32, m: &MessageRef) -> Result<(), Bu
     ensures sound { IsSound (state_of inner.new) }
     ensures spent { IsErrOf result BusFault.Spent → (rule : Option (List Condition)) × IsRuleTaken (state_of inner.old) conn (envelope_at m.now) rule
         × (4294967296 < (takes (inner_of inner.old) conn (envelope_at m.now) rule).state.next) }
+    ensures big { IsErrOf result BusFault.Big → (rule : Option (List Condition)) × IsRuleTaken (state_of inner.old) conn (envelope_at m.now) rule
+        × IsTooBig (inner_of inner.old) conn (envelope_at m.now) (takes (inner_of inner.old) conn (envelope_at m.now) rule) }
     ensures err { OnErr result (inner_of inner.new ≡ inner_of inner.old) }
 {
     match take_in_place(inner, conn, m) {
-        Ok(went) => {
-            if went {
-                Ok(())
-            } else {
-                take_on_copy(inner, conn, m)
-            }
-        }
+        Ok(true) => Ok(()),
+        Ok(false) => take_on_copy(inner, conn, m),
+        // why that is so is told on the copy
+        Err(BusFault::Big) => take_on_copy(inner, conn, m),
         Err(fault) => Err(fault),
     }
 }
@@ -85,6 +87,7 @@ fn leave_on_copy(inner: &mut Inner, conn: u32) -> Result<(), BusFault>
     ensures ok { OnOk result (inner_of inner.new ≡ leaves (inner_of inner.old) conn) }
     ensures sound { IsSound (state_of inner.new) }
     ensures spent { IsErrOf result BusFault.Spent → 4294967296 < (leaves (inner_of inner.old) conn).state.next }
+    ensures big { IsErrOf result BusFault.Big → SaysTooMuch (inner_of inner.old) (leaves (inner_of inner.old) conn) }
     ensures err { OnErr result (inner_of inner.new ≡ inner_of inner.old) }
 {
     let mut after = inner.copy()?;
@@ -97,18 +100,20 @@ fn leave_on_copy(inner: &mut Inner, conn: u32) -> Result<(), BusFault>
     }
 }
 
-/// A connection leaves: in place where it can, and on a copy of the bus where it cannot.
+/// A connection leaves: in place where it can, and on a copy of the bus where it cannot, in the same way.
 pub fn leave_whole(inner: &mut Inner, conn: u32) -> Result<(), BusFault>
     requires exclusive { IsExclusive (state_of inner.old).owners }
     requires sound { IsSound (state_of inner.old) }
     ensures ok { OnOk result (inner_of inner.new ≡ leaves (inner_of inner.old) conn) }
     ensures sound { IsSound (state_of inner.new) }
     ensures spent { IsErrOf result BusFault.Spent → 4294967296 < (leaves (inner_of inner.old) conn).state.next }
+    ensures big { IsErrOf result BusFault.Big → SaysTooMuch (inner_of inner.old) (leaves (inner_of inner.old) conn) }
     ensures err { OnErr result (inner_of inner.new ≡ inner_of inner.old) }
 {
     match leave_in_place(inner, conn) {
         Ok(true) => Ok(()),
         Ok(false) => leave_on_copy(inner, conn),
+        Err(BusFault::Big) => leave_on_copy(inner, conn),
         Err(fault) => Err(fault),
     }
 }

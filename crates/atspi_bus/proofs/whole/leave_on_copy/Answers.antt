@@ -1,5 +1,6 @@
 use Rattle.std.proofs.Common.{◌<◌, sym, ap, ◌∙◌, subst}
 use Rattle.atspi_routing.specs.Queues.{Bus, leaves}
+use Rattle.atspi_bus_steps.specs.Limits.{SaysTooMuch}
 use Rattle.atspi_bus_steps.specs.Sound.{IsSound}
 use Rattle.atspi_bus.proofs.whole.leave_on_copy.Goals as goal
 
@@ -12,3 +13,6 @@ returns-in-Ok-clause-ok c = c.in-Ok.ensures.ok ∙ ap (λ (b : Bus). leaves b c.
 pub returns-in-Err-clause-spent : goal.returns-in-Err-clause-spent
 returns-in-Err-clause-spent c e =
     subst (λ (x : Bus). 4294967296 < (leaves x c.args.conn).state.next) c.in_ok-after.ensures (c.in-Err.ensures.spent e)
+
+pub returns-in-Err-clause-big : goal.returns-in-Err-clause-big
+returns-in-Err-clause-big c e = subst (λ (x : Bus). SaysTooMuch x (leaves x c.args.conn)) c.in_ok-after.ensures (c.in-Err.ensures.big e)
