@@ -17,3 +17,4 @@ pub mod Passing
 pub mod Admitting
 pub mod Rounding
 pub mod Worked
+pub mod Refusing

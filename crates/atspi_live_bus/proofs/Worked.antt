@@ -93,7 +93,7 @@ no_lines : line_bytes (lines_for []) ≡ []
 unfolding heard hears hears_bytes lines_of
 no_lines = refl
 
-none_behind : behind server_start [] ≡ []
+pub none_behind : behind server_start [] ≡ []
 unfolding heard hears hears_bytes lines_of
 none_behind = refl
 

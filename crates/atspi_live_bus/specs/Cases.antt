@@ -1,6 +1,9 @@
 -- Buses with few links, for values that are worked out by hand.
-use Rattle.std.specs.Prelude.{ℕ, ◌==◌, [], ◌∷◌, Option, None, Some, if◌then◌else◌}
-use Rattle.atspi_routing.specs.Queues.{empty_bus, joins}
+use Rattle.std.specs.Prelude.{ℕ, ◌==◌, List, [], ◌∷◌, Option, None, Some, if◌then◌else◌}
+use Rattle.atspi_message.specs.Envelope.{Envelope}
+use Rattle.atspi_routing.specs.Queues.{Bus, empty_bus, joins}
+use Rattle.atspi_routing.specs.Room.{room, signal_m}
+use Rattle.atspi_routing.specs.declared.closing.Why.TheVariants.{Quota}
 use Rattle.atspi_live_bus.specs.Asked.{joining}
 use Rattle.atspi_live_bus.specs.Course.{Course}
 
@@ -17,3 +20,14 @@ one_link = record { asked = joining 0 ∷ []; bus = joins (empty_bus 16777216) 0
 
 abbrev pub two_links : Course
 two_links = record { asked = joining 0 ∷ joining 1 ∷ []; bus = joins (joins (empty_bus 16777216) 0) 1; conn = two_conns }
+
+-- the same where connection 1, that of link 5, is to be closed
+abbrev pub one_due : Course
+one_due = record two_links { bus = record (joins (joins (empty_bus 16777216) 0) 1) { waiting = record (joins (joins (empty_bus 16777216) 0) 1).waiting { due = (1, Quota 5 6) ∷ [] } } }
+
+-- a bus of four connections, three of which have their names, where nobody asks for anything and nothing waits; and a signal of this path to all
+abbrev pub hushed : Bus
+hushed = record (empty_bus 16777216) { state = record room { rules = [] } }
+
+abbrev pub signal_of : List ℕ → Envelope
+signal_of path = record signal_m { path = Some path }

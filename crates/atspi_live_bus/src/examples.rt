@@ -1,20 +1,23 @@
 //! Worked cases, with the values worked out by hand. Each case is a clause of a function without a body. So a definition that says
 //! otherwise is refused here.
 
-ghost use Rattle.std.specs.Prelude.{◌≡◌, ◌∷◌, ◌++◌, ℕ, List, [], None, codes, true};
+ghost use Rattle.std.specs.Prelude.{◌≡◌, ◌∷◌, ◌++◌, ℕ, List, [], None, Some, codes, true};
 ghost use Rattle.atspi_auth.specs.Lines.{end_of_line};
 ghost use Rattle.atspi_host.specs.declared.call.Did.{Did};
 ghost use Rattle.atspi_host.specs.declared.call.Call.{Call};
 ghost use Rattle.atspi_message.specs.Envelope.{Envelope};
 ghost use Rattle.atspi_live_bus.specs.Asked.{handed_to, joining, leaving, messages_of, popping, taking, telling};
 ghost use Rattle.atspi_routing.specs.declared.closing.Closing.{Closing};
-ghost use Rattle.atspi_live_bus.specs.Cases.{one_link, two_conns, two_links};
-ghost use Rattle.atspi_live_bus.specs.Closes.{AreShut, FollowsRead, IsLost, IsRest};
+ghost use Rattle.atspi_routing.specs.Room.{zero_};
+ghost use Rattle.atspi_bus_steps.specs.Limits.{PassesLimits};
+ghost use Rattle.atspi_live_bus.specs.Cases.{hushed, one_due, one_link, signal_of, two_conns, two_links};
+ghost use Rattle.atspi_live_bus.specs.Closes.{AreShut, AreTaken, Ceases, FollowsRead, IsLost, IsRefused, IsRest, Parts};
 ghost use Rattle.atspi_live_bus.specs.Course.{Course, Steps, start};
 ghost use Rattle.atspi_live_bus.specs.Opened.{open_behind};
 ghost use Rattle.atspi_live_bus.specs.Rounds.{AreRounds, IsRound, IsRun, IsTurn};
 ghost use Rattle.atspi_live_bus.specs.Service.{IsSaid};
-ghost use Rattle.atspi_stream.specs.Stream.{AwaitsMore};
+ghost use Rattle.atspi_stream.specs.Laws.{HasOneAnswer};
+ghost use Rattle.atspi_stream.specs.Stream.{AwaitsMore, BeginsWithMessage};
 
 use atspi_host::{Call, Did};
 
@@ -63,6 +66,35 @@ pub fn causes()
         → IsRest t (messages_of 0 y.asked) rest → AwaitsMore rest → FollowsRead true 3 0 x (3 ∷ 5 ∷ []) (Did.Done n) t (Call.Close 5 ∷ []) y }
     ensures by_end { (y : Course) (c : Closing) (t : List ℕ) → Steps two_links (leaving 0) (c ∷ []) y → c.conn ≡ 1 → FollowsRead true 3 0 two_links (3 ∷ 5 ∷ []) Did.End t (Call.Close 3 ∷ Call.Close 5 ∷ []) y }
     ensures own_first { (y : Course) (t : List ℕ) → FollowsRead true 3 0 two_links (3 ∷ 5 ∷ []) Did.End t (Call.Close 5 ∷ []) y → ⊥ }
+{}
+
+/// A message of connection 0, which has its name, is refused where it passes the limits of the wire with that name, also where nobody receives it, and it is not where it does
+/// not. One to a name that nobody owns is not, whatever its size, and neither is the first message of a connection where it is no Hello, for these are not passed on, and the bus says nothing.
+pub fn refusals()
+    ensures large { (path : List ℕ) → PassesLimits (record (signal_of path) { sender = Some zero_ }) → IsRefused hushed 0 (signal_of path) }
+    ensures small { (path : List ℕ) → (PassesLimits (record (signal_of path) { sender = Some zero_ }) → ⊥) → IsRefused hushed 0 (signal_of path) → ⊥ }
+    ensures to_nobody { (path : List ℕ) → IsRefused hushed 0 (record (signal_of path) { destination = Some (codes ":1.9") }) → ⊥ }
+    ensures no_hello { (path : List ℕ) → IsRefused one_link.bus 0 (signal_of path) → ⊥ }
+{}
+
+/// A link whose next message is whole is closed for it only where the bus refuses that: where it fits, the bus has to take it.
+pub fn whole_messages()
+    ensures refused { (x y : Course) (rest : List ℕ) (next : BeginsWithMessage rest) (calls : List Call) → IsRefused x.bus 0 next.envelope → Parts true 3 0 x (3 ∷ 5 ∷ []) calls y
+        → Ceases true 3 0 x (3 ∷ 5 ∷ []) rest calls y }
+    ensures taken { (x y : Course) (path rest : List ℕ) (next : BeginsWithMessage rest) (calls : List Call) → HasOneAnswer rest → x.bus ≡ hushed → next.envelope ≡ signal_of path
+        → (PassesLimits (record (signal_of path) { sender = Some zero_ }) → ⊥) → Ceases true 3 0 x (3 ∷ 5 ∷ []) rest calls y → ⊥ }
+{}
+
+/// A message that the bus takes brings the closes that its step tells: here of link 3, whose first message is no Hello, and before it of link 5 where that was to be closed.
+pub fn steps_that_close()
+    ensures own { (path : List ℕ) → (y : Course) × AreTaken 3 0 two_links (3 ∷ 5 ∷ []) (signal_of path ∷ []) (Call.Close 3 ∷ []) y }
+    ensures another { (path : List ℕ) → (y : Course) × AreTaken 3 0 one_due (3 ∷ 5 ∷ []) (signal_of path ∷ []) (Call.Close 5 ∷ Call.Close 3 ∷ []) y }
+    ensures not_closed { (path : List ℕ) (y : Course) → AreTaken 3 0 two_links (3 ∷ 5 ∷ []) (signal_of path ∷ []) [] y → ⊥ }
+{}
+
+/// A link that sent nothing and did not end is not closed, and no other is for it.
+pub fn quiet_links()
+    ensures { (y : Course) (calls : List Call) → FollowsRead true 3 0 two_links (3 ∷ 5 ∷ []) Did.NotYet [] calls y → calls ≡ [] }
 {}
 
 /// The turn of a link has one read. One that has sent nothing and is open has then no write, since a server says nothing first; one that ended is
