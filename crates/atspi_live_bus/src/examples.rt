@@ -17,7 +17,7 @@ ghost use Rattle.atspi_live_bus.specs.Opened.{open_behind};
 ghost use Rattle.atspi_live_bus.specs.Rounds.{AreRounds, IsRound, IsRun, IsTurn};
 ghost use Rattle.atspi_live_bus.specs.Service.{IsSaid};
 ghost use Rattle.atspi_stream.specs.Laws.{HasOneAnswer};
-ghost use Rattle.atspi_stream.specs.Stream.{AwaitsMore, BeginsWithMessage};
+ghost use Rattle.atspi_stream.specs.Stream.{AwaitsMore, BeginsWithMessage, HasFault};
 
 use atspi_host::{Call, Did};
 
@@ -77,8 +77,10 @@ pub fn refusals()
     ensures no_hello { (path : List ℕ) → IsRefused one_link.bus 0 (signal_of path) → ⊥ }
 {}
 
-/// A link whose next message is whole is closed for it only where the bus refuses that: where it fits, the bus has to take it.
-pub fn whole_messages()
+/// A link is closed for its next message where that is malformed. One whose next message is whole is closed for it only where the bus refuses that: where it fits, the bus has to take it.
+pub fn next_messages()
+    ensures malformed { (x y : Course) (rest : List ℕ) (place reason : ℕ) (calls : List Call) → HasFault rest place reason → Parts true 3 0 x (3 ∷ 5 ∷ []) calls y
+        → Ceases true 3 0 x (3 ∷ 5 ∷ []) rest calls y }
     ensures refused { (x y : Course) (rest : List ℕ) (next : BeginsWithMessage rest) (calls : List Call) → IsRefused x.bus 0 next.envelope → Parts true 3 0 x (3 ∷ 5 ∷ []) calls y
         → Ceases true 3 0 x (3 ∷ 5 ∷ []) rest calls y }
     ensures taken { (x y : Course) (path rest : List ℕ) (next : BeginsWithMessage rest) (calls : List Call) → HasOneAnswer rest → x.bus ≡ hushed → next.envelope ≡ signal_of path

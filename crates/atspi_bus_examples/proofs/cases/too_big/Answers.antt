@@ -6,7 +6,7 @@ use Rattle.atspi_routing.specs.Routing.{receivers}
 use Rattle.atspi_routing.specs.Steps.{is_unowned}
 use Rattle.atspi_routing.proofs.Known.{known}
 use Rattle.atspi_bus_steps.specs.Limits.{PassesLimits, IsTooBig}
-use Rattle.atspi_bus_examples.specs.Sized.{bare, to, with_path, in_room}
+use Rattle.atspi_bus_examples.specs.Sized.{bare, call, to, with_path, in_room}
 use Rattle.atspi_bus_examples.proofs.Fitting.{signed-fits, long-path}
 use Rattle.atspi_bus_examples.proofs.Own.{nothing-behind}
 use Rattle.atspi_bus_examples.proofs.cases.too_big.Goals as goal
@@ -50,6 +50,13 @@ pub returns-clause-to_the_bus : goal.returns-clause-to_the_bus
 returns-clause-to_the_bus c = λ path. by path
   where
     by : (path : List ℕ) → IsTooBig in_room 0 (with_path path hello) in_room → ⊥
+    by path (inl p) = true_false p.2.for_others
+    by path (inr s) = nothing-behind [] s.0 s.2 s.1 s.3
+
+pub returns-clause-to_no_name : goal.returns-clause-to_no_name
+returns-clause-to_no_name c = λ path. by path
+  where
+    by : (path : List ℕ) → IsTooBig in_room 0 (with_path path call) in_room → ⊥
     by path (inl p) = true_false p.2.for_others
     by path (inr s) = nothing-behind [] s.0 s.2 s.1 s.3
 
