@@ -11,9 +11,10 @@ ghost use Rattle.atspi_message.specs.Bytes.{IsMessage, written};
 ghost use Rattle.atspi_message.specs.Envelope.{Envelope};
 ghost use Rattle.atspi_stream.specs.Stream.{HasFault};
 ghost use Rattle.atspi_conversation.specs.Left.{IsLeft, StopsAt};
+ghost use Rattle.atspi_conversation.specs.Rounds.{IsRead, IsWrite};
 ghost use Rattle.atspi_conversation.specs.Sent.{Fits};
-ghost use Rattle.atspi_conversation.specs.Speech.{Ends, Speaks, line_bytes};
-ghost use Rattle.atspi_conversation.specs.Talking.{BreaksOff, Converses, Going, HasBegun, HearsNot, IsAtEase, IsEnded, IsUttered, MakesNext, TellsNot, heard_in};
+ghost use Rattle.atspi_conversation.specs.Speech.{Ends, IsSpeech, Speaks, line_bytes};
+ghost use Rattle.atspi_conversation.specs.Talking.{BreaksOff, Converses, Going, HasBegun, HearsNot, IsAtEase, IsEnded, IsUttered, MakesNext, PutsFront, TellsNot, heard_in};
 ghost use Rattle.atspi_conversation.specs.declared.ending.Ending.{Ending};
 ghost use Rattle.atspi_conversation_examples.specs.Logs.{Handed, IsNever, IsSpentAt, Logs, Nowhere, begun, fresh, hailed, over, three_lines};
 ghost use Rattle.atspi_conversation_examples.specs.Silent.{IsNeverSpent, IsSpentWith, Says, Took, granted, hail, rejected};
@@ -150,4 +151,15 @@ pub fn left()
     ensures fault_elsewhere { (bytes : List ℕ) (place reason : ℕ) → StopsAt Says IsNeverSpent (Ending.Malformed 1 (record { place = place; reason = reason })) [] [] bytes → ⊥ }
     ensures no_fault { (place reason : ℕ) → StopsAt Says IsNeverSpent (Ending.Malformed 0 (record { place = place; reason = reason })) [] [] [] → ⊥ }
     ensures whole_left { (e : Envelope) (m : List ℕ) → IsMessage e m → StopsAt Says IsNeverSpent Ending.HostFailed [] [] m → ⊥ }
+{}
+
+/// A read takes as many bytes as there is room for; a write gives 1 to 4,096 of those that wait.
+pub fn longest_calls()
+    ensures read { IsRead 0 2 (Call.Read 0 (codes "ab") (Did.Done 2) ∷ []) }
+    ensures longer_read { IsRead 0 2 (Call.Read 0 (codes "abc") (Did.Done 3) ∷ []) → ⊥ }
+    ensures front { (front more : List ℕ) → length front ≡ 4096 → PutsFront 0 (front ++ more) (Did.Done 1) (Call.Write 0 front (Did.Done 1) ∷ []) }
+    ensures longer_front { (unsent : List ℕ) → length unsent ≡ 4097 → PutsFront 0 unsent (Did.Done 1) (Call.Write 0 unsent (Did.Done 1) ∷ []) → ⊥ }
+    ensures write { (t g bytes : List ℕ) → length bytes ≡ 4096 → IsSpeech Says t (g ++ bytes) → IsWrite Says 0 t g (Did.Done 1) (Call.Write 0 bytes (Did.Done 1) ∷ []) }
+    ensures longer_write { (t g bytes : List ℕ) → length bytes ≡ 4097 → IsWrite Says 0 t g (Did.Done 1) (Call.Write 0 bytes (Did.Done 1) ∷ []) → ⊥ }
+    ensures empty_write { IsWrite Says 0 [] hail (Did.Done 1) (Call.Write 0 [] (Did.Done 1) ∷ []) → ⊥ }
 {}

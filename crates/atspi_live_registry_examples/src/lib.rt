@@ -6,6 +6,6 @@ mod runs;
 mod standing;
 mod statuses;
 
-pub use runs::{all_speak, begins, ended_on_links, ended_runs, on_links};
+pub use runs::{all_speak, begins, ended_on_links, ended_runs, on_links, rounds_on_links};
 pub use standing::{is_after, is_empty, is_spent, last_numbers};
 pub use statuses::{causes, lines_written, quiet_ends, reports, reports_of_faults, sink_blamed};

@@ -1,9 +1,11 @@
 //! Runs of the registry, by the calls that a host tells.
 
-ghost use Rattle.std.specs.Prelude.{◌≡◌, ◌∷◌, [], ℕ, List, Option, None, Some, codes};
+ghost use Rattle.std.specs.Prelude.{◌≡◌, ◌∷◌, [], ℕ, List, Option, None, Some, codes, length};
 ghost use Rattle.atspi_host.specs.declared.call.Call.{Call};
 ghost use Rattle.atspi_host.specs.declared.call.Did.{Did};
+ghost use Rattle.atspi_conversation.specs.Speech.{IsRefused};
 ghost use Rattle.atspi_live_registry.specs.Runs.{AllSpeak, Begins, EndsOn, IsOnLink, RunEnds};
+ghost use Rattle.atspi_live_registry.specs.Standing.{IsAfter};
 ghost use Rattle.atspi_live_registry_examples.specs.Registries.{granted, hail, rejected};
 
 use atspi_host::{Call, Did};
@@ -42,6 +44,15 @@ pub fn ended_on_links()
     ensures not_connected { EndsOn (codes "/p") 0 10 5 (Some (Call.Read 0 rejected (Did.Done 19) ∷ [])) (Some []) (Some []) → ⊥ }
     ensures no_round { EndsOn (codes "/p") 0 10 0 (Some (Call.Connect (codes "/p") (Did.Done 0) ∷ Call.Read 0 rejected (Did.Done 19) ∷ [])) (Some []) (Some []) → ⊥ }
     ensures other_status { EndsOn (codes "/p") 0 9 5 (Some (Call.Connect (codes "/p") (Did.Done 0) ∷ Call.Read 0 rejected (Did.Done 19) ∷ [])) (Some []) (Some []) → ⊥ }
+{}
+
+/// All rounds were done; and a read takes 4,096 bytes at the most.
+pub fn rounds_on_links()
+    ensures all_rounds { EndsOn (codes "/p") 0 8 1 (Some (Call.Connect (codes "/p") (Did.Done 0) ∷ Call.Read 0 [] Did.NotYet ∷ Call.Write 0 hail (Did.Done 16) ∷ [])) (Some []) (Some []) }
+    ensures longest_read { (bytes : List ℕ) → length bytes ≡ 4096 → IsRefused IsAfter bytes
+        → EndsOn (codes "/p") 0 10 5 (Some (Call.Connect (codes "/p") (Did.Done 0) ∷ Call.Read 0 bytes (Did.Done 4096) ∷ [])) (Some []) (Some []) }
+    ensures longer_read { (bytes : List ℕ) → length bytes ≡ 4097
+        → EndsOn (codes "/p") 0 10 5 (Some (Call.Connect (codes "/p") (Did.Done 0) ∷ Call.Read 0 bytes (Did.Done 4097) ∷ [])) (Some []) (Some []) → ⊥ }
 {}
 
 /// Where no link is open, none was given, or memory was wanting before; else the run ended on the one that is.
