@@ -1,13 +1,13 @@
 -- Conversations of an end that takes and sends no messages.
-use Rattle.std.proofs.Common.{◌≡◌, ℕ, List, [], ◌∷◌, ◌++◌, length, None, refl, sym, ap, subst, ◌∙◌, inl, inr, append-nil, length-append, arith, lit<}
-use Rattle.std.specs.Prelude.{codes, Some}
+use Rattle.std.proofs.Common.{◌≡◌, ℕ, List, [], ◌∷◌, ◌++◌, length, None, refl, sym, ap, ◌∙◌, inl, append-nil, length-append, arith, lit<}
+use Rattle.std.specs.Prelude.{Some}
 use Rattle.atspi_auth.specs.Lines.{lines_of, joined}
 use Rattle.atspi_auth.specs.Replies.{answer, reply_to}
 use Rattle.atspi_auth.specs.Requests.{is_grant, is_number}
-use Rattle.atspi_auth.specs.Talk.{Stands, after, behind, client_start, fault_in, heard, hears, hears_bytes}
+use Rattle.atspi_auth.specs.Talk.{Stands, after, client_start, fault_in, heard, hears, hears_bytes}
 use Rattle.atspi_auth.specs.declared.said.AuthLine.{AuthLine}
 use Rattle.atspi_auth.specs.declared.said.AuthLine.TheVariants.{Hail}
-use Rattle.atspi_stream.specs.Stream.{IsParted, bytes_of, few}
+use Rattle.atspi_stream.specs.Stream.{few}
 use Rattle.atspi_conversation.specs.Sent.{AreSent}
 use Rattle.atspi_conversation.specs.Speech.{line_bytes}
 use Rattle.atspi_conversation.specs.Talking.{Converses, Going, IsAtEase}

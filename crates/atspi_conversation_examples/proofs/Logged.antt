@@ -1,12 +1,11 @@
 -- What an end did that is a list of it.
-use Rattle.std.proofs.Common.{◌≡◌, ℕ, List, [], ◌∷◌, ◌++◌, map, refl, sym, ap, subst, ◌∙◌, append-nil, append_assoc, arith}
-use Rattle.atspi_message.specs.Bytes.{IsMessage}
+use Rattle.std.proofs.Common.{◌≡◌, ℕ, List, [], ◌∷◌, ◌++◌, map, refl, ap, arith}
 use Rattle.atspi_message.specs.Envelope.{Envelope}
 use Rattle.atspi_message.specs.Rules.{MeetsRules}
 use Rattle.atspi_stream.specs.Stream.{IsParted}
 use Rattle.atspi_conversation.specs.Speech.{envelopes}
 use Rattle.atspi_conversation.specs.Talking.{Attends, HandsOut, Takes}
-use Rattle.atspi_conversation_examples.specs.Logs.{Log, Logs, call, fresh}
+use Rattle.atspi_conversation_examples.specs.Logs.{Logs, call, fresh}
 
 pub none_some : (e : Envelope) (es : List Envelope) → [] ≡ e ∷ es → ⊥
 none_some e es h = cc

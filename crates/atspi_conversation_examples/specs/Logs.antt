@@ -1,6 +1,6 @@
 -- An end that is just what it did, conversations with it, and small messages.
 use Rattle.std.specs.Prelude.{◌≡◌, ℕ, List, [], ◌∷◌, None, Some, codes}
-use Rattle.atspi_auth.specs.Talk.{Standing, client_start}
+use Rattle.atspi_auth.specs.Talk.{client_start}
 use Rattle.atspi_auth.specs.declared.said.AuthLine.{AuthLine}
 use Rattle.atspi_auth.specs.declared.said.AuthLine.TheVariants.{Hail, Data, Begin}
 use Rattle.atspi_auth.specs.declared.stage.Stage.TheVariants.{Over}

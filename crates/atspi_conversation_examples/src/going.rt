@@ -43,7 +43,7 @@ pub fn uttered()
 {}
 
 /// What was given, and the bytes that wait, are the lines that were handed out and then what the end sent; the bytes held are those behind the messages that it took.
-pub fn conversing()
+pub fn converses()
     ensures begun { Converses Says [] [] begun 0 }
     ensures line_waits { Converses Says [] [] (record hailed { unsent = hail }) 0 }
     ensures line_given { Converses Says [] hail hailed 0 }
@@ -133,7 +133,7 @@ pub fn speeches()
 {}
 
 /// A run that ended is both: what it gave is what the end says, and what it took is why it ended.
-pub fn ended()
+pub fn is_ended()
     ensures both { IsEnded Says IsNeverSpent 0 Ending.PeerEnded 5 (Some (Call.Write 0 hail (Did.Done 16) ∷ Call.Read 0 [] Did.End ∷ [])) }
     ensures other_said { IsEnded Says IsNeverSpent 0 Ending.PeerEnded 5 (Some (Call.Write 0 (codes "x") (Did.Done 1) ∷ Call.Read 0 [] Did.End ∷ [])) → ⊥ }
     ensures not_ended { IsEnded Says IsNeverSpent 0 Ending.RoundsDone 5 (Some (Call.Write 0 hail (Did.Done 16) ∷ Call.Read 0 [] Did.NotYet ∷ [])) → ⊥ }

@@ -13,8 +13,8 @@ mod steps;
 pub use cases::{answers_of_reads, bytes_of_lines, is_over, lines, sent};
 pub use ends::{bytes_at_fault, bytes_in_order, ended_runs, ends_left_off, lines_at_fault};
 pub use going::{
-    at_ease, beginnings, broken_off, conversing, ended, left, longest_calls, next_calls, not_told,
-    rounds_done, speeches, uttered,
+    at_ease, beginnings, broken_off, converses, is_ended, left, longest_calls, next_calls,
+    not_told, rounds_done, speeches, uttered,
 };
 pub use promises::{
     attends, attends_all, attends_to_spent, ends_of_what_is_held, hands_out, may_send, may_speak,

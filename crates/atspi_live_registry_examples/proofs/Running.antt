@@ -5,8 +5,6 @@ use Rattle.atspi_auth.specs.Lines.{lines_of, joined}
 use Rattle.atspi_auth.specs.Replies.{answer, reply_to}
 use Rattle.atspi_auth.specs.Requests.{is_grant, is_number}
 use Rattle.atspi_auth.specs.Talk.{after, behind, client_start, fault_in, heard, hears, hears_bytes}
-use Rattle.atspi_auth.proofs.LinesLemmas.{joined-lines_of}
-use Rattle.atspi_host.specs.declared.call.Call.{Call}
 use Rattle.atspi_host.specs.declared.call.Call.TheVariants.{Connect, Read}
 use Rattle.atspi_host.specs.declared.call.Did.TheVariants.{Done, End}
 use Rattle.atspi_stream.specs.Stream.{few}

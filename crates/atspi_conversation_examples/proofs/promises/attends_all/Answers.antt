@@ -1,13 +1,8 @@
-use Rattle.std.proofs.Common.{◌≡◌, ℕ, List, [], ◌∷◌, ◌++◌, refl, sym, ap, subst, ◌∙◌, inl, inr, append-nil, append_assoc, arith, lit<}
-use Rattle.std.specs.Prelude.{codes, None, Some, true, false, map}
-use Rattle.atspi_message.specs.Bytes.{IsMessage, written}
-use Rattle.atspi_message.specs.Envelope.{Envelope}
-use Rattle.atspi_stream.specs.Stream.{AwaitsMore, HasFault, IsParted, few, in_front, behind}
-use Rattle.atspi_conversation.specs.Sent.{AreSent, Fits, IsSent}
-use Rattle.atspi_conversation.specs.Speech.{envelopes}
-use Rattle.atspi_conversation_examples.specs.Logs.{Log, Logs, call, fresh}
-use Rattle.atspi_conversation_examples.proofs.Ended.{none_begun, none_taken, not_awaited}
-use Rattle.atspi_conversation_examples.proofs.Logged.{hands_one, held_still, none_of, none_some, not_ruled, nothing_attended, ruled, same_serials, takes_one}
+use Rattle.std.proofs.Common.{◌≡◌, ℕ, List, [], ◌∷◌, ◌++◌, sym, ap, ◌∙◌, append-nil, lit<}
+use Rattle.std.specs.Prelude.{codes}
+use Rattle.atspi_stream.specs.Stream.{few}
+use Rattle.atspi_conversation_examples.proofs.Ended.{not_awaited}
+use Rattle.atspi_conversation_examples.proofs.Logged.{held_still, takes_one}
 use Rattle.atspi_conversation_examples.proofs.promises.attends_all.Goals as goal
 
 pub returns-clause-one : goal.returns-clause-one

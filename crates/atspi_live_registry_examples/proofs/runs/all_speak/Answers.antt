@@ -1,7 +1,6 @@
-use Rattle.std.proofs.Common.{◌≡◌, ◌<◌, ℕ, List, [], ◌∷◌, ◌++◌, Option, None, Some, refl, sym, ap, subst, ◌∙◌, inl, inr, append-nil, arith, lit<, lit≤}
-use Rattle.std.specs.Prelude.{codes}
-use Rattle.atspi_live_registry_examples.specs.Registries.{granted, hail, rejected}
-use Rattle.atspi_live_registry_examples.proofs.Running.{in_order, not_refused, only_refused, peer_ended, refused, says, says_no_other, tells_none}
+use Rattle.std.proofs.Common.{[], append-nil}
+use Rattle.atspi_live_registry_examples.specs.Registries.{hail}
+use Rattle.atspi_live_registry_examples.proofs.Running.{says, says_no_other}
 use Rattle.atspi_live_registry_examples.proofs.runs.all_speak.Goals as goal
 
 pub returns-clause-no_link : goal.returns-clause-no_link

@@ -1,8 +1,5 @@
-use Rattle.std.proofs.Common.{◌≡◌, ◌<◌, ℕ, List, [], ◌∷◌, ◌++◌, Option, None, Some, refl, sym, ap, subst, ◌∙◌, inl, inr, append-nil, arith, lit<, lit≤}
-use Rattle.std.specs.Prelude.{codes}
-use Rattle.atspi_host.specs.declared.call.Call.{Call}
-use Rattle.atspi_host.specs.declared.call.Call.TheVariants.{Close, Connect, Read, Write}
-use Rattle.atspi_host.specs.declared.call.Did.TheVariants.{Done, End}
+use Rattle.std.proofs.Common.{◌≡◌, [], ◌∷◌, refl}
+use Rattle.atspi_host.specs.declared.call.Call.TheVariants.{Close}
 use Rattle.atspi_live_registry_examples.proofs.runs.begins.Goals as goal
 
 pub returns-clause-none : goal.returns-clause-none

@@ -1,15 +1,15 @@
-use Rattle.std.proofs.Common.{◌≡◌, ◌<◌, ℕ, List, [], ◌∷◌, ◌++◌, Option, None, Some, refl, sym, ap, subst, ◌∙◌, inl, inr, append-nil, arith, lit<, lit≤}
+use Rattle.std.proofs.Common.{◌≡◌, List, [], ◌∷◌, Some, refl, subst, arith, lit<, lit≤}
 use Rattle.std.specs.Prelude.{codes}
 use Rattle.atspi_host.specs.declared.call.Call.{Call}
-use Rattle.atspi_host.specs.declared.call.Call.TheVariants.{Close, Connect, Read, Write}
-use Rattle.atspi_host.specs.declared.call.Did.TheVariants.{Done, End}
+use Rattle.atspi_host.specs.declared.call.Call.TheVariants.{Connect, Read}
+use Rattle.atspi_host.specs.declared.call.Did.TheVariants.{Done}
 use Rattle.atspi_conversation.specs.Rounds.{IsRun}
 use Rattle.atspi_conversation.specs.Speech.{Ends}
 use Rattle.atspi_conversation.specs.declared.ending.Ending.{Ending}
 use Rattle.atspi_conversation.specs.declared.ending.Ending.TheVariants as endings
 use Rattle.atspi_live_registry.specs.Standing.{IsAfter, IsEmpty, IsSpent}
-use Rattle.atspi_live_registry_examples.specs.Registries.{granted, hail, rejected}
-use Rattle.atspi_live_registry_examples.proofs.Running.{in_order, not_refused, only_refused, peer_ended, refused, says, says_no_other, tells_none}
+use Rattle.atspi_live_registry_examples.specs.Registries.{granted, rejected}
+use Rattle.atspi_live_registry_examples.proofs.Running.{not_refused, only_refused, peer_ended, refused, tells_none}
 use Rattle.atspi_live_registry_examples.proofs.runs.ended_on_links.Goals as goal
 
 pub returns-clause-peer_ended : goal.returns-clause-peer_ended

@@ -1,8 +1,6 @@
-use Rattle.std.proofs.Common.{◌≡◌, ◌<◌, ℕ, List, [], ◌∷◌, ◌++◌, Option, None, Some, refl, sym, ap, subst, ◌∙◌, inl, inr, append-nil, arith, lit<, lit≤}
-use Rattle.std.specs.Prelude.{codes}
-use Rattle.std.specs.Prelude.{◌⊎◌}
-use Rattle.atspi_live_registry_examples.specs.Registries.{granted, hail, rejected}
-use Rattle.atspi_live_registry_examples.proofs.Running.{in_order, not_refused, only_refused, peer_ended, refused, says, says_no_other, tells_none}
+use Rattle.std.proofs.Common.{◌≡◌, ℕ, List, [], ◌∷◌, Some, refl, inl, inr, arith}
+use Rattle.std.specs.Prelude.{◌⊎◌, codes}
+use Rattle.atspi_live_registry_examples.proofs.Running.{peer_ended, tells_none}
 use Rattle.atspi_live_registry_examples.proofs.runs.ended_runs.Goals as goal
 
 pub returns-clause-not_given : goal.returns-clause-not_given

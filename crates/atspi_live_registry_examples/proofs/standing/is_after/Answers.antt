@@ -1,8 +1,5 @@
-use Rattle.std.proofs.Common.{◌≡◌, ◌<◌, ℕ, List, [], ◌∷◌, ◌++◌, Option, None, Some, refl, sym, ap, subst, ◌∙◌, inl, inr, append-nil, arith, lit<, lit≤}
-use Rattle.std.specs.Prelude.{codes}
-use Rattle.std.specs.Prelude.{length}
-use Rattle.atspi_protocol.specs.registry_laws.Sends.{started}
-use Rattle.atspi_live_registry_examples.specs.Registries.{named, welcome}
+use Rattle.std.proofs.Common.{◌≡◌, ℕ, List, Option, None, Some, refl, ap, arith, lit≤}
+use Rattle.std.specs.Prelude.{codes, length}
 use Rattle.atspi_live_registry_examples.proofs.Running.{begun}
 use Rattle.atspi_live_registry_examples.proofs.standing.is_after.Goals as goal
 

@@ -1,4 +1,4 @@
-use Rattle.std.proofs.Common.{◌≡◌, ◌<◌, ℕ, List, [], ◌∷◌, ◌++◌, Option, None, Some, refl, sym, ap, subst, ◌∙◌, inl, inr, append-nil, arith, lit<, lit≤}
+use Rattle.std.proofs.Common.{◌≡◌, [], Some, refl, arith}
 use Rattle.std.specs.Prelude.{codes}
 use Rattle.atspi_live_registry_examples.proofs.statuses.quiet_ends.Goals as goal
 

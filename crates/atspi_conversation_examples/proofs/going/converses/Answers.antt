@@ -1,26 +1,17 @@
-use Rattle.std.proofs.Common.{◌≡◌, ℕ, List, [], ◌∷◌, ◌++◌, length, refl, sym, ap, subst, ◌∙◌, inl, inr, append-nil, length-append, arith, lit<}
-use Rattle.std.specs.Prelude.{codes, None, Some}
-use Rattle.atspi_auth.specs.Lines.{end_of_line}
-use Rattle.atspi_auth.specs.Talk.{after, behind, client_start, fault_in}
-use Rattle.atspi_auth.specs.declared.said.AuthLine.{AuthLine}
-use Rattle.atspi_auth.specs.declared.said.AuthLine.TheVariants.{Hail, Data, Begin}
-use Rattle.atspi_host.specs.declared.call.Call.TheVariants.{Close, Read, Write}
-use Rattle.atspi_host.specs.declared.call.Did.TheVariants.{Done, NotYet, End}
-use Rattle.atspi_host.specs.declared.call.Did.{Did}
-use Rattle.atspi_message.specs.Bytes.{IsMessage, written}
-use Rattle.atspi_message.specs.Envelope.{Envelope}
+use Rattle.std.proofs.Common.{◌≡◌, ℕ, List, [], ◌∷◌, ◌++◌, length, refl, sym, ap, ◌∙◌, inl, inr, append-nil, arith}
+use Rattle.std.specs.Prelude.{codes, ◌⊎◌}
+use Rattle.atspi_auth.specs.Talk.{client_start}
+use Rattle.atspi_auth.specs.declared.said.AuthLine.TheVariants.{Begin}
+use Rattle.atspi_message.specs.Bytes.{written}
 use Rattle.atspi_stream.specs.Stream.{AwaitsMore, HasFault, IsParted, few, in_front}
 use Rattle.atspi_stream.specs.Stream as stream
-use Rattle.atspi_conversation.specs.Moved.{AllGoOn}
-use Rattle.atspi_conversation.specs.Talking.{Converses}
-use Rattle.atspi_conversation_examples.specs.Logs.{begun, fresh, hailed, over, three_lines}
-use Rattle.atspi_conversation_examples.specs.Silent.{Says, granted, hail, rejected}
+use Rattle.atspi_conversation_examples.specs.Logs.{over, three_lines}
+use Rattle.atspi_conversation_examples.specs.Silent.{hail}
 use Rattle.atspi_conversation_examples.proofs.Conversing as conversing
 use Rattle.atspi_conversation_examples.proofs.Ended as ended
 use Rattle.atspi_conversation_examples.proofs.Given as given
-use Rattle.atspi_conversation_examples.proofs.Logged.{held_still, none_some}
-use Rattle.atspi_conversation_examples.proofs.going.conversing.Goals as goal
-use Rattle.std.specs.Prelude.{◌⊎◌}
+use Rattle.atspi_conversation_examples.proofs.Logged.{none_some}
+use Rattle.atspi_conversation_examples.proofs.going.converses.Goals as goal
 use Rattle.atspi_auth.specs.declared.stage.Stage.TheVariants.{Over}
 
 pub returns-clause-begun : goal.returns-clause-begun
