@@ -1,1 +1,4 @@
 pub mod Rounds
+pub mod Asked
+pub mod Paced
+pub mod Waiting

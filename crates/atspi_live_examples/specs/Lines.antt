@@ -1,5 +1,5 @@
--- The lines of servers.
-use Rattle.std.specs.Prelude.{ℕ, List, ◌++◌, codes}
+-- The lines of servers, and one of an input.
+use Rattle.std.specs.Prelude.{ℕ, List, [], ◌∷◌, ◌++◌, codes}
 use Rattle.atspi_auth.specs.Lines.{end_of_line}
 
 -- of one that lets a client in
@@ -9,3 +9,7 @@ granted = codes "DATA" ++ (end_of_line ++ (codes "OK 617473706932000000000000000
 -- of one that does not
 abbrev pub rejected : List ℕ
 rejected = codes "REJECTED EXTERNAL" ++ end_of_line
+
+-- `app "T"`
+abbrev pub named : List ℕ
+named = codes "app " ++ 34 ∷ (codes "T" ++ 34 ∷ [])
