@@ -2,7 +2,7 @@
 
 ghost use Rattle.std.specs.Prelude.{◌<◌, ◌∷◌, ◌++◌, ℕ, List, [], codes, length};
 ghost use Rattle.atspi_message.specs.Envelope.{Envelope};
-ghost use Rattle.atspi_routing.specs.Queues.{Bus};
+ghost use Rattle.atspi_routing.specs.Queues.{Bus, empty_bus};
 ghost use Rattle.atspi_routing.specs.Room.{hello, one_};
 ghost use Rattle.atspi_bus_steps.specs.Limits.{PassesLimits, SaysTooMuch, IsTooBig};
 ghost use Rattle.atspi_bus_examples.specs.Sized.{bare, signed, with_path, to, call, in_room};
@@ -27,9 +27,10 @@ pub fn said()
 
 /// In a bus whose connections 0, 1 and 2 have their names and 3 has none, a message of 0 to the name of 1 is too big where it passes the limits with the name of 0.
 /// One of the same size is not where it goes to a name that nobody owns, where it is for the bus, as a call without a destination is, and where it is of 3, for then it
-/// is not passed on.
+/// is not passed on. Names and receivers are those before the bus took it.
 pub fn too_big()
     ensures passed_on { (path : List ℕ) → 67108864 < length path → IsTooBig in_room 0 (with_path path (to one_)) in_room }
+    ensures whose_receiver_leaves { (path : List ℕ) → 67108864 < length path → IsTooBig in_room 0 (with_path path (to one_)) (empty_bus 16777216) }
     ensures small { IsTooBig in_room 0 bare in_room → ⊥ }
     ensures to_nobody { (path : List ℕ) → IsTooBig in_room 0 (with_path path (to (codes ":1.9"))) in_room → ⊥ }
     ensures to_the_bus { (path : List ℕ) → IsTooBig in_room 0 (with_path path hello) in_room → ⊥ }

@@ -30,6 +30,10 @@ pub returns-clause-passed_on : goal.returns-clause-passed_on
 returns-clause-passed_on c = λ path long.
     inl (zero_, named, record { for_others = refl; owned = simp known refl; passes = long-path (record (to one_) { sender = Some zero_ }) path long })
 
+pub returns-clause-whose_receiver_leaves : goal.returns-clause-whose_receiver_leaves
+returns-clause-whose_receiver_leaves c = λ path long.
+    inl (zero_, named, record { for_others = refl; owned = simp known refl; passes = long-path (record (to one_) { sender = Some zero_ }) path long })
+
 pub returns-clause-small : goal.returns-clause-small
 returns-clause-small c = by
   where
