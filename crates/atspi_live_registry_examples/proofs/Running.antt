@@ -1,5 +1,5 @@
 -- What a registry says that has just started.
-use Rattle.std.proofs.Common.{◌≡◌, ◌⊎◌, ◌<◌, ℕ, List, [], ◌∷◌, ◌++◌, Option, None, Some, refl, sym, ap, ◌∙◌, inl, inr, append-nil, arith, lit<, lit≤}
+use Rattle.std.proofs.Common.{◌≡◌, ◌⊎◌, ◌<◌, ℕ, List, [], ◌∷◌, ◌++◌, Option, None, Some, refl, sym, ap, subst, ◌∙◌, inl, inr, append-nil, arith, lit<, lit≤}
 use Rattle.std.specs.Prelude.{codes}
 use Rattle.atspi_auth.specs.Lines.{lines_of, joined}
 use Rattle.atspi_auth.specs.Replies.{answer, reply_to}
@@ -105,3 +105,10 @@ tells_none (endings.Malformed start fault) w w' (inr (inl r, part)) = other 9 4 
 tells_none (endings.Malformed start fault) w w' (inr (inr r, part)) = other 9 5 r (inr (lit< tt))
 tells_none endings.Spent w w' r = other 9 13 r.0 (inl (lit< tt))
 tells_none endings.NoMemory w w' r = other 9 5 r.0 (inr (lit< tt))
+
+-- and with status 10 nothing is written
+pub quiet_refused : (ending : Ending) → Reports ending 10 (Some []) (Some (codes "a")) → ⊥
+quiet_refused ending r = by (subst (λ (ending : Ending). Reports ending 10 (Some []) (Some (codes "a"))) (only_refused ending (Some []) (Some (codes "a")) r) r).1
+  where
+    by : Some (codes "a") ≡ Some [] → ⊥
+    by h = cc

@@ -43,6 +43,7 @@ pub fn ended_on_links()
     ensures let_in { EndsOn (codes "/p") 0 10 5 (Some (Call.Connect (codes "/p") (Did.Done 0) ∷ Call.Read 0 granted (Did.Done 43) ∷ [])) (Some []) (Some []) → ⊥ }
     ensures not_connected { EndsOn (codes "/p") 0 10 5 (Some (Call.Read 0 rejected (Did.Done 19) ∷ [])) (Some []) (Some []) → ⊥ }
     ensures no_round { EndsOn (codes "/p") 0 10 0 (Some (Call.Connect (codes "/p") (Did.Done 0) ∷ Call.Read 0 rejected (Did.Done 19) ∷ [])) (Some []) (Some []) → ⊥ }
+    ensures written { EndsOn (codes "/p") 0 10 5 (Some (Call.Connect (codes "/p") (Did.Done 0) ∷ Call.Read 0 rejected (Did.Done 19) ∷ [])) (Some []) (Some (codes "a")) → ⊥ }
     ensures other_status { EndsOn (codes "/p") 0 9 5 (Some (Call.Connect (codes "/p") (Did.Done 0) ∷ Call.Read 0 rejected (Did.Done 19) ∷ [])) (Some []) (Some []) → ⊥ }
 {}
 
@@ -64,4 +65,5 @@ pub fn ended_runs()
     ensures on_link { RunEnds (codes "/p") (0 ∷ []) 0 5 (Some (Call.Connect (codes "/p") (Did.Done 0) ∷ Call.Read 0 [] Did.End ∷ [])) (Some []) (Some []) }
     ensures second_link { RunEnds (codes "/p") (0 ∷ 1 ∷ []) 0 5 (Some (Call.Connect (codes "/p") (Did.Done 0) ∷ Call.Read 0 [] Did.End ∷ [])) (Some []) (Some []) → ⊥ }
     ensures not_on_link { RunEnds (codes "/p") (0 ∷ []) 9 5 (Some (Call.Connect (codes "/p") (Did.Done 0) ∷ Call.Read 0 [] Did.End ∷ [])) (Some []) (Some []) → ⊥ }
+    ensures written_on_link { RunEnds (codes "/p") (0 ∷ []) 10 5 (Some (Call.Connect (codes "/p") (Did.Done 0) ∷ Call.Read 0 rejected (Did.Done 19) ∷ [])) (Some []) (Some (codes "a")) → ⊥ }
 {}

@@ -9,7 +9,7 @@ use Rattle.atspi_conversation.specs.declared.ending.Ending.{Ending}
 use Rattle.atspi_conversation.specs.declared.ending.Ending.TheVariants as endings
 use Rattle.atspi_live_registry.specs.Standing.{IsAfter, IsEmpty, IsSpent}
 use Rattle.atspi_live_registry_examples.specs.Registries.{granted, rejected}
-use Rattle.atspi_live_registry_examples.proofs.Running.{not_refused, only_refused, peer_ended, refused, tells_none}
+use Rattle.atspi_live_registry_examples.proofs.Running.{not_refused, only_refused, peer_ended, quiet_refused, refused, tells_none}
 use Rattle.atspi_live_registry_examples.proofs.runs.ended_on_links.Goals as goal
 
 pub returns-clause-peer_ended : goal.returns-clause-peer_ended
@@ -51,3 +51,6 @@ returns-clause-no_round c s = by s.ending (only_refused s.ending (Some []) (Some
 
 pub returns-clause-other_status : goal.returns-clause-other_status
 returns-clause-other_status c s = tells_none s.ending (Some []) (Some []) s.reports
+
+pub returns-clause-written : goal.returns-clause-written
+returns-clause-written c s = quiet_refused s.ending s.reports

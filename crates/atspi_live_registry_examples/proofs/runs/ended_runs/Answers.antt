@@ -1,6 +1,6 @@
 use Rattle.std.proofs.Common.{◌≡◌, ℕ, List, [], ◌∷◌, Some, refl, inl, inr, arith}
 use Rattle.std.specs.Prelude.{◌⊎◌, codes}
-use Rattle.atspi_live_registry_examples.proofs.Running.{peer_ended, tells_none}
+use Rattle.atspi_live_registry_examples.proofs.Running.{peer_ended, quiet_refused, tells_none}
 use Rattle.atspi_live_registry_examples.proofs.runs.ended_runs.Goals as goal
 
 pub returns-clause-not_given : goal.returns-clause-not_given
@@ -33,3 +33,6 @@ returns-clause-second_link c s = by s.1
 
 pub returns-clause-not_on_link : goal.returns-clause-not_on_link
 returns-clause-not_on_link c s = tells_none s.0.ending (Some []) (Some []) s.0.reports
+
+pub returns-clause-written_on_link : goal.returns-clause-written_on_link
+returns-clause-written_on_link c s = quiet_refused s.0.ending s.0.reports
