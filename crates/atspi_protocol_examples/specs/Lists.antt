@@ -5,8 +5,7 @@ use Rattle.atspi_types.specs.Data.{Data, array_data, items_of, number_data, stru
 use Rattle.atspi_forest.specs.declared.step.Seed.{Seed}
 use Rattle.atspi_forest.specs.declared.step.Step.{Step}
 use Rattle.atspi_forest.specs.declared.step.Step.TheVariants.{Move}
-use Rattle.atspi_protocol.specs.exporting.Cases.{begun, handed_out}
-use Rattle.atspi_protocol.specs.exporting.Exporter.{Exporter, Happening, deaf, hears, sends, steps}
+use Rattle.atspi_protocol.specs.exporting.Exporter.{Happening, deaf, hears, sends, steps}
 use Rattle.atspi_protocol.specs.ends.Messages.{call_to}
 use Rattle.atspi_message.specs.Envelope.{Envelope}
 use Rattle.atspi_forest.specs.Row.{TreeRow}
