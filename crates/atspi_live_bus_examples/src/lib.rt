@@ -1,0 +1,23 @@
+//! Values of the definitions of a live bus, worked out by hand: what it was asked and where that leads it, which links are open and closed for what, how turns and rounds go on, and
+//! what calls leave of its links.
+#![tactic(auto)]
+
+mod asking;
+mod closing;
+mod coursing;
+mod rounding;
+mod seating;
+
+pub use asking::{calls_in_order, calls_that_lead, last_numbers, refused_by_rule};
+pub use closing::{
+    closed_once, left_in_part, lost_links, none_taken, open_behind_calls, rests, stopped_reads,
+    what_ceases, writes,
+};
+pub use coursing::{accepts, begun, calls_of_a_course, kinds_of_asking, steps_of_a_course};
+pub use rounding::{
+    all_given, answers_to_go_on, calls_that_close, cut_turns, ends_of_rounds, gifts, may_give,
+    reads, round_counts, tellings, turns_of_links, unheard_runs,
+};
+pub use seating::{
+    calls_for_one, ends_of_runs, links_in_order, links_left, order_of_links, what_waited,
+};
