@@ -137,6 +137,10 @@ stopped_other x y t (inl n) = not_none (Close 5) [] (sym n.0)
 stopped_other x y t (inr (inl l)) = other_close (sym l.1.0)
 stopped_other x y t (inr (inr a)) = a.0 (inl refl)
 
+pub failed_closes : (x y : Course) → FollowsRead true 3 0 x (3 ∷ 5 ∷ []) Failed [] [] y → ⊥
+failed_closes x y (inl l) = not_none (Close 3) l.1.1 l.1.4
+failed_closes x y (inr a) = a.0 (inr (inl refl))
+
 -- reads and writes
 pub few_read : (xs ys : List Call) (b c : List ℕ) (d f : Did) → 4096 < length b → length c ≤ 4096 → Read 3 b d ∷ xs ≡ Read 3 c f ∷ ys → ⊥
 few_read xs ys b c d f many few e = omega (arith, many, few, ap (λ (w : List ℕ). length w) (same b c e))

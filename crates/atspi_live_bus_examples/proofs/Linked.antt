@@ -1,6 +1,10 @@
 -- What stands of the cases of links.
-use Rattle.std.proofs.Common.{◌≡◌, ℕ, ◌<◌, List, [], ◌∷◌, ◌++◌, refl, inl, inr, arith}
+use Rattle.std.proofs.Common.{◌≡◌, ℕ, ◌<◌, List, [], ◌∷◌, refl, sym, inl, inr, arith}
 use Rattle.atspi_message.specs.Envelope.{Envelope}
+use Rattle.atspi_host.specs.declared.call.Call.TheVariants.{Close}
+use Rattle.atspi_live_bus.specs.Closes.{IsShut}
+use Rattle.atspi_live_bus.specs.Course.{start}
+use Rattle.atspi_live_bus.proofs.Worked.{not_none}
 use Rattle.atspi_live_bus.specs.Seats.{Rise}
 use Rattle.atspi_live_bus.specs.Stops.{Ends}
 
@@ -64,3 +68,7 @@ not_counted_seven e = elim (e.by_host refl) [ inl f ↦ omega (arith, f) | inr f
 
 pub counted_eight : Ends 8 3 4 → ⊥
 counted_eight e = elim e.no_host [ inl f ↦ omega (arith, f) | inr f ↦ omega (arith, f) ]
+
+pub none_dismissed : IsShut start.conn [] 1 (Close 3 ∷ []) → ⊥
+none_dismissed (inl n) = not_none (Close 3) [] (sym n.1)
+none_dismissed (inr s) = s.1

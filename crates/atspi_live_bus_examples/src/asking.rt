@@ -1,6 +1,6 @@
 //! What a bus was asked, and where that leads it.
 
-ghost use Rattle.std.specs.Prelude.{◌≡◌, ◌<◌, ◌≤◌, ◌∷◌, ◌++◌, ℕ, List, [], Option, None};
+ghost use Rattle.std.specs.Prelude.{◌≡◌, ◌<◌, ◌≤◌, ◌∷◌, ℕ, List, [], Option};
 ghost use Rattle.atspi_message.specs.Envelope.{Envelope};
 ghost use Rattle.atspi_match.specs.declared.condition.Condition.{Condition};
 ghost use Rattle.atspi_routing.specs.Queues.{Bus, joins, leaves, queue_of, takes};

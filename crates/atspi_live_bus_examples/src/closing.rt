@@ -1,6 +1,6 @@
 //! Which links are open behind calls, and which are closed for what.
 
-ghost use Rattle.std.specs.Prelude.{◌≡◌, ◌∷◌, ◌++◌, ℕ, List, [], Some, codes, true, false};
+ghost use Rattle.std.specs.Prelude.{◌≡◌, ◌∷◌, ◌++◌, ℕ, List, [], codes, true, false};
 ghost use Rattle.atspi_message.specs.Bytes.{IsMessage};
 ghost use Rattle.atspi_message.specs.Envelope.{Envelope};
 ghost use Rattle.atspi_auth.specs.Talk.{behind, server_start};
@@ -78,6 +78,13 @@ pub fn what_ceases()
     ensures stopped_closed { (x y : Course) (rest : List ℕ) → Ceases false 3 0 x (5 ∷ []) rest (Call.Close 3 ∷ []) y → ⊥ }
     ensures stopped_for_nothing { (x y : Course) (rest : List ℕ) → (IsBad x.bus 0 rest → ⊥) → Ceases false 3 0 x (3 ∷ 5 ∷ []) rest (Call.Close 3 ∷ []) y → ⊥ }
     ensures stopped_same { (x y : Course) (rest : List ℕ) (calls : List Call) → Ceases false 3 0 x (3 ∷ 5 ∷ []) rest calls y → y ≡ x }
+{}
+
+/// Behind a read the close of its link stands where its first byte was not zero, and nothing where nothing came.
+pub fn whole_reads()
+    ensures at_fault { (x y : Course) → Steps x (leaving 0) [] y → FollowsRead true 0 0 x (0 ∷ 5 ∷ []) (Did.Done 1) (97 ∷ []) (Call.Close 0 ∷ []) y }
+    ensures quiet { (x : Course) → messages_of 0 x.asked ≡ [] → FollowsRead true 3 0 x (3 ∷ 5 ∷ []) Did.NotYet [] [] x }
+    ensures not_closed { (x y : Course) → FollowsRead true 3 0 x (3 ∷ 5 ∷ []) Did.Failed [] [] y → ⊥ }
 {}
 
 /// Where the bus stopped behind a read, none or its own close alone may have come of a link that ended; and none of one that sent nothing yet.

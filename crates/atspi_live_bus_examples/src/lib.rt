@@ -11,7 +11,7 @@ mod seating;
 pub use asking::{calls_in_order, calls_that_lead, last_numbers, refused_by_rule};
 pub use closing::{
     closed_once, left_in_part, lost_links, none_taken, open_behind_calls, rests, stopped_reads,
-    what_ceases, writes,
+    what_ceases, whole_reads, writes,
 };
 pub use coursing::{accepts, begun, calls_of_a_course, kinds_of_asking, steps_of_a_course};
 pub use rounding::{
@@ -19,5 +19,5 @@ pub use rounding::{
     reads, round_counts, tellings, turns_of_links, unheard_runs,
 };
 pub use seating::{
-    calls_for_one, ends_of_runs, links_in_order, links_left, order_of_links, what_waited,
+    calls_for_one, ends_of_runs, links_in_order, links_left, no_links, order_of_links, what_waited,
 };

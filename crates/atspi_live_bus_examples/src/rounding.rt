@@ -84,6 +84,8 @@ pub fn cut_turns()
     ensures of_one_closed { (x y : Course) (past calls : List Call) (c : Call) → open_behind past ≡ 5 ∷ [] → IsCut x past 3 (c ∷ calls) y → ⊥ }
     ensures whole { (x y : Course) (past calls : List Call) → MayBeCut true x past 3 calls y → ⊥ }
     ensures cut { (x y : Course) (past calls : List Call) → IsCut x past 3 calls y → MayBeCut false x past 3 calls y }
+    ensures gift_part { (x m y : Course) (past read gift : List Call) → IsHeard true x past (open_behind past) 3 0 read m → MayGive false m (past ++ read) (open_behind (past ++ read)) 3 0 gift y
+        → IsPart x past 3 0 (read ++ gift) y }
     ensures read_part { (x y : Course) (past calls : List Call) → IsHeard false x past (open_behind past) 3 0 calls y → IsPart x past 3 0 calls y }
 {}
 

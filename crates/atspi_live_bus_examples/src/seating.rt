@@ -1,15 +1,14 @@
 //! The links of a bus, what calls leave of them, and how a run of it ends.
 
-ghost use Rattle.std.specs.Prelude.{◌≡◌, ◌<◌, ◌≤◌, ◌+◌, ◌∷◌, ◌++◌, ℕ, List, [], length, None, Some, codes, true, false, ⊤};
+ghost use Rattle.std.specs.Prelude.{◌≡◌, ◌+◌, ◌∷◌, List, [], length, None, Some, codes, true, false, ⊤};
 ghost use Rattle.atspi_message.specs.Envelope.{Envelope};
 ghost use Rattle.atspi_auth.specs.declared.stage.Stage.TheVariants.{Over};
 ghost use Rattle.atspi_host.specs.declared.call.Call.{Call};
 ghost use Rattle.atspi_host.specs.declared.call.Did.{Did};
 ghost use Rattle.atspi_routing.specs.Queues.{Bus, queue_of};
 ghost use Rattle.atspi_live_bus.specs.Asked.{Leads, joining, popping, taking, telling};
-ghost use Rattle.atspi_live_bus.specs.Cases.{one_link};
-ghost use Rattle.atspi_live_bus.specs.Course.{Accepts, start};
-ghost use Rattle.atspi_live_bus.specs.Seats.{AreAbove, AreLeft, HasAccepted, HasRead, HasSent, Rise, Stands, Waited, conn_at, due, held, left, number_at, numbers_of, seats, without_seat};
+ghost use Rattle.atspi_live_bus.specs.Course.{Course, start};
+ghost use Rattle.atspi_live_bus.specs.Seats.{AreAbove, AreLeft, Dismisses, HasAccepted, HasSent, Leaves, MayTake, Rise, Settles, Settling, Stands, Takes, TakesAll, TakesCut, TakesNone, TakesOne, TakesSome, Waited, Writes, conn_at, due, held, left, number_at, numbers_of, seats, without_seat};
 ghost use Rattle.atspi_live_bus.specs.Service.{HasNoCall, OfTold};
 ghost use Rattle.atspi_live_bus.specs.Serving.{Serves, numbers};
 ghost use Rattle.atspi_live_bus.specs.Stops.{Ends};
@@ -114,4 +113,24 @@ pub fn ends_of_runs()
     ensures no_status { Ends 6 3 3 → ⊥ }
     ensures not_counted { Ends 7 3 3 → ⊥ }
     ensures counted { Ends 8 3 4 → ⊥ }
+{}
+
+/// Where a bus has no link none is closed, and no link has a turn; a link whose close was the last call leaves nothing else.
+pub fn no_links()
+    ensures dismissed { Dismisses 1 [] [] start [] [] start }
+    ensures not_dismissed { (y : Course) → Dismisses 1 [] [] start [] (Call.Close 3 ∷ []) y → ⊥ }
+    ensures dismissed_same { (y : Course) (calls : List Call) → Dismisses 1 [] [] start [] calls y → y ≡ start }
+    ensures settling { Settling [] [] start [] [] start }
+    ensures settled { Settles [] [] start [] [] start }
+    ensures not_settled { (y : Course) → Settles [] [] start [] (Call.Close 3 ∷ []) y → ⊥ }
+    ensures left { (x : Course) → Leaves false 3 0 [] [] x [] (Call.Close 3 ∷ []) x }
+    ensures one_taken { TakesOne 3 [] [] start [] [] start }
+    ensures none_taken { TakesNone true 3 [] [] start [] [] start }
+    ensures may_take { MayTake true 3 [] [] start [] [] start }
+    ensures may_take_none { MayTake false 3 [] [] start [] [] start }
+    ensures some_taken { TakesSome 3 [] [] start [] [] start }
+    ensures all_taken { TakesAll true 3 [] [] start [] [] start }
+    ensures written { Writes true 3 [] [] start [] [] start }
+    ensures no_turn { (y : Course) (past calls : List Call) → Takes 3 [] [] start past calls y → ⊥ }
+    ensures no_cut { (y : Course) (past calls : List Call) → TakesCut 3 [] start past calls y → ⊥ }
 {}

@@ -1,4 +1,4 @@
-use Rattle.std.proofs.Common.{refl, inl}
+use Rattle.std.proofs.Common.{refl, inl, inr}
 use Rattle.atspi_live_bus_examples.proofs.Facts.{cut_none, cut_part, cut_closed}
 use Rattle.atspi_live_bus_examples.proofs.rounding.cut_turns.Goals as goal
 
@@ -19,6 +19,9 @@ returns-clause-whole c x y past calls m = m
 
 pub returns-clause-cut : goal.returns-clause-cut
 returns-clause-cut c x y past calls is = is
+
+pub returns-clause-gift_part : goal.returns-clause-gift_part
+returns-clause-gift_part c x m y past read gift heard given = inr (m, read, gift, heard, given, refl)
 
 pub returns-clause-read_part : goal.returns-clause-read_part
 returns-clause-read_part c x y past calls h = inl h
