@@ -137,6 +137,11 @@ stopped_other x y t (inl n) = not_none (Close 5) [] (sym n.0)
 stopped_other x y t (inr (inl l)) = other_close (sym l.1.0)
 stopped_other x y t (inr (inr a)) = a.0 (inl refl)
 
+pub stopped_unchanged : (x y : Course) (t : List ℕ) (calls : List Call) → FollowsRead false 3 0 x (3 ∷ 5 ∷ []) End t calls y → y ≡ x
+stopped_unchanged x y t calls (inl n) = n.1
+stopped_unchanged x y t calls (inr (inl l)) = l.1.1
+stopped_unchanged x y t calls (inr (inr a)) = absurd (a.0 (inl refl))
+
 pub failed_closes : (x y : Course) → FollowsRead true 3 0 x (3 ∷ 5 ∷ []) Failed [] [] y → ⊥
 failed_closes x y (inl l) = not_none (Close 3) l.1.1 l.1.4
 failed_closes x y (inr a) = a.0 (inr (inl refl))

@@ -92,6 +92,7 @@ pub fn stopped_reads()
     ensures nothing { (x : Course) (t : List ℕ) → FollowsRead false 3 0 x (3 ∷ 5 ∷ []) Did.End t [] x }
     ensures closed { (x : Course) (t : List ℕ) → FollowsRead false 3 0 x (3 ∷ 5 ∷ []) Did.End t (Call.Close 3 ∷ []) x }
     ensures quiet { (x : Course) → messages_of 0 x.asked ≡ [] → FollowsRead false 3 0 x (3 ∷ 5 ∷ []) Did.NotYet [] [] x }
+    ensures same { (x y : Course) (t : List ℕ) (calls : List Call) → FollowsRead false 3 0 x (3 ∷ 5 ∷ []) Did.End t calls y → y ≡ x }
     ensures other { (x y : Course) (t : List ℕ) → FollowsRead false 3 0 x (3 ∷ 5 ∷ []) Did.End t (Call.Close 5 ∷ []) y → ⊥ }
 {}
 

@@ -19,5 +19,6 @@ pub use rounding::{
     reads, round_counts, tellings, turns_of_links, unheard_runs,
 };
 pub use seating::{
-    calls_for_one, ends_of_runs, links_in_order, links_left, no_links, order_of_links, what_waited,
+    calls_for_one, ends_of_runs, links_in_order, links_left, links_that_stay, no_links,
+    order_of_links, what_waited,
 };

@@ -115,6 +115,19 @@ pub fn ends_of_runs()
     ensures counted { Ends 8 3 4 → ⊥ }
 {}
 
+/// A link that no call closed stays: it is not among those that are left only where it was closed. Of a link that is not open no message is taken.
+pub fn links_that_stay()
+    ensures dismissed { (l : _) (x y : Course) (past : List Call) → Dismisses 1 (l ∷ []) [] x past [] y → ⊥ }
+    ensures settling { (l : _) (x y : Course) (past : List Call) → Settling (l ∷ []) [] x past [] y → ⊥ }
+    ensures settled { (l : _) (x y : Course) (past : List Call) → Settles (l ∷ []) [] x past [] y → ⊥ }
+    ensures one_taken { (l : _) (x y : Course) (past : List Call) → TakesOne 3 (l ∷ []) [] x past [] y → ⊥ }
+    ensures some_taken { (l : _) (x y : Course) (past : List Call) → TakesSome 3 (l ∷ []) [] x past [] y → ⊥ }
+    ensures all_taken { (l : _) (x y : Course) (past : List Call) → TakesAll true 3 (l ∷ []) [] x past [] y → ⊥ }
+    ensures written { (l : _) (x y : Course) (past : List Call) → Writes true 3 (l ∷ []) [] x past [] y → ⊥ }
+    ensures turn { (l : _) (x y : Course) (past : List Call) → Takes 3 (l ∷ []) [] x past [] y → ⊥ }
+    ensures not_open { (x y : Course) (past : List Call) → x.conn 3 ≡ Some 0 → TakesOne 3 [] [] x past [] y → ⊥ }
+{}
+
 /// Where a bus has no link none is closed, and no link has a turn; a link whose close was the last call leaves nothing else.
 pub fn no_links()
     ensures dismissed { Dismisses 1 [] [] start [] [] start }
