@@ -8,7 +8,7 @@ ghost use Rattle.atspi_live_reader_examples.specs.Started.{asked, hello, returne
 ghost use Rattle.atspi_protocol.specs.following.ReaderState.{ReaderState, begins, sends, speaks};
 ghost use Rattle.atspi_protocol.specs.following.Takes.{reader_takes, starts};
 
-/// A reader that has started has its first call queued, or handed it out; that it did so is no secret.
+/// A reader that has started has its first call queued, or has handed it out.
 pub fn first_calls()
     ensures queued { IsAfter (starts begins) [] [] }
     ensures handed { IsAfter asked [] (hello ∷ []) }
