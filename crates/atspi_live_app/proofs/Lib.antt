@@ -19,3 +19,5 @@ pub mod Turns
 pub mod Ordering
 pub mod Rounding
 pub mod Ending
+pub mod Passed
+pub mod Unstarted

@@ -3,6 +3,7 @@
 
 mod asking;
 mod doing;
+pub mod examples;
 mod exporting;
 mod held;
 mod input;
