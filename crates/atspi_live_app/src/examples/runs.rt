@@ -37,7 +37,10 @@ pub fn runs_on_links()
     ensures failed { EndsOn [] (codes "/p") 0 7 1 (Some (Call.Connect (codes "/p") (Did.Done 0) ∷ Call.Read 0 [] Did.Failed ∷ [])) (Some (codes "a")) (Some (codes "a")) }
     ensures stopped { EndsOn (codes "wait 2" ∷ []) (codes "/p") 0 1 5 (Some (Call.Connect (codes "/p") (Did.Done 0) ∷ [])) (Some []) (Some (refused_text 1 refused.Form)) }
     ensures untold { EndsOn [] (codes "/p") 0 13 5 None (Some (codes "a")) (Some (codes "a")) }
+    ensures ended { RunsPaced ([] ∷ []) 0 (overs.Ended Ending.HostFailed) 1 (Call.Read 0 [] Did.Failed ∷ []) }
+    ensures ended_uncalled { RunsPaced [] 0 (overs.Ended Ending.PeerEnded) 5 [] → ⊥ }
     ensures stopped_late { (calls : List Call) → RunsPaced [] 0 (overs.Stopped stops.Spent) 0 calls → ⊥ }
     ensures stopped_first { RunsPaced (codes "wait 2" ∷ []) 0 (overs.Stopped stops.Spent) 5 [] }
+    ensures stopped_called { RunsPaced [] 0 (overs.Stopped stops.Spent) 1 (Call.Read 0 [] Did.NotYet ∷ []) → ⊥ }
     ensures one_link { TextEnds [] (codes "/p") (0 ∷ []) 13 5 None (Some (codes "a")) (Some (codes "a")) }
 {}
