@@ -4,3 +4,5 @@ pub mod Handing
 pub mod Turning
 pub mod Running
 pub mod Shown
+pub mod Started
+pub mod FirstRounds

@@ -3,3 +3,4 @@ pub mod Shows
 pub mod Handed
 pub mod Following
 pub mod Runs
+pub mod Cases

@@ -1,6 +1,7 @@
 //! A reader on a Unix socket, which speaks on an output.
 #![tactic(auto)]
 
+pub mod examples;
 mod following;
 mod handed;
 mod live_reader;
