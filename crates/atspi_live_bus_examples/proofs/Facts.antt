@@ -39,7 +39,7 @@ some_byte x xs e = cc
 pub none_some : (n : ℕ) → None ≡ Some n → ⊥
 none_some n e = cc
 
-zero_is : (n : ℕ) → Some 0 ≡ Some n → ◌≡◌ {A = ℕ} 0 n
+pub zero_is : (n : ℕ) → Some 0 ≡ Some n → ◌≡◌ {A = ℕ} 0 n
 zero_is n e = cc
 
 pub one_conn_of : ◌≡◌ {A = ℕ} 3 5 → ⊥
@@ -235,7 +235,7 @@ pub behind_all_rounds : (x y : Course) (past calls : List Call) → EndsBehind 7
 behind_all_rounds x y past calls (inl e) = omega (arith, e.0)
 behind_all_rounds x y past calls (inr e) = omega (arith, e.2)
 
-one_did : (path : List ℕ) (d f : Did) → Listen path d ≡ Listen path f → d ≡ f
+pub one_did : (path : List ℕ) (d f : Did) → Listen path d ≡ Listen path f → d ≡ f
 one_did path d f e = cc
 
 pub failed_more : IsRun (codes "/p") 7 3 (Listen (codes "/p") Failed ∷ Accept NotYet ∷ []) → ⊥

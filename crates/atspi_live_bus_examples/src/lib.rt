@@ -7,6 +7,7 @@ mod closing;
 mod coursing;
 mod rounding;
 mod seating;
+mod turning;
 
 pub use asking::{calls_in_order, calls_that_lead, last_numbers, refused_by_rule};
 pub use closing::{
@@ -21,4 +22,8 @@ pub use rounding::{
 pub use seating::{
     calls_for_one, ends_of_runs, links_in_order, links_left, links_that_stay, no_links,
     order_of_links, what_waited,
+};
+pub use turning::{
+    carried_over, messages_of_links, settled_links, turns_of_seated, writes_in_turns,
+    writes_of_links,
 };
