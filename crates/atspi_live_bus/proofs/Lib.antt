@@ -18,3 +18,4 @@ pub mod Admitting
 pub mod Rounding
 pub mod Worked
 pub mod Refusing
+pub mod Stopping

@@ -1,24 +1,35 @@
 //! Worked cases, with the values worked out by hand. Each case is a clause of a function without a body. So a definition that says
 //! otherwise is refused here.
 
-ghost use Rattle.std.specs.Prelude.{◌≡◌, ◌∷◌, ◌++◌, ℕ, List, [], None, Some, codes, true};
+ghost use Rattle.std.specs.Prelude.{◌≡◌, ◌<◌, ◌∷◌, ◌++◌, ℕ, List, [], length, Option, None, Some, codes, true};
 ghost use Rattle.atspi_auth.specs.Lines.{end_of_line};
+ghost use Rattle.atspi_auth.specs.Talk.{fault_in};
+ghost use Rattle.atspi_auth.specs.declared.fault.AuthFault.{AuthFault};
 ghost use Rattle.atspi_host.specs.declared.call.Did.{Did};
 ghost use Rattle.atspi_host.specs.declared.call.Call.{Call};
 ghost use Rattle.atspi_message.specs.Envelope.{Envelope};
-ghost use Rattle.atspi_live_bus.specs.Asked.{handed_to, joining, leaving, messages_of, popping, taking, telling};
+ghost use Rattle.atspi_live_bus.specs.Asked.{Spends, handed_to, joining, leaving, messages_of, popping, taking, telling};
 ghost use Rattle.atspi_routing.specs.declared.closing.Closing.{Closing};
+ghost use Rattle.atspi_match.specs.declared.condition.Condition.{Condition};
+ghost use Rattle.atspi_routing.specs.Queues.{Bus, takes};
 ghost use Rattle.atspi_routing.specs.Room.{zero_};
+ghost use Rattle.atspi_bus_steps.specs.Spoken.{IsRuleTaken};
 ghost use Rattle.atspi_bus_steps.specs.Limits.{PassesLimits};
 ghost use Rattle.atspi_live_bus.specs.Cases.{hushed, one_due, one_link, signal_of, two_conns, two_links};
-ghost use Rattle.atspi_live_bus.specs.Closes.{AreShut, AreTaken, Ceases, FollowsRead, IsLost, IsRefused, IsRest, Parts};
-ghost use Rattle.atspi_live_bus.specs.Course.{Course, Steps, start};
+ghost use Rattle.atspi_live_bus.specs.Closes.{AreShut, AreTaken, Ceases, FollowsRead, IsBad, IsLost, IsRefused, IsRest, Parts};
+ghost use Rattle.atspi_live_bus.specs.Course.{Course, IsCourse, Steps, start};
 ghost use Rattle.atspi_live_bus.specs.Opened.{open_behind};
-ghost use Rattle.atspi_live_bus.specs.Rounds.{AreRounds, IsRound, IsRun, IsTurn};
-ghost use Rattle.atspi_live_bus.specs.Service.{IsSaid};
+ghost use Rattle.atspi_live_bus.specs.Rounds.{AreRounds, Breaks, IsRound, IsRun, IsTurn};
+ghost use Rattle.atspi_live_bus.specs.Service.{HasSpent, IsSaid, IsStopped};
+ghost use Rattle.atspi_live_bus.specs.Stops.{IsFree, IsWant, StopBlames, status_of};
+ghost use Rattle.atspi_live_bus.specs.Turns.{StopsAt, Tells};
+ghost use Rattle.atspi_live_bus.specs.declared.link.Link.{Link};
 ghost use Rattle.atspi_stream.specs.Laws.{HasOneAnswer};
 ghost use Rattle.atspi_stream.specs.Stream.{AwaitsMore, BeginsWithMessage, HasFault};
 
+use crate::link::Next;
+use crate::stop::Stop;
+use atspi_auth::AuthFault;
 use atspi_host::{Call, Did};
 
 /// What was asked of a bus for a connection is read off the list of calls: the messages of it that were taken, and the bytes that were handed out
@@ -92,6 +103,73 @@ pub fn steps_that_close()
     ensures own { (path : List ℕ) → (y : Course) × AreTaken 3 0 two_links (3 ∷ 5 ∷ []) (signal_of path ∷ []) (Call.Close 3 ∷ []) y }
     ensures another { (path : List ℕ) → (y : Course) × AreTaken 3 0 one_due (3 ∷ 5 ∷ []) (signal_of path ∷ []) (Call.Close 5 ∷ Call.Close 3 ∷ []) y }
     ensures not_closed { (path : List ℕ) (y : Course) → AreTaken 3 0 two_links (3 ∷ 5 ∷ []) (signal_of path ∷ []) [] y → ⊥ }
+{}
+
+/// Why the bus stops: a call of the host that failed, its own last number, or memory. Each has its status.
+pub fn causes_of_stops()
+    ensures host { IsFree Stop.HostFailed → ⊥ }
+    ensures last_number { IsFree Stop.Spent }
+    ensures memory { IsFree Stop.NoMemory }
+    ensures host_no_want { IsWant Stop.HostFailed → ⊥ }
+    ensures number_no_want { IsWant Stop.Spent → ⊥ }
+    ensures want { IsWant Stop.NoMemory }
+    ensures host_status { status_of Stop.HostFailed ≡ 7 }
+    ensures number_status { status_of Stop.Spent ≡ 13 }
+    ensures memory_status { status_of Stop.NoMemory ≡ 5 }
+{}
+
+/// The count of failed calls goes up by a call that failed, unless it can no more, and else stays.
+pub fn blames()
+    ensures failed { StopBlames Stop.HostFailed 3 4 }
+    ensures at_most { StopBlames Stop.HostFailed 18446744073709551615 18446744073709551615 }
+    ensures not_counted { StopBlames Stop.HostFailed 3 3 → ⊥ }
+    ensures fewer { StopBlames Stop.HostFailed 18446744073709551615 3 → ⊥ }
+    ensures spent { StopBlames Stop.Spent 3 3 }
+    ensures spent_counted { StopBlames Stop.Spent 3 4 → ⊥ }
+    ensures memory { StopBlames Stop.NoMemory 3 3 }
+    ensures memory_counted { StopBlames Stop.NoMemory 3 4 → ⊥ }
+{}
+
+/// The calls up to where a bus stopped are those of a bus, and where it stopped for its last number it is spent.
+pub fn stopped_buses()
+    ensures host { IsStopped Stop.HostFailed [] }
+    ensures memory { IsStopped Stop.NoMemory [] }
+    ensures last_number { (cs : List Call) → HasSpent cs → IsStopped Stop.Spent cs }
+    ensures not_spent { (cs : List Call) → (HasSpent cs → ⊥) → IsStopped Stop.Spent cs → ⊥ }
+    ensures host_gave { IsStopped Stop.HostFailed (Call.Write 3 (7 ∷ []) (Did.Done 1) ∷ []) → ⊥ }
+    ensures memory_gave { IsStopped Stop.NoMemory (Call.Write 3 (7 ∷ []) (Did.Done 1) ∷ []) → ⊥ }
+    ensures at_host { StopsAt Stop.HostFailed start [] }
+    ensures at_memory { StopsAt Stop.NoMemory start [] }
+    ensures at_last { (x : Course) → IsCourse x [] → Spends x.bus → StopsAt Stop.Spent x [] }
+    ensures at_none_last { (x : Course) → (Spends x.bus → ⊥) → StopsAt Stop.Spent x [] → ⊥ }
+    ensures other_calls { StopsAt Stop.NoMemory start (Call.Write 3 (7 ∷ []) (Did.Done 1) ∷ []) → ⊥ }
+{}
+
+/// The round in which a bus stops is an accept that failed, or one that is broken off, behind which the bus is spent where it stops for that; where memory is wanting it may be one whose link did not join.
+pub fn last_rounds()
+    ensures host { Breaks Stop.HostFailed start [] (Call.Accept Did.Failed ∷ []) start }
+    ensures no_call { Breaks Stop.HostFailed start [] [] start → ⊥ }
+    ensures not_failed { Breaks Stop.HostFailed start [] (Call.Accept Did.NotYet ∷ []) start → ⊥ }
+    ensures changed { Breaks Stop.HostFailed start [] (Call.Accept Did.Failed ∷ []) one_link → ⊥ }
+    ensures spent { (x : Course) → Spends x.bus → Breaks Stop.Spent x [] (Call.Accept Did.NotYet ∷ []) x }
+    ensures not_spent { (x : Course) → (Spends x.bus → ⊥) → Breaks Stop.Spent x [] (Call.Accept Did.NotYet ∷ []) x → ⊥ }
+    ensures spent_failed { (y : Course) → Breaks Stop.Spent start [] (Call.Accept Did.Failed ∷ []) y → ⊥ }
+    ensures memory { Breaks Stop.NoMemory start [] (Call.Accept Did.NotYet ∷ []) start }
+    ensures not_joined { Breaks Stop.NoMemory start [] (Call.Accept (Did.Done 3) ∷ []) start }
+    ensures memory_failed { (y : Course) → Breaks Stop.NoMemory start [] (Call.Accept Did.Failed ∷ []) y → ⊥ }
+{}
+
+/// What a link has next: a message that the bus takes, which is then held no more; none that is whole; or one that is malformed or refused, and then the bus is as it was.
+pub fn next_of_links()
+    ensures taken { (l m : Link) (b : Bus) (e : Envelope) (rule : Option (List Condition)) → fault_in l.server.stage ≡ Some AuthFault.NoZero → IsRuleTaken b.state l.conn e rule → length m.feeder < length l.feeder
+        → Tells Next.Took l m b (takes b l.conn e rule) }
+    ensures still_held { (l m : Link) (b d : Bus) → length l.feeder ≡ 3 → length m.feeder ≡ 3 → Tells Next.Took l m b d → ⊥ }
+    ensures not_whole { (l : Link) (b : Bus) → l.feeder ≡ 108 ∷ [] → Tells Next.NotYet l l b b }
+    ensures whole { (l : Link) (b : Bus) → (AwaitsMore l.feeder → ⊥) → Tells Next.NotYet l l b b → ⊥ }
+    ensures not_whole_changes { (l : Link) (b d : Bus) → b.quota ≡ 4 → d.quota ≡ 5 → Tells Next.NotYet l l b d → ⊥ }
+    ensures malformed { (l m : Link) (b : Bus) (place reason : ℕ) → HasFault l.feeder place reason → Tells Next.Bad l m b b }
+    ensures good { (l m : Link) (b : Bus) → (IsBad b l.conn l.feeder → ⊥) → Tells Next.Bad l m b b → ⊥ }
+    ensures malformed_changes { (l m : Link) (b d : Bus) → b.quota ≡ 4 → d.quota ≡ 5 → Tells Next.Bad l m b d → ⊥ }
 {}
 
 /// A link that sent nothing and did not end is not closed, and no other is for it.
