@@ -1,3 +1,4 @@
 pub mod Facts
 pub mod Linked
 pub mod Seated
+pub mod Kept
