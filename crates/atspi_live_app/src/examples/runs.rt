@@ -39,6 +39,7 @@ pub fn runs_on_links()
     ensures untold { EndsOn [] (codes "/p") 0 13 5 None (Some (codes "a")) (Some (codes "a")) }
     ensures ended { RunsPaced ([] ∷ []) 0 (overs.Ended Ending.HostFailed) 1 (Call.Read 0 [] Did.Failed ∷ []) }
     ensures ended_uncalled { RunsPaced [] 0 (overs.Ended Ending.PeerEnded) 5 [] → ⊥ }
+    ensures all_done { RunsPaced [] 0 (overs.Ended Ending.RoundsDone) 0 [] }
     ensures stopped_late { (calls : List Call) → RunsPaced [] 0 (overs.Stopped stops.Spent) 0 calls → ⊥ }
     ensures stopped_first { RunsPaced (codes "wait 2" ∷ []) 0 (overs.Stopped stops.Spent) 5 [] }
     ensures stopped_called { RunsPaced [] 0 (overs.Stopped stops.Spent) 1 (Call.Read 0 [] Did.NotYet ∷ []) → ⊥ }

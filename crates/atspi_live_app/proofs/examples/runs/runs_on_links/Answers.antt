@@ -47,6 +47,12 @@ returns-clause-ended_uncalled c r = by r.0.done r.0.last r.0.all r.0.ends.1
     by [] last h is = cc
     by (x ∷ done) last h is = cc
 
+pub returns-clause-all_done : goal.returns-clause-all_done
+returns-clause-all_done c = (
+  record { whole = 0; done = []; last = []; are = refl; ends = (refl, refl); all = refl },
+  record { done = []; left = []; all = refl; take = tt; started = tt; due = inl refl },
+)
+
 pub returns-clause-stopped_late : goal.returns-clause-stopped_late
 returns-clause-stopped_late c calls r = omega (arith, r.1)
 
