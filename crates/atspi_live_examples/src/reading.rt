@@ -31,11 +31,13 @@ pub fn sources_blamed()
     ensures wanting_rose { (e : NoMemory) → Blames (Err e) 3 4 → ⊥ }
 {}
 
-/// The next line is passed, and counted; behind the last there is none, and all stays as it is.
+/// The next line is passed, and counted as far as 64 bits go; behind the last there is none, and all stays as it is.
 pub fn lines_passed()
     ensures left { left_in (codes "a" ++ 10 ∷ codes "b") 2 ≡ codes "b" ∷ [] }
     ensures passed { Passes (Ok asks.Nothing) (10 ∷ codes "x") 0 3 1 4 }
     ensures not_counted { Passes (Ok asks.Nothing) (10 ∷ codes "x") 0 3 1 3 → ⊥ }
+    ensures last_count { Passes (Ok asks.Nothing) (10 ∷ codes "x") 0 18446744073709551614 1 18446744073709551614 → ⊥ }
+    ensures past_counts { Passes (Ok asks.Nothing) (10 ∷ codes "x") 0 18446744073709551615 1 18446744073709551615 }
     ensures other_place { Passes (Ok asks.Nothing) (10 ∷ codes "x") 0 3 2 4 → ⊥ }
     ensures other_line { Passes (Ok (asks.Wait 2)) (10 ∷ codes "x") 0 3 1 4 → ⊥ }
     ensures next { NextAsk (Some (Ok asks.Nothing)) (10 ∷ codes "x") 0 3 (10 ∷ codes "x") 1 4 }

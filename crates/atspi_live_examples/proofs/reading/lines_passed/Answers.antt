@@ -32,6 +32,12 @@ returns-clause-passed c = record { line = []; first = refl; asks = empty; counte
 pub returns-clause-not_counted : goal.returns-clause-not_counted
 returns-clause-not_counted c p = omega (arith, p.counted (lit< tt))
 
+pub returns-clause-last_count : goal.returns-clause-last_count
+returns-clause-last_count c p = omega (arith, p.counted (lit< tt))
+
+pub returns-clause-past_counts : goal.returns-clause-past_counts
+returns-clause-past_counts c = record { line = []; first = refl; asks = empty; counted = λ few. absurd (omega (arith, few)) }
+
 pub returns-clause-other_place : goal.returns-clause-other_place
 returns-clause-other_place c p = none_left (other_lines p.first)
 

@@ -29,7 +29,7 @@ returns-clause-early c = record { links = refl; host = refl; sink = refl; so = i
 pub returns-clause-wanting : goal.returns-clause-wanting
 returns-clause-wanting c = record { links = refl; host = refl; sink = refl; so = inl (refl, refl) }
 
--- no ending of an input has status 5 or 1
+-- no ending of an input has status 5, 1 or 7
 never_five : (end : End) → CutsOff end 5 → ⊥
 never_five Whole h = h
 never_five TooLong h = omega (arith, h)
@@ -39,6 +39,11 @@ never_one : (end : End) → CutsOff end 1 → ⊥
 never_one Whole h = h
 never_one TooLong h = omega (arith, h)
 never_one Failed h = omega (arith, h)
+
+never_seven : (end : End) → CutsOff end 7 → ⊥
+never_seven Whole h = h
+never_seven TooLong h = omega (arith, h)
+never_seven Failed h = omega (arith, h)
 
 -- why a run ended early
 same : Rose 3 3 → ⊥
@@ -97,11 +102,31 @@ returns-clause-late_rose c e = omega (arith, e.source_same)
 pub returns-clause-late_other : goal.returns-clause-late_other
 returns-clause-late_other c e = omega (arith, e.ends.0)
 
+pub returns-clause-late_on_link : goal.returns-clause-late_on_link
+returns-clause-late_on_link c calls e = record { text = codes "x"; read = (refl, refl); source_same = refl; ends = (e, refl) }
+
 pub returns-clause-is_early : goal.returns-clause-is_early
 returns-clause-is_early c = inl (record { links = refl; host = refl; sink = refl; so = inl (refl, refl) })
 
 pub returns-clause-is_late : goal.returns-clause-is_late
 returns-clause-is_late c = inr (record { text = []; read = (tt, tt); source_same = refl; ends = (refl, refl) })
+
+pub returns-clause-is_cut_off : goal.returns-clause-is_cut_off
+returns-clause-is_cut_off c = inl (record { links = refl; host = refl; sink = refl; so = inr (Failed, codes "a", refl, inl (lit< tt), refl) })
+
+pub returns-clause-is_on_link : goal.returns-clause-is_on_link
+returns-clause-is_on_link c calls e = inr (record { text = codes "x"; read = (refl, refl); source_same = refl; ends = (e, refl) })
+
+pub returns-clause-is_early_wrote : goal.returns-clause-is_early_wrote
+returns-clause-is_early_wrote c (inl e) = by e.sink
+  where
+    by : {b : ℕ} {bytes : List ℕ} → Some (b ∷ bytes) ≡ Some [] → ⊥
+    by h = cc
+returns-clause-is_early_wrote c (inr e) = omega (arith, e.ends.0)
+
+pub returns-clause-is_late_rose : goal.returns-clause-is_late_rose
+returns-clause-is_late_rose c (inl e) = elim e.so [ inl h ↦ omega (arith, h.0) | inr h ↦ never_seven h.0 h.2 ]
+returns-clause-is_late_rose c (inr e) = omega (arith, e.source_same)
 
 pub returns-clause-is_neither : goal.returns-clause-is_neither
 returns-clause-is_neither c (inl e) = elim e.so [ inl h ↦ omega (arith, h.0) | inr h ↦ never_one h.0 h.2 ]

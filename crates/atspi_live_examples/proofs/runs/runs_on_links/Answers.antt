@@ -10,6 +10,12 @@ use Rattle.atspi_live_examples.proofs.runs.runs_on_links.Goals as goal
 pub returns-clause-ended : goal.returns-clause-ended
 returns-clause-ended c lines over calls is run reports = record { over = over; is = is; run = (calls, run, refl); reports = reports }
 
+pub returns-clause-over_said : goal.returns-clause-over_said
+returns-clause-over_said c lines over calls is = is.speaks
+
+pub returns-clause-over_so : goal.returns-clause-over_so
+returns-clause-over_so c lines over calls is = is.so
+
 pub returns-clause-not_connected : goal.returns-clause-not_connected
 returns-clause-not_connected c e = by e.run.0 e.run.2
   where

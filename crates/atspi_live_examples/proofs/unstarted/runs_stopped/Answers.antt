@@ -1,11 +1,15 @@
 use Rattle.std.proofs.Common.{List, [], length, ap, arith}
 use Rattle.atspi_live_app.specs.Standing.{Event, lines_in}
 use Rattle.atspi_live_app.specs.Turns.{IsInTurn}
+use Rattle.atspi_live_examples.proofs.Granted.{stops}
 use Rattle.atspi_live_examples.proofs.Waiting.{stops_first, wants}
 use Rattle.atspi_live_examples.proofs.unstarted.runs_stopped.Goals as goal
 
 pub returns-clause-stopped : goal.returns-clause-stopped
 returns-clause-stopped c = (stops_first, tt)
+
+pub returns-clause-lines_alone : goal.returns-clause-lines_alone
+returns-clause-lines_alone c = stops
 
 pub returns-clause-untold : goal.returns-clause-untold
 returns-clause-untold c = tt

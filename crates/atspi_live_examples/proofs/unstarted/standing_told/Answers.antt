@@ -1,7 +1,7 @@
 use Rattle.std.proofs.Common.{◌≡◌, ℕ, List, [], ◌∷◌, ◌++◌, length, Option, None, Some, refl, arith}
 use Rattle.atspi_protocol.specs.exporting.Exporter.{Exporter}
 use Rattle.atspi_live_app.specs.Input.{left_in}
-use Rattle.atspi_live_app.specs.Standing.{HandedOut, lines_in}
+use Rattle.atspi_live_app.specs.Standing.{HandedOut, lines_in, takes}
 use Rattle.atspi_live_examples.proofs.unstarted.standing_told.Goals as goal
 
 pub returns-clause-told : goal.returns-clause-told
@@ -25,6 +25,44 @@ returns-clause-stands c = (
     counted = refl;
   },
 )
+
+pub returns-clause-took : goal.returns-clause-took
+returns-clause-took c e = (
+  refl,
+  record {
+    kept = refl;
+    same = refl;
+    short = omega arith;
+    history = takes e ∷ [];
+    all = refl;
+    marked = refl;
+    taken = refl;
+    whole = None;
+    makes = (None, refl, refl);
+    handed = refl;
+    numbered = tt;
+    counted = refl;
+  },
+)
+
+pub returns-clause-longest : goal.returns-clause-longest
+returns-clause-longest c text long = record {
+  kept = refl;
+  same = refl;
+  short = omega (arith, long);
+  history = [];
+  all = refl;
+  marked = refl;
+  taken = refl;
+  whole = None;
+  makes = refl;
+  handed = refl;
+  numbered = tt;
+  counted = refl;
+}
+
+pub returns-clause-too_long : goal.returns-clause-too_long
+returns-clause-too_long c text long h = omega (arith, long, h.short)
 
 pub returns-clause-nothing_told : goal.returns-clause-nothing_told
 returns-clause-nothing_told c h = h

@@ -7,6 +7,7 @@ use Rattle.atspi_conversation.proofs.SentLemmas.{none_parted}
 use Rattle.atspi_conversation.specs.Speech.{envelopes}
 use Rattle.atspi_live_app.specs.Pace.{total}
 use Rattle.atspi_live_app.specs.Turns.{AreWhole, IsInTurn}
+use Rattle.atspi_live_examples.proofs.Granted.{whole}
 use Rattle.atspi_live_examples.proofs.Waiting.{first_due, none_due}
 use Rattle.atspi_live_examples.proofs.unstarted.turns_told.Goals as goal
 
@@ -15,6 +16,9 @@ none_whole = record { messages = []; rest = []; parted = record { are = tt; part
 
 pub returns-clause-none_whole : goal.returns-clause-none_whole
 returns-clause-none_whole c = none_whole
+
+pub returns-clause-lines_alone : goal.returns-clause-lines_alone
+returns-clause-lines_alone c = whole
 
 pub returns-clause-not_one_whole : goal.returns-clause-not_one_whole
 returns-clause-not_one_whole c e w = by (sym (ap (λ (ms : List (Envelope × List ℕ)). envelopes ms) (none_parted (behind client_start []) w.rest w.messages none_behind w.parted)) ∙ w.are)
