@@ -1,6 +1,7 @@
 -- What stands of the worked cases of why a bus stops, and of what a link has next.
 use Rattle.std.proofs.Common.{◌≡◌, ℕ, ◌<◌, List, [], ◌∷◌, ◌++◌, length, Option, None, Some, refl, sym, ap, subst, ◌∙◌, inl, inr, arith, lit<}
 use Rattle.std.specs.Prelude.{false}
+use Rattle.std.proofs.lemmas.Bool.Decides.{eqb_tells}
 use Rattle.atspi_auth.specs.Talk.{after, heard, hears, hears_bytes, server_start}
 use Rattle.atspi_auth.specs.Lines.{lines_of}
 use Rattle.atspi_auth.specs.declared.fault.AuthFault.{AuthFault}
@@ -11,7 +12,7 @@ use Rattle.atspi_host.specs.declared.call.Did.TheVariants.{Done, NotYet, Failed}
 use Rattle.atspi_host.specs.declared.call.Call.{Call}
 use Rattle.atspi_host.specs.declared.call.Call.TheVariants.{Accept, Write}
 use Rattle.atspi_live_bus.specs.Asked.{handed_to, joining, messages_of}
-use Rattle.atspi_live_bus.specs.Cases.{one_link}
+use Rattle.atspi_live_bus.specs.Cases.{one_conn, one_link}
 use Rattle.atspi_live_bus.specs.Course.{Accepts, Course, start}
 use Rattle.atspi_live_bus.specs.Rounds.{IsNotSeated, IsRound}
 use Rattle.atspi_live_bus.specs.Service.{IsSaid, IsService, IsSpeech, line_bytes, lines_for}
@@ -92,6 +93,15 @@ failed_unseated x y n = no (did_of (Done n.0) [] n.1)
 
 pub waiting_round : (x : Course) → IsRound false x [] (Accept NotYet ∷ []) x
 waiting_round x = (NotYet, x, [], refl, (refl, refl), refl)
+
+pub joining_round : IsRound false start [] (Accept (Done 0) ∷ []) one_link
+joining_round = (Done 0, one_link, [], (0, none, refl, refl, refl, others), inl (inl (refl, refl)), refl)
+  where
+    none : (j : ℕ) → start.conn j ≡ Some 0 → ⊥
+    none j e = cc
+
+    others : (j : ℕ) → (j ≡ 0 → ⊥) → one_conn j ≡ start.conn j
+    others j n = elim (eqb_tells j 0) [ inl e ↦ absurd (n e.1) | inr e ↦ rw e.0 refl ]
 
 -- links
 pub no_fault_is : (f : Option AuthFault) → f ≡ Some NoZero → f ≡ None → ⊥

@@ -152,9 +152,11 @@ pub fn last_rounds()
     ensures not_failed { Breaks Stop.HostFailed start [] (Call.Accept Did.NotYet ∷ []) start → ⊥ }
     ensures changed { Breaks Stop.HostFailed start [] (Call.Accept Did.Failed ∷ []) one_link → ⊥ }
     ensures spent { (x : Course) → Spends x.bus → Breaks Stop.Spent x [] (Call.Accept Did.NotYet ∷ []) x }
+    ensures spent_joined { Spends one_link.bus → Breaks Stop.Spent start [] (Call.Accept (Did.Done 0) ∷ []) one_link }
     ensures not_spent { (x : Course) → (Spends x.bus → ⊥) → Breaks Stop.Spent x [] (Call.Accept Did.NotYet ∷ []) x → ⊥ }
     ensures spent_failed { (y : Course) → Breaks Stop.Spent start [] (Call.Accept Did.Failed ∷ []) y → ⊥ }
     ensures memory { Breaks Stop.NoMemory start [] (Call.Accept Did.NotYet ∷ []) start }
+    ensures memory_joined { Breaks Stop.NoMemory start [] (Call.Accept (Did.Done 0) ∷ []) one_link }
     ensures not_joined { Breaks Stop.NoMemory start [] (Call.Accept (Did.Done 3) ∷ []) start }
     ensures memory_failed { (y : Course) → Breaks Stop.NoMemory start [] (Call.Accept Did.Failed ∷ []) y → ⊥ }
 {}

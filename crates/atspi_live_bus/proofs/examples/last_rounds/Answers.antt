@@ -2,7 +2,7 @@ use Rattle.std.proofs.Common.{refl, inl, inr}
 use Rattle.atspi_host.specs.declared.call.Did.TheVariants.{Failed}
 use Rattle.atspi_host.specs.declared.call.Call.TheVariants.{Accept}
 use Rattle.atspi_live_bus.specs.Course.{start}
-use Rattle.atspi_live_bus.proofs.Stopping.{failed_round, failed_unseated, joined_not_start, no_accept, waiting_round, waits_failed}
+use Rattle.atspi_live_bus.proofs.Stopping.{failed_round, failed_unseated, joined_not_start, joining_round, no_accept, waiting_round, waits_failed}
 use Rattle.atspi_live_bus.proofs.examples.last_rounds.Goals as goal
 
 pub returns-clause-host : goal.returns-clause-host
@@ -34,3 +34,9 @@ returns-clause-not_joined c = inr (3, refl, refl)
 
 pub returns-clause-memory_failed : goal.returns-clause-memory_failed
 returns-clause-memory_failed c y b = elim b [ inl r ↦ failed_round start y r | inr n ↦ failed_unseated start y n ]
+
+pub returns-clause-spent_joined : goal.returns-clause-spent_joined
+returns-clause-spent_joined c spends = (joining_round, spends)
+
+pub returns-clause-memory_joined : goal.returns-clause-memory_joined
+returns-clause-memory_joined c = inl joining_round
