@@ -10,7 +10,7 @@ use Rattle.atspi_message.specs.Envelope.{Envelope}
 use Rattle.atspi_stream.specs.Stream.{AreMessages}
 use Rattle.atspi_stream.specs.Stream as stream
 use Rattle.atspi_host.specs.declared.call.Did.{Did}
-use Rattle.atspi_host.specs.declared.call.Did.TheVariants.{NotYet, End}
+use Rattle.atspi_host.specs.declared.call.Did.TheVariants.{Done, NotYet, End}
 use Rattle.atspi_host.specs.declared.call.Call.{Call}
 use Rattle.atspi_host.specs.declared.call.Call.TheVariants.{Read}
 use Rattle.atspi_live_bus.specs.Service.{IsSpeech, envelopes, line_bytes, lines_for}
@@ -95,6 +95,17 @@ first_wrong took handed g l c = faulty (fault_in l.server.stage) (ap (λ (s : St
 pub said_nothing : IsSpeech [] [] [] []
 said_nothing = record { messages = []; rest = []; parted = record { are = tt; parted = none_behind }; taken_all = refl; over = inl refl; more = []; front = sym (ap (λ (w : List ℕ). w ++ []) no_lines) }
 
+pub said_before_fault : IsSpeech [] [] (97 ∷ []) []
+said_before_fault = record {
+  messages = [];
+  rest = behind server_start (97 ∷ []);
+  parted = record { are = tt; parted = refl };
+  taken_all = refl;
+  over = inl refl;
+  more = line_bytes (lines_for (97 ∷ [])) ++ [];
+  front = refl;
+}
+
 pub said_none : (took : List Envelope) (handed : List ℕ) → IsSpeech took handed [] (7 ∷ []) → ⊥
 said_none took handed s = elim s.over [ inl e ↦ some_byte 7 s.more (s.front ∙ ap (λ (w : List ℕ). w ++ handed) no_lines ∙ e) | inr o ↦ not_over o ]
 
@@ -123,6 +134,9 @@ other_read xs bytes did e = absurd (omega (arith, is e))
     is : Read 5 [] NotYet ∷ [] ≡ Read 3 bytes did ∷ xs → ◌≡◌ {A = ℕ} 5 3
     is f = cc
 
+pub same_bytes : (bytes : List ℕ) (did : Did) → Read 3 (97 ∷ []) (Done 1) ∷ [] ≡ Read 3 bytes did ∷ [] → 97 ∷ [] ≡ bytes
+same_bytes bytes did e = cc
+
 pub ended_did : (bytes : List ℕ) (did : Did) → Read 3 [] End ∷ [] ≡ Read 3 bytes did ∷ [] → End ≡ did
 ended_did bytes did e = cc
 
@@ -137,3 +151,11 @@ first_number (s ∷ ss) = s.0
 abbrev pub first_conn : List (ℕ × ℕ) → ℕ
 first_conn [] = 0
 first_conn (s ∷ ss) = s.1
+
+abbrev pub second_number : List (ℕ × ℕ) → ℕ
+second_number [] = 0
+second_number (s ∷ ss) = first_number ss
+
+abbrev pub second_conn : List (ℕ × ℕ) → ℕ
+second_conn [] = 0
+second_conn (s ∷ ss) = first_conn ss

@@ -7,11 +7,13 @@ ghost use Rattle.atspi_auth.specs.declared.said.AuthLine.{AuthLine};
 ghost use Rattle.atspi_auth.specs.declared.stage.Stage.TheVariants.{Over};
 ghost use Rattle.atspi_message.specs.Envelope.{Envelope};
 ghost use Rattle.atspi_bus.specs.View.{bus_of, given_of};
+ghost use Rattle.atspi_host.specs.Calls.{taken};
 ghost use Rattle.atspi_host.specs.declared.call.Call.{Call};
 ghost use Rattle.atspi_host.specs.declared.call.Did.{Did};
 ghost use Rattle.atspi_routing.specs.Queues as queues;
 ghost use Rattle.atspi_live_bus.specs.Asked.{joining, taking};
 ghost use Rattle.atspi_live_bus.specs.Cases.{one_link, two_conns};
+ghost use Rattle.atspi_live_bus.specs.Closes.{IsLost};
 ghost use Rattle.atspi_live_bus.specs.Course.{Course, start};
 ghost use Rattle.atspi_live_bus.specs.Seats.{GoesOpen, HasRead, HasReadOnly, seats};
 ghost use Rattle.atspi_live_bus.specs.Turns.{Converses, Fetches, Gives, Goes, IsSeated, Remains, Seats};
@@ -34,22 +36,26 @@ pub fn talks_of_links()
 /// Behind a read a link goes on, or it is lost: exactly where it ended, failed or is at fault.
 pub fn links_behind_reads()
     ensures goes_on { (l : _) → Converses [] [] l [] [] → Remains true Did.NotYet [] [] l [] [] }
+    ensures handed { (l : _) (t : List ℕ) → Converses [] (7 ∷ []) l t [] → (IsLost Did.NotYet t → ⊥) → Remains true Did.NotYet [] (7 ∷ []) l t [] }
+    ensures at_fault { (l : _) → Remains true Did.NotYet [] [] l (97 ∷ []) [] → ⊥ }
     ensures ended { (l : _) → Remains true Did.End [] [] l [] [] → ⊥ }
     ensures gave { (l : _) → Remains true Did.NotYet [] [] l [] (7 ∷ []) → ⊥ }
     ensures lost { (l : _) → Converses [] [] l [] [] → Remains false Did.End [] [] l [] [] }
+    ensures lost_by_fault { (l : _) → Converses [] [] l [] [] → Remains false Did.NotYet [] [] l (97 ∷ []) [] }
     ensures not_lost { (l : _) → Remains false Did.NotYet [] [] l [] [] → ⊥ }
     ensures lost_gave { (l : _) → Remains false Did.End [] [] l [] (7 ∷ []) → ⊥ }
 {}
 
 /// A read is of its link, of 4,096 bytes at the most, and what is known of the link before it is known with these bytes behind it.
 pub fn reads_of_links()
-    ensures waits { (l : _) → HasRead 3 true l l [] (Call.Read 3 [] Did.NotYet ∷ []) }
-    ensures ended { (l : _) → HasRead 3 false l l [] (Call.Read 3 [] Did.End ∷ []) }
+    ensures waits { (l : _) (past : List Call) → (IsLost Did.NotYet (taken 3 past) → ⊥) → HasRead 3 true l l past (Call.Read 3 [] Did.NotYet ∷ []) }
+    ensures ended { (l : _) (past : List Call) → HasRead 3 false l l past (Call.Read 3 [] Did.End ∷ []) }
+    ensures at_fault { (l m : _) → Converses [] [] l [] [] → HasRead 3 true l m [] (Call.Read 3 (97 ∷ []) (Did.Done 1) ∷ []) → ⊥ }
     ensures ended_goes_on { (l m : _) → Converses [] [] l [] [] → HasRead 3 true l m [] (Call.Read 3 [] Did.End ∷ []) → ⊥ }
     ensures no_read { (l m : _) → HasRead 3 true l m [] [] → ⊥ }
     ensures of_another { (l m : _) → HasRead 3 true l m [] (Call.Read 5 [] Did.NotYet ∷ []) → ⊥ }
     ensures more { (l m : _) (bytes : List ℕ) (did : Did) → 4096 < length bytes → HasRead 3 true l m [] (Call.Read 3 bytes did ∷ []) → ⊥ }
-    ensures wanting { (l : _) → HasReadOnly 3 l [] (Call.Read 3 [] Did.NotYet ∷ []) }
+    ensures wanting { (l : _) (past : List Call) → HasReadOnly 3 l past (Call.Read 3 [] Did.NotYet ∷ []) }
     ensures wanting_none { (l : _) → HasReadOnly 3 l [] [] → ⊥ }
     ensures wanting_another { (l : _) → HasReadOnly 3 l [] (Call.Read 5 [] Did.NotYet ∷ []) → ⊥ }
     ensures wanting_more { (l : _) (bytes : List ℕ) (did : Did) → 4096 < length bytes → HasReadOnly 3 l [] (Call.Read 3 bytes did ∷ []) → ⊥ }
@@ -82,6 +88,7 @@ pub fn buses_and_links()
 /// A link that was given stands behind the others, as the next connection of the bus.
 pub fn links_that_join()
     ensures joins { (l b d : _) → seats (l ∷ []) ≡ (3, 0) ∷ [] → given_of b ≡ 0 → bus_of d ≡ queues.joins (bus_of b) l.conn → given_of d ≡ given_of b + 1 → Converses [] [] l [] [] → Seats 3 b d [] (l ∷ []) }
+    ensures joins_behind { (k l b d : _) → seats (k ∷ l ∷ []) ≡ (5, 0) ∷ (3, 1) ∷ [] → given_of b ≡ 1 → bus_of d ≡ queues.joins (bus_of b) l.conn → given_of d ≡ given_of b + 1 → Converses [] [] l [] [] → Seats 3 b d (k ∷ []) (k ∷ l ∷ []) }
     ensures none { (b d : _) → Seats 3 b d [] [] → ⊥ }
     ensures other_number { (l b d : _) → seats (l ∷ []) ≡ (3, 0) ∷ [] → Seats 5 b d [] (l ∷ []) → ⊥ }
     ensures other_conn { (l b d : _) → seats (l ∷ []) ≡ (3, 0) ∷ [] → given_of b ≡ 1 → Seats 3 b d [] (l ∷ []) → ⊥ }

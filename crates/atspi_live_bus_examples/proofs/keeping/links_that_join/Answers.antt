@@ -5,7 +5,7 @@ use Rattle.atspi_routing.specs.Queues.{Bus}
 use Rattle.atspi_live_bus.specs.Seats.{seats}
 use Rattle.atspi_live_bus_examples.proofs.Linked.{no_seat}
 use Rattle.atspi_live_bus_examples.proofs.Seated.{four_five}
-use Rattle.atspi_live_bus_examples.proofs.Kept.{first_conn, first_number, none_waits, same_count, three_five, zero_one}
+use Rattle.atspi_live_bus_examples.proofs.Kept.{first_conn, first_number, none_waits, same_count, second_conn, second_number, three_five, zero_one}
 use Rattle.atspi_live_bus_examples.proofs.keeping.links_that_join.Goals as goal
 
 pub returns-clause-joins : goal.returns-clause-joins
@@ -39,3 +39,14 @@ returns-clause-not_new c l b d j is = none_waits [] [] j.link j.begins (sym (sam
   where
     same_out : l ∷ [] ≡ j.link ∷ [] → l.out.items ≡ j.link.out.items
     same_out e = cc
+
+pub returns-clause-joins_behind : goal.returns-clause-joins_behind
+returns-clause-joins_behind c k l b d s one joined counted talks = record {
+  link = l;
+  behind_others = refl;
+  number_is = ap (λ (ss : List (ℕ × ℕ)). second_number ss) s;
+  conn_is = ap (λ (ss : List (ℕ × ℕ)). second_conn ss) s ∙ sym one;
+  joined = joined;
+  counted = counted;
+  begins = talks;
+}
