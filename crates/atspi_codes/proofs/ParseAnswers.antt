@@ -1,6 +1,7 @@
 -- What the answer of reading types says, in the terms of its definition.
-use Rattle.std.proofs.Common.{◌≡◌, ℕ, List, refl, sym, ap, ◌∙◌, true, Result, Ok, Err}
+use Rattle.std.proofs.Common.{◌≡◌, ℕ, List, [], ◌∷◌, length, refl, sym, ap, ◌∙◌, true, Result, Ok, Err}
 use Rattle.std.specs.Prelude.{is_ok, IfOk, IfErr, IsOkAnd}
+use Rattle.std.specs.Result.{result_unwrap_or}
 use Rattle.atspi_types.specs.Kinds.{Kind, Kinds, kinds_of, types_in}
 use Rattle.atspi_types.specs.Signatures.{signature_bytes, IsSignature}
 use Rattle.atspi_types.specs.SignatureFaults.{IsFirstSignatureFault}
@@ -8,7 +9,7 @@ use Rattle.atspi_types.specs.SignatureReading.{signature_in}
 use Rattle.atspi_types.specs.declared.fault.Fault.{Fault}
 use Rattle.atspi_types.proofs.DataLemmas.{kinds_of-types_in}
 use Rattle.atspi_types.proofs.SignatureLaws.{signature_in-read, signature_in-again, signature_in-told}
-use Rattle.atspi_codes.specs.Codes.{kinds_at, spells}
+use Rattle.atspi_codes.specs.Codes.{kind_at, kinds_at, spells}
 use Rattle.atspi_codes.specs.TyRefs.{refs_kinds, refs_read}
 use Rattle.atspi_codes.specs.declared.types.TysRef.{TysRef}
 
@@ -21,6 +22,16 @@ spelled_read bytes h = by (signature_in bytes) refl h
   where
     by : (r : Result (List Kind) Fault) → signature_in bytes ≡ r → is_ok r ≡ true → read (kinds_at bytes) ≡ signature_in bytes
     by (Ok ks) e h = rw e refl
+    by (Err f) e h = absurd cc
+
+-- one type alone is read as that type
+pub one_read : (bytes : List ℕ) → length (kinds_at bytes) ≡ 1 → signature_in bytes ≡ read (kind_at bytes ∷ [])
+one_read bytes h = by (signature_in bytes) refl h
+  where
+    by : (r : Result (List Kind) Fault) → signature_in bytes ≡ r → length (result_unwrap_or r []) ≡ 1 → signature_in bytes ≡ read (kind_at bytes ∷ [])
+    by (Ok []) e h = absurd cc
+    by (Ok (k ∷ [])) e h = rw e refl
+    by (Ok (k ∷ j ∷ ks)) e h = absurd cc
     by (Err f) e h = absurd cc
 
 pub found : (bytes : List ℕ) (r : Result TysRef Fault) → refs_read r ≡ signature_in bytes → IfOk r (λ ts. bytes ≡ signature_bytes (kinds_of (refs_kinds ts)))

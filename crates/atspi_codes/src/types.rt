@@ -31,7 +31,7 @@ pub struct EntryRef<'a> {
 }
 
 impl<'a> TysRef<'a> {
-    ghost use Rattle.std.specs.Prelude.{IfOk, IfErr, IsOkAnd, ◌↔◌, [], ◌∷◌, ◌==◌, IfSome, IsSome, length};
+    ghost use Rattle.std.specs.Prelude.{IfOk, IfErr, IsOkAnd, Ok, ◌↔◌, [], ◌∷◌, ◌==◌, IfSome, IsSome, length};
     ghost use Rattle.atspi_types.specs.Kinds.{Kinds, kinds_of};
     ghost use Rattle.atspi_types.specs.Signatures.{signature_bytes, IsSignature};
     ghost use Rattle.atspi_types.specs.SignatureFaults.{IsFirstSignatureFault};
@@ -50,6 +50,15 @@ impl<'a> TysRef<'a> {
         ensures exact { refs_read result ≡ signature_in bytes.now }
     {
         TysRef::read(bytes)
+    }
+
+    /// The types that the bytes are known to spell, since they were read once: they are not looked at again.
+    #[inline(always)]
+    pub fn known(bytes: &'a [u8]) -> TysRef<'a>
+        requires { IsTrue (spells bytes.now) }
+        ensures { signature_in bytes.now ≡ Ok (refs_kinds result) }
+    {
+        TysRef { codes: bytes }
     }
 
     fn read(bytes: &'a [u8]) -> Result<TysRef<'a>, Fault>
@@ -115,7 +124,7 @@ impl<'a> TysRef<'a> {
 }
 
 impl<'a> TyRef<'a> {
-    ghost use Rattle.std.specs.Prelude.{◌↔◌, IfSome, IsSome};
+    ghost use Rattle.std.specs.Prelude.{Ok, [], ◌∷◌, ◌↔◌, IfSome, IsSome};
     ghost use Rattle.atspi_types.specs.Kinds.{no_kinds, kind, array, structure, dictionary, kinds_of};
     ghost use Rattle.atspi_types.specs.Signatures.{type_bytes, IsSignature};
     ghost use Rattle.atspi_types.specs.Kinds.{alignment, is_basic};
@@ -130,6 +139,15 @@ impl<'a> TyRef<'a> {
     {
         let types = TysRef::parse(bytes)?;
         Ok(types.single())
+    }
+
+    /// The one type that the bytes are known to spell, since they were read once: they are not looked at again.
+    #[inline(always)]
+    pub fn known(bytes: &'a [u8]) -> TyRef<'a>
+        requires { length (kinds_at bytes.now) ≡ 1 }
+        ensures { signature_in bytes.now ≡ Ok (ref_kind result ∷ []) }
+    {
+        TyRef { codes: bytes }
     }
 
     /// The code that the type begins with.

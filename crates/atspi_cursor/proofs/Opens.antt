@@ -4,7 +4,7 @@ use Rattle.std.specs.Prelude.{◌==◌, ◌&&◌, nat_lt}
 use Rattle.std.specs.Int.{w32, byte_len}
 use Rattle.std.proofs.lemmas.Bool.{lt-ltb}
 use Rattle.std.proofs.lemmas.Str.{chars-encodes}
-use Rattle.atspi_cursor.proofs.Passes.{pair_passes}
+use Rattle.atspi_cursor.proofs.Passes.{pair_passes, variant_forgotten}
 use Rattle.atspi_cursor.specs.Passing.{after}
 use Rattle.atspi_base.specs.ReadsText.{text_in}
 use Rattle.atspi_base.specs.Text.{HasNoZero}
@@ -23,7 +23,7 @@ use Rattle.atspi_marshal.specs.Reading.{◌>>=◌, bad, Reader, padding_at, room
 use Rattle.atspi_marshal.proofs.ByteArrays.{bytes_elements, read_byte}
 use Rattle.atspi_marshal.proofs.Places.{aligned-one}
 use Rattle.atspi_marshal.proofs.Levels.{read_is, types_in-kinds_of}
-use Rattle.atspi_codes.specs.Codes.{leaf_of}
+use Rattle.atspi_codes.specs.Codes.{leaf_of, kinds_at, spells}
 use Rattle.atspi_cursor.specs.Known.{is_read, read_data, read_list, read_fields}
 use Rattle.atspi_cursor.proofs.Knows.{entered, padding_place, room_place, long_is, short_is, array_is}
 
@@ -253,6 +253,7 @@ pub record OpenedVariant (i : Input) (n : ℕ) (k j : Kind) (b : Bound) (at : �
   pub some : 1 ≤ n
   pub within : at + 2 + byte_in i at ≤ b.end
   pub known : is_read (read i (n - 1) j b (at + 2 + byte_in i at)) ≡ true
+  pub place : after (read i n k b at) ≡ after (read i (n - 1) j b (at + 2 + byte_in i at))
   pub data_is : read_data (read i n k b at) ≡ variant_data j (read_data (read i (n - 1) j b (at + 2 + byte_in i at)))
 
 -- and which type that is
@@ -264,6 +265,7 @@ pub record VariantType (i : Input) (n : ℕ) (k : Kind) (b : Bound) (at : ℕ) :
 record InnerValue (deep : Bool) (below : Reader) (i : Input) (b : Bound) (p : ℕ) (k : Kind) : Type 0 where
   pub shallow : deep ≡ false
   pub known : is_read (below k b (p + 2 + byte_in i p)) ≡ true
+  pub place : after (inner_at deep below i b p k) ≡ after (below k b (p + 2 + byte_in i p))
   pub data_is : read_data (inner_at deep below i b p k) ≡ variant_data k (read_data (below k b (p + 2 + byte_in i p)))
 
 variant_value : (k : Kind) (r : Result (Data × ℕ) Fault) → is_read (r >>= as_variant k) ≡ true → (is_read r ≡ true) × (read_data (r >>= as_variant k) ≡ variant_data k (read_data r))
@@ -278,7 +280,7 @@ inner_value false below i b p k h = by (byte_in i (p + 1 + byte_in i p) == 0) re
     by : (z : Bool) → (byte_in i (p + 1 + byte_in i p) == 0) ≡ z → is_read (cond z (below k b (p + 2 + byte_in i p) >>= as_variant k) (bad (p + 1 + byte_in i p) 12)) ≡ true → InnerValue false below i b p k
     by true e h =
         let v = variant_value k (below k b (p + 2 + byte_in i p)) h in
-        record { shallow = refl; known = v.0; data_is = rw e v.1 }
+        record { shallow = refl; known = v.0; place = rw e (variant_forgotten k (below k b (p + 2 + byte_in i p))); data_is = rw e v.1 }
     by false e h = absurd cc
 
 record OneTyped (deep : Bool) (below : Reader) (i : Input) (b : Bound) (p : ℕ) (r : Result (List Kind) Fault) : Type 0 where
@@ -311,6 +313,7 @@ variant_here i n b at h =
         some = not_deep n o.value.shallow;
         within = subst (λ (q : ℕ). q + 2 + byte_in i q ≤ b.end) t.0 t.1;
         known = o.value.known;
+        place = ap after read_here ∙ o.value.place;
         data_is = ap read_data read_here ∙ o.value.data_is;
       };
     }
@@ -327,21 +330,36 @@ variant_opened i n k j b at e s h =
     only : {x y : Kind} → ok_types (x ∷ []) ≡ ok_types (y ∷ []) → x ≡ y
     only q = cc
 
--- the type of a variant that was read is one
-pub never_several : (i : Input) (n : ℕ) (k : Kind) (b : Bound) (at : ℕ) (ks : List Kind) → k ≡ variant → is_read (read i n k b at) ≡ true → signature_in (short_in i at) ≡ Ok ks → (length ks ≡ 1 → ⊥) → ⊥
-never_several i n k b at ks e h s many =
-    let t = variant_type i n k b at e h in
-    let is : ks ≡ t.inner ∷ [] = only (sym s ∙ t.spelled) in
-    many (ap length is)
-  where
-    only : {x y : List Kind} → ok_types x ≡ ok_types y → x ≡ y
-    only q = cc
+-- codes that were read as one type
+pub typed_once : (codes : List ℕ) (k : Kind) → signature_in codes ≡ Ok (k ∷ []) → length (kinds_at codes) ≡ 1
+typed_once codes k e = rw e refl
 
-pub never_refused : (i : Input) (n : ℕ) (k : Kind) (b : Bound) (at : ℕ) (f : Fault) → k ≡ variant → is_read (read i n k b at) ≡ true → signature_in (short_in i at) ≡ Err f → ⊥
-never_refused i n k b at f e h s =
-    let t = variant_type i n k b at e h in
-    let q : ok_types (t.inner ∷ []) ≡ Err f = sym t.spelled ∙ s in
-    absurd cc
+-- the code of variants tells no other type
+pub variant_kind : (k : Kind) (b : ℕ) → b ≡ 118 → ((b ≡ 97 → ⊥) → (b ≡ 40 → ⊥) → k ≡ leaf_of b) → k ≡ variant
+variant_kind k b e h = leaf_kind k b 118 e (λ q. absurd (omega (arith, q))) (λ q. absurd (omega (arith, q))) h
+
+-- the same of a variant of which the place behind it alone is known
+whole_known : {X : Type 0} (r : Result (X × ℕ) Fault) → is_read (after r) ≡ true → is_read r ≡ true
+whole_known (Ok x) h = refl
+whole_known (Err f) h = absurd cc
+
+place_known : {X : Type 0} (r : Result (X × ℕ) Fault) → is_read r ≡ true → is_read (after r) ≡ true
+place_known (Ok x) h = refl
+place_known (Err f) h = absurd cc
+
+pub variant_passed : (i : Input) (n : ℕ) (b : Bound) (at : ℕ) → is_read (after (read i n variant b at)) ≡ true → VariantType i n variant b at
+variant_passed i n b at h = variant_here i n b at (whole_known (read i n variant b at) h)
+
+pub record PassedVariant (i : Input) (n : ℕ) (j : Kind) (b : Bound) (at : ℕ) : Type 0 where
+  pub some : 1 ≤ n
+  pub within : at + 2 + byte_in i at ≤ b.end
+  pub passed : is_read (after (read i (n - 1) j b (at + 2 + byte_in i at))) ≡ true
+  pub place : after (read i n variant b at) ≡ after (read i (n - 1) j b (at + 2 + byte_in i at))
+
+pub variant_passed_as : (i : Input) (n : ℕ) (j : Kind) (b : Bound) (at : ℕ) → signature_in (short_in i at) ≡ Ok (j ∷ []) → is_read (after (read i n variant b at)) ≡ true → PassedVariant i n j b at
+variant_passed_as i n j b at s h =
+    let o = variant_opened i n variant j b at refl s (whole_known (read i n variant b at) h) in
+    record { some = o.some; within = o.within; passed = place_known (read i (n - 1) j b (at + 2 + byte_in i at)) o.known; place = o.place }
 
 -- a signature
 pub record OpenedSignature (i : Input) (n : ℕ) (k : Kind) (b : Bound) (at : ℕ) : Type 0 where
@@ -391,11 +409,10 @@ signature_types i n k b at ks e h s =
     only : {x y : List Kind} → ok_types x ≡ ok_types y → x ≡ y
     only q = cc
 
-pub signature_never_refused : (i : Input) (n : ℕ) (k : Kind) (b : Bound) (at : ℕ) (f : Fault) → k ≡ signature → is_read (read i n k b at) ≡ true → signature_in (short_in i at) ≡ Err f → ⊥
-signature_never_refused i n k b at f e h s =
+pub signature_spelled : (i : Input) (n : ℕ) (k : Kind) (b : Bound) (at : ℕ) → k ≡ signature → is_read (read i n k b at) ≡ true → spells (short_in i at) ≡ true
+signature_spelled i n k b at e h =
     let o = signature_opened i n k b at e h in
-    let q : ok_types o.kinds ≡ Err f = sym o.spelled ∙ s in
-    absurd cc
+    rw o.spelled refl
 
 -- an array of bytes is a slice
 pub bytes_opened : (i : Input) (n : ℕ) (k : Kind) (b : Bound) (at p m : ℕ) → k ≡ array (number byte) → p ≡ aligned 4 at → m ≡ number_in i w32 p → b.end ≤ length i.bytes → is_read (read i n k b at) ≡ true

@@ -1,9 +1,9 @@
 -- What passing is made of, step by step.
-use Rattle.std.proofs.Common.{◌≡◌, ℕ, zero, suc, ◌+◌, ◌-◌, ◌%◌, ◌<◌, ◌≤◌, Bool, true, false, cond, nat_lt, List, [], ◌∷◌, length, Result, Ok, Err, refl, sym, ap, ◌∙◌, arith}
+use Rattle.std.proofs.Common.{◌≡◌, ℕ, zero, suc, ◌+◌, ◌-◌, ◌%◌, ◌<◌, ◌≤◌, Bool, true, false, cond, nat_lt, List, [], ◌∷◌, length, Result, Ok, Err, refl, sym, ap, subst, ◌∙◌, arith}
 use Rattle.std.specs.Int.{w32, byte_len}
 use Rattle.std.specs.Prelude.{◌==◌, IsTrue}
 use Rattle.std.proofs.Math.Dec.{eqb-suc-zero}
-use Rattle.std.proofs.Math.Nat.{mod_self}
+use Rattle.std.proofs.Math.Nat.{mod_self, mod-lt, mod-add-mod, mod-eq_of_lt, add-mod_right}
 use Rattle.std.proofs.lemmas.Bool.{lt-ltb, le-ltb, false≢true}
 use Rattle.atspi_types.specs.Kinds.{Num, byte, i16, u16, i32, u32, i64, u64, double, width, number_alignment, Kind, number, boolean, text, path, signature, array, structure, variant, dictionary, alignment}
 use Rattle.atspi_types.specs.Data.{Data, number_data, boolean_data, text_data, path_data, signature_data, array_data, structure_data, dictionary_data, variant_data}
@@ -176,6 +176,22 @@ aligned_here n at e =
     let whole : n - 0 ≡ n = omega arith in
     let none : (n - at % n) % n ≡ 0 = rw (e, whole) (mod_self n) in
     omega (arith, none)
+
+-- the next multiple, by what is left of the number with all but one added
+pub rounded : (n at : ℕ) → 0 < n → at + (n - 1) - (at + (n - 1)) % n ≡ aligned n at
+rounded n at some = by (at % n) refl
+  where
+    by : (r : ℕ) → at % n ≡ r → at + (n - 1) - (at + (n - 1)) % n ≡ aligned n at
+    by zero e =
+        let less : 0 + (n - 1) ≡ n - 1 = omega arith in
+        let over : (at + (n - 1)) % n ≡ n - 1 = sym (mod-add-mod at n (n - 1)) ∙ (ap (λ (r : ℕ). (r + (n - 1)) % n) e ∙ (ap (λ (m : ℕ). m % n) less ∙ mod-eq_of_lt (omega (arith, some)))) in
+        omega (arith, over, aligned_here n at e)
+    by (suc r) e =
+        let small : suc r < n = subst (λ (m : ℕ). m < n) e (mod-lt at some) in
+        let shifted : suc r + (n - 1) ≡ r + n = omega (arith, some) in
+        let over : (at + (n - 1)) % n ≡ r = sym (mod-add-mod at n (n - 1)) ∙ (ap (λ (q : ℕ). (q + (n - 1)) % n) e ∙ (ap (λ (m : ℕ). m % n) shifted ∙ (add-mod_right r n ∙ mod-eq_of_lt (omega (arith, small))))) in
+        let pad : (n - at % n) % n ≡ n - suc r = ap (λ (m : ℕ). (n - m) % n) e ∙ mod-eq_of_lt (omega (arith, small)) in
+        omega (arith, over, pad, small)
 
 pub no_padding : (i : Input) (n : ℕ) (b : Bound) (at : ℕ) → at % n ≡ 0 → at ≤ b.end → padding_at i n b at ≡ Ok at
 unfolding padding_at

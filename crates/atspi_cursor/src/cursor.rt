@@ -12,7 +12,7 @@ ghost use Rattle.atspi_cursor.specs.Passing.{read_all};
 use crate::jumping::jump;
 use crate::passing::fields;
 use crate::plain::align_up;
-use crate::text::{slice, type_at, types_at};
+use crate::text::{known_type, known_types, slice};
 use atspi_codes::{TyRef, TysRef};
 use atspi_marshal::{Bound, Marshalled, byte_at, u16_at, u32_at, u64_at};
 use atspi_types::{Fault, Order};
@@ -515,20 +515,15 @@ impl<'a> Item<'a> {
         if code != b'v' {
             return None;
         }
-        match type_at(&self.input, self.at) {
-            Ok(Some(ty)) => {
-                let len = byte_at(&self.input, self.at) as usize;
-                Some(Item {
-                    input: self.input,
-                    ty,
-                    levels: self.levels - 1,
-                    bound: self.bound,
-                    at: self.at + 2 + len,
-                })
-            }
-            Ok(None) => None,
-            Err(_refused) => None,
-        }
+        let len = byte_at(&self.input, self.at) as usize;
+        let inner = known_type(&self.input, self.at);
+        Some(Item {
+            input: self.input,
+            ty: inner,
+            levels: self.levels - 1,
+            bound: self.bound,
+            at: self.at + 2 + len,
+        })
     }
 
     /// The types of the signature, exactly where it is one.
@@ -540,10 +535,7 @@ impl<'a> Item<'a> {
         if code != b'g' {
             return None;
         }
-        match types_at(&self.input, self.at) {
-            Ok(types) => Some(types),
-            Err(_refused) => None,
-        }
+        Some(known_types(&self.input, self.at))
     }
 
     /// The bytes, exactly where it is an array of bytes.

@@ -2,16 +2,18 @@
 
 ghost use Rattle.std.specs.Prelude.{◌≡◌, ◌<◌, ◌≤◌, ◌+◌, length, false, IsTrue, Ok};
 ghost use Rattle.std.specs.Int.{w32};
+ghost use Rattle.atspi_types.specs.Kinds.{variant};
 ghost use Rattle.atspi_codes.specs.TyRefs.{ref_kind, refs_kinds};
 ghost use Rattle.atspi_codes.specs.Shapes.{shape_kind};
 ghost use Rattle.atspi_marshal.specs.Input.{number_in, byte_in, aligned, PlacesFit, ReachTo};
 ghost use Rattle.atspi_marshal.specs.Faults.{end_of, place_of};
 ghost use Rattle.atspi_marshal.specs.Reading.{input_of, read, is_structure};
 ghost use Rattle.atspi_cursor.specs.Passing.{after, read_all};
-ghost use Rattle.atspi_cursor.specs.Known.{is_read};
+ghost use Rattle.atspi_cursor.specs.Known.{is_read, is_variant};
 
-use crate::passing::{number_size, pass};
+use crate::passing::number_size;
 use crate::plain::align_up;
+use crate::text::known_type;
 use atspi_codes::{Shape, TyRef, TysRef};
 use atspi_marshal::{Bound, Marshalled, byte_at, u32_at};
 
@@ -21,7 +23,7 @@ fn jump_fixed(size: usize, at: usize) -> usize
     requires { (0 < size) × (size ≤ 8) × (at < 4294967296) }
     ensures { result ≡ aligned size at + size }
 {
-    at + (size - at % size) % size + size
+    align_up(size, at) + size
 }
 
 /// The same. Each size has an arm of its own, so that the machine divides by a constant.
@@ -101,42 +103,41 @@ fn jump_any(input: &Marshalled, levels: u8, ty: TyRef, bound: Bound, at: usize) 
     ensures place { after (read (input_of input.now) levels (ref_kind ty.entry) bound at) ≡ Ok result }
     ensures within { (at ≤ result) × (result ≤ bound.end) }
 {
+    let code = ty.code();
+    if code == b'v' {
+        return jump_variant(input, levels, bound, at);
+    }
     match ty.fields() {
         Some(types) => jump_fields(input, levels - 1, types, bound, align_up(8, at)),
         None => jump_other(input, levels, ty, bound, at),
     }
 }
 
-/// The place behind a value that was passed and is no struct.
+/// The place behind a value that was passed and is no struct and no variant.
 #[inline(always)]
 fn jump_other(input: &Marshalled, levels: u8, ty: TyRef, bound: Bound, at: usize) -> usize
-    requires at { at ≤ bound.end }
     requires end { ReachTo input.now bound.end }
     requires known { IsTrue (is_read (after (read (input_of input.now) levels (ref_kind ty) bound at))) }
     requires other { is_structure (ref_kind ty) ≡ false }
+    requires plain { is_variant (ref_kind ty) ≡ false }
     ensures place { after (read (input_of input.now) levels (ref_kind ty.entry) bound at) ≡ Ok result }
     ensures within { (at ≤ result) × (result ≤ bound.end) }
 {
-    let code = ty.code();
-    if code == b'v' {
-        return jump_variant(input, levels, ty, bound, at);
-    }
     jump_single(input, ty.shape(), at)
 }
 
-/// The place behind a variant that was passed, which is passed once more.
-#[inline(never)]
-fn jump_variant(input: &Marshalled, levels: u8, ty: TyRef, bound: Bound, at: usize) -> usize
-    requires at { at ≤ bound.end }
+/// The place behind a variant that was passed: that behind the value in it, whose type is not looked at again.
+#[cycle(jump)]
+#[inline(always)]
+fn jump_variant(input: &Marshalled, levels: u8, bound: Bound, at: usize) -> usize
     requires end { ReachTo input.now bound.end }
-    requires known { IsTrue (is_read (after (read (input_of input.now) levels (ref_kind ty) bound at))) }
-    ensures place { after (read (input_of input.now) levels (ref_kind ty.entry) bound at) ≡ Ok result }
+    requires known { IsTrue (is_read (after (read (input_of input.now) levels variant bound at))) }
+    ensures place { after (read (input_of input.now) levels variant bound at) ≡ Ok result }
     ensures within { (at ≤ result) × (result ≤ bound.end) }
 {
-    match pass(input, levels, ty, bound, at) {
-        Ok(place) => place,
-        Err(_) => at,
-    }
+    let len = byte_at(input, at) as usize;
+    let inner = known_type(input, at);
+    jump(input, levels - 1, inner, bound, at + 2 + len)
 }
 
 /// The place where a value ends that is no struct and no variant, by what it begins with.

@@ -19,13 +19,14 @@ pub fn fault(place: usize, reason: u8) -> Fault
     }
 }
 
-/// The next multiple of `align`.
+/// The next multiple of `align`. Of a power of two that is known the machine only adds and cuts off the low bits.
 #[inline(always)]
 pub fn align_up(align: usize, at: usize) -> usize
     requires { (0 < align) × (align ≤ 8) × (at < 4294967296) }
     ensures { result ≡ aligned align at }
 {
-    at + (align - at % align) % align
+    let last = at + (align - 1);
+    last - last % align
 }
 
 /// How many zero bytes stand in front.
@@ -54,16 +55,17 @@ fn reason_of_passing(input: &Marshalled, bound: Bound, at: usize) -> u8
     }
 }
 
-/// Whether the bytes are zeros. Up to four, as nearly all padding is, are looked at together.
+/// Whether the bytes are zeros. Up to four, as nearly all padding is, are looked at together; four, which stand before
+/// numbers of 64 bits, are asked for first.
 #[inline(always)]
 fn are_zeros(bytes: &[u8]) -> bool
     ensures { result ≡ (zeros_in_front bytes.now == length bytes.now) }
 {
     match bytes {
+        [a, b, c, d] => (*a == 0) & (*b == 0) & (*c == 0) & (*d == 0),
         [a] => *a == 0,
         [a, b] => (*a == 0) & (*b == 0),
         [a, b, c] => (*a == 0) & (*b == 0) & (*c == 0),
-        [a, b, c, d] => (*a == 0) & (*b == 0) & (*c == 0) & (*d == 0),
         _ => zeros_before(bytes) == bytes.len(),
     }
 }

@@ -1,11 +1,12 @@
 //! Texts, paths and signatures that are passed.
 
-ghost use Rattle.std.specs.Prelude.{◌≡◌, ◌<◌, ◌≤◌, ◌+◌, ◌-◌, ◌^◌, length, take, drop, IfOk, IfErr};
+ghost use Rattle.std.specs.Prelude.{◌≡◌, ◌<◌, ◌≤◌, ◌+◌, ◌-◌, ◌^◌, [], ◌∷◌, Ok, IsTrue, length, take, drop, IfOk, IfErr};
 ghost use Rattle.std.specs.Int.{w32};
 ghost use Rattle.std.specs.List.{list_all};
 ghost use Rattle.atspi_base.specs.ReadsText.{ReadsStr, StrPlaceBelow};
 ghost use Rattle.atspi_types.specs.SignatureReading.{signature_in};
-ghost use Rattle.atspi_codes.specs.TyRefs.{refs_read, ReadsOne};
+ghost use Rattle.atspi_codes.specs.Codes.{kinds_at, spells};
+ghost use Rattle.atspi_codes.specs.TyRefs.{ref_kind, refs_kinds, refs_read, ReadsOne};
 ghost use Rattle.atspi_marshal.specs.Faults.{short_in};
 ghost use Rattle.atspi_marshal.specs.Input.{number_in, byte_in, PlacesFit, ReachTo};
 ghost use Rattle.atspi_marshal.specs.Reading.{input_of, long_place, short_place, long_at, short_at, text_body_at, path_body_at, signature_body_at};
@@ -280,6 +281,28 @@ pub fn type_at<'a>(input: &Marshalled<'a>, place: usize) -> Result<Option<TyRef<
 {
     let len = byte_at(input, place) as usize;
     TyRef::parse(slice(input.bytes, place + 1, len))
+}
+
+/// The types of a signature that was passed, which is not looked at again.
+#[inline(always)]
+pub fn known_types<'a>(input: &Marshalled<'a>, place: usize) -> TysRef<'a>
+    requires end { ReachTo input.now (place + 2 + byte_in (input_of input.now) place) }
+    requires known { IsTrue (spells (short_in (input_of input.now) place)) }
+    ensures { signature_in (short_in (input_of input.now) place) ≡ Ok (refs_kinds result) }
+{
+    let len = byte_at(input, place) as usize;
+    TysRef::known(slice(input.bytes, place + 1, len))
+}
+
+/// The type of a variant that was passed, whose signature is not looked at again.
+#[inline(always)]
+pub fn known_type<'a>(input: &Marshalled<'a>, place: usize) -> TyRef<'a>
+    requires end { ReachTo input.now (place + 2 + byte_in (input_of input.now) place) }
+    requires known { length (kinds_at (short_in (input_of input.now) place)) ≡ 1 }
+    ensures { signature_in (short_in (input_of input.now) place) ≡ Ok (ref_kind result ∷ []) }
+{
+    let len = byte_at(input, place) as usize;
+    TyRef::known(slice(input.bytes, place + 1, len))
 }
 
 /// The place behind the signature whose length stands at a place.

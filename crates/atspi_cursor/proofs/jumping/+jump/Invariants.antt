@@ -10,6 +10,9 @@ decreases-jump a = 4 * a.levels + 3
 abbrev pub decreases-jump_any : goal.decreases-jump_any
 decreases-jump_any a = 4 * a.levels + 2
 
+abbrev pub decreases-jump_variant : goal.decreases-jump_variant
+decreases-jump_variant a = 4 * a.levels + 1
+
 abbrev pub decreases-jump_fields : goal.decreases-jump_fields
 decreases-jump_fields a = 4 * a.levels + 4
 
