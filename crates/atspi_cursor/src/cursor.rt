@@ -120,7 +120,7 @@ impl<'a> Fields<'a> {
         ))
     }
 
-    /// The next value. Behind it stand the others; where there is none, none comes later.
+    /// The next value. Behind it stand the others; where there is none, none comes later. The last one is not jumped over.
     #[inline(always)]
     pub fn next(&mut self) -> Option<Item<'a>>
         ensures comes { Comes result (fields_data self.old) (fields_data self.new) }
@@ -138,9 +138,10 @@ impl<'a> Fields<'a> {
                     bound: self.bound,
                     at: self.at,
                 };
-                let next = jump(&self.input, self.levels, ty, self.bound, self.at);
+                if !types.is_empty() {
+                    self.at = jump(&self.input, self.levels, ty, self.bound, self.at);
+                }
                 self.types = types;
-                self.at = next;
                 Some(item)
             }
         }

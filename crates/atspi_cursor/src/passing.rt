@@ -108,13 +108,13 @@ pub fn pass(
     if size != 0 {
         return pass_number(input, size, bound, at);
     }
-    if code == b's' {
-        return pass_text(input, bound, at);
-    }
-    if code == b'o' {
-        return pass_path(input, bound, at);
-    }
-    other(input, levels, ty, bound, at)
+    // handed on by value: what a call writes through memory would keep the place behind a number there too
+    let place = match code {
+        b's' => pass_text(input, bound, at)?,
+        b'o' => pass_path(input, bound, at)?,
+        _ => other(input, levels, ty, bound, at)?,
+    };
+    Ok(place)
 }
 
 /// The same of any type, those too.

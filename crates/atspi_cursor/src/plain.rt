@@ -106,7 +106,9 @@ fn looked_at(input: &Marshalled, align: usize, bound: Bound, at: usize) -> Resul
             return Ok(place);
         }
     }
-    counted(input, align, bound, at)
+    // handed on by value: what a call writes through memory would keep the place above there too
+    let behind = counted(input, align, bound, at)?;
+    Ok(behind)
 }
 
 /// The place behind the padding up to a multiple of `align`.

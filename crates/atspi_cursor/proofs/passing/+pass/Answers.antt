@@ -81,13 +81,23 @@ pass-returns-then-size-ne0-clause-place t c =
     let size = c.number_size-size.ensures.size ∙ code_size k c.code-code.result c.code-code.ensures.head in
     c.pass_number.ensures.place ∙ fixed_read (input_of c.args.input.now) c.args.levels k c.args.bound c.args.at c.number_size-size.result size c.if-size-ne0.true
 
-pub pass-returns-then-code-eq115-clause-place : goal.pass-returns-then-code-eq115-clause-place
-pass-returns-then-code-eq115-clause-place t c =
-    c.pass_text.ensures.place ∙ text_read (input_of c.args.input.now) c.args.levels (ref_kind c.args.ty) c.args.bound c.args.at c.code-code.result c.if-code-eq115.true c.code-code.ensures.leaf
+pub pass-returns-in_ok-place-in-115-clause-place : goal.pass-returns-in_ok-place-in-115-clause-place
+pass-returns-in_ok-place-in-115-clause-place t c =
+    c.in_ok-place-in-115.ensures.place ∙ text_read (input_of c.args.input.now) c.args.levels (ref_kind c.args.ty) c.args.bound c.args.at c.code-code.result c.in-115.is c.code-code.ensures.leaf
 
-pub pass-returns-then-code-eq111-clause-place : goal.pass-returns-then-code-eq111-clause-place
-pass-returns-then-code-eq111-clause-place t c =
-    c.pass_path.ensures.place ∙ path_read (input_of c.args.input.now) c.args.levels (ref_kind c.args.ty) c.args.bound c.args.at c.code-code.result c.if-code-eq111.true c.code-code.ensures.leaf
+pub pass-returns-in_err-place-in-115-clause-place : goal.pass-returns-in_err-place-in-115-clause-place
+pass-returns-in_err-place-in-115-clause-place t c =
+    let p = err_from_is_err_and c.from_residual.result c.from_residual.ensures.1 in
+    rw (p.1, p.2) (c.in_err-place-in-115.ensures.place ∙ text_read (input_of c.args.input.now) c.args.levels (ref_kind c.args.ty) c.args.bound c.args.at c.code-code.result c.in-115.is c.code-code.ensures.leaf)
+
+pub pass-returns-in_ok-place-in-111-clause-place : goal.pass-returns-in_ok-place-in-111-clause-place
+pass-returns-in_ok-place-in-111-clause-place t c =
+    c.in_ok-place-in-111.ensures.place ∙ path_read (input_of c.args.input.now) c.args.levels (ref_kind c.args.ty) c.args.bound c.args.at c.code-code.result c.in-111.is c.code-code.ensures.leaf
+
+pub pass-returns-in_err-place-in-111-clause-place : goal.pass-returns-in_err-place-in-111-clause-place
+pass-returns-in_err-place-in-111-clause-place t c =
+    let p = err_from_is_err_and c.from_residual-in_err-place-in-111.result c.from_residual-in_err-place-in-111.ensures.1 in
+    rw (p.1, p.2) (c.in_err-place-in-111.ensures.place ∙ path_read (input_of c.args.input.now) c.args.levels (ref_kind c.args.ty) c.args.bound c.args.at c.code-code.result c.in-111.is c.code-code.ensures.leaf)
 
 pub other-returns-in-Some-clause-place : goal.other-returns-in-Some-clause-place
 unfolding level
