@@ -10,21 +10,21 @@ abbrev mutual
   size (text_data characters) = 0
   size (path_data bytes) = 0
   size (signature_data ks) = 0
-  size (array_data k ds) = sizes ds + 2
-  size (structure_data ds) = sizes ds + 2
-  size (dictionary_data k v es) = entry_sizes es + 2
-  size (variant_data k d) = size d + 2
+  size (array_data k ds) = sizes ds + 3
+  size (structure_data ds) = sizes ds + 3
+  size (dictionary_data k v es) = entry_sizes es + 3
+  size (variant_data k d) = size d + 3
 
   pub sizes : Items → ℕ
   sizes no_items = 0
-  sizes (item d ds) = size d + 1 + sizes ds
+  sizes (item d ds) = size d + 2 + sizes ds
 
   pub entry_sizes : Entries → ℕ
   entry_sizes no_entries = 0
   entry_sizes (entry key value es) = size key + size value + 2 + entry_sizes es
 
 -- the first of several values, and those behind it
-pub sizes_come : (old new : List Data) (d : Data) → old ≡ d ∷ new → size d + 1 + sizes (items_of new) ≡ sizes (items_of old)
+pub sizes_come : (old new : List Data) (d : Data) → old ≡ d ∷ new → size d + 2 + sizes (items_of new) ≡ sizes (items_of old)
 sizes_come old new d e = sym (ap (λ (ds : List Data). sizes (items_of ds)) e)
 
 -- and of several entries

@@ -6,8 +6,17 @@ use Rattle.atspi_types.specs.Data.{Data, number_data, boolean_data, text_data, p
 use Rattle.atspi_codes.specs.TyRefs.{refs_kinds}
 use Rattle.atspi_marshal.specs.Reading.{entries_in}
 use Rattle.atspi_cursor.specs.Items.{item_data, item_kind, elements_data, elements_kind, entries_data, key_kind, value_kind, fields_data}
+use Rattle.atspi_script.specs.declared.view.Parts.{Parts}
+use Rattle.atspi_script.specs.declared.view.Parts.TheVariants as parts
 use Rattle.atspi_script.specs.declared.view.View.{View}
 use Rattle.atspi_script.specs.declared.view.View.TheVariants as views
+
+-- the value that has these parts
+abbrev pub parts_data : Parts → Data
+parts_data (parts.Array es) = array_data (elements_kind es) (items_of (elements_data es))
+parts_data (parts.Struct fs) = structure_data (items_of (fields_data fs))
+parts_data (parts.Dictionary es) = dictionary_data (key_kind es) (value_kind es) (entries_in (items_of (entries_data es)))
+parts_data (parts.Variant x) = variant_data (item_kind x) (item_data x)
 
 -- the value
 abbrev pub view_data : View → Data
@@ -23,7 +32,4 @@ view_data (views.Double n) = number_data double n
 view_data (views.Text s) = text_data (chars s.now)
 view_data (views.Path s) = path_data s.text.now
 view_data (views.Types ts) = signature_data (kinds_of (refs_kinds ts))
-view_data (views.Array es) = array_data (elements_kind es) (items_of (elements_data es))
-view_data (views.Struct fs) = structure_data (items_of (fields_data fs))
-view_data (views.Dictionary es) = dictionary_data (key_kind es) (value_kind es) (entries_in (items_of (entries_data es)))
-view_data (views.Variant x) = variant_data (item_kind x) (item_data x)
+view_data (views.Parts p) = parts_data p

@@ -10,11 +10,12 @@ ghost use Rattle.atspi_codes.specs.TyRefs.{refs_kinds};
 ghost use Rattle.atspi_marshal.specs.Reading.{entries_in};
 ghost use Rattle.atspi_cursor.specs.Items.{item_data, item_kind, elements_data, entries_data, fields_data};
 ghost use Rattle.atspi_script.specs.Spaced.{in_brackets, spaced};
+ghost use Rattle.atspi_script.specs.Views.{parts_data};
 ghost use Rattle.atspi_script.specs.ValueText.{boolean_text, entry_texts, in_braces, value_text, value_texts};
 
 use crate::numbers::{put_number, put_signed};
 use crate::quotes::{put_in_quotes, put_path};
-use crate::view::{View, view_of};
+use crate::view::{Parts, View, view_of};
 use atspi_base::{Bytes, NoMemory, put_hex};
 use atspi_codes::TysRef;
 use atspi_cursor::{Elements, Entries, Entry, Fields, Item};
@@ -39,10 +40,23 @@ fn put(item: Item<'_>, out: &mut Bytes) -> Result<(), NoMemory>
         View::Text(text) => put_text(text, out),
         View::Path(path) => put_path(path, out),
         View::Types(types) => put_types(types, out),
-        View::Array(elements) => put_array(elements, out),
-        View::Struct(fields) => put_struct(fields, out),
-        View::Dictionary(entries) => put_dictionary(entries, out),
-        View::Variant(inner) => put_variant(inner, out),
+        View::Parts(parts) => put_parts(parts, out),
+    }
+}
+
+/// Appends the text of a value that has parts. A call of its own, so that a value without parts takes no room for what walks
+/// over some.
+#[cycle(put)]
+#[inline(never)]
+fn put_parts(parts: Parts<'_>, out: &mut Bytes) -> Result<(), NoMemory>
+    ensures ok { OnOk result (out.new ≡ out.old ++ value_text (parts_data parts.entry)) }
+    ensures front { take (length out.old) out.new ≡ out.old }
+{
+    match parts {
+        Parts::Array(elements) => put_array(elements, out),
+        Parts::Struct(fields) => put_struct(fields, out),
+        Parts::Dictionary(entries) => put_dictionary(entries, out),
+        Parts::Variant(inner) => put_variant(inner, out),
     }
 }
 
@@ -108,12 +122,25 @@ fn put_elements(elements: Elements<'_>, out: &mut Bytes) -> Result<(), NoMemory>
     let Some(first) = rest.next() else {
         return Ok(());
     };
-    put(first, out)?;
+    put_element(first, out)?;
     while let Some(item) = rest.next() {
         out.push(b' ')?;
-        put(item, out)?;
+        put_element(item, out)?;
     }
     Ok(())
+}
+
+/// Appends the text of an element. Most that have parts are structs, so these are asked for first.
+#[cycle(put)]
+#[inline(always)]
+fn put_element(item: Item<'_>, out: &mut Bytes) -> Result<(), NoMemory>
+    ensures ok { OnOk result (out.new ≡ out.old ++ value_text (item_data item.entry)) }
+    ensures front { take (length out.old) out.new ≡ out.old }
+{
+    match item.fields() {
+        Some(fields) => put_struct(fields, out),
+        None => put(item, out),
+    }
 }
 
 /// Appends the text of a struct.

@@ -25,6 +25,12 @@ pub enum View<'a> {
     Text(&'a str),
     Path(PathText<'a>),
     Types(TysRef<'a>),
+    Parts(Parts<'a>),
+}
+
+/// What walks over the parts of a value.
+#[derive(Clone, Copy)]
+pub enum Parts<'a> {
     Array(Elements<'a>),
     Struct(Fields<'a>),
     Dictionary(Entries<'a>),
@@ -99,7 +105,7 @@ fn array_of(item: Item<'_>) -> View<'_>
     ensures { view_data result ≡ item_data item.entry }
 {
     match item.elements() {
-        Some(elements) => View::Array(elements),
+        Some(elements) => View::Parts(Parts::Array(elements)),
         None => unreachable!(),
     }
 }
@@ -111,7 +117,7 @@ fn struct_of(item: Item<'_>) -> View<'_>
     ensures { view_data result ≡ item_data item.entry }
 {
     match item.fields() {
-        Some(fields) => View::Struct(fields),
+        Some(fields) => View::Parts(Parts::Struct(fields)),
         None => unreachable!(),
     }
 }
@@ -123,7 +129,7 @@ fn dictionary_of(item: Item<'_>) -> View<'_>
     ensures { view_data result ≡ item_data item.entry }
 {
     match item.entries() {
-        Some(entries) => View::Dictionary(entries),
+        Some(entries) => View::Parts(Parts::Dictionary(entries)),
         None => unreachable!(),
     }
 }
@@ -135,7 +141,7 @@ fn variant_of(item: Item<'_>) -> View<'_>
     ensures { view_data result ≡ item_data item.entry }
 {
     match item.variant() {
-        Some(inner) => View::Variant(inner),
+        Some(inner) => View::Parts(Parts::Variant(inner)),
         None => unreachable!(),
     }
 }

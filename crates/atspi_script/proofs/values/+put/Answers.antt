@@ -4,9 +4,9 @@ use Rattle.atspi_script.proofs.values.+put.Goals as goal
 
 -- what stood before stands there still where a value in a bracket is cut short
 
-pub put_elements-returns-in_err-put-2-clause-front : goal.put_elements-returns-in_err-put-2-clause-front
-put_elements-returns-in_err-put-2-clause-front t c =
-    front_spaced c.args.out.now c.loop-item.out c.push.new.self c.put-in-Some-next.new.out c.loop-item.invariant.0 c.in_ok-push.ensures.ok c.put-in-Some-next.ensures.front
+pub put_elements-returns-in_err-put_element-2-clause-front : goal.put_elements-returns-in_err-put_element-2-clause-front
+put_elements-returns-in_err-put_element-2-clause-front t c =
+    front_spaced c.args.out.now c.loop-item.out c.push.new.self c.put_element-in-Some-next.new.out c.loop-item.invariant.0 c.in_ok-push.ensures.ok c.put_element-in-Some-next.ensures.front
 
 pub put_fields-returns-in_err-put-2-clause-front : goal.put_fields-returns-in_err-put-2-clause-front
 put_fields-returns-in_err-put-2-clause-front t c =

@@ -1,13 +1,20 @@
-use Rattle.std.proofs.Common.{◌≡◌, ◌+◌, ◌≤◌, length, take}
+use Rattle.std.proofs.Common.{◌≡◌, ◌+◌, ◌-◌, ◌≤◌, length, take}
 use Rattle.atspi_types.specs.Data.{items_of}
 use Rattle.atspi_marshal.specs.Reading.{entries_in}
 use Rattle.atspi_cursor.specs.Items.{item_data, elements_data, entries_data, fields_data}
+use Rattle.atspi_script.specs.Views.{parts_data}
 use Rattle.atspi_script.proofs.Sizes.{size, sizes, entry_sizes}
 use Rattle.atspi_script.proofs.TextLemmas.{Written, words_of, entry_words}
 use Rattle.atspi_script.proofs.values.+put.Given as goal
 
 abbrev pub decreases-put : goal.decreases-put
 decreases-put l = size (item_data l.item)
+
+abbrev pub decreases-put_parts : goal.decreases-put_parts
+decreases-put_parts l = size (parts_data l.parts) - 1
+
+abbrev pub decreases-put_element : goal.decreases-put_element
+decreases-put_element l = size (item_data l.item) + 1
 
 abbrev pub decreases-put_array : goal.decreases-put_array
 decreases-put_array l = sizes (items_of (elements_data l.elements)) + 1
