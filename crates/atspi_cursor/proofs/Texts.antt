@@ -2,7 +2,6 @@
 use Rattle.std.proofs.Common.{◌≡◌, ℕ, zero, suc, ◌<◌, Bool, true, false, nat_lt, List, [], ◌∷◌, length, Option, Result, Ok, Err, ◌≤◌, chars, refl, arith}
 use Rattle.std.specs.Prelude.{◌&&◌, slice_index, IfErr}
 use Rattle.std.specs.List.{list_all}
-use Rattle.std.specs.Str.{IsAscii}
 use Rattle.std.proofs.lemmas.Bool.{ltb-true}
 use Rattle.std.proofs.lemmas.Str.{IsUtf8-from_ascii}
 use Rattle.atspi_base.specs.Text.{bytes_before_zero}

@@ -1,5 +1,5 @@
 -- Reading that keeps nothing: the place behind what is read, or the first fault.
-use Rattle.std.specs.Prelude.{◌+◌, ◌-◌, ◌%◌, ◌==◌, ℕ, List, Bool, false, true, nat_lt, ◌&&◌, if◌then◌else◌, Result, Ok, Err}
+use Rattle.std.specs.Prelude.{◌+◌, ◌-◌, ◌%◌, ◌==◌, ℕ, List, Bool, nat_lt, ◌&&◌, if◌then◌else◌, Result, Ok, Err}
 use Rattle.atspi_types.specs.Data.{Data}
 use Rattle.std.specs.Int.{byte_len}
 use Rattle.atspi_types.specs.Kinds.{Kind, width, number, boolean, text, path, signature, array, structure, variant, dictionary}

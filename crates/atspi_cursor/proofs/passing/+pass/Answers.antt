@@ -6,7 +6,7 @@ use Rattle.atspi_codes.specs.TyRefs.{ref_kind, refs_kinds}
 use Rattle.atspi_marshal.specs.Faults.{entry_kind, inside}
 use Rattle.atspi_marshal.specs.Reading.{input_of, read, elements_at, single_at, level}
 use Rattle.atspi_marshal.proofs.Levels.{read_is, types_in-kinds_of, level_single}
-use Rattle.atspi_cursor.specs.Passing.{after, up_to, number_len}
+use Rattle.atspi_cursor.specs.Passing.{after, up_to}
 use Rattle.atspi_cursor.proofs.Passes.{number_fixed, passes_on, passes_fail, array_passes, dictionary_passes, structure_passes, pair_passes, not_structure, empty_deep}
 use Rattle.atspi_cursor.proofs.Runs.{numbers_pass, fixed_read, code_size, text_read, path_read, structure_read}
 use Rattle.atspi_cursor.proofs.passing.+pass.Goals as goal

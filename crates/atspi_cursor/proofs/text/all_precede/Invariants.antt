@@ -1,4 +1,4 @@
-use Rattle.std.proofs.Common.{◌≡◌, ◌≤◌, ◌+◌, ◌-◌, length, true}
+use Rattle.std.proofs.Common.{◌≡◌, ◌≤◌, ◌-◌, length, true}
 use Rattle.atspi_cursor.specs.Paths.{precede}
 use Rattle.atspi_cursor.proofs.text.all_precede.Given as goal
 

@@ -1,4 +1,4 @@
-use Rattle.std.proofs.Common.{◌≡◌, ◌≤◌, ◌+◌, ◌-◌, take, length, true}
+use Rattle.std.proofs.Common.{◌≡◌, ◌≤◌, ◌-◌, take, length, true}
 use Rattle.std.specs.List.{list_all}
 use Rattle.atspi_cursor.specs.Passing.{is_plain}
 use Rattle.atspi_cursor.proofs.text.are_plain_many.Given as goal

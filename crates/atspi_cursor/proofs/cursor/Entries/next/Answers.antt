@@ -1,4 +1,4 @@
-use Rattle.std.proofs.Common.{◌≡◌, ◌<◌, ◌-◌, ◌∷◌, ℕ, true, List, Result, Ok, Err, refl, sym, ap, ◌∙◌, arith}
+use Rattle.std.proofs.Common.{◌≡◌, ◌<◌, ◌-◌, ◌∷◌, ℕ, true, Result, Ok, Err, refl, ap, ◌∙◌, arith}
 use Rattle.atspi_types.specs.Data.{Data}
 use Rattle.atspi_codes.specs.TyRefs.{ref_kind}
 use Rattle.atspi_marshal.specs.Faults.{entry_kind}

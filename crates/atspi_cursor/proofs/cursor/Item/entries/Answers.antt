@@ -1,4 +1,4 @@
-use Rattle.std.proofs.Common.{◌≡◌, ◌+◌, ℕ, refl, ap, ◌∙◌, arith}
+use Rattle.std.proofs.Common.{refl, arith}
 use Rattle.atspi_codes.specs.TyRefs.{ref_kind}
 use Rattle.atspi_marshal.specs.Input.{aligned}
 use Rattle.atspi_marshal.specs.Reading.{input_of}

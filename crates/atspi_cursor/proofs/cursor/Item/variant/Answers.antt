@@ -1,6 +1,5 @@
-use Rattle.std.proofs.Common.{◌≡◌, ◌+◌, refl, ap, ◌∙◌, arith}
+use Rattle.std.proofs.Common.{refl, ap, ◌∙◌, arith}
 use Rattle.std.proofs.lemmas.Bool.{false≢true}
-use Rattle.atspi_types.specs.Kinds.{variant}
 use Rattle.atspi_codes.specs.Codes.{head_code}
 use Rattle.atspi_codes.specs.TyRefs.{ref_kind}
 use Rattle.atspi_marshal.specs.Faults.{short_in}
