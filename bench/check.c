@@ -1,27 +1,10 @@
 /* What `check` writes, through libdbus: each message of standard input is read by dbus_message_demarshal, and its header fields and its
    arguments are written as one line of text. */
 #define _GNU_SOURCE
+#include "text.h"
 #include <dbus/dbus.h>
-#include <stdio.h>
 #include <stdlib.h>
 #include <string.h>
-
-static void put(const char *text) { fputs_unlocked(text, stdout); }
-
-static void put_quoted(const char *text) {
-    putc_unlocked('"', stdout);
-    for (const unsigned char *c = (const unsigned char *)text; *c; c++) {
-        if (*c == '"' || *c == '\\') {
-            putc_unlocked('\\', stdout);
-            putc_unlocked(*c, stdout);
-        } else if (*c < 32 || *c == 127) {
-            printf("\\x%02x", *c);
-        } else {
-            putc_unlocked(*c, stdout);
-        }
-    }
-    putc_unlocked('"', stdout);
-}
 
 static void put_values(DBusMessageIter *values, const char *separator);
 
@@ -46,7 +29,7 @@ static void put_variant(DBusMessageIter *value) {
 }
 
 static void put_value(DBusMessageIter *value, int type) {
-    DBusBasicValue basic;
+    union basic basic;
     switch (type) {
     case DBUS_TYPE_ARRAY:
         put_inner(value, "[", "]");
@@ -62,37 +45,7 @@ static void put_value(DBusMessageIter *value, int type) {
         return;
     }
     dbus_message_iter_get_basic(value, &basic);
-    switch (type) {
-    case DBUS_TYPE_BYTE:
-        printf("%u", basic.byt);
-        return;
-    case DBUS_TYPE_BOOLEAN:
-        put(basic.bool_val ? "true" : "false");
-        return;
-    case DBUS_TYPE_INT16:
-        printf("%d", basic.i16);
-        return;
-    case DBUS_TYPE_UINT16:
-        printf("%u", basic.u16);
-        return;
-    case DBUS_TYPE_INT32:
-        printf("%d", basic.i32);
-        return;
-    case DBUS_TYPE_UINT32:
-        printf("%u", basic.u32);
-        return;
-    case DBUS_TYPE_INT64:
-        printf("%lld", (long long)basic.i64);
-        return;
-    case DBUS_TYPE_UINT64:
-        printf("%llu", (unsigned long long)basic.u64);
-        return;
-    case DBUS_TYPE_DOUBLE:
-        printf("0x%016llx", (unsigned long long)basic.u64);
-        return;
-    default:
-        put_quoted(basic.str);
-    }
+    put_basic(type, &basic);
 }
 
 static void put_values(DBusMessageIter *values, const char *separator) {
@@ -106,22 +59,8 @@ static void put_values(DBusMessageIter *values, const char *separator) {
     }
 }
 
-static void put_field(const char *name, const char *value) {
-    if (value) {
-        put(name);
-        put(value);
-    }
-}
-
 static void put_message(DBusMessage *message, const char *bytes, size_t start) {
-    static const char *words[] = {"", "call", "return", "error", "signal"};
-    int type = dbus_message_get_type(message);
-    printf("%zu ", start);
-    if (1 <= type && type <= 4)
-        put(words[type]);
-    else
-        printf("type-%d", type);
-    printf(" %c %u %u", bytes[0], (unsigned char)bytes[2], dbus_message_get_serial(message));
+    put_front(start, dbus_message_get_type(message), bytes, dbus_message_get_serial(message));
     put_field(" path=", dbus_message_get_path(message));
     put_field(" interface=", dbus_message_get_interface(message));
     put_field(" member=", dbus_message_get_member(message));
