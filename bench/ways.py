@@ -15,12 +15,13 @@ def files_of(crate):
     return found
 
 
-libraries = {}
+libraries, kind = {}, {}
 with open("crates.txt", encoding="utf-8") as lines:
     for line in lines:
         name, colon, words = line.partition("#")[0].partition(":")
         if colon:
-            libraries[name.strip()] = words.split()
+            kind[name.split()[0]] = name.split()[1:]
+            libraries[name.split()[0]] = words.split()
 reads = {}
 
 
@@ -30,8 +31,8 @@ def read(crate):
     return reads[crate]
 
 
-# (a program is summed by no build)
-built = [it for it in libraries if os.path.isfile(f"crates/{it}/src/lib.rt")]
+# (a program and a static library, which is only checked, are summed by no build)
+built = [it for it in libraries if os.path.isfile(f"crates/{it}/src/lib.rt") and kind[it] != ["staticlib"]]
 for crate in sorted(built, key=read, reverse=True)[: int(sys.argv[1]) if len(sys.argv) > 1 else 12]:
     print(f"{read(crate):>10} {crate}")
 print(f"{2 * sum(map(read, built)):>10} in all, each library twice")
