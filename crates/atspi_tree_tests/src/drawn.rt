@@ -1,10 +1,19 @@
 //! Drawn edits, done to a tree and to a plain list.
 
-use crate::edits::{Asked, alone, take};
+use crate::edits::{alone, take};
 use crate::plain::Plain;
 use atspi_tree::Tree;
 use std::alloc::Global;
 use std::test::*;
+
+/// What is asked of a tree: a word, and up to three numbers.
+#[derive(Clone, Copy)]
+pub(crate) struct Asked<'a> {
+    pub(crate) word: &'a str,
+    pub(crate) first: u32,
+    pub(crate) second: u32,
+    pub(crate) third: u32,
+}
 
 /// A number below a limit that is not 0, drawn from a state that goes on.
 fn draw(state: &mut u64, below: u32) -> u32 {
@@ -40,10 +49,22 @@ fn drawn(state: &mut u64, made: u32) -> Asked<'static> {
     }
 }
 
+/// The words of a script for what is asked.
+fn words_of(alloc: Global, asked: Asked) -> Option<String> {
+    let (word, first, second) = (asked.word, asked.first, asked.second);
+    match word {
+        "insert" => format!(in alloc; "insert {first} {second} panel \"\"").ok(),
+        "remove" => format!(in alloc; "remove {first}").ok(),
+        "role" => format!(in alloc; "role {first} {second}").ok(),
+        _ => format!(in alloc; "{word} {first} {second} {}", asked.third).ok(),
+    }
+}
+
 /// One drawn edit, done to the tree and, where it is taken, to the list. Answers whether it was taken, none for want of memory.
 fn turn(alloc: Global, state: &mut u64, tree: &mut Tree, plain: &mut Plain) -> Option<bool> {
     let asked = drawn(state, tree.made());
-    let taken = take(alloc, tree, asked)?;
+    let words = words_of(alloc, asked)?;
+    let taken = take(alloc, tree, words.as_str())?;
     if taken {
         plain.take(alloc, asked, tree.made())?;
     }

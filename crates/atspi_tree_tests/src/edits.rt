@@ -1,78 +1,95 @@
-//! Trees and edits that the tests begin with.
+//! Edits in the words of a script, and trees that they make.
 
-ghost use Rattle.std.specs.Prelude.{IfSome};
+ghost use Rattle.std.specs.Prelude.{IfSome, IsTrue};
 ghost use Rattle.atspi_forest.specs.Edits.{IsEdit};
-ghost use Rattle.atspi_edits.specs.Answers.{IsKnown, ReadsNone};
+ghost use Rattle.atspi_edits.specs.Answers.{ReadsNone};
 
 use atspi_base::{Text, Texts};
 use atspi_edits::{EditRefused, steps_of};
 use atspi_forest::{Edit, FaceData, Seed};
+use atspi_lines::{Line, parse_line};
 use atspi_tree::Tree;
 use std::alloc::Global;
 
-/// What is asked of a tree: a word, and up to three numbers.
-#[derive(Clone, Copy)]
-pub(crate) struct Asked<'a> {
-    pub(crate) word: &'a str,
-    pub(crate) first: u32,
-    pub(crate) second: u32,
-    pub(crate) third: u32,
+/// A number of a word; 0 where there is none.
+pub(crate) fn number(word: Option<&str>) -> u32 {
+    match word {
+        Some(word) => word.parse::<u32>().unwrap_or(0),
+        None => 0,
+    }
 }
 
-/// An insert of a panel without a name.
-fn insert(alloc: Global, parent: u32, index: u32) -> Option<Edit>
-    ensures lawful { IfSome result IsEdit }
-    ensures plain { IfSome result ReadsNone }
+/// A text of so many letters.
+pub(crate) fn letters(alloc: Global, count: usize) -> Option<Text> {
+    let bytes = vec![in alloc; b'a'; count.min(1_048_577)].ok()?;
+    Text::read(alloc, &bytes).ok()
+}
+
+/// The line of an edit, with 511 letters for a `%`.
+fn line_of(alloc: Global, words: &str) -> Option<String> {
+    let Some((front, back)) = words.split_once('%') else {
+        return format!(in alloc; "edit a0 {words}").ok();
+    };
+    let name = letters(alloc, 511)?;
+    format!(in alloc; "edit a0 {front}{}{back}", name.as_str()).ok()
+}
+
+/// An insert of a table with a text below the root, of so many letters and columns, as words say: a text may be longer than a line.
+fn table_of(alloc: Global, words: &str) -> Option<Edit>
+    ensures { IfSome result IsEdit }
 {
+    let (count, columns) = words.split_once(' ')?;
+    let columns = columns.parse::<u32>().ok()?;
+    let name = Text::read(alloc, b"a").ok()?;
+    let text = letters(alloc, count.parse::<usize>().ok()?)?;
     Some(Edit::Insert {
-        parent,
-        index,
+        parent: 0,
+        index: 0,
         seed: Seed {
-            role: 39,
-            name: Text::read(alloc, b"").ok()?,
-            text: None,
-            editable: false,
-            columns: None,
+            role: 55,
+            name,
+            text: Some(text),
+            editable: true,
+            columns: Some(columns),
             select: false,
             actions: Texts::new(alloc),
         },
     })
 }
 
-/// The edit that is asked: `insert PARENT INDEX`, `remove NODE`, `move NODE PARENT INDEX`, `role NODE ROLE`, `relate NODE KIND TARGET` or `unrelate` the same.
-fn edit_of(alloc: Global, asked: Asked) -> Option<Edit>
-    ensures lawful { IfSome result IsEdit }
-    ensures plain { IfSome result ReadsNone }
+/// The edit that words of a script spell, or `long` and the words of a table with a text.
+pub(crate) fn edit_of(alloc: Global, words: &str) -> Option<Edit>
+    ensures { IfSome result IsEdit }
 {
-    let node = asked.first;
-    match asked.word {
-        "insert" => insert(alloc, node, asked.second),
-        "remove" => Some(Edit::Remove { node }),
-        "move" => Some(Edit::Move {
-            node,
-            parent: asked.second,
-            index: asked.third,
-        }),
-        "role" => Some(Edit::Role {
-            node,
-            role: asked.second,
-        }),
-        "relate" => Some(Edit::Relate {
-            node,
-            kind: asked.second,
-            target: asked.third,
-        }),
-        "unrelate" => Some(Edit::Unrelate {
-            node,
-            kind: asked.second,
-            target: asked.third,
-        }),
+    if let Some(table) = words.strip_prefix("long ") {
+        return table_of(alloc, table);
+    }
+    let line = line_of(alloc, words)?;
+    match parse_line(alloc, line.as_str().as_bytes()) {
+        Ok(Line::Edit { edit, .. }) => Some(edit),
         _ => None,
     }
 }
 
+/// Whether an edit is one of nodes, names, states or relations, which reads no contents.
+fn is_plain(edit: &Edit) -> bool
+    ensures { IsTrue result → ReadsNone edit.now }
+{
+    match edit {
+        Edit::Insert { .. } => true,
+        Edit::Remove { .. } => true,
+        Edit::Move { .. } => true,
+        Edit::Name { .. } => true,
+        Edit::Role { .. } => true,
+        Edit::State { .. } => true,
+        Edit::Relate { .. } => true,
+        Edit::Unrelate { .. } => true,
+        _ => false,
+    }
+}
+
 /// Does the steps of an edit that reads no contents. Answers whether the edit was taken, none for want of memory.
-pub(crate) fn edited(alloc: Global, tree: &mut Tree, edit: &Edit) -> Option<bool>
+fn edited(alloc: Global, tree: &mut Tree, edit: &Edit) -> Option<bool>
     requires lawful { IsEdit edit.now }
     requires plain { ReadsNone edit.now }
 {
@@ -88,35 +105,19 @@ pub(crate) fn edited(alloc: Global, tree: &mut Tree, edit: &Edit) -> Option<bool
     Some(true)
 }
 
-/// Does an edit to a tree. Answers whether it was taken, none for want of memory.
-pub(crate) fn take(alloc: Global, tree: &mut Tree, asked: Asked) -> Option<bool> {
-    let edit = edit_of(alloc, asked)?;
+/// Does an edit to a tree. Answers whether it was taken, none for want of memory and for an edit that reads contents.
+pub(crate) fn take(alloc: Global, tree: &mut Tree, words: &str) -> Option<bool> {
+    let edit = edit_of(alloc, words)?;
+    if !is_plain(&edit) {
+        return None;
+    }
     edited(alloc, tree, &edit)
 }
 
-/// A number of a word; 0 where there is none.
-fn number(word: Option<&str>) -> u32 {
-    match word {
-        Some(word) => word.parse::<u32>().unwrap_or(0),
-        None => 0,
-    }
-}
-
-/// What words ask.
-fn asked_by(words: &str) -> Asked<'_> {
-    let mut words = words.split(' ');
-    Asked {
-        word: words.next().unwrap_or(""),
-        first: number(words.next()),
-        second: number(words.next()),
-        third: number(words.next()),
-    }
-}
-
-/// Does the edits that words ask, with `; ` between two. None where one of them is refused.
-pub(crate) fn take_all(alloc: Global, tree: &mut Tree, words: &str) -> Option<()> {
-    for edit in words.split("; ") {
-        if !take(alloc, tree, asked_by(edit))? {
+/// Does edits with `; ` between two. None where one of them is refused.
+pub(crate) fn take_all(alloc: Global, tree: &mut Tree, edits: &str) -> Option<()> {
+    for words in edits.split("; ") {
+        if !take(alloc, tree, words)? {
             return None;
         }
     }
@@ -125,19 +126,16 @@ pub(crate) fn take_all(alloc: Global, tree: &mut Tree, words: &str) -> Option<()
 
 /// The root alone.
 pub(crate) fn alone(alloc: Global) -> Option<Tree> {
-    let name = Text::read(alloc, b"Demo").ok()?;
+    let name = letters(alloc, 4)?;
     if name.as_str().len() > 511 {
         return None;
     }
     Tree::new(alloc, name).ok()
 }
 
-/// Nodes 1 to 4 below the root, and 5 and 6 below 1.
-const FAMILY: &str = "insert 0 0; insert 0 1; insert 0 2; insert 0 3; insert 1 0; insert 1 1";
-
-/// That family.
-pub(crate) fn family(alloc: Global) -> Option<Tree> {
+/// The tree that these edits make out of the root.
+pub(crate) fn made(alloc: Global, edits: &str) -> Option<Tree> {
     let mut tree = alone(alloc)?;
-    take_all(alloc, &mut tree, FAMILY)?;
+    take_all(alloc, &mut tree, edits)?;
     Some(tree)
 }

@@ -1,7 +1,8 @@
 //! Lists of steps and of items, and the words of refusals.
 
+use crate::refusals::fault_of;
 use atspi_base::{Text, Texts};
-use atspi_forest::{EditFault, Item, Items, Reference, Step, StepList};
+use atspi_forest::{Item, Items, Reference, Step, StepList};
 use atspi_valid_names::Path;
 use std::alloc::Global;
 use std::test::*;
@@ -14,16 +15,18 @@ fn two_steps(alloc: Global) -> Option<StepList> {
     Some(steps)
 }
 
+/// Whether these are the two steps, in their order.
+fn are_two(steps: &[Step]) -> bool {
+    matches!(
+        steps,
+        [Step::Remove { node: 3 }, Step::Caret { node: 1, at: 5 }]
+    )
+}
+
 #[test]
 fn steps_keep_their_order(rt: HostRuntime) {
     let steps = two_steps(rt.alloc()).expect(&rt, "memory");
-    assert!(rt; steps.len() == 2);
-    assert!(rt;
-        matches!(
-            steps.as_slice(),
-            [Step::Remove { node: 3 }, Step::Caret { node: 1, at: 5 }]
-        )
-    );
+    assert!(rt; steps.len() == 2 && are_two(steps.as_slice()));
     assert!(rt; StepList::from_vec(steps.into_vec()).len() == 2);
 }
 
@@ -67,35 +70,43 @@ fn one_item(alloc: Global) -> Option<Items> {
     Some(items)
 }
 
+/// Whether these are one item, of an application.
+fn is_application(items: &[Item]) -> bool {
+    match items {
+        [item] => item.role == 75,
+        _ => false,
+    }
+}
+
 #[test]
 fn items_are_kept(rt: HostRuntime) {
     let items = one_item(rt.alloc()).expect(&rt, "memory");
-    assert!(rt; items.len() == 1);
-    for item in items.as_slice() {
-        assert!(rt; item.role == 75);
-    }
+    assert!(rt; items.len() == 1 && is_application(items.as_slice()));
     assert!(rt; Items::from_vec(items.into_vec()).len() == 1);
 }
 
-/// Whether a refusal is told in these words.
-fn is_told(alloc: Global, fault: EditFault, words: &str) -> Option<bool> {
+/// Each refusal, and its words.
+const WORDS: &str = "\
+NoNode: no such node
+IsRoot: the root stays where it is
+NoFace: the node lacks the interface
+BadIndex: no such index
+BadOffset: no such place in the text
+Cycle: a node cannot go below itself
+Full: the tree has no room
+TextFull: the text is too long";
+
+/// Whether the refusal of a row is told in its words.
+fn is_told(alloc: Global, row: &str) -> Option<bool> {
+    let (name, words) = row.split_once(": ")?;
+    let fault = fault_of(name)?;
     let told = format!(in alloc; "{fault}").ok()?;
     Some(told.as_str() == words)
 }
 
 #[test]
 fn refusals_are_told_in_words(rt: HostRuntime) {
-    let table = [
-        (EditFault::NoNode, "no such node"),
-        (EditFault::IsRoot, "the root stays where it is"),
-        (EditFault::NoFace, "the node lacks the interface"),
-        (EditFault::BadIndex, "no such index"),
-        (EditFault::BadOffset, "no such place in the text"),
-        (EditFault::Cycle, "a node cannot go below itself"),
-        (EditFault::Full, "the tree has no room"),
-        (EditFault::TextFull, "the text is too long"),
-    ];
-    for (fault, words) in table {
-        assert!(rt; is_told(rt.alloc(), fault, words) == Some(true), "{words}");
+    for row in WORDS.lines() {
+        assert!(rt; is_told(rt.alloc(), row) == Some(true), "{row}");
     }
 }

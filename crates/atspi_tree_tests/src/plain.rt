@@ -1,6 +1,6 @@
 //! A plain list of nodes, which the tests keep beside a tree.
 
-use crate::edits::Asked;
+use crate::drawn::Asked;
 use atspi_tree::Tree;
 use std::alloc::Global;
 

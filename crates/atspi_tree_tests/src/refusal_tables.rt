@@ -1,13 +1,14 @@
 //! Each edit with each reason to refuse it, in the order in which they are looked for: an edit in the words of a script, and
 //! behind ` = ` the reason, or how many steps the edit makes. Of the refused rows of an edit each has fewer faults than the one
-//! before it. A `%` stands for 511 letters, as many as a name may have.
+//! before it. A `%` stands for 511 letters, as many as a name may have. Behind ` = step ` stands the one step that an edit makes,
+//! as the table of steps tells it. An edit with no ` = ` is done before those of the rows behind it are tried.
 
 /// The window that the edits are of: node 1 has every interface, node 2 a text that cannot be edited, node 3 none; 2 and 3
 /// stand below 1, and 4 beside it.
 pub(crate) const WINDOW: &str = "\
-insert 0 0 panel \"a\" text \"abc\" columns 1 select action \"toggle\" action \"expand\" action \"press\" action \"focus\" action \"jump\"
-insert 1 0 panel \"b\" static \"abc\"
-insert 1 1 panel \"c\"
+insert 0 0 panel \"a\" text \"abc\" columns 1 select action \"toggle\" action \"expand\" action \"press\" action \"focus\" action \"jump\"; \
+insert 1 0 panel \"b\" static \"abc\"; \
+insert 1 1 panel \"c\"; \
 insert 0 1 panel \"d\"";
 
 /// Edits that read no contents.
@@ -19,6 +20,18 @@ insert 0 2 panel \"%a\" columns 0 = BadIndex
 insert 0 2 panel \"%a\" columns 1025 = BadIndex
 insert 0 2 panel \"%a\" columns 1024 = TextFull
 insert 0 2 panel \"%\" columns 1024 = 1
+insert 4 1 push-button \"a\" = BadIndex
+insert 0 2 push-button \"%a\" = TextFull
+insert 0 2 push-button \"%\" = 1
+insert 3 0 push-button \"\" = 1
+long 1048576 1 = 1
+long 0 1024 = 1
+long 1048577 1024 = TextFull
+long 1048577 1025 = BadIndex
+long 0 0 = BadIndex
+insert 0 1 62 \"aa\" text \"t\" columns 2 select action \"press\" = step 0 5 0 1|aa
+name 2 \"aa\" = step 3 2 0 0|aa
+name 2 \"b\" = 0
 remove 9 = NoNode
 remove 0 = IsRoot
 remove 1 = 1
@@ -81,16 +94,13 @@ unrelate 1 0 2 = BadIndex
 unrelate 1 19 2 = BadIndex
 unrelate 1 18 0 = 0";
 
-/// States that the window is in for the next table.
-pub(crate) const STATES: &str = "\
+/// Edits that look at states of other nodes.
+pub(crate) const BESIDE_STATES: &str = "\
 state 0 focused on
 state 2 focused on
 state 3 selected on
 state 4 selected on
-state 1 pressed on";
-
-/// Edits that look at states of other nodes.
-pub(crate) const BESIDE_STATES: &str = "\
+state 1 pressed on
 focus 9 = NoNode
 focus 4 = 3
 focus 2 = 1
@@ -101,7 +111,9 @@ select 1 2 = BadIndex
 select 1 0 = 2
 select 1 1 = 0
 deselect 1 0 = 0
-deselect 1 1 = 1";
+deselect 1 1 = 1
+state 1 multiselectable on
+select 1 0 = 1";
 
 /// Edits of a text of three letters, with the caret behind the second.
 pub(crate) const TEXTS: &str = "\
@@ -161,7 +173,7 @@ mark 3 0 1 = NoFace
 mark 2 0 1 = BadOffset
 unmark 2 = 1";
 
-/// Edits of a node that has the actions of the window.
+/// Edits of a node that has the actions of the window, and of the same while it is pressed.
 pub(crate) const ACTIONS: &str = "\
 press 9 5 = NoNode
 press 3 5 = NoFace
@@ -170,10 +182,12 @@ press 1 0 = 1
 press 1 1 = 1
 press 1 2 = 2
 press 1 3 = 1
-press 1 4 = 0";
-
-/// The same while the node is pressed.
-pub(crate) const PRESSED: &str = "\
+press 1 4 = 0
+state 0 focused on
+state 2 focused on
+state 3 selected on
+state 4 selected on
+state 1 pressed on
 press 1 5 = BadIndex
 press 1 2 = 1";
 
@@ -183,4 +197,7 @@ insert 8192 9 panel \"%a\" columns 0 = NoNode
 insert 0 8192 panel \"%a\" columns 1 = BadIndex
 insert 0 8191 panel \"%a\" columns 0 = BadIndex
 insert 0 8191 panel \"%a\" columns 1 = Full
-insert 0 8191 panel \"e\" = Full";
+insert 0 8191 panel \"e\" = Full
+insert 8192 0 push-button \"a\" = NoNode
+insert 0 8192 push-button \"a\" = BadIndex
+insert 8191 0 push-button \"%a\" = Full";

@@ -1,61 +1,21 @@
 //! Why each edit is refused, or how many steps it makes.
 
-ghost use Rattle.std.specs.Prelude.{IfSome, IsTrue};
+ghost use Rattle.std.specs.Prelude.{IfSome};
 ghost use Rattle.atspi_forest.specs.Edits.{IsEdit};
-ghost use Rattle.atspi_edits.specs.Answers.{IsKnown, ReadsNone};
+ghost use Rattle.atspi_edits.specs.Answers.{IsKnown};
 
-use crate::edits::{alone, edited};
+use crate::edits::{alone, edit_of, letters, made, take};
 use crate::refusal_tables::{
-    ACTIONS, BESIDE_STATES, FULL_TREE, LONG_TEXTS, MARKED_TEXTS, NODES, PRESSED, STATES, TEXTS,
-    WINDOW,
+    ACTIONS, BESIDE_STATES, FULL_TREE, LONG_TEXTS, MARKED_TEXTS, NODES, TEXTS, WINDOW,
 };
-use crate::tree::letters;
+use crate::steps::{told, told_by};
 use atspi_base::{Marks, Text, Texts};
 use atspi_edits::{EditRefused, steps_of};
-use atspi_forest::{Edit, FaceData};
-use atspi_lines::{Line, parse_line};
-use atspi_tree::Tree;
+use atspi_forest::{Edit, EditFault, FaceData, Step};
+use atspi_tree::{Seats, Tree};
 use std::alloc::Global;
 use std::process::Abort;
 use std::test::*;
-
-/// The line of an edit, with 511 letters for a `%`.
-fn line_of(alloc: Global, words: &str) -> Option<String> {
-    let Some((front, back)) = words.split_once('%') else {
-        return format!(in alloc; "edit a0 {words}").ok();
-    };
-    let name = letters(alloc, 511)?;
-    format!(in alloc; "edit a0 {front}{}{back}", name.as_str()).ok()
-}
-
-/// The edit that words of a script spell.
-fn edit_of(alloc: Global, words: &str) -> Option<Edit>
-    ensures { IfSome result IsEdit }
-{
-    let line = line_of(alloc, words)?;
-    match parse_line(alloc, line.as_str().as_bytes()) {
-        Ok(Line::Edit { edit, .. }) => Some(edit),
-        _ => None,
-    }
-}
-
-/// Whether an edit is an insert or one of a state, which read no contents.
-fn is_plain(edit: &Edit) -> bool
-    ensures { IsTrue result → ReadsNone edit.now }
-{
-    match edit {
-        Edit::Insert { .. } => true,
-        Edit::State { .. } => true,
-        _ => false,
-    }
-}
-
-/// No actions.
-fn nothing(alloc: Global) -> FaceData
-    ensures { IsKnown result }
-{
-    FaceData::Deeds(Texts::new(alloc))
-}
 
 /// The actions of the window.
 fn actions(alloc: Global) -> Option<FaceData>
@@ -100,135 +60,129 @@ fn marked(alloc: Global) -> Option<FaceData>
     })
 }
 
-/// Does the steps of an edit that reads no contents, so many times. None where it is refused.
-fn edited_times(alloc: Global, tree: &mut Tree, edit: &Edit, times: u32) -> Option<()>
+/// Contents that a node has: the actions of the window, a short text, one that has room for one character, one that has all the
+/// selections that a text may have, or none.
+fn known_of(alloc: Global, word: &str) -> Option<FaceData>
+    ensures { IfSome result IsKnown }
+{
+    match word {
+        "actions" => actions(alloc),
+        "text" => text(alloc, 3, 2),
+        "full text" => text(alloc, 1_048_575, 0),
+        "selected text" => marked(alloc),
+        _ => Some(FaceData::Deeds(Texts::new(alloc))),
+    }
+}
+
+/// The fault of a name.
+pub(crate) fn fault_of(name: &str) -> Option<EditFault> {
+    match name {
+        "NoNode" => Some(EditFault::NoNode),
+        "IsRoot" => Some(EditFault::IsRoot),
+        "NoFace" => Some(EditFault::NoFace),
+        "BadIndex" => Some(EditFault::BadIndex),
+        "BadOffset" => Some(EditFault::BadOffset),
+        "Cycle" => Some(EditFault::Cycle),
+        "Full" => Some(EditFault::Full),
+        "TextFull" => Some(EditFault::TextFull),
+        _ => None,
+    }
+}
+
+/// Whether there are as many steps as is due, or the one that is told.
+fn are_steps(steps: &[Step], due: &str) -> bool {
+    match due.strip_prefix("step ") {
+        Some(row) => match steps {
+            [step] => told(step).is_some() && told(step) == told_by(row),
+            _ => false,
+        },
+        None => due.parse::<usize>().ok() == Some(steps.len()),
+    }
+}
+
+/// Whether an edit is refused, or makes steps, as is due, where these contents are known of its node.
+fn is_due(alloc: Global, tree: &Tree, edit: &Edit, known: &FaceData, due: &str) -> bool
     requires lawful { IsEdit edit.now }
-    requires plain { ReadsNone edit.now }
+    requires known { IsKnown known.now }
 {
-    for _ in 0..times {
-        if !edited(alloc, tree, edit)? {
-            return None;
-        }
+    match steps_of(alloc, tree, edit, known) {
+        Ok(steps) => are_steps(steps.as_slice(), due),
+        Err(EditRefused::Refused(fault)) => fault_of(due) == Some(fault),
+        Err(EditRefused::NoMemory) => false,
     }
-    Some(())
 }
 
-/// Does an edit that reads no contents, so many times.
-fn repeat(alloc: Global, tree: &mut Tree, words: &str, times: u32) -> Option<()> {
-    let edit = edit_of(alloc, words)?;
-    if !is_plain(&edit) {
-        return None;
-    }
-    edited_times(alloc, tree, &edit, times)
-}
-
-/// Does the edits of a list.
-fn take_all(alloc: Global, tree: &mut Tree, list: &str) -> Option<()> {
-    for words in list.lines() {
-        repeat(alloc, tree, words, 1)?;
-    }
-    Some(())
-}
-
-/// The window of the tables.
-fn window(alloc: Global) -> Option<Tree> {
-    let mut tree = alone(alloc)?;
-    take_all(alloc, &mut tree, WINDOW)?;
-    Some(tree)
-}
-
-/// The window with its states.
-fn window_with_states(alloc: Global) -> Option<Tree> {
-    let mut tree = window(alloc)?;
-    take_all(alloc, &mut tree, STATES)?;
-    Some(tree)
-}
-
-/// Why an edit is refused, or how many steps it makes, as a word.
-fn told(alloc: Global, tree: &Tree, words: &str, known: &FaceData) -> Option<String>
+/// Whether the edit of a row comes to what is due behind its ` = `, or is done where nothing is due.
+fn holds(alloc: Global, tree: &mut Tree, row: &str, known: &FaceData) -> Option<bool>
     requires { IsKnown known.now }
 {
+    let Some((words, due)) = row.split_once(" = ") else {
+        return take(alloc, tree, row);
+    };
     let edit = edit_of(alloc, words)?;
-    match steps_of(alloc, tree, &edit, known) {
-        Ok(steps) => format!(in alloc; "{}", steps.len()).ok(),
-        Err(EditRefused::Refused(fault)) => format!(in alloc; "{fault:?}").ok(),
-        Err(EditRefused::NoMemory) => None,
-    }
-}
-
-/// Whether the edit of a row is refused, or makes steps, as it says, where these contents are known of its node.
-fn comes_to(alloc: Global, tree: &Tree, row: &str, known: &FaceData) -> Option<bool>
-    requires { IsKnown known.now }
-{
-    let (words, due) = row.split_once(" = ")?;
-    let told = told(alloc, tree, words, known)?;
-    Some(told.as_str() == due)
+    Some(is_due(alloc, tree, &edit, known, due))
 }
 
 /// The edit of each row comes to what is due.
-fn check(rt: &impl Abort, alloc: Global, tree: &Tree, table: &str, known: &FaceData)
+fn try_rows(rt: &impl Abort, alloc: Global, tree: &mut Tree, rows: &str, known: &FaceData)
     requires { IsKnown known.now }
 {
-    for row in table.lines() {
-        assert!(rt; comes_to(alloc, tree, row, known) == Some(true), "{row}");
+    for row in rows.lines() {
+        assert!(rt; holds(alloc, tree, row, known) == Some(true), "{row}");
     }
 }
 
-#[test]
-fn edits_that_read_no_contents(rt: HostRuntime) {
-    let tree = window(rt.alloc()).expect(&rt, "a window");
-    check(&rt, rt.alloc(), &tree, NODES, &nothing(rt.alloc()));
+/// The same of a tree with the window, where a word names what is known.
+fn try_window(rt: &impl Abort, alloc: Global, rows: &str, known: &str) {
+    let known = known_of(alloc, known).expect(rt, "contents");
+    let mut tree = made(alloc, WINDOW).expect(rt, "a window");
+    try_rows(rt, alloc, &mut tree, rows, &known);
 }
 
 #[test]
-fn edits_that_look_at_states(rt: HostRuntime) {
-    let mut tree = window_with_states(rt.alloc()).expect(&rt, "a window");
-    let known = nothing(rt.alloc());
-    check(&rt, rt.alloc(), &tree, BESIDE_STATES, &known);
-    let more = take_all(rt.alloc(), &mut tree, "state 1 multiselectable on");
-    assert!(rt; more.is_some());
-    check(&rt, rt.alloc(), &tree, "select 1 0 = 1", &known);
+fn edits_are_refused_or_make_steps(rt: HostRuntime) {
+    try_window(&rt, rt.alloc(), NODES, "nothing");
+    try_window(&rt, rt.alloc(), BESIDE_STATES, "nothing");
+    try_window(&rt, rt.alloc(), TEXTS, "text");
+    try_window(&rt, rt.alloc(), LONG_TEXTS, "full text");
+    try_window(&rt, rt.alloc(), MARKED_TEXTS, "selected text");
+    try_window(&rt, rt.alloc(), ACTIONS, "actions");
 }
 
-/// The edits of a table of the window come to what is due, where these contents are known of their node.
-fn check_window(rt: &impl Abort, alloc: Global, table: &str, known: &FaceData)
-    requires { IsKnown known.now }
-{
-    let tree = window(alloc).expect(rt, "a window");
-    check(rt, alloc, &tree, table, known);
+/// Whether a walk gives the nodes 0 to 8,191, rising.
+fn is_rising(seats: Seats) -> bool {
+    let mut due = 0u32;
+    for seat in seats {
+        if seat.node != due {
+            return false;
+        }
+        due = due.saturating_add(1);
+    }
+    due == 8_192
+}
+
+/// Puts 8,191 nodes into a tree, each below the one before it, or all below the root.
+fn fill(alloc: Global, tree: &mut Tree, is_deep: bool) -> Option<()> {
+    for n in 0..8_191 {
+        let (parent, index) = if is_deep { (n, 0) } else { (0, n) };
+        let words = format!(in alloc; "insert {parent} {index} panel \"\"").ok()?;
+        take(alloc, tree, words.as_str())?;
+    }
+    Some(())
+}
+
+/// A tree that has all the nodes that a tree may have, as deep as can be or as wide, with a walk over it. A text that is too long
+/// for a new node is no line of a script: that it is told last stands with the edits that read no contents.
+fn try_full(rt: &impl Abort, alloc: Global, is_deep: bool, rows: &str) {
+    let known = known_of(alloc, "nothing").expect(rt, "contents");
+    let mut tree = alone(alloc).expect(rt, "a tree");
+    assert!(rt; fill(alloc, &mut tree, is_deep).is_some());
+    assert!(rt; tree.len() == 8_192 && is_rising(tree.seats()));
+    try_rows(rt, alloc, &mut tree, rows, &known);
 }
 
 #[test]
-fn edits_of_a_text(rt: HostRuntime) {
-    let known = text(rt.alloc(), 3, 2).expect(&rt, "a text");
-    check_window(&rt, rt.alloc(), TEXTS, &known);
-}
-
-#[test]
-fn edits_of_a_text_that_is_full(rt: HostRuntime) {
-    let known = text(rt.alloc(), 1_048_575, 0).expect(&rt, "a text");
-    check_window(&rt, rt.alloc(), LONG_TEXTS, &known);
-}
-
-#[test]
-fn edits_of_a_text_that_is_selected(rt: HostRuntime) {
-    let known = marked(rt.alloc()).expect(&rt, "a text");
-    check_window(&rt, rt.alloc(), MARKED_TEXTS, &known);
-}
-
-#[test]
-fn edits_of_actions(rt: HostRuntime) {
-    let known = actions(rt.alloc()).expect(&rt, "actions");
-    check_window(&rt, rt.alloc(), ACTIONS, &known);
-    let tree = window_with_states(rt.alloc()).expect(&rt, "a window");
-    check(&rt, rt.alloc(), &tree, PRESSED, &known);
-}
-
-/// A text that is too long for a new node is no line of a script: that it is told last stands with the limits of a tree.
-#[test]
-fn inserts_into_a_full_tree(rt: HostRuntime) {
-    let mut tree = alone(rt.alloc()).expect(&rt, "a tree");
-    let filled = repeat(rt.alloc(), &mut tree, "insert 0 0 panel \"\"", 8191);
-    assert!(rt; filled.is_some());
-    check(&rt, rt.alloc(), &tree, FULL_TREE, &nothing(rt.alloc()));
+fn trees_that_are_full(rt: HostRuntime) {
+    try_full(&rt, rt.alloc(), false, FULL_TREE);
+    try_full(&rt, rt.alloc(), true, "insert 8191 0 panel \"\" = Full");
 }

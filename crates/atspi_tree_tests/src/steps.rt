@@ -1,13 +1,14 @@
 //! A copy of each step. What is due was worked out by hand.
 
-use atspi_base::{Marks, Nums, Text, Texts};
+use crate::edits::{edit_of, number};
+use atspi_base::{Marks, Nums, Text};
 use atspi_edits::copy_step;
-use atspi_forest::{Seed, Step};
+use atspi_forest::{Edit, Seed, Step};
 use std::alloc::Global;
 use std::test::*;
 
 /// A step as its kind, its node, two numbers more and a text.
-type Told<'a> = (u32, u32, u32, u32, &'a str);
+pub(crate) type Told<'a> = (u32, u32, u32, u32, &'a str);
 
 /// A text of these characters.
 fn text(alloc: Global, characters: &str) -> Option<Text> {
@@ -18,27 +19,13 @@ fn text(alloc: Global, characters: &str) -> Option<Text> {
     Text::read(alloc, bytes).ok()
 }
 
-/// The actions of a node that has one.
-fn one_action(alloc: Global) -> Option<Texts> {
-    let name = text(alloc, "press")?;
-    let mut actions = Texts::new(alloc);
-    actions.push(name).ok()?;
-    Some(actions)
-}
-
 /// A seed that has all that a seed can have.
-fn rich_seed(alloc: Global, name: &str) -> Option<Seed> {
-    let actions = one_action(alloc)?;
-    let name = text(alloc, name)?;
-    Some(Seed {
-        role: 62,
-        name,
-        text: Some(text(alloc, "t")?),
-        editable: true,
-        columns: Some(2),
-        select: true,
-        actions,
-    })
+fn rich_seed(alloc: Global) -> Option<Seed> {
+    let words = "insert 4 2 62 \"cell\" text \"t\" columns 2 select action \"press\"";
+    match edit_of(alloc, words)? {
+        Edit::Insert { seed, .. } => Some(seed),
+        _ => None,
+    }
 }
 
 /// Whether a seed has all that a rich one has but for the name.
@@ -74,13 +61,13 @@ fn text_step(alloc: Global, told: Told<'_>) -> Option<Step> {
 
 /// The step that is told so.
 fn step_of(alloc: Global, told: Told<'_>) -> Option<Step> {
-    let (kind, node, a, b, characters) = told;
+    let (kind, node, a, b, _) = told;
     match kind {
         0 => Some(Step::Add {
             node,
             parent: a,
             index: b,
-            seed: rich_seed(alloc, characters)?,
+            seed: rich_seed(alloc)?,
         }),
         1 => Some(Step::Remove { node }),
         2 => Some(Step::Move {
@@ -109,7 +96,7 @@ fn step_of(alloc: Global, told: Told<'_>) -> Option<Step> {
 }
 
 /// What a step says.
-fn told(step: &Step) -> Option<Told<'_>> {
+pub(crate) fn told(step: &Step) -> Option<Told<'_>> {
     match step {
         Step::Add {
             node,
@@ -164,14 +151,13 @@ const STEPS: &str = "\
 11 9 2 7|";
 
 /// What a row tells.
-fn told_by(row: &str) -> Option<Told<'_>> {
+pub(crate) fn told_by(row: &str) -> Option<Told<'_>> {
     let (numbers, characters) = row.split_once('|')?;
     let mut numbers = numbers.split(' ');
-    let kind = numbers.next()?.parse::<u32>().ok()?;
-    let node = numbers.next()?.parse::<u32>().ok()?;
-    let first = numbers.next()?.parse::<u32>().ok()?;
-    let second = numbers.next()?.parse::<u32>().ok()?;
-    Some((kind, node, first, second, characters))
+    let kind = number(numbers.next());
+    let node = number(numbers.next());
+    let first = number(numbers.next());
+    Some((kind, node, first, number(numbers.next()), characters))
 }
 
 /// Whether the copy of the step of a row says what the row tells.
