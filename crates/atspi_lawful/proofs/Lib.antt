@@ -12,17 +12,5 @@ pub mod OfTurns
 pub mod OfHeld
 pub mod OfViews
 pub mod OfFolds
-pub mod OfCaches
-pub mod OfQuiet
 pub mod OfDrops
-pub mod OfReaders
-pub mod OfNames
-pub mod OfSigned
-pub mod OfAnswered
-pub mod OfMissed
-pub mod OfEnds
-pub mod OfServed
-pub mod OfWays
-pub mod OfSettled
 pub mod OfLaws
-pub mod OfExamples

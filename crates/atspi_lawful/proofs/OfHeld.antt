@@ -2,5 +2,4 @@ pub mod Holdings
 pub mod Keeping
 pub mod Reading
 pub mod Speaking
-pub mod Unasked
 pub mod LawHeld

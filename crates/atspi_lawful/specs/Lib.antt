@@ -12,16 +12,5 @@ pub mod turns
 pub mod held
 pub mod views
 pub mod folds
-pub mod signed
-pub mod caches
-pub mod answered
-pub mod quiet
 pub mod drops
-pub mod readers
-pub mod missed
-pub mod exits
-pub mod ways
-pub mod served
-pub mod settled
 pub mod laws
-pub mod examples

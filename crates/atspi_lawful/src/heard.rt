@@ -1,4 +1,3 @@
 //! What applications announce, along lawful traces.
 
-pub mod examples;
 pub mod laws;

@@ -1,4 +1,3 @@
 //! What readers hold, show and speak, along lawful traces.
 
-pub mod examples;
 pub mod laws;

@@ -1,4 +1,3 @@
 //! What the bus takes of each end, along lawful traces.
 
-pub mod examples;
 pub mod laws;

@@ -1,4 +1,3 @@
 //! Who sends and takes along lawful traces.
 
-pub mod examples;
 pub mod laws;

@@ -1,4 +1,3 @@
 //! The registry's drop, along lawful traces.
 
-pub mod examples;
 pub mod laws;

@@ -1,4 +1,3 @@
 //! What lawful traces meet: laws on the order of entries, each proved of every lawful trace by induction along it.
 
-pub mod examples;
 pub mod laws;

@@ -1,4 +1,3 @@
 //! The numbers of messages along lawful traces.
 
-pub mod examples;
 pub mod laws;

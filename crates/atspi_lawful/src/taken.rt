@@ -1,4 +1,3 @@
 //! What ends take of each other, along lawful traces.
 
-pub mod examples;
 pub mod laws;

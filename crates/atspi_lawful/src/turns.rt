@@ -1,4 +1,3 @@
 //! In which order ends take, along lawful traces.
 
-pub mod examples;
 pub mod laws;

@@ -24,15 +24,15 @@ use Rattle.atspi_trace.specs.World.{World}
 use Rattle.atspi_trace.specs.Causes.{told_in}
 use Rattle.atspi_lawful.specs.laws.Words.{Kept, count_after, added, is_sent_as, before_sent, as_of, held}
 use Rattle.atspi_lawful.specs.laws.NineLaws.{LawOfSteps}
-use Rattle.atspi_lawful.specs.caches.Caches.{followed}
-use Rattle.atspi_lawful.specs.caches.Laws.{CacheIs}
+use Rattle.atspi_lawful_caches.specs.caches.Caches.{followed}
+use Rattle.atspi_lawful_caches.specs.caches.Laws.{CacheIs}
 use Rattle.atspi_lawful.proofs.OfOrder.Parties.{no_none, same_some, all_append}
 use Rattle.atspi_lawful.proofs.OfSteps.Trees.{count_more}
 use Rattle.atspi_lawful.proofs.OfSteps.LawSteps.{steps_apply}
 use Rattle.atspi_lawful.proofs.OfViews.LawViews.{trees_stand}
-use Rattle.atspi_lawful.proofs.OfAnswered.Counted.{sent_counted}
-use Rattle.atspi_lawful.proofs.OfCaches.LawCaches.{caches_follow}
-use Rattle.atspi_lawful.proofs.OfServed.LawServed.{steps_asked}
+use Rattle.atspi_lawful_ends.proofs.OfAnswered.Counted.{sent_counted}
+use Rattle.atspi_lawful_caches.proofs.OfCaches.LawCaches.{caches_follow}
+use Rattle.atspi_lawful_caches.proofs.OfServed.LawServed.{steps_asked}
 use Rattle.atspi_played.proofs.Facts.{Ground, AreDistinct, IsSeen, IsOfApp, SeesWell}
 use Rattle.atspi_played.proofs.AskingWords.{all_weaker, all_both, IsFound, all_found}
 

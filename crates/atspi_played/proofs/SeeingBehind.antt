@@ -10,7 +10,7 @@ use Rattle.atspi_trace.specs.Entry.{Entry, got, spoke, gone}
 use Rattle.atspi_trace.specs.World.{Hearer, Letter, End}
 use Rattle.atspi_trace.specs.Hearing.{question_returned, holding_of, app_with, lines_if_held, last_lines, ended_entries, heard_entries}
 use Rattle.atspi_lawful.specs.laws.Words.{message, answer_to, answers_question}
-use Rattle.atspi_lawful.specs.caches.Caches.{unasked, reads, reads_if, follows_after, follows_on, followed}
+use Rattle.atspi_lawful_caches.specs.caches.Caches.{unasked, reads, reads_if, follows_after, follows_on, followed}
 use Rattle.atspi_lawful.proofs.OfHeld.Holdings.{question_by, returned_is}
 use Rattle.atspi_lawful.proofs.OfHeld.Keeping.{ReaderIs}
 use Rattle.atspi_lawful.proofs.OfTaken.Said.{IsLetter}

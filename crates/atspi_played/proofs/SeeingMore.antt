@@ -13,14 +13,14 @@ use Rattle.atspi_trace.specs.Entry.{Entry, got, gone}
 use Rattle.atspi_trace.specs.Ends.{reader_count}
 use Rattle.atspi_trace.specs.Causes.{starts_reader, does}
 use Rattle.atspi_lawful.specs.laws.Words.{message, answers_question, name_in}
-use Rattle.atspi_lawful.specs.signed.Laws.{IsItsName}
-use Rattle.atspi_lawful.specs.caches.Caches.{unasked, reads_if, follows_after, follows_on, followed}
-use Rattle.atspi_lawful.specs.caches.Laws.{CacheIs}
+use Rattle.atspi_lawful_ends.specs.signed.Laws.{IsItsName}
+use Rattle.atspi_lawful_caches.specs.caches.Caches.{unasked, reads_if, follows_after, follows_on, followed}
+use Rattle.atspi_lawful_caches.specs.caches.Laws.{CacheIs}
 use Rattle.atspi_lawful.proofs.OfOrder.Parties.{no_none, same_some}
 use Rattle.atspi_lawful.proofs.OfOrder.Growing.{Shaped, And}
 use Rattle.atspi_lawful.proofs.OfHeld.LawHeld.{Below_held, Holds, holds_keep}
-use Rattle.atspi_lawful.proofs.OfCaches.LawCaches.{caches_follow}
-use Rattle.atspi_lawful.proofs.OfServed.LawServed.{steps_asked}
+use Rattle.atspi_lawful_caches.proofs.OfCaches.LawCaches.{caches_follow}
+use Rattle.atspi_lawful_caches.proofs.OfServed.LawServed.{steps_asked}
 use Rattle.atspi_played.proofs.Facts.{NoItems, IsOfApp, IsSeen, IsAwaited}
 use Rattle.atspi_played.proofs.Pieces.{Skips, SeesMore, SeesFirst}
 use Rattle.atspi_played.proofs.SeeingApps.{found_is, each_weaker}

@@ -20,20 +20,20 @@ use Rattle.atspi_trace.specs.World.{Asked, Hearer, Letter, World}
 use Rattle.atspi_trace.specs.Hearing.{question_returned, heard_entries}
 use Rattle.atspi_trace.specs.Causes.{told_in}
 use Rattle.atspi_lawful.specs.laws.Words.{message, before_sent, live_tree, answers_question, name_in, Kept, held}
-use Rattle.atspi_lawful.specs.caches.Caches as caches
-use Rattle.atspi_lawful.specs.caches.Caches.{reads_if, followed}
-use Rattle.atspi_lawful.specs.caches.Laws.{CacheIs}
+use Rattle.atspi_lawful_caches.specs.caches.Caches as caches
+use Rattle.atspi_lawful_caches.specs.caches.Caches.{reads_if, followed}
+use Rattle.atspi_lawful_caches.specs.caches.Laws.{CacheIs}
 use Rattle.atspi_lawful.specs.heard.Laws.{signals_under, IsAmong}
-use Rattle.atspi_lawful.specs.signed.Laws.{IsItsName}
+use Rattle.atspi_lawful_ends.specs.signed.Laws.{IsItsName}
 use Rattle.atspi_lawful.specs.views.Laws.{IsCarried}
 use Rattle.atspi_lawful.proofs.OfOrder.Parties.{no_none, same_some}
 use Rattle.atspi_lawful.proofs.OfTaken.Found.{front_more, sent_split}
 use Rattle.atspi_lawful.proofs.OfTaken.Said.{IsLetter}
 use Rattle.atspi_lawful.proofs.OfHeld.Keeping.{ReaderIs}
 use Rattle.atspi_lawful.proofs.OfViews.LawViews.{announcements_carry}
-use Rattle.atspi_lawful.proofs.OfSigned.LawSigned.{signed_law}
-use Rattle.atspi_lawful.proofs.OfServed.LawServed.{steps_asked}
-use Rattle.atspi_lawful.proofs.OfCaches.LawCaches.{caches_follow}
+use Rattle.atspi_lawful_ends.proofs.OfSigned.LawSigned.{signed_law}
+use Rattle.atspi_lawful_caches.proofs.OfServed.LawServed.{steps_asked}
+use Rattle.atspi_lawful_caches.proofs.OfCaches.LawCaches.{caches_follow}
 use Rattle.atspi_played.proofs.SeeingSame.{folded_is, marks_of, followed_more, followed_rooted}
 use Rattle.atspi_played.proofs.SeeingSeen.{IsQuiet}
 use Rattle.atspi_played.proofs.SeeingStep as step

@@ -21,7 +21,7 @@ use Rattle.atspi_protocol.specs.following.Replied.{loaded, told_part, refused_pa
 use Rattle.atspi_protocol.specs.following.Takes.{noted, folded}
 use Rattle.atspi_trace.specs.Entry.{Entry, got, spoke, gone}
 use Rattle.atspi_lawful.specs.laws.Words.{message, answers_question}
-use Rattle.atspi_lawful.specs.caches.Caches.{unasked, with_items, with_part, replied, reads_if, follows_after, follows_on, followed}
+use Rattle.atspi_lawful_caches.specs.caches.Caches.{unasked, with_items, with_part, replied, reads_if, follows_after, follows_on, followed}
 use Rattle.atspi_lawful.proofs.OfHeld.Keeping.{NotOfReader}
 use Rattle.atspi_played.proofs.SeeingApps.{KeepsNames}
 

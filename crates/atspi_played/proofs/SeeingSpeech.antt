@@ -25,15 +25,15 @@ use Rattle.atspi_trace.specs.World.{Asked, Holding, Hearer, Letter, World}
 use Rattle.atspi_trace.specs.Ends.{app_named}
 use Rattle.atspi_trace.specs.Hearing.{step_lines, lines_if_held, holding_of, question_returned, heard_entries}
 use Rattle.atspi_lawful.specs.laws.Words.{message, name_in, answers_question, as_of, Kept, held}
-use Rattle.atspi_lawful.specs.caches.Caches as caches
-use Rattle.atspi_lawful.specs.caches.Caches.{followed}
+use Rattle.atspi_lawful_caches.specs.caches.Caches as caches
+use Rattle.atspi_lawful_caches.specs.caches.Caches.{followed}
 use Rattle.atspi_lawful.proofs.OfOrder.Parties.{no_none, same_some}
 use Rattle.atspi_lawful.proofs.OfHeld.Keeping.{ReaderIs, SameKept}
-use Rattle.atspi_lawful.specs.missed.Laws.{IsLoad}
-use Rattle.atspi_lawful.specs.signed.Laws.{IsItsName}
-use Rattle.atspi_lawful.specs.caches.Laws.{CacheIs, IsViewed}
-use Rattle.atspi_lawful.proofs.OfCaches.LawCaches.{caches_follow}
-use Rattle.atspi_lawful.proofs.OfServed.LawServed.{steps_asked}
+use Rattle.atspi_lawful_ends.specs.missed.Laws.{IsLoad}
+use Rattle.atspi_lawful_ends.specs.signed.Laws.{IsItsName}
+use Rattle.atspi_lawful_caches.specs.caches.Laws.{CacheIs, IsViewed}
+use Rattle.atspi_lawful_caches.proofs.OfCaches.LawCaches.{caches_follow}
+use Rattle.atspi_lawful_caches.proofs.OfServed.LawServed.{steps_asked}
 use Rattle.atspi_trace.specs.Causes.{told_in}
 use Rattle.atspi_lawful.proofs.OfTaken.Said.{IsLetter, TellsTree, TellsOf}
 use Rattle.atspi_play.specs.Plays.{told as told_to}

@@ -17,7 +17,7 @@ use Rattle.atspi_protocol.specs.following.ReaderState.{Followed, Pending, Reader
 use Rattle.atspi_protocol.specs.following.Known.{unasked, made_known, references_among}
 use Rattle.atspi_protocol.specs.following.Replied.{changed, loaded, told_part, refused_part}
 use Rattle.atspi_protocol.specs.following.Takes.{found_in}
-use Rattle.atspi_lawful.specs.caches.Caches.{with_items, with_part, replied}
+use Rattle.atspi_lawful_caches.specs.caches.Caches.{with_items, with_part, replied}
 use Rattle.atspi_lawful.proofs.OfOrder.Parties.{false_true}
 use Rattle.atspi_played.proofs.Facts.{IsSeen}
 use Rattle.atspi_played.proofs.SeeingApps.{found_it, found_other, found_without, found_kept, FoundAfter, same, new, found_fold, found_is}

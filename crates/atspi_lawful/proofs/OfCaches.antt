@@ -1,4 +1,0 @@
-pub mod Served
-pub mod Starts
-pub mod Between
-pub mod LawCaches

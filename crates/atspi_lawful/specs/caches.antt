@@ -1,3 +1,0 @@
-pub mod Caches
-pub mod Cases
-pub mod Laws

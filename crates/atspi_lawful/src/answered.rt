@@ -1,4 +1,0 @@
-//! What applications answer readers, along lawful traces.
-
-pub mod examples;
-pub mod laws;

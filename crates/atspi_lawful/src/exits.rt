@@ -1,4 +1,0 @@
-//! What follows an end's exit, and who tells of it, along lawful traces.
-
-pub mod examples;
-pub mod laws;

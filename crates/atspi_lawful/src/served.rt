@@ -1,4 +1,0 @@
-//! Each step was asked for whole, along lawful traces.
-
-pub mod examples;
-pub mod laws;

@@ -1,4 +1,0 @@
-//! Where nothing waits, and readers asked for all, each holds each application as it is now.
-
-pub mod examples;
-pub mod laws;

@@ -1,4 +1,0 @@
-//! Under which name applications sign, along lawful traces.
-
-pub mod examples;
-pub mod laws;

@@ -1,4 +1,0 @@
-//! What the messages on their way make of what a reader has, along lawful traces.
-
-pub mod examples;
-pub mod laws;

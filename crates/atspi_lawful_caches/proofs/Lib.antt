@@ -1,0 +1,3 @@
+pub mod OfCaches
+pub mod OfServed
+pub mod OfWays

@@ -1,0 +1,3 @@
+pub mod caches
+pub mod ways
+pub mod served

@@ -1,0 +1,7 @@
+//! The law about caches, along lawful traces: what a reader has of an application is the view of its tree as of the last message taken, since each step was
+//! asked for whole; and what is on its way to the reader leads from there to the tree now.
+#![tactic(auto)]
+
+pub mod caches;
+pub mod served;
+pub mod ways;

@@ -1,0 +1,3 @@
+//! Each step was asked for whole, along lawful traces.
+
+pub mod laws;

@@ -1,0 +1,3 @@
+//! What applications answer readers, along lawful traces.
+
+pub mod laws;

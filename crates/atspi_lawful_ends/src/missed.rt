@@ -1,0 +1,3 @@
+//! What readers do not miss, along lawful traces.
+
+pub mod laws;

@@ -1,0 +1,3 @@
+//! Under which name applications sign, along lawful traces.
+
+pub mod laws;

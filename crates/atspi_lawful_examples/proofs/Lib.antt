@@ -1,0 +1,3 @@
+pub mod OfHeld
+pub mod OfSettled
+pub mod OfTraces

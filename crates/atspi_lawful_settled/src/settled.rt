@@ -1,0 +1,3 @@
+//! Where nothing waits, and readers asked for all, each holds each application as it is now.
+
+pub mod laws;
