@@ -3,8 +3,8 @@
 ghost use Rattle.std.specs.Prelude.{◌≡◌, ◌≤◌, IfOk, IfSome};
 ghost use Rattle.atspi_types.specs.Kinds.{variant, IsLawful};
 ghost use Rattle.atspi_types.specs.KindView.{kind_of};
-ghost use Rattle.atspi_types.specs.Data.{type_of, IsWellTyped};
-ghost use Rattle.atspi_types.specs.DataView.{data_of};
+ghost use Rattle.atspi_types.specs.Data.{items_of, type_of, AreWellTyped, IsWellTyped};
+ghost use Rattle.atspi_types.specs.DataView.{all_data, data_of};
 
 use super::*;
 use atspi_base::NoMemory;
@@ -14,24 +14,43 @@ use atspi_marshal::{
 };
 use atspi_types::Values;
 
+/// Appends the bytes of each step, and tells the places behind them.
+fn append_steps(values: &Values, out: &mut Bytes) -> [usize; 7]
+    requires { AreWellTyped (items_of (all_data values.now)) }
+{
+    // behind byte 0 of a message
+    let number = put_u32(Order::Big, 1, 258, out).unwrap_or(0);
+    let _ = append_u32(Order::Little, 258, out);
+    let padded = put_padded(8, 12, b"\x07", out).unwrap_or(0);
+    let padding = put_padding(2, 17, 0, out).unwrap_or(0);
+    let counted = put_counted(Order::Little, 18, b"ab", out).unwrap_or(0);
+    let types = put_types(27, values, out).unwrap_or(0);
+    let items = put_values(Order::Big, 64, 31, values, out).unwrap_or(0);
+    let array = begin_array(8, 33, out).unwrap_or(0);
+    let _ = append_u32(Order::Big, 3, out);
+    [number, padded, padding, counted, types, items, array]
+}
+
+/// Whether the steps append their bytes, and two lengths are set in these.
+fn steps_are_appended(alloc: Global, bytes: Vec<u8>) -> bool {
+    let values = Values::from_bytes(bytes);
+    let mut out = Bytes::new(alloc);
+    if !values.are_well_typed() {
+        return false;
+    }
+    let places = append_steps(&values, &mut out);
+    if out.len() != 43 {
+        return false;
+    }
+    let is_ended = end_array(Order::Big, 35, 4, &mut out).is_ok();
+    set_u32(Order::Little, 3, 772, &mut out);
+    is_ended && places == [8, 17, 18, 27, 31, 33, 40] && out.as_slice() == STEPS
+}
+
 #[test]
 fn each_step_appends_its_bytes(rt: HostRuntime) {
-    let values = Values::from_bytes([1u8, 2].to_vec(rt.alloc()).expect(&rt, "memory"));
-    let mut out = Bytes::new(rt.alloc());
-    // behind byte 0 of a message
-    assert!(rt; put_u32(Order::Big, 1, 258, &mut out) == Ok(8));
-    append_u32(Order::Little, 258, &mut out).expect(&rt, "memory");
-    assert!(rt; put_padded(8, 12, b"\x07", &mut out) == Ok(17));
-    assert!(rt; put_padding(2, 17, 0, &mut out) == Ok(18));
-    assert!(rt; put_counted(Order::Little, 18, b"ab", &mut out) == Ok(27));
-    assert!(rt; put_types(27, &values, &mut out) == Ok(31));
-    assert!(rt; put_values(Order::Big, 64, 31, &values, &mut out) == Ok(33));
-    assert!(rt; begin_array(8, 33, &mut out) == Ok(40));
-    append_u32(Order::Big, 3, &mut out).expect(&rt, "memory");
-    assert!(rt; out.len() == 43);
-    end_array(Order::Big, 35, 4, &mut out).expect(&rt, "a length");
-    set_u32(Order::Little, 3, 772, &mut out);
-    assert!(rt; out.as_slice() == STEPS);
+    let bytes = [1u8, 2].to_vec(rt.alloc()).expect(&rt, "memory");
+    assert!(rt; steps_are_appended(rt.alloc(), bytes));
 }
 
 /// The bytes of all steps.
@@ -136,21 +155,24 @@ const LIMITS: &str = "\
 134217536 nested 63 => big";
 
 /// Whether the value of a row is appended as is due.
-fn is_appended(alloc: Global, row: &str) -> Option<bool> {
-    let (asked, due) = row.split_once(" => ")?;
-    let (at, value) = asked.split_once(' ')?;
-    let (word, n) = value.split_once(' ')?;
-    let at = at.parse::<u32>().ok()?;
+fn is_appended(alloc: Global, row: &str) -> bool {
+    let (asked, due) = row.split_once(" => ").unwrap_or((row, ""));
+    let due = due.parse::<usize>().ok();
+    let mut words = asked.split(' ');
+    let at = number(words.next());
+    let word = words.next().unwrap_or("");
     if at > 134_217_728 {
-        return None;
+        return false;
     }
-    let value = value_of(alloc, word, n.parse::<u32>().ok()?)?;
-    Some(appended(alloc, at, &value) == due.parse::<usize>().ok())
+    match value_of(alloc, word, number(words.next())) {
+        Some(value) => appended(alloc, at, &value) == due,
+        None => false,
+    }
 }
 
 #[test]
 fn what_passes_a_limit_is_not_written(rt: HostRuntime) {
     for row in LIMITS.lines() {
-        assert!(rt; is_appended(rt.alloc(), row) == Some(true), "{row}");
+        assert!(rt; is_appended(rt.alloc(), row), "{row}");
     }
 }
