@@ -1,231 +1,208 @@
-//! Texts, lists, digits, quotes, and the fakes of the outside.
+//! Texts, lists, digits, and the fakes of the outside.
 
-use crate::rows::{Asked, try_rows};
+ghost use Rattle.std.specs.Prelude.{◌<◌, length};
+
 use atspi_base::{
     Bytes, Failed, Marks, MemSink, MemSource, Nums, Source, Steps, Text, Texts, hex_digit_of,
-    is_control_byte, put_decimal, put_hex, put_quoted, put_signed, write_all,
+    is_control_byte, put_decimal, put_quoted, write_all,
 };
 use std::alloc::Global;
 use std::test::*;
 
-/// Bytes that are a text, or none.
-const READINGS: &str = "\
-\x20=> 0 0
-abc => 0 3
-h%c3%a9llo => 0 5
-%f0%9f%98%80 => 0 1
-a%00b => 1 1
-%00 => 1 0
-ab%ff => 2 2
-ab%c3 => 2 2
-%ed%a0%80 => 2 0
-%c0%80 => 2 0
-a%00%ff => 1 1
-a%ff%00 => 2 1";
-
-/// Bytes, and what they are in quotes.
-const QUOTED: &str = r#" => ""
-plain => "plain"
-" => "\""
-\ => "\\"
-a"b\c => "a\"b\\c"
-%01 => "\x01"
-%1f%20%20 => "\x1f  "
-%7f => "\x7f"
-%80%ff => "%80%ff"
-tab%09here%0a => "tab\x09here\x0a"
-caf%c3%a9 => "caf%c3%a9"
-"" => "\"\"""#;
-
-#[test]
-fn bytes_are_read_as_texts_and_quoted(rt: HostRuntime) {
-    try_rows(&rt, rt.alloc(), Asked::Text, READINGS);
-    try_rows(&rt, rt.alloc(), Asked::Quotes, QUOTED);
+/// Whether a text is a copy of it and no other, and is its characters.
+fn is_itself(one: &Text, same: &Text, other: &Text) -> bool {
+    one.is(same) && !one.is(other) && same.as_str() == "café"
 }
 
-#[test]
-fn a_text_is_its_characters(rt: HostRuntime) {
-    let one = Text::read(rt.alloc(), b"caf\xc3\xa9").expect(&rt, "a text");
-    let same = one.copy(rt.alloc()).expect(&rt, "memory");
-    let other = Text::read(rt.alloc(), b"cafe").expect(&rt, "a text");
-    assert!(rt; one.is(&same));
-    assert!(rt; !one.is(&other));
-    assert!(rt; same.as_str() == "café");
+/// Whether texts are their characters.
+fn texts_are_their_characters(alloc: Global) -> Option<bool> {
+    let one = Text::read(alloc, b"caf\xc3\xa9").ok()?;
+    let same = one.copy(alloc).ok()?;
+    let other = Text::read(alloc, b"cafe").ok()?;
+    Some(is_itself(&one, &same, &other))
 }
 
-#[test]
-fn bytes_keep_their_order(rt: HostRuntime) {
-    let mut bytes = Bytes::new(rt.alloc());
-    assert!(rt; bytes.is_empty());
-    bytes.extend(b"abcdef").expect(&rt, "memory");
-    bytes.push(103).expect(&rt, "memory");
-    assert!(rt; bytes.len() == 7);
+/// Whether a text is put in quotes.
+fn a_text_is_quoted(alloc: Global) -> bool {
+    let mut out = Bytes::new(alloc);
+    match Text::read(alloc, b"say \"\xc3\xa9\"") {
+        Ok(text) => {
+            put_quoted(&text, &mut out).is_ok()
+                && out.as_slice() == b"\"say \\\"\xc3\xa9\\\"\"".as_slice()
+        }
+        Err(_) => false,
+    }
+}
+
+/// Whether bytes keep their order.
+fn bytes_keep_their_order(alloc: Global) -> bool {
+    let mut bytes = Bytes::new(alloc);
+    let done = bytes.is_empty() && bytes.extend(b"abcdef").is_ok() && bytes.push(103).is_ok();
+    if !done || bytes.len() != 7 {
+        return false;
+    }
     bytes.set(1, b"XY");
     bytes.truncate(5);
-    assert!(rt; bytes.as_slice() == b"aXYde".as_slice());
-    let again = Bytes::from_vec(bytes.into_vec());
-    assert!(rt; again.len() == 5);
+    Bytes::from_vec(bytes.into_vec()).as_slice() == b"aXYde".as_slice()
 }
 
-/// The texts that words spell, with a blank between two.
-fn texts_of(alloc: Global, words: &str) -> Option<Texts> {
+/// Appends the text of a word.
+fn push_text(alloc: Global, texts: &mut Texts, word: &[u8]) -> Option<()>
+    requires { length word.now < 10 }
+{
+    texts.push(Text::read(alloc, word).ok()?).ok()
+}
+
+/// Whether these are the texts `one` and `two`.
+fn are_two(texts: &Texts) -> bool {
+    match texts.as_slice() {
+        [first, second] => first.as_str() == "one" && second.as_str() == "two",
+        _ => false,
+    }
+}
+
+/// Whether a copy of the texts `one` and `two` is the same, and one is left where the list is cut.
+fn texts_keep_their_order(alloc: Global) -> bool {
     let mut texts = Texts::new(alloc);
-    for word in words.split(' ') {
-        if word.len() < 10 {
-            texts.push(Text::read(alloc, word.as_bytes()).ok()?).ok()?;
-        }
+    if push_text(alloc, &mut texts, b"one").is_none()
+        || push_text(alloc, &mut texts, b"two").is_none()
+    {
+        return false;
     }
-    Some(texts)
-}
-
-/// The texts of a list, with a blank behind each.
-fn joined(alloc: Global, texts: &Texts) -> Option<Bytes> {
-    let mut out = Bytes::new(alloc);
-    for text in texts.as_slice() {
-        out.extend(text.as_str().as_bytes()).ok()?;
-        out.push(b' ').ok()?;
-    }
-    Some(out)
-}
-
-#[test]
-fn texts_keep_their_order(rt: HostRuntime) {
-    let mut texts = texts_of(rt.alloc(), "one two").expect(&rt, "memory");
-    let copied = texts.copy(rt.alloc()).expect(&rt, "memory");
-    let told = joined(rt.alloc(), &copied).expect(&rt, "memory");
-    assert!(rt; copied.len() == 2);
-    assert!(rt; told.as_slice() == b"one two ".as_slice());
+    let is_copied = texts.copy(alloc).is_ok_and(|copy| are_two(&copy));
     texts.truncate(1);
-    assert!(rt; Texts::from_vec(texts.into_vec()).len() == 1);
+    is_copied && Texts::from_vec(texts.into_vec()).len() == 1
 }
 
-#[test]
-fn numbers_and_ranges_keep_their_order(rt: HostRuntime) {
-    let mut numbers = Nums::new(rt.alloc());
-    numbers.push(7).expect(&rt, "memory");
-    numbers.push(9).expect(&rt, "memory");
+/// Whether numbers keep their order.
+fn numbers_keep_their_order(alloc: Global) -> bool {
+    let mut numbers = Nums::new(alloc);
+    if numbers.push(7).is_err() || numbers.push(9).is_err() || numbers.len() != 2 {
+        return false;
+    }
     numbers.truncate(1);
-    let copied = numbers.copy(rt.alloc()).expect(&rt, "memory");
-    let numbers = Nums::from_vec(copied.into_vec());
-    assert!(rt; numbers.as_slice() == [7].as_slice());
-    assert!(rt; numbers.len() == 1);
-    let mut ranges = Marks::new(rt.alloc());
-    ranges.push((1, 3)).expect(&rt, "memory");
-    let copied = ranges.copy(rt.alloc()).expect(&rt, "memory");
-    let ranges = Marks::from_vec(copied.into_vec());
-    assert!(rt; ranges.as_slice() == [(1, 3)].as_slice());
-    assert!(rt; ranges.len() == 1);
-}
-
-/// What reading from a source so many times answers: the number of bytes and what the buffer has then, or `-`.
-fn drawn(alloc: Global, mut source: MemSource, times: u32) -> Option<Bytes> {
-    let mut piece = [0u8; 3];
-    let mut out = Bytes::new(alloc);
-    for _read in 0..times {
-        match source.read(&mut piece) {
-            Ok(count) => {
-                put_decimal(count as u64, &mut out).ok()?;
-                out.extend(&piece).ok()?;
-            }
-            Err(Failed) => out.push(b'-').ok()?,
-        }
-    }
-    Some(out)
-}
-
-/// What writing words to a sink, with `|` between two, answers: `+`, or `-` where it fails; and behind that what was written.
-fn sunk(alloc: Global, mut sink: MemSink, words: &str) -> Option<Bytes> {
-    let mut out = Bytes::new(alloc);
-    for word in words.split('|') {
-        match write_all(&mut sink, word.as_bytes()) {
-            Ok(()) => out.push(b'+').ok()?,
-            Err(Failed) => out.push(b'-').ok()?,
-        }
-    }
-    out.extend(sink.bytes()).ok()?;
-    Some(out)
-}
-
-#[test]
-fn a_fake_source_fails_where_told(rt: HostRuntime) {
-    let bytes = b"hello".to_vec(rt.alloc()).expect(&rt, "memory");
-    let failing = [1].to_vec(rt.alloc()).expect(&rt, "memory");
-    let told = drawn(rt.alloc(), MemSource::new(bytes, failing), 4).expect(&rt, "memory");
-    assert!(rt; told.as_slice() == b"3hel-2lol0lol".as_slice());
-}
-
-#[test]
-fn a_fake_source_moves_so_many_bytes_at_the_most(rt: HostRuntime) {
-    let bytes = b"abc".to_vec(rt.alloc()).expect(&rt, "memory");
-    let source = MemSource::in_pieces(bytes, 2, Vec::new(rt.alloc()));
-    let told = drawn(rt.alloc(), source, 3).expect(&rt, "memory");
-    assert!(rt; told.as_slice() == b"2ab\x001cb\x000cb\0".as_slice());
-}
-
-#[test]
-fn a_fake_sink_fails_where_told(rt: HostRuntime) {
-    let failing = [2].to_vec(rt.alloc()).expect(&rt, "memory");
-    let sink = MemSink::new(rt.alloc(), failing);
-    let told = sunk(rt.alloc(), sink, "one |two|three").expect(&rt, "memory");
-    assert!(rt; told.as_slice() == b"++-one two".as_slice());
-}
-
-#[test]
-fn a_fake_sink_moves_so_many_bytes_at_the_most(rt: HostRuntime) {
-    let failing = [3].to_vec(rt.alloc()).expect(&rt, "memory");
-    let sink = MemSink::in_pieces(rt.alloc(), 1, failing);
-    let told = sunk(rt.alloc(), sink, "four").expect(&rt, "memory");
-    assert!(rt; told.as_slice() == b"-fou".as_slice());
-}
-
-/// Two numbers; then the first in hex and in decimal, and the second with its sign.
-const DIGITS: &str = "\
-0 0 => 0000000000000000 0 0
-43981 -1 => 000000000000abcd 43981 -1
-10 127 => 000000000000000a 10 127
-18446744073709551615 -9223372036854775808 => ffffffffffffffff 18446744073709551615 -9223372036854775808
-4607182418800017408 9223372036854775807 => 3ff0000000000000 4607182418800017408 9223372036854775807";
-
-/// A number in hex and in decimal, and one with its sign.
-fn digits_of(alloc: Global, unsigned: u64, signed: i64) -> Option<Bytes> {
-    let mut out = Bytes::new(alloc);
-    put_hex(unsigned, &mut out).ok()?;
-    out.push(b' ').ok()?;
-    put_decimal(unsigned, &mut out).ok()?;
-    out.push(b' ').ok()?;
-    put_signed(signed, &mut out).ok()?;
-    Some(out)
-}
-
-/// Whether the numbers of a row are written as what is due.
-fn writes_as_due(alloc: Global, row: &str) -> Option<bool> {
-    let (numbers, due) = row.split_once(" => ")?;
-    let (unsigned, signed) = numbers.split_once(' ')?;
-    let digits = digits_of(
-        alloc,
-        unsigned.parse::<u64>().ok()?,
-        signed.parse::<i64>().ok()?,
-    )?;
-    Some(digits.as_slice() == due.as_bytes())
-}
-
-#[test]
-fn numbers_are_written_as_digits(rt: HostRuntime) {
-    for row in DIGITS.lines() {
-        assert!(rt; writes_as_due(rt.alloc(), row) == Some(true), "{row}");
+    match numbers.copy(alloc) {
+        Ok(copy) => Nums::from_vec(copy.into_vec()).as_slice() == [7].as_slice(),
+        Err(_) => false,
     }
 }
 
-#[test]
-fn steps_digits_control_bytes_and_quotes(rt: HostRuntime) {
+/// Whether ranges keep their order.
+fn ranges_keep_their_order(alloc: Global) -> bool {
+    let mut ranges = Marks::new(alloc);
+    if ranges.push((1, 3)).is_err() || ranges.len() != 1 {
+        return false;
+    }
+    match ranges.copy(alloc) {
+        Ok(copy) => Marks::from_vec(copy.into_vec()).as_slice() == [(1, 3)].as_slice(),
+        Err(_) => false,
+    }
+}
+
+/// Whether two steps are counted.
+fn steps_are_counted() -> bool {
     let mut steps = Steps::new();
     steps.tick();
     steps.tick();
-    assert!(rt; steps.count() == 2);
+    steps.count() == 2
+}
+
+/// Whether lists keep their order.
+fn lists_keep_their_order(alloc: Global) -> bool {
+    bytes_keep_their_order(alloc)
+        && texts_keep_their_order(alloc)
+        && numbers_keep_their_order(alloc)
+        && ranges_keep_their_order(alloc)
+}
+
+#[test]
+fn texts_and_lists_keep_what_they_are_given(rt: HostRuntime) {
+    assert!(rt; texts_are_their_characters(rt.alloc()) == Some(true));
+    assert!(rt; a_text_is_quoted(rt.alloc()));
+    assert!(rt; lists_keep_their_order(rt.alloc()));
+}
+
+#[test]
+fn steps_are_counted_and_bytes_are_told_apart(rt: HostRuntime) {
+    assert!(rt; steps_are_counted());
     assert!(rt; hex_digit_of(9) == b'9' && hex_digit_of(10) == b'a');
     assert!(rt; is_control_byte(31) && !is_control_byte(32));
-    let text = Text::read(rt.alloc(), b"say \"\xc3\xa9\"").expect(&rt, "a text");
-    let mut out = Bytes::new(rt.alloc());
-    put_quoted(&text, &mut out).expect(&rt, "memory");
-    assert!(rt; out.as_slice() == b"\"say \\\"\xc3\xa9\\\"\"".as_slice());
+}
+
+/// Appends what reading answers so many times: the number of bytes and what the buffer has then, or `-`.
+fn draw(source: &mut MemSource, times: u32, out: &mut Bytes) -> bool {
+    let mut piece = [0u8; 3];
+    for _read in 0..times {
+        let done = match source.read(&mut piece) {
+            Ok(count) => put_decimal(count as u64, out).is_ok() && out.extend(&piece).is_ok(),
+            Err(Failed) => out.push(b'-').is_ok(),
+        };
+        if !done {
+            return false;
+        }
+    }
+    true
+}
+
+/// Whether reading from a source so many times answers what is due.
+fn is_drawn(alloc: Global, source: Option<MemSource>, times: u32, due: &[u8]) -> bool {
+    let mut out = Bytes::new(alloc);
+    match source {
+        Some(mut source) => draw(&mut source, times, &mut out) && out.as_slice() == due,
+        None => false,
+    }
+}
+
+/// A source of five bytes whose second reading fails.
+fn failing_source(alloc: Global) -> Option<MemSource> {
+    let failing = [1].to_vec(alloc).ok()?;
+    Some(MemSource::new(b"hello".to_vec(alloc).ok()?, failing))
+}
+
+/// A source that gives two bytes at the most.
+fn source_in_pieces(alloc: Global) -> Option<MemSource> {
+    let bytes = b"abc".to_vec(alloc).ok()?;
+    Some(MemSource::in_pieces(bytes, 2, Vec::new(alloc)))
+}
+
+/// Appends what writing words answers, with `|` between two: `+`, or `-` where it fails.
+fn sink_words(sink: &mut MemSink, words: &str, out: &mut Bytes) -> bool {
+    for word in words.split('|') {
+        let told = match write_all(sink, word.as_bytes()) {
+            Ok(()) => b'+',
+            Err(Failed) => b'-',
+        };
+        if out.push(told).is_err() {
+            return false;
+        }
+    }
+    true
+}
+
+/// Whether writing words to a sink answers what is due, and these bytes are written then.
+fn is_sunk(alloc: Global, mut sink: MemSink, words: &str, due: &[u8], written: &[u8]) -> bool {
+    let mut out = Bytes::new(alloc);
+    sink_words(&mut sink, words, &mut out) && out.as_slice() == due && sink.bytes() == written
+}
+
+/// Whether a sink fails at its third writing.
+fn a_sink_fails(alloc: Global) -> Option<bool> {
+    let sink = MemSink::new(alloc, [2].to_vec(alloc).ok()?);
+    Some(is_sunk(alloc, sink, "one |two|three", b"++-", b"one two"))
+}
+
+/// Whether a sink that takes one byte at the most fails at the fourth.
+fn a_sink_in_pieces_fails(alloc: Global) -> Option<bool> {
+    let sink = MemSink::in_pieces(alloc, 1, [3].to_vec(alloc).ok()?);
+    Some(is_sunk(alloc, sink, "four", b"-", b"fou"))
+}
+
+#[test]
+fn fakes_of_the_outside_fail_and_move_as_told(rt: HostRuntime) {
+    let source = failing_source(rt.alloc());
+    assert!(rt; is_drawn(rt.alloc(), source, 4, b"3hel-2lol0lol"));
+    let source = source_in_pieces(rt.alloc());
+    assert!(rt; is_drawn(rt.alloc(), source, 3, b"2ab\x001cb\x000cb\0"));
+    assert!(rt; a_sink_fails(rt.alloc()) == Some(true));
+    assert!(rt; a_sink_in_pieces_fails(rt.alloc()) == Some(true));
 }

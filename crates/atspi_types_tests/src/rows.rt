@@ -1,9 +1,15 @@
 //! What is told of bytes: the rows of this crate's tables.
 
-use crate::spelled::{bytes_of, repeated};
-use atspi_base::{Bytes, Text, TextFault, put_decimal, put_in_quotes};
-use atspi_types::{ReadFault, Signature};
-use atspi_valid_names::{BusName, Interface, Member, Path};
+use crate::codes::{count, put_type, put_types};
+use crate::spelled::put_spelled;
+use atspi_base::{
+    Bytes, Text, TextFault, put_decimal, put_hex, put_in_quotes, put_signed, read_str,
+};
+use atspi_codes::TysRef;
+use atspi_types::{Fault, ReadFault, Signature};
+use atspi_valid_names::{
+    BusName, Interface, Member, Path, is_bus_name, is_interface, is_member, is_path,
+};
 use std::alloc::Global;
 use std::process::Abort;
 
@@ -14,10 +20,18 @@ pub(crate) enum Asked {
     Text,
     /// The bytes in quotes.
     Quotes,
+    /// Two numbers: the first in hex and in decimal, and the second with its sign.
+    Digits,
+    /// Which kinds of name they are: `p` path, `b` bus name, `i` interface, `m` member.
+    Names,
     /// Reading them as a signature: 0 and the number of types, or the reason and the place.
     Signature,
-    /// Which kinds of name read them: `p` path, `b` bus name, `i` interface, `m` member.
-    Names,
+    /// The codes of a copy of the signature that they are.
+    Copied,
+    /// The codes of each type of the signature that they are, where it lies.
+    Types,
+    /// What the one type tells of itself that they are.
+    Type,
 }
 
 /// What reading bytes as a text answers.
@@ -33,8 +47,16 @@ fn reading(alloc: Global, bytes: &[u8]) -> (u32, u32) {
     }
 }
 
-/// What reading a signature answers.
-pub(crate) fn signature(alloc: Global, bytes: &[u8]) -> (u32, u32) {
+/// What reading a signature where it lies answers.
+fn lying(bytes: &[u8]) -> (u32, u32) {
+    match TysRef::parse(bytes) {
+        Ok(types) => (0, count(types)),
+        Err(Fault { place, reason }) => (reason as u32, place),
+    }
+}
+
+/// What reading an owned signature answers.
+fn owned(alloc: Global, bytes: &[u8]) -> (u32, u32) {
     match Signature::parse(alloc, bytes) {
         Ok(signature) => (0, signature.types().len().min(999) as u32),
         Err(ReadFault::Bad(fault)) => (fault.reason as u32, fault.place),
@@ -42,68 +64,123 @@ pub(crate) fn signature(alloc: Global, bytes: &[u8]) -> (u32, u32) {
     }
 }
 
-/// The letter where it holds, and else a dash.
-fn mark(holds: bool, letter: u8) -> u8 {
-    if holds { letter } else { b'-' }
+/// What both readers of signatures answer; (98, 0) where they differ.
+pub(crate) fn signature(alloc: Global, bytes: &[u8]) -> (u32, u32) {
+    let told = owned(alloc, bytes);
+    if lying(bytes) == told { told } else { (98, 0) }
 }
 
-/// Which kinds of name read the bytes.
+/// The letter where bytes are read and pass the test too, a dash where they do neither, and else a question mark.
+fn mark(is_read: bool, passes: bool, letter: u8) -> u8 {
+    if is_read != passes {
+        b'?'
+    } else if passes {
+        letter
+    } else {
+        b'-'
+    }
+}
+
+/// Which kinds of name the bytes are.
 fn names(alloc: Global, bytes: &[u8]) -> [u8; 4] {
     [
-        mark(Path::read(alloc, bytes).is_ok(), b'p'),
-        mark(BusName::read(alloc, bytes).is_ok(), b'b'),
-        mark(Interface::read(alloc, bytes).is_ok(), b'i'),
-        mark(Member::read(alloc, bytes).is_ok(), b'm'),
+        mark(Path::read(alloc, bytes).is_ok(), is_path(bytes), b'p'),
+        mark(
+            BusName::read(alloc, bytes).is_ok(),
+            is_bus_name(bytes),
+            b'b',
+        ),
+        mark(
+            Interface::read(alloc, bytes).is_ok(),
+            is_interface(bytes),
+            b'i',
+        ),
+        mark(Member::read(alloc, bytes).is_ok(), is_member(bytes), b'm'),
     ]
 }
 
+// What finds no memory is left out; then what is told is not what is due.
+
 /// Appends two numbers.
-fn put_pair(out: &mut Bytes, pair: (u32, u32)) -> Option<()> {
-    put_decimal(u64::from(pair.0), out).ok()?;
-    out.push(b' ').ok()?;
-    put_decimal(u64::from(pair.1), out).ok()
+pub(crate) fn put_pair(out: &mut Bytes, pair: (u32, u32)) {
+    let _ = put_decimal(u64::from(pair.0), out);
+    let _ = out.push(b' ');
+    let _ = put_decimal(u64::from(pair.1), out);
+}
+
+/// Appends a number in hex and in decimal, and one with its sign.
+fn put_digits(out: &mut Bytes, unsigned: u64, signed: i64) {
+    let _ = put_hex(unsigned, out);
+    let _ = out.push(b' ');
+    let _ = put_decimal(unsigned, out);
+    let _ = out.push(b' ');
+    let _ = put_signed(signed, out);
+}
+
+/// The same of the two numbers that bytes spell with a blank between them.
+fn put_numbers(out: &mut Bytes, bytes: &[u8]) {
+    if bytes.len() > 100 {
+        return;
+    }
+    let (unsigned, signed) = read_str(bytes)
+        .unwrap_or("")
+        .split_once(' ')
+        .unwrap_or(("1", "1"));
+    put_digits(
+        out,
+        unsigned.parse::<u64>().unwrap_or(1),
+        signed.parse::<i64>().unwrap_or(1),
+    );
+}
+
+/// Appends the codes of a copy of the signature.
+fn put_copy(alloc: Global, out: &mut Bytes, signature: &Signature) {
+    if let Ok(copy) = signature.copy(alloc) {
+        let _ = copy.write(out);
+    }
+}
+
+/// The same of the signature that bytes are, behind the word `codes`.
+fn put_signature(alloc: Global, out: &mut Bytes, bytes: &[u8]) {
+    if let Ok(signature) = Signature::parse(alloc, bytes) {
+        let _ = out.extend(b"codes ");
+        put_copy(alloc, out, &signature);
+    }
 }
 
 /// Appends what is told of bytes.
-fn put_told(alloc: Global, out: &mut Bytes, asked: Asked, bytes: &[u8]) -> Option<()> {
+fn put_told(alloc: Global, out: &mut Bytes, asked: Asked, bytes: &[u8]) {
     match asked {
         Asked::Text => put_pair(out, reading(alloc, bytes)),
-        Asked::Quotes => put_in_quotes(bytes, out).ok(),
+        Asked::Quotes => {
+            let _ = put_in_quotes(bytes, out);
+        }
+        Asked::Digits => put_numbers(out, bytes),
+        Asked::Names => {
+            let _ = out.extend(&names(alloc, bytes));
+        }
         Asked::Signature => put_pair(out, signature(alloc, bytes)),
-        Asked::Names => out.extend(&names(alloc, bytes)).ok(),
+        Asked::Copied => put_signature(alloc, out, bytes),
+        Asked::Types => put_types(out, bytes),
+        Asked::Type => put_type(out, bytes),
     }
 }
 
-/// Whether of bytes is told what is due.
-fn is_told(alloc: Global, asked: Asked, bytes: &Bytes, due: &str) -> Option<bool> {
-    let due = bytes_of(alloc, due)?;
+/// Whether of the bytes of a row is told what is due, as `BYTES => DUE`.
+fn holds(alloc: Global, asked: Asked, row: &str) -> bool {
+    let (spelled, told) = row.split_once(" => ").unwrap_or((row, ""));
+    let mut bytes = Bytes::new(alloc);
+    let mut due = Bytes::new(alloc);
     let mut out = Bytes::new(alloc);
-    put_told(alloc, &mut out, asked, bytes.as_slice())?;
-    Some(out.as_slice() == due.as_slice())
+    put_spelled(&mut bytes, spelled);
+    put_spelled(&mut due, told);
+    put_told(alloc, &mut out, asked, bytes.as_slice());
+    out.as_slice() == due.as_slice()
 }
 
-/// Whether of the bytes of a row is told what is due, as `BYTES => DUE`, with `%` and two digits of 16 for one byte.
-fn holds(alloc: Global, asked: Asked, row: &str) -> Option<bool> {
-    let (spelled, due) = row.split_once(" => ")?;
-    is_told(alloc, asked, &bytes_of(alloc, spelled)?, due)
-}
-
-/// The same of a row `PIECE*COUNT PIECE*COUNT => DUE`.
-fn holds_of_pieces(alloc: Global, asked: Asked, row: &str) -> Option<bool> {
-    let (spelled, due) = row.split_once(" => ")?;
-    is_told(alloc, asked, &repeated(alloc, spelled)?, due)
-}
-
-/// Each row of bytes holds.
+/// Each row holds.
 pub(crate) fn try_rows(rt: &impl Abort, alloc: Global, asked: Asked, rows: &str) {
     for row in rows.lines() {
-        assert!(rt; holds(alloc, asked, row) == Some(true), "{row}");
-    }
-}
-
-/// Each row of pieces holds.
-pub(crate) fn try_pieces(rt: &impl Abort, alloc: Global, asked: Asked, rows: &str) {
-    for row in rows.lines() {
-        assert!(rt; holds_of_pieces(alloc, asked, row) == Some(true), "{row}");
+        assert!(rt; holds(alloc, asked, row), "{row}");
     }
 }
