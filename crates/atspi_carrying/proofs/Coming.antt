@@ -25,13 +25,13 @@ use Rattle.atspi_handed.specs.Handing.{IsLetter, AreLetters}
 use Rattle.atspi_handed.specs.Naming.{IsSigned}
 use Rattle.atspi_handed.proofs.Changing.{quiet_change}
 use Rattle.atspi_carrying.specs.Carried.{post_of, AreSendable, HasMark, IsCarried}
-use Rattle.atspi_carrying.specs.Changes.{changed_at}
+use Rattle.atspi_posts.specs.Changes.{changed_at}
 use Rattle.atspi_carrying.specs.Told.{emptied}
 use Rattle.atspi_carrying.specs.Downs.{bytes_down, IsBegun, IsWaiting, Wait}
 use Rattle.atspi_carrying.specs.Filled.{waits_for, gave, IsFilled, IsFilledAt, IsGiven, FillsAt, GivesAt}
 use Rattle.atspi_carrying.specs.Linked.{given_of, IsLinked, IsWhole, IsStill, CameWhole, CameInPart, BringsDown}
 use Rattle.atspi_carrying.proofs.Beginning.{gave_none}
-use Rattle.atspi_carrying.proofs.Changes.{map-changed, map-changed_known, map-kept, get-map, set_same}
+use Rattle.atspi_posts.proofs.Changes.{map-changed, map-changed_known, map-kept, get-map, set_same}
 use Rattle.atspi_carrying.proofs.Filling.{given_long, part_goes_on, filled_whole}
 use Rattle.atspi_carrying.proofs.Staying.{there_same}
 use Rattle.atspi_carrying.proofs.Ties.{all_at}

@@ -23,13 +23,13 @@ use Rattle.atspi_trace.specs.Carrying.{Carried, letter_of, stepped, settled, nam
 use Rattle.atspi_trace.specs.Causes.{Done, does, on_end, routed, routes, missing}
 use Rattle.atspi_trace.specs.Work.{cause, rests, moving_up, moved_up, next_up, of_end, next_of}
 use Rattle.atspi_trace.specs.Works.{at_rest}
-use Rattle.atspi_carrying.specs.Changes.{changed_at}
+use Rattle.atspi_posts.specs.Changes.{changed_at}
 use Rattle.atspi_carrying.specs.Told.{gone, all_gone, whose}
 use Rattle.atspi_carrying.specs.Carried.{standing_at, bytes_up, post_of, IsSendable, AreSendable, HasMark, IsWithin, IsCarried, IsDone}
 use Rattle.atspi_carrying.specs.Halted.{HasRegistryFirst, IsLostBy, IsLostNext, IsSpentBy, IsSpentNext}
 use Rattle.atspi_carrying.specs.Segments.{IsWorked}
 use Rattle.atspi_carrying.specs.Moving.{IsLacking, Moves, MovesAt, IsCompleted}
-use Rattle.atspi_carrying.proofs.Changes.{map-changed, map-changed_known, map-kept, get-map}
+use Rattle.atspi_posts.proofs.Changes.{map-changed, map-changed_known, map-kept, get-map}
 use Rattle.atspi_carrying.specs.Linked.{IsLinked}
 use Rattle.atspi_carrying.proofs.Downs.{wait_same}
 use Rattle.atspi_carrying.proofs.Linked.{linked_same}

@@ -2,9 +2,9 @@
 use Rattle.std.proofs.Common.{◌≡◌, ℕ, zero, suc, ◌<◌, ◌≤◌, List, [], ◌∷◌, length, map, set, get_or, refl, sym, ap, ◌∙◌, arith}
 use Rattle.atspi_lines.specs.declared.line.Party.TheVariants.{Bus as The_bus}
 use Rattle.atspi_posts.specs.declared.post.Post.{Post}
-use Rattle.atspi_carrying.specs.Changes.{changed_at}
+use Rattle.atspi_posts.specs.Changes.{changed_at}
 use Rattle.atspi_carrying.specs.Told.{gone, emptied, whose, party_in}
-use Rattle.atspi_carrying.proofs.Changes.{changed_past, changed_set}
+use Rattle.atspi_posts.proofs.Changes.{changed_past, changed_set}
 
 pub emptied_set : (xs : List (List ℕ)) (i : ℕ) → i < length xs → set xs i [] ≡ changed_at i emptied xs
 emptied_set xs i h = changed_set emptied xs i [] h

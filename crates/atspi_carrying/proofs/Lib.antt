@@ -1,6 +1,5 @@
 pub mod Beginning
 pub mod Buses
-pub mod Changes
 pub mod Coming
 pub mod Completing
 pub mod Downs

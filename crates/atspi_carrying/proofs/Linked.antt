@@ -27,11 +27,11 @@ use Rattle.atspi_handed.proofs.Handing.{takes_hands, ends_hands}
 use Rattle.atspi_handed.proofs.Changing.{quiet_change, stopped_named}
 use Rattle.atspi_handed.proofs.Joining.{joined_named}
 use Rattle.atspi_handed.proofs.Naming.{takes_named, ends_named}
-use Rattle.atspi_carrying.specs.Changes.{changed_at}
+use Rattle.atspi_posts.specs.Changes.{changed_at}
 use Rattle.atspi_carrying.specs.Told.{emptied, all_emptied}
 use Rattle.atspi_carrying.specs.Downs.{bytes_down, IsBegun, IsWaiting}
 use Rattle.atspi_carrying.specs.Linked.{given_of, IsLinked, IsThere}
-use Rattle.atspi_carrying.proofs.Changes.{map-changed}
+use Rattle.atspi_posts.proofs.Changes.{map-changed}
 use Rattle.atspi_carrying.proofs.Views.{with-changed, without, all_with, stepped_all, left_all}
 use Rattle.atspi_carrying.proofs.Staying.{there_same, there_stopped, there_joined}
 use Rattle.atspi_carrying.proofs.Downs.{down-append, begun_within, begun_more, wait_same, takes_wait, ends_wait}

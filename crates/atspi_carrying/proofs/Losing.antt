@@ -12,10 +12,10 @@ use Rattle.atspi_trace.specs.World.{End, World}
 use Rattle.atspi_trace.specs.Ends.{is_here, same_party}
 use Rattle.atspi_trace.specs.Due.{is_lost}
 use Rattle.atspi_carrying.specs.Carried.{post_of}
-use Rattle.atspi_carrying.specs.Changes.{changed_at}
+use Rattle.atspi_posts.specs.Changes.{changed_at}
 use Rattle.atspi_carrying.specs.Told.{gone, all_gone, party_in, whose, AreOthers}
 use Rattle.atspi_carrying.specs.Halted.{IsAnother, HasRegistryFirst}
-use Rattle.atspi_carrying.proofs.Changes.{map-kept}
+use Rattle.atspi_posts.proofs.Changes.{map-kept}
 use Rattle.atspi_carrying.proofs.OwnTold.{who_of}
 use Rattle.atspi_carrying.proofs.Staying.{away_is}
 

@@ -15,7 +15,7 @@ use Rattle.atspi_trace.specs.Ends.{end_at}
 use Rattle.atspi_handed.specs.Handing.{IsLetter, AreLetters}
 use Rattle.atspi_carrying.specs.Downs.{bytes_down, IsBegun}
 use Rattle.atspi_carrying.specs.Linked.{given_of, IsLinked}
-use Rattle.atspi_carrying.proofs.Changes.{get-map}
+use Rattle.atspi_posts.proofs.Changes.{get-map}
 use Rattle.atspi_carrying.proofs.Downs.{begun_within}
 use Rattle.atspi_carrying.proofs.Ties.{all_at}
 use Rattle.atspi_carrying.proofs.Views.{empty_message}

@@ -14,7 +14,7 @@ use Rattle.atspi_carrying.specs.Halted as halted
 use Rattle.atspi_carrying.specs.Halted.{HasRegistryFirst, WorksOn, so_far, IsAtWork, HasNext, IsLostNext, IsSpentNext, IsLostOn, IsSpentOn}
 use Rattle.atspi_carrying.specs.Segments.{IsWorked}
 use Rattle.atspi_carrying.specs.Moving.{IsLacking, MovesAt, IsCompleted, MovedSome, MovesSome}
-use Rattle.atspi_carrying.proofs.Changes.{set_same}
+use Rattle.atspi_posts.proofs.Changes.{set_same}
 use Rattle.atspi_carrying.specs.Linked.{IsLinked}
 use Rattle.atspi_carrying.proofs.Completing.{RoutesSo, LinksSo, LosesSo, SpendsSo, HasFirst, has_first, none_moved, first_moved, some_moved, lacks_none, all_moved, all_lost, all_spent, routes_first}
 use Rattle.atspi_carrying.proofs.Staying.{lives_so}

@@ -17,7 +17,7 @@ use Rattle.atspi_trace.specs.Ends.{end_at, number_if}
 use Rattle.atspi_handed.specs.Naming.{IsSigned, AreNamed}
 use Rattle.atspi_carrying.specs.Carried.{post_of, IsCarried}
 use Rattle.atspi_carrying.specs.Linked.{IsLinked}
-use Rattle.atspi_carrying.specs.Named.{first_named, party_named, app_by, app_of, app_named}
+use Rattle.atspi_posts.specs.Named.{first_named, party_named, app_by, app_of, app_named}
 
 -- a name is an end's own
 own_is : (name : List ℕ) (u : Option (List ℕ)) → is_own name u ≡ true → u ≡ Some name

@@ -11,10 +11,10 @@ use Rattle.atspi_trace.specs.World.{Standing, here, stopped, away, End, World}
 use Rattle.atspi_trace.specs.Ends.{is_here, same_party, end_at, with_end, stops}
 use Rattle.atspi_trace.specs.Due.{is_lost}
 use Rattle.atspi_carrying.specs.Carried.{standing_at, post_of}
-use Rattle.atspi_carrying.specs.Changes.{changed_at}
+use Rattle.atspi_posts.specs.Changes.{changed_at}
 use Rattle.atspi_carrying.specs.Told.{gone, all_gone, party_in, whose, AreOthers}
 use Rattle.atspi_carrying.specs.Linked.{IsLinked, IsThere}
-use Rattle.atspi_carrying.proofs.Changes.{map-kept}
+use Rattle.atspi_posts.proofs.Changes.{map-kept}
 
 -- the same by the connections: the first is the registry's, and stands
 abbrev pub Stands : List Post → Type 0

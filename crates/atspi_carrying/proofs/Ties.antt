@@ -24,13 +24,13 @@ use Rattle.atspi_trace.specs.Ends.{same_party, conn_of, end_at, party_at, with_e
 use Rattle.atspi_trace.specs.Carrying.{Carried, letter_of, stepped, left, settled, named, with_name, takes, takes_end, bus_entries, all_told}
 use Rattle.atspi_trace.specs.Causes.{Done, does, joins, on_end, routed, routes, unjoins, exits, bus_did}
 use Rattle.atspi_trace.proofs.Following.{links_follow}
-use Rattle.atspi_carrying.specs.Changes.{changed_at}
+use Rattle.atspi_posts.specs.Changes.{changed_at}
 use Rattle.atspi_carrying.specs.Told.{gone, all_gone, whose, AreOthers, bus_told}
 use Rattle.atspi_carrying.specs.Downs.{Wait}
 use Rattle.atspi_carrying.specs.Halted.{naming_of, AreNamedAs, HaveNames, HasRegistryFirst, IsPartDone, IsLostBy, IsSpentBy}
 use Rattle.atspi_carrying.specs.Routed.{IsTaken, IsSpentTaking, IsRouted, RoutesFront, SpendsAtFront, taken_off}
 use Rattle.atspi_carrying.specs.Carried.{bytes_up, post_of, IsSendable, AreSendable, HasMark, IsCarried, IsDone}
-use Rattle.atspi_carrying.proofs.Changes.{changed-set, set_same, length-changed, map-kept, map-changed, map-changed_known, get-map}
+use Rattle.atspi_posts.proofs.Changes.{changed-set, set_same, length-changed, map-kept, map-changed, map-changed_known, get-map}
 use Rattle.atspi_carrying.proofs.Downs.{wait_same, joined_wait, letter_message, left_wait, settled_wait, stepped_wait}
 use Rattle.atspi_carrying.proofs.Losing.{FirstOfParties, first_party, whose_set, registry_leaves, lost_so}
 use Rattle.atspi_carrying.proofs.OwnSerials.{IsTelling, takes_tells, leaves_tells, settled_higher}

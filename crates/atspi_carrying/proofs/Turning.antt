@@ -20,7 +20,7 @@ use Rattle.atspi_carrying.specs.Waits as waits
 use Rattle.atspi_carrying.specs.Waits.{turn_next, up_turn_by, waits_below, waits_at}
 use Rattle.atspi_carrying.specs.declared.waiting.Turn.{Turn}
 use Rattle.atspi_carrying.specs.declared.waiting.Turn.TheVariants.{Route, Get}
-use Rattle.atspi_carrying.proofs.Changes.{get-map}
+use Rattle.atspi_posts.proofs.Changes.{get-map}
 use Rattle.atspi_carrying.proofs.Views.{written_some}
 
 -- ON UP LINKS, and whatever waits behind them

@@ -14,11 +14,11 @@ use Rattle.atspi_posts.specs.declared.post.Post.{Post}
 use Rattle.atspi_trace.specs.World.{Said, Letter, End}
 use Rattle.atspi_trace.specs.Ends.{with_end, put_down, rest_of, taken_up, leaves}
 use Rattle.atspi_trace.specs.Carrying.{Carried, Filled, own_letter, grew, with_letter, moved, stepped, left, one_closed, settled, named}
-use Rattle.atspi_carrying.specs.Changes.{changed_at}
+use Rattle.atspi_posts.specs.Changes.{changed_at}
 use Rattle.atspi_carrying.specs.Told.{gone, all_gone, whose}
 use Rattle.atspi_carrying.specs.Carried.{post_of, IsSendable, AreSendable, IsWithin, HasMark}
 use Rattle.atspi_carrying.specs.Halted.{naming_of}
-use Rattle.atspi_carrying.proofs.Changes.{length-changed, map-changed, map-kept}
+use Rattle.atspi_posts.proofs.Changes.{length-changed, map-changed, map-kept}
 
 pub with-changed : (f : End → End) (ends : List End) (conn : ℕ) → with_end conn f ends ≡ changed_at conn f ends
 with-changed f [] zero = refl

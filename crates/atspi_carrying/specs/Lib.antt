@@ -1,6 +1,5 @@
 pub mod Beginning
 pub mod Carried
-pub mod Changes
 pub mod Downs
 pub mod Faults
 pub mod Filled
@@ -8,7 +7,6 @@ pub mod GivenUp
 pub mod Halted
 pub mod Linked
 pub mod Moving
-pub mod Named
 pub mod Routed
 pub mod Segments
 pub mod Told

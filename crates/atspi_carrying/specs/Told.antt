@@ -12,7 +12,7 @@ use Rattle.atspi_posts.specs.declared.post.Standing.TheVariants.{Away}
 use Rattle.atspi_trace.specs.Entry.{Entry}
 use Rattle.atspi_trace.specs.Ends.{same_party}
 use Rattle.atspi_trace.specs.Carrying.{sent_by_bus, dropped_if, is_upto}
-use Rattle.atspi_carrying.specs.Changes.{changed_at}
+use Rattle.atspi_posts.specs.Changes.{changed_at}
 
 -- a connection that left, and what its end was given
 abbrev pub gone : Post → Post

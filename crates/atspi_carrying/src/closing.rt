@@ -10,20 +10,19 @@ ghost use Rattle.atspi_trace.specs.Ends.{end_at, same_party};
 ghost use Rattle.atspi_trace.specs.Carrying.{all_told, dropped_if, sent_by_bus};
 ghost use Rattle.atspi_trace.specs.Causes.{does, exits, unjoins};
 ghost use Rattle.atspi_carrying.specs.Carried.{IsCarried, IsDone};
-ghost use Rattle.atspi_carrying.specs.Changes.{changed_at};
+ghost use Rattle.atspi_posts.specs.Changes.{changed_at};
 ghost use Rattle.atspi_carrying.specs.Halted.{AreNamedAs, HasRegistryFirst, IsLostBy, IsSpentBy};
 ghost use Rattle.atspi_carrying.specs.Linked.{IsLinked};
 ghost use Rattle.atspi_carrying.specs.Told.{ahead, AreOthers, all_emptied, all_gone, behind_upto, bus_told, emptied, front_upto, gone, party_in, whose};
 
 use crate::carrier::Carrier;
 use crate::fault::CarryFault;
-use crate::sending::note;
 use atspi_base::NoMemory;
 use atspi_bus_steps::Inner;
 use atspi_events::Event;
 use atspi_lines::Party;
 use atspi_message::Message;
-use atspi_posts::{Link, Post};
+use atspi_posts::{Link, Post, note};
 use atspi_routing::{Closing, Why};
 
 /// The bus's own messages up to a serial, the first of which is given, are told; answers the next behind them.

@@ -7,14 +7,10 @@ mod down;
 mod fault;
 mod joining;
 mod moving;
-mod places;
-mod sending;
 mod steps;
 mod up;
 mod waiting;
 
 pub use carrier::Carrier;
 pub use fault::CarryFault;
-pub use places::{named_app, party_named};
-pub use sending::{apart, note, put_behind, send};
 pub use waiting::Turn;

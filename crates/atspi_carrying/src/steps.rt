@@ -16,8 +16,8 @@ ghost use Rattle.atspi_carrying.specs.Moving.{MovesAll, MovesAt};
 
 use crate::carrier::Carrier;
 use crate::fault::CarryFault;
-use crate::sending::{apart, put_behind};
 use atspi_events::Event;
+use atspi_posts::{apart, put_behind};
 
 impl Carrier {
     /// The carrier is given up: its bus has quota 0 and nobody has joined it, nothing lies at an end, and what was told stays.

@@ -19,12 +19,11 @@ ghost use Rattle.atspi_carrying.specs.Routed.{IsSpentTaking, IsTaken, RoutesFron
 
 use crate::carrier::Carrier;
 use crate::fault::CarryFault;
-use crate::sending::note;
 use atspi_base::NoMemory;
 use atspi_bus_steps::Inner;
 use atspi_events::Event;
 use atspi_lines::Party;
-use atspi_posts::{Link, Post, Standing, Whole, first_message};
+use atspi_posts::{Link, Post, Standing, Whole, first_message, note};
 use std::alloc::Global;
 
 /// The bus takes the first message of a link, apart from the closings that this brings; answers how many bytes it had, none where there is no message.

@@ -1,2 +1,4 @@
+pub mod Changes
 pub mod Firsts
+pub mod Named
 pub mod Posts

@@ -7,9 +7,9 @@ use Rattle.atspi_trace.specs.Entry.{Entry, entry_of, entries_of}
 use Rattle.atspi_trace.specs.Due.{Lawful}
 use Rattle.atspi_lawful.specs.laws.NineLaws.{rows_due}
 use Rattle.atspi_lawful.specs.laws.Words.{held}
-use Rattle.atspi_stage.specs.Places.{post_of}
-use Rattle.atspi_stage.specs.Shown.{row_total, shown_by}
-use Rattle.atspi_stage.specs.Wires.{name_if}
+use Rattle.atspi_cast.specs.Places.{post_of}
+use Rattle.atspi_cast.specs.Shown.{row_total, shown_by}
+use Rattle.atspi_cast.specs.Wires.{name_if}
 use Rattle.atspi_stage.specs.Worlds.{Staged}
 use Rattle.atspi_replay.specs.Done.{HasRegistry}
 use Rattle.atspi_replay.specs.Made.{AreOfScript, HasMade, is_spoken, is_step}

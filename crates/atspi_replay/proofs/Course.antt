@@ -21,7 +21,7 @@ use Rattle.atspi_stage.specs.Lines.{IsLineDone}
 use Rattle.atspi_few_turns.specs.Laws.{IsUnspent}
 use Rattle.atspi_few_turns.proofs.PlayedTurns.{drains_end}
 use Rattle.atspi_stage.specs.Halts.{ManyTurns, WorkSpent}
-use Rattle.atspi_stage.specs.Refusals.{refusal_of}
+use Rattle.atspi_cast.specs.Refusals.{refusal_of}
 use Rattle.atspi_replay.specs.declared.naming.Halt.{Halt}
 use Rattle.atspi_replay.specs.declared.naming.Halt.TheVariants.{RegistryLost, Spent}
 use Rattle.atspi_replay.specs.declared.naming.Refused as refused

@@ -17,7 +17,7 @@ use Rattle.atspi_trace.specs.World.{End}
 use Rattle.atspi_trace.specs.Ends.{end_of}
 use Rattle.atspi_trace.specs.Work.{edit_refusal, if_here, if_started, no_party, work_of}
 use Rattle.atspi_trace.specs.Due.{Lawful}
-use Rattle.atspi_carrying.proofs.Changes.{get-map}
+use Rattle.atspi_posts.proofs.Changes.{get-map}
 use Rattle.atspi_lawful.specs.order.Scripts.{CanAllStand}
 use Rattle.atspi_few_turns.specs.Laws.{IsUnspent}
 use Rattle.atspi_few_turns.proofs.PlayedTurns.{drains_end}
@@ -25,12 +25,13 @@ use Rattle.atspi_play.specs.Breaking.{IsLostAt, IsSpentAt}
 use Rattle.atspi_play.specs.Played as playing
 use Rattle.atspi_stage.specs.declared.fault.ActFault.{ActFault}
 use Rattle.atspi_stage.specs.declared.fault.ActFault.TheVariants as act
-use Rattle.atspi_stage.specs.declared.fault.Refusal.{Refusal}
-use Rattle.atspi_stage.specs.declared.fault.Refusal.TheVariants.{NoParty}
+use Rattle.atspi_cast.specs.declared.refusing.Refusal.{Refusal}
+use Rattle.atspi_cast.specs.declared.refusing.Refusal.TheVariants.{NoParty}
 use Rattle.atspi_stage.specs.Halts.{LineLost, LineSpent, ManyTurns, WorkSpent}
 use Rattle.atspi_stage.specs.Lines.{LineDone}
 use Rattle.atspi_stage.specs.MayAct.{MayAct}
-use Rattle.atspi_stage.specs.Refusals.{RefusedFor, refusal_of}
+use Rattle.atspi_cast.specs.Refusals.{refusal_of}
+use Rattle.atspi_stage.specs.Refusals.{RefusedFor}
 use Rattle.atspi_stage.specs.Worlds.{Staged}
 use Rattle.atspi_replay.specs.declared.naming.Halt.{Halt}
 use Rattle.atspi_replay.specs.declared.naming.Halt.TheVariants.{RegistryLost, Spent}

@@ -7,7 +7,7 @@ use Rattle.atspi_events.specs.declared.event.Event.{Event}
 use Rattle.atspi_events.specs.declared.options.TraceOptions.{TraceOptions}
 use Rattle.atspi_events.specs.EventText.{event_text}
 use Rattle.atspi_events.specs.TraceText.{is_brief}
-use Rattle.atspi_stage.specs.Wires.{wire_bytes}
+use Rattle.atspi_cast.specs.Wires.{wire_bytes}
 use Rattle.atspi_replay.specs.Told.{Told, bytes_text, told_at, told_if, told_on, told_from, told_text}
 
 told_by : (brief keeps : Bool) → cond brief keeps true ≡ true → (text : List ℕ) → cond brief (cond keeps text []) text ++ [] ≡ text

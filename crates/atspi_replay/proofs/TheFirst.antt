@@ -28,7 +28,7 @@ use Rattle.atspi_trace.specs.Work.{resting}
 use Rattle.atspi_trace.specs.Causes.{rows_held, shown_rows, told_in}
 use Rattle.atspi_trace.specs.Hearing.{holding_of}
 use Rattle.atspi_carrying.specs.Carried as carried
-use Rattle.atspi_carrying.proofs.Changes.{get-map}
+use Rattle.atspi_posts.proofs.Changes.{get-map}
 use Rattle.atspi_lawful.specs.laws.NineLaws.{Everywhere, rows_due, StepIsOne}
 use Rattle.atspi_lawful.specs.laws.Words.{added, as_of, held, Kept, live_tree}
 use Rattle.atspi_lawful.specs.order.Scripts.{CanAllStand}
@@ -47,9 +47,9 @@ use Rattle.atspi_played.proofs.AllPieces.{pieces}
 use Rattle.atspi_played.proofs.Facts.{Ground}
 use Rattle.atspi_played.proofs.Playing.{played_stage}
 use Rattle.atspi_played.proofs.PlayingStage.{Stage, ground}
-use Rattle.atspi_stage.specs.Places.{post_of}
-use Rattle.atspi_stage.specs.Shown.{row_total, shown_by}
-use Rattle.atspi_stage.specs.Wires.{name_if}
+use Rattle.atspi_cast.specs.Places.{post_of}
+use Rattle.atspi_cast.specs.Shown.{row_total, shown_by}
+use Rattle.atspi_cast.specs.Wires.{name_if}
 use Rattle.atspi_stage.specs.Worlds.{Staged}
 use Rattle.atspi_replay.specs.Made.{AreSeen, HasPlayed, tree_told}
 use Rattle.atspi_replay.proofs.Numbering.{first_app, first_reader}

@@ -20,9 +20,9 @@ use Rattle.atspi_trace.specs.Ends.{same_party}
 use Rattle.atspi_play.specs.Playing.{Playing, unique_in}
 use Rattle.atspi_play.specs.Played as played
 use Rattle.atspi_play.specs.Played.{IsPlayed}
-use Rattle.atspi_stage.specs.Places.{post_of}
-use Rattle.atspi_stage.specs.Wires as wires
-use Rattle.atspi_stage.specs.Wires.{name_if, event_bytes}
+use Rattle.atspi_cast.specs.Places.{post_of}
+use Rattle.atspi_cast.specs.Wires as wires
+use Rattle.atspi_cast.specs.Wires.{name_if, event_bytes}
 use Rattle.atspi_stage.specs.Worlds.{Staged, IsPlaying}
 use Rattle.atspi_replay.specs.Told.{Told, entries_told, told_at, told_on, told_from}
 use Rattle.atspi_replay.specs.Wired.{sent_as, sent_in, name_of, as_taken, taken_bytes, bytes_behind, AreWired, IsTold, begun, did}

@@ -10,7 +10,7 @@ use Rattle.atspi_trace.specs.Due.{begins, at_work, after_all, is_lost, Lawful, B
 use Rattle.atspi_play.specs.Playing.{Playing}
 use Rattle.atspi_play.specs.Played.{refused}
 use Rattle.atspi_play.specs.Breaking.{does_next, IsLostAt, IsSpentAt}
-use Rattle.atspi_stage.specs.Refusals.{refusal_of}
+use Rattle.atspi_cast.specs.Refusals.{refusal_of}
 use Rattle.atspi_replay.specs.declared.naming.Halt.{Halt}
 use Rattle.atspi_replay.specs.declared.naming.Halt.TheVariants.{RegistryLost, Spent}
 use Rattle.atspi_replay.specs.declared.naming.Refused.{Refused}

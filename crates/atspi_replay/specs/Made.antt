@@ -20,7 +20,7 @@ use Rattle.atspi_play.specs.Playing.{Playing}
 use Rattle.atspi_play.specs.Played as playing
 use Rattle.atspi_play.specs.Played.{IsPlayed}
 use Rattle.atspi_stage.specs.Lines.{LineDone}
-use Rattle.atspi_stage.specs.Shown.{row_total}
+use Rattle.atspi_cast.specs.Shown.{row_total}
 use Rattle.atspi_stage.specs.Worlds.{Staged, IsPlaying}
 use Rattle.atspi_replay.specs.declared.naming.Halt.{Halt}
 use Rattle.atspi_replay.specs.declared.naming.Halt.TheVariants.{RegistryLost, Spent}

@@ -6,8 +6,8 @@ use Rattle.atspi_forest.specs.declared.edit.EditFault.TheVariants.{NoNode, IsRoo
 use Rattle.atspi_lines.specs.declared.line.Line.{Line}
 use Rattle.atspi_lines.specs.declared.line.LineFault.TheVariants as line
 use Rattle.atspi_lines.specs.Line.{ReadsLine, Spells}
-use Rattle.atspi_stage.specs.declared.fault.Refusal.{Refusal}
-use Rattle.atspi_stage.specs.declared.fault.Refusal.TheVariants.{NoParty, Dead, NoKit, NoReader, NoSpare, Late, NotHeld, Edit}
+use Rattle.atspi_cast.specs.declared.refusing.Refusal.{Refusal}
+use Rattle.atspi_cast.specs.declared.refusing.Refusal.TheVariants.{NoParty, Dead, NoKit, NoReader, NoSpare, Late, NotHeld, Edit}
 use Rattle.atspi_replay.specs.declared.naming.Refused as refused
 use Rattle.atspi_replay.specs.declared.naming.Refused.TheVariants.{Long, NotUtf8, Form, World}
 

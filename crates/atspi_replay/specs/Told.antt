@@ -7,7 +7,7 @@ use Rattle.atspi_events.specs.EventText.{ended, event_text}
 use Rattle.atspi_events.specs.TraceText.{is_brief, wire_line}
 use Rattle.atspi_posts.specs.declared.post.Post.{Post}
 use Rattle.atspi_trace.specs.Entry.{Entry, entries_of}
-use Rattle.atspi_stage.specs.Wires.{event_bytes}
+use Rattle.atspi_cast.specs.Wires.{event_bytes}
 
 -- an event, and the bytes of the message that it tells of; none where it tells of none
 pub record Told : Type 0 where

@@ -22,11 +22,12 @@ use crate::naming::{Refused, Stop, stop_of_act};
 use crate::replaying::stop_status;
 use crate::serials::all_fit;
 use atspi_base::{Bytes, NoMemory, Sink, Text, put_decimal, write_all};
+use atspi_cast::Refusal;
 use atspi_events::Event;
 use atspi_forest::Edit;
 use atspi_lines::Line;
 use atspi_make::{Draws, HasTree, LiveNodes, next_edit};
-use atspi_stage::{Refusal, Stage};
+use atspi_stage::Stage;
 use atspi_stage_ends::{Application, Follower};
 use std::alloc::Global;
 

@@ -13,9 +13,10 @@ ghost use Rattle.atspi_stage.specs.Halts.{LineLost, LineSpent};
 ghost use Rattle.atspi_stage.specs.Refusals.{RefusedFor};
 ghost use Rattle.atspi_stage.specs.Worlds.{Staged};
 
+use atspi_cast::Refusal;
 use atspi_forest::EditFault;
 use atspi_lines::LineFault;
-use atspi_stage::{ActFault, Refusal};
+use atspi_stage::ActFault;
 
 /// Why a line of a script is refused.
 #[derive(Clone, Copy, Debug, PartialEq, Eq)]

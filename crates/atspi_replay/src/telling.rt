@@ -8,7 +8,7 @@ ghost use Rattle.atspi_events.specs.TraceText.{is_brief as keeps};
 ghost use Rattle.atspi_replay.specs.Names.{refused_text};
 ghost use Rattle.atspi_replay.specs.Play.{BlamesWrite, IfHalted, IfRefused};
 ghost use Rattle.atspi_replay.specs.Told.{bytes_text, told_at, told_from, told_if, told_text};
-ghost use Rattle.atspi_stage.specs.Wires.{wire_bytes};
+ghost use Rattle.atspi_cast.specs.Wires.{wire_bytes};
 
 use crate::naming::{Halt, Refused, Stop, refused_name};
 use atspi_base::{Bytes, NoMemory, Sink, write_all};

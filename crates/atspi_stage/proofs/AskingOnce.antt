@@ -7,7 +7,7 @@ use Rattle.atspi_protocol.specs.following.Calls.{asking}
 use Rattle.atspi_protocol.specs.following.ReaderState.{Pending, Done, sends, speaks, tells_end, ReaderState}
 use Rattle.atspi_protocol.specs.following.Takes.{asks, asks_first, goes_on, reader_takes}
 use Rattle.atspi_protocol.specs.following.Wishes.{wishes}
-use Rattle.atspi_stage.specs.Doing.{messages}
+use Rattle.atspi_cast.specs.Doing.{messages}
 use Rattle.atspi_stage.proofs.AskingTelling.{IsTold, OnlyTells, before_asking, message_tells}
 
 -- what is asked next: the next call of the start, and behind the last of them the first wish

@@ -15,7 +15,7 @@ use Rattle.atspi_protocol.specs.following.ReaderState.{Followed, Pending, Done, 
 use Rattle.atspi_protocol.specs.following.Takes.{asks, asks_first, goes_on, starts, reader_takes, reader_calls}
 use Rattle.atspi_protocol.specs.following.Wishes.{is_refused, unknown_parts, row_wishes, wishes_of, wishes}
 use Rattle.atspi_stage.specs.Cast.{IsLeftOfStart}
-use Rattle.atspi_stage.specs.Doing.{messages}
+use Rattle.atspi_cast.specs.Doing.{messages}
 use Rattle.atspi_stage.proofs.Asking.{AsksTruly, either_way}
 use Rattle.atspi_stage.proofs.AskingQuestions.{IsAskedTruly, items_ask, part_asks, start_asks}
 use Rattle.atspi_stage.proofs.AskingTelling.{IsTold, OnlyTells, before_asking, message_tells}

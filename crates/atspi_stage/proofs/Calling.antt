@@ -26,9 +26,9 @@ use Rattle.atspi_trace.specs.World.{Role, a_reader, Hearer, Said, End, World}
 use Rattle.atspi_trace.specs.Ends.{plain, put_up, number_of, party_at, whose, conn_of, end_at, end_if}
 use Rattle.atspi_trace.specs.Causes.{at_end, on_end, called, calls, does}
 use Rattle.atspi_trace.specs.Work.{name_of}
-use Rattle.atspi_carrying.specs.Changes.{changed_at}
+use Rattle.atspi_posts.specs.Changes.{changed_at}
 use Rattle.atspi_carrying.specs.Carried.{bytes_up, post_of, IsSendable, AreSendable, HasMark, IsCarried}
-use Rattle.atspi_carrying.proofs.Changes.{length-changed, map-changed}
+use Rattle.atspi_posts.proofs.Changes.{length-changed, map-changed}
 use Rattle.atspi_carrying.proofs.Downs.{wait_same}
 use Rattle.atspi_carrying.proofs.Ties.{post_below}
 use Rattle.atspi_carrying.proofs.Views.{with-changed, all_with, within_more}
@@ -37,7 +37,7 @@ use Rattle.atspi_carrying.proofs.Linked.{linked_same}
 use Rattle.atspi_play.specs.Playing.{Playing, silent}
 use Rattle.atspi_play.specs.Plays as play
 use Rattle.atspi_play.specs.Plays.{plays, with_reader}
-use Rattle.atspi_stage.specs.Doing.{sent_on, IsToldAll, TellsReaderAt, CallsAt}
+use Rattle.atspi_cast.specs.Doing.{sent_on, IsToldAll, TellsReaderAt, CallsAt}
 use Rattle.atspi_stage.specs.Worlds.{Staged, IsWorld, IsPlaying, Happens}
 use Rattle.atspi_stage.proofs.AskingReaders.{calls_left}
 use Rattle.atspi_stage.proofs.Conns.{conn_end, conn_who}

@@ -9,7 +9,7 @@ use Rattle.atspi_lines.specs.declared.line.Party.{Party}
 use Rattle.atspi_trace.specs.World.{Role, End}
 use Rattle.atspi_trace.specs.Ends.{same_party, conn_of, end_at, end_of, with_end}
 use Rattle.atspi_stage.proofs.Conns.{place_in, place_is}
-use Rattle.atspi_stage.proofs.Seats.{end_of-find}
+use Rattle.atspi_cast.proofs.Seats.{end_of-find}
 
 -- the end of a party
 abbrev pub seek : Party → List End → Option End

@@ -20,7 +20,7 @@ use Rattle.atspi_trace.specs.Due.{asks_at, asks_as}
 use Rattle.atspi_trace.specs.Hearing.{question_in}
 use Rattle.atspi_carrying.specs.Downs.{bytes_down, IsBegun}
 use Rattle.atspi_carrying.specs.Linked.{given_of, IsLinked}
-use Rattle.atspi_carrying.proofs.Changes.{get-map}
+use Rattle.atspi_posts.proofs.Changes.{get-map}
 use Rattle.atspi_carrying.proofs.Downs.{begun_within}
 use Rattle.atspi_carrying.proofs.Filling.{part_awaits}
 use Rattle.atspi_play.specs.Playing.{Playing}

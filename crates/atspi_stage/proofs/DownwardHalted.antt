@@ -12,8 +12,10 @@ use Rattle.atspi_carrying.specs.Carried.{post_of}
 use Rattle.atspi_carrying.specs.Linked.{given_of, BringsDown, ComesDown}
 use Rattle.atspi_carrying.proofs.Ties.{post_at}
 use Rattle.atspi_play.specs.Playing.{Playing}
-use Rattle.atspi_stage.specs.Halts.{GetsSpent, WorkSpent}
-use Rattle.atspi_stage.specs.Taken.{Ends, ends_in}
+use Rattle.atspi_cast.specs.Spending.{GetsSpent}
+use Rattle.atspi_stage.specs.Halts.{WorkSpent}
+use Rattle.atspi_cast.specs.Taken.{Ends}
+use Rattle.atspi_stage.specs.Taken.{ends_in}
 use Rattle.atspi_stage.specs.Worlds.{Staged, IsPlaying, IsWorld}
 use Rattle.atspi_stage.proofs.Downward.{lies_so, lies_awaits}
 use Rattle.atspi_stage.proofs.DownwardSteps.{MovedSoFar, next_so, next_if, moved_playing}

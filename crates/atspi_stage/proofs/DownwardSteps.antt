@@ -13,7 +13,7 @@ use Rattle.atspi_carrying.specs.Downs.{IsBegun}
 use Rattle.atspi_carrying.specs.Filled.{FillsAt}
 use Rattle.atspi_carrying.specs.Linked.{given_of, IsLinked, BringsDown, ComesDown}
 use Rattle.atspi_carrying.proofs.Beginning.{gave_none}
-use Rattle.atspi_carrying.proofs.Changes.{set_same}
+use Rattle.atspi_posts.proofs.Changes.{set_same}
 use Rattle.atspi_carrying.proofs.Coming.{brings_down}
 use Rattle.atspi_carrying.proofs.Staying.{lives_so}
 use Rattle.atspi_carrying.proofs.Ties.{post_at}

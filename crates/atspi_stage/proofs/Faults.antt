@@ -1,7 +1,5 @@
 -- Which fault of a part a fault of the whole was.
-use Rattle.std.proofs.Common.{◌≡◌, refl, sym, ap, ◌∙◌}
-use Rattle.std.specs.Prelude.{Result, Ok, Err, IsErrOf, IsErrAnd}
-use Rattle.std.proofs.lemmas.Result.{err_from_is_err_and}
+use Rattle.std.proofs.Common.{◌≡◌, refl}
 use Rattle.atspi_carrying.specs.declared.fault.CarryFault.{CarryFault}
 use Rattle.atspi_carrying.specs.declared.fault.CarryFault.TheVariants as carry
 use Rattle.atspi_carrying.specs.Faults.{of_end, of_send}
@@ -15,17 +13,6 @@ use Rattle.atspi_stage_ends.specs.declared.fault.CallFault.{CallFault}
 use Rattle.atspi_stage_ends.specs.declared.fault.CallFault.TheVariants as call
 use Rattle.atspi_stage.specs.declared.fault.ActFault.TheVariants.{Spent, RegistryLost}
 use Rattle.atspi_stage.specs.Faults.{of_carry, of_sent, of_app, of_call}
-
--- the fault of an answer is the one that it was made of
-abbrev err_or : {T F : Type 0} → F → Result T F → F
-err_or other (Ok x) = other
-err_or other (Err e) = e
-
-pub err_is : {T F : Type 0} (e x : F) → IsErrOf {T = T} (Err e) x → e ≡ x
-err_is e x is = ap (err_or e) is
-
-pub given_is : {T F : Type 0} (r : Result T F) (e x : F) → IsErrAnd r (λ y. y ≡ e) → r ≡ Err x → e ≡ x
-given_is r e x gives is = (let y = err_from_is_err_and r gives in sym y.2 ∙ ap (err_or e) (sym y.1 ∙ is))
 
 pub end_was_spent : (f : EndFault) → of_end f ≡ carry.Spent → f ≡ ends.Spent
 end_was_spent ends.Spent h = refl

@@ -1,7 +1,6 @@
 -- The registry takes what lies on its down link, one message after the other.
-use Rattle.std.proofs.Common.{◌≡◌, ℕ, zero, suc, ◌<◌, List, [], ◌∷◌, length, get_or, Some, refl, sym, ap, ◌∙◌, subst, append-nil}
-use Rattle.std.specs.Prelude.{slice_set}
-use Rattle.std.proofs.lemmas.Option.{same_Some, get_or_from_slice_get}
+use Rattle.std.proofs.Common.{◌≡◌, ℕ, zero, suc, ◌<◌, List, [], ◌∷◌, length, Some, refl, sym, ap, ◌∙◌, subst}
+use Rattle.std.proofs.lemmas.Option.{same_Some}
 use Rattle.atspi_message.specs.Envelope.{Envelope}
 use Rattle.atspi_message.specs.Bytes.{IsMessage, written}
 use Rattle.atspi_protocol.specs.registering.Steps.{Registry, takes}
@@ -15,13 +14,8 @@ use Rattle.atspi_carrying.specs.Filled.{waits_for}
 use Rattle.atspi_carrying.specs.Linked.{IsLinked, BringsDown}
 use Rattle.atspi_carrying.proofs.Coming.{off_link, linked_taken, letter_spelled, letter_waits, always_enough}
 use Rattle.atspi_carrying.proofs.Starting.{none_below}
-use Rattle.atspi_stage.specs.Hearing.{takes_all, HearsOff, HearsAt, HearsAll}
-
--- what lies at the end of a connection is taken
-pub heard_at : (given : List (List ℕ)) (conn : ℕ) (lay lies : List ℕ) (r t : Registry) → HearsOff (get_or given conn lay) lies r t → HearsAt given (slice_set given conn lies) conn r t
-heard_at given conn lay lies r t hears = λ m is there.
-    let heard = hears m [] is (get_or_from_slice_get given conn (written m) lay there ∙ sym (append-nil (written m))) in
-    record { gone = ap (slice_set given conn) heard.left; took = heard.took }
+use Rattle.atspi_cast.specs.Hearing.{HearsAt}
+use Rattle.atspi_stage.specs.Hearing.{takes_all, HearsAll}
 
 pub at_as : (lay given lies given' : List (List ℕ)) (conn : ℕ) (r t : Registry) → lay ≡ given → lies ≡ given' → HearsAt lay lies conn r t → HearsAt given given' conn r t
 at_as lay given lies given' conn r t before after hears = subst (λ x. HearsAt x given' conn r t) before (subst (λ x. HearsAt lay x conn r t) after hears)

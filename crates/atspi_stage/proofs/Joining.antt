@@ -27,7 +27,7 @@ use Rattle.atspi_carrying.specs.Linked.{IsLinked}
 use Rattle.atspi_carrying.proofs.Linked.{linked_same}
 use Rattle.atspi_play.specs.Playing.{Playing, silent}
 use Rattle.atspi_play.specs.Plays.{only, plays}
-use Rattle.atspi_stage.specs.Doing.{quiet, IsToldAll, TellsAt, TellsReaderAt}
+use Rattle.atspi_cast.specs.Doing.{quiet, IsToldAll, TellsAt, TellsReaderAt}
 use Rattle.atspi_stage.specs.Worlds.{Staged, BeginsWithRegistry, IsWorld, IsPlaying, Happens}
 use Rattle.atspi_stage.proofs.AskingReaders.{starts_left}
 use Rattle.atspi_stage.proofs.Calling.{hello_reads, sends_one, one_sent}

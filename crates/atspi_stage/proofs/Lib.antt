@@ -14,11 +14,8 @@ pub mod Conns
 pub mod Downward
 pub mod DownwardHalted
 pub mod DownwardSteps
-pub mod Elements
-pub mod ElementsSpent
 pub mod Faults
 pub mod Firsts
-pub mod Found
 pub mod GotMessages
 pub mod Halted
 pub mod Hearing
@@ -31,13 +28,11 @@ pub mod Onward
 pub mod Outcomes
 pub mod Parts
 pub mod Plays
-pub mod Queued
 pub mod Reasons
 pub mod Rejoining
 pub mod Results
 pub mod Routing
 pub mod Sayings
-pub mod Seats
 pub mod Segments
 pub mod Shows
 pub mod Signals
@@ -48,8 +43,6 @@ pub mod Taking
 pub mod TakingEnds
 pub mod TakingReaders
 pub mod Tellings
-pub mod ToldAll
 pub mod Turns
 pub mod TurnsHalted
 pub mod TurnsMade
-pub mod Wholes

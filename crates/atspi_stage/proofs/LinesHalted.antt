@@ -1,5 +1,5 @@
 -- A line that is broken off, by what its work is.
-use Rattle.std.proofs.Common.{◌≡◌, ◌⊎◌, inl, ℕ, Bool, true, false, List, Some, sym, ap, ◌∙◌, subst}
+use Rattle.std.proofs.Common.{◌≡◌, ◌⊎◌, inl, ℕ, Bool, true, false, Some, sym, ap, ◌∙◌, subst}
 use Rattle.std.specs.Prelude.{None}
 use Rattle.atspi_forest.specs.declared.edit.Edit.{Edit}
 use Rattle.atspi_lines.specs.declared.deed.Deed.{Deed}
@@ -14,7 +14,8 @@ use Rattle.atspi_trace.specs.Work.{Work, doing, moving_up, moving_down, moving, 
 use Rattle.atspi_play.specs.Playing.{Playing}
 use Rattle.atspi_play.specs.Plays.{plays}
 use Rattle.atspi_stage.specs.Halts.{IsSpentBy, WorkLost, WorkSpent, ManyTurns, LineLostElse, LineSpentElse}
-use Rattle.atspi_stage.specs.Refusals.{EditIsRefused, CallAtIsRefused}
+use Rattle.atspi_cast.specs.Asked.{EditIsRefused}
+use Rattle.atspi_stage.specs.Refusals.{CallAtIsRefused}
 use Rattle.atspi_stage.specs.Worlds.{Staged, IsPlaying}
 use Rattle.atspi_stage.proofs.Conns.{conn_end}
 use Rattle.atspi_stage.proofs.Halted.{once_spent}

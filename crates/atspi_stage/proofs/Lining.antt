@@ -20,8 +20,10 @@ use Rattle.atspi_play.specs.Playing.{Playing, view_in, held_by}
 use Rattle.atspi_play.specs.Plays.{plays}
 use Rattle.atspi_play.specs.Played.{if_viewed, refused}
 use Rattle.atspi_stage.specs.Lines.{CausedAt, WorkDone, LineDoneElse}
-use Rattle.atspi_stage.specs.Refusals.{first_refusal, refusal_of, RefusedElse, EditIsRefused, CallAtIsRefused}
-use Rattle.atspi_stage.specs.declared.fault.Refusal as fault
+use Rattle.atspi_cast.specs.Refusals.{first_refusal, refusal_of}
+use Rattle.atspi_cast.specs.Asked.{EditIsRefused}
+use Rattle.atspi_stage.specs.Refusals.{RefusedElse, CallAtIsRefused}
+use Rattle.atspi_cast.specs.declared.refusing.Refusal as fault
 use Rattle.atspi_stage.specs.Worlds.{Staged, IsWorld, IsPlaying, Happens}
 use Rattle.atspi_stage.proofs.Conns.{conn_end, conn_who}
 use Rattle.atspi_stage.proofs.Segments.{caused_once}

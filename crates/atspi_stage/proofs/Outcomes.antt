@@ -1,5 +1,5 @@
 -- What a line that was done or refused says of any world that this is.
-use Rattle.std.proofs.Common.{◌≡◌, ℕ, Bool, true, false, List, [], ◌∷◌, length, map, Option, None, Some, refl, sym, ap, ◌∙◌}
+use Rattle.std.proofs.Common.{◌≡◌, ℕ, ◌+◌, Bool, true, false, List, [], ◌∷◌, length, map, Option, None, Some, refl, sym, ap, ◌∙◌, subst}
 use Rattle.std.specs.Prelude.{Result, Ok, Err, OnOk, IsErrOf, if◌then◌else◌}
 use Rattle.std.proofs.lemmas.Option.{same_Some}
 use Rattle.atspi_lines.specs.declared.line.Line.{Line}
@@ -9,15 +9,17 @@ use Rattle.atspi_trace.specs.World.{Standing, here, stopped, away, End, World}
 use Rattle.atspi_trace.specs.Ends.{is_here, end_of}
 use Rattle.atspi_trace.specs.Work as work
 use Rattle.atspi_trace.specs.Work.{edit_refusal, if_started, if_here, no_more}
+use Rattle.atspi_posts.specs.declared.post.Post.{Post}
 use Rattle.atspi_carrying.specs.Carried.{standing_at, post_of}
 use Rattle.atspi_play.specs.Playing.{Playing, view_in}
 use Rattle.atspi_play.specs.Played.{if_viewed, refused}
 use Rattle.atspi_stage.specs.Lines.{LineDone}
-use Rattle.atspi_stage.specs.Refusals.{standing_of, refusal_of, seat_of_end, seat_of_post, IsOf, first_refusal, RefusedFor, Refuses}
+use Rattle.atspi_cast.specs.Refusals.{standing_of, refusal_of, seat_of_end, seat_of_post, HaveSeats, IsOf, first_refusal}
+use Rattle.atspi_stage.specs.Refusals.{RefusedFor, Refuses}
 use Rattle.atspi_stage.specs.Worlds.{Staged, IsWorld, IsPlaying}
 use Rattle.atspi_stage.specs.declared.fault.ActFault.{ActFault}
 use Rattle.atspi_stage.specs.declared.fault.ActFault.TheVariants.{Refused, Spent, RegistryLost, Unsendable, NoMemory}
-use Rattle.atspi_stage.specs.declared.fault.Refusal.{Refusal}
+use Rattle.atspi_cast.specs.declared.refusing.Refusal.{Refusal}
 use Rattle.atspi_stage.proofs.Reasons.{fault_or, why_or}
 
 -- what is refused at first is refused so in the end
@@ -94,3 +96,13 @@ refuses_of (Err Spent) line old new does_ says p due is h = tt
 refuses_of (Err RegistryLost) line old new does_ says p due is h = tt
 refuses_of (Err Unsendable) line old new does_ says p due is h = tt
 refuses_of (Err NoMemory) line old new does_ says p due is h = tt
+
+-- a world that is this one, where its parts are counted anew
+pub same_of : (w : World) (posts posts' : List Post) (apps apps' readers readers' spares spares' : ℕ) → posts' ≡ posts → apps' ≡ apps → readers' ≡ readers → spares' ≡ spares → IsOf w posts apps readers spares
+    → IsOf w posts' apps' readers' spares'
+same_of w posts posts' apps apps' readers readers' spares spares' ep ea er es is = record {
+  seats = subst (HaveSeats w.ends) (sym ep) is.seats;
+  apps_are = is.apps_are ∙ sym ea;
+  readers_are = is.readers_are ∙ sym er;
+  spares_are = ap (λ n. w.swaps + n) es ∙ is.spares_are;
+}

@@ -16,7 +16,6 @@ use Rattle.atspi_stage.specs.Stage.{gives_line_up, UnlessHalted}
 use Rattle.atspi_stage.specs.Worlds.{Staged, IsPlaying, IsWorld}
 use Rattle.atspi_stage.specs.declared.fault.ActFault.{ActFault}
 use Rattle.atspi_stage.specs.declared.fault.ActFault.TheVariants.{Refused, Spent, RegistryLost, Unsendable, NoMemory}
-use Rattle.atspi_stage.specs.declared.fault.Refusal.{Refusal}
 
 -- a line that was told is the line that was done
 module _ {A : Type 0} where

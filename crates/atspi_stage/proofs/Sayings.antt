@@ -29,13 +29,13 @@ use Rattle.atspi_bus_steps.specs.Spoken.{IsRuleNamed}
 use Rattle.atspi_carrying.specs.Carried.{bytes_up, post_of, IsSendable, AreSendable, HasMark, IsCarried, IsDone}
 use Rattle.atspi_carrying.specs.Linked.{IsLinked}
 use Rattle.atspi_carrying.proofs.Linked.{LeavesDown, linked_same}
-use Rattle.atspi_carrying.proofs.Changes.{map-changed_known}
+use Rattle.atspi_posts.proofs.Changes.{map-changed_known}
 use Rattle.atspi_carrying.proofs.Views.{with-changed, all_with, within_more}
 use Rattle.atspi_carrying.proofs.Downs.{wait_same}
 use Rattle.atspi_carrying.proofs.Ties.{post_at}
 use Rattle.atspi_play.specs.Playing.{Playing}
 use Rattle.atspi_play.specs.Plays.{only, plays}
-use Rattle.atspi_stage.specs.Doing.{all_said, quiet, CanBeWritten, EditsAt, TellsAt}
+use Rattle.atspi_cast.specs.Doing.{all_said, quiet, CanBeWritten, EditsAt, TellsAt}
 use Rattle.atspi_stage.specs.Worlds.{Staged, IsWorld, IsPlaying, Happens}
 use Rattle.atspi_stage.proofs.Conns.{conn_end, conn_who}
 use Rattle.atspi_stage.proofs.Plays.{get_set}

@@ -29,9 +29,12 @@ use Rattle.atspi_carrying.proofs.Ties.{post_at}
 use Rattle.atspi_play.specs.Breaking.{IsPast, IsSpent}
 use Rattle.atspi_play.specs.Playing.{Playing, Happened, silent}
 use Rattle.atspi_play.specs.Plays.{only, got_at, got_by, reader_did, reader_got, told, with_reader, plays}
-use Rattle.atspi_stage.specs.Halts.{IsSpentBy, HasSpentAll, GetsSpent, EditSpends, CallSpends}
-use Rattle.atspi_stage.specs.Taken as taking
-use Rattle.atspi_stage.specs.Taken.{ends_after, ends_in}
+use Rattle.atspi_cast.specs.Spending.{HasSpentAll, GetsSpent}
+use Rattle.atspi_cast.specs.Asked.{EditSpends, CallSpends}
+use Rattle.atspi_stage.specs.Halts.{IsSpentBy}
+use Rattle.atspi_cast.specs.Taken as taking
+use Rattle.atspi_cast.specs.Taken.{ends_after}
+use Rattle.atspi_stage.specs.Taken.{ends_in}
 use Rattle.atspi_stage.specs.Worlds.{Staged, IsPlaying}
 use Rattle.atspi_stage.proofs.Apart.{conn_here}
 use Rattle.atspi_stage.proofs.Conns.{conn_end, conn_who}

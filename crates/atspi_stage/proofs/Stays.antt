@@ -12,7 +12,7 @@ use Rattle.atspi_trace.specs.Causes.{Done}
 use Rattle.atspi_trace.specs.Due.{is_lost}
 use Rattle.atspi_carrying.specs.Carried.{IsCarried}
 use Rattle.atspi_carrying.specs.Linked.{IsLinked}
-use Rattle.atspi_carrying.proofs.Changes.{map-kept}
+use Rattle.atspi_posts.proofs.Changes.{map-kept}
 use Rattle.atspi_carrying.proofs.Views.{with-changed}
 use Rattle.atspi_play.specs.Playing.{Playing}
 use Rattle.atspi_play.specs.Plays.{only}

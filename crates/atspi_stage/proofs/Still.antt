@@ -10,19 +10,20 @@ use Rattle.atspi_trace.specs.World.{End}
 use Rattle.atspi_trace.specs.Ends.{end_at, end_if, conn_of}
 use Rattle.atspi_trace.specs.Causes.{did}
 use Rattle.atspi_carrying.specs.Carried.{post_of, IsCarried}
-use Rattle.atspi_carrying.specs.Changes.{changed_at}
+use Rattle.atspi_posts.specs.Changes.{changed_at}
 use Rattle.atspi_carrying.specs.Linked.{IsLinked}
-use Rattle.atspi_carrying.proofs.Changes.{set_same}
+use Rattle.atspi_posts.proofs.Changes.{set_same}
 use Rattle.atspi_carrying.proofs.Ties.{post_at, post_below}
 use Rattle.atspi_play.specs.Playing.{Playing}
-use Rattle.atspi_stage.specs.Doing.{all_said, all_sent, messages, told_by}
+use Rattle.atspi_cast.specs.Doing.{all_said, all_sent, messages, told_by}
 use Rattle.std.specs.Prelude.{flat_map}
-use Rattle.atspi_stage.specs.Taken.{Tells, ends_in}
+use Rattle.atspi_cast.specs.Taken.{Tells}
+use Rattle.atspi_stage.specs.Taken.{ends_in}
 use Rattle.atspi_stage.specs.Worlds.{Staged, IsWorld, IsPlaying}
 use Rattle.atspi_stage.proofs.Apart.{conn_here, not_bus}
 use Rattle.atspi_stage.proofs.Stays.{same_world}
 use Rattle.atspi_stage.proofs.TakingEnds.{first_conn, plays_registry, posts_first}
-use Rattle.atspi_stage.proofs.ToldAll.{changed_none}
+use Rattle.atspi_cast.proofs.ToldAll.{changed_none}
 
 module _ (p : Playing) (conn : ℕ) (e : End) (old new : Staged) (playing : IsPlaying p old) (at : end_at p.world.ends conn ≡ Some e) (bus : new.bus ≡ old.bus) (given : new.given ≡ old.given) (kits : new.kits ≡ old.kits)
     (spares : new.spares ≡ old.spares) where

@@ -23,17 +23,17 @@ use Rattle.atspi_trace.specs.Ends.{end_at, with_end, plain, put_up, taken_down}
 use Rattle.atspi_trace.specs.Causes as causes
 use Rattle.atspi_trace.specs.Causes.{at_end, saids, announced_if, on_end, taken, gets, does}
 use Rattle.atspi_carrying.specs.Carried.{bytes_up, post_of, IsSendable, AreSendable, HasMark, IsCarried}
-use Rattle.atspi_carrying.specs.Changes.{changed_at}
+use Rattle.atspi_posts.specs.Changes.{changed_at}
 use Rattle.atspi_carrying.specs.Linked.{IsLinked, IsWhole}
-use Rattle.atspi_carrying.proofs.Changes.{length-changed, map-changed}
+use Rattle.atspi_posts.proofs.Changes.{length-changed, map-changed}
 use Rattle.atspi_carrying.proofs.Coming.{off_link, linked_taken}
 use Rattle.atspi_carrying.proofs.Downs.{wait_same}
 use Rattle.atspi_carrying.proofs.Senders.{sender_named}
 use Rattle.atspi_carrying.proofs.Views.{with-changed, all_with, within_more}
 use Rattle.atspi_play.specs.Playing.{Playing}
 use Rattle.atspi_play.specs.Plays.{got_at, got_by, plays}
-use Rattle.atspi_stage.specs.Doing.{sent_on, all_sent, CanBeWritten}
-use Rattle.atspi_stage.specs.Taken as taking
+use Rattle.atspi_cast.specs.Doing.{sent_on, all_sent, CanBeWritten}
+use Rattle.atspi_cast.specs.Taken as taking
 use Rattle.atspi_stage.specs.Taken.{GotWhole}
 use Rattle.atspi_stage.specs.Worlds.{Staged, IsPlaying}
 use Rattle.atspi_stage.proofs.Asking.{AsksTruly}

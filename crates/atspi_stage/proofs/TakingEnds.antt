@@ -12,14 +12,14 @@ use Rattle.atspi_trace.specs.Entry.{Entry, entries_of, got, sent}
 use Rattle.atspi_trace.specs.World.{the_registry, Role, Letter, End, World}
 use Rattle.atspi_trace.specs.Ends.{end_at, end_if, conn_of, with_end, taken_down}
 use Rattle.atspi_trace.specs.Causes as causes
-use Rattle.atspi_trace.specs.Causes.{at_end, did, app_did, has_done, registry_did, gets, does, Done}
+use Rattle.atspi_trace.specs.Causes.{at_end, did, app_did, has_done, gets, does, Done}
 use Rattle.atspi_carrying.specs.Carried.{post_of, IsCarried, IsDone}
-use Rattle.atspi_carrying.specs.Changes.{changed_at}
+use Rattle.atspi_posts.specs.Changes.{changed_at}
 use Rattle.atspi_carrying.proofs.Linked.{linked_same}
 use Rattle.atspi_carrying.proofs.Ties.{post_at}
 use Rattle.atspi_play.specs.Playing.{Playing}
 use Rattle.atspi_play.specs.Plays.{only, plays}
-use Rattle.atspi_stage.specs.Doing.{quiet, all_sent}
+use Rattle.atspi_cast.specs.Doing.{quiet, all_sent}
 use Rattle.atspi_stage.specs.Taken.{GotWhole}
 use Rattle.atspi_stage.specs.Worlds.{Staged, AreApart, who_of, BeginsWithRegistry, IsRegistry, IsWorld, Happens}
 use Rattle.atspi_stage.proofs.Apart.{conn_here}

@@ -23,7 +23,7 @@ use Rattle.atspi_carrying.proofs.Senders.{app_names}
 use Rattle.atspi_carrying.proofs.Ties.{post_below}
 use Rattle.atspi_play.specs.Playing.{Playing, silent}
 use Rattle.atspi_play.specs.Plays.{of_app, told, asked, asked_with, reader_did, reader_got, plays}
-use Rattle.atspi_stage.specs.Doing.{told_by, messages}
+use Rattle.atspi_cast.specs.Doing.{told_by, messages}
 use Rattle.atspi_stage.specs.Taken.{GotWhole}
 use Rattle.atspi_stage.specs.Worlds.{Staged, IsWorld, Happens}
 use Rattle.atspi_stage.proofs.Apart.{conn_here}

@@ -1,33 +1,15 @@
--- What an end does with what lies at it, and what it did, among all ends.
+-- What an end does with what lies at it.
 use Rattle.std.proofs.Common.{◌≡◌, ℕ, Bool, List, [], ◌∷◌, ◌++◌, set, get_or, sym, ap, ◌∙◌, subst, append-nil}
-use Rattle.std.specs.Prelude.{Result, Ok, Err, OnOk}
 use Rattle.std.proofs.lemmas.Option.{get_or_from_slice_get}
 use Rattle.atspi_lines.specs.declared.line.Party.{Party}
-use Rattle.atspi_lines.specs.declared.line.Party.TheVariants.{App, Reader}
 use Rattle.atspi_message.specs.Bytes.{written}
-use Rattle.atspi_protocol.specs.exporting.Exporter.{Exporter}
-use Rattle.atspi_protocol.specs.following.ReaderState.{ReaderState}
 use Rattle.atspi_events.specs.declared.event.Event.{Event}
 use Rattle.atspi_posts.specs.declared.post.Post.{Post}
 use Rattle.atspi_stream.specs.Stream.{AwaitsMore}
-use Rattle.atspi_carrying.proofs.Changes.{set_same}
-use Rattle.atspi_stage.specs.Doing.{TellsAt, TellsReaderAt}
-use Rattle.atspi_stage.specs.Taken.{got_by, Ends, ends_after, ends_in, TakesFront, TakesNothing, Tells, Gets}
+use Rattle.atspi_posts.proofs.Changes.{set_same}
+use Rattle.atspi_cast.specs.Taken.{got_by, Ends, ends_after, TakesFront, TakesNothing, Tells}
+use Rattle.atspi_stage.specs.Taken.{ends_in, Gets}
 use Rattle.atspi_stage.specs.Worlds.{Staged}
-
-pub app_tells : {T F : Type 0} (r : Result T F) (who : Party) (a conn : ℕ) (ends ends' : Ends) (before after : List Exporter) (posts posts' : List Post) (old new : List Event) → who ≡ App a → before ≡ ends.apps → after ≡ ends'.apps
-    → ends'.registry ≡ ends.registry → ends'.readers ≡ ends.readers → OnOk r (TellsAt before after a conn posts posts' old new) → OnOk r (Tells who conn ends ends' posts posts' old new)
-app_tells (Ok t) who a conn ends ends' before after posts posts' old new is was now registry readers told =
-    subst (λ w. Tells w conn ends ends' posts posts' old new) (sym is)
-    (subst (λ l. TellsAt l ends'.apps a conn posts posts' old new) was (subst (λ l. TellsAt before l a conn posts posts' old new) now told), (registry, readers))
-app_tells (Err t) who a conn ends ends' before after posts posts' old new is was now registry readers told = tt
-
-pub reader_tells : {T F : Type 0} (r : Result T F) (who : Party) (n conn : ℕ) (ends ends' : Ends) (before after : List ReaderState) (posts posts' : List Post) (old new : List Event) → who ≡ Reader n
-    → before ≡ ends.readers → after ≡ ends'.readers → ends'.registry ≡ ends.registry → ends'.apps ≡ ends.apps → OnOk r (TellsReaderAt before after n conn posts posts' old new) → OnOk r (Tells who conn ends ends' posts posts' old new)
-reader_tells (Ok t) who n conn ends ends' before after posts posts' old new is was now registry apps told =
-    subst (λ w. Tells w conn ends ends' posts posts' old new) (sym is)
-    (subst (λ l. TellsReaderAt l ends'.readers n conn posts posts' old new) was (subst (λ l. TellsReaderAt before l n conn posts posts' old new) now told), (registry, apps))
-reader_tells (Err t) who n conn ends ends' before after posts posts' old new is was now registry apps told = tt
 
 -- WHAT AN END DOES WITH WHAT LIES AT IT
 pub got_so : (conn : ℕ) (old new : Staged) (took : Bool) (p : Post) (link link' : List ℕ) (mid : Ends) (trace : List Event) → TakesFront link link' old.posts p.who (ends_in old) mid old.trace trace took

@@ -9,7 +9,7 @@ use Rattle.atspi_stage_ends.specs.declared.fault.CallFault.{CallFault}
 use Rattle.atspi_stage_ends.specs.declared.fault.CallFault.TheVariants as call
 use Rattle.atspi_stage.specs.declared.fault.ActFault.{ActFault}
 use Rattle.atspi_stage.specs.declared.fault.ActFault.TheVariants.{Refused, Spent, RegistryLost, Unsendable, NoMemory}
-use Rattle.atspi_stage.specs.declared.fault.Refusal.TheVariants.{NotHeld, Edit}
+use Rattle.atspi_cast.specs.declared.refusing.Refusal.TheVariants.{NotHeld, Edit}
 
 abbrev pub of_carry : CarryFault → ActFault
 of_carry carry.Spent = Spent

@@ -1,28 +1,14 @@
 -- Lines that are broken off: a part of one was done, and then the registry was dropped, or serials were spent.
-use Rattle.std.specs.Prelude.{◌≡◌, ◌⊎◌, ℕ, false, true, List, [], ◌∷◌, ◌++◌, Option, None, Some, Ok, slice_get}
-use Rattle.atspi_events.specs.declared.event.Event.{Event}
-use Rattle.atspi_forest.specs.declared.edit.Edit.{Edit}
-use Rattle.atspi_lines.specs.declared.deed.Deed.{Deed}
+use Rattle.std.specs.Prelude.{◌≡◌, ◌⊎◌, false, true, List, ◌++◌, None}
 use Rattle.atspi_lines.specs.declared.line.Line.{Line}
-use Rattle.atspi_lines.specs.declared.line.Party.{Party}
-use Rattle.atspi_lines.specs.declared.line.Party.TheVariants.{Bus as The_bus, Registry, App, Reader}
-use Rattle.atspi_message.specs.Envelope.{Envelope}
-use Rattle.atspi_message.specs.Bytes.{IsMessage, written}
-use Rattle.atspi_posts.specs.declared.post.Post.{Post}
-use Rattle.atspi_protocol.specs.exporting.Exporter.{Exporter}
-use Rattle.atspi_protocol.specs.exporting.Taking.{app_edits}
-use Rattle.atspi_protocol.specs.following.ReaderState.{ReaderState}
-use Rattle.atspi_protocol.specs.following.Takes.{reader_calls}
-use Rattle.atspi_stream.specs.Stream.{AwaitsMore}
 use Rattle.atspi_carrying.specs.Halted.{AreNamedAs, HaveNames}
 use Rattle.atspi_trace.specs.Entry.{Entry, entries_of}
 use Rattle.atspi_trace.specs.Due.{is_lost}
 use Rattle.atspi_trace.specs.Work.{Work, work_of}
-use Rattle.atspi_play.specs.Breaking.{IsPast, IsSpent, does_next, IsLostAt, IsSpentAt, PlayedTurns}
-use Rattle.atspi_play.specs.Played.{if_viewed, refused}
-use Rattle.atspi_play.specs.Playing.{Playing, Happened, held_by}
-use Rattle.atspi_stage.specs.Refusals.{first_refusal}
-use Rattle.atspi_stage.specs.Taken.{got_by, Ends, ends_after}
+use Rattle.atspi_play.specs.Breaking.{IsSpent, does_next, IsLostAt, IsSpentAt, PlayedTurns}
+use Rattle.atspi_play.specs.Played.{refused}
+use Rattle.atspi_play.specs.Playing.{Playing, Happened}
+use Rattle.atspi_cast.specs.Refusals.{first_refusal}
 use Rattle.atspi_stage.specs.Worlds.{Staged, IsPlaying}
 
 -- WHAT HAPPENED DROPPED THE REGISTRY, and all that it writes was written; the connections have the names that ends have behind it
@@ -74,43 +60,3 @@ LineLostElse line old new = (p : Playing) → IsPlaying p old → first_refusal 
 
 abbrev pub LineSpentElse : Line → Staged → Staged → Type 0
 LineSpentElse line old new = (p : Playing) → IsPlaying p old → first_refusal p.world line ≡ None → IsLineSpent p line old new
-
--- A PARTY'S NEXT SERIAL IS ABOVE THE LAST
-abbrev pub HasSpentAll : Party → Ends → Type 0
-HasSpentAll The_bus ends = ⊥
-HasSpentAll Registry ends = IsPast ends.registry.state.next
-HasSpentAll (App a) ends = (s : Exporter) × (slice_get ends.apps a ≡ Some s) × IsPast s.next
-HasSpentAll (Reader r) ends = (s : ReaderState) × (slice_get ends.readers r ≡ Some s) × IsPast s.next
-
--- a message was handed to a party, which is told, and with what it says to it serials are spent
-pub record IsSpentWith (m : Envelope) (posts : List Post) (taker : Party) (ends : Ends) (old new : List Event) : Type 0 where
-  pub told : new ≡ old ++ got_by taker posts m ∷ []
-  pub spent : HasSpentAll taker (ends_after taker m ends)
-
--- the message that bytes begin with was handed so; of bytes that await more none is
-pub record SpendsFront (bytes : List ℕ) (posts : List Post) (taker : Party) (ends : Ends) (old new : List Event) : Type 0 where
-  pub whole : (m : Envelope) (rest : List ℕ) → IsMessage m (written m) → bytes ≡ written m ++ rest → IsSpentWith m posts taker ends old new
-  pub part : AwaitsMore bytes → ⊥
-
--- the same of what lies at an end
-abbrev pub GetsSpent : ℕ → List Post → List (List ℕ) → Ends → List Event → List Event → Type 0
-GetsSpent conn posts given ends old new = (p : Post) (bytes : List ℕ) → slice_get posts conn ≡ Some p → slice_get given conn ≡ Some bytes → SpendsFront bytes posts p.who ends old new
-
--- an edit that one of the applications makes spends its serials
-pub record IsEditSpent (s : Exporter) (edit : Edit) : Type 0 where
-  pub state : Exporter
-  pub edited : app_edits s edit ≡ Ok state
-  pub spent : IsPast state.next
-
-abbrev pub EditSpends : List Exporter → ℕ → Edit → Type 0
-EditSpends apps a edit = (s : Exporter) → slice_get apps a ≡ Some s → IsEditSpent s edit
-
--- a call that one of the readers sends, of an application that it holds by its name, spends that reader's
-pub record IsCallSpent (s : ReaderState) (callee : Option (List ℕ)) (node : ℕ) (deed : Deed) : Type 0 where
-  pub name : List ℕ
-  pub named : callee ≡ Some name
-  pub held : if_viewed (held_by (Some s) callee) ≡ None
-  pub spent : IsPast (reader_calls s name node deed).next
-
-abbrev pub CallSpends : List ReaderState → ℕ → Option (List ℕ) → ℕ → Deed → Type 0
-CallSpends readers r callee node deed = (s : ReaderState) → slice_get readers r ≡ Some s → IsCallSpent s callee node deed

@@ -1,15 +1,11 @@
 pub mod Cast
-pub mod Doing
 pub mod Faults
 pub mod Halts
 pub mod Hearing
 pub mod Lines
 pub mod MayAct
-pub mod Places
 pub mod Refusals
-pub mod Shown
 pub mod Stage
 pub mod Taken
 pub mod Turns
-pub mod Wires
 pub mod Worlds

@@ -11,7 +11,7 @@ use Rattle.atspi_trace.specs.Work.{Work, work_of}
 use Rattle.atspi_play.specs.Playing.{Playing}
 use Rattle.atspi_play.specs.Plays.{plays}
 use Rattle.atspi_play.specs.Played.{refused, PlaysOut}
-use Rattle.atspi_stage.specs.Refusals.{first_refusal}
+use Rattle.atspi_cast.specs.Refusals.{first_refusal}
 use Rattle.atspi_stage.specs.Worlds.{Staged, IsPlaying, Happens}
 
 -- a cause of the end of a party that is here was done, by its connection

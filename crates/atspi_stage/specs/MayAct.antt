@@ -1,10 +1,9 @@
 -- Which lines a world may be given. A script's lines are all such.
 use Rattle.std.specs.Prelude.{◌≡◌, ◌≤◌}
 use Rattle.atspi_forest.specs.Edits.{IsEdit}
-use Rattle.atspi_forest.specs.Row.{IsName}
 use Rattle.atspi_lines.specs.declared.limits.TheConstants.{QUOTA_LEAST, QUOTA_MOST}
 use Rattle.atspi_lines.specs.declared.line.Line.{Line}
-use Rattle.atspi_lines.specs.declared.line.Line.TheVariants.{App, Quota, Edit, Call, Bytes}
+use Rattle.atspi_lines.specs.declared.line.Line.TheVariants.{Quota, Edit, Call, Bytes}
 use Rattle.atspi_lines.specs.declared.line.Party.TheVariants.{Bus}
 use Rattle.atspi_reader_calls.specs.Deeds.{MayBeAsked}
 
@@ -15,8 +14,3 @@ MayAct (Edit app edit) = IsEdit edit
 MayAct (Call reader app node deed) = MayBeAsked deed
 MayAct (Bytes who up count) = who ≡ Bus → ⊥
 MayAct _ = Unit {0}
-
--- the name of a new root is not too long
-abbrev pub HasName : Line → Type 0
-HasName (App name) = IsName name
-HasName _ = Unit {0}

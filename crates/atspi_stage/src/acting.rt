@@ -1,35 +1,37 @@
 //! Doing the lines of a script.
 
-ghost use Rattle.std.specs.Prelude.{◌≡◌, ◌++◌, false, Some, length, IsErrOf, OnOk};
+ghost use Rattle.std.specs.Prelude.{◌≡◌, ◌++◌, false, None, Some, length, IsErrOf, OnOk};
+ghost use Rattle.std.specs.Option.{option_map};
 ghost use Rattle.atspi_forest.specs.Edits.{IsEdit};
 ghost use Rattle.atspi_reader_calls.specs.Deeds.{MayBeAsked};
 ghost use Rattle.atspi_bus_steps.specs.Inner.{inner_of, state_of};
 ghost use Rattle.atspi_lines.specs.declared.line.Line.TheVariants as lines;
 ghost use Rattle.atspi_trace.specs.Causes.{exits};
-ghost use Rattle.atspi_trace.specs.World.{End};
+ghost use Rattle.atspi_trace.specs.World.{End, World};
 ghost use Rattle.atspi_play.specs.Playing.{Playing};
 ghost use Rattle.atspi_lines.specs.declared.line.Party.TheVariants as parties;
 ghost use Rattle.atspi_trace.specs.Ends.{end_at, same_party};
 ghost use Rattle.atspi_trace.specs.Work as work;
 ghost use Rattle.atspi_carrying.specs.GivenUp.{OnGivingUp, UnlessGivenUp};
+ghost use Rattle.atspi_play.specs.Played as playing;
+ghost use Rattle.atspi_cast.specs.Refusals.{HasName, IsOf, first_refusal, refusal_of};
+ghost use Rattle.atspi_cast.specs.declared.refusing.Refusal.{Refusal};
 ghost use Rattle.atspi_stage.specs.Halts.{LineLost, LineLostElse, LineSpent, LineSpentElse, WorkLost, WorkSpent};
 ghost use Rattle.atspi_stage.specs.Lines.{CausedAt, IsSegment, LineDone, LineDoneElse, WorkOf, WorkOfElse};
-ghost use Rattle.atspi_stage.specs.MayAct.{HasName, MayAct};
-ghost use Rattle.atspi_play.specs.Played as playing;
+ghost use Rattle.atspi_stage.specs.MayAct.{MayAct};
 ghost use Rattle.atspi_stage.specs.Refusals.{RefusedElse, RefusedFor, Refuses};
-ghost use Rattle.atspi_stage.specs.declared.fault.Refusal.{Refusal};
 ghost use Rattle.atspi_stage.specs.Stage.{gives_line_up, IsStage, UnlessHalted};
 ghost use Rattle.atspi_stage.specs.Worlds.{staged, IsPlaying};
 
 use crate::fault::ActFault;
-use crate::places::conn_of;
 use crate::stage::Stage;
 use atspi_base::NoMemory;
-use atspi_carrying::{CarryFault, apart, put_behind};
+use atspi_carrying::CarryFault;
+use atspi_cast::{Refusal, conn_of, why_refused};
 use atspi_events::Event;
 use atspi_forest::Edit;
 use atspi_lines::{Deed, Line, Party};
-use atspi_posts::Standing;
+use atspi_posts::{Standing, apart, put_behind};
 use atspi_stage_ends::{Application, Follower};
 
 /// What a line told apart is put behind what was told before. Where the line failed for want of memory or for what no script comes to, and where memory
@@ -59,6 +61,21 @@ fn rejoin(
 }
 
 impl<A: Application, R: Follower> Stage<A, R> {
+    /// Why a line is refused, none where it is not, or only by the edit or the call that it asks for.
+    fn refusal(&self, line: &Line) -> Option<Refusal>
+        ensures name { result ≡ None → HasName line.now }
+        ensures exact { (w : World) → IsOf w self.now.carrier.posts.items (length self.now.cast.apps.items) (length self.now.cast.readers.items) (length self.now.spares.items)
+            → option_map refusal_of result ≡ first_refusal w line.now }
+    {
+        why_refused(
+            self.carrier.posts.as_slice(),
+            self.cast.apps.len(),
+            self.cast.readers.len(),
+            self.spares.len(),
+            line,
+        )
+    }
+
     /// An application is asked for an edit.
     fn ask_edit(&mut self, app: u32, edit: &Edit) -> Result<(), ActFault>
         requires edit { IsEdit edit.now }

@@ -4,31 +4,10 @@ ghost use Rattle.std.specs.Prelude.{◌≡◌};
 ghost use Rattle.atspi_stage.specs.Faults.{of_carry, of_sent, of_app, of_call};
 
 use atspi_carrying::CarryFault;
-use atspi_forest::EditFault;
+use atspi_cast::Refusal;
 use atspi_posts::SendFault;
 use atspi_stage_ends::{AppFault, CallFault};
 use thiserror::Error;
-
-/// Why a line of a script is refused, in the order in which it is looked for.
-#[derive(Clone, Copy, Debug, PartialEq, Eq, Error)]
-pub enum Refusal {
-    #[error("a party was not started")]
-    NoParty,
-    #[error("a party stopped")]
-    Dead,
-    #[error("16 applications were started")]
-    NoKit,
-    #[error("4 readers were started")]
-    NoReader,
-    #[error("all spare faces are used")]
-    NoSpare,
-    #[error("an end was started before")]
-    Late,
-    #[error("the application is not held")]
-    NotHeld,
-    #[error("the edit is refused: {0}")]
-    Edit(EditFault),
-}
 
 /// Why a line is not done. Behind any but a refusal the world is not used again.
 #[derive(Clone, Copy, Debug, PartialEq, Eq, Error)]

@@ -2,18 +2,14 @@
 #![tactic(auto)]
 
 mod acting;
-mod cast;
 mod doing;
 mod fault;
 mod getting;
-mod places;
-mod refusing;
 mod showing;
 mod stage;
 mod starting;
-mod telling;
 mod turning;
 mod wires;
 
-pub use fault::{ActFault, Refusal};
+pub use fault::ActFault;
 pub use stage::Stage;

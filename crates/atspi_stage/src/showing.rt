@@ -1,69 +1,25 @@
 //! What a reader shows of an application.
 
-ghost use Rattle.std.specs.Prelude.{◌≡◌, ℕ, map, length, slice_get, Some, All, IfOk, OnOk};
+ghost use Rattle.std.specs.Prelude.{◌≡◌, ℕ, map, length, slice_get, Some, OnOk};
 ghost use Rattle.atspi_bus_steps.specs.Inner.{inner_of, state_of};
 ghost use Rattle.atspi_lines.specs.declared.line.Party.TheVariants as parties;
 ghost use Rattle.atspi_trace.specs.Ends.{conn_of};
 ghost use Rattle.atspi_trace.specs.Causes.{shows};
 ghost use Rattle.atspi_play.specs.Playing.{Playing};
 ghost use Rattle.atspi_play.specs.Plays.{plays};
-ghost use Rattle.atspi_stage.specs.Places as places;
-ghost use Rattle.atspi_stage.specs.Shown.{shown_by, row_total};
+ghost use Rattle.atspi_cast.specs.Places as places;
+ghost use Rattle.atspi_cast.specs.Shown.{shown_by, row_total};
+ghost use Rattle.atspi_cast.specs.Wires.{name_if};
 ghost use Rattle.atspi_stage.specs.Stage.{IsStage};
-ghost use Rattle.atspi_stage.specs.Wires.{name_if};
 ghost use Rattle.atspi_stage.specs.Worlds.{staged, Happens, IsPlaying};
 
-use crate::places::post_of;
 use crate::stage::Stage;
 use atspi_base::NoMemory;
-use atspi_carrying::note;
-use atspi_events::{Event, Shown};
+use atspi_cast::{count_at, post_of, shown_at};
+use atspi_events::Event;
 use atspi_lines::Party;
-use atspi_posts::Post;
-use atspi_showing::{count_rows, shown_rows};
+use atspi_posts::note;
 use atspi_stage_ends::{Application, Follower};
-use std::alloc::Global;
-
-/// What a reader shows of the application at a connection, none where it does not hold it.
-fn shown_at<R: Follower>(
-    alloc: Global,
-    readers: &[R],
-    number: u32,
-    post: &Post,
-) -> Result<Option<Shown>, NoMemory>
-    requires { All R.is_follower readers.now }
-    ensures { IfOk result (λ shown. shown ≡ shown_by (slice_get (map R.follower readers.now) number) post.now.name) }
-{
-    let place = number as usize;
-    if place >= readers.len() {
-        return Ok(None);
-    }
-    match &post.name {
-        None => Ok(None),
-        Some(name) => match readers[place].view(name) {
-            None => Ok(None),
-            Some(rows) => Ok(Some(shown_rows(alloc, rows)?)),
-        },
-    }
-}
-
-/// How many rows a reader holds of the application at a connection. Takes no memory.
-fn count_at<R: Follower>(readers: &[R], number: u32, post: &Post) -> usize
-    requires { All R.is_follower readers.now }
-    ensures { result ≡ row_total (shown_by (slice_get (map R.follower readers.now) number) post.now.name) }
-{
-    let place = number as usize;
-    if place >= readers.len() {
-        return 0;
-    }
-    match &post.name {
-        None => 0,
-        Some(name) => match readers[place].view(name) {
-            None => 0,
-            Some(rows) => count_rows(rows),
-        },
-    }
-}
 
 impl<A: Application, R: Follower> Stage<A, R> {
     /// How many rows a reader holds of an application, 0 where it does not hold it or one of them was not started. Takes no memory.

@@ -3,8 +3,8 @@
 ghost use Rattle.std.specs.Prelude.{◌≡◌, slice_get};
 ghost use Rattle.std.specs.Option.{option_copied};
 
-use crate::cast::Cast;
 use atspi_carrying::Carrier;
+use atspi_cast::Cast;
 use atspi_events::Event;
 use atspi_stage_ends::{Application, Follower};
 

@@ -1,6 +1,6 @@
 //! The beginning of a world, and the starts of ends.
 
-ghost use Rattle.std.specs.Prelude.{◌≡◌, ◌<◌, ◌≤◌, ℕ, suc, [], length, All, IfOk, IfSome, IsErrOf, OnOk};
+ghost use Rattle.std.specs.Prelude.{◌≡◌, ◌<◌, ◌≤◌, ℕ, suc, [], length, All, IfOk, IsErrOf, OnOk};
 ghost use Rattle.atspi_forest.specs.Row.{IsName};
 ghost use Rattle.atspi_lines.specs.declared.limits.TheConstants.{APP_COUNT, QUOTA_LEAST, QUOTA_MOST};
 ghost use Rattle.atspi_protocol.specs.registering.RegistryState.{begins};
@@ -13,60 +13,23 @@ ghost use Rattle.atspi_trace.specs.Ends.{app_count, reader_count};
 ghost use Rattle.atspi_trace.specs.Causes.{renews, starts_app, starts_reader};
 ghost use Rattle.atspi_trace.specs.Work.{spare_count};
 ghost use Rattle.atspi_carrying.specs.Beginning.{IsHeard};
-ghost use Rattle.atspi_stage.specs.Hearing.{HearsFront, HearsOff, HearsAt, HearsAll};
+ghost use Rattle.atspi_stage.specs.Hearing.{HearsAll};
 ghost use Rattle.atspi_stage.specs.Stage.{IsStage};
 ghost use Rattle.atspi_stage.specs.Worlds.{staged, Happens, IsBegun, IsPlaying};
 
-use crate::cast::Cast;
-use crate::getting::{tell_app_at, tell_first, tell_reader_at};
 use crate::stage::Stage;
 use atspi_base::Text;
-use atspi_carrying::{Carrier, CarryFault, note};
+use atspi_carrying::{Carrier, CarryFault};
+use atspi_cast::{Cast, hear_at, tell_app_at, tell_first, tell_reader_at};
 use atspi_events::Event;
 use atspi_lines::{Party, QUOTA_MOST};
-use atspi_posts::{Link, first_message};
+use atspi_posts::note;
 use atspi_registry::Registry;
 use atspi_stage_ends::{Application, Follower};
 use std::alloc::Global;
 
 /// How many messages the registry takes at its start at most.
 const START_TURNS: u32 = 64;
-
-/// The registry takes the message that the bytes at it begin with, if they begin with one; answers how many bytes it had. It says nothing to one of its
-/// start, and nothing of that is told.
-fn hear_front(registry: &mut Registry, at_end: &Link) -> Result<Option<usize>, CarryFault>
-    ensures within { IfOk result (λ len. IfSome len (λ n. n ≤ length at_end.now)) }
-    ensures hears { IfOk result (λ len. HearsFront at_end.now registry.old registry.new len) }
-{
-    match first_message(at_end.as_slice()) {
-        None => Ok(None),
-        Some(first) => match registry.take(&first.message) {
-            Ok(()) => Ok(Some(first.len)),
-            Err(fault) => Err(CarryFault::from(fault)),
-        },
-    }
-}
-
-/// The same; what it took is gone.
-fn hear(registry: &mut Registry, at_end: &mut Link) -> Result<(), CarryFault>
-    ensures hears { OnOk result (HearsOff at_end.old at_end.new registry.old registry.new) }
-{
-    if let Some(len) = hear_front(registry, at_end)? {
-        at_end.pop(len);
-    }
-    Ok(())
-}
-
-/// The same at the end of a connection, if it is there.
-fn hear_at(registry: &mut Registry, at_end: &mut [Link], conn: u32) -> Result<(), CarryFault>
-    ensures hears { OnOk result (HearsAt at_end.old at_end.new conn registry.old registry.new) }
-{
-    let place = conn as usize;
-    if place >= at_end.len() {
-        return Ok(());
-    }
-    hear(registry, &mut at_end[place])
-}
 
 /// The registry takes all that waits for it: what the bus returns to the calls of its start. Those are fewer than 64 messages.
 fn hear_all(carrier: &mut Carrier, registry: &mut Registry, conn: u32) -> Result<(), CarryFault>

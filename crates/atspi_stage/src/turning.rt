@@ -7,16 +7,17 @@ ghost use Rattle.atspi_play.specs.Plays.{plays};
 ghost use Rattle.atspi_trace.specs.Causes.{Cause};
 ghost use Rattle.atspi_trace.specs.Work as work;
 ghost use Rattle.atspi_trace.specs.Work.{next_turn};
+ghost use Rattle.atspi_carrying.specs.Waits.{turn_of};
 ghost use Rattle.atspi_stage.specs.Halts.{IsLostBy, IsSpentBy, ManyTurns, WorkLost, WorkSpent};
 ghost use Rattle.atspi_stage.specs.Lines.{IsSegment, WorkDone};
 ghost use Rattle.atspi_stage.specs.Stage.{IsStage};
-ghost use Rattle.atspi_carrying.specs.Waits.{turn_of};
 ghost use Rattle.atspi_stage.specs.Turns.{TurnsMade};
 ghost use Rattle.atspi_stage.specs.Worlds.{staged, Happens, IsPlaying};
 
 use crate::stage::Stage;
-use atspi_carrying::{CarryFault, Turn, note};
+use atspi_carrying::{CarryFault, Turn};
 use atspi_events::Event;
+use atspi_posts::note;
 use atspi_stage_ends::{Application, Follower};
 
 /// How many turns a drain makes at most: more than messages can be taken, since each of 22 parties takes each message of a serial at most once.

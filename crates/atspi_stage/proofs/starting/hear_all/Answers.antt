@@ -5,7 +5,7 @@ use Rattle.atspi_carrying.specs.Filled.{waits_for}
 use Rattle.atspi_carrying.proofs.Beginning.{gave_none, gave_more}
 use Rattle.atspi_stage.proofs.Beginning.{none_left}
 use Rattle.atspi_stage.proofs.Hearing.{nothing_heard, at_as, more_heard, all_heard, heard_as}
-use Rattle.atspi_stage.proofs.Queued.{written_back}
+use Rattle.atspi_cast.proofs.Queued.{written_back}
 use Rattle.atspi_stage.proofs.starting.hear_all.Goals as goal
 
 pub loop-message-init : goal.loop-message-init

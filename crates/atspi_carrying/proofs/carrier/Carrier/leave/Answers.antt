@@ -1,5 +1,5 @@
 use Rattle.std.proofs.Common.{map, ap, ◌∙◌}
-use Rattle.atspi_carrying.specs.Changes.{changed_at}
+use Rattle.atspi_posts.specs.Changes.{changed_at}
 use Rattle.atspi_carrying.specs.Told.{gone, party_in, whose}
 use Rattle.atspi_carrying.proofs.carrier.Carrier.leave.Goals as goal
 

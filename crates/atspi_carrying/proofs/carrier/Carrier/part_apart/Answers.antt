@@ -7,7 +7,7 @@ use Rattle.atspi_trace.specs.Entry.{entries_of}
 use Rattle.atspi_trace.specs.Causes.{does, unjoins}
 use Rattle.atspi_carrying.specs.Halted.{naming_of}
 use Rattle.atspi_carrying.specs.Told.{all_emptied, bus_told, gone, whose}
-use Rattle.atspi_carrying.proofs.Changes.{map-kept}
+use Rattle.atspi_posts.proofs.Changes.{map-kept}
 use Rattle.atspi_carrying.proofs.Linked.{parted_linked}
 use Rattle.atspi_carrying.proofs.Staying.{Stands, there_of, stands_closed, stopped_gone}
 use Rattle.atspi_carrying.specs.declared.fault.CarryFault.TheVariants.{Spent, RegistryLost}

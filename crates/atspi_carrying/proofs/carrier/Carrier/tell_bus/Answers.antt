@@ -9,7 +9,7 @@ use Rattle.atspi_trace.specs.Entry.{entries_of}
 use Rattle.atspi_trace.specs.Ends.{same_party}
 use Rattle.atspi_carrying.specs.Halted.{naming_of}
 use Rattle.atspi_carrying.specs.Told.{ahead, AreOthers, all_emptied, all_gone, bus_told, gone, party_in, whose}
-use Rattle.atspi_carrying.proofs.Changes.{map-kept}
+use Rattle.atspi_posts.proofs.Changes.{map-kept}
 use Rattle.atspi_carrying.proofs.Telling.{bus_more, closing_last, closing_more}
 use Rattle.atspi_carrying.proofs.carrier.Carrier.tell_bus.Goals as goal
 

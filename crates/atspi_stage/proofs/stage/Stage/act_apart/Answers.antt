@@ -2,7 +2,7 @@ use Rattle.std.proofs.Common.{Some, ap, ◌∙◌, length, sym}
 use Rattle.std.proofs.lemmas.List.{length-map}
 use Rattle.std.proofs.lemmas.Option.{same_Some}
 use Rattle.std.proofs.lemmas.Result.{on_ok_weaker}
-use Rattle.atspi_stage.specs.Refusals.{refusal_of}
+use Rattle.atspi_cast.specs.Refusals.{refusal_of}
 use Rattle.atspi_stage.proofs.Outcomes.{first_refused, not_first, same_why, refuses_of}
 use Rattle.atspi_stage.proofs.stage.Stage.act_apart.Goals as goal
 

@@ -4,7 +4,7 @@ use Rattle.atspi_protocol.specs.exporting.Exporter.{begins}
 use Rattle.atspi_protocol.specs.exporting.Starting.{starts}
 use Rattle.atspi_trace.specs.Entry.{started}
 use Rattle.atspi_stage.proofs.Joining.{app_start, begun_is, counted, pushed_is}
-use Rattle.atspi_stage.proofs.Queued.{written_back, tells_as}
+use Rattle.atspi_cast.proofs.Queued.{written_back, tells_as}
 use Rattle.atspi_stage.proofs.stage.Stage.add_app.Goals as goal
 
 pub returns-clause-does : goal.returns-clause-does

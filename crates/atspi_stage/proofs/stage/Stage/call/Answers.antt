@@ -3,14 +3,14 @@ use Rattle.atspi_bus_steps.specs.Inner.{inner_of}
 use Rattle.atspi_carrying.proofs.Ties.{post_is}
 use Rattle.std.proofs.lemmas.Option.{get_or_from_slice_get, slice_get_within}
 use Rattle.atspi_trace.specs.Work.{name_of, not_held}
-use Rattle.atspi_stage.specs.Doing.{CallsAt}
-use Rattle.atspi_stage.specs.Halts.{CallSpends}
-use Rattle.atspi_stage.specs.Refusals.{CallIsRefused}
+use Rattle.atspi_cast.specs.Doing.{CallsAt}
+use Rattle.atspi_cast.specs.Asked.{CallSpends, CallIsRefused}
 use Rattle.atspi_stage.proofs.Calling.{call_world}
 use Rattle.atspi_stage.proofs.Reasons.{call_why}
-use Rattle.atspi_stage.proofs.Queued.{written_back, tells_reader_as}
-use Rattle.atspi_stage.proofs.ElementsSpent.{call_accepted}
-use Rattle.atspi_stage.proofs.Faults.{given_is, call_was_spent}
+use Rattle.atspi_cast.proofs.Queued.{written_back, tells_reader_as}
+use Rattle.atspi_cast.proofs.ElementsSpent.{call_accepted}
+use Rattle.atspi_cast.proofs.Faults.{given_is}
+use Rattle.atspi_stage.proofs.Faults.{call_was_spent}
 use Rattle.atspi_stage.proofs.Spending.{call_spent}
 use Rattle.atspi_stage.proofs.stage.Stage.call.Goals as goal
 

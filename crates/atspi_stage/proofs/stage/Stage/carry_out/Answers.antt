@@ -1,8 +1,9 @@
 use Rattle.std.proofs.Common.{Err, sym, ap, ◌∙◌}
 use Rattle.atspi_play.specs.Played.{refused}
-use Rattle.atspi_stage.specs.Refusals.{first_refusal}
+use Rattle.atspi_cast.specs.Refusals.{first_refusal}
 use Rattle.atspi_stage.proofs.Lined.{line_else}
-use Rattle.atspi_stage.proofs.Faults.{err_is, was_lost, was_spent}
+use Rattle.atspi_cast.proofs.Faults.{err_is}
+use Rattle.atspi_stage.proofs.Faults.{was_lost, was_spent}
 use Rattle.atspi_stage.proofs.Halted.{with_told}
 use Rattle.atspi_stage.proofs.LinesHalted.{spent_as}
 use Rattle.atspi_stage.proofs.stage.Stage.carry_out.Goals as goal

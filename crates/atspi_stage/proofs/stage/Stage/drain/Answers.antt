@@ -3,7 +3,7 @@ use Rattle.atspi_trace.specs.Work.{draining}
 use Rattle.atspi_stage.proofs.Parts.{none_done}
 use Rattle.atspi_stage.proofs.TurnsMade.{finds_as, drained_more, quiet_told}
 use Rattle.atspi_stage.specs.Halts.{IsLostBy, IsSpentBy, WorkLost, WorkSpent}
-use Rattle.atspi_stage.proofs.Faults.{given_is}
+use Rattle.atspi_cast.proofs.Faults.{given_is}
 use Rattle.atspi_stage.proofs.Halted.{then_lost, then_spent}
 use Rattle.atspi_stage.proofs.TurnsHalted.{drained_broken, none_made, one_made, many_made}
 use Rattle.atspi_stage.proofs.stage.Stage.drain.Goals as goal

@@ -1,13 +1,13 @@
 use Rattle.std.proofs.Common.{Err, Some, map, refl, sym, ap, ◌∙◌, subst, arith}
 use Rattle.atspi_trace.specs.Work.{of_edit}
-use Rattle.atspi_stage.specs.Doing.{EditsAt}
-use Rattle.atspi_stage.specs.Halts.{EditSpends}
-use Rattle.atspi_stage.specs.Refusals.{EditIsRefused}
-use Rattle.atspi_stage.proofs.Queued.{written_back, tells_as}
+use Rattle.atspi_cast.specs.Doing.{EditsAt}
+use Rattle.atspi_cast.specs.Asked.{EditSpends, EditIsRefused}
+use Rattle.atspi_cast.proofs.Queued.{written_back, tells_as}
 use Rattle.atspi_stage.proofs.Reasons.{edit_why}
 use Rattle.atspi_stage.proofs.Sayings.{edit_world}
-use Rattle.atspi_stage.proofs.ElementsSpent.{edit_accepted}
-use Rattle.atspi_stage.proofs.Faults.{given_is, edit_was_spent}
+use Rattle.atspi_cast.proofs.ElementsSpent.{edit_accepted}
+use Rattle.atspi_cast.proofs.Faults.{given_is}
+use Rattle.atspi_stage.proofs.Faults.{edit_was_spent}
 use Rattle.atspi_stage.proofs.Spending.{edit_spent}
 use Rattle.atspi_stage.proofs.stage.Stage.edit.Goals as goal
 

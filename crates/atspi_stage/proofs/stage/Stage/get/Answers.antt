@@ -1,5 +1,5 @@
 use Rattle.std.proofs.Common.{refl, sym, arith}
-use Rattle.atspi_stage.proofs.Queued.{written_back}
+use Rattle.atspi_cast.proofs.Queued.{written_back}
 use Rattle.atspi_stage.proofs.Tellings.{got_so, takes_as, tells_as_posts}
 use Rattle.atspi_stage.proofs.stage.Stage.get.Goals as goal
 

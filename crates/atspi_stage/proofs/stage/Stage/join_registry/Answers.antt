@@ -1,7 +1,7 @@
 use Rattle.std.proofs.Common.{◌≡◌, length, sym, ap, ◌∙◌, arith}
 use Rattle.std.specs.Prelude.{vec_items, take}
 use Rattle.atspi_bus_steps.specs.Inner.{inner_of}
-use Rattle.atspi_stage.proofs.Queued.{written_back}
+use Rattle.atspi_cast.proofs.Queued.{written_back}
 use Rattle.atspi_stage.proofs.Beginning.{begun_so, begins_as, first_as}
 use Rattle.atspi_stage.proofs.stage.Stage.join_registry.Goals as goal
 

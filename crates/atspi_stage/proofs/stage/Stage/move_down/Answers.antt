@@ -1,6 +1,6 @@
 use Rattle.std.proofs.Common.{Err, sym, ap, ◌∙◌, arith}
 use Rattle.atspi_stage.proofs.DownwardSteps.{moved_none, goes_down, goes_on, goes_no_more, moved_all, is_there, moved_away}
-use Rattle.atspi_stage.proofs.Faults.{given_is}
+use Rattle.atspi_cast.proofs.Faults.{given_is}
 use Rattle.atspi_stage.proofs.GotMessages.{gets_as}
 use Rattle.atspi_stage.proofs.Halted.{with_told}
 use Rattle.atspi_stage.proofs.DownwardHalted.{goes_spent, spends_as}

@@ -1,27 +1,12 @@
-use Rattle.std.proofs.Common.{◌≡◌, ◌+◌, ◌∙◌, ap, subst, sym, arith}
-use Rattle.atspi_lines.specs.declared.line.Party.TheVariants.{App, Reader}
-use Rattle.atspi_trace.specs.Ends.{end_of}
-use Rattle.atspi_stage.specs.Refusals.{first_refusal, HaveSeats}
-use Rattle.atspi_stage.proofs.Seats.{call-exact, show-exact, swap-exact}
+use Rattle.std.proofs.Common.{◌≡◌, ◌∙◌, length, arith}
+use Rattle.std.specs.Prelude.{vec_len}
+use Rattle.atspi_stage.proofs.Outcomes.{same_of}
 use Rattle.atspi_stage.proofs.stage.Stage.refusal.Goals as goal
 
-pub returns-in-Call-clause-exact : goal.returns-in-Call-clause-exact
-returns-in-Call-clause-exact g c = λ w is.
-    let seats : HaveSeats w.ends c.as_slice-posts.result.now = subst (λ ps. HaveSeats w.ends ps) (sym c.as_slice-posts.ensures.value) is.seats in
-    call-exact _ _ _ _ _ (end_of w.ends (Reader c.in-Call.reader)) (end_of w.ends (App c.in-Call.app)) c.either-in-Call.ensures c.either.ensures
-    (c.unless_started.ensures w.ends seats) (c.unless_started-in-Call.ensures w.ends seats) (c.unless_here-in-Call.ensures w.ends seats)
-    ∙ ap (first_refusal w) (sym c.in-Call.is)
-
-pub returns-in-Swap-clause-exact : goal.returns-in-Swap-clause-exact
-returns-in-Swap-clause-exact g c = λ w is.
-    let seats : HaveSeats w.ends c.as_slice-posts.result.now = subst (λ ps. HaveSeats w.ends ps) (sym c.as_slice-posts.ensures.value) is.seats in
-    let left : w.swaps + c.len-in-Swap.result ≡ 16 = omega (arith, is.spares_are, c.len-in-Swap.ensures) in
-    swap-exact _ _ _ _ (end_of w.ends (App c.in-Swap.app)) c.either-in-Swap.ensures (c.unless_here-in-Swap.ensures w.ends seats) (c.unless_spare.ensures w.swaps left)
-    ∙ ap (first_refusal w) (sym c.in-Swap.is)
-
-pub returns-in-Show-clause-exact : goal.returns-in-Show-clause-exact
-returns-in-Show-clause-exact g c = λ w is.
-    let seats : HaveSeats w.ends c.as_slice-posts.result.now = subst (λ ps. HaveSeats w.ends ps) (sym c.as_slice-posts.ensures.value) is.seats in
-    show-exact _ _ _ (end_of w.ends (Reader c.in-Show.reader)) (end_of w.ends (App c.in-Show.app)) c.either-in-Show.ensures
-    (c.unless_started-in-Show.ensures w.ends seats) (c.unless_started-in-Show-2.ensures w.ends seats)
-    ∙ ap (first_refusal w) (sym c.in-Show.is)
+pub returns-clause-exact : goal.returns-clause-exact
+returns-clause-exact g c =
+    let s = c.args.self.now in
+    let apps : vec_len s.cast.apps ≡ length s.cast.apps.items = omega (arith, s.cast.apps.ok.0) in
+    let readers : vec_len s.cast.readers ≡ length s.cast.readers.items = omega (arith, s.cast.readers.ok.0) in
+    let spares : vec_len s.spares ≡ length s.spares.items = omega (arith, s.spares.ok.0) in
+    λ w is. c.why_refused.ensures.exact w (same_of w _ _ _ _ _ _ _ _ c.as_slice.ensures.value (c.len.ensures ∙ apps) (c.len-2.ensures ∙ readers) (c.len-3.ensures ∙ spares) is)

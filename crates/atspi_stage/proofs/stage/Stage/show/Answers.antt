@@ -4,7 +4,7 @@ use Rattle.std.proofs.lemmas.Result.{on_ok_weaker}
 use Rattle.atspi_bus_steps.specs.Inner.{inner_of}
 use Rattle.atspi_carrying.proofs.Ties.{post_is, post_below}
 use Rattle.atspi_lines.specs.declared.line.Party.TheVariants.{App}
-use Rattle.atspi_stage.specs.Shown.{shown_by}
+use Rattle.atspi_cast.specs.Shown.{shown_by}
 use Rattle.atspi_stage.proofs.Conns.{conn_end}
 use Rattle.atspi_stage.proofs.Shows.{shown_as}
 use Rattle.atspi_stage.proofs.stage.Stage.show.Goals as goal

@@ -3,7 +3,7 @@ use Rattle.atspi_lines.specs.declared.line.Party.TheVariants.{Reader}
 use Rattle.atspi_protocol.specs.following.Takes.{starts}
 use Rattle.atspi_trace.specs.Entry.{started}
 use Rattle.atspi_stage.proofs.Joining.{reader_start, begun_is, counted, pushed_is}
-use Rattle.atspi_stage.proofs.Queued.{written_back, tells_reader_as}
+use Rattle.atspi_cast.proofs.Queued.{written_back, tells_reader_as}
 use Rattle.atspi_stage.proofs.stage.Stage.start_reader.Goals as goal
 
 pub returns-clause-does : goal.returns-clause-does

@@ -2,7 +2,7 @@ use Rattle.std.proofs.Common.{map, refl, sym, ap, ◌∙◌, append-nil, arith}
 use Rattle.atspi_trace.specs.Causes.{does, swaps_face}
 use Rattle.atspi_trace.specs.Entry.{entries_of}
 use Rattle.atspi_stage.proofs.Results.{ok_any}
-use Rattle.atspi_stage.proofs.Queued.{written_back}
+use Rattle.atspi_cast.proofs.Queued.{written_back}
 use Rattle.atspi_stage.proofs.Stays.{only_happens, swap_world}
 use Rattle.atspi_stage.proofs.stage.Stage.swap.Goals as goal
 

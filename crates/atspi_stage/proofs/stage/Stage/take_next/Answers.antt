@@ -1,5 +1,5 @@
 use Rattle.std.proofs.Common.{Err, ap, ◌∙◌}
-use Rattle.atspi_stage.proofs.Faults.{given_is}
+use Rattle.atspi_cast.proofs.Faults.{given_is}
 use Rattle.atspi_stage.proofs.GotMessages.{next_got, gets_as}
 use Rattle.atspi_stage.proofs.Spending.{next_spent}
 use Rattle.atspi_stage.proofs.DownwardHalted.{spends_as}

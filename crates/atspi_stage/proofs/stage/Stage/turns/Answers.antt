@@ -1,7 +1,7 @@
 use Rattle.std.proofs.Common.{Err, sym, ap, arith}
 use Rattle.atspi_stage.proofs.TurnsMade.{finds_as, finds_so, turned_none, turned_more, made_some, made_all, made_as}
 use Rattle.atspi_stage.specs.Halts.{IsLostBy, IsSpentBy, WorkLost, WorkSpent}
-use Rattle.atspi_stage.proofs.Faults.{given_is}
+use Rattle.atspi_cast.proofs.Faults.{given_is}
 use Rattle.atspi_stage.proofs.Halted.{then_lost, then_spent}
 use Rattle.atspi_stage.proofs.TurnsHalted.{turned_broken}
 use Rattle.atspi_stage.proofs.stage.Stage.turns.Goals as goal

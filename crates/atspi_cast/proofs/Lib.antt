@@ -1,0 +1,12 @@
+pub mod Elements
+pub mod ElementsSpent
+pub mod Faults
+pub mod Found
+pub mod Heard
+pub mod Queued
+pub mod Reasons
+pub mod RegistryTold
+pub mod Seats
+pub mod Tellings
+pub mod ToldAll
+pub mod Wholes

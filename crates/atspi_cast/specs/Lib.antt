@@ -1,0 +1,9 @@
+pub mod Asked
+pub mod Doing
+pub mod Hearing
+pub mod Places
+pub mod Refusals
+pub mod Shown
+pub mod Spending
+pub mod Taken
+pub mod Wires
