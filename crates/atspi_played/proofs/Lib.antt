@@ -77,3 +77,13 @@ pub mod SeeingWords
 pub mod PlayingBroken
 pub mod PlayingDropped
 pub mod AllPieces
+pub mod Serials
+pub mod OwnLinks
+pub mod OwnTurns
+pub mod Counting
+pub mod Pairs
+pub mod Parties
+pub mod LawFew
+pub mod TurnsTaken
+pub mod WithoutEnd
+pub mod PlayedTurns

@@ -18,8 +18,8 @@ use Rattle.atspi_play.specs.Breaking.{does_next, IsLostAt, IsSpentAt}
 use Rattle.atspi_carrying.specs.Halted.{HaveNames}
 use Rattle.atspi_stage.specs.Worlds.{Staged, IsPlaying}
 use Rattle.atspi_stage.specs.Lines.{IsLineDone}
-use Rattle.atspi_few_turns.specs.Laws.{IsUnspent}
-use Rattle.atspi_few_turns.proofs.PlayedTurns.{drains_end}
+use Rattle.atspi_played.specs.Turns.{IsUnspent}
+use Rattle.atspi_played.proofs.PlayedTurns.{drains_end}
 use Rattle.atspi_stage.specs.Halts.{ManyTurns, WorkSpent}
 use Rattle.atspi_cast.specs.Refusals.{refusal_of}
 use Rattle.atspi_replay.specs.declared.naming.Halt.{Halt}

@@ -3,7 +3,7 @@ use Rattle.std.proofs.Common.{◌≡◌, ◌<◌, ◌≤◌, ◌+◌, ℕ, get_o
 use Rattle.std.specs.List.{AllByRecursion}
 use Rattle.std.proofs.lemmas.List.{take_all, take_more}
 use Rattle.atspi_events.specs.declared.event.Event.{Event}
-use Rattle.atspi_few_turns.specs.Laws.{IsUnspent}
+use Rattle.atspi_played.specs.Turns.{IsUnspent}
 use Rattle.atspi_trace.specs.Entry.{Entry, entry_of, entries_of}
 use Rattle.atspi_replay.proofs.Wiring.{all_entries}
 

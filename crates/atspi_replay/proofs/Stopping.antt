@@ -19,8 +19,8 @@ use Rattle.atspi_trace.specs.Work.{edit_refusal, if_here, if_started, no_party, 
 use Rattle.atspi_trace.specs.Due.{Lawful}
 use Rattle.atspi_posts.proofs.Changes.{get-map}
 use Rattle.atspi_lawful.specs.order.Scripts.{CanAllStand}
-use Rattle.atspi_few_turns.specs.Laws.{IsUnspent}
-use Rattle.atspi_few_turns.proofs.PlayedTurns.{drains_end}
+use Rattle.atspi_played.specs.Turns.{IsUnspent}
+use Rattle.atspi_played.proofs.PlayedTurns.{drains_end}
 use Rattle.atspi_play.specs.Breaking.{IsLostAt, IsSpentAt}
 use Rattle.atspi_play.specs.Played as playing
 use Rattle.atspi_stage.specs.declared.fault.ActFault.{ActFault}

@@ -6,7 +6,7 @@ use Rattle.atspi_base.specs.Outside.{Rose, AppendsPart}
 use Rattle.atspi_events.specs.declared.options.TraceOptions.{TraceOptions}
 use Rattle.atspi_lines.specs.declared.line.Line.{Line}
 use Rattle.atspi_lines.specs.Line.{Spells}
-use Rattle.atspi_few_turns.specs.Laws.{IsUnspent}
+use Rattle.atspi_played.specs.Turns.{IsUnspent}
 use Rattle.atspi_trace.specs.Entry.{entries_of}
 use Rattle.atspi_stage.specs.Worlds.{Staged}
 use Rattle.atspi_stage.specs.Lines.{LineDone}

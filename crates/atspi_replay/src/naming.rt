@@ -2,7 +2,7 @@
 
 ghost use Rattle.std.specs.Prelude.{◌≡◌, ℕ, List, Err};
 ghost use Rattle.std.specs.List.{AllByRecursion};
-ghost use Rattle.atspi_few_turns.specs.Laws.{IsUnspent};
+ghost use Rattle.atspi_played.specs.Turns.{IsUnspent};
 ghost use Rattle.atspi_trace.specs.Entry.{entries_of};
 ghost use Rattle.atspi_lines.specs.declared.line.Line.{Line};
 ghost use Rattle.atspi_lines.specs.Line.{ReadsLine, Spells};

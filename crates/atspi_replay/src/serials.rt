@@ -2,7 +2,7 @@
 //! end, once a run.
 
 ghost use Rattle.std.specs.List.{AllByRecursion};
-ghost use Rattle.atspi_few_turns.specs.Laws.{IsUnspent};
+ghost use Rattle.atspi_played.specs.Turns.{IsUnspent};
 ghost use Rattle.atspi_trace.specs.Entry.{entries_of, entry_of};
 
 use atspi_events::Event;

@@ -1,6 +1,6 @@
 use Rattle.std.proofs.Common.{take}
 use Rattle.std.specs.List.{AllByRecursion}
-use Rattle.atspi_few_turns.specs.Laws.{IsUnspent}
+use Rattle.atspi_played.specs.Turns.{IsUnspent}
 use Rattle.atspi_trace.specs.Entry.{entries_of}
 use Rattle.atspi_replay.proofs.serials.all_fit.Given as goal
 

@@ -1,6 +1,6 @@
 //! Laws of how often messages are taken, of each front of a lawful trace too.
 
-ghost use Rattle.atspi_few_turns.specs.Laws.{DrainsEnd, NoTurnsWithoutEnd, TurnsAreFew, TurnsTake};
+ghost use Rattle.atspi_played.specs.Turns.{DrainsEnd, NoTurnsWithoutEnd, TurnsAreFew, TurnsTake};
 
 /// As long as no serial needs more than 32 bits, no more messages are taken than 22 · 22 · 2^32: none of 22 parties takes a message of another twice.
 pub fn turns_are_few()

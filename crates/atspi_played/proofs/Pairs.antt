@@ -12,8 +12,8 @@ use Rattle.atspi_lawful.specs.turns.Laws.{IsEarlier}
 use Rattle.atspi_lawful.proofs.OfOrder.Parties.{same-party}
 use Rattle.atspi_lawful.proofs.OfTurns.Rising.{Rises, higher, rises_last}
 use Rattle.atspi_lawful.proofs.OfTurns.Turning.{add, count_more}
-use Rattle.atspi_few_turns.proofs.Serials.{serial_if, serials, serials_more, rises_below, rises_length}
-use Rattle.atspi_few_turns.proofs.Counting.{GotFits}
+use Rattle.atspi_played.proofs.Serials.{serial_if, serials, serials_more, rises_below, rises_length}
+use Rattle.atspi_played.proofs.Counting.{GotFits}
 
 -- what was taken of it earlier has lower serials
 pub earlier_below : (who from : Party) (s : ℕ) (es : List Entry) → AllByRecursion (IsEarlier who from s) es → AllByRecursion (λ x. x < s) (serials who from es)

@@ -29,9 +29,9 @@ use Rattle.atspi_played.proofs.AllPieces.{pieces}
 use Rattle.atspi_played.proofs.Playing.{played_stage, is_lawful}
 use Rattle.atspi_played.proofs.PlayingStage.{ground}
 use Rattle.atspi_play.specs.Breaking.{PlayedTurns}
-use Rattle.atspi_few_turns.specs.Laws.{count_taken, IsUnspent}
-use Rattle.atspi_few_turns.proofs.LawFew.{turns_are_few}
-use Rattle.atspi_few_turns.proofs.Turns.{TurnOf, bus_takes_, end_leaves, end_takes, turn_of, is_stopped, stopped_count, at_most, over_fewer, all_fewer, Takes, got_does, turn_does, asked_fewer, count_more}
+use Rattle.atspi_played.specs.Turns.{count_taken, IsUnspent}
+use Rattle.atspi_played.proofs.LawFew.{turns_are_few}
+use Rattle.atspi_played.proofs.TurnsTaken.{TurnOf, bus_takes_, end_leaves, end_takes, turn_of, is_stopped, stopped_count, at_most, over_fewer, all_fewer, Takes, got_does, turn_does, asked_fewer, count_more}
 
 -- A READER'S OWN CALLS stop nobody
 up_to : (a b c : ℕ) → a ≤ b → b ≤ c → a ≤ c

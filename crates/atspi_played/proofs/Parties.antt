@@ -24,7 +24,7 @@ use Rattle.atspi_lawful.specs.order.Scripts.{CanAllStand}
 use Rattle.atspi_lawful.specs.laws.Words.{messages, with_serial, starts_it, stops_it, is_live}
 use Rattle.atspi_lawful.specs.laws.NineLaws.{WasSent}
 use Rattle.atspi_lawful.specs.living.Laws.{ActsAlive}
-use Rattle.atspi_few_turns.specs.Laws.{IsUnspent}
+use Rattle.atspi_played.specs.Turns.{IsUnspent}
 use Rattle.atspi_lawful.proofs.OfOrder.Parties.{false_true, same-party, all_append, all_front, all_back}
 use Rattle.atspi_lawful.proofs.OfOrder.Effects.{received, Effect, resets, app_joins, reader_joins, app_edited, app_took, reader_called, swapped, exited_, showed_, told_busy, told_quiet, bus_took, bus_ended, registry_took, reader_took}
 use Rattle.atspi_lawful.proofs.OfOrder.Along.{kept}
@@ -33,7 +33,7 @@ use Rattle.atspi_lawful.proofs.OfOrder.BusWords.{bus_all, all_any}
 use Rattle.atspi_lawful.proofs.OfHeard.Quiet.{heard_all}
 use Rattle.atspi_lawful.proofs.OfLiving.Living.{who_acts_is_live}
 use Rattle.atspi_lawful.proofs.OfDelivered.LawLinks.{links_hold}
-use Rattle.atspi_few_turns.proofs.Counting.{IsParty, GotFits}
+use Rattle.atspi_played.proofs.Counting.{IsParty, GotFits}
 
 -- WHO IS STARTED
 abbrev pub StartsParty : Entry → Type 0

@@ -19,7 +19,7 @@ use Rattle.atspi_trace.specs.Causes.{Cause, routes, unjoins, gets, Done, does, o
 use Rattle.atspi_trace.specs.Work.{up_turn, down_turn, first_up, first_down, next_turn}
 use Rattle.atspi_trace.specs.Due.{asks_as, asks_at, begins, Goes, after_all}
 use Rattle.atspi_lawful.specs.order.Scripts.{CanAllStand}
-use Rattle.atspi_few_turns.specs.Laws.{is_taking, count_taken, MayAsk, IsTurn, Makes}
+use Rattle.atspi_played.specs.Turns.{is_taking, count_taken, MayAsk, IsTurn, Makes}
 use Rattle.atspi_lawful.proofs.OfOrder.Parties.{no_none, same_some, false_true}
 use Rattle.atspi_lawful.proofs.OfOrder.Frame.{Over, IsOrder, over_both, over_with, stepped_over, settled_over, takes_over}
 use Rattle.atspi_lawful.proofs.OfOrder.Along.{kept}

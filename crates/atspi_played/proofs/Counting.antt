@@ -5,8 +5,8 @@ use Rattle.atspi_lines.specs.declared.limits.TheConstants.{APP_COUNT, READER_COU
 use Rattle.atspi_lines.specs.declared.line.Party.{Party}
 use Rattle.atspi_lines.specs.declared.line.Party.TheVariants.{Bus as The_bus, Registry, App, Reader}
 use Rattle.atspi_trace.specs.Entry.{Entry, got}
-use Rattle.atspi_few_turns.specs.Laws.{count_taken}
-use Rattle.atspi_few_turns.proofs.Serials.{serial_if, serials, one_serial}
+use Rattle.atspi_played.specs.Turns.{count_taken}
+use Rattle.atspi_played.proofs.Serials.{serial_if, serials, one_serial}
 
 -- THE PARTIES OF A SCRIPT
 abbrev pub IsParty : Party → Type 0

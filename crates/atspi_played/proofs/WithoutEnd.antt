@@ -5,9 +5,9 @@ use Rattle.atspi_lines.specs.declared.line.Line.{Line}
 use Rattle.atspi_trace.specs.Entry.{Entry}
 use Rattle.atspi_trace.specs.Due.{begins, Goes, after_all}
 use Rattle.atspi_lawful.specs.order.Scripts.{CanAllStand}
-use Rattle.atspi_few_turns.specs.Laws.{count_taken, IsUnspent, Makes}
-use Rattle.atspi_few_turns.proofs.LawFew.{turns_are_few}
-use Rattle.atspi_few_turns.proofs.Turns.{count_more, turns_take}
+use Rattle.atspi_played.specs.Turns.{count_taken, IsUnspent, Makes}
+use Rattle.atspi_played.proofs.LawFew.{turns_are_few}
+use Rattle.atspi_played.proofs.TurnsTaken.{count_more, turns_take}
 
 pub no_turns_without_end : (lines : List Line) (trace : List Entry) → CanAllStand lines → Goes (begins lines) trace → (n : ℕ) (es : List Entry) → Makes n (after_all (begins lines) trace).world es
     → Goes (begins lines) (trace ++ es) → AllByRecursion IsUnspent (trace ++ es) → n < 4398046511104

@@ -9,15 +9,15 @@ use Rattle.atspi_trace.specs.Entry.{Entry, got}
 use Rattle.atspi_trace.specs.Due.{begins, Goes}
 use Rattle.atspi_lawful.specs.order.Scripts.{CanAllStand}
 use Rattle.atspi_lawful.specs.turns.Laws.{IsTakenInTurn}
-use Rattle.atspi_few_turns.specs.Laws.{count_taken, IsUnspent}
+use Rattle.atspi_played.specs.Turns.{count_taken, IsUnspent}
 use Rattle.atspi_lawful.proofs.OfOrder.Parties.{all_back}
 use Rattle.atspi_lawful.proofs.OfDelivered.LawLinks.{links_hold}
 use Rattle.atspi_lawful.proofs.OfTurns.LawTurns.{ends_take_in_turn}
-use Rattle.atspi_few_turns.proofs.OwnTurns.{own_turns}
-use Rattle.atspi_few_turns.proofs.Serials.{serials}
-use Rattle.atspi_few_turns.proofs.Counting.{GotFits, count_between, count_all, all_counted, all_most}
-use Rattle.atspi_few_turns.proofs.Parties.{all_got}
-use Rattle.atspi_few_turns.proofs.Pairs.{earlier_below, fits_below, few_rise, all_rise, count_is, all_count}
+use Rattle.atspi_played.proofs.OwnTurns.{own_turns}
+use Rattle.atspi_played.proofs.Serials.{serials}
+use Rattle.atspi_played.proofs.Counting.{GotFits, count_between, count_all, all_counted, all_most}
+use Rattle.atspi_played.proofs.Parties.{all_got}
+use Rattle.atspi_played.proofs.Pairs.{earlier_below, fits_below, few_rise, all_rise, count_is, all_count}
 
 module _ (lines : List Line) (trace : List Entry) (a : CanAllStand lines) (g : Goes (begins lines) trace) (u : AllByRecursion IsUnspent trace) where
   below_at : (before behind : List Entry) (who from : Party) (s : ℕ) → trace ≡ before ++ got who from s ∷ behind → s < 4294967296

@@ -28,7 +28,7 @@ use Rattle.atspi_lawful.proofs.OfOwn.Doing.{Doing, says_, hands_, closes_, doing
 use Rattle.atspi_lawful.proofs.OfDelivered.Bounds.{NoneIsBus}
 use Rattle.atspi_lawful.proofs.OfTurns.Rising.{Rises, higher, rises_filter, rises_last, receivers_rise}
 use Rattle.atspi_lawful.proofs.OfTurns.Doing.{takes_joined}
-use Rattle.atspi_few_turns.proofs.Serials.{serial_if, serials, coming, coming_more, serials_more, one_serial, other_sender, rises_front}
+use Rattle.atspi_played.proofs.Serials.{serial_if, serials, coming, coming_more, serials_more, one_serial, other_sender, rises_front}
 
 fold_more : {A B : Type 0} (f : A → B → A) (a : A) (xs ys : List B) → fold f a (xs ++ ys) ≡ fold f (fold f a xs) ys
 fold_more f a [] ys = refl

@@ -7,9 +7,9 @@ ghost use Rattle.atspi_lines.specs.declared.line.Party.TheVariants.{Bus, Registr
 ghost use Rattle.atspi_trace.specs.Entry.{sent, got, exited, quiet};
 ghost use Rattle.atspi_trace.specs.World.{first_world};
 ghost use Rattle.atspi_play.specs.Playing.{first_playing};
-ghost use Rattle.atspi_few_turns.specs.Cases.{one_played, one_plays, one_waits};
+ghost use Rattle.atspi_played.specs.TurnCases.{one_played, one_plays, one_waits};
 ghost use Rattle.atspi_play.specs.Breaking.{PlayedTurns};
-ghost use Rattle.atspi_few_turns.specs.Laws.{count_taken, IsUnspent, Makes};
+ghost use Rattle.atspi_played.specs.Turns.{count_taken, IsUnspent, Makes};
 
 /// What the bus takes and what an end takes of it counts, and nothing else does.
 pub fn what_is_counted()
