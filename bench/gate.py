@@ -3,8 +3,12 @@
 
 usage: bench/gate.py watch PID FILE     while `rt ci` runs as PID: writes what each of its checks took, by crate and kind, to FILE (Linux)
        bench/gate.py table FILE         that as a table in Markdown, the dearest first
-       bench/gate.py plan FILE [LANES]  at the top of the repository: the clock of `rt ci` on so many processors, 4 with no number, in its own order with
-                                        these costs, and the chain of crates that cannot be shorter; what FILE lacks counts 0.06 s a line
+       bench/gate.py plan FILE [LANES [GB]]
+                                        at the top of the repository: the clock of `rt ci` on so many processors, 4 with no number, in its own order with
+                                        these costs, and the chain of crates that cannot be shorter; what FILE lacks counts 0.06 s a line. With GB, the free
+                                        memory, a check begins only where the memory that kit 13f reckons for it fits beside those that run
+       bench/gate.py memory [GB]        at the top of the repository: the crates for which kit 13f reckons the most memory, and which of them fit only beside
+                                        fewer than three others of the middle size, of 24 GB with no number
 
 FILE has a line for each check: crate, kind (proof, tests, edits), processor seconds, and the minute at which it began and ended. Edit it to see what a cut
 would bring. `watch` asks every two seconds, so a check counts up to two seconds too little; a check that ended before it was started is missing.
@@ -87,16 +91,49 @@ def table(file):
         print(f"{kind}: {sum(of.get(kind, 0) for of in found.values()) / 60:.0f} processor minutes")
 
 
-def plan(file, lanes):
-    found, uses, lines, tasks = costs(file), {}, {}, {}
+def libraries():
+    """Returns the crates of the repository that each crate uses, the lowest first."""
+    uses = {}
     for line in text("crates.txt").splitlines():
         name, colon, words = line.partition("#")[0].partition(":")
         if colon:
             uses[name.split()[0]] = words.split()
+    return {crate: [it for it in words if it in uses] for crate, words in uses.items()}
+
+
+def lines_of(crate, ending):
+    """Returns how many lines the crate's files with that ending have."""
+    found = [f"{at}/{it}" for part in ("src", "specs", "proofs") for at, _, names in os.walk(f"crates/{crate}/{part}") for it in names if it.endswith(ending)]
+    return sum(text(it).count("\n") for it in found)
+
+
+def reckoned(uses, lines):
+    """Returns the bytes that kit 13f reckons for a check of each crate, before it starts one (without the kit's own libraries, which are small here)."""
+    known = {}
+
+    def below(crate):
+        if crate not in known:
+            known[crate] = set(uses[crate]).union(*map(below, uses[crate]))
+        return known[crate]
+
+    return {it: 10**9 + 10**6 * lines[it] + 200_000 * lines_of(it, ".antt") + 80_000 * sum(map(lines.get, below(it))) for it in uses}
+
+
+def memory(free):
+    uses = libraries()
+    needs = reckoned(uses, {crate: lines_of(crate, ".rt") for crate in uses})
+    middle = sorted(needs.values())[len(needs) // 2]
+    print(f"of {free:.0f} GB that are free the kit gives {0.85 * free:.1f}; the middle crate is reckoned at {middle / 1e9:.1f}")
+    for crate in sorted(needs, key=lambda it: -needs[it])[:12]:
+        beside = int((0.85 * free - needs[crate] / 1e9) / (middle / 1e9))
+        print(f"{needs[crate] / 1e9:>6.1f} {crate}" + (f"  beside {max(beside, 0)} others" if beside < 3 else ""))
+
+
+def plan(file, lanes, free):
+    found, uses, tasks = costs(file), libraries(), {}
+    lines = {crate: lines_of(crate, ".rt") for crate in uses}
+    needs = reckoned(uses, lines) if free else dict.fromkeys(uses, 0)
     for crate in uses:
-        uses[crate] = [it for it in uses[crate] if it in uses]
-        sources = [f"{at}/{it}" for at, _, names in os.walk(f"crates/{crate}/src") for it in names]
-        lines[crate] = sum(text(it).count("\n") for it in sources)
         of = found.get(crate) or {"proof": 0.06 * lines[crate]}
         edits = [it for it in os.listdir(f"crates/{crate}/must-fail") if it.endswith(".edit")] if os.path.isdir(f"crates/{crate}/must-fail") else []
         low = [(it, "proof") for it in uses[crate]]
@@ -131,7 +168,8 @@ def plan(file, lanes):
     now, running, done, proved = 0, [], set(), 0
     while left or running:
         for key in [*left]:
-            if len(running) < lanes and done.issuperset(tasks[key][0]):
+            fits = not running or sum(needs[it[0]] for _, it in running) + needs[key[0]] <= 0.85e9 * free
+            if len(running) < lanes and done.issuperset(tasks[key][0]) and fits:
                 left.remove(key)
                 running.append((now + tasks[key][2], key))
         running.sort()
@@ -148,7 +186,9 @@ if __name__ == "__main__":
         watch(int(words[1]), words[2])
     elif words[:1] == ["table"] and len(words) == 2:
         table(words[1])
-    elif words[:1] == ["plan"] and len(words) in (2, 3):
-        plan(words[1], int(words[2]) if words[2:] else 4)
+    elif words[:1] == ["plan"] and len(words) in (2, 3, 4):
+        plan(words[1], int(words[2]) if words[2:] else 4, float(words[3]) if words[3:] else 0)
+    elif words[:1] == ["memory"] and len(words) in (1, 2):
+        memory(float(words[1]) if words[1:] else 24)
     else:
         sys.exit(__doc__)
