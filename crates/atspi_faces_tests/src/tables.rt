@@ -9,27 +9,35 @@ use std::process::Abort;
 /// The node that the calls are about.
 const NODE: u32 = 7;
 
-/// What spells a call and its answer: a word, up to three numbers, and what stands behind `|`.
+/// What spells a call and its answer: a word, whether the call is done (`no-` stands before the word of one that is refused), up to
+/// three numbers, and what stands behind `|`.
 #[derive(Clone, Copy)]
 struct Row<'a> {
     word: &'a str,
-    first: Option<u32>,
-    second: Option<u32>,
-    third: Option<u32>,
+    is_done: bool,
+    first: u32,
+    second: u32,
+    third: u32,
     text: &'a str,
 }
 
-/// The number that a word spells.
-fn number(word: Option<&str>) -> Option<u32> {
-    word?.parse::<u32>().ok()
+/// A number of a word; 0 where there is none.
+fn number(word: Option<&str>) -> u32 {
+    match word {
+        Some(word) => word.parse::<u32>().unwrap_or(0),
+        None => 0,
+    }
 }
 
 /// The row of a line.
 fn row_of(line: &str) -> Row<'_> {
     let (front, text) = line.split_once('|').unwrap_or((line, ""));
     let mut words = front.split(' ');
+    let word = words.next().unwrap_or("");
+    let refused = word.strip_prefix("no-");
     Row {
-        word: words.next().unwrap_or(""),
+        word: refused.unwrap_or(word),
+        is_done: refused.is_none(),
         first: number(words.next()),
         second: number(words.next()),
         third: number(words.next()),
@@ -48,58 +56,56 @@ fn text(alloc: Global, chars: &[u8]) -> Option<Text> {
 /// Goes through a table: each of its calls has the answer that its row says.
 pub fn run(rt: &impl Abort, alloc: Global, face: &mut Box<dyn Face>, table: &str) {
     for line in table.lines() {
-        let holds = holds(alloc, face, row_of(line));
-        assert!(rt; holds == Some(true), "{line}");
+        let row = row_of(line);
+        assert!(rt; holds(alloc, face, row) == Some(row.is_done), "{line}");
     }
 }
 
-/// Makes the call of a row. Answers whether it had the answer that is due, none for want of memory:
-/// - `open CARET|TEXT` opens the node with a text, its caret and one text selection from 1 to 3, `again|TEXT` is refused because the node is here, and
-///   `other NODE|TEXT` opens another node;
-/// - `alike NODE N` opens a node with so many characters, columns or actions, whichever the face keeps, `alike-again NODE N` is refused, and `actions|NAMES`
-///   opens the node with actions of these names;
+/// Makes the call of a row. Answers whether it was done, or had the answer that is due, none for want of memory:
+/// - `open CARET|TEXT` opens the node with a text, its caret and one text selection from 1 to 3, `other NODE|TEXT` opens a node with a text
+///   alone, and `long|CHARACTER` opens the node with 1,048,576 of these;
+/// - `alike NODE N` opens a node with so many characters, columns or actions, whichever the face keeps, and `actions|NAMES` opens the node
+///   with actions of these names;
 /// - the other words are those of changes and of what is read.
 fn holds(alloc: Global, face: &mut Box<dyn Face>, row: Row<'_>) -> Option<bool> {
     match row.word {
-        "open" => opens(alloc, face, row.first?, row.text.as_bytes()),
-        "again" => Some(!opens_plain(alloc, face, NODE, row.text)?),
-        "other" => opens_plain(alloc, face, row.first?, row.text),
-        "alike" => opens_alike(alloc, face, row.first?, row.second?),
-        "alike-again" => Some(!opens_alike(alloc, face, row.first?, row.second?)?),
+        "open" => opens(alloc, face, row.first, row.text.as_bytes()),
+        "long" => opens_long(alloc, face, row.text),
+        "other" => opens_plain(alloc, face, row.first, row.text),
+        "alike" => opens_alike(alloc, face, row.first, row.second),
         "actions" => opens_actions(alloc, face, row.text),
         _ => changes(alloc, face, row),
     }
 }
 
 /// The same of changes: `insert AT|TEXT`, `delete AT LEN`, `move TO` of the caret, `select N` for so many text selections, the one at i from i to i + 1,
-/// `no-delete AT LEN` and `no-move TO`, which may not be made, and `close NODE`.
+/// and `close NODE`.
 fn changes(alloc: Global, face: &mut Box<dyn Face>, row: Row<'_>) -> Option<bool> {
     match row.word {
-        "insert" => inserts(alloc, face, row.first?, row.text),
-        "delete" => deletes(face, row.first?, row.second?),
-        "no-delete" => Some(!deletes(face, row.first?, row.second?)?),
-        "move" => moves(face, row.first?),
-        "no-move" => Some(!moves(face, row.first?)?),
-        "select" => selects(alloc, face, row.first?),
+        "insert" => inserts(alloc, face, row.first, row.text),
+        "delete" => deletes(face, row.first, row.second),
+        "move" => moves(face, row.first),
+        "select" => selects(alloc, face, row.first),
         "close" => {
-            face.drop_node(row.first?);
+            face.drop_node(row.first);
             Some(true)
         }
         _ => reads(face, row),
     }
 }
 
-/// The same of what is read: `part FROM TO|TEXT`, `no-part FROM TO`, `count N`, `caret AT`, `marks N FROM TO` for how many text selections there are and the
-/// last of them, `next FROM NODE` for the next node from one on, `-` for none, and `kind|KIND`.
+/// The same of what is read: `part FROM TO|TEXT`, `absent FROM TO` for no such part, `count N`, `caret AT`, `marks N FROM TO` for how many text selections
+/// there are and the last of them, `next FROM NODE` for the next node from one on, `last FROM` for none, and `kind|KIND`.
 fn reads(face: &Box<dyn Face>, row: Row<'_>) -> Option<bool> {
     match row.word {
-        "part" => has_part(face, row.first?, row.second?, row.text),
-        "no-part" => has_no_part(face, row.first?, row.second?),
-        "count" => Some(face.count(NODE) == row.first?),
-        "caret" => Some(caret(face, NODE) == Some(row.first?)),
+        "part" => has_part(face, row.first, row.second, row.text),
+        "absent" => has_no_part(face, row.first, row.second),
+        "count" => Some(face.count(NODE) == row.first),
+        "caret" => Some(caret(face, NODE) == Some(row.first)),
         "marks" => has_marks(face, row),
-        "next" => Some(face.next_node(row.first?) == row.second),
-        "kind" => Some(face.kind() == kind_of(row.text)?),
+        "next" => Some(face.next_node(row.first) == Some(row.second)),
+        "last" => Some(face.next_node(row.first).is_none()),
+        "kind" => Some(name_of(face.kind()) == row.text),
         _ => None,
     }
 }
@@ -172,29 +178,23 @@ fn has_no_part(face: &Box<dyn Face>, from: u32, to: u32) -> Option<bool> {
 /// Whether there are as many text selections as the row says, and the last of them is the one that it says.
 fn has_marks(face: &Box<dyn Face>, row: Row<'_>) -> Option<bool> {
     match marks(face, NODE) {
-        Ok(Some(found)) => are_marks(found.as_slice(), row),
+        Ok(Some(found)) => Some(are_marks(found.as_slice(), row)),
         _ => None,
     }
 }
 
 /// The same of a list.
-fn are_marks(found: &[(u32, u32)], row: Row<'_>) -> Option<bool> {
-    if found.len() != row.first? as usize {
-        return Some(false);
-    }
-    match found.last() {
-        Some((from, to)) => Some(Some(*from) == row.second && Some(*to) == row.third),
-        None => Some(row.second.is_none()),
-    }
+fn are_marks(found: &[(u32, u32)], row: Row<'_>) -> bool {
+    let last = found.last().copied().unwrap_or((0, 0));
+    found.len() == row.first as usize && last == (row.second, row.third)
 }
 
-/// The kind of a name.
-fn kind_of(name: &str) -> Option<FaceKind> {
-    match name {
-        "chars" => Some(FaceKind::Chars),
-        "grid" => Some(FaceKind::Grid),
-        "deeds" => Some(FaceKind::Deeds),
-        _ => None,
+/// The name of a kind.
+fn name_of(kind: FaceKind) -> &'static str {
+    match kind {
+        FaceKind::Chars => "chars",
+        FaceKind::Grid => "grid",
+        FaceKind::Deeds => "deeds",
     }
 }
 
@@ -256,25 +256,4 @@ fn long(alloc: Global, unit: &str) -> Option<Vec<u8>> {
 fn opens_long(alloc: Global, face: &mut Box<dyn Face>, unit: &str) -> Option<bool> {
     let bytes = long(alloc, unit)?;
     opens(alloc, face, 1_048_576, bytes.as_slice())
-}
-
-/// A text of 1,048,576 equal characters, which takes one more: a face has no limit of its own.
-pub fn longest(rt: &impl Abort, alloc: Global, face: &mut Box<dyn Face>, unit: &str) {
-    assert!(rt; opens_long(alloc, face, unit) == Some(true));
-    let table = format!(in alloc;
-        "\
-count 1048576
-caret 1048576
-part 524288 524289|{unit}
-insert 524288|!
-count 1048577
-part 524288 524289|!
-part 1048576 1048577|{unit}
-delete 524288 1
-count 1048576
-part 1048575 1048576|{unit}"
-    )
-    .ok()
-    .expect(rt, "memory");
-    run(rt, alloc, face, table.as_str());
 }

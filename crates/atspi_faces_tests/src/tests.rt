@@ -1,54 +1,45 @@
 //! Each type of face, in a box, through the tables.
 
-use crate::tables::{longest, run};
+use crate::tables::run;
 use atspi_face::Face;
 use atspi_faces::{Deeds, GapText, Grid, PlainText};
 use std::alloc::Global;
 use std::process::Abort;
 use std::test::*;
 
-/// A text that is kept as it is.
-fn plain(rt: &impl Abort, alloc: Global) -> Box<dyn Face> {
-    Box::new(alloc, PlainText::new(alloc))
-        .ok()
-        .expect(rt, "memory")
+/// A new face of a type.
+fn face_of(rt: &impl Abort, alloc: Global, name: &str) -> Box<dyn Face> {
+    match name {
+        "plain text" => Box::new(alloc, PlainText::new(alloc))
+            .ok()
+            .expect(rt, "memory"),
+        "text with a gap" => Box::new(alloc, GapText::new(alloc))
+            .ok()
+            .expect(rt, "memory"),
+        "grid" => Box::new(alloc, Grid::new(alloc)).ok().expect(rt, "memory"),
+        _ => Box::new(alloc, Deeds::new(alloc)).ok().expect(rt, "memory"),
+    }
 }
 
-/// A text with a gap.
-fn gap(rt: &impl Abort, alloc: Global) -> Box<dyn Face> {
-    Box::new(alloc, GapText::new(alloc))
-        .ok()
-        .expect(rt, "memory")
-}
-
-/// Counts of columns.
-fn grid(rt: &impl Abort, alloc: Global) -> Box<dyn Face> {
-    Box::new(alloc, Grid::new(alloc)).ok().expect(rt, "memory")
-}
-
-/// Actions.
-fn deeds(rt: &impl Abort, alloc: Global) -> Box<dyn Face> {
-    Box::new(alloc, Deeds::new(alloc)).ok().expect(rt, "memory")
-}
-
-/// A new face goes through a table.
-fn run_new(rt: &impl Abort, alloc: Global, face: Box<dyn Face>, table: &str) {
-    let mut face = face;
-    run(rt, alloc, &mut face, table);
+/// A new face goes through two tables.
+fn run_new(rt: &impl Abort, alloc: Global, name: &str, tables: (&str, &str)) {
+    let mut face = face_of(rt, alloc, name);
+    run(rt, alloc, &mut face, tables.0);
+    run(rt, alloc, &mut face, tables.1);
 }
 
 /// Nodes, and a text of characters of one to four bytes and combining ones, changed before, behind and in the middle of
 /// what was changed last.
 const TEXTS: &str = "\
-next 0 -
+last 0
 count 0
 other 9|other
 open 2|héllo
-again|x
+no-other 7|x
 next 0 7
 next 7 7
 next 8 9
-next 10 -
+last 10
 count 5
 caret 2
 part 1 5|éllo
@@ -98,37 +89,37 @@ part 0 17|0123456789abcdefg";
 
 /// What all kinds answer alike: nodes, counts, what is refused, and what is not here.
 const ALIKE: &str = "\
-next 0 -
+last 0
 count 0
 alike 7 5
-alike-again 7 4
+no-alike 7 4
 alike 4294967295 2
 alike 0 300
 count 5
 no-delete 0 6
 no-move 6
-no-part 6 6
+absent 6 6
 count 5
 next 0 0
 next 1 7
 next 8 4294967295
 close 7
 count 0
-no-part 0 0
+absent 0 0
 next 1 4294967295
 alike 7 1
 count 1
 close 4294967295
 close 7
 close 0
-next 0 -";
+last 0";
 
 /// Columns have no text to change and no part.
 const COLUMNS: &str = "\
 kind|grid
 alike 7 1024
 count 1024
-no-part 0 1
+absent 0 1
 no-delete 0 0
 no-move 0";
 
@@ -139,7 +130,7 @@ actions|click drücken
 count 2
 part 1 0|drücken
 part 0 0|click
-no-part 2 3
+absent 2 3
 no-delete 0 0
 no-move 0";
 
@@ -163,56 +154,59 @@ part 9 12|89ß
 delete 11 150
 part 0 12|a0123456789z";
 
-#[test]
-fn all_kinds_alike(rt: HostRuntime) {
-    run_new(&rt, rt.alloc(), plain(&rt, rt.alloc()), ALIKE);
-    run_new(&rt, rt.alloc(), gap(&rt, rt.alloc()), ALIKE);
-    run_new(&rt, rt.alloc(), grid(&rt, rt.alloc()), ALIKE);
-    run_new(&rt, rt.alloc(), deeds(&rt, rt.alloc()), ALIKE);
-}
+/// A text of 1,048,576 equal characters, which takes one more: a face has no limit of its own.
+const LONGEST: &str = "\
+long|a
+count 1048576
+caret 1048576
+part 524288 524289|a
+insert 524288|!
+count 1048577
+part 524288 524289|!
+part 1048576 1048577|a
+delete 524288 1
+count 1048576
+part 1048575 1048576|a
+close 7
+long|😀
+count 1048576
+caret 1048576
+part 524288 524289|😀
+insert 524288|!
+count 1048577
+part 524288 524289|!
+part 1048576 1048577|😀
+delete 524288 1
+count 1048576
+part 1048575 1048576|😀";
 
-#[test]
-fn characters_far_from_a_change(rt: HostRuntime) {
-    run_new(&rt, rt.alloc(), plain(&rt, rt.alloc()), FAR);
-    run_new(&rt, rt.alloc(), gap(&rt, rt.alloc()), FAR);
-}
+/// Nothing is asked.
+const NOTHING: &str = "";
 
 #[test]
 fn plain_texts(rt: HostRuntime) {
-    let mut face = plain(&rt, rt.alloc());
-    run(&rt, rt.alloc(), &mut face, TEXTS);
-    run(&rt, rt.alloc(), &mut face, SELECTIONS);
+    run_new(&rt, rt.alloc(), "plain text", (TEXTS, SELECTIONS));
+    run_new(&rt, rt.alloc(), "plain text", (ALIKE, FAR));
 }
 
 #[test]
 fn texts_with_a_gap(rt: HostRuntime) {
-    let mut face = gap(&rt, rt.alloc());
-    run(&rt, rt.alloc(), &mut face, TEXTS);
-    run(&rt, rt.alloc(), &mut face, SELECTIONS);
+    run_new(&rt, rt.alloc(), "text with a gap", (TEXTS, SELECTIONS));
+    run_new(&rt, rt.alloc(), "text with a gap", (ALIKE, FAR));
 }
 
 #[test]
 fn the_longest_plain_text(rt: HostRuntime) {
-    let mut face = plain(&rt, rt.alloc());
-    longest(&rt, rt.alloc(), &mut face, "a");
-    face.drop_node(7);
-    longest(&rt, rt.alloc(), &mut face, "😀");
+    run_new(&rt, rt.alloc(), "plain text", (LONGEST, NOTHING));
 }
 
 #[test]
 fn the_longest_text_with_a_gap(rt: HostRuntime) {
-    let mut face = gap(&rt, rt.alloc());
-    longest(&rt, rt.alloc(), &mut face, "a");
-    face.drop_node(7);
-    longest(&rt, rt.alloc(), &mut face, "😀");
+    run_new(&rt, rt.alloc(), "text with a gap", (LONGEST, NOTHING));
 }
 
 #[test]
-fn column_counts(rt: HostRuntime) {
-    run_new(&rt, rt.alloc(), grid(&rt, rt.alloc()), COLUMNS);
-}
-
-#[test]
-fn names_of_actions(rt: HostRuntime) {
-    run_new(&rt, rt.alloc(), deeds(&rt, rt.alloc()), ACTIONS);
+fn columns_and_actions(rt: HostRuntime) {
+    run_new(&rt, rt.alloc(), "grid", (ALIKE, COLUMNS));
+    run_new(&rt, rt.alloc(), "actions", (ALIKE, ACTIONS));
 }
