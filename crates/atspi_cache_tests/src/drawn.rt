@@ -1,8 +1,9 @@
 //! Drawn news of an application with the root `/n0`: after each the rows are those of a plain list that took it, too.
 
+use crate::cached::{load, shown, tell};
 use crate::plain::{Node, moved, root, told, without};
+use crate::words::items_of;
 use atspi_cache::Cache;
-use atspi_cache_cases::{items_of, load, shown, tell};
 use std::alloc::Global;
 use std::test::*;
 
@@ -19,13 +20,13 @@ fn turn(alloc: Global, state: &mut u64, cache: &mut Cache, nodes: &[Node]) -> Op
     let node = draw(state, 12).saturating_add(1);
     let other = draw(state, 13);
     let index = ((draw(state, 8) % 8) as i32).wrapping_sub(2);
-    if draw(state, 4) == 0 {
-        let words = format!(in alloc; "removed /n{node}").ok()?;
-        tell(alloc, cache, words.as_str())?;
+    let is_removal = draw(state, 4) == 0;
+    let kind = if is_removal { "removed" } else { "item" };
+    let words = format!(in alloc; "{kind} /n{node} /n{other} {index}").ok()?;
+    tell(alloc, cache, words.as_str())?;
+    if is_removal {
         without(alloc, nodes, node)
     } else {
-        let words = format!(in alloc; "item /n{node} /n{other} {index}").ok()?;
-        tell(alloc, cache, words.as_str())?;
         moved(alloc, nodes, node, other, index)
     }
 }
@@ -37,15 +38,16 @@ fn agrees(alloc: Global, cache: &Cache, nodes: &[Node]) -> Option<bool> {
     Some(rows.as_str() == due.as_str())
 }
 
-/// A cache with the root alone.
-fn loaded(alloc: Global) -> Option<Cache> {
-    load(alloc, "/n0", items_of(alloc, "/n0 /n0 0")?)
+/// Loads the root alone.
+fn load_root(alloc: Global, cache: &mut Cache) -> Option<()> {
+    load(alloc, cache, "/n0", items_of(alloc, "/n0 /n0 0")?)
 }
 
 #[test]
 fn drawn_news_make_what_a_plain_list_makes(rt: HostRuntime) {
     let mut state = 11u64;
-    let mut cache = loaded(rt.alloc()).expect(&rt, "a load");
+    let mut cache = Cache::new(rt.alloc());
+    assert!(rt; load_root(rt.alloc(), &mut cache).is_some());
     let mut nodes = root(rt.alloc()).expect(&rt, "memory");
     for news in 0..2000 {
         nodes = turn(rt.alloc(), &mut state, &mut cache, &nodes).expect(&rt, "memory");

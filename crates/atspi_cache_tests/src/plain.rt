@@ -161,10 +161,10 @@ fn seat_behind(nodes: &[Node], depth: u32) -> (u32, u32) {
     (parent, index)
 }
 
-/// A node with the nodes before it: its name, and but for the root `<` and its parent, and `@` and its index.
+/// A node with the nodes before it: its name, but for the root `<` and its parent, and `@` and its index.
 fn word_of(alloc: Global, before: &[Node], node: u32, depth: u32) -> Option<String> {
     if before.is_empty() {
-        return format!(in alloc; "/n{node}").ok();
+        return format!(in alloc; " /n{node}@-1").ok();
     }
     let (parent, index) = seat_behind(before, depth);
     format!(in alloc; " /n{node}</n{parent}@{index}").ok()
