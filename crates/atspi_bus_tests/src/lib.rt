@@ -9,3 +9,5 @@ mod names;
 mod pool;
 #[cfg(test)]
 mod quotas;
+#[cfg(test)]
+mod words;

@@ -1,135 +1,166 @@
 //! Who owns a name and who waits for it, after each call.
 
-ghost use Rattle.std.specs.Prelude.{◌≡◌, ◌≢◌, false, None, IfSome};
+ghost use Rattle.std.specs.Prelude.{◌≡◌, ◌≢◌, false, None};
 ghost use Rattle.std.specs.FinMap as finmap;
 ghost use Rattle.atspi_valid_names.specs.Names.{is_unique_name};
 ghost use Rattle.atspi_names.specs.Owners as owners;
 
+use crate::words::{check, number, put, put_number};
 use atspi_names::{NameList, Names, OwnerChange};
 use atspi_valid_names::BusName;
 use std::alloc::Global;
 use std::process::Abort;
+use std::str::SplitWhitespace;
 
-/// The number that a word spells.
-fn number(word: &str) -> Option<u32> {
-    word.parse::<u32>().ok()
+/// The name that the next word is.
+fn any_name(rt: &impl Abort, alloc: Global, words: &mut SplitWhitespace) -> BusName {
+    let word = words.next().expect(rt, "a word");
+    BusName::read(alloc, word.as_bytes()).expect(rt, "a name")
 }
 
-/// A well-known name.
-fn known(alloc: Global, text: &str) -> Option<BusName>
-    ensures not_unique { IfSome result (λ name. is_unique_name name ≡ false) }
-    ensures not_the_bus { IfSome result (λ name. name ≢ owners.own_name) }
+/// The well-known name that the next word is.
+fn known(rt: &impl Abort, alloc: Global, words: &mut SplitWhitespace) -> BusName
+    ensures not_unique { is_unique_name result ≡ false }
+    ensures not_the_bus { result ≢ owners.own_name }
 {
-    let name = BusName::read(alloc, text.as_bytes()).ok()?;
-    if name.is_unique() || name.as_str() == "org.freedesktop.DBus" {
-        return None;
-    }
-    Some(name)
+    let name = any_name(rt, alloc, words);
+    assert!(rt; !name.is_unique() && name.as_str() != "org.freedesktop.DBus");
+    name
 }
 
-/// Says hello for a connection that has no unique name yet, and answers whether it got this one.
-fn hello(names: &mut Names, conn: u32, due: &str) -> Option<bool> {
-    if names.unique_name(conn).is_some() {
-        return None;
-    }
-    Some(names.hello(conn).ok()?.as_str() == due)
+/// Says hello for a connection that has no unique name yet, and tells which one it got.
+fn hello(rt: &impl Abort, names: &mut Names, conn: u32, told: &mut String) {
+    assert!(rt; names.unique_name(conn).is_none());
+    put(rt, told, names.hello(conn).expect(rt, "memory").as_str());
 }
 
-/// The answer with the owners before and after it, as `ANSWER BEFORE AFTER` spells it, a dash for nobody.
-fn is_change(change: OwnerChange, due: &str) -> Option<bool> {
-    let mut words = due.split(' ');
-    let answer = number(words.next()?)?;
-    let before = words.next()?.parse::<u32>().ok();
-    let after = words.next()?.parse::<u32>().ok();
-    Some((change.answer, change.before, change.after) == (answer, before, after))
+/// Tells a connection, or a dash for nobody.
+fn put_owner(rt: &impl Abort, told: &mut String, owner: Option<u32>) {
+    match owner {
+        Some(conn) => put_number(rt, told, conn),
+        None => put(rt, told, "-"),
+    }
+}
+
+/// Tells an answer with the owners before and after it.
+fn put_change(rt: &impl Abort, told: &mut String, change: OwnerChange) {
+    put_number(rt, told, change.answer);
+    put(rt, told, " ");
+    put_owner(rt, told, change.before);
+    put(rt, told, " ");
+    put_owner(rt, told, change.after);
 }
 
 /// A connection asks for a name, as `CONNECTION NAME FLAGS` spells it.
-fn request(alloc: Global, names: &mut Names, words: &str, due: &str) -> Option<bool> {
-    let mut words = words.split(' ');
-    let conn = number(words.next()?)?;
-    let name = known(alloc, words.next()?)?;
-    let flags = number(words.next()?)?;
-    is_change(names.request(conn, &name, flags).ok()?, due)
+fn request(
+    rt: &impl Abort,
+    alloc: Global,
+    names: &mut Names,
+    words: &mut SplitWhitespace,
+) -> OwnerChange {
+    let conn = number(rt, words);
+    let name = known(rt, alloc, words);
+    let flags = number(rt, words);
+    names.request(conn, &name, flags).expect(rt, "memory")
 }
 
 /// A connection gives a name back, as `CONNECTION NAME` spells it.
-fn release(alloc: Global, names: &mut Names, words: &str, due: &str) -> Option<bool> {
-    let (conn, name) = words.split_once(' ')?;
-    let name = known(alloc, name)?;
-    is_change(names.release(number(conn)?, &name), due)
+fn release(
+    rt: &impl Abort,
+    alloc: Global,
+    names: &mut Names,
+    words: &mut SplitWhitespace,
+) -> OwnerChange {
+    let conn = number(rt, words);
+    let name = known(rt, alloc, words);
+    names.release(conn, &name)
 }
 
-/// Whether a queue is the pairs that words spell, as `CONNECTION/FLAGS`.
-fn is_queue(queue: &[(u32, u32)], due: &str) -> Option<bool> {
-    let mut rest = queue.iter();
-    for pair in due.split_whitespace() {
-        let (conn, flags) = pair.split_once('/')?;
-        if *rest.next()? != (number(conn)?, number(flags)?) {
-            return Some(false);
-        }
+/// Tells a queue, as `CONNECTION/FLAGS` for each that stands in it.
+fn put_queue(rt: &impl Abort, told: &mut String, queue: &[(u32, u32)]) {
+    for (conn, flags) in queue {
+        put_number(rt, told, *conn);
+        put(rt, told, "/");
+        put_number(rt, told, *flags);
+        put(rt, told, " ");
     }
-    Some(rest.next().is_none())
 }
 
-/// Whether a list is the names of these words.
-fn is_list(list: &NameList, due: &str) -> bool {
-    let mut words = due.split(' ');
+/// Tells the names of a list.
+fn put_list(rt: &impl Abort, told: &mut String, list: &NameList) {
+    if list.len() == 0 {
+        put(rt, told, "none");
+    }
     for name in list.as_slice() {
-        if words.next() != Some(name.as_str()) {
-            return false;
-        }
-    }
-    words.next().is_none()
-}
-
-/// Whether what is asked of the names has the answer that is due.
-fn answers(alloc: Global, names: &Names, word: &str, words: &str, due: &str) -> Option<bool> {
-    match word {
-        "list" => Some(is_list(&names.list().ok()?, due)),
-        "owned" => Some(is_list(&names.owned(number(words)?).ok()?, due)),
-        "unique" => Some(names.unique_name(number(words)?).is_some() == (due == "yes")),
-        "owner" => Some(names.owner(&BusName::read(alloc, words.as_bytes()).ok()?) == number(due)),
-        "queue" => is_queue(
-            names.queue(&BusName::read(alloc, words.as_bytes()).ok()?),
-            due,
-        ),
-        _ => None,
+        put(rt, told, name.as_str());
+        put(rt, told, " ");
     }
 }
 
-/// Does what a row `WORD WORDS => DUE` says, and looks whether it comes to what is due.
-fn holds(alloc: Global, names: &mut Names, row: &str) -> Option<bool> {
-    let (asked, due) = row.split_once(" =>")?;
-    let (word, words) = asked.split_once(' ').unwrap_or((asked, ""));
-    let due = due.trim();
+/// The names that a connection owns, in a list that is made of its parts and put together again.
+fn owned(rt: &impl Abort, names: &Names, conn: u32) -> NameList {
+    let list = names.owned(conn).expect(rt, "memory");
+    NameList::from_vec(list.into_vec())
+}
+
+/// Tells what is asked of the names by a word and those behind it.
+fn look(
+    rt: &impl Abort,
+    alloc: Global,
+    names: &Names,
+    word: &str,
+    words: &mut SplitWhitespace,
+    told: &mut String,
+) {
     match word {
-        "hello" => hello(names, number(words)?, due),
-        "request" => request(alloc, names, words, due),
-        "release" => release(alloc, names, words, due),
-        "gone" => {
-            names.gone(number(words)?);
-            Some(true)
-        }
-        _ => answers(alloc, names, word, words, due),
+        "list" => put_list(rt, told, &names.list().expect(rt, "memory")),
+        "owned" => put_list(rt, told, &owned(rt, names, number(rt, words))),
+        "unique" if names.unique_name(number(rt, words)).is_some() => put(rt, told, "yes"),
+        "unique" => put(rt, told, "no"),
+        "owner" => put_owner(rt, told, names.owner(&any_name(rt, alloc, words))),
+        "queue" => put_queue(rt, told, names.queue(&any_name(rt, alloc, words))),
+        _ => put(rt, told, "?"),
     }
+}
+
+/// Does what words ask for, and tells what comes of it.
+fn ask(rt: &impl Abort, alloc: Global, names: &mut Names, asked: &str, told: &mut String) {
+    let mut words = asked.split_whitespace();
+    match words.next().unwrap_or("") {
+        "hello" => hello(rt, names, number(rt, &mut words), told),
+        "request" => put_change(rt, told, request(rt, alloc, names, &mut words)),
+        "release" => put_change(rt, told, release(rt, alloc, names, &mut words)),
+        "gone" => names.gone(number(rt, &mut words)),
+        word => look(rt, alloc, names, word, &mut words, told),
+    }
+}
+
+/// Whether a row `WORDS => DUE` comes to what is due.
+fn holds(rt: &impl Abort, alloc: Global, names: &mut Names, row: &str) -> bool {
+    let (asked, due) = row.split_once(" =>").expect(rt, "a row");
+    let mut told = String::new(alloc);
+    ask(rt, alloc, names, asked, &mut told);
+    told.as_str().trim() == due.trim()
 }
 
 /// Each row holds, one behind another.
-fn try_rows(rt: &impl Abort, alloc: Global, names: &mut Names, rows: &str) {
+fn play(rt: &impl Abort, alloc: Global, names: &mut Names, rows: &str) {
     for row in rows.lines() {
-        assert!(rt; holds(alloc, names, row) == Some(true), "{row}");
+        check(rt, row, holds(rt, alloc, names, row));
     }
 }
 
-/// The same of names that nobody has yet.
-fn try_anew(rt: &impl Abort, alloc: Global, rows: &str) {
+/// The same of names that nobody has yet: some rows, and others behind them.
+fn play_anew(rt: &impl Abort, alloc: Global, before: &str, rows: &str) {
     let mut names = Names::new(alloc);
-    try_rows(rt, alloc, &mut names, rows);
+    play(rt, alloc, &mut names, before);
+    play(rt, alloc, &mut names, rows);
 }
 
-/// A name goes to the one that replaces its owner, and back. Who gave it back stands nowhere; a name that nobody has is not there.
-const REPLACED: &str = "\
+/// Cases with a blank line between two. A name goes to the one that replaces its owner, and back: who gave it back stands nowhere, and a name that nobody
+/// has is not there. Unique names count on, also behind one that left. Well-known names are in the order of their bytes, and one that is not there owns
+/// nothing. Then connections that wait and ask again with other flags.
+const CASES: &str = "\
 hello 0 => :1.0
 hello 1 => :1.1
 request 0 x.y 1 => 1 - 0
@@ -141,11 +172,85 @@ owner x.y => 0
 release 1 x.y => 3 0 0
 release 0 x.y => 1 0 -
 release 0 x.y => 2 - -
-list => org.freedesktop.DBus :1.0 :1.1";
+list => org.freedesktop.DBus :1.0 :1.1
+
+hello 0 => :1.0
+hello 1 => :1.1
+hello 2 => :1.2
+gone 1 =>
+hello 7 => :1.3
+hello 5 => :1.4
+queue :1.3 => 7/0
+owner :1.4 => 5
+unique 7 => yes
+unique 1 => no
+list => org.freedesktop.DBus :1.0 :1.2 :1.4 :1.3
+
+hello 0 => :1.0
+hello 1 => :1.1
+request 1 b.a 0 => 1 - 1
+request 1 a.c 0 => 1 - 1
+request 1 _.z 0 => 1 - 1
+request 1 a.b.c 0 => 1 - 1
+request 1 -x.y 0 => 1 - 1
+request 1 A.b 0 => 1 - 1
+list => org.freedesktop.DBus :1.0 :1.1 -x.y A.b _.z a.b.c a.c b.a
+release 1 a.c => 1 1 -
+owned 1 => -x.y A.b _.z a.b.c b.a
+gone 1 =>
+owned 1 => none
+list => org.freedesktop.DBus :1.0
+
+hello 0 => :1.0
+hello 1 => :1.1
+hello 2 => :1.2
+request 0 a.b 0 => 1 - 0
+request 1 a.b 0 => 2 0 0
+request 2 a.b 0 => 2 0 0
+request 1 a.b 3 => 2 0 0
+queue a.b => 0/0 1/3 2/0
+
+hello 0 => :1.0
+hello 1 => :1.1
+hello 2 => :1.2
+request 0 a.b 0 => 1 - 0
+request 1 a.b 0 => 2 0 0
+request 2 a.b 0 => 2 0 0
+request 1 a.b 4 => 3 0 0
+queue a.b => 0/0 2/0
+
+hello 0 => :1.0
+hello 1 => :1.1
+hello 2 => :1.2
+request 0 a.b 1 => 1 - 0
+request 1 a.b 0 => 2 0 0
+request 2 a.b 0 => 2 0 0
+request 1 a.b 2 => 1 0 1
+queue a.b => 1/2 0/1 2/0
+
+hello 0 => :1.0
+hello 1 => :1.1
+hello 2 => :1.2
+request 0 a.b 1 => 1 - 0
+request 1 a.b 0 => 2 0 0
+request 2 a.b 0 => 2 0 0
+request 1 a.b 6 => 1 0 1
+queue a.b => 1/6 0/1 2/0
+
+hello 0 => :1.0
+hello 1 => :1.1
+hello 2 => :1.2
+request 0 a.b 5 => 1 - 0
+request 1 a.b 1 => 2 0 0
+request 2 a.b 0 => 2 0 0
+request 1 a.b 7 => 1 0 1
+queue a.b => 1/7 2/0";
 
 #[test]
-fn a_name_goes_to_the_one_that_replaces_its_owner_and_back(rt: HostRuntime) {
-    try_anew(&rt, rt.alloc(), REPLACED);
+fn names_go_from_one_to_another(rt: HostRuntime) {
+    for rows in CASES.split("\n\n") {
+        play_anew(&rt, rt.alloc(), "", rows);
+    }
 }
 
 /// D-Bus Specification, RequestName: a row for each flags of the owner, a column for each of the requester.
@@ -160,26 +265,55 @@ const ANSWERS: [&[u8; 8]; 8] = [
     b"22113311",
 ];
 
-/// The queue behind an answer: a replaced owner with flag 4 does not wait.
-fn queue_after(alloc: Global, answer: u8, owner: u32, requester: u32) -> Option<String> {
+/// Whether the queue behind an answer is what is due: a replaced owner with flag 4 does not wait.
+fn is_queue_after(queue: &[(u32, u32)], answer: u8, owner: u32, requester: u32) -> bool {
     match answer {
-        b'1' if owner >= 4 => format!(in alloc; "1/{requester}").ok(),
-        b'1' => format!(in alloc; "1/{requester} 0/{owner}").ok(),
-        b'2' => format!(in alloc; "0/{owner} 1/{requester}").ok(),
-        _ => format!(in alloc; "0/{owner}").ok(),
+        b'1' if owner >= 4 => queue == [(1, requester)].as_slice(),
+        b'1' => queue == [(1, requester), (0, owner)].as_slice(),
+        b'2' => queue == [(0, owner), (1, requester)].as_slice(),
+        _ => queue == [(0, owner)].as_slice(),
     }
 }
 
-/// The rows of a pair of flags.
-fn rows_of(alloc: Global, answer: u8, owner: u32, requester: u32) -> Option<String> {
-    let queue = queue_after(alloc, answer, owner, requester)?;
-    let digit = answer.wrapping_sub(b'0');
+/// Whether a connection that asks for a name is answered so.
+fn is_answered(
+    rt: &impl Abort,
+    names: &mut Names,
+    name: &BusName,
+    asking: (u32, u32),
+    due: (u32, Option<u32>, Option<u32>),
+) -> bool
+    requires not_unique { is_unique_name name.now ≡ false }
+    requires not_the_bus { name.now ≢ owners.own_name }
+{
+    let (conn, flags) = asking;
+    let change = names.request(conn, name, flags).expect(rt, "memory");
+    (change.answer, change.before, change.after) == due
+}
+
+/// Whether the second of two connections that ask for a name with these flags is answered so.
+fn is_pair(rt: &impl Abort, alloc: Global, answer: u8, owner: u32, requester: u32) -> bool {
+    let mut names = Names::new(alloc);
+    play(rt, alloc, &mut names, "hello 0 => :1.0\nhello 1 => :1.1");
+    let name = known(rt, alloc, &mut "a.b".split_whitespace());
+    let digit = u32::from(answer.wrapping_sub(b'0'));
     let after = u32::from(answer == b'1');
-    format!(in alloc;
-        "hello 0 => :1.0\nhello 1 => :1.1\nrequest 0 a.b {owner} => 1 - 0\nrequest 1 a.b {requester} => {digit} 0 {after}\n\
-queue a.b => {queue}\nrequest {after} a.b 0 => 4 {after} {after}"
-    )
-    .ok()
+    is_answered(rt, &mut names, &name, (0, owner), (1, None, Some(0)))
+        && is_answered(
+            rt,
+            &mut names,
+            &name,
+            (1, requester),
+            (digit, Some(0), Some(after)),
+        )
+        && is_queue_after(names.queue(&name), answer, owner, requester)
+        && is_answered(
+            rt,
+            &mut names,
+            &name,
+            (after, 0),
+            (4, Some(after), Some(after)),
+        )
 }
 
 #[test]
@@ -187,11 +321,7 @@ fn each_pair_of_flags_has_its_answer(rt: HostRuntime) {
     for owner in 0..8_u32 {
         for requester in 0..8_u32 {
             let answer = ANSWERS[owner as usize][requester as usize];
-            let rows = rows_of(rt.alloc(), answer, owner, requester).unwrap_or(String::new(
-                rt.alloc(),
-            ));
-            assert!(rt; !rows.is_empty());
-            try_anew(&rt, rt.alloc(), rows.as_str());
+            assert!(rt; is_pair(&rt, rt.alloc(), answer, owner, requester));
         }
     }
 }
@@ -255,89 +385,6 @@ queue org.example.Long-Name => 0/0 1/1 2/0 3/3";
 #[test]
 fn one_leaves_a_queue_from_each_place(rt: HostRuntime) {
     for rows in LEFT.split("\n\n") {
-        let mut names = Names::new(rt.alloc());
-        try_rows(&rt, rt.alloc(), &mut names, FIVE);
-        try_rows(&rt, rt.alloc(), &mut names, rows);
+        play_anew(&rt, rt.alloc(), FIVE, rows);
     }
-}
-
-/// Flags of the owner, flags of the request that waits, flags of the next one, and behind the arrow its answer and the queue.
-const AGAIN: &str = "\
-0 0 3 => 2 0 0 => 0/0 1/3 2/0
-0 0 4 => 3 0 0 => 0/0 2/0
-1 0 2 => 1 0 1 => 1/2 0/1 2/0
-1 0 6 => 1 0 1 => 1/6 0/1 2/0
-5 1 7 => 1 0 1 => 1/7 2/0";
-
-/// The rows of a row of that table.
-fn rows_again(alloc: Global, row: &str) -> Option<String> {
-    let (flags, due) = row.split_once(" => ")?;
-    let (answer, queue) = due.split_once(" => ")?;
-    let mut flags = flags.split(' ');
-    let (owner, first, next) = (flags.next()?, flags.next()?, flags.next()?);
-    format!(in alloc;
-        "hello 0 => :1.0\nhello 1 => :1.1\nhello 2 => :1.2\nrequest 0 a.b {owner} => 1 - 0\nrequest 1 a.b {first} => 2 0 0\n\
-request 2 a.b 0 => 2 0 0\nrequest 1 a.b {next} => {answer}\nqueue a.b => {queue}"
-    )
-    .ok()
-}
-
-#[test]
-fn a_waiting_connection_asks_again_with_other_flags(rt: HostRuntime) {
-    for row in AGAIN.lines() {
-        let rows = rows_again(rt.alloc(), row).unwrap_or(String::new(rt.alloc()));
-        assert!(rt; !rows.is_empty());
-        try_anew(&rt, rt.alloc(), rows.as_str());
-    }
-}
-
-/// Unique names count on, also behind one that left.
-const UNIQUE: &str = "\
-hello 0 => :1.0
-hello 1 => :1.1
-hello 2 => :1.2
-gone 1 =>
-hello 7 => :1.3
-hello 5 => :1.4
-queue :1.3 => 7/0
-owner :1.4 => 5
-unique 7 => yes
-unique 1 => no
-list => org.freedesktop.DBus :1.0 :1.2 :1.4 :1.3";
-
-#[test]
-fn unique_names_count_on(rt: HostRuntime) {
-    try_anew(&rt, rt.alloc(), UNIQUE);
-}
-
-/// Well-known names in the order of their bytes.
-const ORDER: &str = "\
-hello 0 => :1.0
-hello 1 => :1.1
-request 1 b.a 0 => 1 - 1
-request 1 a.c 0 => 1 - 1
-request 1 _.z 0 => 1 - 1
-request 1 a.b.c 0 => 1 - 1
-request 1 -x.y 0 => 1 - 1
-request 1 A.b 0 => 1 - 1
-list => org.freedesktop.DBus :1.0 :1.1 -x.y A.b _.z a.b.c a.c b.a
-release 1 a.c => 1 1 -
-owned 1 => -x.y A.b _.z a.b.c b.a
-gone 1 =>
-list => org.freedesktop.DBus :1.0";
-
-#[test]
-fn well_known_names_are_in_the_order_of_their_bytes(rt: HostRuntime) {
-    try_anew(&rt, rt.alloc(), ORDER);
-}
-
-/// How many names a connection owns that has left; the list is made of its parts and put together again.
-fn owned_again(alloc: Global) -> Option<usize> {
-    let names = Names::new(alloc);
-    Some(NameList::from_vec(names.owned(1).ok()?.into_vec()).len())
-}
-
-#[test]
-fn one_that_is_not_there_owns_nothing(rt: HostRuntime) {
-    assert!(rt; owned_again(rt.alloc()) == Some(0));
 }

@@ -61,9 +61,11 @@ pub fn has_blocks(pool: &Pool, made: u64, free: u64) -> bool {
     pool.made() == made && pool.free() == free
 }
 
-/// Whether the first block of a chain has these bytes.
-pub fn shows(pool: &Pool, chain: u32, bytes: &[u8]) -> bool
+/// Looks whether a chain has so many bytes, in a pool of so many blocks of which so many are free, and whether its first block has these bytes.
+pub fn stands(rt: &impl Abort, pool: &Pool, chain: u32, counted: (u32, u64, u64), front: &[u8])
     requires { IsSome (chain_at pool.now chain) }
 {
-    pool.front(chain) == bytes
+    let (len, made, free) = counted;
+    let holds = counts(pool, chain, len, made, free) && pool.front(chain) == front;
+    assert!(rt; holds);
 }

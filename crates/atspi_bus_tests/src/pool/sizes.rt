@@ -7,7 +7,7 @@ ghost use Rattle.atspi_bus_tests.specs.Kept.{AllUsed, KeepsChains};
 
 use crate::pool::chains::{counts, cut_back, open, pop, push};
 use atspi_pool::Pool;
-use std::alloc::{AllocError, Global};
+use std::alloc::Global;
 use std::process::Abort;
 
 /// So many chains of a new pool.
@@ -96,38 +96,35 @@ fn a_thousand_chains(rt: HostRuntime) {
 }
 
 /// 16 MiB of bytes that tell where they stand.
-fn sixteen(alloc: Global) -> Result<Vec<u8>, AllocError> {
-    let mut bytes = Vec::with_capacity(alloc, 16_777_216)?;
+fn sixteen(rt: &impl Abort, alloc: Global) -> Vec<u8> {
+    let mut bytes = Vec::new(alloc);
     for i in 0..16_777_216u32 {
-        bytes.push((i % 251) as u8)?;
+        bytes.push((i % 251) as u8).expect(rt, "memory");
     }
-    Ok(bytes)
+    bytes
 }
 
-/// What comes out of a chain in 70,000 blocks.
-fn drained(
-    rt: &impl Abort,
-    alloc: Global,
-    pool: &mut Pool,
-    chain: u32,
-) -> Result<Vec<u8>, AllocError>
+/// Looks whether these bytes come out of a chain in 70,000 blocks.
+fn drains(rt: &impl Abort, pool: &mut Pool, chain: u32, bytes: &[u8])
     requires { IsSome (chain_at pool.old chain) }
     ensures { KeepsChains pool.old pool.new }
 {
-    let mut out = Vec::with_capacity(alloc, 16_777_216)?;
+    let mut rest = bytes;
     for _ in 0..70_000 {
         let front = pool.front(chain);
-        out.extend_from_slice(front)?;
+        rest = rest
+            .strip_prefix(front)
+            .expect(rt, "the bytes in their order");
         let n = front.len() as u32;
         pop(rt, pool, chain, n);
     }
-    Ok(out)
+    assert!(rt; rest.is_empty());
 }
 
 /// A chain of 16 MiB comes out as it went in.
 #[test]
 fn sixteen_mebibytes(rt: HostRuntime) {
-    let bytes = sixteen(rt.alloc()).expect(&rt, "memory");
+    let bytes = sixteen(&rt, rt.alloc());
     assert!(rt; bytes.len() <= 100_000_000);
     let mut pool = Pool::new(rt.alloc());
     let chain = open(&rt, &mut pool);
@@ -136,7 +133,6 @@ fn sixteen_mebibytes(rt: HostRuntime) {
     push(&rt, &mut pool, chain, &bytes);
     assert!(rt; counts(&pool, chain, 16_777_217, 65_537, 0));
     pop(&rt, &mut pool, chain, 1);
-    let out = drained(&rt, rt.alloc(), &mut pool, chain).expect(&rt, "memory");
-    assert!(rt; out == bytes);
+    drains(&rt, &mut pool, chain, &bytes);
     assert!(rt; counts(&pool, chain, 0, 65_537, 65_537));
 }

@@ -1,5 +1,5 @@
 use Rattle.atspi_bus_tests.specs.Kept.{KeepsChains}
-use Rattle.atspi_bus_tests.proofs.pool.sizes.drained.Given as goal
+use Rattle.atspi_bus_tests.proofs.pool.sizes.drains.Given as goal
 
 abbrev pub invariant-loop : goal.invariant-loop
 invariant-loop g l = KeepsChains l.fn.pool l.pool
