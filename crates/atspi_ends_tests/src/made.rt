@@ -6,171 +6,186 @@ use atspi_base::Bytes;
 use atspi_header::MessageRef;
 use atspi_message::total;
 use std::alloc::Global;
+use std::process::Abort;
+
+/// Appends bytes.
+pub fn put(rt: &impl Abort, out: &mut Bytes, bytes: &[u8]) {
+    out.extend(bytes).expect(rt, "memory");
+}
 
 /// Appends zeros up to a multiple of 4 or 8.
-fn pad(out: &mut Bytes, unit: usize) -> Option<()>
+fn pad(rt: &impl Abort, out: &mut Bytes, unit: usize)
     requires { 0 < unit }
 {
     let few = (unit - out.len() % unit) % unit;
     let (zeros, _) = b"\0\0\0\0\0\0\0".split_at(few.min(7));
-    out.extend(zeros).ok()
+    put(rt, out, zeros);
 }
 
 /// Appends a number of four bytes.
-fn put_four(out: &mut Bytes, four: [u8; 4]) -> Option<()> {
-    pad(out, 4)?;
-    out.extend(&four).ok()
+fn put_four(rt: &impl Abort, out: &mut Bytes, four: [u8; 4]) {
+    pad(rt, out, 4);
+    put(rt, out, &four);
+}
+
+/// Appends a length.
+fn put_length(rt: &impl Abort, out: &mut Bytes, length: usize) {
+    let length = u32::try_from(length).expect(rt, "a length");
+    put_four(rt, out, length.to_le_bytes());
 }
 
 /// Appends a text or a path.
-fn put_text(out: &mut Bytes, text: &str) -> Option<()> {
-    put_four(out, u32::try_from(text.len()).ok()?.to_le_bytes())?;
-    out.extend(text.as_bytes()).ok()?;
-    out.push(0).ok()
+fn put_text(rt: &impl Abort, out: &mut Bytes, text: &str) {
+    put_length(rt, out, text.len());
+    put(rt, out, text.as_bytes());
+    put(rt, out, b"\0");
 }
 
 /// Appends a signature.
-fn put_signature(out: &mut Bytes, codes: &str) -> Option<()> {
-    out.push(u8::try_from(codes.len()).ok()?).ok()?;
-    out.extend(codes.as_bytes()).ok()?;
-    out.push(0).ok()
-}
-
-/// Appends a list of so many items of `:1.7/a`, with indexes from 0. Each takes 124 bytes, and 4 more before the next.
-fn put_items(out: &mut Bytes, count: u32) -> Option<()> {
-    put_four(out, count.checked_mul(128)?.saturating_sub(4).to_le_bytes())?;
-    pad(out, 8)?;
-    for index in 0..count {
-        put_words(out, "(|s=:1.7|s=/a|(|s=:1.7|s=/r|(|s=é|s=/p")?;
-        put_four(out, index.to_le_bytes())?;
-        put_words(out, "i=0|u=13|s=a.B|s=|s=OK|u=43|s=Does it|u=4|u=1")?;
-    }
-    Some(())
+fn put_signature(rt: &impl Abort, out: &mut Bytes, codes: &str) {
+    let length = u8::try_from(codes.len()).expect(rt, "a length");
+    put(rt, out, &[length]);
+    put(rt, out, codes.as_bytes());
+    put(rt, out, b"\0");
 }
 
 /// Appends what a word spells: a text or a path `s=`, a number `u=` or `i=`, a byte `b=`, a signature `v=`, zeros before a struct or its like `(`.
-fn put_word(out: &mut Bytes, word: &str) -> Option<()> {
+fn put_word(rt: &impl Abort, out: &mut Bytes, word: &str) {
     let (kind, value) = word.split_once('=').unwrap_or((word, ""));
     match kind {
-        "s" => put_text(out, value),
-        "u" => put_four(out, value.parse::<u32>().ok()?.to_le_bytes()),
-        "i" => put_four(out, value.parse::<i32>().ok()?.to_le_bytes()),
-        "b" => out.push(value.parse::<u8>().ok()?).ok(),
-        "v" => put_signature(out, value),
-        "(" => pad(out, 8),
-        _ => None,
+        "s" => put_text(rt, out, value),
+        "u" => {
+            let n = value.parse::<u32>().expect(rt, "a number");
+            put_four(rt, out, n.to_le_bytes());
+        }
+        "i" => {
+            let n = value.parse::<i32>().expect(rt, "a number");
+            put_four(rt, out, n.to_le_bytes());
+        }
+        "b" => put(rt, out, &[value.parse::<u8>().expect(rt, "a byte")]),
+        "v" => put_signature(rt, out, value),
+        other => {
+            stop_unless(rt, word, other == "(");
+            pad(rt, out, 8);
+        }
     }
 }
 
-/// Appends what words spell, with `|` between two.
-fn put_words(out: &mut Bytes, words: &str) -> Option<()> {
-    for word in words.split('|') {
-        put_word(out, word)?;
+/// Appends what words spell, with `|` between two; nothing for no words.
+fn put_words(rt: &impl Abort, out: &mut Bytes, words: &str) {
+    for word in words.split_terminator('|') {
+        put_word(rt, out, word);
     }
-    Some(())
 }
 
-/// Values: words with `|` between two, of which the first may be `items=COUNT`; nothing for no values.
-fn values(alloc: Global, words: &str) -> Option<Bytes> {
+/// Appends a list of so many items of `:1.7/a`, with indexes from 0. Each takes 124 bytes, and 4 more before the next.
+fn put_items(rt: &impl Abort, out: &mut Bytes, count: u32) {
+    let length = count.saturating_mul(128).saturating_sub(4);
+    put_four(rt, out, length.to_le_bytes());
+    pad(rt, out, 8);
+    for index in 0..count {
+        put_words(rt, out, "(|s=:1.7|s=/a|(|s=:1.7|s=/r|(|s=é|s=/p");
+        put_four(rt, out, index.to_le_bytes());
+        put_words(rt, out, "i=0|u=13|s=a.B|s=|s=OK|u=43|s=Does it|u=4|u=1");
+    }
+}
+
+/// Appends values: words with `|` between two, of which the first may be `items=COUNT`; nothing for no values.
+fn put_values(rt: &impl Abort, out: &mut Bytes, words: &str) {
+    let Some(spelled) = words.strip_prefix("items=") else {
+        return put_words(rt, out, words);
+    };
+    let (count, rest) = spelled.split_once('|').unwrap_or((spelled, ""));
+    put_items(rt, out, count.parse::<u32>().expect(rt, "a number"));
+    put_words(rt, out, rest);
+}
+
+/// A message of these fields and values. In front stand its order, its type, its flags and 1.
+fn message(rt: &impl Abort, alloc: Global, front: [u8; 4], fields: &[u8], words: &str) -> Bytes {
+    let mut body = Bytes::new(alloc);
+    put_values(rt, &mut body, words);
     let mut out = Bytes::new(alloc);
-    let mut left = words;
-    if let Some(spelled) = words.strip_prefix("items=") {
-        let (count, rest) = spelled.split_once('|').unwrap_or((spelled, ""));
-        put_items(&mut out, count.parse::<u32>().ok()?)?;
-        left = rest;
-    }
-    if !left.is_empty() {
-        put_words(&mut out, left)?;
-    }
-    Some(out)
+    put(rt, &mut out, &front);
+    put_length(rt, &mut out, body.len());
+    put_words(rt, &mut out, "u=9");
+    put_length(rt, &mut out, fields.len());
+    put(rt, &mut out, fields);
+    pad(rt, &mut out, 8);
+    put(rt, &mut out, body.as_slice());
+    out
 }
 
-/// Appends a message of these fields and values. In front stand its order, its type, its flags and 1.
-fn put_message(out: &mut Bytes, front: [u8; 4], fields: &[u8], body: &[u8]) -> Option<()> {
-    out.extend(&front).ok()?;
-    put_four(out, u32::try_from(body.len()).ok()?.to_le_bytes())?;
-    put_words(out, "u=9")?;
-    put_four(out, u32::try_from(fields.len()).ok()?.to_le_bytes())?;
-    out.extend(fields).ok()?;
-    pad(out, 8)?;
-    out.extend(body).ok()
+/// Appends the words before a field, and the text that it has.
+fn put_field(rt: &impl Abort, fields: &mut Bytes, words: &str, text: &str) {
+    put_words(rt, fields, words);
+    put_text(rt, fields, text);
 }
 
-/// The bytes of a message of a type, with fields before its sender `:1.7`. It is spelled by the codes of its values' types, `|` and the values.
-fn message(alloc: Global, kind: u8, mut fields: Bytes, spelled: &str) -> Option<Bytes> {
-    let (codes, words) = spelled.split_once('|').unwrap_or((spelled, ""));
-    put_words(&mut fields, "(|b=7|v=s|s=:1.7|(|b=8|v=g")?;
-    put_signature(&mut fields, codes)?;
-    let body = values(alloc, words)?;
-    let mut out = Bytes::new(alloc);
-    put_message(
-        &mut out,
-        [b'l', kind, 1, 1],
-        fields.as_slice(),
-        body.as_slice(),
-    )?;
-    Some(out)
+/// Appends the field of the types of values.
+fn put_types(rt: &impl Abort, fields: &mut Bytes, codes: &str) {
+    put_words(rt, fields, "(|b=8|v=g");
+    put_signature(rt, fields, codes);
 }
 
 /// Appends the fields of a call of a member of `/org/a11y/atspi/accessible/7`, of an interface or, where it is a dash, of none, with values of these types.
-fn put_call(out: &mut Bytes, interface: &str, member: &str, codes: &str) -> Option<()> {
-    put_words(out, "(|b=1|v=o|s=/org/a11y/atspi/accessible/7")?;
+fn put_call(rt: &impl Abort, fields: &mut Bytes, interface: &str, member: &str, codes: &str) {
+    put_words(rt, fields, "(|b=1|v=o|s=/org/a11y/atspi/accessible/7");
     if interface != "-" {
-        put_words(out, "(|b=2|v=s")?;
-        put_text(out, interface)?;
+        put_field(rt, fields, "(|b=2|v=s", interface);
     }
-    put_words(out, "(|b=3|v=s")?;
-    put_text(out, member)?;
+    put_field(rt, fields, "(|b=3|v=s", member);
     if !codes.is_empty() {
-        put_words(out, "(|b=8|v=g")?;
-        put_signature(out, codes)?;
+        put_types(rt, fields, codes);
     }
-    Some(())
 }
 
-/// The bytes of a call without a sender. It is spelled by its interface, a blank, its member, and behind `|` what it carries.
-pub fn call(alloc: Global, spelled: &str) -> Option<Bytes> {
-    let (names, carried) = spelled.split_once('|').unwrap_or((spelled, ""));
-    let (interface, member) = names.split_once(' ')?;
-    let (codes, words) = carried.split_once('|').unwrap_or((carried, ""));
-    let mut fields = Bytes::new(alloc);
-    put_call(&mut fields, interface, member, codes)?;
-    let body = values(alloc, words)?;
-    let mut out = Bytes::new(alloc);
-    put_message(
-        &mut out,
-        [b'l', 1, 0, 1],
-        fields.as_slice(),
-        body.as_slice(),
-    )?;
-    Some(out)
+/// A text up to a sign `|`, and what stands behind it.
+fn parted(spelled: &str) -> (&str, &str) {
+    spelled.split_once('|').unwrap_or((spelled, ""))
 }
 
-/// The bytes of a signal of the node `/n` at `:1.7`. It is spelled by its member, `|`, and what it carries.
-pub fn signal(alloc: Global, interface: &str, spelled: &str) -> Option<Bytes> {
-    let (member, carried) = spelled.split_once('|').unwrap_or((spelled, ""));
+/// The bytes of a call without a sender. It is spelled by its interface, a blank, its member, and behind `|` the codes of its values' types, `|` and the values.
+pub fn call(rt: &impl Abort, alloc: Global, spelled: &str) -> Bytes {
+    let (names, carried) = parted(spelled);
+    let (interface, member) = names.split_once(' ').expect(rt, "a member");
+    let (codes, words) = parted(carried);
     let mut fields = Bytes::new(alloc);
-    put_words(&mut fields, "(|b=1|v=o|s=/n|(|b=2|v=s")?;
-    put_text(&mut fields, interface)?;
-    put_words(&mut fields, "(|b=3|v=s")?;
-    put_text(&mut fields, member)?;
-    message(alloc, 4, fields, carried)
+    put_call(rt, &mut fields, interface, member, codes);
+    message(rt, alloc, [b'l', 1, 0, 1], fields.as_slice(), words)
+}
+
+/// The bytes of a signal of the node `/n` at `:1.7`. It is spelled by its member, `|`, and what it carries: the codes of its values' types, `|` and the values.
+pub fn signal(rt: &impl Abort, alloc: Global, interface: &str, spelled: &str) -> Bytes {
+    let (member, carried) = parted(spelled);
+    let (codes, words) = parted(carried);
+    let mut fields = Bytes::new(alloc);
+    put_field(rt, &mut fields, "(|b=1|v=o|s=/n|(|b=2|v=s", interface);
+    put_field(rt, &mut fields, "(|b=3|v=s", member);
+    put_words(rt, &mut fields, "(|b=7|v=s|s=:1.7");
+    put_types(rt, &mut fields, codes);
+    message(rt, alloc, [b'l', 4, 1, 1], fields.as_slice(), words)
 }
 
 /// The bytes of what a call of `:1.7` returns, spelled by what it carries.
-pub fn returned(alloc: Global, carried: &str) -> Option<Bytes> {
+pub fn returned(rt: &impl Abort, alloc: Global, carried: &str) -> Bytes {
+    let (codes, words) = parted(carried);
     let mut fields = Bytes::new(alloc);
-    put_words(&mut fields, "(|b=5|v=u|u=4")?;
-    message(alloc, 2, fields, carried)
+    put_words(rt, &mut fields, "(|b=5|v=u|u=4|(|b=7|v=s|s=:1.7");
+    put_types(rt, &mut fields, codes);
+    message(rt, alloc, [b'l', 2, 1, 1], fields.as_slice(), words)
 }
 
 /// The message that the bytes are, where it lies, taken for one of a type.
-pub fn lent(bytes: &[u8], kind: u8) -> Option<MessageRef<'_>> {
-    let length = total(bytes.first_chunk::<16>()?).ok()?;
-    if length as usize != bytes.len() {
-        return None;
-    }
-    let mut message = MessageRef::parse(bytes).ok()?;
+pub fn lent<'a>(rt: &impl Abort, bytes: &'a [u8], kind: u8) -> MessageRef<'a> {
+    let first = bytes.first_chunk::<16>().expect(rt, "a front");
+    let length = total(first).expect(rt, "a length");
+    assert!(rt; length as usize == bytes.len());
+    let mut message = MessageRef::parse(bytes).expect(rt, "a message");
     message.kind = kind;
-    Some(message)
+    message
+}
+
+/// Stops at a row that does not hold, and shows it.
+pub fn stop_unless(rt: &impl Abort, row: &str, holds: bool) {
+    assert!(rt; holds, "{row}");
 }

@@ -1,30 +1,29 @@
 //! What calls ask: members, properties, and the first error.
 
-use crate::made::{call, lent};
+use crate::made::{call, lent, stop_unless};
 use atspi_app_calls::{AppInterface, AppObject, Ask, asked};
 use atspi_forest::Kinds;
 use atspi_protocol::ends::CallError;
 use atspi_protocol::members::{ObjectMember, ObjectProperty};
 use std::alloc::Global;
 use std::process::Abort;
-use std::test::*;
 
 /// The object of a word: the root without interfaces of its own, a node with Text, Selection and Action, or the cache.
-fn object_of(word: &str) -> Option<AppObject> {
+fn object_of(rt: &impl Abort, word: &str) -> AppObject {
     let is_node = word == "node";
-    match word {
-        "cache" => Some(AppObject::Cache),
-        "root" | "node" => Some(AppObject::Node {
-            is_root: !is_node,
-            kinds: Kinds {
-                text: is_node,
-                editable: false,
-                selection: is_node,
-                table: false,
-                action: is_node,
-            },
-        }),
-        _ => None,
+    if word == "cache" {
+        return AppObject::Cache;
+    }
+    stop_unless(rt, word, is_node || word == "root");
+    AppObject::Node {
+        is_root: !is_node,
+        kinds: Kinds {
+            text: is_node,
+            editable: false,
+            selection: is_node,
+            table: false,
+            action: is_node,
+        },
     }
 }
 
@@ -58,23 +57,17 @@ fn due_of(due: &str) -> Option<Result<Ask, CallError>> {
 }
 
 /// Whether the call of a row asks of its object what is due.
-fn asks(alloc: Global, row: &str) -> Option<bool> {
-    let (spelled, due) = row.split_once(" => ")?;
-    let (object, spelled) = spelled.split_once(' ')?;
-    let bytes = call(alloc, spelled)?;
-    let message = lent(bytes.as_slice(), 1)?;
-    Some(asked(object_of(object)?, &message) == due_of(due)?)
+fn asks(rt: &impl Abort, alloc: Global, row: &str) -> bool {
+    let (spelled, due) = row.split_once(" => ").expect(rt, "a row");
+    let (object, spelled) = spelled.split_once(' ').expect(rt, "an object");
+    let bytes = call(rt, alloc, spelled);
+    let message = lent(rt, bytes.as_slice(), 1);
+    asked(object_of(rt, object), &message) == due_of(due).expect(rt, "what is due")
 }
 
-/// The call of each row asks what is due.
-fn try_rows(rt: &impl Abort, alloc: Global, rows: &str) {
-    for row in rows.lines() {
-        assert!(rt; asks(alloc, row) == Some(true), "{row}");
-    }
-}
-
-/// AT-SPI2's interface files: what takes nothing is asked for, what takes something is refused.
-const MEMBERS: &str = "\
+/// AT-SPI2's interface files: what takes nothing is asked for, what takes something is refused. Then members with numbers, and one with a text in place of a
+/// number; interfaces, which are looked for before members; properties by the name of their interface and their own; and all of an interface.
+const CALLS: &str = "\
 node - GetChildren => GetChildren
 node - GetState => GetState
 node - Ping => Ping
@@ -86,41 +79,17 @@ node - GetLocale => no method
 node - InsertText => no method
 node - GetStringAtOffset => no method
 node - GetItems => no method
-node - Embed => no method";
-
-#[test]
-fn members_without_arguments(rt: HostRuntime) {
-    try_rows(&rt, rt.alloc(), MEMBERS);
-}
-
-/// Members with numbers, and one with a text in place of a number.
-const NUMBERS: &str = "\
+node - Embed => no method
 node org.a11y.atspi.Accessible GetChildAtIndex|i|i=-2147483648 => GetChildAtIndex
 node org.a11y.atspi.Accessible GetChildAtIndex|i|i=-1 => GetChildAtIndex
 node org.a11y.atspi.Accessible GetChildAtIndex|i|i=0 => GetChildAtIndex
 node org.a11y.atspi.Accessible GetChildAtIndex|i|i=2147483647 => GetChildAtIndex
 node org.a11y.atspi.Text GetText|ii|i=0|i=-1 => GetText
 root org.a11y.atspi.Text GetText|ii|i=0|i=-1 => no interface
-node - GetChildAtIndex|s|s=0 => no arguments";
-
-#[test]
-fn numbers_for_members(rt: HostRuntime) {
-    try_rows(&rt, rt.alloc(), NUMBERS);
-}
-
-/// The interface is looked for before the member.
-const INTERFACES: &str = "\
+node - GetChildAtIndex|s|s=0 => no arguments
 node org.example.Other GetChildren => no interface
 node org.a11y.atspi.Text GetChildren => no method
-cache - GetItems => GetItems";
-
-#[test]
-fn interfaces_are_looked_for_first(rt: HostRuntime) {
-    try_rows(&rt, rt.alloc(), INTERFACES);
-}
-
-/// Properties by the name of their interface and their own, and all of an interface.
-const PROPERTIES: &str = "\
+cache - GetItems => GetItems
 node - Get|ss|s=org.a11y.atspi.Accessible|s=Name => Name
 node - Get|ss|s=org.a11y.atspi.Text|s=CaretOffset => CaretOffset
 node - Get|ss|s=org.a11y.atspi.Text|s=Name => no property
@@ -131,6 +100,8 @@ node - Get|ss|s=org.freedesktop.DBus.Peer|s=Name => no property
 node - GetAll|s|s=org.a11y.atspi.Text => all of Text";
 
 #[test]
-fn properties_by_name(rt: HostRuntime) {
-    try_rows(&rt, rt.alloc(), PROPERTIES);
+fn calls_ask_for_members_and_properties(rt: HostRuntime) {
+    for row in CALLS.lines() {
+        stop_unless(&rt, row, asks(&rt, rt.alloc(), row));
+    }
 }

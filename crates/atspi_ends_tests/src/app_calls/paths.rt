@@ -1,7 +1,7 @@
 //! Paths that name a node, and paths that nearly do.
 
+use crate::made::stop_unless;
 use atspi_app_calls::node_at;
-use std::test::*;
 
 /// Paths, and the nodes that they name; what names none has no number.
 const PATHS: &str = "\
@@ -19,15 +19,10 @@ const PATHS: &str = "\
 /org/a11y/atspi/cache => none
 / => none";
 
-/// Whether the path of a row names its node, or none.
-fn names(row: &str) -> Option<bool> {
-    let (path, due) = row.split_once(" => ")?;
-    Some(node_at(path) == due.parse::<u32>().ok())
-}
-
 #[test]
 fn paths_of_nodes(rt: HostRuntime) {
     for row in PATHS.lines() {
-        assert!(rt; names(row) == Some(true), "{row}");
+        let (path, due) = row.split_once(" => ").expect(&rt, "a row");
+        stop_unless(&rt, row, node_at(path) == due.parse::<u32>().ok());
     }
 }

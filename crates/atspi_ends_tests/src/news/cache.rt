@@ -1,7 +1,7 @@
 //! The news of the signals of a cache.
 
+use crate::made::stop_unless;
 use crate::news::told::tells;
-use std::test::*;
 
 const CACHE: &str = "org.a11y.atspi.Cache";
 
@@ -39,6 +39,6 @@ AddAccessible|((so)(so)(so)iiassusau)((so)(so)(so)iiassusau)|(|(|s=:1.7|s=/a|(|s
 #[test]
 fn each_signal_tells_its_news(rt: HostRuntime) {
     for row in SIGNALS.split('\n') {
-        assert!(rt; tells(rt.alloc(), CACHE, 4, row) == Some(true), "{row}");
+        stop_unless(&rt, row, tells(&rt, rt.alloc(), CACHE, 4, row));
     }
 }

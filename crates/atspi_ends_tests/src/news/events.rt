@@ -1,7 +1,7 @@
 //! The news of events.
 
+use crate::made::stop_unless;
 use crate::news::told::tells;
-use std::test::*;
 
 const EVENT: &str = "org.a11y.atspi.Event.Object";
 
@@ -53,7 +53,7 @@ TextCaretMoved|siiv(so)|s=|i=3|i=0|v=i|i=0|(|s=:1.7|s=/c => Caret /n 3";
 #[test]
 fn each_event_tells_its_news(rt: HostRuntime) {
     for row in EVENTS.split('\n') {
-        assert!(rt; tells(rt.alloc(), EVENT, 4, row) == Some(true), "{row}");
+        stop_unless(&rt, row, tells(&rt, rt.alloc(), EVENT, 4, row));
     }
 }
 
@@ -63,21 +63,13 @@ const MOVED: &str = "TextCaretMoved|siiva{sv}|s=|i=3|i=0|v=i|i=0|u=0|( => Nothin
 #[test]
 fn messages_of_other_types_are_no_news(rt: HostRuntime) {
     for kind in 0..=255_u8 {
-        if kind != 4 {
-            assert!(rt;
-                tells(rt.alloc(), EVENT, kind, MOVED) == Some(true),
-                "type {kind}"
-            );
-        }
+        assert!(rt; kind == 4 || tells(&rt, rt.alloc(), EVENT, kind, MOVED));
     }
 }
 
 #[test]
 fn signals_of_other_interfaces_are_no_news(rt: HostRuntime) {
     for interface in "org.a11y.atspi.Event.Window org.a11y.atspi.Cache a.b".split(' ') {
-        assert!(rt;
-            tells(rt.alloc(), interface, 4, MOVED) == Some(true),
-            "{interface}"
-        );
+        stop_unless(&rt, interface, tells(&rt, rt.alloc(), interface, 4, MOVED));
     }
 }

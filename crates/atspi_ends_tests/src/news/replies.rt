@@ -1,35 +1,42 @@
 //! What replies tell.
 
-use crate::made::{lent, returned};
-use crate::news::shown::{put_item, put_news};
+use crate::made::{lent, put, returned, stop_unless};
+use crate::news::shown::{put_item, put_what};
 use atspi_base::{Bytes, put_decimal};
+use atspi_forest::Item;
 use atspi_news_reading::{items_told, part_told};
 use atspi_protocol::news::PartName;
 use atspi_valid_names::Path;
 use std::alloc::Global;
-use std::test::*;
+use std::process::Abort;
 
 /// The bytes of a return, and the type for whose it is taken. It is spelled by that type, `|`, and what it carries.
-fn reply(alloc: Global, spelled: &str) -> Option<(Bytes, u8)> {
+fn reply(rt: &impl Abort, alloc: Global, spelled: &str) -> (Bytes, u8) {
     let (kind, carried) = spelled.split_once('|').unwrap_or((spelled, ""));
-    Some((returned(alloc, carried)?, kind.parse::<u8>().ok()?))
+    let kind = kind.parse::<u8>().expect(rt, "a type");
+    (returned(rt, alloc, carried), kind)
 }
 
-/// How many items a message tells and the last of them, or `none`.
-fn list_told(alloc: Global, spelled: &str) -> Option<Bytes> {
-    let (bytes, kind) = reply(alloc, spelled)?;
-    let message = lent(bytes.as_slice(), kind)?;
+/// Whether a message tells so many items and this one as the last, or `none`.
+fn tells_list(rt: &impl Abort, alloc: Global, row: &str) -> bool {
+    let (spelled, due) = row.split_once(" => ").expect(rt, "a row");
+    let (bytes, kind) = reply(rt, alloc, spelled);
+    let message = lent(rt, bytes.as_slice(), kind);
     let mut out = Bytes::new(alloc);
-    let Some(items) = items_told(alloc, &message).ok()? else {
-        out.extend(b"none").ok()?;
-        return Some(out);
-    };
-    put_decimal(items.len() as u64, &mut out).ok()?;
-    out.extend(b" ").ok()?;
-    if let Some(last) = items.as_slice().last() {
-        put_item(&mut out, last).ok()?;
+    match &items_told(alloc, &message).expect(rt, "memory") {
+        Some(items) => put_last(rt, &mut out, items.as_slice()),
+        None => put(rt, &mut out, b"none"),
     }
-    Some(out)
+    out.as_slice() == due.as_bytes()
+}
+
+/// Appends how many items there are, and the last of them.
+fn put_last(rt: &impl Abort, out: &mut Bytes, items: &[Item]) {
+    put_decimal(items.len() as u64, out).expect(rt, "memory");
+    put(rt, out, b" ");
+    if let Some(last) = items.last() {
+        put_item(rt, out, last);
+    }
 }
 
 /// Messages with the values that they carry, and the items that they tell: how many, and the last.
@@ -44,41 +51,23 @@ const LISTS: &str = "\
 2|((so)(so)(so)iiassusau)|(|(|s=:1.7|s=/a|(|s=:1.7|s=/r|(|s=é|s=/p|i=1|i=0|u=13|s=a.B|s=|s=OK|u=43|s=Does it|u=0 => none\n\
 2|a((so)(so)(so)iiassusau)s|items=1|s= => none";
 
-/// Whether the message of a row tells the items that are due.
-fn tells_list(alloc: Global, row: &str) -> Option<bool> {
-    let (spelled, due) = row.split_once(" => ")?;
-    let told = list_told(alloc, spelled)?;
-    Some(told.as_slice() == due.as_bytes())
-}
-
 #[test]
 fn items_are_told(rt: HostRuntime) {
     for row in LISTS.split('\n') {
-        assert!(rt; tells_list(rt.alloc(), row) == Some(true), "{row}");
+        stop_unless(&rt, row, tells_list(&rt, rt.alloc(), row));
     }
 }
 
 /// The part of a name.
-fn part_of(name: &str) -> Option<PartName> {
+fn part_of(rt: &impl Abort, name: &str) -> PartName {
     match name {
-        "Text" => Some(PartName::Text),
-        "Caret" => Some(PartName::Caret),
-        "Columns" => Some(PartName::Columns),
-        _ => None,
+        "Text" => PartName::Text,
+        "Caret" => PartName::Caret,
+        other => {
+            stop_unless(rt, other, other == "Columns");
+            PartName::Columns
+        }
     }
-}
-
-/// What a message tells of a part of the row `/a`, or `none`.
-fn part_shown(alloc: Global, of: PartName, spelled: &str) -> Option<Bytes> {
-    let (bytes, kind) = reply(alloc, spelled)?;
-    let message = lent(bytes.as_slice(), kind)?;
-    let path = Path::read(alloc, b"/a").ok()?;
-    let mut out = Bytes::new(alloc);
-    match part_told(alloc, of, &path, &message).ok()? {
-        Some(told) => put_news(&mut out, &told).ok()?,
-        None => out.extend(b"none").ok()?,
-    }
-    Some(out)
 }
 
 /// Parts, messages with the values that they carry, and what they tell of the part.
@@ -108,17 +97,22 @@ Columns 2|vv|v=i|i=3|v=i|i=3 => none\n\
 Text 3|s|s=hi => none\n\
 Caret 3|v|v=i|i=3 => none";
 
-/// Whether the message of a row tells what is due of the part.
-fn tells_part(alloc: Global, row: &str) -> Option<bool> {
-    let (asked, due) = row.split_once(" => ")?;
-    let (name, spelled) = asked.split_once(' ')?;
-    let told = part_shown(alloc, part_of(name)?, spelled)?;
-    Some(told.as_slice() == due.as_bytes())
+/// Whether the message of a row tells what is due of a part of the row `/a`, or `none`.
+fn tells_part(rt: &impl Abort, alloc: Global, row: &str) -> bool {
+    let (asked, due) = row.split_once(" => ").expect(rt, "a row");
+    let (name, spelled) = asked.split_once(' ').expect(rt, "a part");
+    let (bytes, kind) = reply(rt, alloc, spelled);
+    let message = lent(rt, bytes.as_slice(), kind);
+    let path = Path::read(alloc, b"/a").expect(rt, "a path");
+    let mut out = Bytes::new(alloc);
+    let told = part_told(alloc, part_of(rt, name), &path, &message).expect(rt, "memory");
+    put_what(rt, &mut out, told);
+    out.as_slice() == due.as_bytes()
 }
 
 #[test]
 fn parts_are_told(rt: HostRuntime) {
     for row in PARTS.split('\n') {
-        assert!(rt; tells_part(rt.alloc(), row) == Some(true), "{row}");
+        stop_unless(&rt, row, tells_part(&rt, rt.alloc(), row));
     }
 }

@@ -1,56 +1,48 @@
 //! The calls that a user asks for.
 
-ghost use Rattle.std.specs.Prelude.{◌≤◌, length, IfSome};
+ghost use Rattle.std.specs.Prelude.{◌≤◌, length};
 ghost use Rattle.atspi_reader_calls.specs.Deeds.{MayBeAsked};
 
+use crate::made::stop_unless;
 use crate::reader_calls::shown::{bus_name, is_shown, text};
 use atspi_base::Text;
 use atspi_lines::Deed;
 use atspi_reader_calls::user_call;
 use std::alloc::Global;
-use std::test::*;
+use std::process::Abort;
 
 /// A text of fewer than 1,000 characters.
-fn short(alloc: Global, value: &str) -> Option<Text>
-    ensures { IfSome result (λ text. length text ≤ 1048576) }
+fn short(rt: &impl Abort, alloc: Global, value: &str) -> Text
+    ensures { length result ≤ 1048576 }
 {
-    let text = text(alloc, value)?;
-    if text.count() >= 1000 {
-        return None;
-    }
-    Some(text)
+    let text = text(rt, alloc, value);
+    assert!(rt; text.count() < 1000);
+    text
 }
 
 /// The deed of a word.
-fn deed_of(alloc: Global, word: &str) -> Option<Deed>
-    ensures { IfSome result MayBeAsked }
+fn deed_of(rt: &impl Abort, alloc: Global, word: &str) -> Deed
+    ensures { MayBeAsked result }
 {
     match word {
-        "caret" => Some(Deed::SetCaret { at: 2147483647 }),
-        "insert" => Some(Deed::InsertText {
+        "caret" => Deed::SetCaret { at: 2147483647 },
+        "insert" => Deed::InsertText {
             at: 3,
-            text: short(alloc, "hé")?,
-        }),
-        "delete" => Some(Deed::DeleteText { from: 1, to: 3 }),
-        "set" => Some(Deed::SetText {
-            text: short(alloc, "")?,
-        }),
-        "select" => Some(Deed::SelectChild { index: 2 }),
-        "deselect" => Some(Deed::DeselectChild { index: 0 }),
-        "all" => Some(Deed::SelectAll),
-        "clear" => Some(Deed::ClearSelection),
-        "act" => Some(Deed::DoAction { index: 2147483647 }),
-        _ => None,
+            text: short(rt, alloc, "hé"),
+        },
+        "delete" => Deed::DeleteText { from: 1, to: 3 },
+        "set" => Deed::SetText {
+            text: short(rt, alloc, ""),
+        },
+        "select" => Deed::SelectChild { index: 2 },
+        "deselect" => Deed::DeselectChild { index: 0 },
+        "all" => Deed::SelectAll,
+        "clear" => Deed::ClearSelection,
+        other => {
+            stop_unless(rt, other, other == "act");
+            Deed::DoAction { index: 2147483647 }
+        }
     }
-}
-
-/// Whether the call of a deed at a node of `:1.7` is what is due behind its front.
-fn calls(alloc: Global, node: u32, deed: &Deed, due: &str) -> Option<bool>
-    requires { MayBeAsked deed.now }
-{
-    let name = bus_name(alloc, ":1.7")?;
-    let call = user_call(alloc, 5, &name, node, deed).ok()?;
-    is_shown(alloc, &call, due)
 }
 
 /// Deeds at a node, and the calls that they are.
@@ -65,18 +57,20 @@ all 0 => 1 0 5 :1.7 /org/a11y/atspi/accessible/root org.a11y.atspi.Selection Sel
 clear 0 => 1 0 5 :1.7 /org/a11y/atspi/accessible/root org.a11y.atspi.Selection ClearSelection
 act 0 => 1 0 5 :1.7 /org/a11y/atspi/accessible/root org.a11y.atspi.Action DoAction 2147483647";
 
-/// Whether the deed of a row is the call that is due.
-fn holds(alloc: Global, row: &str) -> Option<bool> {
-    let (spelled, due) = row.split_once(" => ")?;
-    let (word, node) = spelled.split_once(' ')?;
-    let node = node.parse::<u32>().ok()?;
-    let deed = deed_of(alloc, word)?;
-    calls(alloc, node, &deed, due)
+/// Whether the deed of a row, at a node of `:1.7`, is the call that is due.
+fn holds(rt: &impl Abort, alloc: Global, row: &str) -> bool {
+    let (spelled, due) = row.split_once(" => ").expect(rt, "a row");
+    let (word, node) = spelled.split_once(' ').expect(rt, "a deed");
+    let node = node.parse::<u32>().expect(rt, "a node");
+    let name = bus_name(rt, alloc);
+    let deed = deed_of(rt, alloc, word);
+    let call = user_call(alloc, 5, &name, node, &deed).expect(rt, "memory");
+    is_shown(rt, alloc, call, due)
 }
 
 #[test]
 fn each_deed_is_one_call(rt: HostRuntime) {
     for row in DEEDS.lines() {
-        assert!(rt; holds(rt.alloc(), row) == Some(true), "{row}");
+        stop_unless(&rt, row, holds(&rt, rt.alloc(), row));
     }
 }

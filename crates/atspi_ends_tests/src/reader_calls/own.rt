@@ -1,38 +1,36 @@
 //! The calls of a reader's own.
 
-use crate::reader_calls::shown::{bus_name, is_shown, path, text};
+use crate::made::stop_unless;
+use crate::reader_calls::shown::{bus_name, is_shown, text};
 use atspi_protocol::following::Question;
 use atspi_protocol::news::PartName;
 use atspi_reader_calls::asking;
+use atspi_valid_names::Path;
 use std::alloc::Global;
-use std::test::*;
+use std::process::Abort;
 
 /// The question of `:1.7` for a part of `/a`.
-fn part(alloc: Global, of: PartName) -> Option<Question> {
-    let path = path(alloc, "/a")?;
-    Some(Question::GetPart(bus_name(alloc, ":1.7")?, path, of))
+fn part(rt: &impl Abort, alloc: Global, of: PartName) -> Question {
+    let path = Path::read(alloc, b"/a").expect(rt, "a path");
+    Question::GetPart(bus_name(rt, alloc), path, of)
 }
 
 /// The question of a word, and of a text behind a blank.
-fn question_of(alloc: Global, spelled: &str) -> Option<Question> {
+fn question_of(rt: &impl Abort, alloc: Global, spelled: &str) -> Question {
     let (word, rest) = spelled.split_once(' ').unwrap_or((spelled, ""));
     match word {
-        "hello" => Some(Question::Hello),
-        "match" => Some(Question::AddMatch(text(alloc, rest)?)),
-        "register" => Some(Question::RegisterEvent(text(alloc, rest)?)),
-        "children" => Some(Question::GetChildren),
-        "items" => Some(Question::GetItems(bus_name(alloc, ":1.7")?)),
-        "text" => part(alloc, PartName::Text),
-        "caret" => part(alloc, PartName::Caret),
-        "columns" => part(alloc, PartName::Columns),
-        _ => None,
+        "hello" => Question::Hello,
+        "match" => Question::AddMatch(text(rt, alloc, rest)),
+        "register" => Question::RegisterEvent(text(rt, alloc, rest)),
+        "children" => Question::GetChildren,
+        "items" => Question::GetItems(bus_name(rt, alloc)),
+        "text" => part(rt, alloc, PartName::Text),
+        "caret" => part(rt, alloc, PartName::Caret),
+        other => {
+            stop_unless(rt, other, other == "columns");
+            part(rt, alloc, PartName::Columns)
+        }
     }
-}
-
-/// Whether the call of a question is what is due.
-fn calls(alloc: Global, question: &Question, due: &str) -> Option<bool> {
-    let call = asking(alloc, 5, question).ok()?;
-    is_shown(alloc, &call, due)
 }
 
 /// Questions to the bus, the registry and an application, and the calls that they are.
@@ -47,15 +45,16 @@ caret => 1 0 5 :1.7 /a org.freedesktop.DBus.Properties Get <org.a11y.atspi.Text>
 columns => 1 0 5 :1.7 /a org.freedesktop.DBus.Properties Get <org.a11y.atspi.Table> <NColumns>";
 
 /// Whether the question of a row is the call that is due.
-fn holds(alloc: Global, row: &str) -> Option<bool> {
-    let (spelled, due) = row.split_once(" => ")?;
-    let question = question_of(alloc, spelled)?;
-    calls(alloc, &question, due)
+fn holds(rt: &impl Abort, alloc: Global, row: &str) -> bool {
+    let (spelled, due) = row.split_once(" => ").expect(rt, "a row");
+    let question = question_of(rt, alloc, spelled);
+    let call = asking(alloc, 5, &question).expect(rt, "memory");
+    is_shown(rt, alloc, call, due)
 }
 
 #[test]
 fn each_question_is_one_call(rt: HostRuntime) {
     for row in QUESTIONS.lines() {
-        assert!(rt; holds(rt.alloc(), row) == Some(true), "{row}");
+        stop_unless(&rt, row, holds(&rt, rt.alloc(), row));
     }
 }

@@ -3,96 +3,95 @@
 ghost use Rattle.atspi_message.specs.Envelope.{envelope_of};
 ghost use Rattle.atspi_message.specs.Rules.{MeetsRules};
 
-use crate::made::lent;
+use crate::made::{lent, put};
 use atspi_base::{Bytes, Text, put_decimal, put_signed};
 use atspi_cursor::{Fields, Item};
 use atspi_header::MessageRef;
 use atspi_message::Message;
-use atspi_valid_names::{BusName, Path};
+use atspi_valid_names::BusName;
 use std::alloc::Global;
+use std::process::Abort;
 
-/// A text.
-pub fn text(alloc: Global, value: &str) -> Option<Text> {
-    if value.len() > 1000 {
-        return None;
-    }
-    Text::read(alloc, value.as_bytes()).ok()
+/// A text of at most 1,000 bytes.
+pub fn text(rt: &impl Abort, alloc: Global, value: &str) -> Text {
+    assert!(rt; value.len() <= 1000);
+    Text::read(alloc, value.as_bytes()).expect(rt, "a text")
 }
 
-/// A bus name.
-pub fn bus_name(alloc: Global, value: &str) -> Option<BusName> {
-    BusName::read(alloc, value.as_bytes()).ok()
-}
-
-/// A path.
-pub fn path(alloc: Global, value: &str) -> Option<Path> {
-    Path::read(alloc, value.as_bytes()).ok()
+/// The name `:1.7`.
+pub fn bus_name(rt: &impl Abort, alloc: Global) -> BusName {
+    BusName::read(alloc, b":1.7").expect(rt, "a name")
 }
 
 /// Appends a blank and an argument: a text between `<` and `>`, or a number.
-fn put_argument(out: &mut Bytes, item: Item) -> Option<()> {
-    out.extend(b" ").ok()?;
-    if let Some(text) = item.text() {
-        out.extend(b"<").ok()?;
-        out.extend(text.as_bytes()).ok()?;
-        return out.extend(b">").ok();
+fn put_argument(rt: &impl Abort, out: &mut Bytes, item: Item) {
+    put(rt, out, b" ");
+    match item.text() {
+        Some(text) => {
+            put(rt, out, b"<");
+            put(rt, out, text.as_bytes());
+            put(rt, out, b">");
+        }
+        None => {
+            let n = item.i32().expect(rt, "a number");
+            put_signed(i64::from(n), out).expect(rt, "memory");
+        }
     }
-    put_signed(i64::from(item.i32()?), out).ok()
 }
 
 /// Appends the arguments, at most eight.
-fn put_arguments(out: &mut Bytes, body: Fields) -> Option<()> {
+fn put_arguments(rt: &impl Abort, out: &mut Bytes, body: Fields) {
     let mut rest = body;
-    for _argument in 0..9_u8 {
-        let Some(item) = rest.next() else {
-            return Some(());
-        };
-        put_argument(out, item)?;
+    for _argument in 0..8_u8 {
+        if let Some(item) = rest.next() {
+            put_argument(rt, out, item);
+        }
     }
-    None
+    assert!(rt; rest.next().is_none());
 }
 
-/// Appends a blank and a name; `?` for none.
-fn put_name(out: &mut Bytes, name: Option<&str>) -> Option<()> {
-    out.extend(b" ").ok()?;
-    out.extend(name.unwrap_or("?").as_bytes()).ok()
+/// Appends a number and a blank.
+fn put_number(rt: &impl Abort, out: &mut Bytes, n: u32) {
+    put_decimal(u64::from(n), out).expect(rt, "memory");
+    put(rt, out, b" ");
+}
+
+/// Appends a name, `?` for none.
+fn put_name(rt: &impl Abort, out: &mut Bytes, name: Option<&str>) {
+    put(rt, out, name.unwrap_or("?").as_bytes());
 }
 
 /// Appends the call: its type, flags and serial, the names of its header, and its arguments.
-fn put_call(out: &mut Bytes, call: &MessageRef) -> Option<()> {
-    put_decimal(u64::from(call.kind), out).ok()?;
-    out.extend(b" ").ok()?;
-    put_decimal(u64::from(call.flags), out).ok()?;
-    out.extend(b" ").ok()?;
-    put_decimal(u64::from(call.serial), out).ok()?;
-    put_name(out, call.destination)?;
-    put_name(out, call.path)?;
-    put_name(out, call.interface)?;
-    put_name(out, call.member)?;
-    put_arguments(out, call.body)
+fn put_call(rt: &impl Abort, out: &mut Bytes, call: &MessageRef) {
+    put_number(rt, out, u32::from(call.kind));
+    put_number(rt, out, u32::from(call.flags));
+    put_number(rt, out, call.serial);
+    put_name(rt, out, call.destination);
+    put(rt, out, b" ");
+    put_name(rt, out, call.path);
+    put(rt, out, b" ");
+    put_name(rt, out, call.interface);
+    put(rt, out, b" ");
+    put_name(rt, out, call.member);
+    put_arguments(rt, out, call.body);
 }
 
-/// The bytes that a call is written as.
-fn written(alloc: Global, message: &Message) -> Option<Bytes>
-    requires { MeetsRules (envelope_of message.now) }
+/// The bytes that a call is written as; it is let go.
+fn written(rt: &impl Abort, alloc: Global, message: Message) -> Bytes
+    requires { MeetsRules (envelope_of message) }
 {
     let mut out = Bytes::new(alloc);
-    message.write(&mut out).ok()?;
-    Some(out)
-}
-
-/// Whether the call that lies in bytes is this text.
-fn is_text(alloc: Global, bytes: &[u8], due: &str) -> Option<bool> {
-    let call = lent(bytes, 1)?;
-    let mut out = Bytes::new(alloc);
-    put_call(&mut out, &call)?;
-    Some(out.as_slice() == due.as_bytes())
+    message.write(&mut out).expect(rt, "memory");
+    out
 }
 
 /// Whether the call is this text.
-pub fn is_shown(alloc: Global, message: &Message, due: &str) -> Option<bool>
-    requires { MeetsRules (envelope_of message.now) }
+pub fn is_shown(rt: &impl Abort, alloc: Global, message: Message, due: &str) -> bool
+    requires { MeetsRules (envelope_of message) }
 {
-    let bytes = written(alloc, message)?;
-    is_text(alloc, bytes.as_slice(), due)
+    let bytes = written(rt, alloc, message);
+    let call = lent(rt, bytes.as_slice(), 1);
+    let mut out = Bytes::new(alloc);
+    put_call(rt, &mut out, &call);
+    out.as_slice() == due.as_bytes()
 }
