@@ -1,13 +1,10 @@
 //! Runs of the bus, as words: what clients send and are given, with bytes worked out by hand.
 
-ghost use Rattle.std.specs.Prelude.{◌≡◌, [], Some, IfOk};
-
 use atspi_base::Text;
-use atspi_host::{Call, Did, Host, MemHost, Peer};
-use atspi_live_bus::bus;
+use atspi_host::{Call, Did, Peer};
 use std::alloc::Global;
 use std::collections::VecDeque;
-use std::test::Fail;
+use std::process::Abort;
 
 /// What a client sends first, all at once: the zero byte and its lines.
 const LOGIN: &[u8] = b"\0AUTH EXTERNAL 31303030\x0d\x0aBEGIN\x0d\x0a";
@@ -48,63 +45,35 @@ pub fn bytes_of(word: &str) -> &'static [u8] {
     }
 }
 
-/// The bytes of some words, one behind the other.
-fn joined(alloc: Global, words: &str) -> Result<Vec<u8>, Fail> {
-    let mut bytes = Vec::new(alloc);
-    for word in words.split(' ') {
-        bytes.extend_from_slice(bytes_of(word))?;
-    }
-    Ok(bytes)
+/// Appends a piece.
+pub fn put_piece(rt: &impl Abort, alloc: Global, piece: &[u8], pieces: &mut VecDeque<Vec<u8>>) {
+    let piece = piece.to_vec(alloc).expect(rt, "memory");
+    pieces.push_back(piece).expect(rt, "memory");
 }
 
 /// Appends the bytes of a word as one piece or, behind `slowly_`, each as a piece of its own.
-fn put_word(alloc: Global, word: &str, pieces: &mut VecDeque<Vec<u8>>) -> Result<(), Fail> {
+fn put_word(rt: &impl Abort, alloc: Global, word: &str, pieces: &mut VecDeque<Vec<u8>>) {
     let Some(slow) = word.strip_prefix("slowly_") else {
-        pieces.push_back(bytes_of(word).to_vec(alloc)?)?;
-        return Ok(());
+        return put_piece(rt, alloc, bytes_of(word), pieces);
     };
     for byte in bytes_of(slow) {
-        pieces.push_back([*byte].to_vec(alloc)?)?;
+        put_piece(rt, alloc, &[*byte], pieces);
     }
-    Ok(())
 }
 
 /// A peer that sends these words, one for each read, and stays, or ends behind them where `end` is the last word.
-pub fn peer(alloc: Global, words: &str) -> Result<Peer, Fail> {
-    let (words, ends) = match words.strip_suffix(" end") {
-        Some(words) => (words, true),
-        None => (words, false),
-    };
+pub fn peer(rt: &impl Abort, alloc: Global, words: &str) -> Peer {
+    let sent = words.strip_suffix(" end").unwrap_or(words);
     let mut pieces = VecDeque::new(alloc);
-    for word in words.split(' ') {
-        put_word(alloc, word, &mut pieces)?;
+    for word in sent.split(' ') {
+        put_word(rt, alloc, word, &mut pieces);
     }
-    Ok(Peer::new(pieces, ends))
+    Peer::new(pieces, sent.len() < words.len())
 }
 
-/// How many peers send these words, and the words.
-fn times(words: &str) -> (u32, &str) {
-    match words.split_once('*') {
-        Some((count, words)) => (count.parse::<u32>().unwrap_or(0), words),
-        None => (1, words),
-    }
-}
-
-/// A host with peers that send these words, a peer between two signs `|`, whose call with this number fails.
-fn host_of(alloc: Global, sent: &str, failing: u64) -> Result<MemHost, Fail>
-    ensures calls { IfOk result (λ host. ⟦<MemHost as Host>⟧.calls host ≡ Some []) }
-    ensures links { IfOk result (λ host. ⟦<MemHost as Host>⟧.links host ≡ []) }
-{
-    let mut peers = Vec::new(alloc);
-    for part in sent.split('|') {
-        let (count, words) = times(part);
-        for _ in 0..count {
-            peers.push(peer(alloc, words)?)?;
-        }
-    }
-    let mut numbers = Vec::new(alloc);
-    numbers.push(failing)?;
-    Ok(MemHost::new(alloc, peers, numbers))
+/// The path of the socket.
+pub fn path(rt: &impl Abort, alloc: Global) -> Text {
+    Text::read(alloc, b"/run/bus").expect(rt, "a path")
 }
 
 /// What a call gave on a link.
@@ -118,27 +87,15 @@ fn given_by(link: u32, call: &Call) -> &[u8] {
     }
 }
 
-/// Whether just the bytes of these words were given on a link.
-fn gave(alloc: Global, link: u32, words: &str, calls: &[Call]) -> Result<bool, Fail> {
-    let due = joined(alloc, words)?;
-    let mut at = 0;
+/// What was given on a link.
+pub fn given(rt: &impl Abort, alloc: Global, link: u32, calls: &[Call]) -> Vec<u8> {
+    let mut bytes = Vec::new(alloc);
     for call in calls {
-        let part = given_by(link, call);
-        if !due[at.min(due.len())..].starts_with(part) {
-            return Ok(false);
-        }
-        at = at.min(due.len()) + part.len();
+        bytes
+            .extend_from_slice(given_by(link, call))
+            .expect(rt, "memory");
     }
-    Ok(at == due.len())
-}
-
-/// How many bytes were given on a link.
-pub fn given_on(link: u32, calls: &[Call]) -> usize {
-    let mut count = 0usize;
-    for call in calls {
-        count = count.saturating_add(given_by(link, call).len());
-    }
-    count
+    bytes
 }
 
 /// Whether just these links were closed, in this order, each as a letter from `a` on.
@@ -152,30 +109,4 @@ pub fn closed(letters: &str, calls: &[Call]) -> bool {
         }
     }
     due.next().is_none()
-}
-
-/// A run of the bus, and what is due of it.
-#[derive(Clone, Copy)]
-pub struct Row<'a> {
-    pub sent: &'a str,
-    pub failing: u64,
-    pub rounds: u32,
-    pub status: u8,
-    pub closed: &'a str,
-    pub first: &'a str,
-    pub second: &'a str,
-}
-
-/// Whether the bus does what the row says.
-pub fn holds(alloc: Global, row: Row) -> Result<bool, Fail> {
-    let mut host = host_of(alloc, row.sent, row.failing)?;
-    let path = Text::read(alloc, b"/run/bus")?;
-    let status = bus(alloc, &path, row.rounds, &mut host);
-    let calls = host.calls().unwrap_or(&[]);
-    Ok(
-        status == row.status
-            && closed(row.closed, calls)
-            && gave(alloc, 0, row.first, calls)?
-            && gave(alloc, 1, row.second, calls)?,
-    )
 }

@@ -3,13 +3,13 @@
 ghost use Rattle.std.specs.Prelude.{◌≡◌, ℕ, List, Option, None, []};
 ghost use Rattle.atspi_host.specs.declared.call.Call.{Call};
 
-use crate::runs::{bytes_of, closed, given_on, peer};
+use crate::runs::{bytes_of, closed, given, path, peer, put_piece};
 use atspi_base::Text;
-use atspi_host::{Did, Host, MemHost, Peer};
+use atspi_host::{Call, Did, Host, MemHost, Peer};
 use atspi_live_bus::bus;
 use std::alloc::Global;
 use std::collections::VecDeque;
-use std::test::*;
+use std::process::Abort;
 
 /// A signal of 60,000 bytes to `:1.0`, up to its array.
 const HEAD: &[u8] =
@@ -64,42 +64,54 @@ impl Host for Unread {
     }
 }
 
-/// The bytes of the signal.
-fn signal(alloc: Global) -> Result<Vec<u8>, Fail> {
-    let mut bytes = HEAD.to_vec(alloc)?;
-    bytes.extend_from_slice(&60_000u32.to_le_bytes())?;
-    bytes.extend_from_slice(&[0u8; 60_000])?;
-    Ok(bytes)
+/// A client that says Hello and then sends the signals.
+fn sender(rt: &impl Abort, alloc: Global) -> Peer {
+    let mut signal = HEAD.to_vec(alloc).expect(rt, "memory");
+    signal
+        .extend_from_slice(&60_000u32.to_le_bytes())
+        .expect(rt, "memory");
+    signal
+        .extend_from_slice(&[0u8; 60_000])
+        .expect(rt, "memory");
+    let mut pieces = VecDeque::new(alloc);
+    put_piece(rt, alloc, bytes_of("login"), &mut pieces);
+    put_piece(rt, alloc, bytes_of("hello"), &mut pieces);
+    for _ in 0..SIGNALS {
+        put_piece(rt, alloc, &signal, &mut pieces);
+    }
+    Peer::new(pieces, false)
 }
 
-/// A client that says Hello and then sends the signals.
-fn sender(alloc: Global) -> Result<Peer, Fail> {
-    let mut pieces = VecDeque::new(alloc);
-    pieces.push_back(bytes_of("login").to_vec(alloc)?)?;
-    pieces.push_back(bytes_of("hello").to_vec(alloc)?)?;
-    for _ in 0..SIGNALS {
-        pieces.push_back(signal(alloc)?)?;
-    }
-    Ok(Peer::new(pieces, false))
+/// A client that never reads, the sender, and a client that logs in slowly.
+fn peers(rt: &impl Abort, alloc: Global) -> Vec<Peer> {
+    let mut peers = Vec::new(alloc);
+    peers
+        .push(peer(rt, alloc, "login hello"))
+        .expect(rt, "memory");
+    peers.push(sender(rt, alloc)).expect(rt, "memory");
+    peers
+        .push(peer(rt, alloc, "slowly_login slowly_hello"))
+        .expect(rt, "memory");
+    peers
+}
+
+/// Whether the first link alone was closed, and so many bytes were given: none on it, and on the others a line of 37 bytes, and the 258 of the return to Hello
+/// and of NameAcquired.
+fn is_due(rt: &impl Abort, alloc: Global, calls: &[Call]) -> bool {
+    closed("a", calls)
+        && given(rt, alloc, 0, calls).is_empty()
+        && given(rt, alloc, 1, calls).len() == 295
+        && given(rt, alloc, 2, calls).len() == 295
 }
 
 #[test]
-fn a_client_that_never_reads_is_closed_at_its_quota(rt: HostRuntime) -> Result<(), Fail> {
-    let alloc = rt.alloc();
-    let mut peers = Vec::new(alloc);
-    peers.push(peer(alloc, "login hello")?)?;
-    peers.push(sender(alloc)?)?;
-    peers.push(peer(alloc, "slowly_login slowly_hello")?)?;
+fn a_client_that_never_reads_is_closed_at_its_quota(rt: HostRuntime) {
+    let path = path(&rt, rt.alloc());
+    let peers = peers(&rt, rt.alloc());
     let mut host = Unread {
-        host: MemHost::new(alloc, peers, Vec::new(alloc)),
+        host: MemHost::new(rt.alloc(), peers, Vec::new(rt.alloc())),
     };
-    let path = Text::read(alloc, b"/run/bus")?;
-    assert_eq!(rt; bus(alloc, &path, ROUNDS, &mut host), 8);
+    let status = bus(rt.alloc(), &path, ROUNDS, &mut host);
     let calls = host.host.calls().unwrap_or(&[]);
-    assert!(rt; closed("a", calls));
-    assert_eq!(rt; given_on(0, calls), 0);
-    // a line of 37 bytes, and the 258 of the return to Hello and of NameAcquired
-    assert_eq!(rt; given_on(1, calls), 295);
-    assert_eq!(rt; given_on(2, calls), 295);
-    Ok(())
+    assert!(rt; status == 8 && is_due(&rt, rt.alloc(), calls));
 }
