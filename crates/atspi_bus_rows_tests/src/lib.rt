@@ -4,6 +4,10 @@
 #[cfg(test)]
 mod hostile;
 #[cfg(test)]
+mod letters;
+#[cfg(test)]
+mod looking;
+#[cfg(test)]
 mod playing;
 #[cfg(test)]
 mod rows;

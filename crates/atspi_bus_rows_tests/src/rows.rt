@@ -1,8 +1,6 @@
 //! Worked rows: each with the messages that come of it.
 
 use crate::playing::play;
-use atspi_bus_cases::told;
-use std::alloc::Global;
 
 const ROW_NAMES: &str = r#"join
 bus 0 1 Hello
@@ -131,6 +129,9 @@ fn a_quota_a_byte_short(rt: HostRuntime) {
     play(&rt, rt.alloc(), 257, ROW_QUOTA_257);
 }
 
+/// A connection joins and says Hello.
+const HELLO: &str = "join\nbus 0 1 Hello\nskip 0\n";
+
 const REFUSED: &str =
     r#"> error l 1 516 error=org.freedesktop.DBus.Error.LimitsExceeded reply=900 destination=:1.0 sender=org.freedesktop.DBus signature=s ["LimitsExceeded"]
 "#;
@@ -140,40 +141,35 @@ const LIMIT: &str =
 > error l 1 8 error=org.freedesktop.DBus.Error.InvalidArgs reply=4 destination=:1.0 sender=org.freedesktop.DBus signature=s ["InvalidArgs"]
 "#;
 
-/// A line for each serial from 2 on, by which the connection adds a rule of that number; what comes of it is taken out.
-fn put_lines(alloc: Global, out: &mut String, numbers: u32) -> Option<()> {
-    for n in 2..numbers {
-        let line = format!(in alloc; "bus 0 {n} AddMatch arg0='{n}'\nskip 0\n").ok()?;
-        out.push_str(line.as_str()).ok()?;
-    }
-    Some(())
-}
-
-/// A rule of one connection more than it may have.
+/// A rule of one connection more than it may have: a line for each serial from 2 on, by which the connection adds a rule of that number.
 #[test]
 fn the_513th_rule_is_refused(rt: HostRuntime) {
-    let mut script = String::new(rt.alloc());
-    put_lines(rt.alloc(), &mut script, 514).expect(&rt, "a script");
-    script
-        .push_str("bus 0 900 AddMatch type='signal'\nread 0")
-        .expect(&rt, "memory");
-    let told = told(rt.alloc(), 65536, script.as_str()).expect(&rt, "an answer");
-    assert!(rt; told.as_str() == REFUSED, "{told}");
+    let mut script = String::from_str(rt.alloc(), HELLO).expect(&rt, "memory");
+    for n in 2..514u32 {
+        write!(script, "bus 0 {n} AddMatch arg0='{n}'\nskip 0\n").expect(&rt, "memory");
+    }
+    write!(
+        script,
+        "bus 0 900 AddMatch type='signal'\nread 0\n{REFUSED}"
+    )
+    .expect(&rt, "memory");
+    play(&rt, rt.alloc(), 65536, script.as_str());
 }
 
-/// The script in which a name of 255 bytes is asked for, and one of one byte more.
-fn long_names(alloc: Global) -> Option<String> {
-    let name =
-        "a.bbbbbbbbbbbbbbbbbbbbbbbbbbbbbbbbbbbbbbbbbbbbbbbbbbbbbbbbbbbbbbbbbbbbbbbbbbbbbbbbbbbbbbbbbbbbbbbbbbbbbbbbbbbbbbbbbbbbbbbbbbbbbbbbbbbbbbbbbbbbbbbbbbbbbbbbbbbbbbbbbbbbbbbbbbbbbbbbbbbbbbbbbbbbbbbbbbbbbbbbbbbbbbbbbbbbbbbbbbbbbbbbbbbbbbbbbbbbbbbbbbbbbbbbbbbbb";
-    format!(in alloc;
-        "bus 0 2 RequestName {name} 0\nskip 0\nbus 0 3 NameHasOwner {name}\nbus 0 4 RequestName {name}b 0\nread 0"
-    ).ok()
-}
+/// A name of 255 bytes.
+const NAME: &str =
+    "a.bbbbbbbbbbbbbbbbbbbbbbbbbbbbbbbbbbbbbbbbbbbbbbbbbbbbbbbbbbbbbbbbbbbbbbbbbbbbbbbbbbbbbbbbbbbbbbbbbbbbbbbbbbbbbbbbbbbbbbbbbbbbbbbbbbbbbbbbbbbbbbbbbbbbbbbbbbbbbbbbbbbbbbbbbbbbbbbbbbbbbbbbbbbbbbbbbbbbbbbbbbbbbbbbbbbbbbbbbbbbbbbbbbbbbbbbbbbbbbbbbbbbbbbbbbbbb";
 
 /// Names of 255 bytes and of one more.
 #[test]
 fn a_name_has_at_most_255_bytes(rt: HostRuntime) {
-    let script = long_names(rt.alloc()).expect(&rt, "a script");
-    let told = told(rt.alloc(), 65536, script.as_str()).expect(&rt, "an answer");
-    assert!(rt; told.as_str() == LIMIT, "{told}");
+    let script = format!(in rt.alloc();
+        "{HELLO}bus 0 2 RequestName {NAME} 0\nskip 0\nbus 0 3 NameHasOwner {NAME}\nbus 0 4 RequestName {NAME}b 0\nread 0\n{LIMIT}"
+    );
+    play(
+        &rt,
+        rt.alloc(),
+        65536,
+        script.expect(&rt, "memory").as_str(),
+    );
 }
