@@ -1,60 +1,22 @@
 //! Messages that are passed on: what is written of one that lies in bytes.
 
 ghost use Rattle.std.specs.Prelude.{IfSome};
-ghost use Rattle.atspi_message.specs.Envelope.{envelope_of};
 ghost use Rattle.atspi_message.specs.Rules.{MeetsRules};
 ghost use Rattle.atspi_header.specs.View.{envelope_at};
 
+use crate::samples::{
+    CALL_BIG, CALL_BIG_PASSED, CALL_BIG_SENT, CALL_LITTLE, CALL_LITTLE_PASSED, CALL_LITTLE_SENT,
+};
 use atspi_base::Bytes;
 use atspi_header::MessageRef;
-use atspi_message::{Message, total};
+use atspi_message::total;
 use atspi_passing::write_from;
 use atspi_valid_names::BusName;
 use std::alloc::Global;
 use std::test::*;
 
-/// A call of serial 7 with a body of the types `yasv`, its fields out of order and without a sender.
-const LITTLE: [u8; 136] =
-    *b"l\x01\0\x01(\0\0\0\x07\0\0\0K\0\0\0\x08\x01g\0\x04yasv\0\0\0\0\0\0\0\x06\x01s\0\x04\0\0\0:1.3\0\0\0\
-\0\x02\x01s\0\x03\0\0\0i.f\0\0\0\0\0\x03\x01s\0\x03\0\0\0Get\0\0\0\0\0\x01\x01o\0\x02\0\0\0/p\0\0\0\
-\0\0\0\x05\0\0\0\x0f\0\0\0\x01\0\0\0a\0\0\0\x02\0\0\0bc\0\x01t\0\0\0\0\0\0\0\x09\0\0\0\0\0\0\0";
-
-/// The call with a sender.
-const LITTLE_SENT: [u8; 152] =
-    *b"l\x01\0\x01(\0\0\0\x07\0\0\0[\0\0\0\x07\x01s\0\x05\0\0\0:1.99\0\0\0\x08\x01g\0\x04yasv\0\0\0\0\0\0\0\
-\x06\x01s\0\x04\0\0\0:1.3\0\0\0\0\x02\x01s\0\x03\0\0\0i.f\0\0\0\0\0\x03\x01s\0\x03\0\0\0Get\0\0\0\0\
-\0\x01\x01o\0\x02\0\0\0/p\0\0\0\0\0\0\x05\0\0\0\x0f\0\0\0\x01\0\0\0a\0\0\0\x02\0\0\0bc\0\x01t\0\0\0\
-\0\0\0\0\x09\0\0\0\0\0\0\0";
-
-/// The call as it is written with the sender `:1.5`: its fields in rising order, its body as it was.
-const LITTLE_PASSED: [u8; 152] =
-    *b"l\x01\0\x01(\0\0\0\x07\0\0\0Z\0\0\0\x01\x01o\0\x02\0\0\0/p\0\0\0\0\0\0\x02\x01s\0\x03\0\0\0i.f\0\0\0\
-\0\0\x03\x01s\0\x03\0\0\0Get\0\0\0\0\0\x06\x01s\0\x04\0\0\0:1.3\0\0\0\0\x07\x01s\0\x04\0\0\0:1.5\0\0\
-\0\0\x08\x01g\0\x04yasv\0\0\0\0\0\0\0\x05\0\0\0\x0f\0\0\0\x01\0\0\0a\0\0\0\x02\0\0\0bc\0\x01t\0\0\0\
-\0\0\0\0\x09\0\0\0\0\0\0\0";
-
-/// The same call with its numbers in the other order.
-const BIG: [u8; 136] =
-    *b"B\x01\0\x01\0\0\0(\0\0\0\x07\0\0\0K\x08\x01g\0\x04yasv\0\0\0\0\0\0\0\x06\x01s\0\0\0\0\x04:1.3\0\0\0\
-\0\x02\x01s\0\0\0\0\x03i.f\0\0\0\0\0\x03\x01s\0\0\0\0\x03Get\0\0\0\0\0\x01\x01o\0\0\0\0\x02/p\0\0\0\
-\0\0\0\x05\0\0\0\0\0\0\x0f\0\0\0\x01a\0\0\0\0\0\0\x02bc\0\x01t\0\0\0\0\0\0\0\0\0\0\0\0\0\0\x09";
-
-/// The same with its numbers in the other order.
-const BIG_SENT: [u8; 152] =
-    *b"B\x01\0\x01\0\0\0(\0\0\0\x07\0\0\0[\x07\x01s\0\0\0\0\x05:1.99\0\0\0\x08\x01g\0\x04yasv\0\0\0\0\0\0\0\
-\x06\x01s\0\0\0\0\x04:1.3\0\0\0\0\x02\x01s\0\0\0\0\x03i.f\0\0\0\0\0\x03\x01s\0\0\0\0\x03Get\0\0\0\0\
-\0\x01\x01o\0\0\0\0\x02/p\0\0\0\0\0\0\x05\0\0\0\0\0\0\x0f\0\0\0\x01a\0\0\0\0\0\0\x02bc\0\x01t\0\0\0\
-\0\0\0\0\0\0\0\0\0\0\0\x09";
-
-/// The same with its numbers in the other order.
-const BIG_PASSED: [u8; 152] =
-    *b"B\x01\0\x01\0\0\0(\0\0\0\x07\0\0\0Z\x01\x01o\0\0\0\0\x02/p\0\0\0\0\0\0\x02\x01s\0\0\0\0\x03i.f\0\0\0\
-\0\0\x03\x01s\0\0\0\0\x03Get\0\0\0\0\0\x06\x01s\0\0\0\0\x04:1.3\0\0\0\0\x07\x01s\0\0\0\0\x04:1.5\0\0\
-\0\0\x08\x01g\0\x04yasv\0\0\0\0\0\0\0\x05\0\0\0\0\0\0\x0f\0\0\0\x01a\0\0\0\0\0\0\x02bc\0\x01t\0\0\0\
-\0\0\0\0\0\0\0\0\0\0\0\x09";
-
 /// The message that bytes are, where they are one.
-fn lent<'a>(bytes: &'a [u8]) -> Option<MessageRef<'a>>
+pub(crate) fn lent<'a>(bytes: &'a [u8]) -> Option<MessageRef<'a>>
     ensures { IfSome result (λ m. MeetsRules (envelope_at m)) }
 {
     let first = bytes.first_chunk::<16>()?;
@@ -87,55 +49,44 @@ fn with_sender<'a>(m: &MessageRef<'a>, name: &'a BusName) -> MessageRef<'a>
     }
 }
 
-/// What a message is written as.
-fn written(alloc: Global, message: &Message) -> Option<Bytes>
-    requires { MeetsRules (envelope_of message.now) }
-{
-    let mut bytes = Bytes::new(alloc);
-    message.write(&mut bytes).ok()?;
-    Some(bytes)
-}
-
 /// Whether the message is passed on as these bytes.
-fn is_passed(alloc: Global, m: &MessageRef, due: &[u8]) -> Option<bool>
+pub(crate) fn is_passed(alloc: Global, m: &MessageRef, due: &[u8]) -> bool
     requires { MeetsRules (envelope_at m.now) }
 {
-    let passed = write_from(alloc, m).ok()?;
-    Some(passed.as_slice() == due)
+    match write_from(alloc, m) {
+        Ok(passed) => passed.as_slice() == due,
+        Err(_) => false,
+    }
 }
 
-/// Whether the message that bytes are is passed on as an owned one of it is written.
-fn is_passed_whole(alloc: Global, bytes: &[u8]) -> Option<bool> {
-    let m = lent(bytes)?;
-    let message = m.owned(alloc).ok()?;
-    is_passed(alloc, &m, written(alloc, &message)?.as_slice())
-}
-
-#[test]
-fn a_message_is_passed_on_as_an_owned_one_is_written(rt: HostRuntime) {
-    assert!(rt; is_passed_whole(rt.alloc(), &LITTLE) == Some(true));
-    assert!(rt; is_passed_whole(rt.alloc(), &LITTLE_SENT) == Some(true));
-    assert!(rt; is_passed_whole(rt.alloc(), &LITTLE_PASSED) == Some(true));
-    assert!(rt; is_passed_whole(rt.alloc(), &BIG) == Some(true));
-    assert!(rt; is_passed_whole(rt.alloc(), &BIG_SENT) == Some(true));
-    assert!(rt; is_passed_whole(rt.alloc(), &BIG_PASSED) == Some(true));
+/// What the message that bytes are is passed on as.
+pub(crate) fn passed(alloc: Global, bytes: &[u8]) -> Option<Bytes> {
+    match lent(bytes) {
+        Some(m) => write_from(alloc, &m).ok(),
+        None => None,
+    }
 }
 
 /// Whether the message that bytes are is passed on with a sender as these bytes.
-fn is_sent(alloc: Global, name: &BusName, bytes: &[u8], due: &[u8]) -> Option<bool> {
-    let m = lent(bytes)?;
-    is_passed(alloc, &with_sender(&m, name), due)
+fn is_sent(alloc: Global, name: &BusName, bytes: &[u8], due: &[u8]) -> bool {
+    match lent(bytes) {
+        Some(m) => is_passed(alloc, &with_sender(&m, name), due),
+        None => false,
+    }
+}
+
+/// Whether the calls are passed on with this sender.
+fn are_sent(alloc: Global, name: &BusName) -> bool {
+    is_sent(alloc, name, CALL_LITTLE, CALL_LITTLE_PASSED)
+        && is_sent(alloc, name, CALL_LITTLE_SENT, CALL_LITTLE_PASSED)
+        && is_sent(alloc, name, CALL_LITTLE_PASSED, CALL_LITTLE_PASSED)
+        && is_sent(alloc, name, CALL_BIG, CALL_BIG_PASSED)
+        && is_sent(alloc, name, CALL_BIG_SENT, CALL_BIG_PASSED)
+        && is_sent(alloc, name, CALL_BIG_PASSED, CALL_BIG_PASSED)
 }
 
 #[test]
 fn a_message_is_passed_on_with_its_sender(rt: HostRuntime) {
-    let name = BusName::read(rt.alloc(), b":1.5")
-        .ok()
-        .expect(&rt, "a name");
-    assert!(rt; is_sent(rt.alloc(), &name, &LITTLE, &LITTLE_PASSED) == Some(true));
-    assert!(rt; is_sent(rt.alloc(), &name, &LITTLE_SENT, &LITTLE_PASSED) == Some(true));
-    assert!(rt; is_sent(rt.alloc(), &name, &LITTLE_PASSED, &LITTLE_PASSED) == Some(true));
-    assert!(rt; is_sent(rt.alloc(), &name, &BIG, &BIG_PASSED) == Some(true));
-    assert!(rt; is_sent(rt.alloc(), &name, &BIG_SENT, &BIG_PASSED) == Some(true));
-    assert!(rt; is_sent(rt.alloc(), &name, &BIG_PASSED, &BIG_PASSED) == Some(true));
+    let sent = BusName::read(rt.alloc(), b":1.5").is_ok_and(|name| are_sent(rt.alloc(), &name));
+    assert!(rt; sent);
 }

@@ -1,24 +1,16 @@
 //! Streams of messages, in pieces.
 
+use crate::faults::changed;
+use crate::samples::{HELLO, RETURN};
 use atspi_stream::{Feeder, Got};
 use std::alloc::Global;
 use std::test::*;
 
-/// The call of Hello, 128 bytes.
-const HELLO: [u8; 128] = *b"l\x01\0\x01\0\0\0\0\x01\0\0\0\x6d\0\0\0\
-\x01\x01o\0\x15\0\0\0/org/freedesktop/DBus\0\0\0\
-\x02\x01s\0\x14\0\0\0org.freedesktop.DBus\0\0\0\0\
-\x03\x01s\0\x05\0\0\0Hello\0\0\0\
-\x06\x01s\0\x14\0\0\0org.freedesktop.DBus\0\0\0\0";
-
-/// A return of serial 2 that replies to serial 1.
-const RETURN: [u8; 24] = *b"l\x02\x01\x01\0\0\0\0\x02\0\0\0\x08\0\0\0\x05\x01u\0\x01\0\0\0";
-
-/// The same with its numbers in the other order, and serial 3.
-const BIG: [u8; 24] = *b"B\x02\x01\x01\0\0\0\0\0\0\0\x03\0\0\0\x08\x05\x01u\0\0\0\0\x01";
+/// A return in the other order, of serial 3.
+const BIG: &[u8] = b"B\x02\x01\x01\0\0\0\0\0\0\0\x03\0\0\0\x08\x05\x01u\0\0\0\0\x01";
 
 /// A return of serial 2 that replies to serial 0.
-const BAD: [u8; 24] = *b"l\x02\x01\x01\0\0\0\0\x02\0\0\0\x08\0\0\0\x05\x01u\0\0\0\0\0";
+const BAD: &[u8] = b"l\x02\x01\x01\0\0\0\0\x02\0\0\0\x08\0\0\0\x05\x01u\0\0\0\0\0";
 
 /// What a feeder gives next: (1, serial) for a message, (0, 0) for none yet, (place, reason) for a fault.
 fn next_of(feeder: &mut Feeder) -> (u32, u32) {
@@ -29,29 +21,17 @@ fn next_of(feeder: &mut Feeder) -> (u32, u32) {
     }
 }
 
-/// What comes behind each of two pieces, and how many bytes are held at the end.
-#[derive(Clone, Copy)]
-struct Came {
-    first: (u32, u32),
-    second: (u32, u32),
-    held: usize,
+/// Whether a feeder takes bytes.
+fn takes(feeder: &mut Feeder, piece: &[u8]) -> bool {
+    feeder.feed(piece).is_ok()
 }
 
-/// What comes of bytes in two pieces.
-fn in_two(alloc: Global, bytes: &[u8], cut: usize) -> Came {
-    let mut feeder = Feeder::new(alloc);
-    let (front, back) = bytes.split_at(cut.min(bytes.len()));
-    let _ = feeder.feed(front);
-    let first = next_of(&mut feeder);
-    let _ = feeder.feed(back);
-    Came {
-        first,
-        second: next_of(&mut feeder),
-        held: feeder.len(),
-    }
+/// Whether a feeder takes bytes and then gives this.
+fn gives(feeder: &mut Feeder, piece: &[u8], due: (u32, u32)) -> bool {
+    takes(feeder, piece) && next_of(feeder) == due
 }
 
-/// Whether of bytes in two pieces comes this, and so many bytes are held at the end.
+/// Whether of bytes in two pieces comes this behind each of the two, and so many bytes are held at the end.
 fn come(
     alloc: Global,
     bytes: &[u8],
@@ -60,14 +40,18 @@ fn come(
     second: (u32, u32),
     held: usize,
 ) -> bool {
-    let came = in_two(alloc, bytes, cut);
-    came.first == first && came.second == second && came.held == held
+    let mut feeder = Feeder::new(alloc);
+    let (front, back) = bytes.split_at(cut.min(bytes.len()));
+    let is_first = gives(&mut feeder, front, first);
+    let is_second = gives(&mut feeder, back, second);
+    is_first && is_second && feeder.len() == held
 }
 
-/// How many bytes are missing behind a piece.
-fn missing_behind(alloc: Global, piece: &[u8]) -> usize {
+/// How many bytes are missing behind the first ones.
+fn missing_behind(alloc: Global, bytes: &[u8], count: usize) -> usize {
     let mut feeder = Feeder::new(alloc);
-    let _ = feeder.feed(piece);
+    let (front, _) = bytes.split_at(count.min(bytes.len()));
+    let _ = feeder.feed(front);
     feeder.missing()
 }
 
@@ -101,76 +85,109 @@ fn byte_by_byte(alloc: Global, bytes: &[u8]) -> (u64, usize) {
     (messages, feeder.len())
 }
 
-#[test]
-fn a_message_comes_with_its_last_byte(rt: HostRuntime) {
+/// The first cut of the call of Hello behind which it does not come with its last byte.
+fn first_bad_cut(alloc: Global) -> Option<usize> {
     for cut in 0..128 {
-        assert!(rt;
-            come(rt.alloc(), &HELLO, cut, (0, 0), (1, 1), 0),
-            "cut at {cut}"
-        );
+        if !come(alloc, HELLO, cut, (0, 0), (1, 1), 0) {
+            return Some(cut);
+        }
     }
-    assert!(rt; come(rt.alloc(), &HELLO, 128, (1, 1), (0, 0), 0));
-    assert!(rt; byte_by_byte(rt.alloc(), &HELLO) == (1, 0));
-    assert!(rt; byte_by_byte(rt.alloc(), &HELLO[..127]) == (0, 127));
-    assert!(rt; come(rt.alloc(), &BIG, 8, (0, 0), (1, 3), 0));
+    None
 }
 
-/// The call of Hello with serial 0, which is at fault in its first 16 bytes.
-fn early() -> [u8; 128] {
-    let mut early = HELLO;
-    early[8] = 0;
-    early
+/// The call of Hello without its last byte.
+fn all_but_one(alloc: Global) -> Vec<u8> {
+    changed(alloc, HELLO, "127 bytes")
+}
+
+#[test]
+fn a_message_comes_with_its_last_byte(rt: HostRuntime) {
+    assert!(rt; first_bad_cut(rt.alloc()).is_none());
+    assert!(rt; come(rt.alloc(), HELLO, 128, (1, 1), (0, 0), 0));
+    assert!(rt; byte_by_byte(rt.alloc(), HELLO) == (1, 0));
+    assert!(rt; byte_by_byte(rt.alloc(), &all_but_one(rt.alloc())) == (0, 127));
+    assert!(rt; come(rt.alloc(), BIG, 8, (0, 0), (1, 3), 0));
+}
+
+/// Behind how many bytes of the call of Hello how many are missing.
+const MISSING: &[(usize, usize)] = &[(0, 16), (15, 1), (16, 112), (127, 1), (128, 0)];
+
+/// Whether behind so many bytes so many are missing.
+fn are_missing(alloc: Global) -> bool {
+    for (count, missing) in MISSING {
+        if missing_behind(alloc, HELLO, *count) != *missing {
+            return false;
+        }
+    }
+    missing_behind(alloc, BIG, 16) == 8
+}
+
+/// Whether the call of Hello with serial 0, which is at fault in its first 16 bytes, is told as soon as these are there, and none of its bytes is awaited.
+fn early_fault_is_told(alloc: Global) -> bool {
+    let early = changed(alloc, HELLO, "128 bytes 8:0");
+    missing_behind(alloc, &early, 16) == 0
+        && come(alloc, &early, 16, (8, 26), (8, 26), 128)
+        && come(alloc, &early, 15, (0, 0), (8, 26), 128)
 }
 
 #[test]
 fn what_is_missing_is_told(rt: HostRuntime) {
-    assert!(rt; missing_behind(rt.alloc(), &HELLO[..0]) == 16);
-    assert!(rt; missing_behind(rt.alloc(), &HELLO[..15]) == 1);
-    assert!(rt; missing_behind(rt.alloc(), &HELLO[..16]) == 112);
-    assert!(rt; missing_behind(rt.alloc(), &HELLO[..127]) == 1);
-    assert!(rt; missing_behind(rt.alloc(), &HELLO) == 0);
-    assert!(rt; missing_behind(rt.alloc(), &BIG[..16]) == 8);
-    // of bytes that are at fault in their first 16 none is awaited
-    assert!(rt; missing_behind(rt.alloc(), &early()[..16]) == 0);
+    assert!(rt; are_missing(rt.alloc()));
+    assert!(rt; early_fault_is_told(rt.alloc()));
+}
+
+/// Whether a message comes, then a fault, and nothing behind it.
+fn ends_with_a_fault(feeder: &mut Feeder) -> bool {
+    takes(feeder, RETURN)
+        && takes(feeder, BAD)
+        && gives(feeder, RETURN, (1, 2))
+        && next_of(feeder) == (20, 32)
+        && next_of(feeder) == (20, 32)
+        && gives(feeder, BIG, (20, 32))
+        && feeder.len() == 72
 }
 
 #[test]
 fn nothing_comes_behind_a_fault(rt: HostRuntime) {
     let mut feeder = Feeder::new(rt.alloc());
-    assert!(rt; feeder.feed(&RETURN).is_ok());
-    assert!(rt; feeder.feed(&BAD).is_ok());
-    assert!(rt; feeder.feed(&RETURN).is_ok());
-    assert!(rt; next_of(&mut feeder) == (1, 2));
-    assert!(rt; next_of(&mut feeder) == (20, 32));
-    assert!(rt; next_of(&mut feeder) == (20, 32));
-    assert!(rt; feeder.feed(&BIG).is_ok());
-    assert!(rt; next_of(&mut feeder) == (20, 32));
-    assert!(rt; feeder.len() == 72);
-    // a fault of the first 16 bytes is told as soon as these are there
-    assert!(rt; come(rt.alloc(), &early(), 16, (8, 26), (8, 26), 128));
-    assert!(rt; come(rt.alloc(), &early(), 15, (0, 0), (8, 26), 128));
+    assert!(rt; ends_with_a_fault(&mut feeder));
+}
+
+/// Whether a feeder gives a million messages of one piece.
+fn gives_a_million(feeder: &mut Feeder, million: &[u8]) -> bool {
+    million.len() == 24_000_000
+        && takes(feeder, million)
+        && count_messages(feeder) == 1_000_000
+        && feeder.len() == 0
+}
+
+/// Whether a million messages come of one piece.
+fn a_million_come(alloc: Global) -> bool {
+    let mut feeder = Feeder::new(alloc);
+    let million = repeated(alloc, RETURN, 1_000_000);
+    gives_a_million(&mut feeder, &million)
+}
+
+/// How many messages come of ten thousand, byte by byte, and how many bytes are held at the end.
+fn ten_thousand_byte_by_byte(alloc: Global) -> (u64, usize) {
+    let some = repeated(alloc, HELLO, 10_000);
+    byte_by_byte(alloc, &some)
 }
 
 #[test]
 fn a_long_stream_is_linear_work(rt: HostRuntime) {
-    let million = repeated(rt.alloc(), &RETURN, 1_000_000);
-    assert!(rt; million.len() == 24_000_000);
-    let mut feeder = Feeder::new(rt.alloc());
-    assert!(rt; feeder.feed(&million).is_ok());
-    assert!(rt; count_messages(&mut feeder) == 1_000_000);
-    assert!(rt; feeder.len() == 0);
-    let some = repeated(rt.alloc(), &HELLO, 10_000);
-    assert!(rt; byte_by_byte(rt.alloc(), &some) == (10_000, 0));
+    assert!(rt; a_million_come(rt.alloc()));
+    assert!(rt; ten_thousand_byte_by_byte(rt.alloc()) == (10_000, 0));
 }
 
 /// A message of a type without a meaning, as far as the first of its two arrays of bytes: 32 bytes of header, and a length of
 /// 67,108,844. With both arrays it has 134,217,728 bytes, as many as a message may have.
-const LONGEST: [u8; 36] = *b"l\x05\0\x01\xe0\xff\xff\x07\x05\0\0\0\x0a\0\0\0\
+const LONGEST: &[u8] = b"l\x05\0\x01\xe0\xff\xff\x07\x05\0\0\0\x0a\0\0\0\
 \x08\x01g\0\x04ayay\0\0\0\0\0\0\0\xec\xff\xff\x03";
 
 /// Whether nothing comes of a feeder before a piece, which it then takes.
-fn takes(feeder: &mut Feeder, piece: &[u8]) -> bool {
-    next_of(feeder) == (0, 0) && feeder.feed(piece).is_ok()
+fn waits_for(feeder: &mut Feeder, piece: &[u8]) -> bool {
+    next_of(feeder) == (0, 0) && takes(feeder, piece)
 }
 
 /// Whether the next message has serial 5 and two arrays of 67,108,844 bytes.
@@ -185,22 +202,35 @@ fn gives_longest(feeder: &mut Feeder) -> Option<bool> {
     Some(message.serial == 5 && is_due)
 }
 
+/// Whether a feeder takes the longest message in pieces, of which each array is one, and gives it.
+fn takes_longest(feeder: &mut Feeder, array: &[u8]) -> bool {
+    let (_, second_length) = LONGEST.split_at(LONGEST.len().min(32));
+    waits_for(feeder, LONGEST)
+        && waits_for(feeder, array)
+        && waits_for(feeder, second_length)
+        && waits_for(feeder, array)
+        && feeder.len() == 134_217_728
+        && gives_longest(feeder) == Some(true)
+        && next_of(feeder) == (0, 0)
+        && feeder.len() == 0
+}
+
+/// Whether a body that is one byte longer passes the limit.
+fn refuses_longer(feeder: &mut Feeder, longer: &[u8]) -> bool {
+    gives(feeder, longer, (4, 25)) && feeder.len() == 36
+}
+
+/// Whether the longest message is given, and one that states a longer body is refused behind it.
+fn longest_is_given(alloc: Global, longer: &[u8]) -> bool {
+    let mut feeder = Feeder::new(alloc);
+    match vec![in alloc; 7u8; 67_108_844] {
+        Ok(array) => takes_longest(&mut feeder, &array) && refuses_longer(&mut feeder, longer),
+        Err(_) => false,
+    }
+}
+
 #[test]
 fn the_longest_message_is_given(rt: HostRuntime) {
-    let array = vec![in rt.alloc(); 7u8; 67_108_844].expect(&rt, "memory");
-    let mut feeder = Feeder::new(rt.alloc());
-    assert!(rt; takes(&mut feeder, &LONGEST));
-    assert!(rt; takes(&mut feeder, &array));
-    assert!(rt; takes(&mut feeder, &LONGEST[32..]));
-    assert!(rt; takes(&mut feeder, &array));
-    assert!(rt; feeder.len() == 134_217_728);
-    assert!(rt; gives_longest(&mut feeder) == Some(true));
-    assert!(rt; next_of(&mut feeder) == (0, 0));
-    assert!(rt; feeder.len() == 0);
-    // a body that is one byte longer passes the limit
-    let mut longer = LONGEST;
-    longer[4] = 0xe1;
-    assert!(rt; feeder.feed(&longer).is_ok());
-    assert!(rt; next_of(&mut feeder) == (4, 25));
-    assert!(rt; feeder.len() == 36);
+    let longer = changed(rt.alloc(), LONGEST, "36 bytes 4:225");
+    assert!(rt; longest_is_given(rt.alloc(), &longer));
 }
