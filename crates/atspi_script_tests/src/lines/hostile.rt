@@ -1,7 +1,7 @@
 //! Bytes that spell no line, and the first reason of each. What is due was worked out by hand.
 
 use crate::lines::forms::FORMS;
-use atspi_base::Bytes;
+use atspi_base::{Bytes, NoMemory};
 use atspi_lines::{LineFault, parse_line};
 use std::alloc::Global;
 use std::test::*;
@@ -11,28 +11,19 @@ fn fault(alloc: Global, bytes: &[u8]) -> Option<LineFault> {
     parse_line(alloc, bytes).err()
 }
 
-/// Texts one behind another.
-fn joined(alloc: Global, front: &str, middle: &str, back: &str) -> Option<Bytes> {
-    let mut all = Bytes::new(alloc);
-    all.extend(front.as_bytes()).ok()?;
-    all.extend(middle.as_bytes()).ok()?;
-    all.extend(back.as_bytes()).ok()?;
-    Some(all)
+/// Appends texts one behind another.
+fn put_pieces(out: &mut Bytes, front: &str, middle: &str, back: &str) -> Result<(), NoMemory> {
+    out.extend(front.as_bytes())?;
+    out.extend(middle.as_bytes())?;
+    out.extend(back.as_bytes())
 }
 
 /// Whether a line of three pieces is refused as out of its form.
-fn is_formless(alloc: Global, front: &str, middle: &str, back: &str) -> Option<bool> {
-    let line = joined(alloc, front, middle, back)?;
-    Some(fault(alloc, line.as_slice()) == Some(LineFault::Form))
-}
-
-/// The line of a row of the forms, but for blank ones.
-fn form_of(row: &str) -> Option<&str> {
-    let (spelled, said) = row.split_once(" => ")?;
-    if said == "Blank" {
-        return None;
-    }
-    Some(spelled)
+fn is_formless(alloc: Global, front: &str, middle: &str, back: &str) -> bool {
+    let mut line = Bytes::new(alloc);
+    let put = put_pieces(&mut line, front, middle, back);
+    let fault = fault(alloc, line.as_slice());
+    put.is_ok() && fault == Some(LineFault::Form)
 }
 
 /// Lines that are none, since one word or number is out of its form, with `|` between any two.
@@ -132,48 +123,20 @@ fn words_out_of_their_form_are_refused(rt: HostRuntime) {
 const ENDS: &str = " 7| |\r|\0|\t|\n";
 
 /// Whether a line is refused with each of these behind it, and with a blank before it.
-fn is_refused_with_more(alloc: Global, spelled: &str) -> Option<bool> {
+fn is_refused_with_more(alloc: Global, spelled: &str) -> bool {
     for end in ENDS.split('|') {
-        if !is_formless(alloc, spelled, end, "")? {
-            return Some(false);
+        if !is_formless(alloc, spelled, end, "") {
+            return false;
         }
     }
     is_formless(alloc, " ", spelled, "")
 }
 
-#[test]
-fn each_form_is_refused_with_a_word_too_many(rt: HostRuntime) {
-    for row in FORMS.split('\n') {
-        if let Some(spelled) = form_of(row) {
-            assert!(rt;
-                is_refused_with_more(rt.alloc(), spelled) == Some(true),
-                "{spelled}"
-            );
-        }
-    }
-}
-
-/// Whether a line of more than one word is refused without its last one.
-fn is_refused_without_last(alloc: Global, spelled: &str) -> Option<bool> {
+/// Whether a line of more than one word is refused without its last one. A list of which no child can be selected is a form too.
+fn is_refused_without_last(alloc: Global, spelled: &str) -> bool {
     match spelled.rsplit_once(' ') {
-        Some((front, _)) => is_formless(alloc, front, "", ""),
-        None => Some(true),
-    }
-}
-
-#[test]
-fn each_form_is_refused_without_its_last_word(rt: HostRuntime) {
-    for row in FORMS.split('\n') {
-        // a list of which no child can be selected is a form too
-        if row.ends_with("Select") {
-            continue;
-        }
-        if let Some(spelled) = form_of(row) {
-            assert!(rt;
-                is_refused_without_last(rt.alloc(), spelled) == Some(true),
-                "{spelled}"
-            );
-        }
+        Some((front, last)) => last == "select" || is_formless(alloc, front, "", ""),
+        None => true,
     }
 }
 
@@ -181,32 +144,40 @@ fn each_form_is_refused_without_its_last_word(rt: HostRuntime) {
 const BLANKS: &str = "  |\t|| \t";
 
 /// Whether a line of these two pieces is refused with each of them between, and without the second piece.
-fn is_refused_between(alloc: Global, front: &str, back: &str) -> Option<bool> {
+fn is_refused_between(alloc: Global, front: &str, back: &str) -> bool {
     for blank in BLANKS.split('|') {
-        if !is_formless(alloc, front, blank, back)? {
-            return Some(false);
+        if !is_formless(alloc, front, blank, back) {
+            return false;
         }
     }
     is_formless(alloc, front, "", "")
 }
 
 /// Whether a line of more than one word is refused with another blank behind the first one.
-fn is_refused_with_another_blank(alloc: Global, spelled: &str) -> Option<bool> {
+fn is_refused_with_another_blank(alloc: Global, spelled: &str) -> bool {
     match spelled.split_once(' ') {
         Some((front, back)) => is_refused_between(alloc, front, back),
-        None => Some(true),
+        None => true,
+    }
+}
+
+/// Whether the line of a row of the forms, where it is not blank, is refused with a word too many or too few and with another blank.
+fn is_refused_otherwise(alloc: Global, row: &str) -> bool {
+    match row.split_once(" => ") {
+        Some((_, "Blank")) => true,
+        Some((spelled, _)) => {
+            is_refused_with_more(alloc, spelled)
+                && is_refused_without_last(alloc, spelled)
+                && is_refused_with_another_blank(alloc, spelled)
+        }
+        None => false,
     }
 }
 
 #[test]
-fn each_form_is_refused_with_another_blank(rt: HostRuntime) {
+fn each_form_is_refused_with_other_words_or_blanks(rt: HostRuntime) {
     for row in FORMS.split('\n') {
-        if let Some(spelled) = form_of(row) {
-            assert!(rt;
-                is_refused_with_another_blank(rt.alloc(), spelled) == Some(true),
-                "{spelled}"
-            );
-        }
+        assert!(rt; is_refused_otherwise(rt.alloc(), row), "{row}");
     }
 }
 
@@ -232,37 +203,38 @@ fn fault_of(said: &str) -> Option<LineFault> {
     }
 }
 
-/// So many of one byte between a front and a back.
-fn filled(alloc: Global, front: &str, byte: u8, count: usize, back: &str) -> Option<Bytes> {
-    let mut all = Bytes::new(alloc);
-    all.extend(front.as_bytes()).ok()?;
+/// Appends a byte so many times.
+fn put_many(out: &mut Bytes, byte: u8, count: u32) -> Result<(), NoMemory> {
     for _ in 0..count {
-        all.push(byte).ok()?;
+        out.push(byte)?;
     }
-    all.extend(back.as_bytes()).ok()?;
-    Some(all)
+    Ok(())
 }
 
-/// The bytes that are spelled `FRONT,BYTE,COUNT,BACK`.
-fn filled_by(alloc: Global, spelled: &str) -> Option<Bytes> {
+/// Appends the bytes that are spelled `FRONT,BYTE,COUNT,BACK`.
+fn put_filled(out: &mut Bytes, spelled: &str) -> Result<(), NoMemory> {
     let mut words = spelled.split(',');
-    let front = words.next()?;
-    let byte = words.next()?.parse::<u8>().ok()?;
-    let count = words.next()?.parse::<usize>().ok()?;
-    filled(alloc, front, byte, count, words.next()?)
+    let front = words.next().unwrap_or("");
+    let byte = words.next().unwrap_or("").parse::<u8>().unwrap_or(0);
+    let count = words.next().unwrap_or("").parse::<u32>().unwrap_or(0);
+    out.extend(front.as_bytes())?;
+    put_many(out, byte, count)?;
+    out.extend(words.next().unwrap_or("").as_bytes())
 }
 
 /// Whether the bytes of a row have the fault that it says.
-fn has_fault(alloc: Global, row: &str) -> Option<bool> {
-    let (spelled, said) = row.split_once(" => ")?;
-    let line = filled_by(alloc, spelled)?;
-    Some(fault(alloc, line.as_slice()) == fault_of(said))
+fn has_fault(alloc: Global, row: &str) -> bool {
+    let (spelled, said) = row.split_once(" => ").unwrap_or((row, ""));
+    let mut line = Bytes::new(alloc);
+    let put = put_filled(&mut line, spelled);
+    let fault = fault(alloc, line.as_slice());
+    put.is_ok() && fault == fault_of(said)
 }
 
 #[test]
 fn long_lines_are_refused_first(rt: HostRuntime) {
     for row in LONG.lines() {
-        assert!(rt; has_fault(rt.alloc(), row) == Some(true), "{row}");
+        assert!(rt; has_fault(rt.alloc(), row), "{row}");
     }
 }
 

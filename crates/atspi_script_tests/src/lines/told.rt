@@ -139,9 +139,10 @@ fn put_line(out: &mut Bytes, line: &Line) -> Result<(), NoMemory> {
     }
 }
 
-/// What a line says.
-pub(crate) fn told(alloc: Global, line: &Line) -> Result<Bytes, NoMemory> {
+/// Whether a line says what is due.
+pub(crate) fn is_told(alloc: Global, line: &Line, due: &str) -> bool {
     let mut out = Bytes::new(alloc);
-    put_line(&mut out, line)?;
-    Ok(out)
+    let put = put_line(&mut out, line);
+    let is_due = out.as_slice() == due.as_bytes();
+    put.is_ok() && is_due
 }

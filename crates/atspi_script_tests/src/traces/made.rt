@@ -1,7 +1,7 @@
 //! Events made for these tests, and their texts.
 
-use atspi_base::{Bytes, Text, Texts};
-use atspi_events::{Event, write_event};
+use atspi_base::{Bytes, NoMemory, Text, Texts};
+use atspi_events::{Event, is_brief, write_event};
 use atspi_forest::Seed;
 use atspi_lines::Party;
 use atspi_valid_names::{BusName, Path};
@@ -57,67 +57,76 @@ fn bus_name(alloc: Global, bytes: &str) -> Option<BusName> {
 }
 
 /// A party: `bus`, `reg`, `a` or `r` and a number.
-fn party_of(word: &str) -> Option<Party> {
+fn party_of(word: &str) -> Party {
     match word {
-        "bus" => Some(Party::Bus),
-        "reg" => Some(Party::Registry),
+        "bus" => Party::Bus,
+        "reg" => Party::Registry,
         _ => match word.strip_prefix('a') {
-            Some(app) => Some(Party::App(number(app))),
-            None => Some(Party::Reader(number(word.strip_prefix('r')?))),
+            Some(app) => Party::App(number(app)),
+            None => Party::Reader(number(word.strip_prefix('r').unwrap_or(""))),
         },
     }
 }
 
-/// The name of a root, where there is one.
-fn name_of(alloc: Global, name: Option<&str>) -> Option<Option<Text>> {
-    match name {
-        Some(name) => Some(Some(text(alloc, name)?)),
-        None => Some(None),
-    }
+/// The start of an end, with the name of a root where there is one.
+fn start(alloc: Global, who: Party, name: Option<&str>) -> Option<Event> {
+    let name = match name {
+        Some(name) => Some(text(alloc, name)?),
+        None => None,
+    };
+    Some(Event::Start { who, name })
+}
+
+/// An application hears of a listener, or hears that it listens no longer.
+fn heard(alloc: Global, words: Words, pattern: Text) -> Option<Event> {
+    let app = number(words.first);
+    let listener = bus_name(alloc, words.second)?;
+    Some(match words.word {
+        "hears" => Event::Hears {
+            app,
+            listener,
+            pattern,
+        },
+        _ => Event::Deaf {
+            app,
+            listener,
+            pattern,
+        },
+    })
 }
 
 /// An event with a text.
 fn spoken(alloc: Global, words: Words) -> Option<Event> {
-    let said = text(alloc, words.text?)?;
+    let text = text(alloc, words.text.unwrap_or(""))?;
     match words.word {
-        "hears" => Some(Event::Hears {
-            app: number(words.first),
-            listener: bus_name(alloc, words.second)?,
-            pattern: said,
-        }),
-        "deaf" => Some(Event::Deaf {
-            app: number(words.first),
-            listener: bus_name(alloc, words.second)?,
-            pattern: said,
-        }),
         "say" => Some(Event::Say {
             reader: number(words.first),
             app: number(words.second),
-            text: said,
+            text,
         }),
-        _ => None,
+        _ => heard(alloc, words, text),
     }
 }
 
 /// An event that is neither a step nor a message that is sent, nor shows rows.
 pub(crate) fn event_of(alloc: Global, words: Words) -> Option<Event> {
-    let (first, second) = (number(words.first), number(words.second));
+    let who = party_of(words.first);
+    let (first, second, third) = (
+        number(words.first),
+        number(words.second),
+        number(words.third),
+    );
     match words.word {
-        "start" => Some(Event::Start {
-            who: party_of(words.first)?,
-            name: name_of(alloc, words.text)?,
-        }),
-        "exit" => Some(Event::Exit {
-            who: party_of(words.first)?,
-        }),
+        "start" => start(alloc, who, words.text),
+        "exit" => Some(Event::Exit { who }),
         "gone" => Some(Event::Gone {
             reader: first,
             app: second,
         }),
         "dropped" => Some(Event::Dropped {
-            who: party_of(words.first)?,
+            who,
             queued: second,
-            len: number(words.third),
+            len: third,
         }),
         "busy" => Some(Event::Busy(first)),
         "quiet" => Some(Event::Quiet),
@@ -127,9 +136,9 @@ pub(crate) fn event_of(alloc: Global, words: Words) -> Option<Event> {
             rows: None,
         }),
         "got" => Some(Event::Got {
-            taker: party_of(words.first)?,
-            sender: party_of(words.second)?,
-            serial: number(words.third),
+            taker: who,
+            sender: party_of(words.second),
+            serial: third,
         }),
         _ => spoken(alloc, words),
     }
@@ -157,10 +166,10 @@ fn put_clause(alloc: Global, seed: &mut Seed, clause: &str) -> Option<()> {
 /// What a node begins with: its role, its name and its clauses, with `;` between two.
 pub(crate) fn seed(alloc: Global, spelled: &str) -> Option<Seed> {
     let mut parts = spelled.split(';');
-    let role = number(parts.next()?);
+    let role = number(parts.next().unwrap_or(""));
     let mut seed = Seed {
         role,
-        name: text(alloc, parts.next()?)?,
+        name: text(alloc, parts.next().unwrap_or(""))?,
         text: None,
         editable: false,
         columns: None,
@@ -173,11 +182,31 @@ pub(crate) fn seed(alloc: Global, spelled: &str) -> Option<Seed> {
     Some(seed)
 }
 
+/// Appends an event's text behind two characters.
+fn put_event(event: &Event, out: &mut Bytes) -> Result<(), NoMemory> {
+    out.extend(b"> ")?;
+    write_event(event, out)
+}
+
+/// Whether this is a line behind these two characters, with a line's end behind it.
+fn is_line(told: &[u8], due: &str) -> Option<bool> {
+    let line = told.strip_prefix(b"> ")?;
+    Some(line.strip_suffix(b"\n") == Some(due.as_bytes()))
+}
+
 /// Whether an event's text, behind what was there, is this with a line's end behind it.
-pub(crate) fn tells(alloc: Global, event: &Event, due: &str) -> Option<bool> {
+fn is_told(alloc: Global, event: &Event, due: &str) -> bool {
     let mut out = Bytes::new(alloc);
-    out.extend(b"> ").ok()?;
-    write_event(event, &mut out).ok()?;
-    let told = out.as_slice().strip_prefix(b"> ")?;
-    Some(told.strip_suffix(b"\n") == Some(due.as_bytes()))
+    let put = put_event(event, &mut out);
+    let is_due = is_line(out.as_slice(), due);
+    put.is_ok() && is_due == Some(true)
+}
+
+/// Whether an event is told so, or whether the brief text keeps it (`kept`) or not (`left out`).
+pub(crate) fn tells(alloc: Global, event: Event, due: &str) -> bool {
+    match due {
+        "kept" => is_brief(&event),
+        "left out" => !is_brief(&event),
+        _ => is_told(alloc, &event, due),
+    }
 }

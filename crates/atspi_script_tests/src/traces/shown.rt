@@ -39,18 +39,18 @@ struct RowWords<'a> {
 }
 
 /// The words of a row that is spelled.
-fn row_words(spelled: &str) -> Option<RowWords<'_>> {
+fn row_words(spelled: &str) -> RowWords<'_> {
     let mut words = spelled.split(',');
-    Some(RowWords {
-        path: words.next()?,
-        role: number(words.next()?),
-        states: words.next()?.parse::<u64>().ok()?,
-        faces: words.next()?.parse::<u8>().ok()?,
-        name: words.next()?,
-        caret: num_part(words.next()?),
-        columns: num_part(words.next()?),
-        text: words.next()?,
-    })
+    RowWords {
+        path: words.next().unwrap_or(""),
+        role: number(words.next().unwrap_or("")),
+        states: words.next().unwrap_or("").parse::<u64>().unwrap_or(0),
+        faces: words.next().unwrap_or("").parse::<u8>().unwrap_or(0),
+        name: words.next().unwrap_or(""),
+        caret: num_part(words.next().unwrap_or("")),
+        columns: num_part(words.next().unwrap_or("")),
+        text: words.next().unwrap_or(""),
+    }
 }
 
 /// The row of these words.
@@ -76,47 +76,31 @@ fn parent_of(alloc: Global, word: &str) -> Option<Option<Path>> {
     }
 }
 
-/// A row that is shown: its parent's path, its index and the row, with a blank between two.
-fn shown_row(alloc: Global, spelled: &str) -> Option<ShownRow> {
-    let (parent, rest) = spelled.split_once(' ')?;
+/// A row that is shown: its parent's path, and behind it its index and the row, with a blank between.
+fn shown_row(alloc: Global, parent: &str, rest: &str) -> Option<ShownRow> {
     let (index, row) = rest.split_once(' ')?;
-    let index = index.parse::<i32>().ok()?;
-    let words = row_words(row)?;
     Some(ShownRow {
         parent: parent_of(alloc, parent)?,
-        index,
-        row: row_of(alloc, words)?,
+        index: index.parse::<i32>().unwrap_or(0),
+        row: row_of(alloc, row_words(row))?,
     })
 }
 
-/// Whether rows with `;` between two are told so.
-fn shows(alloc: Global, spelled: &str, due: &str) -> Option<bool> {
+/// The rows that are spelled, with `;` between two, or none: each its parent's path, its index and the row, with a blank between two.
+fn shown(alloc: Global, spelled: &str) -> Option<Shown> {
     let mut rows = Vec::new(alloc);
     for row in spelled.split(';') {
-        rows.push(shown_row(alloc, row)?).ok()?;
+        if let Some((parent, rest)) = row.split_once(' ') {
+            rows.push(shown_row(alloc, parent, rest)?).ok()?;
+        }
     }
-    let show = Event::Show {
-        reader: 0,
-        app: 0,
-        rows: Some(Shown::from_vec(rows)),
-    };
-    tells(alloc, &show, due)
+    Some(Shown::from_vec(rows))
 }
 
-#[test]
-fn what_is_not_held_is_told_so(rt: HostRuntime) {
-    let none = Event::Show {
-        reader: 0,
-        app: 0,
-        rows: None,
-    };
-    assert!(rt; tells(rt.alloc(), &none, "show r0 a0 none") == Some(true));
-    let empty = Event::Show {
-        reader: 3,
-        app: 15,
-        rows: Some(Shown::from_vec(Vec::new(rt.alloc()))),
-    };
-    assert!(rt; tells(rt.alloc(), &empty, "show r3 a15 0") == Some(true));
+/// Whether a reader that shows these rows of an application is told so.
+fn shows(alloc: Global, reader: u32, app: u32, spelled: &str, due: &str) -> Option<bool> {
+    let rows = Some(shown(alloc, spelled)?);
+    Some(tells(alloc, Event::Show { reader, app, rows }, due))
 }
 
 /// The root, and a node below it.
@@ -132,14 +116,15 @@ const UNKNOWN: &str = "- -2147483648 /org/a11y/atspi/accessible/2,0,184467440737
 
 #[test]
 fn rows_are_told_in_order_and_as_far_as_they_are_known(rt: HostRuntime) {
+    assert!(rt; shows(rt.alloc(), 3, 15, "", "show r3 a15 0") == Some(true));
     let due =
         "show r0 a0 2\n| root - -1 application 0000000043000100 \"Demo\" \"\" - - - -\n| 1 root 0 push-button 0000000043000100 \"Save\" \"\" - - - -";
-    assert!(rt; shows(rt.alloc(), ORDERED, due) == Some(true));
+    assert!(rt; shows(rt.alloc(), 0, 0, ORDERED, due) == Some(true));
     let due =
         "show r0 a0 1\n| 4294967295 20 2147483647 117 0000000000000000 \"x\" \"\" TELBA \"a \\\"b\\\"\" 0 1024";
-    assert!(rt; shows(rt.alloc(), KNOWN, due) == Some(true));
+    assert!(rt; shows(rt.alloc(), 0, 0, KNOWN, due) == Some(true));
     let due = "show r0 a0 1\n| 2 - -2147483648 invalid ffffffffffffffff \"y\" \"\" TB ? ? ?";
-    assert!(rt; shows(rt.alloc(), UNKNOWN, due) == Some(true));
+    assert!(rt; shows(rt.alloc(), 0, 0, UNKNOWN, due) == Some(true));
 }
 
 /// Paths that nearly name a node.
@@ -154,7 +139,7 @@ fn is_told_whole(alloc: Global, strange: &str) -> Option<bool> {
     let due = format!(in alloc;
         "show r0 a0 1\n| {strange} {strange} 0 alert 0000000043000100 \"\" \"\" - - - -"
     ).ok()?;
-    shows(alloc, spelled.as_str(), due.as_str())
+    shows(alloc, 0, 0, spelled.as_str(), due.as_str())
 }
 
 #[test]

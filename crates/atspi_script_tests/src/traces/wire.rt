@@ -1,7 +1,7 @@
 //! Messages that were sent, and the bytes of messages. What is due was worked out by hand.
 
 use crate::traces::made::tells;
-use atspi_base::Bytes;
+use atspi_base::{Bytes, NoMemory};
 use atspi_events::{Event, write_wire};
 use atspi_lines::Party;
 use atspi_message::{Message, total};
@@ -35,7 +35,7 @@ fn sent_tells(alloc: Global, bytes: &[u8], due: &str) -> Option<bool> {
         who: Party::App(0),
         message: parsed(alloc, bytes)?,
     };
-    tells(alloc, &sent, due)
+    Some(tells(alloc, sent, due))
 }
 
 #[test]
@@ -45,17 +45,23 @@ fn a_message_sent_is_told_with_its_text(rt: HostRuntime) {
     assert!(rt; sent_tells(rt.alloc(), &HELLO, due) == Some(true));
 }
 
+/// Appends the line of these bytes behind two characters.
+fn put_line(alloc: Global, bytes: &[u8], out: &mut Bytes) -> Result<(), NoMemory> {
+    out.extend(b"> ")?;
+    write_wire(alloc, bytes, out)
+}
+
 /// Whether the line of these bytes, behind what was there, is this.
-fn is_line(alloc: Global, bytes: &[u8], due: &str) -> Option<bool> {
+fn is_line(alloc: Global, bytes: &[u8], due: &str) -> bool {
     let mut out = Bytes::new(alloc);
-    out.extend(b"> ").ok()?;
-    write_wire(alloc, bytes, &mut out).ok()?;
-    Some(out.as_slice().strip_prefix(b"> ") == Some(due.as_bytes()))
+    let put = put_line(alloc, bytes, &mut out);
+    let is_due = out.as_slice().strip_prefix(b"> ") == Some(due.as_bytes());
+    put.is_ok() && is_due
 }
 
 #[test]
 fn bytes_are_a_line_of_hex(rt: HostRuntime) {
-    assert!(rt; is_line(rt.alloc(), &HELLO, HELLO_LINE) == Some(true));
-    assert!(rt; is_line(rt.alloc(), &[0, 9, 10, 255], "= 00090aff\n") == Some(true));
-    assert!(rt; is_line(rt.alloc(), &[], "= \n") == Some(true));
+    assert!(rt; is_line(rt.alloc(), &HELLO, HELLO_LINE));
+    assert!(rt; is_line(rt.alloc(), &[0, 9, 10, 255], "= 00090aff\n"));
+    assert!(rt; is_line(rt.alloc(), &[], "= \n"));
 }
