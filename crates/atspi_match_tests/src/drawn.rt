@@ -3,8 +3,8 @@
 ghost use Rattle.std.specs.Prelude.{◌<◌};
 
 use crate::made::{Header, lent, signal_with};
-use crate::rules::{added, two_connections};
-use atspi_base::{Nums, Steps};
+use crate::rules::{added, received, two_connections};
+use atspi_base::Nums;
 use atspi_header::MessageRef;
 use atspi_match::{Condition, Rule, RuleIndex};
 use atspi_names::Names;
@@ -59,13 +59,15 @@ fn one_of<'a>(state: &mut u64, texts: &'a str) -> Option<&'a str> {
     texts.split(' ').nth(number)
 }
 
-/// The rules of all lines.
-fn all_rules(alloc: Global) -> Option<Vec<Rule>> {
+/// The rules of all lines; a line that is none is left out.
+fn all_rules(alloc: Global) -> Vec<Rule> {
     let mut rules = Vec::new(alloc);
     for text in RULES.split('\n') {
-        rules.push(Rule::parse(alloc, text.as_bytes()).ok()?).ok()?;
+        if let Ok(rule) = Rule::parse(alloc, text.as_bytes()) {
+            let _ = rules.push(rule).ok();
+        }
     }
-    Some(rules)
+    rules
 }
 
 /// Whether the rule of a line matches the message.
@@ -83,29 +85,16 @@ fn asked_each(
     plain: &[(u32, usize)],
     m: &MessageRef,
     names: &Names,
-) -> Option<Vec<u32>> {
+) -> Vec<u32> {
     let mut found = Vec::new(alloc);
     for (conn, line) in plain {
         if is_met(rules, *line, m, names) {
-            found.push(*conn).ok()?;
+            let _ = found.push(*conn);
         }
     }
     found.sort_unstable();
     found.dedup();
-    Some(found)
-}
-
-/// Who receives the message by the index, and how many rules were looked at.
-fn received(
-    alloc: Global,
-    index: &RuleIndex,
-    m: &MessageRef,
-    names: &Names,
-) -> Option<(Nums, u64)> {
-    let mut out = Nums::new(alloc);
-    let mut steps = Steps::new();
-    index.receivers(m, names, &mut out, &mut steps).ok()?;
-    Some((out, steps.count()))
+    found
 }
 
 /// Whether the rule of a line asks for no interface, or for that of the message.
@@ -132,22 +121,48 @@ fn nearby(rules: &[Rule], plain: &[(u32, usize)], m: &MessageRef) -> u64 {
     count
 }
 
+/// Whether the plain list tells these receivers of a message, and no fewer rules of it ask for no interface, or for that of the message, than were looked at.
+fn is_due(
+    alloc: Global,
+    rules: &[Rule],
+    plain: &[(u32, usize)],
+    names: &Names,
+    bytes: &[u8],
+    kind: u8,
+    out: &[u32],
+    steps: u64,
+) -> bool {
+    match lent(bytes, kind) {
+        Some(m) => {
+            let due = asked_each(alloc, rules, plain, &m, names);
+            out == due.as_slice() && steps <= nearby(rules, plain, &m)
+        }
+        None => false,
+    }
+}
+
 /// Whether both forms tell the same receivers, and the index counts no more rules than ask for no interface, or for that of the message.
 fn is_same(
     alloc: Global,
     rules: &[Rule],
     index: &RuleIndex,
     plain: &[(u32, usize)],
-    m: &MessageRef,
     names: &Names,
+    bytes: &[u8],
+    kind: u8,
 ) -> bool {
-    let Some((out, steps)) = received(alloc, index, m, names) else {
-        return false;
-    };
-    let Some(due) = asked_each(alloc, rules, plain, m, names) else {
-        return false;
-    };
-    out.as_slice() == due.as_slice() && steps <= nearby(rules, plain, m)
+    let mut out = Nums::new(alloc);
+    let steps = received(index, names, bytes, kind, &mut out);
+    is_due(
+        alloc,
+        rules,
+        plain,
+        names,
+        bytes,
+        kind,
+        out.as_slice(),
+        steps,
+    )
 }
 
 /// Adds the rule of a line to both, and tells whether both took it.
@@ -241,7 +256,7 @@ fn drawn_header(state: &mut u64) -> Header<'static> {
     }
 }
 
-/// Changes both in a way that is drawn, and tells whether both go together for a message whose type and names are drawn, and whose first argument is a text.
+/// Whether both forms go together over 250 drawn changes, with messages whose type and names are drawn, and whose first argument is spelled by a word.
 fn go_on(
     alloc: Global,
     rules: &[Rule],
@@ -249,237 +264,46 @@ fn go_on(
     state: &mut u64,
     index: &mut RuleIndex,
     plain: &mut Vec<(u32, usize)>,
-    words: &str,
-) -> Option<bool> {
-    let header = drawn_header(state);
-    let kind = if draw(state, 2) == 0 { 1 } else { 4 };
-    let bytes = signal_with(alloc, header, "s", words)?;
-    let message = lent(bytes.as_slice(), kind)?;
-    Some(
-        change(alloc, rules, state, index, plain)
-            && is_same(alloc, rules, index, plain, &message, names),
-    )
+    word: &str,
+) -> bool {
+    for _change in 0..250_u32 {
+        let bytes = signal_with(alloc, drawn_header(state), "s", word);
+        let kind = if draw(state, 2) == 0 { 1 } else { 4 };
+        if !change(alloc, rules, state, index, plain)
+            || !is_same(alloc, rules, index, plain, names, bytes.as_slice(), kind)
+        {
+            return false;
+        }
+    }
+    true
 }
 
-/// Whether both forms go together over 250 drawn changes, from a seed, with messages of a text.
-fn go_with(alloc: Global, rules: &[Rule], names: &Names, seed: u64, text: &str) -> Option<bool> {
-    let words = format!(in alloc; "s={text}").ok()?;
+/// The same of a new index, from a seed.
+fn go_with(alloc: Global, rules: &[Rule], names: &Names, seed: u64, word: &str) -> bool {
     let mut state = seed;
     let mut index = RuleIndex::new(alloc);
     let mut plain = Vec::new(alloc);
-    for _change in 0..250_u32 {
-        if !go_on(
-            alloc,
-            rules,
-            names,
-            &mut state,
-            &mut index,
-            &mut plain,
-            words.as_str(),
-        )? {
-            return Some(false);
-        }
-    }
-    Some(true)
+    go_on(
+        alloc, rules, names, &mut state, &mut index, &mut plain, word,
+    )
+}
+
+/// The same of four seeds, each with another first argument.
+fn all_go(alloc: Global, rules: &[Rule], names: &Names) -> bool {
+    go_with(alloc, rules, names, 1, "s=a")
+        && go_with(alloc, rules, names, 2, "s=caf\u{e9}")
+        && go_with(alloc, rules, names, 3, "s=")
+        && go_with(alloc, rules, names, 4, "s=/a/b")
+}
+
+/// The same where two connections have names.
+fn all_go_with_names(alloc: Global, rules: &[Rule]) -> bool {
+    let names = two_connections(alloc);
+    all_go(alloc, rules, &names)
 }
 
 #[test]
 fn receivers_are_those_whose_rules_match(rt: HostRuntime) {
-    let alloc = rt.alloc();
-    let names = two_connections(&rt, alloc);
-    let rules = all_rules(alloc).expect(&rt, "rules");
-    assert!(rt; go_with(alloc, &rules, &names, 1, "a") == Some(true));
-    assert!(rt; go_with(alloc, &rules, &names, 2, "caf\u{e9}") == Some(true));
-    assert!(rt; go_with(alloc, &rules, &names, 3, "") == Some(true));
-    assert!(rt; go_with(alloc, &rules, &names, 4, "/a/b") == Some(true));
-}
-
-/// Adds a rule with the key and a value that ends in a number.
-fn add_numbered(
-    alloc: Global,
-    index: &mut RuleIndex,
-    conn: u32,
-    front: &str,
-    number: u32,
-) -> Option<()> {
-    let text = format!(in alloc; "{front}{number}'").ok()?;
-    let rule = Rule::parse(alloc, text.as_bytes()).ok()?;
-    if added(index, conn, rule) == 0 {
-        Some(())
-    } else {
-        None
-    }
-}
-
-/// An index in which each of four connections has so many rules that differ in one value alone.
-fn numbered(alloc: Global, front: &str, count: u32) -> Option<RuleIndex> {
-    let mut index = RuleIndex::new(alloc);
-    for number in 0..count {
-        for conn in 0..4u32 {
-            add_numbered(alloc, &mut index, conn, front, number)?;
-        }
-    }
-    Some(index)
-}
-
-/// How many rules are looked at for a message, where each of four connections has so many that differ in one value; each connection receives it.
-fn looked_at(alloc: Global, front: &str, count: u32, m: &MessageRef, names: &Names) -> Option<u64> {
-    let index = numbered(alloc, front, count)?;
-    let (out, steps) = received(alloc, &index, m, names)?;
-    if out.as_slice() == [0, 1, 2, 3].as_slice() {
-        Some(steps)
-    } else {
-        None
-    }
-}
-
-/// The names of a message that the rules with the number 0 match, whichever key they ask for.
-const NAMES: Header<'static> = Header {
-    path: Some("/a/n0"),
-    interface: Some("org.example.N0"),
-    member: Some("N0"),
-    destination: Some(":1.1"),
-    sender: Some(":1.0"),
-};
-
-/// How many rules are looked at where there is one, and where there are 500, for a message that the one with the number 0 matches.
-fn of_one_and_many(alloc: Global, names: &Names, front: &str) -> Option<(u64, u64)> {
-    let bytes = signal_with(alloc, NAMES, "s", "s=n0")?;
-    let message = lent(bytes.as_slice(), 4)?;
-    let one = looked_at(alloc, front, 1, &message, names)?;
-    let many = looked_at(alloc, front, 500, &message, names)?;
-    Some((one, many))
-}
-
-#[test]
-fn many_rules_that_differ_cost_no_more_than_one(rt: HostRuntime) {
-    let alloc = rt.alloc();
-    let names = two_connections(&rt, alloc);
-    for front in "sender=':1.|interface='org.example.N|member='N|path='/a/n|arg0='n".split('|') {
-        assert!(rt;
-            of_one_and_many(alloc, &names, front) == Some((4, 4)),
-            "{front}"
-        );
-    }
-}
-
-/// Rules of five keys, which differ in the value of the last, a line each.
-const OF_FIVE_KEYS: &str = "\
-interface='org.example.N0',member='N0',path='/a/n0',arg0='n0',sender=':1.
-sender=':1.0',member='N0',path='/a/n0',arg0='n0',interface='org.example.N
-sender=':1.0',interface='org.example.N0',path='/a/n0',arg0='n0',member='N
-sender=':1.0',interface='org.example.N0',member='N0',arg0='n0',path='/a/n
-sender=':1.0',interface='org.example.N0',member='N0',path='/a/n0',arg0='n";
-
-#[test]
-fn many_rules_of_five_keys_cost_no_more_than_two(rt: HostRuntime) {
-    let alloc = rt.alloc();
-    let names = two_connections(&rt, alloc);
-    for front in OF_FIVE_KEYS.lines() {
-        let (one, many) = of_one_and_many(alloc, &names, front).expect(&rt, "rules");
-        assert!(rt; one == 4 && many <= 8, "{front} {many}");
-    }
-}
-
-/// Takes out the rule with the key and a value that ends in a number.
-fn remove_numbered(
-    alloc: Global,
-    index: &mut RuleIndex,
-    conn: u32,
-    front: &str,
-    number: u32,
-) -> Option<()> {
-    let text = format!(in alloc; "{front}{number}'").ok()?;
-    let rule = Rule::parse(alloc, text.as_bytes()).ok()?;
-    if index.remove(conn, &rule) {
-        Some(())
-    } else {
-        None
-    }
-}
-
-/// Takes out the rules of a connection whose numbers are these.
-fn remove_all(
-    alloc: Global,
-    index: &mut RuleIndex,
-    conn: u32,
-    front: &str,
-    numbers: (u32, u32),
-) -> Option<()> {
-    for number in numbers.0..numbers.1 {
-        remove_numbered(alloc, index, conn, front, number)?;
-    }
-    Some(())
-}
-
-/// Whether each of four connections hears a message, until its rule with the number 0 goes out; then all others do, and none is looked at.
-fn go_out(alloc: Global, names: &Names, front: &str) -> Option<bool> {
-    let bytes = signal_with(alloc, NAMES, "s", "s=n0")?;
-    let message = lent(bytes.as_slice(), 4)?;
-    let mut index = numbered(alloc, front, 20)?;
-    remove_all(alloc, &mut index, 1, front, (0, 1))?;
-    remove_all(alloc, &mut index, 3, front, (0, 20))?;
-    let (left, _) = received(alloc, &index, &message, names)?;
-    remove_all(alloc, &mut index, 0, front, (0, 20))?;
-    remove_all(alloc, &mut index, 1, front, (1, 20))?;
-    let (last, steps) = received(alloc, &index, &message, names)?;
-    remove_all(alloc, &mut index, 2, front, (0, 20))?;
-    let (none, nothing) = received(alloc, &index, &message, names)?;
-    Some(
-        left.as_slice() == [0, 2].as_slice()
-            && last.as_slice() == [2].as_slice()
-            && steps <= 2
-            && none.as_slice().is_empty()
-            && nothing == 0,
-    )
-}
-
-#[test]
-fn rules_of_five_keys_go_out_again(rt: HostRuntime) {
-    let alloc = rt.alloc();
-    let names = two_connections(&rt, alloc);
-    for front in OF_FIVE_KEYS.lines() {
-        assert!(rt; go_out(alloc, &names, front) == Some(true), "{front}");
-    }
-}
-
-/// An index in which one connection has 511 rules of one interface, and one of another.
-fn many_of_another_interface(alloc: Global) -> Option<RuleIndex> {
-    let mut index = RuleIndex::new(alloc);
-    for number in 1..512 {
-        add_numbered(alloc, &mut index, 0, "interface='x.y',member='M", number)?;
-    }
-    let rule = Rule::parse(alloc, b"interface='a.b'").ok()?;
-    if added(&mut index, 0, rule) == 0 {
-        Some(index)
-    } else {
-        None
-    }
-}
-
-/// Whether just these receive a message, of whose index so many rules are looked at at the most.
-fn receive(
-    alloc: Global,
-    index: &RuleIndex,
-    names: &Names,
-    due: &[u32],
-    most: u64,
-) -> Option<bool> {
-    // a big-endian signal of the interface `a.b`
-    let bytes =
-        b"B\x04\x01\x01\0\0\0\0\0\0\0\x07\0\0\0\x2a\x01\x01o\0\0\0\0\x02/a\0\0\0\0\0\0\x02\x01s\0\0\0\0\x03a.b\0\0\0\0\0\x03\x01s\0\0\0\0\x01C\0\0\0\0\0\0\0";
-    let message = lent(bytes.as_slice(), 4)?;
-    let (out, steps) = received(alloc, index, &message, names)?;
-    Some(out.as_slice() == due && steps <= most)
-}
-
-#[test]
-fn rules_of_another_interface_are_not_looked_at(rt: HostRuntime) {
-    let alloc = rt.alloc();
-    let names = two_connections(&rt, alloc);
-    let mut index = many_of_another_interface(alloc).expect(&rt, "rules");
-    assert!(rt; receive(alloc, &index, &names, &[0], 1) == Some(true));
-    let rule = Rule::parse(alloc, b"interface='a.b'").expect(&rt, "a rule");
-    assert!(rt; index.remove(0, &rule));
-    assert!(rt; receive(alloc, &index, &names, &[], 0) == Some(true));
+    let rules = all_rules(rt.alloc());
+    assert!(rt; rules.len() == 29 && all_go_with_names(rt.alloc(), &rules));
 }

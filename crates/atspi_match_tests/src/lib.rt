@@ -6,6 +6,8 @@ mod drawn;
 #[cfg(test)]
 mod made;
 #[cfg(test)]
+mod many;
+#[cfg(test)]
 mod rule_texts;
 #[cfg(test)]
 mod rules;

@@ -1,13 +1,22 @@
 //! The rules that well-known clients write, the faults one by one, and printing.
 
-use crate::spelled::{bytes_of, pair};
-use atspi_base::Bytes;
+use crate::spelled::put_spelled;
+use atspi_base::{Bytes, put_decimal};
 use atspi_match::{Condition, MessageType, Rule, RuleRead};
 use std::alloc::Global;
 use std::process::Abort;
 use std::test::*;
 
-/// What reading tells: (0, the number of conditions), or the reason and the place.
+/// What is asked of the bytes of a rule.
+#[derive(Clone, Copy)]
+enum Asked {
+    /// Reading it: 0 and the number of conditions, or the reason and the place.
+    Read,
+    /// Printing it.
+    Printed,
+}
+
+/// What reading tells.
 fn told(alloc: Global, bytes: &[u8]) -> (u32, u32) {
     match Rule::parse(alloc, bytes) {
         Ok(rule) => (0, rule.conditions().len().min(999) as u32),
@@ -16,18 +25,45 @@ fn told(alloc: Global, bytes: &[u8]) -> (u32, u32) {
     }
 }
 
-/// Whether reading the rule of a row tells what is due: 0 and the number of conditions, or the reason and the place.
-fn is_told(alloc: Global, row: &str) -> Option<bool> {
-    let (spelled, due) = row.split_once(" => ")?;
-    let bytes = bytes_of(alloc, spelled)?;
-    let told = pair(alloc, told(alloc, bytes.as_slice()))?;
-    Some(told.as_slice() == due.as_bytes())
+// What finds no memory is left out; then what is told is not what is due.
+
+/// Appends two numbers.
+fn put_pair(out: &mut Bytes, pair: (u32, u32)) {
+    let _ = put_decimal(u64::from(pair.0), out);
+    let _ = out.push(b' ');
+    let _ = put_decimal(u64::from(pair.1), out);
+}
+
+/// Appends the rule that bytes are, printed, behind the word `rule`.
+fn put_printed(alloc: Global, out: &mut Bytes, bytes: &[u8]) {
+    if let Ok(rule) = Rule::parse(alloc, bytes) {
+        let _ = out.extend(b"rule ");
+        let _ = rule.print(out);
+    }
+}
+
+/// Appends what is told of bytes.
+fn put_told(alloc: Global, out: &mut Bytes, asked: Asked, bytes: &[u8]) {
+    match asked {
+        Asked::Read => put_pair(out, told(alloc, bytes)),
+        Asked::Printed => put_printed(alloc, out, bytes),
+    }
+}
+
+/// Whether of the bytes of a row is told what is due, as `BYTES => DUE`.
+fn holds(alloc: Global, asked: Asked, row: &str) -> bool {
+    let (spelled, due) = row.split_once(" => ").unwrap_or((row, ""));
+    let mut bytes = Bytes::new(alloc);
+    let mut out = Bytes::new(alloc);
+    put_spelled(&mut bytes, spelled);
+    put_told(alloc, &mut out, asked, bytes.as_slice());
+    out.as_slice() == due.as_bytes()
 }
 
 /// Each row of a table is told as is due.
-fn try_rows(rt: &impl Abort, alloc: Global, rows: &str) {
+fn try_rows(rt: &impl Abort, alloc: Global, asked: Asked, rows: &str) {
     for row in rows.split('\n') {
-        assert!(rt; is_told(alloc, row) == Some(true), "{row}");
+        assert!(rt; holds(alloc, asked, row), "{row}");
     }
 }
 
@@ -88,11 +124,11 @@ arg0=%c3%a9,arg1='%c3'%a9 => 0 2";
 
 #[test]
 fn rules_of_clients_are_read(rt: HostRuntime) {
-    try_rows(&rt, rt.alloc(), LIBDBUS);
-    try_rows(&rt, rt.alloc(), GDBUS);
-    try_rows(&rt, rt.alloc(), SD_BUS);
-    try_rows(&rt, rt.alloc(), ATSPI);
-    try_rows(&rt, rt.alloc(), ENDS);
+    try_rows(&rt, rt.alloc(), Asked::Read, LIBDBUS);
+    try_rows(&rt, rt.alloc(), Asked::Read, GDBUS);
+    try_rows(&rt, rt.alloc(), Asked::Read, SD_BUS);
+    try_rows(&rt, rt.alloc(), Asked::Read, ATSPI);
+    try_rows(&rt, rt.alloc(), Asked::Read, ENDS);
 }
 
 /// Reason 1: no `=`.
@@ -162,75 +198,37 @@ path_namespace=/,member=a,path=b => 7 26";
 
 #[test]
 fn faults_are_told_at_their_place(rt: HostRuntime) {
-    try_rows(&rt, rt.alloc(), NO_EQUALS);
-    try_rows(&rt, rt.alloc(), NO_KEY);
-    try_rows(&rt, rt.alloc(), TWICE);
-    try_rows(&rt, rt.alloc(), NOT_CLOSED);
-    try_rows(&rt, rt.alloc(), NO_TYPE);
-    try_rows(&rt, rt.alloc(), NO_VALUE);
-    try_rows(&rt, rt.alloc(), BOTH_PATHS);
+    try_rows(&rt, rt.alloc(), Asked::Read, NO_EQUALS);
+    try_rows(&rt, rt.alloc(), Asked::Read, NO_KEY);
+    try_rows(&rt, rt.alloc(), Asked::Read, TWICE);
+    try_rows(&rt, rt.alloc(), Asked::Read, NOT_CLOSED);
+    try_rows(&rt, rt.alloc(), Asked::Read, NO_TYPE);
+    try_rows(&rt, rt.alloc(), Asked::Read, NO_VALUE);
+    try_rows(&rt, rt.alloc(), Asked::Read, BOTH_PATHS);
 }
 
-/// How many letters a rule has between `arg0='` and an apostrophe, the rest, and what reading it tells.
+/// Rules of 1024 bytes and more, as pieces.
 const LONG: &str = "\
-1017  => 0 1
-1018  => 8 1024
-1016 , => 0 1
-1017 , => 8 1024
-1016 ,x => 1 1024
-1017 ,x => 8 1024
-1015 ,x=abc => 2 1023";
-
-/// `arg0='` and so many letters, an apostrophe, and the rest.
-fn long_rule(alloc: Global, letters: u32, rest: &str) -> Option<Bytes> {
-    let mut all = Bytes::new(alloc);
-    all.extend(b"arg0='").ok()?;
-    for _letter in 0..letters {
-        all.push(b'a').ok()?;
-    }
-    all.push(b'\'').ok()?;
-    all.extend(rest.as_bytes()).ok()?;
-    Some(all)
-}
-
-/// Whether reading the rule of a row tells what is due.
-fn is_told_of_long(alloc: Global, row: &str) -> Option<bool> {
-    let (spelled, due) = row.split_once(" => ")?;
-    let (letters, rest) = spelled.split_once(' ')?;
-    let bytes = long_rule(alloc, letters.parse::<u32>().ok()?, rest)?;
-    let told = pair(alloc, told(alloc, bytes.as_slice()))?;
-    Some(told.as_slice() == due.as_bytes())
-}
-
-#[test]
-fn a_rule_has_at_most_1024_bytes(rt: HostRuntime) {
-    for row in LONG.split('\n') {
-        assert!(rt; is_told_of_long(rt.alloc(), row) == Some(true), "{row}");
-    }
-}
+* arg0='*1 a*1017 '*1 => 0 1
+* arg0='*1 a*1018 '*1 => 8 1024
+* arg0='*1 a*1016 ',*1 => 0 1
+* arg0='*1 a*1017 ',*1 => 8 1024
+* arg0='*1 a*1016 ',x*1 => 1 1024
+* arg0='*1 a*1017 ',x*1 => 8 1024
+* arg0='*1 a*1015 ',x=abc*1 => 2 1023";
 
 /// Rules, and what they are printed as.
 const PRINTED: &str = "\
-\x20=> 
-arg0='it'\\''s' => arg0='it'\\''s'
-member=a, type=signal => type='signal',member='a'
-eavesdrop=true,arg0namespace=a.b,arg63path=/a,arg10='',destination=a.b,path=/,sender=:1.2 => sender=':1.2',path='/',destination='a.b',arg10='',arg63path='/a',arg0namespace='a.b',eavesdrop='true'
-arg1=\\',interface=a.b,path_namespace=/a => interface='a.b',path_namespace='/a',arg1=''\\'''";
-
-/// Whether the rule of a row is printed as is due.
-fn is_printed(alloc: Global, row: &str) -> Option<bool> {
-    let (spelled, due) = row.split_once(" => ")?;
-    let rule = Rule::parse(alloc, spelled.as_bytes()).ok()?;
-    let mut out = Bytes::new(alloc);
-    rule.print(&mut out).ok()?;
-    Some(out.as_slice() == due.as_bytes())
-}
+\x20=> rule 
+arg0='it'\\''s' => rule arg0='it'\\''s'
+member=a, type=signal => rule type='signal',member='a'
+eavesdrop=true,arg0namespace=a.b,arg63path=/a,arg10='',destination=a.b,path=/,sender=:1.2 => rule sender=':1.2',path='/',destination='a.b',arg10='',arg63path='/a',arg0namespace='a.b',eavesdrop='true'
+arg1=\\',interface=a.b,path_namespace=/a => rule interface='a.b',path_namespace='/a',arg1=''\\'''";
 
 #[test]
-fn rules_are_printed_in_order(rt: HostRuntime) {
-    for row in PRINTED.split('\n') {
-        assert!(rt; is_printed(rt.alloc(), row) == Some(true), "{row}");
-    }
+fn rules_have_at_most_1024_bytes_and_are_printed_in_order(rt: HostRuntime) {
+    try_rows(&rt, rt.alloc(), Asked::Read, LONG);
+    try_rows(&rt, rt.alloc(), Asked::Printed, PRINTED);
 }
 
 /// Whether these are the type `error` and the first argument `it's`.
@@ -246,6 +244,6 @@ fn are_due(conditions: &[Condition]) -> bool {
 
 #[test]
 fn a_value_is_what_its_spelling_means(rt: HostRuntime) {
-    let rule = Rule::parse(rt.alloc(), b"arg0='it'\\''s',type=error").expect(&rt, "a rule");
-    assert!(rt; are_due(rule.conditions()));
+    let read = Rule::parse(rt.alloc(), b"arg0='it'\\''s',type=error");
+    assert!(rt; read.is_ok_and(|rule| are_due(rule.conditions())));
 }

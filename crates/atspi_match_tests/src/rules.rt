@@ -1,9 +1,5 @@
 //! Which messages a rule matches, and who receives them.
 
-ghost use Rattle.std.specs.Prelude.{◌≡◌, ◌≢◌, false};
-ghost use Rattle.atspi_valid_names.specs.Names.{is_unique_name};
-ghost use Rattle.atspi_names.specs.Owners as owners;
-
 use crate::made::{lent, signal_of};
 use atspi_base::{Nums, Steps};
 use atspi_match::{Rule, RuleAdd, RuleIndex};
@@ -13,85 +9,102 @@ use std::alloc::Global;
 use std::process::Abort;
 use std::test::*;
 
-/// The rule of a text.
-fn rule(alloc: Global, text: &str) -> Option<Rule> {
-    Rule::parse(alloc, text.as_bytes()).ok()
+/// Gives the connection its unique name, where it has none.
+fn greet(names: &mut Names, conn: u32) {
+    if names.unique_name(conn).is_none() {
+        let _ = names.hello(conn);
+    }
 }
 
-/// A well-known name.
-fn known(rt: &impl Abort, alloc: Global, text: &str) -> BusName
-    ensures not_unique { is_unique_name result ≡ false }
-    ensures not_the_bus { result ≢ owners.own_name }
-{
-    let name = BusName::read(alloc, text.as_bytes()).expect(rt, "a bus name");
-    assert!(rt; !name.is_unique());
-    assert!(rt; name.as_str() != "org.freedesktop.DBus");
-    name
+/// Asks for a name for a connection, where it is a well-known one and not that of the bus.
+fn request(names: &mut Names, conn: u32, name: &BusName, flags: u32) {
+    if !name.is_unique() && name.as_str() != "org.freedesktop.DBus" {
+        let _ = names.request(conn, name, flags);
+    }
 }
 
-/// Gives the connection its unique name.
-fn greet(rt: &impl Abort, names: &mut Names, conn: u32) {
-    assert!(rt; names.unique_name(conn).is_none());
-    names.hello(conn).expect(rt, "hello");
+/// Asks for `org.example.Backend` for a connection.
+fn request_backend(alloc: Global, names: &mut Names, conn: u32, flags: u32) {
+    if let Ok(name) = BusName::read(alloc, b"org.example.Backend") {
+        request(names, conn, &name, flags);
+    }
 }
 
 /// Names in which connection 0 is `:1.0` and owns `org.example.Backend`, and connection 1 is `:1.1`.
-pub(crate) fn two_connections(rt: &impl Abort, alloc: Global) -> Names {
+pub(crate) fn two_connections(alloc: Global) -> Names {
     let mut names = Names::new(alloc);
-    greet(rt, &mut names, 0);
-    greet(rt, &mut names, 1);
-    let name = known(rt, alloc, "org.example.Backend");
-    names.request(0, &name, 1).expect(rt, "request");
+    greet(&mut names, 0);
+    greet(&mut names, 1);
+    request_backend(alloc, &mut names, 0, 1);
     names
 }
 
-/// Whether a rule matches the signal of a connection that words spell, taken for a message of a type.
-fn matches_of(
+/// `yes` where a rule matches the message that bytes are, taken for one of a type, and `no` where it does not.
+fn answer(rule: &Rule, names: &Names, bytes: &[u8], kind: u8) -> &'static str {
+    match lent(bytes, kind) {
+        Some(message) => {
+            if rule.matches(&message, names) {
+                "yes"
+            } else {
+                "no"
+            }
+        }
+        None => "no message",
+    }
+}
+
+/// The same of the rule of a text and bytes.
+fn matching(alloc: Global, names: &Names, text: &str, bytes: &[u8], kind: u8) -> &'static str {
+    match Rule::parse(alloc, text.as_bytes()) {
+        Ok(rule) => answer(&rule, names, bytes, kind),
+        Err(_) => "no rule",
+    }
+}
+
+/// The same of the rule of a text and the signal of a connection that words spell.
+fn told(
     alloc: Global,
     names: &Names,
     text: &str,
     sender: &str,
     words: &str,
     kind: u8,
-) -> Option<bool> {
-    let rule = rule(alloc, text)?;
-    let bytes = signal_of(alloc, sender, words)?;
-    let message = lent(bytes.as_slice(), kind)?;
-    Some(rule.matches(&message, names))
+) -> &'static str {
+    let bytes = signal_of(alloc, sender, words);
+    matching(alloc, names, text, bytes.as_slice(), kind)
 }
 
 /// Whether the rule of a row matches a signal of `:1.0`, and else does not, as is due.
-fn holds(alloc: Global, names: &Names, row: &str) -> Option<bool> {
-    let (asked, due) = row.split_once(" => ")?;
-    let (rule, words) = asked.split_once(" on ")?;
-    Some(matches_of(alloc, names, rule, ":1.0", words, 4)? == (due == "yes"))
+fn holds(alloc: Global, names: &Names, row: &str) -> bool {
+    let (asked, due) = row.split_once(" => ").unwrap_or((row, ""));
+    let (rule, words) = asked.split_once(" on ").unwrap_or((asked, ""));
+    told(alloc, names, rule, ":1.0", words, 4) == due
 }
 
 /// Each row of a table holds.
 fn try_rows(rt: &impl Abort, alloc: Global, names: &Names, rows: &str) {
     for row in rows.lines() {
-        assert!(rt; holds(alloc, names, row) == Some(true), "{row}");
+        assert!(rt; holds(alloc, names, row), "{row}");
     }
 }
 
 /// Whether a rule matches the types 0 to 5 as is due: the one with this number alone.
-fn is_of_type(alloc: Global, text: &str, number: u8) -> Option<bool> {
-    let names = Names::new(alloc);
+fn is_of_type(alloc: Global, names: &Names, text: &str, number: u8) -> bool {
     for kind in 0..6_u8 {
-        if matches_of(alloc, &names, text, ":1.0", "/", kind)? != (kind == number) {
-            return Some(false);
+        let due = if kind == number { "yes" } else { "no" };
+        if told(alloc, names, text, ":1.0", "/", kind) != due {
+            return false;
         }
     }
-    Some(true)
+    true
 }
 
-#[test]
-fn a_type_matches_its_number(rt: HostRuntime) {
-    // D-Bus Specification, "Message Protocol": 1 call, 2 return, 3 error, 4 signal
-    assert!(rt; is_of_type(rt.alloc(), "type='method_call'", 1) == Some(true));
-    assert!(rt; is_of_type(rt.alloc(), "type='method_return'", 2) == Some(true));
-    assert!(rt; is_of_type(rt.alloc(), "type='error'", 3) == Some(true));
-    assert!(rt; is_of_type(rt.alloc(), "type='signal'", 4) == Some(true));
+/// Whether each rule for a type matches its number (D-Bus Specification, "Message Protocol": 1 call, 2 return, 3 error, 4 signal).
+fn types_match_their_numbers(alloc: Global, names: &Names) -> bool {
+    is_of_type(alloc, names, "type='method_call'", 1)
+        && is_of_type(alloc, names, "type='method_return'", 2)
+        && is_of_type(alloc, names, "type='error'", 3)
+        && is_of_type(alloc, names, "type='signal'", 4)
 }
 
 /// Fields of a message: a name matches whoever owns it.
@@ -110,12 +123,6 @@ member='Changed' on /com/example/foo => yes
 member='Change' on /com/example/foo => no
 path='/com/example/foo' on /com/example/foo => yes
 path='/com/example' on /com/example/foo => no";
-
-#[test]
-fn a_field_matches_by_its_name(rt: HostRuntime) {
-    let names = two_connections(&rt, rt.alloc());
-    try_rows(&rt, rt.alloc(), &names, FIELDS);
-}
 
 /// Namespaces of paths (rows of the D-Bus Specification, "Match Rules").
 const NAMESPACES: &str = "\
@@ -169,31 +176,48 @@ arg1path='/a' on /|sous|s=caf\u{e9}|s=/a/b|u=7|s= => no
 arg2path='/' on /|sous|s=caf\u{e9}|s=/a/b|u=7|s= => no
 arg4path='/' on /|sous|s=caf\u{e9}|s=/a/b|u=7|s= => no";
 
+/// Each row of each table holds.
+fn try_all(rt: &impl Abort, alloc: Global, names: &Names) {
+    assert!(rt; types_match_their_numbers(alloc, names));
+    try_rows(rt, alloc, names, FIELDS);
+    try_rows(rt, alloc, names, NAMESPACES);
+    try_rows(rt, alloc, names, ARGUMENT_PATHS);
+    try_rows(rt, alloc, names, ARGUMENT_NAMES);
+    try_rows(rt, alloc, names, ARGUMENTS);
+}
+
 #[test]
-fn paths_and_arguments_match(rt: HostRuntime) {
-    let names = Names::new(rt.alloc());
-    try_rows(&rt, rt.alloc(), &names, NAMESPACES);
-    try_rows(&rt, rt.alloc(), &names, ARGUMENT_PATHS);
-    try_rows(&rt, rt.alloc(), &names, ARGUMENT_NAMES);
-    try_rows(&rt, rt.alloc(), &names, ARGUMENTS);
+fn types_fields_paths_and_arguments_match(rt: HostRuntime) {
+    let names = two_connections(rt.alloc());
+    try_all(&rt, rt.alloc(), &names);
 }
 
 /// Whether a rule for signals of `org.example.Backend` matches one of this sender.
-fn is_of_backend(alloc: Global, names: &Names, sender: &str) -> Option<bool> {
-    matches_of(alloc, names, "sender='org.example.Backend'", sender, "/", 4)
+fn of_backend(alloc: Global, names: &Names, sender: &str) -> &'static str {
+    told(alloc, names, "sender='org.example.Backend'", sender, "/", 4)
+}
+
+/// Whether a rule with a well-known name, which connection 0 owns, matches whoever owns it: connection 1 once that has asked for it, and nobody once that is gone.
+fn follows_owner(alloc: Global, names: &mut Names) -> bool {
+    let first = of_backend(alloc, names, ":1.0");
+    request_backend(alloc, names, 1, 2);
+    let before = of_backend(alloc, names, ":1.0");
+    let now = of_backend(alloc, names, ":1.1");
+    names.gone(1);
+    let gone = of_backend(alloc, names, ":1.1");
+    let without = of_backend(alloc, names, "");
+    first == "yes" && before == "no" && now == "yes" && gone == "no" && without == "no"
+}
+
+/// The same of names that are made anew.
+fn owner_is_followed(alloc: Global) -> bool {
+    let mut names = two_connections(alloc);
+    follows_owner(alloc, &mut names)
 }
 
 #[test]
 fn a_name_stands_for_whoever_owns_it_now(rt: HostRuntime) {
-    let mut names = two_connections(&rt, rt.alloc());
-    assert!(rt; is_of_backend(rt.alloc(), &names, ":1.0") == Some(true));
-    let name = known(&rt, rt.alloc(), "org.example.Backend");
-    names.request(1, &name, 2).expect(&rt, "request");
-    assert!(rt; is_of_backend(rt.alloc(), &names, ":1.0") == Some(false));
-    assert!(rt; is_of_backend(rt.alloc(), &names, ":1.1") == Some(true));
-    names.gone(1);
-    assert!(rt; is_of_backend(rt.alloc(), &names, ":1.1") == Some(false));
-    assert!(rt; is_of_backend(rt.alloc(), &names, "") == Some(false));
+    assert!(rt; owner_is_followed(rt.alloc()));
 }
 
 /// The rule that asks for nothing.
@@ -210,72 +234,140 @@ pub(crate) fn added(index: &mut RuleIndex, conn: u32, rule: Rule) -> u32 {
     }
 }
 
-/// How many conditions the rule has that is handed back for the limit.
-fn handed_back(index: &mut RuleIndex, conn: u32, rule: Rule) -> Option<usize> {
+/// How many conditions the rule of a text has that is handed back for the limit.
+fn handed_back(alloc: Global, index: &mut RuleIndex, conn: u32, text: &[u8]) -> Option<usize> {
+    let rule = Rule::parse(alloc, text).ok()?;
     match index.add(conn, rule) {
         Err((rule, RuleAdd::Limit)) => Some(rule.conditions().len()),
         _ => None,
     }
 }
 
-#[test]
-fn a_connection_may_have_512_rules(rt: HostRuntime) {
-    let mut index = RuleIndex::new(rt.alloc());
-    for _rule in 0..512_u32 {
-        assert!(rt; added(&mut index, 7, any(rt.alloc())) == 0);
-    }
-    let kept = rule(rt.alloc(), "eavesdrop=true").expect(&rt, "a rule");
-    assert!(rt; handed_back(&mut index, 7, kept) == Some(1));
-    assert!(rt; added(&mut index, 8, any(rt.alloc())) == 0);
-    assert!(rt; index.remove(7, &any(rt.alloc())));
-    assert!(rt; added(&mut index, 7, any(rt.alloc())) == 0);
-    assert!(rt; added(&mut index, 7, any(rt.alloc())) == 1);
-    index.drop_conn(7);
-    assert!(rt; added(&mut index, 7, any(rt.alloc())) == 0);
-}
-
-/// Whether just these receive a signal at a path, behind a first number that was there, in so many steps at the most.
-fn receive(alloc: Global, index: &RuleIndex, path: &str, due: &[u32], most: u64) -> Option<bool> {
-    let bytes = signal_of(alloc, ":1.0", path)?;
-    let message = lent(bytes.as_slice(), 4)?;
-    let mut out = Nums::new(alloc);
-    out.push(99).ok()?;
-    let mut steps = Steps::new();
-    let names = Names::new(alloc);
-    index
-        .receivers(&message, &names, &mut out, &mut steps)
-        .ok()?;
-    Some(out.as_slice() == due && steps.count() <= most)
-}
-
-/// Adds the rules of a text, each its connection, a blank and what it says, with `; ` between two.
-fn add_all(alloc: Global, index: &mut RuleIndex, rules: &str) -> Option<()> {
-    for spelled in rules.split("; ") {
-        let (conn, text) = spelled.split_once(' ')?;
-        if added(index, conn.parse::<u32>().ok()?, rule(alloc, text)?) != 0 {
-            return None;
+/// Adds so many rules that ask for nothing, and tells how many were added.
+fn add_any(alloc: Global, index: &mut RuleIndex, conn: u32, count: u32) -> u32 {
+    let mut done = 0u32;
+    for _rule in 0..count {
+        if added(index, conn, any(alloc)) == 0 {
+            done = done.saturating_add(1);
         }
     }
-    Some(())
+    done
 }
 
-/// Rules of the connections 5, 2 and 3, of which two are equal.
-const RULES: &str = "5 path='/a'; 2 path='/a'; 5 path='/b'; 2 path='/a'; 3 path='/c'";
+/// Whether connection 7 may have 512 rules, and one for each that goes.
+fn are_limited(alloc: Global, index: &mut RuleIndex) -> bool {
+    let all = add_any(alloc, index, 7, 512);
+    let back = handed_back(alloc, index, 7, b"eavesdrop=true");
+    let other = add_any(alloc, index, 8, 1);
+    let is_removed = index.remove(7, &any(alloc));
+    let again = add_any(alloc, index, 7, 1);
+    let over = added(index, 7, any(alloc));
+    index.drop_conn(7);
+    let anew = add_any(alloc, index, 7, 1);
+    is_removed && back == Some(1) && [all, other, again, over, anew] == [512, 1, 1, 1, 1]
+}
+
+/// The same of a new index.
+fn rules_are_limited(alloc: Global) -> bool {
+    let mut index = RuleIndex::new(alloc);
+    are_limited(alloc, &mut index)
+}
+
+#[test]
+fn a_connection_may_have_512_rules(rt: HostRuntime) {
+    assert!(rt; rules_are_limited(rt.alloc()));
+}
+
+/// How many rules are looked at for the message that bytes are, taken for one of a type; who receives it is appended to a list. `u64::MAX` where it is none.
+pub(crate) fn received(
+    index: &RuleIndex,
+    names: &Names,
+    bytes: &[u8],
+    kind: u8,
+    out: &mut Nums,
+) -> u64 {
+    let mut steps = Steps::new();
+    let Some(message) = lent(bytes, kind) else {
+        return u64::MAX;
+    };
+    match index.receivers(&message, names, out, &mut steps) {
+        Ok(()) => steps.count(),
+        Err(_) => u64::MAX,
+    }
+}
+
+/// Whether just these receive a signal, behind a first number 99 that was there, and so many rules are looked at at the most.
+pub(crate) fn hear(
+    alloc: Global,
+    index: &RuleIndex,
+    names: &Names,
+    bytes: &[u8],
+    due: &[u32],
+    most: u64,
+) -> bool {
+    let mut out = Nums::new(alloc);
+    let _ = out.push(99);
+    let steps = received(index, names, bytes, 4, &mut out);
+    out.as_slice() == due && steps <= most
+}
+
+/// Adds the rule of a text.
+pub(crate) fn add_rule(alloc: Global, index: &mut RuleIndex, conn: u32, text: &[u8]) -> bool {
+    match Rule::parse(alloc, text) {
+        Ok(rule) => added(index, conn, rule) == 0,
+        Err(_) => false,
+    }
+}
+
+/// Takes out the rule of a text.
+pub(crate) fn remove_rule(alloc: Global, index: &mut RuleIndex, conn: u32, text: &[u8]) -> bool {
+    match Rule::parse(alloc, text) {
+        Ok(rule) => index.remove(conn, &rule),
+        Err(_) => false,
+    }
+}
+
+/// Adds rules of the connections 5, 2 and 3, of which two are equal and one asks for nothing.
+fn add_all(alloc: Global, index: &mut RuleIndex) -> bool {
+    add_rule(alloc, index, 5, b"path='/a'")
+        && add_rule(alloc, index, 2, b"path='/a'")
+        && add_rule(alloc, index, 5, b"path='/b'")
+        && add_rule(alloc, index, 2, b"path='/a'")
+        && add_rule(alloc, index, 3, b"path='/c'")
+        && added(index, 5, any(alloc)) == 0
+}
+
+/// Whether each connection receives a signal once, in order, while rules go: one of the two equal rules, then the other, then there is none.
+fn go_one_by_one(alloc: Global, index: &mut RuleIndex, names: &Names) -> bool {
+    let signal = signal_of(alloc, ":1.0", "/a");
+    let other = signal_of(alloc, ":1.0", "/c");
+    let all = hear(alloc, index, names, signal.as_slice(), &[99, 2, 5], 6);
+    let first = remove_rule(alloc, index, 2, b"path='/a'");
+    let one = hear(alloc, index, names, signal.as_slice(), &[99, 2, 5], 1000);
+    let second = remove_rule(alloc, index, 2, b"path='/a'");
+    let none = hear(alloc, index, names, signal.as_slice(), &[99, 5], 1000);
+    let third = remove_rule(alloc, index, 2, b"path='/a'");
+    let still = hear(alloc, index, names, signal.as_slice(), &[99, 5], 1000);
+    index.drop_conn(5);
+    let last = hear(alloc, index, names, other.as_slice(), &[99, 3], 1);
+    all && first && one && second && none && !third && still && last
+}
+
+/// The same of a new index of these rules.
+fn all_go(alloc: Global, names: &Names) -> bool {
+    let mut index = RuleIndex::new(alloc);
+    let is_full = add_all(alloc, &mut index);
+    let is_told = go_one_by_one(alloc, &mut index, names);
+    is_full && is_told
+}
+
+/// The same where nobody has a name.
+fn all_go_without_names(alloc: Global) -> bool {
+    let names = Names::new(alloc);
+    all_go(alloc, &names)
+}
 
 #[test]
 fn each_receiver_is_told_once_in_order(rt: HostRuntime) {
-    let mut index = RuleIndex::new(rt.alloc());
-    add_all(rt.alloc(), &mut index, RULES).expect(&rt, "the rules");
-    assert!(rt; added(&mut index, 5, any(rt.alloc())) == 0);
-    assert!(rt; receive(rt.alloc(), &index, "/a", &[99, 2, 5], 6) == Some(true));
-    // one of the two equal rules goes, then the other, then there is none
-    let rule = rule(rt.alloc(), "path='/a'").expect(&rt, "a rule");
-    assert!(rt; index.remove(2, &rule));
-    assert!(rt; receive(rt.alloc(), &index, "/a", &[99, 2, 5], u64::MAX) == Some(true));
-    assert!(rt; index.remove(2, &rule));
-    assert!(rt; receive(rt.alloc(), &index, "/a", &[99, 5], u64::MAX) == Some(true));
-    assert!(rt; !index.remove(2, &rule));
-    assert!(rt; receive(rt.alloc(), &index, "/a", &[99, 5], u64::MAX) == Some(true));
-    index.drop_conn(5);
-    assert!(rt; receive(rt.alloc(), &index, "/c", &[99, 3], 1) == Some(true));
+    assert!(rt; all_go_without_names(rt.alloc()));
 }

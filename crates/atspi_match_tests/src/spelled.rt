@@ -1,42 +1,54 @@
-//! Rows of a table: bytes as a text spells them, and what is told of them.
+//! Bytes as a text spells them.
 
-use atspi_base::{Bytes, put_decimal};
-use std::alloc::Global;
+use atspi_base::Bytes;
 
 /// The number that a digit of 16 stands for.
-fn digit(c: u8) -> Option<u8> {
+fn digit(c: u8) -> u8 {
     match c {
-        b'0'..=b'9' => Some(c - b'0'),
-        b'a'..=b'f' => Some(c - b'a' + 10),
-        _ => None,
+        b'0'..=b'9' => c - b'0',
+        b'a'..=b'f' => c - b'a' + 10,
+        _ => 0,
     }
 }
+
+// What finds no memory is left out; then what is told is not what is due.
 
 /// Appends the byte of two digits, and what stands behind them.
-fn put_escaped(bytes: &mut Bytes, escaped: &[u8]) -> Option<()> {
-    let [high, low, plain @ ..] = escaped else {
-        return None;
-    };
-    bytes.push((digit(*high)? << 4) | digit(*low)?).ok()?;
-    bytes.extend(plain).ok()
-}
-
-/// The bytes that a text spells: `%` and two digits of 16 stand for one byte.
-pub(crate) fn bytes_of(alloc: Global, text: &str) -> Option<Bytes> {
-    let mut bytes = Bytes::new(alloc);
-    let mut parts = text.split('%');
-    bytes.extend(parts.next()?.as_bytes()).ok()?;
-    for part in parts {
-        put_escaped(&mut bytes, part.as_bytes())?;
+fn put_escaped(bytes: &mut Bytes, escaped: &[u8]) {
+    if let [high, low, plain @ ..] = escaped {
+        let _ = bytes.push((digit(*high) << 4) | digit(*low));
+        let _ = bytes.extend(plain);
     }
-    Some(bytes)
 }
 
-/// Two numbers as a text.
-pub(crate) fn pair(alloc: Global, numbers: (u32, u32)) -> Option<Bytes> {
-    let mut out = Bytes::new(alloc);
-    put_decimal(u64::from(numbers.0), &mut out).ok()?;
-    out.push(b' ').ok()?;
-    put_decimal(u64::from(numbers.1), &mut out).ok()?;
-    Some(out)
+/// Appends a text in which `%` and two digits of 16 stand for one byte.
+fn put_text(bytes: &mut Bytes, text: &str) {
+    let mut parts = text.split('%');
+    let _ = bytes.extend(parts.next().unwrap_or("").as_bytes());
+    for part in parts {
+        put_escaped(bytes, part.as_bytes());
+    }
+}
+
+/// Appends a piece so many times, as `PIECE*COUNT` spells it.
+fn put_piece(bytes: &mut Bytes, spelled: &str) {
+    let (piece, count) = spelled.split_once('*').unwrap_or((spelled, "1"));
+    for _time in 0..count.parse::<u32>().unwrap_or(0) {
+        let _ = bytes.extend(piece.as_bytes());
+    }
+}
+
+/// Appends pieces that stand with a blank between two, one behind another.
+fn put_pieces(bytes: &mut Bytes, pieces: &str) {
+    for spelled in pieces.split(' ') {
+        put_piece(bytes, spelled);
+    }
+}
+
+/// Appends the bytes that a text spells: pieces behind `* `, and else itself, with `%` and two digits of 16 for one byte.
+pub(crate) fn put_spelled(bytes: &mut Bytes, text: &str) {
+    match text.strip_prefix("* ") {
+        Some(pieces) => put_pieces(bytes, pieces),
+        None => put_text(bytes, text),
+    }
 }
