@@ -43,6 +43,16 @@ fn item_at(alloc: Global, bus: &Text, tree: &Tree, seat: Seat) -> Result<Item, N
     node_item(alloc, bus, tree, seat.node, seat.parent, index_of(seat))
 }
 
+/// The same as a value.
+fn value_at(alloc: Global, bus: &Text, tree: &Tree, seat: Seat) -> Result<Value, NoMemory>
+    requires there { has (is_shape seat.node) tree.now.rows ≡ true }
+    requires small { seat.index ≤ 8192 }
+    ensures { IfOk result (λ value. IfSome (row_of seat.node tree.now) (λ row. data_of value ≡ values.item_data (seat_item bus.now tree.now seat row))) }
+{
+    let item = item_at(alloc, bus, tree, seat)?;
+    item_value(alloc, &item)
+}
+
 /// The types that follow the three references in an item.
 fn put_types(alloc: Global, fields: &mut Tys) -> Result<(), NoMemory>
     ensures { OnOk result (kinds_in fields.new ≡ kinds_in fields.old ++ number i32 ∷ number i32 ∷ array text ∷ text ∷ number u32 ∷ text ∷ array (number u32) ∷ []) }
@@ -92,8 +102,8 @@ fn item_values(alloc: Global, bus: &Text, tree: &Tree) -> Result<Values, NoMemor
     let mut walk = tree.seats();
     let mut all = Values::new(alloc);
     while let Some(seat) = walk.next() {
-        let item = item_at(alloc, bus, tree, seat)?;
-        all.push(item_value(alloc, &item)?)?;
+        let value = value_at(alloc, bus, tree, seat)?;
+        all.push(value)?;
     }
     Ok(all)
 }

@@ -6,18 +6,10 @@ ghost use Rattle.atspi_forest.specs.Announce.{interfaces_of};
 ghost use Rattle.atspi_items.specs.Names.{first_of_all};
 ghost use Rattle.atspi_telling.specs.Plain.{are_plain};
 
-use atspi_base::{NoMemory, Text, Texts};
+use atspi_base::{NoMemory, Texts};
 use atspi_forest::Kinds;
+use atspi_telling::word;
 use std::alloc::Global;
-
-/// A text that stands in the program.
-fn word(alloc: Global, text: &str) -> Result<Text, NoMemory>
-    requires plain { are_plain text.now ≡ true }
-    requires short { length text.now < 2 ^ 32 }
-    ensures { IfOk result (λ word. word ≡ text.now) }
-{
-    Text::of(alloc, text)
-}
 
 /// A name more, if it belongs there.
 fn put(alloc: Global, names: &mut Texts, on: bool, name: &str) -> Result<(), NoMemory>

@@ -10,10 +10,10 @@ ghost use Rattle.atspi_tree.specs.Places.{index_in};
 ghost use Rattle.atspi_tree.specs.TreeShape.{children_of};
 ghost use Rattle.atspi_node_values.specs.Numbers.{index_of, parent_of, place_of};
 
-use crate::values::{node_reference, word};
+use crate::values::node_reference;
 use atspi_base::{NoMemory, Text};
 use atspi_protocol::ends::path;
-use atspi_telling::reference;
+use atspi_telling::{reference, word};
 use atspi_tree::Tree;
 use atspi_types::Value;
 use std::alloc::Global;

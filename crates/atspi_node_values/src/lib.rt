@@ -11,5 +11,5 @@ pub use interfaces::interface_names;
 pub use relations::relation_set;
 pub use values::{
     count, literal, no_pairs, node_reference, number, reference_or_null, references, role_text,
-    signed, text, word, words,
+    signed, text, words,
 };

@@ -12,20 +12,11 @@ ghost use Rattle.atspi_node_values.specs.Numbers.{numbered_or_null, numbered_ref
 use atspi_base::{NoMemory, Text};
 use atspi_protocol::ends::path;
 use atspi_tables::role_name;
-use atspi_telling::{node_path, reference, reference_type};
+use atspi_telling::{node_path, reference, reference_type, word};
 use atspi_types::{Pairs, Ty, Value, Values};
 use std::alloc::Global;
 
 /// A text that stands in the program.
-pub fn word(alloc: Global, text: &str) -> Result<Text, NoMemory>
-    requires plain { are_plain text.now ≡ true }
-    requires short { length text.now < 2 ^ 32 }
-    ensures { IfOk result (λ word. word ≡ text.now) }
-{
-    Text::of(alloc, text)
-}
-
-/// The same as a value.
 pub fn literal(alloc: Global, text: &str) -> Result<Value, NoMemory>
     requires plain { are_plain text.now ≡ true }
     requires short { length text.now < 2 ^ 32 }

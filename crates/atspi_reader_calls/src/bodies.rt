@@ -7,6 +7,7 @@ ghost use Rattle.atspi_telling.specs.Plain.{are_plain};
 ghost use Rattle.atspi_protocol.specs.following.Calls.{int, minus_one, property};
 
 use atspi_base::{NoMemory, Text};
+use atspi_telling::word;
 use atspi_types::{Value, Values};
 use std::alloc::Global;
 
@@ -69,38 +70,41 @@ pub(crate) fn placed(alloc: Global, at: u32, text: &Text) -> Result<Values, NoMe
     requires short { length text.now ≤ 1048576 }
     ensures { IfOk result (λ body. all_data body ≡ int at ∷ (text_data text.now ∷ (int (length text.now) ∷ []))) }
 {
+    let count = text.count();
+    let text = text.copy(alloc)?;
     let mut body = Values::new(alloc);
     body.push(number(at))?;
-    body.push(Value::Text(text.copy(alloc)?))?;
-    body.push(number(text.count()))?;
+    body.push(Value::Text(text))?;
+    body.push(number(count))?;
     Ok(body)
 }
 
-/// A word that stands in the program, as a text.
-fn word(alloc: Global, word: &str) -> Result<Text, NoMemory>
-    requires plain { are_plain word.now ≡ true }
-    requires short { length word.now < 2 ^ 32 }
-    ensures { IfOk result (λ text. text ≡ word.now) }
+/// A property of an interface.
+fn property_of(alloc: Global, of: &str, name: &str) -> Result<Values, NoMemory>
+    requires of_plain { are_plain of.now ≡ true }
+    requires of_short { length of.now < 2 ^ 32 }
+    requires plain { are_plain name.now ≡ true }
+    requires short { length name.now < 2 ^ 32 }
+    ensures { IfOk result (λ body. all_data body ≡ property of.now name.now) }
 {
-    Text::of(alloc, word)
+    let of = word(alloc, of)?;
+    let name = word(alloc, name)?;
+    let mut body = Values::new(alloc);
+    body.push(Value::Text(of))?;
+    body.push(Value::Text(name))?;
+    Ok(body)
 }
 
 /// The caret of an object of interface Text.
 pub(crate) fn caret_property(alloc: Global) -> Result<Values, NoMemory>
     ensures { IfOk result (λ body. all_data body ≡ property (codes "org.a11y.atspi.Text") (codes "CaretOffset")) }
 {
-    let mut body = Values::new(alloc);
-    body.push(Value::Text(word(alloc, "org.a11y.atspi.Text")?))?;
-    body.push(Value::Text(word(alloc, "CaretOffset")?))?;
-    Ok(body)
+    property_of(alloc, "org.a11y.atspi.Text", "CaretOffset")
 }
 
 /// The count of columns of an object of interface Table.
 pub(crate) fn columns_property(alloc: Global) -> Result<Values, NoMemory>
     ensures { IfOk result (λ body. all_data body ≡ property (codes "org.a11y.atspi.Table") (codes "NColumns")) }
 {
-    let mut body = Values::new(alloc);
-    body.push(Value::Text(word(alloc, "org.a11y.atspi.Table")?))?;
-    body.push(Value::Text(word(alloc, "NColumns")?))?;
-    Ok(body)
+    property_of(alloc, "org.a11y.atspi.Table", "NColumns")
 }

@@ -7,11 +7,12 @@ ghost use Rattle.atspi_protocol.specs.declared.following.question.Question.TheVa
 ghost use Rattle.atspi_protocol.specs.following.Calls as calls;
 
 use crate::bodies::{caret_property, columns_property, nothing, text, whole};
-use crate::targets::{bus_call, cache_object, children_call, object_call, register_call};
+use crate::targets::{cache_object, children_call, object_call, register_call};
 use atspi_base::NoMemory;
 use atspi_message::Message;
 use atspi_protocol::following::Question;
 use atspi_protocol::news::PartName;
+use atspi_telling::bus_call;
 use atspi_valid_names::{BusName, Path};
 use std::alloc::Global;
 

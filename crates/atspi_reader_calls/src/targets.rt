@@ -1,47 +1,34 @@
-//! Whom a reader calls: the bus, the registry, and the objects of applications.
+//! Whom a reader calls beside the bus: the registry, and the objects of applications.
 
 ghost use Rattle.std.specs.Prelude.{◌≡◌, true, codes, IfOk};
 ghost use Rattle.atspi_types.specs.DataView.{all_data};
 ghost use Rattle.atspi_valid_names.specs.Names.{is_interface, is_member};
 ghost use Rattle.atspi_message.specs.Envelope.{envelope_of};
 ghost use Rattle.atspi_protocol.specs.ends.Messages as messages;
-ghost use Rattle.atspi_protocol.specs.ends.Places.{bus, bus_path, registry, registry_path, root_path, cache_path};
+ghost use Rattle.atspi_protocol.specs.ends.Places.{registry, registry_path, root_path, cache_path};
 ghost use Rattle.atspi_protocol.specs.members.Interfaces as interfaces;
 
 use atspi_base::NoMemory;
 use atspi_message::Message;
-use atspi_protocol::ends::{bus_name, call_to, interface, member, path};
+use atspi_protocol::ends::{call_to, interface, member, path};
+use atspi_telling::call;
 use atspi_types::Values;
 use atspi_valid_names::{BusName, Path};
 use std::alloc::Global;
-
-/// A call of a member of the bus.
-#[tactic(auto, unfolding(atspi_valid_names::specs::Names::is_bus_name, atspi_valid_names::specs::Names::is_path, atspi_valid_names::specs::Names::is_interface, atspi_valid_names::specs::Elements::are_two_or_more, atspi_valid_names::specs::Elements::are_elements, atspi_valid_names::specs::Elements::parts_of))]
-pub(crate) fn bus_call(alloc: Global, name: &str, body: Values) -> Result<Message, NoMemory>
-    requires { is_member name.now ≡ true }
-    ensures { IfOk result (λ message. envelope_of message ≡ messages.call_to bus bus_path bus name.now (all_data body)) }
-{
-    Ok(call_to(
-        bus_name(alloc, "org.freedesktop.DBus")?,
-        path(alloc, "/org/freedesktop/DBus")?,
-        interface(alloc, "org.freedesktop.DBus")?,
-        member(alloc, name)?,
-        body,
-    ))
-}
 
 /// RegisterEvent of the registry.
 #[tactic(auto, unfolding(atspi_valid_names::specs::Names::is_bus_name, atspi_valid_names::specs::Names::is_path, atspi_valid_names::specs::Names::is_interface, atspi_valid_names::specs::Names::is_member, atspi_valid_names::specs::Elements::are_two_or_more, atspi_valid_names::specs::Elements::are_elements, atspi_valid_names::specs::Elements::parts_of))]
 pub(crate) fn register_call(alloc: Global, body: Values) -> Result<Message, NoMemory>
     ensures { IfOk result (λ message. envelope_of message ≡ messages.call_to registry registry_path interfaces.registry (codes "RegisterEvent") (all_data body)) }
 {
-    Ok(call_to(
-        bus_name(alloc, "org.a11y.atspi.Registry")?,
-        path(alloc, "/org/a11y/atspi/registry")?,
-        interface(alloc, "org.a11y.atspi.Registry")?,
-        member(alloc, "RegisterEvent")?,
+    call(
+        alloc,
+        "org.a11y.atspi.Registry",
+        "/org/a11y/atspi/registry",
+        "org.a11y.atspi.Registry",
+        "RegisterEvent",
         body,
-    ))
+    )
 }
 
 /// GetChildren of the registry's root.
@@ -49,13 +36,14 @@ pub(crate) fn register_call(alloc: Global, body: Values) -> Result<Message, NoMe
 pub(crate) fn children_call(alloc: Global, body: Values) -> Result<Message, NoMemory>
     ensures { IfOk result (λ message. envelope_of message ≡ messages.call_to registry root_path interfaces.accessible (codes "GetChildren") (all_data body)) }
 {
-    Ok(call_to(
-        bus_name(alloc, "org.a11y.atspi.Registry")?,
-        path(alloc, "/org/a11y/atspi/accessible/root")?,
-        interface(alloc, "org.a11y.atspi.Accessible")?,
-        member(alloc, "GetChildren")?,
+    call(
+        alloc,
+        "org.a11y.atspi.Registry",
+        "/org/a11y/atspi/accessible/root",
+        "org.a11y.atspi.Accessible",
+        "GetChildren",
         body,
-    ))
+    )
 }
 
 /// The object that tells a whole application.

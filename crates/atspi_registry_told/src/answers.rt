@@ -5,15 +5,16 @@ ghost use Rattle.atspi_types.specs.KindView.{kind_of};
 ghost use Rattle.atspi_types.specs.Kinds.{u32, kind, no_kinds, structure, text};
 ghost use Rattle.atspi_types.specs.Data.{text_data, number_data};
 ghost use Rattle.atspi_types.specs.DataView.{data_of, all_data};
-ghost use Rattle.atspi_protocol.specs.ends.Places.{null_path, reference, references, registry_root};
+ghost use Rattle.atspi_protocol.specs.ends.Places as places;
+ghost use Rattle.atspi_protocol.specs.ends.Places.{null_path, references, registry_root};
 ghost use Rattle.atspi_protocol.specs.registering.Answers.{pairs_data, child_at, child_or_nobody};
 ghost use Rattle.atspi_registry_told.specs.Values.{pair_data};
 
 use crate::listeners::pair_body;
-use crate::literal::{frame_text, registry_text};
-use crate::values::{reference_type, reference_value, text_reference};
+use crate::values::reference_value;
 use atspi_base::{NoMemory, Text};
 use atspi_protocol::ends::path;
+use atspi_telling::{reference, reference_type, word};
 use atspi_types::{Ty, Tys, Value, Values};
 use atspi_valid_names::{BusName, Path};
 use std::alloc::Global;
@@ -59,14 +60,14 @@ fn pair_type(alloc: Global) -> Result<Ty, NoMemory>
 pub fn pairs_body(alloc: Global, pairs: &[(BusName, Text)]) -> Result<Values, NoMemory>
     ensures { IfOk result (λ values. all_data values ≡ pairs_data pairs.now ∷ []) }
 {
-    let ty = pair_type(alloc)?;
     let values = pair_values(alloc, pairs)?;
+    let ty = pair_type(alloc)?;
     one(alloc, Value::Array(ty, values))
 }
 
 /// The children as values.
 fn child_values(alloc: Global, children: &[(BusName, Path)]) -> Result<Values, NoMemory>
-    ensures { IfOk result (λ values. all_data values ≡ map (λ (r : List ℕ × List ℕ). reference r.0 r.1) children.now) }
+    ensures { IfOk result (λ values. all_data values ≡ map (λ (r : List ℕ × List ℕ). places.reference r.0 r.1) children.now) }
 {
     let mut values = Values::new(alloc);
     for child in children {
@@ -79,18 +80,18 @@ fn child_values(alloc: Global, children: &[(BusName, Path)]) -> Result<Values, N
 pub fn children_body(alloc: Global, children: &[(BusName, Path)]) -> Result<Values, NoMemory>
     ensures { IfOk result (λ values. all_data values ≡ references children.now ∷ []) }
 {
-    let ty = reference_type(alloc)?;
     let values = child_values(alloc, children)?;
+    let ty = reference_type(alloc)?;
     one(alloc, Value::Array(ty, values))
 }
 
 /// Nobody, told by the registry's own name.
 #[tactic(auto, unfolding(atspi_valid_names::specs::Names::is_path, atspi_valid_names::specs::Elements::are_elements, atspi_valid_names::specs::Elements::parts_of))]
 fn nobody(alloc: Global, own: &Text) -> Result<Value, NoMemory>
-    ensures { IfOk result (λ value. data_of value ≡ reference own.now null_path) }
+    ensures { IfOk result (λ value. data_of value ≡ places.reference own.now null_path) }
 {
     let place = path(alloc, "/org/a11y/atspi/null")?;
-    text_reference(alloc, own.copy(alloc)?, place)
+    reference(alloc, own, place)
 }
 
 /// The child at a place, or nobody.
@@ -141,7 +142,8 @@ fn root_value(alloc: Global) -> Result<Value, NoMemory>
     ensures { IfOk result (λ value. data_of value ≡ registry_root) }
 {
     let place = path(alloc, "/org/a11y/atspi/accessible/root")?;
-    text_reference(alloc, registry_text(alloc)?, place)
+    let name = word(alloc, "org.a11y.atspi.Registry")?;
+    reference(alloc, &name, place)
 }
 
 /// The reference of the registry's root, which is the parent of each application's root.
@@ -162,5 +164,5 @@ pub fn role_body(alloc: Global) -> Result<Values, NoMemory>
 pub fn role_name_body(alloc: Global) -> Result<Values, NoMemory>
     ensures { IfOk result (λ values. all_data values ≡ text_data (codes "desktop frame") ∷ []) }
 {
-    one(alloc, Value::Text(frame_text(alloc)?))
+    one(alloc, Value::Text(word(alloc, "desktop frame")?))
 }

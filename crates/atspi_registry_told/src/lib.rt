@@ -3,7 +3,6 @@
 
 mod answers;
 mod listeners;
-mod literal;
 mod properties;
 mod replies;
 mod roots;

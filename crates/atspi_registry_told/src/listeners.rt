@@ -1,8 +1,9 @@
 //! News of listeners.
 
-ghost use Rattle.std.specs.Prelude.{◌≡◌, [], ◌∷◌, codes, IfOk};
+ghost use Rattle.std.specs.Prelude.{◌≡◌, [], ◌∷◌, true, IfOk};
 ghost use Rattle.atspi_types.specs.Data.{text_data};
 ghost use Rattle.atspi_types.specs.DataView.{data_of, all_data};
+ghost use Rattle.atspi_valid_names.specs.Names.{is_member};
 ghost use Rattle.atspi_message.specs.Envelope.{envelope_of};
 ghost use Rattle.atspi_protocol.specs.ends.Messages as messages;
 ghost use Rattle.atspi_protocol.specs.ends.Places.{registry, registry_path};
@@ -11,9 +12,9 @@ ghost use Rattle.atspi_protocol.specs.registering.Told as told;
 use crate::values::name_value;
 use atspi_base::{NoMemory, Text};
 use atspi_message::Message;
-use atspi_protocol::ends::{interface, member, path, signal_of};
+use atspi_telling::signal;
 use atspi_types::{Value, Values};
-use atspi_valid_names::{BusName, Member};
+use atspi_valid_names::BusName;
 use std::alloc::Global;
 
 /// The pair as the body of a message.
@@ -28,15 +29,17 @@ pub(crate) fn pair_body(alloc: Global, name: &BusName, pattern: &Text) -> Result
 
 /// A signal of the registry's object.
 #[tactic(auto, unfolding(atspi_valid_names::specs::Names::is_path, atspi_valid_names::specs::Names::is_interface, atspi_valid_names::specs::Elements::are_two_or_more, atspi_valid_names::specs::Elements::are_elements, atspi_valid_names::specs::Elements::parts_of))]
-fn signal(alloc: Global, member: Member, body: Values) -> Result<Message, NoMemory>
-    ensures { IfOk result (λ message. envelope_of message ≡ messages.signal_of registry_path registry member (all_data body)) }
+fn news(alloc: Global, name: &str, body: Values) -> Result<Message, NoMemory>
+    requires { is_member name.now ≡ true }
+    ensures { IfOk result (λ message. envelope_of message ≡ messages.signal_of registry_path registry name.now (all_data body)) }
 {
-    Ok(signal_of(
-        path(alloc, "/org/a11y/atspi/registry")?,
-        interface(alloc, "org.a11y.atspi.Registry")?,
-        member,
+    signal(
+        alloc,
+        "/org/a11y/atspi/registry",
+        "org.a11y.atspi.Registry",
+        name,
         body,
-    ))
+    )
 }
 
 /// A listener has a pattern more.
@@ -45,7 +48,7 @@ pub fn registered(alloc: Global, name: &BusName, pattern: &Text) -> Result<Messa
     ensures { IfOk result (λ message. envelope_of message ≡ told.registered (name.now, pattern.now)) }
 {
     let body = pair_body(alloc, name, pattern)?;
-    signal(alloc, member(alloc, "EventListenerRegistered")?, body)
+    news(alloc, "EventListenerRegistered", body)
 }
 
 /// A listener has a pattern less.
@@ -54,5 +57,5 @@ pub fn deregistered(alloc: Global, name: &BusName, pattern: &Text) -> Result<Mes
     ensures { IfOk result (λ message. envelope_of message ≡ told.deregistered (name.now, pattern.now)) }
 {
     let body = pair_body(alloc, name, pattern)?;
-    signal(alloc, member(alloc, "EventListenerDeregistered")?, body)
+    news(alloc, "EventListenerDeregistered", body)
 }

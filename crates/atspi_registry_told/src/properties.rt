@@ -7,9 +7,9 @@ ghost use Rattle.atspi_types.specs.DataView.{data_of, all_data, all_pairs};
 ghost use Rattle.atspi_protocol.specs.registering.Told.{count};
 
 use crate::answers::one;
-use crate::literal::{child_count_text, main_text, name_text};
 use crate::values::count_value;
 use atspi_base::NoMemory;
+use atspi_telling::word;
 use atspi_types::{Pairs, Ty, Value, Values};
 use std::alloc::Global;
 
@@ -17,7 +17,8 @@ use std::alloc::Global;
 fn name_value(alloc: Global) -> Result<Value, NoMemory>
     ensures { IfOk result (λ value. data_of value ≡ variant_data text (text_data (codes "main"))) }
 {
-    let value = Box::new(alloc, Value::Text(main_text(alloc)?))?;
+    let text = word(alloc, "main")?;
+    let value = Box::new(alloc, Value::Text(text))?;
     Ok(Value::Variant(Ty::Text, value))
 }
 
@@ -49,11 +50,12 @@ fn all_entries(alloc: Global, n: usize) -> Result<Pairs, NoMemory>
         ≡ (text_data (codes "Name"), variant_data text (text_data (codes "main"))) ∷ (text_data (codes "ChildCount"), variant_data (number signed) (count n)) ∷ []) }
 {
     let mut pairs = Pairs::new(alloc);
-    pairs.push(Value::Text(name_text(alloc)?), name_value(alloc)?)?;
-    pairs.push(
-        Value::Text(child_count_text(alloc)?),
-        count_variant(alloc, n)?,
-    )?;
+    let name = word(alloc, "Name")?;
+    let value = name_value(alloc)?;
+    pairs.push(Value::Text(name), value)?;
+    let name = word(alloc, "ChildCount")?;
+    let value = count_variant(alloc, n)?;
+    pairs.push(Value::Text(name), value)?;
     Ok(pairs)
 }
 

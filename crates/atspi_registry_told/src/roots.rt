@@ -1,6 +1,6 @@
 //! News of children, and the call that gives them their numbers.
 
-ghost use Rattle.std.specs.Prelude.{◌≡◌, [], ◌∷◌, codes, IfOk};
+ghost use Rattle.std.specs.Prelude.{◌≡◌, ◌<◌, ◌^◌, [], ◌∷◌, true, length, codes, IfOk};
 ghost use Rattle.atspi_types.specs.Kinds.{i32 as signed, number, text, variant};
 ghost use Rattle.atspi_types.specs.Data.{text_data, variant_data, dictionary_data, no_entries};
 ghost use Rattle.atspi_types.specs.DataView.{data_of, all_data};
@@ -9,13 +9,14 @@ ghost use Rattle.atspi_protocol.specs.ends.Messages as messages;
 ghost use Rattle.atspi_protocol.specs.ends.Places.{reference, reference_kind, root_path};
 ghost use Rattle.atspi_protocol.specs.registering.Told as told;
 ghost use Rattle.atspi_protocol.specs.registering.Told.{count};
+ghost use Rattle.atspi_telling.specs.Plain.{are_plain};
 
-use crate::literal::{add_text, application_text, id_text, remove_text};
 use crate::properties::count_variant;
-use crate::values::{count_value, reference_type, reference_value};
-use atspi_base::{NoMemory, Text};
+use crate::values::{count_value, reference_value};
+use atspi_base::NoMemory;
 use atspi_message::Message;
-use atspi_protocol::ends::{call_to, interface, member, path, signal_of};
+use atspi_protocol::ends::{call_to, interface, member};
+use atspi_telling::{reference_type, signal, word};
 use atspi_types::{Pairs, Ty, Value, Values};
 use atspi_valid_names::{BusName, Path};
 use std::alloc::Global;
@@ -24,22 +25,26 @@ use std::alloc::Global;
 fn reference_variant(alloc: Global, name: &BusName, place: &Path) -> Result<Value, NoMemory>
     ensures { IfOk result (λ value. data_of value ≡ variant_data reference_kind (reference name.now place.now)) }
 {
+    let value = reference_value(alloc, name, place)?;
+    let value = Box::new(alloc, value)?;
     let ty = reference_type(alloc)?;
-    let value = Box::new(alloc, reference_value(alloc, name, place)?)?;
     Ok(Value::Variant(ty, value))
 }
 
 /// The body of news of a child.
 fn news_body(
     alloc: Global,
-    minor: Text,
+    minor: &str,
     index: usize,
     name: &BusName,
     place: &Path,
 ) -> Result<Values, NoMemory>
+    requires plain { are_plain minor.now ≡ true }
+    requires short { length minor.now < 2 ^ 32 }
     ensures { IfOk result (λ body. all_data body
-        ≡ text_data minor ∷ count index ∷ count 0 ∷ variant_data reference_kind (reference name.now place.now) ∷ dictionary_data text variant no_entries ∷ []) }
+        ≡ text_data minor.now ∷ count index ∷ count 0 ∷ variant_data reference_kind (reference name.now place.now) ∷ dictionary_data text variant no_entries ∷ []) }
 {
+    let minor = word(alloc, minor)?;
     let mut body = Values::new(alloc);
     body.push(Value::Text(minor))?;
     body.push(count_value(index))?;
@@ -54,12 +59,13 @@ fn news_body(
 fn news(alloc: Global, body: Values) -> Result<Message, NoMemory>
     ensures { IfOk result (λ message. envelope_of message ≡ messages.signal_of root_path (codes "org.a11y.atspi.Event.Object") (codes "ChildrenChanged") (all_data body)) }
 {
-    Ok(signal_of(
-        path(alloc, "/org/a11y/atspi/accessible/root")?,
-        interface(alloc, "org.a11y.atspi.Event.Object")?,
-        member(alloc, "ChildrenChanged")?,
+    signal(
+        alloc,
+        "/org/a11y/atspi/accessible/root",
+        "org.a11y.atspi.Event.Object",
+        "ChildrenChanged",
         body,
-    ))
+    )
 }
 
 /// A child came to an index.
@@ -71,7 +77,7 @@ pub fn child_added(
 ) -> Result<Message, NoMemory>
     ensures { IfOk result (λ message. envelope_of message ≡ told.children_changed (codes "add") index (name.now, place.now)) }
 {
-    let body = news_body(alloc, add_text(alloc)?, index, name, place)?;
+    let body = news_body(alloc, "add", index, name, place)?;
     news(alloc, body)
 }
 
@@ -84,7 +90,7 @@ pub fn child_removed(
 ) -> Result<Message, NoMemory>
     ensures { IfOk result (λ message. envelope_of message ≡ told.children_changed (codes "remove") index (name.now, place.now)) }
 {
-    let body = news_body(alloc, remove_text(alloc)?, index, name, place)?;
+    let body = news_body(alloc, "remove", index, name, place)?;
     news(alloc, body)
 }
 
@@ -93,8 +99,8 @@ fn id_body(alloc: Global, n: usize) -> Result<Values, NoMemory>
     ensures { IfOk result (λ body. all_data body ≡ text_data (codes "org.a11y.atspi.Application") ∷ text_data (codes "Id") ∷ variant_data (number signed) (count n) ∷ []) }
 {
     let mut body = Values::new(alloc);
-    body.push(Value::Text(application_text(alloc)?))?;
-    body.push(Value::Text(id_text(alloc)?))?;
+    body.push(Value::Text(word(alloc, "org.a11y.atspi.Application")?))?;
+    body.push(Value::Text(word(alloc, "Id")?))?;
     body.push(count_variant(alloc, n)?)?;
     Ok(body)
 }

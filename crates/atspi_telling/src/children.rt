@@ -1,22 +1,42 @@
 //! Events of nodes that come and go.
 
-ghost use Rattle.std.specs.Prelude.{◌≡◌, ◌≤◌, IfOk, codes};
+ghost use Rattle.std.specs.Prelude.{◌≡◌, ◌≤◌, ◌<◌, ◌^◌, true, length, IfOk, codes};
 ghost use Rattle.atspi_message.specs.Envelope.{envelope_of};
 ghost use Rattle.atspi_forest.specs.Path.{path_of};
 ghost use Rattle.atspi_protocol.specs.ends.Places as places;
 ghost use Rattle.atspi_protocol.specs.announcing.Signals as signals;
+ghost use Rattle.atspi_telling.specs.Plain.{are_plain};
 
-use crate::bodies::{at_node, details, event, valued};
+use crate::bodies::{details, event, put_node};
+use crate::named::cache_signal;
 use crate::paths::node_path;
-use crate::values::{reference, reference_type, signed, word};
+use crate::values::{reference, signed};
 use atspi_base::{NoMemory, Text};
 use atspi_message::Message;
-use atspi_protocol::ends::{interface, member, path, signal_of};
 use atspi_types::Values;
 use std::alloc::Global;
 
-/// A parent has another child at this index.
+/// A parent has another child at this index, or no longer has it.
 #[tactic(auto, unfolding(atspi_valid_names::specs::Names::is_member))]
+fn child_changed(
+    alloc: Global,
+    bus: &Text,
+    parent: u32,
+    minor: &str,
+    index: u32,
+    child: u32,
+) -> Result<Message, NoMemory>
+    requires plain { are_plain minor.now ≡ true }
+    requires short { length minor.now < 2 ^ 32 }
+    requires index { index ≤ 8192 }
+    ensures { IfOk result (λ message. envelope_of message ≡ (signals.child_changed bus.now parent minor.now index child).message) }
+{
+    let mut body = details(alloc, minor, signed(index), 0)?;
+    put_node(alloc, &mut body, bus, child)?;
+    event(alloc, parent, "ChildrenChanged", body)
+}
+
+/// A parent has another child at this index.
 pub fn child_added(
     alloc: Global,
     bus: &Text,
@@ -27,16 +47,10 @@ pub fn child_added(
     requires index { index ≤ 8192 }
     ensures { IfOk result (λ message. envelope_of message ≡ (signals.child_changed bus.now parent (codes "add") index child).message) }
 {
-    let place = at_node(alloc, parent, "ChildrenChanged")?;
-    let front = details(alloc, word(alloc, "add")?, signed(index), 0)?;
-    let ty = reference_type(alloc)?;
-    let child = node_path(alloc, child)?;
-    let body = valued(alloc, front, ty, reference(alloc, bus, child)?)?;
-    Ok(event(place, body))
+    child_changed(alloc, bus, parent, "add", index, child)
 }
 
 /// A parent has lost the child that stood at this index.
-#[tactic(auto, unfolding(atspi_valid_names::specs::Names::is_member))]
 pub fn child_removed(
     alloc: Global,
     bus: &Text,
@@ -47,12 +61,7 @@ pub fn child_removed(
     requires index { index ≤ 8192 }
     ensures { IfOk result (λ message. envelope_of message ≡ (signals.child_changed bus.now parent (codes "remove") index child).message) }
 {
-    let place = at_node(alloc, parent, "ChildrenChanged")?;
-    let front = details(alloc, word(alloc, "remove")?, signed(index), 0)?;
-    let ty = reference_type(alloc)?;
-    let child = node_path(alloc, child)?;
-    let body = valued(alloc, front, ty, reference(alloc, bus, child)?)?;
-    Ok(event(place, body))
+    child_changed(alloc, bus, parent, "remove", index, child)
 }
 
 /// A node has another parent.
@@ -65,24 +74,19 @@ pub fn parent_changed(
 ) -> Result<Message, NoMemory>
     ensures { IfOk result (λ message. envelope_of message ≡ (signals.property_changed node (codes "accessible-parent") (places.reference bus.now (path_of parent))).message) }
 {
-    let place = at_node(alloc, node, "PropertyChange")?;
-    let front = details(alloc, word(alloc, "accessible-parent")?, 0, 0)?;
-    let ty = reference_type(alloc)?;
-    let parent = node_path(alloc, parent)?;
-    let body = valued(alloc, front, ty, reference(alloc, bus, parent)?)?;
-    Ok(event(place, body))
+    let mut body = details(alloc, "accessible-parent", 0, 0)?;
+    put_node(alloc, &mut body, bus, parent)?;
+    event(alloc, node, "PropertyChange", body)
 }
 
 /// A node is gone, as the object for the whole tree tells it.
-#[tactic(auto, unfolding(atspi_valid_names::specs::Names::is_member, atspi_valid_names::specs::Names::is_path, atspi_valid_names::specs::Names::is_interface, atspi_valid_names::specs::Elements::are_two_or_more, atspi_valid_names::specs::Elements::are_elements, atspi_valid_names::specs::Elements::parts_of))]
+#[tactic(auto, unfolding(atspi_valid_names::specs::Names::is_member))]
 pub fn node_removed(alloc: Global, bus: &Text, node: u32) -> Result<Message, NoMemory>
     ensures { IfOk result (λ message. envelope_of message ≡ (signals.removed bus.now node).message) }
 {
-    let from = path(alloc, "/org/a11y/atspi/cache")?;
-    let cache = interface(alloc, "org.a11y.atspi.Cache")?;
-    let name = member(alloc, "RemoveAccessible")?;
     let gone = node_path(alloc, node)?;
+    let gone = reference(alloc, bus, gone)?;
     let mut body = Values::new(alloc);
-    body.push(reference(alloc, bus, gone)?)?;
-    Ok(signal_of(from, cache, name, body))
+    body.push(gone)?;
+    cache_signal(alloc, "RemoveAccessible", body)
 }

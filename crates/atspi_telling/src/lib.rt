@@ -1,9 +1,11 @@
-//! The signals of an application as messages that it owns: paths of nodes, values, and the events at a node.
+//! Messages that ends own: calls and signals by names that stand in the program, and the signals of an application, with paths of nodes, values, and the
+//! events at a node.
 #![tactic(auto)]
 
 mod bodies;
 mod changes;
 mod children;
+mod named;
 mod paths;
 mod values;
 
@@ -12,5 +14,6 @@ pub use changes::{
     text_inserted,
 };
 pub use children::{child_added, child_removed, node_removed, parent_changed};
+pub use named::{bus_call, cache_signal, call, signal};
 pub use paths::node_path;
-pub use values::{reference, reference_type};
+pub use values::{reference, reference_type, word};

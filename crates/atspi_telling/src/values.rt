@@ -17,7 +17,7 @@ use atspi_valid_names::Path;
 use std::alloc::Global;
 
 /// A text that stands in the program.
-pub(crate) fn word(alloc: Global, text: &str) -> Result<Text, NoMemory>
+pub fn word(alloc: Global, text: &str) -> Result<Text, NoMemory>
     requires plain { are_plain text.now ≡ true }
     requires short { length text.now < 2 ^ 32 }
     ensures { IfOk result (λ word. word ≡ text.now) }

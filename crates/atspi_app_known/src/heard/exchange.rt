@@ -95,6 +95,27 @@ fn others<'a>(
     Ok(some)
 }
 
+/// What is left of some pairs where those of a set come in their place, what falls away, and what comes that was not before.
+fn parts_of<'a>(
+    alloc: Global,
+    pairs: &[PairRef<'a>],
+    now: &PairSet<'a>,
+    before: &PairSet<'_>,
+) -> Result<Parts<'a>, NoMemory>
+    ensures kept { IfOk result (λ x. lent_pairs x.kept.items ≡ filter (is_heard now.now) (lent_pairs pairs.now)) }
+    ensures fallen { IfOk result (λ x. lent_pairs x.fallen.items ≡ filter (λ p. not (is_heard now.now p)) (lent_pairs pairs.now)) }
+    ensures added { IfOk result (λ x. lent_pairs x.added.items ≡ filter (λ p. not (is_heard before.now p)) now.now) }
+{
+    let kept = those(alloc, pairs, now)?;
+    let fallen = others(alloc, pairs, now)?;
+    let added = others(alloc, now.as_slice(), before)?;
+    Ok(Parts {
+        kept,
+        fallen,
+        added,
+    })
+}
+
 /// What an exchange of some pairs for others leaves, takes and brings. Each pair is looked up once, so long lists cost no square.
 fn divided<'a>(
     alloc: Global,
@@ -107,14 +128,7 @@ fn divided<'a>(
 {
     let now = set_of(alloc, listed)?;
     let before = set_of(alloc, pairs)?;
-    let kept = those(alloc, pairs, &now)?;
-    let fallen = others(alloc, pairs, &now)?;
-    let added = others(alloc, now.as_slice(), &before)?;
-    Ok(Parts {
-        kept,
-        fallen,
-        added,
-    })
+    parts_of(alloc, pairs, &now, &before)
 }
 
 /// More pairs behind others, owned.

@@ -1,7 +1,7 @@
-use Rattle.std.proofs.Common.{◌≡◌, List, [], ◌∷◌, ◌++◌, map, sym, ap, ◌∙◌, subst}
+use Rattle.std.proofs.Common.{◌≡◌, List, [], ◌∷◌, ◌++◌, map, refl, sym, ap, ◌∙◌, subst}
 use Rattle.std.specs.Prelude.{IfSome, Option}
 use Rattle.atspi_types.specs.Data.{Data}
-use Rattle.atspi_types.specs.DataView.{all_data}
+use Rattle.atspi_types.specs.DataView.{data_of, all_data}
 use Rattle.atspi_forest.specs.Row.{ShapeRow}
 use Rattle.atspi_forest.specs.Tree.{is_shape}
 use Rattle.atspi_forest.proofs.Found.{count-has, find-has}
@@ -32,11 +32,11 @@ loop-seat-preserved c =
     let steps = c.in-Some.ensures.steps in
     let there : Each (IsPlace t) (seat ∷ rest) = subst (Each (IsPlace t)) steps c.loop-seat.invariant.there in
     let o = find-has (is_shape seat.node) t.rows (count-has (is_shape seat.node) t.rows there.0.there) in
-    let item = c.in_ok-item.item in
-    let is : item ≡ seat_item b t seat o.0 = subst (λ (r : Option ShapeRow). IfSome r (λ row. item ≡ seat_item b t seat row)) o.1 c.in_ok-item.ensures in
+    let value = c.in_ok-value.value in
+    let is : data_of value ≡ item_data (seat_item b t seat o.0) = subst (λ (r : Option ShapeRow). IfSome r (λ row. data_of value ≡ item_data (seat_item b t seat row))) o.1 c.in_ok-value.ensures in
     let old = all_data c.loop-seat.all in
     record {
-      told = ap (λ (ds : List Data). ds ++ map item_data (seats_items b t rest)) (c.in_ok-push.ensures.ok ∙ ap (λ (d : Data). old ++ d ∷ []) c.in_ok-item_value.ensures)
-          ∙ told_more b t old (map item_data (seats_items b t (seats_in t))) seat rest o.0 item o.1 is (ap (λ (w : List Seat). old ++ map item_data (seats_items b t w)) (sym steps) ∙ c.loop-seat.invariant.told);
+      told = ap (λ (ds : List Data). ds ++ map item_data (seats_items b t rest)) (c.in_ok-push.ensures.ok ∙ ap (λ (d : Data). old ++ d ∷ []) is)
+          ∙ told_more b t old (map item_data (seats_items b t (seats_in t))) seat rest o.0 (seat_item b t seat o.0) o.1 refl (ap (λ (w : List Seat). old ++ map item_data (seats_items b t w)) (sym steps) ∙ c.loop-seat.invariant.told);
       there = there.1;
     }

@@ -1,14 +1,11 @@
 use Rattle.std.proofs.Common.{sym, ap, subst, ◌∙◌, chars}
+use Rattle.std.proofs.lemmas.Result.{IfOk-weaker}
 use Rattle.atspi_base.specs.Text.{HasNoZero}
-use Rattle.atspi_types.specs.Data.{text_data}
-use Rattle.atspi_types.proofs.DataLemmas.{data_of-Text}
 use Rattle.atspi_registry_told.proofs.NameTexts.{name-no_zero, name-chars}
-use Rattle.atspi_registry_told.proofs.values.name_value.Goals as goal
+use Rattle.atspi_registry_told.proofs.values.name_text.Goals as goal
 
 pub of-requires-clause-no_zero : goal.of-requires-clause-no_zero
 of-requires-clause-no_zero c = subst HasNoZero (sym c.as_str.ensures.bytes) (name-no_zero c.args.name.now c.as_str.ensures.rule)
 
 pub returns : goal.returns
-returns c =
-    data_of-Text c.in_ok-of.field-0
-    ∙ ap text_data (c.in_ok-of.ensures ∙ ap chars c.as_str.ensures.bytes ∙ name-chars c.args.name.now c.as_str.ensures.rule)
+returns c = IfOk-weaker c.of.result _ _ (λ t h. h ∙ ap chars c.as_str.ensures.bytes ∙ name-chars c.args.name.now c.as_str.ensures.rule) c.of.ensures
