@@ -34,6 +34,7 @@ use atspi_reader_known::{App, Apps};
 use atspi_reader_told::{ended_name, new_child, sender_of};
 use std::alloc::Global;
 use std::collections::VecDeque;
+use std::mem;
 
 /// The question for all of an application, if there is one.
 fn items_wish(alloc: Global, app: Option<&App>) -> Result<Option<Question>, NoMemory>
@@ -92,9 +93,22 @@ impl Reader {
     {
         let child = self.child(m)?;
         match self.read_news(m) {
-            Ok(news) => self.hear(m, child, news),
+            Ok(news) => self.take_told(m, child, news),
             Err(fault) => Err(fault.into()),
         }
+    }
+
+    /// News and a new application. Both are lent from here on, so that one small function lets them go.
+    fn take_told(&mut self, m: &MessageRef, child: Option<App>, news: News) -> Result<(), EndFault>
+        requires state { IsReader self.old }
+        requires new { IfSome child (IsNewTo self.old.apps) }
+        requires made { self.old.apps ++ listed child ≡ (known.takes_child (reader_of self.old) (envelope_at m.now)).apps }
+        requires told { list_any (is_named (or_empty (envelope_at m.now).sender)) self.old.apps ≡ true → news ≡ readings.news_of (or_empty (envelope_at m.now).sender) (envelope_at m.now) }
+        ensures { Does result (reader_of self.old) (reader_of self.new) (takes.goes_on (takes.takes_news (known.takes_child (notes (reader_of self.old) (envelope_at m.now)) (envelope_at m.now)) (envelope_at m.now))) }
+    {
+        let mut child = child;
+        let mut news = news;
+        self.hear(m, &mut child, &mut news)
     }
 
     /// The registry's name, once it is known.
@@ -208,15 +222,20 @@ impl Reader {
     }
 
     /// News and a new application are taken, once what they say and make wanted is queued. After a fault all is as before.
-    fn hear(&mut self, m: &MessageRef, child: Option<App>, news: News) -> Result<(), EndFault>
+    fn hear(
+        &mut self,
+        m: &MessageRef,
+        child: &mut Option<App>,
+        news: &mut News,
+    ) -> Result<(), EndFault>
         requires state { IsReader self.old }
-        requires new { IfSome child (IsNewTo self.old.apps) }
-        requires made { self.old.apps ++ listed child ≡ (known.takes_child (reader_of self.old) (envelope_at m.now)).apps }
-        requires told { list_any (is_named (or_empty (envelope_at m.now).sender)) self.old.apps ≡ true → news ≡ readings.news_of (or_empty (envelope_at m.now).sender) (envelope_at m.now) }
+        requires new { IfSome child.old (IsNewTo self.old.apps) }
+        requires made { self.old.apps ++ listed child.old ≡ (known.takes_child (reader_of self.old) (envelope_at m.now)).apps }
+        requires told { list_any (is_named (or_empty (envelope_at m.now).sender)) self.old.apps ≡ true → news.old ≡ readings.news_of (or_empty (envelope_at m.now).sender) (envelope_at m.now) }
         ensures { Does result (reader_of self.old) (reader_of self.new) (takes.goes_on (takes.takes_news (known.takes_child (notes (reader_of self.old) (envelope_at m.now)) (envelope_at m.now)) (envelope_at m.now))) }
     {
         let queued = self.queued();
-        match self.say_and_ask(m, child.as_ref(), &news) {
+        match self.say_and_ask(m, child.as_ref(), news) {
             Ok(next) => self.settle_news(m, child, news, next, queued),
             Err(fault) => Err(fault),
         }
@@ -226,13 +245,13 @@ impl Reader {
     fn settle_news(
         &mut self,
         m: &MessageRef,
-        child: Option<App>,
-        news: News,
+        child: &mut Option<App>,
+        news: &mut News,
         next: Next,
         queued: usize,
     ) -> Result<(), EndFault>
-        requires { IfSome child (IsNewTo self.old.apps) }
-        ensures ok { OnOk result (reader_of self.new ≡ heard (reader_of self.old) (envelope_at m.now) (listed child) news next) }
+        requires { IfSome child.old (IsNewTo self.old.apps) }
+        ensures ok { OnOk result (reader_of self.new ≡ heard (reader_of self.old) (envelope_at m.now) (listed child.old) news.old next) }
         ensures err { OnErr result (reader_of self.new ≡ record (reader_of self.old) { out = take queued (reader_of self.old).out }) }
         ensures memory { IsErrOf result EndFault.Spent → ⊥ }
     {
@@ -252,14 +271,19 @@ impl Reader {
 }
 
 /// A new application becomes known, and news of the one with this name are taken. After want of memory all is as before.
-fn settle(apps: &mut Apps, name: &str, child: Option<App>, news: News) -> Result<(), NoMemory>
-    requires { IfSome child (IsNewTo apps.old) }
-    ensures ok { OnOk result (apps.new ≡ changed (folded news) name.now (apps.old ++ listed child)) }
+fn settle(
+    apps: &mut Apps,
+    name: &str,
+    child: &mut Option<App>,
+    news: &mut News,
+) -> Result<(), NoMemory>
+    requires { IfSome child.old (IsNewTo apps.old) }
+    ensures ok { OnOk result (apps.new ≡ changed (folded news.old) name.now (apps.old ++ listed child.old)) }
     ensures err { OnErr result (apps.new ≡ apps.old) }
 {
     let known = apps.as_slice().len();
-    adopt(apps, child)?;
-    let folded = apps.fold(name, news);
+    adopt(apps, child.take())?;
+    let folded = apps.fold(name, mem::replace(news, News::Nothing));
     if folded.is_err() {
         apps.truncate(known);
     }
