@@ -4,14 +4,13 @@ ghost use Rattle.std.specs.Prelude.{◌≡◌, ◌++◌, ◌-◌, ◌%◌, ◌<�
 ghost use Rattle.std.specs.Fmt.{decimal};
 ghost use Rattle.std.specs.Io.KnownBytes.{Appends};
 ghost use Rattle.atspi_base.specs.Outside.{AppendsPart};
-ghost use Rattle.atspi_bus_steps.specs.Inner.{inner_of, state_of};
 ghost use Rattle.atspi_forest.specs.Edits.{IsEdit};
 ghost use Rattle.atspi_lines.specs.declared.limits.TheConstants.{APP_COUNT};
 ghost use Rattle.atspi_lines.specs.declared.line.Line.{Line};
 ghost use Rattle.atspi_make.specs.Drawing.{drawn_edit};
 ghost use Rattle.atspi_stage.specs.Lines.{LineDone};
 ghost use Rattle.atspi_stage.specs.MayAct.{MayAct};
-ghost use Rattle.atspi_stage.specs.Stage.{IsStage};
+ghost use Rattle.atspi_stage.specs.Stage.{IsStage, trace_of};
 ghost use Rattle.atspi_stage.specs.Worlds.{staged};
 ghost use Rattle.atspi_trace.specs.Entry.{entries_of, entry_of};
 ghost use Rattle.atspi_trace.specs.Work.{spare_count};
@@ -46,10 +45,10 @@ const TURNS: u32 = 64;
 /// A line is done, or stops the script.
 fn act<A: Application, R: Follower>(world: &mut Stage<A, R>, line: &Line) -> Result<(), Stop>
     requires may { MayAct line.now }
-    requires stage { IsStage A.is_app R.is_follower A.is_kit A.is_spare world.old.cast.apps.items world.old.cast.readers.items world.old.kits.items world.old.spares.items (state_of world.old.carrier.bus) }
-    ensures stage { OnOk result (IsStage A.is_app R.is_follower A.is_kit A.is_spare world.new.cast.apps.items world.new.cast.readers.items world.new.kits.items world.new.spares.items (state_of world.new.carrier.bus)) }
-    ensures done { OnOk result (LineDone line.now (staged A.exporter R.follower (inner_of world.old.carrier.bus) world.old.carrier.posts.items world.old.carrier.at_end.items world.old.cast.registry world.old.cast.apps.items world.old.cast.readers.items (length world.old.kits.items) (length world.old.spares.items) world.old.carrier.trace.items) (staged A.exporter R.follower (inner_of world.new.carrier.bus) world.new.carrier.posts.items world.new.carrier.at_end.items world.new.cast.registry world.new.cast.apps.items world.new.cast.readers.items (length world.new.kits.items) (length world.new.spares.items) world.new.carrier.trace.items)) }
-    ensures stops { IfErr result (StopsAt line.now (staged A.exporter R.follower (inner_of world.old.carrier.bus) world.old.carrier.posts.items world.old.carrier.at_end.items world.old.cast.registry world.old.cast.apps.items world.old.cast.readers.items (length world.old.kits.items) (length world.old.spares.items) world.old.carrier.trace.items)) }
+    requires stage { IsStage A.is_app R.is_follower A.is_kit A.is_spare world.old }
+    ensures stage { OnOk result (IsStage A.is_app R.is_follower A.is_kit A.is_spare world.new) }
+    ensures done { OnOk result (LineDone line.now (staged A.exporter R.follower world.old) (staged A.exporter R.follower world.new)) }
+    ensures stops { IfErr result (StopsAt line.now (staged A.exporter R.follower world.old)) }
 {
     match world.act(line) {
         Ok(()) => Ok(()),
@@ -62,10 +61,10 @@ fn act<A: Application, R: Follower>(world: &mut Stage<A, R>, line: &Line) -> Res
 
 /// The application and the reader start, and know of one another.
 fn begin<A: Application, R: Follower>(alloc: Global, world: &mut Stage<A, R>) -> Result<(), Stop>
-    requires stage { IsStage A.is_app R.is_follower A.is_kit A.is_spare world.old.cast.apps.items world.old.cast.readers.items world.old.kits.items world.old.spares.items (state_of world.old.carrier.bus) }
-    requires played { HasPlayed [] (staged A.exporter R.follower (inner_of world.old.carrier.bus) world.old.carrier.posts.items world.old.carrier.at_end.items world.old.cast.registry world.old.cast.apps.items world.old.cast.readers.items (length world.old.kits.items) (length world.old.spares.items) world.old.carrier.trace.items) }
-    ensures stage { OnOk result (IsStage A.is_app R.is_follower A.is_kit A.is_spare world.new.cast.apps.items world.new.cast.readers.items world.new.kits.items world.new.spares.items (state_of world.new.carrier.bus)) }
-    ensures done { OnOk result (LinesDone opening (staged A.exporter R.follower (inner_of world.old.carrier.bus) world.old.carrier.posts.items world.old.carrier.at_end.items world.old.cast.registry world.old.cast.apps.items world.old.cast.readers.items (length world.old.kits.items) (length world.old.spares.items) world.old.carrier.trace.items) (staged A.exporter R.follower (inner_of world.new.carrier.bus) world.new.carrier.posts.items world.new.carrier.at_end.items world.new.cast.registry world.new.cast.apps.items world.new.cast.readers.items (length world.new.kits.items) (length world.new.spares.items) world.new.carrier.trace.items)) }
+    requires stage { IsStage A.is_app R.is_follower A.is_kit A.is_spare world.old }
+    requires played { HasPlayed [] (staged A.exporter R.follower world.old) }
+    ensures stage { OnOk result (IsStage A.is_app R.is_follower A.is_kit A.is_spare world.new) }
+    ensures done { OnOk result (LinesDone opening (staged A.exporter R.follower world.old) (staged A.exporter R.follower world.new)) }
     ensures stops { IfErr result (λ stop. (count seed : ℕ) → ScriptStops count seed stop) }
 {
     let Ok(name) = Text::of(alloc, "Made") else {
@@ -84,13 +83,13 @@ fn draw<A: HasTree, R: Follower>(
     nodes: &mut LiveNodes,
     draws: &mut Draws,
 ) -> Result<Edit, Stop>
-    requires played { (lines : List Line) × HasPlayed lines (staged A.exporter R.follower (inner_of world.now.carrier.bus) world.now.carrier.posts.items world.now.carrier.at_end.items world.now.cast.registry world.now.cast.apps.items world.now.cast.readers.items (length world.now.kits.items) (length world.now.spares.items) world.now.carrier.trace.items) }
-    requires seen { AreSeen nodes.old.nodes.items nodes.old.next (entries_of world.now.carrier.trace.items) }
-    ensures edit { IfOk result (λ edit. edit ≡ (drawn_edit (tree_told (entries_of world.now.carrier.trace.items)) number draws.old.state).edit) }
-    ensures state { OnOk result (draws.new.state ≡ (drawn_edit (tree_told (entries_of world.now.carrier.trace.items)) number draws.old.state).state) }
+    requires played { (lines : List Line) × HasPlayed lines (staged A.exporter R.follower world.now) }
+    requires seen { AreSeen nodes.old.nodes.items nodes.old.next (entries_of (trace_of world.now)) }
+    ensures edit { IfOk result (λ edit. edit ≡ (drawn_edit (tree_told (entries_of (trace_of world.now))) number draws.old.state).edit) }
+    ensures state { OnOk result (draws.new.state ≡ (drawn_edit (tree_told (entries_of (trace_of world.now))) number draws.old.state).state) }
     ensures lawful { IfOk result (λ edit. IsEdit edit) }
-    ensures seen { OnOk result (AreSeen nodes.new.nodes.items nodes.new.next (entries_of world.now.carrier.trace.items)) }
-    ensures stops { IfErr result (StopsAt (Line.Edit 0 (drawn_edit (tree_told (entries_of world.now.carrier.trace.items)) number draws.old.state).edit) (staged A.exporter R.follower (inner_of world.now.carrier.bus) world.now.carrier.posts.items world.now.carrier.at_end.items world.now.cast.registry world.now.cast.apps.items world.now.cast.readers.items (length world.now.kits.items) (length world.now.spares.items) world.now.carrier.trace.items)) }
+    ensures seen { OnOk result (AreSeen nodes.new.nodes.items nodes.new.next (entries_of (trace_of world.now))) }
+    ensures stops { IfErr result (StopsAt (Line.Edit 0 (drawn_edit (tree_told (entries_of (trace_of world.now))) number draws.old.state).edit) (staged A.exporter R.follower world.now)) }
 {
     let Some(app) = world.app(0) else {
         return Err(Stop::Refused(Refused::World(Refusal::NoParty)));
@@ -108,10 +107,10 @@ fn draw<A: HasTree, R: Follower>(
 
 /// Behind each sixteenth edit come turns.
 fn make_turns<A: Application, R: Follower>(world: &mut Stage<A, R>, number: u32) -> Result<(), Stop>
-    requires stage { IsStage A.is_app R.is_follower A.is_kit A.is_spare world.old.cast.apps.items world.old.cast.readers.items world.old.kits.items world.old.spares.items (state_of world.old.carrier.bus) }
-    ensures stage { OnOk result (IsStage A.is_app R.is_follower A.is_kit A.is_spare world.new.cast.apps.items world.new.cast.readers.items world.new.kits.items world.new.spares.items (state_of world.new.carrier.bus)) }
-    ensures done { OnOk result (LinesDone (turns_behind number) (staged A.exporter R.follower (inner_of world.old.carrier.bus) world.old.carrier.posts.items world.old.carrier.at_end.items world.old.cast.registry world.old.cast.apps.items world.old.cast.readers.items (length world.old.kits.items) (length world.old.spares.items) world.old.carrier.trace.items) (staged A.exporter R.follower (inner_of world.new.carrier.bus) world.new.carrier.posts.items world.new.carrier.at_end.items world.new.cast.registry world.new.cast.apps.items world.new.cast.readers.items (length world.new.kits.items) (length world.new.spares.items) world.new.carrier.trace.items)) }
-    ensures stops { IfErr result (λ stop. (number % 16 ≡ 0) × StopsAt (Line.Turns 64) (staged A.exporter R.follower (inner_of world.old.carrier.bus) world.old.carrier.posts.items world.old.carrier.at_end.items world.old.cast.registry world.old.cast.apps.items world.old.cast.readers.items (length world.old.kits.items) (length world.old.spares.items) world.old.carrier.trace.items) stop) }
+    requires stage { IsStage A.is_app R.is_follower A.is_kit A.is_spare world.old }
+    ensures stage { OnOk result (IsStage A.is_app R.is_follower A.is_kit A.is_spare world.new) }
+    ensures done { OnOk result (LinesDone (turns_behind number) (staged A.exporter R.follower world.old) (staged A.exporter R.follower world.new)) }
+    ensures stops { IfErr result (λ stop. (number % 16 ≡ 0) × StopsAt (Line.Turns 64) (staged A.exporter R.follower world.old) stop) }
 {
     if number % ROUND == 0 {
         return act(world, &Line::Turns(TURNS));
@@ -128,13 +127,13 @@ fn make_edit<A: HasTree, R: Follower>(
     draws: &mut Draws,
 ) -> Result<(), Stop>
     requires counted { 0 < number }
-    requires stage { IsStage A.is_app R.is_follower A.is_kit A.is_spare world.old.cast.apps.items world.old.cast.readers.items world.old.kits.items world.old.spares.items (state_of world.old.carrier.bus) }
-    requires drawn { (seed : ℕ) × HasDrawn seed (number - 1) draws.old.state (staged A.exporter R.follower (inner_of world.old.carrier.bus) world.old.carrier.posts.items world.old.carrier.at_end.items world.old.cast.registry world.old.cast.apps.items world.old.cast.readers.items (length world.old.kits.items) (length world.old.spares.items) world.old.carrier.trace.items) }
-    requires seen { AreSeen nodes.old.nodes.items nodes.old.next (entries_of world.old.carrier.trace.items) }
-    ensures stage { OnOk result (IsStage A.is_app R.is_follower A.is_kit A.is_spare world.new.cast.apps.items world.new.cast.readers.items world.new.kits.items world.new.spares.items (state_of world.new.carrier.bus)) }
-    ensures drawn { OnOk result ((seed : ℕ) → HasDrawn seed (number - 1) draws.old.state (staged A.exporter R.follower (inner_of world.old.carrier.bus) world.old.carrier.posts.items world.old.carrier.at_end.items world.old.cast.registry world.old.cast.apps.items world.old.cast.readers.items (length world.old.kits.items) (length world.old.spares.items) world.old.carrier.trace.items) → HasDrawn seed number draws.new.state (staged A.exporter R.follower (inner_of world.new.carrier.bus) world.new.carrier.posts.items world.new.carrier.at_end.items world.new.cast.registry world.new.cast.apps.items world.new.cast.readers.items (length world.new.kits.items) (length world.new.spares.items) world.new.carrier.trace.items)) }
-    ensures seen { OnOk result (AreSeen nodes.new.nodes.items nodes.new.next (entries_of world.new.carrier.trace.items)) }
-    ensures stops { IfErr result (λ stop. (count seed : ℕ) → number ≤ count → HasDrawn seed (number - 1) draws.old.state (staged A.exporter R.follower (inner_of world.old.carrier.bus) world.old.carrier.posts.items world.old.carrier.at_end.items world.old.cast.registry world.old.cast.apps.items world.old.cast.readers.items (length world.old.kits.items) (length world.old.spares.items) world.old.carrier.trace.items) → ScriptStops count seed stop) }
+    requires stage { IsStage A.is_app R.is_follower A.is_kit A.is_spare world.old }
+    requires drawn { (seed : ℕ) × HasDrawn seed (number - 1) draws.old.state (staged A.exporter R.follower world.old) }
+    requires seen { AreSeen nodes.old.nodes.items nodes.old.next (entries_of (trace_of world.old)) }
+    ensures stage { OnOk result (IsStage A.is_app R.is_follower A.is_kit A.is_spare world.new) }
+    ensures drawn { OnOk result ((seed : ℕ) → HasDrawn seed (number - 1) draws.old.state (staged A.exporter R.follower world.old) → HasDrawn seed number draws.new.state (staged A.exporter R.follower world.new)) }
+    ensures seen { OnOk result (AreSeen nodes.new.nodes.items nodes.new.next (entries_of (trace_of world.new))) }
+    ensures stops { IfErr result (λ stop. (count seed : ℕ) → number ≤ count → HasDrawn seed (number - 1) draws.old.state (staged A.exporter R.follower world.old) → ScriptStops count seed stop) }
 {
     let edit = draw(alloc, world, number, nodes, draws)?;
     act(world, &Line::Edit { app: 0, edit })?;
@@ -149,10 +148,10 @@ fn make_edits<A: HasTree, R: Follower>(
     draws: &mut Draws,
 ) -> Result<(), Stop>
     requires count { count < 4294967295 }
-    requires stage { IsStage A.is_app R.is_follower A.is_kit A.is_spare world.old.cast.apps.items world.old.cast.readers.items world.old.kits.items world.old.spares.items (state_of world.old.carrier.bus) }
-    requires drawn { HasDrawn draws.old.state 0 draws.old.state (staged A.exporter R.follower (inner_of world.old.carrier.bus) world.old.carrier.posts.items world.old.carrier.at_end.items world.old.cast.registry world.old.cast.apps.items world.old.cast.readers.items (length world.old.kits.items) (length world.old.spares.items) world.old.carrier.trace.items) }
-    ensures stage { OnOk result (IsStage A.is_app R.is_follower A.is_kit A.is_spare world.new.cast.apps.items world.new.cast.readers.items world.new.kits.items world.new.spares.items (state_of world.new.carrier.bus)) }
-    ensures made { OnOk result (HasMade draws.old.state count (staged A.exporter R.follower (inner_of world.new.carrier.bus) world.new.carrier.posts.items world.new.carrier.at_end.items world.new.cast.registry world.new.cast.apps.items world.new.cast.readers.items (length world.new.kits.items) (length world.new.spares.items) world.new.carrier.trace.items)) }
+    requires stage { IsStage A.is_app R.is_follower A.is_kit A.is_spare world.old }
+    requires drawn { HasDrawn draws.old.state 0 draws.old.state (staged A.exporter R.follower world.old) }
+    ensures stage { OnOk result (IsStage A.is_app R.is_follower A.is_kit A.is_spare world.new) }
+    ensures made { OnOk result (HasMade draws.old.state count (staged A.exporter R.follower world.new)) }
     ensures stops { IfErr result (ScriptStops count draws.old.state) }
 {
     let mut nodes = LiveNodes::new(alloc);
@@ -223,8 +222,8 @@ struct Outcome {
 
 /// What came of a script.
 fn what_came<A: Application, R: Follower>(world: &Stage<A, R>) -> Outcome
-    requires stage { IsStage A.is_app R.is_follower A.is_kit A.is_spare world.now.cast.apps.items world.now.cast.readers.items world.now.kits.items world.now.spares.items (state_of world.now.carrier.bus) }
-    ensures { (seed count : ℕ) → HasMade seed count (staged A.exporter R.follower (inner_of world.now.carrier.bus) world.now.carrier.posts.items world.now.carrier.at_end.items world.now.cast.registry world.now.cast.apps.items world.now.cast.readers.items (length world.now.kits.items) (length world.now.spares.items) world.now.carrier.trace.items) → AreOfScript count seed result.steps result.nodes result.says }
+    requires stage { IsStage A.is_app R.is_follower A.is_kit A.is_spare world.now }
+    ensures { (seed count : ℕ) → HasMade seed count (staged A.exporter R.follower world.now) → AreOfScript count seed result.steps result.nodes result.says }
 {
     Outcome {
         steps: count_steps(world.trace()),
@@ -270,8 +269,8 @@ fn make_in<A: HasTree, R: Follower>(
 ) -> Result<Outcome, Stop>
     requires count { count < 4294967295 }
     requires seed { seed < 2147483648 }
-    requires stage { IsStage A.is_app R.is_follower A.is_kit A.is_spare world.old.cast.apps.items world.old.cast.readers.items world.old.kits.items world.old.spares.items (state_of world.old.carrier.bus) }
-    requires played { HasPlayed [] (staged A.exporter R.follower (inner_of world.old.carrier.bus) world.old.carrier.posts.items world.old.carrier.at_end.items world.old.cast.registry world.old.cast.apps.items world.old.cast.readers.items (length world.old.kits.items) (length world.old.spares.items) world.old.carrier.trace.items) }
+    requires stage { IsStage A.is_app R.is_follower A.is_kit A.is_spare world.old }
+    requires played { HasPlayed [] (staged A.exporter R.follower world.old) }
     ensures made { IfOk result (λ of. AreOfScript count seed of.steps of.nodes of.says) }
     ensures stops { IfErr result (ScriptStops count seed) }
 {

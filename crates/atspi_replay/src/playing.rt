@@ -2,10 +2,9 @@
 
 ghost use Rattle.std.specs.Prelude.{◌≡◌, [], All, OnOk, OnErr, length};
 ghost use Rattle.std.specs.Io.KnownBytes.{Appends};
-ghost use Rattle.atspi_bus_steps.specs.Inner.{inner_of, state_of};
 ghost use Rattle.atspi_lines.specs.declared.limits.TheConstants.{APP_COUNT, QUOTA_MOST};
 ghost use Rattle.atspi_play.specs.Playing.{first_playing};
-ghost use Rattle.atspi_stage.specs.Stage.{IsStage};
+ghost use Rattle.atspi_stage.specs.Stage.{IsStage, trace_of};
 ghost use Rattle.atspi_stage.specs.Worlds.{staged, IsPlaying};
 ghost use Rattle.atspi_trace.specs.Work.{spare_count};
 ghost use Rattle.atspi_replay.specs.Lines.{lines_read};
@@ -29,9 +28,9 @@ fn do_line<A: Application, R: Follower>(
     world: &mut Stage<A, R>,
     bytes: &[u8],
 ) -> Result<(), Stop>
-    requires stage { IsStage A.is_app R.is_follower A.is_kit A.is_spare world.old.cast.apps.items world.old.cast.readers.items world.old.kits.items world.old.spares.items (state_of world.old.carrier.bus) }
-    ensures stage { OnOk result (IsStage A.is_app R.is_follower A.is_kit A.is_spare world.new.cast.apps.items world.new.cast.readers.items world.new.kits.items world.new.spares.items (state_of world.new.carrier.bus)) }
-    ensures line { DoesLine result bytes.now (staged A.exporter R.follower (inner_of world.old.carrier.bus) world.old.carrier.posts.items world.old.carrier.at_end.items world.old.cast.registry world.old.cast.apps.items world.old.cast.readers.items (length world.old.kits.items) (length world.old.spares.items) world.old.carrier.trace.items) (staged A.exporter R.follower (inner_of world.new.carrier.bus) world.new.carrier.posts.items world.new.carrier.at_end.items world.new.cast.registry world.new.cast.apps.items world.new.cast.readers.items (length world.new.kits.items) (length world.new.spares.items) world.new.carrier.trace.items) }
+    requires stage { IsStage A.is_app R.is_follower A.is_kit A.is_spare world.old }
+    ensures stage { OnOk result (IsStage A.is_app R.is_follower A.is_kit A.is_spare world.new) }
+    ensures line { DoesLine result bytes.now (staged A.exporter R.follower world.old) (staged A.exporter R.follower world.new) }
 {
     match parse_line(alloc, bytes) {
         Err(fault) => Err(stop_of_line(fault)),
@@ -54,12 +53,12 @@ fn play_line<A: Application, R: Follower, K: Sink>(
     line: &[u8],
     sink: &mut K,
 ) -> Result<(), Stop>
-    requires stage { IsStage A.is_app R.is_follower A.is_kit A.is_spare world.old.cast.apps.items world.old.cast.readers.items world.old.kits.items world.old.spares.items (state_of world.old.carrier.bus) }
-    ensures stage { OnOk result (IsStage A.is_app R.is_follower A.is_kit A.is_spare world.new.cast.apps.items world.new.cast.readers.items world.new.kits.items world.new.spares.items (state_of world.new.carrier.bus)) }
-    ensures ok { OnOk result (Did options line.now (staged A.exporter R.follower (inner_of world.old.carrier.bus) world.old.carrier.posts.items world.old.carrier.at_end.items world.old.cast.registry world.old.cast.apps.items world.old.cast.readers.items (length world.old.kits.items) (length world.old.spares.items) world.old.carrier.trace.items) (staged A.exporter R.follower (inner_of world.new.carrier.bus) world.new.carrier.posts.items world.new.carrier.at_end.items world.new.cast.registry world.new.cast.apps.items world.new.cast.readers.items (length world.new.kits.items) (length world.new.spares.items) world.new.carrier.trace.items) (K.written sink.old) (K.written sink.new)) }
-    ensures halted { IfHalted result (λ why. Ended options line.now why (staged A.exporter R.follower (inner_of world.old.carrier.bus) world.old.carrier.posts.items world.old.carrier.at_end.items world.old.cast.registry world.old.cast.apps.items world.old.cast.readers.items (length world.old.kits.items) (length world.old.spares.items) world.old.carrier.trace.items) (staged A.exporter R.follower (inner_of world.new.carrier.bus) world.new.carrier.posts.items world.new.carrier.at_end.items world.new.cast.registry world.new.cast.apps.items world.new.cast.readers.items (length world.new.kits.items) (length world.new.spares.items) world.new.carrier.trace.items) (K.written sink.old) (K.written sink.new)) }
-    ensures refused { IfRefused result (λ why. RefusedIn (staged A.exporter R.follower (inner_of world.old.carrier.bus) world.old.carrier.posts.items world.old.carrier.at_end.items world.old.cast.registry world.old.cast.apps.items world.old.cast.readers.items (length world.old.kits.items) (length world.old.spares.items) world.old.carrier.trace.items) line.now why × Appends (K.written sink.old) (K.written sink.new) (refused_text number why)) }
-    ensures err { OnErr result (StoppedAt options line.now number (staged A.exporter R.follower (inner_of world.old.carrier.bus) world.old.carrier.posts.items world.old.carrier.at_end.items world.old.cast.registry world.old.cast.apps.items world.old.cast.readers.items (length world.old.kits.items) (length world.old.spares.items) world.old.carrier.trace.items) (staged A.exporter R.follower (inner_of world.new.carrier.bus) world.new.carrier.posts.items world.new.carrier.at_end.items world.new.cast.registry world.new.cast.apps.items world.new.cast.readers.items (length world.new.kits.items) (length world.new.spares.items) world.new.carrier.trace.items) (K.written sink.old) (K.written sink.new)) }
+    requires stage { IsStage A.is_app R.is_follower A.is_kit A.is_spare world.old }
+    ensures stage { OnOk result (IsStage A.is_app R.is_follower A.is_kit A.is_spare world.new) }
+    ensures ok { OnOk result (Did options line.now (staged A.exporter R.follower world.old) (staged A.exporter R.follower world.new) (K.written sink.old) (K.written sink.new)) }
+    ensures halted { IfHalted result (λ why. Ended options line.now why (staged A.exporter R.follower world.old) (staged A.exporter R.follower world.new) (K.written sink.old) (K.written sink.new)) }
+    ensures refused { IfRefused result (λ why. RefusedIn (staged A.exporter R.follower world.old) line.now why × Appends (K.written sink.old) (K.written sink.new) (refused_text number why)) }
+    ensures err { OnErr result (StoppedAt options line.now number (staged A.exporter R.follower world.old) (staged A.exporter R.follower world.new) (K.written sink.old) (K.written sink.new)) }
     ensures cause { BlamesWrite result (K.faults sink.old) (K.faults sink.new) }
 {
     let from = world.trace().len();
@@ -81,9 +80,9 @@ fn play_lines<A: Application, R: Follower, K: Sink>(
     ended: bool,
     sink: &mut K,
 ) -> Result<(), Stop>
-    requires stage { IsStage A.is_app R.is_follower A.is_kit A.is_spare world.old.cast.apps.items world.old.cast.readers.items world.old.kits.items world.old.spares.items (state_of world.old.carrier.bus) }
-    requires begins { IsPlaying (first_playing QUOTA_MOST) (staged A.exporter R.follower (inner_of world.old.carrier.bus) world.old.carrier.posts.items world.old.carrier.at_end.items world.old.cast.registry world.old.cast.apps.items world.old.cast.readers.items (length world.old.kits.items) (length world.old.spares.items) world.old.carrier.trace.items) }
-    requires silent { world.old.carrier.trace.items ≡ [] }
+    requires stage { IsStage A.is_app R.is_follower A.is_kit A.is_spare world.old }
+    requires begins { IsPlaying (first_playing QUOTA_MOST) (staged A.exporter R.follower world.old) }
+    requires silent { trace_of world.old ≡ [] }
     ensures ok { OnOk result (Played options (lines_read ended text.now) (K.written sink.old) (K.written sink.new)) }
     ensures halted { IfHalted result (λ why. PlayedHalted options why (lines_read ended text.now) (K.written sink.old) (K.written sink.new)) }
     ensures refused { IfRefused result (λ why. PlayedRefused options (lines_read ended text.now) (K.written sink.old) (K.written sink.new)) }

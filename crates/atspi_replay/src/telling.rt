@@ -9,6 +9,7 @@ ghost use Rattle.atspi_replay.specs.Names.{refused_text};
 ghost use Rattle.atspi_replay.specs.Play.{BlamesWrite, IfHalted, IfRefused};
 ghost use Rattle.atspi_replay.specs.Told.{bytes_text, told_at, told_from, told_if, told_text};
 ghost use Rattle.atspi_cast.specs.Wires.{wire_bytes};
+ghost use Rattle.atspi_stage.specs.Stage.{posts_of, trace_of};
 
 use crate::naming::{Halt, Refused, Stop, refused_name};
 use atspi_base::{Bytes, NoMemory, Sink, write_all};
@@ -44,7 +45,7 @@ fn put_bytes<A: Application, R: Follower>(
     event: usize,
     text: &mut Bytes,
 ) -> Result<(), NoMemory>
-    ensures { OnOk result (text.new ≡ text.old ++ bytes_text (wire_bytes world.now.carrier.posts.items world.now.carrier.trace.items event (slice_get world.now.carrier.trace.items event))) }
+    ensures { OnOk result (text.new ≡ text.old ++ bytes_text (wire_bytes (posts_of world.now) (trace_of world.now) event (slice_get (trace_of world.now) event))) }
 {
     let mut bytes = Bytes::new(alloc);
     let Ok(()) = world.wire(event, &mut bytes) else {
@@ -62,8 +63,8 @@ fn put_event<A: Application, R: Follower>(
     event: &Event,
     text: &mut Bytes,
 ) -> Result<(), NoMemory>
-    requires { slice_get world.now.carrier.trace.items place ≡ Some event.now }
-    ensures { OnOk result (text.new ≡ text.old ++ told_text options (told_at world.now.carrier.posts.items world.now.carrier.trace.items place event.now ∷ [])) }
+    requires { slice_get (trace_of world.now) place ≡ Some event.now }
+    ensures { OnOk result (text.new ≡ text.old ++ told_text options (told_at (posts_of world.now) (trace_of world.now) place event.now ∷ [])) }
 {
     if !is_told(options, event) {
         return Ok(());
@@ -90,7 +91,7 @@ fn put_entry<A: Application, R: Follower>(
     place: usize,
     text: &mut Bytes,
 ) -> Result<(), NoMemory>
-    ensures { OnOk result (text.new ≡ text.old ++ told_text options (told_if world.now.carrier.posts.items world.now.carrier.trace.items place (slice_get world.now.carrier.trace.items place))) }
+    ensures { OnOk result (text.new ≡ text.old ++ told_text options (told_if (posts_of world.now) (trace_of world.now) place (slice_get (trace_of world.now) place))) }
 {
     match event_at(world.trace(), place) {
         Some(event) => put_event(alloc, world, options, place, event, text),
@@ -143,8 +144,8 @@ pub(crate) fn write_trace<A: Application, R: Follower, K: Sink>(
     from: usize,
     sink: &mut K,
 ) -> Result<(), Stop>
-    ensures ok { OnOk result (Appends (K.written sink.old) (K.written sink.new) (told_text options (told_from world.now.carrier.posts.items world.now.carrier.trace.items from))) }
-    ensures err { OnErr result (AppendsPart (K.written sink.old) (K.written sink.new) (told_text options (told_from world.now.carrier.posts.items world.now.carrier.trace.items from))) }
+    ensures ok { OnOk result (Appends (K.written sink.old) (K.written sink.new) (told_text options (told_from (posts_of world.now) (trace_of world.now) from))) }
+    ensures err { OnErr result (AppendsPart (K.written sink.old) (K.written sink.new) (told_text options (told_from (posts_of world.now) (trace_of world.now) from))) }
     ensures cause { BlamesWrite result (K.faults sink.old) (K.faults sink.new) }
     ensures not_refused { IfRefused result (λ why. ⊥) }
     ensures not_halted { IfHalted result (λ why. ⊥) }
@@ -222,8 +223,8 @@ pub(crate) fn finish<A: Application, R: Follower, K: Sink>(
     sink: &mut K,
 ) -> Result<(), Stop>
     ensures stops { IsErr result }
-    ensures halted { IfHalted result (λ said. (said ≡ halt) × Appends (K.written sink.old) (K.written sink.new) (told_text options (told_from world.now.carrier.posts.items world.now.carrier.trace.items from))) }
-    ensures err { OnErr result (AppendsPart (K.written sink.old) (K.written sink.new) (told_text options (told_from world.now.carrier.posts.items world.now.carrier.trace.items from))) }
+    ensures halted { IfHalted result (λ said. (said ≡ halt) × Appends (K.written sink.old) (K.written sink.new) (told_text options (told_from (posts_of world.now) (trace_of world.now) from))) }
+    ensures err { OnErr result (AppendsPart (K.written sink.old) (K.written sink.new) (told_text options (told_from (posts_of world.now) (trace_of world.now) from))) }
     ensures cause { BlamesWrite result (K.faults sink.old) (K.faults sink.new) }
     ensures not_refused { IfRefused result (λ why. ⊥) }
 {

@@ -1,5 +1,5 @@
 -- A world of the definitions that the code's world is.
-use Rattle.std.specs.Prelude.{◌≡◌, ℕ, ◌+◌, false, List, [], ◌∷◌, ◌++◌, length, map}
+use Rattle.std.specs.Prelude.{◌≡◌, ℕ, suc, ◌+◌, false, List, [], ◌∷◌, ◌++◌, length, map}
 use Rattle.std.specs.List.{AllByRecursion}
 use Rattle.atspi_lines.specs.declared.limits.TheConstants.{APP_COUNT}
 use Rattle.atspi_lines.specs.declared.line.Party.{Party}
@@ -19,7 +19,9 @@ use Rattle.atspi_trace.specs.Due.{is_lost}
 use Rattle.atspi_carrying.specs.Carried.{IsCarried}
 use Rattle.atspi_carrying.specs.Linked.{IsLinked}
 use Rattle.atspi_play.specs.Playing.{Playing, Happened}
+use Rattle.atspi_bus_steps.specs.Inner.{inner_of}
 use Rattle.atspi_stage.specs.Cast.{IsApp, IsReader, ArePlayed}
+use Rattle.atspi_stage.specs.declared.stage.Stage.{Stage}
 
 -- What contracts see of the code's world: the bus and the connections, what lies at their ends, the registry, the ends by their numbers, how many kits and
 -- spare faces are left, and what was told
@@ -34,19 +36,23 @@ pub record Staged : Type 0 where
   pub spares : ℕ
   pub trace : List Event
 
--- the same, of ends that are seen as these functions say
-abbrev pub staged : {A R : Type 0} → (A → Exporter) → (R → ReaderState) → Bus → List Post → List (List ℕ) → registering.Registry → List A → List R → ℕ → ℕ → List Event → Staged
-staged exporter follower bus posts given registry apps readers kits spares trace = record {
-  bus = bus;
-  posts = posts;
-  given = given;
-  registry = registry;
-  apps = map exporter apps;
-  readers = map follower readers;
-  kits = kits;
-  spares = spares;
-  trace = trace;
+-- those of the code's world, whose ends are seen as these functions say
+abbrev pub staged : {A R K S : Type 0} → (A → Exporter) → (R → ReaderState) → Stage A R K S → Staged
+staged exporter follower s = record {
+  bus = inner_of s.carrier.bus;
+  posts = s.carrier.posts.items;
+  given = s.carrier.at_end.items;
+  registry = s.cast.registry;
+  apps = map exporter s.cast.apps.items;
+  readers = map follower s.cast.readers.items;
+  kits = length s.kits.items;
+  spares = length s.spares.items;
+  trace = s.carrier.trace.items;
 }
+
+-- the same, before one of its kits was taken
+abbrev pub with_kit : Staged → Staged
+with_kit s = record s { kits = suc s.kits }
 
 -- the first of the ends is the registry
 abbrev pub BeginsWithRegistry : List End → Type 0

@@ -4,7 +4,6 @@ ghost use Rattle.std.specs.Prelude.{◌≡◌, ◌++◌, false, None, Some, leng
 ghost use Rattle.std.specs.Option.{option_map};
 ghost use Rattle.atspi_forest.specs.Edits.{IsEdit};
 ghost use Rattle.atspi_reader_calls.specs.Deeds.{MayBeAsked};
-ghost use Rattle.atspi_bus_steps.specs.Inner.{inner_of, state_of};
 ghost use Rattle.atspi_lines.specs.declared.line.Line.TheVariants as lines;
 ghost use Rattle.atspi_trace.specs.Causes.{exits};
 ghost use Rattle.atspi_trace.specs.World.{End, World};
@@ -20,7 +19,7 @@ ghost use Rattle.atspi_stage.specs.Halts.{LineLost, LineLostElse, LineSpent, Lin
 ghost use Rattle.atspi_stage.specs.Lines.{CausedAt, IsSegment, LineDone, LineDoneElse, WorkOf, WorkOfElse};
 ghost use Rattle.atspi_stage.specs.MayAct.{MayAct};
 ghost use Rattle.atspi_stage.specs.Refusals.{RefusedElse, RefusedFor, Refuses};
-ghost use Rattle.atspi_stage.specs.Stage.{gives_line_up, IsStage, UnlessHalted};
+ghost use Rattle.atspi_stage.specs.Stage.{gives_line_up, IsStage, UnlessHalted, trace_of, posts_of, apps_of, readers_of};
 ghost use Rattle.atspi_stage.specs.Worlds.{staged, IsPlaying};
 
 use crate::fault::ActFault;
@@ -64,7 +63,7 @@ impl<A: Application, R: Follower> Stage<A, R> {
     /// Why a line is refused, none where it is not, or only by the edit or the call that it asks for.
     fn refusal(&self, line: &Line) -> Option<Refusal>
         ensures name { result ≡ None → HasName line.now }
-        ensures exact { (w : World) → IsOf w self.now.carrier.posts.items (length self.now.cast.apps.items) (length self.now.cast.readers.items) (length self.now.spares.items)
+        ensures exact { (w : World) → IsOf w (posts_of self.now) (length (apps_of self.now)) (length (readers_of self.now)) (length self.now.spares.items)
             → option_map refusal_of result ≡ first_refusal w line.now }
     {
         why_refused(
@@ -79,12 +78,12 @@ impl<A: Application, R: Follower> Stage<A, R> {
     /// An application is asked for an edit.
     fn ask_edit(&mut self, app: u32, edit: &Edit) -> Result<(), ActFault>
         requires edit { IsEdit edit.now }
-        requires stage { IsStage A.is_app R.is_follower A.is_kit A.is_spare self.old.cast.apps.items self.old.cast.readers.items self.old.kits.items self.old.spares.items (state_of self.old.carrier.bus) }
-        ensures stage { IsStage A.is_app R.is_follower A.is_kit A.is_spare self.new.cast.apps.items self.new.cast.readers.items self.new.kits.items self.new.spares.items (state_of self.new.carrier.bus) }
-        ensures does { OnOk result (LineDoneElse (lines.Edit app edit.now) (staged A.exporter R.follower (inner_of self.old.carrier.bus) self.old.carrier.posts.items self.old.carrier.at_end.items self.old.cast.registry self.old.cast.apps.items self.old.cast.readers.items (length self.old.kits.items) (length self.old.spares.items) self.old.carrier.trace.items) (staged A.exporter R.follower (inner_of self.new.carrier.bus) self.new.carrier.posts.items self.new.carrier.at_end.items self.new.cast.registry self.new.cast.apps.items self.new.cast.readers.items (length self.new.kits.items) (length self.new.spares.items) self.new.carrier.trace.items)) }
-        ensures refused { (why : Refusal) → IsErrOf result (ActFault.Refused why) → RefusedElse (lines.Edit app edit.now) why (staged A.exporter R.follower (inner_of self.old.carrier.bus) self.old.carrier.posts.items self.old.carrier.at_end.items self.old.cast.registry self.old.cast.apps.items self.old.cast.readers.items (length self.old.kits.items) (length self.old.spares.items) self.old.carrier.trace.items) }
-        ensures nothing { (why : Refusal) → IsErrOf result (ActFault.Refused why) → (staged A.exporter R.follower (inner_of self.new.carrier.bus) self.new.carrier.posts.items self.new.carrier.at_end.items self.new.cast.registry self.new.cast.apps.items self.new.cast.readers.items (length self.new.kits.items) (length self.new.spares.items) self.new.carrier.trace.items) ≡ (staged A.exporter R.follower (inner_of self.old.carrier.bus) self.old.carrier.posts.items self.old.carrier.at_end.items self.old.cast.registry self.old.cast.apps.items self.old.cast.readers.items (length self.old.kits.items) (length self.old.spares.items) self.old.carrier.trace.items) }
-        ensures spent { IsErrOf result ActFault.Spent → LineSpentElse (lines.Edit app edit.now) (staged A.exporter R.follower (inner_of self.old.carrier.bus) self.old.carrier.posts.items self.old.carrier.at_end.items self.old.cast.registry self.old.cast.apps.items self.old.cast.readers.items (length self.old.kits.items) (length self.old.spares.items) self.old.carrier.trace.items) (staged A.exporter R.follower (inner_of self.new.carrier.bus) self.new.carrier.posts.items self.new.carrier.at_end.items self.new.cast.registry self.new.cast.apps.items self.new.cast.readers.items (length self.new.kits.items) (length self.new.spares.items) self.new.carrier.trace.items) }
+        requires stage { IsStage A.is_app R.is_follower A.is_kit A.is_spare self.old }
+        ensures stage { IsStage A.is_app R.is_follower A.is_kit A.is_spare self.new }
+        ensures does { OnOk result (LineDoneElse (lines.Edit app edit.now) (staged A.exporter R.follower self.old) (staged A.exporter R.follower self.new)) }
+        ensures refused { (why : Refusal) → IsErrOf result (ActFault.Refused why) → RefusedElse (lines.Edit app edit.now) why (staged A.exporter R.follower self.old) }
+        ensures nothing { (why : Refusal) → IsErrOf result (ActFault.Refused why) → staged A.exporter R.follower self.new ≡ staged A.exporter R.follower self.old }
+        ensures spent { IsErrOf result ActFault.Spent → LineSpentElse (lines.Edit app edit.now) (staged A.exporter R.follower self.old) (staged A.exporter R.follower self.new) }
         ensures calm { IsErrOf result ActFault.RegistryLost → ⊥ }
     {
         match conn_of(&self.carrier.posts, Party::App(app)) {
@@ -96,12 +95,12 @@ impl<A: Application, R: Follower> Stage<A, R> {
     /// A reader is asked for a call.
     fn ask_call(&mut self, reader: u32, app: u32, node: u32, deed: &Deed) -> Result<(), ActFault>
         requires deed { MayBeAsked deed.now }
-        requires stage { IsStage A.is_app R.is_follower A.is_kit A.is_spare self.old.cast.apps.items self.old.cast.readers.items self.old.kits.items self.old.spares.items (state_of self.old.carrier.bus) }
-        ensures stage { IsStage A.is_app R.is_follower A.is_kit A.is_spare self.new.cast.apps.items self.new.cast.readers.items self.new.kits.items self.new.spares.items (state_of self.new.carrier.bus) }
-        ensures does { OnOk result (LineDoneElse (lines.Call reader app node deed.now) (staged A.exporter R.follower (inner_of self.old.carrier.bus) self.old.carrier.posts.items self.old.carrier.at_end.items self.old.cast.registry self.old.cast.apps.items self.old.cast.readers.items (length self.old.kits.items) (length self.old.spares.items) self.old.carrier.trace.items) (staged A.exporter R.follower (inner_of self.new.carrier.bus) self.new.carrier.posts.items self.new.carrier.at_end.items self.new.cast.registry self.new.cast.apps.items self.new.cast.readers.items (length self.new.kits.items) (length self.new.spares.items) self.new.carrier.trace.items)) }
-        ensures refused { (why : Refusal) → IsErrOf result (ActFault.Refused why) → RefusedElse (lines.Call reader app node deed.now) why (staged A.exporter R.follower (inner_of self.old.carrier.bus) self.old.carrier.posts.items self.old.carrier.at_end.items self.old.cast.registry self.old.cast.apps.items self.old.cast.readers.items (length self.old.kits.items) (length self.old.spares.items) self.old.carrier.trace.items) }
-        ensures nothing { (why : Refusal) → IsErrOf result (ActFault.Refused why) → (staged A.exporter R.follower (inner_of self.new.carrier.bus) self.new.carrier.posts.items self.new.carrier.at_end.items self.new.cast.registry self.new.cast.apps.items self.new.cast.readers.items (length self.new.kits.items) (length self.new.spares.items) self.new.carrier.trace.items) ≡ (staged A.exporter R.follower (inner_of self.old.carrier.bus) self.old.carrier.posts.items self.old.carrier.at_end.items self.old.cast.registry self.old.cast.apps.items self.old.cast.readers.items (length self.old.kits.items) (length self.old.spares.items) self.old.carrier.trace.items) }
-        ensures spent { IsErrOf result ActFault.Spent → LineSpentElse (lines.Call reader app node deed.now) (staged A.exporter R.follower (inner_of self.old.carrier.bus) self.old.carrier.posts.items self.old.carrier.at_end.items self.old.cast.registry self.old.cast.apps.items self.old.cast.readers.items (length self.old.kits.items) (length self.old.spares.items) self.old.carrier.trace.items) (staged A.exporter R.follower (inner_of self.new.carrier.bus) self.new.carrier.posts.items self.new.carrier.at_end.items self.new.cast.registry self.new.cast.apps.items self.new.cast.readers.items (length self.new.kits.items) (length self.new.spares.items) self.new.carrier.trace.items) }
+        requires stage { IsStage A.is_app R.is_follower A.is_kit A.is_spare self.old }
+        ensures stage { IsStage A.is_app R.is_follower A.is_kit A.is_spare self.new }
+        ensures does { OnOk result (LineDoneElse (lines.Call reader app node deed.now) (staged A.exporter R.follower self.old) (staged A.exporter R.follower self.new)) }
+        ensures refused { (why : Refusal) → IsErrOf result (ActFault.Refused why) → RefusedElse (lines.Call reader app node deed.now) why (staged A.exporter R.follower self.old) }
+        ensures nothing { (why : Refusal) → IsErrOf result (ActFault.Refused why) → staged A.exporter R.follower self.new ≡ staged A.exporter R.follower self.old }
+        ensures spent { IsErrOf result ActFault.Spent → LineSpentElse (lines.Call reader app node deed.now) (staged A.exporter R.follower self.old) (staged A.exporter R.follower self.new) }
         ensures calm { IsErrOf result ActFault.RegistryLost → ⊥ }
     {
         let Some(conn) = conn_of(&self.carrier.posts, Party::Reader(reader)) else {
@@ -116,9 +115,9 @@ impl<A: Application, R: Follower> Stage<A, R> {
     /// A party stops.
     fn exit_of(&mut self, who: Party) -> Result<(), NoMemory>
         requires end { same_party who parties.Registry ≡ false }
-        requires stage { IsStage A.is_app R.is_follower A.is_kit A.is_spare self.old.cast.apps.items self.old.cast.readers.items self.old.kits.items self.old.spares.items (state_of self.old.carrier.bus) }
-        ensures stage { IsStage A.is_app R.is_follower A.is_kit A.is_spare self.new.cast.apps.items self.new.cast.readers.items self.new.kits.items self.new.spares.items (state_of self.new.carrier.bus) }
-        ensures does { OnOk result (CausedAt who exits (staged A.exporter R.follower (inner_of self.old.carrier.bus) self.old.carrier.posts.items self.old.carrier.at_end.items self.old.cast.registry self.old.cast.apps.items self.old.cast.readers.items (length self.old.kits.items) (length self.old.spares.items) self.old.carrier.trace.items) (staged A.exporter R.follower (inner_of self.new.carrier.bus) self.new.carrier.posts.items self.new.carrier.at_end.items self.new.cast.registry self.new.cast.apps.items self.new.cast.readers.items (length self.new.kits.items) (length self.new.spares.items) self.new.carrier.trace.items)) }
+        requires stage { IsStage A.is_app R.is_follower A.is_kit A.is_spare self.old }
+        ensures stage { IsStage A.is_app R.is_follower A.is_kit A.is_spare self.new }
+        ensures does { OnOk result (CausedAt who exits (staged A.exporter R.follower self.old) (staged A.exporter R.follower self.new)) }
     {
         match conn_of(&self.carrier.posts, who) {
             Some(conn) => self.carrier.exit(conn),
@@ -128,9 +127,9 @@ impl<A: Application, R: Follower> Stage<A, R> {
 
     /// A reader shows what it holds of an application.
     fn show_of(&mut self, reader: u32, app: u32) -> Result<(), NoMemory>
-        requires stage { IsStage A.is_app R.is_follower A.is_kit A.is_spare self.old.cast.apps.items self.old.cast.readers.items self.old.kits.items self.old.spares.items (state_of self.old.carrier.bus) }
-        ensures stage { IsStage A.is_app R.is_follower A.is_kit A.is_spare self.new.cast.apps.items self.new.cast.readers.items self.new.kits.items self.new.spares.items (state_of self.new.carrier.bus) }
-        ensures does { OnOk result (WorkOf (lines.Show reader app) (staged A.exporter R.follower (inner_of self.old.carrier.bus) self.old.carrier.posts.items self.old.carrier.at_end.items self.old.cast.registry self.old.cast.apps.items self.old.cast.readers.items (length self.old.kits.items) (length self.old.spares.items) self.old.carrier.trace.items) (staged A.exporter R.follower (inner_of self.new.carrier.bus) self.new.carrier.posts.items self.new.carrier.at_end.items self.new.cast.registry self.new.cast.apps.items self.new.cast.readers.items (length self.new.kits.items) (length self.new.spares.items) self.new.carrier.trace.items)) }
+        requires stage { IsStage A.is_app R.is_follower A.is_kit A.is_spare self.old }
+        ensures stage { IsStage A.is_app R.is_follower A.is_kit A.is_spare self.new }
+        ensures does { OnOk result (WorkOf (lines.Show reader app) (staged A.exporter R.follower self.old) (staged A.exporter R.follower self.new)) }
     {
         match conn_of(&self.carrier.posts, Party::App(app)) {
             Some(conn) => self.show(reader, app, conn),
@@ -140,12 +139,12 @@ impl<A: Application, R: Follower> Stage<A, R> {
 
     /// Moves at most so many bytes of a link to the bus; any move also an end that stopped.
     fn move_up(&mut self, conn: u32, count: u32) -> Result<(), CarryFault>
-        requires stage { IsStage A.is_app R.is_follower A.is_kit A.is_spare self.old.cast.apps.items self.old.cast.readers.items self.old.kits.items self.old.spares.items (state_of self.old.carrier.bus) }
-        ensures stage { OnOk result (IsStage A.is_app R.is_follower A.is_kit A.is_spare self.new.cast.apps.items self.new.cast.readers.items self.new.kits.items self.new.spares.items (state_of self.new.carrier.bus)) }
-        ensures does { OnOk result ((p : Playing) (e : End) → IsPlaying p (staged A.exporter R.follower (inner_of self.old.carrier.bus) self.old.carrier.posts.items self.old.carrier.at_end.items self.old.cast.registry self.old.cast.apps.items self.old.cast.readers.items (length self.old.kits.items) (length self.old.spares.items) self.old.carrier.trace.items) → end_at p.world.ends conn ≡ Some e
-            → IsSegment p (work.moving_up conn count) (staged A.exporter R.follower (inner_of self.old.carrier.bus) self.old.carrier.posts.items self.old.carrier.at_end.items self.old.cast.registry self.old.cast.apps.items self.old.cast.readers.items (length self.old.kits.items) (length self.old.spares.items) self.old.carrier.trace.items) (staged A.exporter R.follower (inner_of self.new.carrier.bus) self.new.carrier.posts.items self.new.carrier.at_end.items self.new.cast.registry self.new.cast.apps.items self.new.cast.readers.items (length self.new.kits.items) (length self.new.spares.items) self.new.carrier.trace.items)) }
-        ensures lost { IsErrOf result CarryFault.RegistryLost → (p : Playing) (e : End) → IsPlaying p (staged A.exporter R.follower (inner_of self.old.carrier.bus) self.old.carrier.posts.items self.old.carrier.at_end.items self.old.cast.registry self.old.cast.apps.items self.old.cast.readers.items (length self.old.kits.items) (length self.old.spares.items) self.old.carrier.trace.items) → end_at p.world.ends conn ≡ Some e → WorkLost p (work.moving_up conn count) (staged A.exporter R.follower (inner_of self.old.carrier.bus) self.old.carrier.posts.items self.old.carrier.at_end.items self.old.cast.registry self.old.cast.apps.items self.old.cast.readers.items (length self.old.kits.items) (length self.old.spares.items) self.old.carrier.trace.items) (staged A.exporter R.follower (inner_of self.new.carrier.bus) self.new.carrier.posts.items self.new.carrier.at_end.items self.new.cast.registry self.new.cast.apps.items self.new.cast.readers.items (length self.new.kits.items) (length self.new.spares.items) self.new.carrier.trace.items) }
-        ensures spent { IsErrOf result CarryFault.Spent → (p : Playing) (e : End) → IsPlaying p (staged A.exporter R.follower (inner_of self.old.carrier.bus) self.old.carrier.posts.items self.old.carrier.at_end.items self.old.cast.registry self.old.cast.apps.items self.old.cast.readers.items (length self.old.kits.items) (length self.old.spares.items) self.old.carrier.trace.items) → end_at p.world.ends conn ≡ Some e → WorkSpent p (work.moving_up conn count) (staged A.exporter R.follower (inner_of self.old.carrier.bus) self.old.carrier.posts.items self.old.carrier.at_end.items self.old.cast.registry self.old.cast.apps.items self.old.cast.readers.items (length self.old.kits.items) (length self.old.spares.items) self.old.carrier.trace.items) (staged A.exporter R.follower (inner_of self.new.carrier.bus) self.new.carrier.posts.items self.new.carrier.at_end.items self.new.cast.registry self.new.cast.apps.items self.new.cast.readers.items (length self.new.kits.items) (length self.new.spares.items) self.new.carrier.trace.items) }
+        requires stage { IsStage A.is_app R.is_follower A.is_kit A.is_spare self.old }
+        ensures stage { OnOk result (IsStage A.is_app R.is_follower A.is_kit A.is_spare self.new) }
+        ensures does { OnOk result ((p : Playing) (e : End) → IsPlaying p (staged A.exporter R.follower self.old) → end_at p.world.ends conn ≡ Some e
+            → IsSegment p (work.moving_up conn count) (staged A.exporter R.follower self.old) (staged A.exporter R.follower self.new)) }
+        ensures lost { IsErrOf result CarryFault.RegistryLost → (p : Playing) (e : End) → IsPlaying p (staged A.exporter R.follower self.old) → end_at p.world.ends conn ≡ Some e → WorkLost p (work.moving_up conn count) (staged A.exporter R.follower self.old) (staged A.exporter R.follower self.new) }
+        ensures spent { IsErrOf result CarryFault.Spent → (p : Playing) (e : End) → IsPlaying p (staged A.exporter R.follower self.old) → end_at p.world.ends conn ≡ Some e → WorkSpent p (work.moving_up conn count) (staged A.exporter R.follower self.old) (staged A.exporter R.follower self.new) }
     {
         let place = conn as usize;
         if place >= self.carrier.posts.len() {
@@ -165,11 +164,11 @@ impl<A: Application, R: Follower> Stage<A, R> {
 
     /// Moves at most so many bytes of a party's link, to the bus or from it.
     fn move_bytes(&mut self, who: Party, up: bool, count: u32) -> Result<(), CarryFault>
-        requires stage { IsStage A.is_app R.is_follower A.is_kit A.is_spare self.old.cast.apps.items self.old.cast.readers.items self.old.kits.items self.old.spares.items (state_of self.old.carrier.bus) }
-        ensures stage { OnOk result (IsStage A.is_app R.is_follower A.is_kit A.is_spare self.new.cast.apps.items self.new.cast.readers.items self.new.kits.items self.new.spares.items (state_of self.new.carrier.bus)) }
-        ensures does { OnOk result (WorkOf (lines.Bytes who up count) (staged A.exporter R.follower (inner_of self.old.carrier.bus) self.old.carrier.posts.items self.old.carrier.at_end.items self.old.cast.registry self.old.cast.apps.items self.old.cast.readers.items (length self.old.kits.items) (length self.old.spares.items) self.old.carrier.trace.items) (staged A.exporter R.follower (inner_of self.new.carrier.bus) self.new.carrier.posts.items self.new.carrier.at_end.items self.new.cast.registry self.new.cast.apps.items self.new.cast.readers.items (length self.new.kits.items) (length self.new.spares.items) self.new.carrier.trace.items)) }
-        ensures lost { IsErrOf result CarryFault.RegistryLost → LineLostElse (lines.Bytes who up count) (staged A.exporter R.follower (inner_of self.old.carrier.bus) self.old.carrier.posts.items self.old.carrier.at_end.items self.old.cast.registry self.old.cast.apps.items self.old.cast.readers.items (length self.old.kits.items) (length self.old.spares.items) self.old.carrier.trace.items) (staged A.exporter R.follower (inner_of self.new.carrier.bus) self.new.carrier.posts.items self.new.carrier.at_end.items self.new.cast.registry self.new.cast.apps.items self.new.cast.readers.items (length self.new.kits.items) (length self.new.spares.items) self.new.carrier.trace.items) }
-        ensures spent { IsErrOf result CarryFault.Spent → LineSpentElse (lines.Bytes who up count) (staged A.exporter R.follower (inner_of self.old.carrier.bus) self.old.carrier.posts.items self.old.carrier.at_end.items self.old.cast.registry self.old.cast.apps.items self.old.cast.readers.items (length self.old.kits.items) (length self.old.spares.items) self.old.carrier.trace.items) (staged A.exporter R.follower (inner_of self.new.carrier.bus) self.new.carrier.posts.items self.new.carrier.at_end.items self.new.cast.registry self.new.cast.apps.items self.new.cast.readers.items (length self.new.kits.items) (length self.new.spares.items) self.new.carrier.trace.items) }
+        requires stage { IsStage A.is_app R.is_follower A.is_kit A.is_spare self.old }
+        ensures stage { OnOk result (IsStage A.is_app R.is_follower A.is_kit A.is_spare self.new) }
+        ensures does { OnOk result (WorkOf (lines.Bytes who up count) (staged A.exporter R.follower self.old) (staged A.exporter R.follower self.new)) }
+        ensures lost { IsErrOf result CarryFault.RegistryLost → LineLostElse (lines.Bytes who up count) (staged A.exporter R.follower self.old) (staged A.exporter R.follower self.new) }
+        ensures spent { IsErrOf result CarryFault.Spent → LineSpentElse (lines.Bytes who up count) (staged A.exporter R.follower self.old) (staged A.exporter R.follower self.new) }
     {
         let Some(conn) = conn_of(&self.carrier.posts, who) else {
             return Ok(());
@@ -184,11 +183,11 @@ impl<A: Application, R: Follower> Stage<A, R> {
     fn do_line(&mut self, line: &Line) -> Result<(), CarryFault>
         requires may { MayAct line.now }
         requires name { HasName line.now }
-        requires stage { IsStage A.is_app R.is_follower A.is_kit A.is_spare self.old.cast.apps.items self.old.cast.readers.items self.old.kits.items self.old.spares.items (state_of self.old.carrier.bus) }
-        ensures stage { OnOk result (IsStage A.is_app R.is_follower A.is_kit A.is_spare self.new.cast.apps.items self.new.cast.readers.items self.new.kits.items self.new.spares.items (state_of self.new.carrier.bus)) }
-        ensures does { OnOk result (WorkOfElse line.now (staged A.exporter R.follower (inner_of self.old.carrier.bus) self.old.carrier.posts.items self.old.carrier.at_end.items self.old.cast.registry self.old.cast.apps.items self.old.cast.readers.items (length self.old.kits.items) (length self.old.spares.items) self.old.carrier.trace.items) (staged A.exporter R.follower (inner_of self.new.carrier.bus) self.new.carrier.posts.items self.new.carrier.at_end.items self.new.cast.registry self.new.cast.apps.items self.new.cast.readers.items (length self.new.kits.items) (length self.new.spares.items) self.new.carrier.trace.items)) }
-        ensures lost { IsErrOf result CarryFault.RegistryLost → LineLostElse line.now (staged A.exporter R.follower (inner_of self.old.carrier.bus) self.old.carrier.posts.items self.old.carrier.at_end.items self.old.cast.registry self.old.cast.apps.items self.old.cast.readers.items (length self.old.kits.items) (length self.old.spares.items) self.old.carrier.trace.items) (staged A.exporter R.follower (inner_of self.new.carrier.bus) self.new.carrier.posts.items self.new.carrier.at_end.items self.new.cast.registry self.new.cast.apps.items self.new.cast.readers.items (length self.new.kits.items) (length self.new.spares.items) self.new.carrier.trace.items) }
-        ensures spent { IsErrOf result CarryFault.Spent → LineSpentElse line.now (staged A.exporter R.follower (inner_of self.old.carrier.bus) self.old.carrier.posts.items self.old.carrier.at_end.items self.old.cast.registry self.old.cast.apps.items self.old.cast.readers.items (length self.old.kits.items) (length self.old.spares.items) self.old.carrier.trace.items) (staged A.exporter R.follower (inner_of self.new.carrier.bus) self.new.carrier.posts.items self.new.carrier.at_end.items self.new.cast.registry self.new.cast.apps.items self.new.cast.readers.items (length self.new.kits.items) (length self.new.spares.items) self.new.carrier.trace.items) }
+        requires stage { IsStage A.is_app R.is_follower A.is_kit A.is_spare self.old }
+        ensures stage { OnOk result (IsStage A.is_app R.is_follower A.is_kit A.is_spare self.new) }
+        ensures does { OnOk result (WorkOfElse line.now (staged A.exporter R.follower self.old) (staged A.exporter R.follower self.new)) }
+        ensures lost { IsErrOf result CarryFault.RegistryLost → LineLostElse line.now (staged A.exporter R.follower self.old) (staged A.exporter R.follower self.new) }
+        ensures spent { IsErrOf result CarryFault.Spent → LineSpentElse line.now (staged A.exporter R.follower self.old) (staged A.exporter R.follower self.new) }
     {
         match line {
             Line::Quota(quota) => self.renew(*quota),
@@ -209,13 +208,13 @@ impl<A: Application, R: Follower> Stage<A, R> {
     fn carry_out(&mut self, line: &Line) -> Result<(), ActFault>
         requires may { MayAct line.now }
         requires name { HasName line.now }
-        requires stage { IsStage A.is_app R.is_follower A.is_kit A.is_spare self.old.cast.apps.items self.old.cast.readers.items self.old.kits.items self.old.spares.items (state_of self.old.carrier.bus) }
-        ensures stage { UnlessHalted result (IsStage A.is_app R.is_follower A.is_kit A.is_spare self.new.cast.apps.items self.new.cast.readers.items self.new.kits.items self.new.spares.items (state_of self.new.carrier.bus)) }
-        ensures does { OnOk result (LineDoneElse line.now (staged A.exporter R.follower (inner_of self.old.carrier.bus) self.old.carrier.posts.items self.old.carrier.at_end.items self.old.cast.registry self.old.cast.apps.items self.old.cast.readers.items (length self.old.kits.items) (length self.old.spares.items) self.old.carrier.trace.items) (staged A.exporter R.follower (inner_of self.new.carrier.bus) self.new.carrier.posts.items self.new.carrier.at_end.items self.new.cast.registry self.new.cast.apps.items self.new.cast.readers.items (length self.new.kits.items) (length self.new.spares.items) self.new.carrier.trace.items)) }
-        ensures refused { (why : Refusal) → IsErrOf result (ActFault.Refused why) → RefusedElse line.now why (staged A.exporter R.follower (inner_of self.old.carrier.bus) self.old.carrier.posts.items self.old.carrier.at_end.items self.old.cast.registry self.old.cast.apps.items self.old.cast.readers.items (length self.old.kits.items) (length self.old.spares.items) self.old.carrier.trace.items) }
-        ensures nothing { (why : Refusal) → IsErrOf result (ActFault.Refused why) → (staged A.exporter R.follower (inner_of self.new.carrier.bus) self.new.carrier.posts.items self.new.carrier.at_end.items self.new.cast.registry self.new.cast.apps.items self.new.cast.readers.items (length self.new.kits.items) (length self.new.spares.items) self.new.carrier.trace.items) ≡ (staged A.exporter R.follower (inner_of self.old.carrier.bus) self.old.carrier.posts.items self.old.carrier.at_end.items self.old.cast.registry self.old.cast.apps.items self.old.cast.readers.items (length self.old.kits.items) (length self.old.spares.items) self.old.carrier.trace.items) }
-        ensures lost { IsErrOf result ActFault.RegistryLost → LineLostElse line.now (staged A.exporter R.follower (inner_of self.old.carrier.bus) self.old.carrier.posts.items self.old.carrier.at_end.items self.old.cast.registry self.old.cast.apps.items self.old.cast.readers.items (length self.old.kits.items) (length self.old.spares.items) self.old.carrier.trace.items) (staged A.exporter R.follower (inner_of self.new.carrier.bus) self.new.carrier.posts.items self.new.carrier.at_end.items self.new.cast.registry self.new.cast.apps.items self.new.cast.readers.items (length self.new.kits.items) (length self.new.spares.items) self.new.carrier.trace.items) }
-        ensures spent { IsErrOf result ActFault.Spent → LineSpentElse line.now (staged A.exporter R.follower (inner_of self.old.carrier.bus) self.old.carrier.posts.items self.old.carrier.at_end.items self.old.cast.registry self.old.cast.apps.items self.old.cast.readers.items (length self.old.kits.items) (length self.old.spares.items) self.old.carrier.trace.items) (staged A.exporter R.follower (inner_of self.new.carrier.bus) self.new.carrier.posts.items self.new.carrier.at_end.items self.new.cast.registry self.new.cast.apps.items self.new.cast.readers.items (length self.new.kits.items) (length self.new.spares.items) self.new.carrier.trace.items) }
+        requires stage { IsStage A.is_app R.is_follower A.is_kit A.is_spare self.old }
+        ensures stage { UnlessHalted result (IsStage A.is_app R.is_follower A.is_kit A.is_spare self.new) }
+        ensures does { OnOk result (LineDoneElse line.now (staged A.exporter R.follower self.old) (staged A.exporter R.follower self.new)) }
+        ensures refused { (why : Refusal) → IsErrOf result (ActFault.Refused why) → RefusedElse line.now why (staged A.exporter R.follower self.old) }
+        ensures nothing { (why : Refusal) → IsErrOf result (ActFault.Refused why) → staged A.exporter R.follower self.new ≡ staged A.exporter R.follower self.old }
+        ensures lost { IsErrOf result ActFault.RegistryLost → LineLostElse line.now (staged A.exporter R.follower self.old) (staged A.exporter R.follower self.new) }
+        ensures spent { IsErrOf result ActFault.Spent → LineSpentElse line.now (staged A.exporter R.follower self.old) (staged A.exporter R.follower self.new) }
     {
         match line {
             Line::Edit { app, edit } => self.ask_edit(*app, edit),
@@ -235,14 +234,14 @@ impl<A: Application, R: Follower> Stage<A, R> {
     /// Does a line, and tells it behind what the trace has. After want of memory nothing is known of the world.
     fn act_apart(&mut self, line: &Line) -> Result<(), ActFault>
         requires may { MayAct line.now }
-        requires stage { IsStage A.is_app R.is_follower A.is_kit A.is_spare self.old.cast.apps.items self.old.cast.readers.items self.old.kits.items self.old.spares.items (state_of self.old.carrier.bus) }
-        ensures stage { UnlessHalted result (IsStage A.is_app R.is_follower A.is_kit A.is_spare self.new.cast.apps.items self.new.cast.readers.items self.new.kits.items self.new.spares.items (state_of self.new.carrier.bus)) }
-        ensures does { OnOk result (LineDone line.now (staged A.exporter R.follower (inner_of self.old.carrier.bus) self.old.carrier.posts.items self.old.carrier.at_end.items self.old.cast.registry self.old.cast.apps.items self.old.cast.readers.items (length self.old.kits.items) (length self.old.spares.items) self.old.carrier.trace.items) (staged A.exporter R.follower (inner_of self.new.carrier.bus) self.new.carrier.posts.items self.new.carrier.at_end.items self.new.cast.registry self.new.cast.apps.items self.new.cast.readers.items (length self.new.kits.items) (length self.new.spares.items) self.new.carrier.trace.items)) }
-        ensures refused { (why : Refusal) → IsErrOf result (ActFault.Refused why) → RefusedFor line.now why (staged A.exporter R.follower (inner_of self.old.carrier.bus) self.old.carrier.posts.items self.old.carrier.at_end.items self.old.cast.registry self.old.cast.apps.items self.old.cast.readers.items (length self.old.kits.items) (length self.old.spares.items) self.old.carrier.trace.items) }
-        ensures refuses { (p : Playing) (due : work.Refusal) → IsPlaying p (staged A.exporter R.follower (inner_of self.old.carrier.bus) self.old.carrier.posts.items self.old.carrier.at_end.items self.old.cast.registry self.old.cast.apps.items self.old.cast.readers.items (length self.old.kits.items) (length self.old.spares.items) self.old.carrier.trace.items) → playing.refused p line.now ≡ Some due → Refuses result due }
-        ensures nothing { (why : Refusal) → IsErrOf result (ActFault.Refused why) → (staged A.exporter R.follower (inner_of self.new.carrier.bus) self.new.carrier.posts.items self.new.carrier.at_end.items self.new.cast.registry self.new.cast.apps.items self.new.cast.readers.items (length self.new.kits.items) (length self.new.spares.items) self.new.carrier.trace.items) ≡ (staged A.exporter R.follower (inner_of self.old.carrier.bus) self.old.carrier.posts.items self.old.carrier.at_end.items self.old.cast.registry self.old.cast.apps.items self.old.cast.readers.items (length self.old.kits.items) (length self.old.spares.items) self.old.carrier.trace.items) }
-        ensures lost { IsErrOf result ActFault.RegistryLost → LineLost line.now (staged A.exporter R.follower (inner_of self.old.carrier.bus) self.old.carrier.posts.items self.old.carrier.at_end.items self.old.cast.registry self.old.cast.apps.items self.old.cast.readers.items (length self.old.kits.items) (length self.old.spares.items) self.old.carrier.trace.items) (staged A.exporter R.follower (inner_of self.new.carrier.bus) self.new.carrier.posts.items self.new.carrier.at_end.items self.new.cast.registry self.new.cast.apps.items self.new.cast.readers.items (length self.new.kits.items) (length self.new.spares.items) self.new.carrier.trace.items) }
-        ensures spent { IsErrOf result ActFault.Spent → LineSpent line.now (staged A.exporter R.follower (inner_of self.old.carrier.bus) self.old.carrier.posts.items self.old.carrier.at_end.items self.old.cast.registry self.old.cast.apps.items self.old.cast.readers.items (length self.old.kits.items) (length self.old.spares.items) self.old.carrier.trace.items) (staged A.exporter R.follower (inner_of self.new.carrier.bus) self.new.carrier.posts.items self.new.carrier.at_end.items self.new.cast.registry self.new.cast.apps.items self.new.cast.readers.items (length self.new.kits.items) (length self.new.spares.items) self.new.carrier.trace.items) }
+        requires stage { IsStage A.is_app R.is_follower A.is_kit A.is_spare self.old }
+        ensures stage { UnlessHalted result (IsStage A.is_app R.is_follower A.is_kit A.is_spare self.new) }
+        ensures does { OnOk result (LineDone line.now (staged A.exporter R.follower self.old) (staged A.exporter R.follower self.new)) }
+        ensures refused { (why : Refusal) → IsErrOf result (ActFault.Refused why) → RefusedFor line.now why (staged A.exporter R.follower self.old) }
+        ensures refuses { (p : Playing) (due : work.Refusal) → IsPlaying p (staged A.exporter R.follower self.old) → playing.refused p line.now ≡ Some due → Refuses result due }
+        ensures nothing { (why : Refusal) → IsErrOf result (ActFault.Refused why) → staged A.exporter R.follower self.new ≡ staged A.exporter R.follower self.old }
+        ensures lost { IsErrOf result ActFault.RegistryLost → LineLost line.now (staged A.exporter R.follower self.old) (staged A.exporter R.follower self.new) }
+        ensures spent { IsErrOf result ActFault.Spent → LineSpent line.now (staged A.exporter R.follower self.old) (staged A.exporter R.follower self.new) }
     {
         match self.refusal(line) {
             Some(why) => Err(ActFault::Refused(why)),
@@ -256,15 +255,15 @@ impl<A: Application, R: Follower> Stage<A, R> {
     /// not used again.
     pub fn act(&mut self, line: &Line) -> Result<(), ActFault>
         requires may { MayAct line.now }
-        requires stage { IsStage A.is_app R.is_follower A.is_kit A.is_spare self.old.cast.apps.items self.old.cast.readers.items self.old.kits.items self.old.spares.items (state_of self.old.carrier.bus) }
-        ensures stage { UnlessHalted result (IsStage A.is_app R.is_follower A.is_kit A.is_spare self.new.cast.apps.items self.new.cast.readers.items self.new.kits.items self.new.spares.items (state_of self.new.carrier.bus)) }
-        ensures does { OnOk result (LineDone line.now (staged A.exporter R.follower (inner_of self.old.carrier.bus) self.old.carrier.posts.items self.old.carrier.at_end.items self.old.cast.registry self.old.cast.apps.items self.old.cast.readers.items (length self.old.kits.items) (length self.old.spares.items) self.old.carrier.trace.items) (staged A.exporter R.follower (inner_of self.new.carrier.bus) self.new.carrier.posts.items self.new.carrier.at_end.items self.new.cast.registry self.new.cast.apps.items self.new.cast.readers.items (length self.new.kits.items) (length self.new.spares.items) self.new.carrier.trace.items)) }
-        ensures refused { (why : Refusal) → IsErrOf result (ActFault.Refused why) → RefusedFor line.now why (staged A.exporter R.follower (inner_of self.old.carrier.bus) self.old.carrier.posts.items self.old.carrier.at_end.items self.old.cast.registry self.old.cast.apps.items self.old.cast.readers.items (length self.old.kits.items) (length self.old.spares.items) self.old.carrier.trace.items) }
-        ensures refuses { (p : Playing) (due : work.Refusal) → IsPlaying p (staged A.exporter R.follower (inner_of self.old.carrier.bus) self.old.carrier.posts.items self.old.carrier.at_end.items self.old.cast.registry self.old.cast.apps.items self.old.cast.readers.items (length self.old.kits.items) (length self.old.spares.items) self.old.carrier.trace.items) → playing.refused p line.now ≡ Some due → Refuses result due }
-        ensures nothing { (why : Refusal) → IsErrOf result (ActFault.Refused why) → (staged A.exporter R.follower (inner_of self.new.carrier.bus) self.new.carrier.posts.items self.new.carrier.at_end.items self.new.cast.registry self.new.cast.apps.items self.new.cast.readers.items (length self.new.kits.items) (length self.new.spares.items) self.new.carrier.trace.items) ≡ (staged A.exporter R.follower (inner_of self.old.carrier.bus) self.old.carrier.posts.items self.old.carrier.at_end.items self.old.cast.registry self.old.cast.apps.items self.old.cast.readers.items (length self.old.kits.items) (length self.old.spares.items) self.old.carrier.trace.items) }
-        ensures lost { IsErrOf result ActFault.RegistryLost → LineLost line.now (staged A.exporter R.follower (inner_of self.old.carrier.bus) self.old.carrier.posts.items self.old.carrier.at_end.items self.old.cast.registry self.old.cast.apps.items self.old.cast.readers.items (length self.old.kits.items) (length self.old.spares.items) self.old.carrier.trace.items) (staged A.exporter R.follower (inner_of self.new.carrier.bus) self.new.carrier.posts.items self.new.carrier.at_end.items self.new.cast.registry self.new.cast.apps.items self.new.cast.readers.items (length self.new.kits.items) (length self.new.spares.items) self.new.carrier.trace.items) }
-        ensures spent { IsErrOf result ActFault.Spent → LineSpent line.now (staged A.exporter R.follower (inner_of self.old.carrier.bus) self.old.carrier.posts.items self.old.carrier.at_end.items self.old.cast.registry self.old.cast.apps.items self.old.cast.readers.items (length self.old.kits.items) (length self.old.spares.items) self.old.carrier.trace.items) (staged A.exporter R.follower (inner_of self.new.carrier.bus) self.new.carrier.posts.items self.new.carrier.at_end.items self.new.cast.registry self.new.cast.apps.items self.new.cast.readers.items (length self.new.kits.items) (length self.new.spares.items) self.new.carrier.trace.items) }
-        ensures err { OnGivingUp gives_line_up result (self.new.carrier.trace.items ≡ self.old.carrier.trace.items) }
+        requires stage { IsStage A.is_app R.is_follower A.is_kit A.is_spare self.old }
+        ensures stage { UnlessHalted result (IsStage A.is_app R.is_follower A.is_kit A.is_spare self.new) }
+        ensures does { OnOk result (LineDone line.now (staged A.exporter R.follower self.old) (staged A.exporter R.follower self.new)) }
+        ensures refused { (why : Refusal) → IsErrOf result (ActFault.Refused why) → RefusedFor line.now why (staged A.exporter R.follower self.old) }
+        ensures refuses { (p : Playing) (due : work.Refusal) → IsPlaying p (staged A.exporter R.follower self.old) → playing.refused p line.now ≡ Some due → Refuses result due }
+        ensures nothing { (why : Refusal) → IsErrOf result (ActFault.Refused why) → staged A.exporter R.follower self.new ≡ staged A.exporter R.follower self.old }
+        ensures lost { IsErrOf result ActFault.RegistryLost → LineLost line.now (staged A.exporter R.follower self.old) (staged A.exporter R.follower self.new) }
+        ensures spent { IsErrOf result ActFault.Spent → LineSpent line.now (staged A.exporter R.follower self.old) (staged A.exporter R.follower self.new) }
+        ensures err { OnGivingUp gives_line_up result (trace_of self.new ≡ trace_of self.old) }
     {
         let before = apart(self.carrier.alloc, &mut self.carrier.trace);
         let done = self.act_apart(line);

@@ -1,7 +1,6 @@
 //! An end takes what comes down its link.
 
-ghost use Rattle.std.specs.Prelude.{◌≡◌, List, Some, ◌∷◌, length, IfOk, IsErrOf, OnOk, slice_get};
-ghost use Rattle.atspi_bus_steps.specs.Inner.{inner_of, state_of};
+ghost use Rattle.std.specs.Prelude.{◌≡◌, List, Some, ◌∷◌, IfOk, IsErrOf, OnOk, slice_get};
 ghost use Rattle.atspi_trace.specs.World.{here, End, Letter};
 ghost use Rattle.atspi_trace.specs.Ends.{end_at};
 ghost use Rattle.atspi_trace.specs.Causes.{gets};
@@ -9,11 +8,10 @@ ghost use Rattle.atspi_trace.specs.Work as work;
 ghost use Rattle.atspi_play.specs.Playing.{Playing};
 ghost use Rattle.atspi_play.specs.Plays.{plays};
 ghost use Rattle.atspi_cast.specs.Spending.{GetsSpent};
-ghost use Rattle.atspi_cast.specs.Taken.{ends_of};
 ghost use Rattle.atspi_stage.specs.Halts.{IsSpentBy, WorkSpent};
 ghost use Rattle.atspi_stage.specs.Lines.{IsSegment};
-ghost use Rattle.atspi_stage.specs.Stage.{IsStage};
-ghost use Rattle.atspi_stage.specs.Taken.{Gets, stands_here};
+ghost use Rattle.atspi_stage.specs.Stage.{IsStage, posts_of, trace_of};
+ghost use Rattle.atspi_stage.specs.Taken.{Gets, ends_in, stands_here};
 ghost use Rattle.atspi_stage.specs.Worlds.{staged, Happens, IsPlaying};
 
 use crate::stage::Stage;
@@ -25,11 +23,11 @@ use atspi_stage_ends::{Application, Follower};
 impl<A: Application, R: Follower> Stage<A, R> {
     /// An end takes the message that is whole at it, if one is; answers whether.
     pub(crate) fn get(&mut self, conn: u32) -> Result<bool, CarryFault>
-        requires stage { IsStage A.is_app R.is_follower A.is_kit A.is_spare self.old.cast.apps.items self.old.cast.readers.items self.old.kits.items self.old.spares.items (state_of self.old.carrier.bus) }
-        ensures stage { IsStage A.is_app R.is_follower A.is_kit A.is_spare self.new.cast.apps.items self.new.cast.readers.items self.new.kits.items self.new.spares.items (state_of self.new.carrier.bus) }
-        ensures got { IfOk result (λ took. Gets conn (staged A.exporter R.follower (inner_of self.old.carrier.bus) self.old.carrier.posts.items self.old.carrier.at_end.items self.old.cast.registry self.old.cast.apps.items self.old.cast.readers.items (length self.old.kits.items) (length self.old.spares.items) self.old.carrier.trace.items) (staged A.exporter R.follower (inner_of self.new.carrier.bus) self.new.carrier.posts.items self.new.carrier.at_end.items self.new.cast.registry self.new.cast.apps.items self.new.cast.readers.items (length self.new.kits.items) (length self.new.spares.items) self.new.carrier.trace.items) took) }
-        ensures spent { IsErrOf result CarryFault.Spent → GetsSpent conn self.old.carrier.posts.items self.old.carrier.at_end.items (ends_of A.exporter R.follower self.old.cast.registry self.old.cast.apps.items self.old.cast.readers.items) self.old.carrier.trace.items self.new.carrier.trace.items }
-        ensures stays { IsErrOf result CarryFault.Spent → self.new.carrier.posts.items ≡ self.old.carrier.posts.items }
+        requires stage { IsStage A.is_app R.is_follower A.is_kit A.is_spare self.old }
+        ensures stage { IsStage A.is_app R.is_follower A.is_kit A.is_spare self.new }
+        ensures got { IfOk result (λ took. Gets conn (staged A.exporter R.follower self.old) (staged A.exporter R.follower self.new) took) }
+        ensures spent { IsErrOf result CarryFault.Spent → GetsSpent conn (posts_of self.old) self.old.carrier.at_end.items (ends_in (staged A.exporter R.follower self.old)) (trace_of self.old) (trace_of self.new) }
+        ensures stays { IsErrOf result CarryFault.Spent → posts_of self.new ≡ posts_of self.old }
         ensures calm { IsErrOf result CarryFault.RegistryLost → ⊥ }
     {
         let place = conn as usize;
@@ -59,7 +57,7 @@ impl<A: Application, R: Follower> Stage<A, R> {
 
     /// Whether the end of a connection is there.
     fn is_here(&self, conn: u32) -> bool
-        ensures { result ≡ stands_here (slice_get self.now.carrier.posts.items conn) }
+        ensures { result ≡ stands_here (slice_get (posts_of self.now) conn) }
     {
         match self.carrier.posts.get(conn as usize) {
             Some(post) => post.standing == Standing::Here,
@@ -69,10 +67,10 @@ impl<A: Application, R: Follower> Stage<A, R> {
 
     /// Moves at most so many bytes of a down link; the end takes what they complete.
     pub(crate) fn move_down(&mut self, conn: u32, most: u32) -> Result<(), CarryFault>
-        requires stage { IsStage A.is_app R.is_follower A.is_kit A.is_spare self.old.cast.apps.items self.old.cast.readers.items self.old.kits.items self.old.spares.items (state_of self.old.carrier.bus) }
-        ensures stage { OnOk result (IsStage A.is_app R.is_follower A.is_kit A.is_spare self.new.cast.apps.items self.new.cast.readers.items self.new.kits.items self.new.spares.items (state_of self.new.carrier.bus)) }
-        ensures does { OnOk result ((p : Playing) (e : End) → IsPlaying p (staged A.exporter R.follower (inner_of self.old.carrier.bus) self.old.carrier.posts.items self.old.carrier.at_end.items self.old.cast.registry self.old.cast.apps.items self.old.cast.readers.items (length self.old.kits.items) (length self.old.spares.items) self.old.carrier.trace.items) → end_at p.world.ends conn ≡ Some e → IsSegment p (work.moving_down conn most) (staged A.exporter R.follower (inner_of self.old.carrier.bus) self.old.carrier.posts.items self.old.carrier.at_end.items self.old.cast.registry self.old.cast.apps.items self.old.cast.readers.items (length self.old.kits.items) (length self.old.spares.items) self.old.carrier.trace.items) (staged A.exporter R.follower (inner_of self.new.carrier.bus) self.new.carrier.posts.items self.new.carrier.at_end.items self.new.cast.registry self.new.cast.apps.items self.new.cast.readers.items (length self.new.kits.items) (length self.new.spares.items) self.new.carrier.trace.items)) }
-        ensures spent { IsErrOf result CarryFault.Spent → (p : Playing) (e : End) → IsPlaying p (staged A.exporter R.follower (inner_of self.old.carrier.bus) self.old.carrier.posts.items self.old.carrier.at_end.items self.old.cast.registry self.old.cast.apps.items self.old.cast.readers.items (length self.old.kits.items) (length self.old.spares.items) self.old.carrier.trace.items) → end_at p.world.ends conn ≡ Some e → WorkSpent p (work.moving_down conn most) (staged A.exporter R.follower (inner_of self.old.carrier.bus) self.old.carrier.posts.items self.old.carrier.at_end.items self.old.cast.registry self.old.cast.apps.items self.old.cast.readers.items (length self.old.kits.items) (length self.old.spares.items) self.old.carrier.trace.items) (staged A.exporter R.follower (inner_of self.new.carrier.bus) self.new.carrier.posts.items self.new.carrier.at_end.items self.new.cast.registry self.new.cast.apps.items self.new.cast.readers.items (length self.new.kits.items) (length self.new.spares.items) self.new.carrier.trace.items) }
+        requires stage { IsStage A.is_app R.is_follower A.is_kit A.is_spare self.old }
+        ensures stage { OnOk result (IsStage A.is_app R.is_follower A.is_kit A.is_spare self.new) }
+        ensures does { OnOk result ((p : Playing) (e : End) → IsPlaying p (staged A.exporter R.follower self.old) → end_at p.world.ends conn ≡ Some e → IsSegment p (work.moving_down conn most) (staged A.exporter R.follower self.old) (staged A.exporter R.follower self.new)) }
+        ensures spent { IsErrOf result CarryFault.Spent → (p : Playing) (e : End) → IsPlaying p (staged A.exporter R.follower self.old) → end_at p.world.ends conn ≡ Some e → WorkSpent p (work.moving_down conn most) (staged A.exporter R.follower self.old) (staged A.exporter R.follower self.new) }
         ensures calm { IsErrOf result CarryFault.RegistryLost → ⊥ }
     {
         if !self.is_here(conn) {
@@ -92,12 +90,12 @@ impl<A: Application, R: Follower> Stage<A, R> {
 
     /// An end takes the first message of its down link.
     pub(crate) fn take_next(&mut self, conn: u32) -> Result<(), CarryFault>
-        requires stage { IsStage A.is_app R.is_follower A.is_kit A.is_spare self.old.cast.apps.items self.old.cast.readers.items self.old.kits.items self.old.spares.items (state_of self.old.carrier.bus) }
-        ensures stage { OnOk result (IsStage A.is_app R.is_follower A.is_kit A.is_spare self.new.cast.apps.items self.new.cast.readers.items self.new.kits.items self.new.spares.items (state_of self.new.carrier.bus)) }
-        ensures does { OnOk result ((p : Playing) (e : End) (letter : Letter) (rest : List Letter) → IsPlaying p (staged A.exporter R.follower (inner_of self.old.carrier.bus) self.old.carrier.posts.items self.old.carrier.at_end.items self.old.cast.registry self.old.cast.apps.items self.old.cast.readers.items (length self.old.kits.items) (length self.old.spares.items) self.old.carrier.trace.items) → end_at p.world.ends conn ≡ Some e → e.standing ≡ here → e.down ≡ letter ∷ rest
-            → Happens (plays p (gets conn)) (staged A.exporter R.follower (inner_of self.old.carrier.bus) self.old.carrier.posts.items self.old.carrier.at_end.items self.old.cast.registry self.old.cast.apps.items self.old.cast.readers.items (length self.old.kits.items) (length self.old.spares.items) self.old.carrier.trace.items) (staged A.exporter R.follower (inner_of self.new.carrier.bus) self.new.carrier.posts.items self.new.carrier.at_end.items self.new.cast.registry self.new.cast.apps.items self.new.cast.readers.items (length self.new.kits.items) (length self.new.spares.items) self.new.carrier.trace.items)) }
-        ensures spent { IsErrOf result CarryFault.Spent → (p : Playing) (e : End) (letter : Letter) (rest : List Letter) → IsPlaying p (staged A.exporter R.follower (inner_of self.old.carrier.bus) self.old.carrier.posts.items self.old.carrier.at_end.items self.old.cast.registry self.old.cast.apps.items self.old.cast.readers.items (length self.old.kits.items) (length self.old.spares.items) self.old.carrier.trace.items) → end_at p.world.ends conn ≡ Some e → e.standing ≡ here → e.down ≡ letter ∷ rest
-            → IsSpentBy (plays p (gets conn)) (staged A.exporter R.follower (inner_of self.old.carrier.bus) self.old.carrier.posts.items self.old.carrier.at_end.items self.old.cast.registry self.old.cast.apps.items self.old.cast.readers.items (length self.old.kits.items) (length self.old.spares.items) self.old.carrier.trace.items) (staged A.exporter R.follower (inner_of self.new.carrier.bus) self.new.carrier.posts.items self.new.carrier.at_end.items self.new.cast.registry self.new.cast.apps.items self.new.cast.readers.items (length self.new.kits.items) (length self.new.spares.items) self.new.carrier.trace.items) }
+        requires stage { IsStage A.is_app R.is_follower A.is_kit A.is_spare self.old }
+        ensures stage { OnOk result (IsStage A.is_app R.is_follower A.is_kit A.is_spare self.new) }
+        ensures does { OnOk result ((p : Playing) (e : End) (letter : Letter) (rest : List Letter) → IsPlaying p (staged A.exporter R.follower self.old) → end_at p.world.ends conn ≡ Some e → e.standing ≡ here → e.down ≡ letter ∷ rest
+            → Happens (plays p (gets conn)) (staged A.exporter R.follower self.old) (staged A.exporter R.follower self.new)) }
+        ensures spent { IsErrOf result CarryFault.Spent → (p : Playing) (e : End) (letter : Letter) (rest : List Letter) → IsPlaying p (staged A.exporter R.follower self.old) → end_at p.world.ends conn ≡ Some e → e.standing ≡ here → e.down ≡ letter ∷ rest
+            → IsSpentBy (plays p (gets conn)) (staged A.exporter R.follower self.old) (staged A.exporter R.follower self.new) }
         ensures calm { IsErrOf result CarryFault.RegistryLost → ⊥ }
     {
         self.carrier.fill(conn, usize::MAX)?;

@@ -1,7 +1,6 @@
 //! What a reader shows of an application.
 
-ghost use Rattle.std.specs.Prelude.{◌≡◌, ℕ, map, length, slice_get, Some, OnOk};
-ghost use Rattle.atspi_bus_steps.specs.Inner.{inner_of, state_of};
+ghost use Rattle.std.specs.Prelude.{◌≡◌, ℕ, map, slice_get, Some, OnOk};
 ghost use Rattle.atspi_lines.specs.declared.line.Party.TheVariants as parties;
 ghost use Rattle.atspi_trace.specs.Ends.{conn_of};
 ghost use Rattle.atspi_trace.specs.Causes.{shows};
@@ -10,7 +9,7 @@ ghost use Rattle.atspi_play.specs.Plays.{plays};
 ghost use Rattle.atspi_cast.specs.Places as places;
 ghost use Rattle.atspi_cast.specs.Shown.{shown_by, row_total};
 ghost use Rattle.atspi_cast.specs.Wires.{name_if};
-ghost use Rattle.atspi_stage.specs.Stage.{IsStage};
+ghost use Rattle.atspi_stage.specs.Stage.{IsStage, posts_of, readers_of};
 ghost use Rattle.atspi_stage.specs.Worlds.{staged, Happens, IsPlaying};
 
 use crate::stage::Stage;
@@ -24,8 +23,8 @@ use atspi_stage_ends::{Application, Follower};
 impl<A: Application, R: Follower> Stage<A, R> {
     /// How many rows a reader holds of an application, 0 where it does not hold it or one of them was not started. Takes no memory.
     pub fn row_count(&self, reader: u32, app: u32) -> usize
-        requires stage { IsStage A.is_app R.is_follower A.is_kit A.is_spare self.now.cast.apps.items self.now.cast.readers.items self.now.kits.items self.now.spares.items (state_of self.now.carrier.bus) }
-        ensures { result ≡ row_total (shown_by (slice_get (map R.follower self.now.cast.readers.items) reader) (name_if (places.post_of (parties.App app) self.now.carrier.posts.items))) }
+        requires stage { IsStage A.is_app R.is_follower A.is_kit A.is_spare self.now }
+        ensures { result ≡ row_total (shown_by (slice_get (map R.follower (readers_of self.now)) reader) (name_if (places.post_of (parties.App app) (posts_of self.now)))) }
     {
         match post_of(&self.carrier.posts, Party::App(app)) {
             Some(post) => count_at(&self.cast.readers, reader, post),
@@ -35,10 +34,10 @@ impl<A: Application, R: Follower> Stage<A, R> {
 
     /// A reader shows what it holds of the application at a connection.
     pub(crate) fn show(&mut self, reader: u32, app: u32, conn: u32) -> Result<(), NoMemory>
-        requires stage { IsStage A.is_app R.is_follower A.is_kit A.is_spare self.old.cast.apps.items self.old.cast.readers.items self.old.kits.items self.old.spares.items (state_of self.old.carrier.bus) }
-        ensures stage { IsStage A.is_app R.is_follower A.is_kit A.is_spare self.new.cast.apps.items self.new.cast.readers.items self.new.kits.items self.new.spares.items (state_of self.new.carrier.bus) }
-        ensures shows { OnOk result ((p : Playing) (at : ℕ) → IsPlaying p (staged A.exporter R.follower (inner_of self.old.carrier.bus) self.old.carrier.posts.items self.old.carrier.at_end.items self.old.cast.registry self.old.cast.apps.items self.old.cast.readers.items (length self.old.kits.items) (length self.old.spares.items) self.old.carrier.trace.items) → conn_of p.world.ends (parties.App app) ≡ Some conn → conn_of p.world.ends (parties.Reader reader) ≡ Some at
-            → Happens (plays p (shows at app)) (staged A.exporter R.follower (inner_of self.old.carrier.bus) self.old.carrier.posts.items self.old.carrier.at_end.items self.old.cast.registry self.old.cast.apps.items self.old.cast.readers.items (length self.old.kits.items) (length self.old.spares.items) self.old.carrier.trace.items) (staged A.exporter R.follower (inner_of self.new.carrier.bus) self.new.carrier.posts.items self.new.carrier.at_end.items self.new.cast.registry self.new.cast.apps.items self.new.cast.readers.items (length self.new.kits.items) (length self.new.spares.items) self.new.carrier.trace.items)) }
+        requires stage { IsStage A.is_app R.is_follower A.is_kit A.is_spare self.old }
+        ensures stage { IsStage A.is_app R.is_follower A.is_kit A.is_spare self.new }
+        ensures shows { OnOk result ((p : Playing) (at : ℕ) → IsPlaying p (staged A.exporter R.follower self.old) → conn_of p.world.ends (parties.App app) ≡ Some conn → conn_of p.world.ends (parties.Reader reader) ≡ Some at
+            → Happens (plays p (shows at app)) (staged A.exporter R.follower self.old) (staged A.exporter R.follower self.new)) }
     {
         let conn = conn as usize;
         if conn >= self.carrier.posts.len() {

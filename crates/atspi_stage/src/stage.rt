@@ -2,6 +2,7 @@
 
 ghost use Rattle.std.specs.Prelude.{◌≡◌, slice_get};
 ghost use Rattle.std.specs.Option.{option_copied};
+ghost use Rattle.atspi_stage.specs.Stage.{trace_of, apps_of, readers_of};
 
 use atspi_carrying::Carrier;
 use atspi_cast::Cast;
@@ -22,7 +23,7 @@ pub struct Stage<A: Application, R: Follower> {
 impl<A: Application, R: Follower> Stage<A, R> {
     /// All that happened, the oldest first.
     pub fn trace(&self) -> &[Event]
-        ensures { result.now ≡ self.now.carrier.trace.items }
+        ensures { result.now ≡ trace_of self.now }
     {
         &self.carrier.trace
     }
@@ -30,14 +31,14 @@ impl<A: Application, R: Follower> Stage<A, R> {
     /// The reader with this number, counted from 0 in order of starting, as it is, or as it was when it stopped. None exactly where none of that
     /// number was started. Takes no memory.
     pub fn reader(&self, reader: u32) -> Option<&R>
-        ensures { option_copied result ≡ slice_get self.now.cast.readers.items reader }
+        ensures { option_copied result ≡ slice_get (readers_of self.now) reader }
     {
         self.cast.readers.get(reader as usize)
     }
 
     /// The application with this number, in the same way.
     pub fn app(&self, app: u32) -> Option<&A>
-        ensures { option_copied result ≡ slice_get self.now.cast.apps.items app }
+        ensures { option_copied result ≡ slice_get (apps_of self.now) app }
     {
         self.cast.apps.get(app as usize)
     }

@@ -1,6 +1,6 @@
 //! The beginning of a world, and the starts of ends.
 
-ghost use Rattle.std.specs.Prelude.{◌≡◌, ◌<◌, ◌≤◌, ℕ, suc, [], length, All, IfOk, IsErrOf, OnOk};
+ghost use Rattle.std.specs.Prelude.{◌≡◌, ◌<◌, ◌≤◌, ℕ, [], length, All, IfOk, IsErrOf, OnOk};
 ghost use Rattle.atspi_forest.specs.Row.{IsName};
 ghost use Rattle.atspi_lines.specs.declared.limits.TheConstants.{APP_COUNT, QUOTA_LEAST, QUOTA_MOST};
 ghost use Rattle.atspi_protocol.specs.registering.RegistryState.{begins};
@@ -14,8 +14,8 @@ ghost use Rattle.atspi_trace.specs.Causes.{renews, starts_app, starts_reader};
 ghost use Rattle.atspi_trace.specs.Work.{spare_count};
 ghost use Rattle.atspi_carrying.specs.Beginning.{IsHeard};
 ghost use Rattle.atspi_stage.specs.Hearing.{HearsAll};
-ghost use Rattle.atspi_stage.specs.Stage.{IsStage};
-ghost use Rattle.atspi_stage.specs.Worlds.{staged, Happens, IsBegun, IsPlaying};
+ghost use Rattle.atspi_stage.specs.Stage.{IsStage, trace_of};
+ghost use Rattle.atspi_stage.specs.Worlds.{staged, Happens, IsBegun, IsPlaying, with_kit};
 
 use crate::stage::Stage;
 use atspi_base::Text;
@@ -59,10 +59,10 @@ impl<A: Application, R: Follower> Stage<A, R> {
     ) -> Result<Stage<A, R>, CarryFault>
         requires kits { All A.is_kit kits.items }
         requires spares { All A.is_spare spares.items }
-        ensures stage { IfOk result (λ stage. IsStage A.is_app R.is_follower A.is_kit A.is_spare stage.cast.apps.items stage.cast.readers.items stage.kits.items stage.spares.items (state_of stage.carrier.bus)) }
+        ensures stage { IfOk result (λ stage. IsStage A.is_app R.is_follower A.is_kit A.is_spare stage) }
         ensures begins { IfOk result (λ stage. length kits.items ≡ APP_COUNT → length spares.items ≡ spare_count
-            → IsPlaying (first_playing QUOTA_MOST) (staged A.exporter R.follower (inner_of stage.carrier.bus) stage.carrier.posts.items stage.carrier.at_end.items stage.cast.registry stage.cast.apps.items stage.cast.readers.items (length stage.kits.items) (length stage.spares.items) stage.carrier.trace.items)) }
-        ensures silent { IfOk result (λ stage. stage.carrier.trace.items ≡ []) }
+            → IsPlaying (first_playing QUOTA_MOST) (staged A.exporter R.follower stage)) }
+        ensures silent { IfOk result (λ stage. trace_of stage ≡ []) }
         ensures calm { (IsErrOf result CarryFault.Spent → ⊥) × (IsErrOf result CarryFault.RegistryLost → ⊥) }
     {
         let mut stage = Stage {
@@ -82,8 +82,8 @@ impl<A: Application, R: Follower> Stage<A, R> {
     /// The registry joins the bus and starts, and nothing of that is told. Unsendable for any other fault than want of memory: over a quota of 1,024
     /// bytes or more neither does the bus drop the registry at its start, nor does one of them spend its serials, though no clause says so.
     fn begin(&mut self) -> Result<(), CarryFault>
-        requires stage { IsStage A.is_app R.is_follower A.is_kit A.is_spare self.old.cast.apps.items self.old.cast.readers.items self.old.kits.items self.old.spares.items (state_of self.old.carrier.bus) }
-        ensures stage { OnOk result (IsStage A.is_app R.is_follower A.is_kit A.is_spare self.new.cast.apps.items self.new.cast.readers.items self.new.kits.items self.new.spares.items (state_of self.new.carrier.bus)) }
+        requires stage { IsStage A.is_app R.is_follower A.is_kit A.is_spare self.old }
+        ensures stage { OnOk result (IsStage A.is_app R.is_follower A.is_kit A.is_spare self.new) }
         ensures ends { (self.new.cast.apps ≡ self.old.cast.apps) × (self.new.cast.readers ≡ self.old.cast.readers) }
         ensures left { (self.new.kits ≡ self.old.kits) × (self.new.spares ≡ self.old.spares) }
         ensures calm { (IsErrOf result CarryFault.Spent → ⊥) × (IsErrOf result CarryFault.RegistryLost → ⊥) }
@@ -99,8 +99,8 @@ impl<A: Application, R: Follower> Stage<A, R> {
 
     /// The same, with what the registry's calls and the bus come to.
     fn join_registry(&mut self) -> Result<(), CarryFault>
-        requires stage { IsStage A.is_app R.is_follower A.is_kit A.is_spare self.old.cast.apps.items self.old.cast.readers.items self.old.kits.items self.old.spares.items (state_of self.old.carrier.bus) }
-        ensures stage { OnOk result (IsStage A.is_app R.is_follower A.is_kit A.is_spare self.new.cast.apps.items self.new.cast.readers.items self.new.kits.items self.new.spares.items (state_of self.new.carrier.bus)) }
+        requires stage { IsStage A.is_app R.is_follower A.is_kit A.is_spare self.old }
+        ensures stage { OnOk result (IsStage A.is_app R.is_follower A.is_kit A.is_spare self.new) }
         ensures ends { (self.new.cast.apps ≡ self.old.cast.apps) × (self.new.cast.readers ≡ self.old.cast.readers) }
         ensures left { (self.new.kits ≡ self.old.kits) × (self.new.spares ≡ self.old.spares) }
         ensures begins { OnOk result ((quota : ℕ) → QUOTA_LEAST ≤ quota → quota ≤ QUOTA_MOST → inner_of self.old.carrier.bus ≡ empty_bus quota → self.old.carrier.posts.items ≡ [] → self.old.carrier.at_end.items ≡ [] → self.old.cast.registry ≡ record { state = begins; out = [] }
@@ -122,9 +122,9 @@ impl<A: Application, R: Follower> Stage<A, R> {
 
     /// The bus and the registry are made anew with this quota.
     pub(crate) fn renew(&mut self, quota: u32) -> Result<(), CarryFault>
-        requires stage { IsStage A.is_app R.is_follower A.is_kit A.is_spare self.old.cast.apps.items self.old.cast.readers.items self.old.kits.items self.old.spares.items (state_of self.old.carrier.bus) }
-        ensures stage { OnOk result (IsStage A.is_app R.is_follower A.is_kit A.is_spare self.new.cast.apps.items self.new.cast.readers.items self.new.kits.items self.new.spares.items (state_of self.new.carrier.bus)) }
-        ensures does { OnOk result ((p : Playing) → QUOTA_LEAST ≤ quota → quota ≤ QUOTA_MOST → IsPlaying p (staged A.exporter R.follower (inner_of self.old.carrier.bus) self.old.carrier.posts.items self.old.carrier.at_end.items self.old.cast.registry self.old.cast.apps.items self.old.cast.readers.items (length self.old.kits.items) (length self.old.spares.items) self.old.carrier.trace.items) → length p.world.ends ≤ 1 → Happens (plays p (renews quota)) (staged A.exporter R.follower (inner_of self.old.carrier.bus) self.old.carrier.posts.items self.old.carrier.at_end.items self.old.cast.registry self.old.cast.apps.items self.old.cast.readers.items (length self.old.kits.items) (length self.old.spares.items) self.old.carrier.trace.items) (staged A.exporter R.follower (inner_of self.new.carrier.bus) self.new.carrier.posts.items self.new.carrier.at_end.items self.new.cast.registry self.new.cast.apps.items self.new.cast.readers.items (length self.new.kits.items) (length self.new.spares.items) self.new.carrier.trace.items)) }
+        requires stage { IsStage A.is_app R.is_follower A.is_kit A.is_spare self.old }
+        ensures stage { OnOk result (IsStage A.is_app R.is_follower A.is_kit A.is_spare self.new) }
+        ensures does { OnOk result ((p : Playing) → QUOTA_LEAST ≤ quota → quota ≤ QUOTA_MOST → IsPlaying p (staged A.exporter R.follower self.old) → length p.world.ends ≤ 1 → Happens (plays p (renews quota)) (staged A.exporter R.follower self.old) (staged A.exporter R.follower self.new)) }
         ensures calm { (IsErrOf result CarryFault.Spent → ⊥) × (IsErrOf result CarryFault.RegistryLost → ⊥) }
     {
         self.carrier.renew(quota);
@@ -135,9 +135,9 @@ impl<A: Application, R: Follower> Stage<A, R> {
     /// An application starts, with the name of its root, where a kit is left.
     pub(crate) fn start_app(&mut self, name: &Text) -> Result<(), CarryFault>
         requires name { IsName name.now }
-        requires stage { IsStage A.is_app R.is_follower A.is_kit A.is_spare self.old.cast.apps.items self.old.cast.readers.items self.old.kits.items self.old.spares.items (state_of self.old.carrier.bus) }
-        ensures stage { OnOk result (IsStage A.is_app R.is_follower A.is_kit A.is_spare self.new.cast.apps.items self.new.cast.readers.items self.new.kits.items self.new.spares.items (state_of self.new.carrier.bus)) }
-        ensures does { OnOk result ((p : Playing) → IsPlaying p (staged A.exporter R.follower (inner_of self.old.carrier.bus) self.old.carrier.posts.items self.old.carrier.at_end.items self.old.cast.registry self.old.cast.apps.items self.old.cast.readers.items (length self.old.kits.items) (length self.old.spares.items) self.old.carrier.trace.items) → app_count p.world.ends < 16 → Happens (plays p (starts_app name.now)) (staged A.exporter R.follower (inner_of self.old.carrier.bus) self.old.carrier.posts.items self.old.carrier.at_end.items self.old.cast.registry self.old.cast.apps.items self.old.cast.readers.items (length self.old.kits.items) (length self.old.spares.items) self.old.carrier.trace.items) (staged A.exporter R.follower (inner_of self.new.carrier.bus) self.new.carrier.posts.items self.new.carrier.at_end.items self.new.cast.registry self.new.cast.apps.items self.new.cast.readers.items (length self.new.kits.items) (length self.new.spares.items) self.new.carrier.trace.items)) }
+        requires stage { IsStage A.is_app R.is_follower A.is_kit A.is_spare self.old }
+        ensures stage { OnOk result (IsStage A.is_app R.is_follower A.is_kit A.is_spare self.new) }
+        ensures does { OnOk result ((p : Playing) → IsPlaying p (staged A.exporter R.follower self.old) → app_count p.world.ends < 16 → Happens (plays p (starts_app name.now)) (staged A.exporter R.follower self.old) (staged A.exporter R.follower self.new)) }
         ensures calm { (IsErrOf result CarryFault.Spent → ⊥) × (IsErrOf result CarryFault.RegistryLost → ⊥) }
     {
         match self.kits.pop() {
@@ -148,12 +148,12 @@ impl<A: Application, R: Follower> Stage<A, R> {
 
     /// An application starts over a kit.
     fn add_app(&mut self, name: &Text, kit: A::Kit) -> Result<(), CarryFault>
-        requires stage { IsStage A.is_app R.is_follower A.is_kit A.is_spare self.old.cast.apps.items self.old.cast.readers.items self.old.kits.items self.old.spares.items (state_of self.old.carrier.bus) }
+        requires stage { IsStage A.is_app R.is_follower A.is_kit A.is_spare self.old }
         requires name { IsName name.now }
         requires kit { A.is_kit kit }
-        ensures stage { OnOk result (IsStage A.is_app R.is_follower A.is_kit A.is_spare self.new.cast.apps.items self.new.cast.readers.items self.new.kits.items self.new.spares.items (state_of self.new.carrier.bus)) }
-        ensures does { OnOk result ((p : Playing) → IsPlaying p (staged A.exporter R.follower (inner_of self.old.carrier.bus) self.old.carrier.posts.items self.old.carrier.at_end.items self.old.cast.registry self.old.cast.apps.items self.old.cast.readers.items (suc (length self.old.kits.items)) (length self.old.spares.items) self.old.carrier.trace.items)
-            → Happens (plays p (starts_app name.now)) (staged A.exporter R.follower (inner_of self.old.carrier.bus) self.old.carrier.posts.items self.old.carrier.at_end.items self.old.cast.registry self.old.cast.apps.items self.old.cast.readers.items (length self.old.kits.items) (length self.old.spares.items) self.old.carrier.trace.items) (staged A.exporter R.follower (inner_of self.new.carrier.bus) self.new.carrier.posts.items self.new.carrier.at_end.items self.new.cast.registry self.new.cast.apps.items self.new.cast.readers.items (length self.new.kits.items) (length self.new.spares.items) self.new.carrier.trace.items)) }
+        ensures stage { OnOk result (IsStage A.is_app R.is_follower A.is_kit A.is_spare self.new) }
+        ensures does { OnOk result ((p : Playing) → IsPlaying p (with_kit (staged A.exporter R.follower self.old))
+            → Happens (plays p (starts_app name.now)) (staged A.exporter R.follower self.old) (staged A.exporter R.follower self.new)) }
         ensures calm { (IsErrOf result CarryFault.Spent → ⊥) × (IsErrOf result CarryFault.RegistryLost → ⊥) }
     {
         let alloc = self.carrier.alloc;
@@ -185,9 +185,9 @@ impl<A: Application, R: Follower> Stage<A, R> {
 
     /// A reader starts.
     pub(crate) fn start_reader(&mut self) -> Result<(), CarryFault>
-        requires stage { IsStage A.is_app R.is_follower A.is_kit A.is_spare self.old.cast.apps.items self.old.cast.readers.items self.old.kits.items self.old.spares.items (state_of self.old.carrier.bus) }
-        ensures stage { OnOk result (IsStage A.is_app R.is_follower A.is_kit A.is_spare self.new.cast.apps.items self.new.cast.readers.items self.new.kits.items self.new.spares.items (state_of self.new.carrier.bus)) }
-        ensures does { OnOk result ((p : Playing) → IsPlaying p (staged A.exporter R.follower (inner_of self.old.carrier.bus) self.old.carrier.posts.items self.old.carrier.at_end.items self.old.cast.registry self.old.cast.apps.items self.old.cast.readers.items (length self.old.kits.items) (length self.old.spares.items) self.old.carrier.trace.items) → reader_count p.world.ends < 4 → Happens (plays p starts_reader) (staged A.exporter R.follower (inner_of self.old.carrier.bus) self.old.carrier.posts.items self.old.carrier.at_end.items self.old.cast.registry self.old.cast.apps.items self.old.cast.readers.items (length self.old.kits.items) (length self.old.spares.items) self.old.carrier.trace.items) (staged A.exporter R.follower (inner_of self.new.carrier.bus) self.new.carrier.posts.items self.new.carrier.at_end.items self.new.cast.registry self.new.cast.apps.items self.new.cast.readers.items (length self.new.kits.items) (length self.new.spares.items) self.new.carrier.trace.items)) }
+        requires stage { IsStage A.is_app R.is_follower A.is_kit A.is_spare self.old }
+        ensures stage { OnOk result (IsStage A.is_app R.is_follower A.is_kit A.is_spare self.new) }
+        ensures does { OnOk result ((p : Playing) → IsPlaying p (staged A.exporter R.follower self.old) → reader_count p.world.ends < 4 → Happens (plays p starts_reader) (staged A.exporter R.follower self.old) (staged A.exporter R.follower self.new)) }
         ensures calm { (IsErrOf result CarryFault.Spent → ⊥) × (IsErrOf result CarryFault.RegistryLost → ⊥) }
     {
         let Ok(number) = u32::try_from(self.cast.readers.len()) else {

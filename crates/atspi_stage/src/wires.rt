@@ -2,6 +2,7 @@
 
 ghost use Rattle.std.specs.Prelude.{◌≡◌, ◌++◌, slice_get, OnOk, OnErr};
 ghost use Rattle.atspi_cast.specs.Wires.{wire_bytes};
+ghost use Rattle.atspi_stage.specs.Stage.{posts_of, trace_of};
 
 use crate::stage::Stage;
 use atspi_base::Bytes;
@@ -15,7 +16,7 @@ impl<A: Application, R: Follower> Stage<A, R> {
     /// the event back. Nothing for an event other than Sent and Got, and where there is no such event or message. After a fault nothing was appended:
     /// Unsendable where the message breaks a rule, or passes the limits of the wire with that sender.
     pub fn wire(&self, event: usize, out: &mut Bytes) -> Result<(), CarryFault>
-        ensures ok { OnOk result (out.new ≡ out.old ++ wire_bytes self.now.carrier.posts.items self.now.carrier.trace.items event (slice_get self.now.carrier.trace.items event)) }
+        ensures ok { OnOk result (out.new ≡ out.old ++ wire_bytes (posts_of self.now) (trace_of self.now) event (slice_get (trace_of self.now) event)) }
         ensures err { OnErr result (out.new ≡ out.old) }
     {
         match write_event(

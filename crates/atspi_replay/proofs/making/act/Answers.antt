@@ -1,5 +1,4 @@
-use Rattle.std.proofs.Common.{ap, length, Result, Err}
-use Rattle.atspi_bus_steps.specs.Inner.{inner_of}
+use Rattle.std.proofs.Common.{ap, Result, Err}
 use Rattle.atspi_stage.specs.declared.fault.ActFault.{ActFault}
 use Rattle.atspi_stage.specs.Worlds.{staged}
 use Rattle.atspi_replay.proofs.Stopping.{act_stops}
@@ -13,5 +12,5 @@ returns-in-Err-clause-stops g c =
     let w = c.act.new.self in
     rw c.stop_of_act.ensures.value
     (act_stops c.in-Err.fault c.args.line.now _
-    (staged g.A.Application.exporter g.R.Follower.follower (inner_of w.carrier.bus) w.carrier.posts.items w.carrier.at_end.items w.cast.registry w.cast.apps.items w.cast.readers.items (length w.kits.items) (length w.spares.items) w.carrier.trace.items)
+    (staged g.A.Application.exporter g.R.Follower.follower w)
     c.requires.may (λ why e. c.in-Err.ensures.refused why (ap failed e)) (λ e. c.in-Err.ensures.lost (ap failed e)) (λ e. c.in-Err.ensures.spent (ap failed e)) (rw c.trace.ensures at c.all_fit.ensures))

@@ -1,8 +1,7 @@
-use Rattle.std.proofs.Common.{ap, length, refl, sym, subst, ◌∙◌}
+use Rattle.std.proofs.Common.{ap, refl, sym, subst, ◌∙◌}
 use Rattle.atspi_tree.specs.TreeShape.{TreeShape}
 use Rattle.atspi_make.specs.Drawing.{drawn_edit}
 use Rattle.atspi_make.specs.Live.{CanFollow}
-use Rattle.atspi_bus_steps.specs.Inner.{inner_of}
 use Rattle.atspi_stage.specs.Worlds.{staged}
 use Rattle.atspi_trace.specs.Entry.{entries_of}
 use Rattle.atspi_replay.specs.Made.{tree_told}
@@ -38,5 +37,5 @@ pub returns-in_default-clause-stops : goal.returns-in_default-clause-stops
 returns-in_default-clause-stops g c =
     let w = c.args.world.now in
     none_drawn_of g.A.Application.exporter w.cast.apps.items (tree_told (entries_of w.carrier.trace.items)) c.args.number c.args.draws.now.state
-    (staged g.A.Application.exporter g.R.Follower.follower (inner_of w.carrier.bus) w.carrier.posts.items w.carrier.at_end.items w.cast.registry w.cast.apps.items w.cast.readers.items (length w.kits.items) (length w.spares.items) w.carrier.trace.items)
+    (staged g.A.Application.exporter g.R.Follower.follower w)
     refl c.in_default.ensures

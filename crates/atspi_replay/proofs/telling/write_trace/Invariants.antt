@@ -1,4 +1,5 @@
 use Rattle.std.proofs.Common.{◌≡◌}
+use Rattle.atspi_stage.specs.Stage.{trace_of, posts_of}
 use Rattle.atspi_replay.specs.Told.{told_from}
 use Rattle.atspi_replay.proofs.Pending.{Pending}
 use Rattle.atspi_replay.proofs.telling.write_trace.Given as goal
@@ -7,7 +8,7 @@ abbrev pub invariant-loop-place : goal.invariant-loop-place
 invariant-loop-place g l =
     record {
       told :
-          Pending l.options (g.K.Sink.written l.fn.sink) (g.K.Sink.written l.sink) l.text (told_from l.world.carrier.posts.items l.world.carrier.trace.items l.place)
-          (told_from l.world.carrier.posts.items l.world.carrier.trace.items l.from);
+          Pending l.options (g.K.Sink.written l.fn.sink) (g.K.Sink.written l.sink) l.text (told_from (posts_of l.world) (trace_of l.world) l.place)
+          (told_from (posts_of l.world) (trace_of l.world) l.from);
       steady : g.K.Sink.faults l.sink ≡ g.K.Sink.faults l.fn.sink;
     }

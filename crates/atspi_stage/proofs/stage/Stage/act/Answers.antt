@@ -1,5 +1,4 @@
-use Rattle.std.proofs.Common.{◌++◌, length, refl, ap, ◌∙◌}
-use Rattle.atspi_bus_steps.specs.Inner.{inner_of}
+use Rattle.std.proofs.Common.{◌++◌, refl, ap, ◌∙◌}
 use Rattle.atspi_carrying.proofs.Rejoining.{told_ok, told_err}
 use Rattle.atspi_stage.specs.Stage.{gives_line_up}
 use Rattle.atspi_stage.specs.Worlds.{staged}
@@ -14,10 +13,8 @@ pub returns-clause-does : goal.returns-clause-does
 returns-clause-does g c =
     let s = c.args.self.now in
     let did = c.act_apart-done.new.self in
-    let old = staged g.A.Application.exporter g.R.Follower.follower (inner_of s.carrier.bus) s.carrier.posts.items s.carrier.at_end.items s.cast.registry s.cast.apps.items s.cast.readers.items (length s.kits.items)
-    (length s.spares.items) s.carrier.trace.items in
-    let after = staged g.A.Application.exporter g.R.Follower.follower (inner_of did.carrier.bus) did.carrier.posts.items did.carrier.at_end.items did.cast.registry did.cast.apps.items did.cast.readers.items
-    (length did.kits.items) (length did.spares.items) did.carrier.trace.items in
+    let old = staged g.A.Application.exporter g.R.Follower.follower s in
+    let after = staged g.A.Application.exporter g.R.Follower.follower did in
     told_ok gives_line_up c.rejoin.result c.act_apart-done.result c.rejoin.ensures.told c.act_apart-done.ensures.does
     (λ done more. line_done_on c.args.line.now old after c.apart-before.new.trace.items c.rejoin.new.trace.items c.apart-before.ensures.none (more ∙ ap (λ l. l ++ did.carrier.trace.items) c.apart-before.ensures.before) done)
 
@@ -34,10 +31,8 @@ pub returns-clause-nothing : goal.returns-clause-nothing
 returns-clause-nothing g c = λ why is.
     let s = c.args.self.now in
     let did = c.act_apart-done.new.self in
-    let old = staged g.A.Application.exporter g.R.Follower.follower (inner_of s.carrier.bus) s.carrier.posts.items s.carrier.at_end.items s.cast.registry s.cast.apps.items s.cast.readers.items (length s.kits.items)
-    (length s.spares.items) s.carrier.trace.items in
-    let after = staged g.A.Application.exporter g.R.Follower.follower (inner_of did.carrier.bus) did.carrier.posts.items did.carrier.at_end.items did.cast.registry did.cast.apps.items did.cast.readers.items
-    (length did.kits.items) (length did.spares.items) did.carrier.trace.items in
+    let old = staged g.A.Application.exporter g.R.Follower.follower s in
+    let after = staged g.A.Application.exporter g.R.Follower.follower did in
     let so = told_err gives_line_up c.rejoin.result c.act_apart-done.result (Refused why) refl c.rejoin.ensures.told is in
     let more = so.1 in
     nothing_on c.args.line.now old after c.apart-before.new.trace.items c.rejoin.new.trace.items c.apart-before.ensures.none (more ∙ ap (λ l. l ++ did.carrier.trace.items) c.apart-before.ensures.before) (c.act_apart-done.ensures.nothing why so.0)
@@ -46,10 +41,8 @@ pub returns-clause-lost : goal.returns-clause-lost
 returns-clause-lost g c = λ is.
     let s = c.args.self.now in
     let did = c.act_apart-done.new.self in
-    let old = staged g.A.Application.exporter g.R.Follower.follower (inner_of s.carrier.bus) s.carrier.posts.items s.carrier.at_end.items s.cast.registry s.cast.apps.items s.cast.readers.items (length s.kits.items)
-    (length s.spares.items) s.carrier.trace.items in
-    let after = staged g.A.Application.exporter g.R.Follower.follower (inner_of did.carrier.bus) did.carrier.posts.items did.carrier.at_end.items did.cast.registry did.cast.apps.items did.cast.readers.items
-    (length did.kits.items) (length did.spares.items) did.carrier.trace.items in
+    let old = staged g.A.Application.exporter g.R.Follower.follower s in
+    let after = staged g.A.Application.exporter g.R.Follower.follower did in
     let so = told_err gives_line_up c.rejoin.result c.act_apart-done.result RegistryLost refl c.rejoin.ensures.told is in
     let more = so.1 in
     line_lost_on c.args.line.now old after c.apart-before.new.trace.items c.rejoin.new.trace.items c.apart-before.ensures.none (more ∙ ap (λ l. l ++ did.carrier.trace.items) c.apart-before.ensures.before) (c.act_apart-done.ensures.lost so.0)
@@ -58,10 +51,8 @@ pub returns-clause-spent : goal.returns-clause-spent
 returns-clause-spent g c = λ is.
     let s = c.args.self.now in
     let did = c.act_apart-done.new.self in
-    let old = staged g.A.Application.exporter g.R.Follower.follower (inner_of s.carrier.bus) s.carrier.posts.items s.carrier.at_end.items s.cast.registry s.cast.apps.items s.cast.readers.items (length s.kits.items)
-    (length s.spares.items) s.carrier.trace.items in
-    let after = staged g.A.Application.exporter g.R.Follower.follower (inner_of did.carrier.bus) did.carrier.posts.items did.carrier.at_end.items did.cast.registry did.cast.apps.items did.cast.readers.items
-    (length did.kits.items) (length did.spares.items) did.carrier.trace.items in
+    let old = staged g.A.Application.exporter g.R.Follower.follower s in
+    let after = staged g.A.Application.exporter g.R.Follower.follower did in
     let so = told_err gives_line_up c.rejoin.result c.act_apart-done.result Spent refl c.rejoin.ensures.told is in
     let more = so.1 in
     line_spent_on c.args.line.now old after c.apart-before.new.trace.items c.rejoin.new.trace.items c.apart-before.ensures.none (more ∙ ap (λ l. l ++ did.carrier.trace.items) c.apart-before.ensures.before) (c.act_apart-done.ensures.spent so.0)

@@ -1,5 +1,4 @@
-use Rattle.std.proofs.Common.{◌≡◌, ◌+◌, ◌≤◌, Some, length}
-use Rattle.atspi_bus_steps.specs.Inner.{inner_of, state_of}
+use Rattle.std.proofs.Common.{◌≡◌, ◌+◌, ◌≤◌, Some}
 use Rattle.atspi_play.specs.Playing.{Playing}
 use Rattle.atspi_trace.specs.World.{here, End}
 use Rattle.atspi_trace.specs.Ends.{end_at}
@@ -11,11 +10,9 @@ use Rattle.atspi_stage.proofs.stage.Stage.move_down.Given as goal
 -- so many bytes are left, and each message that was taken had one at least
 abbrev pub invariant-loop-message : goal.invariant-loop-message
 invariant-loop-message g l =
-    let before = staged g.A.Application.exporter g.R.Follower.follower (inner_of l.initial.self.carrier.bus) l.initial.self.carrier.posts.items l.initial.self.carrier.at_end.items l.initial.self.cast.registry
-    l.initial.self.cast.apps.items l.initial.self.cast.readers.items (length l.initial.self.kits.items) (length l.initial.self.spares.items) l.initial.self.carrier.trace.items in
-    let now = staged g.A.Application.exporter g.R.Follower.follower (inner_of l.self.carrier.bus) l.self.carrier.posts.items l.self.carrier.at_end.items l.self.cast.registry l.self.cast.apps.items l.self.cast.readers.items
-    (length l.self.kits.items) (length l.self.spares.items) l.self.carrier.trace.items in
+    let before = staged g.A.Application.exporter g.R.Follower.follower l.initial.self in
+    let now = staged g.A.Application.exporter g.R.Follower.follower l.self in
     record {
-      stage : IsStage g.A.Application.is_app g.R.Follower.is_follower g.A.Application.is_kit g.A.Application.is_spare l.self.cast.apps.items l.self.cast.readers.items l.self.kits.items l.self.spares.items (state_of l.self.carrier.bus);
+      stage : IsStage g.A.Application.is_app g.R.Follower.is_follower g.A.Application.is_kit g.A.Application.is_spare l.self;
       moved : (p : Playing) (e : End) → IsPlaying p before → end_at p.world.ends l.conn ≡ Some e → e.standing ≡ here → (l.left + l._message ≤ l.most) × MovedSoFar p l.conn l.most l.left before now;
     }

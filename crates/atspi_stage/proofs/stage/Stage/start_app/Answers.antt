@@ -1,6 +1,5 @@
 use Rattle.std.proofs.Common.{◌≡◌, suc, length, subst, arith}
 use Rattle.std.proofs.lemmas.Result.{on_ok_weaker}
-use Rattle.atspi_bus_steps.specs.Inner.{inner_of}
 use Rattle.atspi_stage.specs.Worlds.{staged, IsPlaying}
 use Rattle.atspi_stage.proofs.stage.Stage.start_app.Goals as goal
 
@@ -10,8 +9,7 @@ returns-in-Some-clause-does g c =
     let more : length s.kits.items ≡ suc (length c.pop.new.self.items) = omega (arith, c.in-Some.ensures) in
     on_ok_weaker c.add_app.result (λ done p is few.
     (let a = done p
-    (subst (λ n. IsPlaying p (staged g.A.Application.exporter g.R.Follower.follower (inner_of s.carrier.bus) s.carrier.posts.items s.carrier.at_end.items s.cast.registry
-    s.cast.apps.items s.cast.readers.items n (length s.spares.items) s.carrier.trace.items)) more is) in
+    (subst (λ n. IsPlaying p (record (staged g.A.Application.exporter g.R.Follower.follower s) { kits = n })) more is) in
     record { is = a.is; wrote = a.wrote })) c.add_app.ensures.does
 
 pub returns-in-None-clause-does : goal.returns-in-None-clause-does

@@ -1,5 +1,4 @@
-use Rattle.std.proofs.Common.{ℕ, length}
-use Rattle.atspi_bus_steps.specs.Inner.{inner_of, state_of}
+use Rattle.std.proofs.Common.{ℕ}
 use Rattle.atspi_play.specs.Playing.{Playing}
 use Rattle.atspi_stage.specs.Stage.{IsStage}
 use Rattle.atspi_stage.specs.Worlds.{staged, IsPlaying}
@@ -9,11 +8,9 @@ use Rattle.atspi_stage.proofs.stage.Stage.turns.Given as goal
 -- so many turns were made
 abbrev pub invariant-loop-turn : goal.invariant-loop-turn
 invariant-loop-turn g l =
-    let before = staged g.A.Application.exporter g.R.Follower.follower (inner_of l.initial.self.carrier.bus) l.initial.self.carrier.posts.items l.initial.self.carrier.at_end.items l.initial.self.cast.registry
-    l.initial.self.cast.apps.items l.initial.self.cast.readers.items (length l.initial.self.kits.items) (length l.initial.self.spares.items) l.initial.self.carrier.trace.items in
-    let now = staged g.A.Application.exporter g.R.Follower.follower (inner_of l.self.carrier.bus) l.self.carrier.posts.items l.self.carrier.at_end.items l.self.cast.registry l.self.cast.apps.items l.self.cast.readers.items
-    (length l.self.kits.items) (length l.self.spares.items) l.self.carrier.trace.items in
+    let before = staged g.A.Application.exporter g.R.Follower.follower l.initial.self in
+    let now = staged g.A.Application.exporter g.R.Follower.follower l.self in
     record {
-      stage : IsStage g.A.Application.is_app g.R.Follower.is_follower g.A.Application.is_kit g.A.Application.is_spare l.self.cast.apps.items l.self.cast.readers.items l.self.kits.items l.self.spares.items (state_of l.self.carrier.bus);
+      stage : IsStage g.A.Application.is_app g.R.Follower.is_follower g.A.Application.is_kit g.A.Application.is_spare l.self;
       turned : (p : Playing) (count : ℕ) → IsPlaying p before → SoFar p count l.most l._turn before now;
     }
