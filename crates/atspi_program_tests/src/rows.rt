@@ -1,594 +1,516 @@
 //! Runs as they were worked out by hand.
 
-/// A run: the words, the input, and what is due.
-pub struct Row {
-    pub name: &'static str,
-    pub words: &'static [&'static str],
-    pub input: &'static str,
-    pub status: u8,
-    pub output: &'static str,
-}
-
-/// The worked runs of scripts.
-pub const ROWS: [Row; 32] = [
-    Row {
-        name: "a button is inserted and renamed",
-        words: &["replay", "--brief"],
-        input: "app \"Demo\"\n\
-reader\n\
-turns 1000\n\
-edit a0 insert 0 0 push-button \"OK\"\n\
-edit a0 name 1 \"Save\"\n\
-show r0 a0\n\
-turns 1000\n\
-show r0 a0\n",
-        status: 0,
-        output: "show r0 a0 1\n\
-| root - -1 application 0000000043000100 \"Demo\" \"\" - - - -\n\
-show r0 a0 2\n\
-| root - -1 application 0000000043000100 \"Demo\" \"\" - - - -\n\
-| 1 root 0 push-button 0000000043000100 \"Save\" \"\" - - - -\n",
-    },
-    Row {
-        name: "an empty input",
-        words: &["replay"],
-        input: "",
-        status: 0,
-        output: "",
-    },
-    Row {
-        name: "nothing but Hello is sent before the start is over",
-        words: &["replay"],
-        input: "app \"Demo\"\n\
-edit a0 insert 0 0 push-button \"OK\"\n\
-edit a0 state 1 focused on\n",
-        status: 0,
-        output: "start a0 \"Demo\"\n\
-sent a0 call l 0 1 path=/org/freedesktop/DBus interface=org.freedesktop.DBus member=Hello destination=org.freedesktop.DBus\n\
-step a0 add 1 0 0 push-button \"OK\"\n\
-step a0 state 1 focused on\n",
-    },
-    Row {
-        name: "the bytes of Hello",
-        words: &["replay", "--wire"],
-        input: "app \"Demo\"\n\
-edit a0 insert 0 0 push-button \"OK\"\n\
-edit a0 state 1 focused on\n",
-        status: 0,
-        output: "start a0 \"Demo\"\n\
-sent a0 call l 0 1 path=/org/freedesktop/DBus interface=org.freedesktop.DBus member=Hello destination=org.freedesktop.DBus\n\
-= 6c01000100000000010000006d00000001016f00150000002f6f72672f667265656465736b746f702f4442757300000002017300140000006f72672e667265656465736b746f702e4442757300000000030173000500000048656c6c6f00000006017300140000006f72672e667265656465736b746f702e4442757300000000\n\
-step a0 add 1 0 0 push-button \"OK\"\n\
-step a0 state 1 focused on\n",
-    },
-    Row {
-        name: "the race: edits behind the question for items",
-        words: &["replay", "--brief"],
-        input: "app \"Demo\"\n\
-drain\n\
-edit a0 insert 0 0 push-button \"One\"\n\
-reader\n\
-turns 44\n\
-edit a0 insert 0 1 push-button \"Two\"\n\
-show r0 a0\n\
-bytes r0 up 1000000\n\
-bytes a0 down 1000000\n\
-edit a0 name 1 \"Uno\"\n\
-bytes a0 up 1000000\n\
-bytes r0 down 1\n\
-turns 1\n\
-show r0 a0\n\
-turns 2\n\
-show r0 a0\n\
-turns 1\n\
-show r0 a0\n",
-        status: 0,
-        output: "quiet\n\
-busy 44\n\
-show r0 a0 none\n\
-busy 1\n\
-show r0 a0 none\n\
-busy 2\n\
-show r0 a0 3\n\
-| root - -1 application 0000000043000100 \"Demo\" \"\" - - - -\n\
-| 1 root 0 push-button 0000000043000100 \"One\" \"\" - - - -\n\
-| 2 root 1 push-button 0000000043000100 \"Two\" \"\" - - - -\n\
-show r0 a0 3\n\
-| root - -1 application 0000000043000100 \"Demo\" \"\" - - - -\n\
-| 1 root 0 push-button 0000000043000100 \"Uno\" \"\" - - - -\n\
-| 2 root 1 push-button 0000000043000100 \"Two\" \"\" - - - -\n",
-    },
-    Row {
-        name: "a node moves to another parent",
-        words: &["replay", "--brief"],
-        input: "app \"T\"\n\
-reader\n\
-drain\n\
-edit a0 insert 0 0 panel \"A\"\n\
-edit a0 insert 0 1 panel \"B\"\n\
-edit a0 insert 1 0 label \"x\"\n\
-drain\n\
-edit a0 move 1 2 0\n\
-bytes a0 up 1000000\n\
-turns 1\n\
-show r0 a0\n\
-turns 1\n\
-show r0 a0\n\
-turns 1\n\
-show r0 a0\n\
-turns 1\n\
-show r0 a0\n\
-edit a0 move 2 0 0\n\
-drain\n",
-        status: 0,
-        output: "quiet\n\
-quiet\n\
-busy 1\n\
-show r0 a0 4\n\
-| root - -1 application 0000000043000100 \"T\" \"\" - - - -\n\
-| 2 root 0 panel 0000000043000100 \"B\" \"\" - - - -\n\
-| 1 2 0 panel 0000000043000100 \"A\" \"\" - - - -\n\
-| 3 1 0 label 0000000043000100 \"x\" \"\" - - - -\n\
-busy 1\n\
-show r0 a0 4\n\
-| root - -1 application 0000000043000100 \"T\" \"\" - - - -\n\
-| 2 root 0 panel 0000000043000100 \"B\" \"\" - - - -\n\
-| 1 2 0 panel 0000000043000100 \"A\" \"\" - - - -\n\
-| 3 1 0 label 0000000043000100 \"x\" \"\" - - - -\n\
-busy 1\n\
-show r0 a0 4\n\
-| root - -1 application 0000000043000100 \"T\" \"\" - - - -\n\
-| 2 root 0 panel 0000000043000100 \"B\" \"\" - - - -\n\
-| 1 2 0 panel 0000000043000100 \"A\" \"\" - - - -\n\
-| 3 1 0 label 0000000043000100 \"x\" \"\" - - - -\n\
-show r0 a0 4\n\
-| root - -1 application 0000000043000100 \"T\" \"\" - - - -\n\
-| 2 root 0 panel 0000000043000100 \"B\" \"\" - - - -\n\
-| 1 2 0 panel 0000000043000100 \"A\" \"\" - - - -\n\
-| 3 1 0 label 0000000043000100 \"x\" \"\" - - - -\n\
-quiet\n",
-    },
-    Row {
-        name: "a node is gone before it is asked for",
-        words: &["replay", "--brief"],
-        input: "app \"T\"\n\
-reader\n\
-drain\n\
-edit a0 insert 0 0 panel \"P\"\n\
-drain\n\
-edit a0 insert 1 0 text \"E\" text \"abc\"\n\
-turns 3\n\
-edit a0 remove 1\n\
-drain\n\
-show r0 a0\n",
-        status: 0,
-        output: "quiet\n\
-quiet\n\
-busy 3\n\
-quiet\n\
-show r0 a0 1\n\
-| root - -1 application 0000000043000100 \"T\" \"\" - - - -\n",
-    },
-    Row {
-        name: "an application ends with a message on its way",
-        words: &["replay", "--brief"],
-        input: "app \"Demo\"\n\
-reader\n\
-drain\n\
-edit a0 name 0 \"Other\"\n\
-bytes a0 up 10\n\
-exit a0\n\
-drain\n\
-show r0 a0\n",
-        status: 0,
-        output: "quiet\n\
-say r0 a0 \"Demo, closed\"\n\
-quiet\n\
-show r0 a0 none\n",
-    },
-    Row {
-        name: "an application ends before its reader asks",
-        words: &["replay", "--brief"],
-        input: "reader\n\
-drain\n\
-app \"Late\"\n\
-turns 13\n\
-exit a0\n\
-bytes a0 up 1\n\
-drain\n\
-show r0 a0\n",
-        status: 0,
-        output: "quiet\n\
-busy 13\n\
-quiet\n\
-show r0 a0 none\n",
-    },
-    Row {
-        name: "an editor is used, and spoken",
-        words: &["replay", "--brief"],
-        input: "app \"Editor\"\n\
-reader\n\
-drain\n\
-edit a0 insert 0 0 frame \"Untitled\"\n\
-edit a0 insert 1 0 menu-bar \"\"\n\
-edit a0 insert 2 0 menu \"File\"\n\
-edit a0 insert 3 0 menu-item \"New\" action \"press\"\n\
-edit a0 insert 3 1 menu-item \"Open\" action \"press\"\n\
-edit a0 insert 3 2 check-menu-item \"Wrap\" action \"toggle\"\n\
-edit a0 insert 2 1 menu \"Edit\"\n\
-edit a0 insert 7 0 menu-item \"Undo\"\n\
-edit a0 insert 1 1 panel \"\"\n\
-edit a0 insert 9 0 label \"Find\"\n\
-edit a0 insert 9 1 entry \"Find\" text \"\"\n\
-edit a0 insert 9 2 push-button \"Go\" action \"press\"\n\
-edit a0 insert 1 2 table \"Files\" columns 2\n\
-edit a0 insert 13 0 table-cell \"a.txt\"\n\
-edit a0 insert 13 1 table-cell \"10\"\n\
-edit a0 insert 13 2 table-cell \"b.txt\"\n\
-edit a0 insert 13 3 table-cell \"20\"\n\
-edit a0 insert 1 3 list \"Recent\" select\n\
-edit a0 insert 18 0 list-item \"One\"\n\
-edit a0 insert 18 1 list-item \"Two\"\n\
-edit a0 insert 1 4 status-bar \"Ready\"\n\
-edit a0 state 6 checkable on\n\
-edit a0 focus 3\n\
-edit a0 state 3 expandable on\n\
-edit a0 state 3 expanded on\n\
-edit a0 focus 6\n\
-edit a0 press 6 0\n\
-edit a0 focus 11\n\
-edit a0 type 11 \"n\u{e9}\"\n\
-edit a0 cut 11 1 2\n\
-edit a0 focus 19\n\
-edit a0 select 18 0\n\
-edit a0 select 18 1\n\
-edit a0 insert 1 5 alert \"Saved\"\n\
-drain\n",
-        status: 0,
-        output: "quiet\n\
-say r0 a0 \"File, menu\"\n\
-say r0 a0 \"expanded\"\n\
-say r0 a0 \"Wrap, check menu item, not checked\"\n\
-say r0 a0 \"checked\"\n\
-say r0 a0 \"Find, entry\"\n\
-say r0 a0 \"typed: n\u{e9}\"\n\
-say r0 a0 \"deleted: \u{e9}\"\n\
-say r0 a0 \"One, list item\"\n\
-say r0 a0 \"selected\"\n\
-say r0 a0 \"not selected\"\n\
-say r0 a0 \"alert: Saved\"\n\
-quiet\n",
-    },
-    Row {
-        name: "a text is cut",
-        words: &["replay", "--brief"],
-        input: "app \"T\"\n\
-reader\n\
-drain\n\
-edit a0 insert 0 0 text \"E\" text \"h\u{e9}llo\"\n\
-drain\n\
-edit a0 caret 1 5\n\
-edit a0 cut 1 1 3\n\
-edit a0 put 1 3 \"!\"\n\
-drain\n\
-show r0 a0\n",
-        status: 0,
-        output: "quiet\n\
-quiet\n\
-quiet\n\
-show r0 a0 2\n\
-| root - -1 application 0000000043000100 \"T\" \"\" - - - -\n\
-| 1 root 0 text 0000000043000100 \"E\" \"\" TE \"hlo!\" 3 -\n",
-    },
-    Row {
-        name: "a text is cut in another face",
-        words: &["replay", "--brief"],
-        input: "app \"T\"\n\
-reader\n\
-drain\n\
-edit a0 insert 0 0 text \"E\" text \"h\u{e9}llo\"\n\
-drain\n\
-edit a0 caret 1 5\n\
-swap a0\n\
-edit a0 cut 1 1 3\n\
-edit a0 put 1 3 \"!\"\n\
-drain\n\
-show r0 a0\n",
-        status: 0,
-        output: "quiet\n\
-quiet\n\
-quiet\n\
-show r0 a0 2\n\
-| root - -1 application 0000000043000100 \"T\" \"\" - - - -\n\
-| 1 root 0 text 0000000043000100 \"E\" \"\" TE \"hlo!\" 3 -\n",
-    },
-    Row {
-        name: "a script is made",
-        words: &["make", "3", "1"],
-        input: "",
-        status: 0,
-        output: "made 3 1 steps 3 nodes 3 says 1\n",
-    },
-    Row {
-        name: "the root is removed",
-        words: &["replay", "--brief"],
-        input: "app \"Demo\"\n\
-edit a0 remove 0\n",
-        status: 1,
-        output: "refused 2 IsRoot\n",
-    },
-    Row {
-        name: "a node that is not there",
-        words: &["replay", "--brief"],
-        input: "app \"Demo\"\n\
-edit a0 name 7 \"x\"\n",
-        status: 1,
-        output: "refused 2 NoNode\n",
-    },
-    Row {
-        name: "an index past the children",
-        words: &["replay", "--brief"],
-        input: "app \"Demo\"\n\
-edit a0 insert 0 2 label \"x\"\n",
-        status: 1,
-        output: "refused 2 BadIndex\n",
-    },
-    Row {
-        name: "a node without a text",
-        words: &["replay", "--brief"],
-        input: "app \"Demo\"\n\
-edit a0 put 0 0 \"x\"\n",
-        status: 1,
-        output: "refused 2 NoFace\n",
-    },
-    Row {
-        name: "an application that was not started",
-        words: &["replay", "--brief"],
-        input: "app \"Demo\"\n\
-edit a1 focus 0\n",
-        status: 1,
-        output: "refused 2 NoParty\n",
-    },
-    Row {
-        name: "a word that is none",
-        words: &["replay", "--brief"],
-        input: "app \"Demo\"\n\
-frob\n",
-        status: 1,
-        output: "refused 2 Form\n",
-    },
-    Row {
-        name: "an option that is none",
-        words: &["replay", "--fast"],
-        input: "",
-        status: 2,
-        output: "usage: atspi replay, check, make, bus, registry, app or read\n",
-    },
-    Row {
-        name: "no edits are to be made",
-        words: &["make", "0", "1"],
-        input: "",
-        status: 2,
-        output: "usage: atspi replay, check, make, bus, registry, app or read\n",
-    },
-    Row {
-        name: "numbers are not used again",
-        words: &["replay"],
-        input: "app \"A\"\n\
-app \"B\"\n\
-exit a0\n\
-exit a1\n\
-app \"C\"\n",
-        status: 0,
-        output: "start a0 \"A\"\n\
-sent a0 call l 0 1 path=/org/freedesktop/DBus interface=org.freedesktop.DBus member=Hello destination=org.freedesktop.DBus\n\
-start a1 \"B\"\n\
-sent a1 call l 0 1 path=/org/freedesktop/DBus interface=org.freedesktop.DBus member=Hello destination=org.freedesktop.DBus\n\
-exit a0\n\
-exit a1\n\
-start a2 \"C\"\n\
-sent a2 call l 0 1 path=/org/freedesktop/DBus interface=org.freedesktop.DBus member=Hello destination=org.freedesktop.DBus\n",
-    },
-    Row {
-        name: "more applications than kits",
-        words: &["replay", "--brief"],
-        input: "app \"A\"\n\
-app \"A\"\n\
-app \"A\"\n\
-app \"A\"\n\
-app \"A\"\n\
-app \"A\"\n\
-app \"A\"\n\
-app \"A\"\n\
-app \"A\"\n\
-app \"A\"\n\
-app \"A\"\n\
-app \"A\"\n\
-app \"A\"\n\
-app \"A\"\n\
-app \"A\"\n\
-app \"A\"\n\
-app \"A\"\n",
-        status: 1,
-        output: "refused 17 NoKit\n",
-    },
-    Row {
-        name: "a reader types",
-        words: &["replay", "--brief"],
-        input: "app \"T\"\n\
-reader\n\
-drain\n\
-edit a0 insert 0 0 text \"E\" text \"\"\n\
-edit a0 focus 1\n\
-drain\n\
-call r0 a0 1 insert-text 0 \"hi\"\n\
-drain\n\
-show r0 a0\n",
-        status: 0,
-        output: "quiet\n\
-say r0 a0 \"E, text\"\n\
-quiet\n\
-say r0 a0 \"typed: hi\"\n\
-quiet\n\
-show r0 a0 2\n\
-| root - -1 application 0000000043000100 \"T\" \"\" - - - -\n\
-| 1 root 0 text 0000000043001100 \"E\" \"\" TE \"hi\" 0 -\n",
-    },
-    Row {
-        name: "a call to an application that is not held",
-        words: &["replay", "--brief"],
-        input: "app \"T\"\n\
-reader\n\
-call r0 a0 1 insert-text 0 \"hi\"\n\
-drain\n",
-        status: 1,
-        output: "refused 3 NotHeld\n",
-    },
-    Row {
-        name: "more swaps than spares",
-        words: &["replay", "--brief"],
-        input: "app \"T\"\n\
-swap a0\n\
-swap a0\n\
-swap a0\n\
-swap a0\n\
-swap a0\n\
-swap a0\n\
-swap a0\n\
-swap a0\n\
-swap a0\n\
-swap a0\n\
-swap a0\n\
-swap a0\n\
-swap a0\n\
-swap a0\n\
-swap a0\n\
-swap a0\n\
-swap a0\n",
-        status: 1,
-        output: "refused 18 NoSpare\n",
-    },
-    Row {
-        name: "a reader is dropped at its quota",
-        words: &["replay", "--brief"],
-        input: "quota 1024\n\
-app \"Demo\"\n\
-reader\n\
-drain\n\
-edit a0 name 0 \"a\"\n\
-edit a0 name 0 \"b\"\n\
-edit a0 name 0 \"c\"\n\
-edit a0 name 0 \"d\"\n\
-edit a0 name 0 \"e\"\n\
-edit a0 name 0 \"f\"\n\
-bytes a0 up 1000000\n\
-show r0 a0\n\
-drain\n",
-        status: 0,
-        output: "quiet\n\
-dropped r0 1000 200\n\
-show r0 a0 1\n\
-| root - -1 application 0000000043000100 \"Demo\" \"\" - - - -\n\
-quiet\n",
-    },
-    Row {
-        name: "the registry is dropped at its quota",
-        words: &["replay", "--brief"],
-        input: "quota 1024\n\
-app \"A\"\n\
-bytes a0 up 1000000\n\
-app \"A\"\n\
-bytes a1 up 1000000\n\
-app \"A\"\n\
-bytes a2 up 1000000\n\
-app \"A\"\n\
-bytes a3 up 1000000\n\
-app \"A\"\n\
-bytes a4 up 1000000\n\
-app \"A\"\n\
-bytes a5 up 1000000\n",
-        status: 9,
-        output: "dropped reg 945 189\n",
-    },
-    Row {
-        name: "sixteen applications, four readers",
-        words: &["replay", "--brief"],
-        input: "app \"A\"\n\
-app \"A\"\n\
-app \"A\"\n\
-app \"A\"\n\
-app \"A\"\n\
-app \"A\"\n\
-app \"A\"\n\
-app \"A\"\n\
-app \"A\"\n\
-app \"A\"\n\
-app \"A\"\n\
-app \"A\"\n\
-app \"A\"\n\
-app \"A\"\n\
-app \"A\"\n\
-app \"A\"\n\
-reader\n\
-reader\n\
-reader\n\
-reader\n\
-drain\n\
-show r3 a15\n",
-        status: 0,
-        output: "quiet\n\
-show r3 a15 1\n\
-| root - -1 application 0000000043000100 \"A\" \"\" - - - -\n",
-    },
-    Row {
-        name: "a reader leaves, another starts",
-        words: &["replay", "--brief"],
-        input: "app \"T\"\n\
-reader\n\
-drain\n\
-edit a0 insert 0 0 text \"E\" text \"x\"\n\
-turns 1\n\
-leave r0\n\
-drain\n\
-reader\n\
-drain\n\
-show r1 a0\n",
-        status: 0,
-        output: "quiet\n\
-busy 1\n\
-quiet\n\
-quiet\n\
-show r1 a0 2\n\
-| root - -1 application 0000000043000100 \"T\" \"\" - - - -\n\
-| 1 root 0 text 0000000043000100 \"E\" \"\" TE \"x\" 0 -\n",
-    },
-    Row {
-        name: "an edit that is none",
-        words: &["replay"],
-        input: "app \"Demo\"\n\
-edit a0 help 0 \"Editor of demos\"\n",
-        status: 1,
-        output: "start a0 \"Demo\"\n\
-sent a0 call l 0 1 path=/org/freedesktop/DBus interface=org.freedesktop.DBus member=Hello destination=org.freedesktop.DBus\n\
-refused 2 Form\n",
-    },
-    Row {
-        name: "a reader types unheard",
-        words: &["replay", "--brief"],
-        input: "app \"T\"\n\
-reader\n\
-drain\n\
-edit a0 insert 0 0 text \"E\" text \"\"\n\
-drain\n\
-call r0 a0 1 insert-text 0 \"hi\"\n\
-drain\n\
-show r0 a0\n",
-        status: 0,
-        output: "quiet\n\
-quiet\n\
-quiet\n\
-show r0 a0 2\n\
-| root - -1 application 0000000043000100 \"T\" \"\" - - - -\n\
-| 1 root 0 text 0000000043000100 \"E\" \"\" TE \"hi\" 0 -\n",
-    },
-];
+/// The worked runs, one text. Of each: a line `~` with its name, a line with its words, its input, a line `=>` with the status that is due, and what is
+/// due to be written.
+pub const ROWS: &str = r#"~a button is inserted and renamed
+replay --brief
+app "Demo"
+reader
+turns 1000
+edit a0 insert 0 0 push-button "OK"
+edit a0 name 1 "Save"
+show r0 a0
+turns 1000
+show r0 a0
+=> 0
+show r0 a0 1
+| root - -1 application 0000000043000100 "Demo" "" - - - -
+show r0 a0 2
+| root - -1 application 0000000043000100 "Demo" "" - - - -
+| 1 root 0 push-button 0000000043000100 "Save" "" - - - -
+~an empty input
+replay
+=> 0
+~nothing but Hello is sent before the start is over
+replay
+app "Demo"
+edit a0 insert 0 0 push-button "OK"
+edit a0 state 1 focused on
+=> 0
+start a0 "Demo"
+sent a0 call l 0 1 path=/org/freedesktop/DBus interface=org.freedesktop.DBus member=Hello destination=org.freedesktop.DBus
+step a0 add 1 0 0 push-button "OK"
+step a0 state 1 focused on
+~the bytes of Hello
+replay --wire
+app "Demo"
+edit a0 insert 0 0 push-button "OK"
+edit a0 state 1 focused on
+=> 0
+start a0 "Demo"
+sent a0 call l 0 1 path=/org/freedesktop/DBus interface=org.freedesktop.DBus member=Hello destination=org.freedesktop.DBus
+= 6c01000100000000010000006d00000001016f00150000002f6f72672f667265656465736b746f702f4442757300000002017300140000006f72672e667265656465736b746f702e4442757300000000030173000500000048656c6c6f00000006017300140000006f72672e667265656465736b746f702e4442757300000000
+step a0 add 1 0 0 push-button "OK"
+step a0 state 1 focused on
+~the race: edits behind the question for items
+replay --brief
+app "Demo"
+drain
+edit a0 insert 0 0 push-button "One"
+reader
+turns 44
+edit a0 insert 0 1 push-button "Two"
+show r0 a0
+bytes r0 up 1000000
+bytes a0 down 1000000
+edit a0 name 1 "Uno"
+bytes a0 up 1000000
+bytes r0 down 1
+turns 1
+show r0 a0
+turns 2
+show r0 a0
+turns 1
+show r0 a0
+=> 0
+quiet
+busy 44
+show r0 a0 none
+busy 1
+show r0 a0 none
+busy 2
+show r0 a0 3
+| root - -1 application 0000000043000100 "Demo" "" - - - -
+| 1 root 0 push-button 0000000043000100 "One" "" - - - -
+| 2 root 1 push-button 0000000043000100 "Two" "" - - - -
+show r0 a0 3
+| root - -1 application 0000000043000100 "Demo" "" - - - -
+| 1 root 0 push-button 0000000043000100 "Uno" "" - - - -
+| 2 root 1 push-button 0000000043000100 "Two" "" - - - -
+~a node moves to another parent
+replay --brief
+app "T"
+reader
+drain
+edit a0 insert 0 0 panel "A"
+edit a0 insert 0 1 panel "B"
+edit a0 insert 1 0 label "x"
+drain
+edit a0 move 1 2 0
+bytes a0 up 1000000
+turns 1
+show r0 a0
+turns 1
+show r0 a0
+turns 1
+show r0 a0
+turns 1
+show r0 a0
+edit a0 move 2 0 0
+drain
+=> 0
+quiet
+quiet
+busy 1
+show r0 a0 4
+| root - -1 application 0000000043000100 "T" "" - - - -
+| 2 root 0 panel 0000000043000100 "B" "" - - - -
+| 1 2 0 panel 0000000043000100 "A" "" - - - -
+| 3 1 0 label 0000000043000100 "x" "" - - - -
+busy 1
+show r0 a0 4
+| root - -1 application 0000000043000100 "T" "" - - - -
+| 2 root 0 panel 0000000043000100 "B" "" - - - -
+| 1 2 0 panel 0000000043000100 "A" "" - - - -
+| 3 1 0 label 0000000043000100 "x" "" - - - -
+busy 1
+show r0 a0 4
+| root - -1 application 0000000043000100 "T" "" - - - -
+| 2 root 0 panel 0000000043000100 "B" "" - - - -
+| 1 2 0 panel 0000000043000100 "A" "" - - - -
+| 3 1 0 label 0000000043000100 "x" "" - - - -
+show r0 a0 4
+| root - -1 application 0000000043000100 "T" "" - - - -
+| 2 root 0 panel 0000000043000100 "B" "" - - - -
+| 1 2 0 panel 0000000043000100 "A" "" - - - -
+| 3 1 0 label 0000000043000100 "x" "" - - - -
+quiet
+~a node is gone before it is asked for
+replay --brief
+app "T"
+reader
+drain
+edit a0 insert 0 0 panel "P"
+drain
+edit a0 insert 1 0 text "E" text "abc"
+turns 3
+edit a0 remove 1
+drain
+show r0 a0
+=> 0
+quiet
+quiet
+busy 3
+quiet
+show r0 a0 1
+| root - -1 application 0000000043000100 "T" "" - - - -
+~an application ends with a message on its way
+replay --brief
+app "Demo"
+reader
+drain
+edit a0 name 0 "Other"
+bytes a0 up 10
+exit a0
+drain
+show r0 a0
+=> 0
+quiet
+say r0 a0 "Demo, closed"
+quiet
+show r0 a0 none
+~an application ends before its reader asks
+replay --brief
+reader
+drain
+app "Late"
+turns 13
+exit a0
+bytes a0 up 1
+drain
+show r0 a0
+=> 0
+quiet
+busy 13
+quiet
+show r0 a0 none
+~an editor is used, and spoken
+replay --brief
+app "Editor"
+reader
+drain
+edit a0 insert 0 0 frame "Untitled"
+edit a0 insert 1 0 menu-bar ""
+edit a0 insert 2 0 menu "File"
+edit a0 insert 3 0 menu-item "New" action "press"
+edit a0 insert 3 1 menu-item "Open" action "press"
+edit a0 insert 3 2 check-menu-item "Wrap" action "toggle"
+edit a0 insert 2 1 menu "Edit"
+edit a0 insert 7 0 menu-item "Undo"
+edit a0 insert 1 1 panel ""
+edit a0 insert 9 0 label "Find"
+edit a0 insert 9 1 entry "Find" text ""
+edit a0 insert 9 2 push-button "Go" action "press"
+edit a0 insert 1 2 table "Files" columns 2
+edit a0 insert 13 0 table-cell "a.txt"
+edit a0 insert 13 1 table-cell "10"
+edit a0 insert 13 2 table-cell "b.txt"
+edit a0 insert 13 3 table-cell "20"
+edit a0 insert 1 3 list "Recent" select
+edit a0 insert 18 0 list-item "One"
+edit a0 insert 18 1 list-item "Two"
+edit a0 insert 1 4 status-bar "Ready"
+edit a0 state 6 checkable on
+edit a0 focus 3
+edit a0 state 3 expandable on
+edit a0 state 3 expanded on
+edit a0 focus 6
+edit a0 press 6 0
+edit a0 focus 11
+edit a0 type 11 "né"
+edit a0 cut 11 1 2
+edit a0 focus 19
+edit a0 select 18 0
+edit a0 select 18 1
+edit a0 insert 1 5 alert "Saved"
+drain
+=> 0
+quiet
+say r0 a0 "File, menu"
+say r0 a0 "expanded"
+say r0 a0 "Wrap, check menu item, not checked"
+say r0 a0 "checked"
+say r0 a0 "Find, entry"
+say r0 a0 "typed: né"
+say r0 a0 "deleted: é"
+say r0 a0 "One, list item"
+say r0 a0 "selected"
+say r0 a0 "not selected"
+say r0 a0 "alert: Saved"
+quiet
+~a text is cut
+replay --brief
+app "T"
+reader
+drain
+edit a0 insert 0 0 text "E" text "héllo"
+drain
+edit a0 caret 1 5
+edit a0 cut 1 1 3
+edit a0 put 1 3 "!"
+drain
+show r0 a0
+=> 0
+quiet
+quiet
+quiet
+show r0 a0 2
+| root - -1 application 0000000043000100 "T" "" - - - -
+| 1 root 0 text 0000000043000100 "E" "" TE "hlo!" 3 -
+~a text is cut in another face
+replay --brief
+app "T"
+reader
+drain
+edit a0 insert 0 0 text "E" text "héllo"
+drain
+edit a0 caret 1 5
+swap a0
+edit a0 cut 1 1 3
+edit a0 put 1 3 "!"
+drain
+show r0 a0
+=> 0
+quiet
+quiet
+quiet
+show r0 a0 2
+| root - -1 application 0000000043000100 "T" "" - - - -
+| 1 root 0 text 0000000043000100 "E" "" TE "hlo!" 3 -
+~a script is made
+make 3 1
+=> 0
+made 3 1 steps 3 nodes 3 says 1
+~the root is removed
+replay --brief
+app "Demo"
+edit a0 remove 0
+=> 1
+refused 2 IsRoot
+~a node that is not there
+replay --brief
+app "Demo"
+edit a0 name 7 "x"
+=> 1
+refused 2 NoNode
+~an index past the children
+replay --brief
+app "Demo"
+edit a0 insert 0 2 label "x"
+=> 1
+refused 2 BadIndex
+~a node without a text
+replay --brief
+app "Demo"
+edit a0 put 0 0 "x"
+=> 1
+refused 2 NoFace
+~an application that was not started
+replay --brief
+app "Demo"
+edit a1 focus 0
+=> 1
+refused 2 NoParty
+~a word that is none
+replay --brief
+app "Demo"
+frob
+=> 1
+refused 2 Form
+~an option that is none
+replay --fast
+=> 2
+usage: atspi replay, check, make, bus, registry, app or read
+~no edits are to be made
+make 0 1
+=> 2
+usage: atspi replay, check, make, bus, registry, app or read
+~numbers are not used again
+replay
+app "A"
+app "B"
+exit a0
+exit a1
+app "C"
+=> 0
+start a0 "A"
+sent a0 call l 0 1 path=/org/freedesktop/DBus interface=org.freedesktop.DBus member=Hello destination=org.freedesktop.DBus
+start a1 "B"
+sent a1 call l 0 1 path=/org/freedesktop/DBus interface=org.freedesktop.DBus member=Hello destination=org.freedesktop.DBus
+exit a0
+exit a1
+start a2 "C"
+sent a2 call l 0 1 path=/org/freedesktop/DBus interface=org.freedesktop.DBus member=Hello destination=org.freedesktop.DBus
+~more applications than kits
+replay --brief
+app "A"
+app "A"
+app "A"
+app "A"
+app "A"
+app "A"
+app "A"
+app "A"
+app "A"
+app "A"
+app "A"
+app "A"
+app "A"
+app "A"
+app "A"
+app "A"
+app "A"
+=> 1
+refused 17 NoKit
+~a reader types
+replay --brief
+app "T"
+reader
+drain
+edit a0 insert 0 0 text "E" text ""
+edit a0 focus 1
+drain
+call r0 a0 1 insert-text 0 "hi"
+drain
+show r0 a0
+=> 0
+quiet
+say r0 a0 "E, text"
+quiet
+say r0 a0 "typed: hi"
+quiet
+show r0 a0 2
+| root - -1 application 0000000043000100 "T" "" - - - -
+| 1 root 0 text 0000000043001100 "E" "" TE "hi" 0 -
+~a call to an application that is not held
+replay --brief
+app "T"
+reader
+call r0 a0 1 insert-text 0 "hi"
+drain
+=> 1
+refused 3 NotHeld
+~more swaps than spares
+replay --brief
+app "T"
+swap a0
+swap a0
+swap a0
+swap a0
+swap a0
+swap a0
+swap a0
+swap a0
+swap a0
+swap a0
+swap a0
+swap a0
+swap a0
+swap a0
+swap a0
+swap a0
+swap a0
+=> 1
+refused 18 NoSpare
+~a reader is dropped at its quota
+replay --brief
+quota 1024
+app "Demo"
+reader
+drain
+edit a0 name 0 "a"
+edit a0 name 0 "b"
+edit a0 name 0 "c"
+edit a0 name 0 "d"
+edit a0 name 0 "e"
+edit a0 name 0 "f"
+bytes a0 up 1000000
+show r0 a0
+drain
+=> 0
+quiet
+dropped r0 1000 200
+show r0 a0 1
+| root - -1 application 0000000043000100 "Demo" "" - - - -
+quiet
+~the registry is dropped at its quota
+replay --brief
+quota 1024
+app "A"
+bytes a0 up 1000000
+app "A"
+bytes a1 up 1000000
+app "A"
+bytes a2 up 1000000
+app "A"
+bytes a3 up 1000000
+app "A"
+bytes a4 up 1000000
+app "A"
+bytes a5 up 1000000
+=> 9
+dropped reg 945 189
+~sixteen applications, four readers
+replay --brief
+app "A"
+app "A"
+app "A"
+app "A"
+app "A"
+app "A"
+app "A"
+app "A"
+app "A"
+app "A"
+app "A"
+app "A"
+app "A"
+app "A"
+app "A"
+app "A"
+reader
+reader
+reader
+reader
+drain
+show r3 a15
+=> 0
+quiet
+show r3 a15 1
+| root - -1 application 0000000043000100 "A" "" - - - -
+~a reader leaves, another starts
+replay --brief
+app "T"
+reader
+drain
+edit a0 insert 0 0 text "E" text "x"
+turns 1
+leave r0
+drain
+reader
+drain
+show r1 a0
+=> 0
+quiet
+busy 1
+quiet
+quiet
+show r1 a0 2
+| root - -1 application 0000000043000100 "T" "" - - - -
+| 1 root 0 text 0000000043000100 "E" "" TE "x" 0 -
+~an edit that is none
+replay
+app "Demo"
+edit a0 help 0 "Editor of demos"
+=> 1
+start a0 "Demo"
+sent a0 call l 0 1 path=/org/freedesktop/DBus interface=org.freedesktop.DBus member=Hello destination=org.freedesktop.DBus
+refused 2 Form
+~a reader types unheard
+replay --brief
+app "T"
+reader
+drain
+edit a0 insert 0 0 text "E" text ""
+drain
+call r0 a0 1 insert-text 0 "hi"
+drain
+show r0 a0
+=> 0
+quiet
+quiet
+quiet
+show r0 a0 2
+| root - -1 application 0000000043000100 "T" "" - - - -
+| 1 root 0 text 0000000043000100 "E" "" TE "hi" 0 -
+"#;

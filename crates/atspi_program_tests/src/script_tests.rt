@@ -1,23 +1,31 @@
 //! Scripts as worked out by hand, and words that are no command.
 
-use crate::rows::{ROWS, Row};
+use crate::rows::ROWS;
 use crate::running::{AMPLE, Due, NEVER, Outside, comes_to};
 use std::alloc::Global;
 
-/// Whether a row comes to what is due.
-fn holds(alloc: Global, row: &Row) -> Option<bool> {
+/// Whether a row, without its name, comes to what is due.
+fn holds(alloc: Global, row: &str) -> Option<bool> {
+    let (words, row) = row.split_once('\n')?;
+    let (input, row) = row.split_once("=> ")?;
+    let (status, output) = row.split_once('\n')?;
     let due = Due {
-        status: row.status,
-        output: row.output.as_bytes(),
+        status: status.parse::<u8>().ok()?,
+        output: output.as_bytes(),
     };
-    let input = row.input.as_bytes().to_vec(alloc).ok()?;
-    comes_to(alloc, row.words, input, AMPLE, due)
+    let mut list = Vec::new(alloc);
+    for word in words.split(' ') {
+        list.push(word).ok()?;
+    }
+    let input = input.as_bytes().to_vec(alloc).ok()?;
+    comes_to(alloc, &list, input, AMPLE, due)
 }
 
 #[test]
 fn runs_are_as_worked_out_by_hand(rt: HostRuntime) {
-    for row in &ROWS {
-        assert!(rt; holds(rt.alloc(), row) == Some(true), "{}", row.name);
+    for row in ROWS.split('~').skip(1) {
+        let (name, row) = row.split_once('\n').unwrap_or((row, ""));
+        assert!(rt; holds(rt.alloc(), row) == Some(true), "{name}");
     }
 }
 
