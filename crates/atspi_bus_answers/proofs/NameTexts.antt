@@ -1,14 +1,13 @@
 -- Bus names as texts: their bytes are their characters, and none is zero.
-use Rattle.std.proofs.Common.{◌≡◌, ℕ, zero, suc, ◌+◌, ◌<◌, ◌≤◌, ◌==◌, Bool, true, false, ◌⊎◌, inl, inr, List, [], ◌∷◌, length, not, ◌^◌, refl, sym, ap, ◌∙◌, subst, arith, chars, IsUtf8}
-use Rattle.std.specs.Prelude.{IsTrue, if◌then◌else◌, encode_utf8_all, Err}
+use Rattle.std.proofs.Common.{◌≡◌, ℕ, zero, suc, ◌<◌, ◌==◌, Bool, true, false, inl, inr, List, [], ◌∷◌, length, not, ◌^◌, refl, sym, ap, ◌∙◌, subst, arith, chars, IsUtf8}
+use Rattle.std.specs.Prelude.{IsTrue, if◌then◌else◌, Err}
 use Rattle.std.specs.List.{AllByRecursion}
-use Rattle.std.specs.Str.{IsAscii}
 use Rattle.std.specs.Cmp.{both_ways}
 use Rattle.std.proofs.lemmas.Str.{chars-IsAscii, encodes-chars, encodes-IsAscii}
 use Rattle.std.proofs.lemmas.Bool.{and_parts}
 use Rattle.std.specs.Char.{is_ascii_digit}
 use borrow.Author.Tests.{eqb-true}
-use Rattle.atspi_base.specs.Text.{HasNoZero, bytes_before_zero}
+use Rattle.atspi_base.specs.Text.{HasNoZero}
 use Rattle.atspi_valid_names.specs.declared.elements.Form.{Form}
 use Rattle.atspi_valid_names.specs.declared.elements.Form.TheVariants.{Path, Interface, WellKnown, Unique}
 use Rattle.atspi_valid_names.specs.Elements.{may_follow, may_begin, parts_of, in_front}

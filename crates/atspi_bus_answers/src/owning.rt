@@ -36,14 +36,22 @@ fn owner_of(alloc: Global, names: &Names, text: &str) -> Result<Option<Value>, N
     }
 }
 
+/// Whether anybody owns the name that the text is.
+fn is_owned(alloc: Global, names: &Names, text: &str) -> Result<bool, NoMemory>
+    requires { AreNamed names.now.lists }
+    ensures { IfOk result (λ owned. owned ≡ answers.has_owner (answers.owner_name names.now (chars text.now))) }
+{
+    let owner = owner_of(alloc, names, text)?;
+    Ok(owner.is_some())
+}
+
 /// NameHasOwner.
 pub fn name_has_owner(alloc: Global, names: &Names, text: &str) -> Result<Reply, NoMemory>
     requires { AreNamed names.now.lists }
     ensures { IfOk result (λ reply. reply_of reply
         ≡ answers.returns (boolean_data (answers.has_owner (answers.owner_name names.now (chars text.now))) ∷ [])) }
 {
-    let owner = owner_of(alloc, names, text)?;
-    let owned = owner.is_some();
+    let owned = is_owned(alloc, names, text)?;
     Ok(Reply::Returns(one(alloc, Value::Bool(owned))?))
 }
 

@@ -5,6 +5,7 @@ ghost use Rattle.atspi_types.specs.Data.{text_data};
 ghost use Rattle.atspi_types.specs.DataView.{all_data};
 ghost use Rattle.atspi_valid_names.specs.Names.{is_member};
 ghost use Rattle.atspi_message.specs.Envelope.{envelope_of};
+ghost use Rattle.atspi_names.specs.Owners.{own_name};
 ghost use Rattle.atspi_routing.specs.BusState.{text_or_empty};
 ghost use Rattle.atspi_routing.specs.OwnMessages as own;
 ghost use Rattle.atspi_bus_answers.specs.Errors.{error_text};
@@ -15,7 +16,7 @@ use crate::values::{name_value, one, owner_value};
 use atspi_base::{NoMemory, Text};
 use atspi_message::Message;
 use atspi_types::{Order, Value, Values};
-use atspi_valid_names::BusName;
+use atspi_valid_names::{BusName, Interface, Path};
 use std::alloc::Global;
 
 /// The name of the bus itself, which is also that of its interface.
@@ -34,6 +35,24 @@ fn copied(alloc: Global, name: Option<&BusName>) -> Result<Option<BusName>, NoMe
     }
 }
 
+/// Whom a message of the bus's own goes to, and whom it is from: the bus.
+fn ends(alloc: Global, to: Option<&BusName>) -> Result<(Option<BusName>, BusName), NoMemory>
+    ensures { IfOk result (λ ends. ends ≡ (option_copied to.entry, own_name)) }
+{
+    let to = copied(alloc, to)?;
+    let from = bus_name(alloc, OWN_NAME)?;
+    Ok((to, from))
+}
+
+/// Where the bus's own signals come from: its path, and its interface.
+fn place(alloc: Global) -> Result<(Path, Interface), NoMemory>
+    ensures { IfOk result (λ place. place ≡ (own.own_path, own_name)) }
+{
+    let at = path(alloc, OWN_PATH)?;
+    let of = interface(alloc, OWN_NAME)?;
+    Ok((at, of))
+}
+
 /// A signal, to one connection or to all that ask for it.
 fn signal(
     alloc: Global,
@@ -44,18 +63,21 @@ fn signal(
     requires { is_member name.now ≡ true }
     ensures { IfOk result (λ m. envelope_of m ≡ own.signal name.now (option_copied to.entry) (all_data body)) }
 {
+    let member = member(alloc, name)?;
+    let (to, from) = ends(alloc, to)?;
+    let (at, of) = place(alloc)?;
     Ok(Message {
         order: Order::Little,
         kind: 4,
         flags: 1,
         serial: 0,
-        path: Some(path(alloc, OWN_PATH)?),
-        interface: Some(interface(alloc, OWN_NAME)?),
-        member: Some(member(alloc, name)?),
+        path: Some(at),
+        interface: Some(of),
+        member: Some(member),
         error: None,
         reply: None,
-        destination: copied(alloc, to)?,
-        sender: Some(bus_name(alloc, OWN_NAME)?),
+        destination: to,
+        sender: Some(from),
         body,
     })
 }
@@ -69,6 +91,7 @@ pub fn return_to(
 ) -> Result<Message, NoMemory>
     ensures { IfOk result (λ m. envelope_of m ≡ own.return_to (option_copied caller.entry) serial (all_data body)) }
 {
+    let (to, from) = ends(alloc, caller)?;
     Ok(Message {
         order: Order::Little,
         kind: 2,
@@ -79,8 +102,8 @@ pub fn return_to(
         member: None,
         error: None,
         reply: Some(serial),
-        destination: copied(alloc, caller)?,
-        sender: Some(bus_name(alloc, OWN_NAME)?),
+        destination: to,
+        sender: Some(from),
         body,
     })
 }
@@ -102,6 +125,9 @@ pub fn error_to(
 ) -> Result<Message, NoMemory>
     ensures { IfOk result (λ m. envelope_of m ≡ own.error_to (option_copied caller.entry) serial (error_text error)) }
 {
+    let body = error_body(alloc, error)?;
+    let name = interface(alloc, error.name())?;
+    let (to, from) = ends(alloc, caller)?;
     Ok(Message {
         order: Order::Little,
         kind: 3,
@@ -110,11 +136,11 @@ pub fn error_to(
         path: None,
         interface: None,
         member: None,
-        error: Some(interface(alloc, error.name())?),
+        error: Some(name),
         reply: Some(serial),
-        destination: copied(alloc, caller)?,
-        sender: Some(bus_name(alloc, OWN_NAME)?),
-        body: error_body(alloc, error)?,
+        destination: to,
+        sender: Some(from),
+        body,
     })
 }
 

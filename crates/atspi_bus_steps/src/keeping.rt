@@ -46,22 +46,45 @@ impl Inner {
         *self = Inner::new(self.alloc, 0);
     }
 
+    /// What the bus knows becomes what the other one knows. After want of memory nothing is known of it.
+    fn copy_state(&mut self, other: &Inner) -> Result<(), NoMemory>
+        ensures { OnOk result (state_of self.new ≡ state_of other.now) }
+    {
+        let alloc = self.alloc;
+        self.joined = other.joined.to_vec(alloc)?;
+        self.names = other.names.copy()?;
+        self.rules = other.rules.copy()?;
+        self.calls = other.calls.to_vec(alloc)?;
+        self.next = other.next;
+        Ok(())
+    }
+
+    /// What waits in the bus becomes what waits in the other one. After want of memory nothing is known of it.
+    fn copy_waiting(&mut self, other: &Inner) -> Result<(), NoMemory>
+        ensures { OnOk result (inner_of self.new ≡ record (inner_of other.now) { state = state_of self.old }) }
+    {
+        let alloc = self.alloc;
+        self.queues = other.queues.copy(alloc)?;
+        self.own = copy_own(alloc, &other.own)?;
+        self.closings = other.closings.clone()?;
+        Ok(())
+    }
+
+    /// The bus becomes equal to the other one. After want of memory nothing is known of it.
+    fn copy_all(&mut self, other: &Inner) -> Result<(), NoMemory>
+        ensures { OnOk result (inner_of self.new ≡ inner_of other.now) }
+    {
+        self.copy_state(other)?;
+        self.copy_waiting(other)
+    }
+
     /// An equal bus. It fails only for want of memory.
     pub fn copy(&self) -> Result<Inner, NoMemory>
         ensures { IfOk result (λ copy. inner_of copy ≡ inner_of self.now) }
     {
-        let alloc = self.alloc;
-        Ok(Inner {
-            alloc,
-            joined: self.joined.to_vec(alloc)?,
-            names: self.names.copy()?,
-            rules: self.rules.copy()?,
-            calls: self.calls.to_vec(alloc)?,
-            next: self.next,
-            queues: self.queues.copy(alloc)?,
-            own: copy_own(alloc, &self.own)?,
-            closings: self.closings.clone()?,
-        })
+        let mut copy = Inner::new(self.alloc, 0);
+        copy.copy_all(self)?;
+        Ok(copy)
     }
 
     /// A connection joins. After want of memory all is as before.

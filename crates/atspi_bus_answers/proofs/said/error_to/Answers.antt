@@ -1,10 +1,7 @@
 use Rattle.std.proofs.Common.{ap, ◌∙◌}
 use Rattle.atspi_valid_names.specs.Names.{is_interface}
-use Rattle.atspi_bus_answers.proofs.Literals.{error_is, own_name_is}
+use Rattle.atspi_bus_answers.proofs.Literals.{error_is}
 use Rattle.atspi_bus_answers.proofs.said.error_to.Goals as goal
 
 pub interface-requires : goal.interface-requires
 interface-requires c = ap is_interface c.name.ensures ∙ error_is c.args.error
-
-pub bus_name-requires : goal.bus_name-requires
-bus_name-requires c = own_name_is
