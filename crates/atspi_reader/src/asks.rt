@@ -73,6 +73,8 @@ pub(crate) fn ask_next(
     let Some(start) = to_come.front() else {
         return ask_wish(alloc, number, wish, events);
     };
+    // (let go before what can fail)
+    drop(wish);
     let serial = ask(alloc, number, start, events)?;
     Ok(Next::Start(serial))
 }
