@@ -15,6 +15,7 @@ use crate::answering::answer_in_place;
 use crate::leaving::leave_in_place;
 use atspi_bus_steps::{BusFault, Inner};
 use atspi_header::MessageRef;
+use std::mem;
 
 /// A bus takes a message on a copy of itself, which takes its place at the end.
 fn take_on_copy(inner: &mut Inner, conn: u32, m: &MessageRef) -> Result<(), BusFault>
@@ -32,7 +33,7 @@ fn take_on_copy(inner: &mut Inner, conn: u32, m: &MessageRef) -> Result<(), BusF
     let mut after = inner.copy()?;
     match after.take(conn, m) {
         Ok(()) => {
-            *inner = after;
+            mem::swap(inner, &mut after);
             Ok(())
         }
         Err(fault) => Err(fault),
@@ -93,7 +94,7 @@ fn leave_on_copy(inner: &mut Inner, conn: u32) -> Result<(), BusFault>
     let mut after = inner.copy()?;
     match after.part_with(conn) {
         Ok(()) => {
-            *inner = after;
+            mem::swap(inner, &mut after);
             Ok(())
         }
         Err(fault) => Err(fault),

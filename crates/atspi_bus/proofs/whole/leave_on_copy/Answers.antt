@@ -1,5 +1,6 @@
 use Rattle.std.proofs.Common.{◌<◌, sym, ap, ◌∙◌, subst}
 use Rattle.atspi_routing.specs.Queues.{Bus, leaves}
+use Rattle.atspi_bus_steps.specs.Inner.{inner_of}
 use Rattle.atspi_bus_steps.specs.Limits.{SaysTooMuch}
 use Rattle.atspi_bus_steps.specs.Sound.{IsSound}
 use Rattle.atspi_bus.proofs.whole.leave_on_copy.Goals as goal
@@ -8,11 +9,11 @@ pub part_with-requires : goal.part_with-requires
 part_with-requires c = record { sound = subst IsSound (sym (ap (λ (b : Bus). b.state) c.in_ok-after.ensures)) c.requires.sound }
 
 pub returns-in-Ok-clause-ok : goal.returns-in-Ok-clause-ok
-returns-in-Ok-clause-ok c = c.in-Ok.ensures.ok ∙ ap (λ (b : Bus). leaves b c.args.conn) c.in_ok-after.ensures
+returns-in-Ok-clause-ok c = ap inner_of c.swap.ensures.x_after ∙ c.in-Ok.ensures.ok ∙ ap (λ (b : Bus). leaves b c.args.conn) c.in_ok-after.ensures
 
-pub returns-in-Err-clause-spent : goal.returns-in-Err-clause-spent
-returns-in-Err-clause-spent c e =
+pub returns-clause-spent : goal.returns-clause-spent
+returns-clause-spent c e =
     subst (λ (x : Bus). 4294967296 < (leaves x c.args.conn).state.next) c.in_ok-after.ensures (c.in-Err.ensures.spent e)
 
-pub returns-in-Err-clause-big : goal.returns-in-Err-clause-big
-returns-in-Err-clause-big c e = subst (λ (x : Bus). SaysTooMuch x (leaves x c.args.conn)) c.in_ok-after.ensures (c.in-Err.ensures.big e)
+pub returns-clause-big : goal.returns-clause-big
+returns-clause-big c e = subst (λ (x : Bus). SaysTooMuch x (leaves x c.args.conn)) c.in_ok-after.ensures (c.in-Err.ensures.big e)

@@ -14,16 +14,16 @@ take-requires-clause-sound c = subst IsSound (sym (ap (λ (b : Bus). b.state) c.
 
 pub returns-in-Ok-clause-ok : goal.returns-in-Ok-clause-ok
 returns-in-Ok-clause-ok c =
-    taken-like (inner_of c.in_ok-after.after) (inner_of c.args.inner.now) (inner_of c.take.new.self) c.args.conn (envelope_at c.args.m.now) c.in_ok-after.ensures c.in-Ok.ensures.ok
+    rw c.swap.ensures.x_after (taken-like (inner_of c.in_ok-after.after) (inner_of c.args.inner.now) (inner_of c.take.new.self) c.args.conn (envelope_at c.args.m.now) c.in_ok-after.ensures c.in-Ok.ensures.ok)
 
-pub returns-in-Err-clause-spent : goal.returns-in-Err-clause-spent
-returns-in-Err-clause-spent c e =
+pub returns-clause-spent : goal.returns-clause-spent
+returns-clause-spent c e =
     subst (λ (x : Bus). (rule : Option (List Condition)) × IsRuleTaken x.state c.args.conn (envelope_at c.args.m.now) rule
     × (4294967296 < (takes x c.args.conn (envelope_at c.args.m.now) rule).state.next))
     c.in_ok-after.ensures (c.in-Err.ensures.spent e)
 
-pub returns-in-Err-clause-big : goal.returns-in-Err-clause-big
-returns-in-Err-clause-big c e =
+pub returns-clause-big : goal.returns-clause-big
+returns-clause-big c e =
     subst (λ (x : Bus). (rule : Option (List Condition)) × IsRuleTaken x.state c.args.conn (envelope_at c.args.m.now) rule
     × IsTooBig x c.args.conn (envelope_at c.args.m.now) (takes x c.args.conn (envelope_at c.args.m.now) rule))
     c.in_ok-after.ensures (c.in-Err.ensures.big e)
