@@ -7,6 +7,7 @@ pub mod Queued
 pub mod Reasons
 pub mod RegistryTold
 pub mod Seats
+pub mod Started
 pub mod Tellings
 pub mod ToldAll
 pub mod Wholes

@@ -1,16 +1,18 @@
 //! The ends of a world.
 
-ghost use Rattle.std.specs.Prelude.{◌≡◌, map, slice_get, Some, All, IsErrOf, OnOk};
+ghost use Rattle.std.specs.Prelude.{◌≡◌, [], map, slice_get, Some, All, IfOk, IsErrOf, OnOk};
 ghost use Rattle.atspi_header.specs.View.{envelope_at};
 ghost use Rattle.atspi_protocol.specs.exporting.Exporter.{Exporter};
 ghost use Rattle.atspi_protocol.specs.exporting.Taking.{app_takes};
 ghost use Rattle.atspi_protocol.specs.following.ReaderState.{ReaderState};
+ghost use Rattle.atspi_protocol.specs.registering.RegistryState.{begins};
 ghost use Rattle.atspi_protocol.specs.following.Takes.{reader_takes};
 ghost use Rattle.atspi_posts.specs.Changes.{changed_at};
 ghost use Rattle.atspi_play.specs.Breaking.{IsPast};
 ghost use Rattle.atspi_cast.specs.Spending.{HasSpentAll};
 ghost use Rattle.atspi_cast.specs.Taken.{ends_after, ends_of};
 
+use atspi_base::NoMemory;
 use atspi_header::MessageRef;
 use atspi_lines::Party;
 use atspi_protocol::ends::EndFault;
@@ -24,6 +26,22 @@ pub struct Cast<A: Application, R: Follower> {
     pub registry: Registry,
     pub apps: Vec<A>,
     pub readers: Vec<R>,
+}
+
+impl<A: Application, R: Follower> Cast<A, R> {
+    /// A registry that knows nobody and has not started, and no other end.
+    pub fn new(alloc: Global) -> Result<Cast<A, R>, NoMemory>
+        ensures registry { IfOk result (λ cast. cast.registry ≡ record { state = begins; out = [] }) }
+        ensures apps { IfOk result (λ cast. cast.apps.items ≡ []) }
+        ensures readers { IfOk result (λ cast. cast.readers.items ≡ []) }
+    {
+        let registry = Registry::new(alloc)?;
+        Ok(Cast {
+            registry,
+            apps: Vec::new(alloc),
+            readers: Vec::new(alloc),
+        })
+    }
 }
 
 /// An application takes a message.
