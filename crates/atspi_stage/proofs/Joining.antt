@@ -2,7 +2,7 @@
 use Rattle.std.proofs.Common.{◌≡◌, ℕ, suc, List, [], ◌∷◌, ◌++◌, length, map, set, None, Some, refl, sym, ap, ◌∙◌, subst, append_assoc}
 use Rattle.std.specs.Prelude.{slice_get}
 use Rattle.std.specs.List.{AllByRecursion}
-use Rattle.std.proofs.lemmas.List.{map-append, length-map}
+use Rattle.std.proofs.lemmas.List.{length-map}
 use Rattle.atspi_lines.specs.declared.line.Party.{Party}
 use Rattle.atspi_lines.specs.declared.line.Party.TheVariants.{Registry as The_registry, App, Reader}
 use Rattle.atspi_message.specs.Envelope.{Envelope}
@@ -17,7 +17,7 @@ use Rattle.atspi_protocol.specs.following.Takes as takes
 use Rattle.atspi_routing.specs.Queues.{Bus}
 use Rattle.atspi_events.specs.declared.event.Event.{Event}
 use Rattle.atspi_posts.specs.declared.post.Post.{Post}
-use Rattle.atspi_trace.specs.Entry.{Entry, entry_of, entries_of, started, sent}
+use Rattle.atspi_trace.specs.Entry.{entries_of, started, sent}
 use Rattle.atspi_trace.specs.World.{Role, an_application, a_reader, Said, End, World, newcomer}
 use Rattle.atspi_trace.specs.Ends.{plain, put_up, app_count, reader_count, end_at}
 use Rattle.atspi_trace.specs.Causes.{at_end, joins, did, saids, has_done, app_did, asks, first_hearer, starts_app, starts_reader, does}
@@ -36,13 +36,7 @@ use Rattle.atspi_stage.proofs.Plays.{get_last, set_last}
 use Rattle.atspi_stage.proofs.Sayings.{told_done, done_leaves}
 use Rattle.atspi_stage.proofs.Stays.{Beside, app_joins, reader_joins}
 
--- what is pushed stands last, as it is seen
-pub pushed_is : {X Y : Type 0} (f : X → Y) (xs ys : List X) (x : X) (y : Y) → ys ≡ xs ++ x ∷ [] → f x ≡ y → map f ys ≡ map f xs ++ y ∷ []
-pushed_is f xs ys x y pushed seen = ap (map f) pushed ∙ map-append f xs (x ∷ []) ∙ ap (λ z. map f xs ++ z ∷ []) seen
-
-pub begun_is : (old new : List Event) (event : Event) (entry : Entry) → new ≡ old ++ event ∷ [] → entry_of event ≡ entry → entries_of new ≡ entries_of old ++ entry ∷ []
-begun_is old new event entry told is = pushed_is entry_of old new event entry told is
-
+-- the next number of one, where each is seen as something else
 pub counted : {X Y : Type 0} (f : X → Y) (xs : List X) (n : ℕ) → n ≡ length xs → n ≡ length (map f xs)
 counted f xs n h = h ∙ sym (length-map xs f)
 

@@ -20,10 +20,10 @@ ghost use Rattle.atspi_stage.specs.Worlds.{staged, Happens, IsBegun, IsPlaying, 
 use crate::stage::Stage;
 use atspi_base::Text;
 use atspi_carrying::{Carrier, CarryFault};
-use atspi_cast::{Cast, hear_at, tell_app_at, tell_first, tell_reader_at};
-use atspi_events::Event;
+use atspi_cast::{
+    Cast, hear_at, start_app_at, start_reader_at, tell_app_at, tell_first, tell_reader_at, tell_start,
+};
 use atspi_lines::{Party, QUOTA_MOST};
-use atspi_posts::note;
 use atspi_registry::Registry;
 use atspi_stage_ends::{Application, Follower};
 use std::alloc::Global;
@@ -65,13 +65,10 @@ impl<A: Application, R: Follower> Stage<A, R> {
         ensures silent { IfOk result (λ stage. trace_of stage ≡ []) }
         ensures calm { (IsErrOf result CarryFault.Spent → ⊥) × (IsErrOf result CarryFault.RegistryLost → ⊥) }
     {
+        let cast = Cast::new(alloc)?;
         let mut stage = Stage {
             carrier: Carrier::new(alloc, QUOTA_MOST),
-            cast: Cast {
-                registry: Registry::new(alloc)?,
-                apps: Vec::new(alloc),
-                readers: Vec::new(alloc),
-            },
+            cast,
             kits,
             spares,
         };
@@ -161,17 +158,8 @@ impl<A: Application, R: Follower> Stage<A, R> {
             return Err(CarryFault::Unsendable);
         };
         let who = Party::App(number);
-        let told = name.copy(alloc)?;
-        note(
-            &mut self.carrier.trace,
-            Event::Start {
-                who,
-                name: Some(told),
-            },
-        )?;
-        let mut app = A::new(alloc, name.copy(alloc)?, kit)?;
-        app.start(alloc)?;
-        self.cast.apps.push(app)?;
+        tell_start(alloc, &mut self.carrier.trace, who, Some(name))?;
+        start_app_at(alloc, &mut self.cast.apps, name, kit)?;
         let conn = self.carrier.join(who)?;
         tell_app_at(
             &mut self.cast.apps,
@@ -190,14 +178,13 @@ impl<A: Application, R: Follower> Stage<A, R> {
         ensures does { OnOk result ((p : Playing) → IsPlaying p (staged A.exporter R.follower self.old) → reader_count p.world.ends < 4 → Happens (plays p starts_reader) (staged A.exporter R.follower self.old) (staged A.exporter R.follower self.new)) }
         ensures calm { (IsErrOf result CarryFault.Spent → ⊥) × (IsErrOf result CarryFault.RegistryLost → ⊥) }
     {
+        let alloc = self.carrier.alloc;
         let Ok(number) = u32::try_from(self.cast.readers.len()) else {
             return Err(CarryFault::Unsendable);
         };
         let who = Party::Reader(number);
-        note(&mut self.carrier.trace, Event::Start { who, name: None })?;
-        let mut reader = R::new(self.carrier.alloc)?;
-        reader.start()?;
-        self.cast.readers.push(reader)?;
+        tell_start(alloc, &mut self.carrier.trace, who, None)?;
+        start_reader_at(alloc, &mut self.cast.readers)?;
         let conn = self.carrier.join(who)?;
         tell_reader_at(
             &mut self.cast.readers,

@@ -1,8 +1,6 @@
-use Rattle.std.proofs.Common.{◌≡◌, None, length, map, refl, sym, ap, ◌∙◌, arith}
-use Rattle.atspi_lines.specs.declared.line.Party.TheVariants.{Reader}
-use Rattle.atspi_protocol.specs.following.Takes.{starts}
-use Rattle.atspi_trace.specs.Entry.{started}
-use Rattle.atspi_stage.proofs.Joining.{reader_start, begun_is, counted, pushed_is}
+use Rattle.std.proofs.Common.{◌≡◌, length, map, refl, sym, ap, ◌∙◌, arith}
+use Rattle.atspi_trace.specs.Entry.{entries_of}
+use Rattle.atspi_stage.proofs.Joining.{reader_start, counted}
 use Rattle.atspi_cast.proofs.Queued.{written_back, tells_reader_as}
 use Rattle.atspi_stage.proofs.stage.Stage.start_reader.Goals as goal
 
@@ -11,11 +9,10 @@ returns-clause-does g c =
     let follower = g.R.Follower.follower in
     let s = c.args.self.now in
     let number : c.in-Ok.number ≡ length s.cast.readers.items = first_of (omega (arith, c.in-Ok.ensures, c.len.ensures), grind (arith, c.in-Ok.ensures, c.len.ensures)) in
-    let trace : c.join.new.self.trace.items ≡ c.note.new.trace.items = first_of (cc (c.in_ok-conn.ensures.trace), grind (arith, c.in_ok-conn.ensures.trace)) in
-    λ p is few. reader_start p c.in-Ok.number c.in_ok-conn.conn _ _ (map follower c.push.new.self.items) c.join.new.self.posts.items c.join.new.self.trace.items is
+    let trace : c.join.new.self.trace.items ≡ c.tell_start.new.trace.items = first_of (cc (c.in_ok-conn.ensures.trace), grind (arith, c.in_ok-conn.ensures.trace)) in
+    λ p is few. reader_start p c.in-Ok.number c.in_ok-conn.conn _ _ (map follower c.start_reader_at.new.readers.items) c.join.new.self.posts.items c.join.new.self.trace.items is
     (counted follower s.cast.readers.items c.in-Ok.number number)
     c.in_ok-conn.ensures.place c.in_ok-conn.ensures.joins c.in_ok-conn.ensures.linked
-    (begun_is s.carrier.trace.items c.join.new.self.trace.items _ (started (Reader c.in-Ok.number) None) (trace ∙ c.in_ok-note.ensures.told) refl)
-    (pushed_is follower s.cast.readers.items c.push.new.self.items _ _ c.in_ok-push.ensures.items (c.in_ok-start.ensures.ok ∙ ap starts c.in_ok-reader.ensures.begins))
+    (ap entries_of trace ∙ c.in_ok-tell_start.ensures.told) c.in_ok-start_reader_at.ensures.starts
     (tells_reader_as _ _ _ _ _ _ _ _ c.in-Ok.number c.in_ok-conn.conn _ _ (ap (map follower) c.deref_mut.ensures.value) (ap (map follower) (sym (written_back _ c.tell_reader_at.new.readers _ (omega arith))))
     c.deref_mut-2.ensures.value (sym (written_back _ c.tell_reader_at.new.posts _ (omega arith))) c.in_ok-tell_reader_at.ensures.told) refl (record { registry = refl; kits = refl; spares = refl })
