@@ -43,14 +43,14 @@ const ROUND: u32 = 16;
 const TURNS: u32 = 64;
 
 /// A line is done, or stops the script.
-fn act<A: Application, R: Follower>(world: &mut Stage<A, R>, line: &Line) -> Result<(), Stop>
-    requires may { MayAct line.now }
+fn act<A: Application, R: Follower>(world: &mut Stage<A, R>, line: Line) -> Result<(), Stop>
+    requires may { MayAct line }
     requires stage { IsStage A.is_app R.is_follower A.is_kit A.is_spare world.old }
     ensures stage { OnOk result (IsStage A.is_app R.is_follower A.is_kit A.is_spare world.new) }
-    ensures done { OnOk result (LineDone line.now (staged A.exporter R.follower world.old) (staged A.exporter R.follower world.new)) }
-    ensures stops { IfErr result (StopsAt line.now (staged A.exporter R.follower world.old)) }
+    ensures done { OnOk result (LineDone line (staged A.exporter R.follower world.old) (staged A.exporter R.follower world.new)) }
+    ensures stops { IfErr result (StopsAt line (staged A.exporter R.follower world.old)) }
 {
-    match world.act(line) {
+    match world.act(&line) {
         Ok(()) => Ok(()),
         Err(fault) => {
             all_fit(world.trace());
@@ -70,9 +70,9 @@ fn begin<A: Application, R: Follower>(alloc: Global, world: &mut Stage<A, R>) ->
     let Ok(name) = Text::of(alloc, "Made") else {
         return Err(Stop::NoMemory);
     };
-    act(world, &Line::App(name))?;
-    act(world, &Line::Reader)?;
-    act(world, &Line::Drain)
+    act(world, Line::App(name))?;
+    act(world, Line::Reader)?;
+    act(world, Line::Drain)
 }
 
 /// The edit with this number is drawn from the first application's tree. Where there is none, an edit of it would be refused.
@@ -113,7 +113,7 @@ fn make_turns<A: Application, R: Follower>(world: &mut Stage<A, R>, number: u32)
     ensures stops { IfErr result (λ stop. (number % 16 ≡ 0) × StopsAt (Line.Turns 64) (staged A.exporter R.follower world.old) stop) }
 {
     if number % ROUND == 0 {
-        return act(world, &Line::Turns(TURNS));
+        return act(world, Line::Turns(TURNS));
     }
     Ok(())
 }
@@ -136,7 +136,7 @@ fn make_edit<A: HasTree, R: Follower>(
     ensures stops { IfErr result (λ stop. (count seed : ℕ) → number ≤ count → HasDrawn seed (number - 1) draws.old.state (staged A.exporter R.follower world.old) → ScriptStops count seed stop) }
 {
     let edit = draw(alloc, world, number, nodes, draws)?;
-    act(world, &Line::Edit { app: 0, edit })?;
+    act(world, Line::Edit { app: 0, edit })?;
     make_turns(world, number)
 }
 
@@ -158,7 +158,7 @@ fn make_edits<A: HasTree, R: Follower>(
     for number in 1..count + 1 {
         make_edit(alloc, world, number, &mut nodes, draws)?;
     }
-    act(world, &Line::Drain)
+    act(world, Line::Drain)
 }
 
 /// Whether an event is a step of a tree.

@@ -11,6 +11,6 @@ pub returns-in-Err-clause-stops : goal.returns-in-Err-clause-stops
 returns-in-Err-clause-stops g c =
     let w = c.act.new.self in
     rw c.stop_of_act.ensures.value
-    (act_stops c.in-Err.fault c.args.line.now _
+    (act_stops c.in-Err.fault c.args.line _
     (staged g.A.Application.exporter g.R.Follower.follower w)
     c.requires.may (λ why e. c.in-Err.ensures.refused why (ap failed e)) (λ e. c.in-Err.ensures.lost (ap failed e)) (λ e. c.in-Err.ensures.spent (ap failed e)) (rw c.trace.ensures at c.all_fit.ensures))

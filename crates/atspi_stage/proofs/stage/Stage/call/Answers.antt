@@ -1,3 +1,4 @@
+use Rattle.std.proofs.lemmas.Grind.{common_steps}
 use Rattle.std.proofs.Common.{Err, None, Some, map, refl, sym, ap, ◌∙◌, subst, arith}
 use Rattle.atspi_bus_steps.specs.Inner.{inner_of}
 use Rattle.atspi_carrying.proofs.Ties.{post_is}
@@ -60,3 +61,18 @@ returns-in_err-call_at-clause-spent g c = λ is p e playing there at.
     let fault = call_was_spent c.in_err-call_at.field-0.0 (given_is c.from_residual.result _ _ c.from_residual.ensures.1 is) in
     call_spent p c.args.conn c.args.reader (name_of (Some e)) c.index.result.now.name c.args.node c.args.deed.now _ _ playing there
     (subst (λ l. CallSpends (map follower l) c.args.reader c.index.result.now.name c.args.node c.args.deed.now) c.deref_mut.ensures.value (c.in_err-call_at.ensures.spent (ap Err fault))) refl refl
+
+pub returns-in_err-call_at-clause-stage : goal.returns-in_err-call_at-clause-stage
+returns-in_err-call_at-clause-stage g c = grind (arith, common_steps)
+
+pub returns-in_err-call_at-clause-nothing : goal.returns-in_err-call_at-clause-nothing
+returns-in_err-call_at-clause-nothing g c = grind (arith, common_steps)
+
+pub tell_reader_at-requires : goal.tell_reader_at-requires
+tell_reader_at-requires g c = grind (arith, common_steps)
+
+pub returns-in_err-tell_reader_at-clause-stage : goal.returns-in_err-tell_reader_at-clause-stage
+returns-in_err-tell_reader_at-clause-stage g c = grind (arith, common_steps)
+
+pub returns-clause-stage : goal.returns-clause-stage
+returns-clause-stage g c = grind (arith, common_steps)

@@ -1,3 +1,4 @@
+use Rattle.std.proofs.lemmas.Grind.{common_steps}
 use Rattle.std.proofs.Common.{Err, Some, map, refl, sym, ap, ◌∙◌, subst, arith}
 use Rattle.atspi_trace.specs.Work.{of_edit}
 use Rattle.atspi_cast.specs.Doing.{EditsAt}
@@ -39,3 +40,18 @@ returns-in_err-edit_at-clause-spent g c = λ is p playing there.
     let fault = edit_was_spent c.in_err-edit_at.field-0.0 (given_is c.from_residual.result _ _ c.from_residual.ensures.1 is) in
     edit_spent p c.args.conn c.args.app c.args.edit.now _ _ playing there
     (subst (λ l. EditSpends (map exporter l) c.args.app c.args.edit.now) c.deref_mut.ensures.value (c.in_err-edit_at.ensures.spent (ap Err fault))) refl refl
+
+pub returns-in_err-edit_at-clause-stage : goal.returns-in_err-edit_at-clause-stage
+returns-in_err-edit_at-clause-stage g c = grind (arith, common_steps)
+
+pub returns-in_err-edit_at-clause-nothing : goal.returns-in_err-edit_at-clause-nothing
+returns-in_err-edit_at-clause-nothing g c = grind (arith, common_steps)
+
+pub tell_app_at-requires : goal.tell_app_at-requires
+tell_app_at-requires g c = grind (arith, common_steps)
+
+pub returns-in_err-tell_app_at-clause-stage : goal.returns-in_err-tell_app_at-clause-stage
+returns-in_err-tell_app_at-clause-stage g c = grind (arith, common_steps)
+
+pub returns-clause-stage : goal.returns-clause-stage
+returns-clause-stage g c = grind (arith, common_steps)
