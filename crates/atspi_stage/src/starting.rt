@@ -21,7 +21,8 @@ use crate::stage::Stage;
 use atspi_base::Text;
 use atspi_carrying::{Carrier, CarryFault};
 use atspi_cast::{
-    Cast, hear_at, start_app_at, start_reader_at, tell_app_at, tell_first, tell_reader_at, tell_start,
+    Cast, hear_at, start_app_at, start_reader_at, tell_app_at, tell_first, tell_reader_at,
+    tell_start,
 };
 use atspi_lines::{Party, QUOTA_MOST};
 use atspi_registry::Registry;
