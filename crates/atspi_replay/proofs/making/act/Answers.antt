@@ -7,8 +7,8 @@ use Rattle.atspi_replay.proofs.making.act.Goals as goal
 abbrev failed : ActFault → Result (Unit {0}) ActFault
 failed fault = Err fault
 
-pub returns-in-Err-clause-stops : goal.returns-in-Err-clause-stops
-returns-in-Err-clause-stops g c =
+pub returns-clause-stops : goal.returns-clause-stops
+returns-clause-stops g c =
     let w = c.act.new.self in
     rw c.stop_of_act.ensures.value
     (act_stops c.in-Err.fault c.args.line _
