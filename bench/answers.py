@@ -25,7 +25,7 @@ COMMON, GRIND = "Rattle.std.proofs.Common", "Rattle.std.proofs.lemmas.Grind"
 def run(words, crate):
     """Returns what a check with these words says."""
     ran = subprocess.run(words, cwd=f"crates/{crate}", stdout=subprocess.PIPE, stderr=subprocess.STDOUT, errors="replace", check=False)
-    return ran.stdout.decode(errors="replace")
+    return ran.stdout
 
 
 def offered(words, crate, functions, folder):
