@@ -1,10 +1,9 @@
 //! The application over a host in memory, with messages of a bus and of a registry worked out by hand.
 
-use crate::hosts::{NEVER, given, host_of, joined, pieces};
-use atspi_base::{MemSink, MemSource, Text};
+use crate::hosts::{NEVER, Run, host_of, joined, numbers, path, run_of};
+use atspi_base::{MemSink, MemSource};
 use atspi_exported::Kit;
 use atspi_faces::{Deeds, Grid, PlainText};
-use atspi_host::Peer;
 use atspi_live_app::app;
 use std::alloc::Global;
 use std::process::Abort;
@@ -55,19 +54,10 @@ const LISTED_FRONT: &[u8] = b"l\x02\x01\x01/\0\0\0\x03\0\0\03\0\0\0";
 const LISTED_REST: &[u8] =
     b"\x05\x01u\0\x03\0\0\0\x06\x01s\0\x04\0\0\0:1.0\0\0\0\0\x07\x01s\0\x04\0\0\0:1.1\0\0\0\0\x08\x01g\0\x05a(ss)\0\0\0\0\0\0'\0\0\0\0\0\0\0\x04\0\0\0:1.9\0\0\0\0\x16\0\0\0object:property-change\0";
 
-/// What a run came to: its status, what was given on the link, and what was written.
-#[derive(Drop)]
-struct Run {
-    status: u8,
-    given: Vec<u8>,
-    written: MemSink,
-}
-
 /// A source of these bytes, whose call with this number fails.
-fn source_of(alloc: Global, input: &[u8], failing: u64) -> Result<MemSource, Fail> {
-    let mut numbers = Vec::new(alloc);
-    numbers.push(failing)?;
-    Ok(MemSource::new(input.to_vec(alloc)?, numbers))
+fn source_of(rt: &impl Abort, alloc: Global, input: &[u8], failing: u64) -> MemSource {
+    let bytes = input.to_vec(alloc).expect(rt, "memory");
+    MemSource::new(bytes, numbers(rt, alloc, failing))
 }
 
 /// The application does so many rounds with this input and a peer that sends these pieces; the calls with these numbers fail, one of the
@@ -79,17 +69,16 @@ fn run_with(
     parts: &[&[u8]],
     failing: (u64, u64),
     rounds: u32,
-) -> Result<Run, Fail> {
-    let mut peers = Vec::new(alloc);
-    peers.push(Peer::new(pieces(alloc, parts)?, false))?;
-    let mut host = host_of(alloc, peers, failing.1)?;
-    let mut source = source_of(alloc, input, failing.0)?;
+) -> Run {
+    let mut host = host_of(rt, alloc, parts, false, failing.1);
+    let mut source = source_of(rt, alloc, input, failing.0);
     let mut written = MemSink::new(alloc, Vec::new(alloc));
-    let path = Text::read(alloc, b"/run/bus").expect(rt, "a path");
-    let chars = Box::new(alloc, PlainText::new(alloc))?;
-    let grid = Box::new(alloc, Grid::new(alloc))?;
-    let deeds = Box::new(alloc, Deeds::new(alloc))?;
-    let kit = Kit { chars, grid, deeds };
+    let path = path(rt, alloc);
+    let kit = Kit {
+        chars: Box::new(alloc, PlainText::new(alloc)).expect(rt, "memory"),
+        grid: Box::new(alloc, Grid::new(alloc)).expect(rt, "memory"),
+        deeds: Box::new(alloc, Deeds::new(alloc)).expect(rt, "memory"),
+    };
     let status = app(
         alloc,
         &path,
@@ -99,15 +88,10 @@ fn run_with(
         &mut host,
         kit,
     );
-    let calls = host.calls().unwrap_or(&[]);
-    Ok(Run {
-        status,
-        given: given(alloc, 0, calls)?,
-        written,
-    })
+    run_of(rt, alloc, status, written, &host)
 }
 
-/// What a run with a silent peer answers and writes.
+/// Whether a run with a silent peer has this status and writes just this line.
 fn is_written(
     rt: &impl Abort,
     alloc: Global,
@@ -115,128 +99,87 @@ fn is_written(
     rounds: u32,
     status: u8,
     line: &[u8],
-) -> Result<bool, Fail> {
-    let run = run_with(rt, alloc, input, &[], (NEVER, NEVER), rounds)?;
-    Ok(run.status == status && run.written.bytes() == line)
+) -> bool {
+    run_with(rt, alloc, input, &[], (NEVER, NEVER), rounds).wrote(status, line)
 }
 
-/// Whether nine rounds with this input and a peer that sends these pieces give just what is due.
-fn gives(
-    rt: &impl Abort,
-    alloc: Global,
-    input: &[u8],
-    parts: &[&[u8]],
-    due: &[&[u8]],
-) -> Result<bool, Fail> {
-    let run = run_with(rt, alloc, input, parts, (NEVER, NEVER), 9)?;
-    let due = joined(alloc, due)?;
-    Ok(run.status == 8 && run.given.as_slice() == due.as_slice())
+/// Whether nine rounds with this input and a peer that sends these pieces give just what is due, and write nothing.
+fn gives(rt: &impl Abort, alloc: Global, input: &[u8], parts: &[&[u8]], due: &[&[u8]]) -> bool {
+    let due = joined(rt, alloc, due);
+    run_with(rt, alloc, input, parts, (NEVER, NEVER), 9).is(8, due.as_slice(), b"")
 }
 
 #[test]
-fn tells_an_edit(rt: HostRuntime) -> Result<(), Fail> {
-    let alloc = rt.alloc();
+fn tells_an_edit(rt: HostRuntime) {
     // the edit stands before the sixth read
     let input = b"app \"T\"\nwait 4\nname 0 \"x\"\n";
     let parts: &[&[u8]] = &[CHALLENGE, GRANT, NAMED, MATCHED, LISTED];
-    let run = run_with(&rt, alloc, input, parts, (NEVER, NEVER), 9)?;
-    assert_eq!(rt; run.status, 8);
-    let due = joined(alloc, &[LINES, HELLO, MATCH, EVENTS, EMBED, SIGNAL])?;
-    assert_eq!(rt; run.given.as_slice(), due.as_slice());
-    assert_eq!(rt; run.written.bytes(), b"".as_slice());
-    Ok(())
+    let due: &[&[u8]] = &[LINES, HELLO, MATCH, EVENTS, EMBED, SIGNAL];
+    assert!(rt; gives(&rt, rt.alloc(), input, parts, due));
 }
 
 #[test]
-fn does_a_line_before_the_read_of_its_round(rt: HostRuntime) -> Result<(), Fail> {
-    let alloc = rt.alloc();
+fn does_a_line_before_the_read_of_its_round(rt: HostRuntime) {
     // the edit stands before the fifth read, in which it is listed who listens: nobody listens yet
     let input = b"app \"T\"\nwait 3\nname 0 \"x\"\n";
     let parts: &[&[u8]] = &[CHALLENGE, GRANT, NAMED, MATCHED, LISTED];
     let due: &[&[u8]] = &[LINES, HELLO, MATCH, EVENTS, EMBED];
-    assert!(rt; gives(&rt, alloc, input, parts, due)?);
-    Ok(())
+    assert!(rt; gives(&rt, rt.alloc(), input, parts, due));
 }
 
 #[test]
-fn takes_a_message_with_its_last_byte(rt: HostRuntime) -> Result<(), Fail> {
-    let alloc = rt.alloc();
+fn takes_a_message_with_its_last_byte(rt: HostRuntime) {
     // the sixth read makes it whole
     let parts: &[&[u8]] = &[CHALLENGE, GRANT, NAMED, MATCHED, LISTED_FRONT, LISTED_REST];
     let silent: &[&[u8]] = &[LINES, HELLO, MATCH, EVENTS, EMBED];
     let told: &[&[u8]] = &[LINES, HELLO, MATCH, EVENTS, EMBED, SIGNAL];
     let sixth = b"app \"T\"\nwait 4\nname 0 \"x\"\n";
-    assert!(rt; gives(&rt, alloc, sixth, parts, silent)?);
+    assert!(rt; gives(&rt, rt.alloc(), sixth, parts, silent));
     let seventh = b"app \"T\"\nwait 5\nname 0 \"x\"\n";
-    assert!(rt; gives(&rt, alloc, seventh, parts, told)?);
-    Ok(())
+    assert!(rt; gives(&rt, rt.alloc(), seventh, parts, told));
 }
 
 #[test]
-fn refuses_an_edit(rt: HostRuntime) -> Result<(), Fail> {
-    let alloc = rt.alloc();
+fn refuses_an_edit(rt: HostRuntime) {
     let input = b"app \"Demo\"\nremove 0";
-    let run = run_with(&rt, alloc, input, &[], (NEVER, NEVER), 50)?;
-    assert_eq!(rt; run.status, 1);
+    let run = run_with(&rt, rt.alloc(), input, &[], (NEVER, NEVER), 50);
     // one whole round was done
-    assert_eq!(rt; run.given.as_slice(), b"\0AUTH EXTERNAL\x0d\x0a".as_slice());
-    assert_eq!(rt; run.written.bytes(), b"refused 2 IsRoot\n".as_slice());
-    Ok(())
+    assert!(rt; run.is(1, b"\0AUTH EXTERNAL\x0d\x0a", b"refused 2 IsRoot\n"));
 }
 
 #[test]
-fn refuses_lines(rt: HostRuntime) -> Result<(), Fail> {
+fn refuses_lines(rt: HostRuntime) {
     let alloc = rt.alloc();
-    assert!(rt; is_written(&rt, alloc, b"", 9, 1, b"refused 1 Form\n")?);
-    assert!(rt; is_written(&rt, alloc, b"# no\n\n", 9, 1, b"refused 3 Form\n")?);
-    assert!(rt; is_written(&rt, alloc, b"frob", 9, 1, b"refused 1 Form\n")?);
-    assert!(rt; is_written(&rt, alloc, b"name 0 \"x\"\n", 9, 1, b"refused 1 Form\n")?);
-    assert!(rt; is_written(&rt, alloc, b"wait 1\n", 9, 1, b"refused 1 Form\n")?);
-    assert!(rt;
-        is_written(
-            &rt,
-            alloc,
-            b"app \"A\"\napp \"B\"",
-            9,
-            1,
-            b"refused 2 Form\n"
-        )?
-    );
-    assert!(rt;
-        is_written(
-            &rt,
-            alloc,
-            b"app \"A\"\n\xff\n",
-            9,
-            1,
-            b"refused 2 NotUtf8\n"
-        )?
-    );
-    Ok(())
+    assert!(rt; is_written(&rt, alloc, b"", 9, 1, b"refused 1 Form\n"));
+    assert!(rt; is_written(&rt, alloc, b"# no\n\n", 9, 1, b"refused 3 Form\n"));
+    assert!(rt; is_written(&rt, alloc, b"frob", 9, 1, b"refused 1 Form\n"));
+    assert!(rt; is_written(&rt, alloc, b"name 0 \"x\"\n", 9, 1, b"refused 1 Form\n"));
+    assert!(rt; is_written(&rt, alloc, b"wait 1\n", 9, 1, b"refused 1 Form\n"));
+    let twice = b"app \"A\"\napp \"B\"";
+    assert!(rt; is_written(&rt, alloc, twice, 9, 1, b"refused 2 Form\n"));
+    let torn = b"app \"A\"\n\xff\n";
+    assert!(rt; is_written(&rt, alloc, torn, 9, 1, b"refused 2 NotUtf8\n"));
 }
 
 #[test]
-fn counts_rounds(rt: HostRuntime) -> Result<(), Fail> {
-    let alloc = rt.alloc();
+fn counts_rounds(rt: HostRuntime) {
     // the last line comes before the eighth read
     let input = b"# x\napp \"A\"\n\nwait 3\nwait 0\nfocus 9\n";
-    assert!(rt; is_written(&rt, alloc, input, 7, 8, b"")?);
-    assert!(rt; is_written(&rt, alloc, input, 8, 1, b"refused 6 NoNode\n")?);
-    Ok(())
+    assert!(rt; is_written(&rt, rt.alloc(), input, 7, 8, b""));
+    assert!(rt; is_written(&rt, rt.alloc(), input, 8, 1, b"refused 6 NoNode\n"));
+}
+
+/// The status of five rounds with these pieces, where calls with these numbers fail.
+fn status_of(rt: &impl Abort, alloc: Global, parts: &[&[u8]], failing: (u64, u64)) -> u8 {
+    run_with(rt, alloc, b"app \"T\"\n", parts, failing, 5).status
 }
 
 #[test]
-fn fails(rt: HostRuntime) -> Result<(), Fail> {
+fn fails(rt: HostRuntime) {
     let alloc = rt.alloc();
-    let input = b"app \"T\"\n";
-    let run = run_with(&rt, alloc, input, &[], (0, NEVER), 5)?;
-    assert_eq!(rt; run.status, 3);
-    let run = run_with(&rt, alloc, input, &[], (NEVER, 0), 5)?;
-    assert_eq!(rt; run.status, 7);
-    let run = run_with(&rt, alloc, input, &[], (NEVER, 1), 5)?;
-    assert_eq!(rt; run.status, 7);
-    let parts: &[&[u8]] = &[CHALLENGE, b"REJECTED EXTERNAL\r\n"];
-    let run = run_with(&rt, alloc, input, parts, (NEVER, NEVER), 5)?;
-    assert_eq!(rt; run.status, 10);
-    Ok(())
+    assert!(rt; status_of(&rt, alloc, &[], (0, NEVER)) == 3);
+    assert!(rt; status_of(&rt, alloc, &[], (NEVER, 0)) == 7);
+    assert!(rt; status_of(&rt, alloc, &[], (NEVER, 1)) == 7);
+    let rejected: &[&[u8]] = &[CHALLENGE, b"REJECTED EXTERNAL\r\n"];
+    assert!(rt; status_of(&rt, alloc, rejected, (NEVER, NEVER)) == 10);
 }

@@ -1,8 +1,7 @@
 //! The reader over a host in memory, with answers of a bus worked out by hand.
 
-use crate::hosts::{NEVER, given, host_of, joined, pieces};
-use atspi_base::{MemSink, Text};
-use atspi_host::Peer;
+use crate::hosts::{NEVER, Run, host_of, joined, path, run_of};
+use atspi_base::MemSink;
 use atspi_live_reader::read;
 use std::alloc::Global;
 use std::process::Abort;
@@ -49,14 +48,6 @@ const GONE: &[u8] =
 /// The front of a call whose number is 0.
 const FAULTY: &[u8] = b"l\x01\0\x01\0\0\0\0\0\0\0\0m\0\0\0";
 
-/// What a run came to: its status, what was given on the link, and what was written.
-#[derive(Drop)]
-struct Run {
-    status: u8,
-    given: Vec<u8>,
-    written: MemSink,
-}
-
 /// The reader does so many rounds with a peer that sends these pieces; the call with this number fails.
 fn run_with(
     rt: &impl Abort,
@@ -65,125 +56,92 @@ fn run_with(
     ends: bool,
     failing: u64,
     rounds: u32,
-) -> Result<Run, Fail> {
-    let mut peers = Vec::new(alloc);
-    peers.push(Peer::new(pieces(alloc, parts)?, ends))?;
-    let mut host = host_of(alloc, peers, failing)?;
+) -> Run {
+    let mut host = host_of(rt, alloc, parts, ends, failing);
     let mut written = MemSink::new(alloc, Vec::new(alloc));
-    let path = Text::read(alloc, b"/run/bus").expect(rt, "a path");
+    let path = path(rt, alloc);
     let status = read(alloc, &path, rounds, &mut written, &mut host);
-    let calls = host.calls().unwrap_or(&[]);
-    Ok(Run {
-        status,
-        given: given(alloc, 0, calls)?,
-        written,
-    })
+    run_of(rt, alloc, status, written, &host)
 }
 
 #[test]
-fn starts(rt: HostRuntime) -> Result<(), Fail> {
+fn starts(rt: HostRuntime) {
     let alloc = rt.alloc();
-    let run = run_with(&rt, alloc, &[CHALLENGE, GRANT, NAMED], true, NEVER, 9)?;
-    assert_eq!(rt; run.status, 0);
-    let due = joined(alloc, &[LINES, HELLO, MATCH])?;
-    assert_eq!(rt; run.given.as_slice(), due.as_slice());
-    assert_eq!(rt; run.written.bytes(), b"".as_slice());
-    Ok(())
+    let run = run_with(&rt, alloc, &[CHALLENGE, GRANT, NAMED], true, NEVER, 9);
+    let due = joined(&rt, alloc, &[LINES, HELLO, MATCH]);
+    assert!(rt; run.is(0, due.as_slice(), b""));
+}
+
+/// The return to the call with this number.
+fn answer(rt: &impl Abort, number: u8, bytes: &mut Vec<u8>) {
+    let [front, middle, rest] = ANSWER;
+    bytes.extend_from_slice(front).expect(rt, "memory");
+    bytes.push(number).expect(rt, "memory");
+    bytes.extend_from_slice(b"\0\0\0").expect(rt, "memory");
+    bytes.extend_from_slice(middle).expect(rt, "memory");
+    bytes.push(number).expect(rt, "memory");
+    bytes.extend_from_slice(rest).expect(rt, "memory");
 }
 
 /// The returns to the calls with the numbers 2 to 9.
-fn answers(alloc: Global) -> Result<Vec<u8>, Fail> {
-    let [front, middle, rest] = ANSWER;
+fn answers(rt: &impl Abort, alloc: Global) -> Vec<u8> {
     let mut bytes = Vec::new(alloc);
     for number in 2u8..10 {
-        bytes.extend_from_slice(front)?;
-        bytes.push(number)?;
-        bytes.extend_from_slice(b"\0\0\0")?;
-        bytes.extend_from_slice(middle)?;
-        bytes.push(number)?;
-        bytes.extend_from_slice(rest)?;
+        answer(rt, number, &mut bytes);
     }
-    Ok(bytes)
+    bytes
 }
 
 #[test]
-fn shows_what_it_holds(rt: HostRuntime) -> Result<(), Fail> {
+fn shows_what_it_holds(rt: HostRuntime) {
     let alloc = rt.alloc();
-    let answers = answers(alloc)?;
+    let answers = answers(&rt, alloc);
     let parts: &[&[u8]] = &[CHALLENGE, GRANT, NAMED, &answers, CHILDREN, ITEMS];
-    let run = run_with(&rt, alloc, parts, true, NEVER, 20)?;
-    assert_eq!(rt; run.status, 0);
     let due = b"show :1.2 1\n| root - -1 application 0000000043000100 \"Demo\" \"\" - - - -\n";
-    assert_eq!(rt; run.written.bytes(), due.as_slice());
+    assert!(rt; run_with(&rt, alloc, parts, true, NEVER, 20).wrote(0, due));
     // with one read fewer the peer has not ended yet
-    let run = run_with(&rt, alloc, parts, true, NEVER, 6)?;
-    assert_eq!(rt; run.status, 8);
-    assert_eq!(rt; run.written.bytes(), b"".as_slice());
-    Ok(())
+    assert!(rt; run_with(&rt, alloc, parts, true, NEVER, 6).wrote(8, b""));
 }
 
 #[test]
-fn is_not_connected(rt: HostRuntime) -> Result<(), Fail> {
-    let alloc = rt.alloc();
-    let run = run_with(&rt, alloc, &[], false, 0, 5)?;
-    assert_eq!(rt; run.status, 7);
-    Ok(())
+fn is_not_connected(rt: HostRuntime) {
+    assert!(rt; run_with(&rt, rt.alloc(), &[], false, 0, 5).status == 7);
 }
 
 #[test]
-fn is_rejected(rt: HostRuntime) -> Result<(), Fail> {
-    let alloc = rt.alloc();
+fn is_rejected(rt: HostRuntime) {
     let parts: &[&[u8]] = &[CHALLENGE, b"REJECTED EXTERNAL\r\n"];
-    let run = run_with(&rt, alloc, parts, false, NEVER, 5)?;
-    assert_eq!(rt; run.status, 10);
-    Ok(())
+    assert!(rt; run_with(&rt, rt.alloc(), parts, false, NEVER, 5).status == 10);
 }
 
 #[test]
-fn a_message_is_malformed(rt: HostRuntime) -> Result<(), Fail> {
-    let alloc = rt.alloc();
+fn a_message_is_malformed(rt: HostRuntime) {
     let parts: &[&[u8]] = &[CHALLENGE, GRANT, FAULTY];
-    let run = run_with(&rt, alloc, parts, false, NEVER, 5)?;
-    assert_eq!(rt; run.status, 6);
-    assert_eq!(rt; run.written.bytes(), b"fault 0 8 26\n".as_slice());
-    Ok(())
+    assert!(rt; run_with(&rt, rt.alloc(), parts, false, NEVER, 5).wrote(6, b"fault 0 8 26\n"));
 }
 
 /// A reader hears in one piece of an application, what that holds, and that it has ended; and then some bytes more.
-fn run_to_a_stop(rt: &impl Abort, alloc: Global, behind: &[u8], failing: u64) -> Result<Run, Fail> {
-    let answers = answers(alloc)?;
-    let last = joined(alloc, &[CHILDREN, ITEMS, GONE, behind])?;
+fn run_to_a_stop(rt: &impl Abort, alloc: Global, behind: &[u8], failing: u64) -> Run {
+    let answers = answers(rt, alloc);
+    let last = joined(rt, alloc, &[CHILDREN, ITEMS, GONE, behind]);
     let parts: &[&[u8]] = &[CHALLENGE, GRANT, NAMED, &answers, &last];
     run_with(rt, alloc, parts, false, failing, 20)
 }
 
 #[test]
-fn speaks_up_to_a_fault(rt: HostRuntime) -> Result<(), Fail> {
-    let alloc = rt.alloc();
-    let run = run_to_a_stop(&rt, alloc, FAULTY, NEVER)?;
-    assert_eq!(rt; run.status, 6);
+fn speaks_up_to_a_fault(rt: HostRuntime) {
     let due = b"say :1.2 \"Demo, closed\"\nfault 1334 8 26\n";
-    assert_eq!(rt; run.written.bytes(), due.as_slice());
-    Ok(())
+    assert!(rt; run_to_a_stop(&rt, rt.alloc(), FAULTY, NEVER).wrote(6, due));
 }
 
 #[test]
-fn speaks_though_a_write_fails(rt: HostRuntime) -> Result<(), Fail> {
-    let alloc = rt.alloc();
+fn speaks_though_a_write_fails(rt: HostRuntime) {
     // the write of the round in which the line is spoken: a connect, and then a read and a write in each of five rounds
-    let run = run_to_a_stop(&rt, alloc, b"", 10)?;
-    assert_eq!(rt; run.status, 7);
-    assert_eq!(rt;
-        run.written.bytes(),
-        b"say :1.2 \"Demo, closed\"\n".as_slice()
-    );
-    Ok(())
+    let due = b"say :1.2 \"Demo, closed\"\n";
+    assert!(rt; run_to_a_stop(&rt, rt.alloc(), b"", 10).wrote(7, due));
 }
 
 #[test]
-fn does_its_rounds(rt: HostRuntime) -> Result<(), Fail> {
-    let alloc = rt.alloc();
-    let run = run_with(&rt, alloc, &[CHALLENGE], false, NEVER, 5)?;
-    assert_eq!(rt; run.status, 8);
-    Ok(())
+fn does_its_rounds(rt: HostRuntime) {
+    assert!(rt; run_with(&rt, rt.alloc(), &[CHALLENGE], false, NEVER, 5).status == 8);
 }

@@ -1,10 +1,9 @@
 //! The registry over a host in memory, with answers of a bus worked out by hand.
 
-use atspi_base::{MemSink, Text};
-use atspi_host::{Call, Did, MemHost, Peer};
+use crate::hosts::{NEVER, Run, host_of, joined, path, run_of};
+use atspi_base::MemSink;
 use atspi_live_registry::registry;
 use std::alloc::Global;
-use std::collections::VecDeque;
 use std::process::Abort;
 use std::test::*;
 
@@ -44,163 +43,86 @@ const ASKED: &[u8] =
 const ANSWERED: &[u8] =
     b"l\x02\x01\x01\x08\0\0\0\x04\0\0\0#\0\0\0\x05\x01u\0\x09\0\0\0\x06\x01s\0\x04\0\0\0:1.5\0\0\0\0\x08\x01g\0\x05a(ss)\0\0\0\0\0\0\0\0\0\0\0\0\0\0";
 
-/// What a run came to: its status, what was given on the link, what was written, and how many calls of the host were made.
-#[derive(Drop)]
-struct Run {
-    status: u8,
-    given: Vec<u8>,
-    written: MemSink,
-    calls: usize,
-}
-
-/// The bytes of some slices, one behind the other.
-fn joined(alloc: Global, parts: &[&[u8]]) -> Result<Vec<u8>, Fail> {
-    let mut bytes = Vec::new(alloc);
-    for part in parts {
-        bytes.extend_from_slice(part)?;
-    }
-    Ok(bytes)
-}
-
-/// What was given by a list of calls.
-fn given(alloc: Global, calls: &[Call]) -> Result<Vec<u8>, Fail> {
-    let mut bytes = Vec::new(alloc);
-    for call in calls {
-        if let Call::Write(_, offered, Did::Done(n)) = call {
-            let offered = offered.as_slice();
-            let n = (*n as usize).min(offered.len());
-            bytes.extend_from_slice(&offered[..n])?;
-        }
-    }
-    Ok(bytes)
-}
-
 /// The registry does so many rounds with a peer that sends these pieces; the call with this number fails.
 fn run_with(
     rt: &impl Abort,
     alloc: Global,
-    pieces: VecDeque<Vec<u8>>,
+    parts: &[&[u8]],
     ends: bool,
     failing: u64,
     rounds: u32,
-) -> Result<Run, Fail> {
-    let mut peers = Vec::new(alloc);
-    peers.push(Peer::new(pieces, ends))?;
-    let mut numbers = Vec::new(alloc);
-    numbers.push(failing)?;
-    let mut host = MemHost::new(alloc, peers, numbers);
+) -> Run {
+    let mut host = host_of(rt, alloc, parts, ends, failing);
     let mut written = MemSink::new(alloc, Vec::new(alloc));
-    let path = Text::read(alloc, b"/run/bus").expect(rt, "a path");
+    let path = path(rt, alloc);
     let status = registry(alloc, &path, rounds, &mut written, &mut host);
-    let calls = host.calls().unwrap_or(&[]);
-    Ok(Run {
-        status,
-        given: given(alloc, calls)?,
-        written,
-        calls: calls.len(),
-    })
+    run_of(rt, alloc, status, written, &host)
 }
-
-/// Pieces of a stream, one for each read.
-fn pieces(alloc: Global, parts: &[&[u8]]) -> Result<VecDeque<Vec<u8>>, Fail> {
-    let mut pieces = VecDeque::new(alloc);
-    for part in parts {
-        pieces.push_back(part.to_vec(alloc)?)?;
-    }
-    Ok(pieces)
-}
-
-/// The number of a call that never comes.
-const NEVER: u64 = u64::MAX;
 
 #[test]
-fn registers_and_answers(rt: HostRuntime) -> Result<(), Fail> {
+fn registers_and_answers(rt: HostRuntime) {
     let alloc = rt.alloc();
     // a pause behind the challenge, and the bus's first message is cut
-    let third = joined(alloc, &[GRANT, &NAMED[..10]])?;
-    let fourth = joined(alloc, &[&NAMED[10..], ASKED])?;
-    let parts = pieces(alloc, &[CHALLENGE, b"", &third, &fourth])?;
-    let run = run_with(&rt, alloc, parts, true, NEVER, 10)?;
-    assert_eq!(rt; run.status, 0);
-    let due = joined(
+    let third = joined(&rt, alloc, &[GRANT, &NAMED[..10]]);
+    let fourth = joined(&rt, alloc, &[&NAMED[10..], ASKED]);
+    let run = run_with(
+        &rt,
         alloc,
-        &[HAIL, CHALLENGE, BEGIN, HELLO, REQUEST, MATCH, ANSWERED],
-    )?;
-    assert_eq!(rt; run.given.as_slice(), due.as_slice());
-    // a connect, five reads and three writes: nothing waits in the second round, and in the last the peer has ended
-    assert_eq!(rt; run.calls, 9);
-    Ok(())
-}
-
-#[test]
-fn does_its_rounds(rt: HostRuntime) -> Result<(), Fail> {
-    let alloc = rt.alloc();
-    let run = run_with(&rt, alloc, pieces(alloc, &[])?, false, NEVER, 3)?;
-    assert_eq!(rt; run.status, 8);
-    assert_eq!(rt; run.given.as_slice(), HAIL);
-    // a connect, three reads, and a write in the first round
-    assert_eq!(rt; run.calls, 5);
-    Ok(())
-}
-
-#[test]
-fn is_not_connected(rt: HostRuntime) -> Result<(), Fail> {
-    let alloc = rt.alloc();
-    let run = run_with(&rt, alloc, pieces(alloc, &[])?, false, 0, 3)?;
-    assert_eq!(rt; run.status, 7);
-    assert_eq!(rt; run.calls, 1);
-    Ok(())
-}
-
-#[test]
-fn a_write_fails(rt: HostRuntime) -> Result<(), Fail> {
-    let alloc = rt.alloc();
-    let run = run_with(&rt, alloc, pieces(alloc, &[CHALLENGE])?, false, 2, 3)?;
-    assert_eq!(rt; run.status, 7);
-    assert_eq!(rt; run.given.len(), 0);
-    assert_eq!(rt; run.calls, 3);
-    Ok(())
-}
-
-#[test]
-fn is_rejected(rt: HostRuntime) -> Result<(), Fail> {
-    let alloc = rt.alloc();
-    let parts = pieces(alloc, &[CHALLENGE, b"REJECTED EXTERNAL\r\n"])?;
-    let run = run_with(&rt, alloc, parts, false, NEVER, 9)?;
-    assert_eq!(rt; run.status, 10);
-    assert_eq!(rt;
-        run.given.as_slice(),
-        b"\0AUTH EXTERNAL\r\nDATA\r\n".as_slice()
+        &[CHALLENGE, b"", &third, &fourth],
+        true,
+        NEVER,
+        10,
     );
-    Ok(())
+    let due: &[&[u8]] = &[HAIL, CHALLENGE, BEGIN, HELLO, REQUEST, MATCH, ANSWERED];
+    let due = joined(&rt, alloc, due);
+    assert!(rt; run.is(0, due.as_slice(), b""));
+    // a connect, five reads and three writes: nothing waits in the second round, and in the last the peer has ended
+    assert!(rt; run.calls == 9);
 }
 
 #[test]
-fn a_message_is_malformed(rt: HostRuntime) -> Result<(), Fail> {
+fn does_its_rounds(rt: HostRuntime) {
+    let run = run_with(&rt, rt.alloc(), &[], false, NEVER, 3);
+    assert!(rt; run.is(8, HAIL, b""));
+    // a connect, three reads, and a write in the first round
+    assert!(rt; run.calls == 5);
+}
+
+#[test]
+fn is_not_connected(rt: HostRuntime) {
+    let run = run_with(&rt, rt.alloc(), &[], false, 0, 3);
+    assert!(rt; run.is(7, b"", b""));
+    assert!(rt; run.calls == 1);
+}
+
+#[test]
+fn a_write_fails(rt: HostRuntime) {
+    let run = run_with(&rt, rt.alloc(), &[CHALLENGE], false, 2, 3);
+    assert!(rt; run.is(7, b"", b""));
+    assert!(rt; run.calls == 3);
+}
+
+#[test]
+fn is_rejected(rt: HostRuntime) {
+    let parts: &[&[u8]] = &[CHALLENGE, b"REJECTED EXTERNAL\r\n"];
+    let run = run_with(&rt, rt.alloc(), parts, false, NEVER, 9);
+    assert!(rt; run.is(10, b"\0AUTH EXTERNAL\r\nDATA\r\n", b""));
+}
+
+#[test]
+fn a_message_is_malformed(rt: HostRuntime) {
     let alloc = rt.alloc();
     // behind a whole message of 89 bytes, 16 bytes that begin with no order of bytes
-    let parts = pieces(
-        alloc,
-        &[
-            CHALLENGE,
-            GRANT,
-            NAMED,
-            b"x\x01\0\x01\0\0\0\0\x01\0\0\0\0\0\0\0",
-        ],
-    )?;
-    let run = run_with(&rt, alloc, parts, false, NEVER, 9)?;
-    assert_eq!(rt; run.status, 6);
-    assert_eq!(rt; run.written.bytes(), b"fault 89 0 22\n".as_slice());
-    let due = joined(alloc, &[HAIL, CHALLENGE, BEGIN, HELLO, REQUEST, MATCH])?;
-    assert_eq!(rt; run.given.as_slice(), due.as_slice());
-    Ok(())
+    let unordered = b"x\x01\0\x01\0\0\0\0\x01\0\0\0\0\0\0\0";
+    let parts: &[&[u8]] = &[CHALLENGE, GRANT, NAMED, unordered];
+    let run = run_with(&rt, alloc, parts, false, NEVER, 9);
+    let due = joined(&rt, alloc, &[HAIL, CHALLENGE, BEGIN, HELLO, REQUEST, MATCH]);
+    assert!(rt; run.is(6, due.as_slice(), b"fault 89 0 22\n"));
 }
 
 #[test]
-fn the_peer_ends_at_once(rt: HostRuntime) -> Result<(), Fail> {
-    let alloc = rt.alloc();
-    let run = run_with(&rt, alloc, pieces(alloc, &[])?, true, NEVER, 3)?;
-    assert_eq!(rt; run.status, 0);
-    assert_eq!(rt; run.calls, 2);
-    Ok(())
+fn the_peer_ends_at_once(rt: HostRuntime) {
+    let run = run_with(&rt, rt.alloc(), &[], true, NEVER, 3);
+    assert!(rt; run.status == 0);
+    assert!(rt; run.calls == 2);
 }
