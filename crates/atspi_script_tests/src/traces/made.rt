@@ -203,10 +203,15 @@ fn is_told(alloc: Global, event: &Event, due: &str) -> bool {
 }
 
 /// Whether an event is told so, or whether the brief text keeps it (`kept`) or not (`left out`).
-pub(crate) fn tells(alloc: Global, event: Event, due: &str) -> bool {
+fn is_due(alloc: Global, event: &Event, due: &str) -> bool {
     match due {
-        "kept" => is_brief(&event),
-        "left out" => !is_brief(&event),
-        _ => is_told(alloc, &event, due),
+        "kept" => is_brief(event),
+        "left out" => !is_brief(event),
+        _ => is_told(alloc, event, due),
     }
+}
+
+/// The same of an event that was made for it, which is let go here alone.
+pub(crate) fn tells(alloc: Global, event: Event, due: &str) -> bool {
+    is_due(alloc, &event, due)
 }
