@@ -1,5 +1,5 @@
 -- The types of values, one value more, and the size of values, which falls from a struct to its fields.
-use Rattle.std.proofs.Common.{◌≡◌, ℕ, zero, suc, ◌+◌, ◌<◌, ◌≤◌, List, [], ◌∷◌, ◌++◌, length, take, get_or, map, Some, refl, sym, ap, ◌∙◌, arith, append_assoc}
+use Rattle.std.proofs.Common.{◌≡◌, ℕ, zero, suc, ◌+◌, ◌<◌, ◌≤◌, Result, Ok, Err, OnOk, OnErr, List, [], ◌∷◌, ◌++◌, length, take, get_or, map, Some, refl, sym, ap, ◌∙◌, arith, append_assoc}
 use Rattle.std.specs.Prelude.{min, max}
 use Rattle.std.specs.List.{slice_get}
 use Rattle.std.proofs.lemmas.List.{take_more, take_all, take-take, take_at, length-append, map-append}
@@ -56,6 +56,11 @@ type_bytes_more ds i d before out after at e f =
 pub types_extent_more : (e f g : Extent) (ds : List Data) (i : ℕ) (d : Data) → slice_get ds i ≡ Some d → IsExtent e (kinds_of (map type_of (take i ds))) → IsExtentOf f (type_of d)
     → g.bytes ≡ min (e.bytes + f.bytes) 256 → g.arrays ≡ max e.arrays f.arrays → g.structs ≡ max e.structs f.structs → IsExtent g (kinds_of (map type_of (take (i + 1) ds)))
 types_extent_more e f g ds i d at a b bytes arrays structs = rw (types_more ds i d at) (extent_push e f g (map type_of (take i ds)) (type_of d) a b bytes arrays structs)
+
+-- what an append leaves of what was there, whether it could be done or not
+pub front_pushed : {T E : Type 0} (result : Result T E) (before new bytes : List ℕ) → OnOk result (new ≡ before ++ bytes) → OnErr result (new ≡ before) → take (length before) new ≡ before
+front_pushed (Ok x) before new bytes ok err = ap (λ (w : List ℕ). take (length before) w) ok ∙ take_at before bytes (length before) refl
+front_pushed (Err x) before new bytes ok err = ap (λ (w : List ℕ). take (length before) w) err ∙ take_all (length before) before (omega arith)
 
 -- what stands in front stays there
 pub front_of_more : (before mid new bytes : List ℕ) → mid ≡ before ++ bytes → take (length mid) new ≡ mid → take (length before) new ≡ before

@@ -171,7 +171,14 @@ impl Pairs {
     {
         let mut items = Vec::with_capacity(alloc, self.items.len())?;
         for pair in &self.items {
-            items.push((pair.0.copy(alloc)?, pair.1.copy(alloc)?))?;
+            let key = pair.0.copy(alloc)?;
+            match pair.1.copy(alloc) {
+                Ok(value) => items.push((key, value))?,
+                Err(refused) => {
+                    drop(key);
+                    return Err(refused);
+                }
+            }
         }
         Ok(Pairs { items })
     }

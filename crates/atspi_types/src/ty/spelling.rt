@@ -6,6 +6,7 @@ ghost use Rattle.atspi_types.specs.KindView.{kind_of, kinds_in};
 ghost use Rattle.atspi_types.specs.Signatures.{type_bytes, signature_bytes, FitsSignature};
 ghost use Rattle.atspi_types.specs.Extents.{IsExtentOf, IsExtent};
 
+use super::shape::Shape;
 use super::{Ty, Tys};
 use atspi_base::{Bytes, NoMemory};
 
@@ -119,33 +120,21 @@ impl Ty {
         ensures ok { OnOk result (out.new ≡ out.old ++ type_bytes (kind_of self.now)) }
         ensures front { take (length out.old) out.new ≡ out.old }
     {
-        match self {
-            Ty::Byte => out.push(b'y'),
-            Ty::Bool => out.push(b'b'),
-            Ty::I16 => out.push(b'n'),
-            Ty::U16 => out.push(b'q'),
-            Ty::I32 => out.push(b'i'),
-            Ty::U32 => out.push(b'u'),
-            Ty::I64 => out.push(b'x'),
-            Ty::U64 => out.push(b't'),
-            Ty::Double => out.push(b'd'),
-            Ty::Text => out.push(b's'),
-            Ty::Path => out.push(b'o'),
-            Ty::Sig => out.push(b'g'),
-            Ty::Variant => out.push(b'v'),
-            Ty::Array(element) => {
+        match self.shape() {
+            Shape::Code(code) => out.push(code),
+            Shape::Array(element) => {
                 out.push(b'a')?;
                 element.spell(out)
             }
-            Ty::Struct(fields) => {
+            Shape::Struct(fields) => {
                 out.push(b'(')?;
                 fields.spell(out)?;
                 out.push(b')')
             }
-            Ty::Dict(entry) => {
+            Shape::Dict(key, value) => {
                 out.extend(b"a{")?;
-                entry.key.spell(out)?;
-                entry.value.spell(out)?;
+                key.spell(out)?;
+                value.spell(out)?;
                 out.push(b'}')
             }
         }

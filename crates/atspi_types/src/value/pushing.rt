@@ -18,11 +18,12 @@ impl Values {
         ensures ok { OnOk result (all_data self.new ≡ all_data self.old ++ data_of value ∷ []) }
         ensures err { OnErr result (all_data self.new ≡ all_data self.old) }
     {
-        match self.put(&value) {
-            Ok(true) => Ok(()),
-            Ok(false) => self.push_any(value),
-            Err(refused) => Err(refused),
+        let placed = self.put(&value);
+        if let Ok(false) = placed {
+            return self.push_any(value);
         }
+        drop(value);
+        placed.map(|_| ())
     }
 
     /// Puts a number or a boolean behind others of its type, or begins a list with it, and answers whether that could be done.
