@@ -3,13 +3,20 @@
 
 usage: bench/functions.py CRATE [--test] [--count N] [LIBRARIES]
        at the top of the repository, once `rt check` in the crate's folder has built the libraries below it (or LIBRARIES/crates/*/out has them)
+       bench/functions.py watch FOLDER      writes what every check of this machine takes, module by module, to FOLDER, until it is stopped
+       bench/functions.py dearest FOLDER [SECONDS]
+                                            the functions that took more, 8 with no number, of all checks that were watched
 
 The crate is checked from nothing, in one process, which writes a file for each module as soon as it has checked it: the processor time since the file
 before is that module's. A function has several: the derivation that the borrow checker makes of its body (Lts), the search for its goals (Proof) and the
 answers that are written for them (Answers), and others. What comes before the first is loading. A cycle of functions has one search.
 Where several files come within a twentieth of a second they share its time. (Linux)
+
+`watch` costs a gate next to nothing, so all crates are measured while they are proved anyway: a check keeps what it has checked in a folder of its own below
+/tmp, and its files tell by their times. A check with several jobs has several functions at once, so of it only the sum counts; `dearest` leaves it out.
 """
 import collections
+import glob
 import os
 import re
 import subprocess
@@ -78,6 +85,71 @@ def modules(words, folder, kept, said):
     yield None, check.returncode
 
 
+class Check:
+    """A check that is watched: what it has written so far, and its processor seconds at the last look."""
+
+    def __init__(self, pid, folder):
+        with open(f"/proc/{pid}/cmdline", encoding="utf-8", errors="replace") as it:
+            words = it.read().split("\0")
+        crate, jobs = (words[words.index(it) + 1] for it in ("--crate-name", "--jobs"))
+        kind = "edits" if "rt-edit" in os.readlink(f"/proc/{pid}/cwd") else "tests" if "--test" in words else "proof"
+        self.file = open(f"{folder}/{crate}.{kind}.{jobs}.{pid}", "w", encoding="utf-8")
+        self.seen, self.seconds, self.clock = set(), 0.0, time.time_ns()
+
+    def look(self, pid, kept):
+        """Writes each new module with the processor seconds at which it came: those since the last look are spread evenly over the clock."""
+        try:
+            new = {it: os.stat(f"{kept}/{it}").st_mtime_ns for it in set(os.listdir(kept)) - self.seen}
+        except OSError:
+            return
+        seconds, clock = (ticks(pid) or 0) / TICKS, time.time_ns()
+        for name, came in sorted(new.items(), key=lambda it: it[1]):
+            part = min(max(came - self.clock, 0) / max(clock - self.clock, 1), 1)
+            print(f"{self.seconds + max(seconds - self.seconds, 0) * part:.2f} {name}", file=self.file)
+        self.seen |= set(new)
+        self.seconds, self.clock = max(seconds, self.seconds), clock
+
+    def end(self):
+        print(f"{self.seconds:.2f} end", file=self.file)
+        self.file.close()
+
+
+def watch(folder):
+    os.makedirs(folder, exist_ok=True)
+    known = {}
+    while True:
+        there = {it.split("-")[-2]: it for it in glob.glob("/tmp/rattle-logic-built-locked-*-0")}
+        for pid, kept in there.items():
+            try:
+                if pid not in known:
+                    known[pid] = Check(pid, folder)
+                known[pid].look(pid, kept)
+            except (OSError, ValueError):
+                continue  # (it ended, or is no check)
+        for pid in [it for it in known if not os.path.exists(f"/proc/{it}")]:
+            known.pop(pid).end()
+        time.sleep(0.3)
+
+
+def dearest(folder, least):
+    rows = []
+    for file in sorted(os.listdir(folder)):
+        crate, kind, jobs = file.split(".")[:3]
+        with open(f"{folder}/{file}", encoding="utf-8") as it:
+            came = [line.rstrip("\n").split(" ", 1) for line in it]
+        of = collections.defaultdict(collections.Counter)
+        for (before, _), (now, module) in zip(came, came[1:]):
+            if "-proofs." in module:
+                function, part = function_of(module.removesuffix(".oantt"))
+                of[function][part] += float(now) - float(before)
+        if jobs == "1" and kind != "edits":
+            rows += [(sum(it.values()), it, crate, function) for function, it in of.items()]
+    print("seconds derivation search answers function")
+    for seconds, kinds, crate, function in sorted(rows, key=lambda it: -it[0]):
+        if seconds > least:
+            print(f"{seconds:7.1f} {kinds['Lts']:10.1f} {kinds['Proof']:6.1f} {kinds['Answers']:7.1f} {crate} {function}")
+
+
 def function_of(module):
     """Returns the function or the file that a module is of, and which of its modules it is."""
     module = re.sub(r"^Rattle-\w+-(proofs|specs\.contracts|specs)\.", "", module)
@@ -107,6 +179,10 @@ def main(crate, tests, count, libraries):
 
 if __name__ == "__main__":
     words = sys.argv[1:]
+    if words[:1] == ["watch"] and len(words) == 2:
+        watch(words[1])
+    if words[:1] == ["dearest"] and len(words) in (2, 3):
+        sys.exit(dearest(words[1], float(words[2]) if words[2:] else 8))
     tests = "--test" in words
     words = [it for it in words if it != "--test"]
     count = 20
