@@ -2,7 +2,7 @@
 
 ghost use Rattle.std.specs.Prelude.{◌≡◌, IfOk};
 
-use atspi_base::{NoMemory, Text};
+use atspi_base::{NoMemory, Text, Texts};
 use atspi_forest::{Item, Reference, Seed, Step};
 use std::alloc::Global;
 
@@ -114,23 +114,45 @@ fn copy_reference(alloc: Global, reference: &Reference) -> Result<Reference, NoM
     })
 }
 
-/// An equal item.
-pub fn copy_item(alloc: Global, item: &Item) -> Result<Item, NoMemory>
-    ensures { IfOk result (λ i. i ≡ item.now) }
+/// Equal references: an item's object, its application and its parent.
+fn copy_references(
+    alloc: Global,
+    item: &Item,
+) -> Result<(Reference, Reference, Reference), NoMemory>
+    ensures { IfOk result (λ r. (r.0 ≡ item.now.object) × (r.1 ≡ item.now.application) × (r.2 ≡ item.now.parent)) }
 {
     let object = copy_reference(alloc, &item.object)?;
     let application = copy_reference(alloc, &item.application)?;
     let parent = copy_reference(alloc, &item.parent)?;
+    Ok((object, application, parent))
+}
+
+/// Equal words: an item's interfaces, its name and its description.
+fn copy_words(alloc: Global, item: &Item) -> Result<(Texts, Text, Text), NoMemory>
+    ensures { IfOk result (λ w. (w.0 ≡ item.now.interfaces) × (w.1 ≡ item.now.name) × (w.2 ≡ item.now.description)) }
+{
+    let interfaces = item.interfaces.copy(alloc)?;
+    let name = item.name.copy(alloc)?;
+    let description = item.description.copy(alloc)?;
+    Ok((interfaces, name, description))
+}
+
+/// An equal item.
+pub fn copy_item(alloc: Global, item: &Item) -> Result<Item, NoMemory>
+    ensures { IfOk result (λ i. i ≡ item.now) }
+{
+    let (interfaces, name, description) = copy_words(alloc, item)?;
+    let (object, application, parent) = copy_references(alloc, item)?;
     Ok(Item {
         object,
         application,
         parent,
         index: item.index,
         children: item.children,
-        interfaces: item.interfaces.copy(alloc)?,
-        name: item.name.copy(alloc)?,
+        interfaces,
+        name,
         role: item.role,
-        description: item.description.copy(alloc)?,
+        description,
         states: item.states,
     })
 }
