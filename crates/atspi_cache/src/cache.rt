@@ -4,7 +4,7 @@ ghost use Rattle.std.specs.Prelude.{◌≡◌, chars, is_some, OnOk, OnErr, IfOk
 ghost use Rattle.std.specs.Option.{option_copied, option_map};
 ghost use Rattle.std.specs.FinMap as finmap;
 ghost use Rattle.atspi_arena.specs.Sights.{sights};
-ghost use Rattle.atspi_forest.specs.News.{marks_reload};
+ghost use Rattle.atspi_forest.specs.News.{load, marks_reload};
 ghost use Rattle.atspi_cache.specs.Cache.{folded, loaded, reloads, row_in, told};
 ghost use Rattle.atspi_cache.specs.Held.{as_views, view_of};
 
@@ -12,7 +12,7 @@ use crate::load::load;
 use crate::news::{fold, marks_reload};
 use atspi_arena::{Arena, Rows};
 use atspi_base::{NoMemory, Text};
-use atspi_forest::{Items, News, Row};
+use atspi_forest::{Item, Items, News, Row};
 use atspi_valid_names::{BusName, Path};
 use std::alloc::Global;
 use std::collections::BTreeMap;
@@ -55,6 +55,20 @@ fn put(apps: &mut BTreeMap<u32, Held>, app: u32, held: Held) -> Result<(), NoMem
 {
     apps.insert(app, held)?;
     Ok(())
+}
+
+/// What is kept of an application with this bus name, this root and these items.
+fn held_of(alloc: Global, name: &BusName, root: &Path, items: &[Item]) -> Result<Held, NoMemory>
+    ensures { IfOk result (λ held. view_of held ≡ record { bus = chars name.now; root = root.now; rows = load root.now (chars name.now) items.now }) }
+{
+    let bus = Text::of(alloc, name.as_str())?;
+    let path = root.copy(alloc)?;
+    let rows = load(alloc, root, &bus, items)?;
+    Ok(Held {
+        bus,
+        root: path,
+        rows,
+    })
 }
 
 /// Takes a news of an application, and says whether it asks for its items again.
@@ -126,10 +140,10 @@ impl Cache {
         ensures ok { OnOk result (self.new ≡ loaded app (chars name.now) root.now items self.old) }
         ensures err { OnErr result (self.new ≡ self.old) }
     {
-        let bus = Text::of(self.alloc, name.as_str())?;
-        let rows = load(self.alloc, root, &bus, items.as_slice())?;
-        let root = root.copy(self.alloc)?;
-        put(&mut self.apps, app, Held { bus, root, rows })
+        let held = held_of(self.alloc, name, root, items.as_slice());
+        // (let go before what can fail)
+        drop(items);
+        put(&mut self.apps, app, held?)
     }
 
     /// Takes a news of an application that is held, and says whether it asks for its items again. After want of memory all is

@@ -20,6 +20,28 @@ fn put_last(alloc: Global, rows: &mut Arena, item: &Item) -> Result<(), NoMemory
     rows.insert(&item.parent.path, None, row_of(alloc, item)?)
 }
 
+/// Puts the rows of a list of items where there is none, those of the items that the root reaches one after another.
+fn fill(
+    alloc: Global,
+    rows: &mut Arena,
+    root: &Path,
+    bus: &Text,
+    items: &[Item],
+) -> Result<(), NoMemory>
+    requires empty { rows.old ≡ nil }
+    ensures { OnOk result (rows.new ≡ load root.now bus.now items.now) }
+{
+    let reached = reached_items(alloc, root, bus, items)?;
+    let Some((first, others)) = reached.split_first() else {
+        return Ok(());
+    };
+    rows.insert_root(row_of(alloc, *first)?)?;
+    for item in others {
+        put_last(alloc, rows, *item)?;
+    }
+    Ok(())
+}
+
 /// The rows of a list of items. Work is n log n.
 pub(crate) fn load(
     alloc: Global,
@@ -29,14 +51,7 @@ pub(crate) fn load(
 ) -> Result<Arena, NoMemory>
     ensures { IfOk result (λ rows. rows ≡ load root.now bus.now items.now) }
 {
-    let reached = reached_items(alloc, root, bus, items)?;
     let mut rows = Arena::new(alloc);
-    let Some((first, others)) = reached.split_first() else {
-        return Ok(rows);
-    };
-    rows.insert_root(row_of(alloc, *first)?)?;
-    for item in others {
-        put_last(alloc, &mut rows, *item)?;
-    }
+    fill(alloc, &mut rows, root, bus, items)?;
     Ok(rows)
 }

@@ -3,7 +3,7 @@
 ghost use Rattle.std.specs.Prelude.{◌≡◌, bytes_eq, cond, false, true, IfOk, OnOk, OnErr};
 ghost use Rattle.atspi_forest.specs.Forest.{change, has, take_out};
 ghost use Rattle.atspi_forest.specs.Row.{delete_there, insert_there};
-ghost use Rattle.atspi_forest.specs.News.{added, effect, is_path, is_seat_at, item_effect, known_text_with, marks_reload, moved, names, seat_in};
+ghost use Rattle.atspi_forest.specs.News.{added, effect, is_path, is_seat_at, item_effect, known_text_with, marks_reload, moved, names, renewed, seat_in};
 ghost use Rattle.atspi_arena.specs.Change.{changed};
 
 use crate::edits::{delete_there, insert_there};
@@ -35,22 +35,59 @@ fn has(rows: &Arena, path: &Path) -> bool
     rows.find(path).is_some()
 }
 
+/// Moves a row that is known to where its item says, and answers whether that is known without it, so that the row is to be
+/// renewed. All memory is taken first.
+fn move_there(rows: &mut Arena, bus: &Text, item: &Item) -> Result<bool, NoMemory>
+    requires there { has (is_path item.now.object.path) rows.old ≡ true }
+    ensures ok { IfOk result (λ known. cond known (change (is_path item.now.object.path) (renewed item.now) rows.new) rows.new ≡ moved (is_path item.now.object.path) (names bus.now item.now.parent) item.now rows.old) }
+    ensures err { OnErr result (rows.new ≡ rows.old) }
+{
+    if !is_text(&item.parent.bus, bus) {
+        return Ok(false);
+    }
+    if !rows.is_outside(&item.parent.path, &item.object.path)? {
+        return Ok(false);
+    }
+    rows.move_to(&item.object.path, &item.parent.path, spot(item.index))?;
+    Ok(true)
+}
+
+/// Renews the row of an item.
+fn renew(rows: &mut Arena, item: Item)
+    ensures { rows.new ≡ change (is_path item.object.path) (renewed item) rows.old }
+{
+    let (path, with) = renewal(item);
+    rows.change(&path, with);
+}
+
+/// Renews the row of the root, whose item this is.
+fn renew_root(rows: &mut Arena, root: &Path, item: Item)
+    ensures { rows.new ≡ change (is_path root.now) (renewed item) rows.old }
+{
+    let (_, with) = renewal(item);
+    rows.change(root, with);
+}
+
 /// Moves a row that is known to where its item says, if that is known without it, and renews it. All memory is taken first.
 fn move_item(rows: &mut Arena, bus: &Text, item: Item) -> Result<(), NoMemory>
     requires there { has (is_path item.object.path) rows.old ≡ true }
     ensures ok { OnOk result (rows.new ≡ moved (is_path item.object.path) (names bus.now item.parent) item rows.old) }
     ensures err { OnErr result (rows.new ≡ rows.old) }
 {
-    if !is_text(&item.parent.bus, bus) {
-        return Ok(());
+    match move_there(rows, bus, &item) {
+        Ok(true) => {
+            renew(rows, item);
+            Ok(())
+        }
+        Ok(false) => {
+            drop(item);
+            Ok(())
+        }
+        Err(NoMemory) => {
+            drop(item);
+            Err(NoMemory)
+        }
     }
-    if !rows.is_outside(&item.parent.path, &item.object.path)? {
-        return Ok(());
-    }
-    rows.move_to(&item.object.path, &item.parent.path, spot(item.index))?;
-    let (path, with) = renewal(item);
-    rows.change(&path, with);
-    Ok(())
 }
 
 /// Adds the row of an item where it says, if that is known.
@@ -60,6 +97,7 @@ fn add_item(rows: &mut Arena, bus: &Text, item: Item) -> Result<(), NoMemory>
     ensures err { OnErr result (rows.new ≡ rows.old) }
 {
     if !is_text(&item.parent.bus, bus) {
+        drop(item);
         return Ok(());
     }
     let (parent, index, row) = fresh(item);
@@ -72,11 +110,11 @@ fn take_item(rows: &mut Arena, root: &Path, bus: &Text, item: Item) -> Result<()
     ensures err { OnErr result (rows.new ≡ rows.old) }
 {
     if !is_text(&item.object.bus, bus) {
+        drop(item);
         return Ok(());
     }
     if is_same(&item.object.path, root) {
-        let (_, with) = renewal(item);
-        rows.change(root, with);
+        renew_root(rows, root, item);
         return Ok(());
     }
     if has(rows, &item.object.path) {
@@ -180,7 +218,10 @@ pub fn fold(
     match news {
         News::Item(item) => take_item(rows, root, bus, item),
         News::Removed(path) => remove(rows, root, &path),
-        News::ChildAdded(_) => Ok(()),
+        News::ChildAdded(child) => {
+            drop(child);
+            Ok(())
+        }
         News::ChildRemoved {
             parent,
             index,
@@ -195,8 +236,11 @@ pub fn fold(
             path,
             at,
             len,
-            text: _,
-        } => delete(alloc, rows, &path, at, len),
+            text,
+        } => {
+            drop(text);
+            delete(alloc, rows, &path, at, len)
+        }
         News::Caret(path, at) => put(rows, &path, Change::Caret(at)),
         News::TextIs(path, text) => put(rows, &path, Change::TextIs(text)),
         News::CaretIs(path, at) => put(rows, &path, Change::CaretIs(at)),

@@ -2,7 +2,7 @@ use Rattle.std.proofs.Common.{drop}
 use Rattle.atspi_forest.specs.News.{load}
 use Rattle.atspi_load.specs.Shared.{shared}
 use Rattle.atspi_load.proofs.FillLemmas.{IsLeft}
-use Rattle.atspi_cache.proofs.load.load.Given as goal
+use Rattle.atspi_cache.proofs.load.fill.Given as goal
 
 abbrev pub invariant-loop-item : goal.invariant-loop-item
 invariant-loop-item l = IsLeft l.rows (shared (drop l.item-index l.others)) (load l.root l.bus l.items)

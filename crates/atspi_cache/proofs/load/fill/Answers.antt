@@ -6,12 +6,12 @@ use Rattle.atspi_forest.specs.News.{load}
 use Rattle.atspi_load.specs.Shared.{shared}
 use Rattle.atspi_load.proofs.FillLemmas.{IsLeft, is_new, put_one}
 use Rattle.atspi_cache.proofs.LoadLemmas.{first_left, next_left, no_rows, none_left}
-use Rattle.atspi_cache.proofs.load.load.Goals as goal
+use Rattle.atspi_cache.proofs.load.fill.Goals as goal
 
 pub returns-in_default : goal.returns-in_default
 returns-in_default c =
     let none : c.deref.result.now ≡ [] = search (rules, nil_from_length) in
-    c.new-rows.ensures ∙ no_rows c.args.root.now c.args.bus.now c.args.items.now c.in_ok-reached.reached.items c.in_ok-reached.ensures (sym c.deref.ensures.value ∙ none)
+    c.requires.empty ∙ no_rows c.args.root.now c.args.bus.now c.args.items.now c.in_ok-reached.reached.items c.in_ok-reached.ensures (sym c.deref.ensures.value ∙ none)
 
 pub loop-item-init : goal.loop-item-init
 loop-item-init c =
