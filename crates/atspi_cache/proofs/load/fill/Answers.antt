@@ -5,7 +5,7 @@ use Rattle.atspi_forest.specs.declared.view.Row.{Row}
 use Rattle.atspi_forest.specs.News.{load}
 use Rattle.atspi_load.specs.Shared.{shared}
 use Rattle.atspi_load.proofs.FillLemmas.{IsLeft, is_new, put_one}
-use Rattle.atspi_cache.proofs.LoadLemmas.{first_left, next_left, no_rows, none_left}
+use Rattle.atspi_cache.proofs.LoadLemmas.{first_left, next_left, no_rows}
 use Rattle.atspi_cache.proofs.load.fill.Goals as goal
 
 pub returns-in_default : goal.returns-in_default

@@ -1,6 +1,6 @@
 use Rattle.std.proofs.Common.{ap, sym, ◌∙◌}
 use Rattle.atspi_cache.specs.Cache.{row_in}
-use Rattle.std.specs.Option.{option_copied, option_map}
+use Rattle.std.specs.Option.{option_copied}
 use Rattle.atspi_cache.proofs.ViewLemmas.{get_found, get_missed}
 use Rattle.atspi_cache.proofs.cache.Cache.find.Goals as goal
 

@@ -2,9 +2,9 @@ use Rattle.std.proofs.Common.{ap, sym, ◌∙◌}
 use Rattle.std.proofs.lemmas.Result.{on_ok_weaker, on_err_weaker, IfOk-weaker}
 use Rattle.std.specs.Option.{option_copied_mut}
 use Rattle.std.specs.FinMap.{insert}
-use Rattle.atspi_cache.specs.Cache.{folded, reloads, told}
+use Rattle.atspi_cache.specs.Cache.{reloads, told}
 use Rattle.atspi_cache.specs.Held.{as_views, view_of}
-use Rattle.atspi_cache.proofs.ViewLemmas.{folded_is, get_found, get_missed, get_views, not_missed, put_same, put_views, some_at}
+use Rattle.atspi_cache.proofs.ViewLemmas.{folded_is, get_found, get_missed, not_missed, put_same, put_views, some_at}
 use Rattle.atspi_cache.proofs.cache.Cache.fold.Goals as goal
 
 pub unreachable-requires : goal.unreachable-requires

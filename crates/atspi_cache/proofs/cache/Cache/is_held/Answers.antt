@@ -1,6 +1,6 @@
 use Rattle.std.proofs.Common.{ap, sym, ◌∙◌}
 use Rattle.std.specs.Prelude.{is_some}
-use Rattle.std.specs.Option.{option_copied, option_map}
+use Rattle.std.specs.Option.{option_copied}
 use Rattle.atspi_cache.proofs.ViewLemmas.{get_found, get_missed}
 use Rattle.atspi_cache.proofs.cache.Cache.is_held.Goals as goal
 
