@@ -7,7 +7,7 @@ ghost use Rattle.atspi_lines.specs.Words.{SpellsWords};
 
 use crate::Deed;
 use crate::shapes::{read_place, read_place_text, read_places, read_text};
-use crate::words::next_word;
+use crate::words::{is_word, next_word};
 use atspi_base::NoMemory;
 use std::alloc::Global;
 
@@ -105,31 +105,31 @@ fn read_clear_selection(bytes: &[u8]) -> Option<Deed>
 fn read_deed_of(alloc: Global, word: &[u8], bytes: &[u8]) -> Result<Option<Deed>, NoMemory>
     ensures { Reads (IsDeedOf word.now bytes.now) result }
 {
-    if word == b"set-caret".as_slice() {
+    if is_word(word, b"set-caret") {
         return Ok(read_set_caret(bytes));
     }
-    if word == b"select-child".as_slice() {
+    if is_word(word, b"select-child") {
         return Ok(read_select_child(bytes));
     }
-    if word == b"deselect-child".as_slice() {
+    if is_word(word, b"deselect-child") {
         return Ok(read_deselect_child(bytes));
     }
-    if word == b"do-action".as_slice() {
+    if is_word(word, b"do-action") {
         return Ok(read_do_action(bytes));
     }
-    if word == b"delete-text".as_slice() {
+    if is_word(word, b"delete-text") {
         return Ok(read_delete_text(bytes));
     }
-    if word == b"insert-text".as_slice() {
+    if is_word(word, b"insert-text") {
         return read_insert_text(alloc, bytes);
     }
-    if word == b"set-text".as_slice() {
+    if is_word(word, b"set-text") {
         return read_set_text(alloc, bytes);
     }
-    if word == b"select-all".as_slice() {
+    if is_word(word, b"select-all") {
         return Ok(read_select_all(bytes));
     }
-    if word == b"clear-selection".as_slice() {
+    if is_word(word, b"clear-selection") {
         return Ok(read_clear_selection(bytes));
     }
     Ok(None)

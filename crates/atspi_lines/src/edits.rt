@@ -10,7 +10,7 @@ use crate::inserts::read_insert;
 use crate::numbers::next_number;
 use crate::shapes::{read_number_text, read_numbers_text, read_one, read_three, read_two};
 use crate::tables::{next_role, next_state};
-use crate::words::next_word;
+use crate::words::{is_word, next_word};
 use atspi_base::NoMemory;
 use atspi_forest::Edit;
 use std::alloc::Global;
@@ -228,46 +228,46 @@ fn read_state(bytes: &[u8]) -> Option<Edit>
 fn read_plain_edit(word: &[u8], bytes: &[u8]) -> Option<Edit>
     ensures { Finds (λ edit. (has_no_text edit ≡ true) × IsEditOf word.now bytes.now edit) result }
 {
-    if word == b"remove".as_slice() {
+    if is_word(word, b"remove") {
         return read_remove(bytes);
     }
-    if word == b"focus".as_slice() {
+    if is_word(word, b"focus") {
         return read_focus(bytes);
     }
-    if word == b"unmark".as_slice() {
+    if is_word(word, b"unmark") {
         return read_unmark(bytes);
     }
-    if word == b"caret".as_slice() {
+    if is_word(word, b"caret") {
         return read_caret(bytes);
     }
-    if word == b"select".as_slice() {
+    if is_word(word, b"select") {
         return read_select(bytes);
     }
-    if word == b"deselect".as_slice() {
+    if is_word(word, b"deselect") {
         return read_deselect(bytes);
     }
-    if word == b"press".as_slice() {
+    if is_word(word, b"press") {
         return read_press(bytes);
     }
-    if word == b"move".as_slice() {
+    if is_word(word, b"move") {
         return read_move(bytes);
     }
-    if word == b"cut".as_slice() {
+    if is_word(word, b"cut") {
         return read_cut(bytes);
     }
-    if word == b"mark".as_slice() {
+    if is_word(word, b"mark") {
         return read_mark(bytes);
     }
-    if word == b"relate".as_slice() {
+    if is_word(word, b"relate") {
         return read_relate(bytes);
     }
-    if word == b"unrelate".as_slice() {
+    if is_word(word, b"unrelate") {
         return read_unrelate(bytes);
     }
-    if word == b"role".as_slice() {
+    if is_word(word, b"role") {
         return read_role(bytes);
     }
-    if word == b"state".as_slice() {
+    if is_word(word, b"state") {
         return read_state(bytes);
     }
     None
@@ -277,19 +277,19 @@ fn read_plain_edit(word: &[u8], bytes: &[u8]) -> Option<Edit>
 fn read_edit_of(alloc: Global, word: &[u8], bytes: &[u8]) -> Result<Option<Edit>, NoMemory>
     ensures { Reads (IsEditOf word.now bytes.now) result }
 {
-    if word == b"insert".as_slice() {
+    if is_word(word, b"insert") {
         return read_insert(alloc, bytes);
     }
-    if word == b"name".as_slice() {
+    if is_word(word, b"name") {
         return read_name(alloc, bytes);
     }
-    if word == b"describe".as_slice() {
+    if is_word(word, b"describe") {
         return read_describe(alloc, bytes);
     }
-    if word == b"put".as_slice() {
+    if is_word(word, b"put") {
         return read_put(alloc, bytes);
     }
-    if word == b"type".as_slice() {
+    if is_word(word, b"type") {
         return read_type(alloc, bytes);
     }
     Ok(read_plain_edit(word, bytes))

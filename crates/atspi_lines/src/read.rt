@@ -13,7 +13,7 @@ use crate::line::{Line, LineFault};
 use crate::numbers::{next_place, next_quota};
 use crate::parties::{next_app, next_party, next_reader};
 use crate::shapes::{read_one, read_text};
-use crate::words::{next_word, split_word};
+use crate::words::{is_word, next_word, split_word};
 use atspi_base::NoMemory;
 use std::alloc::Global;
 
@@ -222,31 +222,31 @@ fn read_show(bytes: &[u8]) -> Option<Line>
 fn read_plain(word: &[u8], bytes: &[u8]) -> Option<Line>
     ensures { Finds (λ line. (is_plain line ≡ true) × IsLineOf word.now bytes.now line) result }
 {
-    if word == b"turns".as_slice() {
+    if is_word(word, b"turns") {
         return read_turns(bytes);
     }
-    if word == b"bytes".as_slice() {
+    if is_word(word, b"bytes") {
         return read_bytes(bytes);
     }
-    if word == b"drain".as_slice() {
+    if is_word(word, b"drain") {
         return read_drain(bytes);
     }
-    if word == b"show".as_slice() {
+    if is_word(word, b"show") {
         return read_show(bytes);
     }
-    if word == b"reader".as_slice() {
+    if is_word(word, b"reader") {
         return read_reader(bytes);
     }
-    if word == b"quota".as_slice() {
+    if is_word(word, b"quota") {
         return read_quota(bytes);
     }
-    if word == b"swap".as_slice() {
+    if is_word(word, b"swap") {
         return read_swap(bytes);
     }
-    if word == b"exit".as_slice() {
+    if is_word(word, b"exit") {
         return read_exit(bytes);
     }
-    if word == b"leave".as_slice() {
+    if is_word(word, b"leave") {
         return read_leave(bytes);
     }
     None
@@ -256,13 +256,13 @@ fn read_plain(word: &[u8], bytes: &[u8]) -> Option<Line>
 fn read_line_of(alloc: Global, word: &[u8], bytes: &[u8]) -> Result<Option<Line>, NoMemory>
     ensures { Reads (IsLineOf word.now bytes.now) result }
 {
-    if word == b"edit".as_slice() {
+    if is_word(word, b"edit") {
         return read_edit_line(alloc, bytes);
     }
-    if word == b"call".as_slice() {
+    if is_word(word, b"call") {
         return read_call(alloc, bytes);
     }
-    if word == b"app".as_slice() {
+    if is_word(word, b"app") {
         return read_app(alloc, bytes);
     }
     Ok(read_plain(word, bytes))

@@ -1,6 +1,6 @@
 //! The words of a line as bytes: each stands behind a space and has none in it.
 
-ghost use Rattle.std.specs.Prelude.{◌≡◌, ◌∷◌, ◌++◌, List, ℕ, MatchOption};
+ghost use Rattle.std.specs.Prelude.{◌≡◌, ◌↔◌, ◌∷◌, ◌++◌, List, ℕ, IsTrue, MatchOption};
 ghost use Rattle.atspi_lines.specs.Reading.{HasNoSpace};
 ghost use Rattle.atspi_lines.specs.Words.{IsBehind, Leads, literal};
 
@@ -36,4 +36,11 @@ pub(crate) fn next_word(bytes: &[u8]) -> Option<(&[u8], &[u8])>
         return None;
     };
     Some(split_word(behind))
+}
+
+/// Whether a word is this one.
+pub(crate) fn is_word(word: &[u8], this: &[u8]) -> bool
+    ensures { IsTrue result ↔ (word.now ≡ this.now) }
+{
+    word == this
 }
