@@ -1,5 +1,5 @@
 -- The numbers of links that are open.
-use Rattle.std.proofs.Common.{◌≡◌, ◌≢◌, ℕ, ◌<◌, ◌==◌, not, List, [], ◌∷◌, ◌++◌, map, refl, ap, inl, inr, suc, arith}
+use Rattle.std.proofs.Common.{◌≡◌, ◌≢◌, ℕ, ◌<◌, ◌==◌, not, List, [], ◌∷◌, ◌++◌, map, refl, ap, inl, inr, suc, arith, zero, ◌∙◌, slice_index_or, slice_set}
 use Rattle.std.specs.List.{All}
 use Rattle.std.proofs.lemmas.List.{map-append}
 use Rattle.atspi_host.specs.declared.call.Did.TheVariants.{Done}
@@ -25,3 +25,10 @@ pushed_opens os o p = (map-append (λ o. o.number) os (o ∷ []), below_new os o
 pub without_filter : (os : List Open) (k : ℕ) → numbers (filter (λ o. not (o.number == k)) os) ≡ without k (numbers os)
 without_filter [] k = refl
 without_filter (o ∷ os) k = elim (eqb_tells o.number k) [ inl e ↦ rw e.0 (without_filter os k) | inr e ↦ rw e.0 (ap (λ w. o.number ∷ w) (without_filter os k)) ]
+
+-- a link that keeps its number is put into its place
+pub numbers_set : (os : List Open) (i : ℕ) (o p : Open) → o ≡ slice_index_or os i o → p.number ≡ o.number → numbers (slice_set os i p) ≡ numbers os
+numbers_set [] zero o p is same = refl
+numbers_set [] (suc i) o p is same = refl
+numbers_set (x ∷ os) zero o p is same = ap (λ n. n ∷ numbers os) (same ∙ ap (λ (w : Open). w.number) is)
+numbers_set (x ∷ os) (suc i) o p is same = ap (λ ns. x.number ∷ ns) (numbers_set os i o p is same)

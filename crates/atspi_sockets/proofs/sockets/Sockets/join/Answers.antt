@@ -3,8 +3,8 @@ use Rattle.atspi_host.specs.declared.call.Did.TheVariants.{Done}
 use Rattle.atspi_host.specs.Calls.{Opens}
 use Rattle.atspi_sockets.specs.Numbers.{numbers}
 use Rattle.atspi_sockets.proofs.LinkLemmas.{pushed_opens}
-use Rattle.atspi_sockets.proofs.net.NetHost.join.Goals as goal
+use Rattle.atspi_sockets.proofs.sockets.Sockets.join.Goals as goal
 
 pub returns-clause-links : goal.returns-clause-links
-returns-clause-links g c = subst (λ w. Opens (numbers c.args.self.now.links.items) (numbers w) (Done c.args.self.now.next)) (sym c.in-Ok.ensures.items)
+returns-clause-links c = subst (λ w. Opens (numbers c.args.self.now.links.items) (numbers w) (Done c.args.self.now.next)) (sym c.in-Ok.ensures.items)
     (pushed_opens c.args.self.now.links.items _ c.args.self.now.below)
