@@ -1,9 +1,10 @@
 //! The items that the root reaches, in preorder.
 
-ghost use Rattle.std.specs.Prelude.{◌≡◌, ◌++◌, ℕ, List, filter, bytes_eq, IfOk, OnOk};
+ghost use Rattle.std.specs.Prelude.{◌≡◌, ◌++◌, ◌∷◌, [], ℕ, List, filter, bytes_eq, reverse, IfOk, OnOk};
 ghost use Rattle.std.specs.HashMap.{get_by};
 ghost use Rattle.std.specs.Option.{option_map};
-ghost use Rattle.atspi_load.specs.Shared.{grouped, reached_items, shared};
+ghost use Rattle.atspi_forest.specs.News.{by_index};
+ghost use Rattle.atspi_load.specs.Shared.{grouped, is_below, reached_items, shared};
 
 use crate::groups::{groups, is_path, push_if};
 use crate::own::own_items;
@@ -39,6 +40,33 @@ fn push_group<'a>(
     Ok(())
 }
 
+/// Appends an item to those that are reached, and those below it to those that wait.
+fn reach<'a>(
+    reached: &mut Vec<&'a Item>,
+    waiting: &mut Vec<&'a Item>,
+    groups: &HashMap<&'a str, Vec<&'a Item>>,
+    item: &'a Item,
+) -> Result<(), NoMemory>
+    ensures reached { OnOk result (reached.new.items ≡ reached.old.items ++ item.entry ∷ []) }
+    ensures waiting { OnOk result (shared waiting.new.items ≡ shared waiting.old.items ++ grouped (option_map (λ group. group.items) (get_by (λ k. bytes_eq item.now.object.path k.now) groups.now))) }
+{
+    reached.push(item)?;
+    push_group(waiting, groups, &item.object.path)
+}
+
+/// The items by the path of their parent, the last in each group first.
+fn groups_last_first<'a>(
+    alloc: Global,
+    root: &Path,
+    bus: &Text,
+    mut own: Vec<&'a Item>,
+) -> Result<HashMap<&'a str, Vec<&'a Item>>, NoMemory>
+    ensures { IfOk result (λ groups. (path : List ℕ) → grouped (option_map (λ group. group.items) (get_by (λ k. bytes_eq path k.now) groups)) ≡ filter (is_below root.now bus.now path) (reverse (by_index (shared own.entry.items)))) }
+{
+    last_first(&mut own)?;
+    groups(alloc, root, bus, &own)
+}
+
 /// The items of a list that a load of an application keeps, in preorder, each before those below it: the first item of each
 /// of its own objects that the root reaches by parents, children by index and then by their order in the list. Work is n log n.
 pub fn reached_items<'a>(
@@ -49,15 +77,13 @@ pub fn reached_items<'a>(
 ) -> Result<Vec<&'a Item>, NoMemory>
     ensures { IfOk result (λ reached. shared reached.items ≡ reached_items root.now bus.now items.now) }
 {
-    let mut own = own_items(alloc, bus, items)?;
+    let own = own_items(alloc, bus, items)?;
     let mut waiting = roots(alloc, root, &own)?;
+    let groups = groups_last_first(alloc, root, bus, own)?;
     waiting.reverse();
-    last_first(&mut own)?;
-    let groups = groups(alloc, root, bus, &own)?;
     let mut reached = Vec::new(alloc);
     while let Some(item) = waiting.pop() {
-        reached.push(item)?;
-        push_group(&mut waiting, &groups, &item.object.path)?;
+        reach(&mut reached, &mut waiting, &groups, item)?;
     }
     Ok(reached)
 }
