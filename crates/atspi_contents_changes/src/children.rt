@@ -69,9 +69,9 @@ fn is_multiselectable(states: u64) -> bool
 }
 
 /// The steps of an edit that reads no contents, none where it is refused.
-fn chosen(alloc: Global, tree: &Tree, edit: &Edit) -> Result<Option<StepList>, NoMemory>
-    requires { IsEdit edit.now }
-    ensures { IfOk result (λ steps. steps ≡ granted (edit_steps tree.now (Deeds []) edit.now)) }
+fn chosen(alloc: Global, tree: &Tree, edit: Edit) -> Result<Option<StepList>, NoMemory>
+    requires { IsEdit edit }
+    ensures { IfOk result (λ steps. steps ≡ granted (edit_steps tree.now (Deeds []) edit)) }
 {
     let known = FaceData::Deeds(Texts::new(alloc));
     granted(alloc, tree, edit, &known)
@@ -88,7 +88,7 @@ fn select_child(
 {
     tree.is_lawful();
     match place(first_signed(args)) {
-        Some(index) => chosen(alloc, tree, &Edit::Select { node, index }),
+        Some(index) => chosen(alloc, tree, Edit::Select { node, index }),
         None => Ok(None),
     }
 }
@@ -104,7 +104,7 @@ fn deselect_child(
 {
     tree.is_lawful();
     match place(first_signed(args)) {
-        Some(index) => chosen(alloc, tree, &Edit::Deselect { node, index }),
+        Some(index) => chosen(alloc, tree, Edit::Deselect { node, index }),
         None => Ok(None),
     }
 }

@@ -21,14 +21,17 @@ use std::alloc::Global;
 pub(crate) fn granted(
     alloc: Global,
     tree: &Tree,
-    edit: &Edit,
+    edit: Edit,
     known: &FaceData,
 ) -> Result<Option<StepList>, NoMemory>
-    requires lawful { IsEdit edit.now }
+    requires lawful { IsEdit edit }
     requires known { IsKnown known.now }
-    ensures { IfOk result (λ steps. steps ≡ granted (edit_steps tree.now known.now edit.now)) }
+    ensures { IfOk result (λ steps. steps ≡ granted (edit_steps tree.now known.now edit)) }
 {
-    match steps_of(alloc, tree, edit, known) {
+    let steps = steps_of(alloc, tree, &edit, known);
+    // (let go at one place)
+    drop(edit);
+    match steps {
         Ok(steps) => Ok(Some(steps)),
         Err(EditRefused::Refused(_)) => Ok(None),
         Err(EditRefused::NoMemory) => Err(NoMemory),
@@ -74,7 +77,7 @@ pub(crate) fn do_action(
     ensures { IfOk result (λ steps. ChangesActions tree.now known.now node ObjectMember.DoAction (fields_data args.entry) steps) }
 {
     match place(first_signed(args)) {
-        Some(index) => granted(alloc, tree, &Edit::Press { node, index }, known),
+        Some(index) => granted(alloc, tree, Edit::Press { node, index }, known),
         None => Ok(None),
     }
 }

@@ -33,7 +33,7 @@ fn set_caret_offset(
     ensures { IfOk result (λ steps. ChangesText tree.now known.now node ObjectMember.SetCaretOffset (fields_data args.entry) steps) }
 {
     match place(first_signed(args)) {
-        Some(at) => granted(alloc, tree, &Edit::Caret { node, at }, known),
+        Some(at) => granted(alloc, tree, Edit::Caret { node, at }, known),
         None => Ok(None),
     }
 }
@@ -55,7 +55,7 @@ fn add_selection(
     let Some(to) = place(second_signed(args)) else {
         return Ok(None);
     };
-    granted(alloc, tree, &Edit::Mark { node, from, to }, known)
+    granted(alloc, tree, Edit::Mark { node, from, to }, known)
 }
 
 /// RemoveSelection.
@@ -109,7 +109,7 @@ fn insert_text(
         return Ok(None);
     };
     let text = second_owned(alloc, args)?;
-    granted(alloc, tree, &Edit::Put { node, at, text }, known)
+    granted(alloc, tree, Edit::Put { node, at, text }, known)
 }
 
 /// DeleteText.
@@ -129,7 +129,7 @@ fn delete_text(
     let Some(to) = place(second_signed(args)) else {
         return Ok(None);
     };
-    granted(alloc, tree, &Edit::Cut { node, from, to }, known)
+    granted(alloc, tree, Edit::Cut { node, from, to }, known)
 }
 
 /// The steps of a text that is put into an empty one, none where that is refused.
@@ -146,7 +146,7 @@ fn put_alone(
         caret: 0,
         marks: Marks::new(alloc),
     };
-    granted(alloc, tree, &Edit::Put { node, at: 0, text }, &empty)
+    granted(alloc, tree, Edit::Put { node, at: 0, text }, &empty)
 }
 
 /// All characters that are known are cut, and a text is put in.
@@ -162,7 +162,7 @@ fn exchange(
 {
     let to = known_count(known);
     let more = put_alone(alloc, tree, node, text)?;
-    let cut = granted(alloc, tree, &Edit::Cut { node, from: 0, to }, known)?;
+    let cut = granted(alloc, tree, Edit::Cut { node, from: 0, to }, known)?;
     and_more(cut, more)
 }
 

@@ -6,6 +6,7 @@ ghost use Rattle.atspi_cursor.specs.Items.{item_data, fields_data, elements_data
 ghost use Rattle.atspi_protocol.specs.news.Arguments.{text_in, number_in};
 ghost use Rattle.atspi_protocol.specs.news.CacheSignals.{item_of, item_in, states_in, cache_news};
 ghost use Rattle.atspi_news_reading.specs.Items.{item_seen, word_seen, FrontComes};
+ghost use Rattle.atspi_news_reading.specs.Seen.{reference_seen};
 
 use crate::argument::{
     next_i32, next_numbers, next_reference, next_text, next_texts, next_u32, owned_path,
@@ -13,7 +14,7 @@ use crate::argument::{
 use crate::borrowed::{ItemFront, ItemRef};
 use atspi_base::{NoMemory, Text, Texts};
 use atspi_cursor::{Elements, Fields, Item};
-use atspi_forest::News;
+use atspi_forest::{News, Reference};
 use std::alloc::Global;
 
 /// The first five fields of an item, if they are that.
@@ -103,21 +104,45 @@ fn word(value: Option<Item>) -> u32
     }
 }
 
+impl<'a> ItemFront<'a> {
+    /// The references of an item, owned: to itself, to its application and to its parent.
+    fn owned(self, alloc: Global) -> Result<(Reference, Reference, Reference), NoMemory>
+        ensures { IfOk result (λ owned. (owned.0 ≡ reference_seen self.entry.object) × (owned.1 ≡ reference_seen self.entry.application) × (owned.2 ≡ reference_seen self.entry.parent)) }
+    {
+        let object = self.object.owned(alloc)?;
+        let application = self.application.owned(alloc)?;
+        let parent = self.parent.owned(alloc)?;
+        Ok((object, application, parent))
+    }
+}
+
 impl<'a> ItemRef<'a> {
+    /// Its interfaces, its name and its description, owned.
+    fn owned_words(self, alloc: Global) -> Result<(Texts, Text, Text), NoMemory>
+        ensures { IfOk result (λ words. (words.0 ≡ map text_in (elements_data self.entry.interfaces)) × (words.1 ≡ chars self.entry.name.now) × (words.2 ≡ chars self.entry.description.now)) }
+    {
+        let interfaces = owned_texts(alloc, self.interfaces)?;
+        let name = Text::of(alloc, self.name)?;
+        let description = Text::of(alloc, self.description)?;
+        Ok((interfaces, name, description))
+    }
+
     /// The item, owned.
     pub(crate) fn owned(self, alloc: Global) -> Result<atspi_forest::Item, NoMemory>
         ensures { IfOk result (λ item. item ≡ item_seen self.entry) }
     {
+        let (interfaces, name, description) = self.owned_words(alloc)?;
+        let (object, application, parent) = self.front.owned(alloc)?;
         Ok(atspi_forest::Item {
-            object: self.front.object.owned(alloc)?,
-            application: self.front.application.owned(alloc)?,
-            parent: self.front.parent.owned(alloc)?,
+            object,
+            application,
+            parent,
             index: self.front.index,
             children: self.front.children,
-            interfaces: owned_texts(alloc, self.interfaces)?,
-            name: Text::of(alloc, self.name)?,
+            interfaces,
+            name,
             role: self.role,
-            description: Text::of(alloc, self.description)?,
+            description,
             states: states(self.states),
         })
     }

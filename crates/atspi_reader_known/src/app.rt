@@ -197,6 +197,7 @@ impl App {
         ensures err { OnErr result (self.new ≡ self.old) }
     {
         if !self.cache.is_held(HERE) {
+            drop(news);
             return Ok(());
         }
         let stays = both(self.listed, follows(&self.cache, &self.wants, &news));
@@ -213,6 +214,7 @@ impl App {
         ensures err { OnErr result (self.new ≡ self.old) }
     {
         if !self.cache.is_held(HERE) {
+            drop(news);
             return Ok(());
         }
         let first = both(self.listed, tells_first(&self.wants, &news));

@@ -192,8 +192,9 @@ impl Apps {
     pub fn put(&mut self, app: App)
         ensures { self.new ≡ changed (λ _. app) app.name self.old }
     {
-        if let Some(place) = self.place(app.name().as_str()) {
-            let _ = mem::replace(&mut self.items[place], app);
+        match self.place(app.name().as_str()) {
+            Some(place) => drop(mem::replace(&mut self.items[place], app)),
+            None => drop(app),
         }
     }
 
@@ -204,7 +205,10 @@ impl Apps {
     {
         match self.place(name) {
             Some(place) => self.items[place].fold(news),
-            None => Ok(()),
+            None => {
+                drop(news);
+                Ok(())
+            }
         }
     }
 
@@ -215,7 +219,10 @@ impl Apps {
     {
         match self.place(name) {
             Some(place) => self.items[place].tell(news),
-            None => Ok(()),
+            None => {
+                drop(news);
+                Ok(())
+            }
         }
     }
 
@@ -226,7 +233,10 @@ impl Apps {
     {
         match self.place(name) {
             Some(place) => self.items[place].refuse(path, part),
-            None => Ok(()),
+            None => {
+                drop(path);
+                Ok(())
+            }
         }
     }
 

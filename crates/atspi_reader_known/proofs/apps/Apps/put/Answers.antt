@@ -22,7 +22,7 @@ returns-in-Some c =
     ap (set items c.in-Some.place) c.replace.ensures.after
     ∙ set_changed (λ _. c.args.app) c.args.app.name items now c.in-Some.place c.index_mut.result.now c.self.view_is pos c.index_mut.ensures.value c.self.invariant.0
 
-pub returns-in_default : goal.returns-in_default
-returns-in_default c =
+pub returns-in-None : goal.returns-in-None
+returns-in-None c =
     let spelled = c.as_str.ensures.bytes ∙ c.name.ensures in
-    nobody_changes (λ _. c.args.app) c.args.app.name c.args.self.now (ap (λ (n : List ℕ). position (is_named n) c.args.self.now) (sym spelled) ∙ sym c.place.ensures ∙ c.in_default.is)
+    nobody_changes (λ _. c.args.app) c.args.app.name c.args.self.now (ap (λ (n : List ℕ). position (is_named n) c.args.self.now) (sym spelled) ∙ sym c.place.ensures ∙ c.in-None.is)
