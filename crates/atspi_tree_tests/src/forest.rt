@@ -42,22 +42,35 @@ fn root(alloc: Global) -> Option<Reference> {
     Some(Reference { bus, path })
 }
 
-/// An item of that root.
-fn item(alloc: Global) -> Option<Item> {
+/// That root as an item's object, its application and its parent.
+fn roots(alloc: Global) -> Option<(Reference, Reference, Reference)> {
     let object = root(alloc)?;
     let application = root(alloc)?;
     let parent = root(alloc)?;
+    Some((object, application, parent))
+}
+
+/// No interfaces, and a name and a description without characters.
+fn no_words(alloc: Global) -> Option<(Texts, Text, Text)> {
     let name = no_text(alloc)?;
+    let description = no_text(alloc)?;
+    Some((Texts::new(alloc), name, description))
+}
+
+/// An item of that root.
+fn item(alloc: Global) -> Option<Item> {
+    let (interfaces, name, description) = no_words(alloc)?;
+    let (object, application, parent) = roots(alloc)?;
     Some(Item {
         object,
         application,
         parent,
         index: -1,
         children: 0,
-        interfaces: Texts::new(alloc),
+        interfaces,
         name,
         role: 75,
-        description: no_text(alloc)?,
+        description,
         states: 0x4300_0100,
     })
 }

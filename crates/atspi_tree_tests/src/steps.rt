@@ -46,6 +46,14 @@ fn is_rich(seed: &Seed) -> bool {
         && seed.columns == Some(2)
 }
 
+/// The name of a seed that has all that a rich one has.
+fn rich_name(seed: &Seed) -> Option<&str> {
+    if !is_rich(seed) {
+        return None;
+    }
+    Some(seed.name.as_str())
+}
+
 /// A step with a text, that is told so.
 fn text_step(alloc: Global, told: Told<'_>) -> Option<Step> {
     let (kind, node, at, _, characters) = told;
@@ -103,8 +111,7 @@ pub(crate) fn told(step: &Step) -> Option<Told<'_>> {
             parent,
             index,
             seed,
-        } if is_rich(seed) => Some((0, *node, *parent, *index, seed.name.as_str())),
-        Step::Add { .. } => None,
+        } => Some((0, *node, *parent, *index, rich_name(seed)?)),
         Step::Remove { node } => Some((1, *node, 0, 0, "")),
         Step::Move {
             node,
@@ -164,8 +171,12 @@ pub(crate) fn told_by(row: &str) -> Option<Told<'_>> {
 fn is_copied(alloc: Global, row: &str) -> Option<bool> {
     let want = told_by(row)?;
     let step = step_of(alloc, want)?;
-    let copy = copy_step(alloc, &step).ok()?;
-    Some(told(&copy) == Some(want))
+    let copy = copy_step(alloc, &step);
+    drop(step);
+    let copy = copy.ok()?;
+    let is_same = told(&copy) == Some(want);
+    drop(copy);
+    Some(is_same)
 }
 
 #[test]

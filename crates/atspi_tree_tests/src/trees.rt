@@ -83,12 +83,18 @@ fn put_row(out: &mut Bytes, parent: Option<u32>, role: u32, faces: u8) -> Option
     put_numbers(out, &[role, u32::from(faces)])
 }
 
-/// Appends what a tree answers: all its `nodes`, its places in preorder (`walk`) or those `below NODE`, how many nodes were `made`
-/// and are there, the `targets NODE KIND` of a relation, or what a node has.
-fn put_answer(out: &mut Bytes, tree: &Tree, question: &str) -> Option<()> {
+/// The word of a question and the two numbers behind it, 0 where there is none.
+fn asked(question: &str) -> Option<(&str, u32, u32)> {
     let mut words = question.split(' ');
     let word = words.next()?;
     let node = number(words.next());
+    Some((word, node, number(words.next())))
+}
+
+/// Appends what a tree answers: all its `nodes`, its places in preorder (`walk`) or those `below NODE`, how many nodes were `made`
+/// and are there, the `targets NODE KIND` of a relation, or what a node has.
+fn put_answer(out: &mut Bytes, tree: &Tree, question: &str) -> Option<()> {
+    let (word, node, kind) = asked(question)?;
     if !tree.has(node) {
         return None;
     }
@@ -97,7 +103,7 @@ fn put_answer(out: &mut Bytes, tree: &Tree, question: &str) -> Option<()> {
         "walk" => put_seats(out, tree.seats()),
         "below" => put_seats(out, tree.seats_below(node)),
         "made" => put_numbers(out, &[tree.made(), tree.len()]),
-        "targets" => put_numbers(out, tree.targets(node, number(words.next()))),
+        "targets" => put_numbers(out, tree.targets(node, kind)),
         "row" => put_row(out, tree.parent(node), tree.role(node), tree.faces(node)),
         "states" => put(out, " ", u32::try_from(tree.states(node)).ok()?),
         "name" => put_text(out, tree.name(node).as_str()),
