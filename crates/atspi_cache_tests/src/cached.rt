@@ -72,7 +72,9 @@ fn put_spoken(alloc: Global, cache: &Cache, words: &str, out: &mut Texts) -> Opt
         return None;
     }
     let news = news_of(alloc, words)?;
-    lines(cache, 7, &news, out).ok()
+    let put = lines(cache, 7, &news, out);
+    drop(news);
+    put.ok()
 }
 
 /// Whether these lines are the one that is due, or none.

@@ -45,7 +45,9 @@ fn put_lines(
     let bus = cache.bus(7)?;
     let row = row_of(cache, known);
     let news = news_of(alloc, words)?;
-    lines(alloc, root, bus, row, known != "nobody", &news, out).ok()
+    let put = lines(alloc, root, bus, row, known != "nobody", &news, out);
+    drop(news);
+    put.ok()
 }
 
 /// The same of news with `, ` between any two.

@@ -39,7 +39,6 @@ fn reference(alloc: Global, word: &str) -> Option<Reference> {
 }
 
 /// What spells an item: the paths of the object and of its parent, its index there, its role, its states and its name.
-#[derive(Clone, Copy)]
 struct ItemWords<'a> {
     object: &'a str,
     parent: &'a str,
@@ -65,29 +64,46 @@ fn item_words(words: &str) -> Option<ItemWords<'_>> {
     })
 }
 
-/// The item of these words.
-fn item_of(alloc: Global, words: ItemWords<'_>) -> Option<Item> {
-    let object = reference(alloc, words.object)?;
-    let parent = reference(alloc, words.parent)?;
+/// An item's object, its application and its parent.
+fn references(
+    alloc: Global,
+    object: &str,
+    parent: &str,
+) -> Option<(Reference, Reference, Reference)> {
+    let object = reference(alloc, object)?;
+    let parent = reference(alloc, parent)?;
     let application = reference(alloc, "/r")?;
-    let name = text_of(alloc, words.name)?;
+    Some((object, application, parent))
+}
+
+/// No interfaces, a name and an empty description.
+fn texts(alloc: Global, name: &str) -> Option<(Texts, Text, Text)> {
+    let name = text_of(alloc, name)?;
+    let description = text_of(alloc, "")?;
+    Some((Texts::new(alloc), name, description))
+}
+
+/// The item of these words.
+fn item_of(alloc: Global, words: &ItemWords<'_>) -> Option<Item> {
+    let (interfaces, name, description) = texts(alloc, words.name)?;
+    let (object, application, parent) = references(alloc, words.object, words.parent)?;
     Some(Item {
         object,
         application,
         parent,
         index: words.index,
         children: 0,
-        interfaces: Texts::new(alloc),
+        interfaces,
         name,
         role: words.role,
-        description: text_of(alloc, "")?,
+        description,
         states: words.states,
     })
 }
 
 /// Appends the item of words.
 pub(crate) fn put_item(alloc: Global, items: &mut Items, words: &str) -> Option<()> {
-    let item = item_of(alloc, item_words(words)?)?;
+    let item = item_of(alloc, &item_words(words)?)?;
     items.push(item).ok()
 }
 
@@ -168,7 +184,7 @@ pub(crate) fn news_of(alloc: Global, words: &str) -> Option<News> {
     let (kind, rest) = words.trim().split_once(' ')?;
     let (path, text) = rest.split_once(' ').unwrap_or((rest, ""));
     match kind {
-        "item" => Some(News::Item(item_of(alloc, item_words(rest)?)?)),
+        "item" => Some(News::Item(item_of(alloc, &item_words(rest)?)?)),
         "child-removed" => child_removed(alloc, rest),
         "name" | "description" | "inserted" | "deleted" | "text-is" => {
             text_news(alloc, kind, path, text)
