@@ -39,6 +39,7 @@ fn reference(alloc: Global, word: &str) -> Option<Reference> {
 }
 
 /// What spells an item: the paths of the object and of its parent, its index there, its role, its states and its name.
+#[derive(Clone, Copy)]
 struct ItemWords<'a> {
     object: &'a str,
     parent: &'a str,
