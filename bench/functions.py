@@ -24,7 +24,7 @@ import sys
 import tempfile
 import time
 
-KINDS = r"\.(Lts|Tie|Proof|Answers|Invariants|Code|Statement|Met|Symbol|Reads|Layout|Kinds|Key|Goals|Given|TheLinks?|Links)\b"
+KINDS = r"\.(Lts|Tie|Proof|Answers|Invariants|Code|Statement|Met|Symbol|Reads|Layout|Kinds|Key|Goals|Given|TheLinks?)\b"
 TICKS = os.sysconf("SC_CLK_TCK")
 
 
