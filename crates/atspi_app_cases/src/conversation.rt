@@ -5,7 +5,8 @@ ghost use Rattle.atspi_exported.specs.Parts.{IsExported};
 use crate::doing::{act, take};
 use atspi_app::{App, AppEvent, AppFault, Exported, Exports};
 use atspi_base::Bytes;
-use atspi_events::{Event, write_event};
+use atspi_event_texts::write_event;
+use atspi_events::Event;
 use atspi_lines::Party;
 use std::alloc::Global;
 

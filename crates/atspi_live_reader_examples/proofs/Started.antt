@@ -8,7 +8,7 @@ use Rattle.atspi_auth.specs.Requests.{is_grant, is_number}
 use Rattle.atspi_auth.specs.Talk.{behind, client_start, heard, hears, hears_bytes}
 use Rattle.atspi_auth.proofs.LinesLemmas.{joined-lines_of}
 use Rattle.atspi_base.specs.Digits.{hex_digits}
-use Rattle.atspi_events.specs.Rows.{last_number, node_text}
+use Rattle.atspi_event_texts.specs.Rows.{last_number, node_text}
 use Rattle.atspi_forest.specs.Path.{path_of}
 use Rattle.atspi_tables.specs.Roles.{role_names, role_words}
 use Rattle.atspi_types.specs.declared.fault.Order.{Order}

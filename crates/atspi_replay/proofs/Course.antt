@@ -3,7 +3,7 @@ use Rattle.std.proofs.Common.{◌≡◌, ℕ, suc, ◌+◌, ◌<◌, List, [], �
 use Rattle.std.specs.Io.KnownBytes.{Appends}
 use Rattle.std.specs.List.{AllByRecursion}
 use Rattle.atspi_base.specs.Outside.{AppendsPart, appends_both, appends_part}
-use Rattle.atspi_events.specs.declared.options.TraceOptions.{TraceOptions}
+use Rattle.atspi_event_texts.specs.declared.options.TraceOptions.{TraceOptions}
 use Rattle.atspi_lines.specs.declared.limits.TheConstants.{QUOTA_MOST}
 use Rattle.atspi_lines.specs.declared.line.Line.{Line}
 use Rattle.atspi_lines.specs.Line.{Spells}

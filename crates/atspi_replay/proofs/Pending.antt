@@ -4,7 +4,7 @@ use Rattle.std.specs.Prelude.{slice_get}
 use Rattle.std.specs.Io.KnownBytes.{Appends}
 use Rattle.atspi_base.specs.Outside.{AppendsPart, appends_both, appends_part, part_of_more}
 use Rattle.atspi_events.specs.declared.event.Event.{Event}
-use Rattle.atspi_events.specs.declared.options.TraceOptions.{TraceOptions}
+use Rattle.atspi_event_texts.specs.declared.options.TraceOptions.{TraceOptions}
 use Rattle.atspi_posts.specs.declared.post.Post.{Post}
 use Rattle.atspi_replay.specs.Told.{Told, told_from, told_if, told_text}
 use Rattle.atspi_replay.proofs.DoneLemmas.{appends_nothing, text_more}

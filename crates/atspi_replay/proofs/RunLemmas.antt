@@ -7,7 +7,7 @@ use Rattle.atspi_replay.specs.Causes.{Causes, IsSooner}
 use Rattle.atspi_replay.specs.Input.{BlamesEnd, HasRead, is_whole}
 use Rattle.atspi_replay.specs.declared.input.End.{End}
 use Rattle.atspi_replay.specs.declared.input.End.TheVariants.{Whole, TooLong, Failed}
-use Rattle.atspi_events.specs.declared.options.TraceOptions.{TraceOptions}
+use Rattle.atspi_event_texts.specs.declared.options.TraceOptions.{TraceOptions}
 use Rattle.atspi_replay.specs.declared.naming.Halt.TheVariants.{RegistryLost, Spent}
 use Rattle.atspi_replay.specs.declared.naming.Stop.{Stop}
 use Rattle.atspi_replay.specs.declared.naming.Stop.TheVariants.{Refused, Halted, Write, NoMemory}

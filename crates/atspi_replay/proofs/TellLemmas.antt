@@ -4,9 +4,9 @@ use Rattle.std.specs.Prelude.{slice_get}
 use Rattle.std.proofs.lemmas.Bool.{false≢true}
 use Rattle.atspi_posts.specs.declared.post.Post.{Post}
 use Rattle.atspi_events.specs.declared.event.Event.{Event}
-use Rattle.atspi_events.specs.declared.options.TraceOptions.{TraceOptions}
-use Rattle.atspi_events.specs.EventText.{event_text}
-use Rattle.atspi_events.specs.TraceText.{is_brief}
+use Rattle.atspi_event_texts.specs.declared.options.TraceOptions.{TraceOptions}
+use Rattle.atspi_event_texts.specs.EventText.{event_text}
+use Rattle.atspi_event_texts.specs.TraceText.{is_brief}
 use Rattle.atspi_cast.specs.Wires.{wire_bytes}
 use Rattle.atspi_replay.specs.Told.{Told, bytes_text, told_at, told_if, told_on, told_from, told_text}
 

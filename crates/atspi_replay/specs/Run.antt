@@ -2,7 +2,7 @@
 use Rattle.std.specs.Prelude.{◌≡◌, ◌⊎◌, ℕ, ◌<◌, ◌≤◌, List, ◌++◌, length, take, Bool, Option, Some, IfSome, true}
 use Rattle.std.specs.Io.KnownBytes.{Consumes, IsAtEnd}
 use Rattle.atspi_replay.specs.Lines.{lines_read, lines_of, whole_lines}
-use Rattle.atspi_events.specs.declared.options.TraceOptions.{TraceOptions}
+use Rattle.atspi_event_texts.specs.declared.options.TraceOptions.{TraceOptions}
 use Rattle.atspi_stage.specs.declared.fault.ActFault.{ActFault}
 use Rattle.atspi_stage.specs.declared.fault.ActFault.TheVariants as act
 use Rattle.atspi_replay.specs.declared.input.End.{End}

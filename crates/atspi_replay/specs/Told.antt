@@ -2,9 +2,9 @@
 use Rattle.std.specs.Prelude.{ℕ, suc, List, [], ◌∷◌, ◌++◌, cond, drop, map, Option, None, Some}
 use Rattle.std.specs.List.{flat_map}
 use Rattle.atspi_events.specs.declared.event.Event.{Event}
-use Rattle.atspi_events.specs.declared.options.TraceOptions.{TraceOptions}
-use Rattle.atspi_events.specs.EventText.{ended, event_text}
-use Rattle.atspi_events.specs.TraceText.{is_brief, wire_line}
+use Rattle.atspi_event_texts.specs.declared.options.TraceOptions.{TraceOptions}
+use Rattle.atspi_event_texts.specs.EventText.{ended, event_text}
+use Rattle.atspi_event_texts.specs.TraceText.{is_brief, wire_line}
 use Rattle.atspi_posts.specs.declared.post.Post.{Post}
 use Rattle.atspi_trace.specs.Entry.{Entry, entries_of}
 use Rattle.atspi_cast.specs.Wires.{event_bytes}

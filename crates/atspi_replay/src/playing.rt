@@ -16,7 +16,7 @@ use crate::naming::{Stop, stop_of_act, stop_of_line};
 use crate::serials::all_fit;
 use crate::telling::{finish, refuse, write_trace};
 use atspi_base::Sink;
-use atspi_events::TraceOptions;
+use atspi_event_texts::TraceOptions;
 use atspi_lines::parse_line;
 use atspi_stage::Stage;
 use atspi_stage_ends::{Application, Follower};

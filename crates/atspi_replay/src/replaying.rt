@@ -10,7 +10,7 @@ use crate::input::{End, SCRIPT_LIMIT, read_all};
 use crate::naming::{Halt, Stop};
 use crate::playing::play;
 use atspi_base::{Sink, Source};
-use atspi_events::TraceOptions;
+use atspi_event_texts::TraceOptions;
 use atspi_stage_ends::{Application, Follower};
 use std::alloc::Global;
 

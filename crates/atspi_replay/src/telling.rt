@@ -4,7 +4,7 @@ ghost use Rattle.std.specs.Prelude.{◌≡◌, [], ◌∷◌, ◌++◌, ℕ, Lis
 ghost use Rattle.std.specs.Option.{option_copied};
 ghost use Rattle.std.specs.Io.KnownBytes.{Appends};
 ghost use Rattle.atspi_base.specs.Outside.{AppendsPart};
-ghost use Rattle.atspi_events.specs.TraceText.{is_brief as keeps};
+ghost use Rattle.atspi_event_texts.specs.TraceText.{is_brief as keeps};
 ghost use Rattle.atspi_replay.specs.Names.{refused_text};
 ghost use Rattle.atspi_replay.specs.Play.{BlamesWrite, IfHalted, IfRefused};
 ghost use Rattle.atspi_replay.specs.Told.{bytes_text, told_at, told_from, told_if, told_text};
@@ -13,7 +13,8 @@ ghost use Rattle.atspi_stage.specs.Stage.{posts_of, trace_of};
 
 use crate::naming::{Halt, Refused, Stop, refused_name};
 use atspi_base::{Bytes, NoMemory, Sink, write_all};
-use atspi_events::{Event, TraceOptions, is_brief, write_event, write_wire};
+use atspi_event_texts::{TraceOptions, is_brief, write_event, write_wire};
+use atspi_events::Event;
 use atspi_stage::Stage;
 use atspi_stage_ends::{Application, Follower};
 use std::alloc::Global;

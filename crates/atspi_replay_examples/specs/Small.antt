@@ -1,7 +1,7 @@
 -- A registry and a reader whose next message has the serial 4,294,967,296, one above the last; and what a line came to that was broken off.
 use Rattle.std.specs.Prelude.{List, [], ◌∷◌, None, Some, codes, drop, false, true}
 use Rattle.atspi_events.specs.declared.event.Event.TheVariants.{Got, Quiet}
-use Rattle.atspi_events.specs.declared.options.TraceOptions.{TraceOptions}
+use Rattle.atspi_event_texts.specs.declared.options.TraceOptions.{TraceOptions}
 use Rattle.atspi_lines.specs.declared.deed.Deed.TheVariants.{SetCaret}
 use Rattle.atspi_lines.specs.declared.line.Party.TheVariants.{Bus as The_bus, Reader, Registry}
 use Rattle.atspi_message.specs.Envelope.{Envelope}

@@ -7,7 +7,7 @@ ghost use Rattle.atspi_rows_text.specs.RowsText.{rows_text};
 
 use atspi_arena::Rows;
 use atspi_base::{Bytes, NoMemory};
-use atspi_events::write_shown;
+use atspi_event_texts::write_shown;
 use atspi_showing::shown_rows;
 use std::alloc::Global;
 

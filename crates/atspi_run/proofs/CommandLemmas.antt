@@ -1,6 +1,6 @@
 -- What each command does, as the top call says it.
 use Rattle.std.proofs.Common.{◌≡◌, ◌⊎◌, ◌≤◌, ◌<◌, ℕ, List, [], ◌∷◌, Option, subst, sym, arith, inl, inr}
-use Rattle.atspi_events.specs.declared.options.TraceOptions.{TraceOptions}
+use Rattle.atspi_event_texts.specs.declared.options.TraceOptions.{TraceOptions}
 use Rattle.atspi_check.specs.Causes as check
 use Rattle.atspi_check.specs.Check.{Checked, IsCheckStatus}
 use Rattle.atspi_replay.specs.Causes.{Causes}

@@ -1,6 +1,6 @@
 -- What is asked for in a world, and what the top call says of it.
 use Rattle.std.proofs.Common.{◌≡◌, ℕ, List, Option, inl, inr, refl}
-use Rattle.atspi_events.specs.declared.options.TraceOptions.{TraceOptions}
+use Rattle.atspi_event_texts.specs.declared.options.TraceOptions.{TraceOptions}
 use Rattle.atspi_replay.specs.declared.naming.Stop.TheVariants.{NoMemory}
 use Rattle.atspi_replay.specs.Made.{Made}
 use Rattle.atspi_replay.specs.Run.{Replayed}

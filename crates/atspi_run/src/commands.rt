@@ -2,7 +2,7 @@
 
 ghost use Rattle.std.specs.Prelude.{◌≡◌, ℕ, List, map, string_bytes};
 ghost use Rattle.atspi_check.specs.Check.{Checked};
-ghost use Rattle.atspi_events.specs.declared.options.TraceOptions.{TraceOptions};
+ghost use Rattle.atspi_event_texts.specs.declared.options.TraceOptions.{TraceOptions};
 ghost use Rattle.atspi_replay.specs.Causes.{Causes};
 ghost use Rattle.atspi_replay.specs.Made.{Made};
 ghost use Rattle.atspi_replay.specs.Run.{Replayed};

@@ -1,13 +1,13 @@
 //! What the words of a command line ask for, and the texts that are told to who asks.
 
 ghost use Rattle.std.specs.Prelude.{◌≡◌, ◌⊎◌, ◌↔◌, ◌&&◌, ℕ, List, [], ◌∷◌, IsTrue, MatchOption, MatchResult, map, string_bytes};
-ghost use Rattle.atspi_events.specs.declared.options.TraceOptions.{TraceOptions};
+ghost use Rattle.atspi_event_texts.specs.declared.options.TraceOptions.{TraceOptions};
 ghost use Rattle.atspi_replay.specs.Causes.{Causes};
 ghost use Rattle.atspi_run.specs.Words.{AreOf, Asks, IsAllowed, IsMake, IsReplay, IsTask, IsTold, Tells, usage};
 ghost use Rattle.atspi_run.specs.declared.words.Task.{Task};
 
 use atspi_base::{Failed, Sink, write_all};
-use atspi_events::TraceOptions;
+use atspi_event_texts::TraceOptions;
 use atspi_lines::read_number;
 use atspi_replay::{MAKE_LIMIT, SEED_LIMIT};
 

@@ -2,7 +2,8 @@
 
 use crate::traces::made::{Words, event_of, number, seed, tells, text, words_of};
 use atspi_base::{Marks, Nums};
-use atspi_events::{Event, TraceOptions, nodes_are_told, text_tells_trace};
+use atspi_event_texts::{TraceOptions, nodes_are_told, text_tells_trace};
+use atspi_events::Event;
 use atspi_forest::Step;
 use std::alloc::Global;
 use std::test::*;

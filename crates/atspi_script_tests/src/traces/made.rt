@@ -1,7 +1,8 @@
 //! Events made for these tests, and their texts.
 
 use atspi_base::{Bytes, NoMemory, Text, Texts};
-use atspi_events::{Event, is_brief, write_event};
+use atspi_event_texts::{is_brief, write_event};
+use atspi_events::Event;
 use atspi_forest::Seed;
 use atspi_lines::Party;
 use atspi_valid_names::{BusName, Path};

@@ -2,7 +2,8 @@
 
 use crate::traces::made::tells;
 use atspi_base::{Bytes, NoMemory};
-use atspi_events::{Event, write_wire};
+use atspi_event_texts::write_wire;
+use atspi_events::Event;
 use atspi_lines::Party;
 use atspi_message::{Message, total};
 use std::alloc::Global;

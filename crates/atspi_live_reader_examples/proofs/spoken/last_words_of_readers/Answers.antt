@@ -1,7 +1,7 @@
 use Rattle.std.proofs.Common.{refl}
 use Rattle.std.specs.Fmt.{digits}
 use Rattle.atspi_base.specs.Digits.{hex_digits}
-use Rattle.atspi_events.specs.Rows.{last_number, node_text}
+use Rattle.atspi_event_texts.specs.Rows.{last_number, node_text}
 use Rattle.atspi_forest.specs.Path.{path_of}
 use Rattle.atspi_tables.specs.Roles.{role_names, role_words}
 use Rattle.atspi_live_reader_examples.proofs.spoken.last_words_of_readers.Goals as goal
