@@ -5,3 +5,4 @@ pub mod Unnumbered
 pub mod Told
 pub mod OfEdits
 pub mod OfCalls
+pub mod OfCalled

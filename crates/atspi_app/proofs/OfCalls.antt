@@ -31,8 +31,8 @@ use Rattle.atspi_app_answers.specs.Asking.{answer_to as answer_of_tree}
 use Rattle.atspi_app_answers.specs.Seen.{seen as seen_tree}
 use Rattle.atspi_app_answers.specs.Replies.{sent_back}
 use Rattle.atspi_app_answers.proofs.Senders.{sent_to}
-use Rattle.atspi_app_called.specs.declared.outcome.Called.{Called}
-use Rattle.atspi_app_called.specs.Called.{answer_of, reply_of}
+use Rattle.atspi_app.specs.declared.called.outcome.Called.{Called}
+use Rattle.atspi_app.specs.called.Called.{answer_of, reply_of}
 use Rattle.atspi_app.specs.Seen.{seen, AreUnnumbered}
 use Rattle.atspi_app_known.specs.heeding.Heeding.{is_answered}
 use Rattle.atspi_app_known.proofs.OfHeeding.Heeded.{IsAnswered, answered}

@@ -2,6 +2,7 @@
 #![tactic(auto)]
 
 mod app;
+pub mod called;
 mod doing;
 mod fault;
 mod taking;

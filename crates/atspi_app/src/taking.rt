@@ -11,14 +11,14 @@ ghost use Rattle.atspi_protocol.specs.exporting.Taking.{answer_to, app_takes, is
 ghost use Rattle.atspi_app_known.specs.happenings.View.{happened};
 ghost use Rattle.atspi_exported.specs.Doing.{CanBeDone};
 ghost use Rattle.atspi_exported.specs.Parts.{IsExported};
-ghost use Rattle.atspi_app_called.specs.Called.{answer_of};
+ghost use Rattle.atspi_app.specs.called.Called.{answer_of};
 ghost use Rattle.atspi_app_known.specs.heeding.Heeding.{is_answered};
 ghost use Rattle.atspi_app.specs.Seen.{seen};
 
 use crate::app::App;
+use crate::called::{Called, called};
 use crate::fault::AppFault;
 use crate::telling::{own_name, told_of_call};
-use atspi_app_called::{Called, called};
 use atspi_app_known::happenings::Happenings;
 use atspi_app_known::heeding::{heed, is_answered};
 use atspi_base::NoMemory;

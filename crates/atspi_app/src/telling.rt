@@ -12,11 +12,11 @@ ghost use Rattle.atspi_protocol.specs.exporting.Telling.{step_told};
 ghost use Rattle.atspi_app_known.specs.happenings.View.{happened};
 ghost use Rattle.atspi_header.specs.View.{envelope_at};
 ghost use Rattle.atspi_app_answers.specs.Replies.{sent_back};
-ghost use Rattle.atspi_app_called.specs.Called.{reply_of};
+ghost use Rattle.atspi_app.specs.called.Called.{reply_of};
 ghost use Rattle.atspi_app.specs.Seen.{AreUnnumbered};
 
+use crate::called::sent_back;
 use atspi_announced::announced;
-use atspi_app_called::sent_back;
 use atspi_app_known::happenings::Happenings;
 use atspi_app_known::starting::Known;
 use atspi_base::{NoMemory, Text};

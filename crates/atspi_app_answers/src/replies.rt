@@ -1,7 +1,7 @@
 //! What is sent back for a call.
 
 ghost use Rattle.std.specs.Prelude.{◌≡◌, ◌++◌, true, OnOk, OnErr};
-ghost use Rattle.atspi_valid_names.specs.Names.{is_bus_name};
+ghost use Rattle.atspi_base.specs.valid_names.Names.{is_bus_name};
 ghost use Rattle.atspi_types.specs.DataView.{all_data};
 ghost use Rattle.atspi_header.specs.View.{envelope_at};
 ghost use Rattle.atspi_protocol.specs.ends.Messages as messages;

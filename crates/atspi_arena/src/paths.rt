@@ -10,8 +10,8 @@ ghost use Rattle.atspi_arena.specs.Table.{has_path, is_among, is_this, look_in, 
 
 use crate::cell::{Cell, link, seat_for, unlink};
 use atspi_base::NoMemory;
+use atspi_base::valid_names::Path;
 use atspi_forest::Row;
-use atspi_valid_names::Path;
 use indexmap::IndexMap;
 use slab::Slab;
 use std::alloc::Global;

@@ -10,8 +10,8 @@ ghost use Rattle.atspi_arena.specs.Walk.{At, EndsAt, Frame, IsAtIndex, IsNext, I
 
 use crate::cell::Cell;
 use crate::paths::{Paths, parent_of};
+use atspi_base::valid_names::Path;
 use atspi_forest::Row;
-use atspi_valid_names::Path;
 use slab::Slab;
 use std::iter::FusedIterator;
 use std::marker::Model;

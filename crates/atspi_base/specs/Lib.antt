@@ -3,3 +3,4 @@ pub mod Outside
 pub mod Quoted
 pub mod ReadsText
 pub mod Text
+pub mod valid_names

@@ -10,6 +10,7 @@ mod outside;
 mod quoted;
 mod steps;
 mod text;
+pub mod valid_names;
 
 pub use bytes::Bytes;
 pub use digits::{hex_digit_of, put_decimal, put_hex, put_signed};

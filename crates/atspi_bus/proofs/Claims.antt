@@ -15,12 +15,12 @@ use Rattle.atspi_names.specs.Owners.{Owners, Lists, list_of, with_list, after_re
 use Rattle.atspi_names.proofs.Maps.{later, same_write, equal_of_tie}
 use Rattle.atspi_names.proofs.ListsLemmas.{names_apart}
 use Rattle.atspi_names.proofs.BookLemmas.{list_here}
-use Rattle.atspi_routing.specs.declared.member.BusMember.TheVariants.{RequestName}
-use Rattle.atspi_routing.specs.BusState.{BusState}
-use Rattle.atspi_routing.specs.Answers.{Reply, fails, Answer, only, answers, requests, first_text, second_number}
-use Rattle.atspi_routing.specs.Routing.{expects_reply}
-use Rattle.atspi_routing.specs.Queues.{Bus, stepped}
-use Rattle.atspi_routing.specs.Steps.{speaks, replies, answered}
+use Rattle.atspi_match.specs.declared.routing.member.BusMember.TheVariants.{RequestName}
+use Rattle.atspi_match.specs.routing.BusState.{BusState}
+use Rattle.atspi_match.specs.routing.Answers.{Reply, fails, Answer, only, answers, requests, first_text, second_number}
+use Rattle.atspi_match.specs.routing.Routing.{expects_reply}
+use Rattle.atspi_match.specs.routing.Queues.{Bus, stepped}
+use Rattle.atspi_match.specs.routing.Steps.{speaks, replies, answered}
 use Rattle.atspi_bus_answers.specs.Answered.{IsAnswer, reply_of}
 use Rattle.atspi_bus_answers.specs.Free.{IsFreeName}
 use Rattle.atspi_bus_answers.specs.declared.answering.Reply.{Reply as Given}

@@ -6,7 +6,7 @@ use Rattle.std.specs.Ordering.{nat_cmp, eq_by_cmp}
 use Rattle.std.specs.Cmp.{nat_cmp_total, eq_by_cmp_equiv}
 use Rattle.std.specs.FinMap as finmap
 use Rattle.std.specs.FinMap.{FinMap, get-empty, get-insert, get-remove}
-use Rattle.atspi_valid_names.specs.Names.{is_unique_name}
+use Rattle.atspi_base.specs.valid_names.Names.{is_unique_name}
 use Rattle.atspi_names.specs.Queue.{requested, released, without}
 use Rattle.atspi_names.specs.Owners.{Owners, nobody, list_of, with_list, lists_without, unique_name, after_hello, after_request, after_release, after_gone}
 use Rattle.atspi_names.proofs.BookLemmas.{by_test, same_conn, list_here, list_of-lists_without}

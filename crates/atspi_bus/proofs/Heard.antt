@@ -4,15 +4,15 @@ use Rattle.std.proofs.lemmas.Bool.Decides.{Decides-eqb}
 use Rattle.std.specs.Prelude.{◌==◌, bytes_eq}
 use Rattle.std.specs.List.{list_any, filter}
 use Rattle.atspi_message.specs.Envelope.{Envelope}
-use Rattle.atspi_valid_names.specs.Names.{is_unique_name}
+use Rattle.atspi_base.specs.valid_names.Names.{is_unique_name}
 use Rattle.atspi_names.specs.Queue.{owner_in, without}
 use Rattle.atspi_names.specs.Owners.{Owners, list_of, lists_without, own_name, after_gone}
 use Rattle.atspi_names.proofs.BookLemmas.{list_of-lists_without}
 use Rattle.atspi_match.specs.declared.condition.Condition.{Condition}
 use Rattle.atspi_match.specs.declared.condition.Condition.TheVariants.{Kind, Sender, Interface, Member, Path, PathNamespace, Destination, Arg, ArgPath, Arg0Namespace, Eavesdrop}
 use Rattle.atspi_match.specs.RuleIndex.{without_rules}
-use Rattle.atspi_routing.specs.BusState.{BusState, OpenCall, unique_of}
-use Rattle.atspi_routing.specs.Routing.{is_same, passes, is_owned_by, goes_by, holds, matches, asks_for, one_or_none, receivers}
+use Rattle.atspi_match.specs.routing.BusState.{BusState, OpenCall, unique_of}
+use Rattle.atspi_match.specs.routing.Routing.{is_same, passes, is_owned_by, goes_by, holds, matches, asks_for, one_or_none, receivers}
 use Rattle.atspi_bus.specs.Exclusive.{IsExclusive}
 use Rattle.atspi_bus_steps.proofs.Asking.{receivers-to, receivers-all, receivers-none}
 

@@ -12,8 +12,8 @@ use Rattle.atspi_names.specs.Queue.{owner_in, without}
 use Rattle.atspi_names.specs.Owners.{Owners, list_of, after_gone}
 use Rattle.atspi_names.proofs.BookLemmas.{list_of-lists_without}
 use Rattle.atspi_names.proofs.Maps.{equal_of_tie}
-use Rattle.atspi_routing.specs.BusState.{unique_of, text_or_empty, name_or_empty}
-use Rattle.atspi_routing.specs.OwnMessages.{signal, name_acquired, owner_changed}
+use Rattle.atspi_match.specs.routing.BusState.{unique_of, text_or_empty, name_or_empty}
+use Rattle.atspi_match.specs.routing.OwnMessages.{signal, name_acquired, owner_changed}
 use Rattle.atspi_bus_steps.specs.Farewell.{name_passes_on}
 
 -- who leaves a list does not own it

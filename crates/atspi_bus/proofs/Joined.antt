@@ -8,13 +8,13 @@ use Rattle.std.specs.List.{All}
 use Rattle.std.proofs.lemmas.List.Elements.{All-filter}
 use Rattle.atspi_message.specs.Envelope.{Envelope}
 use Rattle.atspi_match.specs.declared.condition.Condition.{Condition}
-use Rattle.atspi_routing.specs.declared.member.BusMember.{BusMember}
-use Rattle.atspi_routing.specs.declared.closing.Why.{Why}
-use Rattle.atspi_routing.specs.BusState.{BusState, begins, unique_of}
-use Rattle.atspi_routing.specs.Members.{member_of}
-use Rattle.atspi_routing.specs.Routing.{is_for_bus, receivers}
-use Rattle.atspi_routing.specs.Steps.{BusStep, closes, handed, calls_after_all, speaks, called, is_unowned, undeliverable, passes_on, takes_from_named, is_hello, bus_takes, greets}
-use Rattle.atspi_routing.specs.Queues.{Bus, stepped, left, one_closed, settled, takes, leaves}
+use Rattle.atspi_match.specs.declared.routing.member.BusMember.{BusMember}
+use Rattle.atspi_match.specs.declared.routing.closing.Why.{Why}
+use Rattle.atspi_match.specs.routing.BusState.{BusState, begins, unique_of}
+use Rattle.atspi_match.specs.routing.Members.{member_of}
+use Rattle.atspi_match.specs.routing.Routing.{is_for_bus, receivers}
+use Rattle.atspi_match.specs.routing.Steps.{BusStep, closes, handed, calls_after_all, speaks, called, is_unowned, undeliverable, passes_on, takes_from_named, is_hello, bus_takes, greets}
+use Rattle.atspi_match.specs.routing.Queues.{Bus, stepped, left, one_closed, settled, takes, leaves}
 use Rattle.atspi_bus_steps.specs.Spoken.{IsRuleTaken}
 use Rattle.atspi_bus_steps.specs.Sound.{IsSound}
 

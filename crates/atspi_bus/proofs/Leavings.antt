@@ -15,12 +15,12 @@ use Rattle.atspi_message.specs.Envelope.{Envelope}
 use Rattle.atspi_names.specs.Queue.{owner_in}
 use Rattle.atspi_names.specs.Owners.{Owners, list_of, own_name, after_gone, owned_by}
 use Rattle.atspi_match.specs.RuleIndex.{without_rules}
-use Rattle.atspi_routing.specs.declared.closing.Why.{Why}
-use Rattle.atspi_routing.specs.BusState.{BusState, OpenCall, unique_of, text_or_empty, name_or_empty, calls_without}
-use Rattle.atspi_routing.specs.OwnMessages.{error_to, name_acquired, owner_changed, numbered}
-use Rattle.atspi_routing.specs.Routing.{asks_for, one_or_none, receivers}
-use Rattle.atspi_routing.specs.Steps.{Move, says, delivers, handed, said, speaks, farewell}
-use Rattle.atspi_routing.specs.Queues.{Bus, Waiting, moved, own_of, stepped, without_queue, left}
+use Rattle.atspi_match.specs.declared.routing.closing.Why.{Why}
+use Rattle.atspi_match.specs.routing.BusState.{BusState, OpenCall, unique_of, text_or_empty, name_or_empty, calls_without}
+use Rattle.atspi_match.specs.routing.OwnMessages.{error_to, name_acquired, owner_changed, numbered}
+use Rattle.atspi_match.specs.routing.Routing.{asks_for, one_or_none, receivers}
+use Rattle.atspi_match.specs.routing.Steps.{Move, says, delivers, handed, said, speaks, farewell}
+use Rattle.atspi_match.specs.routing.Queues.{Bus, Waiting, moved, own_of, stepped, without_queue, left}
 use Rattle.atspi_bus_steps.specs.Farewell.{no_replies, name_passes_on, names_pass_on, forgotten}
 use Rattle.atspi_bus_steps.specs.Sayable.{MaySay}
 use Rattle.atspi_bus_steps.specs.Sound.{IsReady, IsSound}

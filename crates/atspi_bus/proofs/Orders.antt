@@ -3,19 +3,19 @@ use Rattle.std.proofs.Common.{◌≡◌, ℕ, length, zero, suc, not, Bool, true
 use Rattle.std.specs.Prelude.{◌==◌, Result, Ok, Err, bytes_eq}
 use Rattle.std.proofs.lemmas.Bool.{and_parts}
 use Rattle.atspi_types.specs.Data.{Data}
-use Rattle.atspi_valid_names.specs.Names.{is_bus_name, is_unique_name}
+use Rattle.atspi_base.specs.valid_names.Names.{is_bus_name, is_unique_name}
 use Rattle.atspi_message.specs.Envelope.{Envelope}
 use Rattle.atspi_match.specs.declared.condition.Condition.{Condition}
 use Rattle.atspi_names.specs.Owners.{own_name}
-use Rattle.atspi_routing.specs.declared.member.BusMember.{BusMember}
-use Rattle.atspi_routing.specs.declared.member.BusMember.TheVariants.{Hello, RequestName, ReleaseName, NameHasOwner, GetNameOwner, ListNames, ListQueuedOwners, AddMatch, RemoveMatch, GetId, Ping}
-use Rattle.atspi_routing.specs.declared.closing.Why.{Why}
-use Rattle.atspi_routing.specs.BusState.{BusState, unique_of}
-use Rattle.atspi_routing.specs.Answers.{Answer, answers, may_be_asked_for, first_text, second_number}
-use Rattle.atspi_routing.specs.Members.{member_of}
-use Rattle.atspi_routing.specs.Routing.{is_for_bus, receivers}
-use Rattle.atspi_routing.specs.Steps.{BusStep, closes, handed, calls_after_all, speaks, called, is_unowned, undeliverable, passes_on, takes_from_named, is_hello, bus_takes, greets}
-use Rattle.atspi_routing.specs.Queues.{Bus, stepped, left, one_closed, settled, takes, leaves}
+use Rattle.atspi_match.specs.declared.routing.member.BusMember.{BusMember}
+use Rattle.atspi_match.specs.declared.routing.member.BusMember.TheVariants.{Hello, RequestName, ReleaseName, NameHasOwner, GetNameOwner, ListNames, ListQueuedOwners, AddMatch, RemoveMatch, GetId, Ping}
+use Rattle.atspi_match.specs.declared.routing.closing.Why.{Why}
+use Rattle.atspi_match.specs.routing.BusState.{BusState, unique_of}
+use Rattle.atspi_match.specs.routing.Answers.{Answer, answers, may_be_asked_for, first_text, second_number}
+use Rattle.atspi_match.specs.routing.Members.{member_of}
+use Rattle.atspi_match.specs.routing.Routing.{is_for_bus, receivers}
+use Rattle.atspi_match.specs.routing.Steps.{BusStep, closes, handed, calls_after_all, speaks, called, is_unowned, undeliverable, passes_on, takes_from_named, is_hello, bus_takes, greets}
+use Rattle.atspi_match.specs.routing.Queues.{Bus, stepped, left, one_closed, settled, takes, leaves}
 use Rattle.atspi_bus_steps.specs.Spoken.{IsRuleTaken}
 use Rattle.atspi_bus_steps.specs.Sound.{IsSound}
 use Rattle.atspi_bus.specs.Exclusive.{IsExclusive}

@@ -13,15 +13,15 @@ use Rattle.atspi_match.specs.declared.condition.Condition.{Condition}
 use Rattle.atspi_match.specs.RuleIndex.{is_pair, rules_of}
 use Rattle.atspi_names.specs.Hello.{IsAfterHello}
 use Rattle.atspi_names.specs.Owners.{Owners}
-use Rattle.atspi_routing.specs.declared.member.BusMember.{BusMember}
-use Rattle.atspi_routing.specs.declared.member.BusMember.TheVariants.{Hello, RequestName, ReleaseName, NameHasOwner, GetNameOwner, ListNames, ListQueuedOwners, AddMatch, RemoveMatch, GetId, Ping}
-use Rattle.atspi_routing.specs.BusState.{BusState, unique_of}
-use Rattle.atspi_routing.specs.Answers.{Reply, returns, fails, Answer, answers, may_be_asked_for, first_text}
-use Rattle.atspi_routing.specs.Members.{member_of}
-use Rattle.atspi_routing.specs.OwnMessages.{return_to, error_to}
-use Rattle.atspi_routing.specs.Queues.{Bus, stepped, takes}
-use Rattle.atspi_routing.specs.Routing.{receivers, expects_reply, is_for_bus}
-use Rattle.atspi_routing.specs.Steps.{BusStep, handed, calls_after_all, speaks, replies, answered, called, undeliverable, is_unowned, passes_on, takes_from_named, bus_takes}
+use Rattle.atspi_match.specs.declared.routing.member.BusMember.{BusMember}
+use Rattle.atspi_match.specs.declared.routing.member.BusMember.TheVariants.{Hello, RequestName, ReleaseName, NameHasOwner, GetNameOwner, ListNames, ListQueuedOwners, AddMatch, RemoveMatch, GetId, Ping}
+use Rattle.atspi_match.specs.routing.BusState.{BusState, unique_of}
+use Rattle.atspi_match.specs.routing.Answers.{Reply, returns, fails, Answer, answers, may_be_asked_for, first_text}
+use Rattle.atspi_match.specs.routing.Members.{member_of}
+use Rattle.atspi_match.specs.routing.OwnMessages.{return_to, error_to}
+use Rattle.atspi_match.specs.routing.Queues.{Bus, stepped, takes}
+use Rattle.atspi_match.specs.routing.Routing.{receivers, expects_reply, is_for_bus}
+use Rattle.atspi_match.specs.routing.Steps.{BusStep, handed, calls_after_all, speaks, replies, answered, called, undeliverable, is_unowned, passes_on, takes_from_named, bus_takes}
 use Rattle.atspi_bus_answers.specs.Answered.{IsSpokenOf, IsAnswer, AreNamed, with_parts, reply_of}
 use Rattle.atspi_bus_answers.specs.declared.answering.Reply.{Reply as Given}
 use Rattle.atspi_bus_steps.specs.Sayable.{reply_message}

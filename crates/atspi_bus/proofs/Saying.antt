@@ -5,10 +5,10 @@ use Rattle.atspi_message.specs.Envelope.{Envelope}
 use Rattle.atspi_names.specs.Owners.{Owners}
 use Rattle.atspi_queues.specs.Each.{WentToEach, queued_each}
 use Rattle.atspi_queues.specs.Held.{Held}
-use Rattle.atspi_routing.specs.BusState.{BusState}
-use Rattle.atspi_routing.specs.Queues.{Bus, Waiting, stepped}
-use Rattle.atspi_routing.specs.Routing.{receivers}
-use Rattle.atspi_routing.specs.Steps.{speaks}
+use Rattle.atspi_match.specs.routing.BusState.{BusState}
+use Rattle.atspi_match.specs.routing.Queues.{Bus, Waiting, stepped}
+use Rattle.atspi_match.specs.routing.Routing.{receivers}
+use Rattle.atspi_match.specs.routing.Steps.{speaks}
 use Rattle.atspi_bus_steps.proofs.Said.{handed-is, one_said, more_said}
 use Rattle.atspi_bus.specs.Said.{IsHanded, IsSaid}
 

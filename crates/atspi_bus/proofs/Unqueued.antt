@@ -10,10 +10,10 @@ use Rattle.std.specs.FinMap as finmap
 use Rattle.std.specs.FinMap.{FinMap, get-insert, get-remove, same_map, nat_cmp-IsAntisymmetric}
 use Rattle.atspi_message.specs.Bytes.{written}
 use Rattle.atspi_names.proofs.Maps.{equal_of_tie}
-use Rattle.atspi_routing.specs.declared.closing.Why.{Why}
-use Rattle.atspi_routing.specs.declared.closing.Why.TheVariants.{Quota}
-use Rattle.atspi_routing.specs.Steps.{Move, says, delivers, closes}
-use Rattle.atspi_routing.specs.Queues.{Waiting, or_nothing, queue_of, is_due, doomed, queued, moved, without_queue}
+use Rattle.atspi_match.specs.declared.routing.closing.Why.{Why}
+use Rattle.atspi_match.specs.declared.routing.closing.Why.TheVariants.{Quota}
+use Rattle.atspi_match.specs.routing.Steps.{Move, says, delivers, closes}
+use Rattle.atspi_match.specs.routing.Queues.{Waiting, or_nothing, queue_of, is_due, doomed, queued, moved, without_queue}
 
 differ : (conn c : ℕ) → c ≢ conn → (c == conn) ≡ false
 differ conn c other = by (c == conn) refl

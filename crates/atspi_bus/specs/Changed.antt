@@ -1,10 +1,10 @@
 -- What a call of AddMatch or RemoveMatch does.
 use Rattle.std.specs.Prelude.{◌≡◌, Bool, true, false, [], Option, None, Some, MatchOption}
-use Rattle.atspi_routing.specs.declared.member.BusMember.{BusMember}
-use Rattle.atspi_routing.specs.declared.member.BusMember.TheVariants.{AddMatch, RemoveMatch, RequestName, ReleaseName}
-use Rattle.atspi_routing.specs.Answers as answers
-use Rattle.atspi_routing.specs.Answers.{Answer, returns, fails}
-use Rattle.atspi_routing.specs.Queues.{Bus}
+use Rattle.atspi_match.specs.declared.routing.member.BusMember.{BusMember}
+use Rattle.atspi_match.specs.declared.routing.member.BusMember.TheVariants.{AddMatch, RemoveMatch, RequestName, ReleaseName}
+use Rattle.atspi_match.specs.routing.Answers as answers
+use Rattle.atspi_match.specs.routing.Answers.{Answer, returns, fails}
+use Rattle.atspi_match.specs.routing.Queues.{Bus}
 use Rattle.atspi_bus_answers.specs.Errors.{error_text}
 use Rattle.atspi_bus_answers.specs.declared.error.BusError.{BusError}
 

@@ -3,8 +3,8 @@ use Rattle.std.specs.Prelude.{◌≡◌, ◌+◌, ◌<◌, ◌^◌, ◌++◌, �
 use Rattle.atspi_message.specs.Bytes.{written}
 use Rattle.atspi_message.specs.Envelope.{Envelope}
 use Rattle.atspi_queues.specs.Each.{HaveRoom, queued_each}
-use Rattle.atspi_routing.specs.Queues.{Bus}
-use Rattle.atspi_routing.specs.Routing.{receivers}
+use Rattle.atspi_match.specs.routing.Queues.{Bus}
+use Rattle.atspi_match.specs.routing.Routing.{receivers}
 
 -- its bytes wait for each receiver, which had room for them
 pub record IsHanded (first after : Bus) (e : Envelope) (bytes conns : List ℕ) : Type 0 where

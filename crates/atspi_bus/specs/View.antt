@@ -1,6 +1,6 @@
 -- How contracts see a bus.
 use Rattle.std.specs.Prelude.{ℕ}
-use Rattle.atspi_routing.specs.Queues as queues
+use Rattle.atspi_match.specs.routing.Queues as queues
 use Rattle.atspi_bus_steps.specs.Inner.{inner_of}
 use Rattle.atspi_bus.specs.declared.bus.Bus.{Bus}
 

@@ -4,12 +4,12 @@ ghost use Rattle.std.specs.Prelude.{◌≡◌, false, true, List, Ok, Option, If
 ghost use Rattle.atspi_message.specs.Rules.{MeetsRules};
 ghost use Rattle.atspi_header.specs.View.{envelope_at};
 ghost use Rattle.atspi_match.specs.declared.condition.Condition.{Condition};
-ghost use Rattle.atspi_routing.specs.Answers as answers;
-ghost use Rattle.atspi_routing.specs.BusState.{unique_of};
-ghost use Rattle.atspi_routing.specs.Members as members;
-ghost use Rattle.atspi_routing.specs.Queues.{stepped, takes};
-ghost use Rattle.atspi_routing.specs.Routing as routing;
-ghost use Rattle.atspi_routing.specs.Steps as steps;
+ghost use Rattle.atspi_match.specs.routing.Answers as answers;
+ghost use Rattle.atspi_match.specs.routing.BusState.{unique_of};
+ghost use Rattle.atspi_match.specs.routing.Members as members;
+ghost use Rattle.atspi_match.specs.routing.Queues.{stepped, takes};
+ghost use Rattle.atspi_match.specs.routing.Routing as routing;
+ghost use Rattle.atspi_match.specs.routing.Steps as steps;
 ghost use Rattle.atspi_bus_answers.specs.Answered.{IsSpokenOf, AreNamed, is_told, reply_of};
 ghost use Rattle.atspi_bus_steps.specs.Inner.{inner_of, state_of};
 ghost use Rattle.atspi_bus_steps.specs.Sayable.{IsTyped};
@@ -24,7 +24,7 @@ use atspi_base::NoMemory;
 use atspi_bus_answers::{BusError, Reply, answer, member_of};
 use atspi_bus_steps::{BusFault, Inner, expects_reply, is_for_bus, is_hello, receivers};
 use atspi_header::MessageRef;
-use atspi_routing::BusMember;
+use atspi_match::routing::BusMember;
 use atspi_types::Values;
 
 /// Says the reply to a call, where one is expected, and answers whether all that is due was said. Where its receiver has no room for it, where

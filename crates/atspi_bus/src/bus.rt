@@ -5,8 +5,8 @@ ghost use Rattle.atspi_message.specs.Envelope.{envelope_of};
 ghost use Rattle.atspi_message.specs.Rules.{MeetsRules};
 ghost use Rattle.atspi_header.specs.View.{envelope_at};
 ghost use Rattle.atspi_match.specs.declared.condition.Condition.{Condition};
-ghost use Rattle.atspi_routing.specs.Laws.{IsWithinQuota};
-ghost use Rattle.atspi_routing.specs.Queues.{queue_of, empty_bus, joins, takes, leaves};
+ghost use Rattle.atspi_match.specs.routing.Laws.{IsWithinQuota};
+ghost use Rattle.atspi_match.specs.routing.Queues.{queue_of, empty_bus, joins, takes, leaves};
 ghost use Rattle.atspi_queues.specs.Change.{with_queue};
 ghost use Rattle.atspi_bus_steps.specs.Inner.{state_of};
 ghost use Rattle.atspi_bus_steps.specs.Limits.{IsTooBig, SaysTooMuch};
@@ -17,8 +17,8 @@ ghost use Rattle.atspi_bus.specs.Exclusive.{IsExclusive};
 use crate::whole::{leave_whole, take_whole};
 use atspi_bus_steps::{BusFault, Inner};
 use atspi_header::MessageRef;
+use atspi_match::routing::Closing;
 use atspi_message::Message;
-use atspi_routing::Closing;
 use std::alloc::Global;
 
 /// A message bus (D-Bus Specification, "Message Bus Specification"). A connection is known by its number. What a bus knows is kept here,

@@ -5,9 +5,9 @@ ghost use Rattle.atspi_message.specs.Envelope.{envelope_of};
 ghost use Rattle.atspi_message.specs.Rules.{MeetsRules};
 ghost use Rattle.atspi_header.specs.View.{envelope_at};
 ghost use Rattle.atspi_match.specs.declared.condition.Condition.{Condition};
-ghost use Rattle.atspi_routing.specs.Members as members;
-ghost use Rattle.atspi_routing.specs.Queues.{stepped};
-ghost use Rattle.atspi_routing.specs.Steps as steps;
+ghost use Rattle.atspi_match.specs.routing.Members as members;
+ghost use Rattle.atspi_match.specs.routing.Queues.{stepped};
+ghost use Rattle.atspi_match.specs.routing.Steps as steps;
 ghost use Rattle.atspi_bus_answers.specs.Answered.{IsSpokenOf, reply_of};
 ghost use Rattle.atspi_bus_answers.specs.Free.{IsFreeName};
 ghost use Rattle.atspi_bus_steps.specs.Inner.{inner_of, state_of};
@@ -17,12 +17,12 @@ ghost use Rattle.atspi_bus_steps.specs.Spoken.{answered_by};
 
 use crate::in_place::say_each;
 use crate::renaming::rename_in_place;
+use atspi_base::valid_names::BusName;
 use atspi_bus_answers::{Reply, answer, free_name};
 use atspi_bus_steps::{BusFault, Inner, expects_reply};
 use atspi_header::MessageRef;
+use atspi_match::routing::BusMember;
 use atspi_message::Message;
-use atspi_routing::BusMember;
-use atspi_valid_names::BusName;
 use std::collections::VecDeque;
 
 /// Says what an answer tells, and behind it the reply to the call, where one is expected, all or nothing. Where it cannot be said in place, and after a

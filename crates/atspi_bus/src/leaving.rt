@@ -3,9 +3,9 @@
 ghost use Rattle.std.specs.Prelude.{◌≡◌, ◌++◌, not, ◌==◌, filter, map, Some, IfOk, OnOk, OnErr, IsErrOf, MatchBool};
 ghost use Rattle.atspi_message.specs.Envelope.{envelope_of};
 ghost use Rattle.atspi_names.specs.Owners.{after_gone};
-ghost use Rattle.atspi_routing.specs.BusState as states;
-ghost use Rattle.atspi_routing.specs.Queues.{leaves};
-ghost use Rattle.atspi_routing.specs.Steps as steps;
+ghost use Rattle.atspi_match.specs.routing.BusState as states;
+ghost use Rattle.atspi_match.specs.routing.Queues.{leaves};
+ghost use Rattle.atspi_match.specs.routing.Steps as steps;
 ghost use Rattle.atspi_bus_steps.specs.Farewell.{name_passes_on, names_pass_on};
 ghost use Rattle.atspi_bus_steps.specs.Inner.{inner_of, state_of};
 ghost use Rattle.atspi_bus_steps.specs.Sound.{IsSound};
@@ -13,11 +13,11 @@ ghost use Rattle.atspi_bus.specs.Exclusive.{IsExclusive};
 
 use crate::in_place::say_each;
 use atspi_base::NoMemory;
+use atspi_base::valid_names::BusName;
 use atspi_bus_answers::{next_owner, owner_changed};
 use atspi_bus_steps::{BusFault, Inner, tell_acquired, tell_callers, unique_of};
 use atspi_message::Message;
 use atspi_names::Names;
-use atspi_valid_names::BusName;
 use std::alloc::Global;
 use std::collections::VecDeque;
 use std::mem;

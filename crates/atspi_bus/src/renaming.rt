@@ -7,9 +7,9 @@ ghost use Rattle.atspi_message.specs.Envelope.{envelope_of};
 ghost use Rattle.atspi_message.specs.Rules.{MeetsRules};
 ghost use Rattle.atspi_header.specs.View.{envelope_at};
 ghost use Rattle.atspi_match.specs.declared.condition.Condition.{Condition};
-ghost use Rattle.atspi_routing.specs.Members as members;
-ghost use Rattle.atspi_routing.specs.Queues.{stepped, takes};
-ghost use Rattle.atspi_routing.specs.Steps as steps;
+ghost use Rattle.atspi_match.specs.routing.Members as members;
+ghost use Rattle.atspi_match.specs.routing.Queues.{stepped, takes};
+ghost use Rattle.atspi_match.specs.routing.Steps as steps;
 ghost use Rattle.atspi_bus_answers.specs.Answered.{IsSpokenOf, AreNamed};
 ghost use Rattle.atspi_bus_steps.specs.Greeting.{greeting};
 ghost use Rattle.atspi_bus_steps.specs.Inner.{inner_of, state_of};
@@ -19,13 +19,13 @@ ghost use Rattle.atspi_bus_steps.specs.Spoken.{answered_by};
 ghost use Rattle.atspi_bus.specs.Changed.{changes_names};
 
 use crate::in_place::say_each;
+use atspi_base::valid_names::BusName;
 use atspi_bus_answers::answer;
 use atspi_bus_steps::{BusFault, Inner, expects_reply, greeting};
 use atspi_header::MessageRef;
+use atspi_match::routing::BusMember;
 use atspi_message::Message;
 use atspi_names::{Names, NamesFault};
-use atspi_routing::BusMember;
-use atspi_valid_names::BusName;
 use std::collections::VecDeque;
 use std::mem;
 

@@ -15,8 +15,8 @@ use Rattle.atspi_cursor.specs.Items.{fields_data, fields_kinds}
 use Rattle.atspi_cursor.specs.declared.cursor.Fields.{Fields}
 use Rattle.atspi_header.proofs.ReadTypes.{fields_types}
 use Rattle.atspi_message.specs.Envelope.{Envelope}
-use Rattle.atspi_routing.specs.declared.member.BusMember.{BusMember}
-use Rattle.atspi_routing.specs.Members.{MemberLine, member_lines, is_of, is_text, signature_of, first_line, with_arguments, member_of}
+use Rattle.atspi_match.specs.declared.routing.member.BusMember.{BusMember}
+use Rattle.atspi_match.specs.routing.Members.{MemberLine, member_lines, is_of, is_text, signature_of, first_line, with_arguments, member_of}
 use Rattle.atspi_bus_answers.specs.Lines.{is_named, member_in, takes_of}
 
 abbrev asks : Option (List ℕ) → Option (List ℕ) → MemberLine → Bool

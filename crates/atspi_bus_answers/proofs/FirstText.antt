@@ -2,7 +2,7 @@
 use Rattle.std.proofs.Common.{◌≡◌, ℕ, List, [], ◌∷◌, refl}
 use Rattle.atspi_types.specs.Kinds.{text}
 use Rattle.atspi_types.specs.Data.{Data, number_data, boolean_data, text_data, path_data, signature_data, array_data, structure_data, dictionary_data, variant_data, type_of}
-use Rattle.atspi_routing.specs.Answers.{first_text}
+use Rattle.atspi_match.specs.routing.Answers.{first_text}
 
 pub no_first : (d : Data) (ds : List Data) → (type_of d ≡ text → ⊥) → first_text (d ∷ ds) ≡ []
 no_first (number_data m n) ds other = refl

@@ -6,12 +6,12 @@ use Rattle.std.specs.Str.{IsAscii}
 use Rattle.std.proofs.lemmas.Bool.{and_parts}
 use Rattle.std.proofs.lemmas.Str.{chars-IsAscii, encodes-IsAscii}
 use borrow.Author.Tests.{ltb-true}
-use Rattle.atspi_routing.specs.Answers.{bus_id}
+use Rattle.atspi_match.specs.routing.Answers.{bus_id}
 use Rattle.atspi_base.specs.Text.{HasNoZero}
-use Rattle.atspi_valid_names.specs.Elements.{parts_of, are_elements, are_two_or_more}
-use Rattle.atspi_valid_names.specs.Names.{is_path, is_interface, is_member, is_bus_name}
+use Rattle.atspi_base.specs.valid_names.Elements.{parts_of, are_elements, are_two_or_more}
+use Rattle.atspi_base.specs.valid_names.Names.{is_path, is_interface, is_member, is_bus_name}
 use Rattle.atspi_names.specs.Owners.{own_name}
-use Rattle.atspi_routing.specs.OwnMessages.{own_path, error_prefix}
+use Rattle.atspi_match.specs.routing.OwnMessages.{own_path, error_prefix}
 use Rattle.atspi_bus_answers.specs.declared.error.BusError.{BusError}
 use Rattle.atspi_bus_answers.specs.declared.error.BusError.TheVariants.{Failed, InvalidArgs, LimitsExceeded, MatchRuleInvalid, MatchRuleNotFound, NameHasNoOwner, NoReply, ServiceUnknown, UnknownInterface, UnknownMethod}
 use Rattle.atspi_bus_answers.specs.Errors.{error_text}

@@ -8,18 +8,18 @@ use Rattle.std.specs.FinMap.{get-insert, get-remove}
 use Rattle.std.proofs.lemmas.Bool.{and_parts}
 use Rattle.std.proofs.lemmas.Str.{encodes-chars}
 use Rattle.atspi_types.specs.Data.{Data}
-use Rattle.atspi_valid_names.specs.Names.{is_bus_name, is_unique_name}
+use Rattle.atspi_base.specs.valid_names.Names.{is_bus_name, is_unique_name}
 use Rattle.atspi_message.specs.Envelope.{envelope_of}
 use Rattle.atspi_message.specs.declared.message.Message.{Message}
 use Rattle.atspi_names.specs.Owners.{Owners, Lists, list_of, with_list, own_name}
 use Rattle.atspi_names.proofs.Maps.{equal_of_tie}
 use Rattle.atspi_names.proofs.ListsLemmas.{names_apart}
 use Rattle.atspi_match.specs.declared.condition.Condition.{Condition}
-use Rattle.atspi_routing.specs.declared.member.BusMember.{BusMember}
-use Rattle.atspi_routing.specs.declared.member.BusMember.TheVariants.{RequestName, ReleaseName, AddMatch, RemoveMatch}
-use Rattle.atspi_routing.specs.BusState.{BusState}
-use Rattle.atspi_routing.specs.Answers as answers
-use Rattle.atspi_routing.specs.Answers.{Answer, first_text, second_number, may_be_asked_for, requests, releases, only, fails, adds_rule, removes_rule}
+use Rattle.atspi_match.specs.declared.routing.member.BusMember.{BusMember}
+use Rattle.atspi_match.specs.declared.routing.member.BusMember.TheVariants.{RequestName, ReleaseName, AddMatch, RemoveMatch}
+use Rattle.atspi_match.specs.routing.BusState.{BusState}
+use Rattle.atspi_match.specs.routing.Answers as answers
+use Rattle.atspi_match.specs.routing.Answers.{Answer, first_text, second_number, may_be_asked_for, requests, releases, only, fails, adds_rule, removes_rule}
 use Rattle.atspi_bus_answers.specs.declared.answering.Reply.{Reply}
 use Rattle.atspi_bus_answers.specs.Answered.{with_parts, IsAnswer, AreNamed, Spells, IsSpokenOf}
 use Rattle.atspi_bus_answers.specs.Members.{requested_answer, released_answer}

@@ -7,12 +7,12 @@ use Rattle.std.proofs.lemmas.Str.{encodes-chars}
 use Rattle.atspi_types.specs.Data.{Data, text_data}
 use Rattle.atspi_types.specs.DataView.{data_of}
 use Rattle.atspi_types.specs.declared.value.Value.{Value}
-use Rattle.atspi_valid_names.specs.Names.{IsBusName, is_bus_name, is_unique_name}
-use Rattle.atspi_valid_names.proofs.NameLemmas.{is_bus_name-from_IsBusName}
+use Rattle.atspi_base.specs.valid_names.Names.{IsBusName, is_bus_name, is_unique_name}
+use Rattle.atspi_base.proofs.OfValidNames.NameLemmas.{is_bus_name-from_IsBusName}
 use Rattle.atspi_names.specs.Owners.{Owners, list_of, own_name}
 use Rattle.atspi_names.specs.Queue.{owner_in}
-use Rattle.atspi_routing.specs.BusState.{name_or_empty}
-use Rattle.atspi_routing.specs.Answers.{may_be_asked_for, owner_name, has_owner, queued_names}
+use Rattle.atspi_match.specs.routing.BusState.{name_or_empty}
+use Rattle.atspi_match.specs.routing.Answers.{may_be_asked_for, owner_name, has_owner, queued_names}
 use Rattle.atspi_bus_answers.specs.Answered.{AreNamed}
 use Rattle.atspi_bus_answers.proofs.NameTexts.{name-chars, same_name}
 use Rattle.atspi_bus_answers.proofs.Literals.{own-chars, own-encodes}

@@ -7,8 +7,8 @@ use Rattle.std.proofs.lemmas.Slice.Eq.{bytes_eq-Decides}
 use Rattle.atspi_match.specs.declared.condition.Condition.{Condition}
 use Rattle.atspi_match.specs.Conditions.{same_rule, same_condition, rank, value_text}
 use Rattle.atspi_match.specs.RuleIndex.{is_pair, without_first}
-use Rattle.atspi_routing.specs.BusState.{BusState}
-use Rattle.atspi_routing.specs.Answers.{returns, fails, only, removes_rule}
+use Rattle.atspi_match.specs.routing.BusState.{BusState}
+use Rattle.atspi_match.specs.routing.Answers.{returns, fails, only, removes_rule}
 use Rattle.atspi_bus_answers.specs.declared.answering.Reply.{Reply}
 use Rattle.atspi_bus_answers.specs.Answered.{reply_of, IsAnswer}
 

@@ -2,17 +2,17 @@
 use Rattle.std.specs.Prelude.{◌≡◌, ◌++◌, ℕ, Bool, true, false, List, [], map, Option, None, Some, encode_utf8_all}
 use Rattle.atspi_types.specs.Data.{Data}
 use Rattle.atspi_types.specs.DataView.{all_data}
-use Rattle.atspi_valid_names.specs.Names.{is_bus_name}
+use Rattle.atspi_base.specs.valid_names.Names.{is_bus_name}
 use Rattle.atspi_message.specs.Envelope.{envelope_of}
 use Rattle.atspi_message.specs.declared.message.Message.{Message}
 use Rattle.atspi_names.specs.Owners.{Owners, Lists, list_of}
 use Rattle.atspi_match.specs.Grammar.{IsRuleText}
 use Rattle.atspi_match.specs.declared.condition.Condition.{Condition}
-use Rattle.atspi_routing.specs.declared.member.BusMember.{BusMember}
-use Rattle.atspi_routing.specs.declared.member.BusMember.TheVariants.{RequestName, ReleaseName, AddMatch, RemoveMatch}
-use Rattle.atspi_routing.specs.BusState.{BusState, begins}
-use Rattle.atspi_routing.specs.Answers as answers
-use Rattle.atspi_routing.specs.Answers.{Answer, returns, fails, first_text}
+use Rattle.atspi_match.specs.declared.routing.member.BusMember.{BusMember}
+use Rattle.atspi_match.specs.declared.routing.member.BusMember.TheVariants.{RequestName, ReleaseName, AddMatch, RemoveMatch}
+use Rattle.atspi_match.specs.routing.BusState.{BusState, begins}
+use Rattle.atspi_match.specs.routing.Answers as answers
+use Rattle.atspi_match.specs.routing.Answers.{Answer, returns, fails, first_text}
 use Rattle.atspi_bus_answers.specs.Errors.{error_text}
 use Rattle.atspi_bus_answers.specs.declared.answering.Reply.{Reply}
 use Rattle.atspi_bus_answers.specs.declared.answering.Reply.TheVariants.{Returns, Fails}

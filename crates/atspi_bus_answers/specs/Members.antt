@@ -1,7 +1,7 @@
 -- The lines of single members, as their functions say them.
 use Rattle.std.specs.Prelude.{◌≡◌, ℕ, true, false, List, Option, None, Some, codes, if◌then◌else◌}
-use Rattle.atspi_routing.specs.BusState.{BusState}
-use Rattle.atspi_routing.specs.Answers.{Answer, fails, only, may_be_asked_for, requests, releases}
+use Rattle.atspi_match.specs.routing.BusState.{BusState}
+use Rattle.atspi_match.specs.routing.Answers.{Answer, fails, only, may_be_asked_for, requests, releases}
 
 -- the name that a text is, where connections may ask for it
 abbrev pub IsAskedName : Option (List ℕ) → List ℕ → Type 0

@@ -5,8 +5,8 @@ ghost use Rattle.atspi_types.specs.Data.{text_data};
 ghost use Rattle.atspi_cursor.specs.Items.{fields_data};
 ghost use Rattle.atspi_header.specs.View.{envelope_at};
 ghost use Rattle.atspi_match.specs.declared.condition.Condition.{Condition};
-ghost use Rattle.atspi_routing.specs.Answers as answers;
-ghost use Rattle.atspi_routing.specs.Members as members;
+ghost use Rattle.atspi_match.specs.routing.Answers as answers;
+ghost use Rattle.atspi_match.specs.routing.Members as members;
 ghost use Rattle.atspi_bus_answers.specs.Answered.{with_parts, reply_of, is_told, IsAnswer, IsSpokenOf, AreNamed};
 
 use crate::BusError;
@@ -20,9 +20,9 @@ use atspi_base::{NoMemory, Text};
 use atspi_cursor::Fields;
 use atspi_header::MessageRef;
 use atspi_match::RuleIndex;
+use atspi_match::routing::BusMember;
 use atspi_message::Message;
 use atspi_names::Names;
-use atspi_routing::BusMember;
 use atspi_types::{Value, Values};
 use std::alloc::Global;
 

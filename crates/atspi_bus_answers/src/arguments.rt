@@ -3,7 +3,7 @@
 ghost use Rattle.std.specs.Prelude.{◌≡◌, [], ◌∷◌, chars};
 ghost use Rattle.atspi_types.specs.Kinds.{text, number, u32 as word};
 ghost use Rattle.atspi_cursor.specs.Items.{fields_data, fields_kinds};
-ghost use Rattle.atspi_routing.specs.Answers as answers;
+ghost use Rattle.atspi_match.specs.routing.Answers as answers;
 
 use atspi_cursor::Fields;
 

@@ -4,14 +4,14 @@ ghost use Rattle.std.specs.Prelude.{◌≡◌, [], ◌∷◌, ◌++◌, map, tak
 ghost use Rattle.std.specs.Option.{option_and_then};
 ghost use Rattle.atspi_message.specs.Envelope.{envelope_of};
 ghost use Rattle.atspi_names.specs.Queue as queues;
-ghost use Rattle.atspi_routing.specs.BusState.{text_or_empty, name_or_empty};
-ghost use Rattle.atspi_routing.specs.OwnMessages as own;
+ghost use Rattle.atspi_match.specs.routing.BusState.{text_or_empty, name_or_empty};
+ghost use Rattle.atspi_match.specs.routing.OwnMessages as own;
 
 use crate::said::{name_acquired, name_lost, owner_changed};
 use atspi_base::NoMemory;
+use atspi_base::valid_names::BusName;
 use atspi_message::Message;
 use atspi_names::{Names, OwnerChange};
-use atspi_valid_names::BusName;
 use std::alloc::Global;
 
 /// The unique name of an owner, if there is one.

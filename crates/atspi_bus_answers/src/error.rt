@@ -1,7 +1,7 @@
 //! The errors that a bus answers.
 
 ghost use Rattle.std.specs.Prelude.{◌≡◌, ◌++◌};
-ghost use Rattle.atspi_routing.specs.OwnMessages.{error_prefix};
+ghost use Rattle.atspi_match.specs.routing.OwnMessages.{error_prefix};
 ghost use Rattle.atspi_bus_answers.specs.Errors.{error_text};
 
 /// An error that a bus answers (D-Bus Specification, "Message Bus Messages").

@@ -4,18 +4,18 @@ ghost use Rattle.std.specs.Prelude.{◌≡◌, ℕ, [], ◌∷◌, Some, map, ch
 ghost use Rattle.atspi_types.specs.Data.{text_data};
 ghost use Rattle.atspi_types.specs.DataView.{data_of, all_data};
 ghost use Rattle.atspi_names.specs.Owners.{listed};
-ghost use Rattle.atspi_routing.specs.Answers as answers;
-ghost use Rattle.atspi_routing.specs.BusState.{name_or_empty};
+ghost use Rattle.atspi_match.specs.routing.Answers as answers;
+ghost use Rattle.atspi_match.specs.routing.BusState.{name_or_empty};
 ghost use Rattle.atspi_bus_answers.specs.Answered.{reply_of, AreNamed};
 
 use crate::BusError;
 use crate::answering::Reply;
 use crate::literal::is_own;
 use crate::values::{name_value, one, owner_value};
+use atspi_base::valid_names::{BusName, NameFault};
 use atspi_base::{NoMemory, Text};
 use atspi_names::Names;
 use atspi_types::{Ty, Value, Values};
-use atspi_valid_names::{BusName, NameFault};
 use std::alloc::Global;
 
 /// The names as texts.

@@ -2,10 +2,10 @@
 
 ghost use Rattle.std.specs.Prelude.{◌≡◌, true, bytes_eq, IfOk};
 ghost use Rattle.atspi_names.specs.Owners.{own_name};
-ghost use Rattle.atspi_valid_names.specs.Names as names;
+ghost use Rattle.atspi_base.specs.valid_names.Names as names;
 
 use atspi_base::NoMemory;
-use atspi_valid_names::{BusName, Interface, Member, NameFault, Path};
+use atspi_base::valid_names::{BusName, Interface, Member, NameFault, Path};
 use std::alloc::Global;
 
 /// The path that the text is.

@@ -3,12 +3,12 @@
 ghost use Rattle.std.specs.Prelude.{◌≡◌, bytes_eq};
 ghost use Rattle.std.specs.List.{list_any};
 ghost use Rattle.atspi_header.specs.View.{bytes_of, envelope_at};
-ghost use Rattle.atspi_routing.specs.Members as members;
+ghost use Rattle.atspi_match.specs.routing.Members as members;
 ghost use Rattle.atspi_bus_answers.specs.Lines as lines;
 
 use crate::BusError;
 use atspi_header::MessageRef;
-use atspi_routing::BusMember;
+use atspi_match::routing::BusMember;
 
 /// The interface of the bus.
 const BUS: &str = "org.freedesktop.DBus";

@@ -4,17 +4,17 @@ ghost use Rattle.std.specs.Prelude.{◌≡◌, [], ◌∷◌, chars, IfOk};
 ghost use Rattle.std.specs.Option.{option_map};
 ghost use Rattle.atspi_types.specs.Data.{text_data, boolean_data};
 ghost use Rattle.atspi_types.specs.DataView.{data_of};
-ghost use Rattle.atspi_routing.specs.Answers as answers;
+ghost use Rattle.atspi_match.specs.routing.Answers as answers;
 ghost use Rattle.atspi_bus_answers.specs.Answered.{reply_of, AreNamed};
 
 use crate::BusError;
 use crate::answering::Reply;
 use crate::literal::is_own;
 use crate::values::{one, owner_value};
+use atspi_base::valid_names::{BusName, NameFault};
 use atspi_base::{NoMemory, Text};
 use atspi_names::Names;
 use atspi_types::Value;
-use atspi_valid_names::{BusName, NameFault};
 use std::alloc::Global;
 
 /// Who owns the name that the text is, as a text: the bus its own, and else a connection by its unique name.

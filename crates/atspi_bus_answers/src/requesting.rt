@@ -14,11 +14,11 @@ use crate::change::{release_change, request_change, tell_change};
 use crate::literal::is_own;
 use crate::values::one;
 use atspi_base::NoMemory;
+use atspi_base::valid_names::{BusName, NameFault};
 use atspi_header::MessageRef;
 use atspi_message::Message;
 use atspi_names::Names;
 use atspi_types::Value;
-use atspi_valid_names::{BusName, NameFault};
 use std::alloc::Global;
 
 /// The name that the text is, where connections may ask for it.

@@ -3,7 +3,7 @@
 ghost use Rattle.std.specs.Prelude.{◌≡◌, ℕ, List, [], Option, IfOk, OnErr};
 ghost use Rattle.atspi_match.specs.declared.condition.Condition.{Condition};
 ghost use Rattle.atspi_names.specs.Owners.{Owners};
-ghost use Rattle.atspi_routing.specs.Answers as answers;
+ghost use Rattle.atspi_match.specs.routing.Answers as answers;
 ghost use Rattle.atspi_bus_answers.specs.Answered.{with_parts, IsAnswer, Spells};
 
 use crate::BusError;

@@ -3,20 +3,20 @@
 ghost use Rattle.std.specs.Prelude.{◌≡◌, [], ◌∷◌, true, codes, IfOk, option_copied};
 ghost use Rattle.atspi_types.specs.Data.{text_data};
 ghost use Rattle.atspi_types.specs.DataView.{all_data};
-ghost use Rattle.atspi_valid_names.specs.Names.{is_member};
+ghost use Rattle.atspi_base.specs.valid_names.Names.{is_member};
 ghost use Rattle.atspi_message.specs.Envelope.{envelope_of};
 ghost use Rattle.atspi_names.specs.Owners.{own_name};
-ghost use Rattle.atspi_routing.specs.BusState.{text_or_empty};
-ghost use Rattle.atspi_routing.specs.OwnMessages as own;
+ghost use Rattle.atspi_match.specs.routing.BusState.{text_or_empty};
+ghost use Rattle.atspi_match.specs.routing.OwnMessages as own;
 ghost use Rattle.atspi_bus_answers.specs.Errors.{error_text};
 
 use crate::BusError;
 use crate::literal::{bus_name, interface, member, path};
 use crate::values::{name_value, one, owner_value};
+use atspi_base::valid_names::{BusName, Interface, Path};
 use atspi_base::{NoMemory, Text};
 use atspi_message::Message;
 use atspi_types::{Order, Value, Values};
-use atspi_valid_names::{BusName, Interface, Path};
 use std::alloc::Global;
 
 /// The name of the bus itself, which is also that of its interface.

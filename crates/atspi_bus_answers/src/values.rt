@@ -4,11 +4,11 @@ ghost use Rattle.std.specs.Prelude.{◌≡◌, [], ◌∷◌, IfOk, option_copie
 ghost use Rattle.atspi_base.specs.Text.{HasNoZero};
 ghost use Rattle.atspi_types.specs.Data.{text_data};
 ghost use Rattle.atspi_types.specs.DataView.{data_of, all_data};
-ghost use Rattle.atspi_routing.specs.BusState.{text_or_empty};
+ghost use Rattle.atspi_match.specs.routing.BusState.{text_or_empty};
 
+use atspi_base::valid_names::BusName;
 use atspi_base::{NoMemory, Text};
 use atspi_types::{Value, Values};
-use atspi_valid_names::BusName;
 use std::alloc::Global;
 
 /// The name as a text.

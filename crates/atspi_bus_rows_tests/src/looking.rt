@@ -3,8 +3,8 @@
 use atspi_base::{Bytes, put_decimal};
 use atspi_bus::Bus;
 use atspi_bus_cases::lent;
+use atspi_match::routing::Why;
 use atspi_message::total;
-use atspi_routing::Why;
 use atspi_script::message_text;
 use std::alloc::Global;
 use std::process::Abort;

@@ -1,9 +1,9 @@
 -- What a bus says stands behind what it had said before, so that a message that passes the limits was said, whatever is said before it and behind it.
 use Rattle.std.proofs.Common.{◌≡◌, ℕ, zero, suc, List, [], ◌∷◌, ◌++◌, refl, sym, ap, ◌∙◌, subst, append-nil, append_assoc}
 use Rattle.atspi_message.specs.Envelope.{Envelope}
-use Rattle.atspi_routing.specs.declared.closing.Why.{Why}
-use Rattle.atspi_routing.specs.Steps.{BusStep, bus_leaves}
-use Rattle.atspi_routing.specs.Queues.{Bus, own_of, stepped, left, closed, one_closed, settled}
+use Rattle.atspi_match.specs.declared.routing.closing.Why.{Why}
+use Rattle.atspi_match.specs.routing.Steps.{BusStep, bus_leaves}
+use Rattle.atspi_match.specs.routing.Queues.{Bus, own_of, stepped, left, closed, one_closed, settled}
 use Rattle.atspi_bus_steps.specs.Limits.{SaysTooMuch}
 
 abbrev pub Appends : Bus → Bus → Type 0

@@ -24,9 +24,9 @@ use Rattle.atspi_names.proofs.Maps.{is_sorted-from}
 use Rattle.atspi_match.specs.declared.condition.Condition.{Condition}
 use Rattle.atspi_match.specs.Matching.{Matches}
 use Rattle.atspi_match.specs.RuleIndex.{Receives, AreReceivers}
-use Rattle.atspi_routing.specs.BusState.{BusState}
-use Rattle.atspi_routing.specs.Routing.{asks_for, matches, receivers, one_or_none}
-use Rattle.atspi_routing.proofs.Deciding.{matching}
+use Rattle.atspi_match.specs.routing.BusState.{BusState}
+use Rattle.atspi_match.specs.routing.Routing.{asks_for, matches, receivers, one_or_none}
+use Rattle.atspi_match.proofs.OfRouting.Deciding.{matching}
 use Rattle.atspi_bus_steps.specs.Inner.{parts}
 use Rattle.atspi_bus_steps.specs.Asking.{has_joined}
 

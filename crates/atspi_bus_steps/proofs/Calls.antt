@@ -7,10 +7,10 @@ use Rattle.std.proofs.lemmas.List.{take_more, map-append}
 use Rattle.std.proofs.lemmas.List.Elements.{filter-append}
 use Rattle.atspi_message.specs.Envelope.{Envelope}
 use Rattle.atspi_names.specs.Owners.{Owners}
-use Rattle.atspi_routing.specs.BusState as state
-use Rattle.atspi_routing.specs.BusState.{unique_of, calls_without, waiting_for}
-use Rattle.atspi_routing.specs.OwnMessages.{error_to}
-use Rattle.atspi_routing.specs.Routing.{without_answered}
+use Rattle.atspi_match.specs.routing.BusState as state
+use Rattle.atspi_match.specs.routing.BusState.{unique_of, calls_without, waiting_for}
+use Rattle.atspi_match.specs.routing.OwnMessages.{error_to}
+use Rattle.atspi_match.specs.routing.Routing.{without_answered}
 use Rattle.atspi_bus_steps.specs.Inner.{call_of}
 use Rattle.atspi_bus_steps.specs.declared.open_call.OpenCall.{OpenCall}
 use Rattle.atspi_bus_steps.specs.Farewell.{no_replies}

@@ -9,10 +9,10 @@ use Rattle.std.proofs.lemmas.List.Elements.{All-nil, All-cons, All-append}
 use Rattle.atspi_types.specs.Data.{text_data}
 use Rattle.atspi_message.specs.Envelope.{Envelope}
 use Rattle.atspi_names.specs.Owners.{Owners, after_hello, unique_name}
-use Rattle.atspi_routing.specs.BusState.{BusState, unique_of, text_or_empty}
-use Rattle.atspi_routing.specs.OwnMessages.{signal, return_to, owner_changed}
-use Rattle.atspi_routing.specs.Routing.{expects_reply}
-use Rattle.atspi_routing.specs.Steps.{BusStep, speaks, greets}
+use Rattle.atspi_match.specs.routing.BusState.{BusState, unique_of, text_or_empty}
+use Rattle.atspi_match.specs.routing.OwnMessages.{signal, return_to, owner_changed}
+use Rattle.atspi_match.specs.routing.Routing.{expects_reply}
+use Rattle.atspi_match.specs.routing.Steps.{BusStep, speaks, greets}
 use Rattle.atspi_bus_steps.specs.Greeting.{greeting}
 use Rattle.atspi_bus_steps.specs.Sayable.{MaySay}
 use Rattle.atspi_bus_steps.proofs.Sayables.{say-signal, say-return, say-changed, one_sayable}

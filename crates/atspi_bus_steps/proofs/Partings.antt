@@ -11,10 +11,10 @@ use Rattle.atspi_names.proofs.BookLemmas.{list_of-lists_without}
 use Rattle.atspi_match.specs.declared.condition.Condition.{Condition}
 use Rattle.atspi_match.specs.RuleIndex.{without_rules}
 use Rattle.atspi_queues.specs.Held.{Held}
-use Rattle.atspi_routing.specs.BusState.{OpenCall, BusState, unique_of, text_or_empty, calls_without}
-use Rattle.atspi_routing.specs.OwnMessages.{owner_changed}
-use Rattle.atspi_routing.specs.Steps.{speaks, farewell}
-use Rattle.atspi_routing.specs.Queues.{Bus, without_queue, stepped, left}
+use Rattle.atspi_match.specs.routing.BusState.{OpenCall, BusState, unique_of, text_or_empty, calls_without}
+use Rattle.atspi_match.specs.routing.OwnMessages.{owner_changed}
+use Rattle.atspi_match.specs.routing.Steps.{speaks, farewell}
+use Rattle.atspi_match.specs.routing.Queues.{Bus, without_queue, stepped, left}
 use Rattle.atspi_bus_steps.specs.Farewell.{no_replies, names_pass_on, forgotten}
 use Rattle.atspi_bus_steps.specs.Sound.{IsSound}
 use Rattle.atspi_bus_steps.specs.Sayable.{MaySay}

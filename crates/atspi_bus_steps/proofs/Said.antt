@@ -6,11 +6,11 @@ use Rattle.std.proofs.lemmas.List.Sums.{fold-append}
 use Rattle.std.proofs.lemmas.List.Folds.{fold-map}
 use Rattle.atspi_message.specs.Envelope.{Envelope}
 use Rattle.atspi_message.specs.Bytes.{written}
-use Rattle.atspi_routing.specs.BusState.{BusState}
-use Rattle.atspi_routing.specs.OwnMessages.{numbered}
-use Rattle.atspi_routing.specs.Routing.{receivers}
-use Rattle.atspi_routing.specs.Steps.{Move, says, delivers, closes, handed, said, speaks}
-use Rattle.atspi_routing.specs.Queues.{Bus, Waiting, moved, own_of, stepped}
+use Rattle.atspi_match.specs.routing.BusState.{BusState}
+use Rattle.atspi_match.specs.routing.OwnMessages.{numbered}
+use Rattle.atspi_match.specs.routing.Routing.{receivers}
+use Rattle.atspi_match.specs.routing.Steps.{Move, says, delivers, closes, handed, said, speaks}
+use Rattle.atspi_match.specs.routing.Queues.{Bus, Waiting, moved, own_of, stepped}
 use Rattle.atspi_queues.specs.Held.{Held}
 use Rattle.atspi_bus_steps.specs.Handing.{handed_out, queued_each}
 use Rattle.atspi_bus_steps.specs.Limits.{PassesLimits, SaysTooMuch}

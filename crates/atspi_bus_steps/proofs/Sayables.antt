@@ -10,11 +10,11 @@ use Rattle.atspi_names.specs.Owners.{Owners, list_of, listed}
 use Rattle.atspi_names.specs.Queue.{owner_in, request_change, release_change}
 use Rattle.atspi_match.specs.declared.condition.Condition.{Condition}
 use Rattle.atspi_match.specs.RuleIndex.{is_pair, rules_of}
-use Rattle.atspi_routing.specs.declared.member.BusMember.{BusMember}
-use Rattle.atspi_routing.specs.declared.member.BusMember.TheVariants.{Hello, RequestName, ReleaseName, NameHasOwner, GetNameOwner, ListNames, ListQueuedOwners, AddMatch, RemoveMatch, GetId, Ping}
-use Rattle.atspi_routing.specs.BusState.{OpenCall, BusState, unique_of, name_or_empty, waiting_for}
-use Rattle.atspi_routing.specs.OwnMessages.{signal, return_to, error_to, name_lost, name_acquired, owner_changed, same_owner, told_of_change}
-use Rattle.atspi_routing.specs.Answers.{Reply, returns, fails, Answer, only, answers, may_be_asked_for, requests, releases, owner_name, owner_reply, queued_names, queued_reply, first_text, second_number}
+use Rattle.atspi_match.specs.declared.routing.member.BusMember.{BusMember}
+use Rattle.atspi_match.specs.declared.routing.member.BusMember.TheVariants.{Hello, RequestName, ReleaseName, NameHasOwner, GetNameOwner, ListNames, ListQueuedOwners, AddMatch, RemoveMatch, GetId, Ping}
+use Rattle.atspi_match.specs.routing.BusState.{OpenCall, BusState, unique_of, name_or_empty, waiting_for}
+use Rattle.atspi_match.specs.routing.OwnMessages.{signal, return_to, error_to, name_lost, name_acquired, owner_changed, same_owner, told_of_change}
+use Rattle.atspi_match.specs.routing.Answers.{Reply, returns, fails, Answer, only, answers, may_be_asked_for, requests, releases, owner_name, owner_reply, queued_names, queued_reply, first_text, second_number}
 use Rattle.atspi_bus_steps.specs.Sayable.{MaySay, IsTyped, reply_message}
 use Rattle.atspi_bus_steps.specs.Farewell.{no_replies, name_passes_on, names_pass_on}
 

@@ -4,18 +4,18 @@ use Rattle.std.specs.Prelude.{◌==◌}
 use Rattle.std.specs.List.{All}
 use Rattle.std.proofs.lemmas.List.Elements.{All-nil, All-cons, All-head, All-tail, All-append}
 use Rattle.atspi_types.specs.Data.{Data}
-use Rattle.atspi_valid_names.specs.Names.{is_bus_name}
+use Rattle.atspi_base.specs.valid_names.Names.{is_bus_name}
 use Rattle.atspi_message.specs.Envelope.{Envelope}
 use Rattle.atspi_match.specs.declared.condition.Condition.{Condition}
 use Rattle.atspi_match.specs.RuleIndex.{rules_of, is_pair}
 use Rattle.std.specs.List.{list_any}
 use Rattle.atspi_names.specs.Owners.{after_hello, unique_name}
-use Rattle.atspi_routing.specs.declared.member.BusMember.{BusMember}
-use Rattle.atspi_routing.specs.declared.member.BusMember.TheVariants.{Hello, RequestName, ReleaseName, NameHasOwner, GetNameOwner, ListNames, ListQueuedOwners, AddMatch, RemoveMatch, GetId, Ping}
-use Rattle.atspi_routing.specs.BusState.{OpenCall, BusState}
-use Rattle.atspi_routing.specs.Answers.{Answer, answers, may_be_asked_for, first_text}
-use Rattle.atspi_routing.specs.Routing.{without_answered, calls_after, expects_reply, is_reply, with_call}
-use Rattle.atspi_routing.specs.Steps.{calls_after_all}
+use Rattle.atspi_match.specs.declared.routing.member.BusMember.{BusMember}
+use Rattle.atspi_match.specs.declared.routing.member.BusMember.TheVariants.{Hello, RequestName, ReleaseName, NameHasOwner, GetNameOwner, ListNames, ListQueuedOwners, AddMatch, RemoveMatch, GetId, Ping}
+use Rattle.atspi_match.specs.routing.BusState.{OpenCall, BusState}
+use Rattle.atspi_match.specs.routing.Answers.{Answer, answers, may_be_asked_for, first_text}
+use Rattle.atspi_match.specs.routing.Routing.{without_answered, calls_after, expects_reply, is_reply, with_call}
+use Rattle.atspi_match.specs.routing.Steps.{calls_after_all}
 use Rattle.atspi_bus_answers.specs.Answered.{AreNamed, with_parts}
 use Rattle.atspi_bus_answers.proofs.MemberAnswers.{named-with_list}
 use Rattle.atspi_bus_steps.specs.Sound.{IsSound}

@@ -7,8 +7,8 @@ use Rattle.atspi_types.specs.Data.{Data, types_of, items_of}
 use Rattle.atspi_header.proofs.ReadTypes.{no_types}
 use Rattle.atspi_message.specs.Envelope.{Envelope}
 use Rattle.atspi_names.specs.Owners.{own_name}
-use Rattle.atspi_routing.specs.Members.{is_text}
-use Rattle.atspi_routing.specs.Steps.{is_hello}
+use Rattle.atspi_match.specs.routing.Members.{is_text}
+use Rattle.atspi_match.specs.routing.Steps.{is_hello}
 use Rattle.atspi_bus_steps.specs.Greeting.{is_bus_or_none}
 
 -- Hello, by its tests

@@ -3,9 +3,9 @@ use Rattle.std.proofs.Common.{◌≡◌, ℕ, List, ◌++◌, length, Option, su
 use Rattle.atspi_message.specs.Envelope.{Envelope}
 use Rattle.atspi_match.specs.declared.condition.Condition.{Condition}
 use Rattle.atspi_names.specs.Owners.{Owners}
-use Rattle.atspi_routing.specs.Answers.{Answer, Reply}
-use Rattle.atspi_routing.specs.Steps.{BusStep, speaks, replies, answered, bus_takes}
-use Rattle.atspi_routing.specs.Queues.{Bus, stepped, left, settled, takes, leaves}
+use Rattle.atspi_match.specs.routing.Answers.{Answer, Reply}
+use Rattle.atspi_match.specs.routing.Steps.{BusStep, speaks, replies, answered, bus_takes}
+use Rattle.atspi_match.specs.routing.Queues.{Bus, stepped, left, settled, takes, leaves}
 use Rattle.atspi_bus_steps.specs.Limits.{SaysTooMuch, IsTooBig}
 use Rattle.atspi_bus_steps.specs.Spoken.{IsRuleTaken}
 use Rattle.atspi_bus_steps.proofs.Appended.{Appends, appends-step, appends-left, appends-settled, too_much-later, too_much-before}

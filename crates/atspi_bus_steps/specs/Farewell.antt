@@ -3,10 +3,10 @@ use Rattle.std.specs.Prelude.{◌==◌, not, ℕ, List, [], ◌∷◌, ◌++◌,
 use Rattle.atspi_message.specs.Envelope.{Envelope}
 use Rattle.atspi_names.specs.Owners.{Owners, list_of, after_gone}
 use Rattle.atspi_names.specs.Queue.{owner_in}
-use Rattle.atspi_routing.specs.BusState.{OpenCall, unique_of, name_or_empty, waiting_for, calls_without}
+use Rattle.atspi_match.specs.routing.BusState.{OpenCall, unique_of, name_or_empty, waiting_for, calls_without}
 use Rattle.atspi_match.specs.RuleIndex.{without_rules}
-use Rattle.atspi_routing.specs.Queues.{Bus, without_queue}
-use Rattle.atspi_routing.specs.OwnMessages.{error_to, name_acquired, owner_changed}
+use Rattle.atspi_match.specs.routing.Queues.{Bus, without_queue}
+use Rattle.atspi_match.specs.routing.OwnMessages.{error_to, name_acquired, owner_changed}
 
 -- those whose calls wait for its answer are told that there is none
 abbrev pub no_replies : Owners → List OpenCall → ℕ → List Envelope

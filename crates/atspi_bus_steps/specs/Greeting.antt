@@ -3,8 +3,8 @@ use Rattle.std.specs.Prelude.{ℕ, Bool, true, List, [], ◌∷◌, ◌++◌, Op
 use Rattle.atspi_names.specs.Owners.{own_name}
 use Rattle.atspi_types.specs.Data.{text_data}
 use Rattle.atspi_message.specs.Envelope.{Envelope}
-use Rattle.atspi_routing.specs.OwnMessages.{signal, return_to, owner_changed}
-use Rattle.atspi_routing.specs.Routing.{expects_reply}
+use Rattle.atspi_match.specs.routing.OwnMessages.{signal, return_to, owner_changed}
+use Rattle.atspi_match.specs.routing.Routing.{expects_reply}
 
 abbrev pub greeting : List ℕ → Envelope → List Envelope
 greeting name e =

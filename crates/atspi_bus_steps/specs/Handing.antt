@@ -3,10 +3,10 @@ use Rattle.std.specs.Prelude.{◌≡◌, ℕ, false, List, Some}
 use Rattle.std.specs.List.{fold}
 use Rattle.atspi_message.specs.Envelope.{Envelope}
 use Rattle.atspi_message.specs.Bytes.{written}
-use Rattle.atspi_routing.specs.BusState.{OpenCall, BusState, unique_of}
-use Rattle.atspi_routing.specs.Routing.{receivers}
-use Rattle.atspi_routing.specs.Steps.{BusStep, handed, is_unowned, calls_after_all, passes_on}
-use Rattle.atspi_routing.specs.Queues.{Bus, moved, stepped}
+use Rattle.atspi_match.specs.routing.BusState.{OpenCall, BusState, unique_of}
+use Rattle.atspi_match.specs.routing.Routing.{receivers}
+use Rattle.atspi_match.specs.routing.Steps.{BusStep, handed, is_unowned, calls_after_all, passes_on}
+use Rattle.atspi_match.specs.routing.Queues.{Bus, moved, stepped}
 use Rattle.atspi_queues.specs.Held.{Held}
 pub use Rattle.atspi_queues.specs.Each.{queued_each}
 

@@ -3,9 +3,9 @@ use Rattle.std.specs.Prelude.{ℕ, List, map}
 use Rattle.atspi_message.specs.Envelope.{envelope_of}
 use Rattle.atspi_names.specs.Owners.{Owners}
 use Rattle.atspi_match.specs.declared.condition.Condition.{Condition}
-use Rattle.atspi_routing.specs.BusState as state
-use Rattle.atspi_routing.specs.BusState.{BusState, begins}
-use Rattle.atspi_routing.specs.Queues.{Bus}
+use Rattle.atspi_match.specs.routing.BusState as state
+use Rattle.atspi_match.specs.routing.BusState.{BusState, begins}
+use Rattle.atspi_match.specs.routing.Queues.{Bus}
 use Rattle.atspi_bus_steps.specs.declared.inner.Inner.{Inner}
 use Rattle.atspi_bus_steps.specs.declared.open_call.OpenCall.{OpenCall}
 

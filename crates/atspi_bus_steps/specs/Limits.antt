@@ -2,10 +2,10 @@
 use Rattle.std.specs.Prelude.{◌≡◌, ◌⊎◌, ℕ, false, List, ◌∷◌, ◌++◌, Some}
 use Rattle.atspi_message.specs.Envelope.{Envelope}
 use Rattle.atspi_message.specs.Bytes.{FitsWire, rising_fields}
-use Rattle.atspi_routing.specs.BusState.{BusState, unique_of}
-use Rattle.atspi_routing.specs.Routing.{is_for_bus, receivers}
-use Rattle.atspi_routing.specs.Steps.{is_unowned}
-use Rattle.atspi_routing.specs.Queues.{Bus}
+use Rattle.atspi_match.specs.routing.BusState.{BusState, unique_of}
+use Rattle.atspi_match.specs.routing.Routing.{is_for_bus, receivers}
+use Rattle.atspi_match.specs.routing.Steps.{is_unowned}
+use Rattle.atspi_match.specs.routing.Queues.{Bus}
 
 -- it does not fit the wire as it is written, with its fields in rising order
 abbrev pub PassesLimits : Envelope → Type 0

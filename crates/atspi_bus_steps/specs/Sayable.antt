@@ -3,9 +3,9 @@ use Rattle.std.specs.Prelude.{◌≢◌, ℕ}
 use Rattle.atspi_types.specs.Data.{items_of, AreWellTyped}
 use Rattle.atspi_message.specs.Envelope.{Envelope}
 use Rattle.atspi_message.specs.Rules.{MeetsRules}
-use Rattle.atspi_routing.specs.BusState.{BusState, unique_of}
-use Rattle.atspi_routing.specs.OwnMessages.{return_to, error_to}
-use Rattle.atspi_routing.specs.Answers.{Reply, returns, fails}
+use Rattle.atspi_match.specs.routing.BusState.{BusState, unique_of}
+use Rattle.atspi_match.specs.routing.OwnMessages.{return_to, error_to}
+use Rattle.atspi_match.specs.routing.Answers.{Reply, returns, fails}
 
 -- with any serial but 0 it meets the rules
 abbrev pub MaySay : Envelope → Type 0

@@ -1,7 +1,7 @@
 -- What holds of a bus at any time.
 use Rattle.std.specs.Prelude.{◌≢◌, ◌<◌, ◌≤◌, All}
 use Rattle.std.specs.List.Sorted.{IsStrictlyIncreasing}
-use Rattle.atspi_routing.specs.BusState.{OpenCall, BusState}
+use Rattle.atspi_match.specs.routing.BusState.{OpenCall, BusState}
 use Rattle.atspi_bus_answers.specs.Answered.{AreNamed}
 
 -- connections stand in rising order, and the next serial is one, or the one behind the last

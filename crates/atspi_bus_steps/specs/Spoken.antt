@@ -2,12 +2,12 @@
 use Rattle.std.specs.Prelude.{◌≡◌, ℕ, true, List, Option, Some, Ok}
 use Rattle.atspi_message.specs.Envelope.{Envelope}
 use Rattle.atspi_match.specs.declared.condition.Condition.{Condition}
-use Rattle.atspi_routing.specs.declared.member.BusMember.{BusMember}
-use Rattle.atspi_routing.specs.BusState.{BusState, unique_of}
-use Rattle.atspi_routing.specs.Members.{member_of}
-use Rattle.atspi_routing.specs.Answers.{answers}
-use Rattle.atspi_routing.specs.Routing.{is_for_bus}
-use Rattle.atspi_routing.specs.Steps.{BusStep, answered}
+use Rattle.atspi_match.specs.declared.routing.member.BusMember.{BusMember}
+use Rattle.atspi_match.specs.routing.BusState.{BusState, unique_of}
+use Rattle.atspi_match.specs.routing.Members.{member_of}
+use Rattle.atspi_match.specs.routing.Answers.{answers}
+use Rattle.atspi_match.specs.routing.Routing.{is_for_bus}
+use Rattle.atspi_match.specs.routing.Steps.{BusStep, answered}
 use Rattle.atspi_bus_answers.specs.Answered.{IsSpokenOf}
 
 -- the step of a call of a member

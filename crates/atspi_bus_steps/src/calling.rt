@@ -6,9 +6,9 @@ ghost use Rattle.atspi_message.specs.Envelope.{envelope_of};
 ghost use Rattle.atspi_message.specs.Rules.{MeetsRules};
 ghost use Rattle.atspi_header.specs.View.{envelope_at};
 ghost use Rattle.atspi_match.specs.declared.condition.Condition.{Condition};
-ghost use Rattle.atspi_routing.specs.Queues.{stepped};
-ghost use Rattle.atspi_routing.specs.Members as members;
-ghost use Rattle.atspi_routing.specs.Steps as steps;
+ghost use Rattle.atspi_match.specs.routing.Queues.{stepped};
+ghost use Rattle.atspi_match.specs.routing.Members as members;
+ghost use Rattle.atspi_match.specs.routing.Steps as steps;
 ghost use Rattle.atspi_bus_answers.specs.Answered.{IsSpokenOf};
 ghost use Rattle.atspi_bus_steps.specs.Inner.{inner_of, state_of};
 ghost use Rattle.atspi_bus_steps.specs.Limits.{SaysTooMuch};
@@ -21,12 +21,12 @@ use crate::inner::Inner;
 use crate::saying::expects_reply;
 use crate::standing::{name_value, one};
 use atspi_base::NoMemory;
+use atspi_base::valid_names::BusName;
 use atspi_bus_answers::{Reply, answer, member_of, name_acquired, owner_changed, return_to};
 use atspi_header::MessageRef;
+use atspi_match::routing::BusMember;
 use atspi_message::Message;
 use atspi_names::NamesFault;
-use atspi_routing::BusMember;
-use atspi_valid_names::BusName;
 use std::alloc::Global;
 
 /// What is told where a connection gets its unique name: its reply, where it expects one, and then the name, to it and to all that ask

@@ -2,10 +2,10 @@
 
 use crate::open_call::OpenCall;
 use atspi_match::RuleIndex;
+use atspi_match::routing::Closing;
 use atspi_message::Message;
 use atspi_names::Names;
 use atspi_queues::Queues;
-use atspi_routing::Closing;
 use std::alloc::Global;
 use std::collections::VecDeque;
 

@@ -2,9 +2,9 @@
 
 ghost use Rattle.std.specs.Prelude.{◌≡◌, ◌<◌, ◌≤◌, ◌↔◌, ◌++◌, ℕ, List, [], All, map, length, drop, option_copied, option_to_list, IfNone, IfOk, IsErrOf, IsTrue, OnOk, OnErr};
 ghost use Rattle.atspi_message.specs.Envelope.{envelope_of};
-ghost use Rattle.atspi_routing.specs.BusState.{unique_of};
-ghost use Rattle.atspi_routing.specs.Laws.{IsWithinQuota};
-ghost use Rattle.atspi_routing.specs.Queues.{empty_bus, joins, queue_of};
+ghost use Rattle.atspi_match.specs.routing.BusState.{unique_of};
+ghost use Rattle.atspi_match.specs.routing.Laws.{IsWithinQuota};
+ghost use Rattle.atspi_match.specs.routing.Queues.{empty_bus, joins, queue_of};
 ghost use Rattle.atspi_queues.specs.Change.{with_queue};
 ghost use Rattle.atspi_bus_steps.specs.Inner.{inner_of, state_of};
 ghost use Rattle.atspi_bus_steps.specs.Sound.{IsSound};
@@ -12,12 +12,12 @@ ghost use Rattle.atspi_bus_steps.specs.Sound.{IsSound};
 use crate::BusFault;
 use crate::inner::Inner;
 use atspi_base::NoMemory;
+use atspi_base::valid_names::BusName;
 use atspi_match::RuleIndex;
+use atspi_match::routing::Closing;
 use atspi_message::Message;
 use atspi_names::Names;
 use atspi_queues::Queues;
-use atspi_routing::Closing;
-use atspi_valid_names::BusName;
 use std::alloc::Global;
 use std::collections::VecDeque;
 

@@ -2,8 +2,8 @@
 
 ghost use Rattle.std.specs.Prelude.{◌≡◌, ◌<◌, ◌++◌, map, Some, IfOk, OnOk, OnErr, IsErrOf};
 ghost use Rattle.atspi_message.specs.Envelope.{envelope_of};
-ghost use Rattle.atspi_routing.specs.BusState as states;
-ghost use Rattle.atspi_routing.specs.Queues as queues;
+ghost use Rattle.atspi_match.specs.routing.BusState as states;
+ghost use Rattle.atspi_match.specs.routing.Queues as queues;
 ghost use Rattle.atspi_bus_steps.specs.Inner.{inner_of, state_of, call_of};
 ghost use Rattle.atspi_bus_steps.specs.Limits.{SaysTooMuch};
 ghost use Rattle.atspi_bus_steps.specs.Sound.{IsSound};
@@ -15,11 +15,11 @@ use crate::inner::Inner;
 use crate::open_call::OpenCall;
 use crate::standing::{tell_acquired, unique_of};
 use atspi_base::NoMemory;
+use atspi_base::valid_names::BusName;
 use atspi_bus_answers::{BusError, error_to, owner_changed};
+use atspi_match::routing::{Closing, Why};
 use atspi_message::Message;
 use atspi_names::Names;
-use atspi_routing::{Closing, Why};
-use atspi_valid_names::BusName;
 use std::alloc::Global;
 
 /// What those are told whose calls wait for a connection's answer: that there is none, the oldest call first.

@@ -2,16 +2,16 @@
 
 ghost use Rattle.std.specs.Prelude.{◌≡◌, ◌≢◌, ◌⊎◌, ◌+◌, ◌<◌, ◌≤◌, ◌==◌, ◌&&◌, ℕ, true, false, [], ◌∷◌, ◌++◌, not, map, length, None, Some, All, IfOk, OnOk, OnErr, IsErrOf, MatchBool, MatchOption, remove, vec_len, vec_capacity};
 ghost use Rattle.std.specs.List.Sorted.{IsStrictlyIncreasing};
-ghost use Rattle.atspi_valid_names.specs.Names.{is_bus_name};
+ghost use Rattle.atspi_base.specs.valid_names.Names.{is_bus_name};
 ghost use Rattle.atspi_message.specs.Bytes.{written};
 ghost use Rattle.atspi_message.specs.Rules.{MeetsRules};
 ghost use Rattle.atspi_header.specs.View.{envelope_at};
 ghost use Rattle.atspi_names.specs.Queue.{owner_in};
 ghost use Rattle.atspi_names.specs.Owners.{list_of};
-ghost use Rattle.atspi_routing.specs.Routing as routing;
-ghost use Rattle.atspi_routing.specs.Routing.{calls_after, without_answered};
-ghost use Rattle.atspi_routing.specs.Queues.{stepped};
-ghost use Rattle.atspi_routing.specs.Steps.{passes_on, calls_after_all, is_unowned};
+ghost use Rattle.atspi_match.specs.routing.Routing as routing;
+ghost use Rattle.atspi_match.specs.routing.Routing.{calls_after, without_answered};
+ghost use Rattle.atspi_match.specs.routing.Queues.{stepped};
+ghost use Rattle.atspi_match.specs.routing.Steps.{passes_on, calls_after_all, is_unowned};
 ghost use Rattle.atspi_bus_steps.specs.Inner.{inner_of, state_of, call_of, parts};
 ghost use Rattle.atspi_bus_steps.specs.Handing.{forwards, queued_each, WentToAll, WentSigned, IsPassed};
 ghost use Rattle.atspi_bus_steps.specs.Limits.{PassesLimits, SaysTooMuch};

@@ -3,24 +3,24 @@
 ghost use Rattle.std.specs.Prelude.{◌≡◌, ℕ, List, [], true, filter, Contains, IfOk, IsTrue};
 ghost use Rattle.std.specs.List.{list_any};
 ghost use Rattle.std.specs.List.Sorted.{IsStrictlyIncreasing};
-ghost use Rattle.atspi_valid_names.specs.Names.{is_bus_name};
+ghost use Rattle.atspi_base.specs.valid_names.Names.{is_bus_name};
 ghost use Rattle.atspi_message.specs.Envelope.{envelope_of};
 ghost use Rattle.atspi_message.specs.Bytes.{IsMessage};
 ghost use Rattle.atspi_header.specs.View.{envelope_at};
 ghost use Rattle.atspi_names.specs.Queue.{owner_in};
 ghost use Rattle.atspi_names.specs.Owners.{list_of};
-ghost use Rattle.atspi_routing.specs.Routing as routing;
-ghost use Rattle.atspi_routing.specs.Routing.{asks_for, one_or_none};
+ghost use Rattle.atspi_match.specs.routing.Routing as routing;
+ghost use Rattle.atspi_match.specs.routing.Routing.{asks_for, one_or_none};
 ghost use Rattle.atspi_bus_steps.specs.Inner.{parts};
 ghost use Rattle.atspi_bus_steps.specs.Asking.{has_joined};
 
+use atspi_base::valid_names::{BusName, NameFault};
 use atspi_base::{NoMemory, Nums, Steps};
 use atspi_header::MessageRef;
 use atspi_match::RuleIndex;
 use atspi_message::Message;
 use atspi_names::Names;
 use atspi_readings::laws::messages_are_asked_for;
-use atspi_valid_names::{BusName, NameFault};
 use std::alloc::Global;
 
 /// Whether a connection has joined.

@@ -4,9 +4,9 @@ ghost use Rattle.std.specs.Prelude.{◌≡◌, ◌+◌, ◌<◌, [], ◌∷◌, 
 ghost use Rattle.atspi_message.specs.Envelope.{envelope_of};
 ghost use Rattle.atspi_message.specs.Rules.{MeetsRules};
 ghost use Rattle.atspi_header.specs.View.{envelope_at};
-ghost use Rattle.atspi_routing.specs.Routing as routing;
-ghost use Rattle.atspi_routing.specs.Queues.{stepped};
-ghost use Rattle.atspi_routing.specs.Steps.{speaks, replies};
+ghost use Rattle.atspi_match.specs.routing.Routing as routing;
+ghost use Rattle.atspi_match.specs.routing.Queues.{stepped};
+ghost use Rattle.atspi_match.specs.routing.Steps.{speaks, replies};
 ghost use Rattle.atspi_bus_answers.specs.Answered.{reply_of};
 ghost use Rattle.atspi_bus_steps.specs.Inner.{inner_of, state_of};
 ghost use Rattle.atspi_bus_steps.specs.Handing.{handed_out};

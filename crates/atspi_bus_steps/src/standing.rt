@@ -4,15 +4,15 @@ ghost use Rattle.std.specs.Prelude.{◌≡◌, [], ◌∷◌, ◌++◌, map, IfO
 ghost use Rattle.atspi_types.specs.Data.{text_data};
 ghost use Rattle.atspi_types.specs.DataView.{data_of, all_data};
 ghost use Rattle.atspi_message.specs.Envelope.{envelope_of};
-ghost use Rattle.atspi_routing.specs.BusState.{text_or_empty, name_or_empty};
-ghost use Rattle.atspi_routing.specs.OwnMessages as own;
+ghost use Rattle.atspi_match.specs.routing.BusState.{text_or_empty, name_or_empty};
+ghost use Rattle.atspi_match.specs.routing.OwnMessages as own;
 
+use atspi_base::valid_names::BusName;
 use atspi_base::{NoMemory, Text};
 use atspi_bus_answers::name_acquired;
 use atspi_message::Message;
 use atspi_names::Names;
 use atspi_types::{Value, Values};
-use atspi_valid_names::BusName;
 use std::alloc::Global;
 
 /// The unique name of an owner, if there is one.

@@ -4,11 +4,11 @@ ghost use Rattle.std.specs.Prelude.{◌≡◌, ◌⊎◌, ◌<◌, List, Option,
 ghost use Rattle.atspi_message.specs.Rules.{MeetsRules};
 ghost use Rattle.atspi_header.specs.View.{bytes_of, envelope_at};
 ghost use Rattle.atspi_match.specs.declared.condition.Condition.{Condition};
-ghost use Rattle.atspi_routing.specs.Members as members;
-ghost use Rattle.atspi_routing.specs.Routing as routing;
-ghost use Rattle.atspi_routing.specs.Steps as steps;
-ghost use Rattle.atspi_routing.specs.Queues as queues;
-ghost use Rattle.atspi_routing.specs.Queues.{stepped};
+ghost use Rattle.atspi_match.specs.routing.Members as members;
+ghost use Rattle.atspi_match.specs.routing.Routing as routing;
+ghost use Rattle.atspi_match.specs.routing.Steps as steps;
+ghost use Rattle.atspi_match.specs.routing.Queues as queues;
+ghost use Rattle.atspi_match.specs.routing.Queues.{stepped};
 ghost use Rattle.atspi_bus_steps.specs.Inner.{inner_of, state_of};
 ghost use Rattle.atspi_bus_steps.specs.Limits.{IsTooBig, IsTooBigToPass, SaysTooMuch};
 ghost use Rattle.atspi_bus_steps.specs.Sound.{IsSound};
@@ -17,9 +17,9 @@ ghost use Rattle.atspi_bus_steps.specs.Greeting.{is_bus_or_none};
 
 use crate::BusFault;
 use crate::inner::Inner;
+use atspi_base::valid_names::BusName;
 use atspi_header::MessageRef;
-use atspi_routing::Why;
-use atspi_valid_names::BusName;
+use atspi_match::routing::Why;
 
 /// The name of the bus, which is also that of its interface.
 const BUS: &str = "org.freedesktop.DBus";

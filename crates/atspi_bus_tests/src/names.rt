@@ -2,12 +2,12 @@
 
 ghost use Rattle.std.specs.Prelude.{◌≡◌, ◌≢◌, false, None};
 ghost use Rattle.std.specs.FinMap as finmap;
-ghost use Rattle.atspi_valid_names.specs.Names.{is_unique_name};
+ghost use Rattle.atspi_base.specs.valid_names.Names.{is_unique_name};
 ghost use Rattle.atspi_names.specs.Owners as owners;
 
 use crate::words::{check, number, put, put_number};
+use atspi_base::valid_names::BusName;
 use atspi_names::{NameList, Names, OwnerChange};
-use atspi_valid_names::BusName;
 use std::alloc::Global;
 use std::process::Abort;
 use std::str::SplitWhitespace;

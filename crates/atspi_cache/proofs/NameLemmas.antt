@@ -5,10 +5,10 @@ use Rattle.std.specs.Char.{is_ascii_digit}
 use Rattle.std.specs.List.{AllByRecursion}
 use Rattle.std.proofs.lemmas.Bool.{and_parts, eqb-true}
 use Rattle.atspi_base.specs.Text.{HasNoZero}
-use Rattle.atspi_valid_names.specs.Elements.{is_plain, may_begin, may_follow, in_front, parts_of}
-use Rattle.atspi_valid_names.specs.Names.{IsElement, HasBusElements, IsBusName}
-use Rattle.atspi_valid_names.specs.declared.elements.Form.{Form}
-use Rattle.atspi_valid_names.specs.declared.elements.Form.TheVariants.{Path, Interface, WellKnown, Unique}
+use Rattle.atspi_base.specs.valid_names.Elements.{is_plain, may_begin, may_follow, in_front, parts_of}
+use Rattle.atspi_base.specs.valid_names.Names.{IsElement, HasBusElements, IsBusName}
+use Rattle.atspi_base.specs.declared.valid_names.elements.Form.{Form}
+use Rattle.atspi_base.specs.declared.valid_names.elements.Form.TheVariants.{Path, Interface, WellKnown, Unique}
 
 follow_positive : (form : Form) (b : ℕ) → may_follow form b ≡ true → 0 < b
 follow_positive Path zero e = absurd cc

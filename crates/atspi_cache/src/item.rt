@@ -6,9 +6,9 @@ ghost use Rattle.atspi_forest.specs.View.{kinds_number};
 ghost use Rattle.atspi_cache.specs.Plain.{is_plain};
 
 use atspi_arena::Change;
+use atspi_base::valid_names::Path;
 use atspi_base::{NoMemory, Text, Texts};
 use atspi_forest::{Item, Kinds, NumPart, Part, Row};
-use atspi_valid_names::Path;
 use std::alloc::Global;
 
 /// Whether a text has just these characters of ASCII.

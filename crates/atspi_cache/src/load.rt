@@ -6,10 +6,10 @@ ghost use Rattle.atspi_forest.specs.News.{fresh, is_path, load};
 
 use crate::item::row_of;
 use atspi_arena::Arena;
+use atspi_base::valid_names::Path;
 use atspi_base::{NoMemory, Text};
 use atspi_forest::Item;
 use atspi_load::reached_items;
-use atspi_valid_names::Path;
 use std::alloc::Global;
 
 /// Puts the row of an item behind the other children of its parent.

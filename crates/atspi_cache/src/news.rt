@@ -9,9 +9,9 @@ ghost use Rattle.atspi_arena.specs.Change.{changed};
 use crate::edits::{delete_there, insert_there};
 use crate::item::{fresh, renewal};
 use atspi_arena::{Arena, Change, spot};
+use atspi_base::valid_names::Path;
 use atspi_base::{NoMemory, Text};
 use atspi_forest::{Item, News, Part};
-use atspi_valid_names::Path;
 use std::alloc::Global;
 
 /// Whether two texts are the same, as a test that computes.

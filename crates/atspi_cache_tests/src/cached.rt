@@ -2,10 +2,10 @@
 
 use crate::tables::{CHANGES, LOADS, NO_CHANGES, SPOKEN};
 use crate::words::{items_of, news_of, path_of};
+use atspi_base::valid_names::{BusName, Path};
 use atspi_base::{Text, Texts};
 use atspi_cache::{Cache, Seen, closing, lines};
 use atspi_forest::Items;
-use atspi_valid_names::{BusName, Path};
 use std::alloc::Global;
 use std::process::Abort;
 use std::test::*;

@@ -1,8 +1,8 @@
 //! Items and news in words. A function answers none where words are out of their form, and for want of memory.
 
+use atspi_base::valid_names::Path;
 use atspi_base::{Text, Texts};
 use atspi_forest::{Item, Items, News, Reference};
-use atspi_valid_names::Path;
 use std::alloc::Global;
 use std::test::*;
 

@@ -11,8 +11,8 @@ use Rattle.std.proofs.lemmas.List.{map-append}
 use Rattle.std.proofs.lemmas.Option.{same_Some}
 use Rattle.atspi_types.specs.Data.{text_data, number_data}
 use Rattle.atspi_types.specs.Kinds.{u32}
-use Rattle.atspi_valid_names.specs.Names.{is_bus_name}
-use Rattle.atspi_valid_names.specs.Elements.{are_two_or_more, are_elements, parts_of}
+use Rattle.atspi_base.specs.valid_names.Names.{is_bus_name}
+use Rattle.atspi_base.specs.valid_names.Elements.{are_two_or_more, are_elements, parts_of}
 use Rattle.atspi_match.specs.declared.condition.Condition.{Condition}
 use Rattle.atspi_message.specs.Envelope.{Envelope}
 use Rattle.atspi_message.specs.Bytes.{IsMessage, written, spelled_with, header_bytes, body_bytes, body_place, rising_fields}
@@ -22,15 +22,15 @@ use Rattle.atspi_queues.proofs.Chains.{at_key, at_other, by_keys}
 use Rattle.atspi_lines.specs.declared.line.Party.TheVariants.{Bus as The_bus, Registry}
 use Rattle.atspi_protocol.specs.ends.Places.{registry}
 use Rattle.atspi_protocol.specs.registering.Told.{hello_call, request_call, match_call}
-use Rattle.atspi_routing.specs.declared.closing.Why.TheVariants.{Quota}
-use Rattle.atspi_routing.specs.declared.member.BusMember.{BusMember}
-use Rattle.atspi_routing.specs.declared.member.BusMember.TheVariants.{Hello, RequestName, AddMatch}
-use Rattle.atspi_routing.specs.BusState.{BusState, begins, unique_of}
-use Rattle.atspi_routing.specs.Members.{member_of}
-use Rattle.atspi_routing.specs.OwnMessages.{signal, return_to, owner_changed}
-use Rattle.atspi_routing.specs.Steps.{Move, says, delivers, closes, BusStep, bus_takes, bus_joins}
-use Rattle.atspi_routing.specs.Queues as queues
-use Rattle.atspi_routing.specs.Queues.{Waiting, Bus, or_nothing, queue_of, queued, doomed, empty_bus}
+use Rattle.atspi_match.specs.declared.routing.closing.Why.TheVariants.{Quota}
+use Rattle.atspi_match.specs.declared.routing.member.BusMember.{BusMember}
+use Rattle.atspi_match.specs.declared.routing.member.BusMember.TheVariants.{Hello, RequestName, AddMatch}
+use Rattle.atspi_match.specs.routing.BusState.{BusState, begins, unique_of}
+use Rattle.atspi_match.specs.routing.Members.{member_of}
+use Rattle.atspi_match.specs.routing.OwnMessages.{signal, return_to, owner_changed}
+use Rattle.atspi_match.specs.routing.Steps.{Move, says, delivers, closes, BusStep, bus_takes, bus_joins}
+use Rattle.atspi_match.specs.routing.Queues as queues
+use Rattle.atspi_match.specs.routing.Queues.{Waiting, Bus, or_nothing, queue_of, queued, doomed, empty_bus}
 use Rattle.atspi_bus_answers.specs.Answered.{IsSpokenOf}
 use Rattle.atspi_bus_steps.specs.Spoken.{IsRuleNamed}
 use Rattle.atspi_posts.specs.declared.post.Post.{Post}

@@ -4,8 +4,8 @@ use Rattle.std.specs.Prelude.{unwrap_or}
 use Rattle.std.specs.FinMap.{get-empty}
 use Rattle.std.specs.Ordering.{nat_cmp}
 use Rattle.std.specs.Cmp.Lexicographic.{slice_cmp}
-use Rattle.atspi_routing.specs.BusState as states
-use Rattle.atspi_routing.specs.Queues.{Bus, empty_bus}
+use Rattle.atspi_match.specs.routing.BusState as states
+use Rattle.atspi_match.specs.routing.Queues.{Bus, empty_bus}
 use Rattle.atspi_bus_steps.specs.Sound.{IsSound}
 
 -- a bus to which nobody has joined

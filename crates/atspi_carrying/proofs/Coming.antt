@@ -13,7 +13,7 @@ use Rattle.std.proofs.lemmas.Option.{same_Some, slice_get_within, get_or_from_sl
 use Rattle.atspi_message.specs.Envelope.{Envelope}
 use Rattle.atspi_message.specs.Bytes.{IsMessage, written}
 use Rattle.atspi_stream.proofs.StreamLaws.{Stated, message_states}
-use Rattle.atspi_routing.specs.Queues.{Bus, or_nothing, queue_of, popped}
+use Rattle.atspi_match.specs.routing.Queues.{Bus, or_nothing, queue_of, popped}
 use Rattle.atspi_queues.specs.Change.{with_queue}
 use Rattle.atspi_queues.proofs.Chains.{at_other, queue_of-insert}
 use Rattle.atspi_posts.specs.declared.post.Post.{Post}

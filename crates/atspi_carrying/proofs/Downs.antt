@@ -15,12 +15,12 @@ use Rattle.atspi_queues.proofs.Keys.{ties_not}
 use Rattle.atspi_queues.proofs.Chains.{at_other, gone_key, queue_of-insert}
 use Rattle.atspi_lines.specs.declared.line.Party.{Party}
 use Rattle.atspi_names.specs.Owners.{own_name}
-use Rattle.atspi_routing.specs.declared.closing.Why.{Why}
-use Rattle.atspi_routing.specs.declared.closing.Why.TheVariants.{NotHello, Quota}
-use Rattle.atspi_routing.specs.Members.{is_text}
-use Rattle.atspi_routing.specs.Steps.{Move, says, delivers, closes, BusStep, bus_takes, bus_leaves}
-use Rattle.atspi_routing.specs.Queues as queues
-use Rattle.atspi_routing.specs.Queues.{Waiting, or_nothing, queue_of, is_due, doomed}
+use Rattle.atspi_match.specs.declared.routing.closing.Why.{Why}
+use Rattle.atspi_match.specs.declared.routing.closing.Why.TheVariants.{NotHello, Quota}
+use Rattle.atspi_match.specs.routing.Members.{is_text}
+use Rattle.atspi_match.specs.routing.Steps.{Move, says, delivers, closes, BusStep, bus_takes, bus_leaves}
+use Rattle.atspi_match.specs.routing.Queues as queues
+use Rattle.atspi_match.specs.routing.Queues.{Waiting, or_nothing, queue_of, is_due, doomed}
 use Rattle.atspi_trace.specs.Rules.{rule_in}
 use Rattle.atspi_trace.specs.World.{Said, Letter, End}
 use Rattle.atspi_trace.specs.Ends.{end_at, with_end, put_down, taken_up, leaves}

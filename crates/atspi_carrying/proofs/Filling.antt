@@ -14,7 +14,7 @@ use Rattle.atspi_stream.specs.Stream.{stated, AwaitsMore, few, unfinished}
 use Rattle.atspi_stream.proofs.StreamLaws.{Stated, message_states}
 use Rattle.atspi_queues.specs.Change.{with_queue}
 use Rattle.atspi_queues.proofs.Chains.{at_key, insert-insert}
-use Rattle.atspi_routing.specs.Queues.{Bus, or_nothing, queue_of}
+use Rattle.atspi_match.specs.routing.Queues.{Bus, or_nothing, queue_of}
 use Rattle.atspi_carrying.specs.Filled.{waits_for, gave, IsGiven, IsAwaited, IsFilled}
 
 -- what is taken away in two pieces

@@ -8,11 +8,11 @@ use Rattle.std.proofs.lemmas.Option.{same_Some}
 use Rattle.atspi_message.specs.Envelope.{Envelope}
 use Rattle.atspi_lines.specs.declared.line.Party.{Party}
 use Rattle.atspi_lines.specs.declared.line.Party.TheVariants.{Bus as The_bus, Registry}
-use Rattle.atspi_routing.specs.declared.closing.Why.{Why}
-use Rattle.atspi_routing.specs.declared.closing.Closing.{Closing}
-use Rattle.atspi_routing.specs.Steps.{Move, says, delivers, closes, BusStep, bus_takes, bus_leaves}
-use Rattle.atspi_routing.specs.Queues as queues
-use Rattle.atspi_routing.specs.Queues.{Waiting, Bus, or_nothing, queue_of, popped}
+use Rattle.atspi_match.specs.declared.routing.closing.Why.{Why}
+use Rattle.atspi_match.specs.declared.routing.closing.Closing.{Closing}
+use Rattle.atspi_match.specs.routing.Steps.{Move, says, delivers, closes, BusStep, bus_takes, bus_leaves}
+use Rattle.atspi_match.specs.routing.Queues as queues
+use Rattle.atspi_match.specs.routing.Queues.{Waiting, Bus, or_nothing, queue_of, popped}
 use Rattle.atspi_queues.proofs.Chains.{at_other, queue_of-insert}
 use Rattle.atspi_trace.specs.Entry.{got}
 use Rattle.atspi_trace.specs.Rules.{rule_in}

@@ -2,7 +2,7 @@
 use Rattle.std.proofs.Common.{◌≡◌, ◌⊎◌, ℕ, Bool, false, List, [], ◌++◌, Err, sym, ap, ◌∙◌, subst}
 use Rattle.std.specs.Prelude.{Result, Ok, OnOk}
 use Rattle.std.proofs.lemmas.List.{map-append}
-use Rattle.atspi_routing.specs.Queues.{Bus}
+use Rattle.atspi_match.specs.routing.Queues.{Bus}
 use Rattle.atspi_events.specs.declared.event.Event.{Event}
 use Rattle.atspi_posts.specs.declared.post.Post.{Post}
 use Rattle.atspi_trace.specs.Entry.{Entry, entry_of, entries_of}

@@ -6,13 +6,13 @@ use Rattle.atspi_types.specs.Data.{Data}
 use Rattle.atspi_message.specs.Envelope.{Envelope}
 use Rattle.atspi_match.specs.declared.condition.Condition.{Condition}
 use Rattle.atspi_match.proofs.UniqueLemmas.{same_rule}
-use Rattle.atspi_routing.specs.declared.member.BusMember.{BusMember}
-use Rattle.atspi_routing.specs.declared.member.BusMember.TheVariants.{Hello, RequestName, ReleaseName, NameHasOwner, GetNameOwner, ListNames, ListQueuedOwners, AddMatch, RemoveMatch, GetId, Ping}
-use Rattle.atspi_routing.specs.BusState.{BusState, unique_of}
-use Rattle.atspi_routing.specs.Members.{member_of}
-use Rattle.atspi_routing.specs.Answers.{answers, only, fails, adds_rule, removes_rule, first_text}
-use Rattle.atspi_routing.specs.Routing.{is_for_bus}
-use Rattle.atspi_routing.specs.Steps.{closes, BusStep, speaks, answered, called, passes_on, takes_from_named, greets, is_hello, bus_takes}
+use Rattle.atspi_match.specs.declared.routing.member.BusMember.{BusMember}
+use Rattle.atspi_match.specs.declared.routing.member.BusMember.TheVariants.{Hello, RequestName, ReleaseName, NameHasOwner, GetNameOwner, ListNames, ListQueuedOwners, AddMatch, RemoveMatch, GetId, Ping}
+use Rattle.atspi_match.specs.routing.BusState.{BusState, unique_of}
+use Rattle.atspi_match.specs.routing.Members.{member_of}
+use Rattle.atspi_match.specs.routing.Answers.{answers, only, fails, adds_rule, removes_rule, first_text}
+use Rattle.atspi_match.specs.routing.Routing.{is_for_bus}
+use Rattle.atspi_match.specs.routing.Steps.{closes, BusStep, speaks, answered, called, passes_on, takes_from_named, greets, is_hello, bus_takes}
 use Rattle.atspi_bus_answers.specs.Answered.{Spells, IsSpokenOf}
 use Rattle.atspi_bus_steps.specs.Spoken.{IsRuleOf, IsRuleNamed, IsRuleTaken}
 

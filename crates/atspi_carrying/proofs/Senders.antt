@@ -8,7 +8,7 @@ use Rattle.atspi_forest.specs.Forest.{first_of}
 use Rattle.atspi_lines.specs.declared.line.Party.{Party}
 use Rattle.atspi_lines.specs.declared.line.Party.TheVariants.{Bus as The_bus, Registry, App, Reader}
 use Rattle.atspi_names.specs.Owners.{Owners, own_name, unique_name}
-use Rattle.atspi_routing.specs.Queues.{Bus}
+use Rattle.atspi_match.specs.routing.Queues.{Bus}
 use Rattle.atspi_posts.specs.declared.post.Post.{Post}
 use Rattle.atspi_posts.specs.Posts.{is_own}
 use Rattle.atspi_trace.specs.World.{Letter, End, World}

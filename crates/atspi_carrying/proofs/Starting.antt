@@ -3,7 +3,7 @@ use Rattle.std.proofs.Common.{◌≡◌, ℕ, ◌<◌, ◌≤◌, List, [], ◌�
 use Rattle.std.proofs.lemmas.List.{length-map, length-append, length-drop}
 use Rattle.atspi_lines.specs.declared.line.Party.TheVariants.{Registry}
 use Rattle.atspi_message.specs.Bytes.{written}
-use Rattle.atspi_routing.specs.Queues.{Bus, or_nothing, empty_bus}
+use Rattle.atspi_match.specs.routing.Queues.{Bus, or_nothing, empty_bus}
 use Rattle.atspi_posts.specs.declared.post.Post.{Post}
 use Rattle.atspi_trace.specs.World.{Role, Letter, End, World, first_registry, first_world}
 use Rattle.atspi_trace.specs.Ends.{end_at, plain, put_up}

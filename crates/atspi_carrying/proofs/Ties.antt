@@ -8,10 +8,10 @@ use Rattle.std.proofs.lemmas.Option.{same_Some, slice_get_within, get_or_from_sl
 use Rattle.atspi_forest.specs.Forest.{first_of}
 use Rattle.atspi_lines.specs.declared.line.Party.{Party}
 use Rattle.atspi_lines.specs.declared.line.Party.TheVariants.{Bus as The_bus}
-use Rattle.atspi_routing.specs.BusState.{unique_of}
-use Rattle.atspi_routing.specs.Steps.{BusStep, bus_takes}
-use Rattle.atspi_routing.specs.Queues as queues
-use Rattle.atspi_routing.specs.Queues.{Bus}
+use Rattle.atspi_match.specs.routing.BusState.{unique_of}
+use Rattle.atspi_match.specs.routing.Steps.{BusStep, bus_takes}
+use Rattle.atspi_match.specs.routing.Queues as queues
+use Rattle.atspi_match.specs.routing.Queues.{Bus}
 use Rattle.atspi_events.specs.declared.event.Event.{Event}
 use Rattle.atspi_events.specs.declared.event.Event.TheVariants.{Got, Exit}
 use Rattle.atspi_posts.specs.declared.post.Post.{Post}

@@ -5,7 +5,7 @@ use Rattle.std.specs.Option.{option_map}
 use Rattle.std.proofs.lemmas.Bool.{lt-ltb}
 use Rattle.atspi_forest.specs.Forest.{first_of}
 use Rattle.atspi_message.specs.Bytes.{written}
-use Rattle.atspi_routing.specs.Queues.{Bus, or_nothing}
+use Rattle.atspi_match.specs.routing.Queues.{Bus, or_nothing}
 use Rattle.atspi_posts.specs.declared.post.Post.{Post}
 use Rattle.atspi_posts.specs.declared.post.Standing.TheVariants.{Here}
 use Rattle.atspi_trace.specs.World.{Standing, here, stopped, away, Said, Letter, End, World}

@@ -4,7 +4,7 @@ use Rattle.std.specs.FinMap.{FinMap}
 use Rattle.std.specs.Ordering.{nat_cmp}
 use Rattle.atspi_message.specs.Envelope.{Envelope}
 use Rattle.atspi_message.specs.Bytes.{written}
-use Rattle.atspi_routing.specs.Queues.{queue_of}
+use Rattle.atspi_match.specs.routing.Queues.{queue_of}
 use Rattle.atspi_trace.specs.World.{Letter, End}
 use Rattle.atspi_trace.specs.Ends.{end_at}
 

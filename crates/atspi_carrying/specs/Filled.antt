@@ -3,7 +3,7 @@ use Rattle.std.specs.Prelude.{◌≡◌, ◌<◌, ◌≤◌, ◌+◌, ℕ, List,
 use Rattle.atspi_message.specs.Envelope.{Envelope}
 use Rattle.atspi_message.specs.Bytes.{IsMessage, written}
 use Rattle.atspi_queues.specs.Change.{with_queue}
-use Rattle.atspi_routing.specs.Queues.{Bus, queue_of}
+use Rattle.atspi_match.specs.routing.Queues.{Bus, queue_of}
 use Rattle.atspi_stream.specs.Stream.{stated, AwaitsMore}
 
 -- the bytes that wait for a connection

@@ -1,6 +1,6 @@
 -- A carrier that is given up, for want of memory or for what no script comes to.
 use Rattle.std.specs.Prelude.{◌≡◌, ℕ, Bool, true, false, List, [], ◌++◌, Result, Ok, Err}
-use Rattle.atspi_routing.specs.Queues.{Bus, empty_bus}
+use Rattle.atspi_match.specs.routing.Queues.{Bus, empty_bus}
 use Rattle.atspi_bus_steps.specs.declared.inner.Inner.{Inner}
 use Rattle.atspi_events.specs.declared.event.Event.{Event}
 use Rattle.atspi_posts.specs.declared.post.Post.{Post}

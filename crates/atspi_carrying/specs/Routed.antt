@@ -6,9 +6,9 @@ use Rattle.atspi_match.specs.declared.condition.Condition.{Condition}
 use Rattle.atspi_lines.specs.declared.line.Party.{Party}
 use Rattle.atspi_lines.specs.declared.line.Party.TheVariants.{Bus as The_bus}
 use Rattle.atspi_forest.specs.Forest.{first_of}
-use Rattle.atspi_routing.specs.BusState.{unique_of}
-use Rattle.atspi_routing.specs.Steps.{bus_takes}
-use Rattle.atspi_routing.specs.Queues.{Bus, stepped}
+use Rattle.atspi_match.specs.routing.BusState.{unique_of}
+use Rattle.atspi_match.specs.routing.Steps.{bus_takes}
+use Rattle.atspi_match.specs.routing.Queues.{Bus, stepped}
 use Rattle.atspi_bus_steps.specs.Spoken.{IsRuleTaken}
 use Rattle.atspi_events.specs.declared.event.Event.{Event}
 use Rattle.atspi_events.specs.declared.event.Event.TheVariants.{Got}

@@ -5,8 +5,8 @@ use Rattle.atspi_message.specs.Envelope.{Envelope, envelope_of}
 use Rattle.atspi_message.specs.declared.message.Message.{Message}
 use Rattle.atspi_lines.specs.declared.line.Party.{Party}
 use Rattle.atspi_lines.specs.declared.line.Party.TheVariants.{Bus as The_bus, Registry}
-use Rattle.atspi_routing.specs.declared.closing.Closing.{Closing}
-use Rattle.atspi_routing.specs.Queues.{Bus}
+use Rattle.atspi_match.specs.declared.routing.closing.Closing.{Closing}
+use Rattle.atspi_match.specs.routing.Queues.{Bus}
 use Rattle.atspi_posts.specs.declared.post.Post.{Post}
 use Rattle.atspi_posts.specs.declared.post.Standing.TheVariants.{Away}
 use Rattle.atspi_trace.specs.Entry.{Entry}

@@ -1,7 +1,7 @@
 -- What waits first, by the connections, the bytes that wait for them, and what their ends were given.
 use Rattle.std.specs.Prelude.{ℕ, suc, nat_lt, ◌||◌, Bool, false, List, [], ◌∷◌, length, Option, None, Some, slice_get, if◌then◌else◌}
 use Rattle.atspi_forest.specs.Forest.{first_of}
-use Rattle.atspi_routing.specs.Queues.{Bus, or_nothing}
+use Rattle.atspi_match.specs.routing.Queues.{Bus, or_nothing}
 use Rattle.atspi_posts.specs.declared.post.Post.{Post}
 use Rattle.atspi_posts.specs.declared.post.Standing.{Standing}
 use Rattle.atspi_posts.specs.declared.post.Standing.TheVariants.{Here, Stopped, Away}

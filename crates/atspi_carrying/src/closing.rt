@@ -21,9 +21,9 @@ use atspi_base::NoMemory;
 use atspi_bus_steps::Inner;
 use atspi_events::Event;
 use atspi_lines::Party;
+use atspi_match::routing::{Closing, Why};
 use atspi_message::Message;
 use atspi_posts::{Link, Post, note};
-use atspi_routing::{Closing, Why};
 
 /// The bus's own messages up to a serial, the first of which is given, are told; answers the next behind them.
 fn tell_own(

@@ -4,7 +4,7 @@ ghost use Rattle.std.specs.Prelude.{◌≡◌, [], length, OnOk, OnErr, IfOk, Is
 ghost use Rattle.atspi_lines.specs.declared.line.Party.TheVariants as parties;
 ghost use Rattle.atspi_bus_steps.specs.Inner.{inner_of, state_of};
 ghost use Rattle.atspi_bus_steps.specs.Sound.{IsSound};
-ghost use Rattle.atspi_routing.specs.Queues.{empty_bus};
+ghost use Rattle.atspi_match.specs.routing.Queues.{empty_bus};
 ghost use Rattle.atspi_trace.specs.World.{Role, World};
 ghost use Rattle.atspi_trace.specs.Causes.{joins};
 ghost use Rattle.atspi_carrying.specs.Beginning.{with_one_taken, IsGreeted, IsGreeting};

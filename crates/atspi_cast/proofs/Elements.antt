@@ -21,7 +21,7 @@ use Rattle.atspi_trace.specs.Entry.{entry_of, entries_of}
 use Rattle.atspi_trace.specs.Causes.{did}
 use Rattle.atspi_posts.specs.Changes.{changed_at}
 use Rattle.atspi_posts.proofs.Changes.{changed_set}
-use Rattle.atspi_play.specs.Playing.{silent}
+use Rattle.atspi_trace.specs.play.Playing.{silent}
 use Rattle.atspi_cast.specs.Doing.{sent_on, IsSent, all_said, quiet, CanBeWritten, IsTold, TellsAt, EditsAt, TellsAll, TellsReaderAt, CallsAt}
 
 module _ {A X : Type 0} (g : A → X) where

@@ -11,9 +11,9 @@ use Rattle.atspi_protocol.specs.exporting.Taking.{app_edits, is_spent}
 use Rattle.atspi_protocol.specs.following.ReaderState.{ReaderState}
 use Rattle.atspi_protocol.specs.following.Takes.{held_view, reader_calls}
 use Rattle.atspi_trace.specs.Work.{if_refused}
-use Rattle.atspi_play.specs.Breaking.{IsPast}
-use Rattle.atspi_play.specs.Playing.{held_by}
-use Rattle.atspi_play.specs.Played.{if_viewed}
+use Rattle.atspi_trace.specs.play.Breaking.{IsPast}
+use Rattle.atspi_trace.specs.play.Playing.{held_by}
+use Rattle.atspi_trace.specs.play.Played.{if_viewed}
 use Rattle.atspi_stage_ends.specs.declared.fault.CallFault.{CallFault}
 use Rattle.atspi_stage_ends.specs.declared.fault.CallFault.TheVariants as call
 use Rattle.atspi_cast.specs.Asked.{EditSpends, CallSpends, EditIsRefused, CallIsRefused}

@@ -6,8 +6,8 @@ use Rattle.atspi_forest.specs.Forest.{Forest}
 use Rattle.atspi_protocol.specs.following.ReaderState.{ReaderState}
 use Rattle.atspi_protocol.specs.following.Takes.{held_view}
 use Rattle.atspi_trace.specs.Work as work
-use Rattle.atspi_play.specs.Playing.{held_by}
-use Rattle.atspi_play.specs.Played.{if_viewed}
+use Rattle.atspi_trace.specs.play.Playing.{held_by}
+use Rattle.atspi_trace.specs.play.Played.{if_viewed}
 use Rattle.atspi_stage_ends.specs.declared.fault.CallFault.{CallFault}
 use Rattle.atspi_stage_ends.specs.declared.fault.CallFault.TheVariants as call
 use Rattle.atspi_cast.specs.Asked.{CallIsRefused}

@@ -19,8 +19,8 @@ use Rattle.atspi_trace.specs.Entry.{entry_of, entries_of, spoke, gone}
 use Rattle.atspi_posts.specs.Changes.{changed_at}
 use Rattle.atspi_posts.specs.Named.{app_by, app_of, app_named}
 use Rattle.atspi_posts.proofs.Changes.{length-changed}
-use Rattle.atspi_play.specs.Playing.{silent}
-use Rattle.atspi_play.specs.Plays.{of_app}
+use Rattle.atspi_trace.specs.play.Playing.{silent}
+use Rattle.atspi_trace.specs.play.Plays.{of_app}
 use Rattle.atspi_stage_ends.specs.Done.{done_of}
 use Rattle.atspi_cast.specs.Doing.{sent_on, IsSent, told_by, messages, all_sent, IsToldAll, TellsOne, TellsAll}
 

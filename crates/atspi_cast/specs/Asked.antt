@@ -6,12 +6,12 @@ use Rattle.atspi_protocol.specs.following.ReaderState.{ReaderState}
 use Rattle.atspi_trace.specs.World.{an_application}
 use Rattle.atspi_trace.specs.Work as work
 use Rattle.atspi_trace.specs.Work.{edit_refusal}
-use Rattle.atspi_play.specs.Playing.{held_by}
-use Rattle.atspi_play.specs.Played.{if_viewed}
+use Rattle.atspi_trace.specs.play.Playing.{held_by}
+use Rattle.atspi_trace.specs.play.Played.{if_viewed}
 use Rattle.atspi_lines.specs.declared.deed.Deed.{Deed}
 use Rattle.atspi_protocol.specs.exporting.Taking.{app_edits}
 use Rattle.atspi_protocol.specs.following.Takes.{reader_calls}
-use Rattle.atspi_play.specs.Breaking.{IsPast}
+use Rattle.atspi_trace.specs.play.Breaking.{IsPast}
 
 -- why one of the applications refuses an edit of its user, none where it makes it
 abbrev pub EditIsRefused : Option work.Refusal → List Exporter → ℕ → Edit → Type 0

@@ -20,8 +20,8 @@ use Rattle.atspi_trace.specs.Entry.{Entry, sent, spoke, gone, entries_of}
 use Rattle.atspi_trace.specs.Causes.{did}
 use Rattle.atspi_posts.specs.Changes.{changed_at}
 use Rattle.atspi_posts.specs.Named.{app_named}
-use Rattle.atspi_play.specs.Plays.{of_app}
-use Rattle.atspi_play.specs.Playing.{silent}
+use Rattle.atspi_trace.specs.play.Plays.{of_app}
+use Rattle.atspi_trace.specs.play.Playing.{silent}
 
 -- a connection with a message that was sent
 abbrev pub sent_on : Envelope → Post → Post

@@ -2,7 +2,7 @@
 use Rattle.std.specs.Prelude.{◌^◌, ◌-◌, ℕ, List, length, min, Option, None, Some}
 use Rattle.atspi_events.specs.declared.shown.ShownRow.{ShownRow}
 use Rattle.atspi_protocol.specs.following.ReaderState.{ReaderState}
-use Rattle.atspi_play.specs.Playing.{held_by, view_rows}
+use Rattle.atspi_trace.specs.play.Playing.{held_by, view_rows}
 
 -- WHAT A READER SHOWS OF AN APPLICATION BY ITS OWN DEFINITIONS: the rows of the view that it has of the one with this unique name
 abbrev pub shown_by : Option ReaderState → Option (List ℕ) → Option (List ShownRow)

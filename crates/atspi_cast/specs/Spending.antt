@@ -9,7 +9,7 @@ use Rattle.atspi_posts.specs.declared.post.Post.{Post}
 use Rattle.atspi_protocol.specs.exporting.Exporter.{Exporter}
 use Rattle.atspi_protocol.specs.following.ReaderState.{ReaderState}
 use Rattle.atspi_stream.specs.Stream.{AwaitsMore}
-use Rattle.atspi_play.specs.Breaking.{IsPast}
+use Rattle.atspi_trace.specs.play.Breaking.{IsPast}
 use Rattle.atspi_cast.specs.Taken.{got_by, Ends, ends_after}
 
 -- A PARTY'S NEXT SERIAL IS ABOVE THE LAST

@@ -8,7 +8,7 @@ ghost use Rattle.atspi_protocol.specs.following.ReaderState.{ReaderState};
 ghost use Rattle.atspi_protocol.specs.registering.RegistryState.{begins};
 ghost use Rattle.atspi_protocol.specs.following.Takes.{reader_takes};
 ghost use Rattle.atspi_posts.specs.Changes.{changed_at};
-ghost use Rattle.atspi_play.specs.Breaking.{IsPast};
+ghost use Rattle.atspi_trace.specs.play.Breaking.{IsPast};
 ghost use Rattle.atspi_cast.specs.Spending.{HasSpentAll};
 ghost use Rattle.atspi_cast.specs.Taken.{ends_after, ends_of};
 

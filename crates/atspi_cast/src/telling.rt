@@ -6,7 +6,7 @@ ghost use Rattle.atspi_message.specs.Envelope.{envelope_of};
 ghost use Rattle.atspi_stage_ends.specs.Done.{done_of};
 ghost use Rattle.atspi_trace.specs.Entry.{entries_of};
 ghost use Rattle.atspi_trace.specs.Causes.{did};
-ghost use Rattle.atspi_play.specs.Playing.{silent};
+ghost use Rattle.atspi_trace.specs.play.Playing.{silent};
 ghost use Rattle.atspi_cast.specs.Doing.{said_on, CanBeWritten, IsRegistryTold, IsSent, IsTold, TellsAll, TellsOne, TellsAt, TellsFirst, TellsReaderAt};
 ghost use Rattle.atspi_cast.specs.Taken.{ends_of, Tells};
 

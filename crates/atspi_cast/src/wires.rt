@@ -9,12 +9,12 @@ ghost use Rattle.atspi_cast.specs.Wires as wires;
 ghost use Rattle.atspi_cast.specs.Wires.{as_taken, name_if, wire_bytes};
 
 use crate::places::{is_party, post_of};
+use atspi_base::valid_names::BusName;
 use atspi_base::{Bytes, NoMemory};
 use atspi_events::Event;
 use atspi_lines::Party;
 use atspi_message::{Message, WriteFault};
 use atspi_posts::{Post, SendFault, meets_rules};
-use atspi_valid_names::BusName;
 use std::alloc::Global;
 
 /// The message of a party with this serial, where an event tells that it was sent.

@@ -6,7 +6,7 @@ use Rattle.std.proofs.lemmas.Bool.{ltb-false, false≢true}
 use Rattle.atspi_base.specs.ReadsText.{text_in}
 use Rattle.atspi_base.specs.declared.text.TextFault.{TextFault}
 use Rattle.atspi_base.specs.declared.text.TextFault.TheVariants.{Zero, Utf8, NoMemory}
-use Rattle.atspi_valid_names.specs.Names.{is_path}
+use Rattle.atspi_base.specs.valid_names.Names.{is_path}
 use Rattle.atspi_types.specs.Kinds.{Num, width, number_alignment, Kind, number, boolean, text, path, signature, array, structure, variant, dictionary, kinds_of, byte, i16, u16, i32, u32, i64, u64, double, alignment}
 use Rattle.atspi_types.specs.SignatureReading.{signature_in}
 use Rattle.atspi_types.specs.Data.{Data, boolean_data, text_data, path_data, signature_data}

@@ -12,7 +12,7 @@ use Rattle.atspi_base.proofs.TextLemmas.{text_is}
 use Rattle.atspi_base.specs.declared.text.TextFault.{TextFault}
 use Rattle.atspi_base.specs.declared.text.TextFault.TheVariants.{Zero, Utf8, NoMemory}
 use Rattle.atspi_types.specs.Kinds.{Num, width, number_alignment, Kind, number, boolean, text, path, signature, array, structure, variant, dictionary, byte, kinds_of, alignment}
-use Rattle.atspi_valid_names.specs.Names.{is_path}
+use Rattle.atspi_base.specs.valid_names.Names.{is_path}
 use Rattle.atspi_types.specs.SignatureReading.{signature_in}
 use Rattle.atspi_types.specs.Data.{Data, number_data, boolean_data, text_data, path_data, array_data, structure_data, variant_data, signature_data, dictionary_data, items_of}
 use Rattle.atspi_types.specs.declared.fault.Fault.{Fault}

@@ -3,10 +3,10 @@ use Rattle.std.proofs.Common.{◌≡◌, ℕ, zero, suc, ◌+◌, ◌-◌, ◌<�
 use Rattle.std.specs.Prelude.{◌&&◌, ◌||◌, ◌==◌}
 use Rattle.std.specs.List.{slice_index}
 use Rattle.std.proofs.lemmas.Bool.{cases_lt}
-use Rattle.atspi_valid_names.specs.Elements.{is_plain, may_come, are_elements}
-use Rattle.atspi_valid_names.specs.Names.{is_path}
-use Rattle.atspi_valid_names.specs.declared.elements.Form.TheVariants.{Path}
-use Rattle.atspi_valid_names.proofs.ElementLemmas.{goes_on, goes_on-are_elements, goes_on-past, goes_on-over}
+use Rattle.atspi_base.specs.valid_names.Elements.{is_plain, may_come, are_elements}
+use Rattle.atspi_base.specs.valid_names.Names.{is_path}
+use Rattle.atspi_base.specs.declared.valid_names.elements.Form.TheVariants.{Path}
+use Rattle.atspi_base.proofs.OfValidNames.ElementLemmas.{goes_on, goes_on-are_elements, goes_on-past, goes_on-over}
 use Rattle.atspi_cursor.specs.Paths.{is_in_path, may_precede, precede, is_long_path}
 
 both_true : (a b : Bool) → (a && b) ≡ true → (a ≡ true) × (b ≡ true)

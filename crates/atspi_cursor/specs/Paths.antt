@@ -1,7 +1,7 @@
 -- A path, seen by each byte and the one behind it.
 use Rattle.std.specs.Prelude.{ℕ, zero, suc, ◌+◌, ◌-◌, Bool, true, not, ◌&&◌, ◌||◌, ◌==◌, List, length}
 use Rattle.std.specs.List.{slice_index}
-use Rattle.atspi_valid_names.specs.Elements.{is_plain}
+use Rattle.atspi_base.specs.valid_names.Elements.{is_plain}
 
 -- a letter, a digit, _ or /
 abbrev pub is_in_path : ℕ → Bool

@@ -255,7 +255,7 @@ impl<'a> Entries<'a> {
 impl<'a> Item<'a> {
     ghost use Rattle.std.specs.Prelude.{◌↔◌, ◌^◌, IfSome, IsSome, chars, map};
     ghost use Rattle.atspi_base.specs.Text.{HasNoZero};
-    ghost use Rattle.atspi_valid_names.specs.Names.{IsPath};
+    ghost use Rattle.atspi_base.specs.valid_names.Names.{IsPath};
     ghost use Rattle.std.specs.Int.{w16, w32, w64, cast_unsigned};
     ghost use Rattle.atspi_types.specs.Kinds.{byte, i16, u16, i32, u32, i64, u64, double, number, boolean, text, path, signature, array, variant, kinds_of};
     ghost use Rattle.atspi_types.specs.Data.{variant_data, signature_data, dictionary_data, array_data, structure_data, number_data, boolean_data, text_data, path_data, items_of};

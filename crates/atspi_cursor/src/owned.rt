@@ -3,7 +3,7 @@
 
 ghost use Rattle.std.specs.Prelude.{◌≡◌, ◌<◌, ◌^◌, IfOk, IfSome, IsSome, IsTrue, chars, length, map};
 ghost use Rattle.atspi_base.specs.Text.{HasNoZero};
-ghost use Rattle.atspi_valid_names.specs.Names.{IsPath};
+ghost use Rattle.atspi_base.specs.valid_names.Names.{IsPath};
 ghost use Rattle.atspi_types.specs.Kinds.{byte, kinds_of};
 ghost use Rattle.atspi_types.specs.KindView.{kind_of};
 ghost use Rattle.atspi_types.specs.Data.{text_data, path_data, number_data};
@@ -15,10 +15,10 @@ ghost use Rattle.atspi_cursor.specs.Known.{is_simple};
 ghost use Rattle.atspi_cursor.specs.Items.{item_data, item_kind, elements_data, entries_data, fields_data};
 
 use crate::cursor::{Elements, Entries, Fields, Item};
+use atspi_base::valid_names::{NameFault, Path};
 use atspi_base::{NoMemory, Text};
 use atspi_codes::{TyRef, TysRef};
 use atspi_types::{Pairs, ReadFault, Signature, Ty, Value, Values};
-use atspi_valid_names::{NameFault, Path};
 use std::alloc::Global;
 
 /// The types, owned.

@@ -13,14 +13,14 @@ ghost use Rattle.atspi_marshal.specs.Reading.{input_of, long_place, short_place,
 ghost use Rattle.atspi_cursor.specs.Passing.{after, is_plain};
 ghost use Rattle.atspi_cursor.specs.Paths.{precede};
 ghost use Rattle.atspi_cursor.specs.Paths as definitions;
-ghost use Rattle.atspi_valid_names.specs.Names as names;
+ghost use Rattle.atspi_base.specs.valid_names.Names as names;
 
 use crate::plain::{fault, room};
+use atspi_base::valid_names::is_path;
 use atspi_base::{TextFault, read_str};
 use atspi_codes::{TyRef, TysRef};
 use atspi_marshal::{Bound, Marshalled, byte_at, u32_at};
 use atspi_types::Fault;
-use atspi_valid_names::is_path;
 
 /// Whether each byte is a character of its own, and none is 0: byte by byte.
 #[inline(always)]

@@ -10,7 +10,7 @@ use Rattle.hex.specs.Hex.{IsBytes, decode_of, encode_lower}
 use Rattle.hex.proofs.HexLemmas.{decode_of-encode_lower}
 use Rattle.hex.specs.declared.error.FromHexError.{FromHexError}
 use Rattle.std.specs.Prelude.{Result, Ok}
-use Rattle.atspi_valid_names.specs.Names.{IsBusName}
+use Rattle.atspi_base.specs.valid_names.Names.{IsBusName}
 use Rattle.atspi_message.specs.Envelope.{Envelope, envelope_of}
 use Rattle.atspi_message.specs.Bytes.{IsMessage, written}
 use Rattle.atspi_message.specs.Front.{input_in}

@@ -9,3 +9,4 @@ pub mod EventOnce
 pub mod LineLacks
 pub mod TraceOnce
 pub mod Written
+pub mod OfMessages

@@ -3,10 +3,10 @@ use Rattle.std.proofs.Common.{◌≡◌, ◌≢◌, ℕ, Bool, true, false, ◌=
 use Rattle.std.proofs.lemmas.Bool.{false≢true, eqb-true}
 use Rattle.std.specs.Prelude.{IsTrue, if◌then◌else◌}
 use Rattle.std.specs.List.{AllByRecursion}
-use Rattle.atspi_valid_names.specs.Elements.{parts_of, in_front, may_begin, may_follow}
-use Rattle.atspi_valid_names.specs.Names.{IsElement, IsPath, IsInterface, IsMember, IsBusName, HasBusElements}
-use Rattle.atspi_valid_names.specs.declared.elements.Form.{Form}
-use Rattle.atspi_valid_names.specs.declared.elements.Form.TheVariants.{Path, Interface, WellKnown, Unique}
+use Rattle.atspi_base.specs.valid_names.Elements.{parts_of, in_front, may_begin, may_follow}
+use Rattle.atspi_base.specs.valid_names.Names.{IsElement, IsPath, IsInterface, IsMember, IsBusName, HasBusElements}
+use Rattle.atspi_base.specs.declared.valid_names.elements.Form.{Form}
+use Rattle.atspi_base.specs.declared.valid_names.elements.Form.TheVariants.{Path, Interface, WellKnown, Unique}
 use Rattle.atspi_event_texts.proofs.Lacks.{Lacks}
 
 -- a byte that stands in no element, and is no separator

@@ -12,7 +12,7 @@ use Rattle.std.proofs.Math.Seq.{take-append_seam}
 use Rattle.std.proofs.lemmas.Fmt.{decimal_is_IsNumeral}
 use Rattle.atspi_forest.specs.Path.{base_path, path_of}
 use Rattle.atspi_forest.proofs.Path.{not_root}
-use Rattle.atspi_valid_names.specs.Names.{IsPath}
+use Rattle.atspi_base.specs.valid_names.Names.{IsPath}
 use Rattle.atspi_lines.proofs.NumberLemmas.{digits_begin, number_once}
 use Rattle.atspi_event_texts.specs.Rows.{IsNodeWord, last_number, node_text}
 use Rattle.atspi_event_texts.specs.Laws.{NodesAreTold}

@@ -9,7 +9,7 @@ use Rattle.std.specs.List.{AllByRecursion}
 use Rattle.std.proofs.lemmas.Fmt.{signed_decimal_injective}
 use Rattle.atspi_base.specs.Digits.{hex_digits}
 use Rattle.atspi_base.specs.Quoted.{hex_digit, quoted}
-use Rattle.atspi_valid_names.specs.Names.{IsPath}
+use Rattle.atspi_base.specs.valid_names.Names.{IsPath}
 use Rattle.atspi_forest.specs.declared.view.Part.{Part}
 use Rattle.atspi_forest.specs.declared.view.Part.TheVariants.{Absent, Unknown, Known}
 use Rattle.atspi_forest.specs.declared.view.NumPart.{NumPart}

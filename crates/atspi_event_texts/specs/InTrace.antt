@@ -3,7 +3,7 @@
 use Rattle.std.specs.Prelude.{◌≡◌, ◌<◌, ◌≤◌, ◌^◌, ℕ, true, List, length, is_some, IfSome, slice_index}
 use Rattle.std.specs.Int.Signed.{mag}
 use Rattle.std.specs.List.{AllByRecursion}
-use Rattle.atspi_valid_names.specs.Names.{IsPath, IsBusName}
+use Rattle.atspi_base.specs.valid_names.Names.{IsPath, IsBusName}
 use Rattle.atspi_message.specs.Envelope.{Envelope, envelope_of}
 use Rattle.atspi_message.specs.Rules.{MeetsRules, HasNames}
 use Rattle.atspi_message.specs.Bytes.{FitsWire, rising_fields, written}

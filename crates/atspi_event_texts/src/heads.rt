@@ -8,16 +8,15 @@ ghost use Rattle.atspi_event_texts.specs.EventForms.{count_text, end_word, name_
 ghost use Rattle.atspi_event_texts.specs.EventText.{event_line};
 ghost use Rattle.atspi_event_texts.specs.Written.{words_behind, words_text};
 
-use atspi_events::Event;
-use atspi_events::Shown;
+use crate::messages::message_text;
 use crate::steps::put_step;
 use crate::words::{put_app, put_number, put_party, put_reader, put_text, put_word};
+use atspi_base::valid_names::BusName;
 use atspi_base::{Bytes, NoMemory, Text, put_decimal};
+use atspi_events::{Event, Shown};
 use atspi_forest::Step;
 use atspi_lines::Party;
 use atspi_message::Message;
-use atspi_owned_text::message_text;
-use atspi_valid_names::BusName;
 
 /// Appends that an end was started, and the name of an application's root.
 fn put_start(who: Party, name: &Option<Text>, out: &mut Bytes) -> Result<(), NoMemory>

@@ -4,6 +4,7 @@
 mod heads;
 mod laws;
 mod listing;
+pub mod messages;
 mod options;
 mod rows;
 mod steps;

@@ -6,8 +6,8 @@ ghost use Rattle.atspi_event_texts.specs.EventText.{ended, rows_text};
 ghost use Rattle.atspi_event_texts.specs.Rows.{row_line};
 
 use crate::rows::put_row;
-use atspi_events::{Shown, ShownRow};
 use atspi_base::{Bytes, NoMemory, put_decimal};
+use atspi_events::{Shown, ShownRow};
 
 /// Appends the rows' lines, each with its line feed. After want of memory a front of them was appended.
 pub(crate) fn put_rows(rows: &[ShownRow], out: &mut Bytes) -> Result<(), NoMemory>

@@ -8,12 +8,12 @@ ghost use Rattle.atspi_lines.specs.Words.{literal, role_name, quote};
 ghost use Rattle.atspi_event_texts.specs.Rows.{IsNodeWord, kinds_text, letter_if_odd, node_text, number_text, parent_text, part_word, row_line};
 ghost use Rattle.atspi_event_texts.specs.Written.{words_behind, words_text};
 
-use atspi_events::ShownRow;
 use crate::words::{put_number, put_role, put_text, put_word};
+use atspi_base::valid_names::Path;
 use atspi_base::{Bytes, NoMemory, put_hex, put_signed};
+use atspi_events::ShownRow;
 use atspi_forest::{NumPart, Part, Row};
 use atspi_lines::read_number;
-use atspi_valid_names::Path;
 
 /// How many bytes the path of each node of an application begins with.
 const BASE_LENGTH: usize = 27;

@@ -4,10 +4,10 @@ ghost use Rattle.std.specs.Prelude.{◌≡◌, ◌++◌, OnOk, OnErr, length, ta
 ghost use Rattle.std.specs.List.{flat_map};
 ghost use Rattle.atspi_event_texts.specs.EventText.{ended, event_text, row_lines};
 
-use atspi_events::Event;
 use crate::heads::put_line;
 use crate::listing::put_rows;
 use atspi_base::{Bytes, NoMemory};
+use atspi_events::Event;
 
 /// Appends the lines of the rows that an event shows.
 fn put_shown(event: &Event, out: &mut Bytes) -> Result<(), NoMemory>

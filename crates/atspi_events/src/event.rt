@@ -2,10 +2,10 @@
 
 use crate::shown::Shown;
 use atspi_base::Text;
+use atspi_base::valid_names::BusName;
 use atspi_forest::Step;
 use atspi_lines::Party;
 use atspi_message::Message;
-use atspi_valid_names::BusName;
 
 /// What happened. Applications and readers are counted from 0 in order of starting.
 #[derive(Drop)]

@@ -2,8 +2,8 @@
 
 ghost use Rattle.std.specs.Prelude.{◌≡◌};
 
+use atspi_base::valid_names::Path;
 use atspi_forest::Row;
-use atspi_valid_names::Path;
 use std::marker::Model;
 
 /// A row as a reader shows it, with its place. The root has no parent, and its index is -1.

@@ -1,2 +1,4 @@
 mod Namings
 mod PlayingOut
+pub mod OfProtocol
+pub mod OfRouting

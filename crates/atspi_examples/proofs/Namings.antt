@@ -1,7 +1,7 @@
 -- Which name the second connection has.
 use Rattle.std.proofs.Common.{ℕ, List, [], ◌∷◌, ap}
 use Rattle.std.specs.Prelude.{Option, None}
-use Rattle.atspi_routing.specs.Queues.{Bus}
+use Rattle.atspi_match.specs.routing.Queues.{Bus}
 use Rattle.atspi_carrying.specs.Halted.{Naming, HaveNames}
 use Rattle.atspi_examples.specs.Halting.{nameless, one_named, two_ends, two_posts}
 

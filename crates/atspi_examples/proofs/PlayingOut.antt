@@ -2,9 +2,9 @@
 use Rattle.std.specs.Prelude.{◌≡◌, [], ◌++◌}
 use Rattle.atspi_trace.specs.Causes.{Cause}
 use Rattle.atspi_trace.specs.Work.{Work, cause, rests, next_of}
-use Rattle.atspi_play.specs.Playing.{Playing}
-use Rattle.atspi_play.specs.Plays.{plays}
-use Rattle.atspi_play.specs.Played.{PlaysOut, at_rest, caused}
+use Rattle.atspi_trace.specs.play.Playing.{Playing}
+use Rattle.atspi_trace.specs.play.Plays.{plays}
+use Rattle.atspi_trace.specs.play.Played.{PlaysOut, at_rest, caused}
 
 pub over : (p : Playing) (left : Work) → next_of p.world left ≡ rests p.world → PlaysOut p left [] p
 over p left is = at_rest p p.world left is

@@ -4,7 +4,7 @@ use Rattle.atspi_lines.specs.declared.line.Party.{Party}
 use Rattle.atspi_lines.specs.declared.line.Party.TheVariants.{Registry, App}
 use Rattle.atspi_posts.specs.declared.post.Post.{Post}
 use Rattle.atspi_posts.specs.declared.post.Standing.TheVariants.{Here}
-use Rattle.atspi_routing.specs.Queues.{Bus}
+use Rattle.atspi_match.specs.routing.Queues.{Bus}
 use Rattle.atspi_trace.specs.Entry.{dropped}
 use Rattle.atspi_trace.specs.World.{World, first_registry}
 use Rattle.atspi_trace.specs.Ends.{leaves}

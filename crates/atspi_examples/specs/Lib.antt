@@ -7,3 +7,5 @@ pub mod Seen
 pub mod Spoken
 pub mod Turning
 pub mod Players
+pub mod protocol
+pub mod routing

@@ -13,12 +13,12 @@ use Rattle.atspi_protocol.specs.exporting.Exporter.{begins as begins_app}
 use Rattle.atspi_protocol.specs.following.ReaderState.{Done, ReaderState, begins, start_calls}
 use Rattle.atspi_protocol.specs.following.Calls.{asking, user_call}
 use Rattle.atspi_protocol.specs.following.Cases.{returned, owner_changed}
-use Rattle.atspi_routing.specs.Queues.{Bus}
+use Rattle.atspi_match.specs.routing.Queues.{Bus}
 use Rattle.atspi_types.specs.Data.{text_data}
 use Rattle.atspi_trace.specs.World as fate
 use Rattle.atspi_trace.specs.World.{stopped, Fate, Asked, Hearer, a_reader, an_application, Said, Letter, End, World, first_registry, newcomer}
 use Rattle.atspi_trace.specs.Ends.{plain}
-use Rattle.atspi_play.specs.Playing.{Playing}
+use Rattle.atspi_trace.specs.play.Playing.{Playing}
 use Rattle.atspi_examples.specs.Seen.{path, row}
 use Rattle.atspi_examples.specs.Turning.{held, letter}
 

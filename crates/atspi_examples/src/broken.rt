@@ -5,14 +5,14 @@ ghost use Rattle.atspi_lines.specs.declared.line.Party.TheVariants as party;
 ghost use Rattle.atspi_protocol.specs.exporting.Exporter as exporting;
 ghost use Rattle.atspi_protocol.specs.following.Calls.{asking};
 ghost use Rattle.atspi_protocol.specs.registering.RegistryState as registering;
-ghost use Rattle.atspi_routing.specs.Queues.{Bus};
+ghost use Rattle.atspi_match.specs.routing.Queues.{Bus};
 ghost use Rattle.atspi_trace.specs.Entry.{Entry, busy, exited, got, sent};
 ghost use Rattle.atspi_trace.specs.World.{Hearer, a_reader, an_application, the_registry};
 ghost use Rattle.atspi_trace.specs.Causes as cause;
 ghost use Rattle.atspi_trace.specs.Work.{Work, doing, draining, resting, turning};
-ghost use Rattle.atspi_play.specs.Breaking.{HasSpent, IsLostAt, IsPast, IsSpent, IsSpentAt, PlaysOn};
-ghost use Rattle.atspi_play.specs.Playing.{Playing};
-ghost use Rattle.atspi_play.specs.Plays.{plays};
+ghost use Rattle.atspi_trace.specs.play.Breaking.{HasSpent, IsLostAt, IsPast, IsSpent, IsSpentAt, PlaysOn};
+ghost use Rattle.atspi_trace.specs.play.Playing.{Playing};
+ghost use Rattle.atspi_trace.specs.play.Plays.{plays};
 ghost use Rattle.atspi_examples.specs.Players.{at_rest, caret, first_rule, hello_returned, hello_waits, holder, playing, resting_world, starting_world};
 
 /// The next serial is past the last where one that was used needs more than 32 bits; a reader's stands elsewhere than in its role.

@@ -3,7 +3,7 @@
 ghost use Rattle.std.specs.Prelude.{◌≡◌, ◌∷◌, []};
 ghost use Rattle.atspi_events.specs.declared.event.Event.TheVariants as event;
 ghost use Rattle.atspi_lines.specs.declared.line.Party.TheVariants as party;
-ghost use Rattle.atspi_routing.specs.Queues.{Bus};
+ghost use Rattle.atspi_match.specs.routing.Queues.{Bus};
 ghost use Rattle.atspi_trace.specs.World.{first_registry};
 ghost use Rattle.atspi_trace.specs.Causes.{exits};
 ghost use Rattle.atspi_trace.specs.Work.{doing, resting};

@@ -10,16 +10,16 @@ ghost use Rattle.atspi_message.specs.Bytes.{written};
 ghost use Rattle.atspi_protocol.specs.declared.following.question.Question.TheVariants.{Hello};
 ghost use Rattle.atspi_protocol.specs.following.ReaderState.{begins, sends, speaks, tells_end};
 ghost use Rattle.atspi_protocol.specs.following.Calls.{asking};
-ghost use Rattle.atspi_routing.specs.Queues.{Bus};
+ghost use Rattle.atspi_match.specs.routing.Queues.{Bus};
 ghost use Rattle.atspi_trace.specs.Entry.{Entry, sent, got, spoke, showed, gone, exited, started, busy, quiet};
 ghost use Rattle.atspi_trace.specs.World.{Said, first_world, waits};
 ghost use Rattle.atspi_trace.specs.Ends.{end_at, plain};
 ghost use Rattle.atspi_trace.specs.Causes as cause;
 ghost use Rattle.atspi_trace.specs.Due.{is_lost};
 ghost use Rattle.atspi_trace.specs.Work.{dead, draining, moving_up, no_party, not_held, resting, turning, work_of};
-ghost use Rattle.atspi_play.specs.Playing.{Playing, first_playing, held_by, silent, unique_in, view_in, view_rows};
-ghost use Rattle.atspi_play.specs.Plays.{asked, asked_with, got_at, got_by, of_app, plays, reader_got, told, with_reader};
-ghost use Rattle.atspi_play.specs.Played.{IsPlayed, PlaysOut, if_viewed, refused};
+ghost use Rattle.atspi_trace.specs.play.Playing.{Playing, first_playing, held_by, silent, unique_in, view_in, view_rows};
+ghost use Rattle.atspi_trace.specs.play.Plays.{asked, asked_with, got_at, got_by, of_app, plays, reader_got, told, with_reader};
+ghost use Rattle.atspi_trace.specs.play.Played.{IsPlayed, PlaysOut, if_viewed, refused};
 ghost use Rattle.atspi_examples.specs.Players.{at_rest, busy_reader, bytes_world, caret, caret_call, end_of_named, exited_world, first_rule, five_ends};
 ghost use Rattle.atspi_examples.specs.Players.{halted, hearer, hello_returned, hello_waits, hello_waits_at, holder, idle_reader, loud, named_app, nameless_app, new_reader, playing, registry_world, resting_world, rule_waits, rule_waits_at, starting_world, two_rows, two_shown};
 
@@ -83,7 +83,7 @@ pub fn readers()
 {}
 
 /// A reader takes the return to its Hello, upon which it asks for its first rule; and the news of an end, of which it speaks.
-#[tactic(auto, unfolding(atspi_valid_names::specs::Names::is_bus_name, atspi_valid_names::specs::Elements::are_two_or_more, atspi_valid_names::specs::Elements::are_elements, atspi_valid_names::specs::Elements::parts_of))]
+#[tactic(auto, unfolding(atspi_base::specs::valid_names::Names::is_bus_name, atspi_base::specs::valid_names::Elements::are_two_or_more, atspi_base::specs::valid_names::Elements::are_elements, atspi_base::specs::valid_names::Elements::parts_of))]
 pub fn taken()
     ensures entries { (b : Bus) → (reader_got (playing (starting_world b (hello_returned ∷ [])) hello_waits) 4 1 hello_returned (Some hello_waits)).entries
         ≡ got (party.Reader 1) party.Bus 33 ∷ sent (party.Reader 1) (asking 2 first_rule) ∷ [] }
@@ -97,7 +97,7 @@ pub fn taken()
 {}
 
 /// The end that takes a message: the reader with its number; one that is no reader, one with an empty link and none at all leave the readers.
-#[tactic(auto, unfolding(atspi_valid_names::specs::Names::is_bus_name, atspi_valid_names::specs::Elements::are_two_or_more, atspi_valid_names::specs::Elements::are_elements, atspi_valid_names::specs::Elements::parts_of))]
+#[tactic(auto, unfolding(atspi_base::specs::valid_names::Names::is_bus_name, atspi_base::specs::valid_names::Elements::are_two_or_more, atspi_base::specs::valid_names::Elements::are_elements, atspi_base::specs::valid_names::Elements::parts_of))]
 pub fn takers()
     ensures reader { (b : Bus) → (got_at (playing (starting_world b (hello_returned ∷ [])) hello_waits) 4 (party.Reader 1) (hello_returned ∷ [])).now.readers ≡ begins ∷ rule_waits ∷ [] }
     ensures stateless { (b : Bus) → (got_at (record { world = starting_world b (hello_returned ∷ []); readers = begins ∷ [] }) 4 (party.Reader 1) (hello_returned ∷ [])).now.readers ≡ begins ∷ [] }
@@ -129,7 +129,7 @@ pub fn shows()
 {}
 
 /// A message is taken by the reader of the connection; of all else the readers see nothing.
-#[tactic(auto, unfolding(atspi_valid_names::specs::Names::is_bus_name, atspi_valid_names::specs::Elements::are_two_or_more, atspi_valid_names::specs::Elements::are_elements, atspi_valid_names::specs::Elements::parts_of))]
+#[tactic(auto, unfolding(atspi_base::specs::valid_names::Names::is_bus_name, atspi_base::specs::valid_names::Elements::are_two_or_more, atspi_base::specs::valid_names::Elements::are_elements, atspi_base::specs::valid_names::Elements::parts_of))]
 pub fn others()
     ensures takes { (b : Bus) → (plays (playing (starting_world b (hello_returned ∷ [])) hello_waits) (cause.gets 4)).now.readers ≡ begins ∷ rule_waits ∷ [] }
     ensures takes_none { (b : Bus) → plays (at_rest b) (cause.gets 3) ≡ record { now = at_rest b; entries = [] } }

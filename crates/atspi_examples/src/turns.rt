@@ -1,7 +1,7 @@
 //! What waits for ends, first on their up links and then on their down links, and how many bytes an end is given.
 
 ghost use Rattle.std.specs.Prelude.{◌≡◌, ℕ, List, ◌∷◌, [], length, None, Some};
-ghost use Rattle.atspi_routing.specs.Queues.{Bus};
+ghost use Rattle.atspi_match.specs.routing.Queues.{Bus};
 ghost use Rattle.atspi_stream.specs.Stream.{stated};
 ghost use Rattle.atspi_trace.specs.World.{Letter};
 ghost use Rattle.atspi_carrying.specs.Downs.{IsBegun};

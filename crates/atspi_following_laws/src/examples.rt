@@ -71,7 +71,7 @@ pub fn what_is_of_the_start()
 {}
 
 /// Which replies fail a call of the start.
-#[tactic(auto, unfolding(atspi_valid_names::specs::Names::is_bus_name, atspi_valid_names::specs::Elements::are_two_or_more, atspi_valid_names::specs::Elements::are_elements, atspi_valid_names::specs::Elements::parts_of))]
+#[tactic(auto, unfolding(atspi_base::specs::valid_names::Names::is_bus_name, atspi_base::specs::valid_names::Elements::are_two_or_more, atspi_base::specs::valid_names::Elements::are_elements, atspi_base::specs::valid_names::Elements::parts_of))]
 pub fn what_fails_the_start()
     ensures named { fails_start Hello (returned 20 (codes "org.freedesktop.DBus") (text_data (codes ":1.3") ∷ [])) ≡ false }
     ensures no_name { fails_start Hello (returned 20 (codes "org.freedesktop.DBus") (text_data (codes "a.b") ∷ [])) ≡ true }

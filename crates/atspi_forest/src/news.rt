@@ -2,8 +2,8 @@
 
 ghost use Rattle.std.specs.Prelude.{◌≡◌, List, [], ◌∷◌, ◌++◌, length, OnOk, OnErr};
 
+use atspi_base::valid_names::Path;
 use atspi_base::{NoMemory, Text, Texts};
-use atspi_valid_names::Path;
 use std::alloc::Global;
 use std::marker::Model;
 

@@ -1,7 +1,7 @@
 //! A reader's row of a node, some parts of which it may not have been told yet.
 
 use atspi_base::Text;
-use atspi_valid_names::Path;
+use atspi_base::valid_names::Path;
 
 /// A text of a node, as far as a reader knows it.
 #[derive(Drop)]

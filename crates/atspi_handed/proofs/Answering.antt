@@ -7,8 +7,8 @@ use Rattle.std.specs.Ordering.{nat_cmp}
 use Rattle.std.specs.Cmp.Lexicographic.{slice_cmp}
 use Rattle.std.specs.BTreeMap.{is_at}
 use Rattle.atspi_types.specs.Data.{Data}
-use Rattle.atspi_valid_names.specs.Names.{is_bus_name, is_unique_name}
-use Rattle.atspi_valid_names.proofs.NameLemmas.{IsBusName-from_test}
+use Rattle.atspi_base.specs.valid_names.Names.{is_bus_name, is_unique_name}
+use Rattle.atspi_base.proofs.OfValidNames.NameLemmas.{IsBusName-from_test}
 use Rattle.atspi_message.specs.Envelope.{Envelope}
 use Rattle.atspi_names.specs.Owners.{Owners, Lists, own_name, list_of, with_list, listed}
 use Rattle.atspi_names.specs.Queue.{requested, released, request_change, release_change, owner_in, allows_replacement, replaces_existing, forbids_queueing, stands, taken_over, without, with_flags}
@@ -17,11 +17,11 @@ use Rattle.atspi_owners.specs.Orderly.{IsOrderly}
 use Rattle.atspi_owners.proofs.Steps.{orderly-request, orderly-release}
 use Rattle.atspi_match.specs.declared.condition.Condition.{Condition}
 use Rattle.atspi_match.specs.RuleIndex.{is_pair, rules_of, without_first}
-use Rattle.atspi_routing.specs.declared.member.BusMember.{BusMember}
-use Rattle.atspi_routing.specs.declared.member.BusMember.TheVariants.{Hello, RequestName, ReleaseName, NameHasOwner, GetNameOwner, ListNames, ListQueuedOwners, AddMatch, RemoveMatch, GetId, Ping}
-use Rattle.atspi_routing.specs.BusState.{OpenCall, BusState, name_or_empty}
-use Rattle.atspi_routing.specs.Members.{MemberLine, member_lines, is_of, is_text, signature_of, first_line, with_arguments, member_of}
-use Rattle.atspi_routing.specs.Answers.{Reply, returns, fails, Answer, only, answers, may_be_asked_for, requests, releases, owner_name, owner_reply, has_owner, queued_names, queued_reply, adds_rule, removes_rule, first_text, second_number, bus_id}
+use Rattle.atspi_match.specs.declared.routing.member.BusMember.{BusMember}
+use Rattle.atspi_match.specs.declared.routing.member.BusMember.TheVariants.{Hello, RequestName, ReleaseName, NameHasOwner, GetNameOwner, ListNames, ListQueuedOwners, AddMatch, RemoveMatch, GetId, Ping}
+use Rattle.atspi_match.specs.routing.BusState.{OpenCall, BusState, name_or_empty}
+use Rattle.atspi_match.specs.routing.Members.{MemberLine, member_lines, is_of, is_text, signature_of, first_line, with_arguments, member_of}
+use Rattle.atspi_match.specs.routing.Answers.{Reply, returns, fails, Answer, only, answers, may_be_asked_for, requests, releases, owner_name, owner_reply, has_owner, queued_names, queued_reply, adds_rule, removes_rule, first_text, second_number, bus_id}
 use Rattle.atspi_handed.specs.Known.{AreKnown}
 use Rattle.atspi_handed.proofs.Names.{IsPlain, plain_name, bus_is, IsError, failed_is, args_is, limits_is, rule_is, rule_lost_is, owner_lost_is, unknown_interface_is, unknown_method_is, plain_owner, OnlyNames, listed_are}
 use Rattle.atspi_handed.proofs.Own.{MaySpell, IsBody, no_body, text_body, number_body, boolean_body, texts_body, spell_change}

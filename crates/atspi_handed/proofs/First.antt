@@ -8,15 +8,15 @@ use Rattle.std.specs.Cmp.Lexicographic.{slice_cmp}
 use Rattle.std.specs.FinMap as finmap
 use Rattle.std.specs.FinMap.{get-from_sorted}
 use Rattle.std.proofs.lemmas.Option.{same_Some}
-use Rattle.atspi_valid_names.specs.Elements.{parts_of, are_elements, are_two_or_more}
-use Rattle.atspi_valid_names.specs.Names.{is_bus_name}
+use Rattle.atspi_base.specs.valid_names.Elements.{parts_of, are_elements, are_two_or_more}
+use Rattle.atspi_base.specs.valid_names.Names.{is_bus_name}
 use Rattle.atspi_names.specs.Owners.{list_of, unique_name, HasNoEmptyList}
 use Rattle.atspi_names.specs.Queue.{owner_in}
 use Rattle.atspi_names.proofs.BookLemmas.{same_conn, same_name}
 use Rattle.atspi_names.proofs.UniqueLemmas.{is_bus_name-unique_name, unique_name-injective}
 use Rattle.atspi_owners.specs.Orderly.{times, IsOrderly}
 use Rattle.atspi_protocol.specs.ends.Places.{registry}
-use Rattle.atspi_routing.specs.BusState.{unique_of}
+use Rattle.atspi_match.specs.routing.BusState.{unique_of}
 use Rattle.atspi_trace.specs.World.{End, first_unique, first_lists, first_owners, first_bus, first_registry}
 use Rattle.atspi_trace.specs.Ends.{end_at}
 use Rattle.atspi_handed.specs.Handing.{HandsLetters}

@@ -9,7 +9,7 @@ use Rattle.std.proofs.lemmas.Option.{same_Some}
 use Rattle.atspi_lines.specs.declared.line.Party.{Party}
 use Rattle.atspi_names.specs.Owners.{Owners, nobody}
 use Rattle.atspi_owners.proofs.Steps.{orderly-nobody}
-use Rattle.atspi_routing.specs.Queues.{empty_bus}
+use Rattle.atspi_match.specs.routing.Queues.{empty_bus}
 use Rattle.atspi_trace.specs.World.{Role, Said, Letter, End, newcomer}
 use Rattle.atspi_trace.specs.Ends.{end_at, put_up}
 use Rattle.atspi_handed.specs.Handing.{HandsLetters}

@@ -7,17 +7,17 @@ use Rattle.std.specs.Cmp.{nat_cmp_total}
 use Rattle.std.specs.Cmp.Lexicographic.{nat_list_cmp_total}
 use Rattle.std.specs.FinMap as finmap
 use Rattle.atspi_base.specs.Text.{HasNoZero}
-use Rattle.atspi_valid_names.specs.Elements.{parts_of, are_elements, are_two_or_more}
-use Rattle.atspi_valid_names.specs.Names.{IsPath, IsInterface, IsMember, IsBusName, is_path, is_interface, is_member, is_bus_name, is_unique_name}
-use Rattle.atspi_valid_names.proofs.NameLemmas.{IsPath-from_test, IsInterface-from_test, IsMember-from_test, IsBusName-from_test}
+use Rattle.atspi_base.specs.valid_names.Elements.{parts_of, are_elements, are_two_or_more}
+use Rattle.atspi_base.specs.valid_names.Names.{IsPath, IsInterface, IsMember, IsBusName, is_path, is_interface, is_member, is_bus_name, is_unique_name}
+use Rattle.atspi_base.proofs.OfValidNames.NameLemmas.{IsPath-from_test, IsInterface-from_test, IsMember-from_test, IsBusName-from_test}
 use Rattle.atspi_message.specs.declared.code.Code.TheVariants as code
 use Rattle.atspi_names.specs.Owners.{Owners, Lists, own_name, list_of, unique_name, owned_by, well_known, listed, HasNoEmptyList}
 use Rattle.atspi_names.specs.Queue.{owns}
 use Rattle.atspi_names.proofs.BookLemmas.{kept, get-kept}
 use Rattle.atspi_names.proofs.UniqueLemmas.{is_bus_name-unique_name, is_bus_name-own_name}
 use Rattle.atspi_owners.specs.Orderly.{IsOrderly}
-use Rattle.atspi_routing.specs.BusState.{unique_of, text_or_empty, name_or_empty}
-use Rattle.atspi_routing.specs.OwnMessages.{own_path, error_prefix}
+use Rattle.atspi_match.specs.routing.BusState.{unique_of, text_or_empty, name_or_empty}
+use Rattle.atspi_match.specs.routing.OwnMessages.{own_path, error_prefix}
 use Rattle.atspi_handed.proofs.Lists.{all_append, all_filter, all_map, all_weaker, all_entries}
 use Rattle.atspi_handed.proofs.Short.{name_sits}
 

@@ -5,13 +5,13 @@ use Rattle.std.specs.List.{AllByRecursion}
 use Rattle.atspi_types.specs.Kinds.{text, u32}
 use Rattle.atspi_types.specs.Signatures.{IsSignature}
 use Rattle.atspi_types.specs.Data.{Data, number_data, boolean_data, text_data, items_of, types_of, AreWellTyped, AllHaveType}
-use Rattle.atspi_valid_names.specs.Names.{IsMember, IsBusName}
+use Rattle.atspi_base.specs.valid_names.Names.{IsMember, IsBusName}
 use Rattle.atspi_message.specs.Envelope.{Envelope}
 use Rattle.atspi_names.specs.Owners.{Owners, own_name}
 use Rattle.atspi_owners.specs.Orderly.{IsOrderly}
-use Rattle.atspi_routing.specs.BusState.{unique_of, name_or_empty}
-use Rattle.atspi_routing.specs.OwnMessages.{signal, return_to, error_to, name_lost, name_acquired, owner_changed, same_owner, told_of_change}
-use Rattle.atspi_routing.specs.Answers.{texts}
+use Rattle.atspi_match.specs.routing.BusState.{unique_of, name_or_empty}
+use Rattle.atspi_match.specs.routing.OwnMessages.{signal, return_to, error_to, name_lost, name_acquired, owner_changed, same_owner, told_of_change}
+use Rattle.atspi_match.specs.routing.Answers.{texts}
 use Rattle.atspi_handed.specs.Sits.{AllSit}
 use Rattle.atspi_handed.specs.Spellable.{IsSpellable}
 use Rattle.atspi_handed.specs.Known.{IsSerial}

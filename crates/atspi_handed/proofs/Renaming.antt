@@ -4,7 +4,7 @@ use Rattle.std.specs.List.{AllByRecursion}
 use Rattle.std.proofs.lemmas.Option.{same_Some}
 use Rattle.atspi_forest.specs.Forest.{first_of}
 use Rattle.atspi_names.specs.Owners.{Owners, after_gone}
-use Rattle.atspi_routing.specs.BusState.{unique_of}
+use Rattle.atspi_match.specs.routing.BusState.{unique_of}
 use Rattle.atspi_trace.specs.World.{End}
 use Rattle.atspi_trace.specs.Ends.{end_at, with_end, leaves}
 use Rattle.atspi_trace.specs.Carrying.{left}

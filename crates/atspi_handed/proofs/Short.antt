@@ -5,7 +5,7 @@ use Rattle.std.specs.Int.{w32}
 use Rattle.std.specs.Str.{all_scalars}
 use Rattle.std.proofs.lemmas.Str.{IsUtf8-from_ascii, chars-IsAscii, scalars-chars}
 use Rattle.atspi_base.specs.Text.{HasNoZero}
-use Rattle.atspi_valid_names.specs.Names.{IsInterface, IsMember, IsBusName}
+use Rattle.atspi_base.specs.valid_names.Names.{IsInterface, IsMember, IsBusName}
 use Rattle.atspi_types.specs.Kinds.{Kind, number, text, path, signature, array, u32}
 use Rattle.atspi_types.specs.Data.{Data, number_data, text_data, path_data, array_data, items_of, types_of, IsWellTyped}
 use Rattle.atspi_types.specs.Signatures.{IsSignature}

@@ -3,7 +3,7 @@ use Rattle.std.proofs.Common.{◌≡◌, ◌≢◌, ◌⊎◌, inl, inr, ℕ, �
 use Rattle.std.specs.Prelude.{◌==◌, ◌&&◌, ◌||◌, not, codes, filter, flat_map, IfSome, if◌then◌else◌, Result, Ok, Err}
 use Rattle.std.specs.List.{AllByRecursion}
 use Rattle.atspi_types.specs.Data.{text_data}
-use Rattle.atspi_valid_names.specs.Names.{IsBusName}
+use Rattle.atspi_base.specs.valid_names.Names.{IsBusName}
 use Rattle.atspi_message.specs.Envelope.{Envelope}
 use Rattle.atspi_names.specs.Owners.{Owners, own_name, list_of, unique_name, after_hello, after_gone, owned_by}
 use Rattle.atspi_names.specs.Queue.{owner_in, without}
@@ -12,13 +12,13 @@ use Rattle.atspi_names.proofs.UniqueLemmas.{is_bus_name-unique_name}
 use Rattle.atspi_owners.proofs.Steps.{orderly-hello, orderly-gone}
 use Rattle.atspi_match.specs.declared.condition.Condition.{Condition}
 use Rattle.atspi_match.specs.RuleIndex.{without_rules}
-use Rattle.atspi_routing.specs.declared.member.BusMember.{BusMember}
-use Rattle.atspi_routing.specs.BusState.{OpenCall, BusState, unique_of, text_or_empty, name_or_empty, calls_without, waiting_for}
-use Rattle.atspi_routing.specs.OwnMessages.{return_to, error_to, name_acquired, owner_changed, numbered}
-use Rattle.atspi_routing.specs.Members.{member_of}
-use Rattle.atspi_routing.specs.Answers.{Reply, returns, fails, Answer, only, answers}
-use Rattle.atspi_routing.specs.Routing.{receivers, is_for_bus, expects_reply, is_reply, with_call, without_answered, calls_after}
-use Rattle.atspi_routing.specs.Steps.{Move, says, delivers, closes, BusStep, handed, speaks, replies, answered, called, undeliverable, is_unowned, calls_after_all, passes_on, takes_from_named, is_hello, greets, no_replies, name_passes_on, names_pass_on, farewell, bus_takes, bus_leaves}
+use Rattle.atspi_match.specs.declared.routing.member.BusMember.{BusMember}
+use Rattle.atspi_match.specs.routing.BusState.{OpenCall, BusState, unique_of, text_or_empty, name_or_empty, calls_without, waiting_for}
+use Rattle.atspi_match.specs.routing.OwnMessages.{return_to, error_to, name_acquired, owner_changed, numbered}
+use Rattle.atspi_match.specs.routing.Members.{member_of}
+use Rattle.atspi_match.specs.routing.Answers.{Reply, returns, fails, Answer, only, answers}
+use Rattle.atspi_match.specs.routing.Routing.{receivers, is_for_bus, expects_reply, is_reply, with_call, without_answered, calls_after}
+use Rattle.atspi_match.specs.routing.Steps.{Move, says, delivers, closes, BusStep, handed, speaks, replies, answered, called, undeliverable, is_unowned, calls_after_all, passes_on, takes_from_named, is_hello, greets, no_replies, name_passes_on, names_pass_on, farewell, bus_takes, bus_leaves}
 use Rattle.atspi_handed.specs.Spellable.{IsSpellable}
 use Rattle.atspi_handed.specs.Known.{IsSerial, AreKnown, IsKnown}
 use Rattle.atspi_handed.proofs.Lists.{all_append, all_filter, all_map}

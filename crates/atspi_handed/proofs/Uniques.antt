@@ -15,13 +15,13 @@ use Rattle.atspi_match.specs.RuleIndex.{is_pair, rules_of, without_first}
 use Rattle.atspi_names.specs.Owners.{Owners, unique_name, after_hello, after_gone}
 use Rattle.atspi_names.proofs.BookLemmas.{same_conn, by_test}
 use Rattle.atspi_names.proofs.UniqueLemmas.{unique_name-injective}
-use Rattle.atspi_routing.specs.declared.member.BusMember.{BusMember}
-use Rattle.atspi_routing.specs.declared.member.BusMember.TheVariants.{Hello, RequestName, ReleaseName, NameHasOwner, GetNameOwner, ListNames, ListQueuedOwners, AddMatch, RemoveMatch, GetId, Ping}
-use Rattle.atspi_routing.specs.BusState.{BusState, unique_of}
-use Rattle.atspi_routing.specs.Members.{member_of}
-use Rattle.atspi_routing.specs.Answers.{Answer, only, fails, returns, answers, may_be_asked_for, first_text, second_number, requests, releases, adds_rule, removes_rule}
-use Rattle.atspi_routing.specs.Routing.{receivers, is_for_bus}
-use Rattle.atspi_routing.specs.Steps.{closes, BusStep, handed, speaks, answered, called, undeliverable, is_unowned, calls_after_all, passes_on, takes_from_named, is_hello, greets, bus_takes}
+use Rattle.atspi_match.specs.declared.routing.member.BusMember.{BusMember}
+use Rattle.atspi_match.specs.declared.routing.member.BusMember.TheVariants.{Hello, RequestName, ReleaseName, NameHasOwner, GetNameOwner, ListNames, ListQueuedOwners, AddMatch, RemoveMatch, GetId, Ping}
+use Rattle.atspi_match.specs.routing.BusState.{BusState, unique_of}
+use Rattle.atspi_match.specs.routing.Members.{member_of}
+use Rattle.atspi_match.specs.routing.Answers.{Answer, only, fails, returns, answers, may_be_asked_for, first_text, second_number, requests, releases, adds_rule, removes_rule}
+use Rattle.atspi_match.specs.routing.Routing.{receivers, is_for_bus}
+use Rattle.atspi_match.specs.routing.Steps.{closes, BusStep, handed, speaks, answered, called, undeliverable, is_unowned, calls_after_all, passes_on, takes_from_named, is_hello, greets, bus_takes}
 use Rattle.atspi_trace.specs.World.{End}
 
 -- WHAT A STEP DOES TO UNIQUE NAMES: nothing, or who said Hello gets the next

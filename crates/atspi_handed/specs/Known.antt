@@ -1,10 +1,10 @@
 -- What holds of a bus's names and open calls at any time, so that each message of its own can be written.
 use Rattle.std.specs.Prelude.{◌≡◌, ◌≢◌, ◌<◌, ◌≤◌, ◌^◌, ℕ, false, List, []}
 use Rattle.std.specs.List.{AllByRecursion}
-use Rattle.atspi_valid_names.specs.Names.{is_bus_name}
+use Rattle.atspi_base.specs.valid_names.Names.{is_bus_name}
 use Rattle.atspi_names.specs.Owners.{Owners, list_of, HasNoEmptyList}
 use Rattle.atspi_owners.specs.Orderly.{IsOrderly}
-use Rattle.atspi_routing.specs.BusState.{OpenCall, BusState}
+use Rattle.atspi_match.specs.routing.BusState.{OpenCall, BusState}
 
 -- a serial of a message
 abbrev pub IsSerial : ℕ → Type 0

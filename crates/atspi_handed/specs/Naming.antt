@@ -4,7 +4,7 @@ use Rattle.std.specs.List.{AllByRecursion}
 use Rattle.atspi_lines.specs.declared.line.Party.{Party}
 use Rattle.atspi_lines.specs.declared.line.Party.TheVariants.{Bus as The_bus}
 use Rattle.atspi_names.specs.Owners.{Owners, own_name, unique_name}
-use Rattle.atspi_routing.specs.BusState.{unique_of}
+use Rattle.atspi_match.specs.routing.BusState.{unique_of}
 use Rattle.atspi_trace.specs.World.{Standing, here, stopped, away, Role, Said, Letter, End, newcomer, first_world}
 use Rattle.atspi_trace.specs.Ends.{end_at, put_up}
 use Rattle.atspi_trace.specs.Carrying.{Carried, takes, takes_end}

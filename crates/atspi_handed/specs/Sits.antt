@@ -3,7 +3,7 @@ use Rattle.std.specs.Prelude.{◌≡◌, ◌<◌, ◌^◌, ℕ, zero, suc, true,
 use Rattle.std.specs.Int.{byte_len}
 use Rattle.std.specs.Str.{all_scalars}
 use Rattle.atspi_base.specs.Text.{HasNoZero}
-use Rattle.atspi_valid_names.specs.Names.{IsPath}
+use Rattle.atspi_base.specs.valid_names.Names.{IsPath}
 use Rattle.atspi_types.specs.Kinds.{width}
 use Rattle.atspi_types.specs.Signatures.{IsSignature}
 use Rattle.atspi_types.specs.Data.{Data, number_data, boolean_data, text_data, path_data, signature_data, array_data, structure_data, variant_data, dictionary_data, Items, no_items, item, Entries, no_entries, entry}

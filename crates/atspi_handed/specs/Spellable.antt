@@ -1,7 +1,7 @@
 -- Messages that bytes spell as long as they are short.
 use Rattle.std.specs.Prelude.{◌<◌, ◌≤◌, ◌^◌, ℕ, Some, List, length, IfSome}
 use Rattle.atspi_types.specs.Data.{items_of, types_of}
-use Rattle.atspi_valid_names.specs.Names.{IsBusName}
+use Rattle.atspi_base.specs.valid_names.Names.{IsBusName}
 use Rattle.atspi_types.specs.Signatures.{IsSignature}
 use Rattle.atspi_message.specs.Envelope.{Envelope}
 use Rattle.atspi_message.specs.Rules.{MeetsRules, HasNames}

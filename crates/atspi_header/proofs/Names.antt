@@ -4,8 +4,8 @@ use Rattle.std.specs.Prelude.{◌&&◌, IfSome}
 use Rattle.std.specs.Borrow.{Bor}
 use Rattle.std.specs.Str.{IsUtf8}
 use Rattle.std.proofs.lemmas.Str.{IsUtf8-from_ascii}
-use Rattle.atspi_valid_names.specs.Names.{is_path, is_interface, is_member, is_bus_name, IsPath, IsInterface, IsMember, IsBusName}
-use Rattle.atspi_valid_names.proofs.NameLemmas.{IsPath-from_test, IsInterface-from_test, IsMember-from_test, IsBusName-from_test, IsAscii-IsPath, IsAscii-IsInterface, IsAscii-IsMember, IsAscii-IsBusName, is_path-from_IsPath, is_interface-from_IsInterface, is_member-from_IsMember, is_bus_name-from_IsBusName}
+use Rattle.atspi_base.specs.valid_names.Names.{is_path, is_interface, is_member, is_bus_name, IsPath, IsInterface, IsMember, IsBusName}
+use Rattle.atspi_base.proofs.OfValidNames.NameLemmas.{IsPath-from_test, IsInterface-from_test, IsMember-from_test, IsBusName-from_test, IsAscii-IsPath, IsAscii-IsInterface, IsAscii-IsMember, IsAscii-IsBusName, is_path-from_IsPath, is_interface-from_IsInterface, is_member-from_IsMember, is_bus_name-from_IsBusName}
 use Rattle.atspi_marshal.specs.declared.input.Bound.{Bound}
 use Rattle.atspi_marshal.specs.Input.{Input}
 use Rattle.atspi_message.specs.Envelope.{Envelope}

@@ -6,7 +6,7 @@ use Rattle.atspi_base.specs.ReadsText.{text_in}
 use Rattle.atspi_base.specs.declared.text.TextFault.{TextFault}
 use Rattle.atspi_base.specs.declared.text.TextFault.TheVariants.{Zero, Utf8}
 use Rattle.atspi_base.specs.declared.text.TextFault.TheVariants.{NoMemory as TextNoMemory}
-use Rattle.atspi_valid_names.specs.Names.{is_path}
+use Rattle.atspi_base.specs.valid_names.Names.{is_path}
 use Rattle.atspi_types.specs.Kinds.{Num, width, number_alignment, Kind, Kinds, number, boolean, text, path, signature, array, structure, variant, dictionary, kinds_of, types_in, alignment}
 use Rattle.atspi_types.specs.Data.{Data, number_data, boolean_data, text_data, path_data, signature_data, array_data, structure_data, dictionary_data, variant_data, items_of, type_of, types_of}
 use Rattle.atspi_types.specs.SignatureReading.{signature_in}

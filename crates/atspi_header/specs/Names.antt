@@ -1,7 +1,7 @@
 -- The rules of the names that a message has, as tests.
 use Rattle.std.specs.Prelude.{ℕ, List, Option, Some, None, Bool, true, ◌&&◌}
 use Rattle.std.specs.Borrow.{Bor}
-use Rattle.atspi_valid_names.specs.Names.{is_path, is_interface, is_member, is_bus_name}
+use Rattle.atspi_base.specs.valid_names.Names.{is_path, is_interface, is_member, is_bus_name}
 
 -- a name that is there is of the rule
 abbrev pub fits : (List ℕ → Bool) → Option (Bor (List ℕ)) → Bool

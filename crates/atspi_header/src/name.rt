@@ -9,10 +9,10 @@ ghost use Rattle.atspi_header.specs.Codes.{name_code};
 ghost use Rattle.atspi_header.specs.View.{Reads};
 
 use crate::code::{NameCode, reason_of};
+use atspi_base::valid_names::{is_bus_name, is_interface, is_member, is_path};
 use atspi_cursor::{fault, long, slice};
 use atspi_marshal::{Bound, Marshalled, byte_at, u32_at};
 use atspi_types::Fault;
-use atspi_valid_names::{is_bus_name, is_interface, is_member, is_path};
 
 /// Whether the bytes are of the field's rule.
 #[inline(always)]

@@ -1,15 +1,15 @@
 //! Messages that lie in bytes, made into owned ones. Only memory can be wanting.
 
 ghost use Rattle.std.specs.Prelude.{◌≡◌, IfOk, IsTrue};
-ghost use Rattle.atspi_valid_names.specs.Names.{is_path, is_interface, is_member, is_bus_name};
+ghost use Rattle.atspi_base.specs.valid_names.Names.{is_path, is_interface, is_member, is_bus_name};
 ghost use Rattle.atspi_message.specs.Envelope.{envelope_of};
 ghost use Rattle.atspi_header.specs.Names.{fits};
 ghost use Rattle.atspi_header.specs.View.{bytes_of, envelope_at};
 
 use crate::message::MessageRef;
 use atspi_base::NoMemory;
+use atspi_base::valid_names::{BusName, Interface, Member, NameFault, Path};
 use atspi_message::Message;
-use atspi_valid_names::{BusName, Interface, Member, NameFault, Path};
 use std::alloc::Global;
 
 /// The path, owned, if there is one.

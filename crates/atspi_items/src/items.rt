@@ -97,7 +97,7 @@ pub fn item_value(alloc: Global, item: &Item) -> Result<Value, NoMemory>
 }
 
 /// A node is there, as the object for the whole tree tells it: AddAccessible.
-#[tactic(auto, unfolding(atspi_valid_names::specs::Names::is_member))]
+#[tactic(auto, unfolding(atspi_base::specs::valid_names::Names::is_member))]
 pub fn node_added(alloc: Global, item: &Item) -> Result<Message, NoMemory>
     ensures { IfOk result (λ message. envelope_of message ≡ (signals.added item.now).message) }
 {

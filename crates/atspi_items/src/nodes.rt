@@ -97,7 +97,7 @@ fn count(tree: &Tree, node: u32) -> i32
 }
 
 /// The parent of a root: the registry's.
-#[tactic(auto, unfolding(atspi_valid_names::specs::Names::is_path, atspi_valid_names::specs::Elements::are_elements, atspi_valid_names::specs::Elements::parts_of))]
+#[tactic(auto, unfolding(atspi_base::specs::valid_names::Names::is_path, atspi_base::specs::valid_names::Elements::are_elements, atspi_base::specs::valid_names::Elements::parts_of))]
 fn registry_root(alloc: Global) -> Result<Reference, NoMemory>
     ensures { IfOk result (λ r. r ≡ of_registry) }
 {

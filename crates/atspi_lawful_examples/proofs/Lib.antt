@@ -1,3 +1,4 @@
 pub mod OfHeld
 pub mod OfSettled
 pub mod OfTraces
+pub mod OfTrace

@@ -6,3 +6,5 @@ pub mod ways
 pub mod served
 pub mod settled
 pub mod traces
+pub mod trace
+pub mod play

@@ -1,8 +1,8 @@
 -- The accept of a round, and the links behind it.
 use Rattle.std.proofs.Common.{◌≡◌, ℕ, ◌<◌, List, [], ◌∷◌, ◌++◌, Option, None, Some, Result, Ok, Err, refl, sym, ap, subst, ◌∙◌, inr, arith}
 use Rattle.std.specs.Prelude.{IfErr, MatchResult, OnOk, ⊤}
-use Rattle.atspi_routing.specs.Queues.{joins}
-use Rattle.atspi_routing.specs.Queues as queues
+use Rattle.atspi_match.specs.routing.Queues.{joins}
+use Rattle.atspi_match.specs.routing.Queues as queues
 use Rattle.atspi_bus.specs.declared.bus.Bus.{Bus}
 use Rattle.atspi_bus.specs.View.{given_of}
 use Rattle.atspi_host.specs.Calls.{Adds, IsNew, IsUnused}

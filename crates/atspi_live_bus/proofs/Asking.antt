@@ -2,7 +2,7 @@
 use Rattle.std.proofs.Common.{◌≡◌, ℕ, ◌==◌, true, List, [], ◌∷◌, ◌++◌, refl, sym, ap, subst, ◌∙◌, inl, inr, append_assoc, append-nil}
 use Rattle.std.proofs.lemmas.Bool.Decides.{eqb_tells}
 use Rattle.atspi_message.specs.Envelope.{Envelope}
-use Rattle.atspi_routing.specs.Queues as queues
+use Rattle.atspi_match.specs.routing.Queues as queues
 use Rattle.atspi_live_bus.specs.Asked.{Asked, taking, popping, Leads, Runs, message_in, handed_in, messages_of, handed_to}
 use Rattle.atspi_live_bus.specs.Turns.{IsOfOne}
 

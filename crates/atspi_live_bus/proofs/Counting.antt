@@ -3,8 +3,8 @@ use Rattle.std.proofs.Common.{◌≡◌, ◌<◌, Bool, true, false, [], ◌∷�
 use Rattle.std.specs.Prelude.{IfNone, is_some, option_to_list}
 use Rattle.atspi_message.specs.Envelope.{Envelope, envelope_of}
 use Rattle.atspi_message.specs.declared.message.Message.{Message}
-use Rattle.atspi_routing.specs.declared.closing.Closing.{Closing}
-use Rattle.atspi_routing.specs.Queues as queues
+use Rattle.atspi_match.specs.declared.routing.closing.Closing.{Closing}
+use Rattle.atspi_match.specs.routing.Queues as queues
 
 pub fewer_own : (old new : queues.Bus) (e : Envelope) → old ≡ record new { own = e ∷ new.own } → length new.own < length old.own
 fewer_own old new e h =

@@ -3,8 +3,8 @@ use Rattle.std.proofs.Common.{◌≡◌, ℕ, ◌≤◌, List, [], ◌∷◌, �
 use Rattle.std.proofs.lemmas.List.{take-append-drop, take-append-le}
 use Rattle.atspi_message.specs.Envelope.{Envelope}
 use Rattle.atspi_auth.specs.declared.stage.Stage.TheVariants.{Over}
-use Rattle.atspi_routing.specs.Queues.{queue_of}
-use Rattle.atspi_routing.specs.Queues as queues
+use Rattle.atspi_match.specs.routing.Queues.{queue_of}
+use Rattle.atspi_match.specs.routing.Queues as queues
 use Rattle.atspi_queues.specs.Change.{with_queue}
 use Rattle.atspi_host.specs.declared.call.Call.{Call}
 use Rattle.atspi_live_bus.specs.Asked.{Asked, popping, handed_to}

@@ -8,15 +8,15 @@ use Rattle.atspi_stream.specs.Laws.{HasOneAnswer}
 use Rattle.atspi_stream.specs.Stream.{AwaitsMore, BeginsWithMessage, HasFault, IsParted, in_front, bytes_of}
 use Rattle.atspi_stream.specs.Stream as stream
 use Rattle.atspi_stream.proofs.StreamLaws.{message_states}
-use Rattle.atspi_routing.specs.declared.closing.Closing.{Closing}
-use Rattle.atspi_routing.specs.BusState.{unique_of, text_or_empty}
-use Rattle.atspi_routing.specs.Queues.{takes}
-use Rattle.atspi_routing.specs.Queues as queues
-use Rattle.atspi_routing.specs.Room.{owners, zero_}
-use Rattle.atspi_routing.specs.Routing.{receivers}
-use Rattle.atspi_routing.specs.Steps.{is_unowned}
-use Rattle.atspi_routing.specs.declared.closing.Why.TheVariants.{NotHello, Quota}
-use Rattle.atspi_routing.proofs.Known.{known}
+use Rattle.atspi_match.specs.declared.routing.closing.Closing.{Closing}
+use Rattle.atspi_match.specs.routing.BusState.{unique_of, text_or_empty}
+use Rattle.atspi_match.specs.routing.Queues.{takes}
+use Rattle.atspi_match.specs.routing.Queues as queues
+use Rattle.atspi_match.specs.routing.Room.{owners, zero_}
+use Rattle.atspi_match.specs.routing.Routing.{receivers}
+use Rattle.atspi_match.specs.routing.Steps.{is_unowned}
+use Rattle.atspi_match.specs.declared.routing.closing.Why.TheVariants.{NotHello, Quota}
+use Rattle.atspi_match.proofs.OfRouting.Known.{known}
 use Rattle.atspi_bus_steps.specs.Limits.{PassesLimits, IsTooBig}
 use Rattle.atspi_host.specs.declared.call.Did.TheVariants.{NotYet}
 use Rattle.atspi_host.specs.declared.call.Call.{Call}

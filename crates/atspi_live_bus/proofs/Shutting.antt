@@ -5,9 +5,9 @@ use Rattle.std.proofs.lemmas.Bool.Decides.{eqb_tells}
 use Rattle.std.specs.List.{position, remove}
 use Rattle.std.proofs.lemmas.List.Quantifiers.{position-Some}
 use lib.ListN.{get_or}
-use Rattle.atspi_routing.specs.declared.closing.Closing.{Closing}
-use Rattle.atspi_routing.specs.Queues.{leaves}
-use Rattle.atspi_routing.specs.Queues as queues
+use Rattle.atspi_match.specs.declared.routing.closing.Closing.{Closing}
+use Rattle.atspi_match.specs.routing.Queues.{leaves}
+use Rattle.atspi_match.specs.routing.Queues as queues
 use Rattle.atspi_bus.specs.declared.bus.Bus.{Bus}
 use Rattle.atspi_bus.specs.View.{bus_of, given_of}
 use Rattle.atspi_host.specs.Calls.{Adds, Differ, IsNew, IsOpen, taken, given, without}

@@ -3,7 +3,7 @@ use Rattle.std.proofs.Common.{◌≡◌, ℕ, ◌≤◌, Bool, true, false, List
 use Rattle.std.specs.Prelude.{◌⊎◌, ⊤}
 use Rattle.std.proofs.lemmas.Bool.Decides.{eqb_tells, leb_tells}
 use Rattle.atspi_message.specs.Envelope.{Envelope}
-use Rattle.atspi_routing.specs.declared.closing.Closing.{Closing}
+use Rattle.atspi_match.specs.declared.routing.closing.Closing.{Closing}
 use Rattle.atspi_host.specs.Calls.{IsOpen, taken, without}
 use Rattle.atspi_host.specs.declared.call.Did.{Did}
 use Rattle.atspi_host.specs.declared.call.Did.TheVariants.{Done, NotYet, End, Failed}

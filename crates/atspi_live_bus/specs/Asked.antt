@@ -2,8 +2,8 @@
 use Rattle.std.specs.Prelude.{◌≡◌, ◌<◌, ◌⊎◌, ℕ, ◌==◌, List, [], ◌∷◌, ◌++◌, Option, if◌then◌else◌}
 use Rattle.atspi_message.specs.Envelope.{Envelope}
 use Rattle.atspi_match.specs.declared.condition.Condition.{Condition}
-use Rattle.atspi_routing.specs.Queues.{queue_of, joins, takes, leaves}
-use Rattle.atspi_routing.specs.Queues as queues
+use Rattle.atspi_match.specs.routing.Queues.{queue_of, joins, takes, leaves}
+use Rattle.atspi_match.specs.routing.Queues as queues
 use Rattle.atspi_queues.specs.Change.{with_queue}
 use Rattle.atspi_bus_steps.specs.Spoken.{IsRuleTaken}
 

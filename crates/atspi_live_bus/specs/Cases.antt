@@ -1,9 +1,9 @@
 -- Buses with few links, for values that are worked out by hand.
 use Rattle.std.specs.Prelude.{ℕ, ◌==◌, List, [], ◌∷◌, Option, None, Some, if◌then◌else◌}
 use Rattle.atspi_message.specs.Envelope.{Envelope}
-use Rattle.atspi_routing.specs.Queues.{Bus, empty_bus, joins}
-use Rattle.atspi_routing.specs.Room.{room, signal_m}
-use Rattle.atspi_routing.specs.declared.closing.Why.TheVariants.{Quota}
+use Rattle.atspi_match.specs.routing.Queues.{Bus, empty_bus, joins}
+use Rattle.atspi_match.specs.routing.Room.{room, signal_m}
+use Rattle.atspi_match.specs.declared.routing.closing.Why.TheVariants.{Quota}
 use Rattle.atspi_live_bus.specs.Asked.{joining}
 use Rattle.atspi_live_bus.specs.Course.{Course}
 

@@ -5,9 +5,9 @@ use Rattle.atspi_auth.specs.declared.fault.AuthFault.{AuthFault}
 use Rattle.atspi_message.specs.Envelope.{Envelope}
 use Rattle.atspi_stream.specs.Stream.{AwaitsMore, BeginsWithMessage, HasFault, IsParted}
 use Rattle.atspi_match.specs.declared.condition.Condition.{Condition}
-use Rattle.atspi_routing.specs.declared.closing.Closing.{Closing}
-use Rattle.atspi_routing.specs.Queues.{takes}
-use Rattle.atspi_routing.specs.Queues as queues
+use Rattle.atspi_match.specs.declared.routing.closing.Closing.{Closing}
+use Rattle.atspi_match.specs.routing.Queues.{takes}
+use Rattle.atspi_match.specs.routing.Queues as queues
 use Rattle.atspi_bus_steps.specs.Limits.{IsTooBig}
 use Rattle.atspi_bus_steps.specs.Spoken.{IsRuleTaken}
 use Rattle.atspi_host.specs.declared.call.Did.{Did}

@@ -1,8 +1,8 @@
 -- A bus in its course, step by step.
 use Rattle.std.specs.Prelude.{◌≡◌, ℕ, List, [], ◌∷◌, ◌++◌, Option, None, Some, ⊤}
-use Rattle.atspi_routing.specs.declared.closing.Closing.{Closing}
-use Rattle.atspi_routing.specs.Queues.{empty_bus, joins}
-use Rattle.atspi_routing.specs.Queues as queues
+use Rattle.atspi_match.specs.declared.routing.closing.Closing.{Closing}
+use Rattle.atspi_match.specs.routing.Queues.{empty_bus, joins}
+use Rattle.atspi_match.specs.routing.Queues as queues
 use Rattle.atspi_host.specs.declared.call.Did.{Did}
 use Rattle.atspi_host.specs.declared.call.Did.TheVariants.{Done, NotYet, End, Failed}
 use Rattle.atspi_host.specs.declared.call.Call.{Call}

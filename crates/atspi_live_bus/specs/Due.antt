@@ -2,7 +2,7 @@
 use Rattle.std.specs.Prelude.{◌≡◌, ℕ, List, [], ◌++◌, Some}
 use Rattle.atspi_auth.specs.Talk.{after, server_start}
 use Rattle.atspi_auth.specs.declared.stage.Stage.TheVariants.{Over}
-use Rattle.atspi_routing.specs.Queues.{queue_of}
+use Rattle.atspi_match.specs.routing.Queues.{queue_of}
 use Rattle.atspi_host.specs.declared.call.Call.{Call}
 use Rattle.atspi_host.specs.Calls.{taken, given}
 use Rattle.atspi_live_bus.specs.Asked.{handed_to}

@@ -6,8 +6,8 @@ use Rattle.atspi_host.specs.declared.call.Did.{Did}
 use Rattle.atspi_host.specs.declared.call.Did.TheVariants.{Failed}
 use Rattle.atspi_host.specs.declared.call.Call.{Call}
 use Rattle.atspi_host.specs.declared.call.Call.TheVariants.{Listen, Accept, Connect, Read, Write, Close}
-use Rattle.atspi_routing.specs.declared.closing.Closing.{Closing}
-use Rattle.atspi_routing.specs.Queues as queues
+use Rattle.atspi_match.specs.declared.routing.closing.Closing.{Closing}
+use Rattle.atspi_match.specs.routing.Queues as queues
 use Rattle.atspi_bus.specs.declared.bus.Bus.{Bus}
 use Rattle.atspi_live_bus.specs.Asked.{Asked, taking, Runs}
 use Rattle.atspi_live_bus.specs.Closes.{AreShut, AreTaken, Attends, Follows, IsShut, Parts}

@@ -6,8 +6,8 @@ use Rattle.atspi_auth.specs.declared.said.AuthLine.{AuthLine}
 use Rattle.atspi_auth.specs.declared.stage.Stage.TheVariants.{Over}
 use Rattle.atspi_message.specs.Envelope.{Envelope}
 use Rattle.atspi_stream.specs.Stream.{IsParted}
-use Rattle.atspi_routing.specs.Queues.{empty_bus}
-use Rattle.atspi_routing.specs.Queues as queues
+use Rattle.atspi_match.specs.routing.Queues.{empty_bus}
+use Rattle.atspi_match.specs.routing.Queues as queues
 use Rattle.atspi_host.specs.declared.call.Call.{Call}
 use Rattle.atspi_host.specs.Calls.{taken, given}
 use Rattle.atspi_live_bus.specs.Asked.{Asked, Runs, Spends, messages_of, handed_to}

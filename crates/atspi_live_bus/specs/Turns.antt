@@ -5,8 +5,8 @@ use Rattle.atspi_auth.specs.declared.said.AuthLine.{AuthLine}
 use Rattle.atspi_auth.specs.declared.stage.Stage.TheVariants.{Over}
 use Rattle.atspi_message.specs.Envelope.{Envelope}
 use Rattle.atspi_stream.specs.Stream.{AwaitsMore, IsParted}
-use Rattle.atspi_routing.specs.Queues.{empty_bus, joins, queue_of}
-use Rattle.atspi_routing.specs.Queues as queues
+use Rattle.atspi_match.specs.routing.Queues.{empty_bus, joins, queue_of}
+use Rattle.atspi_match.specs.routing.Queues as queues
 use Rattle.atspi_bus.specs.declared.bus.Bus.{Bus}
 use Rattle.atspi_bus.specs.View.{bus_of, given_of}
 use Rattle.atspi_host.specs.declared.call.Call.{Call}

@@ -3,7 +3,7 @@
 ghost use Rattle.std.specs.Prelude.{◌≡◌, ◌<◌, ◌≤◌, ◌==◌, [], length, position, true, false, IsTrue, IfErr, IfOk, IfSome, MatchResult, OnOk};
 ghost use lib.Dec.{leb};
 ghost use Rattle.std.specs.List.{remove};
-ghost use Rattle.atspi_routing.specs.Queues.{empty_bus};
+ghost use Rattle.atspi_match.specs.routing.Queues.{empty_bus};
 ghost use Rattle.atspi_bus.specs.View.{bus_of, given_of};
 ghost use Rattle.atspi_host.specs.Calls.{Adds, Differ};
 ghost use Rattle.atspi_host.specs.declared.call.Call.{Call};

@@ -8,8 +8,8 @@ use Rattle.atspi_auth.specs.declared.fault.AuthFault.TheVariants.{NoZero}
 use Rattle.atspi_auth.specs.declared.stage.Stage.TheVariants.{Over}
 use Rattle.atspi_message.specs.Envelope.{Envelope}
 use Rattle.atspi_match.specs.declared.condition.Condition.{Condition}
-use Rattle.atspi_routing.specs.declared.closing.Closing.{Closing}
-use Rattle.atspi_routing.specs.Queues.{Bus, empty_bus, leaves, queue_of, takes}
+use Rattle.atspi_match.specs.declared.routing.closing.Closing.{Closing}
+use Rattle.atspi_match.specs.routing.Queues.{Bus, empty_bus, leaves, queue_of, takes}
 use Rattle.atspi_bus_steps.specs.Spoken.{IsRuleTaken}
 use Rattle.atspi_host.specs.Calls.{IsOpen, given, taken}
 use Rattle.atspi_host.specs.declared.call.Did.{Did}

@@ -3,7 +3,7 @@
 ghost use Rattle.std.specs.Prelude.{◌≡◌, ◌<◌, ◌≤◌, ◌∷◌, ℕ, List, [], Option};
 ghost use Rattle.atspi_message.specs.Envelope.{Envelope};
 ghost use Rattle.atspi_match.specs.declared.condition.Condition.{Condition};
-ghost use Rattle.atspi_routing.specs.Queues.{Bus, joins, leaves, queue_of, takes};
+ghost use Rattle.atspi_match.specs.routing.Queues.{Bus, joins, leaves, queue_of, takes};
 ghost use Rattle.atspi_queues.specs.Change.{with_queue};
 ghost use Rattle.atspi_bus_steps.specs.Limits.{IsTooBig};
 ghost use Rattle.atspi_bus_steps.specs.Spoken.{IsRuleTaken};

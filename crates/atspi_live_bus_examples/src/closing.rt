@@ -7,7 +7,7 @@ ghost use Rattle.atspi_auth.specs.Talk.{behind, server_start};
 ghost use Rattle.atspi_host.specs.declared.call.Call.{Call};
 ghost use Rattle.atspi_host.specs.declared.call.Did.{Did};
 ghost use Rattle.atspi_stream.specs.Stream.{bytes_of};
-ghost use Rattle.atspi_routing.specs.declared.closing.Closing.{Closing};
+ghost use Rattle.atspi_match.specs.declared.routing.closing.Closing.{Closing};
 ghost use Rattle.atspi_live_bus.specs.Asked.{leaving, messages_of, taking};
 ghost use Rattle.atspi_live_bus.specs.Cases.{two_conns};
 ghost use Rattle.atspi_live_bus.specs.Closes.{AreShut, AreTaken, Ceases, FollowsRead, FollowsWrite, IsBad, IsLost, IsRest, Parts};

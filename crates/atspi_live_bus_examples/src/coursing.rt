@@ -4,8 +4,8 @@ ghost use Rattle.std.specs.Prelude.{◌≡◌, ◌∷◌, ◌++◌, ℕ, List, [
 ghost use Rattle.atspi_message.specs.Envelope.{Envelope};
 ghost use Rattle.atspi_host.specs.declared.call.Call.{Call};
 ghost use Rattle.atspi_host.specs.declared.call.Did.{Did};
-ghost use Rattle.atspi_routing.specs.declared.closing.Closing.{Closing};
-ghost use Rattle.atspi_routing.specs.Queues.{Bus};
+ghost use Rattle.atspi_match.specs.declared.routing.closing.Closing.{Closing};
+ghost use Rattle.atspi_match.specs.routing.Queues.{Bus};
 ghost use Rattle.atspi_live_bus.specs.Asked.{Asked, Leads, joining, leaving, popping, taking, telling};
 ghost use Rattle.atspi_live_bus.specs.Cases.{one_link, two_links};
 ghost use Rattle.atspi_live_bus.specs.Course.{Accepts, AreHandings, AreTellings, Course, HandsOut, IsCourse, IsHanding, IsTelling, Steps, start, told_all};

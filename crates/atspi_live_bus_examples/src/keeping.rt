@@ -10,7 +10,7 @@ ghost use Rattle.atspi_bus.specs.View.{bus_of, given_of};
 ghost use Rattle.atspi_host.specs.Calls.{taken};
 ghost use Rattle.atspi_host.specs.declared.call.Call.{Call};
 ghost use Rattle.atspi_host.specs.declared.call.Did.{Did};
-ghost use Rattle.atspi_routing.specs.Queues as queues;
+ghost use Rattle.atspi_match.specs.routing.Queues as queues;
 ghost use Rattle.atspi_live_bus.specs.Asked.{joining, taking};
 ghost use Rattle.atspi_live_bus.specs.Cases.{one_link, two_conns};
 ghost use Rattle.atspi_live_bus.specs.Closes.{IsLost};

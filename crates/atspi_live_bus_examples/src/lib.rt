@@ -6,6 +6,7 @@ mod asking;
 mod closing;
 mod coursing;
 mod keeping;
+pub mod limits;
 mod rounding;
 mod seating;
 mod turning;

@@ -6,7 +6,7 @@ ghost use Rattle.atspi_auth.specs.declared.stage.Stage.TheVariants.{Over};
 ghost use Rattle.atspi_host.specs.Calls.{given, taken};
 ghost use Rattle.atspi_host.specs.declared.call.Call.{Call};
 ghost use Rattle.atspi_host.specs.declared.call.Did.{Did};
-ghost use Rattle.atspi_routing.specs.Queues.{queue_of};
+ghost use Rattle.atspi_match.specs.routing.Queues.{queue_of};
 ghost use Rattle.atspi_live_bus.specs.Closes.{FollowsRead, FollowsWrite};
 ghost use Rattle.atspi_live_bus.specs.Course.{Course, HandsOut, IsCourse, start};
 ghost use Rattle.atspi_live_bus.specs.Due.{HasAllGiven};

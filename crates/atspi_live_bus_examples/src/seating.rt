@@ -5,7 +5,7 @@ ghost use Rattle.atspi_message.specs.Envelope.{Envelope};
 ghost use Rattle.atspi_auth.specs.declared.stage.Stage.TheVariants.{Over};
 ghost use Rattle.atspi_host.specs.declared.call.Call.{Call};
 ghost use Rattle.atspi_host.specs.declared.call.Did.{Did};
-ghost use Rattle.atspi_routing.specs.Queues.{Bus, queue_of};
+ghost use Rattle.atspi_match.specs.routing.Queues.{Bus, queue_of};
 ghost use Rattle.atspi_live_bus.specs.Asked.{Leads, joining, popping, taking, telling};
 ghost use Rattle.atspi_live_bus.specs.Course.{Course, start};
 ghost use Rattle.atspi_live_bus.specs.Seats.{AreAbove, AreLeft, Dismisses, HasAccepted, HasSent, Leaves, MayTake, Rise, Settles, Settling, Stands, Takes, TakesAll, TakesCut, TakesNone, TakesOne, TakesSome, Waited, Writes, conn_at, due, held, left, number_at, numbers_of, seats, without_seat};

@@ -1,5 +1,4 @@
-pub mod Rounds
-pub mod Asked
-pub mod Paced
-pub mod Waiting
-pub mod Granted
+pub mod OfApp
+pub mod OfReader
+pub mod OfRegistry
+pub mod OfConversation

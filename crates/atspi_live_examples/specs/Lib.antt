@@ -1,1 +1,5 @@
-pub mod Lines
+pub mod app
+pub mod reader
+pub mod registry
+pub mod conversation
+pub mod due

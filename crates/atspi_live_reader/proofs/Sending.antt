@@ -9,7 +9,7 @@ use Rattle.atspi_forest.specs.declared.news.News.{News}
 use Rattle.atspi_forest.specs.declared.news.Reference.{Reference}
 use Rattle.atspi_forest.specs.Forest.{Forest}
 use Rattle.atspi_speech.specs.Speech.{closing_lines, lines}
-use Rattle.atspi_valid_names.specs.Names.{is_bus_name, is_unique_name}
+use Rattle.atspi_base.specs.valid_names.Names.{is_bus_name, is_unique_name}
 use Rattle.atspi_protocol.specs.declared.news.part.PartName.{PartName}
 use Rattle.atspi_protocol.specs.news.Arguments.{signature_of}
 use Rattle.atspi_protocol.specs.news.NewsOf.{news_of, or_empty}

@@ -7,7 +7,7 @@ use Rattle.std.proofs.lemmas.Grind.{flat_map-append}
 use Rattle.atspi_arena.specs.Sights.{Sight, sights}
 use Rattle.atspi_forest.specs.Forest.{Forest}
 use Rattle.atspi_forest.specs.declared.view.Row.{Row}
-use Rattle.atspi_play.specs.Playing.{shown_sight, view_rows}
+use Rattle.atspi_trace.specs.play.Playing.{shown_sight, view_rows}
 use Rattle.atspi_conversation.specs.declared.ending.Ending.{Ending}
 use Rattle.atspi_conversation.specs.declared.ending.Ending.TheVariants as endings
 use Rattle.atspi_protocol.specs.following.ReaderState.{ReaderState}

@@ -2,7 +2,7 @@
 use Rattle.std.specs.Prelude.{ℕ, List, [], ◌∷◌, ◌++◌, Option, None, Some, codes}
 use Rattle.std.specs.List.{flat_map}
 use Rattle.atspi_events.specs.declared.shown.ShownRow.{ShownRow}
-use Rattle.atspi_play.specs.Playing.{view_rows}
+use Rattle.atspi_trace.specs.play.Playing.{view_rows}
 use Rattle.atspi_rows_text.specs.RowsText.{rows_text}
 use Rattle.atspi_protocol.specs.following.ReaderState.{ReaderState}
 use Rattle.atspi_protocol.specs.following.Takes.{held_names, held_view}

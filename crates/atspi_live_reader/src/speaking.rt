@@ -8,11 +8,11 @@ ghost use Rattle.atspi_live_reader.specs.Handed.{GivesRest, GivesSo, HandsAll, H
 ghost use Rattle.atspi_live_reader.specs.declared.handed.Handed.{Handed};
 
 use crate::handed::Handed;
+use atspi_base::valid_names::BusName;
 use atspi_base::{Bytes, NoMemory, Text, put_quoted};
 use atspi_message::Message;
 use atspi_protocol::following::ReaderEvent;
 use atspi_reader::Reader;
-use atspi_valid_names::BusName;
 
 /// Appends the line of what is spoken about an application.
 fn put_line(name: &BusName, text: &Text, lines: &mut Bytes) -> Result<(), NoMemory>

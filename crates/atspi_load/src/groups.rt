@@ -6,9 +6,9 @@ ghost use Rattle.std.specs.Option.{option_map};
 ghost use Rattle.atspi_load.specs.Shared.{grouped, is_below, is_lower, shared};
 
 use crate::own::is_bus;
+use atspi_base::valid_names::Path;
 use atspi_base::{NoMemory, Text};
 use atspi_forest::Item;
-use atspi_valid_names::Path;
 use std::alloc::Global;
 use std::collections::HashMap;
 

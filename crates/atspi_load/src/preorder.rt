@@ -9,9 +9,9 @@ ghost use Rattle.atspi_load.specs.Shared.{grouped, is_below, reached_items, shar
 use crate::groups::{groups, is_path, push_if};
 use crate::own::own_items;
 use crate::sorted::last_first;
+use atspi_base::valid_names::Path;
 use atspi_base::{NoMemory, Text};
 use atspi_forest::Item;
-use atspi_valid_names::Path;
 use std::alloc::Global;
 use std::collections::HashMap;
 

@@ -12,7 +12,7 @@ use Rattle.atspi_base.proofs.TextLemmas.{whole as text_whole}
 use Rattle.atspi_base.specs.declared.text.TextFault.{TextFault}
 use Rattle.atspi_base.specs.declared.text.TextFault.TheVariants.{Zero, Utf8}
 use Rattle.atspi_base.specs.declared.text.TextFault.TheVariants.{NoMemory as TextNoMemory}
-use Rattle.atspi_valid_names.specs.Names.{IsPath, is_path}
+use Rattle.atspi_base.specs.valid_names.Names.{IsPath, is_path}
 use Rattle.atspi_types.specs.Kinds.{Num, width, number_alignment, Kind, number, boolean, text, path, signature, array, structure, variant, dictionary, Kinds, no_kinds, kind, kinds_of, types_in, alignment, IsBasic, IsLawful, AreLawful}
 use Rattle.atspi_types.specs.Signatures.{signature_bytes, IsSignature}
 use Rattle.atspi_types.specs.Data.{Data, number_data, boolean_data, text_data, path_data, signature_data, array_data, structure_data, variant_data, dictionary_data, Items, no_items, item, items_of, values_in, Entries}
@@ -29,7 +29,7 @@ use Rattle.atspi_types.proofs.SignatureLaws.{signature_in-again}
 use Rattle.atspi_marshal.proofs.Levels.{dictionary_is}
 use Rattle.atspi_marshal.proofs.Entries.{structs_of, entries-structs, entry_spellings-structs, entries_fit}
 use Rattle.atspi_marshal.proofs.Sound.{entry_lawful, all_lawful}
-use Rattle.atspi_valid_names.proofs.NameLemmas.{is_path-from_IsPath}
+use Rattle.atspi_base.proofs.OfValidNames.NameLemmas.{is_path-from_IsPath}
 
 -- tools
 

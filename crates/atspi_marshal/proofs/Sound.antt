@@ -9,7 +9,7 @@ use Rattle.atspi_base.proofs.TextLemmas.{text_is}
 use Rattle.atspi_base.specs.declared.text.TextFault.{TextFault}
 use Rattle.atspi_base.specs.declared.text.TextFault.TheVariants.{Zero, Utf8}
 use Rattle.atspi_base.specs.declared.text.TextFault.TheVariants.{NoMemory as TextNoMemory}
-use Rattle.atspi_valid_names.specs.Names.{IsPath, is_path}
+use Rattle.atspi_base.specs.valid_names.Names.{IsPath, is_path}
 use Rattle.atspi_types.specs.Kinds.{Num, width, number_alignment, Kind, number, boolean, text, path, signature, array, structure, variant, dictionary, Kinds, no_kinds, kind, kinds_of, types_in, alignment, IsBasic, IsLawful, AreLawful}
 use Rattle.atspi_types.specs.Signatures.{signature_bytes, IsSignature}
 use Rattle.atspi_types.specs.Data.{Data, number_data, boolean_data, text_data, path_data, signature_data, array_data, structure_data, variant_data, dictionary_data, Items, no_items, item, items_of}
@@ -25,7 +25,7 @@ use Rattle.atspi_marshal.proofs.Places.{done, IsBytes, IsValid, Room, bind_ok, o
 use Rattle.atspi_types.proofs.SignatureLaws.{signature_in-read}
 use Rattle.atspi_marshal.proofs.Levels.{dictionary_is}
 use Rattle.atspi_marshal.proofs.Entries.{structs_of, structs-entries, entry_spellings-structs, all_entries_fit}
-use Rattle.atspi_valid_names.proofs.NameLemmas.{IsPath-from_test}
+use Rattle.atspi_base.proofs.OfValidNames.NameLemmas.{IsPath-from_test}
 
 -- what a reader of an item takes
 pub record Takes (i : Input) (levels : ℕ) (k : Kind) (b : Bound) (at : ℕ) (x : Data × ℕ) : Type 0 where

@@ -6,7 +6,7 @@ use Rattle.std.proofs.Math.Seq.{take-length}
 use Rattle.std.proofs.lemmas.List.{append-nil, length-append}
 use Rattle.std.proofs.lemmas.Str.{scalars-chars}
 use Rattle.atspi_base.specs.Text.{HasNoZero}
-use Rattle.atspi_valid_names.specs.Names.{IsPath}
+use Rattle.atspi_base.specs.valid_names.Names.{IsPath}
 use Rattle.atspi_types.specs.Kinds.{Num, width, number_alignment, Kind, number, text, path}
 use Rattle.atspi_types.specs.Data.{Data, number_data, text_data, path_data, type_of}
 use Rattle.atspi_types.specs.declared.fault.Order.{Order}

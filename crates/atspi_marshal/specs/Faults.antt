@@ -4,7 +4,7 @@ use Rattle.std.specs.Prelude.{◌≡◌, ◌≢◌, ℕ, zero, suc, ◌+◌, ◌
 use Rattle.std.specs.Int.{w32}
 use Rattle.std.specs.Int.{byte_len}
 use Rattle.std.specs.Str.Lossy.{utf8_valid_len}
-use Rattle.atspi_valid_names.specs.Names.{IsPath}
+use Rattle.atspi_base.specs.valid_names.Names.{IsPath}
 use Rattle.atspi_types.specs.Kinds.{Num, width, Kind, number, boolean, text, path, signature, array, structure, variant, dictionary, Kinds, no_kinds, kind, types_in, alignment}
 use Rattle.atspi_types.specs.Data.{Data, Items}
 use Rattle.atspi_types.specs.Signatures.{signature_bytes, IsSignature}

@@ -6,7 +6,7 @@ use Rattle.atspi_base.specs.ReadsText.{text_in}
 use Rattle.atspi_base.specs.declared.text.TextFault.{TextFault}
 use Rattle.atspi_base.specs.declared.text.TextFault.TheVariants.{Zero, Utf8}
 use Rattle.atspi_base.specs.declared.text.TextFault.TheVariants.{NoMemory as TextNoMemory}
-use Rattle.atspi_valid_names.specs.Names.{is_path}
+use Rattle.atspi_base.specs.valid_names.Names.{is_path}
 use Rattle.atspi_types.specs.Kinds.{Num, byte, i16, u16, i32, u32, i64, u64, double, width, number_alignment, Kind, number, boolean, text, path, signature, array, structure, variant, dictionary, Kinds, no_kinds, kind, kinds_of, types_in, alignment}
 use Rattle.atspi_types.specs.Data.{Data, number_data, boolean_data, text_data, path_data, signature_data, array_data, structure_data, variant_data, dictionary_data, Items, no_items, item, items_of, Entries, no_entries, entry}
 use Rattle.atspi_types.specs.SignatureReading.{signature_in}

@@ -11,9 +11,9 @@ ghost use Rattle.atspi_marshal.specs.Reading.{input_of, Gives, FaultsBy, long_pl
 
 use crate::input::{Bound, Marshalled, bad, byte_at, slice, u32_at};
 use crate::plain::room;
+use atspi_base::valid_names::{NameFault, Path};
 use atspi_base::{Text, TextFault};
 use atspi_types::{ReadFault, Signature, Value};
-use atspi_valid_names::{NameFault, Path};
 use std::alloc::Global;
 
 /// The place of a length of 32 bits whose bytes, and the zero byte behind them, are inside the bound.

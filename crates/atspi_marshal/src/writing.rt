@@ -13,9 +13,9 @@ mod fault;
 mod plain;
 pub mod steps;
 
+use atspi_base::valid_names::Path;
 use atspi_base::{Bytes, Text};
 use atspi_types::{Order, Pairs, Run, Signature, Ty, Value, ValueRef, Values};
-use atspi_valid_names::Path;
 pub use fault::WriteFault;
 use plain::{
     begin_array, end_array, length_place, put_bytes, put_counted, put_padded, put_padding,

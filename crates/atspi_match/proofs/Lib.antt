@@ -23,3 +23,4 @@ pub mod NarrowLemmas
 pub mod NotedLemmas
 pub mod SlotLemmas
 pub mod IndexedLemmas
+pub mod OfRouting

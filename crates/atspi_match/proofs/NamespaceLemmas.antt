@@ -3,9 +3,9 @@ use Rattle.std.proofs.Common.{◌≡◌, ℕ, List, [], ◌∷◌, Bool, true, f
 use Rattle.std.specs.Prelude.{IsTrue}
 use Rattle.std.specs.List.{list_all, AllByRecursion}
 use Rattle.std.proofs.lemmas.Bool.{and_parts, and_from, both_ways}
-use Rattle.atspi_valid_names.specs.Elements.{may_begin, may_follow, is_element}
-use Rattle.atspi_valid_names.specs.Names.{IsElement}
-use Rattle.atspi_valid_names.specs.declared.elements.Form.TheVariants.{WellKnown}
+use Rattle.atspi_base.specs.valid_names.Elements.{may_begin, may_follow, is_element}
+use Rattle.atspi_base.specs.valid_names.Names.{IsElement}
+use Rattle.atspi_base.specs.declared.valid_names.elements.Form.TheVariants.{WellKnown}
 
 each_from : (p : ℕ → Bool) (xs : List ℕ) → list_all p xs ≡ true → AllByRecursion (λ x. IsTrue (p x)) xs
 each_from p [] e = tt

@@ -11,9 +11,9 @@ use Rattle.std.specs.Str.{IsAscii}
 use Rattle.std.proofs.lemmas.Str.{chars-encodes, scalars-chars, IsUtf8-from_ascii}
 use Rattle.atspi_base.specs.Text.{IsTextBytes}
 use Rattle.atspi_base.proofs.TextLemmas.{encodes_again}
-use Rattle.atspi_valid_names.specs.Names.{IsBusName, IsInterface, IsMember, IsPath, is_bus_name, is_interface, is_member, is_path}
-use Rattle.atspi_valid_names.specs.Elements.{are_elements, are_two_or_more, parts_of}
-use Rattle.atspi_valid_names.proofs.NameLemmas.{IsBusName-from_test, IsInterface-from_test, IsMember-from_test, IsPath-from_test}
+use Rattle.atspi_base.specs.valid_names.Names.{IsBusName, IsInterface, IsMember, IsPath, is_bus_name, is_interface, is_member, is_path}
+use Rattle.atspi_base.specs.valid_names.Elements.{are_elements, are_two_or_more, parts_of}
+use Rattle.atspi_base.proofs.OfValidNames.NameLemmas.{IsBusName-from_test, IsInterface-from_test, IsMember-from_test, IsPath-from_test}
 use Rattle.atspi_match.specs.Conditions.{rank, key_text, IsCondition, IsText, IsNamespace, AreRising, has_rank, IsRule}
 use Rattle.atspi_match.specs.Keys.{key_of, key_rank, IsKey, key_in, has_rival, key_refusal}
 use Rattle.atspi_match.specs.RuleFaults.{IsUnknown, IsRival}

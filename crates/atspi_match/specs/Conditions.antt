@@ -4,8 +4,8 @@ use Rattle.std.specs.Cmp.Lexicographic.{pointwise}
 use Rattle.std.specs.List.{AllByRecursion, list_any}
 use Rattle.std.specs.Str.{all_scalars}
 use Rattle.atspi_base.specs.Text.{IsTextBytes}
-use Rattle.atspi_valid_names.specs.Names.{IsBusName, IsInterface, IsMember, IsPath, IsElement}
-use Rattle.atspi_valid_names.specs.declared.elements.Form.TheVariants.{WellKnown}
+use Rattle.atspi_base.specs.valid_names.Names.{IsBusName, IsInterface, IsMember, IsPath, IsElement}
+use Rattle.atspi_base.specs.declared.valid_names.elements.Form.TheVariants.{WellKnown}
 use Rattle.atspi_match.specs.declared.condition.MessageType.{MessageType}
 use Rattle.atspi_match.specs.declared.condition.MessageType.TheVariants.{Signal, MethodCall, MethodReturn, Error}
 use Rattle.atspi_match.specs.declared.condition.Condition.{Condition}

@@ -13,3 +13,4 @@ pub mod Noted
 pub mod RuleGroups
 pub mod Counts
 pub mod Slots
+pub mod routing

@@ -1,7 +1,7 @@
 -- Which messages a match rule asks for (D-Bus Specification, "Match Rules"). Names, paths and texts are compared by their bytes.
 use Rattle.std.specs.Prelude.{◌≡◌, ◌⊎◌, ℕ, false, List, [], ◌∷◌, ◌++◌, All, Option, None, Some, IsSomeAnd, option_and_then, slice_get, encode_utf8_all}
 use Rattle.std.specs.FinMap as finmap
-use Rattle.atspi_valid_names.specs.Names.{is_unique_name}
+use Rattle.atspi_base.specs.valid_names.Names.{is_unique_name}
 use Rattle.atspi_types.specs.Data.{Data, text_data, path_data}
 use Rattle.atspi_message.specs.Envelope.{Envelope}
 use Rattle.atspi_names.specs.Queue.{owner_in}

@@ -7,8 +7,8 @@ ghost use Rattle.atspi_match.specs.Conditions.{rank, type_text, value_text};
 ghost use Rattle.atspi_match.specs.Matching.{type_number};
 ghost use Rattle.atspi_match.specs.Conditions.{same_condition};
 
+use atspi_base::valid_names::{BusName, Interface, Member, Path};
 use atspi_base::{NoMemory, Text};
-use atspi_valid_names::{BusName, Interface, Member, Path};
 use std::alloc::Global;
 
 /// The type of message that a condition asks for.

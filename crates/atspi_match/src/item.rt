@@ -12,7 +12,7 @@ use crate::key::{Key, read_key};
 use crate::runs::{count_blanks, count_word};
 use crate::value::{ValueFault, read_value};
 use crate::value_of_key::read_condition;
-use atspi_valid_names::NameFault;
+use atspi_base::valid_names::NameFault;
 use std::alloc::{AllocFailed, Global};
 
 /// A condition, and how many bytes of the text are its item.

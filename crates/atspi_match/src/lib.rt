@@ -11,6 +11,7 @@ mod matching;
 mod near;
 mod printing;
 mod reading;
+pub mod routing;
 mod rule;
 mod rule_groups;
 mod rule_index;

@@ -8,10 +8,10 @@ ghost use Rattle.atspi_match.specs.Matching as matching;
 ghost use Rattle.atspi_match.specs.Matching.{Matches, Holds, GoesBy, Owns, BeginsWith, EndsInSlash, IsWithin, IsPathWithin, IsSameBranch};
 
 use crate::{Condition, Rule};
+use atspi_base::valid_names::BusName;
 use atspi_cursor::Item;
 use atspi_header::MessageRef;
 use atspi_names::Names;
-use atspi_valid_names::BusName;
 
 impl Rule {
     /// Whether the message meets each condition of the rule (D-Bus Specification, "Match Rules"). The owners of well-known

@@ -6,14 +6,14 @@ ghost use Rattle.atspi_match.specs.Keys.{IsKey, key_of, NoCondition};
 ghost use Rattle.atspi_match.specs.declared.condition.MessageType.{MessageType};
 ghost use Rattle.std.specs.Prelude.{Bool};
 ghost use Rattle.std.specs.List.{list_all};
-ghost use Rattle.atspi_valid_names.specs.Elements.{may_follow};
-ghost use Rattle.atspi_valid_names.specs.Elements as elements;
-ghost use Rattle.atspi_valid_names.specs.declared.elements.Form.TheVariants as Form;
+ghost use Rattle.atspi_base.specs.valid_names.Elements.{may_follow};
+ghost use Rattle.atspi_base.specs.valid_names.Elements as elements;
+ghost use Rattle.atspi_base.specs.declared.valid_names.elements.Form.TheVariants as Form;
 
 use crate::key::{Key, is};
 use crate::{Condition, MessageType};
+use atspi_base::valid_names::{BusName, Interface, Member, NameFault, Path};
 use atspi_base::{Text, TextFault};
-use atspi_valid_names::{BusName, Interface, Member, NameFault, Path};
 use std::alloc::Global;
 
 /// The type of message that has this name.

@@ -1,10 +1,10 @@
 //! Which messages a rule matches, and who receives them.
 
 use crate::made::{lent, signal_of};
+use atspi_base::valid_names::BusName;
 use atspi_base::{Nums, Steps};
 use atspi_match::{Rule, RuleAdd, RuleIndex};
 use atspi_names::Names;
-use atspi_valid_names::BusName;
 use std::alloc::Global;
 use std::process::Abort;
 use std::test::*;

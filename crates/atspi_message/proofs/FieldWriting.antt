@@ -5,7 +5,7 @@ use Rattle.std.specs.Str.{all_scalars}
 use Rattle.std.proofs.lemmas.List.{append-nil, length-append}
 use Rattle.std.proofs.lemmas.Str.{IsUtf8-from_ascii, chars-IsAscii, scalars-chars}
 use Rattle.atspi_base.specs.Text.{HasNoZero}
-use Rattle.atspi_valid_names.specs.Names.{IsPath}
+use Rattle.atspi_base.specs.valid_names.Names.{IsPath}
 use Rattle.atspi_types.specs.Kinds.{Kind, number, text, path, signature, byte, u32}
 use Rattle.atspi_types.specs.Data.{Data, number_data, text_data, path_data}
 use Rattle.atspi_types.specs.Signatures.{signature_bytes, IsSignature}

@@ -10,11 +10,11 @@ use Rattle.atspi_base.specs.Text.{bytes_before_zero, HasNoZero}
 use Rattle.atspi_base.specs.ReadsText.{text_in}
 use Rattle.atspi_base.specs.declared.text.TextFault.{TextFault}
 use Rattle.atspi_base.proofs.TextLemmas.{whole}
-use Rattle.atspi_valid_names.specs.Elements.{is_plain, may_begin, may_follow, is_element, in_front, parts_of}
-use Rattle.atspi_valid_names.specs.Names.{IsElement, AreElements, IsInterface, IsMember, HasBusElements, IsBusName}
-use Rattle.atspi_valid_names.specs.declared.elements.Form.{Form}
-use Rattle.atspi_valid_names.specs.declared.elements.Form.TheVariants.{Path, Interface, WellKnown, Unique}
-use Rattle.atspi_valid_names.proofs.NameLemmas.{IsAscii-IsInterface, IsAscii-IsMember, IsAscii-IsBusName, IsInterface-from_test, IsMember-from_test, IsBusName-from_test, is_interface-from_IsInterface, is_member-from_IsMember, is_bus_name-from_IsBusName}
+use Rattle.atspi_base.specs.valid_names.Elements.{is_plain, may_begin, may_follow, is_element, in_front, parts_of}
+use Rattle.atspi_base.specs.valid_names.Names.{IsElement, AreElements, IsInterface, IsMember, HasBusElements, IsBusName}
+use Rattle.atspi_base.specs.declared.valid_names.elements.Form.{Form}
+use Rattle.atspi_base.specs.declared.valid_names.elements.Form.TheVariants.{Path, Interface, WellKnown, Unique}
+use Rattle.atspi_base.proofs.OfValidNames.NameLemmas.{IsAscii-IsInterface, IsAscii-IsMember, IsAscii-IsBusName, IsInterface-from_test, IsMember-from_test, IsBusName-from_test, is_interface-from_IsInterface, is_member-from_IsMember, is_bus_name-from_IsBusName}
 use Rattle.atspi_message.specs.declared.code.Code.{Code}
 use Rattle.atspi_message.specs.declared.code.Code.TheVariants as codes
 use Rattle.atspi_message.specs.Codes.{IsText, IsNameFor}

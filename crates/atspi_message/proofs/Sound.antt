@@ -7,7 +7,7 @@ use Rattle.std.proofs.lemmas.List.{length-drop}
 use Rattle.atspi_types.specs.Kinds.{Kind, Kinds, no_kinds, kind, types_in, u32, array, AreLawful}
 use Rattle.atspi_types.specs.Data.{Data, Items, number_data, text_data, path_data, signature_data, array_data, item, no_items, items_of, types_of, AreWellTyped}
 use Rattle.atspi_types.specs.Signatures.{IsSignature, signature_bytes}
-use Rattle.atspi_valid_names.specs.Names.{IsPath, IsInterface, IsMember, IsBusName}
+use Rattle.atspi_base.specs.valid_names.Names.{IsPath, IsInterface, IsMember, IsBusName}
 use Rattle.atspi_types.specs.declared.fault.Fault.{Fault}
 use Rattle.atspi_types.specs.declared.fault.Order.{Order}
 use Rattle.atspi_types.specs.declared.fault.Order.TheVariants.{Little, Big}

@@ -11,10 +11,10 @@ use Rattle.atspi_base.specs.declared.text.TextFault.{TextFault}
 use Rattle.atspi_base.specs.declared.text.TextFault.TheVariants.{Zero, Utf8}
 use Rattle.atspi_base.specs.declared.text.TextFault.TheVariants.{NoMemory as TextNoMemory}
 use Rattle.atspi_types.specs.Kinds.{Kind, Kinds, kinds_of, number, text, path, signature, u32, IsLawful}
-use Rattle.atspi_valid_names.specs.Names.{IsPath, is_path}
+use Rattle.atspi_base.specs.valid_names.Names.{IsPath, is_path}
 use Rattle.atspi_types.specs.Data.{Data, number_data, text_data, path_data, signature_data}
 use Rattle.atspi_types.specs.declared.fault.Fault.{Fault}
-use Rattle.atspi_valid_names.proofs.NameLemmas.{IsPath-from_test}
+use Rattle.atspi_base.proofs.OfValidNames.NameLemmas.{IsPath-from_test}
 use Rattle.atspi_marshal.specs.declared.input.Bound.{Bound}
 use Rattle.atspi_marshal.specs.Input.{Input, number_in, byte_in, aligned}
 use Rattle.atspi_types.specs.SignatureReading.{signature_in}

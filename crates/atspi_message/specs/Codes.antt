@@ -1,7 +1,7 @@
 -- The known fields of a header (D-Bus Specification, "Header Fields").
 use Rattle.std.specs.Prelude.{ℕ, ◌==◌, Option, Some, None, List, if◌then◌else◌}
 use Rattle.atspi_types.specs.Kinds.{Kind, number, text, path, signature, u32}
-use Rattle.atspi_valid_names.specs.Names.{IsPath, IsInterface, IsMember, IsBusName}
+use Rattle.atspi_base.specs.valid_names.Names.{IsPath, IsInterface, IsMember, IsBusName}
 use Rattle.atspi_message.specs.declared.code.Code.{Code}
 use Rattle.atspi_message.specs.declared.code.Code.TheVariants.{Path, Interface, Member, Error, Reply, Destination, Sender, Signature, Descriptors}
 

@@ -1,7 +1,7 @@
 -- Reading a message from left to right, with the first fault that is met: a plain program on lists.
 use Rattle.std.specs.Prelude.{◌≡◌, ℕ, zero, suc, ◌+◌, List, [], ◌∷◌, length, Option, Some, None, Result, Ok, Err, Bool, true, false, nat_lt, ◌&&◌, ◌==◌, if◌then◌else◌}
 use Rattle.std.specs.Int.{w32}
-use Rattle.atspi_valid_names.specs.Names.{is_path, is_interface, is_member, is_bus_name}
+use Rattle.atspi_base.specs.valid_names.Names.{is_path, is_interface, is_member, is_bus_name}
 use Rattle.atspi_types.specs.Kinds.{Kind, Kinds, variant, no_kinds, kind, types_in, u32}
 use Rattle.atspi_types.specs.Data.{Data, number_data, text_data, path_data, signature_data}
 use Rattle.atspi_types.specs.declared.fault.Fault.{Fault}

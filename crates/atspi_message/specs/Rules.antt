@@ -1,7 +1,7 @@
 -- The rules that a message meets (D-Bus Specification, "Message Types" and "Header Fields").
 use Rattle.std.specs.Prelude.{◌≡◌, ◌≢◌, ◌<◌, ◌^◌, ℕ, Option, Some, None, IsSome, IfSome}
 use Rattle.atspi_types.specs.Data.{items_of, AreWellTyped}
-use Rattle.atspi_valid_names.specs.Names.{IsPath, IsInterface, IsMember, IsBusName}
+use Rattle.atspi_base.specs.valid_names.Names.{IsPath, IsInterface, IsMember, IsBusName}
 use Rattle.atspi_message.specs.Envelope.{Envelope}
 
 -- A call has a path and a member; a return the serial that it replies to; an error its name and that serial; a signal a

@@ -13,9 +13,9 @@ ghost use Rattle.atspi_message.specs.FieldsView.{found_of, signature_value};
 
 use crate::code::{Code, code_of, letter_of};
 use crate::name::{bus_name, interface, member, path};
+use atspi_base::valid_names::{BusName, Interface, Member, Path};
 use atspi_marshal::{Bound, Marshalled, bad, byte_at, room, short, signature_at, u32_at, value};
 use atspi_types::{ReadFault, Signature, Ty, Value};
-use atspi_valid_names::{BusName, Interface, Member, Path};
 use std::alloc::Global;
 
 /// The known fields of a header, as far as they were read.

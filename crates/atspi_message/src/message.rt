@@ -4,8 +4,8 @@ ghost use Rattle.std.specs.Prelude.{◌≡◌, IfOk};
 ghost use Rattle.atspi_message.specs.Envelope.{envelope_of};
 
 use atspi_base::NoMemory;
+use atspi_base::valid_names::{BusName, Interface, Member, Path};
 use atspi_types::{Order, Values};
-use atspi_valid_names::{BusName, Interface, Member, Path};
 use std::alloc::Global;
 
 /// A message (D-Bus Specification, "Message Protocol"): the order of its bytes, the fields of its header, and the values of

@@ -8,9 +8,9 @@ ghost use Rattle.atspi_marshal.specs.Reading.{input_of, Gives};
 ghost use Rattle.atspi_message.specs.Reading.{name_body_at, name_at};
 ghost use Rattle.atspi_message.specs.declared.code.Code.TheVariants.{Path as PathCode, Interface as InterfaceCode, Member as MemberCode, Error as ErrorCode, Destination as DestinationCode, Sender as SenderCode};
 
+use atspi_base::valid_names::{BusName, Interface, Member, NameFault, Path};
 use atspi_marshal::{Bound, Marshalled, bad, byte_at, long, slice, u32_at};
 use atspi_types::ReadFault;
-use atspi_valid_names::{BusName, Interface, Member, NameFault, Path};
 use std::alloc::Global;
 
 /// A path whose length stands at a place.

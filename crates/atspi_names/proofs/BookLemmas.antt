@@ -17,7 +17,7 @@ use Rattle.std.proofs.lemmas.Map.Entries.{option_filter, lookup-filter-values}
 use Rattle.std.proofs.lemmas.Map.Made.{lookup-map_values}
 use Rattle.std.specs.FinMap as finmap
 use Rattle.std.proofs.lemmas.Bool.{and_parts}
-use Rattle.atspi_valid_names.specs.Names.{is_unique_name}
+use Rattle.atspi_base.specs.valid_names.Names.{is_unique_name}
 use Rattle.std.specs.FinMap.{contains_key-keys, is_sorted, entries_sorted, get-entries, get-from_entries, get-insert, get-remove, get-empty, same_map, nat_cmp-IsAntisymmetric}
 use Rattle.std.specs.FinMap.Entries.{below_all, find, where_key, find-where_key, is_sorted-where_key, same_entries}
 use Rattle.atspi_names.specs.Queue.{stands, without, with_flags, requested, released, owner_in, owns, IsRequestAnswer, request_change}

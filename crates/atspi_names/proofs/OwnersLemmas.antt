@@ -7,7 +7,7 @@ use Rattle.std.specs.Cmp.Lexicographic.{slice_cmp}
 use Rattle.std.specs.BTreeMap.{is_at}
 use Rattle.std.specs.FinMap as finmap
 use Rattle.std.specs.FinMap.{FinMap, get-empty, get-insert, get-remove}
-use Rattle.atspi_valid_names.specs.Names.{is_unique_name}
+use Rattle.atspi_base.specs.valid_names.Names.{is_unique_name}
 use Rattle.atspi_names.specs.Queue.{requested, without}
 use Rattle.atspi_names.specs.Owners.{Lists, Owners, list_of, with_list, lists_without, unique_name, NoneTooEarly}
 use Rattle.atspi_names.proofs.BookLemmas.{list_of-with_list, list_of-lists_without, by_test, same_name, same_conn}

@@ -8,11 +8,11 @@ use Rattle.std.specs.List.{list_all}
 use Rattle.std.specs.Char.{is_ascii_digit}
 use Rattle.std.specs.Fmt.{decimal}
 use Rattle.std.proofs.lemmas.Fmt.{decimal_by_steps, length-decimal-le, decimal_injective}
-use Rattle.atspi_valid_names.specs.Elements.{parts_of, is_element, are_elements, are_two_or_more, may_follow}
-use Rattle.atspi_valid_names.specs.declared.elements.Form.TheVariants.{Unique}
-use Rattle.atspi_valid_names.specs.Names.{is_bus_name, ReadsName}
-use Rattle.atspi_valid_names.specs.declared.fault.NameFault.{NameFault}
-use Rattle.atspi_valid_names.specs.declared.fault.NameFault.TheVariants.{Form}
+use Rattle.atspi_base.specs.valid_names.Elements.{parts_of, is_element, are_elements, are_two_or_more, may_follow}
+use Rattle.atspi_base.specs.declared.valid_names.elements.Form.TheVariants.{Unique}
+use Rattle.atspi_base.specs.valid_names.Names.{is_bus_name, ReadsName}
+use Rattle.atspi_base.specs.declared.valid_names.fault.NameFault.{NameFault}
+use Rattle.atspi_base.specs.declared.valid_names.fault.NameFault.TheVariants.{Form}
 use Rattle.atspi_names.specs.Owners.{unique_name, own_name}
 
 -- one digit or more

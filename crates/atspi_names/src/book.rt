@@ -14,7 +14,7 @@ use crate::queue::owns_in;
 use crate::standings::Standings;
 use crate::{NameList, OwnerChange};
 use atspi_base::NoMemory;
-use atspi_valid_names::BusName;
+use atspi_base::valid_names::BusName;
 use std::alloc::Global;
 use std::collections::BTreeSet;
 use std::marker::Model;

@@ -10,7 +10,7 @@ ghost use Rattle.std.specs.FinMap as finmap;
 use crate::queue::{Queue, owner_in, stands_in};
 use crate::{NameList, OwnerChange};
 use atspi_base::NoMemory;
-use atspi_valid_names::BusName;
+use atspi_base::valid_names::BusName;
 use std::alloc::Global;
 use std::collections::BTreeMap;
 use std::marker::Model;

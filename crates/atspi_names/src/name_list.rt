@@ -3,7 +3,7 @@
 ghost use Rattle.std.specs.Prelude.{◌≡◌, [], ◌∷◌, ◌++◌, length, OnOk, OnErr};
 
 use atspi_base::NoMemory;
-use atspi_valid_names::BusName;
+use atspi_base::valid_names::BusName;
 use std::alloc::Global;
 use std::marker::Model;
 

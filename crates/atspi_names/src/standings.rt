@@ -7,7 +7,7 @@ ghost use Rattle.std.specs.BTreeMap.{Updates, IsUnchanged};
 ghost use Rattle.atspi_names.specs.Standings.{notes, has_name, SetsNote, SameNotes, SameNames, ForgetsConnection};
 
 use atspi_base::NoMemory;
-use atspi_valid_names::BusName;
+use atspi_base::valid_names::BusName;
 use std::alloc::Global;
 use std::collections::{BTreeMap, BTreeSet};
 

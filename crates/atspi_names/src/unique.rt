@@ -4,7 +4,7 @@ ghost use Rattle.std.specs.Prelude.{◌≡◌, IfOk};
 ghost use Rattle.atspi_names.specs.Owners as owners;
 
 use atspi_base::NoMemory;
-use atspi_valid_names::{BusName, NameFault};
+use atspi_base::valid_names::{BusName, NameFault};
 use std::alloc::Global;
 
 /// The unique name `:1.n`.

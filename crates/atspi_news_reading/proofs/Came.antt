@@ -6,8 +6,8 @@ use Rattle.std.specs.Prelude.{option_and_then}
 use Rattle.atspi_types.specs.Kinds.{Kind, number, text, path, variant, i32, u32}
 use Rattle.atspi_types.specs.Data.{Data, number_data, text_data, path_data, array_data, structure_data, variant_data, items_of, type_of}
 use Rattle.atspi_types.proofs.DataLemmas.{values_in-items_of}
-use Rattle.atspi_valid_names.specs.Names.{IsPath, is_path}
-use Rattle.atspi_valid_names.proofs.NameLemmas.{is_path-from_IsPath}
+use Rattle.atspi_base.specs.valid_names.Names.{IsPath, is_path}
+use Rattle.atspi_base.proofs.OfValidNames.NameLemmas.{is_path-from_IsPath}
 use Rattle.atspi_codes.specs.Codes.{is_array, is_structure, leaf_of}
 use Rattle.atspi_cursor.specs.Items.{item_data, item_kind, elements_data}
 use Rattle.atspi_cursor.specs.declared.cursor.Item.{Item}

@@ -3,17 +3,17 @@
 ghost use Rattle.std.specs.Prelude.{◌≡◌, ◌^◌, ◌<◌, chars, length, IfOk, IfSome, IsTrue};
 ghost use Rattle.std.specs.Option.{option_map};
 ghost use Rattle.atspi_base.specs.Text.{HasNoZero};
-ghost use Rattle.atspi_valid_names.specs.Names.{is_path};
+ghost use Rattle.atspi_base.specs.valid_names.Names.{is_path};
 ghost use Rattle.atspi_cursor.specs.Items.{item_data, fields_data};
 ghost use Rattle.atspi_protocol.specs.news.Arguments.{reference_in};
 ghost use Rattle.atspi_protocol.specs.news.CacheSignals.{only_of};
 ghost use Rattle.atspi_news_reading.specs.Seen.{reference_seen, TextComes, PathComes, SignedComes, UnsignedComes, VariantComes, ReferenceComes, TextsCome, NumbersCome};
 
 use crate::borrowed::ReferenceRef;
+use atspi_base::valid_names::{NameFault, Path};
 use atspi_base::{NoMemory, Text};
 use atspi_cursor::{Elements, Fields, Item};
 use atspi_forest::Reference;
-use atspi_valid_names::{NameFault, Path};
 use std::alloc::Global;
 
 /// The next argument, where it is a text.

@@ -2,7 +2,7 @@
 
 ghost use Rattle.std.specs.Prelude.{◌^◌, ◌<◌, length, IsTrue};
 ghost use Rattle.atspi_base.specs.Text.{HasNoZero};
-ghost use Rattle.atspi_valid_names.specs.Names.{is_path};
+ghost use Rattle.atspi_base.specs.valid_names.Names.{is_path};
 
 use atspi_cursor::Elements;
 

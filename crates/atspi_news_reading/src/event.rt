@@ -2,7 +2,7 @@
 
 ghost use Rattle.std.specs.Prelude.{◌≡◌, chars, IfOk, IsTrue};
 ghost use Rattle.std.specs.Option.{option_map};
-ghost use Rattle.atspi_valid_names.specs.Names.{is_path};
+ghost use Rattle.atspi_base.specs.valid_names.Names.{is_path};
 ghost use Rattle.atspi_cursor.specs.Items.{item_data, fields_data};
 ghost use Rattle.atspi_forest.specs.declared.news.News.TheVariants.{ChildAdded, ChildRemoved, Name, Description, Inserted, Deleted, Caret};
 ghost use Rattle.atspi_protocol.specs.news.Arguments.{event_in, reference_in};

@@ -1,7 +1,7 @@
 //! The news in a message.
 
 ghost use Rattle.std.specs.Prelude.{◌≡◌, ◌∷◌, [], chars, IfOk, IsTrue};
-ghost use Rattle.atspi_valid_names.specs.Names.{is_path};
+ghost use Rattle.atspi_base.specs.valid_names.Names.{is_path};
 ghost use Rattle.atspi_cursor.specs.Items.{item_data, fields_data};
 ghost use Rattle.atspi_header.specs.Names.{fits};
 ghost use Rattle.atspi_header.specs.View.{envelope_at, bytes_of};

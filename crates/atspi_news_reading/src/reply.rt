@@ -12,11 +12,11 @@ use crate::argument::only;
 use crate::event::text_of;
 use crate::item::item;
 use atspi_base::NoMemory;
+use atspi_base::valid_names::Path;
 use atspi_cursor::{Elements, Fields, Item};
 use atspi_forest::{Items, News};
 use atspi_header::MessageRef;
 use atspi_protocol::news::PartName;
-use atspi_valid_names::Path;
 use std::alloc::Global;
 
 /// Whether the body is one list of items, by its signature.

@@ -93,7 +93,7 @@ pub fn index_in_parent(tree: &Tree, node: u32) -> i32
 }
 
 /// The root of the registry, which is the parent of each root.
-#[tactic(auto, unfolding(atspi_valid_names::specs::Names::is_path, atspi_valid_names::specs::Elements::are_elements, atspi_valid_names::specs::Elements::parts_of))]
+#[tactic(auto, unfolding(atspi_base::specs::valid_names::Names::is_path, atspi_base::specs::valid_names::Elements::are_elements, atspi_base::specs::valid_names::Elements::parts_of))]
 fn registry_root(alloc: Global) -> Result<Value, NoMemory>
     ensures { IfOk result (λ value. data_of value ≡ parent_of [] None) }
 {

@@ -72,7 +72,7 @@ pub fn reference_or_null(alloc: Global, bus: &Text, node: Option<u32>) -> Result
 }
 
 /// The node that is none.
-#[tactic(auto, unfolding(atspi_valid_names::specs::Names::is_path, atspi_valid_names::specs::Elements::are_elements, atspi_valid_names::specs::Elements::parts_of))]
+#[tactic(auto, unfolding(atspi_base::specs::valid_names::Names::is_path, atspi_base::specs::valid_names::Elements::are_elements, atspi_base::specs::valid_names::Elements::parts_of))]
 fn null_reference(alloc: Global, bus: &Text) -> Result<Value, NoMemory>
     ensures { IfOk result (λ value. data_of value ≡ numbered_or_null bus.now None) }
 {

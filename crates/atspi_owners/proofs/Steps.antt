@@ -8,7 +8,7 @@ use Rattle.std.specs.Cmp.Lexicographic.{slice_cmp}
 use Rattle.std.specs.BTreeMap.{is_at}
 use Rattle.std.specs.FinMap as finmap
 use Rattle.std.specs.FinMap.{FinMap, get-empty, get-insert, get-remove}
-use Rattle.atspi_valid_names.specs.Names.{is_unique_name}
+use Rattle.atspi_base.specs.valid_names.Names.{is_unique_name}
 use Rattle.atspi_names.specs.Queue.{requested, released, without, owner_in}
 use Rattle.atspi_names.specs.Owners.{Lists, Owners, list_of, with_list, lists_without, unique_name, NoneTooEarly, nobody, after_hello, after_request, after_release, after_gone}
 use Rattle.atspi_names.proofs.BookLemmas.{list_here, list_of-with_list, list_of-lists_without, by_test, same_conn, other_conn, same_name}

@@ -2,7 +2,7 @@
 
 ghost use Rattle.std.specs.Prelude.{◌≡◌, ◌<◌, ◌^◌, ◌↔◌, ℕ, List, false, None, Some};
 ghost use Rattle.std.specs.FinMap.{get};
-ghost use Rattle.atspi_valid_names.specs.Names.{is_unique_name};
+ghost use Rattle.atspi_base.specs.valid_names.Names.{is_unique_name};
 ghost use Rattle.atspi_names.specs.Queue.{owner_in};
 ghost use Rattle.atspi_names.specs.Owners.{Owners, list_of, unique_name, nobody, after_hello, after_request, after_release, after_gone};
 ghost use Rattle.atspi_owners.specs.Orderly.{IsOrderly};

@@ -8,8 +8,8 @@ use Rattle.std.specs.Borrow.{Bor}
 use Rattle.atspi_types.specs.Kinds.{Kind, Kinds, kinds_of}
 use Rattle.atspi_types.specs.Signatures.{signature_bytes, FitsSignature, IsSignature}
 use Rattle.atspi_types.specs.Data.{Data, items_of, types_of}
-use Rattle.atspi_valid_names.specs.Names.{is_path, is_interface, is_member, is_bus_name, IsPath, IsInterface, IsMember, IsBusName}
-use Rattle.atspi_valid_names.proofs.NameLemmas.{IsPath-from_test, IsInterface-from_test, IsMember-from_test, IsBusName-from_test}
+use Rattle.atspi_base.specs.valid_names.Names.{is_path, is_interface, is_member, is_bus_name, IsPath, IsInterface, IsMember, IsBusName}
+use Rattle.atspi_base.proofs.OfValidNames.NameLemmas.{IsPath-from_test, IsInterface-from_test, IsMember-from_test, IsBusName-from_test}
 use Rattle.atspi_types.specs.declared.fault.Order.{Order}
 use Rattle.atspi_marshal.specs.declared.writing.fault.WriteFault.{WriteFault}
 use Rattle.atspi_marshal.specs.declared.writing.fault.WriteFault.TheVariants as faults

@@ -3,7 +3,7 @@
 ghost use Rattle.std.specs.Prelude.{◌≡◌, ◌<◌, ◌≤◌, ◌+◌, ◌++◌, length, take, IsTrue};
 ghost use Rattle.atspi_types.specs.Kinds.{number, text, path, u32};
 ghost use Rattle.atspi_types.specs.Data.{number_data, text_data, path_data, items_of, AreWellTyped};
-ghost use Rattle.atspi_valid_names.specs.Names.{is_path};
+ghost use Rattle.atspi_base.specs.valid_names.Names.{is_path};
 ghost use Rattle.atspi_types.specs.declared.fault.Order.{Order};
 ghost use Rattle.atspi_marshal.specs.Input.{aligned};
 ghost use Rattle.atspi_marshal.specs.Spelling.{counted, counted_short};

@@ -14,7 +14,7 @@ use Rattle.atspi_trace.specs.Hearing.{is_answered, patterns_in, registers, rules
 use Rattle.atspi_trace.specs.Causes.{asks}
 use Rattle.atspi_lawful_settled.specs.settled.Laws.{question_of}
 use Rattle.atspi_lawful.proofs.OfOrder.Parties.{false_true, all_append}
-use Rattle.atspi_play.specs.Playing.{silent}
+use Rattle.atspi_trace.specs.play.Playing.{silent}
 use Rattle.atspi_played.proofs.Facts.{Waits, IsLate, InOrder, NeverFailed, IsStarting, KnowsNothing, IsStarted, IsNamed, AsksWell}
 use Rattle.atspi_played.proofs.AskingWords.{all_weaker, all_of_test, test_of_all, any_front}
 use Rattle.atspi_played.proofs.AskingStarts.{starts_may, in_start}

@@ -21,8 +21,8 @@ use Rattle.atspi_lawful.proofs.OfOrder.Allowed.{Asks}
 use Rattle.atspi_lawful.proofs.OfOrder.Effects.{take_is}
 use Rattle.atspi_lawful.proofs.OfOrder.Frame.{at_changed}
 use Rattle.atspi_lawful.proofs.OfSteps.Trees.{fold_append}
-use Rattle.atspi_play.specs.Playing.{silent}
-use Rattle.atspi_play.specs.Plays.{asked_with, asked}
+use Rattle.atspi_trace.specs.play.Playing.{silent}
+use Rattle.atspi_trace.specs.play.Plays.{asked_with, asked}
 use Rattle.atspi_played.proofs.Facts.{Ground, RepliesWell, AreDistinct, AsksWell, SeesWell}
 use Rattle.atspi_played.proofs.AskingTakes.{NoCalls, before_asking, took_message}
 use Rattle.atspi_played.proofs.AskingGoes.{SendsNone, SendsOne, goes, apps_same, idle_after}

@@ -3,7 +3,7 @@ use Rattle.std.proofs.Common.{◌≡◌, ◌⊎◌, inl, inr, ℕ, Bool, true, f
 use Rattle.std.specs.Prelude.{bytes_eq, filter, flat_map, not, ◌&&◌, ◌||◌, ◌==◌, if◌then◌else◌}
 use Rattle.std.specs.List.{AllByRecursion, list_any}
 use Rattle.std.proofs.lemmas.Bool.{eqb-true, and_parts}
-use Rattle.atspi_valid_names.specs.Names.{is_bus_name, is_unique_name}
+use Rattle.atspi_base.specs.valid_names.Names.{is_bus_name, is_unique_name}
 use Rattle.atspi_forest.specs.declared.news.News.{News}
 use Rattle.atspi_forest.specs.declared.news.Reference.{Reference}
 use Rattle.atspi_forest.specs.declared.view.Row.{Row}
@@ -22,7 +22,7 @@ use Rattle.atspi_speech.specs.Speech.{lines, closing_lines}
 use Rattle.atspi_protocol.specs.declared.news.part.PartName.{PartName}
 use Rattle.atspi_trace.specs.World.{Asked, Holding, Hearer, World}
 use Rattle.atspi_trace.specs.Hearing.{answered_by, question_returned, registry_after, names_told, child_name}
-use Rattle.atspi_play.specs.Playing.{silent}
+use Rattle.atspi_trace.specs.play.Playing.{silent}
 use Rattle.atspi_lawful.proofs.OfOrder.Parties.{no_none, all_append}
 use Rattle.atspi_played.proofs.Facts.{RepliesWell, KnowsNothing, IsStarted, IsNamed, AreDistinct, AsksWell}
 use Rattle.atspi_played.proofs.AskingWords.{all_filter, any_back, bytes_same, KeepsName, changed_all, changed_distinct, filter_distinct, made_all, made_distinct}

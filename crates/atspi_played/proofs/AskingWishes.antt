@@ -4,7 +4,7 @@ use Rattle.std.specs.Prelude.{bytes_eq, flat_map, filter, not, if◌then◌else�
 use Rattle.std.specs.List.{AllByRecursion, list_any}
 use Rattle.std.proofs.lemmas.Bool.{and_from}
 use lib.Utf8.{encode}
-use Rattle.atspi_valid_names.specs.Names.{is_bus_name, is_path}
+use Rattle.atspi_base.specs.valid_names.Names.{is_bus_name, is_path}
 use Rattle.atspi_forest.specs.declared.view.Row.{Row}
 use Rattle.atspi_forest.specs.Forest.{Forest, labels}
 use Rattle.atspi_lines.specs.declared.deed.Deed.{Deed}
@@ -19,7 +19,7 @@ use Rattle.atspi_protocol.specs.following.Wishes.{is_refused, unknown_parts, row
 use Rattle.atspi_trace.specs.World.{Hearer}
 use Rattle.atspi_trace.specs.Hearing.{question_in, is_registered, is_listening}
 use Rattle.atspi_trace.specs.Causes.{asks, first_hearer}
-use Rattle.atspi_play.specs.Playing.{silent}
+use Rattle.atspi_trace.specs.play.Playing.{silent}
 use Rattle.atspi_played.proofs.Facts.{KnowsNothing, IsStarted, IsNamed, AsksWell}
 use Rattle.atspi_played.proofs.AskingWords.{all_both, all_flat}
 use Rattle.atspi_played.proofs.AskingGoes.{IsWish, sent_well, idle_after}

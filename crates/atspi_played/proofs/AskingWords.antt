@@ -4,7 +4,7 @@ use Rattle.std.specs.Prelude.{bytes_eq, filter, flat_map, not, ◌&&◌, ◌||�
 use Rattle.std.specs.List.{AllByRecursion, fold, list_all, list_any}
 use Rattle.std.proofs.lemmas.Bool.{and_parts}
 use Rattle.std.proofs.lemmas.Slice.Eq.{bytes_eq-Decides}
-use Rattle.atspi_valid_names.specs.Names.{is_bus_name}
+use Rattle.atspi_base.specs.valid_names.Names.{is_bus_name}
 use Rattle.atspi_forest.specs.declared.news.Reference.{Reference}
 use Rattle.atspi_protocol.specs.following.ReaderState.{Followed, is_named}
 use Rattle.atspi_protocol.specs.following.Known.{unasked, made_known}

@@ -2,8 +2,8 @@
 use Rattle.std.proofs.Common.{◌≡◌, ℕ, zero, suc, ◌<◌, ◌≤◌, Bool, true, false, List, [], ◌∷◌, length, Option, None, Some, refl, sym, ap, ◌∙◌, subst, arith, cond}
 use Rattle.std.specs.Prelude.{filter, if◌then◌else◌}
 use Rattle.atspi_lines.specs.declared.line.Party.{Party}
-use Rattle.atspi_routing.specs.Queues.{without_queue}
-use Rattle.atspi_routing.specs.Steps.{bus_leaves}
+use Rattle.atspi_match.specs.routing.Queues.{without_queue}
+use Rattle.atspi_match.specs.routing.Steps.{bus_leaves}
 use Rattle.atspi_trace.specs.World.{Standing, here, stopped, away, Said, End, World}
 use Rattle.atspi_trace.specs.Ends.{is_here, end_at, with_end, leaves}
 use Rattle.atspi_trace.specs.Carrying.{own_letter, Carried, left, takes_end}

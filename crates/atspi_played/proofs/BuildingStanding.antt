@@ -12,7 +12,7 @@ use Rattle.atspi_trace.specs.Causes.{took, taken, on_end, at_end}
 use Rattle.atspi_trace.specs.Due.{asks_as, asks_at}
 use Rattle.atspi_lawful.proofs.OfOrder.Frame.{Over, IsOrder, over_same, over_both, over_with}
 use Rattle.atspi_lawful.proofs.OfOrder.Effects.{received}
-use Rattle.atspi_play.specs.Plays.{asked, asked_with}
+use Rattle.atspi_trace.specs.play.Plays.{asked, asked_with}
 
 asks_stands : (m : Envelope) (question : Question) (e : End) (role : Role) → (asks_as role m question e).standing ≡ e.standing
 asks_stands m question e (a_reader h) = refl

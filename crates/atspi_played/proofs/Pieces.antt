@@ -23,9 +23,9 @@ use Rattle.atspi_trace.specs.Due.{freed, asks_at, IsSettled}
 use Rattle.atspi_lawful.specs.laws.NineLaws.{Everywhere}
 use Rattle.atspi_lawful_settled.specs.settled.Laws.{AsksOfNode, NothingWaits}
 use Rattle.atspi_lawful.proofs.OfOrder.Allowed.{IsHere, Allowed, Moves, Asks}
-use Rattle.atspi_play.specs.Playing.{Playing, silent, held_by, unique_in, view_rows}
-use Rattle.atspi_play.specs.Plays.{told}
-use Rattle.atspi_play.specs.Played.{if_viewed}
+use Rattle.atspi_trace.specs.play.Playing.{Playing, silent, held_by, unique_in, view_rows}
+use Rattle.atspi_trace.specs.play.Plays.{told}
+use Rattle.atspi_trace.specs.play.Played.{if_viewed}
 use Rattle.atspi_played.proofs.Facts.{Ground, RepliesWell, SerialsDiffer, InOrder, AsksWell, SeesWell, WantsWell, Tied, AllTied}
 
 -- a letter is at the front of the down link of a reader that is here

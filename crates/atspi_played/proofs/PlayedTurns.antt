@@ -22,13 +22,13 @@ use Rattle.atspi_trace.specs.Due.{is_lost, asks_at}
 use Rattle.atspi_lawful.specs.order.Scripts.{CanStand, CanAllStand}
 use Rattle.atspi_lawful.proofs.OfOrder.Growing.{Shaped, Nothing, And}
 use Rattle.atspi_lawful_ends.proofs.OfNames.Bounds.{Bounded, bounds_keep}
-use Rattle.atspi_play.specs.Playing.{Playing, Happened}
-use Rattle.atspi_play.specs.Plays.{asked_with, asked, only, reader_got, got_at, got_by, plays}
-use Rattle.atspi_play.specs.Played.{PlaysOut, at_rest, caused, IsPlayed, did}
+use Rattle.atspi_trace.specs.play.Playing.{Playing, Happened}
+use Rattle.atspi_trace.specs.play.Plays.{asked_with, asked, only, reader_got, got_at, got_by, plays}
+use Rattle.atspi_trace.specs.play.Played.{PlaysOut, at_rest, caused, IsPlayed, did}
 use Rattle.atspi_played.proofs.AllPieces.{pieces}
 use Rattle.atspi_played.proofs.Playing.{played_stage, is_lawful}
 use Rattle.atspi_played.proofs.PlayingStage.{ground}
-use Rattle.atspi_play.specs.Breaking.{PlayedTurns}
+use Rattle.atspi_trace.specs.play.Breaking.{PlayedTurns}
 use Rattle.atspi_played.specs.Turns.{count_taken, IsUnspent}
 use Rattle.atspi_played.proofs.LawFew.{turns_are_few}
 use Rattle.atspi_played.proofs.TurnsTaken.{TurnOf, bus_takes_, end_leaves, end_takes, turn_of, is_stopped, stopped_count, at_most, over_fewer, all_fewer, Takes, got_does, turn_does, asked_fewer, count_more}

@@ -19,9 +19,9 @@ use Rattle.atspi_lawful.proofs.OfOrder.Allowed.{IsHere, Moves, NextFine}
 use Rattle.atspi_lawful.proofs.OfOrder.Next.{next_fine}
 use Rattle.atspi_lawful.proofs.OfOrder.Each.{no_entries}
 use Rattle.atspi_lines.specs.declared.limits.TheConstants.{QUOTA_MOST}
-use Rattle.atspi_play.specs.Playing.{Playing, Happened, held_by, unique_in, view_in, first_playing}
-use Rattle.atspi_play.specs.Plays.{only, reader_got, got_at, got_by, plays}
-use Rattle.atspi_play.specs.Played.{if_viewed, refused, PlaysOut, at_rest, caused, IsPlayed, begun, did}
+use Rattle.atspi_trace.specs.play.Playing.{Playing, Happened, held_by, unique_in, view_in, first_playing}
+use Rattle.atspi_trace.specs.play.Plays.{only, reader_got, got_at, got_by, plays}
+use Rattle.atspi_trace.specs.play.Played.{if_viewed, refused, PlaysOut, at_rest, caused, IsPlayed, begun, did}
 use Rattle.atspi_played.specs.Laws.{PlayedIsLawful, RefusalsAgree}
 use Rattle.atspi_played.proofs.Facts.{AllTied}
 use Rattle.atspi_played.proofs.Pieces.{Pieces}

@@ -15,10 +15,10 @@ use Rattle.atspi_lawful.proofs.OfOrder.Allowed.{NextFine}
 use Rattle.atspi_lawful.proofs.OfOrder.Frame.{Over, IsOrder, over_same, over_with}
 use Rattle.atspi_lawful.proofs.OfOrder.Next.{next_fine}
 use Rattle.atspi_lawful.proofs.OfOrder.Parties.{same_some}
-use Rattle.atspi_play.specs.Playing.{Playing}
-use Rattle.atspi_play.specs.Plays.{plays}
-use Rattle.atspi_play.specs.Played.{refused, IsPlayed}
-use Rattle.atspi_play.specs.Breaking.{PlaysOn, so_far, caused, IsAtWork, does_next, IsLostAt, IsSpentAt}
+use Rattle.atspi_trace.specs.play.Playing.{Playing}
+use Rattle.atspi_trace.specs.play.Plays.{plays}
+use Rattle.atspi_trace.specs.play.Played.{refused, IsPlayed}
+use Rattle.atspi_trace.specs.play.Breaking.{PlaysOn, so_far, caused, IsAtWork, does_next, IsLostAt, IsSpentAt}
 use Rattle.atspi_played.proofs.Pieces.{Pieces}
 use Rattle.atspi_played.proofs.Building.{wrote_some, wrote_none}
 use Rattle.atspi_played.proofs.Playing.{cause_step, stage_at, line_stage}

@@ -25,10 +25,10 @@ use Rattle.atspi_lawful.proofs.OfLost.Alive.{OnlyDrops, written_only}
 use Rattle.atspi_lawful.proofs.OfLost.Drops.{is_drop, DropsLast, cause_owes}
 use Rattle.atspi_lawful_ends.proofs.OfQuiet.Here.{Present, present_keeps}
 use Rattle.atspi_lawful_settled.proofs.OfSettled.Settling_law.{registry_is_live}
-use Rattle.atspi_play.specs.Playing.{Playing}
-use Rattle.atspi_play.specs.Plays.{plays}
-use Rattle.atspi_play.specs.Played.{refused, IsPlayed}
-use Rattle.atspi_play.specs.Breaking.{IsAtWork, does_next, IsLostAt}
+use Rattle.atspi_trace.specs.play.Playing.{Playing}
+use Rattle.atspi_trace.specs.play.Plays.{plays}
+use Rattle.atspi_trace.specs.play.Played.{refused, IsPlayed}
+use Rattle.atspi_trace.specs.play.Breaking.{IsAtWork, does_next, IsLostAt}
 use Rattle.atspi_played.proofs.Pieces.{Pieces}
 use Rattle.atspi_played.proofs.BuildingCourse.{kept_so}
 use Rattle.atspi_played.proofs.Playing.{line_stage}

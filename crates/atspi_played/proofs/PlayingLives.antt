@@ -14,11 +14,11 @@ use Rattle.atspi_trace.specs.Due.{is_lost}
 use Rattle.atspi_lawful.proofs.OfOrder.Allowed.{MovedUp, MovedDown, Moves, IsBare, bare-work, NextFine}
 use Rattle.atspi_lawful.proofs.OfOrder.Frame.{Over, IsOrder, over_same, over_both, over_with}
 use Rattle.atspi_lawful.proofs.OfOrder.Next.{next_fine}
-use Rattle.atspi_play.specs.Playing.{Playing}
-use Rattle.atspi_play.specs.Plays.{reader_got, got_at, got_by, plays}
-use Rattle.atspi_play.specs.Played.{PlaysOut, at_rest, caused}
-use Rattle.atspi_play.specs.Breaking as breaking
-use Rattle.atspi_play.specs.Breaking.{PlaysOn, so_far}
+use Rattle.atspi_trace.specs.play.Playing.{Playing}
+use Rattle.atspi_trace.specs.play.Plays.{reader_got, got_at, got_by, plays}
+use Rattle.atspi_trace.specs.play.Played.{PlaysOut, at_rest, caused}
+use Rattle.atspi_trace.specs.play.Breaking as breaking
+use Rattle.atspi_trace.specs.play.Breaking.{PlaysOn, so_far}
 use Rattle.atspi_played.proofs.BuildingStanding.{gets_over, out_over}
 use Rattle.atspi_played.proofs.BuildingFading.{Fades, fading, as_it_stands, IsTurn, IsQuietTurn, turn_over, here_before}
 use Rattle.atspi_played.proofs.BuildingFuel.{is_turn}

@@ -17,7 +17,7 @@ use Rattle.atspi_lawful.proofs.OfOrder.Effects.{effect}
 use Rattle.atspi_lawful.proofs.OfOrder.Growing.{Shaped, Nothing, shaped_keeps}
 use Rattle.atspi_lawful.proofs.OfOrder.Next.{next_fine}
 use Rattle.atspi_lawful.proofs.OfOrder.Shape.{Shape}
-use Rattle.atspi_play.specs.Playing.{Playing}
+use Rattle.atspi_trace.specs.play.Playing.{Playing}
 use Rattle.atspi_played.proofs.Facts.{Ground, Tied, AllTied}
 use Rattle.atspi_played.proofs.Pieces.{Pieces, IsOther, Skips}
 use Rattle.atspi_played.proofs.Building.{Midway, go_on, wrote_some, wrote_none}

@@ -28,8 +28,8 @@ use Rattle.atspi_lawful.proofs.OfOrder.Plain.{user_plain}
 use Rattle.atspi_lawful.proofs.OfOrder.Shape.{RoleFits, Shape}
 use Rattle.atspi_lawful.proofs.OfOrder.Shaped.{new_reader}
 use Rattle.atspi_lawful_ends.proofs.OfReaders.Fates.{hello_read}
-use Rattle.atspi_play.specs.Playing.{Playing, Happened, silent, held_by, unique_in, view_in, view_rows}
-use Rattle.atspi_play.specs.Plays.{only, with_reader, plays}
+use Rattle.atspi_trace.specs.play.Playing.{Playing, Happened, silent, held_by, unique_in, view_in, view_rows}
+use Rattle.atspi_trace.specs.play.Plays.{only, with_reader, plays}
 use Rattle.atspi_played.proofs.Facts.{SeesWell, Tied}
 use Rattle.atspi_played.proofs.Pieces.{Pieces, Skips}
 use Rattle.atspi_played.proofs.PlayingEnds.{NoReader, Apart, untouched_same}

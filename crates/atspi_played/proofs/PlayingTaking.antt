@@ -23,8 +23,8 @@ use Rattle.atspi_trace.specs.Work.{Work, cause, next_of}
 use Rattle.atspi_trace.specs.Due.{is_lost, asks_as, asks_at}
 use Rattle.atspi_lawful.proofs.OfOrder.Allowed.{IsBare, NextFine, bare-work}
 use Rattle.atspi_lawful.proofs.OfOrder.Effects.{received}
-use Rattle.atspi_play.specs.Playing.{Playing, silent}
-use Rattle.atspi_play.specs.Plays.{told, asked, asked_with, reader_did}
+use Rattle.atspi_trace.specs.play.Playing.{Playing, silent}
+use Rattle.atspi_trace.specs.play.Plays.{told, asked, asked_with, reader_did}
 use Rattle.atspi_played.proofs.Facts.{Ground, RepliesWell, SerialsDiffer, SeesWell, Tied}
 use Rattle.atspi_played.proofs.Pieces.{Pieces, IsTaking, IsNoCall, spoken, AsksNone, AsksOne, Skips}
 use Rattle.atspi_played.proofs.Building.{Behind, go_on, asks_behind, wrote_some}

@@ -11,7 +11,7 @@ use Rattle.atspi_lawful_settled.specs.settled.Laws.{AsksOfNode}
 use Rattle.atspi_lawful.proofs.OfOrder.Parties.{same_some}
 use Rattle.atspi_lawful.proofs.OfOrder.Frame.{with_cases, with_length, joined_cases}
 use Rattle.atspi_lawful.proofs.OfOrder.Shape.{Shape, counts}
-use Rattle.atspi_play.specs.Playing.{Playing}
+use Rattle.atspi_trace.specs.play.Playing.{Playing}
 use Rattle.atspi_played.proofs.Facts.{Tied, AllTied}
 use Rattle.atspi_played.proofs.PlayingEnds.{Untouched}
 use Rattle.atspi_played.proofs.PlayingLists.{set_here, set_other, set_length, got_more, got_last, one_longer}

@@ -2,7 +2,7 @@
 use Rattle.std.proofs.Common.{◌≡◌, ◌⊎◌, inl, inr, ℕ, ◌+◌, ◌≤◌, false, List, [], ◌∷◌, ◌++◌, length, Option, None, Some, refl, sym, ap, ◌∙◌, subst, arith}
 use Rattle.std.specs.Prelude.{nat_lt}
 use Rattle.atspi_lines.specs.declared.line.Party.TheVariants.{Reader}
-use Rattle.atspi_routing.specs.BusState.{OpenCall}
+use Rattle.atspi_match.specs.routing.BusState.{OpenCall}
 use Rattle.atspi_trace.specs.World.{here, Hearer, a_reader, Said, Letter, End, World}
 use Rattle.atspi_trace.specs.Ends.{end_at, with_end}
 use Rattle.atspi_lawful.proofs.OfOrder.Parties.{same_some}

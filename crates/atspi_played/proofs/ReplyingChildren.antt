@@ -9,7 +9,7 @@ use Rattle.atspi_lines.specs.declared.line.Line.{Line}
 use Rattle.atspi_lines.specs.declared.line.Party.TheVariants.{Bus as The_bus, Registry, App, Reader}
 use Rattle.atspi_message.specs.Envelope.{Envelope}
 use Rattle.atspi_names.specs.Owners.{own_name}
-use Rattle.atspi_routing.specs.Members.{is_text}
+use Rattle.atspi_match.specs.routing.Members.{is_text}
 use Rattle.atspi_protocol.specs.declared.following.question.Question.TheVariants.{GetChildren}
 use Rattle.atspi_protocol.specs.news.Arguments.{event_in}
 use Rattle.atspi_protocol.specs.news.NewsOf.{event_interface, or_empty}

@@ -5,10 +5,10 @@ use Rattle.std.specs.Prelude.{◌==◌, ◌&&◌}
 use Rattle.std.proofs.lemmas.Bool.{eqb-true, eq-eqb}
 use Rattle.atspi_lines.specs.declared.line.Party.{Party}
 use Rattle.atspi_message.specs.Envelope.{Envelope}
-use Rattle.atspi_routing.specs.declared.closing.Why.{Why}
-use Rattle.atspi_routing.specs.BusState.{OpenCall}
-use Rattle.atspi_routing.specs.Queues.{Bus, without_queue}
-use Rattle.atspi_routing.specs.Steps.{BusStep, bus_takes, bus_leaves}
+use Rattle.atspi_match.specs.declared.routing.closing.Why.{Why}
+use Rattle.atspi_match.specs.routing.BusState.{OpenCall}
+use Rattle.atspi_match.specs.routing.Queues.{Bus, without_queue}
+use Rattle.atspi_match.specs.routing.Steps.{BusStep, bus_takes, bus_leaves}
 use Rattle.atspi_trace.specs.Rules.{rule_in}
 use Rattle.atspi_trace.specs.World.{here, away, Standing, Said, Letter, End}
 use Rattle.atspi_trace.specs.Ends.{is_here, end_at, with_end, rest_of, taken_up, leaves}

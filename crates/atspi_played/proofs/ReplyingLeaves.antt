@@ -8,10 +8,10 @@ use Rattle.atspi_match.specs.declared.condition.Condition.{Condition}
 use Rattle.atspi_match.specs.RuleIndex.{without_rules}
 use Rattle.atspi_names.specs.Owners.{list_of, after_gone, owned_by}
 use Rattle.atspi_names.specs.Queue.{owner_in}
-use Rattle.atspi_routing.specs.BusState.{OpenCall, BusState, unique_of, name_or_empty, calls_without, waiting_for}
-use Rattle.atspi_routing.specs.OwnMessages.{error_to, name_acquired, owner_changed, numbered}
-use Rattle.atspi_routing.specs.Routing.{receivers, is_for_bus}
-use Rattle.atspi_routing.specs.Steps.{says, delivers, closes, BusStep, handed, speaks, called, undeliverable, is_unowned, calls_after_all, is_hello, greets, bus_takes, no_replies, name_passes_on, names_pass_on, farewell, bus_leaves}
+use Rattle.atspi_match.specs.routing.BusState.{OpenCall, BusState, unique_of, name_or_empty, calls_without, waiting_for}
+use Rattle.atspi_match.specs.routing.OwnMessages.{error_to, name_acquired, owner_changed, numbered}
+use Rattle.atspi_match.specs.routing.Routing.{receivers, is_for_bus}
+use Rattle.atspi_match.specs.routing.Steps.{says, delivers, closes, BusStep, handed, speaks, called, undeliverable, is_unowned, calls_after_all, is_hello, greets, bus_takes, no_replies, name_passes_on, names_pass_on, farewell, bus_leaves}
 use Rattle.atspi_lawful.proofs.OfOrder.Parties.{false_true, all_append}
 use Rattle.atspi_lawful.proofs.OfOrder.Each.{all_map}
 use Rattle.atspi_lawful_ends.proofs.OfNames.Naming.{gone_other}

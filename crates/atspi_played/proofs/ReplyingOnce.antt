@@ -6,8 +6,8 @@ use Rattle.std.proofs.lemmas.Bool.{eqb-true, eq-eqb}
 use Rattle.atspi_lines.specs.declared.limits.TheConstants.{QUOTA_MOST}
 use Rattle.atspi_lines.specs.declared.line.Line.{Line}
 use Rattle.atspi_lines.specs.declared.line.Party.TheVariants.{App}
-use Rattle.atspi_routing.specs.BusState.{OpenCall}
-use Rattle.atspi_routing.specs.Routing.{is_reply, expects_reply}
+use Rattle.atspi_match.specs.routing.BusState.{OpenCall}
+use Rattle.atspi_match.specs.routing.Routing.{is_reply, expects_reply}
 use Rattle.atspi_protocol.specs.declared.following.question.Question.TheVariants.{Hello}
 use Rattle.atspi_protocol.specs.following.Calls.{asking}
 use Rattle.atspi_protocol.specs.following.Replied.{is_reply_to}

@@ -6,9 +6,9 @@ use Rattle.std.proofs.lemmas.Slice.Eq.{bytes_eq-Decides}
 use Rattle.atspi_message.specs.Envelope.{Envelope}
 use Rattle.atspi_names.specs.Owners.{list_of}
 use Rattle.atspi_names.specs.Queue.{owner_in}
-use Rattle.atspi_routing.specs.BusState.{OpenCall, BusState, unique_of}
-use Rattle.atspi_routing.specs.Routing.{receivers, owners_of, one_or_none, is_for_bus, is_reply, expects_reply, asks_for, with_call, without_answered, calls_after}
-use Rattle.atspi_routing.specs.Steps.{delivers, BusStep, handed, replies, is_unowned, calls_after_all}
+use Rattle.atspi_match.specs.routing.BusState.{OpenCall, BusState, unique_of}
+use Rattle.atspi_match.specs.routing.Routing.{receivers, owners_of, one_or_none, is_for_bus, is_reply, expects_reply, asks_for, with_call, without_answered, calls_after}
+use Rattle.atspi_match.specs.routing.Steps.{delivers, BusStep, handed, replies, is_unowned, calls_after_all}
 use Rattle.atspi_protocol.specs.following.Replied.{is_reply_to}
 use Rattle.atspi_lawful.proofs.OfOrder.Parties.{false_true}
 use Rattle.atspi_played.proofs.ReplyingTally.{one_if, tally, tally_append, one_most, and_false, replies_to, calls_as, calls_from, replies_for, is_name, opens, opens_at, given, given_none, fewer_open, gone_open, one_gone}

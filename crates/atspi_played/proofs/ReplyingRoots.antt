@@ -17,7 +17,7 @@ use Rattle.atspi_protocol.specs.exporting.Exporter.{StartCall, hello, add_match,
 use Rattle.atspi_protocol.specs.exporting.Starting.{start_call}
 use Rattle.atspi_protocol.specs.exporting.Taking.{app_takes}
 use Rattle.atspi_protocol.specs.following.Calls.{user_call}
-use Rattle.atspi_routing.specs.Members.{is_text}
+use Rattle.atspi_match.specs.routing.Members.{is_text}
 use Rattle.atspi_protocol.specs.declared.following.question.Question.{Question}
 use Rattle.atspi_trace.specs.Entry.{Entry, sent, got}
 use Rattle.atspi_trace.specs.World.{Role, the_registry, a_reader, Hearer, Said, first_registry, first_world, End, World}

@@ -8,13 +8,13 @@ use Rattle.atspi_match.specs.declared.condition.Condition.{Condition}
 use Rattle.atspi_match.specs.RuleIndex.{is_pair, rules_of, without_first}
 use Rattle.atspi_names.specs.Owners.{Owners, list_of}
 use Rattle.atspi_names.specs.Queue.{request_change, release_change}
-use Rattle.atspi_routing.specs.declared.member.BusMember.{BusMember}
-use Rattle.atspi_routing.specs.declared.member.BusMember.TheVariants.{Hello, RequestName, ReleaseName, NameHasOwner, GetNameOwner, ListNames, ListQueuedOwners, AddMatch, RemoveMatch, GetId, Ping}
-use Rattle.atspi_routing.specs.BusState.{BusState, unique_of, name_or_empty}
-use Rattle.atspi_routing.specs.OwnMessages.{return_to, error_to, name_lost, name_acquired, owner_changed, same_owner, told_of_change, numbered}
-use Rattle.atspi_routing.specs.Answers.{Reply, returns, fails, Answer, only, answers, may_be_asked_for, first_text, second_number, requests, releases, adds_rule, removes_rule}
-use Rattle.atspi_routing.specs.Routing.{receivers, owners_of, expects_reply}
-use Rattle.atspi_routing.specs.Steps.{says, delivers, handed, speaks, replies}
+use Rattle.atspi_match.specs.declared.routing.member.BusMember.{BusMember}
+use Rattle.atspi_match.specs.declared.routing.member.BusMember.TheVariants.{Hello, RequestName, ReleaseName, NameHasOwner, GetNameOwner, ListNames, ListQueuedOwners, AddMatch, RemoveMatch, GetId, Ping}
+use Rattle.atspi_match.specs.routing.BusState.{BusState, unique_of, name_or_empty}
+use Rattle.atspi_match.specs.routing.OwnMessages.{return_to, error_to, name_lost, name_acquired, owner_changed, same_owner, told_of_change, numbered}
+use Rattle.atspi_match.specs.routing.Answers.{Reply, returns, fails, Answer, only, answers, may_be_asked_for, first_text, second_number, requests, releases, adds_rule, removes_rule}
+use Rattle.atspi_match.specs.routing.Routing.{receivers, owners_of, expects_reply}
+use Rattle.atspi_match.specs.routing.Steps.{says, delivers, handed, speaks, replies}
 use Rattle.atspi_lawful.proofs.OfOrder.Parties.{all_append}
 use Rattle.std.specs.Prelude.{◌&&◌, ◌||◌, bit_and, map}
 use Rattle.std.proofs.Common.{◌≤◌}

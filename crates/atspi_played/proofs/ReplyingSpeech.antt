@@ -9,7 +9,7 @@ use Rattle.atspi_forest.specs.RowRules.{rows}
 use Rattle.atspi_forest.specs.Tree.{after}
 use Rattle.atspi_forest.specs.declared.step.Step.{Step}
 use Rattle.atspi_message.specs.Envelope.{Envelope}
-use Rattle.atspi_routing.specs.Routing.{is_reply, expects_reply}
+use Rattle.atspi_match.specs.routing.Routing.{is_reply, expects_reply}
 use Rattle.atspi_protocol.specs.following.Replied.{is_reply_to}
 use Rattle.atspi_protocol.specs.exporting.Exporter.{Happening, steps, sends, hears as hears_of, deaf, Exporter}
 use Rattle.atspi_protocol.specs.exporting.Laws.{AddsReply, waiting_for, replies_among}

@@ -8,13 +8,13 @@ use Rattle.atspi_types.specs.Data.{text_data}
 use Rattle.atspi_message.specs.Envelope.{Envelope}
 use Rattle.atspi_match.specs.declared.condition.Condition.{Condition}
 use Rattle.atspi_names.specs.Owners.{unique_name, after_hello}
-use Rattle.atspi_routing.specs.declared.member.BusMember.{BusMember}
-use Rattle.atspi_routing.specs.BusState.{BusState, unique_of, text_or_empty}
-use Rattle.atspi_routing.specs.Answers.{returns, fails, Answer, only, answers}
-use Rattle.atspi_routing.specs.Members.{member_of}
-use Rattle.atspi_routing.specs.OwnMessages.{name_acquired, owner_changed}
-use Rattle.atspi_routing.specs.Routing.{owners_of, is_for_bus, is_reply}
-use Rattle.atspi_routing.specs.Steps.{BusStep, speaks, replies, answered, called, undeliverable, greets}
+use Rattle.atspi_match.specs.declared.routing.member.BusMember.{BusMember}
+use Rattle.atspi_match.specs.routing.BusState.{BusState, unique_of, text_or_empty}
+use Rattle.atspi_match.specs.routing.Answers.{returns, fails, Answer, only, answers}
+use Rattle.atspi_match.specs.routing.Members.{member_of}
+use Rattle.atspi_match.specs.routing.OwnMessages.{name_acquired, owner_changed}
+use Rattle.atspi_match.specs.routing.Routing.{owners_of, is_for_bus, is_reply}
+use Rattle.atspi_match.specs.routing.Steps.{BusStep, speaks, replies, answered, called, undeliverable, greets}
 use Rattle.atspi_lawful.proofs.OfOrder.Parties.{all_append}
 use Rattle.atspi_lawful_ends.proofs.OfNames.Naming.{called_same, hello_here}
 use Rattle.atspi_lawful_settled.proofs.OfSettled.ReplyingOwners.{Owned, called_owned, greets_owned}

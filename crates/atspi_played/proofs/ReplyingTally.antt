@@ -4,12 +4,12 @@ use Rattle.std.specs.Prelude.{◌==◌, ◌&&◌, bytes_eq, flat_map, if◌then�
 use Rattle.std.specs.List.{AllByRecursion, fold}
 use Rattle.std.proofs.lemmas.Bool.{eqb-true, eq-eqb}
 use Rattle.atspi_message.specs.Envelope.{Envelope}
-use Rattle.atspi_routing.specs.BusState.{OpenCall, BusState}
-use Rattle.atspi_routing.specs.OwnMessages.{numbered}
-use Rattle.atspi_routing.specs.Queues as queues
-use Rattle.atspi_routing.specs.Queues.{Waiting}
-use Rattle.atspi_routing.specs.Routing.{is_reply, expects_reply, without_answered}
-use Rattle.atspi_routing.specs.Steps.{Move, says, delivers, closes, BusStep, handed}
+use Rattle.atspi_match.specs.routing.BusState.{OpenCall, BusState}
+use Rattle.atspi_match.specs.routing.OwnMessages.{numbered}
+use Rattle.atspi_match.specs.routing.Queues as queues
+use Rattle.atspi_match.specs.routing.Queues.{Waiting}
+use Rattle.atspi_match.specs.routing.Routing.{is_reply, expects_reply, without_answered}
+use Rattle.atspi_match.specs.routing.Steps.{Move, says, delivers, closes, BusStep, handed}
 use Rattle.atspi_protocol.specs.following.Replied.{is_reply_to}
 use Rattle.atspi_trace.specs.World.{Asked, Said, Letter, End}
 use Rattle.atspi_trace.specs.Ends.{end_at, with_end, put_down}

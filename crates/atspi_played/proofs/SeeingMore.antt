@@ -8,7 +8,7 @@ use Rattle.atspi_lines.specs.declared.line.Party.TheVariants.{App, Reader}
 use Rattle.atspi_protocol.specs.declared.following.question.Question.TheVariants.{Hello, GetItems}
 use Rattle.atspi_protocol.specs.following.ReaderState.{Followed, Pending, begins as begins_reader}
 use Rattle.atspi_protocol.specs.following.Takes.{found_in, starts}
-use Rattle.atspi_play.specs.Playing.{silent}
+use Rattle.atspi_trace.specs.play.Playing.{silent}
 use Rattle.atspi_trace.specs.Entry.{Entry, got, gone}
 use Rattle.atspi_trace.specs.Ends.{reader_count}
 use Rattle.atspi_trace.specs.Causes.{starts_reader, does}

@@ -11,8 +11,8 @@ use Rattle.atspi_protocol.specs.following.Known.{told_end}
 use Rattle.atspi_protocol.specs.following.ReaderState.{ReaderState}
 use Rattle.atspi_protocol.specs.following.Takes.{reader_takes}
 use Rattle.atspi_protocol.specs.news.NewsOf.{or_empty}
-use Rattle.atspi_play.specs.Playing.{silent}
-use Rattle.atspi_play.specs.Plays.{told}
+use Rattle.atspi_trace.specs.play.Playing.{silent}
+use Rattle.atspi_trace.specs.play.Plays.{told}
 use Rattle.atspi_trace.specs.Entry.{Entry, got}
 use Rattle.atspi_trace.specs.World.{a_reader, Holding, Hearer, Letter, End, World}
 use Rattle.atspi_trace.specs.Ends.{same_party, with_end, taken_down, number_if, app_named}

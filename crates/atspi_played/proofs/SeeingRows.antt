@@ -16,7 +16,7 @@ use Rattle.atspi_forest.proofs.Relabel.{count-relabel}
 use Rattle.atspi_lines.specs.declared.line.Line.{Line}
 use Rattle.atspi_lines.specs.declared.line.Party.TheVariants.{App}
 use Rattle.atspi_message.specs.Envelope.{Envelope}
-use Rattle.atspi_play.specs.Playing.{shown_sight}
+use Rattle.atspi_trace.specs.play.Playing.{shown_sight}
 use Rattle.atspi_trace.specs.Entry.{Entry, started, changed, sent}
 use Rattle.atspi_trace.specs.World.{World}
 use Rattle.atspi_trace.specs.Causes.{shown_row, shown_rows}

@@ -9,8 +9,8 @@ use Rattle.atspi_lines.specs.declared.line.Line.{Line}
 use Rattle.atspi_lines.specs.declared.line.Party.TheVariants.{Registry, App}
 use Rattle.atspi_protocol.specs.following.ReaderState.{Followed, ReaderState}
 use Rattle.atspi_protocol.specs.following.Takes.{found_in, view_of}
-use Rattle.atspi_play.specs.Playing.{view_rows, held_by, unique_in}
-use Rattle.atspi_play.specs.Played.{if_viewed}
+use Rattle.atspi_trace.specs.play.Playing.{view_rows, held_by, unique_in}
+use Rattle.atspi_trace.specs.play.Played.{if_viewed}
 use Rattle.atspi_trace.specs.Entry.{Entry}
 use Rattle.atspi_trace.specs.World.{Holding, Hearer, End, World}
 use Rattle.atspi_trace.specs.Ends.{same_party, conn_of, end_at, end_if, end_of}

@@ -36,7 +36,7 @@ use Rattle.atspi_lawful_caches.proofs.OfCaches.LawCaches.{caches_follow}
 use Rattle.atspi_lawful_caches.proofs.OfServed.LawServed.{steps_asked}
 use Rattle.atspi_trace.specs.Causes.{told_in}
 use Rattle.atspi_lawful.proofs.OfTaken.Said.{IsLetter, TellsTree, TellsOf}
-use Rattle.atspi_play.specs.Plays.{told as told_to}
+use Rattle.atspi_trace.specs.play.Plays.{told as told_to}
 use Rattle.atspi_played.proofs.Pieces.{IsNoCall}
 use Rattle.atspi_played.proofs.SeeingLines.{due_lines}
 use Rattle.atspi_played.proofs.SeeingWell.{known_apart}

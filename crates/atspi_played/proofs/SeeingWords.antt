@@ -16,8 +16,8 @@ use Rattle.atspi_protocol.specs.following.Takes.{lines_at}
 use Rattle.atspi_trace.specs.Entry.{Entry, spoke}
 use Rattle.atspi_trace.specs.World.{End}
 use Rattle.atspi_trace.specs.Ends.{app_named}
-use Rattle.atspi_valid_names.specs.Names.{is_bus_name, is_unique_name}
-use Rattle.atspi_play.specs.Plays.{of_app, told as told_to}
+use Rattle.atspi_base.specs.valid_names.Names.{is_bus_name, is_unique_name}
+use Rattle.atspi_trace.specs.play.Plays.{of_app, told as told_to}
 use Rattle.atspi_played.proofs.Pieces.{IsNoCall, spoken}
 
 -- LISTS of what is done

@@ -8,8 +8,8 @@ use Rattle.atspi_message.specs.Envelope.{Envelope}
 use Rattle.atspi_protocol.specs.declared.following.question.Question.{Question}
 use Rattle.atspi_protocol.specs.exporting.Taking.{app_takes}
 use Rattle.atspi_protocol.specs.registering.Steps.{registry_takes}
-use Rattle.atspi_routing.specs.Queues.{Bus, without_queue}
-use Rattle.atspi_routing.specs.Steps.{bus_leaves}
+use Rattle.atspi_match.specs.routing.Queues.{Bus, without_queue}
+use Rattle.atspi_match.specs.routing.Steps.{bus_leaves}
 use Rattle.atspi_trace.specs.Entry.{Entry}
 use Rattle.atspi_trace.specs.World.{Standing, here, stopped, away, Said, Letter, Role, the_registry, an_application, a_reader, End, World}
 use Rattle.atspi_trace.specs.Ends.{end_at, with_end, taken_down, leaves, app_count, reader_count}

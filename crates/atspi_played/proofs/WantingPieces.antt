@@ -2,11 +2,11 @@
 use Rattle.std.proofs.Common.{◌≡◌, ◌⊎◌, inl, inr, ℕ, Bool, true, false, List, [], ◌∷◌, ◌++◌, map, Option, None, Some, refl, sym, ap, ◌∙◌, subst}
 use Rattle.std.specs.Prelude.{◌==◌, ◌&&◌, if◌then◌else◌}
 use Rattle.std.specs.List.{AllByRecursion, list_all}
-use Rattle.atspi_valid_names.specs.Names.{is_bus_name}
+use Rattle.atspi_base.specs.valid_names.Names.{is_bus_name}
 use Rattle.atspi_lines.specs.declared.line.Line.{Line}
 use Rattle.atspi_lines.specs.declared.line.Party.TheVariants.{App, Reader}
 use Rattle.atspi_message.specs.Envelope.{Envelope}
-use Rattle.atspi_routing.specs.Routing.{is_reply}
+use Rattle.atspi_match.specs.routing.Routing.{is_reply}
 use Rattle.atspi_protocol.specs.declared.following.question.Question.{Question}
 use Rattle.atspi_protocol.specs.declared.following.question.Question.TheVariants.{GetItems, GetPart}
 use Rattle.atspi_protocol.specs.following.Calls.{asking}
@@ -24,7 +24,7 @@ use Rattle.atspi_lawful.specs.laws.Words.{name_in}
 use Rattle.atspi_lawful_settled.specs.settled.Laws.{AsksOfNode, IsPartAsked, IsOfNode}
 use Rattle.atspi_lawful.proofs.OfOrder.Parties.{no_none, same_some, false_true, all_back}
 use Rattle.atspi_lawful.proofs.OfOrder.Each.{all_map}
-use Rattle.atspi_play.specs.Playing.{silent}
+use Rattle.atspi_trace.specs.play.Playing.{silent}
 use Rattle.atspi_played.proofs.Facts.{Ground, RepliesWell, Waits, PartWaits, IsGone, IsKnownOrGone, WantsOf, SeesWell, WantsWell, Tied}
 use Rattle.atspi_played.proofs.Pieces.{IsTaking, entries_behind, world_behind, AsksOne, IsIdle, Skips, WantsNone, WantsOne, RestsSettled}
 use Rattle.atspi_played.proofs.AskingAnswered.{Took}

@@ -4,7 +4,7 @@ use Rattle.std.specs.Prelude.{◌&&◌, ◌||◌, not, bytes_eq, filter, flat_ma
 use Rattle.std.specs.List.{AllByRecursion, list_all}
 use Rattle.std.proofs.lemmas.List.{append-nil}
 use Rattle.std.proofs.lemmas.Slice.Eq.{bytes_eq-Decides}
-use Rattle.atspi_valid_names.specs.Names.{is_bus_name}
+use Rattle.atspi_base.specs.valid_names.Names.{is_bus_name}
 use Rattle.atspi_forest.specs.declared.view.Row.{Row}
 use Rattle.atspi_forest.specs.Forest.{Forest, labels}
 use Rattle.atspi_forest.specs.View.{view}
@@ -35,7 +35,7 @@ use Rattle.atspi_lawful_caches.proofs.OfServed.LawServed.{steps_asked}
 use Rattle.atspi_lawful_settled.proofs.OfSettled.Settling_serials.{same_hearer}
 use Rattle.atspi_lawful_settled.proofs.OfSettled.Settling_ground.{unique_is}
 use Rattle.atspi_lawful_settled.proofs.OfSettled.Settling_rests.{rests_at}
-use Rattle.atspi_play.specs.Playing.{Playing}
+use Rattle.atspi_trace.specs.play.Playing.{Playing}
 use Rattle.atspi_played.proofs.Facts.{Ground, Waits, IsSeen, IsKnownOrGone, WantsOf, Tied, AllTied}
 use Rattle.atspi_played.proofs.SeeingApps.{found_is}
 use Rattle.atspi_played.proofs.WantingGround.{shape, known, name_is}

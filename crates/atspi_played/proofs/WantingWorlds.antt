@@ -3,7 +3,7 @@ use Rattle.std.proofs.Common.{◌≡◌, ◌⊎◌, inl, inr, ℕ, suc, ◌+◌,
 use Rattle.std.specs.Prelude.{option_map}
 use Rattle.std.specs.List.{AllByRecursion}
 use Rattle.std.proofs.lemmas.List.{append-nil}
-use Rattle.atspi_valid_names.specs.Names.{is_bus_name}
+use Rattle.atspi_base.specs.valid_names.Names.{is_bus_name}
 use Rattle.atspi_names.specs.Owners.{unique_name}
 use Rattle.atspi_lines.specs.declared.line.Line.{Line}
 use Rattle.atspi_lines.specs.declared.line.Party.{Party}
@@ -29,7 +29,7 @@ use Rattle.atspi_lawful_ends.proofs.OfNames.Places.{first_at, greeted, told_is, 
 use Rattle.atspi_lawful_ends.proofs.OfSigned.Mail.{told_more}
 use Rattle.atspi_lawful_caches.proofs.OfServed.ListingTold.{Embedded}
 use Rattle.atspi_lawful_settled.proofs.OfSettled.Settling_ground.{embedded_app}
-use Rattle.atspi_play.specs.Playing.{silent}
+use Rattle.atspi_trace.specs.play.Playing.{silent}
 use Rattle.atspi_played.proofs.Facts.{Ground, IsGone, IsOfApp, PartWaits, WantsOf, IsKnownOrGone, WantsWell}
 use Rattle.atspi_played.proofs.Pieces.{Skips, WantsAsked, WantsMoved, WantsFirst, WantsCalled}
 use Rattle.atspi_played.proofs.WantingGround.{shape, known, live}

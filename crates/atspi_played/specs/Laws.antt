@@ -7,9 +7,9 @@ use Rattle.atspi_trace.specs.Work as work
 use Rattle.atspi_trace.specs.Work.{work_of}
 use Rattle.atspi_trace.specs.Due.{Lawful, Begun}
 use Rattle.atspi_lawful.specs.order.Scripts.{CanStand, CanAllStand}
-use Rattle.atspi_play.specs.Playing.{Playing}
-use Rattle.atspi_play.specs.Played.{refused, IsPlayed}
-use Rattle.atspi_play.specs.Breaking.{IsLostAt, IsSpentAt}
+use Rattle.atspi_trace.specs.play.Playing.{Playing}
+use Rattle.atspi_trace.specs.play.Played.{refused, IsPlayed}
+use Rattle.atspi_trace.specs.play.Breaking.{IsLostAt, IsSpentAt}
 
 -- WHAT IS PLAYED IS LAWFUL: each own call may be sent where it is, each line is spoken that is due and no other, each row shown is due, and at quiet each reader that is
 -- here holds each application that is here as it is now, with every part known

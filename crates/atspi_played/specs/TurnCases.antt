@@ -6,7 +6,7 @@ use Rattle.atspi_protocol.specs.following.Calls.{asking}
 use Rattle.atspi_trace.specs.World.{first_registry, first_world, World}
 use Rattle.atspi_trace.specs.Ends.{plain}
 use Rattle.atspi_trace.specs.Causes.{gets, does}
-use Rattle.atspi_play.specs.Playing.{Playing}
+use Rattle.atspi_trace.specs.play.Playing.{Playing}
 
 -- a return to no call, on the registry's down link
 abbrev pub one_waits : World

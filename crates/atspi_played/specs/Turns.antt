@@ -12,9 +12,9 @@ use Rattle.atspi_trace.specs.Work.{next_turn}
 use Rattle.atspi_trace.specs.Due.{is_lost, asks_at, begins, after_all, Begun}
 use Rattle.atspi_lawful.specs.order.Scripts.{CanAllStand}
 use Rattle.atspi_lawful.specs.order.Laws.{OfEachTrace}
-use Rattle.atspi_play.specs.Playing.{Playing}
-use Rattle.atspi_play.specs.Played.{IsPlayed}
-use Rattle.atspi_play.specs.Breaking.{PlayedTurns}
+use Rattle.atspi_trace.specs.play.Playing.{Playing}
+use Rattle.atspi_trace.specs.play.Played.{IsPlayed}
+use Rattle.atspi_trace.specs.play.Breaking.{PlayedTurns}
 
 -- how many messages were taken, by the bus and by each end
 abbrev pub is_taking : Entry → Bool

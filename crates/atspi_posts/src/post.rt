@@ -4,8 +4,8 @@ ghost use Rattle.std.specs.Prelude.{◌≡◌, None, []};
 ghost use Rattle.atspi_posts.specs.Posts as posts;
 
 use crate::link::Link;
+use atspi_base::valid_names::BusName;
 use atspi_lines::Party;
-use atspi_valid_names::BusName;
 use std::alloc::Global;
 
 /// Whether an end is there.

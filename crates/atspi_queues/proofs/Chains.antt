@@ -18,7 +18,7 @@ use Rattle.std.proofs.lemmas.Map.Made.{lookup-map_values}
 use Rattle.atspi_pool.specs.Chains.{Chain, empty_chain, front_of, popped_by, cut_by, pushed}
 use Rattle.atspi_pool.specs.Store.{Store, chain_at, held, with_chain}
 use Rattle.atspi_pool.specs.Pool.{in_use, SetsChain}
-use Rattle.atspi_routing.specs.Queues.{or_nothing, queue_of}
+use Rattle.atspi_match.specs.routing.Queues.{or_nothing, queue_of}
 use Rattle.atspi_queues.specs.Change.{with_queue}
 use Rattle.atspi_queues.specs.QueueMap.{chain_of, bytes_in, queues_of, HasChains}
 use Rattle.atspi_queues.proofs.Keys.{ties, tied, ties_not, fewer, length-keys}

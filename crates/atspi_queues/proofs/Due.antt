@@ -7,8 +7,8 @@ use Rattle.std.specs.BTreeSet.{BTreeSet}
 use Rattle.std.specs.BTreeMap.{is_at}
 use Rattle.std.proofs.lemmas.Bool.{cases_eq}
 use Rattle.std.proofs.lemmas.Bool.Decides.{nat_tests}
-use Rattle.atspi_routing.specs.declared.closing.Why.{Why}
-use Rattle.atspi_routing.specs.Queues.{is_due}
+use Rattle.atspi_match.specs.declared.routing.closing.Why.{Why}
+use Rattle.atspi_match.specs.routing.Queues.{is_due}
 use Rattle.atspi_queues.specs.Once.{AreOnce}
 use Rattle.atspi_queues.specs.DueList.{IsDueList}
 use Rattle.atspi_queues.proofs.Keys.{ties, ties_not}

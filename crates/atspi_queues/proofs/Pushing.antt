@@ -8,9 +8,9 @@ use Rattle.std.proofs.Math.Seq.{take-append_seam, take-length}
 use Rattle.std.proofs.lemmas.Bool.Decides.{nat_tests}
 use Rattle.std.proofs.lemmas.List.{length-append, take_more}
 use Rattle.std.proofs.lemmas.List.Sums.{fold-append}
-use Rattle.atspi_routing.specs.declared.closing.Why.{Why}
-use Rattle.atspi_routing.specs.declared.closing.Why.TheVariants.{Quota}
-use Rattle.atspi_routing.specs.Queues.{Waiting, queue_of, queued, doomed, or_nothing}
+use Rattle.atspi_match.specs.declared.routing.closing.Why.{Why}
+use Rattle.atspi_match.specs.declared.routing.closing.Why.TheVariants.{Quota}
+use Rattle.atspi_match.specs.routing.Queues.{Waiting, queue_of, queued, doomed, or_nothing}
 use Rattle.atspi_queues.specs.Change.{with_queue}
 use Rattle.atspi_queues.specs.Held.{Held}
 use Rattle.atspi_queues.specs.Each.{queued_each, HasRoom, HaveRoom, WentToEach}

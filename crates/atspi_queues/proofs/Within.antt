@@ -6,8 +6,8 @@ use Rattle.std.specs.Ordering.{nat_cmp, eq_by_cmp}
 use Rattle.std.specs.FinMap as finmap
 use Rattle.std.specs.FinMap.{FinMap, get-empty, get-insert, get-remove}
 use Rattle.std.proofs.lemmas.List.{length-append}
-use Rattle.atspi_routing.specs.Queues.{or_nothing, queue_of}
-use Rattle.atspi_routing.specs.Laws.{AreWithin}
+use Rattle.atspi_match.specs.routing.Queues.{or_nothing, queue_of}
+use Rattle.atspi_match.specs.routing.Laws.{AreWithin}
 use Rattle.atspi_queues.specs.Change.{with_queue}
 use Rattle.atspi_queues.specs.Space.{HasSpace}
 

@@ -3,8 +3,8 @@ use Rattle.std.specs.Prelude.{◌≡◌, ℕ, List}
 use Rattle.std.specs.Ordering.{nat_cmp}
 use Rattle.std.specs.BTreeSet as set
 use Rattle.std.specs.BTreeSet.{BTreeSet}
-use Rattle.atspi_routing.specs.declared.closing.Why.{Why}
-use Rattle.atspi_routing.specs.Queues.{is_due}
+use Rattle.atspi_match.specs.declared.routing.closing.Why.{Why}
+use Rattle.atspi_match.specs.routing.Queues.{is_due}
 use Rattle.atspi_queues.specs.Once.{AreOnce}
 
 pub record IsDueList (due : List (ℕ × Why)) (conns : BTreeSet ℕ) : Type 0 where

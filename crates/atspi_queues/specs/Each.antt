@@ -2,7 +2,7 @@
 use Rattle.std.specs.Prelude.{◌≡◌, ◌+◌, ◌≤◌, ℕ, List, [], ◌∷◌, length, IsSome}
 use Rattle.std.specs.List.{fold}
 use Rattle.std.specs.FinMap as finmap
-use Rattle.atspi_routing.specs.Queues.{Waiting, queue_of, queued}
+use Rattle.atspi_match.specs.routing.Queues.{Waiting, queue_of, queued}
 use Rattle.atspi_queues.specs.Held.{Held}
 
 -- what waits after bytes went to some connections, one after the other

@@ -1,7 +1,7 @@
 -- Lists of those that are to be closed, in which each stands once.
 use Rattle.std.specs.Prelude.{◌≡◌, ℕ, false, List, [], ◌∷◌}
-use Rattle.atspi_routing.specs.declared.closing.Why.{Why}
-use Rattle.atspi_routing.specs.Queues.{is_due}
+use Rattle.atspi_match.specs.declared.routing.closing.Why.{Why}
+use Rattle.atspi_match.specs.routing.Queues.{is_due}
 
 -- each connection stands in the list once
 abbrev pub AreOnce : List (ℕ × Why) → Type 0

@@ -1,12 +1,12 @@
 //! The connections that are to be closed, in the order of the causes.
 
 ghost use Rattle.std.specs.Prelude.{◌≡◌, ◌==◌, not, ℕ, List, false, [], ◌∷◌, ◌++◌, filter, MatchOption, IfOk, OnOk, OnErr};
-ghost use Rattle.atspi_routing.specs.Queues.{is_due};
+ghost use Rattle.atspi_match.specs.routing.Queues.{is_due};
 ghost use Rattle.atspi_queues.specs.Once.{AreOnce};
-ghost use Rattle.atspi_routing.specs.declared.closing.Why.{Why};
+ghost use Rattle.atspi_match.specs.declared.routing.closing.Why.{Why};
 
 use atspi_base::NoMemory;
-use atspi_routing::Why;
+use atspi_match::routing::Why;
 use std::alloc::Global;
 use std::collections::{BTreeSet, VecDeque};
 use std::marker::Model;
@@ -22,8 +22,8 @@ pub struct DueList {
 impl Model for DueList {
     ghost use Rattle.std.specs.Prelude.{ℕ, List};
     ghost use Rattle.std.specs.Coded.{coded_ℕ, coded×, coded_list};
-    ghost use Rattle.atspi_routing.specs.contracts.closing.Why as why;
-    ghost use Rattle.atspi_routing.specs.declared.closing.Why.{Why};
+    ghost use Rattle.atspi_match.specs.contracts.routing.closing.Why as why;
+    ghost use Rattle.atspi_match.specs.declared.routing.closing.Why.{Why};
     ghost use Rattle.atspi_queues.specs.DueList.{IsDueList};
 
     ghost Value = { List (ℕ × Why) };

@@ -1,7 +1,7 @@
 //! Bytes for several connections at once: they go to each of them or to none.
 
 ghost use Rattle.std.specs.Prelude.{◌≡◌, ◌<◌, ◌^◌, length, IfOk, MatchBool, OnErr};
-ghost use Rattle.atspi_routing.specs.Queues.{Waiting};
+ghost use Rattle.atspi_match.specs.routing.Queues.{Waiting};
 ghost use Rattle.atspi_queues.specs.Each.{HaveRoom, WentToEach, queued_each};
 
 use crate::Queues;

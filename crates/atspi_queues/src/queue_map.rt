@@ -2,7 +2,7 @@
 
 ghost use Rattle.std.specs.Prelude.{◌≡◌, ◌+◌, ◌-◌, ◌<◌, ◌≤◌, ◌^◌, ◌↔◌, ℕ, List, [], ◌++◌, length, take, drop, None, IsSome, IsTrue, MatchBool, IfOk, OnOk, OnErr};
 ghost use Rattle.std.specs.FinMap as finmap;
-ghost use Rattle.atspi_routing.specs.Queues.{queue_of};
+ghost use Rattle.atspi_match.specs.routing.Queues.{queue_of};
 ghost use Rattle.atspi_queues.specs.Change.{with_queue};
 ghost use Rattle.atspi_queues.specs.Space.{HasSpace};
 

@@ -2,9 +2,9 @@
 
 ghost use Rattle.std.specs.Prelude.{◌≡◌, ◌<◌, ◌≤◌, ◌^◌, ◌↔◌, ◌-◌, ℕ, List, [], ◌∷◌, ◌++◌, length, drop, take, MatchBool, MatchOption, IsTrue, IfOk, OnOk, OnErr};
 ghost use Rattle.std.specs.FinMap as finmap;
-ghost use Rattle.atspi_routing.specs.declared.closing.Why.{Why};
-ghost use Rattle.atspi_routing.specs.Queues.{queue_of, doomed, queued, without_queue};
-ghost use Rattle.atspi_routing.specs.Laws.{AreWithin};
+ghost use Rattle.atspi_match.specs.declared.routing.closing.Why.{Why};
+ghost use Rattle.atspi_match.specs.routing.Queues.{queue_of, doomed, queued, without_queue};
+ghost use Rattle.atspi_match.specs.routing.Laws.{AreWithin};
 ghost use Rattle.atspi_queues.specs.Change.{with_queue};
 ghost use Rattle.atspi_queues.specs.Each.{HasRoom};
 ghost use Rattle.atspi_queues.specs.Held.{no_queues};
@@ -12,7 +12,7 @@ ghost use Rattle.atspi_queues.specs.Held.{no_queues};
 use crate::due_list::DueList;
 use crate::queue_map::QueueMap;
 use atspi_base::NoMemory;
-use atspi_routing::Why;
+use atspi_match::routing::Why;
 use std::alloc::Global;
 use std::marker::Model;
 
@@ -27,7 +27,7 @@ pub struct Queues {
 
 impl Model for Queues {
     ghost use Rattle.atspi_queues.specs.Held.{Held, held_code};
-    ghost use Rattle.atspi_routing.specs.Laws.{AreWithin};
+    ghost use Rattle.atspi_match.specs.routing.Laws.{AreWithin};
 
     ghost Value = { Held };
 

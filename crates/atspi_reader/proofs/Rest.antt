@@ -5,8 +5,8 @@ use Rattle.std.specs.List.{list_any}
 use Rattle.std.proofs.Math.Seq.{drop-cons}
 use Rattle.std.proofs.lemmas.List.{append-nil}
 use Rattle.std.proofs.lemmas.Str.{chars-IsAscii}
-use Rattle.atspi_valid_names.specs.Names.{IsBusName}
-use Rattle.atspi_valid_names.proofs.NameLemmas.{IsAscii-IsBusName}
+use Rattle.atspi_base.specs.valid_names.Names.{IsBusName}
+use Rattle.atspi_base.proofs.OfValidNames.NameLemmas.{IsAscii-IsBusName}
 use Rattle.atspi_message.specs.Envelope.{Envelope}
 use Rattle.atspi_forest.specs.declared.news.News.{News}
 use Rattle.atspi_forest.specs.declared.news.Reference.{Reference}

@@ -5,7 +5,7 @@ use Rattle.std.specs.List.{list_all}
 use Rattle.std.proofs.lemmas.Bool.{and_parts}
 use Rattle.std.proofs.lemmas.List.{append-nil}
 use Rattle.std.proofs.lemmas.Slice.Eq.{bytes_eq-Decides}
-use Rattle.atspi_valid_names.specs.Names.{is_bus_name, is_unique_name}
+use Rattle.atspi_base.specs.valid_names.Names.{is_bus_name, is_unique_name}
 use Rattle.atspi_protocol.specs.following.ReaderState.{Followed, tells_end, is_named}
 use Rattle.atspi_protocol.specs.following.Known.{unasked, end_of_connection, closing_of, closings}
 use Rattle.atspi_protocol.specs.following.Takes.{found_in}

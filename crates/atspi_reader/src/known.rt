@@ -7,9 +7,9 @@ ghost use Rattle.atspi_protocol.specs.following.Known.{made_known};
 ghost use Rattle.atspi_reader.specs.Turns.{app_in, listed, IsNewTo, StandsInFront};
 
 use atspi_base::NoMemory;
+use atspi_base::valid_names::{BusName, NameFault};
 use atspi_forest::Reference;
 use atspi_reader_known::{App, Apps};
-use atspi_valid_names::{BusName, NameFault};
 use std::alloc::Global;
 
 /// The application that a reference names, of which nothing was asked yet, where the reference's text is a bus name.

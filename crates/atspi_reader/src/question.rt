@@ -10,10 +10,10 @@ ghost use Rattle.atspi_reader.specs.ReaderOf.{pending_of};
 
 use crate::waiting::Waiting;
 use atspi_base::NoMemory;
+use atspi_base::valid_names::BusName;
 use atspi_header::MessageRef;
 use atspi_protocol::following::Question;
 use atspi_reader_told::sender_of;
-use atspi_valid_names::BusName;
 use std::alloc::Global;
 
 /// An equal question.

@@ -19,6 +19,7 @@ use crate::fault::CallFault;
 use crate::question::{is_answer, is_signal};
 use crate::state::Reader;
 use atspi_base::NoMemory;
+use atspi_base::valid_names::BusName;
 use atspi_cache::Rows;
 use atspi_header::MessageRef;
 use atspi_lines::Deed;
@@ -27,7 +28,6 @@ use atspi_protocol::ends::EndFault;
 use atspi_protocol::following::ReaderEvent;
 use atspi_reader_calls::user_call;
 use atspi_reader_known::Apps;
-use atspi_valid_names::BusName;
 use std::alloc::Global;
 use std::collections::VecDeque;
 

@@ -18,6 +18,7 @@ use crate::question::waiting_question;
 use crate::state::Reader;
 use crate::wanted::{wish_now, wish_with, wish_without, wish_without_part};
 use atspi_base::NoMemory;
+use atspi_base::valid_names::{BusName, NameFault, Path};
 use atspi_header::MessageRef;
 use atspi_news_reading::{items_told, part_told};
 use atspi_protocol::ends::EndFault;
@@ -25,7 +26,6 @@ use atspi_protocol::following::Question;
 use atspi_protocol::news::PartName;
 use atspi_reader_known::App;
 use atspi_reader_told::{references, returns_children, returns_name, sender_of};
-use atspi_valid_names::{BusName, NameFault, Path};
 use std::alloc::Global;
 
 /// The sender of a message, owned.

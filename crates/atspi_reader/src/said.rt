@@ -2,16 +2,16 @@
 
 ghost use Rattle.std.specs.Prelude.{◌≡◌, ◌++◌, ◌∷◌, [], if◌then◌else◌, ℕ, List, chars, map, OnOk};
 ghost use Rattle.atspi_protocol.specs.following.ReaderState.{speaks, tells_end};
-ghost use Rattle.atspi_valid_names.specs.Names.{is_unique_name};
+ghost use Rattle.atspi_base.specs.valid_names.Names.{is_unique_name};
 ghost use Rattle.atspi_protocol.specs.following.Known.{closing_of, end_of_connection};
 ghost use Rattle.atspi_protocol.specs.following.Takes.{lines_at};
 ghost use Rattle.atspi_reader.specs.Doing.{all_done};
 
+use atspi_base::valid_names::{BusName, NameFault};
 use atspi_base::{NoMemory, Text, Texts};
 use atspi_forest::News;
 use atspi_protocol::following::ReaderEvent;
 use atspi_reader_known::App;
-use atspi_valid_names::{BusName, NameFault};
 use std::alloc::Global;
 use std::collections::VecDeque;
 

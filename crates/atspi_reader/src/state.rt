@@ -1,9 +1,9 @@
 //! What a reader keeps.
 
 use crate::waiting::Waiting;
+use atspi_base::valid_names::BusName;
 use atspi_protocol::following::{Question, ReaderEvent};
 use atspi_reader_known::Apps;
-use atspi_valid_names::BusName;
 use std::alloc::Global;
 use std::collections::VecDeque;
 

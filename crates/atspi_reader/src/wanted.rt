@@ -7,10 +7,10 @@ ghost use Rattle.atspi_protocol.specs.following.Replied.{changed, refused_part};
 ghost use Rattle.atspi_reader_known.specs.Wanted.{first, refusing};
 
 use atspi_base::NoMemory;
+use atspi_base::valid_names::Path;
 use atspi_protocol::following::Question;
 use atspi_protocol::news::PartName;
 use atspi_reader_known::{App, Apps, Plan, Refused};
-use atspi_valid_names::Path;
 use std::alloc::Global;
 
 /// The same, once these parts of an application are known or refused.

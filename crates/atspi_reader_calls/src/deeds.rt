@@ -2,7 +2,7 @@
 
 ghost use Rattle.std.specs.Prelude.{◌≡◌, ◌≢◌, ◌≤◌, true, length, IfOk};
 ghost use Rattle.atspi_types.specs.DataView.{all_data};
-ghost use Rattle.atspi_valid_names.specs.Names.{is_member};
+ghost use Rattle.atspi_base.specs.valid_names.Names.{is_member};
 ghost use Rattle.atspi_message.specs.Envelope.{envelope_of};
 ghost use Rattle.atspi_message.specs.Rules.{MeetsRules};
 ghost use Rattle.atspi_lines.specs.declared.deed.Deed.TheVariants.{SetCaret, InsertText, DeleteText, SetText, SelectChild, DeselectChild, SelectAll, ClearSelection, DoAction};
@@ -14,16 +14,16 @@ ghost use Rattle.atspi_reader_calls.specs.Deeds.{MayBeAsked};
 use crate::bodies::{nothing, number, one, placed, text, two};
 use crate::own::numbered;
 use crate::targets::object_call;
+use atspi_base::valid_names::{BusName, Path};
 use atspi_base::{NoMemory, Text};
 use atspi_lines::Deed;
 use atspi_message::Message;
 use atspi_telling::node_path;
 use atspi_types::Values;
-use atspi_valid_names::{BusName, Path};
 use std::alloc::Global;
 
 /// A call of interface EditableText.
-#[tactic(auto, unfolding(atspi_valid_names::specs::Names::is_interface, atspi_valid_names::specs::Elements::are_two_or_more, atspi_valid_names::specs::Elements::are_elements, atspi_valid_names::specs::Elements::parts_of))]
+#[tactic(auto, unfolding(atspi_base::specs::valid_names::Names::is_interface, atspi_base::specs::valid_names::Elements::are_two_or_more, atspi_base::specs::valid_names::Elements::are_elements, atspi_base::specs::valid_names::Elements::parts_of))]
 fn text_call(
     alloc: Global,
     name: &BusName,
@@ -45,7 +45,7 @@ fn text_call(
 }
 
 /// A call of interface Selection.
-#[tactic(auto, unfolding(atspi_valid_names::specs::Names::is_interface, atspi_valid_names::specs::Elements::are_two_or_more, atspi_valid_names::specs::Elements::are_elements, atspi_valid_names::specs::Elements::parts_of))]
+#[tactic(auto, unfolding(atspi_base::specs::valid_names::Names::is_interface, atspi_base::specs::valid_names::Elements::are_two_or_more, atspi_base::specs::valid_names::Elements::are_elements, atspi_base::specs::valid_names::Elements::parts_of))]
 fn selection_call(
     alloc: Global,
     name: &BusName,
@@ -60,7 +60,7 @@ fn selection_call(
 }
 
 /// The caret goes before the character at a place.
-#[tactic(auto, unfolding(atspi_valid_names::specs::Names::is_interface, atspi_valid_names::specs::Names::is_member, atspi_valid_names::specs::Elements::are_two_or_more, atspi_valid_names::specs::Elements::are_elements, atspi_valid_names::specs::Elements::parts_of))]
+#[tactic(auto, unfolding(atspi_base::specs::valid_names::Names::is_interface, atspi_base::specs::valid_names::Names::is_member, atspi_base::specs::valid_names::Elements::are_two_or_more, atspi_base::specs::valid_names::Elements::are_elements, atspi_base::specs::valid_names::Elements::parts_of))]
 fn caret_call(alloc: Global, name: &BusName, node: Path, at: u32) -> Result<Message, NoMemory>
     requires { at ≤ 2147483647 }
     ensures { IfOk result (λ message. envelope_of message ≡ calls.deed_call name.now node (SetCaret at)) }
@@ -77,7 +77,7 @@ fn caret_call(alloc: Global, name: &BusName, node: Path, at: u32) -> Result<Mess
 }
 
 /// An action is done.
-#[tactic(auto, unfolding(atspi_valid_names::specs::Names::is_interface, atspi_valid_names::specs::Names::is_member, atspi_valid_names::specs::Elements::are_two_or_more, atspi_valid_names::specs::Elements::are_elements, atspi_valid_names::specs::Elements::parts_of))]
+#[tactic(auto, unfolding(atspi_base::specs::valid_names::Names::is_interface, atspi_base::specs::valid_names::Names::is_member, atspi_base::specs::valid_names::Elements::are_two_or_more, atspi_base::specs::valid_names::Elements::are_elements, atspi_base::specs::valid_names::Elements::parts_of))]
 fn action_call(alloc: Global, name: &BusName, node: Path, index: u32) -> Result<Message, NoMemory>
     requires { index ≤ 2147483647 }
     ensures { IfOk result (λ message. envelope_of message ≡ calls.deed_call name.now node (DoAction index)) }
@@ -87,7 +87,7 @@ fn action_call(alloc: Global, name: &BusName, node: Path, index: u32) -> Result<
 }
 
 /// A text is put in at a place.
-#[tactic(auto, unfolding(atspi_valid_names::specs::Names::is_member))]
+#[tactic(auto, unfolding(atspi_base::specs::valid_names::Names::is_member))]
 fn insert_call(
     alloc: Global,
     name: &BusName,
@@ -104,7 +104,7 @@ fn insert_call(
 }
 
 /// Characters are taken out.
-#[tactic(auto, unfolding(atspi_valid_names::specs::Names::is_member))]
+#[tactic(auto, unfolding(atspi_base::specs::valid_names::Names::is_member))]
 fn delete_call(
     alloc: Global,
     name: &BusName,
@@ -121,7 +121,7 @@ fn delete_call(
 }
 
 /// The whole text is replaced.
-#[tactic(auto, unfolding(atspi_valid_names::specs::Names::is_member))]
+#[tactic(auto, unfolding(atspi_base::specs::valid_names::Names::is_member))]
 fn contents_call(
     alloc: Global,
     name: &BusName,
@@ -135,7 +135,7 @@ fn contents_call(
 }
 
 /// A child is selected.
-#[tactic(auto, unfolding(atspi_valid_names::specs::Names::is_member))]
+#[tactic(auto, unfolding(atspi_base::specs::valid_names::Names::is_member))]
 fn select_call(alloc: Global, name: &BusName, node: Path, index: u32) -> Result<Message, NoMemory>
     requires { index ≤ 2147483647 }
     ensures { IfOk result (λ message. envelope_of message ≡ calls.deed_call name.now node (SelectChild index)) }
@@ -145,7 +145,7 @@ fn select_call(alloc: Global, name: &BusName, node: Path, index: u32) -> Result<
 }
 
 /// A child is selected no more.
-#[tactic(auto, unfolding(atspi_valid_names::specs::Names::is_member))]
+#[tactic(auto, unfolding(atspi_base::specs::valid_names::Names::is_member))]
 fn deselect_call(alloc: Global, name: &BusName, node: Path, index: u32) -> Result<Message, NoMemory>
     requires { index ≤ 2147483647 }
     ensures { IfOk result (λ message. envelope_of message ≡ calls.deed_call name.now node (DeselectChild index)) }
@@ -156,7 +156,7 @@ fn deselect_call(alloc: Global, name: &BusName, node: Path, index: u32) -> Resul
 
 /// What a user asks of a node, by the node's path, before it has its number (AT-SPI2, interfaces Text, EditableText, Selection and
 /// Action). Memory alone can be wanting.
-#[tactic(auto, unfolding(atspi_valid_names::specs::Names::is_member))]
+#[tactic(auto, unfolding(atspi_base::specs::valid_names::Names::is_member))]
 pub fn deed_call(
     alloc: Global,
     name: &BusName,

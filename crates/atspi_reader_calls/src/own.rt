@@ -9,11 +9,11 @@ ghost use Rattle.atspi_protocol.specs.following.Calls as calls;
 use crate::bodies::{caret_property, columns_property, nothing, text, whole};
 use crate::targets::{cache_object, children_call, object_call, register_call};
 use atspi_base::NoMemory;
+use atspi_base::valid_names::{BusName, Path};
 use atspi_message::Message;
 use atspi_protocol::following::Question;
 use atspi_protocol::news::PartName;
 use atspi_telling::bus_call;
-use atspi_valid_names::{BusName, Path};
 use std::alloc::Global;
 
 /// The message with its number.
@@ -26,7 +26,7 @@ pub(crate) fn numbered(message: Message, serial: u32) -> Message
 }
 
 /// The call that asks for a part of the row with this path.
-#[tactic(auto, unfolding(atspi_valid_names::specs::Names::is_interface, atspi_valid_names::specs::Names::is_member, atspi_valid_names::specs::Elements::are_two_or_more, atspi_valid_names::specs::Elements::are_elements, atspi_valid_names::specs::Elements::parts_of))]
+#[tactic(auto, unfolding(atspi_base::specs::valid_names::Names::is_interface, atspi_base::specs::valid_names::Names::is_member, atspi_base::specs::valid_names::Elements::are_two_or_more, atspi_base::specs::valid_names::Elements::are_elements, atspi_base::specs::valid_names::Elements::parts_of))]
 fn part_call(
     alloc: Global,
     name: &BusName,
@@ -67,7 +67,7 @@ fn part_call(
 }
 
 /// The call that asks for all items of an application.
-#[tactic(auto, unfolding(atspi_valid_names::specs::Names::is_interface, atspi_valid_names::specs::Names::is_member, atspi_valid_names::specs::Elements::are_two_or_more, atspi_valid_names::specs::Elements::are_elements, atspi_valid_names::specs::Elements::parts_of))]
+#[tactic(auto, unfolding(atspi_base::specs::valid_names::Names::is_interface, atspi_base::specs::valid_names::Names::is_member, atspi_base::specs::valid_names::Elements::are_two_or_more, atspi_base::specs::valid_names::Elements::are_elements, atspi_base::specs::valid_names::Elements::parts_of))]
 fn items_call(alloc: Global, name: &BusName) -> Result<Message, NoMemory>
     ensures { IfOk result (λ message. envelope_of message ≡ calls.own_call (GetItems name.now)) }
 {
@@ -85,7 +85,7 @@ fn items_call(alloc: Global, name: &BusName) -> Result<Message, NoMemory>
 
 /// A call of the reader's own, before it has its number (D-Bus Specification, "Message Bus Messages"; AT-SPI2, interfaces Registry,
 /// Accessible, Cache and Text). Memory alone can be wanting.
-#[tactic(auto, unfolding(atspi_valid_names::specs::Names::is_member))]
+#[tactic(auto, unfolding(atspi_base::specs::valid_names::Names::is_member))]
 pub fn own_call(alloc: Global, question: &Question) -> Result<Message, NoMemory>
     ensures { IfOk result (λ message. envelope_of message ≡ calls.own_call question.now) }
 {

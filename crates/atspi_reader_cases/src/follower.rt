@@ -1,11 +1,11 @@
 //! A reader and what is said to it.
 
 use crate::shown::{push_event, push_held, push_number, push_rows};
+use atspi_base::valid_names::BusName;
 use atspi_lines::Deed;
 use atspi_message_words::{bytes_of, lent};
 use atspi_protocol::following::ReaderEvent;
 use atspi_reader::{CallFault, Reader};
-use atspi_valid_names::BusName;
 use std::alloc::Global;
 use std::marker::Model;
 

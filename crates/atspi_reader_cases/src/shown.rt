@@ -1,12 +1,12 @@
 //! What a reader does and keeps, as texts.
 
+use atspi_base::valid_names::BusName;
 use atspi_cache::Seen;
 use atspi_forest::{NumPart, Part};
 use atspi_message::Message;
 use atspi_protocol::following::ReaderEvent;
 use atspi_reader::Reader;
 use atspi_types::ValueRef;
-use atspi_valid_names::BusName;
 use std::alloc::Global;
 
 /// Appends a text behind what parts it from the last one.

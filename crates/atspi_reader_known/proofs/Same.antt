@@ -3,8 +3,8 @@ use Rattle.std.proofs.Common.{◌≡◌, ℕ, Bool, true, false, List, refl, sym
 use Rattle.std.specs.Prelude.{bytes_eq, encode_utf8_all}
 use Rattle.std.proofs.lemmas.Slice.Eq.{bytes_eq-Decides}
 use Rattle.std.proofs.lemmas.Str.{encodes-chars, chars-IsAscii}
-use Rattle.atspi_valid_names.specs.Names.{IsBusName}
-use Rattle.atspi_valid_names.proofs.NameLemmas.{IsAscii-IsBusName}
+use Rattle.atspi_base.specs.valid_names.Names.{IsBusName}
+use Rattle.atspi_base.proofs.OfValidNames.NameLemmas.{IsAscii-IsBusName}
 
 pub same_text : (a b cs : List ℕ) → IsUtf8 a → IsUtf8 b → chars a ≡ cs → bytes_eq a b ≡ bytes_eq cs (chars b)
 same_text a b cs u v e = by (bytes_eq a b) refl (bytes_eq cs (chars b)) refl

@@ -21,12 +21,12 @@ use crate::listing::{follows, item_wants, put_fresh, relist, tells_first};
 use crate::refused::Refused;
 use crate::unknown::first_wanted;
 use crate::wants::Wants;
+use atspi_base::valid_names::{BusName, Path};
 use atspi_base::{NoMemory, Text, Texts};
 use atspi_cache::{Cache, Rows, closing, lines};
 use atspi_forest::{Item, Items, News};
 use atspi_protocol::following::Question;
 use atspi_protocol::news::PartName;
-use atspi_valid_names::{BusName, Path};
 use std::alloc::Global;
 use std::marker::Model;
 

@@ -16,10 +16,10 @@ use crate::refused::Refused;
 use crate::unknown::{is_unknown_number, is_unknown_text};
 use crate::wants::Wants;
 use atspi_base::NoMemory;
+use atspi_base::valid_names::Path;
 use atspi_cache::{Cache, Rows};
 use atspi_forest::{Item, News, Row};
 use atspi_protocol::news::PartName;
-use atspi_valid_names::Path;
 use std::alloc::Global;
 
 /// Appends a part, where it is unknown and was not refused.

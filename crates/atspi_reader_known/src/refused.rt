@@ -7,8 +7,8 @@ ghost use Rattle.atspi_protocol.specs.following.Wishes as wishes;
 ghost use Rattle.atspi_reader_known.specs.Refusals.{AreSame, Puts, has_part};
 
 use atspi_base::NoMemory;
+use atspi_base::valid_names::Path;
 use atspi_protocol::news::PartName;
-use atspi_valid_names::Path;
 use std::alloc::Global;
 use std::collections::BTreeSet;
 use std::marker::Model;

@@ -8,10 +8,10 @@ ghost use Rattle.atspi_reader_known.specs.Wanted as wanted;
 ghost use Rattle.atspi_reader_known.specs.Wanted.{lent};
 
 use crate::refused::Refused;
+use atspi_base::valid_names::Path;
 use atspi_cache::Rows;
 use atspi_forest::{NumPart, Part, Row};
 use atspi_protocol::news::PartName;
-use atspi_valid_names::Path;
 
 /// Whether a text is there and not known.
 pub(crate) fn is_unknown_text(part: &Part) -> bool

@@ -8,8 +8,8 @@ ghost use Rattle.atspi_reader_known.specs.Listed as listed;
 ghost use Rattle.atspi_reader_known.specs.Listed.{left, or_others};
 
 use crate::refused::Refused;
+use atspi_base::valid_names::Path;
 use atspi_protocol::news::PartName;
-use atspi_valid_names::Path;
 use std::alloc::Global;
 use std::marker::Model;
 

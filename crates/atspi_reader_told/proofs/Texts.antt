@@ -7,8 +7,8 @@ use Rattle.std.proofs.lemmas.Slice.Eq.{bytes_eq-Decides}
 use Rattle.std.proofs.lemmas.Str.{IsUtf8-nil, chars-IsAscii, encodes-chars, encodes-IsAscii}
 use Rattle.std.proofs.lemmas.Str.Ascii.{IsAscii-nil}
 use Rattle.atspi_types.specs.Data.{Data, text_data}
-use Rattle.atspi_valid_names.specs.Names.{is_bus_name}
-use Rattle.atspi_valid_names.proofs.NameLemmas.{IsAscii-IsBusName, IsBusName-from_test}
+use Rattle.atspi_base.specs.valid_names.Names.{is_bus_name}
+use Rattle.atspi_base.proofs.OfValidNames.NameLemmas.{IsAscii-IsBusName, IsBusName-from_test}
 use Rattle.atspi_protocol.specs.following.Replied.{is_unique_name_alone}
 use Rattle.atspi_reader_told.specs.Alone.{text_alone, unique_if}
 

@@ -1,7 +1,7 @@
 -- A body that is one text alone, and a unique name.
 use Rattle.std.specs.Prelude.{ℕ, Bool, false, ◌&&◌, List, Option, Some, None}
 use Rattle.atspi_types.specs.Data.{Data}
-use Rattle.atspi_valid_names.specs.Names.{is_bus_name, is_unique_name}
+use Rattle.atspi_base.specs.valid_names.Names.{is_bus_name, is_unique_name}
 use Rattle.atspi_protocol.specs.news.Arguments.{then_text, then_end}
 
 abbrev pub text_alone : List Data → Option (List ℕ)

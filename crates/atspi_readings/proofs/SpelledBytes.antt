@@ -11,7 +11,7 @@ use Rattle.atspi_types.specs.Signatures.{number_code, type_bytes, signature_byte
 use Rattle.atspi_types.specs.Data.{Data, number_data, boolean_data, text_data, path_data, signature_data, array_data, structure_data, dictionary_data, variant_data, Items, no_items, item, Entries, no_entries, entry}
 use Rattle.atspi_types.specs.declared.fault.Order.{Order}
 use Rattle.atspi_types.specs.declared.fault.Order.TheVariants.{Little, Big}
-use Rattle.atspi_valid_names.proofs.NameLemmas.{IsAscii-IsPath}
+use Rattle.atspi_base.proofs.OfValidNames.NameLemmas.{IsAscii-IsPath}
 use Rattle.atspi_marshal.specs.Input.{number_bytes, aligned}
 use Rattle.atspi_marshal.specs.Spelling.{zeros, padding, counted, counted_short, start_of, array_spelling, single, spelling, spellings, entry_spellings, Fits, AllFit, FieldsFit, EntriesFit}
 

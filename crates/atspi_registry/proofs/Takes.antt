@@ -4,8 +4,8 @@ use Rattle.std.specs.Prelude.{IsTrue, is_some, unwrap_or, if◌then◌else◌, R
 use Rattle.std.specs.Borrow.{Bor}
 use Rattle.std.proofs.lemmas.Bool.{and_parts}
 use Rattle.std.proofs.lemmas.Str.{encodes-chars}
-use Rattle.atspi_valid_names.specs.Names.{is_path, is_interface, is_member, is_bus_name, IsBusName, HasBusElements}
-use Rattle.atspi_valid_names.proofs.NameLemmas.{IsBusName-from_test}
+use Rattle.atspi_base.specs.valid_names.Names.{is_path, is_interface, is_member, is_bus_name, IsBusName, HasBusElements}
+use Rattle.atspi_base.proofs.OfValidNames.NameLemmas.{IsBusName-from_test}
 use Rattle.atspi_message.specs.Envelope.{Envelope}
 use Rattle.atspi_header.specs.Names.{fits, are_named}
 use Rattle.atspi_protocol.specs.declared.ends.error.CallError.{CallError}

@@ -8,9 +8,9 @@ ghost use Rattle.atspi_protocol.specs.registering.Answers.{children_without};
 
 use crate::outgoing::Outgoing;
 use atspi_base::Text;
+use atspi_base::valid_names::{BusName, Path};
 use atspi_protocol::ends::{EndFault, Mail};
 use atspi_registry_lists::{Children, Pairs};
-use atspi_valid_names::{BusName, Path};
 
 /// A pair is kept and messages are queued.
 pub fn keep_pair(

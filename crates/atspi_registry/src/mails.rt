@@ -3,7 +3,7 @@
 ghost use Rattle.std.specs.Prelude.{◌≡◌, ◌<◌, ◌^◌, true, [], ◌∷◌, ◌++◌, chars, codes, length, map, option_copied, IfOk, OnOk};
 ghost use Rattle.std.specs.List.{list_any};
 ghost use Rattle.atspi_base.specs.Text.{HasNoZero};
-ghost use Rattle.atspi_valid_names.specs.Names.{is_bus_name, IsPath};
+ghost use Rattle.atspi_base.specs.valid_names.Names.{is_bus_name, IsPath};
 ghost use Rattle.atspi_types.specs.DataView.{all_data};
 ghost use Rattle.atspi_header.specs.View.{envelope_at};
 ghost use Rattle.atspi_protocol.specs.ends.Messages.{error_word, returns, fails, replies};
@@ -15,13 +15,13 @@ ghost use Rattle.atspi_protocol.specs.registering.Told.{is_asked_for};
 ghost use Rattle.atspi_protocol.specs.registering.Answers.{news_of_removal};
 ghost use Rattle.atspi_registry.specs.Steps.{removal_told, told_at, told_pair};
 
+use atspi_base::valid_names::{BusName, NameFault, Path};
 use atspi_base::{NoMemory, Text};
 use atspi_header::MessageRef;
 use atspi_protocol::ends::{CallError, Mail, bus_name, covers};
 use atspi_registry_lists::{Children, Pairs};
 use atspi_registry_told as told;
 use atspi_types::Values;
-use atspi_valid_names::{BusName, NameFault, Path};
 use std::alloc::Global;
 
 /// The three calls to the bus at the start.

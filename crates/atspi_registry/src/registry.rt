@@ -2,7 +2,7 @@
 
 ghost use Rattle.std.specs.Prelude.{◌≡◌, ◌==◌, ◌<◌, ◌≤◌, ◌^◌, true, false, Some, is_some, ℕ, List, [], ◌∷◌, chars, codes, encode_utf8_all, length, IfOk, IsErrOf, MatchOption, OnOk, OnErr};
 ghost use Rattle.atspi_base.specs.Text.{HasNoZero};
-ghost use Rattle.atspi_valid_names.specs.Names.{is_bus_name, IsPath};
+ghost use Rattle.atspi_base.specs.valid_names.Names.{is_bus_name, IsPath};
 ghost use Rattle.atspi_types.specs.DataView.{all_data};
 ghost use Rattle.atspi_message.specs.Envelope.{envelope_of};
 ghost use Rattle.atspi_header.specs.View.{envelope_at};

@@ -1,7 +1,7 @@
 -- What is asked of the registry, as parts of the message's bytes, and what it does then.
 use Rattle.std.specs.Prelude.{◌≡◌, ◌<◌, ◌^◌, length, ℕ, false, List, [], ◌∷◌, chars, codes, IsOkAnd, Result, Ok, Err}
 use Rattle.atspi_base.specs.Text.{HasNoZero}
-use Rattle.atspi_valid_names.specs.Names.{IsPath}
+use Rattle.atspi_base.specs.valid_names.Names.{IsPath}
 use Rattle.atspi_types.specs.Kinds.{u32, text, variant}
 use Rattle.atspi_types.specs.Data.{number_data, text_data, dictionary_data, no_entries}
 use Rattle.atspi_protocol.specs.ends.Places.{references}

@@ -2,7 +2,7 @@
 
 ghost use Rattle.std.specs.Prelude.{◌≡◌, ◌<◌, ◌^◌, Some, IfSome, chars, length};
 ghost use Rattle.atspi_base.specs.Text.{HasNoZero};
-ghost use Rattle.atspi_valid_names.specs.Names.{IsPath};
+ghost use Rattle.atspi_base.specs.valid_names.Names.{IsPath};
 ghost use Rattle.atspi_cursor.specs.Items.{item_data, fields_data};
 ghost use Rattle.atspi_protocol.specs.members.Arguments.{characters_in, signed_in, text_at, signed_at};
 ghost use Rattle.atspi_registry_calls.specs.Arguments.{reference_of, lent_references};

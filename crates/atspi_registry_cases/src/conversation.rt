@@ -1,8 +1,8 @@
 //! What a registry takes, and what it queues then.
 
 use atspi_base::Bytes;
+use atspi_event_texts::messages::message_text;
 use atspi_message_words::{bytes_of, lent};
-use atspi_owned_text::message_text;
 use atspi_registry::Registry;
 use std::alloc::Global;
 

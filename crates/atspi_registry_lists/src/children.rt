@@ -6,7 +6,7 @@ ghost use Rattle.atspi_protocol.specs.registering.RegistryState as state;
 ghost use Rattle.atspi_protocol.specs.registering.RegistryState.{child_place};
 
 use atspi_base::NoMemory;
-use atspi_valid_names::{BusName, Path};
+use atspi_base::valid_names::{BusName, Path};
 use std::alloc::Global;
 use std::marker::Model;
 

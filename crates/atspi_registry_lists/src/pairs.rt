@@ -5,9 +5,9 @@ ghost use Rattle.atspi_protocol.specs.registering.RegistryState as state;
 ghost use Rattle.atspi_protocol.specs.registering.RegistryState.{has_pair, without_pair, pairs_without};
 ghost use Rattle.atspi_protocol.specs.registering.Told.{is_asked_for};
 
+use atspi_base::valid_names::BusName;
 use atspi_base::{NoMemory, Text};
 use atspi_protocol::ends::covers;
-use atspi_valid_names::BusName;
 use std::alloc::Global;
 use std::marker::Model;
 

@@ -9,13 +9,13 @@ use Rattle.std.proofs.lemmas.Bool.{and_parts}
 use Rattle.std.specs.Char.{is_ascii_digit}
 use borrow.Author.Tests.{eqb-true}
 use Rattle.atspi_base.specs.Text.{HasNoZero, bytes_before_zero}
-use Rattle.atspi_valid_names.specs.declared.elements.Form.{Form}
-use Rattle.atspi_valid_names.specs.declared.elements.Form.TheVariants.{Path, Interface, WellKnown, Unique}
-use Rattle.atspi_valid_names.specs.Elements.{may_follow, may_begin, parts_of, in_front}
-use Rattle.atspi_valid_names.specs.Names.{IsElement, IsBusName, HasBusElements, is_bus_name, ReadsName}
-use Rattle.atspi_valid_names.specs.declared.fault.NameFault.{NameFault}
-use Rattle.atspi_valid_names.specs.declared.fault.NameFault.TheVariants as faults
-use Rattle.atspi_valid_names.proofs.NameLemmas.{IsAscii-IsBusName, IsBusName-from_test}
+use Rattle.atspi_base.specs.declared.valid_names.elements.Form.{Form}
+use Rattle.atspi_base.specs.declared.valid_names.elements.Form.TheVariants.{Path, Interface, WellKnown, Unique}
+use Rattle.atspi_base.specs.valid_names.Elements.{may_follow, may_begin, parts_of, in_front}
+use Rattle.atspi_base.specs.valid_names.Names.{IsElement, IsBusName, HasBusElements, is_bus_name, ReadsName}
+use Rattle.atspi_base.specs.declared.valid_names.fault.NameFault.{NameFault}
+use Rattle.atspi_base.specs.declared.valid_names.fault.NameFault.TheVariants as faults
+use Rattle.atspi_base.proofs.OfValidNames.NameLemmas.{IsAscii-IsBusName, IsBusName-from_test}
 
 -- a byte of an element is not zero
 follow_above : (form : Form) (b : ℕ) → may_follow form b ≡ true → 0 < b

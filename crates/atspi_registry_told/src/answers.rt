@@ -12,11 +12,11 @@ ghost use Rattle.atspi_registry_told.specs.Values.{pair_data};
 
 use crate::listeners::pair_body;
 use crate::values::reference_value;
+use atspi_base::valid_names::{BusName, Path};
 use atspi_base::{NoMemory, Text};
 use atspi_protocol::ends::path;
 use atspi_telling::{reference, reference_type, word};
 use atspi_types::{Ty, Tys, Value, Values};
-use atspi_valid_names::{BusName, Path};
 use std::alloc::Global;
 
 /// One value.
@@ -86,7 +86,7 @@ pub fn children_body(alloc: Global, children: &[(BusName, Path)]) -> Result<Valu
 }
 
 /// Nobody, told by the registry's own name.
-#[tactic(auto, unfolding(atspi_valid_names::specs::Names::is_path, atspi_valid_names::specs::Elements::are_elements, atspi_valid_names::specs::Elements::parts_of))]
+#[tactic(auto, unfolding(atspi_base::specs::valid_names::Names::is_path, atspi_base::specs::valid_names::Elements::are_elements, atspi_base::specs::valid_names::Elements::parts_of))]
 fn nobody(alloc: Global, own: &Text) -> Result<Value, NoMemory>
     ensures { IfOk result (λ value. data_of value ≡ places.reference own.now null_path) }
 {
@@ -137,7 +137,7 @@ pub fn child_body(
 }
 
 /// The reference of the registry's root.
-#[tactic(auto, unfolding(atspi_valid_names::specs::Names::is_path, atspi_valid_names::specs::Elements::are_elements, atspi_valid_names::specs::Elements::parts_of))]
+#[tactic(auto, unfolding(atspi_base::specs::valid_names::Names::is_path, atspi_base::specs::valid_names::Elements::are_elements, atspi_base::specs::valid_names::Elements::parts_of))]
 fn root_value(alloc: Global) -> Result<Value, NoMemory>
     ensures { IfOk result (λ value. data_of value ≡ registry_root) }
 {

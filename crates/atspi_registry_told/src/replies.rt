@@ -7,10 +7,10 @@ ghost use Rattle.atspi_protocol.specs.ends.Messages as messages;
 ghost use Rattle.atspi_protocol.specs.ends.Messages.{error_word, returns, fails, replies};
 
 use atspi_base::NoMemory;
+use atspi_base::valid_names::BusName;
 use atspi_header::MessageRef;
 use atspi_protocol::ends::{CallError, Mail, error_to, return_to};
 use atspi_types::Values;
-use atspi_valid_names::BusName;
 use std::alloc::Global;
 
 /// Whether the caller waits for a reply.

@@ -14,11 +14,11 @@ ghost use Rattle.atspi_telling.specs.Plain.{are_plain};
 use crate::properties::count_variant;
 use crate::values::{count_value, reference_value};
 use atspi_base::NoMemory;
+use atspi_base::valid_names::{BusName, Path};
 use atspi_message::Message;
 use atspi_protocol::ends::{call_to, interface, member};
 use atspi_telling::{reference_type, signal, word};
 use atspi_types::{Pairs, Ty, Value, Values};
-use atspi_valid_names::{BusName, Path};
 use std::alloc::Global;
 
 /// A reference in a variant.
@@ -55,7 +55,7 @@ fn news_body(
 }
 
 /// News of a child.
-#[tactic(auto, unfolding(atspi_valid_names::specs::Names::is_path, atspi_valid_names::specs::Names::is_interface, atspi_valid_names::specs::Names::is_member, atspi_valid_names::specs::Elements::are_two_or_more, atspi_valid_names::specs::Elements::are_elements, atspi_valid_names::specs::Elements::parts_of))]
+#[tactic(auto, unfolding(atspi_base::specs::valid_names::Names::is_path, atspi_base::specs::valid_names::Names::is_interface, atspi_base::specs::valid_names::Names::is_member, atspi_base::specs::valid_names::Elements::are_two_or_more, atspi_base::specs::valid_names::Elements::are_elements, atspi_base::specs::valid_names::Elements::parts_of))]
 fn news(alloc: Global, body: Values) -> Result<Message, NoMemory>
     ensures { IfOk result (λ message. envelope_of message ≡ messages.signal_of root_path (codes "org.a11y.atspi.Event.Object") (codes "ChildrenChanged") (all_data body)) }
 {
@@ -106,7 +106,7 @@ fn id_body(alloc: Global, n: usize) -> Result<Values, NoMemory>
 }
 
 /// The call that gives an embedded root its number.
-#[tactic(auto, unfolding(atspi_valid_names::specs::Names::is_interface, atspi_valid_names::specs::Names::is_member, atspi_valid_names::specs::Elements::are_two_or_more, atspi_valid_names::specs::Elements::are_elements, atspi_valid_names::specs::Elements::parts_of))]
+#[tactic(auto, unfolding(atspi_base::specs::valid_names::Names::is_interface, atspi_base::specs::valid_names::Names::is_member, atspi_base::specs::valid_names::Elements::are_two_or_more, atspi_base::specs::valid_names::Elements::are_elements, atspi_base::specs::valid_names::Elements::parts_of))]
 pub fn id_call(alloc: Global, name: &BusName, place: &Path, n: usize) -> Result<Message, NoMemory>
     ensures { IfOk result (λ message. envelope_of message ≡ told.id_call (name.now, place.now) n) }
 {

@@ -11,7 +11,7 @@ use atspi_types::{Value, Values};
 use std::alloc::Global;
 
 /// Hello.
-#[tactic(auto, unfolding(atspi_valid_names::specs::Names::is_member))]
+#[tactic(auto, unfolding(atspi_base::specs::valid_names::Names::is_member))]
 pub fn hello_call(alloc: Global) -> Result<Message, NoMemory>
     ensures { IfOk result (λ message. envelope_of message ≡ told.hello_call) }
 {
@@ -19,7 +19,7 @@ pub fn hello_call(alloc: Global) -> Result<Message, NoMemory>
 }
 
 /// RequestName of the registry's well-known name, which does not queue.
-#[tactic(auto, unfolding(atspi_valid_names::specs::Names::is_member))]
+#[tactic(auto, unfolding(atspi_base::specs::valid_names::Names::is_member))]
 pub fn request_call(alloc: Global) -> Result<Message, NoMemory>
     ensures { IfOk result (λ message. envelope_of message ≡ told.request_call) }
 {
@@ -31,7 +31,7 @@ pub fn request_call(alloc: Global) -> Result<Message, NoMemory>
 }
 
 /// AddMatch of the bus's news of owners.
-#[tactic(auto, unfolding(atspi_valid_names::specs::Names::is_member))]
+#[tactic(auto, unfolding(atspi_base::specs::valid_names::Names::is_member))]
 pub fn match_call(alloc: Global) -> Result<Message, NoMemory>
     ensures { IfOk result (λ message. envelope_of message ≡ told.match_call) }
 {

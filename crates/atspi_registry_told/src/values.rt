@@ -6,10 +6,10 @@ ghost use Rattle.atspi_types.specs.DataView.{data_of};
 ghost use Rattle.atspi_protocol.specs.ends.Places as places;
 ghost use Rattle.atspi_protocol.specs.registering.Told.{count};
 
+use atspi_base::valid_names::{BusName, Path};
 use atspi_base::{NoMemory, Text};
 use atspi_telling::reference;
 use atspi_types::Value;
-use atspi_valid_names::{BusName, Path};
 use std::alloc::Global;
 
 /// The name as a text.

@@ -12,9 +12,9 @@ use Rattle.atspi_trace.specs.Entry.{Entry, entries_of}
 use Rattle.atspi_trace.specs.World as worlds
 use Rattle.atspi_trace.specs.Work.{work_of}
 use Rattle.atspi_trace.specs.Due.{Begun}
-use Rattle.atspi_play.specs.Playing.{Playing, first_playing}
-use Rattle.atspi_play.specs.Played.{refused, PlaysOut, IsPlayed, begun}
-use Rattle.atspi_play.specs.Breaking.{does_next, IsLostAt, IsSpentAt}
+use Rattle.atspi_trace.specs.play.Playing.{Playing, first_playing}
+use Rattle.atspi_trace.specs.play.Played.{refused, PlaysOut, IsPlayed, begun}
+use Rattle.atspi_trace.specs.play.Breaking.{does_next, IsLostAt, IsSpentAt}
 use Rattle.atspi_carrying.specs.Halted.{HaveNames}
 use Rattle.atspi_stage.specs.Worlds.{Staged, IsPlaying}
 use Rattle.atspi_stage.specs.Lines.{IsLineDone}

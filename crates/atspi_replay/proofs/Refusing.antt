@@ -6,9 +6,9 @@ use Rattle.atspi_trace.specs.Work as work
 use Rattle.atspi_trace.specs.Work.{Refusal, resting, work_of}
 use Rattle.atspi_trace.specs.Due.{Scene, rested, scene_of, unless_refused, is_lost, refusal_in, refusal_at, Lawful, Begun}
 use Rattle.atspi_lawful.specs.order.Scripts.{CanAllStand}
-use Rattle.atspi_play.specs.Playing.{Playing}
-use Rattle.atspi_play.specs.Played.{refused, IsPlayed}
-use Rattle.atspi_play.specs.Breaking.{IsLostAt, IsSpentAt}
+use Rattle.atspi_trace.specs.play.Playing.{Playing}
+use Rattle.atspi_trace.specs.play.Played.{refused, IsPlayed}
+use Rattle.atspi_trace.specs.play.Breaking.{IsLostAt, IsSpentAt}
 use Rattle.atspi_played.proofs.AllPieces.{pieces}
 use Rattle.atspi_played.proofs.Building.{onwards}
 use Rattle.atspi_played.proofs.Playing.{agrees, is_lawful, played_stage}

@@ -14,8 +14,8 @@ use Rattle.atspi_lines.specs.declared.line.Line.TheVariants.{App, Reader, Drain,
 use Rattle.atspi_make.specs.Drawing.{drawn_edit}
 use Rattle.atspi_trace.specs.Entry.{Entry, entries_of}
 use Rattle.atspi_trace.specs.Due.{Lawful}
-use Rattle.atspi_play.specs.Playing.{first_playing}
-use Rattle.atspi_play.specs.Played.{IsPlayed, begun}
+use Rattle.atspi_trace.specs.play.Playing.{first_playing}
+use Rattle.atspi_trace.specs.play.Played.{IsPlayed, begun}
 use Rattle.atspi_stage.specs.Lines.{IsLineDone, LineDone}
 use Rattle.atspi_stage.specs.MayAct.{MayAct}
 use Rattle.atspi_stage.specs.Worlds.{Staged, IsPlaying}

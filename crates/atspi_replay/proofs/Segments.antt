@@ -5,8 +5,8 @@ use Rattle.atspi_lines.specs.declared.line.Line.TheVariants.{Blank, Quota, App, 
 use Rattle.atspi_lines.specs.Line.{Spells}
 use Rattle.atspi_trace.specs.Entry.{Entry}
 use Rattle.atspi_lawful.specs.order.Scripts.{CanStand}
-use Rattle.atspi_play.specs.Playing.{Playing}
-use Rattle.atspi_play.specs.Played.{IsPlayed, did}
+use Rattle.atspi_trace.specs.play.Playing.{Playing}
+use Rattle.atspi_trace.specs.play.Played.{IsPlayed, did}
 use Rattle.atspi_stage.specs.MayAct.{MayAct}
 use Rattle.atspi_stage.specs.Worlds.{Staged}
 use Rattle.atspi_stage.specs.Lines.{IsLineDone}

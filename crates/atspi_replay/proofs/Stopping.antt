@@ -21,8 +21,8 @@ use Rattle.atspi_posts.proofs.Changes.{get-map}
 use Rattle.atspi_lawful.specs.order.Scripts.{CanAllStand}
 use Rattle.atspi_played.specs.Turns.{IsUnspent}
 use Rattle.atspi_played.proofs.PlayedTurns.{drains_end}
-use Rattle.atspi_play.specs.Breaking.{IsLostAt, IsSpentAt}
-use Rattle.atspi_play.specs.Played as playing
+use Rattle.atspi_trace.specs.play.Breaking.{IsLostAt, IsSpentAt}
+use Rattle.atspi_trace.specs.play.Played as playing
 use Rattle.atspi_stage.specs.declared.fault.ActFault.{ActFault}
 use Rattle.atspi_stage.specs.declared.fault.ActFault.TheVariants as act
 use Rattle.atspi_cast.specs.declared.refusing.Refusal.{Refusal}

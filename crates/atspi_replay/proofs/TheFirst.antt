@@ -42,7 +42,7 @@ use Rattle.atspi_lawful.proofs.OfSteps.Steps.{TreeIs}
 use Rattle.atspi_lawful.proofs.OfHeld.Keeping.{ReaderIs, SameKept}
 use Rattle.atspi_lawful.proofs.OfHeld.LawHeld.{Below_held, Holds, holds_keep}
 use Rattle.atspi_lawful.proofs.OfViews.LawViews.{trees_stand}
-use Rattle.atspi_play.specs.Playing.{held_by, unique_in, view_rows}
+use Rattle.atspi_trace.specs.play.Playing.{held_by, unique_in, view_rows}
 use Rattle.atspi_played.proofs.AllPieces.{pieces}
 use Rattle.atspi_played.proofs.Facts.{Ground}
 use Rattle.atspi_played.proofs.Playing.{played_stage}

@@ -17,9 +17,9 @@ use Rattle.atspi_carrying.specs.Halted.{Naming, naming_of, HaveNames}
 use Rattle.atspi_trace.specs.Entry.{Entry, entry_of, entries_of}
 use Rattle.atspi_trace.specs.World.{End, World}
 use Rattle.atspi_trace.specs.Ends.{same_party}
-use Rattle.atspi_play.specs.Playing.{Playing, unique_in}
-use Rattle.atspi_play.specs.Played as played
-use Rattle.atspi_play.specs.Played.{IsPlayed}
+use Rattle.atspi_trace.specs.play.Playing.{Playing, unique_in}
+use Rattle.atspi_trace.specs.play.Played as played
+use Rattle.atspi_trace.specs.play.Played.{IsPlayed}
 use Rattle.atspi_cast.specs.Places.{post_of}
 use Rattle.atspi_cast.specs.Wires as wires
 use Rattle.atspi_cast.specs.Wires.{name_if, event_bytes}

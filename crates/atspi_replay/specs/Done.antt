@@ -7,9 +7,9 @@ use Rattle.atspi_trace.specs.Entry.{Entry, dropped}
 use Rattle.atspi_trace.specs.World.{World}
 use Rattle.atspi_trace.specs.Work.{Work, work_of}
 use Rattle.atspi_trace.specs.Due.{begins, at_work, after_all, is_lost, Lawful, Begun, refusal_at}
-use Rattle.atspi_play.specs.Playing.{Playing}
-use Rattle.atspi_play.specs.Played.{refused}
-use Rattle.atspi_play.specs.Breaking.{does_next, IsLostAt, IsSpentAt}
+use Rattle.atspi_trace.specs.play.Playing.{Playing}
+use Rattle.atspi_trace.specs.play.Played.{refused}
+use Rattle.atspi_trace.specs.play.Breaking.{does_next, IsLostAt, IsSpentAt}
 use Rattle.atspi_cast.specs.Refusals.{refusal_of}
 use Rattle.atspi_replay.specs.declared.naming.Halt.{Halt}
 use Rattle.atspi_replay.specs.declared.naming.Halt.TheVariants.{RegistryLost, Spent}

@@ -16,9 +16,9 @@ use Rattle.atspi_trace.specs.Due.{Begun, Lawful, refusal_at}
 use Rattle.atspi_lawful.specs.laws.NineLaws.{rows_due}
 use Rattle.atspi_lawful.specs.laws.Words.{added, held, live_tree}
 use Rattle.atspi_lawful.specs.order.Scripts.{CanAllStand}
-use Rattle.atspi_play.specs.Playing.{Playing}
-use Rattle.atspi_play.specs.Played as playing
-use Rattle.atspi_play.specs.Played.{IsPlayed}
+use Rattle.atspi_trace.specs.play.Playing.{Playing}
+use Rattle.atspi_trace.specs.play.Played as playing
+use Rattle.atspi_trace.specs.play.Played.{IsPlayed}
 use Rattle.atspi_stage.specs.Lines.{LineDone}
 use Rattle.atspi_cast.specs.Shown.{row_total}
 use Rattle.atspi_stage.specs.Worlds.{Staged, IsPlaying}

@@ -12,8 +12,8 @@ use Rattle.atspi_trace.specs.World.{End, World}
 use Rattle.atspi_trace.specs.Ends.{same_party}
 use Rattle.atspi_trace.specs.Work.{work_of}
 use Rattle.atspi_trace.specs.Due.{is_lost}
-use Rattle.atspi_play.specs.Playing.{Playing, first_playing, unique_in}
-use Rattle.atspi_play.specs.Played.{refused, PlaysOut}
+use Rattle.atspi_trace.specs.play.Playing.{Playing, first_playing, unique_in}
+use Rattle.atspi_trace.specs.play.Played.{refused, PlaysOut}
 use Rattle.atspi_replay.specs.Told.{Told, entries_told}
 
 -- the last message of a party with a serial that some entries tell as sent

@@ -3,7 +3,7 @@
 ghost use Rattle.std.specs.Prelude.{◌≡◌, [], All, OnOk, OnErr, length};
 ghost use Rattle.std.specs.Io.KnownBytes.{Appends};
 ghost use Rattle.atspi_lines.specs.declared.limits.TheConstants.{APP_COUNT, QUOTA_MOST};
-ghost use Rattle.atspi_play.specs.Playing.{first_playing};
+ghost use Rattle.atspi_trace.specs.play.Playing.{first_playing};
 ghost use Rattle.atspi_stage.specs.Stage.{IsStage, trace_of};
 ghost use Rattle.atspi_stage.specs.Worlds.{staged, IsPlaying};
 ghost use Rattle.atspi_trace.specs.Work.{spare_count};

@@ -1,13 +1,13 @@
 -- What was done of a line, one cause at a time.
 use Rattle.std.proofs.Common.{◌≡◌, ◌⊎◌, inl, inr, List, [], ◌∷◌, ◌++◌, refl, sym, ap, subst, ◌∙◌}
-use Rattle.atspi_routing.specs.Queues.{Bus}
+use Rattle.atspi_match.specs.routing.Queues.{Bus}
 use Rattle.atspi_trace.specs.Causes.{Cause}
 use Rattle.atspi_trace.specs.Entry.{Entry}
 use Rattle.atspi_trace.specs.Work.{Work, cause, doing, next_of, rests, resting}
 use Rattle.atspi_trace.specs.World.{World}
-use Rattle.atspi_play.specs.Breaking.{IsAtWork, PlaysOn, caused, does_next, so_far}
-use Rattle.atspi_play.specs.Playing.{Happened, Playing}
-use Rattle.atspi_play.specs.Plays.{plays}
+use Rattle.atspi_trace.specs.play.Breaking.{IsAtWork, PlaysOn, caused, does_next, so_far}
+use Rattle.atspi_trace.specs.play.Playing.{Happened, Playing}
+use Rattle.atspi_trace.specs.play.Plays.{plays}
 use Rattle.atspi_replay_examples.specs.Small.{playing, two_ends}
 
 -- nothing was done, or the next cause was, and then some

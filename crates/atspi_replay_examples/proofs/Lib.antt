@@ -1,1 +1,2 @@
 pub mod CauseByCause
+pub mod OfMake

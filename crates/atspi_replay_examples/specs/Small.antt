@@ -9,14 +9,14 @@ use Rattle.atspi_protocol.specs.declared.following.question.Question.TheVariants
 use Rattle.atspi_protocol.specs.following.Calls.{user_call}
 use Rattle.atspi_protocol.specs.following.Cases.{returned}
 use Rattle.atspi_protocol.specs.following.ReaderState.{begins, start_calls}
-use Rattle.atspi_routing.specs.Queues.{Bus}
+use Rattle.atspi_match.specs.routing.Queues.{Bus}
 use Rattle.atspi_trace.specs.Entry.{Entry}
 use Rattle.atspi_trace.specs.World.{waits, a_reader, Hearer, Letter, End, World, first_registry, newcomer}
 use Rattle.atspi_trace.specs.Ends.{plain, stops}
 use Rattle.atspi_trace.specs.Causes.{Cause, calls, gets}
 use Rattle.atspi_trace.specs.Work.{Work}
-use Rattle.atspi_play.specs.Playing.{Playing}
-use Rattle.atspi_play.specs.Plays.{plays}
+use Rattle.atspi_trace.specs.play.Playing.{Playing}
+use Rattle.atspi_trace.specs.play.Plays.{plays}
 use Rattle.atspi_replay.specs.declared.naming.Halt.{Halt}
 use Rattle.atspi_replay.specs.Done.{BreaksOff, IsReached}
 use Rattle.atspi_replay.specs.Told.{Told}

@@ -2,6 +2,7 @@
 //! a function without a body. So a definition that says otherwise is refused here.
 #![tactic(auto)]
 
+pub mod make;
 mod reached;
 mod texts;
 mod wired;

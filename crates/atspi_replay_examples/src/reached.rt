@@ -2,12 +2,12 @@
 
 ghost use Rattle.std.specs.Prelude.{◌≡◌, ◌⊎◌, ◌∷◌, [], ℕ, List};
 ghost use Rattle.atspi_lines.specs.declared.line.Party.TheVariants as party;
-ghost use Rattle.atspi_routing.specs.Queues.{Bus};
+ghost use Rattle.atspi_match.specs.routing.Queues.{Bus};
 ghost use Rattle.atspi_trace.specs.Causes.{exits};
 ghost use Rattle.atspi_trace.specs.Entry.{Entry, dropped, exited, got, quiet, sent};
 ghost use Rattle.atspi_trace.specs.Work.{doing, turning};
 ghost use Rattle.atspi_trace.specs.World.{World};
-ghost use Rattle.atspi_play.specs.Breaking.{IsPast};
+ghost use Rattle.atspi_trace.specs.play.Breaking.{IsPast};
 ghost use Rattle.atspi_replay.specs.Done.{EndsWith};
 ghost use Rattle.atspi_replay.specs.declared.naming.Halt.TheVariants as halt;
 ghost use Rattle.atspi_replay_examples.specs.Small.{Reaches, call_message, call_waits, last_call, one_taken, playing, reader_stopped, registry_stopped, two_ends, two_letters};

@@ -7,7 +7,7 @@ ghost use Rattle.atspi_message.specs.Bytes.{written};
 ghost use Rattle.atspi_message.specs.Envelope.{Envelope};
 ghost use Rattle.atspi_protocol.specs.declared.following.question.Question.TheVariants.{GetChildren, Hello};
 ghost use Rattle.atspi_protocol.specs.following.Calls.{asking};
-ghost use Rattle.atspi_routing.specs.Queues.{Bus};
+ghost use Rattle.atspi_match.specs.routing.Queues.{Bus};
 ghost use Rattle.atspi_trace.specs.Entry.{got, quiet, sent};
 ghost use Rattle.atspi_replay.specs.Wired.{AreWired, as_taken, bytes_behind, name_of, sent_in};
 ghost use Rattle.atspi_replay_examples.specs.Small.{nameless, two_ends};

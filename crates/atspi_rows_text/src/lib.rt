@@ -2,7 +2,7 @@
 #![tactic(auto)]
 
 ghost use Rattle.std.specs.Prelude.{◌≡◌, ◌++◌, map, OnErr, OnOk};
-ghost use Rattle.atspi_play.specs.Playing.{shown_sight};
+ghost use Rattle.atspi_trace.specs.play.Playing.{shown_sight};
 ghost use Rattle.atspi_rows_text.specs.RowsText.{rows_text};
 
 use atspi_arena::Rows;

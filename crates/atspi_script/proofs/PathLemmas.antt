@@ -4,11 +4,11 @@ use Rattle.std.proofs.lemmas.Bool.Decides.{nat_tests}
 use Rattle.std.proofs.lemmas.Bool.{or_cases, eqb-true}
 use Rattle.std.specs.List.{flat_map}
 use Rattle.atspi_base.specs.Quoted.{escaped}
-use Rattle.atspi_valid_names.specs.Names.{IsPath, is_path}
-use Rattle.atspi_valid_names.specs.Elements.{may_come, are_elements}
-use Rattle.atspi_valid_names.specs.declared.elements.Form.TheVariants.{Path}
-use Rattle.atspi_valid_names.proofs.ElementLemmas.{goes_on, goes_on-are_elements}
-use Rattle.atspi_valid_names.proofs.NameLemmas.{is_path-from_IsPath}
+use Rattle.atspi_base.specs.valid_names.Names.{IsPath, is_path}
+use Rattle.atspi_base.specs.valid_names.Elements.{may_come, are_elements}
+use Rattle.atspi_base.specs.declared.valid_names.elements.Form.TheVariants.{Path}
+use Rattle.atspi_base.proofs.OfValidNames.ElementLemmas.{goes_on, goes_on-are_elements}
+use Rattle.atspi_base.proofs.OfValidNames.NameLemmas.{is_path-from_IsPath}
 
 -- a byte that may stand in a path stands between quotes as it is
 comes_plain : (inside : Bool) (b : ℕ) → may_come Path 47 inside b ≡ true → escaped b ≡ b ∷ []

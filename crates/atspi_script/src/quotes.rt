@@ -3,7 +3,7 @@
 ghost use Rattle.std.specs.Prelude.{◌≡◌, ◌+◌, ◌≤◌, [], ◌∷◌, ◌++◌, IsTrue, OnOk, length, take};
 ghost use Rattle.std.specs.List.{flat_map, list_all};
 ghost use Rattle.atspi_base.specs.Quoted.{escaped, in_quotes};
-ghost use Rattle.atspi_valid_names.specs.Names.{IsPath, is_path};
+ghost use Rattle.atspi_base.specs.valid_names.Names.{IsPath, is_path};
 ghost use Rattle.atspi_script.specs.Marks.{stands};
 
 use atspi_base::{Bytes, NoMemory};

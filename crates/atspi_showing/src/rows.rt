@@ -3,13 +3,13 @@
 ghost use Rattle.std.specs.Prelude.{◌≡◌, ◌-◌, ◌^◌, map, length, min, IfOk};
 ghost use Rattle.std.specs.Option.{option_copied};
 ghost use Rattle.atspi_arena.specs.Walk.{seen_sight};
-ghost use Rattle.atspi_play.specs.Playing.{shown_sight};
+ghost use Rattle.atspi_trace.specs.play.Playing.{shown_sight};
 
 use atspi_arena::{Rows, Seen};
 use atspi_base::NoMemory;
+use atspi_base::valid_names::Path;
 use atspi_events::{Shown, ShownRow};
 use atspi_forest::{NumPart, Part, Row};
-use atspi_valid_names::Path;
 use std::alloc::Global;
 
 /// An equal number of a row.

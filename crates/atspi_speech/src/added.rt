@@ -7,9 +7,9 @@ ghost use Rattle.atspi_speech.specs.Looked.{adds};
 ghost use Rattle.atspi_speech.specs.Speech.{alert_lines, of_row};
 
 use crate::line::Line;
+use atspi_base::valid_names::Path;
 use atspi_base::{NoMemory, Text, Texts};
 use atspi_forest::{Item, Row};
-use atspi_valid_names::Path;
 use std::alloc::Global;
 
 const ALERT: u32 = 2;

@@ -10,9 +10,9 @@ ghost use Rattle.atspi_speech.specs.Speech.{closing_of, lines};
 use crate::added::item_came;
 use crate::focus::{renamed, state_changed, text_changed};
 use crate::line::Line;
+use atspi_base::valid_names::Path;
 use atspi_base::{NoMemory, Text, Texts};
 use atspi_forest::{News, Row};
-use atspi_valid_names::Path;
 use std::alloc::Global;
 
 /// Appends the lines that are spoken at a news of an application that is held, read from the view that the news will make.

@@ -4,9 +4,9 @@ use Rattle.std.specs.Prelude.{Result, Ok, Err, ◌&&◌, filter, codes, if◌the
 use Rattle.std.specs.List.{AllByRecursion, list_any}
 use Rattle.atspi_message.specs.Envelope.{Envelope}
 use Rattle.atspi_protocol.specs.ends.Messages.{Reply, returns, fails, reply_to, replies, expects_reply}
-use Rattle.atspi_routing.specs.declared.member.BusMember.{BusMember}
-use Rattle.atspi_routing.specs.declared.member.BusMember.TheVariants.{AddMatch, RemoveMatch}
-use Rattle.atspi_routing.specs.Members.{member_lines, is_of, is_text, first_line, with_arguments, member_of}
+use Rattle.atspi_match.specs.declared.routing.member.BusMember.{BusMember}
+use Rattle.atspi_match.specs.declared.routing.member.BusMember.TheVariants.{AddMatch, RemoveMatch}
+use Rattle.atspi_match.specs.routing.Members.{member_lines, is_of, is_text, first_line, with_arguments, member_of}
 use Rattle.atspi_bus_steps.specs.Spoken.{IsRuleOf, IsRuleNamed}
 use Rattle.atspi_trace.specs.Rules.{rule_in}
 

@@ -13,7 +13,7 @@ use Rattle.atspi_protocol.specs.exporting.Hearing.{Change, unchanged, is_heard, 
 use Rattle.atspi_protocol.specs.exporting.Starting.{name_or_empty, start_call, asks, starts, ends_start, unique_name_in, greeted, listened, goes_on, awaited}
 use Rattle.atspi_protocol.specs.exporting.Taking.{answer_to, call_happens, called, stepped, takes_call, takes_signal, takes_other, app_takes}
 use Rattle.atspi_protocol.specs.exporting.Telling.{steps_told}
-use Rattle.atspi_routing.specs.declared.member.BusMember.TheVariants.{Hello, AddMatch, RemoveMatch}
+use Rattle.atspi_match.specs.declared.routing.member.BusMember.TheVariants.{Hello, AddMatch, RemoveMatch}
 use Rattle.atspi_bus_steps.specs.Spoken.{IsRuleOf}
 use Rattle.atspi_trace.specs.Rules.{rule_in}
 use Rattle.atspi_trace.proofs.RulesRead.{rules_read}

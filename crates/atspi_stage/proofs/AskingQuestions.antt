@@ -12,7 +12,7 @@ use Rattle.atspi_protocol.specs.declared.following.question.Question.{Question}
 use Rattle.atspi_protocol.specs.declared.following.question.Question.TheVariants.{Hello, AddMatch, RegisterEvent, GetChildren, GetItems, GetPart}
 use Rattle.atspi_protocol.specs.following.Calls.{asking, user_call}
 use Rattle.atspi_protocol.specs.following.ReaderState.{start_calls}
-use Rattle.atspi_routing.specs.declared.member.BusMember.TheVariants as members
+use Rattle.atspi_match.specs.declared.routing.member.BusMember.TheVariants as members
 use Rattle.atspi_bus_steps.specs.Spoken.{IsRuleOf}
 use Rattle.atspi_trace.specs.Hearing.{question_in}
 use Rattle.atspi_trace.specs.Rules.{rule_in}

@@ -7,7 +7,7 @@ use Rattle.atspi_message.specs.Bytes.{IsMessage, written}
 use Rattle.atspi_lines.specs.declared.line.Party.TheVariants as party
 use Rattle.atspi_protocol.specs.registering.RegistryState.{begins}
 use Rattle.atspi_protocol.specs.registering.Steps.{Registry, starts}
-use Rattle.atspi_routing.specs.Queues.{Bus, empty_bus}
+use Rattle.atspi_match.specs.routing.Queues.{Bus, empty_bus}
 use Rattle.atspi_events.specs.declared.event.Event.{Event}
 use Rattle.atspi_posts.specs.declared.post.Post.{Post}
 use Rattle.atspi_trace.specs.Entry.{Entry, entry_of, entries_of, sent}
@@ -19,8 +19,8 @@ use Rattle.atspi_carrying.specs.Carried.{post_of, IsCarried}
 use Rattle.atspi_carrying.specs.Linked.{IsLinked}
 use Rattle.atspi_carrying.proofs.Beginning.{name, nobody_waits, calls, called_world, third_taken, called_carried, greeting_up, first_carried, heard, greeting_heard}
 use Rattle.atspi_carrying.proofs.Starting.{empty_linked, called_linked, heard_linked}
-use Rattle.atspi_play.specs.Playing.{Playing, first_playing}
-use Rattle.atspi_play.specs.Plays.{plays}
+use Rattle.atspi_trace.specs.play.Playing.{Playing, first_playing}
+use Rattle.atspi_trace.specs.play.Plays.{plays}
 use Rattle.atspi_cast.specs.Doing.{all_sent, TellsFirst}
 use Rattle.atspi_stage.specs.Hearing.{takes_all, HearsAll}
 use Rattle.atspi_stage.specs.Worlds.{Staged, BeginsWithRegistry, IsWorld, IsPlaying, Happens, IsBegun}

@@ -21,10 +21,10 @@ use Rattle.atspi_carrying.specs.Waits.{turn_of}
 use Rattle.atspi_carrying.specs.declared.waiting.Turn.TheVariants.{Route, Part, Get}
 use Rattle.atspi_carrying.proofs.Ties.{post_at}
 use Rattle.atspi_protocol.specs.following.ReaderState.{ReaderState}
-use Rattle.atspi_play.specs.Breaking as breaking
-use Rattle.atspi_play.specs.Breaking.{PlaysOn, IsAtWork, IsSpent}
-use Rattle.atspi_play.specs.Playing.{Playing, Happened}
-use Rattle.atspi_play.specs.Plays.{only, plays}
+use Rattle.atspi_trace.specs.play.Breaking as breaking
+use Rattle.atspi_trace.specs.play.Breaking.{PlaysOn, IsAtWork, IsSpent}
+use Rattle.atspi_trace.specs.play.Playing.{Playing, Happened}
+use Rattle.atspi_trace.specs.play.Plays.{only, plays}
 use Rattle.atspi_stage.specs.Halts.{IsLostBy, IsSpentBy, WorkLost, WorkSpent}
 use Rattle.atspi_stage.specs.Worlds.{Staged, who_of, AreApart, BeginsWithRegistry, IsWorld, IsPlaying}
 use Rattle.atspi_stage.proofs.Halted.{then_lost, then_spent}

@@ -14,10 +14,10 @@ use Rattle.atspi_protocol.specs.exporting.Starting.{name_or_empty}
 use Rattle.atspi_protocol.specs.following.ReaderState.{sends, ReaderState}
 use Rattle.atspi_protocol.specs.following.Calls.{user_call}
 use Rattle.atspi_protocol.specs.following.Takes.{reader_calls}
-use Rattle.atspi_routing.specs.declared.member.BusMember.{BusMember}
-use Rattle.atspi_routing.specs.declared.member.BusMember.TheVariants.{Hello, RequestName, ReleaseName, NameHasOwner, GetNameOwner, ListNames, ListQueuedOwners, AddMatch, RemoveMatch, GetId, Ping}
-use Rattle.atspi_routing.specs.Members.{member_lines, is_of, is_text, first_line, with_arguments, member_of}
-use Rattle.atspi_routing.specs.Queues.{Bus}
+use Rattle.atspi_match.specs.declared.routing.member.BusMember.{BusMember}
+use Rattle.atspi_match.specs.declared.routing.member.BusMember.TheVariants.{Hello, RequestName, ReleaseName, NameHasOwner, GetNameOwner, ListNames, ListQueuedOwners, AddMatch, RemoveMatch, GetId, Ping}
+use Rattle.atspi_match.specs.routing.Members.{member_lines, is_of, is_text, first_line, with_arguments, member_of}
+use Rattle.atspi_match.specs.routing.Queues.{Bus}
 use Rattle.atspi_bus_steps.specs.Spoken.{IsRuleOf, IsRuleNamed}
 use Rattle.atspi_posts.specs.declared.post.Post.{Post}
 use Rattle.atspi_trace.specs.Entry.{entries_of, sent}
@@ -34,9 +34,9 @@ use Rattle.atspi_carrying.proofs.Ties.{post_below}
 use Rattle.atspi_carrying.proofs.Views.{with-changed, all_with, within_more}
 use Rattle.atspi_carrying.specs.Linked.{IsLinked}
 use Rattle.atspi_carrying.proofs.Linked.{linked_same}
-use Rattle.atspi_play.specs.Playing.{Playing, silent}
-use Rattle.atspi_play.specs.Plays as play
-use Rattle.atspi_play.specs.Plays.{plays, with_reader}
+use Rattle.atspi_trace.specs.play.Playing.{Playing, silent}
+use Rattle.atspi_trace.specs.play.Plays as play
+use Rattle.atspi_trace.specs.play.Plays.{plays, with_reader}
 use Rattle.atspi_cast.specs.Doing.{sent_on, IsToldAll, TellsReaderAt, CallsAt}
 use Rattle.atspi_stage.specs.Worlds.{Staged, IsWorld, IsPlaying, Happens}
 use Rattle.atspi_stage.proofs.AskingReaders.{calls_left}

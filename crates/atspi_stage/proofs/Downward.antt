@@ -23,8 +23,8 @@ use Rattle.atspi_carrying.specs.Linked.{given_of, IsLinked}
 use Rattle.atspi_posts.proofs.Changes.{get-map}
 use Rattle.atspi_carrying.proofs.Downs.{begun_within}
 use Rattle.atspi_carrying.proofs.Filling.{part_awaits}
-use Rattle.atspi_play.specs.Playing.{Playing}
-use Rattle.atspi_play.specs.Plays.{asked, asked_with, got_at, got_by, reader_got, plays}
+use Rattle.atspi_trace.specs.play.Playing.{Playing}
+use Rattle.atspi_trace.specs.play.Plays.{asked, asked_with, got_at, got_by, reader_got, plays}
 use Rattle.atspi_stage.proofs.Taking.{with_at}
 use Rattle.atspi_stage.proofs.GotMessages.{letter_spelled}
 

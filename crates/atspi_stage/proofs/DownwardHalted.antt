@@ -1,7 +1,7 @@
 -- Bytes of a down link: the end that takes the message that they complete spends its serials.
 use Rattle.std.proofs.Common.{◌≡◌, ℕ, ◌+◌, ◌-◌, Bool, true, false, List, [], ◌∷◌, refl, sym, subst, ◌∙◌}
 use Rattle.std.specs.Prelude.{Some, nat_le}
-use Rattle.atspi_routing.specs.Queues.{Bus}
+use Rattle.atspi_match.specs.routing.Queues.{Bus}
 use Rattle.atspi_events.specs.declared.event.Event.{Event}
 use Rattle.atspi_posts.specs.declared.post.Post.{Post}
 use Rattle.atspi_trace.specs.World.{here, Letter, End, World}
@@ -11,7 +11,7 @@ use Rattle.atspi_trace.specs.Work.{moving_down, moved_down, next_down, next_of}
 use Rattle.atspi_carrying.specs.Carried.{post_of}
 use Rattle.atspi_carrying.specs.Linked.{given_of, BringsDown, ComesDown}
 use Rattle.atspi_carrying.proofs.Ties.{post_at}
-use Rattle.atspi_play.specs.Playing.{Playing}
+use Rattle.atspi_trace.specs.play.Playing.{Playing}
 use Rattle.atspi_cast.specs.Spending.{GetsSpent}
 use Rattle.atspi_stage.specs.Halts.{WorkSpent}
 use Rattle.atspi_cast.specs.Taken.{Ends}

@@ -3,7 +3,7 @@ use Rattle.std.proofs.Common.{◌≡◌, ℕ, ◌+◌, ◌-◌, ◌<◌, Bool, t
 use Rattle.std.specs.Prelude.{nat_le, slice_get, if◌then◌else◌}
 use Rattle.std.proofs.lemmas.Bool.{lt-leb}
 use Rattle.atspi_message.specs.Bytes.{written}
-use Rattle.atspi_routing.specs.Queues.{Bus}
+use Rattle.atspi_match.specs.routing.Queues.{Bus}
 use Rattle.atspi_trace.specs.World.{Standing, here, stopped, away, Letter, End, World}
 use Rattle.atspi_trace.specs.Ends.{end_at}
 use Rattle.atspi_trace.specs.Causes.{gets, missing}
@@ -17,7 +17,7 @@ use Rattle.atspi_posts.proofs.Changes.{set_same}
 use Rattle.atspi_carrying.proofs.Coming.{brings_down}
 use Rattle.atspi_carrying.proofs.Staying.{lives_so}
 use Rattle.atspi_carrying.proofs.Ties.{post_at}
-use Rattle.atspi_play.specs.Playing.{Playing}
+use Rattle.atspi_trace.specs.play.Playing.{Playing}
 use Rattle.atspi_stage.specs.Lines.{IsSegment}
 use Rattle.atspi_stage.specs.Taken.{Gets, is_standing, stands_here}
 use Rattle.atspi_stage.specs.Turns.{PartDone}

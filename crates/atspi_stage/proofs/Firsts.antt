@@ -5,7 +5,7 @@ use Rattle.std.proofs.lemmas.Option.{same_Some}
 use Rattle.atspi_lines.specs.declared.line.Party.{Party}
 use Rattle.atspi_lines.specs.declared.line.Party.TheVariants.{Bus as The_bus, Registry as The_registry}
 use Rattle.atspi_protocol.specs.registering.Steps.{Registry}
-use Rattle.atspi_routing.specs.Queues.{Bus}
+use Rattle.atspi_match.specs.routing.Queues.{Bus}
 use Rattle.atspi_trace.specs.World.{Role, the_registry, End, World}
 use Rattle.atspi_trace.specs.Ends.{is_here, same_party, end_at, with_end}
 use Rattle.atspi_trace.specs.Due.{is_lost}

@@ -5,7 +5,7 @@ use Rattle.atspi_lines.specs.declared.line.Party.{Party}
 use Rattle.atspi_lines.specs.declared.line.Party.TheVariants.{Bus as The_bus, Registry as The_registry, App, Reader}
 use Rattle.atspi_message.specs.Envelope.{Envelope}
 use Rattle.atspi_message.specs.Bytes.{IsMessage, written}
-use Rattle.atspi_routing.specs.Queues.{Bus}
+use Rattle.atspi_match.specs.routing.Queues.{Bus}
 use Rattle.atspi_events.specs.declared.event.Event.{Event}
 use Rattle.atspi_posts.specs.declared.post.Post.{Post}
 use Rattle.atspi_trace.specs.World.{Letter, End, World}
@@ -16,8 +16,8 @@ use Rattle.atspi_carrying.specs.Carried.{post_of}
 use Rattle.atspi_carrying.specs.Linked.{IsLinked, IsWhole, BringsDown}
 use Rattle.atspi_carrying.proofs.Coming.{always_enough}
 use Rattle.atspi_carrying.proofs.Ties.{all_at, post_at}
-use Rattle.atspi_play.specs.Playing.{Playing}
-use Rattle.atspi_play.specs.Plays.{plays}
+use Rattle.atspi_trace.specs.play.Playing.{Playing}
+use Rattle.atspi_trace.specs.play.Plays.{plays}
 use Rattle.atspi_stage.specs.Taken.{GotWhole, Gets}
 use Rattle.atspi_stage.specs.Worlds.{Staged, IsPlaying, Happens}
 use Rattle.atspi_stage.proofs.Apart.{not_bus}

@@ -6,9 +6,9 @@ use Rattle.atspi_trace.specs.Entry.{entries_of}
 use Rattle.atspi_trace.specs.Causes.{Cause}
 use Rattle.atspi_trace.specs.Work.{Work, doing, resting, cause, next_of}
 use Rattle.atspi_carrying.specs.Halted.{naming_of, AreNamedAs, HaveNames}
-use Rattle.atspi_play.specs.Breaking.{IsAtWork}
-use Rattle.atspi_play.specs.Playing.{Playing}
-use Rattle.atspi_play.specs.Plays.{plays}
+use Rattle.atspi_trace.specs.play.Breaking.{IsAtWork}
+use Rattle.atspi_trace.specs.play.Playing.{Playing}
+use Rattle.atspi_trace.specs.play.Plays.{plays}
 use Rattle.atspi_stage.specs.Halts.{IsLostBy, IsSpentBy, WorkLost, WorkSpent}
 use Rattle.atspi_stage.specs.Turns.{PartDone}
 use Rattle.atspi_stage.specs.Worlds.{Staged, IsPlaying}

@@ -14,7 +14,7 @@ use Rattle.atspi_protocol.specs.following.ReaderState as following
 use Rattle.atspi_protocol.specs.following.ReaderState.{ReaderState}
 use Rattle.atspi_protocol.specs.following.Calls.{asking}
 use Rattle.atspi_protocol.specs.following.Takes as takes
-use Rattle.atspi_routing.specs.Queues.{Bus}
+use Rattle.atspi_match.specs.routing.Queues.{Bus}
 use Rattle.atspi_events.specs.declared.event.Event.{Event}
 use Rattle.atspi_posts.specs.declared.post.Post.{Post}
 use Rattle.atspi_trace.specs.Entry.{entries_of, started, sent}
@@ -25,8 +25,8 @@ use Rattle.atspi_carrying.specs.Carried.{post_of, IsSendable, IsCarried, IsDone}
 use Rattle.atspi_carrying.proofs.Ties.{post_at, post_below}
 use Rattle.atspi_carrying.specs.Linked.{IsLinked}
 use Rattle.atspi_carrying.proofs.Linked.{linked_same}
-use Rattle.atspi_play.specs.Playing.{Playing, silent}
-use Rattle.atspi_play.specs.Plays.{only, plays}
+use Rattle.atspi_trace.specs.play.Playing.{Playing, silent}
+use Rattle.atspi_trace.specs.play.Plays.{only, plays}
 use Rattle.atspi_cast.specs.Doing.{quiet, IsToldAll, TellsAt, TellsReaderAt}
 use Rattle.atspi_stage.specs.Worlds.{Staged, BeginsWithRegistry, IsWorld, IsPlaying, Happens}
 use Rattle.atspi_stage.proofs.AskingReaders.{starts_left}

@@ -17,8 +17,8 @@ use Rattle.atspi_trace.specs.World.{End}
 use Rattle.atspi_trace.specs.Ends.{is_here, conn_of, end_at, end_if, end_of, is_app, app_count, reader_count}
 use Rattle.atspi_trace.specs.Causes.{renews, starts_app, starts_reader, swaps_face, exits}
 use Rattle.atspi_trace.specs.Work.{Refusal, spare_count, dead, no_kit, no_reader, no_spare, late, of_edit, refusal_if, if_started, if_here, turning, draining}
-use Rattle.atspi_play.specs.Playing.{Playing}
-use Rattle.atspi_play.specs.Plays.{plays}
+use Rattle.atspi_trace.specs.play.Playing.{Playing}
+use Rattle.atspi_trace.specs.play.Plays.{plays}
 use Rattle.atspi_stage.specs.Lines.{CausedAt, IsSegment, LineDoneElse, WorkDone, WorkOf, WorkOfElse}
 use Rattle.atspi_stage.specs.MayAct.{MayAct}
 use Rattle.atspi_stage.specs.Worlds.{Staged, IsPlaying, Happens}

@@ -11,8 +11,8 @@ use Rattle.atspi_trace.specs.World.{End}
 use Rattle.atspi_trace.specs.Ends.{conn_of, end_at, end_if, end_of}
 use Rattle.atspi_trace.specs.Causes.{edits, calls}
 use Rattle.atspi_trace.specs.Work.{Work, doing, moving_up, moving_down, moving, turning, draining, with_conn, name_of, work_of}
-use Rattle.atspi_play.specs.Playing.{Playing}
-use Rattle.atspi_play.specs.Plays.{plays}
+use Rattle.atspi_trace.specs.play.Playing.{Playing}
+use Rattle.atspi_trace.specs.play.Plays.{plays}
 use Rattle.atspi_stage.specs.Halts.{IsSpentBy, WorkLost, WorkSpent, ManyTurns, LineLostElse, LineSpentElse}
 use Rattle.atspi_cast.specs.Asked.{EditIsRefused}
 use Rattle.atspi_stage.specs.Refusals.{CallAtIsRefused}

@@ -16,9 +16,9 @@ use Rattle.atspi_carrying.specs.Carried.{post_of, IsCarried, IsDone}
 use Rattle.atspi_carrying.specs.Linked.{IsLinked}
 use Rattle.atspi_carrying.proofs.Staying.{lives_so}
 use Rattle.atspi_carrying.proofs.Ties.{conn_is, post_at}
-use Rattle.atspi_play.specs.Playing.{Playing, view_in, held_by}
-use Rattle.atspi_play.specs.Plays.{plays}
-use Rattle.atspi_play.specs.Played.{if_viewed, refused}
+use Rattle.atspi_trace.specs.play.Playing.{Playing, view_in, held_by}
+use Rattle.atspi_trace.specs.play.Plays.{plays}
+use Rattle.atspi_trace.specs.play.Played.{if_viewed, refused}
 use Rattle.atspi_stage.specs.Lines.{CausedAt, WorkDone, LineDoneElse}
 use Rattle.atspi_cast.specs.Refusals.{first_refusal, refusal_of}
 use Rattle.atspi_cast.specs.Asked.{EditIsRefused}

@@ -18,9 +18,9 @@ use Rattle.atspi_carrying.specs.Moving.{MovesAt, MovesAll}
 use Rattle.atspi_carrying.proofs.Staying.{lives_so}
 use Rattle.atspi_carrying.proofs.Ties.{post_at}
 use Rattle.atspi_protocol.specs.following.ReaderState.{ReaderState}
-use Rattle.atspi_play.specs.Playing.{Playing}
-use Rattle.atspi_play.specs.Plays.{plays}
-use Rattle.atspi_play.specs.Played.{PlaysOut, at_rest, caused}
+use Rattle.atspi_trace.specs.play.Playing.{Playing}
+use Rattle.atspi_trace.specs.play.Plays.{plays}
+use Rattle.atspi_trace.specs.play.Played.{PlaysOut, at_rest, caused}
 use Rattle.atspi_stage.specs.Lines.{IsSegment, WorkDone, WorkOf}
 use Rattle.atspi_stage.specs.Worlds.{Staged, IsPlaying, Happens}
 use Rattle.atspi_stage.proofs.Changed.{part_of}

@@ -4,9 +4,9 @@ use Rattle.atspi_trace.specs.Entry.{Entry}
 use Rattle.atspi_trace.specs.World.{World}
 use Rattle.atspi_trace.specs.Causes.{Cause}
 use Rattle.atspi_trace.specs.Work.{Work, cause, next_of, next_turn}
-use Rattle.atspi_play.specs.Breaking.{PlaysOn, so_far, caused, PlayedTurns}
-use Rattle.atspi_play.specs.Playing.{Playing}
-use Rattle.atspi_play.specs.Plays.{plays}
+use Rattle.atspi_trace.specs.play.Breaking.{PlaysOn, so_far, caused, PlayedTurns}
+use Rattle.atspi_trace.specs.play.Playing.{Playing}
+use Rattle.atspi_trace.specs.play.Plays.{plays}
 
 pub on_more : (p q : Playing) (v : World) (left last rest : Work) (c : Cause) (es : List Entry) → PlaysOn p left es q last → next_of q.world last ≡ cause c v rest
     → PlaysOn p left (es ++ (plays (record q { world = v }) c).entries) (plays (record q { world = v }) c).now rest

@@ -11,8 +11,8 @@ use Rattle.atspi_trace.specs.Work as work
 use Rattle.atspi_trace.specs.Work.{edit_refusal, if_started, if_here, no_more}
 use Rattle.atspi_posts.specs.declared.post.Post.{Post}
 use Rattle.atspi_carrying.specs.Carried.{standing_at, post_of}
-use Rattle.atspi_play.specs.Playing.{Playing, view_in}
-use Rattle.atspi_play.specs.Played.{if_viewed, refused}
+use Rattle.atspi_trace.specs.play.Playing.{Playing, view_in}
+use Rattle.atspi_trace.specs.play.Played.{if_viewed, refused}
 use Rattle.atspi_stage.specs.Lines.{LineDone}
 use Rattle.atspi_cast.specs.Refusals.{standing_of, refusal_of, seat_of_end, seat_of_post, HaveSeats, IsOf, first_refusal}
 use Rattle.atspi_stage.specs.Refusals.{RefusedFor, Refuses}

@@ -7,10 +7,10 @@ use Rattle.atspi_trace.specs.Entry.{entry_of, entries_of}
 use Rattle.atspi_trace.specs.World.{World}
 use Rattle.atspi_trace.specs.Causes.{Cause}
 use Rattle.atspi_trace.specs.Work.{Work, cause, rests, next_of}
-use Rattle.atspi_play.specs.Breaking as breaking
-use Rattle.atspi_play.specs.Playing.{Playing}
-use Rattle.atspi_play.specs.Plays.{only, plays}
-use Rattle.atspi_play.specs.Played.{PlaysOut, at_rest, caused}
+use Rattle.atspi_trace.specs.play.Breaking as breaking
+use Rattle.atspi_trace.specs.play.Playing.{Playing}
+use Rattle.atspi_trace.specs.play.Plays.{only, plays}
+use Rattle.atspi_trace.specs.play.Played.{PlaysOut, at_rest, caused}
 use Rattle.atspi_stage.specs.Lines.{IsSegment}
 use Rattle.atspi_stage.specs.Turns.{PartDone}
 use Rattle.atspi_stage.specs.Worlds.{Staged, IsPlaying, Happens}

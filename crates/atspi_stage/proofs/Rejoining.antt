@@ -6,7 +6,7 @@ use Rattle.atspi_events.specs.declared.event.Event.{Event}
 use Rattle.atspi_trace.specs.World.{World}
 use Rattle.atspi_trace.specs.Work as work
 use Rattle.atspi_trace.specs.Work.{Work, work_of}
-use Rattle.atspi_play.specs.Playing.{Playing}
+use Rattle.atspi_trace.specs.play.Playing.{Playing}
 use Rattle.atspi_carrying.specs.GivenUp.{UnlessGivenUp}
 use Rattle.atspi_carrying.proofs.Rejoining.{entries_on}
 use Rattle.atspi_stage.specs.Halts.{IsLineLost, IsLineSpent, LineLost, LineSpent, ManyTurns, WorkLost, WorkSpent}

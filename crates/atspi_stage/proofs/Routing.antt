@@ -4,10 +4,10 @@ use Rattle.std.specs.Prelude.{length, if◌then◌else◌}
 use Rattle.std.specs.List.{fold}
 use Rattle.atspi_lines.specs.declared.line.Party.{Party}
 use Rattle.atspi_message.specs.Envelope.{Envelope}
-use Rattle.atspi_routing.specs.declared.closing.Why.{Why}
-use Rattle.atspi_routing.specs.Steps.{Move, says, delivers, closes, BusStep, bus_takes, bus_leaves}
-use Rattle.atspi_routing.specs.Queues as queues
-use Rattle.atspi_routing.specs.Queues.{Waiting, without_queue}
+use Rattle.atspi_match.specs.declared.routing.closing.Why.{Why}
+use Rattle.atspi_match.specs.routing.Steps.{Move, says, delivers, closes, BusStep, bus_takes, bus_leaves}
+use Rattle.atspi_match.specs.routing.Queues as queues
+use Rattle.atspi_match.specs.routing.Queues.{Waiting, without_queue}
 use Rattle.atspi_trace.specs.Rules.{rule_in}
 use Rattle.atspi_trace.specs.World.{Said, Letter, End, World}
 use Rattle.atspi_trace.specs.Ends.{end_at, with_end, put_down, taken_up, leaves}
@@ -16,8 +16,8 @@ use Rattle.atspi_trace.specs.Carrying.{Carried, Filled, letter_of, own_letter, g
 use Rattle.atspi_carrying.specs.Carried.{IsDone}
 use Rattle.atspi_carrying.specs.Linked.{IsLinked}
 use Rattle.atspi_carrying.proofs.Staying.{lives_so}
-use Rattle.atspi_play.specs.Playing.{Playing}
-use Rattle.atspi_play.specs.Plays.{plays}
+use Rattle.atspi_trace.specs.play.Playing.{Playing}
+use Rattle.atspi_trace.specs.play.Plays.{plays}
 use Rattle.atspi_stage.specs.Worlds.{Staged, IsPlaying, Happens}
 use Rattle.atspi_stage.proofs.Changed.{part_of}
 use Rattle.atspi_stage.proofs.Stays.{Beside, parts_kept, same_world, only_happens}

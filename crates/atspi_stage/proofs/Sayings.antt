@@ -16,7 +16,7 @@ use Rattle.atspi_protocol.specs.announcing.Announced.{announced}
 use Rattle.atspi_protocol.specs.exporting.Exporter.{Happening, steps, sends, hears, deaf, Exporter}
 use Rattle.atspi_protocol.specs.exporting.Starting.{name_or_empty}
 use Rattle.atspi_protocol.specs.exporting.Taking.{app_edits}
-use Rattle.atspi_routing.specs.Queues.{Bus}
+use Rattle.atspi_match.specs.routing.Queues.{Bus}
 use Rattle.atspi_events.specs.declared.event.Event.{Event}
 use Rattle.atspi_lines.specs.declared.line.Party.TheVariants.{App}
 use Rattle.atspi_posts.specs.declared.post.Post.{Post}
@@ -33,8 +33,8 @@ use Rattle.atspi_posts.proofs.Changes.{map-changed_known}
 use Rattle.atspi_carrying.proofs.Views.{with-changed, all_with, within_more}
 use Rattle.atspi_carrying.proofs.Downs.{wait_same}
 use Rattle.atspi_carrying.proofs.Ties.{post_at}
-use Rattle.atspi_play.specs.Playing.{Playing}
-use Rattle.atspi_play.specs.Plays.{only, plays}
+use Rattle.atspi_trace.specs.play.Playing.{Playing}
+use Rattle.atspi_trace.specs.play.Plays.{only, plays}
 use Rattle.atspi_cast.specs.Doing.{all_said, quiet, CanBeWritten, EditsAt, TellsAt}
 use Rattle.atspi_stage.specs.Worlds.{Staged, IsWorld, IsPlaying, Happens}
 use Rattle.atspi_stage.proofs.Conns.{conn_end, conn_who}

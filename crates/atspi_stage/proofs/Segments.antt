@@ -7,9 +7,9 @@ use Rattle.atspi_trace.specs.Entry.{entries_of, showed}
 use Rattle.atspi_trace.specs.Ends.{party_at, end_of}
 use Rattle.atspi_trace.specs.Causes.{Cause, shows}
 use Rattle.atspi_trace.specs.Work.{doing, resting}
-use Rattle.atspi_play.specs.Playing.{Playing, view_rows, view_in, unique_in}
-use Rattle.atspi_play.specs.Plays.{plays, with_reader}
-use Rattle.atspi_play.specs.Played.{at_rest, caused}
+use Rattle.atspi_trace.specs.play.Playing.{Playing, view_rows, view_in, unique_in}
+use Rattle.atspi_trace.specs.play.Plays.{plays, with_reader}
+use Rattle.atspi_trace.specs.play.Played.{at_rest, caused}
 use Rattle.atspi_stage.specs.Lines.{IsSegment}
 use Rattle.atspi_stage.specs.Worlds.{Staged, IsPlaying, Happens}
 

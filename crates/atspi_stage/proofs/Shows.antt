@@ -16,8 +16,8 @@ use Rattle.atspi_trace.specs.Causes.{shows}
 use Rattle.atspi_trace.specs.Work.{doing, if_started, no_more, with_conn}
 use Rattle.atspi_carrying.specs.Carried.{post_of, IsCarried}
 use Rattle.atspi_carrying.specs.Linked.{IsLinked}
-use Rattle.atspi_play.specs.Playing.{Playing, unique_in, view_in, view_rows}
-use Rattle.atspi_play.specs.Plays.{plays}
+use Rattle.atspi_trace.specs.play.Playing.{Playing, unique_in, view_in, view_rows}
+use Rattle.atspi_trace.specs.play.Plays.{plays}
 use Rattle.atspi_cast.specs.Shown.{shown_by}
 use Rattle.atspi_stage.specs.Lines.{WorkDone, WorkOf}
 use Rattle.atspi_stage.specs.Worlds.{Staged, IsWorld, IsPlaying, Happens}

@@ -14,7 +14,7 @@ use Rattle.atspi_protocol.specs.exporting.Taking.{app_takes}
 use Rattle.atspi_protocol.specs.following.ReaderState.{ReaderState}
 use Rattle.atspi_protocol.specs.following.Takes.{reader_takes, reader_calls}
 use Rattle.atspi_protocol.specs.registering.Steps.{registry_takes}
-use Rattle.atspi_routing.specs.Queues.{Bus}
+use Rattle.atspi_match.specs.routing.Queues.{Bus}
 use Rattle.atspi_trace.specs.Entry.{Entry, entry_of, entries_of, sent, got}
 use Rattle.atspi_trace.specs.World.{Letter, End, World}
 use Rattle.atspi_trace.specs.Ends.{end_at, end_if, conn_of, with_end, taken_down, party_at, number_of, whose}
@@ -26,9 +26,9 @@ use Rattle.atspi_carrying.specs.Linked.{IsWhole, BringsDown}
 use Rattle.atspi_carrying.proofs.Coming.{always_enough}
 use Rattle.atspi_carrying.proofs.Senders.{sender_named}
 use Rattle.atspi_carrying.proofs.Ties.{post_at}
-use Rattle.atspi_play.specs.Breaking.{IsPast, IsSpent}
-use Rattle.atspi_play.specs.Playing.{Playing, Happened, silent}
-use Rattle.atspi_play.specs.Plays.{only, got_at, got_by, reader_did, reader_got, told, with_reader, plays}
+use Rattle.atspi_trace.specs.play.Breaking.{IsPast, IsSpent}
+use Rattle.atspi_trace.specs.play.Playing.{Playing, Happened, silent}
+use Rattle.atspi_trace.specs.play.Plays.{only, got_at, got_by, reader_did, reader_got, told, with_reader, plays}
 use Rattle.atspi_cast.specs.Spending.{HasSpentAll, GetsSpent}
 use Rattle.atspi_cast.specs.Asked.{EditSpends, CallSpends}
 use Rattle.atspi_stage.specs.Halts.{IsSpentBy}

@@ -14,8 +14,8 @@ use Rattle.atspi_carrying.specs.Carried.{IsCarried}
 use Rattle.atspi_carrying.specs.Linked.{IsLinked}
 use Rattle.atspi_posts.proofs.Changes.{map-kept}
 use Rattle.atspi_carrying.proofs.Views.{with-changed}
-use Rattle.atspi_play.specs.Playing.{Playing}
-use Rattle.atspi_play.specs.Plays.{only}
+use Rattle.atspi_trace.specs.play.Playing.{Playing}
+use Rattle.atspi_trace.specs.play.Plays.{only}
 use Rattle.atspi_stage.specs.Cast.{IsApp, IsReader, ArePlayed}
 use Rattle.atspi_stage.specs.Worlds.{Staged, IsRegistry, IsWorld, IsPlaying, Happens}
 use Rattle.atspi_stage.proofs.Apart.{apart_parts, apart_with, apart_more}

@@ -14,7 +14,7 @@ use Rattle.atspi_posts.specs.Changes.{changed_at}
 use Rattle.atspi_carrying.specs.Linked.{IsLinked}
 use Rattle.atspi_posts.proofs.Changes.{set_same}
 use Rattle.atspi_carrying.proofs.Ties.{post_at, post_below}
-use Rattle.atspi_play.specs.Playing.{Playing}
+use Rattle.atspi_trace.specs.play.Playing.{Playing}
 use Rattle.atspi_cast.specs.Doing.{all_said, all_sent, messages, told_by}
 use Rattle.std.specs.Prelude.{flat_map}
 use Rattle.atspi_cast.specs.Taken.{Tells}

@@ -15,7 +15,7 @@ use Rattle.atspi_message.specs.Bytes.{IsMessage, written}
 use Rattle.atspi_protocol.specs.announcing.Announced.{announced}
 use Rattle.atspi_protocol.specs.exporting.Exporter.{Happening, steps, sends, hears, deaf, Exporter}
 use Rattle.atspi_protocol.specs.exporting.Starting.{name_or_empty}
-use Rattle.atspi_routing.specs.Queues.{Bus}
+use Rattle.atspi_match.specs.routing.Queues.{Bus}
 use Rattle.atspi_posts.specs.declared.post.Post.{Post}
 use Rattle.atspi_trace.specs.Entry.{entry_of, entries_of, got}
 use Rattle.atspi_trace.specs.World.{Role, Said, Letter, End, World}
@@ -30,8 +30,8 @@ use Rattle.atspi_carrying.proofs.Coming.{off_link, linked_taken}
 use Rattle.atspi_carrying.proofs.Downs.{wait_same}
 use Rattle.atspi_carrying.proofs.Senders.{sender_named}
 use Rattle.atspi_carrying.proofs.Views.{with-changed, all_with, within_more}
-use Rattle.atspi_play.specs.Playing.{Playing}
-use Rattle.atspi_play.specs.Plays.{got_at, got_by, plays}
+use Rattle.atspi_trace.specs.play.Playing.{Playing}
+use Rattle.atspi_trace.specs.play.Plays.{got_at, got_by, plays}
 use Rattle.atspi_cast.specs.Doing.{sent_on, all_sent, CanBeWritten}
 use Rattle.atspi_cast.specs.Taken as taking
 use Rattle.atspi_stage.specs.Taken.{GotWhole}

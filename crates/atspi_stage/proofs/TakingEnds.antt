@@ -17,8 +17,8 @@ use Rattle.atspi_carrying.specs.Carried.{post_of, IsCarried, IsDone}
 use Rattle.atspi_posts.specs.Changes.{changed_at}
 use Rattle.atspi_carrying.proofs.Linked.{linked_same}
 use Rattle.atspi_carrying.proofs.Ties.{post_at}
-use Rattle.atspi_play.specs.Playing.{Playing}
-use Rattle.atspi_play.specs.Plays.{only, plays}
+use Rattle.atspi_trace.specs.play.Playing.{Playing}
+use Rattle.atspi_trace.specs.play.Plays.{only, plays}
 use Rattle.atspi_cast.specs.Doing.{quiet, all_sent}
 use Rattle.atspi_stage.specs.Taken.{GotWhole}
 use Rattle.atspi_stage.specs.Worlds.{Staged, AreApart, who_of, BeginsWithRegistry, IsRegistry, IsWorld, Happens}

@@ -8,7 +8,7 @@ use Rattle.atspi_message.specs.Envelope.{Envelope}
 use Rattle.atspi_protocol.specs.following.Calls.{asking}
 use Rattle.atspi_protocol.specs.following.ReaderState.{Done, sends, speaks, tells_end, ReaderState}
 use Rattle.atspi_protocol.specs.following.Takes.{reader_takes}
-use Rattle.atspi_routing.specs.Queues.{Bus}
+use Rattle.atspi_match.specs.routing.Queues.{Bus}
 use Rattle.atspi_posts.specs.declared.post.Post.{Post}
 use Rattle.atspi_trace.specs.Entry.{Entry, entries_of, got, spoke, gone}
 use Rattle.atspi_trace.specs.World.{a_reader, Hearer, Role, Letter, End, World}
@@ -21,8 +21,8 @@ use Rattle.atspi_carrying.specs.Carried.{IsCarried}
 use Rattle.atspi_carrying.proofs.Linked.{linked_same}
 use Rattle.atspi_carrying.proofs.Senders.{app_names}
 use Rattle.atspi_carrying.proofs.Ties.{post_below}
-use Rattle.atspi_play.specs.Playing.{Playing, silent}
-use Rattle.atspi_play.specs.Plays.{of_app, told, asked, asked_with, reader_did, reader_got, plays}
+use Rattle.atspi_trace.specs.play.Playing.{Playing, silent}
+use Rattle.atspi_trace.specs.play.Plays.{of_app, told, asked, asked_with, reader_did, reader_got, plays}
 use Rattle.atspi_cast.specs.Doing.{told_by, messages}
 use Rattle.atspi_stage.specs.Taken.{GotWhole}
 use Rattle.atspi_stage.specs.Worlds.{Staged, IsWorld, Happens}

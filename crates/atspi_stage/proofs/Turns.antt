@@ -12,8 +12,8 @@ use Rattle.atspi_carrying.specs.Linked.{IsLinked}
 use Rattle.atspi_carrying.specs.Waits.{turn_of}
 use Rattle.atspi_carrying.specs.declared.waiting.Turn.TheVariants.{Route, Part, Get}
 use Rattle.atspi_carrying.proofs.Staying.{lives_so}
-use Rattle.atspi_play.specs.Playing.{Playing}
-use Rattle.atspi_play.specs.Plays.{plays}
+use Rattle.atspi_trace.specs.play.Playing.{Playing}
+use Rattle.atspi_trace.specs.play.Plays.{plays}
 use Rattle.atspi_stage.specs.Worlds.{Staged, IsPlaying, Happens}
 use Rattle.atspi_stage.proofs.Routing.{routes_parts, ends_parts}
 use Rattle.atspi_stage.proofs.Stays.{Beside, same_world, only_happens}

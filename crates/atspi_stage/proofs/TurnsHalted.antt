@@ -5,9 +5,9 @@ use Rattle.atspi_trace.specs.Causes.{Cause}
 use Rattle.atspi_trace.specs.Work.{Work, cause, next_of, next_turn, turning, draining, next_of_turns, next_of_drain}
 use Rattle.atspi_carrying.specs.Waits.{turn_of, turn_next}
 use Rattle.atspi_carrying.specs.declared.waiting.Turn.{Turn}
-use Rattle.atspi_play.specs.Breaking.{PlayedTurns}
-use Rattle.atspi_play.specs.Playing.{Playing, Happened}
-use Rattle.atspi_play.specs.Plays.{plays}
+use Rattle.atspi_trace.specs.play.Breaking.{PlayedTurns}
+use Rattle.atspi_trace.specs.play.Playing.{Playing, Happened}
+use Rattle.atspi_trace.specs.play.Plays.{plays}
 use Rattle.atspi_stage.specs.Halts.{ManyTurns}
 use Rattle.atspi_stage.specs.Turns.{PartDone, Turned}
 use Rattle.atspi_stage.specs.Worlds.{Staged, IsPlaying}

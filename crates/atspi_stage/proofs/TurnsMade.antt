@@ -11,8 +11,8 @@ use Rattle.atspi_carrying.specs.Waits as waits
 use Rattle.atspi_carrying.specs.Waits.{turn_of, turn_next}
 use Rattle.atspi_carrying.specs.declared.waiting.Turn.{Turn}
 use Rattle.atspi_carrying.proofs.Turning.{turns_agree}
-use Rattle.atspi_play.specs.Playing.{Playing}
-use Rattle.atspi_play.specs.Plays.{plays}
+use Rattle.atspi_trace.specs.play.Playing.{Playing}
+use Rattle.atspi_trace.specs.play.Plays.{plays}
 use Rattle.atspi_stage.specs.Lines.{IsSegment}
 use Rattle.atspi_stage.specs.Turns.{PartDone, Turned, TurnsMade}
 use Rattle.atspi_stage.specs.Worlds.{Staged, IsPlaying, Happens}

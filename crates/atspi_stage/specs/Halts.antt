@@ -5,9 +5,9 @@ use Rattle.atspi_carrying.specs.Halted.{AreNamedAs, HaveNames}
 use Rattle.atspi_trace.specs.Entry.{Entry, entries_of}
 use Rattle.atspi_trace.specs.Due.{is_lost}
 use Rattle.atspi_trace.specs.Work.{Work, work_of}
-use Rattle.atspi_play.specs.Breaking.{IsSpent, does_next, IsLostAt, IsSpentAt, PlayedTurns}
-use Rattle.atspi_play.specs.Played.{refused}
-use Rattle.atspi_play.specs.Playing.{Playing, Happened}
+use Rattle.atspi_trace.specs.play.Breaking.{IsSpent, does_next, IsLostAt, IsSpentAt, PlayedTurns}
+use Rattle.atspi_trace.specs.play.Played.{refused}
+use Rattle.atspi_trace.specs.play.Playing.{Playing, Happened}
 use Rattle.atspi_cast.specs.Refusals.{first_refusal}
 use Rattle.atspi_stage.specs.Worlds.{Staged, IsPlaying}
 

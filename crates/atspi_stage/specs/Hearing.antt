@@ -3,7 +3,7 @@ use Rattle.std.specs.Prelude.{◌≡◌, ℕ, List, Some}
 use Rattle.std.specs.List.{fold}
 use Rattle.atspi_message.specs.Envelope.{Envelope}
 use Rattle.atspi_protocol.specs.registering.Steps.{Registry, takes}
-use Rattle.atspi_routing.specs.Queues.{Bus}
+use Rattle.atspi_match.specs.routing.Queues.{Bus}
 use Rattle.atspi_posts.specs.declared.post.Post.{Post}
 use Rattle.atspi_trace.specs.World.{End, World}
 use Rattle.atspi_trace.specs.Ends.{end_at}

@@ -8,9 +8,9 @@ use Rattle.atspi_trace.specs.World.{here, End}
 use Rattle.atspi_trace.specs.Ends.{conn_of, end_at}
 use Rattle.atspi_trace.specs.Causes.{Cause}
 use Rattle.atspi_trace.specs.Work.{Work, work_of}
-use Rattle.atspi_play.specs.Playing.{Playing}
-use Rattle.atspi_play.specs.Plays.{plays}
-use Rattle.atspi_play.specs.Played.{refused, PlaysOut}
+use Rattle.atspi_trace.specs.play.Playing.{Playing}
+use Rattle.atspi_trace.specs.play.Plays.{plays}
+use Rattle.atspi_trace.specs.play.Played.{refused, PlaysOut}
 use Rattle.atspi_cast.specs.Refusals.{first_refusal}
 use Rattle.atspi_stage.specs.Worlds.{Staged, IsPlaying, Happens}
 

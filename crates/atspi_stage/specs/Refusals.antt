@@ -4,8 +4,8 @@ use Rattle.atspi_lines.specs.declared.line.Line.{Line}
 use Rattle.atspi_protocol.specs.following.ReaderState.{ReaderState}
 use Rattle.atspi_posts.specs.declared.post.Post.{Post}
 use Rattle.atspi_trace.specs.Work as work
-use Rattle.atspi_play.specs.Playing.{Playing}
-use Rattle.atspi_play.specs.Played as playing
+use Rattle.atspi_trace.specs.play.Playing.{Playing}
+use Rattle.atspi_trace.specs.play.Played as playing
 use Rattle.atspi_cast.specs.Asked.{CallIsRefused}
 use Rattle.atspi_cast.specs.Refusals.{refusal_of, first_refusal}
 use Rattle.atspi_stage.specs.Worlds.{Staged, IsPlaying}

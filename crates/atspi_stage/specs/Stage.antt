@@ -1,6 +1,6 @@
 -- What holds of a world at any time.
 use Rattle.std.specs.Prelude.{Bool, true, false, List, All, Result, Ok, Err}
-use Rattle.atspi_routing.specs.BusState.{BusState}
+use Rattle.atspi_match.specs.routing.BusState.{BusState}
 use Rattle.atspi_bus_steps.specs.Inner.{state_of}
 use Rattle.atspi_bus_steps.specs.Sound.{IsSound}
 use Rattle.atspi_events.specs.declared.event.Event.{Event}

@@ -2,9 +2,9 @@
 use Rattle.std.specs.Prelude.{◌≡◌, ℕ, Bool, true, false, List, ◌++◌, None, IsSome}
 use Rattle.atspi_trace.specs.Entry.{Entry, entries_of}
 use Rattle.atspi_trace.specs.Work.{Work, turning, next_turn}
-use Rattle.atspi_play.specs.Breaking.{PlaysOn}
-use Rattle.atspi_play.specs.Playing.{Playing}
-use Rattle.atspi_play.specs.Played.{PlaysOut}
+use Rattle.atspi_trace.specs.play.Breaking.{PlaysOn}
+use Rattle.atspi_trace.specs.play.Playing.{Playing}
+use Rattle.atspi_trace.specs.play.Played.{PlaysOut}
 use Rattle.atspi_stage.specs.Worlds.{Staged, IsPlaying}
 
 -- a part of some work was done, and this is left: what was written so far, and what completes it

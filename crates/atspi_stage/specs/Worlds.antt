@@ -7,7 +7,7 @@ use Rattle.atspi_lines.specs.declared.line.Party.TheVariants.{Bus as The_bus, Re
 use Rattle.atspi_protocol.specs.exporting.Exporter.{Exporter}
 use Rattle.atspi_protocol.specs.following.ReaderState.{ReaderState}
 use Rattle.atspi_protocol.specs.registering.Steps as registering
-use Rattle.atspi_routing.specs.Queues.{Bus}
+use Rattle.atspi_match.specs.routing.Queues.{Bus}
 use Rattle.atspi_events.specs.declared.event.Event.{Event}
 use Rattle.atspi_posts.specs.declared.post.Post.{Post}
 use Rattle.atspi_trace.specs.Entry.{entries_of}
@@ -18,7 +18,7 @@ use Rattle.atspi_trace.specs.Causes.{Done}
 use Rattle.atspi_trace.specs.Due.{is_lost}
 use Rattle.atspi_carrying.specs.Carried.{IsCarried}
 use Rattle.atspi_carrying.specs.Linked.{IsLinked}
-use Rattle.atspi_play.specs.Playing.{Playing, Happened}
+use Rattle.atspi_trace.specs.play.Playing.{Playing, Happened}
 use Rattle.atspi_bus_steps.specs.Inner.{inner_of}
 use Rattle.atspi_stage.specs.Cast.{IsApp, IsReader, ArePlayed}
 use Rattle.atspi_stage.specs.declared.stage.Stage.{Stage}

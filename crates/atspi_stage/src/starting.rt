@@ -4,11 +4,11 @@ ghost use Rattle.std.specs.Prelude.{◌≡◌, ◌<◌, ◌≤◌, ℕ, [], leng
 ghost use Rattle.atspi_forest.specs.Row.{IsName};
 ghost use Rattle.atspi_lines.specs.declared.limits.TheConstants.{APP_COUNT, QUOTA_LEAST, QUOTA_MOST};
 ghost use Rattle.atspi_protocol.specs.registering.RegistryState.{begins};
-ghost use Rattle.atspi_routing.specs.Queues.{empty_bus};
+ghost use Rattle.atspi_match.specs.routing.Queues.{empty_bus};
 ghost use Rattle.atspi_bus_steps.specs.Inner.{inner_of, state_of};
 ghost use Rattle.atspi_bus_steps.specs.Sound.{IsSound};
-ghost use Rattle.atspi_play.specs.Playing.{first_playing, Playing};
-ghost use Rattle.atspi_play.specs.Plays.{plays};
+ghost use Rattle.atspi_trace.specs.play.Playing.{first_playing, Playing};
+ghost use Rattle.atspi_trace.specs.play.Plays.{plays};
 ghost use Rattle.atspi_trace.specs.Ends.{app_count, reader_count};
 ghost use Rattle.atspi_trace.specs.Causes.{renews, starts_app, starts_reader};
 ghost use Rattle.atspi_trace.specs.Work.{spare_count};

@@ -1,8 +1,8 @@
 //! Turns: each moves the first thing that waits.
 
 ghost use Rattle.std.specs.Prelude.{◌≡◌, ◌⊎◌, ℕ, Some, IfOk, IsErrOf, OnOk};
-ghost use Rattle.atspi_play.specs.Playing.{Playing};
-ghost use Rattle.atspi_play.specs.Plays.{plays};
+ghost use Rattle.atspi_trace.specs.play.Playing.{Playing};
+ghost use Rattle.atspi_trace.specs.play.Plays.{plays};
 ghost use Rattle.atspi_trace.specs.Causes.{Cause};
 ghost use Rattle.atspi_trace.specs.Work as work;
 ghost use Rattle.atspi_trace.specs.Work.{next_turn};

@@ -12,11 +12,11 @@ ghost use Rattle.atspi_stage_ends.specs.Done.{done_of};
 use crate::fault::CallFault;
 use atspi_arena::Rows;
 use atspi_base::NoMemory;
+use atspi_base::valid_names::BusName;
 use atspi_header::MessageRef;
 use atspi_lines::Deed;
 use atspi_protocol::ends::EndFault;
 use atspi_protocol::following::ReaderEvent;
-use atspi_valid_names::BusName;
 use std::alloc::Global;
 
 /// A reader. It is seen as `follower` says, and `is_follower` holds of it at any time.

@@ -6,13 +6,13 @@ ghost use Rattle.atspi_stage_reader.specs.Faults.{of_call};
 
 use atspi_arena::Rows;
 use atspi_base::NoMemory;
+use atspi_base::valid_names::BusName;
 use atspi_header::MessageRef;
 use atspi_lines::Deed;
 use atspi_protocol::ends::EndFault;
 use atspi_protocol::following::ReaderEvent;
 use atspi_reader::Reader;
 use atspi_stage_ends::{CallFault, Follower};
-use atspi_valid_names::BusName;
 use std::alloc::Global;
 
 /// A reader's end, held by a world. It is seen as the reader that it holds.

@@ -8,9 +8,9 @@ use Rattle.std.specs.List.{list_all}
 use Rattle.std.specs.Char.{is_ascii_digit}
 use Rattle.std.specs.Fmt.{decimal}
 use Rattle.std.proofs.lemmas.Fmt.{decimal_by_steps}
-use Rattle.atspi_valid_names.specs.Elements.{parts_of, is_element, are_elements, may_follow}
-use Rattle.atspi_valid_names.specs.declared.elements.Form.TheVariants.{Path}
-use Rattle.atspi_valid_names.specs.Names.{is_path}
+use Rattle.atspi_base.specs.valid_names.Elements.{parts_of, is_element, are_elements, may_follow}
+use Rattle.atspi_base.specs.declared.valid_names.elements.Form.TheVariants.{Path}
+use Rattle.atspi_base.specs.valid_names.Names.{is_path}
 use Rattle.atspi_forest.specs.Path.{base_path}
 
 -- one digit or more

@@ -5,7 +5,7 @@ ghost use Rattle.atspi_types.specs.KindView.{kind_of};
 ghost use Rattle.atspi_types.specs.Kinds.{text, variant};
 ghost use Rattle.atspi_types.specs.Data.{text_data, dictionary_data, entries_of, type_of};
 ghost use Rattle.atspi_types.specs.DataView.{data_of, all_data};
-ghost use Rattle.atspi_valid_names.specs.Names.{is_member};
+ghost use Rattle.atspi_base.specs.valid_names.Names.{is_member};
 ghost use Rattle.atspi_forest.specs.Path.{path_of};
 ghost use Rattle.atspi_message.specs.Envelope.{envelope_of};
 ghost use Rattle.atspi_protocol.specs.ends.Messages as messages;
@@ -80,7 +80,7 @@ pub(crate) fn put_node(
 }
 
 /// The event of this name at a node, whose body ends with no more properties.
-#[tactic(auto, unfolding(atspi_valid_names::specs::Names::is_interface, atspi_valid_names::specs::Elements::are_two_or_more, atspi_valid_names::specs::Elements::are_elements, atspi_valid_names::specs::Elements::parts_of))]
+#[tactic(auto, unfolding(atspi_base::specs::valid_names::Names::is_interface, atspi_base::specs::valid_names::Elements::are_two_or_more, atspi_base::specs::valid_names::Elements::are_elements, atspi_base::specs::valid_names::Elements::parts_of))]
 pub(crate) fn event(alloc: Global, node: u32, name: &str, body: Values) -> Result<Message, NoMemory>
     requires member { is_member name.now ≡ true }
     ensures { IfOk result (λ message. envelope_of message ≡ messages.signal_of (path_of node) event_interface name.now (all_data body ++ dictionary_data text variant (entries_of []) ∷ [])) }

@@ -15,7 +15,7 @@ use atspi_types::Ty;
 use std::alloc::Global;
 
 /// A property of a node has another text.
-#[tactic(auto, unfolding(atspi_valid_names::specs::Names::is_member))]
+#[tactic(auto, unfolding(atspi_base::specs::valid_names::Names::is_member))]
 fn property_changed(alloc: Global, node: u32, minor: &str, text: &Text) -> Result<Message, NoMemory>
     requires plain { are_plain minor.now ≡ true }
     requires short { length minor.now < 2 ^ 32 }
@@ -41,7 +41,7 @@ pub fn description_changed(alloc: Global, node: u32, text: &Text) -> Result<Mess
 }
 
 /// A node has another role.
-#[tactic(auto, unfolding(atspi_valid_names::specs::Names::is_member))]
+#[tactic(auto, unfolding(atspi_base::specs::valid_names::Names::is_member))]
 pub fn role_changed(alloc: Global, node: u32, role: u32) -> Result<Message, NoMemory>
     ensures { IfOk result (λ message. envelope_of message ≡ (signals.property_changed node (codes "accessible-role") (number_data u32 role)).message) }
 {
@@ -51,7 +51,7 @@ pub fn role_changed(alloc: Global, node: u32, role: u32) -> Result<Message, NoMe
 }
 
 /// A state of a node is on, or off.
-#[tactic(auto, unfolding(atspi_valid_names::specs::Names::is_member))]
+#[tactic(auto, unfolding(atspi_base::specs::valid_names::Names::is_member))]
 pub fn state_changed(alloc: Global, node: u32, state: u8, on: bool) -> Result<Message, NoMemory>
     requires state { state < 44 }
     ensures { IfOk result (λ message. envelope_of message ≡ (signals.state_changed node state on).message) }
@@ -62,7 +62,7 @@ pub fn state_changed(alloc: Global, node: u32, state: u8, on: bool) -> Result<Me
 }
 
 /// A text was put in, or taken out, at this place.
-#[tactic(auto, unfolding(atspi_valid_names::specs::Names::is_member))]
+#[tactic(auto, unfolding(atspi_base::specs::valid_names::Names::is_member))]
 fn text_changed(
     alloc: Global,
     node: u32,
@@ -100,7 +100,7 @@ pub fn text_deleted(alloc: Global, node: u32, at: u32, text: &Text) -> Result<Me
 }
 
 /// The caret went to this place.
-#[tactic(auto, unfolding(atspi_valid_names::specs::Names::is_member))]
+#[tactic(auto, unfolding(atspi_base::specs::valid_names::Names::is_member))]
 pub fn caret_moved(alloc: Global, node: u32, at: u32) -> Result<Message, NoMemory>
     requires at { at ≤ 1048576 }
     ensures { IfOk result (λ message. envelope_of message ≡ (signals.caret_moved node at).message) }

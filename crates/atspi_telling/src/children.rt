@@ -17,7 +17,7 @@ use atspi_types::Values;
 use std::alloc::Global;
 
 /// A parent has another child at this index, or no longer has it.
-#[tactic(auto, unfolding(atspi_valid_names::specs::Names::is_member))]
+#[tactic(auto, unfolding(atspi_base::specs::valid_names::Names::is_member))]
 fn child_changed(
     alloc: Global,
     bus: &Text,
@@ -65,7 +65,7 @@ pub fn child_removed(
 }
 
 /// A node has another parent.
-#[tactic(auto, unfolding(atspi_valid_names::specs::Names::is_member))]
+#[tactic(auto, unfolding(atspi_base::specs::valid_names::Names::is_member))]
 pub fn parent_changed(
     alloc: Global,
     bus: &Text,
@@ -80,7 +80,7 @@ pub fn parent_changed(
 }
 
 /// A node is gone, as the object for the whole tree tells it.
-#[tactic(auto, unfolding(atspi_valid_names::specs::Names::is_member))]
+#[tactic(auto, unfolding(atspi_base::specs::valid_names::Names::is_member))]
 pub fn node_removed(alloc: Global, bus: &Text, node: u32) -> Result<Message, NoMemory>
     ensures { IfOk result (λ message. envelope_of message ≡ (signals.removed bus.now node).message) }
 {

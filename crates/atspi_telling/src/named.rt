@@ -2,7 +2,7 @@
 
 ghost use Rattle.std.specs.Prelude.{◌≡◌, true, IfOk};
 ghost use Rattle.atspi_types.specs.DataView.{all_data};
-ghost use Rattle.atspi_valid_names.specs.Names.{is_bus_name, is_interface, is_member, is_path};
+ghost use Rattle.atspi_base.specs.valid_names.Names.{is_bus_name, is_interface, is_member, is_path};
 ghost use Rattle.atspi_message.specs.Envelope.{envelope_of};
 ghost use Rattle.atspi_protocol.specs.ends.Messages as messages;
 ghost use Rattle.atspi_protocol.specs.ends.Places.{bus, bus_path, cache_path};
@@ -37,7 +37,7 @@ pub fn call(
 }
 
 /// A call of a member of the bus (D-Bus Specification, "Message Bus Messages").
-#[tactic(auto, unfolding(atspi_valid_names::specs::Names::is_bus_name, atspi_valid_names::specs::Names::is_path, atspi_valid_names::specs::Names::is_interface, atspi_valid_names::specs::Elements::are_two_or_more, atspi_valid_names::specs::Elements::are_elements, atspi_valid_names::specs::Elements::parts_of))]
+#[tactic(auto, unfolding(atspi_base::specs::valid_names::Names::is_bus_name, atspi_base::specs::valid_names::Names::is_path, atspi_base::specs::valid_names::Names::is_interface, atspi_base::specs::valid_names::Elements::are_two_or_more, atspi_base::specs::valid_names::Elements::are_elements, atspi_base::specs::valid_names::Elements::parts_of))]
 pub fn bus_call(alloc: Global, name: &str, body: Values) -> Result<Message, NoMemory>
     requires { is_member name.now ≡ true }
     ensures { IfOk result (λ message. envelope_of message ≡ messages.call_to bus bus_path bus name.now (all_data body)) }
@@ -72,7 +72,7 @@ pub fn signal(
 }
 
 /// A signal of the object for the whole tree (AT-SPI2's interface file Cache).
-#[tactic(auto, unfolding(atspi_valid_names::specs::Names::is_path, atspi_valid_names::specs::Names::is_interface, atspi_valid_names::specs::Elements::are_two_or_more, atspi_valid_names::specs::Elements::are_elements, atspi_valid_names::specs::Elements::parts_of))]
+#[tactic(auto, unfolding(atspi_base::specs::valid_names::Names::is_path, atspi_base::specs::valid_names::Names::is_interface, atspi_base::specs::valid_names::Elements::are_two_or_more, atspi_base::specs::valid_names::Elements::are_elements, atspi_base::specs::valid_names::Elements::parts_of))]
 pub fn cache_signal(alloc: Global, name: &str, body: Values) -> Result<Message, NoMemory>
     requires { is_member name.now ≡ true }
     ensures { IfOk result (λ message. envelope_of message ≡ messages.signal_of cache_path cache name.now (all_data body)) }

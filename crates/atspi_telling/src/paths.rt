@@ -4,8 +4,8 @@ ghost use Rattle.std.specs.Prelude.{◌≡◌, codes, IfOk};
 ghost use Rattle.atspi_forest.specs.Path.{path_of};
 
 use atspi_base::NoMemory;
+use atspi_base::valid_names::Path;
 use atspi_protocol::ends::path;
-use atspi_valid_names::Path;
 use std::alloc::Global;
 
 /// The path of a node: of the root by its name, of any other by its number.

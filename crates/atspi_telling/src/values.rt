@@ -10,10 +10,10 @@ ghost use Rattle.atspi_protocol.specs.members.Arguments.{int};
 ghost use Rattle.atspi_protocol.specs.announcing.Signals as signals;
 ghost use Rattle.atspi_telling.specs.Plain.{are_plain};
 
+use atspi_base::valid_names::Path;
 use atspi_base::{NoMemory, Text};
 use atspi_tables::state_name;
 use atspi_types::{Ty, Tys, Value, Values};
-use atspi_valid_names::Path;
 use std::alloc::Global;
 
 /// A text that stands in the program.

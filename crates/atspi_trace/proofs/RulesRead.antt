@@ -1,8 +1,8 @@
 -- Each rule that an end asks for is what its text spells: a printed rule is read again.
 use Rattle.std.proofs.Common.{refl, lit<, lit≤}
-use Rattle.atspi_valid_names.specs.Names.{IsBusName, IsInterface, IsMember, is_bus_name, is_interface, is_member}
-use Rattle.atspi_valid_names.specs.Elements.{are_two_or_more, are_elements, parts_of}
-use Rattle.atspi_valid_names.proofs.NameLemmas.{IsBusName-from_test, IsInterface-from_test, IsMember-from_test}
+use Rattle.atspi_base.specs.valid_names.Names.{IsBusName, IsInterface, IsMember, is_bus_name, is_interface, is_member}
+use Rattle.atspi_base.specs.valid_names.Elements.{are_two_or_more, are_elements, parts_of}
+use Rattle.atspi_base.proofs.OfValidNames.NameLemmas.{IsBusName-from_test, IsInterface-from_test, IsMember-from_test}
 use Rattle.atspi_match.specs.Conditions.{IsRule}
 use Rattle.atspi_match.proofs.AgainLemmas.{printed_again}
 use Rattle.atspi_protocol.specs.ends.Places.{bus, registry}

@@ -14,8 +14,8 @@ use Rattle.atspi_lines.specs.declared.line.Party.{Party}
 use Rattle.atspi_lines.specs.declared.line.Party.TheVariants.{Bus as The_bus, App, Reader}
 use Rattle.atspi_message.specs.Envelope.{Envelope}
 use Rattle.atspi_message.specs.Bytes.{written}
-use Rattle.atspi_routing.specs.Queues as queues
-use Rattle.atspi_routing.specs.Queues.{Bus, queue_of, popped}
+use Rattle.atspi_match.specs.routing.Queues as queues
+use Rattle.atspi_match.specs.routing.Queues.{Bus, queue_of, popped}
 use Rattle.atspi_protocol.specs.registering.Steps.{RegistryStep, registry_takes}
 use Rattle.atspi_protocol.specs.announcing.Signals.{Signal}
 use Rattle.atspi_protocol.specs.announcing.Announced.{announced}

@@ -2,13 +2,13 @@
 use Rattle.std.specs.Prelude.{ℕ, ◌==◌, ◌&&◌, not, Bool, true, false, List, [], ◌∷◌, ◌++◌, map, filter, Option, None, Some, bytes_eq, codes, if◌then◌else◌}
 use Rattle.std.specs.List.{list_any, list_all}
 use Rattle.atspi_types.specs.Data.{Data, text_data}
-use Rattle.atspi_valid_names.specs.Names.{is_bus_name, is_path}
+use Rattle.atspi_base.specs.valid_names.Names.{is_bus_name, is_path}
 use Rattle.atspi_forest.specs.declared.step.Step.{Step}
 use Rattle.atspi_lines.specs.declared.line.Party.{Party}
 use Rattle.atspi_lines.specs.declared.line.Party.TheVariants.{Bus as The_bus, App}
 use Rattle.atspi_message.specs.Envelope.{Envelope}
-use Rattle.atspi_routing.specs.Routing.{is_reply}
-use Rattle.atspi_routing.specs.Answers.{first_text}
+use Rattle.atspi_match.specs.routing.Routing.{is_reply}
+use Rattle.atspi_match.specs.routing.Answers.{first_text}
 use Rattle.atspi_speech.specs.Speech.{says_after, closing_says}
 use Rattle.atspi_protocol.specs.declared.news.part.PartName.{PartName}
 use Rattle.atspi_protocol.specs.declared.news.part.PartName.TheVariants.{Text, Caret, Columns}

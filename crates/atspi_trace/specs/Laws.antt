@@ -4,7 +4,7 @@ use Rattle.std.specs.List.{AllByRecursion}
 use Rattle.atspi_lines.specs.declared.line.Party.{Party}
 use Rattle.atspi_match.specs.Grammar.{IsRuleText}
 use Rattle.atspi_match.specs.Printed.{printed}
-use Rattle.atspi_routing.specs.Queues as queues
+use Rattle.atspi_match.specs.routing.Queues as queues
 use Rattle.atspi_trace.specs.Rules.{rules_asked, rule_in}
 use Rattle.atspi_trace.specs.Entry.{Entry}
 use Rattle.atspi_trace.specs.World.{Said, World}

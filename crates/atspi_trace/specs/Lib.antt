@@ -9,3 +9,4 @@ pub mod Work
 pub mod Due
 pub mod Laws
 pub mod Works
+pub mod play

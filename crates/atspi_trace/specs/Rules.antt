@@ -8,7 +8,7 @@ use Rattle.atspi_message.specs.Envelope.{Envelope}
 use Rattle.atspi_protocol.specs.ends.Places.{bus, registry}
 use Rattle.atspi_protocol.specs.members.Interfaces.{cache}
 use Rattle.atspi_protocol.specs.news.NewsOf.{event_interface}
-use Rattle.atspi_routing.specs.Answers.{first_text}
+use Rattle.atspi_match.specs.routing.Answers.{first_text}
 
 -- the registry's signals, that an application asks for
 abbrev pub registry_rule : List Condition

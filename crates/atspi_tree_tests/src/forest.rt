@@ -1,9 +1,9 @@
 //! Lists of steps and of items, and the words of refusals.
 
 use crate::refusals::fault_of;
+use atspi_base::valid_names::Path;
 use atspi_base::{Text, Texts};
 use atspi_forest::{Item, Items, Reference, Step, StepList};
-use atspi_valid_names::Path;
 use std::alloc::Global;
 use std::test::*;
 

@@ -6,7 +6,7 @@ use crate::signature::Signature;
 use crate::ty::Ty;
 use crate::value::{Pairs, Value, Values};
 use atspi_base::Text;
-use atspi_valid_names::Path;
+use atspi_base::valid_names::Path;
 
 /// A value that is borrowed.
 #[derive(Clone, Copy)]

@@ -15,8 +15,8 @@ use self::plains::Plains;
 use crate::borrowed::{Run, ValueRef};
 use crate::signature::Signature;
 use crate::ty::Ty;
+use atspi_base::valid_names::Path;
 use atspi_base::{NoMemory, Text};
-use atspi_valid_names::Path;
 use std::alloc::Global;
 
 /// A value (D-Bus Specification, "Type System"). A double is its 64 bits. An array names the type of its elements, a

@@ -2,14 +2,14 @@
 
 use crate::codes::{count, put_type, put_types};
 use crate::spelled::put_spelled;
+use atspi_base::valid_names::{
+    BusName, Interface, Member, Path, is_bus_name, is_interface, is_member, is_path,
+};
 use atspi_base::{
     Bytes, Text, TextFault, put_decimal, put_hex, put_in_quotes, put_signed, read_str,
 };
 use atspi_codes::TysRef;
 use atspi_types::{Fault, ReadFault, Signature};
-use atspi_valid_names::{
-    BusName, Interface, Member, Path, is_bus_name, is_interface, is_member, is_path,
-};
 use std::alloc::Global;
 use std::process::Abort;
 

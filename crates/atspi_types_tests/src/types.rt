@@ -2,8 +2,8 @@
 
 mod typed;
 
+use atspi_base::valid_names::BusName;
 use atspi_types::{Pairs, Run, Ty, Tys, Value, ValueRef, Values};
-use atspi_valid_names::BusName;
 use std::alloc::Global;
 use std::test::*;
 

@@ -8,10 +8,10 @@ use crate::samples::{
     CALL_BIG, CALL_BIG_PASSED, CALL_BIG_SENT, CALL_LITTLE, CALL_LITTLE_PASSED, CALL_LITTLE_SENT,
 };
 use atspi_base::Bytes;
+use atspi_base::valid_names::BusName;
 use atspi_header::MessageRef;
 use atspi_message::total;
 use atspi_passing::write_from;
-use atspi_valid_names::BusName;
 use std::alloc::Global;
 use std::test::*;
 

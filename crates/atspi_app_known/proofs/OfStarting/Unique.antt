@@ -3,7 +3,7 @@ use Rattle.std.proofs.Common.{◌≡◌, ℕ, Bool, true, false, List, [], ◌�
 use Rattle.std.specs.Prelude.{◌&&◌, if◌then◌else◌}
 use Rattle.atspi_types.specs.Kinds.{text}
 use Rattle.atspi_types.specs.Data.{Data, text_data, type_of}
-use Rattle.atspi_valid_names.specs.Names.{is_bus_name, is_unique_name}
+use Rattle.atspi_base.specs.valid_names.Names.{is_bus_name, is_unique_name}
 use Rattle.atspi_protocol.specs.exporting.Starting.{unique_name_in}
 use Rattle.atspi_app_known.proofs.OfHearing.Names.{name_plain, name_rule}
 

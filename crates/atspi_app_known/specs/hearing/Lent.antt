@@ -1,7 +1,7 @@
 -- Pairs that lie in a message, if they are there, as contracts see them.
 use Rattle.std.specs.Prelude.{ℕ, List, Option, None, Some, Vec, map, chars, if◌then◌else◌}
 use Rattle.std.specs.declared.alloc.Global.{Global}
-use Rattle.atspi_valid_names.specs.Names.{is_bus_name}
+use Rattle.atspi_base.specs.valid_names.Names.{is_bus_name}
 use Rattle.atspi_app_known.specs.declared.hearing.pair_ref.PairRef.{PairRef}
 
 -- a pair that is lent, by the name's bytes and the pattern's characters

@@ -1,9 +1,9 @@
 //! One thing that happens.
 
 use atspi_base::Text;
+use atspi_base::valid_names::BusName;
 use atspi_forest::Step;
 use atspi_message::Message;
-use atspi_valid_names::BusName;
 
 /// What happens at an application: in its order it is told so.
 #[derive(Drop)]

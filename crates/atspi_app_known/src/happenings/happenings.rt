@@ -6,10 +6,10 @@ ghost use Rattle.atspi_protocol.specs.exporting.Exporter.{steps, sends, hears, d
 ghost use Rattle.atspi_app_known.specs.happenings.View.{happened};
 
 use crate::happenings::event::AppEvent;
+use atspi_base::valid_names::BusName;
 use atspi_base::{NoMemory, Text};
 use atspi_forest::Step;
 use atspi_message::Message;
-use atspi_valid_names::BusName;
 use std::alloc::Global;
 use std::collections::VecDeque;
 

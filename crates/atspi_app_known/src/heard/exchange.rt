@@ -11,9 +11,9 @@ use crate::happenings::Happenings;
 use crate::heard::heard::Heard;
 use crate::heard::set::{PairSet, set_of};
 use crate::hearing::PairRef;
+use atspi_base::valid_names::BusName;
 use atspi_base::{NoMemory, Text};
 use atspi_protocol::ends::bus_name;
-use atspi_valid_names::BusName;
 use std::alloc::Global;
 
 /// The pairs that count after an exchange, and what is told of it.

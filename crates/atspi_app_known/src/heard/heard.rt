@@ -4,9 +4,9 @@ ghost use Rattle.std.specs.Prelude.{◌≡◌, [], ◌∷◌, ◌++◌, chars, f
 ghost use Rattle.atspi_protocol.specs.exporting.Hearing as hearing;
 ghost use Rattle.atspi_protocol.specs.exporting.Hearing.{is_heard, one_more};
 
+use atspi_base::valid_names::BusName;
 use atspi_base::{NoMemory, Text};
 use atspi_protocol::ends::covers;
-use atspi_valid_names::BusName;
 use std::alloc::Global;
 use std::marker::Model;
 

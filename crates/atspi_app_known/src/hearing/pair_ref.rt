@@ -2,7 +2,7 @@
 
 ghost use Rattle.std.specs.Prelude.{◌≡◌, ◌<◌, ◌^◌, IsTrue, bytes_eq, chars, encode_utf8_all, length};
 ghost use Rattle.atspi_base.specs.Text.{HasNoZero};
-ghost use Rattle.atspi_valid_names.specs.Names.{is_bus_name};
+ghost use Rattle.atspi_base.specs.valid_names.Names.{is_bus_name};
 
 /// A listener's bus name and its pattern, lent from where they lie.
 #[derive(Clone, Copy, PartialEq, Eq, Hash)]

@@ -15,7 +15,7 @@ use atspi_types::{Value, Values};
 use std::alloc::Global;
 
 /// Hello (D-Bus Specification, "Message Bus Messages").
-#[tactic(auto, unfolding(atspi_valid_names::specs::Names::is_member))]
+#[tactic(auto, unfolding(atspi_base::specs::valid_names::Names::is_member))]
 pub(crate) fn hello_call(alloc: Global) -> Result<Message, NoMemory>
     ensures { IfOk result (λ message. (name : List ℕ) → envelope_of message ≡ start_call name exporter.hello) }
 {
@@ -43,7 +43,7 @@ fn rule_body(alloc: Global) -> Result<Values, NoMemory>
 }
 
 /// AddMatch of that rule (D-Bus Specification, "Message Bus Messages").
-#[tactic(auto, unfolding(atspi_valid_names::specs::Names::is_member))]
+#[tactic(auto, unfolding(atspi_base::specs::valid_names::Names::is_member))]
 pub(crate) fn match_call(alloc: Global) -> Result<Message, NoMemory>
     ensures { IfOk result (λ message. (name : List ℕ) → envelope_of message ≡ start_call name exporter.add_match) }
 {
@@ -52,7 +52,7 @@ pub(crate) fn match_call(alloc: Global) -> Result<Message, NoMemory>
 }
 
 /// GetRegisteredEvents (AT-SPI2's interface file Registry).
-#[tactic(auto, unfolding(atspi_valid_names::specs::Names::is_member, atspi_valid_names::specs::Names::is_bus_name, atspi_valid_names::specs::Names::is_path, atspi_valid_names::specs::Names::is_interface, atspi_valid_names::specs::Elements::are_two_or_more, atspi_valid_names::specs::Elements::are_elements, atspi_valid_names::specs::Elements::parts_of))]
+#[tactic(auto, unfolding(atspi_base::specs::valid_names::Names::is_member, atspi_base::specs::valid_names::Names::is_bus_name, atspi_base::specs::valid_names::Names::is_path, atspi_base::specs::valid_names::Names::is_interface, atspi_base::specs::valid_names::Elements::are_two_or_more, atspi_base::specs::valid_names::Elements::are_elements, atspi_base::specs::valid_names::Elements::parts_of))]
 pub(crate) fn events_call(alloc: Global) -> Result<Message, NoMemory>
     ensures { IfOk result (λ message. (name : List ℕ) → envelope_of message ≡ start_call name exporter.get_registered_events) }
 {
@@ -79,7 +79,7 @@ fn root_body(alloc: Global, name: &Text) -> Result<Values, NoMemory>
 }
 
 /// Embed of its root, by the application with this name (AT-SPI2's interface file Socket).
-#[tactic(auto, unfolding(atspi_valid_names::specs::Names::is_member, atspi_valid_names::specs::Names::is_bus_name, atspi_valid_names::specs::Names::is_path, atspi_valid_names::specs::Names::is_interface, atspi_valid_names::specs::Elements::are_two_or_more, atspi_valid_names::specs::Elements::are_elements, atspi_valid_names::specs::Elements::parts_of))]
+#[tactic(auto, unfolding(atspi_base::specs::valid_names::Names::is_member, atspi_base::specs::valid_names::Names::is_bus_name, atspi_base::specs::valid_names::Names::is_path, atspi_base::specs::valid_names::Names::is_interface, atspi_base::specs::valid_names::Elements::are_two_or_more, atspi_base::specs::valid_names::Elements::are_elements, atspi_base::specs::valid_names::Elements::parts_of))]
 pub(crate) fn embed_call(alloc: Global, name: &Text) -> Result<Message, NoMemory>
     ensures { IfOk result (λ message. envelope_of message ≡ start_call name.now exporter.embed) }
 {

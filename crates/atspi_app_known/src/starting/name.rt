@@ -2,13 +2,13 @@
 
 ghost use Rattle.std.specs.Prelude.{◌≡◌, ◌<◌, ◌^◌, ◌&&◌, IfSome, chars, length};
 ghost use Rattle.atspi_base.specs.Text.{HasNoZero};
-ghost use Rattle.atspi_valid_names.specs.Names.{is_bus_name, is_unique_name};
+ghost use Rattle.atspi_base.specs.valid_names.Names.{is_bus_name, is_unique_name};
 ghost use Rattle.atspi_cursor.specs.Items.{fields_data};
 ghost use Rattle.atspi_protocol.specs.exporting.Starting.{unique_name_in};
 ghost use Rattle.atspi_app_known.specs.starting.Lent.{chars_or_none};
 
+use atspi_base::valid_names::is_bus_name;
 use atspi_cursor::Fields;
-use atspi_valid_names::is_bus_name;
 
 /// Whether the first byte is a colon.
 fn has_colon(bytes: &[u8]) -> bool

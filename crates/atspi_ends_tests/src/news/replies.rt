@@ -2,11 +2,11 @@
 
 use crate::made::{lent, put, returned, stop_unless};
 use crate::news::shown::{put_item, put_what};
+use atspi_base::valid_names::Path;
 use atspi_base::{Bytes, put_decimal};
 use atspi_forest::Item;
 use atspi_news_reading::{items_told, part_told};
 use atspi_protocol::news::PartName;
-use atspi_valid_names::Path;
 use std::alloc::Global;
 use std::process::Abort;
 

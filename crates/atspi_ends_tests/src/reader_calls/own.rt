@@ -2,10 +2,10 @@
 
 use crate::made::stop_unless;
 use crate::reader_calls::shown::{bus_name, is_shown, text};
+use atspi_base::valid_names::Path;
 use atspi_protocol::following::Question;
 use atspi_protocol::news::PartName;
 use atspi_reader_calls::asking;
-use atspi_valid_names::Path;
 use std::alloc::Global;
 use std::process::Abort;
 

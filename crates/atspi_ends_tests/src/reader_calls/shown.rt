@@ -4,11 +4,11 @@ ghost use Rattle.atspi_message.specs.Envelope.{envelope_of};
 ghost use Rattle.atspi_message.specs.Rules.{MeetsRules};
 
 use crate::made::{lent, put};
+use atspi_base::valid_names::BusName;
 use atspi_base::{Bytes, Text, put_decimal, put_signed};
 use atspi_cursor::{Fields, Item};
 use atspi_header::MessageRef;
 use atspi_message::Message;
-use atspi_valid_names::BusName;
 use std::alloc::Global;
 use std::process::Abort;
 

@@ -6,11 +6,11 @@ use Rattle.atspi_lines.specs.declared.line.Party.{Party}
 use Rattle.atspi_lines.specs.declared.line.Party.TheVariants.{Bus as The_bus}
 use Rattle.atspi_match.specs.RuleIndex.{without_rules}
 use Rattle.atspi_names.specs.Owners.{own_name, after_gone}
-use Rattle.atspi_routing.specs.declared.closing.Why.{Why}
-use Rattle.atspi_routing.specs.BusState.{BusState, unique_of, calls_without}
-use Rattle.atspi_routing.specs.Members.{is_text}
-use Rattle.atspi_routing.specs.Queues.{without_queue}
-use Rattle.atspi_routing.specs.Steps.{Move, says, delivers, closes, BusStep, farewell, bus_takes, bus_leaves}
+use Rattle.atspi_match.specs.declared.routing.closing.Why.{Why}
+use Rattle.atspi_match.specs.routing.BusState.{BusState, unique_of, calls_without}
+use Rattle.atspi_match.specs.routing.Members.{is_text}
+use Rattle.atspi_match.specs.routing.Queues.{without_queue}
+use Rattle.atspi_match.specs.routing.Steps.{Move, says, delivers, closes, BusStep, farewell, bus_takes, bus_leaves}
 use Rattle.atspi_trace.specs.Rules.{rule_in}
 use Rattle.atspi_trace.specs.World.{Said, Letter, End}
 use Rattle.atspi_trace.specs.Ends.{with_end, put_down, taken_up, leaves}

@@ -7,7 +7,7 @@ use Rattle.atspi_message.specs.Envelope.{Envelope}
 use Rattle.atspi_protocol.specs.declared.news.part.PartName.{PartName}
 use Rattle.atspi_protocol.specs.declared.following.question.Question.{Question}
 use Rattle.atspi_protocol.specs.following.Replied.{is_reply_to}
-use Rattle.atspi_routing.specs.Routing.{is_reply}
+use Rattle.atspi_match.specs.routing.Routing.{is_reply}
 use Rattle.atspi_trace.specs.World.{Asked, Holding, Said}
 use Rattle.atspi_trace.specs.Hearing.{fate_of, answered_by, question_returned, is_of, holding_of, without, loaded, noted, noted_of}
 

@@ -4,7 +4,7 @@ use Rattle.std.specs.Prelude.{unwrap_or, nat_le, if◌then◌else◌}
 use Rattle.std.proofs.lemmas.Bool.{leb-true, leb-false}
 use Rattle.atspi_lines.specs.declared.line.Party.TheVariants.{Bus as The_bus}
 use Rattle.atspi_message.specs.Bytes.{written}
-use Rattle.atspi_routing.specs.Steps.{bus_takes}
+use Rattle.atspi_match.specs.routing.Steps.{bus_takes}
 use Rattle.atspi_trace.specs.Rules.{rule_in}
 use Rattle.atspi_trace.specs.Entry.{got}
 use Rattle.atspi_trace.specs.World.{here, Said, End, World}

@@ -4,8 +4,8 @@ use Rattle.atspi_lines.specs.declared.line.Party.{Party}
 use Rattle.atspi_message.specs.Envelope.{Envelope}
 use Rattle.atspi_protocol.specs.ends.Messages.{numbered}
 use Rattle.atspi_protocol.specs.registering.Steps.{registry_takes}
-use Rattle.atspi_routing.specs.Queues.{Bus}
-use Rattle.atspi_routing.specs.Steps.{bus_takes}
+use Rattle.atspi_match.specs.routing.Queues.{Bus}
+use Rattle.atspi_match.specs.routing.Steps.{bus_takes}
 use Rattle.atspi_protocol.specs.exporting.Exporter.{Exporter}
 use Rattle.atspi_protocol.specs.exporting.Taking.{app_takes}
 use Rattle.atspi_protocol.specs.exporting.Laws.{Counts}

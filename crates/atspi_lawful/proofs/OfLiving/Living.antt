@@ -9,7 +9,7 @@ use Rattle.atspi_message.specs.Envelope.{Envelope}
 use Rattle.atspi_protocol.specs.registering.Steps.{registry_takes}
 use Rattle.atspi_protocol.specs.exporting.Exporter.{begins as begins_app}
 use Rattle.atspi_protocol.specs.exporting.Taking.{app_takes}
-use Rattle.atspi_routing.specs.declared.closing.Closing.{Closing}
+use Rattle.atspi_match.specs.declared.routing.closing.Closing.{Closing}
 use Rattle.atspi_protocol.specs.following.Calls.{user_call}
 use Rattle.atspi_trace.specs.Entry.{Entry, started, sent, got, exited, dropped}
 use Rattle.atspi_trace.specs.World.{an_application, End, World, newcomer}

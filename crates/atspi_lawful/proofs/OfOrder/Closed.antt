@@ -4,10 +4,10 @@ use Rattle.std.specs.Prelude.{Option, ◌-◌, length}
 use Rattle.std.specs.List.{AllByRecursion}
 use Rattle.atspi_lines.specs.declared.line.Party.{Party}
 use Rattle.atspi_lines.specs.declared.line.Party.TheVariants.{Bus as The_bus}
-use Rattle.atspi_routing.specs.declared.closing.Why.{Why}
-use Rattle.atspi_routing.specs.declared.closing.Closing.{Closing}
-use Rattle.atspi_routing.specs.Steps.{bus_takes, bus_leaves}
-use Rattle.atspi_routing.specs.Queues.{without_queue}
+use Rattle.atspi_match.specs.declared.routing.closing.Why.{Why}
+use Rattle.atspi_match.specs.declared.routing.closing.Closing.{Closing}
+use Rattle.atspi_match.specs.routing.Steps.{bus_takes, bus_leaves}
+use Rattle.atspi_match.specs.routing.Queues.{without_queue}
 use Rattle.atspi_trace.specs.Rules.{rule_in}
 use Rattle.atspi_trace.specs.World.{Said, End, World}
 use Rattle.atspi_trace.specs.Ends.{is_here, whose, party_at, end_at, with_end, leaves, taken_up}

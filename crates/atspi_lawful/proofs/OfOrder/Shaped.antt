@@ -7,7 +7,7 @@ use Rattle.atspi_protocol.specs.registering.Steps.{registry_takes}
 use Rattle.atspi_protocol.specs.exporting.Exporter.{Exporter, begins}
 use Rattle.atspi_protocol.specs.exporting.Starting.{starts}
 use Rattle.atspi_protocol.specs.exporting.Taking.{app_takes}
-use Rattle.atspi_routing.specs.Queues.{Bus}
+use Rattle.atspi_match.specs.routing.Queues.{Bus}
 use Rattle.atspi_protocol.specs.declared.following.question.Question.{Question}
 use Rattle.atspi_protocol.specs.declared.following.question.Question.TheVariants.{Hello}
 use Rattle.atspi_protocol.specs.following.Calls.{asking, user_call}

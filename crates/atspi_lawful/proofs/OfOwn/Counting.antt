@@ -13,16 +13,16 @@ use Rattle.atspi_lines.specs.declared.line.Party.{Party}
 use Rattle.atspi_message.specs.Envelope.{Envelope}
 use Rattle.atspi_message.specs.Bytes.{written}
 use Rattle.atspi_names.specs.Owners.{Owners, after_gone}
-use Rattle.atspi_routing.specs.declared.closing.Why.{Why}
-use Rattle.atspi_routing.specs.declared.closing.Why.TheVariants.{NotHello, Quota}
-use Rattle.atspi_routing.specs.declared.closing.Closing.{Closing}
+use Rattle.atspi_match.specs.declared.routing.closing.Why.{Why}
+use Rattle.atspi_match.specs.declared.routing.closing.Why.TheVariants.{NotHello, Quota}
+use Rattle.atspi_match.specs.declared.routing.closing.Closing.{Closing}
 use Rattle.atspi_match.specs.RuleIndex.{without_rules}
-use Rattle.atspi_routing.specs.BusState.{BusState, unique_of, calls_without}
-use Rattle.atspi_routing.specs.OwnMessages.{numbered}
-use Rattle.atspi_routing.specs.Steps.{Move, says, delivers, closes, BusStep, handed, said, speaks, farewell, bus_takes, bus_leaves}
-use Rattle.atspi_routing.specs.Queues as queues
-use Rattle.atspi_routing.specs.Queues.{Waiting, queue_of, is_due, doomed, own_of, without_queue}
-use Rattle.atspi_routing.specs.Routing.{receivers}
+use Rattle.atspi_match.specs.routing.BusState.{BusState, unique_of, calls_without}
+use Rattle.atspi_match.specs.routing.OwnMessages.{numbered}
+use Rattle.atspi_match.specs.routing.Steps.{Move, says, delivers, closes, BusStep, handed, said, speaks, farewell, bus_takes, bus_leaves}
+use Rattle.atspi_match.specs.routing.Queues as queues
+use Rattle.atspi_match.specs.routing.Queues.{Waiting, queue_of, is_due, doomed, own_of, without_queue}
+use Rattle.atspi_match.specs.routing.Routing.{receivers}
 use Rattle.atspi_trace.specs.Rules.{rule_in}
 use Rattle.atspi_trace.specs.World.{Said, Letter}
 use Rattle.atspi_trace.specs.Ends.{with_end, taken_up, leaves}

@@ -11,13 +11,13 @@ use Rattle.atspi_message.specs.Envelope.{Envelope}
 use Rattle.atspi_names.specs.Owners.{Owners, own_name, unique_name, after_hello}
 use Rattle.atspi_match.specs.declared.condition.Condition.{Condition}
 use Rattle.atspi_match.specs.RuleIndex.{is_pair, rules_of, without_first}
-use Rattle.atspi_routing.specs.declared.member.BusMember.{BusMember}
-use Rattle.atspi_routing.specs.declared.member.BusMember.TheVariants.{Hello, RequestName, ReleaseName, NameHasOwner, GetNameOwner, ListNames, ListQueuedOwners, AddMatch, RemoveMatch, GetId, Ping}
-use Rattle.atspi_routing.specs.BusState.{OpenCall, BusState, unique_of}
-use Rattle.atspi_routing.specs.Members.{is_text, member_of}
-use Rattle.atspi_routing.specs.Answers.{fails, returns, Answer, only, answers, may_be_asked_for, first_text, second_number, requests, releases, adds_rule, removes_rule}
-use Rattle.atspi_routing.specs.Routing.{receivers, is_for_bus}
-use Rattle.atspi_routing.specs.Steps.{closes, BusStep, handed, speaks, called, undeliverable, is_unowned, calls_after_all, is_hello, greets, bus_takes}
+use Rattle.atspi_match.specs.declared.routing.member.BusMember.{BusMember}
+use Rattle.atspi_match.specs.declared.routing.member.BusMember.TheVariants.{Hello, RequestName, ReleaseName, NameHasOwner, GetNameOwner, ListNames, ListQueuedOwners, AddMatch, RemoveMatch, GetId, Ping}
+use Rattle.atspi_match.specs.routing.BusState.{OpenCall, BusState, unique_of}
+use Rattle.atspi_match.specs.routing.Members.{is_text, member_of}
+use Rattle.atspi_match.specs.routing.Answers.{fails, returns, Answer, only, answers, may_be_asked_for, first_text, second_number, requests, releases, adds_rule, removes_rule}
+use Rattle.atspi_match.specs.routing.Routing.{receivers, is_for_bus}
+use Rattle.atspi_match.specs.routing.Steps.{closes, BusStep, handed, speaks, called, undeliverable, is_unowned, calls_after_all, is_hello, greets, bus_takes}
 
 -- who is named stays named
 abbrev pub StayNamed : Owners → Owners → Type 0

@@ -4,8 +4,8 @@ use Rattle.std.specs.List.{AllByRecursion}
 use Rattle.atspi_lines.specs.declared.line.Party.{Party}
 use Rattle.atspi_lines.specs.declared.line.Party.TheVariants.{Bus as The_bus, Registry, App, Reader}
 use Rattle.atspi_message.specs.Envelope.{Envelope}
-use Rattle.atspi_routing.specs.Queues.{Bus}
-use Rattle.atspi_routing.specs.declared.closing.Closing.{Closing}
+use Rattle.atspi_match.specs.routing.Queues.{Bus}
+use Rattle.atspi_match.specs.declared.routing.closing.Closing.{Closing}
 use Rattle.atspi_protocol.specs.exporting.Exporter.{begins as begins_app}
 use Rattle.atspi_protocol.specs.declared.following.question.Question.{Question}
 use Rattle.atspi_trace.specs.Entry.{Entry, sent, dropped}

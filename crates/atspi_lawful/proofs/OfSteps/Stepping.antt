@@ -13,7 +13,7 @@ use Rattle.atspi_protocol.specs.exporting.Exporter.{Exporter}
 use Rattle.atspi_protocol.specs.exporting.Taking.{app_edits, app_takes}
 use Rattle.atspi_protocol.specs.exporting.Laws.{HasTree, HasTreeIfDone}
 use Rattle.atspi_protocol.proofs.OfExporting.Staying.{trees_stay}
-use Rattle.atspi_routing.specs.Queues.{Bus}
+use Rattle.atspi_match.specs.routing.Queues.{Bus}
 use Rattle.atspi_protocol.specs.following.Calls.{user_call}
 use Rattle.atspi_trace.specs.Entry.{Entry, started, changed, got}
 use Rattle.atspi_trace.specs.World.{Role, the_registry, an_application, a_reader, Letter, Hearer, End, World, first_world}

@@ -14,8 +14,8 @@ use Rattle.atspi_protocol.specs.exporting.Starting.{starts}
 use Rattle.atspi_protocol.specs.exporting.Taking.{app_takes}
 use Rattle.atspi_protocol.specs.exporting.Laws.{Counts}
 use Rattle.atspi_protocol.proofs.OfExporting.Rising.{numbers_rise}
-use Rattle.atspi_routing.specs.declared.closing.Closing.{Closing}
-use Rattle.atspi_routing.specs.Queues.{Bus}
+use Rattle.atspi_match.specs.declared.routing.closing.Closing.{Closing}
+use Rattle.atspi_match.specs.routing.Queues.{Bus}
 use Rattle.atspi_protocol.specs.following.Calls.{asking, user_call}
 use Rattle.atspi_protocol.specs.declared.following.question.Question.{Question}
 use Rattle.atspi_protocol.specs.declared.following.question.Question.TheVariants.{Hello}

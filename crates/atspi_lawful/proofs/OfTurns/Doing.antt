@@ -5,13 +5,13 @@ use Rattle.std.specs.List.{AllByRecursion}
 use Rattle.atspi_message.specs.Envelope.{Envelope}
 use Rattle.atspi_match.specs.declared.condition.Condition.{Condition}
 use Rattle.atspi_lines.specs.declared.line.Party.{Party}
-use Rattle.atspi_routing.specs.declared.closing.Why.{Why}
-use Rattle.atspi_routing.specs.declared.member.BusMember.{BusMember}
-use Rattle.atspi_routing.specs.BusState.{BusState, unique_of}
-use Rattle.atspi_routing.specs.Members.{member_of}
-use Rattle.atspi_routing.specs.Answers.{fails}
-use Rattle.atspi_routing.specs.Routing.{receivers, is_for_bus}
-use Rattle.atspi_routing.specs.Steps.{Move, closes, BusStep, handed, speaks, replies, called, undeliverable, is_unowned, passes_on, is_hello, greets, bus_takes}
+use Rattle.atspi_match.specs.declared.routing.closing.Why.{Why}
+use Rattle.atspi_match.specs.declared.routing.member.BusMember.{BusMember}
+use Rattle.atspi_match.specs.routing.BusState.{BusState, unique_of}
+use Rattle.atspi_match.specs.routing.Members.{member_of}
+use Rattle.atspi_match.specs.routing.Answers.{fails}
+use Rattle.atspi_match.specs.routing.Routing.{receivers, is_for_bus}
+use Rattle.atspi_match.specs.routing.Steps.{Move, closes, BusStep, handed, speaks, replies, called, undeliverable, is_unowned, passes_on, is_hello, greets, bus_takes}
 use Rattle.atspi_trace.specs.Rules.{rule_in}
 use Rattle.atspi_trace.specs.World.{Said}
 use Rattle.atspi_trace.specs.Ends.{with_end, taken_up}

@@ -4,8 +4,8 @@ use Rattle.std.specs.Prelude.{◌==◌, filter, if◌then◌else◌}
 use Rattle.atspi_message.specs.Envelope.{Envelope}
 use Rattle.atspi_names.specs.Queue.{owner_in}
 use Rattle.atspi_names.specs.Owners.{list_of}
-use Rattle.atspi_routing.specs.BusState.{BusState}
-use Rattle.atspi_routing.specs.Routing.{asks_for, one_or_none, receivers}
+use Rattle.atspi_match.specs.routing.BusState.{BusState}
+use Rattle.atspi_match.specs.routing.Routing.{asks_for, one_or_none, receivers}
 
 -- numbers that rise, from this one on, and below another
 abbrev pub Rises : ℕ → ℕ → List ℕ → Type 0

@@ -5,8 +5,8 @@ use Rattle.std.specs.List.{AllByRecursion, fold}
 use Rattle.atspi_lines.specs.declared.line.Party.{Party}
 use Rattle.atspi_lines.specs.declared.line.Party.TheVariants.{Bus as The_bus}
 use Rattle.atspi_message.specs.Envelope.{Envelope}
-use Rattle.atspi_routing.specs.Steps.{delivers}
-use Rattle.atspi_routing.specs.Queues as queues
+use Rattle.atspi_match.specs.routing.Steps.{delivers}
+use Rattle.atspi_match.specs.routing.Queues as queues
 use Rattle.atspi_trace.specs.Entry.{Entry, got}
 use Rattle.atspi_trace.specs.World.{Letter, End}
 use Rattle.atspi_trace.specs.Ends.{end_at, with_end, put_down, rest_of}

@@ -9,7 +9,7 @@ use Rattle.atspi_lines.specs.declared.line.Party.{Party}
 use Rattle.atspi_lines.specs.declared.line.Party.TheVariants.{Bus as The_bus, Registry, App, Reader}
 use Rattle.atspi_message.specs.Envelope.{Envelope}
 use Rattle.atspi_names.specs.Owners.{unique_name}
-use Rattle.atspi_routing.specs.Routing.{is_reply}
+use Rattle.atspi_match.specs.routing.Routing.{is_reply}
 use Rattle.atspi_protocol.specs.exporting.Hearing.{is_pair}
 use Rattle.atspi_protocol.specs.declared.news.part.PartName.{PartName}
 use Rattle.atspi_protocol.specs.declared.following.question.Question.{Question}

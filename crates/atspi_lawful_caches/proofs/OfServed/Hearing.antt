@@ -10,8 +10,8 @@ use Rattle.atspi_message.specs.Envelope.{Envelope}
 use Rattle.atspi_match.specs.declared.condition.Condition.{Condition}
 use Rattle.atspi_names.specs.Owners.{Owners}
 use Rattle.atspi_names.specs.Queue.{owner_in}
-use Rattle.atspi_routing.specs.declared.closing.Closing.{Closing}
-use Rattle.atspi_routing.specs.BusState.{unique_of}
+use Rattle.atspi_match.specs.declared.routing.closing.Closing.{Closing}
+use Rattle.atspi_match.specs.routing.BusState.{unique_of}
 use Rattle.atspi_protocol.specs.ends.Places.{registry}
 use Rattle.atspi_protocol.specs.registering.Steps.{RegistryStep, registry_takes}
 use Rattle.atspi_protocol.specs.exporting.Exporter.{get_registered_events, awaits, Exporter}

@@ -8,10 +8,10 @@ use Rattle.atspi_lines.specs.declared.line.Party.TheVariants.{Bus as The_bus, Re
 use Rattle.atspi_message.specs.Envelope.{Envelope}
 use Rattle.atspi_names.specs.Owners.{own_name}
 use Rattle.atspi_match.specs.declared.condition.Condition.{Condition}
-use Rattle.atspi_routing.specs.declared.closing.Closing.{Closing}
-use Rattle.atspi_routing.specs.BusState.{unique_of}
-use Rattle.atspi_routing.specs.Members.{is_text as is_word}
-use Rattle.atspi_routing.specs.Steps.{Move, says, delivers, closes, BusStep, is_hello, greets, bus_takes}
+use Rattle.atspi_match.specs.declared.routing.closing.Closing.{Closing}
+use Rattle.atspi_match.specs.routing.BusState.{unique_of}
+use Rattle.atspi_match.specs.routing.Members.{is_text as is_word}
+use Rattle.atspi_match.specs.routing.Steps.{Move, says, delivers, closes, BusStep, is_hello, greets, bus_takes}
 use Rattle.atspi_protocol.specs.members.Asked.{is_text}
 use Rattle.atspi_protocol.specs.exporting.Exporter.{StartCall, hello, add_match, get_registered_events, embed, Phase, awaits, Exporter}
 use Rattle.atspi_protocol.specs.exporting.Hearing.{is_heard}

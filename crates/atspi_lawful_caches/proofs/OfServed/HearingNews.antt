@@ -13,9 +13,9 @@ use Rattle.atspi_protocol.specs.ends.Places.{registry}
 use Rattle.atspi_protocol.specs.members.Asked.{is_text}
 use Rattle.atspi_protocol.specs.exporting.Exporter.{StartCall, hello, add_match, get_registered_events, embed}
 use Rattle.atspi_protocol.specs.exporting.Starting.{start_call, registry_signals}
-use Rattle.atspi_routing.specs.BusState.{BusState, OpenCall, unique_of}
-use Rattle.atspi_routing.specs.Routing.{matches, asks_for, receivers, is_same, is_owned_by, goes_by, passes, is_for_bus}
-use Rattle.atspi_routing.specs.Steps.{handed, called, speaks, closes, passes_on, undeliverable, is_unowned, calls_after_all, is_hello, greets, takes_from_named, bus_takes}
+use Rattle.atspi_match.specs.routing.BusState.{BusState, OpenCall, unique_of}
+use Rattle.atspi_match.specs.routing.Routing.{matches, asks_for, receivers, is_same, is_owned_by, goes_by, passes, is_for_bus}
+use Rattle.atspi_match.specs.routing.Steps.{handed, called, speaks, closes, passes_on, undeliverable, is_unowned, calls_after_all, is_hello, greets, takes_from_named, bus_takes}
 use Rattle.atspi_trace.specs.Rules.{registry_rule, rules_asked, rule_written}
 use Rattle.atspi_lawful.proofs.OfOrder.Parties.{false_true}
 use Rattle.atspi_lawful_ends.proofs.OfSigned.Unique.{IsIn}

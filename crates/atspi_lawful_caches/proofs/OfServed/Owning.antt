@@ -7,7 +7,7 @@ use Rattle.std.specs.FinMap.{get-remove}
 use Rattle.std.specs.Cmp.{nat_cmp_total, eq_by_cmp_equiv}
 use Rattle.std.proofs.lemmas.Bool.{eqb-true}
 use Rattle.atspi_types.specs.Data.{Data}
-use Rattle.atspi_valid_names.specs.Names.{is_unique_name}
+use Rattle.atspi_base.specs.valid_names.Names.{is_unique_name}
 use Rattle.atspi_message.specs.Envelope.{Envelope}
 use Rattle.atspi_match.specs.declared.condition.Condition.{Condition}
 use Rattle.atspi_match.specs.RuleIndex.{is_pair, rules_of, without_first}
@@ -16,14 +16,14 @@ use Rattle.atspi_names.proofs.BookLemmas.{list_of-lists_without}
 use Rattle.atspi_names.proofs.OwnersLemmas.{list_elsewhere}
 use Rattle.atspi_names.specs.Queue.{without, owner_in}
 use Rattle.atspi_protocol.specs.ends.Places.{registry}
-use Rattle.atspi_routing.specs.declared.closing.Why.{Why}
-use Rattle.atspi_routing.specs.declared.member.BusMember.{BusMember}
-use Rattle.atspi_routing.specs.declared.member.BusMember.TheVariants.{Hello, RequestName, ReleaseName, NameHasOwner, GetNameOwner, ListNames, ListQueuedOwners, AddMatch, RemoveMatch, GetId, Ping}
-use Rattle.atspi_routing.specs.BusState.{OpenCall, BusState, unique_of}
-use Rattle.atspi_routing.specs.Members.{MemberLine, is_text, is_of, first_line, with_arguments, member_lines, member_of}
-use Rattle.atspi_routing.specs.Answers.{Answer, only, fails, returns, answers, adds_rule, removes_rule}
-use Rattle.atspi_routing.specs.Routing.{receivers, is_for_bus, owners_of, one_or_none}
-use Rattle.atspi_routing.specs.Steps.{handed, speaks, called, undeliverable, is_unowned, calls_after_all, is_hello, greets, closes, bus_takes}
+use Rattle.atspi_match.specs.declared.routing.closing.Why.{Why}
+use Rattle.atspi_match.specs.declared.routing.member.BusMember.{BusMember}
+use Rattle.atspi_match.specs.declared.routing.member.BusMember.TheVariants.{Hello, RequestName, ReleaseName, NameHasOwner, GetNameOwner, ListNames, ListQueuedOwners, AddMatch, RemoveMatch, GetId, Ping}
+use Rattle.atspi_match.specs.routing.BusState.{OpenCall, BusState, unique_of}
+use Rattle.atspi_match.specs.routing.Members.{MemberLine, is_text, is_of, first_line, with_arguments, member_lines, member_of}
+use Rattle.atspi_match.specs.routing.Answers.{Answer, only, fails, returns, answers, adds_rule, removes_rule}
+use Rattle.atspi_match.specs.routing.Routing.{receivers, is_for_bus, owners_of, one_or_none}
+use Rattle.atspi_match.specs.routing.Steps.{handed, speaks, called, undeliverable, is_unowned, calls_after_all, is_hello, greets, closes, bus_takes}
 use Rattle.atspi_trace.specs.Carrying.{Carried, one_closed, settled}
 use Rattle.atspi_lawful.proofs.OfOrder.Parties.{no_none, same_some, false_true}
 use Rattle.atspi_lawful_ends.proofs.OfNames.Naming.{hello_other, gone_less}

@@ -24,14 +24,14 @@ use Rattle.atspi_protocol.specs.following.Calls.{asking, user_call}
 use Rattle.atspi_protocol.specs.declared.following.question.Question.{Question}
 use Rattle.atspi_protocol.specs.declared.following.question.Question.TheVariants.{Hello, AddMatch, RegisterEvent, GetChildren, GetItems, GetPart}
 use Rattle.atspi_protocol.specs.declared.news.part.PartName.TheVariants.{Text, Caret, Columns}
-use Rattle.atspi_valid_names.specs.Names.{is_unique_name}
+use Rattle.atspi_base.specs.valid_names.Names.{is_unique_name}
 use Rattle.atspi_match.specs.declared.condition.Condition.{Condition}
-use Rattle.atspi_routing.specs.BusState.{BusState, unique_of}
-use Rattle.atspi_routing.specs.OwnMessages.{error_to}
-use Rattle.atspi_routing.specs.Answers.{fails as fails_bus}
-use Rattle.atspi_routing.specs.Members.{is_text}
-use Rattle.atspi_routing.specs.Routing.{receivers, owners_of, is_for_bus, is_reply, expects_reply}
-use Rattle.atspi_routing.specs.Steps.{Move, says, delivers, closes, BusStep, handed, speaks, replies, called, undeliverable, is_unowned, is_hello, greets, bus_takes}
+use Rattle.atspi_match.specs.routing.BusState.{BusState, unique_of}
+use Rattle.atspi_match.specs.routing.OwnMessages.{error_to}
+use Rattle.atspi_match.specs.routing.Answers.{fails as fails_bus}
+use Rattle.atspi_match.specs.routing.Members.{is_text}
+use Rattle.atspi_match.specs.routing.Routing.{receivers, owners_of, is_for_bus, is_reply, expects_reply}
+use Rattle.atspi_match.specs.routing.Steps.{Move, says, delivers, closes, BusStep, handed, speaks, replies, called, undeliverable, is_unowned, is_hello, greets, bus_takes}
 use Rattle.atspi_trace.specs.Entry.{Entry, sent}
 use Rattle.atspi_trace.specs.Rules.{rule_in}
 use Rattle.atspi_trace.specs.World.{here, a_reader, Hearer, Said, Letter, first_lists, first_registry, first_world, End, World}

@@ -4,20 +4,20 @@ use Rattle.std.specs.Prelude.{◌==◌, ◌&&◌, not, filter, flat_map, bytes_e
 use Rattle.std.specs.List.{AllByRecursion, list_any}
 use Rattle.std.specs.FinMap as finmap
 use Rattle.atspi_types.specs.Data.{Data, text_data}
-use Rattle.atspi_valid_names.specs.Names.{is_bus_name, is_unique_name}
+use Rattle.atspi_base.specs.valid_names.Names.{is_bus_name, is_unique_name}
 use Rattle.atspi_message.specs.Envelope.{Envelope}
 use Rattle.atspi_names.specs.Owners.{Owners, own_name, list_of, after_hello, after_gone, well_known, owned_by}
 use Rattle.atspi_names.specs.Queue.{owner_in, owns, request_change, release_change}
 use Rattle.atspi_match.specs.declared.condition.Condition.{Condition}
 use Rattle.atspi_match.specs.RuleIndex.{is_pair, rules_of, without_first, without_rules}
-use Rattle.atspi_routing.specs.declared.member.BusMember.{BusMember}
-use Rattle.atspi_routing.specs.declared.member.BusMember.TheVariants.{Hello, RequestName, ReleaseName, NameHasOwner, GetNameOwner, ListNames, ListQueuedOwners, AddMatch, RemoveMatch, GetId, Ping}
-use Rattle.atspi_routing.specs.BusState.{OpenCall, BusState, unique_of, text_or_empty, name_or_empty, calls_without, waiting_for}
-use Rattle.atspi_routing.specs.Members.{is_text, member_of}
-use Rattle.atspi_routing.specs.OwnMessages.{error_to, name_lost, name_acquired, owner_changed, same_owner, told_of_change, numbered}
-use Rattle.atspi_routing.specs.Answers.{Reply, returns, fails, Answer, only, answers, may_be_asked_for, first_text, second_number, requests, releases, adds_rule, removes_rule}
-use Rattle.atspi_routing.specs.Routing.{receivers, is_for_bus, expects_reply}
-use Rattle.atspi_routing.specs.Steps.{Move, says, delivers, closes, handed, speaks, replies, answered, called, undeliverable, is_unowned, calls_after_all, is_hello, greets, no_replies, name_passes_on, names_pass_on, farewell, bus_takes, bus_leaves}
+use Rattle.atspi_match.specs.declared.routing.member.BusMember.{BusMember}
+use Rattle.atspi_match.specs.declared.routing.member.BusMember.TheVariants.{Hello, RequestName, ReleaseName, NameHasOwner, GetNameOwner, ListNames, ListQueuedOwners, AddMatch, RemoveMatch, GetId, Ping}
+use Rattle.atspi_match.specs.routing.BusState.{OpenCall, BusState, unique_of, text_or_empty, name_or_empty, calls_without, waiting_for}
+use Rattle.atspi_match.specs.routing.Members.{is_text, member_of}
+use Rattle.atspi_match.specs.routing.OwnMessages.{error_to, name_lost, name_acquired, owner_changed, same_owner, told_of_change, numbered}
+use Rattle.atspi_match.specs.routing.Answers.{Reply, returns, fails, Answer, only, answers, may_be_asked_for, first_text, second_number, requests, releases, adds_rule, removes_rule}
+use Rattle.atspi_match.specs.routing.Routing.{receivers, is_for_bus, expects_reply}
+use Rattle.atspi_match.specs.routing.Steps.{Move, says, delivers, closes, handed, speaks, replies, answered, called, undeliverable, is_unowned, calls_after_all, is_hello, greets, no_replies, name_passes_on, names_pass_on, farewell, bus_takes, bus_leaves}
 use Rattle.atspi_protocol.specs.following.Known.{told_end}
 use Rattle.atspi_lawful.proofs.OfOrder.Parties.{no_none, same_some, false_true, all_append}
 use Rattle.atspi_lawful.proofs.OfOrder.Each.{all_map}

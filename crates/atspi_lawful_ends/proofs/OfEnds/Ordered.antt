@@ -13,11 +13,11 @@ use Rattle.atspi_lines.specs.declared.line.Party.TheVariants.{Bus as The_bus, Ap
 use Rattle.atspi_message.specs.Envelope.{Envelope}
 use Rattle.atspi_match.specs.declared.condition.Condition.{Condition}
 use Rattle.atspi_names.specs.Owners.{Owners, own_name, after_gone}
-use Rattle.atspi_routing.specs.declared.closing.Why.{Why}
-use Rattle.atspi_routing.specs.BusState.{BusState, unique_of}
-use Rattle.atspi_routing.specs.Members.{is_text}
-use Rattle.atspi_routing.specs.Queues.{Bus, without_queue}
-use Rattle.atspi_routing.specs.Steps.{Move, says, delivers, closes, BusStep, is_hello, greets, bus_takes, bus_leaves}
+use Rattle.atspi_match.specs.declared.routing.closing.Why.{Why}
+use Rattle.atspi_match.specs.routing.BusState.{BusState, unique_of}
+use Rattle.atspi_match.specs.routing.Members.{is_text}
+use Rattle.atspi_match.specs.routing.Queues.{Bus, without_queue}
+use Rattle.atspi_match.specs.routing.Steps.{Move, says, delivers, closes, BusStep, is_hello, greets, bus_takes, bus_leaves}
 use Rattle.atspi_protocol.specs.following.Known.{told_end}
 use Rattle.atspi_trace.specs.Entry.{Entry, gone}
 use Rattle.atspi_trace.specs.Rules.{rule_in}

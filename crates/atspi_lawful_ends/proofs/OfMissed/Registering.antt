@@ -5,8 +5,8 @@ use Rattle.std.specs.List.{AllByRecursion, cons_option}
 use Rattle.std.proofs.lemmas.Bool.{ltb-false}
 use Rattle.std.proofs.lemmas.List.{append-nil}
 use Rattle.std.proofs.lemmas.Slice.Eq.{bytes_eq-Decides}
-use Rattle.atspi_valid_names.specs.Elements.{are_two_or_more, are_elements, parts_of}
-use Rattle.atspi_valid_names.specs.Names.{is_bus_name}
+use Rattle.atspi_base.specs.valid_names.Elements.{are_two_or_more, are_elements, parts_of}
+use Rattle.atspi_base.specs.valid_names.Names.{is_bus_name}
 use Rattle.atspi_lines.specs.declared.limits.TheConstants.{QUOTA_MOST}
 use Rattle.atspi_lines.specs.declared.line.Line.{Line}
 use Rattle.atspi_lines.specs.declared.line.Party.{Party}
@@ -14,8 +14,8 @@ use Rattle.atspi_lines.specs.declared.line.Party.TheVariants.{Bus as The_bus, Re
 use Rattle.atspi_message.specs.Envelope.{Envelope}
 use Rattle.atspi_names.specs.Owners.{own_name, unique_name}
 use Rattle.atspi_names.proofs.UniqueLemmas.{is_bus_name-unique_name, is_bus_name-own_name}
-use Rattle.atspi_routing.specs.declared.closing.Closing.{Closing}
-use Rattle.atspi_routing.specs.Members.{is_text}
+use Rattle.atspi_match.specs.declared.routing.closing.Closing.{Closing}
+use Rattle.atspi_match.specs.routing.Members.{is_text}
 use Rattle.atspi_protocol.specs.registering.RegistryState.{begins as begins_registry, RegistryState}
 use Rattle.atspi_protocol.specs.registering.Steps.{RegistryStep, registry_takes}
 use Rattle.atspi_protocol.specs.exporting.Exporter.{Happening, steps, sends, hears, deaf, Exporter}

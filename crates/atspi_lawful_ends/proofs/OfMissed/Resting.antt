@@ -8,9 +8,9 @@ use Rattle.std.specs.Cmp.Lexicographic.{slice_cmp}
 use Rattle.atspi_lines.specs.declared.limits.TheConstants.{QUOTA_MOST}
 use Rattle.atspi_lines.specs.declared.line.Party.{Party}
 use Rattle.atspi_names.specs.Owners.{list_of}
-use Rattle.atspi_routing.specs.declared.closing.Why.{Why}
-use Rattle.atspi_routing.specs.Steps.{BusStep, bus_takes, bus_leaves}
-use Rattle.atspi_routing.specs.Queues.{without_queue}
+use Rattle.atspi_match.specs.declared.routing.closing.Why.{Why}
+use Rattle.atspi_match.specs.routing.Steps.{BusStep, bus_takes, bus_leaves}
+use Rattle.atspi_match.specs.routing.Queues.{without_queue}
 use Rattle.atspi_trace.specs.Entry.{Entry}
 use Rattle.atspi_trace.specs.Rules.{rule_in}
 use Rattle.atspi_trace.specs.World.{Standing, here, stopped, away, Said, first_lists, first_registry, first_world, End, World}

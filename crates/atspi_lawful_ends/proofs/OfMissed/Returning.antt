@@ -5,19 +5,19 @@ use Rattle.std.specs.List.{AllByRecursion}
 use Rattle.std.specs.FinMap as finmap
 use Rattle.std.proofs.lemmas.Slice.Eq.{bytes_eq-Decides}
 use Rattle.atspi_types.specs.Data.{text_data}
-use Rattle.atspi_valid_names.specs.Names.{is_unique_name}
+use Rattle.atspi_base.specs.valid_names.Names.{is_unique_name}
 use Rattle.atspi_message.specs.Envelope.{Envelope}
 use Rattle.atspi_names.specs.Owners.{Owners, own_name, after_hello}
 use Rattle.atspi_match.specs.declared.condition.Condition.{Condition}
-use Rattle.atspi_routing.specs.declared.member.BusMember.{BusMember}
-use Rattle.atspi_routing.specs.BusState.{BusState, unique_of, text_or_empty}
-use Rattle.atspi_routing.specs.Members.{is_text, member_of}
+use Rattle.atspi_match.specs.declared.routing.member.BusMember.{BusMember}
+use Rattle.atspi_match.specs.routing.BusState.{BusState, unique_of, text_or_empty}
+use Rattle.atspi_match.specs.routing.Members.{is_text, member_of}
 use Rattle.atspi_protocol.specs.ends.Places.{registry}
 use Rattle.atspi_protocol.specs.members.Asked.{is_text as is_word}
-use Rattle.atspi_routing.specs.OwnMessages.{return_to, error_to, name_acquired, owner_changed, numbered}
-use Rattle.atspi_routing.specs.Answers.{Reply, returns, fails, Answer, only, answers}
-use Rattle.atspi_routing.specs.Routing.{receivers, owners_of, is_for_bus, expects_reply}
-use Rattle.atspi_routing.specs.Steps.{Move, says, delivers, closes, BusStep, handed, speaks, replies, answered, called, undeliverable, is_unowned, greets, bus_takes}
+use Rattle.atspi_match.specs.routing.OwnMessages.{return_to, error_to, name_acquired, owner_changed, numbered}
+use Rattle.atspi_match.specs.routing.Answers.{Reply, returns, fails, Answer, only, answers}
+use Rattle.atspi_match.specs.routing.Routing.{receivers, owners_of, is_for_bus, expects_reply}
+use Rattle.atspi_match.specs.routing.Steps.{Move, says, delivers, closes, BusStep, handed, speaks, replies, answered, called, undeliverable, is_unowned, greets, bus_takes}
 use Rattle.atspi_lawful.proofs.OfOrder.Parties.{same_some, false_true, all_append}
 use Rattle.atspi_lawful.proofs.OfOrder.Each.{all_map}
 use Rattle.atspi_lawful_ends.proofs.OfNames.Naming.{SameAs, called_same}

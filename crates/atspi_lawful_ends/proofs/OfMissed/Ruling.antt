@@ -9,16 +9,16 @@ use Rattle.atspi_lines.specs.declared.line.Party.{Party}
 use Rattle.atspi_message.specs.Envelope.{Envelope}
 use Rattle.atspi_match.specs.declared.condition.Condition.{Condition}
 use Rattle.atspi_match.specs.RuleIndex.{is_pair, rules_of, without_first, without_rules}
-use Rattle.atspi_routing.specs.declared.closing.Why.{Why}
-use Rattle.atspi_routing.specs.declared.member.BusMember.{BusMember}
-use Rattle.atspi_routing.specs.declared.member.BusMember.TheVariants.{Hello, RequestName, ReleaseName, NameHasOwner, GetNameOwner, ListNames, ListQueuedOwners, AddMatch, RemoveMatch, GetId, Ping}
-use Rattle.atspi_routing.specs.BusState.{OpenCall, BusState, unique_of}
-use Rattle.atspi_routing.specs.OwnMessages.{error_to}
-use Rattle.atspi_routing.specs.Members.{MemberLine, is_text, is_of, first_line, with_arguments, member_lines, member_of}
-use Rattle.atspi_routing.specs.Answers.{returns, fails, Answer, only, answers, may_be_asked_for, first_text, second_number, requests, releases, adds_rule, removes_rule}
-use Rattle.atspi_routing.specs.Routing.{receivers, is_for_bus, expects_reply}
-use Rattle.atspi_routing.specs.Steps.{Move, delivers, closes, BusStep, handed, speaks, replies, answered, called, undeliverable, is_unowned, calls_after_all, is_hello, greets, bus_takes, bus_leaves}
-use Rattle.atspi_routing.specs.Queues.{without_queue}
+use Rattle.atspi_match.specs.declared.routing.closing.Why.{Why}
+use Rattle.atspi_match.specs.declared.routing.member.BusMember.{BusMember}
+use Rattle.atspi_match.specs.declared.routing.member.BusMember.TheVariants.{Hello, RequestName, ReleaseName, NameHasOwner, GetNameOwner, ListNames, ListQueuedOwners, AddMatch, RemoveMatch, GetId, Ping}
+use Rattle.atspi_match.specs.routing.BusState.{OpenCall, BusState, unique_of}
+use Rattle.atspi_match.specs.routing.OwnMessages.{error_to}
+use Rattle.atspi_match.specs.routing.Members.{MemberLine, is_text, is_of, first_line, with_arguments, member_lines, member_of}
+use Rattle.atspi_match.specs.routing.Answers.{returns, fails, Answer, only, answers, may_be_asked_for, first_text, second_number, requests, releases, adds_rule, removes_rule}
+use Rattle.atspi_match.specs.routing.Routing.{receivers, is_for_bus, expects_reply}
+use Rattle.atspi_match.specs.routing.Steps.{Move, delivers, closes, BusStep, handed, speaks, replies, answered, called, undeliverable, is_unowned, calls_after_all, is_hello, greets, bus_takes, bus_leaves}
+use Rattle.atspi_match.specs.routing.Queues.{without_queue}
 use Rattle.atspi_protocol.specs.declared.following.question.Question.TheVariants.{AddMatch as AsksMatch}
 use Rattle.atspi_protocol.specs.following.Calls.{asking}
 use Rattle.atspi_trace.specs.Rules.{rule_in}

@@ -8,11 +8,11 @@ use Rattle.atspi_match.specs.RuleIndex.{without_rules}
 use Rattle.atspi_names.specs.Queue.{without}
 use Rattle.atspi_names.specs.Owners.{list_of, lists_without, after_gone}
 use Rattle.atspi_names.proofs.BookLemmas.{list_of-lists_without}
-use Rattle.atspi_routing.specs.declared.closing.Why.{Why}
-use Rattle.atspi_routing.specs.BusState.{BusState, unique_of, calls_without}
-use Rattle.atspi_routing.specs.Steps.{BusStep, farewell, bus_takes, bus_leaves}
-use Rattle.atspi_routing.specs.Queues as queues
-use Rattle.atspi_routing.specs.Queues.{without_queue}
+use Rattle.atspi_match.specs.declared.routing.closing.Why.{Why}
+use Rattle.atspi_match.specs.routing.BusState.{BusState, unique_of, calls_without}
+use Rattle.atspi_match.specs.routing.Steps.{BusStep, farewell, bus_takes, bus_leaves}
+use Rattle.atspi_match.specs.routing.Queues as queues
+use Rattle.atspi_match.specs.routing.Queues.{without_queue}
 use Rattle.atspi_trace.specs.Rules.{rule_in}
 use Rattle.atspi_trace.specs.World.{Said}
 use Rattle.atspi_trace.specs.Ends.{with_end, taken_up}

@@ -18,9 +18,9 @@ use Rattle.atspi_protocol.specs.members.Interfaces.{cache}
 use Rattle.atspi_protocol.specs.news.NewsOf.{event_interface}
 use Rattle.atspi_protocol.specs.announcing.Signals.{Signal, removed}
 use Rattle.atspi_protocol.specs.announcing.Announced.{told_node, left, announced}
-use Rattle.atspi_routing.specs.BusState.{BusState, unique_of}
-use Rattle.atspi_routing.specs.Routing.{matches, asks_for, receivers}
-use Rattle.atspi_routing.specs.Steps.{handed, called, speaks, passes_on, takes_from_named, bus_takes}
+use Rattle.atspi_match.specs.routing.BusState.{BusState, unique_of}
+use Rattle.atspi_match.specs.routing.Routing.{matches, asks_for, receivers}
+use Rattle.atspi_match.specs.routing.Steps.{handed, called, speaks, passes_on, takes_from_named, bus_takes}
 use Rattle.atspi_trace.specs.Entry.{Entry, sent}
 use Rattle.atspi_trace.specs.Rules.{cache_rule, event_rule}
 use Rattle.atspi_lawful.specs.laws.Words.{message, messages, live_tree, heard_pairs, before_sent}

@@ -13,7 +13,7 @@ use Rattle.atspi_protocol.specs.declared.news.part.PartName.TheVariants.{Text, C
 use Rattle.atspi_protocol.specs.declared.following.question.Question.{Question}
 use Rattle.atspi_protocol.specs.declared.following.question.Question.TheVariants.{Hello, AddMatch, RegisterEvent, GetChildren, GetItems, GetPart}
 use Rattle.atspi_protocol.specs.following.Calls.{asking, user_call}
-use Rattle.atspi_routing.specs.declared.closing.Closing.{Closing}
+use Rattle.atspi_match.specs.declared.routing.closing.Closing.{Closing}
 use Rattle.atspi_trace.specs.Entry.{Entry, sent, dropped}
 use Rattle.atspi_trace.specs.World.{World}
 use Rattle.atspi_trace.specs.Ends.{whose, party_at, number_of}

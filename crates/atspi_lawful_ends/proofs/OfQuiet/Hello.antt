@@ -15,16 +15,16 @@ use Rattle.atspi_message.specs.Envelope.{Envelope}
 use Rattle.atspi_message.specs.Bytes.{written}
 use Rattle.atspi_match.specs.RuleIndex.{without_rules}
 use Rattle.atspi_names.specs.Owners.{Owners, unique_name, after_hello, after_gone}
-use Rattle.atspi_routing.specs.declared.closing.Why.{Why}
-use Rattle.atspi_routing.specs.declared.closing.Why.TheVariants.{Quota}
-use Rattle.atspi_routing.specs.declared.closing.Closing.{Closing}
-use Rattle.atspi_routing.specs.BusState.{BusState, unique_of, text_or_empty, calls_without}
-use Rattle.atspi_routing.specs.OwnMessages.{name_acquired, owner_changed, numbered}
-use Rattle.atspi_routing.specs.Answers.{returns}
-use Rattle.atspi_routing.specs.Routing.{receivers}
-use Rattle.atspi_routing.specs.Steps.{Move, says, delivers, closes, BusStep, handed, replies, is_hello, greets, farewell, bus_takes, bus_leaves}
-use Rattle.atspi_routing.specs.Queues as queues
-use Rattle.atspi_routing.specs.Queues.{Waiting, Bus, is_due, doomed, queue_of, without_queue}
+use Rattle.atspi_match.specs.declared.routing.closing.Why.{Why}
+use Rattle.atspi_match.specs.declared.routing.closing.Why.TheVariants.{Quota}
+use Rattle.atspi_match.specs.declared.routing.closing.Closing.{Closing}
+use Rattle.atspi_match.specs.routing.BusState.{BusState, unique_of, text_or_empty, calls_without}
+use Rattle.atspi_match.specs.routing.OwnMessages.{name_acquired, owner_changed, numbered}
+use Rattle.atspi_match.specs.routing.Answers.{returns}
+use Rattle.atspi_match.specs.routing.Routing.{receivers}
+use Rattle.atspi_match.specs.routing.Steps.{Move, says, delivers, closes, BusStep, handed, replies, is_hello, greets, farewell, bus_takes, bus_leaves}
+use Rattle.atspi_match.specs.routing.Queues as queues
+use Rattle.atspi_match.specs.routing.Queues.{Waiting, Bus, is_due, doomed, queue_of, without_queue}
 use Rattle.atspi_trace.specs.Rules.{rule_in}
 use Rattle.atspi_trace.specs.World.{Said, Letter, End}
 use Rattle.atspi_trace.specs.Ends.{end_at, with_end, put_down, taken_up, leaves}

@@ -8,8 +8,8 @@ use Rattle.atspi_lines.specs.declared.line.Line.{Line}
 use Rattle.atspi_lines.specs.declared.line.Party.{Party}
 use Rattle.atspi_lines.specs.declared.line.Party.TheVariants.{Bus as The_bus, Registry, App, Reader}
 use Rattle.atspi_message.specs.Envelope.{Envelope}
-use Rattle.atspi_routing.specs.declared.closing.Closing.{Closing}
-use Rattle.atspi_routing.specs.Routing.{is_reply}
+use Rattle.atspi_match.specs.declared.routing.closing.Closing.{Closing}
+use Rattle.atspi_match.specs.routing.Routing.{is_reply}
 use Rattle.atspi_protocol.specs.registering.Steps.{registry_takes}
 use Rattle.atspi_protocol.specs.exporting.Exporter.{Happening, steps, sends, hears, deaf, begins as begins_app}
 use Rattle.atspi_protocol.specs.exporting.Starting.{starts}
@@ -18,7 +18,7 @@ use Rattle.atspi_protocol.specs.following.Replied.{is_reply_to}
 use Rattle.atspi_protocol.specs.following.ReaderState.{start_calls}
 use Rattle.atspi_protocol.specs.declared.following.question.Question.{Question}
 use Rattle.atspi_protocol.specs.declared.following.question.Question.TheVariants.{Hello, AddMatch, RegisterEvent, GetChildren, GetItems, GetPart}
-use Rattle.atspi_valid_names.specs.Names.{is_bus_name}
+use Rattle.atspi_base.specs.valid_names.Names.{is_bus_name}
 use Rattle.atspi_trace.specs.Entry.{Entry, started, sent, got, spoke, dropped}
 use Rattle.atspi_trace.specs.World.{Fate, waits, returned, failed, Asked, Role, the_registry, an_application, a_reader, Hearer, Letter, End, World, newcomer}
 use Rattle.atspi_trace.specs.Ends.{number_of, party_at, end_at, taken_down, app_count, reader_count, put_up}

@@ -9,7 +9,7 @@ use Rattle.std.specs.FinMap.{get-from_sorted}
 use Rattle.std.proofs.lemmas.Bool.{eqb-true, eq-eqb}
 use Rattle.std.proofs.lemmas.List.{append-nil}
 use Rattle.std.proofs.lemmas.Slice.Eq.{bytes_eq-Decides}
-use Rattle.atspi_valid_names.specs.Names.{is_unique_name}
+use Rattle.atspi_base.specs.valid_names.Names.{is_unique_name}
 use Rattle.atspi_forest.specs.Forest.{first_of}
 use Rattle.atspi_lines.specs.declared.deed.Deed.{Deed}
 use Rattle.atspi_lines.specs.declared.deed.Deed.TheVariants.{SetCaret, InsertText, DeleteText, SetText, SelectChild, DeselectChild, SelectAll, ClearSelection, DoAction}
@@ -21,11 +21,11 @@ use Rattle.atspi_names.specs.Owners.{own_name, unique_name}
 use Rattle.atspi_names.specs.Queue.{stands}
 use Rattle.atspi_names.proofs.ListsLemmas.{names_apart}
 use Rattle.atspi_protocol.specs.ends.Places.{registry as registry_name}
-use Rattle.atspi_routing.specs.BusState.{BusState, unique_of}
-use Rattle.atspi_routing.specs.Members.{is_text}
-use Rattle.atspi_routing.specs.Routing.{receivers, owners_of, is_for_bus, is_reply}
-use Rattle.atspi_routing.specs.Steps.{BusStep, is_hello, greets, bus_takes}
-use Rattle.atspi_routing.specs.Queues.{Bus}
+use Rattle.atspi_match.specs.routing.BusState.{BusState, unique_of}
+use Rattle.atspi_match.specs.routing.Members.{is_text}
+use Rattle.atspi_match.specs.routing.Routing.{receivers, owners_of, is_for_bus, is_reply}
+use Rattle.atspi_match.specs.routing.Steps.{BusStep, is_hello, greets, bus_takes}
+use Rattle.atspi_match.specs.routing.Queues.{Bus}
 use Rattle.atspi_protocol.specs.ends.Messages.{Reply, returns, fails, reply_to}
 use Rattle.atspi_protocol.specs.registering.Steps.{RegistryStep, registry_takes}
 use Rattle.atspi_protocol.specs.exporting.Exporter.{Exporter}

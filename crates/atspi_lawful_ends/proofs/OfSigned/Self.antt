@@ -8,7 +8,7 @@ use Rattle.std.proofs.lemmas.Fmt.{decimal_is_IsNumeral}
 use Rattle.std.specs.Fmt.{decimal}
 use Rattle.std.specs.Str.Parse.{digits_value}
 use Rattle.atspi_types.specs.Data.{text_data}
-use Rattle.atspi_valid_names.specs.Names.{is_unique_name, is_bus_name}
+use Rattle.atspi_base.specs.valid_names.Names.{is_unique_name, is_bus_name}
 use Rattle.atspi_forest.specs.declared.edit.Edit.{Edit}
 use Rattle.atspi_forest.specs.declared.edit.EditFault.{EditFault}
 use Rattle.atspi_forest.specs.declared.step.Step.{Step}
@@ -17,7 +17,7 @@ use Rattle.atspi_lines.specs.declared.line.Party.{Party}
 use Rattle.atspi_lines.specs.declared.line.Party.TheVariants.{Registry, App, Reader}
 use Rattle.atspi_message.specs.Envelope.{Envelope}
 use Rattle.atspi_names.specs.Owners.{own_name, unique_name}
-use Rattle.atspi_routing.specs.Routing.{is_for_bus}
+use Rattle.atspi_match.specs.routing.Routing.{is_for_bus}
 use Rattle.atspi_protocol.specs.declared.following.question.Question.{Question}
 use Rattle.atspi_protocol.specs.exporting.Exporter.{StartCall, hello, add_match, get_registered_events, embed, Phase, new, awaits, over, Exporter, begins as begins_app, queues}
 use Rattle.atspi_protocol.specs.exporting.Hearing.{pairs_in}

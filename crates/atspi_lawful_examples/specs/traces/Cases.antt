@@ -23,12 +23,12 @@ use Rattle.atspi_message.specs.Envelope.{Envelope}
 use Rattle.atspi_protocol.specs.ends.Places.{bus, bus_path}
 use Rattle.atspi_protocol.specs.ends.Messages.{call_to, signal_of, return_to}
 use Rattle.atspi_names.specs.Owners.{Owners}
-use Rattle.atspi_routing.specs.BusState.{BusState}
-use Rattle.atspi_routing.specs.OwnMessages.{return_to as return_of_bus}
+use Rattle.atspi_match.specs.routing.BusState.{BusState}
+use Rattle.atspi_match.specs.routing.OwnMessages.{return_to as return_of_bus}
 use Rattle.atspi_protocol.specs.registering.RegistryState.{begins as no_registry}
 use Rattle.atspi_protocol.specs.registering.Steps.{registry_starts, registry_takes}
-use Rattle.atspi_routing.specs.Members.{is_text}
-use Rattle.atspi_routing.specs.Queues.{Bus, joins}
+use Rattle.atspi_match.specs.routing.Members.{is_text}
+use Rattle.atspi_match.specs.routing.Queues.{Bus, joins}
 use Rattle.atspi_protocol.specs.announcing.Signals.{Signal}
 use Rattle.atspi_protocol.specs.announcing.Announced.{announced}
 use Rattle.atspi_protocol.specs.exporting.Exporter.{Exporter, over, begins as begins_app}

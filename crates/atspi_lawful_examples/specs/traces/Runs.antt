@@ -5,7 +5,7 @@ use Rattle.atspi_lines.specs.declared.limits.TheConstants.{QUOTA_MOST}
 use Rattle.atspi_lines.specs.declared.line.Line.{Line}
 use Rattle.atspi_lines.specs.declared.line.Line.TheVariants.{App as App_line, Exit, Turns}
 use Rattle.atspi_lines.specs.declared.line.Party.TheVariants.{Bus as The_bus, Registry, App, Reader}
-use Rattle.atspi_routing.specs.OwnMessages.{owner_changed}
+use Rattle.atspi_match.specs.routing.OwnMessages.{owner_changed}
 use Rattle.atspi_protocol.specs.declared.following.question.Question.TheVariants.{GetItems}
 use Rattle.atspi_protocol.specs.following.Calls.{asking}
 use Rattle.atspi_trace.specs.Entry.{Entry, started, sent, got, spoke, showed, exited, gone, dropped, busy}

@@ -3,7 +3,7 @@
 ghost use Rattle.std.specs.Prelude.{◌≡◌, ◌∷◌, [], None, Some, codes};
 ghost use Rattle.atspi_lines.specs.declared.line.Line.TheVariants as line;
 ghost use Rattle.atspi_lines.specs.declared.line.Party.TheVariants as party;
-ghost use Rattle.atspi_routing.specs.OwnMessages.{owner_changed, error_to};
+ghost use Rattle.atspi_match.specs.routing.OwnMessages.{owner_changed, error_to};
 ghost use Rattle.atspi_trace.specs.Causes.{does, routes};
 ghost use Rattle.atspi_trace.specs.Entry.{sent, got, spoke, dropped, exited, showed};
 ghost use Rattle.atspi_trace.specs.World.{first_registry};

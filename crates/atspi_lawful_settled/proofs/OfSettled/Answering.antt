@@ -5,7 +5,7 @@ use Rattle.std.specs.List.{AllByRecursion}
 use Rattle.std.proofs.lemmas.List.{append-nil}
 use Rattle.atspi_lines.specs.declared.line.Party.TheVariants.{Registry, Reader}
 use Rattle.atspi_message.specs.Envelope.{Envelope}
-use Rattle.atspi_routing.specs.Routing.{is_reply}
+use Rattle.atspi_match.specs.routing.Routing.{is_reply}
 use Rattle.atspi_protocol.specs.ends.Messages.{Reply, returns, fails, reply_to, expects_reply, numbered}
 use Rattle.atspi_protocol.specs.members.Asked.{asked}
 use Rattle.atspi_protocol.specs.registering.RegistryState.{RegistryState}

@@ -5,17 +5,17 @@ use Rattle.std.specs.Prelude.{codes, bytes_eq, option_map, if◌then◌else◌}
 use Rattle.std.specs.List.{AllByRecursion}
 use Rattle.std.proofs.lemmas.List.{append-nil}
 use Rattle.std.proofs.lemmas.Slice.Eq.{bytes_eq-Decides}
-use Rattle.atspi_valid_names.specs.Names.{is_unique_name}
+use Rattle.atspi_base.specs.valid_names.Names.{is_unique_name}
 use Rattle.atspi_lines.specs.declared.limits.TheConstants.{QUOTA_MOST}
 use Rattle.atspi_lines.specs.declared.line.Party.{Party}
 use Rattle.atspi_lines.specs.declared.line.Party.TheVariants.{Bus as The_bus, Registry, App, Reader}
 use Rattle.atspi_message.specs.Envelope.{Envelope}
 use Rattle.atspi_names.specs.Owners.{Owners, own_name, unique_name, list_of}
 use Rattle.atspi_names.specs.Queue.{owner_in}
-use Rattle.atspi_routing.specs.BusState.{OpenCall, BusState, unique_of}
-use Rattle.atspi_routing.specs.Members.{is_text}
-use Rattle.atspi_routing.specs.Routing.{receivers, owners_of, one_or_none, is_for_bus}
-use Rattle.atspi_routing.specs.Steps.{Move, says, delivers, closes, BusStep, is_unowned, is_hello, greets, bus_takes}
+use Rattle.atspi_match.specs.routing.BusState.{OpenCall, BusState, unique_of}
+use Rattle.atspi_match.specs.routing.Members.{is_text}
+use Rattle.atspi_match.specs.routing.Routing.{receivers, owners_of, one_or_none, is_for_bus}
+use Rattle.atspi_match.specs.routing.Steps.{Move, says, delivers, closes, BusStep, is_unowned, is_hello, greets, bus_takes}
 use Rattle.atspi_trace.specs.Entry.{Entry, sent}
 use Rattle.atspi_trace.specs.Rules.{rule_in}
 use Rattle.atspi_trace.specs.World.{Standing, here, stopped, away, first_registry, Letter, End, World, first_world}

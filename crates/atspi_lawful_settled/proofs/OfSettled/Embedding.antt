@@ -6,7 +6,7 @@ use Rattle.std.proofs.lemmas.Bool.{eqb-true}
 use lib.Utf8.{encode}
 use Rattle.std.proofs.lemmas.List.{append-nil}
 use Rattle.atspi_types.specs.Data.{Data, text_data}
-use Rattle.atspi_valid_names.specs.Names.{is_bus_name, is_unique_name}
+use Rattle.atspi_base.specs.valid_names.Names.{is_bus_name, is_unique_name}
 use Rattle.atspi_lines.specs.declared.line.Party.{Party}
 use Rattle.atspi_lines.specs.declared.line.Party.TheVariants.{Bus as The_bus, Registry, App}
 use Rattle.atspi_message.specs.Envelope.{Envelope}
@@ -21,9 +21,9 @@ use Rattle.atspi_protocol.specs.exporting.Exporter.{StartCall, hello, add_match,
 use Rattle.atspi_protocol.specs.exporting.Hearing.{pairs_in}
 use Rattle.atspi_protocol.specs.exporting.Starting.{name_or_empty, awaited, is_number, goes_on, greeted as greeted_app, listened, ends_start, start_call, unique_name_in}
 use Rattle.atspi_protocol.specs.exporting.Taking.{app_takes, takes_other, takes_call, takes_signal, called}
-use Rattle.atspi_routing.specs.declared.member.BusMember.TheVariants.{AddMatch}
-use Rattle.atspi_routing.specs.Members.{is_text, member_of}
-use Rattle.atspi_routing.specs.Routing.{is_for_bus, is_reply}
+use Rattle.atspi_match.specs.declared.routing.member.BusMember.TheVariants.{AddMatch}
+use Rattle.atspi_match.specs.routing.Members.{is_text, member_of}
+use Rattle.atspi_match.specs.routing.Routing.{is_for_bus, is_reply}
 use Rattle.atspi_trace.specs.Entry.{Entry}
 use Rattle.atspi_trace.specs.Rules.{registry_rule}
 use Rattle.atspi_trace.specs.World.{Said, Letter, End}

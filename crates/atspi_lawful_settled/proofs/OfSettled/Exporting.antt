@@ -10,7 +10,7 @@ use Rattle.atspi_protocol.specs.exporting.Starting.{start_call, starts}
 use Rattle.atspi_protocol.specs.exporting.Taking.{app_takes}
 use Rattle.atspi_protocol.specs.declared.following.question.Question.{Question}
 use Rattle.atspi_protocol.specs.following.Calls.{user_call}
-use Rattle.atspi_routing.specs.declared.closing.Closing.{Closing}
+use Rattle.atspi_match.specs.declared.routing.closing.Closing.{Closing}
 use Rattle.atspi_trace.specs.Entry.{Entry, started, sent, dropped}
 use Rattle.atspi_trace.specs.World.{here, Role, the_registry, an_application, a_reader, Hearer, End, World, newcomer, first_registry, first_world}
 use Rattle.atspi_trace.specs.Ends.{is_here, same_party, number_of, whose, party_at, end_at, with_end, is_app, app_count, put_up, taken_down, stops}

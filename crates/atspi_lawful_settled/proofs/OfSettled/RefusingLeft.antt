@@ -7,11 +7,11 @@ use Rattle.atspi_message.specs.Envelope.{Envelope}
 use Rattle.atspi_match.specs.RuleIndex.{without_rules}
 use Rattle.atspi_names.specs.Owners.{list_of, after_gone, owned_by}
 use Rattle.atspi_names.specs.Queue.{owner_in}
-use Rattle.atspi_routing.specs.declared.closing.Why.{Why}
-use Rattle.atspi_routing.specs.BusState.{OpenCall, BusState, unique_of, name_or_empty, calls_without, waiting_for}
-use Rattle.atspi_routing.specs.OwnMessages.{error_to, name_acquired, owner_changed}
-use Rattle.atspi_routing.specs.Steps.{Move, says, delivers, closes, no_replies, name_passes_on, names_pass_on, farewell, bus_leaves}
-use Rattle.atspi_routing.specs.Queues.{Bus, without_queue}
+use Rattle.atspi_match.specs.declared.routing.closing.Why.{Why}
+use Rattle.atspi_match.specs.routing.BusState.{OpenCall, BusState, unique_of, name_or_empty, calls_without, waiting_for}
+use Rattle.atspi_match.specs.routing.OwnMessages.{error_to, name_acquired, owner_changed}
+use Rattle.atspi_match.specs.routing.Steps.{Move, says, delivers, closes, no_replies, name_passes_on, names_pass_on, farewell, bus_leaves}
+use Rattle.atspi_match.specs.routing.Queues.{Bus, without_queue}
 use Rattle.atspi_trace.specs.World.{Letter, End}
 use Rattle.atspi_trace.specs.Ends.{is_here, end_at, with_end, leaves}
 use Rattle.atspi_trace.specs.Carrying.{Carried, own_letter, left, one_closed, settled}

@@ -5,11 +5,11 @@ use Rattle.std.specs.List.{AllByRecursion}
 use Rattle.atspi_message.specs.Envelope.{Envelope}
 use Rattle.atspi_match.specs.declared.condition.Condition.{Condition}
 use Rattle.atspi_protocol.specs.ends.Places.{registry}
-use Rattle.atspi_routing.specs.declared.member.BusMember.{BusMember}
-use Rattle.atspi_routing.specs.BusState.{OpenCall, BusState, unique_of}
-use Rattle.atspi_routing.specs.Members.{member_of}
-use Rattle.atspi_routing.specs.Routing.{receivers, owners_of, is_for_bus, is_reply, expects_reply, with_call, without_answered, calls_after}
-use Rattle.atspi_routing.specs.Steps.{closes, BusStep, handed, speaks, called, undeliverable, is_unowned, calls_after_all, is_hello, greets, bus_takes}
+use Rattle.atspi_match.specs.declared.routing.member.BusMember.{BusMember}
+use Rattle.atspi_match.specs.routing.BusState.{OpenCall, BusState, unique_of}
+use Rattle.atspi_match.specs.routing.Members.{member_of}
+use Rattle.atspi_match.specs.routing.Routing.{receivers, owners_of, is_for_bus, is_reply, expects_reply, with_call, without_answered, calls_after}
+use Rattle.atspi_match.specs.routing.Steps.{closes, BusStep, handed, speaks, called, undeliverable, is_unowned, calls_after_all, is_hello, greets, bus_takes}
 use Rattle.atspi_trace.specs.Entry.{Entry}
 use Rattle.atspi_trace.specs.Rules.{rule_in}
 use Rattle.atspi_trace.specs.World.{End, World, first_world}

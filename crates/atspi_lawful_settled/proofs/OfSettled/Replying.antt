@@ -3,16 +3,16 @@
 use Rattle.std.proofs.Common.{◌≡◌, ◌⊎◌, inl, inr, ℕ, true, false, List, [], ◌∷◌, ◌++◌, Option, None, Some, refl, sym, ap, ◌∙◌, subst, is_some}
 use Rattle.std.proofs.lemmas.List.{append-nil, append_assoc}
 use Rattle.atspi_forest.specs.Forest.{first_of}
-use Rattle.atspi_valid_names.specs.Names.{is_unique_name}
+use Rattle.atspi_base.specs.valid_names.Names.{is_unique_name}
 use Rattle.atspi_message.specs.Envelope.{Envelope}
 use Rattle.atspi_names.specs.Owners.{own_name}
 use Rattle.atspi_protocol.specs.ends.Places.{registry}
 use Rattle.atspi_protocol.specs.declared.following.question.Question.{Question}
 use Rattle.atspi_protocol.specs.declared.following.question.Question.TheVariants.{RegisterEvent, GetChildren, GetItems, GetPart}
 use Rattle.atspi_protocol.specs.exporting.Exporter.{StartCall, get_registered_events, embed, Phase, awaits}
-use Rattle.atspi_routing.specs.BusState.{OpenCall, unique_of}
-use Rattle.atspi_routing.specs.Routing.{expects_reply, is_reply}
-use Rattle.atspi_routing.specs.Queues.{Bus, is_due}
+use Rattle.atspi_match.specs.routing.BusState.{OpenCall, unique_of}
+use Rattle.atspi_match.specs.routing.Routing.{expects_reply, is_reply}
+use Rattle.atspi_match.specs.routing.Queues.{Bus, is_due}
 use Rattle.atspi_trace.specs.World.{here, waits, Asked, Role, the_registry, an_application, a_reader, Said, Letter, End, World}
 use Rattle.atspi_trace.specs.Ends.{is_here, end_at, is_reader, put_down}
 use Rattle.atspi_trace.specs.Carrying.{Carried, named}

@@ -6,13 +6,13 @@ use Rattle.std.proofs.lemmas.Bool.{eqb-true, eq-eqb}
 use Rattle.atspi_message.specs.Envelope.{Envelope}
 use Rattle.atspi_match.specs.RuleIndex.{without_rules}
 use Rattle.atspi_names.specs.Owners.{after_gone}
-use Rattle.atspi_routing.specs.declared.closing.Why.{Why}
-use Rattle.atspi_routing.specs.BusState.{OpenCall, BusState, unique_of, calls_without, waiting_for}
-use Rattle.atspi_routing.specs.OwnMessages.{error_to, owner_changed, numbered}
-use Rattle.atspi_routing.specs.Routing.{receivers, owners_of}
-use Rattle.atspi_routing.specs.Steps.{Move, says, delivers, BusStep, handed, no_replies, names_pass_on, farewell, bus_leaves}
-use Rattle.atspi_routing.specs.Queues as queues
-use Rattle.atspi_routing.specs.Queues.{Waiting, is_due, without_queue}
+use Rattle.atspi_match.specs.declared.routing.closing.Why.{Why}
+use Rattle.atspi_match.specs.routing.BusState.{OpenCall, BusState, unique_of, calls_without, waiting_for}
+use Rattle.atspi_match.specs.routing.OwnMessages.{error_to, owner_changed, numbered}
+use Rattle.atspi_match.specs.routing.Routing.{receivers, owners_of}
+use Rattle.atspi_match.specs.routing.Steps.{Move, says, delivers, BusStep, handed, no_replies, names_pass_on, farewell, bus_leaves}
+use Rattle.atspi_match.specs.routing.Queues as queues
+use Rattle.atspi_match.specs.routing.Queues.{Waiting, is_due, without_queue}
 use Rattle.atspi_trace.specs.World.{here, Letter, End}
 use Rattle.atspi_trace.specs.Ends.{is_here, end_at, with_end, leaves}
 use Rattle.atspi_trace.specs.Carrying.{Carried, Filled, own_letter, moved, stepped, left, one_closed, settled}

@@ -3,10 +3,10 @@ use Rattle.std.proofs.Common.{◌≡◌, ◌⊎◌, inl, inr, ℕ, zero, suc, �
 use Rattle.std.proofs.lemmas.List.{append-nil}
 use Rattle.atspi_lines.specs.declared.line.Party.TheVariants.{App}
 use Rattle.atspi_message.specs.Envelope.{Envelope}
-use Rattle.atspi_routing.specs.BusState.{BusState, unique_of}
-use Rattle.atspi_routing.specs.Queues.{Waiting, is_due}
-use Rattle.atspi_routing.specs.Routing.{expects_reply, is_reply}
-use Rattle.atspi_routing.specs.Steps.{is_hello}
+use Rattle.atspi_match.specs.routing.BusState.{BusState, unique_of}
+use Rattle.atspi_match.specs.routing.Queues.{Waiting, is_due}
+use Rattle.atspi_match.specs.routing.Routing.{expects_reply, is_reply}
+use Rattle.atspi_match.specs.routing.Steps.{is_hello}
 use Rattle.atspi_protocol.specs.declared.following.question.Question.{Question}
 use Rattle.atspi_protocol.specs.declared.following.question.Question.TheVariants.{Hello}
 use Rattle.atspi_protocol.specs.following.Calls.{user_call}

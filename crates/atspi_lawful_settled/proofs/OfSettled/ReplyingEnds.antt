@@ -12,7 +12,7 @@ use Rattle.atspi_forest.specs.RowRules.{rows}
 use Rattle.atspi_forest.specs.Tree.{after}
 use Rattle.atspi_types.specs.Data.{Data}
 use Rattle.atspi_message.specs.Envelope.{Envelope}
-use Rattle.atspi_routing.specs.Routing.{expects_reply, is_reply}
+use Rattle.atspi_match.specs.routing.Routing.{expects_reply, is_reply}
 use Rattle.atspi_protocol.specs.declared.following.question.Question.{Question}
 use Rattle.atspi_protocol.specs.declared.following.question.Question.TheVariants.{Hello, AddMatch, RegisterEvent, GetChildren, GetItems, GetPart}
 use Rattle.atspi_protocol.specs.declared.news.part.PartName.TheVariants.{Text, Caret, Columns}

@@ -6,10 +6,10 @@ use Rattle.std.proofs.lemmas.Bool.{eqb-true, eq-eqb}
 use Rattle.atspi_lines.specs.declared.line.Party.{Party}
 use Rattle.atspi_message.specs.Envelope.{Envelope}
 use Rattle.atspi_protocol.specs.exporting.Exporter.{hello, awaits, Exporter}
-use Rattle.atspi_routing.specs.BusState.{unique_of}
-use Rattle.atspi_routing.specs.Routing.{expects_reply}
-use Rattle.atspi_routing.specs.Steps.{says, delivers, BusStep, is_hello, greets, bus_takes}
-use Rattle.atspi_routing.specs.Queues.{Waiting, is_due}
+use Rattle.atspi_match.specs.routing.BusState.{unique_of}
+use Rattle.atspi_match.specs.routing.Routing.{expects_reply}
+use Rattle.atspi_match.specs.routing.Steps.{says, delivers, BusStep, is_hello, greets, bus_takes}
+use Rattle.atspi_match.specs.routing.Queues.{Waiting, is_due}
 use Rattle.atspi_trace.specs.Rules.{rule_in}
 use Rattle.atspi_trace.specs.World.{here, an_application, Said, Letter, End}
 use Rattle.atspi_trace.specs.Ends.{end_at, with_end, taken_up}

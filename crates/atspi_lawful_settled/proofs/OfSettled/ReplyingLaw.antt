@@ -7,7 +7,7 @@ use Rattle.atspi_lines.specs.declared.line.Party.TheVariants.{Registry, App}
 use Rattle.atspi_protocol.specs.declared.following.question.Question.{Question}
 use Rattle.atspi_protocol.specs.declared.following.question.Question.TheVariants.{Hello, AddMatch, RegisterEvent, GetChildren, GetItems, GetPart}
 use Rattle.atspi_protocol.specs.exporting.Exporter.{StartCall, hello, add_match, get_registered_events, embed}
-use Rattle.atspi_routing.specs.Queues.{is_due}
+use Rattle.atspi_match.specs.routing.Queues.{is_due}
 use Rattle.atspi_trace.specs.Entry.{Entry}
 use Rattle.atspi_trace.specs.World.{Standing, here, stopped, away, Asked, Said, Letter, End, World}
 use Rattle.atspi_trace.specs.Ends.{is_here, is_reader, same_party, end_at}

@@ -14,13 +14,13 @@ use Rattle.atspi_names.specs.Owners.{Owners, list_of, unique_name, after_gone}
 use Rattle.atspi_names.specs.Queue.{owner_in}
 use Rattle.atspi_names.proofs.BookLemmas.{list_of-lists_without}
 use Rattle.atspi_protocol.specs.ends.Places.{registry}
-use Rattle.atspi_routing.specs.declared.closing.Why.{Why}
-use Rattle.atspi_routing.specs.declared.member.BusMember.{BusMember}
-use Rattle.atspi_routing.specs.BusState.{OpenCall, BusState, unique_of}
-use Rattle.atspi_routing.specs.Members.{member_of}
-use Rattle.atspi_routing.specs.Routing.{receivers, is_for_bus, owners_of, one_or_none}
-use Rattle.atspi_routing.specs.Steps.{handed, speaks, called, undeliverable, is_unowned, calls_after_all, is_hello, greets, closes, bus_takes, bus_leaves}
-use Rattle.atspi_routing.specs.Queues.{without_queue}
+use Rattle.atspi_match.specs.declared.routing.closing.Why.{Why}
+use Rattle.atspi_match.specs.declared.routing.member.BusMember.{BusMember}
+use Rattle.atspi_match.specs.routing.BusState.{OpenCall, BusState, unique_of}
+use Rattle.atspi_match.specs.routing.Members.{member_of}
+use Rattle.atspi_match.specs.routing.Routing.{receivers, is_for_bus, owners_of, one_or_none}
+use Rattle.atspi_match.specs.routing.Steps.{handed, speaks, called, undeliverable, is_unowned, calls_after_all, is_hello, greets, closes, bus_takes, bus_leaves}
+use Rattle.atspi_match.specs.routing.Queues.{without_queue}
 use Rattle.atspi_trace.specs.Entry.{Entry}
 use Rattle.atspi_trace.specs.Rules.{rule_in}
 use Rattle.atspi_trace.specs.World.{Standing, here, away, Said, first_registry, End, World}

@@ -7,14 +7,14 @@ use Rattle.std.specs.Ordering.{nat_cmp, eq_by_cmp}
 use Rattle.std.specs.Cmp.Lexicographic.{slice_cmp}
 use Rattle.std.proofs.lemmas.Fmt.{decimal_is_IsNumeral}
 use Rattle.std.specs.Str.Parse.{digits_value}
-use Rattle.atspi_valid_names.specs.Names.{is_unique_name}
+use Rattle.atspi_base.specs.valid_names.Names.{is_unique_name}
 use Rattle.atspi_lines.specs.declared.limits.TheConstants.{QUOTA_MOST}
 use Rattle.atspi_message.specs.Envelope.{Envelope}
 use Rattle.atspi_names.specs.Owners.{list_of, unique_name, NoneTooEarly}
 use Rattle.atspi_names.proofs.ListsLemmas.{names_apart}
 use Rattle.atspi_protocol.specs.ends.Places.{registry}
 use Rattle.atspi_protocol.specs.declared.following.question.Question.{Question}
-use Rattle.atspi_routing.specs.BusState.{unique_of}
+use Rattle.atspi_match.specs.routing.BusState.{unique_of}
 use Rattle.atspi_trace.specs.Entry.{Entry}
 use Rattle.atspi_trace.specs.World.{Standing, here, stopped, away, Role, a_reader, first_unique, first_lists, first_owners, first_registry, first_world, End, World}
 use Rattle.atspi_trace.specs.Ends.{is_here, end_at, with_end, taken_down, stops}

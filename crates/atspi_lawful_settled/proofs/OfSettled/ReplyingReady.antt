@@ -12,10 +12,10 @@ use Rattle.atspi_forest.specs.Edits.{steps_of_tree}
 use Rattle.atspi_types.specs.Data.{Data}
 use Rattle.atspi_match.specs.declared.condition.Condition.{Condition}
 use Rattle.atspi_message.specs.Envelope.{Envelope}
-use Rattle.atspi_routing.specs.BusState.{BusState, unique_of}
-use Rattle.atspi_routing.specs.Routing.{expects_reply}
-use Rattle.atspi_routing.specs.Queues.{is_due}
-use Rattle.atspi_routing.specs.Steps.{is_hello}
+use Rattle.atspi_match.specs.routing.BusState.{BusState, unique_of}
+use Rattle.atspi_match.specs.routing.Routing.{expects_reply}
+use Rattle.atspi_match.specs.routing.Queues.{is_due}
+use Rattle.atspi_match.specs.routing.Steps.{is_hello}
 use Rattle.atspi_protocol.specs.declared.following.question.Question.{Question}
 use Rattle.atspi_protocol.specs.following.Calls.{user_call}
 use Rattle.atspi_protocol.specs.registering.RegistryState.{RegistryState}

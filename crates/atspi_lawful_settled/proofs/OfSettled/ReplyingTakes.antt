@@ -6,18 +6,18 @@ use Rattle.std.proofs.lemmas.Bool.{eqb-true}
 use Rattle.std.proofs.lemmas.Slice.Eq.{bytes_eq-Decides}
 use Rattle.std.specs.Prelude.{bytes_eq}
 use Rattle.atspi_types.specs.Data.{text_data}
-use Rattle.atspi_valid_names.specs.Names.{is_unique_name}
+use Rattle.atspi_base.specs.valid_names.Names.{is_unique_name}
 use Rattle.atspi_match.specs.declared.condition.Condition.{Condition}
 use Rattle.atspi_message.specs.Envelope.{Envelope}
 use Rattle.atspi_names.specs.Owners.{own_name, list_of, unique_name, after_hello}
 use Rattle.atspi_names.specs.Queue.{owner_in}
-use Rattle.atspi_routing.specs.declared.member.BusMember.{BusMember}
-use Rattle.atspi_routing.specs.BusState.{OpenCall, BusState, unique_of, text_or_empty}
-use Rattle.atspi_routing.specs.OwnMessages.{return_to, error_to, name_acquired, owner_changed}
-use Rattle.atspi_routing.specs.Members.{member_of}
-use Rattle.atspi_routing.specs.Answers.{Reply, returns, fails, Answer, only, answers}
-use Rattle.atspi_routing.specs.Routing.{receivers, is_for_bus, owners_of, one_or_none, expects_reply, is_reply, with_call, without_answered, calls_after}
-use Rattle.atspi_routing.specs.Steps.{Move, delivers, closes, BusStep, handed, speaks, replies, answered, called, undeliverable, is_unowned, calls_after_all, takes_from_named, is_hello, greets, bus_takes}
+use Rattle.atspi_match.specs.declared.routing.member.BusMember.{BusMember}
+use Rattle.atspi_match.specs.routing.BusState.{OpenCall, BusState, unique_of, text_or_empty}
+use Rattle.atspi_match.specs.routing.OwnMessages.{return_to, error_to, name_acquired, owner_changed}
+use Rattle.atspi_match.specs.routing.Members.{member_of}
+use Rattle.atspi_match.specs.routing.Answers.{Reply, returns, fails, Answer, only, answers}
+use Rattle.atspi_match.specs.routing.Routing.{receivers, is_for_bus, owners_of, one_or_none, expects_reply, is_reply, with_call, without_answered, calls_after}
+use Rattle.atspi_match.specs.routing.Steps.{Move, delivers, closes, BusStep, handed, speaks, replies, answered, called, undeliverable, is_unowned, calls_after_all, takes_from_named, is_hello, greets, bus_takes}
 use Rattle.atspi_lawful.proofs.OfOrder.Parties.{no_none, same_some, false_true}
 use Rattle.atspi_lawful_ends.proofs.OfNames.Naming.{called_same, hello_here, hello_other}
 use Rattle.atspi_lawful_ends.proofs.OfSigned.Unique.{IsIn}

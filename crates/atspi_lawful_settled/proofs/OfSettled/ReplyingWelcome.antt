@@ -3,19 +3,19 @@ use Rattle.std.proofs.Common.{◌≡◌, ◌⊎◌, inl, inr, ℕ, zero, suc, �
 use Rattle.std.specs.Prelude.{◌+◌, ◌&&◌, flat_map, if◌then◌else◌}
 use Rattle.std.specs.List.{fold}
 use Rattle.atspi_types.specs.Data.{text_data}
-use Rattle.atspi_valid_names.specs.Names.{is_bus_name, is_unique_name}
+use Rattle.atspi_base.specs.valid_names.Names.{is_bus_name, is_unique_name}
 use Rattle.atspi_message.specs.Envelope.{Envelope}
 use Rattle.atspi_names.specs.Owners.{unique_name, after_hello, after_gone}
 use Rattle.atspi_names.proofs.UniqueLemmas.{is_bus_name-unique_name}
 use Rattle.atspi_protocol.specs.exporting.Exporter.{hello, awaits, Exporter}
 use Rattle.atspi_protocol.specs.exporting.Starting.{unique_name_in}
-use Rattle.atspi_routing.specs.declared.closing.Why.{Why}
-use Rattle.atspi_routing.specs.BusState.{BusState, unique_of, text_or_empty}
-use Rattle.atspi_routing.specs.OwnMessages.{return_to, name_acquired, owner_changed, numbered}
-use Rattle.atspi_routing.specs.Routing.{receivers, expects_reply}
-use Rattle.atspi_routing.specs.Steps.{Move, says, delivers, handed, greets, bus_leaves}
-use Rattle.atspi_routing.specs.Queues as queues
-use Rattle.atspi_routing.specs.Queues.{Waiting, is_due, without_queue}
+use Rattle.atspi_match.specs.declared.routing.closing.Why.{Why}
+use Rattle.atspi_match.specs.routing.BusState.{BusState, unique_of, text_or_empty}
+use Rattle.atspi_match.specs.routing.OwnMessages.{return_to, name_acquired, owner_changed, numbered}
+use Rattle.atspi_match.specs.routing.Routing.{receivers, expects_reply}
+use Rattle.atspi_match.specs.routing.Steps.{Move, says, delivers, handed, greets, bus_leaves}
+use Rattle.atspi_match.specs.routing.Queues as queues
+use Rattle.atspi_match.specs.routing.Queues.{Waiting, is_due, without_queue}
 use Rattle.atspi_trace.specs.World.{here, an_application, Said, Letter, End}
 use Rattle.atspi_trace.specs.Ends.{is_here, end_at, with_end, put_down, leaves}
 use Rattle.atspi_trace.specs.Carrying.{Carried, Filled, own_letter, grew, moved, left, one_closed, settled}

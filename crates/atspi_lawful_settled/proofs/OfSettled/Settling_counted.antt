@@ -9,7 +9,7 @@ use Rattle.atspi_lines.specs.declared.deed.Deed.TheVariants.{SetCaret, InsertTex
 use Rattle.atspi_lines.specs.declared.limits.TheConstants.{QUOTA_MOST}
 use Rattle.atspi_lines.specs.declared.line.Party.TheVariants.{Registry, Reader}
 use Rattle.atspi_message.specs.Envelope.{Envelope}
-use Rattle.atspi_routing.specs.declared.closing.Closing.{Closing}
+use Rattle.atspi_match.specs.declared.routing.closing.Closing.{Closing}
 use Rattle.atspi_protocol.specs.registering.Steps.{registry_takes}
 use Rattle.atspi_protocol.specs.exporting.Exporter.{Happening, steps, sends, hears, deaf}
 use Rattle.atspi_protocol.specs.exporting.Taking.{app_takes}

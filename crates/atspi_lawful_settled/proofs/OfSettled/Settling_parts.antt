@@ -11,7 +11,7 @@ use Rattle.atspi_forest.specs.declared.step.Step.TheVariants.{Add, Remove, Move,
 use Rattle.atspi_forest.specs.Tree.{added_after}
 use Rattle.atspi_lines.specs.declared.line.Party.TheVariants.{Bus as The_bus, Registry, App, Reader}
 use Rattle.atspi_message.specs.Envelope.{Envelope}
-use Rattle.atspi_routing.specs.Routing.{is_reply}
+use Rattle.atspi_match.specs.routing.Routing.{is_reply}
 use Rattle.atspi_protocol.specs.declared.news.part.PartName.{PartName}
 use Rattle.atspi_protocol.specs.declared.news.part.PartName.TheVariants.{Text, Caret, Columns}
 use Rattle.atspi_protocol.specs.declared.following.question.Question.{Question}

@@ -8,9 +8,9 @@ use Rattle.atspi_lines.specs.declared.line.Party.{Party}
 use Rattle.atspi_lines.specs.declared.line.Party.TheVariants.{Bus as The_bus, Registry, App, Reader}
 use Rattle.atspi_message.specs.Envelope.{Envelope}
 use Rattle.atspi_match.specs.declared.condition.Condition.{Condition}
-use Rattle.atspi_routing.specs.declared.member.BusMember.TheVariants.{AddMatch as AddMatch_member}
-use Rattle.atspi_routing.specs.Members.{member_of}
-use Rattle.atspi_routing.specs.Routing.{is_reply, is_for_bus}
+use Rattle.atspi_match.specs.declared.routing.member.BusMember.TheVariants.{AddMatch as AddMatch_member}
+use Rattle.atspi_match.specs.routing.Members.{member_of}
+use Rattle.atspi_match.specs.routing.Routing.{is_reply, is_for_bus}
 use Rattle.atspi_trace.specs.Rules.{rules_asked, rule_written, rule_in}
 use Rattle.atspi_lawful_settled.proofs.OfSettled.RefusingRules.{adds_below, adds_grow}
 use Rattle.atspi_protocol.specs.ends.Messages.{Reply, returns, reply_to}

@@ -3,15 +3,15 @@
 use Rattle.std.proofs.Common.{◌≡◌, ◌⊎◌, inl, inr, ℕ, ◌≤◌, Bool, true, false, List, [], ◌∷◌, ◌++◌, length, Option, Some, refl, sym, ap, ap₂, ◌∙◌, subst}
 use Rattle.std.specs.Prelude.{◌&&◌, not, Ok}
 use Rattle.std.specs.List.{AllByRecursion, list_any}
-use Rattle.atspi_valid_names.specs.Names.{is_unique_name}
+use Rattle.atspi_base.specs.valid_names.Names.{is_unique_name}
 use Rattle.atspi_lines.specs.declared.line.Party.{Party}
 use Rattle.atspi_lines.specs.declared.line.Party.TheVariants.{Bus as The_bus, Registry, App, Reader}
 use Rattle.atspi_message.specs.Envelope.{Envelope}
 use Rattle.atspi_names.specs.Owners.{own_name}
 use Rattle.atspi_match.specs.declared.condition.Condition.{Condition}
-use Rattle.atspi_routing.specs.declared.member.BusMember.TheVariants.{AddMatch}
-use Rattle.atspi_routing.specs.Members.{is_text, member_of}
-use Rattle.atspi_routing.specs.Routing.{is_reply, is_for_bus}
+use Rattle.atspi_match.specs.declared.routing.member.BusMember.TheVariants.{AddMatch}
+use Rattle.atspi_match.specs.routing.Members.{is_text, member_of}
+use Rattle.atspi_match.specs.routing.Routing.{is_reply, is_for_bus}
 use Rattle.atspi_protocol.specs.exporting.Taking.{app_takes}
 use Rattle.atspi_protocol.specs.ends.Messages.{reply_to}
 use Rattle.atspi_protocol.specs.ends.Places.{registry}

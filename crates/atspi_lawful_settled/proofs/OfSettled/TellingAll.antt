@@ -7,8 +7,8 @@ use Rattle.atspi_lines.specs.declared.line.Party.{Party}
 use Rattle.atspi_lines.specs.declared.line.Party.TheVariants.{Reader}
 use Rattle.atspi_message.specs.Envelope.{Envelope}
 use Rattle.atspi_names.specs.Owners.{own_name}
-use Rattle.atspi_routing.specs.Routing.{is_reply}
-use Rattle.atspi_routing.specs.Members.{is_text}
+use Rattle.atspi_match.specs.routing.Routing.{is_reply}
+use Rattle.atspi_match.specs.routing.Members.{is_text}
 use Rattle.atspi_protocol.specs.ends.Messages.{Reply, returns, fails, reply_to}
 use Rattle.atspi_protocol.specs.ends.Places.{references}
 use Rattle.atspi_protocol.specs.members.Asked.{asked}

@@ -35,7 +35,7 @@ use Rattle.atspi_lawful.proofs.OfTaken.Said as told
 use Rattle.atspi_lawful.proofs.OfTurns.Turning.{count_more, Turns}
 use Rattle.atspi_lawful.proofs.OfTurns.LawTurns.{Turned}
 use Rattle.atspi_lawful.specs.laws.Words.{message}
-use Rattle.atspi_routing.specs.Routing.{is_reply}
+use Rattle.atspi_match.specs.routing.Routing.{is_reply}
 use Rattle.atspi_names.specs.Owners.{own_name}
 use Rattle.atspi_lawful_ends.proofs.OfNames.Places.{greeted}
 use Rattle.atspi_lawful.proofs.OfSerials.Numbers.{Numbered}

@@ -4,7 +4,7 @@ ghost use Rattle.std.specs.Prelude.{◌≡◌, ◌≤◌, ◌+◌, ◌++◌, len
 ghost use Rattle.atspi_types.specs.Kinds.{number, text, path, u32};
 ghost use Rattle.atspi_types.specs.Data.{number_data, text_data, path_data, items_of, AreWellTyped};
 ghost use Rattle.atspi_types.specs.DataView.{all_data};
-ghost use Rattle.atspi_valid_names.specs.Names.{IsPath, IsInterface, IsMember, IsBusName};
+ghost use Rattle.atspi_base.specs.valid_names.Names.{IsPath, IsInterface, IsMember, IsBusName};
 ghost use Rattle.atspi_types.specs.declared.fault.Order.{Order};
 ghost use Rattle.atspi_marshal.specs.Input.{aligned};
 ghost use Rattle.atspi_marshal.specs.Spelling.{counted};
@@ -18,9 +18,9 @@ ghost use Rattle.atspi_message.specs.Writing.{field_front, later_fields, PutsFie
 use crate::code::{Code, number_of};
 use crate::message::Message;
 use atspi_base::Bytes;
+use atspi_base::valid_names::{BusName, Interface, Member, Path};
 use atspi_marshal::{WriteFault, put_counted, put_padded, put_types, put_u32};
 use atspi_types::{Order, Values};
-use atspi_valid_names::{BusName, Interface, Member, Path};
 
 /// What a field begins with: its code, and the signature of its type, which is one letter.
 fn put_code(at: usize, code: Code, letter: u8, out: &mut Bytes) -> Result<usize, WriteFault>

@@ -6,9 +6,9 @@ ghost use Rattle.atspi_protocol.specs.following.Calls.{asking};
 ghost use Rattle.atspi_lines.specs.declared.line.Party.TheVariants.{Bus, Registry, App, Reader};
 ghost use Rattle.atspi_trace.specs.Entry.{sent, got, exited, quiet};
 ghost use Rattle.atspi_trace.specs.World.{first_world};
-ghost use Rattle.atspi_play.specs.Playing.{first_playing};
+ghost use Rattle.atspi_trace.specs.play.Playing.{first_playing};
 ghost use Rattle.atspi_played.specs.TurnCases.{one_played, one_plays, one_waits};
-ghost use Rattle.atspi_play.specs.Breaking.{PlayedTurns};
+ghost use Rattle.atspi_trace.specs.play.Breaking.{PlayedTurns};
 ghost use Rattle.atspi_played.specs.Turns.{count_taken, IsUnspent, Makes};
 
 /// What the bus takes and what an end takes of it counts, and nothing else does.

@@ -3,7 +3,7 @@ use Rattle.std.specs.Prelude.{ℕ, ◌&&◌, not, Bool, List, [], ◌∷◌, ◌
 use Rattle.std.specs.List.{list_any}
 use Rattle.atspi_types.specs.Signatures.{type_bytes}
 use Rattle.atspi_types.specs.Data.{Data, Items, text_data, array_data, structure_data, no_items, item}
-use Rattle.atspi_valid_names.specs.Names.{is_bus_name}
+use Rattle.atspi_base.specs.valid_names.Names.{is_bus_name}
 use Rattle.atspi_message.specs.Envelope.{Envelope}
 use Rattle.atspi_protocol.specs.ends.Places.{registry}
 use Rattle.atspi_protocol.specs.ends.Covering.{covers}

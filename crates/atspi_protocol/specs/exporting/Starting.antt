@@ -2,7 +2,7 @@
 -- Socket; D-Bus Specification, "Message Bus Messages").
 use Rattle.std.specs.Prelude.{ℕ, ◌==◌, ◌&&◌, ◌||◌, Bool, false, List, [], ◌∷◌, Option, None, Some, codes, if◌then◌else◌}
 use Rattle.atspi_types.specs.Data.{Data, text_data}
-use Rattle.atspi_valid_names.specs.Names.{is_bus_name, is_unique_name}
+use Rattle.atspi_base.specs.valid_names.Names.{is_bus_name, is_unique_name}
 use Rattle.atspi_message.specs.Envelope.{Envelope}
 use Rattle.atspi_protocol.specs.ends.Places.{bus, bus_path, registry, registry_path, root_path, reference}
 use Rattle.atspi_protocol.specs.ends.Messages.{call_to}

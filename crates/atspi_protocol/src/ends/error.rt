@@ -2,7 +2,7 @@
 
 ghost use Rattle.std.specs.Prelude.{◌≡◌, ◌++◌, ◌<◌, ◌^◌, true, codes, length, chars};
 ghost use Rattle.atspi_base.specs.Text.{HasNoZero};
-ghost use Rattle.atspi_valid_names.specs.Names.{is_interface};
+ghost use Rattle.atspi_base.specs.valid_names.Names.{is_interface};
 ghost use Rattle.atspi_protocol.specs.ends.Messages.{error_word};
 
 /// Why a call of an object of an application or of the registry is refused (D-Bus Specification, "Standard Interfaces").

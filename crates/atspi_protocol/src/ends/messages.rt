@@ -9,10 +9,10 @@ ghost use Rattle.atspi_protocol.specs.ends.Messages.{error_word};
 
 use crate::ends::error::CallError;
 use crate::ends::names::interface;
+use atspi_base::valid_names::{BusName, Interface, Member, Path};
 use atspi_base::{NoMemory, Text};
 use atspi_message::Message;
 use atspi_types::{Order, Value, Values};
-use atspi_valid_names::{BusName, Interface, Member, Path};
 use std::alloc::Global;
 
 /// A call of a member of another end's object.

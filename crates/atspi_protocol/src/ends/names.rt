@@ -1,10 +1,10 @@
 //! Names and paths that are known to be of their rule, as owned ones. Memory alone can be wanting.
 
 ghost use Rattle.std.specs.Prelude.{◌≡◌, true, IfOk};
-ghost use Rattle.atspi_valid_names.specs.Names.{is_path, is_interface, is_member, is_bus_name};
+ghost use Rattle.atspi_base.specs.valid_names.Names.{is_path, is_interface, is_member, is_bus_name};
 
 use atspi_base::NoMemory;
-use atspi_valid_names::{BusName, Interface, Member, NameFault, Path};
+use atspi_base::valid_names::{BusName, Interface, Member, NameFault, Path};
 use std::alloc::Global;
 
 /// A bus name.

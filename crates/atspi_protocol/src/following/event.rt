@@ -1,8 +1,8 @@
 //! What a reader gives to whoever holds it.
 
 use atspi_base::Text;
+use atspi_base::valid_names::BusName;
 use atspi_message::Message;
-use atspi_valid_names::BusName;
 
 /// What a reader does: it speaks, tells that an application has ended, or sends a message.
 #[derive(Drop)]

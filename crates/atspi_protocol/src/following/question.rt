@@ -2,7 +2,7 @@
 
 use crate::news::PartName;
 use atspi_base::Text;
-use atspi_valid_names::{BusName, Path};
+use atspi_base::valid_names::{BusName, Path};
 
 /// A call of the reader's own. One at a time waits for its reply.
 #[derive(Drop)]

@@ -1,9 +1,9 @@
 //! Rows that a reader shows. What is due was worked out by hand.
 
 use crate::traces::made::{number, path, tells, text};
+use atspi_base::valid_names::Path;
 use atspi_events::{Event, Shown, ShownRow};
 use atspi_forest::{NumPart, Part, Row};
-use atspi_valid_names::Path;
 use std::alloc::Global;
 use std::test::*;
 

@@ -9,10 +9,10 @@ ghost use Rattle.atspi_message.specs.Rules.{MeetsRules};
 
 use super::is_written;
 use crate::samples::HELLO;
+use atspi_base::valid_names::{BusName, Interface, Member, Path};
 use atspi_base::{Bytes, NoMemory};
 use atspi_message::{Message, WriteFault};
 use atspi_types::{Order, Ty, Value, Values};
-use atspi_valid_names::{BusName, Interface, Member, Path};
 use std::alloc::Global;
 use std::test::*;
 

@@ -1,6 +1,6 @@
 use Rattle.std.proofs.Common.{None, sym, ap, ◌∙◌}
 use Rattle.atspi_header.specs.View.{envelope_at}
-use Rattle.atspi_routing.specs.Queues.{stepped}
+use Rattle.atspi_match.specs.routing.Queues.{stepped}
 use Rattle.atspi_bus_answers.specs.Errors.{error_text}
 use Rattle.atspi_bus_answers.specs.Lines.{as_named}
 use Rattle.atspi_bus_steps.specs.Inner.{inner_of}

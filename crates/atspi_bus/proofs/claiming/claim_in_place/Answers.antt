@@ -2,9 +2,9 @@ use Rattle.std.proofs.Common.{[], refl, sym, ap, ◌∙◌, subst}
 use Rattle.std.specs.List.{All}
 use Rattle.atspi_header.specs.View.{envelope_at}
 use Rattle.atspi_names.specs.Owners.{Owners, after_release}
-use Rattle.atspi_routing.specs.declared.member.BusMember.TheVariants.{RequestName}
-use Rattle.atspi_routing.specs.Answers.{answers, second_number}
-use Rattle.atspi_routing.specs.Queues.{Bus}
+use Rattle.atspi_match.specs.declared.routing.member.BusMember.TheVariants.{RequestName}
+use Rattle.atspi_match.specs.routing.Answers.{answers, second_number}
+use Rattle.atspi_match.specs.routing.Queues.{Bus}
 use Rattle.atspi_bus_steps.specs.Inner.{inner_of}
 use Rattle.atspi_bus_steps.specs.Sayable.{MaySay, IsTyped}
 use Rattle.atspi_bus_steps.proofs.Sayables.{sayable}

@@ -4,8 +4,8 @@ use Rattle.std.proofs.lemmas.List.{map-append}
 use Rattle.std.proofs.lemmas.List.Elements.{All-append}
 use Rattle.atspi_message.specs.Envelope.{envelope_of}
 use Rattle.atspi_header.specs.View.{envelope_at}
-use Rattle.atspi_routing.specs.Queues.{stepped}
-use Rattle.atspi_routing.specs.Steps.{speaks}
+use Rattle.atspi_match.specs.routing.Queues.{stepped}
+use Rattle.atspi_match.specs.routing.Steps.{speaks}
 use Rattle.atspi_bus_answers.specs.Answered.{reply_of}
 use Rattle.atspi_bus_steps.specs.Inner.{inner_of, state_of}
 use Rattle.atspi_bus_steps.specs.Sayable.{MaySay}

@@ -1,8 +1,8 @@
 use Rattle.std.proofs.Common.{ℕ, ◌≤◌, List, map, length, sym, ap, ◌∙◌, subst}
 use Rattle.std.specs.List.{All}
 use Rattle.atspi_message.specs.Envelope.{envelope_of}
-use Rattle.atspi_routing.specs.Queues.{Bus, stepped, left}
-use Rattle.atspi_routing.specs.Steps.{speaks}
+use Rattle.atspi_match.specs.routing.Queues.{Bus, stepped, left}
+use Rattle.atspi_match.specs.routing.Steps.{speaks}
 use Rattle.atspi_bus_steps.specs.Inner.{inner_of, state_of}
 use Rattle.atspi_bus_steps.specs.Sayable.{MaySay}
 use Rattle.atspi_bus_steps.proofs.InPlace.{none_found}

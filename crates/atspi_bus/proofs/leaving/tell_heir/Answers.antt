@@ -2,7 +2,7 @@ use Rattle.std.proofs.Common.{◌++◌, ◌∷◌, [], map, ap, ◌∙◌, appen
 use Rattle.std.proofs.lemmas.List.{map-append}
 use Rattle.atspi_message.specs.Envelope.{envelope_of}
 use Rattle.atspi_names.specs.Queue.{owner_in, without}
-use Rattle.atspi_routing.specs.OwnMessages.{name_acquired, owner_changed}
+use Rattle.atspi_match.specs.routing.OwnMessages.{name_acquired, owner_changed}
 use Rattle.atspi_bus.proofs.Heirs.{heir-told}
 use Rattle.atspi_bus.proofs.leaving.tell_heir.Goals as goal
 

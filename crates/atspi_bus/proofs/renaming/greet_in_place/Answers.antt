@@ -2,8 +2,8 @@ use Rattle.std.proofs.Common.{◌+◌, ◌≤◌, length, refl, sym, ap, ◌∙�
 use Rattle.atspi_header.specs.View.{envelope_at}
 use Rattle.atspi_names.specs.Owners.{unique_name}
 use Rattle.atspi_names.proofs.UniqueLemmas.{is_bus_name-unique_name}
-use Rattle.atspi_routing.specs.BusState.{BusState}
-use Rattle.atspi_routing.specs.Queues.{Bus, stepped}
+use Rattle.atspi_match.specs.routing.BusState.{BusState}
+use Rattle.atspi_match.specs.routing.Queues.{Bus, stepped}
 use Rattle.atspi_bus_steps.specs.Inner.{inner_of, state_of}
 use Rattle.atspi_bus_steps.specs.Greeting.{greeting}
 use Rattle.atspi_bus_steps.specs.Sound.{IsSound}

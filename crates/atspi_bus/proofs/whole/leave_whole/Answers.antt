@@ -1,6 +1,6 @@
 use Rattle.std.proofs.Common.{◌≡◌, ◌<◌, subst}
 use Rattle.std.specs.Prelude.{OnOk, IsErrOf}
-use Rattle.atspi_routing.specs.Queues.{Bus, leaves}
+use Rattle.atspi_match.specs.routing.Queues.{Bus, leaves}
 use Rattle.atspi_bus_steps.specs.Inner.{inner_of}
 use Rattle.atspi_bus_steps.specs.Limits.{SaysTooMuch}
 use Rattle.atspi_bus_steps.specs.declared.fault.BusFault.TheVariants.{Big, Spent}

@@ -1,7 +1,7 @@
 use Rattle.std.proofs.Common.{◌<◌, List, Option, sym, ap, subst}
 use Rattle.atspi_header.specs.View.{envelope_at}
 use Rattle.atspi_match.specs.declared.condition.Condition.{Condition}
-use Rattle.atspi_routing.specs.Queues.{Bus, takes}
+use Rattle.atspi_match.specs.routing.Queues.{Bus, takes}
 use Rattle.atspi_bus_steps.specs.Inner.{inner_of}
 use Rattle.atspi_bus_steps.specs.Limits.{IsTooBig}
 use Rattle.atspi_bus_steps.specs.Sound.{IsSound}

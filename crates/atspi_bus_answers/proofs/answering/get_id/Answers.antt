@@ -1,7 +1,7 @@
 use Rattle.std.proofs.Common.{ap, ◌∙◌, [], ◌∷◌}
 use Rattle.atspi_types.specs.Data.{Data, text_data}
 use Rattle.atspi_types.proofs.DataLemmas.{data_of-Text}
-use Rattle.atspi_routing.specs.Answers as answers
+use Rattle.atspi_match.specs.routing.Answers as answers
 use Rattle.atspi_bus_answers.proofs.Literals.{id-chars}
 use Rattle.atspi_bus_answers.proofs.answering.get_id.Goals as goal
 

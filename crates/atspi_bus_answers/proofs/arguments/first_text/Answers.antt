@@ -3,7 +3,7 @@ use Rattle.atspi_types.specs.Kinds.{text}
 use Rattle.atspi_marshal.specs.Reading.{input_of}
 use Rattle.atspi_cursor.specs.Items.{item_data, item_kind, fields_data}
 use Rattle.atspi_header.proofs.ReadTypes.{item_type}
-use Rattle.atspi_routing.specs.Answers.{first_text}
+use Rattle.atspi_match.specs.routing.Answers.{first_text}
 use Rattle.atspi_bus_answers.proofs.Literals.{nil-chars}
 use Rattle.atspi_bus_answers.proofs.FirstText.{no_first}
 use Rattle.atspi_bus_answers.proofs.arguments.first_text.Goals as goal

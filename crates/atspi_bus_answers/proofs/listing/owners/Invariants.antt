@@ -1,7 +1,7 @@
 use Rattle.std.proofs.Common.{◌≡◌, ℕ, take, map, Some}
 use Rattle.atspi_types.specs.Data.{text_data}
 use Rattle.atspi_types.specs.DataView.{all_data}
-use Rattle.atspi_routing.specs.BusState.{name_or_empty}
+use Rattle.atspi_match.specs.routing.BusState.{name_or_empty}
 use Rattle.atspi_bus_answers.proofs.listing.owners.Given as goal
 
 abbrev pub invariant-loop-conn : goal.invariant-loop-conn

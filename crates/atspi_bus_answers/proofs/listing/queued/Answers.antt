@@ -1,10 +1,10 @@
 use Rattle.std.proofs.Common.{◌≡◌, sym, ap, subst, ◌∙◌, [], ◌∷◌, map, List, ℕ, Some}
 use Rattle.std.proofs.lemmas.Result.{IfOk-weaker}
 use Rattle.atspi_types.specs.Data.{Data, text_data}
-use Rattle.atspi_valid_names.specs.Names.{IsBusName, is_bus_name}
+use Rattle.atspi_base.specs.valid_names.Names.{IsBusName, is_bus_name}
 use Rattle.atspi_types.proofs.DataLemmas.{data_of-Text}
 use Rattle.atspi_names.specs.Owners.{list_of}
-use Rattle.atspi_routing.specs.BusState.{name_or_empty}
+use Rattle.atspi_match.specs.routing.BusState.{name_or_empty}
 use Rattle.atspi_bus_answers.proofs.NameTexts.{refused}
 use Rattle.atspi_bus_answers.proofs.Literals.{own-chars}
 use Rattle.atspi_bus_answers.proofs.OwnerNames.{queued-own, queued-no_name, queued-named}

@@ -1,5 +1,5 @@
 use Rattle.std.proofs.Common.{ap, ◌∙◌}
-use Rattle.atspi_valid_names.specs.Names.{is_interface}
+use Rattle.atspi_base.specs.valid_names.Names.{is_interface}
 use Rattle.atspi_bus_answers.proofs.NameTexts.{never_refused}
 use Rattle.atspi_bus_answers.proofs.literal.interface.Goals as goal
 

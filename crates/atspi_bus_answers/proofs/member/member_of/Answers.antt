@@ -3,7 +3,7 @@ use Rattle.std.specs.Prelude.{bytes_eq, codes, Ok, Err}
 use Rattle.atspi_types.specs.Kinds.{Kind, kinds_of}
 use Rattle.atspi_types.specs.Signatures.{signature_bytes}
 use Rattle.atspi_header.specs.View.{envelope_at}
-use Rattle.atspi_routing.specs.Members.{signature_of}
+use Rattle.atspi_match.specs.routing.Members.{signature_of}
 use Rattle.atspi_bus_answers.specs.Lines.{takes_of}
 use Rattle.atspi_bus_answers.proofs.Asked.{has_member, body_codes}
 use Rattle.atspi_bus_answers.proofs.member.member_of.Goals as goal

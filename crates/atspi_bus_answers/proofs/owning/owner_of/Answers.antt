@@ -2,11 +2,11 @@ use Rattle.std.proofs.Common.{◌≡◌, sym, ap, subst, ◌∙◌, Option, Some
 use Rattle.std.specs.Prelude.{bytes_eq}
 use Rattle.std.specs.Option.{option_map}
 use Rattle.atspi_types.specs.Data.{Data, text_data}
-use Rattle.atspi_valid_names.specs.Names.{IsBusName, is_bus_name}
+use Rattle.atspi_base.specs.valid_names.Names.{IsBusName, is_bus_name}
 use Rattle.atspi_types.proofs.DataLemmas.{data_of-Text}
 use Rattle.atspi_names.specs.Owners.{list_of}
 use Rattle.atspi_names.specs.Queue.{owner_in}
-use Rattle.atspi_routing.specs.BusState.{text_or_empty}
+use Rattle.atspi_match.specs.routing.BusState.{text_or_empty}
 use Rattle.atspi_bus_answers.proofs.NameTexts.{refused}
 use Rattle.atspi_bus_answers.proofs.Literals.{own-chars}
 use Rattle.atspi_bus_answers.proofs.OwnerNames.{owner-own, owner-no_name, owner-nobody, owner-somebody}

@@ -1,6 +1,6 @@
 use Rattle.std.proofs.Common.{◌≡◌, sym, ap, subst, ◌∙◌, List, ℕ}
 use Rattle.std.specs.Prelude.{bytes_eq}
-use Rattle.atspi_valid_names.specs.Names.{IsBusName, is_bus_name, is_unique_name}
+use Rattle.atspi_base.specs.valid_names.Names.{IsBusName, is_bus_name, is_unique_name}
 use Rattle.atspi_names.specs.Owners.{own_name}
 use Rattle.atspi_bus_answers.proofs.NameTexts.{name-chars, refused}
 use Rattle.atspi_bus_answers.proofs.OwnerNames.{asked-unique, asked-own, asked-yes, asked-no_name}

@@ -1,5 +1,5 @@
 use Rattle.std.proofs.Common.{◌≡◌, sym, ap, subst, ◌∙◌, Some, refl}
-use Rattle.atspi_routing.specs.Answers.{returns}
+use Rattle.atspi_match.specs.routing.Answers.{returns}
 use Rattle.atspi_bus_answers.specs.Answered.{with_parts, Spells}
 use Rattle.atspi_bus_answers.proofs.RulePairs.{any-stands, none-lost, removed, not_removed}
 use Rattle.atspi_bus_answers.proofs.rules.remove_match.Goals as goal

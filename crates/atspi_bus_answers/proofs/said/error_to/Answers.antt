@@ -1,5 +1,5 @@
 use Rattle.std.proofs.Common.{ap, ◌∙◌}
-use Rattle.atspi_valid_names.specs.Names.{is_interface}
+use Rattle.atspi_base.specs.valid_names.Names.{is_interface}
 use Rattle.atspi_bus_answers.proofs.Literals.{error_is}
 use Rattle.atspi_bus_answers.proofs.said.error_to.Goals as goal
 

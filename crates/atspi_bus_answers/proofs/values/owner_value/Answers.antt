@@ -2,7 +2,7 @@ use Rattle.std.proofs.Common.{sym, ap, ◌∙◌}
 use Rattle.std.specs.Prelude.{option_copied}
 use Rattle.atspi_types.specs.Data.{text_data}
 use Rattle.atspi_types.proofs.DataLemmas.{data_of-Text}
-use Rattle.atspi_routing.specs.BusState.{text_or_empty}
+use Rattle.atspi_match.specs.routing.BusState.{text_or_empty}
 use Rattle.atspi_bus_answers.proofs.Literals.{nil-chars}
 use Rattle.atspi_bus_answers.proofs.values.owner_value.Goals as goal
 

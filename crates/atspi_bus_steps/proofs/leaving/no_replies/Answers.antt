@@ -1,7 +1,7 @@
 use Rattle.std.proofs.Common.{List, ◌∷◌, [], map, ap, ◌∙◌}
 use Rattle.std.proofs.lemmas.List.{map-append}
 use Rattle.atspi_message.specs.Envelope.{Envelope, envelope_of}
-use Rattle.atspi_routing.specs.OwnMessages.{error_to}
+use Rattle.atspi_match.specs.routing.OwnMessages.{error_to}
 use Rattle.std.specs.Prelude.{codes}
 use Rattle.atspi_bus_steps.specs.declared.open_call.OpenCall.{OpenCall}
 use Rattle.std.proofs.Common.{get_or}

@@ -1,6 +1,6 @@
 use Rattle.std.proofs.Common.{◌∙◌, ap}
 use Rattle.atspi_stage_ends.specs.Done.{done_of}
-use Rattle.atspi_play.specs.Playing.{silent}
+use Rattle.atspi_trace.specs.play.Playing.{silent}
 use Rattle.atspi_cast.proofs.Queued.{none_given}
 use Rattle.atspi_cast.proofs.ToldAll.{tells_more, tells_none, silent_none}
 use Rattle.atspi_cast.proofs.telling.tell_reader.Goals as goal

@@ -1,9 +1,9 @@
 use Rattle.std.proofs.Common.{inr, [], codes, refl, sym, append-nil, arith}
 use Rattle.atspi_trace.specs.Causes.{calls, exits}
 use Rattle.atspi_trace.specs.Work.{doing, resting}
-use Rattle.atspi_play.specs.Breaking.{so_far}
-use Rattle.atspi_play.specs.Playing.{silent}
-use Rattle.atspi_play.specs.Plays.{plays}
+use Rattle.atspi_trace.specs.play.Breaking.{so_far}
+use Rattle.atspi_trace.specs.play.Playing.{silent}
+use Rattle.atspi_trace.specs.play.Plays.{plays}
 use Rattle.atspi_protocol.specs.following.Takes.{reader_calls}
 use Rattle.atspi_examples.specs.Players.{at_rest, caret, holder, playing, resting_world}
 use Rattle.atspi_examples.proofs.broken.ends.Goals as goal

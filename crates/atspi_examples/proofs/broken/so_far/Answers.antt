@@ -1,13 +1,13 @@
 use Rattle.std.proofs.Common.{◌≡◌, List, [], ◌∷◌, refl}
-use Rattle.atspi_valid_names.specs.Names.{is_bus_name}
-use Rattle.atspi_valid_names.specs.Elements.{are_two_or_more, are_elements, parts_of}
+use Rattle.atspi_base.specs.valid_names.Names.{is_bus_name}
+use Rattle.atspi_base.specs.valid_names.Elements.{are_two_or_more, are_elements, parts_of}
 use Rattle.atspi_trace.specs.Causes.{gets, tells_busy}
 use Rattle.atspi_trace.specs.Entry.{Entry, busy}
 use Rattle.atspi_trace.specs.Work.{Work, draining, resting, turning}
-use Rattle.atspi_play.specs.Breaking as breaking
-use Rattle.atspi_play.specs.Breaking.{PlaysOn, caused}
-use Rattle.atspi_play.specs.Playing.{Playing}
-use Rattle.atspi_play.specs.Plays.{plays}
+use Rattle.atspi_trace.specs.play.Breaking as breaking
+use Rattle.atspi_trace.specs.play.Breaking.{PlaysOn, caused}
+use Rattle.atspi_trace.specs.play.Playing.{Playing}
+use Rattle.atspi_trace.specs.play.Plays.{plays}
 use Rattle.atspi_examples.specs.Players.{at_rest, hello_returned, hello_waits, playing, starting_world}
 use Rattle.atspi_examples.proofs.broken.so_far.Goals as goal
 

@@ -1,11 +1,11 @@
 use Rattle.std.proofs.Common.{◌≡◌, ◌<◌, ◌⊎◌, inl, inr, ℕ, zero, suc, List, [], ◌∷◌, Some, None, refl, arith, subst, sym}
 use Rattle.std.specs.Prelude.{slice_get}
 use Rattle.std.proofs.lemmas.Option.{same_Some}
-use Rattle.atspi_routing.specs.Queues.{Bus}
+use Rattle.atspi_match.specs.routing.Queues.{Bus}
 use Rattle.atspi_trace.specs.World.{End, first_registry}
 use Rattle.atspi_trace.specs.Ends.{end_at}
 use Rattle.atspi_protocol.specs.following.ReaderState.{ReaderState, begins}
-use Rattle.atspi_play.specs.Breaking.{HasSpent, IsPast, IsSpent}
+use Rattle.atspi_trace.specs.play.Breaking.{HasSpent, IsPast, IsSpent}
 use Rattle.atspi_examples.specs.Players.{at_rest, busy_reader, five_ends, hearer, holder, idle_reader, named_app, nameless_app}
 use Rattle.atspi_examples.proofs.broken.spent.Goals as goal
 

@@ -1,6 +1,6 @@
 use Rattle.std.proofs.Common.{◌⊎◌, inl, inr, [], ◌∷◌, refl, arith}
 use Rattle.atspi_lines.specs.declared.line.Party.TheVariants.{App}
-use Rattle.atspi_routing.specs.Queues.{Bus}
+use Rattle.atspi_match.specs.routing.Queues.{Bus}
 use Rattle.atspi_trace.specs.Entry.{dropped}
 use Rattle.atspi_carrying.specs.Halted.{HaveNames}
 use Rattle.atspi_examples.specs.Halting.{one_named, two_ends}

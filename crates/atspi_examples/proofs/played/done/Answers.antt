@@ -7,9 +7,9 @@ use Rattle.atspi_protocol.specs.following.Calls.{asking}
 use Rattle.atspi_trace.specs.Causes.{calls, starts_reader, tells_quiet}
 use Rattle.atspi_trace.specs.Entry.{quiet, sent, started}
 use Rattle.atspi_trace.specs.Work.{doing, draining, resting}
-use Rattle.atspi_play.specs.Playing.{first_playing}
-use Rattle.atspi_play.specs.Plays.{plays}
-use Rattle.atspi_play.specs.Played.{begun, did}
+use Rattle.atspi_trace.specs.play.Playing.{first_playing}
+use Rattle.atspi_trace.specs.play.Plays.{plays}
+use Rattle.atspi_trace.specs.play.Played.{begun, did}
 use Rattle.atspi_examples.specs.Players.{at_rest, caret, caret_call}
 use Rattle.atspi_examples.proofs.PlayingOut.{over, one_cause}
 use Rattle.atspi_examples.proofs.played.done.Goals as goal

@@ -1,11 +1,11 @@
 use Rattle.std.proofs.Common.{refl, ◌∷◌, []}
-use Rattle.atspi_valid_names.specs.Names.{is_bus_name}
-use Rattle.atspi_valid_names.specs.Elements.{are_two_or_more, are_elements, parts_of}
+use Rattle.atspi_base.specs.valid_names.Names.{is_bus_name}
+use Rattle.atspi_base.specs.valid_names.Elements.{are_two_or_more, are_elements, parts_of}
 use Rattle.atspi_trace.specs.Causes.{exits, gets, swaps_face, tells_busy, tells_quiet}
 use Rattle.atspi_trace.specs.Entry.{busy}
 use Rattle.atspi_trace.specs.Work.{doing, draining, moving_up, resting, turning}
-use Rattle.atspi_play.specs.Plays.{plays}
-use Rattle.atspi_play.specs.Played.{caused, at_rest as still}
+use Rattle.atspi_trace.specs.play.Plays.{plays}
+use Rattle.atspi_trace.specs.play.Played.{caused, at_rest as still}
 use Rattle.atspi_examples.specs.Players.{at_rest, bytes_world, hello_returned, hello_waits, holder, playing, starting_world}
 use Rattle.atspi_examples.proofs.PlayingOut.{over, one_cause}
 use Rattle.atspi_examples.proofs.played.lines.Goals as goal

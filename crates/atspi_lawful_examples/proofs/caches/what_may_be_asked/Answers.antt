@@ -1,6 +1,6 @@
 use Rattle.std.proofs.Common.{refl}
-use Rattle.atspi_valid_names.specs.Names.{is_bus_name}
-use Rattle.atspi_valid_names.specs.Elements.{are_two_or_more, are_elements, parts_of}
+use Rattle.atspi_base.specs.valid_names.Names.{is_bus_name}
+use Rattle.atspi_base.specs.valid_names.Elements.{are_two_or_more, are_elements, parts_of}
 use lib.Utf8.{encode}
 use Rattle.atspi_lawful_examples.proofs.caches.what_may_be_asked.Goals as goal
 

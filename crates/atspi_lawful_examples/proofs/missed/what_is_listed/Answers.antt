@@ -1,7 +1,7 @@
 use Rattle.std.proofs.Common.{ℕ, List, [], ◌∷◌, length, refl, ap, arith}
 use Rattle.std.specs.Prelude.{codes}
-use Rattle.atspi_valid_names.specs.Elements.{are_two_or_more, are_elements, parts_of}
-use Rattle.atspi_valid_names.specs.Names.{is_bus_name}
+use Rattle.atspi_base.specs.valid_names.Elements.{are_two_or_more, are_elements, parts_of}
+use Rattle.atspi_base.specs.valid_names.Names.{is_bus_name}
 use Rattle.atspi_lawful_examples.specs.missed.Cases.{listening_by}
 use Rattle.atspi_lawful.proofs.OfOrder.Parties.{no_none, same_some}
 use Rattle.atspi_lawful_examples.proofs.missed.what_is_listed.Goals as goal

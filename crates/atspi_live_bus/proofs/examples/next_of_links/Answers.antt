@@ -2,7 +2,7 @@ use Rattle.std.proofs.Common.{refl, sym, ap, subst, ◌∙◌, inl, length}
 use Rattle.std.specs.Prelude.{ℕ, List}
 use Rattle.atspi_auth.specs.Talk.{fault_in}
 use Rattle.atspi_stream.specs.Stream.{AwaitsMore, few}
-use Rattle.atspi_routing.specs.Queues.{Bus}
+use Rattle.atspi_match.specs.routing.Queues.{Bus}
 use Rattle.atspi_live_bus.proofs.Stopping.{four_five, no_fault_is, one_is_few, three_three}
 use Rattle.atspi_live_bus.proofs.examples.next_of_links.Goals as goal
 

@@ -1,5 +1,5 @@
 use Rattle.std.proofs.Common.{refl}
-use Rattle.atspi_routing.specs.Queues.{joins, leaves}
+use Rattle.atspi_match.specs.routing.Queues.{joins, leaves}
 use Rattle.atspi_live_bus_examples.proofs.asking.calls_in_order.Goals as goal
 
 pub returns-clause-none : goal.returns-clause-none

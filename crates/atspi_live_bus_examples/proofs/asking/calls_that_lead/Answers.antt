@@ -1,5 +1,5 @@
 use Rattle.std.proofs.Common.{refl, sym, ap, ◌∙◌}
-use Rattle.atspi_routing.specs.Queues.{Bus}
+use Rattle.atspi_match.specs.routing.Queues.{Bus}
 use Rattle.atspi_live_bus_examples.proofs.Facts.{other_byte}
 use Rattle.atspi_live_bus_examples.proofs.asking.calls_that_lead.Goals as goal
 

@@ -1,7 +1,7 @@
 use Rattle.std.proofs.Common.{[], refl, sym, ap, subst, ◌∙◌}
 use Rattle.std.specs.Prelude.{List}
 use Rattle.atspi_bus.specs.View.{bus_of, given_of}
-use Rattle.atspi_routing.specs.Queues.{Bus, empty_bus}
+use Rattle.atspi_match.specs.routing.Queues.{Bus, empty_bus}
 use Rattle.atspi_live_bus.specs.Asked.{Asked, Runs, messages_of}
 use Rattle.atspi_live_bus_examples.proofs.Facts.{none_some, some_byte}
 use Rattle.atspi_live_bus_examples.proofs.Linked.{no_number, some_message}

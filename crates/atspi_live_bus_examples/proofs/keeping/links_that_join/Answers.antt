@@ -1,7 +1,7 @@
 use Rattle.std.proofs.Common.{◌≡◌, [], ◌∷◌, refl, sym, ap, ◌∙◌}
 use Rattle.std.specs.Prelude.{ℕ, List}
 use Rattle.atspi_bus.specs.View.{bus_of, given_of}
-use Rattle.atspi_routing.specs.Queues.{Bus}
+use Rattle.atspi_match.specs.routing.Queues.{Bus}
 use Rattle.atspi_live_bus.specs.Seats.{seats}
 use Rattle.atspi_live_bus_examples.proofs.Linked.{no_seat}
 use Rattle.atspi_live_bus_examples.proofs.Seated.{four_five}

@@ -1,8 +1,8 @@
 use Rattle.std.proofs.Common.{◌≡◌, inl, inr, ◌⊎◌, ◌∙◌, sym, ap, ℕ, List, ◌≤◌, arith, length, Err}
 use Rattle.std.proofs.lemmas.Result.{err_from_is_err_and}
-use Rattle.atspi_valid_names.specs.Names.{IsBusName, IsElement}
-use Rattle.atspi_valid_names.specs.declared.elements.Form.TheVariants.{WellKnown}
-use Rattle.atspi_valid_names.specs.declared.fault.NameFault.TheVariants as faults
+use Rattle.atspi_base.specs.valid_names.Names.{IsBusName, IsElement}
+use Rattle.atspi_base.specs.declared.valid_names.elements.Form.TheVariants.{WellKnown}
+use Rattle.atspi_base.specs.declared.valid_names.fault.NameFault.TheVariants as faults
 use Rattle.atspi_match.specs.Conditions.{IsNamespace}
 use Rattle.atspi_match.proofs.NamespaceLemmas.{element_from, no_element}
 use Rattle.atspi_match.proofs.value_of_key.check_namespace.Goals as goal

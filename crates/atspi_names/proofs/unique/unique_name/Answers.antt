@@ -1,5 +1,5 @@
 use Rattle.std.proofs.Common.{ap, ◌∙◌}
-use Rattle.atspi_valid_names.specs.Names.{is_bus_name}
+use Rattle.atspi_base.specs.valid_names.Names.{is_bus_name}
 use Rattle.atspi_names.proofs.UniqueLemmas.{is_bus_name-unique_name, never_refused}
 use Rattle.atspi_names.proofs.unique.unique_name.Goals as goal
 

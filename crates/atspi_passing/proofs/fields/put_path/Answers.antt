@@ -1,4 +1,4 @@
-use Rattle.atspi_valid_names.proofs.NameLemmas.{IsPath-from_test}
+use Rattle.atspi_base.proofs.OfValidNames.NameLemmas.{IsPath-from_test}
 use Rattle.atspi_message.proofs.FieldWriting.{path_writes}
 use Rattle.atspi_passing.proofs.fields.put_path.Goals as goal
 

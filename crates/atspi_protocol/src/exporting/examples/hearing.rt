@@ -29,7 +29,7 @@ pub fn changed()
 {}
 
 /// Two of the registry's signals change them, whoever sends them; what follows the first two texts does not count.
-#[tactic(auto, unfolding(atspi_valid_names::specs::Names::is_bus_name, atspi_valid_names::specs::Elements::are_two_or_more, atspi_valid_names::specs::Elements::are_elements, atspi_valid_names::specs::Elements::parts_of, atspi_forest::specs::Path::path_of))]
+#[tactic(auto, unfolding(atspi_base::specs::valid_names::Names::is_bus_name, atspi_base::specs::valid_names::Elements::are_two_or_more, atspi_base::specs::valid_names::Elements::are_elements, atspi_base::specs::valid_names::Elements::parts_of, atspi_forest::specs::Path::path_of))]
 pub fn signals()
     ensures registered { (heard_after [] (told (codes "EventListenerRegistered") (pair_texts children))).heard ≡ children ∷ [] }
     ensures longer { (heard_after [] (told (codes "EventListenerRegistered") (text_data (codes ":1.2") ∷ text_data (codes "object:children-changed:add") ∷ text_data [] ∷ []))).heard ≡ children ∷ [] }
@@ -41,7 +41,7 @@ pub fn signals()
 {}
 
 /// A list of pairs.
-#[tactic(auto, unfolding(atspi_valid_names::specs::Names::is_bus_name, atspi_valid_names::specs::Elements::are_two_or_more, atspi_valid_names::specs::Elements::are_elements, atspi_valid_names::specs::Elements::parts_of, atspi_forest::specs::Path::path_of))]
+#[tactic(auto, unfolding(atspi_base::specs::valid_names::Names::is_bus_name, atspi_base::specs::valid_names::Elements::are_two_or_more, atspi_base::specs::valid_names::Elements::are_elements, atspi_base::specs::valid_names::Elements::parts_of, atspi_forest::specs::Path::path_of))]
 pub fn lists()
     ensures two { pairs_in (pairs_data (children ∷ properties ∷ []) ∷ []) ≡ Some (children ∷ properties ∷ []) }
     ensures none { pairs_in (pairs_data [] ∷ []) ≡ Some [] }

@@ -8,7 +8,7 @@ ghost use Rattle.atspi_protocol.specs.exporting.Taking.{app_takes};
 ghost use Rattle.atspi_protocol.specs.exporting.Cases.{begun, greeted, matched, listening, embedded, handed_out, returned, failed, pairs_data, properties, children, at_message, asks_root};
 
 /// The calls as they are sent, and what is waited for.
-#[tactic(auto, unfolding(atspi_valid_names::specs::Names::is_bus_name, atspi_valid_names::specs::Elements::are_two_or_more, atspi_valid_names::specs::Elements::are_elements, atspi_valid_names::specs::Elements::parts_of, atspi_forest::specs::Path::path_of))]
+#[tactic(auto, unfolding(atspi_base::specs::valid_names::Names::is_bus_name, atspi_base::specs::valid_names::Elements::are_two_or_more, atspi_base::specs::valid_names::Elements::are_elements, atspi_base::specs::valid_names::Elements::parts_of, atspi_forest::specs::Path::path_of))]
 pub fn calls()
     ensures hello { begun.out ≡ sends (record {
       order = Little;
@@ -76,7 +76,7 @@ pub fn calls()
 {}
 
 /// An error or another body ends the start; what answers no call of it changes nothing.
-#[tactic(auto, unfolding(atspi_valid_names::specs::Names::is_bus_name, atspi_valid_names::specs::Elements::are_two_or_more, atspi_valid_names::specs::Elements::are_elements, atspi_valid_names::specs::Elements::parts_of, atspi_forest::specs::Path::path_of))]
+#[tactic(auto, unfolding(atspi_base::specs::valid_names::Names::is_bus_name, atspi_base::specs::valid_names::Elements::are_two_or_more, atspi_base::specs::valid_names::Elements::are_elements, atspi_base::specs::valid_names::Elements::parts_of, atspi_forest::specs::Path::path_of))]
 pub fn refused()
     ensures no_name { (app_takes begun (returned 1 (text_data (codes "a.b") ∷ []))).phase ≡ over }
     ensures nameless { (app_takes begun (returned 1 (text_data (codes "a.b") ∷ []))).name ≡ None }

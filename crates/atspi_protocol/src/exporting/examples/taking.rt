@@ -12,7 +12,7 @@ ghost use Rattle.atspi_protocol.specs.exporting.Cases.{begun, ready, handed_out,
 use atspi_forest::{Edit, EditFault, Step};
 
 /// Edits, with the signals that some pattern covers.
-#[tactic(auto, unfolding(atspi_valid_names::specs::Names::is_bus_name, atspi_valid_names::specs::Elements::are_two_or_more, atspi_valid_names::specs::Elements::are_elements, atspi_valid_names::specs::Elements::parts_of, atspi_forest::specs::Path::path_of))]
+#[tactic(auto, unfolding(atspi_base::specs::valid_names::Names::is_bus_name, atspi_base::specs::valid_names::Elements::are_two_or_more, atspi_base::specs::valid_names::Elements::are_elements, atspi_base::specs::valid_names::Elements::parts_of, atspi_forest::specs::Path::path_of))]
 pub fn edits()
     ensures name { at_edit (ready (properties ∷ [])) (Edit.Name 0 (codes "U")) ≡ steps (Step.SetName 0 (codes "U")) ∷ sends (record {
       order = Little;
@@ -36,7 +36,7 @@ pub fn edits()
 {}
 
 /// Calls: a reply in its order and with its number; none with the flag, none without a sender.
-#[tactic(auto, unfolding(atspi_valid_names::specs::Names::is_bus_name, atspi_valid_names::specs::Elements::are_two_or_more, atspi_valid_names::specs::Elements::are_elements, atspi_valid_names::specs::Elements::parts_of, atspi_forest::specs::Path::path_of))]
+#[tactic(auto, unfolding(atspi_base::specs::valid_names::Names::is_bus_name, atspi_base::specs::valid_names::Elements::are_two_or_more, atspi_base::specs::valid_names::Elements::are_elements, atspi_base::specs::valid_names::Elements::parts_of, atspi_forest::specs::Path::path_of))]
 pub fn calls()
     ensures child_count { at_message (ready []) (asks_root (codes "org.freedesktop.DBus.Properties") (codes "Get") (text_data (codes "org.a11y.atspi.Accessible") ∷ text_data (codes "ChildCount") ∷ [])) ≡ sends (record {
       order = Little;
@@ -74,7 +74,7 @@ pub fn calls()
 {}
 
 /// Signals of the registry are heard; the last number that there is can be used.
-#[tactic(auto, unfolding(atspi_valid_names::specs::Names::is_bus_name, atspi_valid_names::specs::Elements::are_two_or_more, atspi_valid_names::specs::Elements::are_elements, atspi_valid_names::specs::Elements::parts_of, atspi_forest::specs::Path::path_of))]
+#[tactic(auto, unfolding(atspi_base::specs::valid_names::Names::is_bus_name, atspi_base::specs::valid_names::Elements::are_two_or_more, atspi_base::specs::valid_names::Elements::are_elements, atspi_base::specs::valid_names::Elements::parts_of, atspi_forest::specs::Path::path_of))]
 pub fn others()
     ensures registered { (app_takes (ready []) (told (codes "EventListenerRegistered") (pair_texts children))).heard ≡ children ∷ [] }
     ensures told { brief (at_message (ready []) (told (codes "EventListenerRegistered") (pair_texts children))) ≡ a_pattern (codes "object:children-changed:add") ∷ [] }

@@ -13,7 +13,7 @@ ghost use Rattle.atspi_protocol.specs.following.Takes.{reader_takes, held_view, 
 ghost use Rattle.atspi_protocol.specs.following.Cases.{waiting, returned, failed, known, held, window, event, owner_changed, item, items};
 
 /// A child of the registry's becomes known where the registry tells it.
-#[tactic(auto, unfolding(atspi_valid_names::specs::Names::is_bus_name, atspi_valid_names::specs::Elements::are_two_or_more, atspi_valid_names::specs::Elements::are_elements, atspi_valid_names::specs::Elements::parts_of))]
+#[tactic(auto, unfolding(atspi_base::specs::valid_names::Names::is_bus_name, atspi_base::specs::valid_names::Elements::are_two_or_more, atspi_base::specs::valid_names::Elements::are_elements, atspi_base::specs::valid_names::Elements::parts_of))]
 pub fn children()
     ensures by_registry { (reader_takes (waiting Hello []) (event (codes ":1.0") (codes "/r") (codes "ChildrenChanged") (codes "add") 0 (reference (codes ":1.7") (codes "/r")))).apps ≡ known (codes ":1.7") ∷ [] }
     ensures behind { (reader_takes (waiting Hello (known (codes ":1.8") ∷ [])) (event (codes ":1.0") (codes "/r") (codes "ChildrenChanged") (codes "add") 0 (reference (codes ":1.7") (codes "/r")))).apps ≡ known (codes ":1.8") ∷ (known (codes ":1.7") ∷ []) }
@@ -43,7 +43,7 @@ pub fn loads()
 {}
 
 /// The bus tells its end.
-#[tactic(auto, unfolding(atspi_valid_names::specs::Names::is_bus_name, atspi_valid_names::specs::Elements::are_two_or_more, atspi_valid_names::specs::Elements::are_elements, atspi_valid_names::specs::Elements::parts_of))]
+#[tactic(auto, unfolding(atspi_base::specs::valid_names::Names::is_bus_name, atspi_base::specs::valid_names::Elements::are_two_or_more, atspi_base::specs::valid_names::Elements::are_elements, atspi_base::specs::valid_names::Elements::parts_of))]
 pub fn ends()
     ensures held { reader_takes (waiting Hello (held (codes ":1.7") window ∷ (known (codes ":1.8") ∷ []))) (owner_changed (codes "org.freedesktop.DBus") (codes ":1.7") (codes ":1.7") [])
         ≡ record (waiting Hello (known (codes ":1.8") ∷ [])) { out = tells_end (codes ":1.7") ∷ (speaks (codes ":1.7") (codes "Demo, closed") ∷ []) } }

@@ -22,7 +22,7 @@ pub fn begins_with_hello()
 {}
 
 /// A return takes it to the next call.
-#[tactic(auto, unfolding(atspi_valid_names::specs::Names::is_bus_name, atspi_valid_names::specs::Elements::are_two_or_more, atspi_valid_names::specs::Elements::are_elements, atspi_valid_names::specs::Elements::parts_of))]
+#[tactic(auto, unfolding(atspi_base::specs::valid_names::Names::is_bus_name, atspi_base::specs::valid_names::Elements::are_two_or_more, atspi_base::specs::valid_names::Elements::are_elements, atspi_base::specs::valid_names::Elements::parts_of))]
 pub fn goes_on()
     ensures named { reader_takes (record (waiting Hello []) { to_come = GetChildren ∷ [] }) (returned 20 (codes "org.freedesktop.DBus") (text_data (codes ":1.3") ∷ []))
         ≡ record (waiting GetChildren []) { pending = Some (record { serial = 21; question = GetChildren }); next = 22; out = sends (asking 21 GetChildren) ∷ [] } }
@@ -46,7 +46,7 @@ pub fn ends_early()
 {}
 
 /// The registry's children become known, and the first of them is asked for its items.
-#[tactic(auto, unfolding(atspi_valid_names::specs::Names::is_bus_name, atspi_valid_names::specs::Elements::are_two_or_more, atspi_valid_names::specs::Elements::are_elements, atspi_valid_names::specs::Elements::parts_of))]
+#[tactic(auto, unfolding(atspi_base::specs::valid_names::Names::is_bus_name, atspi_base::specs::valid_names::Elements::are_two_or_more, atspi_base::specs::valid_names::Elements::are_elements, atspi_base::specs::valid_names::Elements::parts_of))]
 pub fn children()
     ensures none { reader_takes (record (waiting GetChildren []) { registry = None }) (returned 20 (codes ":1.0") (references [] ∷ [])) ≡ record (waiting Hello []) { pending = None } }
     ensures one { reader_takes (record (waiting GetChildren []) { registry = None }) (returned 20 (codes ":1.0") (references ((codes ":1.7", codes "/r") ∷ []) ∷ []))

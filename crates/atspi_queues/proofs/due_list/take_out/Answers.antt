@@ -1,6 +1,6 @@
 use Rattle.std.proofs.Common.{rules, refl, not, ◌==◌, ℕ}
 use Rattle.std.proofs.lemmas.Fn.{filter_same}
-use Rattle.atspi_routing.specs.declared.closing.Why.{Why}
+use Rattle.atspi_match.specs.declared.routing.closing.Why.{Why}
 use Rattle.atspi_queues.proofs.Due.{popped-first}
 use Rattle.atspi_queues.proofs.due_list.take_out.Goals as goal
 

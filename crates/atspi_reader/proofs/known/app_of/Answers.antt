@@ -1,5 +1,5 @@
 use Rattle.std.proofs.Common.{sym, ap, ◌∙◌}
-use Rattle.atspi_valid_names.specs.Names.{is_bus_name}
+use Rattle.atspi_base.specs.valid_names.Names.{is_bus_name}
 use Rattle.atspi_reader.proofs.Spelled.{app_named, no_app}
 use Rattle.atspi_reader.proofs.known.app_of.Goals as goal
 

@@ -1,6 +1,6 @@
 use Rattle.std.proofs.Common.{Bool, List, ℕ, ◌∙◌, ap, sym, chars}
 use Rattle.std.specs.Prelude.{◌&&◌}
-use Rattle.atspi_valid_names.specs.Names.{is_bus_name, is_unique_name}
+use Rattle.atspi_base.specs.valid_names.Names.{is_bus_name, is_unique_name}
 use Rattle.atspi_reader_told.proofs.Texts.{name_chars, same_name}
 use Rattle.atspi_reader_told.proofs.hello.is_unique.Goals as goal
 

@@ -3,7 +3,7 @@ use Rattle.atspi_lines.specs.declared.line.Party.TheVariants.{Registry}
 use Rattle.atspi_trace.specs.Causes.{exits}
 use Rattle.atspi_trace.specs.Due.{is_lost}
 use Rattle.atspi_trace.specs.Entry.{exited}
-use Rattle.atspi_play.specs.Playing.{Happened}
+use Rattle.atspi_trace.specs.play.Playing.{Happened}
 use Rattle.atspi_replay_examples.specs.Small.{registry_stopped, two_ends}
 use Rattle.atspi_replay_examples.proofs.CauseByCause.{first, next_is, some}
 use Rattle.atspi_replay_examples.proofs.reached.lost.Goals as goal

@@ -4,14 +4,14 @@ use Rattle.atspi_lines.specs.declared.deed.Deed.TheVariants.{SetCaret}
 use Rattle.atspi_lines.specs.declared.line.Party.TheVariants.{Reader}
 use Rattle.atspi_protocol.specs.following.ReaderState.{begins}
 use Rattle.atspi_protocol.specs.following.Takes.{reader_calls}
-use Rattle.atspi_routing.specs.Queues.{Bus}
+use Rattle.atspi_match.specs.routing.Queues.{Bus}
 use Rattle.atspi_trace.specs.Ends.{end_at, is_here}
 use Rattle.atspi_trace.specs.Entry.{Entry, sent}
 use Rattle.atspi_trace.specs.Work.{doing}
 use Rattle.atspi_trace.specs.World.{End, World}
-use Rattle.atspi_play.specs.Breaking.{IsSpent, does_next}
-use Rattle.atspi_play.specs.Playing.{Happened, silent}
-use Rattle.atspi_play.specs.Plays.{plays}
+use Rattle.atspi_trace.specs.play.Breaking.{IsSpent, does_next}
+use Rattle.atspi_trace.specs.play.Playing.{Happened, silent}
+use Rattle.atspi_trace.specs.play.Plays.{plays}
 use Rattle.atspi_replay.specs.declared.naming.Halt.TheVariants.{Spent}
 use Rattle.atspi_replay_examples.specs.Small.{Reaches, call_message, call_waits, last_call, playing, reader_stopped, two_ends}
 use Rattle.atspi_replay_examples.proofs.CauseByCause.{first, next_is}

@@ -1,15 +1,15 @@
 use Rattle.std.proofs.Common.{◌≡◌, ◌⊎◌, inl, inr, ℕ, List, [], ◌∷◌, ◌++◌, length, refl, sym, ap, ◌∙◌, arith, length-append}
 use Rattle.std.specs.Prelude.{Option, None, Some}
 use Rattle.atspi_lines.specs.declared.line.Party.TheVariants.{Bus as The_bus, Reader}
-use Rattle.atspi_routing.specs.Queues.{Bus}
+use Rattle.atspi_match.specs.routing.Queues.{Bus}
 use Rattle.atspi_trace.specs.Causes.{gets}
 use Rattle.atspi_trace.specs.Ends.{end_at}
 use Rattle.atspi_trace.specs.Entry.{Entry, got}
 use Rattle.atspi_trace.specs.Work.{turning}
 use Rattle.atspi_trace.specs.World.{End, World}
-use Rattle.atspi_play.specs.Breaking.{IsAtWork, IsSpentAt, caused, does_next, so_far}
-use Rattle.atspi_play.specs.Playing.{Happened, Playing}
-use Rattle.atspi_play.specs.Plays.{plays}
+use Rattle.atspi_trace.specs.play.Breaking.{IsAtWork, IsSpentAt, caused, does_next, so_far}
+use Rattle.atspi_trace.specs.play.Playing.{Happened, Playing}
+use Rattle.atspi_trace.specs.play.Plays.{plays}
 use Rattle.atspi_replay.specs.declared.naming.Halt.TheVariants.{Spent}
 use Rattle.atspi_replay_examples.specs.Small.{Reaches, one_taken, two_letters}
 use Rattle.atspi_replay_examples.proofs.CauseByCause.{NoneDone, SomeDone, causes, none_caused, no_next, that_next}

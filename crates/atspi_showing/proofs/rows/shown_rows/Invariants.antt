@@ -1,5 +1,5 @@
 use Rattle.std.proofs.Common.{◌≡◌, ◌++◌, length, map}
-use Rattle.atspi_play.specs.Playing.{shown_sight}
+use Rattle.atspi_trace.specs.play.Playing.{shown_sight}
 use Rattle.atspi_showing.proofs.rows.shown_rows.Given as goal
 
 -- what was shown, and then what is left, is all

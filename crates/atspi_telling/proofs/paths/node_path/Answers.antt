@@ -1,5 +1,5 @@
 use Rattle.std.proofs.Common.{ap, ◌∙◌}
-use Rattle.atspi_valid_names.specs.Names.{is_path}
+use Rattle.atspi_base.specs.valid_names.Names.{is_path}
 use Rattle.atspi_telling.proofs.PathRule.{numbered_path, root_is_path}
 use Rattle.atspi_telling.proofs.paths.node_path.Goals as goal
 

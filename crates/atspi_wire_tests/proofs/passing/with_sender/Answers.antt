@@ -1,6 +1,6 @@
 use Rattle.std.proofs.Common.{refl, sym, subst}
-use Rattle.atspi_valid_names.specs.Names.{IsBusName}
-use Rattle.atspi_valid_names.proofs.NameLemmas.{is_bus_name-from_IsBusName}
+use Rattle.atspi_base.specs.valid_names.Names.{IsBusName}
+use Rattle.atspi_base.proofs.OfValidNames.NameLemmas.{is_bus_name-from_IsBusName}
 use Rattle.atspi_header.proofs.Names.{each_named}
 use Rattle.atspi_wire_tests.proofs.passing.with_sender.Goals as goal
 

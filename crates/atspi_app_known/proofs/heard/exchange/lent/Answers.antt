@@ -2,8 +2,8 @@ use Rattle.std.proofs.Common.{sym, ap, ◌∙◌, chars}
 use Rattle.std.specs.Prelude.{encode_utf8_all}
 use Rattle.std.proofs.lemmas.Slice.Eq.{bytes_eq-Decides}
 use Rattle.std.proofs.lemmas.Str.{encodes-chars}
-use Rattle.atspi_valid_names.specs.Names.{is_bus_name}
-use Rattle.atspi_valid_names.proofs.NameLemmas.{is_bus_name-from_IsBusName}
+use Rattle.atspi_base.specs.valid_names.Names.{is_bus_name}
+use Rattle.atspi_base.proofs.OfValidNames.NameLemmas.{is_bus_name-from_IsBusName}
 use Rattle.atspi_app_known.proofs.heard.exchange.lent.Goals as goal
 
 pub invariant_of-result : goal.invariant_of-result

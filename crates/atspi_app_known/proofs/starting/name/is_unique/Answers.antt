@@ -1,5 +1,5 @@
 use Rattle.std.proofs.Common.{◌≡◌, true, false, sym, ap, ◌∙◌}
-use Rattle.atspi_valid_names.specs.Names.{is_bus_name, is_unique_name}
+use Rattle.atspi_base.specs.valid_names.Names.{is_bus_name, is_unique_name}
 use Rattle.atspi_app_known.proofs.OfStarting.Unique.{unique_yes, unique_no}
 use Rattle.atspi_app_known.proofs.starting.name.is_unique.Goals as goal
 

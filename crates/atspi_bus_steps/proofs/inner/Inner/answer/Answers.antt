@@ -3,10 +3,10 @@ use Rattle.std.specs.List.{All}
 use Rattle.atspi_header.specs.View.{envelope_at}
 use Rattle.atspi_message.specs.Envelope.{envelope_of}
 use Rattle.atspi_names.specs.Owners.{Owners}
-use Rattle.atspi_routing.specs.BusState.{BusState}
-use Rattle.atspi_routing.specs.Answers.{Answer, answers}
-use Rattle.atspi_routing.specs.Steps.{answered}
-use Rattle.atspi_routing.specs.Queues.{Bus, stepped}
+use Rattle.atspi_match.specs.routing.BusState.{BusState}
+use Rattle.atspi_match.specs.routing.Answers.{Answer, answers}
+use Rattle.atspi_match.specs.routing.Steps.{answered}
+use Rattle.atspi_match.specs.routing.Queues.{Bus, stepped}
 use Rattle.atspi_bus_answers.specs.Answered.{reply_of, with_parts}
 use Rattle.atspi_bus_steps.specs.Inner.{inner_of, state_of}
 use Rattle.atspi_bus_steps.specs.Limits.{SaysTooMuch}

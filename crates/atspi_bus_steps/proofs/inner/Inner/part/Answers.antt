@@ -3,9 +3,9 @@ use Rattle.std.specs.List.{All}
 use Rattle.std.proofs.lemmas.List.{map-append, length-map}
 use Rattle.std.proofs.lemmas.Result.{on_ok_weaker}
 use Rattle.atspi_message.specs.Envelope.{Envelope, envelope_of}
-use Rattle.atspi_routing.specs.BusState.{BusState}
-use Rattle.atspi_routing.specs.Steps.{speaks}
-use Rattle.atspi_routing.specs.Queues.{Bus, stepped, left}
+use Rattle.atspi_match.specs.routing.BusState.{BusState}
+use Rattle.atspi_match.specs.routing.Steps.{speaks}
+use Rattle.atspi_match.specs.routing.Queues.{Bus, stepped, left}
 use Rattle.atspi_bus_steps.specs.Inner.{inner_of, call_of}
 use Rattle.atspi_bus_steps.specs.Farewell.{forgotten}
 use Rattle.atspi_bus_steps.specs.Sayable.{MaySay}

@@ -1,7 +1,7 @@
 use Rattle.std.proofs.Common.{List, ℕ, map, Some, refl, sym, subst}
 use Rattle.atspi_header.specs.View.{envelope_at}
-use Rattle.atspi_routing.specs.BusState as state
-use Rattle.atspi_routing.specs.Routing.{receivers}
+use Rattle.atspi_match.specs.routing.BusState as state
+use Rattle.atspi_match.specs.routing.Routing.{receivers}
 use Rattle.atspi_bus_steps.specs.Handing.{WentToAll}
 use Rattle.atspi_bus_steps.specs.Inner.{inner_of, state_of, call_of, parts}
 use Rattle.atspi_bus_steps.specs.Sound.{IsSound}

@@ -3,8 +3,8 @@ use Rattle.std.specs.Prelude.{Err}
 use Rattle.std.specs.List.{All}
 use Rattle.std.proofs.lemmas.Grind.{common_steps}
 use Rattle.atspi_message.specs.Envelope.{Envelope, envelope_of}
-use Rattle.atspi_routing.specs.Steps.{speaks}
-use Rattle.atspi_routing.specs.Queues.{stepped}
+use Rattle.atspi_match.specs.routing.Steps.{speaks}
+use Rattle.atspi_match.specs.routing.Queues.{stepped}
 use Rattle.atspi_bus_steps.specs.Inner.{inner_of}
 use Rattle.atspi_bus_steps.specs.Limits.{SaysTooMuch}
 use Rattle.atspi_bus_steps.specs.Sayable.{MaySay}

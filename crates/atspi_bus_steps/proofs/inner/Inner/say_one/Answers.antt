@@ -3,8 +3,8 @@ use Rattle.std.specs.Prelude.{Result, Ok, Err, is_ok, is_err, if◌then◌else�
 use Rattle.std.proofs.lemmas.Grind.{common_steps}
 use Rattle.std.proofs.lemmas.List.{map-append}
 use Rattle.atspi_message.specs.Envelope.{Envelope, envelope_of}
-use Rattle.atspi_routing.specs.Queues.{Bus, stepped}
-use Rattle.atspi_routing.specs.Steps.{speaks}
+use Rattle.atspi_match.specs.routing.Queues.{Bus, stepped}
+use Rattle.atspi_match.specs.routing.Steps.{speaks}
 use Rattle.atspi_bus_steps.specs.Inner.{inner_of}
 use Rattle.atspi_bus_steps.specs.Limits.{SaysTooMuch}
 use Rattle.atspi_bus_steps.specs.declared.fault.BusFault.TheVariants.{Big}

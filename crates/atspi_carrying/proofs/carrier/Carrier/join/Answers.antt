@@ -1,5 +1,5 @@
 use Rattle.std.proofs.Common.{◌≡◌, ◌≤◌, [], ◌∷◌, ◌++◌, length, ap, ◌∙◌, arith}
-use Rattle.atspi_routing.specs.Queues as queues
+use Rattle.atspi_match.specs.routing.Queues as queues
 use Rattle.atspi_bus_steps.specs.Inner.{inner_of}
 use Rattle.atspi_trace.specs.World.{newcomer}
 use Rattle.atspi_carrying.specs.Carried.{post_of}

@@ -1,5 +1,5 @@
 use Rattle.std.proofs.Common.{map, set, Err, refl, sym, ap, ◌∙◌, subst}
-use Rattle.atspi_routing.specs.Queues as queues
+use Rattle.atspi_match.specs.routing.Queues as queues
 use Rattle.atspi_bus_steps.specs.Inner.{inner_of}
 use Rattle.atspi_message.specs.Bytes.{written}
 use Rattle.atspi_handed.proofs.Short.{message_spellable}

@@ -2,7 +2,7 @@ use Rattle.std.proofs.Common.{◌≡◌, true, false, ◌∷◌, ◌++◌, List,
 use Rattle.std.specs.Prelude.{option_to_list}
 use Rattle.atspi_message.specs.Envelope.{Envelope, envelope_of}
 use Rattle.atspi_lines.specs.declared.line.Party.TheVariants.{Registry}
-use Rattle.atspi_routing.specs.Queues.{Bus}
+use Rattle.atspi_match.specs.routing.Queues.{Bus}
 use Rattle.atspi_bus_steps.specs.Inner.{inner_of}
 use Rattle.atspi_bus_steps.specs.Sound.{IsSound}
 use Rattle.atspi_trace.specs.Entry.{entries_of}

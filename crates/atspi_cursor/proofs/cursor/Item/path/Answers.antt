@@ -6,7 +6,7 @@ use Rattle.atspi_codes.specs.TyRefs.{ref_kind}
 use Rattle.atspi_marshal.specs.Reading.{input_of}
 use Rattle.atspi_cursor.proofs.Opens.{path_opened, leaf_kind}
 use Rattle.std.proofs.lemmas.Str.{IsUtf8-from_ascii}
-use Rattle.atspi_valid_names.proofs.NameLemmas.{IsPath-from_test, IsAscii-IsPath}
+use Rattle.atspi_base.proofs.OfValidNames.NameLemmas.{IsPath-from_test, IsAscii-IsPath}
 use Rattle.atspi_cursor.proofs.cursor.Item.path.Goals as goal
 
 pub u32_at-len-requires : goal.u32_at-len-requires

@@ -1,8 +1,8 @@
 use Rattle.std.proofs.Common.{inl, inr, refl}
 use Rattle.std.specs.Prelude.{codes, Some}
 use lib.Utf8.{encode}
-use Rattle.atspi_valid_names.specs.Elements.{are_two_or_more, are_elements, parts_of}
-use Rattle.atspi_valid_names.specs.Names.{is_bus_name}
+use Rattle.atspi_base.specs.valid_names.Elements.{are_two_or_more, are_elements, parts_of}
+use Rattle.atspi_base.specs.valid_names.Names.{is_bus_name}
 use Rattle.atspi_forest.specs.Path.{path_of}
 use Rattle.atspi_trace.specs.Entry.{showed}
 use Rattle.atspi_lawful_examples.proofs.OfTraces.Refusing.{refuses, refuses_all, refuses_call}

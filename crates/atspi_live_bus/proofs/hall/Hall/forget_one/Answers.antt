@@ -1,6 +1,6 @@
 use Rattle.std.proofs.Common.{sym, ap}
 use Rattle.atspi_bus.specs.View.{bus_of}
-use Rattle.atspi_routing.specs.Queues as queues
+use Rattle.atspi_match.specs.routing.Queues as queues
 use Rattle.atspi_live_bus.proofs.Counting.{fewer_told, none_own}
 use Rattle.atspi_live_bus.proofs.Going.{told_own}
 use Rattle.atspi_live_bus.proofs.hall.Hall.forget_one.Goals as goal

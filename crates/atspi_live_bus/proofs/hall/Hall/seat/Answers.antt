@@ -1,5 +1,5 @@
 use Rattle.std.proofs.Common.{ℕ, sym, ap, ◌∙◌}
-use Rattle.atspi_routing.specs.Queues.{joins}
+use Rattle.atspi_match.specs.routing.Queues.{joins}
 use Rattle.atspi_bus.specs.View.{bus_of}
 use Rattle.atspi_live_bus.proofs.hall.Hall.seat.Goals as goal
 

@@ -1,7 +1,7 @@
 use Rattle.std.proofs.Common.{◌<◌, List, length, refl, sym, ap, subst, ◌∙◌, arith}
 use Rattle.atspi_bus.specs.declared.bus.Bus.{Bus}
 use Rattle.atspi_bus.specs.View.{bus_of}
-use Rattle.atspi_routing.specs.Queues as queues
+use Rattle.atspi_match.specs.routing.Queues as queues
 use Rattle.atspi_live_bus.specs.Seats.{held}
 use Rattle.atspi_live_bus.specs.Serving.{Serves}
 use Rattle.atspi_live_bus.specs.declared.link.Link.{Link}

@@ -1,6 +1,6 @@
 use Rattle.std.proofs.Common.{rules, ◌≤◌, length, take, ap, ◌∙◌, arith}
 use Rattle.atspi_auth.specs.Talk.{Standing}
-use Rattle.atspi_routing.specs.Queues.{queue_of}
+use Rattle.atspi_match.specs.routing.Queues.{queue_of}
 use Rattle.atspi_bus.specs.View.{bus_of}
 use Rattle.atspi_live_bus.proofs.Fetching.{fetches_more, front_of}
 use Rattle.atspi_live_bus.proofs.link.Link.fetch.Goals as goal

@@ -1,7 +1,7 @@
 use Rattle.std.proofs.Common.{List, ℕ, Bool, ◌++◌, ◌&&◌, [], not, sym, ap, ◌∙◌, append-nil}
 use Rattle.std.specs.Prelude.{filter}
 use Rattle.std.specs.Option.{option_copied}
-use Rattle.atspi_valid_names.specs.Names.{is_unique_name}
+use Rattle.atspi_base.specs.valid_names.Names.{is_unique_name}
 use Rattle.atspi_names.specs.Queue.{owns}
 use Rattle.atspi_names.specs.Owners.{list_of, owned_by}
 use Rattle.atspi_names.specs.Standings.{has_name}

@@ -1,6 +1,6 @@
 use Rattle.std.proofs.Common.{◌≡◌, ◌++◌, not, ◌&&◌}
 use Rattle.std.specs.Prelude.{filter}
-use Rattle.atspi_valid_names.specs.Names.{is_unique_name}
+use Rattle.atspi_base.specs.valid_names.Names.{is_unique_name}
 use Rattle.atspi_names.specs.Queue.{owns}
 use Rattle.atspi_names.specs.Owners.{list_of}
 use Rattle.atspi_names.proofs.book.Book.append_owned.Given as goal

@@ -2,7 +2,7 @@ use Rattle.std.proofs.Common.{List, ℕ, Bool, ◌++◌, not, sym, ap, ◌∙◌
 use Rattle.std.specs.Prelude.{filter}
 use Rattle.std.specs.Map.{keys_of}
 use Rattle.std.specs.Cmp.Lexicographic.{nat_list_cmp_total}
-use Rattle.atspi_valid_names.specs.Names.{is_unique_name}
+use Rattle.atspi_base.specs.valid_names.Names.{is_unique_name}
 use Rattle.atspi_names.specs.Owners.{well_known}
 use Rattle.atspi_names.proofs.Maps.{entries-map}
 use Rattle.atspi_names.proofs.ListsLemmas.{names_apart}

@@ -1,6 +1,6 @@
 use Rattle.std.proofs.Common.{◌≡◌, ◌++◌, not}
 use Rattle.std.specs.Prelude.{filter}
-use Rattle.atspi_valid_names.specs.Names.{is_unique_name}
+use Rattle.atspi_base.specs.valid_names.Names.{is_unique_name}
 use Rattle.atspi_names.proofs.lists.Lists.append_well_known.Given as goal
 
 abbrev pub invariant-loop-name : goal.invariant-loop-name

@@ -1,6 +1,6 @@
 use Rattle.std.proofs.Common.{ℕ, List, [], ◌∷◌, ◌++◌, sym, ap, subst, ◌∙◌}
-use Rattle.atspi_routing.specs.declared.closing.Why.{Why}
-use Rattle.atspi_routing.specs.Queues.{is_due}
+use Rattle.atspi_match.specs.declared.routing.closing.Why.{Why}
+use Rattle.atspi_match.specs.routing.Queues.{is_due}
 use Rattle.atspi_queues.specs.DueList.{IsDueList}
 use Rattle.atspi_queues.proofs.Due.{list-push}
 use Rattle.atspi_queues.proofs.due_list.DueList.add.Goals as goal

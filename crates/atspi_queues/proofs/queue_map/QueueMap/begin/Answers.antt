@@ -1,7 +1,7 @@
 use Rattle.std.proofs.Common.{sym, ap, subst, ◌∙◌, arith, List, [], ◌++◌, ℕ, length}
 use Rattle.std.specs.Prelude.{IsSome}
 use Rattle.std.specs.FinMap as finmap
-use Rattle.atspi_routing.specs.Queues.{queue_of}
+use Rattle.atspi_match.specs.routing.Queues.{queue_of}
 use Rattle.atspi_queues.proofs.Chains.{get-insert_same, queue_of-insert, insert-insert, remove-insert}
 use Rattle.atspi_queues.proofs.queue_map.QueueMap.begin.Goals as goal
 

@@ -1,7 +1,7 @@
 use Rattle.std.proofs.Common.{refl, sym, ap, subst, List, ℕ, length, ◌≡◌}
 use Rattle.std.specs.Prelude.{◌↔◌}
 use Rattle.atspi_pool.specs.Store.{held, chain_at}
-use Rattle.atspi_routing.specs.Queues.{or_nothing}
+use Rattle.atspi_match.specs.routing.Queues.{or_nothing}
 use Rattle.atspi_queues.proofs.Chains.{get-at, get_none, front-begins}
 use Rattle.atspi_queues.proofs.queue_map.QueueMap.front.Goals as goal
 

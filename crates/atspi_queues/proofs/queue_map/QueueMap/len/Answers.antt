@@ -1,5 +1,5 @@
 use Rattle.std.proofs.Common.{sym, ap, ◌∙◌, List, ℕ, length}
-use Rattle.atspi_routing.specs.Queues.{or_nothing}
+use Rattle.atspi_match.specs.routing.Queues.{or_nothing}
 use Rattle.atspi_queues.proofs.Chains.{get-at, get_none}
 use Rattle.atspi_queues.proofs.queue_map.QueueMap.len.Goals as goal
 

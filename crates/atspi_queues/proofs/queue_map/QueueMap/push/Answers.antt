@@ -1,7 +1,7 @@
 use Rattle.std.proofs.Common.{sym, ap, ◌∙◌, is_some, [], ◌++◌}
 use Rattle.std.specs.FinMap as finmap
 use Rattle.std.proofs.lemmas.Result.{on_ok_weaker}
-use Rattle.atspi_routing.specs.Queues.{or_nothing}
+use Rattle.atspi_match.specs.routing.Queues.{or_nothing}
 use Rattle.atspi_queues.proofs.Chains.{has_queue, none_of}
 use Rattle.atspi_queues.proofs.queue_map.QueueMap.push.Goals as goal
 

@@ -2,7 +2,7 @@ use Rattle.std.proofs.Common.{◌≡◌, ◌+◌, ◌≤◌, ◌++◌, List, ℕ
 use Rattle.std.specs.FinMap as finmap
 use Rattle.atspi_pool.specs.Chains.{pushed}
 use Rattle.atspi_pool.specs.Store.{Store, held, chain_at}
-use Rattle.atspi_routing.specs.Queues.{or_nothing, queue_of}
+use Rattle.atspi_match.specs.routing.Queues.{or_nothing, queue_of}
 use Rattle.atspi_queues.proofs.Chains.{get-at, get_none, changes, one_changed, not_both}
 use Rattle.atspi_queues.proofs.queue_map.QueueMap.push_within.Goals as goal
 

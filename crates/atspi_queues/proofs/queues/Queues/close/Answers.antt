@@ -1,5 +1,5 @@
 use Rattle.std.proofs.Common.{sym, subst}
-use Rattle.atspi_routing.specs.Laws.{AreWithin}
+use Rattle.atspi_match.specs.routing.Laws.{AreWithin}
 use Rattle.atspi_queues.proofs.Within.{within-remove}
 use Rattle.atspi_queues.proofs.queues.Queues.close.Goals as goal
 

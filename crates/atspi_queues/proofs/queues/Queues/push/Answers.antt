@@ -1,7 +1,7 @@
 use Rattle.std.proofs.Common.{ℕ, ◌≤◌, ◌+◌, ◌++◌, length, arith}
 use Rattle.std.specs.FinMap as finmap
 use Rattle.std.proofs.lemmas.List.{length-append}
-use Rattle.atspi_routing.specs.Queues.{queue_of}
+use Rattle.atspi_match.specs.routing.Queues.{queue_of}
 use Rattle.atspi_queues.proofs.Within.{within-insert, within-result}
 use Rattle.atspi_queues.proofs.queues.Queues.push.Goals as goal
 

@@ -1,7 +1,7 @@
 use Rattle.std.proofs.Common.{ℕ, ◌≤◌, ◌+◌, ◌-◌, length, sym, subst, arith}
 use Rattle.std.proofs.lemmas.List.{length-take}
-use Rattle.atspi_routing.specs.Queues.{queue_of}
-use Rattle.atspi_routing.specs.Laws.{AreWithin}
+use Rattle.atspi_match.specs.routing.Queues.{queue_of}
+use Rattle.atspi_match.specs.routing.Laws.{AreWithin}
 use Rattle.atspi_queues.proofs.Within.{within-with}
 use Rattle.atspi_queues.proofs.queues.Queues.take_back.Goals as goal
 

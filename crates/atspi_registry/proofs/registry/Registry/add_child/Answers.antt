@@ -1,4 +1,4 @@
-use Rattle.atspi_valid_names.proofs.NameLemmas.{is_path-from_IsPath}
+use Rattle.atspi_base.proofs.OfValidNames.NameLemmas.{is_path-from_IsPath}
 use Rattle.atspi_registry.proofs.registry.Registry.add_child.Goals as goal
 
 pub path-requires : goal.path-requires

@@ -1,6 +1,6 @@
 use Rattle.std.proofs.Common.{◌≡◌, true, sym, ap, ◌∙◌}
 use Rattle.std.specs.Prelude.{Ok, Err}
-use Rattle.atspi_valid_names.specs.Names.{is_bus_name}
+use Rattle.atspi_base.specs.valid_names.Names.{is_bus_name}
 use Rattle.atspi_header.specs.Names.{fits}
 use Rattle.atspi_header.specs.View.{bytes_of, envelope_at}
 use Rattle.atspi_registry.specs.Steps.{own_name}

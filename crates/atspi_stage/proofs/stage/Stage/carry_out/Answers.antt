@@ -1,5 +1,5 @@
 use Rattle.std.proofs.Common.{Err, sym, ap, ◌∙◌}
-use Rattle.atspi_play.specs.Played.{refused}
+use Rattle.atspi_trace.specs.play.Played.{refused}
 use Rattle.atspi_cast.specs.Refusals.{first_refusal}
 use Rattle.atspi_stage.proofs.Lined.{line_else}
 use Rattle.atspi_cast.proofs.Faults.{err_is}

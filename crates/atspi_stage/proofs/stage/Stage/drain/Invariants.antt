@@ -1,4 +1,4 @@
-use Rattle.atspi_play.specs.Playing.{Playing}
+use Rattle.atspi_trace.specs.play.Playing.{Playing}
 use Rattle.atspi_trace.specs.Work.{draining}
 use Rattle.atspi_stage.specs.Stage.{IsStage}
 use Rattle.atspi_stage.specs.Turns.{PartDone}

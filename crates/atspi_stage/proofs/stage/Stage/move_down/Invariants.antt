@@ -1,5 +1,5 @@
 use Rattle.std.proofs.Common.{◌≡◌, ◌+◌, ◌≤◌, Some}
-use Rattle.atspi_play.specs.Playing.{Playing}
+use Rattle.atspi_trace.specs.play.Playing.{Playing}
 use Rattle.atspi_trace.specs.World.{here, End}
 use Rattle.atspi_trace.specs.Ends.{end_at}
 use Rattle.atspi_stage.specs.Stage.{IsStage}

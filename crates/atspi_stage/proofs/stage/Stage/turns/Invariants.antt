@@ -1,5 +1,5 @@
 use Rattle.std.proofs.Common.{ℕ}
-use Rattle.atspi_play.specs.Playing.{Playing}
+use Rattle.atspi_trace.specs.play.Playing.{Playing}
 use Rattle.atspi_stage.specs.Stage.{IsStage}
 use Rattle.atspi_stage.specs.Worlds.{staged, IsPlaying}
 use Rattle.atspi_stage.proofs.TurnsMade.{SoFar}

@@ -1,0 +1,5 @@
+pub mod Rounds
+pub mod Asked
+pub mod Paced
+pub mod Waiting
+pub mod Granted

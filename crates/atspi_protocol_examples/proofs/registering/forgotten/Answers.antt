@@ -1,6 +1,0 @@
-use Rattle.std.proofs.Common.{refl}
-use Rattle.atspi_protocol_examples.proofs.registering.forgotten.Goals as goal
-
-pub returns : goal.returns
-unfolding lib.Utf8.encode
-returns c = refl

@@ -1,6 +1,0 @@
-use Rattle.std.proofs.Common.{refl}
-use Rattle.atspi_routing_examples.proofs.Known.{known}
-use Rattle.atspi_routing_examples.proofs.conditions.rules.Goals as goal
-
-pub returns-clause-by_owner : goal.returns-clause-by_owner
-returns-clause-by_owner c = simp known refl

@@ -1,5 +1,0 @@
-use Rattle.atspi_valid_names.proofs.WalkLemmas.{Came}
-use Rattle.atspi_valid_names.proofs.elements.are_elements.Given as goal
-
-abbrev pub invariant-loop-byte : goal.invariant-loop-byte
-invariant-loop-byte l = Came l.fn.form l.bytes l.byte-index l.state
