@@ -1,5 +1,5 @@
 //! What every crate of the bus stands on: texts and lists that contracts see as plain data, the outside as two traits,
-//! and fakes of it in memory.
+//! fakes of it in memory, and the names of the wire.
 #![tactic(auto)]
 
 mod bytes;

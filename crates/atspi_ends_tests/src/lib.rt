@@ -1,4 +1,4 @@
-//! Tests of what ends read in messages, through public calls alone: news, calls to an application's objects, and the calls of a reader.
+//! Tests of what ends read in messages, and of a registry and a reader in whole conversations, through public calls alone. What is due was worked out by hand.
 #![tactic(auto)]
 
 #[cfg(test)]
@@ -8,4 +8,8 @@ mod made;
 #[cfg(test)]
 mod news;
 #[cfg(test)]
+mod reader;
+#[cfg(test)]
 mod reader_calls;
+#[cfg(test)]
+mod registry;

@@ -1,4 +1,4 @@
-//! The texts of events, and of a trace with the bytes of its messages.
+//! The texts of events, of messages that are owned, and of a trace with the bytes of its messages.
 #![tactic(auto)]
 
 mod heads;

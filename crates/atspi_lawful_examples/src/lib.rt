@@ -1,4 +1,4 @@
-//! Worked traces, and worked cases of each law of lawful traces. Each case is a clause of a function without a body, with its value worked out by hand, so that
+//! Worked traces, and worked cases of the parts of lawful traces, of each law of them, and of what is played. Each case is a clause of a function without a body, with its value worked out by hand, so that
 //! a definition that says otherwise is refused here.
 #![tactic(auto)]
 

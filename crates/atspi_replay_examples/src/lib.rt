@@ -1,5 +1,5 @@
-//! Worked cases of what a script comes to, with the values worked out by hand from the statuses of `replay` and the rules for its text. Each case is a clause of
-//! a function without a body. So a definition that says otherwise is refused here.
+//! Worked cases of what a script comes to, with the values worked out by hand from the statuses of `replay` and the rules for its text; and of the edits that `make` draws.
+//! Each case is a clause of a function without a body. So a definition that says otherwise is refused here.
 #![tactic(auto)]
 
 pub mod make;

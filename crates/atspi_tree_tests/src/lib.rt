@@ -6,6 +6,8 @@ mod drawn;
 #[cfg(test)]
 mod edits;
 #[cfg(test)]
+mod faces;
+#[cfg(test)]
 mod forest;
 #[cfg(test)]
 mod plain;

@@ -1,0 +1,3 @@
+//! The one test of the system's sockets as a host: two hosts on one path.
+
+mod passing;
