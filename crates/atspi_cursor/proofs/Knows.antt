@@ -17,7 +17,7 @@ use Rattle.atspi_marshal.specs.Faults.{entry_kind, end_of, place_of, inside, lon
 use Rattle.atspi_marshal.specs.Reading.{◌>>=◌, bad, Reader, padding_at, room_at, passing_reason, zeros_in_front, number_at, boolean_at, ended, text_with, text_body_at, path_body_at, long_place, long_at, short_place, short_at, signature_with, signature_body_at, elements_at, as_array, fields_first, array_place, array_body_at, array_at, unless_deep, dictionary_at, fields_at, as_structure, structure_at, single_at, first_in, deep_at, is_structure, level, read}
 use Rattle.atspi_marshal.proofs.Places.{bind_ok, passed, ok_is, aligned-one}
 use Rattle.atspi_marshal.proofs.Levels.{dictionary_is, read_is, level_single, types_in-kinds_of}
-use Rattle.atspi_codes.specs.Codes.{head_code}
+use Rattle.atspi_cursor.specs.codes.Codes.{head_code}
 use Rattle.atspi_cursor.specs.Passing.{after, up_to, fixed_at, number_len}
 use Rattle.atspi_cursor.specs.Known.{is_read, is_variant}
 use Rattle.atspi_cursor.proofs.Passes.{number_fixed, dictionary_forgotten, array_forgotten, structure_forgotten}

@@ -6,3 +6,4 @@ pub mod Texts
 pub mod Knows
 pub mod Opens
 pub mod Owns
+pub mod OfCodes

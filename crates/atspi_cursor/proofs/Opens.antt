@@ -23,7 +23,7 @@ use Rattle.atspi_marshal.specs.Reading.{◌>>=◌, bad, Reader, padding_at, room
 use Rattle.atspi_marshal.proofs.ByteArrays.{bytes_elements, read_byte}
 use Rattle.atspi_marshal.proofs.Places.{aligned-one}
 use Rattle.atspi_marshal.proofs.Levels.{read_is, types_in-kinds_of}
-use Rattle.atspi_codes.specs.Codes.{leaf_of, kinds_at, spells}
+use Rattle.atspi_cursor.specs.codes.Codes.{leaf_of, kinds_at, spells}
 use Rattle.atspi_cursor.specs.Known.{is_read, read_data, read_list, read_fields}
 use Rattle.atspi_cursor.proofs.Knows.{entered, padding_place, room_place, long_is, short_is, array_is}
 

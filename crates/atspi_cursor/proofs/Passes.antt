@@ -9,7 +9,7 @@ use Rattle.atspi_types.specs.Kinds.{Num, byte, i16, u16, i32, u32, i64, u64, dou
 use Rattle.atspi_types.specs.Data.{Data, number_data, boolean_data, text_data, path_data, signature_data, array_data, structure_data, dictionary_data, variant_data}
 use Rattle.atspi_types.specs.SignatureReading.{signature_in}
 use Rattle.atspi_types.specs.declared.fault.Fault.{Fault}
-use Rattle.atspi_codes.specs.Codes as codes
+use Rattle.atspi_cursor.specs.codes.Codes as codes
 use Rattle.atspi_marshal.specs.declared.input.Bound.{Bound}
 use Rattle.atspi_marshal.specs.Input.{Input, number_in, slice_in, aligned}
 use Rattle.atspi_marshal.specs.Faults.{entry_kind, inside, short_in}

@@ -6,7 +6,7 @@ use Rattle.std.proofs.Math.Dec.{eqb-suc-zero}
 use Rattle.std.proofs.lemmas.Bool.{lt-ltb, le-ltb, ltb-true, ltb-false}
 use Rattle.atspi_types.specs.Kinds.{Num, byte, i16, u16, i32, u32, i64, u64, double, width, number_alignment, Kind, number, boolean, text, path, signature, array, structure, variant, dictionary, kinds_of, alignment}
 use Rattle.atspi_types.specs.declared.fault.Fault.{Fault}
-use Rattle.atspi_codes.specs.Codes.{head_code, leaf_of}
+use Rattle.atspi_cursor.specs.codes.Codes.{head_code, leaf_of}
 use Rattle.atspi_marshal.specs.declared.input.Bound.{Bound}
 use Rattle.atspi_marshal.specs.Input.{Input, aligned}
 use Rattle.atspi_marshal.specs.Reading.{bad, room_at, number_at, elements_at, long_at, text_body_at, path_body_at, structure_at, single_at, level, read}

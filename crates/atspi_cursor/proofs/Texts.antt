@@ -9,8 +9,8 @@ use Rattle.atspi_base.specs.ReadsText.{text_in}
 use Rattle.atspi_base.proofs.TextLemmas.{whole}
 use Rattle.atspi_types.specs.SignatureReading.{signature_in}
 use Rattle.atspi_types.specs.declared.fault.Fault.{Fault}
-use Rattle.atspi_codes.specs.TyRefs.{ReadsOne}
-use Rattle.atspi_codes.specs.declared.types.TyRef.{TyRef}
+use Rattle.atspi_cursor.specs.codes.TyRefs.{ReadsOne}
+use Rattle.atspi_cursor.specs.declared.codes.types.TyRef.{TyRef}
 use Rattle.atspi_marshal.proofs.SignatureFaults.{told_place}
 use Rattle.atspi_cursor.specs.Passing.{is_plain}
 

@@ -3,7 +3,7 @@ use Rattle.std.specs.Prelude.{◌≡◌, ℕ, List, [], ◌∷◌, Option, Some,
 use Rattle.atspi_types.specs.Kinds.{Kind}
 use Rattle.atspi_types.specs.Data.{Data}
 use Rattle.atspi_types.specs.declared.fault.Fault.{Fault}
-use Rattle.atspi_codes.specs.TyRefs.{ref_kind, refs_kinds}
+use Rattle.atspi_cursor.specs.codes.TyRefs.{ref_kind, refs_kinds}
 use Rattle.atspi_marshal.specs.Faults.{entry_kind}
 use Rattle.atspi_marshal.specs.Reading.{input_of, read, elements_at, struct_of}
 use Rattle.atspi_cursor.specs.Known.{read_data, read_list, read_fields}

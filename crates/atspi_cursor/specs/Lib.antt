@@ -3,3 +3,4 @@ pub mod Items
 pub mod Known
 pub mod Passing
 pub mod Paths
+pub mod codes

@@ -2,18 +2,18 @@
 
 ghost use Rattle.std.specs.Prelude.{◌≡◌, ◌<◌, ◌≤◌, ◌↔◌, length, IsTrue};
 ghost use Rattle.atspi_types.specs.Kinds.{array, number, byte};
-ghost use Rattle.atspi_codes.specs.TyRefs.{ref_kind, refs_kinds};
+ghost use Rattle.atspi_cursor.specs.codes.TyRefs.{ref_kind, refs_kinds};
 ghost use Rattle.atspi_marshal.specs.Input.{PlacesFit};
 ghost use Rattle.atspi_marshal.specs.Reading.{input_of, read, elements_at};
 ghost use Rattle.atspi_marshal.specs.Faults.{entry_kind};
 ghost use Rattle.atspi_cursor.specs.Known.{is_read};
 ghost use Rattle.atspi_cursor.specs.Passing.{read_all};
 
+use crate::codes::{TyRef, TysRef};
 use crate::jumping::jump;
 use crate::passing::fields;
 use crate::plain::align_up;
 use crate::text::{known_type, known_types, slice};
-use atspi_codes::{TyRef, TysRef};
 use atspi_marshal::{Bound, Marshalled, byte_at, u16_at, u32_at, u64_at};
 use atspi_types::{Fault, Order};
 
@@ -259,7 +259,7 @@ impl<'a> Item<'a> {
     ghost use Rattle.std.specs.Int.{w16, w32, w64, cast_unsigned};
     ghost use Rattle.atspi_types.specs.Kinds.{byte, i16, u16, i32, u32, i64, u64, double, number, boolean, text, path, signature, array, variant, kinds_of};
     ghost use Rattle.atspi_types.specs.Data.{variant_data, signature_data, dictionary_data, array_data, structure_data, number_data, boolean_data, text_data, path_data, items_of};
-    ghost use Rattle.atspi_codes.specs.Codes.{is_array, is_structure, is_dictionary};
+    ghost use Rattle.atspi_cursor.specs.codes.Codes.{is_array, is_structure, is_dictionary};
     ghost use Rattle.atspi_marshal.specs.Reading.{entries_in};
     ghost use Rattle.atspi_cursor.specs.Items.{item_data, item_kind, elements_data, elements_kind, entries_data, key_kind, value_kind, fields_data};
 

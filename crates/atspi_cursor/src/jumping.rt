@@ -3,18 +3,18 @@
 ghost use Rattle.std.specs.Prelude.{◌≡◌, ◌<◌, ◌≤◌, ◌+◌, length, false, IsTrue, Ok};
 ghost use Rattle.std.specs.Int.{w32};
 ghost use Rattle.atspi_types.specs.Kinds.{variant};
-ghost use Rattle.atspi_codes.specs.TyRefs.{ref_kind, refs_kinds};
-ghost use Rattle.atspi_codes.specs.Shapes.{shape_kind};
+ghost use Rattle.atspi_cursor.specs.codes.TyRefs.{ref_kind, refs_kinds};
+ghost use Rattle.atspi_cursor.specs.codes.Shapes.{shape_kind};
 ghost use Rattle.atspi_marshal.specs.Input.{number_in, byte_in, aligned, PlacesFit, ReachTo};
 ghost use Rattle.atspi_marshal.specs.Faults.{end_of, place_of};
 ghost use Rattle.atspi_marshal.specs.Reading.{input_of, read, is_structure};
 ghost use Rattle.atspi_cursor.specs.Passing.{after, read_all};
 ghost use Rattle.atspi_cursor.specs.Known.{is_read, is_variant};
 
+use crate::codes::{Shape, TyRef, TysRef};
 use crate::passing::number_size;
 use crate::plain::align_up;
 use crate::text::known_type;
-use atspi_codes::{Shape, TyRef, TysRef};
 use atspi_marshal::{Bound, Marshalled, byte_at, u32_at};
 
 /// The place behind a number of `size` bytes.

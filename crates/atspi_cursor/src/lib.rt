@@ -1,6 +1,8 @@
-//! Values that are read where they lie: bytes are passed once, which keeps nothing, and are read in place from then on.
+//! Values that are read where they lie: bytes are passed once, which keeps nothing, and are read in place from then on; and types that are
+//! read from the codes that spell them (`codes`).
 #![tactic(auto)]
 
+pub mod codes;
 mod cursor;
 pub mod examples;
 mod jumping;

@@ -9,15 +9,15 @@ ghost use Rattle.atspi_types.specs.KindView.{kind_of};
 ghost use Rattle.atspi_types.specs.Data.{text_data, path_data, number_data};
 ghost use Rattle.atspi_types.specs.DataView.{data_of, all_data, all_pairs};
 ghost use Rattle.atspi_types.specs.SignatureView.{signature_kinds};
-ghost use Rattle.atspi_codes.specs.TyRefs.{ref_kind, refs_kinds};
+ghost use Rattle.atspi_cursor.specs.codes.TyRefs.{ref_kind, refs_kinds};
 ghost use Rattle.atspi_marshal.specs.Reading.{structs_in};
 ghost use Rattle.atspi_cursor.specs.Known.{is_simple};
 ghost use Rattle.atspi_cursor.specs.Items.{item_data, item_kind, elements_data, entries_data, fields_data};
 
+use crate::codes::{TyRef, TysRef};
 use crate::cursor::{Elements, Entries, Fields, Item};
 use atspi_base::valid_names::{NameFault, Path};
 use atspi_base::{NoMemory, Text};
-use atspi_codes::{TyRef, TysRef};
 use atspi_types::{Pairs, ReadFault, Signature, Ty, Value, Values};
 use std::alloc::Global;
 

@@ -3,17 +3,17 @@
 ghost use Rattle.std.specs.Prelude.{◌≡◌, ◌<◌, ◌≤◌, ◌+◌, ◌-◌, ◌==◌, true, [], ◌∷◌, IfOk, Err};
 ghost use Rattle.std.specs.Int.{w32};
 ghost use Rattle.atspi_types.specs.Kinds.{alignment, structure, kinds_of};
-ghost use Rattle.atspi_codes.specs.Codes.{leaf_of};
-ghost use Rattle.atspi_codes.specs.TyRefs.{ref_kind, refs_kinds};
-ghost use Rattle.atspi_codes.specs.Shapes.{shape_kind};
+ghost use Rattle.atspi_cursor.specs.codes.Codes.{leaf_of};
+ghost use Rattle.atspi_cursor.specs.codes.TyRefs.{ref_kind, refs_kinds};
+ghost use Rattle.atspi_cursor.specs.codes.Shapes.{shape_kind};
 ghost use Rattle.atspi_marshal.specs.Input.{number_in, byte_in, aligned, ReachTo};
 ghost use Rattle.atspi_marshal.specs.Faults.{entry_kind};
 ghost use Rattle.atspi_marshal.specs.Reading.{input_of, read, single_at, array_place, array_body_at, array_at, dictionary_at, dictionary_body_at, structure_at, variant_body_at, inner_at, elements_at, short_at, deep_at, first_of};
 ghost use Rattle.atspi_cursor.specs.Passing.{after, up_to, read_all, numbers_at, number_len};
 
+use crate::codes::{Shape, TyRef, TysRef};
 use crate::plain::{fault, padding, pass_boolean, pass_fixed, pass_number, room};
 use crate::text::{pass_path, pass_signature, pass_text, short, type_at};
-use atspi_codes::{Shape, TyRef, TysRef};
 use atspi_marshal::{Bound, Marshalled, byte_at, u32_at};
 use atspi_types::Fault;
 

@@ -5,8 +5,8 @@ ghost use Rattle.std.specs.Int.{w32};
 ghost use Rattle.std.specs.List.{list_all};
 ghost use Rattle.atspi_base.specs.ReadsText.{ReadsStr, StrPlaceBelow};
 ghost use Rattle.atspi_types.specs.SignatureReading.{signature_in};
-ghost use Rattle.atspi_codes.specs.Codes.{kinds_at, spells};
-ghost use Rattle.atspi_codes.specs.TyRefs.{ref_kind, refs_kinds, refs_read, ReadsOne};
+ghost use Rattle.atspi_cursor.specs.codes.Codes.{kinds_at, spells};
+ghost use Rattle.atspi_cursor.specs.codes.TyRefs.{ref_kind, refs_kinds, refs_read, ReadsOne};
 ghost use Rattle.atspi_marshal.specs.Faults.{short_in};
 ghost use Rattle.atspi_marshal.specs.Input.{number_in, byte_in, PlacesFit, ReachTo};
 ghost use Rattle.atspi_marshal.specs.Reading.{input_of, long_place, short_place, long_at, short_at, text_body_at, path_body_at, signature_body_at};
@@ -15,10 +15,10 @@ ghost use Rattle.atspi_cursor.specs.Paths.{precede};
 ghost use Rattle.atspi_cursor.specs.Paths as definitions;
 ghost use Rattle.atspi_base.specs.valid_names.Names as names;
 
+use crate::codes::{TyRef, TysRef};
 use crate::plain::{fault, room};
 use atspi_base::valid_names::is_path;
 use atspi_base::{TextFault, read_str};
-use atspi_codes::{TyRef, TysRef};
 use atspi_marshal::{Bound, Marshalled, byte_at, u32_at};
 use atspi_types::Fault;
 

@@ -5,8 +5,8 @@ use Rattle.atspi_types.specs.Data.{Data}
 use Rattle.atspi_types.specs.declared.fault.Fault.{Fault}
 use Rattle.atspi_types.specs.SignatureFaults.{token_of}
 use Rattle.atspi_types.specs.SignatureReading.{signature_in, walk, step_at, refusal, with_token, end_at}
-use Rattle.atspi_codes.specs.TyRefs.{ref_kind, ReadsOne}
-use Rattle.atspi_codes.specs.declared.types.TyRef.{TyRef}
+use Rattle.atspi_cursor.specs.codes.TyRefs.{ref_kind, ReadsOne}
+use Rattle.atspi_cursor.specs.declared.codes.types.TyRef.{TyRef}
 use Rattle.atspi_marshal.specs.Reading.{◌>>=◌, bad}
 use Rattle.atspi_cursor.specs.Passing.{after}
 use Rattle.atspi_message.specs.Reading.{Found, dropped, other_type}

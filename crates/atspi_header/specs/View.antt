@@ -4,8 +4,8 @@ use Rattle.std.specs.Borrow.{Bor}
 use Rattle.atspi_types.specs.Kinds.{u32, kinds_of}
 use Rattle.atspi_types.specs.Data.{Data, number_data, text_data, path_data, signature_data}
 use Rattle.atspi_types.specs.declared.fault.Fault.{Fault}
-use Rattle.atspi_codes.specs.TyRefs.{refs_kinds}
-use Rattle.atspi_codes.specs.declared.types.TysRef.{TysRef}
+use Rattle.atspi_cursor.specs.codes.TyRefs.{refs_kinds}
+use Rattle.atspi_cursor.specs.declared.codes.types.TysRef.{TysRef}
 use Rattle.atspi_cursor.specs.Items.{fields_data}
 use Rattle.atspi_message.specs.Envelope.{Envelope}
 use Rattle.atspi_message.specs.FieldsView.{descriptors_of}

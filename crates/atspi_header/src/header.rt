@@ -4,7 +4,7 @@ ghost use Rattle.std.specs.Prelude.{◌≡◌, ◌<◌, ◌≤◌, ◌+◌, None
 ghost use Rattle.atspi_types.specs.Kinds.{u32, variant, kinds_of};
 ghost use Rattle.atspi_types.specs.Data.{number_data};
 ghost use Rattle.atspi_types.specs.SignatureReading.{signature_in};
-ghost use Rattle.atspi_codes.specs.TyRefs.{refs_kinds};
+ghost use Rattle.atspi_cursor.specs.codes.TyRefs.{refs_kinds};
 ghost use Rattle.atspi_marshal.specs.Input.{byte_in, ReachTo};
 ghost use Rattle.atspi_marshal.specs.Faults.{short_in};
 ghost use Rattle.atspi_marshal.specs.Reading.{input_of, read, short_at, signature_body_at};
@@ -15,7 +15,7 @@ ghost use Rattle.atspi_header.specs.View.{found_in, types_value, Reads};
 
 use crate::code::{Code, NameCode, letter_of};
 use crate::name::name;
-use atspi_codes::{TyRef, TysRef};
+use atspi_cursor::codes::{TyRef, TysRef};
 use atspi_cursor::{fault, pass, room, short, types_at};
 use atspi_marshal::{Bound, Marshalled, byte_at, u32_at};
 use atspi_types::Fault;

@@ -2,7 +2,7 @@
 
 ghost use Rattle.std.specs.Prelude.{◌≡◌, ◌<◌, ◌≤◌, ℕ, List, Err, length, take, drop, IfOk, IfErr, IsOkAnd, IsErrOf, if◌then◌else◌};
 ghost use Rattle.atspi_types.specs.Kinds.{kinds_of};
-ghost use Rattle.atspi_codes.specs.TyRefs.{refs_kinds};
+ghost use Rattle.atspi_cursor.specs.codes.TyRefs.{refs_kinds};
 ghost use Rattle.atspi_marshal.specs.Input.{PlacesFit};
 ghost use Rattle.atspi_cursor.specs.Items.{fields_data};
 ghost use Rattle.atspi_message.specs.Envelope.{Envelope};
@@ -15,7 +15,7 @@ ghost use Rattle.atspi_header.specs.Parsing.{IsReadOrTold};
 
 use crate::header::Header;
 use crate::message::MessageRef;
-use atspi_codes::TysRef;
+use atspi_cursor::codes::TysRef;
 use atspi_cursor::{Fields, fault, padding};
 use atspi_marshal::{Bound, Marshalled, u32_at};
 use atspi_types::{Fault, Order};

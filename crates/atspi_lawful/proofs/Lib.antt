@@ -14,3 +14,10 @@ pub mod OfViews
 pub mod OfFolds
 pub mod OfDrops
 pub mod OfLaws
+pub mod OfQuiet
+pub mod OfReaders
+pub mod OfNames
+pub mod OfSigned
+pub mod OfAnswered
+pub mod OfMissed
+pub mod OfEnds

@@ -14,3 +14,9 @@ pub mod views
 pub mod folds
 pub mod drops
 pub mod laws
+pub mod signed
+pub mod answered
+pub mod quiet
+pub mod readers
+pub mod missed
+pub mod exits

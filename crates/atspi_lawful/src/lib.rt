@@ -1,10 +1,12 @@
 //! What lawful traces meet: the laws in the words of a trace, and each of them proved of every lawful trace by induction along it. Here stand the induction
-//! itself and the laws of steps, numbers, links, announcements, and of what readers show and speak; the crates above have those of ends (`atspi_lawful_ends`),
-//! of caches (`atspi_lawful_caches`) and of worlds at rest (`atspi_lawful_settled`). A module is one law, or what several of them share.
+//! itself and the laws of steps, numbers, links, announcements, of what readers show and speak, and of each end; the crate above has those of caches and of
+//! worlds at rest (`atspi_lawful_caches`). A module is one law, or what several of them share.
 #![tactic(auto)]
 
+pub mod answered;
 pub mod delivered;
 pub mod drops;
+pub mod exits;
 pub mod folds;
 pub mod heard;
 pub mod held;
@@ -12,9 +14,13 @@ pub mod laws;
 pub mod links;
 pub mod living;
 pub mod lost;
+pub mod missed;
 pub mod order;
 pub mod own;
+pub mod quiet;
+pub mod readers;
 pub mod serials;
+pub mod signed;
 pub mod steps;
 pub mod taken;
 pub mod turns;

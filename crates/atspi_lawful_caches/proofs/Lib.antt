@@ -1,3 +1,4 @@
 pub mod OfCaches
 pub mod OfServed
 pub mod OfWays
+pub mod OfSettled

@@ -1,3 +1,4 @@
 pub mod caches
 pub mod ways
 pub mod served
+pub mod settled

@@ -5,7 +5,7 @@ ghost use Rattle.atspi_lines.specs.declared.line.Party.TheVariants.{App, Reader}
 ghost use Rattle.atspi_trace.specs.Entry.{got, quiet};
 ghost use Rattle.atspi_lawful_examples.specs.caches.Cases.{told};
 ghost use Rattle.atspi_lawful_examples.specs.answered.Cases.{text_told, nothing_told_of, unknown_told};
-ghost use Rattle.atspi_lawful_ends.specs.answered.Laws.{IsItemsTold, IsPartTold};
+ghost use Rattle.atspi_lawful.specs.answered.Laws.{IsItemsTold, IsPartTold};
 
 /// An application without a tree has no items to tell. Nothing is said of what was not sent, and of what no call of that reader asked for.
 pub fn items_as_sent()

@@ -3,7 +3,7 @@
 ghost use Rattle.std.specs.Prelude.{[], ◌∷◌};
 ghost use Rattle.atspi_lines.specs.declared.line.Party.TheVariants.{Bus, Registry, App, Reader};
 ghost use Rattle.atspi_trace.specs.Entry.{got, gone, quiet};
-ghost use Rattle.atspi_lawful_ends.specs.exits.Laws.{ComesBeforeEnd, HoldsNoMore};
+ghost use Rattle.atspi_lawful.specs.exits.Laws.{ComesBeforeEnd, HoldsNoMore};
 ghost use Rattle.atspi_lawful_examples.specs.caches.Cases.{told, loaded};
 
 /// Behind the news that an application ended its reader takes no message of it; another reader may, which has not told that yet, and another application's

@@ -13,7 +13,7 @@ ghost use Rattle.atspi_protocol.specs.registering.Room.{owner_changed};
 ghost use Rattle.atspi_trace.specs.Entry.{sent, got, quiet};
 ghost use Rattle.atspi_trace.specs.Hearing.{patterns_in};
 ghost use Rattle.atspi_lawful_examples.specs.caches.Cases.{told, renamed, described};
-ghost use Rattle.atspi_lawful_ends.specs.missed.Laws.{IsNoSignal, TookAll, IsHeardOf, AreHeardOf, TakesNothingBack, hearing, AreNamed, IsNamed, ListIsAsTold, TakesAway, IsPastList, heard_on};
+ghost use Rattle.atspi_lawful.specs.missed.Laws.{IsNoSignal, TookAll, IsHeardOf, AreHeardOf, TakesNothingBack, hearing, AreNamed, IsNamed, ListIsAsTold, TakesAway, IsPastList, heard_on};
 ghost use Rattle.atspi_lawful_examples.specs.missed.Cases.{listening_by, telling, listing};
 
 /// A signal of the application between two messages is one that is missed; one of another application is not.

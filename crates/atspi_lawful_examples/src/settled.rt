@@ -12,7 +12,7 @@ ghost use Rattle.atspi_trace.specs.Entry.{changed, quiet};
 ghost use Rattle.atspi_lawful_examples.specs.caches.Cases.{its_name};
 ghost use Rattle.atspi_lawful_examples.specs.traces.Cases.{button, stopped_world};
 ghost use Rattle.atspi_lawful_examples.specs.settled.Cases.{asked_all, asker, greeted, given_name, shown_name, asks_text, asked_behind, asked_before, row_with, at_rest, with_news};
-ghost use Rattle.atspi_lawful_settled.specs.settled.Laws.{NothingWaits, BeginsWell, IsAsked, AsksOfNode, IsPartAsked, ArePartsAsked, HasAskedAll};
+ghost use Rattle.atspi_lawful_caches.specs.settled.Laws.{NothingWaits, BeginsWell, IsAsked, AsksOfNode, IsPartAsked, ArePartsAsked, HasAskedAll};
 
 /// Nothing waits in a world with empty links; where a message waits for a reader, something does.
 pub fn what_waits()

@@ -5,7 +5,7 @@ ghost use Rattle.atspi_forest.specs.declared.step.Step.TheVariants.{Remove};
 ghost use Rattle.atspi_names.specs.Owners.{unique_name};
 ghost use Rattle.atspi_trace.specs.Entry.{changed, quiet};
 ghost use Rattle.atspi_lawful_examples.specs.signed.Cases.{greeted, removed_as};
-ghost use Rattle.atspi_lawful_ends.specs.signed.Laws.{IsItsName, IsSignedTruly};
+ghost use Rattle.atspi_lawful.specs.signed.Laws.{IsItsName, IsSignedTruly};
 
 /// The first that greets the bus is `:1.1`, and nothing else; any name may be that of an application that has none yet.
 pub fn its_own_name()

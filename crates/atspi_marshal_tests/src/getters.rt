@@ -2,7 +2,7 @@
 
 use crate::marshal::append;
 use atspi_base::Bytes;
-use atspi_codes::TysRef;
+use atspi_cursor::codes::TysRef;
 use atspi_cursor::{Fields, Item};
 use atspi_types::Order;
 use std::alloc::Global;

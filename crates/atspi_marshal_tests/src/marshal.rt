@@ -19,7 +19,7 @@ mod signatures;
 mod writing;
 
 use atspi_base::Bytes;
-use atspi_codes::{TyRef, TysRef};
+use atspi_cursor::codes::{TyRef, TysRef};
 use atspi_cursor::{Fields, Item, pass};
 use atspi_marshal::{Bound, Marshalled, decode, encode, is_read_again, no_front_of_another};
 use atspi_types::{Fault, Order, ReadFault, Signature, Ty, Value, ValueRef};

@@ -2,7 +2,7 @@
 
 use crate::marshal::told;
 use atspi_base::Bytes;
-use atspi_codes::TysRef;
+use atspi_cursor::codes::TysRef;
 use atspi_cursor::Fields;
 use atspi_types::{Order, ValueRef, Values};
 use std::alloc::Global;

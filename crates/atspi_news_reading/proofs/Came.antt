@@ -8,7 +8,7 @@ use Rattle.atspi_types.specs.Data.{Data, number_data, text_data, path_data, arra
 use Rattle.atspi_types.proofs.DataLemmas.{values_in-items_of}
 use Rattle.atspi_base.specs.valid_names.Names.{IsPath, is_path}
 use Rattle.atspi_base.proofs.OfValidNames.NameLemmas.{is_path-from_IsPath}
-use Rattle.atspi_codes.specs.Codes.{is_array, is_structure, leaf_of}
+use Rattle.atspi_cursor.specs.codes.Codes.{is_array, is_structure, leaf_of}
 use Rattle.atspi_cursor.specs.Items.{item_data, item_kind, elements_data}
 use Rattle.atspi_cursor.specs.declared.cursor.Item.{Item}
 use Rattle.atspi_cursor.specs.declared.cursor.Elements.{Elements}

@@ -2,7 +2,7 @@
 use Rattle.std.proofs.Common.{◌≡◌, List, ◌∷◌, None, IsTrue, refl}
 use Rattle.atspi_types.specs.Kinds.{number, text, path, variant, byte, i16, u16, i32, u32, i64, u64, double}
 use Rattle.atspi_types.specs.Data.{Data, number_data, boolean_data, text_data, path_data, signature_data, array_data, structure_data, dictionary_data, variant_data, type_of}
-use Rattle.atspi_codes.specs.Codes.{is_array, is_structure}
+use Rattle.atspi_cursor.specs.codes.Codes.{is_array, is_structure}
 use Rattle.atspi_protocol.specs.news.Arguments.{then_text, then_path, then_signed, then_unsigned, then_variant, then_texts, then_numbers, reference_in}
 use Rattle.atspi_news_reading.specs.Seen.{together}
 

@@ -5,9 +5,9 @@ use Rattle.atspi_types.specs.Kinds.{Kind, number, text, variant, i32, u32, kinds
 use Rattle.atspi_types.specs.Data.{Data, number_data, text_data, array_data, structure_data, variant_data, items_of, type_of}
 use Rattle.atspi_types.specs.Signatures.{signature_bytes}
 use Rattle.atspi_types.proofs.DataLemmas.{values_in-items_of}
-use Rattle.atspi_codes.specs.Codes.{is_array, is_structure}
-use Rattle.atspi_codes.specs.TyRefs.{refs_kinds}
-use Rattle.atspi_codes.specs.declared.types.TysRef.{TysRef}
+use Rattle.atspi_cursor.specs.codes.Codes.{is_array, is_structure}
+use Rattle.atspi_cursor.specs.codes.TyRefs.{refs_kinds}
+use Rattle.atspi_cursor.specs.declared.codes.types.TysRef.{TysRef}
 use Rattle.atspi_marshal.specs.Reading.{input_of}
 use Rattle.atspi_cursor.specs.Items.{fields_data, fields_kinds}
 use Rattle.atspi_cursor.specs.declared.cursor.Fields.{Fields}

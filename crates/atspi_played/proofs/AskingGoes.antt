@@ -12,7 +12,7 @@ use Rattle.atspi_protocol.specs.following.Wishes.{wishes}
 use Rattle.atspi_trace.specs.World.{Fate, waits, failed, Asked, Hearer}
 use Rattle.atspi_trace.specs.Hearing.{is_answered, patterns_in, registers, rules_in, listens, may_ask}
 use Rattle.atspi_trace.specs.Causes.{asks}
-use Rattle.atspi_lawful_settled.specs.settled.Laws.{question_of}
+use Rattle.atspi_lawful_caches.specs.settled.Laws.{question_of}
 use Rattle.atspi_lawful.proofs.OfOrder.Parties.{false_true, all_append}
 use Rattle.atspi_trace.specs.play.Playing.{silent}
 use Rattle.atspi_played.proofs.Facts.{Waits, IsLate, InOrder, NeverFailed, IsStarting, KnowsNothing, IsStarted, IsNamed, AsksWell}

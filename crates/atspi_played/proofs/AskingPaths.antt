@@ -30,7 +30,7 @@ use Rattle.atspi_lawful.proofs.OfOrder.Parties.{no_none, same_some, all_append}
 use Rattle.atspi_lawful.proofs.OfSteps.Trees.{count_more}
 use Rattle.atspi_lawful.proofs.OfSteps.LawSteps.{steps_apply}
 use Rattle.atspi_lawful.proofs.OfViews.LawViews.{trees_stand}
-use Rattle.atspi_lawful_ends.proofs.OfAnswered.Counted.{sent_counted}
+use Rattle.atspi_lawful.proofs.OfAnswered.Counted.{sent_counted}
 use Rattle.atspi_lawful_caches.proofs.OfCaches.LawCaches.{caches_follow}
 use Rattle.atspi_lawful_caches.proofs.OfServed.LawServed.{steps_asked}
 use Rattle.atspi_played.proofs.Facts.{Ground, AreDistinct, IsSeen, IsOfApp, SeesWell}

@@ -21,7 +21,7 @@ use Rattle.atspi_protocol.specs.following.Known.{references_among, made_known, u
 use Rattle.atspi_protocol.specs.following.Replied.{is_reply_to, changed, loaded, told_part, refused_part, with_items, with_part}
 use Rattle.atspi_trace.specs.World.{waits, returned, failed, Asked, Holding, Hearer, World}
 use Rattle.atspi_trace.specs.Hearing.{fate_of, answered_by, question_returned, registry_after, names_told, is_answered}
-use Rattle.atspi_lawful_settled.specs.settled.Laws.{question_of}
+use Rattle.atspi_lawful_caches.specs.settled.Laws.{question_of}
 use Rattle.atspi_lawful.proofs.OfOrder.Parties.{false_true, all_append, all_front}
 use Rattle.atspi_played.proofs.Facts.{RepliesWell, NeverFailed, KnowsNothing, IsStarted, IsNamed, AreDistinct, AsksWell}
 use Rattle.atspi_played.proofs.AskingWords.{all_weaker, all_filter, all_of_test, test_of_all, any_front, any_back, or_true, bytes_same, KeepsName, changed_all, changed_distinct, filter_distinct, fold_all, fold_distinct}

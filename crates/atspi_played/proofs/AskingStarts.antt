@@ -7,7 +7,7 @@ use Rattle.atspi_protocol.specs.declared.following.question.Question.TheVariants
 use Rattle.atspi_protocol.specs.following.ReaderState.{start_calls}
 use Rattle.atspi_trace.specs.World.{Fate, waits, returned, failed, Asked, Hearer}
 use Rattle.atspi_trace.specs.Hearing.{is_answered, patterns_in, registers, is_registered, rules_in, listens, is_listening, may_ask}
-use Rattle.atspi_lawful_settled.specs.settled.Laws.{question_of}
+use Rattle.atspi_lawful_caches.specs.settled.Laws.{question_of}
 use Rattle.atspi_lawful.proofs.OfOrder.Parties.{false_true}
 use Rattle.atspi_played.proofs.Facts.{NeverFailed}
 use Rattle.atspi_played.proofs.AskingWords.{all_of_test, or_true, bytes_same}

@@ -30,7 +30,7 @@ use Rattle.atspi_lawful.specs.laws.Words.{name_in}
 use Rattle.atspi_lawful.specs.laws.NineLaws.{Everywhere}
 use Rattle.atspi_lawful.specs.order.Scripts.{CanAllStand}
 use Rattle.atspi_lawful_caches.specs.caches.Caches.{followed}
-use Rattle.atspi_lawful_settled.specs.settled.Laws.{question_of, IsAsked, IsPartAsked, AsksOfNode}
+use Rattle.atspi_lawful_caches.specs.settled.Laws.{question_of, IsAsked, IsPartAsked, AsksOfNode}
 use Rattle.atspi_lawful.proofs.OfOrder.Along.{Keeps}
 use Rattle.atspi_trace.specs.play.Playing.{Playing}
 

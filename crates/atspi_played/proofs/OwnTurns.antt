@@ -39,7 +39,7 @@ use Rattle.atspi_lawful.proofs.OfDelivered.Bounds.{NoneIsBus}
 use Rattle.atspi_lawful.proofs.OfDelivered.LawLinks.{Under_links, Delivered, delivered_keeps}
 use Rattle.atspi_lawful.proofs.OfTurns.Rising.{Rises, higher}
 use Rattle.atspi_lawful.proofs.OfTurns.LawTurns.{Beneath_turns, Turned, Joined, turns_keep}
-use Rattle.atspi_lawful_ends.proofs.OfReaders.Fates.{both_keep}
+use Rattle.atspi_lawful.proofs.OfReaders.Fates.{both_keep}
 use Rattle.atspi_played.proofs.Serials.{serial_if, serials, coming, serials_more, no_serials, same_serials, other_taker, other_sender, rises_front}
 use Rattle.atspi_played.proofs.OwnLinks.{RisesTo, AllRise, KeepsRise, keeping_rise, rise_over, takes_rise, ends_rise}
 

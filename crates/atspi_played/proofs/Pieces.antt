@@ -21,7 +21,7 @@ use Rattle.atspi_trace.specs.Causes.{Cause, renews, starts_reader, calls, gets, 
 use Rattle.atspi_trace.specs.Work.{if_held}
 use Rattle.atspi_trace.specs.Due.{freed, asks_at, IsSettled}
 use Rattle.atspi_lawful.specs.laws.NineLaws.{Everywhere}
-use Rattle.atspi_lawful_settled.specs.settled.Laws.{AsksOfNode, NothingWaits}
+use Rattle.atspi_lawful_caches.specs.settled.Laws.{AsksOfNode, NothingWaits}
 use Rattle.atspi_lawful.proofs.OfOrder.Allowed.{IsHere, Allowed, Moves, Asks}
 use Rattle.atspi_trace.specs.play.Playing.{Playing, silent, held_by, unique_in, view_rows}
 use Rattle.atspi_trace.specs.play.Plays.{told}

@@ -21,7 +21,7 @@ use Rattle.atspi_trace.specs.Work.{turning, resting, next_turn, next_of_turns}
 use Rattle.atspi_trace.specs.Due.{is_lost, asks_at}
 use Rattle.atspi_lawful.specs.order.Scripts.{CanStand, CanAllStand}
 use Rattle.atspi_lawful.proofs.OfOrder.Growing.{Shaped, Nothing, And}
-use Rattle.atspi_lawful_ends.proofs.OfNames.Bounds.{Bounded, bounds_keep}
+use Rattle.atspi_lawful.proofs.OfNames.Bounds.{Bounded, bounds_keep}
 use Rattle.atspi_trace.specs.play.Playing.{Playing, Happened}
 use Rattle.atspi_trace.specs.play.Plays.{asked_with, asked, only, reader_got, got_at, got_by, plays}
 use Rattle.atspi_trace.specs.play.Played.{PlaysOut, at_rest, caused, IsPlayed, did}

@@ -23,8 +23,8 @@ use Rattle.atspi_lawful.proofs.OfOrder.Shape.{Shape}
 use Rattle.atspi_lawful.proofs.OfOrder.Told.{Tells, told_keeps}
 use Rattle.atspi_lawful.proofs.OfLost.Alive.{OnlyDrops, written_only}
 use Rattle.atspi_lawful.proofs.OfLost.Drops.{is_drop, DropsLast, cause_owes}
-use Rattle.atspi_lawful_ends.proofs.OfQuiet.Here.{Present, present_keeps}
-use Rattle.atspi_lawful_settled.proofs.OfSettled.Settling_law.{registry_is_live}
+use Rattle.atspi_lawful.proofs.OfQuiet.Here.{Present, present_keeps}
+use Rattle.atspi_lawful_caches.proofs.OfSettled.Settling_law.{registry_is_live}
 use Rattle.atspi_trace.specs.play.Playing.{Playing}
 use Rattle.atspi_trace.specs.play.Plays.{plays}
 use Rattle.atspi_trace.specs.play.Played.{refused, IsPlayed}

@@ -12,7 +12,7 @@ use Rattle.atspi_trace.specs.Ends.{with_end}
 use Rattle.atspi_trace.specs.Hearing.{question_in, holding_of, app_ended, lines_if_held, last_lines, ended_entries, heard_entries}
 use Rattle.atspi_lines.specs.declared.line.Party.{Party}
 use Rattle.atspi_lawful.specs.laws.NineLaws.{Everywhere}
-use Rattle.atspi_lawful_settled.specs.settled.Laws.{AsksOfNode}
+use Rattle.atspi_lawful_caches.specs.settled.Laws.{AsksOfNode}
 use Rattle.atspi_lawful.proofs.OfOrder.Parties.{no_none}
 use Rattle.atspi_lawful.proofs.OfOrder.Each.{Each, everywhere, each_more, each_map, each_of}
 use Rattle.atspi_lawful.proofs.OfOrder.BusWords.{all_any}

@@ -21,13 +21,13 @@ use Rattle.atspi_trace.specs.Causes.{Cause, renews, starts_reader, calls, shows,
 use Rattle.atspi_trace.specs.Work.{Work, cause, next_of}
 use Rattle.atspi_trace.specs.Due.{is_lost}
 use Rattle.atspi_lawful.specs.laws.NineLaws.{Everywhere}
-use Rattle.atspi_lawful_settled.specs.settled.Laws.{AsksOfNode}
+use Rattle.atspi_lawful_caches.specs.settled.Laws.{AsksOfNode}
 use Rattle.atspi_lawful.proofs.OfOrder.Parties.{no_none, same_some, false_true}
 use Rattle.atspi_lawful.proofs.OfOrder.Effects.{reader_role}
 use Rattle.atspi_lawful.proofs.OfOrder.Plain.{user_plain}
 use Rattle.atspi_lawful.proofs.OfOrder.Shape.{RoleFits, Shape}
 use Rattle.atspi_lawful.proofs.OfOrder.Shaped.{new_reader}
-use Rattle.atspi_lawful_ends.proofs.OfReaders.Fates.{hello_read}
+use Rattle.atspi_lawful.proofs.OfReaders.Fates.{hello_read}
 use Rattle.atspi_trace.specs.play.Playing.{Playing, Happened, silent, held_by, unique_in, view_in, view_rows}
 use Rattle.atspi_trace.specs.play.Plays.{only, with_reader, plays}
 use Rattle.atspi_played.proofs.Facts.{SeesWell, Tied}

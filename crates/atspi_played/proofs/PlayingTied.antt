@@ -7,7 +7,7 @@ use Rattle.atspi_trace.specs.Entry.{Entry}
 use Rattle.atspi_trace.specs.World.{Hearer, a_reader, End, World}
 use Rattle.atspi_trace.specs.Ends.{number_of, end_at, with_end, is_reader, reader_count}
 use Rattle.atspi_lawful.specs.laws.NineLaws.{Everywhere}
-use Rattle.atspi_lawful_settled.specs.settled.Laws.{AsksOfNode}
+use Rattle.atspi_lawful_caches.specs.settled.Laws.{AsksOfNode}
 use Rattle.atspi_lawful.proofs.OfOrder.Parties.{same_some}
 use Rattle.atspi_lawful.proofs.OfOrder.Frame.{with_cases, with_length, joined_cases}
 use Rattle.atspi_lawful.proofs.OfOrder.Shape.{Shape, counts}

@@ -7,7 +7,7 @@ use Rattle.atspi_trace.specs.World.{here, Hearer, a_reader, Said, Letter, End, W
 use Rattle.atspi_trace.specs.Ends.{end_at, with_end}
 use Rattle.atspi_lawful.proofs.OfOrder.Parties.{same_some}
 use Rattle.atspi_lawful.proofs.OfOrder.Frame.{with_cases, at_changed, joined_cases}
-use Rattle.atspi_lawful_settled.proofs.OfSettled.ReplyingActs.{dec}
+use Rattle.atspi_lawful_caches.proofs.OfSettled.ReplyingActs.{dec}
 use Rattle.atspi_played.proofs.ReplyingTally.{one_if, tally, and_false, replies_to, calls_as, calls_from, replies_for, is_name, opens, opens_at, answered, in_letter, in_said}
 use Rattle.atspi_played.proofs.ReplyingHolds.{Holds}
 

@@ -21,14 +21,14 @@ use Rattle.atspi_trace.specs.Causes.{Done}
 use Rattle.atspi_lawful.proofs.OfOrder.Parties.{no_none, same_some, same-party, party-same, false_true}
 use Rattle.atspi_lawful.proofs.OfOrder.Shape.{Shape}
 use Rattle.atspi_lawful.proofs.OfOrder.Effects.{BusTakes, BusEnds}
-use Rattle.atspi_lawful_ends.proofs.OfNames.Places.{greeted, name_told}
-use Rattle.atspi_lawful_ends.proofs.OfSigned.Mail.{NameIs, told_more, name_more, IsCallOf, IsMail, IsSpeech, IsAnswer}
-use Rattle.atspi_lawful_ends.proofs.OfSigned.Self.{unique_told, one_named, for_bus_true}
-use Rattle.atspi_lawful_ends.proofs.OfSigned.LawMail.{name_of_end}
-use Rattle.atspi_lawful_ends.proofs.OfSigned.Unique.{IsIn, owner_has}
-use Rattle.atspi_lawful_ends.proofs.OfMissed.Arriving.{Goes_on, took_goes, ended_goes}
-use Rattle.atspi_lawful_settled.proofs.OfSettled.ReplyingOwns.{small_given}
-use Rattle.atspi_lawful_settled.proofs.OfSettled.Settling_ground.{Grounds}
+use Rattle.atspi_lawful.proofs.OfNames.Places.{greeted, name_told}
+use Rattle.atspi_lawful.proofs.OfSigned.Mail.{NameIs, told_more, name_more, IsCallOf, IsMail, IsSpeech, IsAnswer}
+use Rattle.atspi_lawful.proofs.OfSigned.Self.{unique_told, one_named, for_bus_true}
+use Rattle.atspi_lawful.proofs.OfSigned.LawMail.{name_of_end}
+use Rattle.atspi_lawful.proofs.OfSigned.Unique.{IsIn, owner_has}
+use Rattle.atspi_lawful.proofs.OfMissed.Arriving.{Goes_on, took_goes, ended_goes}
+use Rattle.atspi_lawful_caches.proofs.OfSettled.ReplyingOwns.{small_given}
+use Rattle.atspi_lawful_caches.proofs.OfSettled.Settling_ground.{Grounds}
 use Rattle.atspi_played.proofs.ReplyingTally.{one_if, tally, and_false, replies_to, calls_as, calls_from, replies_for, is_name, opens_at, answered, in_letter, in_said}
 use Rattle.atspi_played.proofs.ReplyingSteps.{Knows}
 use Rattle.atspi_played.proofs.ReplyingHolds.{Holds, AllHold, took_holds, ended_holds}

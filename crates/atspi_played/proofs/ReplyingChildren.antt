@@ -24,15 +24,15 @@ use Rattle.atspi_trace.specs.Hearing.{question_returned}
 use Rattle.atspi_lawful.specs.laws.Words.{messages, message, name_in}
 use Rattle.atspi_lawful.proofs.OfOrder.Parties.{no_none, false_true}
 use Rattle.atspi_lawful.proofs.OfOrder.Effects.{ReaderTakes}
-use Rattle.atspi_lawful_ends.proofs.OfNames.Places.{told_is}
-use Rattle.atspi_lawful_ends.proofs.OfSigned.Mail.{NameIs, IsMail}
-use Rattle.atspi_lawful_ends.proofs.OfSigned.Self.{one_named}
-use Rattle.atspi_lawful_ends.proofs.OfSigned.LawMail.{name_of_end}
+use Rattle.atspi_lawful.proofs.OfNames.Places.{told_is}
+use Rattle.atspi_lawful.proofs.OfSigned.Mail.{NameIs, IsMail}
+use Rattle.atspi_lawful.proofs.OfSigned.Self.{one_named}
+use Rattle.atspi_lawful.proofs.OfSigned.LawMail.{name_of_end}
 use Rattle.atspi_lawful_caches.proofs.OfServed.Listing.{NamesOnly}
 use Rattle.atspi_lawful_caches.proofs.OfServed.ListingTold.{Embedded}
 use Rattle.atspi_lawful_caches.proofs.OfServed.Spelling.{all_found}
 use Rattle.atspi_lawful_caches.proofs.OfServed.ListingAll.{returns_children}
-use Rattle.atspi_lawful_settled.proofs.OfSettled.Settling_ground.{Grounds, embedded_app}
+use Rattle.atspi_lawful_caches.proofs.OfSettled.Settling_ground.{Grounds, embedded_app}
 use Rattle.atspi_played.proofs.Facts.{Ground}
 use Rattle.atspi_played.proofs.ReplyingPaths.{PathsOnly}
 use Rattle.atspi_played.proofs.ReplyingRoots.{IsRoot, roots_are_told}

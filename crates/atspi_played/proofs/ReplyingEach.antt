@@ -21,9 +21,9 @@ use Rattle.atspi_trace.specs.Due.{asks_as, asks_at}
 use Rattle.atspi_lawful.proofs.OfOrder.Parties.{false_true}
 use Rattle.atspi_lawful.proofs.OfOrder.Allowed.{Asks}
 use Rattle.atspi_lawful.proofs.OfOrder.Effects.{received, AppEdits, AppTakes, ReaderCalls, Stopping, RegistryTakes, ReaderTakes}
-use Rattle.atspi_lawful_ends.proofs.OfSigned.Speech.{edit_no_reply}
-use Rattle.atspi_lawful_settled.proofs.OfSettled.ReplyingEnds.{own_spelled}
-use Rattle.atspi_lawful_settled.proofs.OfSettled.Settling_serials.{same_hearer}
+use Rattle.atspi_lawful.proofs.OfSigned.Speech.{edit_no_reply}
+use Rattle.atspi_lawful_caches.proofs.OfSettled.ReplyingEnds.{own_spelled}
+use Rattle.atspi_lawful_caches.proofs.OfSettled.Settling_serials.{same_hearer}
 use Rattle.atspi_played.proofs.Facts.{SerialsDiffer}
 use Rattle.atspi_played.proofs.ReplyingTally.{one_if, tally, tally_append, replies_to, calls_as, calls_from, replies_for, is_name, opens, answered, in_letter, in_said}
 use Rattle.atspi_played.proofs.ReplyingPassed.{expects_kind}

@@ -13,17 +13,17 @@ use Rattle.atspi_trace.specs.Entry.{Entry}
 use Rattle.atspi_trace.specs.Rules.{owner_rule, cache_rule, event_rule, rules_asked, rule_written}
 use Rattle.atspi_trace.specs.World.{here, failed, Asked, a_reader, Hearer, End, World}
 use Rattle.atspi_trace.specs.Ends.{end_at}
-use Rattle.atspi_lawful_settled.specs.settled.Laws.{question_of}
+use Rattle.atspi_lawful_caches.specs.settled.Laws.{question_of}
 use Rattle.atspi_lawful.proofs.OfOrder.Shape.{Shape}
 use Rattle.atspi_lawful.proofs.OfOrder.Each.{Each}
 use Rattle.atspi_lawful.proofs.OfOwn.Writing.{Lives}
-use Rattle.atspi_lawful_settled.proofs.OfSettled.Settling_ground.{Grounds}
-use Rattle.atspi_lawful_settled.proofs.OfSettled.Settling_replies.{TakesReplies}
-use Rattle.atspi_lawful_settled.proofs.OfSettled.Settling_held.{Sure, all_sure}
-use Rattle.atspi_lawful_settled.proofs.OfSettled.Settling_asked.{AsksApps}
-use Rattle.atspi_lawful_settled.proofs.OfSettled.Settling_refused.{no_registering, no_children, hello_late, match_full, no_items}
-use Rattle.atspi_lawful_settled.proofs.OfSettled.Settling_serials.{serials}
-use Rattle.atspi_lawful_settled.proofs.OfSettled.Settling_counted.{Rises, HeadOne, count_below, place_below, Counts}
+use Rattle.atspi_lawful_caches.proofs.OfSettled.Settling_ground.{Grounds}
+use Rattle.atspi_lawful_caches.proofs.OfSettled.Settling_replies.{TakesReplies}
+use Rattle.atspi_lawful_caches.proofs.OfSettled.Settling_held.{Sure, all_sure}
+use Rattle.atspi_lawful_caches.proofs.OfSettled.Settling_asked.{AsksApps}
+use Rattle.atspi_lawful_caches.proofs.OfSettled.Settling_refused.{no_registering, no_children, hello_late, match_full, no_items}
+use Rattle.atspi_lawful_caches.proofs.OfSettled.Settling_serials.{serials}
+use Rattle.atspi_lawful_caches.proofs.OfSettled.Settling_counted.{Rises, HeadOne, count_below, place_below, Counts}
 use Rattle.atspi_played.proofs.Facts.{IsGone, IsLate, InOrder}
 
 abbrev pub CanFail : World → Question → Type 0

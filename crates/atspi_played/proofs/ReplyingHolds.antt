@@ -15,8 +15,8 @@ use Rattle.atspi_trace.specs.Ends.{is_here, end_at, with_end, rest_of, taken_up,
 use Rattle.atspi_trace.specs.Carrying.{Carried, own_letter, letter_of, stepped, left, one_closed, settled, named, with_name, takes, takes_end}
 use Rattle.atspi_lawful.proofs.OfOrder.Parties.{same_some, false_true}
 use Rattle.atspi_lawful.proofs.OfOrder.Frame.{with_cases}
-use Rattle.atspi_lawful_settled.proofs.OfSettled.ReplyingOwners.{Owned, takes_owned, gone_owned, one_owned}
-use Rattle.atspi_lawful_settled.proofs.OfSettled.ReplyingCarried.{plainly_of}
+use Rattle.atspi_lawful_caches.proofs.OfSettled.ReplyingOwners.{Owned, takes_owned, gone_owned, one_owned}
+use Rattle.atspi_lawful_caches.proofs.OfSettled.ReplyingCarried.{plainly_of}
 use Rattle.atspi_played.proofs.ReplyingTally.{one_if, tally, replies_to, calls_as, calls_from, replies_for, opens, opens_at, given, in_letter, in_said, Grew, stepped_grew}
 use Rattle.atspi_played.proofs.ReplyingSteps.{Knows, StepFine}
 use Rattle.atspi_played.proofs.ReplyingLeaves.{takes_fine, leaves_mine, leaves_theirs}

@@ -14,9 +14,9 @@ use Rattle.atspi_match.specs.routing.Routing.{receivers, is_for_bus}
 use Rattle.atspi_match.specs.routing.Steps.{says, delivers, closes, BusStep, handed, speaks, called, undeliverable, is_unowned, calls_after_all, is_hello, greets, bus_takes, no_replies, name_passes_on, names_pass_on, farewell, bus_leaves}
 use Rattle.atspi_lawful.proofs.OfOrder.Parties.{false_true, all_append}
 use Rattle.atspi_lawful.proofs.OfOrder.Each.{all_map}
-use Rattle.atspi_lawful_ends.proofs.OfNames.Naming.{gone_other}
-use Rattle.atspi_lawful_settled.proofs.OfSettled.RefusingOpen.{same_for}
-use Rattle.atspi_lawful_settled.proofs.OfSettled.ReplyingOwners.{Owned, gone_owned}
+use Rattle.atspi_lawful.proofs.OfNames.Naming.{gone_other}
+use Rattle.atspi_lawful_caches.proofs.OfSettled.RefusingOpen.{same_for}
+use Rattle.atspi_lawful_caches.proofs.OfSettled.ReplyingOwners.{Owned, gone_owned}
 use Rattle.atspi_played.proofs.ReplyingTally.{one_if, tally, and_false, replies_to, calls_from, opens, opens_at, given, given_append}
 use Rattle.atspi_played.proofs.ReplyingSays.{IsNews, IsOwnWord, acquired_news, own_called, news_replied, said_parts, one_receiver}
 use Rattle.atspi_played.proofs.ReplyingSteps.{Knows, StepFine, silent, greets_fine, called_fine, undelivered_fine}

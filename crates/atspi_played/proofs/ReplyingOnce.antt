@@ -26,11 +26,11 @@ use Rattle.atspi_lawful.proofs.OfOrder.Effects.{Effect, resets, app_joins, reade
 use Rattle.atspi_lawful.proofs.OfOrder.Along.{Keeps}
 use Rattle.atspi_lawful.proofs.OfOrder.Growing.{Grows, Shaped, And, grown}
 use Rattle.atspi_lawful.proofs.OfOrder.Each.{all_map}
-use Rattle.atspi_lawful_settled.proofs.OfSettled.RefusingOpen as opening
-use Rattle.atspi_lawful_settled.proofs.OfSettled.Settling_counted.{AllCounted, counted_keep}
-use Rattle.atspi_lawful_settled.proofs.OfSettled.Settling_serials.{same_hearer}
-use Rattle.atspi_lawful_settled.proofs.OfSettled.Settling_ground as under
-use Rattle.atspi_lawful_settled.proofs.OfSettled.Settling_ground.{Grounds, grounds}
+use Rattle.atspi_lawful_caches.proofs.OfSettled.RefusingOpen as opening
+use Rattle.atspi_lawful_caches.proofs.OfSettled.Settling_counted.{AllCounted, counted_keep}
+use Rattle.atspi_lawful_caches.proofs.OfSettled.Settling_serials.{same_hearer}
+use Rattle.atspi_lawful_caches.proofs.OfSettled.Settling_ground as under
+use Rattle.atspi_lawful_caches.proofs.OfSettled.Settling_ground.{Grounds, grounds}
 use Rattle.atspi_played.proofs.Facts.{Ground}
 use Rattle.atspi_played.proofs.ReplyingStep.{Gets}
 use Rattle.atspi_played.proofs.ReplyingWords.{serials_differ}

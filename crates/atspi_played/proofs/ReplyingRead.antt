@@ -19,7 +19,7 @@ use Rattle.atspi_protocol.specs.following.Replied.{children_signature}
 use Rattle.atspi_protocol.specs.declared.following.question.Question.TheVariants.{GetChildren, GetItems}
 use Rattle.atspi_protocol.specs.objects.Answers.{Answer}
 use Rattle.atspi_lawful.proofs.OfOrder.Parties.{no_none}
-use Rattle.atspi_lawful_ends.proofs.OfAnswered.Items.{answers_items, told_items}
+use Rattle.atspi_lawful.proofs.OfAnswered.Items.{answers_items, told_items}
 
 abbrev pub registry_answer : RegistryState → List ℕ → List ℕ → Envelope → Reply
 registry_answer state own caller m = (registering.answer_to state own caller (asked (object_at m.path) m.interface m.member m.body)).reply

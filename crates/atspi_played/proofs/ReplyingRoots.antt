@@ -38,14 +38,14 @@ use Rattle.atspi_lawful.proofs.OfOrder.Along.{Keeps}
 use Rattle.atspi_lawful.proofs.OfOrder.Growing.{Grows, Shaped, And, grown}
 use Rattle.atspi_lawful.proofs.OfSerials.Serial.{messages_more}
 use Rattle.atspi_lawful.proofs.OfHeard.Quiet.{heard_all}
-use Rattle.atspi_lawful_ends.proofs.OfSigned.Mail.{NameIs, IsMail}
-use Rattle.atspi_lawful_ends.proofs.OfMissed.Arriving.{Goes_on, took_goes, ended_goes}
-use Rattle.atspi_lawful_ends.proofs.OfMissed.Registering.{NotRegistry, none_sent, did_quiet, bus_quiet, role_registry, same_state, all_sent}
+use Rattle.atspi_lawful.proofs.OfSigned.Mail.{NameIs, IsMail}
+use Rattle.atspi_lawful.proofs.OfMissed.Arriving.{Goes_on, took_goes, ended_goes}
+use Rattle.atspi_lawful.proofs.OfMissed.Registering.{NotRegistry, none_sent, did_quiet, bus_quiet, role_registry, same_state, all_sent}
 use Rattle.atspi_lawful_caches.proofs.OfServed.HearingWords.{IsStart, Well, words_grow, said_well}
 use Rattle.atspi_lawful_caches.proofs.OfServed.ListingTold.{SameChildren, same_children, no_registry}
-use Rattle.atspi_lawful_settled.proofs.OfSettled.Embedders.{an_embedder}
-use Rattle.atspi_lawful_settled.proofs.OfSettled.Settling_ground as under
-use Rattle.atspi_lawful_settled.proofs.OfSettled.Settling_ground.{ground_keep, Grounds, grounds, no_bus}
+use Rattle.atspi_lawful_caches.proofs.OfSettled.Embedders.{an_embedder}
+use Rattle.atspi_lawful_caches.proofs.OfSettled.Settling_ground as under
+use Rattle.atspi_lawful_caches.proofs.OfSettled.Settling_ground.{ground_keep, Grounds, grounds, no_bus}
 use Rattle.atspi_played.proofs.Facts.{Ground}
 use Rattle.atspi_played.proofs.ReplyingPaths.{PathsOnly, PathsIn, AreSo, registry_paths}
 

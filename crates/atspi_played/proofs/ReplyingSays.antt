@@ -20,7 +20,7 @@ use Rattle.std.specs.Prelude.{◌&&◌, ◌||◌, bit_and, map}
 use Rattle.std.proofs.Common.{◌≤◌}
 use Rattle.atspi_protocol.specs.following.Replied.{is_reply_to}
 use Rattle.atspi_lawful.proofs.OfOrder.Each.{all_map}
-use Rattle.atspi_lawful_settled.proofs.OfSettled.ReplyingOwners.{Owned, owners_are}
+use Rattle.atspi_lawful_caches.proofs.OfSettled.ReplyingOwners.{Owned, owners_are}
 use Rattle.atspi_played.proofs.ReplyingTally.{one_if, replies_to, calls_as, calls_from, is_name, given, given_append, said_none}
 
 -- WHAT IS TOLD OF ITS OWN are signals

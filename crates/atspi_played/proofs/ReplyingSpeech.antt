@@ -24,7 +24,7 @@ use Rattle.atspi_trace.specs.Ends.{plain}
 use Rattle.atspi_trace.specs.Hearing.{answered_by, fate_of, is_answered}
 use Rattle.atspi_trace.specs.Causes.{saids}
 use Rattle.atspi_lawful.proofs.OfOrder.Parties.{no_none, false_true}
-use Rattle.atspi_lawful_ends.proofs.OfSigned.Speech.{NoReply}
+use Rattle.atspi_lawful.proofs.OfSigned.Speech.{NoReply}
 use Rattle.atspi_played.proofs.Facts.{AllBelow, SerialsDiffer}
 use Rattle.atspi_played.proofs.ReplyingTally.{one_if, tally, one_most, replies_to, calls_from, replies_for, is_name, answered, in_said}
 

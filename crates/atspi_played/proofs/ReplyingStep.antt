@@ -19,8 +19,8 @@ use Rattle.atspi_lawful.proofs.OfOrder.Along.{Keeps}
 use Rattle.atspi_lawful.proofs.OfOrder.Growing.{Shaped}
 use Rattle.atspi_lawful.proofs.OfOrder.Lives.{here_lives}
 use Rattle.atspi_lawful.proofs.OfOwn.Writing.{Lives}
-use Rattle.atspi_lawful_settled.proofs.OfSettled.Settling_ground as under
-use Rattle.atspi_lawful_settled.proofs.OfSettled.Settling_ground.{ground_keep, Grounds, grounds}
+use Rattle.atspi_lawful_caches.proofs.OfSettled.Settling_ground as under
+use Rattle.atspi_lawful_caches.proofs.OfSettled.Settling_ground.{ground_keep, Grounds, grounds}
 use Rattle.atspi_played.proofs.Facts.{Ground}
 
 -- a reader that is here, with a letter at the front of its down link

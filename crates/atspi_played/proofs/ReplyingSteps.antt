@@ -16,8 +16,8 @@ use Rattle.atspi_match.specs.routing.OwnMessages.{name_acquired, owner_changed}
 use Rattle.atspi_match.specs.routing.Routing.{owners_of, is_for_bus, is_reply}
 use Rattle.atspi_match.specs.routing.Steps.{BusStep, speaks, replies, answered, called, undeliverable, greets}
 use Rattle.atspi_lawful.proofs.OfOrder.Parties.{all_append}
-use Rattle.atspi_lawful_ends.proofs.OfNames.Naming.{called_same, hello_here}
-use Rattle.atspi_lawful_settled.proofs.OfSettled.ReplyingOwners.{Owned, called_owned, greets_owned}
+use Rattle.atspi_lawful.proofs.OfNames.Naming.{called_same, hello_here}
+use Rattle.atspi_lawful_caches.proofs.OfSettled.ReplyingOwners.{Owned, called_owned, greets_owned}
 use Rattle.atspi_played.proofs.ReplyingTally.{one_if, tally, replies_to, calls_as, calls_from, replies_for, opens, opens_at, given}
 use Rattle.atspi_played.proofs.ReplyingSays.{IsNews, told_news, acquired_news, spoken_given, spoken_called}
 

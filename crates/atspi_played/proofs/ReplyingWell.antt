@@ -26,27 +26,27 @@ use Rattle.atspi_trace.specs.Ends.{same_party}
 use Rattle.atspi_trace.specs.Hearing.{answered_by, fate_of, heard_entries}
 use Rattle.atspi_lawful.specs.laws.Words.{messages, message, before_sent}
 use Rattle.atspi_lawful.specs.laws.NineLaws.{Everywhere}
-use Rattle.atspi_lawful_settled.specs.settled.Laws.{question_of, AsksOfNode, IsOfNode}
+use Rattle.atspi_lawful_caches.specs.settled.Laws.{question_of, AsksOfNode, IsOfNode}
 use Rattle.atspi_lawful.proofs.OfOrder.Parties.{same_some, party-same, false_true}
 use Rattle.atspi_lawful.proofs.OfOrder.Shape.{Shape}
 use Rattle.atspi_lawful.proofs.OfOrder.Growing.{Shaped, And}
 use Rattle.atspi_lawful.proofs.OfOrder.Each.{Each, each_split}
 use Rattle.atspi_lawful.proofs.OfOwn.Writing.{Lives}
 use Rattle.atspi_lawful.proofs.OfTaken.Found.{sent_split}
-use Rattle.atspi_lawful_ends.proofs.OfReaders.BusSaid.{OwnIs}
-use Rattle.atspi_lawful_ends.proofs.OfNames.Places.{name_told, told_is}
-use Rattle.atspi_lawful_ends.proofs.OfSigned.Mail.{NameIs, told_more, IsOfBus, IsPost, IsMail, IsAnswerOf}
-use Rattle.atspi_lawful_ends.proofs.OfSigned.Self.{unique_told, one_named, app_name}
-use Rattle.atspi_lawful_ends.proofs.OfSigned.LawMail.{name_of_end}
-use Rattle.atspi_lawful_ends.proofs.OfMissed.Registering.{name_is_bus_name}
+use Rattle.atspi_lawful.proofs.OfReaders.BusSaid.{OwnIs}
+use Rattle.atspi_lawful.proofs.OfNames.Places.{name_told, told_is}
+use Rattle.atspi_lawful.proofs.OfSigned.Mail.{NameIs, told_more, IsOfBus, IsPost, IsMail, IsAnswerOf}
+use Rattle.atspi_lawful.proofs.OfSigned.Self.{unique_told, one_named, app_name}
+use Rattle.atspi_lawful.proofs.OfSigned.LawMail.{name_of_end}
+use Rattle.atspi_lawful.proofs.OfMissed.Registering.{name_is_bus_name}
 use Rattle.atspi_lawful_caches.proofs.OfServed.Spelling.{call_of}
-use Rattle.atspi_lawful_settled.proofs.OfSettled.Embedding.{registry_reply}
-use Rattle.atspi_lawful_settled.proofs.OfSettled.Settling_ground as under
-use Rattle.atspi_lawful_settled.proofs.OfSettled.Settling_ground.{Grounds, no_bus, AsksAnApp, asks_apps}
-use Rattle.atspi_lawful_settled.proofs.OfSettled.Settling_replies.{AppAnswers, AnswersIt, IsTaken, TakesReplies, Replied, replied_keeps}
-use Rattle.atspi_lawful_settled.proofs.OfSettled.Settling_held.{reply_is, Sure, all_sure, above_one}
-use Rattle.atspi_lawful_settled.proofs.OfSettled.Settling_asked.{AllAskApps, ask_keep}
-use Rattle.atspi_lawful_settled.proofs.OfSettled.Settling_counted.{Counts, AllCounted, counted_keep}
+use Rattle.atspi_lawful_caches.proofs.OfSettled.Embedding.{registry_reply}
+use Rattle.atspi_lawful_caches.proofs.OfSettled.Settling_ground as under
+use Rattle.atspi_lawful_caches.proofs.OfSettled.Settling_ground.{Grounds, no_bus, AsksAnApp, asks_apps}
+use Rattle.atspi_lawful_caches.proofs.OfSettled.Settling_replies.{AppAnswers, AnswersIt, IsTaken, TakesReplies, Replied, replied_keeps}
+use Rattle.atspi_lawful_caches.proofs.OfSettled.Settling_held.{reply_is, Sure, all_sure, above_one}
+use Rattle.atspi_lawful_caches.proofs.OfSettled.Settling_asked.{AllAskApps, ask_keep}
+use Rattle.atspi_lawful_caches.proofs.OfSettled.Settling_counted.{Counts, AllCounted, counted_keep}
 use Rattle.atspi_played.proofs.Facts.{Ground, IsGone, IsReturnedWell, IsReplyWell, RepliesWell, SerialsDiffer, InOrder}
 use Rattle.atspi_played.proofs.ReplyingStep.{Gets, shape, its, live, hearer, ys, after, kept_after, wrote, its_end, end_after, other_after, shape_after, its_after, live_after, v}
 use Rattle.atspi_played.proofs.ReplyingFails.{CanFail, FailsWell, calls_fail_well}

@@ -20,10 +20,10 @@ use Rattle.atspi_protocol.specs.following.Calls.{asking}
 use Rattle.atspi_protocol.specs.following.Replied.{is_reply_to, is_unique_name_alone}
 use Rattle.atspi_trace.specs.World.{returned, failed, Asked}
 use Rattle.atspi_trace.specs.Hearing.{answered_by, fate_of}
-use Rattle.atspi_lawful_settled.specs.settled.Laws.{question_of}
+use Rattle.atspi_lawful_caches.specs.settled.Laws.{question_of}
 use Rattle.atspi_lawful.proofs.OfOrder.Parties.{false_true, all_append, all_front}
 use Rattle.atspi_lawful.proofs.OfOrder.Each.{all_map}
-use Rattle.atspi_lawful_settled.proofs.OfSettled.Settling_counted.{Rises, HeadOne}
+use Rattle.atspi_lawful_caches.proofs.OfSettled.Settling_counted.{Rises, HeadOne}
 use Rattle.atspi_played.proofs.Facts.{AllBelow, SerialsDiffer, IsLate, InOrder}
 use Rattle.atspi_played.proofs.ReplyingFails.{IsNext, nine, nine_next}
 

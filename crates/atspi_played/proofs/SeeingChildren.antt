@@ -25,11 +25,11 @@ use Rattle.atspi_trace.specs.Ends.{end_at}
 use Rattle.atspi_trace.specs.Hearing.{question_returned, child_name, names_told, registry_after, hears_letter, heard_entries}
 use Rattle.atspi_lawful.specs.laws.Words.{messages, message}
 use Rattle.atspi_lawful.proofs.OfOrder.Parties.{no_none, same_some, false_true, all_back}
-use Rattle.atspi_lawful_ends.proofs.OfNames.Places.{told_is}
-use Rattle.atspi_lawful_ends.proofs.OfSigned.Mail.{NameIs, name_more}
+use Rattle.atspi_lawful.proofs.OfNames.Places.{told_is}
+use Rattle.atspi_lawful.proofs.OfSigned.Mail.{NameIs, name_more}
 use Rattle.atspi_lawful_caches.proofs.OfServed.ListingTold.{Embedded, HasHeard}
 use Rattle.atspi_lawful_caches.proofs.OfServed.Spelling.{all_found}
-use Rattle.atspi_lawful_settled.proofs.OfSettled.Settling_ground as under
+use Rattle.atspi_lawful_caches.proofs.OfSettled.Settling_ground as under
 use Rattle.atspi_played.proofs.Facts.{Ground, RepliesWell, AsksWell, SeesWell, IsOfApp}
 use Rattle.atspi_played.proofs.SeeingGround.{shape, its, live, no_bus_name, one_party, Sender, of_bus, of_end, sender}
 

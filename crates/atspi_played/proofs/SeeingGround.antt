@@ -25,13 +25,13 @@ use Rattle.atspi_lawful.proofs.OfOrder.Growing.{Shaped}
 use Rattle.atspi_lawful.proofs.OfOrder.Lives.{here_lives}
 use Rattle.atspi_lawful.proofs.OfOwn.Writing.{Lives}
 use Rattle.atspi_lawful.proofs.OfTaken.Said.{IsLetter, Comes}
-use Rattle.atspi_lawful_ends.proofs.OfNames.LawEnds.{number_is}
-use Rattle.atspi_lawful_ends.proofs.OfNames.Places.{told_is}
-use Rattle.atspi_lawful_ends.proofs.OfSigned.Mail.{NameIs, IsMail}
-use Rattle.atspi_lawful_ends.proofs.OfSigned.Self.{one_named}
-use Rattle.atspi_lawful_ends.proofs.OfSigned.LawMail.{name_of_end}
-use Rattle.atspi_lawful_settled.proofs.OfSettled.Settling_ground as under
-use Rattle.atspi_lawful_settled.proofs.OfSettled.Settling_ground.{ground_keep, Grounds, grounds}
+use Rattle.atspi_lawful.proofs.OfNames.LawEnds.{number_is}
+use Rattle.atspi_lawful.proofs.OfNames.Places.{told_is}
+use Rattle.atspi_lawful.proofs.OfSigned.Mail.{NameIs, IsMail}
+use Rattle.atspi_lawful.proofs.OfSigned.Self.{one_named}
+use Rattle.atspi_lawful.proofs.OfSigned.LawMail.{name_of_end}
+use Rattle.atspi_lawful_caches.proofs.OfSettled.Settling_ground as under
+use Rattle.atspi_lawful_caches.proofs.OfSettled.Settling_ground.{ground_keep, Grounds, grounds}
 use Rattle.atspi_played.proofs.Facts.{Ground}
 
 -- THE GROUND, open

@@ -22,9 +22,9 @@ use Rattle.atspi_trace.specs.Hearing.{step_lines}
 use Rattle.atspi_trace.specs.Causes.{announced_if}
 use Rattle.atspi_lawful.specs.laws.Words.{message, before_sent, as_of, live_tree, heard_pairs, answers_question, name_in, Kept, held}
 use Rattle.atspi_lawful.specs.laws.NineLaws.{IsAskedFor, Announces}
-use Rattle.atspi_lawful_ends.specs.signed.Laws.{IsItsName}
+use Rattle.atspi_lawful.specs.signed.Laws.{IsItsName}
 use Rattle.atspi_lawful.specs.folds.Laws.{AreAllCovered}
-use Rattle.atspi_lawful_ends.specs.missed.Laws.{IsLoad, NoSignalBetween}
+use Rattle.atspi_lawful.specs.missed.Laws.{IsLoad, NoSignalBetween}
 use Rattle.atspi_lawful_caches.specs.caches.Caches.{followed}
 use Rattle.atspi_lawful_caches.specs.caches.Laws.{IsServed, AreAsked, IsRead}
 use Rattle.atspi_lawful.specs.views.Laws.{IsCarried}
@@ -32,10 +32,10 @@ use Rattle.atspi_lawful.proofs.OfOrder.Parties.{no_none, false_true}
 use Rattle.atspi_lawful.proofs.OfTaken.Found.{found_more, found_here, sent_split}
 use Rattle.atspi_lawful.proofs.OfTaken.Said.{TellsTree, asked_same}
 use Rattle.atspi_lawful.proofs.OfViews.LawViews.{announcements_carry}
-use Rattle.atspi_lawful_ends.proofs.OfMissed.LawMissed.{no_signal_missed}
+use Rattle.atspi_lawful.proofs.OfMissed.LawMissed.{no_signal_missed}
 use Rattle.atspi_lawful_caches.proofs.OfServed.LawServed.{steps_asked}
 use Rattle.atspi_lawful_caches.proofs.OfCaches.LawCaches.{lines_are_read}
-use Rattle.atspi_lawful_ends.proofs.OfSigned.Between.{none_due, silent_step}
+use Rattle.atspi_lawful.proofs.OfSigned.Between.{none_due, silent_step}
 use Rattle.atspi_played.proofs.Facts.{Ground}
 
 -- LISTS FROM THEIR ENDS

@@ -13,7 +13,7 @@ use Rattle.atspi_trace.specs.Entry.{Entry, got, gone}
 use Rattle.atspi_trace.specs.Ends.{reader_count}
 use Rattle.atspi_trace.specs.Causes.{starts_reader, does}
 use Rattle.atspi_lawful.specs.laws.Words.{message, answers_question, name_in}
-use Rattle.atspi_lawful_ends.specs.signed.Laws.{IsItsName}
+use Rattle.atspi_lawful.specs.signed.Laws.{IsItsName}
 use Rattle.atspi_lawful_caches.specs.caches.Caches.{unasked, reads_if, follows_after, follows_on, followed}
 use Rattle.atspi_lawful_caches.specs.caches.Laws.{CacheIs}
 use Rattle.atspi_lawful.proofs.OfOrder.Parties.{no_none, same_some}

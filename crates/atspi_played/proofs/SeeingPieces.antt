@@ -21,9 +21,9 @@ use Rattle.atspi_lawful.specs.laws.Words.{name_in}
 use Rattle.atspi_lawful.proofs.OfOrder.Parties.{party-same, false_true}
 use Rattle.atspi_lawful.proofs.OfHeld.Keeping.{ReaderIs}
 use Rattle.atspi_lawful.proofs.OfTaken.Said.{IsLetter}
-use Rattle.atspi_lawful_ends.proofs.OfSigned.Mail.{NameIs}
-use Rattle.atspi_lawful_ends.proofs.OfSigned.Self.{app_name}
-use Rattle.atspi_lawful_ends.proofs.OfNames.Places.{told_is}
+use Rattle.atspi_lawful.proofs.OfSigned.Mail.{NameIs}
+use Rattle.atspi_lawful.proofs.OfSigned.Self.{app_name}
+use Rattle.atspi_lawful.proofs.OfNames.Places.{told_is}
 use Rattle.atspi_played.proofs.Facts.{Ground, SeesWell}
 use Rattle.atspi_played.proofs.Pieces.{world_behind, entries_behind, spoken, IsNoCall, SeesStep}
 use Rattle.atspi_played.proofs.ReplyingStep as letter_step

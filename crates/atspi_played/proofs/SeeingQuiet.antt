@@ -24,14 +24,14 @@ use Rattle.atspi_lawful_caches.specs.caches.Caches as caches
 use Rattle.atspi_lawful_caches.specs.caches.Caches.{reads_if, followed}
 use Rattle.atspi_lawful_caches.specs.caches.Laws.{CacheIs}
 use Rattle.atspi_lawful.specs.heard.Laws.{signals_under, IsAmong}
-use Rattle.atspi_lawful_ends.specs.signed.Laws.{IsItsName}
+use Rattle.atspi_lawful.specs.signed.Laws.{IsItsName}
 use Rattle.atspi_lawful.specs.views.Laws.{IsCarried}
 use Rattle.atspi_lawful.proofs.OfOrder.Parties.{no_none, same_some}
 use Rattle.atspi_lawful.proofs.OfTaken.Found.{front_more, sent_split}
 use Rattle.atspi_lawful.proofs.OfTaken.Said.{IsLetter}
 use Rattle.atspi_lawful.proofs.OfHeld.Keeping.{ReaderIs}
 use Rattle.atspi_lawful.proofs.OfViews.LawViews.{announcements_carry}
-use Rattle.atspi_lawful_ends.proofs.OfSigned.LawSigned.{signed_law}
+use Rattle.atspi_lawful.proofs.OfSigned.LawSigned.{signed_law}
 use Rattle.atspi_lawful_caches.proofs.OfServed.LawServed.{steps_asked}
 use Rattle.atspi_lawful_caches.proofs.OfCaches.LawCaches.{caches_follow}
 use Rattle.atspi_played.proofs.SeeingSame.{folded_is, marks_of, followed_more, followed_rooted}

@@ -30,7 +30,7 @@ use Rattle.atspi_lawful.specs.heard.Laws.{signals_under}
 use Rattle.atspi_lawful.specs.views.Laws.{IsCarried}
 use Rattle.atspi_lawful.proofs.OfOrder.Parties.{all_back, all_front}
 use Rattle.atspi_lawful.proofs.OfSteps.Trees.{tree_more}
-use Rattle.atspi_lawful_ends.proofs.OfSigned.Between.{OfMessage, asked_all, sent_each, telling, IsSilent, signal_messages}
+use Rattle.atspi_lawful.proofs.OfSigned.Between.{OfMessage, asked_all, sent_each, telling, IsSilent, signal_messages}
 use Rattle.atspi_protocol.specs.exporting.Telling.{asked_for}
 
 -- news that add no child

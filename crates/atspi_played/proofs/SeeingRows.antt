@@ -30,9 +30,9 @@ use Rattle.atspi_lawful.proofs.OfSteps.Trees.{tree_more}
 use Rattle.atspi_lawful.proofs.OfSerials.Serial.{messages_more}
 use Rattle.atspi_lawful.proofs.OfTaken.Found.{sent_split}
 use Rattle.atspi_lawful.proofs.OfViews.LawViews.{trees_stand}
-use Rattle.atspi_lawful_ends.proofs.OfSigned.Starts.{starts_anew}
-use Rattle.atspi_lawful_ends.proofs.OfNames.Places.{told_is}
-use Rattle.atspi_lawful_settled.proofs.OfSettled.Settling_ground as under
+use Rattle.atspi_lawful.proofs.OfSigned.Starts.{starts_anew}
+use Rattle.atspi_lawful.proofs.OfNames.Places.{told_is}
+use Rattle.atspi_lawful_caches.proofs.OfSettled.Settling_ground as under
 use Rattle.atspi_played.proofs.Facts.{Ground}
 use Rattle.atspi_played.proofs.SeeingGround.{shape, its}
 

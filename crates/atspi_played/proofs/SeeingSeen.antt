@@ -26,12 +26,12 @@ use Rattle.atspi_lawful_caches.specs.caches.Caches as caches
 use Rattle.atspi_lawful_caches.specs.caches.Caches.{followed}
 use Rattle.atspi_lawful.proofs.OfOrder.Parties.{no_none, same_some, party-same, false_true, all_back}
 use Rattle.atspi_lawful.proofs.OfOrder.Each.{everywhere}
-use Rattle.atspi_lawful_ends.specs.exits.Laws.{ComesBeforeEnd, IsNotEndOf}
+use Rattle.atspi_lawful.specs.exits.Laws.{ComesBeforeEnd, IsNotEndOf}
 use Rattle.atspi_lawful.proofs.OfHeld.Keeping.{ReaderIs}
 use Rattle.atspi_lawful.proofs.OfTaken.Said.{IsLetter}
-use Rattle.atspi_lawful_ends.proofs.OfNames.Places.{told_is}
-use Rattle.atspi_lawful_ends.proofs.OfSigned.Self.{app_name}
-use Rattle.atspi_lawful_ends.proofs.OfSigned.Mail.{NameIs}
+use Rattle.atspi_lawful.proofs.OfNames.Places.{told_is}
+use Rattle.atspi_lawful.proofs.OfSigned.Self.{app_name}
+use Rattle.atspi_lawful.proofs.OfSigned.Mail.{NameIs}
 use Rattle.atspi_played.proofs.Facts.{IsOfApp, IsSeen, IsAwaited, IsGoneFor}
 use Rattle.atspi_played.proofs.SeeingApps.{found_it, found_other, found_without, found_kept, found_made, found_is, each_made, each_weaker}
 use Rattle.atspi_played.proofs.SeeingSame.{folded_is, noted_keeps, folded_keeps, marks_of, Same, same_noted, same_folded, IsRooted, followed_rooted}

@@ -18,15 +18,15 @@ use Rattle.atspi_trace.specs.Hearing.{holding_of}
 use Rattle.atspi_trace.specs.Causes.{told_in, shown_rows, rows_held}
 use Rattle.atspi_trace.specs.Work.{if_held}
 use Rattle.atspi_lawful.specs.laws.Words.{message, as_of, name_in, Kept, held}
-use Rattle.atspi_lawful_ends.specs.signed.Laws.{IsItsName}
+use Rattle.atspi_lawful.specs.signed.Laws.{IsItsName}
 use Rattle.atspi_lawful_caches.specs.caches.Caches.{followed}
 use Rattle.atspi_lawful_caches.specs.caches.Laws.{CacheIs}
 use Rattle.atspi_lawful.proofs.OfOrder.Parties.{no_none, same_some, same-party, party-same, false_true}
 use Rattle.atspi_lawful.proofs.OfHeld.Keeping.{SameKept, ReaderIs}
-use Rattle.atspi_lawful_ends.proofs.OfNames.Places.{first_at, position_is, name_told, told_is}
+use Rattle.atspi_lawful.proofs.OfNames.Places.{first_at, position_is, name_told, told_is}
 use Rattle.atspi_lawful_caches.proofs.OfCaches.LawCaches.{caches_follow}
 use Rattle.atspi_lawful_caches.proofs.OfServed.LawServed.{steps_asked}
-use Rattle.atspi_lawful_settled.proofs.OfSettled.Settling_ground as under
+use Rattle.atspi_lawful_caches.proofs.OfSettled.Settling_ground as under
 use Rattle.atspi_played.proofs.Facts.{Ground, IsSeen, SeesWell}
 use Rattle.atspi_played.proofs.Pieces.{ShowsDue}
 use Rattle.atspi_played.proofs.SeeingGround.{shape, its}

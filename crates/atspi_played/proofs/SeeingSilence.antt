@@ -25,13 +25,13 @@ use Rattle.atspi_lawful_caches.specs.caches.Caches.{followed}
 use Rattle.atspi_lawful.proofs.OfOrder.Parties.{no_none, same_some}
 use Rattle.atspi_lawful.proofs.OfHeld.Keeping.{ReaderIs, SameKept}
 use Rattle.atspi_base.specs.valid_names.Names.{is_bus_name, is_unique_name}
-use Rattle.atspi_lawful_ends.specs.signed.Laws.{IsItsName}
+use Rattle.atspi_lawful.specs.signed.Laws.{IsItsName}
 use Rattle.atspi_lawful_caches.specs.caches.Laws.{CacheIs, IsViewed}
 use Rattle.atspi_lawful_caches.proofs.OfCaches.LawCaches.{caches_follow}
 use Rattle.atspi_lawful_caches.proofs.OfServed.LawServed.{steps_asked}
-use Rattle.atspi_lawful_ends.proofs.OfMissed.Registering.{name_is_bus_name}
+use Rattle.atspi_lawful.proofs.OfMissed.Registering.{name_is_bus_name}
 use Rattle.atspi_trace.specs.Causes.{told_in}
-use Rattle.atspi_lawful_ends.proofs.OfSigned.Self.{unique_told}
+use Rattle.atspi_lawful.proofs.OfSigned.Self.{unique_told}
 use Rattle.atspi_trace.specs.play.Plays.{of_app, told as told_to}
 use Rattle.atspi_played.proofs.SeeingWords.{told_both, told_lines, closing_none, closing_some}
 use Rattle.atspi_played.proofs.SeeingWell.{replied_apart}

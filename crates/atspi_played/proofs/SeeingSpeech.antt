@@ -29,8 +29,8 @@ use Rattle.atspi_lawful_caches.specs.caches.Caches as caches
 use Rattle.atspi_lawful_caches.specs.caches.Caches.{followed}
 use Rattle.atspi_lawful.proofs.OfOrder.Parties.{no_none, same_some}
 use Rattle.atspi_lawful.proofs.OfHeld.Keeping.{ReaderIs, SameKept}
-use Rattle.atspi_lawful_ends.specs.missed.Laws.{IsLoad}
-use Rattle.atspi_lawful_ends.specs.signed.Laws.{IsItsName}
+use Rattle.atspi_lawful.specs.missed.Laws.{IsLoad}
+use Rattle.atspi_lawful.specs.signed.Laws.{IsItsName}
 use Rattle.atspi_lawful_caches.specs.caches.Laws.{CacheIs, IsViewed}
 use Rattle.atspi_lawful_caches.proofs.OfCaches.LawCaches.{caches_follow}
 use Rattle.atspi_lawful_caches.proofs.OfServed.LawServed.{steps_asked}

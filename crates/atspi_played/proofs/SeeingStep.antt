@@ -27,8 +27,8 @@ use Rattle.atspi_lawful.specs.laws.Words.{name_in}
 use Rattle.atspi_lawful.proofs.OfOrder.Parties.{no_none, false_true}
 use Rattle.atspi_lawful.proofs.OfHeard.Quiet.{heard_all}
 use Rattle.atspi_lawful.proofs.OfLinks.LawLinks.{NotTaken}
-use Rattle.atspi_lawful_ends.proofs.OfNames.Places.{first_at, greeted, greeted_more, none_greeted, told_is}
-use Rattle.atspi_lawful_ends.proofs.OfSigned.Mail.{told_more}
+use Rattle.atspi_lawful.proofs.OfNames.Places.{first_at, greeted, greeted_more, none_greeted, told_is}
+use Rattle.atspi_lawful.proofs.OfSigned.Mail.{told_more}
 use Rattle.atspi_played.proofs.Facts.{IsOfApp}
 use Rattle.atspi_played.proofs.SeeingApps.{each_changed, each_kept, each_made, each_fold, each_weaker}
 use Rattle.atspi_played.proofs.SeeingSame.{told_is as part_is, folded_is}

@@ -26,9 +26,9 @@ use Rattle.atspi_lawful.specs.laws.Words.{name_in}
 use Rattle.atspi_lawful_caches.specs.caches.Caches.{followed}
 use Rattle.atspi_lawful.proofs.OfOrder.Parties.{no_none, same_some}
 use Rattle.atspi_lawful.proofs.OfHeld.Keeping.{ReaderIs}
-use Rattle.atspi_lawful_ends.proofs.OfNames.Places.{told_is}
-use Rattle.atspi_lawful_ends.proofs.OfSigned.Self.{app_name}
-use Rattle.atspi_lawful_ends.proofs.OfSigned.Mail.{NameIs}
+use Rattle.atspi_lawful.proofs.OfNames.Places.{told_is}
+use Rattle.atspi_lawful.proofs.OfSigned.Self.{app_name}
+use Rattle.atspi_lawful.proofs.OfSigned.Mail.{NameIs}
 use Rattle.atspi_trace.specs.play.Playing.{silent}
 use Rattle.atspi_played.proofs.Facts.{AreDistinct, Awaits, NoItems, SeesWell, IsOfApp, IsAwaited, IsGoneFor}
 use Rattle.atspi_played.proofs.SeeingApps.{FoundAfter, same, new, distinct_changed, distinct_without, distinct_made, distinct_fold, found_it, found_other, found_without, found_kept, found_made, found_is}

@@ -24,7 +24,7 @@ use Rattle.atspi_lawful.proofs.OfOrder.Parties.{no_none, same_some, false_true}
 use Rattle.atspi_lawful.proofs.OfOrder.Frame.{Over, IsOrder, over_both, over_with, stepped_over, settled_over, takes_over}
 use Rattle.atspi_lawful.proofs.OfOrder.Along.{kept}
 use Rattle.atspi_lawful.proofs.OfOrder.Growing.{Shaped, Nothing, And}
-use Rattle.atspi_lawful_ends.proofs.OfNames.Bounds.{Bounded, bounds_keep}
+use Rattle.atspi_lawful.proofs.OfNames.Bounds.{Bounded, bounds_keep}
 
 -- WHAT A TURN MOVES
 pub data TurnOf (w : World) (c : Cause) : Type 0 where

@@ -27,12 +27,12 @@ use Rattle.atspi_trace.specs.World.{Hearer, Letter, End, World}
 use Rattle.atspi_trace.specs.Ends.{number_of}
 use Rattle.atspi_trace.specs.Hearing.{question_returned, hears_letter}
 use Rattle.atspi_lawful.specs.laws.Words.{name_in}
-use Rattle.atspi_lawful_settled.specs.settled.Laws.{IsAsked, IsPartAsked}
+use Rattle.atspi_lawful_caches.specs.settled.Laws.{IsAsked, IsPartAsked}
 use Rattle.atspi_lawful.proofs.OfOrder.Parties.{no_none, same_some, false_true, all_append}
 use Rattle.atspi_lawful.proofs.OfOrder.Each.{all_map}
-use Rattle.atspi_lawful_ends.proofs.OfNames.Places.{told_is}
-use Rattle.atspi_lawful_ends.proofs.OfSigned.Mail.{told_more}
-use Rattle.atspi_lawful_ends.proofs.OfSigned.Self.{one_named}
+use Rattle.atspi_lawful.proofs.OfNames.Places.{told_is}
+use Rattle.atspi_lawful.proofs.OfSigned.Mail.{told_more}
+use Rattle.atspi_lawful.proofs.OfSigned.Self.{one_named}
 use Rattle.atspi_played.proofs.Facts.{Ground, RepliesWell, IsOfApp, WantsOf, Tied}
 use Rattle.atspi_played.proofs.Pieces.{IsTaking, entries_behind, world_behind}
 use Rattle.atspi_played.proofs.SeeingApps.{each_changed, each_kept, each_made, each_fold, each_weaker}

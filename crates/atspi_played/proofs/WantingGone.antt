@@ -14,12 +14,12 @@ use Rattle.atspi_lawful.specs.laws.Words.{starts_it, stops_it, is_live}
 use Rattle.atspi_lawful.proofs.OfOrder.Parties.{same_some, same-party, party-same, false_true}
 use Rattle.atspi_lawful.proofs.OfOrder.Acts.{IsActive}
 use Rattle.atspi_lawful.proofs.OfOrder.Lives.{HasStarted, any_more, here_lives}
-use Rattle.atspi_lawful_ends.proofs.OfNames.Places.{name_told}
-use Rattle.atspi_lawful_ends.proofs.OfSigned.Mail.{NameIs, told_more}
-use Rattle.atspi_lawful_ends.proofs.OfSigned.Self.{unique_told, one_named}
-use Rattle.atspi_lawful_ends.proofs.OfEnds.News.{IsPlain}
-use Rattle.atspi_lawful_ends.proofs.OfEnds.Ordered.{AwayAs, NotFrom, Ordered}
-use Rattle.atspi_lawful_settled.proofs.OfSettled.Settling_ground.{is_at, unique_is}
+use Rattle.atspi_lawful.proofs.OfNames.Places.{name_told}
+use Rattle.atspi_lawful.proofs.OfSigned.Mail.{NameIs, told_more}
+use Rattle.atspi_lawful.proofs.OfSigned.Self.{unique_told, one_named}
+use Rattle.atspi_lawful.proofs.OfEnds.News.{IsPlain}
+use Rattle.atspi_lawful.proofs.OfEnds.Ordered.{AwayAs, NotFrom, Ordered}
+use Rattle.atspi_lawful_caches.proofs.OfSettled.Settling_ground.{is_at, unique_is}
 use Rattle.atspi_played.proofs.Facts.{Ground, IsGone}
 use Rattle.atspi_played.proofs.WantingGround.{shape, known, live}
 use Rattle.atspi_played.proofs.SeeingGround.{Sender, of_bus, of_end, sender, end_from_bus, no_bus_name}

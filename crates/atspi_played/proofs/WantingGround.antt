@@ -9,10 +9,10 @@ use Rattle.atspi_lawful.specs.laws.Words.{name_in}
 use Rattle.atspi_lawful.proofs.OfOrder.Shape.{Shape}
 use Rattle.atspi_lawful.proofs.OfOrder.Growing.{Shaped}
 use Rattle.atspi_lawful.proofs.OfOwn.Writing.{Lives}
-use Rattle.atspi_lawful_ends.proofs.OfNames.Places.{told_is}
-use Rattle.atspi_lawful_settled.proofs.OfSettled.Settling_ground as settling
-use Rattle.atspi_lawful_settled.proofs.OfSettled.Settling_ground.{Grounds, grounds, ground_keep, unique_is}
-use Rattle.atspi_lawful_settled.proofs.OfSettled.Settling_law.{registry_is_live}
+use Rattle.atspi_lawful.proofs.OfNames.Places.{told_is}
+use Rattle.atspi_lawful_caches.proofs.OfSettled.Settling_ground as settling
+use Rattle.atspi_lawful_caches.proofs.OfSettled.Settling_ground.{Grounds, grounds, ground_keep, unique_is}
+use Rattle.atspi_lawful_caches.proofs.OfSettled.Settling_law.{registry_is_live}
 use Rattle.atspi_played.proofs.Facts.{Ground}
 
 module _ (script : List Line) (es : List Entry) (w : World) (free : Option ℕ) (g : Ground script es w free) where

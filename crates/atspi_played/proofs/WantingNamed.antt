@@ -17,10 +17,10 @@ use Rattle.atspi_protocol.specs.following.Takes.{noted, notes, folded, takes_new
 use Rattle.atspi_trace.specs.Entry.{Entry}
 use Rattle.atspi_trace.specs.World.{Hearer, Letter, End, World}
 use Rattle.atspi_trace.specs.Hearing.{question_returned, child_name, names_told, hears_letter}
-use Rattle.atspi_lawful_settled.specs.settled.Laws.{IsAsked}
+use Rattle.atspi_lawful_caches.specs.settled.Laws.{IsAsked}
 use Rattle.atspi_lawful.proofs.OfOrder.Parties.{false_true, all_append}
 use Rattle.atspi_lawful_caches.proofs.OfServed.ListingTold.{Embedded}
-use Rattle.atspi_lawful_settled.proofs.OfSettled.Settling_ground.{embedded_app}
+use Rattle.atspi_lawful_caches.proofs.OfSettled.Settling_ground.{embedded_app}
 use Rattle.atspi_played.proofs.Facts.{Ground, RepliesWell, IsGone, IsKnownOrGone, Tied}
 use Rattle.atspi_played.proofs.Pieces.{IsTaking, entries_behind, world_behind}
 use Rattle.atspi_played.proofs.SeeingApps.{KeepsNames, FoundAfter, found_it, found_other, found_kept, found_made, named_same}

@@ -27,14 +27,14 @@ use Rattle.atspi_trace.specs.Causes.{told_in}
 use Rattle.atspi_lawful.specs.laws.Words.{Kept, added, is_sent_as, before_sent, as_of, held}
 use Rattle.atspi_lawful_caches.specs.caches.Caches.{followed}
 use Rattle.atspi_lawful_caches.specs.caches.Laws.{CacheIs}
-use Rattle.atspi_lawful_settled.specs.settled.Laws.{question_of, IsOfNode}
+use Rattle.atspi_lawful_caches.specs.settled.Laws.{question_of, IsOfNode}
 use Rattle.atspi_lawful.proofs.OfOrder.Parties.{no_none, same_some, false_true, all_append, all_back}
 use Rattle.atspi_lawful.proofs.OfSteps.LawSteps.{steps_apply}
 use Rattle.atspi_lawful.proofs.OfViews.LawViews.{trees_stand}
-use Rattle.atspi_lawful_ends.proofs.OfAnswered.Counted.{sent_counted}
+use Rattle.atspi_lawful.proofs.OfAnswered.Counted.{sent_counted}
 use Rattle.atspi_lawful_caches.proofs.OfCaches.LawCaches.{caches_follow}
 use Rattle.atspi_lawful_caches.proofs.OfServed.LawServed.{steps_asked}
-use Rattle.atspi_lawful_settled.proofs.OfSettled.Settling_parts.{added_more}
+use Rattle.atspi_lawful_caches.proofs.OfSettled.Settling_parts.{added_more}
 use Rattle.atspi_played.proofs.Facts.{Ground, AreDistinct, IsSeen, IsOfApp, IsStarting, SeesWell}
 use Rattle.atspi_played.proofs.AskingWords.{all_both, all_flat, IsFound, all_found}
 use Rattle.atspi_played.proofs.AskingWishes.{own_read}

@@ -9,8 +9,8 @@ use Rattle.atspi_protocol.specs.declared.following.question.Question.TheVariants
 use Rattle.atspi_protocol.specs.following.Calls.{asking}
 use Rattle.atspi_trace.specs.Entry.{Entry, sent, got}
 use Rattle.atspi_lawful.specs.laws.Words.{message, answers_question}
-use Rattle.atspi_lawful_ends.specs.missed.Laws.{IsLoad}
-use Rattle.atspi_lawful_settled.specs.settled.Laws.{NoLoad, IsPartAsked}
+use Rattle.atspi_lawful.specs.missed.Laws.{IsLoad}
+use Rattle.atspi_lawful_caches.specs.settled.Laws.{NoLoad, IsPartAsked}
 
 -- where two lists are one, what stands in the second stands behind the first, or before its end
 pub cut_at : {X : Type 0} (a b xs ys : List X) (y : X) → a ++ b ≡ xs ++ y ∷ ys → ((zs : List X) × (a ≡ xs ++ y ∷ zs)) ⊎ ((zs : List X) × (xs ≡ a ++ zs) × (b ≡ zs ++ y ∷ ys))

@@ -21,7 +21,7 @@ use Rattle.atspi_trace.specs.Hearing.{is_answered, answered_by, fate_of, questio
 use Rattle.atspi_trace.specs.Causes.{Cause, does, at_end, asks}
 use Rattle.atspi_trace.specs.Due.{freed, asks_at}
 use Rattle.atspi_lawful.specs.laws.Words.{name_in}
-use Rattle.atspi_lawful_settled.specs.settled.Laws.{AsksOfNode, IsPartAsked, IsOfNode}
+use Rattle.atspi_lawful_caches.specs.settled.Laws.{AsksOfNode, IsPartAsked, IsOfNode}
 use Rattle.atspi_lawful.proofs.OfOrder.Parties.{no_none, same_some, false_true, all_back}
 use Rattle.atspi_lawful.proofs.OfOrder.Each.{all_map}
 use Rattle.atspi_trace.specs.play.Playing.{silent}

@@ -19,13 +19,13 @@ use Rattle.atspi_trace.specs.Ends.{same_party, number_of, with_end, taken_down}
 use Rattle.atspi_trace.specs.Hearing.{answered_by, fate_of, question_returned, holding_of, lines_if_held, last_lines, app_ended, ended_entries, heard_entries}
 use Rattle.atspi_trace.specs.Causes.{Done, gets, without_bytes, missing, on_end, taken, took, does}
 use Rattle.atspi_lawful.specs.laws.Words.{name_in, message, own_call, answer_to, answers_question}
-use Rattle.atspi_lawful_ends.specs.missed.Laws.{IsLoad}
-use Rattle.atspi_lawful_settled.specs.settled.Laws.{IsAsked, NoLoad}
+use Rattle.atspi_lawful.specs.missed.Laws.{IsLoad}
+use Rattle.atspi_lawful_caches.specs.settled.Laws.{IsAsked, NoLoad}
 use Rattle.atspi_lawful.proofs.OfOrder.Parties.{no_none, same_some, false_true}
 use Rattle.atspi_lawful.proofs.OfHeld.Holdings.{call_at, question_by, returned_is}
-use Rattle.atspi_lawful_ends.proofs.OfNames.Places.{name_told, told_is}
-use Rattle.atspi_lawful_ends.proofs.OfSigned.Mail.{NameIs}
-use Rattle.atspi_lawful_ends.proofs.OfSigned.Self.{app_name}
+use Rattle.atspi_lawful.proofs.OfNames.Places.{name_told, told_is}
+use Rattle.atspi_lawful.proofs.OfSigned.Mail.{NameIs}
+use Rattle.atspi_lawful.proofs.OfSigned.Self.{app_name}
 use Rattle.atspi_lawful.proofs.OfTaken.Said.{IsLetter}
 use Rattle.atspi_played.proofs.Facts.{Ground, RepliesWell, IsReturnedWell, Waits}
 use Rattle.atspi_played.proofs.Pieces.{IsTaking, entries_behind}

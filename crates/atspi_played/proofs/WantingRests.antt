@@ -25,16 +25,16 @@ use Rattle.atspi_trace.specs.Due.{IsSettled}
 use Rattle.atspi_lawful.specs.laws.Words.{name_in, as_of, Kept, held}
 use Rattle.atspi_lawful_caches.specs.caches.Caches.{followed}
 use Rattle.atspi_lawful_caches.specs.caches.Laws.{CacheIs}
-use Rattle.atspi_lawful_settled.specs.settled.Laws.{NothingWaits, IsAsked, question_of, BeginsWell, IsPartAsked, ArePartsAsked, IsNameHere, HasAskedAll, AllAsk}
+use Rattle.atspi_lawful_caches.specs.settled.Laws.{NothingWaits, IsAsked, question_of, BeginsWell, IsPartAsked, ArePartsAsked, IsNameHere, HasAskedAll, AllAsk}
 use Rattle.atspi_lawful.proofs.OfOrder.Parties.{no_none, same_some, false_true}
 use Rattle.atspi_lawful.proofs.OfOrder.Each.{all_map}
 use Rattle.atspi_lawful.proofs.OfHeld.Keeping.{SameKept}
 use Rattle.atspi_lawful_caches.proofs.OfCaches.LawCaches.{caches_follow}
-use Rattle.atspi_lawful_ends.proofs.OfMissed.Registering.{name_is_bus_name}
+use Rattle.atspi_lawful.proofs.OfMissed.Registering.{name_is_bus_name}
 use Rattle.atspi_lawful_caches.proofs.OfServed.LawServed.{steps_asked}
-use Rattle.atspi_lawful_settled.proofs.OfSettled.Settling_serials.{same_hearer}
-use Rattle.atspi_lawful_settled.proofs.OfSettled.Settling_ground.{unique_is}
-use Rattle.atspi_lawful_settled.proofs.OfSettled.Settling_rests.{rests_at}
+use Rattle.atspi_lawful_caches.proofs.OfSettled.Settling_serials.{same_hearer}
+use Rattle.atspi_lawful_caches.proofs.OfSettled.Settling_ground.{unique_is}
+use Rattle.atspi_lawful_caches.proofs.OfSettled.Settling_rests.{rests_at}
 use Rattle.atspi_trace.specs.play.Playing.{Playing}
 use Rattle.atspi_played.proofs.Facts.{Ground, Waits, IsSeen, IsKnownOrGone, WantsOf, Tied, AllTied}
 use Rattle.atspi_played.proofs.SeeingApps.{found_is}

@@ -21,14 +21,14 @@ use Rattle.atspi_trace.specs.Ends.{same_party, party_at, end_at, with_end}
 use Rattle.atspi_trace.specs.Causes.{Done, calls, called, on_end, reader_sends, does, at_end}
 use Rattle.atspi_trace.specs.Due.{asks_as, asks_at}
 use Rattle.atspi_lawful.specs.laws.Words.{name_in}
-use Rattle.atspi_lawful_settled.specs.settled.Laws.{IsPartAsked}
+use Rattle.atspi_lawful_caches.specs.settled.Laws.{IsPartAsked}
 use Rattle.atspi_lawful.proofs.OfOrder.Parties.{no_none, same_some, false_true}
 use Rattle.atspi_lawful.proofs.OfOrder.Frame.{with_cases}
 use Rattle.atspi_lawful.proofs.OfOrder.Each.{all_map}
-use Rattle.atspi_lawful_ends.proofs.OfNames.Places.{first_at, greeted, told_is, greeted_more}
-use Rattle.atspi_lawful_ends.proofs.OfSigned.Mail.{told_more}
+use Rattle.atspi_lawful.proofs.OfNames.Places.{first_at, greeted, told_is, greeted_more}
+use Rattle.atspi_lawful.proofs.OfSigned.Mail.{told_more}
 use Rattle.atspi_lawful_caches.proofs.OfServed.ListingTold.{Embedded}
-use Rattle.atspi_lawful_settled.proofs.OfSettled.Settling_ground.{embedded_app}
+use Rattle.atspi_lawful_caches.proofs.OfSettled.Settling_ground.{embedded_app}
 use Rattle.atspi_trace.specs.play.Playing.{silent}
 use Rattle.atspi_played.proofs.Facts.{Ground, IsGone, IsOfApp, PartWaits, WantsOf, IsKnownOrGone, WantsWell}
 use Rattle.atspi_played.proofs.Pieces.{Skips, WantsAsked, WantsMoved, WantsFirst, WantsCalled}

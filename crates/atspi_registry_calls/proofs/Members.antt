@@ -6,8 +6,8 @@ use Rattle.std.specs.List.{AllByRecursion}
 use Rattle.atspi_types.specs.Kinds.{Kind, kinds_of}
 use Rattle.atspi_types.specs.Signatures.{signature_bytes}
 use Rattle.atspi_types.specs.Data.{Data}
-use Rattle.atspi_codes.specs.TyRefs.{refs_kinds}
-use Rattle.atspi_codes.specs.declared.types.TysRef.{TysRef}
+use Rattle.atspi_cursor.specs.codes.TyRefs.{refs_kinds}
+use Rattle.atspi_cursor.specs.declared.codes.types.TysRef.{TysRef}
 use Rattle.atspi_marshal.specs.Reading.{input_of}
 use Rattle.atspi_cursor.specs.Items.{fields_data, fields_kinds}
 use Rattle.atspi_cursor.specs.declared.cursor.Fields.{Fields}

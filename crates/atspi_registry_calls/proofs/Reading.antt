@@ -4,7 +4,7 @@ use Rattle.std.specs.Prelude.{pos, slice_get, IsTrue}
 use Rattle.std.proofs.lemmas.Str.{chars-nil}
 use Rattle.atspi_types.specs.Kinds.{i32, number, text, path}
 use Rattle.atspi_types.specs.Data.{Data, number_data, text_data, path_data, structure_data, Items, item, items_of, type_of}
-use Rattle.atspi_codes.specs.Codes.{is_structure}
+use Rattle.atspi_cursor.specs.codes.Codes.{is_structure}
 use Rattle.atspi_protocol.specs.members.Arguments.{characters_in, signed_in}
 use Rattle.atspi_registry_calls.specs.Arguments.{reference_of}
 

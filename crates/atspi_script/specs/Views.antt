@@ -3,7 +3,7 @@ use Rattle.std.specs.Prelude.{chars}
 use Rattle.std.specs.Int.{w16, w32, w64, cast_unsigned}
 use Rattle.atspi_types.specs.Kinds.{byte, i16, u16, i32, u32, i64, u64, double, kinds_of}
 use Rattle.atspi_types.specs.Data.{Data, number_data, boolean_data, text_data, path_data, signature_data, array_data, structure_data, dictionary_data, variant_data, items_of}
-use Rattle.atspi_codes.specs.TyRefs.{refs_kinds}
+use Rattle.atspi_cursor.specs.codes.TyRefs.{refs_kinds}
 use Rattle.atspi_marshal.specs.Reading.{entries_in}
 use Rattle.atspi_cursor.specs.Items.{item_data, item_kind, elements_data, elements_kind, entries_data, key_kind, value_kind, fields_data}
 use Rattle.atspi_script.specs.declared.view.Parts.{Parts}

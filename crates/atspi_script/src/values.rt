@@ -6,7 +6,7 @@ ghost use Rattle.atspi_types.specs.Data.{items_of, variant_data};
 ghost use Rattle.atspi_types.specs.Signatures.{signature_bytes};
 ghost use Rattle.atspi_base.specs.Quoted.{in_quotes, quoted};
 ghost use Rattle.atspi_base.specs.Digits.{hex_digits};
-ghost use Rattle.atspi_codes.specs.TyRefs.{refs_kinds};
+ghost use Rattle.atspi_cursor.specs.codes.TyRefs.{refs_kinds};
 ghost use Rattle.atspi_marshal.specs.Reading.{entries_in};
 ghost use Rattle.atspi_cursor.specs.Items.{item_data, item_kind, elements_data, entries_data, fields_data};
 ghost use Rattle.atspi_script.specs.Spaced.{in_brackets, spaced};
@@ -17,7 +17,7 @@ use crate::numbers::{put_number, put_signed};
 use crate::quotes::{put_in_quotes, put_path};
 use crate::view::{Parts, View, view_of};
 use atspi_base::{Bytes, NoMemory, put_hex};
-use atspi_codes::TysRef;
+use atspi_cursor::codes::TysRef;
 use atspi_cursor::{Elements, Entries, Entry, Fields, Item};
 
 /// Appends the text of a value. After want of memory a front of it was appended.

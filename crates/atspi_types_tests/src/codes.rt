@@ -2,7 +2,7 @@
 
 use crate::rows::{put_pair, signature};
 use atspi_base::{Bytes, put_decimal};
-use atspi_codes::{Shape, TyRef, TysRef};
+use atspi_cursor::codes::{Shape, TyRef, TysRef};
 use std::alloc::Global;
 
 /// How many types there are.

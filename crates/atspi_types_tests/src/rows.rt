@@ -8,7 +8,7 @@ use atspi_base::valid_names::{
 use atspi_base::{
     Bytes, Text, TextFault, put_decimal, put_hex, put_in_quotes, put_signed, read_str,
 };
-use atspi_codes::TysRef;
+use atspi_cursor::codes::TysRef;
 use atspi_types::{Fault, ReadFault, Signature};
 use std::alloc::Global;
 use std::process::Abort;

@@ -49,7 +49,7 @@ use Rattle.atspi_lawful.specs.order.Scripts.{CanAllStand}
 use Rattle.atspi_lawful.specs.heard.Laws.{signals_under, IsAmong}
 use Rattle.atspi_lawful.specs.views.Laws.{IsCarried, StepIsCarried, StepsOnTree}
 use Rattle.atspi_lawful_caches.specs.caches.Caches.{unasked, with_items, with_part, replied, reads, reads_if, follows_after, follows_on, followed}
-use Rattle.atspi_lawful_ends.specs.answered.Laws.{TellsItems, TellsPart}
+use Rattle.atspi_lawful.specs.answered.Laws.{TellsItems, TellsPart}
 use Rattle.atspi_lawful_caches.specs.caches.Laws.{IsServed, CacheIs, IsRead, ReadsAt, ReadsDue}
 use Rattle.atspi_lawful.proofs.OfOrder.Parties.{no_none, same_some, party-same, false_true, all_append, all_back, all_front}
 use Rattle.atspi_lawful.proofs.OfSteps.Trees.{tree_more, count_more}
@@ -59,15 +59,15 @@ use Rattle.atspi_lawful.proofs.OfTaken.Found.{found_more, front_more, sent_split
 use Rattle.atspi_lawful.proofs.OfDelivered.LawLinks.{links_hold}
 use Rattle.atspi_lawful.proofs.OfHeld.Keeping.{held_more}
 use Rattle.atspi_lawful.proofs.OfViews.LawViews.{announcements_carry, trees_stand}
-use Rattle.atspi_lawful_ends.specs.signed.Laws.{IsItsName}
-use Rattle.atspi_lawful_ends.proofs.OfSigned.LawSigned.{signed_law}
-use Rattle.atspi_lawful_ends.proofs.OfAnswered.LawAnswered.{items_law, parts_law}
-use Rattle.atspi_lawful_ends.specs.missed.Laws.{IsLoad}
+use Rattle.atspi_lawful.specs.signed.Laws.{IsItsName}
+use Rattle.atspi_lawful.proofs.OfSigned.LawSigned.{signed_law}
+use Rattle.atspi_lawful.proofs.OfAnswered.LawAnswered.{items_law, parts_law}
+use Rattle.atspi_lawful.specs.missed.Laws.{IsLoad}
 use Rattle.atspi_lawful_caches.specs.ways.Laws.{MissesNothing}
-use Rattle.atspi_lawful_ends.proofs.OfMissed.LawMissed.{no_signal_missed}
+use Rattle.atspi_lawful.proofs.OfMissed.LawMissed.{no_signal_missed}
 use Rattle.atspi_lawful_caches.proofs.OfCaches.Served.{Tells, IsWholly, wholly}
-use Rattle.atspi_lawful_ends.proofs.OfSigned.Starts.{StartsAnew, starts_anew}
-use Rattle.atspi_lawful_ends.proofs.OfSigned.Between.{IsStep, OfMessage, behind_first, echo_messages, signal_messages, announced_step, IsAnnounced, SameViews, AllSilent, Walked, walk, echo_lines, none_due, silent_step, OneStep}
+use Rattle.atspi_lawful.proofs.OfSigned.Starts.{StartsAnew, starts_anew}
+use Rattle.atspi_lawful.proofs.OfSigned.Between.{IsStep, OfMessage, behind_first, echo_messages, signal_messages, announced_step, IsAnnounced, SameViews, AllSilent, Walked, walk, echo_lines, none_due, silent_step, OneStep}
 
 -- A MESSAGE IN ITS PLACE
 -- a message has its serial

@@ -13,14 +13,14 @@ use Rattle.atspi_trace.specs.Entry.{Entry, changed, sent, got}
 use Rattle.atspi_lawful.specs.laws.Words.{added, message, before_sent, as_of, answers_question, Kept, held}
 use Rattle.atspi_lawful.specs.laws.NineLaws.{Everywhere, Follow}
 use Rattle.atspi_lawful.specs.heard.Laws.{signals_under, IsAmong}
-use Rattle.atspi_lawful_ends.specs.signed.Laws.{IsItsName, IsSignedTruly}
-use Rattle.atspi_lawful_ends.specs.answered.Laws.{IsItemsTold, IsPartTold, TellsItems, TellsPart}
+use Rattle.atspi_lawful.specs.signed.Laws.{IsItsName, IsSignedTruly}
+use Rattle.atspi_lawful.specs.answered.Laws.{IsItemsTold, IsPartTold, TellsItems, TellsPart}
 use Rattle.atspi_lawful_caches.specs.caches.Laws.{AsksAll, IsServed}
-use Rattle.atspi_lawful_ends.specs.missed.Laws.{NoSignalBetween, IsLoad, TookAll}
+use Rattle.atspi_lawful.specs.missed.Laws.{NoSignalBetween, IsLoad, TookAll}
 use Rattle.atspi_lawful_caches.specs.ways.Laws.{MissesNothing}
-use Rattle.atspi_lawful_ends.proofs.OfNames.Places.{told_is}
-use Rattle.atspi_lawful_ends.proofs.OfSigned.Mail.{told_more}
-use Rattle.atspi_lawful_ends.proofs.OfSigned.Between.{IsSigned}
+use Rattle.atspi_lawful.proofs.OfNames.Places.{told_is}
+use Rattle.atspi_lawful.proofs.OfSigned.Mail.{told_more}
+use Rattle.atspi_lawful.proofs.OfSigned.Between.{IsSigned}
 use Rattle.atspi_lawful.proofs.OfTaken.Found.{found_more, found_here}
 
 -- a return tells the tree

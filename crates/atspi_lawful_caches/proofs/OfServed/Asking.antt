@@ -16,7 +16,7 @@ use Rattle.atspi_lawful.specs.laws.Words.{messages, message, with_serial, before
 use Rattle.atspi_lawful.specs.laws.NineLaws.{sent_before}
 use Rattle.atspi_lawful.specs.serials.Laws.{HasNextNumber}
 use Rattle.atspi_lawful.specs.turns.Laws.{IsEarlier, IsTakenInTurn}
-use Rattle.atspi_lawful_ends.specs.missed.Laws.{IsLoad, AreHeardOf}
+use Rattle.atspi_lawful.specs.missed.Laws.{IsLoad, AreHeardOf}
 use Rattle.atspi_lawful.proofs.OfOrder.Parties.{no_none, party-same, false_true}
 use Rattle.atspi_lawful.proofs.OfOrder.Each.{Each, each_split}
 use Rattle.atspi_lawful.proofs.OfSerials.Serial.{messages_more}

@@ -15,7 +15,7 @@ use Rattle.atspi_trace.specs.Ends.{same_party, end_at, with_end, rest_of, taken_
 use Rattle.atspi_trace.specs.Causes.{Done, did, has_done}
 use Rattle.atspi_lawful.specs.laws.Words.{own_call, heard_pairs}
 use Rattle.atspi_lawful.specs.serials.Laws.{HasNextNumber}
-use Rattle.atspi_lawful_ends.specs.missed.Laws.{AreHeardOf}
+use Rattle.atspi_lawful.specs.missed.Laws.{AreHeardOf}
 use Rattle.atspi_lawful.proofs.OfOrder.Parties.{same_some, party-same, false_true}
 use Rattle.atspi_lawful.proofs.OfOrder.Frame.{Over, over_both, over_with, with_cases, at_changed}
 use Rattle.atspi_lawful.proofs.OfOrder.Shape.{Shape}
@@ -30,7 +30,7 @@ use Rattle.atspi_lawful.proofs.OfHeard.LawHeard.{Pairs}
 use Rattle.atspi_lawful.proofs.OfHeard.Pairs.{heard_more}
 use Rattle.atspi_lawful.proofs.OfHeld.LawHeld.{Readers}
 use Rattle.atspi_lawful.proofs.OfTaken.LawTaken.{Known}
-use Rattle.atspi_lawful_ends.proofs.OfMissed.Arriving.{On}
+use Rattle.atspi_lawful.proofs.OfMissed.Arriving.{On}
 use Rattle.atspi_lawful_caches.proofs.OfServed.Facts.{Embeds, AllHear, Carries}
 use Rattle.atspi_lawful_caches.proofs.OfServed.Asking.{IsService, ServedOn, Served, served_split, HeardAt}
 use Rattle.atspi_lawful_caches.proofs.OfServed.AskingFrame.{patterns, IsCleared, Clear, IsItsCall, IsReadyFor, Minds, IsReader, IsApp, Asking, Calls, embeds_more, served_call, ready_at, CarriesOn, clear_more, WasReader, WasApp, asking_now}

@@ -34,7 +34,7 @@ use Rattle.atspi_trace.specs.Carrying.{bus_entries}
 use Rattle.atspi_trace.specs.Hearing.{heard_entries}
 use Rattle.atspi_trace.specs.Causes.{Done, did, saids, announced_if, app_starts, reader_starts}
 use Rattle.atspi_lawful.specs.laws.Words.{message, before_sent, own_call, question_if, answers_question}
-use Rattle.atspi_lawful_ends.specs.missed.Laws.{IsLoad}
+use Rattle.atspi_lawful.specs.missed.Laws.{IsLoad}
 use Rattle.atspi_lawful.specs.taken.Laws.{IsTakenAsSent}
 use Rattle.atspi_lawful.proofs.OfOrder.Parties.{same_some, party-same, false_true}
 use Rattle.atspi_lawful.proofs.OfOrder.Effects.{received, AppTakes, AppEdits, ReaderTakes, Effect, resets, app_joins, reader_joins, app_edited, app_took, reader_called, swapped, exited_, showed_, told_busy, told_quiet, bus_took, bus_ended, registry_took, reader_took}
@@ -47,14 +47,14 @@ use Rattle.atspi_lawful.proofs.OfOrder.Each.{Each, each_more, each_of, each_spli
 use Rattle.atspi_lawful.proofs.OfSteps.Steps.{Trees}
 use Rattle.atspi_lawful.proofs.OfTaken.Found.{found_more, sent_split}
 use Rattle.atspi_lawful.proofs.OfHeard.Quiet.{heard_all}
-use Rattle.atspi_lawful_ends.proofs.OfNames.LawEnds.{few_greeted}
-use Rattle.atspi_lawful_ends.proofs.OfNames.Places.{greeted}
-use Rattle.atspi_lawful_ends.proofs.OfSigned.Mail.{NameIs, name_more, IsMail, IsPost}
-use Rattle.atspi_lawful_ends.proofs.OfSigned.Self.{unique_told, one_named, for_bus_true}
-use Rattle.atspi_lawful_ends.proofs.OfSigned.LawMail.{Mail}
-use Rattle.atspi_lawful_ends.proofs.OfSigned.Speech.{IsReplyTo, RepliesOnly, NoReply, takes_replies, edit_no_reply}
-use Rattle.atspi_lawful_ends.proofs.OfMissed.LawMissed.{Under_delivered, delivers_keep}
-use Rattle.atspi_lawful_ends.proofs.OfMissed.Delivering.{Delivers}
+use Rattle.atspi_lawful.proofs.OfNames.LawEnds.{few_greeted}
+use Rattle.atspi_lawful.proofs.OfNames.Places.{greeted}
+use Rattle.atspi_lawful.proofs.OfSigned.Mail.{NameIs, name_more, IsMail, IsPost}
+use Rattle.atspi_lawful.proofs.OfSigned.Self.{unique_told, one_named, for_bus_true}
+use Rattle.atspi_lawful.proofs.OfSigned.LawMail.{Mail}
+use Rattle.atspi_lawful.proofs.OfSigned.Speech.{IsReplyTo, RepliesOnly, NoReply, takes_replies, edit_no_reply}
+use Rattle.atspi_lawful.proofs.OfMissed.LawMissed.{Under_delivered, delivers_keep}
+use Rattle.atspi_lawful.proofs.OfMissed.Delivering.{Delivers}
 use Rattle.atspi_lawful_caches.proofs.OfServed.Asking.{Served, served_behind, LoadIsServed, Among, among_front, among_here}
 
 -- A REPLY of an application answers a call that it took, and goes to whom that came from

@@ -28,12 +28,12 @@ use Rattle.atspi_lawful.proofs.OfHeld.LawHeld.{Readers}
 use Rattle.atspi_lawful.proofs.OfTaken.LawTaken.{Known}
 use Rattle.atspi_lawful.proofs.OfTurns.Turning.{IsBehind, Turns}
 use Rattle.atspi_lawful.proofs.OfTurns.LawTurns.{AllTurn}
-use Rattle.atspi_lawful_ends.proofs.OfNames.LawNames.{Named}
-use Rattle.atspi_lawful_ends.proofs.OfNames.Places.{name_told}
-use Rattle.atspi_lawful_ends.proofs.OfSigned.Mail.{IsMail}
-use Rattle.atspi_lawful_ends.proofs.OfSigned.Self.{app_name}
-use Rattle.atspi_lawful_ends.proofs.OfSigned.LawMail.{Mail}
-use Rattle.atspi_lawful_ends.proofs.OfMissed.Arriving.{On}
+use Rattle.atspi_lawful.proofs.OfNames.LawNames.{Named}
+use Rattle.atspi_lawful.proofs.OfNames.Places.{name_told}
+use Rattle.atspi_lawful.proofs.OfSigned.Mail.{IsMail}
+use Rattle.atspi_lawful.proofs.OfSigned.Self.{app_name}
+use Rattle.atspi_lawful.proofs.OfSigned.LawMail.{Mail}
+use Rattle.atspi_lawful.proofs.OfMissed.Arriving.{On}
 use Rattle.atspi_lawful_caches.proofs.OfServed.Facts.{Embeds, Carries, IsListed, AllListed}
 use Rattle.atspi_lawful_caches.proofs.OfServed.Asking.{HeardAt}
 use Rattle.atspi_lawful_caches.proofs.OfServed.AskingFrame.{IsItsCall, IsReadyFor, IsReady, questions, IsReader, IsApp, Asking, asked_at, on_back, IsPut, WasApp, asking_now}

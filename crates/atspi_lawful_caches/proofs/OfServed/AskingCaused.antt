@@ -32,9 +32,9 @@ use Rattle.atspi_lawful.proofs.OfHeard.LawHeard.{Pairs}
 use Rattle.atspi_lawful.proofs.OfHeld.LawHeld.{Readers}
 use Rattle.atspi_lawful.proofs.OfTaken.LawTaken.{Known}
 use Rattle.atspi_lawful.proofs.OfTurns.LawTurns.{AllTurn}
-use Rattle.atspi_lawful_ends.proofs.OfReaders.Fates.{hello_read}
-use Rattle.atspi_lawful_ends.proofs.OfNames.LawNames.{Named}
-use Rattle.atspi_lawful_ends.proofs.OfSigned.LawMail.{Mail}
+use Rattle.atspi_lawful.proofs.OfReaders.Fates.{hello_read}
+use Rattle.atspi_lawful.proofs.OfNames.LawNames.{Named}
+use Rattle.atspi_lawful.proofs.OfSigned.LawMail.{Mail}
 use Rattle.atspi_lawful_caches.proofs.OfServed.Facts.{Embeds, AllHear, Carries, AllListed}
 use Rattle.atspi_lawful_caches.proofs.OfServed.Asking.{HeardAt}
 use Rattle.atspi_lawful_caches.proofs.OfServed.AskingFrame.{IsReady, questions, IsReader, IsApp, Asking, AllAsking, NoCalls, WasReader, WasApp, IsNewApp, asking_now}

@@ -23,7 +23,7 @@ use Rattle.atspi_lawful.proofs.OfHeld.LawHeld.{Readers}
 use Rattle.atspi_lawful.proofs.OfTaken.Found.{found_more}
 use Rattle.atspi_lawful.proofs.OfTaken.Said.{Comes}
 use Rattle.atspi_lawful.proofs.OfTaken.LawTaken.{Known}
-use Rattle.atspi_lawful_ends.proofs.OfMissed.Arriving.{On}
+use Rattle.atspi_lawful.proofs.OfMissed.Arriving.{On}
 use Rattle.atspi_lawful_caches.proofs.OfServed.Facts.{Entered, Embeds, Carries}
 use Rattle.atspi_lawful_caches.proofs.OfServed.Asking.{IsService, ServedOn, Served, served_front, served_split, HeardAt}
 

@@ -16,7 +16,7 @@ use Rattle.atspi_trace.specs.Causes.{did}
 use Rattle.atspi_lawful.specs.laws.Words.{messages, with_serial, heard_pairs}
 use Rattle.atspi_lawful.specs.laws.NineLaws.{sent_before}
 use Rattle.atspi_lawful.specs.serials.Laws.{HasNextNumber}
-use Rattle.atspi_lawful_ends.specs.missed.Laws.{hearing, IsHeardOf, AreHeardOf}
+use Rattle.atspi_lawful.specs.missed.Laws.{hearing, IsHeardOf, AreHeardOf}
 use Rattle.atspi_lawful.proofs.OfOrder.Parties.{false_true}
 use Rattle.atspi_lawful.proofs.OfOrder.Each.{Each, all_map}
 use Rattle.atspi_lawful.proofs.OfLinks.Ups.{From, serials_from}
@@ -24,7 +24,7 @@ use Rattle.atspi_lawful.proofs.OfLinks.LawLinks.{first_unread}
 use Rattle.atspi_lawful.proofs.OfSteps.Doings.{IsStill}
 use Rattle.atspi_lawful.proofs.OfHeard.Pairs.{heard_more}
 use Rattle.atspi_lawful.proofs.OfHeard.Heeding.{NoListeners, IsOneKind}
-use Rattle.atspi_lawful_ends.proofs.OfMissed.Arriving.{On}
+use Rattle.atspi_lawful.proofs.OfMissed.Arriving.{On}
 use Rattle.atspi_lawful_caches.proofs.OfServed.Facts.{up_to, told_by, IsNews, HearsAll}
 use Rattle.atspi_lawful_caches.proofs.OfServed.Asking.{ServedOn, Served, served_split, HeardAt}
 use Rattle.atspi_lawful_caches.proofs.OfServed.AskingFrame.{patterns, IsCleared, Clear}

@@ -32,9 +32,9 @@ use Rattle.atspi_lawful.proofs.OfOwn.Writing.{Lives, lived}
 use Rattle.atspi_lawful.proofs.OfLost.Alive.{registry_lives}
 use Rattle.atspi_lawful.proofs.OfHeard.Quiet.{heard_all}
 use Rattle.atspi_lawful.proofs.OfTaken.LawTaken.{NotGot, did_not_got, sent_not_got, bus_not_got}
-use Rattle.atspi_lawful_ends.proofs.OfReaders.Fates.{both_keep}
-use Rattle.atspi_lawful_ends.proofs.OfQuiet.Here.{Present, present_keeps}
-use Rattle.atspi_lawful_ends.proofs.OfMissed.Covering.{patterns_cover}
+use Rattle.atspi_lawful.proofs.OfReaders.Fates.{both_keep}
+use Rattle.atspi_lawful.proofs.OfQuiet.Here.{Present, present_keeps}
+use Rattle.atspi_lawful.proofs.OfMissed.Covering.{patterns_cover}
 use Rattle.atspi_lawful_caches.proofs.OfServed.Facts.{AllEntered, AllKnown, AllHear, AllListed, Carries}
 use Rattle.atspi_lawful_caches.proofs.OfServed.Asking.{HeardAt, LoadIsServed, AreHeardSince, heard_since}
 use Rattle.atspi_lawful_caches.proofs.OfServed.AskingFrame.{IsReader, AllAsking}

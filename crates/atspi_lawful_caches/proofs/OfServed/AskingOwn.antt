@@ -19,7 +19,7 @@ use Rattle.atspi_trace.specs.Causes.{at_end, asks, reader_sends}
 use Rattle.atspi_trace.specs.Due.{asks_as, asks_at}
 use Rattle.atspi_lawful.specs.laws.Words.{messages, message, own_call, question_if}
 use Rattle.atspi_lawful.specs.laws.NineLaws.{count_got_by_bus}
-use Rattle.atspi_lawful_ends.specs.missed.Laws.{hearing}
+use Rattle.atspi_lawful.specs.missed.Laws.{hearing}
 use Rattle.atspi_lawful.proofs.OfOrder.Parties.{no_none, same_some, false_true, all_append}
 use Rattle.atspi_lawful.proofs.OfOrder.Allowed.{MovedUp, MovedDown, Asks}
 use Rattle.atspi_lawful.proofs.OfOrder.Frame.{Over, with_cases, over_with}

@@ -28,10 +28,10 @@ use Rattle.atspi_lawful.proofs.OfTaken.Handing.{HandsOn, takes_on}
 use Rattle.atspi_lawful.proofs.OfTaken.Handing as handing
 use Rattle.atspi_lawful.proofs.OfTaken.LawTaken.{Known}
 use Rattle.atspi_lawful.proofs.OfTurns.LawTurns.{AllTurn}
-use Rattle.atspi_lawful_ends.proofs.OfNames.LawNames.{Named}
-use Rattle.atspi_lawful_ends.proofs.OfSigned.LawMail.{Mail}
-use Rattle.atspi_lawful_ends.proofs.OfSigned.Handing.{Fine, Gives, Downs, downs_with, PutsAt, stepped_downs, left_downs, settled_downs}
-use Rattle.atspi_lawful_ends.proofs.OfMissed.Arriving.{On}
+use Rattle.atspi_lawful.proofs.OfNames.LawNames.{Named}
+use Rattle.atspi_lawful.proofs.OfSigned.LawMail.{Mail}
+use Rattle.atspi_lawful.proofs.OfSigned.Handing.{Fine, Gives, Downs, downs_with, PutsAt, stepped_downs, left_downs, settled_downs}
+use Rattle.atspi_lawful.proofs.OfMissed.Arriving.{On}
 use Rattle.atspi_lawful_caches.proofs.OfServed.Facts.{Carries, AllListed}
 use Rattle.atspi_lawful_caches.proofs.OfServed.AskingFrame.{IsReady, questions, IsReader, Asking}
 use Rattle.atspi_lawful_caches.proofs.OfServed.AskingKept.{Stays, IsCalm, all_items, ready_over}

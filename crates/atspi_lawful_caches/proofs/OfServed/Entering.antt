@@ -25,14 +25,14 @@ use Rattle.atspi_lawful.proofs.OfOrder.Growing.{Shaped, And}
 use Rattle.atspi_lawful.proofs.OfHeard.Quiet.{heard_all}
 use Rattle.atspi_lawful.proofs.OfLinks.LawLinks.{first_unread}
 use Rattle.atspi_lawful.proofs.OfTurns.Turning.{unread_more}
-use Rattle.atspi_lawful_ends.proofs.OfReaders.Fates.{FateIs, Fated}
-use Rattle.atspi_lawful_ends.proofs.OfNames.Places.{greeted, name_told}
-use Rattle.atspi_lawful_ends.proofs.OfNames.LawNames.{Named}
-use Rattle.atspi_lawful_ends.proofs.OfNames.LawEnds.{few_greeted}
-use Rattle.atspi_lawful_ends.proofs.OfSigned.Mail.{NameIs}
-use Rattle.atspi_lawful_ends.proofs.OfSigned.Self.{unique_told, one_named}
-use Rattle.atspi_lawful_ends.proofs.OfMissed.Telling.{Pair}
-use Rattle.atspi_lawful_ends.proofs.OfMissed.Registering.{NotRegistry, none_sent, did_quiet, bus_quiet, all_sent}
+use Rattle.atspi_lawful.proofs.OfReaders.Fates.{FateIs, Fated}
+use Rattle.atspi_lawful.proofs.OfNames.Places.{greeted, name_told}
+use Rattle.atspi_lawful.proofs.OfNames.LawNames.{Named}
+use Rattle.atspi_lawful.proofs.OfNames.LawEnds.{few_greeted}
+use Rattle.atspi_lawful.proofs.OfSigned.Mail.{NameIs}
+use Rattle.atspi_lawful.proofs.OfSigned.Self.{unique_told, one_named}
+use Rattle.atspi_lawful.proofs.OfMissed.Telling.{Pair}
+use Rattle.atspi_lawful.proofs.OfMissed.Registering.{NotRegistry, none_sent, did_quiet, bus_quiet, all_sent}
 use Rattle.atspi_lawful_caches.proofs.OfServed.Facts.{Entered, IsEntered, AllEntered, IsKnown, AllKnown, Carries}
 use Rattle.atspi_lawful_caches.proofs.OfServed.Spelling.{Spelled, call_of, has_serial, all_found}
 use Rattle.atspi_lawful_caches.proofs.OfServed.Staying.{KeepsPair, registry_keeps}

@@ -38,15 +38,15 @@ use Rattle.atspi_lawful.proofs.OfTurns.Turning.{Turns, unread_more}
 use Rattle.atspi_lawful.proofs.OfTurns.LawTurns.{Turned}
 use Rattle.atspi_lawful.proofs.OfHeld.LawHeld.{SameReader, same_reader}
 use Rattle.atspi_lawful.proofs.OfOwn.Writing.{Lives, lived}
-use Rattle.atspi_lawful_ends.proofs.OfReaders.Fates.{FateIs, Fated, both_keep, hello_read}
-use Rattle.atspi_lawful_ends.proofs.OfNames.Places.{greeted}
-use Rattle.atspi_lawful_ends.proofs.OfNames.LawEnds.{few_greeted}
-use Rattle.atspi_lawful_ends.proofs.OfSigned.Mail.{NameIs, name_more, IsCallOf, IsAnswer, IsMail}
-use Rattle.atspi_lawful_ends.proofs.OfSigned.Self.{unique_told, for_bus_true}
-use Rattle.atspi_lawful_ends.proofs.OfSigned.LawMail.{Mail}
-use Rattle.atspi_lawful_ends.proofs.OfMissed.Ruled.{Ruled, RulesOf}
-use Rattle.atspi_lawful_ends.proofs.OfMissed.Delivering.{Delivers}
-use Rattle.atspi_lawful_ends.proofs.OfMissed.LawMissed.{Under_delivered, delivers_keep}
+use Rattle.atspi_lawful.proofs.OfReaders.Fates.{FateIs, Fated, both_keep, hello_read}
+use Rattle.atspi_lawful.proofs.OfNames.Places.{greeted}
+use Rattle.atspi_lawful.proofs.OfNames.LawEnds.{few_greeted}
+use Rattle.atspi_lawful.proofs.OfSigned.Mail.{NameIs, name_more, IsCallOf, IsAnswer, IsMail}
+use Rattle.atspi_lawful.proofs.OfSigned.Self.{unique_told, for_bus_true}
+use Rattle.atspi_lawful.proofs.OfSigned.LawMail.{Mail}
+use Rattle.atspi_lawful.proofs.OfMissed.Ruled.{Ruled, RulesOf}
+use Rattle.atspi_lawful.proofs.OfMissed.Delivering.{Delivers}
+use Rattle.atspi_lawful.proofs.OfMissed.LawMissed.{Under_delivered, delivers_keep}
 use Rattle.atspi_lawful_caches.proofs.OfServed.Returned.{Fits, Rightly, Under_rightly, rightly_keeps, returned_by}
 use Rattle.atspi_lawful_caches.proofs.OfServed.Spelling.{Spelled, call_of}
 use Rattle.atspi_lawful_caches.proofs.OfServed.EnteringTold.{Under_returned, ReturnsTold, returned_keep}

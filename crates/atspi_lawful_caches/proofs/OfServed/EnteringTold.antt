@@ -26,7 +26,7 @@ use Rattle.atspi_trace.specs.Causes.{Done, at_end, app_starts, reader_starts}
 use Rattle.atspi_trace.specs.Due.{asks_at}
 use Rattle.atspi_lawful.specs.laws.Words.{messages, message, with_serial}
 use Rattle.atspi_lawful.specs.laws.NineLaws.{sent_before}
-use Rattle.atspi_lawful_ends.specs.missed.Laws.{hearing}
+use Rattle.atspi_lawful.specs.missed.Laws.{hearing}
 use Rattle.atspi_lawful.proofs.OfOrder.Parties.{no_none, same_some, false_true, all_append}
 use Rattle.atspi_lawful.proofs.OfOrder.Allowed.{MovedUp, MovedDown}
 use Rattle.atspi_lawful.proofs.OfOrder.Frame.{Over, joined_cases}
@@ -42,17 +42,17 @@ use Rattle.atspi_lawful.proofs.OfSerials.Speaking.{next_of, IsNumbered, registry
 use Rattle.atspi_lawful.proofs.OfHeard.Quiet.{heard_all}
 use Rattle.atspi_lawful.proofs.OfTaken.Found.{found_more}
 use Rattle.atspi_lawful.proofs.OfLinks.Ups.{From, serials_from}
-use Rattle.atspi_lawful_ends.proofs.OfReaders.Fates.{both_keep}
-use Rattle.atspi_lawful_ends.proofs.OfNames.Places.{greeted}
-use Rattle.atspi_lawful_ends.proofs.OfNames.LawNames.{Named}
-use Rattle.atspi_lawful_ends.proofs.OfNames.LawEnds.{few_greeted}
-use Rattle.atspi_lawful_ends.proofs.OfSigned.Mail.{NameIs, name_more, IsMail}
-use Rattle.atspi_lawful_ends.proofs.OfSigned.Speech.{IsItsReply, registry_replies}
-use Rattle.atspi_lawful_ends.proofs.OfSigned.LawMail.{Mail}
-use Rattle.atspi_lawful_ends.proofs.OfEnds.LawEnds.{Ends_told, Under_ends, ends_keep}
-use Rattle.atspi_lawful_ends.proofs.OfMissed.Telling.{Pair, pairs_told, hearing_append}
-use Rattle.atspi_lawful_ends.proofs.OfMissed.Coming.{come_and_go}
-use Rattle.atspi_lawful_ends.proofs.OfMissed.Registering.{HasTold, AsTold, letter_named, NotRegistry, none_sent, did_quiet, bus_quiet, all_sent, Under_told, told_keeps}
+use Rattle.atspi_lawful.proofs.OfReaders.Fates.{both_keep}
+use Rattle.atspi_lawful.proofs.OfNames.Places.{greeted}
+use Rattle.atspi_lawful.proofs.OfNames.LawNames.{Named}
+use Rattle.atspi_lawful.proofs.OfNames.LawEnds.{few_greeted}
+use Rattle.atspi_lawful.proofs.OfSigned.Mail.{NameIs, name_more, IsMail}
+use Rattle.atspi_lawful.proofs.OfSigned.Speech.{IsItsReply, registry_replies}
+use Rattle.atspi_lawful.proofs.OfSigned.LawMail.{Mail}
+use Rattle.atspi_lawful.proofs.OfEnds.LawEnds.{Ends_told, Under_ends, ends_keep}
+use Rattle.atspi_lawful.proofs.OfMissed.Telling.{Pair, pairs_told, hearing_append}
+use Rattle.atspi_lawful.proofs.OfMissed.Coming.{come_and_go}
+use Rattle.atspi_lawful.proofs.OfMissed.Registering.{HasTold, AsTold, letter_named, NotRegistry, none_sent, did_quiet, bus_quiet, all_sent, Under_told, told_keeps}
 use Rattle.atspi_lawful_caches.proofs.OfServed.Facts.{up_to, told_by}
 use Rattle.atspi_lawful_caches.proofs.OfServed.Spelling.{Spelled, spelled_keep}
 use Rattle.atspi_lawful_caches.proofs.OfServed.Staying.{KeepsPair, all_keep, upto_keep, upto_append, registry_keeps, WholeAt, registering_whole}

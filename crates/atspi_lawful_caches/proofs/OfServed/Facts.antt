@@ -15,10 +15,10 @@ use Rattle.atspi_trace.specs.Entry.{Entry}
 use Rattle.atspi_trace.specs.World.{here, Asked, returned, an_application, a_reader, Hearer, Letter, End, World}
 use Rattle.atspi_trace.specs.Ends.{end_at}
 use Rattle.atspi_lawful.specs.laws.Words.{messages, message}
-use Rattle.atspi_lawful_ends.specs.missed.Laws.{hearing}
+use Rattle.atspi_lawful.specs.missed.Laws.{hearing}
 use Rattle.atspi_lawful.proofs.OfLinks.LawLinks.{first_unread}
 use Rattle.atspi_lawful.proofs.OfOwn.Writing.{Lives}
-use Rattle.atspi_lawful_ends.proofs.OfMissed.Arriving.{On}
+use Rattle.atspi_lawful.proofs.OfMissed.Arriving.{On}
 
 -- WHAT THE REGISTRY TOLD up to one of its serials, that with it too, and the pairs that one has who heard just that
 abbrev pub up_to : ℕ → List Envelope → List Envelope

@@ -30,7 +30,7 @@ use Rattle.atspi_trace.specs.Due.{asks_as, asks_at}
 use Rattle.atspi_lawful.specs.laws.Words.{messages, message}
 use Rattle.atspi_lawful.specs.laws.NineLaws.{sent_before, count_got_by_bus}
 use Rattle.atspi_lawful.specs.serials.Laws.{HasNextNumber}
-use Rattle.atspi_lawful_ends.specs.missed.Laws.{ListIsAsTold}
+use Rattle.atspi_lawful.specs.missed.Laws.{ListIsAsTold}
 use Rattle.atspi_lawful.proofs.OfOrder.Parties.{no_none, same_some, false_true}
 use Rattle.atspi_lawful.proofs.OfOrder.Allowed.{MovedUp, MovedDown, Asks}
 use Rattle.atspi_lawful.proofs.OfOrder.Acts.{Act, heard_act, number_at}
@@ -54,18 +54,18 @@ use Rattle.atspi_lawful.proofs.OfTaken.Said as told
 use Rattle.atspi_lawful.proofs.OfTaken.LawTaken.{Known, not_sent_at}
 use Rattle.atspi_lawful.proofs.OfTurns.Turning.{Turns, count_more}
 use Rattle.atspi_lawful.proofs.OfTurns.LawTurns.{Turned}
-use Rattle.atspi_lawful_ends.proofs.OfReaders.Fates.{both_keep}
-use Rattle.atspi_lawful_ends.proofs.OfNames.LawNames.{Named}
-use Rattle.atspi_lawful_ends.proofs.OfNames.LawEnds.{few_greeted}
-use Rattle.atspi_lawful_ends.proofs.OfNames.Places.{greeted}
-use Rattle.atspi_lawful_ends.proofs.OfSigned.Mail.{IsMail}
-use Rattle.atspi_lawful_ends.proofs.OfSigned.Self.{Selves}
-use Rattle.atspi_lawful_ends.proofs.OfSigned.LawMail.{Mail, Under_mail, Known_mail}
-use Rattle.atspi_lawful_ends.proofs.OfMissed.Arriving.{On}
-use Rattle.atspi_lawful_ends.proofs.OfMissed.Resting.{Rested}
-use Rattle.atspi_lawful_ends.proofs.OfMissed.Delivering.{Delivers, all_on}
-use Rattle.atspi_lawful_ends.proofs.OfMissed.LawMissed.{Under_delivered, delivers_keep}
-use Rattle.atspi_lawful_ends.proofs.OfMissed.Registering.{AsTold, told_keeps}
+use Rattle.atspi_lawful.proofs.OfReaders.Fates.{both_keep}
+use Rattle.atspi_lawful.proofs.OfNames.LawNames.{Named}
+use Rattle.atspi_lawful.proofs.OfNames.LawEnds.{few_greeted}
+use Rattle.atspi_lawful.proofs.OfNames.Places.{greeted}
+use Rattle.atspi_lawful.proofs.OfSigned.Mail.{IsMail}
+use Rattle.atspi_lawful.proofs.OfSigned.Self.{Selves}
+use Rattle.atspi_lawful.proofs.OfSigned.LawMail.{Mail, Under_mail, Known_mail}
+use Rattle.atspi_lawful.proofs.OfMissed.Arriving.{On}
+use Rattle.atspi_lawful.proofs.OfMissed.Resting.{Rested}
+use Rattle.atspi_lawful.proofs.OfMissed.Delivering.{Delivers, all_on}
+use Rattle.atspi_lawful.proofs.OfMissed.LawMissed.{Under_delivered, delivers_keep}
+use Rattle.atspi_lawful.proofs.OfMissed.Registering.{AsTold, told_keeps}
 use Rattle.atspi_lawful_caches.proofs.OfServed.Facts.{IsNews, HearsAll, AllHear}
 use Rattle.atspi_lawful_caches.proofs.OfServed.Owning.{KeepsName}
 use Rattle.atspi_lawful_caches.proofs.OfServed.Returned.{Fits, Rightly, Under_rightly, rightly_keeps, returned_by}

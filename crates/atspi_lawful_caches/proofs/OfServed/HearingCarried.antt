@@ -28,7 +28,7 @@ use Rattle.atspi_trace.specs.Causes.{Done}
 use Rattle.atspi_lawful.specs.laws.Words.{message}
 use Rattle.atspi_lawful.specs.laws.NineLaws.{sent_before, count_got_by_bus}
 use Rattle.atspi_lawful.specs.serials.Laws.{HasNextNumber}
-use Rattle.atspi_lawful_ends.specs.missed.Laws.{IsPastList}
+use Rattle.atspi_lawful.specs.missed.Laws.{IsPastList}
 use Rattle.atspi_lawful.proofs.OfOrder.Parties.{no_none, same_some, same-party, false_true}
 use Rattle.atspi_lawful.proofs.OfOrder.BusWords.{bus_all}
 use Rattle.atspi_lawful.proofs.OfOrder.Frame.{Over}
@@ -44,18 +44,18 @@ use Rattle.atspi_lawful.proofs.OfTaken.Handing.{HandsOn, takes_on}
 use Rattle.atspi_lawful.proofs.OfTaken.Said.{IsSaid}
 use Rattle.atspi_lawful.proofs.OfTaken.LawTaken.{Known}
 use Rattle.atspi_lawful.proofs.OfTurns.Turning.{count_more, unread_more}
-use Rattle.atspi_lawful_ends.proofs.OfNames.LawNames.{NamedAt, Named}
-use Rattle.atspi_lawful_ends.proofs.OfNames.Places.{greeted}
-use Rattle.atspi_lawful_ends.proofs.OfSigned.Mail.{NameIs, IsOwn}
-use Rattle.atspi_lawful_ends.proofs.OfSigned.Self.{unique_told, one_named}
-use Rattle.atspi_lawful_ends.proofs.OfSigned.LawMail.{Mail, named_is}
-use Rattle.atspi_lawful_ends.proofs.OfSigned.Unique.{IsIn}
-use Rattle.atspi_lawful_ends.proofs.OfSigned.Handing.{Fine, Gives, Downs, downs_with, PutsAt, stepped_downs, left_downs, settled_downs}
-use Rattle.atspi_lawful_ends.proofs.OfMissed.Arriving.{On, Goes_on, took_goes, ended_goes, passed_on}
-use Rattle.atspi_lawful_ends.proofs.OfMissed.Resting.{Rested, due_joined}
-use Rattle.atspi_lawful_ends.proofs.OfMissed.Ruling.{Has, Removes, takes_has, took_rule, ended_rule, NoReturn, match_taken}
-use Rattle.atspi_lawful_ends.proofs.OfMissed.Returning.{ReturnsTo, OwnOrOther, takes_to, greets_to, not_the_bus}
-use Rattle.atspi_lawful_ends.proofs.OfMissed.Delivering.{all_on}
+use Rattle.atspi_lawful.proofs.OfNames.LawNames.{NamedAt, Named}
+use Rattle.atspi_lawful.proofs.OfNames.Places.{greeted}
+use Rattle.atspi_lawful.proofs.OfSigned.Mail.{NameIs, IsOwn}
+use Rattle.atspi_lawful.proofs.OfSigned.Self.{unique_told, one_named}
+use Rattle.atspi_lawful.proofs.OfSigned.LawMail.{Mail, named_is}
+use Rattle.atspi_lawful.proofs.OfSigned.Unique.{IsIn}
+use Rattle.atspi_lawful.proofs.OfSigned.Handing.{Fine, Gives, Downs, downs_with, PutsAt, stepped_downs, left_downs, settled_downs}
+use Rattle.atspi_lawful.proofs.OfMissed.Arriving.{On, Goes_on, took_goes, ended_goes, passed_on}
+use Rattle.atspi_lawful.proofs.OfMissed.Resting.{Rested, due_joined}
+use Rattle.atspi_lawful.proofs.OfMissed.Ruling.{Has, Removes, takes_has, took_rule, ended_rule, NoReturn, match_taken}
+use Rattle.atspi_lawful.proofs.OfMissed.Returning.{ReturnsTo, OwnOrOther, takes_to, greets_to, not_the_bus}
+use Rattle.atspi_lawful.proofs.OfMissed.Delivering.{all_on}
 use Rattle.atspi_lawful_caches.proofs.OfServed.Facts.{IsNews, OnLink}
 use Rattle.atspi_lawful_caches.proofs.OfServed.HearingWords.{SaysWell, said_well}
 use Rattle.atspi_lawful_caches.proofs.OfServed.HearingFold.{told_more}

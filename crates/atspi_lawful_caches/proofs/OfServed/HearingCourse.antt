@@ -22,7 +22,7 @@ use Rattle.atspi_protocol.specs.exporting.Starting.{awaited, is_number, goes_on,
 use Rattle.atspi_protocol.specs.exporting.Taking.{app_takes, app_edits, takes_other, takes_call, takes_signal, called, stepped, answer_to}
 use Rattle.atspi_lawful.proofs.OfOrder.Parties.{no_none, same_some, false_true}
 use Rattle.atspi_lawful.proofs.OfHeard.Heeding.{IsOfListeners, heard_told, exchanged_told}
-use Rattle.atspi_lawful_ends.proofs.OfSigned.Between.{IsSignal, all_signals}
+use Rattle.atspi_lawful.proofs.OfSigned.Between.{IsSignal, all_signals}
 
 -- HAPPENINGS WITHOUT A CALL
 abbrev pub NoCall : List Happening → Type 0

@@ -13,13 +13,13 @@ use Rattle.atspi_trace.specs.Entry.{Entry, sent}
 use Rattle.atspi_trace.specs.Ends.{same_party}
 use Rattle.atspi_lawful.specs.laws.Words.{messages, message, with_serial, before_sent}
 use Rattle.atspi_lawful.specs.serials.Laws.{HasNextNumber}
-use Rattle.atspi_lawful_ends.specs.missed.Laws.{hearing}
+use Rattle.atspi_lawful.specs.missed.Laws.{hearing}
 use Rattle.atspi_lawful.proofs.OfOrder.Parties.{no_none, same_some, false_true}
 use Rattle.atspi_lawful.proofs.OfOrder.Each.{Each, all_map}
 use Rattle.atspi_lawful.proofs.OfSerials.Serial.{messages_more}
 use Rattle.atspi_lawful.proofs.OfLinks.Ups.{From, serials_from}
 use Rattle.atspi_lawful.proofs.OfTaken.Found.{sent_split}
-use Rattle.atspi_lawful_ends.proofs.OfMissed.Telling.{Pair, pair_is, heard_filter, heard_append, hearing_append}
+use Rattle.atspi_lawful.proofs.OfMissed.Telling.{Pair, pair_is, heard_filter, heard_append, hearing_append}
 use Rattle.atspi_lawful_caches.proofs.OfServed.Facts.{IsNews, up_to, told_by}
 
 -- PAIRS HEARD ALIKE

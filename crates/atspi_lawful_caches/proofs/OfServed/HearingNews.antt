@@ -18,8 +18,8 @@ use Rattle.atspi_match.specs.routing.Routing.{matches, asks_for, receivers, is_s
 use Rattle.atspi_match.specs.routing.Steps.{handed, called, speaks, closes, passes_on, undeliverable, is_unowned, calls_after_all, is_hello, greets, takes_from_named, bus_takes}
 use Rattle.atspi_trace.specs.Rules.{registry_rule, rules_asked, rule_written}
 use Rattle.atspi_lawful.proofs.OfOrder.Parties.{false_true}
-use Rattle.atspi_lawful_ends.proofs.OfSigned.Unique.{IsIn}
-use Rattle.atspi_lawful_ends.proofs.OfMissed.Ruling.{Has, Removes}
+use Rattle.atspi_lawful.proofs.OfSigned.Unique.{IsIn}
+use Rattle.atspi_lawful.proofs.OfMissed.Ruling.{Has, Removes}
 use Rattle.atspi_lawful_caches.proofs.OfServed.Facts.{IsNews}
 use Rattle.atspi_lawful_caches.proofs.OfServed.HearingWords.{IsStart}
 

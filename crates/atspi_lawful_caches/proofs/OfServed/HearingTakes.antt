@@ -24,7 +24,7 @@ use Rattle.atspi_trace.specs.Ends.{same_party}
 use Rattle.atspi_trace.specs.Causes.{did}
 use Rattle.atspi_lawful.specs.laws.Words.{messages, message, with_serial, before_sent}
 use Rattle.atspi_lawful.specs.serials.Laws.{HasNextNumber}
-use Rattle.atspi_lawful_ends.specs.missed.Laws.{IsPastList, heard_on, ListIsAsTold, hearing}
+use Rattle.atspi_lawful.specs.missed.Laws.{IsPastList, heard_on, ListIsAsTold, hearing}
 use Rattle.atspi_lawful.proofs.OfOrder.Parties.{no_none, same_some, party-same, false_true}
 use Rattle.atspi_lawful.proofs.OfOrder.Each.{Each, everywhere}
 use Rattle.atspi_lawful.proofs.OfSerials.Serial.{messages_more}
@@ -34,14 +34,14 @@ use Rattle.atspi_lawful.proofs.OfHeard.Telling as telling
 use Rattle.atspi_lawful.proofs.OfTaken.Found.{NotSent, none_more, found_here, sent_split}
 use Rattle.atspi_lawful.proofs.OfTaken.Said as told
 use Rattle.atspi_lawful.proofs.OfTurns.Turning.{IsBehind, Turns}
-use Rattle.atspi_lawful_ends.proofs.OfNames.Places.{greeted}
-use Rattle.atspi_lawful_ends.proofs.OfSigned.Mail.{NameIs, IsCallOf, IsAnswer, IsPost, IsMail}
-use Rattle.atspi_lawful_ends.proofs.OfSigned.Self.{InStart, IsSelf, unique_told, one_named, for_bus_true}
-use Rattle.atspi_lawful_ends.proofs.OfMissed.Arriving.{On}
-use Rattle.atspi_lawful_ends.proofs.OfMissed.Ruling.{Has}
-use Rattle.atspi_lawful_ends.proofs.OfMissed.Delivering.{all_on}
-use Rattle.atspi_lawful_ends.proofs.OfMissed.Signals.{ForReaders, signal_for}
-use Rattle.atspi_lawful_ends.proofs.OfMissed.Listening.{listen}
+use Rattle.atspi_lawful.proofs.OfNames.Places.{greeted}
+use Rattle.atspi_lawful.proofs.OfSigned.Mail.{NameIs, IsCallOf, IsAnswer, IsPost, IsMail}
+use Rattle.atspi_lawful.proofs.OfSigned.Self.{InStart, IsSelf, unique_told, one_named, for_bus_true}
+use Rattle.atspi_lawful.proofs.OfMissed.Arriving.{On}
+use Rattle.atspi_lawful.proofs.OfMissed.Ruling.{Has}
+use Rattle.atspi_lawful.proofs.OfMissed.Delivering.{all_on}
+use Rattle.atspi_lawful.proofs.OfMissed.Signals.{ForReaders, signal_for}
+use Rattle.atspi_lawful.proofs.OfMissed.Listening.{listen}
 use Rattle.atspi_lawful_caches.proofs.OfServed.Facts.{IsNews, OnLink, told_by}
 use Rattle.atspi_lawful_caches.proofs.OfServed.HearingCourse.{NoCall, Asks, Course, stays, stops, meets, tunes, lists, course, Edited}
 use Rattle.atspi_lawful_caches.proofs.OfServed.HearingWords.{SaysWell, said_well}

@@ -20,7 +20,7 @@ use Rattle.atspi_trace.specs.Ends.{is_here, same_party, number_of, whose, end_at
 use Rattle.atspi_trace.specs.Causes.{did, app_starts}
 use Rattle.atspi_lawful.specs.laws.Words.{messages, message, with_serial}
 use Rattle.atspi_lawful.specs.serials.Laws.{HasNextNumber}
-use Rattle.atspi_lawful_ends.specs.missed.Laws.{IsPastList}
+use Rattle.atspi_lawful.specs.missed.Laws.{IsPastList}
 use Rattle.atspi_lawful.proofs.OfOrder.Parties.{no_none, same_some, party-same, false_true}
 use Rattle.atspi_lawful.proofs.OfOrder.Frame.{Over, IsOrder, with_cases, joined_cases}
 use Rattle.atspi_lawful.proofs.OfOrder.Shape.{Shape}
@@ -32,8 +32,8 @@ use Rattle.atspi_lawful.proofs.OfSerials.Numbers.{Numbered}
 use Rattle.atspi_lawful.proofs.OfLinks.LawLinks.{first_unread}
 use Rattle.atspi_lawful.proofs.OfOwn.Writing.{Lives, lived}
 use Rattle.atspi_lawful.proofs.OfTaken.Found.{found_more, none_more}
-use Rattle.atspi_lawful_ends.proofs.OfMissed.Arriving.{On}
-use Rattle.atspi_lawful_ends.proofs.OfMissed.Ruling.{Has}
+use Rattle.atspi_lawful.proofs.OfMissed.Arriving.{On}
+use Rattle.atspi_lawful.proofs.OfMissed.Ruling.{Has}
 use Rattle.atspi_lawful_caches.proofs.OfServed.Facts.{IsNews, Embeds, OnLink, told_by}
 use Rattle.atspi_lawful_caches.proofs.OfServed.HearingFold.{told_more}
 

@@ -11,7 +11,7 @@ use Rattle.atspi_lawful_caches.specs.caches.Laws.{IsServed}
 use Rattle.atspi_lawful_caches.specs.ways.Laws.{AreHere, AreAskedSince}
 use Rattle.atspi_lawful.proofs.OfOrder.Along.{Keeps}
 use Rattle.atspi_lawful.proofs.OfOrder.Growing.{Shaped, And}
-use Rattle.atspi_lawful_ends.proofs.OfReaders.Fates.{both_keep}
+use Rattle.atspi_lawful.proofs.OfReaders.Fates.{both_keep}
 use Rattle.atspi_lawful_caches.proofs.OfServed.Facts.{AllEntered, AllHear, AllListed}
 use Rattle.atspi_lawful_caches.proofs.OfServed.Entering.{Under_entered, entered_keep, under_known, carries}
 use Rattle.atspi_lawful_caches.proofs.OfServed.HearingTuned.{AllTuned}

@@ -22,19 +22,19 @@ use Rattle.atspi_trace.specs.World.{here, End, World}
 use Rattle.atspi_trace.specs.Ends.{is_here, same_party, end_at}
 use Rattle.atspi_trace.specs.Causes.{Done}
 use Rattle.atspi_lawful.specs.laws.Words.{message}
-use Rattle.atspi_lawful_ends.specs.missed.Laws.{TakesAway}
+use Rattle.atspi_lawful.specs.missed.Laws.{TakesAway}
 use Rattle.atspi_lawful.proofs.OfOrder.Parties.{no_none, same_some, false_true, all_append}
 use Rattle.atspi_lawful.proofs.OfOrder.Shape.{Shape}
 use Rattle.atspi_lawful.proofs.OfOrder.Effects.{RegistryTakes}
-use Rattle.atspi_lawful_ends.proofs.OfNames.Places.{first_at, first_below, greeted}
-use Rattle.atspi_lawful_ends.proofs.OfNames.LawNames.{Named}
-use Rattle.atspi_lawful_ends.proofs.OfSigned.Mail.{NameIs, IsMail}
-use Rattle.atspi_lawful_ends.proofs.OfSigned.Self.{unique_told, one_named}
-use Rattle.atspi_lawful_ends.proofs.OfSigned.LawMail.{Mail}
-use Rattle.atspi_lawful_ends.proofs.OfMissed.Returning.{not_the_bus}
-use Rattle.atspi_lawful_ends.proofs.OfEnds.News.{IsPlain}
-use Rattle.atspi_lawful_ends.proofs.OfEnds.Ordered.{NotFrom, Ordered, AwayAs}
-use Rattle.atspi_lawful_ends.proofs.OfEnds.LawEnds.{Ends_told, away_named}
+use Rattle.atspi_lawful.proofs.OfNames.Places.{first_at, first_below, greeted}
+use Rattle.atspi_lawful.proofs.OfNames.LawNames.{Named}
+use Rattle.atspi_lawful.proofs.OfSigned.Mail.{NameIs, IsMail}
+use Rattle.atspi_lawful.proofs.OfSigned.Self.{unique_told, one_named}
+use Rattle.atspi_lawful.proofs.OfSigned.LawMail.{Mail}
+use Rattle.atspi_lawful.proofs.OfMissed.Returning.{not_the_bus}
+use Rattle.atspi_lawful.proofs.OfEnds.News.{IsPlain}
+use Rattle.atspi_lawful.proofs.OfEnds.Ordered.{NotFrom, Ordered, AwayAs}
+use Rattle.atspi_lawful.proofs.OfEnds.LawEnds.{Ends_told, away_named}
 use Rattle.atspi_lawful_caches.proofs.OfServed.Spelling.{IsCall, Spelled, call_of}
 
 -- A READER THAT IS HERE

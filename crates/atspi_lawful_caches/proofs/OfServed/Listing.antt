@@ -20,8 +20,8 @@ use Rattle.atspi_protocol.specs.registering.Told.{registered, deregistered, id_c
 use Rattle.atspi_protocol.specs.registering.Answers.{Answer, only, registers, deregisters, reference_in, new_child, adopts, children_without, news_of_removal_at, news_of_removal, releases, child_or_nobody, child_at, answers_member, object_at}
 use Rattle.atspi_protocol.specs.registering.Steps.{RegistryStep, answered, answer_to, called_by, named, hears, name_told, name_gone, takes_as, registry_takes}
 use Rattle.atspi_lawful.proofs.OfOrder.Parties.{no_none, same_some, all_append}
-use Rattle.atspi_lawful_ends.proofs.OfMissed.Deregistering.{MemberSays, SaysSo, registry_says}
-use Rattle.atspi_lawful_ends.proofs.OfMissed.Telling.{Pair}
+use Rattle.atspi_lawful.proofs.OfMissed.Deregistering.{MemberSays, SaysSo, registry_says}
+use Rattle.atspi_lawful.proofs.OfMissed.Telling.{Pair}
 
 -- NAMES IN A BODY: those of the references that it lists, and that of the child of which it tells that it was added
 abbrev pub NamesOnly : (List ℕ → Type 0) → List Data → Type 0

@@ -24,16 +24,16 @@ use Rattle.atspi_lawful.proofs.OfOrder.Growing.{Grows, Shaped, Nothing, And, gro
 use Rattle.atspi_lawful.proofs.OfOrder.Each.{all_map}
 use Rattle.atspi_lawful.proofs.OfOwn.Writing.{Lives, lived}
 use Rattle.atspi_lawful.proofs.OfTaken.Found.{found_more}
-use Rattle.atspi_lawful_ends.proofs.OfReaders.Fates.{FateIs, Fated, hello_read, both_keep}
-use Rattle.atspi_lawful_ends.proofs.OfNames.LawNames.{NamedAt, Named}
-use Rattle.atspi_lawful_ends.proofs.OfNames.LawEnds.{few_greeted}
-use Rattle.atspi_lawful_ends.proofs.OfNames.Places.{greeted}
-use Rattle.atspi_lawful_ends.proofs.OfSigned.Mail.{NameIs, IsMail}
-use Rattle.atspi_lawful_ends.proofs.OfSigned.Self.{unique_told, one_named}
-use Rattle.atspi_lawful_ends.proofs.OfSigned.LawMail.{Mail}
-use Rattle.atspi_lawful_ends.proofs.OfMissed.Ruled.{RulesOf, Ruled}
-use Rattle.atspi_lawful_ends.proofs.OfMissed.Delivering.{Delivers}
-use Rattle.atspi_lawful_ends.proofs.OfMissed.LawMissed.{Under_delivered, delivers_keep}
+use Rattle.atspi_lawful.proofs.OfReaders.Fates.{FateIs, Fated, hello_read, both_keep}
+use Rattle.atspi_lawful.proofs.OfNames.LawNames.{NamedAt, Named}
+use Rattle.atspi_lawful.proofs.OfNames.LawEnds.{few_greeted}
+use Rattle.atspi_lawful.proofs.OfNames.Places.{greeted}
+use Rattle.atspi_lawful.proofs.OfSigned.Mail.{NameIs, IsMail}
+use Rattle.atspi_lawful.proofs.OfSigned.Self.{unique_told, one_named}
+use Rattle.atspi_lawful.proofs.OfSigned.LawMail.{Mail}
+use Rattle.atspi_lawful.proofs.OfMissed.Ruled.{RulesOf, Ruled}
+use Rattle.atspi_lawful.proofs.OfMissed.Delivering.{Delivers}
+use Rattle.atspi_lawful.proofs.OfMissed.LawMissed.{Under_delivered, delivers_keep}
 use Rattle.atspi_lawful_caches.proofs.OfServed.Spelling.{Spelled, call_of, spelled_keep}
 use Rattle.atspi_lawful_caches.proofs.OfServed.Returned.{Fits, Rightly, returned_by, Under_rightly, rightly_keeps}
 use Rattle.atspi_lawful_caches.proofs.OfServed.Facts.{Embeds, IsListed, AllListed}

@@ -27,12 +27,12 @@ use Rattle.atspi_lawful.proofs.OfOrder.Shape.{RoleFits, Shape}
 use Rattle.atspi_lawful.proofs.OfOrder.Shaped.{new_app, new_reader, app_joined, received_at}
 use Rattle.atspi_lawful.proofs.OfOrder.Effects.{received, ReaderCalls, RegistryTakes, ReaderTakes, Effect, resets, app_joins, reader_joins, app_edited, app_took, reader_called, swapped, exited_, showed_, told_busy, told_quiet, bus_took, bus_ended, registry_took, reader_took}
 use Rattle.atspi_lawful.proofs.OfHeard.Quiet.{heard_all}
-use Rattle.atspi_lawful_ends.proofs.OfNames.Places.{greeted}
-use Rattle.atspi_lawful_ends.proofs.OfSigned.Mail.{NameIs, IsMail}
-use Rattle.atspi_lawful_ends.proofs.OfSigned.LawMail.{Mail}
-use Rattle.atspi_lawful_ends.proofs.OfMissed.Arriving.{Goes_on, took_goes, ended_goes}
-use Rattle.atspi_lawful_ends.proofs.OfMissed.Registering.{NotRegistry, did_quiet, bus_quiet, role_registry, same_state, all_sent}
-use Rattle.atspi_lawful_ends.proofs.OfMissed.Ruled.{changed_twice}
+use Rattle.atspi_lawful.proofs.OfNames.Places.{greeted}
+use Rattle.atspi_lawful.proofs.OfSigned.Mail.{NameIs, IsMail}
+use Rattle.atspi_lawful.proofs.OfSigned.LawMail.{Mail}
+use Rattle.atspi_lawful.proofs.OfMissed.Arriving.{Goes_on, took_goes, ended_goes}
+use Rattle.atspi_lawful.proofs.OfMissed.Registering.{NotRegistry, did_quiet, bus_quiet, role_registry, same_state, all_sent}
+use Rattle.atspi_lawful.proofs.OfMissed.Ruled.{changed_twice}
 use Rattle.atspi_lawful_caches.proofs.OfServed.Listing.{NamesIn, AreKnown, registry_names}
 use Rattle.atspi_lawful_caches.proofs.OfServed.ListingTold.{Embedded, embedded_more, HasHeard, Listed, known_more, heard_more, told_more, told_as_before, SameChildren, SameHeard, SameBoth, same_children, same_heard, same_both, alike, is_reader_role, no_registry, no_reader, children_over, readers_over, quiet_listed, joined_listed, first_listed, hears_now}
 

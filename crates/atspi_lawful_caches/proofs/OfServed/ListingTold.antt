@@ -31,11 +31,11 @@ use Rattle.atspi_lawful.proofs.OfOrder.Frame.{Over, IsOrder, joined_cases}
 use Rattle.atspi_lawful.proofs.OfOrder.Each.{all_map}
 use Rattle.atspi_lawful.proofs.OfSerials.Serial.{messages_more}
 use Rattle.atspi_lawful.proofs.OfTaken.Found.{found_more}
-use Rattle.atspi_lawful_ends.proofs.OfNames.Places.{greeted}
-use Rattle.atspi_lawful_ends.proofs.OfSigned.Mail.{NameIs, name_more, IsMail}
-use Rattle.atspi_lawful_ends.proofs.OfSigned.Self.{unique_told, one_named}
-use Rattle.atspi_lawful_ends.proofs.OfMissed.Registering.{NotRegistry, none_sent}
-use Rattle.atspi_lawful_ends.proofs.OfMissed.Telling.{and_left, and_right}
+use Rattle.atspi_lawful.proofs.OfNames.Places.{greeted}
+use Rattle.atspi_lawful.proofs.OfSigned.Mail.{NameIs, name_more, IsMail}
+use Rattle.atspi_lawful.proofs.OfSigned.Self.{unique_told, one_named}
+use Rattle.atspi_lawful.proofs.OfMissed.Registering.{NotRegistry, none_sent}
+use Rattle.atspi_lawful.proofs.OfMissed.Telling.{and_left, and_right}
 use Rattle.atspi_lawful_caches.proofs.OfServed.Listing.{NamesOnly, NamesIn, AreKnown}
 
 -- WHOEVER HAS A NAME asked to be embedded

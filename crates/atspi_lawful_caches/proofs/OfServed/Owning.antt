@@ -26,8 +26,8 @@ use Rattle.atspi_match.specs.routing.Routing.{receivers, is_for_bus, owners_of, 
 use Rattle.atspi_match.specs.routing.Steps.{handed, speaks, called, undeliverable, is_unowned, calls_after_all, is_hello, greets, closes, bus_takes}
 use Rattle.atspi_trace.specs.Carrying.{Carried, one_closed, settled}
 use Rattle.atspi_lawful.proofs.OfOrder.Parties.{no_none, same_some, false_true}
-use Rattle.atspi_lawful_ends.proofs.OfNames.Naming.{hello_other, gone_less}
-use Rattle.atspi_lawful_ends.proofs.OfSigned.Unique.{IsIn}
+use Rattle.atspi_lawful.proofs.OfNames.Naming.{hello_other, gone_less}
+use Rattle.atspi_lawful.proofs.OfSigned.Unique.{IsIn}
 
 -- the list of the registry's name is the registry alone, or the registry left and nobody has the name
 abbrev pub alone : List (ℕ × ℕ)

@@ -19,19 +19,19 @@ use Rattle.atspi_trace.specs.World.{Letter}
 use Rattle.atspi_trace.specs.Ends.{same_party}
 use Rattle.atspi_lawful.specs.laws.Words.{message}
 use Rattle.atspi_lawful.specs.serials.Laws.{HasNextNumber}
-use Rattle.atspi_lawful_ends.specs.missed.Laws.{heard_on}
+use Rattle.atspi_lawful.specs.missed.Laws.{heard_on}
 use Rattle.atspi_lawful.proofs.OfOrder.Parties.{same_some, party-same, false_true}
 use Rattle.atspi_lawful.proofs.OfOrder.Each.{Each}
 use Rattle.atspi_lawful.proofs.OfLinks.LawLinks.{first_unread}
 use Rattle.atspi_lawful.proofs.OfHeard.Telling as telling
 use Rattle.atspi_lawful.proofs.OfTaken.Said.{Comes}
 use Rattle.atspi_lawful.proofs.OfTurns.Turning.{IsBehind, Turns}
-use Rattle.atspi_lawful_ends.proofs.OfNames.Places.{name_told}
-use Rattle.atspi_lawful_ends.proofs.OfSigned.Mail.{told_more}
-use Rattle.atspi_lawful_ends.proofs.OfMissed.Arriving.{On}
-use Rattle.atspi_lawful_ends.proofs.OfMissed.Delivering.{all_on}
-use Rattle.atspi_lawful_ends.proofs.OfMissed.Listening.{listen}
-use Rattle.atspi_lawful_ends.proofs.OfMissed.Signals.{ForReaders, signal_for}
+use Rattle.atspi_lawful.proofs.OfNames.Places.{name_told}
+use Rattle.atspi_lawful.proofs.OfSigned.Mail.{told_more}
+use Rattle.atspi_lawful.proofs.OfMissed.Arriving.{On}
+use Rattle.atspi_lawful.proofs.OfMissed.Delivering.{all_on}
+use Rattle.atspi_lawful.proofs.OfMissed.Listening.{listen}
+use Rattle.atspi_lawful.proofs.OfMissed.Signals.{ForReaders, signal_for}
 use Rattle.atspi_lawful_caches.proofs.OfServed.Facts.{IsNews, OnLink, Entered, Embeds, told_by}
 use Rattle.atspi_lawful_caches.proofs.OfServed.AskingFrame.{patterns, IsItsCall, embeds_more, call_before}
 use Rattle.atspi_lawful_caches.proofs.OfServed.HearingFold.{still_alike, no_news, other_news, told_next, told_same}

@@ -13,7 +13,7 @@ use Rattle.atspi_trace.specs.Ends.{same_party, end_at}
 use Rattle.atspi_trace.specs.Carrying as carrying
 use Rattle.atspi_trace.specs.Causes.{Done}
 use Rattle.atspi_lawful.specs.laws.Words.{message, own_call}
-use Rattle.atspi_lawful_ends.specs.missed.Laws.{heard_on}
+use Rattle.atspi_lawful.specs.missed.Laws.{heard_on}
 use Rattle.atspi_lawful.proofs.OfOrder.Parties.{same_some, same-party, party-same, false_true}
 use Rattle.atspi_lawful.proofs.OfOrder.Shape.{Shape, RoleFits}
 use Rattle.atspi_lawful.proofs.OfOrder.Frame.{Over}
@@ -23,10 +23,10 @@ use Rattle.atspi_lawful.proofs.OfOwn.Writing.{Lives, lived}
 use Rattle.atspi_lawful.proofs.OfHeard.Telling as telling
 use Rattle.atspi_lawful.proofs.OfTaken.Said.{IsSaid, Comes}
 use Rattle.atspi_lawful.proofs.OfTurns.Turning.{Turns}
-use Rattle.atspi_lawful_ends.proofs.OfQuiet.Here.{forward}
-use Rattle.atspi_lawful_ends.proofs.OfNames.Places.{name_told}
-use Rattle.atspi_lawful_ends.proofs.OfSigned.Mail.{told_more}
-use Rattle.atspi_lawful_ends.proofs.OfMissed.Arriving.{On, Goes_on, took_goes, ended_goes}
+use Rattle.atspi_lawful.proofs.OfQuiet.Here.{forward}
+use Rattle.atspi_lawful.proofs.OfNames.Places.{name_told}
+use Rattle.atspi_lawful.proofs.OfSigned.Mail.{told_more}
+use Rattle.atspi_lawful.proofs.OfMissed.Arriving.{On, Goes_on, took_goes, ended_goes}
 use Rattle.atspi_lawful_caches.proofs.OfServed.Facts.{Entered, Embeds, Carries, IsListed}
 use Rattle.atspi_lawful_caches.proofs.OfServed.AskingFrame.{patterns, IsItsCall, IsReadyFor, IsReader, Asking, AllAsking, call_before, on_back, ready_at}
 use Rattle.atspi_lawful_caches.proofs.OfServed.AskingBus.{Grown, on_all, turns_apart, in_list, goes_listed}

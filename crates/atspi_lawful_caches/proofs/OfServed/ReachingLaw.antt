@@ -37,7 +37,7 @@ use Rattle.atspi_lawful.proofs.OfHeard.LawHeard.{Pairs}
 use Rattle.atspi_lawful.proofs.OfHeard.Quiet.{heard_all}
 use Rattle.atspi_lawful.proofs.OfTaken.Said.{Comes}
 use Rattle.atspi_lawful.proofs.OfTaken.LawTaken.{Known, NotGot, did_not_got, sent_not_got, bus_not_got}
-use Rattle.atspi_lawful_ends.proofs.OfNames.Places.{told_is}
+use Rattle.atspi_lawful.proofs.OfNames.Places.{told_is}
 use Rattle.atspi_lawful_caches.proofs.OfServed.Facts.{Carries}
 use Rattle.atspi_lawful_caches.proofs.OfServed.Entering.{carries}
 use Rattle.atspi_lawful_caches.proofs.OfServed.AskingFrame.{patterns, AllAsking}

@@ -58,16 +58,16 @@ use Rattle.atspi_lawful.proofs.OfLinks.Ups.{Ups}
 use Rattle.atspi_lawful.proofs.OfTaken.Found.{found_more}
 use Rattle.atspi_lawful.proofs.OfTaken.Said.{IsSaid}
 use Rattle.atspi_lawful.proofs.OfTaken.LawTaken.{Known}
-use Rattle.atspi_lawful_ends.proofs.OfNames.Places.{greeted}
-use Rattle.atspi_lawful_ends.proofs.OfNames.LawNames.{NamedAt, Named}
-use Rattle.atspi_lawful_ends.proofs.OfNames.LawEnds.{few_greeted}
-use Rattle.atspi_lawful_ends.proofs.OfSigned.Mail.{NameIs, name_more, IsOwn, IsMail}
-use Rattle.atspi_lawful_ends.proofs.OfSigned.Self.{unique_told, one_named, for_bus_true}
-use Rattle.atspi_lawful_ends.proofs.OfSigned.Speech.{IsReplyTo, RepliesOnly, takes_replies, edit_silent, IsItsReply, registry_replies}
-use Rattle.atspi_lawful_ends.proofs.OfSigned.Unique.{IsIn}
-use Rattle.atspi_lawful_ends.proofs.OfSigned.LawMail.{Mail, Under_mail, Known_mail, mail_keeps, named_is}
-use Rattle.atspi_lawful_ends.proofs.OfSigned.Handing.{Fine, Gives, handed_gives, speaks_gives, takes_gives, Downs, downs_with, PutsAt, stepped_downs, left_downs, settled_downs}
-use Rattle.atspi_lawful_ends.proofs.OfMissed.Returning.{ReturnsTo, OwnOrOther, takes_to, greets_to, not_the_bus}
+use Rattle.atspi_lawful.proofs.OfNames.Places.{greeted}
+use Rattle.atspi_lawful.proofs.OfNames.LawNames.{NamedAt, Named}
+use Rattle.atspi_lawful.proofs.OfNames.LawEnds.{few_greeted}
+use Rattle.atspi_lawful.proofs.OfSigned.Mail.{NameIs, name_more, IsOwn, IsMail}
+use Rattle.atspi_lawful.proofs.OfSigned.Self.{unique_told, one_named, for_bus_true}
+use Rattle.atspi_lawful.proofs.OfSigned.Speech.{IsReplyTo, RepliesOnly, takes_replies, edit_silent, IsItsReply, registry_replies}
+use Rattle.atspi_lawful.proofs.OfSigned.Unique.{IsIn}
+use Rattle.atspi_lawful.proofs.OfSigned.LawMail.{Mail, Under_mail, Known_mail, mail_keeps, named_is}
+use Rattle.atspi_lawful.proofs.OfSigned.Handing.{Fine, Gives, handed_gives, speaks_gives, takes_gives, Downs, downs_with, PutsAt, stepped_downs, left_downs, settled_downs}
+use Rattle.atspi_lawful.proofs.OfMissed.Returning.{ReturnsTo, OwnOrOther, takes_to, greets_to, not_the_bus}
 use Rattle.atspi_lawful_caches.proofs.OfServed.Owning.{KeepsName, asks_name, takes_keep, gone_keeps, settled_keep, goes_first}
 use Rattle.atspi_lawful_caches.proofs.OfServed.Sending.{Sends, said_sends, takes_send, edits_send, registry_sends}
 

@@ -35,7 +35,7 @@ use Rattle.atspi_trace.specs.World.{Said}
 use Rattle.atspi_trace.specs.Causes.{saids}
 use Rattle.atspi_lawful.proofs.OfOrder.Parties.{all_append}
 use Rattle.atspi_lawful.proofs.OfHeard.Heeding.{IsOfListeners, heard_told, exchanged_told}
-use Rattle.atspi_lawful_ends.proofs.OfSigned.Between.{IsSignal, all_signals}
+use Rattle.atspi_lawful.proofs.OfSigned.Between.{IsSignal, all_signals}
 
 -- WHAT IS SENT, among happenings
 module _ (P : Envelope → Type 0) where

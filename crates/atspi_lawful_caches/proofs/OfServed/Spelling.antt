@@ -23,7 +23,7 @@ use Rattle.atspi_trace.specs.Carrying.{bus_entries}
 use Rattle.atspi_trace.specs.Hearing.{question_in}
 use Rattle.atspi_trace.specs.Causes.{Done, did, app_starts}
 use Rattle.atspi_lawful.specs.laws.Words.{messages, message, with_serial}
-use Rattle.atspi_lawful_ends.specs.missed.Laws.{AsksOnly}
+use Rattle.atspi_lawful.specs.missed.Laws.{AsksOnly}
 use Rattle.atspi_lawful.proofs.OfOrder.Parties.{no_none, same_some, same-party, all_append}
 use Rattle.atspi_lawful.proofs.OfOrder.Plain.{user_plain}
 use Rattle.atspi_lawful.proofs.OfOrder.BusWords.{bus_all, all_any}
@@ -31,7 +31,7 @@ use Rattle.atspi_lawful.proofs.OfOrder.Effects.{received, Effect, resets, app_jo
 use Rattle.atspi_lawful.proofs.OfOrder.Along.{Keeps}
 use Rattle.atspi_lawful.proofs.OfOrder.Growing.{Grows, Shaped, Nothing, And, grown, shaped_keeps}
 use Rattle.atspi_lawful.proofs.OfHeard.Quiet.{heard_all}
-use Rattle.atspi_lawful_ends.proofs.OfReaders.Fates.{hello_read}
+use Rattle.atspi_lawful.proofs.OfReaders.Fates.{hello_read}
 
 -- A MESSAGE of a reader's
 pub record IsCall (e : Envelope) : Type 0 where

@@ -20,10 +20,10 @@ use Rattle.atspi_protocol.specs.registering.Steps.{RegistryStep, answer_to, call
 use Rattle.atspi_protocol.specs.exporting.Hearing.{is_pair, is_heard, one_more, one_less, with_pair, heard_after}
 use Rattle.atspi_protocol.specs.declared.following.question.Question.TheVariants.{RegisterEvent}
 use Rattle.atspi_protocol.specs.following.Calls.{asking}
-use Rattle.atspi_lawful_ends.specs.missed.Laws.{hearing, TakesAway}
+use Rattle.atspi_lawful.specs.missed.Laws.{hearing, TakesAway}
 use Rattle.atspi_lawful.proofs.OfOrder.Parties.{all_append}
-use Rattle.atspi_lawful_ends.proofs.OfMissed.Deregistering.{MemberSays, SaysSo, registry_says}
-use Rattle.atspi_lawful_ends.proofs.OfMissed.Telling.{Pair, pair_is, pair_turned, heard_filter, heard_append}
+use Rattle.atspi_lawful.proofs.OfMissed.Deregistering.{MemberSays, SaysSo, registry_says}
+use Rattle.atspi_lawful.proofs.OfMissed.Telling.{Pair, pair_is, pair_turned, heard_filter, heard_append}
 use Rattle.atspi_lawful_caches.proofs.OfServed.Facts.{up_to}
 
 -- WHOEVER HAS THE PAIR has it behind such a message

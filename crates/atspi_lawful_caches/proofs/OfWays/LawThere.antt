@@ -19,7 +19,7 @@ use Rattle.atspi_trace.specs.Due.{begins, after_all, Goes}
 use Rattle.atspi_lawful.specs.laws.Words.{messages, message, Kept, held}
 use Rattle.atspi_lawful.specs.laws.NineLaws.{sent_before}
 use Rattle.atspi_lawful.specs.order.Scripts.{CanAllStand}
-use Rattle.atspi_lawful_ends.specs.signed.Laws.{IsItsName}
+use Rattle.atspi_lawful.specs.signed.Laws.{IsItsName}
 use Rattle.atspi_lawful_caches.specs.caches.Caches.{followed}
 use Rattle.atspi_lawful_caches.specs.caches.Laws.{IsServed}
 use Rattle.atspi_lawful_caches.specs.ways.Laws.{from_app, down_from, up_of, on_the_way, AllAreThere, LeadsToNow, AreHere, AreAskedSince}
@@ -40,10 +40,10 @@ use Rattle.atspi_lawful.proofs.OfTurns.Turning.{Turns, IsBehind}
 use Rattle.atspi_lawful.proofs.OfTurns.LawTurns.{Beneath_turns, Turned, turns_keep}
 use Rattle.atspi_lawful.proofs.OfHeld.Keeping.{SameKept, ReaderIs}
 use Rattle.atspi_lawful.proofs.OfHeld.LawHeld.{Below_held, Holds, holds_keep}
-use Rattle.atspi_lawful_ends.proofs.OfQuiet.Here.{Present, LiveHere, present_keeps}
-use Rattle.atspi_lawful_ends.proofs.OfMissed.Arriving.{On}
-use Rattle.atspi_lawful_ends.proofs.OfMissed.Delivering.{StandsOn, HeldAll, Delivers}
-use Rattle.atspi_lawful_ends.proofs.OfMissed.LawMissed.{Under_delivered, delivers_keep}
+use Rattle.atspi_lawful.proofs.OfQuiet.Here.{Present, LiveHere, present_keeps}
+use Rattle.atspi_lawful.proofs.OfMissed.Arriving.{On}
+use Rattle.atspi_lawful.proofs.OfMissed.Delivering.{StandsOn, HeldAll, Delivers}
+use Rattle.atspi_lawful.proofs.OfMissed.LawMissed.{Under_delivered, delivers_keep}
 use Rattle.atspi_lawful_caches.proofs.OfWays.LawWays.{on_way, IsKept, on_their_way}
 use Rattle.atspi_lawful_caches.proofs.OfWays.There.{Rising, HasSerial, next, sent_low, all_there}
 

@@ -26,7 +26,7 @@ use Rattle.atspi_lawful.specs.laws.NineLaws.{Everywhere, StepIsOne, LawOfLinks}
 use Rattle.atspi_lawful.specs.order.Scripts.{CanAllStand}
 use Rattle.atspi_lawful.specs.heard.Laws.{signals_under}
 use Rattle.atspi_lawful.specs.views.Laws.{StepIsCarried}
-use Rattle.atspi_lawful_ends.specs.signed.Laws.{IsItsName}
+use Rattle.atspi_lawful.specs.signed.Laws.{IsItsName}
 use Rattle.atspi_lawful_caches.specs.caches.Caches.{unasked, followed}
 use Rattle.atspi_lawful_caches.specs.caches.Laws.{IsServed}
 use Rattle.atspi_lawful_caches.specs.ways.Laws.{from_app, down_from, up_of, on_the_way, MissesNothingSince, AllAreThere, LeadsToNow}
@@ -41,12 +41,12 @@ use Rattle.atspi_lawful.proofs.OfTaken.Said.{IsSaid, Comes}
 use Rattle.atspi_lawful.proofs.OfTaken.LawTaken.{Known, Under, Taken, taken_keeps}
 use Rattle.atspi_lawful.proofs.OfDelivered.LawLinks.{links_hold}
 use Rattle.atspi_lawful.proofs.OfViews.LawViews.{announcements_carry}
-use Rattle.atspi_lawful_ends.proofs.OfSigned.LawSigned.{signed_law}
-use Rattle.atspi_lawful_ends.proofs.OfAnswered.LawAnswered.{items_law, parts_law}
-use Rattle.atspi_lawful_ends.proofs.OfMissed.LawMissed.{no_signal_missed}
-use Rattle.atspi_lawful_ends.proofs.OfSigned.Between.{IsSigned, all_signals, IsSignal, Walked, walk}
+use Rattle.atspi_lawful.proofs.OfSigned.LawSigned.{signed_law}
+use Rattle.atspi_lawful.proofs.OfAnswered.LawAnswered.{items_law, parts_law}
+use Rattle.atspi_lawful.proofs.OfMissed.LawMissed.{no_signal_missed}
+use Rattle.atspi_lawful.proofs.OfSigned.Between.{IsSigned, all_signals, IsSignal, Walked, walk}
 use Rattle.atspi_lawful_caches.proofs.OfCaches.Served.{IsWholly, wholly}
-use Rattle.atspi_lawful_ends.proofs.OfSigned.Starts.{StartsAnew, starts_anew}
+use Rattle.atspi_lawful.proofs.OfSigned.Starts.{StartsAnew, starts_anew}
 use Rattle.atspi_lawful_caches.proofs.OfCaches.LawCaches.{IsLow, low_more, next_view, more_added, IsHad, Has, along}
 
 -- A LAW OF ONE ENTRY MORE

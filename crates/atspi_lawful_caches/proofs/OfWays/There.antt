@@ -14,13 +14,13 @@ use Rattle.atspi_trace.specs.Ends.{same_party}
 use Rattle.atspi_lawful.specs.laws.Words.{messages, message, before_sent}
 use Rattle.atspi_lawful.specs.laws.NineLaws.{sent_before}
 use Rattle.atspi_lawful.specs.serials.Laws.{HasNextNumber}
-use Rattle.atspi_lawful_ends.specs.missed.Laws.{NoSignalBetween}
+use Rattle.atspi_lawful.specs.missed.Laws.{NoSignalBetween}
 use Rattle.atspi_lawful_caches.specs.ways.Laws.{MissesNothing, MissesNothingSince, AllAreThere, AreAskedSince}
 use Rattle.atspi_lawful.proofs.OfOrder.Parties.{no_none, party-same, false_true}
 use Rattle.atspi_lawful.proofs.OfOrder.Each.{Each}
 use Rattle.atspi_lawful.proofs.OfSerials.Numbers.{number_law}
 use Rattle.atspi_lawful.proofs.OfTaken.Found.{found_more, none_more, found_here, front_more, front_here, look_is, looked, sent_split, unsent}
-use Rattle.atspi_lawful_ends.proofs.OfMissed.Consecutive.{none_between}
+use Rattle.atspi_lawful.proofs.OfMissed.Consecutive.{none_between}
 use Rattle.atspi_lawful_caches.proofs.OfCaches.Served.{found_last}
 use Rattle.atspi_lawful_caches.proofs.OfWays.LawWays.{WasSentSo}
 

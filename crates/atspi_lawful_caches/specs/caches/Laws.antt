@@ -19,8 +19,8 @@ use Rattle.atspi_lawful.specs.laws.Words.{live_tree, message, before_sent, as_of
 use Rattle.atspi_lawful.specs.laws.NineLaws.{Everywhere}
 use Rattle.atspi_lawful.specs.order.Scripts.{CanAllStand}
 use Rattle.atspi_lawful.specs.folds.Laws.{AreAllCovered}
-use Rattle.atspi_lawful_ends.specs.signed.Laws.{IsItsName}
-use Rattle.atspi_lawful_ends.specs.missed.Laws.{IsLoad}
+use Rattle.atspi_lawful.specs.signed.Laws.{IsItsName}
+use Rattle.atspi_lawful.specs.missed.Laws.{IsLoad}
 use Rattle.atspi_lawful_caches.specs.caches.Caches.{followed}
 
 -- EACH STEP IS ASKED FOR. Each step of the application that stands behind the last message that the reader took of it and before the one that it takes now

@@ -20,9 +20,9 @@ use Rattle.atspi_trace.specs.Due.{begins, after_all, Begun}
 use Rattle.atspi_lawful.specs.laws.Words.{live_tree, message, before_sent, as_of, heard_pairs, Kept, held, is_live}
 use Rattle.atspi_lawful.specs.order.Scripts.{CanAllStand}
 use Rattle.atspi_lawful.specs.folds.Laws.{AreAllCovered}
-use Rattle.atspi_lawful_ends.specs.signed.Laws.{IsItsName}
+use Rattle.atspi_lawful.specs.signed.Laws.{IsItsName}
 use Rattle.atspi_lawful_caches.specs.caches.Caches.{followed}
-use Rattle.atspi_lawful_ends.specs.missed.Laws.{IsNoSignal}
+use Rattle.atspi_lawful.specs.missed.Laws.{IsNoSignal}
 
 -- what waits on a reader's down link of an application, and what waits on the application's up link
 abbrev pub from_app : ℕ → Letter → Option Said

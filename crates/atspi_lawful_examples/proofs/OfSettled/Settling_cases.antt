@@ -7,7 +7,7 @@ use Rattle.atspi_protocol.specs.declared.following.question.Question.TheVariants
 use Rattle.atspi_trace.specs.Entry.{Entry, sent}
 use Rattle.atspi_trace.specs.World.{Asked}
 use Rattle.atspi_trace.specs.Hearing.{question_in}
-use Rattle.atspi_lawful_settled.specs.settled.Laws.{IsAsked}
+use Rattle.atspi_lawful_caches.specs.settled.Laws.{IsAsked}
 use Rattle.atspi_lawful.proofs.OfOrder.Parties.{false_true, all_front, all_back}
 
 abbrev pub is_hello : Question → Bool

@@ -1,8 +1,8 @@
 use Rattle.std.proofs.Common.{◌≡◌, sym, ap, ◌∙◌, arith}
 use Rattle.std.proofs.lemmas.Bool.{eqb-true, eq-eqb, false≢true}
 use Rattle.atspi_types.specs.Kinds.{Kind, array, number, byte}
-use Rattle.atspi_codes.specs.Codes.{head_code, is_array}
-use Rattle.atspi_codes.specs.TyRefs.{ref_kind}
+use Rattle.atspi_cursor.specs.codes.Codes.{head_code, is_array}
+use Rattle.atspi_cursor.specs.codes.TyRefs.{ref_kind}
 use Rattle.atspi_cursor.proofs.Opens.{leaf_kind}
 use Rattle.atspi_cursor.proofs.cursor.is_bytes.Goals as goal
 

@@ -1,6 +1,6 @@
 use Rattle.std.proofs.Common.{◌≡◌, true, refl, ap, subst, ◌∙◌, arith}
 use Rattle.atspi_types.specs.Kinds.{Kind, variant}
-use Rattle.atspi_codes.specs.TyRefs.{ref_kind, refs_kinds}
+use Rattle.atspi_cursor.specs.codes.TyRefs.{ref_kind, refs_kinds}
 use Rattle.atspi_marshal.specs.Input.{aligned}
 use Rattle.atspi_marshal.specs.Faults.{short_in}
 use Rattle.atspi_marshal.specs.Reading.{input_of, read}

@@ -1,5 +1,5 @@
 use Rattle.std.proofs.Common.{◌≡◌, ◌≤◌, ◌+◌, ◌*◌, length}
-use Rattle.atspi_codes.specs.TyRefs.{refs_kinds}
+use Rattle.atspi_cursor.specs.codes.TyRefs.{refs_kinds}
 use Rattle.atspi_marshal.specs.Reading.{input_of}
 use Rattle.atspi_cursor.specs.Passing.{after, read_all}
 use Rattle.atspi_cursor.proofs.jumping.+jump.Given as goal

@@ -1,5 +1,5 @@
 use Rattle.std.proofs.Common.{arith}
-use Rattle.atspi_codes.specs.TyRefs.{ref_kind}
+use Rattle.atspi_cursor.specs.codes.TyRefs.{ref_kind}
 use Rattle.atspi_marshal.specs.Reading.{input_of}
 use Rattle.atspi_cursor.proofs.Knows.{read_known, ends_behind}
 use Rattle.atspi_cursor.proofs.jumping.jump_other.Goals as goal

@@ -3,7 +3,7 @@ use Rattle.std.proofs.lemmas.Bool.{false≢true}
 use Rattle.atspi_types.specs.Kinds.{no_kinds, kind}
 use Rattle.atspi_types.specs.KindView.{kind_of}
 use Rattle.atspi_types.specs.SignatureView.{signature_types}
-use Rattle.atspi_codes.specs.TyRefs.{ref_kind}
+use Rattle.atspi_cursor.specs.codes.TyRefs.{ref_kind}
 use Rattle.atspi_cursor.proofs.Owns.{spelled_alone, one_kind, first_kind, never_refused}
 use Rattle.atspi_cursor.proofs.owned.owned_type.Goals as goal
 

@@ -2,7 +2,7 @@ use Rattle.std.proofs.Common.{◌∷◌, [], sym, ◌∙◌, ap, ◌<◌, ◌-�
 use Rattle.std.specs.Prelude.{◌==◌}
 use Rattle.std.proofs.lemmas.Result.{err_from_is_err_and}
 use Rattle.atspi_types.specs.Kinds.{structure, kinds_of, byte, i16, u16, i32, u32, i64, u64, double}
-use Rattle.atspi_codes.specs.TyRefs.{ref_kind, refs_kinds}
+use Rattle.atspi_cursor.specs.codes.TyRefs.{ref_kind, refs_kinds}
 use Rattle.atspi_marshal.specs.Faults.{entry_kind, inside}
 use Rattle.atspi_marshal.specs.Reading.{input_of, read, elements_at, single_at, level}
 use Rattle.atspi_marshal.proofs.Levels.{read_is, types_in-kinds_of, level_single}

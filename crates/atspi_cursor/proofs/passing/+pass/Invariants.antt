@@ -1,6 +1,6 @@
 use Rattle.std.proofs.Common.{◌≡◌, ◌≤◌, ◌+◌, ◌-◌, ◌*◌, length}
 use Rattle.atspi_types.specs.Kinds.{structure, kinds_of}
-use Rattle.atspi_codes.specs.TyRefs.{ref_kind, refs_kinds}
+use Rattle.atspi_cursor.specs.codes.TyRefs.{ref_kind, refs_kinds}
 use Rattle.atspi_marshal.specs.Faults.{entry_kind}
 use Rattle.atspi_marshal.specs.Reading.{input_of, read, elements_at}
 use Rattle.atspi_cursor.specs.Passing.{after, up_to, read_all}

@@ -1,5 +1,5 @@
 use Rattle.std.proofs.Common.{◌≡◌}
-use Rattle.atspi_codes.specs.TyRefs.{ref_kind}
+use Rattle.atspi_cursor.specs.codes.TyRefs.{ref_kind}
 use Rattle.atspi_marshal.specs.Reading.{first_of, layers}
 use Rattle.atspi_cursor.proofs.passing.first_item.Given as goal
 

@@ -1,5 +1,5 @@
 use Rattle.std.proofs.Common.{◌≡◌, ◌≤◌, length, [], true, Ok, Err, arith, rules}
-use Rattle.atspi_codes.specs.TyRefs.{refs_kinds}
+use Rattle.atspi_cursor.specs.codes.TyRefs.{refs_kinds}
 use Rattle.atspi_cursor.specs.Items.{fields_data}
 use Rattle.atspi_header.proofs.BodyValues.{values_read, left_over, none_left}
 use Rattle.atspi_header.proofs.parsing.values.Goals as goal

@@ -10,9 +10,9 @@ use Rattle.atspi_message.specs.Envelope.{Envelope}
 use Rattle.atspi_protocol.specs.declared.following.question.Question.TheVariants.{GetItems}
 use Rattle.atspi_protocol.specs.following.Cases.{returned, item, items}
 use Rattle.atspi_lawful_examples.specs.caches.Cases.{its_name, told}
-use Rattle.atspi_lawful_ends.specs.answered.Laws.{TellsItems}
+use Rattle.atspi_lawful.specs.answered.Laws.{TellsItems}
 use Rattle.atspi_lawful.specs.laws.Words.{as_of, answers_question}
-use Rattle.atspi_lawful_ends.specs.signed.Laws.{IsItsName}
+use Rattle.atspi_lawful.specs.signed.Laws.{IsItsName}
 use Rattle.atspi_lawful.proofs.OfOrder.Parties.{no_none, false_true}
 use Rattle.atspi_lawful_examples.proofs.answered.items_as_sent.Goals as goal
 

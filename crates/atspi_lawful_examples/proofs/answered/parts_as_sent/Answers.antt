@@ -7,7 +7,7 @@ use Rattle.atspi_forest.proofs.Path.{path_of_apart}
 use Rattle.atspi_protocol.specs.declared.news.part.PartName.TheVariants.{Text}
 use Rattle.atspi_protocol.specs.declared.following.question.Question.TheVariants.{GetPart}
 use Rattle.atspi_lawful_examples.specs.caches.Cases.{its_name}
-use Rattle.atspi_lawful_ends.specs.answered.Laws.{TellsPart}
+use Rattle.atspi_lawful.specs.answered.Laws.{TellsPart}
 use Rattle.atspi_lawful_examples.specs.answered.Cases.{told_values, text_told, nothing_told_of, unknown_told}
 use Rattle.atspi_lawful.specs.laws.Words.{as_of, answers_question}
 use Rattle.atspi_lawful.proofs.OfOrder.Parties.{no_none}

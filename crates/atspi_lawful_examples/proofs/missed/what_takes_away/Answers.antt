@@ -5,7 +5,7 @@ use Rattle.atspi_protocol.specs.members.Asked.{is_text}
 use Rattle.atspi_protocol.specs.declared.following.question.Question.TheVariants.{Hello}
 use Rattle.atspi_protocol.specs.following.Calls.{asking}
 use Rattle.atspi_protocol.specs.registering.Room.{owner_changed}
-use Rattle.atspi_lawful_ends.specs.missed.Laws.{TakesAway}
+use Rattle.atspi_lawful.specs.missed.Laws.{TakesAway}
 use Rattle.atspi_lawful.proofs.OfOrder.Parties.{no_none, same_some, false_true}
 use Rattle.atspi_lawful_examples.proofs.missed.what_takes_away.Goals as goal
 

@@ -8,7 +8,7 @@ use Rattle.atspi_protocol.specs.following.Cases.{returned, item, items}
 use Rattle.atspi_trace.specs.Entry.{changed, got}
 use Rattle.atspi_lawful.specs.laws.Words.{Kept}
 use Rattle.atspi_lawful_examples.specs.caches.Cases.{its_name, renamed, described}
-use Rattle.atspi_lawful_ends.specs.missed.Laws.{IsNoSignal, NoSignalBetween}
+use Rattle.atspi_lawful.specs.missed.Laws.{IsNoSignal, NoSignalBetween}
 use Rattle.atspi_lawful.proofs.OfOrder.Parties.{no_none, same_some}
 use Rattle.atspi_lawful_examples.proofs.missed.what_was_taken.Goals as goal
 

@@ -15,7 +15,7 @@ use Rattle.atspi_trace.specs.Hearing.{question_in}
 use Rattle.atspi_lawful.specs.laws.Words.{name_in, hello_of}
 use Rattle.atspi_lawful_examples.specs.settled.Cases.{greeted, given_name}
 use Rattle.atspi_lawful.proofs.OfOrder.Parties.{false_true, same_some}
-use Rattle.atspi_lawful_settled.proofs.OfSettled.Settling_parts.{part_read}
+use Rattle.atspi_lawful_caches.proofs.OfSettled.Settling_parts.{part_read}
 use Rattle.atspi_lawful_examples.proofs.settled.what_is_of_a_node.Goals as goal
 
 -- the name and the path that a call for a part says

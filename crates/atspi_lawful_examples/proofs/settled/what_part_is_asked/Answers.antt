@@ -7,8 +7,8 @@ use Rattle.atspi_protocol.specs.following.Calls.{asking}
 use Rattle.atspi_trace.specs.Entry.{Entry, sent, quiet}
 use Rattle.atspi_lawful_examples.specs.caches.Cases.{its_name, told, loaded}
 use Rattle.atspi_lawful_examples.specs.settled.Cases.{asks_text, asked_before}
-use Rattle.atspi_lawful_settled.specs.settled.Laws.{NoLoad}
-use Rattle.atspi_lawful_settled.proofs.OfSettled.Settling_parts.{part_read}
+use Rattle.atspi_lawful_caches.specs.settled.Laws.{NoLoad}
+use Rattle.atspi_lawful_caches.proofs.OfSettled.Settling_parts.{part_read}
 use Rattle.atspi_lawful_examples.proofs.OfSettled.Settling_cases.{part_asked, is_part, no_split, no_middle}
 use Rattle.atspi_lawful_examples.proofs.settled.what_part_is_asked.Goals as goal
 

@@ -5,7 +5,7 @@ use Rattle.atspi_trace.specs.World.{here, first_registry, End}
 use Rattle.atspi_trace.specs.Ends.{is_here, same_party, end_at, stops}
 use Rattle.atspi_lawful_examples.specs.traces.Cases.{with_button, app_state, app_end, reader_end, holding, stopped_world}
 use Rattle.atspi_lawful_examples.specs.settled.Cases.{asked_all, shown_name}
-use Rattle.atspi_lawful_settled.specs.settled.Laws.{IsNameHere}
+use Rattle.atspi_lawful_caches.specs.settled.Laws.{IsNameHere}
 use Rattle.atspi_lawful.proofs.OfOrder.Parties.{same_some, party-same, false_true, no_none}
 use Rattle.atspi_lawful_examples.proofs.OfSettled.Settling_cases.{begins_so, none_asked}
 use Rattle.atspi_lawful_examples.proofs.settled.who_asked_for_all.Goals as goal

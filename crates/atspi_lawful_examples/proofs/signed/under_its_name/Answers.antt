@@ -9,7 +9,7 @@ use Rattle.atspi_trace.specs.Entry.{Entry, sent}
 use Rattle.atspi_lawful.specs.laws.NineLaws.{Follow}
 use Rattle.atspi_lawful.specs.heard.Laws.{signals_under}
 use Rattle.atspi_lawful_examples.specs.signed.Cases.{greeted, removed_as}
-use Rattle.atspi_lawful_ends.specs.signed.Laws.{IsItsName}
+use Rattle.atspi_lawful.specs.signed.Laws.{IsItsName}
 use Rattle.atspi_lawful.proofs.OfOrder.Parties.{same_some}
 use Rattle.atspi_lawful_examples.proofs.signed.under_its_name.Goals as goal
 

@@ -4,7 +4,7 @@ use Rattle.std.specs.List.{AllByRecursion}
 use lib.Utf8.{encode}
 use Rattle.atspi_forest.specs.Path.{path_of}
 use Rattle.atspi_trace.specs.Entry.{changed}
-use Rattle.atspi_lawful_ends.specs.missed.Laws.{IsNoSignal}
+use Rattle.atspi_lawful.specs.missed.Laws.{IsNoSignal}
 use Rattle.atspi_lawful.proofs.OfOrder.Each.{no_entries}
 use Rattle.atspi_lawful_examples.proofs.ways.what_was_missed_since.Goals as goal
 

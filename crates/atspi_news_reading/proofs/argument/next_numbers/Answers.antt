@@ -1,6 +1,6 @@
 use Rattle.atspi_marshal.specs.Reading.{input_of}
 use Rattle.atspi_cursor.specs.Items.{item_data, item_kind, elements_data, elements_kind, fields_data}
-use Rattle.atspi_codes.specs.TyRefs.{ref_kind}
+use Rattle.atspi_cursor.specs.codes.TyRefs.{ref_kind}
 use Rattle.atspi_header.proofs.ReadTypes.{item_type}
 use Rattle.atspi_news_reading.proofs.Came.{no_list_of_numbers, numbers_came, number_code}
 use Rattle.atspi_news_reading.proofs.argument.next_numbers.Goals as goal

@@ -1,6 +1,6 @@
 use Rattle.std.proofs.Common.{◌∙◌, sym, ap}
 use Rattle.std.specs.Option.{option_map}
-use Rattle.atspi_codes.specs.Codes.{is_structure}
+use Rattle.atspi_cursor.specs.codes.Codes.{is_structure}
 use Rattle.atspi_marshal.specs.Reading.{input_of}
 use Rattle.atspi_cursor.specs.Items.{item_data, item_kind, fields_data}
 use Rattle.atspi_header.proofs.ReadTypes.{item_type}

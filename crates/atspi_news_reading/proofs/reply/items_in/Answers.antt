@@ -1,5 +1,5 @@
 use Rattle.std.proofs.Common.{◌∙◌, sym, ap}
-use Rattle.atspi_codes.specs.Codes.{is_array}
+use Rattle.atspi_cursor.specs.codes.Codes.{is_array}
 use Rattle.atspi_marshal.specs.Reading.{input_of}
 use Rattle.atspi_cursor.specs.Items.{item_data, item_kind, elements_data, elements_kind}
 use Rattle.atspi_header.proofs.ReadTypes.{item_type}

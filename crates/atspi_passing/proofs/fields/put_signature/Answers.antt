@@ -2,7 +2,7 @@ use Rattle.std.proofs.Common.{◌≡◌, ◌<◌, ◌∙◌, length, ap, sym}
 use Rattle.std.proofs.lemmas.Result.{err_from_is_err_and}
 use Rattle.atspi_types.specs.Kinds.{kinds_of}
 use Rattle.atspi_types.specs.Data.{items_of, types_of}
-use Rattle.atspi_codes.specs.TyRefs.{refs_kinds}
+use Rattle.atspi_cursor.specs.codes.TyRefs.{refs_kinds}
 use Rattle.atspi_cursor.specs.Items.{fields_data}
 use Rattle.atspi_header.proofs.ReadTypes.{some_types}
 use Rattle.atspi_message.proofs.BodyTypes.{signature_puts, signature_puts_refused}

@@ -1,6 +1,6 @@
 use Rattle.std.proofs.Common.{◌≡◌, ◌<◌, ◌-◌, ◌∷◌, ℕ, true, Result, Ok, Err, refl, ap, ◌∙◌, arith}
 use Rattle.atspi_types.specs.Data.{Data}
-use Rattle.atspi_codes.specs.TyRefs.{ref_kind}
+use Rattle.atspi_cursor.specs.codes.TyRefs.{ref_kind}
 use Rattle.atspi_marshal.specs.Faults.{entry_kind}
 use Rattle.atspi_marshal.specs.Input.{aligned}
 use Rattle.atspi_marshal.specs.Reading.{input_of, read, elements_at}

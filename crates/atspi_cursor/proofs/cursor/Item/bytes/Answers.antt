@@ -2,7 +2,7 @@ use Rattle.std.proofs.Common.{List, ℕ, map, refl, sym, ap, ◌∙◌, arith}
 use Rattle.std.proofs.lemmas.Bool.{false≢true}
 use Rattle.atspi_types.specs.Kinds.{byte, number}
 use Rattle.atspi_types.specs.Data.{array_data, number_data, items_of}
-use Rattle.atspi_codes.specs.TyRefs.{ref_kind}
+use Rattle.atspi_cursor.specs.codes.TyRefs.{ref_kind}
 use Rattle.atspi_marshal.specs.Reading.{input_of}
 use Rattle.atspi_cursor.proofs.Opens.{bytes_opened}
 use Rattle.atspi_cursor.proofs.cursor.Item.bytes.Goals as goal

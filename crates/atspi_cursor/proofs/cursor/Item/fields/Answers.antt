@@ -1,5 +1,5 @@
 use Rattle.std.proofs.Common.{refl, arith}
-use Rattle.atspi_codes.specs.TyRefs.{ref_kind, refs_kinds}
+use Rattle.atspi_cursor.specs.codes.TyRefs.{ref_kind, refs_kinds}
 use Rattle.atspi_marshal.specs.Input.{aligned}
 use Rattle.atspi_marshal.specs.Reading.{input_of}
 use Rattle.atspi_cursor.proofs.Opens.{struct_opened}

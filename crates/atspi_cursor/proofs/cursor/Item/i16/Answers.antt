@@ -4,8 +4,8 @@ use Rattle.std.proofs.lemmas.Int.{of_z-to_z}
 use Rattle.std.proofs.lemmas.Bool.{false≢true}
 use Rattle.atspi_types.specs.Kinds.{number, i16}
 use Rattle.atspi_types.specs.Data.{number_data}
-use Rattle.atspi_codes.specs.Codes.{head_code}
-use Rattle.atspi_codes.specs.TyRefs.{ref_kind}
+use Rattle.atspi_cursor.specs.codes.Codes.{head_code}
+use Rattle.atspi_cursor.specs.codes.TyRefs.{ref_kind}
 use Rattle.atspi_marshal.specs.Reading.{input_of}
 use Rattle.atspi_cursor.proofs.Opens.{number_opened, leaf_kind}
 use Rattle.atspi_cursor.proofs.cursor.Item.i16.Goals as goal

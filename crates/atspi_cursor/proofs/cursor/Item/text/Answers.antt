@@ -1,8 +1,8 @@
 use Rattle.std.proofs.Common.{◌≡◌, ◌+◌, refl, ap, ◌∙◌, length, arith}
 use Rattle.std.proofs.lemmas.Bool.{false≢true}
 use Rattle.atspi_types.specs.Kinds.{text}
-use Rattle.atspi_codes.specs.Codes.{head_code}
-use Rattle.atspi_codes.specs.TyRefs.{ref_kind}
+use Rattle.atspi_cursor.specs.codes.Codes.{head_code}
+use Rattle.atspi_cursor.specs.codes.TyRefs.{ref_kind}
 use Rattle.atspi_marshal.specs.Reading.{input_of}
 use Rattle.atspi_marshal.proofs.Places.{length-slice}
 use Rattle.atspi_cursor.proofs.Opens.{text_opened, leaf_kind}

@@ -1,7 +1,7 @@
 use Rattle.std.proofs.Common.{refl, ap, ◌∙◌, arith}
 use Rattle.std.proofs.lemmas.Bool.{false≢true}
-use Rattle.atspi_codes.specs.Codes.{head_code}
-use Rattle.atspi_codes.specs.TyRefs.{ref_kind}
+use Rattle.atspi_cursor.specs.codes.Codes.{head_code}
+use Rattle.atspi_cursor.specs.codes.TyRefs.{ref_kind}
 use Rattle.atspi_marshal.specs.Faults.{short_in}
 use Rattle.atspi_marshal.specs.Reading.{input_of}
 use Rattle.atspi_cursor.proofs.Opens.{typed_once, variant_type, variant_opened, variant_kind}
