@@ -108,7 +108,11 @@ impl Reader {
     {
         let mut child = child;
         let mut news = news;
-        self.hear(m, &mut child, &mut news)
+        let heard = self.hear(m, &mut child, &mut news);
+        // (each let go by its name, which is dear where it falls out of scope)
+        drop(news);
+        drop(child);
+        heard
     }
 
     /// The registry's name, once it is known.
