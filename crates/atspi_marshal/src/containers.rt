@@ -5,13 +5,14 @@ ghost use Rattle.std.specs.Int.{w32};
 ghost use Rattle.atspi_types.specs.Kinds.{structure, kinds_of, alignment, byte};
 ghost use Rattle.atspi_types.specs.KindView.{kind_of, kinds_in};
 ghost use Rattle.atspi_types.specs.DataView.{data_of, all_data, all_pairs};
-ghost use Rattle.atspi_types.specs.Data.{number_data};
+ghost use Rattle.atspi_types.specs.Data.{number_data, variant_data};
 ghost use Rattle.atspi_marshal.specs.Input.{number_in, byte_in, slice_in, aligned, ReachTo};
 ghost use Rattle.atspi_marshal.specs.Faults.{entry_kind};
 ghost use Rattle.atspi_marshal.specs.Reading.{input_of, Gives, Fails, dictionary_body_at, read, single_at, array_place, array_body_at, array_at, dictionary_at, structure_at, variant_body_at, inner_at, elements_at, fields_at, short_at, deep_at, first_of, is_byte, is_structure, struct_of, structs_in};
 
 use crate::codes::plain_type;
 use crate::input::{Bound, Marshalled, bad, byte_at, slice, u32_at};
+use crate::making::{array_of, dictionary_of};
 use crate::plain::{
     boolean_value, byte_value, double_value, i16_value, i32_value, i64_value, padding, room,
     u16_value, u32_value, u64_value,
@@ -211,7 +212,7 @@ fn array_body(
     };
     let start = padding(input, align, inside, unpadded)?;
     let items = items_of(alloc, input, levels, element, inside, len, start)?;
-    Ok((Value::Array(element.copy(alloc)?, items), inside.end))
+    Ok((array_of(alloc, element, items)?, inside.end))
 }
 
 /// The elements of an array, from a place to its end. Bytes are moved as a whole.
@@ -310,10 +311,7 @@ fn dictionary_body(
     };
     let start = padding(input, 8, inside, unpadded)?;
     let pairs = entries(alloc, input, levels, key, value, inside, len, start)?;
-    Ok((
-        Value::Dict(key.copy(alloc)?, value.copy(alloc)?, pairs),
-        inside.end,
-    ))
+    Ok((dictionary_of(alloc, key, value, pairs)?, inside.end))
 }
 
 /// The entries of a dictionary, from a place to its end.
@@ -389,8 +387,13 @@ fn pair(
         return Err(too_deep(alloc, input, first_item(key), bound, place));
     }
     let (first, between) = value(alloc, input, levels - 1, key, bound, place)?;
-    let (second, end) = value(alloc, input, levels - 1, value_type, bound, between)?;
-    Ok((first, second, end))
+    match value(alloc, input, levels - 1, value_type, bound, between) {
+        Ok((second, end)) => Ok((first, second, end)),
+        Err(refused) => {
+            drop(first);
+            Err(refused)
+        }
+    }
 }
 
 /// A struct.
@@ -435,7 +438,10 @@ fn too_deep(alloc: Global, input: &Marshalled, first: &Ty, bound: Bound, place: 
             }
             bad(place, 20)
         }
-        Ok(_) => bad(place, 20),
+        Ok((item, _)) => {
+            drop(item);
+            bad(place, 20)
+        }
     }
 }
 
@@ -518,7 +524,6 @@ fn variant_body(
 
 /// The variant of a type whose signature's length stands at a place.
 #[cycle(read)]
-#[tactic(auto, unfolding(crate::specs::Reading::inner_at))]
 fn inner(
     alloc: Global,
     input: &Marshalled,
@@ -532,6 +537,31 @@ fn inner(
     ensures read { Gives (λ x. (data_of x.0, x.1)) result (inner_at (levels == 0) (read (input_of input.now) (levels - 1)) (input_of input.now) bound place (kind_of ty)) }
     ensures within { IfOk result (λ x. (place ≤ x.1) × (x.1 ≤ bound.end)) }
 {
+    match inner_item(alloc, input, levels, &ty, bound, place) {
+        Ok((item, end)) => Ok((Value::Variant(ty, item), end)),
+        Err(refused) => {
+            drop(ty);
+            Err(refused)
+        }
+    }
+}
+
+/// The item of that variant. Its type is lent, so that nothing is held while it is read.
+#[cycle(read)]
+#[tactic(auto, unfolding(crate::specs::Reading::inner_at))]
+fn inner_item(
+    alloc: Global,
+    input: &Marshalled,
+    levels: u8,
+    ty: &Ty,
+    bound: Bound,
+    place: usize,
+) -> Result<(Box<Value>, usize), ReadFault>
+    requires at { place + 2 + byte_in (input_of input.now) place ≤ bound.end }
+    requires end { ReachTo input.now bound.end }
+    ensures read { Gives (λ x. (variant_data (kind_of ty.now) (data_of x.0.value), x.1)) result (inner_at (levels == 0) (read (input_of input.now) (levels - 1)) (input_of input.now) bound place (kind_of ty.now)) }
+    ensures within { IfOk result (λ x. (place ≤ x.1) × (x.1 ≤ bound.end)) }
+{
     let len = byte_at(input, place) as usize;
     if levels == 0 {
         return Err(bad(place, 20));
@@ -539,6 +569,6 @@ fn inner(
     if byte_at(input, place + 1 + len) != 0 {
         return Err(bad(place + 1 + len, 12));
     }
-    let (item, end) = value(alloc, input, levels - 1, &ty, bound, place + 2 + len)?;
-    Ok((Value::Variant(ty, Box::new(alloc, item)?), end))
+    let (item, end) = value(alloc, input, levels - 1, ty, bound, place + 2 + len)?;
+    Ok((Box::new(alloc, item)?, end))
 }

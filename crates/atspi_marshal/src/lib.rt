@@ -6,6 +6,7 @@ mod containers;
 mod decoding;
 mod input;
 mod laws;
+mod making;
 mod plain;
 mod text;
 mod writing;

@@ -2,8 +2,7 @@ use Rattle.std.proofs.Common.{◌≡◌, ◌∷◌, [], ◌++◌, List, rules, a
 use Rattle.std.proofs.lemmas.Grind.{common_steps}
 use Rattle.atspi_types.specs.KindView.{kind_of}
 use Rattle.atspi_types.specs.DataView.{data_of, all_data, all_pairs}
-use Rattle.atspi_types.specs.Data.{Data, dictionary_data, entries_of}
-use Rattle.atspi_types.specs.declared.value.Value.TheVariants.{Dict}
+use Rattle.atspi_types.specs.Data.{Data}
 use Rattle.atspi_types.proofs.KindLemmas.{kind_of-Byte, kind_of-Bool, kind_of-I16, kind_of-U16, kind_of-I32, kind_of-U32, kind_of-I64, kind_of-U64, kind_of-Double, kind_of-Text, kind_of-Path, kind_of-Sig, kind_of-Variant, kind_of-Array, kind_of-Struct, kind_of-Dict}
 use Rattle.atspi_marshal.specs.Faults.{entry_kind}
 use Rattle.atspi_marshal.specs.Reading.{input_of, read, elements_at, single_at, level, struct_of, structs_in, deep_at, array_at, array_body_at, dictionary_at, inner_at, short_at, structure_at, variant_body_at}
@@ -11,10 +10,8 @@ use Rattle.std.specs.Prelude.{◌==◌}
 use Rattle.std.proofs.Common.{◌-◌, ◌+◌, ◌%◌, ℕ, Ok, Result, length, map}
 use Rattle.std.proofs.lemmas.Bool.{false≢true}
 use Rattle.std.proofs.lemmas.List.{length-map}
-use Rattle.atspi_types.specs.Kinds.{Kind}
 use Rattle.atspi_types.specs.SignatureView.{signature_types}
 use Rattle.atspi_types.specs.declared.fault.Fault.{Fault}
-use Rattle.atspi_types.proofs.DataLemmas.{data_of-Dict}
 use Rattle.atspi_marshal.proofs.Answers.{empty_deep, not_one, dictionary_made, made_at}
 use Rattle.atspi_marshal.proofs.ByteArrays.{bytes_given}
 use Rattle.atspi_marshal.proofs.Levels.{read_is, types_in-kinds_of, level_single}
@@ -129,11 +126,8 @@ dictionary_body-returns-clause-read t c =
     let i = input_of c.args.input.now in
     let key = kind_of c.args.key.now in
     let value = kind_of c.args.value.now in
-    let es = entries_of (all_pairs c.in_ok-pairs.pairs) in
-    let same : dictionary_data key value es ≡ data_of (Dict c.in_ok-copy.field-0 c.in_ok-copy-2.field-0 c.in_ok-pairs.pairs) =
-    ap (λ (j : Kind). dictionary_data j value es) (sym c.in_ok-copy.ensures) ∙ (ap (λ (j : Kind). dictionary_data (kind_of c.in_ok-copy.field-0) j es) (sym c.in_ok-copy-2.ensures) ∙ sym (data_of-Dict c.in_ok-copy.field-0 c.in_ok-copy-2.field-0 c.in_ok-pairs.pairs)) in
     dictionary_made (read i c.args.levels) i key value c.args.place c.u32_at-len.result c.in_ok-start.start (all_pairs c.in_ok-pairs.pairs) c.u32_at-len.ensures c.in_ok-start.ensures.place c.in_ok-pairs.ensures.read
-    ∙ ap (λ (d : Data). made_at d (c.args.place + 4 + (8 - (c.args.place + 4) % 8) % 8 + c.u32_at-len.result)) same
+    ∙ ap (λ (d : Data). made_at d (c.args.place + 4 + (8 - (c.args.place + 4) % 8) % 8 + c.u32_at-len.result)) (sym c.in_ok-dictionary_of.ensures)
 
 pub variant_body-returns-in-None-clause-read : goal.variant_body-returns-in-None-clause-read
 variant_body-returns-in-None-clause-read t c =
@@ -254,14 +248,6 @@ pub array_body-returns-in_err-items-clause-within : goal.array_body-returns-in_e
 unfolding array_body_at
 array_body-returns-in_err-items-clause-within t c = grind (arith, common_steps)
 
-pub array_body-returns-in_err-copy-clause-read : goal.array_body-returns-in_err-copy-clause-read
-unfolding array_body_at
-array_body-returns-in_err-copy-clause-read t c = grind (arith, common_steps)
-
-pub array_body-returns-in_err-copy-clause-within : goal.array_body-returns-in_err-copy-clause-within
-unfolding array_body_at
-array_body-returns-in_err-copy-clause-within t c = grind (arith, common_steps)
-
 pub array_body-returns-clause-within : goal.array_body-returns-clause-within
 unfolding array_body_at
 array_body-returns-clause-within t c = grind (arith, common_steps)
@@ -366,22 +352,6 @@ pub dictionary_body-returns-in_err-pairs-clause-within : goal.dictionary_body-re
 unfolding array_body_at
 dictionary_body-returns-in_err-pairs-clause-within t c = grind (arith, common_steps)
 
-pub dictionary_body-returns-in_err-copy-clause-read : goal.dictionary_body-returns-in_err-copy-clause-read
-unfolding array_body_at
-dictionary_body-returns-in_err-copy-clause-read t c = grind (arith, common_steps)
-
-pub dictionary_body-returns-in_err-copy-clause-within : goal.dictionary_body-returns-in_err-copy-clause-within
-unfolding array_body_at
-dictionary_body-returns-in_err-copy-clause-within t c = grind (arith, common_steps)
-
-pub dictionary_body-returns-in_err-copy-2-clause-read : goal.dictionary_body-returns-in_err-copy-2-clause-read
-unfolding array_body_at
-dictionary_body-returns-in_err-copy-2-clause-read t c = grind (arith, common_steps)
-
-pub dictionary_body-returns-in_err-copy-2-clause-within : goal.dictionary_body-returns-in_err-copy-2-clause-within
-unfolding array_body_at
-dictionary_body-returns-in_err-copy-2-clause-within t c = grind (arith, common_steps)
-
 pub dictionary_body-returns-clause-within : goal.dictionary_body-returns-clause-within
 unfolding array_body_at
 dictionary_body-returns-clause-within t c = grind (arith, common_steps)
@@ -473,85 +443,85 @@ fields_of-returns-clause-read t c = grind (arith, common_steps)
 pub fields_of-returns-clause-within : goal.fields_of-returns-clause-within
 fields_of-returns-clause-within t c = grind (arith, common_steps)
 
-pub inner-byte_at-len-requires : goal.inner-byte_at-len-requires
+pub inner_item-byte_at-len-requires : goal.inner_item-byte_at-len-requires
 unfolding inner_at
-inner-byte_at-len-requires t c = grind (arith, common_steps)
+inner_item-byte_at-len-requires t c = grind (arith, common_steps)
 
-pub inner-overflow_cast-len : goal.inner-overflow_cast-len
+pub inner_item-overflow_cast-len : goal.inner_item-overflow_cast-len
 unfolding inner_at
-inner-overflow_cast-len t c = grind (arith, common_steps)
+inner_item-overflow_cast-len t c = grind (arith, common_steps)
 
-pub inner-bad-requires : goal.inner-bad-requires
+pub inner_item-bad-requires : goal.inner_item-bad-requires
 unfolding inner_at
-inner-bad-requires t c = grind (arith, common_steps)
+inner_item-bad-requires t c = grind (arith, common_steps)
 
-pub inner-returns-then-levels-eq0-clause-read : goal.inner-returns-then-levels-eq0-clause-read
+pub inner_item-returns-then-levels-eq0-clause-read : goal.inner_item-returns-then-levels-eq0-clause-read
 unfolding inner_at
-inner-returns-then-levels-eq0-clause-read t c = grind (arith, common_steps)
+inner_item-returns-then-levels-eq0-clause-read t c = grind (arith, common_steps)
 
-pub inner-overflow_add-place : goal.inner-overflow_add-place
+pub inner_item-overflow_add-place : goal.inner_item-overflow_add-place
 unfolding inner_at
-inner-overflow_add-place t c = grind (arith, common_steps)
+inner_item-overflow_add-place t c = grind (arith, common_steps)
 
-pub inner-overflow_add-place-2 : goal.inner-overflow_add-place-2
+pub inner_item-overflow_add-place-2 : goal.inner_item-overflow_add-place-2
 unfolding inner_at
-inner-overflow_add-place-2 t c = grind (arith, common_steps)
+inner_item-overflow_add-place-2 t c = grind (arith, common_steps)
 
-pub inner-byte_at-requires : goal.inner-byte_at-requires
+pub inner_item-byte_at-requires : goal.inner_item-byte_at-requires
 unfolding inner_at
-inner-byte_at-requires t c = grind (arith, common_steps)
+inner_item-byte_at-requires t c = grind (arith, common_steps)
 
-pub inner-overflow_add-place-then-byte_at-ne0 : goal.inner-overflow_add-place-then-byte_at-ne0
+pub inner_item-overflow_add-place-then-byte_at-ne0 : goal.inner_item-overflow_add-place-then-byte_at-ne0
 unfolding inner_at
-inner-overflow_add-place-then-byte_at-ne0 t c = grind (arith, common_steps)
+inner_item-overflow_add-place-then-byte_at-ne0 t c = grind (arith, common_steps)
 
-pub inner-overflow_add-place-then-byte_at-ne0-2 : goal.inner-overflow_add-place-then-byte_at-ne0-2
+pub inner_item-overflow_add-place-then-byte_at-ne0-2 : goal.inner_item-overflow_add-place-then-byte_at-ne0-2
 unfolding inner_at
-inner-overflow_add-place-then-byte_at-ne0-2 t c = grind (arith, common_steps)
+inner_item-overflow_add-place-then-byte_at-ne0-2 t c = grind (arith, common_steps)
 
-pub inner-bad-requires-then-byte_at-ne0 : goal.inner-bad-requires-then-byte_at-ne0
+pub inner_item-bad-requires-then-byte_at-ne0 : goal.inner_item-bad-requires-then-byte_at-ne0
 unfolding inner_at
-inner-bad-requires-then-byte_at-ne0 t c = grind (arith, common_steps)
+inner_item-bad-requires-then-byte_at-ne0 t c = grind (arith, common_steps)
 
-pub inner-returns-then-byte_at-ne0-clause-read : goal.inner-returns-then-byte_at-ne0-clause-read
+pub inner_item-returns-then-byte_at-ne0-clause-read : goal.inner_item-returns-then-byte_at-ne0-clause-read
 unfolding inner_at
-inner-returns-then-byte_at-ne0-clause-read t c = grind (arith, common_steps)
+inner_item-returns-then-byte_at-ne0-clause-read t c = grind (arith, common_steps)
 
-pub inner-overflow_sub-levels : goal.inner-overflow_sub-levels
+pub inner_item-overflow_sub-levels : goal.inner_item-overflow_sub-levels
 unfolding inner_at
-inner-overflow_sub-levels t c = grind (arith, common_steps)
+inner_item-overflow_sub-levels t c = grind (arith, common_steps)
 
-pub inner-overflow_add-place-3 : goal.inner-overflow_add-place-3
+pub inner_item-overflow_add-place-3 : goal.inner_item-overflow_add-place-3
 unfolding inner_at
-inner-overflow_add-place-3 t c = grind (arith, common_steps)
+inner_item-overflow_add-place-3 t c = grind (arith, common_steps)
 
-pub inner-overflow_add-place-4 : goal.inner-overflow_add-place-4
+pub inner_item-overflow_add-place-4 : goal.inner_item-overflow_add-place-4
 unfolding inner_at
-inner-overflow_add-place-4 t c = grind (arith, common_steps)
+inner_item-overflow_add-place-4 t c = grind (arith, common_steps)
 
-pub inner-value-requires : goal.inner-value-requires
+pub inner_item-value-requires : goal.inner_item-value-requires
 unfolding inner_at
-inner-value-requires t c = grind (arith, common_steps)
+inner_item-value-requires t c = grind (arith, common_steps)
 
-pub inner-returns-in_err-item-clause-read : goal.inner-returns-in_err-item-clause-read
+pub inner_item-returns-in_err-item-clause-read : goal.inner_item-returns-in_err-item-clause-read
 unfolding inner_at
-inner-returns-in_err-item-clause-read t c = grind (arith, common_steps)
+inner_item-returns-in_err-item-clause-read t c = grind (arith, common_steps)
 
-pub inner-returns-in_err-item-clause-within : goal.inner-returns-in_err-item-clause-within
+pub inner_item-returns-in_err-item-clause-within : goal.inner_item-returns-in_err-item-clause-within
 unfolding inner_at
-inner-returns-in_err-item-clause-within t c = grind (arith, common_steps)
+inner_item-returns-in_err-item-clause-within t c = grind (arith, common_steps)
 
-pub inner-returns-in_err-new-clause-read : goal.inner-returns-in_err-new-clause-read
+pub inner_item-returns-in_err-new-clause-read : goal.inner_item-returns-in_err-new-clause-read
 unfolding inner_at
-inner-returns-in_err-new-clause-read t c = grind (arith, common_steps)
+inner_item-returns-in_err-new-clause-read t c = grind (arith, common_steps)
 
-pub inner-returns-in_err-new-clause-within : goal.inner-returns-in_err-new-clause-within
+pub inner_item-returns-in_err-new-clause-within : goal.inner_item-returns-in_err-new-clause-within
 unfolding inner_at
-inner-returns-in_err-new-clause-within t c = grind (arith, common_steps)
+inner_item-returns-in_err-new-clause-within t c = grind (arith, common_steps)
 
-pub inner-returns-clause-within : goal.inner-returns-clause-within
+pub inner_item-returns-clause-within : goal.inner_item-returns-clause-within
 unfolding inner_at
-inner-returns-clause-within t c = grind (arith, common_steps)
+inner_item-returns-clause-within t c = grind (arith, common_steps)
 
 pub items_of-bytes-requires : goal.items_of-bytes-requires
 items_of-bytes-requires t c = grind (arith, common_steps)
@@ -613,22 +583,6 @@ pair-overflow_sub-levels-2 t c = grind (arith, common_steps)
 pub pair-value-requires-2 : goal.pair-value-requires-2
 unfolding structure_at
 pair-value-requires-2 t c = grind (arith, common_steps)
-
-pub pair-returns-in_err-second-clause-read : goal.pair-returns-in_err-second-clause-read
-unfolding structure_at
-pair-returns-in_err-second-clause-read t c = grind (arith, common_steps)
-
-pub pair-returns-in_err-second-clause-within : goal.pair-returns-in_err-second-clause-within
-unfolding structure_at
-pair-returns-in_err-second-clause-within t c = grind (arith, common_steps)
-
-pub pair-returns-clause-read : goal.pair-returns-clause-read
-unfolding structure_at
-pair-returns-clause-read t c = grind (arith, common_steps)
-
-pub pair-returns-clause-within : goal.pair-returns-clause-within
-unfolding structure_at
-pair-returns-clause-within t c = grind (arith, common_steps)
 
 pub single-byte_value-requires-clause-at : goal.single-byte_value-requires-clause-at
 single-byte_value-requires-clause-at t c = grind (arith, common_steps)
@@ -830,9 +784,6 @@ too_deep-bad-requires t c = grind (arith, common_steps)
 pub too_deep-bad-requires-in-Ok : goal.too_deep-bad-requires-in-Ok
 too_deep-bad-requires-in-Ok t c = grind (arith, common_steps)
 
-pub too_deep-returns : goal.too_deep-returns
-too_deep-returns t c = grind (arith, common_steps)
-
 pub value-structure-requires : goal.value-structure-requires
 value-structure-requires t c = grind (arith, common_steps)
 
@@ -936,3 +887,50 @@ variant_body-returns-in-Some-single-clause-within t c = grind (arith, common_ste
 pub variant_body-returns-else-levels-eq0-clause-read : goal.variant_body-returns-else-levels-eq0-clause-read
 unfolding variant_body_at
 variant_body-returns-else-levels-eq0-clause-read t c = grind (arith, common_steps)
+
+pub pair-returns-in-Ok-clause-read : goal.pair-returns-in-Ok-clause-read
+unfolding structure_at
+pair-returns-in-Ok-clause-read t c = grind (arith, common_steps)
+
+pub pair-returns-in-Ok-clause-within : goal.pair-returns-in-Ok-clause-within
+unfolding structure_at
+pair-returns-in-Ok-clause-within t c = grind (arith, common_steps)
+
+pub pair-returns-in-Err-clause-read : goal.pair-returns-in-Err-clause-read
+unfolding structure_at
+pair-returns-in-Err-clause-read t c = grind (arith, common_steps)
+
+pub pair-returns-in-Err-clause-within : goal.pair-returns-in-Err-clause-within
+unfolding structure_at
+pair-returns-in-Err-clause-within t c = grind (arith, common_steps)
+
+pub array_body-returns-in_err-array_of-clause-read : goal.array_body-returns-in_err-array_of-clause-read
+unfolding array_body_at
+array_body-returns-in_err-array_of-clause-read t c = grind (arith, common_steps)
+
+pub dictionary_body-returns-in_err-dictionary_of-clause-read : goal.dictionary_body-returns-in_err-dictionary_of-clause-read
+unfolding array_body_at
+dictionary_body-returns-in_err-dictionary_of-clause-read t c = grind (arith, common_steps)
+
+pub array_body-returns-in_err-array_of-clause-within : goal.array_body-returns-in_err-array_of-clause-within
+unfolding array_body_at
+array_body-returns-in_err-array_of-clause-within t c = grind (arith, common_steps)
+
+pub dictionary_body-returns-in_err-dictionary_of-clause-within : goal.dictionary_body-returns-in_err-dictionary_of-clause-within
+unfolding array_body_at
+dictionary_body-returns-in_err-dictionary_of-clause-within t c = grind (arith, common_steps)
+
+pub inner-inner_item-requires : goal.inner-inner_item-requires
+inner-inner_item-requires t c = grind (arith, common_steps)
+
+pub inner-returns-in-Ok-clause-within : goal.inner-returns-in-Ok-clause-within
+inner-returns-in-Ok-clause-within t c = grind (arith, common_steps)
+
+pub inner-returns-in-Err-clause-read : goal.inner-returns-in-Err-clause-read
+inner-returns-in-Err-clause-read t c = grind (arith, common_steps)
+
+pub inner-returns-in-Err-clause-within : goal.inner-returns-in-Err-clause-within
+inner-returns-in-Err-clause-within t c = grind (arith, common_steps)
+
+pub too_deep-returns-in-Ok : goal.too_deep-returns-in-Ok
+too_deep-returns-in-Ok t c = grind (arith, common_steps)

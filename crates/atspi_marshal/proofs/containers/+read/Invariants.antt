@@ -39,6 +39,9 @@ decreases-variant_body a = 16 * a.levels + 2
 abbrev pub decreases-inner : goal.decreases-inner
 decreases-inner a = 16 * a.levels + 1
 
+abbrev pub decreases-inner_item : goal.decreases-inner_item
+decreases-inner_item a = 16 * a.levels
+
 abbrev pub decreases-array_body : goal.decreases-array_body
 decreases-array_body a = 16 * a.levels + 18
 
