@@ -6,6 +6,8 @@ ghost use Rattle.atspi_host.specs.Calls.{IsOpen};
 use atspi_base::Text;
 use atspi_host::{Did, Host};
 use atspi_sockets::NetHost;
+use std::alloc::Global;
+use std::process::Abort;
 use std::test::*;
 
 /// So often a call is tried that finds nothing ready.
@@ -88,25 +90,68 @@ fn pass<A: Host, B: Host>(from: &mut A, on: u32, to: &mut B, at: u32, bytes: &[u
     false
 }
 
-#[test]
-fn bytes_pass_each_way(rt: HostRuntime) -> Result<(), Fail> {
-    let alloc = rt.alloc();
-    let path = Text::read(alloc, b"passing.socket")?;
+/// The links of two hosts that met: that of the host that listened, and that of the one that connected.
+#[derive(Clone, Copy)]
+struct Met {
+    at: u32,
+    on: u32,
+}
+
+/// The link that is made to who listens at a path.
+fn connected<H: Host>(host: &mut H, path: &Text) -> Option<u32>
+    ensures { IfSome result (λ link. IsOpen link (H.links host.new)) }
+{
+    match host.connect(path) {
+        Did::Done(link) => Some(link),
+        Did::NotYet => None,
+        Did::End => None,
+        Did::Failed => None,
+    }
+}
+
+/// One host listens at a path, and the other connects to it.
+fn meet<A: Host, B: Host>(rt: &impl Abort, here: &mut A, there: &mut B, path: &Text) -> Met
+    ensures at { IsOpen result.at (A.links here.new) }
+    ensures on { IsOpen result.on (B.links there.new) }
+{
+    assert_eq!(rt; here.listen(path), Did::Done(0));
+    let on = connected(there, path).expect(rt, "a connect");
+    let at = accepted(here).expect(rt, "an accept");
+    Met { at, on }
+}
+
+/// More bytes than one call reads, none of which is as the one before.
+fn bytes_to_pass(rt: &impl Abort, alloc: Global) -> Vec<u8> {
     let mut bytes = Vec::new(alloc);
     for n in 0u32..5000 {
-        bytes.push((n % 251) as u8)?;
+        bytes.push((n % 251) as u8).expect(rt, "memory");
     }
-    let mut here = NetHost::new(alloc, &rt, None)?;
-    let mut there = NetHost::new(alloc, &rt, None)?;
-    assert_eq!(rt; here.listen(&path), Did::Done(0));
-    let Did::Done(on) = there.connect(&path) else {
-        return Err(Fail::new("a connect"));
-    };
-    let Some(at) = accepted(&mut here) else {
-        return Err(Fail::new("an accept"));
-    };
-    assert!(rt; pass(&mut there, on, &mut here, at, &bytes));
-    assert!(rt; pass(&mut here, at, &mut there, on, &bytes));
+    bytes
+}
+
+/// The bytes pass between two hosts that met, first from the one that connected.
+fn pass_each_way<A: Host, B: Host>(
+    rt: &impl Abort,
+    here: &mut A,
+    there: &mut B,
+    met: Met,
+    bytes: &[u8],
+)
+    requires at { IsOpen met.at (A.links here.old) }
+    requires on { IsOpen met.on (B.links there.old) }
+{
+    assert!(rt; pass(there, met.on, here, met.at, bytes));
+    assert!(rt; pass(here, met.at, there, met.on, bytes));
+}
+
+#[test]
+fn bytes_pass_each_way(rt: HostRuntime) {
+    let alloc = rt.alloc();
+    let path = Text::read(alloc, b"passing.socket").expect(&rt, "a path");
+    let bytes = bytes_to_pass(&rt, alloc);
+    let mut here = NetHost::new(alloc, &rt, None).expect(&rt, "a host");
+    let mut there = NetHost::new(alloc, &rt, None).expect(&rt, "another host");
+    let met = meet(&rt, &mut here, &mut there, &path);
+    pass_each_way(&rt, &mut here, &mut there, met, &bytes);
     here.leave(&path);
-    Ok(())
 }
