@@ -1,7 +1,7 @@
 //! The root of an application, and the keys of its rows by their paths.
 
-ghost use Rattle.std.specs.Prelude.{◌≡◌, ◌≢◌, ◌==◌, ℕ, List, [], Option, cond, true, false, Some, None, IsSome, OnOk, OnErr, IfOk, bytes_eq};
-ghost use Rattle.std.specs.HashMap.{get_by_text};
+ghost use Rattle.std.specs.Prelude.{◌≡◌, ◌≢◌, ◌==◌, ℕ, List, [], Option, cond, true, false, Some, None, IsSome, OnOk, OnErr, IfOk, ◌<◌, bytes_eq, string_bytes};
+ghost use Rattle.std.specs.HashMap.{get_by_text, spare};
 ghost use Rattle.std.specs.Option.{option_copied};
 ghost use Rattle.slab.specs.Slab.{HasRoomFor};
 ghost use Rattle.atspi_forest.specs.declared.view.Row.{Row};
@@ -42,9 +42,7 @@ pub(crate) fn insert_below(
     ensures err { OnErr result ((n : ℕ) → look_in cells.new n ≡ look_in cells.old n) }
     ensures err_index { OnErr result ((q : List ℕ) → get_by_text paths.new.index q ≡ get_by_text paths.old.index q) }
 {
-    let own = String::from_str(alloc, row.path.as_str())?;
-    cells.reserve(1)?;
-    paths.index.reserve(1)?;
+    let own = make_ready(alloc, cells, paths, &row.path)?;
     let key = cells.vacant_key();
     let seat = seat_for(cells, parent, at);
     link(cells, parent, at, key)?;
@@ -58,6 +56,25 @@ pub(crate) fn insert_below(
         Ok(_) => Ok(()),
         Err(_) => unreachable!(),
     }
+}
+
+/// Makes room for one more row, and gives its path for the index.
+fn make_ready(
+    alloc: Global,
+    cells: &mut Slab<Cell>,
+    paths: &mut Paths,
+    path: &Path,
+) -> Result<String, NoMemory>
+    ensures path { IfOk result (λ own. string_bytes own ≡ path.now) }
+    ensures cells_room { OnOk result (HasRoomFor cells.new 1) }
+    ensures index_room { OnOk result (0 < spare paths.new.index) }
+    ensures cells { cells.new ≡ record cells.old { capacity = cells.new.capacity } }
+    ensures index { (q : List ℕ) → get_by_text paths.new.index q ≡ get_by_text paths.old.index q }
+    ensures root { paths.new.root ≡ paths.old.root }
+{
+    cells.reserve(1)?;
+    paths.index.reserve(1)?;
+    Ok(String::from_str(alloc, path.as_str())?)
 }
 
 /// Removes the cells of some keys, and their paths.
@@ -131,9 +148,7 @@ pub(crate) fn put_root(
     ensures err_index { OnErr result ((q : List ℕ) → get_by_text paths.new.index q ≡ get_by_text paths.old.index q) }
     ensures err_root { OnErr result (paths.new.root ≡ paths.old.root) }
 {
-    let own = String::from_str(alloc, row.path.as_str())?;
-    cells.reserve(1)?;
-    paths.index.reserve(1)?;
+    let own = make_ready(alloc, cells, paths, &row.path)?;
     let key = cells.vacant_key();
     cells.insert_reserved(Cell {
         row,
