@@ -72,25 +72,67 @@ fn owned_bus_name(alloc: Global, bus_name: Option<&str>) -> Result<Option<BusNam
     }
 }
 
+/// What a message is about, owned: the names of an object's path, of an interface and of a member of it.
+#[derive(Drop)]
+struct Subject {
+    path: Option<Path>,
+    interface: Option<Interface>,
+    member: Option<Member>,
+}
+
+/// The name of an error and the names of both ends of a message, owned.
+#[derive(Drop)]
+struct Ends {
+    error: Option<Interface>,
+    destination: Option<BusName>,
+    sender: Option<BusName>,
+}
+
 impl<'a> MessageRef<'a> {
-    /// The message, owned. Memory alone can be wanting.
+    /// What the message is about, owned.
     #[tactic(auto, using(crate::proofs::Names::each_named))]
+    fn subject(&self, alloc: Global) -> Result<Subject, NoMemory>
+        ensures { IfOk result (λ subject. (subject.path ≡ bytes_of self.now.path) × (subject.interface ≡ bytes_of self.now.interface) × (subject.member ≡ bytes_of self.now.member)) }
+    {
+        Ok(Subject {
+            path: owned_path(alloc, self.path)?,
+            interface: owned_interface(alloc, self.interface)?,
+            member: owned_member(alloc, self.member)?,
+        })
+    }
+
+    /// The name of the error and the names of both ends, owned.
+    #[tactic(auto, using(crate::proofs::Names::each_named))]
+    fn ends(&self, alloc: Global) -> Result<Ends, NoMemory>
+        ensures { IfOk result (λ ends. (ends.error ≡ bytes_of self.now.error) × (ends.destination ≡ bytes_of self.now.destination) × (ends.sender ≡ bytes_of self.now.sender)) }
+    {
+        Ok(Ends {
+            error: owned_interface(alloc, self.error)?,
+            destination: owned_bus_name(alloc, self.destination)?,
+            sender: owned_bus_name(alloc, self.sender)?,
+        })
+    }
+
+    /// The message, owned. Memory alone can be wanting.
     pub fn owned(&self, alloc: Global) -> Result<Message, NoMemory>
         ensures { IfOk result (λ message. envelope_of message ≡ envelope_at self.now) }
     {
+        let body = self.body.values(alloc)?;
+        let subject = self.subject(alloc)?;
+        let ends = self.ends(alloc)?;
         Ok(Message {
             order: self.order,
             kind: self.kind,
             flags: self.flags,
             serial: self.serial,
-            path: owned_path(alloc, self.path)?,
-            interface: owned_interface(alloc, self.interface)?,
-            member: owned_member(alloc, self.member)?,
-            error: owned_interface(alloc, self.error)?,
+            path: subject.path,
+            interface: subject.interface,
+            member: subject.member,
+            error: ends.error,
             reply: self.reply,
-            destination: owned_bus_name(alloc, self.destination)?,
-            sender: owned_bus_name(alloc, self.sender)?,
-            body: self.body.values(alloc)?,
+            destination: ends.destination,
+            sender: ends.sender,
+            body,
         })
     }
 }
