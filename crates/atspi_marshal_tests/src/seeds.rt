@@ -2,8 +2,8 @@
 
 use crate::marshal::told;
 use atspi_base::Bytes;
-use atspi_cursor::codes::TysRef;
 use atspi_cursor::Fields;
+use atspi_cursor::codes::TysRef;
 use atspi_types::{Order, ValueRef, Values};
 use std::alloc::Global;
 use std::process::Abort;
