@@ -1,1 +1,1 @@
-mod Asker
+pub mod Asker
