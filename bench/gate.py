@@ -6,8 +6,8 @@ usage: bench/gate.py watch PID FILE     while `rt ci` runs as PID: writes what e
        bench/gate.py plan FILE [LANES [GB]]
                                         at the top of the repository: the clock of `rt ci` on so many processors, 4 with no number, in its own order with
                                         these costs, and the chain of crates that cannot be shorter; what FILE lacks counts 0.06 s a line. With GB, the free
-                                        memory, a check begins only where the memory that kit 13f reckons for it fits beside those that run
-       bench/gate.py memory [GB]        at the top of the repository: the crates for which kit 13f reckons the most memory, and which of them fit only beside
+                                        memory, a check begins only where the memory that the kit reckons for it fits beside those that run
+       bench/gate.py memory [GB]        at the top of the repository: the crates for which the kit reckons the most memory, and which of them fit only beside
                                         fewer than three others of the middle size, of 24 GB with no number
 
 FILE has a line for each check: crate, kind (proof, tests, edits), processor seconds, and the minute at which it began and ended. Edit it to see what a cut
@@ -108,7 +108,7 @@ def lines_of(crate, ending):
 
 
 def reckoned(uses, lines):
-    """Returns the bytes that kit 13f reckons for a check of each crate, before it starts one (without the kit's own libraries, which are small here)."""
+    """Returns the bytes that the kit reckons for a check of each crate, before it starts one (without the kit's own libraries, which are small here)."""
     known = {}
 
     def below(crate):
