@@ -1,3 +1,5 @@
+pub mod OfGuarded
+pub mod OfFace
 pub mod AskedLemmas
 pub mod PlaceLemmas
 pub mod SideLemmas

@@ -1,3 +1,5 @@
+pub mod guarded
+pub mod face
 pub mod Asked
 pub mod Kept
 pub mod Places

@@ -3,22 +3,22 @@ use Rattle.std.proofs.Common.{◌≡◌, ℕ, List, [], ◌∷◌, ◌++◌, len
 use Rattle.std.specs.Prelude.{◌≢◌, ◌⊎◌}
 use Rattle.atspi_base.specs.Outside.{AppendsPart, Rose}
 use Rattle.atspi_message.specs.Envelope.{Envelope}
-use Rattle.atspi_host.specs.declared.call.Did.{Did}
-use Rattle.atspi_host.specs.declared.call.Did.TheVariants.{Done, NotYet, End, Failed}
-use Rattle.atspi_host.specs.declared.call.Call.{Call}
-use Rattle.atspi_host.specs.declared.call.Call.TheVariants.{Connect}
-use Rattle.atspi_host.specs.Calls.{Adds, Counts, IsOpen, Opens, taken, given}
-use Rattle.atspi_conversation.specs.Moved.{Tells, reads}
-use Rattle.atspi_conversation.specs.Rounds.{IsRun, Makes}
-use Rattle.atspi_conversation.specs.Speech.{Speaks, Ends}
-use Rattle.atspi_conversation.specs.Talking.{Blames, HasNone}
-use Rattle.atspi_conversation.specs.declared.ending.Ending.{Ending}
-use Rattle.atspi_conversation.specs.declared.ending.Ending.TheVariants as endings
+use Rattle.atspi_live_host.specs.declared.call.Did.{Did}
+use Rattle.atspi_live_host.specs.declared.call.Did.TheVariants.{Done, NotYet, End, Failed}
+use Rattle.atspi_live_host.specs.declared.call.Call.{Call}
+use Rattle.atspi_live_host.specs.declared.call.Call.TheVariants.{Connect}
+use Rattle.atspi_live_host.specs.Calls.{Adds, Counts, IsOpen, Opens, taken, given}
+use Rattle.atspi_live_conversation.specs.Moved.{Tells, reads}
+use Rattle.atspi_live_conversation.specs.Rounds.{IsRun, Makes}
+use Rattle.atspi_live_conversation.specs.Speech.{Speaks, Ends}
+use Rattle.atspi_live_conversation.specs.Talking.{Blames, HasNone}
+use Rattle.atspi_live_conversation.specs.declared.ending.Ending.{Ending}
+use Rattle.atspi_live_conversation.specs.declared.ending.Ending.TheVariants as endings
 use Rattle.atspi_live_registry.specs.Standing.{IsAfter, IsEmpty, IsSpent}
 use Rattle.atspi_live_registry.specs.Runs.{AllSpeak, Begins, Causes, IsOnLink, Reports, RunEnds, SinkBlamed}
 use Rattle.atspi_live_registry.specs.declared.live_registry.LiveRegistry.{LiveRegistry}
-use Rattle.atspi_conversation.proofs.RoundLemmas.{makes_if, none_wait}
-use Rattle.atspi_conversation.proofs.SeenLemmas.{ends_seen, run_seen, speaks_seen}
+use Rattle.atspi_live_conversation.proofs.RoundLemmas.{makes_if, none_wait}
+use Rattle.atspi_live_conversation.proofs.SeenLemmas.{ends_seen, run_seen, speaks_seen}
 use Rattle.atspi_live_registry.proofs.Registering.{Stands'}
 
 abbrev IsSpent' : LiveRegistry → Envelope → Type 0

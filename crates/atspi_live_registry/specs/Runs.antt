@@ -2,14 +2,14 @@
 use Rattle.std.specs.Prelude.{◌≡◌, ◌⊎◌, ℕ, List, [], ◌∷◌, Option, None, Some, ⊤}
 use Rattle.std.specs.Io.KnownBytes.{Appends}
 use Rattle.atspi_base.specs.Outside.{AppendsPart, Rose}
-use Rattle.atspi_host.specs.declared.call.Call.{Call}
-use Rattle.atspi_host.specs.declared.call.Call.TheVariants.{Connect}
-use Rattle.atspi_host.specs.declared.call.Did.TheVariants.{Done}
-use Rattle.atspi_check.specs.Check.{fault_line}
-use Rattle.atspi_conversation.specs.Rounds.{IsRun}
-use Rattle.atspi_conversation.specs.Speech.{Speaks, Ends}
-use Rattle.atspi_conversation.specs.declared.ending.Ending.{Ending}
-use Rattle.atspi_conversation.specs.declared.ending.Ending.TheVariants as endings
+use Rattle.atspi_live_host.specs.declared.call.Call.{Call}
+use Rattle.atspi_live_host.specs.declared.call.Call.TheVariants.{Connect}
+use Rattle.atspi_live_host.specs.declared.call.Did.TheVariants.{Done}
+use Rattle.atspi_run_check.specs.Check.{fault_line}
+use Rattle.atspi_live_conversation.specs.Rounds.{IsRun}
+use Rattle.atspi_live_conversation.specs.Speech.{Speaks, Ends}
+use Rattle.atspi_live_conversation.specs.declared.ending.Ending.{Ending}
+use Rattle.atspi_live_conversation.specs.declared.ending.Ending.TheVariants as endings
 use Rattle.atspi_live_registry.specs.Standing.{IsAfter, IsEmpty, IsSpent}
 
 -- no call was made yet, where the host tells its calls
@@ -45,14 +45,17 @@ Reports endings.RoundsDone = Quietly 8
 Reports endings.NotAuthenticated = Quietly 10
 Reports endings.Spent = Quietly 13
 
--- a run on this link ended so, with its rounds: in each one read, and then one write exactly where not all is given that the registry says for what was taken
-pub record EndsOn (path : List ℕ) (k status rounds : ℕ) (calls : Option (List Call)) (w w' : Option (List ℕ)) : Type 0 where
+-- a run on this link ended so, with its rounds: in each one read, and then one write exactly where not all is given
+-- that the registry says for what was taken
+pub record EndsOn (path : List ℕ) (k status rounds : ℕ) (calls : Option (List Call)) (w w' : Option (List ℕ))
+    : Type 0 where
   pub ending : Ending
   pub ends : Ends IsAfter IsSpent k ending rounds calls
   pub run : IsOnLink path k calls (IsRun (λ _. IsAfter) IsEmpty k 4096 ending rounds)
   pub reports : Reports ending status w w'
 
--- a run ended so on the one link that is open; where there is none, it was not given: status 7, or memory was wanting before
+-- a run ended so on the one link that is open; where there is none, it was not given: status 7, or memory was wanting
+-- before
 abbrev pub RunEnds : List ℕ → List ℕ → ℕ → ℕ → Option (List Call) → Option (List ℕ) → Option (List ℕ) → Type 0
 RunEnds path [] status rounds calls w w' = ((status ≡ 7) ⊎ (status ≡ 5)) × (w' ≡ w)
 RunEnds path (k ∷ ks) status rounds calls w w' = EndsOn path k status rounds calls w w' × (ks ≡ [])

@@ -1,11 +1,11 @@
 //! The line of a fault of the peer, and the status of a run.
 
 ghost use Rattle.std.specs.Prelude.{◌≡◌, ◌++◌, OnOk};
-ghost use Rattle.atspi_check.specs.Check.{fault_line};
+ghost use Rattle.atspi_run_check.specs.Check.{fault_line};
 ghost use Rattle.atspi_live_registry.specs.Runs.{Reports, SinkBlamed, Writes};
 
 use atspi_base::{Bytes, NoMemory, Sink, put_decimal, write_all};
-use atspi_conversation::Ending;
+use atspi_live_conversation::Ending;
 use std::alloc::Global;
 
 /// Appends the line of a fault.
