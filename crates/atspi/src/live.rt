@@ -3,7 +3,7 @@
 
 ghost use Rattle.std.specs.Prelude.{◌≡◌, ◌≤◌, [], IfSome, length};
 ghost use Rattle.atspi_live_bus.specs.Service.{HasNoCall, OfTold};
-ghost use Rattle.atspi_live_registry.specs.Runs.{Begins};
+ghost use Rattle.atspi_live_conversation.specs.Reports.{Begins};
 
 use atspi_app_exported::Kit;
 use atspi_base::{Sink, Source, Text};

@@ -2,23 +2,10 @@
 
 ghost use Rattle.std.specs.Prelude.{◌≡◌, ◌+◌, ◌≤◌, length, chars, IfOk};
 ghost use Rattle.atspi_tree_model.specs.Row.{delete_there, insert_there, with_delete, with_insert};
-ghost use Rattle.atspi_faces.specs.Places.{CutAt};
 
-use atspi_base::{NoMemory, Text};
+use atspi_base::{NoMemory, Text, byte_of};
 use atspi_cache_arena::spot;
 use std::alloc::Global;
-
-/// At which byte the character at a place begins.
-fn byte_of(text: &str, at: usize) -> usize
-    requires { at ≤ length (chars text.now) }
-    ensures { CutAt text.now at result }
-{
-    let mut rest = text.chars();
-    for _i in 0..at {
-        let _ = rest.next();
-    }
-    text.len() - rest.as_str().len()
-}
 
 /// The text with another put in before the character at a place. `Err` comes for want of memory, or of room for more
 /// bytes than a text has.

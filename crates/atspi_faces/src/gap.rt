@@ -3,7 +3,7 @@
 ghost use Rattle.std.specs.Prelude.{◌≡◌, ◌+◌, ◌-◌, ◌≤◌, ◌<◌, ◌++◌, length, take, drop, chars, OnOk, OnErr, IfOk};
 ghost use Rattle.std.specs.Prelude.{IsUtf8};
 ghost use Rattle.atspi_base.specs.Text.{HasNoZero};
-ghost use Rattle.atspi_faces.specs.Places.{CutAt};
+ghost use Rattle.atspi_base.specs.Places.{CutAt};
 ghost use Rattle.atspi_faces.specs.Gap.{text_of, IsPart, AreKept};
 
 use crate::buffer::Buffer;

@@ -2,7 +2,7 @@
 
 ghost use Rattle.std.specs.Prelude.{◌≡◌, ◌+◌, ◌-◌, ◌^◌, ◌≤◌, ◌<◌, ◌++◌, ◌∷◌, ◌⊎◌, [], List, ℕ, length, take, drop};
 ghost use Rattle.std.specs.Prelude.{reverse, chars, vec_len, MatchOption, OnSome};
-ghost use Rattle.atspi_faces.specs.Places.{CutAt};
+ghost use Rattle.atspi_base.specs.Places.{CutAt};
 ghost use Rattle.atspi_faces.specs.Sides.{IsPlace, AreNoted, IsSide, AreSpread, AreSides};
 
 use crate::walk::byte_of;

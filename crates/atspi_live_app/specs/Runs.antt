@@ -3,7 +3,7 @@ use Rattle.std.specs.Prelude.{◌≡◌, ◌⊎◌, ℕ, List, [], ◌∷◌, Op
 use Rattle.std.specs.Io.KnownBytes.{Appends}
 use Rattle.atspi_base.specs.Outside.{AppendsPart}
 use Rattle.atspi_live_host.specs.declared.call.Call.{Call}
-use Rattle.atspi_live_registry.specs.Runs.{IsOnLink, Quietly, Reports}
+use Rattle.atspi_live_conversation.specs.Reports.{IsOnLink, Quietly, Reports}
 use Rattle.atspi_live_app.specs.Input.{BlamesEnd, HasRead}
 use Rattle.atspi_live_app.specs.Lines.{lines_of}
 use Rattle.atspi_live_app.specs.Names.{refused_text}

@@ -2,7 +2,7 @@
 
 ghost use Rattle.std.specs.Prelude.{◌≡◌, ◌≤◌, [], length};
 ghost use Rattle.atspi_app_exported.specs.Parts.{AreEmpty, AreKinds};
-ghost use Rattle.atspi_live_registry.specs.Runs.{Begins, Causes, SinkBlamed};
+ghost use Rattle.atspi_live_conversation.specs.Reports.{Begins, Causes, SinkBlamed};
 ghost use Rattle.atspi_live_app.specs.Lines.{lines_of};
 ghost use Rattle.atspi_live_app.specs.Names.{refused_text};
 ghost use Rattle.atspi_live_app.specs.Runs.{OverReports, RunEnds, TextEnds, WritesRefusal};
@@ -16,8 +16,8 @@ use crate::over::Over;
 use crate::rounds::export;
 use atspi_app::{Boxes, Kit};
 use atspi_base::{Bytes, Sink, Source, Text, write_all};
+use atspi_live_conversation::report;
 use atspi_live_host::{Did, Host};
-use atspi_live_registry::report;
 use std::alloc::Global;
 
 /// Writes the line of a refusal. Status 1 where it was written, 4 where the sink failed.

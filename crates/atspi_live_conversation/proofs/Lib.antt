@@ -6,3 +6,4 @@ pub mod StepLemmas
 pub mod LeftLemmas
 pub mod RoundLemmas
 pub mod SeenLemmas
+pub mod Running

@@ -4,3 +4,4 @@ pub mod Speech
 pub mod Rounds
 pub mod Left
 pub mod Talking
+pub mod Reports

@@ -3,7 +3,7 @@ use Rattle.std.specs.Prelude.{◌≡◌, ◌≤◌, ◌⊎◌, ℕ, List, [], �
 use Rattle.std.specs.Io.KnownBytes.{Appends}
 use Rattle.atspi_auth.specs.Talk.{behind, client_start}
 use Rattle.atspi_base.specs.Outside.{Rose}
-use Rattle.atspi_run_check.specs.Check.{fault_line}
+use Rattle.atspi_script.specs.FaultText.{fault_line}
 use Rattle.atspi_message.specs.Envelope.{Envelope}
 use Rattle.atspi_stream.specs.Stream.{AwaitsMore, IsParted}
 use Rattle.atspi_live_host.specs.Calls.{taken}
@@ -12,7 +12,7 @@ use Rattle.atspi_live_conversation.specs.Rounds.{AreRounds, IsRun}
 use Rattle.atspi_live_conversation.specs.Speech.{Speaks, Ends, envelopes}
 use Rattle.atspi_live_conversation.specs.declared.ending.Ending.{Ending}
 use Rattle.atspi_live_conversation.specs.declared.ending.Ending.TheVariants as endings
-use Rattle.atspi_live_registry.specs.Runs.{IsOnLink, Reports}
+use Rattle.atspi_live_conversation.specs.Reports.{IsOnLink, Reports}
 use Rattle.atspi_live_reader.specs.Spoken.{IsAfter, IsAllSpoken, IsEmpty, IsSpent, IsSpokenToFault, IsSpokenToSpent}
 use Rattle.atspi_live_reader.specs.Spoken.{following, spoken_in}
 use Rattle.atspi_live_reader.specs.Shows.{shown_in}

@@ -3,7 +3,7 @@
 ghost use Rattle.std.specs.Prelude.{◌≡◌, ℕ, List, [], false, IfErr, IsTrue, MatchResult, OnOk};
 ghost use Rattle.std.specs.Io.KnownBytes.{Appends};
 ghost use Rattle.atspi_reader.specs.ReaderOf.{IsReader};
-ghost use Rattle.atspi_live_registry.specs.Runs.{Begins, SinkBlamed};
+ghost use Rattle.atspi_live_conversation.specs.Reports.{Begins, SinkBlamed};
 ghost use Rattle.atspi_live_reader.specs.Following.{AreWords, HasWords, WritesPart};
 ghost use Rattle.atspi_live_reader.specs.Runs.{AllSpeak, Causes, ReportsLast, RunEnds};
 
@@ -11,9 +11,8 @@ use crate::following::follow;
 use crate::live_reader::{LiveReader, start};
 use crate::over::Over;
 use atspi_base::{Sink, Text, write_all};
-use atspi_live_conversation::Ending;
+use atspi_live_conversation::{Ending, report};
 use atspi_live_host::{Did, Host};
-use atspi_live_registry::report;
 use std::alloc::Global;
 
 /// Whether a run that ended so may have left words to be written. Before authentication is over nothing is spoken.

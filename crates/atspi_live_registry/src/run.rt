@@ -1,12 +1,12 @@
 //! A run of the registry on a Unix socket.
 
 ghost use Rattle.std.specs.Prelude.{◌≡◌, []};
-ghost use Rattle.atspi_live_registry.specs.Runs.{AllSpeak, Begins, Causes, RunEnds};
+ghost use Rattle.atspi_live_registry.specs.Runs.{AllSpeak, RunEnds};
+ghost use Rattle.atspi_live_conversation.specs.Reports.{Begins, Causes};
 
 use crate::live_registry::start;
-use crate::reporting::report;
 use atspi_base::{Sink, Text};
-use atspi_live_conversation::converse;
+use atspi_live_conversation::{converse, report};
 use atspi_live_host::{Did, Host};
 use std::alloc::Global;
 

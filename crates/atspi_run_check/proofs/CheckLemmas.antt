@@ -11,7 +11,8 @@ use Rattle.atspi_types.specs.declared.fault.Fault.{Fault}
 use Rattle.atspi_stream.specs.Stream.{AwaitsMore, few, HasFault, AreMessages, bytes_of, IsParted}
 use Rattle.atspi_stream.proofs.StreamLaws.{message_states, fault_stays}
 use Rattle.atspi_stream.proofs.NextLaws.{history_more, takes_piece}
-use Rattle.atspi_run_check.specs.Check.{message_line, check_lines, fault_line, faulty_lines, IsFrontText, IsCheckStatus, Checked, CheckedAll, CheckedFault, CheckedFront, CheckedTaken, CheckedLimit, CheckedSome, Writes, WritesPart}
+use Rattle.atspi_run_check.specs.Check.{message_line, check_lines, faulty_lines, IsFrontText, IsCheckStatus, Checked, CheckedAll, CheckedFault, CheckedFront, CheckedTaken, CheckedLimit, CheckedSome, Writes, WritesPart}
+use Rattle.atspi_script.specs.FaultText.{fault_line}
 use Rattle.atspi_run_check.specs.inner.Taking.{Puts, Shown, Took, TookPart, TakesIn, Told, ToldPart, EndsIn, Ends, whole_end, read_end, write_end, memory_end, fault_end, limit_end, halt_status}
 use Rattle.atspi_run_check.specs.declared.lines.Halt.{Halt}
 use Rattle.atspi_run_check.specs.declared.lines.Halt.TheVariants as halts

@@ -6,6 +6,7 @@ use Rattle.std.specs.Io.KnownBytes.{Appends, Consumes, IsAtEnd}
 use Rattle.atspi_base.specs.Outside.{AppendsPart}
 use Rattle.atspi_message.specs.Envelope.{Envelope}
 use Rattle.atspi_stream.specs.Stream.{AwaitsMore, HasFault, IsParted, bytes_of}
+use Rattle.atspi_script.specs.FaultText.{fault_line}
 use Rattle.atspi_script.specs.MessageText.{message_text}
 
 -- `START TEXT`: so many bytes of input stand before the message
@@ -16,11 +17,6 @@ message_line start e = decimal start ++ (codes " " ++ (message_text e ++ 10 ∷ 
 abbrev pub check_lines : ℕ → List (Envelope × List ℕ) → List ℕ
 check_lines start [] = []
 check_lines start (m ∷ ms) = message_line start m.0 ++ check_lines (start + length m.1) ms
-
--- `fault START PLACE REASON`
-abbrev pub fault_line : ℕ → ℕ → ℕ → List ℕ
-fault_line start place reason = codes "fault "
-    ++ (decimal start ++ (codes " " ++ (decimal place ++ (codes " " ++ (decimal reason ++ 10 ∷ [])))))
 
 -- the lines of these messages, and behind them of a fault in what follows them
 abbrev pub faulty_lines : List (Envelope × List ℕ) → ℕ → ℕ → List ℕ

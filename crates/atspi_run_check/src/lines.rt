@@ -4,12 +4,13 @@ ghost use Rattle.std.specs.Prelude.{◌≡◌, ◌++◌, [], OnOk, OnErr};
 ghost use Rattle.std.specs.Io.KnownBytes.{Appends};
 ghost use Rattle.atspi_base.specs.Outside.{AppendsPart};
 ghost use Rattle.atspi_message_in_place.specs.View.{envelope_at};
-ghost use Rattle.atspi_run_check.specs.Check.{fault_line, message_line};
+ghost use Rattle.atspi_run_check.specs.Check.{message_line};
+ghost use Rattle.atspi_script.specs.FaultText.{fault_line};
 ghost use Rattle.atspi_run_check.specs.inner.Taking.{BlamesLines, Puts, halt_status};
 
 use atspi_base::{Bytes, NoMemory, Sink, put_decimal, write_all};
 use atspi_message_in_place::MessageRef;
-use atspi_script::message_text;
+use atspi_script::{message_text, put_fault};
 use std::alloc::Global;
 
 /// So many bytes wait before they are written.
@@ -44,19 +45,6 @@ fn put_message(start: u64, message: &MessageRef, out: &mut Bytes) -> Result<(), 
     put_decimal(start, out)?;
     out.push(b' ')?;
     message_text(message, out)?;
-    out.push(b'\n')
-}
-
-/// Appends the line of a fault.
-fn put_fault(start: u64, place: u64, reason: u8, out: &mut Bytes) -> Result<(), NoMemory>
-    ensures { OnOk result (out.new ≡ out.old ++ fault_line start place reason) }
-{
-    out.extend(b"fault ")?;
-    put_decimal(start, out)?;
-    out.push(b' ')?;
-    put_decimal(place, out)?;
-    out.push(b' ')?;
-    put_decimal(reason as u64, out)?;
     out.push(b'\n')
 }
 

@@ -6,7 +6,7 @@ use Rattle.atspi_auth.specs.Replies.{answer, reply_to}
 use Rattle.atspi_auth.specs.Requests.{is_grant, is_number}
 use Rattle.atspi_auth.specs.Talk.{after, behind, client_start, fault_in, heard, hears, hears_bytes}
 use Rattle.atspi_auth.specs.declared.stage.Stage.TheVariants.{Over}
-use Rattle.atspi_run_check.specs.Check.{fault_line}
+use Rattle.atspi_script.specs.FaultText.{fault_line}
 use Rattle.atspi_message.specs.Envelope.{Envelope}
 use Rattle.atspi_live_host.specs.Calls.{given, taken}
 use Rattle.atspi_live_host.specs.declared.call.Call.{Call}

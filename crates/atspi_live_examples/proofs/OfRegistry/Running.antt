@@ -12,7 +12,8 @@ use Rattle.atspi_live_conversation.specs.Speech.{IsInOrder, IsRefused, IsSpeech,
 use Rattle.atspi_live_conversation.specs.declared.ending.Ending.{Ending}
 use Rattle.atspi_live_conversation.specs.declared.ending.Ending.TheVariants as endings
 use Rattle.atspi_protocol.specs.registry_laws.Sends.{started}
-use Rattle.atspi_live_registry.specs.Runs.{EndsOn, Reports}
+use Rattle.atspi_live_registry.specs.Runs.{EndsOn}
+use Rattle.atspi_live_conversation.specs.Reports.{Reports}
 use Rattle.atspi_live_registry.specs.Standing.{IsAfter}
 use Rattle.atspi_live_examples.specs.registry.Registries.{granted, hail, rejected}
 

@@ -1,7 +1,7 @@
 //! How runs of a reader on a link ended: their calls, their status, and what was written.
 
 ghost use Rattle.std.specs.Prelude.{◌≤◌, ◌∷◌, ◌++◌, ℕ, List, [], None, Option, Some, codes, length};
-ghost use Rattle.atspi_run_check.specs.Check.{fault_line};
+ghost use Rattle.atspi_script.specs.FaultText.{fault_line};
 ghost use Rattle.atspi_types.specs.declared.fault.Fault.{Fault};
 ghost use Rattle.atspi_live_host.specs.Calls.{taken};
 ghost use Rattle.atspi_live_host.specs.declared.call.Call.{Call};

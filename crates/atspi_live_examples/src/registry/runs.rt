@@ -4,7 +4,8 @@ ghost use Rattle.std.specs.Prelude.{◌≡◌, ◌∷◌, [], ℕ, List, Option,
 ghost use Rattle.atspi_live_host.specs.declared.call.Call.{Call};
 ghost use Rattle.atspi_live_host.specs.declared.call.Did.{Did};
 ghost use Rattle.atspi_live_conversation.specs.Speech.{IsRefused};
-ghost use Rattle.atspi_live_registry.specs.Runs.{AllSpeak, Begins, EndsOn, IsOnLink, RunEnds};
+ghost use Rattle.atspi_live_registry.specs.Runs.{AllSpeak, EndsOn, RunEnds};
+ghost use Rattle.atspi_live_conversation.specs.Reports.{Begins, IsOnLink};
 ghost use Rattle.atspi_live_registry.specs.Standing.{IsAfter};
 ghost use Rattle.atspi_live_examples.specs.registry.Registries.{granted, hail, rejected};
 

@@ -1,7 +1,7 @@
 //! Which status tells how a run ended, what is written then, and which counts changed.
 
 ghost use Rattle.std.specs.Prelude.{◌≡◌, ◌∷◌, ◌++◌, [], ℕ, List, Option, None, Some, codes};
-ghost use Rattle.atspi_live_registry.specs.Runs.{Causes, Quietly, Reports, SinkBlamed, Writes};
+ghost use Rattle.atspi_live_conversation.specs.Reports.{Causes, Quietly, Reports, SinkBlamed, Writes};
 ghost use Rattle.atspi_live_conversation.specs.declared.ending.Ending.{Ending};
 
 use atspi_live_conversation::Ending;

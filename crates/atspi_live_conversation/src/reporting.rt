@@ -1,25 +1,12 @@
 //! The line of a fault of the peer, and the status of a run.
 
-ghost use Rattle.std.specs.Prelude.{◌≡◌, ◌++◌, OnOk};
-ghost use Rattle.atspi_run_check.specs.Check.{fault_line};
-ghost use Rattle.atspi_live_registry.specs.Runs.{Reports, SinkBlamed, Writes};
+ghost use Rattle.atspi_script.specs.FaultText.{fault_line};
+ghost use Rattle.atspi_live_conversation.specs.Reports.{Reports, SinkBlamed, Writes};
 
-use atspi_base::{Bytes, NoMemory, Sink, put_decimal, write_all};
-use atspi_live_conversation::Ending;
+use crate::ending::Ending;
+use atspi_base::{Bytes, Sink, write_all};
+use atspi_script::put_fault;
 use std::alloc::Global;
-
-/// Appends the line of a fault.
-fn put_fault(start: u64, place: u64, reason: u8, out: &mut Bytes) -> Result<(), NoMemory>
-    ensures { OnOk result (out.new ≡ out.old ++ fault_line start place reason) }
-{
-    out.extend(b"fault ")?;
-    put_decimal(start, out)?;
-    out.push(b' ')?;
-    put_decimal(place, out)?;
-    out.push(b' ')?;
-    put_decimal(reason as u64, out)?;
-    out.push(b'\n')
-}
 
 /// Writes the line of a fault. Status 6 where it was written, 4 where the sink failed.
 fn tell_fault<K: Sink>(alloc: Global, start: u64, place: u64, reason: u8, sink: &mut K) -> u8

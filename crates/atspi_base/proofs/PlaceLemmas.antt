@@ -14,7 +14,7 @@ use Rattle.atspi_base.specs.declared.text.TextFault.{TextFault}
 use Rattle.atspi_base.specs.declared.text.TextFault.TheVariants.{Zero, Utf8}
 use Rattle.atspi_base.proofs.TextLemmas.{whole, length-chars-le}
 use Rattle.atspi_base.specs.Text.{HasNoZero, bytes_before_zero}
-use Rattle.atspi_faces.specs.Places.{CutAt, IsCounted}
+use Rattle.atspi_base.specs.Places.{CutAt, IsCounted}
 
 both : (a b : Bool) → a && b ≡ true → (a ≡ true) × (b ≡ true)
 both true b e = (refl, e)
