@@ -1,18 +1,19 @@
-//! The live commands: `bus PATH ROUNDS`, `registry PATH ROUNDS`, `app PATH ROUNDS`, `read PATH ROUNDS` on a Unix socket.
+//! The live commands: `bus PATH ROUNDS`, `registry PATH ROUNDS`, `app PATH ROUNDS`, `read PATH ROUNDS` on a Unix
+//! socket.
 
 ghost use Rattle.std.specs.Prelude.{◌≡◌, ◌≤◌, [], IfSome, length};
 ghost use Rattle.atspi_live_bus.specs.Service.{HasNoCall, OfTold};
-ghost use Rattle.atspi_live_registry.specs.Runs.{Begins};
+ghost use Rattle.atspi_live_conversation.specs.Reports.{Begins};
 
+use atspi_app_exported::Kit;
 use atspi_base::{Sink, Source, Text};
-use atspi_exported::Kit;
 use atspi_faces::{Deeds, Grid, PlainText};
-use atspi_host::Host;
-use atspi_lines::read_number;
 use atspi_live_app::app;
 use atspi_live_bus::bus;
+use atspi_live_host::Host;
 use atspi_live_reader::read;
 use atspi_live_registry::registry;
+use atspi_script_lines::read_number;
 use std::alloc::Global;
 
 /// This count of rounds means: for as long as it runs. Then the host rests where nothing is ready.

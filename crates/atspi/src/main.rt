@@ -1,4 +1,5 @@
-//! The program `atspi`: the top call over the command line, standard input and standard output, and the live commands over the system's sockets.
+//! The program `atspi`: the top call over the command line, standard input and standard output, and the live commands
+//! over the system's sockets.
 #![tactic(auto)]
 
 mod input;
@@ -7,8 +8,8 @@ mod output;
 mod retry;
 
 use atspi_base::{Text, TextFault};
+use atspi_live_sockets::NetHost;
 use atspi_run::run;
-use atspi_sockets::NetHost;
 use input::StandardInput;
 use live::{do_live, live_in};
 use output::StandardOutput;

@@ -1,11 +1,11 @@
 -- Which fault of a part is which of the application.
 use Rattle.std.proofs.Common.{◌≡◌, refl, sym, ap, ◌∙◌, subst}
 use Rattle.std.specs.Prelude.{List, Result, Err}
-use Rattle.atspi_forest.specs.declared.step.Step.{Step}
-use Rattle.atspi_exported.specs.Asking.{AnswersSteps}
-use Rattle.atspi_forest.specs.declared.edit.EditFault.{EditFault}
-use Rattle.atspi_edits.specs.declared.fault.EditRefused.{EditRefused}
-use Rattle.atspi_edits.specs.declared.fault.EditRefused.TheVariants as edits
+use Rattle.atspi_tree_model.specs.declared.step.Step.{Step}
+use Rattle.atspi_app_exported.specs.Asking.{AnswersSteps}
+use Rattle.atspi_tree_model.specs.declared.edit.EditFault.{EditFault}
+use Rattle.atspi_tree_edits.specs.declared.fault.EditRefused.{EditRefused}
+use Rattle.atspi_tree_edits.specs.declared.fault.EditRefused.TheVariants as edits
 use Rattle.atspi_protocol.specs.declared.ends.fault.EndFault.{EndFault}
 use Rattle.atspi_protocol.specs.declared.ends.fault.EndFault.TheVariants as ends
 use Rattle.atspi_app.specs.declared.fault.AppFault.{AppFault}

@@ -2,18 +2,18 @@
 use Rattle.std.proofs.Common.{◌≡◌, ℕ, Bool, true, false, List, [], ◌∷◌, ◌++◌, Option, Some, None, refl, sym, ap, ◌∙◌, subst}
 use Rattle.std.specs.Prelude.{ℤ, if◌then◌else◌, map, unwrap_or, Result, Ok, Err, OnOk, OnErr}
 use Rattle.atspi_types.specs.declared.value.Values.{Values}
-use Rattle.atspi_forest.specs.declared.contents.FaceKind.{FaceKind}
-use Rattle.atspi_forest.specs.declared.step.Step.{Step}
-use Rattle.atspi_forest.specs.Forest.{Forest}
-use Rattle.atspi_forest.specs.Row.{TreeRow, Each}
-use Rattle.atspi_forest.specs.RowRules.{rows}
-use Rattle.atspi_forest.specs.Tree.{shape_of, IsTree, AllApply}
+use Rattle.atspi_tree_model.specs.declared.contents.FaceKind.{FaceKind}
+use Rattle.atspi_tree_model.specs.declared.step.Step.{Step}
+use Rattle.atspi_tree_model.specs.Forest.{Forest}
+use Rattle.atspi_tree_model.specs.Row.{TreeRow, Each}
+use Rattle.atspi_tree_model.specs.RowRules.{rows}
+use Rattle.atspi_tree_model.specs.Tree.{shape_of, IsTree, AllApply}
 use Rattle.atspi_message.specs.Envelope.{Envelope}
 use Rattle.atspi_protocol.specs.declared.ends.error.CallError.{CallError}
 use Rattle.atspi_protocol.specs.ends.Messages.{Reply, replies, reply_to, expects_reply, returns, fails}
 use Rattle.atspi_protocol.specs.objects.Answers.{Answer, answer}
 use Rattle.atspi_tree.specs.TreeShape.{TreeShape}
-use Rattle.atspi_face.specs.Nodes.{Nodes}
+use Rattle.atspi_faces.specs.face.Nodes.{Nodes}
 use Rattle.atspi_protocol.specs.whole.Whole.{Faces, whole}
 use Rattle.atspi_protocol.proofs.OfWhole.Followed.{shape_is_kept}
 use Rattle.atspi_protocol.specs.exporting.Exporter.{Exporter, Happening, sends, named, queues}
@@ -22,11 +22,11 @@ use Rattle.atspi_protocol.specs.exporting.Taking.{answer_to, app_takes, stepped,
 use Rattle.atspi_protocol.specs.exporting.Telling.{steps_told}
 use Rattle.atspi_protocol.proofs.OfExporting.Staying.{answers_apply}
 use Rattle.atspi_app_known.specs.declared.starting.known.Known.{Known}
-use Rattle.atspi_exported.specs.Parts.{Parts, Kinds, AreKinds, parts, faces_of, kinds_of, whole_of}
-use Rattle.atspi_announced.specs.Asked.{CanBeTold}
-use Rattle.atspi_announced.specs.Laws.{told_of_one, StayInPlace}
-use Rattle.atspi_announced.proofs.CallsStay.{calls_stay_in_place}
-use Rattle.atspi_announced.proofs.Staying.{staying_is_told_at_once, staying_can_be_told}
+use Rattle.atspi_app_exported.specs.Parts.{Parts, Kinds, AreKinds, parts, faces_of, kinds_of, whole_of}
+use Rattle.atspi_app_signals.specs.Asked.{CanBeTold}
+use Rattle.atspi_app_signals.specs.Laws.{told_of_one, StayInPlace}
+use Rattle.atspi_app_signals.proofs.CallsStay.{calls_stay_in_place}
+use Rattle.atspi_app_signals.proofs.Staying.{staying_is_told_at_once, staying_can_be_told}
 use Rattle.atspi_app_answers.specs.Asking.{answer_to as answer_of_tree}
 use Rattle.atspi_app_answers.specs.Seen.{seen as seen_tree}
 use Rattle.atspi_app_answers.specs.Replies.{sent_back}

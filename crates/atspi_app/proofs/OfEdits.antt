@@ -1,14 +1,14 @@
 -- What is told of the steps of an edit.
 use Rattle.std.proofs.Common.{◌≡◌, sym, ap, ◌∙◌, subst, true}
 use Rattle.std.specs.Prelude.{ℤ, List, Result, Ok, Err, OnOk}
-use Rattle.atspi_forest.specs.declared.edit.Edit.{Edit}
-use Rattle.atspi_forest.specs.declared.step.Step.{Step}
-use Rattle.atspi_forest.specs.Edits.{steps_of_tree, IsEdit}
-use Rattle.atspi_forest.specs.Forest.{Forest}
-use Rattle.atspi_forest.specs.Row.{ShapeRow, TreeRow, Each}
-use Rattle.atspi_forest.specs.RowRules.{rows}
-use Rattle.atspi_forest.specs.Tree.{shape_of, IsTree, AllApply}
-use Rattle.atspi_forest.proofs.EditsApply.{steps_apply}
+use Rattle.atspi_tree_model.specs.declared.edit.Edit.{Edit}
+use Rattle.atspi_tree_model.specs.declared.step.Step.{Step}
+use Rattle.atspi_tree_model.specs.Edits.{steps_of_tree, IsEdit}
+use Rattle.atspi_tree_model.specs.Forest.{Forest}
+use Rattle.atspi_tree_model.specs.Row.{ShapeRow, TreeRow, Each}
+use Rattle.atspi_tree_model.specs.RowRules.{rows}
+use Rattle.atspi_tree_model.specs.Tree.{shape_of, IsTree, AllApply}
+use Rattle.atspi_tree_model.proofs.EditsApply.{steps_apply}
 use Rattle.atspi_tree.specs.TreeShape.{TreeShape}
 use Rattle.atspi_protocol.proofs.OfWhole.Followed.{shape_is_kept}
 use Rattle.atspi_protocol.specs.exporting.Exporter.{Exporter, Happening, queues}
@@ -16,10 +16,10 @@ use Rattle.atspi_protocol.specs.exporting.Starting.{name_or_empty}
 use Rattle.atspi_protocol.specs.exporting.Taking.{stepped, app_edits, is_spent}
 use Rattle.atspi_protocol.specs.exporting.Telling.{steps_told}
 use Rattle.atspi_app_known.specs.declared.starting.known.Known.{Known}
-use Rattle.atspi_exported.specs.Parts.{Parts, whole_of}
-use Rattle.atspi_announced.specs.Asked.{CanBeTold}
-use Rattle.atspi_announced.specs.Laws.{told_of_one}
-use Rattle.atspi_announced.proofs.EditsStay.{edits_are_told_at_once, edits_can_be_told}
+use Rattle.atspi_app_exported.specs.Parts.{Parts, whole_of}
+use Rattle.atspi_app_signals.specs.Asked.{CanBeTold}
+use Rattle.atspi_app_signals.specs.Laws.{told_of_one}
+use Rattle.atspi_app_signals.proofs.EditsStay.{edits_are_told_at_once, edits_can_be_told}
 use Rattle.atspi_app.specs.Seen.{seen, IsSpentAfter}
 
 pub same_shape : (p : Parts) → ◌≡◌ {A = TreeShape} (record { rows = shape_of (whole_of p); added = p.tree.added }) p.tree

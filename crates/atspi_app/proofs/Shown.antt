@@ -1,19 +1,19 @@
 -- An application as it is seen, after its calls.
 use Rattle.std.proofs.Common.{◌≡◌, ℕ, List, [], ◌∷◌, None, refl, ap, ◌∙◌}
 use Rattle.std.specs.Prelude.{ℤ, negsuc, Err}
-use Rattle.atspi_forest.specs.declared.edit.Edit.{Edit}
-use Rattle.atspi_forest.specs.declared.edit.EditFault.{EditFault}
-use Rattle.atspi_forest.specs.declared.step.Step.{Step}
-use Rattle.atspi_forest.specs.Edits.{steps_of_tree}
-use Rattle.atspi_forest.specs.RowRules.{rows}
-use Rattle.atspi_forest.specs.Tree.{first_tree, added_after, after_all}
+use Rattle.atspi_tree_model.specs.declared.edit.Edit.{Edit}
+use Rattle.atspi_tree_model.specs.declared.edit.EditFault.{EditFault}
+use Rattle.atspi_tree_model.specs.declared.step.Step.{Step}
+use Rattle.atspi_tree_model.specs.Edits.{steps_of_tree}
+use Rattle.atspi_tree_model.specs.RowRules.{rows}
+use Rattle.atspi_tree_model.specs.Tree.{first_tree, added_after, after_all}
 use Rattle.atspi_protocol.specs.exporting.Exporter.{Exporter, new, begins, Happening, queues}
 use Rattle.atspi_protocol.specs.exporting.Taking.{added_by, stepped, app_edits}
 use Rattle.atspi_app_known.specs.happenings.View.{next_of, out_of}
 use Rattle.atspi_app_known.specs.declared.starting.known.Known.{Known}
 use Rattle.atspi_app_known.specs.starting.KnownView.{known_in, phase_of}
-use Rattle.atspi_exported.specs.Parts.{Parts, whole_of}
-use Rattle.atspi_exported.specs.Doing.{added_all}
+use Rattle.atspi_app_exported.specs.Parts.{Parts, whole_of}
+use Rattle.atspi_app_exported.specs.Doing.{added_all}
 use Rattle.atspi_app.specs.Seen.{seen, with_tree}
 
 -- the root alone

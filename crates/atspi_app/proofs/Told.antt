@@ -3,10 +3,10 @@ use Rattle.std.proofs.Common.{◌≡◌, ℕ, ◌+◌, ◌<◌, suc, List, [], �
 use Rattle.std.specs.Prelude.{map}
 use Rattle.std.specs.FinMap.{empty}
 use Rattle.std.proofs.lemmas.List.{append-nil}
-use Rattle.atspi_forest.specs.declared.step.Step.{Step}
-use Rattle.atspi_forest.specs.Forest.{Forest}
-use Rattle.atspi_forest.specs.Row.{ShapeRow, TreeRow, Each}
-use Rattle.atspi_forest.specs.Tree.{shape_of}
+use Rattle.atspi_tree_model.specs.declared.step.Step.{Step}
+use Rattle.atspi_tree_model.specs.Forest.{Forest}
+use Rattle.atspi_tree_model.specs.Row.{ShapeRow, TreeRow, Each}
+use Rattle.atspi_tree_model.specs.Tree.{shape_of}
 use Rattle.atspi_message.specs.Envelope.{Envelope}
 use Rattle.atspi_protocol.specs.announcing.Announced.{announced}
 use Rattle.atspi_protocol.specs.announcing.Signals.{Signal}
@@ -15,8 +15,8 @@ use Rattle.atspi_protocol.specs.exporting.Telling.{asked_for, step_told}
 use Rattle.atspi_tree.specs.TreeShape.{TreeShape}
 use Rattle.atspi_protocol.specs.whole.Whole.{Faces, whole}
 use Rattle.atspi_protocol.proofs.OfWhole.Followed.{shape_is_kept}
-use Rattle.atspi_announced.specs.Asked.{messages_asked, CanBeTold}
-use Rattle.atspi_announced.specs.Laws.{told_of_one}
+use Rattle.atspi_app_signals.specs.Asked.{messages_asked, CanBeTold}
+use Rattle.atspi_app_signals.specs.Laws.{told_of_one}
 use Rattle.atspi_app.specs.Seen.{AreUnnumbered}
 use Rattle.atspi_app.proofs.Unnumbered.{messages_unnumbered}
 

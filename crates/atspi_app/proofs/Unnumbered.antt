@@ -2,12 +2,12 @@
 use Rattle.std.proofs.Common.{◌≡◌, ℕ, ◌+◌, Bool, true, false, cond, Option, Some, None, List, [], ◌∷◌, ◌++◌, refl, sym, ap, ◌∙◌, append_assoc}
 use Rattle.std.specs.Prelude.{map}
 use Rattle.std.proofs.lemmas.List.{append-nil}
-use Rattle.atspi_forest.specs.declared.step.Step.{Step}
-use Rattle.atspi_forest.specs.declared.step.Step.TheVariants.{Add, Remove, Move, SetName, SetDescription, SetRole, SetState, Insert, Delete, Caret, TextSelect, Relate}
-use Rattle.atspi_forest.specs.Forest.{Forest, labels, width, pick, find, children_at}
-use Rattle.atspi_forest.specs.Row.{TreeRow, Each}
-use Rattle.atspi_forest.specs.RowRules.{rows}
-use Rattle.atspi_forest.specs.Tree.{is_node, after, seat_of}
+use Rattle.atspi_tree_model.specs.declared.step.Step.{Step}
+use Rattle.atspi_tree_model.specs.declared.step.Step.TheVariants.{Add, Remove, Move, SetName, SetDescription, SetRole, SetState, Insert, Delete, Caret, TextSelect, Relate}
+use Rattle.atspi_tree_model.specs.Forest.{Forest, labels, width, pick, find, children_at}
+use Rattle.atspi_tree_model.specs.Row.{TreeRow, Each}
+use Rattle.atspi_tree_model.specs.RowRules.{rows}
+use Rattle.atspi_tree_model.specs.Tree.{is_node, after, seat_of}
 use Rattle.atspi_message.specs.Envelope.{Envelope}
 use Rattle.atspi_protocol.specs.ends.Messages.{numbered, Queue, posted}
 use Rattle.atspi_protocol.specs.announcing.Signals.{Signal, removed}
@@ -15,7 +15,7 @@ use Rattle.atspi_protocol.specs.announcing.Announced.{told_node, left, announced
 use Rattle.atspi_protocol.specs.exporting.Exporter.{Happening, sends}
 use Rattle.atspi_protocol.specs.exporting.Hearing.{is_covered}
 use Rattle.atspi_protocol.specs.exporting.Telling.{asked_for}
-use Rattle.atspi_announced.specs.Asked.{messages_asked}
+use Rattle.atspi_app_signals.specs.Asked.{messages_asked}
 use Rattle.atspi_app.specs.Seen.{AreUnnumbered}
 
 abbrev IsUnnumbered : Signal → Type 0

@@ -1,6 +1,6 @@
 -- The faults of an application's parts, as its own.
-use Rattle.atspi_edits.specs.declared.fault.EditRefused.{EditRefused}
-use Rattle.atspi_edits.specs.declared.fault.EditRefused.TheVariants as edits
+use Rattle.atspi_tree_edits.specs.declared.fault.EditRefused.{EditRefused}
+use Rattle.atspi_tree_edits.specs.declared.fault.EditRefused.TheVariants as edits
 use Rattle.atspi_protocol.specs.declared.ends.fault.EndFault.{EndFault}
 use Rattle.atspi_protocol.specs.declared.ends.fault.EndFault.TheVariants as ends
 use Rattle.atspi_app.specs.declared.fault.AppFault.{AppFault}

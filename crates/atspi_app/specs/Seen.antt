@@ -1,9 +1,9 @@
 -- What an application is seen as: the application of the definitions, whose tree is the whole that is exported.
 use Rattle.std.specs.Prelude.{◌≡◌, true, ℤ, List, [], Result, Ok, Err}
-use Rattle.atspi_forest.specs.Row.{Each}
+use Rattle.atspi_tree_model.specs.Row.{Each}
 use Rattle.atspi_message.specs.Envelope.{Envelope}
-use Rattle.atspi_forest.specs.declared.edit.EditFault.{EditFault}
-use Rattle.atspi_exported.specs.Parts.{Parts, whole_of}
+use Rattle.atspi_tree_model.specs.declared.edit.EditFault.{EditFault}
+use Rattle.atspi_app_exported.specs.Parts.{Parts, whole_of}
 use Rattle.atspi_protocol.specs.exporting.Exporter.{Exporter, begins}
 use Rattle.atspi_protocol.specs.exporting.Taking.{is_spent}
 use Rattle.atspi_app_known.specs.declared.starting.known.Known.{Known}

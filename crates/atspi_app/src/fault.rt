@@ -5,9 +5,9 @@ ghost use Rattle.atspi_app.specs.declared.fault.AppFault.TheVariants as faults;
 ghost use Rattle.atspi_app.specs.Faults.{of_edit, of_end};
 
 use atspi_base::NoMemory;
-use atspi_edits::EditRefused;
-use atspi_forest::EditFault;
 use atspi_protocol::ends::EndFault;
+use atspi_tree_edits::EditRefused;
+use atspi_tree_model::EditFault;
 use thiserror::Error;
 
 /// Why a call of an application is refused. After a refusal all is as before.

@@ -9,6 +9,6 @@ mod taking;
 mod telling;
 
 pub use app::App;
+pub use atspi_app_exported::{Boxes, Exported, Exports, Kit};
 pub use atspi_app_known::happenings::AppEvent;
-pub use atspi_exported::{Boxes, Exported, Exports, Kit};
 pub use fault::AppFault;

@@ -1,35 +1,35 @@
 //! What is told of steps, made before they are done.
 
 ghost use Rattle.std.specs.Prelude.{◌≡◌, ◌++◌, IfOk, OnOk, map};
-ghost use Rattle.atspi_forest.specs.Forest.{Forest};
-ghost use Rattle.atspi_forest.specs.Row.{Each, TreeRow};
-ghost use Rattle.atspi_forest.specs.Tree.{shape_of};
-ghost use Rattle.atspi_announced.specs.Asked.{CanBeTold};
-ghost use Rattle.atspi_announced.specs.Laws.{told_of_one};
+ghost use Rattle.atspi_tree_model.specs.Forest.{Forest};
+ghost use Rattle.atspi_tree_model.specs.Row.{Each, TreeRow};
+ghost use Rattle.atspi_tree_model.specs.Tree.{shape_of};
+ghost use Rattle.atspi_app_signals.specs.Asked.{CanBeTold};
+ghost use Rattle.atspi_app_signals.specs.Laws.{told_of_one};
 ghost use Rattle.atspi_protocol.specs.exporting.Exporter.{sends};
 ghost use Rattle.atspi_protocol.specs.exporting.Starting.{name_or_empty};
 ghost use Rattle.atspi_protocol.specs.exporting.Telling.{step_told};
 ghost use Rattle.atspi_app_known.specs.happenings.View.{happened};
-ghost use Rattle.atspi_header.specs.View.{envelope_at};
+ghost use Rattle.atspi_message_in_place.specs.View.{envelope_at};
 ghost use Rattle.atspi_app_answers.specs.Replies.{sent_back};
 ghost use Rattle.atspi_app.specs.called.Called.{reply_of};
 ghost use Rattle.atspi_app.specs.Seen.{AreUnnumbered};
 
 use crate::called::sent_back;
-use atspi_announced::announced;
 use atspi_app_known::happenings::Happenings;
 use atspi_app_known::starting::Known;
+use atspi_app_signals::announced;
 use atspi_base::{NoMemory, Text};
-use atspi_edits::copy_step;
-use atspi_forest::{Step, StepList};
-use atspi_header::MessageRef;
+use atspi_message_in_place::MessageRef;
 use atspi_protocol::ends::{CallError, Mail, Outbox};
 use atspi_tree::Tree;
+use atspi_tree_edits::copy_step;
+use atspi_tree_model::{Step, StepList};
 use atspi_types::Values;
 use std::alloc::Global;
 
-/// The messages of a mail, which have no numbers yet, come behind what is told. A mail is emptied by a queue, which numbers them for
-/// itself.
+/// The messages of a mail, which have no numbers yet, come behind what is told. A mail is emptied by a queue, which
+/// numbers them for itself.
 fn push_all(alloc: Global, mail: &mut Mail, told: &mut Happenings) -> Result<(), NoMemory>
     requires { AreUnnumbered mail.old }
     ensures { OnOk result (happened told.new ≡ happened told.old ++ map sends mail.old) }
@@ -56,7 +56,9 @@ fn push_told(
     told: &mut Happenings,
 ) -> Result<(), NoMemory>
     requires { CanBeTold tree.now step.now }
-    ensures { OnOk result ((f : Forest TreeRow) → shape_of f ≡ tree.now.rows → happened told.new ≡ happened told.old ++ step_told known.now.heard bus.now f step.now) }
+    ensures { OnOk result
+        ((f : Forest TreeRow) → shape_of f ≡ tree.now.rows
+        → happened told.new ≡ happened told.old ++ step_told known.now.heard bus.now f step.now) }
 {
     let copy = copy_step(alloc, step)?;
     told.push_step(copy)?;
@@ -83,7 +85,9 @@ fn each_told(
     steps: &[Step],
 ) -> Result<Happenings, NoMemory>
     requires { Each (CanBeTold tree.now) steps.now }
-    ensures { IfOk result (λ told. (f : Forest TreeRow) → shape_of f ≡ tree.now.rows → happened told ≡ told_of_one known.now.heard bus.now f steps.now) }
+    ensures { IfOk result
+        (λ told. (f : Forest TreeRow) → shape_of f ≡ tree.now.rows
+        → happened told ≡ told_of_one known.now.heard bus.now f steps.now) }
 {
     let mut told = Happenings::new(alloc);
     for step in steps {
@@ -100,7 +104,9 @@ pub(crate) fn told(
     steps: &StepList,
 ) -> Result<Happenings, NoMemory>
     requires { Each (CanBeTold tree.now) steps.now }
-    ensures { IfOk result (λ told. (f : Forest TreeRow) → shape_of f ≡ tree.now.rows → happened told ≡ told_of_one known.now.heard (name_or_empty known.now.name) f steps.now) }
+    ensures { IfOk result
+        (λ told. (f : Forest TreeRow) → shape_of f ≡ tree.now.rows
+        → happened told ≡ told_of_one known.now.heard (name_or_empty known.now.name) f steps.now) }
 {
     let bus = own_name(alloc, known)?;
     each_told(alloc, known, &bus, tree, steps.as_slice())
@@ -116,7 +122,11 @@ pub(crate) fn told_of_call(
     reply: Result<Values, CallError>,
 ) -> Result<Happenings, NoMemory>
     requires { Each (CanBeTold tree.now) steps.now }
-    ensures { IfOk result (λ told. (f : Forest TreeRow) → shape_of f ≡ tree.now.rows → happened told ≡ told_of_one known.now.heard (name_or_empty known.now.name) f steps.now ++ map sends (sent_back (envelope_at call.now) (reply_of reply))) }
+    ensures { IfOk result
+        (λ told. (f : Forest TreeRow) → shape_of f ≡ tree.now.rows
+        → happened told
+        ≡ told_of_one known.now.heard (name_or_empty known.now.name) f steps.now
+        ++ map sends (sent_back (envelope_at call.now) (reply_of reply))) }
 {
     let mut told = told(alloc, known, tree, steps)?;
     let mut mail = sent_back(alloc, call, reply)?;

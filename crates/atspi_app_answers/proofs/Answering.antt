@@ -3,10 +3,10 @@ use Rattle.std.proofs.Common.{◌≡◌, ℕ, ℤ, true, List, [], Option, Some,
 use Rattle.std.specs.Prelude.{Result, Ok, Err, IfOk, IfSome, MatchResult}
 use Rattle.std.specs.Option.{option_map}
 use Rattle.atspi_types.specs.Data.{Data}
-use Rattle.atspi_forest.specs.Forest.{has}
-use Rattle.atspi_forest.specs.Row.{ShapeRow}
-use Rattle.atspi_forest.specs.Tree.{is_shape}
-use Rattle.atspi_forest.proofs.Found.{find-has, count-has}
+use Rattle.atspi_tree_model.specs.Forest.{has}
+use Rattle.atspi_tree_model.specs.Row.{ShapeRow}
+use Rattle.atspi_tree_model.specs.Tree.{is_shape}
+use Rattle.atspi_tree_model.proofs.Found.{find-has, count-has}
 use Rattle.atspi_protocol.specs.ends.Messages.{returns}
 use Rattle.atspi_tree.specs.TreeShape.{TreeShape, row_of}
 use Rattle.atspi_protocol.specs.whole.Whole.{Faces, filled}
@@ -29,7 +29,7 @@ use Rattle.atspi_app_answers.specs.Place.{place_of}
 use Rattle.atspi_app_answers.specs.Counted.{HasCountsAsked}
 use Rattle.atspi_app_answers.specs.declared.fault.AnswerFault.{AnswerFault}
 use Rattle.atspi_app_answers.specs.declared.fault.AnswerFault.TheVariants as faults
-use Rattle.atspi_app_answers.specs.Faults.{or_fault}
+use Rattle.atspi_app_answers.specs.inner.Faults.{or_fault}
 use Rattle.atspi_app_answers.specs.Told.{TellsAll, Refuses, ReturnsProperty, ReturnsProperties, Returns, Fails, id_after}
 
 -- the row of a node that is there

@@ -2,13 +2,13 @@
 use Rattle.std.proofs.Common.{◌≡◌, ℕ, Option, Some, None, length, refl}
 use Rattle.std.specs.FinMap.{get}
 use Rattle.std.specs.Option.{option_map_or}
-use Rattle.atspi_forest.specs.declared.contents.FaceData.{FaceData}
-use Rattle.atspi_forest.specs.declared.contents.FaceData.TheVariants.{Chars, Grid, Deeds}
-use Rattle.atspi_forest.specs.declared.contents.FaceKind.{FaceKind}
-use Rattle.atspi_forest.specs.declared.contents.FaceKind.TheVariants as kinds
-use Rattle.atspi_forest.specs.Row.{ShapeRow}
-use Rattle.atspi_face.specs.Contents.{kind_of, count_of, caret_of}
-use Rattle.atspi_face.specs.Nodes.{Nodes, AreContents}
+use Rattle.atspi_tree_model.specs.declared.contents.FaceData.{FaceData}
+use Rattle.atspi_tree_model.specs.declared.contents.FaceData.TheVariants.{Chars, Grid, Deeds}
+use Rattle.atspi_tree_model.specs.declared.contents.FaceKind.{FaceKind}
+use Rattle.atspi_tree_model.specs.declared.contents.FaceKind.TheVariants as kinds
+use Rattle.atspi_tree_model.specs.Row.{ShapeRow}
+use Rattle.atspi_faces.specs.face.Contents.{kind_of, count_of, caret_of}
+use Rattle.atspi_faces.specs.face.Nodes.{Nodes, AreContents}
 use Rattle.atspi_protocol.specs.whole.Whole.{Faces, filled}
 use Rattle.atspi_protocol.specs.objects.Texts.{text_of}
 use Rattle.atspi_protocol.specs.objects.Tables.{columns_of}

@@ -5,7 +5,7 @@ use Rattle.std.proofs.lemmas.Bool.{and_parts, and_from}
 use Rattle.std.proofs.lemmas.Bool.Decides.{nat_tests}
 use Rattle.std.proofs.lemmas.Grind.{common_steps}
 use Rattle.std.proofs.lemmas.Fmt.{decimal_by_steps, length-decimal-le}
-use Rattle.atspi_telling.specs.Plain.{are_plain}
+use Rattle.atspi_protocol_messages.specs.Plain.{are_plain}
 
 abbrev is_plain : ℕ → Bool
 is_plain b = nat_lt 0 b && nat_lt b 128

@@ -2,7 +2,7 @@
 use Rattle.std.proofs.Common.{◌≡◌, ◌≢◌, true, false, List, [], refl}
 use Rattle.std.specs.Prelude.{codes}
 use Rattle.atspi_types.specs.Data.{Data}
-use Rattle.atspi_forest.specs.Row.{TreeRow}
+use Rattle.atspi_tree_model.specs.Row.{TreeRow}
 use Rattle.atspi_protocol.specs.declared.members.member.ObjectMember.{ObjectMember}
 use Rattle.atspi_protocol.specs.declared.members.member.ObjectMember.TheVariants.{GetChildAtIndex, GetChildren, GetIndexInParent, GetRelationSet, GetRole, GetRoleName, GetLocalizedRoleName, GetState, GetAttributes, GetApplication, GetInterfaces, GetLocale, GetItems, GetText, SetCaretOffset, GetCharacterAtOffset, GetNSelections, GetSelection, AddSelection, RemoveSelection, SetSelection, SetTextContents, InsertText, DeleteText, GetSelectedChild, SelectChild, DeselectChild, DeselectSelectedChild, IsChildSelected, SelectAll, ClearSelection, GetAccessibleAt, GetIndexAt, GetRowAtIndex, GetColumnAtIndex, GetSelectedRows, IsRowSelected, IsSelected, GetName, GetDescription, GetKeyBinding, GetActions, DoAction, RegisterEvent, DeregisterEvent, GetRegisteredEvents, Embed, Unembed, Get, GetAll, Set, Ping}
 use Rattle.atspi_protocol.specs.objects.Application.{Application}

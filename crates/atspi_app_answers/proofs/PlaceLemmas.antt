@@ -4,19 +4,19 @@ use Rattle.std.specs.Prelude.{[], bytes_eq, nat_lt, option_and_then, unwrap_or, 
 use Rattle.std.specs.Option.{option_map}
 use Rattle.std.proofs.lemmas.Bool.{eqb-true, eqb-false, eq-eqb, ltb-true, ltb-false}
 use Rattle.std.proofs.lemmas.Slice.Eq.{bytes_eq-Decides}
-use Rattle.atspi_forest.specs.Forest.{Forest, nil, tree, count, has, find, EachLabel}
-use Rattle.atspi_forest.specs.Path.{path_of}
-use Rattle.atspi_forest.specs.Row.{ShapeRow, TreeRow}
-use Rattle.atspi_forest.specs.Tree.{is_shape}
-use Rattle.atspi_forest.proofs.Found.{each_counted, EachLabel-weaker}
-use Rattle.atspi_forest.proofs.Lookup.{find-relabel}
-use Rattle.atspi_forest.proofs.Path.{path_of_apart}
+use Rattle.atspi_tree_model.specs.Forest.{Forest, nil, tree, count, has, find, EachLabel}
+use Rattle.atspi_tree_model.specs.Path.{path_of}
+use Rattle.atspi_tree_model.specs.Row.{ShapeRow, TreeRow}
+use Rattle.atspi_tree_model.specs.Tree.{is_shape}
+use Rattle.atspi_tree_model.proofs.Found.{each_counted, EachLabel-weaker}
+use Rattle.atspi_tree_model.proofs.Lookup.{find-relabel}
+use Rattle.atspi_tree_model.proofs.Path.{path_of_apart}
 use Rattle.atspi_protocol.specs.ends.Places.{cache_path}
 use Rattle.atspi_tree.specs.TreeShape.{TreeShape, IsLawful, row_of}
 use Rattle.atspi_tree.proofs.Held.{no_row}
 use Rattle.atspi_protocol.specs.whole.Whole.{Faces, whole, filled}
-use Rattle.atspi_forest.specs.declared.contents.Kinds.{Kinds}
-use Rattle.atspi_forest.specs.Announce.{interfaces_of}
+use Rattle.atspi_tree_model.specs.declared.contents.Kinds.{Kinds}
+use Rattle.atspi_tree_model.specs.Announce.{interfaces_of}
 use Rattle.atspi_message.specs.Envelope.{Envelope}
 use Rattle.atspi_protocol.specs.declared.ends.error.CallError.{CallError}
 use Rattle.atspi_protocol.specs.declared.ends.error.CallError.TheVariants.{UnknownObject}

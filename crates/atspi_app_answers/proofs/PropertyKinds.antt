@@ -1,9 +1,9 @@
 -- The type of each property.
 use Rattle.std.proofs.Common.{◌≡◌, ℕ, Option, Some, None, refl}
 use Rattle.atspi_types.specs.Data.{type_of}
-use Rattle.atspi_forest.specs.Row.{TreeRow}
-use Rattle.atspi_forest.specs.RowRules.{rows}
-use Rattle.atspi_forest.specs.Tree.{seat_of}
+use Rattle.atspi_tree_model.specs.Row.{TreeRow}
+use Rattle.atspi_tree_model.specs.RowRules.{rows}
+use Rattle.atspi_tree_model.specs.Tree.{seat_of}
 use Rattle.atspi_protocol.specs.ends.Places.{reference_kind}
 use Rattle.atspi_protocol.specs.objects.Application.{Application}
 use Rattle.atspi_protocol.specs.objects.Children.{parent_data}

@@ -4,15 +4,15 @@ use Rattle.std.specs.Prelude.{filter, not, ◌==◌, ◌||◌}
 use Rattle.std.specs.List.{list_any}
 use Rattle.std.proofs.lemmas.Bool.Decides.{nat_tests}
 use Rattle.atspi_types.specs.Data.{Data, array_data, items_of}
-use Rattle.atspi_forest.specs.declared.limits.TheConstants.{RELATION_KINDS}
-use Rattle.atspi_forest.specs.Row.{ShapeRow, targets_of}
-use Rattle.atspi_forest.specs.Edits.{numbers_to}
+use Rattle.atspi_tree_model.specs.declared.limits.TheConstants.{RELATION_KINDS}
+use Rattle.atspi_tree_model.specs.Row.{ShapeRow, targets_of}
+use Rattle.atspi_tree_model.specs.Edits.{numbers_to}
 use Rattle.atspi_protocol.specs.declared.members.member.ObjectMember.TheVariants.{GetRelationSet}
 use Rattle.atspi_tree.specs.TreeShape.{TreeShape, row_of}
 use Rattle.atspi_protocol.specs.whole.Whole.{Faces, filled}
 use Rattle.atspi_protocol.specs.objects.Answers.{tells}
 use Rattle.atspi_protocol.specs.objects.Children.{relations_data}
-use Rattle.atspi_node_values.specs.Relations.{relation, relation_kind, has_some, relations_told}
+use Rattle.atspi_app_values.specs.Relations.{relation, relation_kind, has_some, relations_told}
 use Rattle.atspi_app_answers.specs.Seen.{seen}
 use Rattle.atspi_app_answers.specs.Told.{Tells}
 

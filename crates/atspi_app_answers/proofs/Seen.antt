@@ -4,12 +4,12 @@ use Rattle.std.specs.Prelude.{pos, negsuc, slice_get}
 use Rattle.std.specs.Option.{option_map}
 use Rattle.std.proofs.lemmas.Option.{slice_get-map}
 use Rattle.atspi_types.specs.Data.{array_data, items_of}
-use Rattle.atspi_forest.specs.Forest.{Forest, nil, tree, tops, children_at, relabel}
-use Rattle.atspi_forest.specs.Row.{ShapeRow, TreeRow}
-use Rattle.atspi_forest.specs.RowRules.{rows, shapes}
-use Rattle.atspi_forest.specs.Tree.{is_shape, is_node, seat_of}
-use Rattle.atspi_forest.proofs.Lookup.{children-relabel}
-use Rattle.atspi_forest.proofs.Relabel.{renamed, place-relabel}
+use Rattle.atspi_tree_model.specs.Forest.{Forest, nil, tree, tops, children_at, relabel}
+use Rattle.atspi_tree_model.specs.Row.{ShapeRow, TreeRow}
+use Rattle.atspi_tree_model.specs.RowRules.{rows, shapes}
+use Rattle.atspi_tree_model.specs.Tree.{is_shape, is_node, seat_of}
+use Rattle.atspi_tree_model.proofs.Lookup.{children-relabel}
+use Rattle.atspi_tree_model.proofs.Relabel.{renamed, place-relabel}
 use Rattle.atspi_protocol.specs.ends.Places.{reference_kind}
 use Rattle.atspi_protocol.specs.members.Arguments.{int}
 use Rattle.atspi_tree.specs.TreeShape.{TreeShape, children_of}
@@ -18,7 +18,7 @@ use Rattle.atspi_protocol.specs.objects.Application.{Application}
 use Rattle.atspi_protocol.specs.objects.Values.{row_reference, reference_or_null, references_data}
 use Rattle.atspi_protocol.specs.objects.Children as children
 use Rattle.atspi_app_answers.specs.Seen.{seen}
-use Rattle.atspi_node_values.specs.Numbers.{numbered_reference, numbered_or_null, numbered_references, index_of, parent_of}
+use Rattle.atspi_app_values.specs.Numbers.{numbered_reference, numbered_or_null, numbered_references, index_of, parent_of}
 
 tops-relabel : {A B : Type 0} (h : A → B) (f : Forest A) → tops (relabel h f) ≡ map h (tops f)
 tops-relabel h nil = refl

@@ -5,17 +5,17 @@ use Rattle.std.proofs.lemmas.List.{length-append}
 use Rattle.std.proofs.lemmas.List.Elements.{All-from_get_or, filter-append}
 use Rattle.std.proofs.lemmas.Option.{slice_get-get_or}
 use Rattle.std.specs.Option.{option_map_or}
-use Rattle.atspi_forest.specs.Forest.{Forest, nil, tree, has, tops, children_at, EachNode}
-use Rattle.atspi_forest.specs.Row.{ShapeRow, TreeRow}
-use Rattle.atspi_forest.specs.States.{has_state, selected}
-use Rattle.atspi_forest.specs.Tree.{is_shape}
+use Rattle.atspi_tree_model.specs.Forest.{Forest, nil, tree, has, tops, children_at, EachNode}
+use Rattle.atspi_tree_model.specs.Row.{ShapeRow, TreeRow}
+use Rattle.atspi_tree_model.specs.States.{has_state, selected}
+use Rattle.atspi_tree_model.specs.Tree.{is_shape}
 use Rattle.atspi_tree.specs.TreeShape.{TreeShape, IsLawful, numbers, children_of}
 use Rattle.atspi_tree.proofs.Walks.{child_there}
 use Rattle.atspi_protocol.specs.whole.Whole.{Faces, filled}
 use Rattle.atspi_protocol.specs.objects.Children as children
-use Rattle.atspi_items.proofs.Known.{Known, each_known}
+use Rattle.atspi_app_items.proofs.Known.{Known, each_known}
 use Rattle.atspi_app_answers.specs.Seen.{seen}
-use Rattle.atspi_app_answers.specs.Selected.{is_selected_in}
+use Rattle.atspi_app_answers.specs.inner.Selected.{is_selected_in}
 use Rattle.atspi_app_answers.proofs.Seen.{children_seen}
 
 each_below : (P : ShapeRow → Forest ShapeRow → Type 0) (p : ShapeRow → Bool) (f : Forest ShapeRow) → EachNode P f → EachNode P (children_at p f)

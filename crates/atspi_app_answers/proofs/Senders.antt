@@ -4,7 +4,7 @@ use Rattle.std.specs.Prelude.{IsTrue}
 use Rattle.std.specs.Borrow.{Bor}
 use Rattle.std.proofs.lemmas.Bool.{and_parts}
 use Rattle.atspi_base.specs.valid_names.Names.{is_path, is_interface, is_member, is_bus_name}
-use Rattle.atspi_header.specs.Names.{fits, are_named}
+use Rattle.atspi_message_in_place.specs.Names.{fits, are_named}
 use Rattle.atspi_message.specs.Envelope.{Envelope}
 use Rattle.atspi_protocol.specs.ends.Messages.{Reply, replies}
 use Rattle.atspi_app_answers.specs.Replies.{sent_back}

@@ -5,12 +5,12 @@ use Rattle.std.specs.Option.{option_map}
 use Rattle.std.proofs.lemmas.Bool.{eqb-true}
 use Rattle.atspi_types.specs.Kinds.{text, u32}
 use Rattle.atspi_types.specs.Data.{Data, number_data, text_data, dictionary_data, entries_of}
-use Rattle.atspi_forest.specs.declared.contents.Kinds.{Kinds}
-use Rattle.atspi_forest.specs.Row.{ShapeRow}
-use Rattle.atspi_forest.specs.RowRules.{shapes}
-use Rattle.atspi_forest.specs.Tree.{is_shape, seat_of}
-use Rattle.atspi_forest.specs.Announce.{interfaces_of}
-use Rattle.atspi_forest.proofs.Found.{find-passes}
+use Rattle.atspi_tree_model.specs.declared.contents.Kinds.{Kinds}
+use Rattle.atspi_tree_model.specs.Row.{ShapeRow}
+use Rattle.atspi_tree_model.specs.RowRules.{shapes}
+use Rattle.atspi_tree_model.specs.Tree.{is_shape, seat_of}
+use Rattle.atspi_tree_model.specs.Announce.{interfaces_of}
+use Rattle.atspi_tree_model.proofs.Found.{find-passes}
 use Rattle.atspi_protocol.specs.declared.members.member.ObjectMember.TheVariants.{GetChildAtIndex, GetChildren, GetIndexInParent, GetRole, GetRoleName, GetLocalizedRoleName, GetState, GetAttributes, GetApplication, GetInterfaces}
 use Rattle.atspi_protocol.specs.declared.members.property.ObjectProperty.TheVariants.{Name, Description, Parent, ChildCount, Locale, AccessibleId, ToolkitName, Version, AtspiVersion, Id, CharacterCount, CaretOffset, NSelectedChildren, NRows, NColumns, NActions}
 use Rattle.atspi_protocol.specs.members.Arguments.{int, signed_at}
@@ -21,8 +21,8 @@ use Rattle.atspi_protocol.specs.objects.Children as children
 use Rattle.atspi_protocol.specs.objects.Answers.{tells}
 use Rattle.atspi_app_answers.specs.declared.counts.Counts.{Counts}
 use Rattle.atspi_app_answers.specs.Seen.{seen}
-use Rattle.atspi_app_answers.specs.Selected.{is_selected_in}
-use Rattle.atspi_node_values.specs.Numbers.{numbered_or_null, numbered_references, index_of, parent_of}
+use Rattle.atspi_app_answers.specs.inner.Selected.{is_selected_in}
+use Rattle.atspi_app_values.specs.Numbers.{numbered_or_null, numbered_references, index_of, parent_of}
 use Rattle.atspi_app_answers.specs.Told.{Tells, IsProperty}
 use Rattle.atspi_app_answers.proofs.Seen.{references_seen, child_seen, index_seen, parent_seen, count_seen}
 use Rattle.atspi_app_answers.proofs.SelectedLemmas.{selected_seen}

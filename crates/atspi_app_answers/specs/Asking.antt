@@ -20,5 +20,8 @@ answer_to a e = answer a (unwrap_or e.path []) e.interface e.member e.body
 -- the call asks this of this object, or gets this error
 abbrev pub Asks : TreeShape → Envelope → Result (AppPlace × Ask) CallError → Type 0
 Asks t e (Ok (place, ask)) =
-    (faces : Faces) (name : List ℕ) (id : ℤ) → answer_to (seen t faces name id) e ≡ place_answers (seen t faces name id) (place_of t faces place) (Ok (asked_of e.body ask))
-Asks t e (Err error) = (faces : Faces) (name : List ℕ) (id : ℤ) → answer_to (seen t faces name id) e ≡ refuses (seen t faces name id) (error_word error)
+    (faces : Faces) (name : List ℕ) (id : ℤ)
+    → answer_to (seen t faces name id) e
+    ≡ place_answers (seen t faces name id) (place_of t faces place) (Ok (asked_of e.body ask))
+Asks t e (Err error) = (faces : Faces) (name : List ℕ) (id : ℤ)
+    → answer_to (seen t faces name id) e ≡ refuses (seen t faces name id) (error_word error)

@@ -1,14 +1,15 @@
 -- Counts of what the contents of a node have, and which of them a call needs.
 use Rattle.std.specs.Prelude.{◌≡◌, ℕ, List, length, IfSome}
 use Rattle.std.specs.List.{AllByRecursion}
-use Rattle.atspi_forest.specs.Row.{ShapeRow, TreeRow}
+use Rattle.atspi_tree_model.specs.Row.{ShapeRow, TreeRow}
 use Rattle.atspi_protocol.specs.declared.members.property.ObjectProperty.{ObjectProperty}
-use Rattle.atspi_protocol.specs.declared.members.property.ObjectProperty.TheVariants.{CharacterCount, CaretOffset, NRows, NColumns, NActions}
+use Rattle.atspi_protocol.specs.declared.members.property.ObjectProperty.TheVariants.{CharacterCount, CaretOffset}
+use Rattle.atspi_protocol.specs.declared.members.property.ObjectProperty.TheVariants.{NRows, NColumns, NActions}
 use Rattle.atspi_protocol.specs.members.Table.{PropertyLine}
 use Rattle.atspi_protocol.specs.objects.Texts.{text_of}
 use Rattle.atspi_protocol.specs.objects.Tables.{columns_of}
 use Rattle.atspi_tree.specs.TreeShape.{TreeShape, row_of}
-use Rattle.atspi_face.specs.Nodes.{count_at, caret_at}
+use Rattle.atspi_faces.specs.face.Nodes.{count_at, caret_at}
 use Rattle.atspi_protocol.specs.whole.Whole.{Faces, filled}
 use Rattle.atspi_app_calls.specs.declared.ask.Ask.{Ask}
 use Rattle.atspi_app_calls.specs.declared.ask.Ask.TheVariants as asks
@@ -46,7 +47,8 @@ HasCountsAsked counts row ask = Unit {0}
 -- the same of an object of the whole tree
 abbrev pub HasCountsAt : Counts → TreeShape → Faces → AppPlace → Ask → Type 0
 HasCountsAt counts t faces Tree ask = Unit {0}
-HasCountsAt counts t faces (Node n) ask = IfSome (row_of n t) (λ (s : ShapeRow). HasCountsAsked counts (filled faces s) ask)
+HasCountsAt counts t faces (Node n) ask =
+    IfSome (row_of n t) (λ (s : ShapeRow). HasCountsAsked counts (filled faces s) ask)
 
 -- the counts that faces tell of a node
 abbrev pub counts_at : Faces → ℕ → Counts

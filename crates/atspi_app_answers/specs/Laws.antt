@@ -1,7 +1,7 @@
 -- What holds of the counts of a node.
-use Rattle.atspi_forest.specs.declared.contents.FaceKind.TheVariants.{Chars, Grid, Deeds}
-use Rattle.atspi_forest.specs.Row.{ShapeRow}
-use Rattle.atspi_face.specs.Nodes.{AreContents}
+use Rattle.atspi_tree_model.specs.declared.contents.FaceKind.TheVariants.{Chars, Grid, Deeds}
+use Rattle.atspi_tree_model.specs.Row.{ShapeRow}
+use Rattle.atspi_faces.specs.face.Nodes.{AreContents}
 use Rattle.atspi_protocol.specs.whole.Whole.{Faces, filled}
 use Rattle.atspi_app_answers.specs.Counted.{AreCounts, counts_at}
 

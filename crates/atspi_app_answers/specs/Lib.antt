@@ -1,9 +1,8 @@
+pub mod inner
 pub mod Seen
 pub mod Place
 pub mod Counted
-pub mod Selected
 pub mod Laws
-pub mod Faults
 pub mod Told
 pub mod Asking
 pub mod Replies

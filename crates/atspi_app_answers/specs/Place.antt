@@ -1,9 +1,9 @@
 -- Which object of an application has a path, by its tree.
 use Rattle.std.specs.Prelude.{◌≡◌, true, Option, Some}
 use Rattle.std.specs.Option.{option_map}
-use Rattle.atspi_forest.specs.Row.{ShapeRow}
-use Rattle.atspi_forest.specs.Forest.{has}
-use Rattle.atspi_forest.specs.Tree.{is_shape}
+use Rattle.atspi_tree_model.specs.Row.{ShapeRow}
+use Rattle.atspi_tree_model.specs.Forest.{has}
+use Rattle.atspi_tree_model.specs.Tree.{is_shape}
 use Rattle.atspi_tree.specs.TreeShape.{TreeShape, row_of}
 use Rattle.atspi_protocol.specs.whole.Whole.{Faces, filled}
 use Rattle.atspi_protocol.specs.objects.Places.{Place, node, whole_tree}

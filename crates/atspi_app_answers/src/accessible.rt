@@ -2,18 +2,18 @@
 
 ghost use Rattle.std.specs.Prelude.{◌≡◌, true, IfOk};
 ghost use Rattle.atspi_types.specs.DataView.{data_of};
-ghost use Rattle.atspi_cursor.specs.Items.{fields_data};
-ghost use Rattle.atspi_forest.specs.Forest.{has};
-ghost use Rattle.atspi_forest.specs.Tree.{is_shape};
+ghost use Rattle.atspi_marshal_in_place.specs.Items.{fields_data};
+ghost use Rattle.atspi_tree_model.specs.Forest.{has};
+ghost use Rattle.atspi_tree_model.specs.Tree.{is_shape};
 ghost use Rattle.atspi_app_answers.specs.Told.{Tells, is_accessible};
 
-use atspi_base::{NoMemory, Text};
-use atspi_calls::first_signed;
-use atspi_cursor::Fields;
-use atspi_node_values::{
+use atspi_app_calls::reading::first_signed;
+use atspi_app_values::{
     child_at, index_in_parent, interface_names, no_pairs, node_reference, number,
     reference_or_null, references, relation_set, role_text, signed, words,
 };
+use atspi_base::{NoMemory, Text};
+use atspi_marshal_in_place::Fields;
 use atspi_protocol::members::ObjectMember;
 use atspi_tree::Tree;
 use atspi_types::Value;
@@ -28,7 +28,8 @@ fn get_child_at_index(
     args: Fields,
 ) -> Result<Value, NoMemory>
     requires { has (is_shape node) tree.now.rows ≡ true }
-    ensures { IfOk result (λ value. Tells tree.now bus.now node ObjectMember.GetChildAtIndex (fields_data args.entry) (data_of value)) }
+    ensures { IfOk result
+        (λ value. Tells tree.now bus.now node ObjectMember.GetChildAtIndex (fields_data args.entry) (data_of value)) }
 {
     reference_or_null(alloc, bus, child_at(tree, node, first_signed(args)))
 }
@@ -42,7 +43,8 @@ fn get_children(
     args: Fields,
 ) -> Result<Value, NoMemory>
     requires { has (is_shape node) tree.now.rows ≡ true }
-    ensures { IfOk result (λ value. Tells tree.now bus.now node ObjectMember.GetChildren (fields_data args.entry) (data_of value)) }
+    ensures { IfOk result
+        (λ value. Tells tree.now bus.now node ObjectMember.GetChildren (fields_data args.entry) (data_of value)) }
 {
     references(alloc, bus, tree.children(node))
 }
@@ -56,7 +58,8 @@ fn get_index_in_parent(
     args: Fields,
 ) -> Result<Value, NoMemory>
     requires { has (is_shape node) tree.now.rows ≡ true }
-    ensures { IfOk result (λ value. Tells tree.now bus.now node ObjectMember.GetIndexInParent (fields_data args.entry) (data_of value)) }
+    ensures { IfOk result
+        (λ value. Tells tree.now bus.now node ObjectMember.GetIndexInParent (fields_data args.entry) (data_of value)) }
 {
     Ok(signed(index_in_parent(tree, node)))
 }
@@ -70,7 +73,8 @@ fn get_relation_set(
     args: Fields,
 ) -> Result<Value, NoMemory>
     requires { has (is_shape node) tree.now.rows ≡ true }
-    ensures { IfOk result (λ value. Tells tree.now bus.now node ObjectMember.GetRelationSet (fields_data args.entry) (data_of value)) }
+    ensures { IfOk result
+        (λ value. Tells tree.now bus.now node ObjectMember.GetRelationSet (fields_data args.entry) (data_of value)) }
 {
     relation_set(alloc, tree, bus, node)
 }
@@ -84,7 +88,8 @@ fn get_role(
     args: Fields,
 ) -> Result<Value, NoMemory>
     requires { has (is_shape node) tree.now.rows ≡ true }
-    ensures { IfOk result (λ value. Tells tree.now bus.now node ObjectMember.GetRole (fields_data args.entry) (data_of value)) }
+    ensures { IfOk result
+        (λ value. Tells tree.now bus.now node ObjectMember.GetRole (fields_data args.entry) (data_of value)) }
 {
     Ok(number(tree.role(node)))
 }
@@ -98,7 +103,8 @@ fn get_role_name(
     args: Fields,
 ) -> Result<Value, NoMemory>
     requires { has (is_shape node) tree.now.rows ≡ true }
-    ensures { IfOk result (λ value. Tells tree.now bus.now node ObjectMember.GetRoleName (fields_data args.entry) (data_of value)) }
+    ensures { IfOk result
+        (λ value. Tells tree.now bus.now node ObjectMember.GetRoleName (fields_data args.entry) (data_of value)) }
 {
     role_text(alloc, tree.role(node))
 }
@@ -112,7 +118,9 @@ fn get_localized_role_name(
     args: Fields,
 ) -> Result<Value, NoMemory>
     requires { has (is_shape node) tree.now.rows ≡ true }
-    ensures { IfOk result (λ value. Tells tree.now bus.now node ObjectMember.GetLocalizedRoleName (fields_data args.entry) (data_of value)) }
+    ensures { IfOk result
+        (λ value. Tells tree.now bus.now node ObjectMember.GetLocalizedRoleName (fields_data args.entry)
+        (data_of value)) }
 {
     role_text(alloc, tree.role(node))
 }
@@ -126,7 +134,8 @@ fn get_state(
     args: Fields,
 ) -> Result<Value, NoMemory>
     requires { has (is_shape node) tree.now.rows ≡ true }
-    ensures { IfOk result (λ value. Tells tree.now bus.now node ObjectMember.GetState (fields_data args.entry) (data_of value)) }
+    ensures { IfOk result
+        (λ value. Tells tree.now bus.now node ObjectMember.GetState (fields_data args.entry) (data_of value)) }
 {
     words(alloc, tree.states(node))
 }
@@ -140,7 +149,8 @@ fn get_attributes(
     args: Fields,
 ) -> Result<Value, NoMemory>
     requires { has (is_shape node) tree.now.rows ≡ true }
-    ensures { IfOk result (λ value. Tells tree.now bus.now node ObjectMember.GetAttributes (fields_data args.entry) (data_of value)) }
+    ensures { IfOk result
+        (λ value. Tells tree.now bus.now node ObjectMember.GetAttributes (fields_data args.entry) (data_of value)) }
 {
     Ok(no_pairs(alloc))
 }
@@ -154,7 +164,8 @@ fn get_application(
     args: Fields,
 ) -> Result<Value, NoMemory>
     requires { has (is_shape node) tree.now.rows ≡ true }
-    ensures { IfOk result (λ value. Tells tree.now bus.now node ObjectMember.GetApplication (fields_data args.entry) (data_of value)) }
+    ensures { IfOk result
+        (λ value. Tells tree.now bus.now node ObjectMember.GetApplication (fields_data args.entry) (data_of value)) }
 {
     node_reference(alloc, bus, 0)
 }
@@ -168,13 +179,15 @@ fn get_interfaces(
     args: Fields,
 ) -> Result<Value, NoMemory>
     requires { has (is_shape node) tree.now.rows ≡ true }
-    ensures { IfOk result (λ value. Tells tree.now bus.now node ObjectMember.GetInterfaces (fields_data args.entry) (data_of value)) }
+    ensures { IfOk result
+        (λ value. Tells tree.now bus.now node ObjectMember.GetInterfaces (fields_data args.entry) (data_of value)) }
 {
     interface_names(alloc, node == 0, tree.kinds(node))
 }
 
-/// What a member of Accessible tells of a node that is there, the arguments being of the types that it takes (AT-SPI2, interface
-/// Accessible). The one refusal is want of memory. Looks at the node, and at its children or relations where it tells of them.
+/// What a member of Accessible tells of a node that is there, the arguments being of the types that it takes (AT-SPI2,
+/// interface Accessible). The one refusal is want of memory. Looks at the node, and at its children or relations where
+/// it tells of them.
 pub(crate) fn accessible(
     alloc: Global,
     tree: &Tree,

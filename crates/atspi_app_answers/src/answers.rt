@@ -4,9 +4,9 @@ ghost use Rattle.std.specs.Prelude.{◌≡◌, ◌∷◌, [], true, false, IfOk,
 ghost use Rattle.atspi_types.specs.DataView.{all_data};
 ghost use Rattle.atspi_types.specs.Kinds.{text, variant};
 ghost use Rattle.atspi_types.specs.Data.{dictionary_data, entries_of};
-ghost use Rattle.atspi_cursor.specs.Items.{fields_data};
-ghost use Rattle.atspi_forest.specs.Forest.{has};
-ghost use Rattle.atspi_forest.specs.Tree.{is_shape, shape_of};
+ghost use Rattle.atspi_marshal_in_place.specs.Items.{fields_data};
+ghost use Rattle.atspi_tree_model.specs.Forest.{has};
+ghost use Rattle.atspi_tree_model.specs.Tree.{is_shape, shape_of};
 ghost use Rattle.atspi_protocol.specs.objects.Answers.{items_data};
 ghost use Rattle.atspi_protocol.specs.objects.Application.{Application};
 ghost use Rattle.atspi_app_calls.specs.Interface.{properties_in};
@@ -21,9 +21,9 @@ use crate::members::{member_values, one};
 use crate::place::AppPlace;
 use crate::variants::property_in_variant;
 use atspi_app_calls::{AppInterface, Ask};
+use atspi_app_items::all_items;
 use atspi_base::{NoMemory, Text};
-use atspi_cursor::Fields;
-use atspi_items::all_items;
+use atspi_marshal_in_place::Fields;
 use atspi_protocol::ends::CallError;
 use atspi_protocol::members::{ObjectMember, ObjectProperty};
 use atspi_tree::Tree;
@@ -58,7 +58,8 @@ fn properties_values(
     interface: AppInterface,
 ) -> Result<Values, NoMemory>
     requires { has (is_shape node) tree.now.rows ≡ true }
-    ensures { IfOk result (λ values. ReturnsProperties tree.now bus.now id.now counts node (properties_in interface) (all_data values)) }
+    ensures { IfOk result
+        (λ values. ReturnsProperties tree.now bus.now id.now counts node (properties_in interface) (all_data values)) }
 {
     let value = all_properties(alloc, tree, bus, id, counts, node, interface)?;
     one(alloc, value)
@@ -77,7 +78,9 @@ fn node_values(
 ) -> Result<Values, AnswerFault>
     requires there { has (is_shape node) tree.now.rows ≡ true }
     requires shape { IsOfShape (AppPlace.Node node) ask }
-    ensures { MatchResult result (λ values. Returns tree.now bus.now id.now counts (AppPlace.Node node) (fields_data args.entry) ask (all_data values)) (Fails tree.now bus.now id.now (AppPlace.Node node) (fields_data args.entry) ask) }
+    ensures { MatchResult result
+        (λ values. Returns tree.now bus.now id.now counts (AppPlace.Node node) (fields_data args.entry) ask
+        (all_data values)) (Fails tree.now bus.now id.now (AppPlace.Node node) (fields_data args.entry) ask) }
 {
     match ask {
         Ask::Call(member) => member_values(alloc, tree, bus, node, member, args),
@@ -93,7 +96,9 @@ fn node_values(
 
 /// What GetItems returns.
 fn items_values(alloc: Global, tree: &Tree, bus: &Text) -> Result<Values, NoMemory>
-    ensures { IfOk result (λ values. (a : Application) → shape_of a.tree ≡ tree.now.rows → a.name ≡ bus.now → all_data values ≡ items_data a ∷ []) }
+    ensures { IfOk result
+        (λ values. (a : Application) → shape_of a.tree ≡ tree.now.rows → a.name ≡ bus.now
+        → all_data values ≡ items_data a ∷ []) }
 {
     let value = all_items(alloc, bus, tree)?;
     one(alloc, value)
@@ -131,7 +136,9 @@ fn tree_values(
     ask: Ask,
     args: Fields,
 ) -> Result<Values, AnswerFault>
-    ensures { MatchResult result (λ values. Returns tree.now bus.now id.now counts AppPlace.Tree (fields_data args.entry) ask (all_data values)) (Fails tree.now bus.now id.now AppPlace.Tree (fields_data args.entry) ask) }
+    ensures { MatchResult result
+        (λ values. Returns tree.now bus.now id.now counts AppPlace.Tree (fields_data args.entry) ask (all_data values))
+        (Fails tree.now bus.now id.now AppPlace.Tree (fields_data args.entry) ask) }
 {
     match ask {
         Ask::Call(member) => or_fault(tree_member(alloc, tree, bus, member)),
@@ -140,10 +147,10 @@ fn tree_values(
     }
 }
 
-/// What an object that is there returns to what it is asked, the arguments being of the types that the member takes: the values that the
-/// whole tree tells, whatever the contents of nodes, where `counts` has the counts that are asked for. Refused are members and properties
-/// that the object has not; else memory alone can be wanting. Members of Text, EditableText, Selection, Table and Action are not asked
-/// here.
+/// What an object that is there returns to what it is asked, the arguments being of the types that the member takes:
+/// the values that the whole tree tells, whatever the contents of nodes, where `counts` has the counts that are asked
+/// for. Refused are members and properties that the object has not; else memory alone can be wanting. Members of Text,
+/// EditableText, Selection, Table and Action are not asked here.
 pub fn answer(
     alloc: Global,
     tree: &Tree,
@@ -156,7 +163,9 @@ pub fn answer(
 ) -> Result<Values, AnswerFault>
     requires there { IsThere tree.now place }
     requires shape { IsOfShape place ask }
-    ensures { MatchResult result (λ values. Returns tree.now bus.now id counts place (fields_data args.entry) ask (all_data values)) (Fails tree.now bus.now id place (fields_data args.entry) ask) }
+    ensures { MatchResult result
+        (λ values. Returns tree.now bus.now id counts place (fields_data args.entry) ask (all_data values))
+        (Fails tree.now bus.now id place (fields_data args.entry) ask) }
 {
     match place {
         AppPlace::Tree => tree_values(alloc, tree, bus, &id, counts, ask, args),

@@ -1,13 +1,13 @@
 //! What a call asks of an application, and of which of its objects.
 
 ghost use Rattle.std.specs.Prelude.{◌≡◌, [], unwrap_or, IfOk};
-ghost use Rattle.atspi_header.specs.View.{bytes_of, envelope_at};
+ghost use Rattle.atspi_message_in_place.specs.View.{bytes_of, envelope_at};
 ghost use Rattle.atspi_app_answers.specs.Place.{IsThere};
 ghost use Rattle.atspi_app_answers.specs.Asking.{Asks};
 
 use crate::place::{AppPlace, object_of, place_at};
 use atspi_app_calls::{Ask, asked};
-use atspi_header::MessageRef;
+use atspi_message_in_place::MessageRef;
 use atspi_protocol::ends::CallError;
 use atspi_tree::Tree;
 
@@ -21,8 +21,9 @@ fn path_or_empty<'a>(path: Option<&'a str>) -> &'a str
     }
 }
 
-/// What a call asks, and of which object, or the error that it gets (AT-SPI2's interface files; D-Bus Specification, "Standard
-/// Interfaces"). Errors are looked for in this order: the object, the interface, the member, the arguments, the property. Takes no memory.
+/// What a call asks, and of which object, or the error that it gets (AT-SPI2's interface files; D-Bus Specification,
+/// "Standard Interfaces"). Errors are looked for in this order: the object, the interface, the member, the arguments,
+/// the property. Takes no memory.
 pub fn asked_in(tree: &Tree, call: &MessageRef) -> Result<(AppPlace, Ask), CallError>
     ensures there { IfOk result (λ found. IsThere tree.now found.0) }
     ensures asked { Asks tree.now (envelope_at call.now) result }

@@ -27,8 +27,8 @@ pub(crate) fn counted(n: u32) -> Value
     Value::I32(n.cast_signed())
 }
 
-/// Where each face has contents of its kind, what the faces count of a node is what its row in the whole tree counts. A law: this does
-/// nothing.
+/// Where each face has contents of its kind, what the faces count of a node is what its row in the whole tree counts. A
+/// law: this does nothing.
 pub fn faces_tell_counts()
     ensures { FacesTellCounts }
 {}

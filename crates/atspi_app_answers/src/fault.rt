@@ -1,7 +1,7 @@
 //! Why a call is not answered with values.
 
 ghost use Rattle.std.specs.Prelude.{◌≡◌};
-ghost use Rattle.atspi_app_answers.specs.Faults.{or_fault};
+ghost use Rattle.atspi_app_answers.specs.inner.Faults.{or_fault};
 
 use atspi_base::NoMemory;
 use atspi_protocol::ends::CallError;

@@ -1,5 +1,5 @@
-//! What an application answers to calls of its objects that look into no contents: which object has a path, what it offers, the members of
-//! Accessible, Application, Peer and Cache, all properties, and the reply.
+//! What an application answers to calls of its objects that look into no contents: which object has a path, what it
+//! offers, the members of Accessible, Application, Peer and Cache, all properties, and the reply.
 #![tactic(auto)]
 
 mod accessible;

@@ -4,9 +4,9 @@ ghost use Rattle.std.specs.Prelude.{◌≡◌, ◌<◌, ◌^◌, [], true, lengt
 ghost use Rattle.atspi_types.specs.Kinds.{text, variant};
 ghost use Rattle.atspi_types.specs.Data.{dictionary_data, entries_of};
 ghost use Rattle.atspi_types.specs.DataView.{data_of, all_pairs};
-ghost use Rattle.atspi_forest.specs.Forest.{has};
-ghost use Rattle.atspi_forest.specs.Tree.{is_shape};
-ghost use Rattle.atspi_telling.specs.Plain.{are_plain};
+ghost use Rattle.atspi_tree_model.specs.Forest.{has};
+ghost use Rattle.atspi_tree_model.specs.Tree.{is_shape};
+ghost use Rattle.atspi_protocol_messages.specs.Plain.{are_plain};
 ghost use Rattle.atspi_app_calls.specs.declared.interface.AppInterface.TheVariants as interfaces;
 ghost use Rattle.atspi_app_calls.specs.Interface.{properties_in};
 ghost use Rattle.atspi_app_answers.specs.Told.{Puts, AreProperties, IsAllProperties};
@@ -14,8 +14,8 @@ ghost use Rattle.atspi_app_answers.specs.Told.{Puts, AreProperties, IsAllPropert
 use crate::counts::Counts;
 use crate::variants::property_in_variant;
 use atspi_app_calls::AppInterface;
+use atspi_app_values::literal;
 use atspi_base::{NoMemory, Text};
-use atspi_node_values::literal;
 use atspi_protocol::members::ObjectProperty;
 use atspi_tree::Tree;
 use atspi_types::{Pairs, Ty, Value};
@@ -36,7 +36,8 @@ fn put(
     requires there { has (is_shape node) tree.now.rows ≡ true }
     requires plain { are_plain name.now ≡ true }
     requires short { length name.now < 2 ^ 32 }
-    ensures { OnOk result (Puts tree.now bus.now id.now counts node name.now which (all_pairs pairs.old) (all_pairs pairs.new)) }
+    ensures { OnOk result
+        (Puts tree.now bus.now id.now counts node name.now which (all_pairs pairs.old) (all_pairs pairs.new)) }
 {
     let key = literal(alloc, name)?;
     let value = property_in_variant(alloc, tree, bus, id, counts, node, which)?;
@@ -54,7 +55,9 @@ fn of_accessible(
     node: u32,
 ) -> Result<Pairs, NoMemory>
     requires { has (is_shape node) tree.now.rows ≡ true }
-    ensures { IfOk result (λ pairs. AreProperties tree.now bus.now id.now counts node (properties_in interfaces.Accessible) (all_pairs pairs)) }
+    ensures { IfOk result
+        (λ pairs. AreProperties tree.now bus.now id.now counts node (properties_in interfaces.Accessible)
+        (all_pairs pairs)) }
 {
     let mut all = Pairs::new(alloc);
     put(
@@ -136,7 +139,9 @@ fn of_application(
     node: u32,
 ) -> Result<Pairs, NoMemory>
     requires { has (is_shape node) tree.now.rows ≡ true }
-    ensures { IfOk result (λ pairs. AreProperties tree.now bus.now id.now counts node (properties_in interfaces.Application) (all_pairs pairs)) }
+    ensures { IfOk result
+        (λ pairs. AreProperties tree.now bus.now id.now counts node (properties_in interfaces.Application)
+        (all_pairs pairs)) }
 {
     let mut all = Pairs::new(alloc);
     put(
@@ -196,7 +201,8 @@ fn of_text(
     node: u32,
 ) -> Result<Pairs, NoMemory>
     requires { has (is_shape node) tree.now.rows ≡ true }
-    ensures { IfOk result (λ pairs. AreProperties tree.now bus.now id.now counts node (properties_in interfaces.Text) (all_pairs pairs)) }
+    ensures { IfOk result
+        (λ pairs. AreProperties tree.now bus.now id.now counts node (properties_in interfaces.Text) (all_pairs pairs)) }
 {
     let mut all = Pairs::new(alloc);
     put(
@@ -234,7 +240,9 @@ fn of_selection(
     node: u32,
 ) -> Result<Pairs, NoMemory>
     requires { has (is_shape node) tree.now.rows ≡ true }
-    ensures { IfOk result (λ pairs. AreProperties tree.now bus.now id.now counts node (properties_in interfaces.Selection) (all_pairs pairs)) }
+    ensures { IfOk result
+        (λ pairs. AreProperties tree.now bus.now id.now counts node (properties_in interfaces.Selection)
+        (all_pairs pairs)) }
 {
     let mut all = Pairs::new(alloc);
     put(
@@ -261,7 +269,9 @@ fn of_table(
     node: u32,
 ) -> Result<Pairs, NoMemory>
     requires { has (is_shape node) tree.now.rows ≡ true }
-    ensures { IfOk result (λ pairs. AreProperties tree.now bus.now id.now counts node (properties_in interfaces.Table) (all_pairs pairs)) }
+    ensures { IfOk result
+        (λ pairs. AreProperties tree.now bus.now id.now counts node (properties_in interfaces.Table)
+        (all_pairs pairs)) }
 {
     let mut all = Pairs::new(alloc);
     put(
@@ -299,7 +309,9 @@ fn of_action(
     node: u32,
 ) -> Result<Pairs, NoMemory>
     requires { has (is_shape node) tree.now.rows ≡ true }
-    ensures { IfOk result (λ pairs. AreProperties tree.now bus.now id.now counts node (properties_in interfaces.Action) (all_pairs pairs)) }
+    ensures { IfOk result
+        (λ pairs. AreProperties tree.now bus.now id.now counts node (properties_in interfaces.Action)
+        (all_pairs pairs)) }
 {
     let mut all = Pairs::new(alloc);
     put(
@@ -327,7 +339,8 @@ fn properties(
     interface: AppInterface,
 ) -> Result<Pairs, NoMemory>
     requires { has (is_shape node) tree.now.rows ≡ true }
-    ensures { IfOk result (λ pairs. AreProperties tree.now bus.now id.now counts node (properties_in interface) (all_pairs pairs)) }
+    ensures { IfOk result
+        (λ pairs. AreProperties tree.now bus.now id.now counts node (properties_in interface) (all_pairs pairs)) }
 {
     match interface {
         AppInterface::Accessible => of_accessible(alloc, tree, bus, id, counts, node),
@@ -361,7 +374,8 @@ pub(crate) fn all_properties(
     interface: AppInterface,
 ) -> Result<Value, NoMemory>
     requires { has (is_shape node) tree.now.rows ≡ true }
-    ensures { IfOk result (λ value. IsAllProperties tree.now bus.now id.now counts node (properties_in interface) (data_of value)) }
+    ensures { IfOk result
+        (λ value. IsAllProperties tree.now bus.now id.now counts node (properties_in interface) (data_of value)) }
 {
     let pairs = properties(alloc, tree, bus, id, counts, node, interface)?;
     Ok(dictionary(pairs))

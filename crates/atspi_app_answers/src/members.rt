@@ -3,17 +3,17 @@
 ghost use Rattle.std.specs.Prelude.{◌≡◌, ◌∷◌, [], true, false, codes, IfOk, MatchResult};
 ghost use Rattle.atspi_types.specs.Data.{text_data};
 ghost use Rattle.atspi_types.specs.DataView.{data_of, all_data};
-ghost use Rattle.atspi_cursor.specs.Items.{fields_data};
-ghost use Rattle.atspi_forest.specs.Forest.{has};
-ghost use Rattle.atspi_forest.specs.Tree.{is_shape};
+ghost use Rattle.atspi_marshal_in_place.specs.Items.{fields_data};
+ghost use Rattle.atspi_tree_model.specs.Forest.{has};
+ghost use Rattle.atspi_tree_model.specs.Tree.{is_shape};
 ghost use Rattle.atspi_app_answers.specs.Told as told;
 ghost use Rattle.atspi_app_answers.specs.Told.{Tells, TellsAll, Refuses};
 
 use crate::accessible::accessible;
 use crate::fault::{AnswerFault, or_fault};
+use atspi_app_values::literal;
 use atspi_base::{NoMemory, Text};
-use atspi_cursor::Fields;
-use atspi_node_values::literal;
+use atspi_marshal_in_place::Fields;
 use atspi_protocol::ends::CallError;
 use atspi_protocol::members::ObjectMember;
 use atspi_tree::Tree;
@@ -49,7 +49,8 @@ fn is_accessible(member: ObjectMember) -> bool
     )
 }
 
-/// Whether a member is one of Text, EditableText, Selection, Table or Action, which look into the contents of a node, or change them.
+/// Whether a member is one of Text, EditableText, Selection, Table or Action, which look into the contents of a node,
+/// or change them.
 pub fn is_of_contents(member: ObjectMember) -> bool
     ensures { result ≡ told.is_of_contents member }
 {
@@ -112,8 +113,8 @@ fn locale_values(alloc: Global) -> Result<Values, NoMemory>
     one(alloc, literal(alloc, "C")?)
 }
 
-/// What a member tells of a node that is there, the arguments being of the types that it takes (AT-SPI2, interfaces Accessible and
-/// Application; D-Bus Specification, "Standard Interfaces", Peer). Refused are members that no node has.
+/// What a member tells of a node that is there, the arguments being of the types that it takes (AT-SPI2, interfaces
+/// Accessible and Application; D-Bus Specification, "Standard Interfaces", Peer). Refused are members that no node has.
 pub(crate) fn member_values(
     alloc: Global,
     tree: &Tree,
@@ -124,7 +125,9 @@ pub(crate) fn member_values(
 ) -> Result<Values, AnswerFault>
     requires there { has (is_shape node) tree.now.rows ≡ true }
     requires shape { told.is_of_contents member ≡ false }
-    ensures { MatchResult result (λ values. TellsAll tree.now bus.now node member (fields_data args.entry) (all_data values)) (Refuses tree.now bus.now node member (fields_data args.entry)) }
+    ensures { MatchResult result
+        (λ values. TellsAll tree.now bus.now node member (fields_data args.entry) (all_data values))
+        (Refuses tree.now bus.now node member (fields_data args.entry)) }
 {
     if is_accessible(member) {
         return or_fault(accessible_values(alloc, tree, bus, node, member, args));

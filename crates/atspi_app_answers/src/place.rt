@@ -3,8 +3,8 @@
 ghost use Rattle.std.specs.Prelude.{◌≡◌, ◌==◌, true, bytes_eq, option_and_then, IfSome};
 ghost use Rattle.std.specs.Option.{option_map};
 ghost use Rattle.atspi_protocol.specs.ends.Places.{cache_path};
-ghost use Rattle.atspi_forest.specs.Forest.{has};
-ghost use Rattle.atspi_forest.specs.Tree.{is_shape};
+ghost use Rattle.atspi_tree_model.specs.Forest.{has};
+ghost use Rattle.atspi_tree_model.specs.Tree.{is_shape};
 ghost use Rattle.atspi_protocol.specs.objects.Places as places;
 ghost use Rattle.atspi_protocol.specs.whole.Whole.{Faces, whole};
 ghost use Rattle.atspi_app_calls.specs.Object as objects;
@@ -31,7 +31,8 @@ fn is_cache(path: &str) -> bool
 
 /// The object that has a path, if there is one. Costs a look-up, and takes no memory.
 pub fn place_at(tree: &Tree, path: &str) -> Option<AppPlace>
-    ensures place { (faces : Faces) → places.place_at (whole tree.now.rows faces) path.now ≡ option_and_then (place_of tree.now faces) result }
+    ensures place { (faces : Faces)
+        → places.place_at (whole tree.now.rows faces) path.now ≡ option_and_then (place_of tree.now faces) result }
     ensures there { IfSome result (IsThere tree.now) }
 {
     tree.is_lawful();
@@ -50,7 +51,8 @@ pub fn place_at(tree: &Tree, path: &str) -> Option<AppPlace>
 /// What a node offers.
 fn node_object(tree: &Tree, node: u32) -> AppObject
     requires { has (is_shape node) tree.now.rows ≡ true }
-    ensures { (faces : Faces) → option_map places.offered (place_of tree.now faces (AppPlace.Node node)) ≡ Some (objects.object_of result) }
+    ensures { (faces : Faces)
+        → option_map places.offered (place_of tree.now faces (AppPlace.Node node)) ≡ Some (objects.object_of result) }
 {
     AppObject::Node {
         is_root: node == 0,
@@ -61,7 +63,8 @@ fn node_object(tree: &Tree, node: u32) -> AppObject
 /// What an object that is there offers: its interfaces, with their members and properties.
 pub fn object_of(tree: &Tree, place: AppPlace) -> AppObject
     requires { IsThere tree.now place }
-    ensures { (faces : Faces) → option_map places.offered (place_of tree.now faces place) ≡ Some (objects.object_of result) }
+    ensures { (faces : Faces)
+        → option_map places.offered (place_of tree.now faces place) ≡ Some (objects.object_of result) }
 {
     match place {
         AppPlace::Tree => AppObject::Cache,

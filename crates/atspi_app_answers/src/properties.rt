@@ -3,14 +3,14 @@
 ghost use Rattle.std.specs.Prelude.{◌≡◌, ◌/◌, true, decimal, IfOk};
 ghost use Rattle.atspi_types.specs.Data.{text_data};
 ghost use Rattle.atspi_types.specs.DataView.{data_of};
-ghost use Rattle.atspi_forest.specs.Forest.{has};
-ghost use Rattle.atspi_forest.specs.Tree.{is_shape};
+ghost use Rattle.atspi_tree_model.specs.Forest.{has};
+ghost use Rattle.atspi_tree_model.specs.Tree.{is_shape};
 ghost use Rattle.atspi_app_answers.specs.Told.{IsProperty};
 
 use crate::counts::{Counts, counted};
 use crate::selected::selected_count;
+use atspi_app_values::{child_count, literal, parent, signed, text};
 use atspi_base::{NoMemory, Text};
-use atspi_node_values::{child_count, literal, parent, signed, text};
 use atspi_protocol::members::ObjectProperty;
 use atspi_tree::Tree;
 use atspi_types::Value;
@@ -41,7 +41,8 @@ fn name_of(
     node: u32,
 ) -> Result<Value, NoMemory>
     requires { has (is_shape node) tree.now.rows ≡ true }
-    ensures { IfOk result (λ value. IsProperty tree.now bus.now id.now counts node ObjectProperty.Name (data_of value)) }
+    ensures { IfOk result
+        (λ value. IsProperty tree.now bus.now id.now counts node ObjectProperty.Name (data_of value)) }
 {
     text(alloc, tree.name(node))
 }
@@ -56,7 +57,8 @@ fn description_of(
     node: u32,
 ) -> Result<Value, NoMemory>
     requires { has (is_shape node) tree.now.rows ≡ true }
-    ensures { IfOk result (λ value. IsProperty tree.now bus.now id.now counts node ObjectProperty.Description (data_of value)) }
+    ensures { IfOk result
+        (λ value. IsProperty tree.now bus.now id.now counts node ObjectProperty.Description (data_of value)) }
 {
     text(alloc, tree.description(node))
 }
@@ -71,7 +73,8 @@ fn parent_of(
     node: u32,
 ) -> Result<Value, NoMemory>
     requires { has (is_shape node) tree.now.rows ≡ true }
-    ensures { IfOk result (λ value. IsProperty tree.now bus.now id.now counts node ObjectProperty.Parent (data_of value)) }
+    ensures { IfOk result
+        (λ value. IsProperty tree.now bus.now id.now counts node ObjectProperty.Parent (data_of value)) }
 {
     parent(alloc, tree, bus, node)
 }
@@ -86,7 +89,8 @@ fn child_count_of(
     node: u32,
 ) -> Result<Value, NoMemory>
     requires { has (is_shape node) tree.now.rows ≡ true }
-    ensures { IfOk result (λ value. IsProperty tree.now bus.now id.now counts node ObjectProperty.ChildCount (data_of value)) }
+    ensures { IfOk result
+        (λ value. IsProperty tree.now bus.now id.now counts node ObjectProperty.ChildCount (data_of value)) }
 {
     Ok(counted(child_count(tree, node)))
 }
@@ -101,7 +105,8 @@ fn locale_of(
     node: u32,
 ) -> Result<Value, NoMemory>
     requires { has (is_shape node) tree.now.rows ≡ true }
-    ensures { IfOk result (λ value. IsProperty tree.now bus.now id.now counts node ObjectProperty.Locale (data_of value)) }
+    ensures { IfOk result
+        (λ value. IsProperty tree.now bus.now id.now counts node ObjectProperty.Locale (data_of value)) }
 {
     literal(alloc, "C")
 }
@@ -116,7 +121,8 @@ fn accessible_id_of(
     node: u32,
 ) -> Result<Value, NoMemory>
     requires { has (is_shape node) tree.now.rows ≡ true }
-    ensures { IfOk result (λ value. IsProperty tree.now bus.now id.now counts node ObjectProperty.AccessibleId (data_of value)) }
+    ensures { IfOk result
+        (λ value. IsProperty tree.now bus.now id.now counts node ObjectProperty.AccessibleId (data_of value)) }
 {
     decimal_text(alloc, node)
 }
@@ -131,7 +137,8 @@ fn toolkit_name_of(
     node: u32,
 ) -> Result<Value, NoMemory>
     requires { has (is_shape node) tree.now.rows ≡ true }
-    ensures { IfOk result (λ value. IsProperty tree.now bus.now id.now counts node ObjectProperty.ToolkitName (data_of value)) }
+    ensures { IfOk result
+        (λ value. IsProperty tree.now bus.now id.now counts node ObjectProperty.ToolkitName (data_of value)) }
 {
     literal(alloc, "atspi-replay")
 }
@@ -146,7 +153,8 @@ fn version_of(
     node: u32,
 ) -> Result<Value, NoMemory>
     requires { has (is_shape node) tree.now.rows ≡ true }
-    ensures { IfOk result (λ value. IsProperty tree.now bus.now id.now counts node ObjectProperty.Version (data_of value)) }
+    ensures { IfOk result
+        (λ value. IsProperty tree.now bus.now id.now counts node ObjectProperty.Version (data_of value)) }
 {
     literal(alloc, "1")
 }
@@ -161,7 +169,8 @@ fn atspi_version_of(
     node: u32,
 ) -> Result<Value, NoMemory>
     requires { has (is_shape node) tree.now.rows ≡ true }
-    ensures { IfOk result (λ value. IsProperty tree.now bus.now id.now counts node ObjectProperty.AtspiVersion (data_of value)) }
+    ensures { IfOk result
+        (λ value. IsProperty tree.now bus.now id.now counts node ObjectProperty.AtspiVersion (data_of value)) }
 {
     literal(alloc, "2.1")
 }
@@ -191,7 +200,8 @@ fn character_count_of(
     node: u32,
 ) -> Result<Value, NoMemory>
     requires { has (is_shape node) tree.now.rows ≡ true }
-    ensures { IfOk result (λ value. IsProperty tree.now bus.now id.now counts node ObjectProperty.CharacterCount (data_of value)) }
+    ensures { IfOk result
+        (λ value. IsProperty tree.now bus.now id.now counts node ObjectProperty.CharacterCount (data_of value)) }
 {
     Ok(counted(counts.characters))
 }
@@ -206,7 +216,8 @@ fn caret_offset_of(
     node: u32,
 ) -> Result<Value, NoMemory>
     requires { has (is_shape node) tree.now.rows ≡ true }
-    ensures { IfOk result (λ value. IsProperty tree.now bus.now id.now counts node ObjectProperty.CaretOffset (data_of value)) }
+    ensures { IfOk result
+        (λ value. IsProperty tree.now bus.now id.now counts node ObjectProperty.CaretOffset (data_of value)) }
 {
     Ok(counted(counts.caret))
 }
@@ -221,7 +232,8 @@ fn selected_count_of(
     node: u32,
 ) -> Result<Value, NoMemory>
     requires { has (is_shape node) tree.now.rows ≡ true }
-    ensures { IfOk result (λ value. IsProperty tree.now bus.now id.now counts node ObjectProperty.NSelectedChildren (data_of value)) }
+    ensures { IfOk result
+        (λ value. IsProperty tree.now bus.now id.now counts node ObjectProperty.NSelectedChildren (data_of value)) }
 {
     tree.is_lawful();
     Ok(counted(selected_count(tree, node)))
@@ -237,7 +249,8 @@ fn row_count_of(
     node: u32,
 ) -> Result<Value, NoMemory>
     requires { has (is_shape node) tree.now.rows ≡ true }
-    ensures { IfOk result (λ value. IsProperty tree.now bus.now id.now counts node ObjectProperty.NRows (data_of value)) }
+    ensures { IfOk result
+        (λ value. IsProperty tree.now bus.now id.now counts node ObjectProperty.NRows (data_of value)) }
 {
     Ok(counted(whole_rows(child_count(tree, node), counts.columns)))
 }
@@ -252,7 +265,8 @@ fn column_count_of(
     node: u32,
 ) -> Result<Value, NoMemory>
     requires { has (is_shape node) tree.now.rows ≡ true }
-    ensures { IfOk result (λ value. IsProperty tree.now bus.now id.now counts node ObjectProperty.NColumns (data_of value)) }
+    ensures { IfOk result
+        (λ value. IsProperty tree.now bus.now id.now counts node ObjectProperty.NColumns (data_of value)) }
 {
     Ok(counted(counts.columns))
 }
@@ -267,12 +281,14 @@ fn action_count_of(
     node: u32,
 ) -> Result<Value, NoMemory>
     requires { has (is_shape node) tree.now.rows ≡ true }
-    ensures { IfOk result (λ value. IsProperty tree.now bus.now id.now counts node ObjectProperty.NActions (data_of value)) }
+    ensures { IfOk result
+        (λ value. IsProperty tree.now bus.now id.now counts node ObjectProperty.NActions (data_of value)) }
 {
     Ok(counted(counts.actions))
 }
 
-/// A property of a node that is there (AT-SPI2's interface files), of counts that are told by its faces. The one refusal is want of memory.
+/// A property of a node that is there (AT-SPI2's interface files), of counts that are told by its faces. The one
+/// refusal is want of memory.
 pub(crate) fn property(
     alloc: Global,
     tree: &Tree,

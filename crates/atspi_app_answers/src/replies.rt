@@ -3,13 +3,13 @@
 ghost use Rattle.std.specs.Prelude.{◌≡◌, ◌++◌, true, OnOk, OnErr};
 ghost use Rattle.atspi_base.specs.valid_names.Names.{is_bus_name};
 ghost use Rattle.atspi_types.specs.DataView.{all_data};
-ghost use Rattle.atspi_header.specs.View.{envelope_at};
+ghost use Rattle.atspi_message_in_place.specs.View.{envelope_at};
 ghost use Rattle.atspi_protocol.specs.ends.Messages as messages;
 ghost use Rattle.atspi_protocol.specs.ends.Messages.{error_word, returns, fails, replies};
 ghost use Rattle.atspi_app_answers.specs.Replies.{sent_back};
 
 use atspi_base::NoMemory;
-use atspi_header::MessageRef;
+use atspi_message_in_place::MessageRef;
 use atspi_protocol::ends::{CallError, Mail, bus_name, error_to, return_to};
 use atspi_types::Values;
 use std::alloc::Global;
@@ -30,7 +30,8 @@ fn return_values(
     mail: &mut Mail,
 ) -> Result<(), NoMemory>
     requires { is_bus_name caller.now ≡ true }
-    ensures ok { OnOk result (mail.new ≡ mail.old ++ replies caller.now (envelope_at call.now) (returns (all_data values))) }
+    ensures ok { OnOk result
+        (mail.new ≡ mail.old ++ replies caller.now (envelope_at call.now) (returns (all_data values))) }
     ensures err { OnErr result (mail.new ≡ mail.old) }
 {
     if expects_reply(call) {
@@ -48,7 +49,8 @@ fn return_error(
     mail: &mut Mail,
 ) -> Result<(), NoMemory>
     requires { is_bus_name caller.now ≡ true }
-    ensures ok { OnOk result (mail.new ≡ mail.old ++ replies caller.now (envelope_at call.now) (fails (error_word error))) }
+    ensures ok { OnOk result
+        (mail.new ≡ mail.old ++ replies caller.now (envelope_at call.now) (fails (error_word error))) }
     ensures err { OnErr result (mail.new ≡ mail.old) }
 {
     if expects_reply(call) {
@@ -57,8 +59,8 @@ fn return_error(
     Ok(())
 }
 
-/// Appends the return of values to a call's sender (D-Bus Specification, "Method Calls"): nothing where the call has the flag that no
-/// reply is expected, or no sender, or is no call. After want of memory all is as before.
+/// Appends the return of values to a call's sender (D-Bus Specification, "Method Calls"): nothing where the call has
+/// the flag that no reply is expected, or no sender, or is no call. After want of memory all is as before.
 pub fn reply(
     alloc: Global,
     call: &MessageRef,

@@ -1,11 +1,11 @@
 //! How many children of a node are selected.
 
 ghost use Rattle.std.specs.Prelude.{◌≡◌, ◌≤◌, true, filter, length, All};
-ghost use Rattle.atspi_forest.specs.Forest.{has};
-ghost use Rattle.atspi_forest.specs.States.{has_state};
-ghost use Rattle.atspi_forest.specs.Tree.{is_shape};
+ghost use Rattle.atspi_tree_model.specs.Forest.{has};
+ghost use Rattle.atspi_tree_model.specs.States.{has_state};
+ghost use Rattle.atspi_tree_model.specs.Tree.{is_shape};
 ghost use Rattle.atspi_tree.specs.TreeShape.{children_of};
-ghost use Rattle.atspi_app_answers.specs.Selected.{is_selected_in};
+ghost use Rattle.atspi_app_answers.specs.inner.Selected.{is_selected_in};
 
 use atspi_tree::Tree;
 

@@ -4,9 +4,9 @@ ghost use Rattle.std.specs.Prelude.{◌≡◌, true, IfOk};
 ghost use Rattle.atspi_types.specs.Data.{variant_data, type_of};
 ghost use Rattle.atspi_types.specs.DataView.{data_of};
 ghost use Rattle.atspi_types.specs.KindView.{kind_of};
-ghost use Rattle.atspi_forest.specs.Forest.{has};
-ghost use Rattle.atspi_forest.specs.Row.{TreeRow};
-ghost use Rattle.atspi_forest.specs.Tree.{is_shape};
+ghost use Rattle.atspi_tree_model.specs.Forest.{has};
+ghost use Rattle.atspi_tree_model.specs.Row.{TreeRow};
+ghost use Rattle.atspi_tree_model.specs.Tree.{is_shape};
 ghost use Rattle.atspi_protocol.specs.objects.Application.{Application};
 ghost use Rattle.atspi_protocol.specs.objects.Properties.{property_data};
 ghost use Rattle.atspi_app_answers.specs.Told.{IsPropertyInVariant};
@@ -15,14 +15,15 @@ use crate::counts::Counts;
 use crate::properties::property;
 use atspi_base::{NoMemory, Text};
 use atspi_protocol::members::ObjectProperty;
-use atspi_telling::reference_type;
+use atspi_protocol_messages::reference_type;
 use atspi_tree::Tree;
 use atspi_types::{Ty, Value};
 use std::alloc::Global;
 
 /// The type of a property.
 fn property_type(alloc: Global, property: ObjectProperty) -> Result<Ty, NoMemory>
-    ensures { IfOk result (λ ty. (a : Application) (row : TreeRow) → type_of (property_data a row property) ≡ kind_of ty) }
+    ensures { IfOk result
+        (λ ty. (a : Application) (row : TreeRow) → type_of (property_data a row property) ≡ kind_of ty) }
 {
     match property {
         ObjectProperty::Name

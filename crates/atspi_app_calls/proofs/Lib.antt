@@ -1,3 +1,4 @@
+pub mod OfReading
 pub mod PathLemmas
 pub mod Names
 pub mod Members

@@ -9,13 +9,13 @@ use Rattle.std.proofs.lemmas.List.Elements.{filter-append}
 use Rattle.atspi_types.specs.Kinds.{Kind, kinds_of}
 use Rattle.atspi_types.specs.Signatures.{signature_bytes}
 use Rattle.atspi_types.specs.Data.{Data}
-use Rattle.atspi_cursor.specs.codes.TyRefs.{refs_kinds}
-use Rattle.atspi_cursor.specs.declared.codes.types.TysRef.{TysRef}
+use Rattle.atspi_marshal_in_place.specs.codes.TyRefs.{refs_kinds}
+use Rattle.atspi_marshal_in_place.specs.declared.codes.types.TysRef.{TysRef}
 use Rattle.atspi_marshal.specs.Reading.{input_of}
-use Rattle.atspi_cursor.specs.Items.{fields_data, fields_kinds}
-use Rattle.atspi_cursor.specs.declared.cursor.Fields.{Fields}
-use Rattle.atspi_header.proofs.ReadTypes.{fields_types}
-use Rattle.atspi_forest.specs.Forest.{first_of}
+use Rattle.atspi_marshal_in_place.specs.Items.{fields_data, fields_kinds}
+use Rattle.atspi_marshal_in_place.specs.declared.cursor.Fields.{Fields}
+use Rattle.atspi_message_in_place.proofs.ReadTypes.{fields_types}
+use Rattle.atspi_tree_model.specs.Forest.{first_of}
 use Rattle.atspi_protocol.specs.declared.members.member.ObjectMember.{ObjectMember}
 use Rattle.atspi_protocol.specs.members.Interfaces as names
 use Rattle.atspi_protocol.specs.members.Table as table
@@ -28,7 +28,7 @@ use Rattle.atspi_app_calls.specs.declared.interface.AppInterface.TheVariants as 
 use Rattle.atspi_app_calls.specs.declared.object.AppObject.{AppObject}
 use Rattle.atspi_app_calls.specs.Interface.{interface_name, of_interface, lines_in}
 use Rattle.atspi_app_calls.specs.Object.{object_of}
-use Rattle.atspi_app_calls.specs.Lines.{line_named, offered_lines, meant_line, at}
+use Rattle.atspi_app_calls.specs.inner.Lines.{line_named, offered_lines, meant_line, at}
 use Rattle.atspi_app_calls.proofs.Names.{no_registry, no_socket}
 
 -- the lines of each interface

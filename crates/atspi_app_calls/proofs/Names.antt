@@ -3,8 +3,8 @@ use Rattle.std.proofs.Common.{◌≡◌, ◌≢◌, ℕ, Bool, true, false, cond
 use Rattle.std.specs.Prelude.{bytes_eq, ◌&&◌, ◌||◌}
 use Rattle.std.specs.List.{list_any}
 use Rattle.std.proofs.lemmas.Slice.Eq.{bytes_eq-Decides}
-use Rattle.atspi_forest.specs.declared.contents.Kinds.{Kinds}
-use Rattle.atspi_forest.specs.Announce.{named, interfaces_of}
+use Rattle.atspi_tree_model.specs.declared.contents.Kinds.{Kinds}
+use Rattle.atspi_tree_model.specs.Announce.{named, interfaces_of}
 use Rattle.atspi_protocol.specs.members.Interfaces as names
 use Rattle.atspi_protocol.specs.members.Objects.{is_among}
 use Rattle.atspi_app_calls.specs.declared.interface.AppInterface.{AppInterface}

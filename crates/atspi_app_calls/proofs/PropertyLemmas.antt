@@ -16,8 +16,8 @@ use Rattle.atspi_protocol.specs.members.Table.{PropertyLine, property_lines}
 use Rattle.atspi_protocol.specs.members.Objects.{is_among}
 use Rattle.atspi_protocol.specs.members.Arguments.{int}
 use Rattle.atspi_protocol.specs.members.Asked.{Asked, gets, gets_all, sets, and_then, first_or, properties_of, property_named, property_of, set_to}
-use Rattle.atspi_calls.specs.Arguments.{IsSigned, IsNoSigned}
-use Rattle.atspi_calls.proofs.Words.{IsPlain, same_word, written_word}
+use Rattle.atspi_app_calls.specs.reading.Arguments.{IsSigned, IsNoSigned}
+use Rattle.atspi_app_calls.proofs.OfReading.Words.{IsPlain, same_word, written_word}
 use Rattle.atspi_app_calls.specs.declared.interface.AppInterface.{AppInterface}
 use Rattle.atspi_app_calls.specs.declared.interface.AppInterface.TheVariants as interfaces
 use Rattle.atspi_app_calls.specs.declared.object.AppObject.{AppObject}
@@ -25,7 +25,7 @@ use Rattle.atspi_app_calls.specs.declared.ask.Ask.{Ask}
 use Rattle.atspi_app_calls.specs.declared.ask.Ask.TheVariants.{Get, GetAll, SetId}
 use Rattle.atspi_app_calls.specs.Interface.{interface_name, NamesInterface, properties_in}
 use Rattle.atspi_app_calls.specs.Object.{object_of}
-use Rattle.atspi_app_calls.specs.Lines.{property_first}
+use Rattle.atspi_app_calls.specs.inner.Lines.{property_first}
 use Rattle.atspi_app_calls.specs.Ask.{as_asked, IsSettable, IsLine, IsFound, AreAll}
 use Rattle.atspi_app_calls.proofs.Names.{not_same, no_interface}
 

@@ -1,4 +1,5 @@
+pub mod inner
+pub mod reading
 pub mod Interface
 pub mod Object
-pub mod Lines
 pub mod Ask

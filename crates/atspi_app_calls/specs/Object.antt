@@ -1,6 +1,6 @@
 -- What an application's objects offer.
 use Rattle.std.specs.Prelude.{ℕ, List, [], ◌∷◌}
-use Rattle.atspi_forest.specs.Announce.{interfaces_of}
+use Rattle.atspi_tree_model.specs.Announce.{interfaces_of}
 use Rattle.atspi_protocol.specs.members.Interfaces.{cache}
 use Rattle.atspi_protocol.specs.members.Objects.{Object, object_with}
 use Rattle.atspi_app_calls.specs.declared.object.AppObject.{AppObject}

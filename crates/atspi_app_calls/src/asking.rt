@@ -2,8 +2,8 @@
 
 ghost use Rattle.std.specs.Prelude.{◌≡◌, ℕ, List, Option, Result, Ok, Some, IsOkAnd, chars};
 ghost use Rattle.atspi_types.specs.Data.{Data};
-ghost use Rattle.atspi_header.specs.View.{envelope_at};
-ghost use Rattle.atspi_calls.specs.Arguments.{IsSigned};
+ghost use Rattle.atspi_message_in_place.specs.View.{envelope_at};
+ghost use Rattle.atspi_app_calls.specs.reading.Arguments.{IsSigned};
 ghost use Rattle.atspi_protocol.specs.members.Asked as asked;
 ghost use Rattle.atspi_protocol.specs.members.Table.{PropertyLine};
 ghost use Rattle.atspi_app_calls.specs.Object.{object_of};
@@ -14,8 +14,8 @@ use crate::interface::{AppInterface, interface_named};
 use crate::member::member_of;
 use crate::object::AppObject;
 use crate::properties::property_in;
-use atspi_calls::{first_text, second_text, third_set_signed};
-use atspi_header::MessageRef;
+use crate::reading::{first_text, second_text, third_set_signed};
+use atspi_message_in_place::MessageRef;
 use atspi_protocol::ends::CallError;
 use atspi_protocol::members::{ObjectMember, ObjectProperty};
 
@@ -47,7 +47,9 @@ fn property(object: AppObject, interface: &str, name: &str) -> Result<ObjectProp
 
 /// Another value for a property: a number for that of the application alone.
 fn set_one(property: ObjectProperty, value: Option<i32>) -> Result<Ask, CallError>
-    ensures { (found : Result PropertyLine (List ℕ)) (v : Option Data) (body : List Data) → IsOkAnd found (IsLine property) → IsSigned value v → asked.and_then (asked.set_to v) found ≡ as_asked body result }
+    ensures { (found : Result PropertyLine (List ℕ)) (v : Option Data) (body : List Data)
+        → IsOkAnd found (IsLine property) → IsSigned value v
+        → asked.and_then (asked.set_to v) found ≡ as_asked body result }
 {
     match property {
         ObjectProperty::Id => match value {
@@ -63,7 +65,8 @@ fn setting(
     property: Result<ObjectProperty, CallError>,
     value: Option<i32>,
 ) -> Result<Ask, CallError>
-    ensures { (found : Result PropertyLine (List ℕ)) (v : Option Data) (body : List Data) → IsFound property found → IsSigned value v → asked.and_then (asked.set_to v) found ≡ as_asked body result }
+    ensures { (found : Result PropertyLine (List ℕ)) (v : Option Data) (body : List Data) → IsFound property found
+        → IsSigned value v → asked.and_then (asked.set_to v) found ≡ as_asked body result }
 {
     match property {
         Ok(property) => set_one(property, value),
@@ -73,7 +76,8 @@ fn setting(
 
 /// What is asked by Get.
 fn getting(property: Result<ObjectProperty, CallError>) -> Result<Ask, CallError>
-    ensures { (found : Result PropertyLine (List ℕ)) (body : List Data) → IsFound property found → asked.and_then (λ (l : PropertyLine). Ok (asked.gets l.property)) found ≡ as_asked body result }
+    ensures { (found : Result PropertyLine (List ℕ)) (body : List Data) → IsFound property found
+        → asked.and_then (λ (l : PropertyLine). Ok (asked.gets l.property)) found ≡ as_asked body result }
 {
     match property {
         Ok(property) => Ok(Ask::Get(property)),
@@ -83,7 +87,8 @@ fn getting(property: Result<ObjectProperty, CallError>) -> Result<Ask, CallError
 
 /// What is asked by GetAll.
 fn getting_all(interface: Result<AppInterface, CallError>) -> Result<Ask, CallError>
-    ensures { (found : Result (List PropertyLine) (List ℕ)) (body : List Data) → AreAll interface found → asked.and_then (λ ls. Ok (asked.gets_all ls)) found ≡ as_asked body result }
+    ensures { (found : Result (List PropertyLine) (List ℕ)) (body : List Data) → AreAll interface found
+        → asked.and_then (λ ls. Ok (asked.gets_all ls)) found ≡ as_asked body result }
 {
     match interface {
         Ok(interface) => Ok(Ask::GetAll(interface)),
@@ -93,7 +98,8 @@ fn getting_all(interface: Result<AppInterface, CallError>) -> Result<Ask, CallEr
 
 /// What a call of a member asks.
 fn of_member(object: AppObject, member: ObjectMember, m: &MessageRef) -> Result<Ask, CallError>
-    ensures { asked.asked_by (object_of object) (envelope_at m.now).body member ≡ as_asked (envelope_at m.now).body result }
+    ensures { asked.asked_by (object_of object) (envelope_at m.now).body member
+        ≡ as_asked (envelope_at m.now).body result }
 {
     match member {
         ObjectMember::Get => getting(property(object, first_text(m.body), second_text(m.body))),
@@ -106,10 +112,11 @@ fn of_member(object: AppObject, member: ObjectMember, m: &MessageRef) -> Result<
     }
 }
 
-/// What a call asks of an object of an application, or the error that it gets (AT-SPI2's interface files; D-Bus Specification, "Standard
-/// Interfaces").
+/// What a call asks of an object of an application, or the error that it gets (AT-SPI2's interface files; D-Bus
+/// Specification, "Standard Interfaces").
 pub fn asked(object: AppObject, m: &MessageRef) -> Result<Ask, CallError>
-    ensures { asked.asked (Some (object_of object)) (envelope_at m.now).interface (envelope_at m.now).member (envelope_at m.now).body ≡ as_asked (envelope_at m.now).body result }
+    ensures { asked.asked (Some (object_of object)) (envelope_at m.now).interface (envelope_at m.now).member
+        (envelope_at m.now).body ≡ as_asked (envelope_at m.now).body result }
 {
     let member = member_of(object, m)?;
     of_member(object, member, m)

@@ -1,5 +1,5 @@
-//! What a call asks of an application's objects, read where the message lies: a member with its arguments, properties, or the first
-//! error.
+//! What a call asks of an application's objects, read where the message lies: a member with its arguments, properties,
+//! or the first error.
 #![tactic(auto)]
 
 mod ask;
@@ -10,6 +10,7 @@ mod member;
 mod object;
 mod paths;
 mod properties;
+pub mod reading;
 
 pub use ask::Ask;
 pub use asking::asked;

@@ -1,18 +1,18 @@
 //! Which member of an object a call asks for.
 
 ghost use Rattle.std.specs.Prelude.{◌≡◌, None, Some, true, bytes_eq};
-ghost use Rattle.atspi_header.specs.View.{bytes_of, envelope_at};
-ghost use Rattle.atspi_calls.specs.Errors.{as_word};
-ghost use Rattle.atspi_forest.specs.Forest as forest;
+ghost use Rattle.atspi_message_in_place.specs.View.{bytes_of, envelope_at};
+ghost use Rattle.atspi_app_calls.specs.reading.inner.Errors.{as_word};
+ghost use Rattle.atspi_tree_model.specs.Forest as forest;
 ghost use Rattle.atspi_protocol.specs.members.Asked as asked;
 ghost use Rattle.atspi_app_calls.specs.declared.interface.AppInterface.TheVariants as interfaces;
 ghost use Rattle.atspi_app_calls.specs.Object.{object_of};
-ghost use Rattle.atspi_app_calls.specs.Lines.{line_named, lent_line, offered_lines, meant_line, at};
+ghost use Rattle.atspi_app_calls.specs.inner.Lines.{line_named, lent_line, offered_lines, meant_line, at};
 
 use crate::interface::{AppInterface, interface_named};
 use crate::lines::{Line, line_in};
 use crate::object::AppObject;
-use atspi_header::MessageRef;
+use atspi_message_in_place::MessageRef;
 use atspi_protocol::ends::CallError;
 use atspi_protocol::members::ObjectMember;
 
@@ -39,7 +39,12 @@ fn first_of(first: Option<Line>, second: Option<Line>) -> Option<Line>
 
 /// The member of this name of one of the interfaces behind Text.
 fn in_later(object: AppObject, name: &str) -> Option<Line>
-    ensures { lent_line result ≡ forest.first_of (at object name.now interfaces.Selection) (forest.first_of (at object name.now interfaces.Table) (forest.first_of (at object name.now interfaces.Action) (forest.first_of (at object name.now interfaces.Properties) (at object name.now interfaces.Peer)))) }
+    ensures { lent_line result
+        ≡ forest.first_of (at object name.now interfaces.Selection)
+        (forest.first_of (at object name.now interfaces.Table)
+        (forest.first_of (at object name.now interfaces.Action)
+        (forest.first_of (at object name.now interfaces.Properties)
+        (at object name.now interfaces.Peer)))) }
 {
     let selection = offered(object, AppInterface::Selection, name);
     let table = offered(object, AppInterface::Table, name);
@@ -100,10 +105,11 @@ fn are_taken(codes: &[u8], takes: &[u8]) -> bool
     codes == takes
 }
 
-/// The member of the object that a call asks for, or the error that it gets: looked for first by interface, then by member, then by
-/// arguments.
+/// The member of the object that a call asks for, or the error that it gets: looked for first by interface, then by
+/// member, then by arguments.
 pub(crate) fn member_of(object: AppObject, m: &MessageRef) -> Result<ObjectMember, CallError>
-    ensures { asked.member_of (object_of object) (envelope_at m.now).interface (envelope_at m.now).member (envelope_at m.now).body ≡ as_word result }
+    ensures { asked.member_of (object_of object) (envelope_at m.now).interface (envelope_at m.now).member
+        (envelope_at m.now).body ≡ as_word result }
 {
     if !object.has_named(m.interface) {
         return Err(CallError::UnknownInterface);

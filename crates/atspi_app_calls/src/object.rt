@@ -1,14 +1,14 @@
 //! The objects of an application.
 
 ghost use Rattle.std.specs.Prelude.{◌≡◌};
-ghost use Rattle.atspi_header.specs.View.{bytes_of};
+ghost use Rattle.atspi_message_in_place.specs.View.{bytes_of};
 ghost use Rattle.atspi_protocol.specs.members.Asked as asked;
 ghost use Rattle.atspi_protocol.specs.members.Objects.{is_among};
 ghost use Rattle.atspi_app_calls.specs.Interface.{interface_name};
 ghost use Rattle.atspi_app_calls.specs.Object.{object_of};
 
 use crate::interface::{AppInterface, interface_named};
-use atspi_forest::Kinds;
+use atspi_tree_model::Kinds;
 
 /// An object of an application, as far as its interfaces go.
 #[derive(Clone, Copy, Debug, PartialEq, Eq)]

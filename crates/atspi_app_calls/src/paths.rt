@@ -1,9 +1,9 @@
 //! Which node a path is of.
 
 ghost use Rattle.std.specs.Prelude.{◌≡◌, ◌≢◌, ◌<◌, ◌^◌, ◌++◌, ℕ, List, MatchOption, bytes_eq, codes};
-ghost use Rattle.atspi_forest.specs.Path.{base_path, path_of};
+ghost use Rattle.atspi_tree_model.specs.Path.{base_path, path_of};
 
-use atspi_lines::read_number;
+use atspi_script_lines::read_number;
 
 /// How many bytes the path of each node begins with.
 const BASE_LENGTH: usize = 27;
@@ -11,7 +11,8 @@ const BASE_LENGTH: usize = 27;
 /// What a path has behind what the paths of all nodes begin with.
 #[tactic(auto, using(crate::proofs::PathLemmas::short_path, crate::proofs::PathLemmas::base_found, crate::proofs::PathLemmas::other_base))]
 fn behind_base(path: &[u8]) -> Option<&[u8]>
-    ensures { MatchOption result ((word : List ℕ) → path.now ≡ base_path ++ word → ⊥) (λ word. path.now ≡ base_path ++ word.now) }
+    ensures { MatchOption result ((word : List ℕ) → path.now ≡ base_path ++ word → ⊥)
+        (λ word. path.now ≡ base_path ++ word.now) }
 {
     if path.len() < BASE_LENGTH {
         return None;

@@ -3,7 +3,7 @@
 ghost use Rattle.std.specs.Prelude.{◌≡◌};
 ghost use Rattle.atspi_app_calls.specs.declared.interface.AppInterface.TheVariants as interfaces;
 ghost use Rattle.atspi_app_calls.specs.Interface.{properties_in};
-ghost use Rattle.atspi_app_calls.specs.Lines.{property_first};
+ghost use Rattle.atspi_app_calls.specs.inner.Lines.{property_first};
 
 use crate::interface::AppInterface;
 use atspi_protocol::members::ObjectProperty;

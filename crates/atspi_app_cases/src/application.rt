@@ -1,7 +1,7 @@
 //! A new application.
 
 ghost use Rattle.std.specs.Prelude.{IfSome};
-ghost use Rattle.atspi_exported.specs.Parts.{AreEmpty, AreKinds, IsExported};
+ghost use Rattle.atspi_app_exported.specs.Parts.{AreEmpty, AreKinds, IsExported};
 
 use atspi_app::{App, Boxes, Exported, Exports, Kit};
 use atspi_base::Text;
@@ -11,7 +11,8 @@ use std::alloc::Global;
 pub fn made(alloc: Global, name: &str, kit: Kit) -> Option<App>
     requires kinds { AreKinds (⟦<Kit as Boxes>⟧.kinds kit) }
     requires empty { AreEmpty (⟦<Kit as Boxes>⟧.faces kit) }
-    ensures { IfSome result (λ app. IsExported (⟦<Exported as Exports>⟧.kinds app.exported) (⟦<Exported as Exports>⟧.parts app.exported)) }
+    ensures { IfSome result
+        (λ app. IsExported (⟦<Exported as Exports>⟧.kinds app.exported) (⟦<Exported as Exports>⟧.parts app.exported)) }
 {
     if name.len() > 511 {
         return None;

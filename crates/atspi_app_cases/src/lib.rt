@@ -1,5 +1,5 @@
-//! Conversations with an application in words, for tests alone: a line for each thing that is done to it, and behind it the texts of what happens then. A function
-//! answers none where words are out of their form, and for want of memory.
+//! Conversations with an application in words, for tests alone: a line for each thing that is done to it, and behind it
+//! the texts of what happens then. A function answers none where words are out of their form, and for want of memory.
 #![tactic(auto)]
 
 mod application;

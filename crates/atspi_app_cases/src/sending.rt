@@ -1,10 +1,10 @@
 //! What an application sends, as bytes.
 
-ghost use Rattle.atspi_exported.specs.Parts.{IsExported};
+ghost use Rattle.atspi_app_exported.specs.Parts.{IsExported};
 
 use crate::conversation::done;
 use atspi_app::{App, AppEvent, Exported, Exports};
-use atspi_posts::Link;
+use atspi_world_links::Link;
 use std::alloc::Global;
 
 /// Sends what happened, where that is a message, down a link. It is let go.
@@ -17,8 +17,10 @@ fn send_event(event: AppEvent, link: &mut Link) -> bool {
 
 /// Sends the messages that are queued down a link. Nothing is queued then.
 fn send_queued(app: &mut App, link: &mut Link) -> Option<()>
-    requires exported { IsExported (⟦<Exported as Exports>⟧.kinds app.old.exported) (⟦<Exported as Exports>⟧.parts app.old.exported) }
-    ensures exported { IsExported (⟦<Exported as Exports>⟧.kinds app.new.exported) (⟦<Exported as Exports>⟧.parts app.new.exported) }
+    requires exported { IsExported (⟦<Exported as Exports>⟧.kinds app.old.exported)
+        (⟦<Exported as Exports>⟧.parts app.old.exported) }
+    ensures exported { IsExported (⟦<Exported as Exports>⟧.kinds app.new.exported)
+        (⟦<Exported as Exports>⟧.parts app.new.exported) }
 {
     for _event in 0..1_000_000 {
         let Some(event) = app.next() else {
@@ -33,8 +35,10 @@ fn send_queued(app: &mut App, link: &mut Link) -> Option<()>
 
 /// Does what each line of a script says, as `play` does behind its `> `, and sends what is queued then down a link.
 pub fn send(alloc: Global, app: &mut App, script: &str, link: &mut Link) -> Option<()>
-    requires exported { IsExported (⟦<Exported as Exports>⟧.kinds app.old.exported) (⟦<Exported as Exports>⟧.parts app.old.exported) }
-    ensures exported { IsExported (⟦<Exported as Exports>⟧.kinds app.new.exported) (⟦<Exported as Exports>⟧.parts app.new.exported) }
+    requires exported { IsExported (⟦<Exported as Exports>⟧.kinds app.old.exported)
+        (⟦<Exported as Exports>⟧.parts app.old.exported) }
+    ensures exported { IsExported (⟦<Exported as Exports>⟧.kinds app.new.exported)
+        (⟦<Exported as Exports>⟧.parts app.new.exported) }
 {
     for line in script.lines() {
         done(alloc, app, line)?.ok()?;

@@ -1,2 +1,2 @@
+pub mod inner
 pub mod KnownView
-pub mod Lent

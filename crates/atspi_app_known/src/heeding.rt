@@ -1,4 +1,5 @@
-//! Messages that an application does not answer: what comes back to the calls of its start, the news of listeners, and what it ignores.
+//! Messages that an application does not answer: what comes back to the calls of its start, the news of listeners, and
+//! what it ignores.
 
 mod heeding;
 

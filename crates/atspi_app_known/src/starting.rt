@@ -1,4 +1,5 @@
-//! How an application starts, and what it knows beside its tree: its name, the patterns of listeners, and what it has queued.
+//! How an application starts, and what it knows beside its tree: its name, the patterns of listeners, and what it has
+//! queued.
 
 mod calls;
 mod known;

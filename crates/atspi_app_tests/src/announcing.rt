@@ -3,7 +3,8 @@
 use crate::plays::goes_on;
 use crate::tables::announces;
 
-/// Each kind of step, of an edit or of a call, told to a listener that asks for all of it. A step that nobody can ask for is told nobody.
+/// Each kind of step, of an edit or of a call, told to a listener that asks for all of it. A step that nobody can ask
+/// for is told nobody.
 const ANNOUNCED: &str = "\
 > signal 9 :1.0 registry Registry EventListenerRegistered s=:1.2 s=object
 hears a0 :1.2 \"object\"

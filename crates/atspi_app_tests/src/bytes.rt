@@ -1,13 +1,13 @@
 //! The bytes of what an application announces, against messages that are put together value by value, or by hand.
 
-ghost use Rattle.atspi_exported.specs.Parts.{IsExported};
+ghost use Rattle.atspi_app_exported.specs.Parts.{IsExported};
 
 use crate::plays::{NAMED, begun};
 use atspi_app::{App, Exported, Exports};
 use atspi_app_cases::{play, send};
 use atspi_base::Bytes;
-use atspi_message_words::bytes_of;
-use atspi_posts::Link;
+use atspi_message_cases::bytes_of;
+use atspi_world_links::Link;
 use std::alloc::Global;
 
 /// A node that nobody hears of, and then a listener that asks for everything.
@@ -71,8 +71,10 @@ fn put_steps(alloc: Global, script: &mut String, due: &mut Bytes, steps: &str) -
 
 /// An application plays its start and what stands before a table.
 fn plays(alloc: Global, app: &mut App) -> Option<()>
-    requires exported { IsExported (⟦<Exported as Exports>⟧.kinds app.old.exported) (⟦<Exported as Exports>⟧.parts app.old.exported) }
-    ensures exported { IsExported (⟦<Exported as Exports>⟧.kinds app.new.exported) (⟦<Exported as Exports>⟧.parts app.new.exported) }
+    requires exported { IsExported (⟦<Exported as Exports>⟧.kinds app.old.exported)
+        (⟦<Exported as Exports>⟧.parts app.old.exported) }
+    ensures exported { IsExported (⟦<Exported as Exports>⟧.kinds app.new.exported)
+        (⟦<Exported as Exports>⟧.parts app.new.exported) }
 {
     let mut said = Bytes::new(alloc);
     play(alloc, app, NAMED, &mut said)?;
@@ -81,7 +83,8 @@ fn plays(alloc: Global, app: &mut App) -> Option<()>
 
 /// Whether an application that has started sends just the bytes that are due.
 fn writes(alloc: Global, app: &mut App, script: &str, due: &[u8]) -> bool
-    requires exported { IsExported (⟦<Exported as Exports>⟧.kinds app.old.exported) (⟦<Exported as Exports>⟧.parts app.old.exported) }
+    requires exported { IsExported (⟦<Exported as Exports>⟧.kinds app.old.exported)
+        (⟦<Exported as Exports>⟧.parts app.old.exported) }
 {
     let mut link = Link::new(alloc);
     let sent = send(alloc, app, script, &mut link);

@@ -1,4 +1,5 @@
-//! Calls of the interface Table, of a table of 2 columns with 5 cells, of which the last three are selected: two rows, and a cell that is in none.
+//! Calls of the interface Table, of a table of 2 columns with 5 cells, of which the last three are selected: two rows,
+//! and a cell that is in none.
 
 use crate::tables::answers;
 

@@ -2,7 +2,8 @@
 
 use crate::tables::answers;
 
-/// What is told of selected children and of actions, and what calls do to them; each call meets what those before it left.
+/// What is told of selected children and of actions, and what calls do to them; each call meets what those before it
+/// left.
 const CHOICES: &str = "\
 2 Selection GetSelectedChild i=0 -> (so) [(\":1.5\" \"/org/a11y/atspi/accessible/6\")]
 2 Selection GetSelectedChild i=2 -> (so) [(\":1.5\" \"/org/a11y/atspi/accessible/8\")]

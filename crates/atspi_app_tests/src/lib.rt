@@ -1,4 +1,5 @@
-//! Tests of an application through its public calls, by conversations: what is done to it, and what happens then. What is due was worked out by hand.
+//! Tests of an application through its public calls, by conversations: what is done to it, and what happens then. What
+//! is due was worked out by hand.
 #![tactic(auto)]
 
 #[cfg(test)]

@@ -1,5 +1,5 @@
-//! Each member called with values of every other type than it takes, with fewer and with more; of an object that lacks its interface; of a node that was removed; and by
-//! paths that nearly name a node.
+//! Each member called with values of every other type than it takes, with fewer and with more; of an object that lacks
+//! its interface; of a node that was removed; and by paths that nearly name a node.
 
 use crate::tables::answers;
 

@@ -1,7 +1,7 @@
 //! Paths, interfaces and members that are not there.
 
 use crate::tables::answers;
-use atspi_message_words::{bytes_of, lent};
+use atspi_message_cases::{bytes_of, lent};
 use std::alloc::Global;
 
 /// Paths that nearly name a node; nodes that were removed; interfaces that a node lacks; members of another interface.

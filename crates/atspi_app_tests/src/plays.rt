@@ -1,16 +1,17 @@
 //! Whether a conversation goes as it is written.
 
 ghost use Rattle.std.specs.Prelude.{IfSome};
-ghost use Rattle.atspi_exported.specs.Parts.{IsExported};
+ghost use Rattle.atspi_app_exported.specs.Parts.{IsExported};
 
 use atspi_app::{App, Exported, Exports, Kit};
 use atspi_app_cases::{made, play};
 use atspi_base::Bytes;
-use atspi_face::Face;
+use atspi_faces::face::Face;
 use atspi_faces::{Deeds, GapText, Grid, PlainText};
 use std::alloc::Global;
 
-/// The start of an application, which has the name `:1.5` then, whose next message has number 5, and which nobody listens to.
+/// The start of an application, which has the name `:1.5` then, whose next message has number 5, and which nobody
+/// listens to.
 pub(crate) const NAMED: &str = "\
 > start
 sent a0 call l 0 1 path=/org/freedesktop/DBus interface=org.freedesktop.DBus member=Hello destination=org.freedesktop.DBus
@@ -35,7 +36,8 @@ fn is_script(rt: &HostRuntime, said: &Bytes, script: &str) -> bool {
 
 /// A new application, whose root has the name `Demo`, over three empty faces.
 pub(crate) fn begun(alloc: Global) -> Option<App>
-    ensures { IfSome result (λ app. IsExported (⟦<Exported as Exports>⟧.kinds app.exported) (⟦<Exported as Exports>⟧.parts app.exported)) }
+    ensures { IfSome result
+        (λ app. IsExported (⟦<Exported as Exports>⟧.kinds app.exported) (⟦<Exported as Exports>⟧.parts app.exported)) }
 {
     let chars: Box<dyn Face> = Box::new(alloc, PlainText::new(alloc)).ok()?;
     let grid: Box<dyn Face> = Box::new(alloc, Grid::new(alloc)).ok()?;
@@ -45,8 +47,10 @@ pub(crate) fn begun(alloc: Global) -> Option<App>
 
 /// Whether an application says what stands in a script.
 fn says(rt: &HostRuntime, app: &mut App, script: &str) -> bool
-    requires exported { IsExported (⟦<Exported as Exports>⟧.kinds app.old.exported) (⟦<Exported as Exports>⟧.parts app.old.exported) }
-    ensures exported { IsExported (⟦<Exported as Exports>⟧.kinds app.new.exported) (⟦<Exported as Exports>⟧.parts app.new.exported) }
+    requires exported { IsExported (⟦<Exported as Exports>⟧.kinds app.old.exported)
+        (⟦<Exported as Exports>⟧.parts app.old.exported) }
+    ensures exported { IsExported (⟦<Exported as Exports>⟧.kinds app.new.exported)
+        (⟦<Exported as Exports>⟧.parts app.new.exported) }
 {
     let mut said = Bytes::new(rt.alloc());
     let played = play(rt.alloc(), app, script, &mut said);

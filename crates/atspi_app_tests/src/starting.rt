@@ -15,7 +15,8 @@ step a0 state 1 focused on
 2 nodes
 ";
 
-/// The four calls of a start, one behind the return to the one before; returns that come twice, to other numbers or from strangers; listeners that come and go.
+/// The four calls of a start, one behind the return to the one before; returns that come twice, to other numbers or
+/// from strangers; listeners that come and go.
 const HEARD: &str = "\
 > start
 sent a0 call l 0 1 path=/org/freedesktop/DBus interface=org.freedesktop.DBus member=Hello destination=org.freedesktop.DBus
@@ -116,7 +117,8 @@ const STOPPED: &str = "\
 1 error 1 :1.9 1 a.b
 ";
 
-/// Replies to a later call that end the start: the application has its name and answers; behind each the number of the next message.
+/// Replies to a later call that end the start: the application has its name and answers; behind each the number of the
+/// next message.
 const LATER: &str = "\
 2 error 2 bus 2 a.b
 2 error 2 :1.9 2 a.b s=no
@@ -138,7 +140,8 @@ const LATER: &str = "\
 4 return 4 :1.0 4 u=3
 ";
 
-/// A start that ended at its second call: later returns are none, but its name stays, listeners are heard, and it tells them what it does.
+/// A start that ended at its second call: later returns are none, but its name stays, listeners are heard, and it tells
+/// them what it does.
 const GOES_ON: &str = "\
 > start
 sent a0 call l 0 1 path=/org/freedesktop/DBus interface=org.freedesktop.DBus member=Hello destination=org.freedesktop.DBus

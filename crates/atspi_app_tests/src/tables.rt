@@ -3,7 +3,8 @@
 use crate::plays::{NAMED, goes, goes_on};
 use std::alloc::Global;
 
-/// A text `héllo` with its caret at 2, where `él` and `o` are selected; a table of 2 columns with 5 cells, of which the last three are selected; a button with three actions.
+/// A text `héllo` with its caret at 2, where `él` and `o` are selected; a table of 2 columns with 5 cells, of which the
+/// last three are selected; a button with three actions.
 const EXAMPLE: &str = "\
 edit a0 insert 0 0 text \"E\" text \"héllo\" -> add 1 0 0 text \"E\" text \"héllo\"
 edit a0 insert 0 1 table \"T\" columns 2 select -> add 2 0 1 table \"T\" columns 2 select
@@ -37,7 +38,8 @@ fn put_number(alloc: Global, script: &mut String, number: usize) -> Option<()> {
     script.push_str(&digits).ok()
 }
 
-/// Appends the reply to a call, by the message of a number: a return's types and values, `-` for one without, or `!` and the last word of an error's name.
+/// Appends the reply to a call, by the message of a number: a return's types and values, `-` for one without, or `!`
+/// and the last word of an error's name.
 fn put_reply(alloc: Global, script: &mut String, number: usize, reply: &str) -> Option<()> {
     let (kind, error) = match reply.strip_prefix("!") {
         Some(word) => ("error", word),
@@ -104,7 +106,8 @@ fn put_call(
     }
 }
 
-/// Appends the lines of a table, each an edit or a call with what is due behind ` -> `, InvalidArgs where that is not there. The first message has the number 5.
+/// Appends the lines of a table, each an edit or a call with what is due behind ` -> `, InvalidArgs where that is not
+/// there. The first message has the number 5.
 fn put_table(alloc: Global, script: &mut String, table: &str) -> Option<()> {
     let mut number = 5usize;
     for line in table.lines() {
@@ -185,7 +188,8 @@ fn put_start(script: &mut String, call: usize) -> Option<()> {
     Some(())
 }
 
-/// Appends the start up to the call of a number, a reply to it that ends it, a return that comes too late, and a call, which an application answers that has its name.
+/// Appends the start up to the call of a number, a reply to it that ends it, a return that comes too late, and a call,
+/// which an application answers that has its name.
 fn put_stop(alloc: Global, script: &mut String, call: usize, reply: &str) -> Option<()> {
     put_start(script, call)?;
     put(script, "> ", reply)?;

@@ -2,7 +2,8 @@
 
 use crate::tables::{answers, makes};
 
-/// What is told of a text, with its caret at 2 and `él` and `o` selected, and what calls do to it; each call meets what those before it left.
+/// What is told of a text, with its caret at 2 and `él` and `o` selected, and what calls do to it; each call meets what
+/// those before it left.
 const TEXTS: &str = "\
 1 Text GetText i=0 i=-1 -> s [\"héllo\"]
 1 Text GetText i=0 i=5 -> s [\"héllo\"]

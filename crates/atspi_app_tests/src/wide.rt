@@ -1,7 +1,7 @@
-//! Each member called with one value, of each type that words cannot say: numbers of other widths, and a double. Each call is refused. (A value of the type of
-//! descriptors makes bytes no message.)
+//! Each member called with one value, of each type that words cannot say: numbers of other widths, and a double. Each
+//! call is refused. (A value of the type of descriptors makes bytes no message.)
 
-ghost use Rattle.atspi_exported.specs.Parts.{IsExported};
+ghost use Rattle.atspi_app_exported.specs.Parts.{IsExported};
 
 use crate::others::{MEMBERS, put_front};
 use crate::plays::begun;
@@ -10,7 +10,7 @@ use atspi_app::{App, AppEvent, Exported, Exports};
 use atspi_app_cases::play;
 use atspi_base::Bytes;
 use atspi_message::Message;
-use atspi_message_words::{bytes_of, lent};
+use atspi_message_cases::{bytes_of, lent};
 use std::alloc::Global;
 
 /// The codes of the types, and how many bytes a value has.
@@ -32,7 +32,8 @@ fn set(out: &mut Bytes, at: usize, bytes: &[u8]) -> Option<()> {
     Some(())
 }
 
-/// Appends to a message without values, whose fields end at a multiple of eight, the field of a value's type, and the value, so many zeros.
+/// Appends to a message without values, whose fields end at a multiple of eight, the field of a value's type, and the
+/// value, so many zeros.
 fn put_value(out: &mut Bytes, code: u8, size: usize) -> Option<()> {
     out.extend(&[8, 1, b'g', 0, 1, code, 0]).ok()?;
     let fields = u32::try_from(out.len().checked_sub(16)?).ok()?;
@@ -73,8 +74,10 @@ fn is_refused(event: Option<AppEvent>) -> bool {
 
 /// Whether an application answers a message by such an error alone.
 fn refuses(alloc: Global, app: &mut App, bytes: &[u8]) -> Option<bool>
-    requires exported { IsExported (⟦<Exported as Exports>⟧.kinds app.old.exported) (⟦<Exported as Exports>⟧.parts app.old.exported) }
-    ensures exported { IsExported (⟦<Exported as Exports>⟧.kinds app.new.exported) (⟦<Exported as Exports>⟧.parts app.new.exported) }
+    requires exported { IsExported (⟦<Exported as Exports>⟧.kinds app.old.exported)
+        (⟦<Exported as Exports>⟧.parts app.old.exported) }
+    ensures exported { IsExported (⟦<Exported as Exports>⟧.kinds app.new.exported)
+        (⟦<Exported as Exports>⟧.parts app.new.exported) }
 {
     let message = lent(bytes)?;
     app.take(alloc, &message).ok()?;
@@ -84,8 +87,10 @@ fn refuses(alloc: Global, app: &mut App, bytes: &[u8]) -> Option<bool>
 
 /// Whether an application refuses a call of a member with a value of each type.
 fn refuses_all(alloc: Global, app: &mut App, line: &str) -> Option<bool>
-    requires exported { IsExported (⟦<Exported as Exports>⟧.kinds app.old.exported) (⟦<Exported as Exports>⟧.parts app.old.exported) }
-    ensures exported { IsExported (⟦<Exported as Exports>⟧.kinds app.new.exported) (⟦<Exported as Exports>⟧.parts app.new.exported) }
+    requires exported { IsExported (⟦<Exported as Exports>⟧.kinds app.old.exported)
+        (⟦<Exported as Exports>⟧.parts app.old.exported) }
+    ensures exported { IsExported (⟦<Exported as Exports>⟧.kinds app.new.exported)
+        (⟦<Exported as Exports>⟧.parts app.new.exported) }
 {
     for (code, size) in TYPES {
         let bytes = call_with(alloc, line, code, size)?;
@@ -98,8 +103,10 @@ fn refuses_all(alloc: Global, app: &mut App, line: &str) -> Option<bool>
 
 /// Whether an application gets the example, and refuses such calls of each member.
 fn refuses_each(alloc: Global, app: &mut App) -> Option<bool>
-    requires exported { IsExported (⟦<Exported as Exports>⟧.kinds app.old.exported) (⟦<Exported as Exports>⟧.parts app.old.exported) }
-    ensures exported { IsExported (⟦<Exported as Exports>⟧.kinds app.new.exported) (⟦<Exported as Exports>⟧.parts app.new.exported) }
+    requires exported { IsExported (⟦<Exported as Exports>⟧.kinds app.old.exported)
+        (⟦<Exported as Exports>⟧.parts app.old.exported) }
+    ensures exported { IsExported (⟦<Exported as Exports>⟧.kinds app.new.exported)
+        (⟦<Exported as Exports>⟧.parts app.new.exported) }
 {
     let script = example(alloc)?;
     let mut told = Bytes::new(alloc);

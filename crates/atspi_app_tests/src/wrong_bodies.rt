@@ -1,4 +1,5 @@
-//! Each member called with values of other types than it takes, with fewer and with more: each call is refused, and changes nothing.
+//! Each member called with values of other types than it takes, with fewer and with more: each call is refused, and
+//! changes nothing.
 
 use crate::tables::answers;
 

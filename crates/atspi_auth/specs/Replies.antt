@@ -4,7 +4,8 @@ use Rattle.atspi_auth.specs.Requests.{request_of, is_grant}
 use Rattle.atspi_auth.specs.declared.fault.AuthFault.TheVariants.{TooLong, Early, Rejected as NotAwaited}
 use Rattle.atspi_auth.specs.declared.said.AuthLine.TheVariants.{Granted, Data, Rejected, Error, Begin}
 use Rattle.atspi_auth.specs.declared.request.Request.{Request}
-use Rattle.atspi_auth.specs.declared.request.Request.TheVariants.{Login, Ask, OtherAuth, Uid, OtherData, Cancel, Begin as AsksBegin, Error as SaysError}
+use Rattle.atspi_auth.specs.declared.request.Request.TheVariants.{Login, Ask, OtherAuth, Uid, OtherData, Cancel}
+use Rattle.atspi_auth.specs.declared.request.Request.TheVariants.{Begin as AsksBegin, Error as SaysError}
 use Rattle.atspi_auth.specs.declared.reply.Waiting.{Waiting}
 use Rattle.atspi_auth.specs.declared.reply.Waiting.TheVariants.{ForAuth, ForData, ForBegin, ForChallenge, ForOk}
 use Rattle.atspi_auth.specs.declared.reply.Reply.{Reply}

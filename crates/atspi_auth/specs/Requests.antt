@@ -1,11 +1,13 @@
 -- What a line says.
-use Rattle.std.specs.Prelude.{ℕ, ◌==◌, ◌&&◌, ◌||◌, Bool, false, if◌then◌else◌, List, length, drop, slice_index, codes, nat_eq, bytes_eq, Result, Ok, Err}
+use Rattle.std.specs.Prelude.{ℕ, ◌==◌, ◌&&◌, ◌||◌, Bool, false, if◌then◌else◌, List, length, drop, slice_index, codes}
+use Rattle.std.specs.Prelude.{nat_eq, bytes_eq, Result, Ok, Err}
 use Rattle.std.specs.Char.{is_ascii_digit}
 use Rattle.std.specs.List.{starts_with, list_all}
 use Rattle.hex.specs.Hex.{decode_of, is_hex_digit}
 use Rattle.hex.specs.declared.error.FromHexError.{FromHexError}
 use Rattle.atspi_auth.specs.declared.request.Request.{Request}
-use Rattle.atspi_auth.specs.declared.request.Request.TheVariants.{Login, Ask, OtherAuth, Uid, OtherData, Cancel, Begin, Error, Other}
+use Rattle.atspi_auth.specs.declared.request.Request.TheVariants.{Login, Ask, OtherAuth, Uid, OtherData, Cancel, Begin}
+use Rattle.atspi_auth.specs.declared.request.Request.TheVariants.{Error, Other}
 
 -- a number is at least one decimal digit
 abbrev pub is_decimal : List ℕ → Bool
@@ -22,7 +24,8 @@ is_uid text = is_decoded_decimal (decode_of text)
 
 -- the line begins with the word, which ends at the line's end or at a blank
 unfoldable pub has_word : List ℕ → List ℕ → Bool
-has_word word line = starts_with nat_eq line word && (length line == length word || slice_index line (length word) == 32)
+has_word word line = starts_with nat_eq line word
+    && (length line == length word || slice_index line (length word) == 32)
 
 -- the line begins with these bytes, and the hex of a decimal uid follows
 unfoldable pub has_uid : List ℕ → List ℕ → Bool

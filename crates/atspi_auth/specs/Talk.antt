@@ -1,5 +1,6 @@
 -- The conversation of one end, as a function of all the bytes that it was fed: the lines that it says, and how it ends.
-use Rattle.std.specs.Prelude.{◌≡◌, ℕ, ◌==◌, ◌≤◌, Bool, true, false, nat_lt, if◌then◌else◌, List, [], ◌∷◌, ◌++◌, length, drop, Option, None, Some, option_to_list, Result, Ok, Err}
+use Rattle.std.specs.Prelude.{◌≡◌, ℕ, ◌==◌, ◌≤◌, Bool, true, false, nat_lt, if◌then◌else◌, List, [], ◌∷◌, ◌++◌, length}
+use Rattle.std.specs.Prelude.{drop, Option, None, Some, option_to_list, Result, Ok, Err}
 use Rattle.atspi_auth.specs.Lines.{HasNoEnd, lines_of, joined}
 use Rattle.atspi_auth.specs.Replies.{answer}
 use Rattle.atspi_auth.specs.declared.fault.AuthFault.{AuthFault}
@@ -94,7 +95,8 @@ behind now bytes = (told now bytes).behind
 -- from its start on the end was fed these bytes, and handed out these lines: with those that it still has to hand out
 -- they are all lines of the bytes, and it stands where the bytes lead
 abbrev pub Stands : Standing → List ℕ → List AuthLine → Standing → Type 0
-Stands start fed given now = record { stage = now.stage; line = now.line; unsent = given ++ now.unsent } ≡ after start fed
+Stands start fed given now = record { stage = now.stage; line = now.line; unsent = given ++ now.unsent }
+    ≡ after start fed
 
 -- whatever was fed and handed out before, these bytes were fed now
 abbrev pub Continues : Standing → Standing → Standing → List ℕ → Type 0

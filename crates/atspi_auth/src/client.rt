@@ -1,7 +1,9 @@
 //! The client's end.
 
-ghost use Rattle.std.specs.Prelude.{◌≡◌, ◌≢◌, ◌≤◌, ◌++◌, ◌↔◌, [], Err, None, drop, length, IfErr, IfOk, IsNone, IsTrue, OnOk, option_to_list};
-ghost use Rattle.atspi_auth.specs.Talk.{Continues, HandsOut, Refuses, Stands, after, behind, client_start, fault_in, told};
+ghost use Rattle.std.specs.Prelude.{◌≡◌, ◌≢◌, ◌≤◌, ◌++◌, ◌↔◌, [], Err, None, drop, length, IfErr, IfOk, IsNone, IsTrue};
+ghost use Rattle.std.specs.Prelude.{OnOk, option_to_list};
+ghost use Rattle.atspi_auth.specs.Talk.{Continues, HandsOut, Refuses, Stands, after, behind, client_start, fault_in};
+ghost use Rattle.atspi_auth.specs.Talk.{told};
 ghost use Rattle.atspi_auth.specs.declared.stage.Stage.TheVariants.{Over};
 
 use crate::reply::Waiting;
@@ -11,8 +13,8 @@ use crate::{AuthFault, AuthLine};
 use std::alloc::Global;
 use std::marker::Model;
 
-/// A client's end of the conversation. Its first line to send is `Hail`; it is fed what the server answers, in pieces of any
-/// length.
+/// A client's end of the conversation. Its first line to send is `Hail`; it is fed what the server answers, in pieces
+/// of any length.
 #[derive(Drop)]
 pub struct Client {
     talk: Talk,
@@ -39,10 +41,10 @@ impl Client {
         }
     }
 
-    /// Hears a piece of what the server sends, and answers how many of its bytes belong to the conversation: all of them,
-    /// unless the server's `OK` ends in the piece or came before. `Rejected` where a line is not the awaited `DATA` or `OK`
-    /// with 32 hex digits, `TooLong` where 16,384 bytes of a line came without its CR LF among them; the fault stays. After
-    /// `NoMemory` the client is as before.
+    /// Hears a piece of what the server sends, and answers how many of its bytes belong to the conversation: all of
+    /// them, unless the server's `OK` ends in the piece or came before. `Rejected` where a line is not the awaited
+    /// `DATA` or `OK` with 32 hex digits, `TooLong` where 16,384 bytes of a line came without its CR LF among them; the
+    /// fault stays. After `NoMemory` the client is as before.
     pub fn feed(&mut self, piece: &[u8]) -> Result<usize, AuthFault>
         ensures ok { OnOk result (self.new ≡ after self.old piece.now) }
         ensures no_fault { OnOk result (fault_in (told self.old piece.now).stage ≡ None) }

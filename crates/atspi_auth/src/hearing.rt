@@ -38,7 +38,8 @@ pub(crate) fn hear_on(
     start: usize,
 ) -> Result<Hearing, NoMemory>
     requires { start ≤ length bytes.now }
-    ensures heard { IfOk result (λ h. goes_on first (λ next. hears_bytes next (drop start bytes.now)) (drop start bytes.now)
+    ensures heard { IfOk result
+        (λ h. goes_on first (λ next. hears_bytes next (drop start bytes.now)) (drop start bytes.now)
         ≡ left_at h.said.items h.stage (drop h.at bytes.now)) }
     ensures within { IfOk result (λ h. h.at ≤ length bytes.now) }
 {

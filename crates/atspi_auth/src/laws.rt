@@ -7,13 +7,15 @@ ghost use Rattle.atspi_auth.specs.Talk.{Standing, after, behind, client_start, f
 ghost use Rattle.atspi_auth.specs.declared.fault.AuthFault.{AuthFault};
 ghost use Rattle.atspi_auth.specs.declared.stage.Stage.TheVariants.{Failed, Over};
 
-/// Bytes that come in two pieces bring what they bring at once, and so do bytes in any pieces: the lines said, where the end
-/// then stands, and which bytes stand behind the last line are a function of all bytes, however they were cut.
+/// Bytes that come in two pieces bring what they bring at once, and so do bytes in any pieces: the lines said, where
+/// the end then stands, and which bytes stand behind the last line are a function of all bytes, however they were cut.
 pub fn any_cut()
     ensures after { (now : Standing) (a b : List ℕ) → after (after now a) b ≡ after now (a ++ b) }
     ensures behind { (now : Standing) (a b : List ℕ) → behind now (a ++ b) ≡ behind now a ++ behind (after now a) b }
-    ensures server { (pieces : List (List ℕ)) → fold after server_start pieces ≡ after server_start (flat_map (λ p. p) pieces) }
-    ensures client { (pieces : List (List ℕ)) → fold after client_start pieces ≡ after client_start (flat_map (λ p. p) pieces) }
+    ensures server { (pieces : List (List ℕ))
+        → fold after server_start pieces ≡ after server_start (flat_map (λ p. p) pieces) }
+    ensures client { (pieces : List (List ℕ))
+        → fold after client_start pieces ≡ after client_start (flat_map (λ p. p) pieces) }
 {}
 
 /// After a fault the same fault stands and nothing more is said, and after the last line all bytes stand behind it.
@@ -27,7 +29,8 @@ pub fn no_way_back()
 /// Bytes stand behind the lines only once these are over, and so none do where the lines are at fault.
 pub fn nothing_behind_a_fault()
     ensures over { (now : Standing) (bytes : List ℕ) → ((after now bytes).stage ≡ Over → ⊥) → behind now bytes ≡ [] }
-    ensures fault { (now : Standing) (bytes : List ℕ) → (fault_in (after now bytes).stage ≡ None → ⊥) → behind now bytes ≡ [] }
+    ensures fault { (now : Standing) (bytes : List ℕ) → (fault_in (after now bytes).stage ≡ None → ⊥)
+        → behind now bytes ≡ [] }
 {}
 
 /// Less than one line is held.
@@ -42,5 +45,6 @@ pub fn lines_are_unique()
     ensures rest { (bytes : List ℕ) → HasNoEnd (lines_of bytes).rest }
     ensures only { (lines : List (List ℕ)) (rest : List ℕ) → AllByRecursion HasNoEnd lines → HasNoEnd rest
         → lines_of (joined lines rest) ≡ record { whole = lines; rest = rest } }
-    ensures no_end { (bytes : List ℕ) → HasNoEnd bytes ↔ ((front back : List ℕ) → bytes ≡ front ++ (end_of_line ++ back) → ⊥) }
+    ensures no_end { (bytes : List ℕ) → HasNoEnd bytes
+        ↔ ((front back : List ℕ) → bytes ≡ front ++ (end_of_line ++ back) → ⊥) }
 {}

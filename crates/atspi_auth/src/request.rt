@@ -3,7 +3,8 @@
 ghost use Rattle.std.specs.Prelude.{◌≡◌, bytes_eq, IfOk};
 ghost use Rattle.std.specs.Char.{is_ascii_digit};
 ghost use Rattle.std.specs.List.{list_all};
-ghost use Rattle.atspi_auth.specs.Requests.{is_uid, is_decimal, has_word, has_uid, auth_request, data_request, request_of, is_number, is_grant};
+ghost use Rattle.atspi_auth.specs.Requests.{is_uid, is_decimal, has_word, has_uid, auth_request, data_request};
+ghost use Rattle.atspi_auth.specs.Requests.{request_of, is_number, is_grant};
 
 use atspi_base::NoMemory;
 use hex::{FromHex, FromHexError};

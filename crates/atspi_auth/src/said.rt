@@ -3,7 +3,8 @@
 ghost use Rattle.std.specs.Prelude.{◌≡◌};
 ghost use Rattle.atspi_auth.specs.Said.{bytes_of};
 
-/// A line to send. `Granted`, `Rejected` and `Error` are a server's, `Hail` and `Begin` a client's, and `Data` both ends'.
+/// A line to send. `Granted`, `Rejected` and `Error` are a server's, `Hail` and `Begin` a client's, and `Data` both
+/// ends'.
 #[derive(Clone, Copy, Debug, PartialEq, Eq)]
 pub enum AuthLine {
     /// `OK` and the server's number in 32 hex digits.

@@ -1,7 +1,9 @@
 //! The server's end.
 
-ghost use Rattle.std.specs.Prelude.{◌≡◌, ◌≢◌, ◌≤◌, ◌++◌, ◌↔◌, [], Err, None, drop, length, IfErr, IfOk, IsNone, IsTrue, OnOk, option_to_list};
-ghost use Rattle.atspi_auth.specs.Talk.{Continues, HandsOut, Refuses, Stands, after, behind, fault_in, server_start, told};
+ghost use Rattle.std.specs.Prelude.{◌≡◌, ◌≢◌, ◌≤◌, ◌++◌, ◌↔◌, [], Err, None, drop, length, IfErr, IfOk, IsNone, IsTrue};
+ghost use Rattle.std.specs.Prelude.{OnOk, option_to_list};
+ghost use Rattle.atspi_auth.specs.Talk.{Continues, HandsOut, Refuses, Stands, after, behind, fault_in, server_start};
+ghost use Rattle.atspi_auth.specs.Talk.{told};
 ghost use Rattle.atspi_auth.specs.declared.stage.Stage.TheVariants.{Over};
 
 use crate::stage::Stage;
@@ -10,8 +12,8 @@ use crate::{AuthFault, AuthLine};
 use std::alloc::Global;
 use std::marker::Model;
 
-/// A server's end of the conversation. It is fed what the client sends, in pieces of any length, and hands out the lines
-/// to answer. Any decimal uid is let in: who may connect is the matter of the socket's folder.
+/// A server's end of the conversation. It is fed what the client sends, in pieces of any length, and hands out the
+/// lines to answer. Any decimal uid is let in: who may connect is the matter of the socket's folder.
 #[derive(Drop)]
 pub struct Server {
     talk: Talk,
@@ -36,10 +38,10 @@ impl Server {
         }
     }
 
-    /// Hears a piece of what the client sends, and answers how many of its bytes belong to the conversation: all of them,
-    /// unless `BEGIN` ends in the piece or came before. `NoZero` where the first byte is not 0, `TooLong` where 16,384
-    /// bytes of a line came without its CR LF among them, `Early` where `BEGIN` comes before anything was granted; the
-    /// fault stays. After `NoMemory` the server is as before.
+    /// Hears a piece of what the client sends, and answers how many of its bytes belong to the conversation: all of
+    /// them, unless `BEGIN` ends in the piece or came before. `NoZero` where the first byte is not 0, `TooLong` where
+    /// 16,384 bytes of a line came without its CR LF among them, `Early` where `BEGIN` comes before anything was
+    /// granted; the fault stays. After `NoMemory` the server is as before.
     pub fn feed(&mut self, piece: &[u8]) -> Result<usize, AuthFault>
         ensures ok { OnOk result (self.new ≡ after self.old piece.now) }
         ensures no_fault { OnOk result (fault_in (told self.old piece.now).stage ≡ None) }

@@ -1,6 +1,7 @@
 //! One end of the conversation, fed in pieces.
 
-ghost use Rattle.std.specs.Prelude.{◌≡◌, ◌+◌, ◌-◌, ◌≤◌, ◌++◌, ◌↔◌, [], drop, length, take, IfOk, IsTrue, IsNone, option_to_list};
+ghost use Rattle.std.specs.Prelude.{◌≡◌, ◌+◌, ◌-◌, ◌≤◌, ◌++◌, ◌↔◌, [], drop, length, take, IfOk, IsTrue, IsNone};
+ghost use Rattle.std.specs.Prelude.{option_to_list};
 ghost use Rattle.atspi_auth.specs.Lines.{HasNoEnd};
 ghost use Rattle.atspi_auth.specs.Replies.{answer};
 ghost use Rattle.atspi_auth.specs.Talk.{IsTidy, Tells, heard, hears_bytes, left_at, taken_of};
@@ -63,7 +64,8 @@ fn answer_joined(
     last: &[u8],
 ) -> Result<Reply, NoMemory>
     requires { 2 ≤ length held.now + length last.now }
-    ensures { IfOk result (λ r. r ≡ answer waiting (take (length held.now + length last.now - 2) (held.now ++ last.now))) }
+    ensures { IfOk result
+        (λ r. r ≡ answer waiting (take (length held.now + length last.now - 2) (held.now ++ last.now))) }
 {
     if held.len() + last.len() > LINE_LIMIT {
         return Ok(Reply::Fail(AuthFault::TooLong));

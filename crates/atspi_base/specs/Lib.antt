@@ -1,5 +1,6 @@
 pub mod Digits
 pub mod Outside
+pub mod Places
 pub mod Quoted
 pub mod ReadsText
 pub mod Text

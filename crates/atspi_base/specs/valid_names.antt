@@ -1,3 +1,3 @@
+pub mod inner
 pub mod Elements
 pub mod Names
-pub mod Walks

@@ -1,6 +1,7 @@
 //! A growing list of bytes.
 
-ghost use Rattle.std.specs.Prelude.{◌≡◌, ◌+◌, ◌<◌, ◌≤◌, ℕ, List, [], ◌∷◌, ◌++◌, ◌==◌, length, take, drop, OnOk, OnErr, IfOk};
+ghost use Rattle.std.specs.Prelude.{◌≡◌, ◌+◌, ◌<◌, ◌≤◌, ℕ, List, [], ◌∷◌, ◌++◌, ◌==◌, length, take, drop, OnOk, OnErr};
+ghost use Rattle.std.specs.Prelude.{IfOk};
 
 use crate::NoMemory;
 use std::alloc::Global;

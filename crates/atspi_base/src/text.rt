@@ -1,6 +1,7 @@
 //! Text without U+0000.
 
-ghost use Rattle.std.specs.Prelude.{◌≡◌, ◌<◌, ◌^◌, ◌↔◌, ℕ, List, length, IfOk, IsTrue, chars, string_bytes, encode_utf8_all};
+ghost use Rattle.std.specs.Prelude.{◌≡◌, ◌<◌, ◌^◌, ◌↔◌, ℕ, List, length, IfOk, IsTrue, chars, string_bytes};
+ghost use Rattle.std.specs.Prelude.{encode_utf8_all};
 ghost use Rattle.atspi_base.specs.Text.{HasNoZero, bytes_before_zero};
 ghost use Rattle.atspi_base.specs.ReadsText.{ReadsText, PlaceBelow, ReadsStr, StrPlaceBelow};
 ghost use Rattle.atspi_base.specs.declared.text.TextFault.TheVariants.{NoMemory};
@@ -40,8 +41,8 @@ fn before_zero(bytes: &[u8]) -> usize
     bytes.len()
 }
 
-/// The text that the bytes spell in UTF-8, where they lie. Refused at the first bad byte: `Zero` where it is a zero byte,
-/// `Utf8` where it begins a sequence that is not UTF-8; never for want of memory.
+/// The text that the bytes spell in UTF-8, where they lie. Refused at the first bad byte: `Zero` where it is a zero
+/// byte, `Utf8` where it begins a sequence that is not UTF-8; never for want of memory.
 #[tactic(auto, unfolding(crate::specs::ReadsText::text_in))]
 pub fn read_str(bytes: &[u8]) -> Result<&str, TextFault>
     requires { length bytes.now < 2 ^ 32 }
@@ -92,8 +93,8 @@ impl Model for Text {
 }
 
 impl Text {
-    /// The text that the bytes spell in UTF-8. Refused at the first bad byte: `Zero` where it is a zero byte, `Utf8` where
-    /// it begins a sequence that is not UTF-8.
+    /// The text that the bytes spell in UTF-8. Refused at the first bad byte: `Zero` where it is a zero byte, `Utf8`
+    /// where it begins a sequence that is not UTF-8.
     pub fn read(alloc: Global, bytes: &[u8]) -> Result<Text, TextFault>
         requires { length bytes.now < 2 ^ 32 }
         ensures text { ReadsText result bytes.now }

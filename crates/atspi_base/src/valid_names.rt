@@ -1,5 +1,5 @@
-//! The names of the wire: bus names, interfaces, members and object paths, each of its rule (D-Bus Specification, "Valid
-//! Names" and "Valid Object Paths").
+//! The names of the wire: bus names, interfaces, members and object paths, each of its rule (D-Bus Specification,
+//! "Valid Names" and "Valid Object Paths").
 
 mod bus_name;
 mod classes;

@@ -33,8 +33,8 @@ use Rattle.atspi_bus_steps.proofs.Replies.{replied, unreplied}
 use Rattle.atspi_bus_steps.proofs.Said.{none_said}
 use Rattle.atspi_bus_steps.proofs.Settling.{settled_none}
 use Rattle.atspi_bus_steps.proofs.Sounds.{answers-parts, given_answered}
-use Rattle.atspi_bus.specs.Changed.{changes_rules, changes_names}
-use Rattle.atspi_bus.specs.Said.{IsSaid}
+use Rattle.atspi_bus.specs.inner.Changed.{changes_rules, changes_names}
+use Rattle.atspi_bus.specs.inner.Said.{IsSaid}
 use Rattle.atspi_bus.proofs.Saying.{said-step, said-state}
 
 -- nothing more is said

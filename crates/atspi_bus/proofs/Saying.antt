@@ -3,14 +3,14 @@ use Rattle.std.proofs.Common.{◌≡◌, ℕ, ◌+◌, List, [], ◌∷◌, ◌+
 use Rattle.atspi_match.specs.declared.condition.Condition.{Condition}
 use Rattle.atspi_message.specs.Envelope.{Envelope}
 use Rattle.atspi_names.specs.Owners.{Owners}
-use Rattle.atspi_queues.specs.Each.{WentToEach, queued_each}
-use Rattle.atspi_queues.specs.Held.{Held}
+use Rattle.atspi_bus_queues.specs.Each.{WentToEach, queued_each}
+use Rattle.atspi_bus_queues.specs.Held.{Held}
 use Rattle.atspi_match.specs.routing.BusState.{BusState}
 use Rattle.atspi_match.specs.routing.Queues.{Bus, Waiting, stepped}
 use Rattle.atspi_match.specs.routing.Routing.{receivers}
 use Rattle.atspi_match.specs.routing.Steps.{speaks}
 use Rattle.atspi_bus_steps.proofs.Said.{handed-is, one_said, more_said}
-use Rattle.atspi_bus.specs.Said.{IsHanded, IsSaid}
+use Rattle.atspi_bus.specs.inner.Said.{IsHanded, IsSaid}
 
 -- what was said, as the definition of a step has it, where owners and rules may be others by then, of whom the receivers are the same
 pub said-step : (b after : Bus) (e : Envelope) (bytes conns : List ℕ) (owners : Owners) (rules : List (ℕ × List Condition)) → IsSaid b after e bytes conns

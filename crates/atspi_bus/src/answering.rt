@@ -2,7 +2,7 @@
 
 ghost use Rattle.std.specs.Prelude.{◌≡◌, false, true, List, Ok, Option, IfOk, IsSome, OnErr, IsErrOf, MatchBool};
 ghost use Rattle.atspi_message.specs.Rules.{MeetsRules};
-ghost use Rattle.atspi_header.specs.View.{envelope_at};
+ghost use Rattle.atspi_message_in_place.specs.View.{envelope_at};
 ghost use Rattle.atspi_match.specs.declared.condition.Condition.{Condition};
 ghost use Rattle.atspi_match.specs.routing.Answers as answers;
 ghost use Rattle.atspi_match.specs.routing.BusState.{unique_of};
@@ -15,7 +15,7 @@ ghost use Rattle.atspi_bus_steps.specs.Inner.{inner_of, state_of};
 ghost use Rattle.atspi_bus_steps.specs.Sayable.{IsTyped};
 ghost use Rattle.atspi_bus_steps.specs.Sound.{IsSound};
 ghost use Rattle.atspi_bus_steps.specs.Spoken.{IsRuleOf, IsRuleTaken, answered_by};
-ghost use Rattle.atspi_bus.specs.Changed.{IsChanged, changes_rules};
+ghost use Rattle.atspi_bus.specs.inner.Changed.{IsChanged, changes_rules};
 
 use crate::claiming::request_in_place;
 use crate::in_place::{say_in_place, unsay};
@@ -23,12 +23,12 @@ use crate::renaming::{greet_in_place, rename_in_place};
 use atspi_base::NoMemory;
 use atspi_bus_answers::{BusError, Reply, answer, member_of};
 use atspi_bus_steps::{BusFault, Inner, expects_reply, is_for_bus, is_hello, receivers};
-use atspi_header::MessageRef;
 use atspi_match::routing::BusMember;
+use atspi_message_in_place::MessageRef;
 use atspi_types::Values;
 
-/// Says the reply to a call, where one is expected, and answers whether all that is due was said. Where its receiver has no room for it, where
-/// no number is left, and after a fault, all is as before.
+/// Says the reply to a call, where one is expected, and answers whether all that is due was said. Where its receiver
+/// has no room for it, where no number is left, and after a fault, all is as before.
 fn say_reply(inner: &mut Inner, conn: u32, m: &MessageRef, reply: Reply) -> Result<bool, BusFault>
     requires sound { IsSound (state_of inner.old) }
     requires meets { MeetsRules (envelope_at m.now) }
@@ -65,7 +65,8 @@ fn tell_in_place(
     requires asked { members.member_of (envelope_at m.now) ≡ Ok member }
     ensures ok { IfOk result (λ went. MatchBool went
         ((rule : Option (List Condition)) × IsSpokenOf member (envelope_at m.now).body rule
-        × (inner_of inner.new ≡ stepped (inner_of inner.old) (answered_by member (state_of inner.old) conn (envelope_at m.now) rule)))
+        × (inner_of inner.new
+        ≡ stepped (inner_of inner.old) (answered_by member (state_of inner.old) conn (envelope_at m.now) rule)))
         (inner_of inner.new ≡ inner_of inner.old)) }
     ensures sound { IsSound (state_of inner.new) }
     ensures due { (inner_of inner.new).waiting.due ≡ (inner_of inner.old).waiting.due }
@@ -79,7 +80,8 @@ fn tell_in_place(
     say_reply(inner, conn, m, reply)
 }
 
-/// Adds or takes out the rule that a call speaks of: the error that the call gets, or none where that is done. After want of memory all is as before.
+/// Adds or takes out the rule that a call speaks of: the error that the call gets, or none where that is done. After
+/// want of memory all is as before.
 fn change_rules(
     inner: &mut Inner,
     member: BusMember,
@@ -89,8 +91,10 @@ fn change_rules(
     requires changes { changes_rules member ≡ true }
     requires named { AreNamed (state_of inner.old).owners.lists }
     requires asked { members.member_of (envelope_at m.now) ≡ Ok member }
-    ensures ok { IfOk result (λ error. (rule : Option (List Condition)) × IsSpokenOf member (envelope_at m.now).body rule
-        × IsChanged (inner_of inner.old) (inner_of inner.new) (answers.answers member (state_of inner.old) conn (envelope_at m.now).body rule) error) }
+    ensures ok { IfOk result
+        (λ error. (rule : Option (List Condition)) × IsSpokenOf member (envelope_at m.now).body rule
+        × IsChanged (inner_of inner.old) (inner_of inner.new)
+        (answers.answers member (state_of inner.old) conn (envelope_at m.now).body rule) error) }
     ensures err { OnErr result (inner_of inner.new ≡ inner_of inner.old) }
 {
     let alloc = inner.alloc;
@@ -102,8 +106,8 @@ fn change_rules(
     }
 }
 
-/// Answers AddMatch or RemoveMatch of a connection with its unique name. That it is done is said before it is done, since what was said can be taken
-/// back and a rule that went out cannot be put back in its place.
+/// Answers AddMatch or RemoveMatch of a connection with its unique name. That it is done is said before it is done,
+/// since what was said can be taken back and a rule that went out cannot be put back in its place.
 fn rule_in_place(
     inner: &mut Inner,
     member: BusMember,
@@ -117,7 +121,8 @@ fn rule_in_place(
     requires asked { members.member_of (envelope_at m.now) ≡ Ok member }
     ensures ok { IfOk result (λ went. MatchBool went
         ((rule : Option (List Condition)) × IsSpokenOf member (envelope_at m.now).body rule
-        × (inner_of inner.new ≡ stepped (inner_of inner.old) (answered_by member (state_of inner.old) conn (envelope_at m.now) rule)))
+        × (inner_of inner.new
+        ≡ stepped (inner_of inner.old) (answered_by member (state_of inner.old) conn (envelope_at m.now) rule)))
         (inner_of inner.new ≡ inner_of inner.old)) }
     ensures sound { IsSound (state_of inner.new) }
     ensures due { (inner_of inner.new).waiting.due ≡ (inner_of inner.old).waiting.due }
@@ -158,7 +163,8 @@ fn answer_member(
     requires asked { members.member_of (envelope_at m.now) ≡ Ok member }
     ensures ok { IfOk result (λ went. MatchBool went
         ((rule : Option (List Condition)) × IsSpokenOf member (envelope_at m.now).body rule
-        × (inner_of inner.new ≡ stepped (inner_of inner.old) (answered_by member (state_of inner.old) conn (envelope_at m.now) rule)))
+        × (inner_of inner.new
+        ≡ stepped (inner_of inner.old) (answered_by member (state_of inner.old) conn (envelope_at m.now) rule)))
         (inner_of inner.new ≡ inner_of inner.old)) }
     ensures sound { IsSound (state_of inner.new) }
     ensures due { (inner_of inner.new).waiting.due ≡ (inner_of inner.old).waiting.due }
@@ -186,7 +192,8 @@ fn call_in_place(inner: &mut Inner, conn: u32, m: &MessageRef) -> Result<bool, B
     requires meets { MeetsRules (envelope_at m.now) }
     ensures ok { IfOk result (λ went. MatchBool went
         ((rule : Option (List Condition)) × IsRuleOf (envelope_at m.now) rule
-        × (inner_of inner.new ≡ stepped (inner_of inner.old) (steps.called (state_of inner.old) conn (envelope_at m.now) rule)))
+        × (inner_of inner.new
+        ≡ stepped (inner_of inner.old) (steps.called (state_of inner.old) conn (envelope_at m.now) rule)))
         (inner_of inner.new ≡ inner_of inner.old)) }
     ensures sound { IsSound (state_of inner.new) }
     ensures due { (inner_of inner.new).waiting.due ≡ (inner_of inner.old).waiting.due }
@@ -199,13 +206,16 @@ fn call_in_place(inner: &mut Inner, conn: u32, m: &MessageRef) -> Result<bool, B
     }
 }
 
-/// Refuses a call to a name that nobody owns, or lets another message to it go, and answers whether the message was such a one.
+/// Refuses a call to a name that nobody owns, or lets another message to it go, and answers whether the message was
+/// such a one.
 fn refuse_in_place(inner: &mut Inner, conn: u32, m: &MessageRef) -> Result<bool, BusFault>
     requires sound { IsSound (state_of inner.old) }
     requires meets { MeetsRules (envelope_at m.now) }
     ensures ok { IfOk result (λ went. MatchBool went
-        ((steps.is_unowned (envelope_at m.now).destination (routing.receivers (state_of inner.old) (envelope_at m.now)) ≡ true)
-        × (inner_of inner.new ≡ stepped (inner_of inner.old) (steps.undeliverable (state_of inner.old) conn (envelope_at m.now))))
+        ((steps.is_unowned (envelope_at m.now).destination (routing.receivers (state_of inner.old) (envelope_at m.now))
+        ≡ true)
+        × (inner_of inner.new
+        ≡ stepped (inner_of inner.old) (steps.undeliverable (state_of inner.old) conn (envelope_at m.now))))
         (inner_of inner.new ≡ inner_of inner.old)) }
     ensures sound { IsSound (state_of inner.new) }
     ensures due { (inner_of inner.new).waiting.due ≡ (inner_of inner.old).waiting.due }
@@ -223,14 +233,16 @@ fn refuse_in_place(inner: &mut Inner, conn: u32, m: &MessageRef) -> Result<bool,
     say_reply(inner, conn, m, Reply::Fails(BusError::ServiceUnknown))
 }
 
-/// Answers a message of a connection with its unique name that the bus answers itself: one that is for the bus, or to a name that nobody owns.
+/// Answers a message of a connection with its unique name that the bus answers itself: one that is for the bus, or to a
+/// name that nobody owns.
 fn answer_named(inner: &mut Inner, conn: u32, m: &MessageRef) -> Result<bool, BusFault>
     requires caller { IsSome (unique_of (state_of inner.old).owners conn) }
     requires sound { IsSound (state_of inner.old) }
     requires meets { MeetsRules (envelope_at m.now) }
     ensures ok { IfOk result (λ went. MatchBool went
         ((rule : Option (List Condition)) × IsRuleTaken (state_of inner.old) conn (envelope_at m.now) rule
-        × (inner_of inner.new ≡ stepped (inner_of inner.old) (steps.bus_takes (state_of inner.old) conn (envelope_at m.now) rule)))
+        × (inner_of inner.new
+        ≡ stepped (inner_of inner.old) (steps.bus_takes (state_of inner.old) conn (envelope_at m.now) rule)))
         (inner_of inner.new ≡ inner_of inner.old)) }
     ensures sound { IsSound (state_of inner.new) }
     ensures due { (inner_of inner.new).waiting.due ≡ (inner_of inner.old).waiting.due }
@@ -252,7 +264,8 @@ fn answer_any(inner: &mut Inner, conn: u32, m: &MessageRef) -> Result<bool, BusF
     requires meets { MeetsRules (envelope_at m.now) }
     ensures ok { IfOk result (λ went. MatchBool went
         ((rule : Option (List Condition)) × IsRuleTaken (state_of inner.old) conn (envelope_at m.now) rule
-        × (inner_of inner.new ≡ stepped (inner_of inner.old) (steps.bus_takes (state_of inner.old) conn (envelope_at m.now) rule)))
+        × (inner_of inner.new
+        ≡ stepped (inner_of inner.old) (steps.bus_takes (state_of inner.old) conn (envelope_at m.now) rule)))
         (inner_of inner.new ≡ inner_of inner.old)) }
     ensures sound { IsSound (state_of inner.new) }
     ensures due { (inner_of inner.new).waiting.due ≡ (inner_of inner.old).waiting.due }
@@ -268,8 +281,8 @@ fn answer_any(inner: &mut Inner, conn: u32, m: &MessageRef) -> Result<bool, BusF
     greet_in_place(inner, conn, m)
 }
 
-/// The bus answers a message of a connection in place, while nobody is to be closed and each receiver of what it says has room for that. It
-/// answers whether that is so. Where it is not, and after a fault, all is as before.
+/// The bus answers a message of a connection in place, while nobody is to be closed and each receiver of what it says
+/// has room for that. It answers whether that is so. Where it is not, and after a fault, all is as before.
 pub fn answer_in_place(inner: &mut Inner, conn: u32, m: &MessageRef) -> Result<bool, BusFault>
     requires sound { IsSound (state_of inner.old) }
     requires meets { MeetsRules (envelope_at m.now) }

@@ -1,13 +1,14 @@
 //! A bus as its callers see it.
 
-ghost use Rattle.std.specs.Prelude.{◌≡◌, ◌+◌, ◌<◌, ◌≤◌, ◌↔◌, ◌++◌, ℕ, List, [], length, map, drop, All, Option, IfNone, IfOk, IsErrOf, OnOk, OnErr, option_to_list};
+ghost use Rattle.std.specs.Prelude.{◌≡◌, ◌+◌, ◌<◌, ◌≤◌, ◌↔◌, ◌++◌, ℕ, List, [], length, map, drop, All, Option, IfNone};
+ghost use Rattle.std.specs.Prelude.{IfOk, IsErrOf, OnOk, OnErr, option_to_list};
 ghost use Rattle.atspi_message.specs.Envelope.{envelope_of};
 ghost use Rattle.atspi_message.specs.Rules.{MeetsRules};
-ghost use Rattle.atspi_header.specs.View.{envelope_at};
+ghost use Rattle.atspi_message_in_place.specs.View.{envelope_at};
 ghost use Rattle.atspi_match.specs.declared.condition.Condition.{Condition};
 ghost use Rattle.atspi_match.specs.routing.Laws.{IsWithinQuota};
 ghost use Rattle.atspi_match.specs.routing.Queues.{queue_of, empty_bus, joins, takes, leaves};
-ghost use Rattle.atspi_queues.specs.Change.{with_queue};
+ghost use Rattle.atspi_bus_queues.specs.Change.{with_queue};
 ghost use Rattle.atspi_bus_steps.specs.Inner.{state_of};
 ghost use Rattle.atspi_bus_steps.specs.Limits.{IsTooBig, SaysTooMuch};
 ghost use Rattle.atspi_bus_steps.specs.Sound.{IsSound};
@@ -16,13 +17,13 @@ ghost use Rattle.atspi_bus.specs.Exclusive.{IsExclusive};
 
 use crate::whole::{leave_whole, take_whole};
 use atspi_bus_steps::{BusFault, Inner};
-use atspi_header::MessageRef;
 use atspi_match::routing::Closing;
 use atspi_message::Message;
+use atspi_message_in_place::MessageRef;
 use std::alloc::Global;
 
-/// A message bus (D-Bus Specification, "Message Bus Specification"). A connection is known by its number. What a bus knows is kept here,
-/// and contracts see it as `bus_of` says: the record of the definitions.
+/// A message bus (D-Bus Specification, "Message Bus Specification"). A connection is known by its number. What a bus
+/// knows is kept here, and contracts see it as `bus_of` says: the record of the definitions.
 #[derive(Drop)]
 pub struct Bus {
     /// How many connections have ever joined.
@@ -48,10 +49,11 @@ impl Bus {
         }
     }
 
-    /// A connection joins: its number is that of those which joined before. `Full` exactly where 4,294,967,296 have joined; after
-    /// a fault all is as before.
+    /// A connection joins: its number is that of those which joined before. `Full` exactly where 4,294,967,296 have
+    /// joined; after a fault all is as before.
     pub fn join(&mut self) -> Result<u32, BusFault>
-        ensures number { IfOk result (λ conn. (conn ≡ given_of self.old) × (given_of self.new ≡ given_of self.old + 1)) }
+        ensures number { IfOk result
+            (λ conn. (conn ≡ given_of self.old) × (given_of self.new ≡ given_of self.old + 1)) }
         ensures joined { IfOk result (λ conn. bus_of self.new ≡ joins (bus_of self.old) conn) }
         ensures within { IsWithinQuota (bus_of self.new) }
         ensures full { IsErrOf result BusFault.Full ↔ (given_of self.old ≡ 4294967296) }
@@ -73,22 +75,27 @@ impl Bus {
         }
     }
 
-    /// The bus takes a message of a connection, which lies in bytes: what it does is in `docs/ROUTING.md`. `Spent` only where the bus's own
-    /// messages for this one would pass the serial 4,294,967,295, and no answer but a fault there. `Big` only where this message, with its sender, or one
-    /// that the bus says for it passes the limits of the wire. After a fault all is as before.
+    /// The bus takes a message of a connection, which lies in bytes: what it does is in `docs/ROUTING.md`. `Spent` only
+    /// where the bus's own messages for this one would pass the serial 4,294,967,295, and no answer but a fault there.
+    /// `Big` only where this message, with its sender, or one that the bus says for it passes the limits of the wire.
+    /// After a fault all is as before.
     ///
-    /// A message that is passed on, and one that the bus answers itself, costs what it brings alone, where each receiver of what goes out has room for
-    /// it; ReleaseName, and RequestName of a name that somebody has, cost a copy of the names besides. One that brings a closing costs a copy of
-    /// what the bus knows and of what waits in it.
+    /// A message that is passed on, and one that the bus answers itself, costs what it brings alone, where each
+    /// receiver of what goes out has room for it; ReleaseName, and RequestName of a name that somebody has, cost a copy
+    /// of the names besides. One that brings a closing costs a copy of what the bus knows and of what waits in it.
     pub fn take(&mut self, conn: u32, m: &MessageRef) -> Result<(), BusFault>
         requires { MeetsRules (envelope_at m.now) }
-        ensures ok { OnOk result ((rule : Option (List Condition)) × IsRuleTaken (bus_of self.old).state conn (envelope_at m.now) rule
+        ensures ok { OnOk result
+            ((rule : Option (List Condition)) × IsRuleTaken (bus_of self.old).state conn (envelope_at m.now) rule
             × (bus_of self.new ≡ takes (bus_of self.old) conn (envelope_at m.now) rule)) }
         ensures serial { OnOk result ((bus_of self.new).state.next ≤ 4294967296) }
-        ensures spent { IsErrOf result BusFault.Spent → (rule : Option (List Condition)) × IsRuleTaken (bus_of self.old).state conn (envelope_at m.now) rule
+        ensures spent { IsErrOf result BusFault.Spent
+            → (rule : Option (List Condition)) × IsRuleTaken (bus_of self.old).state conn (envelope_at m.now) rule
             × (4294967296 < (takes (bus_of self.old) conn (envelope_at m.now) rule).state.next) }
-        ensures big { IsErrOf result BusFault.Big → (rule : Option (List Condition)) × IsRuleTaken (bus_of self.old).state conn (envelope_at m.now) rule
-            × IsTooBig (bus_of self.old) conn (envelope_at m.now) (takes (bus_of self.old) conn (envelope_at m.now) rule) }
+        ensures big { IsErrOf result BusFault.Big
+            → (rule : Option (List Condition)) × IsRuleTaken (bus_of self.old).state conn (envelope_at m.now) rule
+            × IsTooBig (bus_of self.old) conn (envelope_at m.now)
+            (takes (bus_of self.old) conn (envelope_at m.now) rule) }
         ensures within { IsWithinQuota (bus_of self.new) }
         ensures given { given_of self.new ≡ given_of self.old }
         ensures err { OnErr result (bus_of self.new ≡ bus_of self.old) }
@@ -98,8 +105,9 @@ impl Bus {
         taken
     }
 
-    /// A connection leaves by itself. `Spent` only where the bus's own messages would pass the serial 4,294,967,295, and no answer but a
-    /// fault there; `Big` only where one of them passes the limits of the wire. After a fault all is as before. It costs what is told, and a look at each that has joined, each rule and each open call, where
+    /// A connection leaves by itself. `Spent` only where the bus's own messages would pass the serial 4,294,967,295,
+    /// and no answer but a fault there; `Big` only where one of them passes the limits of the wire. After a fault all
+    /// is as before. It costs what is told, and a look at each that has joined, each rule and each open call, where
     /// each receiver has room for what is told, and else a copy of what the bus knows and of what waits in it.
     pub fn leave(&mut self, conn: u32) -> Result<(), BusFault>
         ensures ok { OnOk result (bus_of self.new ≡ leaves (bus_of self.old) conn) }
@@ -117,7 +125,8 @@ impl Bus {
 
     /// The oldest closing that was not asked for yet.
     pub fn closed(&mut self) -> Option<Closing>
-        ensures bus { bus_of self.old ≡ record (bus_of self.new) { closings = option_to_list result ++ (bus_of self.new).closings } }
+        ensures bus { bus_of self.old
+            ≡ record (bus_of self.new) { closings = option_to_list result ++ (bus_of self.new).closings } }
         ensures none { IfNone result ((bus_of self.old).closings ≡ []) }
         ensures within { IsWithinQuota (bus_of self.new) }
         ensures given { given_of self.new ≡ given_of self.old }
@@ -129,7 +138,8 @@ impl Bus {
 
     /// The oldest message of the bus's own that was not asked for yet, a broadcast once, also where nobody receives it.
     pub fn own(&mut self) -> Option<Message>
-        ensures bus { bus_of self.old ≡ record (bus_of self.new) { own = map envelope_of (option_to_list result) ++ (bus_of self.new).own } }
+        ensures bus { bus_of self.old
+            ≡ record (bus_of self.new) { own = map envelope_of (option_to_list result) ++ (bus_of self.new).own } }
         ensures none { IfNone result ((bus_of self.old).own ≡ []) }
         ensures within { IsWithinQuota (bus_of self.new) }
         ensures given { given_of self.new ≡ given_of self.old }
@@ -160,7 +170,9 @@ impl Bus {
         requires { n ≤ length (queue_of (bus_of self.old).waiting.queues conn) }
         ensures bus { bus_of self.new ≡ record (bus_of self.old) {
           waiting = record (bus_of self.old).waiting {
-            queues = with_queue (bus_of self.old).waiting.queues conn (drop n (queue_of (bus_of self.old).waiting.queues conn));
+            queues =
+                with_queue (bus_of self.old).waiting.queues conn
+                (drop n (queue_of (bus_of self.old).waiting.queues conn));
           };
         } }
         ensures within { IsWithinQuota (bus_of self.new) }

@@ -3,7 +3,7 @@
 ghost use Rattle.std.specs.Prelude.{◌≡◌, ◌++◌, map, All, List, Ok, Option, IfOk, OnErr, IsErrOf, MatchBool};
 ghost use Rattle.atspi_message.specs.Envelope.{envelope_of};
 ghost use Rattle.atspi_message.specs.Rules.{MeetsRules};
-ghost use Rattle.atspi_header.specs.View.{envelope_at};
+ghost use Rattle.atspi_message_in_place.specs.View.{envelope_at};
 ghost use Rattle.atspi_match.specs.declared.condition.Condition.{Condition};
 ghost use Rattle.atspi_match.specs.routing.Members as members;
 ghost use Rattle.atspi_match.specs.routing.Queues.{stepped};
@@ -20,13 +20,13 @@ use crate::renaming::rename_in_place;
 use atspi_base::valid_names::BusName;
 use atspi_bus_answers::{Reply, answer, free_name};
 use atspi_bus_steps::{BusFault, Inner, expects_reply};
-use atspi_header::MessageRef;
 use atspi_match::routing::BusMember;
 use atspi_message::Message;
+use atspi_message_in_place::MessageRef;
 use std::collections::VecDeque;
 
-/// Says what an answer tells, and behind it the reply to the call, where one is expected, all or nothing. Where it cannot be said in place, and after a
-/// fault, all is as before.
+/// Says what an answer tells, and behind it the reply to the call, where one is expected, all or nothing. Where it
+/// cannot be said in place, and after a fault, all is as before.
 fn tell_answer(
     inner: &mut Inner,
     conn: u32,
@@ -68,7 +68,9 @@ fn claim_in_place(
     requires asked { members.member_of (envelope_at m.now) ≡ Ok BusMember.RequestName }
     ensures ok { IfOk result (λ went. MatchBool went
         ((rule : Option (List Condition)) × IsSpokenOf BusMember.RequestName (envelope_at m.now).body rule
-        × (inner_of inner.new ≡ stepped (inner_of inner.old) (answered_by BusMember.RequestName (state_of inner.old) conn (envelope_at m.now) rule)))
+        × (inner_of inner.new
+        ≡ stepped (inner_of inner.old)
+        (answered_by BusMember.RequestName (state_of inner.old) conn (envelope_at m.now) rule)))
         (inner_of inner.new ≡ inner_of inner.old)) }
     ensures sound { IsSound (state_of inner.new) }
     ensures due { (inner_of inner.new).waiting.due ≡ (inner_of inner.old).waiting.due }
@@ -100,7 +102,9 @@ pub fn request_in_place(inner: &mut Inner, conn: u32, m: &MessageRef) -> Result<
     requires asked { members.member_of (envelope_at m.now) ≡ Ok BusMember.RequestName }
     ensures ok { IfOk result (λ went. MatchBool went
         ((rule : Option (List Condition)) × IsSpokenOf BusMember.RequestName (envelope_at m.now).body rule
-        × (inner_of inner.new ≡ stepped (inner_of inner.old) (answered_by BusMember.RequestName (state_of inner.old) conn (envelope_at m.now) rule)))
+        × (inner_of inner.new
+        ≡ stepped (inner_of inner.old)
+        (answered_by BusMember.RequestName (state_of inner.old) conn (envelope_at m.now) rule)))
         (inner_of inner.new ≡ inner_of inner.old)) }
     ensures sound { IsSound (state_of inner.new) }
     ensures due { (inner_of inner.new).waiting.due ≡ (inner_of inner.old).waiting.due }

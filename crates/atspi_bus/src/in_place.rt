@@ -5,19 +5,19 @@ ghost use Rattle.std.specs.VecDeque.{deque_len, deque_capacity};
 ghost use Rattle.atspi_message.specs.Bytes.{written};
 ghost use Rattle.atspi_message.specs.Envelope.{Envelope, envelope_of};
 ghost use Rattle.atspi_message.specs.Rules.{MeetsRules};
-ghost use Rattle.atspi_queues.specs.Each.{WentToEach};
+ghost use Rattle.atspi_bus_queues.specs.Each.{WentToEach};
 ghost use Rattle.atspi_match.specs.routing.Queues.{Bus, Waiting, stepped};
 ghost use Rattle.atspi_match.specs.routing.Routing as routing;
 ghost use Rattle.atspi_match.specs.routing.Steps.{speaks};
 ghost use Rattle.atspi_bus_steps.specs.Inner.{inner_of, state_of};
 ghost use Rattle.atspi_bus_steps.specs.Sayable.{MaySay};
 ghost use Rattle.atspi_bus_steps.specs.Sound.{IsReady};
-ghost use Rattle.atspi_bus.specs.Said.{IsHanded, IsSaid};
+ghost use Rattle.atspi_bus.specs.inner.Said.{IsHanded, IsSaid};
 
 use atspi_base::Bytes;
+use atspi_bus_queues::Queues;
 use atspi_bus_steps::{BusFault, Inner, receivers_of_own, write_own};
 use atspi_message::Message;
-use atspi_queues::Queues;
 use std::collections::VecDeque;
 
 /// What went to whom where a message was said: its bytes, and its receivers.
@@ -33,7 +33,8 @@ fn addressed(inner: &Inner, message: &Message) -> Result<Said, BusFault>
     requires meets { MeetsRules (envelope_of message.now) }
     ensures bytes { IfOk result (λ said. said.bytes ≡ written (envelope_of message.now)) }
     ensures short { IfOk result (λ said. length said.bytes < 2 ^ 32) }
-    ensures receivers { IfOk result (λ said. said.receivers.items ≡ routing.receivers (state_of inner.now) (envelope_of message.now)) }
+    ensures receivers { IfOk result
+        (λ said. said.receivers.items ≡ routing.receivers (state_of inner.now) (envelope_of message.now)) }
     ensures spent { IsErrOf result BusFault.Spent → ⊥ }
 {
     let alloc = inner.alloc;
@@ -44,13 +45,14 @@ fn addressed(inner: &Inner, message: &Message) -> Result<Said, BusFault>
     Ok(Said { bytes, receivers })
 }
 
-/// Puts a message with its number behind what waits for each of its receivers, where each has room for it, and makes room among the messages
-/// that nobody has asked for. Where one has none, and after a fault, all is as before.
+/// Puts a message with its number behind what waits for each of its receivers, where each has room for it, and makes
+/// room among the messages that nobody has asked for. Where one has none, and after a fault, all is as before.
 fn hand_each(inner: &mut Inner, message: &Message) -> Result<Option<Said>, BusFault>
     requires ready { IsReady (state_of inner.old) }
     requires meets { MeetsRules (envelope_of message.now) }
     ensures ok { IfOk result (λ said. MatchOption said (inner_of inner.new ≡ inner_of inner.old)
-        (λ said. IsHanded (inner_of inner.old) (inner_of inner.new) (envelope_of message.now) said.bytes said.receivers.items)) }
+        (λ said. IsHanded (inner_of inner.old) (inner_of inner.new) (envelope_of message.now) said.bytes
+        said.receivers.items)) }
     ensures room { IfOk result (λ _. deque_len inner.new.own < deque_capacity inner.new.own) }
     ensures due { (inner_of inner.new).waiting.due ≡ (inner_of inner.old).waiting.due }
     ensures spent { IsErrOf result BusFault.Spent → ⊥ }
@@ -66,13 +68,14 @@ fn hand_each(inner: &mut Inner, message: &Message) -> Result<Option<Said>, BusFa
     Ok(Some(said))
 }
 
-/// Says a message with the next number, where each of its receivers has room for it, and answers what went to whom. Where one has none, where
-/// no number is left, and after a fault, all is as before.
+/// Says a message with the next number, where each of its receivers has room for it, and answers what went to whom.
+/// Where one has none, where no number is left, and after a fault, all is as before.
 pub fn say_in_place(inner: &mut Inner, message: Message) -> Result<Option<Said>, BusFault>
     requires ready { IsReady (state_of inner.old) }
     requires sayable { MaySay (envelope_of message) }
     ensures ok { IfOk result (λ said. MatchOption said (inner_of inner.new ≡ inner_of inner.old)
-        (λ said. IsSaid (inner_of inner.old) (inner_of inner.new) (envelope_of message) said.bytes said.receivers.items)) }
+        (λ said. IsSaid (inner_of inner.old) (inner_of inner.new) (envelope_of message) said.bytes
+        said.receivers.items)) }
     ensures ready { IsReady (state_of inner.new) }
     ensures due { (inner_of inner.new).waiting.due ≡ (inner_of inner.old).waiting.due }
     ensures spent { IsErrOf result BusFault.Spent → ⊥ }
@@ -108,7 +111,8 @@ fn take_back_each(queues: &mut Queues, conns: &[u32], bytes: &[u8])
 
 /// Takes back the message that was said last.
 pub fn unsay(inner: &mut Inner, said: &Said)
-    requires { (first : Bus) × (e : Envelope) × IsSaid first (inner_of inner.old) e said.now.bytes said.now.receivers.items }
+    requires { (first : Bus) × (e : Envelope)
+        × IsSaid first (inner_of inner.old) e said.now.bytes said.now.receivers.items }
     ensures { (first : Bus) (e : Envelope) → IsSaid first (inner_of inner.old) e said.now.bytes said.now.receivers.items
         → inner_of inner.new ≡ first }
 {
@@ -118,13 +122,14 @@ pub fn unsay(inner: &mut Inner, said: &Said)
     inner.next -= 1;
 }
 
-/// Says messages in place, one behind the other: all of them, or none. Where one has no room at a receiver, where the numbers do not suffice, and
-/// after a fault, all is as before.
+/// Says messages in place, one behind the other: all of them, or none. Where one has no room at a receiver, where the
+/// numbers do not suffice, and after a fault, all is as before.
 pub fn say_each(inner: &mut Inner, told: &mut VecDeque<Message>) -> Result<bool, BusFault>
     requires ready { IsReady (state_of inner.old) }
     requires sayable { All MaySay (map envelope_of told.old.items) }
     ensures ok { IfOk result (λ went. MatchBool went
-        (inner_of inner.new ≡ stepped (inner_of inner.old) (speaks (state_of inner.old) (map envelope_of told.old.items)))
+        (inner_of inner.new
+        ≡ stepped (inner_of inner.old) (speaks (state_of inner.old) (map envelope_of told.old.items)))
         (inner_of inner.new ≡ inner_of inner.old)) }
     ensures ready { IsReady (state_of inner.new) }
     ensures due { (inner_of inner.new).waiting.due ≡ (inner_of inner.old).waiting.due }

@@ -1,4 +1,5 @@
-//! A connection leaves in place, which costs no copy of the bus: what is told of it is said first, to those who stay, and then it goes, which cannot fail.
+//! A connection leaves in place, which costs no copy of the bus: what is told of it is said first, to those who stay,
+//! and then it goes, which cannot fail.
 
 ghost use Rattle.std.specs.Prelude.{◌≡◌, ◌++◌, not, ◌==◌, filter, map, Some, IfOk, OnOk, OnErr, IsErrOf, MatchBool};
 ghost use Rattle.atspi_message.specs.Envelope.{envelope_of};
@@ -48,7 +49,8 @@ fn tell_heir(
     told: &mut Vec<Message>,
 ) -> Result<(), NoMemory>
     ensures { OnOk result
-        (map envelope_of told.new.items ≡ map envelope_of told.old.items ++ name_passes_on (after_gone names.now conn) unique.now name.now) }
+        (map envelope_of told.new.items
+        ≡ map envelope_of told.old.items ++ name_passes_on (after_gone names.now conn) unique.now name.now) }
 {
     let next = next_owner(names.queue(name), conn);
     tell_acquired(alloc, names, name, next, told)?;
@@ -67,7 +69,8 @@ fn tell_heirs(
     told: &mut Vec<Message>,
 ) -> Result<(), NoMemory>
     ensures { OnOk result
-        (map envelope_of told.new.items ≡ map envelope_of told.old.items ++ names_pass_on (after_gone names.now conn) unique.now owned.now) }
+        (map envelope_of told.new.items
+        ≡ map envelope_of told.old.items ++ names_pass_on (after_gone names.now conn) unique.now owned.now) }
 {
     for name in owned {
         tell_heir(alloc, names, conn, unique, name, told)?;
@@ -77,7 +80,9 @@ fn tell_heirs(
 
 /// What is told where a connection leaves: nothing of one without a unique name.
 fn farewell(inner: &Inner, conn: u32) -> Result<Vec<Message>, NoMemory>
-    ensures { IfOk result (λ told. map envelope_of told.items ≡ steps.farewell (state_of inner.now) (after_gone (state_of inner.now).owners conn) conn
+    ensures { IfOk result
+        (λ told. map envelope_of told.items
+        ≡ steps.farewell (state_of inner.now) (after_gone (state_of inner.now).owners conn) conn
         (states.unique_of (state_of inner.now).owners conn)) }
 {
     let alloc = inner.alloc;
@@ -93,8 +98,8 @@ fn farewell(inner: &Inner, conn: u32) -> Result<Vec<Message>, NoMemory>
     Ok(told)
 }
 
-/// A connection leaves in place, while nobody is to be closed and each receiver of what is told has room for it. It answers whether that is so. Where it is
-/// not, and after a fault, all is as before.
+/// A connection leaves in place, while nobody is to be closed and each receiver of what is told has room for it. It
+/// answers whether that is so. Where it is not, and after a fault, all is as before.
 pub fn leave_in_place(inner: &mut Inner, conn: u32) -> Result<bool, BusFault>
     requires exclusive { IsExclusive (state_of inner.old).owners }
     requires sound { IsSound (state_of inner.old) }

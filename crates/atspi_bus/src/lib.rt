@@ -1,4 +1,5 @@
-//! The bus: who has joined, who owns which name, the match rules, the open calls, what waits for each connection, and the closings.
+//! The bus: who has joined, who owns which name, the match rules, the open calls, what waits for each connection, and
+//! the closings.
 #![tactic(auto)]
 
 mod answering;

@@ -1,11 +1,11 @@
-//! Calls that change names. A Hello is taken back where it cannot be told; ReleaseName, and RequestName of a name that somebody has, are done on a copy
-//! of the names alone, which takes their place once all is said.
+//! Calls that change names. A Hello is taken back where it cannot be told; ReleaseName, and RequestName of a name that
+//! somebody has, are done on a copy of the names alone, which takes their place once all is said.
 
 ghost use Rattle.std.specs.Prelude.{◌≡◌, true, map, All, List, None, Ok, Option, IfOk, OnErr, IsErrOf, MatchBool};
 ghost use Rattle.std.specs.FinMap as finmap;
 ghost use Rattle.atspi_message.specs.Envelope.{envelope_of};
 ghost use Rattle.atspi_message.specs.Rules.{MeetsRules};
-ghost use Rattle.atspi_header.specs.View.{envelope_at};
+ghost use Rattle.atspi_message_in_place.specs.View.{envelope_at};
 ghost use Rattle.atspi_match.specs.declared.condition.Condition.{Condition};
 ghost use Rattle.atspi_match.specs.routing.Members as members;
 ghost use Rattle.atspi_match.specs.routing.Queues.{stepped, takes};
@@ -16,26 +16,28 @@ ghost use Rattle.atspi_bus_steps.specs.Inner.{inner_of, state_of};
 ghost use Rattle.atspi_bus_steps.specs.Sayable.{MaySay};
 ghost use Rattle.atspi_bus_steps.specs.Sound.{IsReady, IsSound};
 ghost use Rattle.atspi_bus_steps.specs.Spoken.{answered_by};
-ghost use Rattle.atspi_bus.specs.Changed.{changes_names};
+ghost use Rattle.atspi_bus.specs.inner.Changed.{changes_names};
 
 use crate::in_place::say_each;
 use atspi_base::valid_names::BusName;
 use atspi_bus_answers::answer;
 use atspi_bus_steps::{BusFault, Inner, expects_reply, greeting};
-use atspi_header::MessageRef;
 use atspi_match::routing::BusMember;
 use atspi_message::Message;
+use atspi_message_in_place::MessageRef;
 use atspi_names::{Names, NamesFault};
 use std::collections::VecDeque;
 use std::mem;
 
-/// Puts other names into the place of those of a bus, and says what is told then, all or nothing. Where it cannot be said in place, and after a
-/// fault, all is as before.
+/// Puts other names into the place of those of a bus, and says what is told then, all or nothing. Where it cannot be
+/// said in place, and after a fault, all is as before.
 fn rename(inner: &mut Inner, names: Names, told: Vec<Message>) -> Result<bool, BusFault>
     requires ready { IsReady (state_of inner.old) }
     requires sayable { All MaySay (map envelope_of told.items) }
     ensures ok { IfOk result (λ went. MatchBool went
-        (inner_of inner.new ≡ stepped (inner_of inner.old) (steps.speaks (record (state_of inner.old) { owners = names }) (map envelope_of told.items)))
+        (inner_of inner.new
+        ≡ stepped (inner_of inner.old)
+        (steps.speaks (record (state_of inner.old) { owners = names }) (map envelope_of told.items)))
         (inner_of inner.new ≡ inner_of inner.old)) }
     ensures ready { IsReady (state_of inner.new) }
     ensures due { (inner_of inner.new).waiting.due ≡ (inner_of inner.old).waiting.due }
@@ -70,7 +72,8 @@ pub fn rename_in_place(
     requires asked { members.member_of (envelope_at m.now) ≡ Ok member }
     ensures ok { IfOk result (λ went. MatchBool went
         ((rule : Option (List Condition)) × IsSpokenOf member (envelope_at m.now).body rule
-        × (inner_of inner.new ≡ stepped (inner_of inner.old) (answered_by member (state_of inner.old) conn (envelope_at m.now) rule)))
+        × (inner_of inner.new
+        ≡ stepped (inner_of inner.old) (answered_by member (state_of inner.old) conn (envelope_at m.now) rule)))
         (inner_of inner.new ≡ inner_of inner.old)) }
     ensures sound { IsSound (state_of inner.new) }
     ensures due { (inner_of inner.new).waiting.due ≡ (inner_of inner.old).waiting.due }
@@ -88,12 +91,14 @@ pub fn rename_in_place(
     rename(inner, names, told)
 }
 
-/// Says what is told where a connection gets this unique name, all or nothing. Where it cannot be said in place, and after a fault, all is as before.
+/// Says what is told where a connection gets this unique name, all or nothing. Where it cannot be said in place, and
+/// after a fault, all is as before.
 fn tell_name(inner: &mut Inner, name: &BusName, m: &MessageRef) -> Result<bool, BusFault>
     requires ready { IsReady (state_of inner.old) }
     requires meets { MeetsRules (envelope_at m.now) }
     ensures ok { IfOk result (λ went. MatchBool went
-        (inner_of inner.new ≡ stepped (inner_of inner.old) (steps.speaks (state_of inner.old) (greeting name.now (envelope_at m.now))))
+        (inner_of inner.new
+        ≡ stepped (inner_of inner.old) (steps.speaks (state_of inner.old) (greeting name.now (envelope_at m.now))))
         (inner_of inner.new ≡ inner_of inner.old)) }
     ensures ready { IsReady (state_of inner.new) }
     ensures due { (inner_of inner.new).waiting.due ≡ (inner_of inner.old).waiting.due }

@@ -2,7 +2,7 @@
 
 ghost use Rattle.std.specs.Prelude.{◌≡◌, ◌<◌, List, Option, IfOk, IsErrOf, MatchBool, OnOk, OnErr};
 ghost use Rattle.atspi_message.specs.Rules.{MeetsRules};
-ghost use Rattle.atspi_header.specs.View.{envelope_at};
+ghost use Rattle.atspi_message_in_place.specs.View.{envelope_at};
 ghost use Rattle.atspi_match.specs.declared.condition.Condition.{Condition};
 ghost use Rattle.atspi_match.specs.routing.Queues.{takes, leaves};
 ghost use Rattle.atspi_bus_steps.specs.Inner.{inner_of, state_of};
@@ -14,20 +14,24 @@ ghost use Rattle.atspi_bus.specs.Exclusive.{IsExclusive};
 use crate::answering::answer_in_place;
 use crate::leaving::leave_in_place;
 use atspi_bus_steps::{BusFault, Inner};
-use atspi_header::MessageRef;
+use atspi_message_in_place::MessageRef;
 use std::mem;
 
 /// A bus takes a message on a copy of itself, which takes its place at the end.
 fn take_on_copy(inner: &mut Inner, conn: u32, m: &MessageRef) -> Result<(), BusFault>
     requires sound { IsSound (state_of inner.old) }
     requires meets { MeetsRules (envelope_at m.now) }
-    ensures ok { OnOk result ((rule : Option (List Condition)) × IsRuleTaken (state_of inner.old) conn (envelope_at m.now) rule
+    ensures ok { OnOk result
+        ((rule : Option (List Condition)) × IsRuleTaken (state_of inner.old) conn (envelope_at m.now) rule
         × (inner_of inner.new ≡ takes (inner_of inner.old) conn (envelope_at m.now) rule)) }
     ensures sound { IsSound (state_of inner.new) }
-    ensures spent { IsErrOf result BusFault.Spent → (rule : Option (List Condition)) × IsRuleTaken (state_of inner.old) conn (envelope_at m.now) rule
+    ensures spent { IsErrOf result BusFault.Spent
+        → (rule : Option (List Condition)) × IsRuleTaken (state_of inner.old) conn (envelope_at m.now) rule
         × (4294967296 < (takes (inner_of inner.old) conn (envelope_at m.now) rule).state.next) }
-    ensures big { IsErrOf result BusFault.Big → (rule : Option (List Condition)) × IsRuleTaken (state_of inner.old) conn (envelope_at m.now) rule
-        × IsTooBig (inner_of inner.old) conn (envelope_at m.now) (takes (inner_of inner.old) conn (envelope_at m.now) rule) }
+    ensures big { IsErrOf result BusFault.Big
+        → (rule : Option (List Condition)) × IsRuleTaken (state_of inner.old) conn (envelope_at m.now) rule
+        × IsTooBig (inner_of inner.old) conn (envelope_at m.now)
+        (takes (inner_of inner.old) conn (envelope_at m.now) rule) }
     ensures err { OnErr result (inner_of inner.new ≡ inner_of inner.old) }
 {
     let mut after = inner.copy()?;
@@ -40,8 +44,8 @@ fn take_on_copy(inner: &mut Inner, conn: u32, m: &MessageRef) -> Result<(), BusF
     }
 }
 
-/// A bus takes a message in place, one that is passed on or one that it answers itself, where that can be done, and answers whether it was. Where it
-/// was not, and after a fault, all is as before.
+/// A bus takes a message in place, one that is passed on or one that it answers itself, where that can be done, and
+/// answers whether it was. Where it was not, and after a fault, all is as before.
 fn take_in_place(inner: &mut Inner, conn: u32, m: &MessageRef) -> Result<bool, BusFault>
     requires sound { IsSound (state_of inner.old) }
     requires meets { MeetsRules (envelope_at m.now) }
@@ -60,17 +64,22 @@ fn take_in_place(inner: &mut Inner, conn: u32, m: &MessageRef) -> Result<bool, B
     }
 }
 
-/// A bus takes a message: in place where it can, and on a copy of itself where it cannot, also where a message is then found to pass the limits of the wire.
+/// A bus takes a message: in place where it can, and on a copy of itself where it cannot, also where a message is then
+/// found to pass the limits of the wire.
 pub fn take_whole(inner: &mut Inner, conn: u32, m: &MessageRef) -> Result<(), BusFault>
     requires sound { IsSound (state_of inner.old) }
     requires meets { MeetsRules (envelope_at m.now) }
-    ensures ok { OnOk result ((rule : Option (List Condition)) × IsRuleTaken (state_of inner.old) conn (envelope_at m.now) rule
+    ensures ok { OnOk result
+        ((rule : Option (List Condition)) × IsRuleTaken (state_of inner.old) conn (envelope_at m.now) rule
         × (inner_of inner.new ≡ takes (inner_of inner.old) conn (envelope_at m.now) rule)) }
     ensures sound { IsSound (state_of inner.new) }
-    ensures spent { IsErrOf result BusFault.Spent → (rule : Option (List Condition)) × IsRuleTaken (state_of inner.old) conn (envelope_at m.now) rule
+    ensures spent { IsErrOf result BusFault.Spent
+        → (rule : Option (List Condition)) × IsRuleTaken (state_of inner.old) conn (envelope_at m.now) rule
         × (4294967296 < (takes (inner_of inner.old) conn (envelope_at m.now) rule).state.next) }
-    ensures big { IsErrOf result BusFault.Big → (rule : Option (List Condition)) × IsRuleTaken (state_of inner.old) conn (envelope_at m.now) rule
-        × IsTooBig (inner_of inner.old) conn (envelope_at m.now) (takes (inner_of inner.old) conn (envelope_at m.now) rule) }
+    ensures big { IsErrOf result BusFault.Big
+        → (rule : Option (List Condition)) × IsRuleTaken (state_of inner.old) conn (envelope_at m.now) rule
+        × IsTooBig (inner_of inner.old) conn (envelope_at m.now)
+        (takes (inner_of inner.old) conn (envelope_at m.now) rule) }
     ensures err { OnErr result (inner_of inner.new ≡ inner_of inner.old) }
 {
     match take_in_place(inner, conn, m) {

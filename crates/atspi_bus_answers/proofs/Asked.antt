@@ -9,11 +9,11 @@ use Rattle.atspi_types.specs.Signatures.{signature_bytes}
 use Rattle.std.specs.Prelude.{IsTrue}
 use Rattle.atspi_types.specs.Data.{items_of, types_of}
 use Rattle.atspi_marshal.specs.Reading.{input_of}
-use Rattle.atspi_cursor.specs.Known.{is_read}
-use Rattle.atspi_cursor.specs.Passing.{read_all}
-use Rattle.atspi_cursor.specs.Items.{fields_data, fields_kinds}
-use Rattle.atspi_cursor.specs.declared.cursor.Fields.{Fields}
-use Rattle.atspi_header.proofs.ReadTypes.{fields_types}
+use Rattle.atspi_marshal_in_place.specs.Known.{is_read}
+use Rattle.atspi_marshal_in_place.specs.Passing.{read_all}
+use Rattle.atspi_marshal_in_place.specs.Items.{fields_data, fields_kinds}
+use Rattle.atspi_marshal_in_place.specs.declared.cursor.Fields.{Fields}
+use Rattle.atspi_message_in_place.proofs.ReadTypes.{fields_types}
 use Rattle.atspi_message.specs.Envelope.{Envelope}
 use Rattle.atspi_match.specs.declared.routing.member.BusMember.{BusMember}
 use Rattle.atspi_match.specs.routing.Members.{MemberLine, member_lines, is_of, is_text, signature_of, first_line, with_arguments, member_of}

@@ -22,7 +22,7 @@ use Rattle.atspi_match.specs.routing.Answers as answers
 use Rattle.atspi_match.specs.routing.Answers.{Answer, first_text, second_number, may_be_asked_for, requests, releases, only, fails, adds_rule, removes_rule}
 use Rattle.atspi_bus_answers.specs.declared.answering.Reply.{Reply}
 use Rattle.atspi_bus_answers.specs.Answered.{with_parts, IsAnswer, AreNamed, Spells, IsSpokenOf}
-use Rattle.atspi_bus_answers.specs.Members.{requested_answer, released_answer}
+use Rattle.atspi_bus_answers.specs.inner.Members.{requested_answer, released_answer}
 
 abbrev Rules : Type 0
 Rules = List (ℕ × List Condition)

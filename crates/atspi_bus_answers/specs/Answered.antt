@@ -9,7 +9,8 @@ use Rattle.atspi_names.specs.Owners.{Owners, Lists, list_of}
 use Rattle.atspi_match.specs.Grammar.{IsRuleText}
 use Rattle.atspi_match.specs.declared.condition.Condition.{Condition}
 use Rattle.atspi_match.specs.declared.routing.member.BusMember.{BusMember}
-use Rattle.atspi_match.specs.declared.routing.member.BusMember.TheVariants.{RequestName, ReleaseName, AddMatch, RemoveMatch}
+use Rattle.atspi_match.specs.declared.routing.member.BusMember.TheVariants.{RequestName, ReleaseName, AddMatch}
+use Rattle.atspi_match.specs.declared.routing.member.BusMember.TheVariants.{RemoveMatch}
 use Rattle.atspi_match.specs.routing.BusState.{BusState, begins}
 use Rattle.atspi_match.specs.routing.Answers as answers
 use Rattle.atspi_match.specs.routing.Answers.{Answer, returns, fails, first_text}
@@ -27,7 +28,8 @@ abbrev pub with_parts : Owners → List (ℕ × List Condition) → BusState
 with_parts owners rules = record begins { owners = owners; rules = rules }
 
 -- owners, rules, what was told and the reply are those of the answer
-pub record IsAnswer (a : Answer) (owned : Owners) (kept : List (ℕ × List Condition)) (old new : List Message) (given : Reply) : Type 0 where
+pub record IsAnswer (a : Answer) (owned : Owners) (kept : List (ℕ × List Condition)) (old new : List Message)
+    (given : Reply) : Type 0 where
   pub owners : owned ≡ a.owners
   pub rules : kept ≡ a.rules
   pub told : map envelope_of new ≡ map envelope_of old ++ a.told

@@ -1,7 +1,10 @@
 -- The errors that a bus answers (D-Bus Specification, "Message Bus Messages").
 use Rattle.std.specs.Prelude.{ℕ, List, codes}
 use Rattle.atspi_bus_answers.specs.declared.error.BusError.{BusError}
-use Rattle.atspi_bus_answers.specs.declared.error.BusError.TheVariants.{Failed, InvalidArgs, LimitsExceeded, MatchRuleInvalid, MatchRuleNotFound, NameHasNoOwner, NoReply, ServiceUnknown, UnknownInterface, UnknownMethod}
+use Rattle.atspi_bus_answers.specs.declared.error.BusError.TheVariants.{Failed, InvalidArgs, LimitsExceeded}
+use Rattle.atspi_bus_answers.specs.declared.error.BusError.TheVariants.{MatchRuleInvalid, MatchRuleNotFound}
+use Rattle.atspi_bus_answers.specs.declared.error.BusError.TheVariants.{NameHasNoOwner, NoReply, ServiceUnknown}
+use Rattle.atspi_bus_answers.specs.declared.error.BusError.TheVariants.{UnknownInterface, UnknownMethod}
 
 -- the last element of an error's name
 abbrev pub error_text : BusError → List ℕ

@@ -1,5 +1,5 @@
+pub mod inner
 pub mod Errors
 pub mod Lines
 pub mod Answered
-pub mod Members
 pub mod Free

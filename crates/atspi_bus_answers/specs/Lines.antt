@@ -1,7 +1,11 @@
 -- The table of members, looked up line by line.
-use Rattle.std.specs.Prelude.{ℕ, Bool, ◌&&◌, List, [], ◌∷◌, Option, None, Some, codes, bytes_eq, if◌then◌else◌, Result, Ok, Err}
+use Rattle.std.specs.Prelude.{ℕ, Bool, ◌&&◌, List, [], ◌∷◌, Option, None, Some, codes, bytes_eq, if◌then◌else◌, Result}
+use Rattle.std.specs.Prelude.{Ok, Err}
 use Rattle.atspi_match.specs.declared.routing.member.BusMember.{BusMember}
-use Rattle.atspi_match.specs.declared.routing.member.BusMember.TheVariants.{Hello, RequestName, ReleaseName, NameHasOwner, GetNameOwner, ListNames, ListQueuedOwners, AddMatch, RemoveMatch, GetId, Ping}
+use Rattle.atspi_match.specs.declared.routing.member.BusMember.TheVariants.{Hello, RequestName, ReleaseName}
+use Rattle.atspi_match.specs.declared.routing.member.BusMember.TheVariants.{NameHasOwner, GetNameOwner, ListNames}
+use Rattle.atspi_match.specs.declared.routing.member.BusMember.TheVariants.{ListQueuedOwners, AddMatch, RemoveMatch}
+use Rattle.atspi_match.specs.declared.routing.member.BusMember.TheVariants.{GetId, Ping}
 use Rattle.atspi_match.specs.routing.Members.{MemberLine, is_text}
 use Rattle.atspi_bus_answers.specs.declared.error.BusError.{BusError}
 use Rattle.atspi_bus_answers.specs.Errors.{error_text}
@@ -14,7 +18,8 @@ is_named (Some interface) member of name = bytes_eq interface of && is_text memb
 -- the member of the first such line
 abbrev pub member_in : Option (List ℕ) → Option (List ℕ) → List MemberLine → Option BusMember
 member_in interface member [] = None
-member_in interface member (l ∷ ls) = if is_named interface member l.interface l.name then Some l.member else member_in interface member ls
+member_in interface member (l ∷ ls) = if is_named interface member l.interface l.name then Some l.member
+    else member_in interface member ls
 
 -- the signature of a member's arguments
 abbrev pub takes_of : BusMember → List ℕ

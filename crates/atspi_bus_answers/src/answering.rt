@@ -2,8 +2,8 @@
 
 ghost use Rattle.std.specs.Prelude.{◌≡◌, ℕ, List, [], ◌∷◌, true, Option, None, Ok, IfOk, OnErr};
 ghost use Rattle.atspi_types.specs.Data.{text_data};
-ghost use Rattle.atspi_cursor.specs.Items.{fields_data};
-ghost use Rattle.atspi_header.specs.View.{envelope_at};
+ghost use Rattle.atspi_marshal_in_place.specs.Items.{fields_data};
+ghost use Rattle.atspi_message_in_place.specs.View.{envelope_at};
 ghost use Rattle.atspi_match.specs.declared.condition.Condition.{Condition};
 ghost use Rattle.atspi_match.specs.routing.Answers as answers;
 ghost use Rattle.atspi_match.specs.routing.Members as members;
@@ -17,11 +17,11 @@ use crate::requesting::{release_name, request_name};
 use crate::rules::{add_match, remove_match};
 use crate::values::one;
 use atspi_base::{NoMemory, Text};
-use atspi_cursor::Fields;
-use atspi_header::MessageRef;
+use atspi_marshal_in_place::Fields;
 use atspi_match::RuleIndex;
 use atspi_match::routing::BusMember;
 use atspi_message::Message;
+use atspi_message_in_place::MessageRef;
 use atspi_names::Names;
 use atspi_types::{Value, Values};
 use std::alloc::Global;
@@ -65,9 +65,9 @@ fn tell(alloc: Global, member: BusMember, names: &Names, args: Fields) -> Result
     }
 }
 
-/// The answer to a connection's call of a member: what it does to names and rules, what is told before the reply, which goes
-/// behind what was told already, and the reply (D-Bus Specification, "Message Bus Messages"). After want of memory names,
-/// rules and what was told are as before.
+/// The answer to a connection's call of a member: what it does to names and rules, what is told before the reply, which
+/// goes behind what was told already, and the reply (D-Bus Specification, "Message Bus Messages"). After want of memory
+/// names, rules and what was told are as before.
 pub fn answer(
     alloc: Global,
     member: BusMember,
@@ -81,7 +81,8 @@ pub fn answer(
     requires named { AreNamed names.old.lists }
     ensures ok { IfOk result (λ reply. (rule : Option (List Condition))
         × IsSpokenOf member (fields_data m.now.body) rule
-        × IsAnswer (answers.answers member (with_parts names.old rules.old) conn (fields_data m.now.body) rule) names.new rules.new told.old.items told.new.items reply) }
+        × IsAnswer (answers.answers member (with_parts names.old rules.old) conn (fields_data m.now.body) rule)
+        names.new rules.new told.old.items told.new.items reply) }
     ensures err { OnErr result ((names.new ≡ names.old) × (rules.new ≡ rules.old)) }
     ensures untold { OnErr result (told.new.items ≡ told.old.items) }
     ensures named { AreNamed names.new.lists }

@@ -2,10 +2,10 @@
 
 ghost use Rattle.std.specs.Prelude.{◌≡◌, [], ◌∷◌, chars};
 ghost use Rattle.atspi_types.specs.Kinds.{text, number, u32 as word};
-ghost use Rattle.atspi_cursor.specs.Items.{fields_data, fields_kinds};
+ghost use Rattle.atspi_marshal_in_place.specs.Items.{fields_data, fields_kinds};
 ghost use Rattle.atspi_match.specs.routing.Answers as answers;
 
-use atspi_cursor::Fields;
+use atspi_marshal_in_place::Fields;
 
 /// The first argument where it is a text, and an empty one else.
 pub fn first_text<'a>(args: Fields<'a>) -> &'a str

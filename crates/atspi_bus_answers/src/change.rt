@@ -50,7 +50,8 @@ fn tell_acquired(
     told: &mut Vec<Message>,
 ) -> Result<(), NoMemory>
     ensures { OnOk result
-        (map envelope_of told.new.items ≡ map envelope_of told.old.items ++ own.name_acquired names.now name.now owner) }
+        (map envelope_of told.new.items
+        ≡ map envelope_of told.old.items ++ own.name_acquired names.now name.now owner) }
 {
     if let Some(conn) = owner {
         told.push(name_acquired(alloc, names.unique_name(conn), name)?)?;
@@ -58,15 +59,16 @@ fn tell_acquired(
     Ok(())
 }
 
-/// What is told where a name changes hands: who lost it, who has it now, and all that ask for it. Nothing is told where it is
-/// still the same one's.
+/// What is told where a name changes hands: who lost it, who has it now, and all that ask for it. Nothing is told where
+/// it is still the same one's.
 fn news_of(
     alloc: Global,
     names: &Names,
     name: &BusName,
     change: OwnerChange,
 ) -> Result<Vec<Message>, NoMemory>
-    ensures { IfOk result (λ news. map envelope_of news.items ≡ own.told_of_change names.now name.now change.before change.after) }
+    ensures { IfOk result
+        (λ news. map envelope_of news.items ≡ own.told_of_change names.now name.now change.before change.after) }
 {
     let mut news = Vec::new(alloc);
     if change.before == change.after {

@@ -53,7 +53,8 @@ fn owners(alloc: Global, names: &Names, queue: &[(u32, u32)]) -> Result<Values, 
 /// Those who own the name that the text is or wait for it, as texts, the owner first.
 fn queued(alloc: Global, names: &Names, text: &str) -> Result<Values, NoMemory>
     requires { AreNamed names.now.lists }
-    ensures { IfOk result (λ values. all_data values ≡ map text_data (answers.queued_names names.now (chars text.now))) }
+    ensures { IfOk result
+        (λ values. all_data values ≡ map text_data (answers.queued_names names.now (chars text.now))) }
 {
     if is_own(text) {
         return one(alloc, Value::Text(Text::of(alloc, "org.freedesktop.DBus")?));
@@ -68,7 +69,8 @@ fn queued(alloc: Global, names: &Names, text: &str) -> Result<Values, NoMemory>
 /// ListQueuedOwners.
 pub fn list_queued_owners(alloc: Global, names: &Names, text: &str) -> Result<Reply, NoMemory>
     requires { AreNamed names.now.lists }
-    ensures { IfOk result (λ reply. reply_of reply ≡ answers.queued_reply (answers.queued_names names.now (chars text.now))) }
+    ensures { IfOk result
+        (λ reply. reply_of reply ≡ answers.queued_reply (answers.queued_names names.now (chars text.now))) }
 {
     let values = queued(alloc, names, text)?;
     if values.len() == 0 {

@@ -2,13 +2,13 @@
 
 ghost use Rattle.std.specs.Prelude.{◌≡◌, bytes_eq};
 ghost use Rattle.std.specs.List.{list_any};
-ghost use Rattle.atspi_header.specs.View.{bytes_of, envelope_at};
+ghost use Rattle.atspi_message_in_place.specs.View.{bytes_of, envelope_at};
 ghost use Rattle.atspi_match.specs.routing.Members as members;
 ghost use Rattle.atspi_bus_answers.specs.Lines as lines;
 
 use crate::BusError;
-use atspi_header::MessageRef;
 use atspi_match::routing::BusMember;
+use atspi_message_in_place::MessageRef;
 
 /// The interface of the bus.
 const BUS: &str = "org.freedesktop.DBus";
@@ -93,8 +93,8 @@ fn takes(member: BusMember) -> &'static [u8]
     }
 }
 
-/// The member of the bus that a call asks for, at any path (D-Bus Specification, "Message Bus Messages"), or the error that it
-/// gets: looked for first by interface, then by member, then by arguments.
+/// The member of the bus that a call asks for, at any path (D-Bus Specification, "Message Bus Messages"), or the error
+/// that it gets: looked for first by interface, then by member, then by arguments.
 pub fn member_of(m: &MessageRef) -> Result<BusMember, BusError>
     ensures { members.member_of (envelope_at m.now) ≡ lines.as_named result }
 {

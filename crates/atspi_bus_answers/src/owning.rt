@@ -20,7 +20,8 @@ use std::alloc::Global;
 /// Who owns the name that the text is, as a text: the bus its own, and else a connection by its unique name.
 fn owner_of(alloc: Global, names: &Names, text: &str) -> Result<Option<Value>, NoMemory>
     requires { AreNamed names.now.lists }
-    ensures { IfOk result (λ owner. option_map data_of owner ≡ option_map text_data (answers.owner_name names.now (chars text.now))) }
+    ensures { IfOk result
+        (λ owner. option_map data_of owner ≡ option_map text_data (answers.owner_name names.now (chars text.now))) }
 {
     if is_own(text) {
         return Ok(Some(Value::Text(Text::of(alloc, "org.freedesktop.DBus")?)));
@@ -58,7 +59,8 @@ pub fn name_has_owner(alloc: Global, names: &Names, text: &str) -> Result<Reply,
 /// GetNameOwner.
 pub fn get_name_owner(alloc: Global, names: &Names, text: &str) -> Result<Reply, NoMemory>
     requires { AreNamed names.now.lists }
-    ensures { IfOk result (λ reply. reply_of reply ≡ answers.owner_reply (answers.owner_name names.now (chars text.now))) }
+    ensures { IfOk result
+        (λ reply. reply_of reply ≡ answers.owner_reply (answers.owner_name names.now (chars text.now))) }
 {
     match owner_of(alloc, names, text)? {
         Some(owner) => Ok(Reply::Returns(one(alloc, owner)?)),

@@ -1,11 +1,11 @@
 //! RequestName and ReleaseName.
 
 ghost use Rattle.std.specs.Prelude.{◌≡◌, ℕ, List, IfOk, IfSome, OnErr, chars};
-ghost use Rattle.atspi_cursor.specs.Items.{fields_data};
+ghost use Rattle.atspi_marshal_in_place.specs.Items.{fields_data};
 ghost use Rattle.atspi_match.specs.declared.condition.Condition.{Condition};
 ghost use Rattle.atspi_bus_answers.specs.Answered.{with_parts, IsAnswer};
 ghost use Rattle.atspi_bus_answers.specs.Free.{IsFreeName};
-ghost use Rattle.atspi_bus_answers.specs.Members.{IsAskedName, requested_answer, released_answer};
+ghost use Rattle.atspi_bus_answers.specs.inner.Members.{IsAskedName, requested_answer, released_answer};
 
 use crate::BusError;
 use crate::answering::Reply;
@@ -15,8 +15,8 @@ use crate::literal::is_own;
 use crate::values::one;
 use atspi_base::NoMemory;
 use atspi_base::valid_names::{BusName, NameFault};
-use atspi_header::MessageRef;
 use atspi_message::Message;
+use atspi_message_in_place::MessageRef;
 use atspi_names::Names;
 use atspi_types::Value;
 use std::alloc::Global;
@@ -53,8 +53,8 @@ pub fn free_name(alloc: Global, names: &Names, m: &MessageRef) -> Result<Option<
     Ok(None)
 }
 
-/// RequestName: what it changes is told before the name is asked for, and taken back where that fails, so that after want of
-/// memory the names and what was told are as before.
+/// RequestName: what it changes is told before the name is asked for, and taken back where that fails, so that after
+/// want of memory the names and what was told are as before.
 pub fn request_name(
     alloc: Global,
     names: &mut Names,
@@ -64,7 +64,8 @@ pub fn request_name(
     told: &mut Vec<Message>,
 ) -> Result<Reply, NoMemory>
     ensures ok { IfOk result (λ reply. (rules : List (ℕ × List Condition)) →
-        IsAnswer (requested_answer (with_parts names.old rules) conn (chars text.now) flags) names.new rules told.old.items told.new.items reply) }
+        IsAnswer (requested_answer (with_parts names.old rules) conn (chars text.now) flags) names.new rules
+        told.old.items told.new.items reply) }
     ensures err { OnErr result (names.new ≡ names.old) }
     ensures untold { OnErr result (told.new.items ≡ told.old.items) }
 {
@@ -91,7 +92,8 @@ pub fn release_name(
     told: &mut Vec<Message>,
 ) -> Result<Reply, NoMemory>
     ensures ok { IfOk result (λ reply. (rules : List (ℕ × List Condition)) →
-        IsAnswer (released_answer (with_parts names.old rules) conn (chars text.now)) names.new rules told.old.items told.new.items reply) }
+        IsAnswer (released_answer (with_parts names.old rules) conn (chars text.now)) names.new rules told.old.items
+        told.new.items reply) }
     ensures err { OnErr result (names.new ≡ names.old) }
     ensures untold { OnErr result (told.new.items ≡ told.old.items) }
 {

@@ -174,7 +174,8 @@ pub fn owner_changed(
     after: Option<&BusName>,
 ) -> Result<Message, NoMemory>
     ensures { IfOk result (λ m. envelope_of m ≡
-        own.owner_changed name.now (text_or_empty (option_copied before.entry)) (text_or_empty (option_copied after.entry))) }
+        own.owner_changed name.now (text_or_empty (option_copied before.entry))
+        (text_or_empty (option_copied after.entry))) }
 {
     let mut body = one(alloc, name_value(alloc, name)?)?;
     body.push(owner_value(alloc, before)?)?;

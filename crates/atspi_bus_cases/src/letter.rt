@@ -1,12 +1,12 @@
-//! Messages that connections send, as bytes: they are put together here field by field, by no code of the product's (D-Bus Specification,
-//! "Message Format"), least byte first.
+//! Messages that connections send, as bytes: they are put together here field by field, by no code of the product's
+//! (D-Bus Specification, "Message Format"), least byte first.
 
 ghost use Rattle.std.specs.Prelude.{◌<◌};
 
 use atspi_base::Bytes;
 
-/// What a message says: its type, flags and serial, its destination, its member, the serial that it replies to, and the text and the
-/// number of its body. Its path is `/`, a signal's interface `i.f`, and an error's name `e.r`.
+/// What a message says: its type, flags and serial, its destination, its member, the serial that it replies to, and the
+/// text and the number of its body. Its path is `/`, a signal's interface `i.f`, and an error's name `e.r`.
 #[derive(Clone, Copy)]
 pub struct Letter<'a> {
     pub kind: u8,

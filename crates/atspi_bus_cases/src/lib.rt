@@ -1,5 +1,5 @@
-//! Messages that connections send to a bus, for tests alone: put together as bytes, and read where they lie. A function answers none where a message would break
-//! a rule, and for want of memory.
+//! Messages that connections send to a bus, for tests alone: put together as bytes, and read where they lie. A function
+//! answers none where a message would break a rule, and for want of memory.
 #![tactic(auto)]
 
 mod letter;

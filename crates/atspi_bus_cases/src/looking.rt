@@ -2,10 +2,10 @@
 
 ghost use Rattle.std.specs.Prelude.{IfSome};
 ghost use Rattle.atspi_message.specs.Rules.{MeetsRules};
-ghost use Rattle.atspi_header.specs.View.{envelope_at};
+ghost use Rattle.atspi_message_in_place.specs.View.{envelope_at};
 
-use atspi_header::MessageRef;
 use atspi_message::total;
+use atspi_message_in_place::MessageRef;
 
 /// The message that the bytes are, where it lies.
 pub fn lent<'a>(bytes: &'a [u8]) -> Option<MessageRef<'a>>

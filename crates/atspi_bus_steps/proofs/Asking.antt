@@ -28,7 +28,7 @@ use Rattle.atspi_match.specs.routing.BusState.{BusState}
 use Rattle.atspi_match.specs.routing.Routing.{asks_for, matches, receivers, one_or_none}
 use Rattle.atspi_match.proofs.OfRouting.Deciding.{matching}
 use Rattle.atspi_bus_steps.specs.Inner.{parts}
-use Rattle.atspi_bus_steps.specs.Asking.{has_joined}
+use Rattle.atspi_bus_steps.specs.inner.Asking.{has_joined}
 
 equal_of_tie : (r : Ordering) → is_eq r ≡ true → r ≡ Equal
 equal_of_tie Less e = cc

@@ -7,14 +7,14 @@ use Rattle.atspi_message.specs.Envelope.{Envelope}
 use Rattle.atspi_message.specs.Bytes.{written}
 use Rattle.atspi_match.specs.declared.condition.Condition.{Condition}
 use Rattle.atspi_names.specs.Owners.{Owners, after_hello, unique_name}
-use Rattle.atspi_queues.specs.Held.{Held}
+use Rattle.atspi_bus_queues.specs.Held.{Held}
 use Rattle.atspi_match.specs.routing.BusState.{OpenCall, BusState}
 use Rattle.atspi_match.specs.routing.Answers.{Reply}
 use Rattle.atspi_match.specs.routing.Routing.{receivers, expects_reply}
 use Rattle.atspi_match.specs.routing.Steps.{calls_after_all, replies, speaks}
 use Rattle.atspi_match.specs.routing.Queues.{Bus, stepped}
 use Rattle.atspi_bus_answers.specs.Answered.{AreNamed}
-use Rattle.atspi_bus_steps.specs.Handing.{queued_each, forwards}
+use Rattle.atspi_bus_steps.specs.inner.Handing.{queued_each, forwards}
 use Rattle.atspi_bus_steps.specs.Greeting.{greeting}
 use Rattle.atspi_bus_steps.specs.Sayable.{MaySay, IsTyped, reply_message}
 use Rattle.atspi_bus_steps.specs.Sound.{IsSound}

@@ -4,12 +4,12 @@ use Rattle.std.specs.Prelude.{◌==◌, Result, Ok, Err, IfOk, OnErr, MatchBool,
 use Rattle.atspi_message.specs.Envelope.{Envelope}
 use Rattle.atspi_message.specs.Bytes.{written}
 use Rattle.atspi_match.specs.declared.condition.Condition.{Condition}
-use Rattle.atspi_queues.specs.Held.{Held}
+use Rattle.atspi_bus_queues.specs.Held.{Held}
 use Rattle.atspi_match.specs.routing.BusState.{OpenCall, BusState, unique_of}
 use Rattle.atspi_match.specs.routing.Routing.{is_for_bus, receivers}
 use Rattle.atspi_match.specs.routing.Steps.{BusStep, called, speaks, undeliverable, is_unowned, passes_on, takes_from_named, bus_takes}
 use Rattle.atspi_match.specs.routing.Queues.{Bus, stepped, takes}
-use Rattle.atspi_bus_steps.specs.Handing.{forwards, WentToAll}
+use Rattle.atspi_bus_steps.specs.inner.Handing.{forwards, WentToAll}
 use Rattle.atspi_bus_steps.specs.Inner.{call_of, parts}
 use Rattle.atspi_bus_steps.specs.declared.open_call.OpenCall as declared
 use Rattle.atspi_bus_steps.specs.Spoken.{IsRuleTaken}

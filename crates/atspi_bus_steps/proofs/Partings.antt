@@ -10,7 +10,7 @@ use Rattle.atspi_names.specs.Queue.{without}
 use Rattle.atspi_names.proofs.BookLemmas.{list_of-lists_without}
 use Rattle.atspi_match.specs.declared.condition.Condition.{Condition}
 use Rattle.atspi_match.specs.RuleIndex.{without_rules}
-use Rattle.atspi_queues.specs.Held.{Held}
+use Rattle.atspi_bus_queues.specs.Held.{Held}
 use Rattle.atspi_match.specs.routing.BusState.{OpenCall, BusState, unique_of, text_or_empty, calls_without}
 use Rattle.atspi_match.specs.routing.OwnMessages.{owner_changed}
 use Rattle.atspi_match.specs.routing.Steps.{speaks, farewell}

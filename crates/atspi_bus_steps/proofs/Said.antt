@@ -11,8 +11,8 @@ use Rattle.atspi_match.specs.routing.OwnMessages.{numbered}
 use Rattle.atspi_match.specs.routing.Routing.{receivers}
 use Rattle.atspi_match.specs.routing.Steps.{Move, says, delivers, closes, handed, said, speaks}
 use Rattle.atspi_match.specs.routing.Queues.{Bus, Waiting, moved, own_of, stepped}
-use Rattle.atspi_queues.specs.Held.{Held}
-use Rattle.atspi_bus_steps.specs.Handing.{handed_out, queued_each}
+use Rattle.atspi_bus_queues.specs.Held.{Held}
+use Rattle.atspi_bus_steps.specs.inner.Handing.{handed_out, queued_each}
 use Rattle.atspi_bus_steps.specs.Limits.{PassesLimits, SaysTooMuch}
 use Rattle.atspi_bus_steps.specs.Sayable.{MaySay}
 use Rattle.atspi_bus_steps.specs.Sound.{IsReady}

@@ -4,7 +4,7 @@ use Rattle.std.specs.Prelude.{◌==◌, ◌&&◌, codes}
 use Rattle.std.proofs.lemmas.Bool.Decides.{Decides-eqb}
 use Rattle.atspi_types.specs.Kinds.{Kind, kinds_of, no_kinds}
 use Rattle.atspi_types.specs.Data.{Data, types_of, items_of}
-use Rattle.atspi_header.proofs.ReadTypes.{no_types}
+use Rattle.atspi_message_in_place.proofs.ReadTypes.{no_types}
 use Rattle.atspi_message.specs.Envelope.{Envelope}
 use Rattle.atspi_names.specs.Owners.{own_name}
 use Rattle.atspi_match.specs.routing.Members.{is_text}

@@ -10,7 +10,8 @@ use Rattle.atspi_match.specs.routing.OwnMessages.{error_to, name_acquired, owner
 
 -- those whose calls wait for its answer are told that there is none
 abbrev pub no_replies : Owners → List OpenCall → ℕ → List Envelope
-no_replies owners calls conn = map (λ (c : OpenCall). error_to (unique_of owners c.caller) c.serial (codes "NoReply")) (waiting_for conn calls)
+no_replies owners calls conn =
+    map (λ (c : OpenCall). error_to (unique_of owners c.caller) c.serial (codes "NoReply")) (waiting_for conn calls)
 
 -- a name that one with this unique name had is told its next owner
 abbrev pub name_passes_on : Owners → List ℕ → List ℕ → List Envelope

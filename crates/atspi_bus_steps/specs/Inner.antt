@@ -13,7 +13,14 @@ abbrev pub call_of : OpenCall → state.OpenCall
 call_of c = record { caller = c.caller; serial = c.serial; callee = c.callee }
 
 abbrev pub state_of : Inner → BusState
-state_of b = record { joined = b.joined.items; owners = b.names; rules = b.rules; calls = map call_of b.calls.items; next = b.next }
+state_of b =
+    record {
+      joined = b.joined.items;
+      owners = b.names;
+      rules = b.rules;
+      calls = map call_of b.calls.items;
+      next = b.next;
+    }
 
 abbrev pub inner_of : Inner → Bus
 inner_of b = record {

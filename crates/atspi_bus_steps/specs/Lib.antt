@@ -1,9 +1,8 @@
+pub mod inner
 pub mod Inner
 pub mod Sound
-pub mod Handing
 pub mod Limits
 pub mod Sayable
-pub mod Asking
 pub mod Spoken
 pub mod Greeting
 pub mod Farewell

@@ -10,7 +10,8 @@ pub record IsReady (s : BusState) : Type 0 where
   pub first : 1 ≤ s.next
   pub last : s.next ≤ 4294967296
 
--- Besides, fewer unique names were given than messages said, since each is told; only bus names have owners; and the serial of a call is not 0.
+-- Besides, fewer unique names were given than messages said, since each is told; only bus names have owners; and the
+-- serial of a call is not 0.
 pub record IsSound (s : BusState) : Type 0 where
   pub ready : IsReady s
   pub given : s.owners.given < s.next

@@ -20,7 +20,8 @@ IsRuleOf e rule = (member : BusMember) → member_of e ≡ Ok member → IsSpoke
 
 -- the same of any message: only of a call to the bus, from a connection with its name, there is something to say
 abbrev pub IsRuleTaken : BusState → ℕ → Envelope → Option (List Condition) → Type 0
-IsRuleTaken s conn e rule = (name : List ℕ) → unique_of s.owners conn ≡ Some name → is_for_bus e ≡ true → e.kind ≡ 1 → IsRuleOf e rule
+IsRuleTaken s conn e rule = (name : List ℕ) → unique_of s.owners conn ≡ Some name → is_for_bus e ≡ true → e.kind ≡ 1
+    → IsRuleOf e rule
 
 -- the same of a message of a connection with its name
 abbrev pub IsRuleNamed : Envelope → Option (List Condition) → Type 0

@@ -4,7 +4,7 @@ ghost use Rattle.std.specs.Prelude.{◌≡◌, ◌<◌, List, map, Ok, None, Opt
 ghost use Rattle.std.specs.FinMap as finmap;
 ghost use Rattle.atspi_message.specs.Envelope.{envelope_of};
 ghost use Rattle.atspi_message.specs.Rules.{MeetsRules};
-ghost use Rattle.atspi_header.specs.View.{envelope_at};
+ghost use Rattle.atspi_message_in_place.specs.View.{envelope_at};
 ghost use Rattle.atspi_match.specs.declared.condition.Condition.{Condition};
 ghost use Rattle.atspi_match.specs.routing.Queues.{stepped};
 ghost use Rattle.atspi_match.specs.routing.Members as members;
@@ -23,14 +23,14 @@ use crate::standing::{name_value, one};
 use atspi_base::NoMemory;
 use atspi_base::valid_names::BusName;
 use atspi_bus_answers::{Reply, answer, member_of, name_acquired, owner_changed, return_to};
-use atspi_header::MessageRef;
 use atspi_match::routing::BusMember;
 use atspi_message::Message;
+use atspi_message_in_place::MessageRef;
 use atspi_names::NamesFault;
 use std::alloc::Global;
 
-/// What is told where a connection gets its unique name: its reply, where it expects one, and then the name, to it and to all that ask
-/// for it.
+/// What is told where a connection gets its unique name: its reply, where it expects one, and then the name, to it and
+/// to all that ask for it.
 pub fn greeting(alloc: Global, name: &BusName, m: &MessageRef) -> Result<Vec<Message>, NoMemory>
     ensures { IfOk result (λ told. map envelope_of told.items ≡ greeting name.now (envelope_at m.now)) }
 {
@@ -50,11 +50,15 @@ impl Inner {
         requires sound { IsSound (state_of self.old) }
         requires meets { MeetsRules (envelope_at m.now) }
         requires unnamed { finmap.get (state_of self.old).owners.unique conn ≡ None }
-        ensures ok { OnOk result (inner_of self.new ≡ stepped (inner_of self.old) (steps.greets (state_of self.old) conn (envelope_at m.now))) }
+        ensures ok { OnOk result
+            (inner_of self.new
+            ≡ stepped (inner_of self.old) (steps.greets (state_of self.old) conn (envelope_at m.now))) }
         ensures sound { OnOk result (IsSound (state_of self.new)) }
-        ensures spent { IsErrOf result BusFault.Spent → 4294967296 < (steps.greets (state_of self.old) conn (envelope_at m.now)).state.next }
+        ensures spent { IsErrOf result BusFault.Spent
+            → 4294967296 < (steps.greets (state_of self.old) conn (envelope_at m.now)).state.next }
         ensures big { IsErrOf result BusFault.Big
-            → SaysTooMuch (inner_of self.old) (stepped (inner_of self.old) (steps.greets (state_of self.old) conn (envelope_at m.now))) }
+            → SaysTooMuch (inner_of self.old)
+            (stepped (inner_of self.old) (steps.greets (state_of self.old) conn (envelope_at m.now))) }
     {
         let name = match self.names.hello(conn) {
             Ok(name) => name,
@@ -71,12 +75,16 @@ impl Inner {
         requires meets { MeetsRules (envelope_at m.now) }
         requires asked { members.member_of (envelope_at m.now) ≡ Ok member }
         ensures ok { OnOk result ((rule : Option (List Condition)) × IsSpokenOf member (envelope_at m.now).body rule
-            × (inner_of self.new ≡ stepped (inner_of self.old) (answered_by member (state_of self.old) conn (envelope_at m.now) rule))) }
+            × (inner_of self.new
+            ≡ stepped (inner_of self.old) (answered_by member (state_of self.old) conn (envelope_at m.now) rule))) }
         ensures sound { OnOk result (IsSound (state_of self.new)) }
-        ensures spent { IsErrOf result BusFault.Spent → (rule : Option (List Condition)) × IsSpokenOf member (envelope_at m.now).body rule
+        ensures spent { IsErrOf result BusFault.Spent
+            → (rule : Option (List Condition)) × IsSpokenOf member (envelope_at m.now).body rule
             × (4294967296 < (answered_by member (state_of self.old) conn (envelope_at m.now) rule).state.next) }
-        ensures big { IsErrOf result BusFault.Big → (rule : Option (List Condition)) × IsSpokenOf member (envelope_at m.now).body rule
-            × SaysTooMuch (inner_of self.old) (stepped (inner_of self.old) (answered_by member (state_of self.old) conn (envelope_at m.now) rule)) }
+        ensures big { IsErrOf result BusFault.Big
+            → (rule : Option (List Condition)) × IsSpokenOf member (envelope_at m.now).body rule
+            × SaysTooMuch (inner_of self.old)
+            (stepped (inner_of self.old) (answered_by member (state_of self.old) conn (envelope_at m.now) rule)) }
     {
         let alloc = self.alloc;
         let mut told = Vec::new(alloc);
@@ -90,12 +98,15 @@ impl Inner {
         requires sound { IsSound (state_of self.old) }
         requires meets { MeetsRules (envelope_at m.now) }
         ensures ok { OnOk result ((rule : Option (List Condition)) × IsRuleOf (envelope_at m.now) rule
-            × (inner_of self.new ≡ stepped (inner_of self.old) (steps.called (state_of self.old) conn (envelope_at m.now) rule))) }
+            × (inner_of self.new
+            ≡ stepped (inner_of self.old) (steps.called (state_of self.old) conn (envelope_at m.now) rule))) }
         ensures sound { OnOk result (IsSound (state_of self.new)) }
-        ensures spent { IsErrOf result BusFault.Spent → (rule : Option (List Condition)) × IsRuleOf (envelope_at m.now) rule
+        ensures spent { IsErrOf result BusFault.Spent
+            → (rule : Option (List Condition)) × IsRuleOf (envelope_at m.now) rule
             × (4294967296 < (steps.called (state_of self.old) conn (envelope_at m.now) rule).state.next) }
         ensures big { IsErrOf result BusFault.Big → (rule : Option (List Condition)) × IsRuleOf (envelope_at m.now) rule
-            × SaysTooMuch (inner_of self.old) (stepped (inner_of self.old) (steps.called (state_of self.old) conn (envelope_at m.now) rule)) }
+            × SaysTooMuch (inner_of self.old)
+            (stepped (inner_of self.old) (steps.called (state_of self.old) conn (envelope_at m.now) rule)) }
     {
         match member_of(m) {
             Ok(member) => self.answer(member, conn, m),

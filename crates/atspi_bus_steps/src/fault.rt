@@ -16,7 +16,8 @@ pub enum BusFault {
     /// The bus's own messages for the call would pass the serial 4,294,967,295.
     #[error("no serial is left for the bus's own messages")]
     Spent,
-    /// A message that the call brings passes the limits of the wire: one that is passed on, by its sender, or a list of names.
+    /// A message that the call brings passes the limits of the wire: one that is passed on, by its sender, or a list of
+    /// names.
     #[error("a message passes the limits of the wire")]
     Big,
     #[error("out of memory")]

@@ -4,17 +4,17 @@ ghost use Rattle.std.specs.Prelude.{◌≡◌, ◌<◌, ◌^◌, length, IfOk, O
 ghost use Rattle.atspi_message.specs.Envelope.{envelope_of};
 ghost use Rattle.atspi_message.specs.Rules.{MeetsRules};
 ghost use Rattle.atspi_message.specs.Bytes.{IsMessage, written};
-ghost use Rattle.atspi_header.specs.View.{envelope_at};
-ghost use Rattle.atspi_bus_steps.specs.Handing.{queued_each};
+ghost use Rattle.atspi_message_in_place.specs.View.{envelope_at};
+ghost use Rattle.atspi_bus_steps.specs.inner.Handing.{queued_each};
 ghost use Rattle.atspi_bus_steps.specs.Limits.{PassesLimits};
 
 use crate::BusFault;
 use atspi_base::{Bytes, NoMemory};
-use atspi_header::MessageRef;
+use atspi_bus_queues::Queues;
 use atspi_marshal::WriteFault;
 use atspi_message::Message;
-use atspi_passing::write_from;
-use atspi_queues::Queues;
+use atspi_message_forwarding::write_from;
+use atspi_message_in_place::MessageRef;
 use std::alloc::Global;
 
 /// Room for so many bytes is made at once for a message of the bus's own: most are shorter.

@@ -1,16 +1,16 @@
 //! What a bus knows, and what waits in it.
 
 use crate::open_call::OpenCall;
+use atspi_bus_queues::Queues;
 use atspi_match::RuleIndex;
 use atspi_match::routing::Closing;
 use atspi_message::Message;
 use atspi_names::Names;
-use atspi_queues::Queues;
 use std::alloc::Global;
 use std::collections::VecDeque;
 
-/// What a bus knows, and what waits in it. Contracts see it as `inner_of` says: the record of the definitions. It has no rule of its own: what holds of a
-/// bus at any time (`IsSound`) its calls ask for and give back.
+/// What a bus knows, and what waits in it. Contracts see it as `inner_of` says: the record of the definitions. It has
+/// no rule of its own: what holds of a bus at any time (`IsSound`) its calls ask for and give back.
 #[derive(Drop)]
 pub struct Inner {
     /// Where its memory comes from.

@@ -1,11 +1,12 @@
 //! A new bus, a copy of one, and who has joined it.
 
-ghost use Rattle.std.specs.Prelude.{◌≡◌, ◌<◌, ◌≤◌, ◌↔◌, ◌++◌, ℕ, List, [], All, map, length, drop, option_copied, option_to_list, IfNone, IfOk, IsErrOf, IsTrue, OnOk, OnErr};
+ghost use Rattle.std.specs.Prelude.{◌≡◌, ◌<◌, ◌≤◌, ◌↔◌, ◌++◌, ℕ, List, [], All, map, length, drop, option_copied};
+ghost use Rattle.std.specs.Prelude.{option_to_list, IfNone, IfOk, IsErrOf, IsTrue, OnOk, OnErr};
 ghost use Rattle.atspi_message.specs.Envelope.{envelope_of};
 ghost use Rattle.atspi_match.specs.routing.BusState.{unique_of};
 ghost use Rattle.atspi_match.specs.routing.Laws.{IsWithinQuota};
 ghost use Rattle.atspi_match.specs.routing.Queues.{empty_bus, joins, queue_of};
-ghost use Rattle.atspi_queues.specs.Change.{with_queue};
+ghost use Rattle.atspi_bus_queues.specs.Change.{with_queue};
 ghost use Rattle.atspi_bus_steps.specs.Inner.{inner_of, state_of};
 ghost use Rattle.atspi_bus_steps.specs.Sound.{IsSound};
 
@@ -13,11 +14,11 @@ use crate::BusFault;
 use crate::inner::Inner;
 use atspi_base::NoMemory;
 use atspi_base::valid_names::BusName;
+use atspi_bus_queues::Queues;
 use atspi_match::RuleIndex;
 use atspi_match::routing::Closing;
 use atspi_message::Message;
 use atspi_names::Names;
-use atspi_queues::Queues;
 use std::alloc::Global;
 use std::collections::VecDeque;
 
@@ -102,7 +103,8 @@ impl Inner {
 }
 
 impl Inner {
-    /// A connection joins whose number is above those of all that have joined. Full where it is not; after a fault all is as before.
+    /// A connection joins whose number is above those of all that have joined. Full where it is not; after a fault all
+    /// is as before.
     pub fn join_behind(&mut self, conn: u32) -> Result<(), BusFault>
         requires sound { IsSound (state_of self.old) }
         ensures ok { OnOk result (inner_of self.new ≡ joins (inner_of self.old) conn) }
@@ -135,7 +137,8 @@ impl Inner {
 
     /// The oldest closing that was not asked for yet.
     pub fn closed(&mut self) -> Option<Closing>
-        ensures bus { inner_of self.old ≡ record (inner_of self.new) { closings = option_to_list result ++ (inner_of self.new).closings } }
+        ensures bus { inner_of self.old
+            ≡ record (inner_of self.new) { closings = option_to_list result ++ (inner_of self.new).closings } }
         ensures none { result ≡ None → (inner_of self.new).closings ≡ [] }
         ensures empty { IfNone result ((inner_of self.old).closings ≡ []) }
         ensures state { state_of self.new ≡ state_of self.old }
@@ -145,7 +148,8 @@ impl Inner {
 
     /// The oldest message of the bus's own that was not asked for yet.
     pub fn own(&mut self) -> Option<Message>
-        ensures bus { inner_of self.old ≡ record (inner_of self.new) { own = map envelope_of (option_to_list result) ++ (inner_of self.new).own } }
+        ensures bus { inner_of self.old
+            ≡ record (inner_of self.new) { own = map envelope_of (option_to_list result) ++ (inner_of self.new).own } }
         ensures none { result ≡ None → (inner_of self.new).own ≡ [] }
         ensures empty { IfNone result ((inner_of self.old).own ≡ []) }
         ensures state { state_of self.new ≡ state_of self.old }
@@ -181,7 +185,9 @@ impl Inner {
         requires { n ≤ length (queue_of (inner_of self.old).waiting.queues conn) }
         ensures { inner_of self.new ≡ record (inner_of self.old) {
           waiting = record (inner_of self.old).waiting {
-            queues = with_queue (inner_of self.old).waiting.queues conn (drop n (queue_of (inner_of self.old).waiting.queues conn));
+            queues =
+                with_queue (inner_of self.old).waiting.queues conn
+                (drop n (queue_of (inner_of self.old).waiting.queues conn));
           };
         } }
     {

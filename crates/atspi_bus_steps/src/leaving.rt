@@ -29,7 +29,8 @@ fn no_replies(
     calls: &[OpenCall],
     conn: u32,
 ) -> Result<Vec<Message>, NoMemory>
-    ensures { IfOk result (λ replies. map envelope_of replies.items ≡ farewell.no_replies names.now (map call_of calls.now) conn) }
+    ensures { IfOk result
+        (λ replies. map envelope_of replies.items ≡ farewell.no_replies names.now (map call_of calls.now) conn) }
 {
     let mut replies = Vec::new(alloc);
     for call in calls {
@@ -41,8 +42,8 @@ fn no_replies(
     Ok(replies)
 }
 
-/// Those whose calls wait for a connection's answer are told that there is none, the oldest call first. After want of memory
-/// nothing more is told.
+/// Those whose calls wait for a connection's answer are told that there is none, the oldest call first. After want of
+/// memory nothing more is told.
 pub fn tell_callers(
     alloc: Global,
     names: &Names,
@@ -50,7 +51,9 @@ pub fn tell_callers(
     conn: u32,
     told: &mut Vec<Message>,
 ) -> Result<(), NoMemory>
-    ensures ok { OnOk result (map envelope_of told.new.items ≡ map envelope_of told.old.items ++ farewell.no_replies names.now (map call_of calls.now) conn) }
+    ensures ok { OnOk result
+        (map envelope_of told.new.items
+        ≡ map envelope_of told.old.items ++ farewell.no_replies names.now (map call_of calls.now) conn) }
     ensures err { OnErr result (told.new.items ≡ told.old.items) }
 {
     let mut replies = no_replies(alloc, names, calls, conn)?;
@@ -66,7 +69,9 @@ fn tell_name(
     name: &BusName,
     told: &mut Vec<Message>,
 ) -> Result<(), NoMemory>
-    ensures { OnOk result (map envelope_of told.new.items ≡ map envelope_of told.old.items ++ farewell.name_passes_on after.now unique.now name.now) }
+    ensures { OnOk result
+        (map envelope_of told.new.items
+        ≡ map envelope_of told.old.items ++ farewell.name_passes_on after.now unique.now name.now) }
 {
     let next = after.owner(name);
     tell_acquired(alloc, after, name, next, told)?;
@@ -83,7 +88,9 @@ fn tell_names(
     owned: &[BusName],
     told: &mut Vec<Message>,
 ) -> Result<(), NoMemory>
-    ensures { OnOk result (map envelope_of told.new.items ≡ map envelope_of told.old.items ++ farewell.names_pass_on after.now unique.now owned.now) }
+    ensures { OnOk result
+        (map envelope_of told.new.items
+        ≡ map envelope_of told.old.items ++ farewell.names_pass_on after.now unique.now owned.now) }
 {
     for name in owned {
         tell_name(alloc, after, unique, name, told)?;
@@ -111,7 +118,8 @@ impl Inner {
         ensures ok { OnOk result (inner_of self.new ≡ queues.left (inner_of self.old) conn) }
         ensures sound { OnOk result (IsSound (state_of self.new)) }
         ensures spent { IsErrOf result BusFault.Spent → 4294967296 < (queues.left (inner_of self.old) conn).state.next }
-        ensures big { IsErrOf result BusFault.Big → SaysTooMuch (inner_of self.old) (queues.left (inner_of self.old) conn) }
+        ensures big { IsErrOf result BusFault.Big
+            → SaysTooMuch (inner_of self.old) (queues.left (inner_of self.old) conn) }
     {
         let alloc = self.alloc;
         let mut told = Vec::new(alloc);
@@ -129,7 +137,8 @@ impl Inner {
         ensures ok { OnOk result (inner_of self.new ≡ queues.left (inner_of self.old) conn) }
         ensures sound { OnOk result (IsSound (state_of self.new)) }
         ensures spent { IsErrOf result BusFault.Spent → 4294967296 < (queues.left (inner_of self.old) conn).state.next }
-        ensures big { IsErrOf result BusFault.Big → SaysTooMuch (inner_of self.old) (queues.left (inner_of self.old) conn) }
+        ensures big { IsErrOf result BusFault.Big
+            → SaysTooMuch (inner_of self.old) (queues.left (inner_of self.old) conn) }
     {
         match self.names.unique_name(conn) {
             Some(name) => {
@@ -148,21 +157,26 @@ impl Inner {
         requires sound { IsSound (state_of self.old) }
         ensures ok { OnOk result (inner_of self.new ≡ queues.closed (inner_of self.old) conn why) }
         ensures sound { OnOk result (IsSound (state_of self.new)) }
-        ensures spent { IsErrOf result BusFault.Spent → 4294967296 < (queues.closed (inner_of self.old) conn why).state.next }
-        ensures big { IsErrOf result BusFault.Big → SaysTooMuch (inner_of self.old) (queues.closed (inner_of self.old) conn why) }
+        ensures spent { IsErrOf result BusFault.Spent
+            → 4294967296 < (queues.closed (inner_of self.old) conn why).state.next }
+        ensures big { IsErrOf result BusFault.Big
+            → SaysTooMuch (inner_of self.old) (queues.closed (inner_of self.old) conn why) }
     {
         let after = (self.next - 1) as u32;
         self.closings.push_back(Closing { conn, why, after })?;
         self.leave(conn)
     }
 
-    /// Closes those that are to be closed, the first cause first, at most so many. After a fault nothing is known of the bus.
+    /// Closes those that are to be closed, the first cause first, at most so many. After a fault nothing is known of
+    /// the bus.
     fn close_due(&mut self, rounds: usize) -> Result<(), BusFault>
         requires sound { IsSound (state_of self.old) }
         ensures ok { OnOk result (inner_of self.new ≡ queues.settled rounds (inner_of self.old)) }
         ensures sound { OnOk result (IsSound (state_of self.new)) }
-        ensures spent { IsErrOf result BusFault.Spent → 4294967296 < (queues.settled rounds (inner_of self.old)).state.next }
-        ensures big { IsErrOf result BusFault.Big → SaysTooMuch (inner_of self.old) (queues.settled rounds (inner_of self.old)) }
+        ensures spent { IsErrOf result BusFault.Spent
+            → 4294967296 < (queues.settled rounds (inner_of self.old)).state.next }
+        ensures big { IsErrOf result BusFault.Big
+            → SaysTooMuch (inner_of self.old) (queues.settled rounds (inner_of self.old)) }
     {
         for round in 0..rounds {
             match self.queues.first_due() {
@@ -173,14 +187,16 @@ impl Inner {
         Ok(())
     }
 
-    /// Closes those that are to be closed, the first cause first, at most so many. After a fault the bus is given up: it is one of quota 0, to which
-    /// nobody has joined.
+    /// Closes those that are to be closed, the first cause first, at most so many. After a fault the bus is given up:
+    /// it is one of quota 0, to which nobody has joined.
     pub fn settle(&mut self, rounds: usize) -> Result<(), BusFault>
         requires sound { IsSound (state_of self.old) }
         ensures ok { OnOk result (inner_of self.new ≡ queues.settled rounds (inner_of self.old)) }
         ensures sound { OnOk result (IsSound (state_of self.new)) }
-        ensures spent { IsErrOf result BusFault.Spent → 4294967296 < (queues.settled rounds (inner_of self.old)).state.next }
-        ensures big { IsErrOf result BusFault.Big → SaysTooMuch (inner_of self.old) (queues.settled rounds (inner_of self.old)) }
+        ensures spent { IsErrOf result BusFault.Spent
+            → 4294967296 < (queues.settled rounds (inner_of self.old)).state.next }
+        ensures big { IsErrOf result BusFault.Big
+            → SaysTooMuch (inner_of self.old) (queues.settled rounds (inner_of self.old)) }
         ensures err { OnErr result (inner_of self.new ≡ queues.empty_bus 0) }
     {
         match self.close_due(rounds) {

@@ -1,5 +1,5 @@
-//! The steps of a bus: what it does with a message, and when a connection leaves, each as its definition says. After a fault
-//! of a step the bus is given up: it is one of quota 0, to which nobody has joined.
+//! The steps of a bus: what it does with a message, and when a connection leaves, each as its definition says. After a
+//! fault of a step the bus is given up: it is one of quota 0, to which nobody has joined.
 #![tactic(auto)]
 
 mod calling;

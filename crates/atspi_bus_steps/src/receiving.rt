@@ -6,21 +6,21 @@ ghost use Rattle.std.specs.List.Sorted.{IsStrictlyIncreasing};
 ghost use Rattle.atspi_base.specs.valid_names.Names.{is_bus_name};
 ghost use Rattle.atspi_message.specs.Envelope.{envelope_of};
 ghost use Rattle.atspi_message.specs.Bytes.{IsMessage};
-ghost use Rattle.atspi_header.specs.View.{envelope_at};
+ghost use Rattle.atspi_message_in_place.specs.View.{envelope_at};
 ghost use Rattle.atspi_names.specs.Queue.{owner_in};
 ghost use Rattle.atspi_names.specs.Owners.{list_of};
 ghost use Rattle.atspi_match.specs.routing.Routing as routing;
 ghost use Rattle.atspi_match.specs.routing.Routing.{asks_for, one_or_none};
 ghost use Rattle.atspi_bus_steps.specs.Inner.{parts};
-ghost use Rattle.atspi_bus_steps.specs.Asking.{has_joined};
+ghost use Rattle.atspi_bus_steps.specs.inner.Asking.{has_joined};
 
 use atspi_base::valid_names::{BusName, NameFault};
 use atspi_base::{NoMemory, Nums, Steps};
-use atspi_header::MessageRef;
 use atspi_match::RuleIndex;
 use atspi_message::Message;
+use atspi_message_forwarding::readings::laws::messages_are_asked_for;
+use atspi_message_in_place::MessageRef;
 use atspi_names::Names;
-use atspi_readings::laws::messages_are_asked_for;
 use std::alloc::Global;
 
 /// Whether a connection has joined.
@@ -54,7 +54,9 @@ fn asking(
     m: &MessageRef,
 ) -> Result<Vec<u32>, NoMemory>
     requires { IsStrictlyIncreasing joined.now }
-    ensures { IfOk result (λ conns. conns.items ≡ filter (asks_for (parts joined.now names.now rules.now) (envelope_at m.now)) joined.now) }
+    ensures { IfOk result
+        (λ conns. conns.items
+        ≡ filter (asks_for (parts joined.now names.now rules.now) (envelope_at m.now)) joined.now) }
 {
     let mut found = Nums::new(alloc);
     let mut steps = Steps::new();
@@ -85,7 +87,8 @@ pub fn bus_name(alloc: Global, text: &str) -> Result<BusName, NoMemory>
     }
 }
 
-/// Who receives a message (D-Bus Specification, "Message Bus Message Routing"): the owner of its destination, or those who ask for it.
+/// Who receives a message (D-Bus Specification, "Message Bus Message Routing"): the owner of its destination, or those
+/// who ask for it.
 pub fn receivers(
     alloc: Global,
     joined: &[u32],
@@ -94,7 +97,8 @@ pub fn receivers(
     m: &MessageRef,
 ) -> Result<Vec<u32>, NoMemory>
     requires { IsStrictlyIncreasing joined.now }
-    ensures { IfOk result (λ conns. conns.items ≡ routing.receivers (parts joined.now names.now rules.now) (envelope_at m.now)) }
+    ensures { IfOk result
+        (λ conns. conns.items ≡ routing.receivers (parts joined.now names.now rules.now) (envelope_at m.now)) }
 {
     match m.destination {
         Some(text) => {
@@ -122,7 +126,8 @@ pub fn receivers_of_own(
 ) -> Result<Vec<u32>, NoMemory>
     requires joined { IsStrictlyIncreasing joined.now }
     requires message { IsMessage (envelope_of message.now) bytes.now }
-    ensures { IfOk result (λ conns. conns.items ≡ routing.receivers (parts joined.now names.now rules.now) (envelope_of message.now)) }
+    ensures { IfOk result
+        (λ conns. conns.items ≡ routing.receivers (parts joined.now names.now rules.now) (envelope_of message.now)) }
 {
     messages_are_asked_for();
     match MessageRef::parse(bytes) {

@@ -3,13 +3,13 @@
 ghost use Rattle.std.specs.Prelude.{◌≡◌, ◌+◌, ◌<◌, [], ◌∷◌, ◌++◌, map, length, All, IfOk, OnOk, IsErrOf};
 ghost use Rattle.atspi_message.specs.Envelope.{envelope_of};
 ghost use Rattle.atspi_message.specs.Rules.{MeetsRules};
-ghost use Rattle.atspi_header.specs.View.{envelope_at};
+ghost use Rattle.atspi_message_in_place.specs.View.{envelope_at};
 ghost use Rattle.atspi_match.specs.routing.Routing as routing;
 ghost use Rattle.atspi_match.specs.routing.Queues.{stepped};
 ghost use Rattle.atspi_match.specs.routing.Steps.{speaks, replies};
 ghost use Rattle.atspi_bus_answers.specs.Answered.{reply_of};
 ghost use Rattle.atspi_bus_steps.specs.Inner.{inner_of, state_of};
-ghost use Rattle.atspi_bus_steps.specs.Handing.{handed_out};
+ghost use Rattle.atspi_bus_steps.specs.inner.Handing.{handed_out};
 ghost use Rattle.atspi_bus_steps.specs.Limits.{PassesLimits, SaysTooMuch};
 ghost use Rattle.atspi_bus_steps.specs.Sayable.{MaySay, IsTyped, reply_message};
 ghost use Rattle.atspi_bus_steps.specs.Sound.{IsReady};
@@ -20,8 +20,8 @@ use crate::inner::Inner;
 use crate::receiving::receivers_of_own;
 use atspi_base::NoMemory;
 use atspi_bus_answers::{Reply, error_to, return_to};
-use atspi_header::MessageRef;
 use atspi_message::Message;
+use atspi_message_in_place::MessageRef;
 use std::collections::VecDeque;
 
 /// Whether the message is a call whose caller waits for the reply.
@@ -52,7 +52,8 @@ impl Inner {
     fn say_one(&mut self, message: Message) -> Result<(), BusFault>
         requires ready { IsReady (state_of self.old) }
         requires sayable { MaySay (envelope_of message) }
-        ensures ok { OnOk result (inner_of self.new ≡ stepped (inner_of self.old) (speaks (state_of self.old) (envelope_of message ∷ []))) }
+        ensures ok { OnOk result
+            (inner_of self.new ≡ stepped (inner_of self.old) (speaks (state_of self.old) (envelope_of message ∷ []))) }
         ensures ready { OnOk result (IsReady (state_of self.new)) }
         ensures spent { IsErrOf result BusFault.Spent → self.old.next ≡ 4294967296 }
         ensures big { IsErrOf result BusFault.Big → SaysTooMuch (inner_of self.old)
@@ -75,7 +76,9 @@ impl Inner {
     pub(crate) fn say(&mut self, told: Vec<Message>) -> Result<(), BusFault>
         requires ready { IsReady (state_of self.old) }
         requires sayable { All MaySay (map envelope_of told.items) }
-        ensures ok { OnOk result (inner_of self.new ≡ stepped (inner_of self.old) (speaks (state_of self.old) (map envelope_of told.items))) }
+        ensures ok { OnOk result
+            (inner_of self.new
+            ≡ stepped (inner_of self.old) (speaks (state_of self.old) (map envelope_of told.items))) }
         ensures ready { OnOk result (IsReady (state_of self.new)) }
         ensures spent { IsErrOf result BusFault.Spent → 4294967296 < self.old.next + length told.items }
         ensures big { IsErrOf result BusFault.Big → SaysTooMuch (inner_of self.old)
@@ -90,7 +93,8 @@ impl Inner {
 
     /// The reply to a call of a connection, as a message.
     pub fn reply(&self, conn: u32, serial: u32, reply: Reply) -> Result<Message, NoMemory>
-        ensures { IfOk result (λ message. envelope_of message ≡ reply_message (state_of self.now) conn serial (reply_of reply)) }
+        ensures { IfOk result
+            (λ message. envelope_of message ≡ reply_message (state_of self.now) conn serial (reply_of reply)) }
     {
         let caller = self.names.unique_name(conn);
         match reply {
@@ -115,8 +119,11 @@ impl Inner {
             (map envelope_of told.items ++ replies (state_of self.old) conn (envelope_at m.now) (reply_of reply)))) }
         ensures ready { OnOk result (IsReady (state_of self.new)) }
         ensures spent { IsErrOf result BusFault.Spent → 4294967296
-            < self.old.next + length (map envelope_of told.items ++ replies (state_of self.old) conn (envelope_at m.now) (reply_of reply)) }
-        ensures big { IsErrOf result BusFault.Big → SaysTooMuch (inner_of self.old) (stepped (inner_of self.old) (speaks (state_of self.old)
+            < self.old.next
+            + length
+            (map envelope_of told.items ++ replies (state_of self.old) conn (envelope_at m.now) (reply_of reply)) }
+        ensures big { IsErrOf result BusFault.Big
+            → SaysTooMuch (inner_of self.old) (stepped (inner_of self.old) (speaks (state_of self.old)
             (map envelope_of told.items ++ replies (state_of self.old) conn (envelope_at m.now) (reply_of reply)))) }
     {
         let mut told = told;

@@ -34,7 +34,8 @@ pub fn tell_acquired(
     told: &mut Vec<Message>,
 ) -> Result<(), NoMemory>
     ensures ok { OnOk result
-        (map envelope_of told.new.items ≡ map envelope_of told.old.items ++ own.name_acquired names.now name.now owner) }
+        (map envelope_of told.new.items
+        ≡ map envelope_of told.old.items ++ own.name_acquired names.now name.now owner) }
     ensures err { OnErr result (told.new.items ≡ told.old.items) }
 {
     if let Some(conn) = owner {

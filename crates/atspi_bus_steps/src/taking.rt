@@ -2,7 +2,7 @@
 
 ghost use Rattle.std.specs.Prelude.{◌≡◌, ◌⊎◌, ◌<◌, List, Option, Some, IfOk, OnOk, OnErr, IsErrOf, MatchBool};
 ghost use Rattle.atspi_message.specs.Rules.{MeetsRules};
-ghost use Rattle.atspi_header.specs.View.{bytes_of, envelope_at};
+ghost use Rattle.atspi_message_in_place.specs.View.{bytes_of, envelope_at};
 ghost use Rattle.atspi_match.specs.declared.condition.Condition.{Condition};
 ghost use Rattle.atspi_match.specs.routing.Members as members;
 ghost use Rattle.atspi_match.specs.routing.Routing as routing;
@@ -18,8 +18,8 @@ ghost use Rattle.atspi_bus_steps.specs.Greeting.{is_bus_or_none};
 use crate::BusFault;
 use crate::inner::Inner;
 use atspi_base::valid_names::BusName;
-use atspi_header::MessageRef;
 use atspi_match::routing::Why;
+use atspi_message_in_place::MessageRef;
 
 /// The name of the bus, which is also that of its interface.
 const BUS: &str = "org.freedesktop.DBus";
@@ -100,13 +100,17 @@ impl Inner {
         requires sound { IsSound (state_of self.old) }
         requires meets { MeetsRules (envelope_at m.now) }
         ensures ok { OnOk result ((rule : Option (List Condition)) × IsRuleNamed (envelope_at m.now) rule
-            × (inner_of self.new ≡ stepped (inner_of self.old) (steps.takes_from_named (state_of self.old) conn (envelope_at m.now) rule))) }
+            × (inner_of self.new
+            ≡ stepped (inner_of self.old) (steps.takes_from_named (state_of self.old) conn (envelope_at m.now) rule))) }
         ensures sound { OnOk result (IsSound (state_of self.new)) }
-        ensures spent { IsErrOf result BusFault.Spent → (rule : Option (List Condition)) × IsRuleNamed (envelope_at m.now) rule
+        ensures spent { IsErrOf result BusFault.Spent
+            → (rule : Option (List Condition)) × IsRuleNamed (envelope_at m.now) rule
             × (4294967296 < (steps.takes_from_named (state_of self.old) conn (envelope_at m.now) rule).state.next) }
-        ensures big { IsErrOf result BusFault.Big → (rule : Option (List Condition)) × IsRuleNamed (envelope_at m.now) rule
+        ensures big { IsErrOf result BusFault.Big
+            → (rule : Option (List Condition)) × IsRuleNamed (envelope_at m.now) rule
             × (IsTooBigToPass (state_of self.old) (envelope_at m.now)
-            ⊎ SaysTooMuch (inner_of self.old) (stepped (inner_of self.old) (steps.takes_from_named (state_of self.old) conn (envelope_at m.now) rule))) }
+            ⊎ SaysTooMuch (inner_of self.old)
+            (stepped (inner_of self.old) (steps.takes_from_named (state_of self.old) conn (envelope_at m.now) rule))) }
     {
         if is_for_bus(m) {
             if m.kind == 1 {
@@ -124,13 +128,23 @@ impl Inner {
         requires sound { IsSound (state_of self.old) }
         requires meets { MeetsRules (envelope_at m.now) }
         ensures ok { OnOk result ((rule : Option (List Condition)) × IsRuleNamed (envelope_at m.now) rule
-            × (inner_of self.new ≡ stepped (inner_of self.old) (steps.takes_from_named (state_of self.old) conn (record (envelope_at m.now) { sender = Some name.now }) rule))) }
+            × (inner_of self.new
+            ≡ stepped (inner_of self.old)
+            (steps.takes_from_named (state_of self.old) conn (record (envelope_at m.now) { sender = Some name.now })
+            rule))) }
         ensures sound { OnOk result (IsSound (state_of self.new)) }
-        ensures spent { IsErrOf result BusFault.Spent → (rule : Option (List Condition)) × IsRuleNamed (envelope_at m.now) rule
-            × (4294967296 < (steps.takes_from_named (state_of self.old) conn (record (envelope_at m.now) { sender = Some name.now }) rule).state.next) }
-        ensures big { IsErrOf result BusFault.Big → (rule : Option (List Condition)) × IsRuleNamed (envelope_at m.now) rule
+        ensures spent { IsErrOf result BusFault.Spent
+            → (rule : Option (List Condition)) × IsRuleNamed (envelope_at m.now) rule
+            × (4294967296
+            < (steps.takes_from_named (state_of self.old) conn (record (envelope_at m.now) { sender = Some name.now })
+            rule).state.next) }
+        ensures big { IsErrOf result BusFault.Big
+            → (rule : Option (List Condition)) × IsRuleNamed (envelope_at m.now) rule
             × (IsTooBigToPass (state_of self.old) (record (envelope_at m.now) { sender = Some name.now })
-            ⊎ SaysTooMuch (inner_of self.old) (stepped (inner_of self.old) (steps.takes_from_named (state_of self.old) conn (record (envelope_at m.now) { sender = Some name.now }) rule))) }
+            ⊎ SaysTooMuch (inner_of self.old)
+            (stepped (inner_of self.old)
+            (steps.takes_from_named (state_of self.old) conn (record (envelope_at m.now) { sender = Some name.now })
+            rule))) }
     {
         self.take_named(conn, &with_sender(m, name))
     }
@@ -139,13 +153,18 @@ impl Inner {
     fn make_step(&mut self, conn: u32, m: &MessageRef) -> Result<(), BusFault>
         requires sound { IsSound (state_of self.old) }
         requires meets { MeetsRules (envelope_at m.now) }
-        ensures ok { OnOk result ((rule : Option (List Condition)) × IsRuleTaken (state_of self.old) conn (envelope_at m.now) rule
-            × (inner_of self.new ≡ stepped (inner_of self.old) (steps.bus_takes (state_of self.old) conn (envelope_at m.now) rule))) }
+        ensures ok { OnOk result
+            ((rule : Option (List Condition)) × IsRuleTaken (state_of self.old) conn (envelope_at m.now) rule
+            × (inner_of self.new
+            ≡ stepped (inner_of self.old) (steps.bus_takes (state_of self.old) conn (envelope_at m.now) rule))) }
         ensures sound { OnOk result (IsSound (state_of self.new)) }
-        ensures spent { IsErrOf result BusFault.Spent → (rule : Option (List Condition)) × IsRuleTaken (state_of self.old) conn (envelope_at m.now) rule
+        ensures spent { IsErrOf result BusFault.Spent
+            → (rule : Option (List Condition)) × IsRuleTaken (state_of self.old) conn (envelope_at m.now) rule
             × (4294967296 < (steps.bus_takes (state_of self.old) conn (envelope_at m.now) rule).state.next) }
-        ensures big { IsErrOf result BusFault.Big → (rule : Option (List Condition)) × IsRuleTaken (state_of self.old) conn (envelope_at m.now) rule
-            × IsTooBig (inner_of self.old) conn (envelope_at m.now) (stepped (inner_of self.old) (steps.bus_takes (state_of self.old) conn (envelope_at m.now) rule)) }
+        ensures big { IsErrOf result BusFault.Big
+            → (rule : Option (List Condition)) × IsRuleTaken (state_of self.old) conn (envelope_at m.now) rule
+            × IsTooBig (inner_of self.old) conn (envelope_at m.now)
+            (stepped (inner_of self.old) (steps.bus_takes (state_of self.old) conn (envelope_at m.now) rule)) }
     {
         match self.names.unique_name(conn) {
             Some(name) => {
@@ -162,18 +181,23 @@ impl Inner {
         }
     }
 
-    /// What a bus does with a message, apart from the closings that it brings, which `settle` makes. After a fault the bus is given up: it is one of
-    /// quota 0, to which nobody has joined.
+    /// What a bus does with a message, apart from the closings that it brings, which `settle` makes. After a fault the
+    /// bus is given up: it is one of quota 0, to which nobody has joined.
     pub fn step(&mut self, conn: u32, m: &MessageRef) -> Result<(), BusFault>
         requires sound { IsSound (state_of self.old) }
         requires meets { MeetsRules (envelope_at m.now) }
-        ensures ok { OnOk result ((rule : Option (List Condition)) × IsRuleTaken (state_of self.old) conn (envelope_at m.now) rule
-            × (inner_of self.new ≡ stepped (inner_of self.old) (steps.bus_takes (state_of self.old) conn (envelope_at m.now) rule))) }
+        ensures ok { OnOk result
+            ((rule : Option (List Condition)) × IsRuleTaken (state_of self.old) conn (envelope_at m.now) rule
+            × (inner_of self.new
+            ≡ stepped (inner_of self.old) (steps.bus_takes (state_of self.old) conn (envelope_at m.now) rule))) }
         ensures sound { OnOk result (IsSound (state_of self.new)) }
-        ensures spent { IsErrOf result BusFault.Spent → (rule : Option (List Condition)) × IsRuleTaken (state_of self.old) conn (envelope_at m.now) rule
+        ensures spent { IsErrOf result BusFault.Spent
+            → (rule : Option (List Condition)) × IsRuleTaken (state_of self.old) conn (envelope_at m.now) rule
             × (4294967296 < (steps.bus_takes (state_of self.old) conn (envelope_at m.now) rule).state.next) }
-        ensures big { IsErrOf result BusFault.Big → (rule : Option (List Condition)) × IsRuleTaken (state_of self.old) conn (envelope_at m.now) rule
-            × IsTooBig (inner_of self.old) conn (envelope_at m.now) (stepped (inner_of self.old) (steps.bus_takes (state_of self.old) conn (envelope_at m.now) rule)) }
+        ensures big { IsErrOf result BusFault.Big
+            → (rule : Option (List Condition)) × IsRuleTaken (state_of self.old) conn (envelope_at m.now) rule
+            × IsTooBig (inner_of self.old) conn (envelope_at m.now)
+            (stepped (inner_of self.old) (steps.bus_takes (state_of self.old) conn (envelope_at m.now) rule)) }
         ensures err { OnErr result (inner_of self.new ≡ queues.empty_bus 0) }
     {
         match self.make_step(conn, m) {
@@ -185,8 +209,8 @@ impl Inner {
         }
     }
 
-    /// The bus takes a message of a connection in place: one that is passed on, while nobody is to be closed and each receiver has room for
-    /// it. It answers whether that is so. Where it is not, and after a fault, all is as before.
+    /// The bus takes a message of a connection in place: one that is passed on, while nobody is to be closed and each
+    /// receiver has room for it. It answers whether that is so. Where it is not, and after a fault, all is as before.
     pub fn take_in_place(&mut self, conn: u32, m: &MessageRef) -> Result<bool, BusFault>
         requires sound { IsSound (state_of self.old) }
         requires meets { MeetsRules (envelope_at m.now) }
@@ -207,17 +231,22 @@ impl Inner {
         self.pass_in_place(conn, m)
     }
 
-    /// The bus takes a message of a connection. After a fault the bus is given up: it is one of quota 0, to which nobody has joined.
+    /// The bus takes a message of a connection. After a fault the bus is given up: it is one of quota 0, to which
+    /// nobody has joined.
     pub fn take(&mut self, conn: u32, m: &MessageRef) -> Result<(), BusFault>
         requires sound { IsSound (state_of self.old) }
         requires meets { MeetsRules (envelope_at m.now) }
-        ensures ok { OnOk result ((rule : Option (List Condition)) × IsRuleTaken (state_of self.old) conn (envelope_at m.now) rule
+        ensures ok { OnOk result
+            ((rule : Option (List Condition)) × IsRuleTaken (state_of self.old) conn (envelope_at m.now) rule
             × (inner_of self.new ≡ queues.takes (inner_of self.old) conn (envelope_at m.now) rule)) }
         ensures sound { OnOk result (IsSound (state_of self.new)) }
-        ensures spent { IsErrOf result BusFault.Spent → (rule : Option (List Condition)) × IsRuleTaken (state_of self.old) conn (envelope_at m.now) rule
+        ensures spent { IsErrOf result BusFault.Spent
+            → (rule : Option (List Condition)) × IsRuleTaken (state_of self.old) conn (envelope_at m.now) rule
             × (4294967296 < (queues.takes (inner_of self.old) conn (envelope_at m.now) rule).state.next) }
-        ensures big { IsErrOf result BusFault.Big → (rule : Option (List Condition)) × IsRuleTaken (state_of self.old) conn (envelope_at m.now) rule
-            × IsTooBig (inner_of self.old) conn (envelope_at m.now) (queues.takes (inner_of self.old) conn (envelope_at m.now) rule) }
+        ensures big { IsErrOf result BusFault.Big
+            → (rule : Option (List Condition)) × IsRuleTaken (state_of self.old) conn (envelope_at m.now) rule
+            × IsTooBig (inner_of self.old) conn (envelope_at m.now)
+            (queues.takes (inner_of self.old) conn (envelope_at m.now) rule) }
         ensures err { OnErr result (inner_of self.new ≡ queues.empty_bus 0) }
     {
         let rounds = self.joined.len();
@@ -227,13 +256,16 @@ impl Inner {
         }
     }
 
-    /// A connection leaves by itself. After a fault the bus is given up: it is one of quota 0, to which nobody has joined.
+    /// A connection leaves by itself. After a fault the bus is given up: it is one of quota 0, to which nobody has
+    /// joined.
     pub fn part_with(&mut self, conn: u32) -> Result<(), BusFault>
         requires sound { IsSound (state_of self.old) }
         ensures ok { OnOk result (inner_of self.new ≡ queues.leaves (inner_of self.old) conn) }
         ensures sound { OnOk result (IsSound (state_of self.new)) }
-        ensures spent { IsErrOf result BusFault.Spent → 4294967296 < (queues.leaves (inner_of self.old) conn).state.next }
-        ensures big { IsErrOf result BusFault.Big → SaysTooMuch (inner_of self.old) (queues.leaves (inner_of self.old) conn) }
+        ensures spent { IsErrOf result BusFault.Spent
+            → 4294967296 < (queues.leaves (inner_of self.old) conn).state.next }
+        ensures big { IsErrOf result BusFault.Big
+            → SaysTooMuch (inner_of self.old) (queues.leaves (inner_of self.old) conn) }
         ensures err { OnErr result (inner_of self.new ≡ queues.empty_bus 0) }
     {
         let rounds = self.joined.len();

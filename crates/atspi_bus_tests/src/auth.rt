@@ -111,7 +111,8 @@ fn state_of(fault: Option<AuthFault>, is_over: bool) -> &'static str {
     }
 }
 
-/// Tells what came of a conversation: how it stands, how many bytes stand behind the last line where there is no fault, and the lines that were said.
+/// Tells what came of a conversation: how it stands, how many bytes stand behind the last line where there is no fault,
+/// and the lines that were said.
 fn put_heard(rt: &impl Abort, told: &mut String, heard: &Heard, is_over: bool, behind: usize) {
     let behind = u32::try_from(behind).unwrap_or(u32::MAX);
     put(rt, told, state_of(heard.fault, is_over));
@@ -128,7 +129,8 @@ fn stays<E: End>(end: &mut E, fault: Option<AuthFault>) -> bool {
     }
 }
 
-/// Whether an end makes of bytes what is due: of a first piece, and of the others in pieces of one length. Then it stays at its fault.
+/// Whether an end makes of bytes what is due: of a first piece, and of the others in pieces of one length. Then it
+/// stays at its fault.
 fn comes_to<E: End>(
     rt: &impl Abort,
     alloc: Global,
@@ -183,8 +185,8 @@ fn try_client(rt: &impl Abort, alloc: Global, sent: &str, due: &str) {
     }
 }
 
-/// What clients send, and what comes of it: the openings of libdbus, GDBus and sd-bus; uids that are none; where DATA is awaited; where BEGIN is; and that a
-/// line ends in CR LF alone.
+/// What clients send, and what comes of it: the openings of libdbus, GDBus and sd-bus; uids that are none; where DATA
+/// is awaited; where BEGIN is; and that a line ends in CR LF alone.
 const SENT: [(&str, &str); 12] = [
     // libdbus
     (

@@ -157,9 +157,10 @@ fn play_anew(rt: &impl Abort, alloc: Global, before: &str, rows: &str) {
     play(rt, alloc, &mut names, rows);
 }
 
-/// Cases with a blank line between two. A name goes to the one that replaces its owner, and back: who gave it back stands nowhere, and a name that nobody
-/// has is not there. Unique names count on, also behind one that left. Well-known names are in the order of their bytes, and one that is not there owns
-/// nothing. Then connections that wait and ask again with other flags.
+/// Cases with a blank line between two. A name goes to the one that replaces its owner, and back: who gave it back
+/// stands nowhere, and a name that nobody has is not there. Unique names count on, also behind one that left.
+/// Well-known names are in the order of their bytes, and one that is not there owns nothing. Then connections that wait
+/// and ask again with other flags.
 const CASES: &str = "\
 hello 0 => :1.0
 hello 1 => :1.1

@@ -1,8 +1,8 @@
 //! Quotas: 89 bytes of a return and 169 of a signal fit a quota of 258, and not one of 257.
 
 use crate::words::{check, number, put, put_number};
+use atspi_bus_queues::Queues;
 use atspi_match::routing::Why;
-use atspi_queues::Queues;
 use std::alloc::Global;
 use std::process::Abort;
 use std::str::SplitWhitespace;

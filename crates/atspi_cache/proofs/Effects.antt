@@ -4,15 +4,15 @@ use Rattle.std.specs.Prelude.{ℤ, pos, negsuc, bytes_eq, is_some, length, nat_l
 use Rattle.std.specs.Option.{option_copied}
 use Rattle.std.proofs.lemmas.Bool.{le-leb, leb-true}
 use denote.Ref.{Bor}
-use Rattle.atspi_forest.specs.declared.view.Row.{Row}
-use Rattle.atspi_forest.specs.declared.news.Item.{Item}
-use Rattle.atspi_forest.specs.Forest.{Forest, nil, tree, count, has, put_in, take_out, pick, change, find, first_of}
-use Rattle.atspi_forest.specs.News.{is_path, known_text_with, names, spot, renewed, fresh, added, moved}
-use Rattle.atspi_forest.specs.Row.{delete_there, insert_there, with_delete, with_insert}
-use Rattle.atspi_forest.specs.declared.view.Part.{Part}
-use Rattle.atspi_forest.specs.declared.view.Part.TheVariants.{Absent, Unknown, Known}
-use Rattle.atspi_forest.proofs.Found.{has-count, not_there, find-none, find-passes}
-use Rattle.atspi_forest.proofs.Seats.{put_in-none}
+use Rattle.atspi_tree_model.specs.declared.view.Row.{Row}
+use Rattle.atspi_tree_model.specs.declared.news.Item.{Item}
+use Rattle.atspi_tree_model.specs.Forest.{Forest, nil, tree, count, has, put_in, take_out, pick, change, find, first_of}
+use Rattle.atspi_tree_model.specs.News.{is_path, known_text_with, names, spot, renewed, fresh, added, moved}
+use Rattle.atspi_tree_model.specs.Row.{delete_there, insert_there, with_delete, with_insert}
+use Rattle.atspi_tree_model.specs.declared.view.Part.{Part}
+use Rattle.atspi_tree_model.specs.declared.view.Part.TheVariants.{Absent, Unknown, Known}
+use Rattle.atspi_tree_model.proofs.Found.{has-count, not_there, find-none, find-passes}
+use Rattle.atspi_tree_model.proofs.Seats.{put_in-none}
 
 none_has : (f : Forest Row) → has (λ row. false) f ≡ false
 none_has nil = refl

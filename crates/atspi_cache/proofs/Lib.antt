@@ -1,3 +1,4 @@
+pub mod OfLoading
 pub mod Plain
 pub mod Effects
 pub mod ViewLemmas

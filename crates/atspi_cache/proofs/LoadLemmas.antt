@@ -1,12 +1,12 @@
 -- What is still to be put in, as a list of borrowed items.
 use Rattle.std.proofs.Common.{◌≡◌, ℕ, zero, suc, ◌+◌, ◌<◌, ◌≤◌, List, [], ◌∷◌, length, drop, get_or, refl, sym, ap, ◌∙◌, subst, arith}
 use denote.Ref.{Bor}
-use Rattle.atspi_forest.specs.declared.view.Row.{Row}
-use Rattle.atspi_forest.specs.declared.news.Item.{Item}
-use Rattle.atspi_forest.specs.Forest.{Forest, nil, tree}
-use Rattle.atspi_forest.specs.News.{fresh, load}
-use Rattle.atspi_load.specs.Shared.{reached_items, shared}
-use Rattle.atspi_load.proofs.FillLemmas.{IsLeft, begin_load, empty_load}
+use Rattle.atspi_tree_model.specs.declared.view.Row.{Row}
+use Rattle.atspi_tree_model.specs.declared.news.Item.{Item}
+use Rattle.atspi_tree_model.specs.Forest.{Forest, nil, tree}
+use Rattle.atspi_tree_model.specs.News.{fresh, load}
+use Rattle.atspi_cache.specs.loading.Shared.{reached_items, shared}
+use Rattle.atspi_cache.proofs.OfLoading.FillLemmas.{IsLeft, begin_load, empty_load}
 
 drop_first : (xs : List (Bor Item)) (i : ℕ) (d : Bor Item) → i < length xs → drop i xs ≡ get_or xs i d ∷ drop (i + 1) xs
 drop_first [] i d l = absurd (omega arith)

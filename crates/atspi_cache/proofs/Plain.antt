@@ -6,8 +6,8 @@ use Rattle.std.proofs.lemmas.Bool.{ltb-true}
 use Rattle.std.proofs.lemmas.Slice.Eq.{bytes_eq-Decides}
 use Rattle.std.proofs.lemmas.Str.{chars-IsAscii, encodes-chars}
 use Rattle.std.proofs.lemmas.Str.Ascii.{IsAscii-nil}
-use Rattle.atspi_forest.specs.News.{offers}
-use Rattle.atspi_cache.specs.Plain.{is_plain}
+use Rattle.atspi_tree_model.specs.News.{offers}
+use Rattle.atspi_cache.specs.inner.Plain.{is_plain}
 
 plain_first : (b : ℕ) (rest : Bool) → cond (nat_lt 0 b) (cond (nat_lt b 128) rest false) false ≡ true
     → (0 < b) × (b < 128) × (rest ≡ true)

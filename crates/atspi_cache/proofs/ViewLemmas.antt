@@ -11,7 +11,7 @@ use Rattle.std.specs.BTreeMap.{BTreeMap, is_at}
 use Rattle.std.specs.FinMap.{get, insert, remove, find, get-from_entries, get-insert, get-remove, same_map, nat_cmp-IsAntisymmetric}
 use Rattle.std.proofs.lemmas.Map.Made.{lookup-map_values}
 use Rattle.atspi_cache.specs.declared.cache.Held.{Held}
-use Rattle.atspi_forest.specs.declared.news.News.{News}
+use Rattle.atspi_tree_model.specs.declared.news.News.{News}
 use Rattle.atspi_cache.specs.Cache.{View, Views, folded, told, with_view}
 use Rattle.atspi_cache.specs.Held.{as_views, view_of}
 

@@ -5,12 +5,12 @@ use Rattle.std.specs.Ordering.{nat_cmp}
 use Rattle.std.specs.Coded.{Coded, code_by, coded×, coded_ℕ, coded_list}
 use Rattle.std.specs.FinMap as finmap
 use Rattle.std.specs.FinMap.{FinMap}
-use Rattle.atspi_forest.specs.declared.view.Row.{Row}
-use Rattle.atspi_forest.specs.declared.news.Item.{Item}
-use Rattle.atspi_forest.specs.declared.news.News.{News}
-use Rattle.atspi_forest.specs.Forest.{Forest, find}
-use Rattle.atspi_forest.specs.ForestCode.{forest_code}
-use Rattle.atspi_forest.specs.News.{is_path, effect, load, marks_reload}
+use Rattle.atspi_tree_model.specs.declared.view.Row.{Row}
+use Rattle.atspi_tree_model.specs.declared.news.Item.{Item}
+use Rattle.atspi_tree_model.specs.declared.news.News.{News}
+use Rattle.atspi_tree_model.specs.Forest.{Forest, find}
+use Rattle.atspi_tree_model.specs.ForestCode.{forest_code}
+use Rattle.atspi_tree_model.specs.News.{is_path, effect, load, marks_reload}
 
 -- what is kept of an application
 pub record View : Type 0 where
@@ -25,12 +25,14 @@ Views = FinMap nat_cmp View
 -- a view is stored as the tuple of its fields
 abbrev pub view_code : Coded Row → Coded View
 view_code row =
-    code_by (List ℕ × (List ℕ × Forest Row)) (coded× (coded_list coded_ℕ) (coded× (coded_list coded_ℕ) (forest_code row)))
+    code_by (List ℕ × (List ℕ × Forest Row))
+    (coded× (coded_list coded_ℕ) (coded× (coded_list coded_ℕ) (forest_code row)))
     (λ v. (v.bus, (v.root, v.rows))) (λ p. record { bus = p.0; root = p.1.0; rows = p.1.1 }) (λ _. refl)
 
 -- the views after an application is loaded: its items in place of what was kept of it
 abbrev pub loaded : ℕ → List ℕ → List ℕ → List Item → Views → Views
-loaded app bus root items views = finmap.insert views app (record { bus = bus; root = root; rows = load root bus items })
+loaded app bus root items views =
+    finmap.insert views app (record { bus = bus; root = root; rows = load root bus items })
 
 -- a view after a news
 abbrev pub told : News → View → View

@@ -1,6 +1,6 @@
 -- What is spoken of an application that is held.
 use Rattle.std.specs.Prelude.{List, ℕ, [], Option, Some, None}
-use Rattle.atspi_forest.specs.declared.news.News.{News}
+use Rattle.atspi_tree_model.specs.declared.news.News.{News}
 use Rattle.atspi_speech.specs.Speech.{closing_lines, lines}
 use Rattle.atspi_cache.specs.Cache.{View}
 

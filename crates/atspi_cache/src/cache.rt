@@ -3,17 +3,17 @@
 ghost use Rattle.std.specs.Prelude.{◌≡◌, chars, is_some, OnOk, OnErr, IfOk, IsSome};
 ghost use Rattle.std.specs.Option.{option_copied, option_map};
 ghost use Rattle.std.specs.FinMap as finmap;
-ghost use Rattle.atspi_arena.specs.Sights.{sights};
-ghost use Rattle.atspi_forest.specs.News.{load, marks_reload};
+ghost use Rattle.atspi_cache_arena.specs.Sights.{sights};
+ghost use Rattle.atspi_tree_model.specs.News.{load, marks_reload};
 ghost use Rattle.atspi_cache.specs.Cache.{folded, loaded, reloads, row_in, told};
 ghost use Rattle.atspi_cache.specs.Held.{as_views, view_of};
 
 use crate::load::load;
 use crate::news::{fold, marks_reload};
-use atspi_arena::{Arena, Rows};
 use atspi_base::valid_names::{BusName, Path};
 use atspi_base::{NoMemory, Text};
-use atspi_forest::{Item, Items, News, Row};
+use atspi_cache_arena::{Arena, Rows};
+use atspi_tree_model::{Item, Items, News, Row};
 use std::alloc::Global;
 use std::collections::BTreeMap;
 use std::marker::Model;
@@ -36,7 +36,7 @@ pub struct Cache {
 impl Model for Cache {
     ghost use Rattle.std.specs.Coded.{coded_ℕ};
     ghost use Rattle.std.specs.FinMap as finmap;
-    ghost use Rattle.atspi_forest.specs.contracts.view.Row as view_row;
+    ghost use Rattle.atspi_tree_model.specs.contracts.view.Row as view_row;
     ghost use Rattle.atspi_cache.specs.Cache.{Views, view_code};
 
     ghost Value = { Views };
@@ -59,7 +59,9 @@ fn put(apps: &mut BTreeMap<u32, Held>, app: u32, held: Held) -> Result<(), NoMem
 
 /// What is kept of an application with this bus name, this root and these items.
 fn held_of(alloc: Global, name: &BusName, root: &Path, items: &[Item]) -> Result<Held, NoMemory>
-    ensures { IfOk result (λ held. view_of held ≡ record { bus = chars name.now; root = root.now; rows = load root.now (chars name.now) items.now }) }
+    ensures { IfOk result
+        (λ held. view_of held
+        ≡ record { bus = chars name.now; root = root.now; rows = load root.now (chars name.now) items.now }) }
 {
     let bus = Text::of(alloc, name.as_str())?;
     let path = root.copy(alloc)?;
@@ -128,8 +130,8 @@ impl Cache {
         }
     }
 
-    /// Keeps the view of a list of items in place of what was kept of the application, which is held from then on. After want
-    /// of memory all is as before. Work is n log n.
+    /// Keeps the view of a list of items in place of what was kept of the application, which is held from then on.
+    /// After want of memory all is as before. Work is n log n.
     pub fn load(
         &mut self,
         app: u32,
@@ -146,8 +148,8 @@ impl Cache {
         put(&mut self.apps, app, held?)
     }
 
-    /// Takes a news of an application that is held, and says whether it asks for its items again. After want of memory all is
-    /// as before.
+    /// Takes a news of an application that is held, and says whether it asks for its items again. After want of memory
+    /// all is as before.
     pub fn fold(&mut self, app: u32, news: News) -> Result<bool, NoMemory>
         requires held { IsSome (finmap.get self.old app) }
         ensures reload { IfOk result (λ reload. reload ≡ reloads news (finmap.get self.old app)) }

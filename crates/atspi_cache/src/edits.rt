@@ -1,27 +1,14 @@
 //! A text with characters put in or taken out.
 
 ghost use Rattle.std.specs.Prelude.{◌≡◌, ◌+◌, ◌≤◌, length, chars, IfOk};
-ghost use Rattle.atspi_forest.specs.Row.{delete_there, insert_there, with_delete, with_insert};
-ghost use Rattle.atspi_faces.specs.Places.{CutAt};
+ghost use Rattle.atspi_tree_model.specs.Row.{delete_there, insert_there, with_delete, with_insert};
 
-use atspi_arena::spot;
-use atspi_base::{NoMemory, Text};
+use atspi_base::{NoMemory, Text, byte_of};
+use atspi_cache_arena::spot;
 use std::alloc::Global;
 
-/// At which byte the character at a place begins.
-fn byte_of(text: &str, at: usize) -> usize
-    requires { at ≤ length (chars text.now) }
-    ensures { CutAt text.now at result }
-{
-    let mut rest = text.chars();
-    for _i in 0..at {
-        let _ = rest.next();
-    }
-    text.len() - rest.as_str().len()
-}
-
-/// The text with another put in before the character at a place. `Err` comes for want of memory, or of room for more bytes
-/// than a text has.
+/// The text with another put in before the character at a place. `Err` comes for want of memory, or of room for more
+/// bytes than a text has.
 fn with_insert(alloc: Global, old: &Text, at: usize, more: &Text) -> Result<Text, NoMemory>
     requires { at ≤ length old.now }
     ensures { IfOk result (λ text. text ≡ with_insert at more.now old.now) }

@@ -1,14 +1,14 @@
 //! What an item says of a row.
 
 ghost use Rattle.std.specs.Prelude.{◌≡◌, ◌∷◌, ℕ, List, bytes_eq, codes, true, IfOk};
-ghost use Rattle.atspi_forest.specs.News.{fresh, kinds_of, offers, unknown_number_if, unknown_text_if};
-ghost use Rattle.atspi_forest.specs.View.{kinds_number};
-ghost use Rattle.atspi_cache.specs.Plain.{is_plain};
+ghost use Rattle.atspi_tree_model.specs.News.{fresh, kinds_of, offers, unknown_number_if, unknown_text_if};
+ghost use Rattle.atspi_tree_model.specs.View.{kinds_number};
+ghost use Rattle.atspi_cache.specs.inner.Plain.{is_plain};
 
-use atspi_arena::Change;
 use atspi_base::valid_names::Path;
 use atspi_base::{NoMemory, Text, Texts};
-use atspi_forest::{Item, Kinds, NumPart, Part, Row};
+use atspi_cache_arena::Change;
+use atspi_tree_model::{Item, Kinds, NumPart, Part, Row};
 use std::alloc::Global;
 
 /// Whether a text has just these characters of ASCII.
@@ -77,7 +77,8 @@ fn unknown_number_if(there: bool) -> NumPart
 /// The path of an item, and the change that it makes of a row that is known.
 pub(crate) fn renewal(item: Item) -> (Path, Change)
     ensures path { result.0 ≡ item.object.path }
-    ensures change { result.1 ≡ Change.Renewed item.name item.description item.role item.states (kinds_number (kinds_of item.interfaces)) }
+    ensures change { result.1
+        ≡ Change.Renewed item.name item.description item.role item.states (kinds_number (kinds_of item.interfaces)) }
 {
     let Item {
         object,

@@ -6,10 +6,11 @@ mod edits;
 mod item;
 pub mod laws;
 mod load;
+pub mod loading;
 mod news;
 mod spoken;
 
-pub use atspi_arena::{Rows, Seen};
+pub use atspi_cache_arena::{Rows, Seen};
 pub use cache::Cache;
 pub use news::{fold, marks_reload};
 pub use spoken::{closing, lines};

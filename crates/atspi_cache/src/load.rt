@@ -1,21 +1,22 @@
 //! The rows of a list of items.
 
 ghost use Rattle.std.specs.Prelude.{◌≡◌, false, None, OnOk, OnErr, IfOk};
-ghost use Rattle.atspi_forest.specs.Forest.{has, nil, put_in, tree};
-ghost use Rattle.atspi_forest.specs.News.{fresh, is_path, load};
+ghost use Rattle.atspi_tree_model.specs.Forest.{has, nil, put_in, tree};
+ghost use Rattle.atspi_tree_model.specs.News.{fresh, is_path, load};
 
 use crate::item::row_of;
-use atspi_arena::Arena;
+use crate::loading::reached_items;
 use atspi_base::valid_names::Path;
 use atspi_base::{NoMemory, Text};
-use atspi_forest::Item;
-use atspi_load::reached_items;
+use atspi_cache_arena::Arena;
+use atspi_tree_model::Item;
 use std::alloc::Global;
 
 /// Puts the row of an item behind the other children of its parent.
 fn put_last(alloc: Global, rows: &mut Arena, item: &Item) -> Result<(), NoMemory>
     requires is_new { has (is_path item.now.object.path) rows.old ≡ false }
-    ensures ok { OnOk result (rows.new ≡ put_in (is_path item.now.parent.path) None (tree (fresh item.now) nil nil) rows.old) }
+    ensures ok { OnOk result
+        (rows.new ≡ put_in (is_path item.now.parent.path) None (tree (fresh item.now) nil nil) rows.old) }
 {
     rows.insert(&item.parent.path, None, row_of(alloc, item)?)
 }

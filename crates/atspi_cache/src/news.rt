@@ -1,17 +1,18 @@
 //! What a news makes of the rows of an application.
 
 ghost use Rattle.std.specs.Prelude.{◌≡◌, bytes_eq, cond, false, true, IfOk, OnOk, OnErr};
-ghost use Rattle.atspi_forest.specs.Forest.{change, has, take_out};
-ghost use Rattle.atspi_forest.specs.Row.{delete_there, insert_there};
-ghost use Rattle.atspi_forest.specs.News.{added, effect, is_path, is_seat_at, item_effect, known_text_with, marks_reload, moved, names, renewed, seat_in};
-ghost use Rattle.atspi_arena.specs.Change.{changed};
+ghost use Rattle.atspi_tree_model.specs.Forest.{change, has, take_out};
+ghost use Rattle.atspi_tree_model.specs.Row.{delete_there, insert_there};
+ghost use Rattle.atspi_tree_model.specs.News.{added, effect, is_path, is_seat_at, item_effect, known_text_with};
+ghost use Rattle.atspi_tree_model.specs.News.{marks_reload, moved, names, renewed, seat_in};
+ghost use Rattle.atspi_cache_arena.specs.Change.{changed};
 
 use crate::edits::{delete_there, insert_there};
 use crate::item::{fresh, renewal};
-use atspi_arena::{Arena, Change, spot};
 use atspi_base::valid_names::Path;
 use atspi_base::{NoMemory, Text};
-use atspi_forest::{Item, News, Part};
+use atspi_cache_arena::{Arena, Change, spot};
+use atspi_tree_model::{Item, News, Part};
 use std::alloc::Global;
 
 /// Whether two texts are the same, as a test that computes.
@@ -35,11 +36,13 @@ fn has(rows: &Arena, path: &Path) -> bool
     rows.find(path).is_some()
 }
 
-/// Moves a row that is known to where its item says, and answers whether that is known without it, so that the row is to be
-/// renewed. All memory is taken first.
+/// Moves a row that is known to where its item says, and answers whether that is known without it, so that the row is
+/// to be renewed. All memory is taken first.
 fn move_there(rows: &mut Arena, bus: &Text, item: &Item) -> Result<bool, NoMemory>
     requires there { has (is_path item.now.object.path) rows.old ≡ true }
-    ensures ok { IfOk result (λ known. cond known (change (is_path item.now.object.path) (renewed item.now) rows.new) rows.new ≡ moved (is_path item.now.object.path) (names bus.now item.now.parent) item.now rows.old) }
+    ensures ok { IfOk result
+        (λ known. cond known (change (is_path item.now.object.path) (renewed item.now) rows.new) rows.new
+        ≡ moved (is_path item.now.object.path) (names bus.now item.now.parent) item.now rows.old) }
     ensures err { OnErr result (rows.new ≡ rows.old) }
 {
     if !is_text(&item.parent.bus, bus) {
@@ -68,7 +71,8 @@ fn renew_root(rows: &mut Arena, root: &Path, item: Item)
     rows.change(root, with);
 }
 
-/// Moves a row that is known to where its item says, if that is known without it, and renews it. All memory is taken first.
+/// Moves a row that is known to where its item says, if that is known without it, and renews it. All memory is taken
+/// first.
 fn move_item(rows: &mut Arena, bus: &Text, item: Item) -> Result<(), NoMemory>
     requires there { has (is_path item.object.path) rows.old ≡ true }
     ensures ok { OnOk result (rows.new ≡ moved (is_path item.object.path) (names bus.now item.parent) item rows.old) }
@@ -126,7 +130,8 @@ fn take_item(rows: &mut Arena, root: &Path, bus: &Text, item: Item) -> Result<()
 
 /// Drops a row and all below it, but never the root.
 fn remove(rows: &mut Arena, root: &Path, path: &Path) -> Result<(), NoMemory>
-    ensures ok { OnOk result (rows.new ≡ cond (bytes_eq path.now root.now) rows.old (take_out (is_path path.now) rows.old)) }
+    ensures ok { OnOk result
+        (rows.new ≡ cond (bytes_eq path.now root.now) rows.old (take_out (is_path path.now) rows.old)) }
     ensures err { OnErr result (rows.new ≡ rows.old) }
 {
     if is_same(path, root) {
@@ -137,7 +142,10 @@ fn remove(rows: &mut Arena, root: &Path, path: &Path) -> Result<(), NoMemory>
 
 /// Drops a child and all below it where it stands at this index of this parent.
 fn remove_child(rows: &mut Arena, parent: &Path, index: i32, child: &Path) -> Result<(), NoMemory>
-    ensures ok { OnOk result (rows.new ≡ cond (is_seat_at parent.now index (seat_in child.now rows.old)) (take_out (is_path child.now) rows.old) rows.old) }
+    ensures ok { OnOk result
+        (rows.new
+        ≡ cond (is_seat_at parent.now index (seat_in child.now rows.old)) (take_out (is_path child.now) rows.old)
+        rows.old) }
     ensures err { OnErr result (rows.new ≡ rows.old) }
 {
     if rows.stands_at(child, parent, index) {
@@ -154,7 +162,10 @@ fn insert(
     at: i32,
     text: &Text,
 ) -> Result<(), NoMemory>
-    ensures ok { OnOk result (rows.new ≡ change (is_path path.now) (λ row. record row { text = known_text_with (insert_there at text.now) row.text }) rows.old) }
+    ensures ok { OnOk result
+        (rows.new
+        ≡ change (is_path path.now)
+        (λ row. record row { text = known_text_with (insert_there at text.now) row.text }) rows.old) }
     ensures err { OnErr result (rows.new ≡ rows.old) }
 {
     let Some(row) = rows.find(path) else {
@@ -170,7 +181,10 @@ fn insert(
 
 /// Takes characters out of the text of a row, where it is known and they are in it.
 fn delete(alloc: Global, rows: &mut Arena, path: &Path, at: i32, len: i32) -> Result<(), NoMemory>
-    ensures ok { OnOk result (rows.new ≡ change (is_path path.now) (λ row. record row { text = known_text_with (delete_there at len) row.text }) rows.old) }
+    ensures ok { OnOk result
+        (rows.new
+        ≡ change (is_path path.now) (λ row. record row { text = known_text_with (delete_there at len) row.text })
+        rows.old) }
     ensures err { OnErr result (rows.new ≡ rows.old) }
 {
     let Some(row) = rows.find(path) else {
@@ -203,8 +217,8 @@ pub fn marks_reload(rows: &Arena, news: &News) -> bool
     }
 }
 
-/// Takes a news of an application with this root and this bus name. All memory is taken before the first change: after want
-/// of it the rows are as before.
+/// Takes a news of an application with this root and this bus name. All memory is taken before the first change: after
+/// want of it the rows are as before.
 pub fn fold(
     alloc: Global,
     rows: &mut Arena,

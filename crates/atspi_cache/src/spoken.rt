@@ -9,8 +9,8 @@ ghost use Rattle.atspi_cache.specs.Spoken.{closing_in, lines_of};
 
 use crate::cache::Cache;
 use atspi_base::{NoMemory, Text, Texts};
-use atspi_forest::{News, Row};
 use atspi_speech::closing_line;
+use atspi_tree_model::{News, Row};
 
 /// What a news is about in a view.
 #[derive(Clone, Copy)]
@@ -23,7 +23,8 @@ struct Looked<'a> {
 
 /// Looks up what a news is about.
 fn look_up<'a>(cache: &'a Cache, app: u32, news: &News) -> Looked<'a>
-    ensures { (v : View) → finmap.get cache.now app ≡ Some v → AreLookedUp v.rows news.now (option_copied result.row) result.has_parent }
+    ensures { (v : View) → finmap.get cache.now app ≡ Some v
+        → AreLookedUp v.rows news.now (option_copied result.row) result.has_parent }
 {
     let path = match news {
         News::Item(item) => {
@@ -49,8 +50,8 @@ fn look_up<'a>(cache: &'a Cache, app: u32, news: &News) -> Looked<'a>
     }
 }
 
-/// Appends the lines that are spoken at a news of an application that is held, given the cache before the news. After want of
-/// memory `out` is as before.
+/// Appends the lines that are spoken at a news of an application that is held, given the cache before the news. After
+/// want of memory `out` is as before.
 pub fn lines(cache: &Cache, app: u32, news: &News, out: &mut Texts) -> Result<(), NoMemory>
     requires held { IsSome (finmap.get cache.now app) }
     ensures ok { OnOk result (out.new ≡ out.old ++ lines_of news.now (finmap.get cache.now app)) }

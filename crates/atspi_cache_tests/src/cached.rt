@@ -5,7 +5,7 @@ use crate::words::{items_of, news_of, path_of};
 use atspi_base::valid_names::{BusName, Path};
 use atspi_base::{Text, Texts};
 use atspi_cache::{Cache, Seen, closing, lines};
-use atspi_forest::Items;
+use atspi_tree_model::Items;
 use std::alloc::Global;
 use std::process::Abort;
 use std::test::*;
@@ -41,7 +41,8 @@ fn put_seen(alloc: Global, text: &mut String, seen: Seen) -> Option<()> {
     text.push_str(place.as_str()).ok()
 }
 
-/// The rows of the application in preorder, each with a blank before it: `PATH`, for all but the root `<PARENT`, and `@INDEX`.
+/// The rows of the application in preorder, each with a blank before it: `PATH`, for all but the root `<PARENT`, and
+/// `@INDEX`.
 pub(crate) fn shown(alloc: Global, cache: &Cache) -> Option<String> {
     let mut text = String::new(alloc);
     for seen in cache.rows(7)? {
@@ -103,8 +104,9 @@ fn closes(cache: &Cache, due: &str) -> Option<bool> {
     Some(due.strip_prefix(' ') == Some(line.as_str()))
 }
 
-/// Whether a cache answers as a row says, behind its ` =`: `load ITEMS` and the rows then; `after NEWS` and the rows then; `tell NEWS`, and
-/// whether it asks for a reload; `say NEWS`, and the line that is spoken; or `closing`, and the line at the end of the application.
+/// Whether a cache answers as a row says, behind its ` =`: `load ITEMS` and the rows then; `after NEWS` and the rows
+/// then; `tell NEWS`, and whether it asks for a reload; `say NEWS`, and the line that is spoken; or `closing`, and the
+/// line at the end of the application.
 fn holds(alloc: Global, cache: &mut Cache, row: &str) -> Option<bool> {
     let (asked, due) = row.split_once(" =")?;
     let (kind, words) = asked.split_once(' ').unwrap_or((asked, ""));

@@ -3,7 +3,7 @@
 use crate::cached::load;
 use crate::words::put_item;
 use atspi_cache::Cache;
-use atspi_forest::Items;
+use atspi_tree_model::Items;
 use std::alloc::Global;
 use std::test::*;
 

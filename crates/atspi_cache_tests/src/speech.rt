@@ -4,8 +4,8 @@ use crate::cached::load_text;
 use crate::words::{news_of, text_of};
 use atspi_base::{Text, Texts};
 use atspi_cache::Cache;
-use atspi_forest::Row;
 use atspi_speech::{closing_line, lines};
+use atspi_tree_model::Row;
 use std::alloc::Global;
 use std::test::*;
 
@@ -23,7 +23,8 @@ fn load_known(alloc: Global, cache: &mut Cache, known: &str) -> Option<()> {
     load_text(alloc, cache, items.as_str())
 }
 
-/// The row of `/a`, behind that of the root; none where `/a` is not known (`unknown`), or neither it nor an item's parent (`nobody`).
+/// The row of `/a`, behind that of the root; none where `/a` is not known (`unknown`), or neither it nor an item's
+/// parent (`nobody`).
 fn row_of<'a>(cache: &'a Cache, known: &str) -> Option<&'a Row> {
     if known == "unknown" || known == "nobody" {
         return None;
@@ -77,10 +78,11 @@ fn holds(alloc: Global, cache: &mut Cache, row: &str) -> Option<bool> {
     Some(are(out.as_slice(), due))
 }
 
-/// What is known of `/a`, its role, its states and its name, news of it, and the line that is due, or a dash for none. The focus comes and
-/// goes: the states are checkable (bit 41), and that with checked, collapsible, pressed and selected; then states of a node that has
-/// the focus, and of one that has not; names and texts of a node that has the focus, of a password, and of other nodes; new alerts and
-/// notifications of a parent that is known; then another role, other applications, and the root; and other news of a node that has the focus.
+/// What is known of `/a`, its role, its states and its name, news of it, and the line that is due, or a dash for none.
+/// The focus comes and goes: the states are checkable (bit 41), and that with checked, collapsible, pressed and
+/// selected; then states of a node that has the focus, and of one that has not; names and texts of a node that has the
+/// focus, of a password, and of other nodes; new alerts and notifications of a parent that is known; then another role,
+/// other applications, and the root; and other news of a node that has the focus.
 const NEWS: &str = "\
 33 0 File: on /a 12 => File, menu
 8 2199023255552 Wrap: on /a 12 => Wrap, check menu item, not checked

@@ -1,8 +1,8 @@
-//! Loads, news and what is due: the rows that are kept, each with its parent, but for the root, and its index there, or the line
-//! that is spoken.
+//! Loads, news and what is due: the rows that are kept, each with its parent, but for the root, and its index there, or
+//! the line that is spoken.
 
-/// Which rows a load keeps, whatever the items: each an object, its parent and its index. A `!` stands before an object of another
-/// application. The root has no parent, and the index below zero.
+/// Which rows a load keeps, whatever the items: each an object, its parent and its index. A `!` stands before an object
+/// of another application. The root has no parent, and the index below zero.
 pub(crate) const LOADS: &str = "\
 load /r /r -1, /a /r 0, /b /r 1 = /r@-1 /a</r@0 /b</r@1
 load /c /a 0, /a /r 0, /r /x -1 = /r@-1 /a</r@0 /c</a@0
@@ -38,7 +38,8 @@ after item /b /a 0, removed /a = /r@-1 /c</r@0
 after removed /c, item /c /a 0 = /r@-1 /a</r@0 /c</a@0 /b</r@1
 after child-removed /r 2 /c = /r@-1 /a</r@0 /b</r@1";
 
-/// News that change no row's place: of other applications, of what is not known, and of a node that is not where they say.
+/// News that change no row's place: of other applications, of what is not known, and of a node that is not where they
+/// say.
 pub(crate) const NO_CHANGES: &str = "\
 after item !/d /r 0 = /r@-1 /a</r@0 /b</r@1 /c</r@2
 after item /d !/r 0 = /r@-1 /a</r@0 /b</r@1 /c</r@2
@@ -73,7 +74,8 @@ after caret-is /e = /r@-1 /a</r@0 /b</r@1 /c</r@2
 after columns-is /e = /r@-1 /a</r@0 /b</r@1 /c</r@2
 after nothing /e = /r@-1 /a</r@0 /b</r@1 /c</r@2";
 
-/// News one behind another. Only a child that is not known asks for a reload. A cache speaks from the view that a news makes.
+/// News one behind another. Only a child that is not known asks for a reload. A cache speaks from the view that a news
+/// makes.
 pub(crate) const SPOKEN: &str = "\
 load /r /r 0, /a /r 0 = /r@-1 /a</r@0
 tell child-added /a = kept

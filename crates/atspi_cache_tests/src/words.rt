@@ -2,7 +2,7 @@
 
 use atspi_base::valid_names::Path;
 use atspi_base::{Text, Texts};
-use atspi_forest::{Item, Items, News, Reference};
+use atspi_tree_model::{Item, Items, News, Reference};
 use std::alloc::Global;
 use std::test::*;
 
@@ -49,8 +49,8 @@ struct ItemWords<'a> {
     name: &'a str,
 }
 
-/// The words of `OBJECT PARENT INDEX`, behind which a role, states and a name may stand, with a `!` before a path of another
-/// application.
+/// The words of `OBJECT PARENT INDEX`, behind which a role, states and a name may stand, with a `!` before a path of
+/// another application.
 fn item_words(words: &str) -> Option<ItemWords<'_>> {
     let mut words = words.split_whitespace();
     let object = words.next()?;
@@ -179,8 +179,8 @@ fn plain_news(alloc: Global, kind: &str, path: &str, state: u8) -> Option<News> 
     })
 }
 
-/// The news of words: `item` and what spells it, `child-removed PARENT INDEX CHILD`, `on PATH STATE` or `off`, a kind with a path
-/// and a text, as `name PATH TEXT`, or with a path alone, as `removed PATH`.
+/// The news of words: `item` and what spells it, `child-removed PARENT INDEX CHILD`, `on PATH STATE` or `off`, a kind
+/// with a path and a text, as `name PATH TEXT`, or with a path alone, as `removed PATH`.
 pub(crate) fn news_of(alloc: Global, words: &str) -> Option<News> {
     let (kind, rest) = words.trim().split_once(' ')?;
     let (path, text) = rest.split_once(' ').unwrap_or((rest, ""));

@@ -2,7 +2,7 @@
 use Rattle.std.proofs.Common.{ℕ, List, [], ◌∷◌, ap}
 use Rattle.std.specs.Prelude.{Option, None}
 use Rattle.atspi_match.specs.routing.Queues.{Bus}
-use Rattle.atspi_carrying.specs.Halted.{Naming, HaveNames}
+use Rattle.atspi_world_moves.specs.Halted.{Naming, HaveNames}
 use Rattle.atspi_examples.specs.Halting.{nameless, one_named, two_ends, two_posts}
 
 abbrev second : List Naming → Option (List ℕ)

@@ -1,9 +1,9 @@
 -- Two ends, the registry and an application, of which one may have left; their connections; and that one is dropped.
 use Rattle.std.specs.Prelude.{List, [], ◌∷◌, Option, None, Some, codes, ℕ}
-use Rattle.atspi_lines.specs.declared.line.Party.{Party}
-use Rattle.atspi_lines.specs.declared.line.Party.TheVariants.{Registry, App}
-use Rattle.atspi_posts.specs.declared.post.Post.{Post}
-use Rattle.atspi_posts.specs.declared.post.Standing.TheVariants.{Here}
+use Rattle.atspi_script_lines.specs.declared.line.Party.{Party}
+use Rattle.atspi_script_lines.specs.declared.line.Party.TheVariants.{Registry, App}
+use Rattle.atspi_world_links.specs.declared.post.Post.{Post}
+use Rattle.atspi_world_links.specs.declared.post.Standing.TheVariants.{Here}
 use Rattle.atspi_match.specs.routing.Queues.{Bus}
 use Rattle.atspi_trace.specs.Entry.{dropped}
 use Rattle.atspi_trace.specs.World.{World, first_registry}

@@ -1,6 +1,6 @@
 -- Small maps, of which all but the first are no trees.
 use Rattle.std.specs.Prelude.{ℕ, zero, suc, nat_lt, cond, List, [], Option, Some, None}
-use Rattle.atspi_forest.specs.Row.{TreeRow}
+use Rattle.atspi_tree_model.specs.Row.{TreeRow}
 use Rattle.atspi_examples.specs.Room.{bare, root}
 
 -- node 0 and node 1

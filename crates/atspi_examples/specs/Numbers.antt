@@ -1,6 +1,6 @@
 -- Small forests of numbers.
 use Rattle.std.specs.Prelude.{ℕ, zero, suc, ◌==◌, Bool, List, [], ◌∷◌}
-use Rattle.atspi_forest.specs.Forest.{Forest, nil, tree, seats}
+use Rattle.atspi_tree_model.specs.Forest.{Forest, nil, tree, seats}
 
 -- the test for a number
 abbrev pub is : ℕ → ℕ → Bool

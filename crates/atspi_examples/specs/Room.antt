@@ -1,19 +1,19 @@
 -- The room: the tree of the worked cases about edits and steps, and its rows.
 use Rattle.std.specs.Prelude.{ℕ, ℤ, zero, suc, true, false, List, [], ◌∷◌, Option, Some, None, Result, codes}
-use Rattle.atspi_forest.specs.declared.contents.Kinds.{Kinds}
-use Rattle.atspi_forest.specs.declared.contents.FaceData.TheVariants.{Chars}
-use Rattle.atspi_forest.specs.declared.step.Seed.{Seed}
-use Rattle.atspi_forest.specs.declared.step.Step.{Step}
-use Rattle.atspi_forest.specs.declared.edit.Edit.{Edit}
-use Rattle.atspi_forest.specs.declared.edit.EditFault.{EditFault}
-use Rattle.atspi_forest.specs.declared.news.Reference.{Reference}
-use Rattle.atspi_forest.specs.declared.news.Item.{Item}
-use Rattle.atspi_forest.specs.Forest.{Forest, nil, tree, find, seats}
-use Rattle.atspi_forest.specs.Row.{TextContents, TreeRow}
-use Rattle.atspi_forest.specs.RowRules.{rows}
-use Rattle.atspi_forest.specs.Tree.{is_node, shape_of, after}
-use Rattle.atspi_forest.specs.View.{Told}
-use Rattle.atspi_forest.specs.Edits.{steps_of, steps_of_tree}
+use Rattle.atspi_tree_model.specs.declared.contents.Kinds.{Kinds}
+use Rattle.atspi_tree_model.specs.declared.contents.FaceData.TheVariants.{Chars}
+use Rattle.atspi_tree_model.specs.declared.step.Seed.{Seed}
+use Rattle.atspi_tree_model.specs.declared.step.Step.{Step}
+use Rattle.atspi_tree_model.specs.declared.edit.Edit.{Edit}
+use Rattle.atspi_tree_model.specs.declared.edit.EditFault.{EditFault}
+use Rattle.atspi_tree_model.specs.declared.news.Reference.{Reference}
+use Rattle.atspi_tree_model.specs.declared.news.Item.{Item}
+use Rattle.atspi_tree_model.specs.Forest.{Forest, nil, tree, find, seats}
+use Rattle.atspi_tree_model.specs.Row.{TextContents, TreeRow}
+use Rattle.atspi_tree_model.specs.RowRules.{rows}
+use Rattle.atspi_tree_model.specs.Tree.{is_node, shape_of, after}
+use Rattle.atspi_tree_model.specs.View.{Told}
+use Rattle.atspi_tree_model.specs.Edits.{steps_of, steps_of_tree}
 
 -- no interface
 abbrev pub no_kinds : Kinds
@@ -75,7 +75,8 @@ button = record {
 
 -- a list, of which many children can be selected at once
 abbrev pub wide_list : TreeRow
-wide_list = record (bare 7 262144) { shape = record (bare 7 262144).shape { kinds = record no_kinds { selection = true } } }
+wide_list =
+    record (bare 7 262144) { shape = record (bare 7 262144).shape { kinds = record no_kinds { selection = true } } }
 
 -- a button that is expanded and pressed
 abbrev pub pressed_button : TreeRow
@@ -88,7 +89,8 @@ pressed_button = record {
 abbrev pub sign : TreeRow
 sign = record {
   shape = record (bare 10 0).shape { kinds = record no_kinds { text = true } };
-  contents = record (bare 10 0).contents { text = Some (record { characters = codes "abc"; caret = 0; selections = [] }) };
+  contents =
+      record (bare 10 0).contents { text = Some (record { characters = codes "abc"; caret = 0; selections = [] }) };
 }
 
 -- below the root: a list, whose children are 6, which is focused and selected, 4, which is focused, and 5, which is
@@ -116,7 +118,8 @@ nowhere edit = steps_of_tree nil 0 edit
 
 -- a seed of a role and a name
 abbrev pub plain : ℕ → List ℕ → Seed
-plain role name = record { role = role; name = name; text = None; editable = false; columns = None; select = false; actions = [] }
+plain role name =
+    record { role = role; name = name; text = None; editable = false; columns = None; select = false; actions = [] }
 
 -- a seed with so many columns
 abbrev pub with_columns : ℕ → Seed

@@ -1,14 +1,15 @@
 -- A reader's view of four nodes, with short paths, and the items and news about them.
 use Rattle.std.specs.Prelude.{ℕ, ◌+◌, ℤ, pos, false, cond, bytes_eq, List, [], ◌∷◌, Option, Some, None, codes}
-use Rattle.atspi_forest.specs.declared.view.Row.{Row}
-use Rattle.atspi_forest.specs.declared.view.Part.TheVariants.{Absent, Unknown, Known}
-use Rattle.atspi_forest.specs.declared.view.NumPart.TheVariants.{Absent as NoNumber, Unknown as UnknownNumber, Known as KnownNumber}
-use Rattle.atspi_forest.specs.declared.news.Reference.{Reference}
-use Rattle.atspi_forest.specs.declared.news.Item.{Item}
-use Rattle.atspi_forest.specs.declared.news.News.{News}
-use Rattle.atspi_forest.specs.Forest.{Forest, nil, tree, seats}
-use Rattle.atspi_forest.specs.View.{Told}
-use Rattle.atspi_forest.specs.News.{effect, load, told_after}
+use Rattle.atspi_tree_model.specs.declared.view.Row.{Row}
+use Rattle.atspi_tree_model.specs.declared.view.Part.TheVariants.{Absent, Unknown, Known}
+use Rattle.atspi_tree_model.specs.declared.view.NumPart.TheVariants.{Absent as NoNumber, Unknown as UnknownNumber}
+use Rattle.atspi_tree_model.specs.declared.view.NumPart.TheVariants.{Known as KnownNumber}
+use Rattle.atspi_tree_model.specs.declared.news.Reference.{Reference}
+use Rattle.atspi_tree_model.specs.declared.news.Item.{Item}
+use Rattle.atspi_tree_model.specs.declared.news.News.{News}
+use Rattle.atspi_tree_model.specs.Forest.{Forest, nil, tree, seats}
+use Rattle.atspi_tree_model.specs.View.{Told}
+use Rattle.atspi_tree_model.specs.News.{effect, load, told_after}
 use Rattle.atspi_examples.specs.Room.{told_all}
 
 -- the bus name of the application, and that of another

@@ -1,7 +1,7 @@
 -- A tree of two nodes, and what cases of spoken lines say of it.
 use Rattle.std.specs.Prelude.{ℕ, ◌^◌, List, codes}
-use Rattle.atspi_forest.specs.Forest.{Forest, nil, tree}
-use Rattle.atspi_forest.specs.Row.{TreeRow}
+use Rattle.atspi_tree_model.specs.Forest.{Forest, nil, tree}
+use Rattle.atspi_tree_model.specs.Row.{TreeRow}
 use Rattle.atspi_examples.specs.Room.{bare}
 
 -- a node of this number with a name, a role and states, and nothing else

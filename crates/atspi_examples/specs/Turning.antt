@@ -1,17 +1,17 @@
 -- Ends by what waits for them: posts with and without bytes, and a letter whose message has a length.
 use Rattle.std.specs.Prelude.{◌≡◌, ℕ, false, List, [], length, None}
-use Rattle.atspi_forest.specs.Forest.{nil}
-use Rattle.atspi_lines.specs.declared.line.Party.TheVariants.{Bus as The_bus, Reader}
+use Rattle.atspi_tree_model.specs.Forest.{nil}
+use Rattle.atspi_script_lines.specs.declared.line.Party.TheVariants.{Bus as The_bus, Reader}
 use Rattle.atspi_message.specs.Envelope.{Envelope}
 use Rattle.atspi_message.specs.Bytes.{written}
 use Rattle.atspi_match.specs.routing.Queues.{Bus}
-use Rattle.atspi_posts.specs.declared.post.Post.{Post}
-use Rattle.atspi_posts.specs.declared.post.Standing.{Standing}
-use Rattle.atspi_carrying.specs.Filled.{waits_for}
+use Rattle.atspi_world_links.specs.declared.post.Post.{Post}
+use Rattle.atspi_world_links.specs.declared.post.Standing.{Standing}
+use Rattle.atspi_world_moves.specs.Filled.{waits_for}
 use Rattle.atspi_trace.specs.World.{Letter}
-use Rattle.atspi_forest.specs.declared.view.Row.{Row}
-use Rattle.atspi_forest.specs.declared.view.Part.TheVariants.{Unknown}
-use Rattle.atspi_forest.specs.declared.view.NumPart.TheVariants.{Unknown as UnknownNumber}
+use Rattle.atspi_tree_model.specs.declared.view.Row.{Row}
+use Rattle.atspi_tree_model.specs.declared.view.Part.TheVariants.{Unknown}
+use Rattle.atspi_tree_model.specs.declared.view.NumPart.TheVariants.{Unknown as UnknownNumber}
 use Rattle.atspi_protocol.specs.following.ReaderState.{Followed}
 use Rattle.atspi_examples.specs.Seen.{bus, path, row}
 

@@ -1,10 +1,10 @@
-//! What may be asked of a node's contents and changed in them: cases beside those of `atspi_face`.
+//! What may be asked of a node's contents and changed in them: cases beside those of `atspi_faces::face`.
 
 ghost use Rattle.std.specs.Prelude.{[], ◌∷◌};
-ghost use Rattle.atspi_forest.specs.declared.contents.FaceData.TheVariants.{Chars};
-ghost use Rattle.atspi_face.specs.declared.change.Change.TheVariants.{Delete};
-ghost use Rattle.atspi_face.specs.Contents.{IsChange, IsPart};
-ghost use Rattle.atspi_face.specs.Examples.{actions, hello, short};
+ghost use Rattle.atspi_tree_model.specs.declared.contents.FaceData.TheVariants.{Chars};
+ghost use Rattle.atspi_faces.specs.declared.face.change.Change.TheVariants.{Delete};
+ghost use Rattle.atspi_faces.specs.face.Contents.{IsChange, IsPart};
+ghost use Rattle.atspi_faces.specs.face.Examples.{actions, hello, short};
 
 /// The name of an action is asked for by its place alone; a part of a text does not end before it begins.
 pub fn parts()

@@ -1,10 +1,10 @@
 //! The steps of each edit of the room, where it is not refused.
 
 ghost use Rattle.std.specs.Prelude.{◌≡◌, ◌∷◌, [], codes, true, false};
-ghost use Rattle.atspi_forest.specs.Edits.{is_seat, numbers_to};
+ghost use Rattle.atspi_tree_model.specs.Edits.{is_seat, numbers_to};
 ghost use Rattle.atspi_examples.specs.Room.{answer, plain};
 
-use atspi_forest::{Edit, Step};
+use atspi_tree_model::{Edit, Step};
 
 /// A new node takes the next number, also where nodes are gone.
 pub fn insert()
@@ -43,7 +43,10 @@ pub fn states_and_focus()
     ensures off { answer (Edit.State 4 12 false) ≡ Ok (Step.SetState 4 12 false ∷ []) }
     ensures is_on { answer (Edit.State 4 12 true) ≡ Ok [] }
     ensures is_off { answer (Edit.State 4 4 false) ≡ Ok [] }
-    ensures focus { answer (Edit.Focus 5) ≡ Ok (Step.SetState 3 12 false ∷ Step.SetState 4 12 false ∷ Step.SetState 6 12 false ∷ Step.SetState 5 12 true ∷ []) }
+    ensures focus { answer (Edit.Focus 5)
+        ≡ Ok
+        (Step.SetState 3 12 false ∷ Step.SetState 4 12 false ∷ Step.SetState 6 12 false ∷ Step.SetState 5 12 true
+        ∷ []) }
     ensures focused { answer (Edit.Focus 4) ≡ Ok (Step.SetState 3 12 false ∷ Step.SetState 6 12 false ∷ []) }
 {}
 
@@ -77,10 +80,11 @@ pub fn caret_and_marks()
     ensures no_mark { answer (Edit.Unmark 10) ≡ Ok [] }
 {}
 
-/// Of node 1's children 6, 4 and 5 the first and the last have the state 23, selected; node 7 is multiselectable, and 8,
-/// the first of its children, is selected.
+/// Of node 1's children 6, 4 and 5 the first and the last have the state 23, selected; node 7 is multiselectable, and
+/// 8, the first of its children, is selected.
 pub fn selections()
-    ensures other { answer (Edit.Select 1 1) ≡ Ok (Step.SetState 6 23 false ∷ Step.SetState 5 23 false ∷ Step.SetState 4 23 true ∷ []) }
+    ensures other { answer (Edit.Select 1 1)
+        ≡ Ok (Step.SetState 6 23 false ∷ Step.SetState 5 23 false ∷ Step.SetState 4 23 true ∷ []) }
     ensures selected { answer (Edit.Select 1 0) ≡ Ok (Step.SetState 5 23 false ∷ []) }
     ensures selected_last { answer (Edit.Select 1 2) ≡ Ok (Step.SetState 6 23 false ∷ []) }
     ensures beside { answer (Edit.Select 7 1) ≡ Ok (Step.SetState 9 23 true ∷ []) }
@@ -114,8 +118,8 @@ pub fn relations()
     ensures last_kind { answer (Edit.Unrelate 3 18 0) ≡ Ok [] }
 {}
 
-/// The focus is taken from any node that was ever added, the root too; a node stands at one index of one parent, and the root
-/// at none.
+/// The focus is taken from any node that was ever added, the root too; a node stands at one index of one parent, and
+/// the root at none.
 pub fn numbers_and_seats()
     ensures root { numbers_to 0 ≡ 0 ∷ [] }
     ensures all { numbers_to 3 ≡ 0 ∷ 1 ∷ 2 ∷ 3 ∷ [] }

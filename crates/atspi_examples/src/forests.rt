@@ -1,7 +1,9 @@
 //! The operations on forests, on numbers.
 
 ghost use Rattle.std.specs.Prelude.{◌≡◌, ◌+◌, ◌∷◌, [], nat_lt, true, false};
-ghost use Rattle.atspi_forest.specs.Forest.{nil, tree, labels, count, has, width, join, put_in, take_out, pick, relabel, change, place, find, tops, children_at, grow, EachLabel, EachNode};
+ghost use Rattle.atspi_tree_model.specs.Forest.{nil, tree, labels, count, has, width, join, put_in, take_out, pick};
+ghost use Rattle.atspi_tree_model.specs.Forest.{relabel, change, place, find, tops, children_at, grow, EachLabel};
+ghost use Rattle.atspi_tree_model.specs.Forest.{EachNode};
 ghost use Rattle.atspi_examples.specs.Numbers.{is, leaf, sample, pair, spread, children};
 
 /// Labels stand in preorder.
@@ -18,20 +20,26 @@ pub fn counts()
     ensures width_leaves { width pair ≡ 2 }
     ensures width_none { width (children_at (is 2) sample) ≡ 0 }
     ensures tops { tops sample ≡ 1 ∷ 5 ∷ [] }
-    ensures join { spread (join (leaf 9) sample) ≡ (0, 0, 9) ∷ (0, 1, 1) ∷ (1, 0, 2) ∷ (1, 1, 3) ∷ (3, 0, 4) ∷ (0, 2, 5) ∷ (5, 0, 6) ∷ [] }
+    ensures join { spread (join (leaf 9) sample)
+        ≡ (0, 0, 9) ∷ (0, 1, 1) ∷ (1, 0, 2) ∷ (1, 1, 3) ∷ (3, 0, 4) ∷ (0, 2, 5) ∷ (5, 0, 6) ∷ [] }
 {}
 
-/// 7 and 8 are put below 1: in front, between its children, behind them, behind them also for an index that is too large,
-/// and at the end.
+/// 7 and 8 are put below 1: in front, between its children, behind them, behind them also for an index that is too
+/// large, and at the end.
 pub fn put_in_order()
-    ensures first { spread (put_in (is 1) (Some 0) pair sample) ≡ (0, 0, 1) ∷ (1, 0, 7) ∷ (1, 1, 8) ∷ (1, 2, 2) ∷ (1, 3, 3) ∷ (3, 0, 4) ∷ (0, 1, 5) ∷ (5, 0, 6) ∷ [] }
-    ensures between { spread (put_in (is 1) (Some 1) pair sample) ≡ (0, 0, 1) ∷ (1, 0, 2) ∷ (1, 1, 7) ∷ (1, 2, 8) ∷ (1, 3, 3) ∷ (3, 0, 4) ∷ (0, 1, 5) ∷ (5, 0, 6) ∷ [] }
-    ensures last { spread (put_in (is 1) (Some 2) pair sample) ≡ (0, 0, 1) ∷ (1, 0, 2) ∷ (1, 1, 3) ∷ (3, 0, 4) ∷ (1, 2, 7) ∷ (1, 3, 8) ∷ (0, 1, 5) ∷ (5, 0, 6) ∷ [] }
+    ensures first { spread (put_in (is 1) (Some 0) pair sample)
+        ≡ (0, 0, 1) ∷ (1, 0, 7) ∷ (1, 1, 8) ∷ (1, 2, 2) ∷ (1, 3, 3) ∷ (3, 0, 4) ∷ (0, 1, 5) ∷ (5, 0, 6) ∷ [] }
+    ensures between { spread (put_in (is 1) (Some 1) pair sample)
+        ≡ (0, 0, 1) ∷ (1, 0, 2) ∷ (1, 1, 7) ∷ (1, 2, 8) ∷ (1, 3, 3) ∷ (3, 0, 4) ∷ (0, 1, 5) ∷ (5, 0, 6) ∷ [] }
+    ensures last { spread (put_in (is 1) (Some 2) pair sample)
+        ≡ (0, 0, 1) ∷ (1, 0, 2) ∷ (1, 1, 3) ∷ (3, 0, 4) ∷ (1, 2, 7) ∷ (1, 3, 8) ∷ (0, 1, 5) ∷ (5, 0, 6) ∷ [] }
     ensures beyond { put_in (is 1) (Some 9) pair sample ≡ put_in (is 1) (Some 2) pair sample }
     ensures end { put_in (is 1) None pair sample ≡ put_in (is 1) (Some 2) pair sample }
-    ensures leaf { spread (put_in (is 6) (Some 0) (leaf 7) sample) ≡ (0, 0, 1) ∷ (1, 0, 2) ∷ (1, 1, 3) ∷ (3, 0, 4) ∷ (0, 1, 5) ∷ (5, 0, 6) ∷ (6, 0, 7) ∷ [] }
+    ensures leaf { spread (put_in (is 6) (Some 0) (leaf 7) sample)
+        ≡ (0, 0, 1) ∷ (1, 0, 2) ∷ (1, 1, 3) ∷ (3, 0, 4) ∷ (0, 1, 5) ∷ (5, 0, 6) ∷ (6, 0, 7) ∷ [] }
     ensures none { put_in (is 9) (Some 0) pair sample ≡ sample }
-    ensures each { spread (put_in (λ x. nat_lt x 2) (Some 0) (leaf 7) (put_in (is 3) (Some 0) (leaf 1) (leaf 3))) ≡ (0, 0, 3) ∷ (3, 0, 1) ∷ (1, 0, 7) ∷ [] }
+    ensures each { spread (put_in (λ x. nat_lt x 2) (Some 0) (leaf 7) (put_in (is 3) (Some 0) (leaf 1) (leaf 3)))
+        ≡ (0, 0, 3) ∷ (3, 0, 1) ∷ (1, 0, 7) ∷ [] }
 {}
 
 /// What is taken out and what is picked are the two parts; of nodes below one another the upper one takes all with it.
@@ -48,7 +56,8 @@ pub fn parts()
 
 /// A label that is changed keeps its place.
 pub fn labels_changed()
-    ensures relabel { spread (relabel (λ x. x + 10) sample) ≡ (0, 0, 11) ∷ (11, 0, 12) ∷ (11, 1, 13) ∷ (13, 0, 14) ∷ (0, 1, 15) ∷ (15, 0, 16) ∷ [] }
+    ensures relabel { spread (relabel (λ x. x + 10) sample)
+        ≡ (0, 0, 11) ∷ (11, 0, 12) ∷ (11, 1, 13) ∷ (13, 0, 14) ∷ (0, 1, 15) ∷ (15, 0, 16) ∷ [] }
     ensures change { labels (change (is 3) (λ x. x + 10) sample) ≡ 1 ∷ 2 ∷ 13 ∷ 4 ∷ 5 ∷ 6 ∷ [] }
     ensures change_many { labels (change (λ x. nat_lt 3 x) (λ x. x + 10) sample) ≡ 1 ∷ 2 ∷ 3 ∷ 14 ∷ 15 ∷ 16 ∷ [] }
 {}

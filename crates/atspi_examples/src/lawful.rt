@@ -1,34 +1,41 @@
 //! When a forest is a tree, and when a step applies to one. Each condition has a case that fails by it alone.
 
 ghost use Rattle.std.specs.Prelude.{◌≡◌, ◌≤◌, ◌<◌, ◌∷◌, [], ℕ, List, length, encode_utf8_all, true};
-ghost use Rattle.atspi_forest.specs.Forest.{Forest, nil, tree, count, EachLabel};
-ghost use Rattle.atspi_forest.specs.Row.{TreeRow};
-ghost use Rattle.atspi_forest.specs.RowRules.{rows, shapes};
-ghost use Rattle.atspi_forest.specs.Tree.{is_node, IsRooted, HasTargets, IsTree, Adds, Removes, Moves, Applies, AllApply};
-ghost use Rattle.atspi_examples.specs.Room.{bare, root, button, entry, hello, room, plain, full_seed, with_columns, small};
+ghost use Rattle.atspi_tree_model.specs.Forest.{Forest, nil, tree, count, EachLabel};
+ghost use Rattle.atspi_tree_model.specs.Row.{TreeRow};
+ghost use Rattle.atspi_tree_model.specs.RowRules.{rows, shapes};
+ghost use Rattle.atspi_tree_model.specs.Tree.{is_node, IsRooted, HasTargets, IsTree, Adds, Removes, Moves, Applies};
+ghost use Rattle.atspi_tree_model.specs.Tree.{AllApply};
+ghost use Rattle.atspi_examples.specs.Room.{bare, root, button, entry, hello, room, plain, full_seed, with_columns};
+ghost use Rattle.atspi_examples.specs.Room.{small};
 
-use atspi_forest::Step;
+use atspi_tree_model::Step;
 
 /// A forest that has all parts of a tree is one, at its limits too: 8,192 nodes, 4,294,967,295 of them ever added.
 pub fn trees()
     ensures { (f : Forest TreeRow) → IsRooted rows f → ((n : ℕ) → count (is_node n) f ≤ 1)
         → ((n : ℕ) → 4294967295 < n → count (is_node n) f ≡ 0) → count (λ row. true) f ≡ 8192
-        → EachLabel rows.IsLawful f → EachLabel (λ row. HasTargets rows f (rows.targets row)) f → IsTree rows f 4294967295 }
+        → EachLabel rows.IsLawful f → EachLabel (λ row. HasTargets rows f (rows.targets row)) f
+        → IsTree rows f 4294967295 }
 {}
 
-/// No tree: without a root; with a number twice, or above the count; with too many nodes, now or ever; with a row outside its
-/// limits; or with a target that is no node.
+/// No tree: without a root; with a number twice, or above the count; with too many nodes, now or ever; with a row
+/// outside its limits; or with a target that is no node.
 pub fn no_trees()
     ensures rootless { IsTree rows nil 0 → ⊥ }
     ensures twice { IsTree rows (small (bare 1 0) (bare 1 0)) 2 → ⊥ }
     ensures numbered { IsTree rows (small (bare 1 0) (bare 3 0)) 2 → ⊥ }
     ensures many { (f : Forest TreeRow) → count (λ row. true) f ≡ 8193 → IsTree rows f 4294967295 → ⊥ }
     ensures many_ever { IsTree rows (small (bare 1 0) (bare 2 0)) 4294967296 → ⊥ }
-    ensures limits { (x : List ℕ) → length (encode_utf8_all x) ≡ 512 → IsTree rows (small (bare 1 0) (record (bare 2 0) { shape = record (bare 2 0).shape { name = x } })) 2 → ⊥ }
-    ensures targets { IsTree rows (small (bare 1 0) (record (bare 2 0) { shape = record (bare 2 0).shape { relations = (1, 5) ∷ [] } })) 2 → ⊥ }
+    ensures limits { (x : List ℕ) → length (encode_utf8_all x) ≡ 512
+        → IsTree rows (small (bare 1 0) (record (bare 2 0) { shape = record (bare 2 0).shape { name = x } })) 2 → ⊥ }
+    ensures targets { IsTree rows
+        (small (bare 1 0) (record (bare 2 0) { shape = record (bare 2 0).shape { relations = (1, 5) ∷ [] } })) 2
+        → ⊥ }
 {}
 
-/// An addition takes the next number, below a node, at an index that there is, while there is room, with a seed in its limits.
+/// An addition takes the next number, below a node, at an index that there is, while there is room, with a seed in its
+/// limits.
 pub fn additions()
     ensures applies { Applies rows room 4294967294 (Step.Add 4294967295 1 3 full_seed) }
     ensures number { Adds rows room 12 12 1 3 full_seed → ⊥ }
@@ -96,7 +103,8 @@ pub fn shape_changes()
 
 /// Of several steps each applies to the tree after the steps before it, and after so many additions.
 pub fn many_steps()
-    ensures all { AllApply rows room 12 (Step.Add 13 1 0 full_seed ∷ Step.Add 14 13 0 (plain 0 []) ∷ Step.Remove 13 ∷ []) }
+    ensures all { AllApply rows room 12
+        (Step.Add 13 1 0 full_seed ∷ Step.Add 14 13 0 (plain 0 []) ∷ Step.Remove 13 ∷ []) }
     ensures gone { AllApply rows room 12 (Step.Remove 1 ∷ Step.SetRole 4 1 ∷ []) → ⊥ }
     ensures number { AllApply rows room 12 (Step.Add 13 1 0 full_seed ∷ Step.Add 13 1 0 full_seed ∷ []) → ⊥ }
 {}

@@ -1,6 +1,7 @@
-//! Worked cases of definitions, most of them of the forest's: what they say of small trees, lists of items and news, of ends and of wishes, of protocols and of a bus, beside the value that
-//! is wanted, worked out by hand from the table of edits and the rules for readers. Each case is a clause of a function
-//! without a body. So a definition that says otherwise is refused here, though every law holds of it.
+//! Worked cases of definitions, most of them of the forest's: what they say of small trees, lists of items and news, of
+//! ends and of wishes, of protocols and of a bus, beside the value that is wanted, worked out by hand from the table of
+//! edits and the rules for readers. Each case is a clause of a function without a body. So a definition that says
+//! otherwise is refused here, though every law holds of it.
 #![tactic(auto)]
 
 pub mod announcements;

@@ -1,21 +1,33 @@
 //! The words of each line of a script, of each edit and each deed, and how words are spelled.
 
 ghost use Rattle.std.specs.Prelude.{◌≡◌, ◌∷◌, [], ◌+◌, ◌^◌, None, Some, codes, true, false};
-ghost use Rattle.atspi_lines.specs.Words.{literal, number, place, quota, app_name, reader_name, party_name, role_name, state_name, quote, IsText, SpellsParty, SpellsWord, SpellsWords, IsBehind};
-ghost use Rattle.atspi_lines.specs.Forms.{edit_form, deed_form, line_form};
-ghost use Rattle.atspi_lines.specs.Line.{IsBlank, SpelledAs};
+ghost use Rattle.atspi_script_lines.specs.Words.{literal, number, place, quota, app_name, reader_name, party_name};
+ghost use Rattle.atspi_script_lines.specs.Words.{role_name, state_name, quote, IsText, SpellsParty, SpellsWord};
+ghost use Rattle.atspi_script_lines.specs.Words.{SpellsWords, IsBehind};
+ghost use Rattle.atspi_script_lines.specs.Forms.{edit_form, deed_form, line_form};
+ghost use Rattle.atspi_script_lines.specs.Line.{IsBlank, SpelledAs};
 ghost use Rattle.atspi_examples.specs.Room.{hello, plain, with_columns, with_text, full_seed};
 
-use atspi_forest::Edit;
-use atspi_lines::{Deed, Line, Party};
+use atspi_script_lines::{Deed, Line, Party};
+use atspi_tree_model::Edit;
 
 /// A new node's words: its parent, its index, its role, its name, and then what it has, in one order.
 pub fn insertions()
-    ensures all { edit_form (Edit.Insert 1 2 full_seed) ≡ literal (codes "insert") ∷ number 1 ∷ number 2 ∷ role_name 61 ∷ quote (codes "n") ∷ literal (codes "text") ∷ quote hello ∷ literal (codes "columns") ∷ number 2 ∷ literal (codes "select") ∷ literal (codes "action") ∷ quote (codes "a") ∷ [] }
-    ensures none { edit_form (Edit.Insert 1 2 (plain 39 (codes "A"))) ≡ literal (codes "insert") ∷ number 1 ∷ number 2 ∷ role_name 39 ∷ quote (codes "A") ∷ [] }
-    ensures fixed { edit_form (Edit.Insert 0 3 (with_text hello)) ≡ literal (codes "insert") ∷ number 0 ∷ number 3 ∷ role_name 0 ∷ quote [] ∷ literal (codes "static") ∷ quote hello ∷ [] }
-    ensures columns { edit_form (Edit.Insert 0 3 (with_columns 7)) ≡ literal (codes "insert") ∷ number 0 ∷ number 3 ∷ role_name 0 ∷ quote [] ∷ literal (codes "columns") ∷ number 7 ∷ [] }
-    ensures actions { edit_form (Edit.Insert 0 3 (record (plain 0 []) { actions = codes "a" ∷ codes "b" ∷ [] })) ≡ literal (codes "insert") ∷ number 0 ∷ number 3 ∷ role_name 0 ∷ quote [] ∷ literal (codes "action") ∷ quote (codes "a") ∷ literal (codes "action") ∷ quote (codes "b") ∷ [] }
+    ensures all { edit_form (Edit.Insert 1 2 full_seed)
+        ≡ literal (codes "insert") ∷ number 1 ∷ number 2 ∷ role_name 61 ∷ quote (codes "n") ∷ literal (codes "text")
+        ∷ quote hello ∷ literal (codes "columns") ∷ number 2 ∷ literal (codes "select") ∷ literal (codes "action")
+        ∷ quote (codes "a") ∷ [] }
+    ensures none { edit_form (Edit.Insert 1 2 (plain 39 (codes "A")))
+        ≡ literal (codes "insert") ∷ number 1 ∷ number 2 ∷ role_name 39 ∷ quote (codes "A") ∷ [] }
+    ensures fixed { edit_form (Edit.Insert 0 3 (with_text hello))
+        ≡ literal (codes "insert") ∷ number 0 ∷ number 3 ∷ role_name 0 ∷ quote [] ∷ literal (codes "static")
+        ∷ quote hello ∷ [] }
+    ensures columns { edit_form (Edit.Insert 0 3 (with_columns 7))
+        ≡ literal (codes "insert") ∷ number 0 ∷ number 3 ∷ role_name 0 ∷ quote [] ∷ literal (codes "columns") ∷ number 7
+        ∷ [] }
+    ensures actions { edit_form (Edit.Insert 0 3 (record (plain 0 []) { actions = codes "a" ∷ codes "b" ∷ [] }))
+        ≡ literal (codes "insert") ∷ number 0 ∷ number 3 ∷ role_name 0 ∷ quote [] ∷ literal (codes "action")
+        ∷ quote (codes "a") ∷ literal (codes "action") ∷ quote (codes "b") ∷ [] }
 {}
 
 /// The words of every other edit.
@@ -25,8 +37,10 @@ pub fn edits()
     ensures name { edit_form (Edit.Name 5 hello) ≡ literal (codes "name") ∷ number 5 ∷ quote hello ∷ [] }
     ensures describe { edit_form (Edit.Describe 5 hello) ≡ literal (codes "describe") ∷ number 5 ∷ quote hello ∷ [] }
     ensures role { edit_form (Edit.Role 5 6) ≡ literal (codes "role") ∷ number 5 ∷ role_name 6 ∷ [] }
-    ensures on { edit_form (Edit.State 5 6 true) ≡ literal (codes "state") ∷ number 5 ∷ state_name 6 ∷ literal (codes "on") ∷ [] }
-    ensures off { edit_form (Edit.State 5 6 false) ≡ literal (codes "state") ∷ number 5 ∷ state_name 6 ∷ literal (codes "off") ∷ [] }
+    ensures on { edit_form (Edit.State 5 6 true)
+        ≡ literal (codes "state") ∷ number 5 ∷ state_name 6 ∷ literal (codes "on") ∷ [] }
+    ensures off { edit_form (Edit.State 5 6 false)
+        ≡ literal (codes "state") ∷ number 5 ∷ state_name 6 ∷ literal (codes "off") ∷ [] }
     ensures focus { edit_form (Edit.Focus 5) ≡ literal (codes "focus") ∷ number 5 ∷ [] }
     ensures put { edit_form (Edit.Put 5 6 hello) ≡ literal (codes "put") ∷ number 5 ∷ number 6 ∷ quote hello ∷ [] }
     ensures typed { edit_form (Edit.Keys 5 hello) ≡ literal (codes "type") ∷ number 5 ∷ quote hello ∷ [] }
@@ -38,7 +52,8 @@ pub fn edits()
     ensures deselect { edit_form (Edit.Deselect 5 6) ≡ literal (codes "deselect") ∷ number 5 ∷ number 6 ∷ [] }
     ensures press { edit_form (Edit.Press 5 6) ≡ literal (codes "press") ∷ number 5 ∷ number 6 ∷ [] }
     ensures relate { edit_form (Edit.Relate 5 6 7) ≡ literal (codes "relate") ∷ number 5 ∷ number 6 ∷ number 7 ∷ [] }
-    ensures unrelate { edit_form (Edit.Unrelate 5 6 7) ≡ literal (codes "unrelate") ∷ number 5 ∷ number 6 ∷ number 7 ∷ [] }
+    ensures unrelate { edit_form (Edit.Unrelate 5 6 7)
+        ≡ literal (codes "unrelate") ∷ number 5 ∷ number 6 ∷ number 7 ∷ [] }
 {}
 
 /// The words of each deed.
@@ -60,13 +75,17 @@ pub fn lines()
     ensures quota { line_form (Line.Quota 4096) ≡ literal (codes "quota") ∷ quota 4096 ∷ [] }
     ensures app { line_form (Line.App hello) ≡ literal (codes "app") ∷ quote hello ∷ [] }
     ensures reader { line_form Line.Reader ≡ literal (codes "reader") ∷ [] }
-    ensures edit { line_form (Line.Edit 3 (Edit.Focus 5)) ≡ literal (codes "edit") ∷ app_name 3 ∷ literal (codes "focus") ∷ number 5 ∷ [] }
-    ensures call { line_form (Line.Call 2 3 4 (Deed.DoAction 5)) ≡ literal (codes "call") ∷ reader_name 2 ∷ app_name 3 ∷ place 4 ∷ literal (codes "do-action") ∷ place 5 ∷ [] }
+    ensures edit { line_form (Line.Edit 3 (Edit.Focus 5))
+        ≡ literal (codes "edit") ∷ app_name 3 ∷ literal (codes "focus") ∷ number 5 ∷ [] }
+    ensures call { line_form (Line.Call 2 3 4 (Deed.DoAction 5))
+        ≡ literal (codes "call") ∷ reader_name 2 ∷ app_name 3 ∷ place 4 ∷ literal (codes "do-action") ∷ place 5 ∷ [] }
     ensures swap { line_form (Line.Swap 3) ≡ literal (codes "swap") ∷ app_name 3 ∷ [] }
     ensures exit { line_form (Line.Exit 3) ≡ literal (codes "exit") ∷ app_name 3 ∷ [] }
     ensures leave { line_form (Line.Leave 2) ≡ literal (codes "leave") ∷ reader_name 2 ∷ [] }
-    ensures up { line_form (Line.Bytes Party.Registry true 9) ≡ literal (codes "bytes") ∷ party_name Party.Registry ∷ literal (codes "up") ∷ number 9 ∷ [] }
-    ensures down { line_form (Line.Bytes (Party.App 3) false 9) ≡ literal (codes "bytes") ∷ party_name (Party.App 3) ∷ literal (codes "down") ∷ number 9 ∷ [] }
+    ensures up { line_form (Line.Bytes Party.Registry true 9)
+        ≡ literal (codes "bytes") ∷ party_name Party.Registry ∷ literal (codes "up") ∷ number 9 ∷ [] }
+    ensures down { line_form (Line.Bytes (Party.App 3) false 9)
+        ≡ literal (codes "bytes") ∷ party_name (Party.App 3) ∷ literal (codes "down") ∷ number 9 ∷ [] }
     ensures turns { line_form (Line.Turns 9) ≡ literal (codes "turns") ∷ number 9 ∷ [] }
     ensures drain { line_form Line.Drain ≡ literal (codes "drain") ∷ [] }
     ensures show { line_form (Line.Show 2 3) ≡ literal (codes "show") ∷ reader_name 2 ∷ app_name 3 ∷ [] }

@@ -1,6 +1,7 @@
-//! Worked cases of the definitions of `atspi_protocol` and `atspi_speech` that stand beside those of the two crates: the tables as they are printed, the calls of
-//! a reader's start, and what happens where a message says less than it should. Each case is a clause of a function without a body, with its value worked
-//! out by hand. So a definition that says otherwise is refused here, and a new case makes no crate above the definitions be proved again.
+//! Worked cases of the definitions of `atspi_protocol` and `atspi_speech` that stand beside those of the two crates:
+//! the tables as they are printed, the calls of a reader's start, and what happens where a message says less than it
+//! should. Each case is a clause of a function without a body, with its value worked out by hand. So a definition that
+//! says otherwise is refused here, and a new case makes no crate above the definitions be proved again.
 
 mod announced;
 mod answers;

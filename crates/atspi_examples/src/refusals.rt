@@ -1,12 +1,14 @@
 //! Why an edit of the room is refused. Where an edit breaks several rules, the first of its list is told.
 
 ghost use Rattle.std.specs.Prelude.{◌≡◌, ◌∷◌, [], ℕ, List, length, true, false, encode_utf8_all};
-ghost use Rattle.atspi_forest.specs.Forest.{Forest, count};
-ghost use Rattle.atspi_forest.specs.Row.{ShapeRow};
-ghost use Rattle.atspi_forest.specs.Edits.{known_text, known_actions, text_length, is_full, text_contents, action_contents, contents_read, IsEdit};
-ghost use Rattle.atspi_examples.specs.Room.{answer, answer_at, nowhere, plain, with_columns, with_text, sign_with, room, button, pressed_button, hello};
+ghost use Rattle.atspi_tree_model.specs.Forest.{Forest, count};
+ghost use Rattle.atspi_tree_model.specs.Row.{ShapeRow};
+ghost use Rattle.atspi_tree_model.specs.Edits.{known_text, known_actions, text_length, is_full, text_contents};
+ghost use Rattle.atspi_tree_model.specs.Edits.{action_contents, contents_read, IsEdit};
+ghost use Rattle.atspi_examples.specs.Room.{answer, answer_at, nowhere, plain, with_columns, with_text, sign_with};
+ghost use Rattle.atspi_examples.specs.Room.{room, button, pressed_button, hello};
 
-use atspi_forest::{Edit, EditFault, FaceData, Step};
+use atspi_tree_model::{Edit, EditFault, FaceData, Step};
 
 /// A node that is not there is told before all else.
 pub fn no_node()
@@ -50,9 +52,11 @@ pub fn insertions()
     ensures no_column { answer_at 4294967295 (Edit.Insert 1 0 (with_columns 0)) ≡ Err EditFault.BadIndex }
     ensures many_columns { answer_at 4294967295 (Edit.Insert 1 0 (with_columns 1025)) ≡ Err EditFault.BadIndex }
     ensures one_column { answer (Edit.Insert 1 0 (with_columns 1)) ≡ Ok (Step.Add 13 1 0 (with_columns 1) ∷ []) }
-    ensures most_columns { answer (Edit.Insert 1 0 (with_columns 1024)) ≡ Ok (Step.Add 13 1 0 (with_columns 1024) ∷ []) }
+    ensures most_columns { answer (Edit.Insert 1 0 (with_columns 1024))
+        ≡ Ok (Step.Add 13 1 0 (with_columns 1024) ∷ []) }
     ensures no_number { answer_at 4294967295 (Edit.Insert 1 3 (plain 0 [])) ≡ Err EditFault.Full }
-    ensures last_number { answer_at 4294967294 (Edit.Insert 1 3 (plain 0 [])) ≡ Ok (Step.Add 4294967295 1 3 (plain 0 []) ∷ []) }
+    ensures last_number { answer_at 4294967294 (Edit.Insert 1 3 (plain 0 []))
+        ≡ Ok (Step.Add 4294967295 1 3 (plain 0 []) ∷ []) }
 {}
 
 /// The sign has a text that cannot be edited, the buttons have none. The entry's text has five characters.
@@ -102,14 +106,21 @@ pub fn full()
 /// Names and descriptions have 511 bytes at most, texts 1,048,576 characters.
 pub fn lengths()
     ensures name { (x : List ℕ) → length (encode_utf8_all x) ≡ 512 → answer (Edit.Name 3 x) ≡ Err EditFault.TextFull }
-    ensures absent_name { (x : List ℕ) → length (encode_utf8_all x) ≡ 512 → nowhere (Edit.Name 3 x) ≡ Err EditFault.NoNode }
-    ensures description { (x : List ℕ) → length (encode_utf8_all x) ≡ 512 → answer (Edit.Describe 3 x) ≡ Err EditFault.TextFull }
-    ensures absent_description { (x : List ℕ) → length (encode_utf8_all x) ≡ 512 → nowhere (Edit.Describe 3 x) ≡ Err EditFault.NoNode }
-    ensures new_name { (x : List ℕ) → length (encode_utf8_all x) ≡ 512 → answer (Edit.Insert 0 0 (plain 0 x)) ≡ Err EditFault.TextFull }
-    ensures last_name { (x : List ℕ) → length (encode_utf8_all x) ≡ 511 → answer (Edit.Insert 0 0 (plain 0 x)) ≡ Ok (Step.Add 13 0 0 (plain 0 x) ∷ []) }
-    ensures full_before { (x : List ℕ) → length (encode_utf8_all x) ≡ 512 → answer_at 4294967295 (Edit.Insert 0 0 (plain 0 x)) ≡ Err EditFault.Full }
+    ensures absent_name { (x : List ℕ) → length (encode_utf8_all x) ≡ 512
+        → nowhere (Edit.Name 3 x) ≡ Err EditFault.NoNode }
+    ensures description { (x : List ℕ) → length (encode_utf8_all x) ≡ 512
+        → answer (Edit.Describe 3 x) ≡ Err EditFault.TextFull }
+    ensures absent_description { (x : List ℕ) → length (encode_utf8_all x) ≡ 512
+        → nowhere (Edit.Describe 3 x) ≡ Err EditFault.NoNode }
+    ensures new_name { (x : List ℕ) → length (encode_utf8_all x) ≡ 512
+        → answer (Edit.Insert 0 0 (plain 0 x)) ≡ Err EditFault.TextFull }
+    ensures last_name { (x : List ℕ) → length (encode_utf8_all x) ≡ 511
+        → answer (Edit.Insert 0 0 (plain 0 x)) ≡ Ok (Step.Add 13 0 0 (plain 0 x) ∷ []) }
+    ensures full_before { (x : List ℕ) → length (encode_utf8_all x) ≡ 512
+        → answer_at 4294967295 (Edit.Insert 0 0 (plain 0 x)) ≡ Err EditFault.Full }
     ensures text { (x : List ℕ) → length x ≡ 1048577 → answer (Edit.Insert 0 0 (with_text x)) ≡ Err EditFault.TextFull }
-    ensures last_text { (x : List ℕ) → length x ≡ 1048576 → answer (Edit.Insert 0 0 (with_text x)) ≡ Ok (Step.Add 13 0 0 (with_text x) ∷ []) }
+    ensures last_text { (x : List ℕ) → length x ≡ 1048576
+        → answer (Edit.Insert 0 0 (with_text x)) ≡ Ok (Step.Add 13 0 0 (with_text x) ∷ []) }
     ensures put { (x : List ℕ) → length x ≡ 1048572 → answer (Edit.Put 2 5 x) ≡ Err EditFault.TextFull }
     ensures put_behind { (x : List ℕ) → length x ≡ 1048572 → answer (Edit.Put 2 6 x) ≡ Err EditFault.BadOffset }
     ensures last_put { (x : List ℕ) → length x ≡ 1048571 → answer (Edit.Put 2 5 x) ≡ Ok (Step.Insert 2 5 x ∷ []) }
@@ -117,12 +128,19 @@ pub fn lengths()
     ensures typed_at_sign { (x : List ℕ) → length x ≡ 1048574 → answer (Edit.Keys 10 x) ≡ Err EditFault.NoFace }
 {}
 
-/// What can be asked for: a state that there is; a new node with eight actions at most, and a text if one is to be edited.
+/// What can be asked for: a state that there is; a new node with eight actions at most, and a text if one is to be
+/// edited.
 pub fn askable()
     ensures state { IsEdit (Edit.State 3 43 true) }
     ensures no_state { IsEdit (Edit.State 3 44 true) → ⊥ }
-    ensures actions { IsEdit (Edit.Insert 0 0 (record (with_text hello) { editable = true; actions = hello ∷ hello ∷ hello ∷ hello ∷ hello ∷ hello ∷ hello ∷ hello ∷ [] })) }
-    ensures many_actions { IsEdit (Edit.Insert 0 0 (record (plain 0 []) { actions = hello ∷ hello ∷ hello ∷ hello ∷ hello ∷ hello ∷ hello ∷ hello ∷ hello ∷ [] })) → ⊥ }
+    ensures actions { IsEdit
+        (Edit.Insert 0 0
+        (record (with_text hello)
+        { editable = true; actions = hello ∷ hello ∷ hello ∷ hello ∷ hello ∷ hello ∷ hello ∷ hello ∷ [] })) }
+    ensures many_actions { IsEdit
+        (Edit.Insert 0 0
+        (record (plain 0 [])
+        { actions = hello ∷ hello ∷ hello ∷ hello ∷ hello ∷ hello ∷ hello ∷ hello ∷ hello ∷ [] })) → ⊥ }
     ensures no_text { IsEdit (Edit.Insert 0 0 (record (plain 0 []) { editable = true })) → ⊥ }
     ensures any { IsEdit (Edit.Caret 99 99) }
 {}

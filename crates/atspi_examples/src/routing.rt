@@ -1,6 +1,7 @@
-//! Worked cases of what a bus does that stand beside those of `atspi_match::routing`: what each condition of a match rule asks for, what the bus's own messages are
-//! made of, and what a queue takes. Each case is a clause of a function without a body, with its value worked out by hand. So a definition that says
-//! otherwise is refused here, and a new case makes no crate above the definitions be proved again.
+//! Worked cases of what a bus does that stand beside those of `atspi_match::routing`: what each condition of a match
+//! rule asks for, what the bus's own messages are made of, and what a queue takes. Each case is a clause of a function
+//! without a body, with its value worked out by hand. So a definition that says otherwise is refused here, and a new
+//! case makes no crate above the definitions be proved again.
 
 mod answers;
 mod conditions;

@@ -1,7 +1,8 @@
-//! What is due to be spoken at the steps of a tree, and which item of a news adds a node: cases beside those of `atspi_speech`.
+//! What is due to be spoken at the steps of a tree, and which item of a news adds a node: cases beside those of
+//! `atspi_speech`.
 
 ghost use Rattle.std.specs.Prelude.{◌≡◌, [], ◌∷◌, None, Some, true, false, codes};
-ghost use Rattle.atspi_forest.specs.Forest.{nil};
+ghost use Rattle.atspi_tree_model.specs.Forest.{nil};
 ghost use Rattle.atspi_speech.specs.Cases.{item, row};
 ghost use Rattle.atspi_speech.specs.Looked.{adds};
 ghost use Rattle.atspi_speech.specs.Speech.{closing_says, says};
@@ -9,7 +10,7 @@ ghost use Rattle.atspi_speech.specs.Words.{is_plain};
 ghost use Rattle.atspi_examples.specs.Room.{plain};
 ghost use Rattle.atspi_examples.specs.Spoken.{window_tree};
 
-use atspi_forest::Step;
+use atspi_tree_model::Step;
 
 /// What is due at a step of a tree with a root and the focused node 1.
 pub fn due()
@@ -40,12 +41,18 @@ pub fn focus_due()
 
 /// Which item adds a node, told from the row of its path and from whether its parent is known.
 pub fn additions()
-    ensures added { adds (codes "/r") (codes ":1.7") None true (item [] 7 (codes ":1.7") (codes "/b") (codes ":1.7") (codes "/a")) ≡ true }
-    ensures known { adds (codes "/r") (codes ":1.7") (Some (row (codes "/b") [] 7 0)) true (item [] 7 (codes ":1.7") (codes "/b") (codes ":1.7") (codes "/a")) ≡ false }
-    ensures no_parent { adds (codes "/r") (codes ":1.7") None false (item [] 7 (codes ":1.7") (codes "/b") (codes ":1.7") (codes "/a")) ≡ false }
-    ensures foreign { adds (codes "/r") (codes ":1.7") None true (item [] 7 (codes ":1.8") (codes "/b") (codes ":1.7") (codes "/a")) ≡ false }
-    ensures foreign_parent { adds (codes "/r") (codes ":1.7") None true (item [] 7 (codes ":1.7") (codes "/b") (codes ":1.8") (codes "/a")) ≡ false }
-    ensures root { adds (codes "/b") (codes ":1.7") None true (item [] 7 (codes ":1.7") (codes "/b") (codes ":1.7") (codes "/a")) ≡ false }
+    ensures added { adds (codes "/r") (codes ":1.7") None true
+        (item [] 7 (codes ":1.7") (codes "/b") (codes ":1.7") (codes "/a")) ≡ true }
+    ensures known { adds (codes "/r") (codes ":1.7") (Some (row (codes "/b") [] 7 0)) true
+        (item [] 7 (codes ":1.7") (codes "/b") (codes ":1.7") (codes "/a")) ≡ false }
+    ensures no_parent { adds (codes "/r") (codes ":1.7") None false
+        (item [] 7 (codes ":1.7") (codes "/b") (codes ":1.7") (codes "/a")) ≡ false }
+    ensures foreign { adds (codes "/r") (codes ":1.7") None true
+        (item [] 7 (codes ":1.8") (codes "/b") (codes ":1.7") (codes "/a")) ≡ false }
+    ensures foreign_parent { adds (codes "/r") (codes ":1.7") None true
+        (item [] 7 (codes ":1.7") (codes "/b") (codes ":1.8") (codes "/a")) ≡ false }
+    ensures root { adds (codes "/b") (codes ":1.7") None true
+        (item [] 7 (codes ":1.7") (codes "/b") (codes ":1.7") (codes "/a")) ≡ false }
 {}
 
 /// Words of ASCII.

@@ -1,7 +1,7 @@
 //! States: sets of them as numbers.
 
 ghost use Rattle.std.specs.Prelude.{◌≡◌, ◌+◌, ◌^◌, true, false};
-ghost use Rattle.atspi_forest.specs.States.{has_state, with_state, first_states};
+ghost use Rattle.atspi_tree_model.specs.States.{has_state, with_state, first_states};
 
 /// State 3 has the bit of 8. A state of 64 or more is none.
 pub fn sets()

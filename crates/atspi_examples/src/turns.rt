@@ -4,31 +4,40 @@ ghost use Rattle.std.specs.Prelude.{◌≡◌, ℕ, List, ◌∷◌, [], length,
 ghost use Rattle.atspi_match.specs.routing.Queues.{Bus};
 ghost use Rattle.atspi_stream.specs.Stream.{stated};
 ghost use Rattle.atspi_trace.specs.World.{Letter};
-ghost use Rattle.atspi_carrying.specs.Downs.{IsBegun};
-ghost use Rattle.atspi_carrying.specs.Filled.{IsAwaited, waits_for};
-ghost use Rattle.atspi_carrying.specs.Waits.{first_down, first_up, up_turn};
+ghost use Rattle.atspi_world_moves.specs.Downs.{IsBegun};
+ghost use Rattle.atspi_world_moves.specs.Filled.{IsAwaited, waits_for};
+ghost use Rattle.atspi_world_moves.specs.Waits.{first_down, first_up, up_turn};
 ghost use Rattle.atspi_examples.specs.Turning.{IsLong, IsStill, post};
 
-use atspi_carrying::Turn;
-use atspi_posts::Standing;
+use atspi_world_links::Standing;
+use atspi_world_moves::Turn;
 
-/// On an up link a message waits, or that the end stopped; for one that left nothing does. The first in order of joining is told.
+/// On an up link a message waits, or that the end stopped; for one that left nothing does. The first in order of
+/// joining is told.
 pub fn up()
     ensures here { up_turn 3 (post Standing.Here (7 ∷ [])) ≡ Some (Turn.Route 3) }
     ensures nothing { up_turn 3 (post Standing.Here []) ≡ None }
     ensures stopped { up_turn 3 (post Standing.Stopped []) ≡ Some (Turn.Part 3) }
     ensures away { up_turn 3 (post Standing.Away (7 ∷ [])) ≡ None }
-    ensures first { first_up 0 (post Standing.Here [] ∷ post Standing.Stopped [] ∷ post Standing.Here (7 ∷ []) ∷ []) ≡ Some (Turn.Part 1) }
+    ensures first { first_up 0 (post Standing.Here [] ∷ post Standing.Stopped [] ∷ post Standing.Here (7 ∷ []) ∷ [])
+        ≡ Some (Turn.Part 1) }
     ensures none { first_up 0 (post Standing.Here [] ∷ post Standing.Away [] ∷ []) ≡ None }
 {}
 
-/// On a down link bytes wait in the bus, or were given of a message that is not whole; for one that stopped or left nothing does.
+/// On a down link bytes wait in the bus, or were given of a message that is not whole; for one that stopped or left
+/// nothing does.
 pub fn down()
-    ensures given { (b : Bus) → IsStill b → first_down b ([] ∷ (7 ∷ []) ∷ []) 0 (post Standing.Here [] ∷ post Standing.Here [] ∷ []) ≡ Some (Turn.Get 1) }
-    ensures still { (b : Bus) → IsStill b → first_down b ([] ∷ [] ∷ []) 0 (post Standing.Here [] ∷ post Standing.Here [] ∷ []) ≡ None }
-    ensures stopped { (b : Bus) → first_down b ((7 ∷ []) ∷ (7 ∷ []) ∷ []) 0 (post Standing.Stopped [] ∷ post Standing.Away [] ∷ []) ≡ None }
-    ensures first { (b : Bus) → IsStill b → first_down b ((7 ∷ []) ∷ (7 ∷ []) ∷ []) 0 (post Standing.Here [] ∷ post Standing.Here [] ∷ []) ≡ Some (Turn.Get 0) }
-    ensures waiting { (b : Bus) → waits_for b 0 ≡ 7 ∷ [] → first_down b ([] ∷ []) 0 (post Standing.Here [] ∷ []) ≡ Some (Turn.Get 0) }
+    ensures given { (b : Bus) → IsStill b
+        → first_down b ([] ∷ (7 ∷ []) ∷ []) 0 (post Standing.Here [] ∷ post Standing.Here [] ∷ []) ≡ Some (Turn.Get 1) }
+    ensures still { (b : Bus) → IsStill b
+        → first_down b ([] ∷ [] ∷ []) 0 (post Standing.Here [] ∷ post Standing.Here [] ∷ []) ≡ None }
+    ensures stopped { (b : Bus)
+        → first_down b ((7 ∷ []) ∷ (7 ∷ []) ∷ []) 0 (post Standing.Stopped [] ∷ post Standing.Away [] ∷ []) ≡ None }
+    ensures first { (b : Bus) → IsStill b
+        → first_down b ((7 ∷ []) ∷ (7 ∷ []) ∷ []) 0 (post Standing.Here [] ∷ post Standing.Here [] ∷ [])
+        ≡ Some (Turn.Get 0) }
+    ensures waiting { (b : Bus) → waits_for b 0 ≡ 7 ∷ []
+        → first_down b ([] ∷ []) 0 (post Standing.Here [] ∷ []) ≡ Some (Turn.Get 0) }
 {}
 
 /// Of a message of 20 bytes at most 19 were moved; where no message is, none was.

@@ -1,9 +1,9 @@
 -- What is a part or a change may be asked for.
 use Rattle.std.proofs.Common.{ℕ}
-use Rattle.atspi_forest.specs.declared.contents.FaceData.{FaceData}
-use Rattle.atspi_forest.specs.declared.contents.FaceData.TheVariants.{Chars, Grid, Deeds}
-use Rattle.atspi_face.specs.declared.change.Change.{Change}
-use Rattle.atspi_face.specs.Contents.{IsPart, IsChange}
+use Rattle.atspi_tree_model.specs.declared.contents.FaceData.{FaceData}
+use Rattle.atspi_tree_model.specs.declared.contents.FaceData.TheVariants.{Chars, Grid, Deeds}
+use Rattle.atspi_faces.specs.declared.face.change.Change.{Change}
+use Rattle.atspi_faces.specs.face.Contents.{IsPart, IsChange}
 use Rattle.atspi_faces.specs.Asked.{MayAsk, MayChange}
 
 pub may_ask : (what : FaceData) (from to : ℕ) → IsPart what from to → MayAsk what from to

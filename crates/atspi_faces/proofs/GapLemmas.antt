@@ -7,9 +7,9 @@ use Rattle.std.proofs.lemmas.Bool.{cases_lt}
 use Rattle.atspi_base.specs.Text.{HasNoZero, bytes_before_zero}
 use Rattle.atspi_base.specs.ReadsText.{text_in}
 use Rattle.atspi_base.proofs.TextLemmas.{whole, length-chars-le}
-use Rattle.atspi_faces.specs.Places.{CutAt}
+use Rattle.atspi_base.specs.Places.{CutAt}
 use Rattle.atspi_faces.specs.Gap.{IsPart, IsGapped, text_of}
-use Rattle.atspi_faces.proofs.PlaceLemmas.{no_zero-append, no_zero-take, no_zero-drop}
+use Rattle.atspi_base.proofs.PlaceLemmas.{no_zero-append, no_zero-take, no_zero-drop}
 
 -- no more characters than bytes
 pub gapped_fits : (parts : List ℕ × List ℕ) (before behind : ℕ) → IsGapped parts before behind → before + behind < 4294967296

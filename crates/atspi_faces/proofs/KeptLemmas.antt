@@ -5,11 +5,11 @@ use Rattle.std.proofs.lemmas.List.{append_assoc, take_at, drop_at, drop-drop, le
 use Rattle.std.proofs.lemmas.Str.{chars-append, IsUtf8-append, chars-nil}
 use Rattle.atspi_faces.specs.declared.side.Place.{Place}
 use Rattle.atspi_faces.specs.declared.side.Side.{Side}
-use Rattle.atspi_faces.specs.Places.{CutAt, IsCounted}
+use Rattle.atspi_base.specs.Places.{CutAt, IsCounted}
 use Rattle.atspi_faces.specs.Sides.{IsPlace, AreNoted, IsSide, AreSides}
 use Rattle.atspi_faces.specs.Gap.{text_of, IsGapped, AreKept}
 use Rattle.atspi_faces.specs.Run.{IsRun}
-use Rattle.atspi_faces.proofs.PlaceLemmas.{inserted, removed, removed_counted, count_fits}
+use Rattle.atspi_base.proofs.PlaceLemmas.{inserted, removed, removed_counted, count_fits}
 use Rattle.atspi_faces.proofs.SideLemmas.{size-reverse, bytes_of, place_of_cut, place_before, place_beyond, sides_of, shortened, noted_more, totals}
 use Rattle.atspi_faces.proofs.GapLemmas.{Moved, gapped_fits, cut_off}
 

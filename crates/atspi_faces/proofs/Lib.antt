@@ -1,5 +1,6 @@
+pub mod OfGuarded
+pub mod OfFace
 pub mod AskedLemmas
-pub mod PlaceLemmas
 pub mod SideLemmas
 pub mod NodeLemmas
 pub mod BufferLemmas

@@ -10,11 +10,11 @@ use Rattle.std.specs.Map.{lookup}
 use Rattle.std.specs.BTreeMap.{is_at}
 use Rattle.std.specs.FinMap.{get, insert, remove, find, get-from_entries, get-insert, get-remove, same_map, nat_cmp-IsAntisymmetric}
 use Rattle.std.proofs.lemmas.Map.Made.{lookup-map_values}
-use Rattle.atspi_face.specs.Nodes.{Nodes, AreContents}
+use Rattle.atspi_faces.specs.face.Nodes.{Nodes, AreContents}
 use Rattle.atspi_faces.specs.Kept.{nodes_of}
-use Rattle.atspi_forest.specs.declared.contents.FaceData.{FaceData}
-use Rattle.atspi_forest.specs.declared.contents.FaceKind.{FaceKind}
-use Rattle.atspi_face.specs.Contents.{IsContents}
+use Rattle.atspi_tree_model.specs.declared.contents.FaceData.{FaceData}
+use Rattle.atspi_tree_model.specs.declared.contents.FaceKind.{FaceKind}
+use Rattle.atspi_faces.specs.face.Contents.{IsContents}
 
 find_lookup : {X : Type 0} (es : List (ℕ × X)) (q : ℕ) → find nat_cmp q es ≡ lookup (is_at (nat_cmp q)) es
 find_lookup [] q = refl

@@ -3,8 +3,8 @@ use Rattle.std.proofs.Common.{◌≡◌, ℕ, zero, suc, ◌+◌, ◌-◌, ◌<�
 use Rattle.std.proofs.lemmas.List.{take-append-drop, take_at, drop_at, take-take, length-take, length-take-le, length-drop, length-reverse, reverse-append, reverse-reverse, take_all, get_or-reverse, take-append-le}
 use Rattle.std.proofs.lemmas.Str.{encodes-append, encodes-chars}
 use Rattle.std.proofs.Math.Seq.{take-add}
-use Rattle.atspi_faces.specs.Places.{CutAt}
-use Rattle.atspi_faces.proofs.PlaceLemmas.{cut_behind}
+use Rattle.atspi_base.specs.Places.{CutAt}
+use Rattle.atspi_base.proofs.PlaceLemmas.{cut_behind}
 use Rattle.std.specs.Prelude.{slice_index_or}
 use Rattle.atspi_faces.specs.declared.side.Place.{Place}
 use Rattle.atspi_faces.specs.declared.side.Side.{Side}

@@ -1,10 +1,10 @@
 -- Names of actions as contents.
 use Rattle.std.specs.Prelude.{refl}
 use Rattle.std.proofs.Common.{arith}
-use Rattle.atspi_forest.specs.declared.contents.FaceData.{FaceData}
-use Rattle.atspi_forest.specs.declared.contents.FaceData.TheVariants.{Deeds}
-use Rattle.atspi_forest.specs.declared.contents.FaceKind.TheVariants.{Deeds as deeds_kind}
-use Rattle.atspi_face.specs.Contents.{IsContents}
+use Rattle.atspi_tree_model.specs.declared.contents.FaceData.{FaceData}
+use Rattle.atspi_tree_model.specs.declared.contents.FaceData.TheVariants.{Deeds}
+use Rattle.atspi_tree_model.specs.declared.contents.FaceKind.TheVariants.{Deeds as deeds_kind}
+use Rattle.atspi_faces.specs.face.Contents.{IsContents}
 use Rattle.atspi_faces.specs.declared.actions.Actions.{Actions}
 
 abbrev pub actions_data : Actions → FaceData

@@ -1,6 +1,7 @@
+pub mod guarded
+pub mod face
 pub mod Asked
 pub mod Kept
-pub mod Places
 pub mod Columns
 pub mod Actions
 pub mod Plain

@@ -1,9 +1,9 @@
 -- A text in one piece as contents.
 use Rattle.std.specs.Prelude.{refl}
-use Rattle.atspi_forest.specs.declared.contents.FaceData.{FaceData}
-use Rattle.atspi_forest.specs.declared.contents.FaceData.TheVariants.{Chars}
-use Rattle.atspi_forest.specs.declared.contents.FaceKind.TheVariants.{Chars as chars_kind}
-use Rattle.atspi_face.specs.Contents.{IsContents}
+use Rattle.atspi_tree_model.specs.declared.contents.FaceData.{FaceData}
+use Rattle.atspi_tree_model.specs.declared.contents.FaceData.TheVariants.{Chars}
+use Rattle.atspi_tree_model.specs.declared.contents.FaceKind.TheVariants.{Chars as chars_kind}
+use Rattle.atspi_faces.specs.face.Contents.{IsContents}
 use Rattle.atspi_faces.specs.declared.plain.PlainChars.{PlainChars}
 
 abbrev pub plain_data : PlainChars → FaceData

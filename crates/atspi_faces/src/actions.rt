@@ -3,9 +3,9 @@
 ghost use Rattle.std.specs.Prelude.{◌<◌, length};
 
 use crate::contents::Contents;
+use crate::face::{Change, FaceData, FaceKind};
 use crate::kept::Kept;
 use atspi_base::{Marks, NoMemory, Text, Texts};
-use atspi_face::{Change, FaceData, FaceKind};
 use std::alloc::Global;
 
 /// The names of the actions of a node, in order.
@@ -19,7 +19,7 @@ pub struct Actions {
 pub type Deeds = Kept<Actions>;
 
 impl Contents for Actions {
-    ghost use Rattle.atspi_forest.specs.declared.contents.FaceKind.TheVariants.{Deeds as deeds_kind};
+    ghost use Rattle.atspi_tree_model.specs.declared.contents.FaceKind.TheVariants.{Deeds as deeds_kind};
     ghost use Rattle.atspi_faces.specs.Actions.{actions_data, actions_sound};
 
     ghost of_kind = { deeds_kind };

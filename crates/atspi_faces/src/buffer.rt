@@ -112,8 +112,8 @@ impl Buffer {
     }
 }
 
-/// The same bytes round a gap that has room for so many, and where it ends. The bytes are doubled, so that what is put in
-/// bit by bit is moved a few times only.
+/// The same bytes round a gap that has room for so many, and where it ends. The bytes are doubled, so that what is put
+/// in bit by bit is moved a few times only.
 fn widened(
     alloc: Global,
     bytes: &[u8],

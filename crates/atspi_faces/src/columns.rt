@@ -3,9 +3,9 @@
 ghost use Rattle.std.specs.Prelude.{◌<◌};
 
 use crate::contents::Contents;
+use crate::face::{Change, FaceData, FaceKind};
 use crate::kept::Kept;
 use atspi_base::{Marks, NoMemory, Text};
-use atspi_face::{Change, FaceData, FaceKind};
 use std::alloc::Global;
 
 /// How many columns the table of a node has.
@@ -19,7 +19,7 @@ pub struct Columns {
 pub type Grid = Kept<Columns>;
 
 impl Contents for Columns {
-    ghost use Rattle.atspi_forest.specs.declared.contents.FaceKind.TheVariants.{Grid as grid_kind};
+    ghost use Rattle.atspi_tree_model.specs.declared.contents.FaceKind.TheVariants.{Grid as grid_kind};
     ghost use Rattle.atspi_faces.specs.Columns.{columns_data, columns_sound};
 
     ghost of_kind = { grid_kind };

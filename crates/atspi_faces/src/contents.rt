@@ -1,13 +1,14 @@
 //! What one node of a face keeps, whatever its kind.
 
 ghost use Rattle.std.specs.Prelude.{◌≡◌, ◌≤◌, OnOk, OnErr, IfOk};
-ghost use Rattle.atspi_forest.specs.declared.contents.FaceKind.{FaceKind};
-ghost use Rattle.atspi_forest.specs.declared.contents.FaceData.{FaceData};
+ghost use Rattle.atspi_tree_model.specs.declared.contents.FaceKind.{FaceKind};
+ghost use Rattle.atspi_tree_model.specs.declared.contents.FaceData.{FaceData};
 ghost use Rattle.atspi_faces.specs.Asked.{MayAsk, MayChange};
-ghost use Rattle.atspi_face.specs.Contents.{kind_of, caret_of, count_of, marks_of, part_of, changed, TakesMemory, IsContents};
+ghost use Rattle.atspi_faces.specs.face.Contents.{kind_of, caret_of, count_of, marks_of, part_of, changed, TakesMemory};
+ghost use Rattle.atspi_faces.specs.face.Contents.{IsContents};
 
+use crate::face::{Change, FaceData, FaceKind};
 use atspi_base::{Marks, NoMemory, Text};
-use atspi_face::{Change, FaceData, FaceKind};
 use std::alloc::Global;
 
 /// The contents of one node, in the form in which a face keeps them.
@@ -36,8 +37,8 @@ pub trait Contents: Drop {
     fn caret(&self) -> u32
         ensures { result ≡ caret_of (as_data self.now) };
 
-    /// The characters from one place up to another, or the name of an action; of columns nothing. `Err` comes for want of
-    /// memory.
+    /// The characters from one place up to another, or the name of an action; of columns nothing. `Err` comes for want
+    /// of memory.
     fn part(&self, alloc: Global, from: u32, to: u32) -> Result<Text, NoMemory>
         requires { MayAsk (as_data self.now) from to }
         ensures { IfOk result (λ text. text ≡ part_of (as_data self.now) from to) };

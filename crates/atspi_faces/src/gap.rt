@@ -1,8 +1,9 @@
 //! A text in one buffer with a gap at the last place of change.
 
-ghost use Rattle.std.specs.Prelude.{◌≡◌, ◌+◌, ◌-◌, ◌≤◌, ◌<◌, ◌++◌, length, take, drop, chars, OnOk, OnErr, IfOk, IsUtf8};
+ghost use Rattle.std.specs.Prelude.{◌≡◌, ◌+◌, ◌-◌, ◌≤◌, ◌<◌, ◌++◌, length, take, drop, chars, OnOk, OnErr, IfOk};
+ghost use Rattle.std.specs.Prelude.{IsUtf8};
 ghost use Rattle.atspi_base.specs.Text.{HasNoZero};
-ghost use Rattle.atspi_faces.specs.Places.{CutAt};
+ghost use Rattle.atspi_base.specs.Places.{CutAt};
 ghost use Rattle.atspi_faces.specs.Gap.{text_of, IsPart, AreKept};
 
 use crate::buffer::Buffer;
@@ -13,8 +14,8 @@ use std::alloc::Global;
 use std::marker::Model;
 use std::str::from_utf8_unchecked;
 
-/// A text in UTF-8, without U+0000, with a gap at the last place of change: a change there costs what is put in or taken
-/// out. Contracts see the list of its characters.
+/// A text in UTF-8, without U+0000, with a gap at the last place of change: a change there costs what is put in or
+/// taken out. Contracts see the list of its characters.
 #[derive(Drop)]
 pub struct Gap {
     buffer: Buffer,
@@ -122,8 +123,8 @@ impl Gap {
         }
     }
 
-    /// Puts a text in at a place. `Err` comes for want of memory, or of room for more bytes than a u32 counts, and changes
-    /// nothing.
+    /// Puts a text in at a place. `Err` comes for want of memory, or of room for more bytes than a u32 counts, and
+    /// changes nothing.
     pub fn insert(&mut self, alloc: Global, at: u32, more: &Text) -> Result<(), NoMemory>
         requires { at ≤ length self.old }
         ensures ok { OnOk result (self.new ≡ take at self.old ++ (more.now ++ drop at self.old)) }

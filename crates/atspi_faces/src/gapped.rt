@@ -3,11 +3,11 @@
 ghost use Rattle.std.specs.Prelude.{◌≤◌, ◌<◌, length};
 
 use crate::contents::Contents;
+use crate::face::{Change, FaceData, FaceKind};
 use crate::gap::Gap;
 use crate::kept::Kept;
 use crate::selections::copy_marks;
 use atspi_base::{Marks, NoMemory, Text};
-use atspi_face::{Change, FaceData, FaceKind};
 use std::alloc::Global;
 
 /// The text of a node in a buffer with a gap, with its caret and its text selections.
@@ -24,7 +24,7 @@ pub struct GapChars {
 pub type GapText = Kept<GapChars>;
 
 impl Contents for GapChars {
-    ghost use Rattle.atspi_forest.specs.declared.contents.FaceKind.TheVariants.{Chars as chars_kind};
+    ghost use Rattle.atspi_tree_model.specs.declared.contents.FaceKind.TheVariants.{Chars as chars_kind};
     ghost use Rattle.atspi_faces.specs.Gapped.{gap_data, gap_sound};
 
     ghost of_kind = { chars_kind };

@@ -3,11 +3,11 @@
 ghost use Rattle.std.specs.Prelude.{◌≡◌, ◌≤◌, None, OnOk, OnErr, option_copied};
 ghost use Rattle.std.specs.FinMap as map;
 ghost use Rattle.std.specs.Option.{option_map};
-ghost use Rattle.atspi_face.specs.Contents.{kind_of, caret_of, count_of};
+ghost use Rattle.atspi_faces.specs.face.Contents.{kind_of, caret_of, count_of};
 
 use crate::contents::Contents;
+use crate::face::{Change, Face, FaceData, FaceKind};
 use atspi_base::{Marks, NoMemory, Text};
-use atspi_face::{Change, Face, FaceData, FaceKind};
 use std::alloc::Global;
 use std::collections::BTreeMap;
 
@@ -41,7 +41,8 @@ impl<C: Contents> Kept<C> {
     fn put_copy(&mut self, node: u32, what: &FaceData) -> Result<(), NoMemory>
         requires right_kind { kind_of what.now ≡ C.of_kind }
         requires caret_inside { caret_of what.now ≤ count_of what.now }
-        ensures ok { OnOk result (⟦<Kept<C> as Face>⟧.nodes self.new ≡ map.insert (⟦<Kept<C> as Face>⟧.nodes self.old) node what.now) }
+        ensures ok { OnOk result
+            (⟦<Kept<C> as Face>⟧.nodes self.new ≡ map.insert (⟦<Kept<C> as Face>⟧.nodes self.old) node what.now) }
         ensures err { OnErr result (⟦<Kept<C> as Face>⟧.nodes self.new ≡ ⟦<Kept<C> as Face>⟧.nodes self.old) }
     {
         let Ok(contents) = C::copy_of(self.alloc, what) else {

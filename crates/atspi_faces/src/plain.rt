@@ -3,11 +3,11 @@
 ghost use Rattle.std.specs.Prelude.{◌≤◌, ◌<◌, length};
 
 use crate::contents::Contents;
+use crate::face::{Change, FaceData, FaceKind};
 use crate::kept::Kept;
 use crate::run::Run;
 use crate::selections::copy_marks;
 use atspi_base::{Marks, NoMemory, Text};
-use atspi_face::{Change, FaceData, FaceKind};
 use std::alloc::Global;
 
 /// The text of a node in one piece, with its caret and its text selections.
@@ -24,7 +24,7 @@ pub struct PlainChars {
 pub type PlainText = Kept<PlainChars>;
 
 impl Contents for PlainChars {
-    ghost use Rattle.atspi_forest.specs.declared.contents.FaceKind.TheVariants.{Chars as chars_kind};
+    ghost use Rattle.atspi_tree_model.specs.declared.contents.FaceKind.TheVariants.{Chars as chars_kind};
     ghost use Rattle.atspi_faces.specs.Plain.{plain_data, plain_sound};
 
     ghost of_kind = { chars_kind };

@@ -70,8 +70,8 @@ impl Run {
         }
     }
 
-    /// Puts a text in at a place. `Err` comes for want of memory, or of room for more bytes than a u32 counts, and changes
-    /// nothing.
+    /// Puts a text in at a place. `Err` comes for want of memory, or of room for more bytes than a u32 counts, and
+    /// changes nothing.
     pub fn insert(&mut self, at: u32, more: &Text) -> Result<(), NoMemory>
         requires { at ≤ length self.old }
         ensures ok { OnOk result (self.new ≡ take at self.old ++ (more.now ++ drop at self.old)) }

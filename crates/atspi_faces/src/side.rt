@@ -1,7 +1,8 @@
 //! One side of a gap in a text, with places that are noted so that finding another walks over a few hundred characters.
 
-ghost use Rattle.std.specs.Prelude.{◌≡◌, ◌+◌, ◌-◌, ◌^◌, ◌≤◌, ◌<◌, ◌++◌, ◌∷◌, ◌⊎◌, [], List, ℕ, length, take, drop, reverse, chars, vec_len, MatchOption, OnSome};
-ghost use Rattle.atspi_faces.specs.Places.{CutAt};
+ghost use Rattle.std.specs.Prelude.{◌≡◌, ◌+◌, ◌-◌, ◌^◌, ◌≤◌, ◌<◌, ◌++◌, ◌∷◌, ◌⊎◌, [], List, ℕ, length, take, drop};
+ghost use Rattle.std.specs.Prelude.{reverse, chars, vec_len, MatchOption, OnSome};
+ghost use Rattle.atspi_base.specs.Places.{CutAt};
 ghost use Rattle.atspi_faces.specs.Sides.{IsPlace, AreNoted, IsSide, AreSpread, AreSides};
 
 use crate::walk::byte_of;
@@ -17,7 +18,8 @@ pub struct Place {
     pub bytes: usize,
 }
 
-/// One side of a gap in a text, read from the text's end up to the gap: how much stands there, and places that are noted in it.
+/// One side of a gap in a text, read from the text's end up to the gap: how much stands there, and places that are
+/// noted in it.
 #[derive(Drop)]
 pub struct Side {
     pub end: Place,
@@ -72,12 +74,14 @@ impl Side {
         self.end = left;
     }
 
-    /// Leaves so much of the side, and gives the rest to the other side of the gap. The place where the gap was is noted where none is near.
+    /// Leaves so much of the side, and gives the rest to the other side of the gap. The place where the gap was is
+    /// noted where none is near.
     fn give(&mut self, other: &mut Side, left: Place)
         requires chars_fit { self.old.end.chars + other.old.end.chars < 2 ^ 32 }
         requires bytes_fit { self.old.end.bytes + other.old.end.bytes < 2 ^ 32 }
         requires less { left.chars ≤ self.old.end.chars }
-        ensures sides { (text : List ℕ) → AreSides text self.old other.old → IsPlace text left → AreSides text self.new other.new }
+        ensures sides { (text : List ℕ) → AreSides text self.old other.old → IsPlace text left
+            → AreSides text self.new other.new }
         ensures end { self.new.end ≡ left }
         ensures rest { other.new.end.chars ≡ self.old.end.chars + other.old.end.chars - left.chars }
     {
@@ -155,7 +159,8 @@ pub fn move_gap(front: &mut Side, back: &mut Side, gap: Place)
     requires chars_fit { front.old.end.chars + back.old.end.chars < 2 ^ 32 }
     requires bytes_fit { front.old.end.bytes + back.old.end.bytes < 2 ^ 32 }
     requires within { gap.chars ≤ front.old.end.chars + back.old.end.chars }
-    ensures sides { (text : List ℕ) → AreSides text front.old back.old → IsPlace text gap → AreSides text front.new back.new }
+    ensures sides { (text : List ℕ) → AreSides text front.old back.old → IsPlace text gap
+        → AreSides text front.new back.new }
     ensures at { front.new.end.chars ≡ gap.chars }
     ensures behind { back.new.end.chars ≡ front.old.end.chars + back.old.end.chars - gap.chars }
 {
@@ -184,7 +189,8 @@ fn further(text: &str, from: Place, count: u32, at: u32) -> usize
 
 /// The last noted place, or the start.
 fn last_of(places: &[Place]) -> Place
-    ensures { (cs : List ℕ) → (upto : ℕ) → AreNoted cs upto (reverse places.now) → IsPlace cs result × (result.chars ≤ upto) × AreNoted cs result.chars (reverse places.now) }
+    ensures { (cs : List ℕ) → (upto : ℕ) → AreNoted cs upto (reverse places.now)
+        → IsPlace cs result × (result.chars ≤ upto) × AreNoted cs result.chars (reverse places.now) }
 {
     match places.last() {
         Some(place) => *place,
@@ -226,7 +232,10 @@ fn put(places: &mut Vec<Place>, place: Place, apart: u32)
 /// Takes the last place out where it is behind so many characters.
 fn pop_behind(places: &mut Vec<Place>, at: u32) -> Option<Place>
     ensures shorter { OnSome result (vec_len places.new + 1 ≡ vec_len places.old) }
-    ensures noted { (cs : List ℕ) → (upto : ℕ) → AreNoted cs upto (reverse places.old.items) → MatchOption result (AreNoted cs at (reverse places.new.items)) (λ place. (at < place.chars) × (place.chars ≤ upto) × IsPlace cs place × AreNoted cs place.chars (reverse places.new.items)) }
+    ensures noted { (cs : List ℕ) → (upto : ℕ) → AreNoted cs upto (reverse places.old.items)
+        → MatchOption result (AreNoted cs at (reverse places.new.items))
+        (λ place. (at < place.chars) × (place.chars ≤ upto) × IsPlace cs place
+        × AreNoted cs place.chars (reverse places.new.items)) }
 {
     match places.last() {
         Some(place) if at < place.chars => places.pop(),
@@ -236,7 +245,8 @@ fn pop_behind(places: &mut Vec<Place>, at: u32) -> Option<Place>
 
 /// Takes the places behind so many characters from one side to the other.
 fn spill(from: &mut Vec<Place>, to: &mut Vec<Place>, total: Place, at: u32)
-    ensures { (text : List ℕ) → (upto : ℕ) → at ≤ upto → AreSpread text total upto from.old.items to.old.items → AreSpread text total at from.new.items to.new.items }
+    ensures { (text : List ℕ) → (upto : ℕ) → at ≤ upto → AreSpread text total upto from.old.items to.old.items
+        → AreSpread text total at from.new.items to.new.items }
 {
     while let Some(place) = pop_behind(from, at) {
         put(to, total.without(place), STEP / 2);
@@ -245,7 +255,8 @@ fn spill(from: &mut Vec<Place>, to: &mut Vec<Place>, total: Place, at: u32)
 
 /// Takes the places behind so many characters out.
 fn shed(places: &mut Vec<Place>, at: u32)
-    ensures { (cs : List ℕ) → (upto : ℕ) → AreNoted cs upto (reverse places.old.items) → AreNoted cs at (reverse places.new.items) }
+    ensures { (cs : List ℕ) → (upto : ℕ) → AreNoted cs upto (reverse places.old.items)
+        → AreNoted cs at (reverse places.new.items) }
 {
     while pop_behind(places, at).is_some() {}
 }

@@ -1,13 +1,13 @@
 -- What reading a line of an input answers, by what reading it as a line of a script answers.
 use Rattle.std.proofs.Common.{◌≡◌, ℕ, List, ◌++◌, Option, Some, None, refl, sym, ap, subst, ◌∙◌}
 use Rattle.std.specs.Prelude.{Result, Ok, Err, codes}
-use Rattle.atspi_forest.specs.declared.edit.Edit.{Edit}
-use Rattle.atspi_lines.specs.declared.line.Line.{Line}
-use Rattle.atspi_lines.specs.declared.line.Line.TheVariants as line
-use Rattle.atspi_lines.specs.declared.line.LineFault.{LineFault}
-use Rattle.atspi_lines.specs.declared.line.LineFault.TheVariants as faults
-use Rattle.atspi_lines.specs.Line.{ReadsLine, Spells}
-use Rattle.atspi_lines.proofs.OnceLemmas.{one_reading}
+use Rattle.atspi_tree_model.specs.declared.edit.Edit.{Edit}
+use Rattle.atspi_script_lines.specs.declared.line.Line.{Line}
+use Rattle.atspi_script_lines.specs.declared.line.Line.TheVariants as line
+use Rattle.atspi_script_lines.specs.declared.line.LineFault.{LineFault}
+use Rattle.atspi_script_lines.specs.declared.line.LineFault.TheVariants as faults
+use Rattle.atspi_script_lines.specs.Line.{ReadsLine, Spells}
+use Rattle.atspi_script_lines.proofs.OnceLemmas.{one_reading}
 use Rattle.atspi_live_app.specs.Asking.{AsksFor, IsAsk, IsEditLine, OtherIn, edit_in, plain_in}
 use Rattle.atspi_live_app.specs.declared.asking.Ask.{Ask}
 use Rattle.atspi_live_app.specs.declared.asking.Ask.TheVariants as ask

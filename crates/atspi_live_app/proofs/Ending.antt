@@ -1,7 +1,7 @@
 -- How a run of the live application ends, put together.
 use Rattle.std.proofs.Common.{◌≡◌, ℕ, List, [], ◌∷◌, Option, refl, sym, subst}
-use Rattle.atspi_host.specs.declared.call.Call.{Call}
-use Rattle.atspi_live_registry.specs.Runs.{IsOnLink}
+use Rattle.atspi_live_host.specs.declared.call.Call.{Call}
+use Rattle.atspi_live_conversation.specs.Reports.{IsOnLink}
 use Rattle.atspi_live_app.specs.Overs.{IsOver}
 use Rattle.atspi_live_app.specs.Rounds.{RunsPaced}
 use Rattle.atspi_live_app.specs.Runs.{OverReports, TextEnds}

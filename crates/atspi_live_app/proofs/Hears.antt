@@ -3,10 +3,10 @@ use Rattle.std.proofs.Common.{◌≡◌, ◌<◌, ℕ, ◌+◌, List, [], ◌∷
 use Rattle.std.specs.Prelude.{⊤}
 use Rattle.std.specs.List.{concat}
 use Rattle.std.proofs.lemmas.List.{take-append-le}
-use Rattle.atspi_host.specs.declared.call.Call.{Call}
-use Rattle.atspi_host.specs.Calls.{taken}
-use Rattle.atspi_conversation.specs.Moved.{Tells}
-use Rattle.atspi_conversation.specs.Rounds.{Makes}
+use Rattle.atspi_live_host.specs.declared.call.Call.{Call}
+use Rattle.atspi_live_host.specs.Calls.{taken}
+use Rattle.atspi_live_conversation.specs.Moved.{Tells}
+use Rattle.atspi_live_conversation.specs.Rounds.{Makes}
 use Rattle.atspi_live_app.specs.Pace.{HasWhole, Heard, total}
 use Rattle.atspi_live_app.specs.Turns.{pieces}
 use Rattle.atspi_live_app.proofs.Pieces.{HasRead, all_taken, count_pieces, pieces_both}

@@ -1,7 +1,7 @@
 -- An edit that a line asks for can be asked for.
 use Rattle.std.proofs.Common.{◌≡◌, ℕ, List, subst}
 use Rattle.std.specs.Prelude.{Result, Ok}
-use Rattle.atspi_lines.specs.declared.line.LineFault.{LineFault}
+use Rattle.atspi_script_lines.specs.declared.line.LineFault.{LineFault}
 use Rattle.atspi_live_app.specs.Input.{Passes}
 use Rattle.atspi_live_app.specs.Asking.{IsAsk}
 use Rattle.atspi_live_app.specs.Live.{IsLawful}

@@ -1,9 +1,9 @@
 -- A message that an application hands out meets the rules, where those that it took do.
 use Rattle.std.proofs.Common.{◌≡◌, List, [], ◌∷◌, ◌++◌, Option, Some, None, sym, ap, subst}
-use Rattle.atspi_forest.specs.Row.{Each}
+use Rattle.atspi_tree_model.specs.Row.{Each}
 use Rattle.atspi_message.specs.Envelope.{Envelope}
 use Rattle.atspi_message.specs.Rules.{MeetsRules}
-use Rattle.atspi_conversation.specs.Sent.{AllMeet}
+use Rattle.atspi_live_conversation.specs.Sent.{AllMeet}
 use Rattle.atspi_protocol.specs.exporting.Exporter.{Happening, steps, sends, hears, deaf, Exporter}
 use Rattle.atspi_live_app.specs.Standing.{Comes, Does, Event, HandedOut, Makes, does, sent_in, taken_in, takes}
 use Rattle.atspi_live_app.specs.declared.asking.Ask.{Ask}

@@ -1,9 +1,9 @@
 -- The lines of an input and the rounds that they take, one behind the other.
 use Rattle.std.proofs.Common.{◌≡◌, ◌<◌, ◌≤◌, ℕ, ◌+◌, ◌-◌, List, [], ◌∷◌, ◌++◌, map, Option, refl, sym, ap, subst, ◌∙◌, inl, inr, arith}
 use Rattle.std.specs.Prelude.{◌⊎◌, Ok}
-use Rattle.atspi_host.specs.declared.call.Call.{Call}
-use Rattle.atspi_conversation.specs.Moved.{Tells}
-use Rattle.atspi_conversation.specs.Rounds.{Makes}
+use Rattle.atspi_live_host.specs.declared.call.Call.{Call}
+use Rattle.atspi_live_conversation.specs.Moved.{Tells}
+use Rattle.atspi_live_conversation.specs.Rounds.{Makes}
 use Rattle.atspi_live_app.specs.Input.{Passes, left_in}
 use Rattle.atspi_live_app.specs.Lines.{lines_of}
 use Rattle.atspi_live_app.specs.Pace.{AllTake, BreaksOver, EndsTurn, GoesOn, Heard, IsPaced, Proceeds, Starts, StopsAt, Takes, rounds_of, total}

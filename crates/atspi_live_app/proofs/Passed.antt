@@ -1,8 +1,8 @@
 -- Lines that are passed, each with the rounds that it takes.
 use Rattle.std.proofs.Common.{◌≡◌, ℕ, List, [], ◌∷◌, ◌++◌, refl, subst, inl, inr, arith, IsUtf8}
 use Rattle.std.specs.Prelude.{codes}
-use Rattle.atspi_lines.specs.Line.{Spells}
-use Rattle.atspi_lines.specs.declared.line.Line.TheVariants.{Blank}
+use Rattle.atspi_script_lines.specs.Line.{Spells}
+use Rattle.atspi_script_lines.specs.declared.line.Line.TheVariants.{Blank}
 use Rattle.atspi_live_app.specs.Asking.{IsAsk}
 use Rattle.atspi_live_app.specs.Pace.{Proceeds, Takes, rounds_of}
 use Rattle.atspi_live_app.specs.declared.asking.Ask.{Ask}

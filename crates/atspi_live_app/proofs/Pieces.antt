@@ -4,17 +4,17 @@ use Rattle.std.specs.Prelude.{if◌then◌else◌}
 use Rattle.std.specs.List.{concat}
 use Rattle.std.proofs.lemmas.Bool.Decides.{eqb_tells}
 use Rattle.std.proofs.lemmas.List.Folds.{concat-append}
-use Rattle.atspi_host.specs.declared.call.Did.{Did}
-use Rattle.atspi_host.specs.declared.call.Did.TheVariants.{End, Failed}
-use Rattle.atspi_host.specs.declared.call.Call.{Call}
-use Rattle.atspi_host.specs.declared.call.Call.TheVariants.{Listen, Accept, Connect, Read, Write, Close}
-use Rattle.atspi_host.specs.Calls.{taken, takes}
-use Rattle.atspi_conversation.specs.Moved.{answer_of_read, reads}
-use Rattle.atspi_conversation.specs.Rounds.{Breaks, IsRead, IsRound, IsWrite, Makes, WritesIfDue}
-use Rattle.atspi_conversation.specs.declared.ending.Ending.{Ending}
-use Rattle.atspi_conversation.specs.declared.ending.Ending.TheVariants as endings
-use Rattle.atspi_conversation.proofs.MovedLemmas.{taken_append}
-use Rattle.atspi_conversation.proofs.RoundLemmas.{makes_if}
+use Rattle.atspi_live_host.specs.declared.call.Did.{Did}
+use Rattle.atspi_live_host.specs.declared.call.Did.TheVariants.{End, Failed}
+use Rattle.atspi_live_host.specs.declared.call.Call.{Call}
+use Rattle.atspi_live_host.specs.declared.call.Call.TheVariants.{Listen, Accept, Connect, Read, Write, Close}
+use Rattle.atspi_live_host.specs.Calls.{taken, takes}
+use Rattle.atspi_live_conversation.specs.Moved.{answer_of_read, reads}
+use Rattle.atspi_live_conversation.specs.Rounds.{Breaks, IsRead, IsRound, IsWrite, Makes, WritesIfDue}
+use Rattle.atspi_live_conversation.specs.declared.ending.Ending.{Ending}
+use Rattle.atspi_live_conversation.specs.declared.ending.Ending.TheVariants as endings
+use Rattle.atspi_live_conversation.proofs.MovedLemmas.{taken_append}
+use Rattle.atspi_live_conversation.proofs.RoundLemmas.{makes_if}
 use Rattle.atspi_live_app.specs.Standing.{Event, IsAfter, IsEmpty}
 use Rattle.atspi_live_app.specs.Turns.{pieces, read_by}
 

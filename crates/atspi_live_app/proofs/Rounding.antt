@@ -1,17 +1,17 @@
 -- The calls of a run, round by round, with what is in turn in each.
 use Rattle.std.proofs.Common.{◌≡◌, ◌<◌, ◌≤◌, ℕ, zero, suc, ◌+◌, ◌-◌, List, [], ◌++◌, length, take, Option, None, Some, refl, sym, ap, subst, ◌∙◌, inl, inr, append_assoc, append-nil, length-append, take_at, arith}
 use Rattle.std.proofs.lemmas.List.{take-append-le}
-use Rattle.atspi_host.specs.declared.call.Did.{Did}
-use Rattle.atspi_host.specs.declared.call.Did.TheVariants.{Failed}
-use Rattle.atspi_host.specs.declared.call.Call.{Call}
-use Rattle.atspi_host.specs.Calls.{taken, given}
-use Rattle.atspi_conversation.specs.Moved.{Tells, reads}
-use Rattle.atspi_conversation.specs.Rounds.{AreRounds, Breaks, IsRound, IsWrite, Makes, WritesIfDue}
-use Rattle.atspi_conversation.specs.Speech.{IsAllGiven}
-use Rattle.atspi_conversation.specs.declared.ending.Ending.{Ending}
-use Rattle.atspi_conversation.specs.declared.ending.Ending.TheVariants as endings
-use Rattle.atspi_conversation.proofs.MovedLemmas.{given_append, taken_append}
-use Rattle.atspi_conversation.proofs.RoundLemmas.{makes_if, none_wait}
+use Rattle.atspi_live_host.specs.declared.call.Did.{Did}
+use Rattle.atspi_live_host.specs.declared.call.Did.TheVariants.{Failed}
+use Rattle.atspi_live_host.specs.declared.call.Call.{Call}
+use Rattle.atspi_live_host.specs.Calls.{taken, given}
+use Rattle.atspi_live_conversation.specs.Moved.{Tells, reads}
+use Rattle.atspi_live_conversation.specs.Rounds.{AreRounds, Breaks, IsRound, IsWrite, Makes, WritesIfDue}
+use Rattle.atspi_live_conversation.specs.Speech.{IsAllGiven}
+use Rattle.atspi_live_conversation.specs.declared.ending.Ending.{Ending}
+use Rattle.atspi_live_conversation.specs.declared.ending.Ending.TheVariants as endings
+use Rattle.atspi_live_conversation.proofs.MovedLemmas.{given_append, taken_append}
+use Rattle.atspi_live_conversation.proofs.RoundLemmas.{makes_if, none_wait}
 use Rattle.atspi_live_app.specs.Lines.{lines_of}
 use Rattle.atspi_live_app.specs.Live.{IsMarked}
 use Rattle.atspi_live_app.specs.Pace.{BreaksOver, EndsTurn, IsPaced, StopsAt}

@@ -1,12 +1,12 @@
 -- The signals of steps meet the rules of messages.
 use Rattle.std.proofs.Common.{ℕ, List, [], ◌∷◌, ◌++◌, Option, Some, None, map}
-use Rattle.atspi_forest.specs.declared.step.Step.{Step}
-use Rattle.atspi_forest.specs.declared.step.Step.TheVariants.{Add, Remove, Move, SetName, SetDescription, SetRole, SetState, Insert, Delete, Caret, TextSelect, Relate}
-use Rattle.atspi_forest.specs.Forest.{Forest, labels, width, pick, find, children_at}
-use Rattle.atspi_forest.specs.Row.{Each, TreeRow}
-use Rattle.atspi_forest.specs.RowRules.{rows}
-use Rattle.atspi_forest.specs.Tree.{is_node, after, seat_of}
-use Rattle.atspi_forest.proofs.Lookup.{each_append}
+use Rattle.atspi_tree_model.specs.declared.step.Step.{Step}
+use Rattle.atspi_tree_model.specs.declared.step.Step.TheVariants.{Add, Remove, Move, SetName, SetDescription, SetRole, SetState, Insert, Delete, Caret, TextSelect, Relate}
+use Rattle.atspi_tree_model.specs.Forest.{Forest, labels, width, pick, find, children_at}
+use Rattle.atspi_tree_model.specs.Row.{Each, TreeRow}
+use Rattle.atspi_tree_model.specs.RowRules.{rows}
+use Rattle.atspi_tree_model.specs.Tree.{is_node, after, seat_of}
+use Rattle.atspi_tree_model.proofs.Lookup.{each_append}
 use Rattle.atspi_protocol.specs.announcing.Signals.{Signal, removed}
 use Rattle.atspi_protocol.specs.announcing.Announced.{announced, left, told_node}
 use Rattle.atspi_protocol.specs.exporting.Laws.{IsTypedSignal}

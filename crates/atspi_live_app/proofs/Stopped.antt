@@ -2,15 +2,15 @@
 use Rattle.std.proofs.Common.{◌≡◌, ℕ, ◌+◌, ◌<◌, List, [], ◌∷◌, ◌++◌, Option, None, refl, sym, ap, subst, ◌∙◌, inl, inr}
 use Rattle.std.specs.Prelude.{Ok, Err}
 use Rattle.atspi_message.specs.Envelope.{Envelope}
-use Rattle.atspi_lines.specs.declared.line.LineFault.{LineFault}
-use Rattle.atspi_lines.specs.declared.line.LineFault.TheVariants as faults
+use Rattle.atspi_script_lines.specs.declared.line.LineFault.{LineFault}
+use Rattle.atspi_script_lines.specs.declared.line.LineFault.TheVariants as faults
 use Rattle.atspi_protocol.specs.exporting.Exporter.{Exporter}
 use Rattle.atspi_live_app.specs.Asking.{IsAsk}
 use Rattle.atspi_live_app.specs.Input.{Passes, left_in}
 use Rattle.atspi_live_app.specs.Lines.{lines_of}
 use Rattle.atspi_live_app.specs.Standing.{IsNumbered, IsRefused, Makes, RefusedNext, lines_in}
 use Rattle.atspi_live_app.specs.Live.{IsMarked, IsStopped, IsUndone, Stands, seen}
-use Rattle.atspi_live_app.specs.Stops.{stop_of_line, stop_of_undone}
+use Rattle.atspi_live_app.specs.inner.Stops.{stop_of_line, stop_of_undone}
 use Rattle.atspi_live_app.specs.declared.asking.Ask.{Ask}
 use Rattle.atspi_live_app.specs.declared.doing.Undone.{Undone}
 use Rattle.atspi_live_app.specs.declared.doing.Undone.TheVariants as undone

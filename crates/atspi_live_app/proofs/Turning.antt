@@ -4,16 +4,16 @@ use Rattle.std.proofs.lemmas.List.{length-map}
 use Rattle.atspi_auth.specs.Talk.{behind, client_start}
 use Rattle.atspi_message.specs.Envelope.{Envelope}
 use Rattle.atspi_stream.specs.Stream.{IsParted}
-use Rattle.atspi_host.specs.declared.call.Call.{Call}
-use Rattle.atspi_conversation.specs.Rounds.{Breaks, IsRound, Makes}
-use Rattle.atspi_conversation.specs.Speech.{Ends, Speaks, envelopes}
-use Rattle.atspi_conversation.specs.Talking.{Going, HasNone, IsEnded, MaySpeak}
-use Rattle.atspi_conversation.specs.declared.conversation.Conversation.{Conversation}
-use Rattle.atspi_conversation.specs.declared.ending.Ending.{Ending}
-use Rattle.atspi_conversation.specs.declared.ending.Ending.TheVariants as endings
-use Rattle.atspi_conversation.proofs.RoundLemmas.{makes_if, none_wait}
-use Rattle.atspi_conversation.proofs.SeenLemmas.{breaks_seen, ends_seen, round_seen, speaks_seen}
-use Rattle.atspi_conversation.proofs.StepLemmas.{all_done}
+use Rattle.atspi_live_host.specs.declared.call.Call.{Call}
+use Rattle.atspi_live_conversation.specs.Rounds.{Breaks, IsRound, Makes}
+use Rattle.atspi_live_conversation.specs.Speech.{Ends, Speaks, envelopes}
+use Rattle.atspi_live_conversation.specs.Talking.{Going, HasNone, IsEnded, MaySpeak}
+use Rattle.atspi_live_conversation.specs.declared.conversation.Conversation.{Conversation}
+use Rattle.atspi_live_conversation.specs.declared.ending.Ending.{Ending}
+use Rattle.atspi_live_conversation.specs.declared.ending.Ending.TheVariants as endings
+use Rattle.atspi_live_conversation.proofs.RoundLemmas.{makes_if, none_wait}
+use Rattle.atspi_live_conversation.proofs.SeenLemmas.{breaks_seen, ends_seen, round_seen, speaks_seen}
+use Rattle.atspi_live_conversation.proofs.StepLemmas.{all_done}
 use Rattle.atspi_protocol.specs.exporting.Exporter.{Exporter}
 use Rattle.atspi_live_app.specs.Lines.{lines_of}
 use Rattle.atspi_live_app.specs.Standing.{Event, IsAfter, IsEmpty, IsSpent}

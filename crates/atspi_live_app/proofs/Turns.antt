@@ -9,9 +9,9 @@ use Rattle.atspi_auth.proofs.WholeLemmas.{behind-append}
 use Rattle.atspi_message.specs.Envelope.{Envelope}
 use Rattle.atspi_stream.specs.Stream.{AreMessages, IsParted, bytes_of}
 use Rattle.atspi_stream.proofs.StreamLaws.{begun}
-use Rattle.atspi_host.specs.declared.call.Call.{Call}
-use Rattle.atspi_host.specs.Calls.{taken}
-use Rattle.atspi_conversation.specs.Speech.{envelopes}
+use Rattle.atspi_live_host.specs.declared.call.Call.{Call}
+use Rattle.atspi_live_host.specs.Calls.{taken}
+use Rattle.atspi_live_conversation.specs.Speech.{envelopes}
 use Rattle.atspi_live_app.specs.Lines.{lines_of}
 use Rattle.atspi_live_app.specs.Input.{left_in}
 use Rattle.atspi_live_app.specs.Live.{IsMarked, marks_in}

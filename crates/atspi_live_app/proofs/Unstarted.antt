@@ -7,8 +7,8 @@ use Rattle.atspi_auth.specs.Replies.{answer, reply_to}
 use Rattle.atspi_auth.specs.Requests.{is_grant, is_number}
 use Rattle.atspi_auth.specs.Talk.{after, client_start, fault_in, heard, hears, hears_bytes}
 use Rattle.atspi_stream.specs.Stream.{few}
-use Rattle.atspi_conversation.proofs.LineLemmas.{none_behind}
-use Rattle.atspi_conversation.specs.Speech.{IsInOrder, IsSpeech, line_bytes, lines_for}
+use Rattle.atspi_live_conversation.proofs.LineLemmas.{none_behind}
+use Rattle.atspi_live_conversation.specs.Speech.{IsInOrder, IsSpeech, line_bytes, lines_for}
 use Rattle.atspi_live_app.specs.Overs.{StopsBy}
 use Rattle.atspi_live_app.specs.Pace.{IsPaced, StopsAt}
 use Rattle.atspi_live_app.specs.Standing.{Event, IsAfter, IsRefused, does}

@@ -1,12 +1,12 @@
 -- What a line of an application's input asks for.
 use Rattle.std.specs.Prelude.{◌≡◌, ◌<◌, ◌^◌, ℕ, List, ◌++◌, Option, None, Some, Result, Ok, Err, codes}
 use Rattle.std.specs.Fmt.{decimal}
-use Rattle.atspi_forest.specs.declared.edit.Edit.{Edit}
-use Rattle.atspi_lines.specs.declared.line.Line.{Line}
-use Rattle.atspi_lines.specs.declared.line.Line.TheVariants as line
-use Rattle.atspi_lines.specs.declared.line.LineFault.{LineFault}
-use Rattle.atspi_lines.specs.declared.line.LineFault.TheVariants as faults
-use Rattle.atspi_lines.specs.Line.{ReadsLine, Spells}
+use Rattle.atspi_tree_model.specs.declared.edit.Edit.{Edit}
+use Rattle.atspi_script_lines.specs.declared.line.Line.{Line}
+use Rattle.atspi_script_lines.specs.declared.line.Line.TheVariants as line
+use Rattle.atspi_script_lines.specs.declared.line.LineFault.{LineFault}
+use Rattle.atspi_script_lines.specs.declared.line.LineFault.TheVariants as faults
+use Rattle.atspi_script_lines.specs.Line.{ReadsLine, Spells}
 use Rattle.atspi_live_app.specs.declared.asking.Ask.{Ask}
 use Rattle.atspi_live_app.specs.declared.asking.Ask.TheVariants as ask
 
@@ -51,7 +51,8 @@ OtherIn (Err faults.NotUtf8) bytes = ⊥
 OtherIn (Err faults.Form) bytes = ((edit : Edit) → IsEditLine edit bytes → ⊥) × ((n : ℕ) → IsWait n bytes → ⊥)
 OtherIn (Err faults.NoMemory) bytes = Unit {0}
 
--- what reading bytes as a line of an input answers: what they ask for; else the first reason that holds: too many, no UTF-8, or they ask for nothing
+-- what reading bytes as a line of an input answers: what they ask for; else the first reason that holds: too many, no
+-- UTF-8, or they ask for nothing
 abbrev pub AsksFor : Result Ask LineFault → List ℕ → Type 0
 AsksFor (Ok what) bytes = IsAsk what bytes
 AsksFor (Err faults.Long) bytes = ReadsLine (Err faults.Long) bytes

@@ -13,6 +13,7 @@ IsHanded handed.Nothing h = ⊥
 
 -- it is no longer queued
 abbrev pub HandsOver : Handed → Exporter → Exporter → Type 0
-HandsOver (handed.Message m) old new = HandedOut (envelope_of m ∷ []) (Some new) (Some old) × (length new.out < length old.out)
+HandsOver (handed.Message m) old new = HandedOut (envelope_of m ∷ []) (Some new) (Some old)
+    × (length new.out < length old.out)
 HandsOver handed.Aside old new = HandedOut [] (Some new) (Some old) × (length new.out < length old.out)
 HandsOver handed.Nothing old new = HandedOut [] (Some new) (Some old)

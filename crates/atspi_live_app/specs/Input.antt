@@ -1,9 +1,10 @@
 -- What was read of a source, and the lines of it that are still to come.
-use Rattle.std.specs.Prelude.{◌≡◌, ℕ, ◌<◌, ◌+◌, List, [], ◌∷◌, ◌++◌, length, drop, Option, Result, MatchOption, MatchResult}
+use Rattle.std.specs.Prelude.{◌≡◌, ℕ, ◌<◌, ◌+◌, List, [], ◌∷◌, ◌++◌, length, drop, Option, Result, MatchOption}
+use Rattle.std.specs.Prelude.{MatchResult}
 use Rattle.std.specs.Io.KnownBytes.{Consumes, IsAtEnd}
 use Rattle.atspi_base.specs.Outside.{Rose}
 use Rattle.atspi_base.specs.declared.outside.NoMemory.{NoMemory}
-use Rattle.atspi_lines.specs.declared.line.LineFault.{LineFault}
+use Rattle.atspi_script_lines.specs.declared.line.LineFault.{LineFault}
 use Rattle.atspi_live_app.specs.Asking.{AsksFor}
 use Rattle.atspi_live_app.specs.Lines.{lines_of}
 use Rattle.atspi_live_app.specs.declared.asking.Ask.{Ask}
@@ -40,4 +41,6 @@ pub record Passes (asked : Result Ask LineFault) (text : List ℕ) (at number at
 -- the next line was passed, or none was left
 abbrev pub NextAsk : Option (Result Ask LineFault) → List ℕ → ℕ → ℕ → List ℕ → ℕ → ℕ → Type 0
 NextAsk next text at number text' at' number' =
-    (text' ≡ text) × MatchOption next ((left_in text at ≡ []) × (at' ≡ at) × (number' ≡ number)) (λ asked. Passes asked text at number at' number')
+    (text' ≡ text)
+    × MatchOption next ((left_in text at ≡ []) × (at' ≡ at) × (number' ≡ number))
+    (λ asked. Passes asked text at number at' number')

@@ -1,4 +1,4 @@
-pub mod Faults
+pub mod inner
 pub mod Lines
 pub mod Asking
 pub mod Input
@@ -6,7 +6,6 @@ pub mod Standing
 pub mod Names
 pub mod HandedOver
 pub mod Live
-pub mod Stops
 pub mod Overs
 pub mod Pace
 pub mod Turns

@@ -1,13 +1,15 @@
 -- A live application: what it has done, what it hands out, and why a line of its input is not done.
-use Rattle.std.specs.Prelude.{◌≡◌, ◌≤◌, ℕ, ◌+◌, List, [], ◌∷◌, ◌++◌, length, take, drop, Option, None, Some, MatchOption, ⊤}
-use Rattle.atspi_forest.specs.Edits.{IsEdit}
+use Rattle.std.specs.Prelude.{◌≡◌, ◌≤◌, ℕ, ◌+◌, List, [], ◌∷◌, ◌++◌, length, take, drop, Option, None, Some}
+use Rattle.std.specs.Prelude.{MatchOption, ⊤}
+use Rattle.atspi_tree_model.specs.Edits.{IsEdit}
 use Rattle.atspi_message.specs.Envelope.{Envelope}
 use Rattle.atspi_protocol.specs.exporting.Exporter.{Exporter}
 use Rattle.atspi_app.specs.Seen.{IsSpentAfter}
 use Rattle.atspi_protocol.specs.exporting.Taking.{app_edits}
 use Rattle.atspi_live_app.specs.Lines.{lines_of}
 use Rattle.atspi_live_app.specs.Input.{left_in}
-use Rattle.atspi_live_app.specs.Standing.{Event, HandedOut, IsNumbered, IsRefused, IsSpentAt, Makes, MayNot, RefusedBy, does, lines_in, taken_in, takes}
+use Rattle.atspi_live_app.specs.Standing.{Event, HandedOut, IsNumbered, IsRefused, IsSpentAt, Makes, MayNot, RefusedBy}
+use Rattle.atspi_live_app.specs.Standing.{does, lines_in, taken_in, takes}
 use Rattle.atspi_live_app.specs.declared.asking.Ask.{Ask}
 use Rattle.atspi_live_app.specs.declared.asking.Ask.TheVariants as ask
 use Rattle.atspi_live_app.specs.declared.doing.Undone.{Undone}
@@ -51,7 +53,9 @@ abbrev pub IsMarked : List ℕ → List Event → List (List ℕ) → Type 0
 IsMarked marks history left = marks_in 0 history ≡ marks
 
 -- of the lines of this text it did the first, each behind so many messages, took these messages and handed out those
-pub record Stands {A K : Type 0} (is_app : A → Type 0) (exporter : A → Exporter) (is_kit : K → Type 0) (text marks : List ℕ) (app : Option A) (kit : Option K) (held : List ℕ) (at number : ℕ) (took said : List Envelope) : Type 0 where
+pub record Stands {A K : Type 0} (is_app : A → Type 0) (exporter : A → Exporter) (is_kit : K → Type 0)
+    (text marks : List ℕ) (app : Option A) (kit : Option K) (held : List ℕ) (at number : ℕ)
+    (took said : List Envelope) : Type 0 where
   pub kept : IsKept is_app is_kit app kit
   pub same : held ≡ text
   pub short : length text ≤ INPUT_LIMIT
@@ -70,7 +74,8 @@ abbrev pub aside_of : ℕ → List ℕ → List ℕ → List ℕ
 aside_of place marks text = place ∷ length marks ∷ (marks ++ text)
 
 -- the same, where it tells this
-abbrev pub StandsAt : {A K : Type 0} → (A → Type 0) → (A → Exporter) → (K → Type 0) → List ℕ → Option A → Option K → List ℕ → ℕ → ℕ → List Envelope → List Envelope → Type 0
+abbrev pub StandsAt : {A K : Type 0} → (A → Type 0) → (A → Exporter) → (K → Type 0) → List ℕ → Option A → Option K
+    → List ℕ → ℕ → ℕ → List Envelope → List Envelope → Type 0
 StandsAt is_app exporter is_kit [] app kit held at number took said = ⊥
 StandsAt is_app exporter is_kit (place ∷ []) app kit held at number took said = ⊥
 StandsAt is_app exporter is_kit (place ∷ count ∷ told) app kit held at number took said =

@@ -1,12 +1,13 @@
--- What an application did from its start on: the lines of its input that were done and the messages that it took, in their order.
+-- What an application did from its start on: the lines of its input that were done and the messages that it took, in
+-- their order.
 use Rattle.std.specs.Prelude.{◌≡◌, ◌⊎◌, ℕ, ◌+◌, false, true, List, [], ◌∷◌, ◌++◌, length, Option, None, Some, Ok, Err}
-use Rattle.atspi_forest.specs.declared.edit.Edit.{Edit}
-use Rattle.atspi_forest.specs.declared.edit.EditFault.{EditFault}
-use Rattle.atspi_forest.specs.declared.edit.EditFault.TheVariants.{TextFull}
-use Rattle.atspi_forest.specs.Row.{IsName}
+use Rattle.atspi_tree_model.specs.declared.edit.Edit.{Edit}
+use Rattle.atspi_tree_model.specs.declared.edit.EditFault.{EditFault}
+use Rattle.atspi_tree_model.specs.declared.edit.EditFault.TheVariants.{TextFull}
+use Rattle.atspi_tree_model.specs.Row.{IsName}
 use Rattle.atspi_message.specs.Envelope.{Envelope}
-use Rattle.atspi_lines.specs.declared.line.LineFault.TheVariants as faults
-use Rattle.atspi_lines.specs.Line.{ReadsLine}
+use Rattle.atspi_script_lines.specs.declared.line.LineFault.TheVariants as faults
+use Rattle.atspi_script_lines.specs.Line.{ReadsLine}
 use Rattle.atspi_protocol.specs.exporting.Exporter.{Happening, steps, sends, hears, deaf, Exporter, begins}
 use Rattle.atspi_protocol.specs.exporting.Starting.{starts}
 use Rattle.atspi_protocol.specs.exporting.Taking.{app_takes, app_edits, is_spent}
@@ -32,7 +33,8 @@ taken_in [] = []
 taken_in (does line ∷ events) = taken_in events
 taken_in (takes e ∷ events) = e ∷ taken_in events
 
--- an application, once it has started, and what it is when that was done for which a line asks: it starts once, and before all else
+-- an application, once it has started, and what it is when that was done for which a line asks: it starts once, and
+-- before all else
 abbrev pub Does : Option Exporter → Ask → Option Exporter → Type 0
 Does s ask.Nothing t = t ≡ s
 Does None (ask.Start name) t = IsName name × (t ≡ Some (starts (begins name)))
@@ -64,7 +66,8 @@ sent_in (deaf bus pattern ∷ hs) = sent_in hs
 -- with the messages that it still has queued these are all that it sends
 abbrev pub HandedOut : List Envelope → Option Exporter → Option Exporter → Type 0
 HandedOut said None None = said ≡ []
-HandedOut said (Some s) (Some whole) = (done : List Happening) × (record s { out = done ++ s.out } ≡ whole) × (sent_in done ≡ said)
+HandedOut said (Some s) (Some whole) = (done : List Happening) × (record s { out = done ++ s.out } ≡ whole)
+    × (sent_in done ≡ said)
 HandedOut said _ _ = ⊥
 
 -- no message of its own has a number past 4,294,967,295
@@ -72,10 +75,11 @@ abbrev pub IsNumbered : Option Exporter → Type 0
 IsNumbered None = Unit {0}
 IsNumbered (Some s) = is_spent s ≡ false
 
--- From its start on it did lines at the front of these, took these messages and handed out those, in an order that is so for the lines
--- that are left: what it handed out, and what it has queued, is all that the application sends that its lines and the messages make.
--- None of that has a number past the last one.
-pub record IsAfter (IsOrder : List Event → List (List ℕ) → Type 0) (lines : List (List ℕ)) (s : Option Exporter) (took said : List Envelope) : Type 0 where
+-- From its start on it did lines at the front of these, took these messages and handed out those, in an order that is
+-- so for the lines that are left: what it handed out, and what it has queued, is all that the application sends that
+-- its lines and the messages make. None of that has a number past the last one.
+pub record IsAfter (IsOrder : List Event → List (List ℕ) → Type 0) (lines : List (List ℕ)) (s : Option Exporter)
+    (took said : List Envelope) : Type 0 where
   pub history : List Event
   pub left : List (List ℕ)
   pub order : IsOrder history left
@@ -125,7 +129,8 @@ RefusedNext s [] why = (s ≡ None) × (why ≡ refused.Form)
 RefusedNext s (line ∷ rest) why = RefusedAs s line why
 
 -- a line of these is refused, counted from 1: those before it were done, and these messages taken
-pub record IsRefused (IsOrder : List Event → List (List ℕ) → Type 0) (lines : List (List ℕ)) (took : List Envelope) (number : ℕ) (why : Refused) : Type 0 where
+pub record IsRefused (IsOrder : List Event → List (List ℕ) → Type 0) (lines : List (List ℕ)) (took : List Envelope)
+    (number : ℕ) (why : Refused) : Type 0 where
   pub history : List Event
   pub left : List (List ℕ)
   pub order : IsOrder history left
@@ -138,7 +143,8 @@ pub record IsRefused (IsOrder : List Event → List (List ℕ) → Type 0) (line
   pub counted : number ≡ length (lines_in history) + 1
 
 -- a line of these asks for an edit whose messages would pass number 4,294,967,295
-pub record IsSpentAt (IsOrder : List Event → List (List ℕ) → Type 0) (lines : List (List ℕ)) (took : List Envelope) : Type 0 where
+pub record IsSpentAt (IsOrder : List Event → List (List ℕ) → Type 0) (lines : List (List ℕ)) (took : List Envelope)
+    : Type 0 where
   pub history : List Event
   pub line : List ℕ
   pub left : List (List ℕ)

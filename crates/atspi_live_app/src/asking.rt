@@ -5,8 +5,8 @@ ghost use Rattle.std.specs.Fmt.{decimal};
 ghost use Rattle.atspi_live_app.specs.Asking.{AsksFor, EditIn, IsWait, OtherIn, edit_in, plain_in};
 
 use atspi_base::Text;
-use atspi_forest::Edit;
-use atspi_lines::{Line, LineFault, parse_line, read_number};
+use atspi_script_lines::{Line, LineFault, parse_line, read_number};
+use atspi_tree_model::Edit;
 use std::alloc::Global;
 
 /// An edit line of a script is this and an edit.
@@ -91,8 +91,8 @@ fn plain_in(line: Line) -> Option<Ask>
     }
 }
 
-/// What a line asks for. Refused for the first reason that holds: `Long` for more than 65,536 bytes, `NotUtf8` for bytes that are not
-/// UTF-8, `Form` for bytes that ask for nothing of this.
+/// What a line asks for. Refused for the first reason that holds: `Long` for more than 65,536 bytes, `NotUtf8` for
+/// bytes that are not UTF-8, `Form` for bytes that ask for nothing of this.
 pub(crate) fn ask_of(alloc: Global, bytes: &[u8]) -> Result<Ask, LineFault>
     ensures { AsksFor result bytes.now }
 {

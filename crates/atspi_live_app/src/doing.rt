@@ -1,18 +1,18 @@
 //! What a line asks for is done.
 
 ghost use Rattle.std.specs.Prelude.{◌≡◌, IfErr, IfOk, OnOk};
-ghost use Rattle.atspi_forest.specs.Edits.{IsEdit};
+ghost use Rattle.atspi_tree_model.specs.Edits.{IsEdit};
 ghost use Rattle.atspi_live_app.specs.Live.{IsKept, IsLawful, IsStarted, IsUndone, seen};
 ghost use Rattle.atspi_live_app.specs.Pace.{rounds_of};
 ghost use Rattle.atspi_live_app.specs.Standing.{Does, IsNumbered};
-ghost use Rattle.atspi_live_app.specs.Stops.{undone_of};
+ghost use Rattle.atspi_live_app.specs.inner.Stops.{undone_of};
 ghost use Rattle.atspi_live_app.specs.declared.asking.Ask.TheVariants as asks;
 
 use crate::asking::Ask;
 use crate::exporting::Exporting;
 use atspi_app::AppFault;
 use atspi_base::Text;
-use atspi_forest::{Edit, EditFault, NAME_LIMIT};
+use atspi_tree_model::{Edit, EditFault, NAME_LIMIT};
 use std::alloc::Global;
 
 /// Why what a line asks for is not done.
@@ -44,7 +44,9 @@ fn start<A: Exporting>(
     kit: &mut Option<A::Kit>,
 ) -> Result<(), Undone>
     requires { IsKept A.is_app A.is_kit app.old kit.old }
-    ensures ok { OnOk result (IsKept A.is_app A.is_kit app.new kit.new × Does (seen A.exporter app.old) (asks.Start name) (seen A.exporter app.new)) }
+    ensures ok { OnOk result
+        (IsKept A.is_app A.is_kit app.new kit.new
+        × Does (seen A.exporter app.old) (asks.Start name) (seen A.exporter app.new)) }
     ensures numbered { OnOk result (IsNumbered (seen A.exporter app.new)) }
     ensures err { IfErr result (λ undone. IsUndone undone (seen A.exporter app.old) (asks.Start name)) }
 {
@@ -94,7 +96,8 @@ pub(crate) fn do_ask<A: Exporting>(
     requires kept { IsKept A.is_app A.is_kit app.old kit.old }
     requires lawful { IsLawful ask }
     requires numbered { IsNumbered (seen A.exporter app.old) }
-    ensures ok { OnOk result (IsKept A.is_app A.is_kit app.new kit.new × Does (seen A.exporter app.old) ask (seen A.exporter app.new)) }
+    ensures ok { OnOk result
+        (IsKept A.is_app A.is_kit app.new kit.new × Does (seen A.exporter app.old) ask (seen A.exporter app.new)) }
     ensures numbered { OnOk result (IsNumbered (seen A.exporter app.new)) }
     ensures rounds { IfOk result (λ rounds. rounds ≡ rounds_of ask) }
     ensures err { IfErr result (λ undone. IsUndone undone (seen A.exporter app.old) ask) }

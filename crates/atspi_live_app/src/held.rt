@@ -1,17 +1,17 @@
 //! The application that a live end holds.
 
 ghost use Rattle.std.specs.Prelude.{◌≡◌};
-ghost use Rattle.atspi_exported.specs.Parts.{AreEmpty, AreKinds, IsExported, faces_of, kinds_of, parts};
+ghost use Rattle.atspi_app_exported.specs.Parts.{AreEmpty, AreKinds, IsExported, faces_of, kinds_of, parts};
 ghost use Rattle.atspi_app.specs.Seen.{seen};
-ghost use Rattle.atspi_live_app.specs.Faults.{end_of_app};
+ghost use Rattle.atspi_live_app.specs.inner.Faults.{end_of_app};
 
 use crate::exporting::Exporting;
 use atspi_app::{App, AppEvent, AppFault, Kit};
 use atspi_base::{NoMemory, Text};
-use atspi_face::Face;
-use atspi_forest::Edit;
-use atspi_header::MessageRef;
+use atspi_faces::face::Face;
+use atspi_message_in_place::MessageRef;
 use atspi_protocol::ends::EndFault;
+use atspi_tree_model::Edit;
 use std::alloc::Global;
 
 /// The application that a live end holds.
@@ -36,11 +36,27 @@ impl Exporting for Held {
     /// Texts, counts of columns, names of actions.
     type Kit = (Box<dyn Face>, Box<dyn Face>, Box<dyn Face>);
 
-    ghost is_app = { λ a. IsExported (kinds_of ((Face-box a.app.exported.kit.chars).of_kind a.app.exported.kit.chars.value) ((Face-box a.app.exported.kit.grid).of_kind a.app.exported.kit.grid.value) ((Face-box a.app.exported.kit.deeds).of_kind a.app.exported.kit.deeds.value)) (parts a.app.exported.tree (faces_of ((Face-box a.app.exported.kit.chars).nodes a.app.exported.kit.chars.value) ((Face-box a.app.exported.kit.grid).nodes a.app.exported.kit.grid.value) ((Face-box a.app.exported.kit.deeds).nodes a.app.exported.kit.deeds.value))) };
+    ghost is_app = { λ a. IsExported
+        (kinds_of ((Face-box a.app.exported.kit.chars).of_kind a.app.exported.kit.chars.value)
+        ((Face-box a.app.exported.kit.grid).of_kind a.app.exported.kit.grid.value)
+        ((Face-box a.app.exported.kit.deeds).of_kind a.app.exported.kit.deeds.value))
+        (parts a.app.exported.tree
+        (faces_of ((Face-box a.app.exported.kit.chars).nodes a.app.exported.kit.chars.value)
+        ((Face-box a.app.exported.kit.grid).nodes a.app.exported.kit.grid.value)
+        ((Face-box a.app.exported.kit.deeds).nodes a.app.exported.kit.deeds.value))) };
 
-    ghost exporter = { λ a. seen (parts a.app.exported.tree (faces_of ((Face-box a.app.exported.kit.chars).nodes a.app.exported.kit.chars.value) ((Face-box a.app.exported.kit.grid).nodes a.app.exported.kit.grid.value) ((Face-box a.app.exported.kit.deeds).nodes a.app.exported.kit.deeds.value))) a.app.id a.app.known };
+    ghost exporter = { λ a. seen
+        (parts a.app.exported.tree
+        (faces_of ((Face-box a.app.exported.kit.chars).nodes a.app.exported.kit.chars.value)
+        ((Face-box a.app.exported.kit.grid).nodes a.app.exported.kit.grid.value)
+        ((Face-box a.app.exported.kit.deeds).nodes a.app.exported.kit.deeds.value))) a.app.id a.app.known };
 
-    ghost is_kit = { λ kit. AreKinds (kinds_of ((Face-box kit.0).of_kind kit.0.value) ((Face-box kit.1).of_kind kit.1.value) ((Face-box kit.2).of_kind kit.2.value)) × AreEmpty (faces_of ((Face-box kit.0).nodes kit.0.value) ((Face-box kit.1).nodes kit.1.value) ((Face-box kit.2).nodes kit.2.value)) };
+    ghost is_kit = { λ kit. AreKinds
+        (kinds_of ((Face-box kit.0).of_kind kit.0.value) ((Face-box kit.1).of_kind kit.1.value)
+        ((Face-box kit.2).of_kind kit.2.value))
+        × AreEmpty
+        (faces_of ((Face-box kit.0).nodes kit.0.value) ((Face-box kit.1).nodes kit.1.value)
+        ((Face-box kit.2).nodes kit.2.value)) };
 
     fn begin(
         alloc: Global,

@@ -6,7 +6,7 @@ ghost use Rattle.atspi_live_app.specs.Input.{Blames, HasRead, NextAsk};
 use crate::asking::{Ask, ask_of};
 use crate::lines::line_end;
 use atspi_base::{NoMemory, Source};
-use atspi_lines::LineFault;
+use atspi_script_lines::LineFault;
 use std::alloc::Global;
 
 /// The longest input, in bytes.
@@ -73,7 +73,8 @@ impl Input {
 
     /// What the next line asks for, which is then passed. None where no line is left.
     pub(crate) fn next(&mut self, alloc: Global) -> Option<Result<Ask, LineFault>>
-        ensures next { NextAsk result self.old.text.items self.old.at self.old.number self.new.text.items self.new.at self.new.number }
+        ensures next { NextAsk result self.old.text.items self.old.at self.old.number self.new.text.items self.new.at
+            self.new.number }
     {
         if self.at >= self.text.len() {
             return None;

@@ -2,24 +2,24 @@
 
 ghost use Rattle.std.specs.Prelude.{◌≡◌, ◌≤◌, ℕ, List, [], length, IfErr, IfOk};
 ghost use Rattle.atspi_message.specs.Envelope.{Envelope};
-ghost use Rattle.atspi_conversation.specs.Talking.{MaySpeak};
+ghost use Rattle.atspi_live_conversation.specs.Talking.{MaySpeak};
 ghost use Rattle.atspi_live_app.specs.Lines.{lines_of};
 ghost use Rattle.atspi_live_app.specs.Live as live;
 ghost use Rattle.atspi_live_app.specs.Live.{IsMarked, IsStopped, StandsAt, aside_of, queued_in, seen};
 ghost use Rattle.atspi_live_app.specs.Pace.{Proceeds};
 ghost use Rattle.atspi_live_app.specs.Standing as standing;
-ghost use Rattle.atspi_live_app.specs.Stops.{stop_of_line, stop_of_undone};
+ghost use Rattle.atspi_live_app.specs.inner.Stops.{stop_of_line, stop_of_undone};
 
 use crate::doing::{Undone, do_ask};
 use crate::exporting::Exporting;
 use crate::input::{INPUT_LIMIT, Input};
 use crate::naming::Refused;
 use crate::next_message::next_message;
-use atspi_conversation::BusEnd;
-use atspi_header::MessageRef;
-use atspi_lines::LineFault;
+use atspi_live_conversation::BusEnd;
 use atspi_message::Message;
+use atspi_message_in_place::MessageRef;
 use atspi_protocol::ends::EndFault;
+use atspi_script_lines::LineFault;
 use std::alloc::Global;
 
 /// An application, once it has started, and its input.
@@ -70,7 +70,8 @@ impl<A: Exporting> LiveApp<A> {
     pub(crate) fn new(alloc: Global, text: Vec<u8>, kit: A::Kit) -> LiveApp<A>
         requires kit { A.is_kit kit }
         requires short { length text.items ≤ INPUT_LIMIT }
-        ensures { StandsAt A.is_app A.exporter A.is_kit (aside_of 0 [] text.items) result.app result.kit result.input.text.items result.input.at result.input.number [] [] }
+        ensures { StandsAt A.is_app A.exporter A.is_kit (aside_of 0 [] text.items) result.app result.kit
+            result.input.text.items result.input.at result.input.number [] [] }
     {
         LiveApp {
             alloc,
@@ -83,9 +84,14 @@ impl<A: Exporting> LiveApp<A> {
     /// The next line is done. Answers how many rounds it takes; behind the last line one after another.
     pub(crate) fn do_next(&mut self) -> Result<u32, Stop>
         requires { MaySpeak ⟦<LiveApp<A> as BusEnd>⟧.Stands self.old }
-        ensures ok { IfOk result (λ rounds. (text marks : List ℕ) (place : ℕ) (took said : List Envelope) → ⟦<LiveApp<A> as BusEnd>⟧.Stands (aside_of place marks text) self.old took said
-            → (marks' : List ℕ) × Proceeds text place marks (length took) rounds self.new.input.at marks' × ⟦<LiveApp<A> as BusEnd>⟧.Stands (aside_of self.new.input.at marks' text) self.new took said) }
-        ensures err { IfErr result (λ stop. (text marks : List ℕ) (place : ℕ) (took said : List Envelope) → ⟦<LiveApp<A> as BusEnd>⟧.Stands (aside_of place marks text) self.old took said
+        ensures ok { IfOk result
+            (λ rounds. (text marks : List ℕ) (place : ℕ) (took said : List Envelope)
+            → ⟦<LiveApp<A> as BusEnd>⟧.Stands (aside_of place marks text) self.old took said
+            → (marks' : List ℕ) × Proceeds text place marks (length took) rounds self.new.input.at marks'
+            × ⟦<LiveApp<A> as BusEnd>⟧.Stands (aside_of self.new.input.at marks' text) self.new took said) }
+        ensures err { IfErr result
+            (λ stop. (text marks : List ℕ) (place : ℕ) (took said : List Envelope)
+            → ⟦<LiveApp<A> as BusEnd>⟧.Stands (aside_of place marks text) self.old took said
             → IsStopped (IsMarked marks) stop (lines_of text) took) }
     {
         match self.input.next(self.alloc) {
@@ -101,7 +107,8 @@ impl<A: Exporting> LiveApp<A> {
 }
 
 impl<A: Exporting> BusEnd for LiveApp<A> {
-    ghost Stands = { λ aside l took said. live.StandsAt A.is_app A.exporter A.is_kit aside l.app l.kit l.input.text.items l.input.at l.input.number took said };
+    ghost Stands = { λ aside l took said. live.StandsAt A.is_app A.exporter A.is_kit aside l.app l.kit
+        l.input.text.items l.input.at l.input.number took said };
 
     ghost IsSpent = { λ l e. standing.IsSpent (seen A.exporter l.app) e };
 

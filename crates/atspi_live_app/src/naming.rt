@@ -4,7 +4,7 @@ ghost use Rattle.std.specs.Prelude.{◌≡◌, ◌++◌, OnOk};
 ghost use Rattle.atspi_live_app.specs.Names.{edit_fault_name, refused_name, refused_text};
 
 use atspi_base::{Bytes, NoMemory, put_decimal};
-use atspi_forest::EditFault;
+use atspi_tree_model::EditFault;
 
 /// Why a line of an input is refused.
 #[derive(Clone, Copy, Debug, PartialEq, Eq)]

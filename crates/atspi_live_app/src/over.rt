@@ -1,7 +1,7 @@
 //! How exporting a tree was over.
 
 use crate::live_app::Stop;
-use atspi_conversation::Ending;
+use atspi_live_conversation::Ending;
 
 /// How exporting a tree was over.
 #[derive(Clone, Copy, Debug, PartialEq, Eq)]

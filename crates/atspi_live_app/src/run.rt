@@ -1,8 +1,8 @@
 //! A run of an application on a Unix socket.
 
 ghost use Rattle.std.specs.Prelude.{◌≡◌, ◌≤◌, [], length};
-ghost use Rattle.atspi_exported.specs.Parts.{AreEmpty, AreKinds};
-ghost use Rattle.atspi_live_registry.specs.Runs.{Begins, Causes, SinkBlamed};
+ghost use Rattle.atspi_app_exported.specs.Parts.{AreEmpty, AreKinds};
+ghost use Rattle.atspi_live_conversation.specs.Reports.{Begins, Causes, SinkBlamed};
 ghost use Rattle.atspi_live_app.specs.Lines.{lines_of};
 ghost use Rattle.atspi_live_app.specs.Names.{refused_text};
 ghost use Rattle.atspi_live_app.specs.Runs.{OverReports, RunEnds, TextEnds, WritesRefusal};
@@ -16,8 +16,8 @@ use crate::over::Over;
 use crate::rounds::export;
 use atspi_app::{Boxes, Kit};
 use atspi_base::{Bytes, Sink, Source, Text, write_all};
-use atspi_host::{Did, Host};
-use atspi_live_registry::report;
+use atspi_live_conversation::report;
+use atspi_live_host::{Did, Host};
 use std::alloc::Global;
 
 /// Writes the line of a refusal. Status 1 where it was written, 4 where the sink failed.
@@ -62,8 +62,10 @@ fn run_on<A: Exporting, K: Sink, H: Host>(
     requires short { length text.items ≤ INPUT_LIMIT }
     requires calls { Begins (H.calls host.old) }
     requires links { H.links host.old ≡ [] }
-    ensures ends { TextEnds (lines_of text.items) path.now (H.links host.new) result rounds (H.calls host.new) (K.written sink.old) (K.written sink.new) }
-    ensures causes { Causes result (H.faults host.old) (H.faults host.new) (H.link_faults host.old) (H.link_faults host.new) (K.faults sink.old) (K.faults sink.new) }
+    ensures ends { TextEnds (lines_of text.items) path.now (H.links host.new) result rounds (H.calls host.new)
+        (K.written sink.old) (K.written sink.new) }
+    ensures causes { Causes result (H.faults host.old) (H.faults host.new) (H.link_faults host.old)
+        (H.link_faults host.new) (K.faults sink.old) (K.faults sink.new) }
 {
     let Did::Done(link) = host.connect(path) else {
         return 7;
@@ -73,16 +75,17 @@ fn run_on<A: Exporting, K: Sink, H: Host>(
     tell(alloc, over, sink)
 }
 
-/// Reads the source to its end, connects to the bus at the path, and is an application there for so many rounds: authentication as a
-/// client, and what `App` does. A line of the input is done before each round's read: `app Q` first, then edits as in a script without
-/// the words `edit A`, and `wait N`, which takes N rounds. What is given on the link is a front of the authentication's lines and then of
-/// the messages that the application sends which these lines and the messages that were taken make: each line is done behind just the
-/// messages that are whole in what the reads of the rounds before its own took.
+/// Reads the source to its end, connects to the bus at the path, and is an application there for so many rounds:
+/// authentication as a client, and what `App` does. A line of the input is done before each round's read: `app Q`
+/// first, then edits as in a script without the words `edit A`, and `wait N`, which takes N rounds. What is given on
+/// the link is a front of the authentication's lines and then of the messages that the application sends which these
+/// lines and the messages that were taken make: each line is done behind just the messages that are whole in what the
+/// reads of the rounds before its own took.
 ///
-/// Status 0: the peer ended. 1: a line was refused, and `refused LINE NAME` was written. 3: the source failed. 4: the sink failed. 5: no
-/// memory is left. 6: a message of the peer is malformed, and `fault START PLACE REASON` was written. 7: a call of the host failed. 8: all
-/// rounds were done, or the source gave more than 16,777,216 bytes. 10: the peer did not authenticate. 13: a message would pass number
-/// 4,294,967,295.
+/// Status 0: the peer ended. 1: a line was refused, and `refused LINE NAME` was written. 3: the source failed. 4: the
+/// sink failed. 5: no memory is left. 6: a message of the peer is malformed, and `fault START PLACE REASON` was
+/// written. 7: a call of the host failed. 8: all rounds were done, or the source gave more than 16,777,216 bytes. 10:
+/// the peer did not authenticate. 13: a message would pass number 4,294,967,295.
 pub fn app<S: Source, K: Sink, H: Host>(
     alloc: Global,
     path: &Text,
@@ -96,8 +99,11 @@ pub fn app<S: Source, K: Sink, H: Host>(
     requires empty { AreEmpty (⟦<Kit as Boxes>⟧.faces kit) }
     requires calls { Begins (H.calls host.old) }
     requires links { H.links host.old ≡ [] }
-    ensures ends { RunEnds path.now (S.left source.old) (S.left source.new) (S.faults source.old) (S.faults source.new) (H.links host.new) result rounds (H.calls host.old) (H.calls host.new) (K.written sink.old) (K.written sink.new) }
-    ensures causes { Causes result (H.faults host.old) (H.faults host.new) (H.link_faults host.old) (H.link_faults host.new) (K.faults sink.old) (K.faults sink.new) }
+    ensures ends { RunEnds path.now (S.left source.old) (S.left source.new) (S.faults source.old) (S.faults source.new)
+        (H.links host.new) result rounds (H.calls host.old) (H.calls host.new) (K.written sink.old)
+        (K.written sink.new) }
+    ensures causes { Causes result (H.faults host.old) (H.faults host.new) (H.link_faults host.old)
+        (H.link_faults host.new) (K.faults sink.old) (K.faults sink.new) }
 {
     let mut text = Vec::new(alloc);
     match read_all(source, &mut text) {

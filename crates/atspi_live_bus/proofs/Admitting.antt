@@ -5,16 +5,16 @@ use Rattle.atspi_match.specs.routing.Queues.{joins}
 use Rattle.atspi_match.specs.routing.Queues as queues
 use Rattle.atspi_bus.specs.declared.bus.Bus.{Bus}
 use Rattle.atspi_bus.specs.View.{given_of}
-use Rattle.atspi_host.specs.Calls.{Adds, IsNew, IsUnused}
-use Rattle.atspi_host.specs.declared.call.Did.{Did}
-use Rattle.atspi_host.specs.declared.call.Did.TheVariants.{Done, NotYet, Failed}
-use Rattle.atspi_host.specs.declared.call.Call.{Call}
-use Rattle.atspi_host.specs.declared.call.Call.TheVariants.{Accept}
+use Rattle.atspi_live_host.specs.Calls.{Adds, IsNew, IsUnused}
+use Rattle.atspi_live_host.specs.declared.call.Did.{Did}
+use Rattle.atspi_live_host.specs.declared.call.Did.TheVariants.{Done, NotYet, Failed}
+use Rattle.atspi_live_host.specs.declared.call.Call.{Call}
+use Rattle.atspi_live_host.specs.declared.call.Call.TheVariants.{Accept}
 use Rattle.atspi_live_bus.specs.Asked.{Asked}
 use Rattle.atspi_live_bus.specs.Course.{Accepts, Course}
 use Rattle.atspi_live_bus.specs.Rounds.{Breaks, Moves}
-use Rattle.atspi_live_bus.specs.Seats.{AreAbove, GoesOpen, HasAccepted, Rise, Stands, numbers_of, seats}
-use Rattle.atspi_live_bus.specs.Serving.{numbers}
+use Rattle.atspi_live_bus.specs.inner.Seats.{AreAbove, GoesOpen, HasAccepted, Rise, Stands, numbers_of, seats}
+use Rattle.atspi_live_bus.specs.inner.Serving.{numbers}
 use Rattle.atspi_live_bus.specs.Stops.{IsWant}
 use Rattle.atspi_live_bus.specs.Turns.{Each, Goes, IsSeated, Seats, StopsAt}
 use Rattle.atspi_live_bus.specs.declared.link.Link.{Link}

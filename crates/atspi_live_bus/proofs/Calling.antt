@@ -1,10 +1,10 @@
 -- What calls of a host moved on each link, call behind call.
 use Rattle.std.proofs.Common.{◌≡◌, ℕ, ◌==◌, true, List, [], ◌∷◌, ◌++◌, Option, None, Some, refl, sym, ap, subst, ◌∙◌, inl, inr, append_assoc, append-nil}
 use Rattle.std.proofs.lemmas.Bool.Decides.{eqb_tells}
-use Rattle.atspi_host.specs.declared.call.Did.{Did}
-use Rattle.atspi_host.specs.declared.call.Call.{Call}
-use Rattle.atspi_host.specs.declared.call.Call.TheVariants.{Read, Write}
-use Rattle.atspi_host.specs.Calls.{Adds, front, takes, gives, taken, given}
+use Rattle.atspi_live_host.specs.declared.call.Did.{Did}
+use Rattle.atspi_live_host.specs.declared.call.Call.{Call}
+use Rattle.atspi_live_host.specs.declared.call.Call.TheVariants.{Read, Write}
+use Rattle.atspi_live_host.specs.Calls.{Adds, front, takes, gives, taken, given}
 use Rattle.atspi_live_bus.specs.Service.{OfTold}
 use Rattle.atspi_live_bus.specs.Turns.{Carries, OthersRest}
 

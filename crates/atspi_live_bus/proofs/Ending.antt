@@ -5,7 +5,7 @@ use Rattle.atspi_live_bus.specs.declared.stop.Stop.{Stop}
 use Rattle.atspi_live_bus.specs.declared.stop.Stop.TheVariants as stops
 use Rattle.atspi_live_bus.specs.declared.link.Link.{Link}
 use Rattle.atspi_live_bus.specs.Stops.{Ends, IsFree, StopBlames, status_of}
-use Rattle.atspi_live_bus.specs.Serving.{Serves}
+use Rattle.atspi_live_bus.specs.inner.Serving.{Serves}
 
 pub stopped : (stop : Stop) (status before after : ℕ) → status ≡ status_of stop → StopBlames stop before after → Ends status before after
 stopped stops.HostFailed status before after e b = record { status_is = inr (inl e); by_host = λ s. b.1; no_host = inl e }

@@ -5,8 +5,8 @@ use Rattle.atspi_message.specs.Envelope.{Envelope}
 use Rattle.atspi_auth.specs.declared.stage.Stage.TheVariants.{Over}
 use Rattle.atspi_match.specs.routing.Queues.{queue_of}
 use Rattle.atspi_match.specs.routing.Queues as queues
-use Rattle.atspi_queues.specs.Change.{with_queue}
-use Rattle.atspi_host.specs.declared.call.Call.{Call}
+use Rattle.atspi_bus_queues.specs.Change.{with_queue}
+use Rattle.atspi_live_host.specs.declared.call.Call.{Call}
 use Rattle.atspi_live_bus.specs.Asked.{Asked, popping, handed_to}
 use Rattle.atspi_live_bus.specs.Course.{AreHandings}
 use Rattle.atspi_live_bus.specs.Turns.{Carries, Converses, Fetches, Gives}

@@ -7,16 +7,16 @@ use Rattle.atspi_message.specs.Envelope.{Envelope}
 use Rattle.atspi_match.specs.routing.Queues as queues
 use Rattle.std.proofs.Math.Seq.{take-length}
 use Rattle.std.proofs.lemmas.Bool.Decides.{eqb_tells}
-use Rattle.atspi_host.specs.Calls.{Adds, front, taken, given}
-use Rattle.atspi_host.specs.declared.call.Did.{Did}
-use Rattle.atspi_host.specs.declared.call.Did.TheVariants.{Done, NotYet, Failed}
-use Rattle.atspi_host.specs.declared.call.Call.{Call}
-use Rattle.atspi_host.specs.declared.call.Call.TheVariants.{Read, Write}
+use Rattle.atspi_live_host.specs.Calls.{Adds, front, taken, given}
+use Rattle.atspi_live_host.specs.declared.call.Did.{Did}
+use Rattle.atspi_live_host.specs.declared.call.Did.TheVariants.{Done, NotYet, Failed}
+use Rattle.atspi_live_host.specs.declared.call.Call.{Call}
+use Rattle.atspi_live_host.specs.declared.call.Call.TheVariants.{Read, Write}
 use Rattle.atspi_live_bus.specs.Asked.{messages_of, handed_to}
 use Rattle.atspi_live_bus.specs.Course.{Course}
 use Rattle.atspi_live_bus.specs.Due.{HasAllGiven}
 use Rattle.atspi_live_bus.specs.Rounds.{Does, GoesOn, Wait}
-use Rattle.atspi_live_bus.specs.Seats.{HasRead, HasReadOnly, HasSent}
+use Rattle.atspi_live_bus.specs.inner.Seats.{HasRead, HasReadOnly, HasSent}
 use Rattle.atspi_live_bus.specs.Service.{IsSaid, IsSpeech}
 use Rattle.atspi_live_bus.specs.Turns.{Converses, Goes, IsSeated, IsSilent, Remains}
 use Rattle.atspi_live_bus.specs.declared.link.Link.{Link}

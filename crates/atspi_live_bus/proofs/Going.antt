@@ -9,17 +9,17 @@ use Rattle.atspi_match.specs.routing.Queues as queues
 use Rattle.atspi_match.specs.declared.routing.closing.Closing.{Closing}
 use Rattle.atspi_bus.specs.declared.bus.Bus.{Bus}
 use Rattle.atspi_bus.specs.View.{bus_of, given_of}
-use Rattle.atspi_host.specs.declared.call.Call.{Call}
-use Rattle.atspi_host.specs.declared.call.Call.TheVariants.{Accept}
-use Rattle.atspi_host.specs.declared.call.Did.TheVariants.{Done}
-use Rattle.atspi_host.specs.Calls.{IsNew, taken, given}
+use Rattle.atspi_live_host.specs.declared.call.Call.{Call}
+use Rattle.atspi_live_host.specs.declared.call.Call.TheVariants.{Accept}
+use Rattle.atspi_live_host.specs.declared.call.Did.TheVariants.{Done}
+use Rattle.atspi_live_host.specs.Calls.{IsNew, taken, given}
 use Rattle.atspi_live_bus.specs.Asked.{Asked, joining, taking, leaving, popping, telling, Runs, Spends, messages_of, handed_to}
 use Rattle.atspi_live_bus.specs.Course.{AreTellings, Course, IsCourse, start, told_all}
 use Rattle.atspi_live_bus.specs.Service.{AreApart, HasSpent, IsSaid, IsService, IsSpeech, IsStopped, OfTold}
 use Rattle.atspi_live_bus.specs.Stops.{IsFree, IsWant, status_of}
 use Rattle.atspi_live_bus.specs.declared.stop.Stop.{Stop}
 use Rattle.atspi_live_bus.specs.declared.stop.Stop.TheVariants as stops
-use Rattle.atspi_live_bus.specs.Serving.{Serves, numbers}
+use Rattle.atspi_live_bus.specs.inner.Serving.{Serves, numbers}
 use Rattle.atspi_live_bus.specs.Turns.{Converses, Each, Goes, IsOfOne, IsSeated, IsTold, OthersRest, Seats, StopsAt}
 use Rattle.atspi_live_bus.specs.declared.link.Link.{Link}
 use Rattle.atspi_live_bus.proofs.Asking.{handed_both, handed_same, messages_both, messages_same, one_run, runs_both}

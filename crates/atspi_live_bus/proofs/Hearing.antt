@@ -10,11 +10,11 @@ use Rattle.atspi_match.specs.declared.routing.closing.Closing.{Closing}
 use Rattle.atspi_match.specs.routing.Queues as queues
 use Rattle.atspi_bus.specs.declared.bus.Bus.{Bus}
 use Rattle.atspi_bus.specs.View.{bus_of, given_of}
-use Rattle.atspi_host.specs.Calls.{IsOpen, taken, given}
-use Rattle.atspi_host.specs.declared.call.Did.{Did}
-use Rattle.atspi_host.specs.declared.call.Did.TheVariants.{Done, NotYet, End, Failed}
-use Rattle.atspi_host.specs.declared.call.Call.{Call}
-use Rattle.atspi_host.specs.declared.call.Call.TheVariants.{Read}
+use Rattle.atspi_live_host.specs.Calls.{IsOpen, taken, given}
+use Rattle.atspi_live_host.specs.declared.call.Did.{Did}
+use Rattle.atspi_live_host.specs.declared.call.Did.TheVariants.{Done, NotYet, End, Failed}
+use Rattle.atspi_live_host.specs.declared.call.Call.{Call}
+use Rattle.atspi_live_host.specs.declared.call.Call.TheVariants.{Read}
 use Rattle.atspi_live_bus.specs.declared.link.Link.{Link}
 use Rattle.atspi_live_bus.specs.declared.link.Next.TheVariants as next
 use Rattle.atspi_live_bus.specs.declared.stop.Stop.{Stop}
@@ -24,9 +24,9 @@ use Rattle.atspi_live_bus.specs.Closes.{AreShut, AreTaken, Attends, Ceases, Foll
 use Rattle.atspi_live_bus.specs.Course.{Course, HandsOut, Steps}
 use Rattle.atspi_live_bus.specs.Opened.{open_from}
 use Rattle.atspi_live_bus.specs.Rounds.{Does, GoesOn, IsGift, MayGive, Moves}
-use Rattle.atspi_live_bus.specs.Seats.{AreLeft, BothDo, HasRead, HasReadOnly, HasSent, Hears, Leaves, MayTake, Settles, Takes, TakesAll, TakesCut, TakesNone, TakesSome, Writes, conn_at, left, number_at, numbers_of, seats}
+use Rattle.atspi_live_bus.specs.inner.Seats.{AreLeft, BothDo, HasRead, HasReadOnly, HasSent, Hears, Leaves, MayTake, Settles, Takes, TakesAll, TakesCut, TakesNone, TakesSome, Writes, conn_at, left, number_at, numbers_of, seats}
 use Rattle.atspi_live_bus.specs.Service.{IsSaid, IsSpeech}
-use Rattle.atspi_live_bus.specs.Serving.{Serves}
+use Rattle.atspi_live_bus.specs.inner.Serving.{Serves}
 use Rattle.atspi_live_bus.specs.Stops.{IsWant}
 use Rattle.atspi_live_bus.specs.Turns.{Converses, Gives, Goes, IsSeated, OthersRest, Remains, StopsAt, Tells}
 use Rattle.atspi_live_bus.proofs.Asking.{one_run, taken_one, taking_of_one}

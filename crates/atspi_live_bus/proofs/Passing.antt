@@ -6,14 +6,14 @@ use Rattle.std.proofs.lemmas.List.Quantifiers.{position-Some}
 use Rattle.std.proofs.lemmas.Bool.Decides.{leb_tells}
 use lib.Dec.{leb}
 use Rattle.atspi_bus.specs.declared.bus.Bus.{Bus}
-use Rattle.atspi_host.specs.Calls.{IsOpen}
-use Rattle.atspi_host.specs.declared.call.Call.{Call}
+use Rattle.atspi_live_host.specs.Calls.{IsOpen}
+use Rattle.atspi_live_host.specs.declared.call.Call.{Call}
 use Rattle.atspi_live_bus.specs.declared.link.Link.{Link}
 use Rattle.atspi_live_bus.specs.declared.stop.Stop.{Stop}
 use Rattle.atspi_live_bus.specs.Course.{Course}
 use Rattle.atspi_live_bus.specs.Opened.{open_behind, open_from}
 use Rattle.atspi_live_bus.specs.Rounds.{AreTurns, IsCut, IsHeard, IsPart, IsTurn, MayGive, Moves}
-use Rattle.atspi_live_bus.specs.Seats.{AreAbove, BothDo, GoesOpen, Rise, Stands, Takes, TakesCut, conn_at, due, left, number_at, numbers_of, seats}
+use Rattle.atspi_live_bus.specs.inner.Seats.{AreAbove, BothDo, GoesOpen, Rise, Stands, Takes, TakesCut, conn_at, due, left, number_at, numbers_of, seats}
 use Rattle.atspi_live_bus.specs.Turns.{Goes, StopsAt}
 use Rattle.atspi_live_bus.proofs.Placing.{first_place, none_further, position_first, some_none}
 use Rattle.atspi_live_bus.proofs.Shutting.{conn_there, number_open}

@@ -18,9 +18,9 @@ use Rattle.atspi_match.specs.routing.Steps.{is_unowned}
 use Rattle.atspi_match.specs.declared.routing.closing.Why.TheVariants.{NotHello, Quota}
 use Rattle.atspi_match.proofs.OfRouting.Known.{known}
 use Rattle.atspi_bus_steps.specs.Limits.{PassesLimits, IsTooBig}
-use Rattle.atspi_host.specs.declared.call.Did.TheVariants.{NotYet}
-use Rattle.atspi_host.specs.declared.call.Call.{Call}
-use Rattle.atspi_host.specs.declared.call.Call.TheVariants.{Close}
+use Rattle.atspi_live_host.specs.declared.call.Did.TheVariants.{NotYet}
+use Rattle.atspi_live_host.specs.declared.call.Call.{Call}
+use Rattle.atspi_live_host.specs.declared.call.Call.TheVariants.{Close}
 use Rattle.atspi_live_bus.specs.Asked.{taking, messages_of}
 use Rattle.atspi_live_bus.specs.Cases.{hushed, one_due, one_link, signal_of, two_links}
 use Rattle.atspi_live_bus.specs.Closes.{AreShut, AreTaken, Attends, Ceases, FollowsRead, IsBad, IsRefused, IsShut}

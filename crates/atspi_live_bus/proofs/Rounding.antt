@@ -4,15 +4,15 @@ use Rattle.std.specs.Prelude.{◌≢◌, MatchResult, IfErr}
 use Rattle.atspi_bus.specs.declared.bus.Bus.{Bus}
 use Rattle.atspi_bus.specs.View.{bus_of}
 use Rattle.atspi_match.specs.routing.Queues as queues
-use Rattle.atspi_host.specs.declared.call.Did.{Did}
-use Rattle.atspi_host.specs.declared.call.Did.TheVariants.{Failed}
-use Rattle.atspi_host.specs.declared.call.Call.{Call}
-use Rattle.atspi_host.specs.declared.call.Call.TheVariants.{Listen}
-use Rattle.atspi_host.specs.Calls.{Adds}
+use Rattle.atspi_live_host.specs.declared.call.Did.{Did}
+use Rattle.atspi_live_host.specs.declared.call.Did.TheVariants.{Failed}
+use Rattle.atspi_live_host.specs.declared.call.Call.{Call}
+use Rattle.atspi_live_host.specs.declared.call.Call.TheVariants.{Listen}
+use Rattle.atspi_live_host.specs.Calls.{Adds}
 use Rattle.atspi_live_bus.specs.Course.{Course, IsCourse, start}
 use Rattle.atspi_live_bus.specs.Opened.{open_behind}
 use Rattle.atspi_live_bus.specs.Rounds.{AreRounds, AreTurns, Breaks, IsRound, IsRun, Moves}
-use Rattle.atspi_live_bus.specs.Seats.{GoesOpen, HasAccepted, Stands}
+use Rattle.atspi_live_bus.specs.inner.Seats.{GoesOpen, HasAccepted, Stands}
 use Rattle.atspi_live_bus.specs.Service.{HasNoCall, IsService, IsStopped, OfTold}
 use Rattle.atspi_live_bus.specs.Stops.{IsFree, status_of}
 use Rattle.atspi_live_bus.specs.Turns.{StopsAt}

@@ -5,10 +5,10 @@ use Rattle.std.proofs.lemmas.List.{map-append, map-set, set_split, length-map}
 use Rattle.std.proofs.Math.Seq.{split_at}
 use Rattle.std.proofs.Math.ListN.{get_or-map}
 use Rattle.std.specs.List.{remove, drop-map}
-use Rattle.atspi_host.specs.declared.call.Did.TheVariants.{Done}
-use Rattle.atspi_host.specs.Calls.{IsNew, Differ, Opens, IsOpen, without}
+use Rattle.atspi_live_host.specs.declared.call.Did.TheVariants.{Done}
+use Rattle.atspi_live_host.specs.Calls.{IsNew, Differ, Opens, IsOpen, without}
 use Rattle.atspi_live_bus.specs.declared.link.Link.{Link}
-use Rattle.atspi_live_bus.specs.Serving.{Serves, numbers}
+use Rattle.atspi_live_bus.specs.inner.Serving.{Serves, numbers}
 
 new_front : (k : ℕ) (xs ys : List ℕ) → IsNew k (xs ++ ys) → IsNew k xs
 new_front k [] ys p = tt

@@ -10,9 +10,9 @@ use Rattle.atspi_match.specs.routing.Queues.{leaves}
 use Rattle.atspi_match.specs.routing.Queues as queues
 use Rattle.atspi_bus.specs.declared.bus.Bus.{Bus}
 use Rattle.atspi_bus.specs.View.{bus_of, given_of}
-use Rattle.atspi_host.specs.Calls.{Adds, Differ, IsNew, IsOpen, taken, given, without}
-use Rattle.atspi_host.specs.declared.call.Call.{Call}
-use Rattle.atspi_host.specs.declared.call.Call.TheVariants.{Listen, Accept, Connect, Read, Write, Close}
+use Rattle.atspi_live_host.specs.Calls.{Adds, Differ, IsNew, IsOpen, taken, given, without}
+use Rattle.atspi_live_host.specs.declared.call.Call.{Call}
+use Rattle.atspi_live_host.specs.declared.call.Call.TheVariants.{Listen, Accept, Connect, Read, Write, Close}
 use Rattle.atspi_live_bus.specs.declared.link.Link.{Link}
 use Rattle.atspi_live_bus.specs.declared.stop.Stop.{Stop}
 use Rattle.atspi_live_bus.specs.declared.stop.Stop.TheVariants as stops
@@ -21,8 +21,8 @@ use Rattle.atspi_live_bus.specs.Closes.{AreShut, IsShut}
 use Rattle.atspi_live_bus.specs.Course.{AreTellings, Course, Steps, told_all}
 use Rattle.atspi_live_bus.specs.Opened.{open_from}
 use Rattle.atspi_live_bus.specs.Rounds.{AreCloses, Moves}
-use Rattle.atspi_live_bus.specs.Serving.{Serves, numbers}
-use Rattle.atspi_live_bus.specs.Seats.{Dismisses, Leaves, Settles, Settling, conn_at, held, left, left_by, number_at, numbers_of, seats, without_seat}
+use Rattle.atspi_live_bus.specs.inner.Serving.{Serves, numbers}
+use Rattle.atspi_live_bus.specs.inner.Seats.{Dismisses, Leaves, Settles, Settling, conn_at, held, left, left_by, number_at, numbers_of, seats, without_seat}
 use Rattle.atspi_live_bus.specs.Turns.{Each, Goes, IsSeated, IsTold, StopsAt}
 use Rattle.atspi_live_bus.proofs.Asking.{one_run, runs_both}
 use Rattle.atspi_live_bus.proofs.Calling.{given_still, taken_append, taken_still}

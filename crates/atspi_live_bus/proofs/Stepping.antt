@@ -1,10 +1,10 @@
 -- What is said where a bus stops, and where a listen failed.
 use Rattle.std.proofs.Common.{◌≡◌, ℕ, List, [], ◌∷◌, ◌++◌, Option, None, Some, refl, sym, ap, subst, ◌∙◌}
 use Rattle.atspi_match.specs.routing.Queues as queues
-use Rattle.atspi_host.specs.declared.call.Did.{Did}
-use Rattle.atspi_host.specs.declared.call.Call.{Call}
-use Rattle.atspi_host.specs.declared.call.Call.TheVariants.{Listen}
-use Rattle.atspi_host.specs.Calls.{Adds}
+use Rattle.atspi_live_host.specs.declared.call.Did.{Did}
+use Rattle.atspi_live_host.specs.declared.call.Call.{Call}
+use Rattle.atspi_live_host.specs.declared.call.Call.TheVariants.{Listen}
+use Rattle.atspi_live_host.specs.Calls.{Adds}
 use Rattle.atspi_live_bus.specs.Service.{HasNoCall, HasSpent, IsService, IsStopped, OfTold}
 use Rattle.atspi_live_bus.specs.declared.stop.Stop.{Stop}
 use Rattle.atspi_live_bus.specs.declared.stop.Stop.TheVariants as stops

@@ -7,10 +7,10 @@ use Rattle.atspi_auth.specs.Lines.{lines_of}
 use Rattle.atspi_auth.specs.declared.fault.AuthFault.{AuthFault}
 use Rattle.atspi_auth.specs.declared.fault.AuthFault.TheVariants.{NoZero}
 use Rattle.atspi_auth.specs.declared.stage.Stage.TheVariants.{Over}
-use Rattle.atspi_host.specs.declared.call.Did.{Did}
-use Rattle.atspi_host.specs.declared.call.Did.TheVariants.{Done, NotYet, Failed}
-use Rattle.atspi_host.specs.declared.call.Call.{Call}
-use Rattle.atspi_host.specs.declared.call.Call.TheVariants.{Accept, Write}
+use Rattle.atspi_live_host.specs.declared.call.Did.{Did}
+use Rattle.atspi_live_host.specs.declared.call.Did.TheVariants.{Done, NotYet, Failed}
+use Rattle.atspi_live_host.specs.declared.call.Call.{Call}
+use Rattle.atspi_live_host.specs.declared.call.Call.TheVariants.{Accept, Write}
 use Rattle.atspi_live_bus.specs.Asked.{handed_to, joining, messages_of}
 use Rattle.atspi_live_bus.specs.Cases.{one_conn, one_link}
 use Rattle.atspi_live_bus.specs.Course.{Accepts, Course, start}

@@ -4,16 +4,16 @@ use Rattle.std.specs.Prelude.{◌⊎◌, ⊤}
 use Rattle.std.proofs.lemmas.Bool.Decides.{eqb_tells, leb_tells}
 use Rattle.atspi_message.specs.Envelope.{Envelope}
 use Rattle.atspi_match.specs.declared.routing.closing.Closing.{Closing}
-use Rattle.atspi_host.specs.Calls.{IsOpen, taken, without}
-use Rattle.atspi_host.specs.declared.call.Did.{Did}
-use Rattle.atspi_host.specs.declared.call.Did.TheVariants.{Done, NotYet, End, Failed}
-use Rattle.atspi_host.specs.declared.call.Call.{Call}
-use Rattle.atspi_host.specs.declared.call.Call.TheVariants.{Listen, Accept, Connect, Read, Write, Close}
+use Rattle.atspi_live_host.specs.Calls.{IsOpen, taken, without}
+use Rattle.atspi_live_host.specs.declared.call.Did.{Did}
+use Rattle.atspi_live_host.specs.declared.call.Did.TheVariants.{Done, NotYet, End, Failed}
+use Rattle.atspi_live_host.specs.declared.call.Call.{Call}
+use Rattle.atspi_live_host.specs.declared.call.Call.TheVariants.{Listen, Accept, Connect, Read, Write, Close}
 use Rattle.atspi_live_bus.specs.Closes.{AreShut, AreTaken, Attends, Ceases, FollowsRead, FollowsWrite, IsShut, Parts}
 use Rattle.atspi_live_bus.specs.Course.{Course}
 use Rattle.atspi_live_bus.specs.Opened.{open_behind, open_from, open_then}
 use Rattle.atspi_live_bus.specs.Rounds.{AreCloses, AreTurns, IsClose, IsGift, IsHeard, MayGive, IsTurn}
-use Rattle.atspi_live_bus.specs.Seats.{AreAbove, Rise, due, left, numbers_of, without_seat}
+use Rattle.atspi_live_bus.specs.inner.Seats.{AreAbove, Rise, due, left, numbers_of, without_seat}
 
 -- a read, a write or a close
 abbrev pub IsForLink : Call → Type 0

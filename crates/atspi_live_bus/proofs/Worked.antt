@@ -12,11 +12,11 @@ use Rattle.atspi_message.specs.Envelope.{Envelope}
 use Rattle.atspi_stream.specs.Stream.{AwaitsMore, few}
 use Rattle.atspi_match.specs.declared.routing.closing.Closing.{Closing}
 use Rattle.atspi_match.specs.routing.Queues.{empty_bus, joins, leaves}
-use Rattle.atspi_host.specs.Calls.{IsOpen, taken, given}
-use Rattle.atspi_host.specs.declared.call.Did.{Did}
-use Rattle.atspi_host.specs.declared.call.Did.TheVariants.{Done, NotYet, End, Failed}
-use Rattle.atspi_host.specs.declared.call.Call.{Call}
-use Rattle.atspi_host.specs.declared.call.Call.TheVariants.{Listen, Accept, Read, Write, Close}
+use Rattle.atspi_live_host.specs.Calls.{IsOpen, taken, given}
+use Rattle.atspi_live_host.specs.declared.call.Did.{Did}
+use Rattle.atspi_live_host.specs.declared.call.Did.TheVariants.{Done, NotYet, End, Failed}
+use Rattle.atspi_live_host.specs.declared.call.Call.{Call}
+use Rattle.atspi_live_host.specs.declared.call.Call.TheVariants.{Listen, Accept, Read, Write, Close}
 use Rattle.atspi_live_bus.specs.Asked.{joining, leaving, taking, messages_of}
 use Rattle.atspi_live_bus.specs.Cases.{one_conn, one_link, two_conns, two_links}
 use Rattle.atspi_live_bus.specs.Closes.{AreShut, FollowsRead, IsLost, IsRest, IsShut}

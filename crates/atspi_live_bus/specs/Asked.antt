@@ -4,11 +4,11 @@ use Rattle.atspi_message.specs.Envelope.{Envelope}
 use Rattle.atspi_match.specs.declared.condition.Condition.{Condition}
 use Rattle.atspi_match.specs.routing.Queues.{queue_of, joins, takes, leaves}
 use Rattle.atspi_match.specs.routing.Queues as queues
-use Rattle.atspi_queues.specs.Change.{with_queue}
+use Rattle.atspi_bus_queues.specs.Change.{with_queue}
 use Rattle.atspi_bus_steps.specs.Spoken.{IsRuleTaken}
 
--- A connection joined; a message of a connection was taken; a connection left; the first of the bytes that wait for a connection were handed out; its own
--- messages or its closings were asked for.
+-- A connection joined; a message of a connection was taken; a connection left; the first of the bytes that wait for a
+-- connection were handed out; its own messages or its closings were asked for.
 pub data Asked : Type 0 where
   joining : ℕ → Asked
   taking : ℕ → Envelope → Asked
@@ -22,7 +22,8 @@ Leads b (joining c) b' = b' ≡ joins b c
 Leads b (taking c e) b' = (rule : Option (List Condition)) × IsRuleTaken b.state c e rule × (b' ≡ takes b c e rule)
 Leads b (leaving c) b' = b' ≡ leaves b c
 Leads b (popping c bytes) b' =
-    (rest : List ℕ) × (queue_of b.waiting.queues c ≡ bytes ++ rest) × (b' ≡ record b { waiting = record b.waiting { queues = with_queue b.waiting.queues c rest } })
+    (rest : List ℕ) × (queue_of b.waiting.queues c ≡ bytes ++ rest)
+    × (b' ≡ record b { waiting = record b.waiting { queues = with_queue b.waiting.queues c rest } })
 Leads b telling b' = b ≡ record b' { own = b.own; closings = b.closings }
 
 -- what all calls make of it, one behind the other
@@ -57,5 +58,6 @@ handed_to c (a ∷ asks) = handed_in c a ++ handed_to c asks
 -- a step that the bus is asked for would take its own messages past number 4,294,967,295
 abbrev pub Spends : queues.Bus → Type 0
 Spends b =
-    ((c : ℕ) × (e : Envelope) × (rule : Option (List Condition)) × IsRuleTaken b.state c e rule × (4294967296 < (takes b c e rule).state.next))
+    ((c : ℕ) × (e : Envelope) × (rule : Option (List Condition)) × IsRuleTaken b.state c e rule
+    × (4294967296 < (takes b c e rule).state.next))
     ⊎ ((c : ℕ) × (4294967296 < (leaves b c).state.next))

@@ -19,13 +19,20 @@ abbrev pub one_link : Course
 one_link = record { asked = joining 0 ∷ []; bus = joins (empty_bus 16777216) 0; conn = one_conn }
 
 abbrev pub two_links : Course
-two_links = record { asked = joining 0 ∷ joining 1 ∷ []; bus = joins (joins (empty_bus 16777216) 0) 1; conn = two_conns }
+two_links =
+    record { asked = joining 0 ∷ joining 1 ∷ []; bus = joins (joins (empty_bus 16777216) 0) 1; conn = two_conns }
 
 -- the same where connection 1, that of link 5, is to be closed
 abbrev pub one_due : Course
-one_due = record two_links { bus = record (joins (joins (empty_bus 16777216) 0) 1) { waiting = record (joins (joins (empty_bus 16777216) 0) 1).waiting { due = (1, Quota 5 6) ∷ [] } } }
+one_due =
+    record two_links {
+      bus =
+          record (joins (joins (empty_bus 16777216) 0) 1)
+          { waiting = record (joins (joins (empty_bus 16777216) 0) 1).waiting { due = (1, Quota 5 6) ∷ [] } };
+    }
 
--- a bus of four connections, three of which have their names, where nobody asks for anything and nothing waits; and a signal of this path to all
+-- a bus of four connections, three of which have their names, where nobody asks for anything and nothing waits; and a
+-- signal of this path to all
 abbrev pub hushed : Bus
 hushed = record (empty_bus 16777216) { state = record room { rules = [] } }
 

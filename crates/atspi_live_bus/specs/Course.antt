@@ -3,10 +3,10 @@ use Rattle.std.specs.Prelude.{◌≡◌, ℕ, List, [], ◌∷◌, ◌++◌, Opt
 use Rattle.atspi_match.specs.declared.routing.closing.Closing.{Closing}
 use Rattle.atspi_match.specs.routing.Queues.{empty_bus, joins}
 use Rattle.atspi_match.specs.routing.Queues as queues
-use Rattle.atspi_host.specs.declared.call.Did.{Did}
-use Rattle.atspi_host.specs.declared.call.Did.TheVariants.{Done, NotYet, End, Failed}
-use Rattle.atspi_host.specs.declared.call.Call.{Call}
-use Rattle.atspi_host.specs.Calls.{taken, given}
+use Rattle.atspi_live_host.specs.declared.call.Did.{Did}
+use Rattle.atspi_live_host.specs.declared.call.Did.TheVariants.{Done, NotYet, End, Failed}
+use Rattle.atspi_live_host.specs.declared.call.Call.{Call}
+use Rattle.atspi_live_host.specs.Calls.{taken, given}
 use Rattle.atspi_live_bus.specs.Asked.{Asked, joining, taking, leaving, popping, telling, Leads, Runs}
 use Rattle.atspi_live_bus.specs.Service.{AreApart, IsSaid}
 
@@ -20,7 +20,8 @@ pub record Course : Type 0 where
 abbrev pub start : Course
 start = record { asked = []; bus = empty_bus 16777216; conn = λ k. None }
 
--- The calls of a host are those of this bus: what passed on each link is what was asked of it for the link's connection.
+-- The calls of a host are those of this bus: what passed on each link is what was asked of it for the link's
+-- connection.
 pub record IsCourse (x : Course) (cs : List Call) : Type 0 where
   pub run : Runs (empty_bus 16777216) x.asked x.bus
   pub apart : AreApart x.conn
@@ -29,7 +30,8 @@ pub record IsCourse (x : Course) (cs : List Call) : Type 0 where
 -- An accept: a link that is given joins the bus at once, as a connection that no link had.
 abbrev pub Accepts : Did → Course → Course → Type 0
 Accepts (Done k) x y =
-    (c : ℕ) × ((j : ℕ) → x.conn j ≡ Some c → ⊥) × (y.asked ≡ x.asked ++ joining c ∷ []) × (y.bus ≡ joins x.bus c) × (y.conn k ≡ Some c) × ((j : ℕ) → (j ≡ k → ⊥) → y.conn j ≡ x.conn j)
+    (c : ℕ) × ((j : ℕ) → x.conn j ≡ Some c → ⊥) × (y.asked ≡ x.asked ++ joining c ∷ []) × (y.bus ≡ joins x.bus c)
+    × (y.conn k ≡ Some c) × ((j : ℕ) → (j ≡ k → ⊥) → y.conn j ≡ x.conn j)
 Accepts NotYet x y = y ≡ x
 Accepts End x y = ⊥
 Accepts Failed x y = ⊥
@@ -53,7 +55,8 @@ told_all b = record b { own = []; closings = [] }
 -- The bus did one thing, and then told all that it had to tell: these were its closings.
 abbrev pub Steps : Course → Asked → List Closing → Course → Type 0
 Steps x ask closings y =
-    (b : queues.Bus) × (tells : List Asked) × Leads x.bus ask b × AreTellings tells × (closings ≡ b.closings) × (y.asked ≡ x.asked ++ ask ∷ tells) × (y.bus ≡ told_all b) × (y.conn ≡ x.conn)
+    (b : queues.Bus) × (tells : List Asked) × Leads x.bus ask b × AreTellings tells × (closings ≡ b.closings)
+    × (y.asked ≡ x.asked ++ ask ∷ tells) × (y.bus ≡ told_all b) × (y.conn ≡ x.conn)
 
 -- bytes were handed out for a connection alone
 abbrev pub IsHanding : ℕ → Asked → Type 0
@@ -69,4 +72,5 @@ AreHandings c (a ∷ asks) = IsHanding c a × AreHandings c asks
 
 -- The bus handed out bytes for a connection, and did nothing else.
 abbrev pub HandsOut : ℕ → Course → Course → Type 0
-HandsOut c x y = (asks : List Asked) × AreHandings c asks × Runs x.bus asks y.bus × (y.asked ≡ x.asked ++ asks) × (y.conn ≡ x.conn)
+HandsOut c x y = (asks : List Asked) × AreHandings c asks × Runs x.bus asks y.bus × (y.asked ≡ x.asked ++ asks)
+    × (y.conn ≡ x.conn)

@@ -1,5 +1,5 @@
+pub mod inner
 pub mod Stops
-pub mod Serving
 pub mod Asked
 pub mod Service
 pub mod Course
@@ -8,5 +8,4 @@ pub mod Closes
 pub mod Due
 pub mod Turns
 pub mod Rounds
-pub mod Seats
 pub mod Cases

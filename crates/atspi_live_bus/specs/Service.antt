@@ -8,8 +8,8 @@ use Rattle.atspi_message.specs.Envelope.{Envelope}
 use Rattle.atspi_stream.specs.Stream.{IsParted}
 use Rattle.atspi_match.specs.routing.Queues.{empty_bus}
 use Rattle.atspi_match.specs.routing.Queues as queues
-use Rattle.atspi_host.specs.declared.call.Call.{Call}
-use Rattle.atspi_host.specs.Calls.{taken, given}
+use Rattle.atspi_live_host.specs.declared.call.Call.{Call}
+use Rattle.atspi_live_host.specs.Calls.{taken, given}
 use Rattle.atspi_live_bus.specs.Asked.{Asked, Runs, Spends, messages_of, handed_to}
 use Rattle.atspi_live_bus.specs.declared.stop.Stop.{Stop}
 use Rattle.atspi_live_bus.specs.declared.stop.Stop.TheVariants as stops
@@ -26,8 +26,9 @@ line_bytes lines = flat_map bytes_of lines
 abbrev pub envelopes : List (Envelope × List ℕ) → List Envelope
 envelopes messages = map (λ (m : Envelope × List ℕ). m.0) messages
 
--- What was given is a front of the lines of authentication for the bytes that were taken and, once these are over, of what was handed out for the connection.
--- Of that connection the messages were taken that stand at the front of the bytes behind the lines.
+-- What was given is a front of the lines of authentication for the bytes that were taken and, once these are over, of
+-- what was handed out for the connection. Of that connection the messages were taken that stand at the front of the
+-- bytes behind the lines.
 pub record IsSpeech (took : List Envelope) (handed t g : List ℕ) : Type 0 where
   pub messages : List (Envelope × List ℕ)
   pub rest : List ℕ
@@ -46,7 +47,8 @@ IsSaid asked (Some c) t g = IsSpeech (messages_of c asked) (handed_to c asked) t
 abbrev pub AreApart : (ℕ → Option ℕ) → Type 0
 AreApart conn = (j k c : ℕ) → conn j ≡ Some c → conn k ≡ Some c → j ≡ k
 
--- The calls of a host are those of a bus with a quota of 16,777,216 bytes: what passed on each link is what was asked of that bus for the link's connection.
+-- The calls of a host are those of a bus with a quota of 16,777,216 bytes: what passed on each link is what was asked
+-- of that bus for the link's connection.
 pub record IsService (cs : List Call) : Type 0 where
   pub asked : List Asked
   pub bus : queues.Bus

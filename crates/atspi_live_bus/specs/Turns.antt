@@ -1,5 +1,6 @@
 -- A bus with its links between two calls, and what a call does for one link.
-use Rattle.std.specs.Prelude.{◌≡◌, ◌⊎◌, ◌<◌, ◌≤◌, ◌+◌, ℕ, Bool, true, false, List, [], ◌∷◌, ◌++◌, length, Option, None, Some, ⊤}
+use Rattle.std.specs.Prelude.{◌≡◌, ◌⊎◌, ◌<◌, ◌≤◌, ◌+◌, ℕ, Bool, true, false, List, [], ◌∷◌, ◌++◌, length, Option, None}
+use Rattle.std.specs.Prelude.{Some, ⊤}
 use Rattle.atspi_auth.specs.Talk.{Stands, behind, fault_in, server_start}
 use Rattle.atspi_auth.specs.declared.said.AuthLine.{AuthLine}
 use Rattle.atspi_auth.specs.declared.stage.Stage.TheVariants.{Over}
@@ -9,9 +10,9 @@ use Rattle.atspi_match.specs.routing.Queues.{empty_bus, joins, queue_of}
 use Rattle.atspi_match.specs.routing.Queues as queues
 use Rattle.atspi_bus.specs.declared.bus.Bus.{Bus}
 use Rattle.atspi_bus.specs.View.{bus_of, given_of}
-use Rattle.atspi_host.specs.declared.call.Call.{Call}
-use Rattle.atspi_host.specs.declared.call.Did.{Did}
-use Rattle.atspi_host.specs.Calls.{taken, given}
+use Rattle.atspi_live_host.specs.declared.call.Call.{Call}
+use Rattle.atspi_live_host.specs.declared.call.Did.{Did}
+use Rattle.atspi_live_host.specs.Calls.{taken, given}
 use Rattle.atspi_live_bus.specs.Asked.{Asked, taking, Leads, Runs, Spends, messages_of, handed_to}
 use Rattle.atspi_live_bus.specs.Closes.{IsBad, IsLost}
 use Rattle.atspi_live_bus.specs.Course.{AreHandings, AreTellings, Course, IsCourse}
@@ -22,8 +23,8 @@ use Rattle.atspi_live_bus.specs.declared.link.Next.TheVariants as next
 use Rattle.atspi_live_bus.specs.declared.stop.Stop.{Stop}
 use Rattle.atspi_live_bus.specs.declared.stop.Stop.TheVariants as stops
 
--- What was heard and said on an open link, where these bytes were taken and those given: the lines that were said, and the messages that were told the bus.
--- Nothing of the bus's is said before the lines are over.
+-- What was heard and said on an open link, where these bytes were taken and those given: the lines that were said, and
+-- the messages that were told the bus. Nothing of the bus's is said before the lines are over.
 pub record Converses (took : List Envelope) (handed : List ℕ) (l : Link) (t g : List ℕ) : Type 0 where
   pub lines : List AuthLine
   pub messages : List (Envelope × List ℕ)
@@ -45,7 +46,8 @@ Each P (l ∷ ls) = P l × Each P ls
 
 -- an open link with its connection
 abbrev pub IsSeated : List Asked → (ℕ → Option ℕ) → List Call → Link → Type 0
-IsSeated asked conn cs l = (conn l.number ≡ Some l.conn) × Converses (messages_of l.conn asked) (handed_to l.conn asked) l (taken l.number cs) (given l.number cs)
+IsSeated asked conn cs l = (conn l.number ≡ Some l.conn)
+    × Converses (messages_of l.conn asked) (handed_to l.conn asked) l (taken l.number cs) (given l.number cs)
 
 -- A bus and its links in this course, where these are the calls of the host.
 pub record Goes (b : Bus) (links : List Link) (x : Course) (cs : List Call) : Type 0 where
@@ -66,7 +68,8 @@ abbrev pub OthersRest : ℕ → List Call → List Call → Type 0
 OthersRest k cs ds = (j : ℕ) → (j ≡ k → ⊥) → (taken j ds ≡ taken j cs) × (given j ds ≡ given j cs)
 
 -- what the calls for one link make of what is known of it
-abbrev pub Carries : ℕ → Option (List Call) → Option (List Call) → (List ℕ → List ℕ → Type 0) → (List ℕ → List ℕ → Type 0) → Type 0
+abbrev pub Carries : ℕ → Option (List Call) → Option (List Call) → (List ℕ → List ℕ → Type 0)
+    → (List ℕ → List ℕ → Type 0) → Type 0
 Carries k old None P Q = ⊤
 Carries k None (Some ds) P Q = ⊥
 Carries k (Some cs) (Some ds) P Q = OthersRest k cs ds × (P (taken k cs) (given k cs) → Q (taken k ds) (given k ds))
@@ -84,9 +87,13 @@ pub record IsTold (b b' : queues.Bus) : Type 0 where
 -- what a link told the bus
 abbrev pub Tells : Next → Link → Link → queues.Bus → queues.Bus → Type 0
 Tells next.Took old new b b' =
-    (e : Envelope) × Leads b (taking old.conn e) b' × ((took : List Envelope) (handed t g : List ℕ) → Converses took handed old t g → Converses (took ++ e ∷ []) handed new t g)
+    (e : Envelope) × Leads b (taking old.conn e) b'
+    × ((took : List Envelope) (handed t g : List ℕ) → Converses took handed old t g
+    → Converses (took ++ e ∷ []) handed new t g)
     × (length new.feeder < length old.feeder)
-Tells next.NotYet old new b b' = (b' ≡ b) × ((took : List Envelope) (handed t g : List ℕ) → Converses took handed old t g → Converses took handed new t g) × AwaitsMore old.feeder
+Tells next.NotYet old new b b' = (b' ≡ b)
+    × ((took : List Envelope) (handed t g : List ℕ) → Converses took handed old t g → Converses took handed new t g)
+    × AwaitsMore old.feeder
 Tells next.Bad old new b b' = (b' ≡ b) × IsBad b old.conn old.feeder
 
 -- what the bus handed out for a connection, as its link has it
@@ -96,7 +103,8 @@ pub record Fetches (c : ℕ) (b b' : queues.Bus) (old new : Link) : Type 0 where
   pub only : IsOfOne c asked
   pub none_taken : messages_of c asked ≡ []
   pub are : AreHandings c asked
-  pub talks : (took : List Envelope) (handed t g : List ℕ) → Converses took handed old t g → Converses took (handed ++ handed_to c asked) new t g
+  pub talks : (took : List Envelope) (handed t g : List ℕ) → Converses took handed old t g
+      → Converses took (handed ++ handed_to c asked) new t g
 
 -- the same, and what was given of it
 pub record Gives (c k : ℕ) (calls calls' : Option (List Call)) (b b' : queues.Bus) (old new : Link) : Type 0 where
@@ -105,7 +113,8 @@ pub record Gives (c k : ℕ) (calls calls' : Option (List Call)) (b b' : queues.
   pub only : IsOfOne c asked
   pub none_taken : messages_of c asked ≡ []
   pub are : AreHandings c asked
-  pub talks : (took : List Envelope) (handed : List ℕ) → Carries k calls calls' (Converses took handed old) (Converses took (handed ++ handed_to c asked) new)
+  pub talks : (took : List Envelope) (handed : List ℕ)
+      → Carries k calls calls' (Converses took handed old) (Converses took (handed ++ handed_to c asked) new)
 
 -- nothing comes behind the bytes that wait on a link: no line and, once these are over, nothing that the bus has for it
 abbrev pub IsSilent : queues.Bus → Link → Type 0

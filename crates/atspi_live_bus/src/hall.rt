@@ -1,22 +1,25 @@
 //! The bus and its links, in rounds over a host.
 
-ghost use Rattle.std.specs.Prelude.{◌≡◌, ◌<◌, ◌≤◌, ◌==◌, [], length, position, true, false, IsTrue, IfErr, IfOk, IfSome, MatchResult, OnOk};
+ghost use Rattle.std.specs.Prelude.{◌≡◌, ◌<◌, ◌≤◌, ◌==◌, [], length, position, true, false, IsTrue, IfErr, IfOk};
+ghost use Rattle.std.specs.Prelude.{IfSome, MatchResult, OnOk};
 ghost use lib.Dec.{leb};
 ghost use Rattle.std.specs.List.{remove};
 ghost use Rattle.atspi_match.specs.routing.Queues.{empty_bus};
 ghost use Rattle.atspi_bus.specs.View.{bus_of, given_of};
-ghost use Rattle.atspi_host.specs.Calls.{Adds, Differ};
-ghost use Rattle.atspi_host.specs.declared.call.Call.{Call};
+ghost use Rattle.atspi_live_host.specs.Calls.{Adds, Differ};
+ghost use Rattle.atspi_live_host.specs.declared.call.Call.{Call};
 ghost use Rattle.atspi_live_bus.specs.Rounds.{AreTurns, Breaks, IsRound, Moves};
-ghost use Rattle.atspi_live_bus.specs.Seats.{Dismisses, GoesOpen, HasAccepted, Hears, Leaves, MayTake, Settles, Takes, TakesAll, TakesCut, TakesNone, Writes, conn_at, held, number_at, numbers_of, seats};
-ghost use Rattle.atspi_live_bus.specs.Serving.{Serves, numbers};
+ghost use Rattle.atspi_live_bus.specs.inner.Seats.{Dismisses, GoesOpen, HasAccepted, Hears, Leaves, MayTake, Settles};
+ghost use Rattle.atspi_live_bus.specs.inner.Seats.{Takes, TakesAll, TakesCut, TakesNone, Writes, conn_at, held};
+ghost use Rattle.atspi_live_bus.specs.inner.Seats.{number_at, numbers_of, seats};
+ghost use Rattle.atspi_live_bus.specs.inner.Serving.{Serves, numbers};
 ghost use Rattle.atspi_live_bus.specs.Stops.{IsFree, IsWant, StopBlames};
 ghost use Rattle.atspi_live_bus.specs.Turns.{Goes, IsTold, Seats, StopsAt};
 
 use crate::link::{Link, Next};
 use crate::stop::{Stop, stop_of};
 use atspi_bus::Bus;
-use atspi_host::{Did, Host};
+use atspi_live_host::{Did, Host};
 use std::alloc::Global;
 
 /// How many bytes are taken in one read at the most.
@@ -63,7 +66,8 @@ impl Hall {
         self.links.iter().position(|link| link.number == number)
     }
 
-    /// The same, and looks first where the link stood a moment ago, so that a link that has nothing to say costs no walk over the others.
+    /// The same, and looks first where the link stood a moment ago, so that a link that has nothing to say costs no
+    /// walk over the others.
     fn place_near(&self, number: u32, near: usize) -> Option<usize>
         requires differ { Differ (numbers self.now.links.items) }
         ensures first { result ≡ position (λ l. l.number == number) self.now.links.items }
@@ -102,8 +106,11 @@ impl Hall {
     /// Takes a link in, if one waits: it joins the bus at once.
     fn admit<H: Host>(&mut self, host: &mut H) -> Result<(), Stop>
         requires serves { Serves (H.links host.old) self.old.links.items }
-        ensures calls { MatchResult result (λ _. Moves (H.calls host.old) (H.calls host.new) (GoesOpen self.old.bus self.old.links.items) HasAccepted (GoesOpen self.new.bus self.new.links.items))
-            (λ stop. Moves (H.calls host.old) (H.calls host.new) (GoesOpen self.old.bus self.old.links.items) (Breaks stop) (StopsAt stop)) }
+        ensures calls { MatchResult result
+            (λ _. Moves (H.calls host.old) (H.calls host.new) (GoesOpen self.old.bus self.old.links.items) HasAccepted
+            (GoesOpen self.new.bus self.new.links.items))
+            (λ stop. Moves (H.calls host.old) (H.calls host.new) (GoesOpen self.old.bus self.old.links.items)
+            (Breaks stop) (StopsAt stop)) }
         ensures serves { OnOk result (Serves (H.links host.new) self.new.links.items) }
         ensures same { OnOk result (H.faults host.new ≡ H.faults host.old) }
         ensures cause { IfErr result (λ stop. StopBlames stop (H.faults host.old) (H.faults host.new)) }
@@ -156,7 +163,8 @@ impl Hall {
     /// The link of a connection that the bus closed is closed, where it still stands.
     fn dismiss<H: Host>(&mut self, host: &mut H, conn: u32)
         requires serves { Serves (H.links host.old) self.old.links.items }
-        ensures calls { Moves (H.calls host.old) (H.calls host.new) (Goes self.old.bus self.old.links.items) (Dismisses conn self.old.links.items self.new.links.items) (Goes self.new.bus self.new.links.items) }
+        ensures calls { Moves (H.calls host.old) (H.calls host.new) (Goes self.old.bus self.old.links.items)
+            (Dismisses conn self.old.links.items self.new.links.items) (Goes self.new.bus self.new.links.items) }
         ensures serves { Serves (H.links host.new) self.new.links.items }
         ensures same { H.faults host.new ≡ H.faults host.old }
         ensures bus { self.new.bus ≡ self.old.bus }
@@ -170,7 +178,8 @@ impl Hall {
     /// The links of the connections that the bus closed are closed, in the order of their causes.
     fn settle<H: Host>(&mut self, host: &mut H)
         requires serves { Serves (H.links host.old) self.old.links.items }
-        ensures calls { Moves (H.calls host.old) (H.calls host.new) (Goes self.old.bus self.old.links.items) (Settles self.old.links.items self.new.links.items) (Goes self.new.bus self.new.links.items) }
+        ensures calls { Moves (H.calls host.old) (H.calls host.new) (Goes self.old.bus self.old.links.items)
+            (Settles self.old.links.items self.new.links.items) (Goes self.new.bus self.new.links.items) }
         ensures serves { Serves (H.links host.new) self.new.links.items }
         ensures same { H.faults host.new ≡ H.faults host.old }
         ensures held { held self.new.links.items ≤ held self.old.links.items }
@@ -186,8 +195,12 @@ impl Hall {
         requires serves { Serves (H.links host.old) self.old.links.items }
         requires there { at < length self.old.links.items }
         ensures calls { MatchResult result
-            (λ _. Moves (H.calls host.old) (H.calls host.new) (Goes self.old.bus (remove self.old.links.items at)) (Leaves true (number_at self.old.links.items at) (conn_at self.old.links.items at) self.old.links.items self.new.links.items) (Goes self.new.bus self.new.links.items))
-            (λ stop. Moves (H.calls host.old) (H.calls host.new) (Goes self.old.bus (remove self.old.links.items at)) (Leaves false (number_at self.old.links.items at) (conn_at self.old.links.items at) self.old.links.items self.new.links.items) (StopsAt stop)) }
+            (λ _. Moves (H.calls host.old) (H.calls host.new) (Goes self.old.bus (remove self.old.links.items at))
+            (Leaves true (number_at self.old.links.items at) (conn_at self.old.links.items at) self.old.links.items
+            self.new.links.items) (Goes self.new.bus self.new.links.items))
+            (λ stop. Moves (H.calls host.old) (H.calls host.new) (Goes self.old.bus (remove self.old.links.items at))
+            (Leaves false (number_at self.old.links.items at) (conn_at self.old.links.items at) self.old.links.items
+            self.new.links.items) (StopsAt stop)) }
         ensures serves { OnOk result (Serves (H.links host.new) self.new.links.items) }
         ensures same { H.faults host.new ≡ H.faults host.old }
         ensures cause { IfErr result IsFree }
@@ -203,11 +216,16 @@ impl Hall {
         }
     }
 
-    /// The bus takes the next message of a link, and closes whom it brings to close; one that sent what is malformed is closed. Whether a message was taken.
+    /// The bus takes the next message of a link, and closes whom it brings to close; one that sent what is malformed is
+    /// closed. Whether a message was taken.
     fn attend_one<H: Host>(&mut self, host: &mut H, number: u32, near: usize) -> Result<bool, Stop>
         requires serves { Serves (H.links host.old) self.old.links.items }
-        ensures calls { MatchResult result (λ more. Moves (H.calls host.old) (H.calls host.new) (Goes self.old.bus self.old.links.items) (MayTake more number self.old.links.items self.new.links.items) (Goes self.new.bus self.new.links.items))
-            (λ stop. Moves (H.calls host.old) (H.calls host.new) (Goes self.old.bus self.old.links.items) (TakesNone false number self.old.links.items self.new.links.items) (StopsAt stop)) }
+        ensures calls { MatchResult result
+            (λ more. Moves (H.calls host.old) (H.calls host.new) (Goes self.old.bus self.old.links.items)
+            (MayTake more number self.old.links.items self.new.links.items)
+            (Goes self.new.bus self.new.links.items))
+            (λ stop. Moves (H.calls host.old) (H.calls host.new) (Goes self.old.bus self.old.links.items)
+            (TakesNone false number self.old.links.items self.new.links.items) (StopsAt stop)) }
         ensures serves { OnOk result (Serves (H.links host.new) self.new.links.items) }
         ensures fewer { IfOk result (λ more. more ≡ true → held self.new.links.items < held self.old.links.items) }
         ensures same { H.faults host.new ≡ H.faults host.old }
@@ -233,8 +251,12 @@ impl Hall {
     /// The bus takes each whole message of a link, until the link is gone.
     fn attend<H: Host>(&mut self, host: &mut H, number: u32, near: usize) -> Result<(), Stop>
         requires serves { Serves (H.links host.old) self.old.links.items }
-        ensures calls { MatchResult result (λ _. Moves (H.calls host.old) (H.calls host.new) (Goes self.old.bus self.old.links.items) (TakesAll true number self.old.links.items self.new.links.items) (Goes self.new.bus self.new.links.items))
-            (λ stop. Moves (H.calls host.old) (H.calls host.new) (Goes self.old.bus self.old.links.items) (TakesAll false number self.old.links.items self.new.links.items) (StopsAt stop)) }
+        ensures calls { MatchResult result
+            (λ _. Moves (H.calls host.old) (H.calls host.new) (Goes self.old.bus self.old.links.items)
+            (TakesAll true number self.old.links.items self.new.links.items)
+            (Goes self.new.bus self.new.links.items))
+            (λ stop. Moves (H.calls host.old) (H.calls host.new) (Goes self.old.bus self.old.links.items)
+            (TakesAll false number self.old.links.items self.new.links.items) (StopsAt stop)) }
         ensures serves { OnOk result (Serves (H.links host.new) self.new.links.items) }
         ensures same { H.faults host.new ≡ H.faults host.old }
         ensures cause { IfErr result IsFree }
@@ -248,7 +270,8 @@ impl Hall {
         }
     }
 
-    /// One read of a link, and the bus takes what is then whole. A link that has ended, has failed, or sent what is at fault is closed.
+    /// One read of a link, and the bus takes what is then whole. A link that has ended, has failed, or sent what is at
+    /// fault is closed.
     fn take_in<H: Host>(
         &mut self,
         host: &mut H,
@@ -258,8 +281,12 @@ impl Hall {
         requires serves { Serves (H.links host.old) self.old.links.items }
         requires there { at < length self.old.links.items }
         ensures calls { MatchResult result
-            (λ _. Moves (H.calls host.old) (H.calls host.new) (Goes self.old.bus self.old.links.items) (Hears true (number_at self.old.links.items at) (conn_at self.old.links.items at) self.old.links.items self.new.links.items) (Goes self.new.bus self.new.links.items))
-            (λ stop. Moves (H.calls host.old) (H.calls host.new) (Goes self.old.bus self.old.links.items) (Hears false (number_at self.old.links.items at) (conn_at self.old.links.items at) self.old.links.items self.new.links.items) (StopsAt stop)) }
+            (λ _. Moves (H.calls host.old) (H.calls host.new) (Goes self.old.bus self.old.links.items)
+            (Hears true (number_at self.old.links.items at) (conn_at self.old.links.items at) self.old.links.items
+            self.new.links.items) (Goes self.new.bus self.new.links.items))
+            (λ stop. Moves (H.calls host.old) (H.calls host.new) (Goes self.old.bus self.old.links.items)
+            (Hears false (number_at self.old.links.items at) (conn_at self.old.links.items at) self.old.links.items
+            self.new.links.items) (StopsAt stop)) }
         ensures serves { OnOk result (Serves (H.links host.new) self.new.links.items) }
         ensures same { H.faults host.new ≡ H.faults host.old }
         ensures cause { IfErr result IsFree }
@@ -275,8 +302,11 @@ impl Hall {
     /// One write of a link that is open, where output waits. One on which it failed is closed.
     fn give<H: Host>(&mut self, host: &mut H, number: u32, near: usize) -> Result<(), Stop>
         requires serves { Serves (H.links host.old) self.old.links.items }
-        ensures calls { MatchResult result (λ _. Moves (H.calls host.old) (H.calls host.new) (Goes self.old.bus self.old.links.items) (Writes true number self.old.links.items self.new.links.items) (Goes self.new.bus self.new.links.items))
-            (λ stop. Moves (H.calls host.old) (H.calls host.new) (Goes self.old.bus self.old.links.items) (Writes false number self.old.links.items self.new.links.items) (StopsAt stop)) }
+        ensures calls { MatchResult result
+            (λ _. Moves (H.calls host.old) (H.calls host.new) (Goes self.old.bus self.old.links.items)
+            (Writes true number self.old.links.items self.new.links.items) (Goes self.new.bus self.new.links.items))
+            (λ stop. Moves (H.calls host.old) (H.calls host.new) (Goes self.old.bus self.old.links.items)
+            (Writes false number self.old.links.items self.new.links.items) (StopsAt stop)) }
         ensures serves { OnOk result (Serves (H.links host.new) self.new.links.items) }
         ensures same { H.faults host.new ≡ H.faults host.old }
         ensures cause { IfErr result IsFree }
@@ -300,8 +330,12 @@ impl Hall {
     ) -> Result<(), Stop>
         requires serves { Serves (H.links host.old) self.old.links.items }
         requires there { at < length self.old.links.items }
-        ensures calls { MatchResult result (λ _. Moves (H.calls host.old) (H.calls host.new) (Goes self.old.bus self.old.links.items) (Takes (number_at self.old.links.items at) self.old.links.items self.new.links.items) (Goes self.new.bus self.new.links.items))
-            (λ stop. Moves (H.calls host.old) (H.calls host.new) (Goes self.old.bus self.old.links.items) (TakesCut (number_at self.old.links.items at) self.old.links.items) (StopsAt stop)) }
+        ensures calls { MatchResult result
+            (λ _. Moves (H.calls host.old) (H.calls host.new) (Goes self.old.bus self.old.links.items)
+            (Takes (number_at self.old.links.items at) self.old.links.items self.new.links.items)
+            (Goes self.new.bus self.new.links.items))
+            (λ stop. Moves (H.calls host.old) (H.calls host.new) (Goes self.old.bus self.old.links.items)
+            (TakesCut (number_at self.old.links.items at) self.old.links.items) (StopsAt stop)) }
         ensures serves { OnOk result (Serves (H.links host.new) self.new.links.items) }
         ensures same { H.faults host.new ≡ H.faults host.old }
         ensures cause { IfErr result IsFree }
@@ -317,8 +351,11 @@ impl Hall {
     fn pass<H: Host>(&mut self, host: &mut H) -> Result<(), Stop>
         requires serves { Serves (H.links host.old) self.old.links.items }
         ensures calls { MatchResult result
-            (λ _. Moves (H.calls host.old) (H.calls host.new) (GoesOpen self.old.bus self.old.links.items) (λ x past. AreTurns true x past (numbers_of (seats self.old.links.items))) (GoesOpen self.new.bus self.new.links.items))
-            (λ stop. Moves (H.calls host.old) (H.calls host.new) (GoesOpen self.old.bus self.old.links.items) (λ x past. AreTurns false x past (numbers_of (seats self.old.links.items))) (StopsAt stop)) }
+            (λ _. Moves (H.calls host.old) (H.calls host.new) (GoesOpen self.old.bus self.old.links.items)
+            (λ x past. AreTurns true x past (numbers_of (seats self.old.links.items)))
+            (GoesOpen self.new.bus self.new.links.items))
+            (λ stop. Moves (H.calls host.old) (H.calls host.new) (GoesOpen self.old.bus self.old.links.items)
+            (λ x past. AreTurns false x past (numbers_of (seats self.old.links.items))) (StopsAt stop)) }
         ensures serves { OnOk result (Serves (H.links host.new) self.new.links.items) }
         ensures same { H.faults host.new ≡ H.faults host.old }
         ensures cause { IfErr result IsFree }
@@ -342,8 +379,11 @@ impl Hall {
     /// One round: an accept, and each link is served once.
     pub(crate) fn round<H: Host>(&mut self, host: &mut H) -> Result<(), Stop>
         requires serves { Serves (H.links host.old) self.old.links.items }
-        ensures calls { MatchResult result (λ _. Moves (H.calls host.old) (H.calls host.new) (GoesOpen self.old.bus self.old.links.items) (IsRound true) (GoesOpen self.new.bus self.new.links.items))
-            (λ stop. Moves (H.calls host.old) (H.calls host.new) (GoesOpen self.old.bus self.old.links.items) (Breaks stop) (StopsAt stop)) }
+        ensures calls { MatchResult result
+            (λ _. Moves (H.calls host.old) (H.calls host.new) (GoesOpen self.old.bus self.old.links.items)
+            (IsRound true) (GoesOpen self.new.bus self.new.links.items))
+            (λ stop. Moves (H.calls host.old) (H.calls host.new) (GoesOpen self.old.bus self.old.links.items)
+            (Breaks stop) (StopsAt stop)) }
         ensures serves { OnOk result (Serves (H.links host.new) self.new.links.items) }
         ensures same { OnOk result (H.faults host.new ≡ H.faults host.old) }
         ensures cause { IfErr result (λ stop. StopBlames stop (H.faults host.old) (H.faults host.new)) }

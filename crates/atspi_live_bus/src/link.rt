@@ -1,13 +1,15 @@
-//! A link of the bus: its authentication, what is held of a message that is not whole, and the bytes that wait to be given.
+//! A link of the bus: its authentication, what is held of a message that is not whole, and the bytes that wait to be
+//! given.
 
-ghost use Rattle.std.specs.Prelude.{◌≡◌, ◌<◌, ◌≤◌, ◌++◌, ℕ, List, [], drop, length, IfErr, IfOk, MatchResult, OnErr, OnOk, true};
+ghost use Rattle.std.specs.Prelude.{◌≡◌, ◌<◌, ◌≤◌, ◌++◌, ℕ, List, [], drop, length, IfErr, IfOk, MatchResult, OnErr};
+ghost use Rattle.std.specs.Prelude.{OnOk, true};
 ghost use Rattle.atspi_auth.specs.declared.stage.Stage.TheVariants.{Over};
 ghost use Rattle.atspi_message.specs.Envelope.{Envelope};
 ghost use Rattle.atspi_bus.specs.View.{bus_of, given_of};
-ghost use Rattle.atspi_host.specs.Calls.{IsOpen};
-ghost use Rattle.atspi_host.specs.declared.call.Did.{Did};
+ghost use Rattle.atspi_live_host.specs.Calls.{IsOpen};
+ghost use Rattle.atspi_live_host.specs.declared.call.Did.{Did};
 ghost use Rattle.atspi_live_bus.specs.Rounds.{Does};
-ghost use Rattle.atspi_live_bus.specs.Seats.{HasRead, HasReadOnly, HasSent};
+ghost use Rattle.atspi_live_bus.specs.inner.Seats.{HasRead, HasReadOnly, HasSent};
 ghost use Rattle.atspi_live_bus.specs.Asked.{Spends};
 ghost use Rattle.atspi_live_bus.specs.Stops.{IsFree, IsWant};
 ghost use Rattle.atspi_live_bus.specs.Turns.{Converses, Fetches, Gives, IsSilent, Remains, Tells};
@@ -15,7 +17,7 @@ ghost use Rattle.atspi_live_bus.specs.Turns.{Converses, Fetches, Gives, IsSilent
 use crate::stop::{Stop, stop_of};
 use atspi_auth::{AuthFault, Server};
 use atspi_bus::{Bus, BusFault};
-use atspi_host::{Did, Host};
+use atspi_live_host::{Did, Host};
 use atspi_stream::{Feeder, Got};
 use std::alloc::Global;
 
@@ -60,9 +62,11 @@ impl Link {
         }
     }
 
-    /// Hears a piece of what the peer sends: lines of authentication, and behind them bytes of messages. False where a line is at fault.
+    /// Hears a piece of what the peer sends: lines of authentication, and behind them bytes of messages. False where a
+    /// line is at fault.
     fn hear(&mut self, piece: &[u8]) -> Result<bool, Stop>
-        ensures ok { IfOk result (λ goes_on. (n : ℕ) (took : List Envelope) (handed t g : List ℕ) → Converses took handed self.old t g
+        ensures ok { IfOk result
+            (λ goes_on. (n : ℕ) (took : List Envelope) (handed t g : List ℕ) → Converses took handed self.old t g
             → Remains goes_on (Did.Done n) took handed self.new (t ++ piece.now) g) }
         ensures number { self.new.number ≡ self.old.number }
         ensures conn { self.new.conn ≡ self.old.conn }
@@ -82,14 +86,17 @@ impl Link {
         }
     }
 
-    /// One read into the piece, and what it brings is heard. False where the link has ended, has failed, or sent a line that is at fault.
+    /// One read into the piece, and what it brings is heard. False where the link has ended, has failed, or sent a line
+    /// that is at fault.
     pub(crate) fn take_in<H: Host>(
         &mut self,
         host: &mut H,
         piece: &mut [u8; PIECE],
     ) -> Result<bool, Stop>
         requires { IsOpen self.old.number (H.links host.old) }
-        ensures calls { MatchResult result (λ goes_on. Does (H.calls host.old) (H.calls host.new) (HasRead self.old.number goes_on self.old self.new)) (λ _. Does (H.calls host.old) (H.calls host.new) (HasReadOnly self.old.number self.old)) }
+        ensures calls { MatchResult result
+            (λ goes_on. Does (H.calls host.old) (H.calls host.new) (HasRead self.old.number goes_on self.old self.new))
+            (λ _. Does (H.calls host.old) (H.calls host.new) (HasReadOnly self.old.number self.old)) }
         ensures number { self.new.number ≡ self.old.number }
         ensures conn { self.new.conn ≡ self.old.conn }
         ensures links { H.links host.new ≡ H.links host.old }
@@ -141,7 +148,9 @@ impl Link {
 
     /// The lines that are to be said wait to be given, until enough bytes wait.
     fn say_lines(&mut self) -> Result<(), Stop>
-        ensures talks { OnOk result ((took : List Envelope) (handed t g : List ℕ) → Converses took handed self.old t g → Converses took handed self.new t g) }
+        ensures talks { OnOk result
+            ((took : List Envelope) (handed t g : List ℕ) → Converses took handed self.old t g
+            → Converses took handed self.new t g) }
         ensures done { OnOk result (length self.new.out.items < PIECE → self.new.server.unsent ≡ []) }
         ensures number { self.new.number ≡ self.old.number }
         ensures conn { self.new.conn ≡ self.old.conn }
@@ -228,8 +237,12 @@ impl Link {
     /// One write, where output waits. False where it failed.
     pub(crate) fn give<H: Host>(&mut self, host: &mut H, bus: &mut Bus) -> Result<bool, Stop>
         requires { IsOpen self.old.number (H.links host.old) }
-        ensures calls { IfOk result (λ goes_on. Does (H.calls host.old) (H.calls host.new) (HasSent self.old.number goes_on (bus_of bus.new) self.new)) }
-        ensures ok { OnOk result (Gives self.old.conn self.old.number (H.calls host.old) (H.calls host.new) (bus_of bus.old) (bus_of bus.new) self.old self.new) }
+        ensures calls { IfOk result
+            (λ goes_on. Does (H.calls host.old) (H.calls host.new)
+            (HasSent self.old.number goes_on (bus_of bus.new) self.new)) }
+        ensures ok { OnOk result
+            (Gives self.old.conn self.old.number (H.calls host.old) (H.calls host.new) (bus_of bus.old) (bus_of bus.new)
+            self.old self.new) }
         ensures err { OnErr result (H.calls host.new ≡ H.calls host.old) }
         ensures given { given_of bus.new ≡ given_of bus.old }
         ensures number { self.new.number ≡ self.old.number }

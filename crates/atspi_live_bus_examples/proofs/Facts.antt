@@ -11,11 +11,11 @@ use Rattle.atspi_match.specs.declared.condition.Condition.{Condition}
 use Rattle.atspi_match.specs.declared.routing.closing.Closing.{Closing}
 use Rattle.atspi_match.specs.routing.Queues.{Bus, empty_bus, leaves, queue_of, takes}
 use Rattle.atspi_bus_steps.specs.Spoken.{IsRuleTaken}
-use Rattle.atspi_host.specs.Calls.{IsOpen, given, taken}
-use Rattle.atspi_host.specs.declared.call.Did.{Did}
-use Rattle.atspi_host.specs.declared.call.Did.TheVariants.{Done, NotYet, End, Failed}
-use Rattle.atspi_host.specs.declared.call.Call.{Call}
-use Rattle.atspi_host.specs.declared.call.Call.TheVariants.{Listen, Accept, Read, Write, Close}
+use Rattle.atspi_live_host.specs.Calls.{IsOpen, given, taken}
+use Rattle.atspi_live_host.specs.declared.call.Did.{Did}
+use Rattle.atspi_live_host.specs.declared.call.Did.TheVariants.{Done, NotYet, End, Failed}
+use Rattle.atspi_live_host.specs.declared.call.Call.{Call}
+use Rattle.atspi_live_host.specs.declared.call.Call.TheVariants.{Listen, Accept, Read, Write, Close}
 use Rattle.atspi_live_bus.specs.Asked.{Asked, Runs, Spends, handed_to, joining, leaving, taking}
 use Rattle.atspi_live_bus.specs.Cases.{one_conn, two_conns}
 use Rattle.atspi_live_bus.specs.Closes.{AreShut, AreTaken, Ceases, FollowsRead, IsBad, Parts}

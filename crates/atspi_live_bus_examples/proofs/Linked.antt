@@ -1,11 +1,11 @@
 -- What stands of the cases of links.
 use Rattle.std.proofs.Common.{◌≡◌, ℕ, ◌<◌, List, [], ◌∷◌, refl, sym, inl, inr, arith}
 use Rattle.atspi_message.specs.Envelope.{Envelope}
-use Rattle.atspi_host.specs.declared.call.Call.TheVariants.{Close}
+use Rattle.atspi_live_host.specs.declared.call.Call.TheVariants.{Close}
 use Rattle.atspi_live_bus.specs.Closes.{IsShut}
 use Rattle.atspi_live_bus.specs.Course.{start}
 use Rattle.atspi_live_bus.proofs.Worked.{not_none}
-use Rattle.atspi_live_bus.specs.Seats.{Rise}
+use Rattle.atspi_live_bus.specs.inner.Seats.{Rise}
 use Rattle.atspi_live_bus.specs.Stops.{Ends}
 
 pub five_three : ◌≡◌ {A = ℕ} 5 3 → ⊥

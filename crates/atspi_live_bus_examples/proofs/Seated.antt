@@ -5,16 +5,16 @@ use Rattle.std.proofs.lemmas.Bool.Decides.{eqb_tells}
 use Rattle.atspi_message.specs.Envelope.{Envelope}
 use Rattle.atspi_match.specs.routing.Queues.{Bus}
 use Rattle.atspi_match.specs.declared.routing.closing.Closing.{Closing}
-use Rattle.atspi_host.specs.declared.call.Did.{Did}
-use Rattle.atspi_host.specs.declared.call.Did.TheVariants.{Done, NotYet, Failed}
-use Rattle.atspi_host.specs.declared.call.Call.{Call}
-use Rattle.atspi_host.specs.declared.call.Call.TheVariants.{Close, Write}
+use Rattle.atspi_live_host.specs.declared.call.Did.{Did}
+use Rattle.atspi_live_host.specs.declared.call.Did.TheVariants.{Done, NotYet, Failed}
+use Rattle.atspi_live_host.specs.declared.call.Call.{Call}
+use Rattle.atspi_live_host.specs.declared.call.Call.TheVariants.{Close, Write}
 use Rattle.atspi_live_bus.specs.Asked.{Asked, joining, messages_of, taking}
 use Rattle.atspi_live_bus.specs.Cases.{two_conns}
 use Rattle.atspi_live_bus.specs.Closes.{AreShut, FollowsRead, IsLost, IsRest}
 use Rattle.atspi_live_bus.specs.Course.{AreTellings, Course, HandsOut, Steps}
 use Rattle.atspi_live_bus.specs.Rounds.{GoesOn}
-use Rattle.atspi_live_bus.specs.Seats.{HasSent, Waited, left, numbers_of, seats}
+use Rattle.atspi_live_bus.specs.inner.Seats.{HasSent, Waited, left, numbers_of, seats}
 use Rattle.atspi_live_bus.proofs.Worked.{is_shut, not_none, second_shut}
 use Rattle.atspi_live_bus_examples.proofs.Facts.{few_given, its_gift, some_given, zero_is}
 

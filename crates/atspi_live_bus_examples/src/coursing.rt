@@ -2,16 +2,17 @@
 
 ghost use Rattle.std.specs.Prelude.{◌≡◌, ◌∷◌, ◌++◌, ℕ, List, [], None, Some, codes};
 ghost use Rattle.atspi_message.specs.Envelope.{Envelope};
-ghost use Rattle.atspi_host.specs.declared.call.Call.{Call};
-ghost use Rattle.atspi_host.specs.declared.call.Did.{Did};
+ghost use Rattle.atspi_live_host.specs.declared.call.Call.{Call};
+ghost use Rattle.atspi_live_host.specs.declared.call.Did.{Did};
 ghost use Rattle.atspi_match.specs.declared.routing.closing.Closing.{Closing};
 ghost use Rattle.atspi_match.specs.routing.Queues.{Bus};
 ghost use Rattle.atspi_live_bus.specs.Asked.{Asked, Leads, joining, leaving, popping, taking, telling};
 ghost use Rattle.atspi_live_bus.specs.Cases.{one_link, two_links};
-ghost use Rattle.atspi_live_bus.specs.Course.{Accepts, AreHandings, AreTellings, Course, HandsOut, IsCourse, IsHanding, IsTelling, Steps, start, told_all};
+ghost use Rattle.atspi_live_bus.specs.Course.{Accepts, AreHandings, AreTellings, Course, HandsOut, IsCourse, IsHanding};
+ghost use Rattle.atspi_live_bus.specs.Course.{IsTelling, Steps, start, told_all};
 ghost use Rattle.atspi_live_bus.specs.Service.{IsService};
 
-use atspi_host::{Call, Did};
+use atspi_live_host::{Call, Did};
 
 /// A bus begins with a quota of 16,777,216 bytes, with nothing asked and no link.
 pub fn begun()
@@ -21,7 +22,8 @@ pub fn begun()
     ensures served { (cs : List Call) (s : IsService cs) → s.asked ≡ [] → s.bus ≡ start.bus }
 {}
 
-/// The calls of a host are those of a bus: nothing passes on a link without a connection, no two links have one connection, and the bus is where what was asked leads.
+/// The calls of a host are those of a bus: nothing passes on a link without a connection, no two links have one
+/// connection, and the bus is where what was asked leads.
 pub fn calls_of_a_course()
     ensures quiet { IsCourse start (Call.Listen (codes "/p") (Did.Done 0) ∷ Call.Accept Did.NotYet ∷ []) }
     ensures taken { IsCourse start (Call.Read 3 (97 ∷ []) (Did.Done 1) ∷ []) → ⊥ }
@@ -57,11 +59,14 @@ pub fn kinds_of_asking()
     ensures told { IsHanding 1 telling → ⊥ }
 {}
 
-/// A step is one thing that the bus did, behind which it told all; bytes that are handed out change no link's connection.
+/// A step is one thing that the bus did, behind which it told all; bytes that are handed out change no link's
+/// connection.
 pub fn steps_of_a_course()
     ensures one { (x : Course) (b : Bus) (tells : List Asked) → Leads x.bus (leaving 0) b → AreTellings tells
         → Steps x (leaving 0) b.closings (record x { asked = x.asked ++ leaving 0 ∷ tells; bus = told_all b }) }
-    ensures told { (b : Bus) (own : List Envelope) (closings : List Closing) → told_all (record b { own = own; closings = closings }) ≡ record b { own = []; closings = [] } }
-    ensures handed { (x : Course) (b : Bus) → Leads x.bus (popping 0 (7 ∷ [])) b → HandsOut 0 x (record x { asked = x.asked ++ popping 0 (7 ∷ []) ∷ []; bus = b }) }
+    ensures told { (b : Bus) (own : List Envelope) (closings : List Closing)
+        → told_all (record b { own = own; closings = closings }) ≡ record b { own = []; closings = [] } }
+    ensures handed { (x : Course) (b : Bus) → Leads x.bus (popping 0 (7 ∷ [])) b
+        → HandsOut 0 x (record x { asked = x.asked ++ popping 0 (7 ∷ []) ∷ []; bus = b }) }
     ensures none_handed { (x : Course) → HandsOut 0 x x }
 {}

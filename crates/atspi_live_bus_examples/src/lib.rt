@@ -1,5 +1,6 @@
-//! Values of the definitions of a live bus, worked out by hand: what it was asked and where that leads it, which links are open and closed for what, how turns and rounds go on, what
-//! calls leave of its links, and what is known of links between calls.
+//! Values of the definitions of a live bus, worked out by hand: what it was asked and where that leads it, which links
+//! are open and closed for what, how turns and rounds go on, what calls leave of its links, and what is known of links
+//! between calls.
 #![tactic(auto)]
 
 mod asking;

@@ -3,18 +3,21 @@
 ghost use Rattle.std.specs.Prelude.{◌≡◌, ◌+◌, ◌∷◌, List, [], length, None, Some, codes, true, false, ⊤};
 ghost use Rattle.atspi_message.specs.Envelope.{Envelope};
 ghost use Rattle.atspi_auth.specs.declared.stage.Stage.TheVariants.{Over};
-ghost use Rattle.atspi_host.specs.declared.call.Call.{Call};
-ghost use Rattle.atspi_host.specs.declared.call.Did.{Did};
+ghost use Rattle.atspi_live_host.specs.declared.call.Call.{Call};
+ghost use Rattle.atspi_live_host.specs.declared.call.Did.{Did};
 ghost use Rattle.atspi_match.specs.routing.Queues.{Bus, queue_of};
 ghost use Rattle.atspi_live_bus.specs.Asked.{Leads, joining, popping, taking, telling};
 ghost use Rattle.atspi_live_bus.specs.Course.{Course, start};
-ghost use Rattle.atspi_live_bus.specs.Seats.{AreAbove, AreLeft, Dismisses, HasAccepted, HasSent, Leaves, MayTake, Rise, Settles, Settling, Stands, Takes, TakesAll, TakesCut, TakesNone, TakesOne, TakesSome, Waited, Writes, conn_at, due, held, left, number_at, numbers_of, seats, without_seat};
+ghost use Rattle.atspi_live_bus.specs.inner.Seats.{AreAbove, AreLeft, Dismisses, HasAccepted, HasSent, Leaves, MayTake};
+ghost use Rattle.atspi_live_bus.specs.inner.Seats.{Rise, Settles, Settling, Stands, Takes, TakesAll, TakesCut};
+ghost use Rattle.atspi_live_bus.specs.inner.Seats.{TakesNone, TakesOne, TakesSome, Waited, Writes, conn_at, due, held};
+ghost use Rattle.atspi_live_bus.specs.inner.Seats.{left, number_at, numbers_of, seats, without_seat};
 ghost use Rattle.atspi_live_bus.specs.Service.{HasNoCall, OfTold};
-ghost use Rattle.atspi_live_bus.specs.Serving.{Serves, numbers};
+ghost use Rattle.atspi_live_bus.specs.inner.Serving.{Serves, numbers};
 ghost use Rattle.atspi_live_bus.specs.Stops.{Ends};
 ghost use Rattle.atspi_live_bus.specs.Turns.{Carries, Each, IsOfOne, IsSilent, IsTold, OthersRest};
 
-use atspi_host::{Call, Did};
+use atspi_live_host::{Call, Did};
 
 /// The links in the order in which they joined, by their numbers, their connections and the bytes that they hold.
 pub fn links_in_order()
@@ -61,7 +64,8 @@ pub fn order_of_links()
     ensures fall_behind { Rise ((3, 0) ∷ (5, 2) ∷ (7, 1) ∷ []) → ⊥ }
     ensures stand { (l : _) → seats (l ∷ []) ≡ (3, 0) ∷ [] → Stands (l ∷ []) (Call.Accept (Did.Done 3) ∷ []) }
     ensures none_stand { Stands [] (Call.Accept (Did.Done 3) ∷ []) → ⊥ }
-    ensures in_other_order { (l m : _) (past : List Call) → seats (l ∷ m ∷ []) ≡ (3, 1) ∷ (5, 0) ∷ [] → Stands (l ∷ m ∷ []) past → ⊥ }
+    ensures in_other_order { (l m : _) (past : List Call) → seats (l ∷ m ∷ []) ≡ (3, 1) ∷ (5, 0) ∷ []
+        → Stands (l ∷ m ∷ []) past → ⊥ }
     ensures left_as_they_are { (l : _) → AreLeft true (l ∷ []) (l ∷ []) [] }
     ensures left_without { (l : _) → seats (l ∷ []) ≡ (3, 0) ∷ [] → AreLeft true (l ∷ []) [] (Call.Close 3 ∷ []) }
     ensures more_than_left { (l : _) → AreLeft true [] (l ∷ []) [] → ⊥ }
@@ -73,19 +77,25 @@ pub fn what_waited()
     ensures part { (l : _) → held (l ∷ []) ≡ 0 → l.out.items ≡ 8 ∷ 9 ∷ [] → Waited (7 ∷ 8 ∷ []) (Did.Done 1) l }
     ensures nothing_given { (l : _) → held (l ∷ []) ≡ 0 → l.out.items ≡ 7 ∷ 8 ∷ [] → Waited (7 ∷ 8 ∷ []) Did.NotYet l }
     ensures other_rest { (l : _) → Waited (7 ∷ 8 ∷ []) (Did.Done 1) l → l.out.items ≡ 9 ∷ [] → ⊥ }
-    ensures no_write { (b : Bus) (l : _) (past : List Call) → IsSilent b l → l.out.items ≡ [] → HasSent 3 true b l past [] }
-    ensures no_write_waits { (b : Bus) (l : _) (past : List Call) → HasSent 3 true b l past [] → l.out.items ≡ 7 ∷ [] → ⊥ }
+    ensures no_write { (b : Bus) (l : _) (past : List Call) → IsSilent b l → l.out.items ≡ []
+        → HasSent 3 true b l past [] }
+    ensures no_write_waits { (b : Bus) (l : _) (past : List Call) → HasSent 3 true b l past [] → l.out.items ≡ 7 ∷ []
+        → ⊥ }
     ensures lines_wait { (b : Bus) (l : _) (past : List Call) → HasSent 3 true b l past [] → l.server.unsent ≡ [] }
     ensures accepted { HasAccepted start [] (Call.Accept Did.NotYet ∷ []) start }
-    ensures silent { (b : Bus) (l : _) → held (l ∷ []) ≡ 0 → l.server.unsent ≡ [] → queue_of b.waiting.queues l.conn ≡ [] → IsSilent b l }
-    ensures bytes_wait { (b : Bus) (l : _) → IsSilent b l → l.server.stage ≡ Over → queue_of b.waiting.queues l.conn ≡ 7 ∷ [] → ⊥ }
+    ensures silent { (b : Bus) (l : _) → held (l ∷ []) ≡ 0 → l.server.unsent ≡ []
+        → queue_of b.waiting.queues l.conn ≡ [] → IsSilent b l }
+    ensures bytes_wait { (b : Bus) (l : _) → IsSilent b l → l.server.stage ≡ Over
+        → queue_of b.waiting.queues l.conn ≡ 7 ∷ [] → ⊥ }
 {}
 
 /// What is known of each link, and of the calls for one alone.
 pub fn calls_for_one()
     ensures each { (l m : _) → seats (l ∷ m ∷ []) ≡ (3, 0) ∷ (3, 1) ∷ [] → Each (λ n. n.number ≡ 3) (l ∷ m ∷ []) }
-    ensures not_first { (l m : _) → seats (l ∷ m ∷ []) ≡ (5, 0) ∷ (3, 1) ∷ [] → Each (λ n. n.number ≡ 3) (l ∷ m ∷ []) → ⊥ }
-    ensures not_second { (l m : _) → seats (l ∷ m ∷ []) ≡ (3, 0) ∷ (5, 1) ∷ [] → Each (λ n. n.number ≡ 3) (l ∷ m ∷ []) → ⊥ }
+    ensures not_first { (l m : _) → seats (l ∷ m ∷ []) ≡ (5, 0) ∷ (3, 1) ∷ [] → Each (λ n. n.number ≡ 3) (l ∷ m ∷ [])
+        → ⊥ }
+    ensures not_second { (l m : _) → seats (l ∷ m ∷ []) ≡ (3, 0) ∷ (5, 1) ∷ [] → Each (λ n. n.number ≡ 3) (l ∷ m ∷ [])
+        → ⊥ }
     ensures taken { OthersRest 3 [] (Call.Read 5 (97 ∷ []) (Did.Done 1) ∷ []) → ⊥ }
     ensures given { OthersRest 3 [] (Call.Write 5 (97 ∷ []) (Did.Done 1) ∷ []) → ⊥ }
     ensures no_call { OthersRest 3 [] [] }
@@ -93,7 +103,8 @@ pub fn calls_for_one()
     ensures told_again { Carries 3 None (Some []) (λ t g. ⊤) (λ t g. ⊤) → ⊥ }
     ensures not_carried { Carries 3 (Some []) (Some []) (λ t g. ⊤) (λ t g. ⊥) → ⊥ }
     ensures carried { Carries 3 (Some []) (Some []) (λ t g. (t ≡ []) × (g ≡ [])) (λ t g. (t ≡ []) × (g ≡ [])) }
-    ensures of_another { Carries 3 (Some []) (Some (Call.Write 5 (97 ∷ []) (Did.Done 1) ∷ [])) (λ t g. ⊤) (λ t g. ⊤) → ⊥ }
+    ensures of_another { Carries 3 (Some []) (Some (Call.Write 5 (97 ∷ []) (Did.Done 1) ∷ [])) (λ t g. ⊤) (λ t g. ⊤)
+        → ⊥ }
     ensures message_of_another { (e : Envelope) → IsOfOne 1 (taking 2 e ∷ []) → ⊥ }
     ensures bytes_of_another { IsOfOne 1 (popping 2 (7 ∷ []) ∷ []) → ⊥ }
     ensures no_message { IsOfOne 1 (joining 2 ∷ []) }
@@ -115,7 +126,8 @@ pub fn ends_of_runs()
     ensures counted { Ends 8 3 4 → ⊥ }
 {}
 
-/// A link that no call closed stays: it is not among those that are left only where it was closed. Of a link that is not open no message is taken.
+/// A link that no call closed stays: it is not among those that are left only where it was closed. Of a link that is
+/// not open no message is taken.
 pub fn links_that_stay()
     ensures dismissed { (l : _) (x y : Course) (past : List Call) → Dismisses 1 (l ∷ []) [] x past [] y → ⊥ }
     ensures settling { (l : _) (x y : Course) (past : List Call) → Settling (l ∷ []) [] x past [] y → ⊥ }
@@ -128,7 +140,8 @@ pub fn links_that_stay()
     ensures not_open { (x y : Course) (past : List Call) → x.conn 3 ≡ Some 0 → TakesOne 3 [] [] x past [] y → ⊥ }
 {}
 
-/// Where a bus has no link none is closed, and no link has a turn; a link whose close was the last call leaves nothing else.
+/// Where a bus has no link none is closed, and no link has a turn; a link whose close was the last call leaves nothing
+/// else.
 pub fn no_links()
     ensures dismissed { Dismisses 1 [] [] start [] [] start }
     ensures not_dismissed { (y : Course) → Dismisses 1 [] [] start [] (Call.Close 3 ∷ []) y → ⊥ }

@@ -1,5 +1,5 @@
-//! Values of the definitions of live ends, worked out by hand: what the lines of an input ask for, in which rounds an application does them
-//! and takes its messages, what it hands over, and how its runs end.
+//! Values of the definitions of live ends, worked out by hand: what the lines of an input ask for, in which rounds an
+//! application does them and takes its messages, what it hands over, and how its runs end.
 
 mod asking;
 mod doing;

@@ -1,5 +1,5 @@
-//! Worked cases of what a reader takes, says, speaks and shows, and of how its runs end, with the values worked out by hand. Each case is a
-//! clause of a function without a body. So a definition that says otherwise is refused here.
+//! Worked cases of what a reader takes, says, speaks and shows, and of how its runs end, with the values worked out by
+//! hand. Each case is a clause of a function without a body. So a definition that says otherwise is refused here.
 
 mod afters;
 mod handed;

@@ -1,5 +1,5 @@
-//! Worked cases of the definitions of the live registry, with the values worked out by hand. Each case is a clause of a function without a
-//! body. So a definition that says otherwise is refused here.
+//! Worked cases of the definitions of the live registry, with the values worked out by hand. Each case is a clause of a
+//! function without a body. So a definition that says otherwise is refused here.
 
 mod runs;
 mod standing;

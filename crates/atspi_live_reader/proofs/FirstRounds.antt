@@ -5,18 +5,18 @@ use Rattle.atspi_auth.specs.Replies.{answer, reply_to}
 use Rattle.atspi_auth.specs.Requests.{is_grant, is_number}
 use Rattle.atspi_auth.specs.Talk.{after, client_start, fault_in, heard, hears, hears_bytes}
 use Rattle.atspi_auth.specs.declared.stage.Stage.TheVariants.{Over}
-use Rattle.atspi_host.specs.Calls.{given, taken}
-use Rattle.atspi_host.specs.declared.call.Call.{Call}
-use Rattle.atspi_host.specs.declared.call.Call.TheVariants.{Read, Write}
-use Rattle.atspi_host.specs.declared.call.Did.{Did}
-use Rattle.atspi_host.specs.declared.call.Did.TheVariants.{Done, NotYet}
+use Rattle.atspi_live_host.specs.Calls.{given, taken}
+use Rattle.atspi_live_host.specs.declared.call.Call.{Call}
+use Rattle.atspi_live_host.specs.declared.call.Call.TheVariants.{Read, Write}
+use Rattle.atspi_live_host.specs.declared.call.Did.{Did}
+use Rattle.atspi_live_host.specs.declared.call.Did.TheVariants.{Done, NotYet}
 use Rattle.atspi_stream.specs.Stream.{few}
 use Rattle.atspi_protocol.specs.following.ReaderState.{begins}
 use Rattle.atspi_protocol.specs.following.Takes.{starts}
-use Rattle.atspi_conversation.specs.Moved.{GoesOn}
-use Rattle.atspi_conversation.specs.Rounds.{AreRounds, IsRead, IsRound}
-use Rattle.atspi_conversation.specs.Speech.{IsAllGiven, IsInOrder, line_bytes, lines_for}
-use Rattle.atspi_conversation.proofs.LineLemmas.{none_behind}
+use Rattle.atspi_live_conversation.specs.Moved.{GoesOn}
+use Rattle.atspi_live_conversation.specs.Rounds.{AreRounds, IsRead, IsRound}
+use Rattle.atspi_live_conversation.specs.Speech.{IsAllGiven, IsInOrder, line_bytes, lines_for}
+use Rattle.atspi_live_conversation.proofs.LineLemmas.{none_behind}
 use Rattle.atspi_live_reader.specs.Cases.{hail}
 use Rattle.atspi_live_reader.specs.Spoken.{IsAfter, IsEmpty}
 use Rattle.atspi_live_reader.proofs.Started.{lines_first, said_first, stands_first}

@@ -6,7 +6,7 @@ use Rattle.atspi_message.specs.Envelope.{Envelope}
 use Rattle.atspi_message.specs.Rules.{MeetsRules}
 use Rattle.atspi_protocol.specs.following.ReaderState.{Done, sends, speaks, tells_end, ReaderState, begins}
 use Rattle.atspi_protocol.specs.following.Takes.{reader_takes, starts}
-use Rattle.atspi_conversation.specs.Sent.{AllMeet}
+use Rattle.atspi_live_conversation.specs.Sent.{AllMeet}
 use Rattle.atspi_reader.specs.Steps.{IsState}
 use Rattle.atspi_live_reader.specs.Spoken.{following, say_line, sent_in, spoken_in}
 use Rattle.atspi_live_reader.specs.Handed.{Follows, Gives, GivesRest, GivesSo, HandsAll, IsFrontOf, KeepsLine}

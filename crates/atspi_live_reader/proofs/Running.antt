@@ -5,18 +5,18 @@ use Rattle.std.specs.Io.KnownBytes.{Appends}
 use Rattle.atspi_auth.specs.Talk.{behind, client_start}
 use Rattle.std.proofs.KnownBytes.{Appends-nil}
 use Rattle.atspi_base.specs.Outside.{AppendsPart, Rose, appends_both, appends_part, part_of_more}
-use Rattle.atspi_check.specs.Check.{fault_line}
+use Rattle.atspi_script.specs.FaultText.{fault_line}
 use Rattle.atspi_message.specs.Envelope.{Envelope}
 use Rattle.atspi_stream.specs.Stream.{AwaitsMore, IsParted}
-use Rattle.atspi_host.specs.declared.call.Call.{Call}
-use Rattle.atspi_host.specs.Calls.{taken}
-use Rattle.atspi_conversation.specs.Left.{IsLeft, IsTaken, LeavesOff, LeftOff}
-use Rattle.atspi_conversation.specs.Rounds.{IsRun}
-use Rattle.atspi_conversation.specs.Speech.{envelopes}
-use Rattle.atspi_conversation.specs.Talking.{Blames}
-use Rattle.atspi_conversation.specs.declared.ending.Ending.{Ending}
-use Rattle.atspi_conversation.specs.declared.ending.Ending.TheVariants as endings
-use Rattle.atspi_live_registry.specs.Runs.{IsOnLink, Reports, SinkBlamed, Writes}
+use Rattle.atspi_live_host.specs.declared.call.Call.{Call}
+use Rattle.atspi_live_host.specs.Calls.{taken}
+use Rattle.atspi_live_conversation.specs.Left.{IsLeft, IsTaken, LeavesOff, LeftOff}
+use Rattle.atspi_live_conversation.specs.Rounds.{IsRun}
+use Rattle.atspi_live_conversation.specs.Speech.{envelopes}
+use Rattle.atspi_live_conversation.specs.Talking.{Blames}
+use Rattle.atspi_live_conversation.specs.declared.ending.Ending.{Ending}
+use Rattle.atspi_live_conversation.specs.declared.ending.Ending.TheVariants as endings
+use Rattle.atspi_live_conversation.specs.Reports.{IsOnLink, Reports, SinkBlamed, Writes}
 use Rattle.atspi_live_reader.specs.Following.{AreWords, BlamesSink, EndsRun, HasWords, IsOver, IsQuiet, IsSpentIn, IsUntold, OverBlames, RunsOver, SpeaksUp, Stands, WritesPart}
 use Rattle.atspi_live_reader.specs.Handed.{Follows, IsFrontOf}
 use Rattle.atspi_live_reader.specs.Runs.{AllSpeak, AreLast, Causes, EndsOn, IsAll, OfTaken, ReportsLast, RunEnds, WritesLast}

@@ -4,12 +4,12 @@ use Rattle.std.specs.Prelude.{slice_get}
 use Rattle.std.specs.List.{flat_map}
 use Rattle.std.specs.Option.{option_map}
 use Rattle.std.proofs.lemmas.Grind.{flat_map-append}
-use Rattle.atspi_arena.specs.Sights.{Sight, sights}
-use Rattle.atspi_forest.specs.Forest.{Forest}
-use Rattle.atspi_forest.specs.declared.view.Row.{Row}
+use Rattle.atspi_cache_arena.specs.Sights.{Sight, sights}
+use Rattle.atspi_tree_model.specs.Forest.{Forest}
+use Rattle.atspi_tree_model.specs.declared.view.Row.{Row}
 use Rattle.atspi_trace.specs.play.Playing.{shown_sight, view_rows}
-use Rattle.atspi_conversation.specs.declared.ending.Ending.{Ending}
-use Rattle.atspi_conversation.specs.declared.ending.Ending.TheVariants as endings
+use Rattle.atspi_live_conversation.specs.declared.ending.Ending.{Ending}
+use Rattle.atspi_live_conversation.specs.declared.ending.Ending.TheVariants as endings
 use Rattle.atspi_protocol.specs.following.ReaderState.{ReaderState}
 use Rattle.atspi_protocol.specs.following.Takes.{held_names}
 use Rattle.atspi_live_reader.specs.Handed.{GivesRest, KeepsLine}

@@ -8,9 +8,9 @@ use Rattle.atspi_auth.specs.Talk.{behind, client_start, heard, hears, hears_byte
 use Rattle.atspi_message.specs.Envelope.{Envelope}
 use Rattle.atspi_protocol.specs.following.ReaderState.{Done, begins, sends}
 use Rattle.atspi_protocol.specs.following.Takes.{starts}
-use Rattle.atspi_conversation.specs.Speech.{IsSpeech, envelopes, line_bytes, lines_for}
-use Rattle.atspi_conversation.proofs.LineLemmas.{none_behind}
-use Rattle.atspi_conversation.proofs.SentLemmas.{none_parted}
+use Rattle.atspi_live_conversation.specs.Speech.{IsSpeech, envelopes, line_bytes, lines_for}
+use Rattle.atspi_live_conversation.proofs.LineLemmas.{none_behind}
+use Rattle.atspi_live_conversation.proofs.SentLemmas.{none_parted}
 use Rattle.atspi_live_reader.specs.Spoken.{IsAfter, IsSpoken, following, spoken_in}
 use Rattle.atspi_live_reader.specs.Cases.{hail, hello, said, told}
 

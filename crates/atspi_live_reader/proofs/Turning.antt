@@ -8,26 +8,26 @@ use Rattle.atspi_message.specs.Envelope.{Envelope}
 use Rattle.atspi_stream.specs.Stream.{IsParted}
 use Rattle.atspi_reader.specs.ReaderOf.{reader_of}
 use Rattle.atspi_protocol.specs.following.ReaderState.{ReaderState}
-use Rattle.atspi_host.specs.declared.call.Call.{Call}
-use Rattle.atspi_host.specs.declared.call.Did.{Did}
-use Rattle.atspi_host.specs.Calls.{taken}
-use Rattle.atspi_conversation.specs.Left.{IsLeft}
-use Rattle.atspi_conversation.specs.Moved.{Grows}
-use Rattle.atspi_conversation.specs.Speech.{Ends, Speaks, envelopes}
-use Rattle.atspi_conversation.specs.Talking.{Blames, Going, HasNone, IsEnded, MaySpeak}
-use Rattle.atspi_conversation.specs.declared.conversation.Conversation.{Conversation}
-use Rattle.atspi_conversation.specs.declared.ending.Ending.{Ending}
-use Rattle.atspi_conversation.specs.declared.ending.Ending.TheVariants as endings
-use Rattle.atspi_conversation.proofs.LeftLemmas.{done_left, memory_left}
-use Rattle.atspi_conversation.proofs.StepLemmas.{all_done, no_memory}
-use Rattle.atspi_conversation.proofs.TalkLemmas.{parted_later}
+use Rattle.atspi_live_host.specs.declared.call.Call.{Call}
+use Rattle.atspi_live_host.specs.declared.call.Did.{Did}
+use Rattle.atspi_live_host.specs.Calls.{taken}
+use Rattle.atspi_live_conversation.specs.Left.{IsLeft}
+use Rattle.atspi_live_conversation.specs.Moved.{Grows}
+use Rattle.atspi_live_conversation.specs.Speech.{Ends, Speaks, envelopes}
+use Rattle.atspi_live_conversation.specs.Talking.{Blames, Going, HasNone, IsEnded, MaySpeak}
+use Rattle.atspi_live_conversation.specs.declared.conversation.Conversation.{Conversation}
+use Rattle.atspi_live_conversation.specs.declared.ending.Ending.{Ending}
+use Rattle.atspi_live_conversation.specs.declared.ending.Ending.TheVariants as endings
+use Rattle.atspi_live_conversation.proofs.LeftLemmas.{done_left, memory_left}
+use Rattle.atspi_live_conversation.proofs.StepLemmas.{all_done, no_memory}
+use Rattle.atspi_live_conversation.proofs.TalkLemmas.{parted_later}
 use Rattle.atspi_reader.specs.Steps.{IsState}
 use Rattle.atspi_live_reader.specs.Spoken.{IsAfter, IsEmpty, IsSpent, IsSpoken, following, spoken_in}
 use Rattle.atspi_live_reader.specs.Handed.{Follows, IsFrontOf}
-use Rattle.atspi_conversation.specs.Rounds.{AreRounds, Breaks, IsRound, Makes}
-use Rattle.atspi_conversation.specs.Moved.{Tells}
-use Rattle.atspi_conversation.proofs.RoundLemmas.{makes_if, none_wait, rounds_more, run_broken}
-use Rattle.atspi_conversation.proofs.SeenLemmas.{breaks_seen, ends_seen, round_seen, speaks_seen}
+use Rattle.atspi_live_conversation.specs.Rounds.{AreRounds, Breaks, IsRound, Makes}
+use Rattle.atspi_live_conversation.specs.Moved.{Tells}
+use Rattle.atspi_live_conversation.proofs.RoundLemmas.{makes_if, none_wait, rounds_more, run_broken}
+use Rattle.atspi_live_conversation.proofs.SeenLemmas.{breaks_seen, ends_seen, round_seen, speaks_seen}
 use Rattle.atspi_live_reader.specs.Following.{BreaksOver, EndsRun, EndsTurn, GoesOn, IsMuted, IsOver, IsQuiet, IsSpentIn, OverBlames, RunsOver, SpeaksOn, SpeaksUp, Stands}
 use Rattle.atspi_live_reader.specs.declared.live_reader.LiveReader.{LiveReader}
 use Rattle.atspi_live_reader.specs.declared.over.Over.{Over}

@@ -4,15 +4,15 @@ use Rattle.std.specs.Io.KnownBytes.{Appends}
 use Rattle.atspi_base.specs.Outside.{AppendsPart, Rose}
 use Rattle.atspi_message.specs.Envelope.{Envelope}
 use Rattle.atspi_reader.specs.ReaderOf.{reader_of}
-use Rattle.atspi_host.specs.declared.call.Call.{Call}
-use Rattle.atspi_host.specs.Calls.{taken}
-use Rattle.atspi_conversation.specs.Left.{IsLeft}
-use Rattle.atspi_conversation.specs.Rounds.{AreRounds, Breaks, IsRound, IsRun}
-use Rattle.atspi_conversation.specs.Speech.{Ends, Speaks}
-use Rattle.atspi_conversation.specs.Talking.{Blames, Going}
-use Rattle.atspi_conversation.specs.declared.conversation.Conversation.{Conversation}
-use Rattle.atspi_conversation.specs.declared.ending.Ending.{Ending}
-use Rattle.atspi_conversation.specs.declared.ending.Ending.TheVariants as endings
+use Rattle.atspi_live_host.specs.declared.call.Call.{Call}
+use Rattle.atspi_live_host.specs.Calls.{taken}
+use Rattle.atspi_live_conversation.specs.Left.{IsLeft}
+use Rattle.atspi_live_conversation.specs.Rounds.{AreRounds, Breaks, IsRound, IsRun}
+use Rattle.atspi_live_conversation.specs.Speech.{Ends, Speaks}
+use Rattle.atspi_live_conversation.specs.Talking.{Blames, Going}
+use Rattle.atspi_live_conversation.specs.declared.conversation.Conversation.{Conversation}
+use Rattle.atspi_live_conversation.specs.declared.ending.Ending.{Ending}
+use Rattle.atspi_live_conversation.specs.declared.ending.Ending.TheVariants as endings
 use Rattle.atspi_live_reader.specs.Spoken.{IsAfter, IsEmpty, IsSpent, IsSpoken}
 use Rattle.atspi_live_reader.specs.Handed.{Follows}
 use Rattle.atspi_live_reader.specs.Shows.{last_words}
@@ -47,10 +47,12 @@ IsMuted (overs.Ended ending) l w w' = (ending ≡ endings.NoMemory) × (w' ≡ w
 IsMuted overs.NotWritten l w w' = (l.starved ≡ false) × AppendsPart w w' l.lines
 
 -- the conversation went on, and some lines were written
-pub record GoesOn (k : ℕ) (calls calls' : Option (List Call)) (c c' : Conversation) (old new : LiveReader) (w w' : Option (List ℕ)) : Type 0 where
+pub record GoesOn (k : ℕ) (calls calls' : Option (List Call)) (c c' : Conversation) (old new : LiveReader)
+    (w w' : Option (List ℕ)) : Type 0 where
   pub line : List ℕ
   pub wrote : Appends w w' line
-  pub goes : (written : List ℕ) (n : ℕ) → Going (Stands written) k calls n c old → Going (Stands (written ++ line)) k calls' (n + 1) c' new
+  pub goes : (written : List ℕ) (n : ℕ) → Going (Stands written) k calls n c old
+      → Going (Stands (written ++ line)) k calls' (n + 1) c' new
 
 -- how a run is over: by its ending, or because the sink failed
 abbrev pub IsEndedSo : ℕ → Over → ℕ → Option (List Call) → Type 0
@@ -58,7 +60,8 @@ IsEndedSo k (overs.Ended ending) rounds calls = Ends IsAfter IsSpent k ending ro
 IsEndedSo k overs.NotWritten rounds calls = ⊤
 
 -- a run that is over, in which these bytes were written before: what was said, what was written, and why it ended
-pub record IsOver (k : ℕ) (over : Over) (rounds : ℕ) (written : List ℕ) (calls : Option (List Call)) (w w' : Option (List ℕ)) : Type 0 where
+pub record IsOver (k : ℕ) (over : Over) (rounds : ℕ) (written : List ℕ) (calls : Option (List Call))
+    (w w' : Option (List ℕ)) : Type 0 where
   pub line : List ℕ
   pub wrote : Appends w w' line
   pub speaks : Speaks IsAfter k calls
@@ -69,23 +72,27 @@ pub record IsOver (k : ℕ) (over : Over) (rounds : ℕ) (written : List ℕ) (c
 abbrev pub IsSpentIn : LiveReader → Envelope → Type 0
 IsSpentIn l e = IsSpent (reader_of l.reader) e
 
--- a turn in which the run was over otherwise than by the sink: nothing was written in it, and so the reader stands that had written these bytes before
+-- a turn in which the run was over otherwise than by the sink: nothing was written in it, and so the reader stands that
+-- had written these bytes before
 abbrev pub EndsTurn : ℕ → Over → List ℕ → Option (List Call) → Option (List ℕ) → Option (List ℕ) → LiveReader → Type 0
 EndsTurn k (overs.Ended ending) written calls w w' l = (w' ≡ w) × IsLeft (Stands written) IsSpentIn k ending calls l
 EndsTurn k overs.NotWritten written calls w w' l = ⊤
 
 -- the same of the run: what was written in it
 abbrev pub EndsRun : ℕ → Over → Option (List Call) → Option (List ℕ) → Option (List ℕ) → LiveReader → Type 0
-EndsRun k (overs.Ended ending) calls w w' l = (written : List ℕ) × Appends w w' written × IsLeft (Stands written) IsSpentIn k ending calls l
+EndsRun k (overs.Ended ending) calls w w' l = (written : List ℕ) × Appends w w' written
+    × IsLeft (Stands written) IsSpentIn k ending calls l
 EndsRun k overs.NotWritten calls w w' l = ⊤
 
--- a run that was over so may have left words to be written: before authentication is over a reader has none, and behind want of memory none are told
+-- a run that was over so may have left words to be written: before authentication is over a reader has none, and behind
+-- want of memory none are told
 abbrev pub HasWords : Ending → Type 0
 HasWords endings.NotAuthenticated = ⊥
 HasWords endings.NoMemory = ⊥
 HasWords ending = ⊤
 
--- these are the words: the lines that were not written yet, and the last ones; where memory was wanting for a line they are not known
+-- these are the words: the lines that were not written yet, and the last ones; where memory was wanting for a line they
+-- are not known
 abbrev pub AreWords : LiveReader → Ending → List ℕ → Type 0
 AreWords l ending words = (l.starved ≡ true) ⊎ (words ≡ l.lines ++ last_words ending (reader_of l.reader))
 
@@ -102,10 +109,12 @@ abbrev pub BreaksOver : ℕ → ℕ → Over → List ℕ → List ℕ → List 
 BreaksOver k most (overs.Ended ending) t g calls = Breaks IsAfter IsEmpty k most ending t g calls
 BreaksOver k most overs.NotWritten t g calls = IsRound IsAfter IsEmpty k most t g calls
 
--- the calls of a run that is over so: whole rounds, and the one in which it ended; where the sink failed, whole rounds alone
+-- the calls of a run that is over so: whole rounds, and the one in which it ended; where the sink failed, whole rounds
+-- alone
 abbrev pub RunsOver : ℕ → Over → ℕ → List Call → Type 0
 RunsOver k (overs.Ended ending) rounds calls = IsRun (λ _. IsAfter) IsEmpty k 4096 ending rounds calls
-RunsOver k overs.NotWritten rounds calls = (whole : ℕ) × (whole ≤ rounds) × AreRounds (λ _. IsAfter) IsEmpty k 4096 whole calls
+RunsOver k overs.NotWritten rounds calls = (whole : ℕ) × (whole ≤ rounds)
+    × AreRounds (λ _. IsAfter) IsEmpty k 4096 whole calls
 
 -- the counts of the host and of the sink: each rose where it failed, and else is the same
 abbrev pub OverBlames : Over → ℕ → ℕ → Type 0

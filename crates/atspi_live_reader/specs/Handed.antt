@@ -12,25 +12,31 @@ abbrev pub KeepsLine : Bool → Bool → List ℕ → List ℕ → List ℕ → 
 KeepsLine starved starved' lines lines' line = (starved' ≡ true) ⊎ ((starved' ≡ starved) × (lines' ≡ lines ++ line))
 
 -- these are the oldest things that it did, and their lines were kept
-pub record Gives (old new : ReaderState) (done : List Done) (starved starved' : Bool) (lines lines' : List ℕ) : Type 0 where
+pub record Gives (old new : ReaderState) (done : List Done) (starved starved' : Bool) (lines lines' : List ℕ)
+    : Type 0 where
   pub whole : old ≡ record new { out = done ++ new.out }
   pub kept : KeepsLine starved starved' lines lines' (spoken_in done)
 
 -- the oldest thing that it did: a message, or none
 abbrev pub HandsOver : Handed → ReaderState → ReaderState → Bool → Bool → List ℕ → List ℕ → Type 0
-HandsOver (handed.Message m) old new starved starved' lines lines' = Gives old new (sends (envelope_of m) ∷ []) starved starved' lines lines'
-HandsOver handed.Aside old new starved starved' lines lines' = (d : Done) × (sent_in (d ∷ []) ≡ []) × Gives old new (d ∷ []) starved starved' lines lines'
+HandsOver (handed.Message m) old new starved starved' lines lines' =
+    Gives old new (sends (envelope_of m) ∷ []) starved starved' lines lines'
+HandsOver handed.Aside old new starved starved' lines lines' = (d : Done) × (sent_in (d ∷ []) ≡ [])
+    × Gives old new (d ∷ []) starved starved' lines lines'
 HandsOver handed.Nothing old new starved starved' lines lines' = Gives old new [] starved starved' lines lines'
 
 -- the oldest things that it did, with these messages among them
-pub record GivesSo (messages : List Envelope) (old new : ReaderState) (starved starved' : Bool) (lines lines' : List ℕ) : Type 0 where
+pub record GivesSo (messages : List Envelope) (old new : ReaderState) (starved starved' : Bool) (lines lines' : List ℕ)
+    : Type 0 where
   pub done : List Done
   pub sent : sent_in done ≡ messages
   pub gives : Gives old new done starved starved' lines lines'
 
-abbrev pub HandsAll : {M : Type 0} → (M → Envelope) → Option M → ReaderState → ReaderState → Bool → Bool → List ℕ → List ℕ → Type 0
+abbrev pub HandsAll : {M : Type 0} → (M → Envelope) → Option M → ReaderState → ReaderState → Bool → Bool → List ℕ
+    → List ℕ → Type 0
 HandsAll seen None old new starved starved' lines lines' = GivesSo [] old new starved starved' lines lines'
-HandsAll seen (Some m) old new starved starved' lines lines' = GivesSo (seen m ∷ []) old new starved starved' lines lines'
+HandsAll seen (Some m) old new starved starved' lines lines' =
+    GivesSo (seen m ∷ []) old new starved starved' lines lines'
 
 -- all that it did was handed over, and nothing else changed
 pub record GivesRest (old new : ReaderState) (starved starved' : Bool) (lines lines' : List ℕ) : Type 0 where
@@ -41,9 +47,10 @@ pub record GivesRest (old new : ReaderState) (starved starved' : Bool) (lines li
 abbrev pub IsFrontOf : List ℕ → List ℕ → Type 0
 IsFrontOf front all = (left : List ℕ) × (front ++ left ≡ all)
 
--- From its start on a reader took these messages and handed out those; with the lines that are to be written the bytes that were written are
--- all that it spoke. Or memory was wanting for a line, and they are a front of that.
-pub record Follows (written : List ℕ) (r : ReaderState) (starved : Bool) (lines : List ℕ) (took said : List Envelope) : Type 0 where
+-- From its start on a reader took these messages and handed out those; with the lines that are to be written the bytes
+-- that were written are all that it spoke. Or memory was wanting for a line, and they are a front of that.
+pub record Follows (written : List ℕ) (r : ReaderState) (starved : Bool) (lines : List ℕ) (took said : List Envelope)
+    : Type 0 where
   pub is : IsState r
   pub done : List Done
   pub whole : record r { out = done ++ r.out } ≡ following took

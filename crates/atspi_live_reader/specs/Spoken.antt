@@ -7,7 +7,7 @@ use Rattle.atspi_message.specs.Bytes.{IsMessage}
 use Rattle.atspi_stream.specs.Stream.{AwaitsMore, HasFault, IsParted, bytes_of}
 use Rattle.atspi_protocol.specs.following.ReaderState.{Done, sends, speaks, tells_end, ReaderState, begins}
 use Rattle.atspi_protocol.specs.following.Takes.{starts, reader_takes}
-use Rattle.atspi_conversation.specs.Speech.{envelopes}
+use Rattle.atspi_live_conversation.specs.Speech.{envelopes}
 
 -- the line of what is spoken about an application
 abbrev pub say_line : List ℕ → List ℕ → List ℕ
@@ -30,8 +30,8 @@ spoken_in (tells_end name ∷ ds) = spoken_in ds
 abbrev pub following : List Envelope → ReaderState
 following took = fold reader_takes (starts begins) took
 
--- From its start on it took these messages and handed out those: what it did so far and what it has queued is all that it does. None of its
--- own has passed the last number.
+-- From its start on it took these messages and handed out those: what it did so far and what it has queued is all that
+-- it does. None of its own has passed the last number.
 pub record IsAfter (r : ReaderState) (took said : List Envelope) : Type 0 where
   pub done : List Done
   pub whole : record r { out = done ++ r.out } ≡ following took
@@ -57,7 +57,8 @@ pub record IsSpoken (t w : List ℕ) : Type 0 where
   pub left : List ℕ
   pub front : w ++ left ≡ spoken_in done
 
--- What is written is all lines of what a reader did that took the whole messages of the bytes taken: behind them more is awaited.
+-- What is written is all lines of what a reader did that took the whole messages of the bytes taken: behind them more
+-- is awaited.
 pub record IsAllSpoken (t w : List ℕ) : Type 0 where
   pub messages : List (Envelope × List ℕ)
   pub rest : List ℕ

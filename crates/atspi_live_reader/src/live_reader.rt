@@ -11,9 +11,9 @@ ghost use Rattle.atspi_live_reader.specs.Shows.{last_words};
 use crate::showing::put_views;
 use crate::speaking::{next_message, take_rest};
 use atspi_base::{Bytes, NoMemory};
-use atspi_conversation::{BusEnd, Ending};
-use atspi_header::MessageRef;
+use atspi_live_conversation::{BusEnd, Ending};
 use atspi_message::Message;
+use atspi_message_in_place::MessageRef;
 use atspi_protocol::ends::EndFault;
 use atspi_reader::Reader;
 use std::alloc::Global;
@@ -49,8 +49,8 @@ pub(crate) fn start(alloc: Global) -> Result<LiveReader, NoMemory>
 }
 
 impl LiveReader {
-    /// Keeps the last words of a run that ended so, behind the lines that are kept: the lines of what was spoken and not handed out, and
-    /// where the peer has ended then what is held of each application.
+    /// Keeps the last words of a run that ended so, behind the lines that are kept: the lines of what was spoken and
+    /// not handed out, and where the peer has ended then what is held of each application.
     pub(crate) fn conclude(&mut self, alloc: Global, ending: Ending) -> Result<(), NoMemory>
         requires { IsReader self.old.reader }
         ensures fed { OnOk result (self.old.starved ≡ false) }

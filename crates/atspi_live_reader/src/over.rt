@@ -1,6 +1,6 @@
 //! How following applications was over.
 
-use atspi_conversation::Ending;
+use atspi_live_conversation::Ending;
 
 /// How following applications was over.
 #[derive(Clone, Copy, Debug, PartialEq, Eq)]

@@ -5,11 +5,11 @@ ghost use Rattle.atspi_trace.specs.play.Playing.{shown_sight};
 ghost use Rattle.atspi_reader.specs.ReaderOf.{reader_of};
 ghost use Rattle.atspi_live_reader.specs.Shows.{show_text, shown_in, shown_of};
 
-use atspi_arena::Rows;
 use atspi_base::valid_names::BusName;
 use atspi_base::{Bytes, NoMemory};
+use atspi_cache_arena::Rows;
 use atspi_reader::Reader;
-use atspi_rows_text::write_rows;
+use atspi_trace_rows::write_rows;
 use std::alloc::Global;
 
 /// Appends the line of an application, and a line of each of its rows.

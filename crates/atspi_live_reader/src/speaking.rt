@@ -37,7 +37,8 @@ fn keep_line(name: &BusName, text: &Text, lines: &mut Bytes, starved: &mut bool)
 /// Takes the oldest thing that a reader did: a message, or a line that is kept with those that are to be written.
 fn hand_over(reader: &mut Reader, lines: &mut Bytes, starved: &mut bool) -> Handed
     requires { IsReader reader.old }
-    ensures hands { HandsOver result (reader_of reader.old) (reader_of reader.new) starved.old starved.new lines.old lines.new }
+    ensures hands { HandsOver result (reader_of reader.old) (reader_of reader.new) starved.old starved.new lines.old
+        lines.new }
     ensures all { result ≡ Handed.Nothing → (reader_of reader.new).out ≡ [] }
     ensures stays { IsReader reader.new }
 {
@@ -59,7 +60,8 @@ pub(crate) fn next_message(
     starved: &mut bool,
 ) -> Option<Message>
     requires { IsReader reader.old }
-    ensures hands { HandsAll envelope_of result (reader_of reader.old) (reader_of reader.new) starved.old starved.new lines.old lines.new }
+    ensures hands { HandsAll envelope_of result (reader_of reader.old) (reader_of reader.new) starved.old starved.new
+        lines.old lines.new }
     ensures stays { IsReader reader.new }
     ensures all { IfNone result ((reader_of reader.new).out ≡ []) }
     ensures fewer { IfSome result (λ m. length (reader_of reader.new).out < length (reader_of reader.old).out) }
@@ -73,10 +75,12 @@ pub(crate) fn next_message(
     }
 }
 
-/// Lets the oldest message go that was not handed out, and keeps the lines that were spoken before it. Whether there was one.
+/// Lets the oldest message go that was not handed out, and keeps the lines that were spoken before it. Whether there
+/// was one.
 fn let_go(reader: &mut Reader, lines: &mut Bytes, starved: &mut bool) -> bool
     requires { IsReader reader.old }
-    ensures gives { (messages : List Envelope) × GivesSo messages (reader_of reader.old) (reader_of reader.new) starved.old starved.new lines.old lines.new }
+    ensures gives { (messages : List Envelope)
+        × GivesSo messages (reader_of reader.old) (reader_of reader.new) starved.old starved.new lines.old lines.new }
     ensures stays { IsReader reader.new }
     ensures all { result ≡ false → (reader_of reader.new).out ≡ [] }
     ensures fewer { IsTrue result → length (reader_of reader.new).out < length (reader_of reader.old).out }
@@ -85,8 +89,8 @@ fn let_go(reader: &mut Reader, lines: &mut Bytes, starved: &mut bool) -> bool
     message.is_some()
 }
 
-/// Takes all that a reader did and that was not handed out yet. The lines that it spoke are kept; the messages, for which there is no link any
-/// more, are let go.
+/// Takes all that a reader did and that was not handed out yet. The lines that it spoke are kept; the messages, for
+/// which there is no link any more, are let go.
 pub(crate) fn take_rest(reader: &mut Reader, lines: &mut Bytes, starved: &mut bool)
     requires { IsReader reader.old }
     ensures { GivesRest (reader_of reader.old) (reader_of reader.new) starved.old starved.new lines.old lines.new }

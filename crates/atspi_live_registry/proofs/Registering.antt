@@ -9,8 +9,8 @@ use Rattle.atspi_protocol.specs.registering.Steps.{Registry, registry_starts, re
 use Rattle.atspi_protocol.specs.registry_laws.Sends as sends
 use Rattle.atspi_protocol.specs.registry_laws.Sends.{AreNumbered, started}
 use Rattle.atspi_protocol.proofs.OfRegistryLaws.Sending.{all_meet}
-use Rattle.atspi_conversation.specs.Sent.{AllMeet}
-use Rattle.atspi_conversation.specs.Talking.{Takes, HandsOut, Rests, MaySend}
+use Rattle.atspi_live_conversation.specs.Sent.{AllMeet}
+use Rattle.atspi_live_conversation.specs.Talking.{Takes, HandsOut, Rests, MaySend}
 use Rattle.atspi_live_registry.specs.Standing.{IsAfter}
 use Rattle.atspi_live_registry.specs.declared.live_registry.LiveRegistry.{LiveRegistry}
 

@@ -4,8 +4,8 @@ use Rattle.atspi_message.specs.Envelope.{Envelope}
 use Rattle.atspi_protocol.specs.registering.Steps.{Registry, registry_takes, takes}
 use Rattle.atspi_protocol.specs.registry_laws.Sends.{started}
 
--- From its start on it took these messages and handed out those: with the messages that it still has queued they are all that it sends
--- for those that it took. None of them has passed the last number.
+-- From its start on it took these messages and handed out those: with the messages that it still has queued they are
+-- all that it sends for those that it took. None of them has passed the last number.
 pub record IsAfter (r : Registry) (took said : List Envelope) : Type 0 where
   pub whole : record { state = r.state; out = said ++ r.out } ≡ fold takes started took
   pub numbered : r.state.next ≤ 4294967296

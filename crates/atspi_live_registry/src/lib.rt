@@ -2,8 +2,6 @@
 #![tactic(auto)]
 
 mod live_registry;
-mod reporting;
 mod run;
 
-pub use reporting::report;
 pub use run::registry;

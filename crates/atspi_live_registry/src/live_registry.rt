@@ -5,9 +5,9 @@ ghost use Rattle.atspi_live_registry.specs.Standing as standing;
 ghost use Rattle.atspi_live_registry.specs.Standing.{IsAfter};
 
 use atspi_base::NoMemory;
-use atspi_conversation::BusEnd;
-use atspi_header::MessageRef;
+use atspi_live_conversation::BusEnd;
 use atspi_message::Message;
+use atspi_message_in_place::MessageRef;
 use atspi_protocol::ends::EndFault;
 use atspi_registry::Registry;
 use std::alloc::Global;

@@ -1,22 +1,23 @@
 //! A run of the registry on a Unix socket.
 
 ghost use Rattle.std.specs.Prelude.{◌≡◌, []};
-ghost use Rattle.atspi_live_registry.specs.Runs.{AllSpeak, Begins, Causes, RunEnds};
+ghost use Rattle.atspi_live_registry.specs.Runs.{AllSpeak, RunEnds};
+ghost use Rattle.atspi_live_conversation.specs.Reports.{Begins, Causes};
 
 use crate::live_registry::start;
-use crate::reporting::report;
 use atspi_base::{Sink, Text};
-use atspi_conversation::converse;
-use atspi_host::{Did, Host};
+use atspi_live_conversation::{converse, report};
+use atspi_live_host::{Did, Host};
 use std::alloc::Global;
 
-/// Connects to the bus at the path, and is its registry for so many rounds: authentication as a client, then Hello, RequestName and
-/// AddMatch, then what `Registry` does. What is given on the link is a front of the authentication's lines and then of the registry's
-/// messages, for the bytes that were taken.
+/// Connects to the bus at the path, and is its registry for so many rounds: authentication as a client, then Hello,
+/// RequestName and AddMatch, then what `Registry` does. What is given on the link is a front of the authentication's
+/// lines and then of the registry's messages, for the bytes that were taken.
 ///
-/// Status 0: the peer ended. 4: the sink failed at the line of a fault. 5: no memory is left. 6: a message of the peer is malformed, and
-/// the line `fault START PLACE REASON` was written, where START is how many bytes of messages stand before it. 7: a call of the host
-/// failed. 8: all rounds were done. 10: the peer did not authenticate. 13: a message would pass number 4,294,967,295.
+/// Status 0: the peer ended. 4: the sink failed at the line of a fault. 5: no memory is left. 6: a message of the peer
+/// is malformed, and the line `fault START PLACE REASON` was written, where START is how many bytes of messages stand
+/// before it. 7: a call of the host failed. 8: all rounds were done. 10: the peer did not authenticate. 13: a message
+/// would pass number 4,294,967,295.
 pub fn registry<K: Sink, H: Host>(
     alloc: Global,
     path: &Text,
@@ -27,8 +28,10 @@ pub fn registry<K: Sink, H: Host>(
     requires calls { Begins (H.calls host.old) }
     requires links { H.links host.old ≡ [] }
     ensures speech { AllSpeak (H.links host.new) (H.calls host.new) }
-    ensures ends { RunEnds path.now (H.links host.new) result rounds (H.calls host.new) (K.written sink.old) (K.written sink.new) }
-    ensures causes { Causes result (H.faults host.old) (H.faults host.new) (H.link_faults host.old) (H.link_faults host.new) (K.faults sink.old) (K.faults sink.new) }
+    ensures ends { RunEnds path.now (H.links host.new) result rounds (H.calls host.new) (K.written sink.old)
+        (K.written sink.new) }
+    ensures causes { Causes result (H.faults host.old) (H.faults host.new) (H.link_faults host.old)
+        (H.link_faults host.new) (K.faults sink.old) (K.faults sink.new) }
 {
     let Ok(mut end) = start(alloc) else {
         return 5;

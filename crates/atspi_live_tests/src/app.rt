@@ -1,8 +1,8 @@
 //! The application over a host in memory, with messages of a bus and of a registry worked out by hand.
 
 use crate::hosts::{NEVER, Run, host_of, joined, numbers, path, run_of};
+use atspi_app_exported::Kit;
 use atspi_base::{MemSink, MemSource};
-use atspi_exported::Kit;
 use atspi_faces::{Deeds, Grid, PlainText};
 use atspi_live_app::app;
 use std::alloc::Global;
@@ -60,8 +60,8 @@ fn source_of(rt: &impl Abort, alloc: Global, input: &[u8], failing: u64) -> MemS
     MemSource::new(bytes, numbers(rt, alloc, failing))
 }
 
-/// The application does so many rounds with this input and a peer that sends these pieces; the calls with these numbers fail, one of the
-/// source and one of the host.
+/// The application does so many rounds with this input and a peer that sends these pieces; the calls with these numbers
+/// fail, one of the source and one of the host.
 fn run_with(
     rt: &impl Abort,
     alloc: Global,

@@ -3,7 +3,7 @@
 ghost use Rattle.std.specs.Prelude.{◌≡◌, [], Some};
 
 use atspi_base::{MemSink, Text};
-use atspi_host::{Call, Did, Host, MemHost, Peer};
+use atspi_live_host::{Call, Did, Host, MemHost, Peer};
 use std::alloc::Global;
 use std::collections::VecDeque;
 use std::process::Abort;
@@ -11,7 +11,8 @@ use std::process::Abort;
 /// The number of a call that never comes.
 pub const NEVER: u64 = u64::MAX;
 
-/// What a run came to: its status, what was given on the link, what was written, and how many calls of the host were made.
+/// What a run came to: its status, what was given on the link, what was written, and how many calls of the host were
+/// made.
 #[derive(Drop)]
 pub struct Run {
     pub status: u8,

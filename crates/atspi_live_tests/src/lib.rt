@@ -1,4 +1,5 @@
-//! Tests of the live ends and of the live bus over a host in memory, and of the system's sockets as a host, through public calls alone.
+//! Tests of the live ends and of the live bus over a host in memory, and of the system's sockets as a host, through
+//! public calls alone.
 #![tactic(auto)]
 
 #[cfg(test)]

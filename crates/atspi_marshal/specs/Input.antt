@@ -38,8 +38,8 @@ Stands i at s next = (next ≡ at + length s) × (slice_in i at (length s) ≡ s
 abbrev pub aligned : ℕ → ℕ → ℕ
 aligned n at = at + (n - at % n) % n
 
--- The bytes are few enough that the place of a fault, a number of 32 bits, can be told anywhere: with 4294967288 = 2 ^ 32 - 8, what
--- stands eight bytes behind a place in them, or as far as padding reaches, is still below 2 ^ 32.
+-- The bytes are few enough that the place of a fault, a number of 32 bits, can be told anywhere: with 4294967288 = 2 ^
+-- 32 - 8, what stands eight bytes behind a place in them, or as far as padding reaches, is still below 2 ^ 32.
 abbrev pub PlacesFit : List ℕ → Type 0
 PlacesFit bytes = length bytes < 4294967288
 

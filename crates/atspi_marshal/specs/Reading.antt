@@ -1,5 +1,6 @@
 -- Reading from left to right, with the first fault that is met: a plain program on lists.
-use Rattle.std.specs.Prelude.{◌≡◌, ◌≤◌, ℕ, zero, suc, ◌+◌, ◌-◌, min, List, [], ◌∷◌, length, take, drop, Option, Some, None, Result, Ok, Err, Bool, true, false, nat_lt, ◌&&◌, ◌||◌, not, ◌==◌, if◌then◌else◌}
+use Rattle.std.specs.Prelude.{◌≡◌, ◌≤◌, ℕ, zero, suc, ◌+◌, ◌-◌, min, List, [], ◌∷◌, length, take, drop, Option, Some}
+use Rattle.std.specs.Prelude.{None, Result, Ok, Err, Bool, true, false, nat_lt, ◌&&◌, ◌||◌, not, ◌==◌, if◌then◌else◌}
 use Rattle.std.specs.Int.{w32}
 use Rattle.std.specs.Int.{Width, byte_len}
 use Rattle.atspi_base.specs.ReadsText.{text_in}
@@ -7,8 +8,12 @@ use Rattle.atspi_base.specs.declared.text.TextFault.{TextFault}
 use Rattle.atspi_base.specs.declared.text.TextFault.TheVariants.{Zero, Utf8}
 use Rattle.atspi_base.specs.declared.text.TextFault.TheVariants.{NoMemory as TextNoMemory}
 use Rattle.atspi_base.specs.valid_names.Names.{is_path}
-use Rattle.atspi_types.specs.Kinds.{Num, byte, i16, u16, i32, u32, i64, u64, double, width, number_alignment, Kind, number, boolean, text, path, signature, array, structure, variant, dictionary, Kinds, no_kinds, kind, kinds_of, types_in, alignment}
-use Rattle.atspi_types.specs.Data.{Data, number_data, boolean_data, text_data, path_data, signature_data, array_data, structure_data, variant_data, dictionary_data, Items, no_items, item, items_of, Entries, no_entries, entry}
+use Rattle.atspi_types.specs.Kinds.{Num, byte, i16, u16, i32, u32, i64, u64, double, width, number_alignment, Kind}
+use Rattle.atspi_types.specs.Kinds.{number, boolean, text, path, signature, array, structure, variant, dictionary}
+use Rattle.atspi_types.specs.Kinds.{Kinds, no_kinds, kind, kinds_of, types_in, alignment}
+use Rattle.atspi_types.specs.Data.{Data, number_data, boolean_data, text_data, path_data, signature_data, array_data}
+use Rattle.atspi_types.specs.Data.{structure_data, variant_data, dictionary_data, Items, no_items, item, items_of}
+use Rattle.atspi_types.specs.Data.{Entries, no_entries, entry}
 use Rattle.atspi_types.specs.SignatureReading.{signature_in}
 use Rattle.atspi_types.specs.declared.fault.Fault.{Fault}
 use Rattle.atspi_types.specs.declared.fault.ReadFault.{ReadFault}
@@ -71,10 +76,13 @@ abbrev pub Reader : Type 0
 Reader = Kind → Bound → ℕ → Result (Data × ℕ) Fault
 
 unfoldable pub number_at : Input → Num → Bound → ℕ → Result (Data × ℕ) Fault
-number_at i n b at = room_at i (number_alignment n) (byte_len (width n)) b at >>= λ p. Ok (number_data n (number_in i (width n) p), p + byte_len (width n))
+number_at i n b at =
+    room_at i (number_alignment n) (byte_len (width n)) b at >>= λ p. Ok
+    (number_data n (number_in i (width n) p), p + byte_len (width n))
 
 unfoldable pub boolean_at : Input → Bound → ℕ → Result (Data × ℕ) Fault
-boolean_at i b at = room_at i 4 4 b at >>= λ p. if nat_lt 1 (number_in i w32 p) then bad p 11 else Ok (boolean_data (number_in i w32 p == 1), p + 4)
+boolean_at i b at = room_at i 4 4 b at >>= λ p. if nat_lt 1 (number_in i w32 p) then bad p 11
+    else Ok (boolean_data (number_in i w32 p == 1), p + 4)
 
 -- behind some bytes a zero byte ends an item
 abbrev pub ended : Input → ℕ → Data → Result (Data × ℕ) Fault
@@ -91,11 +99,13 @@ unfoldable pub text_body_at : Input → ℕ → Result (Data × ℕ) Fault
 text_body_at i p = text_with i p (number_in i w32 p) (text_in (long_in i p))
 
 unfoldable pub path_body_at : Input → ℕ → Result (Data × ℕ) Fault
-path_body_at i p = if is_path (long_in i p) then ended i (p + 4 + number_in i w32 p) (path_data (long_in i p)) else bad p 15
+path_body_at i p = if is_path (long_in i p) then ended i (p + 4 + number_in i w32 p) (path_data (long_in i p))
+    else bad p 15
 
 -- the place of a length of 32 bits, whose bytes and last zero byte are inside the bound
 unfoldable pub long_place : Input → Bound → ℕ → Result ℕ Fault
-long_place i b at = room_at i 4 4 b at >>= λ p. if nat_lt b.end (p + 5 + number_in i w32 p) then bad p b.reason else Ok p
+long_place i b at = room_at i 4 4 b at >>= λ p. if nat_lt b.end (p + 5 + number_in i w32 p) then bad p b.reason
+    else Ok p
 
 unfoldable pub long_at : (ℕ → Result (Data × ℕ) Fault) → Input → Bound → ℕ → Result (Data × ℕ) Fault
 long_at body i b at = long_place i b at >>= body
@@ -149,7 +159,8 @@ as_array k end ds = Ok (array_data k (items_of ds), end)
 unfoldable pub array_body_at : Reader → Input → Kind → ℕ → Result (Data × ℕ) Fault
 array_body_at below i k p =
     let n = number_in i w32 p in
-    padding_at i (alignment k) (inside k p n) (p + 4) >>= λ s. elements_at (below k (inside k p n)) (inside k p n).end n s >>= as_array k (inside k p n).end
+    padding_at i (alignment k) (inside k p n) (p + 4) >>= λ s. elements_at (below k (inside k p n)) (inside k p n).end n
+    s >>= as_array k (inside k p n).end
 
 -- the place of an array's length, whose elements stand at multiples of n
 unfoldable pub array_place : Input → ℕ → Bound → ℕ → Result ℕ Fault

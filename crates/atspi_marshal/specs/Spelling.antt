@@ -1,13 +1,17 @@
 -- What a value is spelled as at a place, and which values have a spelling (D-Bus Specification, "Marshaling").
-use Rattle.std.specs.Prelude.{◌≡◌, ℕ, zero, suc, ◌+◌, ◌-◌, ◌<◌, ◌≤◌, ◌^◌, Bool, true, List, [], ◌∷◌, ◌++◌, length, encode_utf8_all, if◌then◌else◌}
+use Rattle.std.specs.Prelude.{◌≡◌, ℕ, zero, suc, ◌+◌, ◌-◌, ◌<◌, ◌≤◌, ◌^◌, Bool, true, List, [], ◌∷◌, ◌++◌, length}
+use Rattle.std.specs.Prelude.{encode_utf8_all, if◌then◌else◌}
 use Rattle.std.specs.Int.{w32}
 use Rattle.std.specs.Int.{byte_len}
 use Rattle.std.specs.Str.{all_scalars}
 use Rattle.atspi_base.specs.Text.{HasNoZero}
 use Rattle.atspi_base.specs.valid_names.Names.{IsPath}
-use Rattle.atspi_types.specs.Kinds.{Num, width, number_alignment, Kind, number, boolean, text, path, signature, array, structure, variant, dictionary, Kinds, no_kinds, kind, alignment}
+use Rattle.atspi_types.specs.Kinds.{Num, width, number_alignment, Kind, number, boolean, text, path, signature, array}
+use Rattle.atspi_types.specs.Kinds.{structure, variant, dictionary, Kinds, no_kinds, kind, alignment}
 use Rattle.atspi_types.specs.Signatures.{signature_bytes, IsSignature}
-use Rattle.atspi_types.specs.Data.{Data, number_data, boolean_data, text_data, path_data, signature_data, array_data, structure_data, variant_data, dictionary_data, Items, no_items, item, Entries, no_entries, entry}
+use Rattle.atspi_types.specs.Data.{Data, number_data, boolean_data, text_data, path_data, signature_data, array_data}
+use Rattle.atspi_types.specs.Data.{structure_data, variant_data, dictionary_data, Items, no_items, item, Entries}
+use Rattle.atspi_types.specs.Data.{no_entries, entry}
 use Rattle.atspi_types.specs.declared.fault.Order.{Order}
 use Rattle.atspi_marshal.specs.Input.{number_bytes, aligned}
 
@@ -33,13 +37,15 @@ start_of n at = aligned n (aligned 4 at + 4)
 
 -- an array: the count of its elements' bytes, padding up to the first one, and the elements
 abbrev pub array_spelling : Order → ℕ → ℕ → List ℕ → List ℕ
-array_spelling o at n elements = padding 4 at ++ (number_bytes o w32 (length elements) ++ (padding n (aligned 4 at + 4) ++ elements))
+array_spelling o at n elements = padding 4 at
+    ++ (number_bytes o w32 (length elements) ++ (padding n (aligned 4 at + 4) ++ elements))
 
 -- the signature of a variant has one type
 abbrev pub single : Kind → Kinds
 single k = kind k no_kinds
 
--- A value at a place: zero bytes up to a multiple of its alignment, and its bytes. Inner values stand at their own places.
+-- A value at a place: zero bytes up to a multiple of its alignment, and its bytes. Inner values stand at their own
+-- places.
 abbrev mutual
   pub spelling : Order → ℕ → Data → List ℕ
   spelling o at (number_data n x) = padding (number_alignment n) at ++ number_bytes o (width n) x
@@ -50,7 +56,8 @@ abbrev mutual
   spelling o at (array_data k ds) = array_spelling o at (alignment k) (spellings o (start_of (alignment k) at) ds)
   spelling o at (structure_data ds) = padding 8 at ++ spellings o (aligned 8 at) ds
   spelling o at (dictionary_data k v es) = array_spelling o at 8 (entry_spellings o (start_of 8 at) es)
-  spelling o at (variant_data k d) = counted_short (signature_bytes (single k)) ++ spelling o (at + 2 + length (signature_bytes (single k))) d
+  spelling o at (variant_data k d) = counted_short (signature_bytes (single k))
+      ++ spelling o (at + 2 + length (signature_bytes (single k))) d
 
   -- values one behind the other
   pub spellings : Order → ℕ → Items → List ℕ
@@ -69,19 +76,23 @@ abbrev mutual
 abbrev pub IsShort : List ℕ → Type 0
 IsShort elements = length elements ≤ 67108864
 
--- A value of a kind that has a spelling at a place: with at most so many levels of containers in one another, arrays of at
--- most 64 MiB, and types of variants that are signatures.
+-- A value of a kind that has a spelling at a place: with at most so many levels of containers in one another, arrays of
+-- at most 64 MiB, and types of variants that are signatures.
 abbrev mutual
   pub Fits : Order → ℕ → ℕ → Data → Kind → Type 0
   Fits o levels at (number_data m x) (number n) = (m ≡ n) × (x < 256 ^ byte_len (width n))
   Fits o levels at (boolean_data b) boolean = Unit {0}
-  Fits o levels at (text_data cs) text = (all_scalars cs ≡ true) × HasNoZero (encode_utf8_all cs) × (length (encode_utf8_all cs) < 2 ^ 32)
+  Fits o levels at (text_data cs) text = (all_scalars cs ≡ true) × HasNoZero (encode_utf8_all cs)
+      × (length (encode_utf8_all cs) < 2 ^ 32)
   Fits o levels at (path_data bytes) path = IsPath bytes × (length bytes < 2 ^ 32)
   Fits o levels at (signature_data ks) signature = IsSignature ks
-  Fits o (suc levels) at (array_data j ds) (array k) = (j ≡ k) × IsShort (spellings o (start_of (alignment k) at) ds) × AllFit o levels (start_of (alignment k) at) ds k
+  Fits o (suc levels) at (array_data j ds) (array k) = (j ≡ k) × IsShort (spellings o (start_of (alignment k) at) ds)
+      × AllFit o levels (start_of (alignment k) at) ds k
   Fits o (suc levels) at (structure_data ds) (structure ks) = FieldsFit o levels (aligned 8 at) ds ks
-  Fits o (suc levels) at (dictionary_data j w es) (dictionary k v) = (j ≡ k) × (w ≡ v) × IsShort (entry_spellings o (start_of 8 at) es) × EntriesFit o levels (start_of 8 at) es k v
-  Fits o (suc levels) at (variant_data k d) variant = IsSignature (single k) × Fits o levels (at + 2 + length (signature_bytes (single k))) d k
+  Fits o (suc levels) at (dictionary_data j w es) (dictionary k v) = (j ≡ k) × (w ≡ v)
+      × IsShort (entry_spellings o (start_of 8 at) es) × EntriesFit o levels (start_of 8 at) es k v
+  Fits o (suc levels) at (variant_data k d) variant = IsSignature (single k)
+      × Fits o levels (at + 2 + length (signature_bytes (single k))) d k
   Fits o levels at d k = ⊥
 
   -- elements of a kind
@@ -92,7 +103,8 @@ abbrev mutual
   -- fields of some kinds
   pub FieldsFit : Order → ℕ → ℕ → Items → Kinds → Type 0
   FieldsFit o levels at no_items no_kinds = Unit {0}
-  FieldsFit o levels at (item d ds) (kind k ks) = Fits o levels at d k × FieldsFit o levels (at + length (spelling o at d)) ds ks
+  FieldsFit o levels at (item d ds) (kind k ks) = Fits o levels at d k
+      × FieldsFit o levels (at + length (spelling o at d)) ds ks
   FieldsFit o levels at no_items (kind k ks) = ⊥
   FieldsFit o levels at (item d ds) no_kinds = ⊥
 
@@ -102,7 +114,8 @@ abbrev mutual
   EntriesFit o zero at (entry c d es) k v = ⊥
   EntriesFit o (suc levels) at (entry c d es) k v =
       let value_at = aligned 8 at + length (spelling o (aligned 8 at) c) in
-      Fits o levels (aligned 8 at) c k × Fits o levels value_at d v × EntriesFit o (suc levels) (value_at + length (spelling o value_at d)) es k v
+      Fits o levels (aligned 8 at) c k × Fits o levels value_at d v
+      × EntriesFit o (suc levels) (value_at + length (spelling o value_at d)) es k v
 
 -- these bytes spell the value at the place
 pub record Spelled (o : Order) (levels at : ℕ) (k : Kind) (d : Data) (bytes : List ℕ) : Type 0 where

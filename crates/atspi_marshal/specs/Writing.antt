@@ -19,7 +19,8 @@ pub record IsWritten (P : Type 0) (bytes : List ℕ) (at : ℕ) (old new : List 
   pub place : next ≡ at + length bytes
   pub within : next ≤ 134217728
 
--- an answer of writing bytes at a place, where P says that they may be written: they were, or they may not or pass the end
+-- an answer of writing bytes at a place, where P says that they may be written: they were, or they may not or pass the
+-- end
 abbrev pub Writes : Type 0 → List ℕ → ℕ → List ℕ → List ℕ → Result ℕ WriteFault → Type 0
 Writes P bytes at old new (Ok next) = IsWritten P bytes at old new next
 Writes P bytes at old new (Err faults.Big) = P → 134217728 < at + length bytes

@@ -1,6 +1,7 @@
 //! Items that hold others: arrays, structs, dictionaries and variants.
 
-ghost use Rattle.std.specs.Prelude.{◌≡◌, ◌<◌, ◌≤◌, ◌+◌, ◌-◌, ◌==◌, length, map, true, [], ◌∷◌, IfOk, IfErr, IfSome, is_some};
+ghost use Rattle.std.specs.Prelude.{◌≡◌, ◌<◌, ◌≤◌, ◌+◌, ◌-◌, ◌==◌, length, map, true, [], ◌∷◌, IfOk, IfErr, IfSome};
+ghost use Rattle.std.specs.Prelude.{is_some};
 ghost use Rattle.std.specs.Int.{w32};
 ghost use Rattle.atspi_types.specs.Kinds.{structure, kinds_of, alignment, byte};
 ghost use Rattle.atspi_types.specs.KindView.{kind_of, kinds_in};
@@ -8,7 +9,10 @@ ghost use Rattle.atspi_types.specs.DataView.{data_of, all_data, all_pairs};
 ghost use Rattle.atspi_types.specs.Data.{number_data, variant_data};
 ghost use Rattle.atspi_marshal.specs.Input.{number_in, byte_in, slice_in, aligned, ReachTo};
 ghost use Rattle.atspi_marshal.specs.Faults.{entry_kind};
-ghost use Rattle.atspi_marshal.specs.Reading.{input_of, Gives, Fails, dictionary_body_at, read, single_at, array_place, array_body_at, array_at, dictionary_at, structure_at, variant_body_at, inner_at, elements_at, fields_at, short_at, deep_at, first_of, is_byte, is_structure, struct_of, structs_in};
+ghost use Rattle.atspi_marshal.specs.Reading.{input_of, Gives, Fails, dictionary_body_at, read, single_at, array_place};
+ghost use Rattle.atspi_marshal.specs.Reading.{array_body_at, array_at, dictionary_at, structure_at, variant_body_at};
+ghost use Rattle.atspi_marshal.specs.Reading.{inner_at, elements_at, fields_at, short_at, deep_at, first_of, is_byte};
+ghost use Rattle.atspi_marshal.specs.Reading.{is_structure, struct_of, structs_in};
 
 use crate::codes::plain_type;
 use crate::input::{Bound, Marshalled, bad, byte_at, slice, u32_at};
@@ -33,7 +37,8 @@ fn array_front(
     requires at { at ≤ bound.end }
     requires end { ReachTo input.now bound.end }
     ensures place { Gives (λ p. p) result (array_place (input_of input.now) align bound at) }
-    ensures within { IfOk result (λ p. (at ≤ p) × (aligned align (p + 4) + number_in (input_of input.now) w32 p ≤ bound.end)) }
+    ensures within { IfOk result
+        (λ p. (at ≤ p) × (aligned align (p + 4) + number_in (input_of input.now) w32 p ≤ bound.end)) }
 {
     let place = room(input, 4, 4, bound, at)?;
     let len = u32_at(input, place) as usize;
@@ -63,7 +68,9 @@ fn bytes(
     start: usize,
 ) -> Result<Values, ReadFault>
     requires { (start ≤ inside.end) × (inside.end ≤ length input.now.bytes.now) }
-    ensures ok { IfOk result (λ values. all_data values ≡ map (number_data byte) (slice_in (input_of input.now) start (inside.end - start))) }
+    ensures ok { IfOk result
+        (λ values. all_data values
+        ≡ map (number_data byte) (slice_in (input_of input.now) start (inside.end - start))) }
     ensures err { IfErr result (λ e. e ≡ ReadFault.NoMemory) }
 {
     let slice = slice(input, start, inside.end - start);
@@ -143,7 +150,9 @@ fn single(
 ) -> Result<(Value, usize), ReadFault>
     requires at { at ≤ bound.end }
     requires end { ReachTo input.now bound.end }
-    ensures read { Gives (λ x. (data_of x.0, x.1)) result (single_at (levels == 0) (read (input_of input.now) (levels - 1)) (input_of input.now) (kind_of ty.now) bound at) }
+    ensures read { Gives (λ x. (data_of x.0, x.1)) result
+        (single_at (levels == 0) (read (input_of input.now) (levels - 1)) (input_of input.now) (kind_of ty.now) bound
+        at) }
     ensures within { IfOk result (λ x. (at ≤ x.1) × (x.1 ≤ bound.end)) }
 {
     match ty {
@@ -179,7 +188,9 @@ fn array(
 ) -> Result<(Value, usize), ReadFault>
     requires at { at ≤ bound.end }
     requires end { ReachTo input.now bound.end }
-    ensures read { Gives (λ x. (data_of x.0, x.1)) result (array_at (levels == 0) (read (input_of input.now) (levels - 1)) (input_of input.now) (kind_of element.now) bound at) }
+    ensures read { Gives (λ x. (data_of x.0, x.1)) result
+        (array_at (levels == 0) (read (input_of input.now) (levels - 1)) (input_of input.now) (kind_of element.now)
+        bound at) }
     ensures within { IfOk result (λ x. (at ≤ x.1) × (x.1 ≤ bound.end)) }
 {
     let place = array_front(input, element.alignment(), bound, at)?;
@@ -199,9 +210,12 @@ fn array_body(
     element: &Ty,
     place: usize,
 ) -> Result<(Value, usize), ReadFault>
-    requires { ReachTo input.now (aligned (alignment (kind_of element.now)) (place + 4) + number_in (input_of input.now) w32 place) }
-    ensures read { Gives (λ x. (data_of x.0, x.1)) result (array_body_at (read (input_of input.now) levels) (input_of input.now) (kind_of element.now) place) }
-    ensures within { IfOk result (λ x. x.1 ≡ aligned (alignment (kind_of element.now)) (place + 4) + number_in (input_of input.now) w32 place) }
+    requires { ReachTo input.now
+        (aligned (alignment (kind_of element.now)) (place + 4) + number_in (input_of input.now) w32 place) }
+    ensures read { Gives (λ x. (data_of x.0, x.1)) result
+        (array_body_at (read (input_of input.now) levels) (input_of input.now) (kind_of element.now) place) }
+    ensures within { IfOk result
+        (λ x. x.1 ≡ aligned (alignment (kind_of element.now)) (place + 4) + number_in (input_of input.now) w32 place) }
 {
     let len = u32_at(input, place) as usize;
     let align = element.alignment();
@@ -228,7 +242,8 @@ fn items_of(
 ) -> Result<Values, ReadFault>
     requires at { (start ≤ inside.end) × (inside.end ≤ start + len) }
     requires end { ReachTo input.now inside.end }
-    ensures read { Gives all_data result (elements_at (read (input_of input.now) levels (kind_of element.now) inside) inside.end len start) }
+    ensures read { Gives all_data result
+        (elements_at (read (input_of input.now) levels (kind_of element.now) inside) inside.end len start) }
 {
     if is_byte(element) {
         return bytes(alloc, input, inside, start);
@@ -249,7 +264,8 @@ fn elements(
 ) -> Result<Values, ReadFault>
     requires at { start ≤ inside.end }
     requires end { ReachTo input.now inside.end }
-    ensures read { Gives all_data result (elements_at (read (input_of input.now) levels (kind_of element.now) inside) inside.end len start) }
+    ensures read { Gives all_data result
+        (elements_at (read (input_of input.now) levels (kind_of element.now) inside) inside.end len start) }
 {
     let mut items = Values::new(alloc);
     let mut at = start;
@@ -278,7 +294,9 @@ fn dictionary(
 ) -> Result<(Value, usize), ReadFault>
     requires at { at ≤ bound.end }
     requires end { ReachTo input.now bound.end }
-    ensures read { Gives (λ x. (data_of x.0, x.1)) result (dictionary_at (levels == 0) (read (input_of input.now) (levels - 1)) (input_of input.now) (kind_of key.now) (kind_of value.now) bound at) }
+    ensures read { Gives (λ x. (data_of x.0, x.1)) result
+        (dictionary_at (levels == 0) (read (input_of input.now) (levels - 1)) (input_of input.now) (kind_of key.now)
+        (kind_of value.now) bound at) }
     ensures within { IfOk result (λ x. (at ≤ x.1) × (x.1 ≤ bound.end)) }
 {
     let place = array_front(input, 8, bound, at)?;
@@ -300,7 +318,9 @@ fn dictionary_body(
     place: usize,
 ) -> Result<(Value, usize), ReadFault>
     requires { ReachTo input.now (aligned 8 (place + 4) + number_in (input_of input.now) w32 place) }
-    ensures read { Gives (λ x. (data_of x.0, x.1)) result (dictionary_body_at (read (input_of input.now) levels) (input_of input.now) (kind_of key.now) (kind_of value.now) place) }
+    ensures read { Gives (λ x. (data_of x.0, x.1)) result
+        (dictionary_body_at (read (input_of input.now) levels) (input_of input.now) (kind_of key.now)
+        (kind_of value.now) place) }
     ensures within { IfOk result (λ x. x.1 ≡ aligned 8 (place + 4) + number_in (input_of input.now) w32 place) }
 {
     let len = u32_at(input, place) as usize;
@@ -329,7 +349,8 @@ fn entries(
     requires at { start ≤ inside.end }
     requires end { ReachTo input.now inside.end }
     ensures read { Gives (λ ps. structs_in (all_pairs ps)) result
-        (elements_at (read (input_of input.now) levels (entry_kind (kind_of key.now) (kind_of value.now)) inside) inside.end len start) }
+        (elements_at (read (input_of input.now) levels (entry_kind (kind_of key.now) (kind_of value.now)) inside)
+        inside.end len start) }
 {
     let mut pairs = Pairs::new(alloc);
     let mut at = start;
@@ -379,7 +400,8 @@ fn pair(
     requires at { at ≤ bound.end }
     requires end { ReachTo input.now bound.end }
     ensures read { Gives (λ x. (struct_of (data_of x.0) (data_of x.1), x.2)) result
-        (structure_at (levels == 0) (read (input_of input.now) (levels - 1)) (input_of input.now) (kind_of key.now ∷ kind_of value_type.now ∷ []) bound at) }
+        (structure_at (levels == 0) (read (input_of input.now) (levels - 1)) (input_of input.now)
+        (kind_of key.now ∷ kind_of value_type.now ∷ []) bound at) }
     ensures within { IfOk result (λ x. (at ≤ x.2) × (x.2 ≤ bound.end)) }
 {
     let place = padding(input, 8, bound, at)?;
@@ -409,7 +431,9 @@ fn structure(
 ) -> Result<(Value, usize), ReadFault>
     requires at { at ≤ bound.end }
     requires end { ReachTo input.now bound.end }
-    ensures read { Gives (λ x. (data_of x.0, x.1)) result (structure_at (levels == 0) (read (input_of input.now) (levels - 1)) (input_of input.now) (map kind_of fields.now) bound at) }
+    ensures read { Gives (λ x. (data_of x.0, x.1)) result
+        (structure_at (levels == 0) (read (input_of input.now) (levels - 1)) (input_of input.now)
+        (map kind_of fields.now) bound at) }
     ensures within { IfOk result (λ x. (at ≤ x.1) × (x.1 ≤ bound.end)) }
 {
     let place = padding(input, 8, bound, at)?;
@@ -423,12 +447,15 @@ fn structure(
     Ok((Value::Struct(items), end))
 }
 
-/// Why a struct at a place is refused that is too deep: what its first inner item tells there for a lesser reason, or the depth.
+/// Why a struct at a place is refused that is too deep: what its first inner item tells there for a lesser reason, or
+/// the depth.
 #[cycle(read)]
 fn too_deep(alloc: Global, input: &Marshalled, first: &Ty, bound: Bound, place: usize) -> ReadFault
     requires at { place ≤ bound.end }
     requires end { ReachTo input.now bound.end }
-    ensures { Fails result (deep_at place (single_at true (read (input_of input.now) 0) (input_of input.now) (kind_of first.now) bound place)) }
+    ensures { Fails result
+        (deep_at place
+        (single_at true (read (input_of input.now) 0) (input_of input.now) (kind_of first.now) bound place)) }
 {
     match single(alloc, input, 0, first, bound, place) {
         Err(ReadFault::NoMemory) => ReadFault::NoMemory,
@@ -457,7 +484,8 @@ pub fn fields_of(
 ) -> Result<(Values, usize), ReadFault>
     requires at { start ≤ bound.end }
     requires end { ReachTo input.now bound.end }
-    ensures read { Gives (λ x. (all_data x.0, x.1)) result (fields_at (λ k q. read (input_of input.now) levels k bound q) (map kind_of fields.now) start) }
+    ensures read { Gives (λ x. (all_data x.0, x.1)) result
+        (fields_at (λ k q. read (input_of input.now) levels k bound q) (map kind_of fields.now) start) }
     ensures within { IfOk result (λ x. (start ≤ x.1) × (x.1 ≤ bound.end)) }
 {
     let mut items = Vec::with_capacity(alloc, fields.len())?;
@@ -482,7 +510,9 @@ fn variant(
 ) -> Result<(Value, usize), ReadFault>
     requires at { at ≤ bound.end }
     requires end { ReachTo input.now bound.end }
-    ensures read { Gives (λ x. (data_of x.0, x.1)) result (short_at (variant_body_at (levels == 0) (read (input_of input.now) (levels - 1)) (input_of input.now) bound) (input_of input.now) bound at) }
+    ensures read { Gives (λ x. (data_of x.0, x.1)) result
+        (short_at (variant_body_at (levels == 0) (read (input_of input.now) (levels - 1)) (input_of input.now) bound)
+        (input_of input.now) bound at) }
     ensures within { IfOk result (λ x. (at ≤ x.1) × (x.1 ≤ bound.end)) }
 {
     let place = short(input, bound, at)?;
@@ -501,7 +531,8 @@ fn variant_body(
 ) -> Result<(Value, usize), ReadFault>
     requires at { place + 2 + byte_in (input_of input.now) place ≤ bound.end }
     requires end { ReachTo input.now bound.end }
-    ensures read { Gives (λ x. (data_of x.0, x.1)) result (variant_body_at (levels == 0) (read (input_of input.now) (levels - 1)) (input_of input.now) bound place) }
+    ensures read { Gives (λ x. (data_of x.0, x.1)) result
+        (variant_body_at (levels == 0) (read (input_of input.now) (levels - 1)) (input_of input.now) bound place) }
     ensures within { IfOk result (λ x. (place ≤ x.1) × (x.1 ≤ bound.end)) }
 {
     if let Some(ty) = plain_type(input, place) {
@@ -534,7 +565,9 @@ fn inner(
 ) -> Result<(Value, usize), ReadFault>
     requires at { place + 2 + byte_in (input_of input.now) place ≤ bound.end }
     requires end { ReachTo input.now bound.end }
-    ensures read { Gives (λ x. (data_of x.0, x.1)) result (inner_at (levels == 0) (read (input_of input.now) (levels - 1)) (input_of input.now) bound place (kind_of ty)) }
+    ensures read { Gives (λ x. (data_of x.0, x.1)) result
+        (inner_at (levels == 0) (read (input_of input.now) (levels - 1)) (input_of input.now) bound place
+        (kind_of ty)) }
     ensures within { IfOk result (λ x. (place ≤ x.1) × (x.1 ≤ bound.end)) }
 {
     match inner_item(alloc, input, levels, &ty, bound, place) {
@@ -559,7 +592,9 @@ fn inner_item(
 ) -> Result<(Box<Value>, usize), ReadFault>
     requires at { place + 2 + byte_in (input_of input.now) place ≤ bound.end }
     requires end { ReachTo input.now bound.end }
-    ensures read { Gives (λ x. (variant_data (kind_of ty.now) (data_of x.0.value), x.1)) result (inner_at (levels == 0) (read (input_of input.now) (levels - 1)) (input_of input.now) bound place (kind_of ty.now)) }
+    ensures read { Gives (λ x. (variant_data (kind_of ty.now) (data_of x.0.value), x.1)) result
+        (inner_at (levels == 0) (read (input_of input.now) (levels - 1)) (input_of input.now) bound place
+        (kind_of ty.now)) }
     ensures within { IfOk result (λ x. (place ≤ x.1) × (x.1 ≤ bound.end)) }
 {
     let len = byte_at(input, place) as usize;

@@ -14,8 +14,8 @@ use crate::input::{Bound, Marshalled};
 use atspi_types::{Order, ReadFault, Ty, Value};
 use std::alloc::Global;
 
-/// The value of the type that is spelled at a place, and the place behind it (D-Bus Specification, "Marshaling"). `Bad` tells
-/// the first of the faults, by place and then by reason, of the reasons 2 to 20.
+/// The value of the type that is spelled at a place, and the place behind it (D-Bus Specification, "Marshaling"). `Bad`
+/// tells the first of the faults, by place and then by reason, of the reasons 2 to 20.
 pub fn decode(
     alloc: Global,
     order: Order,
@@ -26,13 +26,17 @@ pub fn decode(
     requires lawful { IsLawful (kind_of ty.now) }
     requires limits { (at ≤ length bytes.now) × (length bytes.now ≤ 134217728) }
     // What is read is spelled so.
-    ensures found { IfOk result (λ x. IsItem (whole order bytes.now) 64 (kind_of ty.now) (to_end bytes.now) at x.1 (data_of x.0)) }
+    ensures found { IfOk result
+        (λ x. IsItem (whole order bytes.now) 64 (kind_of ty.now) (to_end bytes.now) at x.1 (data_of x.0)) }
     // What is spelled so is read, unless memory runs out.
-    ensures only { (item : Data) (next : ℕ) → IsItem (whole order bytes.now) 64 (kind_of ty.now) (to_end bytes.now) at next item
+    ensures only { (item : Data) (next : ℕ)
+        → IsItem (whole order bytes.now) 64 (kind_of ty.now) (to_end bytes.now) at next item
         → MatchResult result (λ x. (data_of x.0 ≡ item) × (x.1 ≡ next)) (λ e. e ≡ ReadFault.NoMemory) }
     // Of all that is wrong the least is told, unless memory runs out.
-    ensures first { TellsFault result (λ place reason. FaultAt (whole order bytes.now) 64 (kind_of ty.now) (to_end bytes.now) at place reason) }
-    ensures refused { (place reason : ℕ) → Wrong (whole order bytes.now) 64 (kind_of ty.now) (to_end bytes.now) at place reason → IsErr result }
+    ensures first { TellsFault result
+        (λ place reason. FaultAt (whole order bytes.now) 64 (kind_of ty.now) (to_end bytes.now) at place reason) }
+    ensures refused { (place reason : ℕ)
+        → Wrong (whole order bytes.now) 64 (kind_of ty.now) (to_end bytes.now) at place reason → IsErr result }
 {
     decode_value(alloc, order, bytes, at, ty)
 }

@@ -7,8 +7,8 @@ pub fn no_front_of_another()
     ensures { NoFrontOfAnother }
 {}
 
-/// Decoding what encoding appended gives the value back, and the place behind it, whatever stands before and behind: by this
-/// law and what `decode` ensures of what is spelled.
+/// Decoding what encoding appended gives the value back, and the place behind it, whatever stands before and behind: by
+/// this law and what `decode` ensures of what is spelled.
 pub fn is_read_again()
     ensures { IsReadAgain }
 {}

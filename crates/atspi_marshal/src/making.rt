@@ -39,7 +39,8 @@ fn copied_types(alloc: Global, key: &Ty, value: &Ty) -> Result<(Ty, Ty), NoMemor
 
 /// The dictionary of the entries.
 pub fn dictionary_of(alloc: Global, key: &Ty, value: &Ty, pairs: Pairs) -> Result<Value, NoMemory>
-    ensures { IfOk result (λ made. data_of made ≡ dictionary_data (kind_of key.now) (kind_of value.now) (entries_of (all_pairs pairs))) }
+    ensures { IfOk result
+        (λ made. data_of made ≡ dictionary_data (kind_of key.now) (kind_of value.now) (entries_of (all_pairs pairs))) }
 {
     match copied_types(alloc, key, value) {
         Ok((key_type, value_type)) => Ok(Value::Dict(key_type, value_type, pairs)),

@@ -5,7 +5,8 @@ ghost use Rattle.std.specs.Int.{w16, w32, w64};
 ghost use Rattle.atspi_types.specs.Kinds.{byte, i16, u16, i32, u32, i64, u64, double};
 ghost use Rattle.atspi_types.specs.DataView.{data_of};
 ghost use Rattle.atspi_marshal.specs.Input.{Input, number_in, aligned, ReachTo};
-ghost use Rattle.atspi_marshal.specs.Reading.{input_of, Gives, zeros_in_front, passing_reason, padding_at, room_at, number_at, boolean_at};
+ghost use Rattle.atspi_marshal.specs.Reading.{input_of, Gives, zeros_in_front, passing_reason, padding_at, room_at};
+ghost use Rattle.atspi_marshal.specs.Reading.{number_at, boolean_at};
 
 use crate::input::{
     Bound, Marshalled, bad, byte_at, i16_at, i32_at, i64_at, u16_at, u32_at, u64_at,

@@ -7,7 +7,8 @@ ghost use Rattle.atspi_types.specs.SignatureView.{signature_types};
 ghost use Rattle.atspi_types.specs.SignatureReading.{signature_in};
 ghost use Rattle.atspi_marshal.specs.Faults.{short_in};
 ghost use Rattle.atspi_marshal.specs.Input.{number_in, byte_in, ReachTo};
-ghost use Rattle.atspi_marshal.specs.Reading.{input_of, Gives, FaultsBy, long_place, short_place, long_at, short_at, text_body_at, path_body_at, signature_body_at};
+ghost use Rattle.atspi_marshal.specs.Reading.{input_of, Gives, FaultsBy, long_place, short_place, long_at, short_at};
+ghost use Rattle.atspi_marshal.specs.Reading.{text_body_at, path_body_at, signature_body_at};
 
 use crate::input::{Bound, Marshalled, bad, byte_at, slice, u32_at};
 use crate::plain::room;
@@ -81,7 +82,8 @@ pub fn text_value(
 ) -> Result<(Value, usize), ReadFault>
     requires at { at ≤ bound.end }
     requires end { ReachTo input.now bound.end }
-    ensures read { Gives (λ x. (data_of x.0, x.1)) result (long_at (text_body_at (input_of input.now)) (input_of input.now) bound at) }
+    ensures read { Gives (λ x. (data_of x.0, x.1)) result
+        (long_at (text_body_at (input_of input.now)) (input_of input.now) bound at) }
     ensures within { IfOk result (λ x. (at < x.1) × (x.1 ≤ bound.end)) }
 {
     let place = long(input, bound, at)?;
@@ -120,7 +122,8 @@ pub fn path_value(
 ) -> Result<(Value, usize), ReadFault>
     requires at { at ≤ bound.end }
     requires end { ReachTo input.now bound.end }
-    ensures read { Gives (λ x. (data_of x.0, x.1)) result (long_at (path_body_at (input_of input.now)) (input_of input.now) bound at) }
+    ensures read { Gives (λ x. (data_of x.0, x.1)) result
+        (long_at (path_body_at (input_of input.now)) (input_of input.now) bound at) }
     ensures within { IfOk result (λ x. (at < x.1) × (x.1 ≤ bound.end)) }
 {
     let place = long(input, bound, at)?;
@@ -172,7 +175,8 @@ pub fn signature_value(
 ) -> Result<(Value, usize), ReadFault>
     requires at { at ≤ bound.end }
     requires end { ReachTo input.now bound.end }
-    ensures read { Gives (λ x. (data_of x.0, x.1)) result (short_at (signature_body_at (input_of input.now)) (input_of input.now) bound at) }
+    ensures read { Gives (λ x. (data_of x.0, x.1)) result
+        (short_at (signature_body_at (input_of input.now)) (input_of input.now) bound at) }
     ensures within { IfOk result (λ x. (at < x.1) × (x.1 ≤ bound.end)) }
 {
     let place = short(input, bound, at)?;

@@ -2,7 +2,9 @@
 
 ghost use Rattle.std.specs.Prelude.{◌≡◌, ◌≤◌, ◌++◌, length, take, OnOk, OnErr, IsErrOf};
 ghost use Rattle.atspi_types.specs.KindView.{kind_of};
-ghost use Rattle.atspi_types.specs.Data.{items_of, entries_of, type_of, types_of, array_data, structure_data, dictionary_data, variant_data, text_data, path_data, IsWellTyped, AreWellTyped};
+ghost use Rattle.atspi_types.specs.Data.{items_of, entries_of, type_of, types_of, array_data, structure_data};
+ghost use Rattle.atspi_types.specs.Data.{dictionary_data, variant_data, text_data, path_data, IsWellTyped};
+ghost use Rattle.atspi_types.specs.Data.{AreWellTyped};
 ghost use Rattle.atspi_types.specs.DataView.{data_of, all_data, all_pairs};
 ghost use Rattle.atspi_types.specs.Borrowed.{ref_data};
 ghost use Rattle.atspi_marshal.specs.Spelling.{spelling, spellings, Fits, FieldsFit};
@@ -25,9 +27,10 @@ use plain::{
 /// The levels of containers in one another, at most.
 const LEVELS: u8 = 64;
 
-/// Appends the spelling of a value at a place (D-Bus Specification, "Marshaling"), where places count from the first byte of
-/// the message. `Big` where an array passes 67,108,864 bytes, the end of the value passes 134,217,728, containers stand more
-/// than 64 deep in one another, or the type of a variant passes the limits of a signature. After a refusal `out` is as before.
+/// Appends the spelling of a value at a place (D-Bus Specification, "Marshaling"), where places count from the first
+/// byte of the message. `Big` where an array passes 67,108,864 bytes, the end of the value passes 134,217,728,
+/// containers stand more than 64 deep in one another, or the type of a variant passes the limits of a signature. After
+/// a refusal `out` is as before.
 pub fn encode(order: Order, at: u32, value: &Value, out: &mut Bytes) -> Result<(), WriteFault>
     requires place { at ≤ 134217728 }
     requires typed { IsWellTyped (data_of value.now) }
@@ -59,7 +62,8 @@ fn level_below(levels: u8) -> Result<u8, WriteFault>
 /// A text.
 fn put_text(order: Order, at: usize, text: &Text, out: &mut Bytes) -> Result<usize, WriteFault>
     requires { at ≤ 134217728 }
-    ensures writes { Writes (Fits order 0 at (text_data text.now) (type_of (text_data text.now))) (spelling order at (text_data text.now)) at out.old out.new result }
+    ensures writes { Writes (Fits order 0 at (text_data text.now) (type_of (text_data text.now)))
+        (spelling order at (text_data text.now)) at out.old out.new result }
     ensures front { take (length out.old) out.new ≡ out.old }
 {
     put_counted(order, at, text.as_str().as_bytes(), out)
@@ -68,7 +72,8 @@ fn put_text(order: Order, at: usize, text: &Text, out: &mut Bytes) -> Result<usi
 /// A path.
 fn put_path(order: Order, at: usize, path: &Path, out: &mut Bytes) -> Result<usize, WriteFault>
     requires { at ≤ 134217728 }
-    ensures writes { Writes (Fits order 0 at (path_data path.now) (type_of (path_data path.now))) (spelling order at (path_data path.now)) at out.old out.new result }
+    ensures writes { Writes (Fits order 0 at (path_data path.now) (type_of (path_data path.now)))
+        (spelling order at (path_data path.now)) at out.old out.new result }
     ensures front { take (length out.old) out.new ≡ out.old }
 {
     put_counted(order, at, path.as_str().as_bytes(), out)
@@ -85,7 +90,8 @@ fn put(
 ) -> Result<usize, WriteFault>
     requires place { at ≤ 134217728 }
     requires typed { IsWellTyped (ref_data value) }
-    ensures writes { let d = ref_data value.entry in Writes (Fits order levels at d (type_of d)) (spelling order at d) at out.old out.new result }
+    ensures writes { let d = ref_data value.entry in
+        Writes (Fits order levels at d (type_of d)) (spelling order at d) at out.old out.new result }
     ensures front { take (length out.old) out.new ≡ out.old }
 {
     match value {
@@ -122,7 +128,8 @@ fn put_array(
 ) -> Result<usize, WriteFault>
     requires place { at ≤ 134217728 }
     requires typed { IsWellTyped (array_data (kind_of element.now) (items_of (all_data values.now))) }
-    ensures writes { let d = array_data (kind_of element.now) (items_of (all_data values.now)) in Writes (Fits order levels at d (type_of d)) (spelling order at d) at out.old out.new result }
+    ensures writes { let d = array_data (kind_of element.now) (items_of (all_data values.now)) in
+        Writes (Fits order levels at d (type_of d)) (spelling order at d) at out.old out.new result }
     ensures front { take (length out.old) out.new ≡ out.old }
 {
     let inner = level_below(levels)?;
@@ -145,8 +152,10 @@ fn put_dictionary(
     out: &mut Bytes,
 ) -> Result<usize, WriteFault>
     requires place { at ≤ 134217728 }
-    requires typed { IsWellTyped (dictionary_data (kind_of key.now) (kind_of value.now) (entries_of (all_pairs pairs.now))) }
-    ensures writes { let d = dictionary_data (kind_of key.now) (kind_of value.now) (entries_of (all_pairs pairs.now)) in Writes (Fits order levels at d (type_of d)) (spelling order at d) at out.old out.new result }
+    requires typed { IsWellTyped
+        (dictionary_data (kind_of key.now) (kind_of value.now) (entries_of (all_pairs pairs.now))) }
+    ensures writes { let d = dictionary_data (kind_of key.now) (kind_of value.now) (entries_of (all_pairs pairs.now)) in
+        Writes (Fits order levels at d (type_of d)) (spelling order at d) at out.old out.new result }
     ensures front { take (length out.old) out.new ≡ out.old }
 {
     let inner = level_below(levels)?;
@@ -168,7 +177,8 @@ fn put_struct(
 ) -> Result<usize, WriteFault>
     requires place { at ≤ 134217728 }
     requires typed { IsWellTyped (structure_data (items_of (all_data fields.now))) }
-    ensures writes { let d = structure_data (items_of (all_data fields.now)) in Writes (Fits order levels at d (type_of d)) (spelling order at d) at out.old out.new result }
+    ensures writes { let d = structure_data (items_of (all_data fields.now)) in
+        Writes (Fits order levels at d (type_of d)) (spelling order at d) at out.old out.new result }
     ensures front { take (length out.old) out.new ≡ out.old }
 {
     let inner = level_below(levels)?;
@@ -188,7 +198,8 @@ fn put_variant(
 ) -> Result<usize, WriteFault>
     requires place { at ≤ 134217728 }
     requires typed { IsWellTyped (variant_data (kind_of ty.now) (data_of value.now)) }
-    ensures writes { let d = variant_data (kind_of ty.now) (data_of value.now) in Writes (Fits order levels at d (type_of d)) (spelling order at d) at out.old out.new result }
+    ensures writes { let d = variant_data (kind_of ty.now) (data_of value.now) in
+        Writes (Fits order levels at d (type_of d)) (spelling order at d) at out.old out.new result }
     ensures front { take (length out.old) out.new ≡ out.old }
 {
     let inner = level_below(levels)?;
@@ -207,7 +218,8 @@ fn put_elements(
 ) -> Result<usize, WriteFault>
     requires place { at ≤ 134217728 }
     requires typed { AreWellTyped (items_of (all_data values.now)) }
-    ensures writes { let ds = items_of (all_data values.now) in Writes (FieldsFit order levels at ds (types_of ds)) (spellings order at ds) at out.old out.new result }
+    ensures writes { let ds = items_of (all_data values.now) in
+        Writes (FieldsFit order levels at ds (types_of ds)) (spellings order at ds) at out.old out.new result }
     ensures front { take (length out.old) out.new ≡ out.old }
 {
     match values.run() {
@@ -227,7 +239,8 @@ fn put_values(
 ) -> Result<usize, WriteFault>
     requires place { at ≤ 134217728 }
     requires typed { AreWellTyped (items_of (all_data values.now)) }
-    ensures writes { let ds = items_of (all_data values.now) in Writes (FieldsFit order levels at ds (types_of ds)) (spellings order at ds) at out.old out.new result }
+    ensures writes { let ds = items_of (all_data values.now) in
+        Writes (FieldsFit order levels at ds (types_of ds)) (spellings order at ds) at out.old out.new result }
     ensures front { take (length out.old) out.new ≡ out.old }
 {
     let mut next = at;
@@ -248,7 +261,8 @@ fn put_pairs(
 ) -> Result<usize, WriteFault>
     requires place { at ≤ 134217728 }
     requires typed { AreWellTyped (items_of (structs_in (all_pairs pairs.now))) }
-    ensures writes { let ds = items_of (structs_in (all_pairs pairs.now)) in Writes (FieldsFit order levels at ds (types_of ds)) (spellings order at ds) at out.old out.new result }
+    ensures writes { let ds = items_of (structs_in (all_pairs pairs.now)) in
+        Writes (FieldsFit order levels at ds (types_of ds)) (spellings order at ds) at out.old out.new result }
     ensures front { take (length out.old) out.new ≡ out.old }
 {
     let mut next = at;
@@ -270,7 +284,8 @@ fn put_entry(
 ) -> Result<usize, WriteFault>
     requires place { at ≤ 134217728 }
     requires typed { IsWellTyped (data_of key.now) × IsWellTyped (data_of value.now) }
-    ensures writes { let d = struct_of (data_of key.now) (data_of value.now) in Writes (Fits order levels at d (type_of d)) (spelling order at d) at out.old out.new result }
+    ensures writes { let d = struct_of (data_of key.now) (data_of value.now) in
+        Writes (Fits order levels at d (type_of d)) (spelling order at d) at out.old out.new result }
     ensures front { take (length out.old) out.new ≡ out.old }
 {
     let inner = level_below(levels)?;

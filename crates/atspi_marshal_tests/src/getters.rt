@@ -2,8 +2,8 @@
 
 use crate::marshal::append;
 use atspi_base::Bytes;
-use atspi_cursor::codes::TysRef;
-use atspi_cursor::{Fields, Item};
+use atspi_marshal_in_place::codes::TysRef;
+use atspi_marshal_in_place::{Fields, Item};
 use atspi_types::Order;
 use std::alloc::Global;
 use std::test::*;
@@ -28,7 +28,8 @@ fn numbers(item: Item<'_>) -> [u8; 9] {
     ]
 }
 
-/// Which of the others answer: `s` text, `o` path, `g` signature, `v` variant, `a` elements, `B` bytes, `r` fields, `e` entries.
+/// Which of the others answer: `s` text, `o` path, `g` signature, `v` variant, `a` elements, `B` bytes, `r` fields, `e`
+/// entries.
 fn others(item: Item<'_>) -> [u8; 8] {
     [
         mark(item.text().is_some(), b's'),
@@ -78,7 +79,8 @@ fn first_in(item: Item<'_>) -> Option<Item<'_>> {
     }
 }
 
-/// Whether the first value in the first values in one another, of which the outermost is this, is the number or the text that is due.
+/// Whether the first value in the first values in one another, of which the outermost is this, is the number or the
+/// text that is due.
 fn is_innermost(item: Item<'_>, due_number: &str, due_text: &str) -> bool {
     let mut inner = item;
     for _level in 0..4 {
@@ -106,7 +108,8 @@ fn only<'a>(codes: &'a [u8], bytes: &'a [u8]) -> Option<Item<'a>> {
     }
 }
 
-/// The codes of types, a value of each in hex, the getters that answer, and the number and the text of the innermost first value (0 and a dash where it is none).
+/// The codes of types, a value of each in hex, the getters that answer, and the number and the text of the innermost
+/// first value (0 and a dash where it is none).
 const ROWS: &str = "\
 y 07 y-------- -------- 7 -
 b 01000000 -b------- -------- 1 -

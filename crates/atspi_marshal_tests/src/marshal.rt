@@ -19,9 +19,9 @@ mod signatures;
 mod writing;
 
 use atspi_base::Bytes;
-use atspi_cursor::codes::{TyRef, TysRef};
-use atspi_cursor::{Fields, Item, pass};
 use atspi_marshal::{Bound, Marshalled, decode, encode, is_read_again, no_front_of_another};
+use atspi_marshal_in_place::codes::{TyRef, TysRef};
+use atspi_marshal_in_place::{Fields, Item, pass};
 use atspi_types::{Fault, Order, ReadFault, Signature, Ty, Value, ValueRef};
 use std::alloc::Global;
 use std::process::Abort;
@@ -106,8 +106,8 @@ fn mark(again: bool, lying: bool) -> u32 {
     if again && lying { 0 } else { 95 }
 }
 
-/// What decoding a value of a type, which these codes spell, answers: 0 and the place behind the value, or the reason and its place. A value that is read has to be written
-/// again as it was, and so has the one where it lies.
+/// What decoding a value of a type, which these codes spell, answers: 0 and the place behind the value, or the reason
+/// and its place. A value that is read has to be written again as it was, and so has the one where it lies.
 fn answer(alloc: Global, order: Order, ty: &Ty, codes: &[u8], at: u32, bytes: &[u8]) -> (u32, u32)
     requires { IsLawful (kind_of ty.now) × (at ≤ length bytes.now) × (length bytes.now ≤ 134217728) }
 {
@@ -168,7 +168,8 @@ fn walked(order: Order, codes: &[u8], at: u32, bytes: &[u8]) -> (u32, u32)
     }
 }
 
-/// What all three readers answer of a value at a place; (94, 0) where they differ. A body of no value, or of several, is walked alone.
+/// What all three readers answer of a value at a place; (94, 0) where they differ. A body of no value, or of several,
+/// is walked alone.
 pub(crate) fn told(alloc: Global, order: Order, codes: &[u8], at: u32, bytes: &[u8]) -> (u32, u32)
     requires { (at ≤ length bytes.now) × (length bytes.now ≤ 134217728) }
 {
@@ -197,8 +198,8 @@ fn number(word: Option<&str>) -> u32 {
     word.unwrap_or("").parse::<u32>().unwrap_or(u32::MAX)
 }
 
-/// Whether a row holds. It has the order (little or big), the type, the place, then the bytes as so many times a front and what
-/// follows it, and what is due: 0 and the place behind the value, or the reason and its place.
+/// Whether a row holds. It has the order (little or big), the type, the place, then the bytes as so many times a front
+/// and what follows it, and what is due: 0 and the place behind the value, or the reason and its place.
 fn holds(alloc: Global, row: &str) -> bool {
     let mut words = row.split(' ');
     let order = order_of(words.next().unwrap_or(""));

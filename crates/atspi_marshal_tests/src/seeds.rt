@@ -2,8 +2,8 @@
 
 use crate::marshal::told;
 use atspi_base::Bytes;
-use atspi_cursor::Fields;
-use atspi_cursor::codes::TysRef;
+use atspi_marshal_in_place::Fields;
+use atspi_marshal_in_place::codes::TysRef;
 use atspi_types::{Order, ValueRef, Values};
 use std::alloc::Global;
 use std::process::Abort;
@@ -76,7 +76,8 @@ fn count_and_last(values: &Values) -> (usize, u32) {
     }
 }
 
-/// How many of the values of a body are left, behind so many that were handed out, and the last of them where it is a number.
+/// How many of the values of a body are left, behind so many that were handed out, and the last of them where it is a
+/// number.
 fn left(alloc: Global, behind: u32) -> Option<(usize, u32)> {
     let types = TysRef::parse(b"yu").ok()?;
     let (mut fields, _) = Fields::read(Order::Big, b"\x05\0\0\0\0\0\0\x06", 0, types).ok()?;

@@ -8,8 +8,8 @@ use Rattle.std.specs.Option.{option_map}
 use Rattle.std.specs.Prelude.{option_and_then}
 use Rattle.atspi_types.specs.Kinds.{Kind, text, path}
 use Rattle.atspi_types.specs.Data.{Data, number_data, boolean_data, text_data, path_data, signature_data, array_data, structure_data, dictionary_data, variant_data, type_of}
-use Rattle.atspi_cursor.specs.Items.{item_data, Comes}
-use Rattle.atspi_cursor.specs.declared.cursor.Item.{Item}
+use Rattle.atspi_marshal_in_place.specs.Items.{item_data, Comes}
+use Rattle.atspi_marshal_in_place.specs.declared.cursor.Item.{Item}
 use Rattle.atspi_match.specs.Matching.{text_bytes, text_or_path_bytes}
 
 -- one argument more was passed

@@ -6,7 +6,7 @@ use Rattle.atspi_types.specs.SignatureFaults.{Before}
 use Rattle.atspi_match.specs.Conditions.{IsCondition, key_text, value_text}
 use Rattle.atspi_match.specs.Grammar.{is_blank, is_word_byte, is_quotable, Are, EndsItem, IsWord, Part, spelling, value_of, AreParts, Item, item_text, item_value, IsItem}
 use Rattle.atspi_match.specs.RuleFaults.{KeyAt, ItemAt, value_place, IsUnknown, IsNoValue, IsRival, WrongItem, no_equals, unknown_key, twice, not_closed, bad_type, bad_value, both_paths}
-use Rattle.atspi_match.specs.Items.{FirstItemFault}
+use Rattle.atspi_match.specs.inner.Items.{FirstItemFault}
 use Rattle.atspi_match.specs.declared.condition.Condition.{Condition}
 use Rattle.atspi_match.proofs.PartLemmas.{StopsSpelling, parts_unique}
 use Rattle.atspi_match.proofs.WordLemmas.{StopsWord, stops_equals, stops_end, SameWord, word_unique, same_key_at, same_behind, item_text-append, item_key, SameItem, item_unique, at_end, at_quote}

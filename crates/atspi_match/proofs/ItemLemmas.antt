@@ -7,10 +7,10 @@ use Rattle.std.proofs.lemmas.List.{length-take-le, length-drop, drop_all, drop_a
 use Rattle.std.proofs.lemmas.List.Sums.{prefix_len-le-length, prefix_len_stops}
 use Rattle.atspi_match.specs.Conditions.{IsCondition, IsRule, key_text, value_text}
 use Rattle.atspi_match.specs.Grammar.{is_blank, is_word_byte, EndsItem, Item, item_text, item_value, IsItem, Part, spelling}
-use Rattle.atspi_match.specs.Keys.{key_of, key_in, IsKey, key_refusal, NoCondition}
+use Rattle.atspi_match.specs.inner.Keys.{key_of, key_in, IsKey, key_refusal, NoCondition}
 use Rattle.atspi_match.specs.RuleFaults.{KeyAt, ItemAt, IsUnknown, IsNoValue, IsRival}
-use Rattle.atspi_match.specs.Values.{IsSpelled, IsOpen}
-use Rattle.atspi_match.specs.Items.{ReadsValue, ReadsItem, RefusesValueFor, still_open, no_value, HasNoValue, FirstItemFault, value_reason, RefusesValue, RefusesItem}
+use Rattle.atspi_match.specs.inner.Values.{IsSpelled, IsOpen}
+use Rattle.atspi_match.specs.inner.Items.{ReadsValue, ReadsItem, RefusesValueFor, still_open, no_value, HasNoValue, FirstItemFault, value_reason, RefusesValue, RefusesItem}
 use Rattle.atspi_match.specs.declared.condition.Condition.{Condition}
 use Rattle.atspi_match.specs.declared.item.ItemRead.{ItemRead}
 use Rattle.atspi_match.specs.declared.item.ItemFault.{ItemFault}

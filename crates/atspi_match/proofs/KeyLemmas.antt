@@ -8,7 +8,7 @@ use Rattle.std.proofs.lemmas.Fmt.{decimal_digit, decimal_step}
 use Rattle.std.proofs.lemmas.Slice.Eq.{bytes_eq-Decides}
 use Rattle.std.proofs.lemmas.List.{take-append-drop}
 use Rattle.atspi_match.specs.Conditions.{rank, key_text, value_text, type_text, bool_text, IsCondition, has_rank}
-use Rattle.atspi_match.specs.Keys.{key_of, key_rank, IsKey, named_key, digit_at, two_digits, index_from, index_in, arg_from, arg_key, or_arg, key_in}
+use Rattle.atspi_match.specs.inner.Keys.{key_of, key_rank, IsKey, named_key, digit_at, two_digits, index_from, index_in, arg_from, arg_key, or_arg, key_in}
 use Rattle.atspi_match.specs.declared.condition.MessageType.{MessageType}
 use Rattle.atspi_match.specs.declared.condition.MessageType.TheVariants as types
 use Rattle.atspi_match.specs.declared.condition.Condition.{Condition}

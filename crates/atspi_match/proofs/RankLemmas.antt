@@ -15,7 +15,7 @@ use Rattle.atspi_base.specs.valid_names.Names.{IsBusName, IsInterface, IsMember,
 use Rattle.atspi_base.specs.valid_names.Elements.{are_elements, are_two_or_more, parts_of}
 use Rattle.atspi_base.proofs.OfValidNames.NameLemmas.{IsBusName-from_test, IsInterface-from_test, IsMember-from_test, IsPath-from_test}
 use Rattle.atspi_match.specs.Conditions.{rank, key_text, IsCondition, IsText, IsNamespace, AreRising, has_rank, IsRule}
-use Rattle.atspi_match.specs.Keys.{key_of, key_rank, IsKey, key_in, has_rival, key_refusal}
+use Rattle.atspi_match.specs.inner.Keys.{key_of, key_rank, IsKey, key_in, has_rival, key_refusal}
 use Rattle.atspi_match.specs.RuleFaults.{IsUnknown, IsRival}
 use Rattle.atspi_match.specs.declared.condition.MessageType.TheVariants as types
 use Rattle.atspi_match.specs.declared.condition.Condition.{Condition}

@@ -8,10 +8,10 @@ use Rattle.std.proofs.lemmas.Bool.{cases_order}
 use Rattle.std.proofs.lemmas.List.Sorted.{IsPermutation-refl, IsPermutation-sym, IsPermutation-insert, IsPermutation-push_more, Contains-permutation, IsPermutation-map}
 use Rattle.atspi_types.specs.SignatureFaults.{Before}
 use Rattle.atspi_match.specs.Conditions.{rank, key_text, value_text, IsCondition, AreRising, has_rank, IsRule}
-use Rattle.atspi_match.specs.Keys.{key_of, key_refusal}
+use Rattle.atspi_match.specs.inner.Keys.{key_of, key_refusal}
 use Rattle.atspi_match.specs.Grammar.{EndsItem, Item, item_text, item_value, IsItem, Part, spelling, with_commas, AreJoined, Say, SayRule, Spells, IsRuleText}
 use Rattle.atspi_match.specs.RuleFaults.{KeyAt, ItemAt, value_place, IsRival, WrongItem, no_equals, unknown_key, twice, not_closed, bad_type, bad_value, both_paths, WrongRule, in_item, too_long, FirstRuleFault}
-use Rattle.atspi_match.specs.Items.{ReadsItem, FirstItemFault, FirstFaultOfItems, ReadSoFar}
+use Rattle.atspi_match.specs.inner.Items.{ReadsItem, FirstItemFault, FirstFaultOfItems, ReadSoFar}
 use Rattle.atspi_match.specs.declared.condition.Condition.{Condition}
 use Rattle.atspi_match.specs.declared.item.ItemRead.{ItemRead}
 use Rattle.atspi_match.proofs.WordLemmas.{item_key, item_text-append, at_end, at_quote}

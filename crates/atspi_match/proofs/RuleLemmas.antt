@@ -10,11 +10,11 @@ use Rattle.std.proofs.lemmas.List.Sums.{sum_by-cons}
 use Rattle.std.proofs.lemmas.List.Sorted.{All-permutation, sum_by-IsPermutation, list_any-IsPermutation, IsPermutation-middle, IsPermutation-sym, IsPermutation-trans, Contains-permutation}
 use Rattle.atspi_types.specs.SignatureFaults.{Before}
 use Rattle.atspi_match.specs.Conditions.{rank, key_text, value_text, IsCondition, AreRising, has_rank, IsRule}
-use Rattle.atspi_match.specs.Keys.{key_of, key_rank, IsKey}
+use Rattle.atspi_match.specs.inner.Keys.{key_of, key_rank, IsKey}
 use Rattle.atspi_match.specs.declared.key.Key.{Key}
 use Rattle.atspi_match.specs.Grammar.{EndsItem, Item, item_text, item_value, IsItem, Part, spelling, with_commas, AreJoined, Say, SayRule, Spells, IsRuleText}
 use Rattle.atspi_match.specs.RuleFaults.{KeyAt, ItemAt, IsUnknown, IsNoValue, IsRival, WrongItem, no_equals, unknown_key, twice, not_closed, bad_type, bad_value, both_paths, WrongRule, in_item, too_long, FirstRuleFault}
-use Rattle.atspi_match.specs.Items.{FirstItemFault, FirstFaultOfItems, ReadSoFar}
+use Rattle.atspi_match.specs.inner.Items.{FirstItemFault, FirstFaultOfItems, ReadSoFar}
 use Rattle.atspi_match.specs.declared.condition.Condition.{Condition}
 use Rattle.atspi_match.specs.declared.key.Key.TheVariants as keys
 use Rattle.atspi_match.proofs.WordLemmas.{item_unique, SameItem, item_key, item_text-append}

@@ -5,7 +5,7 @@ use Rattle.std.proofs.lemmas.List.{take-append-drop, length-take-le, length-drop
 use Rattle.std.proofs.lemmas.List.Sums.{prefix_len-le-length}
 use Rattle.std.proofs.lemmas.Bool.{cases_Bool, eqb-true, not-false, false_from_ne_true}
 use Rattle.atspi_match.specs.Grammar.{is_quotable, Are, Begins, EndsItem, Part, quoted, escaped, plain, spelling, value_of, AreParts}
-use Rattle.atspi_match.specs.Values.{IsNext, IsSpelled, IsOpen, SpelledSoFar}
+use Rattle.atspi_match.specs.inner.Values.{IsNext, IsSpelled, IsOpen, SpelledSoFar}
 use Rattle.atspi_match.specs.declared.value.Next.TheVariants.{End, Escaped, Quote, Plain}
 use Rattle.atspi_match.proofs.PartLemmas.{spelling-append, value_of-append, spelling-plain, value_of-plain, parts-append, parts-behind}
 use Rattle.atspi_match.proofs.RunLemmas.{passes, stops}

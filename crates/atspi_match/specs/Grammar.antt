@@ -1,5 +1,6 @@
 -- The grammar of match rules (D-Bus Specification, "Match Rules"): which bytes are the text of a rule.
-use Rattle.std.specs.Prelude.{◌≡◌, ◌≢◌, ◌≤◌, ◌==◌, ◌||◌, ◌&&◌, ◌⊎◌, ℕ, Bool, not, List, [], ◌∷◌, ◌++◌, length, flat_map, IsTrue}
+use Rattle.std.specs.Prelude.{◌≡◌, ◌≢◌, ◌≤◌, ◌==◌, ◌||◌, ◌&&◌, ◌⊎◌, ℕ, Bool, not, List, [], ◌∷◌, ◌++◌, length, flat_map}
+use Rattle.std.specs.Prelude.{IsTrue}
 use Rattle.std.specs.List.{AllByRecursion}
 use Rattle.std.specs.List.Sorted.{IsPermutation}
 use Rattle.atspi_match.specs.declared.condition.Condition.{Condition}
@@ -64,8 +65,8 @@ spelling parts = flat_map part_text parts
 abbrev pub value_of : List Part → List ℕ
 value_of parts = flat_map part_value parts
 
--- a part that stands before these bytes: no apostrophe inside a quoted part; outside neither an apostrophe nor a comma stands
--- for itself, nor a backslash before an apostrophe
+-- a part that stands before these bytes: no apostrophe inside a quoted part; outside neither an apostrophe nor a comma
+-- stands for itself, nor a backslash before an apostrophe
 abbrev pub IsPart : Part → List ℕ → Type 0
 IsPart (quoted bytes) behind = Are is_quotable bytes
 IsPart escaped behind = Unit {0}
@@ -104,7 +105,8 @@ AreJoined items bytes = (with_commas items ≡ bytes) ⊎ (with_commas items ≡
 -- each item has the key and the value of the condition in its place
 abbrev pub Say : List Item → List Condition → Type 0
 Say [] [] = Unit {0}
-Say (item ∷ items) (c ∷ conditions) = ((item.key ≡ key_text c) × (item_value item ≡ value_text c)) × Say items conditions
+Say (item ∷ items) (c ∷ conditions) = ((item.key ≡ key_text c) × (item_value item ≡ value_text c))
+    × Say items conditions
 Say [] (c ∷ conditions) = ⊥
 Say (item ∷ items) [] = ⊥
 

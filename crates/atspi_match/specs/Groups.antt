@@ -1,12 +1,16 @@
--- The groups of match rules. A condition on a unique sender, the interface, the member, the path or the first argument is met only by a message that
--- has the very value. So a rule is kept by one of the values that it asks for at these keys, and a message looks up its own.
-use Rattle.std.specs.Prelude.{◌≡◌, ◌⊎◌, ℕ, ◌+◌, ◌*◌, ◌%◌, ◌^◌, ◌==◌, List, [], ◌∷◌, ◌++◌, take, Contains, Option, None, Some, option_to_list, encode_utf8_all, if◌then◌else◌}
+-- The groups of match rules. A condition on a unique sender, the interface, the member, the path or the first argument
+-- is met only by a message that has the very value. So a rule is kept by one of the values that it asks for at these
+-- keys, and a message looks up its own.
+use Rattle.std.specs.Prelude.{◌≡◌, ◌⊎◌, ℕ, ◌+◌, ◌*◌, ◌%◌, ◌^◌, ◌==◌, List, [], ◌∷◌, ◌++◌, take, Contains, Option, None}
+use Rattle.std.specs.Prelude.{Some, option_to_list, encode_utf8_all, if◌then◌else◌}
 use Rattle.std.specs.List.{fold}
 use Rattle.std.specs.Option.{option_map}
 use Rattle.atspi_base.specs.valid_names.Names.{is_unique_name}
 use Rattle.atspi_message.specs.Envelope.{Envelope}
 use Rattle.atspi_match.specs.declared.condition.Condition.{Condition}
-use Rattle.atspi_match.specs.declared.condition.Condition.TheVariants.{Kind, Sender, Interface, Member, Path, PathNamespace, Destination, Arg, ArgPath, Arg0Namespace, Eavesdrop}
+use Rattle.atspi_match.specs.declared.condition.Condition.TheVariants.{Kind, Sender, Interface, Member, Path}
+use Rattle.atspi_match.specs.declared.condition.Condition.TheVariants.{PathNamespace, Destination, Arg, ArgPath}
+use Rattle.atspi_match.specs.declared.condition.Condition.TheVariants.{Arg0Namespace, Eavesdrop}
 use Rattle.atspi_match.specs.declared.group.GroupKey.{GroupKey}
 use Rattle.atspi_match.specs.declared.group.GroupKey.TheVariants.{BySender, ByInterface, ByMember, ByPath, ByArg0}
 use Rattle.atspi_match.specs.Matching.{text_argument}
@@ -67,4 +71,5 @@ abbrev pub marked : Envelope → GroupKey → List ℕ
 marked e k = option_to_list (option_map (mark k) (value_at e k))
 
 abbrev pub groups_of : Envelope → List ℕ
-groups_of e = (((((0 ∷ []) ++ marked e BySender) ++ marked e ByInterface) ++ marked e ByMember) ++ marked e ByPath) ++ marked e ByArg0
+groups_of e = (((((0 ∷ []) ++ marked e BySender) ++ marked e ByInterface) ++ marked e ByMember) ++ marked e ByPath)
+    ++ marked e ByArg0

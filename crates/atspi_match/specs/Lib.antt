@@ -1,13 +1,11 @@
+pub mod inner
 pub mod Conditions
 pub mod Grammar
-pub mod Items
-pub mod Keys
 pub mod Matching
 pub mod Parsing
 pub mod Printed
 pub mod RuleFaults
 pub mod RuleIndex
-pub mod Values
 pub mod Groups
 pub mod Noted
 pub mod RuleGroups

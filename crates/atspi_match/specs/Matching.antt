@@ -1,5 +1,7 @@
--- Which messages a match rule asks for (D-Bus Specification, "Match Rules"). Names, paths and texts are compared by their bytes.
-use Rattle.std.specs.Prelude.{◌≡◌, ◌⊎◌, ℕ, false, List, [], ◌∷◌, ◌++◌, All, Option, None, Some, IsSomeAnd, option_and_then, slice_get, encode_utf8_all}
+-- Which messages a match rule asks for (D-Bus Specification, "Match Rules"). Names, paths and texts are compared by
+-- their bytes.
+use Rattle.std.specs.Prelude.{◌≡◌, ◌⊎◌, ℕ, false, List, [], ◌∷◌, ◌++◌, All, Option, None, Some, IsSomeAnd}
+use Rattle.std.specs.Prelude.{option_and_then, slice_get, encode_utf8_all}
 use Rattle.std.specs.FinMap as finmap
 use Rattle.atspi_base.specs.valid_names.Names.{is_unique_name}
 use Rattle.atspi_types.specs.Data.{Data, text_data, path_data}
@@ -9,7 +11,9 @@ use Rattle.atspi_names.specs.Owners.{Owners, list_of}
 use Rattle.atspi_match.specs.declared.condition.MessageType.{MessageType}
 use Rattle.atspi_match.specs.declared.condition.MessageType.TheVariants.{Signal, MethodCall, MethodReturn, Error}
 use Rattle.atspi_match.specs.declared.condition.Condition.{Condition}
-use Rattle.atspi_match.specs.declared.condition.Condition.TheVariants.{Kind, Sender, Interface, Member, Path, PathNamespace, Destination, Arg, ArgPath, Arg0Namespace, Eavesdrop}
+use Rattle.atspi_match.specs.declared.condition.Condition.TheVariants.{Kind, Sender, Interface, Member, Path}
+use Rattle.atspi_match.specs.declared.condition.Condition.TheVariants.{PathNamespace, Destination, Arg, ArgPath}
+use Rattle.atspi_match.specs.declared.condition.Condition.TheVariants.{Arg0Namespace, Eavesdrop}
 
 -- the number of a message's type
 abbrev pub type_number : MessageType → ℕ
@@ -20,7 +24,8 @@ type_number Signal = 4
 
 -- the connection that owns the well-known name has this unique name
 abbrev pub Owns : Owners → List ℕ → List ℕ → Type 0
-Owns owners name unique = (conn : ℕ) × (owner_in (list_of owners.lists name) ≡ Some conn) × (finmap.get owners.unique conn ≡ Some unique)
+Owns owners name unique = (conn : ℕ) × (owner_in (list_of owners.lists name) ≡ Some conn)
+    × (finmap.get owners.unique conn ≡ Some unique)
 
 -- a sender or a destination goes by the name: literally, or as the owner of it, where it is a well-known one
 abbrev pub GoesBy : Owners → List ℕ → List ℕ → Type 0

@@ -1,11 +1,15 @@
--- The rules of the connections, in the order in which they were added (D-Bus Specification, "AddMatch" and "RemoveMatch").
-use Rattle.std.specs.Prelude.{◌≡◌, ◌↔◌, ℕ, Bool, false, ◌&&◌, ◌==◌, not, bytes_eq, Option, None, Some, List, [], ◌∷◌, ◌++◌, ◌≤◌, ◌<◌, length, take, Contains, HoldsAt, count_by, filter, remove, if◌then◌else◌}
+-- The rules of the connections, in the order in which they were added (D-Bus Specification, "AddMatch" and
+-- "RemoveMatch").
+use Rattle.std.specs.Prelude.{◌≡◌, ◌↔◌, ℕ, Bool, false, ◌&&◌, ◌==◌, not, bytes_eq, Option, None, Some, List, [], ◌∷◌}
+use Rattle.std.specs.Prelude.{◌++◌, ◌≤◌, ◌<◌, length, take, Contains, HoldsAt, count_by, filter, remove, if◌then◌else◌}
 use Rattle.std.specs.List.{list_any}
 use Rattle.std.specs.List.Sorted.{IsStrictlyIncreasing}
 use Rattle.atspi_message.specs.Envelope.{Envelope}
 use Rattle.atspi_names.specs.Owners.{Owners}
 use Rattle.atspi_match.specs.declared.condition.Condition.{Condition}
-use Rattle.atspi_match.specs.declared.condition.Condition.TheVariants.{Kind, Sender, Interface, Member, Path, PathNamespace, Destination, Arg, ArgPath, Arg0Namespace, Eavesdrop}
+use Rattle.atspi_match.specs.declared.condition.Condition.TheVariants.{Kind, Sender, Interface, Member, Path}
+use Rattle.atspi_match.specs.declared.condition.Condition.TheVariants.{PathNamespace, Destination, Arg, ArgPath}
+use Rattle.atspi_match.specs.declared.condition.Condition.TheVariants.{Arg0Namespace, Eavesdrop}
 use Rattle.atspi_match.specs.Conditions.{same_rule}
 use Rattle.atspi_match.specs.Matching.{Matches}
 
@@ -55,7 +59,8 @@ abbrev pub Receives : List (ℕ × List Condition) → Envelope → Owners → �
 Receives pairs e owners conn = (rule : List Condition) × Contains pairs (conn, rule) × Matches rule e owners
 
 -- the connections that receive a message: those with a rule that matches it, by rising number, each once
-pub record AreReceivers (pairs : List (ℕ × List Condition)) (e : Envelope) (owners : Owners) (receivers : List ℕ) : Type 0 where
+pub record AreReceivers (pairs : List (ℕ × List Condition)) (e : Envelope) (owners : Owners) (receivers : List ℕ)
+    : Type 0 where
   pub rising : IsStrictlyIncreasing receivers
   pub each : (conn : ℕ) → Contains receivers conn ↔ Receives pairs e owners conn
 

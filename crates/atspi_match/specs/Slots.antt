@@ -1,5 +1,6 @@
 -- The places of rules: a rule that is taken out leaves its place empty.
-use Rattle.std.specs.Prelude.{◌≡◌, ◌↔◌, ℕ, Bool, false, ◌==◌, List, [], ◌∷◌, ◌++◌, set, slice_index_or, option_to_list, remove, Option, None, Some, if◌then◌else◌}
+use Rattle.std.specs.Prelude.{◌≡◌, ◌↔◌, ℕ, Bool, false, ◌==◌, List, [], ◌∷◌, ◌++◌, set, slice_index_or, option_to_list}
+use Rattle.std.specs.Prelude.{remove, Option, None, Some, if◌then◌else◌}
 use Rattle.atspi_message.specs.Envelope.{Envelope}
 use Rattle.atspi_names.specs.Owners.{Owners}
 use Rattle.atspi_match.specs.declared.condition.Condition.{Condition}

@@ -142,7 +142,8 @@ impl Condition {
 impl PartialEq for Condition {
     ghost eq = { same_condition };
 
-    ghost laws = { partial_equiv_from_equiv (and_equiv (on_equiv rank nat_eq_equiv) (on_equiv value_text nat_list_eq_equiv)) };
+    ghost laws = { partial_equiv_from_equiv
+        (and_equiv (on_equiv rank nat_eq_equiv) (on_equiv value_text nat_list_eq_equiv)) };
 
     fn eq(&self, other: &Condition) -> bool {
         self.rank() == other.rank() && self.value() == other.value()

@@ -1,17 +1,17 @@
-//! The groups of match rules. A rule stands in the group of one of the values that it asks for, and a message looks into those groups alone that
-//! its own values name.
+//! The groups of match rules. A rule stands in the group of one of the values that it asks for, and a message looks
+//! into those groups alone that its own values name.
 
 ghost use Rattle.std.specs.Prelude.{◌≡◌, ◌++◌, take, IfOk, OnOk, option_copied, option_to_list};
 ghost use Rattle.std.specs.Option.{option_map};
-ghost use Rattle.atspi_header.specs.View as view;
-ghost use Rattle.atspi_header.specs.View.{envelope_at};
+ghost use Rattle.atspi_message_in_place.specs.View as view;
+ghost use Rattle.atspi_message_in_place.specs.View.{envelope_at};
 ghost use Rattle.atspi_match.specs.Groups as groups;
 ghost use Rattle.atspi_match.specs.Groups.{mark_of};
 
 use crate::Condition;
 use crate::matching::text_argument;
 use atspi_base::NoMemory;
-use atspi_header::MessageRef;
+use atspi_message_in_place::MessageRef;
 use std::alloc::Global;
 
 /// A key at which only the very value is met.

@@ -3,9 +3,9 @@
 ghost use Rattle.std.specs.Prelude.{◌≡◌, ◌+◌, ◌≤◌, ◌<◌, length, count_by, nat_lt, insert, IfErr, IfOk, OnOk};
 ghost use Rattle.atspi_match.specs.declared.item.ItemFault.TheVariants.{NoMemory};
 ghost use Rattle.atspi_match.specs.Conditions.{IsRule, rank, has_rank};
-ghost use Rattle.atspi_match.specs.Keys.{IsKey, has_rival, key_refusal};
-ghost use Rattle.atspi_match.specs.Items as items;
-ghost use Rattle.atspi_match.specs.Items.{ReadsItem, ReadsValue, RefusesItem, RefusesValue};
+ghost use Rattle.atspi_match.specs.inner.Keys.{IsKey, has_rival, key_refusal};
+ghost use Rattle.atspi_match.specs.inner.Items as items;
+ghost use Rattle.atspi_match.specs.inner.Items.{ReadsItem, ReadsValue, RefusesItem, RefusesValue};
 
 use crate::Condition;
 use crate::key::{Key, read_key};
@@ -54,7 +54,10 @@ fn count_before(bound: u16, conditions: &[Condition]) -> usize
 
 /// Puts the condition at its place among the others, which are in the order of their keys.
 pub(crate) fn put(conditions: &mut Vec<Condition>, condition: Condition) -> Result<(), ItemFault>
-    ensures ok { OnOk result (conditions.new.items ≡ insert conditions.old.items (count_by (λ c. nat_lt (rank c) (rank condition)) conditions.old.items) condition) }
+    ensures ok { OnOk result
+        (conditions.new.items
+        ≡ insert conditions.old.items (count_by (λ c. nat_lt (rank c) (rank condition)) conditions.old.items)
+        condition) }
     ensures err { IfErr result (λ e. e ≡ NoMemory) }
 {
     let slot = count_before(condition.rank(), conditions);

@@ -1,7 +1,7 @@
 //! The keys of match rules.
 
 ghost use Rattle.std.specs.Prelude.{◌≡◌, ◌<◌, ◌≤◌, bytes_eq, length, IfSome};
-ghost use Rattle.atspi_match.specs.Keys as keys;
+ghost use Rattle.atspi_match.specs.inner.Keys as keys;
 
 /// The key of a condition.
 #[derive(Clone, Copy, Debug, PartialEq, Eq)]
@@ -48,7 +48,7 @@ pub(crate) fn is(bytes: &[u8], text: &[u8]) -> bool
 }
 
 /// The key that has a name of its own.
-#[tactic(auto, unfolding(crate::specs::Keys::named_key))]
+#[tactic(auto, unfolding(crate::specs::inner::Keys::named_key))]
 fn named_key(bytes: &[u8]) -> Option<Key>
     ensures { result ≡ keys.named_key bytes.now }
 {
@@ -76,7 +76,7 @@ fn named_key(bytes: &[u8]) -> Option<Key>
 }
 
 /// The digit that the byte at the place is.
-#[tactic(auto, unfolding(crate::specs::Keys::digit_at))]
+#[tactic(auto, unfolding(crate::specs::inner::Keys::digit_at))]
 fn digit_at(bytes: &[u8], at: usize) -> Option<u8>
     ensures digit { result ≡ keys.digit_at bytes.now at }
     ensures small { IfSome result (λ digit. digit < 10) }
@@ -90,7 +90,7 @@ fn digit_at(bytes: &[u8], at: usize) -> Option<u8>
 }
 
 /// The number of an argument, of one digit or two, and how many digits there are. No leading zero.
-#[tactic(auto, unfolding(crate::specs::Keys::index_in))]
+#[tactic(auto, unfolding(crate::specs::inner::Keys::index_in))]
 fn index_in(bytes: &[u8]) -> Option<(u8, usize)>
     ensures number { result ≡ keys.index_in bytes.now }
     ensures within { IfSome result (λ n. n.1 ≤ length bytes.now) }
@@ -106,7 +106,7 @@ fn index_in(bytes: &[u8]) -> Option<(u8, usize)>
 }
 
 /// The key that the bytes behind `arg` make.
-#[tactic(auto, unfolding(crate::specs::Keys::arg_key))]
+#[tactic(auto, unfolding(crate::specs::inner::Keys::arg_key))]
 fn arg_key(bytes: &[u8]) -> Option<Key>
     ensures { result ≡ keys.arg_key bytes.now }
 {
@@ -121,7 +121,7 @@ fn arg_key(bytes: &[u8]) -> Option<Key>
 }
 
 /// The key that the bytes are.
-#[tactic(auto, unfolding(crate::specs::Keys::key_in))]
+#[tactic(auto, unfolding(crate::specs::inner::Keys::key_in))]
 pub(crate) fn read_key(bytes: &[u8]) -> Option<Key>
     ensures { result ≡ keys.key_in bytes.now }
 {

@@ -1,4 +1,5 @@
-//! The match rules of a bus: which messages a rule asks for, and who receives a message; and what a bus does with one (`routing`).
+//! The match rules of a bus: which messages a rule asks for, and who receives a message; and what a bus does with one
+//! (`routing`).
 #![tactic(auto)]
 
 mod condition;

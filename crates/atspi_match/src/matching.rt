@@ -2,20 +2,21 @@
 
 ghost use Rattle.std.specs.Prelude.{◌≡◌, ◌↔◌, IsTrue, IsSomeAnd, Some, option_copied, slice_get};
 ghost use Rattle.std.specs.Option.{option_map};
-ghost use Rattle.atspi_cursor.specs.Items.{item_data, fields_data};
-ghost use Rattle.atspi_header.specs.View.{bytes_of, envelope_at};
+ghost use Rattle.atspi_marshal_in_place.specs.Items.{item_data, fields_data};
+ghost use Rattle.atspi_message_in_place.specs.View.{bytes_of, envelope_at};
 ghost use Rattle.atspi_match.specs.Matching as matching;
-ghost use Rattle.atspi_match.specs.Matching.{Matches, Holds, GoesBy, Owns, BeginsWith, EndsInSlash, IsWithin, IsPathWithin, IsSameBranch};
+ghost use Rattle.atspi_match.specs.Matching.{Matches, Holds, GoesBy, Owns, BeginsWith, EndsInSlash, IsWithin};
+ghost use Rattle.atspi_match.specs.Matching.{IsPathWithin, IsSameBranch};
 
 use crate::{Condition, Rule};
 use atspi_base::valid_names::BusName;
-use atspi_cursor::Item;
-use atspi_header::MessageRef;
+use atspi_marshal_in_place::Item;
+use atspi_message_in_place::MessageRef;
 use atspi_names::Names;
 
 impl Rule {
-    /// Whether the message meets each condition of the rule (D-Bus Specification, "Match Rules"). The owners of well-known
-    /// names are those of the call.
+    /// Whether the message meets each condition of the rule (D-Bus Specification, "Match Rules"). The owners of
+    /// well-known names are those of the call.
     pub fn matches(&self, m: &MessageRef, names: &Names) -> bool
         ensures { IsTrue result ↔ Matches self.now (envelope_at m.now) names.now }
     {

@@ -2,11 +2,11 @@
 
 ghost use Rattle.std.specs.Prelude.{◌≡◌};
 ghost use Rattle.std.specs.List.{list_any};
-ghost use Rattle.atspi_header.specs.View.{bytes_of, envelope_at};
+ghost use Rattle.atspi_message_in_place.specs.View.{bytes_of, envelope_at};
 ghost use Rattle.atspi_match.specs.RuleIndex as index;
 
 use crate::{Condition, Rule};
-use atspi_header::MessageRef;
+use atspi_message_in_place::MessageRef;
 
 /// Whether a field is there and is this text.
 fn is_text(field: Option<&str>, text: &str) -> bool

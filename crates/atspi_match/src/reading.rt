@@ -2,7 +2,7 @@
 
 ghost use Rattle.std.specs.Prelude.{ℕ, List, IfErr, IfOk};
 ghost use Rattle.atspi_match.specs.Grammar.{IsRuleText, Spells};
-ghost use Rattle.atspi_match.specs.Items.{RefusesItems};
+ghost use Rattle.atspi_match.specs.inner.Items.{RefusesItems};
 ghost use Rattle.atspi_match.specs.Parsing.{IsThisFault, IsThisRule, TellsFirst};
 ghost use Rattle.atspi_match.specs.RuleFaults.{FirstRuleFault};
 ghost use Rattle.atspi_match.specs.declared.condition.Condition.{Condition};
@@ -74,8 +74,8 @@ fn read_rule(alloc: Global, bytes: &[u8]) -> Result<Rule, RuleRead>
 }
 
 impl Rule {
-    /// The rule that the bytes are a text of (D-Bus Specification, "Match Rules"). Refused with the first fault, by place and
-    /// then by number, of the reasons 1 to 8; a place counts bytes.
+    /// The rule that the bytes are a text of (D-Bus Specification, "Match Rules"). Refused with the first fault, by
+    /// place and then by number, of the reasons 1 to 8; a place counts bytes.
     pub fn parse(alloc: Global, bytes: &[u8]) -> Result<Rule, RuleRead>
         // What is read is spelled so, in at most 1,024 bytes.
         ensures found { IfOk result (λ rule. IsRuleText bytes.now rule) }

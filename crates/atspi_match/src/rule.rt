@@ -8,7 +8,8 @@ use atspi_base::NoMemory;
 use std::alloc::Global;
 use std::marker::Model;
 
-/// A match rule: the conditions that a message has to meet (D-Bus Specification, "Match Rules"), in the order of their keys.
+/// A match rule: the conditions that a message has to meet (D-Bus Specification, "Match Rules"), in the order of their
+/// keys.
 #[derive(Drop)]
 pub struct Rule {
     conditions: Vec<Condition>,

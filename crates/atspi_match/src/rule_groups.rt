@@ -1,11 +1,12 @@
-//! The groups in which the rules of a bus stand: a message looks into those alone that its own values name. A rule stands in that group, of all
-//! values that it asks for, for whose value the fewest rules ask, so that rules with many values in common stand by one in which they differ.
+//! The groups in which the rules of a bus stand: a message looks into those alone that its own values name. A rule
+//! stands in that group, of all values that it asks for, for whose value the fewest rules ask, so that rules with many
+//! values in common stand by one in which they differ.
 
 ghost use Rattle.std.specs.Prelude.{◌≡◌, ◌≢◌, ◌≤◌, ◌++◌, ℕ, List, true, false, Some, Contains, IfOk, OnOk, OnErr};
 ghost use Rattle.std.specs.Option.{option_copied};
 ghost use Rattle.std.specs.Ordering.{nat_cmp};
 ghost use Rattle.std.specs.BTreeMap.{Updates, IsUnchanged};
-ghost use Rattle.atspi_header.specs.View.{envelope_at};
+ghost use Rattle.atspi_message_in_place.specs.View.{envelope_at};
 ghost use Rattle.atspi_names.specs.Owners.{Owners};
 ghost use Rattle.atspi_match.specs.declared.condition.Condition.{Condition};
 ghost use Rattle.atspi_match.specs.Groups.{IsOwn};
@@ -16,7 +17,7 @@ ghost use Rattle.atspi_match.specs.RuleGroups.{IsNarrowest, IsNoted, Stays};
 use crate::group::{asked, groups_of};
 use crate::{Condition, Rule};
 use atspi_base::NoMemory;
-use atspi_header::MessageRef;
+use atspi_message_in_place::MessageRef;
 use std::alloc::Global;
 use std::collections::{BTreeMap, BTreeSet};
 
@@ -24,7 +25,8 @@ use std::collections::{BTreeMap, BTreeSet};
 #[derive(Drop)]
 pub struct Group {
     places: BTreeSet<usize>,
-    /// How many rules were noted that ask for its value, wherever they stand, since it is there. One that is forgotten is counted still.
+    /// How many rules were noted that ask for its value, wherever they stand, since it is there. One that is forgotten
+    /// is counted still.
     askers: usize,
 }
 
@@ -122,7 +124,9 @@ impl RuleGroups {
 
     /// Notes the rule at a place. What stood elsewhere stands there still.
     pub fn note(&mut self, alloc: Global, rule: &Rule, place: usize) -> Result<(), NoMemory>
-        ensures narrowest { OnOk result ((number : ℕ) × IsNarrowest self.old.sets rule.now number × SetsNote self.old.sets self.new.sets number place true) }
+        ensures narrowest { OnOk result
+            ((number : ℕ) × IsNarrowest self.old.sets rule.now number
+            × SetsNote self.old.sets self.new.sets number place true) }
         ensures noted { OnOk result (IsNoted self.new rule.now place) }
         ensures stays { Stays self.old self.new }
     {
@@ -134,7 +138,8 @@ impl RuleGroups {
     /// Forgets the rule at a place, in whichever of its groups it stands.
     pub fn forget(&mut self, rule: &Rule, place: usize)
         ensures gone { (number : ℕ) → IsOwn rule.now number → notes self.new.sets number place ≡ false }
-        ensures others { (other : List Condition) (q : ℕ) → q ≢ place → IsNoted self.old other q → IsNoted self.new other q }
+        ensures others { (other : List Condition) (q : ℕ) → q ≢ place → IsNoted self.old other q
+            → IsNoted self.new other q }
     {
         self.take_out(0, place);
         for condition in rule.conditions() {

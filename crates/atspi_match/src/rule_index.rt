@@ -1,11 +1,14 @@
 //! The rules of the connections, and who receives a message.
 
-ghost use Rattle.std.specs.Prelude.{◌≡◌, ◌≢◌, ◌↔◌, ◌+◌, ◌<◌, ◌≤◌, ℕ, [], ◌∷◌, ◌++◌, length, vec_len, vec_capacity, Contains, IsTrue, IfOk, OnOk, OnErr, IfErr, IsErrAnd, MatchBool, List, option_to_list};
-ghost use Rattle.atspi_header.specs.View.{envelope_at};
+ghost use Rattle.std.specs.Prelude.{◌≡◌, ◌≢◌, ◌↔◌, ◌+◌, ◌<◌, ◌≤◌, ℕ, [], ◌∷◌, ◌++◌, length, vec_len, vec_capacity};
+ghost use Rattle.std.specs.Prelude.{Contains, IsTrue, IfOk, OnOk, OnErr, IfErr, IsErrAnd, MatchBool, List};
+ghost use Rattle.std.specs.Prelude.{option_to_list};
+ghost use Rattle.atspi_message_in_place.specs.View.{envelope_at};
 ghost use Rattle.atspi_match.specs.Counts.{count_in, SetsCount, SameCounts};
 ghost use Rattle.atspi_match.specs.RuleGroups.{IsNoted, Stays};
 ghost use Rattle.atspi_match.specs.RuleIndex as index;
-ghost use Rattle.atspi_match.specs.RuleIndex.{IsWithinLimit, without_rules, without_first, nearby, GoesOut, AreReceivers};
+ghost use Rattle.atspi_match.specs.RuleIndex.{IsWithinLimit, without_rules, without_first, nearby, GoesOut};
+ghost use Rattle.atspi_match.specs.RuleIndex.{AreReceivers};
 ghost use Rattle.atspi_match.specs.Slots.{held_in};
 
 use crate::Rule;
@@ -13,7 +16,7 @@ use crate::counts::Counts;
 use crate::rule_groups::RuleGroups;
 use crate::slots::{empty, empty_all, first_of, receiving};
 use atspi_base::{NoMemory, Nums, Steps};
-use atspi_header::MessageRef;
+use atspi_message_in_place::MessageRef;
 use atspi_names::Names;
 use std::alloc::{AllocFailed, Global};
 use std::marker::Model;
@@ -33,9 +36,9 @@ pub enum RuleAdd {
     NoMemory,
 }
 
-/// The match rules of the connections of a bus. A connection is known by its number, and has at most 512 rules. Contracts
-/// see the list of connections with their rules, in the order in which they were added. It keeps the allocator that it
-/// was made with.
+/// The match rules of the connections of a bus. A connection is known by its number, and has at most 512 rules.
+/// Contracts see the list of connections with their rules, in the order in which they were added. It keeps the
+/// allocator that it was made with.
 ///
 /// A message looks at the rules of those groups alone that its own values name.
 #[derive(Drop)]
@@ -122,8 +125,8 @@ impl RuleIndex {
         }
     }
 
-    /// Adds a rule of the connection, which may have an equal one already: AddMatch. `Limit` exactly where the connection
-    /// has 512 rules. A rule that is not added is handed back, and all is as before.
+    /// Adds a rule of the connection, which may have an equal one already: AddMatch. `Limit` exactly where the
+    /// connection has 512 rules. A rule that is not added is handed back, and all is as before.
     pub fn add(&mut self, conn: u32, rule: Rule) -> Result<(), (Rule, RuleAdd)>
         ensures ok { OnOk result (self.new ≡ self.old ++ (conn, rule) ∷ []) }
         ensures limit { IsErrAnd result (λ refused. refused.1 ≡ RuleAdd.Limit) ↔ (index.rules_of conn self.old ≡ 512) }
@@ -147,8 +150,8 @@ impl RuleIndex {
         self.counts.of(conn)
     }
 
-    /// Takes out one rule of the connection that is equal to the rule, the first that was added, and answers whether there
-    /// was one: RemoveMatch.
+    /// Takes out one rule of the connection that is equal to the rule, the first that was added, and answers whether
+    /// there was one: RemoveMatch.
     pub fn remove(&mut self, conn: u32, rule: &Rule) -> bool
         ensures pairs { self.new ≡ without_first self.old conn rule.now }
         ensures one { MatchBool result (GoesOut self.old self.new (conn, rule.now)) (self.new ≡ self.old) }
@@ -175,8 +178,9 @@ impl RuleIndex {
         self.emptied = self.emptied.saturating_add(emptied);
     }
 
-    /// Appends the connections with a rule that matches the message, by rising number, each once. Counts at most one step
-    /// for each rule that asks for no interface, or for that of the message. After want of memory the list is as before.
+    /// Appends the connections with a rule that matches the message, by rising number, each once. Counts at most one
+    /// step for each rule that asks for no interface, or for that of the message. After want of memory the list is as
+    /// before.
     pub fn receivers(
         &self,
         m: &MessageRef,
@@ -227,8 +231,8 @@ fn copy_slots(alloc: Global, slots: &[Option<(u32, Rule)>]) -> Result<RuleIndex,
     Ok(copy)
 }
 
-/// Makes room for a rule of a connection more, notes it in its group at the place behind the others, and counts it. After want of memory it is
-/// not counted.
+/// Makes room for a rule of a connection more, notes it in its group at the place behind the others, and counts it.
+/// After want of memory it is not counted.
 fn make_room(
     alloc: Global,
     slots: &mut Vec<Option<(u32, Rule)>>,
@@ -242,7 +246,8 @@ fn make_room(
     ensures room { OnOk result (vec_len slots.new < vec_capacity slots.new) }
     ensures noted { OnOk result (IsNoted groups.new rule.now (length slots.old.items)) }
     ensures stays { Stays groups.old groups.new }
-    ensures counted { OnOk result (SetsCount counts.old.counts counts.new.counts conn (count_in counts.old.counts conn + 1)) }
+    ensures counted { OnOk result
+        (SetsCount counts.old.counts counts.new.counts conn (count_in counts.old.counts conn + 1)) }
     ensures err { OnErr result (SameCounts counts.old.counts counts.new.counts) }
 {
     slots.reserve(1)?;

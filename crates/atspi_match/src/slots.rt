@@ -1,16 +1,18 @@
 //! Rules in their places: one that is taken out leaves its place empty, so that the others keep theirs.
 
-ghost use Rattle.std.specs.Prelude.{◌≡◌, ◌≢◌, ◌<◌, ◌≤◌, ◌+◌, ◌↔◌, ◌++◌, ◌∷◌, [], ℕ, length, set, Contains, IsTrue, IfOk, OnOk, MatchOption, Some, None, option_copied, option_to_list};
-ghost use Rattle.atspi_header.specs.View.{envelope_at};
+ghost use Rattle.std.specs.Prelude.{◌≡◌, ◌≢◌, ◌<◌, ◌≤◌, ◌+◌, ◌↔◌, ◌++◌, ◌∷◌, [], ℕ, length, set, Contains, IsTrue};
+ghost use Rattle.std.specs.Prelude.{IfOk, OnOk, MatchOption, Some, None, option_copied, option_to_list};
+ghost use Rattle.atspi_message_in_place.specs.View.{envelope_at};
 ghost use Rattle.atspi_match.specs.RuleIndex as index;
 ghost use Rattle.atspi_match.specs.RuleIndex.{without_rules, nearby, IsNowhere, Receives};
-ghost use Rattle.atspi_match.specs.Slots.{held_in, slot_at, chosen, cleared, is_its, is_this, AreNoted, IsFirstSlot, Hears};
+ghost use Rattle.atspi_match.specs.Slots.{held_in, slot_at, chosen, cleared, is_its, is_this, AreNoted, IsFirstSlot};
+ghost use Rattle.atspi_match.specs.Slots.{Hears};
 
 use crate::Rule;
 use crate::near::is_near;
 use crate::rule_groups::RuleGroups;
 use atspi_base::{NoMemory, Steps};
-use atspi_header::MessageRef;
+use atspi_message_in_place::MessageRef;
 use atspi_names::Names;
 use std::alloc::Global;
 use std::mem;
@@ -122,7 +124,8 @@ fn heard(pair: &(u32, Rule), m: &MessageRef, names: &Names) -> Option<u32>
     Some(pair.0)
 }
 
-/// The connection, if its rule matches the message. Counts a step where the rule asks for no interface, or for that of the message.
+/// The connection, if its rule matches the message. Counts a step where the rule asks for no interface, or for that of
+/// the message.
 fn asked(pair: &(u32, Rule), m: &MessageRef, names: &Names, steps: &mut Steps) -> Option<u32>
     ensures heard { Hears result (pair.now ∷ []) (envelope_at m.now) names.now }
     ensures steps { (steps.old ≤ steps.new) × (steps.new ≤ steps.old + nearby (envelope_at m.now) (pair.now ∷ [])) }
@@ -134,8 +137,8 @@ fn asked(pair: &(u32, Rule), m: &MessageRef, names: &Names, steps: &mut Steps) -
     heard(pair, m, names)
 }
 
-/// The connection whose rule stands at a place, if the rule matches the message. Counts a step if there is one that asks for no interface, or
-/// for that of the message.
+/// The connection whose rule stands at a place, if the rule matches the message. Counts a step if there is one that
+/// asks for no interface, or for that of the message.
 fn heard_at(
     slots: &[Option<(u32, Rule)>],
     place: usize,
@@ -144,7 +147,8 @@ fn heard_at(
     steps: &mut Steps,
 ) -> Option<u32>
     ensures heard { Hears result (option_to_list (slot_at slots.now place)) (envelope_at m.now) names.now }
-    ensures steps { (steps.old ≤ steps.new) × (steps.new ≤ steps.old + nearby (envelope_at m.now) (option_to_list (slot_at slots.now place))) }
+    ensures steps { (steps.old ≤ steps.new)
+        × (steps.new ≤ steps.old + nearby (envelope_at m.now) (option_to_list (slot_at slots.now place))) }
 {
     match rule_at(slots, place) {
         Some(pair) => asked(pair, m, names, steps),
@@ -173,7 +177,8 @@ pub fn receiving(
 ) -> Result<Vec<u32>, NoMemory>
     ensures found { IfOk result (λ found. (conn : ℕ) → Contains found.items conn
         ↔ Receives (chosen slots.now places.now) (envelope_at m.now) names.now conn) }
-    ensures steps { (steps.old ≤ steps.new) × (steps.new ≤ steps.old + nearby (envelope_at m.now) (chosen slots.now places.now)) }
+    ensures steps { (steps.old ≤ steps.new)
+        × (steps.new ≤ steps.old + nearby (envelope_at m.now) (chosen slots.now places.now)) }
 {
     let mut found = Vec::with_capacity(alloc, places.len())?;
     for place in places {

@@ -1,7 +1,7 @@
 //! The spelling of a value: quoted parts, and bytes outside them.
 
 ghost use Rattle.std.specs.Prelude.{◌≡◌, ◌≤◌, length, IfErr, IfOk};
-ghost use Rattle.atspi_match.specs.Values.{IsNext, IsSpelled, IsStillOpen};
+ghost use Rattle.atspi_match.specs.inner.Values.{IsNext, IsSpelled, IsStillOpen};
 ghost use Rattle.atspi_match.specs.declared.value.ValueFault.TheVariants.{NoMemory};
 
 use crate::runs::{count_plain, count_quotable};

@@ -2,7 +2,7 @@
 
 ghost use Rattle.std.specs.Prelude.{◌≡◌, ◌≢◌, ℕ, List, bytes_eq, encode_utf8_all, IfOk, IfSome, IfNone, Err};
 ghost use Rattle.atspi_match.specs.Conditions.{IsCondition, IsNamespace, IsText, bool_text, type_text, value_text};
-ghost use Rattle.atspi_match.specs.Keys.{IsKey, key_of, NoCondition};
+ghost use Rattle.atspi_match.specs.inner.Keys.{IsKey, key_of, NoCondition};
 ghost use Rattle.atspi_match.specs.declared.condition.MessageType.{MessageType};
 ghost use Rattle.std.specs.Prelude.{Bool};
 ghost use Rattle.std.specs.List.{list_all};

@@ -1,12 +1,13 @@
-//! Drawn rules in the index and in a plain list of rules, each of which is asked whether it matches: the same connections receive the same messages.
+//! Drawn rules in the index and in a plain list of rules, each of which is asked whether it matches: the same
+//! connections receive the same messages.
 
 ghost use Rattle.std.specs.Prelude.{◌<◌};
 
 use crate::made::{Header, lent, signal_with};
 use crate::rules::{added, received, two_connections};
 use atspi_base::Nums;
-use atspi_header::MessageRef;
 use atspi_match::{Condition, Rule, RuleIndex};
+use atspi_message_in_place::MessageRef;
 use atspi_names::Names;
 use std::alloc::Global;
 use std::process::Abort;
@@ -121,7 +122,8 @@ fn nearby(rules: &[Rule], plain: &[(u32, usize)], m: &MessageRef) -> u64 {
     count
 }
 
-/// Whether the plain list tells these receivers of a message, and no fewer rules of it ask for no interface, or for that of the message, than were looked at.
+/// Whether the plain list tells these receivers of a message, and no fewer rules of it ask for no interface, or for
+/// that of the message, than were looked at.
 fn is_due(
     alloc: Global,
     rules: &[Rule],
@@ -141,7 +143,8 @@ fn is_due(
     }
 }
 
-/// Whether both forms tell the same receivers, and the index counts no more rules than ask for no interface, or for that of the message.
+/// Whether both forms tell the same receivers, and the index counts no more rules than ask for no interface, or for
+/// that of the message.
 fn is_same(
     alloc: Global,
     rules: &[Rule],
@@ -256,7 +259,8 @@ fn drawn_header(state: &mut u64) -> Header<'static> {
     }
 }
 
-/// Whether both forms go together over 250 drawn changes, with messages whose type and names are drawn, and whose first argument is spelled by a word.
+/// Whether both forms go together over 250 drawn changes, with messages whose type and names are drawn, and whose first
+/// argument is spelled by a word.
 fn go_on(
     alloc: Global,
     rules: &[Rule],

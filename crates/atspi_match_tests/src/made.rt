@@ -1,10 +1,11 @@
-//! Signals that tests are about, as bytes: put together word by word, least byte first (D-Bus Specification, "Message Format").
+//! Signals that tests are about, as bytes: put together word by word, least byte first (D-Bus Specification, "Message
+//! Format").
 
 ghost use Rattle.std.specs.Prelude.{◌<◌};
 
 use atspi_base::Bytes;
-use atspi_header::MessageRef;
 use atspi_message::total;
+use atspi_message_in_place::MessageRef;
 use std::alloc::Global;
 
 // What finds no memory is left out; then the bytes are no message.
@@ -108,8 +109,8 @@ pub(crate) fn signal_with(alloc: Global, header: Header<'_>, codes: &str, words:
     out
 }
 
-/// The bytes of a signal of a connection to `:1.1`; no sender where its name is empty. It is spelled by its path, the codes of its values' types, and the values, with `|`
-/// between two.
+/// The bytes of a signal of a connection to `:1.1`; no sender where its name is empty. It is spelled by its path, the
+/// codes of its values' types, and the values, with `|` between two.
 pub(crate) fn signal_of<'a>(alloc: Global, sender: &'a str, spelled: &'a str) -> Bytes {
     let (path, carried) = spelled.split_once('|').unwrap_or((spelled, ""));
     let (codes, words) = carried.split_once('|').unwrap_or((carried, ""));

@@ -58,7 +58,8 @@ fn remove_all(
     true
 }
 
-/// How many rules are looked at for a message, where each of four connections has so many that differ in one value; each connection receives it.
+/// How many rules are looked at for a message, where each of four connections has so many that differ in one value;
+/// each connection receives it.
 fn looked_at(alloc: Global, names: &Names, bytes: &[u8], front: &str, count: u32) -> u64 {
     let mut index = RuleIndex::new(alloc);
     let mut out = Nums::new(alloc);
@@ -96,7 +97,8 @@ sender=':1.0',interface='org.example.N0',path='/a/n0',arg0='n0',member='N
 sender=':1.0',interface='org.example.N0',member='N0',arg0='n0',path='/a/n
 sender=':1.0',interface='org.example.N0',member='N0',path='/a/n0',arg0='n";
 
-/// Whether for a message that the rules with the number 0 match four rules are looked at where there is one of each connection, and no more than so many where there are 500:
+/// Whether for a message that the rules with the number 0 match four rules are looked at where there is one of each
+/// connection, and no more than so many where there are 500:
 /// for rules of each line.
 fn many_cost_little(alloc: Global, names: &Names, bytes: &[u8], fronts: &str, most: u64) -> bool {
     for front in fronts.lines() {
@@ -123,7 +125,8 @@ fn many_rules_that_differ_cost_no_more_than_one_or_two(rt: HostRuntime) {
     assert!(rt; all_cost_little(rt.alloc(), bytes.as_slice()));
 }
 
-/// Whether each of four connections hears a message, until its rule with the number 0 goes out; then all others do, and none is looked at.
+/// Whether each of four connections hears a message, until its rule with the number 0 goes out; then all others do, and
+/// none is looked at.
 fn go_out(alloc: Global, index: &mut RuleIndex, names: &Names, bytes: &[u8], front: &str) -> bool {
     let is_full = add_all(alloc, index, front, 20);
     let first = remove_all(alloc, index, 1, front, (0, 1));

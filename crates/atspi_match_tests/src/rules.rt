@@ -99,7 +99,8 @@ fn is_of_type(alloc: Global, names: &Names, text: &str, number: u8) -> bool {
     true
 }
 
-/// Whether each rule for a type matches its number (D-Bus Specification, "Message Protocol": 1 call, 2 return, 3 error, 4 signal).
+/// Whether each rule for a type matches its number (D-Bus Specification, "Message Protocol": 1 call, 2 return, 3 error,
+/// 4 signal).
 fn types_match_their_numbers(alloc: Global, names: &Names) -> bool {
     is_of_type(alloc, names, "type='method_call'", 1)
         && is_of_type(alloc, names, "type='method_return'", 2)
@@ -197,7 +198,8 @@ fn of_backend(alloc: Global, names: &Names, sender: &str) -> &'static str {
     told(alloc, names, "sender='org.example.Backend'", sender, "/", 4)
 }
 
-/// Whether a rule with a well-known name, which connection 0 owns, matches whoever owns it: connection 1 once that has asked for it, and nobody once that is gone.
+/// Whether a rule with a well-known name, which connection 0 owns, matches whoever owns it: connection 1 once that has
+/// asked for it, and nobody once that is gone.
 fn follows_owner(alloc: Global, names: &mut Names) -> bool {
     let first = of_backend(alloc, names, ":1.0");
     request_backend(alloc, names, 1, 2);
@@ -278,7 +280,8 @@ fn a_connection_may_have_512_rules(rt: HostRuntime) {
     assert!(rt; rules_are_limited(rt.alloc()));
 }
 
-/// How many rules are looked at for the message that bytes are, taken for one of a type; who receives it is appended to a list. `u64::MAX` where it is none.
+/// How many rules are looked at for the message that bytes are, taken for one of a type; who receives it is appended to
+/// a list. `u64::MAX` where it is none.
 pub(crate) fn received(
     index: &RuleIndex,
     names: &Names,
@@ -296,7 +299,8 @@ pub(crate) fn received(
     }
 }
 
-/// Whether just these receive a signal, behind a first number 99 that was there, and so many rules are looked at at the most.
+/// Whether just these receive a signal, behind a first number 99 that was there, and so many rules are looked at at the
+/// most.
 pub(crate) fn hear(
     alloc: Global,
     index: &RuleIndex,
@@ -337,7 +341,8 @@ fn add_all(alloc: Global, index: &mut RuleIndex) -> bool {
         && added(index, 5, any(alloc)) == 0
 }
 
-/// Whether each connection receives a signal once, in order, while rules go: one of the two equal rules, then the other, then there is none.
+/// Whether each connection receives a signal once, in order, while rules go: one of the two equal rules, then the
+/// other, then there is none.
 fn go_one_by_one(alloc: Global, index: &mut RuleIndex, names: &Names) -> bool {
     let signal = signal_of(alloc, ":1.0", "/a");
     let other = signal_of(alloc, ":1.0", "/c");

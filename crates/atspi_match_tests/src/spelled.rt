@@ -45,7 +45,8 @@ fn put_pieces(bytes: &mut Bytes, pieces: &str) {
     }
 }
 
-/// Appends the bytes that a text spells: pieces behind `* `, and else itself, with `%` and two digits of 16 for one byte.
+/// Appends the bytes that a text spells: pieces behind `* `, and else itself, with `%` and two digits of 16 for one
+/// byte.
 pub(crate) fn put_spelled(bytes: &mut Bytes, text: &str) {
     match text.strip_prefix("* ") {
         Some(pieces) => put_pieces(bytes, pieces),

@@ -11,7 +11,7 @@ use Rattle.atspi_marshal.specs.Writing.{IsWritten, Writes}
 use Rattle.atspi_marshal.proofs.WritingSteps.{Writes-by}
 use Rattle.atspi_marshal.proofs.WritingLists.{front_behind}
 use Rattle.atspi_message.specs.Bytes.{field_items, signature_if}
-use Rattle.atspi_message.specs.Writing.{field_front, FieldsFitAt, PutsFields}
+use Rattle.atspi_message.specs.inner.Writing.{field_front, FieldsFitAt, PutsFields}
 use Rattle.atspi_message.proofs.FieldWriting.{field_of, field_writes, front_refused, value_behind, signature_type}
 
 -- well typed values have lawful types

@@ -24,7 +24,7 @@ use Rattle.atspi_message.specs.declared.code.Code.TheVariants.{Path, Interface, 
 use Rattle.atspi_message.specs.Codes.{number_of, code_of, kind_for, letter_of, IsText, IsNameFor}
 use Rattle.atspi_message.specs.Bytes.{Field, field_kind, field_data}
 use Rattle.atspi_message.specs.Faults.{Lacks, IsTyped, WrongAlone, no_code, other_type, second, no_name, no_serial, descriptors}
-use Rattle.atspi_message.specs.Reading.{Found, slot, is_there, field_at}
+use Rattle.atspi_message.specs.inner.Reading.{Found, slot, is_there, field_at}
 use Rattle.atspi_message.proofs.Room.{LongFits, ShortFits}
 use Rattle.atspi_message.proofs.Told.{ReadLaws, Alone, Told, failed}
 use Rattle.atspi_message.proofs.Typed.{typed_value, inside_to, variant_here, IsTyped-types}

@@ -23,7 +23,7 @@ use Rattle.atspi_message.specs.declared.code.Code.TheVariants.{Path, Interface, 
 use Rattle.atspi_message.specs.Codes.{number_of, code_of, kind_for, letter_of, IsText, IsNameFor}
 use Rattle.atspi_message.specs.Bytes.{Field, field_kind, field_data}
 use Rattle.atspi_message.specs.Faults.{Lacks, IsTyped, WrongAlone, no_code, other_type as other_is, second, no_name, no_serial, descriptors}
-use Rattle.atspi_message.specs.Reading.{Found, slot, put, is_there, is_name, name_reason, name_body_at, name_at, reply_at, descriptors_at, value_at, other_type, typed_body_at, typed_at, with_value, dropped, known_at, coded_at, field_at}
+use Rattle.atspi_message.specs.inner.Reading.{Found, slot, put, is_there, is_name, name_reason, name_body_at, name_at, reply_at, descriptors_at, value_at, other_type, typed_body_at, typed_at, with_value, dropped, known_at, coded_at, field_at}
 use Rattle.atspi_message.proofs.Room.{LongFits, ShortFits, short_in_room, long_in_room}
 use Rattle.atspi_message.proofs.Told.{ReadLaws, Alone, Told, told_is, told_behind, failed, err_is}
 use Rattle.atspi_message.proofs.Typed.{Typed, typed_ok, typed_told, typed_value, inside_to, inside_from, variant_here, IsTyped-types}

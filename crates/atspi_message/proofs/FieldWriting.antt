@@ -20,7 +20,7 @@ use Rattle.atspi_message.specs.declared.code.Code.{Code}
 use Rattle.atspi_message.specs.declared.code.Code.TheVariants as codes
 use Rattle.atspi_message.specs.Codes.{IsNameFor, number_of}
 use Rattle.atspi_message.specs.Bytes.{Field, field_items}
-use Rattle.atspi_message.specs.Writing.{field_front, FieldsFitAt}
+use Rattle.atspi_message.specs.inner.Writing.{field_front, FieldsFitAt}
 use Rattle.atspi_message.proofs.Names.{name_is_plain, name_spells}
 
 abbrev pub field_of : ℕ → Kind → Data → Field

@@ -10,7 +10,7 @@ use Rattle.atspi_marshal.specs.Writing.{Writes}
 use Rattle.atspi_marshal.proofs.WritingSteps.{Writes-behind, Writes-refused}
 use Rattle.atspi_marshal.proofs.WritingLists.{front_self, front_behind}
 use Rattle.atspi_message.specs.Bytes.{Field, field_data, field_items}
-use Rattle.atspi_message.specs.Writing.{FieldsFitAt, PutsFields}
+use Rattle.atspi_message.specs.inner.Writing.{FieldsFitAt, PutsFields}
 
 abbrev fields_end : Order → ℕ → List Field → ℕ
 fields_end o at fs = at + length (spellings o at (field_items fs))

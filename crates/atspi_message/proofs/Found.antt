@@ -8,7 +8,7 @@ use Rattle.atspi_message.specs.declared.code.Code.TheVariants.{Path, Interface, 
 use Rattle.atspi_message.specs.Codes.{number_of, code_of}
 use Rattle.atspi_message.specs.Bytes.{Field, with_code}
 use Rattle.atspi_message.specs.Faults.{Lacks}
-use Rattle.atspi_message.specs.Reading.{Found, none_found, slot, put, is_there}
+use Rattle.atspi_message.specs.inner.Reading.{Found, none_found, slot, put, is_there}
 
 pub slot_put : (c k : Code) (d : Data) (f : Found) → slot k (put c d f) ≡ cond (number_of c == number_of k) (Some d) (slot k f)
 slot_put Path Path d f = refl

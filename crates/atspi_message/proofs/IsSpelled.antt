@@ -22,7 +22,7 @@ use Rattle.atspi_message.specs.Rules.{HasRequired, MeetsRules, HasNames}
 use Rattle.atspi_message.specs.Bytes.{Field, field_kind, field_items, with_code, order_byte, at_most_one, body_place, body_bytes, spelled_with, HasFields, FitsWire, IsMessage}
 use Rattle.atspi_message.specs.Front.{order_in, input_in, type_in, version_in, serial_in, body_length_in, fields_length_in, fields_end_in, body_place_in, length_in, IsSoundFront}
 use Rattle.atspi_message.specs.Faults.{fields_bound, FieldsStand, types_of_value}
-use Rattle.atspi_message.specs.Reading.{Found, none_found, slot, some_of, is_there, all_fields_at, nothing_left, values_at, signature_found, rest_at, has_required, missing_at, with_found, ended_at, message_at, Describes}
+use Rattle.atspi_message.specs.inner.Reading.{Found, none_found, slot, some_of, is_there, all_fields_at, nothing_left, values_at, signature_found, rest_at, has_required, missing_at, with_found, ended_at, message_at, Describes}
 use Rattle.atspi_message.proofs.Told.{ReadLaws}
 use Rattle.atspi_message.proofs.Values.{IsGoodValue}
 use Rattle.atspi_message.proofs.Found.{slot_list, Tracks, tracks_none}

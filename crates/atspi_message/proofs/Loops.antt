@@ -9,7 +9,7 @@ use Rattle.atspi_marshal.specs.declared.input.Bound.{Bound}
 use Rattle.atspi_marshal.specs.Input.{Input}
 use Rattle.atspi_marshal.specs.Reading.{◌>>=◌, Fails}
 use Rattle.atspi_marshal.proofs.Places.{done}
-use Rattle.atspi_message.specs.Reading.{Found, field_at, all_fields_at, some_values_at, values_at}
+use Rattle.atspi_message.specs.inner.Reading.{Found, field_at, all_fields_at, some_values_at, values_at}
 
 pub goes_on : (i : Input) (b : Bound) (n k at : ℕ) (found after : Found) (next : ℕ) (total : Result Found Fault) → k < n → at < b.end → field_at i b found at ≡ Ok (after, next)
     → all_fields_at i b (n - k) found at ≡ total → all_fields_at i b (n - (k + 1)) after next ≡ total

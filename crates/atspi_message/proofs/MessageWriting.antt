@@ -17,7 +17,7 @@ use Rattle.atspi_marshal.proofs.WritingSteps.{array_front, length_padding, Write
 use Rattle.atspi_marshal.proofs.WritingContainers.{set_over, array_elements_refused, array_too_long, array_ended}
 use Rattle.atspi_message.specs.Envelope.{Envelope}
 use Rattle.atspi_message.specs.Bytes.{Field, field_kind, field_data, field_items, field_if, signature_if, rising_fields, order_byte, body_place, body_bytes, header_bytes, spelled_with, FitsWire, written}
-use Rattle.atspi_message.specs.Writing.{PutsFields, start_bytes, fields_bytes, HeaderFits, HasWidths}
+use Rattle.atspi_message.specs.inner.Writing.{PutsFields, start_bytes, fields_bytes, HeaderFits, HasWidths}
 
 -- each field is of the type of fields
 AreFields : List Field → Type 0

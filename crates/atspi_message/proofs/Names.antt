@@ -18,7 +18,7 @@ use Rattle.atspi_base.proofs.OfValidNames.NameLemmas.{IsAscii-IsInterface, IsAsc
 use Rattle.atspi_message.specs.declared.code.Code.{Code}
 use Rattle.atspi_message.specs.declared.code.Code.TheVariants as codes
 use Rattle.atspi_message.specs.Codes.{IsText, IsNameFor}
-use Rattle.atspi_message.specs.Reading.{is_name}
+use Rattle.atspi_message.specs.inner.Reading.{is_name}
 
 follow_positive : (form : Form) (b : ℕ) → may_follow form b ≡ true → 0 < b
 follow_positive Path zero e = absurd cc

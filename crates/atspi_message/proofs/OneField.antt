@@ -20,7 +20,7 @@ use Rattle.atspi_message.specs.declared.code.Code.{Code}
 use Rattle.atspi_message.specs.Codes.{number_of, code_of, kind_for}
 use Rattle.atspi_message.specs.Bytes.{Field, field_kind, field_data}
 use Rattle.atspi_message.specs.Faults.{Lacks, WrongAlone, no_code, second}
-use Rattle.atspi_message.specs.Reading.{Found, slot, put, is_there, value_at, typed_at, with_value, dropped, known_at, coded_at, field_at}
+use Rattle.atspi_message.specs.inner.Reading.{Found, slot, put, is_there, value_at, typed_at, with_value, dropped, known_at, coded_at, field_at}
 use Rattle.atspi_message.proofs.Room.{room_here}
 use Rattle.atspi_message.proofs.Told.{ReadLaws, Alone, Told, told_is, told_behind, failed, err_is}
 use Rattle.atspi_message.proofs.Typed.{Typed, typed_ok, typed_told, typed_value, inside_to}

@@ -12,7 +12,7 @@ use Rattle.atspi_message.specs.Bytes.{IsMessage}
 use Rattle.atspi_message.specs.Front.{order_in, input_in, type_in, serial_in, length_in, front_in, WrongFront, IsFirst, IsSoundFront}
 use Rattle.atspi_message.specs.Faults.{WrongMessage, FirstFault}
 use Rattle.atspi_message.specs.Laws.{HasOneMessage, HasOneFault}
-use Rattle.atspi_message.specs.Reading.{Found, some_of, message_at, Describes}
+use Rattle.atspi_message.specs.inner.Reading.{Found, some_of, message_at, Describes}
 use Rattle.atspi_message.proofs.Values.{IsGoodValue}
 use Rattle.atspi_message.proofs.Walk.{GoodFound}
 use Rattle.atspi_message.proofs.Rest.{IsWhole}

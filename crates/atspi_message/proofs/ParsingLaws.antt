@@ -16,7 +16,7 @@ use Rattle.atspi_message.specs.Bytes.{IsMessage}
 use Rattle.atspi_message.specs.Front.{order_in, input_in, type_in, fields_end_in, length_in, WrongFront, no_order, no_type, no_version, too_long, no_serial, fields_too_long, IsFirst, IsSoundFront}
 use Rattle.atspi_message.specs.Faults.{WrongMessage, FirstFault}
 use Rattle.atspi_marshal.specs.Reading.{◌>>=◌}
-use Rattle.atspi_message.specs.Reading.{Found, none_found, some_of, all_fields_at, rest_at, has_required, missing_at, with_found, ended_at, message_at, Describes}
+use Rattle.atspi_message.specs.inner.Reading.{Found, none_found, some_of, all_fields_at, rest_at, has_required, missing_at, with_found, ended_at, message_at, Describes}
 use Rattle.atspi_message.specs.Parsing.{TellsFirst, IsMessageOrNoMemory, IsFaultOrNoMemory, IsRead, Reads}
 use Rattle.atspi_message.proofs.Told.{ReadLaws, failed, err_is}
 use Rattle.atspi_message.proofs.FieldFaults.{TellsBy}

@@ -19,7 +19,7 @@ use Rattle.atspi_message.specs.declared.code.Code.TheVariants.{Signature}
 use Rattle.atspi_message.specs.Bytes.{Field, field_kind, field_data, field_items, with_code}
 use Rattle.atspi_message.specs.Front.{input_in, type_in, fields_end_in, body_place_in, body_length_in, length_in}
 use Rattle.atspi_message.specs.Faults.{fields_bound, FieldsStand, body_types, types_of_value, BodyStands, WrongMessage, padding_not_zero, no_types, in_body, left_over}
-use Rattle.atspi_message.specs.Reading.{Found, nothing_left, values_at, signature_found, rest_at}
+use Rattle.atspi_message.specs.inner.Reading.{Found, nothing_left, values_at, signature_found, rest_at}
 use Rattle.atspi_message.proofs.Told.{ReadLaws, failed, err_is}
 use Rattle.atspi_message.proofs.Found.{slot_list, Tracks}
 use Rattle.atspi_message.proofs.FieldFaults.{TellsBy}

@@ -19,7 +19,7 @@ use Rattle.atspi_message.specs.declared.code.Code.TheVariants.{Path, Interface, 
 use Rattle.atspi_message.specs.Codes.{number_of, kind_for, letter_of}
 use Rattle.atspi_message.specs.Bytes.{Field}
 use Rattle.atspi_message.specs.Faults.{IsTyped, WrongAlone, other_type as other_is}
-use Rattle.atspi_message.specs.Reading.{other_type, typed_body_at, typed_at}
+use Rattle.atspi_message.specs.inner.Reading.{other_type, typed_body_at, typed_at}
 use Rattle.atspi_message.proofs.Room.{ShortFits, short_cases, short_in_room, short_out_of_room}
 use Rattle.atspi_message.proofs.Told.{ReadLaws, Alone, Told, told_is, failed, err_is}
 

@@ -27,7 +27,7 @@ use Rattle.atspi_message.specs.declared.code.Code.TheVariants.{Path, Interface, 
 use Rattle.atspi_message.specs.Codes.{number_of, kind_for, letter_of, IsText, IsNameFor}
 use Rattle.atspi_message.specs.Bytes.{Field}
 use Rattle.atspi_message.specs.Faults.{IsTyped, WrongAlone, no_name, no_serial, descriptors}
-use Rattle.atspi_message.specs.Reading.{is_name, name_data, name_reason, name_body_at, name_at, reply_at, descriptors_at, value_at}
+use Rattle.atspi_message.specs.inner.Reading.{is_name, name_data, name_reason, name_body_at, name_at, reply_at, descriptors_at, value_at}
 use Rattle.atspi_message.proofs.Room.{room_here, LongFits, long_cases, long_in_room, long_out_of_room, ShortFits, short_cases, short_in_room, short_out_of_room}
 use Rattle.atspi_message.proofs.Told.{ReadLaws, Alone, Told, told_is, failed, err_is}
 use Rattle.atspi_message.proofs.Names.{name_from_test, test_from_name, name_reads}

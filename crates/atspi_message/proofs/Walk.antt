@@ -16,7 +16,7 @@ use Rattle.atspi_message.specs.declared.code.Code.{Code}
 use Rattle.atspi_message.specs.Codes.{number_of, code_of}
 use Rattle.atspi_message.specs.Bytes.{Field, field_kind, field_data, field_items, with_code}
 use Rattle.atspi_message.specs.Faults.{Lacks, WrongAlone, no_code, other_type, second, no_name, no_serial, descriptors}
-use Rattle.atspi_message.specs.Reading.{Found, slot, put, is_there, field_at, all_fields_at}
+use Rattle.atspi_message.specs.inner.Reading.{Found, slot, put, is_there, field_at, all_fields_at}
 use Rattle.atspi_message.proofs.Told.{ReadLaws, Alone, Told, failed, err_is}
 use Rattle.atspi_message.proofs.Values.{IsGoodValue}
 use Rattle.atspi_message.proofs.Found.{number-code_of, code_of-number, put_some, found_with, slot_put, Tracks, tracks_more, not_there, slot_list, with_code-append}

@@ -15,7 +15,7 @@ use Rattle.atspi_message.specs.Codes.{number_of}
 use Rattle.atspi_message.specs.Bytes.{Field, field_kind, with_code}
 use Rattle.atspi_message.specs.Front.{input_in, type_in, fields_end_in, body_place_in, length_in}
 use Rattle.atspi_message.specs.Faults.{fields_bound, FieldsStand, Lacks, LacksRequired, call, return_, error, signal, WrongMessage, in_field, of_field, no_required, padding_not_zero, no_types, in_body, left_over}
-use Rattle.atspi_message.specs.Reading.{Found, none_found, slot, is_there, all_fields_at, rest_at, has_required, missing_at, with_found, ended_at, message_at}
+use Rattle.atspi_message.specs.inner.Reading.{Found, none_found, slot, is_there, all_fields_at, rest_at, has_required, missing_at, with_found, ended_at, message_at}
 use Rattle.atspi_message.proofs.Told.{ReadLaws, failed, err_is}
 use Rattle.atspi_message.proofs.Found.{Tracks, tracks_none, there_not, lacks_there}
 use Rattle.atspi_message.proofs.FieldFaults.{TellsBy}

@@ -1,8 +1,11 @@
 -- What a message is spelled as (D-Bus Specification, "Message Format").
-use Rattle.std.specs.Prelude.{◌≡◌, ◌⊎◌, ◌<◌, ◌≤◌, ◌^◌, ◌+◌, ◌==◌, ℕ, List, [], ◌∷◌, ◌++◌, length, map, Option, Some, None, if◌then◌else◌}
+use Rattle.std.specs.Prelude.{◌≡◌, ◌⊎◌, ◌<◌, ◌≤◌, ◌^◌, ◌+◌, ◌==◌, ℕ, List, [], ◌∷◌, ◌++◌, length, map, Option, Some}
+use Rattle.std.specs.Prelude.{None, if◌then◌else◌}
 use Rattle.std.specs.Int.{w32}
-use Rattle.atspi_types.specs.Kinds.{Kind, Kinds, number, text, path, signature, structure, array, variant, byte, u32, no_kinds, kind}
-use Rattle.atspi_types.specs.Data.{Data, Items, number_data, text_data, path_data, signature_data, array_data, structure_data, variant_data, no_items, item, items_of, types_of}
+use Rattle.atspi_types.specs.Kinds.{Kind, Kinds, number, text, path, signature, structure, array, variant, byte, u32}
+use Rattle.atspi_types.specs.Kinds.{no_kinds, kind}
+use Rattle.atspi_types.specs.Data.{Data, Items, number_data, text_data, path_data, signature_data, array_data}
+use Rattle.atspi_types.specs.Data.{structure_data, variant_data, no_items, item, items_of, types_of}
 use Rattle.atspi_types.specs.Signatures.{IsSignature}
 use Rattle.atspi_types.specs.declared.fault.Order.{Order}
 use Rattle.atspi_types.specs.declared.fault.Order.TheVariants.{Little, Big}
@@ -39,8 +42,8 @@ body_place o fs = aligned 8 (16 + length (spellings o 16 (field_items fs)))
 unfoldable pub body_bytes : Envelope → List Field → List ℕ
 body_bytes e fs = spellings e.order (body_place e.order fs) (items_of e.body)
 
--- The header, of types yyyyuua(yv): the order, the type, the flags and the version 1; the length of the body, the serial,
--- and the array of fields
+-- The header, of types yyyyuua(yv): the order, the type, the flags and the version 1; the length of the body, the
+-- serial, and the array of fields
 unfoldable pub header_bytes : Envelope → List Field → List ℕ
 header_bytes e fs =
     order_byte e.order ∷ e.kind ∷ e.flags ∷ 1 ∷ (number_bytes e.order w32 (length (body_bytes e fs))
@@ -60,8 +63,8 @@ abbrev pub at_most_one : {A : Type 0} → (A → Data) → Option A → List Dat
 at_most_one view (Some x) = view x ∷ []
 at_most_one view None = []
 
--- The fields with codes 1 to 9 are those of the message, each at most once and in any order; SIGNATURE has the types of the
--- body, UNIX_FDS is 0. An empty SIGNATURE and UNIX_FDS may be left out. Fields with larger codes belong to nothing.
+-- The fields with codes 1 to 9 are those of the message, each at most once and in any order; SIGNATURE has the types of
+-- the body, UNIX_FDS is 0. An empty SIGNATURE and UNIX_FDS may be left out. Fields with larger codes belong to nothing.
 pub record HasFields (e : Envelope) (fs : List Field) : Type 0 where
   pub no_code : with_code 0 fs ≡ []
   pub path : with_code 1 fs ≡ at_most_one path_data e.path
@@ -71,11 +74,12 @@ pub record HasFields (e : Envelope) (fs : List Field) : Type 0 where
   pub reply : with_code 5 fs ≡ at_most_one (number_data u32) e.reply
   pub destination : with_code 6 fs ≡ at_most_one text_data e.destination
   pub sender : with_code 7 fs ≡ at_most_one text_data e.sender
-  pub signature : (with_code 8 fs ≡ signature_data (types_of (items_of e.body)) ∷ []) ⊎ ((e.body ≡ []) × (with_code 8 fs ≡ []))
+  pub signature : (with_code 8 fs ≡ signature_data (types_of (items_of e.body)) ∷ [])
+      ⊎ ((e.body ≡ []) × (with_code 8 fs ≡ []))
   pub descriptors : (with_code 9 fs ≡ number_data u32 0 ∷ []) ⊎ (with_code 9 fs ≡ [])
 
--- The limits: numbers of the header in their widths, arrays of at most 64 MiB, 64 containers in one another, types of the
--- body that are a signature, and 128 MiB in all
+-- The limits: numbers of the header in their widths, arrays of at most 64 MiB, 64 containers in one another, types of
+-- the body that are a signature, and 128 MiB in all
 pub record FitsWire (e : Envelope) (fs : List Field) : Type 0 where
   pub kind : e.kind < 256
   pub flags : e.flags < 256
@@ -101,7 +105,8 @@ field_if code k view None = []
 
 abbrev pub signature_if : List Data → List Field
 signature_if [] = []
-signature_if (d ∷ ds) = record { code = 8; kind = signature; value = signature_data (types_of (items_of (d ∷ ds))) } ∷ []
+signature_if (d ∷ ds) = record { code = 8; kind = signature; value = signature_data (types_of (items_of (d ∷ ds))) }
+    ∷ []
 
 unfoldable pub rising_fields : Envelope → List Field
 rising_fields e =

@@ -3,7 +3,8 @@ use Rattle.std.specs.Prelude.{ℕ, ◌==◌, Option, Some, None, List, if◌then
 use Rattle.atspi_types.specs.Kinds.{Kind, number, text, path, signature, u32}
 use Rattle.atspi_base.specs.valid_names.Names.{IsPath, IsInterface, IsMember, IsBusName}
 use Rattle.atspi_message.specs.declared.code.Code.{Code}
-use Rattle.atspi_message.specs.declared.code.Code.TheVariants.{Path, Interface, Member, Error, Reply, Destination, Sender, Signature, Descriptors}
+use Rattle.atspi_message.specs.declared.code.Code.TheVariants.{Path, Interface, Member, Error, Reply, Destination}
+use Rattle.atspi_message.specs.declared.code.Code.TheVariants.{Sender, Signature, Descriptors}
 
 -- the number of a field
 abbrev pub number_of : Code → ℕ

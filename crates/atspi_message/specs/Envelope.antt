@@ -5,8 +5,8 @@ use Rattle.atspi_types.specs.DataView.{all_data}
 use Rattle.atspi_types.specs.declared.fault.Order.{Order}
 use Rattle.atspi_message.specs.declared.message.Message.{Message}
 
--- A message: the order of its bytes, its type and flags, its serial, the fields that it has, and the values of its body.
--- A name is the list of its bytes, which are also its characters.
+-- A message: the order of its bytes, its type and flags, its serial, the fields that it has, and the values of its
+-- body. A name is the list of its bytes, which are also its characters.
 pub record Envelope : Type 0 where
   pub order : Order
   pub kind : ℕ

@@ -12,7 +12,8 @@ use Rattle.atspi_message.specs.declared.code.Code.{Code}
 use Rattle.atspi_message.specs.declared.code.Code.TheVariants.{Reply, Descriptors}
 use Rattle.atspi_message.specs.Codes.{number_of, kind_for, letter_of, IsText, IsNameFor}
 use Rattle.atspi_message.specs.Bytes.{Field, field_kind, field_items, with_code}
-use Rattle.atspi_message.specs.Front.{input_in, type_in, fields_end_in, body_place_in, WrongFront, IsFirst, IsSoundFront}
+use Rattle.atspi_message.specs.Front.{input_in, type_in, fields_end_in, body_place_in, WrongFront, IsFirst}
+use Rattle.atspi_message.specs.Front.{IsSoundFront}
 
 -- where the fields of a header end; what passes that has reason 18
 abbrev pub fields_bound : List ℕ → Bound
@@ -35,15 +36,21 @@ pub data WrongAlone (i : Input) (b : Bound) (fs : List Field) (p : ℕ) : ℕ �
   -- code 0
   no_code : p + 1 ≤ b.end → byte_in i p ≡ 0 → WrongAlone i b fs p p 28
   -- a known field of another type: by a well-formed signature of one type
-  other_type : (c : Code) (k : Kind) → byte_in i p ≡ number_of c → IsInside i variant b (p + 1) → short_in i (p + 1) ≡ signature_bytes (single k) → IsSignature (single k) → k ≢ kind_for c → WrongAlone i b fs p (p + 1) 29
+  other_type : (c : Code) (k : Kind) → byte_in i p ≡ number_of c → IsInside i variant b (p + 1)
+      → short_in i (p + 1) ≡ signature_bytes (single k) → IsSignature (single k) → k ≢ kind_for c
+      → WrongAlone i b fs p (p + 1) 29
   -- a known field the second time
-  second : (c : Code) → p + 1 ≤ b.end → byte_in i p ≡ number_of c → (Lacks (number_of c) fs → ⊥) → WrongAlone i b fs p p 30
+  second : (c : Code) → p + 1 ≤ b.end → byte_in i p ≡ number_of c → (Lacks (number_of c) fs → ⊥)
+      → WrongAlone i b fs p p 30
   -- a name outside its rule
-  no_name : (c : Code) → byte_in i p ≡ number_of c → IsTyped i b c (p + 1) → IsText c → IsInside i text b (p + 4) → (IsNameFor c (long_in i (p + 4)) → ⊥) → WrongAlone i b fs p (p + 4) 31
+  no_name : (c : Code) → byte_in i p ≡ number_of c → IsTyped i b c (p + 1) → IsText c → IsInside i text b (p + 4)
+      → (IsNameFor c (long_in i (p + 4)) → ⊥) → WrongAlone i b fs p (p + 4) 31
   -- a reply to serial 0
-  no_serial : byte_in i p ≡ number_of Reply → IsTyped i b Reply (p + 1) → HasFront i (number u32) b (p + 4) → number_in i w32 (p + 4) ≡ 0 → WrongAlone i b fs p (p + 4) 32
+  no_serial : byte_in i p ≡ number_of Reply → IsTyped i b Reply (p + 1) → HasFront i (number u32) b (p + 4)
+      → number_in i w32 (p + 4) ≡ 0 → WrongAlone i b fs p (p + 4) 32
   -- passed descriptors
-  descriptors : byte_in i p ≡ number_of Descriptors → IsTyped i b Descriptors (p + 1) → HasFront i (number u32) b (p + 4) → number_in i w32 (p + 4) ≢ 0 → WrongAlone i b fs p (p + 4) 33
+  descriptors : byte_in i p ≡ number_of Descriptors → IsTyped i b Descriptors (p + 1)
+      → HasFront i (number u32) b (p + 4) → number_in i w32 (p + 4) ≢ 0 → WrongAlone i b fs p (p + 4) 33
 
 -- a field that the type of message requires is missing
 pub data LacksRequired (type : ℕ) (fs : List Field) : Type 0 where
@@ -63,30 +70,39 @@ body_types fs = types_of_value (with_code 8 fs)
 -- values of these types are spelled from the place of the body up to another
 pub record BodyStands (bytes : List ℕ) (ks : Kinds) (ds : Items) (next : ℕ) : Type 0 where
   pub fit : FieldsFit (input_in bytes).order 64 (body_place_in bytes) ds ks
-  pub stand : Stands (input_in bytes) (body_place_in bytes) (spellings (input_in bytes).order (body_place_in bytes) ds) next
+  pub stand
+      : Stands (input_in bytes) (body_place_in bytes) (spellings (input_in bytes).order (body_place_in bytes) ds) next
   pub within : next ≤ length bytes
 
--- WrongMessage bytes place reason: behind a sound front something is wrong at the place, for the reason. What stands behind
--- other things is looked at where those are spelled.
+-- WrongMessage bytes place reason: behind a sound front something is wrong at the place, for the reason. What stands
+-- behind other things is looked at where those are spelled.
 pub data WrongMessage (bytes : List ℕ) : ℕ → ℕ → Type 0 where
   -- in a field
   in_field : (fs : List Field) (next place reason : ℕ) → FieldsStand bytes fs next → next < fields_end_in bytes
       → Wrong (input_in bytes) 63 field_kind (fields_bound bytes) next place reason → WrongMessage bytes place reason
   of_field : (fs : List Field) (next place reason : ℕ) → FieldsStand bytes fs next → next < fields_end_in bytes
-      → WrongAlone (input_in bytes) (fields_bound bytes) fs (aligned 8 next) place reason → WrongMessage bytes place reason
+      → WrongAlone (input_in bytes) (fields_bound bytes) fs (aligned 8 next) place reason
+      → WrongMessage bytes place reason
   -- a required field is missing
-  no_required : (fs : List Field) → FieldsStand bytes fs (fields_end_in bytes) → LacksRequired (type_in bytes) fs → WrongMessage bytes (fields_end_in bytes) 34
+  no_required : (fs : List Field) → FieldsStand bytes fs (fields_end_in bytes) → LacksRequired (type_in bytes) fs
+      → WrongMessage bytes (fields_end_in bytes) 34
   -- the padding behind the fields
-  padding_not_zero : (fs : List Field) (q : ℕ) → FieldsStand bytes fs (fields_end_in bytes) → fields_end_in bytes ≤ q → q < body_place_in bytes → byte_in (input_in bytes) q ≢ 0 → WrongMessage bytes q 10
+  padding_not_zero : (fs : List Field) (q : ℕ) → FieldsStand bytes fs (fields_end_in bytes) → fields_end_in bytes ≤ q
+      → q < body_place_in bytes → byte_in (input_in bytes) q ≢ 0 → WrongMessage bytes q 10
   -- a body without SIGNATURE, or with an empty one
-  no_types : (fs : List Field) → FieldsStand bytes fs (fields_end_in bytes) → body_types fs ≡ no_kinds → body_place_in bytes < length bytes → WrongMessage bytes (body_place_in bytes) 35
+  no_types : (fs : List Field) → FieldsStand bytes fs (fields_end_in bytes) → body_types fs ≡ no_kinds
+      → body_place_in bytes < length bytes → WrongMessage bytes (body_place_in bytes) 35
   -- in a value of the body
   in_body : (fs : List Field) (place reason : ℕ) → FieldsStand bytes fs (fields_end_in bytes)
-      → WrongField (input_in bytes) 64 (body_types fs) (to_end bytes) (body_place_in bytes) place reason → WrongMessage bytes place reason
+      → WrongField (input_in bytes) 64 (body_types fs) (to_end bytes) (body_place_in bytes) place reason
+      → WrongMessage bytes place reason
   -- bytes are left behind the last value
-  left_over : (fs : List Field) (ds : Items) (next : ℕ) → FieldsStand bytes fs (fields_end_in bytes) → body_types fs ≢ no_kinds → BodyStands bytes (body_types fs) ds next → next < length bytes → WrongMessage bytes next 21
+  left_over : (fs : List Field) (ds : Items) (next : ℕ) → FieldsStand bytes fs (fields_end_in bytes)
+      → body_types fs ≢ no_kinds → BodyStands bytes (body_types fs) ds next → next < length bytes
+      → WrongMessage bytes next 21
 
 -- The fault that is told. What is wrong with the first 16 bytes decides alone.
 abbrev pub FirstFault : List ℕ → ℕ → ℕ → Type 0
 FirstFault bytes place reason =
-    IsFirst (WrongFront (take 16 bytes)) place reason ⊎ (IsSoundFront (take 16 bytes) × IsFirst (WrongMessage bytes) place reason)
+    IsFirst (WrongFront (take 16 bytes)) place reason
+    ⊎ (IsSoundFront (take 16 bytes) × IsFirst (WrongMessage bytes) place reason)

@@ -1,4 +1,5 @@
--- The first 16 bytes of a message: what they state, and what is wrong with them (D-Bus Specification, "Message Format").
+-- The first 16 bytes of a message: what they state, and what is wrong with them (D-Bus Specification, "Message
+-- Format").
 use Rattle.std.specs.Prelude.{◌≡◌, ◌≢◌, ◌<◌, ◌≤◌, ◌+◌, ◌==◌, ◌&&◌, not, nat_lt, ℕ, List, Result, Ok, Err, if◌then◌else◌}
 use Rattle.std.specs.Int.{w32}
 use Rattle.atspi_types.specs.declared.fault.Fault.{Fault}
@@ -43,8 +44,8 @@ body_place_in bytes = aligned 8 (fields_end_in bytes)
 abbrev pub length_in : List ℕ → ℕ
 length_in bytes = body_place_in bytes + body_length_in bytes
 
--- what is wrong with the first 16 bytes: the order, the type, the version, the whole length, the serial, the length of the
--- fields
+-- what is wrong with the first 16 bytes: the order, the type, the version, the whole length, the serial, the length of
+-- the fields
 pub data WrongFront (bytes : List ℕ) : ℕ → ℕ → Type 0 where
   no_order : byte_in (input_in bytes) 0 ≢ 108 → byte_in (input_in bytes) 0 ≢ 66 → WrongFront bytes 0 22
   no_type : type_in bytes ≡ 0 → WrongFront bytes 1 23
@@ -70,7 +71,8 @@ pub record IsSoundFront (bytes : List ℕ) : Type 0 where
 -- the length of the whole message, or the first fault
 unfoldable pub front_in : List ℕ → Result ℕ Fault
 front_in bytes =
-    if not (byte_in (input_in bytes) 0 == 108) && not (byte_in (input_in bytes) 0 == 66) then Err (record { place = 0; reason = 22 })
+    if not (byte_in (input_in bytes) 0 == 108) && not (byte_in (input_in bytes) 0 == 66)
+    then Err (record { place = 0; reason = 22 })
     else if type_in bytes == 0 then Err (record { place = 1; reason = 23 })
     else if not (version_in bytes == 1) then Err (record { place = 3; reason = 24 })
     else if nat_lt 134217728 (length_in bytes) then Err (record { place = 4; reason = 25 })

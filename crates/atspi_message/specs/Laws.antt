@@ -31,4 +31,5 @@ pub record HasOneFault (bytes : List ℕ) : Type 0 where
 
 -- bytes as long as they state are one message or have one first fault
 abbrev pub HasOneReading : Type 0
-HasOneReading = (bytes : List ℕ) → ((i : ℕ) → slice_index bytes i < 256) → length_in (take 16 bytes) ≡ length bytes → HasOneMessage bytes ⊎ HasOneFault bytes
+HasOneReading = (bytes : List ℕ) → ((i : ℕ) → slice_index bytes i < 256) → length_in (take 16 bytes) ≡ length bytes
+    → HasOneMessage bytes ⊎ HasOneFault bytes

@@ -1,11 +1,9 @@
+pub mod inner
 pub mod Bytes
 pub mod Codes
 pub mod Envelope
 pub mod Faults
 pub mod Front
 pub mod Rules
-pub mod Reading
-pub mod FieldsView
 pub mod Parsing
 pub mod Laws
-pub mod Writing

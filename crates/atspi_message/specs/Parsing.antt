@@ -6,7 +6,7 @@ use Rattle.atspi_types.specs.declared.fault.ReadFault.{ReadFault}
 use Rattle.atspi_types.specs.declared.fault.ReadFault.TheVariants as faults
 use Rattle.atspi_message.specs.Envelope.{Envelope, envelope_of}
 use Rattle.atspi_message.specs.Faults.{FirstFault}
-use Rattle.atspi_message.specs.Reading.{Found, message_at, Describes}
+use Rattle.atspi_message.specs.inner.Reading.{Found, message_at, Describes}
 use Rattle.atspi_message.specs.declared.message.Message.{Message}
 
 -- a fault that is told is the first one of the bytes

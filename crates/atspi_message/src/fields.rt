@@ -8,8 +8,10 @@ ghost use Rattle.atspi_types.specs.SignatureReading.{signature_in};
 ghost use Rattle.atspi_marshal.specs.Input.{byte_in, ReachTo};
 ghost use Rattle.atspi_marshal.specs.Faults.{short_in};
 ghost use Rattle.atspi_marshal.specs.Reading.{input_of, Gives, Fails, short_at, signature_body_at};
-ghost use Rattle.atspi_message.specs.Reading.{Found, none_found, slot, is_there, set_at, typed_body_at, typed_at, other_type, reply_at, descriptors_at, known_at, coded_at, field_at, all_fields_at, has_required};
-ghost use Rattle.atspi_message.specs.FieldsView.{found_of, signature_value};
+ghost use Rattle.atspi_message.specs.inner.Reading.{Found, none_found, slot, is_there, set_at, typed_body_at, typed_at};
+ghost use Rattle.atspi_message.specs.inner.Reading.{other_type, reply_at, descriptors_at, known_at, coded_at, field_at};
+ghost use Rattle.atspi_message.specs.inner.Reading.{all_fields_at, has_required};
+ghost use Rattle.atspi_message.specs.inner.FieldsView.{found_of, signature_value};
 
 use crate::code::{Code, code_of, letter_of};
 use crate::name::{bus_name, interface, member, path};
@@ -33,7 +35,7 @@ pub struct Fields {
 }
 
 /// The serial that a reply names, and the place behind it.
-#[tactic(auto, unfolding(crate::specs::Reading::reply_at))]
+#[tactic(auto, unfolding(crate::specs::inner::Reading::reply_at))]
 fn reply(input: &Marshalled, bound: Bound, at: usize) -> Result<(u32, usize), ReadFault>
     requires at { at ≤ bound.end }
     requires end { ReachTo input.now bound.end }
@@ -49,7 +51,7 @@ fn reply(input: &Marshalled, bound: Bound, at: usize) -> Result<(u32, usize), Re
 }
 
 /// The place behind a count of descriptors, which is 0.
-#[tactic(auto, unfolding(crate::specs::Reading::descriptors_at))]
+#[tactic(auto, unfolding(crate::specs::inner::Reading::descriptors_at))]
 fn descriptors(input: &Marshalled, bound: Bound, at: usize) -> Result<usize, ReadFault>
     requires at { at ≤ bound.end }
     requires end { ReachTo input.now bound.end }
@@ -98,7 +100,8 @@ fn signature(
 ) -> Result<(Signature, usize), ReadFault>
     requires at { at ≤ bound.end }
     requires end { ReachTo input.now bound.end }
-    ensures read { Gives (λ x. (signature_value x.0, x.1)) result (short_at (signature_body_at (input_of input.now)) (input_of input.now) bound at) }
+    ensures read { Gives (λ x. (signature_value x.0, x.1)) result
+        (short_at (signature_body_at (input_of input.now)) (input_of input.now) bound at) }
     ensures within { IfOk result (λ x. (at < x.1) × (x.1 ≤ bound.end)) }
 {
     let place = short(input, bound, at)?;
@@ -118,7 +121,7 @@ fn wrong_type(alloc: Global, input: &Marshalled, place: usize) -> ReadFault
 }
 
 /// The place behind the signature at a place, which has to be that of the field.
-#[tactic(auto, unfolding(crate::specs::Reading::typed_body_at))]
+#[tactic(auto, unfolding(crate::specs::inner::Reading::typed_body_at))]
 fn typed_body(
     alloc: Global,
     input: &Marshalled,
@@ -139,7 +142,7 @@ fn typed_body(
 }
 
 /// The place behind the signature of a field.
-#[tactic(auto, unfolding(crate::specs::Reading::typed_at))]
+#[tactic(auto, unfolding(crate::specs::inner::Reading::typed_at))]
 fn typed(
     alloc: Global,
     input: &Marshalled,
@@ -172,7 +175,8 @@ fn unknown(
 ) -> Result<usize, ReadFault>
     requires at { place + 1 ≤ bound.end }
     requires end { ReachTo input.now bound.end }
-    ensures read { (found : Found) → Gives (λ next. (found, next)) result (coded_at (input_of input.now) bound found place None) }
+    ensures read { (found : Found)
+        → Gives (λ next. (found, next)) result (coded_at (input_of input.now) bound found place None) }
     ensures within { IfOk result (λ next. (place < next) × (next ≤ bound.end)) }
 {
     Ok(end_of(value(alloc, input, 62, &Ty::Variant, bound, place + 1)?))
@@ -237,7 +241,8 @@ impl Fields {
     ) -> Result<usize, ReadFault>
         requires at { at ≤ bound.end }
         requires end { ReachTo input.now bound.end }
-        ensures read { Gives (λ next. (found_of self.new, next)) result (set_at (input_of input.now) bound code at (found_of self.old)) }
+        ensures read { Gives (λ next. (found_of self.new, next)) result
+            (set_at (input_of input.now) bound code at (found_of self.old)) }
         ensures within { IfOk result (λ next. (at < next) × (next ≤ bound.end)) }
     {
         match code {
@@ -290,7 +295,7 @@ impl Fields {
     }
 
     /// Reads the known field whose code stands at a place.
-    #[tactic(auto, unfolding(crate::specs::Reading::known_at))]
+    #[tactic(auto, unfolding(crate::specs::inner::Reading::known_at))]
     fn known(
         &mut self,
         alloc: Global,
@@ -301,7 +306,8 @@ impl Fields {
     ) -> Result<usize, ReadFault>
         requires at { place + 1 ≤ bound.end }
         requires end { ReachTo input.now bound.end }
-        ensures read { Gives (λ next. (found_of self.new, next)) result (known_at (input_of input.now) bound (found_of self.old) place code) }
+        ensures read { Gives (λ next. (found_of self.new, next)) result
+            (known_at (input_of input.now) bound (found_of self.old) place code) }
         ensures within { IfOk result (λ next. (place < next) × (next ≤ bound.end)) }
     {
         if self.has(code) {
@@ -312,7 +318,7 @@ impl Fields {
     }
 
     /// Reads a field, and gives the place behind it.
-    #[tactic(auto, unfolding(crate::specs::Reading::field_at))]
+    #[tactic(auto, unfolding(crate::specs::inner::Reading::field_at))]
     fn read(
         &mut self,
         alloc: Global,
@@ -322,7 +328,8 @@ impl Fields {
     ) -> Result<usize, ReadFault>
         requires at { at ≤ bound.end }
         requires end { ReachTo input.now bound.end }
-        ensures read { Gives (λ next. (found_of self.new, next)) result (field_at (input_of input.now) bound (found_of self.old) at) }
+        ensures read { Gives (λ next. (found_of self.new, next)) result
+            (field_at (input_of input.now) bound (found_of self.old) at) }
         ensures within { IfOk result (λ next. (at ≤ next) × (next ≤ bound.end)) }
     {
         let place = room(input, 8, 1, bound, at)?;

@@ -28,8 +28,8 @@ pub fn order_byte(order: Order) -> u8
     }
 }
 
-/// The length of the message that begins with these bytes, by the lengths that they state. Refused with the first fault of
-/// the reasons 22 to 27.
+/// The length of the message that begins with these bytes, by the lengths that they state. Refused with the first fault
+/// of the reasons 22 to 27.
 #[tactic(auto, unfolding(crate::specs::Front::front_in))]
 pub fn total(first: &[u8; 16]) -> Result<u32, Fault>
     ensures length { IfOk result (λ length. length ≡ length_in first.now) }

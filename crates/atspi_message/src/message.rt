@@ -8,8 +8,8 @@ use atspi_base::valid_names::{BusName, Interface, Member, Path};
 use atspi_types::{Order, Values};
 use std::alloc::Global;
 
-/// A message (D-Bus Specification, "Message Protocol"): the order of its bytes, the fields of its header, and the values of
-/// its body.
+/// A message (D-Bus Specification, "Message Protocol"): the order of its bytes, the fields of its header, and the
+/// values of its body.
 #[derive(Drop)]
 pub struct Message {
     pub order: Order,

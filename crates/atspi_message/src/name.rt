@@ -5,8 +5,11 @@ ghost use Rattle.std.specs.Int.{w32};
 ghost use Rattle.atspi_types.specs.Data.{path_data, text_data};
 ghost use Rattle.atspi_marshal.specs.Input.{number_in, ReachTo};
 ghost use Rattle.atspi_marshal.specs.Reading.{input_of, Gives};
-ghost use Rattle.atspi_message.specs.Reading.{name_body_at, name_at};
-ghost use Rattle.atspi_message.specs.declared.code.Code.TheVariants.{Path as PathCode, Interface as InterfaceCode, Member as MemberCode, Error as ErrorCode, Destination as DestinationCode, Sender as SenderCode};
+ghost use Rattle.atspi_message.specs.inner.Reading.{name_body_at, name_at};
+ghost use Rattle.atspi_message.specs.declared.code.Code.TheVariants.{Path as PathCode, Interface as InterfaceCode};
+ghost use Rattle.atspi_message.specs.declared.code.Code.TheVariants.{Member as MemberCode, Error as ErrorCode};
+ghost use Rattle.atspi_message.specs.declared.code.Code.TheVariants.{Destination as DestinationCode};
+ghost use Rattle.atspi_message.specs.declared.code.Code.TheVariants.{Sender as SenderCode};
 
 use atspi_base::valid_names::{BusName, Interface, Member, NameFault, Path};
 use atspi_marshal::{Bound, Marshalled, bad, byte_at, long, slice, u32_at};
@@ -14,7 +17,7 @@ use atspi_types::ReadFault;
 use std::alloc::Global;
 
 /// A path whose length stands at a place.
-#[tactic(auto, unfolding(crate::specs::Reading::name_body_at))]
+#[tactic(auto, unfolding(crate::specs::inner::Reading::name_body_at))]
 fn path_body(alloc: Global, input: &Marshalled, place: usize) -> Result<(Path, usize), ReadFault>
     requires { ReachTo input.now (place + 5 + number_in (input_of input.now) w32 place) }
     ensures path { Gives (λ x. (path_data x.0, x.1)) result (name_body_at PathCode (input_of input.now) place) }
@@ -35,7 +38,7 @@ fn path_body(alloc: Global, input: &Marshalled, place: usize) -> Result<(Path, u
 }
 
 /// A path, and the place behind it.
-#[tactic(auto, unfolding(crate::specs::Reading::name_at, atspi_marshal::specs::Reading::long_at))]
+#[tactic(auto, unfolding(crate::specs::inner::Reading::name_at, atspi_marshal::specs::Reading::long_at))]
 pub fn path(
     alloc: Global,
     input: &Marshalled,
@@ -52,14 +55,15 @@ pub fn path(
 }
 
 /// The name of an interface or of an error whose length stands at a place.
-#[tactic(auto, unfolding(crate::specs::Reading::name_body_at))]
+#[tactic(auto, unfolding(crate::specs::inner::Reading::name_body_at))]
 fn interface_body(
     alloc: Global,
     input: &Marshalled,
     place: usize,
 ) -> Result<(Interface, usize), ReadFault>
     requires { ReachTo input.now (place + 5 + number_in (input_of input.now) w32 place) }
-    ensures interface { Gives (λ x. (text_data x.0, x.1)) result (name_body_at InterfaceCode (input_of input.now) place) }
+    ensures interface { Gives (λ x. (text_data x.0, x.1)) result
+        (name_body_at InterfaceCode (input_of input.now) place) }
     ensures error { Gives (λ x. (text_data x.0, x.1)) result (name_body_at ErrorCode (input_of input.now) place) }
     ensures within { IfOk result (λ x. x.1 ≡ place + 5 + number_in (input_of input.now) w32 place) }
 {
@@ -78,7 +82,7 @@ fn interface_body(
 }
 
 /// The name of an interface or of an error, and the place behind it.
-#[tactic(auto, unfolding(crate::specs::Reading::name_at, atspi_marshal::specs::Reading::long_at))]
+#[tactic(auto, unfolding(crate::specs::inner::Reading::name_at, atspi_marshal::specs::Reading::long_at))]
 pub fn interface(
     alloc: Global,
     input: &Marshalled,
@@ -96,7 +100,7 @@ pub fn interface(
 }
 
 /// The name of a member whose length stands at a place.
-#[tactic(auto, unfolding(crate::specs::Reading::name_body_at))]
+#[tactic(auto, unfolding(crate::specs::inner::Reading::name_body_at))]
 fn member_body(
     alloc: Global,
     input: &Marshalled,
@@ -121,7 +125,7 @@ fn member_body(
 }
 
 /// The name of a member, and the place behind it.
-#[tactic(auto, unfolding(crate::specs::Reading::name_at, atspi_marshal::specs::Reading::long_at))]
+#[tactic(auto, unfolding(crate::specs::inner::Reading::name_at, atspi_marshal::specs::Reading::long_at))]
 pub fn member(
     alloc: Global,
     input: &Marshalled,
@@ -138,14 +142,15 @@ pub fn member(
 }
 
 /// A bus name whose length stands at a place.
-#[tactic(auto, unfolding(crate::specs::Reading::name_body_at))]
+#[tactic(auto, unfolding(crate::specs::inner::Reading::name_body_at))]
 fn bus_name_body(
     alloc: Global,
     input: &Marshalled,
     place: usize,
 ) -> Result<(BusName, usize), ReadFault>
     requires { ReachTo input.now (place + 5 + number_in (input_of input.now) w32 place) }
-    ensures destination { Gives (λ x. (text_data x.0, x.1)) result (name_body_at DestinationCode (input_of input.now) place) }
+    ensures destination { Gives (λ x. (text_data x.0, x.1)) result
+        (name_body_at DestinationCode (input_of input.now) place) }
     ensures sender { Gives (λ x. (text_data x.0, x.1)) result (name_body_at SenderCode (input_of input.now) place) }
     ensures within { IfOk result (λ x. x.1 ≡ place + 5 + number_in (input_of input.now) w32 place) }
 {
@@ -164,7 +169,7 @@ fn bus_name_body(
 }
 
 /// A bus name, and the place behind it.
-#[tactic(auto, unfolding(crate::specs::Reading::name_at, atspi_marshal::specs::Reading::long_at))]
+#[tactic(auto, unfolding(crate::specs::inner::Reading::name_at, atspi_marshal::specs::Reading::long_at))]
 pub fn bus_name(
     alloc: Global,
     input: &Marshalled,
@@ -173,7 +178,8 @@ pub fn bus_name(
 ) -> Result<(BusName, usize), ReadFault>
     requires at { at ≤ bound.end }
     requires end { ReachTo input.now bound.end }
-    ensures destination { Gives (λ x. (text_data x.0, x.1)) result (name_at DestinationCode (input_of input.now) bound at) }
+    ensures destination { Gives (λ x. (text_data x.0, x.1)) result
+        (name_at DestinationCode (input_of input.now) bound at) }
     ensures sender { Gives (λ x. (text_data x.0, x.1)) result (name_at SenderCode (input_of input.now) bound at) }
     ensures within { IfOk result (λ x. (at < x.1) × (x.1 ≤ bound.end)) }
 {

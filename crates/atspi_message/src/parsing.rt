@@ -10,8 +10,8 @@ ghost use Rattle.atspi_message.specs.Envelope.{Envelope, envelope_of};
 ghost use Rattle.atspi_message.specs.Bytes.{IsMessage};
 ghost use Rattle.atspi_message.specs.Front.{type_in, fields_end_in, body_place_in, length_in, IsSoundFront};
 ghost use Rattle.atspi_message.specs.Faults.{FirstFault};
-ghost use Rattle.atspi_message.specs.FieldsView.{found_of};
-ghost use Rattle.atspi_message.specs.Reading.{has_required, rest_at, some_values_at, values_at, missing_at};
+ghost use Rattle.atspi_message.specs.inner.FieldsView.{found_of};
+ghost use Rattle.atspi_message.specs.inner.Reading.{has_required, rest_at, some_values_at, values_at, missing_at};
 ghost use Rattle.atspi_message.specs.Parsing.{Reads, TellsFirst, IsMessageOrNoMemory, IsFaultOrNoMemory};
 
 use crate::fields::Fields;
@@ -65,7 +65,7 @@ fn fields_end(bytes: &[u8]) -> usize
 }
 
 /// The body, behind its padding.
-#[tactic(auto, unfolding(crate::specs::Reading::rest_at))]
+#[tactic(auto, unfolding(crate::specs::inner::Reading::rest_at))]
 fn rest(alloc: Global, bytes: &[u8], fields: &Fields) -> Result<Values, ReadFault>
     requires { (16 ≤ length bytes.now) × (fields_end_in bytes.now ≤ length bytes.now) × PlacesFit bytes.now }
     ensures { Gives all_data result (rest_at bytes.now (found_of fields.now)) }
@@ -86,8 +86,8 @@ fn rest(alloc: Global, bytes: &[u8], fields: &Fields) -> Result<Values, ReadFaul
     }
 }
 
-/// What is told where a required field is missing: what the padding or the body tells at the end of the fields for a lesser
-/// reason, or that.
+/// What is told where a required field is missing: what the padding or the body tells at the end of the fields for a
+/// lesser reason, or that.
 fn missing(alloc: Global, bytes: &[u8], fields: &Fields) -> ReadFault
     requires { (16 ≤ length bytes.now) × (fields_end_in bytes.now ≤ length bytes.now) × PlacesFit bytes.now }
     ensures { Fails result (missing_at (fields_end_in bytes.now) (rest_at bytes.now (found_of fields.now))) }
@@ -108,7 +108,9 @@ fn missing(alloc: Global, bytes: &[u8], fields: &Fields) -> ReadFault
 /// The body of a message with these fields.
 fn body(alloc: Global, bytes: &[u8], fields: &Fields) -> Result<Values, ReadFault>
     requires { (16 ≤ length bytes.now) × (fields_end_in bytes.now ≤ length bytes.now) × PlacesFit bytes.now }
-    ensures { Gives all_data result (if has_required (type_in bytes.now) (found_of fields.now) then rest_at bytes.now (found_of fields.now) else missing_at (fields_end_in bytes.now) (rest_at bytes.now (found_of fields.now))) }
+    ensures { Gives all_data result
+        (if has_required (type_in bytes.now) (found_of fields.now) then rest_at bytes.now (found_of fields.now)
+        else missing_at (fields_end_in bytes.now) (rest_at bytes.now (found_of fields.now))) }
 {
     if fields.has_required(bytes[1]) {
         rest(alloc, bytes, fields)
@@ -118,7 +120,7 @@ fn body(alloc: Global, bytes: &[u8], fields: &Fields) -> Result<Values, ReadFaul
 }
 
 /// The message that the bytes are.
-#[tactic(auto, unfolding(crate::specs::Reading::message_at, crate::specs::Reading::ended_at))]
+#[tactic(auto, unfolding(crate::specs::inner::Reading::message_at, crate::specs::inner::Reading::ended_at))]
 fn read(alloc: Global, bytes: &[u8]) -> Result<Message, ReadFault>
     requires { (16 ≤ length bytes.now) × (fields_end_in bytes.now ≤ length bytes.now) × PlacesFit bytes.now }
     ensures { Reads result bytes.now }
@@ -150,8 +152,8 @@ fn read(alloc: Global, bytes: &[u8]) -> Result<Message, ReadFault>
 }
 
 impl Message {
-    /// The message that the bytes are. They are as long as their first 16 state, which have no fault (`total`). Refused as
-    /// `Bad` with the first fault, of the reasons 2 to 21 and 28 to 35.
+    /// The message that the bytes are. They are as long as their first 16 state, which have no fault (`total`). Refused
+    /// as `Bad` with the first fault, of the reasons 2 to 21 and 28 to 35.
     pub fn parse(alloc: Global, bytes: &[u8]) -> Result<Message, ReadFault>
         requires length { length_in (take 16 bytes.now) ≡ length bytes.now }
         requires sound { IsSoundFront (take 16 bytes.now) }

@@ -7,7 +7,7 @@ ghost use Rattle.atspi_marshal.specs.Writing.{Writes};
 ghost use Rattle.atspi_message.specs.Bytes.{FitsWire, IsMessage, rising_fields, written};
 ghost use Rattle.atspi_message.specs.Envelope.{envelope_of};
 ghost use Rattle.atspi_message.specs.Rules.{MeetsRules, HasNames};
-ghost use Rattle.atspi_message.specs.Writing.{start_bytes, fields_bytes, HeaderFits, HasWidths};
+ghost use Rattle.atspi_message.specs.inner.Writing.{start_bytes, fields_bytes, HeaderFits, HasWidths};
 
 mod fields;
 
@@ -37,7 +37,8 @@ fn put_start(message: &Message, out: &mut Bytes) -> Result<(), NoMemory>
 /// A header. The length of the body is 0 so far. The place behind the fields.
 fn put_header(message: &Message, out: &mut Bytes) -> Result<usize, WriteFault>
     requires { AreWellTyped (items_of (all_data message.now.body)) }
-    ensures writes { let e = envelope_of message.now in Writes (HeaderFits e) (start_bytes e ++ fields_bytes e) 0 out.old out.new result }
+    ensures writes { let e = envelope_of message.now in
+        Writes (HeaderFits e) (start_bytes e ++ fields_bytes e) 0 out.old out.new result }
     ensures front { take (length out.old) out.new ≡ out.old }
     ensures named { OnOk result (HasNames (envelope_of message.now)) }
     ensures widths { HasWidths (envelope_of message.now) }
@@ -56,7 +57,8 @@ fn put_message(message: &Message, out: &mut Bytes) -> Result<(), WriteFault>
     ensures ok { OnOk result (out.new ≡ out.old ++ written (envelope_of message.now)) }
     ensures fits { OnOk result (FitsWire (envelope_of message.now) (rising_fields (envelope_of message.now))) }
     ensures named { OnOk result (HasNames (envelope_of message.now)) }
-    ensures big { IsErrOf result WriteFault.Big → ¬ FitsWire (envelope_of message.now) (rising_fields (envelope_of message.now)) }
+    ensures big { IsErrOf result WriteFault.Big
+        → ¬ FitsWire (envelope_of message.now) (rising_fields (envelope_of message.now)) }
     ensures front { take (length out.old) out.new ≡ out.old }
 {
     let end = put_header(message, out)?;
@@ -68,17 +70,19 @@ fn put_message(message: &Message, out: &mut Bytes) -> Result<(), WriteFault>
 }
 
 impl Message {
-    /// Appends the written form of the message (D-Bus Specification, "Message Format"): the fields in rising order of their
-    /// codes, each only where it is there, SIGNATURE where the body is not empty, and UNIX_FDS never. `Big` where the fields
-    /// or an array pass 67,108,864 bytes, the message passes 134,217,728, containers stand more than 64 deep in one another,
-    /// or the types of the body or of a variant pass the limits of a signature. After a refusal `out` is as before.
+    /// Appends the written form of the message (D-Bus Specification, "Message Format"): the fields in rising order of
+    /// their codes, each only where it is there, SIGNATURE where the body is not empty, and UNIX_FDS never. `Big` where
+    /// the fields or an array pass 67,108,864 bytes, the message passes 134,217,728, containers stand more than 64 deep
+    /// in one another, or the types of the body or of a variant pass the limits of a signature. After a refusal `out`
+    /// is as before.
     pub fn write(&self, out: &mut Bytes) -> Result<(), WriteFault>
         requires meets { MeetsRules (envelope_of self.now) }
         ensures ok { OnOk result (out.new ≡ out.old ++ written (envelope_of self.now)) }
         ensures fits { OnOk result (FitsWire (envelope_of self.now) (rising_fields (envelope_of self.now))) }
         // What was appended is a message, which is read as this one.
         ensures message { OnOk result (IsMessage (envelope_of self.now) (written (envelope_of self.now))) }
-        ensures big { IsErrOf result WriteFault.Big → ¬ FitsWire (envelope_of self.now) (rising_fields (envelope_of self.now)) }
+        ensures big { IsErrOf result WriteFault.Big
+            → ¬ FitsWire (envelope_of self.now) (rising_fields (envelope_of self.now)) }
         ensures err { OnErr result (out.new ≡ out.old) }
     {
         let len = out.len();

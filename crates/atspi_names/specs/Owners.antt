@@ -1,5 +1,6 @@
 -- Who owns the names of a bus (D-Bus Specification, "Message Bus Names", "RequestName", "ReleaseName").
-use Rattle.std.specs.Prelude.{◌≡◌, ◌≢◌, ℕ, ◌+◌, ◌^◌, ◌<◌, ◌≤◌, not, ◌==◌, List, [], ◌∷◌, ◌++◌, map, filter, length, Some, unwrap_or, refl}
+use Rattle.std.specs.Prelude.{◌≡◌, ◌≢◌, ℕ, ◌+◌, ◌^◌, ◌<◌, ◌≤◌, not, ◌==◌, List, [], ◌∷◌, ◌++◌, map, filter, length}
+use Rattle.std.specs.Prelude.{Some, unwrap_or, refl}
 use Rattle.std.specs.Ordering.{nat_cmp}
 use Rattle.std.specs.Cmp.Lexicographic.{slice_cmp}
 use Rattle.std.specs.Fmt.{decimal}
@@ -39,7 +40,8 @@ unique_name n = 58 ∷ 49 ∷ 46 ∷ decimal n
 -- org.freedesktop.DBus, the name of the bus itself
 abbrev pub own_name : List ℕ
 own_name =
-    111 ∷ 114 ∷ 103 ∷ 46 ∷ 102 ∷ 114 ∷ 101 ∷ 101 ∷ 100 ∷ 101 ∷ 115 ∷ 107 ∷ 116 ∷ 111 ∷ 112 ∷ 46 ∷ 68 ∷ 66 ∷ 117 ∷ 115 ∷ []
+    111 ∷ 114 ∷ 103 ∷ 46 ∷ 102 ∷ 114 ∷ 101 ∷ 101 ∷ 100 ∷ 101 ∷ 115 ∷ 107 ∷ 116 ∷ 111 ∷ 112 ∷ 46 ∷ 68 ∷ 66 ∷ 117 ∷ 115
+    ∷ []
 
 -- how many unique names were given, the unique name of each connection that has one, and the list of each owned name
 pub record Owners : Type 0 where
@@ -52,7 +54,8 @@ abbrev pub owners_code : Coded Owners
 owners_code =
     code_by (ℕ × (FinMap nat_cmp (List ℕ) × Lists))
     (coded× coded_ℕ
-    (coded× (finmap.code coded_ℕ (coded_list coded_ℕ)) (finmap.code (coded_list coded_ℕ) (coded_list (coded× coded_ℕ coded_ℕ)))))
+    (coded× (finmap.code coded_ℕ (coded_list coded_ℕ))
+    (finmap.code (coded_list coded_ℕ) (coded_list (coded× coded_ℕ coded_ℕ)))))
     (λ o. (o.given, (o.unique, o.lists))) (λ t. record { given = t.0; unique = t.1.0; lists = t.1.1 }) (λ _. refl)
 
 -- nobody has a name, and none was given

@@ -1,6 +1,7 @@
 -- The list of one name: the connections that asked for it, each with the flags of its last request, the owner first
 -- (D-Bus Specification, "RequestName" and "ReleaseName").
-use Rattle.std.specs.Prelude.{◌≡◌, ℕ, Bool, false, not, ◌&&◌, ◌==◌, List, [], ◌∷◌, ◌++◌, map, filter, Option, None, Some, if◌then◌else◌, bit_and}
+use Rattle.std.specs.Prelude.{◌≡◌, ℕ, Bool, false, not, ◌&&◌, ◌==◌, List, [], ◌∷◌, ◌++◌, map, filter, Option, None}
+use Rattle.std.specs.Prelude.{Some, if◌then◌else◌, bit_and}
 use Rattle.std.specs.List.{list_any}
 use Rattle.atspi_names.specs.declared.change.OwnerChange.{OwnerChange}
 

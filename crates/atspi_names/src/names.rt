@@ -1,13 +1,15 @@
 //! Who owns the names of a bus, and who waits for them.
 
-ghost use Rattle.std.specs.Prelude.{◌≡◌, ◌≢◌, ◌<◌, ◌^◌, ◌↔◌, ◌++◌, ℕ, false, None, IfOk, IfErr, IsTrue, OnOk, OnErr, IsErrOf};
+ghost use Rattle.std.specs.Prelude.{◌≡◌, ◌≢◌, ◌<◌, ◌^◌, ◌↔◌, ◌++◌, ℕ, false, None, IfOk, IfErr, IsTrue, OnOk, OnErr};
+ghost use Rattle.std.specs.Prelude.{IsErrOf};
 ghost use Rattle.std.specs.Option.{option_copied};
 ghost use Rattle.std.specs.Ordering.{nat_cmp};
 ghost use Rattle.std.specs.FinMap as finmap;
 ghost use Rattle.atspi_names.specs.Owners as owners;
 ghost use Rattle.atspi_base.specs.valid_names.Names.{is_unique_name};
 ghost use Rattle.atspi_names.specs.Queue.{request_change, release_change, owner_in, IsRequestAnswer};
-ghost use Rattle.atspi_names.specs.Owners.{Owners, list_of, unique_name, listed, owned_by, nobody, after_hello, after_request, after_release, after_gone};
+ghost use Rattle.atspi_names.specs.Owners.{Owners, list_of, unique_name, listed, owned_by, nobody, after_hello};
+ghost use Rattle.atspi_names.specs.Owners.{after_request, after_release, after_gone};
 ghost use Rattle.atspi_names.specs.Hello.{IsAfterHello};
 ghost use Rattle.atspi_names.specs.Tree.{as_unique};
 ghost use Rattle.atspi_names.specs.declared.names.NamesFault.TheVariants as faults;

@@ -1,7 +1,8 @@
 //! The list of one name: its owner, and the connections that wait for it.
 
 ghost use Rattle.std.specs.Prelude.{◌≡◌, ◌≢◌, ◌<◌, ◌≤◌, IfOk, OnOk, OnErr, [], Some, vec_len, vec_capacity};
-ghost use Rattle.atspi_names.specs.Queue.{requested, released, request_change, release_change, without, with_flags, taken_over};
+ghost use Rattle.atspi_names.specs.Queue.{requested, released, request_change, release_change, without, with_flags};
+ghost use Rattle.atspi_names.specs.Queue.{taken_over};
 ghost use Rattle.atspi_names.specs.Queue as queue;
 
 use crate::OwnerChange;

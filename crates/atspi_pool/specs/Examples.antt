@@ -1,8 +1,10 @@
 -- Values worked out by hand, one for each case.
 use Rattle.std.specs.Prelude.{◌≡◌, [], ◌∷◌, replicate, Some, None}
-use Rattle.atspi_pool.specs.Chains.{Chain, empty_chain, blocks_for, blocks_of, front_of, room_in, pushed, popped_by, cut_by}
+use Rattle.atspi_pool.specs.Chains.{Chain, empty_chain, blocks_for, blocks_of, front_of, room_in, pushed, popped_by}
+use Rattle.atspi_pool.specs.Chains.{cut_by}
 use Rattle.atspi_pool.specs.Store.{Store, blocks_in, all_blocks, held, chain_at, with_chain, HasFront}
-use Rattle.atspi_pool.specs.Pool.{no_pool, in_use, SetsChain, after_push, most_for, most_in, most_of, HasFewBlocks, IsCall, AreCalls, made_after, greatest}
+use Rattle.atspi_pool.specs.Pool.{no_pool, in_use, SetsChain, after_push, most_for, most_in, most_of, HasFewBlocks}
+use Rattle.atspi_pool.specs.Pool.{IsCall, AreCalls, made_after, greatest}
 
 -- three bytes behind 254 popped ones: two in the first block, one in the next
 abbrev pub three : Chain
@@ -50,8 +52,11 @@ pub record PoolsChange : Type 0 where
   pub used : in_use one_chain.chains ≡ 1
   pub new : no_pool ≡ record { made = 0; chains = [] }
   pub makes_none : (after_push one_chain 1 (1 ∷ [])).made ≡ 2
-  pub makes_one : (after_push (record { made = 1; chains = Some (record { popped = 255; bytes = 7 ∷ [] }) ∷ [] }) 0 (1 ∷ [])).made ≡ 2
-  pub appends : (after_push one_chain 1 (1 ∷ [])).chains ≡ None ∷ Some (record { popped = 254; bytes = 7 ∷ 8 ∷ 9 ∷ 1 ∷ [] }) ∷ []
+  pub makes_one
+      : (after_push (record { made = 1; chains = Some (record { popped = 255; bytes = 7 ∷ [] }) ∷ [] }) 0
+      (1 ∷ [])).made ≡ 2
+  pub appends : (after_push one_chain 1 (1 ∷ [])).chains
+      ≡ None ∷ Some (record { popped = 254; bytes = 7 ∷ 8 ∷ 9 ∷ 1 ∷ [] }) ∷ []
 
 pub record FrontsAreTold : Type 0 where
   pub some : HasFront (Some three)
@@ -62,7 +67,8 @@ pub record FrontsAreTold : Type 0 where
 
 pub record ChainsAreSet : Type 0 where
   pub dropped : SetsChain one_chain (record { made = 2; chains = None ∷ None ∷ [] }) 1 None
-  pub opened : SetsChain one_chain (record { made = 2; chains = Some empty_chain ∷ Some three ∷ [] }) 0 (Some empty_chain)
+  pub opened
+      : SetsChain one_chain (record { made = 2; chains = Some empty_chain ∷ Some three ∷ [] }) 0 (Some empty_chain)
   pub not_named : SetsChain one_chain one_chain 1 None → ⊥
   pub other : SetsChain one_chain (record { made = 2; chains = Some empty_chain ∷ None ∷ [] }) 1 None → ⊥
   pub made : SetsChain one_chain (record { made = 3; chains = None ∷ None ∷ [] }) 1 None → ⊥

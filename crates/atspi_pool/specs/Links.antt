@@ -1,5 +1,6 @@
 -- Every block is free or in exactly one chain: the blocks of a pool by their numbers.
-use Rattle.std.specs.Prelude.{◌≡◌, ℕ, ◌+◌, ◌-◌, false, nat_lt, ◌==◌, if◌then◌else◌, List, [], ◌∷◌, ◌++◌, set, length, take, drop, slice_index_or, slice_index, count_by, sum_by}
+use Rattle.std.specs.Prelude.{◌≡◌, ℕ, ◌+◌, ◌-◌, false, nat_lt, ◌==◌, if◌then◌else◌, List, [], ◌∷◌, ◌++◌, set, length}
+use Rattle.std.specs.Prelude.{take, drop, slice_index_or, slice_index, count_by, sum_by}
 use Rattle.atspi_pool.specs.declared.run.Marks.{Marks}
 
 -- a chain: what stands beside its blocks, and their numbers in order
@@ -31,7 +32,8 @@ times x xs = count_by (λ y. y == x) xs
 
 -- each block that was made is free or in a chain, and stands just once in all of them
 pub record IsApart (l : Linked) : Type 0 where
-  pub once : (x : ℕ) → times x l.unused + sum_by (λ (e : Entry). times x e.blocks) l.chains ≡ (if nat_lt x l.made then 1 else 0)
+  pub once : (x : ℕ)
+      → times x l.unused + sum_by (λ (e : Entry). times x e.blocks) l.chains ≡ (if nat_lt x l.made then 1 else 0)
   pub counted : length l.unused + sum_by (λ (e : Entry). length e.blocks) l.chains ≡ l.made
 
 -- the first of a list of numbers

@@ -1,5 +1,6 @@
 -- A pool as its callers see it.
-use Rattle.std.specs.Prelude.{◌≡◌, ◌≢◌, ℕ, ◌+◌, ◌/◌, ◌<◌, ◌≤◌, ◌⊎◌, ◌∷◌, ◌==◌, nat_lt, if◌then◌else◌, ◌&&◌, is_none, is_some, List, [], length, count_by, sum_by, max, Option, Some, None}
+use Rattle.std.specs.Prelude.{◌≡◌, ◌≢◌, ℕ, ◌+◌, ◌/◌, ◌<◌, ◌≤◌, ◌⊎◌, ◌∷◌, ◌==◌, nat_lt, if◌then◌else◌, ◌&&◌, is_none}
+use Rattle.std.specs.Prelude.{is_some, List, [], length, count_by, sum_by, max, Option, Some, None}
 use Rattle.atspi_pool.specs.Chains.{Chain, blocks_of}
 use Rattle.atspi_pool.specs.Links.{times}
 use Rattle.atspi_pool.specs.Store.{Store, chain_at, with_pushed, blocks_in, all_blocks}
@@ -20,7 +21,8 @@ pub record SetsChain (old new : Store) (chain : ℕ) (c : Option Chain) : Type 0
 
 -- the chain has the bytes behind its own, and only as many blocks were made as were missing
 abbrev pub after_push : Store → ℕ → List ℕ → Store
-after_push s chain bytes = record (with_pushed s chain bytes) { made = max s.made (all_blocks (with_pushed s chain bytes).chains) }
+after_push s chain bytes =
+    record (with_pushed s chain bytes) { made = max s.made (all_blocks (with_pushed s chain bytes).chains) }
 
 -- each number below the table's length is in use or stands once among those that are not
 pub record IsNumbered (s : Store) (unused : List ℕ) (capacity : ℕ) : Type 0 where
@@ -48,7 +50,8 @@ HasFewBlocks s = (q : ℕ) → blocks_in (chain_at s q) ≤ most_in (chain_at s 
 -- out of memory, whose chain counts with all the bytes, or a call that makes none
 abbrev pub IsCall : Store → Store → ℕ → Type 0
 IsCall old new most =
-    ((chain : ℕ) × (bytes : List ℕ) × ((most ≡ most_of (with_pushed old chain bytes).chains) × (new.made ≤ max old.made most)))
+    ((chain : ℕ) × (bytes : List ℕ)
+    × ((most ≡ most_of (with_pushed old chain bytes).chains) × (new.made ≤ max old.made most)))
     ⊎ ((most ≡ most_of new.chains) × (new.made ≡ old.made))
 
 -- calls one behind the other, each with its most and the state that it leaves
@@ -72,4 +75,5 @@ MadeIsBound = (calls : List (ℕ × Store)) → AreCalls no_pool calls → made_
 
 -- a chain has no block where it is empty, and else at most two more than its bytes fill
 abbrev pub BlocksAreFew : Type 0
-BlocksAreFew = (chain : Chain) → chain.popped < 256 → (length chain.bytes ≡ 0 → chain.popped ≡ 0) → blocks_of chain ≤ most_for (length chain.bytes)
+BlocksAreFew = (chain : Chain) → chain.popped < 256 → (length chain.bytes ≡ 0 → chain.popped ≡ 0)
+    → blocks_of chain ≤ most_for (length chain.bytes)

@@ -1,5 +1,6 @@
 -- The chains of a pool as a list, by their numbers.
-use Rattle.std.specs.Prelude.{◌≡◌, ℕ, ◌+◌, ◌*◌, ◌^◌, ◌<◌, false, if◌then◌else◌, List, ◌++◌, length, take, drop, set, map, sum_by, slice_index_or, Option, Some, None}
+use Rattle.std.specs.Prelude.{◌≡◌, ℕ, ◌+◌, ◌*◌, ◌^◌, ◌<◌, false, if◌then◌else◌, List, ◌++◌, length, take, drop, set}
+use Rattle.std.specs.Prelude.{map, sum_by, slice_index_or, Option, Some, None}
 use Rattle.std.specs.List.{flat_map}
 use Rattle.atspi_pool.specs.Chains.{Chain, empty_chain, blocks_for, blocks_of, pushed}
 use Rattle.atspi_pool.specs.Links.{Entry, Linked, no_entry}

@@ -1,5 +1,6 @@
 -- How the table of links is read: from a block to the one behind it.
-use Rattle.std.specs.Prelude.{◌≡◌, ℕ, suc, zero, ◌-◌, ◌<◌, List, [], ◌∷◌, map, length, slice_index, slice_index_or, false}
+use Rattle.std.specs.Prelude.{◌≡◌, ℕ, suc, zero, ◌-◌, ◌<◌, List, [], ◌∷◌, map, length, slice_index, slice_index_or}
+use Rattle.std.specs.Prelude.{false}
 use Rattle.atspi_pool.specs.declared.run.Run.{Run}
 use Rattle.atspi_pool.specs.Links.{Entry, Linked, IsApart}
 

@@ -1,6 +1,7 @@
 //! Values of the definitions, worked out by hand: none of these functions does anything.
 
-ghost use Rattle.atspi_pool.specs.Examples.{BlocksAreCounted, ChainsChange, PoolsChange, FrontsAreTold, ChainsAreSet, CallsAreTold, BoundsAreCounted};
+ghost use Rattle.atspi_pool.specs.Examples.{BlocksAreCounted, ChainsChange, PoolsChange, FrontsAreTold, ChainsAreSet};
+ghost use Rattle.atspi_pool.specs.Examples.{CallsAreTold, BoundsAreCounted};
 
 /// How many blocks chains have.
 pub fn blocks_are_counted()

@@ -1,8 +1,10 @@
 //! Lists of block numbers, linked inside one table: one of free blocks, and one for each chain.
 
-ghost use Rattle.std.specs.Prelude.{◌≡◌, ◌+◌, ◌<◌, ◌≤◌, ℕ, [], ◌∷◌, ◌++◌, length, slice_index, true, false, IfOk, OnOk, OnErr};
+ghost use Rattle.std.specs.Prelude.{◌≡◌, ◌+◌, ◌<◌, ◌≤◌, ℕ, [], ◌∷◌, ◌++◌, length, slice_index, true, false, IfOk, OnOk};
+ghost use Rattle.std.specs.Prelude.{OnErr};
 ghost use Rattle.std.specs.Bool.{MatchBool};
-ghost use Rattle.atspi_pool.specs.Links.{entry_at, first_of, last_of, taken, front_given, front_kept, marked, with_blocks, IsApart};
+ghost use Rattle.atspi_pool.specs.Links.{entry_at, first_of, last_of, taken, front_given, front_kept, marked};
+ghost use Rattle.atspi_pool.specs.Links.{with_blocks, IsApart};
 ghost use Rattle.atspi_pool.specs.Walk.{walk};
 
 use crate::run::{Marks, Run};

@@ -1,6 +1,7 @@
 //! A pool of blocks for queues of bytes.
 
-ghost use Rattle.std.specs.Prelude.{vec_capacity, ◌≡◌, ◌≢◌, ◌+◌, ◌-◌, ◌<◌, ◌≤◌, ◌^◌, ◌↔◌, ℕ, [], ◌∷◌, ◌++◌, length, max, None, Some, IsSome, IfOk, OnOk, OnErr};
+ghost use Rattle.std.specs.Prelude.{vec_capacity, ◌≡◌, ◌≢◌, ◌+◌, ◌-◌, ◌<◌, ◌≤◌, ◌^◌, ◌↔◌, ℕ, [], ◌∷◌, ◌++◌, length};
+ghost use Rattle.std.specs.Prelude.{max, None, Some, IsSome, IfOk, OnOk, OnErr};
 ghost use Rattle.atspi_pool.specs.Chains.{empty_chain, front_of, pushed, popped_by, cut_by};
 ghost use Rattle.atspi_pool.specs.Store.{chain_at, held, with_chain, with_pushed, all_blocks};
 ghost use Rattle.atspi_pool.specs.Pool.{after_push, in_use, no_pool, SetsChain, HasFewBlocks, most_of};
@@ -77,8 +78,8 @@ impl Pool {
         self.unused.push_reserved(chain);
     }
 
-    /// Appends bytes to a chain, which then has fewer than 4,294,967,296. Blocks are made only where none is free. After
-    /// want of memory nothing was appended; blocks that were made stay free.
+    /// Appends bytes to a chain, which then has fewer than 4,294,967,296. Blocks are made only where none is free.
+    /// After want of memory nothing was appended; blocks that were made stay free.
     pub fn push(&mut self, chain: u32, bytes: &[u8]) -> Result<(), NoMemory>
         requires used { IsSome (chain_at self.old chain) }
         requires small { length (held (chain_at self.old chain)).bytes + length bytes.now < 2 ^ 32 }

@@ -1,6 +1,7 @@
 //! Chains of bytes in blocks of 256 bytes, by their numbers.
 
-ghost use Rattle.std.specs.Prelude.{◌≡◌, ◌+◌, ◌-◌, ◌<◌, ◌≤◌, ◌^◌, ℕ, [], ◌∷◌, ◌++◌, length, min, max, true, None, Some, IsSome, IfOk, OnOk, OnErr};
+ghost use Rattle.std.specs.Prelude.{◌≡◌, ◌+◌, ◌-◌, ◌<◌, ◌≤◌, ◌^◌, ℕ, [], ◌∷◌, ◌++◌, length, min, max, true, None, Some};
+ghost use Rattle.std.specs.Prelude.{IsSome, IfOk, OnOk, OnErr};
 ghost use Rattle.atspi_pool.specs.Chains.{empty_chain, blocks_of, front_of, room_in, popped_by, cut_by};
 ghost use Rattle.atspi_pool.specs.Store.{chain_at, held, with_chain, with_pushed, all_blocks, written, HasFront};
 

@@ -1,5 +1,5 @@
-//! What all ends share, the applications, the registry and readers: places and names, the messages that they send and the queue of those,
-//! and which events a pattern covers.
+//! What all ends share, the applications, the registry and readers: places and names, the messages that they send and
+//! the queue of those, and which events a pattern covers.
 
 mod covering;
 mod error;

@@ -1,5 +1,6 @@
-//! What the ends of the bus say and keep, as definitions: the members and objects of AT-SPI2, what an application announces and exports, what the registry
-//! and a reader do with each message. A module is one of these, with its worked cases; the crates above prove bodies that meet them.
+//! What the ends of the bus say and keep, as definitions: the members and objects of AT-SPI2, what an application
+//! announces and exports, what the registry and a reader do with each message. A module is one of these, with its
+//! worked cases; the crates above prove bodies that meet them.
 #![tactic(auto)]
 
 pub mod announcing;

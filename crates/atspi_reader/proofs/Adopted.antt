@@ -7,12 +7,12 @@ use Rattle.std.proofs.lemmas.List.{append-nil}
 use Rattle.std.proofs.lemmas.List.Folds.{list_any-append, list_all-append}
 use Rattle.std.proofs.lemmas.Slice.Eq.{bytes_eq-Decides}
 use Rattle.atspi_base.specs.valid_names.Names.{is_bus_name}
-use Rattle.atspi_forest.specs.declared.news.Reference.{Reference}
+use Rattle.atspi_tree_model.specs.declared.news.Reference.{Reference}
 use Rattle.atspi_protocol.specs.following.ReaderState.{Followed, is_named}
 use Rattle.atspi_protocol.specs.following.Known.{made_known, unasked}
 use Rattle.atspi_protocol.specs.following.Replied.{changed}
 use Rattle.atspi_reader_known.proofs.Uniqueness.{changed_none, unique_push, unique_filter}
-use Rattle.atspi_reader.specs.Turns.{app_in, listed, IsNewTo}
+use Rattle.atspi_reader.specs.inner.Turns.{app_in, listed, IsNewTo}
 use Rattle.atspi_reader.specs.Steps.{Fine}
 use Rattle.atspi_reader.proofs.Changed.{Keeps, no, any_changed, unique_changed, all_changed, changed-append}
 

@@ -11,8 +11,8 @@ use Rattle.atspi_protocol.specs.following.Wishes.{wishes}
 use Rattle.atspi_protocol.specs.following.Takes.{goes_on, notes}
 use Rattle.atspi_reader_known.specs.Wanted.{first}
 use Rattle.atspi_reader.specs.declared.asks.Next.{Next}
-use Rattle.atspi_reader.specs.Asked.{chosen, next_for, sent, number_after, went_on, Queues}
-use Rattle.atspi_reader.specs.Turns.{did}
+use Rattle.atspi_reader.specs.inner.Asked.{chosen, next_for, sent, number_after, went_on, Queues}
+use Rattle.atspi_reader.specs.inner.Turns.{did}
 use Rattle.atspi_reader.specs.Steps.{Does, Fine, IsState}
 use Rattle.atspi_reader.proofs.Goes.{asked_at, gone, goes-next, goes-apps, goes-notes, goes_rests}
 

@@ -4,10 +4,10 @@ use Rattle.std.specs.Prelude.{◌&&◌, not, if◌then◌else◌}
 use Rattle.std.specs.List.{list_any, fold}
 use Rattle.std.proofs.lemmas.List.{take-append-le, take_all}
 use Rattle.atspi_base.specs.valid_names.Names.{is_bus_name}
-use Rattle.atspi_forest.specs.declared.news.Reference.{Reference}
+use Rattle.atspi_tree_model.specs.declared.news.Reference.{Reference}
 use Rattle.atspi_protocol.specs.following.ReaderState.{Followed, is_named}
 use Rattle.atspi_protocol.specs.following.Known.{made_known, unasked}
-use Rattle.atspi_reader.specs.Turns.{StandsInFront}
+use Rattle.atspi_reader.specs.inner.Turns.{StandsInFront}
 
 pub front-append : (xs ys : List Followed) → take (length xs) (xs ++ ys) ≡ xs
 front-append xs ys = take-append-le (length xs) xs ys (omega arith) ∙ take_all (length xs) xs (omega arith)

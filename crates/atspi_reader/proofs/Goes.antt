@@ -2,8 +2,8 @@
 use Rattle.std.proofs.Common.{◌≡◌, ℕ, List, [], ◌∷◌, ◌++◌, Option, Some, None, refl, sym, ap, ◌∙◌, append_assoc}
 use Rattle.std.proofs.lemmas.List.{append-nil}
 use Rattle.atspi_message.specs.Envelope.{Envelope}
-use Rattle.atspi_forest.specs.declared.view.Row.{Row}
-use Rattle.atspi_forest.specs.Forest.{Forest}
+use Rattle.atspi_tree_model.specs.declared.view.Row.{Row}
+use Rattle.atspi_tree_model.specs.Forest.{Forest}
 use Rattle.atspi_protocol.specs.news.NewsOf.{or_empty}
 use Rattle.atspi_protocol.specs.declared.following.question.Question.{Question}
 use Rattle.atspi_protocol.specs.following.ReaderState.{Followed, Pending, Done, ReaderState}
@@ -13,8 +13,8 @@ use Rattle.atspi_protocol.specs.following.Takes.{goes_on, notes, noted, asks_fir
 use Rattle.atspi_reader_known.specs.Wanted.{first}
 use Rattle.atspi_reader.specs.declared.asks.Next.{Next}
 use Rattle.atspi_reader.specs.declared.asks.Next.TheVariants.{Nothing, Start, Wish}
-use Rattle.atspi_reader.specs.Asked.{chosen, next_for, sent, number_after, started, went_on}
-use Rattle.atspi_reader.specs.Turns.{did}
+use Rattle.atspi_reader.specs.inner.Asked.{chosen, next_for, sent, number_after, started, went_on}
+use Rattle.atspi_reader.specs.inner.Turns.{did}
 use Rattle.atspi_reader.proofs.Changed.{wishes_changed}
 
 -- what is asked in a state, and what then happens

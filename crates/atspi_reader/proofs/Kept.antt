@@ -2,9 +2,9 @@
 use Rattle.std.proofs.Common.{◌≡◌, ℕ, Bool, true, false, not, List, Option, Some, None, refl}
 use Rattle.std.specs.Prelude.{◌==◌, ◌&&◌, bytes_eq, if◌then◌else◌}
 use Rattle.atspi_message.specs.Envelope.{Envelope}
-use Rattle.atspi_forest.specs.declared.news.Item.{Item}
-use Rattle.atspi_forest.specs.declared.news.News.{News}
-use Rattle.atspi_forest.specs.declared.news.Reference.{Reference}
+use Rattle.atspi_tree_model.specs.declared.news.Item.{Item}
+use Rattle.atspi_tree_model.specs.declared.news.News.{News}
+use Rattle.atspi_tree_model.specs.declared.news.Reference.{Reference}
 use Rattle.atspi_protocol.specs.declared.news.part.PartName.{PartName}
 use Rattle.atspi_protocol.specs.news.Arguments.{signature_of}
 use Rattle.atspi_protocol.specs.news.NewsOf.{news_of, or_empty}
@@ -18,7 +18,7 @@ use Rattle.atspi_protocol.specs.following.Takes.{noted, notes, folded, takes_new
 use Rattle.atspi_protocol.specs.following.Known.{takes_child, takes_end}
 use Rattle.atspi_reader_known.proofs.Names.{folded_name, told_name}
 use Rattle.atspi_reader.specs.Steps.{Fine}
-use Rattle.atspi_reader.specs.Turns.{rooted}
+use Rattle.atspi_reader.specs.inner.Turns.{rooted}
 use Rattle.atspi_reader.proofs.Adopted.{fine_changed, fine_filter, fine_made, fine_fold}
 
 pub notes_fine : (s : ReaderState) (e : Envelope) → Fine s.apps → Fine (notes s e).apps

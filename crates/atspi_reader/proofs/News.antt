@@ -7,10 +7,10 @@ use Rattle.std.proofs.lemmas.List.Concat.{flat_map-append}
 use Rattle.atspi_message.specs.Envelope.{Envelope}
 use Rattle.atspi_protocol.specs.declared.ends.fault.EndFault.{EndFault}
 use Rattle.atspi_protocol.specs.declared.ends.fault.EndFault.TheVariants.{Spent}
-use Rattle.atspi_forest.specs.declared.view.Row.{Row}
-use Rattle.atspi_forest.specs.declared.news.News.{News}
-use Rattle.atspi_forest.specs.declared.news.Reference.{Reference}
-use Rattle.atspi_forest.specs.Forest.{Forest, first_of}
+use Rattle.atspi_tree_model.specs.declared.view.Row.{Row}
+use Rattle.atspi_tree_model.specs.declared.news.News.{News}
+use Rattle.atspi_tree_model.specs.declared.news.Reference.{Reference}
+use Rattle.atspi_tree_model.specs.Forest.{Forest, first_of}
 use Rattle.atspi_protocol.specs.news.NewsOf.{news_of, or_empty}
 use Rattle.atspi_protocol.specs.declared.following.question.Question.{Question}
 use Rattle.atspi_protocol.specs.declared.following.question.Question.TheVariants.{GetItems}
@@ -24,9 +24,9 @@ use Rattle.atspi_reader_known.proofs.Uniqueness.{changed_none}
 use Rattle.atspi_reader_known.proofs.Firsts.{first-append}
 use Rattle.atspi_reader_known.proofs.Names.{folded_name}
 use Rattle.atspi_reader.specs.declared.asks.Next.{Next}
-use Rattle.atspi_reader.specs.Asked.{chosen, next_for, sent, number_after, went_on, Asks}
-use Rattle.atspi_reader.specs.Turns.{did, with_apps, listed, IsNewTo, noted_if}
-use Rattle.atspi_reader.specs.Heard.{heard, Speaks}
+use Rattle.atspi_reader.specs.inner.Asked.{chosen, next_for, sent, number_after, went_on, Asks}
+use Rattle.atspi_reader.specs.inner.Turns.{did, with_apps, listed, IsNewTo, noted_if}
+use Rattle.atspi_reader.specs.inner.Heard.{heard, Speaks}
 use Rattle.atspi_reader.specs.Steps.{Does}
 use Rattle.atspi_reader.proofs.Changed.{filter_changed, changed-changed, changed-append, only_none, wishes_filter}
 use Rattle.atspi_reader.proofs.Adopted.{known-changed}

@@ -6,10 +6,10 @@ use Rattle.std.specs.Borrow.{Bor}
 use Rattle.atspi_message.specs.Envelope.{Envelope}
 use Rattle.atspi_protocol.specs.declared.ends.fault.EndFault.{EndFault}
 use Rattle.atspi_protocol.specs.declared.ends.fault.EndFault.TheVariants.{Spent}
-use Rattle.atspi_forest.specs.declared.view.Row.{Row}
-use Rattle.atspi_forest.specs.Forest.{Forest}
-use Rattle.atspi_forest.specs.declared.news.Item.{Item}
-use Rattle.atspi_forest.specs.declared.news.News.{News}
+use Rattle.atspi_tree_model.specs.declared.view.Row.{Row}
+use Rattle.atspi_tree_model.specs.Forest.{Forest}
+use Rattle.atspi_tree_model.specs.declared.news.Item.{Item}
+use Rattle.atspi_tree_model.specs.declared.news.News.{News}
 use Rattle.atspi_protocol.specs.declared.news.part.PartName.{PartName}
 use Rattle.atspi_protocol.specs.news.NewsOf.{or_empty}
 use Rattle.atspi_protocol.specs.news.Replies.{elements_of, part_in, part_told}
@@ -28,8 +28,8 @@ use Rattle.atspi_reader_known.specs.Wanted.{first, refusing}
 use Rattle.atspi_reader_known.proofs.Names.{told_name}
 use Rattle.atspi_reader_known.proofs.Plans.{plan_changed, refusing_none}
 use Rattle.atspi_reader.specs.declared.asks.Next.{Next}
-use Rattle.atspi_reader.specs.Asked.{went_on, Queues}
-use Rattle.atspi_reader.specs.Turns.{free, with_apps, coming, parted, noted_if, rooted}
+use Rattle.atspi_reader.specs.inner.Asked.{went_on, Queues}
+use Rattle.atspi_reader.specs.inner.Turns.{free, with_apps, coming, parted, noted_if, rooted}
 use Rattle.atspi_reader.specs.Steps.{Does}
 use Rattle.atspi_reader.proofs.Changed.{changed_same, changed-changed, changed_found, filter_changed, filter_none, nobody_found}
 use Rattle.atspi_reader.proofs.Adopted.{known-changed}

@@ -8,14 +8,14 @@ use Rattle.std.proofs.lemmas.Str.{chars-IsAscii}
 use Rattle.atspi_base.specs.valid_names.Names.{IsBusName}
 use Rattle.atspi_base.proofs.OfValidNames.NameLemmas.{IsAscii-IsBusName}
 use Rattle.atspi_message.specs.Envelope.{Envelope}
-use Rattle.atspi_forest.specs.declared.news.News.{News}
-use Rattle.atspi_forest.specs.declared.news.Reference.{Reference}
+use Rattle.atspi_tree_model.specs.declared.news.News.{News}
+use Rattle.atspi_tree_model.specs.declared.news.Reference.{Reference}
 use Rattle.atspi_protocol.specs.news.NewsOf.{news_of}
 use Rattle.atspi_protocol.specs.following.ReaderState.{Followed, Done, ReaderState, is_named}
 use Rattle.atspi_protocol.specs.following.Known.{made_known, new_child, with_child, takes_child}
 use Rattle.atspi_protocol.specs.following.Takes.{lines_at, found_in, is_held}
 use Rattle.atspi_reader_known.specs.Unique.{AreUnique}
-use Rattle.atspi_reader.specs.Turns.{listed}
+use Rattle.atspi_reader.specs.inner.Turns.{listed}
 use Rattle.atspi_reader.proofs.Changed.{only_found, only_none, nobody_found}
 
 -- the new child of a message

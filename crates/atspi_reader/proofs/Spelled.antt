@@ -10,7 +10,7 @@ use Rattle.atspi_protocol.specs.following.ReaderState.{Followed, tells_end, is_n
 use Rattle.atspi_protocol.specs.following.Known.{unasked, end_of_connection, closing_of, closings}
 use Rattle.atspi_protocol.specs.following.Takes.{found_in}
 use Rattle.atspi_reader.specs.Steps.{Fine}
-use Rattle.atspi_reader.specs.Turns.{app_in}
+use Rattle.atspi_reader.specs.inner.Turns.{app_in}
 use Rattle.atspi_reader.proofs.Changed.{only_found, only_none, nobody_found}
 use Rattle.atspi_reader_told.proofs.Texts.{name_chars, same_name}
 

@@ -7,10 +7,10 @@ use Rattle.std.proofs.lemmas.List.{append-nil}
 use Rattle.std.proofs.lemmas.Slice.Eq.{bytes_eq-Decides}
 use Rattle.atspi_message.specs.Envelope.{Envelope}
 use Rattle.atspi_protocol.specs.ends.Places.{bus}
-use Rattle.atspi_forest.specs.declared.view.Row.{Row}
-use Rattle.atspi_forest.specs.declared.news.News.{News}
-use Rattle.atspi_forest.specs.declared.news.News.TheVariants.{Nothing}
-use Rattle.atspi_forest.specs.Forest.{Forest}
+use Rattle.atspi_tree_model.specs.declared.view.Row.{Row}
+use Rattle.atspi_tree_model.specs.declared.news.News.{News}
+use Rattle.atspi_tree_model.specs.declared.news.News.TheVariants.{Nothing}
+use Rattle.atspi_tree_model.specs.Forest.{Forest}
 use Rattle.atspi_protocol.specs.news.NewsOf.{news_of, or_empty, event_interface, cache_interface}
 use Rattle.atspi_protocol.specs.news.Arguments.{event_in}
 use Rattle.atspi_protocol.specs.declared.following.question.Question.{Question}
@@ -18,7 +18,7 @@ use Rattle.atspi_protocol.specs.following.ReaderState.{Followed, Pending, Done, 
 use Rattle.atspi_protocol.specs.following.Known.{new_child, child_added, is_from, with_child, takes_child, told_end, ended_name, with_end, takes_end}
 use Rattle.atspi_protocol.specs.following.Replied.{changed, ends_call, replied, takes_reply}
 use Rattle.atspi_protocol.specs.following.Takes.{folded, lines_at, notes, takes_news, goes_on, reader_takes}
-use Rattle.atspi_reader.specs.Turns.{is_answer, asked_of, free}
+use Rattle.atspi_reader.specs.inner.Turns.{is_answer, asked_of, free}
 use Rattle.atspi_reader.proofs.Changed.{changed_same}
 
 or_false : (b : Bool) → (b || false) ≡ b

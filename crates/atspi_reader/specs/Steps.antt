@@ -19,7 +19,8 @@ pub record IsState (s : ReaderState) : Type 0 where
   pub fine : Fine s.apps
   pub within : s.next ≤ 4294967296
 
--- The step was done, and its message has a number; or it would pass the last number, or memory was wanting, and then all is as before.
+-- The step was done, and its message has a number; or it would pass the last number, or memory was wanting, and then
+-- all is as before.
 pub record Does {T : Type 0} (result : Result T EndFault) (old new step : ReaderState) : Type 0 where
   pub done : OnOk result (new ≡ step)
   pub room : OnOk result (step.next ≤ 4294967296)

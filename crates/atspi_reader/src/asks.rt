@@ -2,7 +2,7 @@
 
 ghost use Rattle.std.specs.Prelude.{◌≡◌, ◌<◌, ◌≤◌, ◌↔◌, ◌++◌, Some, None, [], IfOk, IsErrOf, OnOk};
 ghost use Rattle.atspi_reader.specs.Doing.{all_done};
-ghost use Rattle.atspi_reader.specs.Asked.{sent, Asks};
+ghost use Rattle.atspi_reader.specs.inner.Asked.{sent, Asks};
 
 use atspi_protocol::ends::EndFault;
 use atspi_protocol::following::{Question, ReaderEvent};
@@ -28,7 +28,8 @@ fn ask(
     question: &Question,
     events: &mut VecDeque<ReaderEvent>,
 ) -> Result<u32, EndFault>
-    ensures ok { OnOk result (all_done events.new.items ≡ all_done events.old.items ++ sent number (Some question.now)) }
+    ensures ok { OnOk result
+        (all_done events.new.items ≡ all_done events.old.items ++ sent number (Some question.now)) }
     ensures serial { IfOk result (λ serial. serial ≡ number) }
     ensures room { OnOk result (number ≤ 4294967295) }
     ensures spent { IsErrOf result EndFault.Spent ↔ (4294967295 < number) }

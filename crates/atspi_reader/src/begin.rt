@@ -4,7 +4,7 @@ ghost use Rattle.std.specs.Prelude.{◌≡◌, ◌<◌, ◌^◌, ◌++◌, ◌�
 ghost use Rattle.atspi_base.specs.Text.{HasNoZero};
 ghost use Rattle.atspi_protocol.specs.declared.following.question.Question.TheVariants as questions;
 ghost use Rattle.atspi_protocol.specs.following.ReaderState as state;
-ghost use Rattle.atspi_reader.specs.Begin.{rules, patterns};
+ghost use Rattle.atspi_reader.specs.inner.Begin.{rules, patterns};
 
 use atspi_base::{NoMemory, Text};
 use atspi_protocol::following::Question;

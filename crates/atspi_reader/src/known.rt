@@ -4,12 +4,12 @@ ghost use Rattle.std.specs.Prelude.{◌≡◌, ◌++◌, None, Some, if◌then�
 ghost use Rattle.std.specs.List.{fold, list_any};
 ghost use Rattle.atspi_protocol.specs.following.ReaderState.{is_named};
 ghost use Rattle.atspi_protocol.specs.following.Known.{made_known};
-ghost use Rattle.atspi_reader.specs.Turns.{app_in, listed, IsNewTo, StandsInFront};
+ghost use Rattle.atspi_reader.specs.inner.Turns.{app_in, listed, IsNewTo, StandsInFront};
 
 use atspi_base::NoMemory;
 use atspi_base::valid_names::{BusName, NameFault};
-use atspi_forest::Reference;
 use atspi_reader_known::{App, Apps};
+use atspi_tree_model::Reference;
 use std::alloc::Global;
 
 /// The application that a reference names, of which nothing was asked yet, where the reference's text is a bus name.
@@ -80,8 +80,8 @@ fn make_each(alloc: Global, apps: &mut Apps, told: Vec<Reference>) -> Result<(),
     Ok(())
 }
 
-/// Applications become known, of each reference in order. After want of memory all is as before. Work is n log n of those
-/// that are told and known.
+/// Applications become known, of each reference in order. After want of memory all is as before. Work is n log n of
+/// those that are told and known.
 pub(crate) fn make_known(
     alloc: Global,
     apps: &mut Apps,

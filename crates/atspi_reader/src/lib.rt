@@ -1,4 +1,5 @@
-//! A reader's end: it follows the applications that the registry tells, keeps their views, asks for what it does not know, and speaks.
+//! A reader's end: it follows the applications that the registry tells, keeps their views, asks for what it does not
+//! know, and speaks.
 #![tactic(auto)]
 
 mod asks;

@@ -2,16 +2,16 @@
 
 ghost use Rattle.std.specs.Prelude.{◌≡◌, ◌==◌, ◌||◌, bytes_eq, IfOk};
 ghost use Rattle.std.specs.Option.{option_map};
-ghost use Rattle.atspi_header.specs.View.{envelope_at};
+ghost use Rattle.atspi_message_in_place.specs.View.{envelope_at};
 ghost use Rattle.atspi_protocol.specs.ends.Places as places;
 ghost use Rattle.atspi_protocol.specs.following.Replied as replied;
-ghost use Rattle.atspi_reader.specs.Turns.{is_answer, asked_of};
+ghost use Rattle.atspi_reader.specs.inner.Turns.{is_answer, asked_of};
 ghost use Rattle.atspi_reader.specs.ReaderOf.{pending_of};
 
 use crate::waiting::Waiting;
 use atspi_base::NoMemory;
 use atspi_base::valid_names::BusName;
-use atspi_header::MessageRef;
+use atspi_message_in_place::MessageRef;
 use atspi_protocol::following::Question;
 use atspi_reader_told::sender_of;
 use std::alloc::Global;

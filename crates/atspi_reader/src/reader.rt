@@ -1,16 +1,18 @@
 //! The reader.
 
-ghost use Rattle.std.specs.Prelude.{◌≡◌, ◌<◌, ◌≤◌, ◌↔◌, ◌+◌, ◌^◌, ◌∷◌, [], None, Err, IsTrue, IsErrOf, IsSome, IfOk, MatchOption, OnOk, OnErr, slice_get};
+ghost use Rattle.std.specs.Prelude.{◌≡◌, ◌<◌, ◌≤◌, ◌↔◌, ◌+◌, ◌^◌, ◌∷◌, [], None, Err, IsTrue, IsErrOf, IsSome, IfOk};
+ghost use Rattle.std.specs.Prelude.{MatchOption, OnOk, OnErr, slice_get};
 ghost use Rattle.std.specs.Option.{option_copied, option_map};
-ghost use Rattle.atspi_header.specs.View.{envelope_at};
-ghost use Rattle.atspi_arena.specs.Sights.{sights};
+ghost use Rattle.atspi_message_in_place.specs.View.{envelope_at};
+ghost use Rattle.atspi_cache_arena.specs.Sights.{sights};
 ghost use Rattle.atspi_message.specs.Envelope.{envelope_of};
 ghost use Rattle.atspi_protocol.specs.following.ReaderState.{begins, sends};
-ghost use Rattle.atspi_protocol.specs.following.Takes.{starts, reader_takes, reader_calls, held_view, last_taken, held_names};
+ghost use Rattle.atspi_protocol.specs.following.Takes.{starts, reader_takes, reader_calls, held_view, last_taken};
+ghost use Rattle.atspi_protocol.specs.following.Takes.{held_names};
 ghost use Rattle.atspi_protocol.specs.following.Takes as takes;
 ghost use Rattle.atspi_reader_calls.specs.Deeds.{MayBeAsked};
 ghost use Rattle.atspi_reader.specs.Doing.{done_of};
-ghost use Rattle.atspi_reader.specs.Turns as turns;
+ghost use Rattle.atspi_reader.specs.inner.Turns as turns;
 ghost use Rattle.atspi_reader.specs.Steps.{Does};
 ghost use Rattle.atspi_reader.specs.ReaderOf.{IsReader, reader_of};
 
@@ -21,13 +23,13 @@ use crate::state::Reader;
 use atspi_base::NoMemory;
 use atspi_base::valid_names::BusName;
 use atspi_cache::Rows;
-use atspi_header::MessageRef;
-use atspi_lines::Deed;
 use atspi_message::Message;
+use atspi_message_in_place::MessageRef;
 use atspi_protocol::ends::EndFault;
 use atspi_protocol::following::ReaderEvent;
 use atspi_reader_calls::user_call;
 use atspi_reader_known::Apps;
+use atspi_script_lines::Deed;
 use std::alloc::Global;
 use std::collections::VecDeque;
 
@@ -48,8 +50,8 @@ impl Reader {
         })
     }
 
-    /// The first call, Hello, is queued. Spent only where its number would pass 4,294,967,295, and then it is refused; after a fault all is as
-    /// before.
+    /// The first call, Hello, is queued. Spent only where its number would pass 4,294,967,295, and then it is refused;
+    /// after a fault all is as before.
     pub fn start(&mut self) -> Result<(), EndFault>
         requires { IsReader self.old }
         ensures ok { OnOk result (reader_of self.new ≡ starts (reader_of self.old)) }
@@ -73,13 +75,14 @@ impl Reader {
         Ok(())
     }
 
-    /// Takes a message. Spent only where the reader's call that it asks for would pass number 4,294,967,295, and then it is refused; after a
-    /// fault all is as before.
+    /// Takes a message. Spent only where the reader's call that it asks for would pass number 4,294,967,295, and then
+    /// it is refused; after a fault all is as before.
     pub fn take(&mut self, m: &MessageRef) -> Result<(), EndFault>
         requires { IsReader self.old }
         ensures ok { OnOk result (reader_of self.new ≡ reader_takes (reader_of self.old) (envelope_at m.now)) }
         ensures room { OnOk result ((reader_takes (reader_of self.old) (envelope_at m.now)).next ≤ 4294967296) }
-        ensures spent { IsErrOf result EndFault.Spent → 4294967296 < (reader_takes (reader_of self.old) (envelope_at m.now)).next }
+        ensures spent { IsErrOf result EndFault.Spent
+            → 4294967296 < (reader_takes (reader_of self.old) (envelope_at m.now)).next }
         ensures err { OnErr result (reader_of self.new ≡ reader_of self.old) }
         ensures stays { IsReader self.new }
     {
@@ -89,7 +92,8 @@ impl Reader {
     /// Takes a message: the reply that is waited for, a signal, or any other.
     fn take_any(&mut self, m: &MessageRef) -> Result<(), EndFault>
         requires { IsReader self.old }
-        ensures { Does result (reader_of self.old) (reader_of self.new) (reader_takes (reader_of self.old) (envelope_at m.now)) }
+        ensures { Does result (reader_of self.old) (reader_of self.new)
+            (reader_takes (reader_of self.old) (envelope_at m.now)) }
     {
         if is_answer(&self.pending, m) {
             return self.take_reply(m);
@@ -103,21 +107,23 @@ impl Reader {
     /// Takes a message that is no signal and not the reply that is waited for: its serial is noted.
     fn take_other(&mut self, m: &MessageRef) -> Result<(), EndFault>
         requires { IsReader self.old }
-        ensures { Does result (reader_of self.old) (reader_of self.new) (takes.goes_on (takes.notes (reader_of self.old) (envelope_at m.now))) }
+        ensures { Does result (reader_of self.old) (reader_of self.new)
+            (takes.goes_on (takes.notes (reader_of self.old) (envelope_at m.now))) }
     {
         self.begin()?;
         self.note(m);
         Ok(())
     }
 
-    /// A user's call of a node of an application that is held is queued. NotHeld exactly where `view` is none; Spent exactly where it is held and the
-    /// call's number would pass 4,294,967,295; after a fault all is as before.
+    /// A user's call of a node of an application that is held is queued. NotHeld exactly where `view` is none; Spent
+    /// exactly where it is held and the call's number would pass 4,294,967,295; after a fault all is as before.
     pub fn call(&mut self, app: &BusName, node: u32, what: &Deed) -> Result<(), CallFault>
         requires reader { IsReader self.old }
         requires asked { MayBeAsked what.now }
         ensures ok { OnOk result (reader_of self.new ≡ reader_calls (reader_of self.old) app.now node what.now) }
         ensures not_held { IsErrOf result CallFault.NotHeld ↔ (held_view (reader_of self.old) app.now ≡ None) }
-        ensures spent { IsErrOf result CallFault.Spent ↔ (IsSome (held_view (reader_of self.old) app.now) × (4294967295 < self.old.number)) }
+        ensures spent { IsErrOf result CallFault.Spent
+            ↔ (IsSome (held_view (reader_of self.old) app.now) × (4294967295 < self.old.number)) }
         ensures err { OnErr result (reader_of self.new ≡ reader_of self.old) }
         ensures stays { IsReader self.new }
     {
@@ -144,7 +150,10 @@ impl Reader {
     /// A message is queued. After want of memory all is as before.
     fn send(&mut self, message: Message) -> Result<(), CallFault>
         requires { self.old.number < 2 ^ 63 }
-        ensures ok { OnOk result (reader_of self.new ≡ record (turns.did (reader_of self.old) (sends (envelope_of message) ∷ [])) { next = self.old.number + 1 }) }
+        ensures ok { OnOk result
+            (reader_of self.new
+            ≡ record (turns.did (reader_of self.old) (sends (envelope_of message) ∷ []))
+            { next = self.old.number + 1 }) }
         ensures err { OnErr result (reader_of self.new ≡ reader_of self.old) }
         ensures memory { OnErr result (result ≡ Err CallFault.NoMemory) }
     {
@@ -159,7 +168,9 @@ impl Reader {
 
     /// What it did first of all that was not handed out yet, none exactly where all was.
     pub fn next(&mut self) -> Option<ReaderEvent>
-        ensures front { MatchOption result (reader_of self.new ≡ reader_of self.old) (λ event. reader_of self.old ≡ record (reader_of self.new) { out = done_of event ∷ (reader_of self.new).out }) }
+        ensures front { MatchOption result (reader_of self.new ≡ reader_of self.old)
+            (λ event. reader_of self.old
+            ≡ record (reader_of self.new) { out = done_of event ∷ (reader_of self.new).out }) }
         ensures all { result ≡ None → (reader_of self.old).out ≡ [] }
         ensures stays { IsReader self.old → IsReader self.new }
     {

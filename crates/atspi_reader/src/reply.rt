@@ -1,14 +1,15 @@
 //! What a reader does with the reply to the call of its own that waits.
 
 ghost use Rattle.std.specs.Prelude.{◌≡◌, ◌≤◌, true, Some, None, take, IfOk, IfSome, OnOk, OnErr};
-ghost use Rattle.atspi_header.specs.View.{envelope_at};
+ghost use Rattle.atspi_message_in_place.specs.View.{envelope_at};
 ghost use Rattle.atspi_protocol.specs.news.Replies as replies;
-ghost use Rattle.atspi_protocol.specs.following.Replied.{changed, refused_part, replied, goes_on_if, with_children, with_items, with_part};
+ghost use Rattle.atspi_protocol.specs.following.Replied.{changed, refused_part, replied, goes_on_if, with_children};
+ghost use Rattle.atspi_protocol.specs.following.Replied.{with_items, with_part};
 ghost use Rattle.atspi_protocol.specs.following.Takes as takes;
 ghost use Rattle.atspi_protocol.specs.following.Wishes.{wishes};
 ghost use Rattle.atspi_reader_known.specs.Wanted.{first};
-ghost use Rattle.atspi_reader.specs.Asked.{went_on, Queues};
-ghost use Rattle.atspi_reader.specs.Turns.{free, rooted, with_apps, replaced, parted, noted_if, is_answer};
+ghost use Rattle.atspi_reader.specs.inner.Asked.{went_on, Queues};
+ghost use Rattle.atspi_reader.specs.inner.Turns.{free, rooted, with_apps, replaced, parted, noted_if, is_answer};
 ghost use Rattle.atspi_reader.specs.Steps.{Does, Fine};
 ghost use Rattle.atspi_reader.specs.ReaderOf.{IsReader, reader_of};
 
@@ -19,12 +20,12 @@ use crate::state::Reader;
 use crate::wanted::{wish_now, wish_with, wish_without, wish_without_part};
 use atspi_base::NoMemory;
 use atspi_base::valid_names::{BusName, NameFault, Path};
-use atspi_header::MessageRef;
-use atspi_news_reading::{items_told, part_told};
+use atspi_message_in_place::MessageRef;
 use atspi_protocol::ends::EndFault;
 use atspi_protocol::following::Question;
 use atspi_protocol::news::PartName;
 use atspi_reader_known::App;
+use atspi_reader_news::{items_told, part_told};
 use atspi_reader_told::{references, returns_children, returns_name, sender_of};
 use std::alloc::Global;
 
@@ -47,7 +48,8 @@ impl Reader {
     pub(crate) fn take_reply(&mut self, m: &MessageRef) -> Result<(), EndFault>
         requires state { IsReader self.old }
         requires answer { is_answer (reader_of self.old).pending (envelope_at m.now) ≡ true }
-        ensures { Does result (reader_of self.old) (reader_of self.new) (takes.reader_takes (reader_of self.old) (envelope_at m.now)) }
+        ensures { Does result (reader_of self.old) (reader_of self.new)
+            (takes.reader_takes (reader_of self.old) (envelope_at m.now)) }
     {
         match waiting_question(self.alloc, &self.pending)? {
             Some(question) => self.take_answer(m, question),
@@ -58,7 +60,8 @@ impl Reader {
     /// Takes the reply to this question.
     fn take_answer(&mut self, m: &MessageRef, question: Question) -> Result<(), EndFault>
         requires { IsReader self.old }
-        ensures { Does result (reader_of self.old) (reader_of self.new) (takes.goes_on (replied question (free (reader_of self.old) (envelope_at m.now)) (envelope_at m.now))) }
+        ensures { Does result (reader_of self.old) (reader_of self.new)
+            (takes.goes_on (replied question (free (reader_of self.old) (envelope_at m.now)) (envelope_at m.now))) }
     {
         match question {
             Question::Hello => self.take_start(m, returns_name(m)),
@@ -73,7 +76,8 @@ impl Reader {
     /// The start goes on, or ends here.
     fn take_start(&mut self, m: &MessageRef, starts: bool) -> Result<(), EndFault>
         requires { IsReader self.old }
-        ensures { Does result (reader_of self.old) (reader_of self.new) (takes.goes_on (goes_on_if starts (free (reader_of self.old) (envelope_at m.now)))) }
+        ensures { Does result (reader_of self.old) (reader_of self.new)
+            (takes.goes_on (goes_on_if starts (free (reader_of self.old) (envelope_at m.now)))) }
     {
         let wish = wish_now(self.alloc, &self.apps)?;
         let next = self.proceeds(starts, wish)?;
@@ -85,7 +89,8 @@ impl Reader {
     /// The roots of the applications, or the start ends here.
     fn take_children(&mut self, m: &MessageRef) -> Result<(), EndFault>
         requires { IsReader self.old }
-        ensures { Does result (reader_of self.old) (reader_of self.new) (takes.goes_on (with_children (free (reader_of self.old) (envelope_at m.now)) (envelope_at m.now))) }
+        ensures { Does result (reader_of self.old) (reader_of self.new)
+            (takes.goes_on (with_children (free (reader_of self.old) (envelope_at m.now)) (envelope_at m.now))) }
     {
         if !returns_children(m) {
             return self.take_start(m, false);
@@ -96,7 +101,8 @@ impl Reader {
     /// The roots of the applications: each that is new becomes known, and the sender is the registry.
     fn take_roots(&mut self, m: &MessageRef) -> Result<(), EndFault>
         requires { IsReader self.old }
-        ensures { Does result (reader_of self.old) (reader_of self.new) (takes.goes_on (rooted (free (reader_of self.old) (envelope_at m.now)) (envelope_at m.now))) }
+        ensures { Does result (reader_of self.old) (reader_of self.new)
+            (takes.goes_on (rooted (free (reader_of self.old) (envelope_at m.now)) (envelope_at m.now))) }
     {
         let registry = sender_name(self.alloc, m)?;
         let told = references(self.alloc, m)?;
@@ -118,7 +124,8 @@ impl Reader {
     /// The next call is queued, once no call waits any more.
     fn proceeds_now(&mut self) -> Result<Next, EndFault>
         requires { self.old.number ≤ 4294967296 }
-        ensures { Queues result (reader_of self.old) (reader_of self.new) self.old.to_come.items (first (wishes self.old.apps)) }
+        ensures { Queues result (reader_of self.old) (reader_of self.new) self.old.to_come.items
+            (first (wishes self.old.apps)) }
     {
         let wish = wish_now(self.alloc, &self.apps)?;
         self.proceeds(true, wish)
@@ -126,7 +133,10 @@ impl Reader {
 
     /// The sender is the registry, and the call that was queued waits.
     fn root(&mut self, m: &MessageRef, heard: bool, registry: Option<BusName>, next: Next)
-        ensures { reader_of self.new ≡ went_on next (record (noted_if heard (reader_of self.old) (envelope_at m.now)) { pending = None; registry = registry }) }
+        ensures { reader_of self.new
+            ≡ went_on next
+            (record (noted_if heard (reader_of self.old) (envelope_at m.now))
+            { pending = None; registry = registry }) }
     {
         self.note_if(heard, m);
         self.registry = registry;
@@ -143,7 +153,10 @@ impl Reader {
     /// All of an application, or it is forgotten.
     fn take_items(&mut self, m: &MessageRef, name: &BusName) -> Result<(), EndFault>
         requires { IsReader self.old }
-        ensures { Does result (reader_of self.old) (reader_of self.new) (takes.goes_on (with_items (free (reader_of self.old) (envelope_at m.now)) name.now (replies.items_told (envelope_at m.now)))) }
+        ensures { Does result (reader_of self.old) (reader_of self.new)
+            (takes.goes_on
+            (with_items (free (reader_of self.old) (envelope_at m.now)) name.now
+            (replies.items_told (envelope_at m.now)))) }
     {
         match self.loaded(name, m)? {
             Some(app) => self.put_app(m, name, app),
@@ -154,7 +167,9 @@ impl Reader {
     /// The application with this name with all of it told by a message.
     fn loaded(&self, name: &BusName, m: &MessageRef) -> Result<Option<App>, NoMemory>
         requires { Fine self.now.apps }
-        ensures apps { IfOk result (λ app. replaced app name.now self.now.apps ≡ (with_items (reader_of self.now) name.now (replies.items_told (envelope_at m.now))).apps) }
+        ensures apps { IfOk result
+            (λ app. replaced app name.now self.now.apps
+            ≡ (with_items (reader_of self.now) name.now (replies.items_told (envelope_at m.now))).apps) }
         ensures named { IfOk result (λ app. IfSome app (λ a. a.name ≡ name.now)) }
     {
         let Some(items) = items_told(self.alloc, m)? else {
@@ -170,7 +185,10 @@ impl Reader {
     fn put_app(&mut self, m: &MessageRef, name: &BusName, app: App) -> Result<(), EndFault>
         requires state { IsReader self.old }
         requires named { app.name ≡ name.now }
-        ensures { Does result (reader_of self.old) (reader_of self.new) (takes.goes_on (free (with_apps (reader_of self.old) (replaced (Some app) name.now self.old.apps)) (envelope_at m.now))) }
+        ensures { Does result (reader_of self.old) (reader_of self.new)
+            (takes.goes_on
+            (free (with_apps (reader_of self.old) (replaced (Some app) name.now self.old.apps))
+            (envelope_at m.now))) }
     {
         let next = self.proceeds_with(name, &app)?;
         self.apps.put(app);
@@ -182,7 +200,8 @@ impl Reader {
     /// The next call is queued, given that another application stands in the place of the one with this name then.
     fn proceeds_with(&mut self, name: &BusName, app: &App) -> Result<Next, EndFault>
         requires { self.old.number ≤ 4294967296 }
-        ensures { Queues result (reader_of self.old) (reader_of self.new) self.old.to_come.items (first (wishes (changed (λ _. app.now) name.now self.old.apps))) }
+        ensures { Queues result (reader_of self.old) (reader_of self.new) self.old.to_come.items
+            (first (wishes (changed (λ _. app.now) name.now self.old.apps))) }
     {
         let wish = wish_with(self.alloc, &self.apps, name.as_str(), app)?;
         self.proceeds(true, wish)
@@ -191,7 +210,9 @@ impl Reader {
     /// An application is forgotten.
     fn forget_app(&mut self, m: &MessageRef, name: &BusName) -> Result<(), EndFault>
         requires { IsReader self.old }
-        ensures { Does result (reader_of self.old) (reader_of self.new) (takes.goes_on (free (with_apps (reader_of self.old) (replaced None name.now self.old.apps)) (envelope_at m.now))) }
+        ensures { Does result (reader_of self.old) (reader_of self.new)
+            (takes.goes_on
+            (free (with_apps (reader_of self.old) (replaced None name.now self.old.apps)) (envelope_at m.now))) }
     {
         let wish = wish_without(self.alloc, &self.apps, name.as_str())?;
         let next = self.proceeds(true, wish)?;
@@ -201,7 +222,8 @@ impl Reader {
         Ok(())
     }
 
-    /// A part of a row, or that it is refused. What is wanted then is asked before the part is read, so that one small function holds the news.
+    /// A part of a row, or that it is refused. What is wanted then is asked before the part is read, so that one small
+    /// function holds the news.
     fn take_part(
         &mut self,
         m: &MessageRef,
@@ -210,7 +232,10 @@ impl Reader {
         part: PartName,
     ) -> Result<(), EndFault>
         requires { IsReader self.old }
-        ensures { Does result (reader_of self.old) (reader_of self.new) (takes.goes_on (with_part (free (reader_of self.old) (envelope_at m.now)) name.now path part (replies.part_told part path (envelope_at m.now)))) }
+        ensures { Does result (reader_of self.old) (reader_of self.new)
+            (takes.goes_on
+            (with_part (free (reader_of self.old) (envelope_at m.now)) name.now path part
+            (replies.part_told part path (envelope_at m.now)))) }
     {
         let queued = self.queued();
         let next = self.proceeds_without(name, &path, part)?;
@@ -235,7 +260,8 @@ impl Reader {
         part: PartName,
     ) -> Result<Next, EndFault>
         requires { self.old.number ≤ 4294967296 }
-        ensures { Queues result (reader_of self.old) (reader_of self.new) self.old.to_come.items (first (wishes (changed (refused_part path.now part) name.now self.old.apps))) }
+        ensures { Queues result (reader_of self.old) (reader_of self.new) self.old.to_come.items
+            (first (wishes (changed (refused_part path.now part) name.now self.old.apps))) }
     {
         let wish = wish_without_part(self.alloc, &self.apps, name.as_str(), path, part)?;
         self.proceeds(true, wish)
@@ -249,7 +275,11 @@ impl Reader {
         path: Path,
         part: PartName,
     ) -> Result<(), NoMemory>
-        ensures ok { OnOk result (reader_of self.new ≡ with_apps (reader_of self.old) (changed (parted (replies.part_told part path (envelope_at m.now)) path part) name.now self.old.apps)) }
+        ensures ok { OnOk result
+            (reader_of self.new
+            ≡ with_apps (reader_of self.old)
+            (changed (parted (replies.part_told part path (envelope_at m.now)) path part) name.now
+            self.old.apps)) }
         ensures err { OnErr result (reader_of self.new ≡ reader_of self.old) }
     {
         match part_told(self.alloc, part, &path, m)? {

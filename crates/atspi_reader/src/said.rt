@@ -9,9 +9,9 @@ ghost use Rattle.atspi_reader.specs.Doing.{all_done};
 
 use atspi_base::valid_names::{BusName, NameFault};
 use atspi_base::{NoMemory, Text, Texts};
-use atspi_forest::News;
 use atspi_protocol::following::ReaderEvent;
 use atspi_reader_known::App;
+use atspi_tree_model::News;
 use std::alloc::Global;
 use std::collections::VecDeque;
 
@@ -37,7 +37,9 @@ fn say_all(
     lines: &[Text],
     events: &mut VecDeque<ReaderEvent>,
 ) -> Result<(), NoMemory>
-    ensures { OnOk result (all_done events.new.items ≡ all_done events.old.items ++ map (λ (line : List ℕ). speaks name.now line) lines.now) }
+    ensures { OnOk result
+        (all_done events.new.items
+        ≡ all_done events.old.items ++ map (λ (line : List ℕ). speaks name.now line) lines.now) }
 {
     for line in lines {
         say(alloc, name, line, events)?;
@@ -61,7 +63,9 @@ pub(crate) fn say_news(
 
 /// Appends that an application has ended, where the name is unique.
 fn push_end(name: BusName, events: &mut VecDeque<ReaderEvent>) -> Result<(), NoMemory>
-    ensures { OnOk result (all_done events.new.items ≡ all_done events.old.items ++ (if is_unique_name name then tells_end name ∷ [] else [])) }
+    ensures { OnOk result
+        (all_done events.new.items
+        ≡ all_done events.old.items ++ (if is_unique_name name then tells_end name ∷ [] else [])) }
 {
     if name.is_unique() {
         events.push_back(ReaderEvent::Gone(name))?;
@@ -75,7 +79,8 @@ pub(crate) fn tell_end(
     name: &str,
     events: &mut VecDeque<ReaderEvent>,
 ) -> Result<(), NoMemory>
-    ensures { OnOk result (all_done events.new.items ≡ all_done events.old.items ++ end_of_connection (chars name.now)) }
+    ensures { OnOk result
+        (all_done events.new.items ≡ all_done events.old.items ++ end_of_connection (chars name.now)) }
 {
     match BusName::read(alloc, name.as_bytes()) {
         Ok(name) => push_end(name, events),

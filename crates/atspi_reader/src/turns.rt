@@ -1,18 +1,18 @@
 //! The parts of a step: what was done is queued, the message is noted, and the call that was asked waits.
 
 ghost use Rattle.std.specs.Prelude.{◌≡◌, ◌≤◌, None, OnOk, OnErr, length, take};
-ghost use Rattle.atspi_header.specs.View.{envelope_at};
+ghost use Rattle.atspi_message_in_place.specs.View.{envelope_at};
 ghost use Rattle.atspi_protocol.specs.following.Takes.{notes};
 ghost use Rattle.atspi_reader.specs.Doing.{all_done};
-ghost use Rattle.atspi_reader.specs.Turns.{did, coming, noted_if};
-ghost use Rattle.atspi_reader.specs.Asked.{waits, started, went_on, Asks, Queues};
+ghost use Rattle.atspi_reader.specs.inner.Turns.{did, coming, noted_if};
+ghost use Rattle.atspi_reader.specs.inner.Asked.{waits, started, went_on, Asks, Queues};
 ghost use Rattle.atspi_reader.specs.ReaderOf.{reader_of};
 
 use crate::asks::{Next, ask_next, ask_wish};
 use crate::state::Reader;
 use crate::waiting::Waiting;
 use atspi_base::NoMemory;
-use atspi_header::MessageRef;
+use atspi_message_in_place::MessageRef;
 use atspi_protocol::ends::EndFault;
 use atspi_protocol::following::{Question, ReaderEvent};
 use atspi_reader_told::sender_of;
@@ -86,9 +86,12 @@ impl Reader {
         }
     }
 
-    /// No call waits any more, and the one that was queued does; where the start ends here, no further call of it is sent.
+    /// No call waits any more, and the one that was queued does; where the start ends here, no further call of it is
+    /// sent.
     pub(crate) fn answered(&mut self, starts: bool, next: Next)
-        ensures { reader_of self.new ≡ went_on next (record (reader_of self.old) { pending = None; to_come = coming starts self.old.to_come.items }) }
+        ensures { reader_of self.new
+            ≡ went_on next
+            (record (reader_of self.old) { pending = None; to_come = coming starts self.old.to_come.items }) }
     {
         self.pending = None;
         if !starts {
@@ -97,14 +100,16 @@ impl Reader {
         self.goes_on(next);
     }
 
-    /// Appends the call that goes out where the call that waits stays: none, if there is one; else the next of the start, or the wish.
+    /// Appends the call that goes out where the call that waits stays: none, if there is one; else the next of the
+    /// start, or the wish.
     pub(crate) fn rest(
         &self,
         wish: Option<Question>,
         events: &mut VecDeque<ReaderEvent>,
     ) -> Result<Next, EndFault>
         requires { self.now.number ≤ 4294967296 }
-        ensures { Asks result (all_done events.old.items) (all_done events.new.items) (reader_of self.now).pending self.now.number self.now.to_come.items wish }
+        ensures { Asks result (all_done events.old.items) (all_done events.new.items) (reader_of self.now).pending
+            self.now.number self.now.to_come.items wish }
     {
         match &self.pending {
             Some(_) => Ok(Next::Nothing),
@@ -120,7 +125,8 @@ impl Reader {
         events: &mut VecDeque<ReaderEvent>,
     ) -> Result<Next, EndFault>
         requires { self.now.number ≤ 4294967296 }
-        ensures { Asks result (all_done events.old.items) (all_done events.new.items) None self.now.number (coming starts self.now.to_come.items) wish }
+        ensures { Asks result (all_done events.old.items) (all_done events.new.items) None self.now.number
+            (coming starts self.now.to_come.items) wish }
     {
         if starts {
             ask_next(self.alloc, self.number, &self.to_come, wish, events)

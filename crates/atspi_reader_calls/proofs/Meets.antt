@@ -3,9 +3,9 @@ use Rattle.std.proofs.Common.{◌≡◌, ◌≢◌, ℕ, List, [], ◌∷◌, sy
 use Rattle.atspi_types.specs.Data.{Data, items_of, AreWellTyped}
 use Rattle.atspi_message.specs.Envelope.{Envelope}
 use Rattle.atspi_message.specs.Rules.{MeetsRules, HasRequired}
-use Rattle.atspi_forest.specs.Path.{path_of}
-use Rattle.atspi_lines.specs.declared.deed.Deed.{Deed}
-use Rattle.atspi_lines.specs.declared.deed.Deed.TheVariants.{SetCaret, InsertText, DeleteText, SetText, SelectChild, DeselectChild, SelectAll, ClearSelection, DoAction}
+use Rattle.atspi_tree_model.specs.Path.{path_of}
+use Rattle.atspi_script_lines.specs.declared.deed.Deed.{Deed}
+use Rattle.atspi_script_lines.specs.declared.deed.Deed.TheVariants.{SetCaret, InsertText, DeleteText, SetText, SelectChild, DeselectChild, SelectAll, ClearSelection, DoAction}
 use Rattle.atspi_protocol.specs.declared.news.part.PartName.TheVariants.{Text, Caret, Columns}
 use Rattle.atspi_protocol.specs.ends.Messages.{call_to}
 use Rattle.atspi_protocol.specs.declared.following.question.Question.{Question}

@@ -1,7 +1,9 @@
 -- What a user may ask of a node.
 use Rattle.std.specs.Prelude.{ℕ, ◌≤◌, length}
-use Rattle.atspi_lines.specs.declared.deed.Deed.{Deed}
-use Rattle.atspi_lines.specs.declared.deed.Deed.TheVariants.{SetCaret, InsertText, DeleteText, SetText, SelectChild, DeselectChild, SelectAll, ClearSelection, DoAction}
+use Rattle.atspi_script_lines.specs.declared.deed.Deed.{Deed}
+use Rattle.atspi_script_lines.specs.declared.deed.Deed.TheVariants.{SetCaret, InsertText, DeleteText, SetText}
+use Rattle.atspi_script_lines.specs.declared.deed.Deed.TheVariants.{SelectChild, DeselectChild, SelectAll}
+use Rattle.atspi_script_lines.specs.declared.deed.Deed.TheVariants.{ClearSelection, DoAction}
 
 -- a place or an index, as a call has it: a signed number of 32 bits that is not negative
 abbrev IsPlace : ℕ → Type 0

@@ -3,11 +3,11 @@
 ghost use Rattle.std.specs.Prelude.{◌≡◌, ◌≤◌, ◌<◌, ◌^◌, ◌∷◌, [], true, codes, length, IfOk};
 ghost use Rattle.atspi_types.specs.Data.{text_data};
 ghost use Rattle.atspi_types.specs.DataView.{data_of, all_data};
-ghost use Rattle.atspi_telling.specs.Plain.{are_plain};
+ghost use Rattle.atspi_protocol_messages.specs.Plain.{are_plain};
 ghost use Rattle.atspi_protocol.specs.following.Calls.{int, minus_one, property};
 
 use atspi_base::{NoMemory, Text};
-use atspi_telling::word;
+use atspi_protocol_messages::word;
 use atspi_types::{Value, Values};
 use std::alloc::Global;
 

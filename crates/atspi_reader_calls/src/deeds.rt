@@ -5,7 +5,9 @@ ghost use Rattle.atspi_types.specs.DataView.{all_data};
 ghost use Rattle.atspi_base.specs.valid_names.Names.{is_member};
 ghost use Rattle.atspi_message.specs.Envelope.{envelope_of};
 ghost use Rattle.atspi_message.specs.Rules.{MeetsRules};
-ghost use Rattle.atspi_lines.specs.declared.deed.Deed.TheVariants.{SetCaret, InsertText, DeleteText, SetText, SelectChild, DeselectChild, SelectAll, ClearSelection, DoAction};
+ghost use Rattle.atspi_script_lines.specs.declared.deed.Deed.TheVariants.{SetCaret, InsertText, DeleteText, SetText};
+ghost use Rattle.atspi_script_lines.specs.declared.deed.Deed.TheVariants.{SelectChild, DeselectChild, SelectAll};
+ghost use Rattle.atspi_script_lines.specs.declared.deed.Deed.TheVariants.{ClearSelection, DoAction};
 ghost use Rattle.atspi_protocol.specs.ends.Messages as messages;
 ghost use Rattle.atspi_protocol.specs.members.Interfaces as interfaces;
 ghost use Rattle.atspi_protocol.specs.following.Calls as calls;
@@ -16,9 +18,9 @@ use crate::own::numbered;
 use crate::targets::object_call;
 use atspi_base::valid_names::{BusName, Path};
 use atspi_base::{NoMemory, Text};
-use atspi_lines::Deed;
 use atspi_message::Message;
-use atspi_telling::node_path;
+use atspi_protocol_messages::node_path;
+use atspi_script_lines::Deed;
 use atspi_types::Values;
 use std::alloc::Global;
 
@@ -32,7 +34,9 @@ fn text_call(
     body: Values,
 ) -> Result<Message, NoMemory>
     requires { is_member asked.now ≡ true }
-    ensures { IfOk result (λ message. envelope_of message ≡ messages.call_to name.now node interfaces.editable_text asked.now (all_data body)) }
+    ensures { IfOk result
+        (λ message. envelope_of message
+        ≡ messages.call_to name.now node interfaces.editable_text asked.now (all_data body)) }
 {
     object_call(
         alloc,
@@ -54,7 +58,9 @@ fn selection_call(
     body: Values,
 ) -> Result<Message, NoMemory>
     requires { is_member asked.now ≡ true }
-    ensures { IfOk result (λ message. envelope_of message ≡ messages.call_to name.now node interfaces.selection asked.now (all_data body)) }
+    ensures { IfOk result
+        (λ message. envelope_of message
+        ≡ messages.call_to name.now node interfaces.selection asked.now (all_data body)) }
 {
     object_call(alloc, name, node, "org.a11y.atspi.Selection", asked, body)
 }
@@ -154,8 +160,8 @@ fn deselect_call(alloc: Global, name: &BusName, node: Path, index: u32) -> Resul
     selection_call(alloc, name, node, "DeselectChild", body)
 }
 
-/// What a user asks of a node, by the node's path, before it has its number (AT-SPI2, interfaces Text, EditableText, Selection and
-/// Action). Memory alone can be wanting.
+/// What a user asks of a node, by the node's path, before it has its number (AT-SPI2, interfaces Text, EditableText,
+/// Selection and Action). Memory alone can be wanting.
 #[tactic(auto, unfolding(atspi_base::specs::valid_names::Names::is_member))]
 pub fn deed_call(
     alloc: Global,
@@ -179,8 +185,8 @@ pub fn deed_call(
     }
 }
 
-/// What a user asks of a node, by the node's number, with the call's own number. It can be written where that is not 0. Memory alone can
-/// be wanting.
+/// What a user asks of a node, by the node's number, with the call's own number. It can be written where that is not 0.
+/// Memory alone can be wanting.
 pub fn user_call(
     alloc: Global,
     serial: u32,

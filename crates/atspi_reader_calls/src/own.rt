@@ -13,7 +13,7 @@ use atspi_base::valid_names::{BusName, Path};
 use atspi_message::Message;
 use atspi_protocol::following::Question;
 use atspi_protocol::news::PartName;
-use atspi_telling::bus_call;
+use atspi_protocol_messages::bus_call;
 use std::alloc::Global;
 
 /// The message with its number.
@@ -83,8 +83,8 @@ fn items_call(alloc: Global, name: &BusName) -> Result<Message, NoMemory>
     )
 }
 
-/// A call of the reader's own, before it has its number (D-Bus Specification, "Message Bus Messages"; AT-SPI2, interfaces Registry,
-/// Accessible, Cache and Text). Memory alone can be wanting.
+/// A call of the reader's own, before it has its number (D-Bus Specification, "Message Bus Messages"; AT-SPI2,
+/// interfaces Registry, Accessible, Cache and Text). Memory alone can be wanting.
 #[tactic(auto, unfolding(atspi_base::specs::valid_names::Names::is_member))]
 pub fn own_call(alloc: Global, question: &Question) -> Result<Message, NoMemory>
     ensures { IfOk result (λ message. envelope_of message ≡ calls.own_call question.now) }
@@ -99,7 +99,8 @@ pub fn own_call(alloc: Global, question: &Question) -> Result<Message, NoMemory>
     }
 }
 
-/// A call of the reader's own, with its number. It can be written where the number is not 0. Memory alone can be wanting.
+/// A call of the reader's own, with its number. It can be written where the number is not 0. Memory alone can be
+/// wanting.
 pub fn asking(alloc: Global, serial: u32, question: &Question) -> Result<Message, NoMemory>
     ensures call { IfOk result (λ message. envelope_of message ≡ calls.asking serial question.now) }
     ensures meets { serial ≢ 0 → IfOk result (λ message. MeetsRules (envelope_of message)) }

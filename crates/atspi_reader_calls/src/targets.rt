@@ -12,14 +12,16 @@ use atspi_base::NoMemory;
 use atspi_base::valid_names::{BusName, Path};
 use atspi_message::Message;
 use atspi_protocol::ends::{call_to, interface, member, path};
-use atspi_telling::call;
+use atspi_protocol_messages::call;
 use atspi_types::Values;
 use std::alloc::Global;
 
 /// RegisterEvent of the registry.
 #[tactic(auto, unfolding(atspi_base::specs::valid_names::Names::is_bus_name, atspi_base::specs::valid_names::Names::is_path, atspi_base::specs::valid_names::Names::is_interface, atspi_base::specs::valid_names::Names::is_member, atspi_base::specs::valid_names::Elements::are_two_or_more, atspi_base::specs::valid_names::Elements::are_elements, atspi_base::specs::valid_names::Elements::parts_of))]
 pub(crate) fn register_call(alloc: Global, body: Values) -> Result<Message, NoMemory>
-    ensures { IfOk result (λ message. envelope_of message ≡ messages.call_to registry registry_path interfaces.registry (codes "RegisterEvent") (all_data body)) }
+    ensures { IfOk result
+        (λ message. envelope_of message
+        ≡ messages.call_to registry registry_path interfaces.registry (codes "RegisterEvent") (all_data body)) }
 {
     call(
         alloc,
@@ -34,7 +36,9 @@ pub(crate) fn register_call(alloc: Global, body: Values) -> Result<Message, NoMe
 /// GetChildren of the registry's root.
 #[tactic(auto, unfolding(atspi_base::specs::valid_names::Names::is_bus_name, atspi_base::specs::valid_names::Names::is_path, atspi_base::specs::valid_names::Names::is_interface, atspi_base::specs::valid_names::Names::is_member, atspi_base::specs::valid_names::Elements::are_two_or_more, atspi_base::specs::valid_names::Elements::are_elements, atspi_base::specs::valid_names::Elements::parts_of))]
 pub(crate) fn children_call(alloc: Global, body: Values) -> Result<Message, NoMemory>
-    ensures { IfOk result (λ message. envelope_of message ≡ messages.call_to registry root_path interfaces.accessible (codes "GetChildren") (all_data body)) }
+    ensures { IfOk result
+        (λ message. envelope_of message
+        ≡ messages.call_to registry root_path interfaces.accessible (codes "GetChildren") (all_data body)) }
 {
     call(
         alloc,
@@ -65,7 +69,8 @@ pub(crate) fn object_call(
 ) -> Result<Message, NoMemory>
     requires interface { is_interface of.now ≡ true }
     requires member { is_member asked.now ≡ true }
-    ensures { IfOk result (λ message. envelope_of message ≡ messages.call_to name.now object of.now asked.now (all_data body)) }
+    ensures { IfOk result
+        (λ message. envelope_of message ≡ messages.call_to name.now object of.now asked.now (all_data body)) }
 {
     Ok(call_to(
         name.copy(alloc)?,

@@ -4,9 +4,9 @@ use Rattle.std.specs.Prelude.{◌||◌, is_some}
 use Rattle.std.specs.Option.{option_map}
 use Rattle.std.specs.List.{list_any}
 use Rattle.std.proofs.lemmas.List.Folds.{list_any-append}
-use Rattle.atspi_forest.specs.declared.view.Row.{Row}
-use Rattle.atspi_forest.specs.Forest.{Forest, nil, tree, labels, has, join, put_at, put_place, put_if, put_in, EachLabel}
-use Rattle.atspi_forest.specs.Row.{Each}
+use Rattle.atspi_tree_model.specs.declared.view.Row.{Row}
+use Rattle.atspi_tree_model.specs.Forest.{Forest, nil, tree, labels, has, join, put_at, put_place, put_if, put_in, EachLabel}
+use Rattle.atspi_tree_model.specs.Row.{Each}
 use Rattle.atspi_protocol.specs.declared.news.part.PartName.{PartName}
 use Rattle.atspi_reader_known.specs.Wanted.{first_part, first_wanted}
 use Rattle.atspi_reader_known.proofs.Fewer.{IsSettled}

@@ -5,12 +5,12 @@ use Rattle.std.specs.Option.{option_map}
 use Rattle.std.specs.Cmp.{nat_cmp_total}
 use Rattle.std.specs.Ordering.{nat_cmp}
 use Rattle.std.specs.FinMap.{empty, get-empty, get-insert}
-use Rattle.atspi_forest.specs.declared.view.Row.{Row}
-use Rattle.atspi_forest.specs.declared.news.News.{News}
-use Rattle.atspi_forest.specs.declared.news.Item.{Item}
-use Rattle.atspi_forest.specs.Forest.{Forest}
-use Rattle.atspi_forest.specs.News.{load}
-use Rattle.atspi_arena.specs.Sights.{sights}
+use Rattle.atspi_tree_model.specs.declared.view.Row.{Row}
+use Rattle.atspi_tree_model.specs.declared.news.News.{News}
+use Rattle.atspi_tree_model.specs.declared.news.Item.{Item}
+use Rattle.atspi_tree_model.specs.Forest.{Forest}
+use Rattle.atspi_tree_model.specs.News.{load}
+use Rattle.atspi_cache_arena.specs.Sights.{sights}
 use Rattle.atspi_cache.specs.Cache.{View, Views, folded, loaded, reloads, told, with_view}
 use Rattle.atspi_cache.specs.Spoken as spoken
 use Rattle.atspi_protocol.specs.declared.news.part.PartName.{PartName}

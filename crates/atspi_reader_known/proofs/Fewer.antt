@@ -2,20 +2,20 @@
 -- one at news that add no row.
 use Rattle.std.proofs.Common.{◌≡◌, ℕ, Bool, true, false, cond, not, List, Option, None, refl, ap, ◌∙◌}
 use Rattle.std.specs.Prelude.{ℤ, pos, negsuc, ◌&&◌, bytes_eq}
-use Rattle.atspi_forest.specs.declared.view.Row.{Row}
-use Rattle.atspi_forest.specs.declared.view.Part.{Part}
-use Rattle.atspi_forest.specs.declared.view.Part.TheVariants.{Absent, Unknown, Known}
-use Rattle.atspi_forest.specs.declared.view.NumPart.{NumPart}
-use Rattle.atspi_forest.specs.declared.view.NumPart.TheVariants.{Absent as NoNumber, Unknown as UnknownNumber, Known as KnownNumber}
-use Rattle.atspi_forest.specs.declared.news.Item.{Item}
-use Rattle.atspi_forest.specs.declared.news.News.{News}
-use Rattle.atspi_forest.specs.declared.news.News.TheVariants.{Removed, ChildAdded, ChildRemoved, Name, Description, Role, State, Inserted, Deleted, Caret, TextIs, CaretIs, ColumnsIs, Nothing, Item as NewItem}
-use Rattle.atspi_forest.specs.Forest.{Forest, has, pick, take_out, change, EachLabel}
-use Rattle.atspi_forest.specs.States.{with_state}
-use Rattle.atspi_forest.specs.Row.{insert_there, delete_there}
-use Rattle.atspi_forest.specs.News.{is_path, is_seat_at, seat_in, spot, effect, renewed, moved, known_text_with, known_number_to, told_text, told_number, with_count}
-use Rattle.atspi_forest.proofs.Labels.{each_put_in, each_take_out, each_pick, each_relabel}
-use Rattle.atspi_forest.proofs.Found.{EachLabel-weaker}
+use Rattle.atspi_tree_model.specs.declared.view.Row.{Row}
+use Rattle.atspi_tree_model.specs.declared.view.Part.{Part}
+use Rattle.atspi_tree_model.specs.declared.view.Part.TheVariants.{Absent, Unknown, Known}
+use Rattle.atspi_tree_model.specs.declared.view.NumPart.{NumPart}
+use Rattle.atspi_tree_model.specs.declared.view.NumPart.TheVariants.{Absent as NoNumber, Unknown as UnknownNumber, Known as KnownNumber}
+use Rattle.atspi_tree_model.specs.declared.news.Item.{Item}
+use Rattle.atspi_tree_model.specs.declared.news.News.{News}
+use Rattle.atspi_tree_model.specs.declared.news.News.TheVariants.{Removed, ChildAdded, ChildRemoved, Name, Description, Role, State, Inserted, Deleted, Caret, TextIs, CaretIs, ColumnsIs, Nothing, Item as NewItem}
+use Rattle.atspi_tree_model.specs.Forest.{Forest, has, pick, take_out, change, EachLabel}
+use Rattle.atspi_tree_model.specs.States.{with_state}
+use Rattle.atspi_tree_model.specs.Row.{insert_there, delete_there}
+use Rattle.atspi_tree_model.specs.News.{is_path, is_seat_at, seat_in, spot, effect, renewed, moved, known_text_with, known_number_to, told_text, told_number, with_count}
+use Rattle.atspi_tree_model.proofs.Labels.{each_put_in, each_take_out, each_pick, each_relabel}
+use Rattle.atspi_tree_model.proofs.Found.{EachLabel-weaker}
 use Rattle.atspi_protocol.specs.declared.news.part.PartName.{PartName}
 use Rattle.atspi_protocol.specs.declared.news.part.PartName.TheVariants.{Text as TextPart, Caret as CaretPart, Columns as ColumnsPart}
 use Rattle.atspi_protocol.specs.following.Wishes.{is_refused, text_is_unknown, number_is_unknown}

@@ -1,7 +1,7 @@
 -- The first of some.
 use Rattle.std.proofs.Common.{◌≡◌, List, [], ◌∷◌, ◌++◌, map, Option, Some, None, refl, ap}
 use Rattle.std.specs.Option.{option_map}
-use Rattle.atspi_forest.specs.Forest.{first_of}
+use Rattle.atspi_tree_model.specs.Forest.{first_of}
 use Rattle.atspi_reader_known.specs.Wanted.{first}
 
 pub first-append : {A : Type 0} (xs ys : List A) → first (xs ++ ys) ≡ first_of (first xs) (first ys)

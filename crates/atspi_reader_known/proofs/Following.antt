@@ -7,15 +7,15 @@ use Rattle.std.specs.Option.{option_map}
 use Rattle.std.specs.Ordering.{nat_cmp}
 use Rattle.std.specs.FinMap.{empty, get-empty}
 use Rattle.std.proofs.lemmas.List.{append_assoc}
-use Rattle.atspi_forest.specs.declared.view.Row.{Row}
-use Rattle.atspi_forest.specs.declared.news.Item.{Item}
-use Rattle.atspi_forest.specs.declared.news.News.{News}
-use Rattle.atspi_forest.specs.declared.news.News.TheVariants.{Removed, ChildAdded, ChildRemoved, Name, Description, Role, State, Inserted, Deleted, Caret, TextIs, CaretIs, ColumnsIs, Nothing, Item as NewItem}
-use Rattle.atspi_forest.specs.Forest.{Forest, labels, has, find}
-use Rattle.atspi_forest.specs.News.{is_path, effect, fresh, load, marks_reload}
-use Rattle.atspi_forest.proofs.NewsKept.{once_after}
-use Rattle.atspi_forest.proofs.Once.{load_once}
-use Rattle.atspi_arena.specs.Sights.{Sight, sights}
+use Rattle.atspi_tree_model.specs.declared.view.Row.{Row}
+use Rattle.atspi_tree_model.specs.declared.news.Item.{Item}
+use Rattle.atspi_tree_model.specs.declared.news.News.{News}
+use Rattle.atspi_tree_model.specs.declared.news.News.TheVariants.{Removed, ChildAdded, ChildRemoved, Name, Description, Role, State, Inserted, Deleted, Caret, TextIs, CaretIs, ColumnsIs, Nothing, Item as NewItem}
+use Rattle.atspi_tree_model.specs.Forest.{Forest, labels, has, find}
+use Rattle.atspi_tree_model.specs.News.{is_path, effect, fresh, load, marks_reload}
+use Rattle.atspi_tree_model.proofs.NewsKept.{once_after}
+use Rattle.atspi_tree_model.proofs.Once.{load_once}
+use Rattle.atspi_cache_arena.specs.Sights.{Sight, sights}
 use Rattle.atspi_speech.specs.Looked.{adds}
 use Rattle.atspi_cache.specs.Cache.{View, Views, told}
 use Rattle.atspi_protocol.specs.declared.news.part.PartName.{PartName}

@@ -7,11 +7,11 @@ use Rattle.std.proofs.lemmas.Slice.Eq.{bytes_eq-Decides}
 use Rattle.std.proofs.lemmas.List.{append-nil}
 use Rattle.std.proofs.lemmas.List.Elements.{filter-append}
 use Rattle.std.proofs.lemmas.List.Folds.{list_any-append}
-use Rattle.atspi_forest.specs.declared.view.Row.{Row}
-use Rattle.atspi_forest.specs.Forest.{Forest, nil, tree, count, labels, first_of}
-use Rattle.atspi_forest.specs.News.{is_path}
-use Rattle.atspi_forest.specs.Laws.{EachPathOnce}
-use Rattle.atspi_forest.proofs.Once.{many}
+use Rattle.atspi_tree_model.specs.declared.view.Row.{Row}
+use Rattle.atspi_tree_model.specs.Forest.{Forest, nil, tree, count, labels, first_of}
+use Rattle.atspi_tree_model.specs.News.{is_path}
+use Rattle.atspi_tree_model.specs.Laws.{EachPathOnce}
+use Rattle.atspi_tree_model.proofs.Once.{many}
 use Rattle.atspi_protocol.specs.declared.news.part.PartName.{PartName}
 use Rattle.atspi_protocol.specs.declared.news.part.PartName.TheVariants.{Text, Caret, Columns}
 use Rattle.atspi_protocol.specs.following.Wishes.{is_refused, same_part, unknown_if, unknown_parts, text_is_unknown, number_is_unknown}

@@ -1,9 +1,9 @@
 -- The name stays through each change of an application.
 use Rattle.std.proofs.Common.{◌≡◌, Option, Some, None, Result, refl, ap, ◌∙◌}
 use Rattle.std.specs.Prelude.{Ok, Err, OnOk, OnErr}
-use Rattle.atspi_forest.specs.declared.view.Row.{Row}
-use Rattle.atspi_forest.specs.declared.news.News.{News}
-use Rattle.atspi_forest.specs.Forest.{Forest}
+use Rattle.atspi_tree_model.specs.declared.view.Row.{Row}
+use Rattle.atspi_tree_model.specs.declared.news.News.{News}
+use Rattle.atspi_tree_model.specs.Forest.{Forest}
 use Rattle.atspi_protocol.specs.following.ReaderState.{Followed}
 use Rattle.atspi_protocol.specs.following.Replied.{told_part}
 use Rattle.atspi_protocol.specs.following.Takes.{folded}

@@ -2,14 +2,14 @@
 use Rattle.std.proofs.Common.{◌≡◌, ℕ, Bool, true, false, cond, inl, inr, List, [], ◌∷◌, Option, Some, None, refl, sym, ap, ◌∙◌}
 use Rattle.std.specs.Prelude.{◌||◌, bytes_eq}
 use Rattle.std.specs.Option.{option_map}
-use Rattle.atspi_forest.specs.declared.view.Row.{Row}
-use Rattle.atspi_forest.specs.declared.news.Item.{Item}
-use Rattle.atspi_forest.specs.declared.news.News.{News}
-use Rattle.atspi_forest.specs.declared.news.News.TheVariants.{Removed, ChildAdded, ChildRemoved, Name, Description, Role, State, Inserted, Deleted, Caret, TextIs, CaretIs, ColumnsIs, Nothing, Item as NewItem}
-use Rattle.atspi_forest.specs.Forest.{Forest, nil, tree, labels, has, find, put_in, change, EachLabel}
-use Rattle.atspi_forest.specs.News.{is_path, names, spot, effect, fresh, renewed, item_effect, added, moved, marks_reload}
-use Rattle.atspi_forest.proofs.Labels.{each_put_in}
-use Rattle.atspi_forest.proofs.Found.{EachLabel-weaker}
+use Rattle.atspi_tree_model.specs.declared.view.Row.{Row}
+use Rattle.atspi_tree_model.specs.declared.news.Item.{Item}
+use Rattle.atspi_tree_model.specs.declared.news.News.{News}
+use Rattle.atspi_tree_model.specs.declared.news.News.TheVariants.{Removed, ChildAdded, ChildRemoved, Name, Description, Role, State, Inserted, Deleted, Caret, TextIs, CaretIs, ColumnsIs, Nothing, Item as NewItem}
+use Rattle.atspi_tree_model.specs.Forest.{Forest, nil, tree, labels, has, find, put_in, change, EachLabel}
+use Rattle.atspi_tree_model.specs.News.{is_path, names, spot, effect, fresh, renewed, item_effect, added, moved, marks_reload}
+use Rattle.atspi_tree_model.proofs.Labels.{each_put_in}
+use Rattle.atspi_tree_model.proofs.Found.{EachLabel-weaker}
 use Rattle.atspi_cache.proofs.Effects.{found_has}
 use Rattle.atspi_speech.specs.Looked.{adds}
 use Rattle.atspi_protocol.specs.declared.news.part.PartName.{PartName}

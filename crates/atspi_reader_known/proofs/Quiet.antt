@@ -2,17 +2,17 @@
 use Rattle.std.proofs.Common.{◌≡◌, ℕ, Bool, true, false, cond, not, List, [], ◌∷◌, map, Option, refl, ap, ◌∙◌}
 use Rattle.std.specs.Prelude.{◌&&◌, ℤ, pos, negsuc}
 use Rattle.std.specs.Option.{option_map}
-use Rattle.atspi_forest.specs.declared.view.Row.{Row}
-use Rattle.atspi_forest.specs.declared.view.Part.{Part}
-use Rattle.atspi_forest.specs.declared.view.Part.TheVariants.{Absent, Unknown, Known}
-use Rattle.atspi_forest.specs.declared.view.NumPart.{NumPart}
-use Rattle.atspi_forest.specs.declared.view.NumPart.TheVariants.{Absent as NoNumber, Unknown as UnknownNumber, Known as KnownNumber}
-use Rattle.atspi_forest.specs.declared.news.News.{News}
-use Rattle.atspi_forest.specs.declared.news.News.TheVariants.{Removed, ChildAdded, ChildRemoved, Name, Description, Role, State, Inserted, Deleted, Caret, TextIs, CaretIs, ColumnsIs, Nothing, Item as NewItem}
-use Rattle.atspi_forest.specs.Forest.{Forest, labels, change, first_of}
-use Rattle.atspi_forest.specs.States.{with_state}
-use Rattle.atspi_forest.specs.Row.{insert_there, delete_there}
-use Rattle.atspi_forest.specs.News.{is_path, effect, known_text_with, known_number_to, with_count}
+use Rattle.atspi_tree_model.specs.declared.view.Row.{Row}
+use Rattle.atspi_tree_model.specs.declared.view.Part.{Part}
+use Rattle.atspi_tree_model.specs.declared.view.Part.TheVariants.{Absent, Unknown, Known}
+use Rattle.atspi_tree_model.specs.declared.view.NumPart.{NumPart}
+use Rattle.atspi_tree_model.specs.declared.view.NumPart.TheVariants.{Absent as NoNumber, Unknown as UnknownNumber, Known as KnownNumber}
+use Rattle.atspi_tree_model.specs.declared.news.News.{News}
+use Rattle.atspi_tree_model.specs.declared.news.News.TheVariants.{Removed, ChildAdded, ChildRemoved, Name, Description, Role, State, Inserted, Deleted, Caret, TextIs, CaretIs, ColumnsIs, Nothing, Item as NewItem}
+use Rattle.atspi_tree_model.specs.Forest.{Forest, labels, change, first_of}
+use Rattle.atspi_tree_model.specs.States.{with_state}
+use Rattle.atspi_tree_model.specs.Row.{insert_there, delete_there}
+use Rattle.atspi_tree_model.specs.News.{is_path, effect, known_text_with, known_number_to, with_count}
 use Rattle.atspi_protocol.specs.declared.news.part.PartName.{PartName}
 use Rattle.atspi_protocol.specs.declared.news.part.PartName.TheVariants.{Text as TextPart, Caret as CaretPart}
 use Rattle.atspi_protocol.specs.following.Wishes.{is_refused, text_is_unknown, number_is_unknown}

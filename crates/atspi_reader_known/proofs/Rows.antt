@@ -2,9 +2,9 @@
 use Rattle.std.proofs.Common.{◌≡◌, ℕ, suc, false, List, ◌∷◌, ◌++◌, map, Option, Some, None, refl, sym, ap, ◌∙◌}
 use Rattle.std.specs.Option.{option_map}
 use Rattle.std.proofs.lemmas.List.{map-append}
-use Rattle.atspi_forest.specs.declared.view.Row.{Row}
-use Rattle.atspi_forest.specs.Forest.{Forest, nil, tree, labels, relabel, seats}
-use Rattle.atspi_arena.specs.Sights.{Sight, sight, sights}
+use Rattle.atspi_tree_model.specs.declared.view.Row.{Row}
+use Rattle.atspi_tree_model.specs.Forest.{Forest, nil, tree, labels, relabel, seats}
+use Rattle.atspi_cache_arena.specs.Sights.{Sight, sight, sights}
 use Rattle.atspi_protocol.specs.following.ReaderState.{Followed}
 use Rattle.atspi_protocol.specs.following.Wishes.{wishes_of}
 use Rattle.atspi_reader_known.specs.Wanted.{first, first_wanted, part_question}

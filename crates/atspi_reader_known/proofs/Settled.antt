@@ -1,8 +1,8 @@
 -- That nothing is wanted of an application stays so where no news adds a wish.
 use Rattle.std.proofs.Common.{◌≡◌, ℕ, List, [], ◌∷◌, Option, Some, None, refl, sym, ◌∙◌}
-use Rattle.atspi_forest.specs.declared.view.Row.{Row}
-use Rattle.atspi_forest.specs.declared.news.News.{News}
-use Rattle.atspi_forest.specs.Forest.{Forest}
+use Rattle.atspi_tree_model.specs.declared.view.Row.{Row}
+use Rattle.atspi_tree_model.specs.declared.news.News.{News}
+use Rattle.atspi_tree_model.specs.Forest.{Forest}
 use Rattle.atspi_protocol.specs.declared.following.question.Question.TheVariants.{GetItems}
 use Rattle.atspi_protocol.specs.following.ReaderState.{Followed}
 use Rattle.atspi_protocol.specs.following.Takes.{folded, noted}

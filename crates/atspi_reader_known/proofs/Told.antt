@@ -4,14 +4,14 @@ use Rattle.std.specs.Prelude.{◌&&◌, ◌||◌, bytes_eq, if◌then◌else◌}
 use Rattle.std.specs.Option.{option_map}
 use Rattle.std.proofs.lemmas.Slice.Eq.{bytes_eq-Decides}
 use Rattle.std.proofs.lemmas.List.Folds.{list_any-append}
-use Rattle.atspi_forest.specs.declared.view.Row.{Row}
-use Rattle.atspi_forest.specs.declared.view.Part.{Part}
-use Rattle.atspi_forest.specs.declared.view.Part.TheVariants.{Absent, Unknown, Known}
-use Rattle.atspi_forest.specs.declared.view.NumPart.{NumPart}
-use Rattle.atspi_forest.specs.declared.view.NumPart.TheVariants.{Absent as NoNumber, Unknown as UnknownNumber, Known as KnownNumber}
-use Rattle.atspi_forest.specs.declared.news.News.{News}
-use Rattle.atspi_forest.specs.Forest.{Forest, first_of, labels, change}
-use Rattle.atspi_forest.specs.News.{is_path, effect, told_text, told_number}
+use Rattle.atspi_tree_model.specs.declared.view.Row.{Row}
+use Rattle.atspi_tree_model.specs.declared.view.Part.{Part}
+use Rattle.atspi_tree_model.specs.declared.view.Part.TheVariants.{Absent, Unknown, Known}
+use Rattle.atspi_tree_model.specs.declared.view.NumPart.{NumPart}
+use Rattle.atspi_tree_model.specs.declared.view.NumPart.TheVariants.{Absent as NoNumber, Unknown as UnknownNumber, Known as KnownNumber}
+use Rattle.atspi_tree_model.specs.declared.news.News.{News}
+use Rattle.atspi_tree_model.specs.Forest.{Forest, first_of, labels, change}
+use Rattle.atspi_tree_model.specs.News.{is_path, effect, told_text, told_number}
 use Rattle.atspi_protocol.specs.declared.news.part.PartName.{PartName}
 use Rattle.atspi_protocol.specs.declared.news.part.PartName.TheVariants.{Text as TextPart, Caret as CaretPart, Columns as ColumnsPart}
 use Rattle.atspi_protocol.specs.declared.following.question.Question.{Question}

@@ -1,9 +1,9 @@
 -- An application as the tuple of its parts: how a proof tells two of them apart.
 use Rattle.std.specs.Prelude.{◌≡◌, refl, ◌==◌, ℕ, Bool, List, Option, if◌then◌else◌}
 use Rattle.std.specs.Coded.{Coded, code_by, coded_ℕ, coded_bool, coded_list, coded_option, coded×}
-use Rattle.atspi_forest.specs.declared.view.Row.{Row}
-use Rattle.atspi_forest.specs.Forest.{Forest}
-use Rattle.atspi_forest.specs.ForestCode.{forest_code}
+use Rattle.atspi_tree_model.specs.declared.view.Row.{Row}
+use Rattle.atspi_tree_model.specs.Forest.{Forest}
+use Rattle.atspi_tree_model.specs.ForestCode.{forest_code}
 use Rattle.atspi_protocol.specs.declared.news.part.PartName.{PartName}
 use Rattle.atspi_protocol.specs.declared.news.part.PartName.TheVariants.{Text, Caret, Columns}
 use Rattle.atspi_protocol.specs.following.ReaderState.{Followed}
@@ -30,6 +30,16 @@ refused_code = coded_list (coded× (coded_list coded_ℕ) part_code)
 abbrev pub followed_code : Coded Row → Coded Followed
 followed_code row =
     code_by (List ℕ × (List ℕ × (Option (Forest Row) × (Bool × (ℕ × List (List ℕ × PartName))))))
-    (coded× (coded_list coded_ℕ) (coded× (coded_list coded_ℕ) (coded× (coded_option (forest_code row)) (coded× coded_bool (coded× coded_ℕ refused_code)))))
+    (coded× (coded_list coded_ℕ)
+    (coded× (coded_list coded_ℕ)
+    (coded× (coded_option (forest_code row)) (coded× coded_bool (coded× coded_ℕ refused_code)))))
     (λ a. (a.name, (a.root, (a.view, (a.reload, (a.last, a.refused))))))
-    (λ p. record { name = p.0; root = p.1.0; view = p.1.1.0; reload = p.1.1.1.0; last = p.1.1.1.1.0; refused = p.1.1.1.1.1 }) (λ _. refl)
+    (λ p.
+    record {
+      name = p.0;
+      root = p.1.0;
+      view = p.1.1.0;
+      reload = p.1.1.1.0;
+      last = p.1.1.1.1.0;
+      refused = p.1.1.1.1.1;
+    }) (λ _. refl)

@@ -1,9 +1,9 @@
 -- What is kept of an application, and what is spoken of it.
 use Rattle.std.specs.Prelude.{◌≡◌, ℕ, List, [], Option, None, Some}
 use Rattle.std.specs.FinMap as finmap
-use Rattle.atspi_forest.specs.declared.view.Row.{Row}
-use Rattle.atspi_forest.specs.declared.news.News.{News}
-use Rattle.atspi_forest.specs.Forest.{Forest}
+use Rattle.atspi_tree_model.specs.declared.view.Row.{Row}
+use Rattle.atspi_tree_model.specs.declared.news.News.{News}
+use Rattle.atspi_tree_model.specs.Forest.{Forest}
 use Rattle.atspi_cache.specs.Cache.{View, Views}
 use Rattle.atspi_speech.specs.Speech.{closing_lines, lines}
 use Rattle.atspi_protocol.specs.following.ReaderState.{Followed}

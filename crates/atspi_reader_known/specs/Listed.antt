@@ -1,13 +1,15 @@
 -- What is wanted of an application as a list that is kept, so that the first of it is found without a walk.
-use Rattle.std.specs.Prelude.{◌≡◌, ℕ, ℤ, pos, negsuc, Bool, true, false, cond, ◌&&◌, not, List, [], ◌∷◌, filter, flat_map, map, Option, Some, None, bytes_eq}
+use Rattle.std.specs.Prelude.{◌≡◌, ℕ, ℤ, pos, negsuc, Bool, true, false, cond, ◌&&◌, not, List, [], ◌∷◌, filter}
+use Rattle.std.specs.Prelude.{flat_map, map, Option, Some, None, bytes_eq}
 use Rattle.std.specs.Option.{option_map}
 use Rattle.std.specs.List.{list_any}
-use Rattle.atspi_forest.specs.declared.view.Row.{Row}
-use Rattle.atspi_forest.specs.declared.news.News.{News}
-use Rattle.atspi_forest.specs.declared.news.News.TheVariants.{Removed, ChildAdded, ChildRemoved, TextIs, CaretIs, ColumnsIs, Item as NewItem}
-use Rattle.atspi_forest.specs.Forest.{Forest, has, find}
-use Rattle.atspi_forest.specs.News.{is_path, fresh}
-use Rattle.atspi_forest.specs.Laws.{EachPathOnce}
+use Rattle.atspi_tree_model.specs.declared.view.Row.{Row}
+use Rattle.atspi_tree_model.specs.declared.news.News.{News}
+use Rattle.atspi_tree_model.specs.declared.news.News.TheVariants.{Removed, ChildAdded, ChildRemoved, TextIs, CaretIs}
+use Rattle.atspi_tree_model.specs.declared.news.News.TheVariants.{ColumnsIs, Item as NewItem}
+use Rattle.atspi_tree_model.specs.Forest.{Forest, has, find}
+use Rattle.atspi_tree_model.specs.News.{is_path, fresh}
+use Rattle.atspi_tree_model.specs.Laws.{EachPathOnce}
 use Rattle.atspi_speech.specs.Looked.{adds}
 use Rattle.atspi_cache.specs.Cache.{View}
 use Rattle.atspi_protocol.specs.declared.news.part.PartName.{PartName}
@@ -38,7 +40,8 @@ AreOnce (want ∷ wants) = (list_any (is_same want) wants ≡ false) × AreOnce 
 -- what is wanted of an application: whatever more is refused, its first wish is the first part that is left
 pub record IsListing (wants : List (List ℕ × PartName)) (app : Followed) : Type 0 where
   pub once : AreOnce wants
-  pub wanted : (more : List (List ℕ × PartName)) → first (wishes_of (refusing more app)) ≡ option_map (part_question app.name) (first (left more wants))
+  pub wanted : (more : List (List ℕ × PartName))
+      → first (wishes_of (refusing more app)) ≡ option_map (part_question app.name) (first (left more wants))
 
 -- so it is where it was listed
 abbrev pub IsSoListed : Bool → List (List ℕ × PartName) → Followed → Type 0
@@ -49,8 +52,8 @@ abbrev pub IsOnce : Option View → Type 0
 IsOnce None = Unit {0}
 IsOnce (Some v) = EachPathOnce v.rows
 
--- whether a list can follow a news, given the view before it: it stays as it is where the news changes no unknown part; where it is empty,
--- it gets the parts of a node that is added
+-- whether a list can follow a news, given the view before it: it stays as it is where the news changes no unknown part;
+-- where it is empty, it gets the parts of a node that is added
 abbrev pub is_empty : List (List ℕ × PartName) → Bool
 is_empty [] = true
 is_empty (want ∷ wants) = false
@@ -67,7 +70,8 @@ follows wants view news = true
 
 abbrev pub fresh_wants : Followed → Forest Row → News → List (List ℕ × PartName)
 fresh_wants app view (NewItem item) =
-    cond (adds app.root app.name (find (is_path item.object.path) view) (has (is_path item.parent.path) view) item) (row_wants app.refused (fresh item)) []
+    cond (adds app.root app.name (find (is_path item.object.path) view) (has (is_path item.parent.path) view) item)
+    (row_wants app.refused (fresh item)) []
 fresh_wants app view news = []
 
 -- these, or others where there are none

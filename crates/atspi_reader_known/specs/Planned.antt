@@ -1,6 +1,6 @@
 -- The applications after a change that is planned, and what is wanted then.
 use Rattle.std.specs.Prelude.{ℕ, List, [], ◌∷◌, Option, None, if◌then◌else◌}
-use Rattle.atspi_forest.specs.Forest.{first_of}
+use Rattle.atspi_tree_model.specs.Forest.{first_of}
 use Rattle.atspi_protocol.specs.declared.following.question.Question.{Question}
 use Rattle.atspi_protocol.specs.following.ReaderState.{Followed, is_named}
 use Rattle.atspi_protocol.specs.following.Wishes.{wishes}

@@ -18,4 +18,5 @@ AreSame parts refused = (path : List ℕ) (part : PartName) → has_part parts p
 
 -- one more part of a path
 abbrev pub Puts : Parts → Parts → List ℕ → PartName → Type 0
-Puts old new path part = (q : List ℕ) (p : PartName) → has_part new q p ≡ (has_part old q p || (bytes_eq path q && same_part part p))
+Puts old new path part = (q : List ℕ) (p : PartName)
+    → has_part new q p ≡ (has_part old q p || (bytes_eq path q && same_part part p))

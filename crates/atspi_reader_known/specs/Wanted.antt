@@ -2,11 +2,11 @@
 use Rattle.std.specs.Prelude.{ℕ, Bool, cond, ◌&&◌, not, List, [], ◌∷◌, ◌++◌, filter, Option, Some, None, if◌then◌else◌}
 use Rattle.std.specs.Option.{option_map}
 use Rattle.std.specs.Borrow.{Bor}
-use Rattle.atspi_forest.specs.declared.view.Row.{Row}
-use Rattle.atspi_forest.specs.declared.news.News.{News}
-use Rattle.atspi_forest.specs.declared.news.News.TheVariants.{ChildAdded, Item as NewItem}
-use Rattle.atspi_forest.specs.Forest.{Forest, first_of, has, find}
-use Rattle.atspi_forest.specs.News.{is_path, fresh}
+use Rattle.atspi_tree_model.specs.declared.view.Row.{Row}
+use Rattle.atspi_tree_model.specs.declared.news.News.{News}
+use Rattle.atspi_tree_model.specs.declared.news.News.TheVariants.{ChildAdded, Item as NewItem}
+use Rattle.atspi_tree_model.specs.Forest.{Forest, first_of, has, find}
+use Rattle.atspi_tree_model.specs.News.{is_path, fresh}
 use Rattle.atspi_speech.specs.Looked.{adds}
 use Rattle.atspi_protocol.specs.declared.news.part.PartName.{PartName}
 use Rattle.atspi_protocol.specs.declared.news.part.PartName.TheVariants.{Text, Caret, Columns}

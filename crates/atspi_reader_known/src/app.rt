@@ -2,12 +2,12 @@
 
 ghost use Rattle.std.specs.Prelude.{◌≡◌, [], ◌++◌, ◌||◌, ◌&&◌, false, bytes_eq, IfOk, OnOk, OnErr, None, Some};
 ghost use Rattle.std.specs.Option.{option_map};
-ghost use Rattle.atspi_arena.specs.Sights.{sights};
-ghost use Rattle.atspi_forest.specs.Forest.{Forest, find, has};
-ghost use Rattle.atspi_forest.specs.News.{is_path, load};
-ghost use Rattle.atspi_forest.specs.declared.news.News.TheVariants.{ChildAdded, Item as NewItem};
+ghost use Rattle.atspi_cache_arena.specs.Sights.{sights};
+ghost use Rattle.atspi_tree_model.specs.Forest.{Forest, find, has};
+ghost use Rattle.atspi_tree_model.specs.News.{is_path, load};
+ghost use Rattle.atspi_tree_model.specs.declared.news.News.TheVariants.{ChildAdded, Item as NewItem};
 ghost use Rattle.atspi_speech.specs.Looked.{adds};
-ghost use Rattle.atspi_forest.specs.declared.view.Row.{Row};
+ghost use Rattle.atspi_tree_model.specs.declared.view.Row.{Row};
 ghost use Rattle.atspi_protocol.specs.following.ReaderState.{Followed, is_named};
 ghost use Rattle.atspi_protocol.specs.following.Wishes.{wishes_of};
 ghost use Rattle.atspi_protocol.specs.following.Replied as replied;
@@ -24,19 +24,20 @@ use crate::wants::Wants;
 use atspi_base::valid_names::{BusName, Path};
 use atspi_base::{NoMemory, Text, Texts};
 use atspi_cache::{Cache, Rows, closing, lines};
-use atspi_forest::{Item, Items, News};
 use atspi_protocol::following::Question;
 use atspi_protocol::news::PartName;
+use atspi_tree_model::{Item, Items, News};
 use std::alloc::Global;
 use std::marker::Model;
 
 /// The number of an application in its own cache.
 pub(crate) const HERE: u32 = 0;
 
-/// An application that a reader knows: its bus name and the path of its root, its view where it is held, whether all of it is to be asked for
-/// again, the serial of the last message taken from it, and the parts that it would not tell. Each has a cache of its own, so that nothing
-/// that is done to one touches another. Beside that it keeps what is wanted of it as a list, which follows news and replies where it can, so that the first
-/// wish is found without a walk over the rows; where it cannot, the next reply lists it anew.
+/// An application that a reader knows: its bus name and the path of its root, its view where it is held, whether all of
+/// it is to be asked for again, the serial of the last message taken from it, and the parts that it would not tell.
+/// Each has a cache of its own, so that nothing that is done to one touches another. Beside that it keeps what is
+/// wanted of it as a list, which follows news and replies where it can, so that the first wish is found without a walk
+/// over the rows; where it cannot, the next reply lists it anew.
 #[derive(Drop)]
 pub struct App {
     alloc: Global,
@@ -51,7 +52,7 @@ pub struct App {
 }
 
 impl Model for App {
-    ghost use Rattle.atspi_forest.specs.contracts.view.Row as view_row;
+    ghost use Rattle.atspi_tree_model.specs.contracts.view.Row as view_row;
     ghost use Rattle.atspi_protocol.specs.following.ReaderState.{Followed};
     ghost use Rattle.atspi_reader_known.specs.FollowedCode.{followed_code};
     ghost use Rattle.atspi_reader_known.specs.Kept.{kept, rows_of, IsKept};
@@ -61,9 +62,26 @@ impl Model for App {
 
     ghost coded = { followed_code view_row.the_row.coded };
 
-    ghost view = { λ a. record { name = a.name; root = a.root; view = rows_of (kept a.cache); reload = a.reload; last = a.last; refused = a.refused } };
+    ghost view = { λ a.
+        record {
+          name = a.name;
+          root = a.root;
+          view = rows_of (kept a.cache);
+          reload = a.reload;
+          last = a.last;
+          refused = a.refused;
+        } };
 
-    ghost invariant = { λ a. IsKept a.name a.root (kept a.cache) × IsOnce (kept a.cache) × IsSoListed a.listed a.wants (record { name = a.name; root = a.root; view = rows_of (kept a.cache); reload = a.reload; last = a.last; refused = a.refused }) };
+    ghost invariant = { λ a. IsKept a.name a.root (kept a.cache) × IsOnce (kept a.cache)
+        × IsSoListed a.listed a.wants
+        (record {
+          name = a.name;
+          root = a.root;
+          view = rows_of (kept a.cache);
+          reload = a.reload;
+          last = a.last;
+          refused = a.refused;
+        }) };
 }
 
 /// Whether a text has the characters of a bus name.
@@ -89,7 +107,8 @@ fn both(one: bool, other: bool) -> bool
 
 /// A cache with the view of these items. What a bus name spells is the name itself.
 fn told(alloc: Global, name: &BusName, root: &Path, items: Items) -> Result<Cache, NoMemory>
-    ensures { IfOk result (λ cache. kept cache ≡ Some (record { bus = name.now; root = root.now; rows = load root.now name.now items })) }
+    ensures { IfOk result
+        (λ cache. kept cache ≡ Some (record { bus = name.now; root = root.now; rows = load root.now name.now items })) }
 {
     let _spelled = name.as_str();
     let mut cache = Cache::new(alloc);
@@ -283,8 +302,8 @@ impl App {
         self.wish(alloc, &Refused::new(alloc))
     }
 
-    /// What is wanted of it first, if these parts too were refused. It walks over the rows, up to the first that has such a part, only where what is
-    /// wanted could not be listed.
+    /// What is wanted of it first, if these parts too were refused. It walks over the rows, up to the first that has
+    /// such a part, only where what is wanted could not be listed.
     pub(crate) fn wish(&self, alloc: Global, more: &Refused) -> Result<Option<Question>, NoMemory>
         ensures { IfOk result (λ wish. wish ≡ first (wishes_of (refusing more.now self.now))) }
     {
@@ -318,8 +337,9 @@ impl App {
         }
     }
 
-    /// What a news of it makes wanted, given before it is taken, where nothing else is wanted of it: an item that adds a node makes the
-    /// first of the node's parts wanted, and the addition of a child that is not known makes all of the application wanted.
+    /// What a news of it makes wanted, given before it is taken, where nothing else is wanted of it: an item that adds
+    /// a node makes the first of the node's parts wanted, and the addition of a child that is not known makes all of
+    /// the application wanted.
     pub fn news_wish(&self, alloc: Global, news: &News) -> Result<Option<Question>, NoMemory>
         requires nothing { wishes_of self.now ≡ [] }
         ensures { IfOk result (λ wish. wish ≡ first (wishes_of (takes.folded news.now self.now))) }
@@ -336,7 +356,8 @@ impl App {
 
     /// What the addition of a child makes wanted.
     fn child_wish(&self, alloc: Global, child: &Path) -> Result<Option<Question>, NoMemory>
-        ensures { (view : Forest Row) → self.now.view ≡ Some view → IfOk result (λ wish. wish ≡ wish_at self.now view (ChildAdded child.now)) }
+        ensures { (view : Forest Row) → self.now.view ≡ Some view
+            → IfOk result (λ wish. wish ≡ wish_at self.now view (ChildAdded child.now)) }
     {
         if self.cache.find(HERE, child).is_some() {
             return Ok(None);
@@ -346,7 +367,10 @@ impl App {
 
     /// Whether an item adds a node to its view.
     fn adds(&self, item: &Item) -> bool
-        ensures { (view : Forest Row) → self.now.view ≡ Some view → result ≡ adds self.now.root self.now.name (find (is_path item.now.object.path) view) (has (is_path item.now.parent.path) view) item.now }
+        ensures { (view : Forest Row) → self.now.view ≡ Some view
+            → result
+            ≡ adds self.now.root self.now.name (find (is_path item.now.object.path) view)
+            (has (is_path item.now.parent.path) view) item.now }
     {
         if !is_bus(&item.object.bus, &self.name) || is_same_path(&item.object.path, &self.root) {
             return false;
@@ -361,7 +385,8 @@ impl App {
 
     /// The parts of the node that a news adds to its view.
     fn fresh_wants(&self, news: &News) -> Result<Wants, NoMemory>
-        ensures { (view : Forest Row) → self.now.view ≡ Some view → IfOk result (λ wants. wants ≡ fresh_wants self.now view news.now) }
+        ensures { (view : Forest Row) → self.now.view ≡ Some view
+            → IfOk result (λ wants. wants ≡ fresh_wants self.now view news.now) }
     {
         match news {
             News::Item(item) => self.added_wants(item),
@@ -371,7 +396,8 @@ impl App {
 
     /// Those of the node of an item, where the item adds one.
     fn added_wants(&self, item: &Item) -> Result<Wants, NoMemory>
-        ensures { (view : Forest Row) → self.now.view ≡ Some view → IfOk result (λ wants. wants ≡ fresh_wants self.now view (NewItem item.now)) }
+        ensures { (view : Forest Row) → self.now.view ≡ Some view
+            → IfOk result (λ wants. wants ≡ fresh_wants self.now view (NewItem item.now)) }
     {
         if !self.adds(item) {
             return Ok(Wants::new(self.alloc));
@@ -381,7 +407,8 @@ impl App {
 
     /// What an item makes wanted.
     fn item_wish(&self, alloc: Global, item: &Item) -> Result<Option<Question>, NoMemory>
-        ensures { (view : Forest Row) → self.now.view ≡ Some view → IfOk result (λ wish. wish ≡ wish_at self.now view (NewItem item.now)) }
+        ensures { (view : Forest Row) → self.now.view ≡ Some view
+            → IfOk result (λ wish. wish ≡ wish_at self.now view (NewItem item.now)) }
     {
         if !self.adds(item) {
             return Ok(None);

@@ -1,6 +1,7 @@
 //! The applications that a reader knows.
 
-ghost use Rattle.std.specs.Prelude.{◌≡◌, ◌-◌, ◌<◌, [], ◌∷◌, ◌++◌, false, not, filter, length, take, map, flat_map, IfOk, OnOk, OnErr};
+ghost use Rattle.std.specs.Prelude.{◌≡◌, ◌-◌, ◌<◌, [], ◌∷◌, ◌++◌, false, not, filter, length, take, map, flat_map};
+ghost use Rattle.std.specs.Prelude.{IfOk, OnOk, OnErr};
 ghost use Rattle.std.specs.List.{list_any, position};
 ghost use Rattle.std.specs.Option.{option_copied};
 ghost use Rattle.atspi_protocol.specs.following.ReaderState.{is_named};
@@ -17,15 +18,15 @@ use crate::places::Places;
 use crate::plan::Plan;
 use atspi_base::NoMemory;
 use atspi_base::valid_names::Path;
-use atspi_forest::News;
 use atspi_protocol::following::Question;
 use atspi_protocol::news::PartName;
+use atspi_tree_model::News;
 use std::alloc::Global;
 use std::marker::Model;
 use std::mem;
 
-/// The applications that a reader knows, in the order in which they became known. No two have one name. Which one has a name is looked up, in log n
-/// steps; to forget one takes a walk over all, and so does what is wanted first.
+/// The applications that a reader knows, in the order in which they became known. No two have one name. Which one has a
+/// name is looked up, in log n steps; to forget one takes a walk over all, and so does what is wanted first.
 #[derive(Drop)]
 pub struct Apps {
     items: Vec<App>,
@@ -35,7 +36,7 @@ pub struct Apps {
 impl Model for Apps {
     ghost use Rattle.std.specs.Prelude.{List};
     ghost use Rattle.std.specs.Coded.{coded_list};
-    ghost use Rattle.atspi_forest.specs.contracts.view.Row as view_row;
+    ghost use Rattle.atspi_tree_model.specs.contracts.view.Row as view_row;
     ghost use Rattle.atspi_protocol.specs.following.ReaderState.{Followed};
     ghost use Rattle.atspi_reader_known.specs.FollowedCode.{followed_code};
     ghost use Rattle.atspi_reader_known.specs.Places.{AreFound};
@@ -198,7 +199,8 @@ impl Apps {
         }
     }
 
-    /// A news changes the view of the application with this name, where it is held. After want of memory all is as before.
+    /// A news changes the view of the application with this name, where it is held. After want of memory all is as
+    /// before.
     pub fn fold(&mut self, name: &str, news: News) -> Result<(), NoMemory>
         ensures ok { OnOk result (self.new ≡ changed (takes.folded news) name.now self.old) }
         ensures err { OnErr result (self.new ≡ self.old) }

@@ -1,14 +1,14 @@
 //! The parts that an item of a new node names.
 
 ghost use Rattle.std.specs.Prelude.{◌≡◌, true, bytes_eq};
-ghost use Rattle.atspi_cache.specs.Plain.{is_plain};
-ghost use Rattle.atspi_forest.specs.News as news;
+ghost use Rattle.atspi_cache.specs.inner.Plain.{is_plain};
+ghost use Rattle.atspi_tree_model.specs.News as news;
 ghost use Rattle.atspi_reader_known.specs.Wanted.{first_part};
 
 use crate::refused::Refused;
 use atspi_base::Text;
-use atspi_forest::Item;
 use atspi_protocol::news::PartName;
+use atspi_tree_model::Item;
 
 /// Whether a text has just these characters of ASCII.
 fn is_word(text: &Text, word: &str) -> bool

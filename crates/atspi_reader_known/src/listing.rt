@@ -1,10 +1,10 @@
 //! How what is wanted of an application is listed.
 
 ghost use Rattle.std.specs.Prelude.{◌≡◌, ◌++◌, ◌∷◌, ◌&&◌, [], ℕ, List, true, cond, map, not, Some, IfOk, IsOkAnd, OnOk};
-ghost use Rattle.atspi_arena.specs.Sights.{Sight};
-ghost use Rattle.atspi_forest.specs.Forest.{Forest};
-ghost use Rattle.atspi_forest.specs.News as news;
-ghost use Rattle.atspi_forest.specs.declared.view.Row.{Row};
+ghost use Rattle.atspi_cache_arena.specs.Sights.{Sight};
+ghost use Rattle.atspi_tree_model.specs.Forest.{Forest};
+ghost use Rattle.atspi_tree_model.specs.News as news;
+ghost use Rattle.atspi_tree_model.specs.declared.view.Row.{Row};
 ghost use Rattle.atspi_protocol.specs.following.Wishes.{is_refused};
 ghost use Rattle.atspi_reader_known.specs.Kept.{kept, rows_of};
 ghost use Rattle.atspi_reader_known.specs.Listed as listed;
@@ -18,8 +18,8 @@ use crate::wants::Wants;
 use atspi_base::NoMemory;
 use atspi_base::valid_names::Path;
 use atspi_cache::{Cache, Rows};
-use atspi_forest::{Item, News, Row};
 use atspi_protocol::news::PartName;
+use atspi_tree_model::{Item, News, Row};
 use std::alloc::Global;
 
 /// Appends a part, where it is unknown and was not refused.
@@ -31,7 +31,10 @@ fn push_part(
     unknown: bool,
     wants: &mut Vec<(Path, PartName)>,
 ) -> Result<(), NoMemory>
-    ensures { OnOk result (wants.new.items ≡ wants.old.items ++ cond (unknown && not (is_refused refused.now path.now part)) ((path.now, part) ∷ []) []) }
+    ensures { OnOk result
+        (wants.new.items
+        ≡ wants.old.items
+        ++ cond (unknown && not (is_refused refused.now path.now part)) ((path.now, part) ∷ []) []) }
 {
     if unknown && !refused.has(path, part) {
         wants.push((path.copy(alloc)?, part))?;
@@ -81,7 +84,8 @@ fn all_wants(
     rows: Rows,
     refused: &Refused,
 ) -> Result<Vec<(Path, PartName)>, NoMemory>
-    ensures { IfOk result (λ wants. wants.items ≡ listed.all_wants refused.now (map (λ (s : Sight). s.row) rows.entry)) }
+    ensures { IfOk result
+        (λ wants. wants.items ≡ listed.all_wants refused.now (map (λ (s : Sight). s.row) rows.entry)) }
 {
     let mut wants = Vec::new(alloc);
     let mut rest = rows;
@@ -126,7 +130,8 @@ fn put_listed(wants: &mut Wants, listed: Result<Vec<(Path, PartName)>, NoMemory>
     }
 }
 
-/// Puts the parts of an added node in place, if there are any and memory was not wanting for them, and says whether it was not.
+/// Puts the parts of an added node in place, if there are any and memory was not wanting for them, and says whether it
+/// was not.
 pub(crate) fn put_fresh(wants: &mut Wants, fresh: Result<Wants, NoMemory>) -> bool
     ensures { result ≡ true → IsOkAnd fresh (λ others. wants.new ≡ or_others others wants.old) }
 {
@@ -139,8 +144,8 @@ pub(crate) fn put_fresh(wants: &mut Wants, fresh: Result<Wants, NoMemory>) -> bo
     }
 }
 
-/// Lists anew what is wanted of an application with this view, and says whether that was done: it is not where all of the application is wanted, nor
-/// for want of memory. It walks over all rows.
+/// Lists anew what is wanted of an application with this view, and says whether that was done: it is not where all of
+/// the application is wanted, nor for want of memory. It walks over all rows.
 pub(crate) fn relist(
     alloc: Global,
     cache: &Cache,
@@ -148,7 +153,16 @@ pub(crate) fn relist(
     refused: &Refused,
     wants: &mut Wants,
 ) -> bool
-    ensures { result ≡ true → IsOnce (kept cache.now) → (name root : List ℕ) (last : ℕ) → IsListing wants.new (record { name = name; root = root; view = rows_of (kept cache.now); reload = reload; last = last; refused = refused.now }) }
+    ensures { result ≡ true → IsOnce (kept cache.now) → (name root : List ℕ) (last : ℕ)
+        → IsListing wants.new
+        (record {
+          name = name;
+          root = root;
+          view = rows_of (kept cache.now);
+          reload = reload;
+          last = last;
+          refused = refused.now;
+        }) }
 {
     if reload {
         return false;
@@ -161,7 +175,8 @@ pub(crate) fn relist(
 
 /// Whether a list of what is wanted can follow a news, given the view before it.
 pub(crate) fn follows(cache: &Cache, wants: &Wants, news: &News) -> bool
-    ensures { (view : Forest Row) → rows_of (kept cache.now) ≡ Some view → result ≡ listed.follows wants.now view news.now }
+    ensures { (view : Forest Row) → rows_of (kept cache.now) ≡ Some view
+        → result ≡ listed.follows wants.now view news.now }
 {
     match news {
         News::ChildAdded(child) => cache.find(HERE, child).is_some(),

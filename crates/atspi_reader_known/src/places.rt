@@ -8,7 +8,8 @@ use atspi_base::NoMemory;
 use std::alloc::Global;
 use std::collections::BTreeMap;
 
-/// The place of each name in a list, found in log n steps whoever chose the names. It keeps the allocator that it was made with.
+/// The place of each name in a list, found in log n steps whoever chose the names. It keeps the allocator that it was
+/// made with.
 #[derive(Drop)]
 pub(crate) struct Places {
     alloc: Global,
@@ -35,7 +36,8 @@ impl Places {
 
     /// A name gets a place. After want of memory all is as before.
     pub(crate) fn put(&mut self, name: &str, place: usize) -> Result<(), NoMemory>
-        ensures ok { OnOk result ((q : List ℕ) → place_in self.new q ≡ cond (bytes_eq name.now q) (Some place) (place_in self.old q)) }
+        ensures ok { OnOk result
+            ((q : List ℕ) → place_in self.new q ≡ cond (bytes_eq name.now q) (Some place) (place_in self.old q)) }
         ensures err { OnErr result ((q : List ℕ) → place_in self.new q ≡ place_in self.old q) }
     {
         let name = String::from_str(self.alloc, name)?;

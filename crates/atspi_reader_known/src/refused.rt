@@ -13,8 +13,8 @@ use std::alloc::Global;
 use std::collections::BTreeSet;
 use std::marker::Model;
 
-/// Parts of rows that an application would not tell, each with the path of its row, in the order in which they were asked for. Whether one is there is
-/// looked up, in log n steps.
+/// Parts of rows that an application would not tell, each with the path of its row, in the order in which they were
+/// asked for. Whether one is there is looked up, in log n steps.
 #[derive(Drop)]
 pub struct Refused {
     alloc: Global,
@@ -48,7 +48,8 @@ impl Model for Refused {
 
 /// Puts a path into a set. After want of memory the set is as before.
 fn put(alloc: Global, set: &mut BTreeSet<String>, path: &Path) -> Result<(), NoMemory>
-    ensures ok { OnOk result ((q : List ℕ) → contains_text set.new q ≡ cond (bytes_eq path.now q) true (contains_text set.old q)) }
+    ensures ok { OnOk result
+        ((q : List ℕ) → contains_text set.new q ≡ cond (bytes_eq path.now q) true (contains_text set.old q)) }
     ensures err { OnErr result ((q : List ℕ) → contains_text set.new q ≡ contains_text set.old q) }
 {
     let path = String::from_str(alloc, path.as_str())?;

@@ -2,7 +2,7 @@
 
 ghost use Rattle.std.specs.Prelude.{◌≡◌, ◌++◌, map};
 ghost use Rattle.std.specs.Option.{option_map};
-ghost use Rattle.atspi_arena.specs.Sights.{Sight};
+ghost use Rattle.atspi_cache_arena.specs.Sights.{Sight};
 ghost use Rattle.atspi_protocol.specs.following.Wishes.{is_refused, text_is_unknown, number_is_unknown};
 ghost use Rattle.atspi_reader_known.specs.Wanted as wanted;
 ghost use Rattle.atspi_reader_known.specs.Wanted.{lent};
@@ -10,8 +10,8 @@ ghost use Rattle.atspi_reader_known.specs.Wanted.{lent};
 use crate::refused::Refused;
 use atspi_base::valid_names::Path;
 use atspi_cache::Rows;
-use atspi_forest::{NumPart, Part, Row};
 use atspi_protocol::news::PartName;
+use atspi_tree_model::{NumPart, Part, Row};
 
 /// Whether a text is there and not known.
 pub(crate) fn is_unknown_text(part: &Part) -> bool
@@ -56,13 +56,15 @@ fn first_part(refused: &Refused, more: &Refused, row: &Row) -> Option<PartName>
     None
 }
 
-/// The first unknown part of some rows that was not refused, with its row's path. It takes no memory, and walks over the rows up to that one.
+/// The first unknown part of some rows that was not refused, with its row's path. It takes no memory, and walks over
+/// the rows up to that one.
 pub(crate) fn first_wanted<'a>(
     rows: Rows<'a>,
     refused: &Refused,
     more: &Refused,
 ) -> Option<(&'a Path, PartName)>
-    ensures { option_map lent result ≡ wanted.first_wanted (refused.now ++ more.now) (map (λ (s : Sight). s.row) rows.entry) }
+    ensures { option_map lent result
+        ≡ wanted.first_wanted (refused.now ++ more.now) (map (λ (s : Sight). s.row) rows.entry) }
 {
     let mut rest = rows;
     while let Some(seen) = rest.next() {

@@ -13,7 +13,8 @@ use atspi_protocol::news::PartName;
 use std::alloc::Global;
 use std::marker::Model;
 
-/// Parts of rows, each with the path of its row, in the order in which they are asked for. The first one goes without a step over the others.
+/// Parts of rows, each with the path of its row, in the order in which they are asked for. The first one goes without a
+/// step over the others.
 #[derive(Drop)]
 pub(crate) struct Wants {
     items: Vec<(Path, PartName)>,

@@ -4,7 +4,7 @@ use Rattle.std.specs.Prelude.{bytes_eq}
 use Rattle.atspi_types.specs.Data.{Data, text_data}
 use Rattle.atspi_protocol.specs.news.Arguments.{then_text}
 use Rattle.atspi_protocol.specs.following.Known.{ended_name}
-use Rattle.atspi_reader_told.specs.Ended.{ended_if, ended_in}
+use Rattle.atspi_reader_told.specs.inner.Ended.{ended_if, ended_in}
 
 owner_in : (name before owner : List ℕ) (ds : List Data) → ended_if name owner ds ≡ ended_name (text_data name ∷ (text_data before ∷ (text_data owner ∷ ds)))
 owner_in name before [] [] = refl

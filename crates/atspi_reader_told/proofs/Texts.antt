@@ -10,7 +10,7 @@ use Rattle.atspi_types.specs.Data.{Data, text_data}
 use Rattle.atspi_base.specs.valid_names.Names.{is_bus_name}
 use Rattle.atspi_base.proofs.OfValidNames.NameLemmas.{IsAscii-IsBusName, IsBusName-from_test}
 use Rattle.atspi_protocol.specs.following.Replied.{is_unique_name_alone}
-use Rattle.atspi_reader_told.specs.Alone.{text_alone, unique_if}
+use Rattle.atspi_reader_told.specs.inner.Alone.{text_alone, unique_if}
 
 same_text : (a b cs : List ℕ) → IsUtf8 a → IsUtf8 b → chars a ≡ cs → bytes_eq a b ≡ bytes_eq cs (chars b)
 same_text a b cs u v e = by (bytes_eq a b) refl (bytes_eq cs (chars b)) refl

@@ -2,22 +2,22 @@
 
 ghost use Rattle.std.specs.Prelude.{◌≡◌, ◌==◌, ◌&&◌, ◌++◌, ◌∷◌, [], bytes_eq, IfOk, OnOk};
 ghost use Rattle.std.specs.Option.{option_map};
-ghost use Rattle.atspi_cursor.specs.Items.{item_data, fields_data, elements_data};
-ghost use Rattle.atspi_header.specs.View.{bytes_of, envelope_at};
+ghost use Rattle.atspi_marshal_in_place.specs.Items.{item_data, fields_data, elements_data};
+ghost use Rattle.atspi_message_in_place.specs.View.{bytes_of, envelope_at};
 ghost use Rattle.atspi_protocol.specs.news.Arguments as arguments;
 ghost use Rattle.atspi_protocol.specs.news.Arguments.{signature_of};
 ghost use Rattle.atspi_protocol.specs.news.Replies.{elements_of};
-ghost use Rattle.atspi_news_reading.specs.Seen.{reference_seen, elements_seen};
+ghost use Rattle.atspi_reader_news.specs.Seen.{reference_seen, elements_seen};
 ghost use Rattle.atspi_protocol.specs.following.ReaderState.{ReaderState};
 ghost use Rattle.atspi_protocol.specs.following.Known as known;
 ghost use Rattle.atspi_protocol.specs.following.Replied.{children_signature};
 
 use crate::sender::{is_word, sender_of};
 use atspi_base::NoMemory;
-use atspi_cursor::{Elements, Fields, Item};
-use atspi_forest::Reference;
-use atspi_header::MessageRef;
-use atspi_news_reading::{ReferenceRef, event_in, is_word as is_text, only, reference};
+use atspi_marshal_in_place::{Elements, Fields, Item};
+use atspi_message_in_place::MessageRef;
+use atspi_reader_news::{ReferenceRef, event_in, is_word as is_text, only, reference};
+use atspi_tree_model::Reference;
 use std::alloc::Global;
 
 /// The child that an event with these arguments tells to be added.
@@ -31,9 +31,11 @@ fn child_added<'a>(body: Fields<'a>) -> Option<ReferenceRef<'a>>
     None
 }
 
-/// The new child of the registry with this name that a message tells (AT-SPI2, ChildrenChanged of interface Event.Object).
+/// The new child of the registry with this name that a message tells (AT-SPI2, ChildrenChanged of interface
+/// Event.Object).
 pub fn new_child<'a>(registry: Option<&str>, m: &MessageRef<'a>) -> Option<ReferenceRef<'a>>
-    ensures { (s : ReaderState) → s.registry ≡ bytes_of registry.entry → option_map reference_seen result ≡ known.new_child s (envelope_at m.now) }
+    ensures { (s : ReaderState) → s.registry ≡ bytes_of registry.entry
+        → option_map reference_seen result ≡ known.new_child s (envelope_at m.now) }
 {
     let registry = registry?;
     if m.kind != 4 || sender_of(m) != registry {
@@ -56,7 +58,8 @@ fn has_references(body: Fields) -> bool
 
 /// Whether a message returns references, as GetChildren of the registry's root does.
 pub fn returns_children(m: &MessageRef) -> bool
-    ensures { result ≡ ((envelope_at m.now).kind == 2 && bytes_eq (signature_of (envelope_at m.now).body) children_signature) }
+    ensures { result
+        ≡ ((envelope_at m.now).kind == 2 && bytes_eq (signature_of (envelope_at m.now).body) children_signature) }
 {
     m.kind == 2 && has_references(m.body)
 }

@@ -2,15 +2,15 @@
 
 ghost use Rattle.std.specs.Prelude.{◌≡◌, [], bytes_eq, chars};
 ghost use Rattle.std.specs.Option.{option_map};
-ghost use Rattle.atspi_cursor.specs.Items.{fields_data};
-ghost use Rattle.atspi_header.specs.View.{envelope_at};
+ghost use Rattle.atspi_marshal_in_place.specs.Items.{fields_data};
+ghost use Rattle.atspi_message_in_place.specs.View.{envelope_at};
 ghost use Rattle.atspi_protocol.specs.following.Known as known;
-ghost use Rattle.atspi_reader_told.specs.Ended.{ended_in};
+ghost use Rattle.atspi_reader_told.specs.inner.Ended.{ended_in};
 
 use crate::sender::is_word;
-use atspi_cursor::Fields;
-use atspi_header::MessageRef;
-use atspi_news_reading::next_text;
+use atspi_marshal_in_place::Fields;
+use atspi_message_in_place::MessageRef;
+use atspi_reader_news::next_text;
 
 /// The name of the bus and of its interface.
 const BUS: &str = "org.freedesktop.DBus";

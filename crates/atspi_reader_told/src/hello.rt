@@ -2,17 +2,17 @@
 
 ghost use Rattle.std.specs.Prelude.{◌≡◌, ◌==◌, ◌&&◌, chars};
 ghost use Rattle.std.specs.Option.{option_map};
-ghost use Rattle.atspi_cursor.specs.Items.{fields_data};
-ghost use Rattle.atspi_header.specs.View.{envelope_at};
+ghost use Rattle.atspi_marshal_in_place.specs.Items.{fields_data};
+ghost use Rattle.atspi_message_in_place.specs.View.{envelope_at};
 ghost use Rattle.atspi_base.specs.valid_names.Names as names;
 ghost use Rattle.atspi_base.specs.valid_names.Names.{is_unique_name};
 ghost use Rattle.atspi_protocol.specs.following.Replied as replied;
-ghost use Rattle.atspi_reader_told.specs.Alone as alone;
+ghost use Rattle.atspi_reader_told.specs.inner.Alone as alone;
 
 use atspi_base::valid_names::is_bus_name;
-use atspi_cursor::Fields;
-use atspi_header::MessageRef;
-use atspi_news_reading::next_text;
+use atspi_marshal_in_place::Fields;
+use atspi_message_in_place::MessageRef;
+use atspi_reader_news::next_text;
 
 /// Whether a text begins as unique names do.
 fn begins_unique(name: &str) -> bool

@@ -1,10 +1,10 @@
 //! The fields of a message's header that a reader asks about.
 
 ghost use Rattle.std.specs.Prelude.{◌≡◌, bytes_eq};
-ghost use Rattle.atspi_header.specs.View.{bytes_of, envelope_at};
+ghost use Rattle.atspi_message_in_place.specs.View.{bytes_of, envelope_at};
 ghost use Rattle.atspi_protocol.specs.news.NewsOf.{or_empty};
 
-use atspi_header::MessageRef;
+use atspi_message_in_place::MessageRef;
 
 /// Whether a field is there and is the word, which is not empty.
 pub(crate) fn is_word(field: Option<&str>, word: &str) -> bool

@@ -10,11 +10,11 @@ use Rattle.atspi_protocol.specs.ends.Messages.{returns, fails, replies}
 use Rattle.atspi_protocol.specs.registering.RegistryState.{RegistryState, is_of, has_pair, without_pair, child_place}
 use Rattle.atspi_protocol.specs.registering.Told.{registered, deregistered, is_asked_for, child_removed}
 use Rattle.atspi_protocol.specs.registering.Answers.{Answer, only, registers, deregisters, new_child, adopts, children_without, news_of_removal}
-use Rattle.atspi_registry_calls.specs.declared.ask.Ask.{Ask}
-use Rattle.atspi_registry_calls.specs.declared.ask.Ask.TheVariants.{Register, Deregister, Registered, Embed, Unembed, Children, ChildAt, Role, RoleName, Name, ChildCount, AllProperties, NoProperties, Ping}
-use Rattle.atspi_registry_calls.specs.Ask.{answers_ask}
-use Rattle.atspi_registry.specs.Questions.{IsQuestion, question_data}
-use Rattle.atspi_registry.specs.Steps.{told_at, removal_told}
+use Rattle.atspi_registry.specs.declared.calls.ask.Ask.{Ask}
+use Rattle.atspi_registry.specs.declared.calls.ask.Ask.TheVariants.{Register, Deregister, Registered, Embed, Unembed, Children, ChildAt, Role, RoleName, Name, ChildCount, AllProperties, NoProperties, Ping}
+use Rattle.atspi_registry.specs.calls.Ask.{answers_ask}
+use Rattle.atspi_registry.specs.inner.Questions.{IsQuestion, question_data}
+use Rattle.atspi_registry.specs.inner.Steps.{told_at, removal_told}
 
 -- a question is answered by its values, and changes nothing
 pub question : (ask : Ask) (s : RegistryState) (own caller : List ℕ) → IsQuestion ask → answers_ask ask s own caller ≡ only s (returns (question_data ask s.pairs s.children own))

@@ -9,7 +9,7 @@ use Rattle.atspi_protocol.specs.ends.Messages.{Queue, posted, replies}
 use Rattle.atspi_protocol.specs.registering.RegistryState.{RegistryState}
 use Rattle.atspi_protocol.specs.registering.Answers.{Answer}
 use Rattle.atspi_protocol.specs.registering.Steps.{Registry, RegistryStep, queued, speaks, answered}
-use Rattle.atspi_registry.specs.Steps.{Does}
+use Rattle.atspi_registry.specs.inner.Steps.{Does}
 
 abbrev Pairs : Type 0
 Pairs = List (List ℕ × List ℕ)

@@ -7,7 +7,7 @@ use Rattle.atspi_types.specs.Kinds.{text}
 use Rattle.atspi_types.specs.Data.{Data, text_data, type_of}
 use Rattle.atspi_message.specs.Envelope.{Envelope}
 use Rattle.atspi_protocol.specs.registering.Steps.{name_told, name_gone}
-use Rattle.atspi_registry.specs.Heard.{lent_text, is_return, is_owner_news, begins_with_text, TextComes}
+use Rattle.atspi_registry.specs.inner.Heard.{lent_text, is_return, is_owner_news, begins_with_text, TextComes}
 
 -- a first value that is no text
 no_text_first : (d : Data) (ds : List Data) → (type_of d ≡ text → ⊥) → begins_with_text (d ∷ ds) ≡ false

@@ -1,3 +1,6 @@
+pub mod OfTold
+pub mod OfLists
+pub mod OfCalls
 pub mod Numbers
 pub mod Does
 pub mod Takes

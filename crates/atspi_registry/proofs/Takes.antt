@@ -7,16 +7,16 @@ use Rattle.std.proofs.lemmas.Str.{encodes-chars}
 use Rattle.atspi_base.specs.valid_names.Names.{is_path, is_interface, is_member, is_bus_name, IsBusName, HasBusElements}
 use Rattle.atspi_base.proofs.OfValidNames.NameLemmas.{IsBusName-from_test}
 use Rattle.atspi_message.specs.Envelope.{Envelope}
-use Rattle.atspi_header.specs.Names.{fits, are_named}
+use Rattle.atspi_message_in_place.specs.Names.{fits, are_named}
 use Rattle.atspi_protocol.specs.declared.ends.error.CallError.{CallError}
 use Rattle.atspi_protocol.specs.ends.Messages.{fails}
 use Rattle.atspi_protocol.specs.members.Asked.{asked}
 use Rattle.atspi_protocol.specs.registering.RegistryState.{RegistryState, has_pair, is_of}
 use Rattle.atspi_protocol.specs.registering.Answers.{Answer, only, object_at, if_own}
 use Rattle.atspi_protocol.specs.registering.Steps.{RegistryStep, registry_takes, takes_as, named, name_told, name_gone, called_by, hears, answer_to, answered}
-use Rattle.atspi_registry_calls.specs.declared.ask.Ask.{Ask}
-use Rattle.atspi_registry_calls.specs.Ask.{ask_answer}
-use Rattle.atspi_registry.specs.Steps.{own_name}
+use Rattle.atspi_registry.specs.declared.calls.ask.Ask.{Ask}
+use Rattle.atspi_registry.specs.calls.Ask.{ask_answer}
+use Rattle.atspi_registry.specs.inner.Steps.{own_name}
 
 pub takes_unnamed : (s : RegistryState) (e : Envelope) → is_some s.own ≡ false → registry_takes s e ≡ named s (name_told s.hello e)
 takes_unnamed s e h = by s.own h

@@ -7,7 +7,7 @@ use Rattle.atspi_message.specs.Envelope.{Envelope}
 use Rattle.atspi_protocol.specs.registering.RegistryState.{is_of, pairs_of}
 use Rattle.atspi_protocol.specs.registering.Told.{deregistered, is_asked_for, children_changed, child_added, child_removed}
 use Rattle.atspi_protocol.specs.registering.Answers.{news_of_removal, news_of_removal_at}
-use Rattle.atspi_registry.specs.Steps.{told_at, removal_told, told_pair}
+use Rattle.atspi_registry.specs.inner.Steps.{told_at, removal_told, told_pair}
 
 abbrev Pairs : Type 0
 Pairs = List (List ℕ × List ℕ)

@@ -14,9 +14,21 @@ list2_code = coded_list (coded× (coded_list coded_ℕ) (coded_list coded_ℕ))
 abbrev pub registry_code : Coded Registry
 registry_code =
     code_by (List2 × (List2 × (ℕ × (Option ℕ × (Option (List ℕ) × (ℕ × List Envelope))))))
-    (coded× list2_code (coded× list2_code (coded× coded_ℕ (coded× (coded_option coded_ℕ) (coded× (coded_option (coded_list coded_ℕ)) (coded× coded_ℕ (coded_list envelope_code)))))))
+    (coded× list2_code
+    (coded× list2_code
+    (coded× coded_ℕ
+    (coded× (coded_option coded_ℕ)
+    (coded× (coded_option (coded_list coded_ℕ)) (coded× coded_ℕ (coded_list envelope_code)))))))
     (λ r. (r.state.pairs, (r.state.children, (r.state.embeds, (r.state.hello, (r.state.own, (r.state.next, r.out)))))))
     (λ p. record {
-      state = record { pairs = p.0; children = p.1.0; embeds = p.1.1.0; hello = p.1.1.1.0; own = p.1.1.1.1.0; next = p.1.1.1.1.1.0 };
+      state =
+          record {
+            pairs = p.0;
+            children = p.1.0;
+            embeds = p.1.1.0;
+            hello = p.1.1.1.0;
+            own = p.1.1.1.1.0;
+            next = p.1.1.1.1.1.0;
+          };
       out = p.1.1.1.1.1.1;
     }) (λ _. refl)

@@ -1,4 +1,5 @@
+pub mod inner
+pub mod told
+pub mod lists
+pub mod calls
 pub mod Code
-pub mod Steps
-pub mod Questions
-pub mod Heard

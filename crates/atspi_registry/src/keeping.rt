@@ -1,16 +1,17 @@
 //! What the registry keeps, together with the messages that it queues then: both or neither.
 
-ghost use Rattle.std.specs.Prelude.{◌≡◌, ◌<◌, ◌≤◌, ◌+◌, ◌++◌, [], ◌∷◌, min, bytes_eq, length, IfSome, IsErrOf, OnOk, OnErr};
+ghost use Rattle.std.specs.Prelude.{◌≡◌, ◌<◌, ◌≤◌, ◌+◌, ◌++◌, [], ◌∷◌, min, bytes_eq, length, IfSome, IsErrOf, OnOk};
+ghost use Rattle.std.specs.Prelude.{OnErr};
 ghost use Rattle.std.specs.List.{list_any};
 ghost use Rattle.atspi_protocol.specs.ends.Messages.{posted};
 ghost use Rattle.atspi_protocol.specs.registering.RegistryState as state;
 ghost use Rattle.atspi_protocol.specs.registering.Answers.{children_without};
 
+use crate::lists::{Children, Pairs};
 use crate::outgoing::Outgoing;
 use atspi_base::Text;
 use atspi_base::valid_names::{BusName, Path};
 use atspi_protocol::ends::{EndFault, Mail};
-use atspi_registry_lists::{Children, Pairs};
 
 /// A pair is kept and messages are queued.
 pub fn keep_pair(

@@ -1,11 +1,12 @@
 //! The messages of a call, made before anything changes.
 
-ghost use Rattle.std.specs.Prelude.{◌≡◌, ◌<◌, ◌^◌, true, [], ◌∷◌, ◌++◌, chars, codes, length, map, option_copied, IfOk, OnOk};
+ghost use Rattle.std.specs.Prelude.{◌≡◌, ◌<◌, ◌^◌, true, [], ◌∷◌, ◌++◌, chars, codes, length, map, option_copied, IfOk};
+ghost use Rattle.std.specs.Prelude.{OnOk};
 ghost use Rattle.std.specs.List.{list_any};
 ghost use Rattle.atspi_base.specs.Text.{HasNoZero};
 ghost use Rattle.atspi_base.specs.valid_names.Names.{is_bus_name, IsPath};
 ghost use Rattle.atspi_types.specs.DataView.{all_data};
-ghost use Rattle.atspi_header.specs.View.{envelope_at};
+ghost use Rattle.atspi_message_in_place.specs.View.{envelope_at};
 ghost use Rattle.atspi_protocol.specs.ends.Messages.{error_word, returns, fails, replies};
 ghost use Rattle.atspi_protocol.specs.ends.Places.{registry_root};
 ghost use Rattle.atspi_protocol.specs.registering.RegistryState as state;
@@ -13,14 +14,14 @@ ghost use Rattle.atspi_protocol.specs.registering.RegistryState.{pairs_of, pairs
 ghost use Rattle.atspi_protocol.specs.registering.Told as tells;
 ghost use Rattle.atspi_protocol.specs.registering.Told.{is_asked_for};
 ghost use Rattle.atspi_protocol.specs.registering.Answers.{news_of_removal};
-ghost use Rattle.atspi_registry.specs.Steps.{removal_told, told_at, told_pair};
+ghost use Rattle.atspi_registry.specs.inner.Steps.{removal_told, told_at, told_pair};
 
+use crate::lists::{Children, Pairs};
+use crate::told as told;
 use atspi_base::valid_names::{BusName, NameFault, Path};
 use atspi_base::{NoMemory, Text};
-use atspi_header::MessageRef;
+use atspi_message_in_place::MessageRef;
 use atspi_protocol::ends::{CallError, Mail, bus_name, covers};
-use atspi_registry_lists::{Children, Pairs};
-use atspi_registry_told as told;
 use atspi_types::Values;
 use std::alloc::Global;
 
@@ -69,7 +70,9 @@ pub fn registration(
     caller: &BusName,
     pattern: &Text,
 ) -> Result<Mail, NoMemory>
-    ensures { IfOk result (λ mail. mail ≡ tells.registered (caller.now, pattern.now) ∷ replies caller.now (envelope_at m.now) (returns [])) }
+    ensures { IfOk result
+        (λ mail. mail
+        ≡ tells.registered (caller.now, pattern.now) ∷ replies caller.now (envelope_at m.now) (returns [])) }
 {
     let mut mail = Mail::new(alloc);
     mail.push(told::registered(alloc, caller, pattern)?)?;
@@ -87,7 +90,10 @@ pub fn deregistration(
     requires name { is_bus_name sender.now ≡ true }
     requires no_zero { HasNoZero pattern.now }
     requires counted { length pattern.now < 2 ^ 32 }
-    ensures { IfOk result (λ mail. mail ≡ tells.deregistered (sender.now, chars pattern.now) ∷ replies sender.now (envelope_at m.now) (returns [])) }
+    ensures { IfOk result
+        (λ mail. mail
+        ≡ tells.deregistered (sender.now, chars pattern.now)
+        ∷ replies sender.now (envelope_at m.now) (returns [])) }
 {
     let caller = bus_name(alloc, sender)?;
     let text = Text::of(alloc, pattern)?;
@@ -123,7 +129,10 @@ pub fn embedding(
     place: &Path,
     embeds: u32,
 ) -> Result<Mail, NoMemory>
-    ensures { IfOk result (λ mail. mail ≡ replies caller.now (envelope_at m.now) (returns (registry_root ∷ [])) ++ tells.id_call (caller.now, place.now) embeds ∷ []) }
+    ensures { IfOk result
+        (λ mail. mail
+        ≡ replies caller.now (envelope_at m.now) (returns (registry_root ∷ []))
+        ++ tells.id_call (caller.now, place.now) embeds ∷ []) }
 {
     let mut mail = Mail::new(alloc);
     told::returned(alloc, m, caller, told::root_body(alloc)?, &mut mail)?;
@@ -142,7 +151,11 @@ pub fn adoption(
     embeds: u32,
     index: usize,
 ) -> Result<Mail, NoMemory>
-    ensures { IfOk result (λ mail. mail ≡ replies caller.now (envelope_at m.now) (returns (registry_root ∷ [])) ++ tells.id_call (caller.now, place.now) embeds ∷ tells.child_added pairs.now index (caller.now, place.now)) }
+    ensures { IfOk result
+        (λ mail. mail
+        ≡ replies caller.now (envelope_at m.now) (returns (registry_root ∷ []))
+        ++ tells.id_call (caller.now, place.now) embeds
+        ∷ tells.child_added pairs.now index (caller.now, place.now)) }
 {
     let mut mail = embedding(alloc, m, caller, place, embeds)?;
     tell_child(alloc, pairs, index, caller, place, &mut mail)?;
@@ -202,7 +215,9 @@ pub fn release(
     sender: &str,
 ) -> Result<Mail, NoMemory>
     requires { is_bus_name sender.now ≡ true }
-    ensures { IfOk result (λ mail. mail ≡ news_of_removal pairs.now children.now place ++ replies sender.now (envelope_at m.now) (returns [])) }
+    ensures { IfOk result
+        (λ mail. mail
+        ≡ news_of_removal pairs.now children.now place ++ replies sender.now (envelope_at m.now) (returns [])) }
 {
     let caller = bus_name(alloc, sender)?;
     let asked = pairs.asks_for("remove");
@@ -266,7 +281,10 @@ pub fn farewell(
     name: &str,
     place: Option<usize>,
 ) -> Result<Mail, NoMemory>
-    ensures { IfOk result (λ mail. mail ≡ map tells.deregistered (pairs_of pairs.now name.now) ++ news_of_removal (pairs_without pairs.now name.now) children.now place) }
+    ensures { IfOk result
+        (λ mail. mail
+        ≡ map tells.deregistered (pairs_of pairs.now name.now)
+        ++ news_of_removal (pairs_without pairs.now name.now) children.now place) }
 {
     let asked = others_ask(pairs.as_slice(), name);
     let mut mail = deregistrations(alloc, pairs.as_slice(), name)?;

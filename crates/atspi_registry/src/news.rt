@@ -2,15 +2,15 @@
 
 ghost use Rattle.std.specs.Prelude.{◌≡◌, ◌==◌, ◌<◌, ◌^◌, ◌↔◌, [], IfSome, IsTrue, chars, length};
 ghost use Rattle.atspi_base.specs.Text.{HasNoZero};
-ghost use Rattle.atspi_cursor.specs.Items.{fields_data};
-ghost use Rattle.atspi_header.specs.View.{bytes_of, envelope_at};
+ghost use Rattle.atspi_marshal_in_place.specs.Items.{fields_data};
+ghost use Rattle.atspi_message_in_place.specs.View.{bytes_of, envelope_at};
 ghost use Rattle.atspi_protocol.specs.members.Asked as asked;
 ghost use Rattle.atspi_protocol.specs.registering.Steps as steps;
-ghost use Rattle.atspi_registry.specs.Heard as heard;
-ghost use Rattle.atspi_registry.specs.Heard.{lent_text, TextComes};
+ghost use Rattle.atspi_registry.specs.inner.Heard as heard;
+ghost use Rattle.atspi_registry.specs.inner.Heard.{lent_text, TextComes};
 
-use atspi_cursor::Fields;
-use atspi_header::MessageRef;
+use atspi_marshal_in_place::Fields;
+use atspi_message_in_place::MessageRef;
 
 /// The name of the bus and of its interface.
 const BUS: &str = "org.freedesktop.DBus";

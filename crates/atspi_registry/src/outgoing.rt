@@ -9,7 +9,8 @@ use atspi_protocol::ends::{EndFault, Mail, Outbox};
 use std::alloc::Global;
 use std::marker::Model;
 
-/// The registry's queue. It counts the messages that were ever queued, so that it can say which number the next one gets.
+/// The registry's queue. It counts the messages that were ever queued, so that it can say which number the next one
+/// gets.
 #[derive(Drop)]
 pub struct Outgoing {
     queued: u64,
@@ -48,8 +49,8 @@ impl Outgoing {
         self.queued + 1
     }
 
-    /// Queues messages, which get the next numbers. Spent exactly where they would pass number 4,294,967,295; after a fault all is as
-    /// before.
+    /// Queues messages, which get the next numbers. Spent exactly where they would pass number 4,294,967,295; after a
+    /// fault all is as before.
     pub fn post(&mut self, mail: &mut Mail) -> Result<(), EndFault>
         ensures done { OnOk result (self.new ≡ posted self.old mail.old) }
         ensures room { OnOk result (self.old.next + length mail.old ≤ 4294967296) }
@@ -65,7 +66,8 @@ impl Outgoing {
 
     /// The oldest queued message, which is no longer queued.
     pub fn next(&mut self) -> Option<Message>
-        ensures front { MatchOption result (self.old.out ≡ []) (λ message. self.old.out ≡ envelope_of message ∷ self.new.out) }
+        ensures front { MatchOption result (self.old.out ≡ [])
+            (λ message. self.old.out ≡ envelope_of message ∷ self.new.out) }
         ensures empty { MatchOption result (self.new ≡ self.old) (λ message. self.new.next ≡ self.old.next) }
         ensures number { self.new.next ≡ self.old.next }
     {

@@ -3,12 +3,12 @@
 ghost use Rattle.std.specs.Prelude.{◌≡◌, [], ◌∷◌, unwrap_or, IfOk};
 ghost use Rattle.atspi_types.specs.DataView.{all_data};
 ghost use Rattle.atspi_protocol.specs.registering.Answers.{child_at};
-ghost use Rattle.atspi_registry.specs.Questions.{IsQuestion, question_data};
+ghost use Rattle.atspi_registry.specs.inner.Questions.{IsQuestion, question_data};
 
+use crate::calls::Ask;
+use crate::lists::{Children, Pairs};
+use crate::told as told;
 use atspi_base::{NoMemory, Text};
-use atspi_registry_calls::Ask;
-use atspi_registry_lists::{Children, Pairs};
-use atspi_registry_told as told;
 use atspi_types::Values;
 use std::alloc::Global;
 
@@ -45,7 +45,8 @@ pub fn question_values(
     ask: Ask,
 ) -> Result<Values, NoMemory>
     requires { IsQuestion ask }
-    ensures { IfOk result (λ values. all_data values ≡ question_data ask.entry pairs.now children.now (unwrap_or own.now [])) }
+    ensures { IfOk result
+        (λ values. all_data values ≡ question_data ask.entry pairs.now children.now (unwrap_or own.now [])) }
 {
     match ask {
         Ask::Register(_) => unreachable!(),

@@ -1,40 +1,43 @@
 //! The registry.
 
-ghost use Rattle.std.specs.Prelude.{◌≡◌, ◌==◌, ◌<◌, ◌≤◌, ◌^◌, true, false, Some, is_some, ℕ, List, [], ◌∷◌, chars, codes, encode_utf8_all, length, IfOk, IsErrOf, MatchOption, OnOk, OnErr};
+ghost use Rattle.std.specs.Prelude.{◌≡◌, ◌==◌, ◌<◌, ◌≤◌, ◌^◌, true, false, Some, is_some, ℕ, List, [], ◌∷◌, chars};
+ghost use Rattle.std.specs.Prelude.{codes, encode_utf8_all, length, IfOk, IsErrOf, MatchOption, OnOk, OnErr};
 ghost use Rattle.atspi_base.specs.Text.{HasNoZero};
 ghost use Rattle.atspi_base.specs.valid_names.Names.{is_bus_name, IsPath};
 ghost use Rattle.atspi_types.specs.DataView.{all_data};
 ghost use Rattle.atspi_message.specs.Envelope.{envelope_of};
-ghost use Rattle.atspi_header.specs.View.{envelope_at};
+ghost use Rattle.atspi_message_in_place.specs.View.{envelope_at};
 ghost use Rattle.atspi_protocol.specs.ends.Messages.{error_word, returns, fails};
 ghost use Rattle.atspi_protocol.specs.registering.RegistryState.{begins};
-ghost use Rattle.atspi_protocol.specs.registering.Answers.{only, registers, deregisters, adopts, new_child, releases, if_own};
+ghost use Rattle.atspi_protocol.specs.registering.Answers.{only, registers, deregisters, adopts, new_child, releases};
+ghost use Rattle.atspi_protocol.specs.registering.Answers.{if_own};
 ghost use Rattle.atspi_protocol.specs.registering.Steps as steps;
-ghost use Rattle.atspi_protocol.specs.registering.Steps.{starts, takes, registry_starts, registry_takes, answered, forgets};
-ghost use Rattle.atspi_registry_calls.specs.Ask.{answers_ask, IsLent};
-ghost use Rattle.atspi_registry.specs.Questions.{IsQuestion};
-ghost use Rattle.atspi_registry.specs.Steps.{Does, own_name};
+ghost use Rattle.atspi_protocol.specs.registering.Steps.{starts, takes, registry_starts, registry_takes, answered};
+ghost use Rattle.atspi_protocol.specs.registering.Steps.{forgets};
+ghost use Rattle.atspi_registry.specs.calls.Ask.{answers_ask, IsLent};
+ghost use Rattle.atspi_registry.specs.inner.Questions.{IsQuestion};
+ghost use Rattle.atspi_registry.specs.inner.Steps.{Does, own_name};
 
+use crate::calls::{Ask, asked};
 use crate::keeping::{drop_child, has_child, is_same, keep_child, keep_pair, one_more};
+use crate::lists::{Children, Pairs};
 use crate::mails::{
     adoption, deregistration, farewell, greeting, refusal, registration, release, reply,
 };
 use crate::news::{is_call, name_gone, name_told};
 use crate::outgoing::Outgoing;
 use crate::questions::question_values;
+use crate::told::root_body;
 use atspi_base::{NoMemory, Text};
-use atspi_header::MessageRef;
 use atspi_message::Message;
+use atspi_message_in_place::MessageRef;
 use atspi_protocol::ends::{CallError, EndFault, bus_name, path};
-use atspi_registry_calls::{Ask, asked};
-use atspi_registry_lists::{Children, Pairs};
-use atspi_registry_told::root_body;
 use atspi_types::Values;
 use std::alloc::Global;
 use std::marker::Model;
 
-/// The registry (AT-SPI2's registry and socket interfaces): the listeners' pairs and the embedded roots, both in order of arrival. What it
-/// sends is queued, and handed out by `next`. It keeps the allocator that it was made with.
+/// The registry (AT-SPI2's registry and socket interfaces): the listeners' pairs and the embedded roots, both in order
+/// of arrival. What it sends is queued, and handed out by `next`. It keeps the allocator that it was made with.
 #[derive(Drop)]
 pub struct Registry {
     alloc: Global,
@@ -55,7 +58,19 @@ impl Model for Registry {
 
     ghost coded = { registry_code };
 
-    ghost view = { λ r. record { state = record { pairs = r.pairs; children = r.children; embeds = r.embeds; hello = r.hello; own = r.own; next = r.out.next }; out = r.out.out } };
+    ghost view = { λ r.
+        record {
+          state =
+              record {
+                pairs = r.pairs;
+                children = r.children;
+                embeds = r.embeds;
+                hello = r.hello;
+                own = r.own;
+                next = r.out.next;
+              };
+          out = r.out.out;
+        } };
 
     ghost invariant = { λ r. r.out.next ≤ 4294967296 };
 }
@@ -76,8 +91,9 @@ impl Registry {
         })
     }
 
-    /// Three calls to the bus are queued: Hello, RequestName and AddMatch (D-Bus Specification, "Message Bus Messages"). Spent only where
-    /// their numbers would pass 4,294,967,295, and then it is refused; after a fault all is as before.
+    /// Three calls to the bus are queued: Hello, RequestName and AddMatch (D-Bus Specification, "Message Bus
+    /// Messages"). Spent only where their numbers would pass 4,294,967,295, and then it is refused; after a fault all
+    /// is as before.
     pub fn start(&mut self) -> Result<(), EndFault>
         ensures ok { OnOk result (self.new ≡ starts self.old) }
         ensures room { OnOk result ((registry_starts self.old.state).state.next ≤ 4294967296) }
@@ -91,12 +107,13 @@ impl Registry {
         Ok(())
     }
 
-    /// Takes a message, and queues what the registry sends then. Spent only where its messages would pass number 4,294,967,295, and then
-    /// it is refused; after a fault all is as before.
+    /// Takes a message, and queues what the registry sends then. Spent only where its messages would pass number
+    /// 4,294,967,295, and then it is refused; after a fault all is as before.
     pub fn take(&mut self, m: &MessageRef) -> Result<(), EndFault>
         ensures ok { OnOk result (self.new ≡ takes self.old (envelope_at m.now)) }
         ensures room { OnOk result ((registry_takes self.old.state (envelope_at m.now)).state.next ≤ 4294967296) }
-        ensures spent { IsErrOf result EndFault.Spent → 4294967296 < (registry_takes self.old.state (envelope_at m.now)).state.next }
+        ensures spent { IsErrOf result EndFault.Spent
+            → 4294967296 < (registry_takes self.old.state (envelope_at m.now)).state.next }
         ensures err { OnErr result (self.new ≡ self.old) }
     {
         if !self.is_named() {
@@ -110,7 +127,8 @@ impl Registry {
 
     /// The oldest queued message, which is no longer queued.
     pub fn next(&mut self) -> Option<Message>
-        ensures front { MatchOption result (self.old.out ≡ []) (λ message. self.old.out ≡ envelope_of message ∷ self.new.out) }
+        ensures front { MatchOption result (self.old.out ≡ [])
+            (λ message. self.old.out ≡ envelope_of message ∷ self.new.out) }
         ensures empty { MatchOption result (self.new ≡ self.old) (λ message. self.new.state ≡ self.old.state) }
     {
         match self.out.next() {
@@ -190,7 +208,9 @@ impl Registry {
     fn answer(&mut self, m: &MessageRef, sender: &str, ask: Ask) -> Result<(), EndFault>
         requires name { is_bus_name sender.now ≡ true }
         requires lent { IsLent ask }
-        ensures { Does result self.old self.new (answered self.old.state sender.now (envelope_at m.now) (answers_ask ask.entry self.old.state (own_name self.old.state) sender.now)) }
+        ensures { Does result self.old self.new
+            (answered self.old.state sender.now (envelope_at m.now)
+            (answers_ask ask.entry self.old.state (own_name self.old.state) sender.now)) }
     {
         match ask {
             Ask::Register(pattern) => self.register(m, sender, pattern),
@@ -213,7 +233,8 @@ impl Registry {
     /// The error is queued for the caller.
     fn refuse(&mut self, m: &MessageRef, sender: &str, error: CallError) -> Result<(), EndFault>
         requires { is_bus_name sender.now ≡ true }
-        ensures { Does result self.old self.new (answered self.old.state sender.now (envelope_at m.now) (only self.old.state (fails (error_word error)))) }
+        ensures { Does result self.old self.new
+            (answered self.old.state sender.now (envelope_at m.now) (only self.old.state (fails (error_word error)))) }
     {
         let mut mail = refusal(self.alloc, m, sender, error)?;
         self.out.post(&mut mail)?;
@@ -223,7 +244,8 @@ impl Registry {
     /// The values are queued for the caller.
     fn give(&mut self, m: &MessageRef, sender: &str, values: Values) -> Result<(), EndFault>
         requires { is_bus_name sender.now ≡ true }
-        ensures { Does result self.old self.new (answered self.old.state sender.now (envelope_at m.now) (only self.old.state (returns (all_data values)))) }
+        ensures { Does result self.old self.new
+            (answered self.old.state sender.now (envelope_at m.now) (only self.old.state (returns (all_data values)))) }
     {
         let mut mail = reply(self.alloc, m, sender, values)?;
         self.out.post(&mut mail)?;
@@ -234,7 +256,9 @@ impl Registry {
     fn tell(&mut self, m: &MessageRef, sender: &str, ask: Ask) -> Result<(), EndFault>
         requires name { is_bus_name sender.now ≡ true }
         requires question { IsQuestion ask }
-        ensures { Does result self.old self.new (answered self.old.state sender.now (envelope_at m.now) (answers_ask ask.entry self.old.state (own_name self.old.state) sender.now)) }
+        ensures { Does result self.old self.new
+            (answered self.old.state sender.now (envelope_at m.now)
+            (answers_ask ask.entry self.old.state (own_name self.old.state) sender.now)) }
     {
         let values = question_values(self.alloc, &self.pairs, &self.children, &self.own, ask)?;
         self.give(m, sender, values)
@@ -245,7 +269,9 @@ impl Registry {
         requires name { is_bus_name sender.now ≡ true }
         requires no_zero { HasNoZero pattern.now }
         requires counted { length pattern.now < 2 ^ 32 }
-        ensures { Does result self.old self.new (answered self.old.state sender.now (envelope_at m.now) (registers self.old.state sender.now (chars pattern.now))) }
+        ensures { Does result self.old self.new
+            (answered self.old.state sender.now (envelope_at m.now)
+            (registers self.old.state sender.now (chars pattern.now))) }
     {
         if self.pairs.has(sender, pattern) {
             return self.give(m, sender, Values::new(self.alloc));
@@ -262,7 +288,9 @@ impl Registry {
         requires name { is_bus_name sender.now ≡ true }
         requires no_zero { HasNoZero pattern.now }
         requires counted { length pattern.now < 2 ^ 32 }
-        ensures { Does result self.old self.new (answered self.old.state sender.now (envelope_at m.now) (deregisters self.old.state sender.now (chars pattern.now))) }
+        ensures { Does result self.old self.new
+            (answered self.old.state sender.now (envelope_at m.now)
+            (deregisters self.old.state sender.now (chars pattern.now))) }
     {
         if !self.pairs.has(sender, pattern) {
             return self.give(m, sender, Values::new(self.alloc));
@@ -283,7 +311,10 @@ impl Registry {
     ) -> Result<(), EndFault>
         requires name { is_bus_name sender.now ≡ true }
         requires place { IsPath place.now }
-        ensures { Does result self.old self.new (answered self.old.state sender.now (envelope_at m.now) (if_own self.old.state sender.now (chars name.now, place.now) (adopts self.old.state (sender.now, place.now)))) }
+        ensures { Does result self.old self.new
+            (answered self.old.state sender.now (envelope_at m.now)
+            (if_own self.old.state sender.now (chars name.now, place.now)
+            (adopts self.old.state (sender.now, place.now)))) }
     {
         if !is_same(name, sender) {
             return self.refuse(m, sender, CallError::InvalidArgs);
@@ -295,7 +326,8 @@ impl Registry {
     fn adopt(&mut self, m: &MessageRef, sender: &str, place: &str) -> Result<(), EndFault>
         requires name { is_bus_name sender.now ≡ true }
         requires place { IsPath place.now }
-        ensures { Does result self.old self.new (answered self.old.state sender.now (envelope_at m.now) (adopts self.old.state (sender.now, place.now))) }
+        ensures { Does result self.old self.new
+            (answered self.old.state sender.now (envelope_at m.now) (adopts self.old.state (sender.now, place.now))) }
     {
         if has_child(&self.children, sender) {
             let root = root_body(self.alloc)?;
@@ -309,7 +341,9 @@ impl Registry {
     fn add_child(&mut self, m: &MessageRef, sender: &str, place: &str) -> Result<(), EndFault>
         requires name { is_bus_name sender.now ≡ true }
         requires place { IsPath place.now }
-        ensures { Does result self.old self.new (answered self.old.state sender.now (envelope_at m.now) (new_child self.old.state (sender.now, place.now))) }
+        ensures { Does result self.old self.new
+            (answered self.old.state sender.now (envelope_at m.now)
+            (new_child self.old.state (sender.now, place.now))) }
     {
         let name = bus_name(self.alloc, sender)?;
         let place = path(self.alloc, place)?;
@@ -331,7 +365,10 @@ impl Registry {
     /// The caller's child goes, if the root is the caller's own.
     fn unembed(&mut self, m: &MessageRef, sender: &str, name: &str) -> Result<(), EndFault>
         requires { is_bus_name sender.now ≡ true }
-        ensures { (place : List ℕ) → Does result self.old self.new (answered self.old.state sender.now (envelope_at m.now) (if_own self.old.state sender.now (chars name.now, place) (releases self.old.state sender.now))) }
+        ensures { (place : List ℕ)
+            → Does result self.old self.new
+            (answered self.old.state sender.now (envelope_at m.now)
+            (if_own self.old.state sender.now (chars name.now, place) (releases self.old.state sender.now))) }
     {
         if !is_same(name, sender) {
             return self.refuse(m, sender, CallError::InvalidArgs);
@@ -342,7 +379,8 @@ impl Registry {
     /// The caller's child goes, if it has one.
     fn give_back(&mut self, m: &MessageRef, sender: &str) -> Result<(), EndFault>
         requires { is_bus_name sender.now ≡ true }
-        ensures { Does result self.old self.new (answered self.old.state sender.now (envelope_at m.now) (releases self.old.state sender.now)) }
+        ensures { Does result self.old self.new
+            (answered self.old.state sender.now (envelope_at m.now) (releases self.old.state sender.now)) }
     {
         let place = self.children.place(sender);
         let mut mail = release(self.alloc, &self.pairs, &self.children, place, m, sender)?;

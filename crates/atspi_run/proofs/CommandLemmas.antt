@@ -1,11 +1,11 @@
 -- What each command does, as the top call says it.
 use Rattle.std.proofs.Common.{◌≡◌, ◌⊎◌, ◌≤◌, ◌<◌, ℕ, List, [], ◌∷◌, Option, subst, sym, arith, inl, inr}
-use Rattle.atspi_event_texts.specs.declared.options.TraceOptions.{TraceOptions}
-use Rattle.atspi_check.specs.Causes as check
-use Rattle.atspi_check.specs.Check.{Checked, IsCheckStatus}
-use Rattle.atspi_replay.specs.Causes.{Causes}
-use Rattle.atspi_replay.specs.Made.{IsHalt, IsMakeStatus, Made}
-use Rattle.atspi_replay.specs.Run.{IsReplayStatus, Replayed}
+use Rattle.atspi_trace_texts.specs.declared.options.TraceOptions.{TraceOptions}
+use Rattle.atspi_run_check.specs.Causes as check
+use Rattle.atspi_run_check.specs.Check.{Checked, IsCheckStatus}
+use Rattle.atspi_run_replay.specs.Causes.{Causes}
+use Rattle.atspi_run_replay.specs.Made.{IsHalt, IsMakeStatus, Made}
+use Rattle.atspi_run_replay.specs.Run.{IsReplayStatus, Replayed}
 use Rattle.atspi_run.specs.Words.{IsMake, IsReplay}
 use Rattle.atspi_run.proofs.WordLemmas.{same_numbers, same_options}
 

@@ -1,3 +1,4 @@
+pub mod OfAppEnd
 pub mod CommandLemmas
 pub mod TaskLemmas
 pub mod WordLemmas

@@ -1,14 +1,14 @@
 -- What is asked for in a world, and what the top call says of it.
 use Rattle.std.proofs.Common.{◌≡◌, ℕ, List, Option, inl, inr, refl}
-use Rattle.atspi_event_texts.specs.declared.options.TraceOptions.{TraceOptions}
-use Rattle.atspi_replay.specs.declared.naming.Stop.TheVariants.{NoMemory}
-use Rattle.atspi_replay.specs.Made.{Made}
-use Rattle.atspi_replay.specs.Run.{Replayed}
-use Rattle.atspi_replay.proofs.MadeLemmas.{made_stop}
-use Rattle.atspi_replay.proofs.RunLemmas.{replayed_nothing}
+use Rattle.atspi_trace_texts.specs.declared.options.TraceOptions.{TraceOptions}
+use Rattle.atspi_run_replay.specs.declared.naming.Stop.TheVariants.{NoMemory}
+use Rattle.atspi_run_replay.specs.Made.{Made}
+use Rattle.atspi_run_replay.specs.Run.{Replayed}
+use Rattle.atspi_run_replay.proofs.MadeLemmas.{made_stop}
+use Rattle.atspi_run_replay.proofs.RunLemmas.{replayed_nothing}
 use Rattle.atspi_run.specs.declared.words.Task.{Task}
 use Rattle.atspi_run.specs.declared.words.Task.TheVariants.{Replay, Make}
-use Rattle.atspi_run.specs.Tasks.{DoesTask, MayDo}
+use Rattle.atspi_run.specs.inner.Tasks.{DoesTask, MayDo}
 use Rattle.atspi_run.specs.Words.{Asks, IsCheck, IsCommand, IsMake, IsReplay, IsTask}
 use Rattle.atspi_run.proofs.CommandLemmas.{few_asked, made_as_asked, make_is_not_2, replay_is_not_2, replayed_as_asked}
 use Rattle.atspi_run.proofs.WordLemmas.{make_is_not_told, not_make_and_check, not_replay_and_check, not_replay_and_make, replay_is_not_told}

@@ -6,7 +6,7 @@ use Rattle.std.specs.Prelude.{codes, OnOk, OnErr, MatchOption, MatchResult}
 use Rattle.std.specs.Fmt.{decimal}
 use Rattle.std.specs.Io.KnownBytes.{Appends}
 use Rattle.atspi_base.specs.Outside.{AppendsPart}
-use Rattle.atspi_event_texts.specs.declared.options.TraceOptions.{TraceOptions}
+use Rattle.atspi_trace_texts.specs.declared.options.TraceOptions.{TraceOptions}
 use Rattle.atspi_run.specs.declared.words.Script.{Script}
 use Rattle.atspi_run.specs.declared.words.Task.{Task}
 use Rattle.atspi_run.specs.declared.words.Task.TheVariants.{Replay, Make}

@@ -1,2 +1,4 @@
+pub mod inner
+pub mod reader_end
+pub mod app_end
 pub mod Words
-pub mod Tasks

@@ -3,11 +3,11 @@ use Rattle.std.specs.Prelude.{◌≡◌, ◌⊎◌, ℕ, ◌<◌, ◌≤◌, Boo
 use Rattle.std.specs.Fmt.{decimal}
 use Rattle.std.specs.Io.KnownBytes.{Appends}
 use Rattle.atspi_base.specs.Outside.{AppendsPart}
-use Rattle.atspi_event_texts.specs.declared.options.TraceOptions.{TraceOptions}
+use Rattle.atspi_trace_texts.specs.declared.options.TraceOptions.{TraceOptions}
 use Rattle.atspi_run.specs.declared.words.Script.{Script}
 use Rattle.atspi_run.specs.declared.words.Task.{Task}
 use Rattle.atspi_run.specs.declared.words.Task.TheVariants.{Replay, Make}
-use Rattle.atspi_replay.specs.declared.making.TheConstants.{MAKE_LIMIT, SEED_LIMIT}
+use Rattle.atspi_run_replay.specs.declared.making.TheConstants.{MAKE_LIMIT, SEED_LIMIT}
 
 -- lines, each with its line feed
 abbrev pub text_of : List (List ℕ) → List ℕ
@@ -119,7 +119,8 @@ word_if false word = []
 
 -- the words are `replay [--brief] [--wire]`, with these options
 abbrev pub IsReplay : List (List ℕ) → TraceOptions → Type 0
-IsReplay words options = words ≡ codes "replay" ∷ (word_if options.brief (codes "--brief") ++ word_if options.wire (codes "--wire"))
+IsReplay words options = words
+    ≡ codes "replay" ∷ (word_if options.brief (codes "--brief") ++ word_if options.wire (codes "--wire"))
 
 -- both numbers are within the limits of `make`
 pub record IsAllowed (script : Script) : Type 0 where

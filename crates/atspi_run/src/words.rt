@@ -1,15 +1,16 @@
 //! What the words of a command line ask for, and the texts that are told to who asks.
 
-ghost use Rattle.std.specs.Prelude.{◌≡◌, ◌⊎◌, ◌↔◌, ◌&&◌, ℕ, List, [], ◌∷◌, IsTrue, MatchOption, MatchResult, map, string_bytes};
-ghost use Rattle.atspi_event_texts.specs.declared.options.TraceOptions.{TraceOptions};
-ghost use Rattle.atspi_replay.specs.Causes.{Causes};
+ghost use Rattle.std.specs.Prelude.{◌≡◌, ◌⊎◌, ◌↔◌, ◌&&◌, ℕ, List, [], ◌∷◌, IsTrue, MatchOption, MatchResult, map};
+ghost use Rattle.std.specs.Prelude.{string_bytes};
+ghost use Rattle.atspi_trace_texts.specs.declared.options.TraceOptions.{TraceOptions};
+ghost use Rattle.atspi_run_replay.specs.Causes.{Causes};
 ghost use Rattle.atspi_run.specs.Words.{AreOf, Asks, IsAllowed, IsMake, IsReplay, IsTask, IsTold, Tells, usage};
 ghost use Rattle.atspi_run.specs.declared.words.Task.{Task};
 
 use atspi_base::{Failed, Sink, write_all};
-use atspi_event_texts::TraceOptions;
-use atspi_lines::read_number;
-use atspi_replay::{MAKE_LIMIT, SEED_LIMIT};
+use atspi_run_replay::{MAKE_LIMIT, SEED_LIMIT};
+use atspi_script_lines::read_number;
+use atspi_trace_texts::TraceOptions;
 
 /// The line that is written for words that name no command.
 const USAGE: &[u8] = b"usage: atspi replay, check, make, bus, registry, app or read\n";
@@ -142,7 +143,8 @@ fn are_three(words: &[String], one: &str, two: &str, three: &str) -> bool
 
 /// What of a trace the words ask for, where they ask for a replay.
 fn asked_options(words: &[String]) -> Option<TraceOptions>
-    ensures { MatchOption result ((options : TraceOptions) → IsReplay (map string_bytes words.now) options → ⊥) (λ options. IsReplay (map string_bytes words.now) options) }
+    ensures { MatchOption result ((options : TraceOptions) → IsReplay (map string_bytes words.now) options → ⊥)
+        (λ options. IsReplay (map string_bytes words.now) options) }
 {
     if is_alone(words, "replay") {
         return Some(TraceOptions {
@@ -193,7 +195,8 @@ impl Script {
 
 /// The two numbers of a script that is to be made, where they are spelled as numbers and keep within their limits.
 fn script_numbers(count: &str, seed: &str) -> Option<Script>
-    ensures { MatchOption result ((n k : ℕ) → AreOf count.now seed.now n k → ⊥) (λ script. AreOf count.now seed.now script.count script.seed) }
+    ensures { MatchOption result ((n k : ℕ) → AreOf count.now seed.now n k → ⊥)
+        (λ script. AreOf count.now seed.now script.count script.seed) }
 {
     let Some(count) = read_number(count.as_bytes()) else {
         return None;
@@ -210,7 +213,8 @@ fn script_numbers(count: &str, seed: &str) -> Option<Script>
 
 /// How many edits are to be made from which seed, where the words ask for that.
 fn asked_script(words: &[String]) -> Option<Script>
-    ensures { MatchOption result ((count seed : ℕ) → IsMake (map string_bytes words.now) count seed → ⊥) (λ script. IsMake (map string_bytes words.now) script.count script.seed) }
+    ensures { MatchOption result ((count seed : ℕ) → IsMake (map string_bytes words.now) count seed → ⊥)
+        (λ script. IsMake (map string_bytes words.now) script.count script.seed) }
 {
     match words {
         [make, count, seed] => {
@@ -235,7 +239,8 @@ pub enum Task {
 
 /// What the words ask for, where they ask for something in a world.
 pub fn asked_task(words: &[String]) -> Option<Task>
-    ensures { MatchOption result ((task : Task) → IsTask (map string_bytes words.now) task → ⊥) (λ task. IsTask (map string_bytes words.now) task) }
+    ensures { MatchOption result ((task : Task) → IsTask (map string_bytes words.now) task → ⊥)
+        (λ task. IsTask (map string_bytes words.now) task) }
 {
     match asked_options(words) {
         Some(options) => Some(Task::Replay(options)),
@@ -282,8 +287,10 @@ fn status_of(due: u8, written: Result<(), Failed>) -> u8
 
 /// Writes the text that the words ask for, or else how the program is used.
 pub fn tell<K: Sink>(words: &[String], sink: &mut K) -> u8
-    ensures told { (text : List ℕ) → Asks (map string_bytes words.now) text → Tells 0 text result (K.written sink.old) (K.written sink.new) }
-    ensures usage { (IsTold (map string_bytes words.now) → ⊥) → Tells 2 usage result (K.written sink.old) (K.written sink.new) }
+    ensures told { (text : List ℕ) → Asks (map string_bytes words.now) text
+        → Tells 0 text result (K.written sink.old) (K.written sink.new) }
+    ensures usage { (IsTold (map string_bytes words.now) → ⊥)
+        → Tells 2 usage result (K.written sink.old) (K.written sink.new) }
     ensures causes { (source : ℕ) → Causes result source source (K.faults sink.old) (K.faults sink.new) }
 {
     let (due, text) = text_for(words);

@@ -1,22 +1,22 @@
 //! The ends of this program's worlds, and what is done in one.
 
 ghost use Rattle.std.specs.Prelude.{◌≡◌, All, IfOk, Ok, length};
-ghost use Rattle.atspi_exported.specs.Parts.{AreEmpty, AreKinds, IsEmpty, faces_of, kinds_of};
-ghost use Rattle.atspi_lines.specs.declared.limits.TheConstants.{APP_COUNT};
-ghost use Rattle.atspi_replay.specs.Causes.{Causes};
-ghost use Rattle.atspi_run.specs.Tasks.{DoesTask, MayDo};
+ghost use Rattle.atspi_app_exported.specs.Parts.{AreEmpty, AreKinds, IsEmpty, faces_of, kinds_of};
+ghost use Rattle.atspi_script_lines.specs.declared.limits.TheConstants.{APP_COUNT};
+ghost use Rattle.atspi_run_replay.specs.Causes.{Causes};
+ghost use Rattle.atspi_run.specs.inner.Tasks.{DoesTask, MayDo};
 ghost use Rattle.atspi_trace.specs.Work.{spare_count};
 
+use crate::app_end::StageApp;
+use crate::reader_end::StageReader;
 use crate::words::Task;
 use atspi_app::Kit;
 use atspi_base::{Sink, Source};
-use atspi_face::Face;
+use atspi_faces::face::Face;
 use atspi_faces::{Deeds, GapText, Grid, PlainText};
-use atspi_make::HasTree;
-use atspi_replay::{make, replay};
-use atspi_stage_app::StageApp;
-use atspi_stage_ends::Follower;
-use atspi_stage_reader::StageReader;
+use atspi_run_make::HasTree;
+use atspi_run_replay::{make, replay};
+use atspi_world_ends::Follower;
 use std::alloc::{AllocError, Global};
 
 /// So many applications a world can start, and so often it can exchange a face.
@@ -54,7 +54,8 @@ fn do_over<A: HasTree, R: Follower, S: Source, K: Sink>(
     requires spares { All A.is_spare spares.items }
     requires kit_count { length kits.items ≡ APP_COUNT }
     requires spare_count { length spares.items ≡ spare_count }
-    ensures does { DoesTask task result (S.left source.old) (S.left source.new) (K.written sink.old) (K.written sink.new) }
+    ensures does { DoesTask task result (S.left source.old) (S.left source.new) (K.written sink.old)
+        (K.written sink.new) }
     ensures causes { Causes result (S.faults source.old) (S.faults source.new) (K.faults sink.old) (K.faults sink.new) }
 {
     match task {
@@ -70,14 +71,21 @@ fn do_over<A: HasTree, R: Follower, S: Source, K: Sink>(
 /// Does what is asked for in a world of this program's ends.
 pub fn do_task<S: Source, K: Sink>(alloc: Global, task: Task, source: &mut S, sink: &mut K) -> u8
     requires may { MayDo task }
-    ensures does { DoesTask task result (S.left source.old) (S.left source.new) (K.written sink.old) (K.written sink.new) }
+    ensures does { DoesTask task result (S.left source.old) (S.left source.new) (K.written sink.old)
+        (K.written sink.new) }
     ensures causes { Causes result (S.faults source.old) (S.faults source.new) (K.faults sink.old) (K.faults sink.new) }
 {
     let kits = supply(
         alloc,
         BOX_COUNT,
         || -> Result<Kit, AllocError>
-            ensures { IfOk result (λ kit. AreKinds (kinds_of (of_kind (kit.chars.vtable, kit.chars.value)) (of_kind (kit.grid.vtable, kit.grid.value)) (of_kind (kit.deeds.vtable, kit.deeds.value))) × AreEmpty (faces_of (nodes (kit.chars.vtable, kit.chars.value)) (nodes (kit.grid.vtable, kit.grid.value)) (nodes (kit.deeds.vtable, kit.deeds.value)))) }
+            ensures { IfOk result
+                (λ kit. AreKinds
+                (kinds_of (of_kind (kit.chars.vtable, kit.chars.value))
+                (of_kind (kit.grid.vtable, kit.grid.value)) (of_kind (kit.deeds.vtable, kit.deeds.value)))
+                × AreEmpty
+                (faces_of (nodes (kit.chars.vtable, kit.chars.value)) (nodes (kit.grid.vtable, kit.grid.value))
+                (nodes (kit.deeds.vtable, kit.deeds.value)))) }
         {
             let chars = Box::new(alloc, PlainText::new(alloc))?;
             let grid = Box::new(alloc, Grid::new(alloc))?;

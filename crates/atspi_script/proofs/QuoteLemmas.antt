@@ -2,7 +2,7 @@
 use Rattle.std.proofs.Common.{◌≡◌, ℕ, Bool, true, false, not, IsTrue, ◌&&◌, ◌||◌, List, [], ◌∷◌, ◌++◌, if◌then◌else◌, refl, ap, ◌∙◌}
 use Rattle.std.specs.List.{flat_map, list_all}
 use Rattle.atspi_base.specs.Quoted.{escaped, is_marked, is_control}
-use Rattle.atspi_script.specs.Marks.{stands}
+use Rattle.atspi_script.specs.inner.Marks.{stands}
 
 unmarked : (m t : Bool) (b : ℕ) (marked control : List ℕ) → not (m || t) ≡ true → (if m then marked else (if t then control else b ∷ [])) ≡ b ∷ []
 unmarked true t b marked control e = absurd cc

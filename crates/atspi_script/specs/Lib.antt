@@ -1,5 +1,5 @@
-pub mod Marks
+pub mod inner
 pub mod MessageText
 pub mod Spaced
 pub mod ValueText
-pub mod Views
+pub mod FaultText

@@ -6,7 +6,9 @@ use Rattle.atspi_base.specs.Quoted.{in_quotes, quoted}
 use Rattle.atspi_base.specs.Digits.{hex_digits}
 use Rattle.atspi_types.specs.Kinds.{Num, byte, i16, u16, i32, u32, i64, u64, double}
 use Rattle.atspi_types.specs.Signatures.{type_bytes, signature_bytes}
-use Rattle.atspi_types.specs.Data.{Data, number_data, boolean_data, text_data, path_data, signature_data, array_data, structure_data, dictionary_data, variant_data, Items, no_items, item, Entries, no_entries, entry}
+use Rattle.atspi_types.specs.Data.{Data, number_data, boolean_data, text_data, path_data, signature_data, array_data}
+use Rattle.atspi_types.specs.Data.{structure_data, dictionary_data, variant_data, Items, no_items, item, Entries}
+use Rattle.atspi_types.specs.Data.{no_entries, entry}
 use Rattle.atspi_script.specs.Spaced.{in_brackets}
 
 -- an integer in decimal, of the number that its bits are; a double as `0x` and the 16 hex digits of its bits
@@ -28,8 +30,9 @@ boolean_text b = if b then codes "true" else codes "false"
 abbrev pub in_braces : List ℕ → List ℕ → List ℕ
 in_braces key value = in_brackets 123 (key ∷ value ∷ []) 125
 
--- Numbers and booleans; texts, paths and signatures in quotes; arrays `[..]`, structs `(..)`, dictionaries `[{KEY VALUE} ..]` and
--- variants `<SIGNATURE VALUE>`, with one space between the values in a bracket and none at the bracket.
+-- Numbers and booleans; texts, paths and signatures in quotes; arrays `[..]`, structs `(..)`, dictionaries
+-- `[{KEY VALUE} ..]` and variants `<SIGNATURE VALUE>`, with one space between the values in a bracket and none at the
+-- bracket.
 abbrev mutual
   pub value_text : Data → List ℕ
   value_text (number_data m n) = number_text m n

@@ -2,13 +2,14 @@
 
 ghost use Rattle.std.specs.Prelude.{◌≡◌, [], ◌∷◌, ◌++◌, OnOk, codes, length, take};
 ghost use Rattle.std.specs.List.{flat_map};
-ghost use Rattle.atspi_header.specs.View.{bytes_of, envelope_at};
-ghost use Rattle.atspi_script.specs.MessageText.{field_words, fields_words, header_words, labelled, order_letter, reply_text, type_word};
+ghost use Rattle.atspi_message_in_place.specs.View.{bytes_of, envelope_at};
+ghost use Rattle.atspi_script.specs.MessageText.{field_words, fields_words, header_words, labelled, order_letter};
+ghost use Rattle.atspi_script.specs.MessageText.{reply_text, type_word};
 ghost use Rattle.atspi_script.specs.Spaced.{behind_space, spaced};
 
 use crate::numbers::put_number;
 use atspi_base::{Bytes, NoMemory};
-use atspi_header::MessageRef;
+use atspi_message_in_place::MessageRef;
 use atspi_types::Order;
 
 /// Appends the text of a message as far as its body.
@@ -104,7 +105,8 @@ fn put_name(label: &[u8], name: Option<&str>, out: &mut Bytes) -> Result<(), NoM
 /// Appends the serial that a message replies to, where there is one.
 #[inline(always)]
 fn put_reply(reply: Option<u32>, out: &mut Bytes) -> Result<(), NoMemory>
-    ensures ok { OnOk result (out.new ≡ out.old ++ flat_map behind_space (field_words (codes "reply") (reply_text reply))) }
+    ensures ok { OnOk result
+        (out.new ≡ out.old ++ flat_map behind_space (field_words (codes "reply") (reply_text reply))) }
     ensures front { take (length out.old) out.new ≡ out.old }
 {
     match reply {

@@ -1,6 +1,7 @@
 //! Texts of messages, for a person or a program to read.
 #![tactic(auto)]
 
+mod faults;
 mod header;
 mod message;
 mod numbers;
@@ -8,4 +9,5 @@ mod quotes;
 mod values;
 mod view;
 
+pub use faults::put_fault;
 pub use message::message_text;

@@ -5,7 +5,8 @@ ghost use Rattle.std.specs.Fmt.{decimal, signed_decimal};
 
 use atspi_base::{Bytes, NoMemory, put_decimal};
 
-/// Appends a number in decimal. Most numbers of a message have four digits or fewer. After want of memory nothing was appended.
+/// Appends a number in decimal. Most numbers of a message have four digits or fewer. After want of memory nothing was
+/// appended.
 #[inline(always)]
 pub fn put_number(n: u64, out: &mut Bytes) -> Result<(), NoMemory>
     ensures ok { OnOk result (out.new ≡ out.old ++ decimal n) }

@@ -4,7 +4,7 @@ ghost use Rattle.std.specs.Prelude.{◌≡◌, ◌+◌, ◌≤◌, [], ◌∷◌
 ghost use Rattle.std.specs.List.{flat_map, list_all};
 ghost use Rattle.atspi_base.specs.Quoted.{escaped, in_quotes};
 ghost use Rattle.atspi_base.specs.valid_names.Names.{IsPath, is_path};
-ghost use Rattle.atspi_script.specs.Marks.{stands};
+ghost use Rattle.atspi_script.specs.inner.Marks.{stands};
 
 use atspi_base::{Bytes, NoMemory};
 

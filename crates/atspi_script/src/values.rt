@@ -6,19 +6,19 @@ ghost use Rattle.atspi_types.specs.Data.{items_of, variant_data};
 ghost use Rattle.atspi_types.specs.Signatures.{signature_bytes};
 ghost use Rattle.atspi_base.specs.Quoted.{in_quotes, quoted};
 ghost use Rattle.atspi_base.specs.Digits.{hex_digits};
-ghost use Rattle.atspi_cursor.specs.codes.TyRefs.{refs_kinds};
+ghost use Rattle.atspi_marshal_in_place.specs.codes.TyRefs.{refs_kinds};
 ghost use Rattle.atspi_marshal.specs.Reading.{entries_in};
-ghost use Rattle.atspi_cursor.specs.Items.{item_data, item_kind, elements_data, entries_data, fields_data};
+ghost use Rattle.atspi_marshal_in_place.specs.Items.{item_data, item_kind, elements_data, entries_data, fields_data};
 ghost use Rattle.atspi_script.specs.Spaced.{in_brackets, spaced};
-ghost use Rattle.atspi_script.specs.Views.{parts_data};
+ghost use Rattle.atspi_script.specs.inner.Views.{parts_data};
 ghost use Rattle.atspi_script.specs.ValueText.{boolean_text, entry_texts, in_braces, value_text, value_texts};
 
 use crate::numbers::{put_number, put_signed};
 use crate::quotes::{put_in_quotes, put_path};
 use crate::view::{Parts, View, view_of};
 use atspi_base::{Bytes, NoMemory, put_hex};
-use atspi_cursor::codes::TysRef;
-use atspi_cursor::{Elements, Entries, Entry, Fields, Item};
+use atspi_marshal_in_place::codes::TysRef;
+use atspi_marshal_in_place::{Elements, Entries, Entry, Fields, Item};
 
 /// Appends the text of a value. After want of memory a front of it was appended.
 #[cycle(put)]
@@ -44,8 +44,8 @@ fn put(item: Item<'_>, out: &mut Bytes) -> Result<(), NoMemory>
     }
 }
 
-/// Appends the text of a value that has parts. A call of its own, so that a value without parts takes no room for what walks
-/// over some.
+/// Appends the text of a value that has parts. A call of its own, so that a value without parts takes no room for what
+/// walks over some.
 #[cycle(put)]
 #[inline(never)]
 fn put_parts(parts: Parts<'_>, out: &mut Bytes) -> Result<(), NoMemory>
@@ -103,7 +103,8 @@ fn put_types(types: TysRef<'_>, out: &mut Bytes) -> Result<(), NoMemory>
 /// Appends the text of an array.
 #[cycle(put)]
 fn put_array(elements: Elements<'_>, out: &mut Bytes) -> Result<(), NoMemory>
-    ensures ok { OnOk result (out.new ≡ out.old ++ in_brackets 91 (value_texts (items_of (elements_data elements.entry))) 93) }
+    ensures ok { OnOk result
+        (out.new ≡ out.old ++ in_brackets 91 (value_texts (items_of (elements_data elements.entry))) 93) }
     ensures front { take (length out.old) out.new ≡ out.old }
 {
     out.push(b'[')?;
@@ -146,7 +147,8 @@ fn put_element(item: Item<'_>, out: &mut Bytes) -> Result<(), NoMemory>
 /// Appends the text of a struct.
 #[cycle(put)]
 fn put_struct(fields: Fields<'_>, out: &mut Bytes) -> Result<(), NoMemory>
-    ensures ok { OnOk result (out.new ≡ out.old ++ in_brackets 40 (value_texts (items_of (fields_data fields.entry))) 41) }
+    ensures ok { OnOk result
+        (out.new ≡ out.old ++ in_brackets 40 (value_texts (items_of (fields_data fields.entry))) 41) }
     ensures front { take (length out.old) out.new ≡ out.old }
 {
     out.push(b'(')?;
@@ -176,7 +178,8 @@ pub fn put_fields(fields: Fields<'_>, out: &mut Bytes) -> Result<(), NoMemory>
 /// Appends the text of a dictionary.
 #[cycle(put)]
 fn put_dictionary(entries: Entries<'_>, out: &mut Bytes) -> Result<(), NoMemory>
-    ensures ok { OnOk result (out.new ≡ out.old ++ in_brackets 91 (entry_texts (entries_in (items_of (entries_data entries.entry)))) 93) }
+    ensures ok { OnOk result
+        (out.new ≡ out.old ++ in_brackets 91 (entry_texts (entries_in (items_of (entries_data entries.entry)))) 93) }
     ensures front { take (length out.old) out.new ≡ out.old }
 {
     out.push(b'[')?;
@@ -188,7 +191,8 @@ fn put_dictionary(entries: Entries<'_>, out: &mut Bytes) -> Result<(), NoMemory>
 #[cycle(put)]
 #[inline(always)]
 fn put_entries(entries: Entries<'_>, out: &mut Bytes) -> Result<(), NoMemory>
-    ensures ok { OnOk result (out.new ≡ out.old ++ spaced (entry_texts (entries_in (items_of (entries_data entries.entry))))) }
+    ensures ok { OnOk result
+        (out.new ≡ out.old ++ spaced (entry_texts (entries_in (items_of (entries_data entries.entry))))) }
     ensures front { take (length out.old) out.new ≡ out.old }
 {
     let mut rest = entries;
@@ -207,7 +211,10 @@ fn put_entries(entries: Entries<'_>, out: &mut Bytes) -> Result<(), NoMemory>
 #[cycle(put)]
 #[inline(always)]
 fn put_entry(entry: Entry<'_>, out: &mut Bytes) -> Result<(), NoMemory>
-    ensures ok { OnOk result (out.new ≡ out.old ++ in_braces (value_text (item_data entry.entry.key)) (value_text (item_data entry.entry.value))) }
+    ensures ok { OnOk result
+        (out.new
+        ≡ out.old
+        ++ in_braces (value_text (item_data entry.entry.key)) (value_text (item_data entry.entry.value))) }
     ensures front { take (length out.old) out.new ≡ out.old }
 {
     out.push(b'{')?;
@@ -220,7 +227,8 @@ fn put_entry(entry: Entry<'_>, out: &mut Bytes) -> Result<(), NoMemory>
 /// Appends the text of a variant, by the value in it.
 #[cycle(put)]
 fn put_variant(inner: Item<'_>, out: &mut Bytes) -> Result<(), NoMemory>
-    ensures ok { OnOk result (out.new ≡ out.old ++ value_text (variant_data (item_kind inner.entry) (item_data inner.entry))) }
+    ensures ok { OnOk result
+        (out.new ≡ out.old ++ value_text (variant_data (item_kind inner.entry) (item_data inner.entry))) }
     ensures front { take (length out.old) out.new ≡ out.old }
 {
     out.push(b'<')?;

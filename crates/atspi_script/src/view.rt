@@ -1,14 +1,15 @@
 //! What a value that lies in bytes is, by its type.
 
 ghost use Rattle.std.specs.Prelude.{◌≡◌, IsTrue};
-ghost use Rattle.atspi_types.specs.Kinds.{boolean, byte, double, i16, i32, i64, number, path, signature, text, u16, u32, u64, variant};
-ghost use Rattle.atspi_cursor.specs.codes.Codes.{is_array, is_dictionary, is_structure};
-ghost use Rattle.atspi_cursor.specs.Items.{item_data, item_kind};
-ghost use Rattle.atspi_script.specs.Views.{view_data};
+ghost use Rattle.atspi_types.specs.Kinds.{boolean, byte, double, i16, i32, i64, number, path, signature, text, u16};
+ghost use Rattle.atspi_types.specs.Kinds.{u32, u64, variant};
+ghost use Rattle.atspi_marshal_in_place.specs.codes.Codes.{is_array, is_dictionary, is_structure};
+ghost use Rattle.atspi_marshal_in_place.specs.Items.{item_data, item_kind};
+ghost use Rattle.atspi_script.specs.inner.Views.{view_data};
 
 use crate::quotes::PathText;
-use atspi_cursor::codes::{Shape, TysRef};
-use atspi_cursor::{Elements, Entries, Fields, Item};
+use atspi_marshal_in_place::codes::{Shape, TysRef};
+use atspi_marshal_in_place::{Elements, Entries, Fields, Item};
 
 /// A value that lies in bytes: itself where it has no parts, or what walks over its parts.
 #[derive(Clone, Copy)]

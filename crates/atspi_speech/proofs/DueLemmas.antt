@@ -3,24 +3,24 @@ use Rattle.std.proofs.Common.{◌≡◌, ℕ, Bool, true, false, cond, List, [],
 use Rattle.std.specs.Prelude.{map, codes}
 use Rattle.std.specs.Option.{option_map}
 use Rattle.std.proofs.lemmas.Bool.{eqb-true}
-use Rattle.atspi_forest.specs.declared.view.Row.{Row}
-use Rattle.atspi_forest.specs.declared.step.Step.{Step}
-use Rattle.atspi_forest.specs.declared.step.Step.TheVariants.{Add, Remove, Move, SetName, SetDescription, SetRole, SetState, Insert, Delete, Caret, TextSelect, Relate}
-use Rattle.atspi_forest.specs.declared.news.News.{News}
-use Rattle.atspi_forest.specs.declared.news.News.TheVariants.{Removed}
-use Rattle.atspi_forest.specs.Forest.{Forest, nil, tree, labels, has, pick, width, find, children_at}
-use Rattle.atspi_forest.specs.Row.{TreeRow, Each}
-use Rattle.atspi_forest.specs.RowRules.{rows}
-use Rattle.atspi_forest.specs.Tree.{is_node, after, seat_of, IsTree, Applies}
-use Rattle.atspi_forest.specs.Path.{path_of}
-use Rattle.atspi_forest.specs.View.{Told, shown, view}
-use Rattle.atspi_forest.specs.News.{is_path}
-use Rattle.atspi_forest.specs.Announce.{item_news, removed_news, announcement, echoes}
-use Rattle.atspi_forest.specs.Laws.{UntoldOfNew}
-use Rattle.atspi_forest.proofs.Relabel.{has-relabel}
-use Rattle.atspi_forest.proofs.Found.{not_there, find-passes}
-use Rattle.atspi_forest.proofs.Lookup.{find-relabel}
-use Rattle.atspi_forest.proofs.Seen.{same_node, seen}
+use Rattle.atspi_tree_model.specs.declared.view.Row.{Row}
+use Rattle.atspi_tree_model.specs.declared.step.Step.{Step}
+use Rattle.atspi_tree_model.specs.declared.step.Step.TheVariants.{Add, Remove, Move, SetName, SetDescription, SetRole, SetState, Insert, Delete, Caret, TextSelect, Relate}
+use Rattle.atspi_tree_model.specs.declared.news.News.{News}
+use Rattle.atspi_tree_model.specs.declared.news.News.TheVariants.{Removed}
+use Rattle.atspi_tree_model.specs.Forest.{Forest, nil, tree, labels, has, pick, width, find, children_at}
+use Rattle.atspi_tree_model.specs.Row.{TreeRow, Each}
+use Rattle.atspi_tree_model.specs.RowRules.{rows}
+use Rattle.atspi_tree_model.specs.Tree.{is_node, after, seat_of, IsTree, Applies}
+use Rattle.atspi_tree_model.specs.Path.{path_of}
+use Rattle.atspi_tree_model.specs.View.{Told, shown, view}
+use Rattle.atspi_tree_model.specs.News.{is_path}
+use Rattle.atspi_tree_model.specs.Announce.{item_news, removed_news, announcement, echoes}
+use Rattle.atspi_tree_model.specs.Laws.{UntoldOfNew}
+use Rattle.atspi_tree_model.proofs.Relabel.{has-relabel}
+use Rattle.atspi_tree_model.proofs.Found.{not_there, find-passes}
+use Rattle.atspi_tree_model.proofs.Lookup.{find-relabel}
+use Rattle.atspi_tree_model.proofs.Seen.{same_node, seen}
 use Rattle.atspi_speech.specs.Speech.{Subject, of_row, of_node, name_lines, state_lines, text_lines, alert_lines, of_found, row_at, node_at, lines, says, closing_lines, closing_says}
 
 same_subject : (told : List ℕ → Told) (o : Option TreeRow)

@@ -6,17 +6,17 @@ use Rattle.std.specs.Option.{option_map}
 use Rattle.std.proofs.lemmas.Slice.Eq.{bytes_eq-Decides}
 use Rattle.std.proofs.lemmas.List.{append-nil}
 use Rattle.std.proofs.lemmas.Result.{on_ok_weaker}
-use Rattle.atspi_forest.specs.declared.view.Row.{Row}
-use Rattle.atspi_forest.specs.declared.news.Item.{Item}
-use Rattle.atspi_forest.specs.declared.news.News.{News}
-use Rattle.atspi_forest.specs.declared.news.News.TheVariants.{Name, State, Inserted, Deleted, Item as NewItem}
-use Rattle.atspi_forest.specs.Forest.{Forest, nil, tree, count, has, put_in, change, find, EachLabel}
-use Rattle.atspi_forest.specs.Row.{insert_there, delete_there}
-use Rattle.atspi_forest.specs.News.{is_path, names, spot, known_text_with, renewed, fresh, added}
-use Rattle.atspi_forest.proofs.Counts.{count-put_in}
-use Rattle.atspi_forest.proofs.Found.{count-has, has-count, not_there, none_passes, find-none, find-passes, find-has}
-use Rattle.atspi_forest.proofs.Labels.{each_put_in}
-use Rattle.atspi_forest.proofs.Lookup.{each-find, find-relabel, find-change}
+use Rattle.atspi_tree_model.specs.declared.view.Row.{Row}
+use Rattle.atspi_tree_model.specs.declared.news.Item.{Item}
+use Rattle.atspi_tree_model.specs.declared.news.News.{News}
+use Rattle.atspi_tree_model.specs.declared.news.News.TheVariants.{Name, State, Inserted, Deleted, Item as NewItem}
+use Rattle.atspi_tree_model.specs.Forest.{Forest, nil, tree, count, has, put_in, change, find, EachLabel}
+use Rattle.atspi_tree_model.specs.Row.{insert_there, delete_there}
+use Rattle.atspi_tree_model.specs.News.{is_path, names, spot, known_text_with, renewed, fresh, added}
+use Rattle.atspi_tree_model.proofs.Counts.{count-put_in}
+use Rattle.atspi_tree_model.proofs.Found.{count-has, has-count, not_there, none_passes, find-none, find-passes, find-has}
+use Rattle.atspi_tree_model.proofs.Labels.{each_put_in}
+use Rattle.atspi_tree_model.proofs.Lookup.{each-find, find-relabel, find-change}
 use Rattle.atspi_speech.specs.Speech.{of_row, name_lines, state_lines, text_lines, alert_lines, of_found, row_at, lines}
 use Rattle.atspi_speech.specs.Looked.{adds, with_name, with_state_of}
 

@@ -1,10 +1,10 @@
 -- Words for worked cases.
 use Rattle.std.specs.Prelude.{ℕ, ◌^◌, pos, List, [], codes}
-use Rattle.atspi_forest.specs.declared.view.Part.TheVariants.{Absent}
-use Rattle.atspi_forest.specs.declared.view.NumPart.TheVariants.{Absent as NoNumber}
-use Rattle.atspi_forest.specs.declared.view.Row.{Row}
-use Rattle.atspi_forest.specs.declared.news.Item.{Item}
-use Rattle.atspi_forest.specs.Forest.{Forest, nil, tree}
+use Rattle.atspi_tree_model.specs.declared.view.Part.TheVariants.{Absent}
+use Rattle.atspi_tree_model.specs.declared.view.NumPart.TheVariants.{Absent as NoNumber}
+use Rattle.atspi_tree_model.specs.declared.view.Row.{Row}
+use Rattle.atspi_tree_model.specs.declared.news.Item.{Item}
+use Rattle.atspi_tree_model.specs.Forest.{Forest, nil, tree}
 use Rattle.atspi_speech.specs.Speech.{Subject}
 
 -- a node with this name, role and states

@@ -1,15 +1,15 @@
 -- What is spoken from a view is what is due from the tree.
 use Rattle.std.specs.Prelude.{ℕ, ◌≡◌, List, []}
-use Rattle.atspi_forest.specs.declared.view.Row.{Row}
-use Rattle.atspi_forest.specs.declared.step.Step.{Step}
-use Rattle.atspi_forest.specs.Forest.{Forest}
-use Rattle.atspi_forest.specs.Row.{TreeRow, Each}
-use Rattle.atspi_forest.specs.RowRules.{rows}
-use Rattle.atspi_forest.specs.Tree.{IsTree, Applies}
-use Rattle.atspi_forest.specs.Path.{path_of}
-use Rattle.atspi_forest.specs.View.{Told, view}
-use Rattle.atspi_forest.specs.Announce.{announcement, echoes}
-use Rattle.atspi_forest.specs.Laws.{UntoldOfNew}
+use Rattle.atspi_tree_model.specs.declared.view.Row.{Row}
+use Rattle.atspi_tree_model.specs.declared.step.Step.{Step}
+use Rattle.atspi_tree_model.specs.Forest.{Forest}
+use Rattle.atspi_tree_model.specs.Row.{TreeRow, Each}
+use Rattle.atspi_tree_model.specs.RowRules.{rows}
+use Rattle.atspi_tree_model.specs.Tree.{IsTree, Applies}
+use Rattle.atspi_tree_model.specs.Path.{path_of}
+use Rattle.atspi_tree_model.specs.View.{Told, view}
+use Rattle.atspi_tree_model.specs.Announce.{announcement, echoes}
+use Rattle.atspi_tree_model.specs.Laws.{UntoldOfNew}
 use Rattle.atspi_speech.specs.Speech.{lines, says, closing_lines, closing_says}
 
 -- a reader that holds the view of a tree speaks at a step's announcement what is due at the step

@@ -1,12 +1,12 @@
 -- The lines of a news, told from the rows that it names.
 use Rattle.std.specs.Prelude.{ℕ, ◌≡◌, Bool, false, cond, List, Option, is_some, bytes_eq}
-use Rattle.atspi_forest.specs.declared.view.Row.{Row}
-use Rattle.atspi_forest.specs.declared.news.Item.{Item}
-use Rattle.atspi_forest.specs.declared.news.News.{News}
-use Rattle.atspi_forest.specs.declared.news.News.TheVariants.{Name, State, Inserted, Deleted, Item as NewItem}
-use Rattle.atspi_forest.specs.Forest.{Forest, has, find}
-use Rattle.atspi_forest.specs.States.{with_state}
-use Rattle.atspi_forest.specs.News.{is_path}
+use Rattle.atspi_tree_model.specs.declared.view.Row.{Row}
+use Rattle.atspi_tree_model.specs.declared.news.Item.{Item}
+use Rattle.atspi_tree_model.specs.declared.news.News.{News}
+use Rattle.atspi_tree_model.specs.declared.news.News.TheVariants.{Name, State, Inserted, Deleted, Item as NewItem}
+use Rattle.atspi_tree_model.specs.Forest.{Forest, has, find}
+use Rattle.atspi_tree_model.specs.States.{with_state}
+use Rattle.atspi_tree_model.specs.News.{is_path}
 
 -- the row and the parent's row that a news is about are these in a view
 abbrev pub AreLookedUp : Forest Row → News → Option Row → Bool → Type 0

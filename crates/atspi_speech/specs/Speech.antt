@@ -3,18 +3,19 @@
 use Rattle.std.specs.Prelude.{ℕ, ◌==◌, Bool, true, cond, not, List, [], ◌∷◌, ◌++◌, Option, Some, None, length, codes}
 use Rattle.std.specs.Fmt.{decimal}
 use Rattle.std.specs.Option.{option_map}
-use Rattle.atspi_forest.specs.declared.view.Row.{Row}
-use Rattle.atspi_forest.specs.declared.step.Step.{Step}
-use Rattle.atspi_forest.specs.declared.step.Step.TheVariants.{Add, SetName, SetState, Insert, Delete}
-use Rattle.atspi_forest.specs.declared.news.News.{News}
-use Rattle.atspi_forest.specs.declared.news.News.TheVariants.{Name, State, Inserted, Deleted, Item as NewItem}
-use Rattle.atspi_forest.specs.Forest.{Forest, nil, tree, has, find}
-use Rattle.atspi_forest.specs.States.{has_state, focused}
-use Rattle.atspi_forest.specs.Row.{TreeRow}
-use Rattle.atspi_forest.specs.RowRules.{rows}
-use Rattle.atspi_forest.specs.Tree.{is_node, after}
-use Rattle.atspi_forest.specs.News.{is_path, effect}
-use Rattle.atspi_speech.specs.Words.{alert, notification, password_text, line_if, is_empty, spoken_role, state_pieces, words_of_state, joined}
+use Rattle.atspi_tree_model.specs.declared.view.Row.{Row}
+use Rattle.atspi_tree_model.specs.declared.step.Step.{Step}
+use Rattle.atspi_tree_model.specs.declared.step.Step.TheVariants.{Add, SetName, SetState, Insert, Delete}
+use Rattle.atspi_tree_model.specs.declared.news.News.{News}
+use Rattle.atspi_tree_model.specs.declared.news.News.TheVariants.{Name, State, Inserted, Deleted, Item as NewItem}
+use Rattle.atspi_tree_model.specs.Forest.{Forest, nil, tree, has, find}
+use Rattle.atspi_tree_model.specs.States.{has_state, focused}
+use Rattle.atspi_tree_model.specs.Row.{TreeRow}
+use Rattle.atspi_tree_model.specs.RowRules.{rows}
+use Rattle.atspi_tree_model.specs.Tree.{is_node, after}
+use Rattle.atspi_tree_model.specs.News.{is_path, effect}
+use Rattle.atspi_speech.specs.Words.{alert, notification, password_text, line_if, is_empty, spoken_role, state_pieces}
+use Rattle.atspi_speech.specs.Words.{words_of_state, joined}
 
 -- what is spoken of a node is read from these
 pub record Subject : Type 0 where

@@ -1,7 +1,8 @@
 -- What a node's parts are called when they are spoken.
-use Rattle.std.specs.Prelude.{ℕ, ◌==◌, nat_lt, Bool, true, false, cond, List, [], ◌∷◌, ◌++◌, slice_get, unwrap_or, codes}
+use Rattle.std.specs.Prelude.{ℕ, ◌==◌, nat_lt, Bool, true, false, cond, List, [], ◌∷◌, ◌++◌, slice_get, unwrap_or}
+use Rattle.std.specs.Prelude.{codes}
 use Rattle.atspi_tables.specs.Roles.{role_names}
-use Rattle.atspi_forest.specs.States.{has_state, checked, expanded, pressed, selected}
+use Rattle.atspi_tree_model.specs.States.{has_state, checked, expanded, pressed, selected}
 
 -- expandable, and below it checkable, each by its bit
 abbrev pub expandable : ℕ

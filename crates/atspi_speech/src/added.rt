@@ -2,14 +2,14 @@
 
 ghost use Rattle.std.specs.Prelude.{◌≡◌, [], ◌∷◌, ◌++◌, cond, bytes_eq, OnOk, OnErr};
 ghost use Rattle.std.specs.Option.{option_copied};
-ghost use Rattle.atspi_forest.specs.News.{fresh};
+ghost use Rattle.atspi_tree_model.specs.News.{fresh};
 ghost use Rattle.atspi_speech.specs.Looked.{adds};
 ghost use Rattle.atspi_speech.specs.Speech.{alert_lines, of_row};
 
 use crate::line::Line;
 use atspi_base::valid_names::Path;
 use atspi_base::{NoMemory, Text, Texts};
-use atspi_forest::{Item, Row};
+use atspi_tree_model::{Item, Row};
 use std::alloc::Global;
 
 const ALERT: u32 = 2;
@@ -30,8 +30,8 @@ fn is_path(path: &Path, other: &Path) -> bool
     path.is(other)
 }
 
-/// Whether an item adds a node: it is the application's own, not of the root nor of a node that is known, and its parent is
-/// known.
+/// Whether an item adds a node: it is the application's own, not of the root nor of a node that is known, and its
+/// parent is known.
 fn adds(root: &Path, bus: &Text, row: Option<&Row>, has_parent: bool, item: &Item) -> bool
     ensures { result ≡ adds root.now bus.now (option_copied row.entry) has_parent item.now }
 {
@@ -68,7 +68,11 @@ pub(crate) fn item_came(
     item: &Item,
     out: &mut Texts,
 ) -> Result<(), NoMemory>
-    ensures ok { OnOk result (out.new ≡ out.old ++ cond (adds root.now bus.now (option_copied row.entry) has_parent item.now) (alert_lines (of_row (fresh item.now))) []) }
+    ensures ok { OnOk result
+        (out.new
+        ≡ out.old
+        ++ cond (adds root.now bus.now (option_copied row.entry) has_parent item.now)
+        (alert_lines (of_row (fresh item.now))) []) }
     ensures err { OnErr result (out.new ≡ out.old) }
 {
     if adds(root, bus, row, has_parent, item) {

@@ -8,15 +8,16 @@ ghost use Rattle.atspi_speech.specs.Words.{is_plain, spoken_role};
 use crate::line::Line;
 use crate::states::{FOCUSED, is_set, push_states, with_state, word_of_state};
 use atspi_base::{NoMemory, Text, Texts};
-use atspi_forest::Row;
 use atspi_tables::role_name;
+use atspi_tree_model::Row;
 use std::alloc::Global;
 
 const PASSWORD_TEXT: u32 = 40;
 
 /// The line of a node that gets the focus and then has these states.
 fn focus_line(alloc: Global, row: &Row, states: u64) -> Result<Text, NoMemory>
-    ensures { IfOk result (λ line. line ≡ focus_line (record { name = row.now.name; role = row.now.role; states = states })) }
+    ensures { IfOk result
+        (λ line. line ≡ focus_line (record { name = row.now.name; role = row.now.role; states = states })) }
 {
     let mut line = Line::new(alloc);
     if row.name.count() != 0 {

@@ -2,8 +2,9 @@
 
 ghost use Rattle.std.specs.Prelude.{◌≡◌, ◌<◌, ◌++◌, true, OnOk, IfSome};
 ghost use Rattle.std.specs.Option.{option_copied, option_to_list};
-ghost use Rattle.atspi_forest.specs.States.{has_state, with_state};
-ghost use Rattle.atspi_speech.specs.Words.{behind_commas, checked_pieces, expanded_pieces, is_plain, line_if, state_pieces, words_of_state};
+ghost use Rattle.atspi_tree_model.specs.States.{has_state, with_state};
+ghost use Rattle.atspi_speech.specs.Words.{behind_commas, checked_pieces, expanded_pieces, is_plain, line_if};
+ghost use Rattle.atspi_speech.specs.Words.{state_pieces, words_of_state};
 
 use crate::line::{Line, push_piece};
 use atspi_base::NoMemory;

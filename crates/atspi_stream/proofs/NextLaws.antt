@@ -4,12 +4,12 @@ use Rattle.std.proofs.lemmas.List.{take-append-drop}
 use Rattle.atspi_marshal.proofs.Places.{IsBytes}
 use Rattle.atspi_message.specs.Envelope.{Envelope}
 use Rattle.atspi_message.specs.Bytes.{IsMessage}
-use Rattle.atspi_header.specs.View.{envelope_at}
-use Rattle.atspi_header.specs.declared.message.MessageRef.{MessageRef}
+use Rattle.atspi_message_in_place.specs.View.{envelope_at}
+use Rattle.atspi_message_in_place.specs.declared.message.MessageRef.{MessageRef}
 use Rattle.atspi_stream.specs.declared.feeder.Got.{Got}
 use Rattle.atspi_stream.specs.declared.feeder.Got.TheVariants.{Message, NotYet, Bad}
 use Rattle.atspi_stream.specs.Stream.{AwaitsMore, HasFault, BeginsWithMessage, AreMessages, bytes_of, IsParted, TakesPiece, GivesMessage, IsMessageGiven, WaitsRightly, TellsFault, IsFaultTold, KeepsHeld, HandsOut, Leaves}
-use Rattle.atspi_stream.specs.Seen.{Sees}
+use Rattle.atspi_stream.specs.inner.Seen.{Sees}
 use Rattle.atspi_stream.proofs.StreamLaws.{one_answer}
 
 -- what is held after so many bytes of a message were given out

@@ -32,5 +32,6 @@ FaultStays = (held more : List ℕ) (place reason : ℕ) → HasFault held place
 -- Bytes are messages and a rest that begins with none in one way alone, however they were cut.
 abbrev pub AnyCut : Type 0
 AnyCut = (bytes : List ℕ) (given found : List (Envelope × List ℕ)) (rest more : List ℕ) → AreBytes bytes
-    → IsParted bytes given rest → (BeginsWithMessage rest → ⊥) → IsParted bytes found more → (BeginsWithMessage more → ⊥)
+    → IsParted bytes given rest → (BeginsWithMessage rest → ⊥) → IsParted bytes found more
+    → (BeginsWithMessage more → ⊥)
     → (given ≡ found) × (rest ≡ more)

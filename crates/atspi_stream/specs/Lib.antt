@@ -1,3 +1,3 @@
+pub mod inner
 pub mod Stream
 pub mod Laws
-pub mod Seen

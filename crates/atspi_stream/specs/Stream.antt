@@ -4,7 +4,7 @@ use Rattle.atspi_message.specs.Envelope.{Envelope}
 use Rattle.atspi_message.specs.Bytes.{IsMessage}
 use Rattle.atspi_message.specs.Front.{length_in, WrongFront, IsFirst, IsSoundFront}
 use Rattle.atspi_message.specs.Faults.{FirstFault}
-use Rattle.atspi_header.specs.View.{envelope_at}
+use Rattle.atspi_message_in_place.specs.View.{envelope_at}
 use Rattle.atspi_stream.specs.declared.feeder.Got.{Got}
 use Rattle.atspi_stream.specs.declared.feeder.Got.TheVariants.{Message, NotYet, Bad}
 
@@ -25,7 +25,8 @@ pub data AwaitsMore (held : List ℕ) : Type 0 where
 -- state, with those bytes.
 pub data HasFault (held : List ℕ) (place reason : ℕ) : Type 0 where
   in_front : 16 ≤ length held → IsFirst (WrongFront (take 16 held)) place reason → HasFault held place reason
-  behind : 16 ≤ length held → IsSoundFront (take 16 held) → stated held ≤ length held → FirstFault (first_bytes held) place reason → HasFault held place reason
+  behind : 16 ≤ length held → IsSoundFront (take 16 held) → stated held ≤ length held
+      → FirstFault (first_bytes held) place reason → HasFault held place reason
 
 -- a whole message stands at the front
 pub record BeginsWithMessage (held : List ℕ) : Type 0 where
@@ -52,7 +53,8 @@ pub record IsParted (bytes : List ℕ) (messages : List (Envelope × List ℕ)) 
 
 -- whatever was fed and given before, with these bytes held: now a piece was fed
 abbrev pub TakesPiece : List ℕ → List ℕ → List ℕ → Type 0
-TakesPiece old piece new = (fed : List ℕ) (given : List (Envelope × List ℕ)) → IsParted fed given old → IsParted (fed ++ piece) given new
+TakesPiece old piece new = (fed : List ℕ) (given : List (Envelope × List ℕ)) → IsParted fed given old
+    → IsParted (fed ++ piece) given new
 
 -- a message that is given stood with its bytes at the front, and these are gone
 abbrev pub GivesMessage : Got → List ℕ → List ℕ → Type 0

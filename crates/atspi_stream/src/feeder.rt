@@ -6,13 +6,14 @@ ghost use Rattle.std.specs.Io.BufRead.{Rests};
 ghost use Rattle.atspi_message.specs.Envelope.{Envelope};
 ghost use Rattle.atspi_message.specs.Bytes.{IsMessage};
 ghost use Rattle.atspi_stream.specs.Laws.{AreBytes};
-ghost use Rattle.atspi_stream.specs.Seen.{Sees};
-ghost use Rattle.atspi_stream.specs.Stream.{stated, AwaitsMore, HasFault, TakesPiece, IsMessageGiven, WaitsRightly, TellsFault, IsFaultTold, Leaves};
+ghost use Rattle.atspi_stream.specs.inner.Seen.{Sees};
+ghost use Rattle.atspi_stream.specs.Stream.{stated, AwaitsMore, HasFault, TakesPiece, IsMessageGiven, WaitsRightly};
+ghost use Rattle.atspi_stream.specs.Stream.{TellsFault, IsFaultTold, Leaves};
 ghost use Rattle.atspi_stream.specs.contracts.feeder.Feeder.{the_row};
 
 use atspi_base::NoMemory;
-use atspi_header::MessageRef;
 use atspi_message::total;
+use atspi_message_in_place::MessageRef;
 use atspi_types::Fault;
 use std::alloc::Global;
 use std::marker::Model;
@@ -106,8 +107,8 @@ impl Feeder {
         self.bytes.len() - self.start
     }
 
-    /// How many bytes the next message awaits: those that its first 16 lack, and once these are there, those that it lacks in whole.
-    /// 0 exactly where it is whole or malformed in its first 16 bytes. No memory is taken.
+    /// How many bytes the next message awaits: those that its first 16 lack, and once these are there, those that it
+    /// lacks in whole. 0 exactly where it is whole or malformed in its first 16 bytes. No memory is taken.
     pub fn missing(&self) -> usize
         ensures awaits { (0 < result) ↔ AwaitsMore self.now }
         ensures front { length self.now < 16 → length self.now + result ≡ 16 }
@@ -140,18 +141,20 @@ impl Feeder {
         Ok(())
     }
 
-    /// The next message, once it is whole: it lies in the bytes that are held, and is looked at until the next call. `Bad`
-    /// tells its first fault (reasons 2 to 35, its place counted from the message's first byte), as soon as the bytes show it,
-    /// and the same ever after. No memory is taken.
+    /// The next message, once it is whole: it lies in the bytes that are held, and is looked at until the next call.
+    /// `Bad` tells its first fault (reasons 2 to 35, its place counted from the message's first byte), as soon as the
+    /// bytes show it, and the same ever after. No memory is taken.
     #[inline(always)]
     pub fn next(&mut self) -> Got<'_>
         // A message at the front is given.
-        ensures only { (e : Envelope) (bytes rest : List ℕ) → IsMessage e bytes → self.old ≡ bytes ++ rest → IsMessageGiven result e }
+        ensures only { (e : Envelope) (bytes rest : List ℕ) → IsMessage e bytes → self.old ≡ bytes ++ rest
+            → IsMessageGiven result e }
         ensures not_yet { WaitsRightly result self.old }
         ensures waits { AwaitsMore self.old → result ≡ Got.NotYet }
         ensures bad { TellsFault result self.old }
         ensures told { (place reason : ℕ) → HasFault self.old place reason → IsFaultTold result place reason }
-        // What is held once what was given is looked at no more: the message and its bytes are gone, and nothing else is.
+        // What is held once what was given is looked at no more: the message and its bytes are gone, and nothing else
+        // is.
         ensures* left { sem 𝓛 (Rests the_row self.entry (λ new. Leaves result self.old new)) }
     {
         let (got, length) = look(&self.bytes[self.start..]);

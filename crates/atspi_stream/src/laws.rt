@@ -7,8 +7,8 @@ pub fn a_fault_stays()
     ensures { FaultStays }
 {}
 
-/// The bytes that are held await more, begin with a whole message or have a fault: exactly one of these, and which message
-/// or which fault is fixed by the bytes.
+/// The bytes that are held await more, begin with a whole message or have a fault: exactly one of these, and which
+/// message or which fault is fixed by the bytes.
 pub fn has_one_answer()
     ensures { EachHasOneAnswer }
 {}

@@ -2,7 +2,7 @@
 use Rattle.std.proofs.Common.{◌≡◌, refl, ℕ, zero, suc, List, [], ◌∷◌, length, ap, ◌∙◌}
 use Rattle.atspi_match.specs.declared.routing.closing.Why.{Why}
 use Rattle.atspi_match.specs.routing.Queues as queues
-use Rattle.atspi_lines.specs.declared.line.Party.{Party}
+use Rattle.atspi_script_lines.specs.declared.line.Party.{Party}
 use Rattle.atspi_match.specs.routing.Steps.{bus_takes}
 use Rattle.atspi_trace.specs.Rules.{rule_in}
 use Rattle.atspi_trace.specs.World.{Said}

@@ -1,9 +1,10 @@
--- The bus between the ends: what it takes of one, and what it hands to each. Its state and its queues of bytes are those of the bus's own
--- definitions; here each end gets, beside the bytes, the messages that they are.
-use Rattle.std.specs.Prelude.{ℕ, zero, suc, nat_lt, nat_le, not, Bool, List, [], ◌∷◌, ◌++◌, length, map, filter, fold, if◌then◌else◌}
-use Rattle.atspi_forest.specs.Forest.{first_of}
-use Rattle.atspi_lines.specs.declared.line.Party.{Party}
-use Rattle.atspi_lines.specs.declared.line.Party.TheVariants.{Bus as The_bus, Registry}
+-- The bus between the ends: what it takes of one, and what it hands to each. Its state and its queues of bytes are
+-- those of the bus's own definitions; here each end gets, beside the bytes, the messages that they are.
+use Rattle.std.specs.Prelude.{ℕ, zero, suc, nat_lt, nat_le, not, Bool, List, [], ◌∷◌, ◌++◌, length, map, filter, fold}
+use Rattle.std.specs.Prelude.{if◌then◌else◌}
+use Rattle.atspi_tree_model.specs.Forest.{first_of}
+use Rattle.atspi_script_lines.specs.declared.line.Party.{Party}
+use Rattle.atspi_script_lines.specs.declared.line.Party.TheVariants.{Bus as The_bus, Registry}
 use Rattle.atspi_message.specs.Envelope.{Envelope}
 use Rattle.atspi_names.specs.Owners.{own_name}
 use Rattle.atspi_match.specs.declared.routing.closing.Why.{Why}
@@ -35,7 +36,8 @@ own_letter e = record { from = The_bus; said = plain e }
 
 -- what is handed on while the bus takes a message: that message of its sender's, or one of the bus's own
 abbrev pub letter_of : Party → Said → Envelope → Letter
-letter_of who said e = if is_text e.sender own_name then own_letter e else record { from = who; said = record said { message = e } }
+letter_of who said e = if is_text e.sender own_name then own_letter e
+    else record { from = who; said = record said { message = e } }
 
 -- a queue took more bytes
 abbrev pub grew : ℕ → Waiting → Waiting → Bool
@@ -43,7 +45,8 @@ grew conn before after = nat_lt (length (queue_of before.queues conn)) (length (
 
 -- a delivery stands on the down link where the queue took its bytes
 abbrev pub with_letter : (Envelope → Letter) → Waiting → Waiting → Move → List End → List End
-with_letter letter before after (delivers conn e) ends = if grew conn before after then with_end conn (put_down (letter e)) ends else ends
+with_letter letter before after (delivers conn e) ends = if grew conn before after
+    then with_end conn (put_down (letter e)) ends else ends
 with_letter letter before after move ends = ends
 
 abbrev pub moved : (Envelope → Letter) → ℕ → Filled → Move → Filled
@@ -84,14 +87,16 @@ with_name conn c = record c { ends = with_end conn (named c.bus conn) c.ends }
 abbrev pub takes : Carried → ℕ → Party → Said → Carried
 takes c conn who said =
     settled (length c.bus.state.joined)
-    (with_name conn (stepped (letter_of who said) (record c { ends = with_end conn taken_up c.ends }) (bus_takes c.bus.state conn said.message (rule_in said.message))))
+    (with_name conn
+    (stepped (letter_of who said) (record c { ends = with_end conn taken_up c.ends })
+    (bus_takes c.bus.state conn said.message (rule_in said.message))))
 
 -- the bus takes the end of an end
 abbrev pub takes_end : Carried → ℕ → Carried
 takes_end c conn = settled (length c.bus.state.joined) (left c conn)
 
--- What is written of it: the bus's own messages in their order, and behind those before a closing that an end was dropped, with the bytes
--- that waited and those of the message. Nothing follows where that was the registry.
+-- What is written of it: the bus's own messages in their order, and behind those before a closing that an end was
+-- dropped, with the bytes that waited and those of the message. Nothing follows where that was the registry.
 abbrev pub dropped_if : Party → Why → List Entry
 dropped_if who (Quota queued len) = dropped who queued len ∷ []
 dropped_if who NotHello = []

@@ -1,17 +1,18 @@
 -- What happens next in a world, and what it does: the world after it, and the entries that it writes.
-use Rattle.std.specs.Prelude.{ℕ, suc, ◌-◌, ℤ, pos, negsuc, List, [], ◌∷◌, ◌++◌, length, map, drop, Option, None, Some, Result, Ok, Err, if◌then◌else◌}
-use Rattle.atspi_forest.specs.declared.edit.Edit.{Edit}
-use Rattle.atspi_forest.specs.declared.edit.EditFault.{EditFault}
-use Rattle.atspi_forest.specs.declared.step.Step.{Step}
-use Rattle.atspi_forest.specs.declared.view.Row.{Row}
-use Rattle.atspi_forest.specs.Forest.{Forest, seats}
-use Rattle.atspi_forest.specs.Row.{TreeRow}
-use Rattle.atspi_forest.specs.RowRules.{rows}
-use Rattle.atspi_forest.specs.Tree.{after}
-use Rattle.atspi_forest.specs.View.{Told, view}
-use Rattle.atspi_lines.specs.declared.deed.Deed.{Deed}
-use Rattle.atspi_lines.specs.declared.line.Party.{Party}
-use Rattle.atspi_lines.specs.declared.line.Party.TheVariants.{Bus as The_bus, App, Reader}
+use Rattle.std.specs.Prelude.{ℕ, suc, ◌-◌, ℤ, pos, negsuc, List, [], ◌∷◌, ◌++◌, length, map, drop, Option, None, Some}
+use Rattle.std.specs.Prelude.{Result, Ok, Err, if◌then◌else◌}
+use Rattle.atspi_tree_model.specs.declared.edit.Edit.{Edit}
+use Rattle.atspi_tree_model.specs.declared.edit.EditFault.{EditFault}
+use Rattle.atspi_tree_model.specs.declared.step.Step.{Step}
+use Rattle.atspi_tree_model.specs.declared.view.Row.{Row}
+use Rattle.atspi_tree_model.specs.Forest.{Forest, seats}
+use Rattle.atspi_tree_model.specs.Row.{TreeRow}
+use Rattle.atspi_tree_model.specs.RowRules.{rows}
+use Rattle.atspi_tree_model.specs.Tree.{after}
+use Rattle.atspi_tree_model.specs.View.{Told, view}
+use Rattle.atspi_script_lines.specs.declared.deed.Deed.{Deed}
+use Rattle.atspi_script_lines.specs.declared.line.Party.{Party}
+use Rattle.atspi_script_lines.specs.declared.line.Party.TheVariants.{Bus as The_bus, App, Reader}
 use Rattle.atspi_message.specs.Envelope.{Envelope}
 use Rattle.atspi_message.specs.Bytes.{written}
 use Rattle.atspi_match.specs.routing.Queues as queues
@@ -23,7 +24,7 @@ use Rattle.atspi_protocol.specs.exporting.Exporter.{Happening, steps, sends, hea
 use Rattle.atspi_protocol.specs.exporting.Hearing.{is_covered}
 use Rattle.atspi_protocol.specs.exporting.Starting.{starts, name_or_empty}
 use Rattle.atspi_protocol.specs.exporting.Taking.{app_takes, app_edits}
-use Rattle.atspi_events.specs.declared.shown.ShownRow.{ShownRow}
+use Rattle.atspi_trace_events.specs.declared.shown.ShownRow.{ShownRow}
 use Rattle.atspi_protocol.specs.declared.news.part.PartName.{PartName}
 use Rattle.atspi_protocol.specs.declared.news.part.PartName.TheVariants.{Text, Caret, Columns}
 use Rattle.atspi_protocol.specs.declared.following.question.Question.{Question}
@@ -31,15 +32,18 @@ use Rattle.atspi_protocol.specs.declared.following.question.Question.TheVariants
 use Rattle.atspi_protocol.specs.following.Calls.{asking, user_call}
 use Rattle.atspi_protocol.specs.following.Wishes.{is_refused}
 use Rattle.atspi_trace.specs.Entry.{Entry, started, changed, sent, got, heard, unheard, showed, exited, busy, quiet}
-use Rattle.atspi_trace.specs.World.{waits, Holding, Hearer, Role, the_registry, an_application, a_reader, Said, Letter, End, World, newcomer, first_world}
-use Rattle.atspi_trace.specs.Ends.{party_at, end_at, with_end, number_of, app_count, reader_count, plain, put_up, taken_down, stops}
+use Rattle.atspi_trace.specs.World.{waits, Holding, Hearer, Role, the_registry, an_application, a_reader, Said, Letter}
+use Rattle.atspi_trace.specs.World.{End, World, newcomer, first_world}
+use Rattle.atspi_trace.specs.Ends.{party_at, end_at, with_end, number_of, app_count, reader_count, plain, put_up}
+use Rattle.atspi_trace.specs.Ends.{taken_down, stops}
 use Rattle.atspi_trace.specs.Carrying as carrying
 use Rattle.atspi_trace.specs.Carrying.{Carried, bus_entries, all_told}
 use Rattle.atspi_trace.specs.Hearing.{holding_of, hears_letter, heard_entries}
 
--- The script: another quota, a start, an edit, a user's call of a node by its application's name, a swap, an end that stops, what a reader shows of an
--- application, that so many turns were made, that nothing waits. The links: the bus takes the first message of an up link, or an end that
--- stopped; an end takes the first message of its down link. Ends are named by their connections.
+-- The script: another quota, a start, an edit, a user's call of a node by its application's name, a swap, an end that
+-- stops, what a reader shows of an application, that so many turns were made, that nothing waits. The links: the bus
+-- takes the first message of an up link, or an end that stopped; an end takes the first message of its down link. Ends
+-- are named by their connections.
 pub data Cause : Type 0 where
   renews : ℕ → Cause
   starts_app : List ℕ → Cause
@@ -97,7 +101,8 @@ saids s f announces (deaf listener pattern ∷ hs) = saids s f announces hs
 
 -- an application after what it did: what it queued is on its up link
 abbrev pub has_done : Exporter → Exporter → End → End
-has_done before after e = put_up (saids before before.tree None after.out) (record e { role = an_application (record after { out = [] }) })
+has_done before after e =
+    put_up (saids before before.tree None after.out) (record e { role = an_application (record after { out = [] }) })
 
 abbrev pub app_did : World → ℕ → List Entry → Exporter → Exporter → Done
 app_did w conn front before after =
@@ -106,7 +111,8 @@ app_did w conn front before after =
 abbrev pub app_starts : World → List ℕ → Done
 app_starts w name =
     let who = App (app_count w.ends) in
-    app_did (joins w who (an_application (begins name)) []) (length w.ends) (started who (Some name) ∷ []) (begins name) (starts (begins name))
+    app_did (joins w who (an_application (begins name)) []) (length w.ends) (started who (Some name) ∷ []) (begins name)
+    (starts (begins name))
 
 abbrev pub edited_to : World → ℕ → Exporter → Result Exporter EditFault → Done
 edited_to w conn s (Ok t) = app_did w conn [] s t
@@ -118,7 +124,9 @@ edited w conn edit role = only w []
 
 -- a reader sends a message with its next serial; a call of its own waits for its reply
 abbrev pub asks : Question → Hearer → Hearer
-asks question h = record h { asked = h.asked ++ record { serial = h.next; question = question; fate = waits } ∷ []; next = suc h.next }
+asks question h =
+    record h
+    { asked = h.asked ++ record { serial = h.next; question = question; fate = waits } ∷ []; next = suc h.next }
 
 abbrev pub reader_sends : Hearer → Envelope → End → End
 reader_sends h m e = put_up (plain m ∷ []) (record e { role = a_reader h })
@@ -130,7 +138,8 @@ first_hearer = record { asked = []; next = 1; registry = None; named = []; holds
 abbrev pub reader_starts : World → Done
 reader_starts w =
     let who = Reader (reader_count w.ends) in
-    only (joins w who (a_reader (asks Hello first_hearer)) (plain (asking 1 Hello) ∷ [])) (started who None ∷ sent who (asking 1 Hello) ∷ [])
+    only (joins w who (a_reader (asks Hello first_hearer)) (plain (asking 1 Hello) ∷ []))
+    (started who None ∷ sent who (asking 1 Hello) ∷ [])
 
 -- a user's call goes out at once
 abbrev pub called : World → ℕ → List ℕ → ℕ → Deed → Role → Done
@@ -139,9 +148,15 @@ called w conn name node deed (a_reader h) =
     only (at_end w conn (reader_sends (record h { next = suc h.next }) e)) (sent (party_at w.ends conn) e ∷ [])
 called w conn name node deed role = only w []
 
--- What a reader shows: of an application that it holds the rows of the tree as of the last message taken, with the parts that it was told
+-- What a reader shows: of an application that it holds the rows of the tree as of the last message taken, with the
+-- parts that it was told
 abbrev pub told_in : List (List ℕ × PartName) → List ℕ → Told
-told_in parts path = record { text = is_refused parts path Text; caret = is_refused parts path Caret; columns = is_refused parts path Columns }
+told_in parts path =
+    record {
+      text = is_refused parts path Text;
+      caret = is_refused parts path Caret;
+      columns = is_refused parts path Columns;
+    }
 
 abbrev pub index_below : Option (List ℕ) → ℕ → ℤ
 index_below None i = negsuc 0
@@ -158,17 +173,23 @@ rows_held None = None
 rows_held (Some k) = Some (shown_rows (view (told_in k.told) k.tree))
 
 abbrev pub shown : World → ℕ → ℕ → Role → Done
-shown w conn app (a_reader h) = only w (showed (number_of (party_at w.ends conn)) app (rows_held (holding_of app h.holds)) ∷ [])
+shown w conn app (a_reader h) =
+    only w (showed (number_of (party_at w.ends conn)) app (rows_held (holding_of app h.holds)) ∷ [])
 shown w conn app role = only w []
 
 -- The bus takes the first message of an up link, or an end
 abbrev pub bus_did : World → List Entry → Carried → Done
-bus_did w front c = record { world = record w { bus = all_told c.bus; ends = c.ends }; entries = front ++ bus_entries c.ends c.bus.own c.bus.closings }
+bus_did w front c =
+    record {
+      world = record w { bus = all_told c.bus; ends = c.ends };
+      entries = front ++ bus_entries c.ends c.bus.own c.bus.closings;
+    }
 
 abbrev pub routed : World → ℕ → Party → List Said → Done
 routed w conn who [] = only w []
 routed w conn who (said ∷ rest) =
-    bus_did w (got The_bus who said.message.serial ∷ []) (carrying.takes (record { bus = w.bus; ends = w.ends }) conn who said)
+    bus_did w (got The_bus who said.message.serial ∷ [])
+    (carrying.takes (record { bus = w.bus; ends = w.ends }) conn who said)
 
 abbrev pub ended : World → ℕ → Done
 ended w conn = bus_did w [] (carrying.takes_end (record { bus = w.bus; ends = w.ends }) conn)
@@ -196,7 +217,11 @@ took w conn letter who (a_reader h) =
 abbrev pub taken : World → ℕ → End → List Letter → Done
 taken w conn e [] = only w []
 taken w conn e (letter ∷ rest) =
-    took (record w { bus = without_bytes conn (missing letter.said.message e.down_moved) w.bus; ends = with_end conn taken_down w.ends })
+    took
+    (record w {
+      bus = without_bytes conn (missing letter.said.message e.down_moved) w.bus;
+      ends = with_end conn taken_down w.ends;
+    })
     conn letter e.who e.role
 
 -- what a cause does to its end

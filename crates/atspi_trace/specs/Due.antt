@@ -1,18 +1,20 @@
 -- Lawful traces, computed on a prefix: what must stand next.
-use Rattle.std.specs.Prelude.{◌≡◌, ◌⊎◌, ℕ, zero, suc, Bool, true, false, List, [], ◌∷◌, ◌++◌, length, Option, None, Some, if◌then◌else◌}
+use Rattle.std.specs.Prelude.{◌≡◌, ◌⊎◌, ℕ, zero, suc, Bool, true, false, List, [], ◌∷◌, ◌++◌, length, Option, None}
+use Rattle.std.specs.Prelude.{Some, if◌then◌else◌}
 use Rattle.std.specs.List.{list_all, AllByRecursion}
-use Rattle.atspi_forest.specs.Forest.{Forest, labels}
-use Rattle.atspi_forest.specs.Row.{TreeRow}
-use Rattle.atspi_forest.specs.View.{view}
-use Rattle.atspi_lines.specs.declared.limits.TheConstants.{QUOTA_MOST}
-use Rattle.atspi_lines.specs.declared.line.Line.{Line}
-use Rattle.atspi_lines.specs.declared.line.Party.TheVariants.{Reader}
+use Rattle.atspi_tree_model.specs.Forest.{Forest, labels}
+use Rattle.atspi_tree_model.specs.Row.{TreeRow}
+use Rattle.atspi_tree_model.specs.View.{view}
+use Rattle.atspi_script_lines.specs.declared.limits.TheConstants.{QUOTA_MOST}
+use Rattle.atspi_script_lines.specs.declared.line.Line.{Line}
+use Rattle.atspi_script_lines.specs.declared.line.Party.TheVariants.{Reader}
 use Rattle.atspi_message.specs.Envelope.{Envelope}
 use Rattle.atspi_protocol.specs.declared.following.question.Question.{Question}
 use Rattle.atspi_protocol.specs.following.Calls.{asking}
 use Rattle.atspi_protocol.specs.following.Wishes.{unknown_parts}
 use Rattle.atspi_trace.specs.Entry.{Entry, sent, quiet}
-use Rattle.atspi_trace.specs.World.{Standing, here, Holding, Hearer, Role, an_application, a_reader, End, World, first_world}
+use Rattle.atspi_trace.specs.World.{Standing, here, Holding, Hearer, Role, an_application, a_reader, End, World}
+use Rattle.atspi_trace.specs.World.{first_world}
 use Rattle.atspi_trace.specs.Ends.{is_here, end_at, number_of}
 use Rattle.atspi_trace.specs.Hearing.{holding_of, is_answered, may_ask, question_in}
 use Rattle.atspi_trace.specs.Causes.{Cause, gets, Done, does, at_end, asks, reader_sends, told_in}
@@ -44,7 +46,8 @@ abbrev pub went : (World → Work → Progress) → Next → Progress
 went go (rests w) = rested w
 went go (cause c w work) = done go (does w c) (freed c) work
 
--- of the causes that write nothing each but one takes an end that said no Hello, so no more of them follow one another than there are ends
+-- of the causes that write nothing each but one takes an end that said no Hello, so no more of them follow one another
+-- than there are ends
 abbrev pub progress : ℕ → World → Work → Progress
 progress zero w work = rested w
 progress (suc n) w work = went (λ v rest. progress n v rest) (next_of w work)
@@ -52,8 +55,9 @@ progress (suc n) w work = went (λ v rest. progress n v rest) (next_of w work)
 abbrev pub bound : World → ℕ
 bound w = suc (suc (length w.ends))
 
--- The world; what the last cause did and is yet to be written; the connection that may send a call of its own; what is left of the line at
--- work, and of the script; and the worlds at the ends of the lines that were passed since the last entry
+-- The world; what the last cause did and is yet to be written; the connection that may send a call of its own; what is
+-- left of the line at work, and of the script; and the worlds at the ends of the lines that were passed since the last
+-- entry
 pub record Scene : Type 0 where
   pub world : World
   pub owing : List Entry
@@ -63,11 +67,13 @@ pub record Scene : Type 0 where
   pub passed : List World
 
 abbrev pub begins : List Line → Scene
-begins lines = record { world = first_world QUOTA_MOST; owing = []; free = None; work = resting; left = lines; passed = [] }
+begins lines =
+    record { world = first_world QUOTA_MOST; owing = []; free = None; work = resting; left = lines; passed = [] }
 
 -- the scene with what a line wrote; the next line, where it wrote nothing
 abbrev pub scene_of : Progress → List World → List Line → Scene
-scene_of p passed lines = record { world = p.world; owing = p.owing; free = p.free; work = p.work; left = lines; passed = passed }
+scene_of p passed lines =
+    record { world = p.world; owing = p.owing; free = p.free; work = p.work; left = lines; passed = passed }
 
 abbrev pub line_done : (World → List World → Scene) → List World → List Line → Progress → List Entry → Scene
 line_done next passed lines p [] = next p.world (passed ++ p.world ∷ [])
@@ -160,8 +166,8 @@ abbrev pub after_all : Scene → List Entry → Scene
 after_all s [] = s
 after_all s (entry ∷ entries) = after_all (happens s entry) entries
 
--- A reader's own call: nothing is owed, the reader just took a message, each earlier own call of it was answered; the message is that of a
--- question which it may ask, with its next serial
+-- A reader's own call: nothing is owed, the reader just took a message, each earlier own call of it was answered; the
+-- message is that of a question which it may ask, with its next serial
 pub record IsOwnCall (s : Scene) (r : ℕ) (e : Envelope) : Type 0 where
   pub conn : ℕ
   pub asker : End

@@ -1,8 +1,9 @@
 -- Ends by their numbers and names.
-use Rattle.std.specs.Prelude.{ℕ, zero, suc, ◌==◌, Bool, true, false, List, [], ◌∷◌, ◌++◌, length, filter, position, Option, None, Some, slice_get, bytes_eq, if◌then◌else◌}
-use Rattle.atspi_forest.specs.Forest.{nil, first_of}
-use Rattle.atspi_lines.specs.declared.line.Party.{Party}
-use Rattle.atspi_lines.specs.declared.line.Party.TheVariants.{Bus as The_bus, Registry, App, Reader}
+use Rattle.std.specs.Prelude.{ℕ, zero, suc, ◌==◌, Bool, true, false, List, [], ◌∷◌, ◌++◌, length, filter, position}
+use Rattle.std.specs.Prelude.{Option, None, Some, slice_get, bytes_eq, if◌then◌else◌}
+use Rattle.atspi_tree_model.specs.Forest.{nil, first_of}
+use Rattle.atspi_script_lines.specs.declared.line.Party.{Party}
+use Rattle.atspi_script_lines.specs.declared.line.Party.TheVariants.{Bus as The_bus, Registry, App, Reader}
 use Rattle.atspi_message.specs.Envelope.{Envelope}
 use Rattle.atspi_trace.specs.World.{Standing, here, stopped, away, Said, Letter, End}
 

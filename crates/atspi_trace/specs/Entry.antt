@@ -1,16 +1,18 @@
 -- The entries of a trace as its laws see them: its events, each message apart from where it lies in memory.
 use Rattle.std.specs.Prelude.{ℕ, List, map, Option}
-use Rattle.atspi_forest.specs.declared.step.Step.{Step}
-use Rattle.atspi_lines.specs.declared.line.Party.{Party}
+use Rattle.atspi_tree_model.specs.declared.step.Step.{Step}
+use Rattle.atspi_script_lines.specs.declared.line.Party.{Party}
 use Rattle.atspi_message.specs.Envelope.{Envelope, envelope_of}
-use Rattle.atspi_events.specs.declared.shown.ShownRow.{ShownRow}
-use Rattle.atspi_events.specs.declared.event.Event.{Event}
-use Rattle.atspi_events.specs.declared.event.Event.TheVariants.{Start, Step as Stepped, Sent, Got, Hears, Deaf, Say, Show, Exit, Gone, Dropped, Busy, Quiet}
+use Rattle.atspi_trace_events.specs.declared.shown.ShownRow.{ShownRow}
+use Rattle.atspi_trace_events.specs.declared.event.Event.{Event}
+use Rattle.atspi_trace_events.specs.declared.event.Event.TheVariants.{Start, Step as Stepped, Sent, Got, Hears, Deaf}
+use Rattle.atspi_trace_events.specs.declared.event.Event.TheVariants.{Say, Show, Exit, Gone, Dropped, Busy, Quiet}
 
--- A start, with the root's name of an application; a step of an application's tree; a message that was sent; one that was taken, with its
--- sender and serial; a listener's pattern that an application counts from now on, or no longer; a spoken line; what a reader shows of an
--- application; an end that stopped; the news of an application's end, as a reader took it; an end that was dropped, with the bytes that
--- waited for it and those of the message that was too much; that so many turns were made and something waits; that nothing waits
+-- A start, with the root's name of an application; a step of an application's tree; a message that was sent; one that
+-- was taken, with its sender and serial; a listener's pattern that an application counts from now on, or no longer; a
+-- spoken line; what a reader shows of an application; an end that stopped; the news of an application's end, as a
+-- reader took it; an end that was dropped, with the bytes that waited for it and those of the message that was too
+-- much; that so many turns were made and something waits; that nothing waits
 pub data Entry : Type 0 where
   started : Party → Option (List ℕ) → Entry
   changed : ℕ → Step → Entry

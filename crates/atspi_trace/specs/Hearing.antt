@@ -1,22 +1,24 @@
 -- A reader as the laws of a trace see it: which of its own calls were answered, what it holds, and what it must speak.
-use Rattle.std.specs.Prelude.{ℕ, ◌==◌, ◌&&◌, not, Bool, true, false, List, [], ◌∷◌, ◌++◌, map, filter, Option, None, Some, bytes_eq, codes, if◌then◌else◌}
+use Rattle.std.specs.Prelude.{ℕ, ◌==◌, ◌&&◌, not, Bool, true, false, List, [], ◌∷◌, ◌++◌, map, filter, Option, None}
+use Rattle.std.specs.Prelude.{Some, bytes_eq, codes, if◌then◌else◌}
 use Rattle.std.specs.List.{list_any, list_all}
 use Rattle.atspi_types.specs.Data.{Data, text_data}
 use Rattle.atspi_base.specs.valid_names.Names.{is_bus_name, is_path}
-use Rattle.atspi_forest.specs.declared.step.Step.{Step}
-use Rattle.atspi_lines.specs.declared.line.Party.{Party}
-use Rattle.atspi_lines.specs.declared.line.Party.TheVariants.{Bus as The_bus, App}
+use Rattle.atspi_tree_model.specs.declared.step.Step.{Step}
+use Rattle.atspi_script_lines.specs.declared.line.Party.{Party}
+use Rattle.atspi_script_lines.specs.declared.line.Party.TheVariants.{Bus as The_bus, App}
 use Rattle.atspi_message.specs.Envelope.{Envelope}
 use Rattle.atspi_match.specs.routing.Routing.{is_reply}
 use Rattle.atspi_match.specs.routing.Answers.{first_text}
 use Rattle.atspi_speech.specs.Speech.{says_after, closing_says}
 use Rattle.atspi_protocol.specs.declared.news.part.PartName.{PartName}
 use Rattle.atspi_protocol.specs.declared.news.part.PartName.TheVariants.{Text, Caret, Columns}
-use Rattle.atspi_forest.specs.declared.news.Reference.{Reference}
+use Rattle.atspi_tree_model.specs.declared.news.Reference.{Reference}
 use Rattle.atspi_protocol.specs.news.NewsOf.{or_empty}
 use Rattle.atspi_protocol.specs.news.Replies.{elements_of}
 use Rattle.atspi_protocol.specs.declared.following.question.Question.{Question}
-use Rattle.atspi_protocol.specs.declared.following.question.Question.TheVariants.{Hello, AddMatch, RegisterEvent, GetChildren, GetItems, GetPart}
+use Rattle.atspi_protocol.specs.declared.following.question.Question.TheVariants.{Hello, AddMatch, RegisterEvent}
+use Rattle.atspi_protocol.specs.declared.following.question.Question.TheVariants.{GetChildren, GetItems, GetPart}
 use Rattle.atspi_protocol.specs.following.ReaderState.{start_calls, begins}
 use Rattle.atspi_protocol.specs.following.Known.{told_end, references_among, new_child}
 use Rattle.atspi_protocol.specs.following.Replied.{is_reply_to}
@@ -34,7 +36,8 @@ answered_by e a = if is_reply e && is_reply_to a.serial e.reply then record a { 
 -- the question that a return answers
 abbrev pub question_returned : Envelope → List Asked → Option Question
 question_returned e [] = None
-question_returned e (a ∷ asked) = if e.kind == 2 && is_reply_to a.serial e.reply then Some a.question else question_returned e asked
+question_returned e (a ∷ asked) = if e.kind == 2 && is_reply_to a.serial e.reply then Some a.question
+    else question_returned e asked
 
 -- what is held of an application
 abbrev pub is_of : ℕ → Holding → Bool
@@ -49,7 +52,8 @@ without app ks = filter (λ k. not (is_of app k)) ks
 
 -- all was told: the tree as of this message, no part of it
 abbrev pub loaded : ℕ → Said → List Holding → List Holding
-loaded app said ks = without app ks ++ record { app = app; tree = said.tree; last = said.message.serial; told = [] } ∷ []
+loaded app said ks = without app ks ++ record { app = app; tree = said.tree; last = said.message.serial; told = [] }
+    ∷ []
 
 -- the last message taken is this one, and it told these parts
 abbrev pub noted : Said → List (List ℕ × PartName) → Holding → Holding
@@ -89,8 +93,8 @@ holds_of h ends letter = by letter.from
     by (App app) = holds_after app letter.said (question_returned letter.said.message h.asked) h.holds
     by who = without_ended (app_ended ends letter) h.holds
 
--- The bus names that a message tells as those of applications: those of the registry's children in a return, and behind it that of each child of
--- which whoever sent the return tells that it was added
+-- The bus names that a message tells as those of applications: those of the registry's children in a return, and behind
+-- it that of each child of which whoever sent the return tells that it was added
 abbrev pub child_name : Option Reference → List (List ℕ)
 child_name None = []
 child_name (Some root) = root.bus ∷ []
@@ -107,10 +111,15 @@ abbrev pub hears_letter : Hearer → List End → Letter → Hearer
 hears_letter h ends letter =
     let e = letter.said.message in
     let answered = question_returned e h.asked in
-    record h { asked = map (answered_by e) h.asked; registry = registry_after h e answered; named = h.named ++ names_told h e answered; holds = holds_of h ends letter }
+    record h {
+      asked = map (answered_by e) h.asked;
+      registry = registry_after h e answered;
+      named = h.named ++ names_told h e answered;
+      holds = holds_of h ends letter;
+    }
 
--- What it speaks at an application's message: where it holds the application and the message announces a step, the lines of that step,
--- read from the tree as of the message
+-- What it speaks at an application's message: where it holds the application and the message announces a step, the
+-- lines of that step, read from the tree as of the message
 abbrev pub step_lines : Said → Option Step → List (List ℕ)
 step_lines said None = []
 step_lines said (Some step) = says_after said.tree step
@@ -136,8 +145,9 @@ heard_entries r h ends letter = by letter.from
     by (App app) = map (spoke r app) (lines_if_held (holding_of app h.holds) letter.said)
     by who = ended_entries r h (app_ended ends letter)
 
--- The own calls that it may send: one of its start at any time; one for a part; and one for all items of an application that it was told of, once the
--- rules and patterns of its start were returned, so that it misses nothing behind the items
+-- The own calls that it may send: one of its start at any time; one for a part; and one for all items of an application
+-- that it was told of, once the rules and patterns of its start were returned, so that it misses nothing behind the
+-- items
 abbrev pub is_answered : Asked → Bool
 is_answered a = by a.fate
   where
@@ -155,7 +165,8 @@ registers pattern (RegisterEvent other) returned = bytes_eq other pattern
 registers pattern question fate = false
 
 abbrev pub is_registered : List Asked → Bool
-is_registered asked = list_all (λ pattern. list_any (λ (a : Asked). registers pattern a.question a.fate) asked) (patterns_in start_calls)
+is_registered asked =
+    list_all (λ pattern. list_any (λ (a : Asked). registers pattern a.question a.fate) asked) (patterns_in start_calls)
 
 abbrev pub rules_in : List Question → List (List ℕ)
 rules_in [] = []
@@ -167,14 +178,16 @@ listens rule (AddMatch other) returned = bytes_eq other rule
 listens rule question fate = false
 
 abbrev pub is_listening : List Asked → Bool
-is_listening asked = list_all (λ rule. list_any (λ (a : Asked). listens rule a.question a.fate) asked) (rules_in start_calls)
+is_listening asked =
+    list_all (λ rule. list_any (λ (a : Asked). listens rule a.question a.fate) asked) (rules_in start_calls)
 
 abbrev pub may_ask : Hearer → Question → Bool
 may_ask h Hello = true
 may_ask h (AddMatch rule) = list_any (bytes_eq rule) (rules_in start_calls)
 may_ask h (RegisterEvent pattern) = list_any (bytes_eq pattern) (patterns_in start_calls)
 may_ask h GetChildren = true
-may_ask h (GetItems name) = is_bus_name name && (is_listening h.asked && (is_registered h.asked && list_any (bytes_eq name) h.named))
+may_ask h (GetItems name) = is_bus_name name
+    && (is_listening h.asked && (is_registered h.asked && list_any (bytes_eq name) h.named))
 may_ask h (GetPart name path part) = is_bus_name name && is_path path
 
 -- The question of a message that has the form of an own call

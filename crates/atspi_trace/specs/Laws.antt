@@ -1,7 +1,7 @@
 -- What holds of links, rules and lines at work.
 use Rattle.std.specs.Prelude.{◌≡◌, ℕ, List}
 use Rattle.std.specs.List.{AllByRecursion}
-use Rattle.atspi_lines.specs.declared.line.Party.{Party}
+use Rattle.atspi_script_lines.specs.declared.line.Party.{Party}
 use Rattle.atspi_match.specs.Grammar.{IsRuleText}
 use Rattle.atspi_match.specs.Printed.{printed}
 use Rattle.atspi_match.specs.routing.Queues as queues
@@ -14,7 +14,8 @@ use Rattle.atspi_trace.specs.Works.{Works}
 
 -- The bus of a trace is the bus of its own definitions: with a message of an end, and where an end leaves
 pub record LinksFollowQueues : Type 0 where
-  pub taken : (c : Carried) (conn : ℕ) (who : Party) (said : Said) → (takes c conn who said).bus ≡ queues.takes c.bus conn said.message (rule_in said.message)
+  pub taken : (c : Carried) (conn : ℕ) (who : Party) (said : Said)
+      → (takes c conn who said).bus ≡ queues.takes c.bus conn said.message (rule_in said.message)
   pub ended : (c : Carried) (conn : ℕ) → (takes_end c conn).bus ≡ queues.leaves c.bus conn
 
 -- each rule that an end asks for is what its text spells
@@ -23,4 +24,5 @@ RulesAreRead = AllByRecursion (λ rule. IsRuleText (printed rule) rule) rules_as
 
 -- what is left of a line at work is done in one way: the same entries, and the same world at rest
 abbrev pub WorksOneWay : Type 0
-WorksOneWay = (w u v : World) (work : Work) (es fs : List Entry) → Works w work es u → Works w work fs v → (es ≡ fs) × (u ≡ v)
+WorksOneWay = (w u v : World) (work : Work) (es fs : List Entry) → Works w work es u → Works w work fs v
+    → (es ≡ fs) × (u ≡ v)

@@ -1,4 +1,5 @@
--- The match rules that the ends of a world ask the bus for. The grammar of rules is a relation; of these four texts it is a table.
+-- The match rules that the ends of a world ask the bus for. The grammar of rules is a relation; of these four texts it
+-- is a table.
 use Rattle.std.specs.Prelude.{ℕ, List, [], ◌∷◌, Option, None, Some, codes, bytes_eq, encode_utf8_all, if◌then◌else◌}
 use Rattle.atspi_match.specs.declared.condition.Condition.{Condition}
 use Rattle.atspi_match.specs.declared.condition.Condition.TheVariants.{Kind, Sender, Interface, Member}
@@ -14,7 +15,8 @@ use Rattle.atspi_match.specs.routing.Answers.{first_text}
 abbrev pub registry_rule : List Condition
 registry_rule = Kind Signal ∷ Sender registry ∷ Interface registry ∷ []
 
--- the news of owners, the signals of caches and those of objects, that a reader asks for; the registry asks for the first
+-- the news of owners, the signals of caches and those of objects, that a reader asks for; the registry asks for the
+-- first
 abbrev pub owner_rule : List Condition
 owner_rule = Kind Signal ∷ Interface bus ∷ Member (codes "NameOwnerChanged") ∷ []
 

@@ -1,25 +1,30 @@
 -- The lines of a script: why one is refused, and what is left of one at work.
-use Rattle.std.specs.Prelude.{ℕ, zero, suc, ◌+◌, ◌-◌, nat_le, nat_lt, Bool, true, false, List, [], ◌∷◌, length, Option, None, Some, Result, Ok, Err, if◌then◌else◌}
-use Rattle.atspi_forest.specs.declared.edit.Edit.{Edit}
-use Rattle.atspi_forest.specs.declared.edit.EditFault.{EditFault}
-use Rattle.atspi_forest.specs.declared.edit.EditFault.TheVariants.{TextFull}
-use Rattle.atspi_forest.specs.Edits.{is_long_name}
-use Rattle.atspi_forest.specs.Forest.{first_of}
-use Rattle.atspi_lines.specs.declared.limits.TheConstants.{APP_COUNT, READER_COUNT}
-use Rattle.atspi_lines.specs.declared.line.Line.{Line}
-use Rattle.atspi_lines.specs.declared.line.Line.TheVariants.{Blank, Quota, App as App_line, Reader as Reader_line, Edit as Edit_line, Call, Swap, Exit, Leave, Bytes, Turns, Drain, Show}
-use Rattle.atspi_lines.specs.declared.line.Party.TheVariants.{App, Reader}
+use Rattle.std.specs.Prelude.{ℕ, zero, suc, ◌+◌, ◌-◌, nat_le, nat_lt, Bool, true, false, List, [], ◌∷◌, length, Option}
+use Rattle.std.specs.Prelude.{None, Some, Result, Ok, Err, if◌then◌else◌}
+use Rattle.atspi_tree_model.specs.declared.edit.Edit.{Edit}
+use Rattle.atspi_tree_model.specs.declared.edit.EditFault.{EditFault}
+use Rattle.atspi_tree_model.specs.declared.edit.EditFault.TheVariants.{TextFull}
+use Rattle.atspi_tree_model.specs.Edits.{is_long_name}
+use Rattle.atspi_tree_model.specs.Forest.{first_of}
+use Rattle.atspi_script_lines.specs.declared.limits.TheConstants.{APP_COUNT, READER_COUNT}
+use Rattle.atspi_script_lines.specs.declared.line.Line.{Line}
+use Rattle.atspi_script_lines.specs.declared.line.Line.TheVariants.{Blank, Quota, App as App_line}
+use Rattle.atspi_script_lines.specs.declared.line.Line.TheVariants.{Reader as Reader_line, Edit as Edit_line, Call}
+use Rattle.atspi_script_lines.specs.declared.line.Line.TheVariants.{Swap, Exit, Leave, Bytes, Turns, Drain, Show}
+use Rattle.atspi_script_lines.specs.declared.line.Party.TheVariants.{App, Reader}
 use Rattle.atspi_protocol.specs.exporting.Exporter.{Exporter}
 use Rattle.atspi_protocol.specs.exporting.Starting.{name_or_empty}
 use Rattle.atspi_protocol.specs.exporting.Taking.{app_edits}
-use Rattle.atspi_trace.specs.World.{Standing, here, stopped, Holding, Role, an_application, a_reader, Said, Letter, End, World}
+use Rattle.atspi_trace.specs.World.{Standing, here, stopped, Holding, Role, an_application, a_reader, Said, Letter, End}
+use Rattle.atspi_trace.specs.World.{World}
 use Rattle.atspi_trace.specs.Ends.{is_here, conn_of, end_of, end_at, with_end, app_count, reader_count}
 use Rattle.atspi_trace.specs.Hearing.{holding_of}
-use Rattle.atspi_trace.specs.Causes.{Cause, renews, starts_app, starts_reader, edits, calls, swaps_face, exits, shows, tells_busy, tells_quiet, routes, unjoins, gets, missing, without_bytes}
+use Rattle.atspi_trace.specs.Causes.{Cause, renews, starts_app, starts_reader, edits, calls, swaps_face, exits, shows}
+use Rattle.atspi_trace.specs.Causes.{tells_busy, tells_quiet, routes, unjoins, gets, missing, without_bytes}
 
--- Why a line is refused, in the order in which it is looked for: a party that was not started; one that stopped; all applications, all
--- readers, all spare faces that a script has are used; a quota behind a start; an application that the reader does not hold; an edit that
--- is refused
+-- Why a line is refused, in the order in which it is looked for: a party that was not started; one that stopped; all
+-- applications, all readers, all spare faces that a script has are used; a quota behind a start; an application that
+-- the reader does not hold; an edit that is refused
 pub data Refusal : Type 0 where
   no_party : Refusal
   dead : Refusal
@@ -70,22 +75,26 @@ call_refusal app role = None
 abbrev pub refused : World → Line → Option Refusal
 refused w Blank = None
 refused w (Quota quota) = refusal_if (nat_lt 1 (length w.ends)) late
-refused w (App_line name) = first_of (refusal_if (nat_le APP_COUNT (app_count w.ends)) no_kit) (refusal_if (is_long_name name) (of_edit TextFull))
+refused w (App_line name) =
+    first_of (refusal_if (nat_le APP_COUNT (app_count w.ends)) no_kit)
+    (refusal_if (is_long_name name) (of_edit TextFull))
 refused w Reader_line = refusal_if (nat_le READER_COUNT (reader_count w.ends)) no_reader
 refused w (Edit_line app edit) = if_started (end_of w.ends (App app)) (λ e. if_here e (λ a. edit_refusal edit a.role))
 refused w (Call reader app node deed) =
     if_started (end_of w.ends (Reader reader))
     (λ r. if_started (end_of w.ends (App app)) (λ a. if_here r (λ caller. call_refusal app caller.role)))
-refused w (Swap app) = if_started (end_of w.ends (App app)) (λ e. if_here e (λ a. refusal_if (nat_le spare_count w.swaps) no_spare))
+refused w (Swap app) =
+    if_started (end_of w.ends (App app)) (λ e. if_here e (λ a. refusal_if (nat_le spare_count w.swaps) no_spare))
 refused w (Exit app) = if_started (end_of w.ends (App app)) (λ e. if_here e no_more)
 refused w (Leave reader) = if_started (end_of w.ends (Reader reader)) (λ e. if_here e no_more)
 refused w (Bytes who up count) = if_started (end_of w.ends who) no_more
 refused w (Turns count) = None
 refused w Drain = None
-refused w (Show reader app) = if_started (end_of w.ends (Reader reader)) (λ r. if_started (end_of w.ends (App app)) no_more)
+refused w (Show reader app) =
+    if_started (end_of w.ends (Reader reader)) (λ r. if_started (end_of w.ends (App app)) no_more)
 
--- What is left of a line: nothing; one cause; so many bytes of an end's up link, or of its down link; so many turns of so many; turns until
--- nothing waits
+-- What is left of a line: nothing; one cause; so many bytes of an end's up link, or of its down link; so many turns of
+-- so many; turns until nothing waits
 pub data Work : Type 0 where
   resting : Work
   doing : Cause → Work
@@ -113,7 +122,8 @@ work_of w (App_line name) = doing (starts_app name)
 work_of w Reader_line = doing starts_reader
 work_of w (Edit_line app edit) = with_conn (conn_of w.ends (App app)) (λ conn. doing (edits conn edit))
 work_of w (Call reader app node deed) =
-    with_conn (conn_of w.ends (Reader reader)) (λ conn. doing (calls conn (name_of (end_of w.ends (App app))) node deed))
+    with_conn (conn_of w.ends (Reader reader))
+    (λ conn. doing (calls conn (name_of (end_of w.ends (App app))) node deed))
 work_of w (Swap app) = doing swaps_face
 work_of w (Exit app) = with_conn (conn_of w.ends (App app)) (λ conn. doing (exits conn))
 work_of w (Leave reader) = with_conn (conn_of w.ends (Reader reader)) (λ conn. doing (exits conn))
@@ -143,7 +153,8 @@ first_down conn (e ∷ es) = first_of (down_turn conn e.standing e.down) (first_
 abbrev pub next_turn : World → Option Cause
 next_turn w = first_of (first_up 0 w.ends) (first_down 0 w.ends)
 
--- What is next of a line: a cause, in the world with the bytes moved so far, and what is left behind it; or the line is done
+-- What is next of a line: a cause, in the world with the bytes moved so far, and what is left behind it; or the line is
+-- done
 pub data Next : Type 0 where
   cause : Cause → World → Work → Next
   rests : World → Next
@@ -192,6 +203,7 @@ abbrev pub next_of : World → Work → Next
 next_of w resting = rests w
 next_of w (doing c) = cause c w resting
 next_of w (moving_up conn count) = of_end w (end_at w.ends conn) (λ e. next_up w conn count e.standing e.up_moved e.up)
-next_of w (moving_down conn count) = of_end w (end_at w.ends conn) (λ e. next_down w conn count e.standing e.down_moved e.down)
+next_of w (moving_down conn count) =
+    of_end w (end_at w.ends conn) (λ e. next_down w conn count e.standing e.down_moved e.down)
 next_of w (turning count left) = next_of_turns w count left (next_turn w)
 next_of w draining = next_of_drain w (next_turn w)

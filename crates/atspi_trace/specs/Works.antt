@@ -8,5 +8,6 @@ use Rattle.atspi_trace.specs.Work.{Work, cause, rests, next_of}
 -- from a world with what is left of its line these entries are written, and then all rests in a world
 pub data Works : World → Work → List Entry → World → Type 0 where
   at_rest : (w v : World) (work : Work) → next_of w work ≡ rests v → Works w work [] v
-  caused : (w v u : World) (work left : Work) (c : Cause) (entries : List Entry) → next_of w work ≡ cause c v left → Works (does v c).world left entries u
+  caused : (w v u : World) (work left : Work) (c : Cause) (entries : List Entry) → next_of w work ≡ cause c v left
+      → Works (does v c).world left entries u
       → Works w work ((does v c).entries ++ entries) u

@@ -1,11 +1,11 @@
 -- The world as the laws of a trace see it: the bus, and each end with its two links.
 use Rattle.std.specs.Prelude.{ℕ, List, [], ◌∷◌, Option, None, Some, codes}
 use Rattle.std.specs.FinMap as finmap
-use Rattle.atspi_forest.specs.declared.step.Step.{Step}
-use Rattle.atspi_forest.specs.Forest.{Forest}
-use Rattle.atspi_forest.specs.Row.{TreeRow}
-use Rattle.atspi_lines.specs.declared.line.Party.{Party}
-use Rattle.atspi_lines.specs.declared.line.Party.TheVariants.{Registry}
+use Rattle.atspi_tree_model.specs.declared.step.Step.{Step}
+use Rattle.atspi_tree_model.specs.Forest.{Forest}
+use Rattle.atspi_tree_model.specs.Row.{TreeRow}
+use Rattle.atspi_script_lines.specs.declared.line.Party.{Party}
+use Rattle.atspi_script_lines.specs.declared.line.Party.TheVariants.{Registry}
 use Rattle.atspi_message.specs.Envelope.{Envelope}
 use Rattle.atspi_names.specs.Owners.{Owners}
 use Rattle.atspi_protocol.specs.ends.Places.{registry}
@@ -33,16 +33,17 @@ pub record Asked : Type 0 where
   pub question : Question
   pub fate : Fate
 
--- What a reader has of an application that it holds: the application's tree as of the last message taken from it, the serial of that
--- message, and the parts, by their row's path, that it was told since the last load
+-- What a reader has of an application that it holds: the application's tree as of the last message taken from it, the
+-- serial of that message, and the parts, by their row's path, that it was told since the last load
 pub record Holding : Type 0 where
   pub app : ℕ
   pub tree : Forest TreeRow
   pub last : ℕ
   pub told : List (List ℕ × PartName)
 
--- A reader as the laws of a trace see it, whatever it does with a message: its own calls so far, the oldest first; the serial of its next
--- message; who answered its call for the registry's children, and the bus names that it was told as those of applications; and what it holds
+-- A reader as the laws of a trace see it, whatever it does with a message: its own calls so far, the oldest first; the
+-- serial of its next message; who answered its call for the registry's children, and the bus names that it was told as
+-- those of applications; and what it holds
 pub record Hearer : Type 0 where
   pub asked : List Asked
   pub next : ℕ
@@ -66,8 +67,8 @@ pub record Letter : Type 0 where
   pub from : Party
   pub said : Said
 
--- An end: its unique name, once the bus gave it; its up link to the bus and its down link from it, the oldest message first, each with the
--- number of bytes of that message that were moved
+-- An end: its unique name, once the bus gave it; its up link to the bus and its down link from it, the oldest message
+-- first, each with the number of bytes of that message that were moved
 pub record End : Type 0 where
   pub who : Party
   pub standing : Standing
@@ -78,7 +79,8 @@ pub record End : Type 0 where
   pub down : List Letter
   pub down_moved : ℕ
 
--- The bus with its queues of bytes; the ends in order of joining, each at the place that is its connection's number; the swaps done
+-- The bus with its queues of bytes; the ends in order of joining, each at the place that is its connection's number;
+-- the swaps done
 pub record World : Type 0 where
   pub bus : Bus
   pub ends : List End
@@ -108,10 +110,13 @@ first_bus quota = record {
 
 -- an end that just joined, and the registry behind its start
 abbrev pub newcomer : Party → Role → End
-newcomer who role = record { who = who; standing = here; unique = None; role = role; up = []; up_moved = 0; down = []; down_moved = 0 }
+newcomer who role =
+    record { who = who; standing = here; unique = None; role = role; up = []; up_moved = 0; down = []; down_moved = 0 }
 
 abbrev pub first_registry : End
-first_registry = record (newcomer Registry (the_registry (record begins { hello = Some 1; own = Some (codes ":1.0"); next = 4 }))) { unique = Some (codes ":1.0") }
+first_registry =
+    record (newcomer Registry (the_registry (record begins { hello = Some 1; own = Some (codes ":1.0"); next = 4 })))
+    { unique = Some (codes ":1.0") }
 
 abbrev pub first_world : ℕ → World
 first_world quota = record { bus = first_bus quota; ends = first_registry ∷ []; swaps = 0 }

@@ -3,17 +3,17 @@ use Rattle.std.proofs.Common.{◌≡◌, ◌≢◌, ◌==◌, ℕ, zero, suc, �
 use Rattle.std.specs.Prelude.{is_some}
 use Rattle.std.specs.List.{slice_get}
 use Rattle.std.proofs.lemmas.Bool.{eqb-true, eq-eqb, ne_eqb}
-use Rattle.atspi_forest.specs.declared.step.Step.TheVariants.{Remove}
-use Rattle.atspi_forest.specs.Edits.{is_among}
-use Rattle.atspi_forest.specs.Forest.{Forest, nil, tree, count, has, take_out, pick, join, children_at}
-use Rattle.atspi_forest.specs.Row.{ShapeRow}
-use Rattle.atspi_forest.specs.RowRules.{shapes, forgetting_shape}
-use Rattle.atspi_forest.specs.Tree.{IsRooted, Removes, is_shape, in_subtree, after}
-use Rattle.atspi_forest.proofs.Counts.{count-join, count-parts}
-use Rattle.atspi_forest.proofs.Found.{count-has, has-count, not_there}
-use Rattle.atspi_forest.proofs.Kept.{removed_is_tree}
-use Rattle.atspi_forest.proofs.Relabel.{count-relabel, has-relabel, relabel-pick}
-use Rattle.atspi_forest.proofs.RowRules.{shapes_sound}
+use Rattle.atspi_tree_model.specs.declared.step.Step.TheVariants.{Remove}
+use Rattle.atspi_tree_model.specs.Edits.{is_among}
+use Rattle.atspi_tree_model.specs.Forest.{Forest, nil, tree, count, has, take_out, pick, join, children_at}
+use Rattle.atspi_tree_model.specs.Row.{ShapeRow}
+use Rattle.atspi_tree_model.specs.RowRules.{shapes, forgetting_shape}
+use Rattle.atspi_tree_model.specs.Tree.{IsRooted, Removes, is_shape, in_subtree, after}
+use Rattle.atspi_tree_model.proofs.Counts.{count-join, count-parts}
+use Rattle.atspi_tree_model.proofs.Found.{count-has, has-count, not_there}
+use Rattle.atspi_tree_model.proofs.Kept.{removed_is_tree}
+use Rattle.atspi_tree_model.proofs.Relabel.{count-relabel, has-relabel, relabel-pick}
+use Rattle.atspi_tree_model.proofs.RowRules.{shapes_sound}
 use Rattle.atspi_tree.specs.declared.cell.Cell.{Cell}
 use Rattle.atspi_tree.specs.TreeShape.{TreeShape, IsLawful, StepApplies, after_step, numbers, children_of, parent_of}
 use Rattle.atspi_tree.specs.Table.{Kept, look_in, HoldsBelow}

@@ -3,9 +3,9 @@ use Rattle.std.proofs.Common.{◌≡◌, ℕ, zero, suc, ◌+◌, ◌≤◌, ◌
 use Rattle.std.specs.Prelude.{insert}
 use Rattle.std.proofs.lemmas.Bool.{eqb-true}
 use Rattle.std.proofs.lemmas.List.{append-nil}
-use Rattle.atspi_forest.specs.Forest.{Forest, nil, tree, count, has, find, place, children_at, first_of, grow, join, put_at, put_if, put_in, relabel, change}
-use Rattle.atspi_forest.specs.Row.{ShapeRow}
-use Rattle.atspi_forest.specs.Tree.{is_shape}
+use Rattle.atspi_tree_model.specs.Forest.{Forest, nil, tree, count, has, find, place, children_at, first_of, grow, join, put_at, put_if, put_in, relabel, change}
+use Rattle.atspi_tree_model.specs.Row.{ShapeRow}
+use Rattle.atspi_tree_model.specs.Tree.{is_shape}
 use Rattle.atspi_tree.specs.TreeShape.{numbers}
 use Rattle.atspi_tree.specs.Table.{Kept, HoldsBelow, row_or, children_or, row_by, children_by, with_child}
 

@@ -6,19 +6,19 @@ use Rattle.std.specs.Ordering.{nat_cmp}
 use Rattle.std.specs.List.{list_any}
 use Rattle.std.specs.BTreeMap.{is_at}
 use Rattle.std.proofs.lemmas.Bool.{eqb-true, eq-eqb, ne_eqb}
-use Rattle.atspi_forest.specs.declared.step.Step.TheVariants.{Remove}
-use Rattle.atspi_forest.specs.Forest.{Forest, nil, tree, count, has, find, take_out, pick, join, relabel, children_at}
-use Rattle.atspi_forest.specs.Map.{times}
-use Rattle.atspi_forest.specs.Row.{ShapeRow, Holds, without_targets}
-use Rattle.atspi_forest.specs.RowRules.{shapes, forgetting_shape}
-use Rattle.atspi_forest.specs.Tree.{IsTree, Removes, is_shape, in_subtree, after}
-use Rattle.atspi_forest.proofs.Counts.{count-parts}
-use Rattle.atspi_forest.proofs.Found.{count-has, has-count, find-has, find-passes}
-use Rattle.atspi_forest.proofs.Labels.{each_take_out}
-use Rattle.atspi_forest.proofs.Lookup.{each-find}
-use Rattle.atspi_forest.proofs.Maps.{tree_is_map}
-use Rattle.atspi_forest.proofs.Relabel.{count-relabel, relabel-same}
-use Rattle.atspi_forest.proofs.Seats.{pick-none, count-take_out}
+use Rattle.atspi_tree_model.specs.declared.step.Step.TheVariants.{Remove}
+use Rattle.atspi_tree_model.specs.Forest.{Forest, nil, tree, count, has, find, take_out, pick, join, relabel, children_at}
+use Rattle.atspi_tree_model.specs.Map.{times}
+use Rattle.atspi_tree_model.specs.Row.{ShapeRow, Holds, without_targets}
+use Rattle.atspi_tree_model.specs.RowRules.{shapes, forgetting_shape}
+use Rattle.atspi_tree_model.specs.Tree.{IsTree, Removes, is_shape, in_subtree, after}
+use Rattle.atspi_tree_model.proofs.Counts.{count-parts}
+use Rattle.atspi_tree_model.proofs.Found.{count-has, has-count, find-has, find-passes}
+use Rattle.atspi_tree_model.proofs.Labels.{each_take_out}
+use Rattle.atspi_tree_model.proofs.Lookup.{each-find}
+use Rattle.atspi_tree_model.proofs.Maps.{tree_is_map}
+use Rattle.atspi_tree_model.proofs.Relabel.{count-relabel, relabel-same}
+use Rattle.atspi_tree_model.proofs.Seats.{pick-none, count-take_out}
 use Rattle.atspi_tree.specs.declared.cell.Cell.{Cell}
 use Rattle.atspi_tree.specs.Namers.{Namers, notes, KeepsOthers, IsNoted, Covers}
 use Rattle.atspi_tree.specs.TreeShape.{TreeShape, numbers, children_of, parent_of}

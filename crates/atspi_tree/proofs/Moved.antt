@@ -2,11 +2,11 @@
 use Rattle.std.proofs.Common.{◌≡◌, ℕ, zero, suc, ◌+◌, ◌≤◌, ◌<◌, ◌==◌, Bool, true, false, cond, not, Option, Some, None, List, [], ◌∷◌, ◌++◌, take, drop, refl, sym, ap, ◌∙◌, subst, arith}
 use Rattle.std.specs.Prelude.{insert, length}
 use Rattle.std.proofs.lemmas.Bool.{eqb-true, eq-eqb, ne_eqb}
-use Rattle.atspi_forest.specs.Forest.{Forest, nil, tree, count, has, take_out, pick, join, put_at, put_if, put_in, children_at}
-use Rattle.atspi_forest.specs.Edits.{is_among}
-use Rattle.atspi_forest.specs.Row.{ShapeRow}
-use Rattle.atspi_forest.specs.Tree.{is_shape}
-use Rattle.atspi_forest.proofs.Found.{take_out-none, count-has, has-count}
+use Rattle.atspi_tree_model.specs.Forest.{Forest, nil, tree, count, has, take_out, pick, join, put_at, put_if, put_in, children_at}
+use Rattle.atspi_tree_model.specs.Edits.{is_among}
+use Rattle.atspi_tree_model.specs.Row.{ShapeRow}
+use Rattle.atspi_tree_model.specs.Tree.{is_shape}
+use Rattle.atspi_tree_model.proofs.Found.{take_out-none, count-has, has-count}
 use Rattle.atspi_tree.specs.TreeShape.{numbers}
 use Rattle.atspi_tree.specs.Table.{Kept, HoldsBelow, all_but, with_child, with_parent, without_child}
 use Rattle.atspi_tree.proofs.Held.{holds-join, holds-put_at, numbers-put_at, numbers-put_in}

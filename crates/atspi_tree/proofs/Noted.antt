@@ -5,16 +5,16 @@ use Rattle.std.specs.Ordering.{nat_cmp}
 use Rattle.std.specs.BTreeSet as set
 use Rattle.std.specs.BTreeSet.{BTreeSet}
 use Rattle.std.proofs.lemmas.Bool.{eqb-true}
-use Rattle.atspi_forest.specs.declared.step.Seed.{Seed}
-use Rattle.atspi_forest.specs.declared.step.Step.TheVariants.{Add, Move, Relate}
-use Rattle.atspi_forest.specs.Forest.{Forest, nil, tree, take_out, pick, relabel, change}
-use Rattle.atspi_forest.specs.Row.{ShapeRow, Each, with_targets, without_targets}
-use Rattle.atspi_forest.specs.RowRules.{shapes, first_shape, changed_shape, forgetting_shape, shape_targets}
-use Rattle.atspi_forest.specs.Tree.{IsTree, is_shape, after}
-use Rattle.atspi_forest.proofs.Found.{EachLabel-weaker, find-only, none_passes}
-use Rattle.atspi_forest.proofs.Labels.{each_both, each_put_in, each_take_out, each_pick, each_relabel, each_weaker}
-use Rattle.atspi_forest.proofs.RowRules.{shapes_sound}
-use Rattle.atspi_forest.proofs.Seats.{count-take_out}
+use Rattle.atspi_tree_model.specs.declared.step.Seed.{Seed}
+use Rattle.atspi_tree_model.specs.declared.step.Step.TheVariants.{Add, Move, Relate}
+use Rattle.atspi_tree_model.specs.Forest.{Forest, nil, tree, take_out, pick, relabel, change}
+use Rattle.atspi_tree_model.specs.Row.{ShapeRow, Each, with_targets, without_targets}
+use Rattle.atspi_tree_model.specs.RowRules.{shapes, first_shape, changed_shape, forgetting_shape, shape_targets}
+use Rattle.atspi_tree_model.specs.Tree.{IsTree, is_shape, after}
+use Rattle.atspi_tree_model.proofs.Found.{EachLabel-weaker, find-only, none_passes}
+use Rattle.atspi_tree_model.proofs.Labels.{each_both, each_put_in, each_take_out, each_pick, each_relabel, each_weaker}
+use Rattle.atspi_tree_model.proofs.RowRules.{shapes_sound}
+use Rattle.atspi_tree_model.proofs.Seats.{count-take_out}
 use Rattle.atspi_tree.specs.Namers.{Namers, notes, SameNotes, KeepsNotes, KeepsOthers, KeepsNamed, ForgetsTarget, IsNoted, Covers}
 use Rattle.atspi_tree.specs.TreeShape.{TreeShape, row_of}
 use Rattle.atspi_tree.proofs.Keys.{is_other}

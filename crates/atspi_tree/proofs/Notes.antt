@@ -8,8 +8,8 @@ use Rattle.std.specs.BTreeSet as set
 use Rattle.std.specs.BTreeSet.{BTreeSet}
 use Rattle.std.proofs.lemmas.Bool.Decides.{nat_tests}
 use Rattle.std.proofs.lemmas.List.{map_more}
-use Rattle.atspi_forest.specs.Row.{Each}
-use Rattle.atspi_forest.proofs.Labels.{each_weaker}
+use Rattle.atspi_tree_model.specs.Row.{Each}
+use Rattle.atspi_tree_model.proofs.Labels.{each_weaker}
 use Rattle.atspi_tree.specs.Namers.{Namers, notes, has_namer, is_pair, SetsNote, KeepsNotes, KeepsOthers, KeepsNamed}
 use Rattle.atspi_tree.proofs.Keys.{is_same, is_other}
 use Rattle.atspi_tree.proofs.Noted.{each_append}

@@ -4,7 +4,7 @@ use Rattle.std.specs.List.{slice_get}
 use Rattle.std.specs.Prelude.{IsSome}
 use Rattle.std.specs.Option.{option_to_list}
 use Rattle.std.proofs.lemmas.Bool.{eq-eqb}
-use Rattle.atspi_forest.specs.Map.{times}
+use Rattle.atspi_tree_model.specs.Map.{times}
 use Rattle.atspi_tree.specs.Table.{all_but}
 
 -- a list that has a last element is not empty

@@ -2,14 +2,14 @@
 use Rattle.std.proofs.Common.{◌≡◌, ℕ, zero, suc, ◌+◌, ◌≤◌, ◌==◌, Bool, true, false, cond, not, List, [], ◌∷◌, refl, sym, ap, ◌∙◌, arith}
 use Rattle.std.specs.Prelude.{◌||◌}
 use Rattle.std.proofs.lemmas.Bool.{eqb-true, eq-eqb, ne_eqb}
-use Rattle.atspi_forest.specs.declared.step.Step.TheVariants.{Remove}
-use Rattle.atspi_forest.specs.Forest.{Forest, nil, tree, count, has, take_out, pick, join, relabel}
-use Rattle.atspi_forest.specs.Row.{ShapeRow, without_targets}
-use Rattle.atspi_forest.specs.RowRules.{shapes, forgetting_shape}
-use Rattle.atspi_forest.specs.Tree.{is_shape, in_subtree, after}
-use Rattle.atspi_forest.proofs.Counts.{count-parts, count-join}
-use Rattle.atspi_forest.proofs.Found.{count-has, has-count}
-use Rattle.atspi_forest.proofs.Relabel.{relabel-take_out, relabel-pick, has-relabel, relabel-relabel, relabel-same}
+use Rattle.atspi_tree_model.specs.declared.step.Step.TheVariants.{Remove}
+use Rattle.atspi_tree_model.specs.Forest.{Forest, nil, tree, count, has, take_out, pick, join, relabel}
+use Rattle.atspi_tree_model.specs.Row.{ShapeRow, without_targets}
+use Rattle.atspi_tree_model.specs.RowRules.{shapes, forgetting_shape}
+use Rattle.atspi_tree_model.specs.Tree.{is_shape, in_subtree, after}
+use Rattle.atspi_tree_model.proofs.Counts.{count-parts, count-join}
+use Rattle.atspi_tree_model.proofs.Found.{count-has, has-count}
+use Rattle.atspi_tree_model.proofs.Relabel.{relabel-take_out, relabel-pick, has-relabel, relabel-relabel, relabel-same}
 
 module _ (n l : ℕ) (ne : (l == n) ≡ false) where
   -- no node is both

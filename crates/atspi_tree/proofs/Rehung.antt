@@ -3,17 +3,17 @@ use Rattle.std.proofs.Common.{◌≡◌, ℕ, ◌≤◌, ◌==◌, Bool, true, f
 use Rattle.std.specs.Prelude.{insert}
 use Rattle.std.specs.Option.{option_map}
 use Rattle.std.proofs.lemmas.Bool.{eqb-true, eq-eqb, ne_eqb}
-use Rattle.atspi_forest.specs.declared.step.Step.TheVariants.{Move}
-use Rattle.atspi_forest.specs.Edits.{is_among}
-use Rattle.atspi_forest.specs.Forest.{count, has, take_out, pick, children_at}
-use Rattle.atspi_forest.specs.Row.{ShapeRow, Holds}
-use Rattle.atspi_forest.specs.RowRules.{shapes}
-use Rattle.atspi_forest.specs.Tree.{is_shape, after, Moves}
-use Rattle.atspi_forest.proofs.Counts.{count-parts}
-use Rattle.atspi_forest.proofs.Found.{count-has, has-count}
-use Rattle.atspi_forest.proofs.Kept.{count-move}
-use Rattle.atspi_forest.proofs.RowRules.{shapes_sound}
-use Rattle.atspi_forest.proofs.Seats.{pick-one, count-take_out}
+use Rattle.atspi_tree_model.specs.declared.step.Step.TheVariants.{Move}
+use Rattle.atspi_tree_model.specs.Edits.{is_among}
+use Rattle.atspi_tree_model.specs.Forest.{count, has, take_out, pick, children_at}
+use Rattle.atspi_tree_model.specs.Row.{ShapeRow, Holds}
+use Rattle.atspi_tree_model.specs.RowRules.{shapes}
+use Rattle.atspi_tree_model.specs.Tree.{is_shape, after, Moves}
+use Rattle.atspi_tree_model.proofs.Counts.{count-parts}
+use Rattle.atspi_tree_model.proofs.Found.{count-has, has-count}
+use Rattle.atspi_tree_model.proofs.Kept.{count-move}
+use Rattle.atspi_tree_model.proofs.RowRules.{shapes_sound}
+use Rattle.atspi_tree_model.proofs.Seats.{pick-one, count-take_out}
 use Rattle.atspi_tree.specs.declared.cell.Cell.{Cell}
 use Rattle.atspi_tree.specs.TreeShape.{TreeShape, numbers, children_of, parent_of}
 use Rattle.atspi_tree.specs.Table.{Kept, look_in, IsHeld, ChangesAt, Relists, Rehangs, all_but, with_child, without_child, moved_child, with_parent}

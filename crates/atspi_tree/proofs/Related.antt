@@ -1,10 +1,10 @@
 -- The relations that are read of a node.
 use Rattle.std.proofs.Common.{◌≡◌, ℕ, true, List, Option, None, Some, sym, ap, ◌∙◌}
 use Rattle.std.specs.Option.{option_map}
-use Rattle.atspi_forest.specs.Forest.{has}
-use Rattle.atspi_forest.specs.Edits.{node_targets}
-use Rattle.atspi_forest.specs.Row.{ShapeRow, targets_of}
-use Rattle.atspi_forest.specs.Tree.{is_shape}
+use Rattle.atspi_tree_model.specs.Forest.{has}
+use Rattle.atspi_tree_model.specs.Edits.{node_targets}
+use Rattle.atspi_tree_model.specs.Row.{ShapeRow, targets_of}
+use Rattle.atspi_tree_model.specs.Tree.{is_shape}
 use Rattle.atspi_tree.specs.declared.cell.Cell.{Cell}
 use Rattle.atspi_tree.specs.TreeShape.{TreeShape, row_of}
 use Rattle.atspi_tree.specs.Table.{Kept, look_in}

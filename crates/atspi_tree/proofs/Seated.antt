@@ -3,17 +3,17 @@ use Rattle.std.proofs.Common.{◌≡◌, ℕ, suc, ◌+◌, ◌<◌, ◌≤◌, 
 use Rattle.std.specs.Prelude.{◌&&◌}
 use Rattle.std.specs.Option.{option_map}
 use Rattle.std.proofs.lemmas.Bool.{eqb-true, eq-eqb}
-use Rattle.atspi_forest.specs.Edits.{is_seat}
-use Rattle.atspi_forest.specs.Forest.{Forest, nil, tree, count, has, pick, place, first_of, children_at}
-use Rattle.atspi_forest.specs.Row.{ShapeRow}
-use Rattle.atspi_forest.specs.RowRules.{shapes}
-use Rattle.atspi_forest.specs.Tree.{is_shape, in_subtree, seat_of}
-use Rattle.atspi_forest.proofs.Counts.{count-join, count-parts}
-use Rattle.atspi_forest.proofs.Found.{count-has, has-count, not_there}
-use Rattle.atspi_forest.proofs.Seats.{count-take_out}
+use Rattle.atspi_tree_model.specs.Edits.{is_seat}
+use Rattle.atspi_tree_model.specs.Forest.{Forest, nil, tree, count, has, pick, place, first_of, children_at}
+use Rattle.atspi_tree_model.specs.Row.{ShapeRow}
+use Rattle.atspi_tree_model.specs.RowRules.{shapes}
+use Rattle.atspi_tree_model.specs.Tree.{is_shape, in_subtree, seat_of}
+use Rattle.atspi_tree_model.proofs.Counts.{count-join, count-parts}
+use Rattle.atspi_tree_model.proofs.Found.{count-has, has-count, not_there}
+use Rattle.atspi_tree_model.proofs.Seats.{count-take_out}
 use Rattle.atspi_tree.specs.TreeShape.{TreeShape, IsLawful, numbers, parent_of}
 use Rattle.atspi_tree.proofs.Held.{no_place}
-use Rattle.atspi_tree.specs.Places.{index_in}
+use Rattle.atspi_tree.specs.inner.Places.{index_in}
 
 -- how many nodes are above a node
 abbrev pub depth_of : ℕ → Forest ShapeRow → ℕ

@@ -5,7 +5,7 @@ use Rattle.std.proofs.Math.Seq.{drop-append_seam, take-append_seam}
 use Rattle.std.proofs.lemmas.Bool.{eqb-true, eq-eqb}
 use Rattle.std.proofs.lemmas.List.{append-nil, length-map, map-append}
 use Rattle.std.proofs.lemmas.List.Elements.{filter-append}
-use Rattle.atspi_forest.specs.Row.{targets_of, with_targets, without_targets}
+use Rattle.atspi_tree_model.specs.Row.{targets_of, with_targets, without_targets}
 use Rattle.atspi_tree.specs.Relations.{AreKept, StandsTogether}
 
 abbrev of_kind : ℕ → ℕ × ℕ → Bool

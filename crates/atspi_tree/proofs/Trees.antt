@@ -7,18 +7,18 @@ use Rattle.std.specs.Ordering.{nat_cmp, is_eq}
 use Rattle.std.specs.Map.{lookup}
 use Rattle.std.proofs.lemmas.Bool.Decides.{nat_tests}
 use Rattle.std.proofs.lemmas.Bool.{eq-eqb, ne_eqb}
-use Rattle.atspi_forest.specs.declared.contents.Kinds.{Kinds}
-use Rattle.atspi_forest.specs.declared.step.Seed.{Seed}
-use Rattle.atspi_forest.specs.declared.step.Step.{Step}
-use Rattle.atspi_forest.specs.declared.step.Step.TheVariants.{Add, SetState}
-use Rattle.atspi_forest.specs.Forest.{Forest, nil, tree, count, has, width, children_at, relabel, change, grow}
-use Rattle.atspi_forest.specs.Row.{ShapeRow, Holds}
-use Rattle.atspi_forest.specs.RowRules.{shapes, first_shape, first_kinds}
-use Rattle.atspi_forest.specs.Tree.{IsTree, is_shape, node_of, after, Changes, root_seed, Adds as AddApplies}
-use Rattle.atspi_forest.proofs.Counts.{count-put_in}
-use Rattle.atspi_forest.proofs.Relabel.{count-relabel}
-use Rattle.atspi_forest.proofs.Found.{count-has, has-count, find-has, find-passes}
-use Rattle.atspi_forest.proofs.Lookup.{each-find}
+use Rattle.atspi_tree_model.specs.declared.contents.Kinds.{Kinds}
+use Rattle.atspi_tree_model.specs.declared.step.Seed.{Seed}
+use Rattle.atspi_tree_model.specs.declared.step.Step.{Step}
+use Rattle.atspi_tree_model.specs.declared.step.Step.TheVariants.{Add, SetState}
+use Rattle.atspi_tree_model.specs.Forest.{Forest, nil, tree, count, has, width, children_at, relabel, change, grow}
+use Rattle.atspi_tree_model.specs.Row.{ShapeRow, Holds}
+use Rattle.atspi_tree_model.specs.RowRules.{shapes, first_shape, first_kinds}
+use Rattle.atspi_tree_model.specs.Tree.{IsTree, is_shape, node_of, after, Changes, root_seed, Adds as AddApplies}
+use Rattle.atspi_tree_model.proofs.Counts.{count-put_in}
+use Rattle.atspi_tree_model.proofs.Relabel.{count-relabel}
+use Rattle.atspi_tree_model.proofs.Found.{count-has, has-count, find-has, find-passes}
+use Rattle.atspi_tree_model.proofs.Lookup.{each-find}
 use Rattle.atspi_tree.specs.declared.cell.Cell.{Cell}
 use Rattle.atspi_tree.specs.Namers.{Namers, Covers}
 use Rattle.atspi_tree.specs.TreeShape.{TreeShape, numbers, row_of, parent_of, children_of, root_alone}

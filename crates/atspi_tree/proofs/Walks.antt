@@ -3,10 +3,10 @@ use Rattle.std.proofs.Common.{◌≡◌, ℕ, zero, suc, ◌+◌, ◌<◌, ◌�
 use Rattle.std.specs.List.{flat_map, slice_get}
 use Rattle.std.proofs.lemmas.Bool.{eq-eqb}
 use Rattle.std.proofs.lemmas.List.{append-nil, map-append, length-append}
-use Rattle.atspi_forest.specs.Forest.{Forest, nil, tree, count, has, seats, children_at, EachNode}
-use Rattle.atspi_forest.specs.Row.{ShapeRow}
-use Rattle.atspi_forest.specs.Tree.{is_shape}
-use Rattle.atspi_forest.proofs.Found.{count-has, not_there}
+use Rattle.atspi_tree_model.specs.Forest.{Forest, nil, tree, count, has, seats, children_at, EachNode}
+use Rattle.atspi_tree_model.specs.Row.{ShapeRow}
+use Rattle.atspi_tree_model.specs.Tree.{is_shape}
+use Rattle.atspi_tree_model.proofs.Found.{count-has, not_there}
 use Rattle.atspi_tree.specs.TreeShape.{TreeShape, IsLawful, numbers, children_of}
 use Rattle.atspi_tree.specs.declared.seats.Seat.{Seat}
 use Rattle.atspi_tree.specs.Seats.{AreThere, IsWalk, child_seats, level_left, levels_left, seat_at, seats_below, seats_in, seats_of, walk_left, with_below}

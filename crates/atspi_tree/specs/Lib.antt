@@ -1,6 +1,6 @@
+pub mod inner
 pub mod TreeShape
 pub mod NextNode
-pub mod Places
 pub mod Namers
 pub mod Table
 pub mod Relations

@@ -5,9 +5,9 @@ use Rattle.std.specs.BTreeMap as tree
 use Rattle.std.specs.BTreeMap.{BTreeMap, is_at}
 use Rattle.std.specs.BTreeSet as set
 use Rattle.std.specs.BTreeSet.{BTreeSet}
-use Rattle.atspi_forest.specs.Forest.{Forest, EachLabel}
-use Rattle.atspi_forest.specs.Row.{Each, ShapeRow}
-use Rattle.atspi_forest.specs.RowRules.{shape_targets}
+use Rattle.atspi_tree_model.specs.Forest.{Forest, EachLabel}
+use Rattle.atspi_tree_model.specs.Row.{Each, ShapeRow}
+use Rattle.atspi_tree_model.specs.RowRules.{shape_targets}
 
 abbrev pub Namers : Type 0
 Namers = BTreeMap ℕ (BTreeSet ℕ)

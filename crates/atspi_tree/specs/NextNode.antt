@@ -1,7 +1,7 @@
 -- Going from a number to the next node.
 use Rattle.std.specs.Prelude.{ℕ, ◌≡◌, ◌≤◌, ◌<◌, true, false, Option, None, Some}
-use Rattle.atspi_forest.specs.Forest.{has}
-use Rattle.atspi_forest.specs.Tree.{is_shape}
+use Rattle.atspi_tree_model.specs.Forest.{has}
+use Rattle.atspi_tree_model.specs.Tree.{is_shape}
 use Rattle.atspi_tree.specs.TreeShape.{TreeShape}
 
 -- the node with the least number from this one on; none where there is no such node

@@ -1,6 +1,6 @@
 -- Relations in a row, and how they are kept.
 use Rattle.std.specs.Prelude.{ℕ, ◌≡◌, ◌==◌, List, [], ◌++◌, map, filter}
-use Rattle.atspi_forest.specs.Row.{ShapeRow}
+use Rattle.atspi_tree_model.specs.Row.{ShapeRow}
 
 -- other relations
 abbrev pub with_relations : List (ℕ × ℕ) → ShapeRow → ShapeRow

@@ -1,9 +1,9 @@
 -- Where nodes stand; the nodes of a tree in preorder; and what a walk over them has still to give.
 use Rattle.std.specs.Prelude.{ℕ, suc, ◌+◌, ◌≡◌, ◌≤◌, true, List, [], ◌∷◌, ◌++◌, map, drop, length, Option, None, Some}
 use Rattle.std.specs.List.{flat_map}
-use Rattle.atspi_forest.specs.Forest.{Forest, has, seats, children_at}
-use Rattle.atspi_forest.specs.Row.{ShapeRow, Each, HoldsIfThere}
-use Rattle.atspi_forest.specs.Tree.{is_shape}
+use Rattle.atspi_tree_model.specs.Forest.{Forest, has, seats, children_at}
+use Rattle.atspi_tree_model.specs.Row.{ShapeRow, Each, HoldsIfThere}
+use Rattle.atspi_tree_model.specs.Tree.{is_shape}
 use Rattle.atspi_tree.specs.TreeShape.{TreeShape, children_of}
 use Rattle.atspi_tree.specs.declared.seats.Seat.{Seat}
 

@@ -3,12 +3,12 @@ use Rattle.std.specs.Prelude.{ℕ, ◌≡◌, ◌==◌, true, false, not, filter
 use Rattle.std.specs.Option.{option_map}
 use Rattle.std.specs.Ordering.{nat_cmp, is_eq}
 use Rattle.std.specs.Map.{lookup}
-use Rattle.atspi_forest.specs.declared.contents.Kinds.{Kinds}
-use Rattle.atspi_forest.specs.States.{first_states}
-use Rattle.atspi_forest.specs.Forest.{Forest, nil, tree, count, grow, relabel}
-use Rattle.atspi_forest.specs.Row.{ShapeRow}
-use Rattle.atspi_forest.specs.RowRules.{shapes, forgetting_shape}
-use Rattle.atspi_forest.specs.Tree.{IsTree, is_shape}
+use Rattle.atspi_tree_model.specs.declared.contents.Kinds.{Kinds}
+use Rattle.atspi_tree_model.specs.States.{first_states}
+use Rattle.atspi_tree_model.specs.Forest.{Forest, nil, tree, count, grow, relabel}
+use Rattle.atspi_tree_model.specs.Row.{ShapeRow}
+use Rattle.atspi_tree_model.specs.RowRules.{shapes, forgetting_shape}
+use Rattle.atspi_tree_model.specs.Tree.{IsTree, is_shape}
 use Rattle.atspi_tree.specs.Namers.{Namers, Covers}
 use Rattle.atspi_tree.specs.TreeShape.{numbers}
 use Rattle.atspi_tree.specs.declared.cell.Cell.{Cell}

@@ -2,13 +2,13 @@
 use Rattle.std.specs.Prelude.{ℕ, refl, List, Option, map}
 use Rattle.std.specs.Option.{option_map}
 use Rattle.std.specs.Coded.{Coded, code_by, coded×, coded_ℕ}
-use Rattle.atspi_forest.specs.Forest.{Forest, find, tops, children_at}
-use Rattle.atspi_forest.specs.ForestCode.{forest_code}
-use Rattle.atspi_forest.specs.Row.{ShapeRow}
-use Rattle.atspi_forest.specs.RowCode.{shape_code}
-use Rattle.atspi_forest.specs.RowRules.{shapes}
-use Rattle.atspi_forest.specs.Tree.{IsTree, Applies, is_shape, seat_of, after, added_after, first_tree}
-use Rattle.atspi_forest.specs.declared.step.Step.{Step}
+use Rattle.atspi_tree_model.specs.Forest.{Forest, find, tops, children_at}
+use Rattle.atspi_tree_model.specs.ForestCode.{forest_code}
+use Rattle.atspi_tree_model.specs.Row.{ShapeRow}
+use Rattle.atspi_tree_model.specs.RowCode.{shape_code}
+use Rattle.atspi_tree_model.specs.RowRules.{shapes}
+use Rattle.atspi_tree_model.specs.Tree.{IsTree, Applies, is_shape, seat_of, after, added_after, first_tree}
+use Rattle.atspi_tree_model.specs.declared.step.Step.{Step}
 
 -- the rows of a tree, without their contents, and how many nodes were ever added, the root not counted
 pub record TreeShape : Type 0 where
@@ -17,7 +17,8 @@ pub record TreeShape : Type 0 where
 
 abbrev pub tree_code : Coded TreeShape
 tree_code =
-    code_by (Forest ShapeRow × ℕ) (coded× (forest_code shape_code) coded_ℕ) (λ t. (t.rows, t.added)) (λ p. record { rows = p.0; added = p.1 }) (λ _. refl)
+    code_by (Forest ShapeRow × ℕ) (coded× (forest_code shape_code) coded_ℕ) (λ t. (t.rows, t.added))
+    (λ p. record { rows = p.0; added = p.1 }) (λ _. refl)
 
 -- the rules of a tree are kept
 abbrev pub IsLawful : TreeShape → Type 0

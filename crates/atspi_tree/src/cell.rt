@@ -1,13 +1,13 @@
 //! What the tree keeps of a node.
 
 ghost use Rattle.std.specs.Prelude.{◌≡◌, ℕ, [], IfOk};
-ghost use Rattle.atspi_forest.specs.RowRules.{first_kinds};
-ghost use Rattle.atspi_forest.specs.View.{kinds_number};
+ghost use Rattle.atspi_tree_model.specs.RowRules.{first_kinds};
+ghost use Rattle.atspi_tree_model.specs.View.{kinds_number};
 ghost use Rattle.atspi_tree.specs.Table.{IsNewCell, SameCell};
 
 use crate::relations::Relations;
 use atspi_base::{NoMemory, Text};
-use atspi_forest::{Kinds, Seed};
+use atspi_tree_model::{Kinds, Seed};
 use std::alloc::{AllocError, Global};
 
 /// A node: its place in the tree, and its row but for the contents.

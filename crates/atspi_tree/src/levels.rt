@@ -4,8 +4,8 @@ ghost use Rattle.std.specs.Prelude.{◌≡◌, ◌<◌, ◌∷◌, [], length, M
 
 use std::marker::Model;
 
-/// On the way down to where a walk is, each node with the index of its next child, the lowest node first. They are no more than a
-/// tree has nodes.
+/// On the way down to where a walk is, each node with the index of its next child, the lowest node first. They are no
+/// more than a tree has nodes.
 #[derive(Drop)]
 pub(crate) struct Levels {
     places: [(u32, u32); 8192],

@@ -3,8 +3,9 @@
 ghost use Rattle.std.specs.Prelude.{◌≡◌, ◌==◌, ℕ, true, false, Some, IfOk, OnOk, OnErr};
 ghost use Rattle.std.specs.Ordering.{nat_cmp};
 ghost use Rattle.std.specs.BTreeMap.{Updates, IsUnchanged};
-ghost use Rattle.atspi_forest.specs.Row.{Each};
-ghost use Rattle.atspi_tree.specs.Namers.{ForgetsTarget, KeepsNamed, KeepsNotes, KeepsOthers, SameNotes, SetsNote, has_namer, notes};
+ghost use Rattle.atspi_tree_model.specs.Row.{Each};
+ghost use Rattle.atspi_tree.specs.Namers.{ForgetsTarget, KeepsNamed, KeepsNotes, KeepsOthers, SameNotes, SetsNote};
+ghost use Rattle.atspi_tree.specs.Namers.{has_namer, notes};
 
 use atspi_base::NoMemory;
 use std::alloc::Global;

@@ -4,7 +4,7 @@ ghost use Rattle.std.specs.Prelude.{◌≡◌, ◌==◌, ◌++◌, [], length, f
 ghost use Rattle.std.specs.List.{position_or_len};
 ghost use Rattle.std.specs.Ordering.{nat_cmp};
 ghost use Rattle.std.specs.BTreeSet.{contains};
-ghost use Rattle.atspi_forest.specs.Row.{Each, targets_of, with_targets, without_targets};
+ghost use Rattle.atspi_tree_model.specs.Row.{Each, targets_of, with_targets, without_targets};
 
 use atspi_base::NoMemory;
 use std::alloc::Global;

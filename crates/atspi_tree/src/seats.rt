@@ -2,8 +2,8 @@
 
 ghost use Rattle.std.specs.Prelude.{◌≡◌, ◌≤◌, ◌+◌, ◌∷◌, [], true, length, MatchOption, slice_get};
 ghost use Rattle.std.specs.Iterator.{YieldsFirst, item_count};
-ghost use Rattle.atspi_forest.specs.Forest.{has};
-ghost use Rattle.atspi_forest.specs.Tree.{is_shape};
+ghost use Rattle.atspi_tree_model.specs.Forest.{has};
+ghost use Rattle.atspi_tree_model.specs.Tree.{is_shape};
 ghost use Rattle.atspi_tree.specs.Seats.{AreThere, levels_left, seats_below, seats_in};
 ghost use Rattle.atspi_tree.specs.TreeShape.{children_of};
 
@@ -21,8 +21,8 @@ pub struct Seat {
     pub index: u32,
 }
 
-/// The nodes that a walk has still to give: contracts see their places, in order. Each node is looked at once, and each of its
-/// children once more. Takes no memory.
+/// The nodes that a walk has still to give: contracts see their places, in order. Each node is looked at once, and each
+/// of its children once more. Takes no memory.
 #[derive(Drop)]
 pub struct Seats<'t> {
     tree: &'t Tree,
@@ -112,7 +112,8 @@ fn child_at(tree: &Tree, node: u32, index: u32) -> Option<u32>
 fn step(tree: &Tree, levels: &mut Levels) -> Option<Seat>
     requires there { AreThere tree.now levels.old }
     requires room { length levels.old + length (levels_left tree.now levels.old) ≤ 8192 }
-    ensures next { MatchOption result ((levels_left tree.now levels.old ≡ []) × (levels_left tree.now levels.new ≡ [])) (λ seat. levels_left tree.now levels.old ≡ seat ∷ levels_left tree.now levels.new) }
+    ensures next { MatchOption result ((levels_left tree.now levels.old ≡ []) × (levels_left tree.now levels.new ≡ []))
+        (λ seat. levels_left tree.now levels.old ≡ seat ∷ levels_left tree.now levels.new) }
     ensures there { AreThere tree.now levels.new }
     ensures room { length levels.new + length (levels_left tree.now levels.new) ≤ 8192 }
 {

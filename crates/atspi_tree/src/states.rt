@@ -1,9 +1,9 @@
 //! Sets of states, each state by its bit, and lists of children in which one number is moved.
 
 ghost use Rattle.std.specs.Prelude.{◌≡◌, ◌<◌, ◌≤◌, length, insert, true, vec_len, vec_capacity};
-ghost use Rattle.atspi_forest.specs.Edits.{is_among};
-ghost use Rattle.atspi_forest.specs.Map.{times};
-ghost use Rattle.atspi_forest.specs.States.{with_state};
+ghost use Rattle.atspi_tree_model.specs.Edits.{is_among};
+ghost use Rattle.atspi_tree_model.specs.Map.{times};
+ghost use Rattle.atspi_tree_model.specs.States.{with_state};
 ghost use Rattle.atspi_tree.specs.Table.{all_but};
 
 /// The set with a state, or without it.

@@ -1,16 +1,18 @@
 //! The writes to a table of cells.
 
 ghost use Rattle.std.specs.Prelude.{◌≡◌, ◌≤◌, ◌+◌, ℕ, List, None, Some, length, OnOk, OnErr};
-ghost use Rattle.atspi_forest.specs.Row.{Holds};
-ghost use Rattle.atspi_forest.specs.RowRules.{changed_shape};
-ghost use Rattle.atspi_forest.specs.declared.step.Step.TheVariants.{SetDescription, SetName, SetRole, SetState};
+ghost use Rattle.atspi_tree_model.specs.Row.{Holds};
+ghost use Rattle.atspi_tree_model.specs.RowRules.{changed_shape};
+ghost use Rattle.atspi_tree_model.specs.declared.step.Step.TheVariants.{SetDescription, SetName, SetRole, SetState};
 ghost use Rattle.std.specs.Prelude.{◌<◌, ◌==◌, true, false};
-ghost use Rattle.atspi_forest.specs.Edits.{is_among};
+ghost use Rattle.atspi_tree_model.specs.Edits.{is_among};
 ghost use Rattle.std.specs.Option.{option_map};
 ghost use Rattle.std.specs.Ordering.{nat_cmp};
 ghost use Rattle.std.specs.BTreeSet.{contains};
-ghost use Rattle.atspi_forest.specs.Map.{times};
-ghost use Rattle.atspi_tree.specs.Table.{ChangesAt, Forgets, IsClean, Kept, Prunes, Rehangs, Relists, all_but, forgets_target, kept, look_in, moved_child, with_child, with_parent, with_row, without_child};
+ghost use Rattle.atspi_tree_model.specs.Map.{times};
+ghost use Rattle.atspi_tree.specs.Table.{ChangesAt, Forgets, IsClean, Kept, Prunes, Rehangs, Relists, all_but};
+ghost use Rattle.atspi_tree.specs.Table.{forgets_target, kept, look_in, moved_child, with_child, with_parent, with_row};
+ghost use Rattle.atspi_tree.specs.Table.{without_child};
 ghost use Rattle.atspi_tree.specs.Namers.{has_namer};
 ghost use Rattle.atspi_tree.specs.Relations.{with_relations};
 
@@ -46,7 +48,8 @@ pub(crate) fn insert_child(
     node: u32,
 ) -> Result<(), NoMemory>
     requires in_range { Holds (λ k. index ≤ length k.children) (look_in cells.old.entries parent) }
-    ensures put { (k : Kept) → look_in cells.old.entries parent ≡ Some k → OnOk result (ChangesAt cells.old.entries cells.new.entries parent (with_child index node k)) }
+    ensures put { (k : Kept) → look_in cells.old.entries parent ≡ Some k
+        → OnOk result (ChangesAt cells.old.entries cells.new.entries parent (with_child index node k)) }
     ensures size { length cells.new.entries ≡ length cells.old.entries }
     ensures err { OnErr result ((n : ℕ) → look_in cells.new.entries n ≡ look_in cells.old.entries n) }
 {
@@ -61,7 +64,8 @@ pub(crate) fn insert_child(
 
 /// Gives a node another name.
 pub(crate) fn set_name(cells: &mut BTreeMap<u32, Cell>, node: u32, name: Text)
-    ensures put { (k : Kept) → look_in cells.old.entries node ≡ Some k → ChangesAt cells.old.entries cells.new.entries node (with_row (changed_shape (SetName node name)) k) }
+    ensures put { (k : Kept) → look_in cells.old.entries node ≡ Some k
+        → ChangesAt cells.old.entries cells.new.entries node (with_row (changed_shape (SetName node name)) k) }
     ensures size { length cells.new.entries ≡ length cells.old.entries }
 {
     if let Some(cell) = cells.get_mut(&node) {
@@ -71,7 +75,9 @@ pub(crate) fn set_name(cells: &mut BTreeMap<u32, Cell>, node: u32, name: Text)
 
 /// Gives a node another description.
 pub(crate) fn set_description(cells: &mut BTreeMap<u32, Cell>, node: u32, description: Text)
-    ensures put { (k : Kept) → look_in cells.old.entries node ≡ Some k → ChangesAt cells.old.entries cells.new.entries node (with_row (changed_shape (SetDescription node description)) k) }
+    ensures put { (k : Kept) → look_in cells.old.entries node ≡ Some k
+        → ChangesAt cells.old.entries cells.new.entries node
+        (with_row (changed_shape (SetDescription node description)) k) }
     ensures size { length cells.new.entries ≡ length cells.old.entries }
 {
     if let Some(cell) = cells.get_mut(&node) {
@@ -81,7 +87,8 @@ pub(crate) fn set_description(cells: &mut BTreeMap<u32, Cell>, node: u32, descri
 
 /// Gives a node another role.
 pub(crate) fn set_role(cells: &mut BTreeMap<u32, Cell>, node: u32, role: u32)
-    ensures put { (k : Kept) → look_in cells.old.entries node ≡ Some k → ChangesAt cells.old.entries cells.new.entries node (with_row (changed_shape (SetRole node role)) k) }
+    ensures put { (k : Kept) → look_in cells.old.entries node ≡ Some k
+        → ChangesAt cells.old.entries cells.new.entries node (with_row (changed_shape (SetRole node role)) k) }
     ensures size { length cells.new.entries ≡ length cells.old.entries }
 {
     if let Some(cell) = cells.get_mut(&node) {
@@ -95,7 +102,8 @@ pub(crate) fn set_relations(
     node: u32,
     relations: Relations,
 ) -> Relations
-    ensures put { (k : Kept) → look_in cells.old.entries node ≡ Some k → ChangesAt cells.old.entries cells.new.entries node (with_row (with_relations relations) k) }
+    ensures put { (k : Kept) → look_in cells.old.entries node ≡ Some k
+        → ChangesAt cells.old.entries cells.new.entries node (with_row (with_relations relations) k) }
     ensures size { length cells.new.entries ≡ length cells.old.entries }
 {
     match cells.get_mut(&node) {
@@ -107,7 +115,8 @@ pub(crate) fn set_relations(
 /// Sets a state of a node, or clears it.
 pub(crate) fn set_states(cells: &mut BTreeMap<u32, Cell>, node: u32, state: u8, on: bool)
     requires { state < 44 }
-    ensures put { (k : Kept) → look_in cells.old.entries node ≡ Some k → ChangesAt cells.old.entries cells.new.entries node (with_row (changed_shape (SetState node state on)) k) }
+    ensures put { (k : Kept) → look_in cells.old.entries node ≡ Some k
+        → ChangesAt cells.old.entries cells.new.entries node (with_row (changed_shape (SetState node state on)) k) }
     ensures size { length cells.new.entries ≡ length cells.old.entries }
 {
     if let Some(cell) = cells.get_mut(&node) {
@@ -117,7 +126,8 @@ pub(crate) fn set_states(cells: &mut BTreeMap<u32, Cell>, node: u32, state: u8, 
 
 /// Gives a node another parent.
 pub(crate) fn set_parent(cells: &mut BTreeMap<u32, Cell>, node: u32, parent: u32)
-    ensures put { (k : Kept) → look_in cells.old.entries node ≡ Some k → ChangesAt cells.old.entries cells.new.entries node (with_parent parent k) }
+    ensures put { (k : Kept) → look_in cells.old.entries node ≡ Some k
+        → ChangesAt cells.old.entries cells.new.entries node (with_parent parent k) }
     ensures size { length cells.new.entries ≡ length cells.old.entries }
 {
     if let Some(cell) = cells.get_mut(&node) {
@@ -127,7 +137,8 @@ pub(crate) fn set_parent(cells: &mut BTreeMap<u32, Cell>, node: u32, parent: u32
 
 /// Takes a number out of the children of a node.
 pub(crate) fn remove_child(cells: &mut BTreeMap<u32, Cell>, parent: u32, node: u32)
-    ensures put { (k : Kept) → look_in cells.old.entries parent ≡ Some k → ChangesAt cells.old.entries cells.new.entries parent (without_child node k) }
+    ensures put { (k : Kept) → look_in cells.old.entries parent ≡ Some k
+        → ChangesAt cells.old.entries cells.new.entries parent (without_child node k) }
     ensures size { length cells.new.entries ≡ length cells.old.entries }
 {
     if let Some(cell) = cells.get_mut(&parent) {
@@ -137,8 +148,11 @@ pub(crate) fn remove_child(cells: &mut BTreeMap<u32, Cell>, parent: u32, node: u
 
 /// Puts a child of a node at another index among the others.
 pub(crate) fn shift_child(cells: &mut BTreeMap<u32, Cell>, parent: u32, index: usize, node: u32)
-    requires in_range { Holds (λ k. (is_among node k.children ≡ true) × (index ≤ length (without_child node k).children)) (look_in cells.old.entries parent) }
-    ensures put { (k : Kept) → look_in cells.old.entries parent ≡ Some k → ChangesAt cells.old.entries cells.new.entries parent (moved_child index node k) }
+    requires in_range { Holds
+        (λ k. (is_among node k.children ≡ true) × (index ≤ length (without_child node k).children))
+        (look_in cells.old.entries parent) }
+    ensures put { (k : Kept) → look_in cells.old.entries parent ≡ Some k
+        → ChangesAt cells.old.entries cells.new.entries parent (moved_child index node k) }
     ensures size { length cells.new.entries ≡ length cells.old.entries }
 {
     if let Some(cell) = cells.get_mut(&parent) {
@@ -157,7 +171,8 @@ fn relist(
 ) -> Result<(), NoMemory>
     requires from { Holds (λ k. is_among node k.children ≡ true) (look_in cells.old.entries old) }
     requires in_range { Holds (λ k. index ≤ length (all_but node k.children)) (look_in cells.old.entries new) }
-    requires only_there { (old == new) ≡ false → Holds (λ k. all_but node k.children ≡ k.children) (look_in cells.old.entries new) }
+    requires only_there { (old == new) ≡ false
+        → Holds (λ k. all_but node k.children ≡ k.children) (look_in cells.old.entries new) }
     ensures put { OnOk result (Relists cells.old.entries cells.new.entries old new index node) }
     ensures size { length cells.new.entries ≡ length cells.old.entries }
     ensures err { OnErr result ((n : ℕ) → look_in cells.new.entries n ≡ look_in cells.old.entries n) }
@@ -171,8 +186,8 @@ fn relist(
     Ok(())
 }
 
-/// Moves a node from its parent to another, at an index that counts the children without it. After want of memory all is
-/// as before.
+/// Moves a node from its parent to another, at an index that counts the children without it. After want of memory all
+/// is as before.
 pub(crate) fn rehang(
     cells: &mut BTreeMap<u32, Cell>,
     old: u32,
@@ -182,7 +197,8 @@ pub(crate) fn rehang(
 ) -> Result<(), NoMemory>
     requires from { Holds (λ k. is_among node k.children ≡ true) (look_in cells.old.entries old) }
     requires in_range { Holds (λ k. index ≤ length (all_but node k.children)) (look_in cells.old.entries new) }
-    requires only_there { (old == new) ≡ false → Holds (λ k. all_but node k.children ≡ k.children) (look_in cells.old.entries new) }
+    requires only_there { (old == new) ≡ false
+        → Holds (λ k. all_but node k.children ≡ k.children) (look_in cells.old.entries new) }
     requires apart { (new == node) ≡ false }
     requires not_own { (old == node) ≡ false }
     requires there { Holds (λ k. Unit {0}) (look_in cells.old.entries node) }
@@ -198,7 +214,8 @@ pub(crate) fn rehang(
 /// Takes a number out of the children of a node, which lists it once at most.
 fn unlist_child(cells: &mut BTreeMap<u32, Cell>, parent: u32, node: u32)
     requires { Holds (λ k. times node k.children ≤ 1) (look_in cells.old.entries parent) }
-    ensures put { (k : Kept) → look_in cells.old.entries parent ≡ Some k → ChangesAt cells.old.entries cells.new.entries parent (without_child node k) }
+    ensures put { (k : Kept) → look_in cells.old.entries parent ≡ Some k
+        → ChangesAt cells.old.entries cells.new.entries parent (without_child node k) }
     ensures size { length cells.new.entries ≡ length cells.old.entries }
 {
     if let Some(cell) = cells.get_mut(&parent) {
@@ -223,7 +240,8 @@ pub(crate) fn prune(cells: &mut BTreeMap<u32, Cell>, parent: u32, node: u32) -> 
 
 /// Takes a number out of the targets of a node's relations, where the node is there.
 fn forget_target(cells: &mut BTreeMap<u32, Cell>, node: u32, target: u32)
-    ensures here { look_in cells.new.entries node ≡ option_map (forgets_target target) (look_in cells.old.entries node) }
+    ensures here { look_in cells.new.entries node
+        ≡ option_map (forgets_target target) (look_in cells.old.entries node) }
     ensures others { (m : ℕ) → (m == node) ≡ false → look_in cells.new.entries m ≡ look_in cells.old.entries m }
     ensures size { length cells.new.entries ≡ length cells.old.entries }
 {

@@ -2,15 +2,17 @@
 
 ghost use Rattle.std.specs.Prelude.{◌≡◌, ◌<◌, ℕ, Some, None, true, IfOk, OnOk, OnErr, []};
 ghost use Rattle.std.specs.Option.{option_map};
-ghost use Rattle.atspi_forest.specs.Edits.{node_targets};
-ghost use Rattle.atspi_forest.specs.declared.step.Step.TheVariants.{Add, Move, Relate, Remove, SetDescription, SetName, SetRole, SetState};
-ghost use Rattle.atspi_forest.specs.Forest.{has, count as count_nodes};
-ghost use Rattle.atspi_forest.specs.Row.{IsName};
-ghost use Rattle.atspi_forest.specs.RowRules.{shapes};
-ghost use Rattle.atspi_forest.specs.Tree.{in_subtree, is_shape};
-ghost use Rattle.atspi_forest.specs.View.{kinds_number};
+ghost use Rattle.atspi_tree_model.specs.Edits.{node_targets};
+ghost use Rattle.atspi_tree_model.specs.declared.step.Step.TheVariants.{Add, Move, Relate, Remove, SetDescription};
+ghost use Rattle.atspi_tree_model.specs.declared.step.Step.TheVariants.{SetName, SetRole, SetState};
+ghost use Rattle.atspi_tree_model.specs.Forest.{has, count as count_nodes};
+ghost use Rattle.atspi_tree_model.specs.Row.{IsName};
+ghost use Rattle.atspi_tree_model.specs.RowRules.{shapes};
+ghost use Rattle.atspi_tree_model.specs.Tree.{in_subtree, is_shape};
+ghost use Rattle.atspi_tree_model.specs.View.{kinds_number};
 ghost use Rattle.atspi_tree.specs.NextNode.{IsNextNode};
-ghost use Rattle.atspi_tree.specs.TreeShape.{IsLawful, StepApplies, after_step, children_of, parent_of, root_alone, row_of};
+ghost use Rattle.atspi_tree.specs.TreeShape.{IsLawful, StepApplies, after_step, children_of, parent_of, root_alone};
+ghost use Rattle.atspi_tree.specs.TreeShape.{row_of};
 
 use crate::cell::{Cell, bits, first_kinds};
 use crate::namers::Namers;
@@ -20,13 +22,13 @@ use crate::table::{
     set_role, set_states,
 };
 use atspi_base::{NoMemory, Nums, Text};
-use atspi_forest::{Kinds, Seed, Step};
+use atspi_tree_model::{Kinds, Seed, Step};
 use std::alloc::Global;
 use std::collections::BTreeMap;
 use std::marker::Model;
 
-/// An application's tree, without the contents of its nodes. Contracts see the rows in their places and the count of nodes
-/// that were ever added; every tree keeps the limits and rules of a tree.
+/// An application's tree, without the contents of its nodes. Contracts see the rows in their places and the count of
+/// nodes that were ever added; every tree keeps the limits and rules of a tree.
 #[derive(Drop)]
 pub struct Tree {
     alloc: Global,
@@ -114,8 +116,8 @@ impl Tree {
         self.cells.len() as u32
     }
 
-    /// Does a step. After want of memory the tree is as before. The steps that change what interface objects keep change
-    /// nothing here.
+    /// Does a step. After want of memory the tree is as before. The steps that change what interface objects keep
+    /// change nothing here.
     pub fn apply(&mut self, step: &Step) -> Result<(), NoMemory>
         requires { StepApplies self.old step.now }
         ensures ok { OnOk result (self.new ≡ after_step self.old step.now) }
@@ -307,7 +309,8 @@ impl Tree {
     fn last_leaf(&self, node: u32) -> u32
         requires { has (is_shape node) self.now.rows ≡ true }
         ensures there { has (is_shape result) self.now.rows ≡ true }
-        ensures inside { (top : ℕ) → in_subtree shapes top self.now.rows node ≡ true → in_subtree shapes top self.now.rows result ≡ true }
+        ensures inside { (top : ℕ) → in_subtree shapes top self.now.rows node ≡ true
+            → in_subtree shapes top self.now.rows result ≡ true }
         ensures leaf { children_of result self.now ≡ [] }
         ensures lawful { IsLawful self.now }
     {
@@ -318,7 +321,8 @@ impl Tree {
         at
     }
 
-    /// Takes out a node without children, and answers its parent. Looks at the nodes that may name it, and at no others.
+    /// Takes out a node without children, and answers its parent. Looks at the nodes that may name it, and at no
+    /// others.
     fn take_leaf(&mut self, node: u32) -> u32
         requires applies { StepApplies self.old (Remove node) }
         requires leaf { children_of node self.old ≡ [] }
@@ -335,9 +339,9 @@ impl Tree {
         parent
     }
 
-    /// Takes out a node that is there and is not the root, with all that is below it. Takes no memory. The cost is that of
-    /// the nodes taken out, and of the relations that name them; where the node is not the last child of its parent, it is
-    /// also looked for among the children.
+    /// Takes out a node that is there and is not the root, with all that is below it. Takes no memory. The cost is that
+    /// of the nodes taken out, and of the relations that name them; where the node is not the last child of its parent,
+    /// it is also looked for among the children.
     pub fn take_out(&mut self, node: u32)
         requires { StepApplies self.old (Remove node) }
         ensures { self.new ≡ after_step self.old (Remove node) }

@@ -60,7 +60,8 @@ fn words_of(alloc: Global, asked: Asked) -> Option<String> {
     }
 }
 
-/// One drawn edit, done to the tree and, where it is taken, to the list. Answers whether it was taken, none for want of memory.
+/// One drawn edit, done to the tree and, where it is taken, to the list. Answers whether it was taken, none for want of
+/// memory.
 fn turn(alloc: Global, state: &mut u64, tree: &mut Tree, plain: &mut Plain) -> Option<bool> {
     let asked = drawn(state, tree.made());
     let words = words_of(alloc, asked)?;

@@ -1,14 +1,14 @@
 //! Edits in the words of a script, and trees that they make.
 
 ghost use Rattle.std.specs.Prelude.{IfSome, IsTrue};
-ghost use Rattle.atspi_forest.specs.Edits.{IsEdit};
-ghost use Rattle.atspi_edits.specs.Answers.{ReadsNone};
+ghost use Rattle.atspi_tree_model.specs.Edits.{IsEdit};
+ghost use Rattle.atspi_tree_edits.specs.Answers.{ReadsNone};
 
 use atspi_base::{Text, Texts};
-use atspi_edits::{EditRefused, steps_of};
-use atspi_forest::{Edit, FaceData, Seed};
-use atspi_lines::{Line, parse_line};
+use atspi_script_lines::{Line, parse_line};
 use atspi_tree::Tree;
+use atspi_tree_edits::{EditRefused, steps_of};
+use atspi_tree_model::{Edit, FaceData, Seed};
 use std::alloc::Global;
 
 /// A number of a word; 0 where there is none.
@@ -34,7 +34,8 @@ fn line_of(alloc: Global, words: &str) -> Option<String> {
     format!(in alloc; "edit a0 {front}{}{back}", name.as_str()).ok()
 }
 
-/// An insert of a table with a text below the root, of so many letters and columns, as words say: a text may be longer than a line.
+/// An insert of a table with a text below the root, of so many letters and columns, as words say: a text may be longer
+/// than a line.
 fn table_of(alloc: Global, words: &str) -> Option<Edit>
     ensures { IfSome result IsEdit }
 {

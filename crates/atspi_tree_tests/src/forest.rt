@@ -3,7 +3,7 @@
 use crate::refusals::fault_of;
 use atspi_base::valid_names::Path;
 use atspi_base::{Text, Texts};
-use atspi_forest::{Item, Items, Reference, Step, StepList};
+use atspi_tree_model::{Item, Items, Reference, Step, StepList};
 use std::alloc::Global;
 use std::test::*;
 

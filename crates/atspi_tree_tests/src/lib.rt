@@ -1,4 +1,6 @@
-//! Tests of trees and of what edits them, through public calls alone: tables, lists of steps and of items, trees and copies of steps; the tree of an application after edits; why edits are refused. What is due was worked out by hand from the table of edits.
+//! Tests of trees and of what edits them, through public calls alone: tables, lists of steps and of items, trees and
+//! copies of steps; the tree of an application after edits; why edits are refused. What is due was worked out by hand
+//! from the table of edits.
 #![tactic(auto)]
 
 #[cfg(test)]

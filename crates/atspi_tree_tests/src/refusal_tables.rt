@@ -1,10 +1,11 @@
-//! Each edit with each reason to refuse it, in the order in which they are looked for: an edit in the words of a script, and
-//! behind ` = ` the reason, or how many steps the edit makes. Of the refused rows of an edit each has fewer faults than the one
-//! before it. A `%` stands for 511 letters, as many as a name may have. Behind ` = step ` stands the one step that an edit makes,
-//! as the table of steps tells it. An edit with no ` = ` is done before those of the rows behind it are tried.
+//! Each edit with each reason to refuse it, in the order in which they are looked for: an edit in the words of a
+//! script, and behind ` = ` the reason, or how many steps the edit makes. Of the refused rows of an edit each has fewer
+//! faults than the one before it. A `%` stands for 511 letters, as many as a name may have. Behind ` = step ` stands
+//! the one step that an edit makes, as the table of steps tells it. An edit with no ` = ` is done before those of the
+//! rows behind it are tried.
 
-/// The window that the edits are of: node 1 has every interface, node 2 a text that cannot be edited, node 3 none; 2 and 3
-/// stand below 1, and 4 beside it.
+/// The window that the edits are of: node 1 has every interface, node 2 a text that cannot be edited, node 3 none; 2
+/// and 3 stand below 1, and 4 beside it.
 pub(crate) const WINDOW: &str = "\
 insert 0 0 panel \"a\" text \"abc\" columns 1 select action \"toggle\" action \"expand\" action \"press\" action \"focus\" action \"jump\"; \
 insert 1 0 panel \"b\" static \"abc\"; \

@@ -1,8 +1,8 @@
 //! Why each edit is refused, or how many steps it makes.
 
 ghost use Rattle.std.specs.Prelude.{IfSome};
-ghost use Rattle.atspi_forest.specs.Edits.{IsEdit};
-ghost use Rattle.atspi_edits.specs.Answers.{IsKnown};
+ghost use Rattle.atspi_tree_model.specs.Edits.{IsEdit};
+ghost use Rattle.atspi_tree_edits.specs.Answers.{IsKnown};
 
 use crate::edits::{alone, edit_of, letters, made, take};
 use crate::refusal_tables::{
@@ -10,9 +10,9 @@ use crate::refusal_tables::{
 };
 use crate::steps::{told, told_by};
 use atspi_base::{Marks, Text, Texts};
-use atspi_edits::{EditRefused, steps_of};
-use atspi_forest::{Edit, EditFault, FaceData, Step};
 use atspi_tree::{Seats, Tree};
+use atspi_tree_edits::{EditRefused, steps_of};
+use atspi_tree_model::{Edit, EditFault, FaceData, Step};
 use std::alloc::Global;
 use std::process::Abort;
 use std::test::*;
@@ -60,8 +60,8 @@ fn marked(alloc: Global) -> Option<FaceData>
     })
 }
 
-/// Contents that a node has: the actions of the window, a short text, one that has room for one character, one that has all the
-/// selections that a text may have, or none.
+/// Contents that a node has: the actions of the window, a short text, one that has room for one character, one that has
+/// all the selections that a text may have, or none.
 fn known_of(alloc: Global, word: &str) -> Option<FaceData>
     ensures { IfSome result IsKnown }
 {
@@ -171,8 +171,8 @@ fn fill(alloc: Global, tree: &mut Tree, is_deep: bool) -> Option<()> {
     Some(())
 }
 
-/// A tree that has all the nodes that a tree may have, as deep as can be or as wide, with a walk over it. A text that is too long
-/// for a new node is no line of a script: that it is told last stands with the edits that read no contents.
+/// A tree that has all the nodes that a tree may have, as deep as can be or as wide, with a walk over it. A text that
+/// is too long for a new node is no line of a script: that it is told last stands with the edits that read no contents.
 fn try_full(rt: &impl Abort, alloc: Global, is_deep: bool, rows: &str) {
     let known = known_of(alloc, "nothing").expect(rt, "contents");
     let mut tree = alone(alloc).expect(rt, "a tree");

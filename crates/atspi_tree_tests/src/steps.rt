@@ -2,8 +2,8 @@
 
 use crate::edits::{edit_of, number};
 use atspi_base::{Marks, Nums, Text};
-use atspi_edits::copy_step;
-use atspi_forest::{Edit, Seed, Step};
+use atspi_tree_edits::copy_step;
+use atspi_tree_model::{Edit, Seed, Step};
 use std::alloc::Global;
 use std::test::*;
 

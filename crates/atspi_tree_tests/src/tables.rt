@@ -3,7 +3,8 @@
 use crate::edits::number;
 use atspi_tables::{role_name, role_of_word, role_word, state_name, state_of_name};
 
-/// Roles and their names; words, and the roles that they name; and names of states, and their bits. What names none has no number.
+/// Roles and their names; words, and the roles that they name; and names of states, and their bits. What names none has
+/// no number.
 const NAMES: &str = "\
 role 0 = invalid
 role 7 = check box

@@ -91,8 +91,8 @@ fn asked(question: &str) -> Option<(&str, u32, u32)> {
     Some((word, node, number(words.next())))
 }
 
-/// Appends what a tree answers: all its `nodes`, its places in preorder (`walk`) or those `below NODE`, how many nodes were `made`
-/// and are there, the `targets NODE KIND` of a relation, or what a node has.
+/// Appends what a tree answers: all its `nodes`, its places in preorder (`walk`) or those `below NODE`, how many nodes
+/// were `made` and are there, the `targets NODE KIND` of a relation, or what a node has.
 fn put_answer(out: &mut Bytes, tree: &Tree, question: &str) -> Option<()> {
     let (word, node, kind) = asked(question)?;
     if !tree.has(node) {
@@ -134,11 +134,12 @@ fn answers_all(alloc: Global, tree: &Tree, rows: &str) -> Option<bool> {
 const FAMILY: &str = "\
 insert 0 0 panel \"\"; insert 0 1 panel \"\"; insert 0 2 panel \"\"; insert 0 3 panel \"\"; insert 1 0 panel \"\"; insert 1 1 panel \"\"";
 
-/// Edits of the family, and what the tree is then. Each of four children goes to each index among the others; a child goes below a later
-/// sibling and one below a node goes up before it; and a subtree goes, and with it the relations whose targets are in it. Targets of a
-/// kind stand in the order in which they were put in, whatever else was put in between, two of each kind that there is, from the last
-/// kind on. Each node comes before those below it, and these before its later siblings; a walk below a node has all below it, and one
-/// below a leaf none. A node begins with all that its insert says.
+/// Edits of the family, and what the tree is then. Each of four children goes to each index among the others; a child
+/// goes below a later sibling and one below a node goes up before it; and a subtree goes, and with it the relations
+/// whose targets are in it. Targets of a kind stand in the order in which they were put in, whatever else was put in
+/// between, two of each kind that there is, from the last kind on. Each node comes before those below it, and these
+/// before its later siblings; a walk below a node has all below it, and one below a leaf none. A node begins with all
+/// that its insert says.
 const EDITED: &str = "\
 move 1 0 0 => nodes: (0: 1 2 3 4) (1: 5 6) (2:) (3:) (4:) (5:) (6:)
 move 1 0 1 => nodes: (0: 2 1 3 4) (1: 5 6) (2:) (3:) (4:) (5:) (6:)

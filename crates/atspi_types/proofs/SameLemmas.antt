@@ -2,7 +2,7 @@
 use Rattle.std.proofs.Common.{◌≡◌, ◌↔◌, IsTrue, ℕ, zero, suc, ◌<◌, List, [], ◌∷◌, ◌++◌, length, get_or, map, Bool, refl, sym, ap, ◌∙◌, arith, length-append}
 use Rattle.atspi_types.specs.Kinds.{Kind, kinds_of, types_in, number, boolean, text, path, signature, array, structure, variant, dictionary}
 use Rattle.atspi_types.specs.Signatures.{type_bytes, signature_bytes}
-use Rattle.atspi_types.specs.Shapes.{IsShapeOf}
+use Rattle.atspi_types.specs.inner.Shapes.{IsShapeOf}
 use Rattle.atspi_types.specs.declared.ty.shape.Shape.{Shape}
 use Rattle.atspi_types.specs.declared.ty.shape.Shape.TheVariants.{Code, Array, Struct, Dict}
 use Rattle.atspi_types.specs.KindView.{kind_of, kinds_in}

@@ -5,7 +5,7 @@ use Rattle.std.proofs.lemmas.List.{take_more, take_all, map-append}
 use Rattle.atspi_types.specs.Kinds.{Kind, kinds_of}
 use Rattle.atspi_types.specs.KindView.{kind_of, kinds_in}
 use Rattle.atspi_types.specs.Signatures.{type_bytes, signature_bytes}
-use Rattle.atspi_types.specs.Extents.{IsExtent, IsExtentOf}
+use Rattle.atspi_types.specs.inner.Extents.{IsExtent, IsExtentOf}
 use Rattle.atspi_types.specs.declared.ty.Ty.{Ty}
 use Rattle.atspi_types.specs.declared.ty.Tys.{Tys}
 use Rattle.atspi_types.specs.declared.ty.spelling.Extent.{Extent}

@@ -7,7 +7,7 @@ use Rattle.std.proofs.lemmas.Option.{slice_get_within, get_or_from_slice_get}
 use Rattle.atspi_types.specs.Kinds.{Kind, Kinds, kind, kinds_of}
 use Rattle.atspi_types.specs.Data.{Data, number_data, boolean_data, text_data, path_data, signature_data, array_data, structure_data, dictionary_data, variant_data, Items, no_items, item, items_of, type_of, types_of}
 use Rattle.atspi_types.specs.Signatures.{type_bytes, signature_bytes}
-use Rattle.atspi_types.specs.Extents.{IsExtent, IsExtentOf}
+use Rattle.atspi_types.specs.inner.Extents.{IsExtent, IsExtentOf}
 use Rattle.atspi_types.specs.declared.ty.spelling.Extent.{Extent}
 use Rattle.atspi_types.proofs.SignatureFronts.{bytes-push}
 use Rattle.atspi_types.proofs.SpellingLemmas.{extent_push}

@@ -4,7 +4,8 @@ use Rattle.std.specs.Int.{w16, w32, w64, cast_unsigned}
 use Rattle.atspi_types.specs.Kinds.{byte, i16, u16, i32, u32, i64, u64, double}
 use Rattle.atspi_types.specs.KindView.{kind_of}
 use Rattle.atspi_types.specs.SignatureView.{signature_kinds}
-use Rattle.atspi_types.specs.Data.{Data, number_data, boolean_data, text_data, path_data, signature_data, array_data, structure_data, dictionary_data, variant_data, items_of, entries_of}
+use Rattle.atspi_types.specs.Data.{Data, number_data, boolean_data, text_data, path_data, signature_data, array_data}
+use Rattle.atspi_types.specs.Data.{structure_data, dictionary_data, variant_data, items_of, entries_of}
 use Rattle.atspi_types.specs.DataView.{data_of, all_data, all_pairs}
 use Rattle.atspi_types.specs.declared.borrowed.ValueRef.{ValueRef}
 use Rattle.atspi_types.specs.declared.borrowed.ValueRef.TheVariants as refs

@@ -1,10 +1,11 @@
 -- What values are, apart from where they lie in memory (D-Bus Specification, "Type System").
 use Rattle.std.specs.Prelude.{◌≡◌, ℕ, Bool, List, [], ◌∷◌}
-use Rattle.atspi_types.specs.Kinds.{Num, Kind, Kinds, number, boolean, text, path, signature, array, structure, variant, dictionary, no_kinds, kind, IsBasic, IsLawful}
+use Rattle.atspi_types.specs.Kinds.{Num, Kind, Kinds, number, boolean, text, path, signature, array, structure, variant}
+use Rattle.atspi_types.specs.Kinds.{dictionary, no_kinds, kind, IsBasic, IsLawful}
 
 mutual
-  -- a value. A number is seen as that of its bits, a signed one in two's complement; a text as its characters and a path as
-  -- its bytes; an array has the type of its elements beside them, and a dictionary those of its keys and values
+  -- a value. A number is seen as that of its bits, a signed one in two's complement; a text as its characters and a
+  -- path as its bytes; an array has the type of its elements beside them, and a dictionary those of its keys and values
   pub data Data : Type 0 where
     number_data : Num → ℕ → Data
     boolean_data : Bool → Data
@@ -82,4 +83,5 @@ abbrev mutual
 
   pub AllHaveTypes : Kind → Kind → Entries → Type 0
   AllHaveTypes k v no_entries = Unit {0}
-  AllHaveTypes k v (entry c d es) = (type_of c ≡ k) × (type_of d ≡ v) × IsWellTyped c × IsWellTyped d × AllHaveTypes k v es
+  AllHaveTypes k v (entry c d es) = (type_of c ≡ k) × (type_of d ≡ v) × IsWellTyped c × IsWellTyped d
+      × AllHaveTypes k v es

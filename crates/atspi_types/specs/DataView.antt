@@ -5,7 +5,8 @@ use Rattle.atspi_types.specs.Kinds.{byte, i16, u16, i32, u32, i64, u64, double}
 use Rattle.atspi_types.specs.KindView.{kind_of}
 use Rattle.atspi_types.specs.SignatureView.{signature_kinds}
 use Rattle.atspi_types.specs.PlainsView.{plains_data}
-use Rattle.atspi_types.specs.Data.{Data, number_data, boolean_data, text_data, path_data, signature_data, array_data, structure_data, dictionary_data, variant_data, items_of, entries_of}
+use Rattle.atspi_types.specs.Data.{Data, number_data, boolean_data, text_data, path_data, signature_data, array_data}
+use Rattle.atspi_types.specs.Data.{structure_data, dictionary_data, variant_data, items_of, entries_of}
 use Rattle.atspi_types.specs.declared.value.Value.{Value, fold-Value}
 use Rattle.atspi_types.specs.declared.value.Kept.TheOpen.{Value-F, Values-F, Kept-F, Pairs-F}
 use Rattle.atspi_types.specs.declared.value.Values.{Values, fold-Values}

@@ -1,6 +1,7 @@
 -- How contracts see a type and a list of types.
 use Rattle.std.specs.Prelude.{List}
-use Rattle.atspi_types.specs.Kinds.{Kind, number, boolean, text, path, signature, array, structure, variant, dictionary, kinds_of, byte, i16, u16, i32, u32, i64, u64, double}
+use Rattle.atspi_types.specs.Kinds.{Kind, number, boolean, text, path, signature, array, structure, variant, dictionary}
+use Rattle.atspi_types.specs.Kinds.{kinds_of, byte, i16, u16, i32, u32, i64, u64, double}
 use Rattle.atspi_types.specs.declared.ty.Ty.{Ty, fold-Ty}
 use Rattle.atspi_types.specs.declared.ty.Ty.TheOpen.{Ty-F, Tys-F, EntryType-F}
 use Rattle.atspi_types.specs.declared.ty.Tys.{Tys, fold-Tys}

@@ -14,8 +14,8 @@ pub data Num : Type 0 where
   double : Num
 
 mutual
-  -- a type: of numbers, booleans, texts, paths, signatures; of arrays of a type, of structs of some types, of variants, and
-  -- of dictionaries from a type to a type
+  -- a type: of numbers, booleans, texts, paths, signatures; of arrays of a type, of structs of some types, of variants,
+  -- and of dictionaries from a type to a type
   pub data Kind : Type 0 where
     number : Num → Kind
     boolean : Kind

@@ -1,12 +1,10 @@
+pub mod inner
 pub mod Borrowed
 pub mod Data
 pub mod PlainsView
 pub mod DataView
-pub mod Extents
 pub mod KindView
 pub mod Kinds
-pub mod OpenView
-pub mod Shapes
 pub mod SignatureFaults
 pub mod SignatureReading
 pub mod SignatureView

@@ -4,7 +4,8 @@ use Rattle.std.specs.Int.{w16, w32, w64, cast_unsigned}
 use Rattle.atspi_types.specs.Kinds.{byte, i16, u16, i32, u32, i64, u64, double}
 use Rattle.atspi_types.specs.Data.{Data, number_data, boolean_data}
 use Rattle.atspi_types.specs.declared.value.plains.Plains.{Plains}
-use Rattle.atspi_types.specs.declared.value.plains.Plains.TheVariants.{Bytes, Bools, I16s, U16s, I32s, U32s, I64s, U64s, Doubles}
+use Rattle.atspi_types.specs.declared.value.plains.Plains.TheVariants.{Bytes, Bools, I16s, U16s, I32s, U32s, I64s, U64s}
+use Rattle.atspi_types.specs.declared.value.plains.Plains.TheVariants.{Doubles}
 
 -- the values
 abbrev pub plains_data : Plains → List Data

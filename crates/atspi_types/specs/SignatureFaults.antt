@@ -1,8 +1,10 @@
--- What is wrong with bytes that are no signature, and where (D-Bus Specification, "Type System"). A byte is judged where the
--- bytes before it begin a signature; of all that is wrong the least is told, by place and then by number.
-use Rattle.std.specs.Prelude.{◌≡◌, ◌≢◌, ℕ, ◌+◌, ◌<◌, ◌≤◌, ◌==◌, ◌⊎◌, List, [], ◌∷◌, ◌++◌, length, take, if◌then◌else◌, Option, Some, None}
+-- What is wrong with bytes that are no signature, and where (D-Bus Specification, "Type System"). A byte is judged
+-- where the bytes before it begin a signature; of all that is wrong the least is told, by place and then by number.
+use Rattle.std.specs.Prelude.{◌≡◌, ◌≢◌, ℕ, ◌+◌, ◌<◌, ◌≤◌, ◌==◌, ◌⊎◌, List, [], ◌∷◌, ◌++◌, length, take, if◌then◌else◌}
+use Rattle.std.specs.Prelude.{Option, Some, None}
 use Rattle.std.specs.List.{slice_get}
-use Rattle.atspi_types.specs.Kinds.{byte, i16, u16, i32, u32, i64, u64, double, Kind, number, boolean, text, path, signature, variant, kinds_of, IsBasic, AreLawful}
+use Rattle.atspi_types.specs.Kinds.{byte, i16, u16, i32, u32, i64, u64, double, Kind, number, boolean, text, path}
+use Rattle.atspi_types.specs.Kinds.{signature, variant, kinds_of, IsBasic, AreLawful}
 use Rattle.atspi_types.specs.Signatures.{signature_bytes, array_depths, struct_depths}
 
 -- what a byte of a signature is, or that there is none
@@ -44,8 +46,8 @@ abbrev pub next_token : Option ℕ → Token
 next_token (Some b) = token_of b
 next_token None = end
 
--- what stands where the beginning of a signature ends: types; or behind a context an a without its element, a struct with its
--- fields so far, or an entry with its types so far
+-- what stands where the beginning of a signature ends: types; or behind a context an a without its element, a struct
+-- with its fields so far, or an entry with its types so far
 pub data Context : Type 0 where
   at_top : List Kind → Context
   in_array : Context → Context
@@ -178,7 +180,8 @@ pub record JudgedIn (bytes : List ℕ) (place : ℕ) (c : Context) : Type 0 wher
 -- what is wrong with the bytes: a place and a reason; 1 is that there are more than 255
 pub data WrongSignature (bytes : List ℕ) : ℕ → ℕ → Type 0 where
   too_long : 255 < length bytes → WrongSignature bytes 255 1
-  refused : (place reason : ℕ) (c : Context) → JudgedIn bytes place c → Refused c (next_token (slice_get bytes place)) reason → WrongSignature bytes place reason
+  refused : (place reason : ℕ) (c : Context) → JudgedIn bytes place c
+      → Refused c (next_token (slice_get bytes place)) reason → WrongSignature bytes place reason
 
 -- by place and then by number
 abbrev pub Before : ℕ → ℕ → ℕ → ℕ → Type 0

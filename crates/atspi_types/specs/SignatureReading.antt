@@ -1,7 +1,10 @@
 -- Reading a signature, byte by byte.
-use Rattle.std.specs.Prelude.{◌≡◌, ℕ, ◌+◌, nat_le, nat_lt, Bool, false, List, [], ◌∷◌, ◌++◌, length, take, if◌then◌else◌, Option, Some, None, Result, Ok, Err}
+use Rattle.std.specs.Prelude.{◌≡◌, ℕ, ◌+◌, nat_le, nat_lt, Bool, false, List, [], ◌∷◌, ◌++◌, length, take}
+use Rattle.std.specs.Prelude.{if◌then◌else◌, Option, Some, None, Result, Ok, Err}
 use Rattle.atspi_types.specs.Kinds.{Kind, array, structure, dictionary, kinds_of, is_basic}
-use Rattle.atspi_types.specs.SignatureFaults.{Token, code, array_code, struct_open, struct_close, entry_open, entry_close, descriptor, no_code, end, token_of, Context, at_top, in_array, in_struct, in_entry, arrays_open, structs_open}
+use Rattle.atspi_types.specs.SignatureFaults.{Token, code, array_code, struct_open, struct_close, entry_open}
+use Rattle.atspi_types.specs.SignatureFaults.{entry_close, descriptor, no_code, end, token_of, Context, at_top}
+use Rattle.atspi_types.specs.SignatureFaults.{in_array, in_struct, in_entry, arrays_open, structs_open}
 use Rattle.atspi_types.specs.declared.fault.Fault.{Fault}
 use Rattle.atspi_types.specs.declared.fault.ReadFault.{ReadFault}
 use Rattle.atspi_types.specs.declared.fault.ReadFault.TheVariants as faults

@@ -1,6 +1,8 @@
 -- How types are spelled, and which lists of types have a signature (D-Bus Specification, "Type System").
 use Rattle.std.specs.Prelude.{ℕ, ◌+◌, ◌≤◌, Bool, ◌&&◌, nat_le, List, [], ◌∷◌, ◌++◌, length, max}
-use Rattle.atspi_types.specs.Kinds.{Num, byte, i16, u16, i32, u32, i64, u64, double, Kind, Kinds, number, boolean, text, path, signature, array, structure, variant, dictionary, no_kinds, kind, AreLawful, are_lawful}
+use Rattle.atspi_types.specs.Kinds.{Num, byte, i16, u16, i32, u32, i64, u64, double, Kind, Kinds, number, boolean, text}
+use Rattle.atspi_types.specs.Kinds.{path, signature, array, structure, variant, dictionary, no_kinds, kind, AreLawful}
+use Rattle.atspi_types.specs.Kinds.{are_lawful}
 
 -- the code of a number: y, n, q, i, u, x, t or d
 abbrev pub number_code : Num → ℕ
@@ -77,7 +79,8 @@ pub record IsSignature (ks : Kinds) : Type 0 where
 
 -- the same as tests
 unfoldable pub fits_signature : Kinds → Bool
-fits_signature ks = nat_le (length (signature_bytes ks)) 255 && (nat_le (array_depths ks) 32 && nat_le (struct_depths ks) 32)
+fits_signature ks = nat_le (length (signature_bytes ks)) 255
+    && (nat_le (array_depths ks) 32 && nat_le (struct_depths ks) 32)
 
 unfoldable pub is_signature : Kinds → Bool
 is_signature ks = are_lawful ks && fits_signature ks

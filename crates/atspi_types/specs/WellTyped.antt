@@ -1,8 +1,11 @@
 -- Tests of types and values: whether two types are the same, and whether a value is well typed.
 use Rattle.std.specs.Prelude.{Bool, true, false, ◌&&◌, ◌==◌}
-use Rattle.atspi_types.specs.Kinds.{Kind, Kinds, number, boolean, text, path, signature, array, structure, variant, dictionary, no_kinds, kind, is_basic, is_lawful}
+use Rattle.atspi_types.specs.Kinds.{Kind, Kinds, number, boolean, text, path, signature, array, structure, variant}
+use Rattle.atspi_types.specs.Kinds.{dictionary, no_kinds, kind, is_basic, is_lawful}
 use Rattle.atspi_types.specs.Signatures.{number_code}
-use Rattle.atspi_types.specs.Data.{Data, number_data, boolean_data, text_data, path_data, signature_data, array_data, structure_data, dictionary_data, variant_data, Items, no_items, item, Entries, no_entries, entry, type_of}
+use Rattle.atspi_types.specs.Data.{Data, number_data, boolean_data, text_data, path_data, signature_data, array_data}
+use Rattle.atspi_types.specs.Data.{structure_data, dictionary_data, variant_data, Items, no_items, item, Entries}
+use Rattle.atspi_types.specs.Data.{no_entries, entry, type_of}
 
 -- the same type
 abbrev mutual
@@ -47,4 +50,5 @@ abbrev mutual
 
   pub all_have_types : Kind → Kind → Entries → Bool
   all_have_types k v no_entries = true
-  all_have_types k v (entry c d es) = same_kind (type_of c) k && (same_kind (type_of d) v && (is_well_typed c && (is_well_typed d && all_have_types k v es)))
+  all_have_types k v (entry c d es) = same_kind (type_of c) k
+      && (same_kind (type_of d) v && (is_well_typed c && (is_well_typed d && all_have_types k v es)))

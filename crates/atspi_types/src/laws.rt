@@ -18,6 +18,9 @@ pub fn tests_decide()
 
 /// Bytes are a signature, or have a first fault, and never both.
 pub fn signature_or_fault()
-    ensures either { (bytes : List ℕ) → (((ks : Kinds) × IsSignature ks × (bytes ≡ signature_bytes ks)) ⊎ ((place : ℕ) × (reason : ℕ) × IsFirstSignatureFault bytes place reason)) }
-    ensures never_both { (ks : Kinds) → (place : ℕ) → (reason : ℕ) → IsSignature ks → WrongSignature (signature_bytes ks) place reason → ⊥ }
+    ensures either { (bytes : List ℕ)
+        → (((ks : Kinds) × IsSignature ks × (bytes ≡ signature_bytes ks))
+        ⊎ ((place : ℕ) × (reason : ℕ) × IsFirstSignatureFault bytes place reason)) }
+    ensures never_both { (ks : Kinds) → (place : ℕ) → (reason : ℕ) → IsSignature ks
+        → WrongSignature (signature_bytes ks) place reason → ⊥ }
 {}

@@ -5,7 +5,7 @@ ghost use Rattle.atspi_types.specs.KindView.{kind_of, kinds_in};
 ghost use Rattle.atspi_types.specs.SignatureFaults.{BeginsSignature, MayCome, arrays_open, structs_open, at_top};
 ghost use Rattle.atspi_types.specs.SignatureReading as reading;
 ghost use Rattle.atspi_types.specs.SignatureReading.{Gives};
-ghost use Rattle.atspi_types.specs.OpenView.{token_view, context_of};
+ghost use Rattle.atspi_types.specs.inner.OpenView.{token_view, context_of};
 
 use crate::fault::{Fault, ReadFault};
 use crate::token::{Token, read_token};
@@ -264,7 +264,9 @@ fn step(alloc: Global, before: Open, place: u32, byte: u8) -> Result<Open, ReadF
 fn front(alloc: Global, bytes: &[u8]) -> Result<Tys, NoMemory>
     ensures begins { IfOk result (λ types. BeginsSignature (at_top (kinds_in types))) }
     // The bytes behind them lead on to where all of the bytes do.
-    ensures rest { IfOk result (λ types. reading.walk (at_top (kinds_in types)) (length (kinds_in types)) (drop (length (kinds_in types)) bytes.now) ≡ reading.walk (at_top []) 0 bytes.now) }
+    ensures rest { IfOk result
+        (λ types. reading.walk (at_top (kinds_in types)) (length (kinds_in types))
+        (drop (length (kinds_in types)) bytes.now) ≡ reading.walk (at_top []) 0 bytes.now) }
 {
     let mut types = Tys::with_capacity(alloc, bytes.len())?;
     for byte in bytes {

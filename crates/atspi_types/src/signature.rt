@@ -1,6 +1,7 @@
 //! Signatures: lists of types within the limits of the wire.
 
-ghost use Rattle.std.specs.Prelude.{◌≡◌, [], ◌∷◌, ◌++◌, ◌↔◌, List, ℕ, IfOk, IfSome, IsSome, IsTrue, OnOk, OnErr, Ok, length, map};
+ghost use Rattle.std.specs.Prelude.{◌≡◌, [], ◌∷◌, ◌++◌, ◌↔◌, List, ℕ, IfOk, IfSome, IsSome, IsTrue, OnOk, OnErr, Ok};
+ghost use Rattle.std.specs.Prelude.{length, map};
 ghost use Rattle.atspi_types.specs.Kinds.{Kinds, kinds_of, AreLawful};
 ghost use Rattle.atspi_types.specs.KindView.{kind_of, kinds_in};
 ghost use Rattle.atspi_types.specs.Signatures.{signature_bytes, is_signature, IsSignature, FitsSignature};
@@ -23,13 +24,15 @@ pub struct Signature {
 impl Signature {
     ghost use Rattle.atspi_types.specs.SignatureView.{signature_types, signature_kinds, TellsFirst};
 
-    /// The types that the bytes spell (D-Bus Specification, "Type System"). Refused with the first fault, of the reasons 1 to 9.
+    /// The types that the bytes spell (D-Bus Specification, "Type System"). Refused with the first fault, of the
+    /// reasons 1 to 9.
     pub fn parse(alloc: Global, bytes: &[u8]) -> Result<Signature, ReadFault>
         // What is read is spelled so.
         ensures found { IfOk result (λ signature. bytes.now ≡ signature_bytes (signature_kinds signature)) }
         ensures within { IfOk result (λ signature. IsSignature (signature_kinds signature)) }
         // What is spelled so is read, unless memory runs out.
-        ensures only { (types : Kinds) → IsSignature types → bytes.now ≡ signature_bytes types → Gives signature_kinds result (Ok types) }
+        ensures only { (types : Kinds) → IsSignature types → bytes.now ≡ signature_bytes types
+            → Gives signature_kinds result (Ok types) }
         // Of all that is wrong the least is told.
         ensures first { TellsFirst result bytes.now }
         ensures exact { Gives signature_types result (signature_in bytes.now) }
@@ -44,8 +47,8 @@ impl Signature {
         Ok(Signature { types })
     }
 
-    /// The signature of lawful types; none exactly where their spelling passes 255 bytes, 32 arrays in one another or 32
-    /// structs in one another.
+    /// The signature of lawful types; none exactly where their spelling passes 255 bytes, 32 arrays in one another or
+    /// 32 structs in one another.
     pub fn of(types: Tys) -> Option<Signature>
         requires { AreLawful (kinds_of (kinds_in types)) }
         ensures fits { IsSome result ↔ FitsSignature (kinds_of (kinds_in types)) }

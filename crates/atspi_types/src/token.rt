@@ -2,7 +2,7 @@
 
 ghost use Rattle.std.specs.Prelude.{◌≡◌};
 ghost use Rattle.atspi_types.specs.SignatureFaults.{token_of};
-ghost use Rattle.atspi_types.specs.OpenView.{token_view};
+ghost use Rattle.atspi_types.specs.inner.OpenView.{token_view};
 
 use crate::ty::Ty;
 

@@ -14,8 +14,8 @@ pub(crate) use shape::Shape;
 pub(crate) use spelling::Extent;
 use std::alloc::Global;
 
-/// The type of a value (D-Bus Specification, "Type System"). A struct has at least one field, and a key is basic: such a
-/// type is lawful.
+/// The type of a value (D-Bus Specification, "Type System"). A struct has at least one field, and a key is basic: such
+/// a type is lawful.
 #[derive(Drop)]
 #[cycle(types)]
 pub enum Ty {

@@ -1,8 +1,9 @@
-//! Types where they lie in their codes: what they tell of themselves, and the two readers side by side on codes from a seed.
+//! Types where they lie in their codes: what they tell of themselves, and the two readers side by side on codes from a
+//! seed.
 
 use crate::rows::{put_pair, signature};
 use atspi_base::{Bytes, put_decimal};
-use atspi_cursor::codes::{Shape, TyRef, TysRef};
+use atspi_marshal_in_place::codes::{Shape, TyRef, TysRef};
 use std::alloc::Global;
 
 /// How many types there are.
@@ -116,7 +117,8 @@ fn put_told(out: &mut Bytes, ty: TyRef<'_>) {
     put_word(out, ty.codes());
 }
 
-/// The same of the one type that bytes are; `none` where they are not one alone, and the reason and the place of their first fault.
+/// The same of the one type that bytes are; `none` where they are not one alone, and the reason and the place of their
+/// first fault.
 pub(crate) fn put_type(out: &mut Bytes, bytes: &[u8]) {
     match TyRef::parse(bytes) {
         Ok(Some(ty)) => put_told(out, ty),

@@ -8,7 +8,7 @@ use atspi_base::valid_names::{
 use atspi_base::{
     Bytes, Text, TextFault, put_decimal, put_hex, put_in_quotes, put_signed, read_str,
 };
-use atspi_cursor::codes::TysRef;
+use atspi_marshal_in_place::codes::TysRef;
 use atspi_types::{Fault, ReadFault, Signature};
 use std::alloc::Global;
 use std::process::Abort;
@@ -16,7 +16,8 @@ use std::process::Abort;
 /// What is asked of bytes.
 #[derive(Clone, Copy)]
 pub(crate) enum Asked {
-    /// Reading them as a text: 0 and the characters, 1 and the place of a zero byte, or 2 and the place where UTF-8 ends.
+    /// Reading them as a text: 0 and the characters, 1 and the place of a zero byte, or 2 and the place where UTF-8
+    /// ends.
     Text,
     /// The bytes in quotes.
     Quotes,

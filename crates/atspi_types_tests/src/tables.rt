@@ -174,8 +174,9 @@ const TYPES: &str = "\
 ya(ii)((s)g)a{ua{sv}}aavo => many y a(ii) ((s)g) a{ua{sv}} aav o.
 a{s(yy)} => only a{s(yy)}.";
 
-/// Codes of a type; its shape, the codes of the types in it (a dash where there are none), its alignment, `b` where it is basic, which of its element, its fields and its entry
-/// it has, its first code and its codes. `none` where they are not one type alone, and the reason and the place of their first fault.
+/// Codes of a type; its shape, the codes of the types in it (a dash where there are none), its alignment, `b` where it
+/// is basic, which of its element, its fields and its entry it has, its first code and its codes. `none` where they are
+/// not one type alone, and the reason and the place of their first fault.
 const SHAPES: &str = "\
 y => byte - - 1 b --- y y
 b => bool - - 4 b --- b b

@@ -5,11 +5,11 @@ use Rattle.std.specs.Option.{option_map}
 use Rattle.atspi_types.specs.Data.{Data}
 use Rattle.atspi_types.specs.DataView.{all_data}
 use Rattle.atspi_types.specs.declared.value.Values.{Values}
-use Rattle.atspi_forest.specs.declared.step.Step.{Step}
-use Rattle.atspi_forest.specs.Forest.{has}
-use Rattle.atspi_forest.specs.Row.{ShapeRow}
-use Rattle.atspi_forest.specs.RowRules.{rows}
-use Rattle.atspi_forest.specs.Tree.{is_shape, IsTree}
+use Rattle.atspi_tree_model.specs.declared.step.Step.{Step}
+use Rattle.atspi_tree_model.specs.Forest.{has}
+use Rattle.atspi_tree_model.specs.Row.{ShapeRow}
+use Rattle.atspi_tree_model.specs.RowRules.{rows}
+use Rattle.atspi_tree_model.specs.Tree.{is_shape, IsTree}
 use Rattle.atspi_protocol.specs.ends.Messages.{Reply, returns, fails, error_word}
 use Rattle.atspi_protocol.specs.declared.ends.error.CallError.{CallError}
 use Rattle.atspi_tree.specs.TreeShape.{TreeShape, row_of}
@@ -30,12 +30,12 @@ use Rattle.atspi_app_answers.specs.declared.fault.AnswerFault.TheVariants as fau
 use Rattle.atspi_app_answers.specs.Counted.{HasCountsAt}
 use Rattle.atspi_app_answers.specs.Told.{Returns, Fails, id_after}
 use Rattle.atspi_app_answers.proofs.Answering.{row_there}
-use Rattle.atspi_contents_answers.specs.Told.{Tells}
-use Rattle.atspi_contents_changes.specs.Changing.{Changes}
-use Rattle.atspi_exported.specs.Doing.{CanBeDone}
+use Rattle.atspi_app_contents.specs.answers.Told.{Tells}
+use Rattle.atspi_app_contents.specs.changes.Changing.{Changes}
+use Rattle.atspi_app_exported.specs.Doing.{CanBeDone}
 use Rattle.atspi_app.specs.declared.called.outcome.Called.{Called}
 use Rattle.atspi_app.specs.called.Called.{answer_of}
-use Rattle.atspi_app.specs.called.Told.{ComesTo, PlaceComesTo}
+use Rattle.atspi_app.specs.called.inner.Told.{ComesTo, PlaceComesTo}
 use Rattle.atspi_app.proofs.OfCalled.Done.{called_done}
 
 -- no steps are done as a whole

@@ -3,22 +3,22 @@ use Rattle.std.proofs.Common.{◌≡◌, ℕ, ◌-◌, Bool, true, false, cond, 
 use Rattle.std.specs.Prelude.{ℤ, pos, negsuc, nat_lt, nat_le, slice_get, ◌==◌, ◌&&◌, if◌then◌else◌, Result, Ok, Err}
 use Rattle.std.specs.Option.{option_map}
 use Rattle.atspi_types.specs.Data.{Data}
-use Rattle.atspi_forest.specs.declared.contents.FaceData.{FaceData}
-use Rattle.atspi_forest.specs.declared.contents.FaceData.TheVariants.{Chars}
-use Rattle.atspi_forest.specs.declared.edit.Edit.{Edit}
-use Rattle.atspi_forest.specs.declared.edit.Edit.TheVariants.{Put, Cut, Caret, Mark, Select, Deselect, Press}
-use Rattle.atspi_forest.specs.declared.edit.EditFault.{EditFault}
-use Rattle.atspi_forest.specs.declared.step.Step.{Step}
-use Rattle.atspi_forest.specs.declared.step.Step.TheVariants.{SetState, TextSelect, Delete, Insert, Caret as CaretStep}
-use Rattle.atspi_forest.specs.Edits.{steps_of_tree, steps_unless, first_fault, refusals, made_steps, cutting, putting, known_text, text_contents, others}
-use Rattle.atspi_forest.specs.Forest.{find}
-use Rattle.atspi_forest.specs.Row.{ShapeRow, TreeRow, TextContents, Each, HoldsIfThere, IsText}
-use Rattle.atspi_forest.specs.RowRules.{rows}
-use Rattle.atspi_forest.specs.States.{has_state, multiselectable, selected}
-use Rattle.atspi_forest.specs.Tree.{is_node, is_shape, IsTree}
-use Rattle.atspi_forest.proofs.Lookup.{each-find, find-relabel}
+use Rattle.atspi_tree_model.specs.declared.contents.FaceData.{FaceData}
+use Rattle.atspi_tree_model.specs.declared.contents.FaceData.TheVariants.{Chars}
+use Rattle.atspi_tree_model.specs.declared.edit.Edit.{Edit}
+use Rattle.atspi_tree_model.specs.declared.edit.Edit.TheVariants.{Put, Cut, Caret, Mark, Select, Deselect, Press}
+use Rattle.atspi_tree_model.specs.declared.edit.EditFault.{EditFault}
+use Rattle.atspi_tree_model.specs.declared.step.Step.{Step}
+use Rattle.atspi_tree_model.specs.declared.step.Step.TheVariants.{SetState, TextSelect, Delete, Insert, Caret as CaretStep}
+use Rattle.atspi_tree_model.specs.Edits.{steps_of_tree, steps_unless, first_fault, refusals, made_steps, cutting, putting, known_text, text_contents, others}
+use Rattle.atspi_tree_model.specs.Forest.{find}
+use Rattle.atspi_tree_model.specs.Row.{ShapeRow, TreeRow, TextContents, Each, HoldsIfThere, IsText}
+use Rattle.atspi_tree_model.specs.RowRules.{rows}
+use Rattle.atspi_tree_model.specs.States.{has_state, multiselectable, selected}
+use Rattle.atspi_tree_model.specs.Tree.{is_node, is_shape, IsTree}
+use Rattle.atspi_tree_model.proofs.Lookup.{each-find, find-relabel}
 use Rattle.atspi_tree.specs.TreeShape.{TreeShape, row_of}
-use Rattle.atspi_edits.specs.Answers.{IsKnown, edit_steps}
+use Rattle.atspi_tree_edits.specs.Answers.{IsKnown, edit_steps}
 use Rattle.atspi_protocol.specs.whole.Whole.{Faces, whole, filled}
 use Rattle.atspi_protocol.specs.declared.members.member.ObjectMember.{ObjectMember}
 use Rattle.atspi_protocol.specs.declared.members.member.ObjectMember.TheVariants as members
@@ -28,12 +28,12 @@ use Rattle.atspi_protocol.specs.objects.Children.{at, children_of, selected_chil
 use Rattle.atspi_protocol.specs.objects.Texts.{text_of}
 use Rattle.atspi_protocol.specs.objects.Changes.{edited, edited_at, edited_between, text_exchanged, selection_removed, selection_set, selected_child_off, all_selected, none_selected}
 use Rattle.atspi_protocol.specs.objects.Answers.{changes, called}
-use Rattle.atspi_exported.specs.Doing.{CanBeDone}
-use Rattle.atspi_exported.proofs.OneByOne.{edits_one, states_one, IsState}
-use Rattle.atspi_contents_values.specs.Seen.{seen}
-use Rattle.atspi_contents_values.proofs.Seen.{found_number}
-use Rattle.atspi_contents_changes.specs.Steps.{granted, and_more, exchanged}
-use Rattle.atspi_contents_changes.proofs.Exchanged.{exchange_seen}
+use Rattle.atspi_app_exported.specs.Doing.{CanBeDone}
+use Rattle.atspi_app_exported.proofs.OneByOne.{edits_one, states_one, IsState}
+use Rattle.atspi_app_contents.specs.values.Seen.{seen}
+use Rattle.atspi_app_contents.proofs.OfValues.Seen.{found_number}
+use Rattle.atspi_app_contents.specs.changes.inner.Steps.{granted, and_more, exchanged}
+use Rattle.atspi_app_contents.proofs.OfChanges.Exchanged.{exchange_seen}
 
 abbrev DoneIfThere : Option (List Step) → Type 0
 DoneIfThere None = Unit {0}

@@ -4,12 +4,12 @@ use Rattle.std.specs.Prelude.{MatchOption, IsSome, IfSome}
 use Rattle.std.specs.List.{AllByRecursion}
 use Rattle.std.specs.Option.{option_map_or}
 use Rattle.std.specs.FinMap.{get}
-use Rattle.atspi_forest.specs.declared.contents.FaceData.{FaceData}
-use Rattle.atspi_forest.specs.declared.contents.FaceKind.{FaceKind}
-use Rattle.atspi_forest.specs.declared.contents.FaceKind.TheVariants.{Chars, Grid, Deeds}
-use Rattle.atspi_forest.specs.Row.{ShapeRow, TreeRow}
-use Rattle.atspi_face.specs.Contents.{kind_of, caret_of}
-use Rattle.atspi_face.specs.Nodes.{Nodes, AreContents, HasText, caret_at}
+use Rattle.atspi_tree_model.specs.declared.contents.FaceData.{FaceData}
+use Rattle.atspi_tree_model.specs.declared.contents.FaceKind.{FaceKind}
+use Rattle.atspi_tree_model.specs.declared.contents.FaceKind.TheVariants.{Chars, Grid, Deeds}
+use Rattle.atspi_tree_model.specs.Row.{ShapeRow, TreeRow}
+use Rattle.atspi_faces.specs.face.Contents.{kind_of, caret_of}
+use Rattle.atspi_faces.specs.face.Nodes.{Nodes, AreContents, HasText, caret_at}
 use Rattle.atspi_tree.specs.TreeShape.{TreeShape, row_of}
 use Rattle.atspi_protocol.specs.whole.Whole.{Faces, filled}
 use Rattle.atspi_protocol.specs.declared.members.property.ObjectProperty.{ObjectProperty}
@@ -23,8 +23,8 @@ use Rattle.atspi_app_answers.specs.declared.place.AppPlace.TheVariants as places
 use Rattle.atspi_app_answers.specs.Counted.{AreCounts, HasCountFor, HasCountsFor, HasCountsAsked, HasCountsAt, counts_at}
 use Rattle.atspi_app_answers.specs.Laws.{AreFaces}
 use Rattle.atspi_app_answers.proofs.CountLemmas.{faces_tell_counts}
-use Rattle.atspi_contents_values.proofs.Seen.{found_number}
-use Rattle.atspi_exported.specs.Parts.{AreKinds, kinds_of}
+use Rattle.atspi_app_contents.proofs.OfValues.Seen.{found_number}
+use Rattle.atspi_app_exported.specs.Parts.{AreKinds, kinds_of}
 
 -- a node that is here has a text
 text_by : (nodes : Nodes) (n : ℕ) (o : Option FaceData) → get nodes n ≡ o → AreContents Chars nodes → IsSome o → MatchOption o ⊥ (λ what. kind_of what ≡ Chars)

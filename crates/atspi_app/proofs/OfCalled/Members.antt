@@ -3,8 +3,8 @@ use Rattle.std.proofs.Common.{◌≡◌, true, false, refl, sym, true≢false}
 use Rattle.atspi_protocol.specs.declared.members.member.ObjectMember.{ObjectMember}
 use Rattle.atspi_protocol.specs.declared.members.member.ObjectMember.TheVariants as members
 use Rattle.atspi_app_answers.specs.Told.{is_of_contents}
-use Rattle.atspi_contents_answers.specs.Told.{reads_contents}
-use Rattle.atspi_contents_changes.specs.Changing.{changes_contents}
+use Rattle.atspi_app_contents.specs.answers.Told.{reads_contents}
+use Rattle.atspi_app_contents.specs.changes.Changing.{changes_contents}
 
 pub changes_left : (member : ObjectMember) → is_of_contents member ≡ true → reads_contents member ≡ false → changes_contents member ≡ true
 changes_left members.GetChildAtIndex h r = absurd (true≢false (sym h))

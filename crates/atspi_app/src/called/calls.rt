@@ -1,22 +1,22 @@
 //! What a call comes to, by what it asks of which object.
 
 ghost use Rattle.std.specs.Prelude.{◌≡◌, ℕ, [], true, IfOk, IfSome, IfNone};
-ghost use Rattle.atspi_cursor.specs.Items.{fields_data};
+ghost use Rattle.atspi_marshal_in_place.specs.Items.{fields_data};
 ghost use Rattle.atspi_protocol.specs.ends.Messages.{error_word, fails};
-ghost use Rattle.atspi_header.specs.View.{envelope_at};
-ghost use Rattle.atspi_forest.specs.Forest.{has};
-ghost use Rattle.atspi_forest.specs.RowRules.{rows};
-ghost use Rattle.atspi_forest.specs.Tree.{IsTree, is_shape};
+ghost use Rattle.atspi_message_in_place.specs.View.{envelope_at};
+ghost use Rattle.atspi_tree_model.specs.Forest.{has};
+ghost use Rattle.atspi_tree_model.specs.RowRules.{rows};
+ghost use Rattle.atspi_tree_model.specs.Tree.{IsTree, is_shape};
 ghost use Rattle.atspi_protocol.specs.whole.Whole.{Faces, whole};
-ghost use Rattle.atspi_exported.specs.Doing.{CanBeDone};
-ghost use Rattle.atspi_exported.specs.Parts.{AreKinds, faces_of, kinds_of};
+ghost use Rattle.atspi_app_exported.specs.Doing.{CanBeDone};
+ghost use Rattle.atspi_app_exported.specs.Parts.{AreKinds, faces_of, kinds_of};
 ghost use Rattle.atspi_app_answers.specs.Asking.{answer_to};
 ghost use Rattle.atspi_app_answers.specs.Place.{IsThere};
 ghost use Rattle.atspi_app_answers.specs.Seen.{seen};
 ghost use Rattle.atspi_app_answers.specs.Told as told;
 ghost use Rattle.atspi_app_answers.specs.Told.{IsOfShape};
 ghost use Rattle.atspi_app.specs.called.Called.{answer_of};
-ghost use Rattle.atspi_app.specs.called.Told.{ComesTo, PlaceComesTo};
+ghost use Rattle.atspi_app.specs.called.inner.Told.{ComesTo, PlaceComesTo};
 
 use crate::called::contents::{changing, reading};
 use crate::called::counts::counts_at;
@@ -24,15 +24,15 @@ use crate::called::outcome::Called;
 use crate::called::shapes::of_shape;
 use atspi_app_answers::{AppPlace, Counts, asked_in, is_of_contents};
 use atspi_app_calls::Ask;
+use atspi_app_contents::answers::reads_contents;
 use atspi_base::{NoMemory, Text};
-use atspi_contents_answers::reads_contents;
-use atspi_cursor::Fields;
-use atspi_face::Face;
-use atspi_forest::StepList;
-use atspi_header::MessageRef;
+use atspi_faces::face::Face;
+use atspi_marshal_in_place::Fields;
+use atspi_message_in_place::MessageRef;
 use atspi_protocol::ends::CallError;
 use atspi_protocol::members::ObjectMember;
 use atspi_tree::Tree;
+use atspi_tree_model::StepList;
 use std::alloc::Global;
 
 /// The member that reads contents or changes something, if one is asked.
@@ -67,9 +67,13 @@ fn of_contents<C: Face, G: Face, D: Face>(
 ) -> Result<Called, NoMemory>
     requires there { has (is_shape node) tree.now.rows ≡ true }
     requires kinds { AreKinds (kinds_of (C.of_kind texts.now) (G.of_kind columns.now) (D.of_kind actions.now)) }
-    requires lawful { IsTree rows (whole tree.now.rows (faces_of (C.nodes texts.now) (G.nodes columns.now) (D.nodes actions.now))) tree.now.added }
+    requires lawful { IsTree rows
+        (whole tree.now.rows (faces_of (C.nodes texts.now) (G.nodes columns.now) (D.nodes actions.now)))
+        tree.now.added }
     requires member { told.is_of_contents member ≡ true }
-    ensures comes { IfOk result (λ c. ComesTo tree.now (faces_of (C.nodes texts.now) (G.nodes columns.now) (D.nodes actions.now)) bus.now id node member (fields_data args.entry) c) }
+    ensures comes { IfOk result
+        (λ c. ComesTo tree.now (faces_of (C.nodes texts.now) (G.nodes columns.now) (D.nodes actions.now)) bus.now id
+        node member (fields_data args.entry) c) }
     ensures done { IfOk result (λ c. CanBeDone c.steps) }
 {
     if reads_contents(member) {
@@ -95,8 +99,12 @@ fn of_node<C: Face, G: Face, D: Face>(
 ) -> Result<Called, NoMemory>
     requires there { has (is_shape node) tree.now.rows ≡ true }
     requires kinds { AreKinds (kinds_of (C.of_kind texts.now) (G.of_kind columns.now) (D.of_kind actions.now)) }
-    requires lawful { IsTree rows (whole tree.now.rows (faces_of (C.nodes texts.now) (G.nodes columns.now) (D.nodes actions.now))) tree.now.added }
-    ensures comes { IfOk result (λ c. PlaceComesTo tree.now (faces_of (C.nodes texts.now) (G.nodes columns.now) (D.nodes actions.now)) bus.now id (AppPlace.Node node) (fields_data args.entry) ask c) }
+    requires lawful { IsTree rows
+        (whole tree.now.rows (faces_of (C.nodes texts.now) (G.nodes columns.now) (D.nodes actions.now)))
+        tree.now.added }
+    ensures comes { IfOk result
+        (λ c. PlaceComesTo tree.now (faces_of (C.nodes texts.now) (G.nodes columns.now) (D.nodes actions.now)) bus.now
+        id (AppPlace.Node node) (fields_data args.entry) ask c) }
     ensures done { IfOk result (λ c. CanBeDone c.steps) }
 {
     match contents_member(ask) {
@@ -138,7 +146,8 @@ fn of_tree(
     ask: Ask,
     args: Fields,
 ) -> Result<Called, NoMemory>
-    ensures comes { IfOk result (λ c. (faces : Faces) → PlaceComesTo tree.now faces bus.now id AppPlace.Tree (fields_data args.entry) ask c) }
+    ensures comes { IfOk result
+        (λ c. (faces : Faces) → PlaceComesTo tree.now faces bus.now id AppPlace.Tree (fields_data args.entry) ask c) }
     ensures no_steps { IfOk result (λ c. c.steps ≡ []) }
 {
     of_shape(alloc, tree, bus, id, no_counts(), AppPlace::Tree, ask, args)
@@ -170,8 +179,12 @@ fn of_place<C: Face, G: Face, D: Face>(
 ) -> Result<Called, NoMemory>
     requires there { IsThere tree.now place }
     requires kinds { AreKinds (kinds_of (C.of_kind texts.now) (G.of_kind columns.now) (D.of_kind actions.now)) }
-    requires lawful { IsTree rows (whole tree.now.rows (faces_of (C.nodes texts.now) (G.nodes columns.now) (D.nodes actions.now))) tree.now.added }
-    ensures comes { IfOk result (λ c. PlaceComesTo tree.now (faces_of (C.nodes texts.now) (G.nodes columns.now) (D.nodes actions.now)) bus.now id place (fields_data args.entry) ask c) }
+    requires lawful { IsTree rows
+        (whole tree.now.rows (faces_of (C.nodes texts.now) (G.nodes columns.now) (D.nodes actions.now)))
+        tree.now.added }
+    ensures comes { IfOk result
+        (λ c. PlaceComesTo tree.now (faces_of (C.nodes texts.now) (G.nodes columns.now) (D.nodes actions.now)) bus.now
+        id place (fields_data args.entry) ask c) }
     ensures done { IfOk result (λ c. CanBeDone c.steps) }
 {
     match place {
@@ -182,7 +195,8 @@ fn of_place<C: Face, G: Face, D: Face>(
     }
 }
 
-/// What a call of an application comes to whose tree has this shape, and whose contents three faces keep, with this bus name and number:
+/// What a call of an application comes to whose tree has this shape, and whose contents three faces keep, with this bus
+/// name and number:
 /// exactly the answer of the definitions, and steps that can be done as a whole. The one refusal is want of memory.
 pub fn called<C: Face, G: Face, D: Face>(
     alloc: Global,
@@ -195,8 +209,13 @@ pub fn called<C: Face, G: Face, D: Face>(
     call: &MessageRef,
 ) -> Result<Called, NoMemory>
     requires kinds { AreKinds (kinds_of (C.of_kind texts.now) (G.of_kind columns.now) (D.of_kind actions.now)) }
-    requires lawful { IsTree rows (whole tree.now.rows (faces_of (C.nodes texts.now) (G.nodes columns.now) (D.nodes actions.now))) tree.now.added }
-    ensures comes { IfOk result (λ c. answer_to (seen tree.now (faces_of (C.nodes texts.now) (G.nodes columns.now) (D.nodes actions.now)) bus.now id) (envelope_at call.now) ≡ answer_of c) }
+    requires lawful { IsTree rows
+        (whole tree.now.rows (faces_of (C.nodes texts.now) (G.nodes columns.now) (D.nodes actions.now)))
+        tree.now.added }
+    ensures comes { IfOk result
+        (λ c. answer_to
+        (seen tree.now (faces_of (C.nodes texts.now) (G.nodes columns.now) (D.nodes actions.now)) bus.now id)
+        (envelope_at call.now) ≡ answer_of c) }
     ensures done { IfOk result (λ c. CanBeDone c.steps) }
 {
     match asked_in(tree, call) {

@@ -3,29 +3,29 @@
 ghost use Rattle.std.specs.Prelude.{◌≡◌, ◌∷◌, [], ℕ, List, None, Some, true, IfOk};
 ghost use Rattle.atspi_types.specs.Data.{boolean_data};
 ghost use Rattle.atspi_types.specs.DataView.{all_data};
-ghost use Rattle.atspi_cursor.specs.Items.{fields_data};
-ghost use Rattle.atspi_forest.specs.Forest.{has};
-ghost use Rattle.atspi_forest.specs.RowRules.{rows};
-ghost use Rattle.atspi_forest.specs.Tree.{IsTree, is_shape};
+ghost use Rattle.atspi_marshal_in_place.specs.Items.{fields_data};
+ghost use Rattle.atspi_tree_model.specs.Forest.{has};
+ghost use Rattle.atspi_tree_model.specs.RowRules.{rows};
+ghost use Rattle.atspi_tree_model.specs.Tree.{IsTree, is_shape};
 ghost use Rattle.atspi_protocol.specs.whole.Whole.{whole};
 ghost use Rattle.atspi_protocol.specs.objects.Answers.{changes};
 ghost use Rattle.atspi_protocol.specs.objects.Application.{Application};
-ghost use Rattle.atspi_exported.specs.Doing.{CanBeDone};
-ghost use Rattle.atspi_exported.specs.Parts.{AreKinds, faces_of, kinds_of};
-ghost use Rattle.atspi_contents_answers.specs.Told as reads;
-ghost use Rattle.atspi_contents_changes.specs.Changing as changing;
+ghost use Rattle.atspi_app_exported.specs.Doing.{CanBeDone};
+ghost use Rattle.atspi_app_exported.specs.Parts.{AreKinds, faces_of, kinds_of};
+ghost use Rattle.atspi_app_contents.specs.answers.Told as reads;
+ghost use Rattle.atspi_app_contents.specs.changes.Changing as changing;
 ghost use Rattle.atspi_app.specs.called.Called.{answer_of};
-ghost use Rattle.atspi_app.specs.called.Told.{ComesTo};
+ghost use Rattle.atspi_app.specs.called.inner.Told.{ComesTo};
 
 use crate::called::outcome::Called;
+use atspi_app_contents::answers::{contents, reads_contents};
+use atspi_app_contents::changes::change_of;
 use atspi_base::{NoMemory, Text};
-use atspi_contents_answers::{contents, reads_contents};
-use atspi_contents_changes::change_of;
-use atspi_cursor::Fields;
-use atspi_face::Face;
-use atspi_forest::StepList;
+use atspi_faces::face::Face;
+use atspi_marshal_in_place::Fields;
 use atspi_protocol::members::ObjectMember;
 use atspi_tree::Tree;
+use atspi_tree_model::StepList;
 use atspi_types::{Value, Values};
 use std::alloc::Global;
 
@@ -53,9 +53,13 @@ pub(crate) fn reading<C: Face, G: Face, D: Face>(
 ) -> Result<Called, NoMemory>
     requires there { has (is_shape node) tree.now.rows ≡ true }
     requires kinds { AreKinds (kinds_of (C.of_kind texts.now) (G.of_kind columns.now) (D.of_kind actions.now)) }
-    requires lawful { IsTree rows (whole tree.now.rows (faces_of (C.nodes texts.now) (G.nodes columns.now) (D.nodes actions.now))) tree.now.added }
+    requires lawful { IsTree rows
+        (whole tree.now.rows (faces_of (C.nodes texts.now) (G.nodes columns.now) (D.nodes actions.now)))
+        tree.now.added }
     requires member { reads.reads_contents member ≡ true }
-    ensures comes { IfOk result (λ c. ComesTo tree.now (faces_of (C.nodes texts.now) (G.nodes columns.now) (D.nodes actions.now)) bus.now id node member (fields_data args.entry) c) }
+    ensures comes { IfOk result
+        (λ c. ComesTo tree.now (faces_of (C.nodes texts.now) (G.nodes columns.now) (D.nodes actions.now)) bus.now id
+        node member (fields_data args.entry) c) }
     ensures no_steps { IfOk result (λ c. c.steps ≡ []) }
 {
     let values = contents(
@@ -116,9 +120,14 @@ pub(crate) fn changing<C: Face, G: Face, D: Face>(
 ) -> Result<Called, NoMemory>
     requires there { has (is_shape node) tree.now.rows ≡ true }
     requires kinds { AreKinds (kinds_of (C.of_kind texts.now) (G.of_kind columns.now) (D.of_kind actions.now)) }
-    requires lawful { IsTree rows (whole tree.now.rows (faces_of (C.nodes texts.now) (G.nodes columns.now) (D.nodes actions.now))) tree.now.added }
+    requires lawful { IsTree rows
+        (whole tree.now.rows (faces_of (C.nodes texts.now) (G.nodes columns.now) (D.nodes actions.now)))
+        tree.now.added }
     requires member { changing.changes_contents member ≡ true }
-    ensures comes { IfOk result (λ c. (name : List ℕ) → ComesTo tree.now (faces_of (C.nodes texts.now) (G.nodes columns.now) (D.nodes actions.now)) name id node member (fields_data args.entry) c) }
+    ensures comes { IfOk result
+        (λ c. (name : List ℕ)
+        → ComesTo tree.now (faces_of (C.nodes texts.now) (G.nodes columns.now) (D.nodes actions.now)) name id node
+        member (fields_data args.entry) c) }
     ensures done { IfOk result (λ c. CanBeDone c.steps) }
 {
     let _ = columns;

@@ -1,7 +1,7 @@
 //! What a call comes to, and what is sent back for it.
 
 ghost use Rattle.std.specs.Prelude.{◌≡◌, IfOk};
-ghost use Rattle.atspi_header.specs.View.{envelope_at};
+ghost use Rattle.atspi_message_in_place.specs.View.{envelope_at};
 ghost use Rattle.atspi_app_answers.specs.Replies as replies;
 ghost use Rattle.atspi_types.specs.DataView.{all_data};
 ghost use Rattle.atspi_protocol.specs.ends.Messages.{error_word, returns, fails};
@@ -9,9 +9,9 @@ ghost use Rattle.atspi_app.specs.called.Called.{reply_of};
 
 use atspi_app_answers::{refusal, reply};
 use atspi_base::NoMemory;
-use atspi_forest::StepList;
-use atspi_header::MessageRef;
+use atspi_message_in_place::MessageRef;
 use atspi_protocol::ends::{CallError, Mail};
+use atspi_tree_model::StepList;
 use atspi_types::Values;
 use std::alloc::Global;
 
@@ -44,8 +44,8 @@ fn refused(alloc: Global, call: &MessageRef, error: CallError) -> Result<Mail, N
     Ok(mail)
 }
 
-/// The reply that is sent back for a call, none where its caller waits for none (D-Bus Specification, "Method Calls"). The one refusal is
-/// want of memory.
+/// The reply that is sent back for a call, none where its caller waits for none (D-Bus Specification, "Method Calls").
+/// The one refusal is want of memory.
 pub fn sent_back(
     alloc: Global,
     call: &MessageRef,

@@ -4,7 +4,7 @@ use Rattle.std.specs.Prelude.{IsTrue}
 use Rattle.std.proofs.lemmas.List.{append-nil}
 use Rattle.atspi_types.specs.Kinds.{text}
 use Rattle.atspi_types.specs.Data.{Data, text_data, structure_data, array_data, Items, item, no_items, items_of, type_of}
-use Rattle.atspi_cursor.specs.codes.Codes.{is_structure, is_array}
+use Rattle.atspi_marshal_in_place.specs.codes.Codes.{is_structure, is_array}
 use Rattle.atspi_protocol.specs.exporting.Hearing.{pair_in, pair_of, pairs_in, and_pair, all_pairs}
 
 -- what a signal begins with

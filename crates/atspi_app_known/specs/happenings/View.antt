@@ -1,4 +1,5 @@
--- How contracts see what happened, and the queue of it: the number of the next message, and what waits, with its numbers.
+-- How contracts see what happened, and the queue of it: the number of the next message, and what waits, with its
+-- numbers.
 use Rattle.std.specs.Prelude.{ℕ, ◌+◌, List}
 use Rattle.atspi_protocol.specs.exporting.Exporter.{Happening, numbered}
 use Rattle.atspi_app_known.specs.declared.happenings.happenings.Happenings.{Happenings}

@@ -1,6 +1,7 @@
 -- How contracts see what an application knows: as the parts of its state that it is.
 use Rattle.std.specs.Prelude.{ℕ, Option, None, Some}
-use Rattle.atspi_protocol.specs.exporting.Exporter.{StartCall, hello, add_match, get_registered_events, embed, Phase, new, awaits, over, Exporter}
+use Rattle.atspi_protocol.specs.exporting.Exporter.{StartCall, hello, add_match, get_registered_events, embed, Phase}
+use Rattle.atspi_protocol.specs.exporting.Exporter.{new, awaits, over, Exporter}
 use Rattle.atspi_app_known.specs.happenings.View.{next_of, out_of}
 use Rattle.atspi_app_known.specs.declared.starting.waiting.StartStep.{StartStep}
 use Rattle.atspi_app_known.specs.declared.starting.waiting.StartStep.TheVariants as steps

@@ -2,8 +2,8 @@
 
 use atspi_base::Text;
 use atspi_base::valid_names::BusName;
-use atspi_forest::Step;
 use atspi_message::Message;
+use atspi_tree_model::Step;
 
 /// What happens at an application: in its order it is told so.
 #[derive(Drop)]

@@ -8,8 +8,8 @@ ghost use Rattle.atspi_app_known.specs.happenings.View.{happened};
 use crate::happenings::event::AppEvent;
 use atspi_base::valid_names::BusName;
 use atspi_base::{NoMemory, Text};
-use atspi_forest::Step;
 use atspi_message::Message;
+use atspi_tree_model::Step;
 use std::alloc::Global;
 use std::collections::VecDeque;
 

@@ -6,8 +6,8 @@ ghost use Rattle.atspi_app_known.specs.happenings.Happened.{sent_by};
 use crate::happenings::event::AppEvent;
 use std::collections::VecDeque;
 
-/// What is queued at an application, the oldest first. A message is numbered where it is handed out; the numbers rise by one from 1, and
-/// there is one for each message that waits.
+/// What is queued at an application, the oldest first. A message is numbered where it is handed out; the numbers rise
+/// by one from 1, and there is one for each message that waits.
 #[derive(Drop)]
 pub struct AppQueue {
     /// How many messages were handed out.

@@ -52,12 +52,14 @@ impl AppQueue {
         self.taken + 1
     }
 
-    /// Queues what happens; its messages get the next numbers. Spent exactly where they would pass number 4,294,967,295; after a fault
-    /// all is as before.
+    /// Queues what happens; its messages get the next numbers. Spent exactly where they would pass number
+    /// 4,294,967,295; after a fault all is as before.
     pub fn post(&mut self, happenings: &mut Happenings) -> Result<(), EndFault>
         ensures next { OnOk result (next_of self.new ≡ next_of self.old + sent_in (happened happenings.old)) }
-        ensures out { OnOk result (out_of self.new ≡ out_of self.old ++ numbered (next_of self.old) (happened happenings.old)) }
-        ensures spent { IsErrOf result EndFault.Spent ↔ (4294967296 < next_of self.old + sent_in (happened happenings.old)) }
+        ensures out { OnOk result
+            (out_of self.new ≡ out_of self.old ++ numbered (next_of self.old) (happened happenings.old)) }
+        ensures spent { IsErrOf result EndFault.Spent
+            ↔ (4294967296 < next_of self.old + sent_in (happened happenings.old)) }
         ensures err_next { OnErr result (next_of self.new ≡ next_of self.old) }
         ensures err_out { OnErr result (out_of self.new ≡ out_of self.old) }
         ensures kept { OnErr result (happened happenings.new ≡ happened happenings.old) }
@@ -73,8 +75,10 @@ impl AppQueue {
 
     /// The oldest of what is queued, which is no longer queued.
     pub fn pop(&mut self) -> Option<AppEvent>
-        ensures front { MatchOption result (out_of self.old ≡ []) (λ event. out_of self.old ≡ happening_of event ∷ out_of self.new) }
-        ensures empty { MatchOption result (out_of self.new ≡ out_of self.old) (λ event. next_of self.new ≡ next_of self.old) }
+        ensures front { MatchOption result (out_of self.old ≡ [])
+            (λ event. out_of self.old ≡ happening_of event ∷ out_of self.new) }
+        ensures empty { MatchOption result (out_of self.new ≡ out_of self.old)
+            (λ event. next_of self.new ≡ next_of self.old) }
         ensures next { next_of self.new ≡ next_of self.old }
     {
         let mut event = self.waiting.pop_front()?;

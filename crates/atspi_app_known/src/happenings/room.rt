@@ -11,10 +11,12 @@ use crate::happenings::queue::count_messages;
 use atspi_protocol::ends::EndFault;
 
 impl AppQueue {
-    /// Makes room for what is to happen. Spent exactly where its messages would pass number 4,294,967,295. What is queued stays as it is.
+    /// Makes room for what is to happen. Spent exactly where its messages would pass number 4,294,967,295. What is
+    /// queued stays as it is.
     pub fn reserve(&mut self, happenings: &Happenings) -> Result<(), EndFault>
         ensures room { OnOk result (HasRoom self.new happenings.now) }
-        ensures spent { IsErrOf result EndFault.Spent → 4294967296 < next_of self.old + sent_in (happened happenings.now) }
+        ensures spent { IsErrOf result EndFault.Spent
+            → 4294967296 < next_of self.old + sent_in (happened happenings.now) }
         ensures next { next_of self.new ≡ next_of self.old }
         ensures out { out_of self.new ≡ out_of self.old }
     {

@@ -84,7 +84,8 @@ fn others<'a>(
     pairs: &[PairRef<'a>],
     set: &PairSet<'_>,
 ) -> Result<Vec<PairRef<'a>>, NoMemory>
-    ensures { IfOk result (λ some. lent_pairs some.items ≡ filter (λ p. not (is_heard set.now p)) (lent_pairs pairs.now)) }
+    ensures { IfOk result
+        (λ some. lent_pairs some.items ≡ filter (λ p. not (is_heard set.now p)) (lent_pairs pairs.now)) }
 {
     let mut some = Vec::new(alloc);
     for pair in pairs {
@@ -95,7 +96,8 @@ fn others<'a>(
     Ok(some)
 }
 
-/// What is left of some pairs where those of a set come in their place, what falls away, and what comes that was not before.
+/// What is left of some pairs where those of a set come in their place, what falls away, and what comes that was not
+/// before.
 fn parts_of<'a>(
     alloc: Global,
     pairs: &[PairRef<'a>],
@@ -103,7 +105,8 @@ fn parts_of<'a>(
     before: &PairSet<'_>,
 ) -> Result<Parts<'a>, NoMemory>
     ensures kept { IfOk result (λ x. lent_pairs x.kept.items ≡ filter (is_heard now.now) (lent_pairs pairs.now)) }
-    ensures fallen { IfOk result (λ x. lent_pairs x.fallen.items ≡ filter (λ p. not (is_heard now.now p)) (lent_pairs pairs.now)) }
+    ensures fallen { IfOk result
+        (λ x. lent_pairs x.fallen.items ≡ filter (λ p. not (is_heard now.now p)) (lent_pairs pairs.now)) }
     ensures added { IfOk result (λ x. lent_pairs x.added.items ≡ filter (λ p. not (is_heard before.now p)) now.now) }
 {
     let kept = those(alloc, pairs, now)?;
@@ -116,15 +119,21 @@ fn parts_of<'a>(
     })
 }
 
-/// What an exchange of some pairs for others leaves, takes and brings. Each pair is looked up once, so long lists cost no square.
+/// What an exchange of some pairs for others leaves, takes and brings. Each pair is looked up once, so long lists cost
+/// no square.
 fn divided<'a>(
     alloc: Global,
     pairs: &[PairRef<'a>],
     listed: &[PairRef<'a>],
 ) -> Result<Parts<'a>, NoMemory>
-    ensures kept { IfOk result (λ x. lent_pairs x.kept.items ≡ filter (is_heard (lent_pairs listed.now)) (lent_pairs pairs.now)) }
-    ensures fallen { IfOk result (λ x. lent_pairs x.fallen.items ≡ filter (λ p. not (is_heard (lent_pairs listed.now) p)) (lent_pairs pairs.now)) }
-    ensures added { IfOk result (λ x. lent_pairs x.added.items ≡ filter (λ p. not (is_heard (lent_pairs pairs.now) p)) (hearing.firsts (lent_pairs listed.now))) }
+    ensures kept { IfOk result
+        (λ x. lent_pairs x.kept.items ≡ filter (is_heard (lent_pairs listed.now)) (lent_pairs pairs.now)) }
+    ensures fallen { IfOk result
+        (λ x. lent_pairs x.fallen.items
+        ≡ filter (λ p. not (is_heard (lent_pairs listed.now) p)) (lent_pairs pairs.now)) }
+    ensures added { IfOk result
+        (λ x. lent_pairs x.added.items
+        ≡ filter (λ p. not (is_heard (lent_pairs pairs.now) p)) (hearing.firsts (lent_pairs listed.now))) }
 {
     let now = set_of(alloc, listed)?;
     let before = set_of(alloc, pairs)?;
@@ -179,7 +188,10 @@ fn list(alloc: Global, parts: &Parts<'_>) -> Result<Heard, NoMemory>
 
 /// What is told: first the pairs that fall away, and then the new ones.
 fn news(alloc: Global, parts: &Parts<'_>) -> Result<Happenings, NoMemory>
-    ensures { IfOk result (λ told. happened told ≡ map (λ p. deaf p.0 p.1) (lent_pairs parts.now.fallen.items) ++ map (λ p. hears p.0 p.1) (lent_pairs parts.now.added.items)) }
+    ensures { IfOk result
+        (λ told. happened told
+        ≡ map (λ p. deaf p.0 p.1) (lent_pairs parts.now.fallen.items)
+        ++ map (λ p. hears p.0 p.1) (lent_pairs parts.now.added.items)) }
 {
     let mut told = Happenings::new(alloc);
     tell_fallen(alloc, &mut told, &parts.fallen)?;
@@ -187,8 +199,8 @@ fn news(alloc: Global, parts: &Parts<'_>) -> Result<Happenings, NoMemory>
     Ok(told)
 }
 
-/// Other pairs in place of those that count: those fall away that are not among them, and behind those that stay the new ones stand,
-/// each once. It takes time by the lengths of the two lists, and changes nothing.
+/// Other pairs in place of those that count: those fall away that are not among them, and behind those that stay the
+/// new ones stand, each once. It takes time by the lengths of the two lists, and changes nothing.
 pub fn exchanged(alloc: Global, heard: &Heard, listed: &[PairRef<'_>]) -> Result<Exchange, NoMemory>
     ensures heard { IfOk result (λ x. x.heard ≡ (hearing.exchanged heard.now (lent_pairs listed.now)).heard) }
     ensures told { IfOk result (λ x. happened x.told ≡ (hearing.exchanged heard.now (lent_pairs listed.now)).told) }

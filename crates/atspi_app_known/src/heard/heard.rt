@@ -10,8 +10,8 @@ use atspi_protocol::ends::covers;
 use std::alloc::Global;
 use std::marker::Model;
 
-/// The pairs of a listener's bus name and a pattern that count, in the order in which they came. Each call looks at each pair at most
-/// twice.
+/// The pairs of a listener's bus name and a pattern that count, in the order in which they came. Each call looks at
+/// each pair at most twice.
 #[derive(Drop)]
 pub struct Heard {
     pairs: Vec<(BusName, Text)>,

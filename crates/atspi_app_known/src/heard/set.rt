@@ -37,7 +37,10 @@ impl<'a> PairSet<'a> {
 
     /// One more, if it is not there.
     pub(crate) fn put(&mut self, pair: PairRef<'a>) -> Result<(), NoMemory>
-        ensures { OnOk result (self.new ≡ (if is_heard self.old (lent_pair pair.entry) then self.old else self.old ++ lent_pair pair.entry ∷ [])) }
+        ensures { OnOk result
+            (self.new
+            ≡ (if is_heard self.old (lent_pair pair.entry) then self.old
+            else self.old ++ lent_pair pair.entry ∷ [])) }
     {
         self.pairs.insert(pair)?;
         Ok(())

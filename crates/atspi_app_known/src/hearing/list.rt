@@ -2,19 +2,20 @@
 
 ghost use Rattle.std.specs.Prelude.{◌≡◌, None, MatchOption, IfOk};
 ghost use Rattle.atspi_types.specs.Data.{items_of};
-ghost use Rattle.atspi_cursor.specs.Items.{elements_data, fields_data};
+ghost use Rattle.atspi_marshal_in_place.specs.Items.{elements_data, fields_data};
 ghost use Rattle.atspi_protocol.specs.exporting.Hearing as hearing;
 ghost use Rattle.atspi_app_known.specs.hearing.Lent.{all_lent};
 
 use crate::hearing::pair::pair_of;
 use crate::hearing::pair_ref::PairRef;
 use atspi_base::NoMemory;
-use atspi_cursor::{Elements, Fields};
+use atspi_marshal_in_place::{Elements, Fields};
 use std::alloc::Global;
 
 /// The elements, where the values are one list of structs of two texts.
 fn list_in<'a>(values: Fields<'a>) -> Option<Elements<'a>>
-    ensures { MatchOption result (hearing.pairs_in (fields_data values.entry) ≡ None) (λ es. hearing.pairs_in (fields_data values.entry) ≡ hearing.all_pairs (items_of (elements_data es))) }
+    ensures { MatchOption result (hearing.pairs_in (fields_data values.entry) ≡ None)
+        (λ es. hearing.pairs_in (fields_data values.entry) ≡ hearing.all_pairs (items_of (elements_data es))) }
 {
     let mut rest = values;
     let elements = rest.next()?.elements()?;
@@ -48,8 +49,8 @@ fn all_pairs<'a>(
     Ok(Some(pairs))
 }
 
-/// The list of all pairs that GetRegisteredEvents returns (AT-SPI2's interface file Registry); None for other values. Only a list of
-/// references into the bytes is made.
+/// The list of all pairs that GetRegisteredEvents returns (AT-SPI2's interface file Registry); None for other values.
+/// Only a list of references into the bytes is made.
 pub fn listed<'a>(alloc: Global, values: Fields<'a>) -> Result<Option<Vec<PairRef<'a>>>, NoMemory>
     ensures { IfOk result (λ pairs. all_lent pairs ≡ hearing.pairs_in (fields_data values.entry)) }
 {

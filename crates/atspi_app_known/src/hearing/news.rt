@@ -1,14 +1,14 @@
 //! The signals of the registry that change which pairs count.
 
 ghost use Rattle.std.specs.Prelude.{◌≡◌, ℕ, List};
-ghost use Rattle.atspi_header.specs.View.{bytes_of, envelope_at};
+ghost use Rattle.atspi_message_in_place.specs.View.{bytes_of, envelope_at};
 ghost use Rattle.atspi_protocol.specs.members.Asked as asked;
 ghost use Rattle.atspi_protocol.specs.exporting.Hearing as hearing;
 ghost use Rattle.atspi_app_known.specs.hearing.Changes.{changed_by};
 
 use crate::hearing::pair::first_pair;
 use crate::hearing::pair_ref::PairRef;
-use atspi_header::MessageRef;
+use atspi_message_in_place::MessageRef;
 
 /// What a message says of listeners.
 #[derive(Clone, Copy)]
@@ -31,10 +31,11 @@ fn is_text(field: Option<&str>, text: &str) -> bool
     }
 }
 
-/// What a signal of the registry's interface says of listeners, whoever sends it (AT-SPI2's interface file Registry): the arguments
-/// begin with the listener's bus name and the pattern; further ones say nothing.
+/// What a signal of the registry's interface says of listeners, whoever sends it (AT-SPI2's interface file Registry):
+/// the arguments begin with the listener's bus name and the pattern; further ones say nothing.
 pub fn news_in<'a>(m: &MessageRef<'a>) -> News<'a>
-    ensures { (heard : List (List ℕ × List ℕ)) → hearing.heard_after heard (envelope_at m.now) ≡ changed_by result heard }
+    ensures { (heard : List (List ℕ × List ℕ))
+        → hearing.heard_after heard (envelope_at m.now) ≡ changed_by result heard }
 {
     if !is_text(m.interface, "org.a11y.atspi.Registry") {
         return News::Nothing;

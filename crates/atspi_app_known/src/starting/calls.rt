@@ -10,7 +10,7 @@ ghost use Rattle.atspi_protocol.specs.exporting.Starting.{registry_signals, star
 
 use atspi_base::{NoMemory, Text};
 use atspi_message::Message;
-use atspi_telling::{bus_call, call, node_path, reference};
+use atspi_protocol_messages::{bus_call, call, node_path, reference};
 use atspi_types::{Value, Values};
 use std::alloc::Global;
 
@@ -54,7 +54,8 @@ pub(crate) fn match_call(alloc: Global) -> Result<Message, NoMemory>
 /// GetRegisteredEvents (AT-SPI2's interface file Registry).
 #[tactic(auto, unfolding(atspi_base::specs::valid_names::Names::is_member, atspi_base::specs::valid_names::Names::is_bus_name, atspi_base::specs::valid_names::Names::is_path, atspi_base::specs::valid_names::Names::is_interface, atspi_base::specs::valid_names::Elements::are_two_or_more, atspi_base::specs::valid_names::Elements::are_elements, atspi_base::specs::valid_names::Elements::parts_of))]
 pub(crate) fn events_call(alloc: Global) -> Result<Message, NoMemory>
-    ensures { IfOk result (λ message. (name : List ℕ) → envelope_of message ≡ start_call name exporter.get_registered_events) }
+    ensures { IfOk result
+        (λ message. (name : List ℕ) → envelope_of message ≡ start_call name exporter.get_registered_events) }
 {
     call(
         alloc,
@@ -67,7 +68,7 @@ pub(crate) fn events_call(alloc: Global) -> Result<Message, NoMemory>
 }
 
 /// The root of the application with this name, as the arguments of a call.
-#[tactic(auto, unfolding(atspi_forest::specs::Path::path_of))]
+#[tactic(auto, unfolding(atspi_tree_model::specs::Path::path_of))]
 fn root_body(alloc: Global, name: &Text) -> Result<Values, NoMemory>
     ensures { IfOk result (λ body. all_data body ≡ places.reference name.now places.root_path ∷ []) }
 {

@@ -15,8 +15,8 @@ use atspi_base::Text;
 use atspi_protocol::ends::EndFault;
 use std::alloc::Global;
 
-/// What an application knows beside its tree: its name, once Hello returned it; the patterns of listeners; how far its start has come;
-/// and what it has queued.
+/// What an application knows beside its tree: its name, once Hello returned it; the patterns of listeners; how far its
+/// start has come; and what it has queued.
 #[derive(Drop)]
 pub struct Known {
     pub(crate) name: Option<Text>,
@@ -56,10 +56,13 @@ impl Known {
         &self.heard
     }
 
-    /// Queues what happens. Spent exactly where its messages would pass number 4,294,967,295; after a fault all is as before.
+    /// Queues what happens. Spent exactly where its messages would pass number 4,294,967,295; after a fault all is as
+    /// before.
     pub fn post(&mut self, happenings: &mut Happenings) -> Result<(), EndFault>
-        ensures ok { OnOk result ((s : Exporter) → known_in self.new s ≡ queues (known_in self.old s) (happened happenings.old)) }
-        ensures spent { IsErrOf result EndFault.Spent → (s : Exporter) → is_spent (queues (known_in self.old s) (happened happenings.old)) ≡ true }
+        ensures ok { OnOk result
+            ((s : Exporter) → known_in self.new s ≡ queues (known_in self.old s) (happened happenings.old)) }
+        ensures spent { IsErrOf result EndFault.Spent → (s : Exporter)
+            → is_spent (queues (known_in self.old s) (happened happenings.old)) ≡ true }
         ensures err { OnErr result ((s : Exporter) → known_in self.new s ≡ known_in self.old s) }
     {
         self.queue.post(happenings)
@@ -67,9 +70,12 @@ impl Known {
 
     /// The oldest of what is queued, which is no longer queued.
     pub fn next(&mut self) -> Option<AppEvent>
-        ensures front { MatchOption result (out_of self.old.queue ≡ []) (λ event. out_of self.old.queue ≡ happening_of event ∷ out_of self.new.queue) }
-        ensures empty { MatchOption result (out_of self.new.queue ≡ out_of self.old.queue) (λ event. next_of self.new.queue ≡ next_of self.old.queue) }
-        ensures rest { (s : Exporter) → known_in self.new s ≡ record (known_in self.old s) { out = out_of self.new.queue } }
+        ensures front { MatchOption result (out_of self.old.queue ≡ [])
+            (λ event. out_of self.old.queue ≡ happening_of event ∷ out_of self.new.queue) }
+        ensures empty { MatchOption result (out_of self.new.queue ≡ out_of self.old.queue)
+            (λ event. next_of self.new.queue ≡ next_of self.old.queue) }
+        ensures rest { (s : Exporter)
+            → known_in self.new s ≡ record (known_in self.old s) { out = out_of self.new.queue } }
     {
         self.queue.pop()
     }

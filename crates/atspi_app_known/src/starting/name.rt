@@ -3,12 +3,12 @@
 ghost use Rattle.std.specs.Prelude.{◌≡◌, ◌<◌, ◌^◌, ◌&&◌, IfSome, chars, length};
 ghost use Rattle.atspi_base.specs.Text.{HasNoZero};
 ghost use Rattle.atspi_base.specs.valid_names.Names.{is_bus_name, is_unique_name};
-ghost use Rattle.atspi_cursor.specs.Items.{fields_data};
+ghost use Rattle.atspi_marshal_in_place.specs.Items.{fields_data};
 ghost use Rattle.atspi_protocol.specs.exporting.Starting.{unique_name_in};
-ghost use Rattle.atspi_app_known.specs.starting.Lent.{chars_or_none};
+ghost use Rattle.atspi_app_known.specs.starting.inner.Lent.{chars_or_none};
 
 use atspi_base::valid_names::is_bus_name;
-use atspi_cursor::Fields;
+use atspi_marshal_in_place::Fields;
 
 /// Whether the first byte is a colon.
 fn has_colon(bytes: &[u8]) -> bool
@@ -28,7 +28,8 @@ fn is_unique(text: &str) -> bool
     false
 }
 
-/// The unique name that the values are, if they are one text that is one (D-Bus Specification, "Message Bus Messages": Hello).
+/// The unique name that the values are, if they are one text that is one (D-Bus Specification, "Message Bus Messages":
+/// Hello).
 pub(crate) fn unique_name<'a>(values: Fields<'a>) -> Option<&'a str>
     ensures name { chars_or_none result ≡ unique_name_in (fields_data values.entry) }
     ensures no_zero { IfSome result (λ name. HasNoZero name.now) }

@@ -12,10 +12,12 @@ use crate::starting::known::Known;
 use atspi_protocol::ends::EndFault;
 
 impl Known {
-    /// Makes room for what is to happen. Spent exactly where its messages would pass number 4,294,967,295. All stays as it is.
+    /// Makes room for what is to happen. Spent exactly where its messages would pass number 4,294,967,295. All stays as
+    /// it is.
     pub fn reserve(&mut self, happenings: &Happenings) -> Result<(), EndFault>
         ensures room { OnOk result (HasRoom self.new.queue happenings.now) }
-        ensures spent { IsErrOf result EndFault.Spent → (s : Exporter) → is_spent (queues (known_in self.old s) (happened happenings.now)) ≡ true }
+        ensures spent { IsErrOf result EndFault.Spent → (s : Exporter)
+            → is_spent (queues (known_in self.old s) (happened happenings.now)) ≡ true }
         ensures same { (s : Exporter) → known_in self.new s ≡ known_in self.old s }
     {
         self.queue.reserve(happenings)

@@ -2,11 +2,13 @@
 
 ghost use Rattle.std.specs.Prelude.{◌≡◌, ◌+◌, ◌<◌, ◌∷◌, ◌++◌, [], true, Some, IfOk, IsErrOf, OnOk, OnErr};
 ghost use Rattle.atspi_message.specs.Envelope.{envelope_of};
-ghost use Rattle.atspi_cursor.specs.Items.{fields_data};
-ghost use Rattle.atspi_header.specs.View.{envelope_at};
-ghost use Rattle.atspi_protocol.specs.exporting.Exporter.{Exporter, awaits, queues, sends, sent_in, add_match, get_registered_events, embed};
+ghost use Rattle.atspi_marshal_in_place.specs.Items.{fields_data};
+ghost use Rattle.atspi_message_in_place.specs.View.{envelope_at};
+ghost use Rattle.atspi_protocol.specs.exporting.Exporter.{Exporter, awaits, queues, sends, sent_in, add_match};
+ghost use Rattle.atspi_protocol.specs.exporting.Exporter.{get_registered_events, embed};
 ghost use Rattle.atspi_protocol.specs.exporting.Starting as starting;
-ghost use Rattle.atspi_protocol.specs.exporting.Starting.{asks, ends_start, goes_on, greeted, listened, name_or_empty, starts, unique_name_in};
+ghost use Rattle.atspi_protocol.specs.exporting.Starting.{asks, ends_start, goes_on, greeted, listened, name_or_empty};
+ghost use Rattle.atspi_protocol.specs.exporting.Starting.{starts, unique_name_in};
 ghost use Rattle.atspi_protocol.specs.exporting.Hearing.{pairs_in, one_more, one_less};
 ghost use Rattle.atspi_protocol.specs.exporting.Taking.{is_spent, takes_signal};
 ghost use Rattle.atspi_app_known.specs.happenings.View.{happened, next_of};
@@ -21,9 +23,9 @@ use crate::starting::known::Known;
 use crate::starting::name::unique_name;
 use crate::starting::waiting::{StartStep, Waiting};
 use atspi_base::{NoMemory, Text};
-use atspi_cursor::Fields;
-use atspi_header::MessageRef;
+use atspi_marshal_in_place::Fields;
 use atspi_message::Message;
+use atspi_message_in_place::MessageRef;
 use atspi_protocol::ends::{EndFault, bus_name};
 use std::alloc::Global;
 
@@ -31,7 +33,11 @@ impl Known {
     /// Queues what is told, and behind it a call, whose return is awaited from then on. After a fault all is as before.
     fn ask(&mut self, told: &mut Happenings, step: StartStep, call: Message) -> Result<(), EndFault>
         requires { sent_in (happened told.old) ≡ 0 }
-        ensures ok { OnOk result ((s : Exporter) → known_in self.new s ≡ record (queues (known_in self.old s) (happened told.old ++ sends (envelope_of call) ∷ [])) { phase = awaits (call_of step) (next_of self.old.queue) }) }
+        ensures ok { OnOk result
+            ((s : Exporter)
+            → known_in self.new s
+            ≡ record (queues (known_in self.old s) (happened told.old ++ sends (envelope_of call) ∷ []))
+            { phase = awaits (call_of step) (next_of self.old.queue) }) }
         ensures spent { IsErrOf result EndFault.Spent → 4294967296 < next_of self.old.queue + 1 }
         ensures err { OnErr result ((s : Exporter) → known_in self.new s ≡ known_in self.old s) }
     {
@@ -48,7 +54,11 @@ impl Known {
 
     /// Queues a call, whose return is awaited from then on.
     fn ask_alone(&mut self, alloc: Global, step: StartStep, call: Message) -> Result<(), EndFault>
-        ensures ok { OnOk result ((s : Exporter) → known_in self.new s ≡ record (queues (known_in self.old s) (sends (envelope_of call) ∷ [])) { phase = awaits (call_of step) (next_of self.old.queue) }) }
+        ensures ok { OnOk result
+            ((s : Exporter)
+            → known_in self.new s
+            ≡ record (queues (known_in self.old s) (sends (envelope_of call) ∷ []))
+            { phase = awaits (call_of step) (next_of self.old.queue) }) }
         ensures spent { IsErrOf result EndFault.Spent → 4294967296 < next_of self.old.queue + 1 }
         ensures err { OnErr result ((s : Exporter) → known_in self.new s ≡ known_in self.old s) }
     {
@@ -59,7 +69,8 @@ impl Known {
     /// Begins the start: Hello is queued. Spent exactly where no number is left for it; after a fault all is as before.
     pub fn start(&mut self, alloc: Global) -> Result<(), EndFault>
         ensures ok { OnOk result ((s : Exporter) → known_in self.new s ≡ starts (known_in self.old s)) }
-        ensures spent { IsErrOf result EndFault.Spent → (s : Exporter) → is_spent (starts (known_in self.old s)) ≡ true }
+        ensures spent { IsErrOf result EndFault.Spent → (s : Exporter)
+            → is_spent (starts (known_in self.old s)) ≡ true }
         ensures err { OnErr result ((s : Exporter) → known_in self.new s ≡ known_in self.old s) }
     {
         let call = hello_call(alloc)?;
@@ -68,7 +79,8 @@ impl Known {
 
     /// Which call of its start a message answers, if one is awaited.
     pub fn awaited(&self, m: &MessageRef) -> Option<StartStep>
-        ensures { (s : Exporter) → call_or_none result ≡ starting.awaited (known_in self.now s).phase (envelope_at m.now) }
+        ensures { (s : Exporter)
+            → call_or_none result ≡ starting.awaited (known_in self.now s).phase (envelope_at m.now) }
     {
         match self.waiting {
             Waiting::Awaits(step, serial) => {
@@ -91,8 +103,11 @@ impl Known {
 
     /// Hello returned a name.
     fn take_name(&mut self, alloc: Global, values: Fields<'_>) -> Result<(), EndFault>
-        ensures ok { OnOk result ((s : Exporter) → known_in self.new s ≡ greeted (known_in self.old s) (unique_name_in (fields_data values.entry))) }
-        ensures spent { IsErrOf result EndFault.Spent → (s : Exporter) → is_spent (greeted (known_in self.old s) (unique_name_in (fields_data values.entry))) ≡ true }
+        ensures ok { OnOk result
+            ((s : Exporter)
+            → known_in self.new s ≡ greeted (known_in self.old s) (unique_name_in (fields_data values.entry))) }
+        ensures spent { IsErrOf result EndFault.Spent → (s : Exporter)
+            → is_spent (greeted (known_in self.old s) (unique_name_in (fields_data values.entry))) ≡ true }
         ensures err { OnErr result ((s : Exporter) → known_in self.new s ≡ known_in self.old s) }
     {
         match unique_name(values) {
@@ -112,8 +127,10 @@ impl Known {
 
     /// AddMatch returned.
     fn ask_events(&mut self, alloc: Global) -> Result<(), EndFault>
-        ensures ok { OnOk result ((s : Exporter) → known_in self.new s ≡ asks (known_in self.old s) get_registered_events) }
-        ensures spent { IsErrOf result EndFault.Spent → (s : Exporter) → is_spent (asks (known_in self.old s) get_registered_events) ≡ true }
+        ensures ok { OnOk result
+            ((s : Exporter) → known_in self.new s ≡ asks (known_in self.old s) get_registered_events) }
+        ensures spent { IsErrOf result EndFault.Spent → (s : Exporter)
+            → is_spent (asks (known_in self.old s) get_registered_events) ≡ true }
         ensures err { OnErr result ((s : Exporter) → known_in self.new s ≡ known_in self.old s) }
     {
         let call = events_call(alloc)?;
@@ -132,8 +149,10 @@ impl Known {
 
     /// GetRegisteredEvents returned a list of pairs.
     fn take_pairs(&mut self, alloc: Global, pairs: &[PairRef<'_>]) -> Result<(), EndFault>
-        ensures ok { OnOk result ((s : Exporter) → known_in self.new s ≡ listened (known_in self.old s) (Some (lent_pairs pairs.now))) }
-        ensures spent { IsErrOf result EndFault.Spent → (s : Exporter) → is_spent (listened (known_in self.old s) (Some (lent_pairs pairs.now))) ≡ true }
+        ensures ok { OnOk result
+            ((s : Exporter) → known_in self.new s ≡ listened (known_in self.old s) (Some (lent_pairs pairs.now))) }
+        ensures spent { IsErrOf result EndFault.Spent → (s : Exporter)
+            → is_spent (listened (known_in self.old s) (Some (lent_pairs pairs.now))) ≡ true }
         ensures err { OnErr result ((s : Exporter) → known_in self.new s ≡ known_in self.old s) }
     {
         let name = self.own_name(alloc)?;
@@ -146,8 +165,11 @@ impl Known {
 
     /// GetRegisteredEvents returned.
     fn take_list(&mut self, alloc: Global, values: Fields<'_>) -> Result<(), EndFault>
-        ensures ok { OnOk result ((s : Exporter) → known_in self.new s ≡ listened (known_in self.old s) (pairs_in (fields_data values.entry))) }
-        ensures spent { IsErrOf result EndFault.Spent → (s : Exporter) → is_spent (listened (known_in self.old s) (pairs_in (fields_data values.entry))) ≡ true }
+        ensures ok { OnOk result
+            ((s : Exporter)
+            → known_in self.new s ≡ listened (known_in self.old s) (pairs_in (fields_data values.entry))) }
+        ensures spent { IsErrOf result EndFault.Spent → (s : Exporter)
+            → is_spent (listened (known_in self.old s) (pairs_in (fields_data values.entry))) ≡ true }
         ensures err { OnErr result ((s : Exporter) → known_in self.new s ≡ known_in self.old s) }
     {
         match listed(alloc, values)? {
@@ -159,16 +181,20 @@ impl Known {
         }
     }
 
-    /// Goes on with the start behind the return to one of its calls (AT-SPI2's interface files Registry and Socket): the next call is
-    /// queued, or the start ends. Spent exactly where no number is left for that; after a fault all is as before.
+    /// Goes on with the start behind the return to one of its calls (AT-SPI2's interface files Registry and Socket):
+    /// the next call is queued, or the start ends. Spent exactly where no number is left for that; after a fault all is
+    /// as before.
     pub fn take_return(
         &mut self,
         alloc: Global,
         step: StartStep,
         values: Fields<'_>,
     ) -> Result<(), EndFault>
-        ensures ok { OnOk result ((s : Exporter) → known_in self.new s ≡ goes_on (known_in self.old s) (call_of step) (fields_data values.entry)) }
-        ensures spent { IsErrOf result EndFault.Spent → (s : Exporter) → is_spent (goes_on (known_in self.old s) (call_of step) (fields_data values.entry)) ≡ true }
+        ensures ok { OnOk result
+            ((s : Exporter)
+            → known_in self.new s ≡ goes_on (known_in self.old s) (call_of step) (fields_data values.entry)) }
+        ensures spent { IsErrOf result EndFault.Spent → (s : Exporter)
+            → is_spent (goes_on (known_in self.old s) (call_of step) (fields_data values.entry)) ≡ true }
         ensures err { OnErr result ((s : Exporter) → known_in self.new s ≡ known_in self.old s) }
     {
         match step {
@@ -184,7 +210,13 @@ impl Known {
 
     /// A pair counts from now on, unless it does already.
     fn register(&mut self, alloc: Global, pair: PairRef<'_>) -> Result<(), EndFault>
-        ensures ok { OnOk result ((s : Exporter) → known_in self.new s ≡ queues (record (known_in self.old s) { heard = (one_more self.old.heard (lent_pair pair.entry)).heard }) (one_more self.old.heard (lent_pair pair.entry)).told) }
+        ensures ok { OnOk result
+            ((s : Exporter)
+            → known_in self.new s
+            ≡ queues
+            (record (known_in self.old s)
+            { heard = (one_more self.old.heard (lent_pair pair.entry)).heard })
+            (one_more self.old.heard (lent_pair pair.entry)).told) }
         ensures spent { IsErrOf result EndFault.Spent → ⊥ }
         ensures err { OnErr result ((s : Exporter) → known_in self.new s ≡ known_in self.old s) }
     {
@@ -206,7 +238,13 @@ impl Known {
 
     /// A pair no longer counts, if it did.
     fn deregister(&mut self, alloc: Global, pair: PairRef<'_>) -> Result<(), EndFault>
-        ensures ok { OnOk result ((s : Exporter) → known_in self.new s ≡ queues (record (known_in self.old s) { heard = (one_less self.old.heard (lent_pair pair.entry)).heard }) (one_less self.old.heard (lent_pair pair.entry)).told) }
+        ensures ok { OnOk result
+            ((s : Exporter)
+            → known_in self.new s
+            ≡ queues
+            (record (known_in self.old s)
+            { heard = (one_less self.old.heard (lent_pair pair.entry)).heard })
+            (one_less self.old.heard (lent_pair pair.entry)).told) }
         ensures spent { IsErrOf result EndFault.Spent → ⊥ }
         ensures err { OnErr result ((s : Exporter) → known_in self.new s ≡ known_in self.old s) }
     {
@@ -220,10 +258,11 @@ impl Known {
         Ok(())
     }
 
-    /// Takes a signal: those of the registry's interface change which patterns count, and what changes is queued. After a fault all is
-    /// as before.
+    /// Takes a signal: those of the registry's interface change which patterns count, and what changes is queued. After
+    /// a fault all is as before.
     pub fn take_signal(&mut self, alloc: Global, m: &MessageRef) -> Result<(), EndFault>
-        ensures ok { OnOk result ((s : Exporter) → known_in self.new s ≡ takes_signal (known_in self.old s) (envelope_at m.now)) }
+        ensures ok { OnOk result
+            ((s : Exporter) → known_in self.new s ≡ takes_signal (known_in self.old s) (envelope_at m.now)) }
         ensures spent { IsErrOf result EndFault.Spent → ⊥ }
         ensures err { OnErr result ((s : Exporter) → known_in self.new s ≡ known_in self.old s) }
     {

@@ -5,7 +5,7 @@ use Rattle.std.specs.List.{range_with_len}
 use Rattle.std.proofs.lemmas.Bool.{eqb-true, both_ways}
 use Rattle.std.proofs.lemmas.List.FromFn.{get_or-map-range_with_len}
 use Rattle.atspi_base.specs.valid_names.Elements.{is_plain, may_come}
-use Rattle.atspi_base.specs.valid_names.Walks.{byte_class, separator_of, next_states}
+use Rattle.atspi_base.specs.valid_names.inner.Walks.{byte_class, separator_of, next_states}
 use Rattle.atspi_base.specs.declared.valid_names.elements.Form.{Form}
 use Rattle.atspi_base.specs.declared.valid_names.elements.Form.TheVariants.{Path, Interface, WellKnown, Unique}
 use Rattle.atspi_base.proofs.OfValidNames.ElementLemmas.{goes_on, goes_on-stop, goes_on-past, goes_on-over}

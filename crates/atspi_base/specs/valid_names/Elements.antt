@@ -25,7 +25,8 @@ may_begin Unique b = may_follow Unique b
 
 -- whether the byte may come next, inside an element or before the first byte of one
 abbrev pub may_come : Form → ℕ → Bool → ℕ → Bool
-may_come form separator inside b = if b == separator then inside else if inside then may_follow form b else may_begin form b
+may_come form separator inside b = if b == separator then inside else if inside then may_follow form b
+    else may_begin form b
 
 -- an element has a byte or more
 abbrev pub is_element : Form → List ℕ → Bool
@@ -40,7 +41,8 @@ in_front b (part ∷ parts) = (b ∷ part) ∷ parts
 -- the parts round the separators, one more than there are separators
 unfoldable pub parts_of : ℕ → List ℕ → List (List ℕ)
 parts_of separator [] = [] ∷ []
-parts_of separator (b ∷ bytes) = if b == separator then [] ∷ parts_of separator bytes else in_front b (parts_of separator bytes)
+parts_of separator (b ∷ bytes) = if b == separator then [] ∷ parts_of separator bytes
+    else in_front b (parts_of separator bytes)
 
 -- whether the bytes are elements with a separator between any two
 unfoldable pub are_elements : Form → ℕ → List ℕ → Bool

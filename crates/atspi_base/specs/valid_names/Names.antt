@@ -1,8 +1,10 @@
 -- The rules of names (D-Bus Specification, "Valid Object Paths" and "Valid Names"). A name is seen as the list of its
 -- bytes, which are also its characters, since each is ASCII.
-use Rattle.std.specs.Prelude.{◌≡◌, ◌≤◌, ℕ, Bool, false, ◌&&◌, ◌||◌, ◌==◌, nat_le, List, [], ◌∷◌, length, if◌then◌else◌, IsTrue, ◌⊎◌, Result, Ok, Err}
+use Rattle.std.specs.Prelude.{◌≡◌, ◌≤◌, ℕ, Bool, false, ◌&&◌, ◌||◌, ◌==◌, nat_le, List, [], ◌∷◌, length, if◌then◌else◌}
+use Rattle.std.specs.Prelude.{IsTrue, ◌⊎◌, Result, Ok, Err}
 use Rattle.std.specs.List.{AllByRecursion}
-use Rattle.atspi_base.specs.valid_names.Elements.{parts_of, is_element, are_elements, are_two_or_more, may_begin, may_follow}
+use Rattle.atspi_base.specs.valid_names.Elements.{parts_of, is_element, are_elements, are_two_or_more, may_begin}
+use Rattle.atspi_base.specs.valid_names.Elements.{may_follow}
 use Rattle.atspi_base.specs.declared.valid_names.elements.Form.{Form}
 use Rattle.atspi_base.specs.declared.valid_names.elements.Form.TheVariants.{Path, Interface, WellKnown, Unique}
 use Rattle.atspi_base.specs.declared.valid_names.fault.NameFault.{NameFault}
@@ -60,7 +62,8 @@ is_member bytes = is_element Interface bytes && nat_le (length bytes) 255
 
 abbrev pub has_bus_elements : List ℕ → Bool
 has_bus_elements [] = false
-has_bus_elements (b ∷ bytes) = if b == 58 then are_two_or_more Unique 46 bytes else are_two_or_more WellKnown 46 (b ∷ bytes)
+has_bus_elements (b ∷ bytes) = if b == 58 then are_two_or_more Unique 46 bytes
+    else are_two_or_more WellKnown 46 (b ∷ bytes)
 
 unfoldable pub is_bus_name : List ℕ → Bool
 is_bus_name bytes = has_bus_elements bytes && nat_le (length bytes) 255

@@ -3,8 +3,10 @@
 ghost use Rattle.std.specs.Prelude.{◌≡◌, ◌↔◌, IfOk, IsErrOf, IsTrue, Some, refl, nat_eq};
 ghost use Rattle.std.specs.Ordering.{nat_cmp};
 ghost use Rattle.std.specs.Cmp.{partial_equiv_from_equiv};
-ghost use Rattle.std.specs.Cmp.Lexicographic.{pointwise, slice_cmp, nat_list_eq_equiv, nat_list_cmp_total, texts_po, texts_ties};
-ghost use Rattle.atspi_base.specs.valid_names.Names.{IsBusName, is_bus_name, has_bus_elements, is_unique_name, ReadsName};
+ghost use Rattle.std.specs.Cmp.Lexicographic.{pointwise, slice_cmp, nat_list_eq_equiv, nat_list_cmp_total, texts_po};
+ghost use Rattle.std.specs.Cmp.Lexicographic.{texts_ties};
+ghost use Rattle.atspi_base.specs.valid_names.Names.{IsBusName, is_bus_name, has_bus_elements, is_unique_name};
+ghost use Rattle.atspi_base.specs.valid_names.Names.{ReadsName};
 
 use super::elements::{Form, are_two_or_more};
 use super::fault::{NameFault, ascii_text};
@@ -13,8 +15,9 @@ use std::alloc::Global;
 use std::cmp::Ordering;
 use std::marker::Model;
 
-/// The name of a connection to the bus: two or more elements joined by `.`, of letters, digits, `_` and `-`. A unique name
-/// begins with `:`; the elements of the others do not begin with a digit. At most 255 bytes. It is ordered by bytes.
+/// The name of a connection to the bus: two or more elements joined by `.`, of letters, digits, `_` and `-`. A unique
+/// name begins with `:`; the elements of the others do not begin with a digit. At most 255 bytes. It is ordered by
+/// bytes.
 #[derive(Drop)]
 pub struct BusName {
     text: String,

@@ -1,7 +1,7 @@
 //! Bytes by what they are in a name, and the walk from byte to byte that the forms allow.
 
 ghost use Rattle.std.specs.Prelude.{◌≡◌};
-ghost use Rattle.atspi_base.specs.valid_names.Walks.{byte_class, next_states};
+ghost use Rattle.atspi_base.specs.valid_names.inner.Walks.{byte_class, next_states};
 
 use super::elements::Form;
 
@@ -24,8 +24,8 @@ pub fn class_of(byte: u8) -> u8
     CLASSES[byte as usize]
 }
 
-// Where the walk goes at a byte of each class: from 0, before the first byte of an element; from 8, inside an element; from
-// 16, behind a byte that may not stand where it does.
+// Where the walk goes at a byte of each class: from 0, before the first byte of an element; from 8, inside an element;
+// from 16, behind a byte that may not stand where it does.
 static PATH: [u8; 24] = [
     16, 8, 8, 16, 16, 16, 16, 16, 16, 8, 8, 16, 16, 0, 16, 16, 16, 16, 16, 16, 16, 16, 16, 16,
 ];

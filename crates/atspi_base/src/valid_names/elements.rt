@@ -3,7 +3,7 @@
 ghost use Rattle.std.specs.Prelude.{◌≡◌};
 ghost use Rattle.std.specs.List.{list_all};
 ghost use Rattle.atspi_base.specs.valid_names.Elements.{may_begin, may_follow};
-ghost use Rattle.atspi_base.specs.valid_names.Walks.{separator_of};
+ghost use Rattle.atspi_base.specs.valid_names.inner.Walks.{separator_of};
 ghost use Rattle.atspi_base.specs.valid_names.Elements as elements;
 
 use super::classes::class_of;

@@ -3,7 +3,8 @@
 ghost use Rattle.std.specs.Prelude.{◌≡◌, ◌↔◌, IfOk, IsErrOf, IsTrue, Some, refl, nat_eq};
 ghost use Rattle.std.specs.Ordering.{nat_cmp};
 ghost use Rattle.std.specs.Cmp.{partial_equiv_from_equiv};
-ghost use Rattle.std.specs.Cmp.Lexicographic.{pointwise, slice_cmp, nat_list_eq_equiv, nat_list_cmp_total, texts_po, texts_ties};
+ghost use Rattle.std.specs.Cmp.Lexicographic.{pointwise, slice_cmp, nat_list_eq_equiv, nat_list_cmp_total, texts_po};
+ghost use Rattle.std.specs.Cmp.Lexicographic.{texts_ties};
 ghost use Rattle.atspi_base.specs.valid_names.Names.{IsInterface, is_interface, ReadsName};
 
 use super::elements::{Form, are_two_or_more};
@@ -13,8 +14,8 @@ use std::alloc::Global;
 use std::cmp::Ordering;
 use std::marker::Model;
 
-/// The name of an interface or of an error: two or more elements joined by `.`, of letters, digits and `_`, none of which
-/// begins with a digit; at most 255 bytes. It is ordered by bytes.
+/// The name of an interface or of an error: two or more elements joined by `.`, of letters, digits and `_`, none of
+/// which begins with a digit; at most 255 bytes. It is ordered by bytes.
 #[derive(Drop)]
 pub struct Interface {
     text: String,
@@ -39,7 +40,8 @@ fn is_rule(bytes: &[u8]) -> bool
     are_two_or_more(Form::Interface, bytes) && bytes.len() <= 255
 }
 
-/// Whether the bytes are the name of an interface or of an error (D-Bus Specification, "Valid Names"). It needs no memory.
+/// Whether the bytes are the name of an interface or of an error (D-Bus Specification, "Valid Names"). It needs no
+/// memory.
 pub fn is_interface(bytes: &[u8]) -> bool
     ensures rule { IsTrue result ↔ IsInterface bytes.now }
     ensures tested { result ≡ is_interface bytes.now }

@@ -69,9 +69,10 @@ fn play_on(rt: &impl Abort, alloc: Global, bus: &mut Bus, table: &str, out: &mut
     }
 }
 
-/// Does the lines of a table on a bus with a quota: what they tell is what the table says behind each of them. The lines are `join`;
-/// `bus C SERIAL MEMBER [TEXT [NUMBER]]`, `call`, `signal` and `other C SERIAL TO MEMBER [TEXT]`, `return` and `error C SERIAL TO REPLY`, with
-/// `-` for no destination and `-quiet` for flag 1; `raw C DIGITS`; `leave C`; `read C`, `skip C`, `waiting C`; `closings`; `own`.
+/// Does the lines of a table on a bus with a quota: what they tell is what the table says behind each of them. The
+/// lines are `join`; `bus C SERIAL MEMBER [TEXT [NUMBER]]`, `call`, `signal` and `other C SERIAL TO MEMBER [TEXT]`,
+/// `return` and `error C SERIAL TO REPLY`, with `-` for no destination and `-quiet` for flag 1; `raw C DIGITS`;
+/// `leave C`; `read C`, `skip C`, `waiting C`; `closings`; `own`.
 pub(crate) fn play(rt: &impl Abort, alloc: Global, quota: u32, due: &str) {
     let mut bus = Bus::new(alloc, quota);
     let mut out = Bytes::new(alloc);

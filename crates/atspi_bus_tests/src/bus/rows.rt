@@ -141,7 +141,8 @@ const LIMIT: &str =
 > error l 1 8 error=org.freedesktop.DBus.Error.InvalidArgs reply=4 destination=:1.0 sender=org.freedesktop.DBus signature=s ["InvalidArgs"]
 "#;
 
-/// A rule of one connection more than it may have: a line for each serial from 2 on, by which the connection adds a rule of that number.
+/// A rule of one connection more than it may have: a line for each serial from 2 on, by which the connection adds a
+/// rule of that number.
 #[test]
 fn the_513th_rule_is_refused(rt: HostRuntime) {
     let mut script = String::from_str(rt.alloc(), HELLO).expect(&rt, "memory");

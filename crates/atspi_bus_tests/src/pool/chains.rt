@@ -61,7 +61,8 @@ pub fn has_blocks(pool: &Pool, made: u64, free: u64) -> bool {
     pool.made() == made && pool.free() == free
 }
 
-/// Looks whether a chain has so many bytes, in a pool of so many blocks of which so many are free, and whether its first block has these bytes.
+/// Looks whether a chain has so many bytes, in a pool of so many blocks of which so many are free, and whether its
+/// first block has these bytes.
 pub fn stands(rt: &impl Abort, pool: &Pool, chain: u32, counted: (u32, u64, u64), front: &[u8])
     requires { IsSome (chain_at pool.now chain) }
 {

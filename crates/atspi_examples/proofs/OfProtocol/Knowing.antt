@@ -1,10 +1,10 @@
 -- What faces know of nodes, number by number.
 use Rattle.std.proofs.Common.{◌≡◌, ℕ, zero, suc, true, false, Option, None, Some, refl, sym, ◌∙◌, arith}
 use Rattle.std.specs.FinMap.{empty, get, insert, gets}
-use Rattle.atspi_face.specs.Nodes.{Nodes}
-use Rattle.atspi_forest.specs.declared.contents.FaceData.{FaceData}
-use Rattle.atspi_forest.specs.Forest.{has}
-use Rattle.atspi_forest.specs.Tree.{is_shape}
+use Rattle.atspi_faces.specs.face.Nodes.{Nodes}
+use Rattle.atspi_tree_model.specs.declared.contents.FaceData.{FaceData}
+use Rattle.atspi_tree_model.specs.Forest.{has}
+use Rattle.atspi_tree_model.specs.Tree.{is_shape}
 use Rattle.atspi_protocol.specs.whole.Cases.{kept, small}
 use Rattle.atspi_protocol.specs.whole.Whole.{KnowsNo}
 use Rattle.atspi_protocol.proofs.OfWhole.Faces.{put_elsewhere}

@@ -11,7 +11,9 @@ abbrev name : Coded Name
 name = coded_option (coded_list coded_ℕ)
 
 -- whether the byte order is little endian, and the other fields in the order of an envelope
-abbrev pub fields : Coded (Bool × (ℕ × (ℕ × (ℕ × (Name × (Name × (Name × (Name × (Option ℕ × (Name × (Name × List Data)))))))))))
+abbrev pub fields
+    : Coded (Bool × (ℕ × (ℕ × (ℕ × (Name × (Name × (Name × (Name × (Option ℕ × (Name × (Name × List Data)))))))))))
 fields =
-    coded× coded_bool (coded× coded_ℕ (coded× coded_ℕ (coded× coded_ℕ (coded× name (coded× name (coded× name (coded× name
+    coded× coded_bool
+    (coded× coded_ℕ (coded× coded_ℕ (coded× coded_ℕ (coded× name (coded× name (coded× name (coded× name
     (coded× (coded_option coded_ℕ) (coded× name (coded× name (coded_list data_code)))))))))))

@@ -20,7 +20,8 @@ at path = record signal_m { path = Some path }
 abbrev pub telling : List Data → Envelope
 telling body = record signal_m { body = body }
 
--- owners of whom nothing is right: the list of `:1.1` begins with connection 2, and that of a.b with connection 9, which has no name
+-- owners of whom nothing is right: the list of `:1.1` begins with connection 2, and that of a.b with connection 9,
+-- which has no name
 abbrev pub wrong_lists : List (List ℕ × List (ℕ × ℕ))
 wrong_lists = (one_, (2, 0) ∷ []) ∷ ((codes "a.b", (9, 0) ∷ []) ∷ [])
 

@@ -1,7 +1,7 @@
 //! Signals of a move, whose node, parent and index differ, and of what is not there.
 
 ghost use Rattle.std.specs.Prelude.{◌≡◌, ◌∷◌, [], None, Some, pos, length, codes};
-ghost use Rattle.atspi_forest.specs.declared.step.Step.TheVariants.{Move};
+ghost use Rattle.atspi_tree_model.specs.declared.step.Step.TheVariants.{Move};
 ghost use Rattle.atspi_types.specs.Kinds.{u32, text, variant};
 ghost use Rattle.atspi_types.specs.Data.{text_data, number_data, structure_data, items_of};
 ghost use Rattle.atspi_protocol.specs.announcing.Announced.{left, told_node};
@@ -12,11 +12,12 @@ ghost use Rattle.atspi_protocol.specs.members.Arguments.{int};
 ghost use Rattle.atspi_protocol.specs.objects.Cases.{to};
 ghost use Rattle.atspi_protocol.specs.objects.Values.{texts_data, words_data};
 ghost use Rattle.atspi_protocol.specs.announcing.Signals.{Signal, added};
-ghost use Rattle.atspi_forest.specs.Announce.{own};
+ghost use Rattle.atspi_tree_model.specs.Announce.{own};
 ghost use Rattle.atspi_examples.specs.protocol.Lists.{moving};
 
-/// Node 3, the second child of 1, becomes the second child of 13: its item at the new place, that it left the old one, its parent, that it came to the new one.
-#[tactic(auto, unfolding(atspi_forest::specs::Path::path_of))]
+/// Node 3, the second child of 1, becomes the second child of 13: its item at the new place, that it left the old one,
+/// its parent, that it came to the new one.
+#[tactic(auto, unfolding(atspi_tree_model::specs::Path::path_of))]
 pub fn moves()
     ensures { cases.signals moving
         ≡ added (record {
@@ -37,7 +38,7 @@ pub fn moves()
 {}
 
 /// A node that moves among its siblings is told as it stands then.
-#[tactic(auto, unfolding(atspi_forest::specs::Path::path_of))]
+#[tactic(auto, unfolding(atspi_tree_model::specs::Path::path_of))]
 pub fn among_siblings()
     ensures { length (cases.signals (Move 3 1 0)) ≡ 4 }
 {}

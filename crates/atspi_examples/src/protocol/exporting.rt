@@ -1,11 +1,12 @@
 //! An application's queue, its start, and the numbers of its nodes.
 
 ghost use Rattle.std.specs.Prelude.{◌≡◌, ◌∷◌, [], None, Some, true, false, codes};
-ghost use Rattle.atspi_forest.specs.declared.step.Step.TheVariants.{Add, Remove, SetName};
+ghost use Rattle.atspi_tree_model.specs.declared.step.Step.TheVariants.{Add, Remove, SetName};
 ghost use Rattle.atspi_types.specs.Data.{text_data, structure_data, items_of};
 ghost use Rattle.atspi_protocol.specs.ends.Messages.{call_to, return_to};
 ghost use Rattle.atspi_protocol.specs.ends.Places.{reference};
-ghost use Rattle.atspi_protocol.specs.exporting.Exporter.{awaits, begins, deaf, hears, hello, numbered, queues, sends, sent_in, steps};
+ghost use Rattle.atspi_protocol.specs.exporting.Exporter.{awaits, begins, deaf, hears, hello, numbered, queues, sends};
+ghost use Rattle.atspi_protocol.specs.exporting.Exporter.{sent_in, steps};
 ghost use Rattle.atspi_protocol.specs.exporting.Hearing.{pair_of};
 ghost use Rattle.atspi_protocol.specs.exporting.Starting.{awaited, is_number, name_or_empty, start_call};
 ghost use Rattle.atspi_protocol.specs.exporting.Taking.{added_by, app_takes, stepped, takes_call, takes_other};
@@ -15,7 +16,9 @@ ghost use Rattle.atspi_examples.specs.protocol.Lists.{happenings, ping};
 
 /// Messages take the numbers that follow; what else happens takes none, and stands where it stood.
 pub fn numbers()
-    ensures numbered { numbered 7 (happenings (SetName 0 (codes "U"))) ≡ sends (record ping { serial = 7 }) ∷ hears (codes ":1.2") (codes "a") ∷ deaf (codes ":1.3") (codes "b") ∷ steps (SetName 0 (codes "U")) ∷ sends (record ping { serial = 8 }) ∷ [] }
+    ensures numbered { numbered 7 (happenings (SetName 0 (codes "U")))
+        ≡ sends (record ping { serial = 7 }) ∷ hears (codes ":1.2") (codes "a") ∷ deaf (codes ":1.3") (codes "b")
+        ∷ steps (SetName 0 (codes "U")) ∷ sends (record ping { serial = 8 }) ∷ [] }
     ensures none { numbered 7 [] ≡ [] }
 {}
 
@@ -24,7 +27,8 @@ pub fn counts()
     ensures sent { sent_in (happenings (SetName 0 (codes "U"))) ≡ 2 }
     ensures none { sent_in [] ≡ 0 }
     ensures next { (queues (begins (codes "T")) (happenings (SetName 0 (codes "U")))).next ≡ 3 }
-    ensures behind { (queues (record (begins (codes "T")) { out = sends ping ∷ [] }) (deaf (codes ":1.3") (codes "b") ∷ [])).out ≡ sends ping ∷ deaf (codes ":1.3") (codes "b") ∷ [] }
+    ensures behind { (queues (record (begins (codes "T")) { out = sends ping ∷ [] })
+        (deaf (codes ":1.3") (codes "b") ∷ [])).out ≡ sends ping ∷ deaf (codes ":1.3") (codes "b") ∷ [] }
 {}
 
 /// Nodes that are added count, and those that are removed count still.
@@ -38,7 +42,9 @@ pub fn edits()
 
 /// The calls of a start go to the bus and to the registry; the last one tells the root under its name.
 pub fn starts()
-    ensures hello { start_call [] hello ≡ call_to (codes "org.freedesktop.DBus") (codes "/org/freedesktop/DBus") (codes "org.freedesktop.DBus") (codes "Hello") [] }
+    ensures hello { start_call [] hello
+        ≡ call_to (codes "org.freedesktop.DBus") (codes "/org/freedesktop/DBus") (codes "org.freedesktop.DBus")
+        (codes "Hello") [] }
     ensures embed { (start_call (codes ":1.5") exporter.embed).path ≡ Some (codes "/org/a11y/atspi/accessible/root") }
     ensures no_name { name_or_empty None ≡ [] }
     ensures name { name_or_empty (Some (codes ":1.5")) ≡ codes ":1.5" }
@@ -49,7 +55,8 @@ pub fn refused_starts()
     ensures no_serial { is_number None 1 ≡ false }
     ensures serial { is_number (Some 1) 1 ≡ true }
     ensures other { is_number (Some 2) 1 ≡ false }
-    ensures unserialed { app_takes begun (record (returned 1 (text_data (codes ":1.1") ∷ [])) { reply = None }) ≡ begun }
+    ensures unserialed { app_takes begun (record (returned 1 (text_data (codes ":1.1") ∷ [])) { reply = None })
+        ≡ begun }
     ensures signal { awaited (awaits hello 1) (record (returned 1 []) { kind = 4 }) ≡ None }
     ensures error { awaited (awaits hello 1) (record (returned 1 []) { kind = 3 }) ≡ Some hello }
     ensures over { awaited exporter.over (returned 1 []) ≡ None }
@@ -58,16 +65,22 @@ pub fn refused_starts()
 {}
 
 /// A call is answered under the application's own name, to its caller.
-#[tactic(auto, unfolding(atspi_base::specs::valid_names::Names::is_bus_name, atspi_base::specs::valid_names::Elements::are_two_or_more, atspi_base::specs::valid_names::Elements::are_elements, atspi_base::specs::valid_names::Elements::parts_of, atspi_forest::specs::Path::path_of))]
+#[tactic(auto, unfolding(atspi_base::specs::valid_names::Names::is_bus_name, atspi_base::specs::valid_names::Elements::are_two_or_more, atspi_base::specs::valid_names::Elements::are_elements, atspi_base::specs::valid_names::Elements::parts_of, atspi_tree_model::specs::Path::path_of))]
 pub fn own_names()
-    ensures { at_message (ready []) (asks_root (codes "org.a11y.atspi.Accessible") (codes "GetApplication") []) ≡ sends (record (return_to (codes ":1.2") 9 (reference (codes ":1.1") (codes "/org/a11y/atspi/accessible/root") ∷ [])) { serial = 5 }) ∷ [] }
+    ensures { at_message (ready []) (asks_root (codes "org.a11y.atspi.Accessible") (codes "GetApplication") [])
+        ≡ sends
+        (record (return_to (codes ":1.2") 9
+        (reference (codes ":1.1") (codes "/org/a11y/atspi/accessible/root") ∷ [])) { serial = 5 })
+        ∷ [] }
 {}
 
 /// What is no pair of two texts is none.
 #[tactic(auto, unfolding(atspi_base::specs::valid_names::Names::is_bus_name, atspi_base::specs::valid_names::Elements::are_two_or_more, atspi_base::specs::valid_names::Elements::are_elements, atspi_base::specs::valid_names::Elements::parts_of))]
 pub fn unlike()
-    ensures pair { pair_of (structure_data (items_of (text_data (codes ":1.2") ∷ text_data (codes "object") ∷ []))) ≡ Some (codes ":1.2", codes "object") }
+    ensures pair { pair_of (structure_data (items_of (text_data (codes ":1.2") ∷ text_data (codes "object") ∷ [])))
+        ≡ Some (codes ":1.2", codes "object") }
     ensures one { pair_of (structure_data (items_of (text_data (codes ":1.2") ∷ []))) ≡ None }
     ensures text { pair_of (text_data (codes ":1.2")) ≡ None }
-    ensures no_name { pair_of (structure_data (items_of (text_data (codes "x") ∷ text_data (codes "object") ∷ []))) ≡ None }
+    ensures no_name { pair_of (structure_data (items_of (text_data (codes "x") ∷ text_data (codes "object") ∷ [])))
+        ≡ None }
 {}

@@ -2,7 +2,7 @@
 
 ghost use Rattle.std.specs.Prelude.{◌≡◌, ◌∷◌, [], Some, pos, negsuc, codes, map};
 ghost use Rattle.atspi_types.specs.Data.{text_data};
-ghost use Rattle.atspi_forest.specs.declared.news.Item.{Item};
+ghost use Rattle.atspi_tree_model.specs.declared.news.Item.{Item};
 ghost use Rattle.atspi_protocol.specs.news.Cases as cases;
 ghost use Rattle.atspi_protocol.specs.news.CacheSignals.{item_in};
 ghost use Rattle.atspi_protocol.specs.news.Replies.{items_among};
@@ -28,7 +28,8 @@ pub fn fields()
 
 /// Values that are no items are passed over, and the others stand in their order.
 pub fn among_others()
-    ensures { map (λ (i : Item). i.name) (items_among (text_data [] ∷ cases.item [] ∷ text_data [] ∷ cancel ∷ [])) ≡ codes "OK" ∷ codes "Cancel" ∷ [] }
+    ensures { map (λ (i : Item). i.name) (items_among (text_data [] ∷ cases.item [] ∷ text_data [] ∷ cancel ∷ []))
+        ≡ codes "OK" ∷ codes "Cancel" ∷ [] }
 {}
 
 /// An application tells items of the type that a reader's cases have.

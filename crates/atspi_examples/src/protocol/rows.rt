@@ -3,7 +3,10 @@
 ghost use Rattle.std.specs.Prelude.{◌≡◌, ◌∷◌, [], pos, negsuc, true, false};
 ghost use Rattle.atspi_types.specs.Kinds.{i32, number};
 ghost use Rattle.atspi_types.specs.Data.{array_data, boolean_data, items_of};
-ghost use Rattle.atspi_protocol.specs.declared.members.member.ObjectMember.TheVariants.{GetChildren, GetColumnAtIndex, GetIndexAt, GetIndexInParent, GetRowAtIndex, GetSelectedRows, IsRowSelected, IsSelected};
+ghost use Rattle.atspi_protocol.specs.declared.members.member.ObjectMember.TheVariants.{GetChildren, GetColumnAtIndex};
+ghost use Rattle.atspi_protocol.specs.declared.members.member.ObjectMember.TheVariants.{GetIndexAt, GetIndexInParent};
+ghost use Rattle.atspi_protocol.specs.declared.members.member.ObjectMember.TheVariants.{GetRowAtIndex, GetSelectedRows};
+ghost use Rattle.atspi_protocol.specs.declared.members.member.ObjectMember.TheVariants.{IsRowSelected, IsSelected};
 ghost use Rattle.atspi_protocol.specs.declared.members.property.ObjectProperty.TheVariants.{ChildCount, NRows, Parent};
 ghost use Rattle.atspi_protocol.specs.ends.Messages.{returns};
 ghost use Rattle.atspi_protocol.specs.members.Arguments.{int};
@@ -19,7 +22,8 @@ pub fn below_the_root()
     ensures count { cases.value root ChildCount ≡ int (pos 5) }
 {}
 
-/// Where each cell is a row, the row behind the last is none, though none of its cells lacks; nor is a cell behind the last in a row.
+/// Where each cell is a row, the row behind the last is none, though none of its cells lacks; nor is a cell behind the
+/// last in a row.
 pub fn one_column()
     ensures rows { cases.value narrow NRows ≡ int (pos 5) }
     ensures index { told narrow GetIndexAt (two (pos 4) (pos 0)) ≡ returns (int (pos 4) ∷ []) }
@@ -29,6 +33,7 @@ pub fn one_column()
     ensures selected { told narrow IsRowSelected (one (pos 2)) ≡ returns (boolean_data true ∷ []) }
     ensures not_selected { told narrow IsRowSelected (one (pos 3)) ≡ returns (boolean_data false ∷ []) }
     ensures row_behind { told narrow IsRowSelected (one (pos 5)) ≡ returns (boolean_data false ∷ []) }
-    ensures all { told narrow GetSelectedRows [] ≡ returns (array_data (number i32) (items_of (int (pos 0) ∷ int (pos 1) ∷ int (pos 2) ∷ [])) ∷ []) }
+    ensures all { told narrow GetSelectedRows []
+        ≡ returns (array_data (number i32) (items_of (int (pos 0) ∷ int (pos 1) ∷ int (pos 2) ∷ [])) ∷ []) }
     ensures cell { told narrow IsSelected (two (pos 2) (pos 0)) ≡ returns (boolean_data true ∷ []) }
 {}

@@ -2,21 +2,36 @@
 
 ghost use Rattle.std.specs.Prelude.{◌≡◌, ◌∷◌, [], None, Some, codes};
 ghost use Rattle.std.specs.FinMap.{empty, get, insert};
-ghost use Rattle.atspi_forest.specs.declared.contents.FaceData.TheVariants.{Chars, Deeds, Grid};
-ghost use Rattle.atspi_forest.specs.Forest.{nil, tree};
+ghost use Rattle.atspi_tree_model.specs.declared.contents.FaceData.TheVariants.{Chars, Deeds, Grid};
+ghost use Rattle.atspi_tree_model.specs.Forest.{nil, tree};
 ghost use Rattle.atspi_protocol.specs.whole.Cases.{kept, plain, shape, small};
 ghost use Rattle.atspi_protocol.specs.whole.Laws.{IsFollowed};
-ghost use Rattle.atspi_protocol.specs.whole.Whole.{KnowOnly, KnowsNo, as_actions, as_columns, as_text, faces_after, filled, whole, with_actions, with_columns, with_text};
+ghost use Rattle.atspi_protocol.specs.whole.Whole.{KnowOnly, KnowsNo, as_actions, as_columns, as_text, faces_after};
+ghost use Rattle.atspi_protocol.specs.whole.Whole.{filled, whole, with_actions, with_columns, with_text};
 ghost use Rattle.atspi_examples.specs.protocol.Lists.{full};
 
-use atspi_forest::Step;
+use atspi_tree_model::Step;
 
 /// Each node has the contents that the faces keep of it.
 pub fn trees()
-    ensures filled { filled kept (shape 1 plain) ≡ record { shape = shape 1 plain; contents = record { text = Some (record { characters = codes "abc"; caret = 1; selections = (0, 2) ∷ [] }); columns = None; actions = [] } } }
+    ensures filled { filled kept (shape 1 plain)
+        ≡ record {
+          shape = shape 1 plain;
+          contents =
+              record {
+                text = Some (record { characters = codes "abc"; caret = 1; selections = (0, 2) ∷ [] });
+                columns = None;
+                actions = [];
+              };
+        } }
     ensures whole { whole (tree (shape 0 plain) (tree (shape 2 plain) nil nil) nil) kept
-        ≡ tree (record { shape = shape 0 plain; contents = record { text = None; columns = None; actions = codes "press" ∷ [] } })
-        (tree (record { shape = shape 2 plain; contents = record { text = None; columns = Some 2; actions = [] } }) nil nil) nil }
+        ≡ tree
+        (record {
+          shape = shape 0 plain;
+          contents = record { text = None; columns = None; actions = codes "press" ∷ [] };
+        })
+        (tree (record { shape = shape 2 plain; contents = record { text = None; columns = Some 2; actions = [] } }) nil
+        nil) nil }
     ensures nobody { whole nil kept ≡ nil }
 {}
 
@@ -45,16 +60,20 @@ pub fn known()
 pub fn added()
     ensures text { get (faces_after small (Step.Add 3 0 1 full) kept).chars 3 ≡ Some (Chars (codes "t") 0 []) }
     ensures columns { get (faces_after small (Step.Add 3 0 1 full) kept).grid 3 ≡ Some (Grid 4) }
-    ensures actions { get (faces_after small (Step.Add 3 0 1 full) kept).deeds 3 ≡ Some (Deeds (codes "a" ∷ codes "b" ∷ [])) }
-    ensures other_text { get (faces_after small (Step.Add 3 0 1 full) kept).chars 1 ≡ Some (Chars (codes "abc") 1 ((0, 2) ∷ [])) }
+    ensures actions { get (faces_after small (Step.Add 3 0 1 full) kept).deeds 3
+        ≡ Some (Deeds (codes "a" ∷ codes "b" ∷ [])) }
+    ensures other_text { get (faces_after small (Step.Add 3 0 1 full) kept).chars 1
+        ≡ Some (Chars (codes "abc") 1 ((0, 2) ∷ [])) }
     ensures other_columns { get (faces_after small (Step.Add 3 0 1 full) kept).grid 2 ≡ Some (Grid 2) }
-    ensures other_actions { get (faces_after small (Step.Add 3 0 1 full) kept).deeds 0 ≡ Some (Deeds (codes "press" ∷ [])) }
+    ensures other_actions { get (faces_after small (Step.Add 3 0 1 full) kept).deeds 0
+        ≡ Some (Deeds (codes "press" ∷ [])) }
     ensures no_table_of_text { get (faces_after small (Step.Add 3 0 1 full) kept).grid 1 ≡ None }
 {}
 
 /// A step is followed where the faces know no node afterwards that is not in the tree.
 pub fn followed()
-    ensures nothing { IsFollowed nil (record { chars = empty; grid = empty; deeds = empty }) (Step.SetName 0 (codes "U")) }
+    ensures nothing { IsFollowed nil (record { chars = empty; grid = empty; deeds = empty })
+        (Step.SetName 0 (codes "U")) }
     ensures stranger { IsFollowed nil kept (Step.SetName 0 (codes "U")) → ⊥ }
 {}
 

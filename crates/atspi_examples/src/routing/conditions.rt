@@ -6,7 +6,8 @@ ghost use Rattle.atspi_types.specs.Data.{text_data, path_data, number_data};
 ghost use Rattle.atspi_match.specs.declared.condition.MessageType.TheVariants.{Signal, MethodCall, MethodReturn, Error};
 ghost use Rattle.atspi_match.specs.declared.condition.Condition.TheVariants as condition;
 ghost use Rattle.atspi_match.specs.routing.Routing.{asks_for, holds, matches};
-ghost use Rattle.atspi_match.specs.routing.Room.{room, owners, zero_, one_, two_, call_to, named_m, reply_to, signal_m, signals as all_signals};
+ghost use Rattle.atspi_match.specs.routing.Room.{room, owners, zero_, one_, two_, call_to, named_m, reply_to, signal_m};
+ghost use Rattle.atspi_match.specs.routing.Room.{signals as all_signals};
 ghost use Rattle.atspi_examples.specs.routing.Heard.{at, sent_by, sent_to, telling, wrong_owners};
 
 /// The four types by their numbers.
@@ -19,7 +20,8 @@ pub fn kinds()
     ensures no_return { holds (reply_to 3 one_ 7) owners (condition.Kind MethodReturn) ≡ false }
 {}
 
-/// A sender is the name itself, or owns it, where it is a well-known one; whoever waits for the name does not. A message without a sender has none.
+/// A sender is the name itself, or owns it, where it is a well-known one; whoever waits for the name does not. A
+/// message without a sender has none.
 pub fn senders()
     ensures literal { holds (sent_by (Some one_)) owners (condition.Sender one_) ≡ true }
     ensures other { holds (sent_by (Some two_)) owners (condition.Sender one_) ≡ false }
@@ -72,40 +74,57 @@ pub fn namespaces()
     ensures no_path { holds (record signal_m { path = None }) owners (condition.PathNamespace (codes "/")) ≡ false }
 {}
 
-/// An argument is a text that is equal to the value, at that index alone; a namespace of names has the value itself and what begins with it and a dot.
+/// An argument is a text that is equal to the value, at that index alone; a namespace of names has the value itself and
+/// what begins with it and a dot.
 pub fn arguments()
-    ensures first { holds (telling (text_data (codes "x") ∷ (text_data (codes "y") ∷ []))) owners (condition.Arg 0 (codes "x")) ≡ true }
-    ensures second { holds (telling (text_data (codes "x") ∷ (text_data (codes "y") ∷ []))) owners (condition.Arg 1 (codes "y")) ≡ true }
-    ensures of_first { holds (telling (text_data (codes "x") ∷ (text_data (codes "y") ∷ []))) owners (condition.Arg 1 (codes "x")) ≡ false }
-    ensures third { holds (telling (text_data (codes "x") ∷ (text_data (codes "y") ∷ []))) owners (condition.Arg 2 (codes "x")) ≡ false }
+    ensures first { holds (telling (text_data (codes "x") ∷ (text_data (codes "y") ∷ []))) owners
+        (condition.Arg 0 (codes "x")) ≡ true }
+    ensures second { holds (telling (text_data (codes "x") ∷ (text_data (codes "y") ∷ []))) owners
+        (condition.Arg 1 (codes "y")) ≡ true }
+    ensures of_first { holds (telling (text_data (codes "x") ∷ (text_data (codes "y") ∷ []))) owners
+        (condition.Arg 1 (codes "x")) ≡ false }
+    ensures third { holds (telling (text_data (codes "x") ∷ (text_data (codes "y") ∷ []))) owners
+        (condition.Arg 2 (codes "x")) ≡ false }
     ensures front { holds (telling (text_data (codes "xy") ∷ [])) owners (condition.Arg 0 (codes "x")) ≡ false }
     ensures path { holds (telling (path_data (codes "/x") ∷ [])) owners (condition.Arg 0 (codes "/x")) ≡ false }
     ensures number { holds (telling (number_data u32 1 ∷ [])) owners (condition.Arg 0 (codes "1")) ≡ false }
-    ensures same_name { holds (telling (text_data (codes "a.b") ∷ [])) owners (condition.Arg0Namespace (codes "a.b")) ≡ true }
-    ensures name_below { holds (telling (text_data (codes "a.b.c") ∷ [])) owners (condition.Arg0Namespace (codes "a.b")) ≡ true }
-    ensures name_beside { holds (telling (text_data (codes "a.bc") ∷ [])) owners (condition.Arg0Namespace (codes "a.b")) ≡ false }
-    ensures name_above { holds (telling (text_data (codes "a") ∷ [])) owners (condition.Arg0Namespace (codes "a.b")) ≡ false }
-    ensures second_name { holds (telling (text_data (codes "x") ∷ (text_data (codes "a.b") ∷ []))) owners (condition.Arg0Namespace (codes "a.b")) ≡ false }
+    ensures same_name { holds (telling (text_data (codes "a.b") ∷ [])) owners (condition.Arg0Namespace (codes "a.b"))
+        ≡ true }
+    ensures name_below { holds (telling (text_data (codes "a.b.c") ∷ [])) owners (condition.Arg0Namespace (codes "a.b"))
+        ≡ true }
+    ensures name_beside { holds (telling (text_data (codes "a.bc") ∷ [])) owners (condition.Arg0Namespace (codes "a.b"))
+        ≡ false }
+    ensures name_above { holds (telling (text_data (codes "a") ∷ [])) owners (condition.Arg0Namespace (codes "a.b"))
+        ≡ false }
+    ensures second_name { holds (telling (text_data (codes "x") ∷ (text_data (codes "a.b") ∷ []))) owners
+        (condition.Arg0Namespace (codes "a.b")) ≡ false }
     ensures no_name { holds signal_m owners (condition.Arg0Namespace (codes "a.b")) ≡ false }
 {}
 
-/// An argument's path is equal to the value, or one of the two ends in `/` and the other begins with it; it may be a text or a path.
+/// An argument's path is equal to the value, or one of the two ends in `/` and the other begins with it; it may be a
+/// text or a path.
 pub fn branches()
     ensures same { holds (telling (text_data (codes "/a/b") ∷ [])) owners (condition.ArgPath 0 (codes "/a/b")) ≡ true }
     ensures path { holds (telling (path_data (codes "/a/b") ∷ [])) owners (condition.ArgPath 0 (codes "/a/b")) ≡ true }
     ensures below { holds (telling (path_data (codes "/a/b") ∷ [])) owners (condition.ArgPath 0 (codes "/a/")) ≡ true }
     ensures above { holds (telling (text_data (codes "/a/") ∷ [])) owners (condition.ArgPath 0 (codes "/a/b")) ≡ true }
-    ensures no_slash { holds (telling (path_data (codes "/a/b") ∷ [])) owners (condition.ArgPath 0 (codes "/a")) ≡ false }
-    ensures no_slash_above { holds (telling (path_data (codes "/a") ∷ [])) owners (condition.ArgPath 0 (codes "/a/b")) ≡ false }
+    ensures no_slash { holds (telling (path_data (codes "/a/b") ∷ [])) owners (condition.ArgPath 0 (codes "/a"))
+        ≡ false }
+    ensures no_slash_above { holds (telling (path_data (codes "/a") ∷ [])) owners (condition.ArgPath 0 (codes "/a/b"))
+        ≡ false }
     ensures other { holds (telling (text_data (codes "/c/d") ∷ [])) owners (condition.ArgPath 0 (codes "/a/")) ≡ false }
-    ensures other_above { holds (telling (text_data (codes "/c/") ∷ [])) owners (condition.ArgPath 0 (codes "/a/b")) ≡ false }
+    ensures other_above { holds (telling (text_data (codes "/c/") ∷ [])) owners (condition.ArgPath 0 (codes "/a/b"))
+        ≡ false }
     ensures nothing { holds (telling (text_data [] ∷ [])) owners (condition.ArgPath 0 (codes "/a")) ≡ false }
-    ensures second { holds (telling (text_data [] ∷ (path_data (codes "/a/b") ∷ []))) owners (condition.ArgPath 1 (codes "/a/")) ≡ true }
-    ensures of_second { holds (telling (text_data [] ∷ (path_data (codes "/a/b") ∷ []))) owners (condition.ArgPath 0 (codes "/a/")) ≡ false }
+    ensures second { holds (telling (text_data [] ∷ (path_data (codes "/a/b") ∷ []))) owners
+        (condition.ArgPath 1 (codes "/a/")) ≡ true }
+    ensures of_second { holds (telling (text_data [] ∷ (path_data (codes "/a/b") ∷ []))) owners
+        (condition.ArgPath 0 (codes "/a/")) ≡ false }
     ensures number { holds (telling (number_data u32 1 ∷ [])) owners (condition.ArgPath 0 (codes "/a/")) ≡ false }
 {}
 
-/// A rule asks for what all its conditions ask for; `eavesdrop` changes nothing. A connection asks for what one of its own rules does.
+/// A rule asks for what all its conditions ask for; `eavesdrop` changes nothing. A connection asks for what one of its
+/// own rules does.
 pub fn rules()
     ensures both { matches signal_m owners (condition.Kind Signal ∷ (condition.Member (codes "M") ∷ [])) ≡ true }
     ensures second { matches signal_m owners (condition.Kind Signal ∷ (condition.Member (codes "N") ∷ [])) ≡ false }
@@ -114,6 +133,8 @@ pub fn rules()
     ensures eavesdrop { matches signal_m owners (condition.Eavesdrop true ∷ []) ≡ true }
     ensures no_eavesdrop { matches signal_m owners (condition.Eavesdrop false ∷ []) ≡ true }
     ensures by_owner { matches (sent_by (Some one_)) owners (condition.Sender (codes "a.b") ∷ []) ≡ true }
-    ensures asked { asks_for (record room { rules = (2, all_signals) ∷ ((1, named_m) ∷ []) }) (record signal_m { member = Some (codes "N") }) 2 ≡ true }
-    ensures of_another { asks_for (record room { rules = (2, all_signals) ∷ ((1, named_m) ∷ []) }) (record signal_m { member = Some (codes "N") }) 1 ≡ false }
+    ensures asked { asks_for (record room { rules = (2, all_signals) ∷ ((1, named_m) ∷ []) })
+        (record signal_m { member = Some (codes "N") }) 2 ≡ true }
+    ensures of_another { asks_for (record room { rules = (2, all_signals) ∷ ((1, named_m) ∷ []) })
+        (record signal_m { member = Some (codes "N") }) 1 ≡ false }
 {}

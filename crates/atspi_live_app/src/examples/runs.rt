@@ -1,9 +1,9 @@
 //! How runs of an application on a link were over: their calls, their status, and what was written.
 
 ghost use Rattle.std.specs.Prelude.{◌∷◌, [], List, None, Some, codes};
-ghost use Rattle.atspi_host.specs.declared.call.Call.{Call};
-ghost use Rattle.atspi_host.specs.declared.call.Did.{Did};
-ghost use Rattle.atspi_conversation.specs.declared.ending.Ending.{Ending};
+ghost use Rattle.atspi_live_host.specs.declared.call.Call.{Call};
+ghost use Rattle.atspi_live_host.specs.declared.call.Did.{Did};
+ghost use Rattle.atspi_live_conversation.specs.declared.ending.Ending.{Ending};
 ghost use Rattle.atspi_live_app.specs.Names.{refused_text};
 ghost use Rattle.atspi_live_app.specs.Overs.{OverBlames};
 ghost use Rattle.atspi_live_app.specs.Rounds.{RunsPaced};
@@ -12,14 +12,16 @@ ghost use Rattle.atspi_live_app.specs.declared.live_app.Stop.TheVariants as stop
 ghost use Rattle.atspi_live_app.specs.declared.naming.Refused.TheVariants as refused;
 ghost use Rattle.atspi_live_app.specs.declared.over.Over.TheVariants as overs;
 
-use atspi_conversation::Ending;
-use atspi_host::{Call, Did};
+use atspi_live_conversation::Ending;
+use atspi_live_host::{Call, Did};
 
-/// A line that was refused is told with status 1; numbers that are spent have status 13, want of memory 5, and an ending its own. The count of failed reads
-/// and writes rises where the host failed, and in no run that was stopped.
+/// A line that was refused is told with status 1; numbers that are spent have status 13, want of memory 5, and an
+/// ending its own. The count of failed reads and writes rises where the host failed, and in no run that was stopped.
 pub fn runs_reported()
-    ensures refused { OverReports (overs.Stopped (stops.Refused 3 refused.Form)) 1 (Some []) (Some (refused_text 3 refused.Form)) }
-    ensures refused_other { OverReports (overs.Stopped (stops.Refused 3 refused.Form)) 13 (Some []) (Some (refused_text 3 refused.Form)) → ⊥ }
+    ensures refused { OverReports (overs.Stopped (stops.Refused 3 refused.Form)) 1 (Some [])
+        (Some (refused_text 3 refused.Form)) }
+    ensures refused_other { OverReports (overs.Stopped (stops.Refused 3 refused.Form)) 13 (Some [])
+        (Some (refused_text 3 refused.Form)) → ⊥ }
     ensures spent { OverReports (overs.Stopped stops.Spent) 13 (Some (codes "a")) (Some (codes "a")) }
     ensures spent_other { OverReports (overs.Stopped stops.Spent) 5 (Some (codes "a")) (Some (codes "a")) → ⊥ }
     ensures wanting { OverReports (overs.Stopped stops.NoMemory) 5 (Some (codes "a")) (Some (codes "a")) }
@@ -34,8 +36,11 @@ pub fn runs_reported()
 
 /// On the one link that was connected, the calls are rounds, with the lines done before the reads of theirs.
 pub fn runs_on_links()
-    ensures failed { EndsOn [] (codes "/p") 0 7 1 (Some (Call.Connect (codes "/p") (Did.Done 0) ∷ Call.Read 0 [] Did.Failed ∷ [])) (Some (codes "a")) (Some (codes "a")) }
-    ensures stopped { EndsOn (codes "wait 2" ∷ []) (codes "/p") 0 1 5 (Some (Call.Connect (codes "/p") (Did.Done 0) ∷ [])) (Some []) (Some (refused_text 1 refused.Form)) }
+    ensures failed { EndsOn [] (codes "/p") 0 7 1
+        (Some (Call.Connect (codes "/p") (Did.Done 0) ∷ Call.Read 0 [] Did.Failed ∷ [])) (Some (codes "a"))
+        (Some (codes "a")) }
+    ensures stopped { EndsOn (codes "wait 2" ∷ []) (codes "/p") 0 1 5
+        (Some (Call.Connect (codes "/p") (Did.Done 0) ∷ [])) (Some []) (Some (refused_text 1 refused.Form)) }
     ensures untold { EndsOn [] (codes "/p") 0 13 5 None (Some (codes "a")) (Some (codes "a")) }
     ensures ended { RunsPaced ([] ∷ []) 0 (overs.Ended Ending.HostFailed) 1 (Call.Read 0 [] Did.Failed ∷ []) }
     ensures ended_uncalled { RunsPaced [] 0 (overs.Ended Ending.PeerEnded) 5 [] → ⊥ }

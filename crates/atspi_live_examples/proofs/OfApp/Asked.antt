@@ -2,11 +2,11 @@
 use Rattle.std.proofs.Common.{◌≡◌, ℕ, List, [], ◌∷◌, ◌++◌, refl, sym, ap, subst, ◌∙◌, arith, rules, IsUtf8, None, Some}
 use Rattle.std.specs.Prelude.{codes}
 use Rattle.std.specs.Fmt.{digits}
-use Rattle.atspi_forest.specs.declared.edit.Edit.TheVariants.{Focus}
-use Rattle.atspi_lines.specs.Line.{Spells}
-use Rattle.atspi_lines.specs.Words.{Leads, SpellsWords, app_name, literal, number, quote}
-use Rattle.atspi_lines.specs.declared.line.Line.TheVariants.{App, Blank, Edit}
-use Rattle.atspi_lines.proofs.LeadLemmas.{lead_cut}
+use Rattle.atspi_tree_model.specs.declared.edit.Edit.TheVariants.{Focus}
+use Rattle.atspi_script_lines.specs.Line.{Spells}
+use Rattle.atspi_script_lines.specs.Words.{Leads, SpellsWords, app_name, literal, number, quote}
+use Rattle.atspi_script_lines.specs.declared.line.Line.TheVariants.{App, Blank, Edit}
+use Rattle.atspi_script_lines.proofs.LeadLemmas.{lead_cut}
 use Rattle.atspi_protocol.specs.exporting.Exporter.{Exporter, begins}
 use Rattle.atspi_protocol.specs.exporting.Starting.{starts}
 use Rattle.atspi_live_app.specs.Standing.{Comes, does}

@@ -5,9 +5,9 @@ use Rattle.atspi_auth.specs.Replies.{answer, reply_to}
 use Rattle.atspi_auth.specs.Requests.{is_grant, is_number}
 use Rattle.atspi_auth.specs.Talk.{after, behind, client_start, fault_in, heard, hears, hears_bytes}
 use Rattle.atspi_stream.specs.Stream.{few}
-use Rattle.atspi_lines.specs.declared.line.LineFault.TheVariants as faults
+use Rattle.atspi_script_lines.specs.declared.line.LineFault.TheVariants as faults
 use Rattle.atspi_live_app.specs.Overs.{StopsBy}
-use Rattle.atspi_live_app.specs.Stops.{stop_of_line}
+use Rattle.atspi_live_app.specs.inner.Stops.{stop_of_line}
 use Rattle.atspi_live_app.specs.Turns.{AreWhole}
 use Rattle.atspi_live_examples.specs.app.Lines.{granted}
 

@@ -7,14 +7,14 @@ use Rattle.atspi_auth.specs.Replies.{answer, reply_to}
 use Rattle.atspi_auth.specs.Requests.{is_grant, is_number}
 use Rattle.atspi_auth.specs.Talk.{after, client_start, fault_in, heard, hears, hears_bytes}
 use Rattle.atspi_stream.specs.Stream.{few}
-use Rattle.atspi_conversation.proofs.LineLemmas.{none_behind}
+use Rattle.atspi_live_conversation.proofs.LineLemmas.{none_behind}
 use Rattle.atspi_live_app.specs.Overs.{StopsBy}
 use Rattle.atspi_live_app.specs.Standing.{Event, IsRefused, does}
 use Rattle.atspi_live_app.specs.Turns.{IsBefore, IsInTurn}
 use Rattle.atspi_live_app.specs.Asking.{IsAsk}
 use Rattle.atspi_live_app.specs.declared.asking.Ask.TheVariants as asks
-use Rattle.atspi_live_app.specs.Stops.{stop_of_line}
-use Rattle.atspi_lines.specs.declared.line.LineFault.TheVariants as faults
+use Rattle.atspi_live_app.specs.inner.Stops.{stop_of_line}
+use Rattle.atspi_script_lines.specs.declared.line.LineFault.TheVariants as faults
 use Rattle.atspi_live_app.specs.declared.naming.Refused.TheVariants as refused
 
 sound : fault_in (after client_start []).stage ≡ None

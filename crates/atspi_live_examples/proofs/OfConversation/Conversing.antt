@@ -8,9 +8,9 @@ use Rattle.atspi_auth.specs.Talk.{Stands, after, client_start, fault_in, heard, 
 use Rattle.atspi_auth.specs.declared.said.AuthLine.{AuthLine}
 use Rattle.atspi_auth.specs.declared.said.AuthLine.TheVariants.{Hail}
 use Rattle.atspi_stream.specs.Stream.{few}
-use Rattle.atspi_conversation.specs.Sent.{AreSent}
-use Rattle.atspi_conversation.specs.Speech.{line_bytes}
-use Rattle.atspi_conversation.specs.Talking.{Converses, Going, IsAtEase}
+use Rattle.atspi_live_conversation.specs.Sent.{AreSent}
+use Rattle.atspi_live_conversation.specs.Speech.{line_bytes}
+use Rattle.atspi_live_conversation.specs.Talking.{Converses, Going, IsAtEase}
 use Rattle.atspi_live_examples.specs.conversation.Logs.{begun, hailed, over, three_lines}
 use Rattle.atspi_live_examples.specs.conversation.Silent.{Says, granted, hail, rejected}
 use Rattle.atspi_live_examples.proofs.OfConversation.Given.{none_first}

@@ -10,7 +10,7 @@ use Rattle.atspi_message.specs.Bytes.{IsMessage}
 use Rattle.atspi_message.specs.Envelope.{Envelope}
 use Rattle.atspi_stream.specs.Stream.{AwaitsMore, HasFault, IsParted, bytes_of, few, unfinished}
 use Rattle.atspi_stream.proofs.StreamLaws.{begun}
-use Rattle.atspi_conversation.specs.Speech.{IsInOrder, IsMalformed, IsRefused, IsSpentBy, envelopes}
+use Rattle.atspi_live_conversation.specs.Speech.{IsInOrder, IsMalformed, IsRefused, IsSpentBy, envelopes}
 use Rattle.atspi_live_examples.specs.conversation.Silent.{IsSpentWith, Says, Took, granted, rejected}
 
 -- behind the lines that let a client in stand the bytes of messages

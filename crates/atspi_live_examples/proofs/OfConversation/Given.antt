@@ -5,14 +5,14 @@ use Rattle.atspi_auth.specs.Lines.{end_of_line, lines_of, joined}
 use Rattle.atspi_auth.specs.Replies.{answer, reply_to}
 use Rattle.atspi_auth.specs.Requests.{is_grant, is_number}
 use Rattle.atspi_auth.specs.Talk.{behind, client_start, heard, hears, hears_bytes}
-use Rattle.atspi_host.specs.declared.call.Did.TheVariants.{Done, NotYet}
-use Rattle.atspi_host.specs.Calls.{taken}
-use Rattle.atspi_host.specs.declared.call.Did.{Did}
-use Rattle.atspi_host.specs.declared.call.Call.{Call}
-use Rattle.atspi_host.specs.declared.call.Call.TheVariants.{Read, Write}
+use Rattle.atspi_live_host.specs.declared.call.Did.TheVariants.{Done, NotYet}
+use Rattle.atspi_live_host.specs.Calls.{taken}
+use Rattle.atspi_live_host.specs.declared.call.Did.{Did}
+use Rattle.atspi_live_host.specs.declared.call.Call.{Call}
+use Rattle.atspi_live_host.specs.declared.call.Call.TheVariants.{Read, Write}
 use Rattle.atspi_stream.specs.Stream.{few}
-use Rattle.atspi_conversation.specs.Rounds.{IsRead, IsRound, WritesIfDue}
-use Rattle.atspi_conversation.specs.Speech.{IsAllGiven, IsSpeech, line_bytes, lines_for}
+use Rattle.atspi_live_conversation.specs.Rounds.{IsRead, IsRound, WritesIfDue}
+use Rattle.atspi_live_conversation.specs.Speech.{IsAllGiven, IsSpeech, line_bytes, lines_for}
 use Rattle.atspi_live_examples.specs.conversation.Silent.{IsDone, Says, hail}
 
 -- where nothing stands behind the lines

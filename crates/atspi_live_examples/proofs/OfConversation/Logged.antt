@@ -3,8 +3,8 @@ use Rattle.std.proofs.Common.{◌≡◌, ℕ, List, [], ◌∷◌, ◌++◌, map
 use Rattle.atspi_message.specs.Envelope.{Envelope}
 use Rattle.atspi_message.specs.Rules.{MeetsRules}
 use Rattle.atspi_stream.specs.Stream.{IsParted}
-use Rattle.atspi_conversation.specs.Speech.{envelopes}
-use Rattle.atspi_conversation.specs.Talking.{Attends, HandsOut, Takes}
+use Rattle.atspi_live_conversation.specs.Speech.{envelopes}
+use Rattle.atspi_live_conversation.specs.Talking.{Attends, HandsOut, Takes}
 use Rattle.atspi_live_examples.specs.conversation.Logs.{Logs, call, fresh}
 
 pub none_some : (e : Envelope) (es : List Envelope) → [] ≡ e ∷ es → ⊥

@@ -6,21 +6,21 @@ use Rattle.atspi_auth.specs.Replies.{answer, reply_to}
 use Rattle.atspi_auth.specs.Requests.{is_grant, is_number}
 use Rattle.atspi_auth.specs.Talk.{after, behind, client_start, fault_in, heard, hears, hears_bytes}
 use Rattle.atspi_auth.specs.declared.stage.Stage.TheVariants.{Over}
-use Rattle.atspi_check.specs.Check.{fault_line}
+use Rattle.atspi_script.specs.FaultText.{fault_line}
 use Rattle.atspi_message.specs.Envelope.{Envelope}
-use Rattle.atspi_host.specs.Calls.{given, taken}
-use Rattle.atspi_host.specs.declared.call.Call.{Call}
-use Rattle.atspi_host.specs.declared.call.Call.TheVariants.{Read, Write}
-use Rattle.atspi_host.specs.declared.call.Did.{Did}
-use Rattle.atspi_host.specs.declared.call.Did.TheVariants.{Done, NotYet}
+use Rattle.atspi_live_host.specs.Calls.{given, taken}
+use Rattle.atspi_live_host.specs.declared.call.Call.{Call}
+use Rattle.atspi_live_host.specs.declared.call.Call.TheVariants.{Read, Write}
+use Rattle.atspi_live_host.specs.declared.call.Did.{Did}
+use Rattle.atspi_live_host.specs.declared.call.Did.TheVariants.{Done, NotYet}
 use Rattle.atspi_stream.specs.Stream.{few}
 use Rattle.atspi_protocol.specs.following.ReaderState.{begins}
 use Rattle.atspi_protocol.specs.following.Takes.{starts}
-use Rattle.atspi_conversation.specs.Moved.{GoesOn}
-use Rattle.atspi_conversation.specs.Rounds.{AreRounds, Breaks, EndsBehind, IsRead, IsRound, IsRun}
-use Rattle.atspi_conversation.specs.Speech.{IsAllGiven, IsInOrder, envelopes, line_bytes, lines_for}
-use Rattle.atspi_conversation.specs.declared.ending.Ending.{Ending}
-use Rattle.atspi_conversation.specs.declared.ending.Ending.TheVariants as endings
+use Rattle.atspi_live_conversation.specs.Moved.{GoesOn}
+use Rattle.atspi_live_conversation.specs.Rounds.{AreRounds, Breaks, EndsBehind, IsRead, IsRound, IsRun}
+use Rattle.atspi_live_conversation.specs.Speech.{IsAllGiven, IsInOrder, envelopes, line_bytes, lines_for}
+use Rattle.atspi_live_conversation.specs.declared.ending.Ending.{Ending}
+use Rattle.atspi_live_conversation.specs.declared.ending.Ending.TheVariants as endings
 use Rattle.atspi_live_reader.specs.Following.{IsUntold}
 use Rattle.atspi_live_reader.specs.Runs.{ReportsLast}
 use Rattle.atspi_live_reader.specs.Spoken.{IsAfter, IsAllSpoken, IsEmpty, following, spoken_in}

@@ -8,8 +8,8 @@ use Rattle.atspi_auth.specs.Requests.{is_grant, is_number}
 use Rattle.atspi_auth.specs.Talk.{behind, client_start, heard, hears, hears_bytes}
 use Rattle.atspi_auth.proofs.LinesLemmas.{joined-lines_of}
 use Rattle.atspi_base.specs.Digits.{hex_digits}
-use Rattle.atspi_event_texts.specs.Rows.{last_number, node_text}
-use Rattle.atspi_forest.specs.Path.{path_of}
+use Rattle.atspi_trace_texts.specs.Rows.{last_number, node_text}
+use Rattle.atspi_tree_model.specs.Path.{path_of}
 use Rattle.atspi_tables.specs.Roles.{role_names, role_words}
 use Rattle.atspi_types.specs.declared.fault.Order.{Order}
 use Rattle.atspi_types.specs.declared.fault.Order.TheVariants.{Little, Big}
@@ -20,7 +20,7 @@ use Rattle.atspi_types.specs.SignatureFaults.{Before}
 use Rattle.atspi_stream.specs.Stream.{AreMessages, AwaitsMore, HasFault, IsParted, behind as behind_front, bytes_of, few, in_front, unfinished}
 use Rattle.atspi_protocol.specs.following.ReaderState.{Done, Followed, ReaderState, begins, sends, speaks, tells_end}
 use Rattle.atspi_protocol.specs.following.Takes.{reader_takes, starts}
-use Rattle.atspi_conversation.specs.Speech.{IsSpeech, envelopes, line_bytes, lines_for}
+use Rattle.atspi_live_conversation.specs.Speech.{IsSpeech, envelopes, line_bytes, lines_for}
 use Rattle.atspi_live_reader.specs.Shows.{shown_in}
 use Rattle.atspi_live_reader.specs.Spoken.{IsAfter, IsSpoken, following, spoken_in}
 use Rattle.atspi_live_examples.specs.reader.Held.{said, shows, told, two_known}

@@ -5,14 +5,15 @@ use Rattle.atspi_auth.specs.Lines.{lines_of, joined}
 use Rattle.atspi_auth.specs.Replies.{answer, reply_to}
 use Rattle.atspi_auth.specs.Requests.{is_grant, is_number}
 use Rattle.atspi_auth.specs.Talk.{after, behind, client_start, fault_in, heard, hears, hears_bytes}
-use Rattle.atspi_host.specs.declared.call.Call.TheVariants.{Connect, Read}
-use Rattle.atspi_host.specs.declared.call.Did.TheVariants.{Done, End}
+use Rattle.atspi_live_host.specs.declared.call.Call.TheVariants.{Connect, Read}
+use Rattle.atspi_live_host.specs.declared.call.Did.TheVariants.{Done, End}
 use Rattle.atspi_stream.specs.Stream.{few}
-use Rattle.atspi_conversation.specs.Speech.{IsInOrder, IsRefused, IsSpeech, line_bytes, lines_for}
-use Rattle.atspi_conversation.specs.declared.ending.Ending.{Ending}
-use Rattle.atspi_conversation.specs.declared.ending.Ending.TheVariants as endings
+use Rattle.atspi_live_conversation.specs.Speech.{IsInOrder, IsRefused, IsSpeech, line_bytes, lines_for}
+use Rattle.atspi_live_conversation.specs.declared.ending.Ending.{Ending}
+use Rattle.atspi_live_conversation.specs.declared.ending.Ending.TheVariants as endings
 use Rattle.atspi_protocol.specs.registry_laws.Sends.{started}
-use Rattle.atspi_live_registry.specs.Runs.{EndsOn, Reports}
+use Rattle.atspi_live_registry.specs.Runs.{EndsOn}
+use Rattle.atspi_live_conversation.specs.Reports.{Reports}
 use Rattle.atspi_live_registry.specs.Standing.{IsAfter}
 use Rattle.atspi_live_examples.specs.registry.Registries.{granted, hail, rejected}
 

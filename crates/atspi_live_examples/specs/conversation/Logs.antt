@@ -6,7 +6,7 @@ use Rattle.atspi_auth.specs.declared.said.AuthLine.TheVariants.{Hail, Data, Begi
 use Rattle.atspi_auth.specs.declared.stage.Stage.TheVariants.{Over}
 use Rattle.atspi_types.specs.declared.fault.Order.TheVariants.{Little}
 use Rattle.atspi_message.specs.Envelope.{Envelope}
-use Rattle.atspi_conversation.specs.declared.conversation.Conversation.{Conversation}
+use Rattle.atspi_live_conversation.specs.declared.conversation.Conversation.{Conversation}
 
 -- the messages that it took, and those that it handed out
 abbrev pub Log : Type 0

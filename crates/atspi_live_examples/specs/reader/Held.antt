@@ -1,10 +1,10 @@
 -- An application that a reader holds, with a button below its root, and what was spoken of it.
 use Rattle.std.specs.Prelude.{ℕ, false, List, [], ◌∷◌, ◌++◌, Option, None, Some, pos, negsuc, codes}
-use Rattle.atspi_events.specs.declared.shown.ShownRow.{ShownRow}
-use Rattle.atspi_forest.specs.Forest.{Forest, nil, tree}
-use Rattle.atspi_forest.specs.declared.view.Row.{Row}
-use Rattle.atspi_forest.specs.declared.view.Part.TheVariants as part
-use Rattle.atspi_forest.specs.declared.view.NumPart.TheVariants as number
+use Rattle.atspi_trace_events.specs.declared.shown.ShownRow.{ShownRow}
+use Rattle.atspi_tree_model.specs.Forest.{Forest, nil, tree}
+use Rattle.atspi_tree_model.specs.declared.view.Row.{Row}
+use Rattle.atspi_tree_model.specs.declared.view.Part.TheVariants as part
+use Rattle.atspi_tree_model.specs.declared.view.NumPart.TheVariants as number
 use Rattle.atspi_protocol.specs.following.ReaderState.{Done, Followed, ReaderState, begins, speaks, tells_end}
 
 abbrev pub name : List ℕ
@@ -42,10 +42,12 @@ shown_button = record { parent = Some root_path; index = pos 0; row = button }
 
 -- their lines
 abbrev pub root_line : List ℕ
-root_line = codes "| root - -1 application 0000000043000100 " ++ 34 ∷ (codes "Demo" ++ 34 ∷ (codes " " ++ 34 ∷ 34 ∷ (codes " - - - -" ++ 10 ∷ [])))
+root_line = codes "| root - -1 application 0000000043000100 " ++ 34
+    ∷ (codes "Demo" ++ 34 ∷ (codes " " ++ 34 ∷ 34 ∷ (codes " - - - -" ++ 10 ∷ [])))
 
 abbrev pub button_line : List ℕ
-button_line = codes "| 1 root 0 push-button 0000000043000100 " ++ 34 ∷ (codes "Save" ++ 34 ∷ (codes " " ++ 34 ∷ 34 ∷ (codes " - - - -" ++ 10 ∷ [])))
+button_line = codes "| 1 root 0 push-button 0000000043000100 " ++ 34
+    ∷ (codes "Save" ++ 34 ∷ (codes " " ++ 34 ∷ 34 ∷ (codes " - - - -" ++ 10 ∷ [])))
 
 abbrev pub shows : List ℕ
 shows = codes "show :1.2 2" ++ 10 ∷ (root_line ++ button_line)
@@ -56,7 +58,8 @@ known bus view = record { name = bus; root = root_path; view = view; reload = fa
 
 -- two applications are known, of which the first is held
 abbrev pub two_known : ReaderState
-two_known = record begins { apps = known name (Some (tree root (tree button nil nil) nil)) ∷ known (codes ":1.3") None ∷ [] }
+two_known =
+    record begins { apps = known name (Some (tree root (tree button nil nil) nil)) ∷ known (codes ":1.3") None ∷ [] }
 
 -- what was done of it, and the lines of that
 abbrev pub told : List Done

@@ -17,7 +17,9 @@ asked = record (starts begins) { out = [] }
 
 -- one that waits for the return to a call, behind which it will ask once more, and has this number for its next message
 abbrev pub waiting : ℕ → ReaderState
-waiting next = record begins { to_come = GetChildren ∷ []; pending = Some (record { serial = 1; question = AddMatch [] }); next = next }
+waiting next =
+    record begins
+    { to_come = GetChildren ∷ []; pending = Some (record { serial = 1; question = AddMatch [] }); next = next }
 
 -- that return, and a signal that tells nothing
 abbrev message : ℕ → Option ℕ → Envelope

@@ -7,9 +7,12 @@ ghost use Rattle.atspi_live_app.specs.Live.{Hands, IsKept, IsStarted, seen};
 
 /// A message that is handed over stood in front, but for what is no message; or there was none.
 pub fn queues_handed()
-    ensures hands { (e : Envelope) (s : Exporter) → Hands (λ (x : Envelope). x) (Some e) (Some (record s { out = sends e ∷ [] })) (Some (record s { out = [] })) }
-    ensures hands_none { (e : Envelope) (s : Exporter) → Hands (λ (x : Envelope). x) None (Some (record s { out = sends e ∷ [] })) (Some (record s { out = [] })) → ⊥ }
-    ensures hands_rest { (a b : List ℕ) (s : Exporter) → Hands (λ (x : Envelope). x) None (Some (record s { out = hears a b ∷ [] })) (Some (record s { out = [] })) }
+    ensures hands { (e : Envelope) (s : Exporter)
+        → Hands (λ (x : Envelope). x) (Some e) (Some (record s { out = sends e ∷ [] })) (Some (record s { out = [] })) }
+    ensures hands_none { (e : Envelope) (s : Exporter)
+        → Hands (λ (x : Envelope). x) None (Some (record s { out = sends e ∷ [] })) (Some (record s { out = [] })) → ⊥ }
+    ensures hands_rest { (a b : List ℕ) (s : Exporter)
+        → Hands (λ (x : Envelope). x) None (Some (record s { out = hears a b ∷ [] })) (Some (record s { out = [] })) }
 {}
 
 /// Until it has started there is what it is to be made with; then it is an application.
@@ -23,5 +26,6 @@ pub fn applications_kept()
     ensures started { IsStarted (λ (a : ℕ). a ≡ 1) (Some 1) }
     ensures other_started { IsStarted (λ (a : ℕ). a ≡ 1) (Some 2) → ⊥ }
     ensures seen_not { seen (λ (s : Exporter). s) None ≡ None }
-    ensures seen_so { (s : Exporter) → seen (λ (x : Exporter). record x { next = 7 }) (Some s) ≡ Some (record s { next = 7 }) }
+    ensures seen_so { (s : Exporter)
+        → seen (λ (x : Exporter). record x { next = 7 }) (Some s) ≡ Some (record s { next = 7 }) }
 {}

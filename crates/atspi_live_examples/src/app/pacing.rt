@@ -1,15 +1,16 @@
 //! When the next line is passed, and before which rounds lines stand.
 
 ghost use Rattle.std.specs.Prelude.{◌≡◌, ◌∷◌, ℕ, [], List, None, Some, codes};
-ghost use Rattle.atspi_host.specs.declared.call.Call.{Call};
-ghost use Rattle.atspi_host.specs.declared.call.Did.{Did};
-ghost use Rattle.atspi_conversation.specs.declared.ending.Ending.{Ending};
+ghost use Rattle.atspi_live_host.specs.declared.call.Call.{Call};
+ghost use Rattle.atspi_live_host.specs.declared.call.Did.{Did};
+ghost use Rattle.atspi_live_conversation.specs.declared.ending.Ending.{Ending};
 ghost use Rattle.atspi_live_app.specs.Pace.{GoesOn, HasWhole, Heard, Proceeds, Starts, begun_by};
 
-use atspi_conversation::Ending;
-use atspi_host::{Call, Did};
+use atspi_live_conversation::Ending;
+use atspi_live_host::{Call, Did};
 
-/// A line is passed behind the messages that were taken, and takes its rounds; behind the last line each round passes none.
+/// A line is passed behind the messages that were taken, and takes its rounds; behind the last line each round passes
+/// none.
 pub fn lines_in_turn()
     ensures passed { Proceeds (10 ∷ codes "x") 0 (7 ∷ []) 2 1 1 (7 ∷ 2 ∷ []) }
     ensures other_rounds { Proceeds (10 ∷ codes "x") 0 [] 2 3 1 (2 ∷ []) → ⊥ }

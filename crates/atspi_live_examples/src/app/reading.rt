@@ -14,7 +14,8 @@ pub fn inputs_read()
     ensures other { HasRead Whole (Some (codes "ab")) (Some []) (codes "bb") → ⊥ }
     ensures failed { HasRead Failed (Some (codes "ab")) (Some (codes "b")) (codes "a") }
     ensures failed_other { HasRead Failed (Some (codes "ab")) (Some (codes "b")) (codes "b") → ⊥ }
-    ensures too_long { (text more left : List ℕ) → length text ≡ INPUT_LIMIT → 0 < length more → HasRead TooLong (Some ((text ++ more) ++ left)) (Some left) text }
+    ensures too_long { (text more left : List ℕ) → length text ≡ INPUT_LIMIT → 0 < length more
+        → HasRead TooLong (Some ((text ++ more) ++ left)) (Some left) text }
     ensures too_short { HasRead TooLong (Some (codes "ab")) (Some []) (codes "a") → ⊥ }
     ensures no_more { (text : List ℕ) → HasRead TooLong (Some text) (Some []) text → ⊥ }
 {}

@@ -7,11 +7,13 @@ ghost use Rattle.atspi_protocol.specs.exporting.Taking.{app_takes, is_spent};
 ghost use Rattle.atspi_live_app.specs.Asking.{IsWait};
 ghost use Rattle.atspi_live_app.specs.Lines.{lines_of};
 ghost use Rattle.atspi_live_app.specs.Live.{marks_in, queued_in};
-ghost use Rattle.atspi_live_app.specs.Standing.{Comes, Does, HandedOut, IsEmpty, IsNumbered, IsSpent, MayNot, RefusedNext, does, lines_in, sent_in, taken_in, takes};
+ghost use Rattle.atspi_live_app.specs.Standing.{Comes, Does, HandedOut, IsEmpty, IsNumbered, IsSpent, MayNot};
+ghost use Rattle.atspi_live_app.specs.Standing.{RefusedNext, does, lines_in, sent_in, taken_in, takes};
 ghost use Rattle.atspi_live_app.specs.declared.asking.Ask.TheVariants as asks;
 ghost use Rattle.atspi_live_app.specs.declared.naming.Refused.TheVariants as refused;
 
-/// An empty line and a wait leave the application as it is; nothing but a start and an empty line may stand before it has started, and it starts once.
+/// An empty line and a wait leave the application as it is; nothing but a start and an empty line may stand before it
+/// has started, and it starts once.
 pub fn deeds_of_lines()
     ensures empty { (s : Exporter) → Does (Some s) asks.Nothing (Some s) }
     ensures empty_first { Does None asks.Nothing None }
@@ -28,7 +30,8 @@ pub fn deeds_of_lines()
     ensures may_rest { MayNot None asks.Nothing → ⊥ }
 {}
 
-/// A message comes to an application that has started, and to no other; where its own would pass the last number it is spent.
+/// A message comes to an application that has started, and to no other; where its own would pass the last number it is
+/// spent.
 pub fn messages_that_come()
     ensures none_there { (e : Envelope) → Comes None (takes e) None }
     ensures none_made { (e : Envelope) (s : Exporter) → Comes None (takes e) (Some s) → ⊥ }
@@ -44,19 +47,26 @@ pub fn messages_that_come()
 pub fn orders_of_events()
     ensures lines { (e : Envelope) (a b : List ℕ) → lines_in (does a ∷ takes e ∷ does b ∷ []) ≡ a ∷ b ∷ [] }
     ensures taken { (e f : Envelope) (a : List ℕ) → taken_in (takes e ∷ does a ∷ takes f ∷ []) ≡ e ∷ f ∷ [] }
-    ensures marks { (e f : Envelope) (a b : List ℕ) → marks_in 0 (does a ∷ takes e ∷ takes f ∷ does b ∷ []) ≡ 0 ∷ 2 ∷ [] }
-    ensures sent { (e f : Envelope) (a b : List ℕ) → sent_in (sends e ∷ hears a b ∷ deaf a b ∷ sends f ∷ []) ≡ e ∷ f ∷ [] }
-    ensures handed { (e : Envelope) (s : Exporter) → HandedOut (e ∷ []) (Some (record s { out = [] })) (Some (record s { out = sends e ∷ [] })) }
-    ensures handed_first { (e f : Envelope) (s : Exporter) → HandedOut (e ∷ []) (Some (record s { out = sends f ∷ [] })) (Some (record s { out = sends e ∷ sends f ∷ [] })) }
+    ensures marks { (e f : Envelope) (a b : List ℕ)
+        → marks_in 0 (does a ∷ takes e ∷ takes f ∷ does b ∷ []) ≡ 0 ∷ 2 ∷ [] }
+    ensures sent { (e f : Envelope) (a b : List ℕ)
+        → sent_in (sends e ∷ hears a b ∷ deaf a b ∷ sends f ∷ []) ≡ e ∷ f ∷ [] }
+    ensures handed { (e : Envelope) (s : Exporter)
+        → HandedOut (e ∷ []) (Some (record s { out = [] })) (Some (record s { out = sends e ∷ [] })) }
+    ensures handed_first { (e f : Envelope) (s : Exporter)
+        → HandedOut (e ∷ []) (Some (record s { out = sends f ∷ [] }))
+        (Some (record s { out = sends e ∷ sends f ∷ [] })) }
     ensures none_handed { HandedOut [] None None }
     ensures lost { (s : Exporter) → HandedOut [] None (Some s) → ⊥ }
-    ensures queued { (e f : Envelope) (s : Exporter) → queued_in (Some (record s { out = sends e ∷ sends f ∷ [] })) ≡ 2 }
+    ensures queued { (e f : Envelope) (s : Exporter)
+        → queued_in (Some (record s { out = sends e ∷ sends f ∷ [] })) ≡ 2 }
     ensures none_queued { queued_in None ≡ 0 }
     ensures empty { (s : Exporter) → IsEmpty (Some (record s { out = [] })) }
     ensures not_empty { (e : Envelope) (s : Exporter) → IsEmpty (Some (record s { out = sends e ∷ [] })) → ⊥ }
 {}
 
-/// A wait has a number of 32 bits. Each line ends at a line feed, and the last may lack it. Where no line is left, an application was never asked for.
+/// A wait has a number of 32 bits. Each line ends at a line feed, and the last may lack it. Where no line is left, an
+/// application was never asked for.
 pub fn texts_of_lines()
     ensures most { IsWait 4294967295 (codes "wait 4294967295") }
     ensures too_many { IsWait 4294967296 (codes "wait 4294967296") → ⊥ }

@@ -19,16 +19,22 @@ pub fn first_calls()
     ensures more { IsEmpty (starts begins) → ⊥ }
 {}
 
-/// What it did stands before what it has queued, and lines among it are no messages. It took the messages in their order.
+/// What it did stands before what it has queued, and lines among it are no messages. It took the messages in their
+/// order.
 pub fn queued_calls()
-    ensures before { (r : ReaderState) (took : List Envelope) (e f : Envelope) → record r { out = sends e ∷ sends f ∷ [] } ≡ following took → r.next ≤ 4294967296 → IsAfter (record r { out = sends f ∷ [] }) took (e ∷ []) }
-    ensures spoke { (r : ReaderState) (took : List Envelope) (e : Envelope) (text : List ℕ) → record r { out = speaks name text ∷ sends e ∷ [] } ≡ following took → r.next ≤ 4294967296 → IsAfter (record r { out = [] }) took (e ∷ []) }
+    ensures before { (r : ReaderState) (took : List Envelope) (e f : Envelope)
+        → record r { out = sends e ∷ sends f ∷ [] } ≡ following took → r.next ≤ 4294967296
+        → IsAfter (record r { out = sends f ∷ [] }) took (e ∷ []) }
+    ensures spoke { (r : ReaderState) (took : List Envelope) (e : Envelope) (text : List ℕ)
+        → record r { out = speaks name text ∷ sends e ∷ [] } ≡ following took → r.next ≤ 4294967296
+        → IsAfter (record r { out = [] }) took (e ∷ []) }
     ensures order { (e f : Envelope) → following (e ∷ f ∷ []) ≡ reader_takes (reader_takes (starts begins) e) f }
 {}
 
 /// The number of the next message may be one past the last.
 pub fn numbers()
-    ensures last { (r : ReaderState) (took : List Envelope) → r ≡ following took → r.next ≡ 4294967296 → IsAfter r took [] }
+    ensures last { (r : ReaderState) (took : List Envelope) → r ≡ following took → r.next ≡ 4294967296
+        → IsAfter r took [] }
     ensures past { (r : ReaderState) (took said : List Envelope) → r.next ≡ 4294967297 → IsAfter r took said → ⊥ }
 {}
 

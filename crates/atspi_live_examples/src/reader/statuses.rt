@@ -1,7 +1,7 @@
 //! The status that tells how a run ended, and what is written with it.
 
 ghost use Rattle.std.specs.Prelude.{◌≡◌, ◌∷◌, [], ℕ, true, false, List, None, Some, codes};
-ghost use Rattle.atspi_conversation.specs.declared.ending.Ending.{Ending};
+ghost use Rattle.atspi_live_conversation.specs.declared.ending.Ending.{Ending};
 ghost use Rattle.atspi_live_reader.specs.Following.{HasWords, IsUntold, WritesPart};
 ghost use Rattle.atspi_live_reader.specs.Handed.{IsFrontOf, KeepsLine};
 ghost use Rattle.atspi_live_reader.specs.Runs.{OfTaken, ReportsLast, RunEnds};
@@ -10,8 +10,8 @@ ghost use Rattle.atspi_live_examples.specs.reader.Held.{name, told};
 ghost use Rattle.atspi_message.specs.Envelope.{Envelope};
 ghost use Rattle.atspi_protocol.specs.following.ReaderState.{sends, tells_end};
 
-/// With the last words behind what was written before, the status is 0 where the peer ended, 8 where all rounds were done, 7 where the host failed, 13 where
-/// numbers were spent; with any other nothing of the kind is told.
+/// With the last words behind what was written before, the status is 0 where the peer ended, 8 where all rounds were
+/// done, 7 where the host failed, 13 where numbers were spent; with any other nothing of the kind is told.
 pub fn statuses_of_endings()
     ensures peer { ReportsLast (codes "b") Ending.PeerEnded 0 (Some (codes "a")) (Some (codes "ab")) }
     ensures rounds { ReportsLast (codes "b") Ending.RoundsDone 8 (Some (codes "a")) (Some (codes "ab")) }
@@ -24,7 +24,8 @@ pub fn statuses_of_endings()
     ensures spent_other { ReportsLast (codes "b") Ending.Spent 0 (Some (codes "a")) (Some (codes "ab")) → ⊥ }
 {}
 
-/// Where the sink failed or memory was wanting for the last words a front of them was written, and the status is 4 or 5.
+/// Where the sink failed or memory was wanting for the last words a front of them was written, and the status is 4
+/// or 5.
 pub fn words_cut_off()
     ensures sink { IsUntold 4 }
     ensures memory { IsUntold 5 }

@@ -7,7 +7,8 @@ ghost use Rattle.atspi_protocol.specs.registry_laws.Sends.{started};
 ghost use Rattle.atspi_live_registry.specs.Standing.{IsAfter, IsEmpty, IsSpent};
 ghost use Rattle.atspi_live_examples.specs.registry.Registries.{at_number, named, news, unknown_call, welcome};
 
-/// At its start a registry queued three calls and took nothing. What it hands out is no longer queued, oldest first; what it took changes what it knows.
+/// At its start a registry queued three calls and took nothing. What it hands out is no longer queued, oldest first;
+/// what it took changes what it knows.
 pub fn is_after()
     ensures start { IsAfter started [] [] }
     ensures all_handed_out { IsAfter (record started { out = [] }) [] started.out }
@@ -20,7 +21,9 @@ pub fn is_after()
 
 /// None of its messages has passed number 4,294,967,295: the next one may be that and one more.
 pub fn last_numbers()
-    ensures last { (r : Registry) (took said : List Envelope) → record { state = r.state; out = said ++ r.out } ≡ fold takes started took → r.state.next ≡ 4294967296 → IsAfter r took said }
+    ensures last { (r : Registry) (took said : List Envelope)
+        → record { state = r.state; out = said ++ r.out } ≡ fold takes started took → r.state.next ≡ 4294967296
+        → IsAfter r took said }
     ensures passed { (r : Registry) (took said : List Envelope) → r.state.next ≡ 4294967297 → IsAfter r took said → ⊥ }
 {}
 
@@ -30,7 +33,8 @@ pub fn is_empty()
     ensures three { IsEmpty started → ⊥ }
 {}
 
-/// A call that gets a message would pass the last number where that was given; where it is still to be given, and for news that get none, nothing is passed.
+/// A call that gets a message would pass the last number where that was given; where it is still to be given, and for
+/// news that get none, nothing is passed.
 pub fn is_spent()
     ensures spent { IsSpent (at_number 4294967296) unknown_call }
     ensures last { IsSpent (at_number 4294967295) unknown_call → ⊥ }

@@ -1,10 +1,10 @@
 //! Which status tells how a run ended, what is written then, and which counts changed.
 
 ghost use Rattle.std.specs.Prelude.{◌≡◌, ◌∷◌, ◌++◌, [], ℕ, List, Option, None, Some, codes};
-ghost use Rattle.atspi_live_registry.specs.Runs.{Causes, Quietly, Reports, SinkBlamed, Writes};
-ghost use Rattle.atspi_conversation.specs.declared.ending.Ending.{Ending};
+ghost use Rattle.atspi_live_conversation.specs.Reports.{Causes, Quietly, Reports, SinkBlamed, Writes};
+ghost use Rattle.atspi_live_conversation.specs.declared.ending.Ending.{Ending};
 
-use atspi_conversation::Ending;
+use atspi_live_conversation::Ending;
 
 /// Nothing is written, and there is one status.
 pub fn quiet_ends()
@@ -37,14 +37,18 @@ pub fn reports()
     ensures written { Reports Ending.PeerEnded 0 (Some []) (Some (codes "a")) → ⊥ }
 {}
 
-/// Of a malformed message the line of its fault is written: how many bytes of messages stand before it, its place and its reason.
+/// Of a malformed message the line of its fault is written: how many bytes of messages stand before it, its place and
+/// its reason.
 pub fn reports_of_faults()
-    ensures line { Reports (Ending.Malformed 144 (record { place = 3; reason = 36 })) 6 (Some []) (Some (codes "fault 144 3 36" ++ (10 ∷ []))) }
-    ensures sink_failed { Reports (Ending.Malformed 144 (record { place = 3; reason = 36 })) 4 (Some []) (Some (codes "fault 144")) }
+    ensures line { Reports (Ending.Malformed 144 (record { place = 3; reason = 36 })) 6 (Some [])
+        (Some (codes "fault 144 3 36" ++ (10 ∷ []))) }
+    ensures sink_failed { Reports (Ending.Malformed 144 (record { place = 3; reason = 36 })) 4 (Some [])
+        (Some (codes "fault 144")) }
     ensures quiet { Reports (Ending.Malformed 144 (record { place = 3; reason = 36 })) 6 (Some []) (Some []) → ⊥ }
 {}
 
-/// A count of the host's rose with status 7, that of its calls or that of its links, and with no other; the count of the sink with status 4.
+/// A count of the host's rose with status 7, that of its calls or that of its links, and with no other; the count of
+/// the sink with status 4.
 pub fn causes()
     ensures host { Causes 7 0 1 3 3 5 5 }
     ensures link { Causes 7 0 0 3 4 5 5 }

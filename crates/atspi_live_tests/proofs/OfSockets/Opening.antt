@@ -1,7 +1,7 @@
 -- A link that was given is open.
 use Rattle.std.proofs.Common.{◌≡◌, ℕ, List, [], ◌∷◌, ◌++◌, refl, sym, subst, inl, inr}
-use Rattle.atspi_host.specs.Calls.{IsOpen, Opens}
-use Rattle.atspi_host.specs.declared.call.Did.TheVariants.{Done}
+use Rattle.atspi_live_host.specs.Calls.{IsOpen, Opens}
+use Rattle.atspi_live_host.specs.declared.call.Did.TheVariants.{Done}
 
 last : (ks : List ℕ) (k : ℕ) → IsOpen k (ks ++ k ∷ [])
 last [] k = inl refl

@@ -3,13 +3,14 @@
 ghost use Rattle.std.specs.Prelude.{◌≡◌, [], Some};
 
 use crate::bus::runs::{bytes_of, closed, given, path, peer};
-use atspi_host::{Call, Host, MemHost};
 use atspi_live_bus::bus;
+use atspi_live_host::{Call, Host, MemHost};
 use std::alloc::Global;
 use std::process::Abort;
 
-/// A client between two signs `|`, a word for each of its pieces, `N*` before N of the same; the number of the call that fails; rounds; status; the
-/// links that are closed, `m` being the 65th, which waits until one of 64 leaves; what is given on the first link, and on the second.
+/// A client between two signs `|`, a word for each of its pieces, `N*` before N of the same; the number of the call
+/// that fails; rounds; status; the links that are closed, `m` being the 65th, which waits until one of 64 leaves; what
+/// is given on the first link, and on the second.
 const ROWS: &str = "\
 login hello;never;400;8;;grant named acquired;
 login noise|login hello;never;900;8;a;grant;grant named acquired

@@ -1,7 +1,7 @@
 //! Runs of the bus, as words: what clients send and are given, with bytes worked out by hand.
 
 use atspi_base::Text;
-use atspi_host::{Call, Did, Peer};
+use atspi_live_host::{Call, Did, Peer};
 use std::alloc::Global;
 use std::collections::VecDeque;
 use std::process::Abort;

@@ -1,12 +1,12 @@
 //! A client that never reads, while others are served.
 
 ghost use Rattle.std.specs.Prelude.{◌≡◌, ℕ, List, Option, None, []};
-ghost use Rattle.atspi_host.specs.declared.call.Call.{Call};
+ghost use Rattle.atspi_live_host.specs.declared.call.Call.{Call};
 
 use crate::bus::runs::{bytes_of, closed, given, path, peer, put_piece};
 use atspi_base::Text;
-use atspi_host::{Call, Did, Host, MemHost, Peer};
 use atspi_live_bus::bus;
+use atspi_live_host::{Call, Did, Host, MemHost, Peer};
 use std::alloc::Global;
 use std::collections::VecDeque;
 use std::process::Abort;
@@ -95,8 +95,8 @@ fn peers(rt: &impl Abort, alloc: Global) -> Vec<Peer> {
     peers
 }
 
-/// Whether the first link alone was closed, and so many bytes were given: none on it, and on the others a line of 37 bytes, and the 258 of the return to Hello
-/// and of NameAcquired.
+/// Whether the first link alone was closed, and so many bytes were given: none on it, and on the others a line of 37
+/// bytes, and the 258 of the return to Hello and of NameAcquired.
 fn is_due(rt: &impl Abort, alloc: Global, calls: &[Call]) -> bool {
     closed("a", calls)
         && given(rt, alloc, 0, calls).is_empty()

@@ -1,11 +1,11 @@
 //! Bytes that pass between two hosts over a socket of the system.
 
 ghost use Rattle.std.specs.Prelude.{◌≡◌, IfSome};
-ghost use Rattle.atspi_host.specs.Calls.{IsOpen};
+ghost use Rattle.atspi_live_host.specs.Calls.{IsOpen};
 
 use atspi_base::Text;
-use atspi_host::{Did, Host};
-use atspi_sockets::NetHost;
+use atspi_live_host::{Did, Host};
+use atspi_live_sockets::NetHost;
 use std::alloc::Global;
 use std::process::Abort;
 use std::test::*;
@@ -44,7 +44,8 @@ fn give<H: Host>(host: &mut H, link: u32, bytes: &[u8], given: usize) -> Option<
     }
 }
 
-/// Takes some of the bytes, so many of which were taken before. Answers how many are taken then, none where others came.
+/// Takes some of the bytes, so many of which were taken before. Answers how many are taken then, none where others
+/// came.
 fn take<H: Host>(host: &mut H, link: u32, bytes: &[u8], taken: usize) -> Option<usize>
     requires open { IsOpen link (H.links host.old) }
     ensures links { H.links host.new ≡ H.links host.old }

@@ -8,8 +8,8 @@ use thiserror::Error;
 /// Why a value was not written.
 #[derive(Clone, Copy, Debug, PartialEq, Eq, Error)]
 pub enum WriteFault {
-    /// The value passes a limit: 67,108,864 bytes in an array, 134,217,728 bytes in all, 64 levels of containers, or those
-    /// of a signature in the type of a variant.
+    /// The value passes a limit: 67,108,864 bytes in an array, 134,217,728 bytes in all, 64 levels of containers, or
+    /// those of a signature in the type of a variant.
     #[error("too big")]
     Big,
     #[error("out of memory")]

@@ -1,7 +1,8 @@
-//! Writing what holds no other value: padding, numbers, texts, paths, signatures and lengths. After a refusal a front of it may
-//! have been appended; who begins the writing takes it back.
+//! Writing what holds no other value: padding, numbers, texts, paths, signatures and lengths. After a refusal a front
+//! of it may have been appended; who begins the writing takes it back.
 
-ghost use Rattle.std.specs.Prelude.{◌≡◌, ℕ, slice_index, ◌<◌, ◌≤◌, ◌+◌, ◌++◌, ◌^◌, length, take, drop, OnOk, OnErr, IfErr};
+ghost use Rattle.std.specs.Prelude.{◌≡◌, ℕ, slice_index, ◌<◌, ◌≤◌, ◌+◌, ◌++◌, ◌^◌, length, take, drop, OnOk, OnErr};
+ghost use Rattle.std.specs.Prelude.{IfErr};
 ghost use Rattle.std.specs.Int.{w8, w16, w32, w64};
 ghost use Rattle.atspi_types.specs.Data.{items_of, types_of};
 ghost use Rattle.atspi_types.specs.DataView.{all_data};
@@ -22,8 +23,8 @@ const MESSAGE: usize = 134_217_728;
 /// The bytes of an array's elements, at most.
 const ARRAY: usize = 67_108_864;
 
-/// Appends zero bytes from a place up to a multiple of `align`, and gives the place behind them. `Big` where `len` bytes behind
-/// them pass the 134,217,728 bytes of a message. After a refusal `out` is as before.
+/// Appends zero bytes from a place up to a multiple of `align`, and gives the place behind them. `Big` where `len`
+/// bytes behind them pass the 134,217,728 bytes of a message. After a refusal `out` is as before.
 pub fn put_padding(
     align: usize,
     at: usize,
@@ -81,7 +82,8 @@ pub(super) fn put_u16(
     out: &mut Bytes,
 ) -> Result<usize, WriteFault>
     requires { at ≤ 134217728 }
-    ensures writes { Writes (number < 2 ^ 16) (padding 2 at ++ number_bytes order w16 number) at out.old out.new result }
+    ensures writes { Writes (number < 2 ^ 16) (padding 2 at ++ number_bytes order w16 number) at out.old out.new
+        result }
     ensures front { take (length out.old) out.new ≡ out.old }
 {
     match order {
@@ -98,7 +100,8 @@ pub(super) fn put_u32(
     out: &mut Bytes,
 ) -> Result<usize, WriteFault>
     requires { at ≤ 134217728 }
-    ensures writes { Writes (number < 2 ^ 32) (padding 4 at ++ number_bytes order w32 number) at out.old out.new result }
+    ensures writes { Writes (number < 2 ^ 32) (padding 4 at ++ number_bytes order w32 number) at out.old out.new
+        result }
     ensures front { take (length out.old) out.new ≡ out.old }
 {
     match order {
@@ -115,7 +118,8 @@ pub(super) fn put_u64(
     out: &mut Bytes,
 ) -> Result<usize, WriteFault>
     requires { at ≤ 134217728 }
-    ensures writes { Writes (number < 2 ^ 64) (padding 8 at ++ number_bytes order w64 number) at out.old out.new result }
+    ensures writes { Writes (number < 2 ^ 64) (padding 8 at ++ number_bytes order w64 number) at out.old out.new
+        result }
     ensures front { take (length out.old) out.new ≡ out.old }
 {
     match order {
@@ -168,7 +172,8 @@ pub(super) fn put_counted(
 fn end_short(at: usize, index: usize, out: &mut Bytes) -> Result<usize, WriteFault>
     requires place { at ≤ 134217728 }
     requires short { (index < length out.old) × (length out.old ≤ index + 256) }
-    ensures writes { Writes (Unit {0}) (counted_short (drop (index + 1) out.old)) at (take index out.old) out.new result }
+    ensures writes { Writes (Unit {0}) (counted_short (drop (index + 1) out.old)) at (take index out.old) out.new
+        result }
     ensures front { take index out.new ≡ take index out.old }
 {
     let count = out.len() - index - 1;
@@ -188,7 +193,8 @@ pub(super) fn put_signature(
     out: &mut Bytes,
 ) -> Result<usize, WriteFault>
     requires { at ≤ 134217728 }
-    ensures writes { Writes (IsSignature (signature_kinds signature.now)) (counted_short (signature_bytes (signature_kinds signature.now))) at out.old out.new result }
+    ensures writes { Writes (IsSignature (signature_kinds signature.now))
+        (counted_short (signature_bytes (signature_kinds signature.now))) at out.old out.new result }
     ensures front { take (length out.old) out.new ≡ out.old }
 {
     let _types = signature.types();
@@ -201,7 +207,8 @@ pub(super) fn put_signature(
 /// The type of a variant's value, as a signature.
 pub(super) fn put_type(at: usize, ty: &Ty, out: &mut Bytes) -> Result<usize, WriteFault>
     requires { at ≤ 134217728 }
-    ensures writes { Writes (FitsSignature (single (kind_of ty.now))) (counted_short (signature_bytes (single (kind_of ty.now)))) at out.old out.new result }
+    ensures writes { Writes (FitsSignature (single (kind_of ty.now)))
+        (counted_short (signature_bytes (single (kind_of ty.now)))) at out.old out.new result }
     ensures front { take (length out.old) out.new ≡ out.old }
 {
     if !ty.fits_signature() {
@@ -216,7 +223,8 @@ pub(super) fn put_type(at: usize, ty: &Ty, out: &mut Bytes) -> Result<usize, Wri
 /// The types of values, as a signature.
 pub(super) fn put_types(at: usize, values: &Values, out: &mut Bytes) -> Result<usize, WriteFault>
     requires { at ≤ 134217728 }
-    ensures writes { let ks = types_of (items_of (all_data values.now)) in Writes (FitsSignature ks) (counted_short (signature_bytes ks)) at out.old out.new result }
+    ensures writes { let ks = types_of (items_of (all_data values.now)) in
+        Writes (FitsSignature ks) (counted_short (signature_bytes ks)) at out.old out.new result }
     ensures front { take (length out.old) out.new ≡ out.old }
 {
     if !values.fits_signature() {
@@ -232,7 +240,8 @@ pub(super) fn put_types(at: usize, values: &Values, out: &mut Bytes) -> Result<u
 pub(super) fn begin_array(align: usize, at: usize, out: &mut Bytes) -> Result<usize, WriteFault>
     requires align { (0 < align) × (align ≤ 8) }
     requires place { at ≤ 134217728 }
-    ensures writes { Writes (Unit {0}) (padding 4 at ++ (zeros 4 ++ padding align (aligned 4 at + 4))) at out.old out.new result }
+    ensures writes { Writes (Unit {0}) (padding 4 at ++ (zeros 4 ++ padding align (aligned 4 at + 4))) at out.old
+        out.new result }
     ensures front { take (length out.old) out.new ≡ out.old }
 {
     let unpadded = put_padded(4, at, &[0; 4], out)?;
@@ -247,11 +256,12 @@ pub(super) fn length_place(at: usize) -> usize
     at + (4 - at % 4) % 4
 }
 
-/// Sets the length of an array, which stands at an index, to the bytes that its elements have. `Big` where they are more than
-/// 67,108,864; `out` is as before then.
+/// Sets the length of an array, which stands at an index, to the bytes that its elements have. `Big` where they are
+/// more than 67,108,864; `out` is as before then.
 pub fn end_array(order: Order, index: usize, len: usize, out: &mut Bytes) -> Result<(), WriteFault>
     requires { index + 4 ≤ length out.old }
-    ensures ok { OnOk result (out.new ≡ take index out.old ++ (number_bytes order w32 len ++ drop (index + 4) out.old)) }
+    ensures ok { OnOk result
+        (out.new ≡ take index out.old ++ (number_bytes order w32 len ++ drop (index + 4) out.old)) }
     ensures short { OnOk result (len ≤ 67108864) }
     ensures big { IfErr result (λ e. (e ≡ WriteFault.Big) × (67108864 < len)) }
     ensures err { OnErr result (out.new ≡ out.old) }

@@ -1,6 +1,6 @@
-//! The steps of writing, for who writes a message piece by piece where no value lies in memory: a step appends one piece at its
-//! place and gives the place behind it, where the next one goes on. An array is begun, its elements are put, and then it is ended,
-//! which sets its length. After a refusal `out` is as before the step.
+//! The steps of writing, for who writes a message piece by piece where no value lies in memory: a step appends one
+//! piece at its place and gives the place behind it, where the next one goes on. An array is begun, its elements are
+//! put, and then it is ended, which sets its length. After a refusal `out` is as before the step.
 
 ghost use Rattle.std.specs.Prelude.{◌≡◌, ◌<◌, ◌≤◌, ◌++◌, ◌+◌, ◌^◌, length, take, OnOk, OnErr};
 ghost use Rattle.std.specs.Int.{w32};
@@ -33,8 +33,8 @@ fn settled(
     answer
 }
 
-/// Appends bytes at a multiple of `align`, and gives the place behind them. `Big` where they end behind 134,217,728. After a
-/// refusal `out` is as before.
+/// Appends bytes at a multiple of `align`, and gives the place behind them. `Big` where they end behind 134,217,728.
+/// After a refusal `out` is as before.
 pub fn put_padded(
     align: usize,
     at: usize,
@@ -52,11 +52,12 @@ pub fn put_padded(
     settled(len, written, out)
 }
 
-/// Appends a number of 32 bits at its place, and gives the place behind it. `Big` where it ends behind 134,217,728. After a
-/// refusal `out` is as before.
+/// Appends a number of 32 bits at its place, and gives the place behind it. `Big` where it ends behind 134,217,728.
+/// After a refusal `out` is as before.
 pub fn put_u32(order: Order, at: usize, number: u32, out: &mut Bytes) -> Result<usize, WriteFault>
     requires { at ≤ 134217728 }
-    ensures writes { Writes (number < 2 ^ 32) (padding 4 at ++ number_bytes order w32 number) at out.old out.new result }
+    ensures writes { Writes (number < 2 ^ 32) (padding 4 at ++ number_bytes order w32 number) at out.old out.new
+        result }
     ensures front { take (length out.old) out.new ≡ out.old }
     ensures err { OnErr result (out.new ≡ out.old) }
 {
@@ -65,8 +66,9 @@ pub fn put_u32(order: Order, at: usize, number: u32, out: &mut Bytes) -> Result<
     settled(len, written, out)
 }
 
-/// Appends bytes behind their count of 32 bits, and before a zero byte, as a text or a path is spelled (D-Bus Specification,
-/// "Marshaling"), and gives the place behind them. `Big` where they end behind 134,217,728. After a refusal `out` is as before.
+/// Appends bytes behind their count of 32 bits, and before a zero byte, as a text or a path is spelled (D-Bus
+/// Specification, "Marshaling"), and gives the place behind them. `Big` where they end behind 134,217,728. After a
+/// refusal `out` is as before.
 pub fn put_counted(
     order: Order,
     at: usize,
@@ -83,11 +85,12 @@ pub fn put_counted(
     settled(len, written, out)
 }
 
-/// Appends the types of values as a signature, and gives the place behind it. `Big` where the types pass the limits of a
-/// signature, or it ends behind 134,217,728. After a refusal `out` is as before.
+/// Appends the types of values as a signature, and gives the place behind it. `Big` where the types pass the limits of
+/// a signature, or it ends behind 134,217,728. After a refusal `out` is as before.
 pub fn put_types(at: usize, values: &Values, out: &mut Bytes) -> Result<usize, WriteFault>
     requires { at ≤ 134217728 }
-    ensures writes { let ks = types_of (items_of (all_data values.now)) in Writes (FitsSignature ks) (counted_short (signature_bytes ks)) at out.old out.new result }
+    ensures writes { let ks = types_of (items_of (all_data values.now)) in
+        Writes (FitsSignature ks) (counted_short (signature_bytes ks)) at out.old out.new result }
     ensures front { take (length out.old) out.new ≡ out.old }
     ensures err { OnErr result (out.new ≡ out.old) }
 {
@@ -96,8 +99,8 @@ pub fn put_types(at: usize, values: &Values, out: &mut Bytes) -> Result<usize, W
     settled(len, written, out)
 }
 
-/// Appends values one behind the other, which have so many levels of containers at most, and gives the place behind them. `Big`
-/// as `encode` says of a value. After a refusal `out` is as before.
+/// Appends values one behind the other, which have so many levels of containers at most, and gives the place behind
+/// them. `Big` as `encode` says of a value. After a refusal `out` is as before.
 pub fn put_values(
     order: Order,
     levels: u8,
@@ -107,7 +110,8 @@ pub fn put_values(
 ) -> Result<usize, WriteFault>
     requires place { at ≤ 134217728 }
     requires typed { AreWellTyped (items_of (all_data values.now)) }
-    ensures writes { let ds = items_of (all_data values.now) in Writes (FieldsFit order levels at ds (types_of ds)) (spellings order at ds) at out.old out.new result }
+    ensures writes { let ds = items_of (all_data values.now) in
+        Writes (FieldsFit order levels at ds (types_of ds)) (spellings order at ds) at out.old out.new result }
     ensures front { take (length out.old) out.new ≡ out.old }
     ensures err { OnErr result (out.new ≡ out.old) }
 {
@@ -116,12 +120,13 @@ pub fn put_values(
     settled(len, written, out)
 }
 
-/// Appends the front of an array whose elements stand at multiples of `align`, with a length of zero, and gives the place of
-/// the first element. `Big` where that is behind 134,217,728. After a refusal `out` is as before.
+/// Appends the front of an array whose elements stand at multiples of `align`, with a length of zero, and gives the
+/// place of the first element. `Big` where that is behind 134,217,728. After a refusal `out` is as before.
 pub fn begin_array(align: usize, at: usize, out: &mut Bytes) -> Result<usize, WriteFault>
     requires align { (0 < align) × (align ≤ 8) }
     requires place { at ≤ 134217728 }
-    ensures writes { Writes (Unit {0}) (padding 4 at ++ (zeros 4 ++ padding align (aligned 4 at + 4))) at out.old out.new result }
+    ensures writes { Writes (Unit {0}) (padding 4 at ++ (zeros 4 ++ padding align (aligned 4 at + 4))) at out.old
+        out.new result }
     ensures front { take (length out.old) out.new ≡ out.old }
     ensures err { OnErr result (out.new ≡ out.old) }
 {

@@ -131,9 +131,10 @@ fn appended(alloc: Global, at: u32, value: &Value) -> Option<usize>
     }
 }
 
-/// A place in a message, a value, and how many bytes are appended there; `big` where it is too big. Variants have 64 levels at the most, each of three bytes and the
-/// last with a byte more. A variant of 32 arrays in one another has 33 letters, their count, a zero byte, a byte of padding and the array's length. The last rows are
-/// at the end of a message.
+/// A place in a message, a value, and how many bytes are appended there; `big` where it is too big. Variants have 64
+/// levels at the most, each of three bytes and the last with a byte more. A variant of 32 arrays in one another has 33
+/// letters, their count, a zero byte, a byte of padding and the array's length. The last rows are at the end of a
+/// message.
 const LIMITS: &str = "\
 0 nested 63 => 193
 0 nested 64 => big

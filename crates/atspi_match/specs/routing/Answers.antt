@@ -1,5 +1,6 @@
 -- What the bus answers to a call of its own members (D-Bus Specification, "Message Bus Messages"), a line for each.
-use Rattle.std.specs.Prelude.{◌==◌, ◌&&◌, not, ℕ, Bool, true, false, List, [], ◌∷◌, ◌++◌, map, Option, None, Some, codes, bytes_eq, if◌then◌else◌}
+use Rattle.std.specs.Prelude.{◌==◌, ◌&&◌, not, ℕ, Bool, true, false, List, [], ◌∷◌, ◌++◌, map, Option, None, Some}
+use Rattle.std.specs.Prelude.{codes, bytes_eq, if◌then◌else◌}
 use Rattle.std.specs.List.{list_any}
 use Rattle.atspi_types.specs.Kinds.{text, u32}
 use Rattle.atspi_types.specs.Data.{Data, number_data, boolean_data, text_data, array_data, items_of}
@@ -10,7 +11,10 @@ use Rattle.atspi_names.specs.Queue.{owner_in, request_change, release_change}
 use Rattle.atspi_match.specs.declared.condition.Condition.{Condition}
 use Rattle.atspi_match.specs.RuleIndex.{is_pair, rules_of, without_first}
 use Rattle.atspi_match.specs.declared.routing.member.BusMember.{BusMember}
-use Rattle.atspi_match.specs.declared.routing.member.BusMember.TheVariants.{Hello, RequestName, ReleaseName, NameHasOwner, GetNameOwner, ListNames, ListQueuedOwners, AddMatch, RemoveMatch, GetId, Ping}
+use Rattle.atspi_match.specs.declared.routing.member.BusMember.TheVariants.{Hello, RequestName, ReleaseName}
+use Rattle.atspi_match.specs.declared.routing.member.BusMember.TheVariants.{NameHasOwner, GetNameOwner, ListNames}
+use Rattle.atspi_match.specs.declared.routing.member.BusMember.TheVariants.{ListQueuedOwners, AddMatch, RemoveMatch}
+use Rattle.atspi_match.specs.declared.routing.member.BusMember.TheVariants.{GetId, Ping}
 use Rattle.atspi_match.specs.routing.BusState.{BusState, name_or_empty}
 use Rattle.atspi_match.specs.routing.OwnMessages.{told_of_change}
 
@@ -86,7 +90,8 @@ owner_reply (Some name) = returns (text_data name ∷ [])
 
 -- who owns a name or waits for it, the owner first
 abbrev pub queued_names : Owners → List ℕ → List (List ℕ)
-queued_names owners name = if bytes_eq name own_name then own_name ∷ [] else map (λ (e : ℕ × ℕ). name_or_empty owners (Some e.0)) (list_of owners.lists name)
+queued_names owners name = if bytes_eq name own_name then own_name ∷ []
+    else map (λ (e : ℕ × ℕ). name_or_empty owners (Some e.0)) (list_of owners.lists name)
 
 abbrev pub queued_reply : List (List ℕ) → Reply
 queued_reply [] = fails (codes "NameHasNoOwner")
@@ -102,7 +107,8 @@ adds_rule s conn (Some rule) =
 abbrev pub removes_rule : BusState → ℕ → Option (List Condition) → Answer
 removes_rule s conn None = only s (fails (codes "MatchRuleInvalid"))
 removes_rule s conn (Some rule) =
-    if list_any (is_pair conn rule) s.rules then record (only s (returns [])) { rules = without_first s.rules conn rule }
+    if list_any (is_pair conn rule) s.rules
+    then record (only s (returns [])) { rules = without_first s.rules conn rule }
     else only s (fails (codes "MatchRuleNotFound"))
 
 -- the 32 digits of the bus
@@ -113,9 +119,12 @@ bus_id = codes "61747370693200000000000000000001"
 abbrev pub answers : BusMember → BusState → ℕ → List Data → Option (List Condition) → Answer
 answers Hello s conn args rule = only s (fails (codes "Failed"))
 answers RequestName s conn args rule =
-    if may_be_asked_for (first_text args) then requests s conn (first_text args) (second_number args) else only s (fails (codes "InvalidArgs"))
-answers ReleaseName s conn args rule = if may_be_asked_for (first_text args) then releases s conn (first_text args) else only s (fails (codes "InvalidArgs"))
-answers NameHasOwner s conn args rule = only s (returns (boolean_data (has_owner (owner_name s.owners (first_text args))) ∷ []))
+    if may_be_asked_for (first_text args) then requests s conn (first_text args) (second_number args)
+    else only s (fails (codes "InvalidArgs"))
+answers ReleaseName s conn args rule = if may_be_asked_for (first_text args) then releases s conn (first_text args)
+    else only s (fails (codes "InvalidArgs"))
+answers NameHasOwner s conn args rule =
+    only s (returns (boolean_data (has_owner (owner_name s.owners (first_text args))) ∷ []))
 answers GetNameOwner s conn args rule = only s (owner_reply (owner_name s.owners (first_text args)))
 answers ListNames s conn args rule = only s (returns (texts (listed s.owners) ∷ []))
 answers ListQueuedOwners s conn args rule = only s (queued_reply (queued_names s.owners (first_text args)))

@@ -10,8 +10,8 @@ pub record OpenCall : Type 0 where
   pub serial : ℕ
   pub callee : ℕ
 
--- The connections in order of joining; who owns which name; the match rules, each with its connection; the open calls, the oldest
--- first; and the serial of the next message of the bus's own.
+-- The connections in order of joining; who owns which name; the match rules, each with its connection; the open calls,
+-- the oldest first; and the serial of the next message of the bus's own.
 pub record BusState : Type 0 where
   pub joined : List ℕ
   pub owners : Owners

@@ -21,9 +21,11 @@ IsWithinQuota b = AreWithin b.quota b.waiting.queues
 pub record QueuesStayWithin : Type 0 where
   pub new : (quota : ℕ) → IsWithinQuota (empty_bus quota)
   pub joined : (b : Bus) (conn : ℕ) → IsWithinQuota b → IsWithinQuota (joins b conn)
-  pub taken : (b : Bus) (conn : ℕ) (e : Envelope) (rule : Option (List Condition)) → IsWithinQuota b → IsWithinQuota (takes b conn e rule)
+  pub taken : (b : Bus) (conn : ℕ) (e : Envelope) (rule : Option (List Condition)) → IsWithinQuota b
+      → IsWithinQuota (takes b conn e rule)
   pub left : (b : Bus) (conn : ℕ) → IsWithinQuota b → IsWithinQuota (leaves b conn)
 
 -- the test of a rule decides whether it matches
 abbrev pub TestsDecide : Type 0
-TestsDecide = (e : Envelope) (owners : Owners) (rule : List Condition) → Decides (matches e owners rule) (Matches rule e owners)
+TestsDecide = (e : Envelope) (owners : Owners) (rule : List Condition)
+    → Decides (matches e owners rule) (Matches rule e owners)

@@ -1,12 +1,17 @@
--- The calls that the bus answers, at any path (D-Bus Specification, "Message Bus Messages", and "org.freedesktop.DBus.Peer").
-use Rattle.std.specs.Prelude.{ℕ, Bool, true, false, ◌&&◌, List, [], ◌∷◌, filter, Option, None, Some, codes, bytes_eq, if◌then◌else◌, Result, Ok, Err}
+-- The calls that the bus answers, at any path (D-Bus Specification, "Message Bus Messages", and
+-- "org.freedesktop.DBus.Peer").
+use Rattle.std.specs.Prelude.{ℕ, Bool, true, false, ◌&&◌, List, [], ◌∷◌, filter, Option, None, Some, codes, bytes_eq}
+use Rattle.std.specs.Prelude.{if◌then◌else◌, Result, Ok, Err}
 use Rattle.std.specs.List.{list_any}
 use Rattle.atspi_types.specs.Data.{items_of, types_of}
 use Rattle.atspi_types.specs.Signatures.{signature_bytes}
 use Rattle.atspi_message.specs.Envelope.{Envelope}
 use Rattle.atspi_names.specs.Owners.{own_name}
 use Rattle.atspi_match.specs.declared.routing.member.BusMember.{BusMember}
-use Rattle.atspi_match.specs.declared.routing.member.BusMember.TheVariants.{Hello, RequestName, ReleaseName, NameHasOwner, GetNameOwner, ListNames, ListQueuedOwners, AddMatch, RemoveMatch, GetId, Ping}
+use Rattle.atspi_match.specs.declared.routing.member.BusMember.TheVariants.{Hello, RequestName, ReleaseName}
+use Rattle.atspi_match.specs.declared.routing.member.BusMember.TheVariants.{NameHasOwner, GetNameOwner, ListNames}
+use Rattle.atspi_match.specs.declared.routing.member.BusMember.TheVariants.{ListQueuedOwners, AddMatch, RemoveMatch}
+use Rattle.atspi_match.specs.declared.routing.member.BusMember.TheVariants.{GetId, Ping}
 
 -- a line of the table: an interface, a member, the signature of its arguments, and which it is
 pub record MemberLine : Type 0 where
@@ -60,7 +65,8 @@ abbrev pub with_arguments : Envelope → Option MemberLine → Result BusMember 
 with_arguments e None = Err (codes "UnknownMethod")
 with_arguments e (Some l) = if bytes_eq (signature_of e) l.takes then Ok l.member else Err (codes "InvalidArgs")
 
--- the member that a call asks for, or the name of the error: looked for first by interface, then by member, then by arguments
+-- the member that a call asks for, or the name of the error: looked for first by interface, then by member, then by
+-- arguments
 abbrev pub member_of : Envelope → Result BusMember (List ℕ)
 member_of e =
     if list_any (is_of e.interface) member_lines

@@ -1,5 +1,7 @@
--- The bytes that wait for each connection, and the closings that a full queue brings (this profile: a queue has a quota of bytes).
-use Rattle.std.specs.Prelude.{◌==◌, not, nat_lt, ℕ, zero, suc, ◌+◌, ◌-◌, Bool, List, [], ◌∷◌, ◌++◌, length, filter, Option, None, Some, if◌then◌else◌}
+-- The bytes that wait for each connection, and the closings that a full queue brings (this profile: a queue has a quota
+-- of bytes).
+use Rattle.std.specs.Prelude.{◌==◌, not, nat_lt, ℕ, zero, suc, ◌+◌, ◌-◌, Bool, List, [], ◌∷◌, ◌++◌, length, filter}
+use Rattle.std.specs.Prelude.{Option, None, Some, if◌then◌else◌}
 use Rattle.std.specs.List.{list_any, fold}
 use Rattle.std.specs.FinMap as finmap
 use Rattle.std.specs.FinMap.{FinMap}
@@ -33,8 +35,8 @@ is_due conn due = list_any (λ (d : ℕ × Why). d.0 == conn) due
 abbrev pub doomed : Waiting → ℕ → Why → Waiting
 doomed w conn why = if is_due conn w.due then w else record w { due = w.due ++ (conn, why) ∷ [] }
 
--- bytes go to a queue that has room for them; to one that has not they do not, and its connection is to be closed. To one that is to
--- be closed nothing goes.
+-- bytes go to a queue that has room for them; to one that has not they do not, and its connection is to be closed. To
+-- one that is to be closed nothing goes.
 abbrev pub queued : ℕ → Waiting → ℕ → List ℕ → Waiting
 queued quota w conn bytes =
     if is_due conn w.due then w
@@ -73,7 +75,8 @@ stepped b step = record b {
 
 -- a connection's queue goes with it
 abbrev pub without_queue : Waiting → ℕ → Waiting
-without_queue w conn = record { queues = finmap.remove w.queues conn; due = filter (λ (d : ℕ × Why). not (d.0 == conn)) w.due }
+without_queue w conn =
+    record { queues = finmap.remove w.queues conn; due = filter (λ (d : ℕ × Why). not (d.0 == conn)) w.due }
 
 -- a connection has left
 abbrev pub left : Bus → ℕ → Bus
@@ -81,26 +84,38 @@ left b conn = stepped (record b { waiting = without_queue b.waiting conn }) (bus
 
 -- the first that is to be closed is closed: that is told with the serial of the last own message before, and it leaves
 abbrev pub closed : Bus → ℕ → Why → Bus
-closed b conn why = left (record b { closings = b.closings ++ record { conn = conn; why = why; after = b.state.next - 1 } ∷ [] }) conn
+closed b conn why =
+    left (record b { closings = b.closings ++ record { conn = conn; why = why; after = b.state.next - 1 } ∷ [] }) conn
 
 -- the first that is to be closed, if there is one
 abbrev pub one_closed : Bus → List (ℕ × Why) → Bus
 one_closed b [] = b
 one_closed b (first ∷ rest) = closed b first.0 first.1
 
--- all that are to be closed are, in the order of the causes; those that a closing causes come behind. Each closes one that has joined, so
--- as many rounds are enough.
+-- all that are to be closed are, in the order of the causes; those that a closing causes come behind. Each closes one
+-- that has joined, so as many rounds are enough.
 abbrev pub settled : ℕ → Bus → Bus
 settled zero b = b
 settled (suc rounds) b = settled rounds (one_closed b b.waiting.due)
 
 -- a bus with this quota, to which nobody has joined
 abbrev pub empty_bus : ℕ → Bus
-empty_bus quota = record { quota = quota; state = begins; waiting = record { queues = finmap.empty; due = [] }; own = []; closings = [] }
+empty_bus quota =
+    record {
+      quota = quota;
+      state = begins;
+      waiting = record { queues = finmap.empty; due = [] };
+      own = [];
+      closings = [];
+    }
 
 -- a connection joins, with an empty queue
 abbrev pub joins : Bus → ℕ → Bus
-joins b conn = record b { state = bus_joins b.state conn; waiting = record b.waiting { queues = finmap.insert b.waiting.queues conn [] } }
+joins b conn =
+    record b {
+      state = bus_joins b.state conn;
+      waiting = record b.waiting { queues = finmap.insert b.waiting.queues conn [] };
+    }
 
 -- the bus takes a message of a connection
 abbrev pub takes : Bus → ℕ → Envelope → Option (List Condition) → Bus

@@ -1,4 +1,5 @@
--- A small bus for the worked cases: four connections, the last of which has not said Hello; two names; three rules; three open calls.
+-- A small bus for the worked cases: four connections, the last of which has not said Hello; two names; three rules;
+-- three open calls.
 use Rattle.std.specs.Prelude.{ℕ, List, [], ◌∷◌, Option, None, Some, codes}
 use Rattle.std.specs.FinMap as finmap
 use Rattle.atspi_types.specs.Data.{Data, text_data}
@@ -96,6 +97,14 @@ one_text text = text_data text ∷ []
 abbrev pub one_waits : Waiting
 one_waits = record { queues = finmap.insert finmap.empty 1 (7 ∷ []); due = [] }
 
--- a bus whose two connections have not said Hello: a byte waits for the first and three for the second, and these are to be closed
+-- a bus whose two connections have not said Hello: a byte waits for the first and three for the second, and these are
+-- to be closed
 abbrev pub due_bus : List (ℕ × Why) → Bus
-due_bus due = record (joins (joins (empty_bus 9) 0) 1) { waiting = record { queues = finmap.insert (finmap.insert finmap.empty 0 (8 ∷ [])) 1 (7 ∷ (7 ∷ (7 ∷ []))); due = due } }
+due_bus due =
+    record (joins (joins (empty_bus 9) 0) 1) {
+      waiting =
+          record {
+            queues = finmap.insert (finmap.insert finmap.empty 0 (8 ∷ [])) 1 (7 ∷ (7 ∷ (7 ∷ [])));
+            due = due;
+          };
+    }

@@ -1,12 +1,15 @@
 -- Where a message goes (D-Bus Specification, "Message Bus Message Routing" and "Match Rules").
-use Rattle.std.specs.Prelude.{◌==◌, ◌&&◌, ◌||◌, not, ℕ, Bool, true, false, List, [], ◌∷◌, ◌++◌, length, take, filter, Option, None, Some, bytes_eq, bit_and, encode_utf8_all, if◌then◌else◌}
+use Rattle.std.specs.Prelude.{◌==◌, ◌&&◌, ◌||◌, not, ℕ, Bool, true, false, List, [], ◌∷◌, ◌++◌, length, take, filter}
+use Rattle.std.specs.Prelude.{Option, None, Some, bytes_eq, bit_and, encode_utf8_all, if◌then◌else◌}
 use Rattle.std.specs.List.{list_any, list_all}
 use Rattle.atspi_base.specs.valid_names.Names.{is_unique_name}
 use Rattle.atspi_message.specs.Envelope.{Envelope}
 use Rattle.atspi_names.specs.Queue.{owner_in}
 use Rattle.atspi_names.specs.Owners.{Owners, list_of, own_name}
 use Rattle.atspi_match.specs.declared.condition.Condition.{Condition}
-use Rattle.atspi_match.specs.declared.condition.Condition.TheVariants.{Kind, Sender, Interface, Member, Path, PathNamespace, Destination, Arg, ArgPath, Arg0Namespace, Eavesdrop}
+use Rattle.atspi_match.specs.declared.condition.Condition.TheVariants.{Kind, Sender, Interface, Member, Path}
+use Rattle.atspi_match.specs.declared.condition.Condition.TheVariants.{PathNamespace, Destination, Arg, ArgPath}
+use Rattle.atspi_match.specs.declared.condition.Condition.TheVariants.{Arg0Namespace, Eavesdrop}
 use Rattle.atspi_match.specs.Matching.{type_number, text_argument, text_or_path_argument}
 use Rattle.atspi_match.specs.routing.BusState.{OpenCall, BusState, unique_of}
 
@@ -28,7 +31,8 @@ is_owned_by owners unique None = false
 is_owned_by owners unique (Some conn) = is_same (unique_of owners conn) unique
 
 abbrev pub goes_by : Owners → List ℕ → List ℕ → Bool
-goes_by owners name field = bytes_eq field name || (not (is_unique_name name) && is_owned_by owners field (owner_in (list_of owners.lists name)))
+goes_by owners name field = bytes_eq field name
+    || (not (is_unique_name name) && is_owned_by owners field (owner_in (list_of owners.lists name)))
 
 abbrev pub is_within : ℕ → List ℕ → List ℕ → Bool
 is_within separator namespace text = bytes_eq text namespace || begins_with text (namespace ++ separator ∷ [])
@@ -72,8 +76,8 @@ one_or_none (Some conn) = conn ∷ []
 abbrev pub owners_of : BusState → List ℕ → List ℕ
 owners_of s name = one_or_none (owner_in (list_of s.owners.lists name))
 
--- A message with a destination goes to the owner of that name. A signal without one goes once to each connection that asks for it, in order of
--- joining, its sender too. Any other message without a destination goes to nobody.
+-- A message with a destination goes to the owner of that name. A signal without one goes once to each connection that
+-- asks for it, in order of joining, its sender too. Any other message without a destination goes to nobody.
 abbrev pub receivers : BusState → Envelope → List ℕ
 receivers s e = by e.destination
   where
@@ -105,7 +109,8 @@ with_call calls caller serial callee = calls ++ record { caller = caller; serial
 abbrev pub without_answered : List OpenCall → ℕ → ℕ → ℕ → List OpenCall
 without_answered [] caller serial callee = []
 without_answered (c ∷ calls) caller serial callee =
-    if c.caller == caller && (c.serial == serial && c.callee == callee) then calls else c ∷ without_answered calls caller serial callee
+    if c.caller == caller && (c.serial == serial && c.callee == callee) then calls
+    else c ∷ without_answered calls caller serial callee
 
 -- the open calls after a message of a connection went to a receiver
 abbrev pub calls_after : List OpenCall → ℕ → Envelope → ℕ → List OpenCall

@@ -1,6 +1,7 @@
--- What a bus does with a message, and when a connection leaves, apart from the room in its queues (D-Bus Specification, "Message Bus
--- Message Routing" and "Message Bus Messages").
-use Rattle.std.specs.Prelude.{◌==◌, ◌&&◌, not, ℕ, ◌+◌, Bool, true, false, List, [], ◌∷◌, ◌++◌, map, filter, flat_map, length, Option, None, Some, codes, bytes_eq, if◌then◌else◌, Result, Ok, Err}
+-- What a bus does with a message, and when a connection leaves, apart from the room in its queues (D-Bus Specification,
+-- "Message Bus Message Routing" and "Message Bus Messages").
+use Rattle.std.specs.Prelude.{◌==◌, ◌&&◌, not, ℕ, ◌+◌, Bool, true, false, List, [], ◌∷◌, ◌++◌, map, filter, flat_map}
+use Rattle.std.specs.Prelude.{length, Option, None, Some, codes, bytes_eq, if◌then◌else◌, Result, Ok, Err}
 use Rattle.atspi_types.specs.Data.{text_data}
 use Rattle.atspi_message.specs.Envelope.{Envelope}
 use Rattle.atspi_names.specs.Owners.{Owners, list_of, own_name, after_hello, after_gone, owned_by}
@@ -8,13 +9,15 @@ use Rattle.atspi_names.specs.Queue.{owner_in}
 use Rattle.atspi_match.specs.declared.condition.Condition.{Condition}
 use Rattle.atspi_match.specs.RuleIndex.{without_rules}
 use Rattle.atspi_match.specs.declared.routing.member.BusMember.{BusMember}
-use Rattle.atspi_match.specs.routing.BusState.{OpenCall, BusState, unique_of, text_or_empty, name_or_empty, calls_without, waiting_for}
+use Rattle.atspi_match.specs.routing.BusState.{OpenCall, BusState, unique_of, text_or_empty, name_or_empty}
+use Rattle.atspi_match.specs.routing.BusState.{calls_without, waiting_for}
 use Rattle.atspi_match.specs.routing.OwnMessages.{return_to, error_to, name_acquired, owner_changed, numbered}
 use Rattle.atspi_match.specs.routing.Members.{is_text, member_of}
 use Rattle.atspi_match.specs.routing.Answers.{Reply, returns, fails, Answer, only, answers}
 use Rattle.atspi_match.specs.routing.Routing.{receivers, is_for_bus, expects_reply, calls_after}
 
--- what a bus does, one thing after another: it says a message of its own, it hands a message to a connection, it is to close one
+-- what a bus does, one thing after another: it says a message of its own, it hands a message to a connection, it is to
+-- close one
 pub data Move : Type 0 where
   says : Envelope → Move
   delivers : ℕ → Envelope → Move
@@ -82,9 +85,13 @@ takes_from_named s conn e rule =
     if is_for_bus e then (if e.kind == 1 then called s conn e rule else speaks s [])
     else passes_on s conn e
 
--- the first message of a connection is a call of Hello, with the bus's interface or none, to the bus's name, and without a body
+-- the first message of a connection is a call of Hello, with the bus's interface or none, to the bus's name, and
+-- without a body
 abbrev pub is_hello : Envelope → Bool
-is_hello e = e.kind == 1 && (is_text e.destination own_name && (is_text e.member (codes "Hello") && (is_bus_interface e.interface && is_empty e.body)))
+is_hello e = e.kind
+    == 1
+    && (is_text e.destination own_name
+    && (is_text e.member (codes "Hello") && (is_bus_interface e.interface && is_empty e.body)))
   where
     is_bus_interface : Option (List ℕ) → Bool
     is_bus_interface None = true
@@ -99,9 +106,12 @@ abbrev pub greets : BusState → ℕ → Envelope → BusStep
 greets s conn e =
     let after = record s { owners = after_hello s.owners conn } in
     let name = text_or_empty (unique_of after.owners conn) in
-    speaks after (replies after conn e (returns (text_data name ∷ [])) ++ (name_acquired after.owners name (Some conn) ++ owner_changed name [] name ∷ []))
+    speaks after
+    (replies after conn e (returns (text_data name ∷ []))
+    ++ (name_acquired after.owners name (Some conn) ++ owner_changed name [] name ∷ []))
 
--- What the bus does with a message of a connection; the rule is the one that the text of an AddMatch or a RemoveMatch spells, if it does.
+-- What the bus does with a message of a connection; the rule is the one that the text of an AddMatch or a RemoveMatch
+-- spells, if it does.
 abbrev pub bus_takes : BusState → ℕ → Envelope → Option (List Condition) → BusStep
 bus_takes s conn e rule = by (unique_of s.owners conn)
   where
@@ -109,22 +119,26 @@ bus_takes s conn e rule = by (unique_of s.owners conn)
     by (Some name) = takes_from_named s conn (record e { sender = Some name }) rule
     by None = if is_hello e then greets s conn e else record { state = s; moves = closes conn ∷ [] }
 
--- who is told when a connection leaves: those whose calls wait for its answer, the oldest call first; then of each well-known name
--- that it owned, by the bytes of the name, its next owner and all that ask for it; then of the end of its unique name all that ask
+-- who is told when a connection leaves: those whose calls wait for its answer, the oldest call first; then of each
+-- well-known name that it owned, by the bytes of the name, its next owner and all that ask for it; then of the end of
+-- its unique name all that ask
 abbrev pub no_replies : BusState → ℕ → List Envelope
-no_replies s conn = map (λ (c : OpenCall). error_to (unique_of s.owners c.caller) c.serial (codes "NoReply")) (waiting_for conn s.calls)
+no_replies s conn =
+    map (λ (c : OpenCall). error_to (unique_of s.owners c.caller) c.serial (codes "NoReply")) (waiting_for conn s.calls)
 
 abbrev pub name_passes_on : Owners → Owners → ℕ → List ℕ → List Envelope
 name_passes_on before after conn name =
     let next = owner_in (list_of after.lists name) in
-    name_acquired after name next ++ owner_changed name (name_or_empty before (Some conn)) (name_or_empty after next) ∷ []
+    name_acquired after name next ++ owner_changed name (name_or_empty before (Some conn)) (name_or_empty after next)
+    ∷ []
 
 abbrev pub names_pass_on : Owners → Owners → ℕ → List Envelope
 names_pass_on before after conn = flat_map (name_passes_on before after conn) (owned_by before.lists conn)
 
 abbrev pub farewell : BusState → Owners → ℕ → Option (List ℕ) → List Envelope
 farewell s after conn None = []
-farewell s after conn (Some unique) = no_replies s conn ++ (names_pass_on s.owners after conn ++ owner_changed unique unique [] ∷ [])
+farewell s after conn (Some unique) = no_replies s conn
+    ++ (names_pass_on s.owners after conn ++ owner_changed unique unique [] ∷ [])
 
 -- a connection leaves: it is out of every list, and the others are told
 abbrev pub bus_leaves : BusState → ℕ → BusStep

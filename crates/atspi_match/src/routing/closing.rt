@@ -5,7 +5,8 @@
 pub enum Why {
     /// Its first message was no call of Hello.
     NotHello,
-    /// A message was to go to it that its queue has no room for: so many bytes waited in it, and so many has the message.
+    /// A message was to go to it that its queue has no room for: so many bytes waited in it, and so many has the
+    /// message.
     Quota { queued: u32, len: u32 },
 }
 

@@ -13,7 +13,7 @@ ghost use Rattle.atspi_message.specs.Bytes.{field_if, signature_if, rising_field
 ghost use Rattle.atspi_message.specs.Codes.{number_of};
 ghost use Rattle.atspi_message.specs.Envelope.{envelope_of};
 ghost use Rattle.atspi_message.specs.Rules.{HasNames};
-ghost use Rattle.atspi_message.specs.Writing.{field_front, later_fields, PutsFields};
+ghost use Rattle.atspi_message.specs.inner.Writing.{field_front, later_fields, PutsFields};
 
 use crate::code::{Code, number_of};
 use crate::message::Message;
@@ -41,7 +41,9 @@ fn put_text(
     out: &mut Bytes,
 ) -> Result<usize, WriteFault>
     requires { at ≤ 134217728 }
-    ensures writes { Writes (Unit {0}) (field_front at (number_of code) letter ++ counted order (aligned 8 at + 4) bytes.now) at out.old out.new result }
+    ensures writes { Writes (Unit {0})
+        (field_front at (number_of code) letter ++ counted order (aligned 8 at + 4) bytes.now) at out.old out.new
+        result }
     ensures front { take (length out.old) out.new ≡ out.old }
 {
     let place = put_code(at, code, letter, out)?;

@@ -7,10 +7,10 @@ use Rattle.std.proofs.lemmas.Bool.{eqb-true, eq-eqb}
 use Rattle.std.proofs.lemmas.Slice.Eq.{bytes_eq-Decides}
 use Rattle.atspi_types.specs.Data.{text_data, items_of, values_in}
 use Rattle.atspi_tables.specs.States.{state_names}
-use Rattle.atspi_forest.specs.declared.news.News.{News}
-use Rattle.atspi_forest.specs.declared.news.News.TheVariants.{State}
-use Rattle.atspi_forest.specs.Row.{TreeRow}
-use Rattle.atspi_forest.specs.Announce.{own, item_of}
+use Rattle.atspi_tree_model.specs.declared.news.News.{News}
+use Rattle.atspi_tree_model.specs.declared.news.News.TheVariants.{State}
+use Rattle.atspi_tree_model.specs.Row.{TreeRow}
+use Rattle.atspi_tree_model.specs.Announce.{own, item_of}
 use Rattle.atspi_protocol.specs.news.Arguments.{signed, text_in}
 use Rattle.atspi_protocol.specs.news.CacheSignals.{item_in}
 use Rattle.atspi_protocol.specs.news.Events.{named_in, state_lines}

@@ -1,9 +1,9 @@
 -- Indexes and places of a tree are small enough to be told as signed numbers.
 use Rattle.std.proofs.Common.{◌≡◌, ℕ, suc, ◌+◌, ◌<◌, ◌≤◌, Bool, true, false, cond, Option, Some, None, ap, arith}
 use Rattle.std.specs.Prelude.{length}
-use Rattle.atspi_forest.specs.declared.limits.TheConstants.{TEXT_LIMIT}
-use Rattle.atspi_forest.specs.Forest.{Forest, nil, tree, count, has, width, first_of, place, children_at}
-use Rattle.atspi_forest.specs.Row.{TextContents, Holds, HoldsIfThere, IsText, on_some}
+use Rattle.atspi_tree_model.specs.declared.limits.TheConstants.{TEXT_LIMIT}
+use Rattle.atspi_tree_model.specs.Forest.{Forest, nil, tree, count, has, width, first_of, place, children_at}
+use Rattle.atspi_tree_model.specs.Row.{TextContents, Holds, HoldsIfThere, IsText, on_some}
 
 abbrev pub everyone : {A : Type 0} → A → Bool
 everyone a = true

@@ -2,12 +2,12 @@
 use Rattle.std.proofs.Common.{◌≡◌, ℕ, zero, suc, ◌+◌, ◌<◌, ◌≤◌, Bool, true, false, cond, Option, Some, None, refl, sym, ap, ◌∙◌, subst, arith}
 use Rattle.std.proofs.lemmas.Bool.{ne_eqb}
 use Rattle.std.specs.Prelude.{◌==◌}
-use Rattle.atspi_forest.specs.Forest.{Forest, nil, tree, count, first_of, place}
-use Rattle.atspi_forest.specs.Row.{TreeRow}
-use Rattle.atspi_forest.specs.RowRules.{rows}
-use Rattle.atspi_forest.specs.Tree.{is_node, seat_of, IsRooted, IsTree, Removes}
-use Rattle.atspi_forest.proofs.Found.{count-has}
-use Rattle.atspi_forest.proofs.Seats.{place-none}
+use Rattle.atspi_tree_model.specs.Forest.{Forest, nil, tree, count, first_of, place}
+use Rattle.atspi_tree_model.specs.Row.{TreeRow}
+use Rattle.atspi_tree_model.specs.RowRules.{rows}
+use Rattle.atspi_tree_model.specs.Tree.{is_node, seat_of, IsRooted, IsTree, Removes}
+use Rattle.atspi_tree_model.proofs.Found.{count-has}
+use Rattle.atspi_tree_model.proofs.Seats.{place-none}
 use Rattle.atspi_protocol.proofs.OfAnnouncing.Bounds.{everyone, place-below}
 
 abbrev pub IsBelow : Option (Option ℕ × ℕ) → Type 0

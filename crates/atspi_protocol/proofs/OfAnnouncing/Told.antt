@@ -2,21 +2,21 @@
 use Rattle.std.proofs.Common.{◌≡◌, ℕ, ◌+◌, ◌<◌, ◌≤◌, Bool, true, false, Option, Some, None, refl, ap, ◌∙◌, arith}
 use Rattle.std.specs.Prelude.{pos, List, [], ◌∷◌, ◌++◌, map, length, take, drop, codes}
 use Rattle.std.proofs.lemmas.List.{map-append}
-use Rattle.atspi_forest.specs.declared.step.Seed.{Seed}
-use Rattle.atspi_forest.specs.declared.step.Step.TheVariants.{Add, Remove, Move, SetName, SetDescription, SetRole, SetState, Insert, Delete, Caret, TextSelect, Relate}
-use Rattle.atspi_forest.specs.declared.news.News.{News}
-use Rattle.atspi_forest.specs.declared.news.News.TheVariants.{Removed, ChildAdded, ChildRemoved, Item as NewItem}
-use Rattle.atspi_forest.specs.Forest.{Forest, labels, count, width, take_out, pick, find, children_at}
-use Rattle.atspi_forest.specs.Row.{TreeRow, TextContents, Holds, HoldsIfThere, IsText}
-use Rattle.atspi_forest.specs.RowRules.{rows}
-use Rattle.atspi_forest.specs.Tree.{is_node, after, seat_of, IsTree, Adds, Removes, Moves, Changes}
-use Rattle.atspi_forest.specs.Path.{path_of}
-use Rattle.atspi_forest.specs.Announce.{own, item_of, removed_news, echoes}
-use Rattle.atspi_forest.proofs.Counts.{count-parts}
-use Rattle.atspi_forest.proofs.Found.{count-has, find-has}
-use Rattle.atspi_forest.proofs.Lookup.{each-find}
-use Rattle.atspi_forest.proofs.RowRules.{rows_sound}
-use Rattle.atspi_forest.proofs.Kept.{count-move}
+use Rattle.atspi_tree_model.specs.declared.step.Seed.{Seed}
+use Rattle.atspi_tree_model.specs.declared.step.Step.TheVariants.{Add, Remove, Move, SetName, SetDescription, SetRole, SetState, Insert, Delete, Caret, TextSelect, Relate}
+use Rattle.atspi_tree_model.specs.declared.news.News.{News}
+use Rattle.atspi_tree_model.specs.declared.news.News.TheVariants.{Removed, ChildAdded, ChildRemoved, Item as NewItem}
+use Rattle.atspi_tree_model.specs.Forest.{Forest, labels, count, width, take_out, pick, find, children_at}
+use Rattle.atspi_tree_model.specs.Row.{TreeRow, TextContents, Holds, HoldsIfThere, IsText}
+use Rattle.atspi_tree_model.specs.RowRules.{rows}
+use Rattle.atspi_tree_model.specs.Tree.{is_node, after, seat_of, IsTree, Adds, Removes, Moves, Changes}
+use Rattle.atspi_tree_model.specs.Path.{path_of}
+use Rattle.atspi_tree_model.specs.Announce.{own, item_of, removed_news, echoes}
+use Rattle.atspi_tree_model.proofs.Counts.{count-parts}
+use Rattle.atspi_tree_model.proofs.Found.{count-has, find-has}
+use Rattle.atspi_tree_model.proofs.Lookup.{each-find}
+use Rattle.atspi_tree_model.proofs.RowRules.{rows_sound}
+use Rattle.atspi_tree_model.proofs.Kept.{count-move}
 use Rattle.atspi_protocol.specs.ends.Places.{reference}
 use Rattle.atspi_protocol.specs.announcing.Signals.{Signal, child_changed, added, removed, property_changed}
 use Rattle.atspi_protocol.specs.announcing.Announced.{left, announced}

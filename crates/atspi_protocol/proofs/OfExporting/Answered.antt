@@ -4,8 +4,8 @@ use Rattle.std.specs.Prelude.{◌==◌, ◌||◌, ◌&&◌, List, [], ◌∷◌,
 use Rattle.std.proofs.lemmas.List.{append-nil}
 use Rattle.std.proofs.lemmas.Bool.{eqb-true}
 use Rattle.atspi_types.specs.Data.{Data}
-use Rattle.atspi_forest.specs.Row.{Each}
-use Rattle.atspi_forest.proofs.Lookup.{each_append}
+use Rattle.atspi_tree_model.specs.Row.{Each}
+use Rattle.atspi_tree_model.proofs.Lookup.{each_append}
 use Rattle.atspi_message.specs.Envelope.{Envelope}
 use Rattle.atspi_protocol.specs.ends.Messages.{Reply, returns, fails, reply_to, expects_reply}
 use Rattle.atspi_protocol.specs.ends.Places.{registry}

@@ -2,24 +2,24 @@
 use Rattle.std.proofs.Common.{◌≡◌, ℕ, zero, suc, ◌<◌, ◌≤◌, Bool, true, false, cond, Option, Some, None, refl, sym, ap, ◌∙◌, subst, arith, length-append, length-take, length-drop}
 use Rattle.std.specs.Prelude.{ℤ, pos, negsuc, ◌==◌, ◌&&◌, not, nat_lt, nat_le, List, [], ◌∷◌, ◌++◌, map, filter, length, take, drop, slice_get, if◌then◌else◌, Result, Ok, Err}
 use Rattle.std.proofs.lemmas.Bool.{ltb-true, leb-true}
-use Rattle.atspi_forest.specs.declared.edit.Edit.{Edit}
-use Rattle.atspi_forest.specs.declared.edit.Edit.TheVariants.{Put, Cut}
-use Rattle.atspi_forest.specs.declared.edit.EditFault.{EditFault}
-use Rattle.atspi_forest.specs.declared.step.Step.{Step}
-use Rattle.atspi_forest.specs.declared.step.Step.TheVariants.{SetState, TextSelect, Caret as CaretStep, Delete}
-use Rattle.atspi_forest.specs.Forest.{Forest, count, has, find, children_at}
-use Rattle.atspi_forest.specs.States.{selected, has_state, multiselectable}
-use Rattle.atspi_forest.specs.Row.{TextContents, TreeRow, Each, HoldsIfThere, IsText}
-use Rattle.atspi_forest.specs.RowRules.{rows}
-use Rattle.atspi_forest.specs.Tree.{is_node, after, added_after, IsTree, Changes, AllApply, after_all, shape_of}
-use Rattle.atspi_forest.specs.Edits.{steps_of_tree, IsEdit, others, contents_read, first_fault, refusals, made_steps, steps_unless, known_text}
-use Rattle.atspi_forest.proofs.Found.{has-count, find-has, find-only, each_counted, EachLabel-weaker}
-use Rattle.atspi_forest.proofs.Lookup.{each-find, each_take, each_drop, each_append, each_filter, each_tops, each_children_at}
-use Rattle.atspi_forest.proofs.RowRules.{rows_sound}
-use Rattle.atspi_forest.proofs.Kept.{after_is_tree}
-use Rattle.atspi_forest.proofs.Seen.{self}
-use Rattle.atspi_forest.proofs.EditLemmas.{lawful_row, with_text, StateSteps, states_apply}
-use Rattle.atspi_forest.proofs.EditsApply.{steps_apply}
+use Rattle.atspi_tree_model.specs.declared.edit.Edit.{Edit}
+use Rattle.atspi_tree_model.specs.declared.edit.Edit.TheVariants.{Put, Cut}
+use Rattle.atspi_tree_model.specs.declared.edit.EditFault.{EditFault}
+use Rattle.atspi_tree_model.specs.declared.step.Step.{Step}
+use Rattle.atspi_tree_model.specs.declared.step.Step.TheVariants.{SetState, TextSelect, Caret as CaretStep, Delete}
+use Rattle.atspi_tree_model.specs.Forest.{Forest, count, has, find, children_at}
+use Rattle.atspi_tree_model.specs.States.{selected, has_state, multiselectable}
+use Rattle.atspi_tree_model.specs.Row.{TextContents, TreeRow, Each, HoldsIfThere, IsText}
+use Rattle.atspi_tree_model.specs.RowRules.{rows}
+use Rattle.atspi_tree_model.specs.Tree.{is_node, after, added_after, IsTree, Changes, AllApply, after_all, shape_of}
+use Rattle.atspi_tree_model.specs.Edits.{steps_of_tree, IsEdit, others, contents_read, first_fault, refusals, made_steps, steps_unless, known_text}
+use Rattle.atspi_tree_model.proofs.Found.{has-count, find-has, find-only, each_counted, EachLabel-weaker}
+use Rattle.atspi_tree_model.proofs.Lookup.{each-find, each_take, each_drop, each_append, each_filter, each_tops, each_children_at}
+use Rattle.atspi_tree_model.proofs.RowRules.{rows_sound}
+use Rattle.atspi_tree_model.proofs.Kept.{after_is_tree}
+use Rattle.atspi_tree_model.proofs.Seen.{self}
+use Rattle.atspi_tree_model.proofs.EditLemmas.{lawful_row, with_text, StateSteps, states_apply}
+use Rattle.atspi_tree_model.proofs.EditsApply.{steps_apply}
 use Rattle.atspi_protocol.specs.objects.Application.{Application}
 use Rattle.atspi_protocol.specs.objects.Children.{at, children_of, selected_children, is_selected}
 use Rattle.atspi_protocol.specs.objects.Texts.{text_of}

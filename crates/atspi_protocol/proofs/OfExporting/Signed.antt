@@ -3,11 +3,11 @@ use Rattle.std.proofs.Common.{◌≡◌, ℕ, Bool, true, false, Option, Some, N
 use Rattle.std.specs.Prelude.{ℤ, pos, negsuc, ◌*◌, ◌/◌, ◌%◌, nat_lt, List, [], ◌∷◌, codes, if◌then◌else◌}
 use Rattle.atspi_types.specs.Data.{Data, type_of}
 use Rattle.atspi_types.specs.Signatures.{type_bytes}
-use Rattle.atspi_forest.specs.declared.edit.Edit.TheVariants as edits
-use Rattle.atspi_forest.specs.declared.step.Step.{Step}
-use Rattle.atspi_forest.specs.Row.{TreeRow}
-use Rattle.atspi_forest.specs.RowRules.{rows}
-use Rattle.atspi_forest.specs.Tree.{seat_of}
+use Rattle.atspi_tree_model.specs.declared.edit.Edit.TheVariants as edits
+use Rattle.atspi_tree_model.specs.declared.step.Step.{Step}
+use Rattle.atspi_tree_model.specs.Row.{TreeRow}
+use Rattle.atspi_tree_model.specs.RowRules.{rows}
+use Rattle.atspi_tree_model.specs.Tree.{seat_of}
 use Rattle.atspi_protocol.specs.members.Arguments.{signed_at, text_at}
 use Rattle.atspi_protocol.specs.members.Asked.{signature_of}
 use Rattle.atspi_protocol.specs.objects.Application.{Application}

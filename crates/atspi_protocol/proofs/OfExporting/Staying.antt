@@ -2,18 +2,18 @@
 use Rattle.std.proofs.Common.{◌≡◌, ℕ, Bool, true, false, Option, Some, None, refl}
 use Rattle.std.specs.Prelude.{◌==◌, List, bytes_eq, if◌then◌else◌, Result, Ok, Err}
 use Rattle.atspi_types.specs.Data.{Data}
-use Rattle.atspi_forest.specs.declared.edit.Edit.{Edit}
-use Rattle.atspi_forest.specs.declared.edit.Edit.TheVariants.{Put, Cut, Caret, Mark, Select, Deselect, Press}
-use Rattle.atspi_forest.specs.declared.edit.EditFault.{EditFault}
-use Rattle.atspi_forest.specs.declared.step.Step.{Step}
-use Rattle.atspi_forest.specs.Forest.{find}
-use Rattle.atspi_forest.specs.Row.{TreeRow}
-use Rattle.atspi_forest.specs.RowRules.{rows}
-use Rattle.atspi_forest.specs.Tree.{is_node, IsTree, AllApply}
-use Rattle.atspi_forest.specs.Path.{path_of}
-use Rattle.atspi_forest.specs.Edits.{steps_of_tree, IsEdit}
-use Rattle.atspi_forest.proofs.Begins.{rows_begin}
-use Rattle.atspi_forest.proofs.EditsApply.{steps_apply}
+use Rattle.atspi_tree_model.specs.declared.edit.Edit.{Edit}
+use Rattle.atspi_tree_model.specs.declared.edit.Edit.TheVariants.{Put, Cut, Caret, Mark, Select, Deselect, Press}
+use Rattle.atspi_tree_model.specs.declared.edit.EditFault.{EditFault}
+use Rattle.atspi_tree_model.specs.declared.step.Step.{Step}
+use Rattle.atspi_tree_model.specs.Forest.{find}
+use Rattle.atspi_tree_model.specs.Row.{TreeRow}
+use Rattle.atspi_tree_model.specs.RowRules.{rows}
+use Rattle.atspi_tree_model.specs.Tree.{is_node, IsTree, AllApply}
+use Rattle.atspi_tree_model.specs.Path.{path_of}
+use Rattle.atspi_tree_model.specs.Edits.{steps_of_tree, IsEdit}
+use Rattle.atspi_tree_model.proofs.Begins.{rows_begin}
+use Rattle.atspi_tree_model.proofs.EditsApply.{steps_apply}
 use Rattle.atspi_message.specs.Envelope.{Envelope}
 use Rattle.atspi_protocol.specs.ends.Places.{cache_path}
 use Rattle.atspi_protocol.specs.declared.members.member.ObjectMember.{ObjectMember}

@@ -3,16 +3,16 @@ use Rattle.std.proofs.Common.{◌≡◌, ℕ, Bool, true, false, Option, Some, N
 use Rattle.std.specs.Prelude.{ℤ, pos, negsuc, ◌*◌, ◌/◌, ◌%◌, map, codes, bytes_eq, nat_lt, if◌then◌else◌, Result, Ok, Err}
 use Rattle.atspi_types.specs.Kinds.{Kind, IsLawful, text, variant, number, u32, i32, structure, array, kinds_of}
 use Rattle.atspi_types.specs.Data.{Data, type_of, items_of, entries_of, text_data, number_data, array_data, structure_data, IsWellTyped, AreWellTyped, AllHaveType, AllHaveTypes}
-use Rattle.atspi_forest.specs.declared.edit.Edit.TheVariants as edits
-use Rattle.atspi_forest.specs.declared.news.Item.{Item}
-use Rattle.atspi_forest.specs.declared.step.Step.{Step}
-use Rattle.atspi_forest.specs.declared.step.Step.TheVariants.{Add, Remove, Move, SetName, SetDescription, SetRole, SetState, Insert, Delete, Caret, TextSelect, Relate}
-use Rattle.atspi_forest.specs.Forest.{Forest, labels, width, pick, find, children_at}
-use Rattle.atspi_forest.specs.Row.{TreeRow, Each, targets_of}
-use Rattle.atspi_forest.specs.RowRules.{rows}
-use Rattle.atspi_forest.specs.Tree.{is_node, after, seat_of}
-use Rattle.atspi_forest.specs.Announce.{own, item_of, items}
-use Rattle.atspi_forest.proofs.Lookup.{each_append}
+use Rattle.atspi_tree_model.specs.declared.edit.Edit.TheVariants as edits
+use Rattle.atspi_tree_model.specs.declared.news.Item.{Item}
+use Rattle.atspi_tree_model.specs.declared.step.Step.{Step}
+use Rattle.atspi_tree_model.specs.declared.step.Step.TheVariants.{Add, Remove, Move, SetName, SetDescription, SetRole, SetState, Insert, Delete, Caret, TextSelect, Relate}
+use Rattle.atspi_tree_model.specs.Forest.{Forest, labels, width, pick, find, children_at}
+use Rattle.atspi_tree_model.specs.Row.{TreeRow, Each, targets_of}
+use Rattle.atspi_tree_model.specs.RowRules.{rows}
+use Rattle.atspi_tree_model.specs.Tree.{is_node, after, seat_of}
+use Rattle.atspi_tree_model.specs.Announce.{own, item_of, items}
+use Rattle.atspi_tree_model.proofs.Lookup.{each_append}
 use Rattle.atspi_protocol.specs.ends.Places.{reference_kind, cache_path, registry, root_path}
 use Rattle.atspi_protocol.specs.declared.members.member.ObjectMember.{ObjectMember}
 use Rattle.atspi_protocol.specs.declared.members.member.ObjectMember.TheVariants as members

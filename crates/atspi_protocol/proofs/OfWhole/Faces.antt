@@ -4,11 +4,11 @@ use Rattle.std.specs.Ordering.{nat_cmp, eq_by_cmp, is_eq}
 use Rattle.std.specs.Cmp.{nat_cmp_total, eq_by_cmp_equiv, ranked}
 use Rattle.std.specs.Option.{option_map_or}
 use Rattle.std.specs.FinMap.{get, insert, remove, get-insert, get-remove}
-use Rattle.atspi_forest.specs.declared.contents.FaceData.{FaceData}
-use Rattle.atspi_forest.specs.declared.contents.FaceData.TheVariants.{Chars, Grid, Deeds}
-use Rattle.atspi_face.specs.declared.change.Change.{Change}
-use Rattle.atspi_face.specs.Contents.{changed}
-use Rattle.atspi_face.specs.Nodes.{Nodes, changed_at}
+use Rattle.atspi_tree_model.specs.declared.contents.FaceData.{FaceData}
+use Rattle.atspi_tree_model.specs.declared.contents.FaceData.TheVariants.{Chars, Grid, Deeds}
+use Rattle.atspi_faces.specs.declared.face.change.Change.{Change}
+use Rattle.atspi_faces.specs.face.Contents.{changed}
+use Rattle.atspi_faces.specs.face.Nodes.{Nodes, changed_at}
 use Rattle.atspi_protocol.specs.whole.Whole.{with_text, with_columns, with_actions, without}
 
 pub same_key : (n : ℕ) → eq_by_cmp nat_cmp n n ≡ true

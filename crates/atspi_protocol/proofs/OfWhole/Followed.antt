@@ -5,23 +5,23 @@ use Rattle.std.specs.Option.{option_map}
 use Rattle.std.specs.FinMap.{get}
 use Rattle.std.proofs.lemmas.Bool.{eqb-true, eqb-false, eq-eqb, le-leb}
 use Rattle.std.proofs.lemmas.List.{map-append}
-use Rattle.atspi_forest.specs.declared.contents.FaceData.{FaceData}
-use Rattle.atspi_forest.specs.declared.contents.FaceData.TheVariants.{Chars, Grid, Deeds}
-use Rattle.atspi_forest.specs.declared.step.Seed.{Seed}
-use Rattle.atspi_forest.specs.declared.step.Step.TheVariants.{Add, Remove, Move, SetName, SetDescription, SetRole, SetState, Insert, Delete, Caret, TextSelect, Relate}
-use Rattle.atspi_forest.specs.Forest.{Forest, nil, tree, labels, count, has, put_in, take_out, pick, relabel, change, find, EachLabel}
-use Rattle.atspi_forest.specs.Row.{ShapeRow, TextContents, TreeRow, Holds, on_some}
-use Rattle.atspi_forest.specs.RowRules.{rows, shapes, first_shape, first_text, after_insert, after_delete}
-use Rattle.atspi_forest.specs.Tree.{is_node, is_shape, in_subtree, IsTree, Adds, Moves}
-use Rattle.atspi_forest.proofs.Counts.{count-parts, count-put_in}
-use Rattle.atspi_forest.proofs.Found.{count-has, has-count, not_there, find-passes, EachLabel-weaker, each_counted}
-use Rattle.atspi_forest.proofs.RowRules.{shapes_sound}
-use Rattle.atspi_forest.proofs.Kept.{count-move}
-use Rattle.atspi_forest.proofs.Relabel.{Same, relabel-put_in, relabel-take_out, relabel-pick, has-relabel, count-relabel, relabel-relabel, relabel-change, relabel-learn, unseen-change}
-use Rattle.atspi_forest.proofs.Lookup.{find-relabel}
-use Rattle.atspi_face.specs.declared.change.Change.{Change}
-use Rattle.atspi_face.specs.declared.change.Change.TheVariants as changes
-use Rattle.atspi_face.specs.Nodes.{Nodes, changed_at}
+use Rattle.atspi_tree_model.specs.declared.contents.FaceData.{FaceData}
+use Rattle.atspi_tree_model.specs.declared.contents.FaceData.TheVariants.{Chars, Grid, Deeds}
+use Rattle.atspi_tree_model.specs.declared.step.Seed.{Seed}
+use Rattle.atspi_tree_model.specs.declared.step.Step.TheVariants.{Add, Remove, Move, SetName, SetDescription, SetRole, SetState, Insert, Delete, Caret, TextSelect, Relate}
+use Rattle.atspi_tree_model.specs.Forest.{Forest, nil, tree, labels, count, has, put_in, take_out, pick, relabel, change, find, EachLabel}
+use Rattle.atspi_tree_model.specs.Row.{ShapeRow, TextContents, TreeRow, Holds, on_some}
+use Rattle.atspi_tree_model.specs.RowRules.{rows, shapes, first_shape, first_text, after_insert, after_delete}
+use Rattle.atspi_tree_model.specs.Tree.{is_node, is_shape, in_subtree, IsTree, Adds, Moves}
+use Rattle.atspi_tree_model.proofs.Counts.{count-parts, count-put_in}
+use Rattle.atspi_tree_model.proofs.Found.{count-has, has-count, not_there, find-passes, EachLabel-weaker, each_counted}
+use Rattle.atspi_tree_model.proofs.RowRules.{shapes_sound}
+use Rattle.atspi_tree_model.proofs.Kept.{count-move}
+use Rattle.atspi_tree_model.proofs.Relabel.{Same, relabel-put_in, relabel-take_out, relabel-pick, has-relabel, count-relabel, relabel-relabel, relabel-change, relabel-learn, unseen-change}
+use Rattle.atspi_tree_model.proofs.Lookup.{find-relabel}
+use Rattle.atspi_faces.specs.declared.face.change.Change.{Change}
+use Rattle.atspi_faces.specs.declared.face.change.Change.TheVariants as changes
+use Rattle.atspi_faces.specs.face.Nodes.{Nodes, changed_at}
 use Rattle.atspi_protocol.specs.whole.Whole.{Faces, as_text, as_columns, as_actions, contents_of, filled, whole, KnowsNo, KnowOnly, with_text, with_columns, with_actions, text_changed, faces_after}
 use Rattle.atspi_protocol.specs.whole.Laws.{IsFollowed, StepsAreFollowed, ShapeIsKept}
 use Rattle.atspi_protocol.proofs.OfWhole.Faces.{put_there, text_elsewhere, columns_elsewhere, actions_elsewhere, IsNot, without_elsewhere, without_none, without_those, changed_elsewhere, changed_none, changed_there}

@@ -2,16 +2,18 @@
 use Rattle.std.specs.Prelude.{ℕ, pos, List, [], ◌∷◌, ◌++◌, map, length, Option, None, Some, codes}
 use Rattle.atspi_types.specs.Kinds.{u32}
 use Rattle.atspi_types.specs.Data.{text_data, number_data}
-use Rattle.atspi_forest.specs.declared.step.Step.{Step}
-use Rattle.atspi_forest.specs.declared.step.Step.TheVariants.{Add, Remove, Move, SetName, SetDescription, SetRole, SetState, Insert, Delete, Caret, TextSelect, Relate}
-use Rattle.atspi_forest.specs.Forest.{Forest, labels, width, pick, find, children_at}
-use Rattle.atspi_forest.specs.Row.{TreeRow}
-use Rattle.atspi_forest.specs.RowRules.{rows}
-use Rattle.atspi_forest.specs.Tree.{is_node, after, seat_of}
-use Rattle.atspi_forest.specs.Path.{path_of}
-use Rattle.atspi_forest.specs.Announce.{own, item_of}
+use Rattle.atspi_tree_model.specs.declared.step.Step.{Step}
+use Rattle.atspi_tree_model.specs.declared.step.Step.TheVariants.{Add, Remove, Move, SetName, SetDescription, SetRole}
+use Rattle.atspi_tree_model.specs.declared.step.Step.TheVariants.{SetState, Insert, Delete, Caret, TextSelect, Relate}
+use Rattle.atspi_tree_model.specs.Forest.{Forest, labels, width, pick, find, children_at}
+use Rattle.atspi_tree_model.specs.Row.{TreeRow}
+use Rattle.atspi_tree_model.specs.RowRules.{rows}
+use Rattle.atspi_tree_model.specs.Tree.{is_node, after, seat_of}
+use Rattle.atspi_tree_model.specs.Path.{path_of}
+use Rattle.atspi_tree_model.specs.Announce.{own, item_of}
 use Rattle.atspi_protocol.specs.ends.Places.{reference}
-use Rattle.atspi_protocol.specs.announcing.Signals.{Signal, child_changed, property_changed, state_changed, text_changed, caret_moved, added, removed}
+use Rattle.atspi_protocol.specs.announcing.Signals.{Signal, child_changed, property_changed, state_changed}
+use Rattle.atspi_protocol.specs.announcing.Signals.{text_changed, caret_moved, added, removed}
 
 -- a node below a parent, with so many children
 abbrev pub told_node : List ℕ → ℕ → ℕ → ℕ → Option TreeRow → List Signal
@@ -25,7 +27,8 @@ left bus n _ = []
 
 -- of the tree before the step, of an application with this name
 abbrev pub announced : List ℕ → Forest TreeRow → Step → List Signal
-announced bus f (Add n p i seed) = told_node bus p i 0 (Some (rows.first n seed)) ++ child_changed bus p (codes "add") i n ∷ []
+announced bus f (Add n p i seed) = told_node bus p i 0 (Some (rows.first n seed))
+    ++ child_changed bus p (codes "add") i n ∷ []
 announced bus f (Remove n) =
     left bus n (seat_of rows n f) ++ map (λ (row : TreeRow). removed bus row.shape.node) (labels (pick (is_node n) f))
 announced bus f (Move n p i) =

@@ -2,8 +2,8 @@
 use Rattle.std.specs.Prelude.{ℕ, pos, false, List, [], ◌∷◌, map, Option, None, Some, codes}
 use Rattle.atspi_types.specs.Kinds.{u32}
 use Rattle.atspi_types.specs.Data.{Data, number_data, text_data, structure_data, items_of}
-use Rattle.atspi_forest.specs.declared.step.Seed.{Seed}
-use Rattle.atspi_forest.specs.declared.step.Step.{Step}
+use Rattle.atspi_tree_model.specs.declared.step.Seed.{Seed}
+use Rattle.atspi_tree_model.specs.declared.step.Step.{Step}
 use Rattle.atspi_protocol.specs.members.Arguments.{int}
 use Rattle.atspi_protocol.specs.objects.Values.{texts_data, words_data}
 use Rattle.atspi_protocol.specs.objects.Cases.{app, to}
@@ -40,7 +40,8 @@ first step = at (signals step)
 
 -- a label that is to be added
 abbrev pub new : Seed
-new = record { role = 29; name = codes "N"; text = None; editable = false; columns = None; select = false; actions = [] }
+new =
+    record { role = 29; name = codes "N"; text = None; editable = false; columns = None; select = false; actions = [] }
 
 -- the item of the button below a parent
 abbrev pub button_item : Data → ℕ → Data

@@ -3,8 +3,8 @@ use Rattle.std.specs.Prelude.{ℕ, ℤ, pos, Bool, true, false, List, [], ◌∷
 use Rattle.atspi_types.specs.Kinds.{text, variant}
 use Rattle.atspi_types.specs.Data.{Data, text_data, dictionary_data, entries_of}
 use Rattle.atspi_tables.specs.States.{state_names}
-use Rattle.atspi_forest.specs.declared.news.Item.{Item}
-use Rattle.atspi_forest.specs.Path.{path_of}
+use Rattle.atspi_tree_model.specs.declared.news.Item.{Item}
+use Rattle.atspi_tree_model.specs.Path.{path_of}
 use Rattle.atspi_message.specs.Envelope.{Envelope}
 use Rattle.atspi_protocol.specs.ends.Places.{reference, cache_path}
 use Rattle.atspi_protocol.specs.ends.Messages.{signal_of}
@@ -25,7 +25,8 @@ event_body minor first second value =
     text_data minor ∷ int first ∷ int second ∷ in_variant value ∷ dictionary_data text variant (entries_of []) ∷ []
 
 abbrev at_node : List ℕ → ℕ → List ℕ → ℤ → ℤ → Data → Envelope
-at_node member n minor first second value = signal_of (path_of n) event_interface member (event_body minor first second value)
+at_node member n minor first second value =
+    signal_of (path_of n) event_interface member (event_body minor first second value)
 
 -- where an event has no value, it is this number
 abbrev no_value : Data

@@ -1,5 +1,6 @@
 -- Which events a listener asks for by a pattern, a text of the form class:name:minor (AT-SPI2's registry interface).
-use Rattle.std.specs.Prelude.{◌==◌, ◌&&◌, not, ℕ, ◌+◌, Bool, true, nat_le, List, [], ◌∷◌, map, filter, codes, bytes_eq, if◌then◌else◌}
+use Rattle.std.specs.Prelude.{◌==◌, ◌&&◌, not, ℕ, ◌+◌, Bool, true, nat_le, List, [], ◌∷◌, map, filter, codes, bytes_eq}
+use Rattle.std.specs.Prelude.{if◌then◌else◌}
 use Rattle.std.specs.List.{before_first, after_first}
 
 -- a letter of ASCII as a small one, and any other byte as it is
@@ -18,7 +19,8 @@ abbrev pub part_covers : List ℕ → List ℕ → Bool
 part_covers [] word = true
 part_covers (b ∷ bytes) word = bytes_eq (compared (b ∷ bytes)) (compared word)
 
--- the first, the second and the third part of a pattern cover the class of all events here, an event's name and its minor word
+-- the first, the second and the third part of a pattern cover the class of all events here, an event's name and its
+-- minor word
 abbrev pub covers : List ℕ → List ℕ → List ℕ → Bool
 covers pattern name minor =
     let rest = after_first is_colon pattern in

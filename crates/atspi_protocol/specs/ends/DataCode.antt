@@ -2,12 +2,15 @@
 use Rattle.std.specs.Prelude.{◌≡◌, refl, ◌==◌, ℕ, Bool, true, false, List, [], ◌∷◌, Option, Some, None, if◌then◌else◌}
 use Rattle.std.specs.Coded.{Coded, code_by, coded_ℕ, coded_bool, coded_list, coded_option, coded×}
 use mathlib.Core.Path.{ap, ◌∙◌}
-use Rattle.atspi_types.specs.Kinds.{Num, byte, i16, u16, i32, u32, i64, u64, double, Kind, Kinds, number, boolean, text, path, signature, array, structure, variant, dictionary, no_kinds, kind}
-use Rattle.atspi_types.specs.Data.{Data, Items, Entries, number_data, boolean_data, text_data, path_data, signature_data, array_data, structure_data, dictionary_data, variant_data, no_items, item, no_entries, entry}
+use Rattle.atspi_types.specs.Kinds.{Num, byte, i16, u16, i32, u32, i64, u64, double, Kind, Kinds, number, boolean, text}
+use Rattle.atspi_types.specs.Kinds.{path, signature, array, structure, variant, dictionary, no_kinds, kind}
+use Rattle.atspi_types.specs.Data.{Data, Items, Entries, number_data, boolean_data, text_data, path_data}
+use Rattle.atspi_types.specs.Data.{signature_data, array_data, structure_data, dictionary_data, variant_data, no_items}
+use Rattle.atspi_types.specs.Data.{item, no_entries, entry}
 use Rattle.atspi_types.specs.declared.fault.Order.{Order}
 use Rattle.atspi_types.specs.declared.fault.Order.TheVariants.{Little, Big}
-use Rattle.atspi_forest.specs.Forest.{Forest, nil, tree}
-use Rattle.atspi_forest.specs.ForestCode.{forest_code}
+use Rattle.atspi_tree_model.specs.Forest.{Forest, nil, tree}
+use Rattle.atspi_tree_model.specs.ForestCode.{forest_code}
 use Rattle.atspi_message.specs.Envelope.{Envelope}
 
 -- a kind of number by its place, and back
@@ -91,11 +94,13 @@ mutual
   kinds_in-kind_forest text rest = refl
   kinds_in-kind_forest path rest = refl
   kinds_in-kind_forest signature rest = refl
-  kinds_in-kind_forest (array k) rest = ap (λ ks. kind (array (first_kind ks)) (kinds_in rest)) (kinds_in-kind_forest k nil)
+  kinds_in-kind_forest (array k) rest =
+      ap (λ ks. kind (array (first_kind ks)) (kinds_in rest)) (kinds_in-kind_forest k nil)
   kinds_in-kind_forest (structure ks) rest = ap (λ l. kind (structure l) (kinds_in rest)) (kinds_in-kinds_forest ks)
   kinds_in-kind_forest variant rest = refl
   kinds_in-kind_forest (dictionary k v) rest =
-      ap (λ ks. kind (dictionary (first_kind ks) (second_kind ks)) (kinds_in rest)) (kinds_in-kind_forest k (kind_forest v nil) ∙ ap (kind k) (kinds_in-kind_forest v nil))
+      ap (λ ks. kind (dictionary (first_kind ks) (second_kind ks)) (kinds_in rest))
+      (kinds_in-kind_forest k (kind_forest v nil) ∙ ap (kind k) (kinds_in-kind_forest v nil))
 
   pub kinds_in-kinds_forest : (ks : Kinds) → kinds_in (kinds_forest ks) ≡ ks
   kinds_in-kinds_forest no_kinds = refl
@@ -104,7 +109,8 @@ mutual
 abbrev kinds_code : Coded Kinds
 kinds_code = code_by (Forest (ℕ × ℕ)) (forest_code (coded× coded_ℕ coded_ℕ)) kinds_forest kinds_in kinds_in-kinds_forest
 
--- a value by a tag, the place of its number's kind, its numbers or characters, and its types; the values within it stand below it
+-- a value by a tag, the place of its number's kind, its numbers or characters, and its types; the values within it
+-- stand below it
 abbrev Token : Type 0
 Token = ℕ × (ℕ × (List ℕ × Kinds))
 
@@ -173,10 +179,14 @@ mutual
   items_in-data_forest (text_data cs) rest = refl
   items_in-data_forest (path_data bs) rest = refl
   items_in-data_forest (signature_data ks) rest = refl
-  items_in-data_forest (array_data k ds) rest = ap (λ es. item (array_data k es) (items_in rest)) (items_in-items_forest ds)
-  items_in-data_forest (structure_data ds) rest = ap (λ es. item (structure_data es) (items_in rest)) (items_in-items_forest ds)
-  items_in-data_forest (dictionary_data k v es) rest = ap (λ fs. item (dictionary_data k v fs) (items_in rest)) (entries_in-entries_forest es)
-  items_in-data_forest (variant_data k d) rest = ap (λ es. item (variant_data k (first_data es)) (items_in rest)) (items_in-data_forest d nil)
+  items_in-data_forest (array_data k ds) rest =
+      ap (λ es. item (array_data k es) (items_in rest)) (items_in-items_forest ds)
+  items_in-data_forest (structure_data ds) rest =
+      ap (λ es. item (structure_data es) (items_in rest)) (items_in-items_forest ds)
+  items_in-data_forest (dictionary_data k v es) rest =
+      ap (λ fs. item (dictionary_data k v fs) (items_in rest)) (entries_in-entries_forest es)
+  items_in-data_forest (variant_data k d) rest =
+      ap (λ es. item (variant_data k (first_data es)) (items_in rest)) (items_in-data_forest d nil)
 
   pub items_in-items_forest : (ds : Items) → items_in (items_forest ds) ≡ ds
   items_in-items_forest no_items = refl
@@ -185,7 +195,9 @@ mutual
   pub entries_in-entries_forest : (es : Entries) → entries_in (items_in (entries_forest es)) ≡ es
   entries_in-entries_forest no_entries = refl
   entries_in-entries_forest (entry k v es) =
-      ap entries_in (items_in-data_forest k (data_forest v (entries_forest es)) ∙ ap (item k) (items_in-data_forest v (entries_forest es)))
+      ap entries_in
+      (items_in-data_forest k (data_forest v (entries_forest es))
+      ∙ ap (item k) (items_in-data_forest v (entries_forest es)))
       ∙ ap (entry k v) (entries_in-entries_forest es)
 
 abbrev pub data_code : Coded Data
@@ -218,9 +230,26 @@ name_code = coded_option (coded_list coded_ℕ)
 abbrev pub envelope_code : Coded Envelope
 envelope_code =
     code_by (Order × (ℕ × (ℕ × (ℕ × (Name × (Name × (Name × (Name × (Option ℕ × (Name × (Name × List Data)))))))))))
-    (coded× order_code (coded× coded_ℕ (coded× coded_ℕ (coded× coded_ℕ (coded× name_code (coded× name_code (coded× name_code (coded× name_code
+    (coded× order_code
+    (coded× coded_ℕ
+    (coded× coded_ℕ (coded× coded_ℕ (coded× name_code (coded× name_code (coded× name_code (coded× name_code
     (coded× (coded_option coded_ℕ) (coded× name_code (coded× name_code (coded_list data_code))))))))))))
-    (λ e. (e.order, (e.kind, (e.flags, (e.serial, (e.path, (e.interface, (e.member, (e.error, (e.reply, (e.destination, (e.sender, e.body))))))))))))
+    (λ e. (
+      e.order,
+      (
+        e.kind,
+        (
+          e.flags,
+          (
+            e.serial,
+            (
+              e.path,
+              (e.interface, (e.member, (e.error, (e.reply, (e.destination, (e.sender, e.body)))))),
+            ),
+          ),
+        ),
+      ),
+    ))
     (λ p. record {
       order = p.0;
       kind = p.1.0;

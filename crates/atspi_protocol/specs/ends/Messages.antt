@@ -1,13 +1,17 @@
--- The messages that ends send (D-Bus Specification, "Message Protocol"): little-endian, without a sender, which the bus puts in, and with
--- the flag that no reply is expected in all that are no calls. A message gets its number when it is queued.
-use Rattle.std.specs.Prelude.{refl, ◌==◌, ◌&&◌, ℕ, ◌+◌, Bool, List, [], ◌∷◌, ◌++◌, length, None, Some, codes, bit_and, if◌then◌else◌}
+-- The messages that ends send (D-Bus Specification, "Message Protocol"): little-endian, without a sender, which the bus
+-- puts in, and with the flag that no reply is expected in all that are no calls. A message gets its number when it is
+-- queued.
+use Rattle.std.specs.Prelude.{refl, ◌==◌, ◌&&◌, ℕ, ◌+◌, Bool, List, [], ◌∷◌, ◌++◌, length, None, Some, codes, bit_and}
+use Rattle.std.specs.Prelude.{if◌then◌else◌}
 use Rattle.atspi_types.specs.Data.{Data, text_data}
 use Rattle.atspi_types.specs.declared.fault.Order.TheVariants.{Little}
 use Rattle.atspi_message.specs.Envelope.{Envelope}
 use Rattle.std.specs.Coded.{Coded, code_by, coded_ℕ, coded_list, coded×}
 use Rattle.atspi_protocol.specs.ends.DataCode.{envelope_code}
 use Rattle.atspi_protocol.specs.declared.ends.error.CallError.{CallError}
-use Rattle.atspi_protocol.specs.declared.ends.error.CallError.TheVariants.{UnknownObject, UnknownInterface, UnknownMethod, InvalidArgs, UnknownProperty, PropertyReadOnly}
+use Rattle.atspi_protocol.specs.declared.ends.error.CallError.TheVariants.{UnknownObject, UnknownInterface}
+use Rattle.atspi_protocol.specs.declared.ends.error.CallError.TheVariants.{UnknownMethod, InvalidArgs, UnknownProperty}
+use Rattle.atspi_protocol.specs.declared.ends.error.CallError.TheVariants.{PropertyReadOnly}
 
 -- a message of this type with these flags, before it has its number
 abbrev message_of : ℕ → ℕ → Envelope
@@ -29,7 +33,13 @@ message_of kind flags = record {
 -- a call of a member of another end's object
 abbrev pub call_to : List ℕ → List ℕ → List ℕ → List ℕ → List Data → Envelope
 call_to destination path interface member body =
-    record (message_of 1 0) { path = Some path; interface = Some interface; member = Some member; destination = Some destination; body = body }
+    record (message_of 1 0) {
+      path = Some path;
+      interface = Some interface;
+      member = Some member;
+      destination = Some destination;
+      body = body;
+    }
 
 -- a signal to all that ask for it
 abbrev pub signal_of : List ℕ → List ℕ → List ℕ → List Data → Envelope
@@ -38,7 +48,8 @@ signal_of path interface member body =
 
 -- what a caller's call with this serial returns
 abbrev pub return_to : List ℕ → ℕ → List Data → Envelope
-return_to caller serial values = record (message_of 2 1) { reply = Some serial; destination = Some caller; body = values }
+return_to caller serial values =
+    record (message_of 2 1) { reply = Some serial; destination = Some caller; body = values }
 
 -- or an error of the name that ends in this word, with the word as its text
 abbrev pub error_to : List ℕ → ℕ → List ℕ → Envelope
@@ -92,4 +103,6 @@ posted q es = record { next = q.next + length es; out = q.out ++ numbered q.next
 
 -- a queue is told from another by its two parts
 abbrev pub queue_code : Coded Queue
-queue_code = code_by (ℕ × List Envelope) (coded× coded_ℕ (coded_list envelope_code)) (λ q. (q.next, q.out)) (λ p. record { next = p.0; out = p.1 }) (λ _. refl)
+queue_code =
+    code_by (ℕ × List Envelope) (coded× coded_ℕ (coded_list envelope_code)) (λ q. (q.next, q.out))
+    (λ p. record { next = p.0; out = p.1 }) (λ _. refl)

@@ -1,4 +1,5 @@
--- The names and paths that all ends know (D-Bus Specification, "Message Bus Overview"; AT-SPI2's interface files), and references.
+-- The names and paths that all ends know (D-Bus Specification, "Message Bus Overview"; AT-SPI2's interface files), and
+-- references.
 use Rattle.std.specs.Prelude.{ℕ, List, [], ◌∷◌, map, codes}
 use Rattle.atspi_types.specs.Kinds.{Kind, kind, no_kinds, structure, text, path}
 use Rattle.atspi_types.specs.Data.{Data, text_data, path_data, structure_data, array_data, items_of}

@@ -2,10 +2,10 @@
 use Rattle.std.specs.Prelude.{ℕ, false, List, [], ◌∷◌, map, Option, None, Some, codes, Result, Ok, Err}
 use Rattle.atspi_types.specs.Data.{Data, text_data, structure_data, array_data, items_of}
 use Rattle.atspi_types.specs.Kinds.{structure, kinds_of, text}
-use Rattle.atspi_forest.specs.declared.edit.Edit.{Edit}
-use Rattle.atspi_forest.specs.declared.edit.EditFault.{EditFault}
-use Rattle.atspi_forest.specs.declared.step.Seed.{Seed}
-use Rattle.atspi_forest.specs.declared.step.Step.{Step}
+use Rattle.atspi_tree_model.specs.declared.edit.Edit.{Edit}
+use Rattle.atspi_tree_model.specs.declared.edit.EditFault.{EditFault}
+use Rattle.atspi_tree_model.specs.declared.step.Seed.{Seed}
+use Rattle.atspi_tree_model.specs.declared.step.Step.{Step}
 use Rattle.atspi_message.specs.Envelope.{Envelope}
 use Rattle.atspi_protocol.specs.ends.Places.{bus, reference, registry, root_path}
 use Rattle.atspi_protocol.specs.ends.Messages.{call_to, return_to, error_to, signal_of}
@@ -96,4 +96,5 @@ pair_texts p = text_data p.0 ∷ text_data p.1 ∷ []
 
 -- a label that is to be added
 abbrev pub label : Seed
-label = record { role = 29; name = codes "x"; text = None; editable = false; columns = None; select = false; actions = [] }
+label =
+    record { role = 29; name = codes "x"; text = None; editable = false; columns = None; select = false; actions = [] }

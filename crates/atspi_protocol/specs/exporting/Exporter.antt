@@ -1,10 +1,10 @@
 -- What an application is that exports its tree, and what it has queued.
 use Rattle.std.specs.Prelude.{ℕ, suc, ◌+◌, ℤ, negsuc, List, [], ◌∷◌, ◌++◌, Option, None}
-use Rattle.atspi_forest.specs.declared.step.Step.{Step}
-use Rattle.atspi_forest.specs.Forest.{Forest}
-use Rattle.atspi_forest.specs.Row.{TreeRow}
-use Rattle.atspi_forest.specs.RowRules.{rows}
-use Rattle.atspi_forest.specs.Tree.{first_tree}
+use Rattle.atspi_tree_model.specs.declared.step.Step.{Step}
+use Rattle.atspi_tree_model.specs.Forest.{Forest}
+use Rattle.atspi_tree_model.specs.Row.{TreeRow}
+use Rattle.atspi_tree_model.specs.RowRules.{rows}
+use Rattle.atspi_tree_model.specs.Tree.{first_tree}
 use Rattle.atspi_message.specs.Envelope.{Envelope}
 use Rattle.atspi_protocol.specs.objects.Application.{Application}
 
@@ -21,15 +21,17 @@ pub data Phase : Type 0 where
   awaits : StartCall → ℕ → Phase
   over : Phase
 
--- what happens, in its order: a step of the tree, a message that is sent, a listener's pattern that counts from now on, or no longer
+-- what happens, in its order: a step of the tree, a message that is sent, a listener's pattern that counts from now on,
+-- or no longer
 pub data Happening : Type 0 where
   steps : Step → Happening
   sends : Envelope → Happening
   hears : List ℕ → List ℕ → Happening
   deaf : List ℕ → List ℕ → Happening
 
--- The tree, and how many nodes were ever added; the number that the registry gave it; its unique name, once Hello returned it; the
--- listeners' patterns; how far its start has come; the number of its next message; and what is queued, the oldest first.
+-- The tree, and how many nodes were ever added; the number that the registry gave it; its unique name, once Hello
+-- returned it; the listeners' patterns; how far its start has come; the number of its next message; and what is queued,
+-- the oldest first.
 pub record Exporter : Type 0 where
   pub tree : Forest TreeRow
   pub added : ℕ

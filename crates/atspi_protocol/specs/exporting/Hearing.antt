@@ -1,5 +1,7 @@
--- Which listeners' patterns an application has heard of (AT-SPI2's interface file Registry). A pattern is a pair of a bus name and a text.
-use Rattle.std.specs.Prelude.{ℕ, ◌&&◌, not, Bool, List, [], ◌∷◌, ◌++◌, map, filter, Option, None, Some, codes, bytes_eq, encode_utf8_all, if◌then◌else◌}
+-- Which listeners' patterns an application has heard of (AT-SPI2's interface file Registry). A pattern is a pair of a
+-- bus name and a text.
+use Rattle.std.specs.Prelude.{ℕ, ◌&&◌, not, Bool, List, [], ◌∷◌, ◌++◌, map, filter, Option, None, Some, codes, bytes_eq}
+use Rattle.std.specs.Prelude.{encode_utf8_all, if◌then◌else◌}
 use Rattle.std.specs.List.{list_any}
 use Rattle.atspi_types.specs.Signatures.{type_bytes}
 use Rattle.atspi_types.specs.Data.{Data, Items, text_data, array_data, structure_data, no_items, item}
@@ -43,7 +45,8 @@ abbrev pub firsts : List (List ℕ × List ℕ) → List (List ℕ × List ℕ)
 firsts [] = []
 firsts (p ∷ ps) = p ∷ filter (λ q. not (is_pair p q)) (firsts ps)
 
--- other pairs in place of those that were heard: first those fall away that are not among them, and then the new ones are told
+-- other pairs in place of those that were heard: first those fall away that are not among them, and then the new ones
+-- are told
 abbrev pub exchanged : List (List ℕ × List ℕ) → List (List ℕ × List ℕ) → Change
 exchanged heard listed =
     let fallen = filter (λ p. not (is_heard listed p)) heard in
@@ -58,7 +61,8 @@ abbrev pub pair_in : List Data → Option (List ℕ × List ℕ)
 pair_in (text_data bus ∷ text_data pattern ∷ rest) = if is_bus_name bus then Some (bus, pattern) else None
 pair_in body = None
 
-abbrev pub with_pair : (List (List ℕ × List ℕ) → List ℕ × List ℕ → Change) → List (List ℕ × List ℕ) → Option (List ℕ × List ℕ) → Change
+abbrev pub with_pair : (List (List ℕ × List ℕ) → List ℕ × List ℕ → Change) → List (List ℕ × List ℕ)
+    → Option (List ℕ × List ℕ) → Change
 with_pair change heard None = unchanged heard
 with_pair change heard (Some p) = change heard p
 

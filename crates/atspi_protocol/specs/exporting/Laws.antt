@@ -1,20 +1,23 @@
 -- What holds of an application at any time.
-use Rattle.std.specs.Prelude.{◌≡◌, ◌==◌, ◌||◌, ℕ, zero, suc, ◌+◌, List, [], ◌∷◌, ◌++◌, Option, None, Some, Result, Ok, Err, codes, if◌then◌else◌}
+use Rattle.std.specs.Prelude.{◌≡◌, ◌==◌, ◌||◌, ℕ, zero, suc, ◌+◌, List, [], ◌∷◌, ◌++◌, Option, None, Some, Result, Ok}
+use Rattle.std.specs.Prelude.{Err, codes, if◌then◌else◌}
 use Rattle.atspi_types.specs.Data.{Data, type_of, items_of, AreWellTyped}
 use Rattle.atspi_types.specs.Signatures.{type_bytes}
-use Rattle.atspi_forest.specs.declared.edit.Edit.{Edit}
-use Rattle.atspi_forest.specs.declared.edit.EditFault.{EditFault}
-use Rattle.atspi_forest.specs.declared.step.Step.{Step}
-use Rattle.atspi_forest.specs.Forest.{Forest}
-use Rattle.atspi_forest.specs.Row.{TreeRow, Each, IsName}
-use Rattle.atspi_forest.specs.RowRules.{rows}
-use Rattle.atspi_forest.specs.Tree.{IsTree, AllApply}
-use Rattle.atspi_forest.specs.Edits.{IsEdit}
+use Rattle.atspi_tree_model.specs.declared.edit.Edit.{Edit}
+use Rattle.atspi_tree_model.specs.declared.edit.EditFault.{EditFault}
+use Rattle.atspi_tree_model.specs.declared.step.Step.{Step}
+use Rattle.atspi_tree_model.specs.Forest.{Forest}
+use Rattle.atspi_tree_model.specs.Row.{TreeRow, Each, IsName}
+use Rattle.atspi_tree_model.specs.RowRules.{rows}
+use Rattle.atspi_tree_model.specs.Tree.{IsTree, AllApply}
+use Rattle.atspi_tree_model.specs.Edits.{IsEdit}
 use Rattle.atspi_message.specs.Envelope.{Envelope}
 use Rattle.atspi_protocol.specs.ends.Messages.{Reply, returns, fails, expects_reply}
 use Rattle.atspi_protocol.specs.declared.members.member.ObjectMember.TheVariants.{GetItems}
 use Rattle.atspi_protocol.specs.declared.members.property.ObjectProperty.{ObjectProperty}
-use Rattle.atspi_protocol.specs.members.Table.{MemberLine, PropertyLine, property_lines, accessible_lines, application_lines, text_lines, editable_text_lines, selection_lines, table_lines, action_lines}
+use Rattle.atspi_protocol.specs.members.Table.{MemberLine, PropertyLine, property_lines, accessible_lines}
+use Rattle.atspi_protocol.specs.members.Table.{application_lines, text_lines, editable_text_lines, selection_lines}
+use Rattle.atspi_protocol.specs.members.Table.{table_lines, action_lines}
 use Rattle.atspi_protocol.specs.members.Asked.{calls, gets, gets_all, signature_of}
 use Rattle.atspi_protocol.specs.objects.Application.{Application}
 use Rattle.atspi_protocol.specs.objects.Properties.{property_data}
@@ -48,7 +51,8 @@ waiting_for (Some name) e = if expects_reply e then e.sender else None
 abbrev pub AddsReply : Option (List ℕ) → ℕ → List Envelope → List Envelope → Type 0
 AddsReply None serial before after = after ≡ before
 AddsReply (Some caller) serial before after =
-    (reply : Envelope) × (after ≡ before ++ reply ∷ []) × (reply.destination ≡ Some caller) × (reply.reply ≡ Some serial)
+    (reply : Envelope) × (after ≡ before ++ reply ∷ []) × (reply.destination ≡ Some caller)
+    × (reply.reply ≡ Some serial)
 
 -- Every call that expects a reply gets one return or error, and nothing else is a return or an error.
 abbrev pub EachCallIsAnswered : Type 0
@@ -78,7 +82,8 @@ pub record NumbersRise : Type 0 where
 -- The steps of an answer apply, each to the tree after those before it.
 abbrev pub AnswersApply : Type 0
 AnswersApply =
-    (a : Application) (path : List ℕ) (interface member : Option (List ℕ)) (body : List Data) → IsTree rows a.tree a.added
+    (a : Application) (path : List ℕ) (interface member : Option (List ℕ)) (body : List Data)
+    → IsTree rows a.tree a.added
     → AllApply rows a.tree a.added (answer a path interface member body).steps
 
 -- it has a tree
@@ -103,15 +108,26 @@ HasSignature signature (fails word) = ⊥
 -- the members that a node has
 abbrev pub node_lines : List MemberLine
 node_lines =
-    accessible_lines ++ application_lines ++ text_lines ++ editable_text_lines ++ selection_lines ++ table_lines ++ action_lines
+    accessible_lines ++ application_lines ++ text_lines ++ editable_text_lines ++ selection_lines ++ table_lines
+    ++ action_lines
 
--- Each member of a node is answered with values of the signature that the table names, and each property has its type there.
+-- Each member of a node is answered with values of the signature that the table names, and each property has its type
+-- there.
 pub record SignaturesAreKept : Type 0 where
-  pub members : Each (λ (l : MemberLine). (a : Application) (row : TreeRow) (body : List Data) → HasSignature l.gives (called a row l.member body).reply) node_lines
-  pub properties : Each (λ (l : PropertyLine). (a : Application) (row : TreeRow) → type_bytes (type_of (property_data a row l.property)) ≡ l.type) property_lines
-  pub got : (a : Application) (row : TreeRow) (property : ObjectProperty) → HasSignature (codes "v") (node_answers a row (gets property)).reply
-  pub got_all : (a : Application) (row : TreeRow) (lines : List PropertyLine) → HasSignature (codes "a{sv}") (node_answers a row (gets_all lines)).reply
-  pub items : (a : Application) (body : List Data) → HasSignature (codes "a((so)(so)(so)iiassusau)") (tree_answers a (calls GetItems body)).reply
+  pub members
+      : Each
+      (λ (l : MemberLine). (a : Application) (row : TreeRow) (body : List Data)
+      → HasSignature l.gives (called a row l.member body).reply) node_lines
+  pub properties
+      : Each
+      (λ (l : PropertyLine). (a : Application) (row : TreeRow)
+      → type_bytes (type_of (property_data a row l.property)) ≡ l.type) property_lines
+  pub got : (a : Application) (row : TreeRow) (property : ObjectProperty)
+      → HasSignature (codes "v") (node_answers a row (gets property)).reply
+  pub got_all : (a : Application) (row : TreeRow) (lines : List PropertyLine)
+      → HasSignature (codes "a{sv}") (node_answers a row (gets_all lines)).reply
+  pub items : (a : Application) (body : List Data)
+      → HasSignature (codes "a((so)(so)(so)iiassusau)") (tree_answers a (calls GetItems body)).reply
 
 -- the values of a reply, and of a signal, are well typed
 abbrev pub IsTypedReply : Reply → Type 0
@@ -123,5 +139,6 @@ IsTypedSignal s = AreWellTyped (items_of s.message.body)
 
 -- Whatever is asked, and whatever the step, what an application says is well typed.
 pub record WordsAreTyped : Type 0 where
-  pub answers : (a : Application) (path : List ℕ) (interface member : Option (List ℕ)) (body : List Data) → IsTypedReply (answer a path interface member body).reply
+  pub answers : (a : Application) (path : List ℕ) (interface member : Option (List ℕ)) (body : List Data)
+      → IsTypedReply (answer a path interface member body).reply
   pub signals : (bus : List ℕ) (f : Forest TreeRow) (step : Step) → Each IsTypedSignal (announced bus f step)

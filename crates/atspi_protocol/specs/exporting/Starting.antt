@@ -1,5 +1,5 @@
--- How an application starts: its calls of the bus and of the registry, and what their returns bring (AT-SPI2's interface files Registry and
--- Socket; D-Bus Specification, "Message Bus Messages").
+-- How an application starts: its calls of the bus and of the registry, and what their returns bring (AT-SPI2's
+-- interface files Registry and Socket; D-Bus Specification, "Message Bus Messages").
 use Rattle.std.specs.Prelude.{ℕ, ◌==◌, ◌&&◌, ◌||◌, Bool, false, List, [], ◌∷◌, Option, None, Some, codes, if◌then◌else◌}
 use Rattle.atspi_types.specs.Data.{Data, text_data}
 use Rattle.atspi_base.specs.valid_names.Names.{is_bus_name, is_unique_name}
@@ -7,7 +7,8 @@ use Rattle.atspi_message.specs.Envelope.{Envelope}
 use Rattle.atspi_protocol.specs.ends.Places.{bus, bus_path, registry, registry_path, root_path, reference}
 use Rattle.atspi_protocol.specs.ends.Messages.{call_to}
 use Rattle.atspi_protocol.specs.members.Interfaces.{socket}
-use Rattle.atspi_protocol.specs.exporting.Exporter.{StartCall, hello, add_match, get_registered_events, embed, Phase, awaits, over, sends, Exporter, queues}
+use Rattle.atspi_protocol.specs.exporting.Exporter.{StartCall, hello, add_match, get_registered_events, embed, Phase}
+use Rattle.atspi_protocol.specs.exporting.Exporter.{awaits, over, sends, Exporter, queues}
 use Rattle.atspi_protocol.specs.exporting.Hearing.{pairs_in, exchanged}
 
 -- the signals of the registry that an application asks the bus for

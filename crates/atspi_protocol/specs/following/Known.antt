@@ -1,13 +1,14 @@
 -- How applications become known to a reader, and how they are forgotten.
-use Rattle.std.specs.Prelude.{ℕ, ◌==◌, ◌&&◌, Bool, false, not, List, [], ◌∷◌, ◌++◌, filter, map, Option, Some, None, codes, bytes_eq, if◌then◌else◌}
+use Rattle.std.specs.Prelude.{ℕ, ◌==◌, ◌&&◌, Bool, false, not, List, [], ◌∷◌, ◌++◌, filter, map, Option, Some, None}
+use Rattle.std.specs.Prelude.{codes, bytes_eq, if◌then◌else◌}
 use Rattle.std.specs.List.{list_any}
 use Rattle.atspi_types.specs.Data.{Data, text_data}
 use Rattle.atspi_base.specs.valid_names.Names.{is_bus_name, is_unique_name}
 use Rattle.atspi_message.specs.Envelope.{Envelope}
 use Rattle.atspi_protocol.specs.ends.Places.{bus}
-use Rattle.atspi_forest.specs.declared.view.Row.{Row}
-use Rattle.atspi_forest.specs.declared.news.Reference.{Reference}
-use Rattle.atspi_forest.specs.Forest.{Forest}
+use Rattle.atspi_tree_model.specs.declared.view.Row.{Row}
+use Rattle.atspi_tree_model.specs.declared.news.Reference.{Reference}
+use Rattle.atspi_tree_model.specs.Forest.{Forest}
 use Rattle.atspi_speech.specs.Speech.{closing_lines}
 use Rattle.atspi_protocol.specs.news.Arguments.{Event, event_in, reference_in}
 use Rattle.atspi_protocol.specs.news.NewsOf.{event_interface, or_empty}
@@ -42,7 +43,11 @@ is_from (Some name) e = bytes_eq (or_empty e.sender) name
 
 abbrev pub new_child : ReaderState → Envelope → Option Reference
 new_child s e =
-    if e.kind == 4 && (is_from s.registry e && (bytes_eq (or_empty e.interface) event_interface && bytes_eq (or_empty e.member) (codes "ChildrenChanged")))
+    if e.kind
+    == 4
+    && (is_from s.registry e
+    && (bytes_eq (or_empty e.interface) event_interface
+    && bytes_eq (or_empty e.member) (codes "ChildrenChanged")))
     then child_added (event_in e.body)
     else None
 
@@ -61,7 +66,10 @@ ended_name body = None
 
 abbrev pub told_end : Envelope → Option (List ℕ)
 told_end e =
-    if e.kind == 4 && (bytes_eq (or_empty e.sender) bus && (bytes_eq (or_empty e.interface) bus && bytes_eq (or_empty e.member) (codes "NameOwnerChanged")))
+    if e.kind
+    == 4
+    && (bytes_eq (or_empty e.sender) bus
+    && (bytes_eq (or_empty e.interface) bus && bytes_eq (or_empty e.member) (codes "NameOwnerChanged")))
     then ended_name e.body
     else None
 

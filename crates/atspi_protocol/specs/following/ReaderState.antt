@@ -1,14 +1,16 @@
 -- What a reader knows: the applications that it follows, and the call of its own that waits for a reply.
 use Rattle.std.specs.Prelude.{ℕ, Bool, List, [], ◌∷◌, Option, None, codes, bytes_eq}
 use Rattle.atspi_message.specs.Envelope.{Envelope}
-use Rattle.atspi_forest.specs.declared.view.Row.{Row}
-use Rattle.atspi_forest.specs.Forest.{Forest}
+use Rattle.atspi_tree_model.specs.declared.view.Row.{Row}
+use Rattle.atspi_tree_model.specs.Forest.{Forest}
 use Rattle.atspi_protocol.specs.declared.news.part.PartName.{PartName}
 use Rattle.atspi_protocol.specs.declared.following.question.Question.{Question}
-use Rattle.atspi_protocol.specs.declared.following.question.Question.TheVariants.{Hello, AddMatch, RegisterEvent, GetChildren}
+use Rattle.atspi_protocol.specs.declared.following.question.Question.TheVariants.{Hello, AddMatch, RegisterEvent}
+use Rattle.atspi_protocol.specs.declared.following.question.Question.TheVariants.{GetChildren}
 
--- An application: its bus name and its root's path; its view, where it is held; whether all is to be asked for again; the serial of the
--- last message taken from it; and the parts that it would not tell, by their row's path, since its view was loaded.
+-- An application: its bus name and its root's path; its view, where it is held; whether all is to be asked for again;
+-- the serial of the last message taken from it; and the parts that it would not tell, by their row's path, since its
+-- view was loaded.
 pub record Followed : Type 0 where
   pub name : List ℕ
   pub root : List ℕ
@@ -28,8 +30,9 @@ pub data Done : Type 0 where
   speaks : List ℕ → List ℕ → Done
   tells_end : List ℕ → Done
 
--- A reader: the calls of its start that are to come; its call that waits; the registry's unique name, once it is known; the applications,
--- in the order in which they became known; the serial of its next message; and what it did that nobody took yet.
+-- A reader: the calls of its start that are to come; its call that waits; the registry's unique name, once it is known;
+-- the applications, in the order in which they became known; the serial of its next message; and what it did that
+-- nobody took yet.
 pub record ReaderState : Type 0 where
   pub to_come : List Question
   pub pending : Option Pending

@@ -1,21 +1,23 @@
 -- What a reply to a call of the reader's own changes.
-use Rattle.std.specs.Prelude.{ℕ, ◌==◌, ◌&&◌, ◌||◌, Bool, true, false, not, List, [], ◌∷◌, ◌++◌, filter, map, Option, Some, None, codes, bytes_eq, if◌then◌else◌}
+use Rattle.std.specs.Prelude.{ℕ, ◌==◌, ◌&&◌, ◌||◌, Bool, true, false, not, List, [], ◌∷◌, ◌++◌, filter, map, Option}
+use Rattle.std.specs.Prelude.{Some, None, codes, bytes_eq, if◌then◌else◌}
 use Rattle.std.specs.List.{fold}
 use Rattle.atspi_types.specs.Data.{Data, text_data}
 use Rattle.atspi_base.specs.valid_names.Names.{is_bus_name, is_unique_name}
 use Rattle.atspi_message.specs.Envelope.{Envelope}
 use Rattle.atspi_protocol.specs.ends.Places.{bus}
-use Rattle.atspi_forest.specs.declared.view.Row.{Row}
-use Rattle.atspi_forest.specs.declared.news.Item.{Item}
-use Rattle.atspi_forest.specs.declared.news.News.{News}
-use Rattle.atspi_forest.specs.Forest.{Forest}
-use Rattle.atspi_forest.specs.News.{load, effect}
+use Rattle.atspi_tree_model.specs.declared.view.Row.{Row}
+use Rattle.atspi_tree_model.specs.declared.news.Item.{Item}
+use Rattle.atspi_tree_model.specs.declared.news.News.{News}
+use Rattle.atspi_tree_model.specs.Forest.{Forest}
+use Rattle.atspi_tree_model.specs.News.{load, effect}
 use Rattle.atspi_protocol.specs.declared.news.part.PartName.{PartName}
 use Rattle.atspi_protocol.specs.news.Arguments.{signature_of}
 use Rattle.atspi_protocol.specs.news.NewsOf.{or_empty}
 use Rattle.atspi_protocol.specs.news.Replies.{elements_of, items_told, part_told}
 use Rattle.atspi_protocol.specs.declared.following.question.Question.{Question}
-use Rattle.atspi_protocol.specs.declared.following.question.Question.TheVariants.{Hello, AddMatch, RegisterEvent, GetChildren, GetItems, GetPart}
+use Rattle.atspi_protocol.specs.declared.following.question.Question.TheVariants.{Hello, AddMatch, RegisterEvent}
+use Rattle.atspi_protocol.specs.declared.following.question.Question.TheVariants.{GetChildren, GetItems, GetPart}
 use Rattle.atspi_protocol.specs.following.ReaderState.{Followed, Pending, ReaderState, is_named}
 use Rattle.atspi_protocol.specs.following.Known.{made_known, references_among}
 
@@ -24,7 +26,8 @@ abbrev pub is_reply_to : ℕ → Option ℕ → Bool
 is_reply_to serial None = false
 is_reply_to serial (Some reply) = reply == serial
 
--- a reply to a call of an application comes from it, or from the bus; one to a call of the bus or the registry from anybody
+-- a reply to a call of an application comes from it, or from the bus; one to a call of the bus or the registry from
+-- anybody
 abbrev pub may_answer : Question → Envelope → Bool
 may_answer (GetItems name) e = bytes_eq (or_empty e.sender) name || bytes_eq (or_empty e.sender) bus
 may_answer (GetPart name path part) e = bytes_eq (or_empty e.sender) name || bytes_eq (or_empty e.sender) bus

@@ -1,11 +1,12 @@
 -- What a reader does with a message.
-use Rattle.std.specs.Prelude.{ℕ, ◌+◌, ◌||◌, Bool, List, [], ◌∷◌, ◌++◌, filter, flat_map, map, Option, Some, None, is_some, if◌then◌else◌}
-use Rattle.atspi_lines.specs.declared.deed.Deed.{Deed}
+use Rattle.std.specs.Prelude.{ℕ, ◌+◌, ◌||◌, Bool, List, [], ◌∷◌, ◌++◌, filter, flat_map, map, Option, Some, None}
+use Rattle.std.specs.Prelude.{is_some, if◌then◌else◌}
+use Rattle.atspi_script_lines.specs.declared.deed.Deed.{Deed}
 use Rattle.atspi_message.specs.Envelope.{Envelope}
-use Rattle.atspi_forest.specs.declared.view.Row.{Row}
-use Rattle.atspi_forest.specs.declared.news.News.{News}
-use Rattle.atspi_forest.specs.Forest.{Forest}
-use Rattle.atspi_forest.specs.News.{effect, marks_reload}
+use Rattle.atspi_tree_model.specs.declared.view.Row.{Row}
+use Rattle.atspi_tree_model.specs.declared.news.News.{News}
+use Rattle.atspi_tree_model.specs.Forest.{Forest}
+use Rattle.atspi_tree_model.specs.News.{effect, marks_reload}
 use Rattle.atspi_speech.specs.Speech.{lines}
 use Rattle.atspi_protocol.specs.news.NewsOf.{news_of, or_empty}
 use Rattle.atspi_protocol.specs.declared.following.question.Question.{Question}
@@ -35,7 +36,8 @@ folded news app = by app.view
   where
     by : Option (Forest Row) → Followed
     by None = app
-    by (Some view) = record app { view = Some (effect app.root app.name view news); reload = app.reload || marks_reload view news }
+    by (Some view) =
+        record app { view = Some (effect app.root app.name view news); reload = app.reload || marks_reload view news }
 
 -- the news of a message's sender, if it is an application that is held
 abbrev pub takes_news : ReaderState → Envelope → ReaderState
@@ -71,14 +73,15 @@ goes_on s = by s.pending s.to_come
 abbrev pub starts : ReaderState → ReaderState
 starts s = goes_on s
 
--- What a reader does with a message: it notes the serial, and takes it as a reply, as the end of a connection, as a new child of the
--- registry's and as news; then it asks what it wants to know next.
+-- What a reader does with a message: it notes the serial, and takes it as a reply, as the end of a connection, as a new
+-- child of the registry's and as news; then it asks what it wants to know next.
 abbrev pub reader_takes : ReaderState → Envelope → ReaderState
 reader_takes s e = goes_on (takes_news (takes_child (takes_end (takes_reply (notes s e) e) e) e) e)
 
 -- a user's call of an application that is held goes out at once
 abbrev pub reader_calls : ReaderState → List ℕ → ℕ → Deed → ReaderState
-reader_calls s name node deed = record s { next = s.next + 1; out = s.out ++ sends (user_call s.next name node deed) ∷ [] }
+reader_calls s name node deed =
+    record s { next = s.next + 1; out = s.out ++ sends (user_call s.next name node deed) ∷ [] }
 
 -- the view of an application, where it is held, and the serial of the last message taken from it
 abbrev pub found_in : List ℕ → List Followed → Option Followed

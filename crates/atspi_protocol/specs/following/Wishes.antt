@@ -1,12 +1,13 @@
 -- What a reader wants to know next.
-use Rattle.std.specs.Prelude.{ℕ, Bool, true, false, ◌&&◌, not, List, [], ◌∷◌, ◌++◌, flat_map, filter, map, Option, Some, None, bytes_eq, if◌then◌else◌}
+use Rattle.std.specs.Prelude.{ℕ, Bool, true, false, ◌&&◌, not, List, [], ◌∷◌, ◌++◌, flat_map, filter, map, Option, Some}
+use Rattle.std.specs.Prelude.{None, bytes_eq, if◌then◌else◌}
 use Rattle.std.specs.List.{list_any}
-use Rattle.atspi_forest.specs.declared.view.Row.{Row}
-use Rattle.atspi_forest.specs.declared.view.Part.{Part}
-use Rattle.atspi_forest.specs.declared.view.Part.TheVariants.{Unknown}
-use Rattle.atspi_forest.specs.declared.view.NumPart.{NumPart}
-use Rattle.atspi_forest.specs.declared.view.NumPart.TheVariants.{Unknown as UnknownNumber}
-use Rattle.atspi_forest.specs.Forest.{Forest, labels}
+use Rattle.atspi_tree_model.specs.declared.view.Row.{Row}
+use Rattle.atspi_tree_model.specs.declared.view.Part.{Part}
+use Rattle.atspi_tree_model.specs.declared.view.Part.TheVariants.{Unknown}
+use Rattle.atspi_tree_model.specs.declared.view.NumPart.{NumPart}
+use Rattle.atspi_tree_model.specs.declared.view.NumPart.TheVariants.{Unknown as UnknownNumber}
+use Rattle.atspi_tree_model.specs.Forest.{Forest, labels}
 use Rattle.atspi_protocol.specs.declared.news.part.PartName.{PartName}
 use Rattle.atspi_protocol.specs.declared.news.part.PartName.TheVariants.{Text, Caret, Columns}
 use Rattle.atspi_protocol.specs.declared.following.question.Question.{Question}
@@ -44,7 +45,8 @@ unknown_parts row =
     ++ (unknown_if (number_is_unknown row.caret) Caret
     ++ unknown_if (number_is_unknown row.columns) Columns)
 
--- the wishes about the rows of a held application that needs no loading: row by row in preorder, the refused ones left out
+-- the wishes about the rows of a held application that needs no loading: row by row in preorder, the refused ones left
+-- out
 abbrev pub row_wishes : Followed → Row → List Question
 row_wishes app row =
     map (λ (part : PartName). GetPart app.name row.path part)

@@ -1,4 +1,5 @@
--- The arguments of a call, by place from 0. Behind the last one, and where another type stands, they are read as empty or 0.
+-- The arguments of a call, by place from 0. Behind the last one, and where another type stands, they are read as empty
+-- or 0.
 use Rattle.std.specs.Prelude.{ℕ, ℤ, pos, List, [], Option, None, Some, slice_get}
 use Rattle.std.specs.Int.{w32, cast_signed, cast_unsigned}
 use Rattle.atspi_types.specs.Kinds.{i32}

@@ -1,6 +1,8 @@
--- What a call asks of an object, or the name of the error that it gets (AT-SPI2's interface files; D-Bus Specification, "Standard
--- Interfaces"). Errors are looked for in this order: the object, the interface, the member, the arguments, the property.
-use Rattle.std.specs.Prelude.{ℕ, Bool, true, false, ◌&&◌, List, [], ◌∷◌, length, take, filter, Option, None, Some, codes, bytes_eq, if◌then◌else◌, Result, Ok, Err}
+-- What a call asks of an object, or the name of the error that it gets (AT-SPI2's interface files; D-Bus Specification,
+-- "Standard Interfaces"). Errors are looked for in this order: the object, the interface, the member, the arguments,
+-- the property.
+use Rattle.std.specs.Prelude.{ℕ, Bool, true, false, ◌&&◌, List, [], ◌∷◌, length, take, filter, Option, None, Some}
+use Rattle.std.specs.Prelude.{codes, bytes_eq, if◌then◌else◌, Result, Ok, Err}
 use Rattle.atspi_types.specs.Data.{Data, items_of, types_of, type_of}
 use Rattle.atspi_types.specs.Signatures.{signature_bytes, type_bytes}
 use Rattle.atspi_protocol.specs.declared.members.member.ObjectMember.{ObjectMember}
@@ -52,10 +54,12 @@ are_taken l body =
     if l.takes_more then bytes_eq (take (length l.takes) (signature_of body)) l.takes
     else bytes_eq (signature_of body) l.takes
 
--- The member of a call with this interface, member and body. Where it names no interface, the member is that of the first one that has it.
+-- The member of a call with this interface, member and body. Where it names no interface, the member is that of the
+-- first one that has it.
 abbrev pub member_of : Object → Option (List ℕ) → Option (List ℕ) → List Data → Result ObjectMember (List ℕ)
 member_of o interface member body =
-    if has_interface o interface then and_then with_arguments (first_or (codes "UnknownMethod") (filter is_meant o.members))
+    if has_interface o interface
+    then and_then with_arguments (first_or (codes "UnknownMethod") (filter is_meant o.members))
     else Err (codes "UnknownInterface")
   where
     is_meant : MemberLine → Bool
@@ -67,7 +71,8 @@ member_of o interface member body =
 -- the object's properties of an interface, if it has that one
 abbrev pub properties_of : Object → List ℕ → Result (List PropertyLine) (List ℕ)
 properties_of o interface =
-    if is_among o.interfaces interface then Ok (filter (λ (l : PropertyLine). bytes_eq interface l.interface) o.properties)
+    if is_among o.interfaces interface
+    then Ok (filter (λ (l : PropertyLine). bytes_eq interface l.interface) o.properties)
     else Err (codes "UnknownInterface")
 
 -- one of some properties
@@ -83,11 +88,13 @@ set_to value l = if l.is_settable then typed value else Err (codes "PropertyRead
   where
     typed : Option Data → Result Asked (List ℕ)
     typed None = Err (codes "InvalidArgs")
-    typed (Some d) = if bytes_eq (type_bytes (type_of d)) l.type then Ok (sets l.property d) else Err (codes "InvalidArgs")
+    typed (Some d) = if bytes_eq (type_bytes (type_of d)) l.type then Ok (sets l.property d)
+        else Err (codes "InvalidArgs")
 
 -- what a member asks for, with its arguments
 abbrev pub asked_by : Object → List Data → ObjectMember → Result Asked (List ℕ)
-asked_by o body Get = and_then (λ (l : PropertyLine). Ok (gets l.property)) (property_of o (text_at 0 body) (text_at 1 body))
+asked_by o body Get =
+    and_then (λ (l : PropertyLine). Ok (gets l.property)) (property_of o (text_at 0 body) (text_at 1 body))
 asked_by o body GetAll = and_then (λ ls. Ok (gets_all ls)) (properties_of o (text_at 0 body))
 asked_by o body Set = and_then (set_to (value_at 2 body)) (property_of o (text_at 0 body) (text_at 1 body))
 asked_by o body member = Ok (calls member body)

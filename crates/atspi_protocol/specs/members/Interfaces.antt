@@ -1,4 +1,5 @@
--- The names of the interfaces that accessible objects have (AT-SPI2's interface files; D-Bus Specification, "Standard Interfaces").
+-- The names of the interfaces that accessible objects have (AT-SPI2's interface files; D-Bus Specification, "Standard
+-- Interfaces").
 use Rattle.std.specs.Prelude.{ℕ, List, codes}
 
 abbrev pub accessible : List ℕ

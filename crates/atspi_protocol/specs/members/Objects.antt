@@ -26,8 +26,11 @@ object_with interfaces =
 -- of an interface's members, and of its properties, those with these names alone
 abbrev pub keeping : List ℕ → List (List ℕ) → Object → Object
 keeping interface names o = record o {
-  members = filter (λ (l : MemberLine). if bytes_eq l.interface interface then is_among names l.name else true) o.members;
-  properties = filter (λ (l : PropertyLine). if bytes_eq l.interface interface then is_among names l.name else true) o.properties;
+  members =
+      filter (λ (l : MemberLine). if bytes_eq l.interface interface then is_among names l.name else true) o.members;
+  properties =
+      filter (λ (l : PropertyLine). if bytes_eq l.interface interface then is_among names l.name else true)
+      o.properties;
 }
 
 -- the object that tells a whole application
@@ -41,5 +44,6 @@ registry_object = object_with (registry ∷ [])
 abbrev pub registry_root : Object
 registry_root =
     keeping accessible
-    (codes "Name" ∷ codes "ChildCount" ∷ codes "GetChildAtIndex" ∷ codes "GetChildren" ∷ codes "GetRole" ∷ codes "GetRoleName" ∷ [])
+    (codes "Name" ∷ codes "ChildCount" ∷ codes "GetChildAtIndex" ∷ codes "GetChildren" ∷ codes "GetRole"
+    ∷ codes "GetRoleName" ∷ [])
     (object_with (accessible ∷ socket ∷ []))

@@ -1,5 +1,5 @@
--- The table of members and properties, an interface after the other (AT-SPI2's interface files): of a member the signatures of what it
--- takes and of what it gives, of a property its type.
+-- The table of members and properties, an interface after the other (AT-SPI2's interface files): of a member the
+-- signatures of what it takes and of what it gives, of a property its type.
 use Rattle.std.specs.Prelude.{ℕ, Bool, true, false, List, [], ◌∷◌, ◌++◌, codes}
 use Rattle.atspi_protocol.specs.members.Interfaces as names
 use Rattle.atspi_protocol.specs.declared.members.member.ObjectMember.{ObjectMember}

@@ -1,10 +1,12 @@
--- What the values in a body say, read one after the other (AT-SPI2: a reference is `(so)`, and the arguments of an event are `siiv` and more).
+-- What the values in a body say, read one after the other (AT-SPI2: a reference is `(so)`, and the arguments of an
+-- event are `siiv` and more).
 use Rattle.std.specs.Prelude.{ℕ, ℤ, List, [], ◌∷◌, map, Option, Some, None, option_and_then}
 use Rattle.std.specs.Int.{w32, cast_signed}
 use Rattle.atspi_types.specs.Kinds.{text, number, i32, u32}
-use Rattle.atspi_types.specs.Data.{Data, values_in, items_of, types_of, number_data, text_data, path_data, array_data, structure_data, variant_data}
+use Rattle.atspi_types.specs.Data.{Data, values_in, items_of, types_of, number_data, text_data, path_data, array_data}
+use Rattle.atspi_types.specs.Data.{structure_data, variant_data}
 use Rattle.atspi_types.specs.Signatures.{signature_bytes}
-use Rattle.atspi_forest.specs.declared.news.Reference.{Reference}
+use Rattle.atspi_tree_model.specs.declared.news.Reference.{Reference}
 
 -- the signature of a body
 abbrev pub signature_of : List Data → List ℕ
@@ -14,7 +16,8 @@ signature_of body = signature_bytes (types_of (items_of body))
 abbrev pub signed : ℕ → ℤ
 signed bits = cast_signed w32 bits
 
--- What is made of the next value, where it is a text, and of those behind it; where it is none, nothing is made. The others are alike.
+-- What is made of the next value, where it is a text, and of those behind it; where it is none, nothing is made. The
+-- others are alike.
 abbrev pub then_text : {A : Type 0} → (List ℕ → List Data → Option A) → List Data → Option A
 then_text made (text_data characters ∷ values) = made characters values
 then_text made values = None
@@ -79,4 +82,9 @@ pub record Event : Type 0 where
 
 -- an event is read where the first four arguments are a text, two numbers and a variant; what follows them is ignored
 abbrev pub event_in : List Data → Option Event
-event_in = then_text (λ minor. then_signed (λ one. then_signed (λ two. then_variant (λ value more. Some (record { minor = minor; detail1 = one; detail2 = two; value = value })))))
+event_in =
+    then_text
+    (λ minor. then_signed
+    (λ one. then_signed
+    (λ two. then_variant
+    (λ value more. Some (record { minor = minor; detail1 = one; detail2 = two; value = value })))))

@@ -1,7 +1,8 @@
 -- Words for worked cases.
 use Rattle.std.specs.Prelude.{ℕ, List, [], ◌∷◌, Some, None, codes}
 use Rattle.atspi_types.specs.Kinds.{Kind, i32, u32, text, number, variant}
-use Rattle.atspi_types.specs.Data.{Data, items_of, number_data, text_data, path_data, array_data, structure_data, variant_data, dictionary_data, no_entries, type_of}
+use Rattle.atspi_types.specs.Data.{Data, items_of, number_data, text_data, path_data, array_data, structure_data}
+use Rattle.atspi_types.specs.Data.{variant_data, dictionary_data, no_entries, type_of}
 use Rattle.atspi_types.specs.declared.fault.Order.TheVariants.{Little}
 use Rattle.atspi_message.specs.Envelope.{Envelope}
 use Rattle.atspi_protocol.specs.news.NewsOf.{event_interface}
@@ -40,8 +41,10 @@ words_data words = array_data (number u32) (items_of words)
 
 abbrev pub item : List Data → Data
 item words = structure_data (items_of (
-    reference (codes ":1.7") (codes "/a") ∷ (reference (codes ":1.7") (codes "/r") ∷ (reference (codes ":1.7") (codes "/r")
-    ∷ (number_data i32 1 ∷ (number_data i32 0 ∷ (array_data text (items_of (text_data (codes "org.a11y.atspi.Accessible") ∷ []))
+    reference (codes ":1.7") (codes "/a")
+    ∷ (reference (codes ":1.7") (codes "/r") ∷ (reference (codes ":1.7") (codes "/r")
+    ∷ (number_data i32 1
+    ∷ (number_data i32 0 ∷ (array_data text (items_of (text_data (codes "org.a11y.atspi.Accessible") ∷ []))
     ∷ (text_data (codes "OK") ∷ (number_data u32 43 ∷ (text_data (codes "Does it") ∷ (words_data words ∷ [])))))))))))
 
 -- its type

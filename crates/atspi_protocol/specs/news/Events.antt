@@ -1,11 +1,13 @@
 -- The news in an application's events (AT-SPI2, interface Event.Object), a line for each.
-use Rattle.std.specs.Prelude.{ℕ, ◌+◌, ◌==◌, not, ℤ, pos, negsuc, Bool, true, List, [], ◌∷◌, length, take, Option, Some, None, codes, bytes_eq, if◌then◌else◌}
+use Rattle.std.specs.Prelude.{ℕ, ◌+◌, ◌==◌, not, ℤ, pos, negsuc, Bool, true, List, [], ◌∷◌, length, take, Option, Some}
+use Rattle.std.specs.Prelude.{None, codes, bytes_eq, if◌then◌else◌}
 use Rattle.atspi_types.specs.Kinds.{i32, u32}
 use Rattle.atspi_types.specs.Data.{Data, number_data, text_data}
 use Rattle.atspi_tables.specs.States.{state_names}
-use Rattle.atspi_forest.specs.declared.news.Reference.{Reference}
-use Rattle.atspi_forest.specs.declared.news.News.{News}
-use Rattle.atspi_forest.specs.declared.news.News.TheVariants.{ChildAdded, ChildRemoved, Name, Description, Role, State, Inserted, Deleted, Caret, Nothing}
+use Rattle.atspi_tree_model.specs.declared.news.Reference.{Reference}
+use Rattle.atspi_tree_model.specs.declared.news.News.{News}
+use Rattle.atspi_tree_model.specs.declared.news.News.TheVariants.{ChildAdded, ChildRemoved, Name, Description, Role}
+use Rattle.atspi_tree_model.specs.declared.news.News.TheVariants.{State, Inserted, Deleted, Caret, Nothing}
 use Rattle.atspi_protocol.specs.news.Arguments.{Event, reference_in, signed}
 
 -- whether a text begins with a word
@@ -67,7 +69,8 @@ is_on (negsuc detail) = true
 -- the state with this name; `default` is another name of `is-default`
 abbrev pub state_changed : List ℕ → Event → News
 state_changed path e =
-    named_in ((codes "default", State path 39 (is_on e.detail1)) ∷ state_lines 0 state_names path (is_on e.detail1)) e.minor
+    named_in ((codes "default", State path 39 (is_on e.detail1)) ∷ state_lines 0 state_names path (is_on e.detail1))
+    e.minor
 
 -- text was put in or taken out, where the minor event begins so
 abbrev pub text_changed : List ℕ → Event → News

@@ -1,8 +1,8 @@
 -- What a reader reads in a message of an application that it holds.
 use Rattle.std.specs.Prelude.{ℕ, ◌==◌, List, [], Option, Some, None, codes, bytes_eq, if◌then◌else◌}
 use Rattle.atspi_message.specs.Envelope.{Envelope}
-use Rattle.atspi_forest.specs.declared.news.News.{News}
-use Rattle.atspi_forest.specs.declared.news.News.TheVariants.{Nothing}
+use Rattle.atspi_tree_model.specs.declared.news.News.{News}
+use Rattle.atspi_tree_model.specs.declared.news.News.TheVariants.{Nothing}
 use Rattle.atspi_protocol.specs.news.Arguments.{Event, event_in}
 use Rattle.atspi_protocol.specs.news.Events.{event_news}
 use Rattle.atspi_protocol.specs.news.CacheSignals.{cache_news}
@@ -24,7 +24,8 @@ abbrev pub if_event : List ℕ → Option (List ℕ) → List ℕ → Option Eve
 if_event bus (Some path) member (Some e) = event_news bus path member e
 if_event bus path member e = Nothing
 
--- A signal is read by its interface and member, and an event by its path too; bus is the application's name. Any other message is no news.
+-- A signal is read by its interface and member, and an event by its path too; bus is the application's name. Any other
+-- message is no news.
 abbrev pub news_of : List ℕ → Envelope → News
 news_of bus e =
     if e.kind == 4 then

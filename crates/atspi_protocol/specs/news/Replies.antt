@@ -1,11 +1,12 @@
 -- What the replies to a reader's own calls say (AT-SPI2, GetItems, GetText, and Get of CaretOffset and of NColumns).
-use Rattle.std.specs.Prelude.{ℕ, ◌==◌, ℤ, pos, negsuc, List, [], ◌∷◌, Option, Some, None, codes, bytes_eq, if◌then◌else◌}
+use Rattle.std.specs.Prelude.{ℕ, ◌==◌, ℤ, pos, negsuc, List, [], ◌∷◌, Option, Some, None, codes, bytes_eq}
+use Rattle.std.specs.Prelude.{if◌then◌else◌}
 use Rattle.atspi_types.specs.Kinds.{i32}
 use Rattle.atspi_types.specs.Data.{Data, values_in, number_data, text_data, array_data, variant_data}
 use Rattle.atspi_message.specs.Envelope.{Envelope}
-use Rattle.atspi_forest.specs.declared.news.Item.{Item}
-use Rattle.atspi_forest.specs.declared.news.News.{News}
-use Rattle.atspi_forest.specs.declared.news.News.TheVariants.{TextIs, CaretIs, ColumnsIs}
+use Rattle.atspi_tree_model.specs.declared.news.Item.{Item}
+use Rattle.atspi_tree_model.specs.declared.news.News.{News}
+use Rattle.atspi_tree_model.specs.declared.news.News.TheVariants.{TextIs, CaretIs, ColumnsIs}
 use Rattle.atspi_protocol.specs.declared.news.part.PartName.{PartName}
 use Rattle.atspi_protocol.specs.declared.news.part.PartName.TheVariants.{Text, Caret, Columns}
 use Rattle.atspi_protocol.specs.news.Arguments.{signature_of, signed}
@@ -32,7 +33,8 @@ items_signature = codes "a((so)(so)(so)iiassusau)"
 -- the items that a reply to GetItems tells; a misformed one, or an error, tells none
 abbrev pub items_told : Envelope → Option (List Item)
 items_told e =
-    if e.kind == 2 then (if bytes_eq (signature_of e.body) items_signature then Some (items_among (elements_of e.body)) else None)
+    if e.kind == 2
+    then (if bytes_eq (signature_of e.body) items_signature then Some (items_among (elements_of e.body)) else None)
     else None
 
 -- a number that is told is not negative
@@ -44,7 +46,8 @@ if_not_negative (negsuc x) news = None
 abbrev pub part_in : PartName → List ℕ → List Data → Option News
 part_in Text path (text_data characters ∷ []) = Some (TextIs path characters)
 part_in Caret path (variant_data kind (number_data i32 x) ∷ []) = if_not_negative (signed x) (CaretIs path (signed x))
-part_in Columns path (variant_data kind (number_data i32 x) ∷ []) = if_not_negative (signed x) (ColumnsIs path (signed x))
+part_in Columns path (variant_data kind (number_data i32 x) ∷ []) =
+    if_not_negative (signed x) (ColumnsIs path (signed x))
 part_in part path body = None
 
 -- the part that a reply tells; a misformed one, or an error, tells none

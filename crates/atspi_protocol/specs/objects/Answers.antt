@@ -1,25 +1,51 @@
 -- What an application answers to a call, and what the call changes: a line for each member (AT-SPI2's interface files).
-use Rattle.std.specs.Prelude.{ℕ, ℤ, ◌/◌, ◌%◌, true, false, List, [], ◌∷◌, map, length, Option, None, Some, codes, Result, Ok, Err}
+use Rattle.std.specs.Prelude.{ℕ, ℤ, ◌/◌, ◌%◌, true, false, List, [], ◌∷◌, map, length, Option, None, Some, codes}
+use Rattle.std.specs.Prelude.{Result, Ok, Err}
 use Rattle.atspi_types.specs.Kinds.{text, structure, variant, kinds_of, u32}
-use Rattle.atspi_types.specs.Data.{Data, number_data, boolean_data, text_data, array_data, dictionary_data, structure_data, items_of, entries_of}
-use Rattle.atspi_forest.specs.declared.edit.Edit.TheVariants.{Put, Cut, Caret, Mark, Select, Deselect, Press}
-use Rattle.atspi_forest.specs.declared.step.Step.{Step}
-use Rattle.atspi_forest.specs.Row.{TreeRow}
-use Rattle.atspi_forest.specs.Announce.{items}
+use Rattle.atspi_types.specs.Data.{Data, number_data, boolean_data, text_data, array_data, dictionary_data}
+use Rattle.atspi_types.specs.Data.{structure_data, items_of, entries_of}
+use Rattle.atspi_tree_model.specs.declared.edit.Edit.TheVariants.{Put, Cut, Caret, Mark, Select, Deselect, Press}
+use Rattle.atspi_tree_model.specs.declared.step.Step.{Step}
+use Rattle.atspi_tree_model.specs.Row.{TreeRow}
+use Rattle.atspi_tree_model.specs.Announce.{items}
 use Rattle.atspi_protocol.specs.ends.Places.{registry, root_path}
 use Rattle.atspi_protocol.specs.ends.Messages.{Reply, returns, fails}
 use Rattle.atspi_protocol.specs.declared.members.member.ObjectMember.{ObjectMember}
-use Rattle.atspi_protocol.specs.declared.members.member.ObjectMember.TheVariants.{GetChildAtIndex, GetChildren, GetIndexInParent, GetRelationSet, GetRole, GetRoleName, GetLocalizedRoleName, GetState, GetAttributes, GetApplication, GetInterfaces, GetLocale, GetItems, GetText, SetCaretOffset, GetCharacterAtOffset, GetNSelections, GetSelection, AddSelection, RemoveSelection, SetSelection, SetTextContents, InsertText, DeleteText, GetSelectedChild, SelectChild, DeselectChild, DeselectSelectedChild, IsChildSelected, SelectAll, ClearSelection, GetAccessibleAt, GetIndexAt, GetRowAtIndex, GetColumnAtIndex, GetSelectedRows, IsRowSelected, IsSelected, GetName, GetDescription, GetKeyBinding, GetActions, DoAction, Ping}
+use Rattle.atspi_protocol.specs.declared.members.member.ObjectMember.TheVariants.{GetChildAtIndex, GetChildren}
+use Rattle.atspi_protocol.specs.declared.members.member.ObjectMember.TheVariants.{GetIndexInParent, GetRelationSet}
+use Rattle.atspi_protocol.specs.declared.members.member.ObjectMember.TheVariants.{GetRole, GetRoleName}
+use Rattle.atspi_protocol.specs.declared.members.member.ObjectMember.TheVariants.{GetLocalizedRoleName, GetState}
+use Rattle.atspi_protocol.specs.declared.members.member.ObjectMember.TheVariants.{GetAttributes, GetApplication}
+use Rattle.atspi_protocol.specs.declared.members.member.ObjectMember.TheVariants.{GetInterfaces, GetLocale, GetItems}
+use Rattle.atspi_protocol.specs.declared.members.member.ObjectMember.TheVariants.{GetText, SetCaretOffset}
+use Rattle.atspi_protocol.specs.declared.members.member.ObjectMember.TheVariants.{GetCharacterAtOffset, GetNSelections}
+use Rattle.atspi_protocol.specs.declared.members.member.ObjectMember.TheVariants.{GetSelection, AddSelection}
+use Rattle.atspi_protocol.specs.declared.members.member.ObjectMember.TheVariants.{RemoveSelection, SetSelection}
+use Rattle.atspi_protocol.specs.declared.members.member.ObjectMember.TheVariants.{SetTextContents, InsertText}
+use Rattle.atspi_protocol.specs.declared.members.member.ObjectMember.TheVariants.{DeleteText, GetSelectedChild}
+use Rattle.atspi_protocol.specs.declared.members.member.ObjectMember.TheVariants.{SelectChild, DeselectChild}
+use Rattle.atspi_protocol.specs.declared.members.member.ObjectMember.TheVariants.{DeselectSelectedChild}
+use Rattle.atspi_protocol.specs.declared.members.member.ObjectMember.TheVariants.{IsChildSelected, SelectAll}
+use Rattle.atspi_protocol.specs.declared.members.member.ObjectMember.TheVariants.{ClearSelection, GetAccessibleAt}
+use Rattle.atspi_protocol.specs.declared.members.member.ObjectMember.TheVariants.{GetIndexAt, GetRowAtIndex}
+use Rattle.atspi_protocol.specs.declared.members.member.ObjectMember.TheVariants.{GetColumnAtIndex, GetSelectedRows}
+use Rattle.atspi_protocol.specs.declared.members.member.ObjectMember.TheVariants.{IsRowSelected, IsSelected, GetName}
+use Rattle.atspi_protocol.specs.declared.members.member.ObjectMember.TheVariants.{GetDescription, GetKeyBinding}
+use Rattle.atspi_protocol.specs.declared.members.member.ObjectMember.TheVariants.{GetActions, DoAction, Ping}
 use Rattle.atspi_protocol.specs.members.Arguments.{text_at, signed_at, signed_in}
 use Rattle.atspi_protocol.specs.members.Asked.{Asked, calls, gets, gets_all, sets, asked}
 use Rattle.atspi_protocol.specs.objects.Application.{Application}
-use Rattle.atspi_protocol.specs.objects.Values.{count_data, in_variant, texts_data, node_reference, reference_or_null, references_data, role_name, words_data, item_kind, item_data}
+use Rattle.atspi_protocol.specs.objects.Values.{count_data, in_variant, texts_data, node_reference, reference_or_null}
+use Rattle.atspi_protocol.specs.objects.Values.{references_data, role_name, words_data, item_kind, item_data}
 use Rattle.atspi_protocol.specs.objects.Places.{Place, node, whole_tree, place_at, offered_if_there, node_interfaces}
-use Rattle.atspi_protocol.specs.objects.Children.{at, children_of, selected_children, is_there_selected, index_data, relations_data}
+use Rattle.atspi_protocol.specs.objects.Children.{at, children_of, selected_children, is_there_selected, index_data}
+use Rattle.atspi_protocol.specs.objects.Children.{relations_data}
 use Rattle.atspi_protocol.specs.objects.Texts.{text_of, part_of, character_data, selection_data}
-use Rattle.atspi_protocol.specs.objects.Tables.{cell_index, cell_at, index_or_none, in_cells, is_row_selected, selected_rows}
+use Rattle.atspi_protocol.specs.objects.Tables.{cell_index, cell_at, index_or_none, in_cells, is_row_selected}
+use Rattle.atspi_protocol.specs.objects.Tables.{selected_rows}
 use Rattle.atspi_protocol.specs.objects.Properties.{property_data, properties_data}
-use Rattle.atspi_protocol.specs.objects.Changes.{edited_at, edited_between, text_exchanged, selection_removed, selection_set, selected_child_off, all_selected, none_selected}
+use Rattle.atspi_protocol.specs.objects.Changes.{edited_at, edited_between, text_exchanged, selection_removed}
+use Rattle.atspi_protocol.specs.objects.Changes.{selection_set, selected_child_off, all_selected, none_selected}
 
 -- the reply, the steps that are done before it, and the number of the application after it
 pub record Answer : Type 0 where
@@ -54,7 +80,8 @@ actions_data names =
 
 -- the items of all nodes
 abbrev pub items_data : Application → Data
-items_data a = array_data item_kind (items_of (map item_data (items a.name (record { bus = registry; path = root_path }) a.tree)))
+items_data a =
+    array_data item_kind (items_of (map item_data (items a.name (record { bus = registry; path = root_path }) a.tree)))
 
 -- the line of each member of a node, with the arguments of the call
 abbrev pub called : Application → TreeRow → ObjectMember → List Data → Answer
@@ -75,17 +102,20 @@ called a row SetCaretOffset body = changes a (edited_at a (Caret row.shape.node)
 called a row GetCharacterAtOffset body = tells a (character_data (at (signed_at 0 body) (text_of row).characters))
 called a row GetNSelections body = tells a (count_data (length (text_of row).selections))
 called a row GetSelection body = tells_all a (selection_data (at (signed_at 0 body) (text_of row).selections))
-called a row AddSelection body = changes a (edited_between a (Mark row.shape.node) (signed_at 0 body) (signed_at 1 body))
+called a row AddSelection body =
+    changes a (edited_between a (Mark row.shape.node) (signed_at 0 body) (signed_at 1 body))
 called a row RemoveSelection body = changes a (selection_removed row (signed_at 0 body))
 called a row SetSelection body = changes a (selection_set row (signed_at 0 body) (signed_at 1 body) (signed_at 2 body))
 called a row SetTextContents body = changes a (text_exchanged a row (text_at 0 body))
-called a row InsertText body = changes a (edited_at a (λ place. Put row.shape.node place (text_at 1 body)) (signed_at 0 body))
+called a row InsertText body =
+    changes a (edited_at a (λ place. Put row.shape.node place (text_at 1 body)) (signed_at 0 body))
 called a row DeleteText body = changes a (edited_between a (Cut row.shape.node) (signed_at 0 body) (signed_at 1 body))
 called a row GetSelectedChild body = tells a (reference_or_null a (at (signed_at 0 body) (selected_children a row)))
 called a row SelectChild body = changes a (edited_at a (Select row.shape.node) (signed_at 0 body))
 called a row DeselectChild body = changes a (edited_at a (Deselect row.shape.node) (signed_at 0 body))
 called a row DeselectSelectedChild body = changes a (selected_child_off a row (signed_at 0 body))
-called a row IsChildSelected body = tells a (boolean_data (is_there_selected (at (signed_at 0 body) (children_of a row))))
+called a row IsChildSelected body =
+    tells a (boolean_data (is_there_selected (at (signed_at 0 body) (children_of a row))))
 called a row SelectAll body = changes a (all_selected a row)
 called a row ClearSelection body = changes a (Some (none_selected a row))
 called a row GetAccessibleAt body = tells a (reference_or_null a (cell_at a row (signed_at 0 body) (signed_at 1 body)))
@@ -94,7 +124,8 @@ called a row GetRowAtIndex body = tells a (in_cells a row (λ i columns. i / col
 called a row GetColumnAtIndex body = tells a (in_cells a row (λ i columns. i % columns) (signed_at 0 body))
 called a row GetSelectedRows body = tells a (selected_rows a row)
 called a row IsRowSelected body = tells a (boolean_data (is_row_selected a row (signed_at 0 body)))
-called a row IsSelected body = tells a (boolean_data (is_there_selected (cell_at a row (signed_at 0 body) (signed_at 1 body))))
+called a row IsSelected body =
+    tells a (boolean_data (is_there_selected (cell_at a row (signed_at 0 body) (signed_at 1 body))))
 called a row GetName body = tells a (name_data (at (signed_at 0 body) row.contents.actions))
 called a row GetDescription body = tells a (text_data [])
 called a row GetKeyBinding body = tells a (text_data [])
@@ -103,7 +134,8 @@ called a row DoAction body = changes a (edited_at a (Press row.shape.node) (sign
 called a row Ping body = tells_all a []
 called a row other body = refuses a (codes "UnknownMethod")
 
--- what is asked of a node: a member, its properties, or another number of the application, which is its one property that can be set
+-- what is asked of a node: a member, its properties, or another number of the application, which is its one property
+-- that can be set
 abbrev pub node_answers : Application → TreeRow → Asked → Answer
 node_answers a row (calls member body) = called a row member body
 node_answers a row (gets property) = tells a (in_variant (property_data a row property))

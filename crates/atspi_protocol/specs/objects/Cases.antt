@@ -1,11 +1,11 @@
 -- The application of the worked cases.
 use Rattle.std.specs.Prelude.{ℕ, ◌+◌, ℤ, pos, true, false, List, [], ◌∷◌, map, None, Some, codes}
 use Rattle.atspi_types.specs.Data.{Data, text_data}
-use Rattle.atspi_forest.specs.declared.contents.Kinds.{Kinds}
-use Rattle.atspi_forest.specs.declared.step.Step.{Step}
-use Rattle.atspi_forest.specs.Forest.{Forest, nil, tree}
-use Rattle.atspi_forest.specs.Row.{TextContents, TreeRow}
-use Rattle.atspi_forest.specs.Path.{path_of}
+use Rattle.atspi_tree_model.specs.declared.contents.Kinds.{Kinds}
+use Rattle.atspi_tree_model.specs.declared.step.Step.{Step}
+use Rattle.atspi_tree_model.specs.Forest.{Forest, nil, tree}
+use Rattle.atspi_tree_model.specs.Row.{TextContents, TreeRow}
+use Rattle.atspi_tree_model.specs.Path.{path_of}
 use Rattle.atspi_protocol.specs.ends.Places.{reference, references}
 use Rattle.atspi_protocol.specs.ends.Messages.{Reply}
 use Rattle.atspi_protocol.specs.declared.members.member.ObjectMember.{ObjectMember}

@@ -1,15 +1,18 @@
--- The steps of a call that changes the tree: those of the edit that the call names. None where that edit would be refused.
-use Rattle.std.specs.Prelude.{ℕ, ℤ, pos, negsuc, ◌==◌, ◌&&◌, not, nat_lt, nat_le, true, false, List, [], ◌∷◌, ◌++◌, map, filter, length, take, drop, suc, Option, None, Some, slice_get, if◌then◌else◌, Result, Ok, Err}
-use Rattle.atspi_forest.specs.declared.edit.Edit.{Edit}
-use Rattle.atspi_forest.specs.declared.edit.Edit.TheVariants.{Put, Cut}
-use Rattle.atspi_forest.specs.declared.edit.EditFault.{EditFault}
-use Rattle.atspi_forest.specs.declared.step.Step.{Step}
-use Rattle.atspi_forest.specs.declared.step.Step.TheVariants.{SetState, TextSelect}
-use Rattle.atspi_forest.specs.States.{has_state, multiselectable, selected}
-use Rattle.atspi_forest.specs.Row.{TreeRow}
-use Rattle.atspi_forest.specs.RowRules.{rows}
-use Rattle.atspi_forest.specs.Tree.{after_all}
-use Rattle.atspi_forest.specs.Edits.{steps_of_tree, others}
+-- The steps of a call that changes the tree: those of the edit that the call names. None where that edit would be
+-- refused.
+use Rattle.std.specs.Prelude.{ℕ, ℤ, pos, negsuc, ◌==◌, ◌&&◌, not, nat_lt, nat_le, true, false, List, [], ◌∷◌, ◌++◌, map}
+use Rattle.std.specs.Prelude.{filter, length, take, drop, suc, Option, None, Some, slice_get, if◌then◌else◌, Result, Ok}
+use Rattle.std.specs.Prelude.{Err}
+use Rattle.atspi_tree_model.specs.declared.edit.Edit.{Edit}
+use Rattle.atspi_tree_model.specs.declared.edit.Edit.TheVariants.{Put, Cut}
+use Rattle.atspi_tree_model.specs.declared.edit.EditFault.{EditFault}
+use Rattle.atspi_tree_model.specs.declared.step.Step.{Step}
+use Rattle.atspi_tree_model.specs.declared.step.Step.TheVariants.{SetState, TextSelect}
+use Rattle.atspi_tree_model.specs.States.{has_state, multiselectable, selected}
+use Rattle.atspi_tree_model.specs.Row.{TreeRow}
+use Rattle.atspi_tree_model.specs.RowRules.{rows}
+use Rattle.atspi_tree_model.specs.Tree.{after_all}
+use Rattle.atspi_tree_model.specs.Edits.{steps_of_tree, others}
 use Rattle.atspi_protocol.specs.objects.Application.{Application}
 use Rattle.atspi_protocol.specs.objects.Children.{at, children_of, selected_children, is_selected}
 use Rattle.atspi_protocol.specs.objects.Texts.{text_of}
@@ -58,7 +61,8 @@ selection_removed row (pos i) =
 -- another selection in place of the one at an index, no step where it is the same
 abbrev pub selection_set : TreeRow → ℤ → ℤ → ℤ → Option (List Step)
 selection_set row (pos i) (pos from) (pos to) =
-    if nat_lt from to && nat_le to (length (text_of row).characters) then in_place (slice_get (text_of row).selections i) else None
+    if nat_lt from to && nat_le to (length (text_of row).characters)
+    then in_place (slice_get (text_of row).selections i) else None
   where
     exchanged : List Step
     exchanged =
@@ -86,7 +90,9 @@ selected_child_off a row i = there (at i (selected_children a row))
 abbrev pub all_selected : Application → TreeRow → Option (List Step)
 all_selected a row =
     if has_state multiselectable row.shape.states
-    then Some (map (λ (child : TreeRow). SetState child.shape.node selected true) (filter (λ child. not (is_selected child)) (children_of a row)))
+    then Some
+    (map (λ (child : TreeRow). SetState child.shape.node selected true)
+    (filter (λ child. not (is_selected child)) (children_of a row)))
     else None
 
 abbrev pub none_selected : Application → TreeRow → List Step

@@ -1,15 +1,16 @@
 -- The children of a node, and those of them that are selected; indexes count from 0.
-use Rattle.std.specs.Prelude.{ℕ, ℤ, pos, negsuc, ◌==◌, Bool, false, List, [], ◌∷◌, map, filter, Option, None, Some, slice_get}
+use Rattle.std.specs.Prelude.{ℕ, ℤ, pos, negsuc, ◌==◌, Bool, false, List, [], ◌∷◌, map, filter, Option, None, Some}
+use Rattle.std.specs.Prelude.{slice_get}
 use Rattle.std.specs.List.{list_any}
 use Rattle.atspi_types.specs.Kinds.{number, u32, structure, kinds_of, array}
 use Rattle.atspi_types.specs.Data.{Data, number_data, structure_data, array_data, items_of}
-use Rattle.atspi_forest.specs.declared.limits.TheConstants.{RELATION_KINDS}
-use Rattle.atspi_forest.specs.Forest.{children_at, tops}
-use Rattle.atspi_forest.specs.States.{has_state, selected}
-use Rattle.atspi_forest.specs.Row.{TreeRow, targets_of}
-use Rattle.atspi_forest.specs.RowRules.{rows}
-use Rattle.atspi_forest.specs.Tree.{is_node, seat_of}
-use Rattle.atspi_forest.specs.Edits.{numbers_to}
+use Rattle.atspi_tree_model.specs.declared.limits.TheConstants.{RELATION_KINDS}
+use Rattle.atspi_tree_model.specs.Forest.{children_at, tops}
+use Rattle.atspi_tree_model.specs.States.{has_state, selected}
+use Rattle.atspi_tree_model.specs.Row.{TreeRow, targets_of}
+use Rattle.atspi_tree_model.specs.RowRules.{rows}
+use Rattle.atspi_tree_model.specs.Tree.{is_node, seat_of}
+use Rattle.atspi_tree_model.specs.Edits.{numbers_to}
 use Rattle.atspi_protocol.specs.ends.Places.{reference_kind, registry_root}
 use Rattle.atspi_protocol.specs.members.Arguments.{int}
 use Rattle.atspi_protocol.specs.objects.Application.{Application}

@@ -1,9 +1,9 @@
 -- Which object of an application has a path.
 use Rattle.std.specs.Prelude.{ℕ, ◌==◌, List, Option, None, Some, bytes_eq, if◌then◌else◌}
-use Rattle.atspi_forest.specs.Forest.{Forest, find}
-use Rattle.atspi_forest.specs.Row.{TreeRow}
-use Rattle.atspi_forest.specs.Path.{path_of}
-use Rattle.atspi_forest.specs.Announce.{interfaces_of}
+use Rattle.atspi_tree_model.specs.Forest.{Forest, find}
+use Rattle.atspi_tree_model.specs.Row.{TreeRow}
+use Rattle.atspi_tree_model.specs.Path.{path_of}
+use Rattle.atspi_tree_model.specs.Announce.{interfaces_of}
 use Rattle.atspi_protocol.specs.ends.Places.{cache_path}
 use Rattle.atspi_protocol.specs.members.Objects.{Object, object_with, cache_object}
 

@@ -2,9 +2,14 @@
 use Rattle.std.specs.Prelude.{List, map, length, codes, decimal}
 use Rattle.atspi_types.specs.Kinds.{text, variant}
 use Rattle.atspi_types.specs.Data.{Data, text_data, dictionary_data, entries_of}
-use Rattle.atspi_forest.specs.Row.{TreeRow}
+use Rattle.atspi_tree_model.specs.Row.{TreeRow}
 use Rattle.atspi_protocol.specs.declared.members.property.ObjectProperty.{ObjectProperty}
-use Rattle.atspi_protocol.specs.declared.members.property.ObjectProperty.TheVariants.{Name, Description, Parent, ChildCount, Locale, AccessibleId, ToolkitName, Version, AtspiVersion, Id, CharacterCount, CaretOffset, NSelectedChildren, NRows, NColumns, NActions}
+use Rattle.atspi_protocol.specs.declared.members.property.ObjectProperty.TheVariants.{Name, Description, Parent}
+use Rattle.atspi_protocol.specs.declared.members.property.ObjectProperty.TheVariants.{ChildCount, Locale, AccessibleId}
+use Rattle.atspi_protocol.specs.declared.members.property.ObjectProperty.TheVariants.{ToolkitName, Version}
+use Rattle.atspi_protocol.specs.declared.members.property.ObjectProperty.TheVariants.{AtspiVersion, Id, CharacterCount}
+use Rattle.atspi_protocol.specs.declared.members.property.ObjectProperty.TheVariants.{CaretOffset, NSelectedChildren}
+use Rattle.atspi_protocol.specs.declared.members.property.ObjectProperty.TheVariants.{NRows, NColumns, NActions}
 use Rattle.atspi_protocol.specs.members.Arguments.{int}
 use Rattle.atspi_protocol.specs.members.Table.{PropertyLine}
 use Rattle.atspi_protocol.specs.objects.Application.{Application}

@@ -1,10 +1,11 @@
 -- The cells of a table: its children, row by row. Children that make no whole row are in none.
-use Rattle.std.specs.Prelude.{ℕ, ℤ, pos, negsuc, ◌+◌, ◌*◌, ◌/◌, ◌&&◌, nat_lt, Bool, false, List, filter, length, take, drop, map, Option, None, Some, if◌then◌else◌, slice_get}
+use Rattle.std.specs.Prelude.{ℕ, ℤ, pos, negsuc, ◌+◌, ◌*◌, ◌/◌, ◌&&◌, nat_lt, Bool, false, List, filter, length, take}
+use Rattle.std.specs.Prelude.{drop, map, Option, None, Some, if◌then◌else◌, slice_get}
 use Rattle.std.specs.List.{list_all}
 use Rattle.atspi_types.specs.Kinds.{number, i32}
 use Rattle.atspi_types.specs.Data.{Data, array_data, items_of}
-use Rattle.atspi_forest.specs.Row.{TreeRow}
-use Rattle.atspi_forest.specs.Edits.{numbers_to}
+use Rattle.atspi_tree_model.specs.Row.{TreeRow}
+use Rattle.atspi_tree_model.specs.Edits.{numbers_to}
 use Rattle.atspi_protocol.specs.members.Arguments.{int}
 use Rattle.atspi_protocol.specs.objects.Application.{Application}
 use Rattle.atspi_protocol.specs.objects.Values.{count_data}

@@ -1,7 +1,8 @@
 -- The text of a node, and parts of it; places count characters from 0.
-use Rattle.std.specs.Prelude.{ℕ, ℤ, pos, negsuc, ◌-◌, nat_le, List, [], ◌∷◌, length, take, drop, Option, None, Some, if◌then◌else◌}
+use Rattle.std.specs.Prelude.{ℕ, ℤ, pos, negsuc, ◌-◌, nat_le, List, [], ◌∷◌, length, take, drop, Option, None, Some}
+use Rattle.std.specs.Prelude.{if◌then◌else◌}
 use Rattle.atspi_types.specs.Data.{Data}
-use Rattle.atspi_forest.specs.Row.{TextContents, TreeRow}
+use Rattle.atspi_tree_model.specs.Row.{TextContents, TreeRow}
 use Rattle.atspi_protocol.specs.members.Arguments.{int}
 use Rattle.atspi_protocol.specs.objects.Values.{count_data}
 
@@ -13,8 +14,8 @@ text_of row = there row.contents.text
     there None = record { characters = []; caret = 0; selections = [] }
     there (Some text) = text
 
--- The characters from one place up to another. One below 0 is the beginning as a start and the end as an end, and an end behind the
--- text is its end; where the start passes the end there are none.
+-- The characters from one place up to another. One below 0 is the beginning as a start and the end as an end, and an
+-- end behind the text is its end; where the start passes the end there are none.
 abbrev pub part_of : List ℕ → ℤ → ℤ → List ℕ
 part_of characters start end = let from = start_at start in take (end_at end - from) (drop from characters)
   where

@@ -1,12 +1,14 @@
 -- What is told of an application, as values (AT-SPI2's interface files).
-use Rattle.std.specs.Prelude.{ℕ, pos, ◌/◌, ◌%◌, ◌^◌, List, [], ◌∷◌, map, Option, None, Some, codes, slice_get, unwrap_or}
+use Rattle.std.specs.Prelude.{ℕ, pos, ◌/◌, ◌%◌, ◌^◌, List, [], ◌∷◌, map, Option, None, Some, codes, slice_get}
+use Rattle.std.specs.Prelude.{unwrap_or}
 use Rattle.atspi_types.specs.Kinds.{Kind, number, u32, i32, text, array, structure, kinds_of}
-use Rattle.atspi_types.specs.Data.{Data, number_data, text_data, array_data, structure_data, variant_data, items_of, type_of}
+use Rattle.atspi_types.specs.Data.{Data, number_data, text_data, array_data, structure_data, variant_data, items_of}
+use Rattle.atspi_types.specs.Data.{type_of}
 use Rattle.atspi_tables.specs.Roles.{role_names}
-use Rattle.atspi_forest.specs.declared.news.Reference.{Reference}
-use Rattle.atspi_forest.specs.declared.news.Item.{Item}
-use Rattle.atspi_forest.specs.Row.{TreeRow}
-use Rattle.atspi_forest.specs.Path.{path_of}
+use Rattle.atspi_tree_model.specs.declared.news.Reference.{Reference}
+use Rattle.atspi_tree_model.specs.declared.news.Item.{Item}
+use Rattle.atspi_tree_model.specs.Row.{TreeRow}
+use Rattle.atspi_tree_model.specs.Path.{path_of}
 use Rattle.atspi_protocol.specs.ends.Places.{reference, reference_kind, null_path}
 use Rattle.atspi_protocol.specs.members.Arguments.{int}
 use Rattle.atspi_protocol.specs.objects.Application.{Application}
@@ -48,7 +50,8 @@ abbrev pub words_data : ℕ → Data
 words_data states =
     array_data (number u32) (items_of (number_data u32 (states % 2 ^ 32) ∷ number_data u32 (states / 2 ^ 32) ∷ []))
 
--- an item of the list of all nodes: its object, application and parent, its index, its count of children, and what is told of it
+-- an item of the list of all nodes: its object, application and parent, its index, its count of children, and what is
+-- told of it
 abbrev pub item_kind : Kind
 item_kind =
     structure (kinds_of (
@@ -66,6 +69,7 @@ item_data item =
     structure_data (items_of (
     reference_data item.object ∷ reference_data item.application ∷ reference_data item.parent
     ∷ int item.index ∷ int item.children
-    ∷ texts_data item.interfaces ∷ text_data item.name ∷ number_data u32 item.role ∷ text_data item.description ∷ words_data item.states
+    ∷ texts_data item.interfaces ∷ text_data item.name ∷ number_data u32 item.role ∷ text_data item.description
+    ∷ words_data item.states
     ∷ []
     ))

@@ -1,8 +1,11 @@
--- What the registry does when it is called, a line for each member (AT-SPI2's registry, socket and accessible interfaces).
-use Rattle.std.specs.Prelude.{ℕ, ℤ, pos, negsuc, min, ◌+◌, List, [], ◌∷◌, ◌++◌, length, map, remove, slice_get, Option, None, Some, codes, bytes_eq, encode_utf8_all, if◌then◌else◌}
+-- What the registry does when it is called, a line for each member (AT-SPI2's registry, socket and accessible
+-- interfaces).
+use Rattle.std.specs.Prelude.{ℕ, ℤ, pos, negsuc, min, ◌+◌, List, [], ◌∷◌, ◌++◌, length, map, remove, slice_get, Option}
+use Rattle.std.specs.Prelude.{None, Some, codes, bytes_eq, encode_utf8_all, if◌then◌else◌}
 use Rattle.std.specs.List.{list_any}
 use Rattle.atspi_types.specs.Kinds.{u32, kind, no_kinds, structure, text, variant}
-use Rattle.atspi_types.specs.Data.{Data, number_data, text_data, path_data, structure_data, array_data, dictionary_data, variant_data, item, no_items, items_of, entries_of, type_of}
+use Rattle.atspi_types.specs.Data.{Data, number_data, text_data, path_data, structure_data, array_data, dictionary_data}
+use Rattle.atspi_types.specs.Data.{variant_data, item, no_items, items_of, entries_of, type_of}
 use Rattle.atspi_message.specs.Envelope.{Envelope}
 use Rattle.atspi_protocol.specs.ends.Places.{registry_path, root_path, null_path, reference, references, registry_root}
 use Rattle.atspi_protocol.specs.ends.Messages.{Reply, returns, fails}
@@ -18,8 +21,8 @@ use Rattle.atspi_protocol.specs.members.Asked.{Asked, calls, gets, gets_all, set
 use Rattle.atspi_protocol.specs.registering.RegistryState.{RegistryState, is_of, has_pair, without_pair, child_place}
 use Rattle.atspi_protocol.specs.registering.Told.{count, registered, deregistered, id_call, child_added, child_removed}
 
--- what a call does: the pairs, the children and the count of embedded roots after it; what is told before the reply; the reply; and what
--- is told behind it
+-- what a call does: the pairs, the children and the count of embedded roots after it; what is told before the reply;
+-- the reply; and what is told behind it
 pub record Answer : Type 0 where
   pub pairs : List (List ℕ × List ℕ)
   pub children : List (List ℕ × List ℕ)
@@ -30,18 +33,21 @@ pub record Answer : Type 0 where
 
 -- a reply that changes nothing
 abbrev pub only : RegistryState → Reply → Answer
-only s reply = record { pairs = s.pairs; children = s.children; embeds = s.embeds; before = []; reply = reply; behind = [] }
+only s reply =
+    record { pairs = s.pairs; children = s.children; embeds = s.embeds; before = []; reply = reply; behind = [] }
 
 -- a pattern of the caller's is kept, and told where it is new; and it is no longer kept, and that is told where it was
 abbrev pub registers : RegistryState → List ℕ → List ℕ → Answer
 registers s caller pattern =
     if has_pair s.pairs caller pattern then only s (returns [])
-    else record (only s (returns [])) { pairs = s.pairs ++ (caller, pattern) ∷ []; before = registered (caller, pattern) ∷ [] }
+    else record (only s (returns []))
+    { pairs = s.pairs ++ (caller, pattern) ∷ []; before = registered (caller, pattern) ∷ [] }
 
 abbrev pub deregisters : RegistryState → List ℕ → List ℕ → Answer
 deregisters s caller pattern =
     if has_pair s.pairs caller pattern
-    then record (only s (returns [])) { pairs = without_pair s.pairs caller pattern; before = deregistered (caller, pattern) ∷ [] }
+    then record (only s (returns []))
+    { pairs = without_pair s.pairs caller pattern; before = deregistered (caller, pattern) ∷ [] }
     else only s (returns [])
 
 -- the first argument, where it is a reference: its bus name and its path
@@ -59,7 +65,8 @@ new_child s child = record (only s (returns (registry_root ∷ []))) {
 
 -- at most once
 abbrev pub adopts : RegistryState → List ℕ × List ℕ → Answer
-adopts s child = if list_any (is_of child.0) s.children then only s (returns (registry_root ∷ [])) else new_child s child
+adopts s child = if list_any (is_of child.0) s.children then only s (returns (registry_root ∷ []))
+    else new_child s child
 
 -- the child at a place goes, if there is one, and that is told
 abbrev pub children_without : List (List ℕ × List ℕ) → Option ℕ → List (List ℕ × List ℕ)
@@ -110,17 +117,21 @@ abbrev pub as_variant : Data → Data
 as_variant d = variant_data (type_of d) d
 
 abbrev pub all_properties : RegistryState → List PropertyLine → Data
-all_properties s ls = dictionary_data text variant (entries_of (map (λ (l : PropertyLine). (text_data l.name, as_variant (property_data s l.property))) ls))
+all_properties s ls =
+    dictionary_data text variant
+    (entries_of (map (λ (l : PropertyLine). (text_data l.name, as_variant (property_data s l.property))) ls))
 
 -- the line of each member
 abbrev pub answers_member : ObjectMember → RegistryState → List ℕ → List ℕ → List Data → Answer
 answers_member members.RegisterEvent s own caller args = registers s caller (text_at 0 args)
 answers_member members.DeregisterEvent s own caller args = deregisters s caller (text_at 0 args)
 answers_member members.GetRegisteredEvents s own caller args = only s (returns (pairs_data s.pairs ∷ []))
-answers_member members.Embed s own caller args = if_own s caller (reference_in args) (adopts s (caller, (reference_in args).1))
+answers_member members.Embed s own caller args =
+    if_own s caller (reference_in args) (adopts s (caller, (reference_in args).1))
 answers_member members.Unembed s own caller args = if_own s caller (reference_in args) (releases s caller)
 answers_member members.GetChildren s own caller args = only s (returns (references s.children ∷ []))
-answers_member members.GetChildAtIndex s own caller args = only s (returns (child_at s.children own (signed_at 0 args) ∷ []))
+answers_member members.GetChildAtIndex s own caller args =
+    only s (returns (child_at s.children own (signed_at 0 args) ∷ []))
 answers_member members.GetRole s own caller args = only s (returns (number_data u32 14 ∷ []))
 answers_member members.GetRoleName s own caller args = only s (returns (text_data (codes "desktop frame") ∷ []))
 answers_member members.Ping s own caller args = only s (returns [])

@@ -21,6 +21,8 @@ pub record AreOneReply (replies : List Envelope) (caller : List ℕ) (serial : �
 
 -- Once the registry has its name, a call that expects a reply gets exactly one, and no other message gets any.
 pub record RepliesOnce : Type 0 where
-  pub expected : (s : RegistryState) (e : Envelope) (own caller : List ℕ) → s.own ≡ Some own → e.sender ≡ Some caller → expects_reply e ≡ true
+  pub expected : (s : RegistryState) (e : Envelope) (own caller : List ℕ) → s.own ≡ Some own → e.sender ≡ Some caller
+      → expects_reply e ≡ true
       → AreOneReply (replies_in (registry_takes s e).sent) caller e.serial
-  pub unexpected : (s : RegistryState) (e : Envelope) → expects_reply e ≡ false → replies_in (registry_takes s e).sent ≡ []
+  pub unexpected : (s : RegistryState) (e : Envelope) → expects_reply e ≡ false
+      → replies_in (registry_takes s e).sent ≡ []

@@ -2,9 +2,9 @@
 use Rattle.std.specs.Prelude.{◌&&◌, not, ℕ, Bool, List, [], filter, position, Option, None, bytes_eq}
 use Rattle.std.specs.List.{list_any}
 
--- The pairs of a listener's bus name and a pattern, and the children, each the bus name and the path of a root, both in order of arrival;
--- how many roots were embedded so far; the number of its call of Hello, once that is made, and its unique name, once that is told; and
--- the number of its next message.
+-- The pairs of a listener's bus name and a pattern, and the children, each the bus name and the path of a root, both in
+-- order of arrival; how many roots were embedded so far; the number of its call of Hello, once that is made, and its
+-- unique name, once that is told; and the number of its next message.
 pub record RegistryState : Type 0 where
   pub pairs : List (List ℕ × List ℕ)
   pub children : List (List ℕ × List ℕ)

@@ -1,4 +1,5 @@
--- A small registry for the worked cases: three pairs of two listeners, of which the first alone is told of children, and two children.
+-- A small registry for the worked cases: three pairs of two listeners, of which the first alone is told of children,
+-- and two children.
 use Rattle.std.specs.Prelude.{ℕ, List, [], ◌∷◌, Option, None, Some, codes}
 use Rattle.atspi_types.specs.Data.{Data, text_data}
 use Rattle.atspi_types.specs.declared.fault.Order.TheVariants.{Big}

@@ -1,5 +1,7 @@
--- What the registry does with each message that it takes (AT-SPI2's registry interface; D-Bus Specification, "Message Bus Messages").
-use Rattle.std.specs.Prelude.{◌==◌, ◌&&◌, ℕ, ◌+◌, Bool, false, List, [], ◌∷◌, ◌++◌, map, length, Option, None, Some, codes, encode_utf8_all, if◌then◌else◌, Result, Ok, Err}
+-- What the registry does with each message that it takes (AT-SPI2's registry interface; D-Bus Specification, "Message
+-- Bus Messages").
+use Rattle.std.specs.Prelude.{◌==◌, ◌&&◌, ℕ, ◌+◌, Bool, false, List, [], ◌∷◌, ◌++◌, map, length, Option, None, Some}
+use Rattle.std.specs.Prelude.{codes, encode_utf8_all, if◌then◌else◌, Result, Ok, Err}
 use Rattle.atspi_types.specs.Data.{Data, text_data}
 use Rattle.atspi_message.specs.Envelope.{Envelope}
 use Rattle.atspi_protocol.specs.ends.Places.{bus}
@@ -7,7 +9,8 @@ use Rattle.atspi_protocol.specs.ends.Messages.{fails, replies, numbered}
 use Rattle.atspi_protocol.specs.members.Asked.{Asked, asked, is_text}
 use Rattle.atspi_protocol.specs.registering.RegistryState.{RegistryState, pairs_of, pairs_without, child_place}
 use Rattle.atspi_protocol.specs.registering.Told.{hello_call, request_call, match_call, deregistered}
-use Rattle.atspi_protocol.specs.registering.Answers.{Answer, only, answers, object_at, children_without, news_of_removal}
+use Rattle.atspi_protocol.specs.registering.Answers.{Answer, only, answers, object_at, children_without}
+use Rattle.atspi_protocol.specs.registering.Answers.{news_of_removal}
 
 -- the state afterwards, and what was sent
 pub record RegistryStep : Type 0 where
@@ -42,7 +45,8 @@ name_told hello e = if e.kind == 2 && (is_from_bus e && is_reply_to hello e.repl
 -- the name that nobody owns any more, where the message is the bus's news of that
 abbrev pub name_gone : Envelope → Option (List ℕ)
 name_gone e =
-    if e.kind == 4 && (is_from_bus e && (is_text e.interface bus && is_text e.member (codes "NameOwnerChanged"))) then gone e.body
+    if e.kind == 4 && (is_from_bus e && (is_text e.interface bus && is_text e.member (codes "NameOwnerChanged")))
+    then gone e.body
     else None
   where
     gone : List Data → Option (List ℕ)
@@ -69,7 +73,8 @@ answer_to s own caller (Ok a) = answers a s own caller
 answer_to s own caller (Err word) = only s (fails word)
 
 abbrev pub called : RegistryState → List ℕ → List ℕ → Envelope → RegistryStep
-called s own caller e = answered s caller e (answer_to s own caller (asked (object_at e.path) e.interface e.member e.body))
+called s own caller e =
+    answered s caller e (answer_to s own caller (asked (object_at e.path) e.interface e.member e.body))
 
 -- before it has its name it reads nothing but that
 abbrev pub named : RegistryState → Option (List ℕ) → RegistryStep

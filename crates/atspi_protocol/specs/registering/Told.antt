@@ -4,7 +4,8 @@ use Rattle.std.specs.List.{list_any}
 use Rattle.atspi_types.specs.Kinds.{i32, u32, number, text, variant}
 use Rattle.atspi_types.specs.Data.{Data, number_data, text_data, variant_data, dictionary_data, no_entries}
 use Rattle.atspi_message.specs.Envelope.{Envelope}
-use Rattle.atspi_protocol.specs.ends.Places.{bus, bus_path, registry, registry_path, root_path, reference, reference_kind}
+use Rattle.atspi_protocol.specs.ends.Places.{bus, bus_path, registry, registry_path, root_path, reference}
+use Rattle.atspi_protocol.specs.ends.Places.{reference_kind}
 use Rattle.atspi_protocol.specs.ends.Messages.{call_to, signal_of}
 use Rattle.atspi_protocol.specs.ends.Covering.{covers}
 use Rattle.atspi_protocol.specs.members.Interfaces.{application, properties}
@@ -21,7 +22,9 @@ abbrev pub request_call : Envelope
 request_call = call_to bus bus_path bus (codes "RequestName") (text_data registry ∷ number_data u32 4 ∷ [])
 
 abbrev pub match_call : Envelope
-match_call = call_to bus bus_path bus (codes "AddMatch") (text_data (codes "type='signal',interface='org.freedesktop.DBus',member='NameOwnerChanged'") ∷ [])
+match_call =
+    call_to bus bus_path bus (codes "AddMatch")
+    (text_data (codes "type='signal',interface='org.freedesktop.DBus',member='NameOwnerChanged'") ∷ [])
 
 -- a listener is there, or no longer
 abbrev listener_signal : List ℕ → List ℕ × List ℕ → Envelope
@@ -36,17 +39,20 @@ deregistered pair = listener_signal (codes "EventListenerDeregistered") pair
 -- the call that gives an embedded root its number
 abbrev pub id_call : List ℕ × List ℕ → ℕ → Envelope
 id_call child n =
-    call_to child.0 child.1 properties (codes "Set") (text_data application ∷ text_data (codes "Id") ∷ variant_data (number i32) (count n) ∷ [])
+    call_to child.0 child.1 properties (codes "Set")
+    (text_data application ∷ text_data (codes "Id") ∷ variant_data (number i32) (count n) ∷ [])
 
 -- a child came to an index, or went from there
 abbrev pub children_changed : List ℕ → ℕ → List ℕ × List ℕ → Envelope
 children_changed minor index child =
     signal_of root_path (codes "org.a11y.atspi.Event.Object") (codes "ChildrenChanged")
-    (text_data minor ∷ count index ∷ count 0 ∷ variant_data reference_kind (reference child.0 child.1) ∷ dictionary_data text variant no_entries ∷ [])
+    (text_data minor ∷ count index ∷ count 0 ∷ variant_data reference_kind (reference child.0 child.1)
+    ∷ dictionary_data text variant no_entries ∷ [])
 
 -- some pair covers news of children with this minor word
 abbrev pub is_asked_for : List (List ℕ × List ℕ) → List ℕ → Bool
-is_asked_for pairs minor = list_any (λ (p : List ℕ × List ℕ). covers (encode_utf8_all p.1) (codes "children-changed") minor) pairs
+is_asked_for pairs minor =
+    list_any (λ (p : List ℕ × List ℕ). covers (encode_utf8_all p.1) (codes "children-changed") minor) pairs
 
 -- news of children, only while some pair covers it
 abbrev news_of_child : List ℕ → List (List ℕ × List ℕ) → ℕ → List ℕ × List ℕ → List Envelope

@@ -17,4 +17,5 @@ minor_in ds = []
 -- each news of children among the messages is one that some of the pairs asks for
 abbrev pub AllAskedFor : List (List ℕ × List ℕ) → List Envelope → Type 0
 AllAskedFor pairs [] = Unit {0}
-AllAskedFor pairs (e ∷ es) = (is_children_news e ≡ true → is_asked_for pairs (minor_in e.body) ≡ true) × AllAskedFor pairs es
+AllAskedFor pairs (e ∷ es) = (is_children_news e ≡ true → is_asked_for pairs (minor_in e.body) ≡ true)
+    × AllAskedFor pairs es

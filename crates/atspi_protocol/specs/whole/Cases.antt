@@ -1,10 +1,10 @@
 -- A small tree and its faces.
 use Rattle.std.specs.Prelude.{ℕ, true, false, [], ◌∷◌, codes}
 use Rattle.std.specs.FinMap.{empty, insert}
-use Rattle.atspi_forest.specs.declared.contents.Kinds.{Kinds}
-use Rattle.atspi_forest.specs.declared.contents.FaceData.TheVariants.{Chars, Grid, Deeds}
-use Rattle.atspi_forest.specs.Forest.{Forest, nil, tree}
-use Rattle.atspi_forest.specs.Row.{ShapeRow}
+use Rattle.atspi_tree_model.specs.declared.contents.Kinds.{Kinds}
+use Rattle.atspi_tree_model.specs.declared.contents.FaceData.TheVariants.{Chars, Grid, Deeds}
+use Rattle.atspi_tree_model.specs.Forest.{Forest, nil, tree}
+use Rattle.atspi_tree_model.specs.Row.{ShapeRow}
 use Rattle.atspi_protocol.specs.whole.Whole.{Faces}
 
 -- a node of this number with these interfaces

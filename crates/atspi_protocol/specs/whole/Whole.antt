@@ -1,17 +1,17 @@
--- A whole tree: its shape, which the tree keeps, and the contents of its nodes, which three faces keep, one for texts, one for columns and
--- one for actions.
+-- A whole tree: its shape, which the tree keeps, and the contents of its nodes, which three faces keep, one for texts,
+-- one for columns and one for actions.
 use Rattle.std.specs.Prelude.{◌≡◌, ℕ, false, List, [], ◌∷◌, map, length, Option, None, Some}
 use Rattle.std.specs.FinMap.{get, insert, remove}
-use Rattle.atspi_forest.specs.declared.contents.FaceData.{FaceData}
-use Rattle.atspi_forest.specs.declared.contents.FaceData.TheVariants.{Chars, Grid, Deeds}
-use Rattle.atspi_forest.specs.declared.step.Step.{Step}
-use Rattle.atspi_forest.specs.declared.step.Step.TheVariants.{Add, Remove, Insert, Delete, Caret, TextSelect}
-use Rattle.atspi_forest.specs.Forest.{Forest, labels, has, pick, relabel}
-use Rattle.atspi_forest.specs.Row.{ShapeRow, TextContents, Contents, TreeRow}
-use Rattle.atspi_forest.specs.Tree.{is_shape}
-use Rattle.atspi_face.specs.declared.change.Change.{Change}
-use Rattle.atspi_face.specs.declared.change.Change.TheVariants as changes
-use Rattle.atspi_face.specs.Nodes.{Nodes, changed_at}
+use Rattle.atspi_tree_model.specs.declared.contents.FaceData.{FaceData}
+use Rattle.atspi_tree_model.specs.declared.contents.FaceData.TheVariants.{Chars, Grid, Deeds}
+use Rattle.atspi_tree_model.specs.declared.step.Step.{Step}
+use Rattle.atspi_tree_model.specs.declared.step.Step.TheVariants.{Add, Remove, Insert, Delete, Caret, TextSelect}
+use Rattle.atspi_tree_model.specs.Forest.{Forest, labels, has, pick, relabel}
+use Rattle.atspi_tree_model.specs.Row.{ShapeRow, TextContents, Contents, TreeRow}
+use Rattle.atspi_tree_model.specs.Tree.{is_shape}
+use Rattle.atspi_faces.specs.declared.face.change.Change.{Change}
+use Rattle.atspi_faces.specs.declared.face.change.Change.TheVariants as changes
+use Rattle.atspi_faces.specs.face.Nodes.{Nodes, changed_at}
 
 -- what each face has of each node
 pub record Faces : Type 0 where

@@ -5,9 +5,9 @@ ghost use Rattle.std.specs.List.{before_first, after_first};
 ghost use Rattle.atspi_protocol.specs.ends.Covering as covering;
 ghost use Rattle.atspi_protocol.specs.ends.Covering.{compared, is_colon, lowered};
 
-/// Whether a pattern, of the form `class:name:minor`, covers an event of the class `object` with this name and minor word. Dashes and
-/// whether letters are small do not count; a part that is missing or empty covers all, and parts behind the third say nothing. It takes
-/// no memory.
+/// Whether a pattern, of the form `class:name:minor`, covers an event of the class `object` with this name and minor
+/// word. Dashes and whether letters are small do not count; a part that is missing or empty covers all, and parts
+/// behind the third say nothing. It takes no memory.
 pub fn covers(pattern: &str, name: &str, minor: &str) -> bool
     ensures { result ≡ covering.covers pattern.now name.now minor.now }
 {

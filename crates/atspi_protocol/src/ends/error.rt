@@ -5,7 +5,8 @@ ghost use Rattle.atspi_base.specs.Text.{HasNoZero};
 ghost use Rattle.atspi_base.specs.valid_names.Names.{is_interface};
 ghost use Rattle.atspi_protocol.specs.ends.Messages.{error_word};
 
-/// Why a call of an object of an application or of the registry is refused (D-Bus Specification, "Standard Interfaces").
+/// Why a call of an object of an application or of the registry is refused (D-Bus Specification, "Standard
+/// Interfaces").
 #[derive(Clone, Copy, Debug, PartialEq, Eq)]
 pub enum CallError {
     UnknownObject,

@@ -1,12 +1,13 @@
-//! Worked cases, with the values worked out by hand. Each case is a clause of a function without a body. So a definition that says
-//! otherwise is refused here.
+//! Worked cases, with the values worked out by hand. Each case is a clause of a function without a body. So a
+//! definition that says otherwise is refused here.
 
 ghost use Rattle.std.specs.Prelude.{◌≡◌, ◌∷◌, [], true, false, None, Some, codes};
 ghost use Rattle.atspi_types.specs.Kinds.{Kind, kind, no_kinds, structure, text, path};
 ghost use Rattle.atspi_types.specs.Data.{text_data, path_data, structure_data, array_data, item, no_items};
 ghost use Rattle.atspi_types.specs.declared.fault.Order.TheVariants as order;
 ghost use Rattle.atspi_protocol.specs.ends.Places.{reference, references};
-ghost use Rattle.atspi_protocol.specs.ends.Messages.{call_to, signal_of, return_to, error_to, error_word, returns, fails, reply_to, expects_reply, replies, numbered, posted};
+ghost use Rattle.atspi_protocol.specs.ends.Messages.{call_to, signal_of, return_to, error_to, error_word, returns};
+ghost use Rattle.atspi_protocol.specs.ends.Messages.{fails, reply_to, expects_reply, replies, numbered, posted};
 ghost use Rattle.atspi_protocol.specs.ends.Covering.{covers};
 
 use crate::ends::CallError;
@@ -16,14 +17,18 @@ pub fn patterns()
     ensures whole { covers (codes "object:state-changed:focused") (codes "state-changed") (codes "focused") ≡ true }
     ensures without_minor { covers (codes "object:state-changed") (codes "state-changed") (codes "focused") ≡ true }
     ensures capitals { covers (codes "Object:StateChanged:Focused") (codes "state-changed") (codes "focused") ≡ true }
-    ensures another_minor { covers (codes "object:state-changed:checked") (codes "state-changed") (codes "focused") ≡ false }
-    ensures another_name { covers (codes "object:text-changed:focused") (codes "state-changed") (codes "focused") ≡ false }
-    ensures another_class { covers (codes "window:state-changed:focused") (codes "state-changed") (codes "focused") ≡ false }
+    ensures another_minor { covers (codes "object:state-changed:checked") (codes "state-changed") (codes "focused")
+        ≡ false }
+    ensures another_name { covers (codes "object:text-changed:focused") (codes "state-changed") (codes "focused")
+        ≡ false }
+    ensures another_class { covers (codes "window:state-changed:focused") (codes "state-changed") (codes "focused")
+        ≡ false }
     ensures empty { covers [] (codes "state-changed") (codes "focused") ≡ true }
     ensures class_alone { covers (codes "object") (codes "state-changed") (codes "focused") ≡ true }
     ensures empty_parts { covers (codes "::focused") (codes "state-changed") (codes "focused") ≡ true }
     ensures empty_minor { covers (codes "object:state-changed:") (codes "state-changed") (codes "focused") ≡ true }
-    ensures fourth_part { covers (codes "object:state-changed:focused:more") (codes "state-changed") (codes "focused") ≡ true }
+    ensures fourth_part { covers (codes "object:state-changed:focused:more") (codes "state-changed") (codes "focused")
+        ≡ true }
     ensures no_minor_word { covers (codes "object:text-caret-moved") (codes "text-caret-moved") [] ≡ true }
     ensures minor_of_none { covers (codes "object:text-caret-moved:x") (codes "text-caret-moved") [] ≡ false }
     ensures dash_alone { covers (codes "object:-") (codes "state-changed") (codes "focused") ≡ false }
@@ -36,9 +41,12 @@ pub fn patterns()
 
 /// References, alone and in an array.
 pub fn places()
-    ensures one { reference (codes ":1.1") (codes "/a") ≡ structure_data (item (text_data (codes ":1.1")) (item (path_data (codes "/a")) no_items)) }
+    ensures one { reference (codes ":1.1") (codes "/a")
+        ≡ structure_data (item (text_data (codes ":1.1")) (item (path_data (codes "/a")) no_items)) }
     ensures none { references [] ≡ array_data (structure (kind text (kind path no_kinds))) no_items }
-    ensures some { references ((codes ":1.1", codes "/a") ∷ []) ≡ array_data (structure (kind text (kind path no_kinds))) (item (reference (codes ":1.1") (codes "/a")) no_items) }
+    ensures some { references ((codes ":1.1", codes "/a") ∷ [])
+        ≡ array_data (structure (kind text (kind path no_kinds)))
+        (item (reference (codes ":1.1") (codes "/a")) no_items) }
 {}
 
 /// A call has no flags and a destination, a signal the flag and no destination.
@@ -107,19 +115,25 @@ pub fn answers()
           sender = None;
           body = text_data (codes "InvalidArgs") ∷ [];
         } }
-    ensures words { error_word CallError.UnknownObject ∷ error_word CallError.UnknownInterface ∷ error_word CallError.UnknownMethod ∷ error_word CallError.UnknownProperty ∷ error_word CallError.PropertyReadOnly ∷ []
-        ≡ codes "UnknownObject" ∷ codes "UnknownInterface" ∷ codes "UnknownMethod" ∷ codes "UnknownProperty" ∷ codes "PropertyReadOnly" ∷ [] }
+    ensures words { error_word CallError.UnknownObject ∷ error_word CallError.UnknownInterface
+        ∷ error_word CallError.UnknownMethod ∷ error_word CallError.UnknownProperty
+        ∷ error_word CallError.PropertyReadOnly ∷ []
+        ≡ codes "UnknownObject" ∷ codes "UnknownInterface" ∷ codes "UnknownMethod" ∷ codes "UnknownProperty"
+        ∷ codes "PropertyReadOnly" ∷ [] }
 {}
 
 /// A call with flag 1 has no reply, whatever its other flags; and numbers rise by one.
 pub fn numbers()
-    ensures expected { replies (codes ":1.1") (record (call_to [] [] [] [] []) { serial = 5 }) (returns []) ≡ return_to (codes ":1.1") 5 [] ∷ [] }
-    ensures unexpected { replies (codes ":1.1") (record (call_to [] [] [] [] []) { serial = 5; flags = 1 }) (returns []) ≡ [] }
+    ensures expected { replies (codes ":1.1") (record (call_to [] [] [] [] []) { serial = 5 }) (returns [])
+        ≡ return_to (codes ":1.1") 5 [] ∷ [] }
+    ensures unexpected { replies (codes ":1.1") (record (call_to [] [] [] [] []) { serial = 5; flags = 1 }) (returns [])
+        ≡ [] }
     ensures other_flags { expects_reply (record (call_to [] [] [] [] []) { flags = 2 }) ≡ true }
     ensures both_flags { expects_reply (record (call_to [] [] [] [] []) { flags = 3 }) ≡ false }
     ensures no_call { expects_reply (signal_of [] [] [] []) ≡ false }
     ensures none { numbered 4 [] ≡ [] }
-    ensures two { numbered 4 (signal_of [] [] [] [] ∷ return_to [] 9 [] ∷ []) ≡ record (signal_of [] [] [] []) { serial = 4 } ∷ record (return_to [] 9 []) { serial = 5 } ∷ [] }
+    ensures two { numbered 4 (signal_of [] [] [] [] ∷ return_to [] 9 [] ∷ [])
+        ≡ record (signal_of [] [] [] []) { serial = 4 } ∷ record (return_to [] 9 []) { serial = 5 } ∷ [] }
     ensures queue { posted (record { next = 4; out = return_to [] 3 [] ∷ [] }) (signal_of [] [] [] [] ∷ [])
         ≡ record { next = 5; out = return_to [] 3 [] ∷ record (signal_of [] [] [] []) { serial = 4 } ∷ [] } }
 {}

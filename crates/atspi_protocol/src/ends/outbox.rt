@@ -11,7 +11,8 @@ use std::alloc::Global;
 use std::collections::VecDeque;
 use std::marker::Model;
 
-/// The messages that an end has queued, with their numbers, which rise by one from 1. A message is numbered where it is handed out.
+/// The messages that an end has queued, with their numbers, which rise by one from 1. A message is numbered where it is
+/// handed out.
 #[derive(Drop)]
 pub struct Outbox {
     handed_out: u64,
@@ -27,7 +28,11 @@ impl Model for Outbox {
 
     ghost coded = { queue_code };
 
-    ghost view = { λ o. record { next = o.handed_out + length o.waiting.items + 1; out = numbered (o.handed_out + 1) (map envelope_of o.waiting.items) } };
+    ghost view = { λ o.
+        record {
+          next = o.handed_out + length o.waiting.items + 1;
+          out = numbered (o.handed_out + 1) (map envelope_of o.waiting.items);
+        } };
 
     ghost invariant = { λ o. o.handed_out + length o.waiting.items ≤ 4294967295 };
 }
@@ -44,8 +49,8 @@ impl Outbox {
         }
     }
 
-    /// Queues messages, which get the next numbers. Spent exactly where they would pass number 4,294,967,295; after a fault all is as
-    /// before.
+    /// Queues messages, which get the next numbers. Spent exactly where they would pass number 4,294,967,295; after a
+    /// fault all is as before.
     pub fn post(&mut self, mail: &mut Mail) -> Result<(), EndFault>
         ensures ok { OnOk result (self.new ≡ posted self.old mail.old) }
         ensures spent { IsErrOf result EndFault.Spent ↔ (4294967296 < self.old.next + length mail.old) }
@@ -62,7 +67,8 @@ impl Outbox {
 
     /// The oldest queued message, which is no longer queued.
     pub fn next(&mut self) -> Option<Message>
-        ensures front { MatchOption result (self.old.out ≡ []) (λ message. self.old.out ≡ envelope_of message ∷ self.new.out) }
+        ensures front { MatchOption result (self.old.out ≡ [])
+            (λ message. self.old.out ≡ envelope_of message ∷ self.new.out) }
         ensures empty { MatchOption result (self.new ≡ self.old) (λ message. self.new.next ≡ self.old.next) }
     {
         let mut message = self.waiting.pop_front()?;

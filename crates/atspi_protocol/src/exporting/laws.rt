@@ -1,8 +1,11 @@
-//! Laws of applications, over the definitions that the contracts of the application, the world and the theory of traces cite.
+//! Laws of applications, over the definitions that the contracts of the application, the world and the theory of traces
+//! cite.
 
-ghost use Rattle.atspi_protocol.specs.exporting.Laws.{AnswersApply, EachCallIsAnswered, NumbersRise, SignaturesAreKept, TreesStay, WordsAreTyped};
+ghost use Rattle.atspi_protocol.specs.exporting.Laws.{AnswersApply, EachCallIsAnswered, NumbersRise, SignaturesAreKept};
+ghost use Rattle.atspi_protocol.specs.exporting.Laws.{TreesStay, WordsAreTyped};
 
-/// Every call that expects a reply gets exactly one return or error, to its sender and with its serial; nothing else is one.
+/// Every call that expects a reply gets exactly one return or error, to its sender and with its serial; nothing else is
+/// one.
 pub fn each_call_is_answered()
     ensures { EachCallIsAnswered }
 {}

@@ -1,7 +1,7 @@
 //! The calls that accessible objects answer.
 
-/// A member of an interface of AT-SPI2, or of the two interfaces of D-Bus that every object has. No two of these interfaces have a member
-/// of one name.
+/// A member of an interface of AT-SPI2, or of the two interfaces of D-Bus that every object has. No two of these
+/// interfaces have a member of one name.
 #[derive(Clone, Copy, Debug, PartialEq, Eq)]
 pub enum ObjectMember {
     // Accessible

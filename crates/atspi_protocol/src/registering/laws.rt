@@ -2,8 +2,8 @@
 
 ghost use Rattle.atspi_protocol.specs.registering.Laws.{RepliesOnce};
 
-/// Once the registry has its name, a call that expects a reply gets exactly one return or error, to its sender and with its serial; no
-/// other message gets any.
+/// Once the registry has its name, a call that expects a reply gets exactly one return or error, to its sender and with
+/// its serial; no other message gets any.
 pub fn replies_once()
     ensures { RepliesOnce }
 {}

@@ -13,8 +13,10 @@ pub fn news_of_children()
     ensures a_reply { is_children_news (return_to (codes ":1.2") 5 []) ≡ false }
     ensures no_minor { minor_in [] ≡ [] }
     ensures nothing { AllAskedFor [] [] }
-    ensures asked { AllAskedFor ((codes ":1.2", codes "object:children-changed:add") ∷ []) (children_changed (codes "add") 0 (codes ":1.4", codes "/d") ∷ []) }
-    ensures not_asked { ¬ AllAskedFor ((codes ":1.2", codes "object:children-changed:remove") ∷ []) (children_changed (codes "add") 0 (codes ":1.4", codes "/d") ∷ []) }
+    ensures asked { AllAskedFor ((codes ":1.2", codes "object:children-changed:add") ∷ [])
+        (children_changed (codes "add") 0 (codes ":1.4", codes "/d") ∷ []) }
+    ensures not_asked { ¬ AllAskedFor ((codes ":1.2", codes "object:children-changed:remove") ∷ [])
+        (children_changed (codes "add") 0 (codes ":1.4", codes "/d") ∷ []) }
     ensures nobody { ¬ AllAskedFor [] (children_changed (codes "add") 0 (codes ":1.4", codes "/d") ∷ []) }
     ensures another { AllAskedFor [] (deregistered (codes ":1.2", codes "object:children-changed") ∷ []) }
 {}

@@ -2,8 +2,8 @@
 
 ghost use Rattle.atspi_protocol.specs.whole.Laws.{ShapeIsKept, StepsAreFollowed};
 
-/// A step that applies to the whole tree, done to the shape and to the faces, makes the whole tree after it; and the faces still know
-/// only nodes of the tree.
+/// A step that applies to the whole tree, done to the shape and to the faces, makes the whole tree after it; and the
+/// faces still know only nodes of the tree.
 pub fn steps_are_followed()
     ensures { StepsAreFollowed }
 {}

@@ -1,7 +1,7 @@
 //! Each form of a line, and what it says. What is due was worked out by hand.
 
 use crate::lines::told::is_told;
-use atspi_lines::{lines_have_one_reading, parse_line};
+use atspi_script_lines::{lines_have_one_reading, parse_line};
 use std::alloc::Global;
 use std::test::*;
 

@@ -2,7 +2,7 @@
 
 use crate::lines::forms::FORMS;
 use atspi_base::{Bytes, NoMemory};
-use atspi_lines::{LineFault, parse_line};
+use atspi_script_lines::{LineFault, parse_line};
 use std::alloc::Global;
 use std::test::*;
 
@@ -132,7 +132,8 @@ fn is_refused_with_more(alloc: Global, spelled: &str) -> bool {
     is_formless(alloc, " ", spelled, "")
 }
 
-/// Whether a line of more than one word is refused without its last one. A list of which no child can be selected is a form too.
+/// Whether a line of more than one word is refused without its last one. A list of which no child can be selected is a
+/// form too.
 fn is_refused_without_last(alloc: Global, spelled: &str) -> bool {
     match spelled.rsplit_once(' ') {
         Some((front, last)) => last == "select" || is_formless(alloc, front, "", ""),
@@ -161,7 +162,8 @@ fn is_refused_with_another_blank(alloc: Global, spelled: &str) -> bool {
     }
 }
 
-/// Whether the line of a row of the forms, where it is not blank, is refused with a word too many or too few and with another blank.
+/// Whether the line of a row of the forms, where it is not blank, is refused with a word too many or too few and with
+/// another blank.
 fn is_refused_otherwise(alloc: Global, row: &str) -> bool {
     match row.split_once(" => ") {
         Some((_, "Blank")) => true,
@@ -181,7 +183,8 @@ fn each_form_is_refused_with_other_words_or_blanks(rt: HostRuntime) {
     }
 }
 
-/// A front, so many of one byte, and a back, and why they are no line: the length is looked at first, then whether they are UTF-8.
+/// A front, so many of one byte, and a back, and why they are no line: the length is looked at first, then whether they
+/// are UTF-8.
 const LONG: &str = "\
 #,120,65535, => fine
 #,120,65536, => long

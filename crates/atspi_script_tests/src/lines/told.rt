@@ -1,8 +1,8 @@
 //! What a line says, as a text of these tests' own.
 
 use atspi_base::{Bytes, NoMemory, Text, put_decimal};
-use atspi_forest::{Edit, Seed};
-use atspi_lines::{Deed, Line, Party};
+use atspi_script_lines::{Deed, Line, Party};
+use atspi_tree_model::{Edit, Seed};
 use std::alloc::Global;
 
 /// A word and numbers.

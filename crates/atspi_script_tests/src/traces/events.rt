@@ -2,14 +2,14 @@
 
 use crate::traces::made::{Words, event_of, number, seed, tells, text, words_of};
 use atspi_base::{Marks, Nums};
-use atspi_event_texts::{TraceOptions, nodes_are_told, text_tells_trace};
-use atspi_events::Event;
-use atspi_forest::Step;
+use atspi_trace_events::Event;
+use atspi_trace_texts::{TraceOptions, nodes_are_told, text_tells_trace};
+use atspi_tree_model::Step;
 use std::alloc::Global;
 use std::test::*;
 
-/// Events as they are spelled here, and their texts; then events, and whether the brief text keeps them: what readers say and show, who
-/// is dropped, and how turns end.
+/// Events as they are spelled here, and their texts; then events, and whether the brief text keeps them: what readers
+/// say and show, who is dropped, and how turns end.
 const EVENTS: &str = "\
 start a0|Demo => start a0 \"Demo\"
 start r3 => start r3

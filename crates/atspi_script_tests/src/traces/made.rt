@@ -2,10 +2,10 @@
 
 use atspi_base::valid_names::{BusName, Path};
 use atspi_base::{Bytes, NoMemory, Text, Texts};
-use atspi_event_texts::{is_brief, write_event};
-use atspi_events::Event;
-use atspi_forest::Seed;
-use atspi_lines::Party;
+use atspi_script_lines::Party;
+use atspi_trace_events::Event;
+use atspi_trace_texts::{is_brief, write_event};
+use atspi_tree_model::Seed;
 use std::alloc::Global;
 
 /// What spells an event: a word, up to three more, and what stands behind `|` where one is there.

@@ -2,8 +2,8 @@
 
 use crate::traces::made::{number, path, tells, text};
 use atspi_base::valid_names::Path;
-use atspi_events::{Event, Shown, ShownRow};
-use atspi_forest::{NumPart, Part, Row};
+use atspi_trace_events::{Event, Shown, ShownRow};
+use atspi_tree_model::{NumPart, Part, Row};
 use std::alloc::Global;
 use std::test::*;
 
@@ -25,7 +25,8 @@ fn text_part(alloc: Global, word: &str) -> Option<Part> {
     }
 }
 
-/// The words of a row without a description, `PATH,ROLE,STATES,FACES,NAME,CARET,COLUMNS,TEXT`: the states and the faces as numbers.
+/// The words of a row without a description, `PATH,ROLE,STATES,FACES,NAME,CARET,COLUMNS,TEXT`: the states and the faces
+/// as numbers.
 #[derive(Clone, Copy)]
 struct RowWords<'a> {
     path: &'a str,
@@ -86,7 +87,8 @@ fn shown_row(alloc: Global, parent: &str, rest: &str) -> Option<ShownRow> {
     })
 }
 
-/// The rows that are spelled, with `;` between two, or none: each its parent's path, its index and the row, with a blank between two.
+/// The rows that are spelled, with `;` between two, or none: each its parent's path, its index and the row, with a
+/// blank between two.
 fn shown(alloc: Global, spelled: &str) -> Option<Shown> {
     let mut rows = Vec::new(alloc);
     for row in spelled.split(';') {

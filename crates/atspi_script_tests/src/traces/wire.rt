@@ -2,10 +2,10 @@
 
 use crate::traces::made::tells;
 use atspi_base::{Bytes, NoMemory};
-use atspi_event_texts::write_wire;
-use atspi_events::Event;
-use atspi_lines::Party;
 use atspi_message::{Message, total};
+use atspi_script_lines::Party;
+use atspi_trace_events::Event;
+use atspi_trace_texts::write_wire;
 use std::alloc::Global;
 use std::test::*;
 

@@ -10,11 +10,14 @@ use Rattle.atspi_trace.specs.Due.{is_lost}
 use Rattle.atspi_trace.specs.play.Playing.{Playing, Happened}
 use Rattle.atspi_trace.specs.play.Plays.{plays}
 
--- SOME CAUSES OF WHAT IS LEFT OF A LINE WERE DONE, one after another, each with its entries: this is the world then, and this is left
+-- SOME CAUSES OF WHAT IS LEFT OF A LINE WERE DONE, one after another, each with its entries: this is the world then,
+-- and this is left
 pub data PlaysOn : Playing → Work → List Entry → Playing → Work → Type 0 where
   so_far : (p : Playing) (left : Work) → PlaysOn p left [] p left
-  caused : (p q : Playing) (v : World) (left rest last : Work) (c : Cause) (entries : List Entry) → next_of p.world left ≡ cause c v rest
-      → PlaysOn (plays (record p { world = v }) c).now rest entries q last → PlaysOn p left ((plays (record p { world = v }) c).entries ++ entries) q last
+  caused : (p q : Playing) (v : World) (left rest last : Work) (c : Cause) (entries : List Entry)
+      → next_of p.world left ≡ cause c v rest
+      → PlaysOn (plays (record p { world = v }) c).now rest entries q last
+      → PlaysOn p left ((plays (record p { world = v }) c).entries ++ entries) q last
 
 -- A serial has 32 bits: where a party's next one is above 4,294,967,296, one that it used is above 4,294,967,295
 abbrev pub IsPast : ℕ → Type 0
@@ -58,7 +61,8 @@ pub record IsLostAt (p : Playing) (left : Work) (entries : List Entry) : Type 0 
   pub lost : is_lost (does_next at).now.world ≡ true
   pub wrote : entries ≡ at.entries ++ (does_next at).entries
 
--- SERIALS ARE SPENT: a message that the next cause makes some party send has a serial above the last, and of what it writes a front was written
+-- SERIALS ARE SPENT: a message that the next cause makes some party send has a serial above the last, and of what it
+-- writes a front was written
 pub record IsSpentAt (p : Playing) (left : Work) (entries : List Entry) : Type 0 where
   pub at : IsAtWork p left
   pub spent : IsSpent (does_next at).now
@@ -67,7 +71,9 @@ pub record IsSpentAt (p : Playing) (left : Work) (entries : List Entry) : Type 0
   pub front : (does_next at).entries ≡ part ++ missing
   pub wrote : entries ≡ at.entries ++ part
 
--- so many turns, one behind the other: each moves the first thing that waits, and a reader that takes it does what its own definitions say
+-- so many turns, one behind the other: each moves the first thing that waits, and a reader that takes it does what its
+-- own definitions say
 abbrev pub PlayedTurns : ℕ → Playing → List Entry → Playing → Type 0
 PlayedTurns zero p es q = (es ≡ []) × (q ≡ p)
-PlayedTurns (suc n) p es q = (c : Cause) × (rest : List Entry) × (next_turn p.world ≡ Some c) × (es ≡ (plays p c).entries ++ rest) × PlayedTurns n (plays p c).now rest q
+PlayedTurns (suc n) p es q = (c : Cause) × (rest : List Entry) × (next_turn p.world ≡ Some c)
+    × (es ≡ (plays p c).entries ++ rest) × PlayedTurns n (plays p c).now rest q

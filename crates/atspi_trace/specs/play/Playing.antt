@@ -1,9 +1,10 @@
--- A world whose readers are those of their own definitions: they ask what they wish to know, and speak and show what they read from their own views.
+-- A world whose readers are those of their own definitions: they ask what they wish to know, and speak and show what
+-- they read from their own views.
 use Rattle.std.specs.Prelude.{ℕ, List, [], map, Option, None, Some, slice_get}
-use Rattle.atspi_arena.specs.Sights.{Sight, sights}
-use Rattle.atspi_events.specs.declared.shown.ShownRow.{ShownRow}
-use Rattle.atspi_forest.specs.declared.view.Row.{Row}
-use Rattle.atspi_forest.specs.Forest.{Forest}
+use Rattle.atspi_cache_arena.specs.Sights.{Sight, sights}
+use Rattle.atspi_trace_events.specs.declared.shown.ShownRow.{ShownRow}
+use Rattle.atspi_tree_model.specs.declared.view.Row.{Row}
+use Rattle.atspi_tree_model.specs.Forest.{Forest}
 use Rattle.atspi_protocol.specs.following.ReaderState.{ReaderState}
 use Rattle.atspi_protocol.specs.following.Takes.{held_view}
 use Rattle.atspi_trace.specs.Entry.{Entry}

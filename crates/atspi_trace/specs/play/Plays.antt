@@ -1,9 +1,9 @@
 -- What a cause does to a world whose readers are those of their own definitions.
 use Rattle.std.specs.Prelude.{ℕ, List, [], ◌∷◌, ◌++◌, flat_map, Option, None, Some, slice_get, slice_set}
 use Rattle.std.specs.List.{fold}
-use Rattle.atspi_lines.specs.declared.deed.Deed.{Deed}
-use Rattle.atspi_lines.specs.declared.line.Party.{Party}
-use Rattle.atspi_lines.specs.declared.line.Party.TheVariants.{App, Reader}
+use Rattle.atspi_script_lines.specs.declared.deed.Deed.{Deed}
+use Rattle.atspi_script_lines.specs.declared.line.Party.{Party}
+use Rattle.atspi_script_lines.specs.declared.line.Party.TheVariants.{App, Reader}
 use Rattle.atspi_message.specs.Envelope.{Envelope}
 use Rattle.atspi_protocol.specs.declared.following.question.Question.{Question}
 use Rattle.atspi_protocol.specs.following.ReaderState.{Done, sends, speaks, tells_end, ReaderState, begins}
@@ -51,7 +51,11 @@ with_reader number change readers = by (slice_get readers number)
 -- A READER TAKES A MESSAGE: it does what its own definitions say
 abbrev pub reader_did : Playing → ℕ → ℕ → Letter → ReaderState → Happened
 reader_did p conn reader letter s = record {
-  now = record { world = fold (asked conn) (does p.world (gets conn)).world s.out; readers = slice_set p.readers reader (silent s) };
+  now =
+      record {
+        world = fold (asked conn) (does p.world (gets conn)).world s.out;
+        readers = slice_set p.readers reader (silent s);
+      };
   entries = got (Reader reader) letter.from letter.said.message.serial ∷ flat_map (told reader p.world.ends) s.out;
 }
 
@@ -70,13 +74,21 @@ got_by p conn (Some e) = got_at p conn e.who e.down
 -- a reader sends a call of its user
 abbrev pub called : Playing → ℕ → List ℕ → ℕ → Deed → causes.Done → Happened
 called p conn name node deed d = record {
-  now = record { world = d.world; readers = with_reader (number_of (party_at p.world.ends conn)) (λ s. silent (reader_calls s name node deed)) p.readers };
+  now =
+      record {
+        world = d.world;
+        readers =
+            with_reader (number_of (party_at p.world.ends conn)) (λ s. silent (reader_calls s name node deed))
+            p.readers;
+      };
   entries = d.entries;
 }
 
--- WHAT A CAUSE DOES: a quota begins anew, a reader starts, sends its user's call, shows its own view, takes a message; all else is as in any world
+-- WHAT A CAUSE DOES: a quota begins anew, a reader starts, sends its user's call, shows its own view, takes a message;
+-- all else is as in any world
 abbrev pub plays : Playing → Cause → Happened
-plays p (renews quota) = record { now = record { world = (does p.world (renews quota)).world; readers = [] }; entries = [] }
+plays p (renews quota) =
+    record { now = record { world = (does p.world (renews quota)).world; readers = [] }; entries = [] }
 plays p starts_reader = record {
   now = record { world = (does p.world starts_reader).world; readers = p.readers ++ silent (starts begins) ∷ [] };
   entries = (does p.world starts_reader).entries;
@@ -85,7 +97,12 @@ plays p (calls conn name node deed) = called p conn name node deed (does p.world
 plays p (shows conn app) = by (party_at p.world.ends conn)
   where
     by : Party → Happened
-    by (Reader reader) = record { now = p; entries = showed reader app (view_rows (view_in p reader (unique_in (end_of p.world.ends (App app))))) ∷ [] }
+    by (Reader reader) =
+        record {
+          now = p;
+          entries = showed reader app (view_rows (view_in p reader (unique_in (end_of p.world.ends (App app)))))
+              ∷ [];
+        }
     by who = only p (does p.world (shows conn app))
 plays p (gets conn) = got_by p conn (end_at p.world.ends conn)
 plays p c = only p (does p.world c)

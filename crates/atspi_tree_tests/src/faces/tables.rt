@@ -1,16 +1,16 @@
 //! Calls and their answers as rows of a text, which every face of a kind goes through.
 
 use atspi_base::{Marks, Text, Texts};
-use atspi_face::{Change, Face, FaceData, FaceKind};
-use atspi_face_guarded::{caret, change, marks, part, put};
+use atspi_faces::face::{Change, Face, FaceData, FaceKind};
+use atspi_faces::guarded::{caret, change, marks, part, put};
 use std::alloc::Global;
 use std::process::Abort;
 
 /// The node that the calls are about.
 const NODE: u32 = 7;
 
-/// What spells a call and its answer: a word, whether the call is done (`no-` stands before the word of one that is refused), up to
-/// three numbers, and what stands behind `|`.
+/// What spells a call and its answer: a word, whether the call is done (`no-` stands before the word of one that is
+/// refused), up to three numbers, and what stands behind `|`.
 #[derive(Clone, Copy)]
 struct Row<'a> {
     word: &'a str,
@@ -62,10 +62,10 @@ pub fn run(rt: &impl Abort, alloc: Global, face: &mut Box<dyn Face>, table: &str
 }
 
 /// Makes the call of a row. Answers whether it was done, or had the answer that is due, none for want of memory:
-/// - `open CARET|TEXT` opens the node with a text, its caret and one text selection from 1 to 3, `other NODE|TEXT` opens a node with a text
-///   alone, and `long|CHARACTER` opens the node with 1,048,576 of these;
-/// - `alike NODE N` opens a node with so many characters, columns or actions, whichever the face keeps, and `actions|NAMES` opens the node
-///   with actions of these names;
+/// - `open CARET|TEXT` opens the node with a text, its caret and one text selection from 1 to 3, `other NODE|TEXT`
+///   opens a node with a text alone, and `long|CHARACTER` opens the node with 1,048,576 of these;
+/// - `alike NODE N` opens a node with so many characters, columns or actions, whichever the face keeps, and
+///   `actions|NAMES` opens the node with actions of these names;
 /// - the other words are those of changes and of what is read.
 fn holds(alloc: Global, face: &mut Box<dyn Face>, row: Row<'_>) -> Option<bool> {
     match row.word {
@@ -78,8 +78,8 @@ fn holds(alloc: Global, face: &mut Box<dyn Face>, row: Row<'_>) -> Option<bool> 
     }
 }
 
-/// The same of changes: `insert AT|TEXT`, `delete AT LEN`, `move TO` of the caret, `select N` for so many text selections, the one at i from i to i + 1,
-/// and `close NODE`.
+/// The same of changes: `insert AT|TEXT`, `delete AT LEN`, `move TO` of the caret, `select N` for so many text
+/// selections, the one at i from i to i + 1, and `close NODE`.
 fn changes(alloc: Global, face: &mut Box<dyn Face>, row: Row<'_>) -> Option<bool> {
     match row.word {
         "insert" => inserts(alloc, face, row.first, row.text),
@@ -94,8 +94,9 @@ fn changes(alloc: Global, face: &mut Box<dyn Face>, row: Row<'_>) -> Option<bool
     }
 }
 
-/// The same of what is read: `part FROM TO|TEXT`, `absent FROM TO` for no such part, `count N`, `caret AT`, `marks N FROM TO` for how many text selections
-/// there are and the last of them, `next FROM NODE` for the next node from one on, `last FROM` for none, and `kind|KIND`.
+/// The same of what is read: `part FROM TO|TEXT`, `absent FROM TO` for no such part, `count N`, `caret AT`,
+/// `marks N FROM TO` for how many text selections there are and the last of them, `next FROM NODE` for the next node
+/// from one on, `last FROM` for none, and `kind|KIND`.
 fn reads(face: &Box<dyn Face>, row: Row<'_>) -> Option<bool> {
     match row.word {
         "part" => has_part(face, row.first, row.second, row.text),

@@ -1,7 +1,7 @@
 //! Each type of face, in a box, through the tables.
 
 use crate::faces::tables::run;
-use atspi_face::Face;
+use atspi_faces::face::Face;
 use atspi_faces::{Deeds, GapText, Grid, PlainText};
 use std::alloc::Global;
 use std::process::Abort;

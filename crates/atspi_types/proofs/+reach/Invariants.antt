@@ -3,7 +3,7 @@ use Rattle.atspi_types.specs.Kinds.{kinds_of}
 use Rattle.atspi_types.specs.Borrowed.{ref_data}
 use Rattle.atspi_types.specs.Data.{items_of, type_of}
 use Rattle.atspi_types.specs.DataView.{all_data}
-use Rattle.atspi_types.specs.Extents.{IsExtent}
+use Rattle.atspi_types.specs.inner.Extents.{IsExtent}
 use Rattle.atspi_types.proofs.TypeLemmas.{size, sizes}
 use Rattle.atspi_types.proofs.+reach.Given as goal
 

@@ -8,7 +8,8 @@ use super::shape::Shape;
 use super::{Ty, Tys};
 
 impl Ty {
-    /// Whether the type is lawful: no struct in it is empty, and each key is basic (D-Bus Specification, "Type System").
+    /// Whether the type is lawful: no struct in it is empty, and each key is basic (D-Bus Specification, "Type
+    /// System").
     #[cycle(lawful)]
     pub fn is_lawful(&self) -> bool
         ensures { IsTrue result ↔ IsLawful (kind_of self.now) }

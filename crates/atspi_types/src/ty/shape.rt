@@ -1,7 +1,7 @@
 //! One level of a type.
 
 ghost use Rattle.atspi_types.specs.KindView.{kind_of};
-ghost use Rattle.atspi_types.specs.Shapes.{IsShapeOf};
+ghost use Rattle.atspi_types.specs.inner.Shapes.{IsShapeOf};
 
 use super::{Ty, Tys};
 

@@ -4,14 +4,14 @@ ghost use Rattle.std.specs.Prelude.{◌≡◌, ◌++◌, ◌+◌, ◌≤◌, min
 ghost use Rattle.atspi_types.specs.Kinds.{kinds_of, kind, no_kinds};
 ghost use Rattle.atspi_types.specs.KindView.{kind_of, kinds_in};
 ghost use Rattle.atspi_types.specs.Signatures.{type_bytes, signature_bytes, FitsSignature};
-ghost use Rattle.atspi_types.specs.Extents.{IsExtentOf, IsExtent};
+ghost use Rattle.atspi_types.specs.inner.Extents.{IsExtentOf, IsExtent};
 
 use super::shape::Shape;
 use super::{Ty, Tys};
 use atspi_base::{Bytes, NoMemory};
 
-/// How far types reach: the bytes of their spelling, counted up to 256, and how deep arrays stand in arrays and structs in
-/// structs, counted up to 33.
+/// How far types reach: the bytes of their spelling, counted up to 256, and how deep arrays stand in arrays and structs
+/// in structs, counted up to 33.
 #[derive(Clone, Copy)]
 pub struct Extent {
     bytes: u32,
@@ -154,8 +154,8 @@ impl Tys {
         all
     }
 
-    /// Whether the types keep within the limits of a signature: at most 255 bytes, 32 arrays in one another and 32 structs in
-    /// one another.
+    /// Whether the types keep within the limits of a signature: at most 255 bytes, 32 arrays in one another and 32
+    /// structs in one another.
     pub fn fits_signature(&self) -> bool
         ensures { IsTrue result ↔ FitsSignature (kinds_of (kinds_in self.now)) }
     {

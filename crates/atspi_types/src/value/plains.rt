@@ -1,6 +1,7 @@
 //! Numbers and booleans of one type, kept each in its own size.
 
-ghost use Rattle.std.specs.Prelude.{◌≡◌, [], ◌∷◌, ◌++◌, true, IfOk, OnOk, OnErr, MatchBool, MatchOption, ⊤, length, map};
+ghost use Rattle.std.specs.Prelude.{◌≡◌, [], ◌∷◌, ◌++◌, true, IfOk, OnOk, OnErr, MatchBool, MatchOption, ⊤, length};
+ghost use Rattle.std.specs.Prelude.{map};
 ghost use Rattle.atspi_types.specs.Borrowed.{run_data};
 ghost use Rattle.atspi_types.specs.DataView.{data_of};
 ghost use Rattle.atspi_types.specs.PlainsView.{plains_data};
@@ -134,7 +135,8 @@ impl Plains {
     /// Appends a value of their type, and answers whether it is one. After want of memory the list is as before.
     pub(super) fn push(&mut self, value: &Value) -> Result<bool, NoMemory>
         ensures pushed { IfOk result (λ done. MatchBool done
-            (plains_data self.new ≡ plains_data self.old ++ data_of value.now ∷ []) (plains_data self.new ≡ plains_data self.old)) }
+            (plains_data self.new ≡ plains_data self.old ++ data_of value.now ∷ [])
+            (plains_data self.new ≡ plains_data self.old)) }
         ensures err { OnErr result (plains_data self.new ≡ plains_data self.old) }
     {
         match self {

@@ -2,7 +2,8 @@
 
 ghost use Rattle.std.specs.Prelude.{◌≡◌, [], ◌∷◌, ◌++◌, IfOk, OnOk, OnErr, MatchBool, map};
 ghost use Rattle.std.specs.Int.{w16, w32, w64, cast_unsigned};
-ghost use Rattle.atspi_types.specs.Kinds.{byte, i16 as short, u16 as unsigned_short, i32 as word, u32 as unsigned_word, i64 as long, u64 as unsigned_long, double};
+ghost use Rattle.atspi_types.specs.Kinds.{byte, i16 as short, u16 as unsigned_short, i32 as word, u32 as unsigned_word};
+ghost use Rattle.atspi_types.specs.Kinds.{i64 as long, u64 as unsigned_long, double};
 ghost use Rattle.atspi_types.specs.Data.{number_data, boolean_data};
 ghost use Rattle.atspi_types.specs.DataView.{data_of, all_data};
 
@@ -12,8 +13,8 @@ use atspi_base::NoMemory;
 use std::alloc::Global;
 
 impl Values {
-    /// Appends a value. After want of memory the list is as before. A number or a boolean behind others of its type takes its
-    /// own size; one behind values of other types spreads the list out, once.
+    /// Appends a value. After want of memory the list is as before. A number or a boolean behind others of its type
+    /// takes its own size; one behind values of other types spreads the list out, once.
     pub fn push(&mut self, value: Value) -> Result<(), NoMemory>
         ensures ok { OnOk result (all_data self.new ≡ all_data self.old ++ data_of value ∷ []) }
         ensures err { OnErr result (all_data self.new ≡ all_data self.old) }
@@ -26,7 +27,8 @@ impl Values {
         placed.map(|_| ())
     }
 
-    /// Puts a number or a boolean behind others of its type, or begins a list with it, and answers whether that could be done.
+    /// Puts a number or a boolean behind others of its type, or begins a list with it, and answers whether that could
+    /// be done.
     fn put(&mut self, value: &Value) -> Result<bool, NoMemory>
         ensures done { IfOk result (λ done. MatchBool done
             (all_data self.new ≡ all_data self.old ++ data_of value.now ∷ []) (all_data self.new ≡ all_data self.old)) }

@@ -4,7 +4,7 @@ ghost use Rattle.std.specs.Prelude.{◌≡◌, ◌++◌, ◌↔◌, length, take
 ghost use Rattle.atspi_types.specs.Borrowed.{ref_data};
 ghost use Rattle.atspi_types.specs.Data.{items_of, type_of, types_of};
 ghost use Rattle.atspi_types.specs.DataView.{all_data};
-ghost use Rattle.atspi_types.specs.Extents.{IsExtentOf, IsExtent};
+ghost use Rattle.atspi_types.specs.inner.Extents.{IsExtentOf, IsExtent};
 ghost use Rattle.atspi_types.specs.Signatures.{type_bytes, signature_bytes, FitsSignature};
 
 use super::Values;
@@ -90,15 +90,16 @@ impl Values {
         all
     }
 
-    /// Whether the types of the values keep within the limits of a signature: at most 255 bytes, 32 arrays in one another and
-    /// 32 structs in one another.
+    /// Whether the types of the values keep within the limits of a signature: at most 255 bytes, 32 arrays in one
+    /// another and 32 structs in one another.
     pub fn fits_signature(&self) -> bool
         ensures { IsTrue result ↔ FitsSignature (types_of (items_of (all_data self.now))) }
     {
         self.extent().fits()
     }
 
-    /// Appends the spelling of the values' types (D-Bus Specification, "Type System"). After want of memory `out` is as before.
+    /// Appends the spelling of the values' types (D-Bus Specification, "Type System"). After want of memory `out` is as
+    /// before.
     pub fn write_types(&self, out: &mut Bytes) -> Result<(), NoMemory>
         ensures ok { OnOk result (out.new ≡ out.old ++ signature_bytes (types_of (items_of (all_data self.now)))) }
         ensures front { take (length out.old) out.new ≡ out.old }

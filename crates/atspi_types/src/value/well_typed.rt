@@ -2,7 +2,8 @@
 
 ghost use Rattle.std.specs.Prelude.{◌≡◌, ◌↔◌, IsTrue, IfSome};
 ghost use Rattle.atspi_types.specs.Borrowed.{ref_data, run_data};
-ghost use Rattle.atspi_types.specs.Data.{items_of, entries_of, type_of, IsWellTyped, AreWellTyped, AllHaveType, AllHaveTypes};
+ghost use Rattle.atspi_types.specs.Data.{items_of, entries_of, type_of, IsWellTyped, AreWellTyped, AllHaveType};
+ghost use Rattle.atspi_types.specs.Data.{AllHaveTypes};
 ghost use Rattle.atspi_types.specs.DataView.{data_of, all_data, all_pairs};
 ghost use Rattle.atspi_types.specs.KindView.{kind_of};
 
@@ -11,8 +12,8 @@ use crate::borrowed::{Run, ValueRef};
 use crate::ty::Ty;
 
 impl Value {
-    /// Whether the value is well typed: its types are lawful, no struct is empty, and each element, key and value has the type
-    /// that is named for it (D-Bus Specification, "Type System").
+    /// Whether the value is well typed: its types are lawful, no struct is empty, and each element, key and value has
+    /// the type that is named for it (D-Bus Specification, "Type System").
     pub fn is_well_typed(&self) -> bool
         ensures { IsTrue result ↔ IsWellTyped (data_of self.now) }
     {
@@ -55,7 +56,8 @@ impl ValueRef<'_> {
     /// Whether the value has the type and is well typed.
     #[cycle(typed)]
     fn is_well_typed_as(self, ty: &Ty) -> bool
-        ensures { IsTrue result ↔ ((type_of (ref_data self.entry) ≡ kind_of ty.now) × IsWellTyped (ref_data self.entry)) }
+        ensures { IsTrue result
+            ↔ ((type_of (ref_data self.entry) ≡ kind_of ty.now) × IsWellTyped (ref_data self.entry)) }
     {
         self.has_type(ty) && self.is_well_typed()
     }

@@ -1,7 +1,7 @@
 use Rattle.std.proofs.Common.{ℕ, List, ap, ◌∙◌}
 use Rattle.std.proofs.lemmas.Result.{on_ok_weaker}
 use Rattle.atspi_protocol.specs.announcing.Announced.{announced}
-use Rattle.atspi_announced.specs.Asked.{messages_asked}
+use Rattle.atspi_app_signals.specs.Asked.{messages_asked}
 use Rattle.atspi_app.proofs.Told.{mail_unnumbered, step_is_told}
 use Rattle.atspi_app.proofs.telling.push_told.Goals as goal
 

@@ -1,5 +1,5 @@
 use Rattle.std.proofs.Common.{sym, subst}
-use Rattle.atspi_header.specs.View.{envelope_at}
+use Rattle.atspi_message_in_place.specs.View.{envelope_at}
 use Rattle.atspi_app.specs.called.Called.{reply_of}
 use Rattle.atspi_app.specs.Seen.{AreUnnumbered}
 use Rattle.atspi_app.proofs.OfCalls.{back_unnumbered, reply_behind}

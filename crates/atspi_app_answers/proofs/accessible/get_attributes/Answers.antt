@@ -1,5 +1,5 @@
 use Rattle.atspi_types.specs.DataView.{data_of}
-use Rattle.atspi_cursor.specs.Items.{fields_data}
+use Rattle.atspi_marshal_in_place.specs.Items.{fields_data}
 use Rattle.atspi_app_answers.proofs.Telling.{tells_attributes}
 use Rattle.atspi_app_answers.proofs.accessible.get_attributes.Goals as goal
 

@@ -2,10 +2,10 @@ use Rattle.std.proofs.Common.{ℤ, ap, ◌∙◌, rules, w32, SFits}
 use Rattle.std.proofs.lemmas.Result.{IfOk-weaker}
 use Rattle.std.proofs.lemmas.Int.{to_z-of_z}
 use Rattle.atspi_types.specs.DataView.{data_of}
-use Rattle.atspi_cursor.specs.Items.{fields_data}
+use Rattle.atspi_marshal_in_place.specs.Items.{fields_data}
 use Rattle.atspi_protocol.specs.objects.Children as children
 use Rattle.atspi_tree.specs.TreeShape.{children_of}
-use Rattle.atspi_node_values.specs.Numbers.{numbered_or_null}
+use Rattle.atspi_app_values.specs.Numbers.{numbered_or_null}
 use Rattle.atspi_app_answers.proofs.Telling.{tells_child}
 use Rattle.atspi_app_answers.proofs.accessible.get_child_at_index.Goals as goal
 

@@ -1,8 +1,8 @@
 use Rattle.std.proofs.Common.{ap, ◌∙◌}
 use Rattle.std.proofs.lemmas.Result.{IfOk-weaker}
 use Rattle.atspi_types.specs.DataView.{data_of}
-use Rattle.atspi_cursor.specs.Items.{fields_data}
-use Rattle.atspi_node_values.specs.Numbers.{numbered_references}
+use Rattle.atspi_marshal_in_place.specs.Items.{fields_data}
+use Rattle.atspi_app_values.specs.Numbers.{numbered_references}
 use Rattle.atspi_app_answers.proofs.Telling.{tells_children}
 use Rattle.atspi_app_answers.proofs.accessible.get_children.Goals as goal
 

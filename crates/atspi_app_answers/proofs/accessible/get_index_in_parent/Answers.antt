@@ -1,7 +1,7 @@
 use Rattle.std.proofs.Common.{ap, ◌∙◌, rules, w32, SFits}
 use Rattle.std.proofs.lemmas.Int.{to_z-of_z}
 use Rattle.atspi_types.specs.DataView.{data_of}
-use Rattle.atspi_cursor.specs.Items.{fields_data}
+use Rattle.atspi_marshal_in_place.specs.Items.{fields_data}
 use Rattle.atspi_protocol.specs.members.Arguments.{int}
 use Rattle.atspi_app_answers.proofs.Telling.{tells_index}
 use Rattle.atspi_app_answers.proofs.accessible.get_index_in_parent.Goals as goal

@@ -1,6 +1,6 @@
 use Rattle.std.proofs.lemmas.Result.{IfOk-weaker}
 use Rattle.atspi_types.specs.DataView.{data_of}
-use Rattle.atspi_cursor.specs.Items.{fields_data}
+use Rattle.atspi_marshal_in_place.specs.Items.{fields_data}
 use Rattle.atspi_app_answers.proofs.Telling.{tells_state}
 use Rattle.atspi_app_answers.proofs.accessible.get_state.Goals as goal
 

@@ -2,7 +2,7 @@ use Rattle.std.proofs.Common.{sym, subst}
 use Rattle.std.specs.Prelude.{MatchResult}
 use Rattle.std.proofs.lemmas.Result.{MatchResult-weaker, IfOk-weaker}
 use Rattle.atspi_types.specs.DataView.{all_data}
-use Rattle.atspi_cursor.specs.Items.{fields_data}
+use Rattle.atspi_marshal_in_place.specs.Items.{fields_data}
 use Rattle.atspi_app_calls.specs.declared.ask.Ask.{Ask}
 use Rattle.atspi_app_answers.specs.declared.place.AppPlace.TheVariants.{Node}
 use Rattle.atspi_app_answers.specs.Told.{Returns, Fails}

@@ -1,6 +1,6 @@
 use Rattle.std.proofs.Common.{ℕ, List, [], Option, subst}
 use Rattle.std.specs.Prelude.{unwrap_or}
-use Rattle.atspi_header.specs.View.{bytes_of, envelope_at}
+use Rattle.atspi_message_in_place.specs.View.{bytes_of, envelope_at}
 use Rattle.atspi_app_calls.specs.Object.{object_of}
 use Rattle.atspi_app_answers.specs.declared.place.AppPlace.{AppPlace}
 use Rattle.atspi_app_answers.proofs.PlaceLemmas.{IsPlace, asks_nobody, asks_this, asks_wrong}

@@ -4,7 +4,7 @@ use Rattle.std.specs.Prelude.{MatchResult}
 use Rattle.atspi_protocol.specs.declared.members.member.ObjectMember.{ObjectMember}
 use Rattle.atspi_app_answers.specs.Told.{TellsAll, Refuses}
 use Rattle.atspi_types.specs.DataView.{all_data}
-use Rattle.atspi_cursor.specs.Items.{fields_data}
+use Rattle.atspi_marshal_in_place.specs.Items.{fields_data}
 use Rattle.atspi_protocol.specs.objects.Answers.{tells_all}
 use Rattle.atspi_protocol.specs.whole.Whole.{filled}
 use Rattle.atspi_app_answers.specs.Seen.{seen}

@@ -1,6 +1,6 @@
 use Rattle.std.proofs.Common.{◌≡◌, ◌≢◌, ◌<◌, ◌^◌, ℕ, sym, subst, ◌∙◌}
 use Rattle.std.specs.Prelude.{MatchOption}
-use Rattle.atspi_forest.specs.Path.{path_of}
+use Rattle.atspi_tree_model.specs.Path.{path_of}
 use Rattle.atspi_app_answers.proofs.PlaceLemmas.{tree_place, no_place, gone, node_place}
 use Rattle.atspi_app_answers.proofs.place.place_at.Goals as goal
 

@@ -1,7 +1,7 @@
 use Rattle.std.proofs.Common.{◌<◌, ◌^◌, ℕ, List, length, sym, ap, subst, ◌∙◌}
 use Rattle.std.proofs.lemmas.Result.{IfOk-weaker}
 use Rattle.atspi_types.specs.Data.{text_data}
-use Rattle.atspi_telling.specs.Plain.{are_plain}
+use Rattle.atspi_protocol_messages.specs.Plain.{are_plain}
 use Rattle.atspi_app_answers.proofs.Decimals.{plain_decimal, short_decimal}
 use Rattle.atspi_app_answers.proofs.properties.decimal_text.Goals as goal
 

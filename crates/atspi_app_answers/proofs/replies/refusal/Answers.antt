@@ -1,6 +1,6 @@
 use Rattle.std.proofs.Common.{sym, ap, ◌∙◌}
 use Rattle.atspi_base.specs.valid_names.Names.{is_bus_name}
-use Rattle.atspi_header.specs.Names.{fits}
+use Rattle.atspi_message_in_place.specs.Names.{fits}
 use Rattle.atspi_app_answers.proofs.Senders.{sender_named}
 use Rattle.atspi_app_answers.proofs.replies.refusal.Goals as goal
 

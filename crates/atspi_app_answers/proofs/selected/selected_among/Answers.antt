@@ -2,9 +2,9 @@ use Rattle.std.proofs.Common.{◌≡◌, ◌+◌, ℕ, Bool, true, cond, List, l
 use Rattle.std.specs.Prelude.{filter}
 use Rattle.std.proofs.lemmas.List.{take_more, take_all}
 use Rattle.std.proofs.lemmas.List.Elements.{All-get_or}
-use Rattle.atspi_forest.specs.Forest.{has}
-use Rattle.atspi_forest.specs.Tree.{is_shape}
-use Rattle.atspi_app_answers.specs.Selected.{is_selected_in}
+use Rattle.atspi_tree_model.specs.Forest.{has}
+use Rattle.atspi_tree_model.specs.Tree.{is_shape}
+use Rattle.atspi_app_answers.specs.inner.Selected.{is_selected_in}
 use Rattle.atspi_app_answers.proofs.SelectedLemmas.{counted_more}
 use Rattle.atspi_app_answers.proofs.selected.selected_among.Goals as goal
 use Rattle.atspi_app_answers.proofs.selected.selected_among.Goals.{then-is_selected, else-is_selected}

@@ -1,6 +1,6 @@
 use Rattle.std.proofs.Common.{◌≡◌, ◌≤◌, length, take}
 use Rattle.std.specs.Prelude.{filter}
-use Rattle.atspi_app_answers.specs.Selected.{is_selected_in}
+use Rattle.atspi_app_answers.specs.inner.Selected.{is_selected_in}
 use Rattle.atspi_app_answers.proofs.selected.selected_among.Given as goal
 
 abbrev pub invariant-loop-node : goal.invariant-loop-node

@@ -1,8 +1,8 @@
 use Rattle.std.proofs.Common.{◌≡◌, ◌≤◌, ℕ, true, List, length, subst, sym}
 use Rattle.std.specs.Prelude.{All}
-use Rattle.atspi_forest.specs.Forest.{has}
-use Rattle.atspi_forest.specs.Tree.{is_shape}
-use Rattle.atspi_node_values.proofs.Indexes.{few_children}
+use Rattle.atspi_tree_model.specs.Forest.{has}
+use Rattle.atspi_tree_model.specs.Tree.{is_shape}
+use Rattle.atspi_app_values.proofs.Indexes.{few_children}
 use Rattle.atspi_app_answers.proofs.SelectedLemmas.{all_there}
 use Rattle.atspi_app_answers.proofs.selected.selected_count.Goals as goal
 

@@ -1,5 +1,5 @@
 use Rattle.std.proofs.Common.{subst, chars}
-use Rattle.atspi_cursor.specs.Items.{fields_data}
+use Rattle.atspi_marshal_in_place.specs.Items.{fields_data}
 use Rattle.atspi_protocol.specs.members.Arguments.{text_at}
 use Rattle.atspi_protocol.specs.members.Asked.{property_of}
 use Rattle.atspi_app_calls.specs.Object.{object_of}

@@ -1,5 +1,5 @@
 use Rattle.std.proofs.Common.{sym, ap₂, ◌∙◌}
-use Rattle.atspi_forest.specs.Forest.{first_of}
+use Rattle.atspi_tree_model.specs.Forest.{first_of}
 use Rattle.atspi_app_calls.proofs.Members.{any_is}
 use Rattle.atspi_app_calls.proofs.member.in_any.Goals as goal
 

@@ -1,5 +1,5 @@
 use Rattle.std.proofs.Common.{ap₂, ◌∙◌}
-use Rattle.atspi_forest.specs.Forest.{first_of}
+use Rattle.atspi_tree_model.specs.Forest.{first_of}
 use Rattle.atspi_app_calls.proofs.member.in_later.Goals as goal
 
 pub returns : goal.returns

@@ -1,9 +1,9 @@
 use Rattle.std.proofs.Common.{sym, ap, ◌∙◌, true, false}
-use Rattle.atspi_cursor.specs.Items.{fields_data}
-use Rattle.atspi_header.specs.View.{bytes_of}
+use Rattle.atspi_marshal_in_place.specs.Items.{fields_data}
+use Rattle.atspi_message_in_place.specs.View.{bytes_of}
 use Rattle.atspi_protocol.specs.members.Asked as asked
 use Rattle.atspi_app_calls.specs.Object.{object_of}
-use Rattle.atspi_app_calls.specs.Lines.{lent_line}
+use Rattle.atspi_app_calls.specs.inner.Lines.{lent_line}
 use Rattle.atspi_app_calls.proofs.Members.{codes_are, unnamed, none_of, taken_by}
 use Rattle.atspi_app_calls.proofs.member.member_of.Goals as goal
 

@@ -1,4 +1,4 @@
-use Rattle.atspi_exported.specs.Parts.{IsExported, faces_of, kinds_of, parts}
+use Rattle.atspi_app_exported.specs.Parts.{IsExported, faces_of, kinds_of, parts}
 use Rattle.atspi_app_cases.proofs.conversation.play.Given as goal
 
 abbrev pub invariant-loop-line : goal.invariant-loop-line

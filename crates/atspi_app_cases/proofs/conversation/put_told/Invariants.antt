@@ -1,4 +1,4 @@
-use Rattle.atspi_exported.specs.Parts.{IsExported, faces_of, kinds_of, parts}
+use Rattle.atspi_app_exported.specs.Parts.{IsExported, faces_of, kinds_of, parts}
 use Rattle.atspi_app_cases.proofs.conversation.put_told.Given as goal
 
 abbrev pub invariant-loop-event : goal.invariant-loop-event

@@ -1,4 +1,4 @@
-use Rattle.atspi_exported.specs.Parts.{IsExported, faces_of, kinds_of, parts}
+use Rattle.atspi_app_exported.specs.Parts.{IsExported, faces_of, kinds_of, parts}
 use Rattle.atspi_app_tests.proofs.wide.refuses_all.Given as goal
 
 abbrev pub invariant-loop-code : goal.invariant-loop-code

@@ -1,5 +1,5 @@
 use Rattle.std.proofs.Common.{None, sym, ap, ◌∙◌}
-use Rattle.atspi_header.specs.View.{envelope_at}
+use Rattle.atspi_message_in_place.specs.View.{envelope_at}
 use Rattle.atspi_match.specs.routing.Queues.{stepped}
 use Rattle.atspi_bus_answers.specs.Errors.{error_text}
 use Rattle.atspi_bus_answers.specs.Lines.{as_named}

@@ -1,7 +1,7 @@
 use Rattle.std.proofs.Common.{List, sym, ap, ◌∙◌}
 use Rattle.atspi_types.specs.Data.{Data}
 use Rattle.atspi_message.specs.Envelope.{envelope_of}
-use Rattle.atspi_header.specs.View.{envelope_at}
+use Rattle.atspi_message_in_place.specs.View.{envelope_at}
 use Rattle.atspi_match.specs.routing.Answers.{returns, fails}
 use Rattle.atspi_bus_answers.specs.Errors.{error_text}
 use Rattle.atspi_bus_steps.specs.Inner.{inner_of, state_of}

@@ -1,5 +1,5 @@
 use Rattle.std.proofs.Common.{sym, subst}
-use Rattle.atspi_header.specs.View.{envelope_at}
+use Rattle.atspi_message_in_place.specs.View.{envelope_at}
 use Rattle.atspi_bus_answers.specs.Answered.{reply_of}
 use Rattle.atspi_bus_steps.specs.Inner.{state_of}
 use Rattle.atspi_bus_steps.specs.Sayable.{MaySay}

@@ -1,6 +1,6 @@
 use Rattle.std.proofs.Common.{[], refl, sym, ap, ◌∙◌, subst}
 use Rattle.std.specs.List.{All}
-use Rattle.atspi_header.specs.View.{envelope_at}
+use Rattle.atspi_message_in_place.specs.View.{envelope_at}
 use Rattle.atspi_names.specs.Owners.{Owners, after_release}
 use Rattle.atspi_match.specs.declared.routing.member.BusMember.TheVariants.{RequestName}
 use Rattle.atspi_match.specs.routing.Answers.{answers, second_number}

@@ -1,6 +1,6 @@
 use Rattle.std.proofs.Common.{◌≡◌, ◌+◌, ◌-◌, ◌<◌, ℕ, length, get_or, subst, arith}
 use Rattle.std.proofs.lemmas.List.{take_more}
-use Rattle.atspi_queues.proofs.Pushing.{HasGone, back-room, back-next}
+use Rattle.atspi_bus_queues.proofs.Pushing.{HasGone, back-room, back-next}
 use Rattle.atspi_bus.proofs.in_place.take_back_each.Goals as goal
 
 from_end : (n i : ℕ) → i < n → n - i ≡ n - 1 - i + 1

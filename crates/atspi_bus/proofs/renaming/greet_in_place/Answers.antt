@@ -1,5 +1,5 @@
 use Rattle.std.proofs.Common.{◌+◌, ◌≤◌, length, refl, sym, ap, ◌∙◌, subst, arith}
-use Rattle.atspi_header.specs.View.{envelope_at}
+use Rattle.atspi_message_in_place.specs.View.{envelope_at}
 use Rattle.atspi_names.specs.Owners.{unique_name}
 use Rattle.atspi_names.proofs.UniqueLemmas.{is_bus_name-unique_name}
 use Rattle.atspi_match.specs.routing.BusState.{BusState}

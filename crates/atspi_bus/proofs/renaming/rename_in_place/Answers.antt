@@ -3,7 +3,7 @@ use Rattle.std.specs.List.{All}
 use Rattle.std.proofs.lemmas.List.{map-append}
 use Rattle.std.proofs.lemmas.List.Elements.{All-append}
 use Rattle.atspi_message.specs.Envelope.{envelope_of}
-use Rattle.atspi_header.specs.View.{envelope_at}
+use Rattle.atspi_message_in_place.specs.View.{envelope_at}
 use Rattle.atspi_bus_answers.specs.Answered.{reply_of}
 use Rattle.atspi_bus_steps.specs.Inner.{inner_of}
 use Rattle.atspi_bus_steps.specs.Sayable.{MaySay, IsTyped}

@@ -1,7 +1,7 @@
 use Rattle.std.proofs.Common.{map, sym, ap, ◌∙◌, subst}
 use Rattle.std.specs.List.{All}
 use Rattle.atspi_message.specs.Envelope.{envelope_of}
-use Rattle.atspi_header.specs.View.{envelope_at}
+use Rattle.atspi_message_in_place.specs.View.{envelope_at}
 use Rattle.atspi_match.specs.routing.Queues.{stepped}
 use Rattle.atspi_match.specs.routing.Steps.{speaks}
 use Rattle.atspi_bus_steps.specs.Inner.{inner_of, state_of}

@@ -1,6 +1,6 @@
 use Rattle.std.proofs.Common.{◌≡◌, ◌<◌, List, Option, subst}
 use Rattle.std.specs.Prelude.{OnOk, IsErrOf}
-use Rattle.atspi_header.specs.View.{envelope_at}
+use Rattle.atspi_message_in_place.specs.View.{envelope_at}
 use Rattle.atspi_match.specs.declared.condition.Condition.{Condition}
 use Rattle.atspi_match.specs.routing.Queues.{Bus, takes}
 use Rattle.atspi_bus_steps.specs.Inner.{inner_of}

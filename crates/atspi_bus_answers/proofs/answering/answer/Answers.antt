@@ -2,11 +2,11 @@ use Rattle.std.proofs.Common.{◌≡◌, sym, ap, ◌∙◌, []}
 use Rattle.std.specs.Prelude.{Ok}
 use Rattle.std.proofs.lemmas.Result.{IfOk-weaker}
 use Rattle.atspi_types.specs.Kinds.{Kind, kinds_of}
-use Rattle.atspi_cursor.specs.Items.{fields_data, fields_kinds}
-use Rattle.atspi_header.specs.View.{envelope_at}
+use Rattle.atspi_marshal_in_place.specs.Items.{fields_data, fields_kinds}
+use Rattle.atspi_message_in_place.specs.View.{envelope_at}
 use Rattle.atspi_bus_answers.specs.Lines.{takes_of}
 use Rattle.atspi_bus_answers.specs.Answered.{with_parts}
-use Rattle.atspi_bus_answers.specs.Members.{requested_answer, released_answer}
+use Rattle.atspi_bus_answers.specs.inner.Members.{requested_answer, released_answer}
 use Rattle.atspi_bus_answers.proofs.Asked.{asked_takes, body_codes, text_and_word}
 use Rattle.atspi_bus_answers.proofs.MemberAnswers.{as_requested, as_released, as_added, as_removed, named-requested, named-released, named-either}
 use Rattle.atspi_bus_answers.proofs.answering.answer.Goals as goal

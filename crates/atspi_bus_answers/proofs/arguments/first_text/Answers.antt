@@ -1,8 +1,8 @@
 use Rattle.std.proofs.Common.{◌≡◌, sym, ap, ◌∙◌}
 use Rattle.atspi_types.specs.Kinds.{text}
 use Rattle.atspi_marshal.specs.Reading.{input_of}
-use Rattle.atspi_cursor.specs.Items.{item_data, item_kind, fields_data}
-use Rattle.atspi_header.proofs.ReadTypes.{item_type}
+use Rattle.atspi_marshal_in_place.specs.Items.{item_data, item_kind, fields_data}
+use Rattle.atspi_message_in_place.proofs.ReadTypes.{item_type}
 use Rattle.atspi_match.specs.routing.Answers.{first_text}
 use Rattle.atspi_bus_answers.proofs.Literals.{nil-chars}
 use Rattle.atspi_bus_answers.proofs.FirstText.{no_first}

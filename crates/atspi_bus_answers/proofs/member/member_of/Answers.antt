@@ -2,7 +2,7 @@ use Rattle.std.proofs.Common.{◌≡◌, sym, ap, ◌∙◌, cond, true, false, 
 use Rattle.std.specs.Prelude.{bytes_eq, codes, Ok, Err}
 use Rattle.atspi_types.specs.Kinds.{Kind, kinds_of}
 use Rattle.atspi_types.specs.Signatures.{signature_bytes}
-use Rattle.atspi_header.specs.View.{envelope_at}
+use Rattle.atspi_message_in_place.specs.View.{envelope_at}
 use Rattle.atspi_match.specs.routing.Members.{signature_of}
 use Rattle.atspi_bus_answers.specs.Lines.{takes_of}
 use Rattle.atspi_bus_answers.proofs.Asked.{has_member, body_codes}

@@ -1,5 +1,5 @@
 use Rattle.std.proofs.Common.{◌≡◌, take}
-use Rattle.atspi_bus_steps.specs.Handing.{queued_each}
+use Rattle.atspi_bus_steps.specs.inner.Handing.{queued_each}
 use Rattle.atspi_bus_steps.proofs.handing.hand_out.Given as goal
 
 abbrev pub invariant-loop-conn : goal.invariant-loop-conn

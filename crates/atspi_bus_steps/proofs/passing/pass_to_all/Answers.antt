@@ -1,9 +1,9 @@
 use Rattle.std.proofs.Common.{◌≡◌, List, ℕ, [], ◌∷◌, None, Some, map, sym, ap, ◌∙◌}
-use Rattle.atspi_header.specs.View.{bytes_of, envelope_at}
+use Rattle.atspi_message_in_place.specs.View.{bytes_of, envelope_at}
 use Rattle.atspi_message.specs.Bytes.{written}
 use Rattle.atspi_match.specs.routing.Routing.{receivers, one_or_none}
 use Rattle.atspi_match.specs.routing.Steps.{is_unowned, calls_after_all}
-use Rattle.atspi_bus_steps.specs.Handing.{queued_each}
+use Rattle.atspi_bus_steps.specs.inner.Handing.{queued_each}
 use Rattle.atspi_bus_steps.specs.Inner.{call_of, parts}
 use Rattle.atspi_bus_steps.proofs.Asking.{receivers-to}
 use Rattle.atspi_bus_steps.proofs.InPlace.{told-as}

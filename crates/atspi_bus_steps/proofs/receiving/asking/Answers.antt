@@ -1,8 +1,8 @@
 use Rattle.std.proofs.Common.{◌++◌, ap, ◌∙◌}
 use Rattle.std.specs.List.{filter}
 use Rattle.std.proofs.lemmas.Result.{IfOk-weaker}
-use Rattle.atspi_header.specs.View.{envelope_at}
-use Rattle.atspi_bus_steps.specs.Asking.{has_joined}
+use Rattle.atspi_message_in_place.specs.View.{envelope_at}
+use Rattle.atspi_bus_steps.specs.inner.Asking.{has_joined}
 use Rattle.atspi_bus_steps.proofs.Asking.{asking-is}
 use Rattle.atspi_bus_steps.proofs.receiving.asking.Goals as goal
 

@@ -1,6 +1,6 @@
 use Rattle.std.proofs.Common.{◌≡◌, take}
 use Rattle.std.specs.List.{filter}
-use Rattle.atspi_bus_steps.specs.Asking.{has_joined}
+use Rattle.atspi_bus_steps.specs.inner.Asking.{has_joined}
 use Rattle.atspi_bus_steps.proofs.receiving.still_joined.Given as goal
 
 abbrev pub invariant-loop-conn : goal.invariant-loop-conn

@@ -1,8 +1,8 @@
 use Rattle.std.proofs.Common.{sym, ◌∙◌}
-use Rattle.atspi_cursor.specs.Items.{fields_data, fields_kinds}
+use Rattle.atspi_marshal_in_place.specs.Items.{fields_data, fields_kinds}
 use Rattle.atspi_marshal.specs.Reading.{input_of}
-use Rattle.atspi_header.specs.View.{envelope_at}
-use Rattle.atspi_header.proofs.ReadTypes.{fields_types}
+use Rattle.atspi_message_in_place.specs.View.{envelope_at}
+use Rattle.atspi_message_in_place.proofs.ReadTypes.{fields_types}
 use Rattle.atspi_bus_steps.proofs.Taken.{hello-yes, nil-kinds}
 use Rattle.atspi_bus_steps.proofs.taking.is_hello.Goals as goal
 

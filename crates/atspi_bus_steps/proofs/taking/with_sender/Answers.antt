@@ -1,7 +1,7 @@
 use Rattle.std.proofs.Common.{refl, sym, subst}
 use Rattle.atspi_base.specs.valid_names.Names.{IsBusName}
 use Rattle.atspi_base.proofs.OfValidNames.NameLemmas.{is_bus_name-from_IsBusName}
-use Rattle.atspi_header.proofs.Names.{each_named}
+use Rattle.atspi_message_in_place.proofs.Names.{each_named}
 use Rattle.atspi_bus_steps.proofs.taking.with_sender.Goals as goal
 
 pub invariant_of-result : goal.invariant_of-result

@@ -1,8 +1,8 @@
 use Rattle.std.proofs.Common.{◌≡◌, ℕ, ◌+◌, ◌++◌, List, [], length, take, drop, chars, string_bytes, IfOk, refl, sym, ap, subst, ◌∙◌, arith}
 use Rattle.std.specs.List.{replace_range}
 use Rattle.atspi_base.specs.Text.{HasNoZero}
-use Rattle.atspi_faces.specs.Places.{IsCounted}
-use Rattle.atspi_faces.proofs.PlaceLemmas.{boundary, cut_twice, removed, removed_counted, done_unless}
+use Rattle.atspi_base.specs.Places.{IsCounted}
+use Rattle.atspi_base.proofs.PlaceLemmas.{boundary, cut_twice, removed, removed_counted, done_unless}
 use Rattle.atspi_cache.proofs.edits.with_delete.Goals as goal
 
 pub range_from-requires : goal.range_from-requires

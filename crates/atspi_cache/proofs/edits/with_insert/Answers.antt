@@ -1,8 +1,8 @@
 use Rattle.std.proofs.Common.{◌≡◌, ℕ, ◌++◌, List, length, take, drop, chars, string_bytes, IfOk, refl, sym, ap, subst, ◌∙◌, arith}
 use Rattle.std.specs.List.{replace_range}
 use Rattle.atspi_base.specs.Text.{HasNoZero}
-use Rattle.atspi_faces.specs.Places.{IsCounted}
-use Rattle.atspi_faces.proofs.PlaceLemmas.{boundary, inserted, inserted_counted, done_unless}
+use Rattle.atspi_base.specs.Places.{IsCounted}
+use Rattle.atspi_base.proofs.PlaceLemmas.{boundary, inserted, inserted_counted, done_unless}
 use Rattle.atspi_cache.proofs.edits.with_insert.Goals as goal
 
 pub insert_str-requires : goal.insert_str-requires

@@ -3,9 +3,9 @@ use Rattle.std.specs.Option.{option_map}
 use Rattle.std.specs.Ordering.{nat_cmp, eq_by_cmp}
 use Rattle.std.specs.Cmp.{nat_cmp_total}
 use Rattle.std.specs.FinMap.{get, insert, remove, get-empty, get-insert, get-remove}
-use Rattle.atspi_forest.specs.declared.news.News.{News}
-use Rattle.atspi_forest.specs.Laws.{IsView}
-use Rattle.atspi_forest.proofs.RootAlone.{load_is_view, news_keep_view}
+use Rattle.atspi_tree_model.specs.declared.news.News.{News}
+use Rattle.atspi_tree_model.specs.Laws.{IsView}
+use Rattle.atspi_tree_model.proofs.RootAlone.{load_is_view, news_keep_view}
 use Rattle.atspi_cache.specs.Cache.{View, Views, told, with_view}
 use Rattle.atspi_cache.specs.Laws.{AreViews}
 use Rattle.atspi_cache.proofs.laws.views_stay_views.Goals as goal

@@ -1,10 +1,10 @@
 use Rattle.std.proofs.Common.{◌≡◌, ◌+◌, [], drop, sym, subst, ◌∙◌, rules}
 use Rattle.std.proofs.lemmas.List.{nil_from_length}
-use Rattle.atspi_forest.specs.Forest.{Forest}
-use Rattle.atspi_forest.specs.declared.view.Row.{Row}
-use Rattle.atspi_forest.specs.News.{load}
-use Rattle.atspi_load.specs.Shared.{shared}
-use Rattle.atspi_load.proofs.FillLemmas.{IsLeft, is_new, put_one}
+use Rattle.atspi_tree_model.specs.Forest.{Forest}
+use Rattle.atspi_tree_model.specs.declared.view.Row.{Row}
+use Rattle.atspi_tree_model.specs.News.{load}
+use Rattle.atspi_cache.specs.loading.Shared.{shared}
+use Rattle.atspi_cache.proofs.OfLoading.FillLemmas.{IsLeft, is_new, put_one}
 use Rattle.atspi_cache.proofs.LoadLemmas.{first_left, next_left, no_rows}
 use Rattle.atspi_cache.proofs.load.fill.Goals as goal
 

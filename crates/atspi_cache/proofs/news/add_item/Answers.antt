@@ -1,8 +1,8 @@
 use Rattle.std.proofs.Common.{◌≡◌, ℕ, w32, SFits, rules, List, Option, OnOk, sym, ap, subst, ◌∙◌}
 use Rattle.std.proofs.lemmas.Int.{to_z-of_z}
-use Rattle.atspi_forest.specs.declared.view.Row.{Row}
-use Rattle.atspi_forest.specs.Forest.{Forest, nil, tree, put_in}
-use Rattle.atspi_forest.specs.News.{is_path, fresh, spot}
+use Rattle.atspi_tree_model.specs.declared.view.Row.{Row}
+use Rattle.atspi_tree_model.specs.Forest.{Forest, nil, tree, put_in}
+use Rattle.atspi_tree_model.specs.News.{is_path, fresh, spot}
 use Rattle.atspi_cache.proofs.Effects.{added_foreign, added_own}
 use Rattle.atspi_cache.proofs.news.add_item.Goals as goal
 

@@ -1,12 +1,12 @@
 use Rattle.std.proofs.Common.{◌≡◌, OnOk, rules, w32, to_z, of_z, SFits, sym, ap, subst, ◌∙◌}
 use Rattle.std.specs.Prelude.{ℤ}
 use Rattle.std.proofs.lemmas.Int.{to_z-of_z}
-use Rattle.atspi_forest.specs.declared.view.Row.{Row}
-use Rattle.atspi_forest.specs.Forest.{Forest, change}
-use Rattle.atspi_forest.specs.Row.{delete_there, insert_there}
-use Rattle.atspi_forest.specs.News.{effect, is_path, known_text_with}
-use Rattle.atspi_arena.specs.Change.{changed}
-use Rattle.atspi_arena.specs.declared.change.Change.TheVariants.{Caret, CaretIs, ColumnsIs}
+use Rattle.atspi_tree_model.specs.declared.view.Row.{Row}
+use Rattle.atspi_tree_model.specs.Forest.{Forest, change}
+use Rattle.atspi_tree_model.specs.Row.{delete_there, insert_there}
+use Rattle.atspi_tree_model.specs.News.{effect, is_path, known_text_with}
+use Rattle.atspi_cache_arena.specs.Change.{changed}
+use Rattle.atspi_cache_arena.specs.declared.change.Change.TheVariants.{Caret, CaretIs, ColumnsIs}
 use Rattle.atspi_cache.proofs.news.fold.Goals as goal
 
 pub returns-in-Inserted-clause-ok : goal.returns-in-Inserted-clause-ok

@@ -1,6 +1,6 @@
 use Rattle.std.proofs.Common.{ap, ◌∙◌}
 use Rattle.std.specs.Prelude.{is_some}
-use Rattle.atspi_forest.specs.News.{is_path}
+use Rattle.atspi_tree_model.specs.News.{is_path}
 use Rattle.atspi_cache.proofs.Effects.{found_has, copied_some}
 use Rattle.atspi_cache.proofs.news.has.Goals as goal
 

@@ -1,8 +1,8 @@
 use Rattle.std.proofs.Common.{w32, sym, ap, ◌∙◌}
 use Rattle.std.specs.Prelude.{ℤ}
 use Rattle.std.proofs.lemmas.Int.{to_z-of_z}
-use Rattle.atspi_forest.specs.News.{is_path}
-use Rattle.atspi_forest.specs.Row.{insert_there}
+use Rattle.atspi_tree_model.specs.News.{is_path}
+use Rattle.atspi_tree_model.specs.Row.{insert_there}
 use Rattle.atspi_cache.proofs.Effects.{change_unknown, known_changed, not_known_same}
 use Rattle.atspi_cache.proofs.news.insert.Goals as goal
 

@@ -1,5 +1,5 @@
 use Rattle.std.proofs.Common.{sym, ◌∙◌}
-use Rattle.atspi_forest.specs.News.{is_path}
+use Rattle.atspi_tree_model.specs.News.{is_path}
 use Rattle.atspi_cache.proofs.Effects.{moved_foreign}
 use Rattle.atspi_cache.proofs.news.move_there.Goals as goal
 

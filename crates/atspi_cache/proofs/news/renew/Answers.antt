@@ -1,8 +1,8 @@
 use Rattle.std.proofs.Common.{ℕ, List, ap, ◌∙◌}
-use Rattle.atspi_forest.specs.Forest.{change}
-use Rattle.atspi_forest.specs.News.{is_path}
-use Rattle.atspi_arena.specs.Change.{changed}
-use Rattle.atspi_arena.specs.declared.change.Change.{Change}
+use Rattle.atspi_tree_model.specs.Forest.{change}
+use Rattle.atspi_tree_model.specs.News.{is_path}
+use Rattle.atspi_cache_arena.specs.Change.{changed}
+use Rattle.atspi_cache_arena.specs.declared.change.Change.{Change}
 use Rattle.atspi_cache.proofs.news.renew.Goals as goal
 
 pub returns : goal.returns

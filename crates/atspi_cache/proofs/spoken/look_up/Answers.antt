@@ -2,7 +2,7 @@ use Rattle.std.proofs.Common.{ap, sym, subst, ◌∙◌}
 use Rattle.std.specs.Prelude.{is_some}
 use Rattle.std.specs.Option.{option_copied}
 use Rattle.atspi_speech.specs.Looked.{AreLookedUp}
-use Rattle.atspi_forest.specs.News.{is_path}
+use Rattle.atspi_tree_model.specs.News.{is_path}
 use Rattle.atspi_cache.specs.Cache.{row_in}
 use Rattle.atspi_cache.proofs.Effects.{copied_some, found_has}
 use Rattle.atspi_cache.proofs.spoken.look_up.Goals as goal

@@ -1,12 +1,12 @@
 use Rattle.std.proofs.Common.{◌≡◌, inl, ℕ, ◌<◌, true, false, List, [], ◌∷◌, refl, sym, ap, ◌∙◌, subst, arith}
-use Rattle.atspi_lines.specs.declared.line.Party.TheVariants.{App}
+use Rattle.atspi_script_lines.specs.declared.line.Party.TheVariants.{App}
 use Rattle.atspi_match.specs.routing.Queues.{Bus}
 use Rattle.atspi_trace.specs.Entry.{Entry, exited}
 use Rattle.atspi_trace.specs.World.{World}
 use Rattle.atspi_trace.specs.Causes.{Cause, Done, does, exits}
 use Rattle.atspi_trace.specs.Due.{is_lost}
 use Rattle.atspi_trace.specs.Work.{Work, doing, resting, cause, rests, next_of}
-use Rattle.atspi_carrying.specs.Halted.{HasNext, IsAtWork, WorksOn, so_far, caused}
+use Rattle.atspi_world_moves.specs.Halted.{HasNext, IsAtWork, WorksOn, so_far, caused}
 use Rattle.atspi_examples.specs.Halting.{registry_left, two_ends}
 use Rattle.atspi_examples.proofs.halts.lines.Goals as goal
 

@@ -1,8 +1,8 @@
 use Rattle.std.proofs.Common.{◌⊎◌, inl, inr, [], ◌∷◌, refl, arith}
-use Rattle.atspi_lines.specs.declared.line.Party.TheVariants.{App}
+use Rattle.atspi_script_lines.specs.declared.line.Party.TheVariants.{App}
 use Rattle.atspi_match.specs.routing.Queues.{Bus}
 use Rattle.atspi_trace.specs.Entry.{dropped}
-use Rattle.atspi_carrying.specs.Halted.{HaveNames}
+use Rattle.atspi_world_moves.specs.Halted.{HaveNames}
 use Rattle.atspi_examples.specs.Halting.{one_named, two_ends}
 use Rattle.atspi_examples.proofs.Namings.{lacks}
 use Rattle.atspi_examples.proofs.halts.spent.Goals as goal

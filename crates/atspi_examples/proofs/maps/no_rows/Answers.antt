@@ -1,7 +1,7 @@
 use Rattle.std.proofs.Common.{◌≡◌, ℕ, zero, suc, ◌+◌, ◌≤◌, ◌<◌, ◌==◌, Bool, true, false, cond, List, [], ◌∷◌, length, refl, arith}
 use Rattle.std.specs.Prelude.{IsSome, nat_lt}
 use Rattle.std.proofs.lemmas.Bool.{eqb-true, lt-ltb, ltb-true, ltb-false}
-use Rattle.atspi_forest.specs.Map.{times}
+use Rattle.atspi_tree_model.specs.Map.{times}
 use Rattle.atspi_examples.specs.Room.{bare}
 use Rattle.atspi_examples.specs.Maps.{crowd}
 use Rattle.atspi_examples.proofs.maps.no_rows.Goals as goal

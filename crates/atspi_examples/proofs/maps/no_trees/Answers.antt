@@ -1,5 +1,5 @@
 use Rattle.std.proofs.Common.{◌≡◌, ℕ, zero, suc, ◌≤◌, [], ◌∷◌, refl, subst, arith}
-use Rattle.atspi_forest.specs.Map.{times, Reached, Root, Child}
+use Rattle.atspi_tree_model.specs.Map.{times, Reached, Root, Child}
 use Rattle.atspi_examples.specs.Maps.{children_of}
 use Rattle.atspi_examples.proofs.maps.no_trees.Goals as goal
 

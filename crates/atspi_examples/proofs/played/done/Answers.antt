@@ -1,7 +1,7 @@
 use Rattle.std.proofs.Common.{refl, ◌∷◌, [], None, codes}
-use Rattle.atspi_lines.specs.declared.limits.TheConstants.{QUOTA_MOST}
-use Rattle.atspi_lines.specs.declared.line.Line.TheVariants.{Blank, Call, Drain, Reader as Reader_line}
-use Rattle.atspi_lines.specs.declared.line.Party.TheVariants.{Reader}
+use Rattle.atspi_script_lines.specs.declared.limits.TheConstants.{QUOTA_MOST}
+use Rattle.atspi_script_lines.specs.declared.line.Line.TheVariants.{Blank, Call, Drain, Reader as Reader_line}
+use Rattle.atspi_script_lines.specs.declared.line.Party.TheVariants.{Reader}
 use Rattle.atspi_protocol.specs.declared.following.question.Question.TheVariants.{Hello}
 use Rattle.atspi_protocol.specs.following.Calls.{asking}
 use Rattle.atspi_trace.specs.Causes.{calls, starts_reader, tells_quiet}

@@ -1,7 +1,7 @@
 use Rattle.std.proofs.Common.{◌+◌, ◌-◌, length, ap, refl, ◌∙◌, arith}
 use Rattle.atspi_faces.specs.declared.side.Place.{Place}
 use Rattle.atspi_faces.specs.Gap.{text_of}
-use Rattle.atspi_faces.proofs.PlaceLemmas.{cut_same}
+use Rattle.atspi_base.proofs.PlaceLemmas.{cut_same}
 use Rattle.atspi_faces.proofs.GapLemmas.{moved_left, moved_right}
 use Rattle.atspi_faces.proofs.KeptLemmas.{kept_fits, kept_sides, kept_moved, place_in_front, place_in_back}
 use Rattle.atspi_faces.proofs.gap.go_to.Goals as goal

@@ -1,4 +1,4 @@
-use Rattle.atspi_faces.proofs.PlaceLemmas.{no_zero-take, no_zero-drop}
+use Rattle.atspi_base.proofs.PlaceLemmas.{no_zero-take, no_zero-drop}
 use Rattle.atspi_faces.proofs.gap.piece.Goals as goal
 
 pub returns-clause-no_zero : goal.returns-clause-no_zero

@@ -1,8 +1,8 @@
 use Rattle.std.proofs.Common.{◌≡◌, ℕ, ◌+◌, ◌-◌, List, length, take, drop, reverse, chars, refl, sym, ap, subst, ◌∙◌, arith}
 use Rattle.std.specs.List.{slice_range}
-use Rattle.atspi_faces.specs.Places.{CutAt}
+use Rattle.atspi_base.specs.Places.{CutAt}
 use Rattle.atspi_faces.specs.Sides.{IsSide}
-use Rattle.atspi_faces.proofs.PlaceLemmas.{boundary, cut_behind, cut_twice}
+use Rattle.atspi_base.proofs.PlaceLemmas.{boundary, cut_behind, cut_twice}
 use Rattle.atspi_faces.proofs.SideLemmas.{cut_within}
 use Rattle.atspi_faces.proofs.side.byte_in.Goals as goal
 

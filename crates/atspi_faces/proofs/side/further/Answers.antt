@@ -1,7 +1,7 @@
 use Rattle.std.proofs.Common.{◌≡◌, ◌+◌, ◌-◌, length, chars, refl, ap, subst, ◌∙◌, arith}
 use Rattle.std.proofs.lemmas.List.{length-drop}
-use Rattle.atspi_faces.specs.Places.{CutAt}
-use Rattle.atspi_faces.proofs.PlaceLemmas.{boundary, cut_behind, cut_twice}
+use Rattle.atspi_base.specs.Places.{CutAt}
+use Rattle.atspi_base.proofs.PlaceLemmas.{boundary, cut_behind, cut_twice}
 use Rattle.atspi_faces.proofs.side.further.Goals as goal
 
 pub range_from-rest-requires : goal.range_from-rest-requires

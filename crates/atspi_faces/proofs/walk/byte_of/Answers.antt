@@ -1,5 +1,5 @@
 use Rattle.std.proofs.Common.{◌∙◌, arith}
-use Rattle.atspi_faces.proofs.PlaceLemmas.{cut_ascii, cut_end}
+use Rattle.atspi_base.proofs.PlaceLemmas.{cut_ascii, cut_end}
 use Rattle.atspi_faces.proofs.walk.byte_of.Goals as goal
 
 pub returns-then-text-count : goal.returns-then-text-count

@@ -1,12 +1,12 @@
 use Rattle.std.proofs.Common.{◌≡◌, ℕ, ◌+◌, ◌-◌, List, [], length, refl, sym, subst, ◌∙◌, rules, arith}
-use Rattle.atspi_host.specs.Calls.{IsOpen}
-use Rattle.atspi_conversation.proofs.StepLemmas.{at_first, may_begin}
+use Rattle.atspi_live_host.specs.Calls.{IsOpen}
+use Rattle.atspi_live_conversation.proofs.StepLemmas.{at_first, may_begin}
 use Rattle.atspi_live_app.specs.Lines.{lines_of}
 use Rattle.atspi_live_app.specs.Live.{IsMarked, aside_of}
 use Rattle.atspi_live_app.specs.declared.over.Over.TheVariants.{Ended}
-use Rattle.atspi_conversation.specs.declared.ending.Ending.TheVariants.{RoundsDone}
-use Rattle.atspi_conversation.specs.Rounds.{IsRound, Makes}
-use Rattle.atspi_conversation.proofs.RoundLemmas.{makes_none}
+use Rattle.atspi_live_conversation.specs.declared.ending.Ending.TheVariants.{RoundsDone}
+use Rattle.atspi_live_conversation.specs.Rounds.{IsRound, Makes}
+use Rattle.atspi_live_conversation.proofs.RoundLemmas.{makes_none}
 use Rattle.atspi_live_app.specs.Overs.{OverBlames}
 use Rattle.atspi_live_app.specs.Pace.{BreaksOver}
 use Rattle.atspi_live_app.specs.Standing.{IsAfter, IsEmpty}

@@ -1,6 +1,6 @@
 use Rattle.std.proofs.Common.{◌≡◌, ℕ, ◌-◌, ◌*◌, ◌≤◌, List, length}
-use Rattle.atspi_conversation.specs.Talking.{Going, MaySpeak, heard_in}
-use Rattle.atspi_conversation.specs.Rounds.{Makes}
+use Rattle.atspi_live_conversation.specs.Talking.{Going, MaySpeak, heard_in}
+use Rattle.atspi_live_conversation.specs.Rounds.{Makes}
 use Rattle.atspi_live_app.specs.Lines.{lines_of}
 use Rattle.atspi_live_app.specs.Live.{aside_of}
 use Rattle.atspi_live_app.proofs.Pacing.{Paced}

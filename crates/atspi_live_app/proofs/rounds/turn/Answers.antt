@@ -1,10 +1,10 @@
 use Rattle.std.proofs.Common.{length, refl, rules}
-use Rattle.atspi_conversation.specs.Speech.{envelopes}
+use Rattle.atspi_live_conversation.specs.Speech.{envelopes}
 use Rattle.atspi_live_app.specs.Lines.{lines_of}
 use Rattle.atspi_live_app.specs.Live.{IsMarked, aside_of}
 use Rattle.atspi_live_app.specs.Pace.{BreaksOver}
 use Rattle.atspi_live_app.specs.declared.over.Over.TheVariants.{Stopped}
-use Rattle.atspi_conversation.proofs.RoundLemmas.{makes_none}
+use Rattle.atspi_live_conversation.proofs.RoundLemmas.{makes_none}
 use Rattle.atspi_live_app.proofs.Turning.{StandsOf, breaks_of, going_turns, heard_of, may_turns, round_of, see_of, seen_of, turn_ended, turn_stopped}
 use Rattle.atspi_live_app.proofs.rounds.turn.Goals as goal
 

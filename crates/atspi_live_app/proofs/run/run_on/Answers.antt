@@ -1,5 +1,5 @@
 use Rattle.std.proofs.Common.{◌≡◌, ℕ, List, subst, ◌∙◌}
-use Rattle.atspi_live_registry.proofs.Running.{connected, on_link}
+use Rattle.atspi_live_conversation.proofs.Running.{connected, on_link}
 use Rattle.atspi_live_app.specs.Lines.{lines_of}
 use Rattle.atspi_live_app.specs.Rounds.{RunsPaced}
 use Rattle.atspi_live_app.specs.Runs.{TextEnds}

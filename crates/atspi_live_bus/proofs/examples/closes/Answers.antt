@@ -1,5 +1,5 @@
 use Rattle.std.proofs.Common.{[], ◌∷◌, sym}
-use Rattle.atspi_host.specs.declared.call.Call.TheVariants.{Close}
+use Rattle.atspi_live_host.specs.declared.call.Call.TheVariants.{Close}
 use Rattle.atspi_live_bus.proofs.Worked.{both_shut, is_shut, none_shut, not_none, other_close, second_shut}
 use Rattle.atspi_live_bus.proofs.examples.closes.Goals as goal
 

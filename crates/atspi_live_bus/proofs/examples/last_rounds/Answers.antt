@@ -1,6 +1,6 @@
 use Rattle.std.proofs.Common.{refl, inl, inr}
-use Rattle.atspi_host.specs.declared.call.Did.TheVariants.{Failed}
-use Rattle.atspi_host.specs.declared.call.Call.TheVariants.{Accept}
+use Rattle.atspi_live_host.specs.declared.call.Did.TheVariants.{Failed}
+use Rattle.atspi_live_host.specs.declared.call.Call.TheVariants.{Accept}
 use Rattle.atspi_live_bus.specs.Course.{start}
 use Rattle.atspi_live_bus.proofs.Stopping.{failed_round, failed_unseated, joined_not_start, joining_round, no_accept, waiting_round, waits_failed}
 use Rattle.atspi_live_bus.proofs.examples.last_rounds.Goals as goal

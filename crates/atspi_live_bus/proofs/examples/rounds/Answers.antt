@@ -1,7 +1,7 @@
 use Rattle.std.proofs.Common.{[], ◌∷◌, refl, arith}
 use Rattle.std.specs.Prelude.{codes}
-use Rattle.atspi_host.specs.declared.call.Did.TheVariants.{Done, NotYet}
-use Rattle.atspi_host.specs.declared.call.Call.TheVariants.{Accept, Listen}
+use Rattle.atspi_live_host.specs.declared.call.Did.TheVariants.{Done, NotYet}
+use Rattle.atspi_live_host.specs.declared.call.Call.TheVariants.{Accept, Listen}
 use Rattle.atspi_live_bus.specs.Course.{start}
 use Rattle.atspi_live_bus.proofs.Worked.{empty_round, quiet_round, rounds_count, some_round, turn_due, two_round}
 use Rattle.atspi_live_bus.proofs.examples.rounds.Goals as goal

@@ -1,7 +1,7 @@
 use Rattle.std.proofs.Common.{[], ◌∷◌, refl, inl, inr, lit<}
 use Rattle.std.specs.Prelude.{codes}
-use Rattle.atspi_host.specs.declared.call.Did.TheVariants.{Done, NotYet, Failed}
-use Rattle.atspi_host.specs.declared.call.Call.TheVariants.{Accept, Listen}
+use Rattle.atspi_live_host.specs.declared.call.Did.TheVariants.{Done, NotYet, Failed}
+use Rattle.atspi_live_host.specs.declared.call.Call.TheVariants.{Accept, Listen}
 use Rattle.atspi_live_bus.specs.Course.{start}
 use Rattle.atspi_live_bus.specs.declared.stop.Stop.TheVariants as stops
 use Rattle.atspi_live_bus.proofs.Worked.{empty_round, none_run, not_failed, nothing_passed}

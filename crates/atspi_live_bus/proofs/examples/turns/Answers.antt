@@ -1,6 +1,6 @@
 use Rattle.std.proofs.Common.{[], ◌∷◌}
-use Rattle.atspi_host.specs.declared.call.Did.TheVariants.{Done, NotYet}
-use Rattle.atspi_host.specs.declared.call.Call.TheVariants.{Accept}
+use Rattle.atspi_live_host.specs.declared.call.Did.TheVariants.{Done, NotYet}
+use Rattle.atspi_live_host.specs.declared.call.Call.TheVariants.{Accept}
 use Rattle.atspi_live_bus.specs.Cases.{one_link}
 use Rattle.atspi_live_bus.proofs.Worked.{answered_turn, closed_turn, ended_turn, gone, one_not_none, own_turn, quiet_turn, some_turn}
 use Rattle.atspi_live_bus.proofs.examples.turns.Goals as goal

@@ -1,9 +1,9 @@
 use Rattle.std.proofs.Common.{◌≡◌}
 use Rattle.std.specs.Prelude.{◌≢◌}
-use Rattle.atspi_host.specs.declared.call.Did.{Did}
-use Rattle.atspi_host.specs.declared.call.Did.TheVariants.{Failed}
+use Rattle.atspi_live_host.specs.declared.call.Did.{Did}
+use Rattle.atspi_live_host.specs.declared.call.Did.TheVariants.{Failed}
 use Rattle.atspi_live_bus.specs.Service.{OfTold}
-use Rattle.atspi_live_bus.specs.Serving.{Serves}
+use Rattle.atspi_live_bus.specs.inner.Serving.{Serves}
 use Rattle.atspi_live_bus.proofs.Rounding.{HasRounds}
 use Rattle.atspi_live_bus.proofs.run.bus.Given as goal
 

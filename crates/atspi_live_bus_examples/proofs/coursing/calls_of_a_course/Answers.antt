@@ -1,7 +1,7 @@
 use Rattle.std.proofs.Common.{[], ◌∷◌, refl}
 use Rattle.std.specs.Prelude.{codes}
-use Rattle.atspi_host.specs.declared.call.Did.TheVariants.{Done, NotYet}
-use Rattle.atspi_host.specs.declared.call.Call.TheVariants.{Accept, Listen}
+use Rattle.atspi_live_host.specs.declared.call.Did.TheVariants.{Done, NotYet}
+use Rattle.atspi_live_host.specs.declared.call.Call.TheVariants.{Accept, Listen}
 use Rattle.atspi_live_bus.proofs.Worked.{nothing_passed}
 use Rattle.atspi_live_bus_examples.proofs.Facts.{some_byte, one_conn_of}
 use Rattle.atspi_live_bus_examples.proofs.coursing.calls_of_a_course.Goals as goal

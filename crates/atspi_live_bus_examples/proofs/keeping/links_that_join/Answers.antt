@@ -2,7 +2,7 @@ use Rattle.std.proofs.Common.{◌≡◌, [], ◌∷◌, refl, sym, ap, ◌∙◌
 use Rattle.std.specs.Prelude.{ℕ, List}
 use Rattle.atspi_bus.specs.View.{bus_of, given_of}
 use Rattle.atspi_match.specs.routing.Queues.{Bus}
-use Rattle.atspi_live_bus.specs.Seats.{seats}
+use Rattle.atspi_live_bus.specs.inner.Seats.{seats}
 use Rattle.atspi_live_bus_examples.proofs.Linked.{no_seat}
 use Rattle.atspi_live_bus_examples.proofs.Seated.{four_five}
 use Rattle.atspi_live_bus_examples.proofs.Kept.{first_conn, first_number, none_waits, same_count, second_conn, second_number, three_five, zero_one}

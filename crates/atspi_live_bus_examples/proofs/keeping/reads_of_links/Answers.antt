@@ -1,10 +1,10 @@
 use Rattle.std.proofs.Common.{[], ◌++◌, refl, sym, subst, inl, lit≤, append-nil}
 use Rattle.std.specs.Prelude.{ℕ, List, false, true}
-use Rattle.atspi_host.specs.Calls.{taken}
+use Rattle.atspi_live_host.specs.Calls.{taken}
 use Rattle.atspi_live_bus.specs.Service.{IsSpeech}
-use Rattle.atspi_host.specs.declared.call.Did.{Did}
-use Rattle.atspi_host.specs.declared.call.Did.TheVariants.{NotYet, End}
-use Rattle.atspi_host.specs.declared.call.Call.TheVariants.{Read}
+use Rattle.atspi_live_host.specs.declared.call.Did.{Did}
+use Rattle.atspi_live_host.specs.declared.call.Did.TheVariants.{NotYet, End}
+use Rattle.atspi_live_host.specs.declared.call.Call.TheVariants.{Read}
 use Rattle.atspi_live_bus.specs.Turns.{Converses, Remains}
 use Rattle.atspi_live_bus.proofs.Conversing.{speech_of}
 use Rattle.atspi_live_bus.proofs.Worked.{not_none}

@@ -1,11 +1,11 @@
 use Rattle.std.proofs.Common.{◌≡◌, [], ◌∷◌, sym, ap, subst, ◌∙◌}
 use Rattle.std.specs.Prelude.{ℕ, List, Some}
-use Rattle.atspi_host.specs.Calls.{given, taken}
-use Rattle.atspi_host.specs.declared.call.Did.TheVariants.{Done}
-use Rattle.atspi_host.specs.declared.call.Call.TheVariants.{Read, Write}
+use Rattle.atspi_live_host.specs.Calls.{given, taken}
+use Rattle.atspi_live_host.specs.declared.call.Did.TheVariants.{Done}
+use Rattle.atspi_live_host.specs.declared.call.Call.TheVariants.{Read, Write}
 use Rattle.atspi_live_bus.specs.Asked.{messages_of, taking}
 use Rattle.atspi_live_bus.specs.Cases.{two_conns}
-use Rattle.atspi_live_bus.specs.Seats.{seats}
+use Rattle.atspi_live_bus.specs.inner.Seats.{seats}
 use Rattle.atspi_live_bus.specs.Turns.{Converses}
 use Rattle.atspi_live_bus_examples.proofs.Facts.{none_some, zero_is}
 use Rattle.atspi_live_bus_examples.proofs.Kept.{first_conn, first_number, first_wrong, none_given, none_told, zero_one}

@@ -1,5 +1,5 @@
 use Rattle.std.proofs.Common.{refl}
-use Rattle.atspi_host.specs.declared.call.Did.TheVariants.{NotYet}
+use Rattle.atspi_live_host.specs.declared.call.Did.TheVariants.{NotYet}
 use Rattle.atspi_live_bus_examples.proofs.Facts.{few_given, its_gift, some_given}
 use Rattle.atspi_live_bus_examples.proofs.rounding.gifts.Goals as goal
 

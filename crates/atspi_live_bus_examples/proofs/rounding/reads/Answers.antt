@@ -1,5 +1,5 @@
 use Rattle.std.proofs.Common.{refl}
-use Rattle.atspi_host.specs.declared.call.Did.TheVariants.{Done}
+use Rattle.atspi_live_host.specs.declared.call.Did.TheVariants.{Done}
 use Rattle.atspi_live_bus_examples.proofs.Facts.{few_read, its_read}
 use Rattle.atspi_live_bus_examples.proofs.rounding.reads.Goals as goal
 

@@ -1,5 +1,5 @@
 use Rattle.std.proofs.Common.{[], ◌∷◌, refl}
-use Rattle.atspi_host.specs.declared.call.Call.TheVariants.{Close}
+use Rattle.atspi_live_host.specs.declared.call.Call.TheVariants.{Close}
 use Rattle.atspi_live_bus.specs.Course.{start}
 use Rattle.atspi_live_bus_examples.proofs.Facts.{no_more_calls}
 use Rattle.atspi_live_bus_examples.proofs.rounding.tellings.Goals as goal

@@ -3,7 +3,7 @@ use Rattle.std.specs.Prelude.{ℕ, List}
 use Rattle.atspi_live_bus.specs.Asked.{telling}
 use Rattle.atspi_live_bus_examples.proofs.Facts.{no_more_calls, some_byte}
 use Rattle.atspi_live_bus_examples.proofs.Linked.{five_three, head_or, second_or, some_message}
-use Rattle.atspi_live_bus.specs.Seats.{numbers_of}
+use Rattle.atspi_live_bus.specs.inner.Seats.{numbers_of}
 use Rattle.atspi_live_bus_examples.proofs.Facts.{two_one}
 use Rattle.atspi_live_bus_examples.proofs.seating.calls_for_one.Goals as goal
 

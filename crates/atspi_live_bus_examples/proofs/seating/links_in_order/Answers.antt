@@ -1,5 +1,5 @@
 use Rattle.std.proofs.Common.{[], refl, ap}
-use Rattle.atspi_live_bus.specs.Seats.{numbers_of}
+use Rattle.atspi_live_bus.specs.inner.Seats.{numbers_of}
 use Rattle.atspi_live_bus_examples.proofs.Linked.{five_three_seats, no_number}
 use Rattle.atspi_live_bus_examples.proofs.seating.links_in_order.Goals as goal
 

@@ -1,5 +1,5 @@
 use Rattle.std.proofs.Common.{[], refl, sym, inl}
-use Rattle.atspi_host.specs.declared.call.Call.TheVariants.{Close}
+use Rattle.atspi_live_host.specs.declared.call.Call.TheVariants.{Close}
 use Rattle.atspi_live_bus.proofs.Worked.{not_none}
 use Rattle.atspi_live_bus_examples.proofs.Facts.{none_some}
 use Rattle.atspi_live_bus_examples.proofs.Linked.{none_dismissed}

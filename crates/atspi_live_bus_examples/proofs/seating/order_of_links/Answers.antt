@@ -1,7 +1,7 @@
 use Rattle.std.proofs.Common.{[], ◌∷◌, refl, sym, ap, subst, lit<}
 use Rattle.std.specs.Prelude.{ℕ, List}
-use Rattle.atspi_host.specs.declared.call.Call.TheVariants.{Close}
-use Rattle.atspi_live_bus.specs.Seats.{Rise, left, numbers_of}
+use Rattle.atspi_live_host.specs.declared.call.Call.TheVariants.{Close}
+use Rattle.atspi_live_bus.specs.inner.Seats.{Rise, left, numbers_of}
 use Rattle.atspi_live_bus_examples.proofs.Linked.{below_one, below_two, falls, no_number, no_seat, not_above}
 use Rattle.atspi_live_bus_examples.proofs.seating.order_of_links.Goals as goal
 

@@ -1,8 +1,8 @@
 use Rattle.std.proofs.Common.{[], ◌∷◌, refl, sym, ap, ◌∙◌, inl, inr}
 use Rattle.std.specs.Prelude.{ℕ, List}
-use Rattle.atspi_host.specs.declared.call.Call.TheVariants.{Write}
+use Rattle.atspi_live_host.specs.declared.call.Call.TheVariants.{Write}
 use Rattle.atspi_live_bus.proofs.Worked.{not_none}
-use Rattle.atspi_host.specs.declared.call.Did.TheVariants.{NotYet}
+use Rattle.atspi_live_host.specs.declared.call.Did.TheVariants.{NotYet}
 use Rattle.atspi_live_bus_examples.proofs.Facts.{some_byte}
 use Rattle.atspi_live_bus_examples.proofs.Linked.{nine_waits}
 use Rattle.atspi_live_bus_examples.proofs.seating.what_waited.Goals as goal

@@ -1,7 +1,7 @@
 use Rattle.std.proofs.Common.{[], ◌∷◌, refl, subst, inl, inr}
 use Rattle.std.specs.Prelude.{ℕ, List, true}
-use Rattle.atspi_host.specs.Calls.{IsOpen, taken}
-use Rattle.atspi_host.specs.declared.call.Call.TheVariants.{Close}
+use Rattle.atspi_live_host.specs.Calls.{IsOpen, taken}
+use Rattle.atspi_live_host.specs.declared.call.Call.TheVariants.{Close}
 use Rattle.atspi_live_bus.specs.Asked.{taking}
 use Rattle.atspi_live_bus.specs.Closes.{Follows, Parts}
 use Rattle.atspi_live_bus.specs.Course.{Steps}

@@ -1,6 +1,6 @@
 use Rattle.std.proofs.Common.{[], ◌∷◌, refl, sym, ap, ◌∙◌, append-nil}
 use Rattle.std.specs.Prelude.{ℕ, Option}
-use Rattle.atspi_host.specs.declared.call.Call.TheVariants.{Close}
+use Rattle.atspi_live_host.specs.declared.call.Call.TheVariants.{Close}
 use Rattle.atspi_match.specs.routing.Queues.{Bus}
 use Rattle.atspi_live_bus_examples.proofs.Facts.{none_some}
 use Rattle.atspi_live_bus_examples.proofs.Seated.{four_five, shut_none, shut_second, some_closing, told_joining, without_second}

@@ -1,11 +1,11 @@
 use Rattle.std.proofs.Common.{◌≡◌, [], ◌∷◌, ◌++◌, refl, sym, subst, inl, inr, lit≤}
 use Rattle.std.specs.Prelude.{ℕ, List, true}
-use Rattle.atspi_host.specs.Calls.{IsOpen, taken}
-use Rattle.atspi_host.specs.declared.call.Did.TheVariants.{Done, End}
-use Rattle.atspi_host.specs.declared.call.Call.{Call}
-use Rattle.atspi_host.specs.declared.call.Call.TheVariants.{Close, Read}
+use Rattle.atspi_live_host.specs.Calls.{IsOpen, taken}
+use Rattle.atspi_live_host.specs.declared.call.Did.TheVariants.{Done, End}
+use Rattle.atspi_live_host.specs.declared.call.Call.{Call}
+use Rattle.atspi_live_host.specs.declared.call.Call.TheVariants.{Close, Read}
 use Rattle.atspi_live_bus.specs.Rounds.{IsHeard}
-use Rattle.atspi_live_bus.specs.Seats.{left, numbers_of}
+use Rattle.atspi_live_bus.specs.inner.Seats.{left, numbers_of}
 use Rattle.atspi_live_bus.proofs.Worked.{by_message, not_none}
 use Rattle.atspi_live_bus_examples.proofs.Facts.{few_read, its_read, three_not_open}
 use Rattle.atspi_live_bus_examples.proofs.Linked.{no_seat}

@@ -1,8 +1,8 @@
 use Rattle.std.proofs.Common.{[], ◌∷◌, refl, subst, inl, inr}
 use Rattle.std.specs.Prelude.{ℕ, List, true}
-use Rattle.atspi_host.specs.Calls.{IsOpen}
-use Rattle.atspi_host.specs.declared.call.Did.TheVariants.{Failed}
-use Rattle.atspi_host.specs.declared.call.Call.TheVariants.{Close, Write}
+use Rattle.atspi_live_host.specs.Calls.{IsOpen}
+use Rattle.atspi_live_host.specs.declared.call.Did.TheVariants.{Failed}
+use Rattle.atspi_live_host.specs.declared.call.Call.TheVariants.{Close, Write}
 use Rattle.atspi_live_bus.specs.Rounds.{MayGive}
 use Rattle.atspi_live_bus_examples.proofs.Facts.{gift_is_due, three_not_open}
 use Rattle.atspi_live_bus_examples.proofs.Seated.{is_first, of_both, on_both, on_second, seated_first, without_first}

@@ -1,6 +1,6 @@
 use Rattle.std.proofs.Common.{[], ◌∷◌, refl, ap, inr, lit<, lit≤}
 use Rattle.std.specs.Prelude.{ℕ, List}
-use Rattle.atspi_host.specs.declared.call.Did.TheVariants.{Done, NotYet}
+use Rattle.atspi_live_host.specs.declared.call.Did.TheVariants.{Done, NotYet}
 use Rattle.atspi_live_bus_examples.proofs.Seated.{all_waits, failed_empty, failed_none, failed_other, failed_others, failed_too_many, fits_in, full, goes_on_empty, goes_on_failed, goes_on_more, goes_on_other, goes_on_others, waits_not_failed}
 use Rattle.atspi_live_bus_examples.proofs.turning.writes_of_links.Goals as goal
 

@@ -1,10 +1,10 @@
 use Rattle.std.proofs.Common.{◌≡◌, ℕ, List, [], ◌++◌, refl, sym, subst, ◌∙◌, rules, arith}
 use Rattle.std.proofs.KnownBytes.{Appends-nil}
 use Rattle.atspi_base.specs.Outside.{appends_both}
-use Rattle.atspi_host.specs.Calls.{IsOpen}
-use Rattle.atspi_conversation.specs.Rounds.{AreRounds, IsRound, Makes}
-use Rattle.atspi_conversation.proofs.RoundLemmas.{makes_none, rounds_more, run_done}
-use Rattle.atspi_conversation.proofs.StepLemmas.{at_first, may_begin}
+use Rattle.atspi_live_host.specs.Calls.{IsOpen}
+use Rattle.atspi_live_conversation.specs.Rounds.{AreRounds, IsRound, Makes}
+use Rattle.atspi_live_conversation.proofs.RoundLemmas.{makes_none, rounds_more, run_done}
+use Rattle.atspi_live_conversation.proofs.StepLemmas.{at_first, may_begin}
 use Rattle.atspi_live_reader.specs.Following.{BlamesSink, BreaksOver, OverBlames, Stands}
 use Rattle.atspi_live_reader.proofs.Turning.{all_turned, left_at_last, left_behind, over_later, over_made}
 use Rattle.atspi_live_reader.specs.Spoken.{IsAfter, IsEmpty}

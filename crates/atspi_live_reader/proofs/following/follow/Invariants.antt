@@ -1,7 +1,7 @@
 use Rattle.std.proofs.Common.{◌≡◌, ℕ, ◌-◌, ◌*◌, ◌≤◌, List, length}
 use Rattle.std.specs.Io.KnownBytes.{Appends}
-use Rattle.atspi_conversation.specs.Rounds.{AreRounds, Makes}
-use Rattle.atspi_conversation.specs.Talking.{Going, MaySpeak, heard_in}
+use Rattle.atspi_live_conversation.specs.Rounds.{AreRounds, Makes}
+use Rattle.atspi_live_conversation.specs.Talking.{Going, MaySpeak, heard_in}
 use Rattle.atspi_live_reader.specs.Following.{IsQuiet, Stands}
 use Rattle.atspi_live_reader.specs.Spoken.{IsAfter, IsEmpty}
 use Rattle.atspi_live_reader.proofs.following.follow.Given as goal

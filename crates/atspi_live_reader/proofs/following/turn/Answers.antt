@@ -1,5 +1,5 @@
 use Rattle.std.proofs.Common.{◌+◌, length}
-use Rattle.atspi_conversation.proofs.StepLemmas.{if_err, on_ok}
+use Rattle.atspi_live_conversation.proofs.StepLemmas.{if_err, on_ok}
 use Rattle.atspi_live_reader.proofs.Turning.{breaks_of, if_match, may_wrote, mute_blames, mute_left, mute_made, round_of, turn_ended, turn_left, turn_muted, turned}
 use Rattle.atspi_live_reader.proofs.following.turn.Goals as goal
 

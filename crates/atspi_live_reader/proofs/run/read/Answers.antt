@@ -1,5 +1,5 @@
 use Rattle.std.proofs.Common.{ℕ, ◌++◌, refl, ap, subst, ◌∙◌, inl, inr, arith}
-use Rattle.atspi_live_registry.proofs.Running.{connect_failed, connected, fresh, is_open, on_link}
+use Rattle.atspi_live_conversation.proofs.Running.{connect_failed, connected, fresh, is_open, on_link}
 use Rattle.atspi_reader.specs.ReaderOf.{reader_of}
 use Rattle.atspi_live_reader.specs.Following.{OverBlames, RunsOver}
 use Rattle.atspi_live_reader.specs.Shows.{last_words}

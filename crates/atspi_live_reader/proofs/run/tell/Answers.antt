@@ -1,5 +1,5 @@
 use Rattle.std.proofs.Common.{ℕ, refl, subst}
-use Rattle.atspi_live_registry.specs.Runs.{SinkBlamed}
+use Rattle.atspi_live_conversation.specs.Reports.{SinkBlamed}
 use Rattle.atspi_live_reader.proofs.Running.{reported, told, untold}
 use Rattle.atspi_live_reader.proofs.run.tell.Goals as goal
 

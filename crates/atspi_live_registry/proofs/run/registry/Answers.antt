@@ -1,7 +1,8 @@
 use Rattle.std.proofs.Common.{ℕ, refl, subst, ◌∙◌, inl, inr, arith}
-use Rattle.atspi_conversation.specs.Rounds.{IsRun}
-use Rattle.atspi_conversation.specs.Talking.{Blames}
-use Rattle.atspi_live_registry.proofs.Running.{causes, connect_failed, connected, fresh, is_open, none_ends, none_speak, on_link, one_ends, one_speaks, run_of}
+use Rattle.atspi_live_conversation.specs.Rounds.{IsRun}
+use Rattle.atspi_live_conversation.specs.Talking.{Blames}
+use Rattle.atspi_live_registry.proofs.Running.{none_ends, none_speak, one_ends, one_speaks, run_of}
+use Rattle.atspi_live_conversation.proofs.Running.{causes, connect_failed, connected, fresh, is_open, on_link}
 use Rattle.atspi_live_registry.specs.Standing.{IsAfter, IsEmpty}
 use Rattle.atspi_live_registry.proofs.run.registry.Goals as goal
 

@@ -3,10 +3,10 @@ use Rattle.std.specs.List.{prefix_len}
 use Rattle.std.proofs.lemmas.List.{take_rest, length-drop}
 use Rattle.atspi_match.specs.Grammar.{is_blank, is_word_byte}
 use Rattle.atspi_match.specs.Conditions.{key_text}
-use Rattle.atspi_match.specs.Keys.{key_in, key_refusal}
+use Rattle.atspi_match.specs.inner.Keys.{key_in, key_refusal}
 use Rattle.atspi_match.proofs.KeyLemmas.{key_sound}
 use Rattle.atspi_match.proofs.ItemLemmas.{ends_all, ends_comma, bare_here, here, unknown_here, refused_here, refuses_value, reads_here, ok_then, err_then}
-use Rattle.atspi_match.specs.Items.{ReadsValue, ReadsItem, RefusesValue, RefusesItem}
+use Rattle.atspi_match.specs.inner.Items.{ReadsValue, ReadsItem, RefusesValue, RefusesItem}
 use Rattle.atspi_match.proofs.item.read_item.Goals as goal
 use Rattle.atspi_match.proofs.item.read_item.Goals.{then-word-rest-via-then-word-rest, then-word-rest-via-else-word-rest+then-rest-word-ne61}
 

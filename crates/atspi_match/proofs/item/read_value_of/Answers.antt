@@ -1,5 +1,5 @@
 use Rattle.std.proofs.Common.{◌≡◌, Err, sym, ap}
-use Rattle.atspi_match.specs.Items.{still_open, no_value}
+use Rattle.atspi_match.specs.inner.Items.{still_open, no_value}
 use Rattle.atspi_match.proofs.item.read_value_of.Goals as goal
 
 pub returns-in-Err-NotClosed-clause-bad : goal.returns-in-Err-NotClosed-clause-bad

@@ -2,7 +2,7 @@ use Rattle.std.proofs.Common.{◌≡◌, ◌≤◌, List, ℕ, Bool, true, false
 use Rattle.std.proofs.lemmas.Bool.{le-ltb}
 use Rattle.std.proofs.lemmas.List.{take_rest}
 use Rattle.std.specs.Prelude.{codes, bytes_eq, nat_lt}
-use Rattle.atspi_match.specs.Keys.{named_key, arg_key, key_in}
+use Rattle.atspi_match.specs.inner.Keys.{named_key, arg_key, key_in}
 use Rattle.atspi_match.proofs.key.read_key.Goals as goal
 
 at_arg : (bytes : List ℕ) → named_key bytes ≡ None → 3 ≤ length bytes → bytes_eq (take 3 bytes) (codes "arg") ≡ true → key_in bytes ≡ arg_key (drop 3 bytes)

@@ -1,8 +1,8 @@
 use Rattle.std.proofs.Common.{◌≡◌, ℕ, ◌≤◌, List, Option, None, drop, subst, sym, ap, ◌∙◌, arith}
 use Rattle.std.specs.List.{slice_get}
 use Rattle.std.specs.Option.{option_map}
-use Rattle.atspi_cursor.specs.Items.{item_data, fields_data}
-use Rattle.atspi_cursor.specs.declared.cursor.Item.{Item}
+use Rattle.atspi_marshal_in_place.specs.Items.{item_data, fields_data}
+use Rattle.atspi_marshal_in_place.specs.declared.cursor.Item.{Item}
 use Rattle.atspi_match.proofs.Arguments.{one_passed, none_there, argument_is}
 use Rattle.atspi_match.proofs.matching.argument.Goals as goal
 

@@ -1,5 +1,5 @@
 use Rattle.std.proofs.Common.{◌≡◌, ◌≤◌, drop}
-use Rattle.atspi_cursor.specs.Items.{fields_data}
+use Rattle.atspi_marshal_in_place.specs.Items.{fields_data}
 use Rattle.atspi_match.proofs.matching.argument.Given as goal
 
 -- the arguments behind those passed are what is left

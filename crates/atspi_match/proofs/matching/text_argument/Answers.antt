@@ -2,8 +2,8 @@ use Rattle.std.proofs.Common.{◌≡◌, ap, ◌∙◌}
 use Rattle.std.specs.Prelude.{slice_get, option_copied}
 use Rattle.atspi_types.specs.Kinds.{text}
 use Rattle.atspi_marshal.specs.Reading.{input_of}
-use Rattle.atspi_cursor.specs.Items.{item_data, item_kind, fields_data}
-use Rattle.atspi_header.proofs.ReadTypes.{item_type}
+use Rattle.atspi_marshal_in_place.specs.Items.{item_data, item_kind, fields_data}
+use Rattle.atspi_message_in_place.proofs.ReadTypes.{item_type}
 use Rattle.atspi_match.proofs.Arguments.{text_found, none_found}
 use Rattle.atspi_match.proofs.matching.text_argument.Goals as goal
 

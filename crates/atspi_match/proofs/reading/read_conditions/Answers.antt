@@ -2,7 +2,7 @@ use Rattle.std.proofs.Common.{◌≡◌, ◌+◌, ◌<◌, ◌≤◌, ℕ, drop,
 use Rattle.std.proofs.lemmas.List.{take_rest, length-append, length-drop}
 use Rattle.atspi_match.specs.Grammar.{item_text}
 use Rattle.atspi_match.specs.Conditions.{key_text}
-use Rattle.atspi_match.specs.Items.{ReadsItem, FirstItemFault}
+use Rattle.atspi_match.specs.inner.Items.{ReadsItem, FirstItemFault}
 use Rattle.atspi_match.proofs.ReadingLemmas.{nothing_read, all_read, read_more, read_to_end, fault_behind}
 use Rattle.atspi_match.proofs.reading.read_conditions.Goals as goal
 

@@ -1,5 +1,5 @@
 use Rattle.std.proofs.Common.{◌-◌, ◌≤◌, length}
-use Rattle.atspi_match.specs.Items.{ReadSoFar}
+use Rattle.atspi_match.specs.inner.Items.{ReadSoFar}
 use Rattle.atspi_match.proofs.reading.read_conditions.Given as goal
 
 abbrev pub invariant-items : goal.invariant-items

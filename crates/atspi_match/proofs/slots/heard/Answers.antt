@@ -1,5 +1,5 @@
 use Rattle.std.proofs.lemmas.Bool.Decides.{not_from_Decides}
-use Rattle.atspi_header.specs.View.{envelope_at}
+use Rattle.atspi_message_in_place.specs.View.{envelope_at}
 use Rattle.atspi_match.proofs.SlotLemmas.{hears_it, hears_not}
 use Rattle.atspi_match.proofs.slots.heard.Goals as goal
 

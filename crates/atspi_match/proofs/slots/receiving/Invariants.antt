@@ -1,5 +1,5 @@
 use Rattle.std.proofs.Common.{◌+◌, ◌≤◌, take}
-use Rattle.atspi_header.specs.View.{envelope_at}
+use Rattle.atspi_message_in_place.specs.View.{envelope_at}
 use Rattle.atspi_match.specs.RuleIndex.{nearby}
 use Rattle.atspi_match.specs.Slots.{chosen}
 use Rattle.atspi_match.proofs.IndexLemmas.{Finds}

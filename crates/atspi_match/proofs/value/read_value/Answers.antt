@@ -2,7 +2,7 @@ use Rattle.std.proofs.Common.{◌≡◌, ◌≤◌, ◌++◌, ◌∷◌, [], ℕ
 use Rattle.std.specs.List.{prefix_len}
 use Rattle.std.proofs.lemmas.List.{take_rest, length-drop}
 use Rattle.atspi_match.specs.Grammar.{is_quotable, EndsItem}
-use Rattle.atspi_match.specs.Values.{IsNext}
+use Rattle.atspi_match.specs.inner.Values.{IsNext}
 use Rattle.atspi_match.specs.declared.value.Next.TheVariants.{End, Escaped, Quote, Plain}
 use Rattle.atspi_match.proofs.ValueLemmas.{nothing_yet, step_plain, step_escaped, step_quote, finish, stays_open}
 use Rattle.atspi_match.proofs.value.read_value.Goals as goal

@@ -1,5 +1,5 @@
 use Rattle.std.proofs.Common.{◌≡◌, ◌-◌, ◌≤◌, length}
-use Rattle.atspi_match.specs.Values.{SpelledSoFar}
+use Rattle.atspi_match.specs.inner.Values.{SpelledSoFar}
 use Rattle.atspi_match.proofs.value.read_value.Given as goal
 
 abbrev pub invariant-parts : goal.invariant-parts

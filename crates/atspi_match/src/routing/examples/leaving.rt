@@ -11,9 +11,13 @@ ghost use Rattle.atspi_match.specs.routing.Room.{room, zero_, one_, two_, signal
 /// Those who wait for its answer, the oldest call first; then its names by their bytes; then its unique name.
 pub fn of_an_owner()
     ensures told { own_of (bus_leaves room 1).moves
-        ≡ record (error_to (Some zero_) 7 (codes "NoReply")) { serial = 10 } ∷ (record (error_to (Some two_) 7 (codes "NoReply")) { serial = 11 } ∷ (record (error_to (Some zero_) 8 (codes "NoReply")) { serial = 12 }
-        ∷ (record (signal (codes "NameAcquired") (Some two_) (one_text (codes "a.b"))) { serial = 13 } ∷ (record (owner_changed (codes "a.b") one_ two_) { serial = 14 }
-        ∷ (record (owner_changed (codes "c.d") one_ []) { serial = 15 } ∷ (record (owner_changed one_ one_ []) { serial = 16 } ∷ [])))))) }
+        ≡ record (error_to (Some zero_) 7 (codes "NoReply")) { serial = 10 }
+        ∷ (record (error_to (Some two_) 7 (codes "NoReply")) { serial = 11 }
+        ∷ (record (error_to (Some zero_) 8 (codes "NoReply")) { serial = 12 }
+        ∷ (record (signal (codes "NameAcquired") (Some two_) (one_text (codes "a.b"))) { serial = 13 }
+        ∷ (record (owner_changed (codes "a.b") one_ two_) { serial = 14 }
+        ∷ (record (owner_changed (codes "c.d") one_ []) { serial = 15 }
+        ∷ (record (owner_changed one_ one_ []) { serial = 16 } ∷ [])))))) }
     ensures next { (bus_leaves room 1).state.next ≡ 17 }
     ensures joined { (bus_leaves room 1).state.joined ≡ 0 ∷ (2 ∷ (3 ∷ [])) }
     ensures calls { (bus_leaves room 1).state.calls ≡ [] }

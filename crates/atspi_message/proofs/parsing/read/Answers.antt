@@ -3,7 +3,7 @@ use Rattle.std.specs.Int.{w32}
 use Rattle.atspi_types.specs.declared.fault.Order.{Order}
 use Rattle.atspi_types.specs.DataView.{all_data}
 use Rattle.atspi_marshal.specs.Input.{whole, number_in}
-use Rattle.atspi_message.specs.FieldsView.{found_of}
+use Rattle.atspi_message.specs.inner.FieldsView.{found_of}
 use Rattle.atspi_message.proofs.ParsingLaws.{made_from}
 use Rattle.atspi_message.proofs.parsing.read.Goals as goal
 

@@ -3,7 +3,7 @@ use Rattle.std.proofs.lemmas.Grind.{common_steps}
 use Rattle.std.proofs.lemmas.List.{length-append}
 use Rattle.std.proofs.lemmas.Result.{err_from_is_err_and}
 use Rattle.atspi_message.specs.Envelope.{envelope_of}
-use Rattle.atspi_message.specs.Writing.{start_bytes, fields_bytes}
+use Rattle.atspi_message.specs.inner.Writing.{start_bytes, fields_bytes}
 use Rattle.atspi_message.proofs.MessageWriting.{Parts, body_refused, message_written, message_fits}
 use Rattle.atspi_message.proofs.writing.put_message.Goals as goal
 

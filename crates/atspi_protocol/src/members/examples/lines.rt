@@ -3,9 +3,11 @@
 ghost use Rattle.std.specs.Prelude.{◌≡◌, ◌∷◌, [], pos, true, Ok, codes};
 ghost use Rattle.atspi_types.specs.Kinds.{u32, boolean};
 ghost use Rattle.atspi_types.specs.Data.{number_data, boolean_data, text_data, variant_data};
-ghost use Rattle.atspi_protocol.specs.members.Interfaces.{accessible, application, cache, text, editable_text, selection, table, action, registry, socket, properties, peer};
+ghost use Rattle.atspi_protocol.specs.members.Interfaces.{accessible, application, cache, text, editable_text};
+ghost use Rattle.atspi_protocol.specs.members.Interfaces.{selection, table, action, registry, socket, properties, peer};
 ghost use Rattle.atspi_protocol.specs.members.Arguments.{int};
-ghost use Rattle.atspi_protocol.specs.members.Cases.{meant, one_int, two_ints, three_ints, one_text, two_texts, reference};
+ghost use Rattle.atspi_protocol.specs.members.Cases.{meant, one_int, two_ints, three_ints, one_text, two_texts};
+ghost use Rattle.atspi_protocol.specs.members.Cases.{reference};
 
 use crate::members::ObjectMember;
 
@@ -17,7 +19,8 @@ pub fn of_accessible()
     ensures get_relation_set { meant accessible (codes "GetRelationSet") [] ≡ Ok ObjectMember.GetRelationSet }
     ensures get_role { meant accessible (codes "GetRole") [] ≡ Ok ObjectMember.GetRole }
     ensures get_role_name { meant accessible (codes "GetRoleName") [] ≡ Ok ObjectMember.GetRoleName }
-    ensures get_localized_role_name { meant accessible (codes "GetLocalizedRoleName") [] ≡ Ok ObjectMember.GetLocalizedRoleName }
+    ensures get_localized_role_name { meant accessible (codes "GetLocalizedRoleName") []
+        ≡ Ok ObjectMember.GetLocalizedRoleName }
     ensures get_state { meant accessible (codes "GetState") [] ≡ Ok ObjectMember.GetState }
     ensures get_attributes { meant accessible (codes "GetAttributes") [] ≡ Ok ObjectMember.GetAttributes }
     ensures get_application { meant accessible (codes "GetApplication") [] ≡ Ok ObjectMember.GetApplication }
@@ -34,7 +37,8 @@ pub fn of_application()
 pub fn of_text()
     ensures get_text { meant text (codes "GetText") two_ints ≡ Ok ObjectMember.GetText }
     ensures set_caret_offset { meant text (codes "SetCaretOffset") one_int ≡ Ok ObjectMember.SetCaretOffset }
-    ensures get_character_at_offset { meant text (codes "GetCharacterAtOffset") one_int ≡ Ok ObjectMember.GetCharacterAtOffset }
+    ensures get_character_at_offset { meant text (codes "GetCharacterAtOffset") one_int
+        ≡ Ok ObjectMember.GetCharacterAtOffset }
     ensures get_n_selections { meant text (codes "GetNSelections") [] ≡ Ok ObjectMember.GetNSelections }
     ensures get_selection { meant text (codes "GetSelection") one_int ≡ Ok ObjectMember.GetSelection }
     ensures add_selection { meant text (codes "AddSelection") two_ints ≡ Ok ObjectMember.AddSelection }
@@ -44,8 +48,10 @@ pub fn of_text()
 
 /// EditableText.
 pub fn of_editable_text()
-    ensures set_text_contents { meant editable_text (codes "SetTextContents") (one_text (codes "a")) ≡ Ok ObjectMember.SetTextContents }
-    ensures insert_text { meant editable_text (codes "InsertText") (int (pos 0) ∷ text_data (codes "a") ∷ one_int) ≡ Ok ObjectMember.InsertText }
+    ensures set_text_contents { meant editable_text (codes "SetTextContents") (one_text (codes "a"))
+        ≡ Ok ObjectMember.SetTextContents }
+    ensures insert_text { meant editable_text (codes "InsertText") (int (pos 0) ∷ text_data (codes "a") ∷ one_int)
+        ≡ Ok ObjectMember.InsertText }
     ensures delete_text { meant editable_text (codes "DeleteText") two_ints ≡ Ok ObjectMember.DeleteText }
 {}
 
@@ -54,7 +60,8 @@ pub fn of_selection()
     ensures get_selected_child { meant selection (codes "GetSelectedChild") one_int ≡ Ok ObjectMember.GetSelectedChild }
     ensures select_child { meant selection (codes "SelectChild") one_int ≡ Ok ObjectMember.SelectChild }
     ensures deselect_child { meant selection (codes "DeselectChild") one_int ≡ Ok ObjectMember.DeselectChild }
-    ensures deselect_selected_child { meant selection (codes "DeselectSelectedChild") one_int ≡ Ok ObjectMember.DeselectSelectedChild }
+    ensures deselect_selected_child { meant selection (codes "DeselectSelectedChild") one_int
+        ≡ Ok ObjectMember.DeselectSelectedChild }
     ensures is_child_selected { meant selection (codes "IsChildSelected") one_int ≡ Ok ObjectMember.IsChildSelected }
     ensures select_all { meant selection (codes "SelectAll") [] ≡ Ok ObjectMember.SelectAll }
     ensures clear_selection { meant selection (codes "ClearSelection") [] ≡ Ok ObjectMember.ClearSelection }
@@ -83,17 +90,21 @@ pub fn of_action()
 /// Registry and Socket, of the registry alone. What follows the pattern of RegisterEvent does not matter.
 pub fn of_registry()
     ensures register_event { meant registry (codes "RegisterEvent") (one_text []) ≡ Ok ObjectMember.RegisterEvent }
-    ensures deregister_event { meant registry (codes "DeregisterEvent") (one_text []) ≡ Ok ObjectMember.DeregisterEvent }
-    ensures get_registered_events { meant registry (codes "GetRegisteredEvents") [] ≡ Ok ObjectMember.GetRegisteredEvents }
+    ensures deregister_event { meant registry (codes "DeregisterEvent") (one_text [])
+        ≡ Ok ObjectMember.DeregisterEvent }
+    ensures get_registered_events { meant registry (codes "GetRegisteredEvents") []
+        ≡ Ok ObjectMember.GetRegisteredEvents }
     ensures embed { meant socket (codes "Embed") (reference (codes ":1.1") (codes "/a")) ≡ Ok ObjectMember.Embed }
     ensures unembed { meant socket (codes "Unembed") (reference (codes ":1.1") (codes "/a")) ≡ Ok ObjectMember.Unembed }
-    ensures with_more { meant registry (codes "RegisterEvent") (text_data [] ∷ number_data u32 0 ∷ []) ≡ Ok ObjectMember.RegisterEvent }
+    ensures with_more { meant registry (codes "RegisterEvent") (text_data [] ∷ number_data u32 0 ∷ [])
+        ≡ Ok ObjectMember.RegisterEvent }
 {}
 
 /// Properties and Peer, that every object has.
 pub fn of_properties()
     ensures get { meant properties (codes "Get") (two_texts [] []) ≡ Ok ObjectMember.Get }
     ensures get_all { meant properties (codes "GetAll") (one_text []) ≡ Ok ObjectMember.GetAll }
-    ensures set { meant properties (codes "Set") (text_data [] ∷ text_data [] ∷ variant_data boolean (boolean_data true) ∷ []) ≡ Ok ObjectMember.Set }
+    ensures set { meant properties (codes "Set")
+        (text_data [] ∷ text_data [] ∷ variant_data boolean (boolean_data true) ∷ []) ≡ Ok ObjectMember.Set }
     ensures ping { meant peer (codes "Ping") [] ≡ Ok ObjectMember.Ping }
 {}

@@ -7,7 +7,7 @@ ghost use Rattle.atspi_protocol.specs.ends.Messages.{returns};
 ghost use Rattle.atspi_protocol.specs.objects.Cases.{button, told, steps, one};
 
 use crate::members::ObjectMember;
-use atspi_forest::Step;
+use atspi_tree_model::Step;
 
 /// The names of actions, and doing one.
 pub fn actions()

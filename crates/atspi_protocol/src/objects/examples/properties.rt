@@ -13,7 +13,8 @@ pub fn values()
     ensures name { value entry ObjectProperty.Name ≡ text_data (codes "E") }
     ensures description { value entry ObjectProperty.Description ≡ text_data (codes "an entry") }
     ensures parent { value (bare 3 0) ObjectProperty.Parent ≡ to 1 }
-    ensures root_parent { value root ObjectProperty.Parent ≡ reference (codes "org.a11y.atspi.Registry") (codes "/org/a11y/atspi/accessible/root") }
+    ensures root_parent { value root ObjectProperty.Parent
+        ≡ reference (codes "org.a11y.atspi.Registry") (codes "/org/a11y/atspi/accessible/root") }
     ensures child_count { value grid ObjectProperty.ChildCount ≡ int (pos 5) }
     ensures no_child { value entry ObjectProperty.ChildCount ≡ int (pos 0) }
     ensures locale { value entry ObjectProperty.Locale ≡ text_data (codes "C") }

@@ -6,7 +6,7 @@ ghost use Rattle.atspi_protocol.specs.ends.Messages.{returns};
 ghost use Rattle.atspi_protocol.specs.objects.Cases.{list, wide_list, told, steps, to, to_none, one};
 
 use crate::members::ObjectMember;
-use atspi_forest::Step;
+use atspi_tree_model::Step;
 
 /// Which children are selected.
 pub fn read()
@@ -22,7 +22,8 @@ pub fn read()
 
 /// A child is selected, beside others only where many can be.
 pub fn selected()
-    ensures alone { steps list ObjectMember.SelectChild (one (pos 1)) ≡ Step.SetState 2 23 false ∷ Step.SetState 4 23 false ∷ Step.SetState 3 23 true ∷ [] }
+    ensures alone { steps list ObjectMember.SelectChild (one (pos 1))
+        ≡ Step.SetState 2 23 false ∷ Step.SetState 4 23 false ∷ Step.SetState 3 23 true ∷ [] }
     ensures beside { steps wide_list ObjectMember.SelectChild (one (pos 1)) ≡ Step.SetState 15 23 true ∷ [] }
     ensures again { told wide_list ObjectMember.SelectChild (one (pos 0)) ≡ returns (boolean_data true ∷ []) }
     ensures no_child { told list ObjectMember.SelectChild (one (pos 3)) ≡ returns (boolean_data false ∷ []) }
@@ -41,8 +42,10 @@ pub fn deselected()
     ensures no_child { told list ObjectMember.DeselectChild (one (pos 3)) ≡ returns (boolean_data false ∷ []) }
     ensures among { steps list ObjectMember.DeselectSelectedChild (one (pos 1)) ≡ Step.SetState 4 23 false ∷ [] }
     ensures among_told { told list ObjectMember.DeselectSelectedChild (one (pos 1)) ≡ returns (boolean_data true ∷ []) }
-    ensures none_among { told list ObjectMember.DeselectSelectedChild (one (pos 2)) ≡ returns (boolean_data false ∷ []) }
+    ensures none_among { told list ObjectMember.DeselectSelectedChild (one (pos 2))
+        ≡ returns (boolean_data false ∷ []) }
     ensures before { told list ObjectMember.DeselectSelectedChild (one (negsuc 0)) ≡ returns (boolean_data false ∷ []) }
-    ensures cleared { steps list ObjectMember.ClearSelection [] ≡ Step.SetState 2 23 false ∷ Step.SetState 4 23 false ∷ [] }
+    ensures cleared { steps list ObjectMember.ClearSelection []
+        ≡ Step.SetState 2 23 false ∷ Step.SetState 4 23 false ∷ [] }
     ensures cleared_told { told list ObjectMember.ClearSelection [] ≡ returns (boolean_data true ∷ []) }
 {}

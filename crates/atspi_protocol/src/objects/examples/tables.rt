@@ -28,7 +28,8 @@ pub fn cells()
 
 /// A row is selected where all its cells are.
 pub fn selected()
-    ensures rows { told grid ObjectMember.GetSelectedRows [] ≡ returns (array_data (number i32) (items_of (int (pos 0) ∷ [])) ∷ []) }
+    ensures rows { told grid ObjectMember.GetSelectedRows []
+        ≡ returns (array_data (number i32) (items_of (int (pos 0) ∷ [])) ∷ []) }
     ensures row { told grid ObjectMember.IsRowSelected (one (pos 0)) ≡ returns (boolean_data true ∷ []) }
     ensures half { told grid ObjectMember.IsRowSelected (one (pos 1)) ≡ returns (boolean_data false ∷ []) }
     ensures no_row { told grid ObjectMember.IsRowSelected (one (pos 2)) ≡ returns (boolean_data false ∷ []) }

@@ -7,12 +7,13 @@ ghost use Rattle.atspi_protocol.specs.members.Arguments.{int};
 ghost use Rattle.atspi_protocol.specs.objects.Cases.{entry, hello, told, steps, one, two, three, written};
 
 use crate::members::ObjectMember;
-use atspi_forest::Step;
+use atspi_tree_model::Step;
 
 /// Parts of a text.
 pub fn parts()
     ensures middle { told entry ObjectMember.GetText (two (pos 1) (pos 3)) ≡ returns (text_data (233 ∷ 108 ∷ []) ∷ []) }
-    ensures to_end { told entry ObjectMember.GetText (two (pos 1) (negsuc 0)) ≡ returns (text_data (233 ∷ 108 ∷ 108 ∷ 111 ∷ []) ∷ []) }
+    ensures to_end { told entry ObjectMember.GetText (two (pos 1) (negsuc 0))
+        ≡ returns (text_data (233 ∷ 108 ∷ 108 ∷ 111 ∷ []) ∷ []) }
     ensures all { told entry ObjectMember.GetText (two (negsuc 6) (pos 99)) ≡ returns (text_data hello ∷ []) }
     ensures passed { told entry ObjectMember.GetText (two (pos 4) (pos 2)) ≡ returns (text_data [] ∷ []) }
     ensures behind { told entry ObjectMember.GetText (two (pos 9) (negsuc 0)) ≡ returns (text_data [] ∷ []) }
@@ -38,34 +39,52 @@ pub fn selections()
     ensures count { told entry ObjectMember.GetNSelections [] ≡ returns (int (pos 2) ∷ []) }
     ensures second { told entry ObjectMember.GetSelection (one (pos 1)) ≡ returns (int (pos 0) ∷ int (pos 5) ∷ []) }
     ensures none { told entry ObjectMember.GetSelection (one (pos 2)) ≡ returns (int (negsuc 0) ∷ int (negsuc 0) ∷ []) }
-    ensures before { told entry ObjectMember.GetSelection (one (negsuc 0)) ≡ returns (int (negsuc 0) ∷ int (negsuc 0) ∷ []) }
-    ensures added { steps entry ObjectMember.AddSelection (two (pos 4) (pos 5)) ≡ Step.TextSelect 5 ((1, 3) ∷ (0, 5) ∷ (4, 5) ∷ []) ∷ [] }
+    ensures before { told entry ObjectMember.GetSelection (one (negsuc 0))
+        ≡ returns (int (negsuc 0) ∷ int (negsuc 0) ∷ []) }
+    ensures added { steps entry ObjectMember.AddSelection (two (pos 4) (pos 5))
+        ≡ Step.TextSelect 5 ((1, 3) ∷ (0, 5) ∷ (4, 5) ∷ []) ∷ [] }
     ensures empty { told entry ObjectMember.AddSelection (two (pos 3) (pos 3)) ≡ returns (boolean_data false ∷ []) }
     ensures too_far { told entry ObjectMember.AddSelection (two (pos 3) (pos 6)) ≡ returns (boolean_data false ∷ []) }
-    ensures too_early { told entry ObjectMember.AddSelection (two (negsuc 0) (pos 2)) ≡ returns (boolean_data false ∷ []) }
+    ensures too_early { told entry ObjectMember.AddSelection (two (negsuc 0) (pos 2))
+        ≡ returns (boolean_data false ∷ []) }
     ensures removed { steps entry ObjectMember.RemoveSelection (one (pos 0)) ≡ Step.TextSelect 5 ((0, 5) ∷ []) ∷ [] }
     ensures none_removed { told entry ObjectMember.RemoveSelection (one (pos 2)) ≡ returns (boolean_data false ∷ []) }
     ensures none_before { told entry ObjectMember.RemoveSelection (one (negsuc 0)) ≡ returns (boolean_data false ∷ []) }
-    ensures set { steps entry ObjectMember.SetSelection (three (pos 0) (pos 2) (pos 4)) ≡ Step.TextSelect 5 ((2, 4) ∷ (0, 5) ∷ []) ∷ [] }
+    ensures set { steps entry ObjectMember.SetSelection (three (pos 0) (pos 2) (pos 4))
+        ≡ Step.TextSelect 5 ((2, 4) ∷ (0, 5) ∷ []) ∷ [] }
     ensures same { steps entry ObjectMember.SetSelection (three (pos 1) (pos 0) (pos 5)) ≡ [] }
-    ensures same_told { told entry ObjectMember.SetSelection (three (pos 1) (pos 0) (pos 5)) ≡ returns (boolean_data true ∷ []) }
-    ensures none_set { told entry ObjectMember.SetSelection (three (pos 2) (pos 0) (pos 5)) ≡ returns (boolean_data false ∷ []) }
-    ensures no_range { told entry ObjectMember.SetSelection (three (pos 0) (pos 4) (pos 4)) ≡ returns (boolean_data false ∷ []) }
-    ensures set_too_far { told entry ObjectMember.SetSelection (three (pos 0) (pos 4) (pos 6)) ≡ returns (boolean_data false ∷ []) }
+    ensures same_told { told entry ObjectMember.SetSelection (three (pos 1) (pos 0) (pos 5))
+        ≡ returns (boolean_data true ∷ []) }
+    ensures none_set { told entry ObjectMember.SetSelection (three (pos 2) (pos 0) (pos 5))
+        ≡ returns (boolean_data false ∷ []) }
+    ensures no_range { told entry ObjectMember.SetSelection (three (pos 0) (pos 4) (pos 4))
+        ≡ returns (boolean_data false ∷ []) }
+    ensures set_too_far { told entry ObjectMember.SetSelection (three (pos 0) (pos 4) (pos 6))
+        ≡ returns (boolean_data false ∷ []) }
 {}
 
 /// A text is put in, cut and exchanged; the caret goes with what is behind it.
 pub fn edits()
-    ensures put { steps entry ObjectMember.InsertText (int (pos 0) ∷ text_data (codes "ab") ∷ int (negsuc 0) ∷ []) ≡ Step.Insert 5 0 (codes "ab") ∷ Step.Caret 5 5 ∷ [] }
-    ensures put_behind { steps entry ObjectMember.InsertText (int (pos 5) ∷ text_data (codes "ab") ∷ int (pos 1) ∷ []) ≡ Step.Insert 5 5 (codes "ab") ∷ [] }
-    ensures put_nothing { told entry ObjectMember.InsertText (int (pos 0) ∷ text_data [] ∷ int (pos 0) ∷ []) ≡ returns (boolean_data true ∷ []) }
-    ensures put_too_far { told entry ObjectMember.InsertText (int (pos 6) ∷ text_data (codes "ab") ∷ int (pos 2) ∷ []) ≡ returns (boolean_data false ∷ []) }
-    ensures put_before { steps entry ObjectMember.InsertText (int (negsuc 0) ∷ text_data (codes "ab") ∷ int (pos 2) ∷ []) ≡ [] }
-    ensures cut { steps entry ObjectMember.DeleteText (two (pos 1) (pos 4)) ≡ Step.Caret 5 1 ∷ Step.Delete 5 1 (233 ∷ 108 ∷ 108 ∷ []) ∷ [] }
+    ensures put { steps entry ObjectMember.InsertText (int (pos 0) ∷ text_data (codes "ab") ∷ int (negsuc 0) ∷ [])
+        ≡ Step.Insert 5 0 (codes "ab") ∷ Step.Caret 5 5 ∷ [] }
+    ensures put_behind { steps entry ObjectMember.InsertText (int (pos 5) ∷ text_data (codes "ab") ∷ int (pos 1) ∷ [])
+        ≡ Step.Insert 5 5 (codes "ab") ∷ [] }
+    ensures put_nothing { told entry ObjectMember.InsertText (int (pos 0) ∷ text_data [] ∷ int (pos 0) ∷ [])
+        ≡ returns (boolean_data true ∷ []) }
+    ensures put_too_far { told entry ObjectMember.InsertText (int (pos 6) ∷ text_data (codes "ab") ∷ int (pos 2) ∷ [])
+        ≡ returns (boolean_data false ∷ []) }
+    ensures put_before { steps entry ObjectMember.InsertText
+        (int (negsuc 0) ∷ text_data (codes "ab") ∷ int (pos 2) ∷ []) ≡ [] }
+    ensures cut { steps entry ObjectMember.DeleteText (two (pos 1) (pos 4))
+        ≡ Step.Caret 5 1 ∷ Step.Delete 5 1 (233 ∷ 108 ∷ 108 ∷ []) ∷ [] }
     ensures cut_nothing { told entry ObjectMember.DeleteText (two (pos 5) (pos 5)) ≡ returns (boolean_data true ∷ []) }
     ensures cut_too_far { told entry ObjectMember.DeleteText (two (pos 1) (pos 6)) ≡ returns (boolean_data false ∷ []) }
-    ensures cut_backwards { told entry ObjectMember.DeleteText (two (pos 2) (pos 1)) ≡ returns (boolean_data false ∷ []) }
-    ensures exchanged { steps entry ObjectMember.SetTextContents (written (codes "x")) ≡ Step.Caret 5 0 ∷ Step.Delete 5 0 hello ∷ Step.Insert 5 0 (codes "x") ∷ [] }
-    ensures exchanged_told { told entry ObjectMember.SetTextContents (written (codes "x")) ≡ returns (boolean_data true ∷ []) }
-    ensures emptied { steps entry ObjectMember.SetTextContents (written []) ≡ Step.Caret 5 0 ∷ Step.Delete 5 0 hello ∷ [] }
+    ensures cut_backwards { told entry ObjectMember.DeleteText (two (pos 2) (pos 1))
+        ≡ returns (boolean_data false ∷ []) }
+    ensures exchanged { steps entry ObjectMember.SetTextContents (written (codes "x"))
+        ≡ Step.Caret 5 0 ∷ Step.Delete 5 0 hello ∷ Step.Insert 5 0 (codes "x") ∷ [] }
+    ensures exchanged_told { told entry ObjectMember.SetTextContents (written (codes "x"))
+        ≡ returns (boolean_data true ∷ []) }
+    ensures emptied { steps entry ObjectMember.SetTextContents (written [])
+        ≡ Step.Caret 5 0 ∷ Step.Delete 5 0 hello ∷ [] }
 {}

@@ -1,7 +1,7 @@
 use Rattle.std.proofs.Common.{◌≡◌}
 use Rattle.std.specs.List.{fold}
 use Rattle.atspi_protocol.specs.following.Known.{made_known}
-use Rattle.atspi_reader.specs.Turns.{StandsInFront}
+use Rattle.atspi_reader.specs.inner.Turns.{StandsInFront}
 use Rattle.atspi_reader.proofs.known.make_each.Given as goal
 
 -- those of the references that came are known

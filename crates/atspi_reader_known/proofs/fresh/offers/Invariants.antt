@@ -1,5 +1,5 @@
 use Rattle.std.proofs.Common.{◌≡◌, false, take}
-use Rattle.atspi_forest.specs.News.{offers}
+use Rattle.atspi_tree_model.specs.News.{offers}
 use Rattle.atspi_reader_known.proofs.fresh.offers.Given as goal
 
 abbrev pub invariant-loop-interface : goal.invariant-loop-interface

@@ -1,7 +1,7 @@
 use Rattle.std.proofs.Common.{◌∙◌, ap, ℕ, List}
 use Rattle.std.specs.Prelude.{bytes_eq}
 use Rattle.atspi_protocol.specs.following.Replied.{children_signature}
-use Rattle.atspi_news_reading.proofs.Lists.{codes_are}
+use Rattle.atspi_reader_news.proofs.Lists.{codes_are}
 use Rattle.atspi_reader_told.proofs.children.has_references.Goals as goal
 
 pub returns : goal.returns

@@ -1,12 +1,12 @@
 use Rattle.std.proofs.Common.{◌∙◌, sym, ap}
 use Rattle.std.proofs.lemmas.Result.{IfOk-weaker}
-use Rattle.atspi_cursor.specs.codes.Codes.{is_array}
+use Rattle.atspi_marshal_in_place.specs.codes.Codes.{is_array}
 use Rattle.atspi_marshal.specs.Reading.{input_of}
-use Rattle.atspi_cursor.specs.Items.{item_data, item_kind, elements_data, elements_kind}
-use Rattle.atspi_header.proofs.ReadTypes.{item_type}
+use Rattle.atspi_marshal_in_place.specs.Items.{item_data, item_kind, elements_data, elements_kind}
+use Rattle.atspi_message_in_place.proofs.ReadTypes.{item_type}
 use Rattle.atspi_protocol.specs.following.Known.{references_among}
-use Rattle.atspi_news_reading.proofs.Told.{differs_by}
-use Rattle.atspi_news_reading.proofs.Lists.{not_elements, elements_in}
+use Rattle.atspi_reader_news.proofs.Told.{differs_by}
+use Rattle.atspi_reader_news.proofs.Lists.{not_elements, elements_in}
 use Rattle.atspi_reader_told.proofs.children.references_in.Goals as goal
 
 pub returns-in-Some : goal.returns-in-Some

@@ -1,5 +1,5 @@
 use Rattle.std.proofs.Common.{◌≡◌, ◌++◌}
-use Rattle.atspi_cursor.specs.Items.{elements_data}
+use Rattle.atspi_marshal_in_place.specs.Items.{elements_data}
 use Rattle.atspi_protocol.specs.following.Known.{references_among}
 use Rattle.atspi_reader_told.proofs.children.references_of.Given as goal
 

@@ -1,8 +1,8 @@
 use Rattle.std.proofs.Common.{◌∙◌, Some, chars, sym}
-use Rattle.atspi_cursor.specs.Items.{item_data, fields_data}
+use Rattle.atspi_marshal_in_place.specs.Items.{item_data, fields_data}
 use Rattle.atspi_protocol.specs.news.Arguments.{then_text}
-use Rattle.atspi_news_reading.proofs.Came.{read_text}
-use Rattle.atspi_reader_told.specs.Ended.{ended_if}
+use Rattle.atspi_reader_news.proofs.Came.{read_text}
+use Rattle.atspi_reader_told.specs.inner.Ended.{ended_if}
 use Rattle.atspi_reader_told.proofs.EndedLemmas.{someone, nobody, more_behind}
 use Rattle.atspi_reader_told.proofs.ended.name_in.Goals as goal
 

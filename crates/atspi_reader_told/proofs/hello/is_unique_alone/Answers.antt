@@ -1,8 +1,8 @@
 use Rattle.std.proofs.Common.{ap, sym, ◌∙◌}
-use Rattle.atspi_cursor.specs.Items.{fields_data}
+use Rattle.atspi_marshal_in_place.specs.Items.{fields_data}
 use Rattle.std.specs.Option.{option_map}
 use Rattle.std.proofs.Common.{chars}
-use Rattle.atspi_reader_told.specs.Alone.{unique_if}
+use Rattle.atspi_reader_told.specs.inner.Alone.{unique_if}
 use Rattle.atspi_reader_told.proofs.Texts.{alone_is}
 use Rattle.atspi_reader_told.proofs.hello.is_unique_alone.Goals as goal
 

@@ -1,6 +1,6 @@
 use Rattle.std.proofs.Common.{sym, ◌∙◌, chars, false, true}
-use Rattle.atspi_cursor.specs.Items.{fields_data}
-use Rattle.atspi_header.specs.View.{envelope_at}
+use Rattle.atspi_marshal_in_place.specs.Items.{fields_data}
+use Rattle.atspi_message_in_place.specs.View.{envelope_at}
 use Rattle.atspi_registry.proofs.Heard.{owned, gone}
 use Rattle.atspi_registry.proofs.news.name_gone.Goals as goal
 

@@ -2,8 +2,8 @@ use Rattle.std.proofs.Common.{◌≡◌, sym, ◌∙◌}
 use Rattle.atspi_types.specs.Kinds.{text}
 use Rattle.atspi_types.specs.Data.{type_of}
 use Rattle.atspi_marshal.specs.Reading.{input_of}
-use Rattle.atspi_cursor.specs.Items.{item_data, item_kind, fields_data}
-use Rattle.atspi_header.proofs.ReadTypes.{item_type}
+use Rattle.atspi_marshal_in_place.specs.Items.{item_data, item_kind, fields_data}
+use Rattle.atspi_message_in_place.proofs.ReadTypes.{item_type}
 use Rattle.atspi_registry.proofs.Heard.{no_text}
 use Rattle.atspi_registry.proofs.news.next_text.Goals as goal
 

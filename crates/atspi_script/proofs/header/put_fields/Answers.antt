@@ -1,5 +1,5 @@
 use Rattle.std.proofs.Common.{◌++◌, codes}
-use Rattle.atspi_header.specs.View.{bytes_of}
+use Rattle.atspi_message_in_place.specs.View.{bytes_of}
 use Rattle.atspi_script.specs.MessageText.{field_words, reply_text}
 use Rattle.atspi_script.proofs.MessageLemmas.{field_behind, more_words}
 use Rattle.atspi_script.proofs.header.put_fields.Goals as goal

@@ -1,7 +1,7 @@
 use Rattle.std.proofs.Common.{[], ◌∷◌, ◌++◌, ◌∙◌, append_assoc, refl, sym}
 use Rattle.std.specs.Fmt.{decimal}
 use Rattle.std.specs.List.{flat_map}
-use Rattle.atspi_header.specs.View.{envelope_at}
+use Rattle.atspi_message_in_place.specs.View.{envelope_at}
 use Rattle.atspi_script.specs.Spaced.{behind_space}
 use Rattle.atspi_script.specs.MessageText.{fields_words, order_letter, type_word}
 use Rattle.atspi_script.proofs.MessageLemmas.{front_written, header_written}

@@ -3,9 +3,9 @@ use Rattle.atspi_types.specs.Kinds.{Kind, kinds_of}
 use Rattle.atspi_types.specs.Data.{items_of, types_of}
 use Rattle.atspi_types.specs.Signatures.{signature_bytes}
 use Rattle.atspi_marshal.specs.Reading.{input_of}
-use Rattle.atspi_cursor.specs.Items.{fields_data, fields_kinds}
+use Rattle.atspi_marshal_in_place.specs.Items.{fields_data, fields_kinds}
 use Rattle.atspi_script.proofs.MessageLemmas.{body_written, no_body}
-use Rattle.atspi_header.proofs.ReadTypes.{fields_types, no_types, some_types}
+use Rattle.atspi_message_in_place.proofs.ReadTypes.{fields_types, no_types, some_types}
 use Rattle.atspi_script.proofs.TextLemmas.{front_kept}
 use Rattle.atspi_script.proofs.message.put_body.Goals as goal
 

@@ -1,8 +1,8 @@
 use Rattle.std.proofs.Common.{[], ◌∷◌}
 use Rattle.std.specs.Fmt.{decimal}
 use Rattle.atspi_types.specs.Data.{items_of}
-use Rattle.atspi_cursor.specs.Items.{fields_data}
-use Rattle.atspi_header.specs.View.{envelope_at}
+use Rattle.atspi_marshal_in_place.specs.Items.{fields_data}
+use Rattle.atspi_message_in_place.specs.View.{envelope_at}
 use Rattle.atspi_script.specs.MessageText.{body_words, fields_words, order_letter, type_word}
 use Rattle.atspi_script.proofs.MessageLemmas.{words_behind}
 use Rattle.atspi_script.proofs.message.put_message.Goals as goal

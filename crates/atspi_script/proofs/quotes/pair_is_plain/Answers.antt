@@ -1,8 +1,8 @@
 use Rattle.std.proofs.Common.{◌-◌, length, sym, ap, ◌∙◌, arith}
 use Rattle.std.specs.List.{list_all}
 use Rattle.std.proofs.lemmas.List.{take_rest}
-use Rattle.atspi_script.specs.Marks.{stands}
-use Rattle.atspi_cursor.proofs.Alls.{part_fails, back_decides}
+use Rattle.atspi_script.specs.inner.Marks.{stands}
+use Rattle.atspi_marshal_in_place.proofs.Alls.{part_fails, back_decides}
 use Rattle.atspi_script.proofs.quotes.pair_is_plain.Goals as goal
 
 pub returns-then-piece_is_plain : goal.returns-then-piece_is_plain

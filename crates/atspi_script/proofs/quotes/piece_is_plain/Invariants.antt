@@ -1,6 +1,6 @@
 use Rattle.std.proofs.Common.{◌≡◌, take}
 use Rattle.std.specs.List.{list_all}
-use Rattle.atspi_script.specs.Marks.{stands}
+use Rattle.atspi_script.specs.inner.Marks.{stands}
 use Rattle.atspi_script.proofs.quotes.piece_is_plain.Given as goal
 
 abbrev pub invariant-loop-i : goal.invariant-loop-i

@@ -1,6 +1,6 @@
 use Rattle.std.proofs.Common.{◌≡◌, ◌≤◌, ◌-◌, take, length, true}
 use Rattle.std.specs.List.{list_all}
-use Rattle.atspi_script.specs.Marks.{stands}
+use Rattle.atspi_script.specs.inner.Marks.{stands}
 use Rattle.atspi_script.proofs.quotes.pieces_are_plain.Given as goal
 
 abbrev pub invariant-loop-at : goal.invariant-loop-at

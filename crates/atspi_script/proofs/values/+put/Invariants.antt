@@ -1,8 +1,8 @@
 use Rattle.std.proofs.Common.{◌≡◌, ◌+◌, ◌-◌, ◌≤◌, length, take}
 use Rattle.atspi_types.specs.Data.{items_of}
 use Rattle.atspi_marshal.specs.Reading.{entries_in}
-use Rattle.atspi_cursor.specs.Items.{item_data, elements_data, entries_data, fields_data}
-use Rattle.atspi_script.specs.Views.{parts_data}
+use Rattle.atspi_marshal_in_place.specs.Items.{item_data, elements_data, entries_data, fields_data}
+use Rattle.atspi_script.specs.inner.Views.{parts_data}
 use Rattle.atspi_script.proofs.Sizes.{size, sizes, entry_sizes}
 use Rattle.atspi_script.proofs.TextLemmas.{Written, words_of, entry_words}
 use Rattle.atspi_script.proofs.values.+put.Given as goal

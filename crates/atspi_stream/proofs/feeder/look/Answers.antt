@@ -3,7 +3,7 @@ use Rattle.std.proofs.lemmas.List.{take-take, length-take-le}
 use Rattle.atspi_types.specs.declared.fault.Fault.{Fault}
 use Rattle.atspi_message.specs.Front.{length_in, WrongFront, IsFirst, IsSoundFront}
 use Rattle.atspi_message.specs.Faults.{FirstFault}
-use Rattle.atspi_stream.specs.Seen.{Sees}
+use Rattle.atspi_stream.specs.inner.Seen.{Sees}
 use Rattle.atspi_stream.specs.Stream.{stated, few, unfinished, in_front, behind}
 use Rattle.atspi_stream.specs.declared.feeder.Got.TheVariants.{NotYet, Bad}
 use Rattle.atspi_stream.proofs.feeder.look.Goals as goal

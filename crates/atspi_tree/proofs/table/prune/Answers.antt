@@ -1,6 +1,6 @@
 use Rattle.std.proofs.Common.{ap, sym, subst}
 use Rattle.std.specs.Option.{option_map}
-use Rattle.atspi_forest.specs.Row.{Holds}
+use Rattle.atspi_tree_model.specs.Row.{Holds}
 use Rattle.atspi_tree.specs.Table.{Kept, kept}
 use Rattle.atspi_tree.proofs.Keys.{is_other}
 use Rattle.atspi_tree.proofs.Leaf.{prunes, still_kept}

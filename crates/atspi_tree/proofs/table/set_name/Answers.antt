@@ -1,7 +1,7 @@
 use Rattle.std.proofs.Common.{Some, ap, ◌∙◌}
 use Rattle.std.specs.Option.{option_map}
-use Rattle.atspi_forest.specs.declared.step.Step.TheVariants.{SetName}
-use Rattle.atspi_forest.specs.RowRules.{changed_shape}
+use Rattle.atspi_tree_model.specs.declared.step.Step.TheVariants.{SetName}
+use Rattle.atspi_tree_model.specs.RowRules.{changed_shape}
 use Rattle.atspi_tree.specs.Table.{kept, with_row}
 use Rattle.atspi_tree.proofs.Keys.{is_other, kept_is, is_there}
 use Rattle.atspi_tree.proofs.table.set_name.Goals as goal

@@ -1,7 +1,7 @@
 use Rattle.std.proofs.Common.{◌≡◌, ◌≤◌, ℕ, List, Option, Some, ap, sym, subst, ◌∙◌}
 use Rattle.std.specs.Option.{option_map}
-use Rattle.atspi_forest.specs.Map.{times}
-use Rattle.atspi_forest.specs.Row.{Holds}
+use Rattle.atspi_tree_model.specs.Map.{times}
+use Rattle.atspi_tree_model.specs.Row.{Holds}
 use Rattle.atspi_tree.specs.declared.cell.Cell.{Cell}
 use Rattle.atspi_tree.specs.Table.{Kept, kept, without_child}
 use Rattle.atspi_tree.proofs.Keys.{is_other, kept_is, is_there}

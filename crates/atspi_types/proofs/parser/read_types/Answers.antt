@@ -1,7 +1,7 @@
 use Rattle.std.proofs.Common.{[], take}
 use Rattle.std.proofs.lemmas.Result.{err_from_is_err_and}
 use Rattle.atspi_types.specs.KindView.{kinds_in}
-use Rattle.atspi_types.specs.OpenView.{context_of}
+use Rattle.atspi_types.specs.inner.OpenView.{context_of}
 use Rattle.atspi_types.specs.SignatureFaults.{at_top}
 use Rattle.atspi_types.specs.SignatureReading.{walk, signature_in}
 use Rattle.atspi_types.proofs.ReadingLemmas.{handed_on, front-err, front-ok, take-min}

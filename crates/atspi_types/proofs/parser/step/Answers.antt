@@ -1,5 +1,5 @@
 use Rattle.std.proofs.Common.{◌≡◌, None}
-use Rattle.atspi_types.specs.OpenView.{context_of}
+use Rattle.atspi_types.specs.inner.OpenView.{context_of}
 use Rattle.atspi_types.specs.SignatureFaults.{token_of}
 use Rattle.atspi_types.specs.SignatureReading.{refusal}
 use Rattle.atspi_types.proofs.SignatureFronts.{goes_on}

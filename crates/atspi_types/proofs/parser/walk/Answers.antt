@@ -1,6 +1,6 @@
 use Rattle.std.proofs.Common.{sym, ◌∙◌, arith, [], get_or}
 use Rattle.std.proofs.lemmas.Result.{err_from_is_err_and}
-use Rattle.atspi_types.specs.OpenView.{context_of}
+use Rattle.atspi_types.specs.inner.OpenView.{context_of}
 use Rattle.atspi_types.specs.SignatureFaults.{at_top}
 use Rattle.atspi_types.specs.SignatureReading.{walk, step_at}
 use Rattle.atspi_types.proofs.ReadingLemmas.{handed_on, walk-err, walk-ok, walk-end}

@@ -1,5 +1,5 @@
 use Rattle.std.proofs.Common.{◌≡◌, drop, []}
-use Rattle.atspi_types.specs.OpenView.{context_of}
+use Rattle.atspi_types.specs.inner.OpenView.{context_of}
 use Rattle.atspi_types.specs.SignatureFaults.{BeginsSignature, at_top}
 use Rattle.atspi_types.specs.SignatureReading.{walk}
 use Rattle.atspi_types.proofs.parser.walk.Given as goal

@@ -1,8 +1,8 @@
 use Rattle.std.proofs.Common.{rules, w32, SFits}
 use Rattle.std.proofs.lemmas.Int.{to_z-of_z}
 use Rattle.std.proofs.lemmas.Result.{IfOk-weaker}
-use Rattle.atspi_header.specs.View.{envelope_at}
-use Rattle.atspi_exported.specs.Parts.{parts, faces_of, kinds_of}
+use Rattle.atspi_message_in_place.specs.View.{envelope_at}
+use Rattle.atspi_app_exported.specs.Parts.{parts, faces_of, kinds_of}
 use Rattle.atspi_app.specs.called.Called.{answer_of}
 use Rattle.atspi_app.proofs.OfCalls.{lent_answer_at, lent_kinds, lent_lawful}
 use Rattle.atspi_app.proofs.app.App.called.Goals as goal

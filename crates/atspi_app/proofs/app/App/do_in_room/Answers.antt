@@ -1,6 +1,6 @@
 use Rattle.std.proofs.Common.{refl}
 use Rattle.atspi_app_known.specs.happenings.View.{happened}
-use Rattle.atspi_exported.specs.Parts.{parts, faces_of}
+use Rattle.atspi_app_exported.specs.Parts.{parts, faces_of}
 use Rattle.atspi_app.specs.Seen.{with_tree}
 use Rattle.atspi_app.proofs.Shown.{seen_steps, seen_same}
 use Rattle.atspi_app.proofs.app.App.do_in_room.Goals as goal

@@ -2,7 +2,7 @@ use Rattle.std.proofs.Common.{ap, ◌∙◌}
 use Rattle.atspi_protocol.specs.exporting.Exporter.{Exporter, queues}
 use Rattle.atspi_protocol.specs.exporting.Taking.{stepped}
 use Rattle.atspi_app_known.specs.happenings.View.{happened}
-use Rattle.atspi_exported.specs.Parts.{parts, faces_of}
+use Rattle.atspi_app_exported.specs.Parts.{parts, faces_of}
 use Rattle.atspi_app.specs.Seen.{with_tree}
 use Rattle.atspi_app.proofs.FaultsOf.{end_is_spent}
 use Rattle.atspi_app.proofs.app.App.do_steps.Goals as goal

@@ -1,4 +1,4 @@
-use Rattle.atspi_exported.specs.Parts.{parts, faces_of}
+use Rattle.atspi_app_exported.specs.Parts.{parts, faces_of}
 use Rattle.atspi_app.proofs.FaultsOf.{edit_is_refused, edit_is_not_spent, refused_by}
 use Rattle.atspi_app.proofs.Shown.{edit_refused}
 use Rattle.atspi_app.proofs.app.App.edit.Goals as goal

@@ -1,9 +1,9 @@
 use Rattle.std.proofs.Common.{sym, ap, ◌∙◌, subst, inl}
-use Rattle.atspi_forest.specs.Row.{Each}
+use Rattle.atspi_tree_model.specs.Row.{Each}
 use Rattle.atspi_tree.specs.TreeShape.{TreeShape}
-use Rattle.atspi_announced.specs.Asked.{CanBeTold}
+use Rattle.atspi_app_signals.specs.Asked.{CanBeTold}
 use Rattle.atspi_app_known.specs.happenings.View.{happened}
-use Rattle.atspi_exported.specs.Parts.{parts, faces_of}
+use Rattle.atspi_app_exported.specs.Parts.{parts, faces_of}
 use Rattle.atspi_app.proofs.FaultsOf.{memory_is_not_spent, memory_is_not_refused}
 use Rattle.atspi_app.proofs.OfEdits.{can_all_be_told, told_of_edit, edit_applies, edit_made, edit_is_spent}
 use Rattle.atspi_app.proofs.app.App.make.Goals as goal

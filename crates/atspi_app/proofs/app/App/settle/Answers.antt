@@ -1,11 +1,11 @@
 use Rattle.std.proofs.Common.{rules, w32, SFits, sym, ap, ◌∙◌, subst}
 use Rattle.std.proofs.lemmas.Int.{to_z-of_z}
-use Rattle.atspi_forest.specs.Row.{Each}
-use Rattle.atspi_header.specs.View.{envelope_at}
+use Rattle.atspi_tree_model.specs.Row.{Each}
+use Rattle.atspi_message_in_place.specs.View.{envelope_at}
 use Rattle.atspi_tree.specs.TreeShape.{TreeShape}
-use Rattle.atspi_announced.specs.Asked.{CanBeTold}
+use Rattle.atspi_app_signals.specs.Asked.{CanBeTold}
 use Rattle.atspi_app_known.specs.happenings.View.{happened}
-use Rattle.atspi_exported.specs.Parts.{parts, faces_of}
+use Rattle.atspi_app_exported.specs.Parts.{parts, faces_of}
 use Rattle.atspi_app.proofs.OfCalls.{call_applies, call_can_be_told, call_is_taken_at, ok_along, spent_along}
 use Rattle.atspi_app.proofs.app.App.settle.Goals as goal
 

@@ -1,4 +1,4 @@
-use Rattle.atspi_exported.specs.Parts.{parts, faces_of}
+use Rattle.atspi_app_exported.specs.Parts.{parts, faces_of}
 use Rattle.atspi_app.specs.Seen.{with_tree}
 use Rattle.atspi_app.proofs.FaultsOf.{end_is_spent, end_is_not_refused}
 use Rattle.atspi_app.proofs.app.App.start.Goals as goal

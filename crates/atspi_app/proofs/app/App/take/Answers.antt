@@ -1,7 +1,7 @@
 use Rattle.std.proofs.Common.{sym, ap, ◌∙◌}
-use Rattle.atspi_header.specs.View.{envelope_at}
+use Rattle.atspi_message_in_place.specs.View.{envelope_at}
 use Rattle.atspi_protocol.specs.exporting.Taking.{is_spent}
-use Rattle.atspi_exported.specs.Parts.{parts, faces_of}
+use Rattle.atspi_app_exported.specs.Parts.{parts, faces_of}
 use Rattle.atspi_app_known.proofs.OfHeeding.Heeded.{heeded}
 use Rattle.atspi_app.specs.Seen.{seen, with_tree}
 use Rattle.atspi_app.proofs.FaultsOf.{end_is_spent, end_is_not_refused}

@@ -2,10 +2,10 @@ use Rattle.std.proofs.Common.{ℤ, subst, w32, SFits, rules}
 use Rattle.std.specs.Prelude.{IfOk}
 use Rattle.std.proofs.lemmas.Int.{to_z-of_z}
 use Rattle.std.proofs.lemmas.Result.{IfOk-weaker}
-use Rattle.atspi_cursor.specs.Items.{fields_data}
-use Rattle.atspi_exported.specs.Parts.{faces_of}
+use Rattle.atspi_marshal_in_place.specs.Items.{fields_data}
+use Rattle.atspi_app_exported.specs.Parts.{faces_of}
 use Rattle.atspi_app_answers.specs.declared.place.AppPlace.TheVariants as places
-use Rattle.atspi_app.specs.called.Told.{PlaceComesTo}
+use Rattle.atspi_app.specs.called.inner.Told.{PlaceComesTo}
 use Rattle.atspi_app.proofs.OfCalled.Coming.{member_comes_at}
 use Rattle.atspi_app.proofs.OfCalled.HasCounts.{has_counts}
 use Rattle.atspi_app.proofs.called.calls.of_node.Goals as goal

@@ -1,9 +1,9 @@
 use Rattle.std.proofs.Common.{sym, ◌∙◌, w32, SFits, rules}
 use Rattle.std.proofs.lemmas.Int.{to_z-of_z}
 use Rattle.std.proofs.lemmas.Result.{IfOk-weaker}
-use Rattle.atspi_cursor.specs.Items.{fields_data}
-use Rattle.atspi_contents_answers.proofs.Kept.{keeps, keeps_text}
-use Rattle.atspi_exported.specs.Parts.{faces_of}
+use Rattle.atspi_marshal_in_place.specs.Items.{fields_data}
+use Rattle.atspi_app_contents.proofs.OfAnswers.Kept.{keeps, keeps_text}
+use Rattle.atspi_app_exported.specs.Parts.{faces_of}
 use Rattle.atspi_app.proofs.OfCalled.Coming.{changed_comes, changes_come}
 use Rattle.atspi_app.proofs.called.contents.changing.Goals as goal
 

@@ -1,5 +1,5 @@
-use Rattle.atspi_contents_answers.proofs.Kept.{keeps}
-use Rattle.atspi_exported.specs.Parts.{faces_of}
+use Rattle.atspi_app_contents.proofs.OfAnswers.Kept.{keeps}
+use Rattle.atspi_app_exported.specs.Parts.{faces_of}
 use Rattle.atspi_app.proofs.called.contents.reading.Goals as goal
 
 pub contents-requires-clause-kept : goal.contents-requires-clause-kept

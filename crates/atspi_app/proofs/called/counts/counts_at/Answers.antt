@@ -1,4 +1,4 @@
-use Rattle.atspi_exported.specs.Parts.{faces_of}
+use Rattle.atspi_app_exported.specs.Parts.{faces_of}
 use Rattle.atspi_app.proofs.OfCalled.HasCounts.{are_faces}
 use Rattle.atspi_app.proofs.called.counts.counts_at.Goals as goal
 

@@ -1,6 +1,6 @@
 use Rattle.std.proofs.Common.{◌≡◌}
 use Rattle.atspi_types.specs.Data.{items_of}
-use Rattle.atspi_cursor.specs.Items.{elements_data}
+use Rattle.atspi_marshal_in_place.specs.Items.{elements_data}
 use Rattle.atspi_protocol.specs.exporting.Hearing.{all_pairs}
 use Rattle.atspi_app_known.specs.hearing.Lent.{lent_pairs}
 use Rattle.atspi_app_known.proofs.OfHearing.Values.{behind}

@@ -1,6 +1,6 @@
 use Rattle.std.proofs.Common.{sym, ap, ◌∙◌}
 use Rattle.std.proofs.lemmas.Result.{on_ok_weaker}
-use Rattle.atspi_header.specs.View.{envelope_at}
+use Rattle.atspi_message_in_place.specs.View.{envelope_at}
 use Rattle.atspi_protocol.specs.exporting.Taking.{is_spent}
 use Rattle.atspi_app_known.specs.starting.KnownView.{known_in}
 use Rattle.atspi_app_known.proofs.OfHeeding.Heeded.{own_heeded, other_heeded}

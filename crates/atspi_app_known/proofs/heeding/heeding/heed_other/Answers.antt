@@ -1,7 +1,7 @@
 use Rattle.std.proofs.Common.{rules, true, sym, ◌∙◌}
 use Rattle.std.specs.Prelude.{◌≡◌, is_some}
 use Rattle.std.proofs.lemmas.Result.{on_ok_weaker}
-use Rattle.atspi_header.specs.View.{envelope_at}
+use Rattle.atspi_message_in_place.specs.View.{envelope_at}
 use Rattle.atspi_app_known.specs.starting.KnownView.{known_in}
 use Rattle.atspi_app_known.proofs.OfHeeding.Heeded.{signal_heeded}
 use Rattle.atspi_app_known.proofs.heeding.heeding.heed_other.Goals as goal

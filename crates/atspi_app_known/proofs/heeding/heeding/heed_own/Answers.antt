@@ -1,5 +1,5 @@
 use Rattle.std.proofs.Common.{sym, ◌∙◌}
-use Rattle.atspi_header.specs.View.{envelope_at}
+use Rattle.atspi_message_in_place.specs.View.{envelope_at}
 use Rattle.atspi_app_known.specs.starting.KnownView.{call_of, known_in}
 use Rattle.atspi_app_known.proofs.OfHeeding.Heeded.{own_failed}
 use Rattle.atspi_app_known.proofs.heeding.heeding.heed_own.Goals as goal

@@ -1,4 +1,4 @@
-use Rattle.atspi_header.specs.View.{envelope_at}
+use Rattle.atspi_message_in_place.specs.View.{envelope_at}
 use Rattle.atspi_app_known.specs.starting.KnownView.{known_in}
 use Rattle.atspi_app_known.proofs.OfHeeding.Heeded.{awaited_is_own, not_awaited}
 use Rattle.atspi_app_known.proofs.heeding.heeding.is_answered.Goals as goal

@@ -2,9 +2,9 @@ use Rattle.std.proofs.Common.{◌≡◌, sym, ap, ◌∙◌}
 use Rattle.atspi_types.specs.Kinds.{text}
 use Rattle.atspi_types.specs.Data.{type_of}
 use Rattle.atspi_marshal.specs.Reading.{input_of}
-use Rattle.atspi_cursor.specs.Items.{item_data, item_kind, fields_data}
-use Rattle.atspi_header.proofs.ReadTypes.{item_type}
-use Rattle.atspi_app_known.specs.starting.Lent.{chars_or_none}
+use Rattle.atspi_marshal_in_place.specs.Items.{item_data, item_kind, fields_data}
+use Rattle.atspi_message_in_place.proofs.ReadTypes.{item_type}
+use Rattle.atspi_app_known.specs.starting.inner.Lent.{chars_or_none}
 use Rattle.atspi_app_known.proofs.OfStarting.Unique.{wrong_text}
 use Rattle.atspi_app_known.proofs.starting.name.unique_name.Goals as goal
 

@@ -1,6 +1,6 @@
 use Rattle.std.proofs.Common.{false, refl, ◌∙◌, arith}
 use Rattle.atspi_base.proofs.OfValidNames.ElementLemmas.{goes_on-are_elements}
-use Rattle.atspi_base.specs.valid_names.Walks.{separator_of}
+use Rattle.atspi_base.specs.valid_names.inner.Walks.{separator_of}
 use Rattle.atspi_base.proofs.OfValidNames.WalkLemmas.{going, came_on, came_to_end}
 use Rattle.atspi_base.proofs.valid_names.elements.are_elements.Goals as goal
 

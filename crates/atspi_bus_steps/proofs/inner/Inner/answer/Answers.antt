@@ -1,6 +1,6 @@
 use Rattle.std.proofs.Common.{◌≤◌, ◌++◌, sym, ap, ◌∙◌, subst, map, refl}
 use Rattle.std.specs.List.{All}
-use Rattle.atspi_header.specs.View.{envelope_at}
+use Rattle.atspi_message_in_place.specs.View.{envelope_at}
 use Rattle.atspi_message.specs.Envelope.{envelope_of}
 use Rattle.atspi_names.specs.Owners.{Owners}
 use Rattle.atspi_match.specs.routing.BusState.{BusState}

@@ -2,7 +2,7 @@ use Rattle.std.proofs.Common.{◌+◌, ◌≤◌, length, map, sym, ap, ◌∙�
 use Rattle.std.specs.List.{All}
 use Rattle.std.proofs.lemmas.Result.{on_ok_weaker}
 use Rattle.atspi_message.specs.Envelope.{envelope_of}
-use Rattle.atspi_header.specs.View.{envelope_at}
+use Rattle.atspi_message_in_place.specs.View.{envelope_at}
 use Rattle.atspi_names.specs.Owners.{unique_name}
 use Rattle.atspi_names.proofs.UniqueLemmas.{is_bus_name-unique_name}
 use Rattle.atspi_match.specs.routing.BusState.{BusState}

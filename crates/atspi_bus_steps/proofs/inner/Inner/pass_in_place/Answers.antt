@@ -1,8 +1,8 @@
 use Rattle.std.proofs.Common.{List, ℕ, map, Some, refl, sym, subst}
-use Rattle.atspi_header.specs.View.{envelope_at}
+use Rattle.atspi_message_in_place.specs.View.{envelope_at}
 use Rattle.atspi_match.specs.routing.BusState as state
 use Rattle.atspi_match.specs.routing.Routing.{receivers}
-use Rattle.atspi_bus_steps.specs.Handing.{WentToAll}
+use Rattle.atspi_bus_steps.specs.inner.Handing.{WentToAll}
 use Rattle.atspi_bus_steps.specs.Inner.{inner_of, state_of, call_of, parts}
 use Rattle.atspi_bus_steps.specs.Sound.{IsSound}
 use Rattle.atspi_bus_steps.specs.declared.open_call.OpenCall.{OpenCall}

@@ -1,5 +1,5 @@
 use Rattle.std.proofs.Common.{rules, ◌≡◌, ℕ, arith, length, subst}
-use Rattle.atspi_header.specs.View.{envelope_at}
+use Rattle.atspi_message_in_place.specs.View.{envelope_at}
 use Rattle.atspi_match.specs.routing.Steps.{bus_takes}
 use Rattle.atspi_match.specs.routing.Queues.{stepped, settled}
 use Rattle.atspi_bus_steps.specs.Inner.{inner_of}

@@ -1,7 +1,7 @@
 use Rattle.std.proofs.Common.{ap, sym, ◌∙◌}
 use Rattle.atspi_cache.specs.Cache.{View}
 use Rattle.std.specs.Prelude.{Some}
-use Rattle.atspi_arena.specs.Sights.{sights}
+use Rattle.atspi_cache_arena.specs.Sights.{sights}
 use Rattle.std.specs.Option.{option_copied, option_map}
 use Rattle.atspi_cache.proofs.ViewLemmas.{get_found, get_missed}
 use Rattle.atspi_cache.proofs.cache.Cache.rows.Goals as goal

@@ -1,6 +1,6 @@
 use Rattle.std.proofs.Common.{[], ◌∷◌, codes, refl}
 use Rattle.std.specs.FinMap.{get, gets}
-use Rattle.atspi_forest.specs.declared.contents.FaceData.TheVariants.{Chars, Deeds, Grid}
+use Rattle.atspi_tree_model.specs.declared.contents.FaceData.TheVariants.{Chars, Deeds, Grid}
 use Rattle.atspi_protocol.specs.whole.Cases.{kept}
 use Rattle.atspi_examples.proofs.OfProtocol.Knowing.{clash}
 use Rattle.atspi_examples.proofs.protocol.whole.unknown.Goals as goal

@@ -2,7 +2,7 @@ use Rattle.std.proofs.Common.{length, ap, ◌∙◌, arith}
 use Rattle.std.proofs.lemmas.List.{length-drop}
 use Rattle.atspi_faces.specs.declared.side.Place.{Place}
 use Rattle.atspi_faces.specs.Gap.{text_of}
-use Rattle.atspi_faces.proofs.PlaceLemmas.{cut_same}
+use Rattle.atspi_base.proofs.PlaceLemmas.{cut_same}
 use Rattle.atspi_faces.proofs.KeptLemmas.{kept_cut}
 use Rattle.atspi_faces.proofs.gap.Gap.delete.Goals as goal
 

@@ -1,5 +1,5 @@
 use Rattle.std.proofs.Common.{◌≡◌, ◌-◌, ◌++◌, take, drop, chars, ap, ◌∙◌}
-use Rattle.atspi_faces.proofs.PlaceLemmas.{not_zero, not_utf8, reads_so}
+use Rattle.atspi_base.proofs.PlaceLemmas.{not_zero, not_utf8, reads_so}
 use Rattle.atspi_faces.proofs.GapLemmas.{window, pieces_read}
 use Rattle.atspi_faces.proofs.gap.Gap.part.Goals as goal
 

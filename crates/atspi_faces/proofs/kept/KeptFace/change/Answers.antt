@@ -3,7 +3,7 @@ use Rattle.std.proofs.lemmas.Option.{MatchOption-at_some, MatchOption-at_none}
 use Rattle.std.proofs.lemmas.Result.{on_ok_weaker, on_err_weaker}
 use Rattle.std.specs.Option.{option_map, option_map_or}
 use Rattle.std.specs.FinMap.{insert}
-use Rattle.atspi_face.specs.Contents.{IsChange, changed}
+use Rattle.atspi_faces.specs.face.Contents.{IsChange, changed}
 use Rattle.atspi_faces.specs.Kept.{nodes_of}
 use Rattle.atspi_faces.proofs.AskedLemmas.{may_change}
 use Rattle.atspi_faces.proofs.NodeLemmas.{get_nodes, put_nodes, insert_same, some_at}

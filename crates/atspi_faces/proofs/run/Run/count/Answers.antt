@@ -1,6 +1,6 @@
 use Rattle.std.proofs.Common.{arith}
 use Rattle.std.proofs.lemmas.Str.{IsUtf8-string_bytes}
-use Rattle.atspi_faces.proofs.PlaceLemmas.{count_fits}
+use Rattle.atspi_base.proofs.PlaceLemmas.{count_fits}
 use Rattle.atspi_faces.proofs.run.Run.count.Goals as goal
 
 pub overflow_add-result : goal.overflow_add-result

@@ -3,9 +3,9 @@ use Rattle.std.specs.List.{replace_range}
 use Rattle.std.proofs.lemmas.List.{length-drop}
 use Rattle.std.proofs.lemmas.Str.{IsUtf8-string_bytes}
 use Rattle.atspi_faces.specs.declared.side.Place.{Place}
-use Rattle.atspi_faces.specs.Places.{CutAt}
+use Rattle.atspi_base.specs.Places.{CutAt}
 use Rattle.atspi_faces.specs.Sides.{IsPlace}
-use Rattle.atspi_faces.proofs.PlaceLemmas.{boundary, cut_same, cut_twice, removed, room, done}
+use Rattle.atspi_base.proofs.PlaceLemmas.{boundary, cut_same, cut_twice, removed, room, done}
 use Rattle.atspi_faces.proofs.SideLemmas.{place_of_cut}
 use Rattle.atspi_faces.proofs.KeptLemmas.{run_fits, run_behind, run_cut}
 use Rattle.atspi_faces.proofs.run.Run.delete.Goals as goal

@@ -4,9 +4,9 @@ use Rattle.std.proofs.lemmas.List.{length-take-le}
 use Rattle.std.proofs.lemmas.Str.{IsUtf8-string_bytes}
 use Rattle.atspi_base.proofs.TextLemmas.{length-chars-le}
 use Rattle.atspi_faces.specs.declared.side.Place.{Place}
-use Rattle.atspi_faces.specs.Places.{IsCounted, CutAt}
+use Rattle.atspi_base.specs.Places.{IsCounted, CutAt}
 use Rattle.atspi_faces.specs.Sides.{IsSide, AreNoted}
-use Rattle.atspi_faces.proofs.PlaceLemmas.{boundary, cut_same, inserted, inserted_counted, count_fits, done_unless, undone, len_is}
+use Rattle.atspi_base.proofs.PlaceLemmas.{boundary, cut_same, inserted, inserted_counted, count_fits, done_unless, undone, len_is}
 use Rattle.atspi_faces.proofs.SideLemmas.{place_of_cut, noted_more}
 use Rattle.atspi_faces.proofs.KeptLemmas.{run_fits, run_before, inserted_cut, inserted_chars, run_put}
 use Rattle.atspi_faces.proofs.run.Run.insert.Goals as goal

@@ -1,6 +1,6 @@
 use Rattle.std.proofs.Common.{◌+◌, ◌-◌, take, drop, string_bytes, sym, ap, ◌∙◌}
 use Rattle.atspi_base.specs.ReadsText.{text_in}
-use Rattle.atspi_faces.proofs.PlaceLemmas.{boundary, cut_same, part_reads, not_zero, not_utf8, reads_so}
+use Rattle.atspi_base.proofs.PlaceLemmas.{boundary, cut_same, part_reads, not_zero, not_utf8, reads_so}
 use Rattle.atspi_faces.proofs.run.Run.part.Goals as goal
 
 pub range_from-rest-requires : goal.range_from-rest-requires

@@ -1,10 +1,10 @@
 use Rattle.std.proofs.Common.{◌≡◌, ℕ, List, [], ◌∷◌, length, refl, sym, ap, ◌∙◌, inl, inr, arith, lit<}
 use Rattle.atspi_auth.specs.Talk.{behind, client_start}
-use Rattle.atspi_host.specs.declared.call.Call.{Call}
+use Rattle.atspi_live_host.specs.declared.call.Call.{Call}
 use Rattle.atspi_message.specs.Envelope.{Envelope}
 use Rattle.atspi_stream.specs.Stream.{few}
-use Rattle.atspi_conversation.proofs.LineLemmas.{none_behind}
-use Rattle.atspi_conversation.proofs.SentLemmas.{none_parted}
+use Rattle.atspi_live_conversation.proofs.LineLemmas.{none_behind}
+use Rattle.atspi_live_conversation.proofs.SentLemmas.{none_parted}
 use Rattle.atspi_live_app.specs.Pace.{GoesOn, HasWhole}
 use Rattle.atspi_live_app.proofs.Passed.{empty_takes, first_is, passed, some_none}
 use Rattle.atspi_live_app.proofs.examples.pacing.turns_ended.Goals as goal

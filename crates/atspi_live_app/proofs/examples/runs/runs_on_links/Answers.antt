@@ -1,10 +1,10 @@
 use Rattle.std.proofs.Common.{◌≡◌, ◌<◌, ℕ, zero, suc, List, [], ◌∷◌, ◌++◌, refl, inl, arith, lit<}
 use Rattle.std.specs.Prelude.{codes}
-use Rattle.atspi_host.specs.declared.call.Call.{Call}
-use Rattle.atspi_host.specs.declared.call.Call.TheVariants.{Read}
-use Rattle.atspi_host.specs.declared.call.Did.TheVariants.{End, Failed, NotYet}
-use Rattle.atspi_conversation.specs.Rounds.{AreRounds}
-use Rattle.atspi_conversation.specs.declared.ending.Ending.TheVariants as endings
+use Rattle.atspi_live_host.specs.declared.call.Call.{Call}
+use Rattle.atspi_live_host.specs.declared.call.Call.TheVariants.{Read}
+use Rattle.atspi_live_host.specs.declared.call.Did.TheVariants.{End, Failed, NotYet}
+use Rattle.atspi_live_conversation.specs.Rounds.{AreRounds}
+use Rattle.atspi_live_conversation.specs.declared.ending.Ending.TheVariants as endings
 use Rattle.atspi_live_app.specs.Rounds.{IsAfterReads}
 use Rattle.atspi_live_app.specs.Standing.{IsEmpty}
 use Rattle.atspi_live_app.specs.Turns.{IsInTurn}

@@ -1,6 +1,6 @@
 use Rattle.std.proofs.Common.{◌≡◌, List, [], ◌∷◌, ◌++◌}
-use Rattle.atspi_host.specs.declared.call.Did.{Did}
-use Rattle.atspi_host.specs.declared.call.Did.TheVariants.{End, NotYet}
+use Rattle.atspi_live_host.specs.declared.call.Did.{Did}
+use Rattle.atspi_live_host.specs.declared.call.Did.TheVariants.{End, NotYet}
 use Rattle.atspi_live_app.specs.Turns.{IsInTurn}
 use Rattle.atspi_live_app.proofs.Unstarted.{in_order, none_due, stops_first}
 use Rattle.atspi_live_app.proofs.examples.unstarted.runs_stopped.Goals as goal

@@ -1,6 +1,6 @@
 use Rattle.std.proofs.Common.{Option, Some, [], ◌∷◌, ◌++◌, sym, ap, ◌∙◌}
 use Rattle.std.proofs.lemmas.Result.{on_ok_weaker}
-use Rattle.atspi_header.specs.View.{envelope_at}
+use Rattle.atspi_message_in_place.specs.View.{envelope_at}
 use Rattle.atspi_protocol.specs.exporting.Exporter.{Exporter}
 use Rattle.atspi_live_app.specs.Live.{seen}
 use Rattle.atspi_live_app.proofs.Making.{after_taken}

@@ -1,6 +1,6 @@
 use Rattle.std.proofs.Common.{ℕ, List, [], ◌∷◌, ◌++◌, sym, ap, subst, ◌∙◌, inl, inr}
-use Rattle.atspi_host.specs.Calls.{IsNew}
-use Rattle.atspi_live_bus.specs.Serving.{numbers}
+use Rattle.atspi_live_host.specs.Calls.{IsNew}
+use Rattle.atspi_live_bus.specs.inner.Serving.{numbers}
 use Rattle.atspi_live_bus.specs.declared.link.Link.{Link}
 use Rattle.atspi_live_bus.proofs.Admitting.{admitted, none_came, not_admitted}
 use Rattle.atspi_live_bus.proofs.Ending.{free_blames, if_err, on_ok}

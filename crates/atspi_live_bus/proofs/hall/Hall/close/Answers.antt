@@ -1,7 +1,7 @@
 use Rattle.std.proofs.Common.{ℕ, subst, sym}
-use Rattle.atspi_host.specs.Calls.{Adds}
-use Rattle.atspi_host.specs.declared.call.Call.TheVariants.{Close}
-use Rattle.atspi_live_bus.specs.Serving.{Serves}
+use Rattle.atspi_live_host.specs.Calls.{Adds}
+use Rattle.atspi_live_host.specs.declared.call.Call.TheVariants.{Close}
+use Rattle.atspi_live_bus.specs.inner.Serving.{Serves}
 use Rattle.atspi_live_bus.proofs.Serving.{link_open, removed}
 use Rattle.atspi_live_bus.proofs.Shutting.{number_there}
 use Rattle.atspi_live_bus.proofs.hall.Hall.close.Goals as goal

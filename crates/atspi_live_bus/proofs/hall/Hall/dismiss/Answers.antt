@@ -1,5 +1,5 @@
 use Rattle.std.proofs.Common.{◌≤◌, List, sym, subst}
-use Rattle.atspi_live_bus.specs.Seats.{held}
+use Rattle.atspi_live_bus.specs.inner.Seats.{held}
 use Rattle.atspi_live_bus.specs.declared.link.Link.{Link}
 use Rattle.atspi_live_bus.proofs.Shutting.{dismissed, held_out, not_dismissed}
 use Rattle.atspi_live_bus.proofs.hall.Hall.dismiss.Goals as goal

@@ -2,8 +2,8 @@ use Rattle.std.proofs.Common.{◌<◌, List, length, refl, sym, ap, subst, ◌�
 use Rattle.atspi_bus.specs.declared.bus.Bus.{Bus}
 use Rattle.atspi_bus.specs.View.{bus_of}
 use Rattle.atspi_match.specs.routing.Queues as queues
-use Rattle.atspi_live_bus.specs.Seats.{held}
-use Rattle.atspi_live_bus.specs.Serving.{Serves}
+use Rattle.atspi_live_bus.specs.inner.Seats.{held}
+use Rattle.atspi_live_bus.specs.inner.Serving.{Serves}
 use Rattle.atspi_live_bus.specs.declared.link.Link.{Link}
 use Rattle.atspi_live_bus.proofs.Counting.{fewer_closings}
 use Rattle.atspi_live_bus.proofs.Shutting.{forgotten, none_told, settled, settling_more}

@@ -1,8 +1,8 @@
 use Rattle.std.proofs.Common.{◌≡◌, ◌≤◌, [], length}
 use Rattle.atspi_bus.specs.View.{bus_of}
 use Rattle.atspi_live_bus.specs.Rounds.{Moves}
-use Rattle.atspi_live_bus.specs.Seats.{Settling, held}
-use Rattle.atspi_live_bus.specs.Serving.{Serves}
+use Rattle.atspi_live_bus.specs.inner.Seats.{Settling, held}
+use Rattle.atspi_live_bus.specs.inner.Serving.{Serves}
 use Rattle.atspi_live_bus.specs.Turns.{Goes}
 use Rattle.atspi_live_bus.proofs.hall.Hall.settle.Given as goal
 

@@ -1,9 +1,9 @@
 use Rattle.std.proofs.Common.{rules, ◌≡◌, ◌<◌, ◌≤◌, ℕ, true, false, List, ◌++◌, length, take, drop, sym, ap, subst, ◌∙◌, inl, inr, append-nil, arith}
 use Rattle.std.proofs.lemmas.List.{length-append, take-append-drop}
-use Rattle.atspi_host.specs.declared.call.Did.TheVariants.{Done, NotYet, Failed}
+use Rattle.atspi_live_host.specs.declared.call.Did.TheVariants.{Done, NotYet, Failed}
 use Rattle.atspi_bus.specs.View.{bus_of}
 use Rattle.atspi_live_bus.specs.Rounds.{Does}
-use Rattle.atspi_live_bus.specs.Seats.{HasSent}
+use Rattle.atspi_live_bus.specs.inner.Seats.{HasSent}
 use Rattle.atspi_live_bus.specs.Turns.{Carries, Converses}
 use Rattle.atspi_live_bus.proofs.Calling.{carries_write}
 use Rattle.atspi_live_bus.proofs.Conversing.{given_on}

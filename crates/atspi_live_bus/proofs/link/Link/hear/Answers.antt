@@ -2,7 +2,7 @@ use Rattle.std.proofs.Common.{rules, ◌≡◌, ℕ, List, ◌++◌, refl, ap, �
 use Rattle.atspi_auth.specs.Talk.{told}
 use Rattle.atspi_auth.specs.declared.fault.AuthFault.TheVariants as faults
 use Rattle.std.proofs.lemmas.List.{take_rest}
-use Rattle.atspi_host.specs.declared.call.Did.TheVariants.{Done}
+use Rattle.atspi_live_host.specs.declared.call.Did.TheVariants.{Done}
 use Rattle.atspi_live_bus.proofs.Conversing.{heard_on, lost_lines, not_lost, refused, speech_more, speech_of}
 use Rattle.atspi_live_bus.proofs.link.Link.hear.Goals as goal
 

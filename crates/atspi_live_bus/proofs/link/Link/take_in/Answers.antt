@@ -1,6 +1,6 @@
 use Rattle.std.proofs.Common.{◌≤◌, [], length, take, true, false, refl, inl, inr, arith}
 use Rattle.std.proofs.lemmas.List.{length-take}
-use Rattle.atspi_host.specs.declared.call.Did.TheVariants.{NotYet, End, Failed}
+use Rattle.atspi_live_host.specs.declared.call.Did.TheVariants.{NotYet, End, Failed}
 use Rattle.atspi_live_bus.proofs.Conversing.{speech_more, speech_of}
 use Rattle.atspi_live_bus.proofs.Giving.{has_read, read_either, still_there}
 use Rattle.atspi_live_bus.proofs.link.Link.take_in.Goals as goal

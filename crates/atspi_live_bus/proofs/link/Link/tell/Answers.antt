@@ -1,5 +1,5 @@
 use Rattle.std.proofs.Common.{Err, refl, ap, inl, inr}
-use Rattle.atspi_header.specs.View.{envelope_at}
+use Rattle.atspi_message_in_place.specs.View.{envelope_at}
 use Rattle.atspi_bus_steps.specs.declared.fault.BusFault.{BusFault}
 use Rattle.atspi_live_bus.proofs.Conversing.{shorter, told_one}
 use Rattle.atspi_live_bus.proofs.link.Link.tell.Goals as goal

@@ -1,8 +1,8 @@
 use Rattle.std.proofs.Common.{◌≡◌, ℕ, arith}
 use Rattle.std.specs.Prelude.{codes}
-use Rattle.atspi_forest.specs.declared.edit.Edit.TheVariants.{Focus}
-use Rattle.atspi_lines.specs.declared.line.Line.TheVariants.{Edit}
-use Rattle.atspi_lines.proofs.OnceLemmas.{one_reading}
+use Rattle.atspi_tree_model.specs.declared.edit.Edit.TheVariants.{Focus}
+use Rattle.atspi_script_lines.specs.declared.line.Line.TheVariants.{Edit}
+use Rattle.atspi_script_lines.proofs.OnceLemmas.{one_reading}
 use Rattle.atspi_live_examples.proofs.OfApp.Asked.{focus}
 use Rattle.atspi_live_examples.proofs.app.asking.edits_read.Goals as goal
 

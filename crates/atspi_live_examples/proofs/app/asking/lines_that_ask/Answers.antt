@@ -1,9 +1,9 @@
 use Rattle.std.proofs.Common.{◌≡◌, ℕ, List, refl, arith}
 use Rattle.std.specs.Prelude.{codes}
 use Rattle.std.specs.Fmt.{digits}
-use Rattle.atspi_forest.specs.declared.edit.Edit.TheVariants.{Focus}
-use Rattle.atspi_lines.specs.declared.line.Line.TheVariants.{App, Edit}
-use Rattle.atspi_lines.proofs.OnceLemmas.{one_reading}
+use Rattle.atspi_tree_model.specs.declared.edit.Edit.TheVariants.{Focus}
+use Rattle.atspi_script_lines.specs.declared.line.Line.TheVariants.{App, Edit}
+use Rattle.atspi_script_lines.proofs.OnceLemmas.{one_reading}
 use Rattle.atspi_live_examples.specs.app.Lines.{named}
 use Rattle.atspi_live_examples.proofs.OfApp.Asked.{comment, empty, first_is, focus, not_whole, start}
 use Rattle.atspi_live_examples.proofs.app.asking.lines_that_ask.Goals as goal

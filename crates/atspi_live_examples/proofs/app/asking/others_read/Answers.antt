@@ -1,7 +1,7 @@
 use Rattle.std.proofs.Common.{◌≡◌, ℕ, refl, arith}
 use Rattle.std.specs.Prelude.{codes}
 use Rattle.std.specs.Fmt.{digits}
-use Rattle.atspi_forest.specs.declared.edit.Edit.TheVariants.{Focus}
+use Rattle.atspi_tree_model.specs.declared.edit.Edit.TheVariants.{Focus}
 use Rattle.atspi_live_app.specs.Asking.{IsWait}
 use Rattle.atspi_live_examples.proofs.OfApp.Asked.{first_is, focus}
 use Rattle.atspi_live_examples.proofs.app.asking.others_read.Goals as goal

@@ -1,6 +1,6 @@
 use Rattle.std.proofs.Common.{◌≡◌, Option, None, Some, Result, Ok, Err, refl, sym, ◌∙◌, arith}
 use Rattle.std.specs.Prelude.{codes}
-use Rattle.atspi_forest.specs.declared.edit.EditFault.{EditFault}
+use Rattle.atspi_tree_model.specs.declared.edit.EditFault.{EditFault}
 use Rattle.atspi_protocol.specs.exporting.Exporter.{Exporter, begins}
 use Rattle.atspi_live_examples.proofs.OfApp.Asked.{next_is, some_is}
 use Rattle.atspi_live_examples.proofs.app.doing.edits_done.Goals as goal

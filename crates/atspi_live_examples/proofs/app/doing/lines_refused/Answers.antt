@@ -5,7 +5,7 @@ use Rattle.atspi_protocol.specs.exporting.Exporter.{begins}
 use Rattle.atspi_protocol.specs.exporting.Starting.{starts}
 use Rattle.atspi_live_app.specs.Asking.{IsAsk}
 use Rattle.atspi_live_app.specs.Standing.{Event, RefusedBy, does, lines_in, taken_in, takes}
-use Rattle.atspi_forest.specs.declared.edit.EditFault.TheVariants.{NoNode, TextFull}
+use Rattle.atspi_tree_model.specs.declared.edit.EditFault.TheVariants.{NoNode, TextFull}
 use Rattle.atspi_live_app.specs.declared.asking.Ask.{Ask}
 use Rattle.atspi_live_app.specs.declared.asking.Ask.TheVariants as asks
 use Rattle.atspi_live_examples.specs.app.Lines.{named}

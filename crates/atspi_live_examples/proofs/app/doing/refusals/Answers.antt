@@ -1,8 +1,8 @@
 use Rattle.std.proofs.Common.{◌≡◌, ◌<◌, true, false, None, Some, Result, Err, refl, sym, subst, arith}
 use Rattle.std.specs.Prelude.{codes}
-use Rattle.atspi_forest.specs.Row.{IsName}
-use Rattle.atspi_forest.specs.declared.edit.EditFault.{EditFault}
-use Rattle.atspi_forest.specs.declared.edit.EditFault.TheVariants.{Full, IsRoot, NoNode, TextFull}
+use Rattle.atspi_tree_model.specs.Row.{IsName}
+use Rattle.atspi_tree_model.specs.declared.edit.EditFault.{EditFault}
+use Rattle.atspi_tree_model.specs.declared.edit.EditFault.TheVariants.{Full, IsRoot, NoNode, TextFull}
 use Rattle.atspi_protocol.specs.exporting.Exporter.{Exporter}
 use Rattle.atspi_app.specs.Seen.{IsSpentAfter}
 use Rattle.atspi_live_examples.proofs.app.doing.refusals.Goals as goal

@@ -6,8 +6,8 @@ use Rattle.atspi_auth.specs.Talk.{after, behind, client_start, fault_in, heard, 
 use Rattle.atspi_auth.proofs.LinesLemmas.{joined-lines_of}
 use Rattle.atspi_message.specs.Envelope.{Envelope}
 use Rattle.atspi_stream.specs.Stream.{few}
-use Rattle.atspi_conversation.specs.Speech.{IsInOrder}
-use Rattle.atspi_conversation.proofs.LineLemmas.{none_behind}
+use Rattle.atspi_live_conversation.specs.Speech.{IsInOrder}
+use Rattle.atspi_live_conversation.proofs.LineLemmas.{none_behind}
 use Rattle.atspi_live_app.specs.Live.{IsMarked, marks_in}
 use Rattle.atspi_live_app.specs.Standing.{Event, IsAfter, does, lines_in, takes}
 use Rattle.atspi_live_examples.specs.app.Lines.{granted, rejected}

@@ -2,8 +2,8 @@ use Rattle.std.proofs.Common.{ℕ, List, [], length, refl, ap, arith, lit<}
 use Rattle.atspi_auth.specs.Talk.{behind, client_start}
 use Rattle.atspi_message.specs.Envelope.{Envelope}
 use Rattle.atspi_stream.specs.Stream.{few}
-use Rattle.atspi_conversation.proofs.LineLemmas.{none_behind}
-use Rattle.atspi_conversation.proofs.SentLemmas.{none_parted}
+use Rattle.atspi_live_conversation.proofs.LineLemmas.{none_behind}
+use Rattle.atspi_live_conversation.proofs.SentLemmas.{none_parted}
 use Rattle.atspi_live_app.specs.Pace.{HasWhole}
 use Rattle.atspi_live_examples.proofs.app.pacing.messages_heard.Goals as goal
 

@@ -1,7 +1,7 @@
 use Rattle.std.proofs.Common.{◌≡◌, ℕ, List, [], ◌∷◌, Some, refl, inl, inr, arith, lit<}
 use Rattle.std.specs.Prelude.{codes}
 use Rattle.atspi_base.specs.Outside.{Rose}
-use Rattle.atspi_host.specs.declared.call.Call.{Call}
+use Rattle.atspi_live_host.specs.declared.call.Call.{Call}
 use Rattle.atspi_live_app.specs.Input.{BlamesEnd}
 use Rattle.atspi_live_app.specs.Runs.{CutsOff}
 use Rattle.atspi_live_app.specs.declared.input.End.{End}

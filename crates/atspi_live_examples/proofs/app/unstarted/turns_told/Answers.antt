@@ -2,9 +2,9 @@ use Rattle.std.proofs.Common.{◌≡◌, ◌≤◌, ◌⊎◌, ℕ, List, [], �
 use Rattle.atspi_auth.specs.Talk.{behind, client_start}
 use Rattle.atspi_message.specs.Envelope.{Envelope}
 use Rattle.atspi_stream.specs.Stream.{few}
-use Rattle.atspi_conversation.proofs.LineLemmas.{none_behind}
-use Rattle.atspi_conversation.proofs.SentLemmas.{none_parted}
-use Rattle.atspi_conversation.specs.Speech.{envelopes}
+use Rattle.atspi_live_conversation.proofs.LineLemmas.{none_behind}
+use Rattle.atspi_live_conversation.proofs.SentLemmas.{none_parted}
+use Rattle.atspi_live_conversation.specs.Speech.{envelopes}
 use Rattle.atspi_live_app.specs.Pace.{total}
 use Rattle.atspi_live_app.specs.Turns.{AreWhole, IsInTurn}
 use Rattle.atspi_live_examples.proofs.OfApp.Granted.{whole}

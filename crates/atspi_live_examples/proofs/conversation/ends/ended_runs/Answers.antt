@@ -1,5 +1,5 @@
 use Rattle.std.proofs.Common.{◌≡◌, ℕ, [], ◌∷◌, refl}
-use Rattle.atspi_host.specs.declared.call.Did.TheVariants.{Done}
+use Rattle.atspi_live_host.specs.declared.call.Did.TheVariants.{Done}
 use Rattle.atspi_live_examples.proofs.OfConversation.Ended.{not_refused, over, refused}
 use Rattle.atspi_live_examples.proofs.conversation.ends.ended_runs.Goals as goal
 

@@ -2,7 +2,7 @@ use Rattle.std.proofs.Common.{ℕ, List, [], ◌++◌, length, refl, sym, ap, in
 use Rattle.atspi_auth.specs.Talk.{after, client_start}
 use Rattle.atspi_message.specs.Bytes.{IsMessage}
 use Rattle.atspi_message.specs.Envelope.{Envelope}
-use Rattle.atspi_conversation.specs.Talking.{Converses}
+use Rattle.atspi_live_conversation.specs.Talking.{Converses}
 use Rattle.atspi_live_examples.specs.conversation.Logs.{begun}
 use Rattle.atspi_live_examples.specs.conversation.Silent.{Says, granted, hail}
 use Rattle.atspi_live_examples.proofs.OfConversation.Conversing as conversing

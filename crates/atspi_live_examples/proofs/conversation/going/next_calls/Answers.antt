@@ -1,5 +1,5 @@
 use Rattle.std.proofs.Common.{[], ◌∷◌, refl, sym}
-use Rattle.atspi_host.specs.declared.call.Call.TheVariants.{Close}
+use Rattle.atspi_live_host.specs.declared.call.Call.TheVariants.{Close}
 use Rattle.atspi_live_examples.proofs.OfConversation.Conversing as conversing
 use Rattle.atspi_live_examples.proofs.conversation.going.next_calls.Goals as goal
 

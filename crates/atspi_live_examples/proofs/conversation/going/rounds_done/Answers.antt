@@ -1,8 +1,8 @@
 use Rattle.std.proofs.Common.{◌≡◌, ℕ, List, [], ◌∷◌, length, refl, sym, ap, subst, ◌∙◌, append-nil, arith}
-use Rattle.atspi_host.specs.declared.call.Did.TheVariants.{NotYet}
-use Rattle.atspi_host.specs.declared.call.Did.{Did}
-use Rattle.atspi_conversation.specs.Moved.{AllGoOn}
-use Rattle.atspi_conversation.specs.Talking.{Converses}
+use Rattle.atspi_live_host.specs.declared.call.Did.TheVariants.{NotYet}
+use Rattle.atspi_live_host.specs.declared.call.Did.{Did}
+use Rattle.atspi_live_conversation.specs.Moved.{AllGoOn}
+use Rattle.atspi_live_conversation.specs.Talking.{Converses}
 use Rattle.atspi_live_examples.specs.conversation.Logs.{hailed}
 use Rattle.atspi_live_examples.specs.conversation.Silent.{Says, hail}
 use Rattle.atspi_live_examples.proofs.OfConversation.Conversing as conversing

@@ -1,7 +1,7 @@
 use Rattle.std.proofs.Common.{◌≡◌, ℕ, List, [], ◌∷◌, ◌++◌, refl, sym, ap, ◌∙◌, append-nil, arith}
 use Rattle.std.specs.Prelude.{codes}
 use Rattle.atspi_auth.specs.Lines.{end_of_line}
-use Rattle.atspi_host.specs.declared.call.Did.TheVariants.{Done}
+use Rattle.atspi_live_host.specs.declared.call.Did.TheVariants.{Done}
 use Rattle.atspi_live_examples.specs.conversation.Silent.{hail}
 use Rattle.atspi_live_examples.proofs.OfConversation.Ended as ended
 use Rattle.atspi_live_examples.proofs.OfConversation.Given as given

@@ -1,7 +1,7 @@
 use Rattle.std.proofs.Common.{ℕ, List, [], ◌∷◌, ◌++◌, refl, sym, ap, ◌∙◌, append-nil, append_assoc}
 use Rattle.atspi_message.specs.Envelope.{Envelope}
 use Rattle.atspi_stream.specs.Stream.{IsParted, bytes_of}
-use Rattle.atspi_conversation.specs.Speech.{envelopes}
+use Rattle.atspi_live_conversation.specs.Speech.{envelopes}
 use Rattle.atspi_live_examples.specs.conversation.Logs.{fresh}
 use Rattle.atspi_live_examples.proofs.OfConversation.Ended.{none_begun}
 use Rattle.atspi_live_examples.proofs.OfConversation.Logged.{none_some, takes_one}

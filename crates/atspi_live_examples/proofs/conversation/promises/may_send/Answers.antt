@@ -2,7 +2,7 @@ use Rattle.std.proofs.Common.{List, [], refl, sym, subst, arith}
 use Rattle.atspi_message.specs.Envelope.{Envelope}
 use Rattle.atspi_live_examples.proofs.OfConversation.Logged.{not_ruled, ruled}
 use Rattle.atspi_live_examples.proofs.conversation.promises.may_send.Goals as goal
-use Rattle.atspi_conversation.specs.Sent.{AllMeet}
+use Rattle.atspi_live_conversation.specs.Sent.{AllMeet}
 
 pub returns-clause-meets : goal.returns-clause-meets
 returns-clause-meets c took said s all = ruled 1 (λ e. omega (arith, e))

@@ -4,7 +4,7 @@ use Rattle.atspi_message.specs.Envelope.{Envelope}
 use Rattle.atspi_live_examples.specs.conversation.Logs.{call}
 use Rattle.atspi_live_examples.proofs.OfConversation.Logged.{not_ruled, ruled}
 use Rattle.atspi_live_examples.proofs.conversation.promises.may_speak.Goals as goal
-use Rattle.atspi_conversation.specs.Sent.{AllMeet}
+use Rattle.atspi_live_conversation.specs.Sent.{AllMeet}
 
 pub returns-clause-fresh : goal.returns-clause-fresh
 returns-clause-fresh c = record { aside = []; took = []; said = []; stands = (refl, refl); meet = tt }

@@ -2,7 +2,7 @@ use Rattle.std.proofs.Common.{◌≡◌, ℕ, List, [], ◌∷◌, ◌++◌, ref
 use Rattle.std.specs.Prelude.{codes}
 use Rattle.atspi_message.specs.Bytes.{written}
 use Rattle.atspi_message.specs.Envelope.{Envelope}
-use Rattle.atspi_conversation.specs.Sent.{AreSent}
+use Rattle.atspi_live_conversation.specs.Sent.{AreSent}
 use Rattle.atspi_live_examples.proofs.OfConversation.Logged.{none_some}
 use Rattle.atspi_live_examples.proofs.conversation.promises.says.Goals as goal
 

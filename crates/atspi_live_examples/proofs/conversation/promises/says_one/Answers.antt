@@ -1,7 +1,7 @@
 use Rattle.std.proofs.Common.{◌≡◌, [], ◌∷◌, ◌++◌, refl, sym, subst, inl, inr}
 use Rattle.std.specs.Prelude.{codes}
 use Rattle.atspi_message.specs.Envelope.{Envelope}
-use Rattle.atspi_conversation.specs.Sent.{Fits, IsSent}
+use Rattle.atspi_live_conversation.specs.Sent.{Fits, IsSent}
 use Rattle.atspi_live_examples.proofs.OfConversation.Logged.{hands_one, none_some}
 use Rattle.atspi_live_examples.proofs.conversation.promises.says_one.Goals as goal
 

@@ -1,6 +1,6 @@
 use Rattle.std.proofs.Common.{[], ◌∷◌, refl, sym, inr, ◌∙◌, append-nil, lit<, lit≤}
-use Rattle.atspi_host.specs.declared.call.Did.TheVariants.{Done, NotYet, End, Failed}
-use Rattle.atspi_host.specs.declared.call.Call.TheVariants.{Read, Write}
+use Rattle.atspi_live_host.specs.declared.call.Did.TheVariants.{Done, NotYet, End, Failed}
+use Rattle.atspi_live_host.specs.declared.call.Call.TheVariants.{Read, Write}
 use Rattle.atspi_live_examples.specs.conversation.Silent.{hail}
 use Rattle.atspi_live_examples.proofs.OfConversation.Given.{first_round, lines_first, none_first, said, second_round}
 use Rattle.atspi_live_examples.proofs.conversation.rounds.runs.Goals as goal

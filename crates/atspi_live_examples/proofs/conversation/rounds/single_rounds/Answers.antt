@@ -1,8 +1,8 @@
 use Rattle.std.proofs.Common.{[], ◌∷◌, ◌++◌, refl, sym, inr, ◌∙◌, append-nil, lit<, lit≤}
 use Rattle.std.specs.Prelude.{codes}
 use Rattle.atspi_auth.specs.Lines.{end_of_line}
-use Rattle.atspi_host.specs.declared.call.Did.TheVariants.{Done, NotYet}
-use Rattle.atspi_host.specs.declared.call.Call.TheVariants.{Read, Write}
+use Rattle.atspi_live_host.specs.declared.call.Did.TheVariants.{Done, NotYet}
+use Rattle.atspi_live_host.specs.declared.call.Call.TheVariants.{Read, Write}
 use Rattle.atspi_live_examples.specs.conversation.Silent.{hail}
 use Rattle.atspi_live_examples.proofs.OfConversation.Given.{first_round, lines_second, none_second, not_first, other_not_first, said, second_round}
 use Rattle.atspi_live_examples.proofs.conversation.rounds.single_rounds.Goals as goal

@@ -1,7 +1,7 @@
 use Rattle.std.proofs.Common.{[], ◌∷◌, refl, sym, inl, inr, ◌∙◌, append-nil, lit<, lit≤}
-use Rattle.atspi_host.specs.declared.call.Did.TheVariants.{Failed, NotYet}
-use Rattle.atspi_host.specs.declared.call.Call.TheVariants.{Read, Write}
-use Rattle.atspi_conversation.specs.Speech.{line_bytes, lines_for}
+use Rattle.atspi_live_host.specs.declared.call.Did.TheVariants.{Failed, NotYet}
+use Rattle.atspi_live_host.specs.declared.call.Call.TheVariants.{Read, Write}
+use Rattle.atspi_live_conversation.specs.Speech.{line_bytes, lines_for}
 use Rattle.atspi_live_examples.specs.conversation.Silent.{hail}
 use Rattle.atspi_live_examples.proofs.OfConversation.Given.{lines_first, none_first}
 use Rattle.atspi_live_examples.proofs.conversation.spent.first_rounds.Goals as goal

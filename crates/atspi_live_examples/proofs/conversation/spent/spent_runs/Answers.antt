@@ -1,5 +1,5 @@
 use Rattle.std.proofs.Common.{◌≡◌, List, ℕ, [], ◌∷◌, ◌++◌, refl, sym, subst, append-nil}
-use Rattle.atspi_conversation.specs.Speech.{IsSpentBy}
+use Rattle.atspi_live_conversation.specs.Speech.{IsSpentBy}
 use Rattle.atspi_live_examples.specs.conversation.Silent.{IsSpentWith, Says, granted}
 use Rattle.atspi_live_examples.proofs.OfConversation.Ended.{none_begun, spends}
 use Rattle.atspi_live_examples.proofs.conversation.spent.spent_runs.Goals as goal

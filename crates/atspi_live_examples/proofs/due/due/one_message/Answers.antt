@@ -8,8 +8,8 @@ use Rattle.atspi_auth.specs.declared.stage.Stage.TheVariants.{Over, Waits}
 use Rattle.atspi_message.specs.Bytes.{written}
 use Rattle.atspi_message.specs.Envelope.{Envelope}
 use Rattle.atspi_stream.specs.Stream.{few}
-use Rattle.atspi_conversation.specs.Sent.{AreSent, Fits}
-use Rattle.atspi_conversation.specs.Speech.{IsAllGiven, line_bytes, lines_for}
+use Rattle.atspi_live_conversation.specs.Sent.{AreSent, Fits}
+use Rattle.atspi_live_conversation.specs.Speech.{IsAllGiven, line_bytes, lines_for}
 use Rattle.atspi_live_examples.specs.due.Queued.{Has, IsEmpty, granted, hail, lines}
 use Rattle.atspi_live_examples.proofs.due.due.one_message.Goals as goal
 

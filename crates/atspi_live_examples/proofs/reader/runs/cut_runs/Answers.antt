@@ -1,10 +1,10 @@
 use Rattle.std.proofs.Common.{◌≡◌, ◌≤◌, List, ℕ, zero, suc, [], ◌∷◌, Some, refl, subst, arith, lit≤}
 use Rattle.std.specs.Prelude.{codes}
-use Rattle.atspi_host.specs.declared.call.Call.{Call}
-use Rattle.atspi_host.specs.declared.call.Call.TheVariants.{Connect, Read, Write}
-use Rattle.atspi_host.specs.declared.call.Did.{Did}
-use Rattle.atspi_host.specs.declared.call.Did.TheVariants.{Done, End, NotYet}
-use Rattle.atspi_conversation.specs.Rounds.{AreRounds}
+use Rattle.atspi_live_host.specs.declared.call.Call.{Call}
+use Rattle.atspi_live_host.specs.declared.call.Call.TheVariants.{Connect, Read, Write}
+use Rattle.atspi_live_host.specs.declared.call.Did.{Did}
+use Rattle.atspi_live_host.specs.declared.call.Did.TheVariants.{Done, End, NotYet}
+use Rattle.atspi_live_conversation.specs.Rounds.{AreRounds}
 use Rattle.atspi_live_reader.specs.Spoken.{IsAfter, IsEmpty}
 use Rattle.atspi_live_examples.specs.reader.Started.{hail}
 use Rattle.atspi_live_examples.proofs.OfReader.Started.{first_is, tail_is}

@@ -1,14 +1,14 @@
 use Rattle.std.proofs.Common.{◌≡◌, ◌<◌, ◌≤◌, List, ℕ, zero, suc, [], ◌∷◌, ◌++◌, length, Some, refl, sym, ap, subst, ◌∙◌, inl, arith, lit<}
 use Rattle.std.specs.Prelude.{codes}
-use Rattle.atspi_host.specs.declared.call.Call.{Call}
-use Rattle.atspi_host.specs.declared.call.Call.TheVariants.{Connect, Read, Write}
-use Rattle.atspi_host.specs.declared.call.Did.{Did}
-use Rattle.atspi_host.specs.declared.call.Did.TheVariants.{Done, End, Failed, NotYet}
+use Rattle.atspi_live_host.specs.declared.call.Call.{Call}
+use Rattle.atspi_live_host.specs.declared.call.Call.TheVariants.{Connect, Read, Write}
+use Rattle.atspi_live_host.specs.declared.call.Did.{Did}
+use Rattle.atspi_live_host.specs.declared.call.Did.TheVariants.{Done, End, Failed, NotYet}
 use Rattle.atspi_stream.specs.Stream.{few}
-use Rattle.atspi_conversation.specs.Rounds.{AreRounds, IsRun}
-use Rattle.atspi_conversation.specs.Speech.{Ends}
-use Rattle.atspi_conversation.specs.declared.ending.Ending.{Ending}
-use Rattle.atspi_conversation.specs.declared.ending.Ending.TheVariants as endings
+use Rattle.atspi_live_conversation.specs.Rounds.{AreRounds, IsRun}
+use Rattle.atspi_live_conversation.specs.Speech.{Ends}
+use Rattle.atspi_live_conversation.specs.declared.ending.Ending.{Ending}
+use Rattle.atspi_live_conversation.specs.declared.ending.Ending.TheVariants as endings
 use Rattle.atspi_live_reader.specs.Runs.{AreLast}
 use Rattle.atspi_live_reader.specs.Spoken.{IsAfter, IsEmpty, IsSpent}
 use Rattle.atspi_live_examples.specs.reader.Started.{hail}

@@ -1,7 +1,7 @@
 use Rattle.std.proofs.Common.{◌≡◌, ℕ, [], ◌∷◌, ◌++◌, refl, inl, inr, arith}
 use Rattle.std.specs.Prelude.{codes}
 use Rattle.std.specs.Fmt.{decimal}
-use Rattle.atspi_check.specs.Check.{fault_line}
+use Rattle.atspi_script.specs.FaultText.{fault_line}
 use Rattle.atspi_live_reader.specs.Following.{IsUntold}
 use Rattle.atspi_live_examples.proofs.OfReader.Started.{first_is}
 use Rattle.atspi_live_examples.proofs.reader.runs.faults_reported.Goals as goal

@@ -1,8 +1,8 @@
 use Rattle.std.proofs.Common.{refl}
 use Rattle.std.specs.Fmt.{digits}
 use Rattle.atspi_base.specs.Digits.{hex_digits}
-use Rattle.atspi_event_texts.specs.Rows.{last_number, node_text}
-use Rattle.atspi_forest.specs.Path.{path_of}
+use Rattle.atspi_trace_texts.specs.Rows.{last_number, node_text}
+use Rattle.atspi_tree_model.specs.Path.{path_of}
 use Rattle.atspi_tables.specs.Roles.{role_names, role_words}
 use Rattle.atspi_live_examples.proofs.reader.shows.shown_rows.Goals as goal
 

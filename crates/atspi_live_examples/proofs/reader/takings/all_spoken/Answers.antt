@@ -2,7 +2,7 @@ use Rattle.std.proofs.Common.{◌≡◌, List, ℕ, [], ◌++◌, ap, subst, ◌
 use Rattle.std.specs.Prelude.{codes}
 use Rattle.atspi_message.specs.Envelope.{Envelope}
 use Rattle.atspi_stream.specs.Stream.{AwaitsMore, bytes_of}
-use Rattle.atspi_conversation.specs.Speech.{envelopes}
+use Rattle.atspi_live_conversation.specs.Speech.{envelopes}
 use Rattle.atspi_live_reader.specs.Shows.{shown_in}
 use Rattle.atspi_live_reader.specs.Spoken.{following, spoken_in}
 use Rattle.atspi_live_examples.proofs.OfReader.Started.{all_shown, behind_granted, lines_told, none_awaited, not_half, rest_of_granted, rest_of_zeros}

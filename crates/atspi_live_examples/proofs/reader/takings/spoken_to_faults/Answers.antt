@@ -1,7 +1,7 @@
 use Rattle.std.proofs.Common.{List, ℕ, [], ◌++◌, length, refl, ap, subst, ◌∙◌, arith}
 use Rattle.atspi_message.specs.Envelope.{Envelope}
 use Rattle.atspi_stream.specs.Stream.{HasFault, bytes_of}
-use Rattle.atspi_conversation.specs.Speech.{envelopes}
+use Rattle.atspi_live_conversation.specs.Speech.{envelopes}
 use Rattle.atspi_live_reader.specs.Spoken.{following}
 use Rattle.atspi_live_examples.specs.reader.Started.{zeros}
 use Rattle.atspi_live_examples.proofs.OfReader.Started.{behind_granted, lines_told, no_fault, not_half, only_fault, rest_of_granted, rest_of_zeros, zeros_fault}

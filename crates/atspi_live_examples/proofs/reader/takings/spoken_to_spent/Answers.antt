@@ -2,7 +2,7 @@ use Rattle.std.proofs.Common.{◌<◌, ◌++◌, sym, subst}
 use Rattle.atspi_protocol.specs.following.ReaderState.{ReaderState, begins}
 use Rattle.atspi_protocol.specs.following.Takes.{starts}
 use Rattle.atspi_stream.specs.Stream.{bytes_of}
-use Rattle.atspi_conversation.specs.Speech.{envelopes}
+use Rattle.atspi_live_conversation.specs.Speech.{envelopes}
 use Rattle.atspi_live_reader.specs.Spoken.{following}
 use Rattle.atspi_live_examples.proofs.OfReader.Started.{behind_granted, followed_by, lines_told, none_in_front, not_empty, not_half, rest_of_granted, rest_of_zeros}
 use Rattle.atspi_live_examples.proofs.reader.takings.spoken_to_spent.Goals as goal

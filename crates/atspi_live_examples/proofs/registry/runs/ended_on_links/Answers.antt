@@ -1,12 +1,12 @@
 use Rattle.std.proofs.Common.{◌≡◌, List, [], ◌∷◌, Some, refl, subst, arith, lit<, lit≤}
 use Rattle.std.specs.Prelude.{codes}
-use Rattle.atspi_host.specs.declared.call.Call.{Call}
-use Rattle.atspi_host.specs.declared.call.Call.TheVariants.{Connect, Read}
-use Rattle.atspi_host.specs.declared.call.Did.TheVariants.{Done}
-use Rattle.atspi_conversation.specs.Rounds.{IsRun}
-use Rattle.atspi_conversation.specs.Speech.{Ends}
-use Rattle.atspi_conversation.specs.declared.ending.Ending.{Ending}
-use Rattle.atspi_conversation.specs.declared.ending.Ending.TheVariants as endings
+use Rattle.atspi_live_host.specs.declared.call.Call.{Call}
+use Rattle.atspi_live_host.specs.declared.call.Call.TheVariants.{Connect, Read}
+use Rattle.atspi_live_host.specs.declared.call.Did.TheVariants.{Done}
+use Rattle.atspi_live_conversation.specs.Rounds.{IsRun}
+use Rattle.atspi_live_conversation.specs.Speech.{Ends}
+use Rattle.atspi_live_conversation.specs.declared.ending.Ending.{Ending}
+use Rattle.atspi_live_conversation.specs.declared.ending.Ending.TheVariants as endings
 use Rattle.atspi_live_registry.specs.Standing.{IsAfter, IsEmpty, IsSpent}
 use Rattle.atspi_live_examples.specs.registry.Registries.{granted, rejected}
 use Rattle.atspi_live_examples.proofs.OfRegistry.Running.{not_refused, only_refused, peer_ended, quiet_refused, refused, tells_none}

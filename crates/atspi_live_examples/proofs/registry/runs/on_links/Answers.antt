@@ -1,8 +1,8 @@
 use Rattle.std.proofs.Common.{◌≡◌, List, [], ◌∷◌, refl}
 use Rattle.std.specs.Prelude.{codes}
-use Rattle.atspi_host.specs.declared.call.Call.{Call}
-use Rattle.atspi_host.specs.declared.call.Call.TheVariants.{Close, Connect}
-use Rattle.atspi_host.specs.declared.call.Did.TheVariants.{Done}
+use Rattle.atspi_live_host.specs.declared.call.Call.{Call}
+use Rattle.atspi_live_host.specs.declared.call.Call.TheVariants.{Close, Connect}
+use Rattle.atspi_live_host.specs.declared.call.Did.TheVariants.{Done}
 use Rattle.atspi_live_examples.proofs.registry.runs.on_links.Goals as goal
 
 pub returns-clause-connected : goal.returns-clause-connected

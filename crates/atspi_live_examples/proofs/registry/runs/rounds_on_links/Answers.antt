@@ -1,13 +1,13 @@
 use Rattle.std.proofs.Common.{◌≡◌, ℕ, List, [], ◌∷◌, ◌++◌, length, Some, refl, sym, ap, subst, ◌∙◌, inr, append-nil, arith, lit<, lit≤}
 use Rattle.std.specs.Prelude.{codes}
-use Rattle.atspi_host.specs.declared.call.Call.{Call}
-use Rattle.atspi_host.specs.declared.call.Call.TheVariants.{Connect, Read, Write}
-use Rattle.atspi_host.specs.declared.call.Did.{Did}
-use Rattle.atspi_host.specs.declared.call.Did.TheVariants.{Done, NotYet}
-use Rattle.atspi_conversation.specs.Rounds.{IsRun}
-use Rattle.atspi_conversation.specs.Speech.{IsRefused}
-use Rattle.atspi_conversation.specs.declared.ending.Ending.{Ending}
-use Rattle.atspi_conversation.specs.declared.ending.Ending.TheVariants as endings
+use Rattle.atspi_live_host.specs.declared.call.Call.{Call}
+use Rattle.atspi_live_host.specs.declared.call.Call.TheVariants.{Connect, Read, Write}
+use Rattle.atspi_live_host.specs.declared.call.Did.{Did}
+use Rattle.atspi_live_host.specs.declared.call.Did.TheVariants.{Done, NotYet}
+use Rattle.atspi_live_conversation.specs.Rounds.{IsRun}
+use Rattle.atspi_live_conversation.specs.Speech.{IsRefused}
+use Rattle.atspi_live_conversation.specs.declared.ending.Ending.{Ending}
+use Rattle.atspi_live_conversation.specs.declared.ending.Ending.TheVariants as endings
 use Rattle.atspi_live_registry.specs.Standing.{IsAfter, IsEmpty}
 use Rattle.atspi_live_examples.specs.registry.Registries.{hail}
 use Rattle.atspi_live_examples.proofs.OfRegistry.Running.{in_order, only_refused, says}

@@ -1,7 +1,7 @@
 use Rattle.std.proofs.Common.{◌≡◌, ℕ, List, [], length, length-append, Some, refl, ap, inl, inr, arith}
 use Rattle.std.specs.Prelude.{codes}
 use Rattle.atspi_base.specs.Outside.{AppendsPart}
-use Rattle.atspi_live_registry.specs.Runs.{Writes}
+use Rattle.atspi_live_conversation.specs.Reports.{Writes}
 use Rattle.atspi_live_examples.proofs.registry.statuses.lines_written.Goals as goal
 
 no_part : AppendsPart (Some (codes "x")) (Some (codes "xabc")) (codes "ab") → ⊥

@@ -1,9 +1,9 @@
 use Rattle.std.proofs.Common.{◌≡◌, ◌<◌, ◌≤◌, ℕ, zero, suc, List, [], ◌∷◌, ◌++◌, refl, ap, ◌∙◌, inl, inr, arith, lit<, lit≤}
-use Rattle.atspi_host.specs.declared.call.Call.{Call}
-use Rattle.atspi_host.specs.declared.call.Call.TheVariants.{Read, Write}
-use Rattle.atspi_host.specs.declared.call.Did.TheVariants.{Done, End, NotYet}
-use Rattle.atspi_conversation.specs.Rounds.{AreRounds, Breaks}
-use Rattle.atspi_conversation.specs.declared.ending.Ending.TheVariants as endings
+use Rattle.atspi_live_host.specs.declared.call.Call.{Call}
+use Rattle.atspi_live_host.specs.declared.call.Call.TheVariants.{Read, Write}
+use Rattle.atspi_live_host.specs.declared.call.Did.TheVariants.{Done, End, NotYet}
+use Rattle.atspi_live_conversation.specs.Rounds.{AreRounds, Breaks}
+use Rattle.atspi_live_conversation.specs.declared.ending.Ending.TheVariants as endings
 use Rattle.atspi_live_reader.specs.Spoken.{IsAfter, IsEmpty}
 use Rattle.atspi_live_reader.specs.Cases.{hail}
 use Rattle.atspi_live_reader.proofs.FirstRounds.{few_read, first_round, next_round, not_open, one_round, opens, read_opens, rounds_open}

@@ -1,6 +1,6 @@
 use Rattle.std.proofs.Common.{◌≡◌, List, [], ◌∷◌, ◌++◌, refl, arith}
-use Rattle.atspi_host.specs.declared.call.Did.{Did}
-use Rattle.atspi_host.specs.declared.call.Did.TheVariants.{End, NotYet}
+use Rattle.atspi_live_host.specs.declared.call.Did.{Did}
+use Rattle.atspi_live_host.specs.declared.call.Did.TheVariants.{End, NotYet}
 use Rattle.atspi_live_reader.proofs.FirstRounds.{in_order}
 use Rattle.atspi_live_reader.proofs.examples.overs.ended_so.Goals as goal
 

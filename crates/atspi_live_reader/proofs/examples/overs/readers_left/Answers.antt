@@ -1,9 +1,9 @@
 use Rattle.std.proofs.Common.{◌≡◌, List, ℕ, [], ◌++◌, Some, refl, subst, arith, lit<}
 use Rattle.std.specs.Prelude.{codes}
-use Rattle.atspi_conversation.specs.Left.{LeftOff}
-use Rattle.atspi_conversation.specs.Speech.{envelopes}
-use Rattle.atspi_conversation.specs.declared.ending.Ending.TheVariants as endings
-use Rattle.atspi_conversation.proofs.LineLemmas.{none_behind}
+use Rattle.atspi_live_conversation.specs.Left.{LeftOff}
+use Rattle.atspi_live_conversation.specs.Speech.{envelopes}
+use Rattle.atspi_live_conversation.specs.declared.ending.Ending.TheVariants as endings
+use Rattle.atspi_live_conversation.proofs.LineLemmas.{none_behind}
 use Rattle.atspi_live_reader.specs.Following.{IsSpentIn, Stands}
 use Rattle.atspi_live_reader.specs.declared.live_reader.LiveReader.{LiveReader}
 use Rattle.atspi_live_reader.proofs.Started.{first_is}

@@ -1,8 +1,8 @@
 use Rattle.std.proofs.Common.{◌≡◌, List, ℕ, [], ◌∷◌, ◌++◌, refl, arith}
 use Rattle.std.specs.Prelude.{codes}
-use Rattle.atspi_host.specs.declared.call.Did.{Did}
-use Rattle.atspi_host.specs.declared.call.Did.TheVariants.{End, NotYet}
-use Rattle.atspi_conversation.proofs.LineLemmas.{none_behind}
+use Rattle.atspi_live_host.specs.declared.call.Did.{Did}
+use Rattle.atspi_live_host.specs.declared.call.Did.TheVariants.{End, NotYet}
+use Rattle.atspi_live_conversation.proofs.LineLemmas.{none_behind}
 use Rattle.atspi_live_reader.specs.Spoken.{IsSpoken}
 use Rattle.atspi_live_reader.specs.Cases.{hail, hello}
 use Rattle.atspi_live_reader.proofs.FirstRounds.{in_order}

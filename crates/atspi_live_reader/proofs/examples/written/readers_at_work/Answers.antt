@@ -1,6 +1,6 @@
 use Rattle.std.proofs.Common.{◌≡◌, ◌+◌, List, ℕ, ◌++◌, refl, subst, arith}
 use Rattle.std.specs.Prelude.{codes}
-use Rattle.atspi_conversation.specs.Talking.{Going}
+use Rattle.atspi_live_conversation.specs.Talking.{Going}
 use Rattle.atspi_live_reader.specs.Following.{Stands}
 use Rattle.atspi_live_reader.proofs.Started.{first_is}
 use Rattle.atspi_live_reader.proofs.examples.written.readers_at_work.Goals as goal

@@ -1,6 +1,6 @@
 use Rattle.std.proofs.lemmas.Result.{on_ok_weaker}
 use Rattle.atspi_reader.specs.ReaderOf.{reader_of}
-use Rattle.atspi_header.specs.View.{envelope_at}
+use Rattle.atspi_message_in_place.specs.View.{envelope_at}
 use Rattle.atspi_live_reader.proofs.Handing.{take_rests, took_one}
 use Rattle.atspi_live_reader.proofs.live_reader.LiveReaderBusEnd.take.Goals as goal
 

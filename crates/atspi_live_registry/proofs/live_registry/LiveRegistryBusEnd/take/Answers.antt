@@ -1,4 +1,4 @@
-use Rattle.atspi_header.specs.View.{envelope_at}
+use Rattle.atspi_message_in_place.specs.View.{envelope_at}
 use Rattle.atspi_live_registry.proofs.Registering.{take_rests, take_took}
 use Rattle.atspi_live_registry.proofs.live_registry.LiveRegistryBusEnd.take.Goals as goal
 

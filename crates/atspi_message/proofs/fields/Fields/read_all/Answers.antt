@@ -1,7 +1,7 @@
 use Rattle.std.proofs.Common.{◌<◌, ◌≡◌, ◌-◌, arith, rules}
 use Rattle.atspi_marshal.specs.Reading.{input_of}
-use Rattle.atspi_message.specs.Reading.{none_found, all_fields_at}
-use Rattle.atspi_message.specs.FieldsView.{found_of}
+use Rattle.atspi_message.specs.inner.Reading.{none_found, all_fields_at}
+use Rattle.atspi_message.specs.inner.FieldsView.{found_of}
 use Rattle.atspi_message.proofs.Loops.{goes_on, fails_at, full, counted}
 use Rattle.atspi_message.proofs.fields.Fields.read_all.Goals as goal
 

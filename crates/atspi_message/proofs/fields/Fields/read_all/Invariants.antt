@@ -1,7 +1,7 @@
 use Rattle.std.proofs.Common.{◌≡◌, ◌≤◌, ◌-◌}
 use Rattle.atspi_marshal.specs.Reading.{input_of}
-use Rattle.atspi_message.specs.Reading.{none_found, all_fields_at}
-use Rattle.atspi_message.specs.FieldsView.{found_of}
+use Rattle.atspi_message.specs.inner.Reading.{none_found, all_fields_at}
+use Rattle.atspi_message.specs.inner.FieldsView.{found_of}
 use Rattle.atspi_message.proofs.fields.Fields.read_all.Given as goal
 
 -- what was found, and the fields that are still to be read, are all

@@ -1,8 +1,8 @@
 use Rattle.std.proofs.Common.{sym, ap, ◌∙◌}
 use Rattle.std.specs.Option.{option_map}
 use Rattle.std.proofs.lemmas.Result.{IfOk-weaker}
-use Rattle.atspi_header.specs.View.{envelope_at}
-use Rattle.atspi_news_reading.specs.Seen.{reference_seen}
+use Rattle.atspi_message_in_place.specs.View.{envelope_at}
+use Rattle.atspi_reader_news.specs.Seen.{reference_seen}
 use Rattle.atspi_protocol.specs.following.Known.{made_known}
 use Rattle.atspi_reader.specs.ReaderOf.{reader_of}
 use Rattle.atspi_reader.proofs.Rest.{child_some, child_none}

@@ -1,10 +1,10 @@
 use Rattle.std.proofs.Common.{List, ℕ, true, not, filter, ap, refl, ◌∙◌}
 use Rattle.std.proofs.lemmas.Result.{err_from_is_err_and}
-use Rattle.atspi_header.specs.View.{envelope_at}
+use Rattle.atspi_message_in_place.specs.View.{envelope_at}
 use Rattle.atspi_protocol.specs.following.ReaderState.{Followed, ReaderState, is_named}
 use Rattle.atspi_protocol.specs.following.Wishes.{wishes}
 use Rattle.atspi_reader_known.specs.Wanted.{first}
-use Rattle.atspi_reader.specs.Turns.{with_apps}
+use Rattle.atspi_reader.specs.inner.Turns.{with_apps}
 use Rattle.atspi_reader.specs.ReaderOf.{reader_of}
 use Rattle.atspi_reader.proofs.Replies.{answer_kept, answer_failed}
 use Rattle.atspi_reader.proofs.state.Reader.forget_app.Goals as goal

@@ -1,7 +1,7 @@
 use Rattle.std.proofs.Common.{List, ℕ, ap, sym, ◌∙◌}
 use Rattle.std.specs.Prelude.{Option}
 use Rattle.std.specs.Option.{option_copied}
-use Rattle.atspi_forest.specs.declared.news.Item.{Item}
+use Rattle.atspi_tree_model.specs.declared.news.Item.{Item}
 use Rattle.atspi_protocol.specs.following.ReaderState.{Followed}
 use Rattle.atspi_protocol.specs.following.Replied.{with_items}
 use Rattle.atspi_protocol.specs.following.Takes.{found_in}

@@ -2,7 +2,7 @@ use Rattle.std.proofs.Common.{List, ℕ, ap, subst, ◌∙◌}
 use Rattle.atspi_protocol.specs.following.Wishes.{wishes}
 use Rattle.atspi_protocol.specs.following.Replied.{changed, refused_part}
 use Rattle.atspi_reader_known.specs.Wanted.{first}
-use Rattle.atspi_reader.specs.Asked.{Queues}
+use Rattle.atspi_reader.specs.inner.Asked.{Queues}
 use Rattle.atspi_reader.specs.ReaderOf.{reader_of}
 use Rattle.atspi_reader.proofs.state.Reader.proceeds_without.Goals as goal
 

@@ -1,8 +1,8 @@
 use Rattle.std.proofs.Common.{List, ℕ, ap, sym, ◌∙◌}
 use Rattle.std.specs.Option.{option_copied}
 use Rattle.std.proofs.lemmas.Result.{IfOk-weaker}
-use Rattle.atspi_header.specs.View.{envelope_at}
-use Rattle.atspi_forest.specs.declared.news.News.TheVariants.{Nothing}
+use Rattle.atspi_message_in_place.specs.View.{envelope_at}
+use Rattle.atspi_tree_model.specs.declared.news.News.TheVariants.{Nothing}
 use Rattle.atspi_protocol.specs.news.NewsOf.{news_of, or_empty}
 use Rattle.atspi_protocol.specs.following.Takes.{found_in}
 use Rattle.atspi_reader.proofs.Changed.{found_name}

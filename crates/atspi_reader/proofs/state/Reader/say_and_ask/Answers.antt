@@ -1,6 +1,6 @@
 use Rattle.std.proofs.Common.{◌++◌, filter, flat_map, ap, refl, ◌∙◌}
 use Rattle.std.proofs.lemmas.Result.{err_from_is_err_and}
-use Rattle.atspi_header.specs.View.{envelope_at}
+use Rattle.atspi_message_in_place.specs.View.{envelope_at}
 use Rattle.atspi_protocol.specs.news.NewsOf.{or_empty}
 use Rattle.atspi_protocol.specs.following.ReaderState.{is_named}
 use Rattle.atspi_protocol.specs.following.Replied.{changed}
@@ -8,7 +8,7 @@ use Rattle.atspi_protocol.specs.following.Takes.{folded, lines_at}
 use Rattle.atspi_protocol.specs.following.Wishes.{wishes}
 use Rattle.atspi_reader_known.specs.Wanted.{first}
 use Rattle.atspi_reader.specs.Doing.{all_done}
-use Rattle.atspi_reader.specs.Turns.{listed}
+use Rattle.atspi_reader.specs.inner.Turns.{listed}
 use Rattle.atspi_reader.specs.ReaderOf.{reader_of}
 use Rattle.atspi_reader.proofs.News.{spoken, unspoken}
 use Rattle.atspi_reader.proofs.state.Reader.say_and_ask.Goals as goal

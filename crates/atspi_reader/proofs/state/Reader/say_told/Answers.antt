@@ -1,7 +1,7 @@
 use Rattle.std.proofs.Common.{List, ℕ, ◌++◌, ap, sym, ◌∙◌}
 use Rattle.std.specs.Option.{option_copied}
 use Rattle.std.proofs.lemmas.Result.{on_ok_weaker}
-use Rattle.atspi_header.specs.View.{envelope_at}
+use Rattle.atspi_message_in_place.specs.View.{envelope_at}
 use Rattle.atspi_protocol.specs.news.NewsOf.{or_empty}
 use Rattle.atspi_protocol.specs.following.ReaderState.{Done}
 use Rattle.atspi_protocol.specs.following.Takes.{found_in}

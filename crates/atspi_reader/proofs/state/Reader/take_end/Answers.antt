@@ -1,12 +1,12 @@
 use Rattle.std.proofs.Common.{List, ◌++◌, None, not, filter, ap, sym, ◌∙◌, chars, subst}
 use Rattle.std.specs.Prelude.{Ok}
-use Rattle.atspi_header.specs.View.{envelope_at}
+use Rattle.atspi_message_in_place.specs.View.{envelope_at}
 use Rattle.atspi_protocol.specs.following.ReaderState.{Done, Followed, ReaderState, is_named}
 use Rattle.atspi_protocol.specs.following.Known.{end_of_connection, closings}
 use Rattle.atspi_protocol.specs.following.Takes.{notes}
 use Rattle.atspi_reader.specs.Doing.{all_done}
-use Rattle.atspi_reader.specs.Asked.{Asks, went_on}
-use Rattle.atspi_reader.specs.Turns.{did, with_apps}
+use Rattle.atspi_reader.specs.inner.Asked.{Asks, went_on}
+use Rattle.atspi_reader.specs.inner.Turns.{did, with_apps}
 use Rattle.atspi_reader.specs.ReaderOf.{reader_of}
 use Rattle.atspi_reader.proofs.News.{rested_done, ended_is, ended_wishes}
 use Rattle.atspi_reader.proofs.Spelled.{left_by_chars}

@@ -1,9 +1,9 @@
 use Rattle.std.proofs.Common.{sym, ap, ◌∙◌, List}
-use Rattle.atspi_header.specs.View.{envelope_at}
+use Rattle.atspi_message_in_place.specs.View.{envelope_at}
 use Rattle.atspi_protocol.specs.news.Replies.{items_told}
 use Rattle.atspi_protocol.specs.following.ReaderState.{Followed}
 use Rattle.atspi_protocol.specs.following.Takes.{goes_on}
-use Rattle.atspi_reader.specs.Turns.{free, with_apps, replaced}
+use Rattle.atspi_reader.specs.inner.Turns.{free, with_apps, replaced}
 use Rattle.atspi_reader.specs.ReaderOf.{reader_of}
 use Rattle.atspi_reader.proofs.Done.{same_step}
 use Rattle.atspi_reader.proofs.Replies.{items_is}

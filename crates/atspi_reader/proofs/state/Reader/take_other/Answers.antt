@@ -1,4 +1,4 @@
-use Rattle.atspi_header.specs.View.{envelope_at}
+use Rattle.atspi_message_in_place.specs.View.{envelope_at}
 use Rattle.atspi_reader.specs.ReaderOf.{reader_of}
 use Rattle.atspi_reader.proofs.Done.{noted_done}
 use Rattle.atspi_reader.proofs.state.Reader.take_other.Goals as goal

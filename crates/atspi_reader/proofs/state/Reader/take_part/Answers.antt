@@ -1,13 +1,13 @@
 use Rattle.std.proofs.Common.{true, ap, refl, ◌∙◌}
 use Rattle.std.proofs.lemmas.Result.{err_from_is_err_and}
-use Rattle.atspi_header.specs.View.{envelope_at}
+use Rattle.atspi_message_in_place.specs.View.{envelope_at}
 use Rattle.atspi_protocol.specs.news.Replies.{part_told}
 use Rattle.atspi_protocol.specs.following.ReaderState.{ReaderState}
 use Rattle.atspi_protocol.specs.following.Wishes.{wishes}
 use Rattle.atspi_protocol.specs.following.Replied.{changed, refused_part}
 use Rattle.atspi_protocol.specs.following.Takes.{goes_on}
 use Rattle.atspi_reader_known.specs.Wanted.{first}
-use Rattle.atspi_reader.specs.Turns.{with_apps, parted}
+use Rattle.atspi_reader.specs.inner.Turns.{with_apps, parted}
 use Rattle.atspi_reader.specs.ReaderOf.{reader_of}
 use Rattle.atspi_reader.proofs.Done.{same_step}
 use Rattle.atspi_reader.proofs.Parts.{part_wish}

@@ -1,8 +1,8 @@
 use Rattle.std.proofs.Common.{List, ℕ, true, length, ap, ◌∙◌}
 use Rattle.std.specs.List.{fold, list_any}
-use Rattle.atspi_header.specs.View.{envelope_at}
+use Rattle.atspi_message_in_place.specs.View.{envelope_at}
 use Rattle.atspi_protocol.specs.news.NewsOf.{or_empty}
-use Rattle.atspi_forest.specs.declared.news.Reference.{Reference}
+use Rattle.atspi_tree_model.specs.declared.news.Reference.{Reference}
 use Rattle.atspi_protocol.specs.following.ReaderState.{Followed, is_named}
 use Rattle.atspi_protocol.specs.following.Known.{made_known}
 use Rattle.atspi_protocol.specs.following.Takes.{goes_on}

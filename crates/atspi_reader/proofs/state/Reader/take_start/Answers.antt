@@ -1,6 +1,6 @@
 use Rattle.std.proofs.Common.{true, ap, refl}
 use Rattle.std.proofs.lemmas.Result.{err_from_is_err_and}
-use Rattle.atspi_header.specs.View.{envelope_at}
+use Rattle.atspi_message_in_place.specs.View.{envelope_at}
 use Rattle.atspi_protocol.specs.following.ReaderState.{ReaderState}
 use Rattle.atspi_protocol.specs.following.Takes.{goes_on}
 use Rattle.atspi_reader.specs.ReaderOf.{reader_of}

@@ -1,6 +1,6 @@
 use Rattle.std.proofs.Common.{Bool, cond, [], ap, sym, ◌∙◌}
 use Rattle.std.proofs.lemmas.Result.{IfOk-weaker}
-use Rattle.atspi_forest.specs.News.{fresh}
+use Rattle.atspi_tree_model.specs.News.{fresh}
 use Rattle.atspi_protocol.specs.following.ReaderState.{Followed}
 use Rattle.atspi_reader_known.specs.Listed.{row_wants}
 use Rattle.atspi_reader_known.proofs.app.App.added_wants.Goals as goal

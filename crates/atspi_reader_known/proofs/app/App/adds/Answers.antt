@@ -1,7 +1,7 @@
 use Rattle.std.proofs.Common.{ap, sym, ◌∙◌}
 use Rattle.std.specs.Prelude.{is_some}
-use Rattle.atspi_forest.specs.Forest.{find, has}
-use Rattle.atspi_forest.specs.News.{is_path}
+use Rattle.atspi_tree_model.specs.Forest.{find, has}
+use Rattle.atspi_tree_model.specs.News.{is_path}
 use Rattle.atspi_speech.specs.Looked.{adds}
 use Rattle.atspi_cache.proofs.Effects.{copied_some}
 use Rattle.atspi_protocol.specs.following.ReaderState.{Followed}

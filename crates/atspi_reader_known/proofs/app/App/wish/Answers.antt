@@ -1,8 +1,8 @@
 use Rattle.std.proofs.Common.{List, ℕ, Some, ◌++◌, map, ap, sym, ◌∙◌}
 use Rattle.std.specs.Option.{option_map}
 use Rattle.std.proofs.lemmas.Result.{IfOk-weaker}
-use Rattle.atspi_arena.specs.Sights.{Sight}
-use Rattle.atspi_forest.specs.Forest.{labels}
+use Rattle.atspi_cache_arena.specs.Sights.{Sight}
+use Rattle.atspi_tree_model.specs.Forest.{labels}
 use Rattle.atspi_protocol.specs.declared.following.question.Question.TheVariants.{GetItems}
 use Rattle.atspi_protocol.specs.following.ReaderState.{Followed}
 use Rattle.atspi_protocol.specs.following.Wishes.{wishes_of}

@@ -1,9 +1,9 @@
 use Rattle.std.proofs.Common.{◌≡◌, true, sym, ap, ◌∙◌}
 use Rattle.std.specs.Prelude.{Ok, Err}
 use Rattle.atspi_base.specs.valid_names.Names.{is_bus_name}
-use Rattle.atspi_header.specs.Names.{fits}
-use Rattle.atspi_header.specs.View.{bytes_of, envelope_at}
-use Rattle.atspi_registry.specs.Steps.{own_name}
+use Rattle.atspi_message_in_place.specs.Names.{fits}
+use Rattle.atspi_message_in_place.specs.View.{bytes_of, envelope_at}
+use Rattle.atspi_registry.specs.inner.Steps.{own_name}
 use Rattle.atspi_registry.proofs.Does.{same_step, quiet}
 use Rattle.atspi_registry.proofs.Takes.{calls_nobody, calls, sender_named, not_empty}
 use Rattle.atspi_registry.proofs.registry.Registry.be_called.Goals as goal

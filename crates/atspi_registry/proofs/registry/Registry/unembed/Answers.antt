@@ -1,5 +1,5 @@
 use Rattle.std.proofs.Common.{sym, ap, ◌∙◌, chars, List, ℕ}
-use Rattle.atspi_header.specs.View.{envelope_at}
+use Rattle.atspi_message_in_place.specs.View.{envelope_at}
 use Rattle.atspi_protocol.specs.registering.Answers.{adopts, releases}
 use Rattle.atspi_protocol.specs.registering.Steps.{answered}
 use Rattle.atspi_registry.proofs.Does.{same_step}

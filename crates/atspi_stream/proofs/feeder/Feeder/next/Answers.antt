@@ -3,7 +3,7 @@ use Rattle.std.proofs.lemmas.List.{drop-drop, take_rest}
 use Rattle.atspi_marshal.proofs.Places.{IsBytes}
 use Rattle.atspi_stream.specs.declared.feeder.Got.{Got}
 use Rattle.atspi_stream.specs.Stream.{Leaves}
-use Rattle.atspi_stream.specs.Seen.{Sees}
+use Rattle.atspi_stream.specs.inner.Seen.{Sees}
 use Rattle.atspi_stream.proofs.NextLaws.{only, not_yet, waits, bad, told, leaves}
 use Rattle.atspi_stream.proofs.feeder.Feeder.next.Goals as goal
 

@@ -1,6 +1,6 @@
 use Rattle.std.proofs.Common.{◌==◌, ℕ, not, ap, ◌∙◌, rules}
 use Rattle.std.proofs.lemmas.Fn.{filter_same}
-use Rattle.atspi_forest.specs.Row.{without_targets}
+use Rattle.atspi_tree_model.specs.Row.{without_targets}
 use Rattle.atspi_tree.proofs.Together.{kept_without}
 use Rattle.atspi_tree.proofs.relations.Relations.drop_target.Goals as goal
 

@@ -1,5 +1,5 @@
 use Rattle.std.proofs.Common.{ap, ◌∙◌, arith}
-use Rattle.atspi_forest.specs.Row.{targets_of}
+use Rattle.atspi_tree_model.specs.Row.{targets_of}
 use Rattle.atspi_tree.proofs.Together.{part_fits, part_is}
 use Rattle.atspi_tree.proofs.relations.Relations.of_kind.Goals as goal
 

@@ -1,9 +1,9 @@
 use Rattle.std.proofs.Common.{ap, sym, subst, ◌∙◌}
-use Rattle.atspi_forest.specs.declared.step.Step.TheVariants.{Add}
-use Rattle.atspi_forest.specs.RowRules.{shapes}
-use Rattle.atspi_forest.specs.Tree.{IsTree, after}
-use Rattle.atspi_forest.proofs.RowRules.{shapes_sound}
-use Rattle.atspi_forest.proofs.Kept.{added_is_tree}
+use Rattle.atspi_tree_model.specs.declared.step.Step.TheVariants.{Add}
+use Rattle.atspi_tree_model.specs.RowRules.{shapes}
+use Rattle.atspi_tree_model.specs.Tree.{IsTree, after}
+use Rattle.atspi_tree_model.proofs.RowRules.{shapes_sound}
+use Rattle.atspi_tree_model.proofs.Kept.{added_is_tree}
 use Rattle.atspi_tree.specs.Table.{ChangesAt}
 use Rattle.atspi_tree.proofs.Trees.{covering, holding, seen, view_of, shape, is_new, in_range, new_cell, table_add, table_back}
 use Rattle.atspi_tree.proofs.Noted.{covers_add}

@@ -1,7 +1,7 @@
 use Rattle.std.proofs.Common.{sym, ap, subst, ◌∙◌}
-use Rattle.atspi_forest.specs.RowRules.{shapes}
-use Rattle.atspi_forest.specs.Tree.{Changes}
-use Rattle.atspi_forest.specs.declared.step.Step.TheVariants.{SetState}
+use Rattle.atspi_tree_model.specs.RowRules.{shapes}
+use Rattle.atspi_tree_model.specs.Tree.{Changes}
+use Rattle.atspi_tree_model.specs.declared.step.Step.TheVariants.{SetState}
 use Rattle.atspi_tree.specs.TreeShape.{after_step, StepApplies}
 use Rattle.atspi_tree.proofs.Trees.{text_step, step_there}
 use Rattle.atspi_tree.proofs.tree.Tree.apply.Goals as goal

@@ -1,6 +1,6 @@
 use Rattle.std.proofs.Common.{ap}
 use Rattle.std.specs.Option.{option_map}
-use Rattle.atspi_forest.specs.Row.{ShapeRow}
+use Rattle.atspi_tree_model.specs.Row.{ShapeRow}
 use Rattle.atspi_tree.proofs.Trees.{holding, has_cell, read}
 use Rattle.atspi_tree.proofs.tree.Tree.description.Goals as goal
 

@@ -1,7 +1,7 @@
 use Rattle.std.proofs.Common.{Some, ap, sym, ◌∙◌}
 use Rattle.std.specs.Option.{option_map}
-use Rattle.atspi_forest.specs.Row.{ShapeRow}
-use Rattle.atspi_forest.specs.View.{kinds_number}
+use Rattle.atspi_tree_model.specs.Row.{ShapeRow}
+use Rattle.atspi_tree_model.specs.View.{kinds_number}
 use Rattle.atspi_tree.proofs.Trees.{holding, has_cell, read}
 use Rattle.atspi_tree.proofs.tree.Tree.faces.Goals as goal
 

@@ -1,7 +1,7 @@
 use Rattle.std.proofs.Common.{◌≡◌, ◌-◌, ℕ, true}
-use Rattle.atspi_forest.specs.Forest.{count, has}
-use Rattle.atspi_forest.specs.RowRules.{shapes}
-use Rattle.atspi_forest.specs.Tree.{in_subtree, is_shape}
+use Rattle.atspi_tree_model.specs.Forest.{count, has}
+use Rattle.atspi_tree_model.specs.RowRules.{shapes}
+use Rattle.atspi_tree_model.specs.Tree.{in_subtree, is_shape}
 use Rattle.atspi_tree.proofs.Seated.{depth_of}
 use Rattle.atspi_tree.proofs.tree.Tree.last_leaf.Given as goal
 

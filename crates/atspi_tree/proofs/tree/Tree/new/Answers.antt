@@ -1,6 +1,6 @@
 use Rattle.std.proofs.Common.{ℕ, List, ap, subst}
 use Rattle.atspi_tree.specs.declared.cell.Cell.{Cell}
-use Rattle.atspi_forest.proofs.Begins.{shapes_begin}
+use Rattle.atspi_tree_model.proofs.Begins.{shapes_begin}
 use Rattle.atspi_tree.specs.TreeShape.{root_alone}
 use Rattle.atspi_tree.specs.Table.{ChangesAt, look_in}
 use Rattle.atspi_tree.proofs.Trees.{seen, table_new}

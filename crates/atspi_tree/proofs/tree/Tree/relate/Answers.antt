@@ -1,12 +1,12 @@
 use Rattle.std.proofs.Common.{◌≡◌, ℕ, true, List, map, refl, ap, sym, subst, ◌∙◌}
 use Rattle.std.specs.Ordering.{nat_cmp}
 use Rattle.std.specs.BTreeSet.{contains}
-use Rattle.atspi_forest.specs.declared.step.Step.TheVariants.{Relate}
-use Rattle.atspi_forest.specs.Row.{Each, with_targets}
-use Rattle.atspi_forest.specs.RowRules.{shapes, changed_shape}
-use Rattle.atspi_forest.specs.Tree.{IsTree, after}
-use Rattle.atspi_forest.proofs.RowRules.{shapes_sound}
-use Rattle.atspi_forest.proofs.Kept.{changed_is_tree}
+use Rattle.atspi_tree_model.specs.declared.step.Step.TheVariants.{Relate}
+use Rattle.atspi_tree_model.specs.Row.{Each, with_targets}
+use Rattle.atspi_tree_model.specs.RowRules.{shapes, changed_shape}
+use Rattle.atspi_tree_model.specs.Tree.{IsTree, after}
+use Rattle.atspi_tree_model.proofs.RowRules.{shapes_sound}
+use Rattle.atspi_tree_model.proofs.Kept.{changed_is_tree}
 use Rattle.atspi_tree.specs.Namers.{notes}
 use Rattle.atspi_tree.specs.Relations.{with_relations}
 use Rattle.atspi_tree.specs.Table.{ChangesAt, with_row}

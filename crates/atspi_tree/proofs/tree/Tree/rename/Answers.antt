@@ -1,9 +1,9 @@
 use Rattle.std.proofs.Common.{ℕ, List, refl, ap, sym, subst, ◌∙◌}
-use Rattle.atspi_forest.specs.declared.step.Step.TheVariants.{SetName}
-use Rattle.atspi_forest.specs.RowRules.{shapes, changed_shape}
-use Rattle.atspi_forest.specs.Tree.{IsTree, after}
-use Rattle.atspi_forest.proofs.RowRules.{shapes_sound}
-use Rattle.atspi_forest.proofs.Kept.{changed_is_tree}
+use Rattle.atspi_tree_model.specs.declared.step.Step.TheVariants.{SetName}
+use Rattle.atspi_tree_model.specs.RowRules.{shapes, changed_shape}
+use Rattle.atspi_tree_model.specs.Tree.{IsTree, after}
+use Rattle.atspi_tree_model.proofs.RowRules.{shapes_sound}
+use Rattle.atspi_tree_model.proofs.Kept.{changed_is_tree}
 use Rattle.atspi_tree.specs.Table.{ChangesAt, with_row}
 use Rattle.atspi_tree.proofs.Trees.{covering, holding, seen, shape, step_there, table_change}
 use Rattle.atspi_tree.proofs.Noted.{covers_change}

@@ -1,9 +1,9 @@
 use Rattle.std.proofs.Common.{refl, ap, sym, subst, ◌∙◌}
-use Rattle.atspi_forest.specs.declared.step.Step.TheVariants.{SetState}
-use Rattle.atspi_forest.specs.RowRules.{shapes, changed_shape}
-use Rattle.atspi_forest.specs.Tree.{IsTree, after}
-use Rattle.atspi_forest.proofs.RowRules.{shapes_sound}
-use Rattle.atspi_forest.proofs.Kept.{changed_is_tree}
+use Rattle.atspi_tree_model.specs.declared.step.Step.TheVariants.{SetState}
+use Rattle.atspi_tree_model.specs.RowRules.{shapes, changed_shape}
+use Rattle.atspi_tree_model.specs.Tree.{IsTree, after}
+use Rattle.atspi_tree_model.proofs.RowRules.{shapes_sound}
+use Rattle.atspi_tree_model.proofs.Kept.{changed_is_tree}
 use Rattle.atspi_tree.proofs.Trees.{covering, holding, seen, shape, state_applies, table_change}
 use Rattle.atspi_tree.proofs.Noted.{covers_change}
 use Rattle.atspi_tree.proofs.tree.Tree.set_state.Goals as goal

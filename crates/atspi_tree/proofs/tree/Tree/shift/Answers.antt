@@ -1,10 +1,10 @@
 use Rattle.std.proofs.Common.{ap, sym, subst, ◌∙◌}
 use Rattle.std.proofs.lemmas.Result.{err_from_is_err_and}
-use Rattle.atspi_forest.specs.declared.step.Step.TheVariants.{Move}
-use Rattle.atspi_forest.specs.RowRules.{shapes}
-use Rattle.atspi_forest.specs.Tree.{IsTree, after}
-use Rattle.atspi_forest.proofs.RowRules.{shapes_sound}
-use Rattle.atspi_forest.proofs.Kept.{moved_is_tree}
+use Rattle.atspi_tree_model.specs.declared.step.Step.TheVariants.{Move}
+use Rattle.atspi_tree_model.specs.RowRules.{shapes}
+use Rattle.atspi_tree_model.specs.Tree.{IsTree, after}
+use Rattle.atspi_tree_model.proofs.RowRules.{shapes_sound}
+use Rattle.atspi_tree_model.proofs.Kept.{moved_is_tree}
 use Rattle.atspi_tree.proofs.Trees.{covering, holding, seen, shape, same_table, view_of}
 use Rattle.atspi_tree.proofs.Rehung.{row_of_parent, not_root, movable, table_move}
 use Rattle.atspi_tree.proofs.Noted.{covers_move}

@@ -1,10 +1,10 @@
 use Rattle.std.proofs.Common.{ap, sym, subst, ◌∙◌}
-use Rattle.atspi_forest.specs.declared.step.Step.TheVariants.{Remove}
-use Rattle.atspi_forest.specs.Forest.{take_out}
-use Rattle.atspi_forest.specs.RowRules.{shapes}
-use Rattle.atspi_forest.specs.Tree.{IsTree, after, is_shape}
-use Rattle.atspi_forest.proofs.RowRules.{shapes_sound}
-use Rattle.atspi_forest.proofs.Kept.{removed_is_tree}
+use Rattle.atspi_tree_model.specs.declared.step.Step.TheVariants.{Remove}
+use Rattle.atspi_tree_model.specs.Forest.{take_out}
+use Rattle.atspi_tree_model.specs.RowRules.{shapes}
+use Rattle.atspi_tree_model.specs.Tree.{IsTree, after, is_shape}
+use Rattle.atspi_tree_model.proofs.RowRules.{shapes_sound}
+use Rattle.atspi_tree_model.proofs.Kept.{removed_is_tree}
 use Rattle.atspi_tree.specs.Namers.{Covers}
 use Rattle.atspi_tree.proofs.Leaf.{clean, is_kept, is_listed, leaf_forgets, leaf_picked, not_its_own, taken}
 use Rattle.atspi_tree.proofs.Noted.{covers_leaf}

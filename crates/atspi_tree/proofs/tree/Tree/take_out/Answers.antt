@@ -1,9 +1,9 @@
 use Rattle.std.proofs.Common.{◌≡◌, ◌<◌, true, sym, subst}
 use Rattle.std.proofs.lemmas.Bool.{ne_eqb}
-use Rattle.atspi_forest.specs.declared.step.Step.TheVariants.{Remove}
-use Rattle.atspi_forest.specs.Forest.{count, has}
-use Rattle.atspi_forest.specs.RowRules.{shapes}
-use Rattle.atspi_forest.specs.Tree.{after, is_shape}
+use Rattle.atspi_tree_model.specs.declared.step.Step.TheVariants.{Remove}
+use Rattle.atspi_tree_model.specs.Forest.{count, has}
+use Rattle.atspi_tree_model.specs.RowRules.{shapes}
+use Rattle.atspi_tree_model.specs.Tree.{after, is_shape}
 use Rattle.atspi_tree.specs.TreeShape.{TreeShape}
 use Rattle.atspi_tree.proofs.Descent.{fewer, inside_there, leaf_removes, parent_inside, removing_first, removing_next}
 use Rattle.atspi_tree.proofs.tree.Tree.take_out.Goals as goal

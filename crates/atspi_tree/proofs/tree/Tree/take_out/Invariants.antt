@@ -1,5 +1,5 @@
 use Rattle.std.proofs.Common.{true}
-use Rattle.atspi_forest.specs.Forest.{count}
+use Rattle.atspi_tree_model.specs.Forest.{count}
 use Rattle.atspi_tree.proofs.Descent.{Removing}
 use Rattle.atspi_tree.proofs.tree.Tree.take_out.Given as goal
 

@@ -1,6 +1,6 @@
 use Rattle.std.proofs.Common.{sym, ap, ◌∙◌}
 use Rattle.std.proofs.lemmas.Result.{on_ok_weaker}
-use Rattle.atspi_cursor.specs.Items.{fields_data}
+use Rattle.atspi_marshal_in_place.specs.Items.{fields_data}
 use Rattle.atspi_protocol.specs.exporting.Starting.{goes_on}
 use Rattle.atspi_protocol.specs.exporting.Taking.{is_spent}
 use Rattle.atspi_app_known.specs.declared.starting.waiting.StartStep.{StartStep}

@@ -1,5 +1,5 @@
 use Rattle.std.proofs.Common.{refl}
-use Rattle.atspi_forest.specs.Path.{path_of}
+use Rattle.atspi_tree_model.specs.Path.{path_of}
 use Rattle.atspi_base.specs.valid_names.Names.{is_bus_name}
 use Rattle.atspi_base.specs.valid_names.Elements.{are_two_or_more, are_elements, parts_of}
 use Rattle.atspi_protocol.proofs.exporting.examples.taking.edits.Goals as goal

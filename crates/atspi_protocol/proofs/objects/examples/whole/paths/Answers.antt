@@ -1,6 +1,6 @@
 use Rattle.std.proofs.Common.{refl}
 use Rattle.std.specs.Fmt.{digits}
-use Rattle.atspi_forest.specs.Path.{path_of}
+use Rattle.atspi_tree_model.specs.Path.{path_of}
 use Rattle.atspi_protocol.proofs.objects.examples.whole.paths.Goals as goal
 
 pub returns-clause-entry : goal.returns-clause-entry

@@ -1,5 +1,0 @@
-use Rattle.atspi_announced.proofs.Staying.{applied_can_be_told}
-use Rattle.atspi_announced.proofs.laws.applied_can_be_told.Goals as goal
-
-pub returns : goal.returns
-returns c = applied_can_be_told

@@ -1,5 +1,0 @@
-use Rattle.atspi_announced.proofs.Staying.{messages_are_sent}
-use Rattle.atspi_announced.proofs.laws.messages_are_sent.Goals as goal
-
-pub returns : goal.returns
-returns c = messages_are_sent

@@ -1,0 +1,4 @@
+pub mod OfValues
+pub mod OfTexts
+pub mod OfChanges
+pub mod OfAnswers

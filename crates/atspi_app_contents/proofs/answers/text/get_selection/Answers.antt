@@ -1,0 +1,13 @@
+use Rattle.std.proofs.Common.{◌∙◌, w32, SFits, rules}
+use Rattle.std.proofs.lemmas.Int.{to_z-of_z}
+use Rattle.std.proofs.lemmas.Result.{IfOk-weaker}
+use Rattle.atspi_types.specs.DataView.{all_data}
+use Rattle.atspi_marshal_in_place.specs.Items.{fields_data}
+use Rattle.atspi_app_contents.proofs.OfAnswers.Telling.{tells_selection}
+use Rattle.atspi_app_contents.proofs.answers.text.get_selection.Goals as goal
+
+pub returns : goal.returns
+returns g c =
+    let first : SFits w32 c.first_signed.result = search rules in
+    let at = to_z-of_z w32 c.first_signed.result first ∙ c.first_signed.ensures in
+    IfOk-weaker c.selection.result _ _ (λ vs h. tells_selection (g.C.Face.nodes c.args.texts.now) c.args.node (fields_data c.args.args) (all_data vs) _ at h) c.selection.ensures

@@ -1,0 +1,4 @@
+pub mod values
+pub mod texts
+pub mod changes
+pub mod answers

@@ -1,6 +1,0 @@
-use Rattle.std.proofs.Common.{◌∙◌}
-use Rattle.atspi_arena.proofs.Outside.{among_any}
-use Rattle.atspi_arena.proofs.arena.is_among.Goals as goal
-
-pub returns : goal.returns
-returns c = c.contains.ensures.value ∙ among_any c.args.key c.args.keys.now

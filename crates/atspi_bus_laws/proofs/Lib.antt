@@ -1,0 +1,2 @@
+pub mod OfOwners
+pub mod OfHanded

@@ -1,5 +1,0 @@
-use Rattle.atspi_check.proofs.CheckLemmas.{ends_checked}
-use Rattle.atspi_check.proofs.checking.check.Goals as goal
-
-pub returns-clause-checked : goal.returns-clause-checked
-returns-clause-checked g c = ends_checked _ _ _ _ _ c.check_stream.ensures.ends

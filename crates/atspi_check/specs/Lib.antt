@@ -1,4 +1,0 @@
-pub mod Causes
-pub mod Check
-pub mod Taking
-pub mod Laws

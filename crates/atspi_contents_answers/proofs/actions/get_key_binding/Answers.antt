@@ -1,7 +1,0 @@
-use Rattle.std.proofs.lemmas.Result.{IfOk-weaker}
-use Rattle.atspi_types.specs.DataView.{data_of}
-use Rattle.atspi_contents_answers.proofs.Telling.{tells_no_key}
-use Rattle.atspi_contents_answers.proofs.actions.get_key_binding.Goals as goal
-
-pub returns : goal.returns
-returns c = IfOk-weaker c.literal.result _ _ (λ v h actions n body. tells_no_key actions n body (data_of v) h) c.literal.ensures

@@ -1,8 +1,0 @@
-use Rattle.atspi_contents_changes.specs.Steps.{choosing}
-use Rattle.atspi_contents_changes.proofs.Changed.{chosen_more}
-use Rattle.atspi_contents_changes.proofs.children.choosing.Goals as goal
-
-pub loop-node-preserved : goal.loop-node-preserved
-loop-node-preserved c =
-    chosen_more c.args.tree.now.rows c.args.on c.args.nodes.now c.loop-node.node-index c.loop-node.steps c.push_chosen.new.steps (choosing c.args.tree.now.rows c.args.on c.args.nodes.now)
-    c.loop-node-test.true c.loop-node.invariant c.in_ok-push_chosen.ensures

@@ -1,6 +1,0 @@
-use Rattle.std.proofs.Common.{◌∙◌}
-use Rattle.atspi_contents_values.proofs.Contents.{actions_counted}
-use Rattle.atspi_contents_values.proofs.actions.action_count.Goals as goal
-
-pub returns : goal.returns
-returns g c = c.count.ensures ∙ actions_counted (g.D.Face.of_kind c.args.actions.now) c.requires (g.D.Face.nodes c.args.actions.now) c.kind.ensures.contents c.args.node

@@ -1,7 +1,0 @@
-use Rattle.std.proofs.Common.{◌≡◌, take}
-use Rattle.std.specs.FinMap.{get}
-use Rattle.atspi_contents_values.specs.Actions.{actions_in}
-use Rattle.atspi_contents_values.proofs.actions.names.Given as goal
-
-abbrev pub invariant-loop-i : goal.invariant-loop-i
-invariant-loop-i g l = l.names ≡ take l.i (actions_in (get (g.D.Face.nodes l.actions) l.node))

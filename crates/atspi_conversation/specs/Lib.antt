@@ -1,6 +1,0 @@
-pub mod Sent
-pub mod Moved
-pub mod Speech
-pub mod Rounds
-pub mod Left
-pub mod Talking

@@ -1,6 +1,0 @@
-use Rattle.std.proofs.Common.{◌≡◌, ◌≤◌, ◌+◌, drop}
-use Rattle.atspi_cursor.specs.codes.Codes.{first_end}
-use Rattle.atspi_cursor.proofs.codes.first.bracketed_len.Given as goal
-
-abbrev pub invariant-loop-i : goal.invariant-loop-i
-invariant-loop-i l = (l.open ≤ l.i) × (l.i + first_end l.open (drop l.i l.codes) ≡ first_end 0 l.codes)

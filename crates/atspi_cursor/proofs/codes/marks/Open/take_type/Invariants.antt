@@ -1,9 +1,0 @@
-use Rattle.std.proofs.Common.{◌≡◌, length}
-use Rattle.atspi_cursor.specs.codes.Marks.{typed}
-use Rattle.atspi_cursor.proofs.codes.marks.Open.take_type.Given as goal
-
-abbrev pub invariant-loop-self : goal.invariant-loop-self
-invariant-loop-self l = typed l.self ≡ typed l.initial.self
-
-abbrev pub decreases-loop-self : goal.decreases-loop-self
-decreases-loop-self l = length l.self

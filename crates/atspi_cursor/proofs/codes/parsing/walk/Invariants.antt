@@ -1,5 +1,0 @@
-use Rattle.atspi_cursor.proofs.OfCodes.Checking.{StandsAt}
-use Rattle.atspi_cursor.proofs.codes.parsing.walk.Given as goal
-
-abbrev pub invariant-loop-i : goal.invariant-loop-i
-invariant-loop-i l = StandsAt l.open l.i l.bytes

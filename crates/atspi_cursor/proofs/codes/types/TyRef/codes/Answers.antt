@@ -1,8 +1,0 @@
-use Rattle.atspi_cursor.proofs.OfCodes.Spelled.{one_is}
-use Rattle.atspi_cursor.proofs.codes.types.TyRef.codes.Goals as goal
-
-pub returns-clause-spelled : goal.returns-clause-spelled
-returns-clause-spelled c = (one_is c.args.self.codes.now c.args.self.one).bytes
-
-pub returns-clause-within : goal.returns-clause-within
-returns-clause-within c = (one_is c.args.self.codes.now c.args.self.one).within

@@ -1,5 +1,0 @@
-use Rattle.atspi_cursor.proofs.OfCodes.ParseAnswers.{one_read}
-use Rattle.atspi_cursor.proofs.codes.types.TyRef.known.Goals as goal
-
-pub returns : goal.returns
-returns c = one_read c.args.bytes.now c.requires

@@ -1,8 +1,0 @@
-use Rattle.atspi_cursor.proofs.OfCodes.Spelled.{all_is}
-use Rattle.atspi_cursor.proofs.codes.types.TysRef.codes.Goals as goal
-
-pub returns-clause-spelled : goal.returns-clause-spelled
-returns-clause-spelled c = (all_is c.args.self.codes.now c.args.self.all).bytes
-
-pub returns-clause-within : goal.returns-clause-within
-returns-clause-within c = (all_is c.args.self.codes.now c.args.self.all).within

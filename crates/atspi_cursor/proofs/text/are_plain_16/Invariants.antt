@@ -1,7 +1,0 @@
-use Rattle.std.proofs.Common.{◌≡◌, take}
-use Rattle.std.specs.List.{list_all}
-use Rattle.atspi_cursor.specs.Passing.{is_plain}
-use Rattle.atspi_cursor.proofs.text.are_plain_16.Given as goal
-
-abbrev pub invariant-loop-i : goal.invariant-loop-i
-invariant-loop-i l = l.plain ≡ list_all is_plain (take l.i l.bytes)

@@ -1,6 +1,0 @@
-use Rattle.std.proofs.Common.{◌≡◌}
-use Rattle.atspi_cursor.specs.Paths.{precede}
-use Rattle.atspi_cursor.proofs.text.precede_16.Given as goal
-
-abbrev pub invariant-loop-i : goal.invariant-loop-i
-invariant-loop-i l = l.all ≡ precede l.at l.i l.bytes

@@ -1,4 +1,0 @@
-pub mod Codes
-pub mod Marks
-pub mod Shapes
-pub mod TyRefs

@@ -1,6 +1,0 @@
-use Rattle.std.proofs.Common.{◌≡◌, drop}
-use Rattle.atspi_forest.specs.Edits.{is_among}
-use Rattle.atspi_edits.proofs.relations.is_among.Given as goal
-
-abbrev pub invariant-loop-n : goal.invariant-loop-n
-invariant-loop-n l = is_among l.number l.numbers ≡ is_among l.number (drop l.n-index l.numbers)

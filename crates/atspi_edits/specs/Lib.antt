@@ -1,6 +1,0 @@
-pub mod Face
-pub mod Answers
-pub mod Selection
-pub mod Switches
-pub mod Deeds
-pub mod Cuts

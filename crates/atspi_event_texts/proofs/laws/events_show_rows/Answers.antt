@@ -1,5 +1,0 @@
-use Rattle.atspi_event_texts.proofs.Written.{shown_behind_names}
-use Rattle.atspi_event_texts.proofs.laws.events_show_rows.Goals as goal
-
-pub returns : goal.returns
-returns c = shown_behind_names

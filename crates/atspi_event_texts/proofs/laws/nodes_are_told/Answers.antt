@@ -1,5 +1,0 @@
-use Rattle.atspi_event_texts.proofs.NodeLemmas.{nodes_told}
-use Rattle.atspi_event_texts.proofs.laws.nodes_are_told.Goals as goal
-
-pub returns : goal.returns
-returns c = nodes_told

@@ -1,5 +1,0 @@
-use Rattle.atspi_event_texts.proofs.TraceOnce.{text_tells}
-use Rattle.atspi_event_texts.proofs.laws.text_tells_trace.Goals as goal
-
-pub returns : goal.returns
-returns c = text_tells

@@ -1,4 +1,0 @@
-use Rattle.atspi_event_texts.proofs.steps.put_step.Goals as goal
-
-pub returns-in-SetDescription-clause-ok : goal.returns-in-SetDescription-clause-ok
-returns-in-SetDescription-clause-ok c = rw c.in-SetDescription.is c.put_node_text-in-SetDescription.ensures.ok

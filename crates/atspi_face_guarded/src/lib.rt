@@ -1,6 +1,0 @@
-//! Calls of a face that look first whether they may be made, for callers that know nothing of its nodes.
-#![tactic(auto)]
-
-mod guarded;
-
-pub use guarded::{caret, change, has_text, is_here, marks, part, put};

@@ -1,8 +1,0 @@
-use Rattle.atspi_following_laws.proofs.Starting.{ended_only, ended}
-use Rattle.atspi_following_laws.proofs.laws.starts_end_early.Goals as goal
-
-pub returns-clause-only : goal.returns-clause-only
-returns-clause-only c = ended_only
-
-pub returns-clause-each : goal.returns-clause-each
-returns-clause-each c = ended

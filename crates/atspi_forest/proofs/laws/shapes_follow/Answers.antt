@@ -1,5 +1,0 @@
-use Rattle.atspi_forest.proofs.ShapeOf.{shape_is_tree, shape_applies, shape_after}
-use Rattle.atspi_forest.proofs.laws.shapes_follow.Goals as goal
-
-pub returns : goal.returns
-returns c = record { tree = shape_is_tree; applies = shape_applies; follows = shape_after }

@@ -1,6 +1,0 @@
-use Rattle.atspi_handed.proofs.First.{first_hands}
-use Rattle.atspi_handed.proofs.Handing.{takes_hands, ends_hands}
-use Rattle.atspi_handed.proofs.laws.what_is_handed_on_is_spelled.Goals as goal
-
-pub returns : goal.returns
-returns c = record { begins = first_hands; taken = takes_hands; ended = ends_hands }

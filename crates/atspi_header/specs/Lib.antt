@@ -1,5 +1,0 @@
-pub mod Bodies
-pub mod Codes
-pub mod Names
-pub mod Parsing
-pub mod View

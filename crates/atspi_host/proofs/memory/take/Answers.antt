@@ -1,4 +1,0 @@
-use Rattle.atspi_host.proofs.memory.take.Goals as goal
-
-pub returns-in-Some-clause-cause : goal.returns-in-Some-clause-cause
-returns-in-Some-clause-cause c = c.send.ensures.no_fault c.args.link_faults.now

@@ -1,5 +1,0 @@
-use Rattle.atspi_lawful.proofs.OfAnswered.LawAnswered.{parts_law}
-use Rattle.atspi_lawful.proofs.answered.laws.parts_are_told.Goals as goal
-
-pub returns : goal.returns
-returns c = parts_law

@@ -1,5 +1,0 @@
-use Rattle.atspi_lawful.proofs.OfEnds.LawEnds.{nothing_comes}
-use Rattle.atspi_lawful.proofs.exits.laws.nothing_comes_behind_an_end.Goals as goal
-
-pub returns : goal.returns
-returns c = nothing_comes

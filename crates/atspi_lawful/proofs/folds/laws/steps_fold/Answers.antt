@@ -1,5 +1,0 @@
-use Rattle.atspi_lawful.proofs.OfFolds.LawFolds.{steps_fold}
-use Rattle.atspi_lawful.proofs.folds.laws.steps_fold.Goals as goal
-
-pub returns : goal.returns
-returns c = steps_fold

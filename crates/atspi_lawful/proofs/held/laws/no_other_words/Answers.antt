@@ -1,5 +1,0 @@
-use Rattle.atspi_lawful.proofs.OfHeld.LawHeld.{no_other_words}
-use Rattle.atspi_lawful.proofs.held.laws.no_other_words.Goals as goal
-
-pub returns : goal.returns
-returns c = no_other_words

@@ -1,5 +1,0 @@
-use Rattle.atspi_lawful.proofs.OfHeld.LawHeld.{shows_are_due}
-use Rattle.atspi_lawful.proofs.held.laws.shows_are_due.Goals as goal
-
-pub returns : goal.returns
-returns c = shows_are_due

@@ -1,5 +1,0 @@
-use Rattle.atspi_lawful.proofs.OfLaws.One.{quiet_settled}
-use Rattle.atspi_lawful.proofs.laws.laws.quiet_is_settled.Goals as goal
-
-pub returns : goal.returns
-returns c = quiet_settled

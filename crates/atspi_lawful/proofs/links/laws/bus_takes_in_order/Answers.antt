@@ -1,5 +1,0 @@
-use Rattle.atspi_lawful.proofs.OfLinks.TakenInOrder.{bus_takes_in_order}
-use Rattle.atspi_lawful.proofs.links.laws.bus_takes_in_order.Goals as goal
-
-pub returns : goal.returns
-returns c = bus_takes_in_order

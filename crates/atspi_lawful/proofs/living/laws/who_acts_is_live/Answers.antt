@@ -1,5 +1,0 @@
-use Rattle.atspi_lawful.proofs.OfLiving.Living.{who_acts_is_live}
-use Rattle.atspi_lawful.proofs.living.laws.who_acts_is_live.Goals as goal
-
-pub returns : goal.returns
-returns c = who_acts_is_live

@@ -1,5 +1,0 @@
-use Rattle.atspi_lawful.proofs.OfLost.Alive.{registry_lives}
-use Rattle.atspi_lawful.proofs.lost.laws.the_registry_lives.Goals as goal
-
-pub returns : goal.returns
-returns c = registry_lives

@@ -1,5 +1,0 @@
-use Rattle.atspi_lawful.proofs.OfMissed.Covering.{patterns_cover}
-use Rattle.atspi_lawful.proofs.missed.laws.patterns_cover_all.Goals as goal
-
-pub returns : goal.returns
-returns c = patterns_cover

@@ -1,5 +1,0 @@
-use Rattle.atspi_lawful.proofs.OfOwn.LawOwn.{own_numbers_rise}
-use Rattle.atspi_lawful.proofs.own.laws.own_numbers_rise.Goals as goal
-
-pub returns : goal.returns
-returns c = own_numbers_rise

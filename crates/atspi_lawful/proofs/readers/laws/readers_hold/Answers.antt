@@ -1,5 +1,0 @@
-use Rattle.atspi_lawful.proofs.OfReaders.LawReaders.{readers_law}
-use Rattle.atspi_lawful.proofs.readers.laws.readers_hold.Goals as goal
-
-pub returns : goal.returns
-returns c = readers_law

@@ -1,7 +1,0 @@
--- What readers call of their own accord.
-use Rattle.atspi_lawful.specs.laws.NineLaws.{LawOfReaders}
-use Rattle.atspi_lawful.specs.order.Laws.{OfEachTrace}
-
--- THE LAW OF READERS, of each front of a lawful trace
-abbrev pub ReadersHold : Type 0
-ReadersHold = OfEachTrace LawOfReaders

@@ -1,8 +1,0 @@
-//! Laws of what ends take, of each front of a lawful trace too.
-
-ghost use Rattle.atspi_lawful.specs.taken.Laws.{WhatIsTakenWasSent};
-
-/// What an end takes of another was sent by it before, however the bytes were cut.
-pub fn what_is_taken_was_sent()
-    ensures { WhatIsTakenWasSent }
-{}

@@ -1,5 +1,0 @@
-use Rattle.atspi_lawful_caches.proofs.OfServed.ReachingLaw.{registrations_first}
-use Rattle.atspi_lawful_caches.proofs.served.laws.registrations_come_first.Goals as goal
-
-pub returns : goal.returns
-returns c = registrations_first

@@ -1,5 +1,0 @@
-use Rattle.std.proofs.Common.{refl}
-use Rattle.atspi_lawful_examples.proofs.traces.routing.the_registry_begins.Goals as goal
-
-pub returns : goal.returns
-returns c = refl

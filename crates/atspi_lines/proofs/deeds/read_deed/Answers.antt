@@ -1,5 +1,0 @@
-use Rattle.atspi_lines.proofs.FormLemmas.{deed_read}
-use Rattle.atspi_lines.proofs.deeds.read_deed.Goals as goal
-
-pub returns : goal.returns
-returns c = deed_read c.in-Some.word.now c.in-Some.rest.now c.args.bytes.now c.read_deed_of.result c.in-Some.ensures.0 c.in-Some.ensures.1 c.read_deed_of.ensures

@@ -1,5 +1,0 @@
-use Rattle.atspi_lines.proofs.FormLemmas.{no_swap_line}
-use Rattle.atspi_lines.proofs.read.read_swap.Goals as goal
-
-pub returns-in-None : goal.returns-in-None
-returns-in-None c = no_swap_line c.args.bytes.now c.in-None.ensures

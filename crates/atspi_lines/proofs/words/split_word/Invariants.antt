@@ -1,5 +1,0 @@
-use Rattle.atspi_lines.proofs.SpaceLemmas.{NoneBefore}
-use Rattle.atspi_lines.proofs.words.split_word.Given as goal
-
-abbrev pub invariant-loop-i : goal.invariant-loop-i
-invariant-loop-i l = NoneBefore l.bytes l.i

@@ -1,5 +1,0 @@
-pub mod Words
-pub mod Forms
-pub mod Line
-pub mod Reading
-pub mod Laws

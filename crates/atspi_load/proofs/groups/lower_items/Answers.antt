@@ -1,9 +1,0 @@
-use Rattle.std.proofs.Common.{rules}
-use Rattle.atspi_load.specs.Shared.{is_lower}
-use Rattle.atspi_load.proofs.SharedLemmas.{keeps}
-use Rattle.atspi_load.proofs.groups.lower_items.Goals as goal
-
-pub loop-item-preserved : goal.loop-item-preserved
-loop-item-preserved c =
-    keeps (is_lower c.args.root.now c.args.bus.now) c.args.own.now c.loop-item.item-index c.item-item.result c.loop-item.lower.items _
-    c.loop-item-test.true c.item-item.is c.loop-item.invariant (search rules)

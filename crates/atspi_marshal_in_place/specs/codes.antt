@@ -1,0 +1,4 @@
+pub mod inner
+pub mod Codes
+pub mod Shapes
+pub mod TyRefs

@@ -1,0 +1,2 @@
+pub mod OfReadings
+pub mod Passing

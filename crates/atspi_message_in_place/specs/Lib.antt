@@ -1,0 +1,4 @@
+pub mod inner
+pub mod Bodies
+pub mod Names
+pub mod View

@@ -1,8 +1,0 @@
-use Rattle.std.proofs.Common.{◌∙◌, ap, ℕ, List}
-use Rattle.std.specs.Prelude.{bytes_eq}
-use Rattle.atspi_protocol.specs.news.Replies.{items_signature}
-use Rattle.atspi_news_reading.proofs.Lists.{codes_are}
-use Rattle.atspi_news_reading.proofs.reply.has_items.Goals as goal
-
-pub returns : goal.returns
-returns c = c.eq.ensures ∙ ap (λ (w : List ℕ). bytes_eq c.codes.result.now w) c.as_slice.ensures ∙ ap (λ (cs : List ℕ). bytes_eq cs items_signature) (codes_are c.args.body c.types.result c.codes.result.now c.codes.ensures.spelled c.types.ensures)

@@ -1,5 +1,0 @@
-use Rattle.atspi_owners.proofs.Steps.{owner_is}
-use Rattle.atspi_owners.proofs.laws.unique_names_are_owned.Goals as goal
-
-pub returns : goal.returns
-returns c = λ owners conn n orderly below. (orderly.has_it conn n below, owner_is owners conn n orderly)

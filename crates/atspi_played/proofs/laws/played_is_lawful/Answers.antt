@@ -1,6 +1,0 @@
-use Rattle.atspi_played.proofs.AllPieces.{pieces}
-use Rattle.atspi_played.proofs.Playing.{is_lawful}
-use Rattle.atspi_played.proofs.laws.played_is_lawful.Goals as goal
-
-pub returns : goal.returns
-returns c = is_lawful pieces

@@ -1,6 +1,0 @@
-use Rattle.atspi_played.proofs.AllPieces.{pieces}
-use Rattle.atspi_played.proofs.Playing.{refusals}
-use Rattle.atspi_played.proofs.laws.refusals_agree.Goals as goal
-
-pub returns : goal.returns
-returns c = refusals pieces

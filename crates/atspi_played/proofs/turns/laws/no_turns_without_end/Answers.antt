@@ -1,5 +1,0 @@
-use Rattle.atspi_played.proofs.WithoutEnd.{no_turns_without_end}
-use Rattle.atspi_played.proofs.turns.laws.no_turns_without_end.Goals as goal
-
-pub returns : goal.returns
-returns c = no_turns_without_end

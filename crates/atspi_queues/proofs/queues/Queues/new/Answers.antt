@@ -1,5 +1,0 @@
-use Rattle.atspi_queues.proofs.Within.{within-new}
-use Rattle.atspi_queues.proofs.queues.Queues.new.Goals as goal
-
-pub invariant_of-result : goal.invariant_of-result
-invariant_of-result c = within-new c.args.quota c.new.result c.new.ensures

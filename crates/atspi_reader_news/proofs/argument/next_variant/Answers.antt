@@ -1,0 +1,11 @@
+use Rattle.atspi_marshal.specs.Reading.{input_of}
+use Rattle.atspi_marshal_in_place.specs.Items.{item_data, item_kind, fields_data}
+use Rattle.atspi_message_in_place.proofs.ReadTypes.{item_type}
+use Rattle.atspi_reader_news.proofs.Came.{variant_came}
+use Rattle.atspi_reader_news.proofs.argument.next_variant.Goals as goal
+
+pub returns : goal.returns
+returns c =
+    let x = c.in_ok-next.field-0 in
+    variant_came c.variant.result (item_data x) (item_kind x) (fields_data c.args.fields.now) (fields_data c.next.new.self) c.in_ok-next.ensures.comes
+    (item_type (input_of x.input) x.levels (item_kind x) x.bound x.at x.known) c.variant.ensures.is c.variant.ensures.value

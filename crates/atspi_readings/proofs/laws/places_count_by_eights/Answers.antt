@@ -1,5 +1,0 @@
-use Rattle.atspi_readings.proofs.Places.{same_spellings, fields_alike}
-use Rattle.atspi_readings.proofs.laws.places_count_by_eights.Goals as goal
-
-pub returns : goal.returns
-returns c o a b ds s = record { same = same_spellings o ds a b s; fits = λ levels ks f. fields_alike o levels ds ks a b s f }

@@ -1,5 +1,0 @@
-use Rattle.atspi_readings.proofs.Readings.{read_back}
-use Rattle.atspi_readings.proofs.laws.what_is_written_is_read.Goals as goal
-
-pub returns : goal.returns
-returns c e meets named fits = read_back e meets named fits

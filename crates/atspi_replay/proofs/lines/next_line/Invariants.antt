@@ -1,5 +1,0 @@
-use Rattle.atspi_replay.proofs.LineLemmas.{NoFeed}
-use Rattle.atspi_replay.proofs.lines.next_line.Given as goal
-
-abbrev pub invariant-loop-i : goal.invariant-loop-i
-invariant-loop-i l = NoFeed l.text l.i

@@ -1,5 +1,0 @@
-use Rattle.atspi_replay.proofs.PlayLemmas.{all_part}
-use Rattle.atspi_replay.proofs.telling.finish.Goals as goal
-
-pub returns-in-Ok-clause-err : goal.returns-in-Ok-clause-err
-returns-in-Ok-clause-err g c = all_part _ _ _ c.in-Ok.ensures.ok

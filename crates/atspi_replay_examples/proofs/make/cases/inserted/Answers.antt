@@ -1,7 +1,0 @@
-use Rattle.std.proofs.Common.{refl}
-use Rattle.std.specs.Fmt.{digits}
-use Rattle.atspi_replay_examples.proofs.make.cases.inserted.Goals as goal
-
-pub returns-clause-seed : goal.returns-clause-seed
-unfolding digits
-returns-clause-seed c = refl

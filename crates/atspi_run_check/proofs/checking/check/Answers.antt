@@ -1,0 +1,5 @@
+use Rattle.atspi_run_check.proofs.CheckLemmas.{ends_checked}
+use Rattle.atspi_run_check.proofs.checking.check.Goals as goal
+
+pub returns-clause-checked : goal.returns-clause-checked
+returns-clause-checked g c = ends_checked _ _ _ _ _ c.check_stream.ensures.ends

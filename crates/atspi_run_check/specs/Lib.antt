@@ -1,0 +1,4 @@
+pub mod inner
+pub mod Causes
+pub mod Check
+pub mod Laws

@@ -1,0 +1,10 @@
+pub mod inner
+pub mod Lines
+pub mod Names
+pub mod Told
+pub mod Wired
+pub mod Done
+pub mod Play
+pub mod Causes
+pub mod Run
+pub mod Made

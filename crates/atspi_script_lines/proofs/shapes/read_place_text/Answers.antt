@@ -1,0 +1,10 @@
+use Rattle.std.proofs.Common.{[], ◌∷◌}
+use Rattle.atspi_script_lines.proofs.LeadLemmas.{rest_of}
+use Rattle.atspi_script_lines.specs.Words.{place, quote}
+use Rattle.atspi_script_lines.proofs.shapes.read_place_text.Goals as goal
+
+pub returns-in_default : goal.returns-in_default
+returns-in_default c = λ t s. c.in_default.ensures t.0 s.0 s.1
+
+pub returns-in-None : goal.returns-in-None
+returns-in-None c = λ t s. (rw c.in-None.is at c.in_ok-text.ensures) t.1 (rest_of (place c.in-Some.n) (place t.0) c.in-Some.rest.now c.args.bytes.now (quote t.1 ∷ []) tt c.in-Some.ensures s)

@@ -1,6 +1,0 @@
-//! The rows of a walk over what a reader holds, as they are shown.
-#![tactic(auto)]
-
-mod rows;
-
-pub use rows::{count_rows, shown_rows};

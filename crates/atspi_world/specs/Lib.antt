@@ -1,0 +1,9 @@
+pub mod inner
+pub mod Cast
+pub mod Faults
+pub mod Halts
+pub mod Lines
+pub mod MayAct
+pub mod Refusals
+pub mod Stage
+pub mod Worlds

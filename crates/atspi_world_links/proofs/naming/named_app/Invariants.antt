@@ -1,0 +1,9 @@
+use Rattle.std.proofs.Common.{◌≡◌, drop}
+use Rattle.atspi_world_links.specs.Named.{app_named}
+use Rattle.atspi_world_links.proofs.naming.named_app.Given as goal
+
+-- none was found up to here
+abbrev pub invariant-loop-post : goal.invariant-loop-post
+invariant-loop-post l = record {
+  none : app_named l.name l.posts ≡ app_named l.name (drop l.post-index l.posts);
+}

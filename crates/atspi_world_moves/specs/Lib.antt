@@ -1,0 +1,12 @@
+pub mod inner
+pub mod Beginning
+pub mod Carried
+pub mod Downs
+pub mod Faults
+pub mod Filled
+pub mod GivenUp
+pub mod Halted
+pub mod Linked
+pub mod Moving
+pub mod Segments
+pub mod Waits
