@@ -45,11 +45,11 @@ pub fn is_call(m: &MessageRef) -> bool
     m.kind == 1
 }
 
-/// Whether the message is the bus's return to the call with this number.
+/// Whether the message is a return to the call with this number.
 fn is_return(hello: Option<u32>, m: &MessageRef) -> bool
     ensures { result ≡ heard.is_return hello (envelope_at m.now) }
 {
-    m.kind == 2 && (is_text(m.sender, BUS) && is_reply_to(hello, m.reply))
+    m.kind == 2 && is_reply_to(hello, m.reply)
 }
 
 /// Whether the message is the bus's news of a name's owners.
@@ -83,7 +83,7 @@ fn is_nobody(text: &str) -> bool
     text.is_empty()
 }
 
-/// The registry's unique name, where the message is the bus's return to its Hello.
+/// The registry's unique name, where the message is a return to its Hello, whoever sent it.
 pub fn name_told<'a>(hello: Option<u32>, m: &MessageRef<'a>) -> Option<&'a str>
     ensures name { lent_text result ≡ steps.name_told hello (envelope_at m.now) }
     ensures no_zero { IfSome result (λ name. HasNoZero name.now) }

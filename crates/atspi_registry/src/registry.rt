@@ -152,7 +152,7 @@ impl Registry {
         self.hello
     }
 
-    /// Before it has its name: the bus's return to Hello tells it.
+    /// Before it has its name: the return to Hello tells it.
     fn be_named(&mut self, m: &MessageRef) -> Result<(), EndFault>
         requires own { is_some self.old.state.own ≡ false }
         requires within { self.old.state.next ≤ 4294967296 }

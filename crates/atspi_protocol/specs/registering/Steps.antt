@@ -34,9 +34,9 @@ abbrev pub is_reply_to : Option ℕ → Option ℕ → Bool
 is_reply_to (Some call) (Some reply) = call == reply
 is_reply_to call reply = false
 
--- the unique name, where the message is the bus's return to the call of Hello
+-- the unique name, where the message is a return to the call of Hello, whoever sent it
 abbrev pub name_told : Option ℕ → Envelope → Option (List ℕ)
-name_told hello e = if e.kind == 2 && (is_from_bus e && is_reply_to hello e.reply) then first e.body else None
+name_told hello e = if e.kind == 2 && is_reply_to hello e.reply then first e.body else None
   where
     first : List Data → Option (List ℕ)
     first (text_data name ∷ ds) = Some name

@@ -12,9 +12,9 @@ abbrev pub lent_text : Option (Bor (List ℕ)) → Option (List ℕ)
 lent_text None = None
 lent_text (Some name) = Some (chars name.now)
 
--- it is the bus's return to the call with this number
+-- it is a return to the call with this number
 abbrev pub is_return : Option ℕ → Envelope → Bool
-is_return hello e = e.kind == 2 && (is_from_bus e && is_reply_to hello e.reply)
+is_return hello e = e.kind == 2 && is_reply_to hello e.reply
 
 -- it is the bus's news of a name's owners
 abbrev pub is_owner_news : Envelope → Bool

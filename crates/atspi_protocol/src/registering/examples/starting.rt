@@ -29,7 +29,7 @@ pub fn calls()
     ensures queued { (starts (record { state = begins; out = [] })).out ≡ (registry_starts begins).sent }
 {}
 
-/// The text of the bus's return to Hello is the name; nothing is sent then.
+/// The text of the return to Hello is the name, whoever sent it; nothing is sent then.
 pub fn names()
     ensures named { (registry_takes (registry_starts begins).state (bus_return 1 (one_text (codes ":1.0")))).state.own
         ≡ Some (codes ":1.0") }
@@ -39,8 +39,12 @@ pub fn names()
         (bus_return 1 (text_data (codes ":1.0") ∷ number_data u32 4 ∷ []))).state.own ≡ Some (codes ":1.0") }
     ensures another_call { (registry_takes (registry_starts begins).state
         (bus_return 2 (one_text (codes ":1.0")))).state ≡ (registry_starts begins).state }
-    ensures a_stranger { (registry_takes (registry_starts begins).state
-        (record (bus_return 1 (one_text (codes ":1.0"))) { sender = Some six_ })).state
+    ensures of_a_stranger { (registry_takes (registry_starts begins).state
+        (record (bus_return 1 (one_text (codes ":1.0"))) { sender = Some six_ })).state.own ≡ Some (codes ":1.0") }
+    ensures of_nobody { (registry_takes (registry_starts begins).state
+        (record (bus_return 1 (one_text (codes ":1.0"))) { sender = None })).state.own ≡ Some (codes ":1.0") }
+    ensures a_stranger_to_another_call { (registry_takes (registry_starts begins).state
+        (record (bus_return 2 (one_text (codes ":1.0"))) { sender = Some six_ })).state
         ≡ (registry_starts begins).state }
     ensures an_error { (registry_takes (registry_starts begins).state
         (record (bus_return 1 (one_text (codes ":1.0"))) { kind = 3 })).state ≡ (registry_starts begins).state }
