@@ -11,7 +11,7 @@ ghost use Rattle.atspi_match.specs.routing.Queues.{stepped, takes};
 ghost use Rattle.atspi_match.specs.routing.Routing as routing;
 ghost use Rattle.atspi_match.specs.routing.Steps as steps;
 ghost use Rattle.atspi_bus_answers.specs.Answered.{IsSpokenOf, AreNamed, is_told, reply_of};
-ghost use Rattle.atspi_bus_steps.specs.Inner.{inner_of, state_of};
+ghost use Rattle.atspi_bus_steps.specs.InnerBus.{inner_of, state_of};
 ghost use Rattle.atspi_bus_steps.specs.Sayable.{IsTyped};
 ghost use Rattle.atspi_bus_steps.specs.Sound.{IsSound};
 ghost use Rattle.atspi_bus_steps.specs.Spoken.{IsRuleOf, IsRuleTaken, answered_by};

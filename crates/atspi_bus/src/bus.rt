@@ -9,7 +9,7 @@ ghost use Rattle.atspi_match.specs.declared.condition.Condition.{Condition};
 ghost use Rattle.atspi_match.specs.routing.Laws.{IsWithinQuota};
 ghost use Rattle.atspi_match.specs.routing.Queues.{queue_of, empty_bus, joins, takes, leaves};
 ghost use Rattle.atspi_bus_queues.specs.Change.{with_queue};
-ghost use Rattle.atspi_bus_steps.specs.Inner.{state_of};
+ghost use Rattle.atspi_bus_steps.specs.InnerBus.{state_of};
 ghost use Rattle.atspi_bus_steps.specs.Limits.{IsTooBig, SaysTooMuch};
 ghost use Rattle.atspi_bus_steps.specs.Sound.{IsSound};
 ghost use Rattle.atspi_bus_steps.specs.Spoken.{IsRuleTaken};

@@ -10,7 +10,7 @@ ghost use Rattle.atspi_match.specs.routing.Queues.{stepped};
 ghost use Rattle.atspi_match.specs.routing.Steps as steps;
 ghost use Rattle.atspi_bus_answers.specs.Answered.{IsSpokenOf, reply_of};
 ghost use Rattle.atspi_bus_answers.specs.Free.{IsFreeName};
-ghost use Rattle.atspi_bus_steps.specs.Inner.{inner_of, state_of};
+ghost use Rattle.atspi_bus_steps.specs.InnerBus.{inner_of, state_of};
 ghost use Rattle.atspi_bus_steps.specs.Sayable.{MaySay, IsTyped};
 ghost use Rattle.atspi_bus_steps.specs.Sound.{IsReady, IsSound};
 ghost use Rattle.atspi_bus_steps.specs.Spoken.{answered_by};

@@ -9,7 +9,7 @@ ghost use Rattle.atspi_bus_queues.specs.Each.{WentToEach};
 ghost use Rattle.atspi_match.specs.routing.Queues.{Bus, Waiting, stepped};
 ghost use Rattle.atspi_match.specs.routing.Routing as routing;
 ghost use Rattle.atspi_match.specs.routing.Steps.{speaks};
-ghost use Rattle.atspi_bus_steps.specs.Inner.{inner_of, state_of};
+ghost use Rattle.atspi_bus_steps.specs.InnerBus.{inner_of, state_of};
 ghost use Rattle.atspi_bus_steps.specs.Sayable.{MaySay};
 ghost use Rattle.atspi_bus_steps.specs.Sound.{IsReady};
 ghost use Rattle.atspi_bus.specs.inner.Said.{IsHanded, IsSaid};

@@ -8,7 +8,7 @@ ghost use Rattle.atspi_match.specs.routing.BusState as states;
 ghost use Rattle.atspi_match.specs.routing.Queues.{leaves};
 ghost use Rattle.atspi_match.specs.routing.Steps as steps;
 ghost use Rattle.atspi_bus_steps.specs.Farewell.{name_passes_on, names_pass_on};
-ghost use Rattle.atspi_bus_steps.specs.Inner.{inner_of, state_of};
+ghost use Rattle.atspi_bus_steps.specs.InnerBus.{inner_of, state_of};
 ghost use Rattle.atspi_bus_steps.specs.Sound.{IsSound};
 ghost use Rattle.atspi_bus.specs.Exclusive.{IsExclusive};
 

@@ -12,7 +12,7 @@ ghost use Rattle.atspi_match.specs.routing.Queues.{stepped, takes};
 ghost use Rattle.atspi_match.specs.routing.Steps as steps;
 ghost use Rattle.atspi_bus_answers.specs.Answered.{IsSpokenOf, AreNamed};
 ghost use Rattle.atspi_bus_steps.specs.Greeting.{greeting};
-ghost use Rattle.atspi_bus_steps.specs.Inner.{inner_of, state_of};
+ghost use Rattle.atspi_bus_steps.specs.InnerBus.{inner_of, state_of};
 ghost use Rattle.atspi_bus_steps.specs.Sayable.{MaySay};
 ghost use Rattle.atspi_bus_steps.specs.Sound.{IsReady, IsSound};
 ghost use Rattle.atspi_bus_steps.specs.Spoken.{answered_by};

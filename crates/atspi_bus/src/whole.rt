@@ -5,7 +5,7 @@ ghost use Rattle.atspi_message.specs.Rules.{MeetsRules};
 ghost use Rattle.atspi_message_in_place.specs.View.{envelope_at};
 ghost use Rattle.atspi_match.specs.declared.condition.Condition.{Condition};
 ghost use Rattle.atspi_match.specs.routing.Queues.{takes, leaves};
-ghost use Rattle.atspi_bus_steps.specs.Inner.{inner_of, state_of};
+ghost use Rattle.atspi_bus_steps.specs.InnerBus.{inner_of, state_of};
 ghost use Rattle.atspi_bus_steps.specs.Limits.{IsTooBig, SaysTooMuch};
 ghost use Rattle.atspi_bus_steps.specs.Sound.{IsSound};
 ghost use Rattle.atspi_bus_steps.specs.Spoken.{IsRuleTaken};

@@ -27,7 +27,7 @@ use Rattle.atspi_match.specs.RuleIndex.{Receives, AreReceivers}
 use Rattle.atspi_match.specs.routing.BusState.{BusState}
 use Rattle.atspi_match.specs.routing.Routing.{asks_for, matches, receivers, one_or_none}
 use Rattle.atspi_match.proofs.OfRouting.Deciding.{matching}
-use Rattle.atspi_bus_steps.specs.Inner.{parts}
+use Rattle.atspi_bus_steps.specs.InnerBus.{parts}
 use Rattle.atspi_bus_steps.specs.inner.Asking.{has_joined}
 
 equal_of_tie : (r : Ordering) → is_eq r ≡ true → r ≡ Equal

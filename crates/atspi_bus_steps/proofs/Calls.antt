@@ -11,7 +11,7 @@ use Rattle.atspi_match.specs.routing.BusState as state
 use Rattle.atspi_match.specs.routing.BusState.{unique_of, calls_without, waiting_for}
 use Rattle.atspi_match.specs.routing.OwnMessages.{error_to}
 use Rattle.atspi_match.specs.routing.Routing.{without_answered}
-use Rattle.atspi_bus_steps.specs.Inner.{call_of}
+use Rattle.atspi_bus_steps.specs.InnerBus.{call_of}
 use Rattle.atspi_bus_steps.specs.declared.open_call.OpenCall.{OpenCall}
 use Rattle.atspi_bus_steps.specs.Farewell.{no_replies}
 

@@ -10,7 +10,7 @@ use Rattle.atspi_match.specs.routing.Routing.{is_for_bus, receivers}
 use Rattle.atspi_match.specs.routing.Steps.{BusStep, called, speaks, undeliverable, is_unowned, passes_on, takes_from_named, bus_takes}
 use Rattle.atspi_match.specs.routing.Queues.{Bus, stepped, takes}
 use Rattle.atspi_bus_steps.specs.inner.Handing.{forwards, WentToAll}
-use Rattle.atspi_bus_steps.specs.Inner.{call_of, parts}
+use Rattle.atspi_bus_steps.specs.InnerBus.{call_of, parts}
 use Rattle.atspi_bus_steps.specs.declared.open_call.OpenCall as declared
 use Rattle.atspi_bus_steps.specs.Spoken.{IsRuleTaken}
 use Rattle.atspi_bus_steps.proofs.Asking.{receivers-parts}

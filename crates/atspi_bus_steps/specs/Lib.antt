@@ -1,5 +1,5 @@
 pub mod inner
-pub mod Inner
+pub mod InnerBus
 pub mod Sound
 pub mod Limits
 pub mod Sayable

@@ -7,7 +7,7 @@ ghost use Rattle.atspi_match.specs.routing.BusState.{unique_of};
 ghost use Rattle.atspi_match.specs.routing.Laws.{IsWithinQuota};
 ghost use Rattle.atspi_match.specs.routing.Queues.{empty_bus, joins, queue_of};
 ghost use Rattle.atspi_bus_queues.specs.Change.{with_queue};
-ghost use Rattle.atspi_bus_steps.specs.Inner.{inner_of, state_of};
+ghost use Rattle.atspi_bus_steps.specs.InnerBus.{inner_of, state_of};
 ghost use Rattle.atspi_bus_steps.specs.Sound.{IsSound};
 
 use crate::BusFault;

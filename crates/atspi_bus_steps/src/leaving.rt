@@ -4,7 +4,7 @@ ghost use Rattle.std.specs.Prelude.{◌≡◌, ◌<◌, ◌++◌, map, Some, IfO
 ghost use Rattle.atspi_message.specs.Envelope.{envelope_of};
 ghost use Rattle.atspi_match.specs.routing.BusState as states;
 ghost use Rattle.atspi_match.specs.routing.Queues as queues;
-ghost use Rattle.atspi_bus_steps.specs.Inner.{inner_of, state_of, call_of};
+ghost use Rattle.atspi_bus_steps.specs.InnerBus.{inner_of, state_of, call_of};
 ghost use Rattle.atspi_bus_steps.specs.Limits.{SaysTooMuch};
 ghost use Rattle.atspi_bus_steps.specs.Sound.{IsSound};
 ghost use Rattle.atspi_bus_steps.specs.Farewell as farewell;

@@ -14,7 +14,7 @@ ghost use Rattle.atspi_match.specs.routing.Routing as routing;
 ghost use Rattle.atspi_match.specs.routing.Routing.{calls_after, without_answered};
 ghost use Rattle.atspi_match.specs.routing.Queues.{stepped};
 ghost use Rattle.atspi_match.specs.routing.Steps.{passes_on, calls_after_all, is_unowned};
-ghost use Rattle.atspi_bus_steps.specs.Inner.{inner_of, state_of, call_of, parts};
+ghost use Rattle.atspi_bus_steps.specs.InnerBus.{inner_of, state_of, call_of, parts};
 ghost use Rattle.atspi_bus_steps.specs.inner.Handing.{forwards, queued_each, WentToAll, WentSigned, IsPassed};
 ghost use Rattle.atspi_bus_steps.specs.Limits.{PassesLimits, SaysTooMuch};
 ghost use Rattle.atspi_bus_steps.specs.Sound.{IsSound};

@@ -11,7 +11,7 @@ ghost use Rattle.atspi_names.specs.Queue.{owner_in};
 ghost use Rattle.atspi_names.specs.Owners.{list_of};
 ghost use Rattle.atspi_match.specs.routing.Routing as routing;
 ghost use Rattle.atspi_match.specs.routing.Routing.{asks_for, one_or_none};
-ghost use Rattle.atspi_bus_steps.specs.Inner.{parts};
+ghost use Rattle.atspi_bus_steps.specs.InnerBus.{parts};
 ghost use Rattle.atspi_bus_steps.specs.inner.Asking.{has_joined};
 
 use atspi_base::valid_names::{BusName, NameFault};

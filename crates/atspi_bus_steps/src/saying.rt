@@ -8,7 +8,7 @@ ghost use Rattle.atspi_match.specs.routing.Routing as routing;
 ghost use Rattle.atspi_match.specs.routing.Queues.{stepped};
 ghost use Rattle.atspi_match.specs.routing.Steps.{speaks, replies};
 ghost use Rattle.atspi_bus_answers.specs.Answered.{reply_of};
-ghost use Rattle.atspi_bus_steps.specs.Inner.{inner_of, state_of};
+ghost use Rattle.atspi_bus_steps.specs.InnerBus.{inner_of, state_of};
 ghost use Rattle.atspi_bus_steps.specs.inner.Handing.{handed_out};
 ghost use Rattle.atspi_bus_steps.specs.Limits.{PassesLimits, SaysTooMuch};
 ghost use Rattle.atspi_bus_steps.specs.Sayable.{MaySay, IsTyped, reply_message};

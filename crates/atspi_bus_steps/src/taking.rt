@@ -9,7 +9,7 @@ ghost use Rattle.atspi_match.specs.routing.Routing as routing;
 ghost use Rattle.atspi_match.specs.routing.Steps as steps;
 ghost use Rattle.atspi_match.specs.routing.Queues as queues;
 ghost use Rattle.atspi_match.specs.routing.Queues.{stepped};
-ghost use Rattle.atspi_bus_steps.specs.Inner.{inner_of, state_of};
+ghost use Rattle.atspi_bus_steps.specs.InnerBus.{inner_of, state_of};
 ghost use Rattle.atspi_bus_steps.specs.Limits.{IsTooBig, IsTooBigToPass, SaysTooMuch};
 ghost use Rattle.atspi_bus_steps.specs.Sound.{IsSound};
 ghost use Rattle.atspi_bus_steps.specs.Spoken.{IsRuleTaken, IsRuleNamed};

@@ -6,4 +6,4 @@ pub mod Does
 pub mod Takes
 pub mod Heard
 pub mod Answered
-pub mod Told
+pub mod Telling

@@ -163,7 +163,7 @@ pub fn adoption(
 }
 
 /// The news that this child goes from its place, where somebody asks for them.
-#[tactic(auto, using(crate::proofs::Told::told_one))]
+#[tactic(auto, using(crate::proofs::Telling::told_one))]
 fn tell_at(
     alloc: Global,
     asked: bool,
@@ -205,7 +205,7 @@ fn tell_removal(
 }
 
 /// The child that goes is told, and then the caller is returned to.
-#[tactic(auto, using(crate::proofs::Told::removal))]
+#[tactic(auto, using(crate::proofs::Telling::removal))]
 pub fn release(
     alloc: Global,
     pairs: &Pairs,
@@ -273,7 +273,7 @@ fn deregistrations(alloc: Global, pairs: &[(BusName, Text)], name: &str) -> Resu
 }
 
 /// The pairs of a connection that left are told, and then its child, to those who are still there.
-#[tactic(auto, using(crate::proofs::Told::removal))]
+#[tactic(auto, using(crate::proofs::Telling::removal))]
 pub fn farewell(
     alloc: Global,
     pairs: &Pairs,

@@ -1,7 +1,7 @@
 -- What holds of a world at any time.
 use Rattle.std.specs.Prelude.{Bool, true, false, List, All, Result, Ok, Err}
 use Rattle.atspi_match.specs.routing.BusState.{BusState}
-use Rattle.atspi_bus_steps.specs.Inner.{state_of}
+use Rattle.atspi_bus_steps.specs.InnerBus.{state_of}
 use Rattle.atspi_bus_steps.specs.Sound.{IsSound}
 use Rattle.atspi_trace_events.specs.declared.event.Event.{Event}
 use Rattle.atspi_world_links.specs.declared.post.Post.{Post}

@@ -19,7 +19,7 @@ use Rattle.atspi_trace.specs.Due.{is_lost}
 use Rattle.atspi_world_moves.specs.Carried.{IsCarried}
 use Rattle.atspi_world_moves.specs.Linked.{IsLinked}
 use Rattle.atspi_trace.specs.play.Playing.{Playing, Happened}
-use Rattle.atspi_bus_steps.specs.Inner.{inner_of}
+use Rattle.atspi_bus_steps.specs.InnerBus.{inner_of}
 use Rattle.atspi_world.specs.Cast.{IsApp, IsReader, ArePlayed}
 use Rattle.atspi_world.specs.declared.stage.Stage.{Stage}
 

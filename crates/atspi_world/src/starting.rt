@@ -5,7 +5,7 @@ ghost use Rattle.atspi_tree_model.specs.Row.{IsName};
 ghost use Rattle.atspi_script_lines.specs.declared.limits.TheConstants.{APP_COUNT, QUOTA_LEAST, QUOTA_MOST};
 ghost use Rattle.atspi_protocol.specs.registering.RegistryState.{begins};
 ghost use Rattle.atspi_match.specs.routing.Queues.{empty_bus};
-ghost use Rattle.atspi_bus_steps.specs.Inner.{inner_of, state_of};
+ghost use Rattle.atspi_bus_steps.specs.InnerBus.{inner_of, state_of};
 ghost use Rattle.atspi_bus_steps.specs.Sound.{IsSound};
 ghost use Rattle.atspi_trace.specs.play.Playing.{first_playing, Playing};
 ghost use Rattle.atspi_trace.specs.play.Plays.{plays};

@@ -2,7 +2,7 @@
 
 ghost use Rattle.std.specs.Prelude.{◌≡◌, ◌++◌, false, [], map, None, OnOk, OnErr, IfOk, IsErrOf};
 ghost use Rattle.atspi_script_lines.specs.declared.line.Party.TheVariants as parties;
-ghost use Rattle.atspi_bus_steps.specs.Inner.{inner_of, state_of};
+ghost use Rattle.atspi_bus_steps.specs.InnerBus.{inner_of, state_of};
 ghost use Rattle.atspi_bus_steps.specs.Sound.{IsSound};
 ghost use Rattle.atspi_trace.specs.Entry.{entries_of};
 ghost use Rattle.atspi_trace.specs.World.{here, stopped, End, World};

@@ -2,7 +2,7 @@
 
 ghost use Rattle.std.specs.Prelude.{◌≡◌, [], length, OnOk, OnErr, IfOk, IsErrOf};
 ghost use Rattle.atspi_script_lines.specs.declared.line.Party.TheVariants as parties;
-ghost use Rattle.atspi_bus_steps.specs.Inner.{inner_of, state_of};
+ghost use Rattle.atspi_bus_steps.specs.InnerBus.{inner_of, state_of};
 ghost use Rattle.atspi_bus_steps.specs.Sound.{IsSound};
 ghost use Rattle.atspi_match.specs.routing.Queues.{empty_bus};
 ghost use Rattle.atspi_trace.specs.World.{Role, World};

@@ -1,7 +1,7 @@
 //! What is carried in steps that note several events: each is told whole, or the carrier is given up.
 
 ghost use Rattle.std.specs.Prelude.{◌≡◌, ◌∷◌, List, OnOk, IsErrOf};
-ghost use Rattle.atspi_bus_steps.specs.Inner.{inner_of, state_of};
+ghost use Rattle.atspi_bus_steps.specs.InnerBus.{inner_of, state_of};
 ghost use Rattle.atspi_bus_steps.specs.Sound.{IsSound};
 ghost use Rattle.atspi_trace.specs.World.{here, stopped, End, Said, World};
 ghost use Rattle.atspi_trace.specs.Ends.{end_at};

@@ -5,7 +5,7 @@ ghost use Rattle.atspi_message.specs.Rules.{MeetsRules};
 ghost use Rattle.atspi_message_in_place.specs.View.{envelope_at};
 ghost use Rattle.atspi_tree_model.specs.Forest.{first_of};
 ghost use Rattle.atspi_match.specs.routing.BusState.{unique_of};
-ghost use Rattle.atspi_bus_steps.specs.Inner.{inner_of, state_of};
+ghost use Rattle.atspi_bus_steps.specs.InnerBus.{inner_of, state_of};
 ghost use Rattle.atspi_bus_steps.specs.Sound.{IsSound};
 ghost use Rattle.atspi_trace.specs.World.{here, End, Said, World};
 ghost use Rattle.atspi_trace.specs.Ends.{end_at};

@@ -2,7 +2,7 @@
 
 ghost use Rattle.std.specs.Prelude.{◌≡◌, ◌≤◌, length};
 ghost use Rattle.atspi_tree_model.specs.Forest.{first_of};
-ghost use Rattle.atspi_bus_steps.specs.Inner.{inner_of};
+ghost use Rattle.atspi_bus_steps.specs.InnerBus.{inner_of};
 ghost use Rattle.atspi_world_moves.specs.Waits as waits;
 
 use crate::carrier::Carrier;

@@ -1,6 +1,6 @@
 use Rattle.std.proofs.Common.{sym, ◌∙◌}
 use Rattle.atspi_message_in_place.specs.View.{envelope_at}
-use Rattle.atspi_bus_steps.specs.Inner.{inner_of}
+use Rattle.atspi_bus_steps.specs.InnerBus.{inner_of}
 use Rattle.atspi_bus_steps.proofs.InPlace.{told-more, none_found}
 use Rattle.atspi_bus.proofs.Replying.{step-taken}
 use Rattle.atspi_bus.proofs.answering.answer_in_place.Goals as goal

@@ -1,7 +1,7 @@
 use Rattle.std.proofs.Common.{◌≡◌, true, false, None, sym, ap, ◌∙◌}
 use Rattle.atspi_message_in_place.specs.View.{envelope_at}
 use Rattle.atspi_match.specs.routing.Queues.{stepped}
-use Rattle.atspi_bus_steps.specs.Inner.{inner_of}
+use Rattle.atspi_bus_steps.specs.InnerBus.{inner_of}
 use Rattle.atspi_bus_steps.proofs.InPlace.{told-more}
 use Rattle.atspi_bus.proofs.Replying.{quiet-step, named-called, named-quiet, named-unowned, rule_taken, rule_not_taken}
 use Rattle.atspi_bus.proofs.answering.answer_named.Goals as goal

@@ -3,7 +3,7 @@ use Rattle.atspi_message_in_place.specs.View.{envelope_at}
 use Rattle.atspi_match.specs.routing.Queues.{stepped}
 use Rattle.atspi_bus_answers.specs.Errors.{error_text}
 use Rattle.atspi_bus_answers.specs.Lines.{as_named}
-use Rattle.atspi_bus_steps.specs.Inner.{inner_of}
+use Rattle.atspi_bus_steps.specs.InnerBus.{inner_of}
 use Rattle.atspi_bus_steps.proofs.InPlace.{told-more}
 use Rattle.atspi_bus.proofs.Replying.{called-member, called-error, rule_of, rule_none}
 use Rattle.atspi_bus.proofs.answering.call_in_place.Goals as goal

@@ -4,7 +4,7 @@ use Rattle.atspi_message.specs.Envelope.{envelope_of}
 use Rattle.atspi_message_in_place.specs.View.{envelope_at}
 use Rattle.atspi_match.specs.routing.Answers.{returns, fails}
 use Rattle.atspi_bus_answers.specs.Errors.{error_text}
-use Rattle.atspi_bus_steps.specs.Inner.{inner_of, state_of}
+use Rattle.atspi_bus_steps.specs.InnerBus.{inner_of, state_of}
 use Rattle.atspi_bus_steps.specs.Sayable.{reply_message}
 use Rattle.atspi_bus.proofs.Saying.{said-again}
 use Rattle.atspi_bus.proofs.Replying.{rule-quiet, rule-said, rule-failed, replied-anew, both-more}

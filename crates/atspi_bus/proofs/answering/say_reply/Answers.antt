@@ -1,7 +1,7 @@
 use Rattle.std.proofs.Common.{sym, subst}
 use Rattle.atspi_message_in_place.specs.View.{envelope_at}
 use Rattle.atspi_bus_answers.specs.Answered.{reply_of}
-use Rattle.atspi_bus_steps.specs.Inner.{state_of}
+use Rattle.atspi_bus_steps.specs.InnerBus.{state_of}
 use Rattle.atspi_bus_steps.specs.Sayable.{MaySay}
 use Rattle.atspi_bus_steps.proofs.Sayables.{say-reply}
 use Rattle.atspi_bus.proofs.answering.say_reply.Goals as goal

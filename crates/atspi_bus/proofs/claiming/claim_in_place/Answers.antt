@@ -5,7 +5,7 @@ use Rattle.atspi_names.specs.Owners.{Owners, after_release}
 use Rattle.atspi_match.specs.declared.routing.member.BusMember.TheVariants.{RequestName}
 use Rattle.atspi_match.specs.routing.Answers.{answers, second_number}
 use Rattle.atspi_match.specs.routing.Queues.{Bus}
-use Rattle.atspi_bus_steps.specs.Inner.{inner_of}
+use Rattle.atspi_bus_steps.specs.InnerBus.{inner_of}
 use Rattle.atspi_bus_steps.specs.Sayable.{MaySay, IsTyped}
 use Rattle.atspi_bus_steps.proofs.Sayables.{sayable}
 use Rattle.atspi_bus.proofs.Replying.{name-answer, name_rules, name-sound, sound-same}

@@ -7,7 +7,7 @@ use Rattle.atspi_message_in_place.specs.View.{envelope_at}
 use Rattle.atspi_match.specs.routing.Queues.{stepped}
 use Rattle.atspi_match.specs.routing.Steps.{speaks}
 use Rattle.atspi_bus_answers.specs.Answered.{reply_of}
-use Rattle.atspi_bus_steps.specs.Inner.{inner_of, state_of}
+use Rattle.atspi_bus_steps.specs.InnerBus.{inner_of, state_of}
 use Rattle.atspi_bus_steps.specs.Sayable.{MaySay}
 use Rattle.atspi_bus_steps.proofs.InPlace.{told-more}
 use Rattle.atspi_bus_steps.proofs.Sayables.{say-reply, one_sayable}

@@ -2,7 +2,7 @@ use Rattle.std.proofs.Common.{length, map, ap, subst, arith}
 use Rattle.std.specs.List.{All}
 use Rattle.std.proofs.lemmas.List.Elements.{All-head, All-tail}
 use Rattle.atspi_message.specs.Envelope.{envelope_of}
-use Rattle.atspi_bus_steps.specs.Inner.{inner_of}
+use Rattle.atspi_bus_steps.specs.InnerBus.{inner_of}
 use Rattle.atspi_bus_steps.specs.Sayable.{MaySay}
 use Rattle.atspi_bus.proofs.Saying.{said-again, said-each}
 use Rattle.atspi_bus.proofs.in_place.+say_each.Goals as goal

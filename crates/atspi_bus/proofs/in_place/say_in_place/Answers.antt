@@ -1,7 +1,7 @@
 use Rattle.std.proofs.Common.{◌∷◌, [], map, ap, ◌∙◌}
 use Rattle.std.proofs.lemmas.List.{map-append}
 use Rattle.atspi_message.specs.Envelope.{envelope_of}
-use Rattle.atspi_bus_steps.specs.Inner.{inner_of}
+use Rattle.atspi_bus_steps.specs.InnerBus.{inner_of}
 use Rattle.atspi_bus.proofs.Saying.{said-of}
 use Rattle.atspi_bus.proofs.in_place.say_in_place.Goals as goal
 

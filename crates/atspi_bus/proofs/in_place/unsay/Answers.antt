@@ -1,4 +1,4 @@
-use Rattle.atspi_bus_steps.specs.Inner.{inner_of}
+use Rattle.atspi_bus_steps.specs.InnerBus.{inner_of}
 use Rattle.atspi_bus.proofs.Saying.{said-went, went-as}
 use Rattle.atspi_bus.proofs.in_place.unsay.Goals as goal
 

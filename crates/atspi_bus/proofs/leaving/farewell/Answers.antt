@@ -4,7 +4,7 @@ use Rattle.std.specs.Option.{option_copied}
 use Rattle.atspi_message.specs.Envelope.{envelope_of}
 use Rattle.atspi_names.specs.Owners.{after_gone}
 use Rattle.atspi_match.specs.routing.Steps.{farewell}
-use Rattle.atspi_bus_steps.specs.Inner.{inner_of, state_of, call_of}
+use Rattle.atspi_bus_steps.specs.InnerBus.{inner_of, state_of, call_of}
 use Rattle.atspi_bus_steps.proofs.Partings.{told-parting}
 use Rattle.atspi_bus.proofs.Leavings.{told-farewell}
 use Rattle.atspi_bus.proofs.leaving.farewell.Goals as goal

@@ -3,7 +3,7 @@ use Rattle.std.specs.List.{All}
 use Rattle.atspi_message.specs.Envelope.{envelope_of}
 use Rattle.atspi_match.specs.routing.Queues.{Bus, stepped, left}
 use Rattle.atspi_match.specs.routing.Steps.{speaks}
-use Rattle.atspi_bus_steps.specs.Inner.{inner_of, state_of}
+use Rattle.atspi_bus_steps.specs.InnerBus.{inner_of, state_of}
 use Rattle.atspi_bus_steps.specs.Sayable.{MaySay}
 use Rattle.atspi_bus_steps.proofs.InPlace.{none_found}
 use Rattle.atspi_bus_steps.proofs.Settling.{settled_none}

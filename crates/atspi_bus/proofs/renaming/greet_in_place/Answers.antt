@@ -4,7 +4,7 @@ use Rattle.atspi_names.specs.Owners.{unique_name}
 use Rattle.atspi_names.proofs.UniqueLemmas.{is_bus_name-unique_name}
 use Rattle.atspi_match.specs.routing.BusState.{BusState}
 use Rattle.atspi_match.specs.routing.Queues.{Bus, stepped}
-use Rattle.atspi_bus_steps.specs.Inner.{inner_of, state_of}
+use Rattle.atspi_bus_steps.specs.InnerBus.{inner_of, state_of}
 use Rattle.atspi_bus_steps.specs.Greeting.{greeting}
 use Rattle.atspi_bus_steps.specs.Sound.{IsSound}
 use Rattle.atspi_bus_steps.proofs.Greetings.{greets-is, greeting-two}

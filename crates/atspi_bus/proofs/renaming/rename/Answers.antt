@@ -4,7 +4,7 @@ use Rattle.atspi_message.specs.Envelope.{Envelope, envelope_of}
 use Rattle.atspi_names.specs.Owners.{Owners}
 use Rattle.atspi_match.specs.routing.Queues.{stepped}
 use Rattle.atspi_match.specs.routing.Steps.{speaks}
-use Rattle.atspi_bus_steps.specs.Inner.{inner_of, state_of}
+use Rattle.atspi_bus_steps.specs.InnerBus.{inner_of, state_of}
 use Rattle.atspi_bus_steps.specs.Sayable.{MaySay}
 use Rattle.atspi_bus.proofs.Replying.{renamed-back, renamed-ready}
 use Rattle.atspi_bus.proofs.renaming.rename.Goals as goal

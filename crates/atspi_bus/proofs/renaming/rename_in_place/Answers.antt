@@ -5,7 +5,7 @@ use Rattle.std.proofs.lemmas.List.Elements.{All-append}
 use Rattle.atspi_message.specs.Envelope.{envelope_of}
 use Rattle.atspi_message_in_place.specs.View.{envelope_at}
 use Rattle.atspi_bus_answers.specs.Answered.{reply_of}
-use Rattle.atspi_bus_steps.specs.Inner.{inner_of}
+use Rattle.atspi_bus_steps.specs.InnerBus.{inner_of}
 use Rattle.atspi_bus_steps.specs.Sayable.{MaySay, IsTyped}
 use Rattle.atspi_bus_steps.proofs.InPlace.{either-way}
 use Rattle.atspi_bus_steps.proofs.Sayables.{sayable, say-reply, one_sayable}

@@ -4,7 +4,7 @@ use Rattle.atspi_message.specs.Envelope.{envelope_of}
 use Rattle.atspi_message_in_place.specs.View.{envelope_at}
 use Rattle.atspi_match.specs.routing.Queues.{stepped}
 use Rattle.atspi_match.specs.routing.Steps.{speaks}
-use Rattle.atspi_bus_steps.specs.Inner.{inner_of, state_of}
+use Rattle.atspi_bus_steps.specs.InnerBus.{inner_of, state_of}
 use Rattle.atspi_bus_steps.specs.Sayable.{MaySay}
 use Rattle.atspi_bus_steps.proofs.Greetings.{say-greeting}
 use Rattle.atspi_bus_steps.proofs.InPlace.{told-more}

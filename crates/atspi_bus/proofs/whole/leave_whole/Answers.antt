@@ -1,7 +1,7 @@
 use Rattle.std.proofs.Common.{◌≡◌, ◌<◌, subst}
 use Rattle.std.specs.Prelude.{OnOk, IsErrOf}
 use Rattle.atspi_match.specs.routing.Queues.{Bus, leaves}
-use Rattle.atspi_bus_steps.specs.Inner.{inner_of}
+use Rattle.atspi_bus_steps.specs.InnerBus.{inner_of}
 use Rattle.atspi_bus_steps.specs.Limits.{SaysTooMuch}
 use Rattle.atspi_bus_steps.specs.declared.fault.BusFault.TheVariants.{Big, Spent}
 use Rattle.atspi_bus.proofs.whole.leave_whole.Goals as goal

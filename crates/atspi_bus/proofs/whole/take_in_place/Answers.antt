@@ -1,6 +1,6 @@
 use Rattle.std.proofs.Common.{◌∙◌}
 use Rattle.atspi_message_in_place.specs.View.{envelope_at}
-use Rattle.atspi_bus_steps.specs.Inner.{inner_of}
+use Rattle.atspi_bus_steps.specs.InnerBus.{inner_of}
 use Rattle.atspi_bus.proofs.Joined.{taken-like}
 use Rattle.atspi_bus.proofs.Replying.{both-more, err-more}
 use Rattle.atspi_bus.proofs.whole.take_in_place.Goals as goal

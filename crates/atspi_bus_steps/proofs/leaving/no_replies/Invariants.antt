@@ -1,6 +1,6 @@
 use Rattle.std.proofs.Common.{◌≡◌, take, map}
 use Rattle.atspi_message.specs.Envelope.{envelope_of}
-use Rattle.atspi_bus_steps.specs.Inner.{call_of}
+use Rattle.atspi_bus_steps.specs.InnerBus.{call_of}
 use Rattle.atspi_bus_steps.specs.Farewell.{no_replies}
 use Rattle.atspi_bus_steps.proofs.leaving.no_replies.Given as goal
 

@@ -2,7 +2,7 @@ use Rattle.std.proofs.Common.{List, ℕ, map, ap, ◌∙◌}
 use Rattle.atspi_message_in_place.specs.View.{envelope_at}
 use Rattle.atspi_match.specs.routing.Steps.{calls_after_all}
 use Rattle.atspi_bus_steps.specs.inner.Handing.{queued_each}
-use Rattle.atspi_bus_steps.specs.Inner.{call_of}
+use Rattle.atspi_bus_steps.specs.InnerBus.{call_of}
 use Rattle.atspi_bus_steps.proofs.passing.hand_to_each.Goals as goal
 
 pub returns-clause-ok : goal.returns-clause-ok

@@ -1,7 +1,7 @@
 use Rattle.std.proofs.Common.{◌≡◌, ◌+◌, ◌-◌, ◌≤◌, drop, length, map, vec_len, vec_capacity}
 use Rattle.atspi_message_in_place.specs.View.{envelope_at}
 use Rattle.atspi_match.specs.routing.Steps.{calls_after_all}
-use Rattle.atspi_bus_steps.specs.Inner.{call_of}
+use Rattle.atspi_bus_steps.specs.InnerBus.{call_of}
 use Rattle.atspi_bus_steps.proofs.passing.note_all.Given as goal
 
 abbrev pub invariant-loop-receiver : goal.invariant-loop-receiver

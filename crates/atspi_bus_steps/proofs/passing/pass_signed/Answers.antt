@@ -1,7 +1,7 @@
 use Rattle.std.proofs.Common.{map, sym, subst}
 use Rattle.atspi_message.specs.Envelope.{Envelope}
 use Rattle.atspi_bus_steps.specs.inner.Handing.{WentToAll}
-use Rattle.atspi_bus_steps.specs.Inner.{call_of, parts}
+use Rattle.atspi_bus_steps.specs.InnerBus.{call_of, parts}
 use Rattle.atspi_bus_steps.proofs.InPlace.{told-as}
 use Rattle.atspi_bus_steps.proofs.passing.pass_signed.Goals as goal
 

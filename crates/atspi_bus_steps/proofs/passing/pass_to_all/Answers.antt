@@ -4,7 +4,7 @@ use Rattle.atspi_message.specs.Bytes.{written}
 use Rattle.atspi_match.specs.routing.Routing.{receivers, one_or_none}
 use Rattle.atspi_match.specs.routing.Steps.{is_unowned, calls_after_all}
 use Rattle.atspi_bus_steps.specs.inner.Handing.{queued_each}
-use Rattle.atspi_bus_steps.specs.Inner.{call_of, parts}
+use Rattle.atspi_bus_steps.specs.InnerBus.{call_of, parts}
 use Rattle.atspi_bus_steps.proofs.Asking.{receivers-to}
 use Rattle.atspi_bus_steps.proofs.InPlace.{told-as}
 use Rattle.atspi_bus_steps.proofs.passing.pass_to_all.Goals as goal

@@ -2,7 +2,7 @@ use Rattle.std.proofs.Common.{ap, ◌∙◌}
 use Rattle.std.proofs.lemmas.Result.{IfOk-weaker}
 use Rattle.atspi_message.specs.Envelope.{envelope_of}
 use Rattle.atspi_match.specs.routing.Routing as routing
-use Rattle.atspi_bus_steps.specs.Inner.{parts}
+use Rattle.atspi_bus_steps.specs.InnerBus.{parts}
 use Rattle.atspi_bus_steps.proofs.receiving.receivers_of_own.Goals as goal
 
 pub parse-requires-clause-length : goal.parse-requires-clause-length

@@ -1,6 +1,6 @@
 use Rattle.std.proofs.Common.{sym, ap, ◌∙◌, [], ◌∷◌, ◌++◌, List}
 use Rattle.atspi_message.specs.Envelope.{Envelope}
-use Rattle.atspi_registry.proofs.Told.{added}
+use Rattle.atspi_registry.proofs.Telling.{added}
 use Rattle.atspi_registry.proofs.mails.tell_child.Goals as goal
 
 pub returns : goal.returns

@@ -1,6 +1,6 @@
 use Rattle.std.proofs.Common.{◌+◌, ◌<◌, length, refl, sym, ap, ◌∙◌, arith}
 use Rattle.std.specs.Prelude.{vec_items}
-use Rattle.atspi_bus_steps.specs.Inner.{inner_of}
+use Rattle.atspi_bus_steps.specs.InnerBus.{inner_of}
 use Rattle.atspi_world_moves.specs.Filled.{waits_for}
 use Rattle.atspi_world_moves.proofs.Beginning.{gave_none, gave_more}
 use Rattle.atspi_world.proofs.Beginning.{none_left}

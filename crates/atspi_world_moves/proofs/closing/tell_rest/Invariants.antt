@@ -2,7 +2,7 @@ use Rattle.std.proofs.Common.{◌≡◌, ◌+◌, ◌++◌, [], None, length}
 use Rattle.std.specs.Prelude.{option_to_list}
 use Rattle.atspi_trace.specs.Entry.{entries_of}
 use Rattle.atspi_trace.specs.Carrying.{sent_by_bus}
-use Rattle.atspi_bus_steps.specs.Inner.{inner_of}
+use Rattle.atspi_bus_steps.specs.InnerBus.{inner_of}
 use Rattle.atspi_world_moves.specs.inner.Told.{ahead}
 use Rattle.atspi_world_moves.proofs.closing.tell_rest.Given as goal
 

@@ -1,5 +1,5 @@
 use Rattle.std.proofs.Common.{◌≡◌, ◌+◌, ◌-◌, ◌∙◌, subst, arith}
-use Rattle.atspi_bus_steps.specs.Inner.{inner_of}
+use Rattle.atspi_bus_steps.specs.InnerBus.{inner_of}
 use Rattle.atspi_world_moves.specs.Filled.{IsGiven}
 use Rattle.atspi_world_moves.proofs.Coming.{none_given, on_err_so}
 use Rattle.atspi_world_moves.proofs.Filling.{given_more, given_whole, piece_within, stopped}

@@ -1,6 +1,6 @@
 use Rattle.std.proofs.Common.{◌≡◌, ◌≤◌, ◌+◌, ◌-◌, ◌++◌, ℕ, List}
 use Rattle.atspi_match.specs.routing.Queues.{Bus}
-use Rattle.atspi_bus_steps.specs.Inner.{inner_of, state_of}
+use Rattle.atspi_bus_steps.specs.InnerBus.{inner_of, state_of}
 use Rattle.atspi_world_moves.specs.Filled.{waits_for, IsGiven, KeepsWithin}
 use Rattle.atspi_world_moves.proofs.down.fill.Given as goal
 

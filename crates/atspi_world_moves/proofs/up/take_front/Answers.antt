@@ -1,6 +1,6 @@
 use Rattle.std.proofs.Common.{◌≡◌, Some, Err, ap, ◌∙◌, subst}
 use Rattle.atspi_message.specs.Bytes.{written}
-use Rattle.atspi_bus_steps.specs.Inner.{inner_of}
+use Rattle.atspi_bus_steps.specs.InnerBus.{inner_of}
 use Rattle.atspi_world_moves.specs.declared.fault.CarryFault.TheVariants.{Spent}
 use Rattle.atspi_world_moves.specs.inner.Routed.{IsSpentTaking, IsTaken}
 use Rattle.atspi_world_moves.proofs.up.take_front.Goals as goal

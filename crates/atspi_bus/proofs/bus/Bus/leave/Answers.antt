@@ -1,7 +1,7 @@
 use Rattle.std.proofs.Common.{◌<◌, ℕ, sym, subst}
 use Rattle.std.specs.List.{All}
 use Rattle.atspi_match.specs.routing.Queues.{Bus}
-use Rattle.atspi_bus_steps.specs.Inner.{inner_of}
+use Rattle.atspi_bus_steps.specs.InnerBus.{inner_of}
 use Rattle.atspi_bus.specs.Exclusive.{IsExclusive}
 use Rattle.atspi_bus.proofs.Orders.{left-exclusive}
 use Rattle.atspi_bus.proofs.Joined.{in_both, always_ok, left-joined_below}

@@ -8,7 +8,7 @@ use Rattle.atspi_match.specs.routing.Answers.{Answer, answers}
 use Rattle.atspi_match.specs.routing.Steps.{answered}
 use Rattle.atspi_match.specs.routing.Queues.{Bus, stepped}
 use Rattle.atspi_bus_answers.specs.Answered.{reply_of, with_parts}
-use Rattle.atspi_bus_steps.specs.Inner.{inner_of, state_of}
+use Rattle.atspi_bus_steps.specs.InnerBus.{inner_of, state_of}
 use Rattle.atspi_bus_steps.specs.Limits.{SaysTooMuch}
 use Rattle.atspi_bus_steps.specs.Sayable.{MaySay, IsTyped}
 use Rattle.atspi_bus_steps.specs.Sound.{IsSound}

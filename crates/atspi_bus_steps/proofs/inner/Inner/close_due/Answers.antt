@@ -2,7 +2,7 @@ use Rattle.std.proofs.Common.{◌≡◌, ◌<◌, arith}
 use Rattle.std.specs.Prelude.{Err}
 use Rattle.std.proofs.lemmas.Grind.{common_steps}
 use Rattle.atspi_match.specs.routing.Queues.{settled}
-use Rattle.atspi_bus_steps.specs.Inner.{inner_of}
+use Rattle.atspi_bus_steps.specs.InnerBus.{inner_of}
 use Rattle.atspi_bus_steps.specs.Limits.{SaysTooMuch}
 use Rattle.atspi_bus_steps.specs.declared.fault.BusFault.TheVariants.{Big, Spent}
 use Rattle.atspi_bus_steps.proofs.Settling.{settling-start, settling-next, settling-spent, settling-big, settling-none}

@@ -1,4 +1,4 @@
-use Rattle.atspi_bus_steps.specs.Inner.{inner_of, state_of}
+use Rattle.atspi_bus_steps.specs.InnerBus.{inner_of, state_of}
 use Rattle.atspi_bus_steps.specs.Sound.{IsSound}
 use Rattle.atspi_bus_steps.proofs.Settling.{IsSettling}
 use Rattle.atspi_bus_steps.proofs.inner.Inner.close_due.Given as goal

@@ -5,7 +5,7 @@ use Rattle.std.proofs.lemmas.List.Elements.{All-append}
 use Rattle.atspi_message.specs.Envelope.{envelope_of}
 use Rattle.atspi_message_in_place.specs.View.{envelope_at}
 use Rattle.atspi_bus_answers.specs.Answered.{reply_of}
-use Rattle.atspi_bus_steps.specs.Inner.{state_of}
+use Rattle.atspi_bus_steps.specs.InnerBus.{state_of}
 use Rattle.atspi_bus_steps.specs.Sayable.{MaySay}
 use Rattle.atspi_bus_steps.proofs.Sayables.{say-reply, one_sayable}
 use Rattle.atspi_bus_steps.proofs.inner.Inner.conclude.Goals as goal

@@ -1,7 +1,7 @@
 use Rattle.std.proofs.Common.{rules, ℕ, not, ◌||◌, map, ap, ◌∙◌}
 use Rattle.std.specs.Prelude.{◌==◌}
 use Rattle.std.proofs.lemmas.Fn.{filter_same}
-use Rattle.atspi_bus_steps.specs.Inner.{inner_of, call_of}
+use Rattle.atspi_bus_steps.specs.InnerBus.{inner_of, call_of}
 use Rattle.atspi_bus_steps.specs.declared.open_call.OpenCall.{OpenCall}
 use Rattle.atspi_bus_steps.proofs.Calls.{calls_stay}
 use Rattle.atspi_bus_steps.proofs.Partings.{forgotten-is}

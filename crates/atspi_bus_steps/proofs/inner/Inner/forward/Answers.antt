@@ -1,7 +1,7 @@
 use Rattle.std.proofs.Common.{map, ap, ◌∙◌}
 use Rattle.atspi_message_in_place.specs.View.{envelope_at}
 use Rattle.atspi_match.specs.routing.Steps.{calls_after_all}
-use Rattle.atspi_bus_steps.specs.Inner.{inner_of, call_of}
+use Rattle.atspi_bus_steps.specs.InnerBus.{inner_of, call_of}
 use Rattle.atspi_bus_steps.proofs.Ends.{forwarded-is}
 use Rattle.atspi_bus_steps.proofs.inner.Inner.forward.Goals as goal
 

@@ -7,7 +7,7 @@ use Rattle.atspi_names.specs.Owners.{unique_name}
 use Rattle.atspi_names.proofs.UniqueLemmas.{is_bus_name-unique_name}
 use Rattle.atspi_match.specs.routing.BusState.{BusState}
 use Rattle.atspi_match.specs.routing.Queues.{Bus, stepped}
-use Rattle.atspi_bus_steps.specs.Inner.{inner_of}
+use Rattle.atspi_bus_steps.specs.InnerBus.{inner_of}
 use Rattle.atspi_bus_steps.specs.Greeting.{greeting}
 use Rattle.atspi_bus_steps.specs.Limits.{SaysTooMuch}
 use Rattle.atspi_bus_steps.specs.Sayable.{MaySay}

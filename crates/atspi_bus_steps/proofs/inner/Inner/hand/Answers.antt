@@ -1,7 +1,7 @@
 use Rattle.std.proofs.Common.{ap, ◌∙◌}
 use Rattle.atspi_message.specs.Envelope.{envelope_of}
 use Rattle.atspi_match.specs.routing.Routing as routing
-use Rattle.atspi_bus_steps.specs.Inner.{inner_of, state_of, parts}
+use Rattle.atspi_bus_steps.specs.InnerBus.{inner_of, state_of, parts}
 use Rattle.atspi_bus_steps.proofs.Asking.{receivers-parts}
 use Rattle.atspi_bus_steps.proofs.Said.{handed-is}
 use Rattle.atspi_bus_steps.proofs.inner.Inner.hand.Goals as goal

@@ -6,7 +6,7 @@ use Rattle.atspi_message.specs.Envelope.{Envelope, envelope_of}
 use Rattle.atspi_match.specs.routing.BusState.{BusState}
 use Rattle.atspi_match.specs.routing.Steps.{speaks}
 use Rattle.atspi_match.specs.routing.Queues.{Bus, stepped, left}
-use Rattle.atspi_bus_steps.specs.Inner.{inner_of, call_of}
+use Rattle.atspi_bus_steps.specs.InnerBus.{inner_of, call_of}
 use Rattle.atspi_bus_steps.specs.Farewell.{forgotten}
 use Rattle.atspi_bus_steps.specs.Sayable.{MaySay}
 use Rattle.atspi_bus_steps.specs.Sound.{IsReady, IsSound}

@@ -1,6 +1,6 @@
 use Rattle.std.proofs.Common.{rules, ◌≡◌, ℕ, arith, length, subst}
 use Rattle.atspi_match.specs.routing.Queues.{left, settled}
-use Rattle.atspi_bus_steps.specs.Inner.{inner_of}
+use Rattle.atspi_bus_steps.specs.InnerBus.{inner_of}
 use Rattle.atspi_bus_steps.specs.Limits.{SaysTooMuch}
 use Rattle.atspi_bus_steps.proofs.Settling.{settled_rises}
 use Rattle.atspi_bus_steps.proofs.TooBig.{too_much-left, too_much-settled}

@@ -3,7 +3,7 @@ use Rattle.atspi_message_in_place.specs.View.{envelope_at}
 use Rattle.atspi_match.specs.routing.BusState as state
 use Rattle.atspi_match.specs.routing.Routing.{receivers}
 use Rattle.atspi_bus_steps.specs.inner.Handing.{WentToAll}
-use Rattle.atspi_bus_steps.specs.Inner.{inner_of, state_of, call_of, parts}
+use Rattle.atspi_bus_steps.specs.InnerBus.{inner_of, state_of, call_of, parts}
 use Rattle.atspi_bus_steps.specs.Sound.{IsSound}
 use Rattle.atspi_bus_steps.specs.declared.open_call.OpenCall.{OpenCall}
 use Rattle.atspi_bus_steps.proofs.Sounds.{sound-passed}

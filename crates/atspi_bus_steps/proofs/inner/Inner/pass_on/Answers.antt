@@ -4,7 +4,7 @@ use Rattle.atspi_message_in_place.specs.View.{envelope_at}
 use Rattle.atspi_match.specs.routing.Routing.{receivers}
 use Rattle.atspi_match.specs.routing.Steps.{is_unowned}
 use Rattle.atspi_match.specs.routing.Queues.{Bus}
-use Rattle.atspi_bus_steps.specs.Inner.{state_of}
+use Rattle.atspi_bus_steps.specs.InnerBus.{state_of}
 use Rattle.atspi_bus_steps.specs.Sound.{IsSound}
 use Rattle.atspi_bus_steps.proofs.Sounds.{sound-passed}
 use Rattle.atspi_bus_steps.proofs.inner.Inner.pass_on.Goals as goal

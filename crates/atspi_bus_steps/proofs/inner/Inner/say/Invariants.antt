@@ -1,6 +1,6 @@
 use Rattle.std.proofs.Common.{length, map}
 use Rattle.atspi_message.specs.Envelope.{envelope_of}
-use Rattle.atspi_bus_steps.specs.Inner.{inner_of}
+use Rattle.atspi_bus_steps.specs.InnerBus.{inner_of}
 use Rattle.atspi_bus_steps.proofs.Said.{IsSaying}
 use Rattle.atspi_bus_steps.proofs.inner.Inner.say.Given as goal
 

@@ -5,7 +5,7 @@ use Rattle.std.proofs.lemmas.List.{map-append}
 use Rattle.atspi_message.specs.Envelope.{Envelope, envelope_of}
 use Rattle.atspi_match.specs.routing.Queues.{Bus, stepped}
 use Rattle.atspi_match.specs.routing.Steps.{speaks}
-use Rattle.atspi_bus_steps.specs.Inner.{inner_of}
+use Rattle.atspi_bus_steps.specs.InnerBus.{inner_of}
 use Rattle.atspi_bus_steps.specs.Limits.{SaysTooMuch}
 use Rattle.atspi_bus_steps.specs.declared.fault.BusFault.TheVariants.{Big}
 use Rattle.atspi_bus_steps.proofs.Said.{one_said, one_too_much}

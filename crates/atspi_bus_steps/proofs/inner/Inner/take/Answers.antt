@@ -2,7 +2,7 @@ use Rattle.std.proofs.Common.{rules, ◌≡◌, ℕ, arith, length, subst}
 use Rattle.atspi_message_in_place.specs.View.{envelope_at}
 use Rattle.atspi_match.specs.routing.Steps.{bus_takes}
 use Rattle.atspi_match.specs.routing.Queues.{stepped, settled}
-use Rattle.atspi_bus_steps.specs.Inner.{inner_of}
+use Rattle.atspi_bus_steps.specs.InnerBus.{inner_of}
 use Rattle.atspi_bus_steps.specs.Limits.{SaysTooMuch}
 use Rattle.atspi_bus_steps.proofs.Settling.{settled_rises}
 use Rattle.atspi_bus_steps.proofs.TooBig.{too_big-stepped, too_big-settled}

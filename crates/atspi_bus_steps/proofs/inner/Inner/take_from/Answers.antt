@@ -4,7 +4,7 @@ use Rattle.atspi_message.specs.Envelope.{Envelope}
 use Rattle.atspi_match.specs.declared.condition.Condition.{Condition}
 use Rattle.atspi_match.specs.routing.Steps.{takes_from_named}
 use Rattle.atspi_match.specs.routing.Queues.{stepped}
-use Rattle.atspi_bus_steps.specs.Inner.{inner_of, state_of}
+use Rattle.atspi_bus_steps.specs.InnerBus.{inner_of, state_of}
 use Rattle.atspi_bus_steps.specs.Limits.{IsTooBigToPass, SaysTooMuch}
 use Rattle.atspi_bus_steps.specs.Spoken.{IsRuleNamed}
 use Rattle.atspi_bus_steps.specs.declared.fault.BusFault.TheVariants.{Big, Spent}

@@ -1,6 +1,6 @@
 use Rattle.std.proofs.Common.{sym, ◌∙◌}
 use Rattle.atspi_message_in_place.specs.View.{envelope_at}
-use Rattle.atspi_bus_steps.specs.Inner.{inner_of}
+use Rattle.atspi_bus_steps.specs.InnerBus.{inner_of}
 use Rattle.atspi_bus_steps.proofs.InPlace.{passed-taken, told-as, none_found}
 use Rattle.atspi_bus_steps.proofs.inner.Inner.take_in_place.Goals as goal
 

@@ -1,6 +1,6 @@
 use Rattle.std.proofs.lemmas.Grind.{common_steps}
 use Rattle.std.proofs.Common.{Err, None, Some, map, refl, sym, ap, ◌∙◌, subst, arith}
-use Rattle.atspi_bus_steps.specs.Inner.{inner_of}
+use Rattle.atspi_bus_steps.specs.InnerBus.{inner_of}
 use Rattle.atspi_world_moves.proofs.Ties.{post_is}
 use Rattle.std.proofs.lemmas.Option.{get_or_from_slice_get, slice_get_within}
 use Rattle.atspi_trace.specs.Work.{name_of, not_held}

@@ -1,6 +1,6 @@
 use Rattle.std.proofs.Common.{◌≡◌, length, sym, ap, ◌∙◌, arith}
 use Rattle.std.specs.Prelude.{vec_items, take}
-use Rattle.atspi_bus_steps.specs.Inner.{inner_of}
+use Rattle.atspi_bus_steps.specs.InnerBus.{inner_of}
 use Rattle.atspi_world_parties.proofs.Queued.{written_back}
 use Rattle.atspi_world.proofs.Beginning.{begun_so, begins_as, first_as}
 use Rattle.atspi_world.proofs.stage.Stage.join_registry.Goals as goal

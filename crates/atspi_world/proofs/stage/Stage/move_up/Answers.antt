@@ -1,6 +1,6 @@
 use Rattle.std.proofs.Common.{refl, sym, ap, ◌∙◌, arith}
 use Rattle.std.proofs.lemmas.Result.{on_ok_weaker}
-use Rattle.atspi_bus_steps.specs.Inner.{inner_of}
+use Rattle.atspi_bus_steps.specs.InnerBus.{inner_of}
 use Rattle.atspi_world_links.specs.declared.post.Post.{Post}
 use Rattle.atspi_world_moves.proofs.Ties.{post_is, post_below}
 use Rattle.atspi_world.proofs.Moved.{stopped_is, up_here, up_stopped, up_stopped_none, up_away}

@@ -1,7 +1,7 @@
 use Rattle.std.proofs.Common.{map, arith, refl, ap, ◌∙◌}
 use Rattle.std.specs.Prelude.{slice_get}
 use Rattle.std.proofs.lemmas.Result.{on_ok_weaker}
-use Rattle.atspi_bus_steps.specs.Inner.{inner_of}
+use Rattle.atspi_bus_steps.specs.InnerBus.{inner_of}
 use Rattle.atspi_world_moves.proofs.Ties.{post_is, post_below}
 use Rattle.atspi_script_lines.specs.declared.line.Party.TheVariants.{App}
 use Rattle.atspi_world_parties.specs.Shown.{shown_by}

@@ -1,5 +1,5 @@
 use Rattle.std.proofs.Common.{[], ◌∷◌, ◌++◌, set, refl, sym, ap, ◌∙◌}
-use Rattle.atspi_bus_steps.specs.Inner.{inner_of}
+use Rattle.atspi_bus_steps.specs.InnerBus.{inner_of}
 use Rattle.atspi_trace_events.specs.declared.event.Event.TheVariants.{Exit}
 use Rattle.atspi_world_links.specs.declared.post.Post.{Post}
 use Rattle.atspi_world_moves.proofs.Linked.{exited_linked}

@@ -1,5 +1,5 @@
 use Rattle.std.proofs.Common.{sym, arith}
-use Rattle.atspi_bus_steps.specs.Inner.{inner_of}
+use Rattle.atspi_bus_steps.specs.InnerBus.{inner_of}
 use Rattle.atspi_world_moves.proofs.Beginning.{gave_none}
 use Rattle.atspi_world_moves.proofs.Coming.{none_there, one_there, some_there}
 use Rattle.atspi_world_moves.proofs.carrier.Carrier.fill.Goals as goal

@@ -1,5 +1,5 @@
 use Rattle.std.proofs.Common.{◌≡◌, ◌≤◌, drop, length, min}
-use Rattle.atspi_bus_steps.specs.Inner.{inner_of}
+use Rattle.atspi_bus_steps.specs.InnerBus.{inner_of}
 use Rattle.atspi_world_moves.specs.Waits.{first_down}
 use Rattle.atspi_world_moves.proofs.carrier.Carrier.first_down.Given as goal
 

@@ -1,6 +1,6 @@
 use Rattle.std.proofs.Common.{◌≡◌, ◌≤◌, [], ◌∷◌, ◌++◌, length, ap, ◌∙◌, arith}
 use Rattle.atspi_match.specs.routing.Queues as queues
-use Rattle.atspi_bus_steps.specs.Inner.{inner_of}
+use Rattle.atspi_bus_steps.specs.InnerBus.{inner_of}
 use Rattle.atspi_trace.specs.World.{newcomer}
 use Rattle.atspi_world_moves.specs.Carried.{post_of}
 use Rattle.atspi_world_moves.proofs.Ties.{joined, new_post}

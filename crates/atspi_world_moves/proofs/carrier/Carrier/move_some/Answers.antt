@@ -1,5 +1,5 @@
 use Rattle.std.proofs.Common.{Err, refl, ap, arith}
-use Rattle.atspi_bus_steps.specs.Inner.{inner_of}
+use Rattle.atspi_bus_steps.specs.InnerBus.{inner_of}
 use Rattle.atspi_world_moves.specs.declared.fault.CarryFault.TheVariants.{Spent, RegistryLost}
 use Rattle.atspi_world_moves.proofs.Rounds.{no_post, nothing_lacks, lack_none, few_moved, first_lost, first_spent, one_completed}
 use Rattle.atspi_world_moves.proofs.Stopping.{same_fault}

@@ -1,5 +1,5 @@
 use Rattle.std.proofs.Common.{Err, ap, arith}
-use Rattle.atspi_bus_steps.specs.Inner.{inner_of}
+use Rattle.atspi_bus_steps.specs.InnerBus.{inner_of}
 use Rattle.atspi_world_moves.specs.declared.fault.CarryFault.TheVariants.{Spent, RegistryLost}
 use Rattle.atspi_world_moves.proofs.Rounds.{not_yet, round_more, round_last, round_lost, round_spent, at_end}
 use Rattle.atspi_world_moves.proofs.Stopping.{same_fault}

@@ -1,5 +1,5 @@
 use Rattle.std.proofs.Common.{◌+◌, ◌≤◌}
-use Rattle.atspi_bus_steps.specs.Inner.{inner_of, state_of}
+use Rattle.atspi_bus_steps.specs.InnerBus.{inner_of, state_of}
 use Rattle.atspi_bus_steps.specs.Sound.{IsSound}
 use Rattle.atspi_trace.specs.World.{World}
 use Rattle.atspi_world_moves.specs.Carried.{IsCarried}

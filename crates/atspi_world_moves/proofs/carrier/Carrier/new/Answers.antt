@@ -1,4 +1,4 @@
-use Rattle.atspi_bus_steps.specs.Inner.{inner_of}
+use Rattle.atspi_bus_steps.specs.InnerBus.{inner_of}
 use Rattle.atspi_world_moves.proofs.Buses.{sound-empty}
 use Rattle.atspi_world_moves.proofs.carrier.Carrier.new.Goals as goal
 

@@ -3,7 +3,7 @@ use Rattle.std.specs.Prelude.{option_to_list}
 use Rattle.atspi_message.specs.Envelope.{Envelope, envelope_of}
 use Rattle.atspi_script_lines.specs.declared.line.Party.TheVariants.{Registry}
 use Rattle.atspi_match.specs.routing.Queues.{Bus}
-use Rattle.atspi_bus_steps.specs.Inner.{inner_of}
+use Rattle.atspi_bus_steps.specs.InnerBus.{inner_of}
 use Rattle.atspi_bus_steps.specs.Sound.{IsSound}
 use Rattle.atspi_trace.specs.Entry.{entries_of}
 use Rattle.atspi_trace.specs.Ends.{same_party}

@@ -1,6 +1,6 @@
 use Rattle.std.proofs.Common.{◌≡◌, ◌++◌, [], None, length, map}
 use Rattle.atspi_trace.specs.Entry.{entries_of}
-use Rattle.atspi_bus_steps.specs.Inner.{inner_of, state_of}
+use Rattle.atspi_bus_steps.specs.InnerBus.{inner_of, state_of}
 use Rattle.atspi_bus_steps.specs.Sound.{IsSound}
 use Rattle.atspi_world_moves.specs.Halted.{AreNamedAs}
 use Rattle.atspi_world_moves.specs.inner.Told.{ahead, AreOthers, all_emptied, all_gone, bus_told, whose}
