@@ -1,7 +1,7 @@
 //! Why a line is not done, and the line that tells it.
 
 ghost use Rattle.std.specs.Prelude.{◌≡◌, ◌∷◌, ◌++◌, ℕ, [], List, None, Some, codes};
-ghost use Rattle.atspi_app.specs.declared.fault.AppFault.TheVariants as app;
+ghost use Rattle.atspi_app_known.specs.declared.application.fault.AppFault.TheVariants as app;
 ghost use Rattle.atspi_script_lines.specs.declared.line.LineFault.TheVariants as faults;
 ghost use Rattle.atspi_message.specs.Envelope.{Envelope};
 ghost use Rattle.atspi_protocol.specs.declared.ends.fault.EndFault.TheVariants as ends;
