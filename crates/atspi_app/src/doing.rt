@@ -26,12 +26,18 @@ impl App {
     ) -> Result<(), EndFault>
         requires done { CanBeDone steps.now }
         requires app { ⟦<App as Application>⟧.is_app self.old }
-        requires apply { AllApply rows (⟦<App as Application>⟧.exporter self.old).tree (⟦<App as Application>⟧.exporter self.old).added steps.now }
+        requires apply { AllApply rows (⟦<App as Application>⟧.exporter self.old).tree
+            (⟦<App as Application>⟧.exporter self.old).added steps.now }
         ensures app { ⟦<App as Application>⟧.is_app self.new }
-        ensures ok { OnOk result (⟦<App as Application>⟧.exporter self.new ≡ queues (stepped (⟦<App as Application>⟧.exporter self.old) steps.now) (happened told.old)) }
+        ensures ok { OnOk result
+            (⟦<App as Application>⟧.exporter self.new
+            ≡ queues (stepped (⟦<App as Application>⟧.exporter self.old) steps.now) (happened told.old)) }
         ensures numbered { OnOk result (is_spent (⟦<App as Application>⟧.exporter self.new) ≡ false) }
-        ensures spent { IsErrOf result EndFault.Spent → is_spent (queues (stepped (⟦<App as Application>⟧.exporter self.old) steps.now) (happened told.old)) ≡ true }
-        ensures err { OnErr result (⟦<App as Application>⟧.exporter self.new ≡ ⟦<App as Application>⟧.exporter self.old) }
+        ensures spent { IsErrOf result EndFault.Spent
+            → is_spent (queues (stepped (⟦<App as Application>⟧.exporter self.old) steps.now) (happened told.old))
+            ≡ true }
+        ensures err { OnErr result
+            (⟦<App as Application>⟧.exporter self.new ≡ ⟦<App as Application>⟧.exporter self.old) }
     {
         match self.known.reserve(told) {
             Ok(()) => match self.do_in_room(steps, told) {
@@ -47,11 +53,15 @@ impl App {
         requires room { HasRoom self.old.known.queue told.old }
         requires done { CanBeDone steps.now }
         requires app { ⟦<App as Application>⟧.is_app self.old }
-        requires apply { AllApply rows (⟦<App as Application>⟧.exporter self.old).tree (⟦<App as Application>⟧.exporter self.old).added steps.now }
+        requires apply { AllApply rows (⟦<App as Application>⟧.exporter self.old).tree
+            (⟦<App as Application>⟧.exporter self.old).added steps.now }
         ensures app { ⟦<App as Application>⟧.is_app self.new }
-        ensures ok { OnOk result (⟦<App as Application>⟧.exporter self.new ≡ queues (stepped (⟦<App as Application>⟧.exporter self.old) steps.now) (happened told.old)) }
+        ensures ok { OnOk result
+            (⟦<App as Application>⟧.exporter self.new
+            ≡ queues (stepped (⟦<App as Application>⟧.exporter self.old) steps.now) (happened told.old)) }
         ensures numbered { OnOk result (is_spent (⟦<App as Application>⟧.exporter self.new) ≡ false) }
-        ensures err { OnErr result (⟦<App as Application>⟧.exporter self.new ≡ ⟦<App as Application>⟧.exporter self.old) }
+        ensures err { OnErr result
+            (⟦<App as Application>⟧.exporter self.new ≡ ⟦<App as Application>⟧.exporter self.old) }
     {
         match self.exported.apply_call(steps) {
             Ok(()) => {

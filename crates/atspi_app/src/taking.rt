@@ -27,7 +27,9 @@ impl App {
     /// What a call comes to.
     fn called(&self, alloc: Global, call: &MessageRef<'_>) -> Result<Called, NoMemory>
         requires { ⟦<App as Application>⟧.is_app self.now }
-        ensures comes { IfOk result (λ c. answer_to (⟦<App as Application>⟧.exporter self.now) (name_or_empty self.now.known.name) (envelope_at call.now) ≡ answer_of c) }
+        ensures comes { IfOk result
+            (λ c. answer_to (⟦<App as Application>⟧.exporter self.now) (name_or_empty self.now.known.name)
+            (envelope_at call.now) ≡ answer_of c) }
         ensures done { IfOk result (λ c. CanBeDone c.steps) }
     {
         let bus = own_name(alloc, &self.known)?;
@@ -48,12 +50,20 @@ impl App {
     fn do_call(&mut self, steps: &StepList, id: i32, told: &mut Happenings) -> Result<(), EndFault>
         requires done { CanBeDone steps.now }
         requires app { ⟦<App as Application>⟧.is_app self.old }
-        requires apply { AllApply rows (⟦<App as Application>⟧.exporter self.old).tree (⟦<App as Application>⟧.exporter self.old).added steps.now }
+        requires apply { AllApply rows (⟦<App as Application>⟧.exporter self.old).tree
+            (⟦<App as Application>⟧.exporter self.old).added steps.now }
         ensures app { ⟦<App as Application>⟧.is_app self.new }
-        ensures ok { OnOk result ((⟦<App as Application>⟧.exporter self.new) ≡ queues (record (stepped (⟦<App as Application>⟧.exporter self.old) steps.now) { id = id }) (happened told.old)) }
+        ensures ok { OnOk result
+            ((⟦<App as Application>⟧.exporter self.new)
+            ≡ queues (record (stepped (⟦<App as Application>⟧.exporter self.old) steps.now) { id = id })
+            (happened told.old)) }
         ensures numbered { OnOk result (is_spent (⟦<App as Application>⟧.exporter self.new) ≡ false) }
-        ensures spent { IsErrOf result EndFault.Spent → is_spent (queues (record (stepped (⟦<App as Application>⟧.exporter self.old) steps.now) { id = id }) (happened told.old)) ≡ true }
-        ensures err { OnErr result ((⟦<App as Application>⟧.exporter self.new) ≡ (⟦<App as Application>⟧.exporter self.old)) }
+        ensures spent { IsErrOf result EndFault.Spent
+            → is_spent
+            (queues (record (stepped (⟦<App as Application>⟧.exporter self.old) steps.now) { id = id })
+            (happened told.old)) ≡ true }
+        ensures err { OnErr result
+            ((⟦<App as Application>⟧.exporter self.new) ≡ (⟦<App as Application>⟧.exporter self.old)) }
     {
         match self.do_steps(steps, told) {
             Ok(()) => {
@@ -68,14 +78,19 @@ impl App {
     /// made before the first step is done.
     fn settle(&mut self, alloc: Global, call: &MessageRef<'_>, what: Called) -> Result<(), EndFault>
         requires answered { is_answered (⟦<App as Application>⟧.exporter self.old) (envelope_at call.now) ≡ true }
-        requires comes { answer_to (⟦<App as Application>⟧.exporter self.old) (name_or_empty self.old.known.name) (envelope_at call.now) ≡ answer_of what }
+        requires comes { answer_to (⟦<App as Application>⟧.exporter self.old) (name_or_empty self.old.known.name)
+            (envelope_at call.now) ≡ answer_of what }
         requires done { CanBeDone what.steps }
         requires app { ⟦<App as Application>⟧.is_app self.old }
         ensures app { ⟦<App as Application>⟧.is_app self.new }
-        ensures ok { OnOk result ((⟦<App as Application>⟧.exporter self.new) ≡ app_takes (⟦<App as Application>⟧.exporter self.old) (envelope_at call.now)) }
+        ensures ok { OnOk result
+            ((⟦<App as Application>⟧.exporter self.new)
+            ≡ app_takes (⟦<App as Application>⟧.exporter self.old) (envelope_at call.now)) }
         ensures numbered { OnOk result (is_spent (⟦<App as Application>⟧.exporter self.new) ≡ false) }
-        ensures spent { IsErrOf result EndFault.Spent → is_spent (app_takes (⟦<App as Application>⟧.exporter self.old) (envelope_at call.now)) ≡ true }
-        ensures err { OnErr result ((⟦<App as Application>⟧.exporter self.new) ≡ (⟦<App as Application>⟧.exporter self.old)) }
+        ensures spent { IsErrOf result EndFault.Spent
+            → is_spent (app_takes (⟦<App as Application>⟧.exporter self.old) (envelope_at call.now)) ≡ true }
+        ensures err { OnErr result
+            ((⟦<App as Application>⟧.exporter self.new) ≡ (⟦<App as Application>⟧.exporter self.old)) }
     {
         let Called { reply, steps, id } = what;
         match told_of_call(
@@ -99,10 +114,14 @@ impl App {
         requires answered { is_answered (⟦<App as Application>⟧.exporter self.old) (envelope_at call.now) ≡ true }
         requires app { ⟦<App as Application>⟧.is_app self.old }
         ensures app { ⟦<App as Application>⟧.is_app self.new }
-        ensures ok { OnOk result ((⟦<App as Application>⟧.exporter self.new) ≡ app_takes (⟦<App as Application>⟧.exporter self.old) (envelope_at call.now)) }
+        ensures ok { OnOk result
+            ((⟦<App as Application>⟧.exporter self.new)
+            ≡ app_takes (⟦<App as Application>⟧.exporter self.old) (envelope_at call.now)) }
         ensures numbered { OnOk result (is_spent (⟦<App as Application>⟧.exporter self.new) ≡ false) }
-        ensures spent { IsErrOf result EndFault.Spent → is_spent (app_takes (⟦<App as Application>⟧.exporter self.old) (envelope_at call.now)) ≡ true }
-        ensures err { OnErr result ((⟦<App as Application>⟧.exporter self.new) ≡ (⟦<App as Application>⟧.exporter self.old)) }
+        ensures spent { IsErrOf result EndFault.Spent
+            → is_spent (app_takes (⟦<App as Application>⟧.exporter self.old) (envelope_at call.now)) ≡ true }
+        ensures err { OnErr result
+            ((⟦<App as Application>⟧.exporter self.new) ≡ (⟦<App as Application>⟧.exporter self.old)) }
     {
         match self.called(alloc, call) {
             Ok(what) => self.settle(alloc, call, what),

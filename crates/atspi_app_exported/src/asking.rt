@@ -31,7 +31,8 @@ impl Exported {
     /// A node's text; no actions where it has none.
     fn text_of(&self, alloc: Global, node: u32) -> Result<FaceData, NoMemory>
         requires { ⟦<Exported as Exports>⟧.is_exported self.now }
-        ensures text { IfOk result (λ what. what ≡ text_contents (find (is_node node) (whole_of (⟦<Exported as Exports>⟧.parts self.now)))) }
+        ensures text { IfOk result
+            (λ what. what ≡ text_contents (find (is_node node) (whole_of (⟦<Exported as Exports>⟧.parts self.now)))) }
         ensures known { IfOk result IsKnown }
     {
         if self.tree.has(node) {
@@ -44,7 +45,8 @@ impl Exported {
     fn text_if(&self, alloc: Global, node: u32) -> Result<FaceData, NoMemory>
         requires there { has (is_shape node) (⟦<Exported as Exports>⟧.parts self.now).tree.rows ≡ true }
         requires exported { ⟦<Exported as Exports>⟧.is_exported self.now }
-        ensures text { IfOk result (λ what. what ≡ text_contents (find (is_node node) (whole_of (⟦<Exported as Exports>⟧.parts self.now)))) }
+        ensures text { IfOk result
+            (λ what. what ≡ text_contents (find (is_node node) (whole_of (⟦<Exported as Exports>⟧.parts self.now)))) }
         ensures known { IfOk result IsKnown }
     {
         if self.tree.kinds(node).text {
@@ -56,7 +58,8 @@ impl Exported {
     /// A node's actions; none where it has none.
     fn actions_of(&self, alloc: Global, node: u32) -> Result<FaceData, NoMemory>
         requires { ⟦<Exported as Exports>⟧.is_exported self.now }
-        ensures actions { IfOk result (λ what. what ≡ action_contents (find (is_node node) (whole_of (⟦<Exported as Exports>⟧.parts self.now)))) }
+        ensures actions { IfOk result
+            (λ what. what ≡ action_contents (find (is_node node) (whole_of (⟦<Exported as Exports>⟧.parts self.now)))) }
         ensures known { IfOk result IsKnown }
     {
         if self.tree.has(node) {
@@ -69,7 +72,8 @@ impl Exported {
     fn actions_if(&self, alloc: Global, node: u32) -> Result<FaceData, NoMemory>
         requires there { has (is_shape node) (⟦<Exported as Exports>⟧.parts self.now).tree.rows ≡ true }
         requires exported { ⟦<Exported as Exports>⟧.is_exported self.now }
-        ensures actions { IfOk result (λ what. what ≡ action_contents (find (is_node node) (whole_of (⟦<Exported as Exports>⟧.parts self.now)))) }
+        ensures actions { IfOk result
+            (λ what. what ≡ action_contents (find (is_node node) (whole_of (⟦<Exported as Exports>⟧.parts self.now)))) }
         ensures known { IfOk result IsKnown }
     {
         if self.tree.kinds(node).action {
@@ -81,7 +85,8 @@ impl Exported {
     /// The contents that an edit reads.
     fn known_to(&self, alloc: Global, edit: &Edit) -> Result<FaceData, NoMemory>
         requires { ⟦<Exported as Exports>⟧.is_exported self.now }
-        ensures read { IfOk result (λ what. what ≡ contents_read (whole_of (⟦<Exported as Exports>⟧.parts self.now)) edit.now) }
+        ensures read { IfOk result
+            (λ what. what ≡ contents_read (whole_of (⟦<Exported as Exports>⟧.parts self.now)) edit.now) }
         ensures known { IfOk result IsKnown }
     {
         match edit {
@@ -101,8 +106,12 @@ impl Exported {
     pub fn steps(&self, alloc: Global, edit: &Edit) -> Result<StepList, EditRefused>
         requires lawful { IsEdit edit.now }
         requires exported { ⟦<Exported as Exports>⟧.is_exported self.now }
-        ensures exact { AnswersSteps result (steps_of_tree (whole_of (⟦<Exported as Exports>⟧.parts self.now)) (⟦<Exported as Exports>⟧.parts self.now).tree.added edit.now) }
-        ensures apply { IfOk result (AllApply rows (whole_of (⟦<Exported as Exports>⟧.parts self.now)) (⟦<Exported as Exports>⟧.parts self.now).tree.added) }
+        ensures exact { AnswersSteps result
+            (steps_of_tree (whole_of (⟦<Exported as Exports>⟧.parts self.now))
+            (⟦<Exported as Exports>⟧.parts self.now).tree.added edit.now) }
+        ensures apply { IfOk result
+            (AllApply rows (whole_of (⟦<Exported as Exports>⟧.parts self.now))
+            (⟦<Exported as Exports>⟧.parts self.now).tree.added) }
         ensures one { IfOk result AreOne }
     {
         let known = self.known_to(alloc, edit)?;

@@ -20,7 +20,8 @@ pub(crate) fn close<F: Face, G: Face, H: Face>(
     ensures texts { F.nodes chars.new ≡ fin_map.remove (F.nodes chars.old) node }
     ensures columns { G.nodes grid.new ≡ fin_map.remove (G.nodes grid.old) node }
     ensures actions { H.nodes deeds.new ≡ fin_map.remove (H.nodes deeds.old) node }
-    ensures kinds { kinds_of (F.of_kind chars.new) (G.of_kind grid.new) (H.of_kind deeds.new) ≡ kinds_of (F.of_kind chars.old) (G.of_kind grid.old) (H.of_kind deeds.old) }
+    ensures kinds { kinds_of (F.of_kind chars.new) (G.of_kind grid.new) (H.of_kind deeds.new)
+        ≡ kinds_of (F.of_kind chars.old) (G.of_kind grid.old) (H.of_kind deeds.old) }
 {
     chars.drop_node(node);
     grid.drop_node(node);
@@ -36,10 +37,14 @@ pub(crate) fn close_subtree<F: Face, G: Face, H: Face>(
     deeds: &mut H,
 )
     requires { has (is_shape node) tree.now.rows ≡ true }
-    ensures texts { F.nodes chars.new ≡ without (map (λ row. row.node) (labels (pick (is_shape node) tree.now.rows))) (F.nodes chars.old) }
-    ensures columns { G.nodes grid.new ≡ without (map (λ row. row.node) (labels (pick (is_shape node) tree.now.rows))) (G.nodes grid.old) }
-    ensures actions { H.nodes deeds.new ≡ without (map (λ row. row.node) (labels (pick (is_shape node) tree.now.rows))) (H.nodes deeds.old) }
-    ensures kinds { kinds_of (F.of_kind chars.new) (G.of_kind grid.new) (H.of_kind deeds.new) ≡ kinds_of (F.of_kind chars.old) (G.of_kind grid.old) (H.of_kind deeds.old) }
+    ensures texts { F.nodes chars.new
+        ≡ without (map (λ row. row.node) (labels (pick (is_shape node) tree.now.rows))) (F.nodes chars.old) }
+    ensures columns { G.nodes grid.new
+        ≡ without (map (λ row. row.node) (labels (pick (is_shape node) tree.now.rows))) (G.nodes grid.old) }
+    ensures actions { H.nodes deeds.new
+        ≡ without (map (λ row. row.node) (labels (pick (is_shape node) tree.now.rows))) (H.nodes deeds.old) }
+    ensures kinds { kinds_of (F.of_kind chars.new) (G.of_kind grid.new) (H.of_kind deeds.new)
+        ≡ kinds_of (F.of_kind chars.old) (G.of_kind grid.old) (H.of_kind deeds.old) }
 {
     tree.is_lawful();
     close(chars, grid, deeds, node);

@@ -22,7 +22,8 @@ fn copy_node<F: Face, G: Face>(
     requires there { IsSome (map.get (F.nodes from.now) node) }
     requires fresh { map.get (G.nodes to.old) node ≡ None }
     requires kind { G.of_kind to.old ≡ F.of_kind from.now }
-    ensures ok { OnOk result (IfSome (map.get (F.nodes from.now) node) (λ what. G.nodes to.new ≡ map.insert (G.nodes to.old) node what)) }
+    ensures ok { OnOk result
+        (IfSome (map.get (F.nodes from.now) node) (λ what. G.nodes to.new ≡ map.insert (G.nodes to.old) node what)) }
     ensures err { OnErr result (G.nodes to.new ≡ G.nodes to.old) }
     ensures kind { G.of_kind to.new ≡ G.of_kind to.old }
 {
@@ -114,7 +115,8 @@ impl Exported {
         requires empty { IsEmpty (nodes new) }
         ensures same { ⟦<Exported as Exports>⟧.parts self.new ≡ ⟦<Exported as Exports>⟧.parts self.old }
         ensures kinds { ⟦<Exported as Exports>⟧.kinds self.new ≡ ⟦<Exported as Exports>⟧.kinds self.old }
-        ensures old { IfOk result (λ old. nodes old ≡ kept_by (of_kind new) (⟦<Exported as Exports>⟧.parts self.old).faces) }
+        ensures old { IfOk result
+            (λ old. nodes old ≡ kept_by (of_kind new) (⟦<Exported as Exports>⟧.parts self.old).faces) }
         ensures old_kind { IfOk result (λ old. of_kind old ≡ of_kind new) }
         ensures back { IfErr result (λ back. IsEmpty (nodes back.0)) }
         ensures back_kind { IfErr result (λ back. of_kind back.0 ≡ of_kind new) }

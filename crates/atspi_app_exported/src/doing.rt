@@ -21,9 +21,11 @@ impl Exported {
     /// A new node.
     fn add(&mut self, step: &Step, node: u32, seed: &Seed) -> Result<(), NoMemory>
         requires exported { ⟦<Exported as Exports>⟧.is_exported self.old }
-        requires applies { Applies rows (whole_of (⟦<Exported as Exports>⟧.parts self.old)) (⟦<Exported as Exports>⟧.parts self.old).tree.added step.now }
+        requires applies { Applies rows (whole_of (⟦<Exported as Exports>⟧.parts self.old))
+            (⟦<Exported as Exports>⟧.parts self.old).tree.added step.now }
         requires is { IsAdd step.now node seed.now }
-        ensures ok { OnOk result (⟦<Exported as Exports>⟧.parts self.new ≡ after_parts (⟦<Exported as Exports>⟧.parts self.old) step.now) }
+        ensures ok { OnOk result
+            (⟦<Exported as Exports>⟧.parts self.new ≡ after_parts (⟦<Exported as Exports>⟧.parts self.old) step.now) }
         ensures err { OnErr result (⟦<Exported as Exports>⟧.parts self.new ≡ ⟦<Exported as Exports>⟧.parts self.old) }
         ensures kinds { ⟦<Exported as Exports>⟧.kinds self.new ≡ ⟦<Exported as Exports>⟧.kinds self.old }
     {
@@ -49,8 +51,10 @@ impl Exported {
     /// A node goes, with all that is below it. Takes no memory.
     fn remove(&mut self, node: u32)
         requires exported { ⟦<Exported as Exports>⟧.is_exported self.old }
-        requires applies { Applies rows (whole_of (⟦<Exported as Exports>⟧.parts self.old)) (⟦<Exported as Exports>⟧.parts self.old).tree.added (Remove node) }
-        ensures ok { ⟦<Exported as Exports>⟧.parts self.new ≡ after_parts (⟦<Exported as Exports>⟧.parts self.old) (Remove node) }
+        requires applies { Applies rows (whole_of (⟦<Exported as Exports>⟧.parts self.old))
+            (⟦<Exported as Exports>⟧.parts self.old).tree.added (Remove node) }
+        ensures ok { ⟦<Exported as Exports>⟧.parts self.new
+            ≡ after_parts (⟦<Exported as Exports>⟧.parts self.old) (Remove node) }
         ensures kinds { ⟦<Exported as Exports>⟧.kinds self.new ≡ ⟦<Exported as Exports>⟧.kinds self.old }
     {
         let kit = &mut self.kit;
@@ -68,8 +72,10 @@ impl Exported {
     fn change(&mut self, step: &Step) -> Result<(), NoMemory>
         requires of_text { IsOfText step.now }
         requires exported { ⟦<Exported as Exports>⟧.is_exported self.old }
-        requires applies { Applies rows (whole_of (⟦<Exported as Exports>⟧.parts self.old)) (⟦<Exported as Exports>⟧.parts self.old).tree.added step.now }
-        ensures ok { OnOk result (⟦<Exported as Exports>⟧.parts self.new ≡ after_parts (⟦<Exported as Exports>⟧.parts self.old) step.now) }
+        requires applies { Applies rows (whole_of (⟦<Exported as Exports>⟧.parts self.old))
+            (⟦<Exported as Exports>⟧.parts self.old).tree.added step.now }
+        ensures ok { OnOk result
+            (⟦<Exported as Exports>⟧.parts self.new ≡ after_parts (⟦<Exported as Exports>⟧.parts self.old) step.now) }
         ensures err { OnErr result (⟦<Exported as Exports>⟧.parts self.new ≡ ⟦<Exported as Exports>⟧.parts self.old) }
         ensures cause { OnErr result (TakesMemory step.now) }
         ensures kinds { ⟦<Exported as Exports>⟧.kinds self.new ≡ ⟦<Exported as Exports>⟧.kinds self.old }
@@ -81,8 +87,10 @@ impl Exported {
     fn reshape(&mut self, step: &Step) -> Result<(), NoMemory>
         requires of_shape { IsOfShape step.now }
         requires exported { ⟦<Exported as Exports>⟧.is_exported self.old }
-        requires applies { Applies rows (whole_of (⟦<Exported as Exports>⟧.parts self.old)) (⟦<Exported as Exports>⟧.parts self.old).tree.added step.now }
-        ensures ok { OnOk result (⟦<Exported as Exports>⟧.parts self.new ≡ after_parts (⟦<Exported as Exports>⟧.parts self.old) step.now) }
+        requires applies { Applies rows (whole_of (⟦<Exported as Exports>⟧.parts self.old))
+            (⟦<Exported as Exports>⟧.parts self.old).tree.added step.now }
+        ensures ok { OnOk result
+            (⟦<Exported as Exports>⟧.parts self.new ≡ after_parts (⟦<Exported as Exports>⟧.parts self.old) step.now) }
         ensures err { OnErr result (⟦<Exported as Exports>⟧.parts self.new ≡ ⟦<Exported as Exports>⟧.parts self.old) }
         ensures cause { OnErr result (TakesMemory step.now) }
         ensures kinds { ⟦<Exported as Exports>⟧.kinds self.new ≡ ⟦<Exported as Exports>⟧.kinds self.old }
@@ -99,8 +107,10 @@ impl Exported {
     /// The same by the kind of the step.
     fn do_step(&mut self, step: &Step) -> Result<(), NoMemory>
         requires exported { ⟦<Exported as Exports>⟧.is_exported self.old }
-        requires applies { Applies rows (whole_of (⟦<Exported as Exports>⟧.parts self.old)) (⟦<Exported as Exports>⟧.parts self.old).tree.added step.now }
-        ensures ok { OnOk result (⟦<Exported as Exports>⟧.parts self.new ≡ after_parts (⟦<Exported as Exports>⟧.parts self.old) step.now) }
+        requires applies { Applies rows (whole_of (⟦<Exported as Exports>⟧.parts self.old))
+            (⟦<Exported as Exports>⟧.parts self.old).tree.added step.now }
+        ensures ok { OnOk result
+            (⟦<Exported as Exports>⟧.parts self.new ≡ after_parts (⟦<Exported as Exports>⟧.parts self.old) step.now) }
         ensures err { OnErr result (⟦<Exported as Exports>⟧.parts self.new ≡ ⟦<Exported as Exports>⟧.parts self.old) }
         ensures cause { OnErr result (TakesMemory step.now) }
         ensures kinds { ⟦<Exported as Exports>⟧.kinds self.new ≡ ⟦<Exported as Exports>⟧.kinds self.old }
@@ -128,10 +138,15 @@ impl Exported {
     /// none. A removal costs the nodes that go.
     pub fn apply(&mut self, step: &Step) -> Result<(), NoMemory>
         requires exported { ⟦<Exported as Exports>⟧.is_exported self.old }
-        requires applies { Applies rows (whole_of (⟦<Exported as Exports>⟧.parts self.old)) (⟦<Exported as Exports>⟧.parts self.old).tree.added step.now }
+        requires applies { Applies rows (whole_of (⟦<Exported as Exports>⟧.parts self.old))
+            (⟦<Exported as Exports>⟧.parts self.old).tree.added step.now }
         ensures exported { ⟦<Exported as Exports>⟧.is_exported self.new }
-        ensures ok { OnOk result (whole_of (⟦<Exported as Exports>⟧.parts self.new) ≡ after rows (whole_of (⟦<Exported as Exports>⟧.parts self.old)) step.now) }
-        ensures added { OnOk result ((⟦<Exported as Exports>⟧.parts self.new).tree.added ≡ added_after (⟦<Exported as Exports>⟧.parts self.old).tree.added step.now) }
+        ensures ok { OnOk result
+            (whole_of (⟦<Exported as Exports>⟧.parts self.new)
+            ≡ after rows (whole_of (⟦<Exported as Exports>⟧.parts self.old)) step.now) }
+        ensures added { OnOk result
+            ((⟦<Exported as Exports>⟧.parts self.new).tree.added
+            ≡ added_after (⟦<Exported as Exports>⟧.parts self.old).tree.added step.now) }
         ensures err { OnErr result (⟦<Exported as Exports>⟧.parts self.new ≡ ⟦<Exported as Exports>⟧.parts self.old) }
         ensures cause { OnErr result (TakesMemory step.now) }
     {
@@ -142,10 +157,15 @@ impl Exported {
     pub fn apply_all(&mut self, steps: &StepList) -> Result<(), NoMemory>
         requires one { AreOne steps.now }
         requires exported { ⟦<Exported as Exports>⟧.is_exported self.old }
-        requires apply { AllApply rows (whole_of (⟦<Exported as Exports>⟧.parts self.old)) (⟦<Exported as Exports>⟧.parts self.old).tree.added steps.now }
+        requires apply { AllApply rows (whole_of (⟦<Exported as Exports>⟧.parts self.old))
+            (⟦<Exported as Exports>⟧.parts self.old).tree.added steps.now }
         ensures exported { ⟦<Exported as Exports>⟧.is_exported self.new }
-        ensures ok { OnOk result (whole_of (⟦<Exported as Exports>⟧.parts self.new) ≡ after_all rows (whole_of (⟦<Exported as Exports>⟧.parts self.old)) steps.now) }
-        ensures added { OnOk result ((⟦<Exported as Exports>⟧.parts self.new).tree.added ≡ added_all (⟦<Exported as Exports>⟧.parts self.old).tree.added steps.now) }
+        ensures ok { OnOk result
+            (whole_of (⟦<Exported as Exports>⟧.parts self.new)
+            ≡ after_all rows (whole_of (⟦<Exported as Exports>⟧.parts self.old)) steps.now) }
+        ensures added { OnOk result
+            ((⟦<Exported as Exports>⟧.parts self.new).tree.added
+            ≡ added_all (⟦<Exported as Exports>⟧.parts self.old).tree.added steps.now) }
         ensures err { OnErr result (⟦<Exported as Exports>⟧.parts self.new ≡ ⟦<Exported as Exports>⟧.parts self.old) }
     {
         let list = steps.as_slice();

@@ -30,10 +30,15 @@ impl Exported {
         requires are { steps.now ≡ Delete node at gone.now ∷ Insert into to text.now ∷ [] }
         requires done { CanBeDone steps.now }
         requires exported { ⟦<Exported as Exports>⟧.is_exported self.old }
-        requires apply { AllApply rows (whole_of (⟦<Exported as Exports>⟧.parts self.old)) (⟦<Exported as Exports>⟧.parts self.old).tree.added steps.now }
+        requires apply { AllApply rows (whole_of (⟦<Exported as Exports>⟧.parts self.old))
+            (⟦<Exported as Exports>⟧.parts self.old).tree.added steps.now }
         ensures exported { ⟦<Exported as Exports>⟧.is_exported self.new }
-        ensures ok { OnOk result (whole_of (⟦<Exported as Exports>⟧.parts self.new) ≡ after_all rows (whole_of (⟦<Exported as Exports>⟧.parts self.old)) steps.now) }
-        ensures added { OnOk result ((⟦<Exported as Exports>⟧.parts self.new).tree.added ≡ added_all (⟦<Exported as Exports>⟧.parts self.old).tree.added steps.now) }
+        ensures ok { OnOk result
+            (whole_of (⟦<Exported as Exports>⟧.parts self.new)
+            ≡ after_all rows (whole_of (⟦<Exported as Exports>⟧.parts self.old)) steps.now) }
+        ensures added { OnOk result
+            ((⟦<Exported as Exports>⟧.parts self.new).tree.added
+            ≡ added_all (⟦<Exported as Exports>⟧.parts self.old).tree.added steps.now) }
         ensures err { OnErr result (⟦<Exported as Exports>⟧.parts self.new ≡ ⟦<Exported as Exports>⟧.parts self.old) }
     {
         let _ = steps;
@@ -58,10 +63,15 @@ impl Exported {
         requires are { steps.now ≡ Caret of caret ∷ Delete node at gone.now ∷ Insert into to text.now ∷ [] }
         requires done { CanBeDone steps.now }
         requires exported { ⟦<Exported as Exports>⟧.is_exported self.old }
-        requires apply { AllApply rows (whole_of (⟦<Exported as Exports>⟧.parts self.old)) (⟦<Exported as Exports>⟧.parts self.old).tree.added steps.now }
+        requires apply { AllApply rows (whole_of (⟦<Exported as Exports>⟧.parts self.old))
+            (⟦<Exported as Exports>⟧.parts self.old).tree.added steps.now }
         ensures exported { ⟦<Exported as Exports>⟧.is_exported self.new }
-        ensures ok { OnOk result (whole_of (⟦<Exported as Exports>⟧.parts self.new) ≡ after_all rows (whole_of (⟦<Exported as Exports>⟧.parts self.old)) steps.now) }
-        ensures added { OnOk result ((⟦<Exported as Exports>⟧.parts self.new).tree.added ≡ added_all (⟦<Exported as Exports>⟧.parts self.old).tree.added steps.now) }
+        ensures ok { OnOk result
+            (whole_of (⟦<Exported as Exports>⟧.parts self.new)
+            ≡ after_all rows (whole_of (⟦<Exported as Exports>⟧.parts self.old)) steps.now) }
+        ensures added { OnOk result
+            ((⟦<Exported as Exports>⟧.parts self.new).tree.added
+            ≡ added_all (⟦<Exported as Exports>⟧.parts self.old).tree.added steps.now) }
         ensures err { OnErr result (⟦<Exported as Exports>⟧.parts self.new ≡ ⟦<Exported as Exports>⟧.parts self.old) }
     {
         let _ = steps;
@@ -76,10 +86,15 @@ impl Exported {
     pub fn apply_call(&mut self, steps: &StepList) -> Result<(), NoMemory>
         requires done { CanBeDone steps.now }
         requires exported { ⟦<Exported as Exports>⟧.is_exported self.old }
-        requires apply { AllApply rows (whole_of (⟦<Exported as Exports>⟧.parts self.old)) (⟦<Exported as Exports>⟧.parts self.old).tree.added steps.now }
+        requires apply { AllApply rows (whole_of (⟦<Exported as Exports>⟧.parts self.old))
+            (⟦<Exported as Exports>⟧.parts self.old).tree.added steps.now }
         ensures exported { ⟦<Exported as Exports>⟧.is_exported self.new }
-        ensures ok { OnOk result (whole_of (⟦<Exported as Exports>⟧.parts self.new) ≡ after_all rows (whole_of (⟦<Exported as Exports>⟧.parts self.old)) steps.now) }
-        ensures added { OnOk result ((⟦<Exported as Exports>⟧.parts self.new).tree.added ≡ added_all (⟦<Exported as Exports>⟧.parts self.old).tree.added steps.now) }
+        ensures ok { OnOk result
+            (whole_of (⟦<Exported as Exports>⟧.parts self.new)
+            ≡ after_all rows (whole_of (⟦<Exported as Exports>⟧.parts self.old)) steps.now) }
+        ensures added { OnOk result
+            ((⟦<Exported as Exports>⟧.parts self.new).tree.added
+            ≡ added_all (⟦<Exported as Exports>⟧.parts self.old).tree.added steps.now) }
         ensures err { OnErr result (⟦<Exported as Exports>⟧.parts self.new ≡ ⟦<Exported as Exports>⟧.parts self.old) }
     {
         match steps.as_slice() {

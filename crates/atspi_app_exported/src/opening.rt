@@ -107,8 +107,11 @@ pub(crate) fn open<F: Face, G: Face, H: Face>(
     ensures text { OnOk result (F.nodes chars.new ≡ with_text node seed.now.text (F.nodes chars.old)) }
     ensures columns { OnOk result (G.nodes grid.new ≡ with_columns node seed.now.columns (G.nodes grid.old)) }
     ensures actions { OnOk result (H.nodes deeds.new ≡ with_actions node seed.now.actions (H.nodes deeds.old)) }
-    ensures err { OnErr result (faces_of (F.nodes chars.new) (G.nodes grid.new) (H.nodes deeds.new) ≡ faces_of (F.nodes chars.old) (G.nodes grid.old) (H.nodes deeds.old)) }
-    ensures kinds { kinds_of (F.of_kind chars.new) (G.of_kind grid.new) (H.of_kind deeds.new) ≡ kinds_of (F.of_kind chars.old) (G.of_kind grid.old) (H.of_kind deeds.old) }
+    ensures err { OnErr result
+        (faces_of (F.nodes chars.new) (G.nodes grid.new) (H.nodes deeds.new)
+        ≡ faces_of (F.nodes chars.old) (G.nodes grid.old) (H.nodes deeds.old)) }
+    ensures kinds { kinds_of (F.of_kind chars.new) (G.of_kind grid.new) (H.of_kind deeds.new)
+        ≡ kinds_of (F.of_kind chars.old) (G.of_kind grid.old) (H.of_kind deeds.old) }
 {
     open_text(alloc, chars, node, &seed.text)?;
     let Ok(()) = open_columns(grid, node, seed.columns) else {

@@ -74,7 +74,10 @@ pub(crate) fn exchange<F: Face>(
     text: &Text,
 ) -> Result<(), NoMemory>
     requires { CanChange (F.nodes chars.old) node (changes.Delete at (length gone.now)) }
-    ensures ok { OnOk result (F.nodes chars.new ≡ changed_at (changed_at (F.nodes chars.old) node (changes.Delete at (length gone.now))) node (changes.Insert at text.now)) }
+    ensures ok { OnOk result
+        (F.nodes chars.new
+        ≡ changed_at (changed_at (F.nodes chars.old) node (changes.Delete at (length gone.now))) node
+        (changes.Insert at text.now)) }
     ensures err { OnErr result (F.nodes chars.new ≡ F.nodes chars.old) }
     ensures kind { F.of_kind chars.new ≡ F.of_kind chars.old }
 {
@@ -95,8 +98,13 @@ pub(crate) fn exchange_behind<F: Face>(
     text: &Text,
 ) -> Result<(), NoMemory>
     requires caret { CanChange (F.nodes chars.old) node (changes.Caret caret) }
-    requires gone { CanChange (changed_at (F.nodes chars.old) node (changes.Caret caret)) node (changes.Delete at (length gone.now)) }
-    ensures ok { OnOk result (F.nodes chars.new ≡ changed_at (changed_at (changed_at (F.nodes chars.old) node (changes.Caret caret)) node (changes.Delete at (length gone.now))) node (changes.Insert at text.now)) }
+    requires gone { CanChange (changed_at (F.nodes chars.old) node (changes.Caret caret)) node
+        (changes.Delete at (length gone.now)) }
+    ensures ok { OnOk result
+        (F.nodes chars.new
+        ≡ changed_at
+        (changed_at (changed_at (F.nodes chars.old) node (changes.Caret caret)) node
+        (changes.Delete at (length gone.now))) node (changes.Insert at text.now)) }
     ensures err { OnErr result (F.nodes chars.new ≡ F.nodes chars.old) }
     ensures kind { F.of_kind chars.new ≡ F.of_kind chars.old }
 {
