@@ -8,9 +8,10 @@ use Rattle.atspi_tree_edits.specs.declared.fault.EditRefused.{EditRefused}
 use Rattle.atspi_tree_edits.specs.declared.fault.EditRefused.TheVariants as edits
 use Rattle.atspi_protocol.specs.declared.ends.fault.EndFault.{EndFault}
 use Rattle.atspi_protocol.specs.declared.ends.fault.EndFault.TheVariants as ends
-use Rattle.atspi_app.specs.declared.fault.AppFault.{AppFault}
-use Rattle.atspi_app.specs.declared.fault.AppFault.TheVariants as faults
-use Rattle.atspi_app.specs.Faults.{of_end, of_edit}
+use Rattle.atspi_app_known.specs.application.Faults.{of_end}
+use Rattle.atspi_app_known.specs.declared.application.fault.AppFault.{AppFault}
+use Rattle.atspi_app_known.specs.declared.application.fault.AppFault.TheVariants as faults
+use Rattle.atspi_app.specs.Faults.{of_edit}
 
 same_error : {T : Type 0} (a b : AppFault) → ◌≡◌ {A = Result T AppFault} (Err a) (Err b) → a ≡ b
 same_error a b h = cc
@@ -31,6 +32,10 @@ pub end_is_not_refused : {T : Type 0} (fault : EndFault) (e : AppFault) (why : E
 end_is_not_refused {T} fault e why is h = end_refused fault why (sym is ∙ same_error {T = T} e (faults.Refused why) h)
 
 -- want of memory is neither
+pub want_is_not_spent : {T : Type 0} (e : EndFault) → e ≡ ends.NoMemory
+    → ◌≡◌ {A = Result T EndFault} (Err e) (Err ends.Spent) → ⊥
+want_is_not_spent {T} e is h = let x : ◌≡◌ {A = Result T EndFault} (Err ends.NoMemory) (Err ends.Spent) = ap Err (sym is) ∙ h in cc
+
 pub memory_is_not_spent : {T : Type 0} (e : AppFault) → e ≡ faults.NoMemory → ◌≡◌ {A = Result T AppFault} (Err e) (Err faults.Spent) → ⊥
 memory_is_not_spent {T} e is h = let x : faults.NoMemory ≡ faults.Spent = sym is ∙ same_error {T = T} e faults.Spent h in cc
 

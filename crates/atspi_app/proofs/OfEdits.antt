@@ -1,6 +1,6 @@
 -- What is told of the steps of an edit.
 use Rattle.std.proofs.Common.{◌≡◌, sym, ap, ◌∙◌, subst, true}
-use Rattle.std.specs.Prelude.{ℤ, List, Result, Ok, Err, OnOk}
+use Rattle.std.specs.Prelude.{ℤ, List, Ok}
 use Rattle.atspi_tree_model.specs.declared.edit.Edit.{Edit}
 use Rattle.atspi_tree_model.specs.declared.step.Step.{Step}
 use Rattle.atspi_tree_model.specs.Edits.{steps_of_tree, IsEdit}
@@ -15,12 +15,13 @@ use Rattle.atspi_protocol.specs.exporting.Exporter.{Exporter, Happening, queues}
 use Rattle.atspi_protocol.specs.exporting.Starting.{name_or_empty}
 use Rattle.atspi_protocol.specs.exporting.Taking.{stepped, app_edits, is_spent}
 use Rattle.atspi_protocol.specs.exporting.Telling.{steps_told}
+use Rattle.atspi_app_known.specs.application.Seen.{IsSpentAfter}
 use Rattle.atspi_app_known.specs.declared.starting.known.Known.{Known}
 use Rattle.atspi_app_exported.specs.Parts.{Parts, whole_of}
 use Rattle.atspi_app_signals.specs.Asked.{CanBeTold}
 use Rattle.atspi_app_signals.specs.Laws.{told_of_one}
 use Rattle.atspi_app_signals.proofs.EditsStay.{edits_are_told_at_once, edits_can_be_told}
-use Rattle.atspi_app.specs.Seen.{seen, IsSpentAfter}
+use Rattle.atspi_app.specs.Seen.{seen}
 
 pub same_shape : (p : Parts) → ◌≡◌ {A = TreeShape} (record { rows = shape_of (whole_of p); added = p.tree.added }) p.tree
 same_shape p = ap (λ (f : Forest ShapeRow). record { rows = f; added = p.tree.added }) (shape_is_kept p.tree.rows p.faces)
@@ -47,11 +48,10 @@ edits_to : (s : Exporter) (edit : Edit) (steps : List Step) (t : Exporter) → s
 edits_to s edit steps t is e = rw is (ap Ok (sym e))
 
 -- what doing the steps makes of the application is what the edit makes of it
-pub edit_made : {T E : Type 0} (p : Parts) (id : ℤ) (k : Known) (edit : Edit) (steps : List Step) (hs : List Happening) (after : Exporter) (r : Result T E)
+pub edit_made : (p : Parts) (id : ℤ) (k : Known) (edit : Edit) (steps : List Step) (hs : List Happening) (after : Exporter)
     → steps_of_tree (whole_of p) p.tree.added edit ≡ Ok steps → hs ≡ steps_told k.heard (name_or_empty k.name) (whole_of p) steps
-    → OnOk r (after ≡ queues (stepped (seen p id k) steps) hs) → OnOk r (app_edits (seen p id k) edit ≡ Ok after)
-edit_made p id k edit steps hs after (Ok x) is told e = edits_to (seen p id k) edit steps after is (e ∙ ap (queues (stepped (seen p id k) steps)) told)
-edit_made p id k edit steps hs after (Err x) is told e = tt
+    → after ≡ queues (stepped (seen p id k) steps) hs → app_edits (seen p id k) edit ≡ Ok after
+edit_made p id k edit steps hs after is told e = edits_to (seen p id k) edit steps after is (e ∙ ap (queues (stepped (seen p id k) steps)) told)
 
 pub edit_is_spent : (p : Parts) (id : ℤ) (k : Known) (edit : Edit) (steps : List Step) (hs : List Happening)
     → steps_of_tree (whole_of p) p.tree.added edit ≡ Ok steps → hs ≡ steps_told k.heard (name_or_empty k.name) (whole_of p) steps

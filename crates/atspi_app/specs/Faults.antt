@@ -1,14 +1,8 @@
--- The faults of an application's parts, as its own.
+-- Why an edit has no steps, as a fault of an application.
 use Rattle.atspi_tree_edits.specs.declared.fault.EditRefused.{EditRefused}
 use Rattle.atspi_tree_edits.specs.declared.fault.EditRefused.TheVariants as edits
-use Rattle.atspi_protocol.specs.declared.ends.fault.EndFault.{EndFault}
-use Rattle.atspi_protocol.specs.declared.ends.fault.EndFault.TheVariants as ends
-use Rattle.atspi_app.specs.declared.fault.AppFault.{AppFault}
-use Rattle.atspi_app.specs.declared.fault.AppFault.TheVariants as faults
-
-abbrev pub of_end : EndFault → AppFault
-of_end ends.Spent = faults.Spent
-of_end ends.NoMemory = faults.NoMemory
+use Rattle.atspi_app_known.specs.declared.application.fault.AppFault.{AppFault}
+use Rattle.atspi_app_known.specs.declared.application.fault.AppFault.TheVariants as faults
 
 abbrev pub of_edit : EditRefused → AppFault
 of_edit (edits.Refused why) = faults.Refused why

@@ -1,3 +1,4 @@
 pub mod Seen
+pub mod Boxed
 pub mod Faults
 pub mod called

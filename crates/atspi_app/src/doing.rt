@@ -3,20 +3,17 @@
 ghost use Rattle.std.specs.Prelude.{◌≡◌, false, true, IsErrOf, OnErr, OnOk};
 ghost use Rattle.atspi_tree_model.specs.RowRules.{rows};
 ghost use Rattle.atspi_tree_model.specs.Tree.{AllApply};
-ghost use Rattle.atspi_tree_model.specs.declared.edit.EditFault.{EditFault};
 ghost use Rattle.atspi_protocol.specs.exporting.Exporter.{queues};
 ghost use Rattle.atspi_protocol.specs.exporting.Taking.{is_spent, stepped};
 ghost use Rattle.atspi_app_known.specs.happenings.Room.{HasRoom};
 ghost use Rattle.atspi_app_known.specs.happenings.View.{happened};
 ghost use Rattle.atspi_app_exported.specs.Doing.{CanBeDone};
-ghost use Rattle.atspi_app_exported.specs.Parts.{IsExported};
-ghost use Rattle.atspi_app.specs.Seen.{seen};
 
 use crate::app::App;
-use crate::fault::AppFault;
-use atspi_app_exported::{Exported, Exports};
+use atspi_app_known::application::Application;
 use atspi_app_known::happenings::Happenings;
 use atspi_base::NoMemory;
+use atspi_protocol::ends::EndFault;
 use atspi_tree_model::StepList;
 
 impl App {
@@ -26,38 +23,28 @@ impl App {
         &mut self,
         steps: &StepList,
         told: &mut Happenings,
-    ) -> Result<(), AppFault>
+    ) -> Result<(), EndFault>
         requires done { CanBeDone steps.now }
-        requires exported { IsExported (⟦<Exported as Exports>⟧.kinds self.old.exported)
-            (⟦<Exported as Exports>⟧.parts self.old.exported) }
-        requires apply { AllApply rows
-            (seen (⟦<Exported as Exports>⟧.parts self.old.exported) self.old.id self.old.known).tree
-            (seen (⟦<Exported as Exports>⟧.parts self.old.exported) self.old.id self.old.known).added steps.now }
-        ensures exported { IsExported (⟦<Exported as Exports>⟧.kinds self.new.exported)
-            (⟦<Exported as Exports>⟧.parts self.new.exported) }
+        requires app { ⟦<App as Application>⟧.is_app self.old }
+        requires apply { AllApply rows (⟦<App as Application>⟧.exporter self.old).tree
+            (⟦<App as Application>⟧.exporter self.old).added steps.now }
+        ensures app { ⟦<App as Application>⟧.is_app self.new }
         ensures ok { OnOk result
-            (seen (⟦<Exported as Exports>⟧.parts self.new.exported) self.new.id self.new.known
-            ≡ queues
-            (stepped (seen (⟦<Exported as Exports>⟧.parts self.old.exported) self.old.id self.old.known)
-            steps.now) (happened told.old)) }
-        ensures numbered { OnOk result
-            (is_spent (seen (⟦<Exported as Exports>⟧.parts self.new.exported) self.new.id self.new.known) ≡ false) }
-        ensures spent { IsErrOf result AppFault.Spent
-            → is_spent
-            (queues
-            (stepped (seen (⟦<Exported as Exports>⟧.parts self.old.exported) self.old.id self.old.known)
-            steps.now) (happened told.old)) ≡ true }
-        ensures never_refused { (fault : EditFault) → IsErrOf result (AppFault.Refused fault) → ⊥ }
+            (⟦<App as Application>⟧.exporter self.new
+            ≡ queues (stepped (⟦<App as Application>⟧.exporter self.old) steps.now) (happened told.old)) }
+        ensures numbered { OnOk result (is_spent (⟦<App as Application>⟧.exporter self.new) ≡ false) }
+        ensures spent { IsErrOf result EndFault.Spent
+            → is_spent (queues (stepped (⟦<App as Application>⟧.exporter self.old) steps.now) (happened told.old))
+            ≡ true }
         ensures err { OnErr result
-            (seen (⟦<Exported as Exports>⟧.parts self.new.exported) self.new.id self.new.known
-            ≡ seen (⟦<Exported as Exports>⟧.parts self.old.exported) self.old.id self.old.known) }
+            (⟦<App as Application>⟧.exporter self.new ≡ ⟦<App as Application>⟧.exporter self.old) }
     {
         match self.known.reserve(told) {
             Ok(()) => match self.do_in_room(steps, told) {
                 Ok(()) => Ok(()),
-                Err(none) => Err(AppFault::from(none)),
+                Err(none) => Err(EndFault::from(none)),
             },
-            Err(fault) => Err(AppFault::from(fault)),
+            Err(fault) => Err(fault),
         }
     }
 
@@ -65,23 +52,16 @@ impl App {
     fn do_in_room(&mut self, steps: &StepList, told: &mut Happenings) -> Result<(), NoMemory>
         requires room { HasRoom self.old.known.queue told.old }
         requires done { CanBeDone steps.now }
-        requires exported { IsExported (⟦<Exported as Exports>⟧.kinds self.old.exported)
-            (⟦<Exported as Exports>⟧.parts self.old.exported) }
-        requires apply { AllApply rows
-            (seen (⟦<Exported as Exports>⟧.parts self.old.exported) self.old.id self.old.known).tree
-            (seen (⟦<Exported as Exports>⟧.parts self.old.exported) self.old.id self.old.known).added steps.now }
-        ensures exported { IsExported (⟦<Exported as Exports>⟧.kinds self.new.exported)
-            (⟦<Exported as Exports>⟧.parts self.new.exported) }
+        requires app { ⟦<App as Application>⟧.is_app self.old }
+        requires apply { AllApply rows (⟦<App as Application>⟧.exporter self.old).tree
+            (⟦<App as Application>⟧.exporter self.old).added steps.now }
+        ensures app { ⟦<App as Application>⟧.is_app self.new }
         ensures ok { OnOk result
-            (seen (⟦<Exported as Exports>⟧.parts self.new.exported) self.new.id self.new.known
-            ≡ queues
-            (stepped (seen (⟦<Exported as Exports>⟧.parts self.old.exported) self.old.id self.old.known)
-            steps.now) (happened told.old)) }
-        ensures numbered { OnOk result
-            (is_spent (seen (⟦<Exported as Exports>⟧.parts self.new.exported) self.new.id self.new.known) ≡ false) }
+            (⟦<App as Application>⟧.exporter self.new
+            ≡ queues (stepped (⟦<App as Application>⟧.exporter self.old) steps.now) (happened told.old)) }
+        ensures numbered { OnOk result (is_spent (⟦<App as Application>⟧.exporter self.new) ≡ false) }
         ensures err { OnErr result
-            (seen (⟦<Exported as Exports>⟧.parts self.new.exported) self.new.id self.new.known
-            ≡ seen (⟦<Exported as Exports>⟧.parts self.old.exported) self.old.id self.old.known) }
+            (⟦<App as Application>⟧.exporter self.new ≡ ⟦<App as Application>⟧.exporter self.old) }
     {
         match self.exported.apply_call(steps) {
             Ok(()) => {

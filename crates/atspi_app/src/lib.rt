@@ -2,6 +2,7 @@
 #![tactic(auto)]
 
 mod app;
+mod application;
 pub mod called;
 mod doing;
 mod fault;
@@ -9,6 +10,6 @@ mod taking;
 mod telling;
 
 pub use app::App;
-pub use atspi_app_exported::{Boxes, Exported, Exports, Kit};
+pub use atspi_app_exported::{Boxes, Kit};
+pub use atspi_app_known::application::{AppFault, Application};
 pub use atspi_app_known::happenings::AppEvent;
-pub use fault::AppFault;

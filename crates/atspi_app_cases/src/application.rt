@@ -1,9 +1,9 @@
 //! A new application.
 
 ghost use Rattle.std.specs.Prelude.{IfSome};
-ghost use Rattle.atspi_app_exported.specs.Parts.{AreEmpty, AreKinds, IsExported};
+ghost use Rattle.atspi_app_exported.specs.Parts.{AreEmpty, AreKinds};
 
-use atspi_app::{App, Boxes, Exported, Exports, Kit};
+use atspi_app::{App, Application, Boxes, Kit};
 use atspi_base::Text;
 use std::alloc::Global;
 
@@ -11,8 +11,7 @@ use std::alloc::Global;
 pub fn made(alloc: Global, name: &str, kit: Kit) -> Option<App>
     requires kinds { AreKinds (⟦<Kit as Boxes>⟧.kinds kit) }
     requires empty { AreEmpty (⟦<Kit as Boxes>⟧.faces kit) }
-    ensures { IfSome result
-        (λ app. IsExported (⟦<Exported as Exports>⟧.kinds app.exported) (⟦<Exported as Exports>⟧.parts app.exported)) }
+    ensures { IfSome result (λ app. ⟦<App as Application>⟧.is_app app) }
 {
     if name.len() > 511 {
         return None;

@@ -1,9 +1,7 @@
 //! What is done to an application, and what happens then.
 
-ghost use Rattle.atspi_app_exported.specs.Parts.{IsExported};
-
 use crate::doing::{act, take};
-use atspi_app::{App, AppEvent, AppFault, Exported, Exports};
+use atspi_app::{App, AppEvent, AppFault, Application};
 use atspi_base::Bytes;
 use atspi_script_lines::Party;
 use atspi_trace_events::Event;
@@ -39,10 +37,8 @@ fn put_event(event: AppEvent, out: &mut Bytes) -> bool {
 
 /// Appends the texts of what is queued, each a line; it is no longer queued.
 fn put_told(app: &mut App, out: &mut Bytes) -> Option<()>
-    requires exported { IsExported (⟦<Exported as Exports>⟧.kinds app.old.exported)
-        (⟦<Exported as Exports>⟧.parts app.old.exported) }
-    ensures exported { IsExported (⟦<Exported as Exports>⟧.kinds app.new.exported)
-        (⟦<Exported as Exports>⟧.parts app.new.exported) }
+    requires app { ⟦<App as Application>⟧.is_app app.old }
+    ensures app { ⟦<App as Application>⟧.is_app app.new }
 {
     for _event in 0..1_000_000 {
         let Some(event) = app.next() else {
@@ -75,10 +71,8 @@ fn put_count(alloc: Global, app: &App, out: &mut Bytes) -> Option<()> {
 
 /// What comes of a line. Where memory was wanting all is as before, so it is done once more then.
 pub(crate) fn done(alloc: Global, app: &mut App, words: &str) -> Option<Result<(), AppFault>>
-    requires exported { IsExported (⟦<Exported as Exports>⟧.kinds app.old.exported)
-        (⟦<Exported as Exports>⟧.parts app.old.exported) }
-    ensures exported { IsExported (⟦<Exported as Exports>⟧.kinds app.new.exported)
-        (⟦<Exported as Exports>⟧.parts app.new.exported) }
+    requires app { ⟦<App as Application>⟧.is_app app.old }
+    ensures app { ⟦<App as Application>⟧.is_app app.new }
 {
     match act(alloc, app, words) {
         None | Some(Err(AppFault::NoMemory)) => act(alloc, app, words),
@@ -88,10 +82,8 @@ pub(crate) fn done(alloc: Global, app: &mut App, words: &str) -> Option<Result<(
 
 /// A line, what is done then, and what happens.
 fn play_line(alloc: Global, app: &mut App, words: &str, out: &mut Bytes) -> Option<()>
-    requires exported { IsExported (⟦<Exported as Exports>⟧.kinds app.old.exported)
-        (⟦<Exported as Exports>⟧.parts app.old.exported) }
-    ensures exported { IsExported (⟦<Exported as Exports>⟧.kinds app.new.exported)
-        (⟦<Exported as Exports>⟧.parts app.new.exported) }
+    requires app { ⟦<App as Application>⟧.is_app app.old }
+    ensures app { ⟦<App as Application>⟧.is_app app.new }
 {
     if words == "count" {
         return put_count(alloc, app, out);
@@ -107,10 +99,8 @@ fn play_line(alloc: Global, app: &mut App, words: &str, out: &mut Bytes) -> Opti
 /// an edit as `edit a0 name 1 "x"`, or a message in words. Other lines are passed over, so that a conversation is the
 /// script of itself.
 pub fn play(alloc: Global, app: &mut App, script: &str, out: &mut Bytes) -> Option<()>
-    requires exported { IsExported (⟦<Exported as Exports>⟧.kinds app.old.exported)
-        (⟦<Exported as Exports>⟧.parts app.old.exported) }
-    ensures exported { IsExported (⟦<Exported as Exports>⟧.kinds app.new.exported)
-        (⟦<Exported as Exports>⟧.parts app.new.exported) }
+    requires app { ⟦<App as Application>⟧.is_app app.old }
+    ensures app { ⟦<App as Application>⟧.is_app app.new }
 {
     for line in script.lines() {
         if let Some(words) = line.strip_prefix("> ") {
@@ -123,10 +113,8 @@ pub fn play(alloc: Global, app: &mut App, script: &str, out: &mut Bytes) -> Opti
 
 /// How many things happen at the application where it takes the message that the bytes are; they are handed out.
 pub fn said(alloc: Global, app: &mut App, bytes: &[u8]) -> Option<u32>
-    requires exported { IsExported (⟦<Exported as Exports>⟧.kinds app.old.exported)
-        (⟦<Exported as Exports>⟧.parts app.old.exported) }
-    ensures exported { IsExported (⟦<Exported as Exports>⟧.kinds app.new.exported)
-        (⟦<Exported as Exports>⟧.parts app.new.exported) }
+    requires app { ⟦<App as Application>⟧.is_app app.old }
+    ensures app { ⟦<App as Application>⟧.is_app app.new }
 {
     take(alloc, app, bytes)?.ok()?;
     let mut count = 0u32;

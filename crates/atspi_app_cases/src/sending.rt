@@ -1,9 +1,7 @@
 //! What an application sends, as bytes.
 
-ghost use Rattle.atspi_app_exported.specs.Parts.{IsExported};
-
 use crate::conversation::done;
-use atspi_app::{App, AppEvent, Exported, Exports};
+use atspi_app::{App, AppEvent, Application};
 use atspi_world_links::Link;
 use std::alloc::Global;
 
@@ -17,10 +15,8 @@ fn send_event(event: AppEvent, link: &mut Link) -> bool {
 
 /// Sends the messages that are queued down a link. Nothing is queued then.
 fn send_queued(app: &mut App, link: &mut Link) -> Option<()>
-    requires exported { IsExported (⟦<Exported as Exports>⟧.kinds app.old.exported)
-        (⟦<Exported as Exports>⟧.parts app.old.exported) }
-    ensures exported { IsExported (⟦<Exported as Exports>⟧.kinds app.new.exported)
-        (⟦<Exported as Exports>⟧.parts app.new.exported) }
+    requires app { ⟦<App as Application>⟧.is_app app.old }
+    ensures app { ⟦<App as Application>⟧.is_app app.new }
 {
     for _event in 0..1_000_000 {
         let Some(event) = app.next() else {
@@ -35,10 +31,8 @@ fn send_queued(app: &mut App, link: &mut Link) -> Option<()>
 
 /// Does what each line of a script says, as `play` does behind its `> `, and sends what is queued then down a link.
 pub fn send(alloc: Global, app: &mut App, script: &str, link: &mut Link) -> Option<()>
-    requires exported { IsExported (⟦<Exported as Exports>⟧.kinds app.old.exported)
-        (⟦<Exported as Exports>⟧.parts app.old.exported) }
-    ensures exported { IsExported (⟦<Exported as Exports>⟧.kinds app.new.exported)
-        (⟦<Exported as Exports>⟧.parts app.new.exported) }
+    requires app { ⟦<App as Application>⟧.is_app app.old }
+    ensures app { ⟦<App as Application>⟧.is_app app.new }
 {
     for line in script.lines() {
         done(alloc, app, line)?.ok()?;

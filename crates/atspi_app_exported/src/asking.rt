@@ -9,7 +9,7 @@ ghost use Rattle.atspi_tree_model.specs.Tree.{AllApply, is_node, is_shape};
 ghost use Rattle.atspi_tree_edits.specs.Answers.{IsKnown};
 ghost use Rattle.atspi_app_exported.specs.Asking.{AnswersSteps};
 ghost use Rattle.atspi_app_exported.specs.Doing.{AreOne};
-ghost use Rattle.atspi_app_exported.specs.Parts.{IsExported, whole_of};
+ghost use Rattle.atspi_app_exported.specs.Parts.{whole_of};
 
 use crate::exported::Exported;
 use crate::exports::Exports;
@@ -30,7 +30,7 @@ fn no_actions(alloc: Global) -> FaceData
 impl Exported {
     /// A node's text; no actions where it has none.
     fn text_of(&self, alloc: Global, node: u32) -> Result<FaceData, NoMemory>
-        requires { IsExported (⟦<Exported as Exports>⟧.kinds self.now) (⟦<Exported as Exports>⟧.parts self.now) }
+        requires { ⟦<Exported as Exports>⟧.is_exported self.now }
         ensures text { IfOk result
             (λ what. what ≡ text_contents (find (is_node node) (whole_of (⟦<Exported as Exports>⟧.parts self.now)))) }
         ensures known { IfOk result IsKnown }
@@ -43,9 +43,8 @@ impl Exported {
 
     /// The same of a node that is there.
     fn text_if(&self, alloc: Global, node: u32) -> Result<FaceData, NoMemory>
-        requires there { has (is_shape node) self.now.tree.rows ≡ true }
-        requires exported { IsExported (⟦<Exported as Exports>⟧.kinds self.now)
-            (⟦<Exported as Exports>⟧.parts self.now) }
+        requires there { has (is_shape node) (⟦<Exported as Exports>⟧.parts self.now).tree.rows ≡ true }
+        requires exported { ⟦<Exported as Exports>⟧.is_exported self.now }
         ensures text { IfOk result
             (λ what. what ≡ text_contents (find (is_node node) (whole_of (⟦<Exported as Exports>⟧.parts self.now)))) }
         ensures known { IfOk result IsKnown }
@@ -58,7 +57,7 @@ impl Exported {
 
     /// A node's actions; none where it has none.
     fn actions_of(&self, alloc: Global, node: u32) -> Result<FaceData, NoMemory>
-        requires { IsExported (⟦<Exported as Exports>⟧.kinds self.now) (⟦<Exported as Exports>⟧.parts self.now) }
+        requires { ⟦<Exported as Exports>⟧.is_exported self.now }
         ensures actions { IfOk result
             (λ what. what ≡ action_contents (find (is_node node) (whole_of (⟦<Exported as Exports>⟧.parts self.now)))) }
         ensures known { IfOk result IsKnown }
@@ -71,9 +70,8 @@ impl Exported {
 
     /// The same of a node that is there.
     fn actions_if(&self, alloc: Global, node: u32) -> Result<FaceData, NoMemory>
-        requires there { has (is_shape node) self.now.tree.rows ≡ true }
-        requires exported { IsExported (⟦<Exported as Exports>⟧.kinds self.now)
-            (⟦<Exported as Exports>⟧.parts self.now) }
+        requires there { has (is_shape node) (⟦<Exported as Exports>⟧.parts self.now).tree.rows ≡ true }
+        requires exported { ⟦<Exported as Exports>⟧.is_exported self.now }
         ensures actions { IfOk result
             (λ what. what ≡ action_contents (find (is_node node) (whole_of (⟦<Exported as Exports>⟧.parts self.now)))) }
         ensures known { IfOk result IsKnown }
@@ -86,7 +84,7 @@ impl Exported {
 
     /// The contents that an edit reads.
     fn known_to(&self, alloc: Global, edit: &Edit) -> Result<FaceData, NoMemory>
-        requires { IsExported (⟦<Exported as Exports>⟧.kinds self.now) (⟦<Exported as Exports>⟧.parts self.now) }
+        requires { ⟦<Exported as Exports>⟧.is_exported self.now }
         ensures read { IfOk result
             (λ what. what ≡ contents_read (whole_of (⟦<Exported as Exports>⟧.parts self.now)) edit.now) }
         ensures known { IfOk result IsKnown }
@@ -107,12 +105,13 @@ impl Exported {
     /// `apply_all` takes them.
     pub fn steps(&self, alloc: Global, edit: &Edit) -> Result<StepList, EditRefused>
         requires lawful { IsEdit edit.now }
-        requires exported { IsExported (⟦<Exported as Exports>⟧.kinds self.now)
-            (⟦<Exported as Exports>⟧.parts self.now) }
+        requires exported { ⟦<Exported as Exports>⟧.is_exported self.now }
         ensures exact { AnswersSteps result
-            (steps_of_tree (whole_of (⟦<Exported as Exports>⟧.parts self.now)) self.now.tree.added edit.now) }
+            (steps_of_tree (whole_of (⟦<Exported as Exports>⟧.parts self.now))
+            (⟦<Exported as Exports>⟧.parts self.now).tree.added edit.now) }
         ensures apply { IfOk result
-            (AllApply rows (whole_of (⟦<Exported as Exports>⟧.parts self.now)) self.now.tree.added) }
+            (AllApply rows (whole_of (⟦<Exported as Exports>⟧.parts self.now))
+            (⟦<Exported as Exports>⟧.parts self.now).tree.added) }
         ensures one { IfOk result AreOne }
     {
         let known = self.known_to(alloc, edit)?;

@@ -2,7 +2,7 @@
 
 ghost use Rattle.std.specs.Prelude.{◌≡◌, None, OnOk, OnErr, IfOk, IfErr, IfSome, IsSome};
 ghost use Rattle.std.specs.FinMap as map;
-ghost use Rattle.atspi_app_exported.specs.Parts.{AreSmall, IsEmpty, IsExported, kept_by};
+ghost use Rattle.atspi_app_exported.specs.Parts.{AreSmall, IsEmpty, kept_by};
 
 use crate::exported::Exported;
 use crate::exports::Exports;
@@ -111,8 +111,7 @@ impl Exported {
         &mut self,
         new: Box<dyn Face>,
     ) -> Result<Box<dyn Face>, (Box<dyn Face>, NoMemory)>
-        requires exported { IsExported (⟦<Exported as Exports>⟧.kinds self.old)
-            (⟦<Exported as Exports>⟧.parts self.old) }
+        requires exported { ⟦<Exported as Exports>⟧.is_exported self.old }
         requires empty { IsEmpty (nodes new) }
         ensures same { ⟦<Exported as Exports>⟧.parts self.new ≡ ⟦<Exported as Exports>⟧.parts self.old }
         ensures kinds { ⟦<Exported as Exports>⟧.kinds self.new ≡ ⟦<Exported as Exports>⟧.kinds self.old }

@@ -4,7 +4,7 @@ ghost use Rattle.std.specs.Prelude.{◌≡◌, OnOk, OnErr};
 ghost use Rattle.atspi_tree_model.specs.RowRules.{rows};
 ghost use Rattle.atspi_tree_model.specs.Tree.{AllApply, Applies, added_after, after, after_all};
 ghost use Rattle.atspi_tree_model.specs.declared.step.Step.TheVariants.{Remove};
-ghost use Rattle.atspi_app_exported.specs.Parts.{IsExported, whole_of};
+ghost use Rattle.atspi_app_exported.specs.Parts.{whole_of};
 ghost use Rattle.atspi_app_exported.specs.Doing.{AreOne, IsAdd, IsOfShape, IsOfText, TakesMemory, added_all};
 ghost use Rattle.atspi_app_exported.specs.Doing.{after_parts};
 
@@ -20,10 +20,9 @@ use atspi_tree_model::{Seed, Step, StepList};
 impl Exported {
     /// A new node.
     fn add(&mut self, step: &Step, node: u32, seed: &Seed) -> Result<(), NoMemory>
-        requires exported { IsExported (⟦<Exported as Exports>⟧.kinds self.old)
-            (⟦<Exported as Exports>⟧.parts self.old) }
-        requires applies { Applies rows (whole_of (⟦<Exported as Exports>⟧.parts self.old)) self.old.tree.added
-            step.now }
+        requires exported { ⟦<Exported as Exports>⟧.is_exported self.old }
+        requires applies { Applies rows (whole_of (⟦<Exported as Exports>⟧.parts self.old))
+            (⟦<Exported as Exports>⟧.parts self.old).tree.added step.now }
         requires is { IsAdd step.now node seed.now }
         ensures ok { OnOk result
             (⟦<Exported as Exports>⟧.parts self.new ≡ after_parts (⟦<Exported as Exports>⟧.parts self.old) step.now) }
@@ -51,10 +50,9 @@ impl Exported {
 
     /// A node goes, with all that is below it. Takes no memory.
     fn remove(&mut self, node: u32)
-        requires exported { IsExported (⟦<Exported as Exports>⟧.kinds self.old)
-            (⟦<Exported as Exports>⟧.parts self.old) }
-        requires applies { Applies rows (whole_of (⟦<Exported as Exports>⟧.parts self.old)) self.old.tree.added
-            (Remove node) }
+        requires exported { ⟦<Exported as Exports>⟧.is_exported self.old }
+        requires applies { Applies rows (whole_of (⟦<Exported as Exports>⟧.parts self.old))
+            (⟦<Exported as Exports>⟧.parts self.old).tree.added (Remove node) }
         ensures ok { ⟦<Exported as Exports>⟧.parts self.new
             ≡ after_parts (⟦<Exported as Exports>⟧.parts self.old) (Remove node) }
         ensures kinds { ⟦<Exported as Exports>⟧.kinds self.new ≡ ⟦<Exported as Exports>⟧.kinds self.old }
@@ -73,10 +71,9 @@ impl Exported {
     /// A step of a text.
     fn change(&mut self, step: &Step) -> Result<(), NoMemory>
         requires of_text { IsOfText step.now }
-        requires exported { IsExported (⟦<Exported as Exports>⟧.kinds self.old)
-            (⟦<Exported as Exports>⟧.parts self.old) }
-        requires applies { Applies rows (whole_of (⟦<Exported as Exports>⟧.parts self.old)) self.old.tree.added
-            step.now }
+        requires exported { ⟦<Exported as Exports>⟧.is_exported self.old }
+        requires applies { Applies rows (whole_of (⟦<Exported as Exports>⟧.parts self.old))
+            (⟦<Exported as Exports>⟧.parts self.old).tree.added step.now }
         ensures ok { OnOk result
             (⟦<Exported as Exports>⟧.parts self.new ≡ after_parts (⟦<Exported as Exports>⟧.parts self.old) step.now) }
         ensures err { OnErr result (⟦<Exported as Exports>⟧.parts self.new ≡ ⟦<Exported as Exports>⟧.parts self.old) }
@@ -89,10 +86,9 @@ impl Exported {
     /// A step of the shape alone.
     fn reshape(&mut self, step: &Step) -> Result<(), NoMemory>
         requires of_shape { IsOfShape step.now }
-        requires exported { IsExported (⟦<Exported as Exports>⟧.kinds self.old)
-            (⟦<Exported as Exports>⟧.parts self.old) }
-        requires applies { Applies rows (whole_of (⟦<Exported as Exports>⟧.parts self.old)) self.old.tree.added
-            step.now }
+        requires exported { ⟦<Exported as Exports>⟧.is_exported self.old }
+        requires applies { Applies rows (whole_of (⟦<Exported as Exports>⟧.parts self.old))
+            (⟦<Exported as Exports>⟧.parts self.old).tree.added step.now }
         ensures ok { OnOk result
             (⟦<Exported as Exports>⟧.parts self.new ≡ after_parts (⟦<Exported as Exports>⟧.parts self.old) step.now) }
         ensures err { OnErr result (⟦<Exported as Exports>⟧.parts self.new ≡ ⟦<Exported as Exports>⟧.parts self.old) }
@@ -110,10 +106,9 @@ impl Exported {
 
     /// The same by the kind of the step.
     fn do_step(&mut self, step: &Step) -> Result<(), NoMemory>
-        requires exported { IsExported (⟦<Exported as Exports>⟧.kinds self.old)
-            (⟦<Exported as Exports>⟧.parts self.old) }
-        requires applies { Applies rows (whole_of (⟦<Exported as Exports>⟧.parts self.old)) self.old.tree.added
-            step.now }
+        requires exported { ⟦<Exported as Exports>⟧.is_exported self.old }
+        requires applies { Applies rows (whole_of (⟦<Exported as Exports>⟧.parts self.old))
+            (⟦<Exported as Exports>⟧.parts self.old).tree.added step.now }
         ensures ok { OnOk result
             (⟦<Exported as Exports>⟧.parts self.new ≡ after_parts (⟦<Exported as Exports>⟧.parts self.old) step.now) }
         ensures err { OnErr result (⟦<Exported as Exports>⟧.parts self.new ≡ ⟦<Exported as Exports>⟧.parts self.old) }
@@ -142,16 +137,16 @@ impl Exported {
     /// Does a step that applies. After want of memory all is as before; a removal, a state, a deletion and a caret want
     /// none. A removal costs the nodes that go.
     pub fn apply(&mut self, step: &Step) -> Result<(), NoMemory>
-        requires exported { IsExported (⟦<Exported as Exports>⟧.kinds self.old)
-            (⟦<Exported as Exports>⟧.parts self.old) }
-        requires applies { Applies rows (whole_of (⟦<Exported as Exports>⟧.parts self.old)) self.old.tree.added
-            step.now }
-        ensures exported { IsExported (⟦<Exported as Exports>⟧.kinds self.new)
-            (⟦<Exported as Exports>⟧.parts self.new) }
+        requires exported { ⟦<Exported as Exports>⟧.is_exported self.old }
+        requires applies { Applies rows (whole_of (⟦<Exported as Exports>⟧.parts self.old))
+            (⟦<Exported as Exports>⟧.parts self.old).tree.added step.now }
+        ensures exported { ⟦<Exported as Exports>⟧.is_exported self.new }
         ensures ok { OnOk result
             (whole_of (⟦<Exported as Exports>⟧.parts self.new)
             ≡ after rows (whole_of (⟦<Exported as Exports>⟧.parts self.old)) step.now) }
-        ensures added { OnOk result (self.new.tree.added ≡ added_after self.old.tree.added step.now) }
+        ensures added { OnOk result
+            ((⟦<Exported as Exports>⟧.parts self.new).tree.added
+            ≡ added_after (⟦<Exported as Exports>⟧.parts self.old).tree.added step.now) }
         ensures err { OnErr result (⟦<Exported as Exports>⟧.parts self.new ≡ ⟦<Exported as Exports>⟧.parts self.old) }
         ensures cause { OnErr result (TakesMemory step.now) }
     {
@@ -161,16 +156,16 @@ impl Exported {
     /// Does the steps of one cause, one after another. After want of memory all is as before.
     pub fn apply_all(&mut self, steps: &StepList) -> Result<(), NoMemory>
         requires one { AreOne steps.now }
-        requires exported { IsExported (⟦<Exported as Exports>⟧.kinds self.old)
-            (⟦<Exported as Exports>⟧.parts self.old) }
-        requires apply { AllApply rows (whole_of (⟦<Exported as Exports>⟧.parts self.old)) self.old.tree.added
-            steps.now }
-        ensures exported { IsExported (⟦<Exported as Exports>⟧.kinds self.new)
-            (⟦<Exported as Exports>⟧.parts self.new) }
+        requires exported { ⟦<Exported as Exports>⟧.is_exported self.old }
+        requires apply { AllApply rows (whole_of (⟦<Exported as Exports>⟧.parts self.old))
+            (⟦<Exported as Exports>⟧.parts self.old).tree.added steps.now }
+        ensures exported { ⟦<Exported as Exports>⟧.is_exported self.new }
         ensures ok { OnOk result
             (whole_of (⟦<Exported as Exports>⟧.parts self.new)
             ≡ after_all rows (whole_of (⟦<Exported as Exports>⟧.parts self.old)) steps.now) }
-        ensures added { OnOk result (self.new.tree.added ≡ added_all self.old.tree.added steps.now) }
+        ensures added { OnOk result
+            ((⟦<Exported as Exports>⟧.parts self.new).tree.added
+            ≡ added_all (⟦<Exported as Exports>⟧.parts self.old).tree.added steps.now) }
         ensures err { OnErr result (⟦<Exported as Exports>⟧.parts self.new ≡ ⟦<Exported as Exports>⟧.parts self.old) }
     {
         let list = steps.as_slice();

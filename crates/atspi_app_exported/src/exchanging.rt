@@ -4,7 +4,7 @@ ghost use Rattle.std.specs.Prelude.{◌≡◌, ◌∷◌, [], OnOk, OnErr};
 ghost use Rattle.atspi_tree_model.specs.RowRules.{rows};
 ghost use Rattle.atspi_tree_model.specs.Tree.{AllApply, after_all};
 ghost use Rattle.atspi_tree_model.specs.declared.step.Step.TheVariants.{Caret, Delete, Insert};
-ghost use Rattle.atspi_app_exported.specs.Parts.{IsExported, whole_of};
+ghost use Rattle.atspi_app_exported.specs.Parts.{whole_of};
 ghost use Rattle.atspi_app_exported.specs.Doing.{CanBeDone, added_all};
 
 use crate::exported::Exported;
@@ -29,16 +29,16 @@ impl Exported {
     ) -> Result<(), NoMemory>
         requires are { steps.now ≡ Delete node at gone.now ∷ Insert into to text.now ∷ [] }
         requires done { CanBeDone steps.now }
-        requires exported { IsExported (⟦<Exported as Exports>⟧.kinds self.old)
-            (⟦<Exported as Exports>⟧.parts self.old) }
-        requires apply { AllApply rows (whole_of (⟦<Exported as Exports>⟧.parts self.old)) self.old.tree.added
-            steps.now }
-        ensures exported { IsExported (⟦<Exported as Exports>⟧.kinds self.new)
-            (⟦<Exported as Exports>⟧.parts self.new) }
+        requires exported { ⟦<Exported as Exports>⟧.is_exported self.old }
+        requires apply { AllApply rows (whole_of (⟦<Exported as Exports>⟧.parts self.old))
+            (⟦<Exported as Exports>⟧.parts self.old).tree.added steps.now }
+        ensures exported { ⟦<Exported as Exports>⟧.is_exported self.new }
         ensures ok { OnOk result
             (whole_of (⟦<Exported as Exports>⟧.parts self.new)
             ≡ after_all rows (whole_of (⟦<Exported as Exports>⟧.parts self.old)) steps.now) }
-        ensures added { OnOk result (self.new.tree.added ≡ added_all self.old.tree.added steps.now) }
+        ensures added { OnOk result
+            ((⟦<Exported as Exports>⟧.parts self.new).tree.added
+            ≡ added_all (⟦<Exported as Exports>⟧.parts self.old).tree.added steps.now) }
         ensures err { OnErr result (⟦<Exported as Exports>⟧.parts self.new ≡ ⟦<Exported as Exports>⟧.parts self.old) }
     {
         let _ = steps;
@@ -62,16 +62,16 @@ impl Exported {
     ) -> Result<(), NoMemory>
         requires are { steps.now ≡ Caret of caret ∷ Delete node at gone.now ∷ Insert into to text.now ∷ [] }
         requires done { CanBeDone steps.now }
-        requires exported { IsExported (⟦<Exported as Exports>⟧.kinds self.old)
-            (⟦<Exported as Exports>⟧.parts self.old) }
-        requires apply { AllApply rows (whole_of (⟦<Exported as Exports>⟧.parts self.old)) self.old.tree.added
-            steps.now }
-        ensures exported { IsExported (⟦<Exported as Exports>⟧.kinds self.new)
-            (⟦<Exported as Exports>⟧.parts self.new) }
+        requires exported { ⟦<Exported as Exports>⟧.is_exported self.old }
+        requires apply { AllApply rows (whole_of (⟦<Exported as Exports>⟧.parts self.old))
+            (⟦<Exported as Exports>⟧.parts self.old).tree.added steps.now }
+        ensures exported { ⟦<Exported as Exports>⟧.is_exported self.new }
         ensures ok { OnOk result
             (whole_of (⟦<Exported as Exports>⟧.parts self.new)
             ≡ after_all rows (whole_of (⟦<Exported as Exports>⟧.parts self.old)) steps.now) }
-        ensures added { OnOk result (self.new.tree.added ≡ added_all self.old.tree.added steps.now) }
+        ensures added { OnOk result
+            ((⟦<Exported as Exports>⟧.parts self.new).tree.added
+            ≡ added_all (⟦<Exported as Exports>⟧.parts self.old).tree.added steps.now) }
         ensures err { OnErr result (⟦<Exported as Exports>⟧.parts self.new ≡ ⟦<Exported as Exports>⟧.parts self.old) }
     {
         let _ = steps;
@@ -85,16 +85,16 @@ impl Exported {
     /// the other is taken out, since only the first change may want memory. After want of memory all is as before.
     pub fn apply_call(&mut self, steps: &StepList) -> Result<(), NoMemory>
         requires done { CanBeDone steps.now }
-        requires exported { IsExported (⟦<Exported as Exports>⟧.kinds self.old)
-            (⟦<Exported as Exports>⟧.parts self.old) }
-        requires apply { AllApply rows (whole_of (⟦<Exported as Exports>⟧.parts self.old)) self.old.tree.added
-            steps.now }
-        ensures exported { IsExported (⟦<Exported as Exports>⟧.kinds self.new)
-            (⟦<Exported as Exports>⟧.parts self.new) }
+        requires exported { ⟦<Exported as Exports>⟧.is_exported self.old }
+        requires apply { AllApply rows (whole_of (⟦<Exported as Exports>⟧.parts self.old))
+            (⟦<Exported as Exports>⟧.parts self.old).tree.added steps.now }
+        ensures exported { ⟦<Exported as Exports>⟧.is_exported self.new }
         ensures ok { OnOk result
             (whole_of (⟦<Exported as Exports>⟧.parts self.new)
             ≡ after_all rows (whole_of (⟦<Exported as Exports>⟧.parts self.old)) steps.now) }
-        ensures added { OnOk result (self.new.tree.added ≡ added_all self.old.tree.added steps.now) }
+        ensures added { OnOk result
+            ((⟦<Exported as Exports>⟧.parts self.new).tree.added
+            ≡ added_all (⟦<Exported as Exports>⟧.parts self.old).tree.added steps.now) }
         ensures err { OnErr result (⟦<Exported as Exports>⟧.parts self.new ≡ ⟦<Exported as Exports>⟧.parts self.old) }
     {
         match steps.as_slice() {

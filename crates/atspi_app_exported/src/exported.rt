@@ -5,7 +5,7 @@ ghost use Rattle.std.specs.Prelude.{◌≡◌, IfOk, IfErr};
 ghost use Rattle.atspi_tree_model.specs.Row.{IsName};
 ghost use Rattle.atspi_tree_model.specs.RowRules.{rows};
 ghost use Rattle.atspi_tree_model.specs.Tree.{first_tree};
-ghost use Rattle.atspi_app_exported.specs.Parts.{AreEmpty, AreKinds, IsExported, whole_of};
+ghost use Rattle.atspi_app_exported.specs.Parts.{AreEmpty, AreKinds, whole_of};
 
 use crate::exports::{Boxes, Exports};
 use crate::kit::Kit;
@@ -29,10 +29,9 @@ impl Exported {
         requires name { IsName name }
         requires kinds { AreKinds (⟦<Kit as Boxes>⟧.kinds kit) }
         requires empty { AreEmpty (⟦<Kit as Boxes>⟧.faces kit) }
-        ensures exported { IfOk result
-            (λ e. IsExported (⟦<Exported as Exports>⟧.kinds e) (⟦<Exported as Exports>⟧.parts e)) }
+        ensures exported { IfOk result (λ e. ⟦<Exported as Exports>⟧.is_exported e) }
         ensures root { IfOk result (λ e. whole_of (⟦<Exported as Exports>⟧.parts e) ≡ first_tree rows name) }
-        ensures none_added { IfOk result (λ e. e.tree.added ≡ 0) }
+        ensures none_added { IfOk result (λ e. (⟦<Exported as Exports>⟧.parts e).tree.added ≡ 0) }
         ensures name_back { IfErr result (λ back. back.0 ≡ name) }
         ensures kinds_back { IfErr result (λ back. ⟦<Kit as Boxes>⟧.kinds back.1 ≡ ⟦<Kit as Boxes>⟧.kinds kit) }
         ensures empty_back { IfErr result (λ back. AreEmpty (⟦<Kit as Boxes>⟧.faces back.1)) }
@@ -48,31 +47,31 @@ impl Exported {
 
     /// The shape.
     pub fn tree(&self) -> &Tree
-        ensures { result.now ≡ self.now.tree }
+        ensures { result.now ≡ (⟦<Exported as Exports>⟧.parts self.now).tree }
     {
         &self.tree
     }
 
     /// The face that keeps the texts.
     pub fn chars(&self) -> &Box<dyn Face>
-        ensures nodes { nodes result.now ≡ nodes self.now.kit.chars }
-        ensures kind { of_kind result.now ≡ of_kind self.now.kit.chars }
+        ensures nodes { nodes result.now ≡ (⟦<Exported as Exports>⟧.parts self.now).faces.chars }
+        ensures kind { of_kind result.now ≡ (⟦<Exported as Exports>⟧.kinds self.now).chars }
     {
         &self.kit.chars
     }
 
     /// The face that keeps counts of columns.
     pub fn grid(&self) -> &Box<dyn Face>
-        ensures nodes { nodes result.now ≡ nodes self.now.kit.grid }
-        ensures kind { of_kind result.now ≡ of_kind self.now.kit.grid }
+        ensures nodes { nodes result.now ≡ (⟦<Exported as Exports>⟧.parts self.now).faces.grid }
+        ensures kind { of_kind result.now ≡ (⟦<Exported as Exports>⟧.kinds self.now).grid }
     {
         &self.kit.grid
     }
 
     /// The face that keeps names of actions.
     pub fn deeds(&self) -> &Box<dyn Face>
-        ensures nodes { nodes result.now ≡ nodes self.now.kit.deeds }
-        ensures kind { of_kind result.now ≡ of_kind self.now.kit.deeds }
+        ensures nodes { nodes result.now ≡ (⟦<Exported as Exports>⟧.parts self.now).faces.deeds }
+        ensures kind { of_kind result.now ≡ (⟦<Exported as Exports>⟧.kinds self.now).deeds }
     {
         &self.kit.deeds
     }

@@ -1,7 +1,8 @@
 //! How contracts see what lies in boxes: what a struct with boxes is seen as is told by a trait, since such a struct
 //! has no model.
 
-ghost use Rattle.atspi_app_exported.specs.Parts.{Kinds, Parts, faces_of, kinds_of, parts};
+ghost use Rattle.atspi_app_exported.specs.Boxed.{IsExportedIn, faces_in, kinds_in, parts_in};
+ghost use Rattle.atspi_app_exported.specs.Parts.{Kinds, Parts};
 ghost use Rattle.atspi_protocol.specs.whole.Whole.{Faces};
 
 use crate::exported::Exported;
@@ -16,25 +17,25 @@ pub trait Boxes {
 }
 
 impl Boxes for Kit {
-    ghost kinds = { λ k. kinds_of ((Face-box k.chars).of_kind k.chars.value) ((Face-box k.grid).of_kind k.grid.value)
-        ((Face-box k.deeds).of_kind k.deeds.value) };
+    ghost kinds = { kinds_in (λ box. (Face-box box).of_kind box.value) };
 
-    ghost faces = { λ k. faces_of ((Face-box k.chars).nodes k.chars.value) ((Face-box k.grid).nodes k.grid.value)
-        ((Face-box k.deeds).nodes k.deeds.value) };
+    ghost faces = { faces_in (λ box. (Face-box box).nodes box.value) };
 }
 
-/// A whole tree over three boxes: their kinds, and the parts of the tree.
+/// A whole tree over three boxes: their kinds, the parts of the tree, and what holds of them at any time.
 pub trait Exports {
     ghost kinds: { Self → Kinds };
 
     ghost parts: { Self → Parts };
+
+    ghost is_exported: { Self → Type 0 };
 }
 
 impl Exports for Exported {
-    ghost kinds = { λ e. kinds_of ((Face-box e.kit.chars).of_kind e.kit.chars.value)
-        ((Face-box e.kit.grid).of_kind e.kit.grid.value) ((Face-box e.kit.deeds).of_kind e.kit.deeds.value) };
+    ghost kinds = { λ e. kinds_in (λ box. (Face-box box).of_kind box.value) e.kit };
 
-    ghost parts = { λ e. parts e.tree
-        (faces_of ((Face-box e.kit.chars).nodes e.kit.chars.value) ((Face-box e.kit.grid).nodes e.kit.grid.value)
-        ((Face-box e.kit.deeds).nodes e.kit.deeds.value)) };
+    ghost parts = { parts_in (λ box. (Face-box box).nodes box.value) };
+
+    ghost is_exported = { IsExportedIn (λ box. (Face-box box).of_kind box.value)
+        (λ box. (Face-box box).nodes box.value) };
 }

@@ -1,9 +1,7 @@
 //! The bytes of what an application announces, against messages that are put together value by value, or by hand.
 
-ghost use Rattle.atspi_app_exported.specs.Parts.{IsExported};
-
 use crate::plays::{NAMED, begun};
-use atspi_app::{App, Exported, Exports};
+use atspi_app::{App, Application};
 use atspi_app_cases::{play, send};
 use atspi_base::Bytes;
 use atspi_message_cases::bytes_of;
@@ -71,10 +69,8 @@ fn put_steps(alloc: Global, script: &mut String, due: &mut Bytes, steps: &str) -
 
 /// An application plays its start and what stands before a table.
 fn plays(alloc: Global, app: &mut App) -> Option<()>
-    requires exported { IsExported (⟦<Exported as Exports>⟧.kinds app.old.exported)
-        (⟦<Exported as Exports>⟧.parts app.old.exported) }
-    ensures exported { IsExported (⟦<Exported as Exports>⟧.kinds app.new.exported)
-        (⟦<Exported as Exports>⟧.parts app.new.exported) }
+    requires app { ⟦<App as Application>⟧.is_app app.old }
+    ensures app { ⟦<App as Application>⟧.is_app app.new }
 {
     let mut said = Bytes::new(alloc);
     play(alloc, app, NAMED, &mut said)?;
@@ -83,8 +79,7 @@ fn plays(alloc: Global, app: &mut App) -> Option<()>
 
 /// Whether an application that has started sends just the bytes that are due.
 fn writes(alloc: Global, app: &mut App, script: &str, due: &[u8]) -> bool
-    requires exported { IsExported (⟦<Exported as Exports>⟧.kinds app.old.exported)
-        (⟦<Exported as Exports>⟧.parts app.old.exported) }
+    requires app { ⟦<App as Application>⟧.is_app app.old }
 {
     let mut link = Link::new(alloc);
     let sent = send(alloc, app, script, &mut link);

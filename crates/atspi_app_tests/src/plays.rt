@@ -1,9 +1,8 @@
 //! Whether a conversation goes as it is written.
 
 ghost use Rattle.std.specs.Prelude.{IfSome};
-ghost use Rattle.atspi_app_exported.specs.Parts.{IsExported};
 
-use atspi_app::{App, Exported, Exports, Kit};
+use atspi_app::{App, Application, Kit};
 use atspi_app_cases::{made, play};
 use atspi_base::Bytes;
 use atspi_faces::face::Face;
@@ -36,8 +35,7 @@ fn is_script(rt: &HostRuntime, said: &Bytes, script: &str) -> bool {
 
 /// A new application, whose root has the name `Demo`, over three empty faces.
 pub(crate) fn begun(alloc: Global) -> Option<App>
-    ensures { IfSome result
-        (λ app. IsExported (⟦<Exported as Exports>⟧.kinds app.exported) (⟦<Exported as Exports>⟧.parts app.exported)) }
+    ensures { IfSome result (λ app. ⟦<App as Application>⟧.is_app app) }
 {
     let chars: Box<dyn Face> = Box::new(alloc, PlainText::new(alloc)).ok()?;
     let grid: Box<dyn Face> = Box::new(alloc, Grid::new(alloc)).ok()?;
@@ -47,10 +45,8 @@ pub(crate) fn begun(alloc: Global) -> Option<App>
 
 /// Whether an application says what stands in a script.
 fn says(rt: &HostRuntime, app: &mut App, script: &str) -> bool
-    requires exported { IsExported (⟦<Exported as Exports>⟧.kinds app.old.exported)
-        (⟦<Exported as Exports>⟧.parts app.old.exported) }
-    ensures exported { IsExported (⟦<Exported as Exports>⟧.kinds app.new.exported)
-        (⟦<Exported as Exports>⟧.parts app.new.exported) }
+    requires app { ⟦<App as Application>⟧.is_app app.old }
+    ensures app { ⟦<App as Application>⟧.is_app app.new }
 {
     let mut said = Bytes::new(rt.alloc());
     let played = play(rt.alloc(), app, script, &mut said);

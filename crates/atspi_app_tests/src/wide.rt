@@ -1,12 +1,10 @@
 //! Each member called with one value, of each type that words cannot say: numbers of other widths, and a double. Each
 //! call is refused. (A value of the type of descriptors makes bytes no message.)
 
-ghost use Rattle.atspi_app_exported.specs.Parts.{IsExported};
-
 use crate::others::{MEMBERS, put_front};
 use crate::plays::begun;
 use crate::tables::example;
-use atspi_app::{App, AppEvent, Exported, Exports};
+use atspi_app::{App, AppEvent, Application};
 use atspi_app_cases::play;
 use atspi_base::Bytes;
 use atspi_message::Message;
@@ -74,10 +72,8 @@ fn is_refused(event: Option<AppEvent>) -> bool {
 
 /// Whether an application answers a message by such an error alone.
 fn refuses(alloc: Global, app: &mut App, bytes: &[u8]) -> Option<bool>
-    requires exported { IsExported (⟦<Exported as Exports>⟧.kinds app.old.exported)
-        (⟦<Exported as Exports>⟧.parts app.old.exported) }
-    ensures exported { IsExported (⟦<Exported as Exports>⟧.kinds app.new.exported)
-        (⟦<Exported as Exports>⟧.parts app.new.exported) }
+    requires app { ⟦<App as Application>⟧.is_app app.old }
+    ensures app { ⟦<App as Application>⟧.is_app app.new }
 {
     let message = lent(bytes)?;
     app.take(alloc, &message).ok()?;
@@ -87,10 +83,8 @@ fn refuses(alloc: Global, app: &mut App, bytes: &[u8]) -> Option<bool>
 
 /// Whether an application refuses a call of a member with a value of each type.
 fn refuses_all(alloc: Global, app: &mut App, line: &str) -> Option<bool>
-    requires exported { IsExported (⟦<Exported as Exports>⟧.kinds app.old.exported)
-        (⟦<Exported as Exports>⟧.parts app.old.exported) }
-    ensures exported { IsExported (⟦<Exported as Exports>⟧.kinds app.new.exported)
-        (⟦<Exported as Exports>⟧.parts app.new.exported) }
+    requires app { ⟦<App as Application>⟧.is_app app.old }
+    ensures app { ⟦<App as Application>⟧.is_app app.new }
 {
     for (code, size) in TYPES {
         let bytes = call_with(alloc, line, code, size)?;
@@ -103,10 +97,8 @@ fn refuses_all(alloc: Global, app: &mut App, line: &str) -> Option<bool>
 
 /// Whether an application gets the example, and refuses such calls of each member.
 fn refuses_each(alloc: Global, app: &mut App) -> Option<bool>
-    requires exported { IsExported (⟦<Exported as Exports>⟧.kinds app.old.exported)
-        (⟦<Exported as Exports>⟧.parts app.old.exported) }
-    ensures exported { IsExported (⟦<Exported as Exports>⟧.kinds app.new.exported)
-        (⟦<Exported as Exports>⟧.parts app.new.exported) }
+    requires app { ⟦<App as Application>⟧.is_app app.old }
+    ensures app { ⟦<App as Application>⟧.is_app app.new }
 {
     let script = example(alloc)?;
     let mut told = Bytes::new(alloc);

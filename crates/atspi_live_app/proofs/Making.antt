@@ -7,7 +7,7 @@ use Rattle.atspi_message.specs.Envelope.{Envelope}
 use Rattle.atspi_protocol.specs.exporting.Exporter.{Happening, steps, sends, hears, deaf, Exporter, begins}
 use Rattle.atspi_protocol.specs.exporting.Starting.{starts}
 use Rattle.atspi_protocol.specs.exporting.Taking.{app_takes, app_edits, is_spent}
-use Rattle.atspi_app.specs.Seen.{IsSpentAfter}
+use Rattle.atspi_app_known.specs.application.Seen.{IsSpentAfter}
 use Rattle.atspi_live_app.specs.Standing.{Comes, Does, Event, HandedOut, IsNumbered, Makes, MayNot, RefusedBy, does, lines_in, sent_in, taken_in, takes}
 use Rattle.atspi_live_app.specs.Live.{SpentBy}
 use Rattle.atspi_live_app.specs.declared.asking.Ask.{Ask}

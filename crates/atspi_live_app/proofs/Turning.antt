@@ -166,20 +166,20 @@ then_of is_app exporter is_kit app kit held at number (place ∷ []) took said P
 then_of is_app exporter is_kit app kit held at number (place ∷ count ∷ told) took said P r s = r (drop count told) (take count told) s.1
 
 -- the same of a live application
-abbrev pub StandsOf : {A K : Type 0} → (A → Type 0) → (A → Exporter) → (K → Type 0) → List ℕ → LiveApp A K → List Envelope → List Envelope → Type 0
+abbrev pub StandsOf : {A K S : Type 0} → (A → Type 0) → (A → Exporter) → (K → Type 0) → List ℕ → LiveApp A K S → List Envelope → List Envelope → Type 0
 StandsOf is_app exporter is_kit aside l took said = StandsAt is_app exporter is_kit aside l.app l.kit l.input.text.items l.input.at l.input.number took said
 
-abbrev pub see_of : {A K : Type 0} → (A → Exporter) → LiveApp A K → Option Exporter
+abbrev pub see_of : {A K S : Type 0} → (A → Exporter) → LiveApp A K S → Option Exporter
 see_of exporter l = seen exporter l.app
 
-pub seen_of : {A K : Type 0} (is_app : A → Type 0) (exporter : A → Exporter) (is_kit : K → Type 0) (place : ℕ) (marks text : List ℕ)
-    → IsSeen (StandsOf is_app exporter is_kit (aside_of place marks text)) (IsMarked marks) (lines_of text) (see_of exporter)
+pub seen_of : {A K S : Type 0} (is_app : A → Type 0) (exporter : A → Exporter) (is_kit : K → Type 0) (place : ℕ) (marks text : List ℕ)
+    → IsSeen (StandsOf {S = S} is_app exporter is_kit (aside_of place marks text)) (IsMarked marks) (lines_of text) (see_of exporter)
 seen_of is_app exporter is_kit place marks text l took said f =
     after is_app exporter is_kit text marks l.app l.kit l.input.text.items l.input.at l.input.number took said
     (stands_in is_app exporter is_kit place marks text l.app l.kit l.input.text.items l.input.at l.input.number took said f).1
 
 -- where a line may have been done, an end that may speak still may
-pub may_turns : {A K : Type 0} (is_app : A → Type 0) (exporter : A → Exporter) (is_kit : K → Type 0) (old new : LiveApp A K)
+pub may_turns : {A K S : Type 0} (is_app : A → Type 0) (exporter : A → Exporter) (is_kit : K → Type 0) (old new : LiveApp A K S)
     → ((text marks : List ℕ) (place : ℕ) (took said : List Envelope) → StandsOf is_app exporter is_kit (aside_of place marks text) old took said → (aside : List ℕ) × StandsOf is_app exporter is_kit aside new took said)
     → MaySpeak (StandsOf is_app exporter is_kit) old → MaySpeak (StandsOf is_app exporter is_kit) new
 may_turns is_app exporter is_kit old new r m =

@@ -11,7 +11,7 @@ use Rattle.atspi_script_lines.specs.Line.{ReadsLine}
 use Rattle.atspi_protocol.specs.exporting.Exporter.{Happening, steps, sends, hears, deaf, Exporter, begins}
 use Rattle.atspi_protocol.specs.exporting.Starting.{starts}
 use Rattle.atspi_protocol.specs.exporting.Taking.{app_takes, app_edits, is_spent}
-use Rattle.atspi_app.specs.Seen.{IsSpentAfter}
+use Rattle.atspi_app_known.specs.application.Seen.{IsSpentAfter}
 use Rattle.atspi_live_app.specs.Asking.{IsAsk}
 use Rattle.atspi_live_app.specs.declared.asking.Ask.{Ask}
 use Rattle.atspi_live_app.specs.declared.asking.Ask.TheVariants as ask

@@ -1,7 +1,11 @@
 //! What a line asks for is done.
 
-ghost use Rattle.std.specs.Prelude.{◌≡◌, IfErr, IfOk, OnOk};
+ghost use Rattle.std.specs.Prelude.{◌≡◌, false, IfErr, IfOk, OnOk};
 ghost use Rattle.atspi_tree_model.specs.Edits.{IsEdit};
+ghost use Rattle.atspi_tree_model.specs.Row.{IsName};
+ghost use Rattle.atspi_protocol.specs.exporting.Exporter.{begins};
+ghost use Rattle.atspi_protocol.specs.exporting.Starting.{starts};
+ghost use Rattle.atspi_protocol.specs.exporting.Taking.{is_spent};
 ghost use Rattle.atspi_live_app.specs.Live.{IsKept, IsLawful, IsStarted, IsUndone, seen};
 ghost use Rattle.atspi_live_app.specs.Pace.{rounds_of};
 ghost use Rattle.atspi_live_app.specs.Standing.{Does, IsNumbered};
@@ -9,9 +13,8 @@ ghost use Rattle.atspi_live_app.specs.inner.Stops.{undone_of};
 ghost use Rattle.atspi_live_app.specs.declared.asking.Ask.TheVariants as asks;
 
 use crate::asking::Ask;
-use crate::exporting::Exporting;
-use atspi_app::AppFault;
-use atspi_base::Text;
+use atspi_app::{AppFault, Application};
+use atspi_base::{NoMemory, Text};
 use atspi_tree_model::{Edit, EditFault, NAME_LIMIT};
 use std::alloc::Global;
 
@@ -36,8 +39,23 @@ fn undone_of(fault: AppFault) -> Undone
     }
 }
 
+/// A new application over a kit, started. It fails only for want of memory.
+fn started<A: Application>(alloc: Global, name: Text, kit: A::Kit) -> Result<A, NoMemory>
+    requires name { IsName name }
+    requires kit { A.is_kit kit }
+    ensures app { IfOk result (λ app. A.is_app app) }
+    ensures starts { IfOk result (λ app. A.exporter app ≡ starts (begins name)) }
+    ensures numbered { IfOk result (λ app. is_spent (A.exporter app) ≡ false) }
+{
+    let mut app = A::new(alloc, name, kit)?;
+    match app.start(alloc) {
+        Ok(()) => Ok(app),
+        Err(_) => Err(NoMemory),
+    }
+}
+
 /// The application starts, with the kit that is kept for it.
-fn start<A: Exporting>(
+fn start<A: Application>(
     alloc: Global,
     name: Text,
     app: &mut Option<A>,
@@ -59,7 +77,7 @@ fn start<A: Exporting>(
     let Some(kit) = kit.take() else {
         return Err(Undone::NoMemory);
     };
-    match A::begin(alloc, name, kit) {
+    match started::<A>(alloc, name, kit) {
         Ok(begun) => {
             *app = Some(begun);
             Ok(())
@@ -69,7 +87,7 @@ fn start<A: Exporting>(
 }
 
 /// The application makes an edit.
-fn make<A: Exporting>(alloc: Global, edit: &Edit, app: &mut Option<A>) -> Result<(), Undone>
+fn make<A: Application>(alloc: Global, edit: &Edit, app: &mut Option<A>) -> Result<(), Undone>
     requires app { IsStarted A.is_app app.old }
     requires lawful { IsEdit edit.now }
     ensures app { IsStarted A.is_app app.new }
@@ -87,7 +105,7 @@ fn make<A: Exporting>(alloc: Global, edit: &Edit, app: &mut Option<A>) -> Result
 }
 
 /// What a line asks for is done. Answers how many rounds the line takes.
-pub(crate) fn do_ask<A: Exporting>(
+pub(crate) fn do_ask<A: Application>(
     alloc: Global,
     ask: Ask,
     app: &mut Option<A>,

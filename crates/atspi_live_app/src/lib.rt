@@ -4,8 +4,6 @@
 mod asking;
 mod doing;
 pub mod examples;
-mod exporting;
-mod held;
 mod input;
 mod lines;
 mod live_app;

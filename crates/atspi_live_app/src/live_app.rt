@@ -11,10 +11,10 @@ ghost use Rattle.atspi_live_app.specs.Standing as standing;
 ghost use Rattle.atspi_live_app.specs.inner.Stops.{stop_of_line, stop_of_undone};
 
 use crate::doing::{Undone, do_ask};
-use crate::exporting::Exporting;
 use crate::input::{INPUT_LIMIT, Input};
 use crate::naming::Refused;
 use crate::next_message::next_message;
+use atspi_app::Application;
 use atspi_live_conversation::BusEnd;
 use atspi_message::Message;
 use atspi_message_in_place::MessageRef;
@@ -24,7 +24,7 @@ use std::alloc::Global;
 
 /// An application, once it has started, and its input.
 #[derive(Drop)]
-pub(crate) struct LiveApp<A: Exporting> {
+pub(crate) struct LiveApp<A: Application> {
     alloc: Global,
     pub(crate) app: Option<A>,
     /// What the application is made with, before it has started.
@@ -65,7 +65,7 @@ fn stop_of_undone(undone: Undone, number: u64) -> Stop
     }
 }
 
-impl<A: Exporting> LiveApp<A> {
+impl<A: Application> LiveApp<A> {
     /// None has started, and these are the lines of its input.
     pub(crate) fn new(alloc: Global, text: Vec<u8>, kit: A::Kit) -> LiveApp<A>
         requires kit { A.is_kit kit }
@@ -106,7 +106,7 @@ impl<A: Exporting> LiveApp<A> {
     }
 }
 
-impl<A: Exporting> BusEnd for LiveApp<A> {
+impl<A: Application> BusEnd for LiveApp<A> {
     ghost Stands = { λ aside l took said. live.StandsAt A.is_app A.exporter A.is_kit aside l.app l.kit
         l.input.text.items l.input.at l.input.number took said };
 

@@ -7,8 +7,7 @@ ghost use Rattle.atspi_live_app.specs.HandedOver.{HandsOver, IsHanded};
 ghost use Rattle.atspi_live_app.specs.Live.{Hands, IsStarted, queued_in, seen};
 ghost use Rattle.atspi_live_app.specs.declared.next_message.Handed.{Handed};
 
-use crate::exporting::Exporting;
-use atspi_app::AppEvent;
+use atspi_app::{AppEvent, Application};
 use atspi_message::Message;
 
 /// What an application has queued first.
@@ -32,7 +31,7 @@ fn handed_of(event: AppEvent) -> Handed
 }
 
 /// Takes what an application has queued first.
-fn hand_over<A: Exporting>(app: &mut A) -> Handed
+fn hand_over<A: Application>(app: &mut A) -> Handed
     requires { A.is_app app.old }
     ensures app { A.is_app app.new }
     ensures hands { HandsOver result (A.exporter app.old) (A.exporter app.new) }
@@ -45,7 +44,7 @@ fn hand_over<A: Exporting>(app: &mut A) -> Handed
 }
 
 /// The oldest message of an application that was not handed out. What happened before it is passed.
-fn next_of<A: Exporting>(app: &mut A) -> Option<Message>
+fn next_of<A: Application>(app: &mut A) -> Option<Message>
     requires { A.is_app app.old }
     ensures app { A.is_app app.new }
     ensures hands { Hands envelope_of result (Some (A.exporter app.old)) (Some (A.exporter app.new)) }
@@ -62,7 +61,7 @@ fn next_of<A: Exporting>(app: &mut A) -> Option<Message>
 }
 
 /// The same of an application that may not have started yet.
-pub(crate) fn next_message<A: Exporting>(app: &mut Option<A>) -> Option<Message>
+pub(crate) fn next_message<A: Application>(app: &mut Option<A>) -> Option<Message>
     requires { IsStarted A.is_app app.old }
     ensures app { IsStarted A.is_app app.new }
     ensures hands { Hands envelope_of result (seen A.exporter app.old) (seen A.exporter app.new) }

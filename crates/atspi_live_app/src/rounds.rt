@@ -14,9 +14,9 @@ ghost use Rattle.atspi_live_app.specs.Rounds.{RunsPaced};
 ghost use Rattle.atspi_live_app.specs.Standing.{IsAfter, IsEmpty};
 ghost use Rattle.atspi_live_app.specs.Turns.{InTurn};
 
-use crate::exporting::Exporting;
 use crate::live_app::{LiveApp, Stop};
 use crate::over::Over;
+use atspi_app::Application;
 use atspi_live_conversation::{BusEnd, Conversation, Ending, round};
 use atspi_live_host::Host;
 use std::alloc::Global;
@@ -25,7 +25,7 @@ use std::alloc::Global;
 const PIECE: usize = 4096;
 
 /// The next line is done, where the last one has taken all its rounds.
-fn do_due<A: Exporting>(end: &mut LiveApp<A>, takes: &mut u32) -> Result<(), Stop>
+fn do_due<A: Application>(end: &mut LiveApp<A>, takes: &mut u32) -> Result<(), Stop>
     requires { MaySpeak ⟦<LiveApp<A> as BusEnd>⟧.Stands end.old }
     ensures ok { OnOk result
         ((text marks : List ℕ) (place : ℕ) (took said : List Envelope)
@@ -51,7 +51,7 @@ fn do_due<A: Exporting>(end: &mut LiveApp<A>, takes: &mut u32) -> Result<(), Sto
 }
 
 /// One round, before which a line is done where one is due.
-fn turn<A: Exporting, H: Host>(
+fn turn<A: Application, H: Host>(
     host: &mut H,
     link: u32,
     piece: &mut [u8],
@@ -104,7 +104,7 @@ fn turn<A: Exporting, H: Host>(
 
 /// Lets an application export its tree on a link that was given and not used, for so many rounds, and do the lines of
 /// its input.
-pub(crate) fn export<A: Exporting, H: Host>(
+pub(crate) fn export<A: Application, H: Host>(
     alloc: Global,
     host: &mut H,
     link: u32,

@@ -7,14 +7,12 @@ ghost use Rattle.atspi_live_app.specs.Lines.{lines_of};
 ghost use Rattle.atspi_live_app.specs.Names.{refused_text};
 ghost use Rattle.atspi_live_app.specs.Runs.{OverReports, RunEnds, TextEnds, WritesRefusal};
 
-use crate::exporting::Exporting;
-use crate::held::Held;
 use crate::input::{End, INPUT_LIMIT, read_all};
 use crate::live_app::{LiveApp, Stop};
 use crate::naming::{Refused, put_refused};
 use crate::over::Over;
 use crate::rounds::export;
-use atspi_app::{Boxes, Kit};
+use atspi_app::{App, Application, Boxes, Kit};
 use atspi_base::{Bytes, Sink, Source, Text, write_all};
 use atspi_live_conversation::report;
 use atspi_live_host::{Did, Host};
@@ -49,7 +47,7 @@ fn tell<K: Sink>(alloc: Global, over: Over, sink: &mut K) -> u8
 }
 
 /// Connects to the bus at the path, and is an application there whose input is this text.
-fn run_on<A: Exporting, K: Sink, H: Host>(
+fn run_on<A: Application, K: Sink, H: Host>(
     alloc: Global,
     path: &Text,
     rounds: u32,
@@ -107,10 +105,7 @@ pub fn app<S: Source, K: Sink, H: Host>(
 {
     let mut text = Vec::new(alloc);
     match read_all(source, &mut text) {
-        Ok(End::Whole) => {
-            let Kit { chars, grid, deeds } = kit;
-            run_on::<Held, K, H>(alloc, path, rounds, text, sink, host, (chars, grid, deeds))
-        }
+        Ok(End::Whole) => run_on::<App, K, H>(alloc, path, rounds, text, sink, host, kit),
         Ok(End::TooLong) => 8,
         Ok(End::Failed) => 3,
         Err(_) => 5,

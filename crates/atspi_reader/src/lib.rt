@@ -4,7 +4,6 @@
 
 mod asks;
 mod begin;
-mod fault;
 mod known;
 mod question;
 mod reader;
@@ -16,5 +15,5 @@ mod turns;
 mod waiting;
 mod wanted;
 
-pub use fault::CallFault;
+pub use atspi_reader_calls::CallFault;
 pub use state::Reader;

@@ -17,7 +17,6 @@ ghost use Rattle.atspi_reader.specs.Steps.{Does};
 ghost use Rattle.atspi_reader.specs.ReaderOf.{IsReader, reader_of};
 
 use crate::begin::start_calls;
-use crate::fault::CallFault;
 use crate::question::{is_answer, is_signal};
 use crate::state::Reader;
 use atspi_base::NoMemory;
@@ -27,7 +26,7 @@ use atspi_message::Message;
 use atspi_message_in_place::MessageRef;
 use atspi_protocol::ends::EndFault;
 use atspi_protocol::following::ReaderEvent;
-use atspi_reader_calls::user_call;
+use atspi_reader_calls::{CallFault, user_call};
 use atspi_reader_known::Apps;
 use atspi_script_lines::Deed;
 use std::alloc::Global;

@@ -3,8 +3,10 @@
 
 mod bodies;
 mod deeds;
+mod fault;
 mod own;
 mod targets;
 
 pub use deeds::{deed_call, user_call};
+pub use fault::CallFault;
 pub use own::{asking, own_call};

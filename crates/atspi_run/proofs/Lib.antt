@@ -1,4 +1,3 @@
-pub mod OfAppEnd
 pub mod CommandLemmas
 pub mod TaskLemmas
 pub mod WordLemmas

@@ -1,4 +1,2 @@
 pub mod inner
-pub mod reader_end
-pub mod app_end
 pub mod Words

@@ -1,7 +1,6 @@
 //! What the words of a command line do: the top call `run`, over any source and any sink.
 #![tactic(auto)]
 
-pub mod app_end;
 mod commands;
 pub mod reader_end;
 mod words;

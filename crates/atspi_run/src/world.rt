@@ -7,16 +7,14 @@ ghost use Rattle.atspi_run_replay.specs.Causes.{Causes};
 ghost use Rattle.atspi_run.specs.inner.Tasks.{DoesTask, MayDo};
 ghost use Rattle.atspi_trace.specs.Work.{spare_count};
 
-use crate::app_end::StageApp;
 use crate::reader_end::StageReader;
 use crate::words::Task;
-use atspi_app::Kit;
+use atspi_app::{App, Kit};
 use atspi_base::{Sink, Source};
 use atspi_faces::face::Face;
 use atspi_faces::{Deeds, GapText, Grid, PlainText};
-use atspi_run_make::HasTree;
 use atspi_run_replay::{make, replay};
-use atspi_world_ends::Follower;
+use atspi_world_ends::{Application, Follower};
 use std::alloc::{AllocError, Global};
 
 /// So many applications a world can start, and so often it can exchange a face.
@@ -41,7 +39,7 @@ fn supply<T: Drop, F: Fn() -> Result<T, AllocError>>(
 }
 
 /// Does what is asked for in a world over these kits and spares.
-fn do_over<A: HasTree, R: Follower, S: Source, K: Sink>(
+fn do_over<A: Application, R: Follower, S: Source, K: Sink>(
     alloc: Global,
     task: Task,
     source: &mut S,
@@ -109,5 +107,5 @@ pub fn do_task<S: Source, K: Sink>(alloc: Global, task: Task, source: &mut S, si
     let Ok(spares) = spares else {
         return 5;
     };
-    do_over::<StageApp, StageReader, S, K>(alloc, task, source, sink, kits, spares)
+    do_over::<App, StageReader, S, K>(alloc, task, source, sink, kits, spares)
 }

@@ -1,4 +1,3 @@
 pub mod Draws
 pub mod Drawing
 pub mod Live
-pub mod Exported

@@ -4,9 +4,7 @@
 mod draws;
 mod edits;
 mod nodes;
-mod source;
 
 pub use draws::Draws;
 pub use edits::next_edit;
 pub use nodes::LiveNodes;
-pub use source::HasTree;

@@ -18,7 +18,7 @@ use Rattle.atspi_protocol.specs.exporting.Exporter.{Exporter}
 use Rattle.atspi_protocol.specs.following.ReaderState.{ReaderState}
 use Rattle.atspi_tree.specs.TreeShape.{TreeShape, IsLawful}
 use Rattle.atspi_run_make.specs.Drawing.{live_nodes}
-use Rattle.atspi_run_make.specs.Exported.{shape_seen}
+use Rattle.atspi_app_known.specs.application.Seen.{shape_seen}
 use Rattle.atspi_run_make.specs.Live.{CanFollow}
 use Rattle.atspi_run_make.proofs.LiveLemmas.{follow_on}
 use Rattle.atspi_trace.specs.Entry.{Entry, entries_of}

@@ -24,7 +24,7 @@ use crate::naming::{Refused, Stop, stop_of_act};
 use crate::replaying::stop_status;
 use crate::serials::all_fit;
 use atspi_base::{Bytes, NoMemory, Sink, Text, put_decimal, write_all};
-use atspi_run_make::{Draws, HasTree, LiveNodes, next_edit};
+use atspi_run_make::{Draws, LiveNodes, next_edit};
 use atspi_script_lines::Line;
 use atspi_trace_events::Event;
 use atspi_tree_model::Edit;
@@ -82,7 +82,7 @@ fn begin<A: Application, R: Follower>(alloc: Global, world: &mut Stage<A, R>) ->
 
 /// The edit with this number is drawn from the first application's tree. Where there is none, an edit of it would be
 /// refused.
-fn draw<A: HasTree, R: Follower>(
+fn draw<A: Application, R: Follower>(
     alloc: Global,
     world: &Stage<A, R>,
     number: u32,
@@ -132,7 +132,7 @@ fn make_turns<A: Application, R: Follower>(world: &mut Stage<A, R>, number: u32)
 }
 
 /// The edit with this number is drawn and made, with the turns behind it.
-fn make_edit<A: HasTree, R: Follower>(
+fn make_edit<A: Application, R: Follower>(
     alloc: Global,
     world: &mut Stage<A, R>,
     number: u32,
@@ -159,7 +159,7 @@ fn make_edit<A: HasTree, R: Follower>(
 }
 
 /// So many edits, with turns behind each sixteenth, and all that then waits.
-fn make_edits<A: HasTree, R: Follower>(
+fn make_edits<A: Application, R: Follower>(
     alloc: Global,
     world: &mut Stage<A, R>,
     count: u32,
@@ -280,7 +280,7 @@ fn tell<K: Sink>(alloc: Global, count: u32, seed: u32, of: Outcome, sink: &mut K
 }
 
 /// Makes the edits in a world, and answers what came of them.
-fn make_in<A: HasTree, R: Follower>(
+fn make_in<A: Application, R: Follower>(
     alloc: Global,
     world: &mut Stage<A, R>,
     count: u32,
@@ -300,7 +300,7 @@ fn make_in<A: HasTree, R: Follower>(
 }
 
 /// Makes the edits in a world over these kits and spares, and answers what came of them.
-fn make_all<A: HasTree, R: Follower>(
+fn make_all<A: Application, R: Follower>(
     alloc: Global,
     count: u32,
     seed: u32,
@@ -330,7 +330,7 @@ fn make_all<A: HasTree, R: Follower>(
 /// Status 0: the line was written. 4: the sink failed. With any other nothing was written. 1: the lawful trace of the
 /// lines before it refuses a line of the script. 5: no memory is left. 9: the registry was dropped at its quota. 13: a
 /// message would pass the last number.
-pub fn make<A: HasTree, R: Follower, K: Sink>(
+pub fn make<A: Application, R: Follower, K: Sink>(
     alloc: Global,
     count: u32,
     seed: u32,

@@ -7,10 +7,10 @@ use Rattle.atspi_world_links.specs.declared.fault.SendFault.{SendFault}
 use Rattle.atspi_world_links.specs.declared.fault.SendFault.TheVariants as send
 use Rattle.atspi_protocol.specs.declared.ends.fault.EndFault.{EndFault}
 use Rattle.atspi_protocol.specs.declared.ends.fault.EndFault.TheVariants as ends
-use Rattle.atspi_world_ends.specs.declared.fault.AppFault.{AppFault}
-use Rattle.atspi_world_ends.specs.declared.fault.AppFault.TheVariants as app
-use Rattle.atspi_world_ends.specs.declared.fault.CallFault.{CallFault}
-use Rattle.atspi_world_ends.specs.declared.fault.CallFault.TheVariants as call
+use Rattle.atspi_app_known.specs.declared.application.fault.AppFault.{AppFault}
+use Rattle.atspi_app_known.specs.declared.application.fault.AppFault.TheVariants as app
+use Rattle.atspi_reader_calls.specs.declared.fault.CallFault.{CallFault}
+use Rattle.atspi_reader_calls.specs.declared.fault.CallFault.TheVariants as call
 use Rattle.atspi_world.specs.declared.fault.ActFault.TheVariants.{Spent, RegistryLost}
 use Rattle.atspi_world.specs.Faults.{of_carry, of_sent, of_app, of_call}
 

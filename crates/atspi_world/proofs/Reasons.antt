@@ -4,10 +4,10 @@ use Rattle.std.specs.Prelude.{Result, Ok, Err, IsErrAnd}
 use Rattle.std.proofs.lemmas.Result.{err_from_is_err_and}
 use Rattle.atspi_tree_model.specs.declared.edit.EditFault.{EditFault}
 use Rattle.atspi_trace.specs.Work as work
-use Rattle.atspi_world_ends.specs.declared.fault.AppFault.{AppFault}
-use Rattle.atspi_world_ends.specs.declared.fault.AppFault.TheVariants as app
-use Rattle.atspi_world_ends.specs.declared.fault.CallFault.{CallFault}
-use Rattle.atspi_world_ends.specs.declared.fault.CallFault.TheVariants as call
+use Rattle.atspi_app_known.specs.declared.application.fault.AppFault.{AppFault}
+use Rattle.atspi_app_known.specs.declared.application.fault.AppFault.TheVariants as app
+use Rattle.atspi_reader_calls.specs.declared.fault.CallFault.{CallFault}
+use Rattle.atspi_reader_calls.specs.declared.fault.CallFault.TheVariants as call
 use Rattle.atspi_world.specs.declared.fault.ActFault.{ActFault}
 use Rattle.atspi_world.specs.declared.fault.ActFault.TheVariants.{Refused, Spent, NoMemory}
 use Rattle.atspi_world_parties.specs.declared.refusing.Refusal.{Refusal}

@@ -3,10 +3,10 @@ use Rattle.atspi_world_moves.specs.declared.fault.CarryFault.{CarryFault}
 use Rattle.atspi_world_moves.specs.declared.fault.CarryFault.TheVariants as carry
 use Rattle.atspi_world_links.specs.declared.fault.SendFault.{SendFault}
 use Rattle.atspi_world_links.specs.declared.fault.SendFault.TheVariants as send
-use Rattle.atspi_world_ends.specs.declared.fault.AppFault.{AppFault}
-use Rattle.atspi_world_ends.specs.declared.fault.AppFault.TheVariants as app
-use Rattle.atspi_world_ends.specs.declared.fault.CallFault.{CallFault}
-use Rattle.atspi_world_ends.specs.declared.fault.CallFault.TheVariants as call
+use Rattle.atspi_app_known.specs.declared.application.fault.AppFault.{AppFault}
+use Rattle.atspi_app_known.specs.declared.application.fault.AppFault.TheVariants as app
+use Rattle.atspi_reader_calls.specs.declared.fault.CallFault.{CallFault}
+use Rattle.atspi_reader_calls.specs.declared.fault.CallFault.TheVariants as call
 use Rattle.atspi_world.specs.declared.fault.ActFault.{ActFault}
 use Rattle.atspi_world.specs.declared.fault.ActFault.TheVariants.{Refused, Spent, RegistryLost, Unsendable, NoMemory}
 use Rattle.atspi_world_parties.specs.declared.refusing.Refusal.TheVariants.{NotHeld, Edit}

@@ -9,13 +9,13 @@ ghost use Rattle.atspi_protocol.specs.following.Takes.{starts, reader_takes, rea
 ghost use Rattle.atspi_reader_calls.specs.Deeds.{MayBeAsked};
 ghost use Rattle.atspi_world_ends.specs.Done.{done_of};
 
-use crate::fault::CallFault;
 use atspi_base::NoMemory;
 use atspi_base::valid_names::BusName;
 use atspi_cache_arena::Rows;
 use atspi_message_in_place::MessageRef;
 use atspi_protocol::ends::EndFault;
 use atspi_protocol::following::ReaderEvent;
+use atspi_reader_calls::CallFault;
 use atspi_script_lines::Deed;
 use std::alloc::Global;
 

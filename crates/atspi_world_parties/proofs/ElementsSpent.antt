@@ -1,8 +1,9 @@
 -- What one of many spends with what its user asks for.
 use Rattle.std.proofs.Common.{◌≡◌, ℕ, true, List, map, get_or, Option, None, Some, refl, sym, ap, ◌∙◌, subst}
-use Rattle.std.specs.Prelude.{Result, Ok, IsErrOf, ◌↔◌}
+use Rattle.std.specs.Prelude.{Result, Ok, Err, IsErrOf, ◌↔◌}
 use Rattle.std.proofs.lemmas.Bool.{ltb-true}
 use Rattle.atspi_tree_model.specs.declared.edit.Edit.{Edit}
+use Rattle.atspi_tree_model.specs.declared.edit.EditFault.{EditFault}
 use Rattle.atspi_tree_model.specs.declared.view.Row.{Row}
 use Rattle.atspi_tree_model.specs.Forest.{Forest}
 use Rattle.atspi_script_lines.specs.declared.deed.Deed.{Deed}
@@ -10,25 +11,34 @@ use Rattle.atspi_protocol.specs.exporting.Exporter.{Exporter}
 use Rattle.atspi_protocol.specs.exporting.Taking.{app_edits, is_spent}
 use Rattle.atspi_protocol.specs.following.ReaderState.{ReaderState}
 use Rattle.atspi_protocol.specs.following.Takes.{held_view, reader_calls}
+use Rattle.atspi_app_known.specs.application.Seen.{IsSpentAfter}
 use Rattle.atspi_trace.specs.Work.{if_refused}
 use Rattle.atspi_trace.specs.play.Breaking.{IsPast}
 use Rattle.atspi_trace.specs.play.Playing.{held_by}
 use Rattle.atspi_trace.specs.play.Played.{if_viewed}
-use Rattle.atspi_world_ends.specs.declared.fault.CallFault.{CallFault}
-use Rattle.atspi_world_ends.specs.declared.fault.CallFault.TheVariants as call
-use Rattle.atspi_world_parties.specs.Asked.{EditSpends, CallSpends, EditIsRefused, CallIsRefused}
+use Rattle.atspi_reader_calls.specs.declared.fault.CallFault.{CallFault}
+use Rattle.atspi_reader_calls.specs.declared.fault.CallFault.TheVariants as call
+use Rattle.atspi_world_parties.specs.Asked.{EditSpends, IsEditSpent, CallSpends, EditIsRefused, CallIsRefused}
 use Rattle.atspi_world_parties.proofs.Elements.{seen_there}
 
 -- its next serial is above the last
 pub past : (s : Exporter) → is_spent s ≡ true → IsPast s.next
 past s h = ltb-true 4294967296 s.next h
 
+-- the edit is made, and spends the serials
+edit_is_spent : (s : Exporter) (edit : Edit) → IsSpentAfter (app_edits s edit) → IsEditSpent s edit
+edit_is_spent s edit spent = by (app_edits s edit) refl spent
+  where
+    by : (r : Result Exporter EditFault) → app_edits s edit ≡ r → IsSpentAfter r → IsEditSpent s edit
+    by (Ok after) is h = record { state = after; edited = is; spent = past after h }
+    by (Err fault) is h = absurd h
+
 module _ {A : Type 0} (exporter : A → Exporter) where
-  pub edit_spends : (apps : List A) (a : A) (number : ℕ) (edit : Edit) → a ≡ get_or apps number a → (after : Exporter) × (app_edits (exporter a) edit ≡ Ok after)
-      → ((after : Exporter) → app_edits (exporter a) edit ≡ Ok after → is_spent after ≡ true) → EditSpends (map exporter apps) number edit
-  edit_spends apps a number edit app_is allowed spends = λ s at.
+  pub edit_spends : (apps : List A) (a : A) (number : ℕ) (edit : Edit) → a ≡ get_or apps number a
+      → IsSpentAfter (app_edits (exporter a) edit) → EditSpends (map exporter apps) number edit
+  edit_spends apps a number edit app_is spent = λ s at.
       let s_is : exporter a ≡ s = ap exporter app_is ∙ seen_there exporter apps number a s at in
-      record { state = allowed.0; edited = ap (λ x. app_edits x edit) (sym s_is) ∙ allowed.1; spent = past allowed.0 (spends allowed.0 allowed.1) }
+      edit_is_spent s edit (subst (λ (x : Exporter). IsSpentAfter (app_edits x edit)) s_is spent)
 
 -- it is not refused
 pub edit_accepted : (apps : List Exporter) (number : ℕ) (edit : Edit) → EditSpends apps number edit → EditIsRefused None apps number edit

@@ -8,8 +8,8 @@ use Rattle.atspi_protocol.specs.following.Takes.{held_view}
 use Rattle.atspi_trace.specs.Work as work
 use Rattle.atspi_trace.specs.play.Playing.{held_by}
 use Rattle.atspi_trace.specs.play.Played.{if_viewed}
-use Rattle.atspi_world_ends.specs.declared.fault.CallFault.{CallFault}
-use Rattle.atspi_world_ends.specs.declared.fault.CallFault.TheVariants as call
+use Rattle.atspi_reader_calls.specs.declared.fault.CallFault.{CallFault}
+use Rattle.atspi_reader_calls.specs.declared.fault.CallFault.TheVariants as call
 use Rattle.atspi_world_parties.specs.Asked.{CallIsRefused}
 use Rattle.atspi_world_parties.proofs.Elements.{same_there, seen_there}
 

@@ -1,7 +1,7 @@
 -- Why no further line is done, by why a line asks for nothing, and by why what it asks for is not done.
 use Rattle.std.specs.Prelude.{ℕ}
-use Rattle.atspi_app.specs.declared.fault.AppFault.{AppFault}
-use Rattle.atspi_app.specs.declared.fault.AppFault.TheVariants as app
+use Rattle.atspi_app_known.specs.declared.application.fault.AppFault.{AppFault}
+use Rattle.atspi_app_known.specs.declared.application.fault.AppFault.TheVariants as app
 use Rattle.atspi_script_lines.specs.declared.line.LineFault.{LineFault}
 use Rattle.atspi_script_lines.specs.declared.line.LineFault.TheVariants as faults
 use Rattle.atspi_live_app.specs.declared.doing.Undone.{Undone}

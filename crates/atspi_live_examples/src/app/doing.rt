@@ -8,7 +8,7 @@ ghost use Rattle.atspi_message.specs.Envelope.{Envelope};
 ghost use Rattle.atspi_protocol.specs.exporting.Exporter.{Exporter, begins};
 ghost use Rattle.atspi_protocol.specs.exporting.Starting.{starts};
 ghost use Rattle.atspi_protocol.specs.exporting.Taking.{app_edits, app_takes, is_spent};
-ghost use Rattle.atspi_app.specs.Seen.{IsSpentAfter};
+ghost use Rattle.atspi_app_known.specs.application.Seen.{IsSpentAfter};
 ghost use Rattle.atspi_live_app.specs.Asking.{IsAsk};
 ghost use Rattle.atspi_live_app.specs.Live.{IsLawful, IsMarked, SpentBy};
 ghost use Rattle.atspi_live_app.specs.Standing.{Comes, Does, IsRefused, IsSpentAt, Makes, RefusedAs, RefusedBy, does};

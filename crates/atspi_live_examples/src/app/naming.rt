@@ -1,12 +1,12 @@
 //! Why a line is not done, and the line that tells it.
 
 ghost use Rattle.std.specs.Prelude.{◌≡◌, ◌∷◌, ◌++◌, ℕ, [], List, None, Some, codes};
-ghost use Rattle.atspi_app.specs.declared.fault.AppFault.TheVariants as app;
+ghost use Rattle.atspi_app_known.specs.application.Faults.{of_end};
+ghost use Rattle.atspi_app_known.specs.declared.application.fault.AppFault.TheVariants as app;
 ghost use Rattle.atspi_script_lines.specs.declared.line.LineFault.TheVariants as faults;
 ghost use Rattle.atspi_message.specs.Envelope.{Envelope};
 ghost use Rattle.atspi_protocol.specs.declared.ends.fault.EndFault.TheVariants as ends;
 ghost use Rattle.atspi_protocol.specs.exporting.Exporter.{Exporter};
-ghost use Rattle.atspi_live_app.specs.inner.Faults.{end_of_app};
 ghost use Rattle.atspi_live_app.specs.Live.{IsMarked, IsStopped, IsUndone, SpentBy};
 ghost use Rattle.atspi_live_app.specs.Names.{edit_fault_name, refused_name, refused_text};
 ghost use Rattle.atspi_live_app.specs.Standing.{IsRefused, IsSpentAt, RefusedBy};
@@ -62,7 +62,7 @@ pub fn reasons_to_stop()
         → IsStopped (λ history more. ⊥) (stop_of_undone (undone_of app.NoMemory) 3) lines took }
 {}
 
-/// What each reason means that an application gives; and of its reasons those that an end knows.
+/// What each reason means that an application gives; and those that an end gives, as its own.
 pub fn meanings_of_reasons()
     ensures refused { (s : Exporter) (what : Ask) → RefusedBy (Some s) what EditFault.Cycle
         → IsUndone (undone_of (app.Refused EditFault.Cycle)) (Some s) what }
@@ -71,7 +71,6 @@ pub fn meanings_of_reasons()
     ensures spent { (s : Exporter) (what : Ask) → SpentBy (Some s) what → IsUndone (undone_of app.Spent) (Some s) what }
     ensures not_spent { IsUndone (undone_of app.Spent) None asks.Nothing → ⊥ }
     ensures wanting { IsUndone (undone_of app.NoMemory) None asks.Nothing }
-    ensures end_wanting { end_of_app app.NoMemory ≡ ends.NoMemory }
-    ensures end_refused { end_of_app (app.Refused EditFault.Cycle) ≡ ends.NoMemory }
-    ensures end_spent { end_of_app app.Spent ≡ ends.Spent }
+    ensures end_wanting { of_end ends.NoMemory ≡ app.NoMemory }
+    ensures end_spent { of_end ends.Spent ≡ app.Spent }
 {}

@@ -1,7 +1,7 @@
 //! An application that has not started: where it stands, and when a line is in turn.
 
 ghost use Rattle.std.specs.Prelude.{◌≡◌, ◌<◌, ◌∷◌, ℕ, [], List, None, Some, codes, length};
-ghost use Rattle.atspi_app.specs.declared.fault.AppFault.TheVariants as app;
+ghost use Rattle.atspi_app_known.specs.declared.application.fault.AppFault.TheVariants as app;
 ghost use Rattle.atspi_script_lines.specs.declared.line.LineFault.TheVariants as faults;
 ghost use Rattle.atspi_live_host.specs.declared.call.Call.{Call};
 ghost use Rattle.atspi_live_host.specs.declared.call.Did.{Did};

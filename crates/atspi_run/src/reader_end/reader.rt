@@ -2,7 +2,6 @@
 
 ghost use Rattle.std.specs.Prelude.{◌≡◌};
 ghost use Rattle.atspi_reader.specs.ReaderOf.{IsReader, reader_of};
-ghost use Rattle.atspi_run.specs.reader_end.inner.Faults.{of_call};
 
 use atspi_base::NoMemory;
 use atspi_base::valid_names::BusName;
@@ -19,17 +18,6 @@ use std::alloc::Global;
 #[derive(Drop)]
 pub struct StageReader {
     reader: Reader,
-}
-
-/// Why a reader did not send a call of its user, in the words of a world.
-fn call_fault(fault: atspi_reader::CallFault) -> CallFault
-    ensures { result ≡ of_call fault }
-{
-    match fault {
-        atspi_reader::CallFault::NotHeld => CallFault::NotHeld,
-        atspi_reader::CallFault::Spent => CallFault::Spent,
-        atspi_reader::CallFault::NoMemory => CallFault::NoMemory,
-    }
 }
 
 impl Follower for StageReader {
@@ -53,10 +41,7 @@ impl Follower for StageReader {
     }
 
     fn call(&mut self, app: &BusName, node: u32, what: &Deed) -> Result<(), CallFault> {
-        match self.reader.call(app, node, what) {
-            Ok(()) => Ok(()),
-            Err(fault) => Err(call_fault(fault)),
-        }
+        self.reader.call(app, node, what)
     }
 
     fn next(&mut self) -> Option<ReaderEvent> {

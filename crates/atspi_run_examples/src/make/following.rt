@@ -1,7 +1,7 @@
 //! Which nodes are there, as `make` follows them from edit to edit.
 
 ghost use Rattle.std.specs.Prelude.{◌≡◌, ◌∷◌, [], codes};
-ghost use Rattle.atspi_run_make.specs.Exported.{shape_seen};
+ghost use Rattle.atspi_app_known.specs.application.Seen.{shape_seen};
 ghost use Rattle.atspi_run_make.specs.Live.{CanFollow, below, live_from, there_of};
 ghost use Rattle.atspi_protocol.specs.exporting.Exporter.{begins};
 ghost use Rattle.atspi_tree.specs.TreeShape.{root_alone};

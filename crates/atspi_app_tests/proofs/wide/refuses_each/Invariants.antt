@@ -1,5 +1,7 @@
-use Rattle.atspi_app_exported.specs.Parts.{IsExported, faces_of, kinds_of, parts}
+use Rattle.atspi_app.specs.Boxed.{IsAppIn}
 use Rattle.atspi_app_tests.proofs.wide.refuses_each.Given as goal
 
 abbrev pub invariant-loop-line : goal.invariant-loop-line
-invariant-loop-line g l = IsExported (kinds_of ((goal.Face-dyn g (l.app.exported.kit.chars.vtable, l.app.exported.kit.chars.value)).of_kind l.app.exported.kit.chars.value) ((goal.Face-dyn g (l.app.exported.kit.grid.vtable, l.app.exported.kit.grid.value)).of_kind l.app.exported.kit.grid.value) ((goal.Face-dyn g (l.app.exported.kit.deeds.vtable, l.app.exported.kit.deeds.value)).of_kind l.app.exported.kit.deeds.value)) (parts l.app.exported.tree (faces_of ((goal.Face-dyn g (l.app.exported.kit.chars.vtable, l.app.exported.kit.chars.value)).nodes l.app.exported.kit.chars.value) ((goal.Face-dyn g (l.app.exported.kit.grid.vtable, l.app.exported.kit.grid.value)).nodes l.app.exported.kit.grid.value) ((goal.Face-dyn g (l.app.exported.kit.deeds.vtable, l.app.exported.kit.deeds.value)).nodes l.app.exported.kit.deeds.value)))
+invariant-loop-line g l =
+    IsAppIn (λ b. (goal.Face-dyn g (b.vtable, b.value)).of_kind b.value)
+    (λ b. (goal.Face-dyn g (b.vtable, b.value)).nodes b.value) l.app

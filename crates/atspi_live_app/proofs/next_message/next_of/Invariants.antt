@@ -5,9 +5,9 @@ use Rattle.atspi_live_app.proofs.next_message.next_of.Given as goal
 abbrev pub invariant-events : goal.invariant-events
 invariant-events g l =
     record {
-      handed : HandedOut [] (Some (g.A.Exporting.exporter l.app)) (Some (g.A.Exporting.exporter l.fn.app));
-      is : g.A.Exporting.is_app l.app;
+      handed : HandedOut [] (Some (g.A.Application.exporter l.app)) (Some (g.A.Application.exporter l.fn.app));
+      is : g.A.Application.is_app l.app;
     }
 
 abbrev pub decreases-events : goal.decreases-events
-decreases-events g l = length (g.A.Exporting.exporter l.app).out
+decreases-events g l = length (g.A.Application.exporter l.app).out

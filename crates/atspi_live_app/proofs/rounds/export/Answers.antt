@@ -22,12 +22,12 @@ rounds-init g c = record {
   goes = (
     0,
     [],
-    at_first (StandsOf g.A.Exporting.is_app g.A.Exporting.exporter g.A.Exporting.is_kit (aside_of 0 [] c.args.end.now.input.text.items)) c.args.link (g.H.Host.calls c.args.host.now) c.new-conversation.result c.args.end.now c.requires.fresh
+    at_first (StandsOf g.A.Application.is_app g.A.Application.exporter g.A.Application.is_kit (aside_of 0 [] c.args.end.now.input.text.items)) c.args.link (g.H.Host.calls c.args.host.now) c.new-conversation.result c.args.end.now c.requires.fresh
         c.new-conversation.ensures.client c.new-conversation.ensures.feeder c.new-conversation.ensures.unsent c.new-conversation.ensures.heard c.requires.begins,
     paced_first c.args.end.now.input.text.items c.args.link (g.H.Host.calls c.args.host.now) c.requires.fresh,
   );
   made = makes_none (g.H.Host.calls c.args.host.now) (TurnRounds (lines_of c.args.end.now.input.text.items) c.args.link 0) (rounds_first (lines_of c.args.end.now.input.text.items) c.args.link);
-  may = may_begin (StandsOf g.A.Exporting.is_app g.A.Exporting.exporter g.A.Exporting.is_kit) (aside_of 0 [] c.args.end.now.input.text.items) c.args.end.now c.requires.begins;
+  may = may_begin (StandsOf g.A.Application.is_app g.A.Application.exporter g.A.Application.is_kit) (aside_of 0 [] c.args.end.now.input.text.items) c.args.end.now c.requires.begins;
   few = omega (arith, c.new-conversation.ensures.heard);
   within = omega arith;
   piece = search rules;
@@ -84,8 +84,8 @@ returns-clause-over g c =
     let o = c.rounds.invariant.goes in
     let text = c.args.end.now.input.text.items in
     over_in text o.0 c.rounds.done c.rounds.takes c.args.link c.args.rounds (Ended RoundsDone) (g.H.Host.calls c.rounds.host) o.1 o.3
-    (all_turned (StandsOf g.A.Exporting.is_app g.A.Exporting.exporter g.A.Exporting.is_kit (aside_of o.0 o.1 text)) (IsMarked o.1) (lines_of text) (see_of g.A.Exporting.exporter) c.args.link c.rounds.done c.args.rounds
-    (g.H.Host.calls c.rounds.host) c.rounds.conversation c.rounds.end (seen_of g.A.Exporting.is_app g.A.Exporting.exporter g.A.Exporting.is_kit o.0 o.1 text) done o.2)
+    (all_turned (StandsOf g.A.Application.is_app g.A.Application.exporter g.A.Application.is_kit (aside_of o.0 o.1 text)) (IsMarked o.1) (lines_of text) (see_of g.A.Application.exporter) c.args.link c.rounds.done c.args.rounds
+    (g.H.Host.calls c.rounds.host) c.rounds.conversation c.rounds.end (seen_of g.A.Application.is_app g.A.Application.exporter g.A.Application.is_kit o.0 o.1 text) done o.2)
 
 pub returns-clause-paced : goal.returns-clause-paced
 returns-clause-paced g c =

@@ -12,10 +12,10 @@ abbrev pub invariant-rounds : goal.invariant-rounds
 invariant-rounds g l =
     record {
       goes : (place : ℕ) × (marks : List ℕ)
-          × Going (StandsOf g.A.Exporting.is_app g.A.Exporting.exporter g.A.Exporting.is_kit (aside_of place marks l.fn.end.input.text.items)) l.link (g.H.Host.calls l.host) l.done l.conversation l.end
+          × Going (StandsOf g.A.Application.is_app g.A.Application.exporter g.A.Application.is_kit (aside_of place marks l.fn.end.input.text.items)) l.link (g.H.Host.calls l.host) l.done l.conversation l.end
           × Paced l.fn.end.input.text.items place l.done l.takes l.link (g.H.Host.calls l.host) marks;
       made : Makes (g.H.Host.calls l.fn.host) (g.H.Host.calls l.host) (TurnRounds (lines_of l.fn.end.input.text.items) l.link l.done);
-      may : MaySpeak (StandsOf g.A.Exporting.is_app g.A.Exporting.exporter g.A.Exporting.is_kit) l.end;
+      may : MaySpeak (StandsOf g.A.Application.is_app g.A.Application.exporter g.A.Application.is_kit) l.end;
       few : heard_in l.conversation ≤ 4096 * l.done;
       within : l.done ≤ l.rounds;
       piece : length l.piece ≡ 4096;

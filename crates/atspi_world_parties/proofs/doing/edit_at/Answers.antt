@@ -11,4 +11,4 @@ returns-clause-err g c = err_at g.A.Application.exporter c.edit.result c.args.ap
 
 pub returns-clause-spent : goal.returns-clause-spent
 returns-clause-spent g c = λ is.
-    edit_spends g.A.Application.exporter c.args.apps.now _ c.args.number c.args.edit.now (cc (c.index-apps-place.is)) (c.edit.ensures.allowed is) (c.edit.ensures.spent is)
+    edit_spends g.A.Application.exporter c.args.apps.now _ c.args.number c.args.edit.now (cc (c.index-apps-place.is)) (c.edit.ensures.spent is)

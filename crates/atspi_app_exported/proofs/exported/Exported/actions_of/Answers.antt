@@ -1,7 +1,7 @@
-use Rattle.atspi_app_exported.specs.Parts.{faces_of}
+use Rattle.atspi_app_exported.specs.Boxed.{faces_in}
 use Rattle.std.proofs.Common.{sym, ◌∙◌}
 use Rattle.atspi_app_exported.proofs.Known.{no_actions_there}
 use Rattle.atspi_app_exported.proofs.exported.Exported.actions_of.Goals as goal
 
 pub returns-clause-actions : goal.returns-clause-actions
-returns-clause-actions g c = c.no_actions.ensures ∙ no_actions_there c.args.self.now.tree.rows (faces_of ((goal.Face-dyn g (c.args.self.now.kit.chars.vtable, c.args.self.now.kit.chars.value)).nodes c.args.self.now.kit.chars.value) ((goal.Face-dyn g (c.args.self.now.kit.grid.vtable, c.args.self.now.kit.grid.value)).nodes c.args.self.now.kit.grid.value) ((goal.Face-dyn g (c.args.self.now.kit.deeds.vtable, c.args.self.now.kit.deeds.value)).nodes c.args.self.now.kit.deeds.value)) c.args.node (sym c.has.ensures.answer ∙ c.if-has.false)
+returns-clause-actions g c = c.no_actions.ensures ∙ no_actions_there c.args.self.now.tree.rows (faces_in (λ b. (goal.Face-dyn g (b.vtable, b.value)).nodes b.value) c.args.self.now.kit) c.args.node (sym c.has.ensures.answer ∙ c.if-has.false)

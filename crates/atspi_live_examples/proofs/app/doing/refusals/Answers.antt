@@ -4,7 +4,7 @@ use Rattle.atspi_tree_model.specs.Row.{IsName}
 use Rattle.atspi_tree_model.specs.declared.edit.EditFault.{EditFault}
 use Rattle.atspi_tree_model.specs.declared.edit.EditFault.TheVariants.{Full, IsRoot, NoNode, TextFull}
 use Rattle.atspi_protocol.specs.exporting.Exporter.{Exporter}
-use Rattle.atspi_app.specs.Seen.{IsSpentAfter}
+use Rattle.atspi_app_known.specs.application.Seen.{IsSpentAfter}
 use Rattle.atspi_live_examples.proofs.app.doing.refusals.Goals as goal
 
 pub returns-clause-long_name : goal.returns-clause-long_name

@@ -19,8 +19,5 @@ returns-clause-wanting c = tt
 pub returns-clause-end_wanting : goal.returns-clause-end_wanting
 returns-clause-end_wanting c = refl
 
-pub returns-clause-end_refused : goal.returns-clause-end_refused
-returns-clause-end_refused c = refl
-
 pub returns-clause-end_spent : goal.returns-clause-end_spent
 returns-clause-end_spent c = refl

@@ -1,0 +1,8 @@
+use Rattle.std.proofs.Common.{sym, ◌∙◌}
+use Rattle.atspi_app_exported.specs.Boxed.{parts_in}
+use Rattle.atspi_app.proofs.OfEdits.{same_shape}
+use Rattle.atspi_app.proofs.application.AppApplication.tree.Goals as goal
+
+pub returns : goal.returns
+returns g c =
+    c.tree.ensures ∙ sym (same_shape (parts_in (λ b. (goal.Face-dyn g (b.vtable, b.value)).nodes b.value) c.args.self.now.exported))

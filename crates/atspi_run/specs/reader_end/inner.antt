@@ -1,2 +1,0 @@
--- Words that only private contracts and proofs use: nothing here has to be believed.
-pub mod Faults
