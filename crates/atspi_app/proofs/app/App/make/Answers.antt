@@ -4,7 +4,7 @@ use Rattle.atspi_tree.specs.TreeShape.{TreeShape}
 use Rattle.atspi_app_signals.specs.Asked.{CanBeTold}
 use Rattle.atspi_app_known.specs.happenings.View.{happened}
 use Rattle.atspi_app_exported.specs.Boxed.{parts_in}
-use Rattle.atspi_app.proofs.FaultsOf.{end_is_spent, end_is_not_refused, memory_is_not_spent, memory_is_not_refused}
+use Rattle.atspi_app.proofs.FaultsOf.{end_is_spent}
 use Rattle.atspi_app.proofs.OfEdits.{can_all_be_told, told_of_edit, edit_applies, edit_made, edit_is_spent}
 use Rattle.atspi_app.proofs.app.App.make.Goals as goal
 
@@ -23,17 +23,8 @@ returns-in-Ok-do_steps-clause-ok g c =
     (told_of_edit (parts_in (λ b. (goal.Face-dyn g (b.vtable, b.value)).nodes b.value) c.args.self.now.exported) c.args.self.now.known c.args.edit.now c.args.steps.now (happened c.in-Ok.told) c.requires.steps (λ f e. c.in-Ok.ensures f (e ∙ sym (ap (λ (t : TreeShape). t.rows) c.tree.ensures))))
     c.in-Ok-do_steps.ensures.ok
 
-pub returns-in-Err-do_steps-clause-spent : goal.returns-in-Err-do_steps-clause-spent
-returns-in-Err-do_steps-clause-spent g c = λ h.
+pub returns-in-Ok-clause-spent : goal.returns-in-Ok-clause-spent
+returns-in-Ok-clause-spent g c = λ h.
     edit_is_spent (parts_in (λ b. (goal.Face-dyn g (b.vtable, b.value)).nodes b.value) c.args.self.now.exported) c.args.self.now.id c.args.self.now.known c.args.edit.now c.args.steps.now (happened c.in-Ok.told) c.requires.steps
     (told_of_edit (parts_in (λ b. (goal.Face-dyn g (b.vtable, b.value)).nodes b.value) c.args.self.now.exported) c.args.self.now.known c.args.edit.now c.args.steps.now (happened c.in-Ok.told) c.requires.steps (λ f e. c.in-Ok.ensures f (e ∙ sym (ap (λ (t : TreeShape). t.rows) c.tree.ensures))))
     (c.in-Err-do_steps.ensures.spent (end_is_spent c.in-Err-do_steps.fault c.from.result c.from.ensures h))
-
-pub returns-in-Err-do_steps-clause-never_refused : goal.returns-in-Err-do_steps-clause-never_refused
-returns-in-Err-do_steps-clause-never_refused g c = λ why h. end_is_not_refused c.in-Err-do_steps.fault c.from.result why c.from.ensures h
-
-pub returns-in-Err-clause-never_refused : goal.returns-in-Err-clause-never_refused
-returns-in-Err-clause-never_refused g c = λ why h. memory_is_not_refused c.from-in-Err.result why c.from-in-Err.ensures h
-
-pub returns-in-Err-clause-spent : goal.returns-in-Err-clause-spent
-returns-in-Err-clause-spent g c = λ h. absurd (memory_is_not_spent c.from-in-Err.result c.from-in-Err.ensures h)
