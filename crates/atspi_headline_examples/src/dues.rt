@@ -1,17 +1,18 @@
 //! What is due at places of longer runs.
 
 ghost use Rattle.std.specs.Prelude.{◌≡◌, true, [], ◌∷◌, ◌++◌, None, Some, codes};
-ghost use Rattle.atspi_script_lines.specs.declared.line.Line.TheVariants.{Show};
-ghost use Rattle.atspi_script_lines.specs.declared.line.Party.TheVariants.{Bus, App, Reader};
+ghost use Rattle.atspi_script_lines.specs.declared.line.Line.TheVariants.{Show, Turns};
+ghost use Rattle.atspi_script_lines.specs.declared.line.Party.TheVariants.{Bus, Registry, App, Reader};
 ghost use Rattle.atspi_protocol.specs.declared.following.question.Question.TheVariants.{Hello};
 ghost use Rattle.atspi_protocol.specs.following.Calls.{asking};
 ghost use Rattle.atspi_trace.specs.Entry.{changed, got, spoke, showed, gone, dropped};
-ghost use Rattle.atspi_headline.specs.Words.{begins_line, writes, held_of};
-ghost use Rattle.atspi_headline.specs.Links.{completed, kept, drops_among};
-ghost use Rattle.atspi_headline.specs.Headline.{signals_due, rows_due, spoken_due, gone_due};
+ghost use Rattle.atspi_headline.specs.Words.{begins_line, moves_bytes, writes};
+ghost use Rattle.atspi_headline.specs.Links.{first_state, completed, kept, drops_among, routed, next_turn};
+ghost use Rattle.atspi_headline.specs.Headline.{signals_due, rows_due, spoken_due, gone_due, bus_words_due};
+ghost use Rattle.atspi_trace.specs.World.{first_bus};
 ghost use Rattle.atspi_headline_examples.specs.Runs.{app_starts};
 ghost use Rattle.atspi_headline_examples.specs.Fronts.{loaded, root_row, listens, renaming, renaming_told, alerted};
-ghost use Rattle.atspi_headline_examples.specs.Fronts.{ended, of_hello};
+ghost use Rattle.atspi_headline_examples.specs.Fronts.{ended, of_hello, moving, greeted, greeting_words, serials};
 
 /// A step is told where some heard pattern covers it, with the next number, and else not.
 pub fn of_applications()
@@ -45,4 +46,16 @@ pub fn of_links()
     ensures both_are_kept { kept 200 [] (of_hello 0 ∷ of_hello 60 ∷ []) ≡ of_hello 0 ∷ of_hello 60 ∷ [] }
     ensures dropped { drops_among 200 [] (of_hello 0 ∷ of_hello 0 ∷ []) ≡ dropped (App 0) 128 128 ∷ [] }
     ensures not_dropped { drops_among 200 [] (of_hello 0 ∷ of_hello 60 ∷ []) ≡ [] }
+{}
+
+/// The bus begins behind the registry's start. Behind an application's Hello it says three messages, with the numbers
+/// from 8 on: two go to the application, and the news of its name to the registry.
+pub fn of_the_bus()
+    ensures first { first_state ≡ (first_bus 1024).state }
+    ensures turn { next_turn moving ≡ Some (moves_bytes (App 0) true 128) }
+    ensures words { bus_words_due
+        (app_starts ++ begins_line (Turns 1) ∷ moves_bytes (App 0) true 128 ∷ []) (writes (got Bus (App 0) 1))
+        ≡ greeting_words }
+    ensures to_the_application { serials (routed greeted (App 0)) ≡ 8 ∷ 9 ∷ [] }
+    ensures to_the_registry { serials (routed greeted Registry) ≡ 10 ∷ [] }
 {}
