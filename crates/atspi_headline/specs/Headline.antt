@@ -3,7 +3,7 @@
 -- standards' own definitions: trees and steps, announcements, answers, names and match rules, the registry, speech.
 use Rattle.std.specs.Prelude.{◌≡◌, ◌==◌, ◌&&◌, ◌||◌, not, nat_le, pos, negsuc, Bool, true, false, List, [], ◌∷◌, ◌++◌}
 use Rattle.std.specs.Prelude.{length, map, filter, filter_map, flat_map, fold, Option, None, Some, option_map, is_some}
-use Rattle.std.specs.Prelude.{bytes_eq, codes, Result, Ok, Err, take, if◌then◌else◌, ℕ, ℤ}
+use Rattle.std.specs.Prelude.{bytes_eq, codes, Result, Ok, Err, if◌then◌else◌, ℕ, ℤ}
 use Rattle.std.specs.List.{list_any, list_all, AllByRecursion}
 use Rattle.atspi_message.specs.Envelope.{Envelope}
 use Rattle.atspi_match.specs.routing.Steps.{Move, says}
@@ -47,7 +47,7 @@ use Rattle.atspi_headline.specs.Words.{Everywhere, gathered, next_of, Unless, Ar
 use Rattle.atspi_headline.specs.Words.{last_of, without_last, is_same, ends, name_of, is_live, live_tree, added}
 use Rattle.atspi_headline.specs.Words.{before_sent, as_of, messages, handed, next_serial, is_returned, is_answered}
 use Rattle.atspi_headline.specs.Words.{is_app, is_reader, count_of, heard_pairs, calls_of, answers_last, questions_in}
-use Rattle.atspi_headline.specs.Words.{rule_of, pattern_of, Held, held_of, told_in}
+use Rattle.atspi_headline.specs.Words.{rule_of, pattern_of, Held, held_of, told_in, IsFrontIf, is_last, IsDueBehind}
 use Rattle.atspi_headline.specs.Links.{moves_at, completed, next_turn, bytes_move, drops_due}
 
 -- SEGMENTS. A run begins with a line. An end starts behind its line, and nowhere else. Bytes are moved behind three lines
@@ -76,9 +76,9 @@ abbrev pub MovesBehind : List Act → Act → List Act → Type 0
 MovesBehind before (begins_line line) behind = MovesOfLine (before ++ begins_line line ∷ []) line (segment behind)
 MovesBehind before act behind = Unit {0}
 
-pub record LawOfSegments (run : List Act) : Type 0 where
+pub record LawOfSegments (broken : Bool) (run : List Act) : Type 0 where
   pub begins : BeginsWithLine run
-  pub starts : AreDue starting start_due run
+  pub starts : AreDue broken starting start_due run
   pub moves : Everywhere MovesBehind run
 
 -- 1. THE LAW OF STEPS. The steps behind a line are those of its edit of the live tree; behind a call that an application
@@ -124,10 +124,14 @@ steps_due before (writes (got (App app) sender serial)) =
     map (changed app) (flat_map (steps_called before app) (handed before sender serial))
 steps_due before act = []
 
-abbrev pub LawOfSteps : List Act → Type 0
-LawOfSteps run =
-    Everywhere
-    (λ before act behind. Unless (is_done act) (filter (is_a stepping) (reaction behind) ≡ steps_due before act)) run
+abbrev pub StepsAre : Bool → List Act → List Entry → Type 0
+StepsAre broken behind due =
+    let entries = reaction behind in
+    IsFrontIf (broken && is_last entries behind) (filter (is_a stepping) entries) due
+
+abbrev pub LawOfSteps : Bool → List Act → Type 0
+LawOfSteps broken run =
+    Everywhere (λ before act behind. Unless (is_done act) (StepsAre broken behind (steps_due before act))) run
 
 -- 2. THE LAW OF APPLICATIONS. Directly behind each step stand its announcement and its echoes, those that some heard
 -- pattern covers; behind all steps the reply to the call, or the next call of the start; nothing else, with the next
@@ -170,13 +174,15 @@ put_in before words (entry ∷ entries) =
     let signals = signals_due before entry in
     entry ∷ (signals ++ put_in (before ++ writes entry ∷ map writes signals) words entries)
 
-abbrev pub IsSaid : List Act → Act → List Entry → Type 0
-IsSaid before act entries =
-    entries ≡ put_in (before ++ act ∷ []) (words_due before act) (filter (λ entry. not (is_a of_app entry)) entries)
+abbrev pub IsSaid : Bool → List Act → Act → List Act → Type 0
+IsSaid broken before act behind =
+    let entries = reaction behind in
+    IsFrontIf (broken && is_last entries behind) entries
+    (put_in (before ++ act ∷ []) (words_due before act) (filter (λ entry. not (is_a of_app entry)) entries))
 
-abbrev pub LawOfApplications : List Act → Type 0
-LawOfApplications run =
-    Everywhere (λ before act behind. Unless (is_done act) (IsSaid before act (reaction behind))) run
+abbrev pub LawOfApplications : Bool → List Act → Type 0
+LawOfApplications broken run =
+    Everywhere (λ before act behind. Unless (is_done act) (IsSaid broken before act behind)) run
 
 -- 3. THE LAW OF BUS AND LINKS. Behind a move stand the messages whose last byte it moves, in order, and no others: so
 -- what an end took of its link is what lies whole within the bytes moved, however they were cut. A move of an end that is
@@ -197,14 +203,12 @@ abbrev pub ends_early : Act → List Entry → Bool
 ends_early (moves_bytes who up count) entries = list_any (is_drop_of who) entries
 ends_early act entries = false
 
-abbrev pub AreTaken : Bool → List Entry → List Entry → Type 0
-AreTaken false found due = found ≡ due
-AreTaken true found due = found ≡ take (length found) due
-
-abbrev pub GotsBehind : List Act → Act → List Act → Type 0
-GotsBehind before act behind =
+abbrev pub GotsBehind : Bool → List Act → Act → List Act → Type 0
+GotsBehind broken before act behind =
     let entries = next_of (λ entry. true) behind in
-    Unless (is_entry act) (AreTaken (ends_early act entries) (filter (is_a getting) entries) (gots_due before act))
+    Unless (is_entry act)
+    (IsFrontIf (ends_early act entries || (broken && is_last entries behind)) (filter (is_a getting) entries)
+    (gots_due before act))
 
 -- what the bus says of its own stands directly behind what it takes: a message, an end, one whom it drops
 abbrev pub said_in : Move → Option Envelope
@@ -214,9 +218,9 @@ said_in move = None
 abbrev pub bus_words_due : List Act → Act → List Entry
 bus_words_due before act = map (sent The_bus) (filter_map said_in (moves_at before act))
 
-pub record LawOfLinks (run : List Act) : Type 0 where
-  pub gots : Everywhere GotsBehind run
-  pub words : AreDue of_bus bus_words_due run
+pub record LawOfLinks (broken : Bool) (run : List Act) : Type 0 where
+  pub gots : Everywhere (GotsBehind broken) run
+  pub words : AreDue broken of_bus bus_words_due run
 
 -- 4. THE LAW OF REGISTRY, HEARING AND READERS. Behind a message that the registry takes stands what it sends, from the
 -- state behind its start on.
@@ -310,25 +314,27 @@ AtMostOne before reader (sent (Reader r) e ∷ []) = (r ≡ reader) × MayAsk be
 AtMostOne before reader entries = ⊥
 
 -- Behind its start stands its Hello, behind its line its user's call, and a reader sends nothing else
-abbrev pub CallsAre : List Act → Act → List Entry → Type 0
-CallsAre before (writes (started (Reader reader) name)) calls = calls ≡ sent (Reader reader) (asking 1 Hello) ∷ []
-CallsAre before (begins_line (Call reader app node deed)) calls =
-    calls
-    ≡ sent (Reader reader)
+abbrev pub call_due : List Act → Act → List Entry
+call_due before (writes (started (Reader reader) name)) = sent (Reader reader) (asking 1 Hello) ∷ []
+call_due before (begins_line (Call reader app node deed)) =
+    sent (Reader reader)
     (user_call (next_serial before (Reader reader)) (or_empty (name_of before (App app))) node deed)
     ∷ []
-CallsAre before (writes (got (Reader reader) sender serial)) calls =
-    AtMostOne (before ++ writes (got (Reader reader) sender serial) ∷ []) reader calls
-CallsAre before (writes (gone reader app)) calls = AtMostOne before reader calls
-CallsAre before (writes (spoke reader app text)) calls = AtMostOne before reader calls
-CallsAre before act calls = calls ≡ []
+call_due before act = []
 
-pub record LawOfReaders (run : List Act) : Type 0 where
-  pub registry_sends : AreDue of_registry registry_words_due run
-  pub apps_hear : AreDue hearing hearing_due run
+abbrev pub CallsAre : Bool → List Act → Act → List Act → Type 0
+CallsAre broken before (writes (got (Reader reader) sender serial)) behind =
+    AtMostOne (before ++ writes (got (Reader reader) sender serial) ∷ []) reader (next_of (is_a of_reader) behind)
+CallsAre broken before (writes (gone reader app)) behind = AtMostOne before reader (next_of (is_a of_reader) behind)
+CallsAre broken before (writes (spoke reader app text)) behind =
+    AtMostOne before reader (next_of (is_a of_reader) behind)
+CallsAre broken before act behind = IsDueBehind broken of_reader behind (call_due before act)
+
+pub record LawOfReaders (broken : Bool) (run : List Act) : Type 0 where
+  pub registry_sends : AreDue broken of_registry registry_words_due run
+  pub apps_hear : AreDue broken hearing hearing_due run
   pub readers_call
-      : Everywhere
-      (λ before act behind. Unless (writes_a of_reader act) (CallsAre before act (next_of (is_a of_reader) behind))) run
+      : Everywhere (λ before act behind. Unless (writes_a of_reader act) (CallsAre broken before act behind)) run
 
 -- 5. THE LAW OF SHOWN ROWS. Behind a line `show`, and nowhere else, stand the rows of the view of the application's tree
 -- as of the last message taken, with the parts that were told; nothing of one that is not held.
@@ -350,8 +356,8 @@ rows_due before (begins_line (Show reader app)) =
     showed reader app (option_map (rows_of before app) (held_of before reader app)) ∷ []
 rows_due before act = []
 
-abbrev pub LawOfShownRows : List Act → Type 0
-LawOfShownRows run = AreDue showing rows_due run
+abbrev pub LawOfShownRows : Bool → List Act → Type 0
+LawOfShownRows broken run = AreDue broken showing rows_due run
 
 -- 6. THE LAW OF SPOKEN LINES. Behind a message of an application that it holds, which announces a step, a reader speaks
 -- the lines of the step, read from the tree as of the message; behind the news of its end one line, with the root's name
@@ -386,8 +392,8 @@ spoken_due before (writes (gone reader app)) =
     map (spoke reader app) (closing_lines before app (held_of before reader app))
 spoken_due before act = []
 
-abbrev pub LawOfSpokenLines : List Act → Type 0
-LawOfSpokenLines run = AreDue speaking spoken_due run
+abbrev pub LawOfSpokenLines : Bool → List Act → Type 0
+LawOfSpokenLines broken run = AreDue broken speaking spoken_due run
 
 -- 7. THE LAW OF EXITS. An end exits behind its line, and nowhere else; behind that nothing of it stands. Directly behind
 -- each message by which a reader learns that an application's name is nobody's stands that it is gone, and nowhere else;
@@ -433,9 +439,9 @@ gone_due before (writes (got (Reader reader) sender serial)) =
     flat_map (λ e. gone_with before reader (name_gone e)) (handed before sender serial)
 gone_due before act = []
 
-pub record LawOfExits (run : List Act) : Type 0 where
-  pub exits : AreDue exiting exit_due run
-  pub told : AreDue ending gone_due run
+pub record LawOfExits (broken : Bool) (run : List Act) : Type 0 where
+  pub exits : AreDue broken exiting exit_due run
+  pub told : AreDue broken ending gone_due run
   pub over : Everywhere NothingOf run
 
 -- 8. THE LAW OF BUSY AND QUIET. `turns` makes so many turns, or fewer where then nothing waits; where something waits
@@ -474,12 +480,15 @@ pub record EndsWell (before : List Act) (line : Line) (acts : List Act) : Type 0
   pub made : TurnsAreMade line (length (filter is_move acts)) (is_some (next_turn (before ++ acts)))
   pub settled : Unless (is_some (next_turn (before ++ acts))) (AllFollow (before ++ acts))
 
-abbrev pub LineEndsWell : List Act → Act → List Act → Type 0
-LineEndsWell before (begins_line line) behind = EndsWell (before ++ begins_line line ∷ []) line (segment behind)
-LineEndsWell before act behind = Unit {0}
+-- each line does but one that is broken off
+abbrev pub LineEndsWell : Bool → List Act → Act → List Act → Type 0
+LineEndsWell broken before (begins_line line) behind =
+    let acts = segment behind in
+    Unless (broken && (length acts == length behind)) (EndsWell (before ++ begins_line line ∷ []) line acts)
+LineEndsWell broken before act behind = Unit {0}
 
-abbrev pub LawOfQuiet : List Act → Type 0
-LawOfQuiet run = Everywhere LineEndsWell run
+abbrev pub LawOfQuiet : Bool → List Act → Type 0
+LawOfQuiet broken run = Everywhere (LineEndsWell broken) run
 
 -- 9. THE LAW OF DROPPED ENDS. Who is dropped, in which order and with which two numbers is told by the deliveries: the
 -- first to each end that its quota does not let in. It is told before anything else is done; of one that is dropped
@@ -488,38 +497,46 @@ abbrev pub is_lost : List Entry → Bool
 is_lost entries = list_any (is_drop_of Registry) entries
 
 -- where the registry was dropped, those that were due behind it are not told
-abbrev pub AreDropped : List Act → Type 0
-AreDropped run = AreTaken (is_lost (entries_in run)) (filter (is_a dropping) (entries_in run)) (drops_due run)
+abbrev pub AreDropped : Bool → List Act → Type 0
+AreDropped broken run =
+    IsFrontIf (broken || is_lost (entries_in run)) (filter (is_a dropping) (entries_in run)) (drops_due run)
 
 abbrev pub DropsBefore : List Act → Act → List Act → Type 0
-DropsBefore before act behind = Unless (is_done act) (AreDropped before)
+DropsBefore before act behind = Unless (is_done act) (AreDropped false before)
 
 abbrev pub NothingBehind : List Act → Act → List Act → Type 0
 NothingBehind before (writes (dropped Registry queued len)) behind = behind ≡ []
 NothingBehind before (writes (dropped who queued len)) behind = IsOver who behind
 NothingBehind before act behind = Unit {0}
 
-pub record LawOfDroppedEnds (run : List Act) : Type 0 where
+pub record LawOfDroppedEnds (broken : Bool) (run : List Act) : Type 0 where
   pub so_far : Everywhere DropsBefore run
-  pub at_end : AreDropped run
+  pub at_end : AreDropped broken run
   pub over : Everywhere NothingBehind run
 
 -- ALL OF THEM
-pub record LawfulRun (run : List Act) : Type 0 where
-  pub segments : LawOfSegments run
-  pub steps : LawOfSteps run
-  pub applications : LawOfApplications run
-  pub links : LawOfLinks run
-  pub readers : LawOfReaders run
-  pub shown : LawOfShownRows run
-  pub spoken : LawOfSpokenLines run
-  pub exits : LawOfExits run
-  pub at_quiet : LawOfQuiet run
-  pub drops : LawOfDroppedEnds run
+pub record LawfulRun (broken : Bool) (run : List Act) : Type 0 where
+  pub segments : LawOfSegments broken run
+  pub steps : LawOfSteps broken run
+  pub applications : LawOfApplications broken run
+  pub links : LawOfLinks broken run
+  pub readers : LawOfReaders broken run
+  pub shown : LawOfShownRows broken run
+  pub spoken : LawOfSpokenLines broken run
+  pub exits : LawOfExits broken run
+  pub at_quiet : LawOfQuiet broken run
+  pub drops : LawOfDroppedEnds broken run
 
--- THE HEADLINE: these lines have this trace in a run that keeps all laws
-pub record Headline (lines : List Line) (trace : List Entry) : Type 0 where
+-- THE HEADLINE: these lines have this trace in a run that keeps all laws; or a trace is broken off while the last line is
+-- done, and keeps all laws up to there
+pub record IsTrace (broken : Bool) (lines : List Line) (trace : List Entry) : Type 0 where
   pub run : List Act
   pub of_lines : lines_in run ≡ lines
   pub of_trace : entries_in run ≡ trace
-  pub lawful : LawfulRun run
+  pub lawful : LawfulRun broken run
+
+abbrev pub Headline : List Line → List Entry → Type 0
+Headline lines trace = IsTrace false lines trace
+
+abbrev pub HeadlineUpToBreak : List Line → List Entry → Type 0
+HeadlineUpToBreak lines trace = IsTrace true lines trace

@@ -2,7 +2,7 @@
 -- asked and what it holds.
 use Rattle.std.specs.Prelude.{◌≡◌, ◌==◌, ◌&&◌, ◌||◌, not, suc, Bool, true, false, List, [], ◌∷◌, ◌++◌, length, map}
 use Rattle.std.specs.Prelude.{filter, filter_map, flat_map, fold, position, Option, None, Some, option_map, is_some}
-use Rattle.std.specs.Prelude.{bytes_eq, codes, if◌then◌else◌, ℕ}
+use Rattle.std.specs.Prelude.{bytes_eq, codes, if◌then◌else◌, ℕ, take}
 use Rattle.std.specs.List.{list_any}
 use Rattle.atspi_types.specs.Data.{Data, text_data}
 use Rattle.atspi_message.specs.Envelope.{Envelope}
@@ -123,10 +123,22 @@ abbrev pub Unless : Bool → Type 0 → Type 0
 Unless true P = Unit {0}
 Unless false P = P
 
+-- What stands is what is due; where a trace is broken off while that is written, what stands is a front of it
+abbrev pub IsFrontIf : Bool → List Entry → List Entry → Type 0
+IsFrontIf false found due = found ≡ due
+IsFrontIf true found due = found ≡ take (length found) due
+
+abbrev pub is_last : List Entry → List Act → Bool
+is_last found behind = length found == length behind
+
 -- OF A KIND OF ENTRIES, directly behind each act that is none of them stand just those that are due there
-abbrev pub AreDue : Kind → (List Act → Act → List Entry) → List Act → Type 0
-AreDue kind due run =
-    Everywhere (λ before act behind. Unless (writes_a kind act) (next_of (is_a kind) behind ≡ due before act)) run
+abbrev pub IsDueBehind : Bool → Kind → List Act → List Entry → Type 0
+IsDueBehind broken kind behind due =
+    let found = next_of (is_a kind) behind in IsFrontIf (broken && is_last found behind) found due
+
+abbrev pub AreDue : Bool → Kind → (List Act → Act → List Entry) → List Act → Type 0
+AreDue broken kind due run =
+    Everywhere (λ before act behind. Unless (writes_a kind act) (IsDueBehind broken kind behind (due before act))) run
 
 -- what is done at a line, a move or a message taken stands behind it, up to the next of them, or to the word that
 -- something waits, or nothing

@@ -59,7 +59,7 @@ renaming = SetName 0 (codes "U")
 abbrev pub renaming_told : Entry
 renaming_told =
     sent (App 0)
-    (record (property_changed 0 (codes "accessible-name") (text_data (codes "U"))).message { serial = 5 })
+    (record (property_changed 0 (codes "accessible-name") (text_data (codes "U"))).message { serial = 2 })
 
 -- an alert, and the message behind it
 abbrev pub alert : Seed

@@ -34,13 +34,13 @@ RefusesIf false P = P
 
 -- this law refuses the run, and all others hold of it
 pub record IsRefusedBy (law : Law) (run : List Act) : Type 0 where
-  pub segments : LawOfSegments run
-  pub steps : RefusesIf (is_law law of_steps) (LawOfSteps run)
-  pub applications : RefusesIf (is_law law of_applications) (LawOfApplications run)
-  pub links : RefusesIf (is_law law of_links) (LawOfLinks run)
-  pub readers : RefusesIf (is_law law of_readers) (LawOfReaders run)
-  pub shown : RefusesIf (is_law law of_shown_rows) (LawOfShownRows run)
-  pub spoken : RefusesIf (is_law law of_spoken_lines) (LawOfSpokenLines run)
-  pub exits : RefusesIf (is_law law of_exits) (LawOfExits run)
-  pub at_quiet : RefusesIf (is_law law of_quiet) (LawOfQuiet run)
-  pub drops : RefusesIf (is_law law of_dropped_ends) (LawOfDroppedEnds run)
+  pub segments : LawOfSegments false run
+  pub steps : RefusesIf (is_law law of_steps) (LawOfSteps false run)
+  pub applications : RefusesIf (is_law law of_applications) (LawOfApplications false run)
+  pub links : RefusesIf (is_law law of_links) (LawOfLinks false run)
+  pub readers : RefusesIf (is_law law of_readers) (LawOfReaders false run)
+  pub shown : RefusesIf (is_law law of_shown_rows) (LawOfShownRows false run)
+  pub spoken : RefusesIf (is_law law of_spoken_lines) (LawOfSpokenLines false run)
+  pub exits : RefusesIf (is_law law of_exits) (LawOfExits false run)
+  pub at_quiet : RefusesIf (is_law law of_quiet) (LawOfQuiet false run)
+  pub drops : RefusesIf (is_law law of_dropped_ends) (LawOfDroppedEnds false run)

@@ -45,6 +45,10 @@ is_busy = app_starts ++ begins_line (Turns 0) ∷ writes (busy 0) ∷ []
 abbrev pub is_quiet : List Act
 is_quiet = begins_line Drain ∷ writes quiet ∷ []
 
+-- BROKEN OFF: it is yet to say Hello
+abbrev pub begun : List Act
+begun = begins_line (App_line (codes "T")) ∷ writes (started (App 0) (Some (codes "T"))) ∷ []
+
 -- WRONG: this stands behind an empty line
 abbrev pub stray : List Act → Entry → List Act
 stray run entry = run ++ begins_line Blank ∷ writes entry ∷ []
