@@ -16,7 +16,7 @@ use Rattle.atspi_protocol.specs.announcing.Signals.{property_changed}
 use Rattle.atspi_protocol.specs.declared.following.question.Question.TheVariants.{Hello, GetItems}
 use Rattle.atspi_protocol.specs.following.Calls.{asking}
 use Rattle.atspi_trace_events.specs.declared.shown.ShownRow.{ShownRow}
-use Rattle.atspi_trace.specs.Entry.{Entry, started, changed, sent, got, heard}
+use Rattle.atspi_trace.specs.Entry.{Entry, started, changed, sent, got, heard, busy}
 use Rattle.atspi_headline.specs.Words.{Act, begins_line, moves_bytes, writes}
 use Rattle.atspi_headline.specs.Links.{Delivery}
 use Rattle.atspi_headline_examples.specs.Runs.{app_starts}
@@ -97,3 +97,7 @@ greeting_words =
 -- the serials of the messages routed to an end
 abbrev pub serials : List Delivery → List ℕ
 serials ds = map (λ (d : Delivery). d.letter.serial) ds
+
+-- and the whole run
+abbrev pub greeting : List Act
+greeting = greeted ++ (map writes greeting_words ++ writes (busy 1) ∷ [])

@@ -1,17 +1,17 @@
 -- Runs that keep all laws, and for each law a run that it alone refuses.
-use Rattle.std.specs.Prelude.{List, [], ◌∷◌, ◌++◌, None, Some, codes}
+use Rattle.std.specs.Prelude.{true, List, [], ◌∷◌, ◌++◌, None, Some, codes}
 use Rattle.atspi_match.specs.routing.OwnMessages.{owner_changed}
 use Rattle.atspi_tree_model.specs.declared.edit.Edit.TheVariants.{Name}
 use Rattle.atspi_tree_model.specs.declared.step.Step.TheVariants.{SetName}
 use Rattle.atspi_script_lines.specs.declared.line.Line.TheVariants.{Blank, App as App_line, Reader as Reader_line}
-use Rattle.atspi_script_lines.specs.declared.line.Line.TheVariants.{Edit as Edit_line, Exit, Turns, Drain, Show}
+use Rattle.atspi_script_lines.specs.declared.line.Line.TheVariants.{Edit as Edit_line, Exit, Bytes, Turns, Drain, Show}
 use Rattle.atspi_script_lines.specs.declared.line.Party.TheVariants.{Bus as The_bus, Registry, App, Reader}
 use Rattle.atspi_protocol.specs.announcing.Signals.{caret_moved}
 use Rattle.atspi_protocol.specs.declared.following.question.Question.TheVariants.{Hello, GetChildren}
 use Rattle.atspi_protocol.specs.following.Calls.{asking}
 use Rattle.atspi_trace.specs.Entry.{Entry, started, changed, sent, got, heard, spoke, showed, exited, gone, dropped}
 use Rattle.atspi_trace.specs.Entry.{busy, quiet}
-use Rattle.atspi_headline.specs.Words.{Act, begins_line, writes}
+use Rattle.atspi_headline.specs.Words.{Act, begins_line, moves_bytes, writes}
 
 -- an application starts, and a reader; each says Hello
 abbrev pub app_starts : List Act
@@ -45,6 +45,10 @@ is_busy = app_starts ++ begins_line (Turns 0) ∷ writes (busy 0) ∷ []
 abbrev pub is_quiet : List Act
 is_quiet = begins_line Drain ∷ writes quiet ∷ []
 
+-- all but the last byte of its Hello are moved
+abbrev pub cut : List Act
+cut = app_starts ++ begins_line (Bytes (App 0) true 127) ∷ moves_bytes (App 0) true 127 ∷ []
+
 -- BROKEN OFF: it is yet to say Hello
 abbrev pub begun : List Act
 begun = begins_line (App_line (codes "T")) ∷ writes (started (App 0) (Some (codes "T"))) ∷ []
@@ -57,14 +61,23 @@ stray run entry = run ++ begins_line Blank ∷ writes entry ∷ []
 abbrev pub unedited : List Act
 unedited = stray app_starts (changed 0 (SetName 0 (codes "X")))
 
+-- an edit that is done twice
+abbrev pub edited_twice : List Act
+edited_twice = app_starts ++ (renaming ++ writes (changed 0 (SetName 0 (codes "X"))) ∷ [])
+
 -- a signal that nobody registered for
 abbrev pub unasked : List Act
 unasked = app_starts ++ (renaming ++ writes (sent (App 0) (record (caret_moved 0 0).message { serial = 2 })) ∷ [])
 
--- a message that is taken where no bytes were moved, and one of the bus's own that nothing causes
+-- a message that is taken where no bytes were moved
 abbrev pub unmoved : List Act
 unmoved = stray app_starts (got (App 0) Registry 1)
 
+-- a message that is skipped: all its bytes are moved, and nobody took it
+abbrev pub skipped : List Act
+skipped = app_starts ++ begins_line (Bytes (App 0) true 128) ∷ moves_bytes (App 0) true 128 ∷ []
+
+-- one of the bus's own that nothing causes
 abbrev pub uncaused : List Act
 uncaused = stray app_starts (sent The_bus (record (owner_changed (codes ":1.1") (codes ":1.1") []) { serial = 8 }))
 

@@ -3,20 +3,22 @@
 ghost use Rattle.atspi_headline_examples.specs.Refused.{IsRefusedBy, of_steps, of_applications, of_links, of_readers};
 ghost use Rattle.atspi_headline_examples.specs.Refused.{of_shown_rows, of_spoken_lines, of_exits, of_quiet};
 ghost use Rattle.atspi_headline_examples.specs.Refused.{of_dropped_ends};
-ghost use Rattle.atspi_headline_examples.specs.Runs.{unedited, unasked, unmoved, uncaused, unheard_of, unanswered};
+ghost use Rattle.atspi_headline_examples.specs.Runs.{unedited, edited_twice, skipped, unasked, unmoved, uncaused, unheard_of, unanswered};
 ghost use Rattle.atspi_headline_examples.specs.Runs.{unheld, unspoken, edited_late, gone_early, untold, quiet_early};
 ghost use Rattle.atspi_headline_examples.specs.Runs.{made_up};
 
-/// A step without an edit; a signal that nobody registered for.
+/// A step without an edit, and an edit that is done twice; a signal that nobody registered for.
 pub fn of_trees()
     ensures unedited { IsRefusedBy of_steps unedited }
+    ensures edited_twice { IsRefusedBy of_steps edited_twice }
     ensures unasked { IsRefusedBy of_applications unasked }
 {}
 
-/// A message that is taken without its bytes, and one of the bus's own without a cause; the registry dropped
+/// A message that is taken without its bytes, and one that is not taken with its last byte; one of the bus's own without a cause; the registry dropped
 /// with made-up numbers.
 pub fn of_the_bus()
     ensures unmoved { IsRefusedBy of_links unmoved }
+    ensures skipped { IsRefusedBy of_links skipped }
     ensures uncaused { IsRefusedBy of_links uncaused }
     ensures made_up { IsRefusedBy of_dropped_ends made_up }
 {}

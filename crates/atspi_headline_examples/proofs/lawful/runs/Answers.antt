@@ -78,3 +78,18 @@ returns-clause-quiet c = record {
   at_quiet = (record { told = refl; made = refl; settled = ((tt, tt), tt) }, (tt, tt));
   drops = record { so_far = (refl, (refl, tt)); at_end = refl; over = (tt, (tt, tt)) };
 }
+
+pub returns-clause-cut : goal.returns-clause-cut
+unfolding lib.Utf8.encode digits spelled_with header_bytes body_bytes body_place rising_fields path_of
+returns-clause-cut c = record {
+  segments = record { begins = tt; starts = (refl, (tt, (refl, (refl, (refl, tt))))); moves = (refl, (tt, (tt, (refl, (tt, tt))))) };
+  steps = (refl, (tt, (tt, (refl, (refl, tt)))));
+  applications = (refl, (tt, (tt, (refl, (refl, tt)))));
+  links = record { gots = (refl, (tt, (tt, (refl, (refl, tt))))); words = (refl, (refl, (refl, (refl, (refl, tt))))) };
+  readers = record { registry_sends = (refl, (refl, (refl, (refl, (refl, tt))))); apps_hear = (refl, (refl, (refl, (refl, (refl, tt))))); readers_call = (refl, (refl, (refl, (refl, (refl, tt))))) };
+  shown = (refl, (refl, (refl, (refl, (refl, tt)))));
+  spoken = (refl, (refl, (refl, (refl, (refl, tt)))));
+  exits = record { exits = (refl, (refl, (refl, (refl, (refl, tt))))); told = (refl, (refl, (refl, (refl, (refl, tt))))); over = (tt, (tt, (tt, (tt, (tt, tt))))) };
+  at_quiet = (record { told = refl; made = tt; settled = tt }, (tt, (tt, (record { told = refl; made = tt; settled = tt }, (tt, tt)))));
+  drops = record { so_far = (refl, (tt, (tt, (refl, (refl, tt))))); at_end = refl; over = (tt, (tt, (tt, (tt, (tt, tt))))) };
+}
