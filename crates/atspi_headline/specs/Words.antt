@@ -322,6 +322,7 @@ question_of e =
     else if is_text e.member (codes "GetChildren") then GetChildren ∷ []
     else if is_text e.member (codes "GetItems") then GetItems (or_empty e.destination) ∷ []
     else if is_text e.member (codes "GetText") then part_question Text e
+    else if not (is_text e.member (codes "Get")) then []
     else if bytes_eq (second_text e.body) (codes "CaretOffset") then part_question Caret e
     else if bytes_eq (second_text e.body) (codes "NColumns") then part_question Columns e
     else []

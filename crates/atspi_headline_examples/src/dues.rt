@@ -3,10 +3,13 @@
 ghost use Rattle.std.specs.Prelude.{◌≡◌, true, [], ◌∷◌, ◌++◌, None, Some, codes};
 ghost use Rattle.atspi_script_lines.specs.declared.line.Line.TheVariants.{Show, Turns};
 ghost use Rattle.atspi_script_lines.specs.declared.line.Party.TheVariants.{Bus, Registry, App, Reader};
-ghost use Rattle.atspi_protocol.specs.declared.following.question.Question.TheVariants.{Hello};
-ghost use Rattle.atspi_protocol.specs.following.Calls.{asking};
+ghost use Rattle.atspi_protocol.specs.declared.following.question.Question.TheVariants.{Hello, GetPart};
+ghost use Rattle.atspi_protocol.specs.declared.news.part.PartName.TheVariants.{Caret};
+ghost use Rattle.atspi_script_lines.specs.declared.deed.Deed.TheVariants.{InsertText};
+ghost use Rattle.atspi_tree_model.specs.Path.{path_of};
+ghost use Rattle.atspi_protocol.specs.following.Calls.{asking, user_call};
 ghost use Rattle.atspi_trace.specs.Entry.{changed, got, spoke, showed, gone, dropped};
-ghost use Rattle.atspi_headline.specs.Words.{begins_line, moves_bytes, writes};
+ghost use Rattle.atspi_headline.specs.Words.{begins_line, moves_bytes, writes, questions_in};
 ghost use Rattle.atspi_headline.specs.Links.{first_state, completed, kept, drops_among, routed, next_turn};
 ghost use Rattle.atspi_headline.specs.Headline.{signals_due, rows_due, spoken_due, gone_due, bus_words_due};
 ghost use Rattle.atspi_trace.specs.World.{first_bus};
@@ -58,4 +61,11 @@ pub fn of_the_bus()
         ≡ greeting_words }
     ensures to_the_application { serials (routed greeted (App 0)) ≡ 8 ∷ 9 ∷ [] }
     ensures to_the_registry { serials (routed greeted Registry) ≡ 10 ∷ [] }
+{}
+
+/// A reader's own call for a part is read as that; a call of its user is none, whatever its text.
+pub fn of_own_calls()
+    ensures part { questions_in (asking 5 (GetPart (codes ":1.1") (path_of 1) Caret))
+        ≡ GetPart (codes ":1.1") (path_of 1) Caret ∷ [] }
+    ensures of_its_user { questions_in (user_call 5 (codes ":1.1") 1 (InsertText 0 (codes "CaretOffset"))) ≡ [] }
 {}
