@@ -1,7 +1,7 @@
 -- Fronts of runs, at which is looked what is due next.
-use Rattle.std.specs.Prelude.{ℕ, negsuc, true, List, [], ◌∷◌, ◌++◌, map, None, Some, codes}
+use Rattle.std.specs.Prelude.{ℕ, negsuc, List, [], ◌∷◌, ◌++◌, map, None, Some, codes}
 use Rattle.atspi_types.specs.Data.{text_data}
-use Rattle.atspi_match.specs.routing.OwnMessages.{owner_changed, signal, return_to as bus_returns}
+use Rattle.atspi_match.specs.routing.OwnMessages.{owner_changed}
 use Rattle.atspi_tree_model.specs.declared.step.Seed.{Seed}
 use Rattle.atspi_tree_model.specs.declared.step.Step.{Step}
 use Rattle.atspi_tree_model.specs.declared.step.Step.TheVariants.{Add, SetName}
@@ -16,8 +16,8 @@ use Rattle.atspi_protocol.specs.announcing.Signals.{property_changed}
 use Rattle.atspi_protocol.specs.declared.following.question.Question.TheVariants.{Hello, GetItems}
 use Rattle.atspi_protocol.specs.following.Calls.{asking}
 use Rattle.atspi_trace_events.specs.declared.shown.ShownRow.{ShownRow}
-use Rattle.atspi_trace.specs.Entry.{Entry, started, changed, sent, got, heard, busy}
-use Rattle.atspi_headline.specs.Words.{Act, begins_line, moves_bytes, writes}
+use Rattle.atspi_trace.specs.Entry.{Entry, started, changed, sent, got, heard}
+use Rattle.atspi_headline.specs.Words.{Act, begins_line, writes}
 use Rattle.atspi_headline.specs.Links.{Delivery}
 use Rattle.atspi_headline_examples.specs.Runs.{app_starts}
 
@@ -79,25 +79,6 @@ ended =
 abbrev pub of_hello : ℕ → Delivery
 of_hello mark = record { to = App 0; from = The_bus; letter = asking 1 Hello; mark = mark }
 
--- the bus took the application's Hello
+-- a turn is to be made behind its start
 abbrev pub moving : List Act
 moving = app_starts ++ begins_line (Turns 1) ∷ []
-
-abbrev pub greeted : List Act
-greeted = moving ++ moves_bytes (App 0) true 128 ∷ writes (got The_bus (App 0) 1) ∷ []
-
--- what it says then
-abbrev pub greeting_words : List Entry
-greeting_words =
-    sent The_bus (record (bus_returns (Some (codes ":1.1")) 1 (text_data (codes ":1.1") ∷ [])) { serial = 8 })
-    ∷ sent The_bus
-    (record (signal (codes "NameAcquired") (Some (codes ":1.1")) (text_data (codes ":1.1") ∷ [])) { serial = 9 })
-    ∷ sent The_bus (record (owner_changed (codes ":1.1") [] (codes ":1.1")) { serial = 10 }) ∷ []
-
--- the serials of the messages routed to an end
-abbrev pub serials : List Delivery → List ℕ
-serials ds = map (λ (d : Delivery). d.letter.serial) ds
-
--- and the whole run
-abbrev pub greeting : List Act
-greeting = greeted ++ (map writes greeting_words ++ writes (busy 1) ∷ [])

@@ -1,8 +1,8 @@
 //! What is due at places of longer runs.
 
 ghost use Rattle.std.specs.Prelude.{◌≡◌, true, [], ◌∷◌, ◌++◌, None, Some, codes};
-ghost use Rattle.atspi_script_lines.specs.declared.line.Line.TheVariants.{Show, Turns};
-ghost use Rattle.atspi_script_lines.specs.declared.line.Party.TheVariants.{Bus, Registry, App, Reader};
+ghost use Rattle.atspi_script_lines.specs.declared.line.Line.TheVariants.{Show};
+ghost use Rattle.atspi_script_lines.specs.declared.line.Party.TheVariants.{Bus, App, Reader};
 ghost use Rattle.atspi_protocol.specs.declared.following.question.Question.TheVariants.{Hello, GetPart};
 ghost use Rattle.atspi_protocol.specs.declared.news.part.PartName.TheVariants.{Caret};
 ghost use Rattle.atspi_script_lines.specs.declared.deed.Deed.TheVariants.{InsertText};
@@ -10,12 +10,11 @@ ghost use Rattle.atspi_tree_model.specs.Path.{path_of};
 ghost use Rattle.atspi_protocol.specs.following.Calls.{asking, user_call};
 ghost use Rattle.atspi_trace.specs.Entry.{changed, got, spoke, showed, gone, dropped};
 ghost use Rattle.atspi_headline.specs.Words.{begins_line, moves_bytes, writes, questions_in};
-ghost use Rattle.atspi_headline.specs.Links.{first_state, completed, kept, drops_among, routed, next_turn};
-ghost use Rattle.atspi_headline.specs.Headline.{signals_due, rows_due, spoken_due, gone_due, bus_words_due};
-ghost use Rattle.atspi_trace.specs.World.{first_bus};
+ghost use Rattle.atspi_headline.specs.Links.{completed, kept, drops_among, next_turn};
+ghost use Rattle.atspi_headline.specs.Headline.{signals_due, rows_due, spoken_due, gone_due};
 ghost use Rattle.atspi_headline_examples.specs.Runs.{app_starts};
 ghost use Rattle.atspi_headline_examples.specs.Fronts.{loaded, root_row, listens, renaming, renaming_told, alerted};
-ghost use Rattle.atspi_headline_examples.specs.Fronts.{ended, of_hello, moving, greeted, greeting_words, serials};
+ghost use Rattle.atspi_headline_examples.specs.Fronts.{ended, of_hello, moving};
 
 /// A step is told where some heard pattern covers it, with the next number, and else not.
 pub fn of_applications()
@@ -51,16 +50,9 @@ pub fn of_links()
     ensures not_dropped { drops_among 200 [] (of_hello 0 ∷ of_hello 60 ∷ []) ≡ [] }
 {}
 
-/// The bus begins behind the registry's start. Behind an application's Hello it says three messages, with the numbers
-/// from 8 on: two go to the application, and the news of its name to the registry.
-pub fn of_the_bus()
-    ensures first { first_state ≡ (first_bus 1024).state }
-    ensures turn { next_turn moving ≡ Some (moves_bytes (App 0) true 128) }
-    ensures words { bus_words_due
-        (app_starts ++ begins_line (Turns 1) ∷ moves_bytes (App 0) true 128 ∷ []) (writes (got Bus (App 0) 1))
-        ≡ greeting_words }
-    ensures to_the_application { serials (routed greeted (App 0)) ≡ 8 ∷ 9 ∷ [] }
-    ensures to_the_registry { serials (routed greeted Registry) ≡ 10 ∷ [] }
+/// While the application's Hello waits, the next turn moves all of it.
+pub fn of_turns()
+    ensures { next_turn moving ≡ Some (moves_bytes (App 0) true 128) }
 {}
 
 /// A reader's own call for a part is read as that; a call of its user is none, whatever its text.

@@ -2,7 +2,6 @@
 
 ghost use Rattle.std.specs.Prelude.{true, false};
 ghost use Rattle.atspi_headline.specs.Headline.{LawfulRun};
-ghost use Rattle.atspi_headline_examples.specs.Fronts.{greeting};
 ghost use Rattle.atspi_headline_examples.specs.Runs.{renamed, shown, stopped, is_busy, is_quiet, cut, begun};
 
 /// An application that is edited; a reader that shows nothing of what it does not hold; an application that exits; a
@@ -21,9 +20,4 @@ pub fn runs()
 pub fn broken_off()
     ensures front { LawfulRun true begun }
     ensures whole { LawfulRun false begun → ⊥ }
-{}
-
-/// The bus takes an application's Hello, in one turn, and says three messages; something waits then.
-pub fn a_greeting()
-    ensures { LawfulRun false greeting }
 {}
