@@ -5,6 +5,7 @@ ghost use Rattle.std.specs.Prelude.{◌≡◌, ◌≤◌, [], IfSome, length};
 ghost use Rattle.atspi_live_bus.specs.Service.{HasNoCall, OfTold};
 ghost use Rattle.atspi_live_conversation.specs.Reports.{Begins};
 
+use atspi_app::App;
 use atspi_app_exported::Kit;
 use atspi_base::{Sink, Source, Text};
 use atspi_faces::{Deeds, Grid, PlainText};
@@ -111,7 +112,7 @@ fn export<S: Source, K: Sink, H: Host>(
         return 5;
     };
     let kit = Kit { chars, grid, deeds };
-    app(alloc, path, rounds, source, sink, host, kit)
+    app::<App, S, K, H>(alloc, path, rounds, source, sink, host, kit)
 }
 
 /// Does a live command on the socket at the path, and answers the status.

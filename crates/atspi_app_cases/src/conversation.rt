@@ -9,7 +9,7 @@ use atspi_trace_texts::write_event;
 use std::alloc::Global;
 
 /// The event of a trace that tells what happened at an application.
-fn event_of(event: AppEvent) -> Event {
+fn event_of<A: Application>(event: AppEvent) -> Event {
     match event {
         AppEvent::Step(step) => Event::Step { app: 0, step },
         AppEvent::Send(message) => Event::Sent {
@@ -36,9 +36,9 @@ fn put_event(event: AppEvent, out: &mut Bytes) -> bool {
 }
 
 /// Appends the texts of what is queued, each a line; it is no longer queued.
-fn put_told(app: &mut App, out: &mut Bytes) -> Option<()>
-    requires app { ⟦<App as Application>⟧.is_app app.old }
-    ensures app { ⟦<App as Application>⟧.is_app app.new }
+fn put_told(app: &mut A, out: &mut Bytes) -> Option<()>
+    requires app { A.is_app app.old }
+    ensures app { A.is_app app.new }
 {
     for _event in 0..1_000_000 {
         let Some(event) = app.next() else {
@@ -52,7 +52,7 @@ fn put_told(app: &mut App, out: &mut Bytes) -> Option<()>
 }
 
 /// Appends a line.
-fn put_line(line: &str, out: &mut Bytes) -> Option<()> {
+fn put_line<A: Application>(line: &str, out: &mut Bytes) -> Option<()> {
     out.extend(line.as_bytes()).ok()?;
     out.push(b'\n').ok()
 }
@@ -64,15 +64,15 @@ fn put_fault(alloc: Global, fault: AppFault, out: &mut Bytes) -> Option<()> {
 }
 
 /// Appends how many nodes its tree has.
-fn put_count(alloc: Global, app: &App, out: &mut Bytes) -> Option<()> {
+fn put_count(alloc: Global, app: &A, out: &mut Bytes) -> Option<()> {
     let line = format!(in alloc; "{} nodes", app.tree().len()).ok()?;
     put_line(&line, out)
 }
 
 /// What comes of a line. Where memory was wanting all is as before, so it is done once more then.
-pub(crate) fn done(alloc: Global, app: &mut App, words: &str) -> Option<Result<(), AppFault>>
-    requires app { ⟦<App as Application>⟧.is_app app.old }
-    ensures app { ⟦<App as Application>⟧.is_app app.new }
+pub(crate) fn done(alloc: Global, app: &mut A, words: &str) -> Option<Result<(), AppFault>>
+    requires app { A.is_app app.old }
+    ensures app { A.is_app app.new }
 {
     match act(alloc, app, words) {
         None | Some(Err(AppFault::NoMemory)) => act(alloc, app, words),
@@ -81,9 +81,9 @@ pub(crate) fn done(alloc: Global, app: &mut App, words: &str) -> Option<Result<(
 }
 
 /// A line, what is done then, and what happens.
-fn play_line(alloc: Global, app: &mut App, words: &str, out: &mut Bytes) -> Option<()>
-    requires app { ⟦<App as Application>⟧.is_app app.old }
-    ensures app { ⟦<App as Application>⟧.is_app app.new }
+fn play_line<A: Application>(alloc: Global, app: &mut A, words: &str, out: &mut Bytes) -> Option<()>
+    requires app { A.is_app app.old }
+    ensures app { A.is_app app.new }
 {
     if words == "count" {
         return put_count(alloc, app, out);
@@ -98,9 +98,9 @@ fn play_line(alloc: Global, app: &mut App, words: &str, out: &mut Bytes) -> Opti
 /// behind it the texts of what happens then, or why it was not done. What is done is `start`, `count` (of its nodes),
 /// an edit as `edit a0 name 1 "x"`, or a message in words. Other lines are passed over, so that a conversation is the
 /// script of itself.
-pub fn play(alloc: Global, app: &mut App, script: &str, out: &mut Bytes) -> Option<()>
-    requires app { ⟦<App as Application>⟧.is_app app.old }
-    ensures app { ⟦<App as Application>⟧.is_app app.new }
+pub fn play<A: Application>(alloc: Global, app: &mut A, script: &str, out: &mut Bytes) -> Option<()>
+    requires app { A.is_app app.old }
+    ensures app { A.is_app app.new }
 {
     for line in script.lines() {
         if let Some(words) = line.strip_prefix("> ") {
@@ -112,9 +112,9 @@ pub fn play(alloc: Global, app: &mut App, script: &str, out: &mut Bytes) -> Opti
 }
 
 /// How many things happen at the application where it takes the message that the bytes are; they are handed out.
-pub fn said(alloc: Global, app: &mut App, bytes: &[u8]) -> Option<u32>
-    requires app { ⟦<App as Application>⟧.is_app app.old }
-    ensures app { ⟦<App as Application>⟧.is_app app.new }
+pub fn said<A: Application>(alloc: Global, app: &mut A, bytes: &[u8]) -> Option<u32>
+    requires app { A.is_app app.old }
+    ensures app { A.is_app app.new }
 {
     take(alloc, app, bytes)?.ok()?;
     let mut count = 0u32;

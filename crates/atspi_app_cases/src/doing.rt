@@ -1,15 +1,15 @@
 //! What is done to an application.
 
-use atspi_app::{App, AppFault, Application};
+use atspi_app::{AppFault, Application};
 use atspi_base::Bytes;
 use atspi_message_cases::{bytes_of, lent};
 use atspi_script_lines::{Line, parse_line};
 use std::alloc::Global;
 
 /// It is edited, as a line of a script says.
-fn edit(alloc: Global, app: &mut App, line: &str) -> Option<Result<(), AppFault>>
-    requires app { ⟦<App as Application>⟧.is_app app.old }
-    ensures app { ⟦<App as Application>⟧.is_app app.new }
+fn edit<A: Application>(alloc: Global, app: &mut A, line: &str) -> Option<Result<(), AppFault>>
+    requires app { A.is_app app.old }
+    ensures app { A.is_app app.new }
 {
     match parse_line(alloc, line.as_bytes()) {
         Ok(Line::Edit { edit, .. }) => Some(app.edit(alloc, &edit)),
@@ -18,9 +18,13 @@ fn edit(alloc: Global, app: &mut App, line: &str) -> Option<Result<(), AppFault>
 }
 
 /// It takes the message that the bytes are.
-pub(crate) fn take(alloc: Global, app: &mut App, bytes: &[u8]) -> Option<Result<(), AppFault>>
-    requires app { ⟦<App as Application>⟧.is_app app.old }
-    ensures app { ⟦<App as Application>⟧.is_app app.new }
+pub(crate) fn take<A: Application>(
+    alloc: Global,
+    app: &mut A,
+    bytes: &[u8],
+) -> Option<Result<(), AppFault>>
+    requires app { A.is_app app.old }
+    ensures app { A.is_app app.new }
 {
     let message = lent(bytes)?;
     match app.take(alloc, &message) {
@@ -30,9 +34,9 @@ pub(crate) fn take(alloc: Global, app: &mut App, bytes: &[u8]) -> Option<Result<
 }
 
 /// It starts.
-fn start(alloc: Global, app: &mut App) -> Result<(), AppFault>
-    requires app { ⟦<App as Application>⟧.is_app app.old }
-    ensures app { ⟦<App as Application>⟧.is_app app.new }
+fn start<A: Application>(alloc: Global, app: &mut A) -> Result<(), AppFault>
+    requires app { A.is_app app.old }
+    ensures app { A.is_app app.new }
 {
     match app.start(alloc) {
         Ok(()) => Ok(()),
@@ -41,18 +45,22 @@ fn start(alloc: Global, app: &mut App) -> Result<(), AppFault>
 }
 
 /// It takes a message in words.
-fn hear(alloc: Global, app: &mut App, words: &str) -> Option<Result<(), AppFault>>
-    requires app { ⟦<App as Application>⟧.is_app app.old }
-    ensures app { ⟦<App as Application>⟧.is_app app.new }
+fn hear<A: Application>(alloc: Global, app: &mut A, words: &str) -> Option<Result<(), AppFault>>
+    requires app { A.is_app app.old }
+    ensures app { A.is_app app.new }
 {
     let bytes: Bytes = bytes_of(alloc, words)?;
     take(alloc, app, bytes.as_slice())
 }
 
 /// It starts, is edited, or takes a message in words.
-pub(crate) fn act(alloc: Global, app: &mut App, words: &str) -> Option<Result<(), AppFault>>
-    requires app { ⟦<App as Application>⟧.is_app app.old }
-    ensures app { ⟦<App as Application>⟧.is_app app.new }
+pub(crate) fn act<A: Application>(
+    alloc: Global,
+    app: &mut A,
+    words: &str,
+) -> Option<Result<(), AppFault>>
+    requires app { A.is_app app.old }
+    ensures app { A.is_app app.new }
 {
     if words == "start" {
         return Some(start(alloc, app));

@@ -1,7 +1,7 @@
 //! The bytes of what an application announces, against messages that are put together value by value, or by hand.
 
 use crate::plays::{NAMED, begun};
-use atspi_app::{App, Application};
+use atspi_app::Application;
 use atspi_app_cases::{play, send};
 use atspi_base::Bytes;
 use atspi_message_cases::bytes_of;
@@ -31,7 +31,7 @@ edit a0 remove 2 -> signal 21 - 1 Event.Object ChildrenChanged s=remove i=0 i=0 
 ";
 
 /// Appends the bytes that digits spell.
-fn put_digits(alloc: Global, due: &mut Bytes, digits: &str) -> Option<()> {
+fn put_digits<A: Application>(alloc: Global, due: &mut Bytes, digits: &str) -> Option<()> {
     let bytes = hex::decode(alloc, digits).ok()?;
     due.extend(bytes.as_slice()).ok()
 }
@@ -68,9 +68,9 @@ fn put_steps(alloc: Global, script: &mut String, due: &mut Bytes, steps: &str) -
 }
 
 /// An application plays its start and what stands before a table.
-fn plays(alloc: Global, app: &mut App) -> Option<()>
-    requires app { ⟦<App as Application>⟧.is_app app.old }
-    ensures app { ⟦<App as Application>⟧.is_app app.new }
+fn plays(alloc: Global, app: &mut A) -> Option<()>
+    requires app { A.is_app app.old }
+    ensures app { A.is_app app.new }
 {
     let mut said = Bytes::new(alloc);
     play(alloc, app, NAMED, &mut said)?;
@@ -78,8 +78,8 @@ fn plays(alloc: Global, app: &mut App) -> Option<()>
 }
 
 /// Whether an application that has started sends just the bytes that are due.
-fn writes(alloc: Global, app: &mut App, script: &str, due: &[u8]) -> bool
-    requires app { ⟦<App as Application>⟧.is_app app.old }
+fn writes<A: Application>(alloc: Global, app: &mut A, script: &str, due: &[u8]) -> bool
+    requires app { A.is_app app.old }
 {
     let mut link = Link::new(alloc);
     let sent = send(alloc, app, script, &mut link);

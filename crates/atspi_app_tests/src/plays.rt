@@ -44,9 +44,9 @@ pub(crate) fn begun(alloc: Global) -> Option<App>
 }
 
 /// Whether an application says what stands in a script.
-fn says(rt: &HostRuntime, app: &mut App, script: &str) -> bool
-    requires app { ⟦<App as Application>⟧.is_app app.old }
-    ensures app { ⟦<App as Application>⟧.is_app app.new }
+fn says<A: Application>(rt: &HostRuntime, app: &mut A, script: &str) -> bool
+    requires app { A.is_app app.old }
+    ensures app { A.is_app app.new }
 {
     let mut said = Bytes::new(rt.alloc());
     let played = play(rt.alloc(), app, script, &mut said);

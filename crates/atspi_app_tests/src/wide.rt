@@ -4,7 +4,7 @@
 use crate::others::{MEMBERS, put_front};
 use crate::plays::begun;
 use crate::tables::example;
-use atspi_app::{App, AppEvent, Application};
+use atspi_app::{AppEvent, Application};
 use atspi_app_cases::play;
 use atspi_base::Bytes;
 use atspi_message::Message;
@@ -22,7 +22,7 @@ const TYPES: [(u8, usize); 6] = [
 ];
 
 /// Sets bytes that are there.
-fn set(out: &mut Bytes, at: usize, bytes: &[u8]) -> Option<()> {
+fn set<A: Application>(out: &mut Bytes, at: usize, bytes: &[u8]) -> Option<()> {
     if out.len() < at.checked_add(bytes.len())? {
         return None;
     }
@@ -71,9 +71,9 @@ fn is_refused(event: Option<AppEvent>) -> bool {
 }
 
 /// Whether an application answers a message by such an error alone.
-fn refuses(alloc: Global, app: &mut App, bytes: &[u8]) -> Option<bool>
-    requires app { ⟦<App as Application>⟧.is_app app.old }
-    ensures app { ⟦<App as Application>⟧.is_app app.new }
+fn refuses(alloc: Global, app: &mut A, bytes: &[u8]) -> Option<bool>
+    requires app { A.is_app app.old }
+    ensures app { A.is_app app.new }
 {
     let message = lent(bytes)?;
     app.take(alloc, &message).ok()?;
@@ -82,9 +82,9 @@ fn refuses(alloc: Global, app: &mut App, bytes: &[u8]) -> Option<bool>
 }
 
 /// Whether an application refuses a call of a member with a value of each type.
-fn refuses_all(alloc: Global, app: &mut App, line: &str) -> Option<bool>
-    requires app { ⟦<App as Application>⟧.is_app app.old }
-    ensures app { ⟦<App as Application>⟧.is_app app.new }
+fn refuses_all<A: Application>(alloc: Global, app: &mut A, line: &str) -> Option<bool>
+    requires app { A.is_app app.old }
+    ensures app { A.is_app app.new }
 {
     for (code, size) in TYPES {
         let bytes = call_with(alloc, line, code, size)?;
@@ -96,9 +96,9 @@ fn refuses_all(alloc: Global, app: &mut App, line: &str) -> Option<bool>
 }
 
 /// Whether an application gets the example, and refuses such calls of each member.
-fn refuses_each(alloc: Global, app: &mut App) -> Option<bool>
-    requires app { ⟦<App as Application>⟧.is_app app.old }
-    ensures app { ⟦<App as Application>⟧.is_app app.new }
+fn refuses_each<A: Application>(alloc: Global, app: &mut A) -> Option<bool>
+    requires app { A.is_app app.old }
+    ensures app { A.is_app app.new }
 {
     let script = example(alloc)?;
     let mut told = Bytes::new(alloc);

@@ -1,7 +1,6 @@
 //! A run of an application on a Unix socket.
 
 ghost use Rattle.std.specs.Prelude.{◌≡◌, ◌≤◌, [], length};
-ghost use Rattle.atspi_app_exported.specs.Parts.{AreEmpty, AreKinds};
 ghost use Rattle.atspi_live_conversation.specs.Reports.{Begins, Causes, SinkBlamed};
 ghost use Rattle.atspi_live_app.specs.Lines.{lines_of};
 ghost use Rattle.atspi_live_app.specs.Names.{refused_text};
@@ -12,7 +11,7 @@ use crate::live_app::{LiveApp, Stop};
 use crate::naming::{Refused, put_refused};
 use crate::over::Over;
 use crate::rounds::export;
-use atspi_app::{App, Application, Boxes, Kit};
+use atspi_app::Application;
 use atspi_base::{Bytes, Sink, Source, Text, write_all};
 use atspi_live_conversation::report;
 use atspi_live_host::{Did, Host};
@@ -74,7 +73,7 @@ fn run_on<A: Application, K: Sink, H: Host>(
 }
 
 /// Reads the source to its end, connects to the bus at the path, and is an application there for so many rounds:
-/// authentication as a client, and what `App` does. A line of the input is done before each round's read: `app Q`
+/// authentication as a client, and what the application does. A line of the input is done before each round's read: `app Q`
 /// first, then edits as in a script without the words `edit A`, and `wait N`, which takes N rounds. What is given on
 /// the link is a front of the authentication's lines and then of the messages that the application sends which these
 /// lines and the messages that were taken make: each line is done behind just the messages that are whole in what the
@@ -84,17 +83,16 @@ fn run_on<A: Application, K: Sink, H: Host>(
 /// sink failed. 5: no memory is left. 6: a message of the peer is malformed, and `fault START PLACE REASON` was
 /// written. 7: a call of the host failed. 8: all rounds were done, or the source gave more than 16,777,216 bytes. 10:
 /// the peer did not authenticate. 13: a message would pass number 4,294,967,295.
-pub fn app<S: Source, K: Sink, H: Host>(
+pub fn app<A: Application, S: Source, K: Sink, H: Host>(
     alloc: Global,
     path: &Text,
     rounds: u32,
     source: &mut S,
     sink: &mut K,
     host: &mut H,
-    kit: Kit,
+    kit: A::Kit,
 ) -> u8
-    requires kinds { AreKinds (⟦<Kit as Boxes>⟧.kinds kit) }
-    requires empty { AreEmpty (⟦<Kit as Boxes>⟧.faces kit) }
+    requires kit { A.is_kit kit }
     requires calls { Begins (H.calls host.old) }
     requires links { H.links host.old ≡ [] }
     ensures ends { RunEnds path.now (S.left source.old) (S.left source.new) (S.faults source.old) (S.faults source.new)
@@ -105,7 +103,7 @@ pub fn app<S: Source, K: Sink, H: Host>(
 {
     let mut text = Vec::new(alloc);
     match read_all(source, &mut text) {
-        Ok(End::Whole) => run_on::<App, K, H>(alloc, path, rounds, text, sink, host, kit),
+        Ok(End::Whole) => run_on::<A, K, H>(alloc, path, rounds, text, sink, host, kit),
         Ok(End::TooLong) => 8,
         Ok(End::Failed) => 3,
         Err(_) => 5,

@@ -1,10 +1,12 @@
 //! The application over a host in memory, with messages of a bus and of a registry worked out by hand.
 
 use crate::hosts::{NEVER, Run, host_of, joined, numbers, path, run_of};
+use atspi_app::App;
 use atspi_app_exported::Kit;
 use atspi_base::{MemSink, MemSource};
 use atspi_faces::{Deeds, Grid, PlainText};
 use atspi_live_app::app;
+use atspi_live_host::MemHost;
 use std::alloc::Global;
 use std::process::Abort;
 use std::test::*;
@@ -79,7 +81,7 @@ fn run_with(
         grid: Box::new(alloc, Grid::new(alloc)).expect(rt, "memory"),
         deeds: Box::new(alloc, Deeds::new(alloc)).expect(rt, "memory"),
     };
-    let status = app(
+    let status = app::<App, MemSource, MemSink, MemHost>(
         alloc,
         &path,
         rounds,
