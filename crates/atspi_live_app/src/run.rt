@@ -73,11 +73,11 @@ fn run_on<A: Application, K: Sink, H: Host>(
 }
 
 /// Reads the source to its end, connects to the bus at the path, and is an application there for so many rounds:
-/// authentication as a client, and what the application does. A line of the input is done before each round's read: `app Q`
-/// first, then edits as in a script without the words `edit A`, and `wait N`, which takes N rounds. What is given on
-/// the link is a front of the authentication's lines and then of the messages that the application sends which these
-/// lines and the messages that were taken make: each line is done behind just the messages that are whole in what the
-/// reads of the rounds before its own took.
+/// authentication as a client, and what the application does. A line of the input is done before each round's read:
+/// `app Q` first, then edits as in a script without the words `edit A`, and `wait N`, which takes N rounds. What is
+/// given on the link is a front of the authentication's lines and then of the messages that the application sends which
+/// these lines and the messages that were taken make: each line is done behind just the messages that are whole in what
+/// the reads of the rounds before its own took.
 ///
 /// Status 0: the peer ended. 1: a line was refused, and `refused LINE NAME` was written. 3: the source failed. 4: the
 /// sink failed. 5: no memory is left. 6: a message of the peer is malformed, and `fault START PLACE REASON` was
