@@ -9,7 +9,7 @@ use atspi_trace_texts::write_event;
 use std::alloc::Global;
 
 /// The event of a trace that tells what happened at an application.
-fn event_of<A: Application>(event: AppEvent) -> Event {
+fn event_of(event: AppEvent) -> Event {
     match event {
         AppEvent::Step(step) => Event::Step { app: 0, step },
         AppEvent::Send(message) => Event::Sent {
@@ -36,7 +36,7 @@ fn put_event(event: AppEvent, out: &mut Bytes) -> bool {
 }
 
 /// Appends the texts of what is queued, each a line; it is no longer queued.
-fn put_told(app: &mut A, out: &mut Bytes) -> Option<()>
+fn put_told<A: Application>(app: &mut A, out: &mut Bytes) -> Option<()>
     requires app { A.is_app app.old }
     ensures app { A.is_app app.new }
 {
@@ -52,7 +52,7 @@ fn put_told(app: &mut A, out: &mut Bytes) -> Option<()>
 }
 
 /// Appends a line.
-fn put_line<A: Application>(line: &str, out: &mut Bytes) -> Option<()> {
+fn put_line(line: &str, out: &mut Bytes) -> Option<()> {
     out.extend(line.as_bytes()).ok()?;
     out.push(b'\n').ok()
 }
@@ -64,13 +64,17 @@ fn put_fault(alloc: Global, fault: AppFault, out: &mut Bytes) -> Option<()> {
 }
 
 /// Appends how many nodes its tree has.
-fn put_count(alloc: Global, app: &A, out: &mut Bytes) -> Option<()> {
+fn put_count<A: Application>(alloc: Global, app: &A, out: &mut Bytes) -> Option<()> {
     let line = format!(in alloc; "{} nodes", app.tree().len()).ok()?;
     put_line(&line, out)
 }
 
 /// What comes of a line. Where memory was wanting all is as before, so it is done once more then.
-pub(crate) fn done(alloc: Global, app: &mut A, words: &str) -> Option<Result<(), AppFault>>
+pub(crate) fn done<A: Application>(
+    alloc: Global,
+    app: &mut A,
+    words: &str,
+) -> Option<Result<(), AppFault>>
     requires app { A.is_app app.old }
     ensures app { A.is_app app.new }
 {

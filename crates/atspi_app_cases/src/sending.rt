@@ -6,7 +6,7 @@ use atspi_world_links::Link;
 use std::alloc::Global;
 
 /// Sends what happened, where that is a message, down a link. It is let go.
-fn send_event<A: Application>(event: AppEvent, link: &mut Link) -> bool {
+fn send_event(event: AppEvent, link: &mut Link) -> bool {
     match event {
         AppEvent::Send(message) => link.send(&message).is_ok(),
         _ => true,
@@ -14,7 +14,7 @@ fn send_event<A: Application>(event: AppEvent, link: &mut Link) -> bool {
 }
 
 /// Sends the messages that are queued down a link. Nothing is queued then.
-fn send_queued(app: &mut A, link: &mut Link) -> Option<()>
+fn send_queued<A: Application>(app: &mut A, link: &mut Link) -> Option<()>
     requires app { A.is_app app.old }
     ensures app { A.is_app app.new }
 {

@@ -31,7 +31,7 @@ edit a0 remove 2 -> signal 21 - 1 Event.Object ChildrenChanged s=remove i=0 i=0 
 ";
 
 /// Appends the bytes that digits spell.
-fn put_digits<A: Application>(alloc: Global, due: &mut Bytes, digits: &str) -> Option<()> {
+fn put_digits(alloc: Global, due: &mut Bytes, digits: &str) -> Option<()> {
     let bytes = hex::decode(alloc, digits).ok()?;
     due.extend(bytes.as_slice()).ok()
 }
@@ -68,7 +68,7 @@ fn put_steps(alloc: Global, script: &mut String, due: &mut Bytes, steps: &str) -
 }
 
 /// An application plays its start and what stands before a table.
-fn plays(alloc: Global, app: &mut A) -> Option<()>
+fn plays<A: Application>(alloc: Global, app: &mut A) -> Option<()>
     requires app { A.is_app app.old }
     ensures app { A.is_app app.new }
 {

@@ -22,7 +22,7 @@ const TYPES: [(u8, usize); 6] = [
 ];
 
 /// Sets bytes that are there.
-fn set<A: Application>(out: &mut Bytes, at: usize, bytes: &[u8]) -> Option<()> {
+fn set(out: &mut Bytes, at: usize, bytes: &[u8]) -> Option<()> {
     if out.len() < at.checked_add(bytes.len())? {
         return None;
     }
@@ -71,7 +71,7 @@ fn is_refused(event: Option<AppEvent>) -> bool {
 }
 
 /// Whether an application answers a message by such an error alone.
-fn refuses(alloc: Global, app: &mut A, bytes: &[u8]) -> Option<bool>
+fn refuses<A: Application>(alloc: Global, app: &mut A, bytes: &[u8]) -> Option<bool>
     requires app { A.is_app app.old }
     ensures app { A.is_app app.new }
 {
