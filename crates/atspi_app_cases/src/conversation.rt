@@ -1,7 +1,7 @@
 //! What is done to an application, and what happens then.
 
 use crate::doing::{act, take};
-use atspi_app::{App, AppEvent, AppFault, Application};
+use atspi_app::{AppEvent, AppFault, Application};
 use atspi_base::Bytes;
 use atspi_script_lines::Party;
 use atspi_trace_events::Event;
