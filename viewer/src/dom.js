@@ -12,7 +12,9 @@ function make(tag, attributes = {}, ...children) {
 }
 
 const byId = id => document.getElementById(id);
-const plural = (count, word) => `${count.toLocaleString('en')} ${word}${count === 1 ? '' : 's'}`;
+const grouped = new Intl.NumberFormat('en');
+const counted = count => grouped.format(count);
+const plural = (count, word) => `${counted(count)} ${word}${count === 1 ? '' : 's'}`;
 
 // one call a frame, however often it is asked for
 function oncePerFrame(work) {
@@ -25,6 +27,23 @@ function oncePerFrame(work) {
             work();
         });
     };
+}
+
+// Puts rows into an element, each { key, sign, make }: one that is there already with this key and sign stays as it is.
+function putRows(parent, rows) {
+    const before = parent.rows ?? new Map(), after = new Map();
+    let at = parent.firstChild;
+    for (const row of rows) {
+        const old = before.get(row.key);
+        let element = old?.sign === row.sign ? old.element : null;
+        if (element) before.delete(row.key);
+        else element = row.make();
+        after.set(row.key, { sign: row.sign, element });
+        if (element === at) at = at.nextSibling;
+        else parent.insertBefore(element, at);
+    }
+    for (const { element } of before.values()) element.remove();
+    parent.rows = after;
 }
 
 // a link to an event of this trace

@@ -49,7 +49,7 @@ class Forest {
             onfocus: () => this.onFocus(column.k),
         }));
         this.sheet.replaceChildren(...this.trees);
-        for (const element of [this.heads, this.sheet]) element.style.gridTemplateColumns = `repeat(${this.columns.length}, minmax(15rem, 1fr))`;
+        for (const element of [this.heads, this.sheet]) element.style.gridTemplateColumns = `repeat(${this.columns.length}, minmax(13rem, 1fr))`;
     }
 
     drawNow() {
@@ -61,11 +61,10 @@ class Forest {
             const tree = this.trees[place], items = [];
             for (let k = first; k <= last; k++) {
                 const made = this.open[k].cells[column.k];
-                if (made) items.push(this.item(made, column, k));
-                else if (column.rows) items.push(make('div', { class: 'blank', style: `top:${k * LINE_HEIGHT}px`, 'aria-hidden': 'true' }));
+                if (made) items.push(this.itemAt(made, column, k));
             }
-            if (!column.rows) items.push(make('p', { class: 'empty' }, column.empty));
-            tree.replaceChildren(...items);
+            if (!column.rows) items.push({ key: 'empty', sign: column.empty, make: () => make('p', { class: 'empty' }, column.empty) });
+            putRows(tree, items);
             tree.setAttribute('role', column.rows && column.rows.length ? 'tree' : 'group');
             tree.tabIndex = column.rows && column.rows.length ? 0 : -1;
             const current = this.open.findIndex(line => line.path === this.path);
@@ -78,9 +77,14 @@ class Forest {
         return `node-${this.app}-${column}-${path.replaceAll('/', '.')}`;
     }
 
-    item(made, column, k) {
+    itemAt(made, column, k) {
+        const { node, level, index, size } = made.row, marks = markWords(made);
+        const sign = `${k} ${level} ${size} ${node.path === this.path} ${this.closed.has(node.path)} ${node.children.length > 0} ${marks.join()} ${rowText(node, index)}`;
+        return { key: node.path, sign, make: () => this.item(made, column, k, marks) };
+    }
+
+    item(made, column, k, marks) {
         const { node, level, index, size } = made.row;
-        const marks = markWords(made);
         const classes = ['item', made.missing ? 'missing' : '', made.gone || made.stale.length ? 'stale' : '', made.unknown.length ? 'unknown' : '', node.path === this.path ? 'current' : ''];
         const isOpen = !this.closed.has(node.path);
         const states = stateNames(node).filter(name => !['enabled', 'sensitive', 'showing', 'visible'].includes(name));
@@ -100,7 +104,7 @@ class Forest {
         ...(marks.length ? marks.map(words => make('span', { class: `mark mark-${words.split(/[: ]/)[0]}` }, words)) : []),
         make('span', { class: 'node-number' }, shownPath(node.path)), ' ',
         make('span', { class: 'node-role' }, roleName(node.role)), ' ',
-        make('span', { class: 'node-name' }, node.name === '' ? 'no name' : `“${node.name}”`), ' ',
+        make('span', { class: node.name === '' ? 'node-name none' : 'node-name' }, node.name === '' ? 'no name' : `“${node.name}”`), ' ',
         ...(made.missing ? [] : [
             make('span', { class: 'node-states' }, [...states, ...lacks].join(', ')), ' ',
             make('span', { class: 'node-parts' }, parts.join(', ')),

@@ -51,7 +51,7 @@ const STEP_HEAD = whole(`step ${APP} ([a-z]+) `);
 const HEADER = whole(`(call|return|error|signal|type-${NUMBER}) ([lB]) ${NUMBER} ${NUMBER}(?: path=${NAME})?(?: interface=${NAME})?`
     + `(?: member=${NAME})?(?: error=${NAME})?(?: reply=${NUMBER})?(?: destination=${NAME})?(?: sender=${NAME})?(?: signature=${NAME})?`);
 const SENT_HEAD = whole(`sent ${PARTY} `);
-const BYTES = whole('= (?:[0-9a-f]{2})+');
+const BYTES = whole('= [0-9a-f]+');
 const PATH_WORD = `(root|0|[1-9][0-9]{0,9}|/${'[A-Za-z0-9_/]*'})`;
 const ROW = whole(`\\| ${PATH_WORD} (?:-|${PATH_WORD}) (-?[0-9]{1,10}) ${ROLE} ([0-9a-f]{16}) ${QUOTED} ${QUOTED} (-|[TELBA]{1,5})`
     + ` (-|\\?|${QUOTED}) (-|\\?|${NUMBER}) (-|\\?|${NUMBER})`);
@@ -139,11 +139,15 @@ function headerAt(text, from, end) {
 
 // the places at which lines begin, and the length of the text, one more than a last line feed
 function lineStarts(text) {
-    let count = 0;
-    for (let at = text.indexOf('\n'); at >= 0; at = text.indexOf('\n', at + 1)) count += 1;
-    const starts = new Uint32Array(count + 2);
-    let line = 1;
-    for (let at = text.indexOf('\n'); at >= 0; at = text.indexOf('\n', at + 1)) starts[line++] = at + 1;
+    let starts = new Uint32Array(1024), line = 1;
+    for (let at = text.indexOf('\n'); at >= 0; at = text.indexOf('\n', at + 1)) {
+        if (line + 2 >= starts.length) {
+            const longer = new Uint32Array(2 * starts.length);
+            longer.set(starts);
+            starts = longer;
+        }
+        starts[line++] = at + 1;
+    }
     if (text.length && text[text.length - 1] !== '\n') starts[line++] = text.length + 1;
     return starts.subarray(0, line);
 }
@@ -215,17 +219,18 @@ function readLine(trace, line) {
     trace.kind[event] = code;
     let next = line + 1;
     if (word === 'sent') readSent(trace, event, line);
+    else if (word === 'got') readGot(trace, event, line);
     else if (word === 'step') readStepLine(trace, event, line);
     else {
         const found = readForm(text, word, from, end);
         if (!found) throw new Refusal(line + 1, `no event of the form that \`${word}\` has`);
         noteParties(trace, event, found);
-        if (word === 'got') noteTaken(trace, event, Number(found.serial));
         if (word === 'say') trace.says.push(event);
         if (word === 'show') next = readRows(trace, next, Number(found.rows ?? 0), line);
     }
     if (next < lines.length - 1 && (word === 'sent' || word === 'got') && text[lines[next]] === '=') {
-        if (!matchAt(BYTES, text, lines[next], lines[next + 1] - 1)) throw new Refusal(next + 1, 'no bytes in pairs of hexadecimal digits');
+        const digits = lines[next + 1] - lines[next] - 3;
+        if (digits % 2 || !matchAt(BYTES, text, lines[next], lines[next + 1] - 1)) throw new Refusal(next + 1, 'no bytes in pairs of hexadecimal digits');
         trace.bytes[event] = 1;
         trace.wire = true;
         next += 1;
@@ -261,6 +266,17 @@ function readSent(trace, event, line) {
     if (found[8]) trace.members.add(found[8]);
     trace.type[event] = Math.max(TYPE_WORDS.indexOf(found[1]), 0);
     trace.sents.set(messageKey(trace.who[event], trace.serial[event]), event);
+}
+
+const GOT = EVENT_FORMS.got[0][0];
+
+function readGot(trace, event, line) {
+    const found = matchAt(GOT, trace.text, trace.lines[line], trace.lines[line + 1] - 1);
+    if (!found) throw new Refusal(line + 1, 'no event of the form that `got` has');
+    trace.who[event] = PARTY_CODES.get(found[1]) + 1;
+    trace.other[event] = PARTY_CODES.get(found[2]) + 1;
+    trace.parties.add(found[1]).add(found[2]);
+    noteTaken(trace, event, Number(found[3]));
 }
 
 // a message that was taken, and the way that it went: from its sender to the bus, from the bus to its taker

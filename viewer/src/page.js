@@ -9,7 +9,7 @@ class Page {
         this.found = [];
         this.scriptText = null;
         this.timeLine = new TimeLine(this);
-        this.keepLink = oncePerFrame(() => this.writeLink());
+        this.draw = oncePerFrame(() => this.drawNow());
         this.listen();
     }
 
@@ -47,7 +47,7 @@ class Page {
     begin(trace, script, file) {
         byId('refusal').hidden = true;
         byId('viewer').hidden = false;
-        Object.assign(this, { trace, file, event: 0, message: 0, history: new History(trace), verdict: null, found: [], chosen: null });
+        Object.assign(this, { trace, file, event: 0, message: 0, history: new History(trace), verdict: null, found: [], chosen: null, spoken: -1 });
         this.names = namesOf(trace, this.history);
         this.appNames = new Map();
         for (let event = 1; event <= trace.count; event++) {
@@ -61,11 +61,12 @@ class Page {
         this.setScript(script);
         byId('file').textContent = file ?? 'in this page';
         document.title = `${file ?? 'Trace'} – trace`;
-        byId('of').textContent = `of ${trace.count.toLocaleString('en')}`;
+        byId('of').textContent = `of ${counted(trace.count)}`;
         for (const name of ['slider', 'number']) byId(name).max = trace.count;
         this.fillFilters();
         this.readLink();
         if (!this.event) this.goTo(1);
+        this.drawNow();
     }
 
     setScript(script) {
@@ -88,16 +89,29 @@ class Page {
         if (event === this.event) return;
         this.event = event;
         this.message = originOf(this.trace, event);
+        this.announces = announce;
+        this.draw();
+    }
+
+    // all that stands at the event, once a frame however many steps were made
+    drawNow() {
+        const { event } = this;
         const state = this.history.at(event);
         this.timeLine.reveal(event);
-        this.drawSteps(announce);
+        this.drawSteps(this.announces);
         this.drawForests(state);
         byId('message-body').replaceChildren(...messagePanel(this, event).filter(Boolean));
         byId('message').scrollTop = 0;
-        byId('spoken-body').replaceChildren(...spokenPanel(this, event).filter(Boolean));
-        const spoken = byId('spoken');
-        spoken.scrollTop = spoken.scrollHeight;
+        this.drawSpoken(event);
         this.keepLink();
+    }
+
+    drawSpoken(event) {
+        const count = spokenUntil(this.trace, event);
+        if (this.spoken === count) return;
+        this.spoken = count;
+        byId('spoken-body').replaceChildren(...spokenPanel(this, count).filter(Boolean));
+        byId('spoken').scrollTop = 1e9;
     }
 
     segmentAt(event) {
@@ -153,7 +167,7 @@ class Page {
 
     drawForests(state) {
         const apps = [...new Set([...this.trace.parties].filter(isApp))].sort((a, b) => a.slice(1) - b.slice(1));
-        byId('forests').classList.toggle('single', apps.length === 1);
+        byId('forests').className = apps.length > 1 ? 'many' : 'single';
         let differing = 0;
         for (const app of apps) {
             const tree = state.trees.get(app);
@@ -174,7 +188,7 @@ class Page {
             differing += forest.lines.reduce((count, line) => count + line.cells.filter(made => made && markWords(made).length).length, 0);
         }
         byId('forests-empty').hidden = this.forests.size > 0 && [...this.forests.values()].some(forest => !forest.element.hidden);
-        byId('differing').textContent = differing ? `${differing.toLocaleString('en')} marked` : 'nothing differs';
+        byId('differing').textContent = differing ? `${counted(differing)} marked` : 'nothing differs';
         this.drawNode();
     }
 
@@ -219,7 +233,7 @@ class Page {
     filter() {
         const passes = filterOf(this, { party: byId('party').value, path: byId('path').value.trim(), member: byId('member').value.trim() });
         this.timeLine.show(passes);
-        byId('passing').textContent = passes ? `${this.timeLine.shown.toLocaleString('en')} of ${plural(this.trace.count, 'event')}` : '';
+        byId('passing').textContent = passes ? `${counted(this.timeLine.shown)} of ${plural(this.trace.count, 'event')}` : '';
         this.timeLine.reveal(this.event);
     }
 
@@ -253,6 +267,12 @@ class Page {
         byId('verdict').replaceChildren(...verdictParts(this.trace, verdict));
         if (verdict.event) this.goTo(verdict.event);
         this.keepLink();
+    }
+
+    // the link is written where nothing moves for a moment
+    keepLink() {
+        clearTimeout(this.linkTimer);
+        this.linkTimer = setTimeout(() => this.writeLink(), 250);
     }
 
     // The link to what is looked at stands behind # in the address: the event, and the verdict if there is one.

@@ -1,6 +1,6 @@
 // The panels beside the trees: the message under the cursor with its bytes, the lines spoken so far, and the chosen node.
 
-const FIRST_ITEMS = 160, MORE_ITEMS = 2000, SPOKEN_IN_SIGHT = 200;
+const FIRST_ITEMS = 64, MORE_ITEMS = 2000, SPOKEN_IN_SIGHT = 200;
 
 const section = (title, ...children) => make('div', { class: 'part' }, make('h3', {}, title), ...children);
 
@@ -48,7 +48,7 @@ function messageParts(page, event, kind) {
     } catch (fault) {
         parts.push(make('p', { class: 'fault' }, `These bytes are no message: ${fault.message}.`));
     }
-    parts.push(section(`Bytes, ${bytes.length.toLocaleString('en')}`, byteTable(bytes, items)));
+    parts.push(section(`Bytes, ${counted(bytes.length)}`, byteTable(bytes, items)));
     return parts;
 }
 
@@ -109,7 +109,7 @@ function byteTable(bytes, items) {
         body.append(...all.slice(shown, shown + count).map(row));
         shown = Math.min(all.length, shown + count);
         more.hidden = shown === all.length;
-        more.textContent = `Show ${Math.min(MORE_ITEMS, all.length - shown).toLocaleString('en')} of ${(all.length - shown).toLocaleString('en')} more items`;
+        more.textContent = `Show ${counted(Math.min(MORE_ITEMS, all.length - shown))} of ${counted(all.length - shown)} more items`;
     };
     more.addEventListener('click', () => grow(MORE_ITEMS));
     grow(FIRST_ITEMS);
@@ -117,19 +117,24 @@ function byteTable(bytes, items) {
     return make('div', {}, make('table', { class: 'bytes' }, head, body), more);
 }
 
-// the lines spoken up to an event, the last of them at the end
-function spokenPanel(page, event) {
-    const { trace } = page;
+// how many lines are spoken up to an event
+function spokenUntil(trace, event) {
     let low = 0, high = trace.says.length;
     while (low < high) {
         const middle = (low + high) >> 1;
         if (trace.says[middle] <= event) low = middle + 1; else high = middle;
     }
-    if (!low) return [make('p', { class: 'faint' }, trace.says.length ? `Nothing up to here; the first line is spoken at event ${trace.says[0]}.` : 'Nothing is spoken in this trace.')];
-    const from = Math.max(0, low - SPOKEN_IN_SIGHT);
-    const lines = trace.says.slice(from, low).map(say => {
+    return low;
+}
+
+// so many spoken lines, the last of them at the end
+function spokenPanel(page, count) {
+    const { trace } = page;
+    if (!count) return [make('p', { class: 'faint' }, trace.says.length ? `Nothing up to here; the first line is spoken at event ${trace.says[0]}.` : 'Nothing is spoken in this trace.')];
+    const from = Math.max(0, count - SPOKEN_IN_SIGHT);
+    const lines = trace.says.slice(from, count).map(say => {
         const read = readEvent(trace, say);
-        return make('li', { class: say === event ? 'here' : '' }, eventLink(say), make('span', { class: 'who' }, `${read.who} of ${read.other}`), make('q', {}, read.text));
+        return make('li', {}, eventLink(say), make('span', { class: 'who' }, `${read.who} of ${read.other}`), make('q', {}, read.text));
     });
     return [from ? make('p', { class: 'faint' }, `${plural(from, 'line')} before these`) : null, make('ol', { class: 'spoken', start: from + 1 }, lines)];
 }

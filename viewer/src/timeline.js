@@ -2,7 +2,6 @@
 // for each way of a message. Only what is in sight is drawn, however long the trace is.
 
 const ROW_HEIGHT = 24, BLOCK = 256, MOST_ARROWS = 500, SPARE_ROWS = 6;
-const SVG = 'http://www.w3.org/2000/svg';
 
 // The ways of messages, found by the events between which they are in sight.
 class Ways {
@@ -46,6 +45,7 @@ class TimeLine {
         this.scroller = byId('events');
         this.sheet = byId('events-sheet');
         this.head = byId('lane-names');
+        this.picture = byId('lanes');
         this.draw = oncePerFrame(() => this.drawNow());
         this.scroller.addEventListener('scroll', this.draw);
         this.scroller.addEventListener('click', happening => {
@@ -61,8 +61,11 @@ class TimeLine {
         const order = party => party === 'bus' ? 16 : party === 'reg' ? 17 : isApp(party) ? Number(party.slice(1)) : 18 + Number(party.slice(1));
         const withBus = trace.hops.to.length ? [...trace.parties, 'bus', 'reg'] : [...trace.parties];
         this.lanes = [...new Set(withBus)].sort((a, b) => order(a) - order(b));
+        byId('panes').classList.toggle('wide', this.lanes.length > 9);
         this.began = new Map([['bus', 0], ['reg', 0]]);
         this.ended = new Map();
+        this.sheet.rows = undefined;
+        this.sheet.replaceChildren();
         for (let event = 1; event <= trace.count; event++) {
             const kind = KINDS[trace.kind[event]], who = PARTIES[trace.who[event] - 1];
             if (kind === 'start') this.began.set(who, event);
@@ -115,12 +118,13 @@ class TimeLine {
     measure() {
         if (!this.lanes) return;
         const width = this.scroller.clientWidth;
-        this.laneWidth = Math.max(26, Math.min(66, Math.floor(width * 0.5 / this.lanes.length)));
+        this.height = this.scroller.clientHeight;
+        this.laneWidth = Math.max(20, Math.min(56, Math.floor(width * 0.45 / this.lanes.length)));
         this.lanesWidth = this.laneWidth * this.lanes.length + 8;
         this.scroller.style.setProperty('--lanes', `${this.lanesWidth}px`);
         this.head.replaceChildren(...this.lanes.map((party, k) => {
             const name = this.page.nameOf(party);
-            return make('span', { class: 'lane-name', style: `left:${this.laneX(k) - this.laneWidth / 2}px;width:${this.laneWidth}px`, title: name ? `${party}: ${name}` : partyWords(party) }, party);
+            return make('span', { class: this.laneWidth < 28 ? 'lane-name narrow' : 'lane-name', style: `left:${this.laneX(k) - this.laneWidth / 2}px;width:${this.laneWidth}px`, title: name ? `${party}: ${name}` : partyWords(party) }, party);
         }));
         this.drawNow();
     }
@@ -131,7 +135,7 @@ class TimeLine {
 
     // brings an event into sight
     reveal(event) {
-        const top = this.place[event] * ROW_HEIGHT, { scrollTop, clientHeight } = this.scroller;
+        const top = this.place[event] * ROW_HEIGHT, { scrollTop } = this.scroller, clientHeight = this.height;
         if (top < scrollTop + 2 * ROW_HEIGHT) this.scroller.scrollTop = Math.max(0, top - clientHeight / 3);
         else if (top > scrollTop + clientHeight - 3 * ROW_HEIGHT) this.scroller.scrollTop = top - clientHeight * 2 / 3;
         this.drawNow();
@@ -139,16 +143,25 @@ class TimeLine {
 
     drawNow() {
         if (!this.items || !this.laneWidth) return;
-        const { scrollTop, clientHeight } = this.scroller;
+        const { scrollTop } = this.scroller, clientHeight = this.height;
         const first = Math.max(0, Math.floor(scrollTop / ROW_HEIGHT) - SPARE_ROWS);
         const last = Math.min(this.items.length - 1, Math.ceil((scrollTop + clientHeight) / ROW_HEIGHT) + SPARE_ROWS);
-        const rows = [this.svg(first, last)];
-        for (let k = first; k <= last; k++) rows.push(this.items[k] > 0 ? this.eventRow(k) : this.headRow(k));
-        const current = this.page.event;
-        if (current && this.isShown(current) && (this.place[current] < first || this.place[current] > last)) rows.push(this.eventRow(this.place[current]));
-        this.sheet.replaceChildren(...rows);
+        const current = this.page.event, there = current && this.isShown(current) ? this.place[current] : -1;
+        const rows = [];
+        for (let k = first; k <= last; k++) rows.push(this.rowAt(k));
+        if (there >= 0 && (there < first || there > last)) rows.push(this.rowAt(there));
+        putRows(this.sheet, rows);
+        this.svg(first, last);
         if (current && this.isShown(current)) this.scroller.setAttribute('aria-activedescendant', `event-${current}`);
         else this.scroller.removeAttribute('aria-activedescendant');
+    }
+
+    rowAt(k) {
+        const event = this.items[k];
+        if (event < 0) return { key: `head ${k}`, sign: `${event} ${this.shown}`, make: () => this.headRow(k) };
+        const { page } = this;
+        const sign = `${event === page.event} ${event > page.event} ${this.matches.has(event)} ${this.shown} ${this.items[k - 1] < 0}`;
+        return { key: `${k} ${event}`, sign, make: () => this.eventRow(k) };
     }
 
     headRow(k) {
@@ -180,10 +193,9 @@ class TimeLine {
     // the lanes, the arrows and the signs of the rows in sight
     svg(first, last) {
         const top = first * ROW_HEIGHT, height = (last - first + 1) * ROW_HEIGHT;
-        const picture = document.createElementNS(SVG, 'svg');
-        for (const [name, value] of Object.entries({ class: 'lanes', width: this.lanesWidth, height, 'aria-hidden': 'true', focusable: 'false' })) {
-            picture.setAttribute(name, value);
-        }
+        const { picture } = this;
+        picture.setAttribute('width', this.lanesWidth);
+        picture.setAttribute('height', height);
         picture.style.top = `${top}px`;
         const y = event => (this.place[event] + (this.isShown(event) ? 0.5 : 0)) * ROW_HEIGHT - top;
         const drawn = [HEADS];
@@ -193,7 +205,6 @@ class TimeLine {
         if (events.length) drawn.push(...this.arrows(events[0], events[events.length - 1], y));
         for (const event of events) drawn.push(this.sign(event, y(event)));
         picture.innerHTML = drawn.join('');
-        return picture;
     }
 
     laneLine(party, lane, y, height) {

@@ -3,7 +3,7 @@
 
 const EVENT_INTERFACE = 'org.a11y.atspi.Event.Object', CACHE_INTERFACE = 'org.a11y.atspi.Cache', BUS_NAME = 'org.freedesktop.DBus';
 const ITEMS_SIGNATURE = 'a((so)(so)(so)iiassusau)', ITEM_TYPE = '((so)(so)(so)iiassusau)', REFERENCE_TYPE = '(so)';
-const CALL = 1, RETURN = 2, ERROR = 3, SIGNAL = 4;
+const CALL = 1, RETURN = 2, ERROR = 3, SIGNAL_TYPE = 4;
 
 const referenceIn = value => value?.type === REFERENCE_TYPE ? { bus: value.v[0].v, path: value.v[1].v } : null;
 
@@ -29,7 +29,7 @@ function eventIn(body) {
 
 // The news in a message of an application with this bus name; null where there is none.
 function newsOf(bus, message) {
-    if (message.type !== SIGNAL) return null;
+    if (message.type !== SIGNAL_TYPE) return null;
     if (message.interface === CACHE_INTERFACE) return cacheNews(bus, message);
     if (message.interface !== EVENT_INTERFACE || !message.path) return null;
     const event = eventIn(message.body);
@@ -266,12 +266,12 @@ class ReaderState {
     }
 
     takesEnd(message) {
-        if (message.type !== SIGNAL || message.sender !== BUS_NAME || message.interface !== BUS_NAME || message.member !== 'NameOwnerChanged') return;
+        if (message.type !== SIGNAL_TYPE || message.sender !== BUS_NAME || message.interface !== BUS_NAME || message.member !== 'NameOwnerChanged') return;
         if (bodyType(message) === 'sss' && message.body[2].v === '') this.forgets(message.body[0].v);
     }
 
     takesChild(message) {
-        if (message.type !== SIGNAL || this.registry === null || message.sender !== this.registry) return;
+        if (message.type !== SIGNAL_TYPE || this.registry === null || message.sender !== this.registry) return;
         if (message.interface !== EVENT_INTERFACE || message.member !== 'ChildrenChanged') return;
         const event = eventIn(message.body);
         const child = event && event.minor === 'add' && referenceIn(event.value);

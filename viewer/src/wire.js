@@ -43,6 +43,19 @@ function typesIn(signature) {
     return types;
 }
 
+// the types inside a struct or an entry
+const partLists = new Map();
+
+function partsOf(type) {
+    let parts = partLists.get(type);
+    if (!parts) partLists.set(type, parts = typesIn(type.slice(1, -1)));
+    return parts;
+}
+
+// what items are called that others are made of
+const LENGTH = what => `length of the ${what}`, SIGNATURE = what => `signature of the ${what}`;
+const FIELD = (what, k) => `${what}.${k + 1}`, ENTRY = (what, k) => `${what}.${k ? 'value' : 'key'}`, ELEMENT = (what, k) => `${what}[${k}]`;
+
 const utf8 = new TextDecoder('utf-8', { fatal: true });
 
 class Decoder {
@@ -65,16 +78,21 @@ class Decoder {
         this.need(to - from);
         for (let k = from; k < to; k++) if (this.bytes[k]) throw new Error(`the padding byte at ${k} is not 0`);
         this.at = to;
-        this.note?.(from, to, 'padding', '');
+        if (this.note) this.note(from, to, 'padding', '');
     }
 
     u32(what) {
-        this.pad(4);
+        if (this.at & 3) this.pad(4);
         this.need(4);
         const value = this.view.getUint32(this.at, this.little);
         this.at += 4;
-        this.note?.(this.at - 4, this.at, what, String(value));
+        if (this.note) this.note(this.at - 4, this.at, what, String(value));
         return value;
+    }
+
+    // what an item is called, where somebody asks
+    named(name, ...what) {
+        return this.note ? name(...what) : '';
     }
 
     // a text with a length before it and a zero byte behind it
@@ -86,14 +104,14 @@ class Decoder {
         for (let k = 0; plain && k < length; k++) plain = piece[k] < 128;
         const value = plain ? String.fromCharCode.apply(null, piece) : utf8.decode(piece);
         this.at += length + 1;
-        this.note?.(this.at - length - 1, this.at, what, quote(value));
+        if (this.note) this.note(this.at - length - 1, this.at, what, quote(value));
         return value;
     }
 
     signature(what) {
         this.need(1);
         const length = this.bytes[this.at++];
-        this.note?.(this.at - 1, this.at, `length of the ${what}`, String(length));
+        if (this.note) this.note(this.at - 1, this.at, LENGTH(what), String(length));
         return this.text(length, what);
     }
 
@@ -102,28 +120,28 @@ class Decoder {
         const code = type[0];
         if (code !== 'y' && code !== 'v' && code !== 'g') this.pad(ALIGNMENTS[code]);
         switch (code) {
-        case 's': case 'o': return { type, v: this.text(this.u32(`length of the ${what}`), what) };
+        case 's': case 'o': return { type, v: this.text(this.u32(this.named(LENGTH, what)), what) };
         case 'g': return { type, v: this.signature(what) };
         case 'v': {
-            const inner = this.signature(`signature of the ${what}`);
+            const inner = this.signature(this.named(SIGNATURE, what));
             if (typesIn(inner).length !== 1) throw new Error(`the variant at ${this.at} is not of one type`);
             return { type, v: this.value(inner, what, depth + 1) };
         }
         case 'a': return this.array(type, what, depth);
-        case '(': return { type, v: typesIn(type.slice(1, -1)).map((part, k) => this.value(part, `${what}.${k + 1}`, depth + 1)) };
-        case '{': return { type, v: typesIn(type.slice(1, -1)).map((part, k) => this.value(part, `${what}.${k ? 'value' : 'key'}`, depth + 1)) };
+        case '(': return { type, v: partsOf(type).map((part, k) => this.value(part, this.named(FIELD, what, k), depth + 1)) };
+        case '{': return { type, v: partsOf(type).map((part, k) => this.value(part, this.named(ENTRY, what, k), depth + 1)) };
         default: return { type, v: this.number(code, what) };
         }
     }
 
     array(type, what, depth) {
-        const length = this.u32(`length of the ${what}`);
+        const length = this.u32(this.named(LENGTH, what));
         const element = type.slice(1);
         this.pad(ALIGNMENTS[element[0]]);
         const end = this.at + length;
         this.need(length);
         const values = [];
-        while (this.at < end) values.push(this.value(element, `${what}[${values.length}]`, depth + 1));
+        while (this.at < end) values.push(this.value(element, this.named(ELEMENT, what, values.length), depth + 1));
         if (this.at !== end) throw new Error(`the array that ends at ${end} is passed`);
         return { type, v: values };
     }
@@ -148,7 +166,7 @@ class Decoder {
             if (value > 1) throw new Error(`the boolean at ${at} is neither 0 nor 1`);
             value = value === 1;
         }
-        this.note?.(at, this.at, what, String(value));
+        if (this.note) this.note(at, this.at, what, String(value));
         return value;
     }
 }
@@ -186,7 +204,7 @@ function readField(decoder, message) {
     const code = decoder.bytes[decoder.at++];
     const name = FIELD_NAMES[code] ?? `field ${code}`;
     decoder.note?.(decoder.at - 1, decoder.at, 'field', name);
-    const type = decoder.signature(`signature of ${name}`);
+    const type = decoder.signature(decoder.named(SIGNATURE, name));
     const value = decoder.value(typesIn(type)[0] ?? 'y', name, 1);
     if (code >= 1 && code <= 8) message[name] = value.v;
 }

@@ -28,11 +28,11 @@ function aboutMessage(trace, names, origin) {
 function eventSummary(trace, names, event) {
     const kind = KINDS[trace.kind[event]], who = PARTIES[trace.who[event] - 1];
     const rest = () => trace.eventText(event).slice(kind.length + 1);
-    if (kind === 'sent') return `${who}: ${typeOf(trace, event)} ${aboutMessage(trace, names, event)} #${trace.serial[event]}`;
+    const about = origin => `${trace.type[origin] === 4 ? '' : `${typeOf(trace, origin)} `}${aboutMessage(trace, names, origin)}`;
+    if (kind === 'sent') return `${who}: ${about(event)} #${trace.serial[event]}`;
     if (kind !== 'got') return rest();
     const origin = trace.origin[event], other = PARTIES[trace.other[event] - 1];
-    const about = origin ? `${typeOf(trace, origin)} ${aboutMessage(trace, names, origin)}` : 'a message that no event sent';
-    return `${who} ← ${other}: ${about} #${trace.serial[event]}`;
+    return `${who} ← ${other}: ${origin ? about(origin) : 'a message that no event sent'} #${trace.serial[event]}`;
 }
 
 const partyWords = party => party === 'bus' ? 'the bus' : party === 'reg' ? 'the registry' : party;
@@ -45,10 +45,10 @@ function eventWords(trace, names, event) {
     switch (kind) {
     case 'start': return `${who} starts${read.name === undefined ? '' : `, named ${read.name}`}`;
     case 'step': return `the tree of ${who} changes: ${trace.eventText(event).replace(/^step \S+ /, '')}`;
-    case 'sent': return `${who} sends ${typeOf(trace, event)} ${aboutMessage(trace, names, event)}, number ${read.serial}`;
+    case 'sent': return `${who} sends the ${typeOf(trace, event)} ${aboutMessage(trace, names, event)}, number ${read.serial}`;
     case 'got': {
         const origin = trace.origin[event];
-        return `${who} takes ${origin ? `${typeOf(trace, origin)} ${aboutMessage(trace, names, origin)}` : 'a message'} of ${other}, number ${read.serial}`;
+        return `${who} takes ${origin ? `the ${typeOf(trace, origin)} ${aboutMessage(trace, names, origin)}` : 'a message'} of ${other}, number ${read.serial}`;
     }
     case 'hears': return `${who} learns that ${read.listener} listens for ${read.pattern || 'all events'}`;
     case 'deaf': return `${who} learns that ${read.listener} no longer listens for ${read.pattern || 'all events'}`;
