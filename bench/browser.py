@@ -75,12 +75,13 @@ class Browser:
         self.profile = tempfile.mkdtemp(prefix="viewer-")
         self.process = subprocess.Popen(
             [find(), "--headless=new", "--no-sandbox", "--disable-gpu", "--no-first-run", "--hide-scrollbars", "--disable-background-networking",
+             "--renderer-process-limit=1", "--disable-features=SpareRendererForSitePerProcess", "--disable-extensions",
              "--remote-debugging-port=0", f"--user-data-dir={self.profile}", f"--window-size={width},{height}", "about:blank"],
             stdout=subprocess.DEVNULL, stderr=subprocess.DEVNULL)
         port = self.port()
         pages = json.load(urllib.request.urlopen(f"http://127.0.0.1:{port}/json/list"))
         self.socket = Socket(next(page["webSocketDebuggerUrl"] for page in pages if page["type"] == "page"))
-        self.number = 0
+        self.number = self.opened = 0
         self.events = []
         self.call("Page.enable")
         self.call("Runtime.enable")
@@ -125,10 +126,10 @@ class Browser:
 
     def open(self, path, fragment=""):
         """A page from disk, waited for until it is drawn; how long that took, in seconds."""
-        self.call("Page.navigate", url="about:blank")
+        self.opened += 1  # a query makes each a page of its own, also where the fragment alone differs
         self.events = []
         begun = time.monotonic()
-        self.call("Page.navigate", url=f"file://{os.path.abspath(path)}{fragment}")
+        self.call("Page.navigate", url=f"file://{os.path.abspath(path)}?{self.opened}{fragment}")
         while not any(event["method"] == "Page.loadEventFired" for event in self.events):
             message = json.loads(self.socket.receive())
             self.events.append(message)
