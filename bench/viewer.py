@@ -264,7 +264,7 @@ def test_access(page, folder):
     wire = replay(script, "--wire")
     path = make_page(folder, "two", wire, script)
     events = [line for line in wire.split("\n") if line and not line.startswith(("= ", "| "))]
-    last, behind = len(events), events.index("show r0 a0") + 1  # at `behind` the second reader holds what was
+    last, behind = len(events), next(k for k, line in enumerate(events) if line.startswith("show ")) + 1  # at `behind` the second reader holds what was
     for dark in (False, True):
         page.dark(dark)
         shade = "dark" if dark else "light"
@@ -360,6 +360,7 @@ def test_large(page, folder):
 
 def pictures(page, folder):
     os.makedirs(PICTURES, exist_ok=True)
+    page.call("Emulation.setDeviceMetricsOverride", width=1440, height=960, deviceScaleFactor=1, mobile=False)
     for name, event, dark, node in (("a_race", 130, False, 1), ("typing", 0, False, 7), ("many_ends", 1500, True, None)):
         script = os.path.join(TESTS, f"{name}.script")
         path = make_page(folder, name, replay(script, "--wire"), script)
@@ -389,10 +390,13 @@ def main():
         if "--pictures" in sys.argv:
             pictures(page, folder)
             return 0
-        for test in (test_shown_rows, test_refusals, test_other_traces, test_keys_and_finding, test_access):
-            test(page, folder)
+        tests = [test_shown_rows, test_refusals, test_other_traces, test_keys_and_finding, test_access]
         if "--fast" not in sys.argv:
-            test_large(page, folder)
+            tests.append(test_large)
+        wanted = [word for word in sys.argv[1:] if not word.startswith("--")]
+        for test in tests:
+            if not wanted or test.__name__[5:] in wanted:
+                test(page, folder)
     print(f"viewer: {done} checks, {len(failures)} do not hold")
     return 1 if failures else 0
 
