@@ -22,12 +22,16 @@ class Socket:
     """The client's side of a WebSocket (RFC 6455), text messages alone."""
 
     def __init__(self, url):
-        host, path = url[len("ws://"):].split("/", 1)
+        host, path = url[len("ws://") :].split("/", 1)
         name, port = host.split(":")
         self.stream = socket.create_connection((name, int(port)), timeout=120)
         key = base64.b64encode(os.urandom(16)).decode()
-        self.stream.sendall((f"GET /{path} HTTP/1.1\r\nHost: {host}\r\nUpgrade: websocket\r\nConnection: Upgrade\r\n"
-                             f"Sec-WebSocket-Key: {key}\r\nSec-WebSocket-Version: 13\r\n\r\n").encode())
+        self.stream.sendall(
+            (
+                f"GET /{path} HTTP/1.1\r\nHost: {host}\r\nUpgrade: websocket\r\nConnection: Upgrade\r\n"
+                f"Sec-WebSocket-Key: {key}\r\nSec-WebSocket-Version: 13\r\n\r\n"
+            ).encode()
+        )
         head = b""
         while b"\r\n\r\n" not in head:
             head += self.stream.recv(1)
@@ -37,9 +41,19 @@ class Socket:
     def send(self, text):
         data, mask = text.encode(), os.urandom(4)
         size = len(data)
-        length = bytes([128 | size]) if size < 126 else b"\xfe" + struct.pack(">H", size) if size < 65536 else b"\xff" + struct.pack(">Q", size)
+        length = (
+            bytes([128 | size])
+            if size < 126
+            else b"\xfe" + struct.pack(">H", size)
+            if size < 65536
+            else b"\xff" + struct.pack(">Q", size)
+        )
         repeated = mask * (size // 4 + 1)
-        masked = (int.from_bytes(data, "big") ^ int.from_bytes(repeated[:size], "big")).to_bytes(size, "big") if size else b""
+        masked = (
+            (int.from_bytes(data, "big") ^ int.from_bytes(repeated[:size], "big")).to_bytes(size, "big")
+            if size
+            else b""
+        )
         self.stream.sendall(b"\x81" + length + mask + masked)
 
     def take(self, count):
@@ -58,9 +72,9 @@ class Socket:
             first, second = self.take(2)
             size = second & 127
             if size == 126:
-                size, = struct.unpack(">H", self.take(2))
+                (size,) = struct.unpack(">H", self.take(2))
             elif size == 127:
-                size, = struct.unpack(">Q", self.take(8))
+                (size,) = struct.unpack(">Q", self.take(8))
             data = self.take(size)
             if first & 15 in (0, 1):
                 text += data
@@ -74,10 +88,25 @@ class Browser:
     def __init__(self, width=1440, height=900):
         self.profile = tempfile.mkdtemp(prefix="viewer-")
         self.process = subprocess.Popen(
-            [find(), "--headless=new", "--no-sandbox", "--disable-gpu", "--no-first-run", "--hide-scrollbars", "--disable-background-networking",
-             "--renderer-process-limit=1", "--disable-features=SpareRendererForSitePerProcess", "--disable-extensions",
-             "--remote-debugging-port=0", f"--user-data-dir={self.profile}", f"--window-size={width},{height}", "about:blank"],
-            stdout=subprocess.DEVNULL, stderr=subprocess.DEVNULL)
+            [
+                find(),
+                "--headless=new",
+                "--no-sandbox",
+                "--disable-gpu",
+                "--no-first-run",
+                "--hide-scrollbars",
+                "--disable-background-networking",
+                "--renderer-process-limit=1",
+                "--disable-features=SpareRendererForSitePerProcess",
+                "--disable-extensions",
+                "--remote-debugging-port=0",
+                f"--user-data-dir={self.profile}",
+                f"--window-size={width},{height}",
+                "about:blank",
+            ],
+            stdout=subprocess.DEVNULL,
+            stderr=subprocess.DEVNULL,
+        )
         port = self.port()
         pages = json.load(urllib.request.urlopen(f"http://127.0.0.1:{port}/json/list"))
         self.socket = Socket(next(page["webSocketDebuggerUrl"] for page in pages if page["type"] == "page"))
@@ -121,7 +150,9 @@ class Browser:
         """The value of a JavaScript expression; a promise is waited for."""
         result = self.call("Runtime.evaluate", expression=script, returnByValue=True, awaitPromise=True)
         if "exceptionDetails" in result:
-            raise RuntimeError(result["exceptionDetails"]["exception"].get("description", result["exceptionDetails"]["text"]))
+            raise RuntimeError(
+                result["exceptionDetails"]["exception"].get("description", result["exceptionDetails"]["text"])
+            )
         return result["result"].get("value")
 
     def open(self, path, fragment=""):
@@ -142,15 +173,34 @@ class Browser:
 
     def key(self, key, code="", modifiers=0, text=None):
         """A key is pressed and let go (modifiers: 1 Alt, 2 Control, 8 Shift)."""
-        codes = {"ArrowDown": 40, "ArrowUp": 38, "ArrowLeft": 37, "ArrowRight": 39, "Home": 36, "End": 35, "PageDown": 34, "PageUp": 33, "Tab": 9, "Enter": 13}
+        codes = {
+            "ArrowDown": 40,
+            "ArrowUp": 38,
+            "ArrowLeft": 37,
+            "ArrowRight": 39,
+            "Home": 36,
+            "End": 35,
+            "PageDown": 34,
+            "PageUp": 33,
+            "Tab": 9,
+            "Enter": 13,
+        }
         if len(key) == 1 and text is None:
             text = key
-        words = {"key": key, "code": code or key, "modifiers": modifiers, "windowsVirtualKeyCode": codes.get(key, ord(key.upper()) if len(key) == 1 else 0)}
+        words = {
+            "key": key,
+            "code": code or key,
+            "modifiers": modifiers,
+            "windowsVirtualKeyCode": codes.get(key, ord(key.upper()) if len(key) == 1 else 0),
+        }
         self.call("Input.dispatchKeyEvent", type="keyDown", **words, **({"text": text} if text else {}))
         self.call("Input.dispatchKeyEvent", type="keyUp", **words)
 
     def dark(self, on):
-        self.call("Emulation.setEmulatedMedia", features=[{"name": "prefers-color-scheme", "value": "dark" if on else "light"}])
+        self.call(
+            "Emulation.setEmulatedMedia",
+            features=[{"name": "prefers-color-scheme", "value": "dark" if on else "light"}],
+        )
 
     def picture(self, path):
         data = self.call("Page.captureScreenshot", format="png")["data"]

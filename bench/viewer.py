@@ -25,7 +25,9 @@ def holds(condition, what):
 
 def replay(script, *words):
     with open(script, "rb") as source:
-        return subprocess.run([PROGRAM, "replay", *words], stdin=source, stdout=subprocess.PIPE, stderr=subprocess.DEVNULL).stdout.decode()
+        return subprocess.run(
+            [PROGRAM, "replay", *words], stdin=source, stdout=subprocess.PIPE, stderr=subprocess.DEVNULL
+        ).stdout.decode()
 
 
 def make_page(folder, name, trace, script=None):
@@ -33,7 +35,9 @@ def make_page(folder, name, trace, script=None):
     with open(trace_path, "w", encoding="utf-8", newline="") as file:
         file.write(trace)
     with open(page, "wb") as file:
-        subprocess.run([os.path.join(HERE, "viewer", "make"), trace_path] + ([script] if script else []), stdout=file, check=True)
+        subprocess.run(
+            [os.path.join(HERE, "viewer", "make"), trace_path] + ([script] if script else []), stdout=file, check=True
+        )
     return page
 
 
@@ -59,13 +63,18 @@ SETTLED = "new Promise(done => requestAnimationFrame(() => requestAnimationFrame
 
 
 def at_event(page, event):
-    page.run(f"(() => {{ const number = document.getElementById('number'); number.value = {event}; number.dispatchEvent(new Event('change')); }})()")
+    page.run(
+        f"(() => {{ const number = document.getElementById('number'); number.value = {event}; number.dispatchEvent(new Event('change')); }})()"
+    )
     page.run(SETTLED)
 
 
 def held(page, reader, app):
     columns = json.loads(page.run(ROWS))
-    return next((column["rows"] for column in columns if column["app"] == app and column["title"].startswith(reader + " ")), None)
+    return next(
+        (column["rows"] for column in columns if column["app"] == app and column["title"].startswith(reader + " ")),
+        None,
+    )
 
 
 def test_shown_rows(page, folder):
@@ -81,18 +90,30 @@ def test_shown_rows(page, folder):
         path = make_page(folder, os.path.basename(name), wire, script)
         page.open(path, f"#event={len(events)}")
         holds(not page.faults(), f"{name}: the page throws: {str(page.faults())[:300]}")
-        holds("does not fit" not in page.run("document.getElementById('facts').textContent"), f"{name}: the script fits its trace")
+        holds(
+            "does not fit" not in page.run("document.getElementById('facts').textContent"),
+            f"{name}: the script fits its trace",
+        )
         shows = shows_of(brief)
         holds(len(shows) == len(places), f"{name}: the trace has the shows of {name}.expected")
         spoken = page.run("JSON.stringify([...document.querySelectorAll('.spoken q')].map(line => line.textContent))")
         said = [line for line in brief.split("\n") if line.startswith("say ")]
         holds(len(json.loads(spoken)) == len(said), f"{name}: {len(said)} lines are spoken at the last event")
         if places and places[-1] == len(events):
-            holds(held(page, shows[-1][0], shows[-1][1]) == shows[-1][2], f"{name}: at the last event stand the rows of its last show")
+            holds(
+                held(page, shows[-1][0], shows[-1][1]) == shows[-1][2],
+                f"{name}: at the last event stand the rows of its last show",
+            )
         for place, (reader, app, rows) in zip(places, shows):
             at_event(page, place)
-            holds(held(page, reader, app) == rows, f"{name}: at event {place} stand the rows of its show of {app} to {reader}")
-            holds(page.run("!document.querySelector('#message .fault')"), f"{name}: the page says that the rows shown are those of the bytes")
+            holds(
+                held(page, reader, app) == rows,
+                f"{name}: at event {place} stand the rows of its show of {app} to {reader}",
+            )
+            holds(
+                page.run("!document.querySelector('#message .fault')"),
+                f"{name}: the page says that the rows shown are those of the bytes",
+            )
         holds(page.run("document.title !== 'taken'"), f"{name}: nothing of a trace is taken for markup")
 
 
@@ -117,8 +138,10 @@ def test_refusals(page, folder):
         "an open quote": (step, lines[step][:-1]),
     }
     for name, (place, line) in broken.items():
-        page.open(make_page(folder, "broken", "\n".join(lines[:place] + [line] + lines[place + 1:])))
-        words = page.run("document.getElementById('refusal').hidden ? '' : document.getElementById('refusal-words').textContent")
+        page.open(make_page(folder, "broken", "\n".join(lines[:place] + [line] + lines[place + 1 :])))
+        words = page.run(
+            "document.getElementById('refusal').hidden ? '' : document.getElementById('refusal-words').textContent"
+        )
         holds(f"line {place + 1}:" in words, f"{name} is refused at line {place + 1}: {words!r}")
         holds(page.run("document.getElementById('viewer').hidden"), f"{name}: nothing else is shown")
 
@@ -127,27 +150,51 @@ def test_other_traces(page, folder):
     """A trace without bytes, a brief one, one that goes wrong, and the verdict of audit."""
     script = os.path.join(TESTS, "a_race.script")
     page.open(make_page(folder, "plain", replay(script)), "#event=134")
-    holds("needs --wire" in page.run("document.getElementById('facts').textContent"), "without bytes the page says what it lacks")
+    holds(
+        "needs --wire" in page.run("document.getElementById('facts').textContent"),
+        "without bytes the page says what it lacks",
+    )
     last = shows_of(replay(script, "--brief"))[-1]
     holds(held(page, "r0", "a0") == last[2], "without bytes the rows of the last show stand there")
     page.open(make_page(folder, "brief", replay(script, "--brief")), "#event=99")
     holds(held(page, "r0", "a0") == last[2], "a brief trace opens, and its shows stand there")
     script = os.path.join(TESTS, "without_a_bus.script")
     lines = replay(script, "--wire").split("\n")
-    page.open(make_page(folder, "short", "\n".join(lines[:-2]) + "\n", script), "#verdict=unlawful+4%0Adue+step+a0+state+1+focused+on")
+    page.open(
+        make_page(folder, "short", "\n".join(lines[:-2]) + "\n", script),
+        "#verdict=unlawful+4%0Adue+step+a0+state+1+focused+on",
+    )
     words = page.run("document.getElementById('verdict').textContent")
-    holds("unlawful 4" in words and "step a0 state 1 focused on" in words and "ends before" in words, f"the verdict of a trace that is too short: {words!r}")
-    page.open(make_page(folder, "twice", "\n".join(lines[:-1] + [lines[-2], ""]), script), "#verdict=unlawful+5%0Adue+nothing")
+    holds(
+        "unlawful 4" in words and "step a0 state 1 focused on" in words and "ends before" in words,
+        f"the verdict of a trace that is too short: {words!r}",
+    )
+    page.open(
+        make_page(folder, "twice", "\n".join(lines[:-1] + [lines[-2], ""]), script), "#verdict=unlawful+5%0Adue+nothing"
+    )
     holds(page.run("document.getElementById('number').value") == "5", "the page opens at the event that is unlawful")
     holds("Due here was nothing" in page.run("document.getElementById('verdict').textContent"), "and says what was due")
     changed = lines[2][:18] + "2" + lines[2][19:]
     page.open(make_page(folder, "changed", "\n".join(lines[:2] + [changed] + lines[3:]), script))
-    page.run("(() => { document.getElementById('verdict-text').value = 'unlawful 2\\ndue sent a0 call'; document.getElementById('verdict-open').click(); })()")
+    page.run(
+        "(() => { document.getElementById('verdict-text').value = 'unlawful 2\\ndue sent a0 call'; document.getElementById('verdict-open').click(); })()"
+    )
     page.run(SETTLED)
-    holds("spell another message" in page.run("document.getElementById('message').textContent"), "bytes that are not those of their line are told at their event")
+    holds(
+        "spell another message" in page.run("document.getElementById('message').textContent"),
+        "bytes that are not those of their line are told at their event",
+    )
     step = next(k for k, line in enumerate(lines) if line.startswith("step "))
-    page.open(make_page(folder, "stray", "\n".join(lines[:step] + [lines[step].replace("add 1 0", "add 1 7")] + lines[step + 1:])), "#event=3")
-    holds("does not apply" in page.run("document.getElementById('message').textContent"), "a step that does not apply is told at its event")
+    page.open(
+        make_page(
+            folder, "stray", "\n".join(lines[:step] + [lines[step].replace("add 1 0", "add 1 7")] + lines[step + 1 :])
+        ),
+        "#event=3",
+    )
+    holds(
+        "does not apply" in page.run("document.getElementById('message').textContent"),
+        "a step that does not apply is told at its event",
+    )
 
 
 def test_keys_and_finding(page, folder):
@@ -164,39 +211,69 @@ def test_keys_and_finding(page, folder):
     holds(press("j") == 151 and press("k", "k") == 149, "j and k go an event on and back")
     page.run("document.getElementById('events').focus()")
     holds(press("ArrowDown") == 150 and press("ArrowUp", "ArrowUp") == 148, "so do the arrows in the list")
-    holds(page.run("document.getElementById('events').getAttribute('aria-activedescendant') === 'event-148' && !!document.getElementById('event-148')"),
-          "the list's current option is the event")
+    holds(
+        page.run(
+            "document.getElementById('events').getAttribute('aria-activedescendant') === 'event-148' && !!document.getElementById('event-148')"
+        ),
+        "the list's current option is the event",
+    )
     line = page.run("document.getElementById('line').textContent")
     press("ArrowDown", modifiers=2)
     holds(page.run("document.getElementById('line').textContent") != line, "Ctrl and an arrow go a segment on")
     holds(press("Home") == 1, "Home goes to the first event")
     holds(press("PageDown") == 21, "Page Down goes twenty on")
     last = press("End")
-    holds(page.run("document.getElementById('slider').value === document.getElementById('slider').max"), "End goes to the last, and the slider with it")
+    holds(
+        page.run("document.getElementById('slider').value === document.getElementById('slider').max"),
+        "End goes to the last, and the slider with it",
+    )
     page.run("document.querySelector('.tree').focus()")
     press("Home", "ArrowDown")
     active = "document.getElementById(document.querySelector('.tree').getAttribute('aria-activedescendant')).dataset.path.split('/').pop()"
     holds(page.run(active) == "1", "arrows move in a tree")
     press("ArrowLeft")
-    holds(page.run("document.querySelectorAll('.tree')[0].querySelectorAll('[role=treeitem]').length") == 2, "the left arrow closes a node")
+    holds(
+        page.run("document.querySelectorAll('.tree')[0].querySelectorAll('[role=treeitem]').length") == 2,
+        "the left arrow closes a node",
+    )
     press("ArrowLeft")
     holds(page.run(active) == "root", "and then goes to the parent")
     press("ArrowDown", "ArrowRight", "ArrowRight")
     holds(page.run(active) == "2", "the right arrow opens it, and then goes to the child")
-    holds("r0 holds" in page.run("document.getElementById('node').textContent"), "the chosen node is compared field by field")
-    page.run("(() => { const search = document.getElementById('search'); search.focus(); search.value = 'say r0'; search.dispatchEvent(new Event('input')); })()")
+    holds(
+        "r0 holds" in page.run("document.getElementById('node').textContent"),
+        "the chosen node is compared field by field",
+    )
+    page.run(
+        "(() => { const search = document.getElementById('search'); search.focus(); search.value = 'say r0'; search.dispatchEvent(new Event('input')); })()"
+    )
     found = page.run("document.getElementById('matches').textContent")
     holds(found == "6 matches", f"the search finds the lines: {found!r}")
     first = press("Enter")
-    holds(page.run("document.querySelector('.event[aria-selected=true] .event-kind').textContent") == "say" and first < last, "Enter goes to the next match")
-    page.run("(() => { const path = document.getElementById('path'); path.value = '7'; path.dispatchEvent(new Event('input')); document.getElementById('member').value = 'TextChanged'; document.getElementById('member').dispatchEvent(new Event('input')); })()")
+    holds(
+        page.run("document.querySelector('.event[aria-selected=true] .event-kind').textContent") == "say"
+        and first < last,
+        "Enter goes to the next match",
+    )
+    page.run(
+        "(() => { const path = document.getElementById('path'); path.value = '7'; path.dispatchEvent(new Event('input')); document.getElementById('member').value = 'TextChanged'; document.getElementById('member').dispatchEvent(new Event('input')); })()"
+    )
     page.run(SETTLED)
-    texts = json.loads(page.run("JSON.stringify([...document.querySelectorAll('.event-text')].map(line => line.textContent))"))
-    holds(len(texts) >= 12 and all("TextChanged" in text for text in texts), f"filters by node and member leave just these: {texts[:4]}")
+    texts = json.loads(
+        page.run("JSON.stringify([...document.querySelectorAll('.event-text')].map(line => line.textContent))")
+    )
+    holds(
+        len(texts) >= 12 and all("TextChanged" in text for text in texts),
+        f"filters by node and member leave just these: {texts[:4]}",
+    )
     page.run("document.getElementById('clear').click()")
-    page.run("(() => { const party = document.getElementById('party'); party.value = 'reg'; party.dispatchEvent(new Event('input')); })()")
+    page.run(
+        "(() => { const party = document.getElementById('party'); party.value = 'reg'; party.dispatchEvent(new Event('input')); })()"
+    )
     page.run(SETTLED)
-    kinds = json.loads(page.run("JSON.stringify([...document.querySelectorAll('.event')].map(line => line.getAttribute('title')))"))
+    kinds = json.loads(
+        page.run("JSON.stringify([...document.querySelectorAll('.event')].map(line => line.getAttribute('title')))")
+    )
     holds(kinds and all(" reg " in kind for kind in kinds), "a filter by party leaves just its events")
     page.run("new Promise(done => setTimeout(done, 400))")
     holds(page.run(f"location.hash") == f"#event={page.run(number)}", "the address has the link to the event")
@@ -264,13 +341,19 @@ def test_access(page, folder):
     wire = replay(script, "--wire")
     path = make_page(folder, "two", wire, script)
     events = [line for line in wire.split("\n") if line and not line.startswith(("= ", "| "))]
-    last, behind = len(events), next(k for k, line in enumerate(events) if line.startswith("show ")) + 1  # at `behind` the second reader holds what was
+    last, behind = (
+        len(events),
+        next(k for k, line in enumerate(events) if line.startswith("show ")) + 1,
+    )  # at `behind` the second reader holds what was
     for dark in (False, True):
         page.dark(dark)
         shade = "dark" if dark else "light"
         page.open(path, f"#event={behind}")
         page.run("document.querySelector('.tree').focus()")
-        holds(json.loads(page.run(PAIRS)) == [], f"{shade}: the stylesheet's colours have their contrast: {page.run(PAIRS)}")
+        holds(
+            json.loads(page.run(PAIRS)) == [],
+            f"{shade}: the stylesheet's colours have their contrast: {page.run(PAIRS)}",
+        )
         for event in (3, behind, last):
             at_event(page, event)
             poor = page.run(CONTRAST)
@@ -281,12 +364,21 @@ def test_access(page, folder):
     page.dark(False)
     at_event(page, behind)
     holds(json.loads(page.run(CONTROLS)) == [], f"every control has a name: {page.run(CONTROLS)}")
-    holds(page.run("[...document.querySelectorAll('[tabindex]')].every(element => element.tabIndex <= 0)"), "no tabindex is above 0")
+    holds(
+        page.run("[...document.querySelectorAll('[tabindex]')].every(element => element.tabIndex <= 0)"),
+        "no tabindex is above 0",
+    )
     holds(json.loads(page.run(TREES)) == [], f"trees have levels, places and sizes: {page.run(TREES)}")
     holds(json.loads(page.run(TARGETS)) == [], f"targets are 24 pixels wide and high: {page.run(TARGETS)}")
-    ids = page.run("(() => { const ids = [...document.querySelectorAll('[id]')].map(element => element.id); return ids.length - new Set(ids).size; })()")
+    ids = page.run(
+        "(() => { const ids = [...document.querySelectorAll('[id]')].map(element => element.id); return ids.length - new Set(ids).size; })()"
+    )
     holds(ids == 0, "no id stands twice")
-    for rule, words in (("document.documentElement.lang", "en"), ("document.querySelectorAll('main').length", 1), ("document.querySelectorAll('h1').length", 1)):
+    for rule, words in (
+        ("document.documentElement.lang", "en"),
+        ("document.querySelectorAll('main').length", 1),
+        ("document.querySelectorAll('h1').length", 1),
+    ):
         holds(page.run(rule) == words, f"{rule} is {words}")
     test_access_tree(page)
     page.run("document.activeElement.blur()")
@@ -294,8 +386,27 @@ def test_access(page, folder):
     for _ in range(60):
         page.key("Tab")
         seen.add(page.run("(document.activeElement.id || document.activeElement.className)"))
-    wanted = {"slider", "number", "party", "path", "member", "search", "events", "message", "spoken", "node", "files-again", "copy", "help", "on", "back"}
-    holds(wanted <= seen and any(name.startswith("tree-a0-") for name in seen), f"Tab reaches every control: {sorted(wanted - seen)}")
+    wanted = {
+        "slider",
+        "number",
+        "party",
+        "path",
+        "member",
+        "search",
+        "events",
+        "message",
+        "spoken",
+        "node",
+        "files-again",
+        "copy",
+        "help",
+        "on",
+        "back",
+    }
+    holds(
+        wanted <= seen and any(name.startswith("tree-a0-") for name in seen),
+        f"Tab reaches every control: {sorted(wanted - seen)}",
+    )
 
 
 def test_access_tree(page):
@@ -315,11 +426,22 @@ def test_access_tree(page):
     trees = {name(tree) for tree in of("tree")}
     holds(trees == {"a0 has", "r0 holds", "r1 holds"}, f"the trees are trees with their names: {trees}")
     items = of("treeitem")
-    holds(any("“Cart”" in name(item) and property_of(item, "level") == 2 and property_of(item, "expanded") for item in items),
-          "a node with children is an expanded item with its level")
+    holds(
+        any(
+            "“Cart”" in name(item) and property_of(item, "level") == 2 and property_of(item, "expanded")
+            for item in items
+        ),
+        "a node with children is an expanded item with its level",
+    )
     marks = " / ".join(name(item) for item in items)
-    holds("stale: name" in marks and "stale: place" in marks and "stale: the node is gone" in marks, f"what differs is in the items' names: {marks[:400]}")
-    holds(len(of("listbox")) == 1 and of("option") and all(name(option) for option in of("option")), "events are options with names")
+    holds(
+        "stale: name" in marks and "stale: place" in marks and "stale: the node is gone" in marks,
+        f"what differs is in the items' names: {marks[:400]}",
+    )
+    holds(
+        len(of("listbox")) == 1 and of("option") and all(name(option) for option in of("option")),
+        "events are options with names",
+    )
     holds([name(slider) for slider in of("slider")] == ["Event"], "the slider is a slider")
 
 
@@ -327,13 +449,17 @@ def test_large(page, folder):
     """100,000 events open in under 3 seconds and step without a wait; told with the load of the machine."""
     script = os.path.join(folder, "large.script")
     with open(script, "w") as file:
-        subprocess.run([sys.executable, os.path.join(HERE, "bench", "viewer_large.py"), "22200"], stdout=file, check=True)
+        subprocess.run(
+            [sys.executable, os.path.join(HERE, "bench", "viewer_large.py"), "22200"], stdout=file, check=True
+        )
     trace = replay(script, "--wire")
     path = make_page(folder, "large", trace, script)
     page.call("Performance.enable", timeDomain="threadTicks")
 
     def busy():
-        return next(each["value"] for each in page.call("Performance.getMetrics")["metrics"] if each["name"] == "TaskDuration")
+        return next(
+            each["value"] for each in page.call("Performance.getMetrics")["metrics"] if each["name"] == "TaskDuration"
+        )
 
     def timed(work):
         before = busy()
@@ -343,7 +469,9 @@ def test_large(page, folder):
     figures = {}
     page.call("Page.navigate", url="about:blank")
     for fragment in ("", "#event=100000"):
-        wall, spent = min(((wall, spent) for wall, spent in (timed(lambda: page.open(path, fragment)) for _ in range(3))))
+        wall, spent = min(
+            ((wall, spent) for wall, spent in (timed(lambda: page.open(path, fragment)) for _ in range(3)))
+        )
         figures[f"open{fragment}"] = f"{wall:.2f} s, of it {spent:.2f} s at work"
         holds(wall < 3 or spent < 3, f"100,000 events open in under 3 seconds: {figures}")
     events = int(page.run("document.getElementById('number').max"))
@@ -355,13 +483,19 @@ def test_large(page, folder):
         median, spent = timed(lambda: page.run(steps))
         figures[way] = f"{median:.0f} ms, of it {spent / 60 * 1000:.0f} ms at work"
         holds(spent / 60 < 0.1, f"a step takes less than a tenth of a second: {way} {figures[way]}")
-    print(f"viewer: {events:,} events, {len(trace.encode()) / 1e6:.0f} MB: {json.dumps(figures)}; load {os.getloadavg()[0]:.0f} on {os.cpu_count()} processors")
+    print(
+        f"viewer: {events:,} events, {len(trace.encode()) / 1e6:.0f} MB: {json.dumps(figures)}; load {os.getloadavg()[0]:.0f} on {os.cpu_count()} processors"
+    )
 
 
 def pictures(page, folder):
     os.makedirs(PICTURES, exist_ok=True)
     page.call("Emulation.setDeviceMetricsOverride", width=1440, height=960, deviceScaleFactor=1, mobile=False)
-    for name, event, dark, node in (("a_race", 130, False, 1), ("typing", 0, False, 7), ("many_ends", 1500, True, None)):
+    for name, event, dark, node in (
+        ("a_race", 130, False, 1),
+        ("typing", 0, False, 7),
+        ("many_ends", 1500, True, None),
+    ):
         script = os.path.join(TESTS, f"{name}.script")
         path = make_page(folder, name, replay(script, "--wire"), script)
         page.dark(dark)
@@ -369,7 +503,9 @@ def pictures(page, folder):
         if event:
             at_event(page, event)
         else:
-            page.run("(() => { const search = document.getElementById('search'); search.value = 'show r0 a0'; search.dispatchEvent(new Event('input')); document.getElementById('found-on').click(); search.value = ''; search.dispatchEvent(new Event('input')); })()")
+            page.run(
+                "(() => { const search = document.getElementById('search'); search.value = 'show r0 a0'; search.dispatchEvent(new Event('input')); document.getElementById('found-on').click(); search.value = ''; search.dispatchEvent(new Event('input')); })()"
+            )
             page.run(SETTLED)
         if node is not None:
             page.run(f"[...document.querySelectorAll('.tree')].pop().querySelector('[data-path$=\"/{node}\"]').click()")

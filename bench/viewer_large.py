@@ -22,7 +22,7 @@ def edits(count):
         elif kind == 8:
             yield f'describe {k * 3 % there + 1} "about {k}"'
         else:
-            yield f'focus {k * 5 % there + 1}'
+            yield f"focus {k * 5 % there + 1}"
 
 
 def main():

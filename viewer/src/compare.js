@@ -1,5 +1,5 @@
-// An application's tree and what readers hold of it, side by side: one line for each node that stands at the same place of
-// them, with what differs.
+// An application's tree and what readers hold of it, side by side: one line for each node that stands at the same
+// place of them, with what differs.
 
 // the longest run of paths that both lists have in one order, as pairs of places (a longest rising subsequence)
 function commonOrder(ours, theirs) {
@@ -39,8 +39,8 @@ function staleFields(node, row) {
 
 const unknownParts = row => ['text', 'caret', 'columns'].filter(part => row[part] === UNKNOWN);
 
-// Lines of cells, a cell for each column: the application's rows first (none where its tree is not told), then each reader's
-// (null where it holds nothing). A cell has a row and its mark: what is stale, unknown or missing.
+// Lines of cells, a cell for each column: the application's rows first (none where its tree is not told), then each
+// reader's (null where it holds nothing). A cell has a row and its mark: what is stale, unknown or missing.
 function sideBySide(ours, readers) {
     const base = ours ?? readers.find(rows => rows) ?? [];
     const gaps = Array.from({ length: base.length + 1 }, () => new Map());

@@ -29,7 +29,8 @@ function oncePerFrame(work) {
     };
 }
 
-// Puts rows into an element, each { key, sign, make }: one that is there already with this key and sign stays as it is.
+// Puts rows into an element, each { key, sign, make }: one that is there already with this key and sign stays as it
+// is.
 function putRows(parent, rows) {
     const before = parent.rows ?? new Map(), after = new Map();
     let at = parent.firstChild;

@@ -39,7 +39,8 @@ function eventsWith(trace, words) {
     return found;
 }
 
-// A verdict as `audit` writes it: `unlawful K` and what was due, `lawful E`, `refused LINE NAME`; null where it is none.
+// A verdict as `audit` writes it: `unlawful K` and what was due, `lawful E`, `refused LINE NAME`; null where it is
+// none.
 function verdictOf(text) {
     const [first, second] = text.trim().split('\n');
     const unlawful = /^unlawful ([1-9][0-9]{0,9})$/.exec(first ?? '');

@@ -1,5 +1,5 @@
-// The trees: for each application its tree and beside it what each reader holds, a column each. Each column is a tree of its
-// own to who listens, and its lines stand beside those of the others.
+// The trees: for each application its tree and beside it what each reader holds, a column each. Each column is a tree
+// of its own to who listens, and its lines stand beside those of the others.
 
 const LINE_HEIGHT = 26, SPARE_LINES = 8, ALL_LINES = 400;
 

@@ -1,5 +1,5 @@
-// The grammar of a trace: docs/PROFILE.md, "Events", "Shown rows" and "The text of a message". `readTrace` goes over all
-// lines once and keeps numbers alone; `readEvent` reads one event where it is looked at.
+// The grammar of a trace: docs/PROFILE.md, "Events", "Shown rows" and "The text of a message". `readTrace` goes over
+// all lines once and keeps numbers alone; `readEvent` reads one event where it is looked at.
 
 class Refusal extends Error {
     constructor(line, message) {
@@ -91,7 +91,8 @@ function endOfQuoted(text, from, end) {
 
 const CLOSERS = { '[': ']', '(': ')', '{': '}', '<': '>' };
 
-// Whether the values of a body stand here up to just this end: `[`, the values, `]`, one space between two and none at brackets.
+// Whether the values of a body stand here up to just this end: `[`, the values, `]`, one space between two and none
+// at brackets.
 function isBody(text, from, end) {
     const open = [];
     let at = from;

@@ -1,5 +1,6 @@
-// What stands behind each event: the applications' trees, and what the readers hold. Going on is one event at a time; going
-// back begins at a kept state before. At most `MOST_KEPT` states are kept, at rising distances where a trace is long.
+// What stands behind each event: the applications' trees, and what the readers hold. Going on is one event at a time;
+// going back begins at a kept state before. At most `MOST_KEPT` states are kept, at rising distances where a trace is
+// long.
 
 const MOST_KEPT = 128, FIRST_DISTANCE = 1024;
 

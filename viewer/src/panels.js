@@ -1,4 +1,5 @@
-// The panels beside the trees: the message under the cursor with its bytes, the lines spoken so far, and the chosen node.
+// The panels beside the trees: the message under the cursor with its bytes, the lines spoken so far, and the chosen
+// node.
 
 const FIRST_ITEMS = 64, MORE_ITEMS = 2000, SPOKEN_IN_SIGHT = 200;
 

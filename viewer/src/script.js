@@ -1,7 +1,7 @@
-// Segments: which events are those of which line of the script. With the script they are found line by line: how many steps an
-// edit makes is told by the tree before it, and how many messages a move completes by their lengths. Without it they are what
-// the trace's text tells: a start, an exit, a shown view and a user's call stand alone, steps outside of messages are an edit,
-// and messages up to `busy`, `quiet` or the next of those are one run.
+// Segments: which events are those of which line of the script. With the script they are found line by line: how many
+// steps an edit makes is told by the tree before it, and how many messages a move completes by their lengths. Without
+// it they are what the trace's text tells: a start, an exit, a shown view and a user's call stand alone, steps
+// outside of messages are an edit, and messages up to `busy`, `quiet` or the next of those are one run.
 
 const USER_CALLS = new Set(['SetCaretOffset', 'InsertText', 'DeleteText', 'SetTextContents', 'SelectChild', 'DeselectChild', 'SelectAll',
     'ClearSelection', 'DoAction']);
@@ -22,7 +22,8 @@ function isUserCall(trace, event) {
     return kindAt(trace, event) === 'sent' && isReader(whoAt(trace, event)) && USER_CALLS.has(headerOf(trace, event).member);
 }
 
-// The event behind a cause that begins here (a message that is taken, or an end that the bus takes) and all that it brings.
+// The event behind a cause that begins here (a message that is taken, or an end that the bus takes) and all that it
+// brings.
 function behindCause(trace, event) {
     let repliesDue = false;
     const taker = kindAt(trace, event) === 'got' ? whoAt(trace, event) : 'bus';
@@ -85,7 +86,8 @@ function segmentsByTrace(trace) {
     return segments;
 }
 
-// segmentsByScript: a segment for each line that is not empty; where the lines and the trace do not fit, `misfit` says at which.
+// segmentsByScript: a segment for each line that is not empty; where the lines and the trace do not fit, `misfit`
+// says at which.
 function segmentsByScript(trace, script) {
     const segments = [], walk = new ScriptWalk(trace);
     let misfit = null;

@@ -1,5 +1,5 @@
-// The time line: a list of events under the lines of the script that they belong to, with a lane for each party and an arrow
-// for each way of a message. Only what is in sight is drawn, however long the trace is.
+// The time line: a list of events under the lines of the script that they belong to, with a lane for each party and
+// an arrow for each way of a message. Only what is in sight is drawn, however long the trace is.
 
 const ROW_HEIGHT = 24, BLOCK = 256, MOST_ARROWS = 500, SPARE_ROWS = 6;
 

@@ -1,5 +1,5 @@
-// Trees of nodes by their paths: an application's tree, made of its steps, and a reader's view of it. A tree can be kept as
-// it is: nodes that a kept tree has too are copied where they change, so keeping costs a map and no nodes.
+// Trees of nodes by their paths: an application's tree, made of its steps, and a reader's view of it. A tree can be
+// kept as it is: nodes that a kept tree has too are copied where they change, so keeping costs a map and no nodes.
 
 const ABSENT = null, UNKNOWN = Object.freeze({ unknown: true });
 

@@ -1,5 +1,6 @@
-// What a reader holds, folded from the bytes of the messages that it took: the news in each, what a news makes of a view,
-// and what a reply to a call of the reader's own tells (docs/READER.md; AT-SPI2, interfaces Cache and Event.Object).
+// What a reader holds, folded from the bytes of the messages that it took: the news in each, what a news makes of a
+// view, and what a reply to a call of the reader's own tells (docs/READER.md; AT-SPI2, interfaces Cache and
+// Event.Object).
 
 const EVENT_INTERFACE = 'org.a11y.atspi.Event.Object', CACHE_INTERFACE = 'org.a11y.atspi.Cache', BUS_NAME = 'org.freedesktop.DBus';
 const ITEMS_SIGNATURE = 'a((so)(so)(so)iiassusau)', ITEM_TYPE = '((so)(so)(so)iiassusau)', REFERENCE_TYPE = '(so)';
@@ -80,8 +81,8 @@ const freshRow = item => ({
     columns: item.kinds & TABLE ? UNKNOWN : ABSENT, epoch: 0,
 });
 
-// load: the view of a list of items. The first item of each own object counts; kept is what the root reaches by parent,
-// children by index and then by order.
+// load: the view of a list of items. The first item of each own object counts; kept is what the root reaches by
+// parent, children by index and then by order.
 function load(root, bus, items) {
     const first = new Map();
     for (const item of items) if (item.object.bus === bus && !first.has(item.object.path)) first.set(item.object.path, item);

@@ -1,5 +1,5 @@
-// D-Bus messages in bytes (D-Bus Specification: marshalling and message format). `decodeMessage` reads one, and tells of each
-// item where it lies where it is asked to. A value is { type, v }: its type's signature and what it holds.
+// D-Bus messages in bytes (D-Bus Specification: marshalling and message format). `decodeMessage` reads one, and tells
+// of each item where it lies where it is asked to. A value is { type, v }: its type's signature and what it holds.
 
 const MESSAGE_TYPES = ['', 'call', 'return', 'error', 'signal'];
 const FIELD_NAMES = ['', 'path', 'interface', 'member', 'error', 'reply', 'destination', 'sender', 'signature', 'unix_fds'];
