@@ -305,7 +305,7 @@ class Page {
             try {
                 each.text = utf8.decode(each.bytes);
             } catch {
-                return this.refuse(new Refusal(1, 'the file is not UTF-8'), '', each.name);
+                return this.refuse(new Refusal(lineNotUtf8(new Uint8Array(each.bytes)), 'not UTF-8'), '', each.name);
             }
         }
         const isScript = each => /\.(script|in)$/.test(each.name);
@@ -385,6 +385,20 @@ class Page {
         happening.preventDefault();
         work();
     }
+}
+
+// the number of the first line that is not UTF-8
+function lineNotUtf8(bytes) {
+    for (let line = 1, from = 0; from < bytes.length; line++) {
+        const end = bytes.indexOf(10, from) < 0 ? bytes.length : bytes.indexOf(10, from);
+        try {
+            utf8.decode(bytes.subarray(from, end));
+        } catch {
+            return line;
+        }
+        from = end + 1;
+    }
+    return 1;
 }
 
 // a text that the page carries: `&`, `<` and carriage returns are written otherwise there
