@@ -24,7 +24,7 @@ class Socket:
     def __init__(self, url):
         host, path = url[len("ws://") :].split("/", 1)
         name, port = host.split(":")
-        self.stream = socket.create_connection((name, int(port)), timeout=120)
+        self.stream = socket.create_connection((name, int(port)), timeout=600)
         key = base64.b64encode(os.urandom(16)).decode()
         self.stream.sendall(
             (

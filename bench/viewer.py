@@ -445,8 +445,15 @@ def test_access_tree(page):
     holds([name(slider) for slider in of("slider")] == ["Event"], "the slider is a slider")
 
 
+def busy(page):
+    """How long the page's main thread was at work, in seconds."""
+    metrics = page.call("Performance.getMetrics")["metrics"]
+    return next(each["value"] for each in metrics if each["name"] == "TaskDuration")
+
+
 def test_large(page, folder):
-    """100,000 events open in under 3 seconds and step without a wait; told with the load of the machine."""
+    """100,000 events open in under 3 seconds and step without a wait: by the clock, or by the main thread's work where
+    others keep the machine busy; both are told, with the load of the machine."""
     script = os.path.join(folder, "large.script")
     with open(script, "w") as file:
         subprocess.run(
@@ -454,33 +461,28 @@ def test_large(page, folder):
         )
     trace = replay(script, "--wire")
     path = make_page(folder, "large", trace, script)
-    page.call("Performance.enable", timeDomain="threadTicks")
-
-    def busy():
-        return next(
-            each["value"] for each in page.call("Performance.getMetrics")["metrics"] if each["name"] == "TaskDuration"
-        )
-
-    def timed(work):
-        before = busy()
-        value = work()
-        return value, busy() - before
-
     figures = {}
-    page.call("Page.navigate", url="about:blank")
     for fragment in ("", "#event=100000"):
-        wall, spent = min(
-            ((wall, spent) for wall, spent in (timed(lambda: page.open(path, fragment)) for _ in range(3)))
-        )
+        # a browser of its own, so that its main thread has worked for this page alone
+        with browser.Browser() as fresh:
+            fresh.call("Performance.enable", timeDomain="threadTicks")
+            wall, spent = fresh.open(path, fragment), busy(fresh)
         figures[f"open{fragment}"] = f"{wall:.2f} s, of it {spent:.2f} s at work"
-        holds(wall < 3 or spent < 3, f"100,000 events open in under 3 seconds: {figures}")
+        holds(
+            wall < 3 or spent < 3,
+            f"100,000 events open in under 3 s, of the clock or, on a busy machine, of work: {figures}",
+        )
+    page.call("Performance.enable", timeDomain="threadTicks")
+    page.open(path, "#event=60000")
     events = int(page.run("document.getElementById('number').max"))
     holds(events >= 100000, f"{events} events")
     holds(held(page, "r0", "a0") is not None, "the trees of the large trace stand there")
     for way in ("on", "back", "segment-on", "segment-back"):
         steps = f"(async () => {{ const waits = []; for (let k = 0; k < 60; k++) {{ const begun = performance.now(); document.getElementById('{way}').click(); await new Promise(done => requestAnimationFrame(() => setTimeout(done))); waits.push(performance.now() - begun); }} waits.sort((a, b) => a - b); return waits[30]; }})()"
         at_event(page, 60000)
-        median, spent = timed(lambda: page.run(steps))
+        before = busy(page)
+        median = page.run(steps)
+        spent = busy(page) - before
         figures[way] = f"{median:.0f} ms, of it {spent / 60 * 1000:.0f} ms at work"
         holds(spent / 60 < 0.1, f"a step takes less than a tenth of a second: {way} {figures[way]}")
     print(
