@@ -12,7 +12,10 @@ function commonOrder(ours, theirs) {
         let low = 0, high = tails.length;
         while (low < high) {
             const middle = (low + high) >> 1;
-            if (place[tails[middle]] < there) low = middle + 1; else high = middle;
+            if (place[tails[middle]] < there)
+                low = middle + 1;
+            else
+                high = middle;
         }
         before[k] = low > 0 ? tails[low - 1] : -1;
         tails[low] = k;
@@ -33,7 +36,8 @@ function staleFields(node, row) {
     if (node.low !== row.low || node.high !== row.high) fields.push('states');
     if (node.kinds !== row.kinds) fields.push('interfaces');
     if (node.parent !== row.parent) fields.push('place');
-    for (const part of ['text', 'caret', 'columns']) if (!samePart(node[part], row[part])) fields.push(part);
+    for (const part of ['text', 'caret', 'columns'])
+        if (!samePart(node[part], row[part])) fields.push(part);
     return fields;
 }
 
@@ -43,24 +47,26 @@ const unknownParts = row => ['text', 'caret', 'columns'].filter(part => row[part
 // reader's (null where it holds nothing). A cell has a row and its mark: what is stale, unknown or missing.
 function sideBySide(ours, readers) {
     const base = ours ?? readers.find(rows => rows) ?? [];
-    const gaps = Array.from({ length: base.length + 1 }, () => new Map());
-    const lines = base.map(row => ({ path: row.node.path, cells: [ours ? cell(row) : null] }));
+    const gaps = Array.from({length: base.length + 1}, () => new Map());
+    const lines = base.map(row => ({path: row.node.path, cells: [ours ? cell(row) : null]}));
     const extra = (gap, column, made) => {
-        const { path } = made.row.node;
-        if (!gaps[gap].has(path)) gaps[gap].set(path, { path, cells: [null] });
+        const {path} = made.row.node;
+        if (!gaps[gap].has(path)) gaps[gap].set(path, {path, cells: [null]});
         gaps[gap].get(path).cells[column] = made;
     };
-    for (const [k, rows] of readers.entries()) if (rows) placeRows(base, rows, k + 1, lines, extra, ours !== null);
+    for (const [k, rows] of readers.entries())
+        if (rows) placeRows(base, rows, k + 1, lines, extra, ours !== null);
     const merged = [];
     for (let k = 0; k <= base.length; k++) {
         merged.push(...gaps[k].values());
         if (k < base.length) merged.push(lines[k]);
     }
-    for (const line of merged) for (let k = 0; k <= readers.length; k++) line.cells[k] ??= null;
+    for (const line of merged)
+        for (let k = 0; k <= readers.length; k++) line.cells[k] ??= null;
     return merged;
 }
 
-const cell = (row, mark = {}) => ({ row, stale: [], unknown: [], missing: false, gone: false, ...mark });
+const cell = (row, mark = {}) => ({row, stale: [], unknown: [], missing: false, gone: false, ...mark});
 
 function placeRows(base, rows, column, lines, extra, isCompared) {
     const pairs = commonOrder(base, rows), at = new Map(base.map(row => [row.node.path, row.node]));
@@ -70,19 +76,20 @@ function placeRows(base, rows, column, lines, extra, isCompared) {
         for (; next < until; next++) {
             const row = rows[next], node = at.get(row.node.path);
             const stale = !isCompared ? [] : node ? [...new Set(['place', ...staleFields(node, row.node)])] : [];
-            extra(from, column, cell(row, { stale, unknown: unknownParts(row.node), gone: isCompared && !node }));
+            extra(from, column, cell(row, {stale, unknown: unknownParts(row.node), gone: isCompared && !node}));
         }
     };
     for (const [ours, theirs] of pairs) {
         behind(theirs, gap);
         const row = rows[next++];
         const stale = isCompared ? staleFields(base[ours].node, row.node) : [];
-        lines[ours].cells[column] = cell(row, { stale, unknown: unknownParts(row.node) });
+        lines[ours].cells[column] = cell(row, {stale, unknown: unknownParts(row.node)});
         gap = ours + 1;
     }
     behind(rows.length, gap);
     if (!isCompared) return;
-    for (const [k, row] of base.entries()) if (!held.has(row.node.path)) lines[k].cells[column] = cell(row, { missing: true });
+    for (const [k, row] of base.entries())
+        if (!held.has(row.node.path)) lines[k].cells[column] = cell(row, {missing: true});
 }
 
 // what is marked at a cell, in words
@@ -107,7 +114,7 @@ function openLines(lines, closed, columns) {
             shut[k] = closed.has(line.path) ? made.row.level : Infinity;
             return made;
         });
-        if (cells.some(made => made)) open.push({ path: line.path, cells });
+        if (cells.some(made => made)) open.push({path: line.path, cells});
     }
     return open;
 }
@@ -120,16 +127,26 @@ function shownRows(texts) {
         const full = word => word === 'root' ? ROOT_PATH : /^[0-9]/.test(word) ? pathOf(Number(word)) : word;
         const part = (shown, value) => shown === '-' ? ABSENT : shown === '?' ? UNKNOWN : value(shown);
         const node = {
-            path: full(found[1]), parent: found[2] === undefined ? null : full(found[2]), role: roleOf(found[4]),
-            high: parseInt(found[5].slice(0, 8), 16), low: parseInt(found[5].slice(8), 16), name: unquote(found[6]), description: unquote(found[7]),
+            path: full(found[1]),
+            parent: found[2] === undefined ? null : full(found[2]),
+            role: roleOf(found[4]),
+            high: parseInt(found[5].slice(0, 8), 16),
+            low: parseInt(found[5].slice(8), 16),
+            name: unquote(found[6]),
+            description: unquote(found[7]),
             kinds: KIND_LETTERS.reduce((kinds, [bit, letter]) => found[8].includes(letter) ? kinds | bit : kinds, 0),
-            text: part(found[9], unquote), caret: part(found[11], Number), columns: part(found[13], Number),
-            children: [], marks: [], actions: [], relations: [],
+            text: part(found[9], unquote),
+            caret: part(found[11], Number),
+            columns: part(found[13], Number),
+            children: [],
+            marks: [],
+            actions: [],
+            relations: [],
         };
         const level = node.parent === null ? 1 : (levels.get(node.parent) ?? 0) + 1;
         levels.set(node.path, level);
         sizes.set(node.parent, (sizes.get(node.parent) ?? 0) + 1);
-        return { node, level, index: Number(found[3]), size: 0 };
+        return {node, level, index: Number(found[3]), size: 0};
     });
     const at = new Map(rows.map(row => [row.node.path, row.node]));
     for (const row of rows) {

@@ -4,8 +4,10 @@ function make(tag, attributes = {}, ...children) {
     const element = document.createElement(tag);
     for (const [name, value] of Object.entries(attributes)) {
         if (value === null || value === undefined || value === false) continue;
-        if (name.startsWith('on')) element.addEventListener(name.slice(2), value);
-        else element.setAttribute(name, value === true ? '' : value);
+        if (name.startsWith('on'))
+            element.addEventListener(name.slice(2), value);
+        else
+            element.setAttribute(name, value === true ? '' : value);
     }
     element.append(...children.flat().filter(child => child !== null && child !== undefined));
     return element;
@@ -37,15 +39,20 @@ function putRows(parent, rows) {
     for (const row of rows) {
         const old = before.get(row.key);
         let element = old?.sign === row.sign ? old.element : null;
-        if (element) before.delete(row.key);
-        else element = row.make();
-        after.set(row.key, { sign: row.sign, element });
-        if (element === at) at = at.nextSibling;
-        else parent.insertBefore(element, at);
+        if (element)
+            before.delete(row.key);
+        else
+            element = row.make();
+        after.set(row.key, {sign: row.sign, element});
+        if (element === at)
+            at = at.nextSibling;
+        else
+            parent.insertBefore(element, at);
     }
-    for (const { element } of before.values()) element.remove();
+    for (const {element} of before.values()) element.remove();
     parent.rows = after;
 }
 
 // a link to an event of this trace
-const eventLink = (event, text, attributes = {}) => make('a', { href: `#event=${event}`, class: 'event-link', ...attributes }, text ?? String(event));
+const eventLink = (event, text, attributes = {}) =>
+    make('a', {href: `#event=${event}`, class: 'event-link', ...attributes}, text ?? String(event));

@@ -4,10 +4,11 @@
 const originOf = (trace, event) => KINDS[trace.kind[event]] === 'sent' ? event : trace.origin[event];
 
 // whether an event passes: by party, by the path of its message or of its step's node, by its message's member
-function filterOf(page, { party, path, member }) {
+function filterOf(page, {party, path, member}) {
     if (!party && !path && !member) return null;
-    const { trace, names } = page, code = party ? PARTY_CODES.get(party) + 1 : 0;
-    const wanted = member.toLowerCase(), number = /^[0-9]+$/.test(path) || path === 'root' ? pathOf(path === 'root' ? 0 : Number(path)) : null;
+    const {trace, names} = page, code = party ? PARTY_CODES.get(party) + 1 : 0;
+    const wanted = member.toLowerCase(),
+          number = /^[0-9]+$/.test(path) || path === 'root' ? pathOf(path === 'root' ? 0 : Number(path)) : null;
     const hasPath = of => of !== undefined && (number !== null ? of === number : of.includes(path));
     return event => {
         if (code && trace.who[event] !== code && trace.other[event] !== code) return false;
@@ -46,10 +47,10 @@ function verdictOf(text) {
     const unlawful = /^unlawful ([1-9][0-9]{0,9})$/.exec(first ?? '');
     if (unlawful) {
         if (second !== undefined && !second.startsWith('due ')) return null;
-        return { event: Number(unlawful[1]), due: second === undefined ? null : second.slice(4) };
+        return {event: Number(unlawful[1]), due: second === undefined ? null : second.slice(4)};
     }
     const other = /^(?:lawful [0-9]+|refused [0-9]+ [A-Za-z0-9]+|no trace)$/.exec(first ?? '');
-    return other ? { words: first } : null;
+    return other ? {words: first} : null;
 }
 
 function verdictParts(trace, verdict) {
@@ -57,8 +58,12 @@ function verdictParts(trace, verdict) {
     const missing = verdict.event > trace.count;
     return [
         make('strong', {}, `audit: unlawful ${verdict.event}`),
-        make('p', {}, missing ? 'The trace ends before this event. ' : 'Here stands ', missing ? null : make('code', {}, trace.eventText(verdict.event).slice(0, 400))),
-        make('p', {}, verdict.due === null ? 'What was due is not told.' : verdict.due === 'nothing' ? 'Due here was nothing.' : 'Due here was ',
+        make('p', {}, missing ? 'The trace ends before this event. ' : 'Here stands ',
+            missing ? null : make('code', {}, trace.eventText(verdict.event).slice(0, 400))),
+        make('p', {},
+            verdict.due === null            ? 'What was due is not told.'
+                : verdict.due === 'nothing' ? 'Due here was nothing.'
+                                            : 'Due here was ',
             verdict.due && verdict.due !== 'nothing' ? make('code', {}, verdict.due.slice(0, 400)) : null),
     ];
 }

@@ -23,18 +23,23 @@ const EVENT_FORMS = {
     hears: [[whole(`hears ${APP} ${NAME} ${QUOTED}`), 'who', 'listener', 'pattern']],
     deaf: [[whole(`deaf ${APP} ${NAME} ${QUOTED}`), 'who', 'listener', 'pattern']],
     say: [[whole(`say ${READER} ${APP} ${QUOTED}`), 'who', 'other', 'text']],
-    show: [[whole(`show ${READER} ${APP} none`), 'who', 'other'], [whole(`show ${READER} ${APP} ${NUMBER}`), 'who', 'other', 'rows']],
+    show: [
+        [whole(`show ${READER} ${APP} none`), 'who', 'other'],
+        [whole(`show ${READER} ${APP} ${NUMBER}`), 'who', 'other', 'rows']
+    ],
     exit: [[whole(`exit ${END}`), 'who']],
     gone: [[whole(`gone ${READER} ${APP}`), 'who', 'other']],
     dropped: [[whole(`dropped ${END} ${NUMBER} ${NUMBER}`), 'who', 'queued', 'length']],
     busy: [[whole(`busy ${NUMBER}`), 'turns']],
     quiet: [[whole('quiet')]],
 };
-const KINDS = ['', 'start', 'step', 'sent', 'got', 'hears', 'deaf', 'say', 'show', 'exit', 'gone', 'dropped', 'busy', 'quiet'];
+const KINDS =
+    ['', 'start', 'step', 'sent', 'got', 'hears', 'deaf', 'say', 'show', 'exit', 'gone', 'dropped', 'busy', 'quiet'];
 const KIND_CODES = new Map(KINDS.map((kind, code) => [kind, code]));
 
 const STEP_FORMS = {
-    add: whole(`${NUMBER} ${NUMBER} ${NUMBER} ${ROLE} ${QUOTED}(?: (text|static) ${QUOTED})?(?: columns ${NUMBER})?( select)?((?: action ${QUOTED}){0,8})`),
+    add: whole(`${NUMBER} ${NUMBER} ${NUMBER} ${ROLE} ${QUOTED}(?: (text|static) ${QUOTED})?(?: columns ${
+        NUMBER})?( select)?((?: action ${QUOTED}){0,8})`),
     remove: whole(NUMBER),
     move: whole(`${NUMBER} ${NUMBER} ${NUMBER}`),
     name: whole(`${NUMBER} ${QUOTED}`),
@@ -48,17 +53,21 @@ const STEP_FORMS = {
     relate: whole(`${NUMBER} ${NUMBER}((?: ${NUMBER})*)`),
 };
 const STEP_HEAD = whole(`step ${APP} ([a-z]+) `);
-const HEADER = whole(`(call|return|error|signal|type-${NUMBER}) ([lB]) ${NUMBER} ${NUMBER}(?: path=${NAME})?(?: interface=${NAME})?`
-    + `(?: member=${NAME})?(?: error=${NAME})?(?: reply=${NUMBER})?(?: destination=${NAME})?(?: sender=${NAME})?(?: signature=${NAME})?`);
+const HEADER = whole(
+    `(call|return|error|signal|type-${NUMBER}) ([lB]) ${NUMBER} ${NUMBER}(?: path=${NAME})?(?: interface=${NAME})?` +
+    `(?: member=${NAME})?(?: error=${NAME})?(?: reply=${NUMBER})?(?: destination=${NAME})?(?: sender=${
+        NAME})?(?: signature=${NAME})?`);
 const SENT_HEAD = whole(`sent ${PARTY} `);
 const BYTES = whole('= [0-9a-f]+');
 const PATH_WORD = `(root|0|[1-9][0-9]{0,9}|/${'[A-Za-z0-9_/]*'})`;
-const ROW = whole(`\\| ${PATH_WORD} (?:-|${PATH_WORD}) (-?[0-9]{1,10}) ${ROLE} ([0-9a-f]{16}) ${QUOTED} ${QUOTED} (-|[TELBA]{1,5})`
-    + ` (-|\\?|${QUOTED}) (-|\\?|${NUMBER}) (-|\\?|${NUMBER})`);
+const ROW = whole(
+    `\\| ${PATH_WORD} (?:-|${PATH_WORD}) (-?[0-9]{1,10}) ${ROLE} ([0-9a-f]{16}) ${QUOTED} ${QUOTED} (-|[TELBA]{1,5})` +
+    ` (-|\\?|${QUOTED}) (-|\\?|${NUMBER}) (-|\\?|${NUMBER})`);
 const REFUSED = whole(`refused ${NUMBER} ([A-Za-z0-9]+)`);
 const ATOM = /^(?:0|-?[1-9][0-9]{0,19}|true|false|0x[0-9a-f]{16})$/;
 
-const PARTIES = ['bus', 'reg', ...Array.from({ length: 16 }, (_, k) => `a${k}`), ...Array.from({ length: 4 }, (_, k) => `r${k}`)];
+const PARTIES =
+    ['bus', 'reg', ...Array.from({length: 16}, (_, k) => `a${k}`), ...Array.from({length: 4}, (_, k) => `r${k}`)];
 const PARTY_CODES = new Map(PARTIES.map((party, code) => [party, code]));
 const isApp = party => party[0] === 'a';
 const isReader = party => /^r[0-3]$/.test(party);
@@ -82,14 +91,22 @@ function endOfQuoted(text, from, end) {
         if (code < 32 || code === 127) return -1;
         if (code !== 92) continue;
         const escaped = text.charCodeAt(at + 1);
-        if (escaped === 34 || escaped === 92) at += 1;
-        else if (/^x(?:0[1-9a-f]|1[0-9a-f]|7f)$/.test(text.slice(at + 1, at + 4))) at += 3;
-        else return -1;
+        if (escaped === 34 || escaped === 92)
+            at += 1;
+        else if (/^x(?:0[1-9a-f]|1[0-9a-f]|7f)$/.test(text.slice(at + 1, at + 4)))
+            at += 3;
+        else
+            return -1;
     }
     return -1;
 }
 
-const CLOSERS = { '[': ']', '(': ')', '{': '}', '<': '>' };
+const CLOSERS = {
+    '[': ']',
+    '(': ')',
+    '{': '}',
+    '<': '>'
+};
 
 // Whether the values of a body stand here up to just this end: `[`, the values, `]`, one space between two and none
 // at brackets.
@@ -135,7 +152,9 @@ function headerAt(text, from, end) {
     if (!found) return null;
     const behind = HEADER.lastIndex;
     if (behind === end) return found;
-    return found[13] !== undefined && text[behind] === ' ' && text[behind + 1] === '[' && isBody(text, behind + 1, end) ? found : null;
+    return found[13] !== undefined && text[behind] === ' ' && text[behind + 1] === '[' && isBody(text, behind + 1, end)
+        ? found
+        : null;
 }
 
 // the places at which lines begin, and the length of the text, one more than a last line feed
@@ -170,7 +189,7 @@ class Trace {
         this.bytes = new Uint8Array(most + 1);
         this.type = new Uint8Array(most + 1);
         this.sents = new Map();
-        this.hops = { from: [], to: [], sender: [], origin: [] };
+        this.hops = {from: [], to: [], sender: [], origin: []};
         this.says = [];
         this.members = new Set();
         this.parties = new Set();
@@ -178,18 +197,12 @@ class Trace {
         this.refused = null;
     }
 
-    lineText(line) {
-        return this.text.slice(this.lines[line], this.lines[line + 1] - 1);
-    }
+    lineText(line) { return this.text.slice(this.lines[line], this.lines[line + 1] - 1); }
 
-    eventText(event) {
-        return this.lineText(this.line[event]);
-    }
+    eventText(event) { return this.lineText(this.line[event]); }
 
     // the bytes' digits behind an event, or null
-    digits(event) {
-        return this.bytes[event] ? this.lineText(this.line[event] + 1).slice(2) : null;
-    }
+    digits(event) { return this.bytes[event] ? this.lineText(this.line[event] + 1).slice(2) : null; }
 }
 
 // readTrace: the trace that a text is, or a refusal at its line.
@@ -202,7 +215,7 @@ function readTrace(text) {
 
 // one event with all its lines; the number of the next line is given back
 function readLine(trace, line) {
-    const { text, lines } = trace;
+    const {text, lines} = trace;
     const from = lines[line], end = lines[line + 1] - 1;
     if (trace.refused) throw new Refusal(line + 1, 'nothing stands behind a refused line');
     const space = text.indexOf(' ', from);
@@ -210,18 +223,23 @@ function readLine(trace, line) {
     if (word === 'refused') {
         const found = matchAt(REFUSED, text, from, end);
         if (!found) throw new Refusal(line + 1, 'no line of the form `refused LINE NAME`');
-        trace.refused = { line: Number(found[1]), name: found[2] };
+        trace.refused = {line: Number(found[1]), name: found[2]};
         return line + 1;
     }
     const code = KIND_CODES.get(word);
-    if (!code) throw new Refusal(line + 1, word === '=' ? 'bytes stand behind `sent` and `got` alone' : 'no event begins with this word');
+    if (!code)
+        throw new Refusal(
+            line + 1, word === '=' ? 'bytes stand behind `sent` and `got` alone' : 'no event begins with this word');
     const event = ++trace.count;
     trace.line[event] = line;
     trace.kind[event] = code;
     let next = line + 1;
-    if (word === 'sent') readSent(trace, event, line);
-    else if (word === 'got') readGot(trace, event, line);
-    else if (word === 'step') readStepLine(trace, event, line);
+    if (word === 'sent')
+        readSent(trace, event, line);
+    else if (word === 'got')
+        readGot(trace, event, line);
+    else if (word === 'step')
+        readStepLine(trace, event, line);
     else {
         const found = readForm(text, word, from, end);
         if (!found) throw new Refusal(line + 1, `no event of the form that \`${word}\` has`);
@@ -231,7 +249,8 @@ function readLine(trace, line) {
     }
     if (next < lines.length - 1 && (word === 'sent' || word === 'got') && text[lines[next]] === '=') {
         const digits = lines[next + 1] - lines[next] - 3;
-        if (digits % 2 || !matchAt(BYTES, text, lines[next], lines[next + 1] - 1)) throw new Refusal(next + 1, 'no bytes in pairs of hexadecimal digits');
+        if (digits % 2 || !matchAt(BYTES, text, lines[next], lines[next + 1] - 1))
+            throw new Refusal(next + 1, 'no bytes in pairs of hexadecimal digits');
         trace.bytes[event] = 1;
         trace.wire = true;
         next += 1;
@@ -256,13 +275,14 @@ function readForm(text, word, from, end) {
 }
 
 function readSent(trace, event, line) {
-    const { text, lines } = trace;
+    const {text, lines} = trace;
     const end = lines[line + 1] - 1;
     SENT_HEAD.lastIndex = lines[line];
     const head = SENT_HEAD.exec(text);
     const found = head && headerAt(text, SENT_HEAD.lastIndex, end);
-    if (!found) throw new Refusal(line + 1, head ? 'the text behind `sent` is no message' : 'no party stands behind `sent`');
-    noteParties(trace, event, { who: head[1] });
+    if (!found)
+        throw new Refusal(line + 1, head ? 'the text behind `sent` is no message' : 'no party stands behind `sent`');
+    noteParties(trace, event, {who: head[1]});
     trace.serial[event] = Number(found[5]);
     if (found[8]) trace.members.add(found[8]);
     trace.type[event] = Math.max(TYPE_WORDS.indexOf(found[1]), 0);
@@ -299,11 +319,11 @@ function noteTaken(trace, event, serial) {
 function readStepLine(trace, event, line) {
     const step = stepAt(trace.text, trace.lines[line], trace.lines[line + 1] - 1);
     if (!step) throw new Refusal(line + 1, 'no step of a tree');
-    noteParties(trace, event, { who: step.app });
+    noteParties(trace, event, {who: step.app});
 }
 
 function readRows(trace, first, count, line) {
-    const { text, lines } = trace;
+    const {text, lines} = trace;
     for (let k = 0; k < count; k++) {
         if (first + k >= lines.length - 1) throw new Refusal(line + 1, `${count} rows are told and ${k} stand there`);
         const found = matchAt(ROW, text, lines[first + k], lines[first + k + 1] - 1);
@@ -318,12 +338,16 @@ const isRole = word => ROLE_NUMBERS.has(word) || /^[0-9]+$/.test(word);
 function unquote(quoted) {
     const inner = quoted.slice(1, -1);
     if (!inner.includes('\\')) return inner;
-    return inner.replace(/\\(?:x([0-9a-f]{2})|(.))/g, (all, hex, sign) => hex ? String.fromCharCode(parseInt(hex, 16)) : sign);
+    return inner.replace(
+        /\\(?:x([0-9a-f]{2})|(.))/g, (all, hex, sign) => hex ? String.fromCharCode(parseInt(hex, 16)) : sign);
 }
 
 function quote(text) {
-    return '"' + text.replace(/["\\\x01-\x1f\x7f]/g, sign =>
-        sign === '"' || sign === '\\' ? '\\' + sign : '\\x' + sign.charCodeAt(0).toString(16).padStart(2, '0')) + '"';
+    return '"' +
+        text.replace(/["\\\x01-\x1f\x7f]/g,
+            sign => sign === '"' || sign === '\\' ? '\\' + sign
+                                                  : '\\x' + sign.charCodeAt(0).toString(16).padStart(2, '0')) +
+        '"';
 }
 
 const QUOTED_ALL = new RegExp(QUOTED, 'g');
@@ -336,27 +360,46 @@ function stepAt(text, from, end) {
     const form = head && STEP_FORMS[head[2]];
     const found = form && matchAt(form, text, STEP_HEAD.lastIndex, end);
     if (!found) return null;
-    const step = { app: head[1], what: head[2], node: Number(found[1]) };
+    const step = {app: head[1], what: head[2], node: Number(found[1])};
     switch (step.what) {
-    case 'add':
-        if (!isRole(found[4])) return null;
-        return Object.assign(step, {
-            parent: Number(found[2]), index: Number(found[3]), role: roleOf(found[4]), name: unquote(found[5]),
-            text: found[6] ? unquote(found[7]) : null, editable: found[6] === 'text', columns: found[8] === undefined ? null : Number(found[8]),
-            select: found[9] !== undefined, actions: (found[10].match(QUOTED_ALL) ?? []).map(unquote),
-        });
-    case 'move': return Object.assign(step, { parent: Number(found[2]), index: Number(found[3]) });
-    case 'name': case 'description': return Object.assign(step, { text: unquote(found[2]) });
-    case 'role': return isRole(found[2]) ? Object.assign(step, { role: roleOf(found[2]) }) : null;
-    case 'state': return STATE_BITS.has(found[2]) ? Object.assign(step, { state: STATE_BITS.get(found[2]), on: found[3] === 'on' }) : null;
-    case 'insert': case 'delete': return Object.assign(step, { at: Number(found[2]), text: unquote(found[3]) });
-    case 'caret': return Object.assign(step, { at: Number(found[2]) });
-    case 'marks': {
-        const numbers = numbersIn(found[2]);
-        return Object.assign(step, { marks: numbers.filter((_, k) => k % 2 === 0).map((at, k) => [at, numbers[2 * k + 1]]) });
-    }
-    case 'relate': return Object.assign(step, { kind: Number(found[2]), targets: numbersIn(found[3]) });
-    default: return step;
+        case 'add':
+            if (!isRole(found[4])) return null;
+            return Object.assign(step, {
+                parent: Number(found[2]),
+                index: Number(found[3]),
+                role: roleOf(found[4]),
+                name: unquote(found[5]),
+                text: found[6] ? unquote(found[7]) : null,
+                editable: found[6] === 'text',
+                columns: found[8] === undefined ? null : Number(found[8]),
+                select: found[9] !== undefined,
+                actions: (found[10].match(QUOTED_ALL) ?? []).map(unquote),
+            });
+        case 'move':
+            return Object.assign(step, {parent: Number(found[2]), index: Number(found[3])});
+        case 'name':
+        case 'description':
+            return Object.assign(step, {text: unquote(found[2])});
+        case 'role':
+            return isRole(found[2]) ? Object.assign(step, {role: roleOf(found[2])}) : null;
+        case 'state':
+            return STATE_BITS.has(found[2])
+                ? Object.assign(step, {state: STATE_BITS.get(found[2]), on: found[3] === 'on'})
+                : null;
+        case 'insert':
+        case 'delete':
+            return Object.assign(step, {at: Number(found[2]), text: unquote(found[3])});
+        case 'caret':
+            return Object.assign(step, {at: Number(found[2])});
+        case 'marks': {
+            const numbers = numbersIn(found[2]);
+            return Object.assign(
+                step, {marks: numbers.filter((_, k) => k % 2 === 0).map((at, k) => [at, numbers[2 * k + 1]])});
+        }
+        case 'relate':
+            return Object.assign(step, {kind: Number(found[2]), targets: numbersIn(found[3])});
+        default:
+            return step;
     }
 }
 
@@ -364,14 +407,17 @@ function stepAt(text, from, end) {
 function readEvent(trace, event) {
     const line = trace.line[event], from = trace.lines[line], end = trace.lines[line + 1] - 1;
     const kind = KINDS[trace.kind[event]];
-    if (kind === 'step') return { kind, ...stepAt(trace.text, from, end), who: PARTIES[trace.who[event] - 1] };
-    if (kind === 'sent') return { kind, who: PARTIES[trace.who[event] - 1], serial: trace.serial[event], header: headerOf(trace, event) };
-    const found = { kind, ...readForm(trace.text, kind, from, end) };
+    if (kind === 'step') return {kind, ...stepAt(trace.text, from, end), who: PARTIES[trace.who[event] - 1]};
+    if (kind === 'sent')
+        return {kind, who: PARTIES[trace.who[event] - 1], serial: trace.serial[event], header: headerOf(trace, event)};
+    const found = {kind, ...readForm(trace.text, kind, from, end)};
     if (kind === 'show') {
-        found.shown = found.rows === undefined ? null
-            : Array.from({ length: Number(found.rows) }, (_, k) => trace.lineText(line + 1 + k));
+        found.shown = found.rows === undefined
+            ? null
+            : Array.from({length: Number(found.rows)}, (_, k) => trace.lineText(line + 1 + k));
     }
-    for (const part of ['name', 'pattern', 'text']) if (found[part] !== undefined) found[part] = unquote(found[part]);
+    for (const part of ['name', 'pattern', 'text'])
+        if (found[part] !== undefined) found[part] = unquote(found[part]);
     return found;
 }
 
@@ -383,7 +429,15 @@ function headerOf(trace, event) {
     const found = HEADER.exec(trace.text);
     const body = trace.text.slice(HEADER.lastIndex, trace.lines[trace.line[event] + 1] - 1).trim();
     return {
-        type: found[1], path: found[6], interface: found[7], member: found[8], error: found[9], reply: found[10],
-        destination: found[11], sender: found[12], signature: found[13], body,
+        type: found[1],
+        path: found[6],
+        interface: found[7],
+        member: found[8],
+        error: found[9],
+        reply: found[10],
+        destination: found[11],
+        sender: found[12],
+        signature: found[13],
+        body,
     };
 }

@@ -16,8 +16,10 @@ class State {
     kept() {
         const each = (map, of) => new Map([...map].map(([key, value]) => [key, of(value)]));
         return {
-            event: this.event, ended: new Map(this.ended),
-            trees: each(this.trees, tree => tree.kept()), readers: each(this.readers, reader => reader.kept()),
+            event: this.event,
+            ended: new Map(this.ended),
+            trees: each(this.trees, tree => tree.kept()),
+            readers: each(this.readers, reader => reader.kept()),
         };
     }
 
@@ -51,7 +53,7 @@ class History {
     }
 
     goOn() {
-        const { state } = this;
+        const {state} = this;
         state.event += 1;
         state.fault = this.play(state.event);
         const last = this.keptStates.length ? this.keptStates[this.keptStates.length - 1].event : 0;
@@ -68,39 +70,46 @@ class History {
     // the message whose bytes stand behind an event, or why they are none
     message(event) {
         try {
-            return { message: decodeMessage(bytesOf(this.trace.digits(event))) };
+            return {message: decodeMessage(bytesOf(this.trace.digits(event)))};
         } catch (fault) {
-            return { fault: fault.message };
+            return {fault: fault.message};
         }
     }
 
     // one event: what it does to trees and readers; what is wrong with it is given back
     play(event) {
-        const { trace, state } = this;
+        const {trace, state} = this;
         const kind = KINDS[trace.kind[event]], who = PARTIES[trace.who[event] - 1];
         switch (kind) {
-        case 'start':
-            if (isApp(who)) state.trees.set(who, startTree(readEvent(trace, event).name));
-            else state.readers.set(who, new ReaderState());
-            return null;
-        case 'step': {
-            const step = stepAt(trace.text, trace.lines[trace.line[event]], trace.lines[trace.line[event] + 1] - 1);
-            if (!state.trees.has(who)) return `${who} did not start: this step is of no tree`;
-            const why = applyStep(state.trees.get(who), step);
-            return why && `this step does not apply: ${why}`;
-        }
-        case 'exit': case 'dropped':
-            state.ended.set(who, event);
-            return null;
-        case 'sent': case 'got': {
-            if (!isReader(who) || !trace.bytes[event] || !state.readers.has(who)) return null;
-            const { message, fault } = this.message(event);
-            if (fault) return `these bytes are no message: ${fault}`;
-            if (kind === 'sent') state.readers.get(who).sends(message);
-            else state.readers.get(who).takes(message);
-            return null;
-        }
-        default: return null;
+            case 'start':
+                if (isApp(who))
+                    state.trees.set(who, startTree(readEvent(trace, event).name));
+                else
+                    state.readers.set(who, new ReaderState());
+                return null;
+            case 'step': {
+                const step = stepAt(trace.text, trace.lines[trace.line[event]], trace.lines[trace.line[event] + 1] - 1);
+                if (!state.trees.has(who)) return `${who} did not start: this step is of no tree`;
+                const why = applyStep(state.trees.get(who), step);
+                return why && `this step does not apply: ${why}`;
+            }
+            case 'exit':
+            case 'dropped':
+                state.ended.set(who, event);
+                return null;
+            case 'sent':
+            case 'got': {
+                if (!isReader(who) || !trace.bytes[event] || !state.readers.has(who)) return null;
+                const {message, fault} = this.message(event);
+                if (fault) return `these bytes are no message: ${fault}`;
+                if (kind === 'sent')
+                    state.readers.get(who).sends(message);
+                else
+                    state.readers.get(who).takes(message);
+                return null;
+            }
+            default:
+                return null;
         }
     }
 }
@@ -109,10 +118,12 @@ class History {
 function namesOf(trace, history) {
     const names = new Map([['reg', ':1.0']]);
     for (let event = 1; event <= trace.count; event++) {
-        if (KINDS[trace.kind[event]] !== 'got' || trace.other[event] !== 1 || trace.who[event] === 1 || !trace.bytes[event]) continue;
+        if (KINDS[trace.kind[event]] !== 'got' || trace.other[event] !== 1 || trace.who[event] === 1 ||
+            !trace.bytes[event])
+            continue;
         const who = PARTIES[trace.who[event] - 1];
         if (names.has(who)) continue;
-        const { message } = history.message(event);
+        const {message} = history.message(event);
         if (message?.type === RETURN && message.body[0]?.type === 's') names.set(who, message.body[0].v);
         if (names.size > trace.parties.size) break;
     }

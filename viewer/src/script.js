@@ -3,8 +3,10 @@
 // it they are what the trace's text tells: a start, an exit, a shown view and a user's call stand alone, steps
 // outside of messages are an edit, and messages up to `busy`, `quiet` or the next of those are one run.
 
-const USER_CALLS = new Set(['SetCaretOffset', 'InsertText', 'DeleteText', 'SetTextContents', 'SelectChild', 'DeselectChild', 'SelectAll',
-    'ClearSelection', 'DoAction']);
+const USER_CALLS = new Set([
+    'SetCaretOffset', 'InsertText', 'DeleteText', 'SetTextContents', 'SelectChild', 'DeselectChild', 'SelectAll',
+    'ClearSelection', 'DoAction'
+]);
 
 // the lines of a script, without a last empty one
 function scriptLines(script) {
@@ -13,13 +15,15 @@ function scriptLines(script) {
     return lines;
 }
 
-const LINE_WORDS = ['quota', 'app', 'reader', 'edit', 'call', 'swap', 'exit', 'leave', 'bytes', 'turns', 'drain', 'show'];
+const LINE_WORDS =
+    ['quota', 'app', 'reader', 'edit', 'call', 'swap', 'exit', 'leave', 'bytes', 'turns', 'drain', 'show'];
 
 const kindAt = (trace, event) => event <= trace.count ? KINDS[trace.kind[event]] : 'end';
 const whoAt = (trace, event) => PARTIES[trace.who[event] - 1];
 
 function isUserCall(trace, event) {
-    return kindAt(trace, event) === 'sent' && isReader(whoAt(trace, event)) && USER_CALLS.has(headerOf(trace, event).member);
+    return kindAt(trace, event) === 'sent' && isReader(whoAt(trace, event)) &&
+        USER_CALLS.has(headerOf(trace, event).member);
 }
 
 // The event behind a cause that begins here (a message that is taken, or an end that the bus takes) and all that it
@@ -31,24 +35,29 @@ function behindCause(trace, event) {
         const origin = trace.origin[event];
         repliesDue = isApp(taker) && (!origin || headerOf(trace, origin).type === 'call');
         event += 1;
-    } else if (kindAt(trace, event) !== 'sent' || taker !== 'bus') return event;
+    } else if (kindAt(trace, event) !== 'sent' || taker !== 'bus')
+        return event;
     for (;; event++) {
         const kind = kindAt(trace, event);
         if (kind === 'step') {
             if (!repliesDue || whoAt(trace, event) !== taker) return event;
         } else if (kind === 'sent') {
             if (isUserCall(trace, event)) return event;
-            if (repliesDue && whoAt(trace, event) === taker && 'return error'.includes(headerOf(trace, event).type)) repliesDue = false;
-        } else if (!['hears', 'deaf', 'say', 'gone', 'dropped'].includes(kind)) return event;
+            if (repliesDue && whoAt(trace, event) === taker && 'return error'.includes(headerOf(trace, event).type))
+                repliesDue = false;
+        } else if (!['hears', 'deaf', 'say', 'gone', 'dropped'].includes(kind))
+            return event;
     }
 }
 
 // whether a cause of a move or a turn begins here
-const isCause = (trace, event) => kindAt(trace, event) === 'got' || kindAt(trace, event) === 'sent' && whoAt(trace, event) === 'bus';
+const isCause = (trace, event) =>
+    kindAt(trace, event) === 'got' || kindAt(trace, event) === 'sent' && whoAt(trace, event) === 'bus';
 
 // the event behind an application's signals from here on
 function behindSignals(trace, event, app) {
-    while (kindAt(trace, event) === 'sent' && whoAt(trace, event) === app && headerOf(trace, event).type === 'signal') event += 1;
+    while (kindAt(trace, event) === 'sent' && whoAt(trace, event) === app && headerOf(trace, event).type === 'signal')
+        event += 1;
     return event;
 }
 
@@ -64,7 +73,8 @@ function segmentsByTrace(trace) {
             if (kindAt(trace, event) === 'sent' && whoAt(trace, event) === who) event += 1;
         } else if (kind === 'step') {
             label = `edit ${who}`;
-            while (kindAt(trace, event) === 'step' && whoAt(trace, event) === who) event = behindSignals(trace, event + 1, who);
+            while (kindAt(trace, event) === 'step' && whoAt(trace, event) === who)
+                event = behindSignals(trace, event + 1, who);
         } else if (kind === 'exit') {
             label = isReader(who) ? `leave ${who}` : `exit ${who}`;
             event += 1;
@@ -76,12 +86,15 @@ function segmentsByTrace(trace) {
             event += 1;
         } else {
             while (isCause(trace, event)) event = behindCause(trace, event);
-            if (kindAt(trace, event) === 'busy') label = `turns, ${trace.eventText(event++)}`;
-            else if (kindAt(trace, event) === 'quiet') label = `drain, ${trace.eventText(event++)}`;
-            else label = 'bytes or turns';
+            if (kindAt(trace, event) === 'busy')
+                label = `turns, ${trace.eventText(event++)}`;
+            else if (kindAt(trace, event) === 'quiet')
+                label = `drain, ${trace.eventText(event++)}`;
+            else
+                label = 'bytes or turns';
             if (event === from) event += 1;
         }
-        segments.push({ from, to: event, line: 0, label });
+        segments.push({from, to: event, line: 0, label});
     }
     return segments;
 }
@@ -94,24 +107,24 @@ function segmentsByScript(trace, script) {
     for (const [k, label] of scriptLines(script).entries()) {
         const from = walk.event;
         if (trace.refused?.line === k + 1) {
-            segments.push({ from, to: from, line: k + 1, label, refused: trace.refused.name });
+            segments.push({from, to: from, line: k + 1, label, refused: trace.refused.name});
             break;
         }
         if (label === '') continue;
         if (from > trace.count && label[0] !== '#' && KINDS[trace.kind[trace.count]] === 'dropped') break;
         const why = walk.line(label);
         if (why) {
-            misfit = { line: k + 1, event: walk.event, why };
+            misfit = {line: k + 1, event: walk.event, why};
             walk.event = from;
             break;
         }
-        segments.push({ from, to: walk.event, line: k + 1, label });
+        segments.push({from, to: walk.event, line: k + 1, label});
     }
     if (walk.event <= trace.count) {
-        misfit ??= { line: scriptLines(script).length + 1, event: walk.event, why: 'the script ends here' };
-        segments.push({ from: walk.event, to: trace.count + 1, line: 0, label: 'events that the script does not tell' });
+        misfit ??= {line: scriptLines(script).length + 1, event: walk.event, why: 'the script ends here'};
+        segments.push({from: walk.event, to: trace.count + 1, line: 0, label: 'events that the script does not tell'});
     }
-    return { segments, misfit };
+    return {segments, misfit};
 }
 
 // A walk over a trace's events along the lines of its script.
@@ -127,8 +140,8 @@ class ScriptWalk {
 
     // the trees before the event at which the walk stands
     catchUp() {
-        const { trace, trees } = this;
-        for (; this.played < this.event - 1; ) {
+        const {trace, trees} = this;
+        for (; this.played < this.event - 1;) {
             const event = ++this.played;
             const kind = kindAt(trace, event);
             if (kind !== 'start' && kind !== 'step') continue;
@@ -147,7 +160,7 @@ class ScriptWalk {
     }
 
     expect(kind, who) {
-        const { trace, event } = this;
+        const {trace, event} = this;
         if (kindAt(trace, event) !== kind || who !== undefined && whoAt(trace, event) !== who) {
             return `\`${kind}${who === undefined ? '' : ' ' + who}\` is due at event ${event}`;
         }
@@ -160,25 +173,15 @@ class ScriptWalk {
         return this.expect('start') ?? this.expect('sent', who(this.event - 1));
     }
 
-    reader() {
-        return this.app();
-    }
+    reader() { return this.app(); }
 
-    exit([who]) {
-        return this.expect('exit', who);
-    }
+    exit([who]) { return this.expect('exit', who); }
 
-    leave([who]) {
-        return this.expect('exit', who);
-    }
+    leave([who]) { return this.expect('exit', who); }
 
-    show([reader]) {
-        return this.expect('show', reader);
-    }
+    show([reader]) { return this.expect('show', reader); }
 
-    call([reader]) {
-        return this.expect('sent', reader);
-    }
+    call([reader]) { return this.expect('sent', reader); }
 
     edit([app, ...words], text) {
         this.catchUp();
@@ -215,14 +218,14 @@ class ScriptWalk {
 
     // A move of bytes: as many messages as it completes, by their lengths; without --wire as many as stand here.
     bytes([party, way, count]) {
-        const { trace } = this, link = `${party} ${way}`;
+        const {trace} = this, link = `${party} ${way}`;
         let left = Number(count);
         if (way === 'up' && kindAt(trace, this.event) === 'sent' && whoAt(trace, this.event) === 'bus') {
             if (left > 0) this.event = behindCause(trace, this.event);
             return null;
         }
         const takes = way === 'up' ? event => whoAt(trace, event) === 'bus' && PARTIES[trace.other[event] - 1] === party
-            : event => whoAt(trace, event) === party;
+                                   : event => whoAt(trace, event) === party;
         while (kindAt(trace, this.event) === 'got' && takes(this.event)) {
             if (trace.wire) {
                 const missing = this.lengthAt(this.event) - (this.marks.get(link) ?? 0);
@@ -243,7 +246,7 @@ class ScriptWalk {
 
     // whether this link's next message, which is taken later, is one that waits here already
     hasMore(takes) {
-        const { trace } = this;
+        const {trace} = this;
         for (let event = this.event; event <= trace.count; event++) {
             if (kindAt(trace, event) !== 'got' || !takes(event)) continue;
             const origin = trace.origin[event];
@@ -261,35 +264,61 @@ function stepCount(tree, words, text) {
     const quoted = (text.match(QUOTED_ALL) ?? []).map(unquote);
     const has = (each, state) => hasState(each, STATE_BITS.get(state));
     const one = condition => condition ? 1 : 0;
-    const focusing = () => [...tree.nodes.values()].filter(each => each !== node && has(each, 'focused')).length + one(!has(node, 'focused'));
+    const focusing = () => [...tree.nodes.values()].filter(each => each !== node && has(each, 'focused')).length +
+        one(!has(node, 'focused'));
     switch (what) {
-    case 'insert': case 'remove': case 'mark': return 1;
-    case 'move': {
-        const parent = tree.get(node.parent);
-        return one(parent.path !== pathOf(Number(rest[1])) || parent.children.indexOf(node.path) !== Number(rest[2]));
-    }
-    case 'name': return one(node.name !== quoted[0]);
-    case 'describe': return one(node.description !== quoted[0]);
-    case 'role': return one(node.role !== roleOf(rest[1]));
-    case 'state': return one(has(node, rest[1]) !== (rest[2] === 'on'));
-    case 'focus': return focusing();
-    case 'put': return quoted[0] === '' ? 0 : 1 + one(node.caret > Number(rest[1]));
-    case 'type': return quoted[0] === '' ? 0 : 2;
-    case 'cut': return rest[1] === rest[2] ? 0 : 1 + one(node.caret > Number(rest[1]));
-    case 'caret': return one(node.caret !== Number(rest[1]));
-    case 'unmark': return one(node.marks.length > 0);
-    case 'select': {
-        const children = node.children.map(path => tree.get(path)), chosen = children[Number(rest[1])];
-        const others = has(node, 'multiselectable') ? [] : children.filter(child => child !== chosen && has(child, 'selected'));
-        return others.length + one(!has(chosen, 'selected'));
-    }
-    case 'deselect': return one(has(tree.get(node.children[Number(rest[1])]), 'selected'));
-    case 'press':
-        return { toggle: () => 1, expand: () => 1, press: () => 1 + one(!has(node, 'pressed')), focus: focusing }[node.actions[Number(rest[1])]]?.() ?? 0;
-    case 'relate': case 'unrelate': {
-        const there = node.relations.some(([kind, target]) => kind === Number(rest[1]) && target === Number(rest[2]));
-        return one(there !== (what === 'relate'));
-    }
-    default: throw new Error(what);
+        case 'insert':
+        case 'remove':
+        case 'mark':
+            return 1;
+        case 'move': {
+            const parent = tree.get(node.parent);
+            return one(
+                parent.path !== pathOf(Number(rest[1])) || parent.children.indexOf(node.path) !== Number(rest[2]));
+        }
+        case 'name':
+            return one(node.name !== quoted[0]);
+        case 'describe':
+            return one(node.description !== quoted[0]);
+        case 'role':
+            return one(node.role !== roleOf(rest[1]));
+        case 'state':
+            return one(has(node, rest[1]) !== (rest[2] === 'on'));
+        case 'focus':
+            return focusing();
+        case 'put':
+            return quoted[0] === '' ? 0 : 1 + one(node.caret > Number(rest[1]));
+        case 'type':
+            return quoted[0] === '' ? 0 : 2;
+        case 'cut':
+            return rest[1] === rest[2] ? 0 : 1 + one(node.caret > Number(rest[1]));
+        case 'caret':
+            return one(node.caret !== Number(rest[1]));
+        case 'unmark':
+            return one(node.marks.length > 0);
+        case 'select': {
+            const children = node.children.map(path => tree.get(path)), chosen = children[Number(rest[1])];
+            const others = has(node, 'multiselectable')
+                ? []
+                : children.filter(child => child !== chosen && has(child, 'selected'));
+            return others.length + one(!has(chosen, 'selected'));
+        }
+        case 'deselect':
+            return one(has(tree.get(node.children[Number(rest[1])]), 'selected'));
+        case 'press':
+            return {toggle: () => 1,
+                expand: () => 1,
+                press: () => 1 + one(!has(node, 'pressed')),
+                focus: focusing}[node.actions[Number(rest[1])]]
+                       ?.() ??
+                0;
+        case 'relate':
+        case 'unrelate': {
+            const there =
+                node.relations.some(([kind, target]) => kind === Number(rest[1]) && target === Number(rest[2]));
+            return one(there !== (what === 'relate'));
+        }
+        default:
+            throw new Error(what);
     }
 }

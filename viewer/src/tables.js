@@ -37,7 +37,8 @@ const STATE_BITS = new Map(STATE_NAMES.map((name, bit) => [name, bit]));
 // the kinds of a node, each by its bit and its letter in shown rows
 const TEXT = 1, EDITABLE = 2, SELECTION = 4, TABLE = 8, ACTION = 16;
 const KIND_LETTERS = [[TEXT, 'T'], [EDITABLE, 'E'], [SELECTION, 'L'], [TABLE, 'B'], [ACTION, 'A']];
-const KIND_NAMES = [[TEXT, 'Text'], [EDITABLE, 'EditableText'], [SELECTION, 'Selection'], [TABLE, 'Table'], [ACTION, 'Action']];
+const KIND_NAMES =
+    [[TEXT, 'Text'], [EDITABLE, 'EditableText'], [SELECTION, 'Selection'], [TABLE, 'Table'], [ACTION, 'Action']];
 
 const roleName = role => ROLE_NAMES[role] ?? String(role);
 const roleWord = role => role < ROLE_NAMES.length ? ROLE_NAMES[role].replaceAll(' ', '-') : String(role);
@@ -52,8 +53,10 @@ const statesText = node => hex8(node.high) + hex8(node.low);
 const hasState = (node, bit) => bit < 32 ? (node.low >>> bit & 1) === 1 : (node.high >>> (bit - 32) & 1) === 1;
 
 function setState(node, bit, on) {
-    if (bit < 32) node.low = (on ? node.low | 1 << bit : node.low & ~(1 << bit)) >>> 0;
-    else node.high = (on ? node.high | 1 << (bit - 32) : node.high & ~(1 << (bit - 32))) >>> 0;
+    if (bit < 32)
+        node.low = (on ? node.low | 1 << bit : node.low & ~(1 << bit)) >>> 0;
+    else
+        node.high = (on ? node.high | 1 << (bit - 32) : node.high & ~(1 << (bit - 32))) >>> 0;
 }
 
 const stateNames = node => STATE_NAMES.filter((name, bit) => hasState(node, bit));
@@ -64,12 +67,15 @@ const FIRST_STATES = 0x43000100;
 const BASE_PATH = '/org/a11y/atspi/accessible/';
 const ROOT_PATH = BASE_PATH + 'root';
 const pathOf = number => number === 0 ? ROOT_PATH : BASE_PATH + number;
-const numberOf = path => path === ROOT_PATH ? 0 : /^[1-9][0-9]*$/.test(path.slice(BASE_PATH.length)) ? Number(path.slice(BASE_PATH.length)) : -1;
+const numberOf = path => path === ROOT_PATH              ? 0
+    : /^[1-9][0-9]*$/.test(path.slice(BASE_PATH.length)) ? Number(path.slice(BASE_PATH.length))
+                                                         : -1;
 
 // a path as rows show it: `root`, the number of an own path, else the whole path
 function shownPath(path) {
     if (path === ROOT_PATH) return 'root';
-    if (path.startsWith(BASE_PATH) && /^[1-9][0-9]{0,9}$/.test(path.slice(BASE_PATH.length))
-        && Number(path.slice(BASE_PATH.length)) < 2 ** 32) return path.slice(BASE_PATH.length);
+    if (path.startsWith(BASE_PATH) && /^[1-9][0-9]{0,9}$/.test(path.slice(BASE_PATH.length)) &&
+        Number(path.slice(BASE_PATH.length)) < 2 ** 32)
+        return path.slice(BASE_PATH.length);
     return path;
 }

@@ -1,7 +1,7 @@
 // Trees of nodes by their paths: an application's tree, made of its steps, and a reader's view of it. A tree can be
 // kept as it is: nodes that a kept tree has too are copied where they change, so keeping costs a map and no nodes.
 
-const ABSENT = null, UNKNOWN = Object.freeze({ unknown: true });
+const ABSENT = null, UNKNOWN = Object.freeze({unknown: true});
 
 let epochs = 0;
 
@@ -15,22 +15,18 @@ class Tree {
     // the tree as it is now; this one goes on
     kept() {
         this.epoch = ++epochs;
-        return { nodes: new Map(this.nodes), added: this.added };
+        return {nodes: new Map(this.nodes), added: this.added};
     }
 
-    static from(kept) {
-        return new Tree(new Map(kept.nodes), kept.added);
-    }
+    static from(kept) { return new Tree(new Map(kept.nodes), kept.added); }
 
-    get(path) {
-        return this.nodes.get(path);
-    }
+    get(path) { return this.nodes.get(path); }
 
     // the node, which no kept tree has, so that it can be changed
     own(path) {
         const node = this.nodes.get(path);
         if (!node || node.epoch === this.epoch) return node;
-        const copy = { ...node, children: node.children.slice(), epoch: this.epoch };
+        const copy = {...node, children: node.children.slice(), epoch: this.epoch};
         this.nodes.set(path, copy);
         return copy;
     }
@@ -70,7 +66,7 @@ class Tree {
         while (open.length) {
             const next = open.pop();
             paths.push(next);
-            const { children } = this.get(next);
+            const {children} = this.get(next);
             for (let k = children.length - 1; k >= 0; k--) open.push(children[k]);
         }
         return paths;
@@ -78,7 +74,8 @@ class Tree {
 
     // whether a node is another or stands below it
     isWithin(path, above) {
-        for (let at = path; at !== null && at !== undefined; at = this.get(at)?.parent) if (at === above) return true;
+        for (let at = path; at !== null && at !== undefined; at = this.get(at)?.parent)
+            if (at === above) return true;
         return false;
     }
 
@@ -90,16 +87,31 @@ class Tree {
         while (open.length) {
             const [path, level, index, size] = open.pop();
             const node = this.get(path);
-            rows.push({ node, level, index, size });
-            for (let k = node.children.length - 1; k >= 0; k--) open.push([node.children[k], level + 1, k, node.children.length]);
+            rows.push({node, level, index, size});
+            for (let k = node.children.length - 1; k >= 0; k--)
+                open.push([node.children[k], level + 1, k, node.children.length]);
         }
         return rows;
     }
 }
 
 const plainNode = (path, name, role) => ({
-    path, parent: null, children: [], name, description: '', role, low: FIRST_STATES, high: 0, kinds: 0,
-    text: ABSENT, caret: ABSENT, columns: ABSENT, marks: [], actions: [], relations: [], epoch: 0,
+    path,
+    parent: null,
+    children: [],
+    name,
+    description: '',
+    role,
+    low: FIRST_STATES,
+    high: 0,
+    kinds: 0,
+    text: ABSENT,
+    caret: ABSENT,
+    columns: ABSENT,
+    marks: [],
+    actions: [],
+    relations: [],
+    epoch: 0,
 });
 
 // the tree of an application that starts: its root alone
@@ -124,10 +136,11 @@ const STEPS = {
         if (step.index > parent.children.length) return `node ${step.parent} has ${parent.children.length} children`;
         if (step.node !== tree.added + 1) return `the next number is ${tree.added + 1}`;
         const node = plainNode(pathOf(step.node), step.name, step.role);
-        if (step.text !== null) Object.assign(node, { text: step.text, caret: 0, kinds: step.editable ? TEXT | EDITABLE : TEXT });
-        if (step.columns !== null) Object.assign(node, { columns: step.columns, kinds: node.kinds | TABLE });
+        if (step.text !== null)
+            Object.assign(node, {text: step.text, caret: 0, kinds: step.editable ? TEXT | EDITABLE : TEXT});
+        if (step.columns !== null) Object.assign(node, {columns: step.columns, kinds: node.kinds | TABLE});
         if (step.select) node.kinds |= SELECTION;
-        if (step.actions.length) Object.assign(node, { actions: step.actions, kinds: node.kinds | ACTION });
+        if (step.actions.length) Object.assign(node, {actions: step.actions, kinds: node.kinds | ACTION});
         tree.added += 1;
         tree.put(node, parent.path, step.index);
     },
@@ -148,9 +161,15 @@ const STEPS = {
         if (step.index > others) return `node ${step.parent} has ${others} other children`;
         tree.move(path, parent.path, step.index);
     },
-    name: (tree, step) => { tree.own(pathOf(step.node)).name = step.text; },
-    description: (tree, step) => { tree.own(pathOf(step.node)).description = step.text; },
-    role: (tree, step) => { tree.own(pathOf(step.node)).role = step.role; },
+    name: (tree, step) => {
+        tree.own(pathOf(step.node)).name = step.text;
+    },
+    description: (tree, step) => {
+        tree.own(pathOf(step.node)).description = step.text;
+    },
+    role: (tree, step) => {
+        tree.own(pathOf(step.node)).role = step.role;
+    },
     state: (tree, step) => setState(tree.own(pathOf(step.node)), step.state, step.on),
     insert(tree, step) {
         const node = tree.own(pathOf(step.node));
@@ -159,7 +178,7 @@ const STEPS = {
         node.text = withInsert(node.text, step.at, step.text);
         node.marks = [];
     },
-    delete(tree, step) {
+    delete (tree, step) {
         const node = tree.own(pathOf(step.node));
         if (node.text === ABSENT) return 'the node has no text';
         const count = characters(step.text);
@@ -172,10 +191,13 @@ const STEPS = {
         if (node.text === ABSENT || step.at > characters(node.text)) return 'the node has no text so long';
         node.caret = step.at;
     },
-    marks: (tree, step) => { tree.own(pathOf(step.node)).marks = step.marks; },
+    marks: (tree, step) => {
+        tree.own(pathOf(step.node)).marks = step.marks;
+    },
     relate(tree, step) {
         const node = tree.own(pathOf(step.node));
-        node.relations = node.relations.filter(([kind]) => kind !== step.kind).concat(step.targets.map(target => [step.kind, target]));
+        node.relations = node.relations.filter(([kind]) => kind !== step.kind)
+                             .concat(step.targets.map(target => [step.kind, target]));
     },
 };
 
@@ -190,7 +212,8 @@ const partText = (part, written) => part === ABSENT ? '-' : part === UNKNOWN ? '
 
 // a node as a shown row
 function rowText(node, index) {
-    return `| ${shownPath(node.path)} ${node.parent === null ? '-' : shownPath(node.parent)} ${index} ${roleWord(node.role)} ${statesText(node)}`
-        + ` ${quote(node.name)} ${quote(node.description)} ${kindLetters(node.kinds)} ${partText(node.text, quote)}`
-        + ` ${partText(node.caret, String)} ${partText(node.columns, String)}`;
+    return `| ${shownPath(node.path)} ${node.parent === null ? '-' : shownPath(node.parent)} ${index} ${
+               roleWord(node.role)} ${statesText(node)}` +
+        ` ${quote(node.name)} ${quote(node.description)} ${kindLetters(node.kinds)} ${partText(node.text, quote)}` +
+        ` ${partText(node.caret, String)} ${partText(node.columns, String)}`;
 }

@@ -2,15 +2,34 @@
 // of each item where it lies where it is asked to. A value is { type, v }: its type's signature and what it holds.
 
 const MESSAGE_TYPES = ['', 'call', 'return', 'error', 'signal'];
-const FIELD_NAMES = ['', 'path', 'interface', 'member', 'error', 'reply', 'destination', 'sender', 'signature', 'unix_fds'];
-const ALIGNMENTS = { y: 1, b: 4, n: 2, q: 2, i: 4, u: 4, x: 8, t: 8, d: 8, s: 4, o: 4, g: 1, a: 4, '(': 8, '{': 8, v: 1 };
+const FIELD_NAMES =
+    ['', 'path', 'interface', 'member', 'error', 'reply', 'destination', 'sender', 'signature', 'unix_fds'];
+const ALIGNMENTS = {
+    y: 1,
+    b: 4,
+    n: 2,
+    q: 2,
+    i: 4,
+    u: 4,
+    x: 8,
+    t: 8,
+    d: 8,
+    s: 4,
+    o: 4,
+    g: 1,
+    a: 4,
+    '(': 8,
+    '{': 8,
+    v: 1
+};
 
 const DIGITS = new Uint8Array(128);
 for (let k = 0; k < 16; k++) DIGITS['0123456789abcdef'.charCodeAt(k)] = k;
 
 function bytesOf(digits) {
     const bytes = new Uint8Array(digits.length >> 1);
-    for (let k = 0; k < bytes.length; k++) bytes[k] = DIGITS[digits.charCodeAt(2 * k)] << 4 | DIGITS[digits.charCodeAt(2 * k + 1)];
+    for (let k = 0; k < bytes.length; k++)
+        bytes[k] = DIGITS[digits.charCodeAt(2 * k)] << 4 | DIGITS[digits.charCodeAt(2 * k + 1)];
     return bytes;
 }
 
@@ -54,9 +73,10 @@ function partsOf(type) {
 
 // what items are called that others are made of
 const LENGTH = what => `length of the ${what}`, SIGNATURE = what => `signature of the ${what}`;
-const FIELD = (what, k) => `${what}.${k + 1}`, ENTRY = (what, k) => `${what}.${k ? 'value' : 'key'}`, ELEMENT = (what, k) => `${what}[${k}]`;
+const FIELD = (what, k) => `${what}.${k + 1}`, ENTRY = (what, k) => `${what}.${k ? 'value' : 'key'}`,
+      ELEMENT = (what, k) => `${what}[${k}]`;
 
-const utf8 = new TextDecoder('utf-8', { fatal: true });
+const utf8 = new TextDecoder('utf-8', {fatal: true});
 
 class Decoder {
     constructor(bytes, note) {
@@ -68,7 +88,8 @@ class Decoder {
     }
 
     need(count) {
-        if (this.at + count > this.bytes.length) throw new Error(`the bytes end at ${this.bytes.length}, inside an item`);
+        if (this.at + count > this.bytes.length)
+            throw new Error(`the bytes end at ${this.bytes.length}, inside an item`);
     }
 
     pad(alignment) {
@@ -76,7 +97,8 @@ class Decoder {
         const to = Math.ceil(from / alignment) * alignment;
         if (to === from) return;
         this.need(to - from);
-        for (let k = from; k < to; k++) if (this.bytes[k]) throw new Error(`the padding byte at ${k} is not 0`);
+        for (let k = from; k < to; k++)
+            if (this.bytes[k]) throw new Error(`the padding byte at ${k} is not 0`);
         this.at = to;
         if (this.note) this.note(from, to, 'padding', '');
     }
@@ -91,9 +113,7 @@ class Decoder {
     }
 
     // what an item is called, where somebody asks
-    named(name, ...what) {
-        return this.note ? name(...what) : '';
-    }
+    named(name, ...what) { return this.note ? name(...what) : ''; }
 
     // a text with a length before it and a zero byte behind it
     text(length, what) {
@@ -120,17 +140,30 @@ class Decoder {
         const code = type[0];
         if (code !== 'y' && code !== 'v' && code !== 'g') this.pad(ALIGNMENTS[code]);
         switch (code) {
-        case 's': case 'o': return { type, v: this.text(this.u32(this.named(LENGTH, what)), what) };
-        case 'g': return { type, v: this.signature(what) };
-        case 'v': {
-            const inner = this.signature(this.named(SIGNATURE, what));
-            if (typesIn(inner).length !== 1) throw new Error(`the variant at ${this.at} is not of one type`);
-            return { type, v: this.value(inner, what, depth + 1) };
-        }
-        case 'a': return this.array(type, what, depth);
-        case '(': return { type, v: partsOf(type).map((part, k) => this.value(part, this.named(FIELD, what, k), depth + 1)) };
-        case '{': return { type, v: partsOf(type).map((part, k) => this.value(part, this.named(ENTRY, what, k), depth + 1)) };
-        default: return { type, v: this.number(code, what) };
+            case 's':
+            case 'o':
+                return {type, v: this.text(this.u32(this.named(LENGTH, what)), what)};
+            case 'g':
+                return {type, v: this.signature(what)};
+            case 'v': {
+                const inner = this.signature(this.named(SIGNATURE, what));
+                if (typesIn(inner).length !== 1) throw new Error(`the variant at ${this.at} is not of one type`);
+                return {type, v: this.value(inner, what, depth + 1)};
+            }
+            case 'a':
+                return this.array(type, what, depth);
+            case '(':
+                return {
+                    type,
+                    v: partsOf(type).map((part, k) => this.value(part, this.named(FIELD, what, k), depth + 1))
+                };
+            case '{':
+                return {
+                    type,
+                    v: partsOf(type).map((part, k) => this.value(part, this.named(ENTRY, what, k), depth + 1))
+                };
+            default:
+                return {type, v: this.number(code, what)};
         }
     }
 
@@ -143,28 +176,44 @@ class Decoder {
         const values = [];
         while (this.at < end) values.push(this.value(element, this.named(ELEMENT, what, values.length), depth + 1));
         if (this.at !== end) throw new Error(`the array that ends at ${end} is passed`);
-        return { type, v: values };
+        return {type, v: values};
     }
 
     number(code, what) {
-        const size = { y: 1, n: 2, q: 2, b: 4, i: 4, u: 4, x: 8, t: 8, d: 8 }[code];
+        const size = {y: 1, n: 2, q: 2, b: 4, i: 4, u: 4, x: 8, t: 8, d: 8}[code];
         this.need(size);
-        const at = this.at, { view, little } = this;
+        const at = this.at, {view, little} = this;
         this.at += size;
         let value;
         switch (code) {
-        case 'y': value = view.getUint8(at); break;
-        case 'n': value = view.getInt16(at, little); break;
-        case 'q': value = view.getUint16(at, little); break;
-        case 'i': value = view.getInt32(at, little); break;
-        case 'u': value = view.getUint32(at, little); break;
-        case 'x': value = view.getBigInt64(at, little); break;
-        case 't': value = view.getBigUint64(at, little); break;
-        case 'd': value = '0x' + view.getBigUint64(at, little).toString(16).padStart(16, '0'); break;
-        case 'b':
-            value = view.getUint32(at, little);
-            if (value > 1) throw new Error(`the boolean at ${at} is neither 0 nor 1`);
-            value = value === 1;
+            case 'y':
+                value = view.getUint8(at);
+                break;
+            case 'n':
+                value = view.getInt16(at, little);
+                break;
+            case 'q':
+                value = view.getUint16(at, little);
+                break;
+            case 'i':
+                value = view.getInt32(at, little);
+                break;
+            case 'u':
+                value = view.getUint32(at, little);
+                break;
+            case 'x':
+                value = view.getBigInt64(at, little);
+                break;
+            case 't':
+                value = view.getBigUint64(at, little);
+                break;
+            case 'd':
+                value = '0x' + view.getBigUint64(at, little).toString(16).padStart(16, '0');
+                break;
+            case 'b':
+                value = view.getUint32(at, little);
+                if (value > 1) throw new Error(`the boolean at ${at} is neither 0 nor 1`);
+                value = value === 1;
         }
         if (this.note) this.note(at, this.at, what, String(value));
         return value;
@@ -184,7 +233,7 @@ function decodeMessage(bytes, note) {
     if (bytes[3] !== 1) throw new Error('the version at 3 is not 1');
     decoder.at = 4;
     const bodyLength = decoder.u32('length of the body');
-    const message = { order: decoder.little ? 'l' : 'B', type: bytes[1], flags: bytes[2], serial: decoder.u32('serial') };
+    const message = {order: decoder.little ? 'l' : 'B', type: bytes[1], flags: bytes[2], serial: decoder.u32('serial')};
     if (message.serial === 0) throw new Error('the serial at 8 is 0');
     const fieldsEnd = 16 + decoder.u32('length of the fields');
     while (decoder.at < fieldsEnd) readField(decoder, message);
@@ -212,18 +261,27 @@ function readField(decoder, message) {
 // The text of a value and of a message, as a trace has them.
 function valueText(value) {
     switch (value.type[0]) {
-    case 's': case 'o': case 'g': return quote(value.v);
-    case 'a': return '[' + value.v.map(valueText).join(' ') + ']';
-    case '(': return '(' + value.v.map(valueText).join(' ') + ')';
-    case '{': return '{' + value.v.map(valueText).join(' ') + '}';
-    case 'v': return `<${value.v.type} ${valueText(value.v)}>`;
-    default: return String(value.v);
+        case 's':
+        case 'o':
+        case 'g':
+            return quote(value.v);
+        case 'a':
+            return '[' + value.v.map(valueText).join(' ') + ']';
+        case '(':
+            return '(' + value.v.map(valueText).join(' ') + ')';
+        case '{':
+            return '{' + value.v.map(valueText).join(' ') + '}';
+        case 'v':
+            return `<${value.v.type} ${valueText(value.v)}>`;
+        default:
+            return String(value.v);
     }
 }
 
 function messageText(message) {
     const words = [MESSAGE_TYPES[message.type] || `type-${message.type}`, message.order, message.flags, message.serial];
-    for (const name of FIELD_NAMES.slice(1, 9)) if (message[name] !== undefined && message[name] !== '') words.push(`${name}=${message[name]}`);
+    for (const name of FIELD_NAMES.slice(1, 9))
+        if (message[name] !== undefined && message[name] !== '') words.push(`${name}=${message[name]}`);
     if (message.body.length) words.push('[' + message.body.map(valueText).join(' ') + ']');
     return words.join(' ');
 }
