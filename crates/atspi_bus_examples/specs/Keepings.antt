@@ -9,4 +9,5 @@ one_list given name list = record { given = given; unique = empty; lists = inser
 
 -- so many unique names were given; one connection has one, and that name has a list
 abbrev pub one_caller : ℕ → ℕ → List ℕ → List (ℕ × ℕ) → Owners
-one_caller given conn name list = record { given = given; unique = insert empty conn name; lists = insert empty name list }
+one_caller given conn name list =
+    record { given = given; unique = insert empty conn name; lists = insert empty name list }

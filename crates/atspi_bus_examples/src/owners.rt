@@ -20,7 +20,9 @@ pub fn flags()
     ensures replace_not { replaces_existing 5 ≡ false }
     ensures no_queue { forbids_queueing 4 ≡ true }
     ensures no_queue_not { forbids_queueing 3 ≡ false }
-    ensures unnamed { forbids_queueing 8 ≡ false }
+    ensures unnamed_allow { allows_replacement 8 ≡ false }
+    ensures unnamed_replace { replaces_existing 8 ≡ false }
+    ensures unnamed_no_queue { forbids_queueing 8 ≡ false }
 {}
 
 /// Nobody has the name: the connection owns it (answer 1), whatever its flags.

@@ -1,8 +1,8 @@
-use Rattle.std.proofs.Common.{◌≡◌, refl, arith}
-use Rattle.std.specs.Prelude.{codes, None}
+use Rattle.std.proofs.Common.{refl, arith}
+use Rattle.std.specs.Prelude.{codes}
 use Rattle.std.specs.FinMap as finmap
 use Rattle.std.specs.FinMap.{gets}
-use Rattle.atspi_names.specs.Owners.{Owners, nobody, after_hello, after_request}
+use Rattle.atspi_names.specs.Owners.{nobody, after_hello, after_request}
 use Rattle.atspi_bus_laws.specs.owners.Orderly.{IsOrderly}
 use Rattle.atspi_bus_laws.proofs.OfOwners.Steps.{orderly-nobody, orderly-hello, orderly-request, orderly-release, orderly-gone}
 use Rattle.atspi_bus_examples.proofs.orderly.kept.Goals as goal

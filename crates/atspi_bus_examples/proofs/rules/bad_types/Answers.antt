@@ -1,4 +1,4 @@
-use Rattle.std.proofs.Common.{◌≡◌, ◌≢◌, ℕ, List, [], ◌∷◌, length, get_or, inl, inr, refl, ap, arith}
+use Rattle.std.proofs.Common.{◌≢◌, ℕ, List, [], length, get_or, inl, refl, ap, arith}
 use Rattle.std.specs.Prelude.{codes}
 use Rattle.atspi_match.specs.Conditions.{type_text}
 use Rattle.atspi_match.specs.RuleFaults.{IsUnknown, IsNoValue, FirstRuleFault}

@@ -1,4 +1,4 @@
-use Rattle.std.proofs.Common.{◌≡◌, ◌≢◌, ℕ, List, [], ◌∷◌, Bool, true, false, length, get_or, inl, inr, refl, ap, subst, arith}
+use Rattle.std.proofs.Common.{◌≡◌, ◌≢◌, ℕ, List, [], Bool, true, false, length, get_or, inl, inr, refl, ap, subst, arith}
 use Rattle.std.specs.Prelude.{codes}
 use Rattle.atspi_base.specs.valid_names.Names.{IsMember, IsPath}
 use Rattle.atspi_match.specs.Conditions.{bool_text}

@@ -1,4 +1,4 @@
-use Rattle.std.proofs.Common.{◌≡◌, [], ◌∷◌, refl, arith}
+use Rattle.std.proofs.Common.{[], ◌∷◌, refl, arith}
 use Rattle.std.specs.Prelude.{codes}
 use Rattle.atspi_match.specs.RuleFaults.{FirstRuleFault}
 use Rattle.atspi_match.proofs.ItemLemmas.{bare_here}

@@ -1,4 +1,4 @@
-use Rattle.std.proofs.Common.{◌≡◌, ℕ, zero, suc, List, [], ◌∷◌, map, length, inl, inr, refl, ap, arith}
+use Rattle.std.proofs.Common.{zero, suc, [], ◌∷◌, map, length, inl, inr, refl, ap, arith}
 use Rattle.std.specs.Prelude.{codes, Contains}
 use Rattle.atspi_match.specs.Grammar.{is_quotable, quoted, plain}
 use Rattle.atspi_match.specs.RuleFaults.{IsUnknown, IsRival, FirstRuleFault}

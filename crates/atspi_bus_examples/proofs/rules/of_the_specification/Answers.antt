@@ -1,4 +1,4 @@
-use Rattle.std.proofs.Common.{◌≡◌, ◌≢◌, true, false, ℕ, List, [], inr, refl, arith}
+use Rattle.std.proofs.Common.{◌≡◌, ◌≢◌, true, false, ℕ, inr, refl, arith}
 use Rattle.std.specs.Prelude.{codes}
 use Rattle.atspi_bus_examples.proofs.Faults.{word}
 use Rattle.atspi_bus_examples.proofs.rules.of_the_specification.Goals as goal

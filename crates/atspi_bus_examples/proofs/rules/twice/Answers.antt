@@ -1,9 +1,8 @@
-use Rattle.std.proofs.Common.{◌≡◌, ℕ, List, [], ◌∷◌, refl, arith}
+use Rattle.std.proofs.Common.{[], ◌∷◌, refl, arith}
 use Rattle.std.specs.Prelude.{codes, Contains}
 use Rattle.atspi_match.specs.RuleFaults.{IsUnknown, FirstRuleFault}
 use Rattle.atspi_match.specs.declared.condition.Condition.TheVariants.{Kind}
 use Rattle.atspi_match.specs.declared.condition.MessageType.TheVariants.{Signal}
-use Rattle.atspi_match.proofs.ItemLemmas.{Here}
 use Rattle.atspi_match.proofs.FaultLemmas.{twice_first}
 use Rattle.atspi_bus_examples.proofs.Faults.{behind, only, key_at, signal_rule, after_signal}
 use Rattle.atspi_bus_examples.proofs.rules.twice.Goals as goal

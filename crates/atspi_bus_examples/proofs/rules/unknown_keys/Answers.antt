@@ -1,4 +1,4 @@
-use Rattle.std.proofs.Common.{◌≡◌, [], refl, arith}
+use Rattle.std.proofs.Common.{[], refl, arith}
 use Rattle.std.specs.Prelude.{codes}
 use Rattle.atspi_match.specs.RuleFaults.{FirstRuleFault}
 use Rattle.atspi_match.specs.inner.Keys.{key_in, named_key, arg_key, index_in, digit_at}
