@@ -1,6 +1,6 @@
 -- THE HEADLINE, ON ONE PAGE: which traces the lines of a script may have. Each law is said of the run alone: of its
--- lines and entries, and of the bytes that links moved between them (`Words` and `Links` have the words). All else are the
--- standards' own definitions: trees and steps, announcements, answers, names and match rules, the registry, speech.
+-- lines and entries, and of the bytes that links moved between them (`Words` and `Links` have the words). All else are
+-- the standards' own definitions: trees and steps, announcements, answers, names and match rules, the registry, speech.
 use Rattle.std.specs.Prelude.{◌≡◌, ◌==◌, ◌&&◌, ◌||◌, not, nat_le, pos, negsuc, Bool, true, false, List, [], ◌∷◌, ◌++◌}
 use Rattle.std.specs.Prelude.{length, map, filter, filter_map, flat_map, fold, Option, None, Some, option_map, is_some}
 use Rattle.std.specs.Prelude.{bytes_eq, codes, Result, Ok, Err, if◌then◌else◌, ℕ, ℤ}
@@ -50,8 +50,8 @@ use Rattle.atspi_headline.specs.Words.{is_app, is_reader, count_of, heard_pairs,
 use Rattle.atspi_headline.specs.Words.{rule_of, pattern_of, Held, held_of, told_in, IsFrontIf, is_last, IsDueBehind}
 use Rattle.atspi_headline.specs.Links.{moves_at, completed, next_turn, bytes_move, drops_due}
 
--- SEGMENTS. A run begins with a line. An end starts behind its line, and nowhere else. Bytes are moved behind three lines
--- alone: `bytes` makes one move; `turns` and `drain` make turns, each the first thing that waits.
+-- SEGMENTS. A run begins with a line. An end starts behind its line, and nowhere else. Bytes are moved behind three
+-- lines alone: `bytes` makes one move; `turns` and `drain` make turns, each the first thing that waits.
 abbrev pub BeginsWithLine : List Act → Type 0
 BeginsWithLine (begins_line line ∷ acts) = Unit {0}
 BeginsWithLine [] = Unit {0}
@@ -81,7 +81,8 @@ pub record LawOfSegments (broken : Bool) (run : List Act) : Type 0 where
   pub starts : AreDue broken starting start_due run
   pub moves : Everywhere MovesBehind run
 
--- 1. THE LAW OF STEPS. The steps behind a line are those of its edit of the live tree; behind a call that an application
+-- 1. THE LAW OF STEPS. The steps behind a line are those of its edit of the live tree; behind a call that an
+--    application
 -- takes they are those of its answer; behind anything else there is none.
 abbrev pub steps_or_none : Result (List Step) EditFault → List Step
 steps_or_none (Ok steps) = steps
@@ -185,8 +186,8 @@ LawOfApplications broken run =
     Everywhere (λ before act behind. Unless (is_done act) (IsSaid broken before act behind)) run
 
 -- 3. THE LAW OF BUS AND LINKS. Behind a move stand the messages whose last byte it moves, in order, and no others: so
--- what an end took of its link is what lies whole within the bytes moved, however they were cut. A move of an end that is
--- dropped ends there.
+-- what an end took of its link is what lies whole within the bytes moved, however they were cut. A move of an end that
+-- is dropped ends there.
 abbrev pub got_of : Party → Party × Envelope → Entry
 got_of taker m = got taker m.0 m.1.serial
 
@@ -336,7 +337,8 @@ pub record LawOfReaders (broken : Bool) (run : List Act) : Type 0 where
   pub readers_call
       : Everywhere (λ before act behind. Unless (writes_a of_reader act) (CallsAre broken before act behind)) run
 
--- 5. THE LAW OF SHOWN ROWS. Behind a line `show`, and nowhere else, stand the rows of the view of the application's tree
+-- 5. THE LAW OF SHOWN ROWS. Behind a line `show`, and nowhere else, stand the rows of the view of the application's
+--    tree
 -- as of the last message taken, with the parts that were told; nothing of one that is not held.
 abbrev pub index_below : Option (List ℕ) → ℕ → ℤ
 index_below None i = negsuc 0
@@ -360,8 +362,8 @@ abbrev pub LawOfShownRows : Bool → List Act → Type 0
 LawOfShownRows broken run = AreDue broken showing rows_due run
 
 -- 6. THE LAW OF SPOKEN LINES. Behind a message of an application that it holds, which announces a step, a reader speaks
--- the lines of the step, read from the tree as of the message; behind the news of its end one line, with the root's name
--- as of the last message taken. It speaks nothing else.
+-- the lines of the step, read from the tree as of the message; behind the news of its end one line, with the root's
+-- name as of the last message taken. It speaks nothing else.
 abbrev pub is_first_covered : List (List ℕ × List ℕ) → List Signal → Bool
 is_first_covered pairs [] = false
 is_first_covered pairs (announcement ∷ echoes) = is_covered pairs announcement.event announcement.minor
@@ -395,9 +397,10 @@ spoken_due before act = []
 abbrev pub LawOfSpokenLines : Bool → List Act → Type 0
 LawOfSpokenLines broken run = AreDue broken speaking spoken_due run
 
--- 7. THE LAW OF EXITS. An end exits behind its line, and nowhere else; behind that nothing of it stands. Directly behind
--- each message by which a reader learns that an application's name is nobody's stands that it is gone, and nowhere else;
--- behind that the reader takes nothing of it.
+-- 7. THE LAW OF EXITS. An end exits behind its line, and nowhere else; behind that nothing of it stands. Directly
+--    behind
+-- each message by which a reader learns that an application's name is nobody's stands that it is gone, and nowhere
+-- else; behind that the reader takes nothing of it.
 abbrev pub exit_due : List Act → Act → List Entry
 exit_due before (begins_line (Exit app)) = exited (App app) ∷ []
 exit_due before (begins_line (Leave reader)) = exited (Reader reader) ∷ []
@@ -527,8 +530,8 @@ pub record LawfulRun (broken : Bool) (run : List Act) : Type 0 where
   pub at_quiet : LawOfQuiet broken run
   pub drops : LawOfDroppedEnds broken run
 
--- THE HEADLINE: these lines have this trace in a run that keeps all laws; or a trace is broken off while the last line is
--- done, and keeps all laws up to there
+-- THE HEADLINE: these lines have this trace in a run that keeps all laws; or a trace is broken off while the last line
+-- is done, and keeps all laws up to there
 pub record IsTrace (broken : Bool) (lines : List Line) (trace : List Entry) : Type 0 where
   pub run : List Act
   pub of_lines : lines_in run ≡ lines

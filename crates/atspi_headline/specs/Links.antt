@@ -148,8 +148,8 @@ completed before who up count =
     let ms = link before who up in
     drop (length (whole_in (moved before who up) ms)) (whole_in (moved before who up + count) ms)
 
--- WHAT WAITS: bytes of a live end's link; an end that stopped. A turn moves the first thing that waits, the links to the
--- bus first, in order of joining: all missing bytes of a message, or the end.
+-- WHAT WAITS: bytes of a live end's link; an end that stopped. A turn moves the first thing that waits, the links to
+-- the bus first, in order of joining: all missing bytes of a message, or the end.
 abbrev pub waiting : List Act → Party → Bool → ℕ
 waiting run who up = if is_live run who then sizes (link run who up) - moved run who up else 0
 
@@ -179,8 +179,8 @@ bytes_move run who up count =
     if up && (is_stopped run who && nat_lt 0 count) then takes_end who
     else moves_bytes who up (min count (waiting run who up))
 
--- WHO IS TO BE DROPPED, in order, with the bytes that waited and those of the message: at the first delivery to each end
--- that its quota does not let in
+-- WHO IS TO BE DROPPED, in order, with the bytes that waited and those of the message: at the first delivery to each
+-- end that its quota does not let in
 abbrev pub drop_at : ℕ → List Delivery → Delivery → List Entry
 drop_at quota before d =
     let own = filter (is_to d.to) before in

@@ -29,7 +29,8 @@ use Rattle.atspi_trace.specs.Entry.{Entry, started, changed, sent, got, heard, u
 use Rattle.atspi_trace.specs.Entry.{dropped, busy, quiet}
 
 -- WHAT HAPPENED, one thing after another: the next line of the script begins; so many bytes of a party's link are
--- moved, of that to the bus (true) or of that from it; the bus takes the end of one that stopped; the trace has an entry
+-- moved, of that to the bus (true) or of that from it; the bus takes the end of one that stopped; the trace has an
+-- entry
 pub data Act : Type 0 where
   begins_line : Line → Act
   moves_bytes : Party → Bool → ℕ → Act
@@ -59,9 +60,9 @@ lines_in run = filter_map line_in run
 abbrev pub entries_in : List Act → List Entry
 entries_in run = filter_map entry_in run
 
--- the kinds of entries that laws speak of: a start, a step, a message of the bus, of the registry, of an application, of
--- a reader, a message taken, a change of what is heard, a spoken line, shown rows, an exit, the news that one is gone, a
--- drop, the word that something waits or nothing
+-- the kinds of entries that laws speak of: a start, a step, a message of the bus, of the registry, of an application,
+-- of a reader, a message taken, a change of what is heard, a spoken line, shown rows, an exit, the news that one is
+-- gone, a drop, the word that something waits or nothing
 pub data Kind : Type 0 where
   starting : Kind
   stepping : Kind
@@ -239,7 +240,8 @@ before_sent who serial (act ∷ acts) = if is_sent_as who serial act then [] els
 abbrev pub as_of : List Act → ℕ → ℕ → Forest TreeRow
 as_of run app serial = live_tree (before_sent (App app) serial run) app
 
--- MESSAGES that a party sent, in order; that with a serial, none or one, as the bus hands it on: under its sender's name
+-- MESSAGES that a party sent, in order; that with a serial, none or one, as the bus hands it on: under its sender's
+-- name
 abbrev pub sent_by : Party → Act → Option Envelope
 sent_by who (writes (sent other e)) = if is_same other who then Some e else None
 sent_by who act = None
@@ -289,7 +291,8 @@ count_of kind run = length (filter kind (ends run))
 
 -- WHAT AN APPLICATION HAS HEARD OF: pairs of a listener's bus name and a pattern
 abbrev pub pairs_after : ℕ → List (List ℕ × List ℕ) → Act → List (List ℕ × List ℕ)
-pairs_after app pairs (writes (heard a listener pattern)) = if a == app then pairs ++ (listener, pattern) ∷ [] else pairs
+pairs_after app pairs (writes (heard a listener pattern)) = if a == app then pairs ++ (listener, pattern) ∷ []
+    else pairs
 pairs_after app pairs (writes (unheard a listener pattern)) = if a == app
     then filter (λ p. not (is_pair (listener, pattern) p)) pairs else pairs
 pairs_after app pairs act = pairs
@@ -297,8 +300,8 @@ pairs_after app pairs act = pairs
 abbrev pub heard_pairs : List Act → ℕ → List (List ℕ × List ℕ)
 heard_pairs run app = fold (pairs_after app) [] run
 
--- its calls so far are those of its start: Hello, AddMatch, GetRegisteredEvents, Embed. Each but the first stands behind
--- the return to the one before.
+-- its calls so far are those of its start: Hello, AddMatch, GetRegisteredEvents, Embed. Each but the first stands
+-- behind the return to the one before.
 abbrev pub calls_of : List Act → ℕ → List Envelope
 calls_of before app = filter (λ (e : Envelope). e.kind == 1) (messages before (App app))
 

@@ -22,8 +22,8 @@ pub fn of_applications()
     ensures untold { signals_due loaded (changed 0 renaming) ≡ [] }
 {}
 
-/// A reader shows what it loaded, and another reader nothing. It speaks the lines of a step whose announcement was asked
-/// for, and of no other; and one line where the application is gone.
+/// A reader shows what it loaded, and another reader nothing. It speaks the lines of a step whose announcement was
+/// asked for, and of no other; and one line where the application is gone.
 pub fn of_readers()
     ensures shown { rows_due loaded (begins_line (Show 0 0)) ≡ showed 0 0 (Some (root_row ∷ [])) ∷ [] }
     ensures another { rows_due loaded (begins_line (Show 1 0)) ≡ showed 1 0 None ∷ [] }

@@ -3,7 +3,8 @@
 ghost use Rattle.atspi_headline_examples.specs.Refused.{IsRefusedBy, of_steps, of_applications, of_links, of_readers};
 ghost use Rattle.atspi_headline_examples.specs.Refused.{of_shown_rows, of_spoken_lines, of_exits, of_quiet};
 ghost use Rattle.atspi_headline_examples.specs.Refused.{of_dropped_ends};
-ghost use Rattle.atspi_headline_examples.specs.Runs.{unedited, edited_twice, skipped, unasked, unmoved, uncaused, unheard_of, unanswered};
+ghost use Rattle.atspi_headline_examples.specs.Runs.{unedited, edited_twice, skipped, unasked, unmoved, uncaused};
+ghost use Rattle.atspi_headline_examples.specs.Runs.{unheard_of, unanswered};
 ghost use Rattle.atspi_headline_examples.specs.Runs.{unheld, unspoken, edited_late, gone_early, untold, quiet_early};
 ghost use Rattle.atspi_headline_examples.specs.Runs.{made_up};
 
@@ -14,8 +15,8 @@ pub fn of_trees()
     ensures unasked { IsRefusedBy of_applications unasked }
 {}
 
-/// A message that is taken without its bytes, and one that is not taken with its last byte; one of the bus's own without a cause; the registry dropped
-/// with made-up numbers.
+/// A message that is taken without its bytes, and one that is not taken with its last byte; one of the bus's own
+/// without a cause; the registry dropped with made-up numbers.
 pub fn of_the_bus()
     ensures unmoved { IsRefusedBy of_links unmoved }
     ensures skipped { IsRefusedBy of_links skipped }
