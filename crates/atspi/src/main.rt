@@ -45,10 +45,8 @@ fn main(rt: HostRuntime) -> ExitCode {
         Err(TextFault::NoMemory) => return ExitCode::from(5),
         Err(_) => return ExitCode::from(run(alloc, &words, &mut source, &mut sink)),
     };
-    let Ok(mut host) = NetHost::new(alloc, &rt, live.rest()) else {
-        return ExitCode::from(5);
-    };
+    let mut host = NetHost::new(alloc, &rt, live.rest());
     let status = do_live(alloc, live, &path, &mut source, &mut sink, &mut host);
-    host.leave(&path);
+    host.leave();
     ExitCode::from(status)
 }

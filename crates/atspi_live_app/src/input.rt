@@ -29,6 +29,7 @@ pub(crate) fn read_all<S: Source>(source: &mut S, text: &mut Vec<u8>) -> Result<
     ensures read { IfOk result (λ end. HasRead end (S.left source.old) (S.left source.new) text.new.items) }
     ensures limit { IfOk result (λ _. length text.new.items ≤ INPUT_LIMIT) }
     ensures cause { Blames result (S.faults source.old) (S.faults source.new) }
+    ensures later { S.faults source.old ≤ S.faults source.new }
 {
     let mut chunk = [0u8; 4096];
     loop {

@@ -21,6 +21,7 @@ use std::alloc::Global;
 fn tell_refused<K: Sink>(alloc: Global, number: u64, why: Refused, sink: &mut K) -> u8
     ensures writes { WritesRefusal (refused_text number why) result (K.written sink.old) (K.written sink.new) }
     ensures cause { SinkBlamed result (K.faults sink.old) (K.faults sink.new) }
+    ensures later { K.faults sink.old ≤ K.faults sink.new }
 {
     let mut line = Bytes::new(alloc);
     if put_refused(number, why, &mut line).is_err() {
@@ -36,6 +37,7 @@ fn tell_refused<K: Sink>(alloc: Global, number: u64, why: Refused, sink: &mut K)
 fn tell<K: Sink>(alloc: Global, over: Over, sink: &mut K) -> u8
     ensures reports { OverReports over result (K.written sink.old) (K.written sink.new) }
     ensures cause { SinkBlamed result (K.faults sink.old) (K.faults sink.new) }
+    ensures later { K.faults sink.old ≤ K.faults sink.new }
 {
     match over {
         Over::Ended(ending) => report(alloc, ending, sink),
@@ -63,6 +65,7 @@ fn run_on<A: Application, K: Sink, H: Host>(
         (K.written sink.old) (K.written sink.new) }
     ensures causes { Causes result (H.faults host.old) (H.faults host.new) (H.link_faults host.old)
         (H.link_faults host.new) (K.faults sink.old) (K.faults sink.new) }
+    ensures later { K.faults sink.old ≤ K.faults sink.new }
 {
     let Did::Done(link) = host.connect(path) else {
         return 7;
@@ -100,6 +103,8 @@ pub fn app<A: Application, S: Source, K: Sink, H: Host>(
         (K.written sink.new) }
     ensures causes { Causes result (H.faults host.old) (H.faults host.new) (H.link_faults host.old)
         (H.link_faults host.new) (K.faults sink.old) (K.faults sink.new) }
+    ensures later { K.faults sink.old ≤ K.faults sink.new }
+    ensures source_later { S.faults source.old ≤ S.faults source.new }
 {
     let mut text = Vec::new(alloc);
     match read_all(source, &mut text) {

@@ -1,5 +1,6 @@
 //! The line of a fault of the peer, and the status of a run.
 
+ghost use Rattle.std.specs.Prelude.{◌≤◌};
 ghost use Rattle.atspi_script.specs.FaultText.{fault_line};
 ghost use Rattle.atspi_live_conversation.specs.Reports.{Reports, SinkBlamed, Writes};
 
@@ -12,6 +13,7 @@ use std::alloc::Global;
 fn tell_fault<K: Sink>(alloc: Global, start: u64, place: u64, reason: u8, sink: &mut K) -> u8
     ensures writes { Writes (fault_line start place reason) result (K.written sink.old) (K.written sink.new) }
     ensures cause { SinkBlamed result (K.faults sink.old) (K.faults sink.new) }
+    ensures later { K.faults sink.old ≤ K.faults sink.new }
 {
     let mut line = Bytes::new(alloc);
     if put_fault(start, place, reason, &mut line).is_err() {
@@ -27,6 +29,7 @@ fn tell_fault<K: Sink>(alloc: Global, start: u64, place: u64, reason: u8, sink: 
 pub fn report<K: Sink>(alloc: Global, ending: Ending, sink: &mut K) -> u8
     ensures reports { Reports ending result (K.written sink.old) (K.written sink.new) }
     ensures cause { SinkBlamed result (K.faults sink.old) (K.faults sink.new) }
+    ensures later { K.faults sink.old ≤ K.faults sink.new }
 {
     match ending {
         Ending::PeerEnded => 0,

@@ -25,6 +25,7 @@ fn speak<K: Sink>(end: &mut LiveReader, sink: &mut K) -> Result<(), Over>
     ensures err { IfErr result (λ over. IsMuted over end.old (K.written sink.old) (K.written sink.new)) }
     ensures cause { MatchResult result (λ _. K.faults sink.new ≡ K.faults sink.old)
         (λ over. BlamesSink over (K.faults sink.old) (K.faults sink.new)) }
+    ensures later { K.faults sink.old ≤ K.faults sink.new }
 {
     if end.starved {
         return Err(Over::Ended(Ending::NoMemory));
@@ -75,6 +76,7 @@ fn turn<K: Sink, H: Host>(
     ensures other { H.faults host.new ≡ H.faults host.old }
     ensures sink { MatchResult result (λ _. K.faults sink.new ≡ K.faults sink.old)
         (λ over. BlamesSink over (K.faults sink.old) (K.faults sink.new)) }
+    ensures later { K.faults sink.old ≤ K.faults sink.new }
 {
     if let Err(ending) = round(host, link, piece, conversation, end) {
         return Err(Over::Ended(ending));
@@ -102,6 +104,7 @@ pub(crate) fn follow<K: Sink, H: Host>(
     ensures cause { OverBlames result (H.link_faults host.old) (H.link_faults host.new) }
     ensures other { H.faults host.new ≡ H.faults host.old }
     ensures sink { BlamesSink result (K.faults sink.old) (K.faults sink.new) }
+    ensures later { K.faults sink.old ≤ K.faults sink.new }
 {
     let mut conversation = Conversation::new(alloc);
     let mut piece = [0u8; PIECE];

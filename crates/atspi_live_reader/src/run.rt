@@ -1,6 +1,6 @@
 //! A run of a reader on a Unix socket.
 
-ghost use Rattle.std.specs.Prelude.{◌≡◌, ℕ, List, [], false, IfErr, IsTrue, MatchResult, OnOk};
+ghost use Rattle.std.specs.Prelude.{◌≡◌, ◌≤◌, ℕ, List, [], false, IfErr, IsTrue, MatchResult, OnOk};
 ghost use Rattle.std.specs.Io.KnownBytes.{Appends};
 ghost use Rattle.atspi_reader.specs.ReaderOf.{IsReader};
 ghost use Rattle.atspi_live_conversation.specs.Reports.{Begins, SinkBlamed};
@@ -42,6 +42,7 @@ fn tell_last<K: Sink>(
         → WritesPart status words (K.written sink.old) (K.written sink.new)) }
     ensures cause { MatchResult result (λ _. K.faults sink.new ≡ K.faults sink.old)
         (λ status. SinkBlamed status (K.faults sink.old) (K.faults sink.new)) }
+    ensures later { K.faults sink.old ≤ K.faults sink.new }
 {
     let Ok(()) = end.conclude(alloc, ending) else {
         return Err(5);
@@ -59,6 +60,7 @@ fn tell<K: Sink>(alloc: Global, ending: Ending, end: &mut LiveReader, sink: &mut
     ensures reports { (words : List ℕ) → AreWords end.old ending words
         → ReportsLast words ending result (K.written sink.old) (K.written sink.new) }
     ensures cause { SinkBlamed result (K.faults sink.old) (K.faults sink.new) }
+    ensures later { K.faults sink.old ≤ K.faults sink.new }
 {
     if !has_words(ending) {
         return report(alloc, ending, sink);
@@ -96,6 +98,7 @@ pub fn read<K: Sink, H: Host>(
     ensures silent { result ≡ 10 → Appends (K.written sink.old) (K.written sink.new) [] }
     ensures causes { Causes result (H.faults host.old) (H.faults host.new) (H.link_faults host.old)
         (H.link_faults host.new) (K.faults sink.old) (K.faults sink.new) }
+    ensures later { K.faults sink.old ≤ K.faults sink.new }
 {
     let Ok(mut end) = start(alloc) else {
         return 5;

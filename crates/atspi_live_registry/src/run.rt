@@ -1,6 +1,6 @@
 //! A run of the registry on a Unix socket.
 
-ghost use Rattle.std.specs.Prelude.{◌≡◌, []};
+ghost use Rattle.std.specs.Prelude.{◌≡◌, ◌≤◌, []};
 ghost use Rattle.atspi_live_registry.specs.Runs.{AllSpeak, RunEnds};
 ghost use Rattle.atspi_live_conversation.specs.Reports.{Begins, Causes};
 
@@ -32,6 +32,7 @@ pub fn registry<K: Sink, H: Host>(
         (K.written sink.new) }
     ensures causes { Causes result (H.faults host.old) (H.faults host.new) (H.link_faults host.old)
         (H.link_faults host.new) (K.faults sink.old) (K.faults sink.new) }
+    ensures later { K.faults sink.old ≤ K.faults sink.new }
 {
     let Ok(mut end) = start(alloc) else {
         return 5;

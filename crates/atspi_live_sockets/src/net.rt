@@ -1,7 +1,7 @@
 //! The sockets of the system as a host (std's and mio's, which never block). What passes through them is told to no
 //! contract.
 
-ghost use Rattle.std.specs.Prelude.{◌≡◌, [], None, IfOk};
+ghost use Rattle.std.specs.Prelude.{◌≡◌, [], None};
 ghost use Rattle.atspi_live_sockets.specs.Numbers.{numbers};
 
 use crate::refusal::Refusal;
@@ -15,24 +15,32 @@ use std::io::{self, Eprint, ErrorKind};
 use std::net::Net;
 use std::os::unix::fs::FileTypeExt;
 
-/// Non-blocking Unix sockets, with the counts of their faults.
+/// Non-blocking Unix sockets, with the counts of their faults. Its first listen or connect opens what the system needs,
+/// so one that is never called costs nothing.
 #[derive(Drop)]
 pub struct NetHost<'a, R: Files + Net + Eprint> {
+    alloc: Global,
     rt: &'a R,
     sockets: Sockets,
+    /// Where it listens.
+    place: Option<Text>,
 }
 
 impl<'a, R: Files + Net + Eprint> NetHost<'a, R> {
     /// No link is open yet, and no call has failed. A host with a longest rest, in milliseconds, waits so long where a
     /// whole round found nothing ready; without one it waits for nothing.
-    pub fn new(alloc: Global, rt: &'a R, rest: Option<u64>) -> io::Result<Self>
-        ensures links { IfOk result (λ h. ⟦<NetHost<'a, R> as Host>⟧.links h ≡ []) }
-        ensures calls { IfOk result (λ h. ⟦<NetHost<'a, R> as Host>⟧.calls h ≡ None) }
+    pub fn new(alloc: Global, rt: &'a R, rest: Option<u64>) -> Self
+        ensures links { ⟦<NetHost<'a, R> as Host>⟧.links result ≡ [] }
+        ensures calls { ⟦<NetHost<'a, R> as Host>⟧.calls result ≡ None }
+        ensures faults { ⟦<NetHost<'a, R> as Host>⟧.faults result ≡ 0 }
+        ensures link_faults { ⟦<NetHost<'a, R> as Host>⟧.link_faults result ≡ 0 }
     {
-        Ok(NetHost {
+        NetHost {
+            alloc,
             rt,
-            sockets: Sockets::new(alloc, rt, rest)?,
-        })
+            sockets: Sockets::new(alloc, rest),
+            place: None,
+        }
     }
 
     /// Why no listener can be made where a file lies. `Unheard`: it is a socket's at which nobody listens, so that who
@@ -68,11 +76,26 @@ impl<'a, R: Files + Net + Eprint> NetHost<'a, R> {
         UnixListener::bind(self.rt, path.as_str())
     }
 
-    /// The socket's file at the path is removed, where this host listened.
-    pub fn leave(&mut self, path: &Text) {
-        if self.sockets.leave() {
-            let _ = fs::remove_file(self.rt, path.as_str());
+    /// The host listens no more, and the socket's file is removed where it listened.
+    pub fn leave(&mut self) {
+        if !self.sockets.leave() {
+            return;
         }
+        if let Some(place) = &self.place {
+            let _ = fs::remove_file(self.rt, place.as_str());
+        }
+    }
+
+    /// Opens what the system needs, and gives the path as it is to be kept.
+    fn begin(&mut self, path: &Text) -> Option<Text>
+        ensures links { self.new.sockets.links ≡ self.old.sockets.links }
+        ensures faults { self.new.sockets.faults ≡ self.old.sockets.faults }
+        ensures link_faults { self.new.sockets.link_faults ≡ self.old.sockets.link_faults }
+    {
+        if self.sockets.open(self.alloc, self.rt).is_err() {
+            return None;
+        }
+        path.copy(self.alloc).ok()
     }
 
     /// A line of news on standard error. Where it can't be written, nothing else changes.
@@ -98,10 +121,14 @@ impl<'a, R: Files + Net + Eprint> Host for NetHost<'a, R> {
     ghost link_faults = { λ h. h.sockets.link_faults };
 
     fn listen(&mut self, path: &Text) -> Did {
+        let Some(place) = self.begin(path) else {
+            return self.sockets.fails();
+        };
         match self.bind(path) {
             Ok(listener) => {
                 let did = self.sockets.listen(listener);
                 if let Did::Done(_) = did {
+                    self.place = Some(place);
                     self.tell("listens at", path);
                 }
                 did
@@ -118,6 +145,9 @@ impl<'a, R: Files + Net + Eprint> Host for NetHost<'a, R> {
     }
 
     fn connect(&mut self, path: &Text) -> Did {
+        if self.sockets.open(self.alloc, self.rt).is_err() {
+            return self.sockets.fails();
+        }
         match UnixStream::connect(self.rt, path.as_str()) {
             Ok(stream) => {
                 self.tell("is connected to", path);

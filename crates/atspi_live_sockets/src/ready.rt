@@ -9,6 +9,13 @@ use std::time::Duration;
 /// The token of the listener. A link's token is its number, which is less.
 pub(crate) const LISTENER: usize = 1 << 32;
 
+/// The system's poll, and where it puts what it tells.
+#[derive(Drop)]
+struct SystemPoll {
+    poll: Poll,
+    events: Events<Global>,
+}
+
 /// What is known of the sockets. The system tells a change once, so what it told is kept until a call has found
 /// nothing.
 #[derive(Drop)]
@@ -20,8 +27,8 @@ pub(crate) struct Ready {
     moved: bool,
     /// In this round each socket is tried.
     tries_all: bool,
-    poll: Poll,
-    events: Events<Global>,
+    /// None until the first socket is to be named to the system.
+    poll: Option<SystemPoll>,
     /// Those that may have something to read.
     readable: Vec<usize>,
     /// Those whose peer sends no more, or that failed: what was sent before, and then the end, is still to be read.
@@ -31,29 +38,41 @@ pub(crate) struct Ready {
 }
 
 impl Ready {
-    /// Nothing is known of so many sockets at the most. Without a longest rest, in milliseconds, the host waits for
-    /// nothing.
-    pub(crate) fn new(
-        alloc: Global,
-        net: &impl Net,
-        rest: Option<u64>,
-        sockets: usize,
-    ) -> io::Result<Ready> {
-        Ok(Ready {
+    /// Nothing is known of any socket, and the system is asked for nothing yet. Without a longest rest, in
+    /// milliseconds, the host waits for nothing.
+    pub(crate) fn new(alloc: Global, rest: Option<u64>) -> Ready {
+        Ready {
             rest,
             moved: true,
             tries_all: true,
-            poll: Poll::new(net)?,
-            events: Events::with_capacity(alloc, sockets)?,
-            readable: Vec::with_capacity(alloc, sockets)?,
-            ended: Vec::with_capacity(alloc, sockets)?,
-            full: Vec::with_capacity(alloc, sockets)?,
-        })
+            poll: None,
+            readable: Vec::new(alloc),
+            ended: Vec::new(alloc),
+            full: Vec::new(alloc),
+        }
     }
 
-    /// Where sockets are named to the system.
-    pub(crate) fn registry(&self) -> &Registry {
-        self.poll.registry()
+    /// Opens the system's poll for so many sockets at the most, where that was not done yet.
+    pub(crate) fn open(&mut self, alloc: Global, net: &impl Net, sockets: usize) -> io::Result<()> {
+        if self.poll.is_some() {
+            return Ok(());
+        }
+        self.readable.reserve(sockets)?;
+        self.ended.reserve(sockets)?;
+        self.full.reserve(sockets)?;
+        self.poll = Some(SystemPoll {
+            poll: Poll::new(net)?,
+            events: Events::with_capacity(alloc, sockets)?,
+        });
+        Ok(())
+    }
+
+    /// Where sockets are named to the system, once its poll is open.
+    pub(crate) fn registry(&self) -> Option<&Registry> {
+        match &self.poll {
+            Some(system) => Some(system.poll.registry()),
+            None => None,
+        }
     }
 
     /// A round begins: the system is asked once. Where nothing came or went in the whole round before, it rests until
@@ -62,18 +81,24 @@ impl Ready {
         let Some(rest) = self.rest else {
             return;
         };
+        let Some(system) = &mut self.poll else {
+            return;
+        };
         let most = if self.moved { 0 } else { rest };
         let wait = Duration::from_millis(most);
-        let failed = self.poll.poll(&mut self.events, Some(wait)).is_err();
+        let failed = system.poll.poll(&mut system.events, Some(wait)).is_err();
         // also after a rest that nothing ended, so that nothing is missed for long
-        self.tries_all = failed || (!self.moved && self.events.is_empty());
+        self.tries_all = failed || (!self.moved && system.events.is_empty());
         self.moved = false;
         self.hear();
     }
 
     /// Keeps what the system told.
     fn hear(&mut self) {
-        for event in self.events.iter() {
+        let Some(system) = &self.poll else {
+            return;
+        };
+        for event in system.events.iter() {
             let token = event.token().0;
             if event.is_writable() {
                 self.full.retain(|t| *t != token);

@@ -1,7 +1,7 @@
 //! The sockets of a host: where it listens, and its links. What needs the system's own names stands above it, in the
 //! host.
 
-ghost use Rattle.std.specs.Prelude.{◌≡◌, ◌≢◌, ◌<◌, [], vec_len, length, IfSome, IfOk};
+ghost use Rattle.std.specs.Prelude.{◌≡◌, ◌≢◌, ◌<◌, [], vec_len, length, IfSome};
 ghost use Rattle.std.specs.List.{All};
 ghost use Rattle.atspi_live_host.specs.declared.call.Did.{Did};
 ghost use Rattle.atspi_live_host.specs.Calls.{Counts, Moves, Opens, without};
@@ -36,18 +36,29 @@ pub(crate) struct Sockets {
 }
 
 impl Sockets {
-    /// No link is open yet, and no call has failed. A longest rest is in milliseconds.
-    pub(crate) fn new(alloc: Global, net: &impl Net, rest: Option<u64>) -> io::Result<Sockets>
-        ensures links { IfOk result (λ s. s.links.items ≡ []) }
+    /// No link is open yet, no call has failed, and the system is asked for nothing. A longest rest is in milliseconds.
+    pub(crate) fn new(alloc: Global, rest: Option<u64>) -> Sockets
+        ensures links { result.links.items ≡ [] }
+        ensures faults { result.faults ≡ 0 }
+        ensures link_faults { result.link_faults ≡ 0 }
     {
-        Ok(Sockets {
-            ready: Ready::new(alloc, net, rest, LINKS + 1)?,
+        Sockets {
+            ready: Ready::new(alloc, rest),
             listener: None,
-            links: Vec::with_capacity(alloc, LINKS)?,
+            links: Vec::new(alloc),
             next: 0,
             faults: 0,
             link_faults: 0,
-        })
+        }
+    }
+
+    /// Opens what the system needs for the first socket, where that was not done yet.
+    pub(crate) fn open(&mut self, alloc: Global, net: &impl Net) -> io::Result<()>
+        ensures links { self.new.links ≡ self.old.links }
+        ensures faults { self.new.faults ≡ self.old.faults }
+        ensures link_faults { self.new.link_faults ≡ self.old.link_faults }
+    {
+        self.ready.open(alloc, net, LINKS + 1)
     }
 
     /// From now on links are made at the listener.
@@ -57,7 +68,9 @@ impl Sockets {
         ensures same { self.new.link_faults ≡ self.old.link_faults }
     {
         let mut listener = listener;
-        let registry = self.ready.registry();
+        let Some(registry) = self.ready.registry() else {
+            return fault(&mut self.faults);
+        };
         if registry
             .register(&mut listener, Token(LISTENER), Interest::READABLE)
             .is_err()
@@ -109,7 +122,9 @@ impl Sockets {
         let number = self.next;
         let mut stream = stream;
         let both = Interest::READABLE | Interest::WRITABLE;
-        let registry = self.ready.registry();
+        let Some(registry) = self.ready.registry() else {
+            return fault(&mut self.faults);
+        };
         if registry
             .register(&mut stream, Token(number as usize), both)
             .is_err()

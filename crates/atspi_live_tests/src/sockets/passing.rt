@@ -150,9 +150,9 @@ fn bytes_pass_each_way(rt: HostRuntime) {
     let alloc = rt.alloc();
     let path = Text::read(alloc, b"passing.socket").expect(&rt, "a path");
     let bytes = bytes_to_pass(&rt, alloc);
-    let mut here = NetHost::new(alloc, &rt, None).expect(&rt, "a host");
-    let mut there = NetHost::new(alloc, &rt, None).expect(&rt, "another host");
+    let mut here = NetHost::new(alloc, &rt, None);
+    let mut there = NetHost::new(alloc, &rt, None);
     let met = meet(&rt, &mut here, &mut there, &path);
     pass_each_way(&rt, &mut here, &mut there, met, &bytes);
-    here.leave(&path);
+    here.leave();
 }
