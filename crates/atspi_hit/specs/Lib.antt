@@ -1,0 +1,4 @@
+pub mod inner
+pub mod Places
+pub mod Pointing
+pub mod Cells
