@@ -9,3 +9,4 @@ pub mod Turning
 pub mod Players
 pub mod protocol
 pub mod routing
+pub mod Limits

@@ -11,6 +11,7 @@ pub mod edits;
 pub mod forests;
 pub mod halts;
 pub mod lawful;
+pub mod limits;
 pub mod lines;
 pub mod loads;
 pub mod maps;
