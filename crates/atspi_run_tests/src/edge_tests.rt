@@ -1,6 +1,7 @@
 //! Scripts at their limits, and an outside that fails or moves few bytes in a call. What is due was worked out by hand.
 
-use crate::running::{AMPLE, Due, NEVER, Outside, comes_to};
+use crate::running::{AMPLE, Due, NEVER, Outside, comes_to, ran};
+use crate::stream_tests::HELLO;
 use std::alloc::Global;
 
 /// A script: a front, so many bytes `x`, and an end.
@@ -299,4 +300,61 @@ fn pieces_of_any_size_give_the_same_output(rt: HostRuntime) {
     assert!(rt; is_same_in_pieces(rt.alloc(), 36));
     assert!(rt; is_same_in_pieces(rt.alloc(), 37));
     assert!(rt; is_same_in_pieces(rt.alloc(), 4096));
+}
+
+/// Commands, with a blank between two words, and their inputs.
+const COMMANDS: [(&str, &[u8]); 9] = [
+    ("replay", b"app \"D\"\n"),
+    ("replay --wire", b"app \"D\"\n"),
+    ("replay --brief --wire", TWICE),
+    ("replay --brief", b"app \"D\"\nedit a0 remove 0\n"),
+    ("check", HELLO),
+    ("check", b"x\0\0\0\0\0\0\0\0\0\0\0\0\0\0\0"),
+    ("make 2 1", b""),
+    ("--version", b""),
+    ("frob", b""),
+];
+
+/// What a command comes to, where so many bytes are moved in a call and a write fails.
+fn ran_with(
+    alloc: Global,
+    words: &str,
+    input: &[u8],
+    most: usize,
+    failing_write: u64,
+) -> Option<(u8, Vec<u8>)> {
+    let mut list = Vec::new(alloc);
+    for word in words.split(' ') {
+        list.push(word).ok()?;
+    }
+    let outside = Outside {
+        most,
+        failing_read: NEVER,
+        failing_write,
+    };
+    ran(alloc, &list, input.to_vec(alloc).ok()?, outside)
+}
+
+/// Whether a command writes something, the same where each call moves one byte, and a front of it with status 4 where
+/// a byte cannot be written.
+fn is_cut_at_each_byte(alloc: Global, words: &str, input: &[u8]) -> Option<bool> {
+    let whole = ran_with(alloc, words, input, usize::MAX, NEVER)?;
+    if ran_with(alloc, words, input, 1, NEVER)? != whole {
+        return Some(false);
+    }
+    for written in 0..whole.1.len() {
+        let (status, front) = ran_with(alloc, words, input, 1, written as u64)?;
+        if status != 4 || front.len() != written || !whole.1.as_slice().starts_with(&front) {
+            return Some(false);
+        }
+    }
+    Some(!whole.1.is_empty())
+}
+
+#[test]
+fn what_each_command_writes_is_cut_where_a_write_fails(rt: HostRuntime) {
+    for (words, input) in &COMMANDS {
+        let holds = is_cut_at_each_byte(rt.alloc(), words, input);
+        assert!(rt; holds == Some(true), "{words}");
+    }
 }

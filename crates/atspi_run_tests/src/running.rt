@@ -32,7 +32,12 @@ fn words_of(alloc: Global, words: &[&str]) -> Option<Vec<String>> {
 }
 
 /// The status of a run, and what it wrote.
-fn ran(alloc: Global, words: &[&str], input: Vec<u8>, outside: Outside) -> Option<(u8, Vec<u8>)> {
+pub fn ran(
+    alloc: Global,
+    words: &[&str],
+    input: Vec<u8>,
+    outside: Outside,
+) -> Option<(u8, Vec<u8>)> {
     let words = words_of(alloc, words)?;
     let most = outside.most.max(1);
     let mut source = MemSource::in_pieces(input, most, [outside.failing_read].to_vec(alloc).ok()?);

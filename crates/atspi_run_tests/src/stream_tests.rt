@@ -17,7 +17,7 @@ struct Stream {
 }
 
 /// The call of Hello, 128 bytes, and its line.
-const HELLO: &[u8] = b"l\x01\0\x01\0\0\0\0\x01\0\0\0\x6d\0\0\0\
+pub const HELLO: &[u8] = b"l\x01\0\x01\0\0\0\0\x01\0\0\0\x6d\0\0\0\
 \x01\x01o\0\x15\0\0\0/org/freedesktop/DBus\0\0\0\
 \x02\x01s\0\x14\0\0\0org.freedesktop.DBus\0\0\0\0\
 \x03\x01s\0\x05\0\0\0Hello\0\0\0\
